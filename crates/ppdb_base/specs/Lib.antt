@@ -1,0 +1,10 @@
+pub mod Causes
+pub mod Escaped
+pub mod Fields
+pub mod Files
+pub mod First
+pub mod Offsets
+pub mod Place
+pub mod Plan
+pub mod Steady
+pub mod Written

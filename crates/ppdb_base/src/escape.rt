@@ -1,0 +1,64 @@
+// Names and other bytes as printed text.
+ghost use Rattle.std.specs.Prelude.{◌≡◌, ◌≤◌, [], ◌∷◌, OnOk, OnErr, IsErrOf};
+ghost use Rattle.ppdb_base.specs.Causes.{Rose};
+ghost use Rattle.ppdb_base.specs.Written.{appended, AppendsFront};
+ghost use Rattle.ppdb_base.specs.Escaped.{escaped, escaped_byte, code_of, is_plain};
+ghost use Rattle.hex.specs.Hex.{encode_lower};
+
+use crate::sink::{Sink, WriteError};
+
+/// Puts bytes as text: printable ASCII but the backslash as it is, any other byte as `\x` and two digits,
+/// and no bytes as `\-`.
+pub fn put_escaped<O: Sink>(out: &mut O, bytes: &[u8]) -> Result<(), WriteError>
+    ensures ok { OnOk result (O.written out.new ≡ appended (O.written out.old) (escaped bytes.now)) }
+    ensures err { OnErr result (AppendsFront (O.written out.old) (O.written out.new) (escaped bytes.now)) }
+    ensures failed { IsErrOf result WriteError.Failed → Rose (O.faults out.old) (O.faults out.new) }
+    ensures later { O.faults out.old ≤ O.faults out.new }
+{
+    if bytes.is_empty() {
+        return out.put(b"\\-");
+    }
+    for &byte in bytes {
+        put_escaped_byte(out, byte)?;
+    }
+    Ok(())
+}
+
+fn put_escaped_byte<O: Sink>(out: &mut O, byte: u8) -> Result<(), WriteError>
+    ensures ok { OnOk result (O.written out.new ≡ appended (O.written out.old) (escaped_byte byte)) }
+    ensures err { OnErr result (AppendsFront (O.written out.old) (O.written out.new) (escaped_byte byte)) }
+    ensures failed { IsErrOf result WriteError.Failed → Rose (O.faults out.old) (O.faults out.new) }
+    ensures later { O.faults out.old ≤ O.faults out.new }
+{
+    if stands_for_itself(byte) {
+        out.put(&[byte])
+    } else {
+        put_code(out, byte)
+    }
+}
+
+/// Puts `\x` and the digits of a byte.
+fn put_code<O: Sink>(out: &mut O, byte: u8) -> Result<(), WriteError>
+    ensures ok { OnOk result (O.written out.new ≡ appended (O.written out.old) (code_of byte)) }
+    ensures err { OnErr result (AppendsFront (O.written out.old) (O.written out.new) (code_of byte)) }
+    ensures failed { IsErrOf result WriteError.Failed → Rose (O.faults out.old) (O.faults out.new) }
+    ensures later { O.faults out.old ≤ O.faults out.new }
+{
+    out.put(b"\\x")?;
+    out.put(&hex_digits(byte))
+}
+
+fn stands_for_itself(byte: u8) -> bool
+    ensures { result ≡ is_plain byte }
+{
+    byte.is_ascii_graphic() && byte != b'\\'
+}
+
+/// The two lower-case hexadecimal digits of a byte.
+fn hex_digits(byte: u8) -> [u8; 2]
+    ensures { result ≡ encode_lower (byte ∷ []) }
+{
+    let mut digits = [0; 2];
+    let _ = hex::encode_to_slice([byte], &mut digits);
+    digits
+}
