@@ -1,0 +1,6 @@
+mod Names
+mod HeaderFaults
+mod Listings
+mod Order
+mod FirstOfRoot
+mod FirstOfFront

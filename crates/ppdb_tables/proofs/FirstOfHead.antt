@@ -1,0 +1,147 @@
+-- The first fault of the #Pdb stream, from what its readers saw.
+use Rattle.std.proofs.Common.{◌≡◌, ◌≢◌, ℕ, suc, ◌+◌, ◌-◌, ◌*◌, ◌^◌, ◌<◌, ◌≤◌, ◌⊎◌, inl, inr, List, [], ◌∷◌, ◌++◌, length, sum, replicate, refl, sym, ap, subst, ◌∙◌, arith, lit≤}
+use Rattle.ppdb_base.specs.declared.code.Code.{Code}
+use Rattle.ppdb_base.specs.declared.code.Code.TheVariants.{PdbShort, PdbTables, PdbRows, EntryPoint}
+use Rattle.ppdb_base.specs.declared.fault.Place.{Place}
+use Rattle.ppdb_base.specs.declared.fault.Fault.{Fault}
+use Rattle.ppdb_base.specs.Place.{ComesBefore, numbers, number_of, at_byte}
+use Rattle.ppdb_base.specs.First.{IsAccepted, IsFirst}
+use Rattle.ppdb_base.proofs.Judging.{first_at, byte_before}
+use Rattle.ppdb_base.proofs.Fields.{ends_by_cut, ends_within}
+use Rattle.ppdb_tables.specs.declared.counts.Part.{Part}
+use Rattle.ppdb_tables.specs.Counts.{HasCount, counts_below, count_fields, IsCountFault}
+use Rattle.ppdb_tables.specs.Head.{BadPdbFields, short, foreign, rows, BadEntry, entry, NamesMethod, entry_in, referenced, pdb_fields, pdb_count_place, pdb_rows}
+use Rattle.ppdb_tables.proofs.RowCounts.{cut, sum-cut, sum-fields, fields_cut, count_cut, one_more, counts_mono, counts-step, earlier_table, rows_in-set}
+
+-- the fields before the row counts
+abbrev front : List ℕ
+front = 20 ∷ 4 ∷ 8 ∷ []
+
+abbrev pub pdb_part : Part
+pdb_part = record { number = 3; short = PdbShort; many_rows = PdbRows }
+
+same_byte : (a b : ℕ) → at_byte 3 a ≡ at_byte 3 b → a ≡ b
+same_byte a b e = ap (λ p. p.byte) e
+
+module _ (stream : List ℕ) where
+  -- nothing bad begins before a cut of the fields that lies in the stream, where the fields before it are good
+  judged_case : (b : ℕ) (before after : List ℕ) → pdb_fields stream ≡ before ++ after → b ≡ sum before → b ≤ length stream → (24 < b → referenced stream < 2 ^ 45)
+      → ((t : ℕ) → HasCount (referenced stream) t → pdb_count_place stream t < b → pdb_rows stream t ≤ 16777215)
+      → (code : Code) (at : Place) → BadPdbFields stream code at → ComesBefore (numbers code at) (3 ∷ 0 ∷ 0 ∷ 0 ∷ b ∷ []) → ⊥
+  judged_case b before after split is le known few _ _ (short at len f within over) past =
+      let lt = byte_before 3 PdbShort at b past in
+      absurd (omega (arith, is, lt, le, over, ends_by_cut (pdb_fields stream) before after at len f split (omega (arith, is, lt))))
+  judged_case b before after split is le known few _ _ (foreign within large) past =
+      let lt = byte_before 3 PdbTables 24 b past in absurd (omega (arith, large, known lt))
+  judged_case b before after split is le known few _ _ (rows t small set within many) past =
+      let lt = byte_before 3 PdbRows (pdb_count_place stream t) b past in absurd (omega (arith, many, few t set lt))
+
+  least_short : (code : Code) (at : Place) → BadPdbFields stream code at → 9 ≤ number_of code
+  least_short _ _ (short at len f within over) = lit≤ tt
+  least_short _ _ (foreign within large) = lit≤ tt
+  least_short _ _ (rows t small set within many) = lit≤ tt
+
+  -- a field that passes the end, after fields that fit and are good, is the first fault
+  short_is_first : (b len : ℕ) (before after : List ℕ) (fault : Fault) → pdb_fields stream ≡ before ++ len ∷ after → b ≡ sum before → b ≤ length stream → (24 < b → referenced stream < 2 ^ 45)
+      → ((t : ℕ) → HasCount (referenced stream) t → pdb_count_place stream t < b → pdb_rows stream t ≤ 16777215)
+      → (fault ≡ record { code = PdbShort; place = at_byte 3 b }) × (length stream < b + len) → IsFirst (BadPdbFields stream) fault
+  short_is_first b len before after fault split is le known few past =
+      subst (IsFirst (BadPdbFields stream)) (sym past.0)
+      (first_at (BadPdbFields stream) PdbShort (at_byte 3 b) (judged_case b before (len ∷ after) split is le known few)
+      (short b len (record { before = before; after = after; in_order = split; place = is }) le past.1)
+      (λ other bad. least_short other (at_byte 3 b) bad))
+
+  no_count_before : (b t : ℕ) → b ≤ 32 → HasCount (referenced stream) t → pdb_count_place stream t < b → pdb_rows stream t ≤ 16777215
+  no_count_before b t le set lt = absurd (omega (arith, le, lt))
+
+  -- so it is with a field before the row counts
+  pub front_is_first : (b len : ℕ) (before after : List ℕ) (fault : Fault) → pdb_fields stream ≡ before ++ len ∷ after → b ≡ sum before → b ≤ 24 → b ≤ length stream
+      → (fault ≡ record { code = PdbShort; place = at_byte 3 b }) × (length stream < b + len) → IsFirst (BadPdbFields stream) fault
+  front_is_first b len before after fault split is small le past =
+      short_is_first b len before after fault split is le (λ lt. absurd (omega (arith, lt, small))) (λ t set lt. no_count_before b t (omega (arith, small)) set lt) past
+
+  least_foreign : 32 ≤ length stream → (code : Code) (at : Place) → BadPdbFields stream code at → at ≡ at_byte 3 24 → 10 ≤ number_of code
+  least_foreign long _ _ (short at len f within over) e =
+      let same = same_byte at 24 e in
+      let ends = ends_by_cut (pdb_fields stream) front (count_fields (referenced stream)) at len f refl (omega (arith, same)) in
+      absurd (omega (arith, ends, long, over))
+  least_foreign long _ _ (foreign within large) e = lit≤ tt
+  least_foreign long _ _ (rows t small set within many) e = lit≤ tt
+
+  pub foreign_is_first : (at : ℕ) (fault : Fault) → at ≡ 24 → fault ≡ record { code = PdbTables; place = at_byte 3 at } → 32 ≤ length stream → 2 ^ 45 ≤ referenced stream → IsFirst (BadPdbFields stream) fault
+  foreign_is_first at fault here is long large =
+      subst (IsFirst (BadPdbFields stream)) (sym (is ∙ ap (λ b. record { code = PdbTables; place = at_byte 3 b }) here))
+      (first_at (BadPdbFields stream) PdbTables (at_byte 3 24)
+      (judged_case 24 (20 ∷ 4 ∷ []) (8 ∷ count_fields (referenced stream)) refl refl (omega (arith, long)) (λ lt. absurd (omega (arith, lt))) (λ t set lt. no_count_before 24 t (lit≤ tt) set lt))
+      (foreign (omega (arith, long)) large)
+      (λ other bad. least_foreign long other (at_byte 3 24) bad refl))
+
+  -- ---- the row count of a table, after good ones
+  module _ (table : ℕ) (lt : table < 64) (set : HasCount (referenced stream) table) (known : referenced stream < 2 ^ 45)
+      (few : (t : ℕ) → t < table → pdb_rows stream t ≤ 16777215) where
+    few_before : (t : ℕ) → HasCount (referenced stream) t → pdb_count_place stream t < pdb_count_place stream table → pdb_rows stream t ≤ 16777215
+    few_before t set_t before = few t (earlier_table 32 (referenced stream) t table before)
+
+    count_short : (fault : Fault) → pdb_count_place stream table ≤ length stream
+        → (fault ≡ record { code = PdbShort; place = at_byte 3 (pdb_count_place stream table) }) × (length stream < pdb_count_place stream table + 4) → IsFirst (BadPdbFields stream) fault
+    count_short fault le past =
+        let n = counts_below (referenced stream) table in
+        short_is_first (pdb_count_place stream table) 4 (cut front n) (replicate (counts_below (referenced stream) 64 - suc n) 4) fault
+        (count_cut front (referenced stream) table lt set) (omega (arith, sum-cut front n)) le (λ _. known) few_before past
+
+    least_rows : pdb_count_place stream table + 4 ≤ length stream → (code : Code) (at : Place) → BadPdbFields stream code at → at ≡ at_byte 3 (pdb_count_place stream table) → 11 ≤ number_of code
+    least_rows fits _ _ (short at len f within over) e =
+        let same = same_byte at (pdb_count_place stream table) e in
+        let n = suc (counts_below (referenced stream) table) in
+        let le = one_more (referenced stream) table lt set in
+        let ends = ends_by_cut (pdb_fields stream) (cut front n) (replicate (counts_below (referenced stream) 64 - n) 4) at len f (fields_cut front (referenced stream) n le) (omega (arith, same, sum-cut front n)) in
+        absurd (omega (arith, ends, sum-cut front n, fits, over))
+    least_rows fits _ _ (foreign within large) e =
+        let same = same_byte 24 (pdb_count_place stream table) e in absurd (omega (arith, same))
+    least_rows fits _ _ (rows t small is_set within many) e = lit≤ tt
+
+    count_many : (fault : Fault) → fault ≡ record { code = PdbRows; place = at_byte 3 (pdb_count_place stream table) } → pdb_count_place stream table + 4 ≤ length stream
+        → 16777215 < pdb_rows stream table → IsFirst (BadPdbFields stream) fault
+    count_many fault is fits many =
+        let n = counts_below (referenced stream) table in
+        let le = one_more (referenced stream) table lt set in
+        subst (IsFirst (BadPdbFields stream)) (sym is)
+        (first_at (BadPdbFields stream) PdbRows (at_byte 3 (pdb_count_place stream table))
+        (judged_case (pdb_count_place stream table) (cut front n) (replicate (counts_below (referenced stream) 64 - n) 4) (fields_cut front (referenced stream) n (omega (arith, le)))
+        (omega (arith, sum-cut front n)) (omega (arith, fits)) (λ _. known) few_before)
+        (rows table lt set (omega (arith, fits)) many)
+        (λ other bad. least_rows fits other _ bad refl))
+
+  -- the fault of a table's row count, after good ones, is the first
+  pub count_is_first : (table at : ℕ) (fault : Fault) → table < 64 → at ≡ pdb_count_place stream table → at ≤ length stream → referenced stream < 2 ^ 45
+      → ((t : ℕ) → t < table → pdb_rows stream t ≤ 16777215) → IsCountFault pdb_part stream (referenced stream) table at fault → IsFirst (BadPdbFields stream) fault
+  count_is_first table at fault lt here le known few (set, inl past) =
+      count_short table lt set known few fault (rw (← here) le) (rw (← here) past)
+  count_is_first table at fault lt here le known few (set, inr many) =
+      let count = rows_in-set stream 32 (referenced stream) table set in
+      count_many table lt set known few fault (rw (← here) many.0) (rw (← here) many.1) (rw (count, ← here) many.2)
+
+  -- all row counts fit and are small
+  accepted_case : 32 + 4 * counts_below (referenced stream) 64 ≤ length stream → referenced stream < 2 ^ 45
+      → ((t : ℕ) → t < 64 → pdb_rows stream t ≤ 16777215) → (code : Code) (at : Place) → BadPdbFields stream code at → ⊥
+  accepted_case le known few _ _ (short at len f within over) =
+      absurd (omega (arith, le, over, ends_within (pdb_fields stream) at len f, sum-fields front (referenced stream)))
+  accepted_case le known few _ _ (foreign within large) = absurd (omega (arith, large, known))
+  accepted_case le known few _ _ (rows t small set within many) = absurd (omega (arith, many, few t small))
+
+  pub fields_accepted : 32 + 4 * counts_below (referenced stream) 64 ≤ length stream → referenced stream < 2 ^ 45
+      → ((t : ℕ) → t < 64 → pdb_rows stream t ≤ 16777215) → IsAccepted (BadPdbFields stream)
+  fields_accepted le known few = accepted_case le known few
+
+-- ---- the entry point
+
+module _ (stream : List ℕ) where
+  not_before_entry : (code : Code) (at : Place) → BadEntry stream code at → ComesBefore (numbers code at) (3 ∷ 0 ∷ 0 ∷ 0 ∷ 20 ∷ []) → ⊥
+  not_before_entry _ _ (entry some none) past = absurd (omega (arith, byte_before 3 EntryPoint 20 20 past))
+
+  least_entry : (code : Code) (at : Place) → BadEntry stream code at → 12 ≤ number_of code
+  least_entry _ _ (entry some none) = lit≤ tt
+
+  pub entry_is_first : (fault : Fault) → fault ≡ record { code = EntryPoint; place = at_byte 3 20 } → entry_in stream ≢ 0 → (NamesMethod (pdb_rows stream 6) (entry_in stream) → ⊥) → IsFirst (BadEntry stream) fault
+  entry_is_first fault is some none =
+      subst (IsFirst (BadEntry stream)) (sym is) (first_at (BadEntry stream) EntryPoint (at_byte 3 20) not_before_entry (entry some none) (λ other bad. least_entry other _ bad))

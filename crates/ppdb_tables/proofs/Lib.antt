@@ -1,0 +1,2 @@
+mod RowCounts
+mod FirstOfHead

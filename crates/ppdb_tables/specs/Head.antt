@@ -1,0 +1,57 @@
+-- The #Pdb stream, and what is wrong with it (Portable PDB v1.0, "Standalone debugging metadata", #Pdb).
+use Rattle.std.specs.Prelude.{◌≡◌, ◌≢◌, ℕ, ◌+◌, ◌*◌, ◌%◌, ◌^◌, ◌<◌, ◌≤◌, List, ◌∷◌, length, take, slice_index}
+use Rattle.ppdb_base.specs.declared.code.Code.{Code}
+use Rattle.ppdb_base.specs.declared.code.Code.TheVariants.{PdbShort, PdbTables, PdbRows, EntryPoint}
+use Rattle.ppdb_base.specs.declared.fault.Place.{Place}
+use Rattle.ppdb_base.specs.Place.{at_byte}
+use Rattle.ppdb_base.specs.First.{Then}
+use Rattle.ppdb_base.specs.Fields.{IsField}
+use Rattle.metadata_root.specs.Fields.{number_at}
+use Rattle.ppdb_tables.specs.declared.head.PdbHead.{PdbHead}
+use Rattle.ppdb_tables.specs.Counts.{HasCount, count_fields, count_place, rows_in}
+
+-- the entry point's token (EntryPoint)
+abbrev pub entry_in : List ℕ → ℕ
+entry_in stream = number_at stream 20 4
+
+-- the bits of the tables that have a row count (ReferencedTypeSystemTables)
+abbrev pub referenced : List ℕ → ℕ
+referenced stream = number_at stream 24 8
+
+-- the fields: PDB id, EntryPoint, ReferencedTypeSystemTables, TypeSystemTableRows
+abbrev pub pdb_fields : List ℕ → List ℕ
+pdb_fields stream = 20 ∷ 4 ∷ 8 ∷ count_fields (referenced stream)
+
+-- where the row count of a table stands
+abbrev pub pdb_count_place : List ℕ → ℕ → ℕ
+pdb_count_place stream table = count_place 32 (referenced stream) table
+
+-- the rows of a table
+abbrev pub pdb_rows : List ℕ → ℕ → ℕ
+pdb_rows stream table = rows_in stream 32 (referenced stream) table
+
+-- The rules of the fields, F9 to F11. A field is judged where the fields before it fit; 2d is the first number above those of the
+-- type system's tables.
+pub data BadPdbFields (stream : List ℕ) : Code → Place → Type 0 where
+  short : (at len : ℕ) → IsField (pdb_fields stream) at len → at ≤ length stream → length stream < at + len → BadPdbFields stream PdbShort (at_byte 3 at)
+  foreign : 24 ≤ length stream → 2 ^ 0x2D ≤ referenced stream → BadPdbFields stream PdbTables (at_byte 3 24)
+  rows : (table : ℕ) → table < 64 → HasCount (referenced stream) table → pdb_count_place stream table ≤ length stream → 16777215 < pdb_rows stream table
+      → BadPdbFields stream PdbRows (at_byte 3 (pdb_count_place stream table))
+
+-- a token of MethodDef, table 06, whose row is there (ECMA-335 II.22, II.22.26)
+abbrev pub NamesMethod : ℕ → ℕ → Type 0
+NamesMethod methods token = (row : ℕ) × (1 ≤ row) × (row ≤ methods) × (token ≡ 6 * 2 ^ 24 + row)
+
+-- The rule of the entry point, F12.
+pub data BadEntry (stream : List ℕ) : Code → Place → Type 0 where
+  entry : entry_in stream ≢ 0 → (NamesMethod (pdb_rows stream 6) (entry_in stream) → ⊥) → BadEntry stream EntryPoint (at_byte 3 20)
+
+-- the rules of the stream: the entry point is judged where no field is bad
+abbrev pub BadPdb : List ℕ → Code → Place → Type 0
+BadPdb stream = Then (BadPdbFields stream) (BadEntry stream)
+
+-- what the stream says: its id, the entry point's row or 0, and the rows of each table
+pub record IsHeadOf (stream : List ℕ) (head : PdbHead) : Type 0 where
+  pub id : head.id ≡ take 20 stream
+  pub entry : head.entry ≡ entry_in stream % 2 ^ 24
+  pub rows : (table : ℕ) → table < 64 → slice_index head.rows table ≡ pdb_rows stream table
