@@ -1,0 +1,93 @@
+-- A UTF-8 character at the front of some bytes: what character_len finds is one, and each one is found.
+use Rattle.std.proofs.Common.{◌≡◌, ℕ, zero, suc, ◌<◌, ◌≤◌, Bool, true, false, ◌&&◌, List, [], ◌∷◌, ◌++◌, length, take, refl, sym, ap, subst, arith, if◌then◌else◌, Result, Ok}
+use Rattle.std.proofs.lemmas.List.{length-take}
+use Rattle.ppdb_base.specs.declared.Code.{Code}
+use Rattle.blob_grammar.specs.Grammar.{Value, octets, IsIn, IsSecond, IsCharacter}
+use Rattle.blob_grammar.specs.Reader.{is_in, is_second, is_character, character_len, character_of}
+
+character-is : (bytes : List ℕ) → is_character bytes ≡ true → IsCharacter bytes
+character-is [] h = absurd cc
+character-is (a ∷ []) h = grind arith
+character-is (a ∷ b ∷ []) h = grind arith
+character-is (a ∷ b ∷ c ∷ []) h = grind arith
+character-is (a ∷ b ∷ c ∷ d ∷ []) h = grind arith
+character-is (a ∷ b ∷ c ∷ d ∷ e ∷ es) h = absurd cc
+
+is-character : (bytes : List ℕ) → IsCharacter bytes → is_character bytes ≡ true
+is-character [] h = absurd h
+is-character (a ∷ []) h = grind arith
+is-character (a ∷ b ∷ []) h = grind arith
+is-character (a ∷ b ∷ c ∷ []) h = grind arith
+is-character (a ∷ b ∷ c ∷ d ∷ []) h = grind arith
+is-character (a ∷ b ∷ c ∷ d ∷ e ∷ es) h = absurd h
+
+-- the first of four tests that holds
+chosen : (t u v w : Bool) (P : ℕ → Type 0) → P 0 → (t ≡ true → P 1) → (t ≡ false → u ≡ true → P 2) → (u ≡ false → v ≡ true → P 3) → (v ≡ false → w ≡ true → P 4)
+    → P (if t then 1 else (if u then 2 else (if v then 3 else (if w then 4 else 0))))
+chosen true u v w P none one two three four = one refl
+chosen false true v w P none one two three four = two refl refl
+chosen false false true w P none one two three four = three refl refl
+chosen false false false true P none one two three four = four refl refl
+chosen false false false false P none one two three four = none
+
+-- So many bytes at the front are a character; nothing is said of none.
+abbrev pub CharacterAt : List ℕ → ℕ → Type 0
+CharacterAt bytes zero = Unit {0}
+CharacterAt bytes (suc len) = IsCharacter (take (suc len) bytes) × (length (take (suc len) bytes) ≡ suc len)
+
+pub character-at : (bytes : List ℕ) → CharacterAt bytes (character_len bytes)
+unfolding character_len
+character-at [] = tt
+character-at (a ∷ []) =
+    let t = is_character (a ∷ []) in
+    chosen t t t t (CharacterAt (a ∷ [])) tt (λ y. (character-is (a ∷ []) y, refl)) (λ n y. absurd cc) (λ n y. absurd cc) (λ n y. absurd cc)
+character-at (a ∷ b ∷ []) =
+    let t = is_character (a ∷ []) in
+    let u = is_character (a ∷ b ∷ []) in
+    chosen t u u u (CharacterAt (a ∷ b ∷ [])) tt (λ y. (character-is (a ∷ []) y, refl)) (λ n y. (character-is (a ∷ b ∷ []) y, refl)) (λ n y. absurd cc) (λ n y. absurd cc)
+character-at (a ∷ b ∷ c ∷ []) =
+    let t = is_character (a ∷ []) in
+    let u = is_character (a ∷ b ∷ []) in
+    let v = is_character (a ∷ b ∷ c ∷ []) in
+    chosen t u v v (CharacterAt (a ∷ b ∷ c ∷ [])) tt (λ y. (character-is (a ∷ []) y, refl)) (λ n y. (character-is (a ∷ b ∷ []) y, refl)) (λ n y. (character-is (a ∷ b ∷ c ∷ []) y, refl)) (λ n y. absurd cc)
+character-at (a ∷ b ∷ c ∷ d ∷ bs) =
+    let t = is_character (a ∷ []) in
+    let u = is_character (a ∷ b ∷ []) in
+    let v = is_character (a ∷ b ∷ c ∷ []) in
+    let w = is_character (a ∷ b ∷ c ∷ d ∷ []) in
+    chosen t u v w (CharacterAt (a ∷ b ∷ c ∷ d ∷ bs)) tt (λ y. (character-is (a ∷ []) y, refl)) (λ n y. (character-is (a ∷ b ∷ []) y, refl)) (λ n y. (character-is (a ∷ b ∷ c ∷ []) y, refl)) (λ n y. (character-is (a ∷ b ∷ c ∷ d ∷ []) y, refl))
+
+not_one : (a : ℕ) → 0x80 ≤ a → is_character (a ∷ []) ≡ false
+not_one a h = grind arith
+
+not_two : (a b : ℕ) → 0xE0 ≤ a → is_character (a ∷ b ∷ []) ≡ false
+not_two a b h = grind arith
+
+not_three : (a b c : ℕ) → 0xF0 ≤ a → is_character (a ∷ b ∷ c ∷ []) ≡ false
+not_three a b c h = grind arith
+
+pub character-all : (text after : List ℕ) → IsCharacter text → character_len (text ++ after) ≡ length text
+unfolding character_len
+character-all [] after h = absurd h
+character-all (a ∷ []) after h = rw (is-character (a ∷ []) h) refl
+character-all (a ∷ b ∷ []) after h = rw (not_one a (omega (arith, h.0)), is-character (a ∷ b ∷ []) h) refl
+character-all (a ∷ b ∷ c ∷ []) after h = rw (not_one a (omega (arith, h.0)), not_two a b (omega (arith, h.0)), is-character (a ∷ b ∷ c ∷ []) h) refl
+character-all (a ∷ b ∷ c ∷ d ∷ []) after h =
+    rw (not_one a (omega (arith, h.0)), not_two a b (omega (arith, h.0)), not_three a b c (omega (arith, h.0)), is-character (a ∷ b ∷ c ∷ d ∷ []) h) refl
+character-all (a ∷ b ∷ c ∷ d ∷ e ∷ es) after h = absurd h
+
+pub character_len-within : (bytes : List ℕ) → character_len bytes ≤ length bytes
+character_len-within bytes = within (character_len bytes) (character-at bytes)
+  where
+    within : (len : ℕ) → CharacterAt bytes len → len ≤ length bytes
+    within zero f = omega arith
+    within (suc len) f = omega (arith, length-take (suc len) bytes, f.1)
+
+-- A character that was found is the field.
+pub character-there : (bytes : List ℕ) (len : ℕ) → len ≡ character_len bytes → 0 < len → character_of bytes (character_len bytes) ≡ Ok (octets (take len bytes), length (take len bytes))
+character-there bytes len e some = rw (← e) (there bytes len some (subst (λ n. CharacterAt bytes n) (sym e) (character-at bytes)))
+  where
+    there : (bytes : List ℕ) (len : ℕ) → 0 < len → CharacterAt bytes len → character_of bytes len ≡ Ok (octets (take len bytes), length (take len bytes))
+    there bytes zero some f = absurd (omega arith)
+    there [] (suc len) some f = absurd (omega (arith, f.1))
+    there (b ∷ bs) (suc len) some f = ap (λ (n : ℕ). let r : Result (Value × ℕ) Code = Ok (octets (take (suc len) (b ∷ bs)), n) in r) (sym f.1)

@@ -1,0 +1,9 @@
+pub mod Characters
+pub mod Fields
+pub mod Stored
+pub mod Fronts
+pub mod Readers
+pub mod Unique
+pub mod Steps
+pub mod Placed
+pub mod Written

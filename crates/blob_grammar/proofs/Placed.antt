@@ -1,0 +1,75 @@
+-- What a number that was read at a place says of the bytes there.
+use Rattle.std.proofs.Common.{◌≡◌, ℕ, ◌+◌, ◌≤◌, List, [], ◌∷◌, length, drop, Result, Ok, Err, refl, sym, ap, arith, ℤ, ◌⊎◌, inl, inr}
+use Rattle.std.specs.Prelude.{IfOk}
+use Rattle.std.proofs.lemmas.List.{length-drop}
+use Rattle.cli_ints.specs.declared.IntFault.TheVariants.{End}
+use Rattle.cli_ints.specs.declared.IntFault.{IntFault}
+use Rattle.cli_ints.specs.Compressed.{SpellsUnsigned, SpellsSigned}
+use Rattle.ppdb_base.specs.declared.BlobFault.{BlobFault}
+use Rattle.blob_grammar.specs.Reader.{placed, code_of, word_at, as_number, field_at, unsigned_at, signed_at}
+use Rattle.blob_grammar.specs.Grammar.{number, Form, unsigned, word}
+use Rattle.ppdb_base.specs.declared.Code.{Code}
+use Rattle.blob_grammar.proofs.Fields.{IntFound, unsigned-is, signed-is}
+
+pub placed_ok : {V : Type 0} (at : ℕ) (r : Result (V × ℕ) IntFault) (x : V × ℕ) → placed at r ≡ Ok x → r ≡ Ok x
+placed_ok at (Ok y) x e = cc
+placed_ok at (Err y) x e = absurd cc
+
+pub record Refused {V : Type 0} (at : ℕ) (r : Result (V × ℕ) IntFault) (fault : BlobFault) : Type 0 where
+  pub cause : IntFault
+  pub was : r ≡ Err cause
+  pub fault_is : fault ≡ record { code = code_of cause; byte = at }
+
+pub placed_err : {V : Type 0} (at : ℕ) (r : Result (V × ℕ) IntFault) (fault : BlobFault) → placed at r ≡ Err fault → Refused at r fault
+placed_err at (Ok y) fault e = absurd cc
+placed_err at (Err y) fault e = record { cause = y; was = refl; fault_is = sym (cc) }
+
+within : {V : Type 0} (P : List ℕ → V → Type 0) (bytes : List ℕ) (r : Result (V × ℕ) IntFault) (x : V × ℕ) → IntFound P bytes r → r ≡ Ok x → (1 ≤ x.1) × (x.1 ≤ length bytes)
+within {V = V} P bytes (Ok y) x f e = let s : y ≡ x = cc in let n : y.1 ≡ x.1 = ap (λ (p : V × ℕ). p.1) s in (omega (arith, f.positive), omega (arith, f.within))
+within P bytes (Err y) x f e = absurd cc
+
+-- a number lies within the bytes
+pub unsigned_within : (bytes : List ℕ) (x : ℕ × ℕ) → unsigned_at bytes ≡ Ok x → (1 ≤ x.1) × (x.1 ≤ length bytes)
+unsigned_within bytes x e = within (λ t v. SpellsUnsigned t v) bytes (unsigned_at bytes) x (unsigned-is bytes) e
+
+pub signed_within : (bytes : List ℕ) (x : ℤ × ℕ) → signed_at bytes ≡ Ok x → (1 ≤ x.1) × (x.1 ≤ length bytes)
+signed_within bytes x e = within (λ t v. SpellsSigned t v) bytes (signed_at bytes) x (signed-is bytes) e
+
+reaches : {V : Type 0} (P : List ℕ → V → Type 0) (blob : List ℕ) (at : ℕ) (r : Result (V × ℕ) IntFault) → at ≤ length blob → IntFound P (drop at blob) r → IfOk (placed at r) (λ x. at + x.1 ≤ length blob)
+reaches P blob at (Ok x) less f = omega (arith, f.within, length-drop at blob)
+reaches P blob at (Err e) less f = tt
+
+word_found : (bytes : List ℕ) → IntFound (λ t n. Unit {0}) bytes (word_at bytes) ⊎ (word_at bytes ≡ Err End)
+word_found [] = inr refl
+word_found (a ∷ []) = inr refl
+word_found (a ∷ b ∷ []) = inr refl
+word_found (a ∷ b ∷ c ∷ []) = inr refl
+word_found (a ∷ b ∷ c ∷ d ∷ bs) = inl (record { text = a ∷ b ∷ c ∷ d ∷ []; parts = refl; spelled = tt; len_is = refl; positive = omega arith; within = omega arith })
+
+-- a number that was found ends within the blob
+pub unsigned_ends : (blob : List ℕ) (at : ℕ) → at ≤ length blob → IfOk (placed at (unsigned_at (drop at blob))) (λ x. at + x.1 ≤ length blob)
+unsigned_ends blob at less = reaches SpellsUnsigned blob at (unsigned_at (drop at blob)) less (unsigned-is (drop at blob))
+
+pub signed_ends : (blob : List ℕ) (at : ℕ) → at ≤ length blob → IfOk (placed at (signed_at (drop at blob))) (λ x. at + x.1 ≤ length blob)
+signed_ends blob at less = reaches SpellsSigned blob at (signed_at (drop at blob)) less (signed-is (drop at blob))
+
+pub unsigned_there : (at : ℕ) (bytes : List ℕ) (v len : ℕ) → placed at (unsigned_at bytes) ≡ Ok (v, len) → field_at unsigned bytes ≡ Ok (number v, len)
+unsigned_there at bytes v len e = ap as_number (placed_ok at (unsigned_at bytes) (v, len) e)
+
+pub record NotThere (form : Form) (at : ℕ) (bytes : List ℕ) (fault : BlobFault) : Type 0 where
+  pub code : Code
+  pub none : field_at form bytes ≡ Err code
+  pub fault_is : fault ≡ record { code = code; byte = at }
+
+pub unsigned_not_there : (at : ℕ) (bytes : List ℕ) (fault : BlobFault) → placed at (unsigned_at bytes) ≡ Err fault → NotThere unsigned at bytes fault
+unsigned_not_there at bytes fault e =
+    let r = placed_err at (unsigned_at bytes) fault e in
+    record { code = code_of r.cause; none = ap as_number r.was; fault_is = r.fault_is }
+
+pub word_there : (at : ℕ) (bytes : List ℕ) (v len : ℕ) → placed at (word_at bytes) ≡ Ok (v, len) → field_at word bytes ≡ Ok (number v, len)
+word_there at bytes v len e = ap as_number (placed_ok at (word_at bytes) (v, len) e)
+
+pub word_not_there : (at : ℕ) (bytes : List ℕ) (fault : BlobFault) → placed at (word_at bytes) ≡ Err fault → NotThere word at bytes fault
+word_not_there at bytes fault e =
+    let r = placed_err at (word_at bytes) fault e in
+    record { code = code_of r.cause; none = ap as_number r.was; fault_is = r.fault_is }

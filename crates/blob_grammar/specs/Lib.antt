@@ -1,0 +1,5 @@
+pub mod Grammar
+pub mod Reading
+pub mod Ending
+pub mod Indexes
+pub mod Reader
