@@ -180,7 +180,6 @@ field-is (fixed (suc len)) bytes =
     ]
 field-is rest [] = (λ n. n, λ e. absurd cc)
 field-is rest (b ∷ bytes) = record { text = b ∷ bytes; parts = sym (append-nil (b ∷ bytes)) ∙ ap (λ t. (b ∷ bytes) ++ t) (sym (drop-length (b ∷ bytes))); spelled = (refl, omega arith, drop-length (b ∷ bytes)); len_is = refl; positive = omega arith; within = omega arith }
-
 field-is character bytes = character-is bytes (character_len bytes) (character-at bytes)
 
 character_of-some : (text after : List ℕ) → IsCharacter text → character_of (text ++ after) (length text) ≡ Ok (octets text, length text)

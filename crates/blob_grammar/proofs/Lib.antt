@@ -7,3 +7,5 @@ pub mod Unique
 pub mod Steps
 pub mod Placed
 pub mod Written
+pub mod Ending
+pub mod FrontFields

@@ -8,10 +8,10 @@ use Rattle.blob_grammar.specs.Reader.{Left, field_at, is_empty, Step, field, sto
 use Rattle.blob_grammar.proofs.Fields.{Front, FieldFound, field-is, field-all}
 use Rattle.blob_grammar.proofs.Fronts.{cut-push, bytes-push, front-push, IsStuck, longest_where_stuck}
 
-abbrev whole_of : {R : Type 0} → Grammar R → List Field → List R
+abbrev pub whole_of : {R : Type 0} → Grammar R → List Field → List R
 whole_of g fs = (cut g fs).whole
 
-abbrev begun_of : {R : Type 0} → Grammar R → List Field → List Value
+abbrev pub begun_of : {R : Type 0} → Grammar R → List Field → List Value
 begun_of g fs = (cut g fs).begun
 
 -- What one step says of the place after the fields.
@@ -21,7 +21,7 @@ pub record StepTakes {R : Type 0} (g : Grammar R) (fs : List Field) (bytes : Lis
   pub front : Front (λ text. Spells form text value (drop len bytes)) bytes len
   pub allowed : g.allows (whole_of g fs) (begun_of g fs) value ≡ true
 
-abbrev StepIs : {R : Type 0} → Grammar R → List Field → List ℕ → Option Form → Step → Type 0
+abbrev pub StepIs : {R : Type 0} → Grammar R → List Field → List ℕ → Option Form → Step → Type 0
 StepIs g fs bytes o (field value len) = StepTakes g fs bytes value len
 StepIs g fs bytes o stop = EndsWhole g fs bytes × IsStuck g fs bytes
 StepIs g fs bytes o (bad code) = ¬ (EndsWhole g fs bytes) × IsFaultOf code o bytes × IsStuck g fs bytes

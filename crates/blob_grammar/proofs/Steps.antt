@@ -10,7 +10,7 @@ use Rattle.blob_grammar.proofs.Fields.{Front, FieldFound, field-is}
 
 -- ---- the turns do not matter, if there are enough
 
-abbrev Shorter : List ℕ → Step → Type 0
+abbrev pub Shorter : List ℕ → Step → Type 0
 Shorter bytes (field value len) = length (drop len bytes) < length bytes
 Shorter bytes stop = Unit {0}
 Shorter bytes (bad code) = Unit {0}
@@ -27,7 +27,7 @@ shorter_form : {R : Type 0} (g : Grammar R) (whole : List R) (begun : List Value
 shorter_form g whole begun bytes form (Ok x) f = shorter_value bytes form x (g.allows whole begun x.0) (record { text = f.text; parts = f.parts; spelled = tt; len_is = f.len_is; positive = f.positive; within = f.within })
 shorter_form g whole begun bytes form (Err code) f = shorter_stop bytes (is_empty bytes && g.may_stop whole begun) code
 
-shorter_in : {R : Type 0} (g : Grammar R) (whole : List R) (begun : List Value) (bytes : List ℕ) (o : Option Form) → Shorter bytes (step_in g whole begun bytes o)
+pub shorter_in : {R : Type 0} (g : Grammar R) (whole : List R) (begun : List Value) (bytes : List ℕ) (o : Option Form) → Shorter bytes (step_in g whole begun bytes o)
 shorter_in g whole begun bytes (Some form) = shorter_form g whole begun bytes form (field_at form bytes) (field-is form bytes)
 shorter_in g whole begun [] None = shorter_stop [] (g.may_stop whole begun) BlobEnd
 shorter_in g whole begun (b ∷ bytes) None = tt

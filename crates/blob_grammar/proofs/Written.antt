@@ -1,15 +1,11 @@
 -- Records that are written one after the other, each allowed after those before it, are read again.
 use Rattle.std.proofs.Common.{◌≡◌, ℕ, true, List, [], ◌∷◌, ◌++◌, None, refl, sym, ap, subst, ◌∙◌, append_assoc, append-nil, arith, ◌≤◌}
-use Rattle.std.specs.List.{fold}
 use Rattle.std.proofs.lemmas.List.Sums.{fold-append}
 use Rattle.std.proofs.lemmas.Grind.{flat_map-append}
 use Rattle.blob_grammar.specs.Grammar.{Value, number, integer, octets, Form, unsigned, signed, byte, word, fixed, rest, character, Spells, Field, Grammar, Cut, with_value, cut, bytes_of, IsAllowed, EachFollows}
 use Rattle.blob_grammar.specs.Reading.{Reading}
+pub use Rattle.blob_grammar.specs.Reader.{cut_from}
 use Rattle.blob_grammar.proofs.Fronts.{cut-push, IsStuck, longest_where_stuck}
-
--- what the fields after a place make
-abbrev pub cut_from : {R : Type 0} → Grammar R → Cut R → List Field → Cut R
-cut_from g c fields = fold (λ c f. with_value g c f.value) c fields
 
 -- the fields are allowed after a place
 abbrev pub FollowFrom : {R : Type 0} → Grammar R → Cut R → List Field → List ℕ → Type 0

@@ -1,5 +1,6 @@
 -- The plain reader: it takes one field after the other, and keeps the records made so far.
 use Rattle.std.specs.Prelude.{◌≡◌, ℕ, zero, suc, ◌+◌, ◌-◌, ◌*◌, ◌^◌, List, [], ◌∷◌, ◌++◌, length, take, drop, nat_lt, nat_le, ◌==◌, if◌then◌else◌, Option, Some, None, Bool, true, false, ◌&&◌, ℤ, Result, Ok, Err, ◌≤◌}
+use Rattle.std.specs.List.{fold}
 use Rattle.std.specs.Int.{w32, from_le_bytes}
 use Rattle.ppdb_base.specs.declared.Code.{Code}
 use Rattle.ppdb_base.specs.declared.Code.TheVariants.{BlobEnd, IntegerForm, ValueRange}
@@ -198,3 +199,11 @@ fields_from g whole begun bytes = fields_for (suc (length bytes)) g whole begun 
 -- the fields of the blob's longest valid front
 abbrev pub front_of : {R : Type 0} → Grammar R → List ℕ → List Field
 front_of g blob = fields_from g [] [] blob
+
+-- what fields make after a place of the grammar
+abbrev pub cut_from : {R : Type 0} → Grammar R → Cut R → List Field → Cut R
+cut_from g c fields = fold (λ c f. with_value g c f.value) c fields
+
+-- the values of the record that has begun where the longest valid front ends, from a place on
+unfoldable pub begun_from : {R : Type 0} → Grammar R → List R → List Value → List ℕ → List Value
+begun_from g whole begun bytes = (cut_from g (record { whole = whole; begun = begun }) (fields_from g whole begun bytes)).begun

@@ -2,10 +2,9 @@ ghost use Rattle.std.specs.Prelude.{◌≡◌, ◌≤◌, ◌<◌, ◌^◌, ◌+
 ghost use Rattle.blob_grammar.specs.Grammar.{octets, character};
 ghost use Rattle.blob_grammar.specs.Reader.{is_in as in_range, is_second as second_fits, is_character as is_well_formed, character_len as len_of_character, IsThere, IsMissing};
 
+use crate::fault::fault_at;
 use cli_ints::IntFault;
 use ppdb_base::{BlobFault, Code};
-
-use crate::fault::fault_at;
 
 fn is_in(low: u8, high: u8, b: u8) -> bool
     ensures { result ≡ in_range low high b }

@@ -2,10 +2,9 @@ ghost use Rattle.std.specs.Prelude.{◌≡◌, ◌≤◌, ◌<◌, ◌^◌, ◌+
 ghost use Rattle.blob_grammar.specs.Grammar.{byte, number};
 ghost use Rattle.blob_grammar.specs.Reader.{placed, unsigned_at, signed_at, word_at, IsThere, IsMissing};
 
+use crate::fault::fault_at;
 use cli_ints::{IntFault, read_signed, read_unsigned};
 use ppdb_base::BlobFault;
-
-use crate::fault::fault_at;
 
 /// The unsigned number at a place of a blob, and its length.
 pub fn unsigned_field(blob: &[u8], at: usize) -> Result<(u32, usize), BlobFault>

@@ -2,10 +2,9 @@ ghost use Rattle.std.specs.Prelude.{◌≡◌, ◌≤◌, ◌<◌, ◌^◌, ◌+
 ghost use Rattle.blob_grammar.specs.Grammar.{octets, fixed, rest};
 ghost use Rattle.blob_grammar.specs.Reader.{IsThere, IsMissing};
 
+use crate::fault::fault_at;
 use cli_ints::IntFault;
 use ppdb_base::BlobFault;
-
-use crate::fault::fault_at;
 
 /// So many bytes at a place of a blob.
 pub fn fixed_field(blob: &[u8], at: usize, len: usize) -> Result<&[u8], BlobFault>
