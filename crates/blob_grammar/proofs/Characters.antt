@@ -1,9 +1,9 @@
 -- A UTF-8 character at the front of some bytes: what character_len finds is one, and each one is found.
-use Rattle.std.proofs.Common.{◌≡◌, ℕ, zero, suc, ◌<◌, ◌≤◌, Bool, true, false, ◌&&◌, List, [], ◌∷◌, ◌++◌, length, take, refl, sym, ap, subst, arith, if◌then◌else◌, Result, Ok}
+use Rattle.std.proofs.Common.{◌≡◌, ℕ, zero, suc, ◌<◌, ◌≤◌, Bool, true, false, List, [], ◌∷◌, ◌++◌, length, take, refl, sym, ap, subst, arith, if◌then◌else◌, Result, Ok}
 use Rattle.std.proofs.lemmas.List.{length-take}
 use Rattle.ppdb_base.specs.declared.Code.{Code}
-use Rattle.blob_grammar.specs.Grammar.{Value, octets, IsIn, IsSecond, IsCharacter}
-use Rattle.blob_grammar.specs.Reader.{is_in, is_second, is_character, character_len, character_of}
+use Rattle.blob_grammar.specs.Grammar.{Value, octets, IsCharacter}
+use Rattle.blob_grammar.specs.Reader.{is_character, character_len, character_of}
 
 character-is : (bytes : List ℕ) → is_character bytes ≡ true → IsCharacter bytes
 character-is [] h = absurd cc

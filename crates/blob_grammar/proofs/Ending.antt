@@ -4,10 +4,10 @@ use Rattle.std.specs.Prelude.{All}
 use Rattle.std.specs.Int.{w32, from_le_bytes}
 use Rattle.std.proofs.lemmas.List.{length-replicate, length-take-le, take-append-drop}
 use Rattle.std.proofs.lemmas.Bool.{cases_lt}
-use Rattle.cli_ints.specs.Compressed.{SpellsUnsigned, SpellsSigned, bits_of, unrotated}
+use Rattle.cli_ints.specs.Compressed.{SpellsUnsigned, bits_of, unrotated}
 use Rattle.ppdb_base.specs.declared.Code.TheVariants.{BlobEnd}
-use Rattle.blob_grammar.specs.Grammar.{Value, number, integer, octets, Form, unsigned, signed, byte, word, fixed, rest, character, Spells}
-use Rattle.blob_grammar.specs.Reading.{BeginsNoNumber, IsFieldThere, IsFaultOf}
+use Rattle.blob_grammar.specs.Grammar.{number, integer, octets, Form, unsigned, signed, byte, word, fixed, rest, character}
+use Rattle.blob_grammar.specs.Reading.{IsFieldThere, IsFaultOf}
 use Rattle.blob_grammar.specs.Ending.{EndsInside}
 
 -- A number stands at the front of the bytes, or would with some more bytes.

@@ -1,13 +1,13 @@
 -- The fields that the plain reader takes are those of the longest valid front.
-use Rattle.std.proofs.Common.{◌≡◌, ℕ, zero, suc, ◌+◌, ◌<◌, ◌≤◌, Bool, true, false, ◌&&◌, List, [], ◌∷◌, ◌++◌, length, take, drop, Option, Some, None, Result, Ok, Err, refl, sym, ap, subst, ◌∙◌, append_assoc, append-nil, arith, length-append}
+use Rattle.std.proofs.Common.{◌≡◌, ℕ, zero, suc, ◌+◌, ◌<◌, Bool, true, false, ◌&&◌, List, [], ◌∷◌, ◌++◌, length, take, drop, Option, Some, None, Ok, Err, refl, sym, ap, subst, ◌∙◌, append_assoc, append-nil, arith, length-append}
 use Rattle.std.proofs.Math.Seq.{take-append_seam}
 use Rattle.ppdb_base.specs.declared.Code.{Code}
 use Rattle.ppdb_base.specs.declared.Code.TheVariants.{BlobEnd, ValueRange}
-use Rattle.blob_grammar.specs.Grammar.{Value, Form, Field, Grammar, Cut, with_value, cut, bytes_of, MayFollow, AtFront}
+use Rattle.blob_grammar.specs.Grammar.{Value, Form, Field, Grammar, Cut, with_value, cut, MayFollow, AtFront}
 use Rattle.blob_grammar.specs.Reading.{IsLongestFront, HasBegun}
 use Rattle.blob_grammar.specs.Indexes.{indexes_of, HasIndexes}
 use Rattle.blob_grammar.specs.Reader.{field_at, is_empty, Step, field, stop, bad, stop_or, if_allowed, step_at, step_in, step, take_field, fields_for, fields_from, front_of, cut_from, begun_from}
-use Rattle.blob_grammar.proofs.Fronts.{cut-push, bytes-push, front-push, IsStuck, longest_where_stuck, front-unique}
+use Rattle.blob_grammar.proofs.Fronts.{cut-push, front-push, longest_where_stuck, front-unique}
 use Rattle.blob_grammar.proofs.Readers.{whole_of, begun_of, StepIs, step-is}
 use Rattle.blob_grammar.proofs.Steps.{Shorter, shorter_in}
 

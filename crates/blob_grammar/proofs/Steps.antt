@@ -5,7 +5,7 @@ use Rattle.ppdb_base.specs.declared.Code.TheVariants.{BlobEnd, ValueRange}
 use Rattle.std.proofs.lemmas.List.{length-drop, drop-drop, drop_all}
 use Rattle.ppdb_base.specs.declared.BlobFault.{BlobFault}
 use Rattle.blob_grammar.specs.Grammar.{Value, Form, unsigned, signed, byte, word, fixed, rest, character, Grammar}
-use Rattle.blob_grammar.specs.Reader.{Left, field_at, unsigned_at, signed_at, character_len, is_empty, Step, field, stop, bad, stop_or, if_allowed, step_at, step_in, step, push, close_and, take_step, read_for, read_from}
+use Rattle.blob_grammar.specs.Reader.{Left, field_at, unsigned_at, signed_at, is_empty, Step, field, stop, bad, stop_or, if_allowed, step_at, step_in, step, push, close_and, take_step, read_for, read_from}
 use Rattle.blob_grammar.proofs.Fields.{Front, FieldFound, field-is}
 
 -- ---- the turns do not matter, if there are enough

@@ -1,5 +1,5 @@
 -- The blob indexes among the fields of a blob, and the bytes at which they stand.
-use Rattle.std.specs.Prelude.{◌≡◌, ℕ, ◌+◌, List, [], ◌∷◌, ◌++◌, length, Bool, true, false}
+use Rattle.std.specs.Prelude.{◌≡◌, ℕ, ◌+◌, List, [], ◌∷◌, ◌++◌, length, Bool, true}
 use Rattle.blob_grammar.specs.Grammar.{Value, number, Field, Grammar, Cut, with_value}
 use Rattle.blob_grammar.specs.Reading.{IsLongestFront}
 

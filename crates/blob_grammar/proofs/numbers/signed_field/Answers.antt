@@ -1,5 +1,3 @@
-use Rattle.std.proofs.Common.{◌≡◌, ap, sym, ◌∙◌, drop, Err}
-use Rattle.blob_grammar.specs.Reader.{placed, signed_at}
 use Rattle.blob_grammar.proofs.Stored.{signed-stands, signed-refused, refusal}
 use Rattle.blob_grammar.proofs.numbers.signed_field.Goals as goal
 

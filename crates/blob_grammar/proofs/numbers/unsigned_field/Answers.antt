@@ -1,5 +1,3 @@
-use Rattle.std.proofs.Common.{◌≡◌, ap, sym, ◌∙◌, drop, Err}
-use Rattle.blob_grammar.specs.Reader.{placed, unsigned_at}
 use Rattle.blob_grammar.proofs.Stored.{unsigned-stands, unsigned-refused, refusal}
 use Rattle.blob_grammar.proofs.numbers.unsigned_field.Goals as goal
 
