@@ -1,0 +1,33 @@
+-- What a cursor of a document name has left, and what its answers show.
+use Rattle.std.specs.Prelude.{ℕ, List, [], ◌∷◌, drop, Option, Some, None, Result, Ok, Err, ◌==◌, if◌then◌else◌}
+use Rattle.std.specs.Borrow.{Bor}
+use Rattle.ppdb_base.specs.declared.BlobFault.{BlobFault}
+use Rattle.blob_grammar.specs.Reader.{Left, read_from}
+use Rattle.ppdb_heaps.specs.Names.{NamePart, separator, part, names, contents_of}
+
+-- The separator, and the parts to come.
+pub record NameLeft : Type 0 where
+  pub separator : List ℕ
+  pub left : Left (List ℕ)
+
+-- What an answer shows of the slice that it lends.
+abbrev pub lent : Result (Option (Bor (List ℕ))) BlobFault → Result (Option (List ℕ)) BlobFault
+lent (Ok (Some slice)) = Ok (Some slice.now)
+lent (Ok None) = Ok None
+lent (Err fault) = Err fault
+
+abbrev pub lent_with_place : Result (Option (Bor (List ℕ) × ℕ)) BlobFault → Result (Option (List ℕ × ℕ)) BlobFault
+lent_with_place (Ok (Some found)) = Ok (Some (found.0.now, found.1))
+lent_with_place (Ok None) = Ok None
+lent_with_place (Err fault) = Err fault
+
+abbrev pub contents_left : Left NamePart → Left (List ℕ)
+contents_left left = record { items = contents_of left.items; fault = left.fault }
+
+-- Of the parts before a place, only whether there are any matters.
+abbrev pub before_place : ℕ → ℕ → List NamePart
+before_place start at = if at == start then separator [] ∷ [] else separator [] ∷ part [] ∷ []
+
+-- The contents left at a place of a blob, whose separator ends at start.
+unfoldable pub parts_left : List ℕ → List ℕ → ℕ → ℕ → Left (List ℕ)
+parts_left blobs blob start at = contents_left (read_from (names blobs) (before_place start at) [] at (drop at blob))

@@ -1,0 +1,4 @@
+pub mod Heaps
+pub mod Views
+pub mod Names
+pub mod Cursor

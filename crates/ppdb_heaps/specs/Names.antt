@@ -1,0 +1,85 @@
+-- The names of documents (Portable PDB v1.0, "Document Name Blob"): a separator, and parts that are blobs of their own.
+use Rattle.std.specs.Prelude.{◌≡◌, ℕ, zero, List, [], ◌∷◌, Option, Some, None, Bool, true, false, is_some, option_map}
+use Rattle.std.specs.List.{flat_map, join_by}
+use Rattle.ppdb_base.specs.declared.BlobFault.{BlobFault}
+use Rattle.blob_grammar.specs.Grammar.{Value, number, octets, Form, character, unsigned, Grammar}
+use Rattle.blob_grammar.specs.Reading.{Reading}
+use Rattle.blob_grammar.specs.Indexes.{indexes_of}
+use Rattle.blob_grammar.specs.Reader.{read_from, front_of}
+use Rattle.ppdb_heaps.specs.Heaps.{blob_at}
+
+-- What a field of a name makes: the separator, or a part with its content.
+pub data NamePart : Type 0 where
+  separator : (bytes : List ℕ) → NamePart
+  part : (content : List ℕ) → NamePart
+
+-- The first field is a UTF-8 character, each other one the index of a part in #Blob.
+abbrev pub form : List NamePart → Option Form
+form [] = Some character
+form (first ∷ others) = Some unsigned
+
+-- A part is there. Index 0 is the empty text.
+abbrev pub allows : List ℕ → List NamePart → Value → Bool
+allows blobs [] value = true
+allows blobs (first ∷ others) (number index) = is_some (blob_at blobs index)
+allows blobs (first ∷ others) value = false
+
+abbrev pub part_of : List ℕ → List NamePart → List Value → Option NamePart
+part_of blobs [] (octets bytes ∷ []) = Some (separator bytes)
+part_of blobs (first ∷ others) (number index ∷ []) = option_map (λ content. part content) (blob_at blobs index)
+part_of blobs before begun = None
+
+-- There is at least one part.
+abbrev pub may_stop : List NamePart → List Value → Bool
+may_stop (first ∷ second ∷ others) [] = true
+may_stop before begun = false
+
+abbrev pub names : List ℕ → Grammar NamePart
+names blobs = record {
+  form = λ before begun. form before;
+  allows = λ before begun value. allows blobs before value;
+  record_of = λ before begun. part_of blobs before begun;
+  may_stop = λ before begun. may_stop before begun;
+}
+
+-- Byte 00 stands for no separator.
+abbrev pub without_zero : List ℕ → List ℕ
+without_zero (zero ∷ []) = []
+without_zero bytes = bytes
+
+abbrev pub separator_of : List NamePart → List ℕ
+separator_of (separator bytes ∷ parts) = without_zero bytes
+separator_of _ = []
+
+abbrev pub content_of : NamePart → List (List ℕ)
+content_of (separator bytes) = []
+content_of (part content) = content ∷ []
+
+abbrev pub contents_of : List NamePart → List (List ℕ)
+contents_of parts = flat_map content_of parts
+
+-- The parts joined by the separator.
+abbrev pub joined : List NamePart → List ℕ
+joined parts = join_by (λ content. content) (separator_of parts) (contents_of parts)
+
+-- The blob is a whole name, and this is the text.
+pub record IsName (blobs blob name : List ℕ) : Type 0 where
+  pub parts : List NamePart
+  pub whole : Reading (names blobs) blob parts None
+  pub text : name ≡ joined parts
+
+-- The blob begins with a separator, and what follows it are these parts, and the fault after them, if the blob is not whole.
+pub record NameReading (blobs blob sep : List ℕ) (contents : List (List ℕ)) (fault : Option BlobFault) : Type 0 where
+  pub bytes : List ℕ
+  pub parts : List NamePart
+  pub reading : Reading (names blobs) blob (separator bytes ∷ parts) fault
+  pub separator_is : sep ≡ without_zero bytes
+  pub contents_are : contents ≡ contents_of parts
+
+-- The text of a name, as the plain reader reads it.
+unfoldable pub name_of : List ℕ → List ℕ → List ℕ
+name_of blobs blob = joined (read_from (names blobs) [] [] 0 blob).items
+
+-- The indexes of the parts in the longest valid front of a name, each with the byte at which it stands.
+abbrev pub name_indexes : List ℕ → List ℕ → List (ℕ × ℕ)
+name_indexes blobs blob = indexes_of (names blobs) (λ before begun. true) (front_of (names blobs) blob)

@@ -1,0 +1,14 @@
+-- The bytes of the streams that look-ups go through.
+use Rattle.std.specs.Prelude.{ℕ, List}
+use Rattle.ppdb_heaps.specs.declared.strings.Strings.{Strings}
+use Rattle.ppdb_heaps.specs.declared.blobs.Blobs.{Blobs}
+use Rattle.ppdb_heaps.specs.declared.guids.Guids.{Guids}
+
+abbrev pub strings_of : Strings → List ℕ
+strings_of strings = strings.bytes.now
+
+abbrev pub blobs_of : Blobs → List ℕ
+blobs_of blobs = blobs.bytes.now
+
+abbrev pub guids_of : Guids → List ℕ
+guids_of guids = guids.bytes.now
