@@ -6,3 +6,7 @@ pub mod StepsLeft
 pub mod WrittenRows
 pub mod WrittenSlots
 pub mod WrittenSteps
+pub mod ReadRecords
+pub mod ReadRows
+pub mod ReadSlots
+pub mod ReadSteps

@@ -1,5 +1,6 @@
-// What the writers write is whole, and has the value, wherever its rows are there.
+// What is written is read again, and what is read can be written.
 ghost use Rattle.std.specs.Prelude.{ℕ, List, Option, None, All};
+ghost use Rattle.ppdb_base.specs.declared.BlobFault.{BlobFault};
 ghost use Rattle.blob_grammar.specs.Reading.{Reading};
 ghost use Rattle.custom_info.specs.declared.slots.Slot.{Slot};
 ghost use Rattle.custom_info.specs.declared.stepping.AsyncStep.{AsyncStep};
@@ -23,4 +24,22 @@ pub fn written_slots_are_read()
 pub fn written_steps_are_read()
     ensures { (methods : ℕ) (handler : Option ℕ) (steps : List AsyncStep) → IsHandler handler → All IsStep steps → All (λ step. step.method ≤ methods) steps
         → Reading (async_stepping methods) (async_spelling handler steps) (entries_of handler steps) None }
+{}
+
+/// The rows that a blob is read as are there, and can be written.
+pub fn read_rows_can_be_written()
+    ensures { (documents : ℕ) (blob rows : List ℕ) (fault : Option BlobFault) → Reading (type_documents documents) blob rows fault
+        → All (λ row. IsRowNumber row × (row ≤ documents)) rows }
+{}
+
+/// The slots that a blob is read as can be written.
+pub fn read_slots_can_be_written()
+    ensures { (blob : List ℕ) (slots : List Slot) (fault : Option BlobFault) → Reading hoisted_scopes blob slots fault → All IsSlot slots }
+{}
+
+/// The handler and the steps that a blob is read as can be written, and each method is there.
+pub fn read_steps_can_be_written()
+    ensures { (methods : ℕ) (blob : List ℕ) (handler : Option ℕ) (steps : List AsyncStep) (fault : Option BlobFault)
+        → Reading (async_stepping methods) blob (entries_of handler steps) fault
+        → IsHandler handler × All (λ step. IsStep step × (step.method ≤ methods)) steps }
 {}

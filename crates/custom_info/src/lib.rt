@@ -14,7 +14,10 @@ pub use kinds::{
     HOISTED_SCOPES, Kind, LAMBDA_MAP, METADATA_REFERENCES, SLOT_MAP, SOURCE_LINK, STATE_MAP,
     TUPLE_NAMES, TYPE_DOCUMENTS, kind_of,
 };
-pub use laws::{written_rows_are_read, written_slots_are_read, written_steps_are_read};
+pub use laws::{
+    read_rows_can_be_written, read_slots_can_be_written, read_steps_can_be_written,
+    written_rows_are_read, written_slots_are_read, written_steps_are_read,
+};
 pub use marks::Marks;
 pub use rows::{RowCursor, rows_into};
 pub use slots::{Range, Slot, SlotCursor, slots_into};
