@@ -1,0 +1,12 @@
+pub mod Checked
+pub mod Mapped
+pub mod RowsLeft
+pub mod SlotsLeft
+pub mod StepsLeft
+pub mod WrittenRows
+pub mod WrittenSlots
+pub mod WrittenSteps
+pub mod ReadRecords
+pub mod ReadRows
+pub mod ReadSlots
+pub mod ReadSteps

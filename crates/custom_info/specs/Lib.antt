@@ -1,0 +1,5 @@
+pub mod Fields
+pub mod Kinds
+pub mod TypeDocuments
+pub mod HoistedScopes
+pub mod AsyncStepping

@@ -1,0 +1,72 @@
+// Fields that hold a row or an IL offset.
+ghost use Rattle.std.specs.Prelude.{◌≡◌, ◌≤◌, ◌<◌, ◌^◌, ◌+◌, ◌++◌, length, drop, nat_lt, nat_le, if◌then◌else◌, Ok, Err, IfOk, OnOk, OnErr};
+ghost use Rattle.std.specs.Int.{w32, to_le_bytes};
+ghost use Rattle.blob_grammar.specs.Reader.{unsigned_at};
+ghost use Rattle.cli_ints.specs.Shortest.{short_unsigned};
+ghost use Rattle.blob_grammar.specs.Reader.{placed, word_at};
+ghost use Rattle.custom_info.specs.Fields.{is_row, is_offset, checked};
+
+use blob_grammar::{unsigned_field, word_field};
+use cli_ints::spell_unsigned;
+use ppdb_base::{BlobFault, Bytes, Code, Memory};
+
+/// The first offset that no method has.
+pub const OFFSET_LIMIT: u32 = 0x8000_0000;
+
+/// A field that was read at a place, where its value is allowed.
+pub fn field_where(
+    is_allowed: bool,
+    field: (u32, usize),
+    at: usize,
+) -> Result<(u32, usize), BlobFault>
+    requires { at < 2 ^ 32 }
+    ensures { result ≡ (if is_allowed then Ok field else Err (record { code = Code.ValueRange; byte = at })) }
+{
+    if is_allowed {
+        Ok(field)
+    } else {
+        Err(BlobFault {
+            code: Code::ValueRange,
+            byte: at as u32,
+        })
+    }
+}
+
+/// The IL offset at a place of a blob, four bytes.
+pub fn offset_field(blob: &[u8], at: usize) -> Result<(u32, usize), BlobFault>
+    requires within { at ≤ length blob.now }
+    requires short { length blob.now < 2 ^ 32 }
+    ensures found { result ≡ checked is_offset at (placed at (word_at (drop at blob.now))) }
+    ensures within { IfOk result (λ field. at + field.1 ≤ length blob.now) }
+{
+    let field = word_field(blob, at)?;
+    field_where(field.0 < OFFSET_LIMIT, field, at)
+}
+
+/// The row at a place of a blob, a compressed number, where a table of so many rows has it.
+pub fn row_field(blob: &[u8], at: usize, rows: u32) -> Result<(u32, usize), BlobFault>
+    requires within { at ≤ length blob.now }
+    requires short { length blob.now < 2 ^ 32 }
+    ensures found { result ≡ checked (is_row rows) at (placed at (unsigned_at (drop at blob.now))) }
+    ensures within { IfOk result (λ field. at + field.1 ≤ length blob.now) }
+{
+    let field = unsigned_field(blob, at)?;
+    field_where(1 <= field.0 && field.0 <= rows, field, at)
+}
+
+/// Appends a number as four bytes.
+pub fn word_into(number: u32, into: &mut Bytes) -> Result<(), Memory>
+    ensures ok { OnOk result (into.new ≡ into.old ++ to_le_bytes w32 number) }
+    ensures err { OnErr result (into.new ≡ into.old) }
+{
+    into.append(&number.to_le_bytes())
+}
+
+/// Appends the shortest form of a compressed number.
+pub fn number_into(number: u32, into: &mut Bytes) -> Result<(), Memory>
+    requires { number < 0x2000_0000 }
+    ensures ok { OnOk result (into.new ≡ into.old ++ short_unsigned number) }
+    ensures err { OnErr result (into.new ≡ into.old) }
+{
+    into.append(spell_unsigned(number).as_slice())
+}
