@@ -1,6 +1,6 @@
 -- The handler and the steps that a blob is read as can be written, and the methods are there.
-use Rattle.std.proofs.Common.{◌≡◌, ℕ, zero, suc, ◌<◌, ◌≤◌, true, false, List, [], ◌∷◌, ◌++◌, map, Option, Some, None, sym, subst, arith}
-use Rattle.std.specs.Prelude.{All, nat_lt, nat_le}
+use Rattle.std.proofs.Common.{◌≡◌, ℕ, zero, suc, ◌<◌, ◌≤◌, true, false, List, [], ◌∷◌, map, Option, sym, subst, arith}
+use Rattle.std.specs.Prelude.{All}
 use Rattle.std.proofs.lemmas.Bool.{ltb-true, leb-true}
 use Rattle.std.proofs.lemmas.List.Elements.{All-push, All-nil, All-head, All-tail, All-cons}
 use Rattle.ppdb_base.specs.declared.BlobFault.{BlobFault}
@@ -72,6 +72,6 @@ pub read_steps : (methods : ℕ) (blob : List ℕ) (handler : Option ℕ) (steps
     → IsHandler handler × All (λ step. IsStep step × (step.method ≤ methods)) steps
 read_steps methods blob handler steps fault r =
     let all : All (IsRead methods) (entries_of handler steps) =
-        subst (λ (xs : List Entry). All (IsRead methods) xs) (sym r.made) (of_reading (async_stepping methods) (Holds methods) (kept methods) (All-nil (IsRead methods), tt) blob (entries_of handler steps) fault r).0
+    subst (λ (xs : List Entry). All (IsRead methods) xs) (sym r.made) (of_reading (async_stepping methods) (Holds methods) (kept methods) (All-nil (IsRead methods), tt) blob (entries_of handler steps) fault r).0
     in
     (All-head (IsRead methods) (catch_handler handler) (map await_step steps) all, steps-of methods steps (All-tail (IsRead methods) (catch_handler handler) (map await_step steps) all))

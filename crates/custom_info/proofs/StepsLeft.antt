@@ -1,11 +1,11 @@
 -- What a cursor of async stepping information has left, a field at a time.
-use Rattle.std.proofs.Common.{◌≡◌, ℕ, ◌+◌, ◌<◌, true, ◌&&◌, List, [], ◌∷◌, ◌++◌, length, drop, Option, Some, None, Ok, Err, refl, sym, ap, subst, ◌∙◌, zero-add}
+use Rattle.std.proofs.Common.{◌≡◌, ℕ, ◌+◌, ◌<◌, true, ◌&&◌, List, [], ◌∷◌, ◌++◌, length, drop, Some, None, Ok, Err, refl, ap, subst, ◌∙◌, zero-add}
 use Rattle.blob_grammar.specs.Reader.{unsigned_at}
 use Rattle.ppdb_base.specs.declared.BlobFault.{BlobFault}
 use Rattle.std.specs.Option.{option_map}
 use Rattle.blob_grammar.specs.Grammar.{Value, number, unsigned, word}
 use Rattle.blob_grammar.specs.Reading.{Reading}
-use Rattle.blob_grammar.specs.Reader.{Left, placed, word_at, push, is_empty, read_from}
+use Rattle.blob_grammar.specs.Reader.{Left, placed, word_at, push, is_empty}
 use Rattle.blob_grammar.proofs.Readers.{read_from-reads}
 use Rattle.blob_grammar.proofs.Steps.{Alike, read_from-alike, nothing_left, left_at, left-end, not_empty}
 use Rattle.custom_info.specs.declared.stepping.AsyncStep.{AsyncStep}

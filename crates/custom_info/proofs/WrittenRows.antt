@@ -1,5 +1,5 @@
 -- What rows_into writes is read again.
-use Rattle.std.proofs.Common.{◌≡◌, ℕ, ◌<◌, ◌≤◌, true, ◌&&◌, List, [], ◌∷◌, ◌++◌, None, refl, ap, subst, arith}
+use Rattle.std.proofs.Common.{◌≡◌, ℕ, ◌≤◌, true, ◌&&◌, List, [], ◌∷◌, ◌++◌, None, refl, ap, subst, arith}
 use Rattle.std.specs.Prelude.{All, nat_le}
 use Rattle.std.proofs.lemmas.List.Elements.{All-head, All-tail}
 use Rattle.cli_ints.specs.Shortest.{short_unsigned}

@@ -1,5 +1,5 @@
 -- State Machine Hoisted Local Scopes (Portable PDB v1.0, CustomDebugInformation Table).
-use Rattle.std.specs.Prelude.{ℕ, zero, suc, ◌+◌, ◌-◌, List, [], ◌∷◌, ◌++◌, Option, Some, None, Bool, true, false, ◌||◌, nat_lt, ◌==◌, drop, ◌<◌}
+use Rattle.std.specs.Prelude.{ℕ, zero, suc, ◌+◌, ◌-◌, List, [], ◌∷◌, ◌++◌, Option, Some, None, Bool, true, ◌||◌, nat_lt, ◌==◌, drop, ◌<◌}
 use Rattle.std.specs.List.{flat_map}
 use Rattle.std.specs.Int.{w32, to_le_bytes}
 use Rattle.blob_grammar.specs.Grammar.{Value, number, word, Grammar}
