@@ -50,9 +50,11 @@ abbrev pub handler_of : ℕ → Option ℕ
 handler_of zero = None
 handler_of (suc offset) = Some offset
 
+-- A stored handler is at most 2 ^ 31, so that the handler is an IL offset.
 abbrev pub is_stored : ℕ → Bool
 is_stored stored = nat_le stored 0x8000_0000
 
+-- The handler comes first, in four bytes; every field after it is one of a step.
 abbrev pub form : List Entry → List Value → Option Form
 form [] begun = Some word
 form (first ∷ others) begun = step_form begun

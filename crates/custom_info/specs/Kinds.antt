@@ -5,7 +5,7 @@ use Rattle.std.specs.Str.{bytes_eq}
 use Rattle.custom_info.specs.declared.kinds.Kind.{Kind}
 use Rattle.custom_info.specs.declared.kinds.Kind.TheVariants.{Async, Hoisted, TypeDocuments, Free, Unknown}
 
--- The bytes of a GUID in a file, from those of its text: the first three fields are little-endian, the last eight bytes stand as they are written.
+-- The bytes of a GUID in the #GUID heap (ECMA-335 II.24.2.5), from those of its text: the first three fields are little-endian, the last eight bytes stand as they are written.
 abbrev pub in_file_order : List ℕ → List ℕ
 in_file_order (a ∷ b ∷ c ∷ d ∷ e ∷ f ∷ g ∷ h ∷ others) = d ∷ c ∷ b ∷ a ∷ f ∷ e ∷ h ∷ g ∷ others
 in_file_order bytes = bytes

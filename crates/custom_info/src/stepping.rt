@@ -105,7 +105,7 @@ impl<'a> AsyncCursor<'a> {
         })
     }
 
-    /// The IL offset of the catch handler of an async method without a result, if there is one.
+    /// The IL offset of the catch handler, if there is one.
     pub fn handler(&self) -> Option<u32>
         ensures { result ≡ self.now.handler }
     {
@@ -136,7 +136,7 @@ fn step_into(step: &AsyncStep, into: &mut Bytes) -> Result<(), Memory>
     number_into(step.method, into)
 }
 
-/// Appends a handler and steps, each number in its one or its shortest form. After a refusal the bytes are unchanged.
+/// Appends a handler and steps: offsets as four bytes, methods in their shortest form. After a refusal the bytes are unchanged.
 pub fn async_into(handler: Option<u32>, steps: &[AsyncStep], into: &mut Bytes) -> Result<(), Memory>
     requires handler { IsHandler handler }
     requires steps { All IsStep steps.now }
