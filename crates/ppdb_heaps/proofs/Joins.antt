@@ -53,8 +53,8 @@ joining-next blobs blob old sep into left x h e =
       contents = h.contents;
       reading = h.reading;
       goes_on =
-        append_assoc (into ++ sep) x more ∙ append_assoc into sep (x ++ more) ∙ ap (λ t. into ++ t) (sym (append_assoc sep x more))
-        ∙ ap (λ contents. into ++ after_separator sep contents) (sym items) ∙ h.goes_on;
+          append_assoc (into ++ sep) x more ∙ append_assoc into sep (x ++ more) ∙ ap (λ t. into ++ t) (sym (append_assoc sep x more))
+          ∙ ap (λ contents. into ++ after_separator sep contents) (sym items) ∙ h.goes_on;
     }
 
 name-whole : (blobs blob sep : List ℕ) (contents : List (List ℕ)) (fault : Option BlobFault) → NameReading blobs blob sep contents fault → fault ≡ None → IsName blobs blob (join_by (λ content. content) sep contents)
@@ -66,9 +66,11 @@ name-whole blobs blob sep contents fault h whole = record {
 
 pub joining-end : (blobs blob old sep into : List ℕ) (left : Left (List ℕ)) → let none : Option (List ℕ) = None in Joining blobs blob old sep into left → Ok none ≡ answer left → HasAppended blobs blob old into
 joining-end blobs blob old sep into left h e =
-    let ends = none-of left.items left.fault e in
-    (join_by (λ content. content) sep h.contents, name-whole blobs blob sep h.contents left.fault h.reading ends.1,
-      sym (append-nil into) ∙ ap (λ contents. into ++ after_separator sep contents) (sym ends.0) ∙ h.goes_on)
+    let ends = none-of left.items left.fault e in (
+      join_by (λ content. content) sep h.contents,
+      name-whole blobs blob sep h.contents left.fault h.reading ends.1,
+      sym (append-nil into) ∙ ap (λ contents. into ++ after_separator sep contents) (sym ends.0) ∙ h.goes_on,
+    )
 
 -- A name that has no part has no text; there is none that is whole.
 pub joining-none : (blobs blob old sep : List ℕ) (left : Left (List ℕ)) → let none : Option (List ℕ) = None in NameReading blobs blob sep left.items left.fault → Ok none ≡ answer left → HasAppended blobs blob old old

@@ -127,10 +127,10 @@ unfolding parts_left
 part-missing blobs blob start at fault within goes_on e =
     let n = unsigned_not_there at (drop at blob) fault e in
     let stays : (is_empty (drop at blob) && may_stop (before_place start at) []) ≡ false =
-      (elim (cases_lt at (length blob)) [
-        | inl less ↦ and_left (is_empty (drop at blob)) (may_stop (before_place start at) []) (not_empty blob at less)
-        | inr past ↦ and_right (is_empty (drop at blob)) (may_stop (before_place start at) []) (ap (λ b. may_stop b []) (before-first start at (goes_on (omega arith))))
-      ]) in
+    (elim (cases_lt at (length blob)) [
+      | inl less ↦ and_left (is_empty (drop at blob)) (may_stop (before_place start at) []) (not_empty blob at less)
+      | inr past ↦ and_right (is_empty (drop at blob)) (may_stop (before_place start at) []) (ap (λ b. may_stop b []) (before-first start at (goes_on (omega arith))))
+    ]) in
     ap contents_left (left-none (names blobs) (before_place start at) [] blob at unsigned n.code (if-form (at == start)) n.none stays) ∙ ap (λ f. nothing_left (Some f)) (sym n.fault_is)
 
 -- The index of a part that is not there.
@@ -139,7 +139,7 @@ pub part-absent : (blobs blob : List ℕ) (start at index len : ℕ) → placed 
 unfolding parts_left
 part-absent blobs blob start at index len e absent =
     ap contents_left
-      (left-out (names blobs) (before_place start at) [] blob at unsigned (number index) len (if-form (at == start)) (unsigned_there at (drop at blob) index len e) (if-allows blobs (at == start) index ∙ ap is_some absent))
+    (left-out (names blobs) (before_place start at) [] blob at unsigned (number index) len (if-form (at == start)) (unsigned_there at (drop at blob) index len e) (if-allows blobs (at == start) index ∙ ap is_some absent))
 
 -- A part.
 pub part-there : (blobs blob : List ℕ) (start at index len : ℕ) (content : List ℕ) → start ≤ at → placed at (unsigned_at (drop at blob)) ≡ Ok (index, len) → blob_at blobs index ≡ Some content
@@ -154,9 +154,9 @@ part-there blobs blob start at index len content begun e there =
     let later : at + len ≡ start → ⊥ = λ q. omega (arith, wide.0) in
     let same : kind (before ++ part content ∷ []) ≡ kind (before_place start (at + len)) = if-more (at == start) (part content) ∙ sym (ap kind (before-later start (at + len) later)) in
     ap contents_left
-      (left-field g before [] blob at unsigned (number index) len (if-form (at == start)) found (if-allows blobs (at == start) index ∙ ap is_some there)
-        ∙ ap (close_and (λ w b. left_at g w b blob (at + len)) before (number index ∷ [])) made
-        ∙ ap (push (part content)) (read_from-alike g g SameKind (names-alike blobs) (before ++ part content ∷ []) (before_place start (at + len)) [] (at + len) (drop (at + len) blob) same))
+    (left-field g before [] blob at unsigned (number index) len (if-form (at == start)) found (if-allows blobs (at == start) index ∙ ap is_some there)
+    ∙ ap (close_and (λ w b. left_at g w b blob (at + len)) before (number index ∷ [])) made
+    ∙ ap (push (part content)) (read_from-alike g g SameKind (names-alike blobs) (before ++ part content ∷ []) (before_place start (at + len)) [] (at + len) (drop (at + len) blob) same))
 
 pub stays_at : (at end start : ℕ) → ((at ≡ end) × (at ≡ start)) ⊎ (at ≡ end → ⊥) → at ≡ end → at ≡ start
 stays_at at end start (inl h) e = h.1
@@ -169,7 +169,7 @@ pub separator-missing : (blobs blob : List ℕ) (fault : BlobFault) → IsMissin
 separator-missing blobs blob fault h =
     let g = names blobs in
     let e : read_from g [] [] 0 blob ≡ nothing_left (Some fault) =
-      left-none g [] [] blob 0 character h.code refl h.none (and_right (is_empty (drop 0 blob)) false refl) ∙ ap (λ f. nothing_left (Some f)) (sym h.fault_is) in
+    left-none g [] [] blob 0 character h.code refl h.none (and_right (is_empty (drop 0 blob)) false refl) ∙ ap (λ f. nothing_left (Some f)) (sym h.fault_is) in
     subst (λ (l : Left NamePart). Reading g blob l.items l.fault) e (read_from-reads g blob)
 
 pair-of : (x y : Value × ℕ) → let ok : Value × ℕ → Result (Value × ℕ) Code = λ p. Ok p in ok x ≡ ok y → x ≡ y
@@ -196,7 +196,7 @@ separator-there blobs blob bytes len h =
     let first = separator bytes ∷ [] in
     let left = left_at g first [] blob len in
     let e : read_from g [] [] 0 blob ≡ push (separator bytes) left =
-      left-field g [] [] blob 0 character (octets bytes) len refl h.0 refl ∙ ap (λ n. push (separator bytes) (left_at g first [] blob n)) (zero-add len) in
+    left-field g [] [] blob 0 character (octets bytes) len refl h.0 refl ∙ ap (λ n. push (separator bytes) (left_at g first [] blob n)) (zero-add len) in
     let same : kind first ≡ kind (before_place len len) = sym (ap kind (before-first len len refl)) in
     let alike : left ≡ left_at g (before_place len len) [] blob len = read_from-alike g g SameKind (names-alike blobs) first (before_place len len) [] len (drop len blob) same in
     record {

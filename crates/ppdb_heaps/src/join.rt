@@ -3,10 +3,9 @@ ghost use Rattle.ppdb_heaps.specs.Names.{IsName};
 ghost use Rattle.ppdb_heaps.specs.Joining.{IsRefusal, HasAppended};
 ghost use Rattle.ppdb_heaps.specs.Views.{blobs_of};
 
-use ppdb_base::{BlobFault, Bytes, Memory};
-
 use crate::blobs::Blobs;
 use crate::name::NameCursor;
+use ppdb_base::{BlobFault, Bytes, Memory};
 
 /// Why a name was not joined.
 #[derive(Clone, Copy, Debug, PartialEq, Eq)]

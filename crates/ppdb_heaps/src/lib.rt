@@ -14,3 +14,6 @@ pub use join::{NameError, name_into};
 pub use laws::blob_law;
 pub use name::NameCursor;
 pub use strings::Strings;
+
+#[cfg(test)]
+mod tests;

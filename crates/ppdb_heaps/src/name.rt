@@ -5,11 +5,10 @@ ghost use Rattle.ppdb_heaps.specs.Names.{names, without_zero, NameReading};
 ghost use Rattle.ppdb_heaps.specs.Cursor.{lent, lent_with_place, parts_left};
 ghost use Rattle.ppdb_heaps.specs.Views.{blobs_of};
 
+use crate::blobs::Blobs;
 use blob_grammar::{character_field, unsigned_field};
 use ppdb_base::{BlobFault, Code};
 use std::marker::Model;
-
-use crate::blobs::Blobs;
 
 /// The part at a place of a name, whose separator has `start` bytes, and the place after it; None at the end of a whole name.
 fn part_at<'a>(
@@ -56,8 +55,8 @@ impl<'a> Model for NameCursor<'a> {
     ghost Value = { NameLeft };
 
     ghost view = { λ s. record {
-        separator = without_zero (take s.start s.blob.now);
-        left = parts_left (blobs_of s.blobs) s.blob.now s.start s.at;
+      separator = without_zero (take s.start s.blob.now);
+      left = parts_left (blobs_of s.blobs) s.blob.now s.start s.at;
     } };
 
     ghost invariant = { λ s. (s.start ≤ s.at) × (s.at ≤ length s.blob.now) × (length s.blob.now < 2 ^ 32) };

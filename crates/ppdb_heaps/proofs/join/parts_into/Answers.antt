@@ -6,10 +6,11 @@ use Rattle.ppdb_heaps.proofs.join.parts_into.Goals as goal
 
 pub loop-part-init : goal.loop-part-init
 loop-part-init c =
-    let e = answer-is c.in_ok-cursor.cursor.left c.in_ok-first.field-0 (Some c.in-Some.first) c.in_ok-first.ensures.answer c.in-Some.is in
-    (joining-starts (blobs_of c.args.blobs) c.args.blob.now c.args.into.now c.append.new.self c.separator-separator.result.now c.in_ok-cursor.cursor.separator c.in_ok-cursor.cursor.left c.next.new.self.left c.in-Some.first.now
-      c.in_ok-cursor.ensures.begun (c.separator-separator.ensures ∙ c.next.ensures.separator) e c.next.ensures.left c.in_ok-append.ensures.ok,
-    (c.in-Some.first.now, c.in_ok-append.ensures.ok))
+    let e = answer-is c.in_ok-cursor.cursor.left c.in_ok-first.field-0 (Some c.in-Some.first) c.in_ok-first.ensures.answer c.in-Some.is in (
+      joining-starts (blobs_of c.args.blobs) c.args.blob.now c.args.into.now c.append.new.self c.separator-separator.result.now c.in_ok-cursor.cursor.separator c.in_ok-cursor.cursor.left c.next.new.self.left c.in-Some.first.now
+          c.in_ok-cursor.ensures.begun (c.separator-separator.ensures ∙ c.next.ensures.separator) e c.next.ensures.left c.in_ok-append.ensures.ok,
+      (c.in-Some.first.now, c.in_ok-append.ensures.ok),
+    )
 
 pub returns-in_err-part-clause-fault : goal.returns-in_err-part-clause-fault
 returns-in_err-part-clause-fault c =
