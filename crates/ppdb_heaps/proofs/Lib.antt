@@ -1,1 +1,3 @@
 pub mod Heaps
+pub mod Names
+pub mod Joins

@@ -2,3 +2,4 @@ pub mod Heaps
 pub mod Views
 pub mod Names
 pub mod Cursor
+pub mod Joining
