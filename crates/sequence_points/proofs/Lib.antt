@@ -11,3 +11,4 @@ pub mod Makes
 pub mod Stands
 pub mod Law
 pub mod Reread
+pub mod Writable

@@ -9,6 +9,8 @@ mod point;
 mod ranges;
 mod records;
 mod step;
+#[cfg(test)]
+mod tests;
 mod writer;
 
 pub use cursor::{PointCursor, blob_fault};
