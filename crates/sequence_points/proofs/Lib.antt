@@ -1,0 +1,14 @@
+pub mod Sums
+pub mod Places
+pub mod Visible
+pub mod Offsets
+pub mod Headers
+pub mod Before
+pub mod Single
+pub mod Follows
+pub mod Spelled
+pub mod Makes
+pub mod Stands
+pub mod Law
+pub mod Reread
+pub mod Writable

@@ -1,0 +1,90 @@
+-- What is left after some records depends on their sums alone.
+use Rattle.std.proofs.Common.{◌≡◌, ℕ, ◌+◌, Bool, ◌||◌, List, [], ◌∷◌, ◌++◌, ℤ, ◌+ℤ◌, refl, sym, ap, ◌∙◌, arith}
+use Rattle.std.specs.List.{sum_by, list_any, flat_map}
+use Rattle.std.proofs.lemmas.List.Sums.{sum_by-append}
+use Rattle.std.proofs.lemmas.List.Folds.{list_any-append}
+use Rattle.std.proofs.lemmas.Grind.{flat_map-append}
+use Rattle.std.proofs.lemmas.Int.{ints}
+use Rattle.blob_grammar.specs.Grammar.{Value}
+use Rattle.blob_grammar.proofs.Steps.{Alike}
+use Rattle.sequence_points.specs.declared.point.PointLimits.{PointLimits}
+use Rattle.sequence_points.specs.Records.{Entry, is_point, is_visible, offset_of, start_line_of, start_column_of, int_sum_by, Sums, sums, point_form, point_allows, point_of_fields, form, allows, record_of, may_stop, sequence_points}
+use Rattle.sequence_points.specs.Points.{named_document, last_or, document_after}
+
+-- records were read
+abbrev pub IsStarted : List Entry → Type 0
+IsStarted [] = ⊥
+IsStarted (e ∷ es) = Unit {0}
+
+-- Lists of records with the same sums and the same document.
+pub record SameSums (a b : List Entry) : Type 0 where
+  pub started : IsStarted a
+  pub starts : IsStarted b
+  pub sums_are : sums a ≡ sums b
+  pub document_is : document_after a ≡ document_after b
+
+int_sum_by-push : (f : Entry → ℤ) (es : List Entry) (e : Entry) → int_sum_by f (es ++ e ∷ []) ≡ int_sum_by f es +ℤ f e
+int_sum_by-push f [] e = omega (arith, ints)
+int_sum_by-push f (x ∷ es) e = rw (int_sum_by-push f es e) (omega (arith, ints))
+
+abbrev pub add_sums : Sums → Entry → Sums
+add_sums s e = record {
+  has_point = s.has_point || list_any is_point (e ∷ []);
+  has_visible = s.has_visible || list_any is_visible (e ∷ []);
+  offset = s.offset + sum_by offset_of (e ∷ []);
+  line = s.line +ℤ start_line_of e;
+  column = s.column +ℤ start_column_of e;
+}
+
+pub same_five : (a b c d : Bool) (m n : ℕ) (x y z w : ℤ) → a ≡ b → c ≡ d → m ≡ n → x ≡ y → z ≡ w
+    → let one : Sums = record { has_point = a; has_visible = c; offset = m; line = x; column = z } in
+    let two : Sums = record { has_point = b; has_visible = d; offset = n; line = y; column = w } in one ≡ two
+same_five a b c d m n x y z w p q r s t = ap (λ (v : Bool × Bool × ℕ × ℤ × ℤ). let one : Sums = record { has_point = v.0; has_visible = v.1; offset = v.2; line = v.3; column = v.4 } in one) (let e : (a, c, m, x, z) ≡ (b, d, n, y, w) = cc in e)
+
+pub sums-push : (es : List Entry) (e : Entry) → sums (es ++ e ∷ []) ≡ add_sums (sums es) e
+sums-push es e = same_five _ _ _ _ _ _ _ _ _ _ (list_any-append is_point es (e ∷ [])) (list_any-append is_visible es (e ∷ [])) (sum_by-append offset_of es (e ∷ [])) (int_sum_by-push start_line_of es e) (int_sum_by-push start_column_of es e)
+
+pub last_or-append : (other : ℕ) (xs ys : List ℕ) → last_or other (xs ++ ys) ≡ last_or (last_or other xs) ys
+last_or-append other [] ys = refl
+last_or-append other (x ∷ xs) ys = last_or-append x xs ys
+
+pub document-push : (es : List Entry) (e : Entry) → document_after (es ++ e ∷ []) ≡ last_or (document_after es) (named_document e ++ [])
+document-push es e = ap (last_or 0) (flat_map-append named_document es (e ∷ [])) ∙ last_or-append 0 (flat_map named_document es) (flat_map named_document (e ∷ []))
+
+pub started-push : (es : List Entry) (e : Entry) → IsStarted (es ++ e ∷ [])
+started-push [] e = tt
+started-push (x ∷ es) e = tt
+
+pub same-push : (a b : List Entry) (e : Entry) → SameSums a b → SameSums (a ++ e ∷ []) (b ++ e ∷ [])
+same-push a b e s = record {
+  started = started-push a e;
+  starts = started-push b e;
+  sums_are = sums-push a e ∙ ap (λ x. add_sums x e) s.sums_are ∙ sym (sums-push b e);
+  document_is = document-push a e ∙ ap (λ n. last_or n (named_document e ++ [])) s.document_is ∙ sym (document-push b e);
+}
+
+pub form_is : (a : List Entry) (vs : List Value) → IsStarted a → form a vs ≡ point_form (sums a) vs
+form_is [] vs s = absurd s
+form_is (e ∷ es) vs s = refl
+
+pub allows_is : (limits : PointLimits) (a : List Entry) (vs : List Value) (v : Value) → IsStarted a → allows limits a vs v ≡ point_allows limits (sums a) vs v
+allows_is limits [] vs v s = absurd s
+allows_is limits (e ∷ es) vs v s = refl
+
+pub record_is : (column : ℕ) (a : List Entry) (vs : List Value) → IsStarted a → record_of column a vs ≡ point_of_fields (sums a) vs
+record_is column [] vs s = absurd s
+record_is column (e ∷ es) vs s = refl
+
+stop_is : (a b : List Entry) (vs : List Value) → sums a ≡ sums b → may_stop a vs ≡ may_stop b vs
+stop_is a b [] e = ap (λ s. s.has_point) e
+stop_is a b (v ∷ vs) e = refl
+
+-- The grammar says the same after records with the same sums, whatever the Document column is.
+pub alike : (column other : ℕ) (limits : PointLimits) → Alike (sequence_points column limits) (sequence_points other limits) SameSums
+alike column other limits = record {
+  form = λ a b vs s. form_is a vs s.started ∙ ap (λ x. point_form x vs) s.sums_are ∙ sym (form_is b vs s.starts);
+  allows = λ a b vs v s. allows_is limits a vs v s.started ∙ ap (λ x. point_allows limits x vs v) s.sums_are ∙ sym (allows_is limits b vs v s.starts);
+  record_of = λ a b vs s. record_is column a vs s.started ∙ ap (λ x. point_of_fields x vs) s.sums_are ∙ sym (record_is other b vs s.starts);
+  may_stop = λ a b vs s. stop_is a b vs s.sums_are;
+  push = λ a b r s. same-push a b r s;
+}

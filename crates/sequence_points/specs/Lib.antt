@@ -1,0 +1,5 @@
+pub mod Records
+pub mod Points
+pub mod Places
+pub mod Written
+pub mod Following

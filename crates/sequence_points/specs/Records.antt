@@ -1,0 +1,187 @@
+-- Sequence points (Portable PDB v1.0, "Sequence Points Blob"): which field may follow the fields before it.
+use Rattle.std.specs.Prelude.{ℕ, zero, suc, ◌+◌, List, [], ◌∷◌, Option, Some, None, Bool, true, false, not, ◌&&◌, nat_le, nat_lt, ◌==◌, if◌then◌else◌, ℤ, pos, negsuc, ◌+ℤ◌}
+use Rattle.std.specs.List.{sum_by, list_any}
+use Rattle.blob_grammar.specs.Grammar.{Value, number, integer, Form, unsigned, signed, Grammar}
+use Rattle.sequence_points.specs.declared.point.PointLimits.{PointLimits}
+
+-- A record of the blob, its numbers as they are stored: offset, start line and start column are differences.
+pub data Entry : Type 0 where
+  header : (signature row : ℕ) → Entry
+  hidden : (offset : ℕ) → Entry
+  visible : (offset lines : ℕ) (columns start_line start_column : ℤ) → Entry
+  in_document : (row : ℕ) → Entry
+
+-- ---- sums over the records before
+
+abbrev pub offset_of : Entry → ℕ
+offset_of (hidden offset) = offset
+offset_of (visible offset lines columns start_line start_column) = offset
+offset_of _ = 0
+
+abbrev pub start_line_of : Entry → ℤ
+start_line_of (visible offset lines columns start_line start_column) = start_line
+start_line_of _ = pos 0
+
+abbrev pub start_column_of : Entry → ℤ
+start_column_of (visible offset lines columns start_line start_column) = start_column
+start_column_of _ = pos 0
+
+abbrev pub is_point : Entry → Bool
+is_point (header signature row) = false
+is_point (in_document row) = false
+is_point _ = true
+
+abbrev pub is_visible : Entry → Bool
+is_visible (visible offset lines columns start_line start_column) = true
+is_visible _ = false
+
+abbrev pub int_sum_by : (Entry → ℤ) → List Entry → ℤ
+int_sum_by f [] = pos 0
+int_sum_by f (e ∷ es) = f e +ℤ int_sum_by f es
+
+-- What the records so far add up to: whether there was a point, and one that is not hidden; the IL offset of the last
+-- point; the start of the last point that is not hidden.
+pub record Sums : Type 0 where
+  pub has_point : Bool
+  pub has_visible : Bool
+  pub offset : ℕ
+  pub line : ℤ
+  pub column : ℤ
+
+abbrev pub sums : List Entry → Sums
+sums entries = record {
+  has_point = list_any is_point entries;
+  has_visible = list_any is_visible entries;
+  offset = sum_by offset_of entries;
+  line = int_sum_by start_line_of entries;
+  column = int_sum_by start_column_of entries;
+}
+
+-- ---- ranges
+
+abbrev pub int_of : Value → ℤ
+int_of (number n) = pos n
+int_of (integer z) = z
+int_of _ = pos 0
+
+abbrev pub is_offset : ℕ → Bool
+is_offset n = nat_lt n 536870912
+
+-- a line lies in 0 to 0x1fffffff and is not 0xfeefee
+abbrev pub is_line : ℤ → Bool
+is_line (pos n) = nat_lt n 536870912 && not (n == 16707566)
+is_line (negsuc n) = false
+
+-- a column lies in 0 to 0xffff
+abbrev pub is_column : ℤ → Bool
+is_column (pos n) = nat_lt n 65536
+is_column (negsuc n) = false
+
+abbrev pub is_row : ℕ → Value → Bool
+is_row rows (number n) = nat_le 1 n && nat_le n rows
+is_row rows _ = false
+
+abbrev pub is_row_or_0 : ℕ → Value → Bool
+is_row_or_0 rows (number n) = nat_le n rows
+is_row_or_0 rows _ = false
+
+-- ---- the header: LocalSignature, and InitialDocument where the Document column of the method is 0
+
+abbrev pub header_form : List Value → Option Form
+header_form [] = Some unsigned
+header_form (signature ∷ []) = Some unsigned
+header_form _ = None
+
+abbrev pub header_allows : PointLimits → List Value → Value → Bool
+header_allows limits [] signature = is_row_or_0 limits.signatures signature
+header_allows limits _ row = is_row limits.documents row
+
+abbrev pub header_for : ℕ → ℕ → Option Entry
+header_for zero signature = None
+header_for (suc column) signature = Some (header signature (suc column))
+
+abbrev pub header_of : ℕ → List Value → Option Entry
+header_of column (number signature ∷ []) = header_for column signature
+header_of column (number signature ∷ number row ∷ []) = Some (header signature row)
+header_of column _ = None
+
+-- ---- a point: Offset, Lines, Columns, StartLine, StartColumn; or a document record: 0 and a row
+
+-- Columns are unsigned where Lines is 0, else signed.
+abbrev pub columns_form : Value → Form
+columns_form (number zero) = unsigned
+columns_form _ = signed
+
+-- A start is unsigned in the first point that is not hidden, and then a signed difference.
+abbrev pub start_form : Sums → Form
+start_form before = if before.has_visible then signed else unsigned
+
+abbrev pub point_form : Sums → List Value → Option Form
+point_form before [] = Some unsigned
+point_form before (offset ∷ []) = Some unsigned
+point_form before (offset ∷ lines ∷ []) = Some (columns_form lines)
+point_form before (offset ∷ lines ∷ columns ∷ []) = Some (start_form before)
+point_form before (offset ∷ lines ∷ columns ∷ line ∷ []) = Some (start_form before)
+point_form before _ = None
+
+-- After a first field: the row of a document record, which is told by its 0 and is not the first record; or the lines of a point.
+abbrev pub second_allows : PointLimits → Sums → Value → Value → Bool
+second_allows limits before (number zero) value = if before.has_point then is_row limits.documents value else true
+second_allows limits before _ value = true
+
+abbrev pub point_allows : PointLimits → Sums → List Value → Value → Bool
+point_allows limits before [] (number offset) = is_offset (before.offset + offset)
+point_allows limits before (offset ∷ []) value = second_allows limits before offset value
+point_allows limits before (offset ∷ lines ∷ []) columns = true
+point_allows limits before (offset ∷ lines ∷ columns ∷ []) line =
+    is_line (before.line +ℤ int_of line) && is_line ((before.line +ℤ int_of line) +ℤ int_of lines)
+point_allows limits before (offset ∷ lines ∷ columns ∷ line ∷ []) column =
+    is_column (before.column +ℤ int_of column) && is_column ((before.column +ℤ int_of column) +ℤ int_of columns)
+point_allows limits before _ value = false
+
+-- Two fields are a document record where the first is 0 and there was a point.
+abbrev pub document_record : Bool → Value → Value → Option Entry
+document_record true (number zero) (number row) = Some (in_document row)
+document_record _ first second = None
+
+-- Three fields are a hidden point where Lines and Columns are 0.
+abbrev pub hidden_point : Value → Value → Value → Option Entry
+hidden_point (number offset) (number zero) (number zero) = Some (hidden offset)
+hidden_point offset lines columns = None
+
+-- Five fields are a point.
+abbrev pub visible_point : Value → Value → Value → Value → Value → Option Entry
+visible_point (number offset) (number lines) columns line column = Some (visible offset lines (int_of columns) (int_of line) (int_of column))
+visible_point offset lines columns line column = None
+
+abbrev pub point_of_fields : Sums → List Value → Option Entry
+point_of_fields before (first ∷ second ∷ []) = document_record before.has_point first second
+point_of_fields before (offset ∷ lines ∷ columns ∷ []) = hidden_point offset lines columns
+point_of_fields before (offset ∷ lines ∷ columns ∷ line ∷ column ∷ []) = visible_point offset lines columns line column
+point_of_fields before _ = None
+
+-- ---- the whole blob: a header, a point, and any mix of points and document records
+
+abbrev pub form : List Entry → List Value → Option Form
+form [] begun = header_form begun
+form before begun = point_form (sums before) begun
+
+abbrev pub allows : PointLimits → List Entry → List Value → Value → Bool
+allows limits [] begun value = header_allows limits begun value
+allows limits before begun value = point_allows limits (sums before) begun value
+
+abbrev pub record_of : ℕ → List Entry → List Value → Option Entry
+record_of column [] begun = header_of column begun
+record_of column before begun = point_of_fields (sums before) begun
+
+abbrev pub may_stop : List Entry → List Value → Bool
+may_stop before [] = (sums before).has_point
+may_stop before _ = false
+
+abbrev pub sequence_points : ℕ → PointLimits → Grammar Entry
+sequence_points column limits = record {
+  form = λ before begun. form before begun;
+  allows = λ before begun value. allows limits before begun value;
+  record_of = λ before begun. record_of column before begun;
+  may_stop = λ before begun. may_stop before begun;
+}

@@ -1,0 +1,19 @@
+//! Sequence points of a method (Portable PDB v1.0, "Sequence Points Blob"), both ways.
+#![tactic(auto)]
+
+mod cursor;
+mod header;
+mod laws;
+mod place;
+mod point;
+mod ranges;
+mod records;
+mod step;
+#[cfg(test)]
+mod tests;
+mod writer;
+
+pub use cursor::{PointCursor, blob_fault};
+pub use laws::written_points_are_read;
+pub use point::{Point, PointLimits, Span, single_document};
+pub use writer::{PointError, points_into};

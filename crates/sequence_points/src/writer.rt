@@ -1,0 +1,190 @@
+//! Writes points.
+
+ghost use Rattle.std.specs.Prelude.{◌≡◌, ◌+◌, ◌-◌, ◌<◌, ◌≤◌, ◌++◌, ◌≤ℤ◌, ◌<ℤ◌, ◌-ℤ◌, neg_ℤ, pos, [], All, OnOk, OnErr, IfErr, IfSome, None};
+ghost use Rattle.cli_ints.specs.Shortest.{short_unsigned, short_signed};
+ghost use Rattle.sequence_points.specs.Written.{IsDocument, IsSpan, CanBeWritten, document_bytes, columns_bytes, start_bytes, span_bytes, bytes_after, header_bytes, points_blob, if_large, large_step, large_steps, IsRefused, BeginsWith};
+ghost use Rattle.sequence_points.specs.Following.{IsStart, MayFollow, EachMayFollow};
+
+use crate::place::Start;
+use crate::point::{Point, Span, single_document};
+use crate::step::{LineStep, first_large_step, start_after};
+use cli_ints::{spell_signed, spell_unsigned};
+use ppdb_base::{Bytes, Memory};
+
+/// Why points were not written.
+#[derive(Clone, Copy, Debug, PartialEq, Eq)]
+pub enum PointError {
+    /// The start line of the point with this number, counted from 1, differs by `step` from that of the
+    /// last earlier point that is not hidden, which is outside -2^28 to 2^28-1. It is the first such point.
+    Step { index: u32, step: i64 },
+    /// There was no memory left.
+    Memory,
+}
+
+fn unsigned_into(number: u32, into: &mut Bytes) -> Result<(), Memory>
+    requires { number < 536870912 }
+    ensures ok { OnOk result (into.new ≡ into.old ++ short_unsigned number) }
+    ensures err { OnErr result (into.new ≡ into.old) }
+{
+    into.append(spell_unsigned(number).as_slice())
+}
+
+/// Appends the signed difference of two numbers.
+fn difference_into(to: u32, from: u32, into: &mut Bytes) -> Result<(), Memory>
+    requires to { to < 536870912 }
+    requires from { from < 536870912 }
+    requires low { neg_ℤ (pos 268435456) ≤ℤ (pos to -ℤ pos from) }
+    requires high { (pos to -ℤ pos from) <ℤ pos 268435456 }
+    ensures ok { OnOk result (into.new ≡ into.old ++ short_signed (pos to -ℤ pos from)) }
+    ensures err { OnErr result (into.new ≡ into.old) }
+{
+    into.append(spell_signed(to as i32 - from as i32).as_slice())
+}
+
+/// Appends a document record, where the document is not that of the last point.
+fn document_into(last: Option<Point>, row: u32, into: &mut Bytes) -> Result<(), Memory>
+    requires { row < 536870912 }
+    ensures ok { OnOk result (into.new ≡ into.old ++ document_bytes last row) }
+    ensures err { OnErr result (BeginsWith into.old into.new) }
+{
+    match last {
+        Some(last) if last.document != row => {
+            into.append(&[0])?;
+            unsigned_into(row, into)
+        }
+        _ => Ok(()),
+    }
+}
+
+/// Appends Columns.
+fn columns_into(lines: u32, start: u32, end: u32, into: &mut Bytes) -> Result<(), Memory>
+    requires start { start < 65536 }
+    requires end { end < 65536 }
+    requires one_line { lines ≡ 0 → start ≤ end }
+    ensures ok { OnOk result (into.new ≡ into.old ++ columns_bytes lines start end) }
+    ensures err { OnErr result (into.new ≡ into.old) }
+{
+    if lines == 0 {
+        unsigned_into(end - start, into)
+    } else {
+        difference_into(end, start, into)
+    }
+}
+
+/// Appends StartLine and StartColumn.
+fn start_into(start: Option<Start>, line: u32, column: u32, into: &mut Bytes) -> Result<(), Memory>
+    requires line { line < 536870912 }
+    requires column { column < 65536 }
+    requires start { IsStart start }
+    requires step { IfSome start (λ s. if_large (pos line -ℤ pos s.line) ≡ None) }
+    ensures ok { OnOk result (into.new ≡ into.old ++ start_bytes start line column) }
+    ensures err { OnErr result (BeginsWith into.old into.new) }
+{
+    match start {
+        None => {
+            unsigned_into(line, into)?;
+            unsigned_into(column, into)
+        }
+        Some(last) => {
+            difference_into(line, last.line, into)?;
+            difference_into(column, last.column, into)
+        }
+    }
+}
+
+/// Appends Lines, Columns, StartLine and StartColumn.
+fn span_into(start: Option<Start>, span: Span, into: &mut Bytes) -> Result<(), Memory>
+    requires span { IsSpan span }
+    requires start { IsStart start }
+    requires step { large_step start span ≡ None }
+    ensures ok { OnOk result (into.new ≡ into.old ++ span_bytes start span) }
+    ensures err { OnErr result (BeginsWith into.old into.new) }
+{
+    let Span::Lines {
+        start_line,
+        start_column,
+        end_line,
+        end_column,
+    } = span
+    else {
+        return into.append(&[0, 0]);
+    };
+    let lines = end_line - start_line;
+    unsigned_into(lines, into)?;
+    columns_into(lines, start_column, end_column, into)?;
+    start_into(start, start_line, start_column, into)
+}
+
+/// Appends a point, and a document record before it where one is needed.
+fn point_into(
+    last: Option<Point>,
+    start: Option<Start>,
+    point: Point,
+    into: &mut Bytes,
+) -> Result<(), Memory>
+    requires { MayFollow last start point }
+    ensures ok { OnOk result (into.new ≡ into.old ++ bytes_after last start point) }
+    ensures err { OnErr result (BeginsWith into.old into.new) }
+{
+    document_into(last, point.document, into)?;
+    let offset = match last {
+        Some(last) => last.offset,
+        None => 0,
+    };
+    unsigned_into(point.offset - offset, into)?;
+    span_into(start, point.span, into)
+}
+
+/// Appends the header.
+fn header_into(signature: u32, points: &[Point], into: &mut Bytes) -> Result<(), Memory>
+    requires signature { signature < 536870912 }
+    requires documents { All (λ p. IsDocument p.document) points.now }
+    ensures ok { OnOk result (into.new ≡ into.old ++ header_bytes signature points.now) }
+    ensures err { OnErr result (BeginsWith into.old into.new) }
+{
+    unsigned_into(signature, into)?;
+    match points.first() {
+        Some(first) if single_document(points) == 0 => unsigned_into(first.document, into),
+        _ => Ok(()),
+    }
+}
+
+/// Appends the canonical blob.
+fn blob_into(signature: u32, points: &[Point], into: &mut Bytes) -> Result<(), Memory>
+    requires signature { signature < 536870912 }
+    requires documents { All (λ p. IsDocument p.document) points.now }
+    requires follow { EachMayFollow [] points.now }
+    ensures ok { OnOk result (into.new ≡ into.old ++ points_blob signature points.now) }
+    ensures err { OnErr result (BeginsWith into.old into.new) }
+{
+    header_into(signature, points, into)?;
+    let mut last = None;
+    let mut start = None;
+    for point in points {
+        point_into(last, start, *point, into)?;
+        last = Some(*point);
+        start = start_after(start, point.span);
+    }
+    Ok(())
+}
+
+/// Appends the canonical blob of some points. After a refusal the list is unchanged.
+pub fn points_into(signature: u32, points: &[Point], into: &mut Bytes) -> Result<(), PointError>
+    requires { CanBeWritten signature points.now }
+    ensures written { OnOk result (into.new ≡ into.old ++ points_blob signature points.now) }
+    ensures steps { OnOk result (large_steps [] points.now ≡ []) }
+    ensures refused { IfErr result (λ e. IsRefused points.now e) }
+    ensures unchanged { OnErr result (into.new ≡ into.old) }
+{
+    if let Some(LineStep { index, step }) = first_large_step(points) {
+        return Err(PointError::Step { index, step });
+    }
+    let len = into.len();
+    match blob_into(signature, points, into) {
+        Ok(()) => Ok(()),
+        Err(Memory) => {
+            into.truncate(len);
+            Err(PointError::Memory)
+        }
+    }
+}
