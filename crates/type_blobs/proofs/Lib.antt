@@ -1,0 +1,9 @@
+pub mod NextStep
+pub mod Rests
+pub mod FieldsTaken
+pub mod ImportsTaken
+pub mod Codes
+pub mod ConstantRests
+pub mod ModifiersTaken
+pub mod BodiesTaken
+pub mod ConstantsRead
