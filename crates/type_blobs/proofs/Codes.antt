@@ -12,7 +12,7 @@ either false b e = inr e
 other : (code n m : ℕ) → (code == n) ≡ true → (n == m) ≡ false → (code == m) ≡ false
 other code n m e f = grind arith
 
-eq-is : (code n : ℕ) → (code == n) ≡ true → code ≡ n
+pub eq-is : (code n : ℕ) → (code == n) ≡ true → code ≡ n
 eq-is code n e = grind arith
 
 -- 1f and 20
@@ -46,22 +46,23 @@ pub record OfPrimitive (code : ℕ) : Type 0 where
   pub no_modifier : is_modifier code ≡ false
   pub no_string : is_string code ≡ false
   pub no_general : is_general code ≡ false
+  pub some_bytes : 1 ≤ size_of code
 
 pub of_primitive : (code : ℕ) → 2 ≤ code → code ≤ 13 → OfPrimitive code
 of_primitive zero low high = absurd (omega arith)
 of_primitive (suc zero) low high = absurd (omega arith)
-of_primitive (suc (suc zero)) low high = record { code_known = refl; after = refl; alone = refl; no_modifier = refl; no_string = refl; no_general = refl }
-of_primitive (suc (suc (suc zero))) low high = record { code_known = refl; after = refl; alone = refl; no_modifier = refl; no_string = refl; no_general = refl }
-of_primitive (suc (suc (suc (suc zero)))) low high = record { code_known = refl; after = refl; alone = refl; no_modifier = refl; no_string = refl; no_general = refl }
-of_primitive (suc (suc (suc (suc (suc zero))))) low high = record { code_known = refl; after = refl; alone = refl; no_modifier = refl; no_string = refl; no_general = refl }
-of_primitive (suc (suc (suc (suc (suc (suc zero)))))) low high = record { code_known = refl; after = refl; alone = refl; no_modifier = refl; no_string = refl; no_general = refl }
-of_primitive (suc (suc (suc (suc (suc (suc (suc zero))))))) low high = record { code_known = refl; after = refl; alone = refl; no_modifier = refl; no_string = refl; no_general = refl }
-of_primitive (suc (suc (suc (suc (suc (suc (suc (suc zero)))))))) low high = record { code_known = refl; after = refl; alone = refl; no_modifier = refl; no_string = refl; no_general = refl }
-of_primitive (suc (suc (suc (suc (suc (suc (suc (suc (suc zero))))))))) low high = record { code_known = refl; after = refl; alone = refl; no_modifier = refl; no_string = refl; no_general = refl }
-of_primitive (suc (suc (suc (suc (suc (suc (suc (suc (suc (suc zero)))))))))) low high = record { code_known = refl; after = refl; alone = refl; no_modifier = refl; no_string = refl; no_general = refl }
-of_primitive (suc (suc (suc (suc (suc (suc (suc (suc (suc (suc (suc zero))))))))))) low high = record { code_known = refl; after = refl; alone = refl; no_modifier = refl; no_string = refl; no_general = refl }
-of_primitive (suc (suc (suc (suc (suc (suc (suc (suc (suc (suc (suc (suc zero)))))))))))) low high = record { code_known = refl; after = refl; alone = refl; no_modifier = refl; no_string = refl; no_general = refl }
-of_primitive (suc (suc (suc (suc (suc (suc (suc (suc (suc (suc (suc (suc (suc zero))))))))))))) low high = record { code_known = refl; after = refl; alone = refl; no_modifier = refl; no_string = refl; no_general = refl }
+of_primitive (suc (suc zero)) low high = record { code_known = refl; after = refl; alone = refl; no_modifier = refl; no_string = refl; no_general = refl; some_bytes = omega arith }
+of_primitive (suc (suc (suc zero))) low high = record { code_known = refl; after = refl; alone = refl; no_modifier = refl; no_string = refl; no_general = refl; some_bytes = omega arith }
+of_primitive (suc (suc (suc (suc zero)))) low high = record { code_known = refl; after = refl; alone = refl; no_modifier = refl; no_string = refl; no_general = refl; some_bytes = omega arith }
+of_primitive (suc (suc (suc (suc (suc zero))))) low high = record { code_known = refl; after = refl; alone = refl; no_modifier = refl; no_string = refl; no_general = refl; some_bytes = omega arith }
+of_primitive (suc (suc (suc (suc (suc (suc zero)))))) low high = record { code_known = refl; after = refl; alone = refl; no_modifier = refl; no_string = refl; no_general = refl; some_bytes = omega arith }
+of_primitive (suc (suc (suc (suc (suc (suc (suc zero))))))) low high = record { code_known = refl; after = refl; alone = refl; no_modifier = refl; no_string = refl; no_general = refl; some_bytes = omega arith }
+of_primitive (suc (suc (suc (suc (suc (suc (suc (suc zero)))))))) low high = record { code_known = refl; after = refl; alone = refl; no_modifier = refl; no_string = refl; no_general = refl; some_bytes = omega arith }
+of_primitive (suc (suc (suc (suc (suc (suc (suc (suc (suc zero))))))))) low high = record { code_known = refl; after = refl; alone = refl; no_modifier = refl; no_string = refl; no_general = refl; some_bytes = omega arith }
+of_primitive (suc (suc (suc (suc (suc (suc (suc (suc (suc (suc zero)))))))))) low high = record { code_known = refl; after = refl; alone = refl; no_modifier = refl; no_string = refl; no_general = refl; some_bytes = omega arith }
+of_primitive (suc (suc (suc (suc (suc (suc (suc (suc (suc (suc (suc zero))))))))))) low high = record { code_known = refl; after = refl; alone = refl; no_modifier = refl; no_string = refl; no_general = refl; some_bytes = omega arith }
+of_primitive (suc (suc (suc (suc (suc (suc (suc (suc (suc (suc (suc (suc zero)))))))))))) low high = record { code_known = refl; after = refl; alone = refl; no_modifier = refl; no_string = refl; no_general = refl; some_bytes = omega arith }
+of_primitive (suc (suc (suc (suc (suc (suc (suc (suc (suc (suc (suc (suc (suc zero))))))))))))) low high = record { code_known = refl; after = refl; alone = refl; no_modifier = refl; no_string = refl; no_general = refl; some_bytes = omega arith }
 of_primitive (suc (suc (suc (suc (suc (suc (suc (suc (suc (suc (suc (suc (suc (suc n)))))))))))))) low high = absurd (omega arith)
 
 pub general_between : (code : ℕ) → 17 ≤ code → code ≤ 18 → is_general code ≡ true
@@ -101,3 +102,18 @@ no_code-between code m low high =
 pub no_code-above : (code : ℕ) → is_modifier code ≡ false → 19 ≤ code → (code ≡ 28 → ⊥) → is_code code ≡ false
 no_code-above code m low other =
     none code m (not_primitive-above code (omega arith)) (not_general-above code low) (not_string code (λ e. omega arith)) (not_object code other)
+
+-- ---- ranges
+
+both : (a b : Bool) → (a && b) ≡ true → (a ≡ true) × (b ≡ true)
+both true b e = (refl, e)
+both false b e = absurd cc
+
+le-is : (a b : ℕ) → nat_le a b ≡ true → a ≤ b
+le-is a b e = grind arith
+
+pub primitive_range : (code : ℕ) → is_primitive code ≡ true → (2 ≤ code) × (code ≤ 13)
+primitive_range code h = let p = both (nat_le 2 code) (nat_le code 13) h in (le-is 2 code p.0, le-is code 13 p.1)
+
+pub enumerable_range : (code : ℕ) → is_enumerable code ≡ true → (2 ≤ code) × (code ≤ 13)
+enumerable_range code h = let p = both (nat_le 2 code) (nat_le code 11) h in let high : code ≤ 11 = le-is code 11 p.1 in (le-is 2 code p.0, omega arith)

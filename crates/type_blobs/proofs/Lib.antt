@@ -7,3 +7,6 @@ pub mod ConstantRests
 pub mod ModifiersTaken
 pub mod BodiesTaken
 pub mod ConstantsRead
+pub mod WrittenNumbers
+pub mod WrittenImports
+pub mod WrittenConstants

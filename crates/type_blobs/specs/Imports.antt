@@ -2,6 +2,8 @@
 use Rattle.std.specs.Prelude.{ℕ, zero, suc, List, [], ◌∷◌, length, map, Option, Some, None, Bool, true, false, is_some, ◌&&◌, nat_le, ◌==◌, slice_get, slice_index, if◌then◌else◌, unwrap_or}
 use Rattle.std.specs.Option.{option_map}
 use Rattle.blob_grammar.specs.Grammar.{Value, number, unsigned, Grammar}
+use Rattle.blob_grammar.specs.Indexes.{indexes_of}
+use Rattle.blob_grammar.specs.Reader.{front_of}
 use Rattle.type_blobs.specs.declared.types.TypeToken.{TypeToken}
 use Rattle.type_blobs.specs.declared.types.TypeLimits.{TypeLimits}
 use Rattle.type_blobs.specs.Types.{is_row, is_type, token_of}
@@ -114,11 +116,13 @@ imports limits heap = record {
   may_stop = λ whole begun. is_between begun;
 }
 
--- The field after these values of an import is the index of a text in #Blob.
-abbrev pub is_text_part : Option Part → Bool
-is_text_part (Some alias_part) = true
-is_text_part (Some namespace_part) = true
-is_text_part _ = false
+-- ---- the indexes of texts, for the sum of their lengths
 
-abbrev pub is_text_index : List Value → Bool
-is_text_index begun = is_text_part (next_part begun)
+abbrev pub names_text : Option Part → Bool
+names_text (Some alias_part) = true
+names_text (Some namespace_part) = true
+names_text _ = false
+
+-- The indexes of the texts in the longest valid front of some imports, in order, each with the byte at which it stands.
+unfoldable pub import_indexes : TypeLimits → (ℕ → Option (List ℕ)) → List ℕ → List (ℕ × ℕ)
+import_indexes limits heap blob = indexes_of (imports limits heap) (λ before begun. names_text (next_part begun)) (front_of (imports limits heap) blob)

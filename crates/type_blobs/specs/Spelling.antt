@@ -91,3 +91,7 @@ import_item heap numbers = item_of heap numbers.kind (field_numbers numbers)
 -- After a refusal the list begins with what it held.
 abbrev pub BeginsWith : List ℕ → List ℕ → Type 0
 BeginsWith front all = (more : List ℕ) × (all ≡ front ++ more)
+
+-- The items are the imports that the numbers stand for.
+abbrev pub StandFor : (ℕ → Option (List ℕ)) → List ImportNumbers → List ImportItem → Type 0
+StandFor heap all items = map (λ item. Some item) items ≡ map (import_item heap) all

@@ -6,6 +6,7 @@ mod constant;
 mod constant_writer;
 mod import;
 mod import_writer;
+mod laws;
 mod numbers;
 mod types;
 
@@ -13,4 +14,5 @@ pub use constant::{Constant, ConstantCursor};
 pub use constant_writer::constant_into;
 pub use import::{Import, ImportCursor};
 pub use import_writer::{ImportNumbers, import_into};
+pub use laws::{written_constant_is_read, written_imports_are_read};
 pub use types::{Modifier, TypeLimits, TypeToken};
