@@ -9,7 +9,7 @@ use ppdb_base::BlobFault;
 use std::marker::Model;
 
 /// The value of a local constant, behind its modifiers (Portable PDB v1.0, "LocalConstantSig Blob").
-#[derive(Clone, Copy, Debug)]
+#[derive(Clone, Copy, Debug, PartialEq, Eq)]
 pub enum Constant<'a> {
     /// A value of a primitive type, as stored, or a text with the code 0e: the byte ff for null, else UTF-16.
     Primitive {
@@ -215,6 +215,7 @@ impl<'a> ConstantCursor<'a> {
     pub fn next_modifier(&mut self) -> Result<Option<Modifier>, BlobFault>
         ensures answer { result ≡ modifier_answer self.old }
         ensures left { self.new ≡ rest_of self.old }
+        ensures body_next { result ≡ Ok None → modifier_answer self.new ≡ Ok None }
     {
         let Some((modifier, at)) = modifier_at(self.blob, self.limits, self.at)? else {
             return Ok(None);

@@ -12,7 +12,7 @@ use ppdb_heaps::Blobs;
 use std::marker::Model;
 
 /// An import: what the names of a scope are looked up in (Portable PDB v1.0, "Imports Blob"). Texts are UTF-8, as stored.
-#[derive(Clone, Copy, Debug)]
+#[derive(Clone, Copy, Debug, PartialEq, Eq)]
 pub enum Import<'a> {
     /// Kind 1: the types of a namespace.
     Namespace {

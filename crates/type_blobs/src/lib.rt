@@ -16,3 +16,6 @@ pub use import::{Import, ImportCursor};
 pub use import_writer::{ImportNumbers, import_into};
 pub use laws::{written_constant_is_read, written_imports_are_read};
 pub use types::{Modifier, TypeLimits, TypeToken};
+
+#[cfg(test)]
+mod tests;
