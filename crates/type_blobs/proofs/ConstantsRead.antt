@@ -1,0 +1,49 @@
+-- What a cursor of a constant has left at the start is what the blob holds.
+use Rattle.std.proofs.Common.{◌≡◌, ℕ, Bool, true, false, List, [], Option, Some, None, refl, sym, ap, subst, ◌∙◌}
+use Rattle.std.specs.Prelude.{is_some}
+use Rattle.ppdb_base.specs.declared.BlobFault.{BlobFault}
+use Rattle.blob_grammar.specs.Grammar.{Value, Field, cut}
+use Rattle.blob_grammar.specs.Reading.{Ends, Reading}
+use Rattle.blob_grammar.specs.Reader.{read_from, front_of, begun_from}
+use Rattle.blob_grammar.proofs.Readers.{read_from-reads}
+use Rattle.type_blobs.specs.declared.types.TypeLimits.{TypeLimits}
+use Rattle.type_blobs.specs.declared.types.Modifier.{Modifier}
+use Rattle.type_blobs.specs.Constants.{ConstantBody, constants, body_of}
+use Rattle.type_blobs.specs.ConstantReading.{ConstantEnd, fault_of, begins_modifier, EndIs, ConstantReading, whole_end, fault_end, end_of, constant_left}
+use Rattle.blob_grammar.proofs.FrontFields.{longest-front_of}
+
+pub fault_is : (begun : List Value) (fault : Option BlobFault) → fault_of (end_of begun fault) ≡ fault
+fault_is begun None = whole (body_of begun)
+  where
+    whole : (o : Option ConstantBody) → fault_of (whole_end o) ≡ None
+    whole None = refl
+    whole (Some b) = refl
+fault_is begun (Some fault) = bad (begins_modifier begun)
+  where
+    bad : (b : Bool) → fault_of (fault_end b fault) ≡ Some fault
+    bad true = refl
+    bad false = refl
+
+whole_is : (begun : List Value) (o : Option ConstantBody) → body_of begun ≡ o → is_some o ≡ true → EndIs begun (whole_end o)
+whole_is begun None e h = absurd cc
+whole_is begun (Some b) e h = e
+
+bad_is : (begun : List Value) (b : Bool) (fault : BlobFault) → begins_modifier begun ≡ b → EndIs begun (fault_end b fault)
+bad_is begun true fault e = e
+bad_is begun false fault e = e
+
+end_is : (limits : TypeLimits) (fields : List Field) (after : List ℕ) (fault : Option BlobFault) → Ends (constants limits) fields after fault → let begun : List Value = (cut (constants limits) fields).begun in EndIs begun (end_of begun fault)
+end_is limits fields after None h = whole_is (cut (constants limits) fields).begun (body_of (cut (constants limits) fields).begun) refl h.1
+end_is limits fields after (Some fault) h = bad_is (cut (constants limits) fields).begun (begins_modifier (cut (constants limits) fields).begun) fault refl
+
+pub constant_left-reads : (limits : TypeLimits) (blob : List ℕ) → ConstantReading limits blob (constant_left limits blob 0)
+unfolding constant_left begun_from
+constant_left-reads limits blob =
+    let r = read_from-reads (constants limits) blob in
+    let fault = (read_from (constants limits) [] [] 0 blob).fault in
+    let begun = (cut (constants limits) (front_of (constants limits) blob)).begun in
+    let same : (cut (constants limits) r.fields).begun ≡ begun = ap (λ (fs : List Field). (cut (constants limits) fs).begun) (longest-front_of (constants limits) blob r.fields r.after r.front) in
+    record {
+      reading = record { fields = r.fields; after = r.after; front = r.front; made = r.made; ends = subst (λ f. Ends (constants limits) r.fields r.after f) (sym (fault_is begun fault)) r.ends };
+      end = subst (λ b. EndIs (cut (constants limits) r.fields).begun (end_of b fault)) same (end_is limits r.fields r.after fault r.ends);
+    }

@@ -1,0 +1,12 @@
+pub mod NextStep
+pub mod Rests
+pub mod FieldsTaken
+pub mod ImportsTaken
+pub mod Codes
+pub mod ConstantRests
+pub mod ModifiersTaken
+pub mod BodiesTaken
+pub mod ConstantsRead
+pub mod WrittenNumbers
+pub mod WrittenImports
+pub mod WrittenConstants

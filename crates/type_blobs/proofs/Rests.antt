@@ -1,0 +1,53 @@
+-- What is left of a blob and what has begun where it ends, a step of the plain reader at a time.
+use Rattle.std.proofs.Common.{◌≡◌, ℕ, ◌+◌, ◌<◌, ◌≤◌, Bool, true, false, ◌&&◌, List, [], ◌∷◌, ◌++◌, length, drop, Option, Some, None, Result, Ok, Err, refl, sym, ap, subst, ◌∙◌, arith}
+use Rattle.std.specs.List.{fold}
+use Rattle.std.proofs.lemmas.List.{drop-drop}
+use Rattle.ppdb_base.specs.declared.Code.{Code}
+use Rattle.ppdb_base.specs.declared.BlobFault.{BlobFault}
+use Rattle.blob_grammar.specs.Grammar.{Value, Form, Field, Grammar, Cut, closed, with_value}
+use Rattle.blob_grammar.specs.Reader.{Left, field_at, is_empty, Step, field, stop, bad, stop_or, if_allowed, step_at, step_in, step, push, close_and, take_step, take_field, read_from, fields_from, begun_from}
+use Rattle.blob_grammar.proofs.Steps.{read_from-step}
+use Rattle.type_blobs.specs.ConstantReading.{Rest, rest_at}
+use Rattle.blob_grammar.proofs.FrontFields.{fields_from-step}
+
+abbrev pub push_rest : {R : Type 0} → R → Rest R → Rest R
+push_rest r found = record { left = push r found.left; begun = found.begun }
+
+module _ {R : Type 0} (g : Grammar R) (whole : List R) (begun : List Value) (blob : List ℕ) (at : ℕ) where
+  abbrev here : Cut R
+  here = record { whole = whole; begun = begun }
+
+  abbrev pub closed_rest : Value → ℕ → Option R → Rest R
+  closed_rest value len None = rest_at g whole (begun ++ value ∷ []) blob (at + len)
+  closed_rest value len (Some r) = push_rest r (rest_at g (whole ++ r ∷ []) [] blob (at + len))
+
+  -- the rest after a step
+  abbrev stepped : Step → Rest R
+  stepped (field value len) = closed_rest value len (g.record_of whole (begun ++ value ∷ []))
+  stepped stop = record { left = record { items = []; fault = None }; begun = begun }
+  stepped (bad code) = record { left = record { items = []; fault = Some (record { code = code; byte = at }) }; begun = begun }
+
+  abbrev left_after : Step → Left R
+  left_after s = take_step g (λ len w b. read_from g w b (at + len) (drop len (drop at blob))) whole begun at s
+
+  abbrev begun_after : Step → List Value
+  begun_after s = (fold (λ (c : Cut R) f. with_value g c f.value) here (take_field g (λ len w b. fields_from g w b (drop len (drop at blob))) here (drop at blob) s)).begun
+
+  stepped_close : (value : Value) (len : ℕ) (o : Option R)
+      → record { left = close_and (λ w b. read_from g w b (at + len) (drop len (drop at blob))) whole (begun ++ value ∷ []) o; begun = begun_from g (closed o whole (begun ++ value ∷ [])).whole (closed o whole (begun ++ value ∷ [])).begun (drop len (drop at blob)) } ≡ closed_rest value len o
+  stepped_close value len None = rw (drop-drop len at blob) refl
+  stepped_close value len (Some r) = rw (drop-drop len at blob) refl
+
+  stepped-is : (s : Step) → record { left = left_after s; begun = begun_after s } ≡ stepped s
+  unfolding begun_from
+  stepped-is (field value len) = stepped_close value len (g.record_of whole (begun ++ value ∷ []))
+  stepped-is stop = refl
+  stepped-is (bad code) = refl
+
+  pub rest-step : (s : Step) → step g whole begun (drop at blob) ≡ s → rest_at g whole begun blob at ≡ stepped s
+  unfolding begun_from
+  rest-step s e =
+      let left : read_from g whole begun at (drop at blob) ≡ left_after s = read_from-step g whole begun at (drop at blob) ∙ ap left_after e in
+      let after : begun_from g whole begun (drop at blob) ≡ begun_after s
+      = ap (λ fs. (fold (λ (c : Cut R) f. with_value g c f.value) here fs).begun) (fields_from-step g whole begun (drop at blob)) ∙ ap begun_after e in
+      rw (left, after) (stepped-is s)

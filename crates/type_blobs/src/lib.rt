@@ -1,0 +1,21 @@
+//! The signatures of local constants and the imports of import scopes (Portable PDB v1.0, "LocalConstantSig Blob" and
+//! "Imports Blob"), read and written.
+#![tactic(auto)]
+
+mod constant;
+mod constant_writer;
+mod import;
+mod import_writer;
+mod laws;
+mod numbers;
+mod types;
+
+pub use constant::{Constant, ConstantCursor};
+pub use constant_writer::constant_into;
+pub use import::{Import, ImportCursor};
+pub use import_writer::{ImportNumbers, import_into};
+pub use laws::{written_constant_is_read, written_imports_are_read};
+pub use types::{Modifier, TypeLimits, TypeToken};
+
+#[cfg(test)]
+mod tests;
