@@ -1,5 +1,5 @@
 -- The head of a file: it has one #Pdb stream, and its faults up to the head come after those of the root.
-use Rattle.std.proofs.Common.{◌≡◌, ◌≢◌, ℕ, zero, suc, ◌+◌, ◌-◌, ◌<◌, ◌≤◌, ◌⊎◌, inl, inr, List, [], ◌∷◌, ◌++◌, length, sum, take, drop, refl, sym, ap, subst, ◌∙◌, arith}
+use Rattle.std.proofs.Common.{◌≡◌, ℕ, zero, suc, ◌+◌, ◌-◌, ◌<◌, ◌≤◌, inl, inr, List, [], ◌∷◌, length, sum, refl, sym, ap, subst, ◌∙◌, arith}
 use Rattle.std.proofs.lemmas.Bool.{cases_lt}
 use Rattle.std.specs.Prelude.{Option, Some, None, MatchOption, Result, Ok, Err, IfErr}
 use Rattle.std.specs.Option.{option_map_or}
@@ -8,16 +8,16 @@ use Rattle.ppdb_base.specs.declared.code.Code.TheVariants.{RootTruncated, Stream
 use Rattle.ppdb_base.specs.declared.fault.Place.{Place}
 use Rattle.ppdb_base.specs.declared.fault.Fault.{Fault}
 use Rattle.ppdb_base.specs.Fields.{IsField}
-use Rattle.ppdb_base.specs.First.{IsAccepted, IsFirst, Then}
+use Rattle.ppdb_base.specs.First.{IsAccepted, IsFirst}
 use Rattle.ppdb_base.specs.Place.{at_byte}
 use Rattle.ppdb_base.proofs.Fields.{sum_cons, sum-append}
-use Rattle.ppdb_base.proofs.Judging.{first_of_before, first_of_after, accepted_then, first_of_same}
+use Rattle.ppdb_base.proofs.Judging.{first_of_after, accepted_then, first_of_same}
 use Rattle.metadata_root.specs.declared.kind.StreamKind.{StreamKind}
 use Rattle.metadata_root.specs.declared.kind.StreamKind.TheVariants.{Pdb}
-use Rattle.metadata_root.specs.Root.{BadRoot, truncated, repeated, root_fields, fields_to, header_fields, header_place, name_len, name_at, name_of, name_place, stream_count}
-use Rattle.metadata_root.specs.Streams.{BadContainer, BadStreams, Stream, Streams, AreStreamsOf, IsHeaderOf, IsListed, IsStream, bytes_of}
+use Rattle.metadata_root.specs.Root.{BadRoot, truncated, repeated, root_fields, fields_to, header_fields, header_place, name_len, name_place, stream_count}
+use Rattle.metadata_root.specs.Streams.{BadContainer, Stream, Streams, AreStreamsOf, IsHeaderOf, IsListed, IsStream, bytes_of}
 use Rattle.ppdb_tables.specs.declared.head.PdbHead.{PdbHead}
-use Rattle.ppdb_tables.specs.Head.{BadPdb, IsHeadOf}
+use Rattle.ppdb_tables.specs.Head.{BadPdb}
 use Rattle.ppdb_run.specs.Head.{BadPdbIn, BadToHead, HasHead}
 
 -- fields that do not fit have one that begins within the end and passes it
@@ -28,10 +28,13 @@ crossing (x ∷ xs) size lt =
       | inl first ↦ (0, x, record { before = []; after = xs; in_order = refl; place = refl }, omega arith, omega (arith, first))
       | inr later ↦
           let rest : size - x < sum xs = omega (arith, lt, later, sum_cons x xs) in
-          let found = crossing xs (size - x) rest in
-          (x + found.0, found.1,
+          let found = crossing xs (size - x) rest in (
+            x + found.0,
+            found.1,
             record { before = x ∷ found.2.before; after = found.2.after; in_order = ap (λ (ys : List ℕ). x ∷ ys) found.2.in_order; place = omega (arith, found.2.place, sum_cons x found.2.before) },
-            omega (arith, found.3, later), omega (arith, found.4, later))
+            omega (arith, found.3, later),
+            omega (arith, found.4, later),
+          )
     ]
 
 -- a header ends where the next begins
@@ -68,7 +71,7 @@ module _ (file : List ℕ) (accepted : IsAccepted (BadRoot file)) where
   no_repeat : (kind : StreamKind) (j k : ℕ) → IsHeaderOf file kind j → IsHeaderOf file kind k → j < k → ⊥
   no_repeat kind j k one other lt =
       accepted StreamRepeated (at_byte 1 (name_place file k))
-          (repeated k (name_place file k) (record { counted = other.counted; place = refl; fields_fit = name_fits k other.counted }) j lt (one.named ∙ sym other.named))
+      (repeated k (name_place file k) (record { counted = other.counted; place = refl; fields_fit = name_fits k other.counted }) j lt (one.named ∙ sym other.named))
 
   -- a stream has one header
   one_header : (kind : StreamKind) (j k : ℕ) → IsHeaderOf file kind j → IsHeaderOf file kind k → j ≡ k

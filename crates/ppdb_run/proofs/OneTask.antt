@@ -1,5 +1,5 @@
 -- The words of two tasks differ.
-use Rattle.std.proofs.Common.{ℕ, ◌≡◌, List, ◌∷◌}
+use Rattle.std.proofs.Common.{ℕ, ◌≡◌, List}
 use Rattle.ppdb_run.specs.Words.{Task, Id, Words}
 
 pub one_task : (words : List (List ℕ)) (one other : Task) → Words one words → Words other words → one ≡ other

@@ -1,10 +1,9 @@
 -- A task has one outcome over the files.
-use Rattle.std.proofs.Common.{ℕ, ◌≡◌, ◌⊎◌, inl, inr, List, ◌++◌, refl, sym, ◌∙◌, ap, subst}
-use Rattle.std.specs.Prelude.{Option, Some, None, Result, Ok, Err, IfSome, IfErr, OnOk}
+use Rattle.std.proofs.Common.{ℕ, ◌≡◌, inl, inr, List, ◌++◌, refl, sym, ◌∙◌, ap, subst}
+use Rattle.std.specs.Prelude.{Option, Some, None, Result, Ok, Err, IfSome}
 use Rattle.ppdb_base.specs.declared.code.Code.{Code}
 use Rattle.ppdb_base.specs.declared.fault.Place.{Place}
-use Rattle.ppdb_base.specs.declared.fault.Fault.{Fault}
-use Rattle.ppdb_base.specs.First.{IsAccepted, IsFirst}
+use Rattle.ppdb_base.specs.First.{IsAccepted}
 use Rattle.ppdb_base.specs.Files.{Files, reading}
 use Rattle.ppdb_base.proofs.Judging.{one_first, first_not_accepted}
 use Rattle.ppdb_tables.specs.declared.head.PdbHead.{PdbHead}
@@ -84,8 +83,8 @@ id_answer file bytes = judged file (BadToHead bytes) (HasHead bytes) >>= λ head
 one_id : (file bytes : List ℕ) (r t : Result Outcome Outcome) → id_answer file bytes r → id_answer file bytes t → r ≡ t
 one_id file bytes =
     one_next (λ h k. (h.id ≡ k.id) × (h.entry ≡ k.entry)) (judged file (BadToHead bytes) (HasHead bytes)) (λ head. gives (Ok (prints statuses.Done (id_text head))))
-        (one_judged file (BadToHead bytes) (HasHead bytes) (λ h k. (h.id ≡ k.id) × (h.entry ≡ k.entry)) (λ h k accepted one other. one_head bytes h k accepted one other))
-        (λ h k same r t e f. e ∙ (λ i. Ok (prints statuses.Done (id_line (same.0 i) ++ entry_line (same.1 i)))) ∙ sym f)
+    (one_judged file (BadToHead bytes) (HasHead bytes) (λ h k. (h.id ≡ k.id) × (h.entry ≡ k.entry)) (λ h k accepted one other. one_head bytes h k accepted one other))
+    (λ h k same r t e f. e ∙ (λ i. Ok (prints statuses.Done (id_line (same.0 i) ++ entry_line (same.1 i)))) ∙ sym f)
 
 -- a file that was read, and its head
 pub id_given : (file : List ℕ) (files : Option Files) (bytes : List ℕ) (head : PdbHead) → IfSome files (λ all. file_at all file (Ok bytes)) → IsAccepted (BadToHead bytes) → HasHead bytes head
@@ -97,7 +96,7 @@ id_given file (Some all) bytes head h accepted says = inl (bytes, h, inl (head, 
 one_end : (task : Task) (files : Files) (r t : Result Outcome Outcome) → steps_of task files r → steps_of task files t → r ≡ t
 one_end (Id file) files =
     one_next (λ x y. x ≡ y) (file_at files file) (id_answer file) (one_given (input_of file (reading files file max_file)))
-        (λ x y e. subst (λ z. (r t : Result Outcome Outcome) → id_answer file x r → id_answer file z t → r ≡ t) e (one_id file x))
+    (λ x y e. subst (λ z. (r t : Result Outcome Outcome) → id_answer file x r → id_answer file z t → r ≡ t) e (one_id file x))
 
 abbrev same_result : Result Outcome Outcome → Result Outcome Outcome → Type 0
 same_result r t = r ≡ t

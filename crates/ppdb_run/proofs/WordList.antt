@@ -1,5 +1,5 @@
 -- Lists of words by their length and items.
-use Rattle.std.proofs.Common.{ℕ, ◌≡◌, ◌<◌, ◌≤◌, List, [], ◌∷◌, length, get_or, refl, sym, ap, String, string_bytes, arith}
+use Rattle.std.proofs.Common.{◌≡◌, ◌<◌, ◌≤◌, List, [], ◌∷◌, length, get_or, sym, String, string_bytes, arith}
 use Rattle.std.specs.declared.alloc.Global.{Global}
 use Rattle.ppdb_run.specs.Words.{texts}
 
@@ -9,4 +9,3 @@ two_words [] first second l m e f = absurd (omega arith)
 two_words (a ∷ []) first second l m e f = absurd (omega arith)
 two_words (a ∷ b ∷ []) first second l m e f = λ i. string_bytes (sym e i) ∷ string_bytes (sym f i) ∷ []
 two_words (a ∷ b ∷ c ∷ rest) first second l m e f = absurd (omega arith)
-

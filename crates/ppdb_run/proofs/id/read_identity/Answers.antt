@@ -1,4 +1,3 @@
-use Rattle.std.proofs.Common.{rules}
 use Rattle.ppdb_base.specs.First.{IsAccepted}
 use Rattle.ppdb_run.specs.Head.{BadToHead, HasHead}
 use Rattle.ppdb_run.proofs.Outcomes.{id_given}
