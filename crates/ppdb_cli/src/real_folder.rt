@@ -1,0 +1,136 @@
+// The current folder of the system. No contract knows what it holds.
+ghost use Rattle.std.specs.Prelude.{◌≡◌, ◌≤◌, [], ℕ, None, length, IfErr, OnOk};
+
+use crate::writing::write_all;
+use ppdb_base::{Bytes, Folder, ReadError, WriteError};
+use std::fs::File;
+use std::io::{ErrorKind, Read};
+use std::rt::Files;
+
+/// The current folder of the system.
+#[derive(Drop)]
+pub struct RealFolder<'a, R: Files> {
+    files: &'a R,
+    reads: u64,
+    read_faults: u64,
+    write_faults: u64,
+}
+
+impl<'a, R: Files> RealFolder<'a, R> {
+    /// The folder, of which nothing was read or written.
+    pub fn new(files: &'a R) -> RealFolder<'a, R>
+        ensures reads { result.reads ≡ 0 }
+        ensures read_faults { result.read_faults ≡ 0 }
+        ensures write_faults { result.write_faults ≡ 0 }
+    {
+        RealFolder {
+            files,
+            reads: 0,
+            read_faults: 0,
+            write_faults: 0,
+        }
+    }
+}
+
+impl<R: Files> Folder for RealFolder<'_, R> {
+    ghost files = { λ _. None };
+
+    ghost read_faults = { λ f. f.read_faults };
+
+    ghost write_faults = { λ f. f.write_faults };
+
+    ghost reads = { λ f. f.reads };
+
+    fn read(&mut self, name: &str, max: usize, into: &mut Bytes) -> Result<(), ReadError> {
+        into.clear();
+        match read_file(self.files, name, max, into) {
+            Ok(()) => {
+                self.reads = self.reads.saturating_add(1);
+                Ok(())
+            }
+            Err(error) => {
+                into.clear();
+                if error != ReadError::Memory {
+                    self.read_faults = self.read_faults.saturating_add(1);
+                }
+                Err(error)
+            }
+        }
+    }
+
+    fn write(&mut self, name: &str, bytes: &[u8]) -> Result<(), WriteError> {
+        let written = write_file(self.files, name, bytes);
+        if written.is_err() {
+            self.write_faults = self.write_faults.saturating_add(1);
+        }
+        written
+    }
+}
+
+fn read_file<R: Files>(files: &R, name: &str, max: usize, into: &mut Bytes) -> Result<(), ReadError>
+    requires { into.old ≡ [] }
+    ensures within { OnOk result (length into.new ≤ max) }
+{
+    match File::open(files, name) {
+        Ok(mut file) => read_to_end(&mut file, max, into),
+        Err(error) if error.kind() == ErrorKind::NotFound => Err(ReadError::Absent),
+        Err(_) => Err(ReadError::Failed),
+    }
+}
+
+/// Reads to the end of a file, and at most one byte past `max`. A read of no bytes is the end.
+fn read_to_end<R: Read>(file: &mut R, max: usize, into: &mut Bytes) -> Result<(), ReadError>
+    requires { into.old ≡ [] }
+    ensures within { OnOk result (length into.new ≤ max) }
+{
+    let mut buffer = [0; 65536];
+    while into.len() <= max {
+        let room = (buffer.len() - 1).min(max - into.len()) + 1;
+        match file.read(&mut buffer[..room]) {
+            Ok(0) => return Ok(()),
+            Ok(count) => into.append(&buffer[..count])?,
+            Err(_) => return Err(ReadError::Failed),
+        }
+    }
+    Err(ReadError::TooLong)
+}
+
+fn write_file<R: Files>(files: &R, name: &str, bytes: &[u8]) -> Result<(), WriteError>
+    ensures { IfErr result (λ error. error ≡ WriteError.Failed) }
+{
+    match File::create(files, name) {
+        Ok(mut file) => write_all(&mut file, bytes),
+        Err(_) => Err(WriteError::Failed),
+    }
+}
+
+#[cfg(test)]
+mod tests {
+    use super::RealFolder;
+    use ppdb_base::{Folder, List, ReadError};
+    use std::fs;
+    use std::test::Fail;
+
+    #[test]
+    fn a_file_is_written_and_read(rt: HostRuntime) -> Result<(), Fail> {
+        let mut folder = RealFolder::new(&rt);
+        let mut bytes = List::new(rt.alloc());
+        assert_eq!(rt; folder.write("real_folder.test", b"abc"), Ok(()));
+        assert_eq!(rt; folder.read("real_folder.test", 3, &mut bytes), Ok(()));
+        assert_eq!(rt; bytes.as_slice(), b"abc".as_slice());
+        assert_eq!(rt;
+            folder.read("real_folder.test", 2, &mut bytes),
+            Err(ReadError::TooLong)
+        );
+        fs::remove_file(&rt, "real_folder.test")?;
+        assert_eq!(rt;
+            folder.read("real_folder.test", 3, &mut bytes),
+            Err(ReadError::Absent)
+        );
+        assert_eq!(rt;
+            (folder.reads, folder.read_faults, folder.write_faults),
+            (1, 2, 0)
+        );
+        Ok(())
+    }
+}

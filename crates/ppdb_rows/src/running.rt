@@ -1,0 +1,52 @@
+// Runs of a command over files in memory.
+ghost use Rattle.std.specs.Prelude.{◌≡◌, ◌<◌};
+
+use ppdb_base::{Folder, MemorySink, Sink, Steps};
+use ppdb_run::{Status, run};
+use std::alloc::{AllocError, Global};
+use std::marker::Brand;
+use std::sync::ledger::{Blank, Ledger};
+
+/// Runs the command of these words.
+pub fn ran<F: Folder, O: Sink>(
+    alloc: Global,
+    words: &[&str],
+    folder: &mut F,
+    out: &mut O,
+) -> Result<Status, AllocError> {
+    let mut texts = Vec::new(alloc);
+    for &word in words {
+        texts.push(String::from_str(alloc, word)?)?;
+    }
+    Ok(counted::<_, _, Brand, Brand>(alloc, &texts, folder, out, Blank::new(1), Blank::new(1)))
+}
+
+/// Runs the command of the words over counters of its own.
+fn counted<F: Folder, O: Sink, K: Ledger, L: Ledger>(
+    alloc: Global,
+    words: &[String],
+    folder: &mut F,
+    out: &mut O,
+    checks: Blank,
+    steps: Blank,
+) -> Status
+    requires checks { (checks.name ≡ K.name) × (checks.parts ≡ K.parts) × (0 < K.parts) }
+    requires steps { (steps.name ≡ L.name) × (steps.parts ≡ L.parts) × (0 < L.parts) }
+{
+    let mut checks = Steps::<K>::new(checks);
+    let mut steps = Steps::<L>::new(steps);
+    run(alloc, words, folder, out, &mut checks, &mut steps)
+}
+
+/// Runs the command of these words, and says whether it ended so and printed this.
+pub fn prints<F: Folder>(
+    alloc: Global,
+    words: &[&str],
+    folder: &mut F,
+    status: u8,
+    text: &str,
+) -> Result<bool, AllocError> {
+    let mut out = MemorySink::new(alloc);
+    let ended = ran(alloc, words, folder, &mut out)?;
+    Ok(ended.number() == status && out.as_slice() == text.as_bytes())
+}

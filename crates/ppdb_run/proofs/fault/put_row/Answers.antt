@@ -1,0 +1,13 @@
+use Rattle.std.proofs.Common.{rules}
+use Rattle.std.proofs.lemmas.Result.{on_err_weaker}
+use Rattle.ppdb_base.proofs.Written.{on_err, front_of_first, front_of_second}
+use Rattle.ppdb_run.specs.Faults.{row_text}
+use Rattle.ppdb_run.proofs.fault.put_row.Goals as goal
+
+pub returns-in_err-put_table-clause-err : goal.returns-in_err-put_table-clause-err
+unfolding row_text
+returns-in_err-put_table-clause-err g c = search (rules, on_err, front_of_first)
+
+pub returns-clause-err : goal.returns-clause-err
+unfolding row_text
+returns-clause-err g c = search (rules, on_err_weaker, front_of_first, front_of_second)

@@ -1,0 +1,104 @@
+-- How a run ends: what its status, its text and the files afterwards have to do with the outcome of its words.
+use Rattle.std.specs.Prelude.{ℕ, ◌≡◌, ◌<◌, ◌-◌, ◌⊎◌, List, [], ◌∷◌, Option, Some, None, IfSome, slice_get, Contains}
+use Rattle.ppdb_base.specs.Causes.{Rose}
+use Rattle.ppdb_base.specs.Files.{Files}
+use Rattle.ppdb_base.specs.Written.{appended, AppendsFront}
+use Rattle.ppdb_run.specs.declared.status.Status.{Status}
+use Rattle.ppdb_run.specs.declared.status.Status.TheVariants.{Done, WriteFault, Memory}
+use Rattle.ppdb_run.specs.Lines.{read_fault_line, write_fault_line}
+use Rattle.ppdb_run.specs.Outcome.{Outcome, IsOutcome}
+use Rattle.ppdb_run.specs.Status.{UnlessFault}
+use Rattle.ppdb_run.specs.Words.{Task, Id, Words, NoTask}
+use Rattle.ppdb_run.specs.Writes.{WritesAll, WritesFront}
+
+-- what the words ask for: a task, or nothing where no task has them
+abbrev pub Asks : List (List ℕ) → Option Task → Type 0
+Asks words (Some task) = Words task words
+Asks words None = NoTask words
+
+-- the task has to do with no file: its outcome is the same over all files
+abbrev pub IsApart : Option Task → Type 0
+IsApart None = Unit {0}
+IsApart (Some (Id file)) = ⊥
+
+-- the files that an outcome is over: those that the folder tells; where it tells none, any, if the task has to do with no file
+abbrev pub AreSeen : Option Task → Option Files → Files → Type 0
+AreSeen asked (Some told) all = told ≡ all
+AreSeen asked None all = IsApart asked
+
+-- P holds of the outcome of what is asked for over the files
+abbrev pub OnDue : Option Task → Files → (Outcome → Type 0) → Type 0
+OnDue asked all P = (due : Outcome) → IsOutcome asked all due → P due
+
+-- P holds of the outcome of a task over the files, where the folder tells them
+pub record OnTask (task : Task) (files : Option Files) (P : Outcome → Type 0) : Type 0 where
+  pub holds : IfSome files (λ all. OnDue (Some task) all P)
+
+-- P holds of the outcome of the words over the files that they see
+abbrev pub OnOutcome : List (List ℕ) → Option Files → (Outcome → Type 0) → Type 0
+OnOutcome words files P = (asked : Option Task) → Asks words asked → (all : Files) → AreSeen asked files all → OnDue asked all P
+
+-- the words have an outcome over the files that they see, unless something outside failed first
+abbrev pub HasOutcome : List (List ℕ) → Option Files → Status → Type 0
+HasOutcome words files status = (asked : Option Task) → Asks words asked → (all : Files) → AreSeen asked files all → UnlessFault status ((due : Outcome) × IsOutcome asked all due)
+
+-- the files of a task that are read, in the order of its words and as often as they are named, and the file that it writes
+abbrev pub read_files : Task → List (List ℕ)
+read_files (Id file) = file ∷ []
+
+abbrev pub written_file : Task → Option (List ℕ)
+written_file (Id file) = None
+
+-- the task comes to read the file: nothing that comes before is refused
+abbrev pub ComesToRead : Task → Files → List ℕ → Type 0
+ComesToRead (Id file) files name = name ≡ file
+
+-- this file of the task was to be read, after so many reads that gave a file
+pub record IsUnread (words : List (List ℕ)) (files : Option Files) (before after : ℕ) (name : List ℕ) : Type 0 where
+  pub task : Task
+  pub asked : Words task words
+  pub named : Contains (read_files task) name
+  -- at the counter's last value it says no longer how many reads there were
+  pub next : after < 18446744073709551615 → slice_get (read_files task) (after - before) ≡ Some name
+  pub comes : IfSome files (λ all. ComesToRead task all name)
+
+-- this is the file that the words have written
+pub record IsUnwritten (words : List (List ℕ)) (name : List ℕ) : Type 0 where
+  pub task : Task
+  pub asked : Words task words
+  pub named : written_file task ≡ Some name
+
+-- the files after a run
+abbrev pub LeavesFiles : Status → Outcome → Option Files → Option Files → Type 0
+LeavesFiles Done due old new = WritesAll due.writes old new
+LeavesFiles WriteFault due old new = WritesFront due.writes old new
+LeavesFiles Memory due old new = WritesFront due.writes old new
+LeavesFiles status due old new = new ≡ old
+
+-- the text that was put is the line of the file that could not be read
+pub record TellsUnread (words : List (List ℕ)) (files : Option Files) (before after : ℕ) (old new : Option (List ℕ)) : Type 0 where
+  pub name : List ℕ
+  pub unread : IsUnread words files before after name
+  pub written : new ≡ appended old (read_fault_line name)
+
+-- the text that was put is the line of the file that could not be written
+pub record TellsUnwritten (words : List (List ℕ)) (old new : Option (List ℕ)) : Type 0 where
+  pub name : List ℕ
+  pub unwritten : IsUnwritten words name
+  pub written : new ≡ appended old (write_fault_line name)
+
+-- the texts that may be due: that of the outcome, or, where a read or a write failed, the line of the file
+pub data IsDue (words : List (List ℕ)) (files : Option Files) (due : Outcome) (before after : ℕ) (ReadFailed WriteFailed : Type 0) : List ℕ → Type 0 where
+  answer : IsDue words files due before after ReadFailed WriteFailed due.text
+  read_fault : (name : List ℕ) → IsUnread words files before after name → ReadFailed → IsDue words files due before after ReadFailed WriteFailed (read_fault_line name)
+  write_fault : (name : List ℕ) → IsUnwritten words name → WriteFailed → IsDue words files due before after ReadFailed WriteFailed (write_fault_line name)
+
+-- the text that was put is a front of one that was due
+pub record PutsFront (words : List (List ℕ)) (files : Option Files) (due : Outcome) (before after : ℕ) (ReadFailed WriteFailed : Type 0) (old new : Option (List ℕ)) : Type 0 where
+  pub text : List ℕ
+  pub is_due : IsDue words files due before after ReadFailed WriteFailed text
+  pub written : AppendsFront old new text
+
+-- a count of faults rose: of the reads, of the writes or of the sink
+abbrev pub HadFault : ℕ → ℕ → ℕ → ℕ → ℕ → ℕ → Type 0
+HadFault reads reads_after writes writes_after puts puts_after = Rose reads reads_after ⊎ Rose writes writes_after ⊎ Rose puts puts_after

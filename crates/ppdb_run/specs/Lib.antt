@@ -1,0 +1,10 @@
+pub mod Ends
+pub mod Faults
+pub mod Head
+pub mod Lines
+pub mod Outcome
+pub mod Status
+pub mod Stops
+pub mod Task
+pub mod Words
+pub mod Writes

@@ -1,0 +1,101 @@
+-- What a command comes to over the files: a status, a text, and at most one file that is written.
+use Rattle.std.specs.Prelude.{ℕ, ◌≡◌, ◌+◌, ◌⊎◌, List, ◌++◌, ◌==◌, if◌then◌else◌, Option, Some, None, Result, Ok, Err, codes}
+use Rattle.std.specs.Int.{to_be_bytes, w32}
+use Rattle.hex.specs.Hex.{encode_lower}
+use Rattle.ppdb_base.specs.declared.code.Code.{Code}
+use Rattle.ppdb_base.specs.declared.fault.Place.{Place}
+use Rattle.ppdb_base.specs.declared.fault.Fault.{Fault}
+use Rattle.ppdb_base.specs.Files.{Files, Reading, Missing, Longer, Contents, reading}
+use Rattle.ppdb_base.specs.First.{IsAccepted, IsFirst}
+use Rattle.ppdb_tables.specs.declared.head.PdbHead.{PdbHead}
+use Rattle.ppdb_run.specs.declared.status.Status.{Status}
+use Rattle.ppdb_run.specs.declared.status.Status.TheVariants as statuses
+use Rattle.ppdb_run.specs.Faults.{fault_text}
+use Rattle.ppdb_run.specs.Head.{BadToHead, HasHead}
+use Rattle.ppdb_run.specs.Lines.{line, named}
+use Rattle.ppdb_run.specs.Words.{Task, Id}
+
+pub record Outcome : Type 0 where
+  pub status : Status
+  pub text : List ℕ
+  pub writes : Option (List ℕ × List ℕ)
+
+-- a text alone
+abbrev pub prints : Status → List ℕ → Outcome
+prints status text = record { status = status; text = text; writes = None }
+
+-- ---- the refusals
+
+abbrev pub usage : Outcome
+usage = prints statuses.Usage (line (codes "usage"))
+
+abbrev pub absent : List ℕ → Outcome
+absent name = prints statuses.Absent (line (named (codes "absent ") name))
+
+abbrev pub too_long : List ℕ → Outcome
+too_long name = prints statuses.TooLong (line (named (codes "too long ") name))
+
+abbrev pub refused : List ℕ → Fault → Outcome
+refused name fault = prints statuses.Refused (named (codes "refused ") name ++ line (fault_text fault))
+
+-- ---- steps, of which each may end a command by a refusal
+
+-- a step says what it may give: a value, or the refusal that is the outcome
+abbrev pub Step : Type 0 → Type 1
+Step A = Result A Outcome → Type 0
+
+-- one step, and another with its value
+infixl 10 ◌>>=◌
+abbrev pub ◌>>=◌ : {A B : Type 0} → Step A → (A → Step B) → Step B
+◌>>=◌ {A = A} first next result =
+    ((x : A) × first (Ok x) × next x result)
+    ⊎ ((refusal : Outcome) × first (Err refusal) × (result ≡ Err refusal))
+
+-- a step that gives this and nothing else
+abbrev pub gives : {A : Type 0} → Result A Outcome → Step A
+gives told result = result ≡ told
+
+-- the largest file that is read
+abbrev pub max_file : ℕ
+max_file = 134217728
+
+abbrev pub input_of : List ℕ → Reading → Result (List ℕ) Outcome
+input_of name Missing = Err (absent name)
+input_of name Longer = Err (too_long name)
+input_of name (Contents bytes) = Ok bytes
+
+-- the bytes of a file that is read
+abbrev pub file_at : Files → List ℕ → Step (List ℕ)
+file_at files name = gives (input_of name (reading files name max_file))
+
+-- what a file says, where none of the rules is broken; else the file is refused with its first fault
+abbrev pub judged : {A : Type 0} → List ℕ → (Code → Place → Type 0) → (A → Type 0) → Step A
+judged name Bad Says (Ok x) = IsAccepted Bad × Says x
+judged name Bad Says (Err refusal) = (fault : Fault) × IsFirst Bad fault × (refusal ≡ refused name fault)
+
+-- ---- the commands
+
+-- the token of a MethodDef row, or of no method (ECMA-335 II.22)
+abbrev pub token_of : ℕ → ℕ
+token_of row = if row == 0 then 0 else 0x06000000 + row
+
+unfoldable pub id_line : List ℕ → List ℕ
+id_line id = codes "id " ++ line (encode_lower id)
+
+unfoldable pub entry_line : ℕ → List ℕ
+entry_line row = codes "entry " ++ line (encode_lower (to_be_bytes w32 (token_of row)))
+
+abbrev pub id_text : PdbHead → List ℕ
+id_text head = id_line head.id ++ entry_line head.entry
+
+-- what a task comes to
+abbrev pub steps_of : Task → Files → Step Outcome
+steps_of (Id file) files = do
+  bytes ← file_at files file
+  head ← judged file (BadToHead bytes) (HasHead bytes)
+  gives (Ok (prints statuses.Done (id_text head)))
+
+-- the outcome of a task, or of words that are no task's
+abbrev pub IsOutcome : Option Task → Files → Outcome → Type 0
+IsOutcome None files due = due ≡ usage
+IsOutcome (Some task) files due = steps_of task files (Ok due) ⊎ steps_of task files (Err due)

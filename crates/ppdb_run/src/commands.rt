@@ -1,0 +1,93 @@
+// The commands over a folder and a sink.
+ghost use Rattle.std.specs.Prelude.{◌≡◌, ◌≤◌, ◌⊎◌, ℕ, None, OnOk, IfErr, IsErrOf};
+ghost use Rattle.ppdb_base.specs.Causes.{Rose};
+ghost use Rattle.ppdb_base.specs.Written.{appended, AppendsFront};
+ghost use Rattle.ppdb_run.specs.Ends.{OnOutcome, HasOutcome, LeavesFiles, HadFault, PutsFront, IsUnread, TellsUnread, TellsUnwritten};
+ghost use Rattle.ppdb_run.specs.Status.{UnlessFault};
+ghost use Rattle.ppdb_run.specs.Stops.{Tells, Settles, FindsOutcome, OnCut, OnNoInput, OnReadFault, OnSink, OnUntold, OnUsage};
+ghost use Rattle.ppdb_run.specs.Words.{NoTask, texts};
+
+use crate::id::id;
+use crate::status::Status;
+use crate::stop::Stop;
+use crate::words::{Command, Usage, read_words};
+use ppdb_base::{Folder, Sink, Steps, WriteError};
+use std::alloc::Global;
+use std::sync::ledger::Ledger;
+
+/// Runs the command of the words. A step of `checks` is a row that the verifier reads, one of `steps` any other row.
+pub fn run<F: Folder, O: Sink, K: Ledger, L: Ledger>(
+    alloc: Global,
+    words: &[String],
+    folder: &mut F,
+    out: &mut O,
+    _checks: &mut Steps<K>,
+    _steps: &mut Steps<L>,
+) -> Status
+    // Where nothing outside failed, it ends with the outcome of the words over the files that the folder tells.
+    // Words that have to do with no file have an outcome also where none are told.
+    ensures outcome { HasOutcome (texts words.now) (F.files folder.old) result }
+    ensures status { OnOutcome (texts words.now) (F.files folder.old) (λ due. UnlessFault result (result ≡ due.status)) }
+    ensures text { OnOutcome (texts words.now) (F.files folder.old) (λ due. UnlessFault result (O.written out.new ≡ appended (O.written out.old) due.text)) }
+    ensures files { OnOutcome (texts words.now) (F.files folder.old) (λ due. LeavesFiles result due (F.files folder.old) (F.files folder.new)) }
+    ensures complete { OnOutcome (texts words.now) (F.files folder.old) (λ due. (result ≡ due.status) ⊎ (result ≡ Status.Memory) ⊎ HadFault (F.read_faults folder.old) (F.read_faults folder.new) (F.write_faults folder.old) (F.write_faults folder.new) (O.faults out.old) (O.faults out.new)) }
+
+    // A failed read.
+    ensures read_fault { result ≡ Status.ReadFault → Rose (F.read_faults folder.old) (F.read_faults folder.new) }
+    ensures unread { result ≡ Status.ReadFault → TellsUnread (texts words.now) (F.files folder.old) (F.reads folder.old) (F.reads folder.new) (O.written out.old) (O.written out.new) }
+
+    // A failed write, of the file or of the text.
+    ensures write_fault { result ≡ Status.WriteFault → Rose (F.write_faults folder.old) (F.write_faults folder.new) ⊎ Rose (O.faults out.old) (O.faults out.new) }
+    ensures unwritten { result ≡ Status.WriteFault → Rose (O.faults out.old) (O.faults out.new) ⊎ TellsUnwritten (texts words.now) (O.written out.old) (O.written out.new) }
+
+    // Whatever comes, what was put is a front of a text that was due.
+    ensures front { OnOutcome (texts words.now) (F.files folder.old) (λ due. PutsFront (texts words.now) (F.files folder.old) due (F.reads folder.old) (F.reads folder.new) (Rose (F.read_faults folder.old) (F.read_faults folder.new)) (Rose (F.write_faults folder.old) (F.write_faults folder.new)) (O.written out.old) (O.written out.new)) }
+
+    // Whether or not files are told.
+    ensures usage { result ≡ Status.Usage → NoTask (texts words.now) }
+    ensures untold { F.files folder.old ≡ None → (result ≡ Status.Absent) ⊎ (result ≡ Status.TooLong) → Rose (F.read_faults folder.old) (F.read_faults folder.new) }
+{
+    match carry_out(alloc, words, folder, out) {
+        Ok(()) => Status::Done,
+        Err(stop) => tell(stop, out),
+    }
+}
+
+/// Puts the line that says why a run stopped, and answers its status, or that of a failed put.
+fn tell<O: Sink>(stop: Stop<'_>, out: &mut O) -> Status
+    ensures { Tells stop.entry result (O.faults out.old) (O.faults out.new) (O.written out.old) (O.written out.new) }
+{
+    match stop.put(out) {
+        Ok(()) => stop.status(),
+        Err(WriteError::Failed) => Status::WriteFault,
+        Err(WriteError::Memory) => Status::Memory,
+    }
+}
+
+/// Carries out the command of the words, up to the line of a stop.
+fn carry_out<'a, F: Folder, O: Sink>(
+    alloc: Global,
+    words: &'a [String],
+    folder: &mut F,
+    out: &mut O,
+) -> Result<(), Stop<'a>>
+    ensures found { FindsOutcome (texts words.now) (F.files folder.old) result }
+    ensures told { OnOutcome (texts words.now) (F.files folder.old) (Settles result) }
+    ensures text { OnOutcome (texts words.now) (F.files folder.old) (λ due. OnOk result (O.written out.new ≡ appended (O.written out.old) due.text)) }
+    ensures cut { OnOutcome (texts words.now) (F.files folder.old) (λ due. IfErr result (λ stop. OnCut stop (AppendsFront (O.written out.old) (O.written out.new) due.text))) }
+    ensures silent { IfErr result (λ stop. OnUntold stop (O.written out.new ≡ O.written out.old)) }
+    ensures files { F.files folder.new ≡ F.files folder.old }
+
+    ensures read_fault { IfErr result (λ stop. OnReadFault stop (λ name. Rose (F.read_faults folder.old) (F.read_faults folder.new))) }
+    ensures unread { IfErr result (λ stop. OnReadFault stop (λ name. IsUnread (texts words.now) (F.files folder.old) (F.reads folder.old) (F.reads folder.new) name)) }
+    ensures sink { IfErr result (λ stop. OnSink stop (Rose (O.faults out.old) (O.faults out.new))) }
+    ensures untold { F.files folder.old ≡ None → IfErr result (λ stop. OnNoInput stop (Rose (F.read_faults folder.old) (F.read_faults folder.new))) }
+    ensures usage { IfErr result (λ stop. OnUsage stop (NoTask (texts words.now))) }
+    ensures no_task { NoTask (texts words.now) → IsErrOf result Stop.Usage }
+    ensures later { O.faults out.old ≤ O.faults out.new }
+{
+    match read_words(words) {
+        Ok(Command::Id { file }) => id(alloc, file, folder, out),
+        Err(Usage) => Err(Stop::Usage),
+    }
+}
