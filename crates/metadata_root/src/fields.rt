@@ -43,6 +43,15 @@ pub fn field_end(bytes: &[u8], at: usize, len: usize) -> Result<usize, Fault>
     Ok(at + len)
 }
 
+/// The number in the byte at `at`.
+#[tactic(auto, unfolding(crate::specs::Fields::number_at))]
+pub fn u8_at(bytes: &[u8], at: usize) -> u8
+    requires { at < length bytes.now }
+    ensures { result ≡ number_at bytes.now at 1 }
+{
+    bytes[at]
+}
+
 /// The number in the two bytes at `at`.
 #[tactic(auto, unfolding(crate::specs::Fields::number_at))]
 pub fn u16_at(bytes: &[u8], at: usize) -> u16

@@ -7,7 +7,7 @@ mod kind;
 mod root;
 mod stream;
 
-pub use fields::{fault_at, u32_at, u64_at};
+pub use fields::{fault_at, u8_at, u32_at, u64_at};
 pub use kind::StreamKind;
 pub use root::{Root, read_root};
 

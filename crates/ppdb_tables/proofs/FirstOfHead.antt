@@ -6,12 +6,15 @@ use Rattle.ppdb_base.specs.declared.fault.Place.{Place}
 use Rattle.ppdb_base.specs.declared.fault.Fault.{Fault}
 use Rattle.ppdb_base.specs.Place.{ComesBefore, numbers, number_of, at_byte}
 use Rattle.ppdb_base.specs.First.{IsAccepted, IsFirst}
+use Rattle.std.proofs.lemmas.Bool.{cases_lt}
 use Rattle.ppdb_base.proofs.Judging.{first_at, byte_before}
+use Rattle.ppdb_base.specs.Fields.{IsField}
 use Rattle.ppdb_base.proofs.Fields.{ends_by_cut, ends_within}
 use Rattle.ppdb_tables.specs.declared.counts.Part.{Part}
-use Rattle.ppdb_tables.specs.Counts.{HasCount, counts_below, count_fields, IsCountFault}
-use Rattle.ppdb_tables.specs.Head.{BadPdbFields, short, foreign, rows, BadEntry, entry, NamesMethod, entry_in, referenced, pdb_fields, pdb_count_place, pdb_rows}
-use Rattle.ppdb_tables.proofs.RowCounts.{cut, sum-cut, sum-fields, fields_cut, count_cut, one_more, counts_mono, counts-step, earlier_table, rows_in-set}
+use Rattle.ppdb_tables.specs.Counts.{HasCount, counts_below, count_fields, IsShort, IsCountFault}
+use Rattle.ppdb_tables.specs.Head.{BadPdb, BadPdbFields, short, foreign, rows, BadEntry, entry, NamesMethod, entry_in, referenced, pdb_fields, pdb_count_place, pdb_rows}
+use Rattle.ppdb_tables.proofs.FieldLists.{field_within, starts_by, all_fit}
+use Rattle.ppdb_tables.proofs.RowCounts.{cut, sum-cut, sum-fields, fields_cut, count_cut, one_more, counts_mono, counts-step, earlier_table, rows_in-set, has_count}
 
 -- the fields before the row counts
 abbrev front : List ℕ
@@ -42,23 +45,29 @@ module _ (stream : List ℕ) where
   least_short _ _ (rows t small set within many) = lit≤ tt
 
   -- a field that passes the end, after fields that fit and are good, is the first fault
-  short_is_first : (b len : ℕ) (before after : List ℕ) (fault : Fault) → pdb_fields stream ≡ before ++ len ∷ after → b ≡ sum before → b ≤ length stream → (24 < b → referenced stream < 2 ^ 45)
+  short_is_first : (b len : ℕ) (fault : Fault) → IsField (pdb_fields stream) b len → b ≤ length stream → (24 < b → referenced stream < 2 ^ 45)
       → ((t : ℕ) → HasCount (referenced stream) t → pdb_count_place stream t < b → pdb_rows stream t ≤ 16777215)
       → (fault ≡ record { code = PdbShort; place = at_byte 3 b }) × (length stream < b + len) → IsFirst (BadPdbFields stream) fault
-  short_is_first b len before after fault split is le known few past =
+  short_is_first b len fault f le known few past =
       subst (IsFirst (BadPdbFields stream)) (sym past.0)
-      (first_at (BadPdbFields stream) PdbShort (at_byte 3 b) (judged_case b before (len ∷ after) split is le known few)
-      (short b len (record { before = before; after = after; in_order = split; place = is }) le past.1)
+      (first_at (BadPdbFields stream) PdbShort (at_byte 3 b) (judged_case b f.before (len ∷ f.after) f.in_order f.place le known few)
+      (short b len f le past.1)
       (λ other bad. least_short other (at_byte 3 b) bad))
 
   no_count_before : (b t : ℕ) → b ≤ 32 → HasCount (referenced stream) t → pdb_count_place stream t < b → pdb_rows stream t ≤ 16777215
   no_count_before b t le set lt = absurd (omega (arith, le, lt))
 
   -- so it is with a field before the row counts
-  pub front_is_first : (b len : ℕ) (before after : List ℕ) (fault : Fault) → pdb_fields stream ≡ before ++ len ∷ after → b ≡ sum before → b ≤ 24 → b ≤ length stream
-      → (fault ≡ record { code = PdbShort; place = at_byte 3 b }) × (length stream < b + len) → IsFirst (BadPdbFields stream) fault
-  front_is_first b len before after fault split is small le past =
-      short_is_first b len before after fault split is le (λ lt. absurd (omega (arith, lt, small))) (λ t set lt. no_count_before b t (omega (arith, small)) set lt) past
+  pub front_is_first : (fault : Fault) → IsShort pdb_part stream front 0 fault → IsFirst (BadPdbFields stream) fault
+  front_is_first fault s =
+      let at = s.0 in
+      let len = s.1 in
+      let starts = starts_by (20 ∷ 4 ∷ []) 8 at len s.2 (omega (arith, s.4, s.5)) in
+      let here : 0 + at ≡ at = omega arith in
+      let field = field_within [] front (count_fields (referenced stream)) at len s.2 in
+      let is : (fault ≡ record { code = PdbShort; place = at_byte 3 at }) × (length stream < at + len) = (s.3 ∙ ap (λ b. record { code = PdbShort; place = at_byte 3 b }) here, omega (arith, s.5)) in
+      short_is_first at len fault (subst (λ b. IsField (pdb_fields stream) b len) here field) (omega (arith, s.4))
+      (λ lt. absurd (omega (arith, lt, starts))) (λ t set lt. no_count_before at t (omega (arith, starts)) set lt) is
 
   least_foreign : 32 ≤ length stream → (code : Code) (at : Place) → BadPdbFields stream code at → at ≡ at_byte 3 24 → 10 ≤ number_of code
   least_foreign long _ _ (short at len f within over) e =
@@ -68,9 +77,9 @@ module _ (stream : List ℕ) where
   least_foreign long _ _ (foreign within large) e = lit≤ tt
   least_foreign long _ _ (rows t small set within many) e = lit≤ tt
 
-  pub foreign_is_first : (at : ℕ) (fault : Fault) → at ≡ 24 → fault ≡ record { code = PdbTables; place = at_byte 3 at } → 32 ≤ length stream → 2 ^ 45 ≤ referenced stream → IsFirst (BadPdbFields stream) fault
-  foreign_is_first at fault here is long large =
-      subst (IsFirst (BadPdbFields stream)) (sym (is ∙ ap (λ b. record { code = PdbTables; place = at_byte 3 b }) here))
+  pub foreign_is_first : (fault : Fault) → fault ≡ record { code = PdbTables; place = at_byte 3 24 } → 32 ≤ length stream → 2 ^ 45 ≤ referenced stream → IsFirst (BadPdbFields stream) fault
+  foreign_is_first fault is long large =
+      subst (IsFirst (BadPdbFields stream)) (sym is)
       (first_at (BadPdbFields stream) PdbTables (at_byte 3 24)
       (judged_case 24 (20 ∷ 4 ∷ []) (8 ∷ count_fields (referenced stream)) refl refl (omega (arith, long)) (λ lt. absurd (omega (arith, lt))) (λ t set lt. no_count_before 24 t (lit≤ tt) set lt))
       (foreign (omega (arith, long)) large)
@@ -86,8 +95,9 @@ module _ (stream : List ℕ) where
         → (fault ≡ record { code = PdbShort; place = at_byte 3 (pdb_count_place stream table) }) × (length stream < pdb_count_place stream table + 4) → IsFirst (BadPdbFields stream) fault
     count_short fault le past =
         let n = counts_below (referenced stream) table in
-        short_is_first (pdb_count_place stream table) 4 (cut front n) (replicate (counts_below (referenced stream) 64 - suc n) 4) fault
-        (count_cut front (referenced stream) table lt set) (omega (arith, sum-cut front n)) le (λ _. known) few_before past
+        short_is_first (pdb_count_place stream table) 4 fault
+        (record { before = cut front n; after = replicate (counts_below (referenced stream) 64 - suc n) 4; in_order = count_cut front (referenced stream) table lt set; place = omega (arith, sum-cut front n) })
+        le (λ _. known) few_before past
 
     least_rows : pdb_count_place stream table + 4 ≤ length stream → (code : Code) (at : Place) → BadPdbFields stream code at → at ≡ at_byte 3 (pdb_count_place stream table) → 11 ≤ number_of code
     least_rows fits _ _ (short at len f within over) e =
@@ -145,3 +155,15 @@ module _ (stream : List ℕ) where
   pub entry_is_first : (fault : Fault) → fault ≡ record { code = EntryPoint; place = at_byte 3 20 } → entry_in stream ≢ 0 → (NamesMethod (pdb_rows stream 6) (entry_in stream) → ⊥) → IsFirst (BadEntry stream) fault
   entry_is_first fault is some none =
       subst (IsFirst (BadEntry stream)) (sym is) (first_at (BadEntry stream) EntryPoint (at_byte 3 20) not_before_entry (entry some none) (λ other bad. least_entry other _ bad))
+
+-- where the stream is judged, each table has few rows
+pub few_rows : (stream : List ℕ) → IsAccepted (BadPdb stream) → (t : ℕ) → t < 64 → pdb_rows stream t ≤ 16777215
+few_rows stream judged t lt =
+    let fields = all_fit (pdb_fields stream) (length stream) (λ at len f within over. judged PdbShort (at_byte 3 at) (inl (short at len f within over))) in
+    elim (cases_lt 16777215 (pdb_rows stream t)) [
+      | inr le ↦ le
+      | inl many ↦
+          let set = has_count stream 32 (referenced stream) t (λ none. absurd (omega (arith, many, none))) in
+          let place : pdb_count_place stream t ≤ length stream = omega (arith, fields, sum-fields front (referenced stream), counts_mono (referenced stream) t 64 (omega (arith, lt))) in
+          absurd (judged PdbRows (at_byte 3 (pdb_count_place stream t)) (inl (rows t lt set place many)))
+    ]

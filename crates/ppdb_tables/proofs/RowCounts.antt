@@ -8,7 +8,7 @@ use Rattle.ppdb_base.proofs.Fields.{sum-append, sum_cons}
 use Rattle.metadata_root.specs.Fields.{number_at}
 use Rattle.ppdb_tables.specs.Counts.{HasCount, counts_below, count_fields, count_place, rows_in}
 
-sum-replicate : (n x : ℕ) → sum (replicate n x) ≡ x * n
+pub sum-replicate : (n x : ℕ) → sum (replicate n x) ≡ x * n
 sum-replicate zero x = omega arith
 sum-replicate (suc n) x = sum_cons x (replicate n x) ∙ omega (arith, sum-replicate n x)
 
@@ -92,6 +92,14 @@ module _ (stream : List ℕ) (first bits table : ℕ) where
 
   pub rows_in-set : HasCount bits table → rows_in stream first bits table ≡ number_at stream (count_place first bits table) 4
   rows_in-set set = rw (eq-eqb _ _ set) refl
+
+-- a table that has rows has a row count
+pub has_count : (stream : List ℕ) (first bits table : ℕ) → rows_in stream first bits table ≢ 0 → HasCount bits table
+has_count stream first bits table some =
+    elim (cases_eq (bit_at bits table) 1) [
+      | inl set ↦ set
+      | inr clear ↦ absurd (some (rows_in-clear stream first bits table clear))
+    ]
 
 module _ (stream : List ℕ) (first read bits table at : ℕ) (same : read ≡ bits) (here : at ≡ count_place first bits table) where
   -- the number that was read at the place of a table's row count is the table's rows

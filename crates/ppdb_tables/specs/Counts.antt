@@ -4,6 +4,7 @@ use Rattle.std.specs.Prelude.{◌≡◌, ℕ, zero, suc, ◌+◌, ◌*◌, ◌<�
 use Rattle.std.specs.Int.{bit_at}
 use Rattle.ppdb_base.specs.declared.fault.Fault.{Fault}
 use Rattle.ppdb_base.specs.Place.{at_byte}
+use Rattle.ppdb_base.specs.Fields.{IsField}
 use Rattle.metadata_root.specs.Fields.{number_at}
 use Rattle.ppdb_tables.specs.declared.counts.Part.{Part}
 
@@ -28,6 +29,12 @@ count_place first bits table = first + 4 * counts_below bits table
 abbrev pub rows_in : List ℕ → ℕ → ℕ → ℕ → ℕ
 rows_in stream first bits table =
     if bit_at bits table == 1 then number_at stream (count_place first bits table) 4 else 0
+
+-- the fault of the first of some fields, standing one after another from a place on, that passes the stream's end
+abbrev pub IsShort : Part → List ℕ → List ℕ → ℕ → Fault → Type 0
+IsShort part stream fields first fault =
+    (at : ℕ) × (len : ℕ) × IsField fields at len
+    × (fault ≡ record { code = part.short; place = at_byte part.number (first + at) }) × (first + at ≤ length stream) × (length stream < first + at + len)
 
 -- the fault of a table's row count at a place: it passes the stream's end, or is too large
 abbrev pub IsCountFault : Part → List ℕ → ℕ → ℕ → ℕ → Fault → Type 0

@@ -1,2 +1,10 @@
+pub mod Bounds
 pub mod Counts
 pub mod Head
+pub mod Layouts
+pub mod LayoutsOf
+pub mod Parents
+pub mod RawOf
+pub mod RawTables
+pub mod TableOf
+pub mod Tables

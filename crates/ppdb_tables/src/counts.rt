@@ -1,4 +1,4 @@
-ghost use Rattle.std.specs.Prelude.{◌≡◌, ◌+◌, ◌*◌, ◌^◌, ◌<◌, ◌≤◌, ◌==◌, ◌↔◌, if◌then◌else◌, length, IfOk, IfErr, IsTrue};
+ghost use Rattle.std.specs.Prelude.{◌≡◌, ◌+◌, ◌*◌, ◌^◌, ◌<◌, ◌≤◌, ◌==◌, ◌↔◌, if◌then◌else◌, length, sum, IfOk, IfErr, IsTrue};
 ghost use Rattle.std.specs.Int.{bit_at};
 ghost use Rattle.ppdb_base.specs.Place.{at_byte};
 ghost use Rattle.metadata_root.specs.Fields.{number_at};
@@ -21,7 +21,7 @@ pub struct Part {
 }
 
 impl Part {
-    ghost use Rattle.ppdb_tables.specs.Counts.{IsCountFault};
+    ghost use Rattle.ppdb_tables.specs.Counts.{IsShort, IsCountFault};
 
     /// The stream's fault at a byte.
     pub fn fault(self, code: Code, byte: usize) -> Fault
@@ -42,6 +42,20 @@ impl Part {
             return Err(self.fault(self.short, at));
         }
         Ok(at + len)
+    }
+
+    /// Where fields of these lengths end that stand one after another from `at` on.
+    pub fn fields_end(self, bytes: &[u8], at: usize, lens: &[usize]) -> Result<usize, Fault>
+        requires small { at + sum lens.now < 1000 }
+        requires inside { at ≤ length bytes.now }
+        ensures end { IfOk result (λ end. (end ≡ at + sum lens.now) × (end ≤ length bytes.now)) }
+        ensures short { IfErr result (IsShort self bytes.now lens.now at) }
+    {
+        let mut end = at;
+        for len in lens {
+            end = self.field_end(bytes, end, *len)?;
+        }
+        Ok(end)
     }
 
     /// The row count at `at`, if the table has one, and where it ends.

@@ -5,6 +5,7 @@ ghost use Rattle.metadata_root.specs.Streams.{bytes_of};
 ghost use Rattle.ppdb_tables.specs.Head.{BadPdbFields, BadPdb, IsHeadOf, NamesMethod, referenced, pdb_rows};
 
 use crate::counts::{MAX_ROWS, Part};
+use crate::streams::stream_bytes;
 use metadata_root::{Root, StreamKind, u32_at, u64_at};
 use ppdb_base::{Code, Fault};
 
@@ -33,12 +34,10 @@ fn read_bits(bytes: &[u8]) -> Result<u64, Fault>
     ensures long { OnOk result (32 ≤ length bytes.now) }
     ensures first { IfErr result (IsFirst (BadPdbFields bytes.now)) }
 {
-    let entry = PDB.field_end(bytes, 0, 20)?;
-    let bits_at = PDB.field_end(bytes, entry, 4)?;
-    PDB.field_end(bytes, bits_at, 8)?;
-    let bits = u64_at(bytes, bits_at);
+    PDB.fields_end(bytes, 0, &[20, 4, 8])?;
+    let bits = u64_at(bytes, 24);
     if bits >> 0x2d != 0 {
-        return Err(PDB.fault(Code::PdbTables, bits_at));
+        return Err(PDB.fault(Code::PdbTables, 24));
     }
     Ok(bits)
 }
@@ -105,10 +104,7 @@ pub fn read_head(root: &Root<'_>) -> Result<PdbHead, Fault>
     ensures head { IfOk result (IsHeadOf (bytes_of root.now Pdb)) }
     ensures first { IfErr result (IsFirst (BadPdb (bytes_of root.now Pdb))) }
 {
-    match root.stream(StreamKind::Pdb) {
-        Some(stream) => head_of(stream),
-        None => head_of(&[]),
-    }
+    head_of(stream_bytes(root, StreamKind::Pdb))
 }
 
 #[cfg(test)]

@@ -59,7 +59,8 @@ impl<const N: usize> RowLayout<N> {
     pub fn cell(&self, row: &[u8], column: usize) -> u32
         requires whole { length row.now ≡ sum self.now }
         requires there { column < N }
-        ensures { result ≡ cell_in self.now row.now column }
+        ensures number { result ≡ cell_in self.now row.now column }
+        ensures fits { result < 256 ^ slice_index self.now column }
     {
         let cell = &row[self.place(column)..];
         if self.widths[column] == 2 {

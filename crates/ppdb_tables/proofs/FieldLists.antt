@@ -1,0 +1,46 @@
+-- Fields among more fields.
+use Rattle.std.proofs.Common.{◌≡◌, ℕ, suc, ◌+◌, ◌<◌, ◌≤◌, inl, inr, List, [], ◌∷◌, ◌++◌, length, sum, take, drop, get_or, refl, sym, ap, ◌∙◌, append_assoc, arith}
+use Rattle.std.proofs.lemmas.Bool.{cases_lt}
+use Rattle.std.proofs.Math.Seq.{split_at}
+use Rattle.ppdb_base.specs.Fields.{IsField}
+use Rattle.ppdb_base.proofs.Fields.{ends_by_cut, ends_within, sum-append, sum_cons}
+
+-- a field is one of more fields, after those before them
+pub field_within : (front fields back : List ℕ) (at len : ℕ) → IsField fields at len → IsField (front ++ (fields ++ back)) (sum front + at) len
+field_within front fields back at len f = record {
+  before = front ++ f.before;
+  after = f.after ++ back;
+  in_order = ap (λ xs. front ++ (xs ++ back)) f.in_order ∙ simp append_assoc refl;
+  place = ap (λ n. sum front + n) f.place ∙ sym (sum-append front f.before);
+}
+
+-- the field at an index
+pub field_at : (fields : List ℕ) (i : ℕ) → i < length fields → IsField fields (sum (take i fields)) (get_or fields i 0)
+field_at fields i lt = record { before = take i fields; after = drop (suc i) fields; in_order = split_at fields i 0 lt; place = refl }
+
+-- a field that has bytes begins not after the last
+pub starts_by : (front : List ℕ) (last at len : ℕ) → IsField (front ++ last ∷ []) at len → 0 < len → at ≤ sum front
+starts_by front last at len f some =
+    elim (cases_lt (sum front) at) [
+      | inr le ↦ le
+      | inl gt ↦
+          let fields = front ++ last ∷ [] in
+          let final : IsField fields (sum front) last = record { before = front; after = []; in_order = refl; place = refl } in
+          let ends = ends_by_cut fields f.before (len ∷ f.after) (sum front) last final f.in_order (omega (arith, gt, f.place)) in
+          absurd (omega (arith, ends, f.place, some, ends_within fields at len f, sum-append front (last ∷ []), sum_cons last []))
+    ]
+
+-- where no field passes an end, all lie before it
+module _ (fields : List ℕ) (end : ℕ) (fit : (at len : ℕ) → IsField fields at len → at ≤ end → end < at + len → ⊥) where
+  rest_fits : (before after : List ℕ) → fields ≡ before ++ after → sum before ≤ end → sum fields ≤ end
+  rest_fits before [] cut le = omega (arith, le, ap sum cut, sum-append before [])
+  rest_fits before (len ∷ after) cut le =
+      elim (cases_lt end (sum before + len)) [
+        | inl past ↦ absurd (fit (sum before) len (record { before = before; after = after; in_order = cut; place = refl }) le past)
+        | inr within ↦
+            rest_fits (before ++ len ∷ []) after (cut ∙ sym (append_assoc before (len ∷ []) after))
+            (omega (arith, within, sum-append before (len ∷ []), sum_cons len []))
+      ]
+
+  pub all_fit : sum fields ≤ end
+  all_fit = rest_fits [] fields refl (omega arith)

@@ -1,0 +1,14 @@
+use Rattle.std.proofs.Common.{arith}
+use Rattle.std.proofs.lemmas.Result.{err_from_is_err_and}
+use Rattle.ppdb_tables.proofs.FirstOfTables.{heap_short, heap_is_first}
+use Rattle.ppdb_tables.proofs.header.read_heap_bits.Goals as goal
+
+pub returns-in_err-fields_end-clause-first : goal.returns-in_err-fields_end-clause-first
+returns-in_err-fields_end-clause-first c =
+    let p = err_from_is_err_and c.from_residual.result c.from_residual.ensures.1 in
+    rw (p.1, p.2) (heap_short c.args.methods c.args.bytes.now c.in_err-fields_end.field-0.0 c.in_err-fields_end.ensures.short)
+
+pub returns-then-heap-ge8-clause-first : goal.returns-then-heap-ge8-clause-first
+returns-then-heap-ge8-clause-first c =
+    let end = c.in_ok-fields_end.ensures.end in
+    heap_is_first c.args.methods c.args.bytes.now c.fault.result c.fault.ensures (omega (arith, end.0, end.1)) (omega (arith, c.if-heap-ge8.true, c.u8_at-heap.ensures))

@@ -1,0 +1,15 @@
+use Rattle.std.proofs.Common.{◌≡◌, ◌∙◌, arith}
+use Rattle.ppdb_tables.specs.Layouts.{scope_row}
+use Rattle.ppdb_tables.proofs.RowsRead.{row_read}
+use Rattle.ppdb_tables.proofs.tables.Tables.scope.Goals as goal
+
+pub returns-clause-row : goal.returns-clause-row
+returns-clause-row g c =
+    let table = c.args.self.now.scopes in
+    let cell_0 = c.cell.ensures.number in
+    let cell_1 = c.cell-2.ensures.number in
+    let cell_2 = c.cell-3.ensures.number in
+    let cell_3 = c.cell-4.ensures.number in
+    let cell_4 = c.cell-5.ensures.number in
+    let cell_5 = c.cell-6.ensures.number in
+    row_read scope_row table.layout table.bytes.now table.count c.args.row c.row-cells.result.now _ c.requires.there.0 (omega (arith, c.requires.there.1, c.args.self.now.scope_count)) c.row-cells.ensures.bytes cc

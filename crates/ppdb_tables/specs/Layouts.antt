@@ -1,0 +1,123 @@
+-- The columns of the debug tables (Portable PDB v1.0, "Metadata Tables"), and the rows of a table as its bytes (ECMA-335 II.24.2.6).
+use Rattle.std.specs.Prelude.{ℕ, ◌+◌, ◌*◌, List, [], ◌∷◌, map, flat_map, replicate, take, drop, sum, slice_index}
+use Rattle.std.specs.List.{range_with_len}
+use Rattle.row_layout.specs.declared.column.Sizes.{Sizes}
+use Rattle.row_layout.specs.declared.column.Column.{Column}
+use Rattle.row_layout.specs.declared.column.Column.TheVariants.{U16, U32, Text, Blob, Guid, Row, Parent}
+use Rattle.row_layout.specs.Columns.{width_of}
+use Rattle.row_layout.specs.Rows.{cell_in}
+use Rattle.ppdb_tables.specs.declared.rows.DocumentRow.{DocumentRow}
+use Rattle.ppdb_tables.specs.declared.rows.MethodDebugRow.{MethodDebugRow}
+use Rattle.ppdb_tables.specs.declared.rows.ScopeRow.{ScopeRow}
+use Rattle.ppdb_tables.specs.declared.rows.VariableRow.{VariableRow}
+use Rattle.ppdb_tables.specs.declared.rows.ConstantRow.{ConstantRow}
+use Rattle.ppdb_tables.specs.declared.rows.ImportRow.{ImportRow}
+use Rattle.ppdb_tables.specs.declared.rows.MachineRow.{MachineRow}
+use Rattle.ppdb_tables.specs.declared.rows.CustomRow.{CustomRow}
+
+-- Document: Name, HashAlgorithm, Hash, Language
+abbrev pub document_columns : List Column
+document_columns = Blob ∷ Guid ∷ Blob ∷ Guid ∷ []
+
+-- MethodDebugInformation: Document, SequencePoints
+abbrev pub method_columns : List Column
+method_columns = Row 0x30 ∷ Blob ∷ []
+
+-- LocalScope: Method, ImportScope, VariableList, ConstantList, StartOffset, Length
+abbrev pub scope_columns : List Column
+scope_columns = Row 0x06 ∷ Row 0x35 ∷ Row 0x33 ∷ Row 0x34 ∷ U32 ∷ U32 ∷ []
+
+-- LocalVariable: Attributes, Index, Name
+abbrev pub variable_columns : List Column
+variable_columns = U16 ∷ U16 ∷ Text ∷ []
+
+-- LocalConstant: Name, Signature
+abbrev pub constant_columns : List Column
+constant_columns = Text ∷ Blob ∷ []
+
+-- ImportScope: Parent, Imports
+abbrev pub import_columns : List Column
+import_columns = Row 0x35 ∷ Blob ∷ []
+
+-- StateMachineMethod: MoveNextMethod, KickoffMethod
+abbrev pub machine_columns : List Column
+machine_columns = Row 0x06 ∷ Row 0x06 ∷ []
+
+-- CustomDebugInformation: Parent, Kind, Value
+abbrev pub custom_columns : List Column
+custom_columns = Parent ∷ Guid ∷ Blob ∷ []
+
+-- a table: its number and its columns
+pub record Table : Type 0 where
+  pub number : ℕ
+  pub columns : List Column
+
+-- the debug tables in file order
+abbrev pub debug_tables : List Table
+debug_tables =
+    record { number = 0x30; columns = document_columns }
+    ∷ record { number = 0x31; columns = method_columns }
+    ∷ record { number = 0x32; columns = scope_columns }
+    ∷ record { number = 0x33; columns = variable_columns }
+    ∷ record { number = 0x34; columns = constant_columns }
+    ∷ record { number = 0x35; columns = import_columns }
+    ∷ record { number = 0x36; columns = machine_columns }
+    ∷ record { number = 0x37; columns = custom_columns }
+    ∷ []
+
+-- the widths of a row's cells
+abbrev pub widths_of : Sizes → List Column → List ℕ
+widths_of sizes columns = map (width_of sizes) columns
+
+-- how many bytes a row has
+abbrev pub row_len : Sizes → Table → ℕ
+row_len sizes table = sum (widths_of sizes table.columns)
+
+-- the rows of a table as fields
+abbrev pub row_fields_of : Sizes → Table → List ℕ
+row_fields_of sizes table = replicate (slice_index sizes.rows table.number) (row_len sizes table)
+
+-- the rows of some tables as fields, one table after another
+abbrev pub row_fields : Sizes → List Table → List ℕ
+row_fields sizes tables = flat_map (row_fields_of sizes) tables
+
+-- the bytes of a row, where the rows stand one after another; the first is row 0 here
+abbrev pub row_in : List ℕ → List ℕ → ℕ → List ℕ
+row_in widths bytes row = take (sum widths) (drop (row * sum widths) bytes)
+
+-- the rows of a table, each made from the widths of its cells and its bytes
+abbrev pub rows_by : {X : Type 0} → (List ℕ → List ℕ → X) → List ℕ → List ℕ → ℕ → List X
+rows_by row_of widths bytes rows = map (λ row. row_of widths (row_in widths bytes row)) (range_with_len 0 rows)
+
+-- ---- the rows, by their cells
+
+abbrev pub document_row : List ℕ → List ℕ → DocumentRow
+document_row widths row = record { name = cell_in widths row 0; algorithm = cell_in widths row 1; hash = cell_in widths row 2; language = cell_in widths row 3 }
+
+abbrev pub method_row : List ℕ → List ℕ → MethodDebugRow
+method_row widths row = record { document = cell_in widths row 0; points = cell_in widths row 1 }
+
+abbrev pub scope_row : List ℕ → List ℕ → ScopeRow
+scope_row widths row = record {
+  method = cell_in widths row 0;
+  «import» = cell_in widths row 1;
+  variables = cell_in widths row 2;
+  constants = cell_in widths row 3;
+  start = cell_in widths row 4;
+  length = cell_in widths row 5;
+}
+
+abbrev pub variable_row : List ℕ → List ℕ → VariableRow
+variable_row widths row = record { attributes = cell_in widths row 0; slot = cell_in widths row 1; name = cell_in widths row 2 }
+
+abbrev pub constant_row : List ℕ → List ℕ → ConstantRow
+constant_row widths row = record { name = cell_in widths row 0; signature = cell_in widths row 1 }
+
+abbrev pub import_row : List ℕ → List ℕ → ImportRow
+import_row widths row = record { parent = cell_in widths row 0; imports = cell_in widths row 1 }
+
+abbrev pub machine_row : List ℕ → List ℕ → MachineRow
+machine_row widths row = record { move_next = cell_in widths row 0; kickoff = cell_in widths row 1 }
+
+abbrev pub custom_row : List ℕ → List ℕ → CustomRow
+custom_row widths row = record { parent = cell_in widths row 0; kind = cell_in widths row 1; value = cell_in widths row 2 }

@@ -1,0 +1,51 @@
+ghost use Rattle.std.specs.Prelude.{◌≡◌, IfOk, OnOk, IfErr};
+ghost use Rattle.ppdb_base.specs.First.{IsFirst, IsAccepted};
+ghost use Rattle.metadata_root.specs.declared.kind.StreamKind.TheVariants.{Pdb, Tables as TablesKind};
+ghost use Rattle.metadata_root.specs.Streams.{bytes_of};
+ghost use Rattle.ppdb_tables.specs.Head.{BadPdb, IsHeadOf};
+ghost use Rattle.ppdb_tables.specs.RawOf.{raw_of};
+ghost use Rattle.ppdb_tables.specs.Tables.{BadTables, tables_in};
+
+use crate::bounds::place_tables;
+use crate::head::PdbHead;
+use crate::header::read_header;
+use crate::layouts::Layouts;
+use crate::streams::stream_bytes;
+use crate::table::Table;
+use crate::tables::Tables;
+use metadata_root::{Root, StreamKind};
+use ppdb_base::Fault;
+use ppdb_heaps::{Blobs, Guids, Strings};
+
+/// Reads the `#~` stream of a root up to its rows; its head is what `read_head` gives.
+///
+/// # Errors
+///
+/// The first fault of the stream, F13 to F18.
+pub fn read_tables<'a>(root: &Root<'a>, head: &PdbHead) -> Result<Tables<'a>, Fault>
+    requires judged { IsAccepted (BadPdb (bytes_of root.now Pdb)) }
+    requires head { IsHeadOf (bytes_of root.now Pdb) head.now }
+    ensures accepted { OnOk result (IsAccepted (BadTables head.now (bytes_of root.now TablesKind))) }
+    ensures tables { IfOk result (λ tables. raw_of tables ≡ tables_in root.now head.now) }
+    ensures first { IfErr result (IsFirst (BadTables head.now (bytes_of root.now TablesKind))) }
+{
+    let stream = stream_bytes(root, StreamKind::Tables);
+    let header = read_header(stream, head)?;
+    let layouts = Layouts::of(&header.sizes);
+    let places = place_tables(stream, header.start, &header.sizes, &layouts.lens())?;
+    let rows = &header.sizes.rows;
+    Ok(Tables {
+        sizes: header.sizes,
+        strings: Strings::new(stream_bytes(root, StreamKind::Strings)),
+        guids: Guids::new(stream_bytes(root, StreamKind::Guids)),
+        blobs: Blobs::new(stream_bytes(root, StreamKind::Blobs)),
+        documents: Table::at(stream, places[0], rows[0x30], &layouts.documents),
+        methods: Table::at(stream, places[1], rows[0x31], &layouts.methods),
+        scopes: Table::at(stream, places[2], rows[0x32], &layouts.scopes),
+        variables: Table::at(stream, places[3], rows[0x33], &layouts.variables),
+        constants: Table::at(stream, places[4], rows[0x34], &layouts.constants),
+        imports: Table::at(stream, places[5], rows[0x35], &layouts.imports),
+        machines: Table::at(stream, places[6], rows[0x36], &layouts.machines),
+        customs: Table::at(stream, places[7], rows[0x37], &layouts.customs),
+    })
+}
