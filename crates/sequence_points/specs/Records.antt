@@ -124,7 +124,7 @@ point_form before (offset ∷ lines ∷ columns ∷ []) = Some (start_form befor
 point_form before (offset ∷ lines ∷ columns ∷ line ∷ []) = Some (start_form before)
 point_form before _ = None
 
--- After a first field: the row of a document record, which is told by its 0 and is not the first record; or the lines of a point.
+-- After a first field: the row of a document record, which is known by its 0 and is not the first record; or the lines of a point.
 abbrev pub second_allows : PointLimits → Sums → Value → Value → Bool
 second_allows limits before (number zero) value = if before.has_point then is_row limits.documents value else true
 second_allows limits before _ value = true

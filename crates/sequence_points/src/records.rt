@@ -1,11 +1,11 @@
 //! The records of a blob: points, and document records between them.
 
-ghost use Rattle.std.specs.Prelude.{◌≡◌, ◌+◌, ◌<◌, ◌≤◌, ◌^◌, ◌≤ℤ◌, neg_ℤ, pos, length, drop, IfOk, if◌then◌else◌, [], ◌∷◌, true};
+ghost use Rattle.std.specs.Prelude.{◌≡◌, ◌+◌, ◌<◌, ◌≤◌, ◌^◌, ◌≤ℤ◌, neg_ℤ, pos, length, drop, IfOk, if◌then◌else◌, [], ◌∷◌, true, Some};
 ghost use Rattle.blob_grammar.specs.Grammar.{Value, number, unsigned, signed};
 ghost use Rattle.blob_grammar.specs.Reader.{field_at};
 ghost use Rattle.sequence_points.specs.declared.point.PointLimits.{PointLimits};
 ghost use Rattle.sequence_points.specs.Records.{sums, int_of};
-ghost use Rattle.sequence_points.specs.Places.{int_placed, entries_of, points_at, PointIs, OffsetIs, DocumentIs};
+ghost use Rattle.sequence_points.specs.Places.{int_placed, entries_of, points_at, PointIs, OffsetIs, DocumentIs, place_after};
 
 use crate::place::{Place, Start};
 use crate::point::{Point, PointLimits, Span};
@@ -31,6 +31,35 @@ pub(crate) fn int_field(blob: &[u8], at: usize, is_signed: bool) -> Result<(i64,
         let (value, len) = unsigned_field(blob, at)?;
         Ok((value as i64, len))
     }
+}
+
+/// A point that is not hidden, its start and its end each with line and column; and the place after it.
+#[inline(always)]
+fn seen_point(
+    place: Place,
+    at: usize,
+    offset: u32,
+    start: (u32, u32),
+    end: (u32, u32),
+) -> (Point, Place)
+    ensures point { result.0 ≡ record { offset = offset; document = place.document; span = Span.Lines start.0 start.1 end.0 end.1 } }
+    ensures place { result.1 ≡ place_after at place.document offset (Some (record { line = start.0; column = start.1 })) }
+{
+    let point = Point {
+        offset,
+        document: place.document,
+        span: Span::Lines {
+            start_line: start.0,
+            start_column: start.1,
+            end_line: end.0,
+            end_column: end.1,
+        },
+    };
+    let start = Start {
+        line: start.0,
+        column: start.1,
+    };
+    (point, place.after_point(at, offset, Some(start)))
 }
 
 /// Reads StartLine and StartColumn of a point that is not hidden.
@@ -68,21 +97,14 @@ pub(crate) fn visible_point(
         return Err(out_of_range(column_at));
     };
     let offset = place.offset() + step;
-    let point = Point {
+    let end = column_at + len;
+    Ok(seen_point(
+        place,
+        end,
         offset,
-        document: place.document,
-        span: Span::Lines {
-            start_line,
-            start_column,
-            end_line,
-            end_column,
-        },
-    };
-    let start = Some(Start {
-        line: start_line,
-        column: start_column,
-    });
-    Ok((point, place.after_point(column_at + len, offset, start)))
+        (start_line, start_column),
+        (end_line, end_column),
+    ))
 }
 
 /// Reads a point after its Offset.

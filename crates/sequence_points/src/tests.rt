@@ -33,10 +33,10 @@ fn hidden(offset: u32, document: u32) -> Point
 }
 
 /// The offset and the document of a point; and, where it is not hidden, the line and the column of its start and of its end.
-type Told = (u32, u32, Option<(u32, u32, u32, u32)>);
+type Expected = (u32, u32, Option<(u32, u32, u32, u32)>);
 
-fn point_of(told: &Told) -> Point {
-    let (offset, document, lines) = *told;
+fn point_of(expected: &Expected) -> Point {
+    let (offset, document, lines) = *expected;
     match lines {
         None => hidden(offset, document),
         Some((start_line, start_column, end_line, end_column)) => {
@@ -56,12 +56,12 @@ struct Read<'a> {
     column: u32,
     limits: PointLimits,
     blob: &'a [u8],
-    points: &'a [Told],
+    points: &'a [Expected],
     fault: Option<(Code, u32)>,
 }
 
 /// A blob where there is one document, the method's, and no signature.
-fn in_one<'a>(blob: &'a [u8], points: &'a [Told], fault: Option<(Code, u32)>) -> Read<'a> {
+fn in_one<'a>(blob: &'a [u8], points: &'a [Expected], fault: Option<(Code, u32)>) -> Read<'a> {
     Read {
         column: 1,
         limits: PointLimits {
@@ -78,7 +78,7 @@ fn in_one<'a>(blob: &'a [u8], points: &'a [Told], fault: Option<(Code, u32)>) ->
 fn in_several<'a>(
     column: u32,
     blob: &'a [u8],
-    points: &'a [Told],
+    points: &'a [Expected],
     fault: Option<(Code, u32)>,
 ) -> Read<'a> {
     Read {
@@ -101,8 +101,8 @@ fn check_read(rt: &impl Abort, read: &Read<'_>) {
     match PointCursor::new(blob, column, limits) {
         Err(found) => assert_eq!(rt; Some(found), fault),
         Ok(mut cursor) => {
-            for told in read.points {
-                assert_eq!(rt; cursor.next(), Ok(Some(point_of(told))));
+            for expected in read.points {
+                assert_eq!(rt; cursor.next(), Ok(Some(point_of(expected))));
             }
             let end = match fault {
                 None => Ok(None),

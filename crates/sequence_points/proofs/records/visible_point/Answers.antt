@@ -1,9 +1,8 @@
 use Rattle.std.proofs.Common.{◌+◌, ◌≤◌, length, Some, None, pos, ◌+ℤ◌, sym, ap, subst, ◌<◌, ◌∙◌, arith}
 use Rattle.blob_grammar.specs.Grammar.{number}
-use Rattle.sequence_points.specs.Places.{no_points, RangeIs, points_left, entries_of}
+use Rattle.sequence_points.specs.Places.{no_points, RangeIs, points_left, entries_of, place_after}
 use Rattle.sequence_points.specs.declared.place.Place.{Place}
 use Rattle.blob_grammar.specs.Reader.{push}
-use Rattle.sequence_points.specs.declared.point.Span.TheVariants.{Lines}
 use Rattle.sequence_points.specs.Records.{is_line, is_column, sums}
 use mir.Val.{to_z, of_z}
 use mir.Syntax.{w64}
@@ -41,14 +40,16 @@ pub returns : goal.returns
 returns c = λ limits value is.
     let first = line_in limits c.args.blob.now c.args.place (number c.args.step) value c.args.lines c.args.at c.has_visible-is_signed.result c.in-Ok.found.0 c.in-Ok.found.1 c.line.result c.in-Some.start_line c.in-Some.end_line
     c.has_visible-is_signed.ensures (sym c.in-Ok.ensures.found) c.line.ensures
-    (passed (λ z. RangeIs is_line (pos c.line.result +ℤ z) (pos c.args.lines) (Some (c.in-Some.start_line, c.in-Some.end_line))) c.in-Ok.found.0 c.in-Ok.ensures.low c.in-Ok.ensures.high c.in-Some.ensures) in (
+    (passed (λ z. RangeIs is_line (pos c.line.result +ℤ z) (pos c.args.lines) (Some (c.in-Some.start_line, c.in-Some.end_line))) c.in-Ok.found.0 c.in-Ok.ensures.low c.in-Ok.ensures.high c.in-Some.ensures) in
+    let next : Place = place_after (c.args.at + c.in-Ok.found.1 + c.in-Ok-int_field.found.1) c.args.place.document (c.offset.result + c.args.step) (Some (record { line = c.in-Some.start_line; column = c.in-Some-column_range.start_column })) in (
       first.goes_on ∙ point_in limits c.args.blob.now c.args.place c.args.step c.args.lines value first.value c.args.columns (c.args.at + c.in-Ok.found.1) c.has_visible-is_signed.result c.in-Ok-int_field.found.0 c.in-Ok-int_field.found.1 c.column.result
           (c.offset.result + c.args.step) c.in-Some.start_line c.in-Some.end_line c.in-Some-column_range.start_column c.in-Some-column_range.end_column
           c.has_visible-is_signed.ensures is (sym c.in-Ok-int_field.ensures.found) c.column.ensures
           (passed (λ z. RangeIs is_column (pos c.column.result +ℤ z) c.args.columns (Some (c.in-Some-column_range.start_column, c.in-Some-column_range.end_column))) c.in-Ok-int_field.found.0 c.in-Ok-int_field.ensures.low c.in-Ok-int_field.ensures.high
           (passed (λ z. RangeIs is_column (pos c.column.result +ℤ to_z w64 (of_z w64 c.in-Ok-int_field.found.0)) z (Some (c.in-Some-column_range.start_column, c.in-Some-column_range.end_column))) c.args.columns c.requires.low c.requires.high c.in-Some-column_range.ensures))
           first.first_is first.last_is (ap (λ n. n + c.args.step) c.offset.ensures)
-          ∙ ap (λ p. push (record { offset = c.offset.result + c.args.step; document = c.args.place.document; span = Lines c.in-Some.start_line c.in-Some-column_range.start_column c.in-Some.end_line c.in-Some-column_range.end_column }) (points_left limits c.args.blob.now p)) (sym c.after_point.ensures),
-      subst (λ (p : Place). p.at ≤ length c.args.blob.now) (sym c.after_point.ensures) c.in-Ok-int_field.ensures.within,
-      subst (λ (p : Place). (sums (entries_of p)).offset < 536870912) (sym c.after_point.ensures) (omega arith),
+          ∙ ap (λ q. push q (points_left limits c.args.blob.now next)) (sym c.seen_point.ensures.point)
+          ∙ ap (λ p. push c.seen_point.result.0 (points_left limits c.args.blob.now p)) (sym c.seen_point.ensures.place),
+      subst (λ (p : Place). p.at ≤ length c.args.blob.now) (sym c.seen_point.ensures.place) c.in-Ok-int_field.ensures.within,
+      subst (λ (p : Place). (sums (entries_of p)).offset < 536870912) (sym c.seen_point.ensures.place) (omega arith),
     )
