@@ -1,0 +1,110 @@
+-- Parts at a mark, the first line of a text and the words of a line.
+use Rattle.std.proofs.Common.{ℕ, zero, suc, ◌≡◌, ◌<◌, ◌≤◌, ◌+◌, ◌-◌, Bool, true, false, cond, List, [], ◌∷◌, Option, Some, None, length, take, drop, get_or, add-one, sym, ap, ◌∙◌, refl, subst, inl, inr, ◌⊎◌, arith, rules, Bor, MatchOption}
+use Rattle.std.specs.Prelude.{◌==◌, position}
+use Rattle.std.specs.List.{slice_split, onto_first, position_or_len}
+use Rattle.std.specs.Str.Lines.{lines, lines_of_parts, strip_carriage_return}
+use Rattle.std.proofs.Math.Seq.{take-length}
+use Rattle.std.proofs.lemmas.List.{length-drop}
+use Rattle.std.proofs.lemmas.List.Quantifiers.{position-Some}
+use Rattle.std.proofs.lemmas.Bool.{cases_lt, lt-ltb, ne_eqb, false≢true}
+use Rattle.std.specs.Option.{is_some}
+use Rattle.ppdb_maps.specs.Words.{text_lines, parts_at, line_words}
+use Rattle.ppdb_maps.specs.Cuts.{IsLineOf}
+
+parts_at_place : (mark : ℕ) (xs : List ℕ) (i : ℕ) → i < length xs → (get_or xs i 0 == mark) ≡ true → ((k : ℕ) → k < i → (get_or xs k 0 == mark) ≡ false)
+    → parts_at mark xs ≡ take i xs ∷ parts_at mark (drop (suc i) xs)
+parts_at_place mark [] i within here before = absurd (omega arith)
+parts_at_place mark (x ∷ xs) zero within here before = rw here refl
+parts_at_place mark (x ∷ xs) (suc i) within here before =
+    let rest = parts_at_place mark xs i (omega arith) here (λ k lt. before (suc k) (omega arith)) in
+    let no = before 0 (omega arith) in
+    rw (no, rest) refl
+
+-- a slice's end, as it is taken
+end_of_slice : (j : ℕ) (xs : List ℕ) → take (length xs - j) (drop j xs) ≡ drop j xs
+end_of_slice j xs = rw (← length-drop j xs) (take-length (drop j xs))
+
+-- the parts where the mark is found
+pub parts_found : (mark : ℕ) (xs : List ℕ) (i : ℕ) → position (λ b. b == mark) xs ≡ Some i
+    → (parts_at mark xs ≡ take i xs ∷ parts_at mark (take (length xs - (i + 1)) (drop (i + 1) xs))) × (length (take (length xs - (i + 1)) (drop (i + 1) xs)) < length xs)
+parts_found mark xs i found =
+    let there = position-Some (λ b. b == mark) xs i 0 found in
+    rw (end_of_slice (i + 1) xs) (rw add-one (parts_at_place mark xs i there.0 there.1 there.2), (let h = length-drop (i + 1) xs in let within : i < length xs = there.0 in omega (arith, h, within)))
+
+none_before : (mark : ℕ) (xs : List ℕ) → length xs ≤ position_or_len (λ b. b == mark) xs → parts_at mark xs ≡ xs ∷ []
+none_before mark [] far = refl
+none_before mark (x ∷ xs) far = of (x == mark) refl (λ more. none_before mark xs more)
+  where
+    of : (b : Bool) → (x == mark) ≡ b → (length xs ≤ position_or_len (λ b. b == mark) xs → parts_at mark xs ≡ xs ∷ []) → parts_at mark (x ∷ xs) ≡ (x ∷ xs) ∷ []
+    of true is before = let here : length (x ∷ xs) ≤ 0 = rw is at far in absurd (omega (arith, here))
+    of false is before =
+        let more : suc (length xs) ≤ 1 + position_or_len (λ b. b == mark) xs = rw is at far in
+        let rest = before (omega (arith, more)) in
+        rw (is, rest) refl
+
+-- the parts where it is not
+pub parts_none : (mark : ℕ) (xs : List ℕ) → position (λ b. b == mark) xs ≡ None → parts_at mark xs ≡ xs ∷ []
+parts_none mark xs none = elim (cases_lt (position_or_len (λ b. b == mark) xs) (length xs)) [
+  | inl less ↦ absurd (clash (rw (lt-ltb (position_or_len (λ b. b == mark) xs) (length xs) less) at none))
+  | inr far ↦ none_before mark xs far
+]
+  where
+    clash : Some (position_or_len (λ b. b == mark) xs) ≡ None → ⊥
+    clash e = cc
+
+lines_after : (line : List ℕ) (mark_parts : List (List ℕ)) (part : List ℕ) (parts : List (List ℕ)) → mark_parts ≡ part ∷ parts
+    → lines_of_parts (line ∷ mark_parts) ≡ strip_carriage_return line ∷ lines_of_parts mark_parts
+lines_after line mark_parts part parts is = rw is refl
+
+-- each split has a part
+some_part : (mark : ℕ) (xs : List ℕ) → (part : List ℕ) × ((parts : List (List ℕ)) × (parts_at mark xs ≡ part ∷ parts))
+some_part mark [] = ([], ([], refl))
+some_part mark (x ∷ xs) = of (x == mark) refl
+  where
+    onto : (parts : List (List ℕ)) → (part : List ℕ) × ((more : List (List ℕ)) × (onto_first x parts ≡ part ∷ more))
+    onto [] = (x ∷ [], ([], refl))
+    onto (p ∷ ps) = (x ∷ p, (ps, refl))
+
+    of : (b : Bool) → (x == mark) ≡ b → (part : List ℕ) × ((parts : List (List ℕ)) × (parts_at mark (x ∷ xs) ≡ part ∷ parts))
+    of true is = ([], (parts_at mark xs, rw is refl))
+    of false is = let o = onto (parts_at mark xs) in (o.0, (o.1.0, rw is o.1.1))
+
+-- the first line, where an LF ends it
+pub line_ended : (text line rest : List ℕ) → parts_at 10 text ≡ line ∷ parts_at 10 rest → length rest < length text → IsLineOf text (strip_carriage_return line) rest
+line_ended [] line rest cut shorter = absurd (omega arith)
+line_ended (b ∷ bs) line rest cut shorter =
+    let some = some_part 10 rest in
+    let lines_are : lines (b ∷ bs) ≡ strip_carriage_return line ∷ lines rest = ap lines_of_parts cut ∙ lines_after line (parts_at 10 rest) some.0 some.1.0 some.1.1 in
+    record { first = lines_are; shorter = λ _. shorter }
+
+some_length : (line bs : List ℕ) (b : ℕ) → b ∷ bs ≡ line → (length line == 0) ≡ false
+some_length line bs b is = ne_eqb (length line) 0 (λ e. let h : length (b ∷ bs) ≡ length line = ap length is in omega (arith, e, h))
+
+-- the last line, which no LF ends
+pub line_last : (text line : List ℕ) → parts_at 10 text ≡ line ∷ [] → text ≡ line → IsLineOf text line []
+line_last [] line cut is = record { first = rw (← is) refl; shorter = λ some. omega (arith, some) }
+line_last (b ∷ bs) line cut is =
+    let lines_are : lines (b ∷ bs) ≡ line ∷ [] = ap lines_of_parts cut ∙ (let some : (length line == 0) ≡ false = some_length line bs b is in rw some refl) in
+    record { first = lines_are; shorter = λ _. omega arith }
+
+more_than_one : (r : Option (Bor (List ℕ))) (last word : List ℕ)
+    → MatchOption r ((word ≡ last) × (parts_at 32 last ≡ word ∷ [])) (λ rest. (parts_at 32 last ≡ word ∷ parts_at 32 rest.now) × (length rest.now < length last))
+    → is_some r ≡ true → 1 < length (parts_at 32 last)
+more_than_one None last word cut some = absurd (false≢true some)
+more_than_one (Some rest) last word cut some =
+    let part = some_part 32 rest.now in
+    let e : length (parts_at 32 last) ≡ suc (length (parts_at 32 rest.now)) = ap length cut.0 in
+    let f : length (parts_at 32 rest.now) ≡ suc (length part.1.0) = ap length part.1.1 in
+    omega (arith, e, f)
+
+-- more words than four
+pub many_words : (r : Option (Bor (List ℕ))) (line a b c d r1 r2 r3 : List ℕ)
+    → parts_at 32 line ≡ a ∷ parts_at 32 r1 → parts_at 32 r1 ≡ b ∷ parts_at 32 r2 → parts_at 32 r2 ≡ c ∷ parts_at 32 r3
+    → MatchOption r ((d ≡ r3) × (parts_at 32 r3 ≡ d ∷ [])) (λ rest. (parts_at 32 r3 ≡ d ∷ parts_at 32 rest.now) × (length rest.now < length r3))
+    → is_some r ≡ true → 4 < length (parts_at 32 line)
+many_words r line a b c d r1 r2 r3 one two three four some =
+    let h = more_than_one r r3 d four some in
+    let e : length (parts_at 32 line) ≡ suc (length (parts_at 32 r1)) = ap length one in
+    let f : length (parts_at 32 r1) ≡ suc (length (parts_at 32 r2)) = ap length two in
+    let g : length (parts_at 32 r2) ≡ suc (length (parts_at 32 r3)) = ap length three in
+    omega (arith, h, e, f, g)

@@ -1,0 +1,11 @@
+pub mod Searching
+pub mod Lines
+pub mod Numbers
+pub mod Cutting
+pub mod Saying
+pub mod Rising
+pub mod Refusing
+pub mod Adding
+pub mod Halving
+pub mod Finishing
+pub mod Looping

@@ -1,0 +1,124 @@
+-- Lines that are read one after another.
+use Rattle.std.proofs.Common.{zero, suc, ℕ, ◌≡◌, ◌<◌, ◌≤◌, ◌+◌, ◌++◌, List, [], ◌∷◌, Option, Some, None, Result, Ok, Err, length, append_assoc, append-nil, length-append, refl, sym, ap, ◌∙◌, subst, arith, rules}
+use Rattle.std.specs.Prelude.{MatchResult}
+use Rattle.std.specs.Str.Lines.{lines}
+use Rattle.ppdb_maps.specs.Words.{text_lines}
+use Rattle.ppdb_maps.specs.Forms.{Tells, Values, silent, told, run_line, rows_line, row_line, method_line, drop_line, slots_line, slot_line, IsHead}
+use Rattle.ppdb_maps.specs.Cuts.{IsLineOf}
+use Rattle.ppdb_maps.specs.Rules.{Breaks, BreaksLine, BreaksFirst, Keeps, kind_of, by_lines}
+use Rattle.ppdb_maps.specs.Text.{Read, start, further, Refused, at_line, at_head}
+use Rattle.ppdb_maps.specs.Drafts.{Holds, AddsLine, HasLength}
+use Rattle.ppdb_maps.specs.Loops.{TextAdded, TextRefused, IsTextAdded, IsAt, ReadWhole, RefusedLine, RefusedIn, RefusedAs}
+use Rattle.ppdb_maps.specs.declared.draft.Draft.{Draft}
+use Rattle.ppdb_maps.specs.declared.line.Form.{Form}
+use Rattle.ppdb_maps.specs.declared.line.Line.{Line}
+use Rattle.ppdb_maps.specs.declared.rule.Rule.{Rule}
+use Rattle.ppdb_maps.specs.declared.refusal.Refusal.{Refusal}
+use Rattle.ppdb_maps.specs.declared.refusal.Refusal.TheVariants.{Breaks as refused, Memory as no_memory}
+use Rattle.ppdb_maps.specs.declared.refusal.MapError.{MapError}
+use Rattle.ppdb_maps.specs.declared.refusal.MapError.TheVariants.{Line as refused_line, Memory as out_of_memory}
+use Rattle.ppdb_maps.proofs.Saying.{breaks_said}
+
+-- a run that a line says has an offset
+values_length : (form : Form) (values : List (List ℕ)) (line : Line) → Values form values line → HasLength line
+values_length form values line (rows_line a b) = tt
+values_length form values line (row_line a b d) = tt
+values_length form values line (method_line a b d) = tt
+values_length form values line (run_line a b d) = d.from
+values_length form values line (drop_line a) = tt
+values_length form values line (slots_line a) = tt
+values_length form values line (slot_line a b d) = tt
+
+pub tells_length : (version : ℕ) (text : List ℕ) (line : Line) → Tells version text line → HasLength line
+tells_length version text line (silent h) = tt
+tells_length version text line (told loud says) = values_length says.form says.has.values line says.values
+
+pub text_added : (version : ℕ) (before : List Line) (text : List ℕ) (line : Line) (result : Result (Unit {0}) Refusal) (new : Draft) → Tells version text line
+    → AddsLine before line result new → MatchResult result (λ _. TextAdded version before text new) (TextRefused version before text)
+text_added version before text line (Ok u) new tells adds =
+    record { line = line; tells = tells; keeps = λ rule broken. adds.1 rule (breaks_said version before text line rule tells broken); holds = adds.0 }
+text_added version before text line (Err (refused rule)) new tells adds =
+    record { broken = by_lines tells adds.0; least = λ other broken. adds.1 other (breaks_said version before text line other tells broken) }
+text_added version before text line (Err no_memory) new tells adds = tt
+
+-- what was read of a list of lines, when `rest` is left
+pub record SoFar (version : ℕ) (all rest : List (List ℕ)) (number : ℕ) (draft : Draft) : Type 0 where
+  pub front : List (List ℕ)
+  pub said : List Line
+  pub cut : all ≡ front ++ rest
+  pub read : Read version front said
+  pub holds : Holds said draft
+  pub at : number ≡ length front + 2
+
+pub so_far_start : (version : ℕ) (all : List (List ℕ)) (draft : Draft) → Holds [] draft → SoFar version all all 2 draft
+so_far_start version all draft holds = record { front = []; said = []; cut = refl; read = start; holds = holds; at = refl }
+
+-- the lines of a text that is not empty
+first_of : (text line rest : List ℕ) → 0 < length text → IsLineOf text line rest → lines text ≡ line ∷ lines rest
+first_of [] line rest some is = absurd (omega (arith, some))
+first_of (b ∷ bs) line rest some is = is.first
+
+-- what reading one more line answers
+abbrev pub Added : ℕ → List ℕ → Draft → Result (Unit {0}) Refusal → Draft → Type 0
+Added version text old result new = (before : List Line) → Holds before old → MatchResult result (λ _. TextAdded version before text new) (TextRefused version before text)
+
+added_ok : (version : ℕ) (before : List Line) (text : List ℕ) (new : Draft) (result : Result (Unit {0}) Refusal) (u : Unit {0}) → result ≡ Ok u
+    → MatchResult result (λ _. TextAdded version before text new) (TextRefused version before text) → TextAdded version before text new
+added_ok version before text new result u is h = subst (λ (r : Result (Unit {0}) Refusal). MatchResult r (λ _. TextAdded version before text new) (TextRefused version before text)) is h
+
+added_err : (version : ℕ) (before : List Line) (text : List ℕ) (new : Draft) (result : Result (Unit {0}) Refusal) (why : Refusal) → result ≡ Err why
+    → MatchResult result (λ _. TextAdded version before text new) (TextRefused version before text) → TextRefused version before text why
+added_err version before text new result why is h = subst (λ (r : Result (Unit {0}) Refusal). MatchResult r (λ _. TextAdded version before text new) (TextRefused version before text)) is h
+
+pub so_far_more : (version : ℕ) (all : List (List ℕ)) (rest line others : List ℕ) (number : ℕ) (old new : Draft) (result : Result (Unit {0}) Refusal) (u : Unit {0})
+    → SoFar version all (lines rest) number old → 0 < length rest → IsLineOf rest line others → Added version line old result new → result ≡ Ok u
+    → SoFar version all (lines others) (number + 1) new
+so_far_more version all rest line others number old new result u so some first added is =
+    let more = added_ok version so.said line new result u is (added so.said so.holds) in
+    let at = so.at in
+    record {
+      front = so.front ++ line ∷ [];
+      said = more.line ∷ so.said;
+      cut = so.cut ∙ (ap (λ (ls : List (List ℕ)). so.front ++ ls) (first_of rest line others some first) ∙ sym (append_assoc so.front (line ∷ []) (lines others)));
+      read = further so.read more.tells more.keeps;
+      holds = more.holds;
+      at = let e = length-append so.front (line ∷ []) in omega (arith, at, e);
+    }
+
+pub so_far_refused : (version : ℕ) (all : List (List ℕ)) (rest line others : List ℕ) (number : ℕ) (old new : Draft) (result : Result (Unit {0}) Refusal) (why : Refusal) (e : MapError)
+    → SoFar version all (lines rest) number old → 0 < length rest → IsLineOf rest line others → Added version line old result new → result ≡ Err why → IsAt number why e
+    → RefusedIn version all e
+so_far_refused version all rest line others number old new result why e so some first added is at =
+    of why e (added_err version so.said line new result why is (added so.said so.holds)) at
+  where
+    of : (why : Refusal) (e : MapError) → TextRefused version so.said line why → IsAt number why e → RefusedIn version all e
+    of no_memory e refuses at = subst (λ (x : MapError). RefusedIn version all x) (sym at) tt
+    of (refused rule) e refuses at =
+        subst (λ (x : MapError). RefusedIn version all x) (sym at)
+        (record {
+          front = so.front;
+          text = line;
+          back = lines others;
+          before = so.said;
+          rule = rule;
+          cut = so.cut ∙ ap (λ (ls : List (List ℕ)). so.front ++ ls) (first_of rest line others some first);
+          read = so.read;
+          breaks = refuses;
+          at = so.at;
+          is = refl;
+        })
+
+pub whole : (version : ℕ) (all : List (List ℕ)) (rest : List ℕ) (number : ℕ) (draft : Draft) → rest ≡ [] → SoFar version all (lines rest) number draft → ReadWhole version all draft
+whole version all rest number draft empty so =
+    let e : so.front ≡ all = sym (so.cut ∙ (ap (λ (t : List ℕ). so.front ++ lines t) empty ∙ append-nil so.front)) in
+    record { said = so.said; read = subst (λ (ls : List (List ℕ)). Read version ls so.said) e so.read; holds = so.holds }
+
+-- the text's refused line
+pub refused_as : (text head rest : List ℕ) (version : ℕ) (e : MapError) → IsLineOf text head rest → IsHead head version → RefusedIn version (lines rest) e → RefusedAs text e
+refused_as text head rest version (refused_line line kind) first begins r =
+    subst (λ l. Refused text l kind) (sym r.at) (subst (λ k. Refused text (length r.front + 2) k) (sym r.is)
+    (at_line r.back (first.first ∙ ap (λ (ls : List (List ℕ)). head ∷ ls) r.cut) begins r.read r.breaks))
+refused_as text head rest version out_of_memory first begins r = tt
+
+pub head_refused : (text head rest : List ℕ) → IsLineOf text head rest → ((version : ℕ) → IsHead head version → ⊥) → Refused text 1 1
+head_refused text head rest first none = at_head first.first none

@@ -1,0 +1,231 @@
+-- A line of a form has its values; a line says one thing.
+use Rattle.std.proofs.Common.{zero, suc, inl, inr, ◌⊎◌, lit<, lit≤, ℕ, ◌≡◌, ◌<◌, ◌≤◌, ◌+◌, List, [], ◌∷◌, Option, Some, None, length, take, refl, sym, ap, ◌∙◌, subst, arith, rules}
+use Rattle.ppdb_base.specs.declared.offsets.Run.{Run}
+use Rattle.ppdb_maps.specs.Words.{IsSilent, line_words}
+use Rattle.ppdb_maps.specs.Forms.{name_of, words_in, since, HasForm, IsNumber, IsTable, ROWS, OFFSETS, SLOTS, Values, Says, Tells, rows_line, row_line, method_line, run_line, drop_line, slots_line, slot_line, silent, told}
+use Rattle.ppdb_maps.specs.declared.line.Form.{Form}
+use Rattle.ppdb_maps.specs.declared.line.Form.TheVariants.{TableRows, RowMove, MethodSizes, OffsetRun, MethodDrop, MethodSlots, SlotMove}
+use Rattle.ppdb_maps.specs.declared.line.Line.{Line}
+use Rattle.ppdb_maps.specs.declared.line.Line.TheVariants.{Silent, Rows, Row, Method, Kept, Dropped, Slots, Slot}
+use Rattle.std.specs.Prelude.{find, bytes_eq}
+use Rattle.std.proofs.lemmas.Bool.{cases_lt}
+use Rattle.std.proofs.lemmas.List.{length-take-le}
+use Rattle.ppdb_maps.specs.Cuts.{AreWordsOf}
+use Rattle.ppdb_maps.specs.Reading.{FitsForm, values_of}
+use Rattle.ppdb_maps.specs.Rules.{kind_of, Breaks, BreaksLine, BreaksFirst, no_form, no_value, by_lines, second_rows, second_row, second_method, second_drop, second_slots, second_slot, row_alone, slot_alone, run_alone, run_early, run_long, drop_named, dropped_method, dropped_row, dropped_slots}
+use Rattle.ppdb_maps.specs.declared.rule.Rule.{Rule}
+use Rattle.ppdb_maps.specs.declared.rule.Rule.TheVariants.{FirstLine, UnknownForm, BadNumber, Repeated, Undeclared, NoMethod, Overlap, Beyond, NamesDropped}
+use Rattle.ppdb_maps.specs.declared.words.Words.{Words}
+use Rattle.ppdb_maps.proofs.Numbers.{one_number, one_table}
+
+pub rows_values : (a b : List ℕ) (line : Line) → Values TableRows (a ∷ b ∷ []) line → ((t : ℕ) × IsTable a t) × ((n : ℕ) × IsNumber b 0 ROWS n)
+rows_values a b line (rows_line t n) = ((_, t), (_, n))
+
+pub row_values : (a b d : List ℕ) (line : Line) → Values RowMove (a ∷ b ∷ d ∷ []) line
+    → ((t : ℕ) × IsTable a t) × ((n : ℕ) × IsNumber b 1 ROWS n) × ((n : ℕ) × IsNumber d 1 ROWS n)
+row_values a b d line (row_line t o n) = ((_, t), (_, o), (_, n))
+
+pub method_values : (a b d : List ℕ) (line : Line) → Values MethodSizes (a ∷ b ∷ d ∷ []) line
+    → ((n : ℕ) × IsNumber a 1 ROWS n) × ((n : ℕ) × IsNumber b 0 OFFSETS n) × ((n : ℕ) × IsNumber d 0 OFFSETS n)
+method_values a b d line (method_line m o n) = ((_, m), (_, o), (_, n))
+
+pub run_values : (a b d : List ℕ) (line : Line) → Values OffsetRun (a ∷ b ∷ d ∷ []) line
+    → ((n : ℕ) × IsNumber a 0 OFFSETS n) × ((n : ℕ) × IsNumber b 0 OFFSETS n) × ((n : ℕ) × IsNumber d 1 OFFSETS n)
+run_values a b d line (run_line o n l) = ((_, o), (_, n), (_, l))
+
+pub drop_values : (a : List ℕ) (line : Line) → Values MethodDrop (a ∷ []) line → (n : ℕ) × IsNumber a 1 ROWS n
+drop_values a line (drop_line m) = (_, m)
+
+pub slots_values : (a : List ℕ) (line : Line) → Values MethodSlots (a ∷ []) line → (n : ℕ) × IsNumber a 1 ROWS n
+slots_values a line (slots_line m) = (_, m)
+
+pub slot_values : (a b d : List ℕ) (line : Line) → Values SlotMove (a ∷ b ∷ d ∷ []) line
+    → ((n : ℕ) × IsNumber a 1 ROWS n) × ((n : ℕ) × IsNumber b 0 SLOTS n) × ((n : ℕ) × IsNumber d 0 SLOTS n)
+slot_values a b d line (slot_line m o n) = ((_, m), (_, o), (_, n))
+
+same_run : (r s : Run) → r.old ≡ s.old → r.new ≡ s.new → r.length ≡ s.length → r ≡ s
+same_run r s old new long =
+    let make : ℕ → ℕ → ℕ → Run = λ a b d. record { old = a; new = b; length = d } in
+    ap (λ a. make a r.new r.length) old ∙ (ap (λ b. make s.old b r.length) new ∙ ap (λ d. make s.old s.new d) long)
+
+-- a line of a form says one thing
+one_of_form : (form : Form) (values : List (List ℕ)) (x y : Line) → Values form values x → Values form values y → x ≡ y
+one_of_form form values x y (rows_line {table = t} {rows = n} a b) (rows_line {table = t2} {rows = n2} a2 b2) =
+    let table = one_table _ t t2 a a2 in
+    let rows = one_number _ _ _ n n2 (lit< tt) b b2 in
+    cc
+one_of_form form values x y (row_line {table = t} {old = o} {new = n} a b d) (row_line {table = t2} {old = o2} {new = n2} a2 b2 d2) =
+    let table = one_table _ t t2 a a2 in
+    let old = one_number _ _ _ o o2 (lit< tt) b b2 in
+    let new = one_number _ _ _ n n2 (lit< tt) d d2 in
+    cc
+one_of_form form values x y (method_line {method = m} {old_size = o} {new_size = n} a b d) (method_line {method = m2} {old_size = o2} {new_size = n2} a2 b2 d2) =
+    let method = one_number _ _ _ m m2 (lit< tt) a a2 in
+    let old = one_number _ _ _ o o2 (lit< tt) b b2 in
+    let new = one_number _ _ _ n n2 (lit< tt) d d2 in
+    cc
+one_of_form form values x y (run_line {run = r} a b d) (run_line {run = s} a2 b2 d2) =
+    let old = one_number _ _ _ r.old s.old (lit< tt) a a2 in
+    let new = one_number _ _ _ r.new s.new (lit< tt) b b2 in
+    let long = one_number _ _ _ r.length s.length (lit< tt) d d2 in
+    ap Kept (same_run r s old new long)
+one_of_form form values x y (drop_line {method = m} a) (drop_line {method = m2} a2) = let method = one_number _ _ _ m m2 (lit< tt) a a2 in cc
+one_of_form form values x y (slots_line {method = m} a) (slots_line {method = m2} a2) = let method = one_number _ _ _ m m2 (lit< tt) a a2 in cc
+one_of_form form values x y (slot_line {method = m} {old = o} {new = n} a b d) (slot_line {method = m2} {old = o2} {new = n2} a2 b2 d2) =
+    let method = one_number _ _ _ m m2 (lit< tt) a a2 in
+    let old = one_number _ _ _ o o2 (lit< tt) b b2 in
+    let new = one_number _ _ _ n n2 (lit< tt) d d2 in
+    cc
+
+-- the form that has the name
+abbrev form_named : List ℕ → Option Form
+form_named name = find (λ form. bytes_eq (name_of form) name) (TableRows ∷ RowMove ∷ MethodSizes ∷ OffsetRun ∷ MethodDrop ∷ MethodSlots ∷ SlotMove ∷ [])
+
+named_itself : (form : Form) → form_named (name_of form) ≡ Some form
+named_itself TableRows = refl
+named_itself RowMove = refl
+named_itself MethodSizes = refl
+named_itself OffsetRun = refl
+named_itself MethodDrop = refl
+named_itself MethodSlots = refl
+named_itself SlotMove = refl
+
+-- forms have different first words
+one_form : (x y : Form) → name_of x ≡ name_of y → x ≡ y
+one_form x y same = let e : Some x ≡ Some y = sym (named_itself x) ∙ (ap form_named same ∙ named_itself y) in cc
+
+-- all forms have two to four words
+few_words : (form : Form) → (2 ≤ words_in form) × (words_in form ≤ 4)
+few_words TableRows = (lit≤ tt, lit≤ tt)
+few_words RowMove = (lit≤ tt, lit≤ tt)
+few_words MethodSizes = (lit≤ tt, lit≤ tt)
+few_words OffsetRun = (lit≤ tt, lit≤ tt)
+few_words MethodDrop = (lit≤ tt, lit≤ tt)
+few_words MethodSlots = (lit≤ tt, lit≤ tt)
+few_words SlotMove = (lit≤ tt, lit≤ tt)
+
+count_fits : (n : ℕ) (name a b d : List ℕ) (words : List (List ℕ)) (version : ℕ) (form : Form)
+    → (n ≤ 4 → words ≡ take n (name ∷ a ∷ b ∷ d ∷ [])) → (4 < n → 4 < length words) → HasForm version words form
+    → (name ≡ name_of form) × (n ≡ words_in form)
+count_fits n name a b d words version form few many has = elim (cases_lt 4 n) [
+  | inl more ↦ absurd (let h = many more in let k = (few_words form).1 in let e = has.counted in omega (arith, h, k, e))
+  | inr le ↦ at_most n le (few le)
+]
+  where
+    at_most : (n : ℕ) → n ≤ 4 → words ≡ take n (name ∷ a ∷ b ∷ d ∷ []) → (name ≡ name_of form) × (n ≡ words_in form)
+    at_most n le is =
+        let count : length words ≡ n = ap length is ∙ length-take-le n (name ∷ a ∷ b ∷ d ∷ []) le in
+        let e = has.counted in
+        let k = (few_words form).0 in
+        let same : n ≡ words_in form = omega (arith, count, e) in
+        (head_of n is (omega (arith, k, same)), same)
+      where
+        head_of : (n : ℕ) → words ≡ take n (name ∷ a ∷ b ∷ d ∷ []) → 2 ≤ n → name ≡ name_of form
+        head_of zero is some = absurd (omega (arith, some))
+        head_of (suc n) is some = let h = has.named in cc
+
+-- the words that were read have each form that the line has
+pub fits_form : (line : List ℕ) (words : Words) (version : ℕ) (form : Form) → AreWordsOf line words → HasForm version (line_words line) form → FitsForm version words form
+fits_form line words version form are has =
+    let h = count_fits words.count words.name.now words.first.now words.second.now words.third.now (line_words line) version form are.few are.many has in
+    record { named = h.0; counted = h.1; there = has.there }
+
+-- the other way round, with the values that were read
+pub has_form : (line : List ℕ) (words : Words) (version : ℕ) (form : Form) → AreWordsOf line words → FitsForm version words form
+    → (line_words line ≡ name_of form ∷ values_of form words) × (length (line_words line) ≡ words_in form)
+has_form line words version form are fits =
+    let le : words.count ≤ 4 = let k = (few_words form).1 in let e = fits.counted in omega (arith, k, e) in
+    let is : line_words line ≡ take (words_in form) (words.name.now ∷ words.first.now ∷ words.second.now ∷ words.third.now ∷ []) =
+    are.few le ∙ ap (λ n. take n (words.name.now ∷ words.first.now ∷ words.second.now ∷ words.third.now ∷ [])) fits.counted in
+    let names : line_words line ≡ name_of form ∷ values_of form words = is ∙ (taken form ∙ ap (λ n. n ∷ values_of form words) fits.named) in
+    (names, ap length is ∙ long form)
+  where
+    taken : (form : Form) → take (words_in form) (words.name.now ∷ words.first.now ∷ words.second.now ∷ words.third.now ∷ []) ≡ words.name.now ∷ values_of form words
+    taken TableRows = refl
+    taken RowMove = refl
+    taken MethodSizes = refl
+    taken OffsetRun = refl
+    taken MethodDrop = refl
+    taken MethodSlots = refl
+    taken SlotMove = refl
+
+    long : (form : Form) → length (take (words_in form) (words.name.now ∷ words.first.now ∷ words.second.now ∷ words.third.now ∷ [])) ≡ words_in form
+    long form = length-take-le (words_in form) (words.name.now ∷ words.first.now ∷ words.second.now ∷ words.third.now ∷ []) (few_words form).1
+
+-- the form as the definition of lines has it
+abbrev form_there : (line : List ℕ) (words : Words) (version : ℕ) (form : Form) → AreWordsOf line words → FitsForm version words form → HasForm version (line_words line) form
+form_there line words version form are fits =
+    let h = has_form line words version form are fits in
+    record { values = values_of form words; named = h.0; counted = h.1; there = fits.there }
+
+-- values that were read are what the line says
+pub tells_form : (line : List ℕ) (words : Words) (version : ℕ) (form : Form) (says : Line) → (IsSilent line → ⊥) → AreWordsOf line words → FitsForm version words form
+    → Values form (values_of form words) says → Tells version line says
+tells_form line words version form says loud are fits values = told loud (record { form = form; has = form_there line words version form are fits; values = values })
+
+-- the rules on what lines say have the numbers from 4 on
+pub from_four : (before : List Line) (rule : Rule) (line : Line) → Breaks before rule line → 4 ≤ kind_of rule
+from_four before rule line (second_rows h) = lit≤ tt
+from_four before rule line (second_row h) = lit≤ tt
+from_four before rule line (second_method h) = lit≤ tt
+from_four before rule line (second_drop h) = lit≤ tt
+from_four before rule line (second_slots h) = lit≤ tt
+from_four before rule line (second_slot h) = lit≤ tt
+from_four before rule line (row_alone h) = lit≤ tt
+from_four before rule line (slot_alone h) = lit≤ tt
+from_four before rule line (run_alone h) = lit≤ tt
+from_four before rule line (run_early h k) = lit≤ tt
+from_four before rule line (run_long h k) = lit≤ tt
+from_four before rule line (drop_named h) = lit≤ tt
+from_four before rule line (dropped_method h) = lit≤ tt
+from_four before rule line (dropped_row h k) = lit≤ tt
+from_four before rule line (dropped_slots h) = lit≤ tt
+
+-- a line without a form
+pub breaks_form : (line : List ℕ) (words : Words) (version : ℕ) (before : List Line) → (IsSilent line → ⊥) → AreWordsOf line words
+    → ((form : Form) → FitsForm version words form → ⊥) → BreaksFirst version before line UnknownForm
+breaks_form line words version before loud are none =
+    record { broken = no_form loud (λ form has. none form (fits_form line words version form are has)); least = λ other broken. least other broken }
+  where
+    least : (other : Rule) → BreaksLine version before line other → 2 ≤ kind_of other
+    least other (no_form h k) = lit≤ tt
+    least other (no_value h k m) = lit≤ tt
+    least other (by_lines {line = says} tells breaks) = let h = from_four before other says breaks in omega (arith, h)
+
+-- a line of a form with a value that is misspelled or out of its range
+pub breaks_value : (line : List ℕ) (words : Words) (version : ℕ) (form : Form) (before : List Line) → (IsSilent line → ⊥) → AreWordsOf line words → FitsForm version words form
+    → ((says : Line) → Values form (values_of form words) says → ⊥) → BreaksFirst version before line BadNumber
+breaks_value line words version form before loud are fits none =
+    let has = form_there line words version form are fits in
+    record { broken = no_value loud has none; least = λ other broken. least has other broken }
+  where
+    least : HasForm version (line_words line) form → (other : Rule) → BreaksLine version before line other → 3 ≤ kind_of other
+    least has other (no_form h k) = absurd (k form has)
+    least has other (no_value h k m) = lit≤ tt
+    least has other (by_lines {line = says} tells breaks) = let h = from_four before other says breaks in omega (arith, h)
+
+-- what one text says is one thing
+pub one_said : (version : ℕ) (text : List ℕ) (x y : Line) → Tells version text x → Tells version text y → x ≡ y
+one_said version text x y (silent a) (silent b) = refl
+one_said version text x y (silent a) (told loud b) = absurd (loud a)
+one_said version text x y (told loud a) (silent b) = absurd (loud b)
+one_said version text x y (told loud a) (told loud2 b) =
+    let words : name_of a.form ∷ a.has.values ≡ name_of b.form ∷ b.has.values = sym a.has.named ∙ b.has.named in
+    let names : name_of a.form ≡ name_of b.form = cc in
+    let values : b.has.values ≡ a.has.values = cc in
+    let form : b.form ≡ a.form = one_form b.form a.form (sym names) in
+    one_of_form a.form a.has.values x y a.values (subst (λ (f : Form). Values f a.has.values y) form (subst (λ v. Values b.form v y) values b.values))
+
+-- a line that says something breaks rules by what it says
+pub breaks_said : (version : ℕ) (before : List Line) (text : List ℕ) (says : Line) (rule : Rule) → Tells version text says → BreaksLine version before text rule → Breaks before rule says
+breaks_said version before text says rule (silent a) (no_form loud none) = absurd (loud a)
+breaks_said version before text says rule (told loud a) (no_form loud2 none) = absurd (none a.form a.has)
+breaks_said version before text says rule (silent a) (no_value loud has none) = absurd (loud a)
+breaks_said version before text says rule (told loud a) (no_value {form = form} loud2 has none) =
+    let words : name_of a.form ∷ a.has.values ≡ name_of form ∷ has.values = sym a.has.named ∙ has.named in
+    let names : name_of a.form ≡ name_of form = cc in
+    let values : a.has.values ≡ has.values = cc in
+    let same : a.form ≡ form = one_form a.form form names in
+    absurd (none says (subst (λ (f : Form). Values f has.values says) same (subst (λ v. Values a.form v says) values a.values)))
+breaks_said version before text says rule tells (by_lines {line = other} tells2 breaks) =
+    subst (λ l. Breaks before rule l) (one_said version text other says tells2 tells) breaks

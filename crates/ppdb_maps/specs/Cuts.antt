@@ -1,0 +1,15 @@
+-- The first line of a text and the words of a line, as slices.
+use Rattle.std.specs.Prelude.{◌≡◌, ℕ, ◌<◌, ◌≤◌, List, [], ◌∷◌, length, take}
+use Rattle.std.specs.Str.Lines.{lines}
+use Rattle.ppdb_maps.specs.Words.{text_lines, line_words}
+use Rattle.ppdb_maps.specs.declared.words.Words.{Words}
+
+-- the text's first line, and what stands after it
+pub record IsLineOf (text line rest : List ℕ) : Type 0 where
+  pub first : text_lines text ≡ line ∷ lines rest
+  pub shorter : 0 < length text → length rest < length text
+
+-- all words where there are at most four
+pub record AreWordsOf (line : List ℕ) (words : Words) : Type 0 where
+  pub few : words.count ≤ 4 → line_words line ≡ take words.count (words.name.now ∷ words.first.now ∷ words.second.now ∷ words.third.now ∷ [])
+  pub many : 4 < words.count → 4 < length (line_words line)

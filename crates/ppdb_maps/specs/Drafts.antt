@@ -1,0 +1,71 @@
+-- What a draft holds of the lines read so far, of which the last one stands first.
+use Rattle.std.specs.Prelude.{◌≡◌, ℕ, ◌<◌, ◌≤◌, ◌⊎◌, ◌↔◌, ◌++◌, Bool, true, false, List, [], ◌∷◌, Option, Some, None, Result, MatchResult, IsSome, IsTrue, find, nat_eq}
+use Rattle.std.specs.Ordering.{nat_cmp}
+use Rattle.std.specs.BTreeMap as tree
+use Rattle.std.specs.BTreeSet as sorted
+use Rattle.std.specs.BTreeMap.{BTreeMap}
+use Rattle.ppdb_base.specs.declared.offsets.Run.{Run}
+use Rattle.ppdb_maps.specs.Map.{MethodLine, pair_cmp}
+use Rattle.ppdb_maps.specs.Before.{count_in, row_in, method_in, methods_of, drop_in, slots_in, slot_in, follows_method}
+use Rattle.ppdb_maps.specs.Rules.{Breaks, kind_of}
+use Rattle.ppdb_maps.specs.declared.draft.Draft.{Draft}
+use Rattle.ppdb_maps.specs.declared.refusal.Refusal.{Refusal}
+use Rattle.ppdb_maps.specs.declared.refusal.Refusal.TheVariants.{Breaks as refused, Memory}
+use Rattle.ppdb_maps.specs.declared.line.Line.{Line}
+use Rattle.ppdb_maps.specs.declared.line.Line.TheVariants.{Silent, Rows, Row, Method, Kept, Dropped, Slots, Slot}
+use Rattle.ppdb_maps.specs.declared.rule.Rule.{Rule}
+
+-- all but the methods
+pub record HoldsOthers (before : List Line) (draft : Draft) : Type 0 where
+  pub counts : (table : ℕ) → tree.get nat_cmp draft.counts table ≡ count_in before table
+  pub rows : (table old : ℕ) → tree.get pair_cmp draft.rows (table, old) ≡ row_in before table old
+  pub drops : (method : ℕ) → sorted.contains nat_cmp draft.drops method ≡ drop_in before method
+  pub slotted : (method : ℕ) → sorted.contains nat_cmp draft.slotted method ≡ slots_in before method
+  pub slots : (method old : ℕ) → tree.get pair_cmp draft.slots (method, old) ≡ slot_in before method old
+
+-- the map has these method lines
+abbrev pub HasLines : List MethodLine → Draft → Type 0
+HasLines lines draft = (method : ℕ) → tree.get nat_cmp draft.methods method ≡ find (λ l. nat_eq l.method method) lines
+
+-- all methods are in the map, or all but the last one, which a `run` may follow
+abbrev pub HoldsMethods : List Line → Option MethodLine → Draft → Type 0
+HoldsMethods before None draft = HasLines (methods_of before) draft × (follows_method before ≡ false)
+HoldsMethods before (Some line) draft =
+    (lines : List MethodLine) × (methods_of before ≡ line ∷ lines) × HasLines lines draft × (follows_method before ≡ true)
+
+-- the draft holds what the lines say
+pub record Holds (before : List Line) (draft : Draft) : Type 0 where
+  pub others : HoldsOthers before draft
+  pub methods : HoldsMethods before draft.current draft
+
+-- the same, and no method is open
+pub record IsClosed (before : List Line) (draft : Draft) : Type 0 where
+  pub others : HoldsOthers before draft
+  pub methods : HasLines (methods_of before) draft
+  pub closed : draft.current ≡ None
+
+-- it breaks this rule, and none with a lesser number
+abbrev pub RefusedBy : List Line → Line → Refusal → Type 0
+RefusedBy before line (refused rule) = Breaks before rule line × ((other : Rule) → Breaks before other line → kind_of rule ≤ kind_of other)
+RefusedBy before line Memory = Unit {0}
+
+-- it breaks none, and the draft holds it too; or it is refused
+abbrev pub AddsLine : List Line → Line → Result (Unit {0}) Refusal → Draft → Type 0
+AddsLine before line result new =
+    MatchResult result (λ _. Holds (line ∷ before) new × ((rule : Rule) → Breaks before rule line → ⊥)) (RefusedBy before line)
+
+-- the line is added to a draft without an open method, or to any
+abbrev pub IsAdded : Line → Draft → Result (Unit {0}) Refusal → Draft → Type 0
+IsAdded line old result new = (before : List Line) → IsClosed before old → AddsLine before line result new
+
+abbrev pub IsAddedTo : Line → Draft → Result (Unit {0}) Refusal → Draft → Type 0
+IsAddedTo line old result new = (before : List Line) → Holds before old → AddsLine before line result new
+
+-- whether the method has a line that no `drop` may follow
+abbrev pub IsNamedIn : List Line → ℕ → Bool → Type 0
+IsNamedIn before method result = IsTrue result ↔ (IsSome (method_in before method) ⊎ IsSome (row_in before 0x06 method) ⊎ IsTrue (slots_in before method))
+
+-- a run has an offset
+abbrev pub HasLength : Line → Type 0
+HasLength (Kept run) = 0 < run.length
+HasLength _ = Unit {0}

@@ -1,0 +1,108 @@
+-- The forms of a map text's lines, and what a line of each form says (docs/FORMAT.md, "Map texts").
+use Rattle.std.specs.Prelude.{◌≡◌, ℕ, ◌+◌, ◌*◌, ◌<◌, ◌≤◌, ◌⊎◌, ◌++◌, List, [], ◌∷◌, codes, length}
+use Rattle.std.specs.Fmt.{decimal}
+use Rattle.ppdb_base.specs.declared.offsets.Run.{Run}
+use Rattle.ppdb_maps.specs.Words.{IsSilent, line_words}
+use Rattle.ppdb_maps.specs.declared.line.Form.{Form}
+use Rattle.ppdb_maps.specs.declared.line.Form.TheVariants.{TableRows, RowMove, MethodSizes, OffsetRun, MethodDrop, MethodSlots, SlotMove}
+use Rattle.ppdb_maps.specs.declared.line.Line.{Line}
+use Rattle.ppdb_maps.specs.declared.line.Line.TheVariants.{Silent, Rows, Row, Method, Kept, Dropped, Slots, Slot}
+
+-- line 1 of a text of the version: 48 is the digit 0
+pub record IsHead (line : List ℕ) (version : ℕ) : Type 0 where
+  pub from : 1 ≤ version
+  pub to : version ≤ 3
+  pub spelled : line ≡ codes "ppdbmap " ++ (48 + version) ∷ []
+
+-- the first word of a form
+abbrev pub name_of : Form → List ℕ
+name_of TableRows = codes "rows"
+name_of RowMove = codes "row"
+name_of MethodSizes = codes "method"
+name_of OffsetRun = codes "run"
+name_of MethodDrop = codes "drop"
+name_of MethodSlots = codes "slots"
+name_of SlotMove = codes "slot"
+
+-- its number of words, the first one among them
+abbrev pub words_in : Form → ℕ
+words_in TableRows = 3
+words_in RowMove = 4
+words_in MethodSizes = 4
+words_in OffsetRun = 4
+words_in MethodDrop = 2
+words_in MethodSlots = 2
+words_in SlotMove = 4
+
+-- the version from which on texts have it
+abbrev pub since : Form → ℕ
+since TableRows = 1
+since RowMove = 1
+since MethodSizes = 1
+since OffsetRun = 1
+since MethodDrop = 2
+since MethodSlots = 3
+since SlotMove = 3
+
+-- the words are those of a form of the version, whatever its values
+pub record HasForm (version : ℕ) (words : List (List ℕ)) (form : Form) : Type 0 where
+  pub values : List (List ℕ)
+  pub named : words ≡ name_of form ∷ values
+  pub counted : length words ≡ words_in form
+  pub there : since form ≤ version
+
+-- a decimal number without sign and leading zeros, from least to most
+pub record IsNumber (word : List ℕ) (least most n : ℕ) : Type 0 where
+  pub spelled : word ≡ decimal n
+  pub from : least ≤ n
+  pub to : n ≤ most
+
+-- a hexadecimal digit in either case: 0 is 48, a is 97, A is 65
+abbrev pub IsHexDigit : ℕ → ℕ → Type 0
+IsHexDigit c d = ((d < 10) × (c ≡ 48 + d)) ⊎ ((10 ≤ d) × (d < 16) × ((c ≡ 87 + d) ⊎ (c ≡ 55 + d)))
+
+-- two hexadecimal digits, 00 to 2c
+pub record IsTable (word : List ℕ) (table : ℕ) : Type 0 where
+  pub high : ℕ
+  pub low : ℕ
+  pub c : ℕ
+  pub d : ℕ
+  pub spelled : word ≡ c ∷ d ∷ []
+  pub digits : IsHexDigit c high × IsHexDigit d low
+  pub is : table ≡ high * 16 + low
+  pub known : table ≤ 0x2c
+
+abbrev pub ROWS : ℕ
+ROWS = 16777215
+
+abbrev pub OFFSETS : ℕ
+OFFSETS = 2147483647
+
+abbrev pub SLOTS : ℕ
+SLOTS = 65535
+
+-- what the values after the first word say, each in its range
+pub data Values : Form → List (List ℕ) → Line → Type 0 where
+  rows_line : {t n : List ℕ} {table rows : ℕ} → IsTable t table → IsNumber n 0 ROWS rows
+      → Values TableRows (t ∷ n ∷ []) (Rows table rows)
+  row_line : {t o n : List ℕ} {table old new : ℕ} → IsTable t table → IsNumber o 1 ROWS old → IsNumber n 1 ROWS new
+      → Values RowMove (t ∷ o ∷ n ∷ []) (Row table old new)
+  method_line : {m o n : List ℕ} {method old_size new_size : ℕ} → IsNumber m 1 ROWS method
+      → IsNumber o 0 OFFSETS old_size → IsNumber n 0 OFFSETS new_size → Values MethodSizes (m ∷ o ∷ n ∷ []) (Method method old_size new_size)
+  run_line : {o n l : List ℕ} {run : Run} → IsNumber o 0 OFFSETS run.old → IsNumber n 0 OFFSETS run.new
+      → IsNumber l 1 OFFSETS run.length → Values OffsetRun (o ∷ n ∷ l ∷ []) (Kept run)
+  drop_line : {m : List ℕ} {method : ℕ} → IsNumber m 1 ROWS method → Values MethodDrop (m ∷ []) (Dropped method)
+  slots_line : {m : List ℕ} {method : ℕ} → IsNumber m 1 ROWS method → Values MethodSlots (m ∷ []) (Slots method)
+  slot_line : {m o n : List ℕ} {method old new : ℕ} → IsNumber m 1 ROWS method → IsNumber o 0 SLOTS old
+      → IsNumber n 0 SLOTS new → Values SlotMove (m ∷ o ∷ n ∷ []) (Slot method old new)
+
+-- the words say this: they are those of a form of the version, and their values are in range
+pub record Says (version : ℕ) (words : List (List ℕ)) (line : Line) : Type 0 where
+  pub form : Form
+  pub has : HasForm version words form
+  pub values : Values form has.values line
+
+-- what a line after the first says
+pub data Tells (version : ℕ) (text : List ℕ) : Line → Type 0 where
+  silent : IsSilent text → Tells version text Silent
+  told : {line : Line} → (IsSilent text → ⊥) → Says version (line_words text) line → Tells version text line

@@ -1,0 +1,15 @@
+pub mod Says
+pub mod Runs
+pub mod Map
+pub mod Words
+pub mod Forms
+pub mod Before
+pub mod Rules
+pub mod Text
+pub mod Cuts
+pub mod Reading
+pub mod Loops
+pub mod Gathered
+pub mod Search
+pub mod Drafts
+pub mod Spelling

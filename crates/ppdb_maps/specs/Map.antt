@@ -1,0 +1,98 @@
+-- What a map says: one entry for each of its lines that says something, and the questions that are asked of it.
+use Rattle.std.specs.Prelude.{◌≡◌, ℕ, ◌+◌, ◌<◌, ◌&&◌, Bool, true, false, cond, nat_eq, List, [], ◌∷◌, Option, Some, None, unwrap_or, filter, map}
+use Rattle.std.specs.List.{find, list_any}
+use Rattle.std.specs.List.Sorted.{IsStrictlySortedBy}
+use Rattle.std.specs.Option.{option_map}
+use Rattle.std.specs.Ordering.{nat_cmp, ordering_then}
+use Rattle.std.specs.declared.cmp.Ordering.{Ordering}
+use Rattle.ppdb_base.specs.declared.offsets.Run.{Run}
+use Rattle.ppdb_base.specs.Offsets.{Offsets, every, gone, lined}
+use Rattle.ppdb_maps.specs.declared.entries.Count.{Count}
+use Rattle.ppdb_maps.specs.declared.entries.RowImage.{RowImage}
+use Rattle.ppdb_maps.specs.declared.entries.SlotImage.{SlotImage}
+
+-- a method's IL sizes and the runs of its kept offsets
+pub record MethodLine : Type 0 where
+  pub method : ℕ
+  pub old_size : ℕ
+  pub new_size : ℕ
+  pub runs : List Run
+
+-- a map
+pub record Map : Type 0 where
+  pub counts : List Count
+  pub rows : List RowImage
+  pub methods : List MethodLine
+  pub drops : List ℕ
+  pub slotted : List ℕ
+  pub slots : List SlotImage
+
+-- by the first number, and by the second where the first are equal
+abbrev pub pair_cmp : ℕ × ℕ → ℕ × ℕ → Ordering
+pair_cmp x y = ordering_then (nat_cmp x.0 y.0) (nat_cmp x.1 y.1)
+
+-- each list strictly ascends by what it is asked for
+pub record Ascends (said : Map) : Type 0 where
+  pub counts : IsStrictlySortedBy nat_cmp (map (λ (c : Count). c.table) said.counts)
+  pub rows : IsStrictlySortedBy pair_cmp (map (λ (r : RowImage). (r.table, r.old)) said.rows)
+  pub methods : IsStrictlySortedBy nat_cmp (map (λ (m : MethodLine). m.method) said.methods)
+  pub drops : IsStrictlySortedBy nat_cmp said.drops
+  pub slotted : IsStrictlySortedBy nat_cmp said.slotted
+  pub slots : IsStrictlySortedBy pair_cmp (map (λ (s : SlotImage). (s.method, s.old)) said.slots)
+
+-- the count of the table's `rows` line
+abbrev pub count_of : Map → ℕ → Option ℕ
+count_of said table = option_map (λ (c : Count). c.rows) (find (λ c. nat_eq c.table table) said.counts)
+
+-- the NEW of the row's line
+abbrev pub row_line : Map → ℕ → ℕ → Option ℕ
+row_line said table old = option_map (λ (r : RowImage). r.new) (find (λ r. nat_eq r.table table && nat_eq r.old old) said.rows)
+
+-- the method's line with its runs
+abbrev pub method_line : Map → ℕ → Option MethodLine
+method_line said method = find (λ l. nat_eq l.method method) said.methods
+
+abbrev pub is_dropped : Map → ℕ → Bool
+is_dropped said method = list_any (nat_eq method) said.drops
+
+-- the method has a `slots` line
+abbrev pub has_slots : Map → ℕ → Bool
+has_slots said method = list_any (nat_eq method) said.slotted
+
+-- the NEW of the slot's line
+abbrev pub slot_line : Map → ℕ → ℕ → Option ℕ
+slot_line said method old = option_map (λ (s : SlotImage). s.new) (find (λ s. nat_eq s.method method && nat_eq s.old old) said.slots)
+
+-- the image of a row: none for a dropped method; the row itself where the table has no `rows` line; else that of its line
+abbrev pub row_image : Map → ℕ → ℕ → Option ℕ
+row_image said table old =
+    cond (nat_eq table 0x06 && is_dropped said old) None
+    (elim (count_of said table) as (λ _. Option ℕ) [ None ↦ Some old | Some count ↦ row_line said table old ])
+
+-- the same of a number that may be 0 for no row, and 0 where there is none
+abbrev pub moved_row : Map → ℕ → ℕ → ℕ
+moved_row said table old = cond (nat_eq old 0) 0 (unwrap_or (row_image said table old) 0)
+
+-- the runs and the sizes of a line, or that there is none
+abbrev pub line_offsets : Option MethodLine → Offsets
+line_offsets None = every
+line_offsets (Some line) = lined line.runs line.old_size line.new_size
+
+-- what the map says of a method's offsets
+abbrev pub offsets_in : Map → ℕ → Offsets
+offsets_in said method = cond (is_dropped said method) gone (line_offsets (method_line said method))
+
+-- the image of a slot: the slot itself where the method has no `slots` line, else that of its line
+abbrev pub slot_image : Map → ℕ → ℕ → Option ℕ
+slot_image said method old = cond (has_slots said method) (slot_line said method old) (Some old)
+
+-- the rows of the table in the output
+abbrev pub output_count : Map → ℕ → ℕ → ℕ
+output_count said table rows = unwrap_or (count_of said table) rows
+
+-- the `row` lines of a table, and the `slot` lines of a method
+abbrev pub rows_of : Map → ℕ → List RowImage
+rows_of said table = filter (λ r. nat_eq r.table table) said.rows
+
+abbrev pub slots_of : Map → ℕ → List SlotImage
+slots_of said method = filter (λ s. nat_eq s.method method) said.slots

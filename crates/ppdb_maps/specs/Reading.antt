@@ -1,0 +1,40 @@
+-- What the readers of a line answer.
+use Rattle.std.specs.Prelude.{◌≡◌, ℕ, ◌<◌, ◌≤◌, List, [], ◌∷◌, Option, Some, None, Result, MatchOption, MatchResult}
+use Rattle.ppdb_maps.specs.Forms.{name_of, words_in, since, Values, Tells}
+use Rattle.ppdb_maps.specs.Rules.{BreaksFirst}
+use Rattle.ppdb_maps.specs.declared.words.Words.{Words}
+use Rattle.ppdb_maps.specs.declared.line.Form.{Form}
+use Rattle.ppdb_maps.specs.declared.line.Form.TheVariants.{TableRows, RowMove, MethodSizes, OffsetRun, MethodDrop, MethodSlots, SlotMove}
+use Rattle.ppdb_maps.specs.declared.line.Line.{Line}
+use Rattle.ppdb_maps.specs.declared.rule.Rule.{Rule}
+
+-- the form whose first word this is
+abbrev pub IsNamed : List ℕ → Option Form → Type 0
+IsNamed word result = MatchOption result ((form : Form) → word ≡ name_of form → ⊥) (λ form. word ≡ name_of form)
+
+-- the words that were read are those of a form of the version
+pub record FitsForm (version : ℕ) (words : Words) (form : Form) : Type 0 where
+  pub named : words.name.now ≡ name_of form
+  pub counted : words.count ≡ words_in form
+  pub there : since form ≤ version
+
+abbrev pub IsFormOf : ℕ → Words → Option Form → Type 0
+IsFormOf version words result = MatchOption result ((form : Form) → FitsForm version words form → ⊥) (FitsForm version words)
+
+-- as many values as the form has
+abbrev pub values_of : Form → Words → List (List ℕ)
+values_of TableRows words = words.first.now ∷ words.second.now ∷ []
+values_of RowMove words = words.first.now ∷ words.second.now ∷ words.third.now ∷ []
+values_of MethodSizes words = words.first.now ∷ words.second.now ∷ words.third.now ∷ []
+values_of OffsetRun words = words.first.now ∷ words.second.now ∷ words.third.now ∷ []
+values_of MethodDrop words = words.first.now ∷ []
+values_of MethodSlots words = words.first.now ∷ []
+values_of SlotMove words = words.first.now ∷ words.second.now ∷ words.third.now ∷ []
+
+-- what the values of a form say, or that one is misspelled or out of its range
+abbrev pub IsLineOfForm : Form → Words → Option Line → Type 0
+IsLineOfForm form words result = MatchOption result ((line : Line) → Values form (values_of form words) line → ⊥) (Values form (values_of form words))
+
+-- what a line says, or the first rule that it breaks, whatever the lines before it say
+abbrev pub IsTold : ℕ → List ℕ → Result Line Rule → Type 0
+IsTold version text result = MatchResult result (Tells version text) (λ rule. (before : List Line) → BreaksFirst version before text rule)

@@ -1,0 +1,72 @@
+-- The rules of map texts and their numbers; a line breaks one by the lines before it alone, of which the last one stands first.
+use Rattle.std.specs.Prelude.{◌≡◌, ℕ, ◌+◌, ◌<◌, ◌≤◌, ◌⊎◌, true, false, List, [], ◌∷◌, Option, Some, None, IsSome, IsTrue}
+use Rattle.ppdb_base.specs.declared.offsets.Run.{Run}
+use Rattle.ppdb_base.specs.Offsets.{end_of, new_end_of}
+use Rattle.ppdb_maps.specs.Map.{MethodLine}
+use Rattle.ppdb_maps.specs.Words.{IsSilent, line_words}
+use Rattle.ppdb_maps.specs.Forms.{HasForm, Values, Tells}
+use Rattle.ppdb_maps.specs.Before.{count_in, row_in, method_in, methods_of, drop_in, slots_in, slot_in, follows_method}
+use Rattle.ppdb_maps.specs.declared.line.Form.{Form}
+use Rattle.ppdb_maps.specs.declared.line.Line.{Line}
+use Rattle.ppdb_maps.specs.declared.line.Line.TheVariants.{Silent, Rows, Row, Method, Kept, Dropped, Slots, Slot}
+use Rattle.ppdb_maps.specs.declared.rule.Rule.{Rule}
+use Rattle.ppdb_maps.specs.declared.rule.Rule.TheVariants.{FirstLine, UnknownForm, BadNumber, Repeated, Undeclared, NoMethod, Overlap, Beyond, NamesDropped}
+
+-- the rule's number
+abbrev pub kind_of : Rule → ℕ
+kind_of FirstLine = 1
+kind_of UnknownForm = 2
+kind_of BadNumber = 3
+kind_of Repeated = 4
+kind_of Undeclared = 5
+kind_of NoMethod = 6
+kind_of Overlap = 7
+kind_of Beyond = 8
+kind_of NamesDropped = 9
+
+-- OLD or NEW is below the end of the last run
+abbrev pub BeginsEarly : Run → List Run → Type 0
+BeginsEarly run [] = ⊥
+BeginsEarly run (last ∷ []) = (run.old < end_of last) ⊎ (run.new < new_end_of last)
+BeginsEarly run (first ∷ second ∷ runs) = BeginsEarly run (second ∷ runs)
+
+-- OLD + LENGTH is above OLDSIZE, or NEW + LENGTH above NEWSIZE
+abbrev pub EndsBeyond : Run → MethodLine → Type 0
+EndsBeyond run line = (line.old_size < end_of run) ⊎ (line.new_size < new_end_of run)
+
+-- what a line says breaks a rule by the lines before it
+pub data Breaks (before : List Line) : Rule → Line → Type 0 where
+  second_rows : {t n : ℕ} → IsSome (count_in before t) → Breaks before Repeated (Rows t n)
+  second_row : {t o n : ℕ} → IsSome (row_in before t o) → Breaks before Repeated (Row t o n)
+  second_method : {m o n : ℕ} → IsSome (method_in before m) → Breaks before Repeated (Method m o n)
+  second_drop : {m : ℕ} → IsTrue (drop_in before m) → Breaks before Repeated (Dropped m)
+  second_slots : {m : ℕ} → IsTrue (slots_in before m) → Breaks before Repeated (Slots m)
+  second_slot : {m o n : ℕ} → IsSome (slot_in before m o) → Breaks before Repeated (Slot m o n)
+  row_alone : {t o n : ℕ} → count_in before t ≡ None → Breaks before Undeclared (Row t o n)
+  slot_alone : {m o n : ℕ} → slots_in before m ≡ false → Breaks before Undeclared (Slot m o n)
+  run_alone : {run : Run} → follows_method before ≡ false → Breaks before NoMethod (Kept run)
+  run_early : {run : Run} {line : MethodLine} {lines : List MethodLine} → methods_of before ≡ line ∷ lines
+      → BeginsEarly run line.runs → Breaks before Overlap (Kept run)
+  run_long : {run : Run} {line : MethodLine} {lines : List MethodLine} → methods_of before ≡ line ∷ lines
+      → EndsBeyond run line → Breaks before Beyond (Kept run)
+  drop_named : {m : ℕ} → IsSome (method_in before m) ⊎ IsSome (row_in before 0x06 m) ⊎ IsTrue (slots_in before m)
+      → Breaks before NamesDropped (Dropped m)
+  dropped_method : {m o n : ℕ} → IsTrue (drop_in before m) → Breaks before NamesDropped (Method m o n)
+  dropped_row : {t o n : ℕ} → t ≡ 0x06 → IsTrue (drop_in before o) → Breaks before NamesDropped (Row t o n)
+  dropped_slots : {m : ℕ} → IsTrue (drop_in before m) → Breaks before NamesDropped (Slots m)
+
+-- a line after the first breaks a rule
+pub data BreaksLine (version : ℕ) (before : List Line) (text : List ℕ) : Rule → Type 0 where
+  no_form : (IsSilent text → ⊥) → ((form : Form) → HasForm version (line_words text) form → ⊥) → BreaksLine version before text UnknownForm
+  no_value : {form : Form} → (IsSilent text → ⊥) → (has : HasForm version (line_words text) form)
+      → ((line : Line) → Values form has.values line → ⊥) → BreaksLine version before text BadNumber
+  by_lines : {line : Line} {rule : Rule} → Tells version text line → Breaks before rule line → BreaksLine version before text rule
+
+-- it breaks this rule and none with a lesser number
+pub record BreaksFirst (version : ℕ) (before : List Line) (text : List ℕ) (rule : Rule) : Type 0 where
+  pub broken : BreaksLine version before text rule
+  pub least : (other : Rule) → BreaksLine version before text other → kind_of rule ≤ kind_of other
+
+-- it breaks none
+abbrev pub Keeps : ℕ → List Line → List ℕ → Type 0
+Keeps version before text = (rule : Rule) → BreaksLine version before text rule → ⊥

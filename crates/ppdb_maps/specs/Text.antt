@@ -1,0 +1,45 @@
+-- Map texts (docs/FORMAT.md, "Map texts"): the map that a text has, and its refused line.
+use Rattle.std.specs.Prelude.{◌≡◌, ℕ, ◌+◌, ◌++◌, List, [], ◌∷◌, Option, length}
+use Rattle.ppdb_maps.specs.Map.{Map, Ascends, count_of, row_line, method_line, is_dropped, has_slots, slot_line}
+use Rattle.ppdb_maps.specs.Words.{text_lines}
+use Rattle.ppdb_maps.specs.Forms.{IsHead, Tells}
+use Rattle.ppdb_maps.specs.Before.{count_in, row_in, method_in, drop_in, slots_in, slot_in}
+use Rattle.ppdb_maps.specs.Rules.{Keeps, BreaksFirst, kind_of}
+use Rattle.ppdb_maps.specs.declared.line.Line.{Line}
+use Rattle.ppdb_maps.specs.declared.rule.Rule.{Rule}
+
+-- the lines after line 1 say these things, the last one first, and none breaks a rule
+pub data Read (version : ℕ) : List (List ℕ) → List Line → Type 0 where
+  start : Read version [] []
+  further : {texts : List (List ℕ)} {before : List Line} {text : List ℕ} {line : Line}
+      → Read version texts before → Tells version text line → Keeps version before text
+      → Read version (texts ++ text ∷ []) (line ∷ before)
+
+-- the text's refused line, counted from 1, and the least number of a rule that it breaks
+pub data Refused (text : List ℕ) : ℕ → ℕ → Type 0 where
+  at_head : {head : List ℕ} {rest : List (List ℕ)} → text_lines text ≡ head ∷ rest → ((version : ℕ) → IsHead head version → ⊥)
+      → Refused text 1 1
+  at_line : {head line : List ℕ} {front : List (List ℕ)} (back : List (List ℕ)) {version : ℕ} {before : List Line} {rule : Rule}
+      → text_lines text ≡ head ∷ (front ++ line ∷ back) → IsHead head version → Read version front before
+      → BreaksFirst version before line rule → Refused text (length front + 2) (kind_of rule)
+
+-- the map answers each question as the lines say, and its lists ascend
+pub record HoldsWhat (said : List Line) (holds : Map) : Type 0 where
+  pub counts : (table : ℕ) → count_of holds table ≡ count_in said table
+  pub rows : (table old : ℕ) → row_line holds table old ≡ row_in said table old
+  pub methods : (method : ℕ) → method_line holds method ≡ method_in said method
+  pub drops : (method : ℕ) → is_dropped holds method ≡ drop_in said method
+  pub slotted : (method : ℕ) → has_slots holds method ≡ slots_in said method
+  pub slots : (method old : ℕ) → slot_line holds method old ≡ slot_in said method old
+  pub ascends : Ascends holds
+
+-- the text has this map
+pub record IsMapOf (text : List ℕ) (holds : Map) : Type 0 where
+  pub head : List ℕ
+  pub rest : List (List ℕ)
+  pub version : ℕ
+  pub said : List Line
+  pub lines : text_lines text ≡ head ∷ rest
+  pub begins : IsHead head version
+  pub read : Read version rest said
+  pub holds_what : HoldsWhat said holds

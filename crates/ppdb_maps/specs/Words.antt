@@ -1,0 +1,22 @@
+-- The lines of a map text, and the words of a line (docs/FORMAT.md, "Map texts").
+use Rattle.std.specs.Prelude.{◌≡◌, ℕ, ◌==◌, List, [], ◌∷◌}
+use Rattle.std.specs.List.{slice_split}
+use Rattle.std.specs.Str.Lines.{lines}
+
+-- lines end by LF or CR LF, and the last end may be missing; the empty text has one empty line
+abbrev pub text_lines : List ℕ → List (List ℕ)
+text_lines [] = [] ∷ []
+text_lines (b ∷ bs) = lines (b ∷ bs)
+
+-- what stands between a byte, as often as it comes
+abbrev pub parts_at : ℕ → List ℕ → List (List ℕ)
+parts_at mark bytes = slice_split (λ b. b == mark) bytes
+
+-- words stand apart by one space
+abbrev pub line_words : List ℕ → List (List ℕ)
+line_words line = parts_at 32 line
+
+-- an empty line or a comment
+abbrev pub IsSilent : List ℕ → Type 0
+IsSilent [] = Unit {0}
+IsSilent (b ∷ bs) = b ≡ 35

@@ -1,0 +1,233 @@
+// What the lines of a map text say together, while they are read.
+ghost use Rattle.std.specs.Prelude.{◌<◌, [], List, OnOk, IfOk};
+ghost use Rattle.ppdb_maps.specs.Loops.{IsTextAdded};
+ghost use Rattle.ppdb_maps.specs.Text.{HoldsWhat};
+ghost use Rattle.ppdb_maps.specs.declared.line.Line.{Line};
+ghost use Rattle.ppdb_maps.specs.declared.line.Line.TheVariants.{Rows, Row, Method as SizesOf, Kept, Dropped, Slots, Slot};
+ghost use Rattle.ppdb_maps.specs.Drafts.{Holds, IsClosed, IsAdded, IsAddedTo, HasLength, IsNamedIn};
+
+use crate::finish::{counts_of, methods_of, numbers_of, rows_of, slots_of};
+use crate::line::Line;
+use crate::map_text::MapText;
+use crate::method::Method;
+use crate::reading::said;
+use crate::refusal::Refusal;
+use crate::rule::Rule;
+use ppdb_base::{Memory, Run};
+use std::alloc::Global;
+use std::collections::{BTreeMap, BTreeSet};
+
+/// What the lines so far say.
+#[derive(Drop)]
+pub struct Draft {
+    counts: BTreeMap<u8, u32>,
+    rows: BTreeMap<(u8, u32), u32>,
+    methods: BTreeMap<u32, Method>,
+    /// The last method, while its runs may follow; it is not among `methods` yet.
+    current: Option<Method>,
+    drops: BTreeSet<u32>,
+    slotted: BTreeSet<u32>,
+    slots: BTreeMap<(u32, u16), u16>,
+}
+
+impl Draft {
+    /// No line was read.
+    pub fn new(alloc: Global) -> Draft
+        ensures { Holds [] result }
+    {
+        Draft {
+            counts: BTreeMap::new(alloc),
+            rows: BTreeMap::new(alloc),
+            methods: BTreeMap::new(alloc),
+            current: None,
+            drops: BTreeSet::new(alloc),
+            slotted: BTreeSet::new(alloc),
+            slots: BTreeMap::new(alloc),
+        }
+    }
+
+    /// Puts the open method among the others.
+    pub fn close(&mut self) -> Result<(), Memory>
+        ensures { OnOk result ((before : List Line) → Holds before self.old → IsClosed before self.new) }
+    {
+        if let Some(method) = self.current.take() {
+            self.methods.insert(method.number(), method)?;
+        }
+        Ok(())
+    }
+
+    fn add_rows(&mut self, table: u8, rows: u32) -> Result<(), Refusal>
+        ensures { IsAdded (Rows table rows) self.old result self.new }
+    {
+        if self.counts.contains_key(&table) {
+            return Err(Refusal::Breaks(Rule::Repeated));
+        }
+        self.counts.insert(table, rows)?;
+        Ok(())
+    }
+
+    fn add_row(&mut self, table: u8, old: u32, new: u32) -> Result<(), Refusal>
+        ensures { IsAdded (Row table old new) self.old result self.new }
+    {
+        if self.rows.contains_key(&(table, old)) {
+            return Err(Refusal::Breaks(Rule::Repeated));
+        }
+        if !self.counts.contains_key(&table) {
+            return Err(Refusal::Breaks(Rule::Undeclared));
+        }
+        if table == 0x06 && self.drops.contains(&old) {
+            return Err(Refusal::Breaks(Rule::NamesDropped));
+        }
+        self.rows.insert((table, old), new)?;
+        Ok(())
+    }
+
+    fn add_method(
+        &mut self,
+        alloc: Global,
+        method: u32,
+        old_size: u32,
+        new_size: u32,
+    ) -> Result<(), Refusal>
+        ensures { IsAdded (SizesOf method old_size new_size) self.old result self.new }
+    {
+        if self.methods.contains_key(&method) {
+            return Err(Refusal::Breaks(Rule::Repeated));
+        }
+        if self.drops.contains(&method) {
+            return Err(Refusal::Breaks(Rule::NamesDropped));
+        }
+        self.current = Some(Method::new(alloc, method, old_size, new_size));
+        Ok(())
+    }
+
+    fn add_drop(&mut self, method: u32) -> Result<(), Refusal>
+        ensures { IsAdded (Dropped method) self.old result self.new }
+    {
+        if self.drops.contains(&method) {
+            return Err(Refusal::Breaks(Rule::Repeated));
+        }
+        if self.is_named(method) {
+            return Err(Refusal::Breaks(Rule::NamesDropped));
+        }
+        self.drops.insert(method)?;
+        Ok(())
+    }
+
+    /// Whether the method has a `method`, a `row` or a `slots` line.
+    fn is_named(&self, method: u32) -> bool
+        ensures { (before : List Line) → IsClosed before self.now → IsNamedIn before method result }
+    {
+        self.methods.contains_key(&method)
+            || self.rows.contains_key(&(0x06, method))
+            || self.slotted.contains(&method)
+    }
+
+    fn add_slots(&mut self, method: u32) -> Result<(), Refusal>
+        ensures { IsAdded (Slots method) self.old result self.new }
+    {
+        if self.slotted.contains(&method) {
+            return Err(Refusal::Breaks(Rule::Repeated));
+        }
+        if self.drops.contains(&method) {
+            return Err(Refusal::Breaks(Rule::NamesDropped));
+        }
+        self.slotted.insert(method)?;
+        Ok(())
+    }
+
+    fn add_slot(&mut self, method: u32, old: u16, new: u16) -> Result<(), Refusal>
+        ensures { IsAdded (Slot method old new) self.old result self.new }
+    {
+        if self.slots.contains_key(&(method, old)) {
+            return Err(Refusal::Breaks(Rule::Repeated));
+        }
+        if !self.slotted.contains(&method) {
+            return Err(Refusal::Breaks(Rule::Undeclared));
+        }
+        self.slots.insert((method, old), new)?;
+        Ok(())
+    }
+
+    fn add_run(&mut self, run: Run) -> Result<(), Refusal>
+        requires { 0 < run.length }
+        ensures { IsAddedTo (Kept run) self.old result self.new }
+    {
+        match &mut self.current {
+            Some(method) => method.add(run),
+            None => Err(Refusal::Breaks(Rule::NoMethod)),
+        }
+    }
+
+    /// Adds what a line says.
+    pub fn add(&mut self, alloc: Global, line: Line) -> Result<(), Refusal>
+        requires { HasLength line }
+        ensures { IsAddedTo line self.old result self.new }
+    {
+        match line {
+            Line::Silent => Ok(()),
+            Line::Kept(run) => self.add_run(run),
+            Line::Rows { table, rows } => {
+                self.close()?;
+                self.add_rows(table, rows)
+            }
+            Line::Row { table, old, new } => {
+                self.close()?;
+                self.add_row(table, old, new)
+            }
+            Line::Method {
+                method,
+                old_size,
+                new_size,
+            } => {
+                self.close()?;
+                self.add_method(alloc, method, old_size, new_size)
+            }
+            Line::Dropped(method) => {
+                self.close()?;
+                self.add_drop(method)
+            }
+            Line::Slots(method) => {
+                self.close()?;
+                self.add_slots(method)
+            }
+            Line::Slot { method, old, new } => {
+                self.close()?;
+                self.add_slot(method, old, new)
+            }
+        }
+    }
+
+    /// Adds what a line after the first says.
+    pub fn add_text(&mut self, alloc: Global, version: u8, text: &[u8]) -> Result<(), Refusal>
+        ensures { IsTextAdded version text.now self.old result self.new }
+    {
+        match said(version, text) {
+            Ok(line) => self.add(alloc, line),
+            Err(rule) => Err(Refusal::Breaks(rule)),
+        }
+    }
+
+    /// The map of the lines.
+    pub fn finish(self, alloc: Global) -> Result<MapText, Memory>
+        requires { (before : List Line) × IsClosed before self }
+        ensures { (before : List Line) → IsClosed before self → IfOk result (HoldsWhat before) }
+    {
+        let Draft {
+            counts,
+            rows,
+            methods,
+            current: _,
+            drops,
+            slotted,
+            slots,
+        } = self;
+        let counts = counts_of(alloc, counts)?;
+        let rows = rows_of(alloc, rows)?;
+        let methods = methods_of(alloc, methods)?;
+        let drops = numbers_of(alloc, drops)?;
+        let slotted = numbers_of(alloc, slotted)?;
+        let slots = slots_of(alloc, slots)?;
+        Ok(MapText::new(counts, rows, methods, drops, slotted, slots))
+    }
+}

@@ -1,0 +1,24 @@
+// The entries of a map's lists.
+
+/// The rows of a table in the output.
+#[derive(Clone, Copy)]
+pub struct Count {
+    pub table: u8,
+    pub rows: u32,
+}
+
+/// The image of a row of a table.
+#[derive(Clone, Copy)]
+pub struct RowImage {
+    pub table: u8,
+    pub old: u32,
+    pub new: u32,
+}
+
+/// The image of a local's slot in a method.
+#[derive(Clone, Copy)]
+pub struct SlotImage {
+    pub method: u32,
+    pub old: u16,
+    pub new: u16,
+}

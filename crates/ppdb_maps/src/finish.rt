@@ -1,0 +1,59 @@
+// The lists of a map, from the maps in which they were gathered.
+ghost use Rattle.std.specs.Prelude.{◌≡◌, ℕ, map, IfOk};
+ghost use Rattle.std.specs.Ordering.{nat_cmp};
+ghost use Rattle.std.specs.BTreeMap.{IsOrdered, values};
+ghost use Rattle.std.specs.BTreeSet as sorted;
+ghost use Rattle.ppdb_maps.specs.Map.{pair_cmp};
+ghost use Rattle.ppdb_maps.specs.Gathered.{count_entry, row_entry, slot_entry};
+
+use crate::entries::{Count, RowImage, SlotImage};
+use crate::method::Method;
+use std::alloc::{AllocError, Global};
+use std::collections::{BTreeMap, BTreeSet};
+
+pub fn counts_of(alloc: Global, counts: BTreeMap<u8, u32>) -> Result<Vec<Count>, AllocError>
+    ensures ordered { IsOrdered nat_cmp counts }
+    ensures items { IfOk result (λ v. v.items ≡ map count_entry counts.entries) }
+{
+    counts
+        .into_iter()
+        .map(|(table, rows)| Count { table, rows })
+        .collect(alloc)
+}
+
+pub fn rows_of(alloc: Global, rows: BTreeMap<(u8, u32), u32>) -> Result<Vec<RowImage>, AllocError>
+    ensures ordered { IsOrdered pair_cmp rows }
+    ensures items { IfOk result (λ v. v.items ≡ map row_entry rows.entries) }
+{
+    rows.into_iter()
+        .map(|((table, old), new)| RowImage { table, old, new })
+        .collect(alloc)
+}
+
+pub fn slots_of(
+    alloc: Global,
+    slots: BTreeMap<(u32, u16), u16>,
+) -> Result<Vec<SlotImage>, AllocError>
+    ensures ordered { IsOrdered pair_cmp slots }
+    ensures items { IfOk result (λ v. v.items ≡ map slot_entry slots.entries) }
+{
+    slots
+        .into_iter()
+        .map(|((method, old), new)| SlotImage { method, old, new })
+        .collect(alloc)
+}
+
+pub fn methods_of(alloc: Global, methods: BTreeMap<u32, Method>) -> Result<Vec<Method>, AllocError>
+    ensures ordered { IsOrdered nat_cmp methods }
+    ensures items { IfOk result (λ v. v.items ≡ values methods) }
+{
+    let _count = methods.len();
+    methods.into_values().collect(alloc)
+}
+
+pub fn numbers_of(alloc: Global, numbers: BTreeSet<u32>) -> Result<Vec<u32>, AllocError>
+    ensures ordered { sorted.IsOrdered nat_cmp numbers }
+    ensures items { IfOk result (λ v. v.items ≡ numbers.keys) }
+{
+    numbers.into_iter().collect(alloc)
+}

@@ -1,0 +1,28 @@
+//! Maps: what a rewriting of a module says of its rows, offsets and slots.
+#![tactic(auto)]
+
+mod draft;
+mod entries;
+mod finish;
+mod laws;
+mod line;
+mod map_text;
+mod method;
+mod method_map;
+mod number;
+mod read;
+mod reading;
+mod refusal;
+mod rule;
+mod runs;
+mod says;
+mod search;
+#[cfg(test)]
+mod tests;
+mod words;
+
+pub use laws::{kept_offsets_rise, next_image_never_falls};
+pub use map_text::MapText;
+pub use method_map::MethodMap;
+pub use read::read_map;
+pub use refusal::MapError;

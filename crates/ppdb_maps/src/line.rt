@@ -1,0 +1,57 @@
+// The forms of a map text's lines, and what a line says.
+use ppdb_base::Run;
+
+/// The forms of the lines that say something.
+#[derive(Clone, Copy)]
+pub enum Form {
+    /// `rows TT N`
+    TableRows,
+    /// `row TT OLD NEW`
+    RowMove,
+    /// `method M OLDSIZE NEWSIZE`
+    MethodSizes,
+    /// `run OLD NEW LENGTH`
+    OffsetRun,
+    /// `drop M`
+    MethodDrop,
+    /// `slots M`
+    MethodSlots,
+    /// `slot M OLD NEW`
+    SlotMove,
+}
+
+/// What a line after the first says.
+#[derive(Clone, Copy)]
+pub enum Line {
+    /// Nothing: it is empty or a comment.
+    Silent,
+    /// The table has so many rows in the output, and its images are its `row` lines.
+    Rows {
+        table: u8,
+        rows: u32,
+    },
+    /// The image of a row.
+    Row {
+        table: u8,
+        old: u32,
+        new: u32,
+    },
+    /// The IL sizes of a method.
+    Method {
+        method: u32,
+        old_size: u32,
+        new_size: u32,
+    },
+    /// Offsets of the last method that are kept.
+    Kept(Run),
+    /// The method is dropped.
+    Dropped(u32),
+    /// The method's slots have images: those of its `slot` lines.
+    Slots(u32),
+    /// The image of a slot of a method.
+    Slot {
+        method: u32,
+        old: u16,
+        new: u16,
+    },
+}

@@ -1,0 +1,178 @@
+// The map that a text has.
+ghost use Rattle.std.specs.Prelude.{◌≡◌, [], slice_get, option_map};
+ghost use Rattle.ppdb_maps.specs.Map.{Ascends, MethodLine, count_of, row_line, row_image, is_dropped, slot_line, slot_image, offsets_in, rows_of, slots_of};
+ghost use Rattle.ppdb_maps.specs.declared.entries.RowImage.{RowImage};
+ghost use Rattle.ppdb_maps.specs.declared.entries.SlotImage.{SlotImage};
+ghost use Rattle.ppdb_maps.specs.Says.{offsets_of};
+
+use crate::entries::{Count, RowImage, SlotImage};
+use crate::method::Method;
+use crate::method_map::MethodMap;
+use crate::search::{count_at, has_number, method_at, nth_row, nth_slot, row_at, slot_at};
+use std::alloc::Global;
+use std::marker::Model;
+
+/// What a map text says of rows, methods and slots.
+#[derive(Drop)]
+pub struct MapText {
+    counts: Vec<Count>,
+    rows: Vec<RowImage>,
+    methods: Vec<Method>,
+    drops: Vec<u32>,
+    slotted: Vec<u32>,
+    slots: Vec<SlotImage>,
+}
+
+impl Model for MapText {
+    ghost use Rattle.ppdb_maps.specs.Map.{Map};
+
+    ghost Value = { Map };
+
+    ghost use Rattle.ppdb_maps.specs.Map.{Ascends};
+
+    ghost view = { λ m. record { counts = m.counts.items; rows = m.rows.items; methods = m.methods.items; drops = m.drops.items; slotted = m.slotted.items; slots = m.slots.items } };
+
+    ghost invariant = { λ m. Ascends (record { counts = m.counts.items; rows = m.rows.items; methods = m.methods.items; drops = m.drops.items; slotted = m.slotted.items; slots = m.slots.items }) };
+}
+
+impl MapText {
+    /// The map without lines: nothing changes. It takes no memory.
+    pub fn empty(alloc: Global) -> MapText
+        ensures { result ≡ record { counts = []; rows = []; methods = []; drops = []; slotted = []; slots = [] } }
+    {
+        MapText {
+            counts: Vec::new(alloc),
+            rows: Vec::new(alloc),
+            methods: Vec::new(alloc),
+            drops: Vec::new(alloc),
+            slotted: Vec::new(alloc),
+            slots: Vec::new(alloc),
+        }
+    }
+
+    /// The map of lists that are in order.
+    pub fn new(
+        counts: Vec<Count>,
+        rows: Vec<RowImage>,
+        methods: Vec<Method>,
+        drops: Vec<u32>,
+        slotted: Vec<u32>,
+        slots: Vec<SlotImage>,
+    ) -> MapText
+        requires { Ascends (record { counts = counts.items; rows = rows.items; methods = methods.items; drops = drops.items; slotted = slotted.items; slots = slots.items }) }
+        ensures { result ≡ record { counts = counts.items; rows = rows.items; methods = methods.items; drops = drops.items; slotted = slotted.items; slots = slots.items } }
+    {
+        MapText {
+            counts,
+            rows,
+            methods,
+            drops,
+            slotted,
+            slots,
+        }
+    }
+
+    /// The rows of a table in the output; none where the table has no `rows` line.
+    pub fn rows(&self, table: u8) -> Option<u32>
+        ensures { result ≡ count_of self.now table }
+    {
+        count_at(self.counts.as_slice(), table).map(|count| count.rows)
+    }
+
+    /// The NEW of the row's `row` line.
+    fn new_row(&self, table: u8, old: u32) -> Option<u32>
+        ensures { result ≡ row_line self.now table old }
+    {
+        row_at(self.rows.as_slice(), table, old).map(|row| row.new)
+    }
+
+    /// The image of a row: none for a dropped method; the row itself where its table has no `rows`
+    /// line, else the image that its `row` line names.
+    pub fn row(&self, table: u8, old: u32) -> Option<u32>
+        ensures { result ≡ row_image self.now table old }
+    {
+        if table == 0x06 && self.dropped(old) {
+            return None;
+        }
+        match self.rows(table) {
+            None => Some(old),
+            Some(_) => self.new_row(table, old),
+        }
+    }
+
+    /// What becomes of the offsets of a method.
+    pub fn method(&self, method: u32) -> MethodMap<'_>
+        ensures { offsets_of result.says ≡ offsets_in self.now method }
+    {
+        if self.dropped(method) {
+            return MethodMap::dropped();
+        }
+        match method_at(self.methods.as_slice(), method) {
+            None => MethodMap::unchanged(),
+            Some(line) => line.offsets(),
+        }
+    }
+
+    /// Whether the method has a `drop` line.
+    pub fn dropped(&self, method: u32) -> bool
+        ensures { result ≡ is_dropped self.now method }
+    {
+        has_number(self.drops.as_slice(), method)
+    }
+
+    /// The NEW of the slot's `slot` line.
+    fn new_slot(&self, method: u32, old: u16) -> Option<u16>
+        ensures { result ≡ slot_line self.now method old }
+    {
+        slot_at(self.slots.as_slice(), method, old).map(|slot| slot.new)
+    }
+
+    /// The image of a slot of a method: the slot itself where the method has no `slots` line, else
+    /// the image that its `slot` line names.
+    pub fn slot(&self, method: u32, old: u16) -> Option<u16>
+        ensures { result ≡ slot_image self.now method old }
+    {
+        if has_number(self.slotted.as_slice(), method) {
+            self.new_slot(method, old)
+        } else {
+            Some(old)
+        }
+    }
+
+    /// The methods with a `method` line, in ascending order; none past the last.
+    pub fn method_line(&self, index: u32) -> Option<u32>
+        ensures { result ≡ option_map (λ (l : MethodLine). l.method) (slice_get self.now.methods index) }
+    {
+        self.methods.get(index as usize).map(|line| line.number())
+    }
+
+    /// The methods with a `drop` line, in ascending order; none past the last.
+    pub fn drop_line(&self, index: u32) -> Option<u32>
+        ensures { result ≡ slice_get self.now.drops index }
+    {
+        self.drops.get(index as usize).copied()
+    }
+
+    /// The methods with a `slots` line, in ascending order; none past the last.
+    pub fn slots_line(&self, index: u32) -> Option<u32>
+        ensures { result ≡ slice_get self.now.slotted index }
+    {
+        self.slotted.get(index as usize).copied()
+    }
+
+    /// The rows of a table with a `row` line and their images, in ascending order; none past the
+    /// last.
+    pub fn row_line(&self, table: u8, index: u32) -> Option<(u32, u32)>
+        ensures { result ≡ option_map (λ (r : RowImage). (r.old, r.new)) (slice_get (rows_of self.now table) index) }
+    {
+        nth_row(self.rows.as_slice(), table, index).map(|row| (row.old, row.new))
+    }
+
+    /// The slots of a method with a `slot` line and their images, in ascending order; none past
+    /// the last.
+    pub fn slot_line(&self, method: u32, index: u32) -> Option<(u16, u16)>
+        ensures { result ≡ option_map (λ (s : SlotImage). (s.old, s.new)) (slice_get (slots_of self.now method) index) }
+    {
+        nth_slot(self.slots.as_slice(), method, index).map(|slot| (slot.old, slot.new))
+    }
+}

@@ -1,0 +1,112 @@
+// How a map moves the offsets of one method.
+ghost use Rattle.std.specs.Prelude.{◌≡◌, slice_get, option_map};
+ghost use Rattle.ppdb_base.specs.Offsets.{Rise, RiseFrom-prop, stop_runs, every, gone, lined};
+ghost use Rattle.ppdb_maps.specs.Says.{offsets_of, sizes_of, lined_runs, run_numbers};
+
+use crate::runs::{image_in, is_kept_in, next_image_in};
+use crate::says::Says;
+use ppdb_base::{OffsetImage, Run};
+
+/// How the offsets of one method move.
+#[derive(Clone, Copy)]
+pub struct MethodMap<'a> {
+    says: Says<'a>,
+    ghost rises: { Rise (offsets_of says) } by { RiseFrom-prop 0 0 (stop_runs (offsets_of says)) },
+}
+
+impl OffsetImage for MethodMap<'_> {
+    ghost offsets = { λ m. offsets_of m.says };
+
+    fn image(&self, offset: u32) -> Option<u32> {
+        match self.says {
+            Says::Every => Some(offset),
+            Says::Gone => None,
+            Says::Lined {
+                runs,
+                old_size,
+                new_size,
+            } => image_in(runs, old_size, new_size, offset),
+        }
+    }
+
+    fn next_image(&self, offset: u32) -> Option<u32> {
+        match self.says {
+            Says::Every => Some(offset),
+            Says::Gone => None,
+            Says::Lined {
+                runs,
+                old_size,
+                new_size,
+            } => { next_image_in(runs, old_size, new_size, offset) }
+        }
+    }
+
+    fn kept_between(&self, from: u32, to: u32) -> bool {
+        match self.says {
+            Says::Every => from < to,
+            Says::Gone => false,
+            Says::Lined { runs, .. } => is_kept_in(runs, from, to),
+        }
+    }
+
+    ghost rise = { λ m. m.rises };
+}
+
+impl<'a> MethodMap<'a> {
+    /// Each offset stays.
+    pub(crate) fn unchanged() -> MethodMap<'a>
+        ensures { offsets_of result.says ≡ every }
+    {
+        MethodMap { says: Says::Every }
+    }
+
+    /// No offset stays.
+    pub(crate) fn dropped() -> MethodMap<'a>
+        ensures { offsets_of result.says ≡ gone }
+    {
+        MethodMap { says: Says::Gone }
+    }
+
+    /// The offsets of these runs stay.
+    pub(crate) fn lined(runs: &'a [Run], old_size: u32, new_size: u32) -> MethodMap<'a>
+        requires { Rise (lined runs.now old_size new_size) }
+        ensures { offsets_of result.says ≡ lined runs.now old_size new_size }
+    {
+        MethodMap {
+            says: Says::Lined {
+                runs,
+                old_size,
+                new_size,
+            },
+        }
+    }
+
+    /// The old and the new size, where the method has a line.
+    pub fn sizes(&self) -> Option<(u32, u32)>
+        ensures { result ≡ sizes_of (offsets_of self.now.says) }
+    {
+        match self.says {
+            Says::Lined {
+                old_size,
+                new_size,
+                ..
+            } => Some((old_size, new_size)),
+            _ => None,
+        }
+    }
+}
+
+impl MethodMap<'_> {
+    /// The runs, in ascending order, as OLD, NEW and LENGTH; none past the last.
+    pub fn run_line(&self, index: u32) -> Option<(u32, u32, u32)>
+        ensures { result ≡ option_map run_numbers (slice_get (lined_runs (offsets_of self.now.says)) index) }
+    {
+        match self.says {
+            Says::Lined { runs, .. } => {
+                let run = runs.get(index as usize)?;
+                Some((run.old, run.new, run.length))
+            }
+            _ => None,
+        }
+    }
+}

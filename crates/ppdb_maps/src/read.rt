@@ -1,0 +1,66 @@
+// A map text, read line by line.
+ghost use Rattle.std.specs.Prelude.{◌≡◌, ◌≤◌, length, IfOk, IfErr};
+ghost use Rattle.std.specs.Str.Lines.{lines};
+ghost use Rattle.ppdb_maps.specs.Text.{IsMapOf};
+ghost use Rattle.ppdb_maps.specs.Loops.{IsAt, ReadWhole, RefusedIn, RefusedAs};
+
+use crate::draft::Draft;
+use crate::map_text::MapText;
+use crate::reading::version_of;
+use crate::refusal::{MapError, Refusal};
+use crate::rule::Rule;
+use crate::words::first_line;
+use std::alloc::Global;
+
+/// A refusal, at its line.
+fn refusal_at(line: u32, refusal: Refusal) -> MapError
+    ensures { IsAt line refusal result }
+{
+    match refusal {
+        Refusal::Breaks(rule) => MapError::Line {
+            line,
+            kind: rule.kind(),
+        },
+        Refusal::Memory => MapError::Memory,
+    }
+}
+
+/// Reads the lines after the first.
+fn read_lines(alloc: Global, version: u8, text: &[u8]) -> Result<Draft, MapError>
+    requires { length text.now ≤ 134217728 }
+    ensures read { IfOk result (ReadWhole version (lines text.now)) }
+    ensures refused { IfErr result (RefusedIn version (lines text.now)) }
+{
+    let mut draft = Draft::new(alloc);
+    let mut rest = text;
+    let mut number: u32 = 2;
+    while !rest.is_empty() {
+        let (line, others) = first_line(rest);
+        match draft.add_text(alloc, version, line) {
+            Ok(()) => {}
+            Err(refusal) => return Err(refusal_at(number, refusal)),
+        }
+        rest = others;
+        number += 1;
+    }
+    Ok(draft)
+}
+
+/// The map that a text has, or its first line that breaks a rule. It reads the text once.
+pub fn read_map(alloc: Global, text: &[u8]) -> Result<MapText, MapError>
+    requires { length text.now ≤ 134217728 }
+    ensures read { IfOk result (IsMapOf text.now) }
+    ensures refused { IfErr result (RefusedAs text.now) }
+{
+    let (head, rest) = first_line(text);
+    let Some(version) = version_of(head) else {
+        return Err(MapError::Line {
+            line: 1,
+            kind: Rule::FirstLine.kind(),
+        });
+    };
+    let mut draft = read_lines(alloc, version, rest)?;
+    draft.close()?;
+    let map = draft.finish(alloc)?;
+    Ok(map)
+}

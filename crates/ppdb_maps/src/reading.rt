@@ -1,0 +1,195 @@
+// What one line of a map text says.
+ghost use Rattle.std.specs.Prelude.{◌≡◌, ℕ, ◌≤◌, IfSome, IfNone, MatchResult, IsTrue, ◌↔◌};
+ghost use Rattle.ppdb_maps.specs.Words.{IsSilent};
+ghost use Rattle.ppdb_maps.specs.Forms.{IsHead, words_in, since};
+ghost use Rattle.ppdb_maps.specs.Reading.{IsNamed, IsFormOf, IsLineOfForm, IsTold};
+ghost use Rattle.ppdb_maps.specs.declared.line.Form.TheVariants.{TableRows, RowMove, MethodSizes, OffsetRun, MethodDrop, MethodSlots, SlotMove};
+
+use crate::line::{Form, Line};
+use crate::number::{number, offset, row, slot, table};
+use crate::rule::Rule;
+use crate::words::{Words, words_of};
+use ppdb_base::Run;
+
+/// The version that line 1 names.
+pub fn version_of(line: &[u8]) -> Option<u8>
+    ensures some { IfSome result (IsHead line.now) }
+    ensures none { IfNone result ((version : ℕ) → IsHead line.now version → ⊥) }
+{
+    let [front @ .., digit] = line else {
+        return None;
+    };
+    if front == b"ppdbmap ".as_slice() && b'1' <= *digit && *digit <= b'3' {
+        Some(*digit - b'0')
+    } else {
+        None
+    }
+}
+
+/// Whether a line is empty or a comment.
+fn is_silent(line: &[u8]) -> bool
+    ensures { IsTrue result ↔ IsSilent line.now }
+{
+    match line {
+        [] => true,
+        [first, ..] => *first == b'#',
+    }
+}
+
+/// The form whose first word this is; most lines of a map are `run` and `row` lines.
+fn named(word: &[u8]) -> Option<Form>
+    ensures { IsNamed word.now result }
+{
+    if word == b"run".as_slice() {
+        return Some(Form::OffsetRun);
+    }
+    if word == b"row".as_slice() {
+        return Some(Form::RowMove);
+    }
+    if word == b"method".as_slice() {
+        return Some(Form::MethodSizes);
+    }
+    if word == b"slot".as_slice() {
+        return Some(Form::SlotMove);
+    }
+    if word == b"drop".as_slice() {
+        return Some(Form::MethodDrop);
+    }
+    if word == b"slots".as_slice() {
+        return Some(Form::MethodSlots);
+    }
+    if word == b"rows".as_slice() {
+        return Some(Form::TableRows);
+    }
+    None
+}
+
+impl Form {
+    /// Its number of words, the first one among them.
+    fn words(self) -> usize
+        ensures { result ≡ words_in self }
+    {
+        match self {
+            Form::MethodDrop | Form::MethodSlots => 2,
+            Form::TableRows => 3,
+            Form::RowMove | Form::MethodSizes | Form::OffsetRun | Form::SlotMove => 4,
+        }
+    }
+
+    /// The version from which on texts have it.
+    fn since(self) -> u8
+        ensures { result ≡ since self }
+    {
+        match self {
+            Form::TableRows | Form::RowMove | Form::MethodSizes | Form::OffsetRun => 1,
+            Form::MethodDrop => 2,
+            Form::MethodSlots | Form::SlotMove => 3,
+        }
+    }
+}
+
+/// The form of the version that the words have.
+fn form_of(version: u8, words: &Words<'_>) -> Option<Form>
+    ensures { IsFormOf version words.now result }
+{
+    let form = named(words.name)?;
+    if form.words() == words.count && form.since() <= version {
+        Some(form)
+    } else {
+        None
+    }
+}
+
+fn rows_line(words: &Words<'_>) -> Option<Line>
+    ensures { IsLineOfForm TableRows words.now result }
+{
+    let table = table(words.first)?;
+    let rows = number(words.second, 0, 16_777_215)?;
+    Some(Line::Rows { table, rows })
+}
+
+fn row_line(words: &Words<'_>) -> Option<Line>
+    ensures { IsLineOfForm RowMove words.now result }
+{
+    let table = table(words.first)?;
+    let old = row(words.second)?;
+    let new = row(words.third)?;
+    Some(Line::Row { table, old, new })
+}
+
+fn method_line(words: &Words<'_>) -> Option<Line>
+    ensures { IsLineOfForm MethodSizes words.now result }
+{
+    let method = row(words.first)?;
+    let old_size = offset(words.second)?;
+    let new_size = offset(words.third)?;
+    Some(Line::Method {
+        method,
+        old_size,
+        new_size,
+    })
+}
+
+fn run_line(words: &Words<'_>) -> Option<Line>
+    ensures { IsLineOfForm OffsetRun words.now result }
+{
+    let old = offset(words.first)?;
+    let new = offset(words.second)?;
+    let length = number(words.third, 1, 2_147_483_647)?;
+    Some(Line::Kept(Run { old, new, length }))
+}
+
+fn drop_line(words: &Words<'_>) -> Option<Line>
+    ensures { IsLineOfForm MethodDrop words.now result }
+{
+    let method = row(words.first)?;
+    Some(Line::Dropped(method))
+}
+
+fn slots_line(words: &Words<'_>) -> Option<Line>
+    ensures { IsLineOfForm MethodSlots words.now result }
+{
+    let method = row(words.first)?;
+    Some(Line::Slots(method))
+}
+
+fn slot_line(words: &Words<'_>) -> Option<Line>
+    ensures { IsLineOfForm SlotMove words.now result }
+{
+    let method = row(words.first)?;
+    let old = slot(words.second)?;
+    let new = slot(words.third)?;
+    Some(Line::Slot { method, old, new })
+}
+
+/// What the values of a form say; none where one is misspelled or out of its range.
+fn line_of(form: Form, words: &Words<'_>) -> Option<Line>
+    ensures { IsLineOfForm form words.now result }
+{
+    match form {
+        Form::TableRows => rows_line(words),
+        Form::RowMove => row_line(words),
+        Form::MethodSizes => method_line(words),
+        Form::OffsetRun => run_line(words),
+        Form::MethodDrop => drop_line(words),
+        Form::MethodSlots => slots_line(words),
+        Form::SlotMove => slot_line(words),
+    }
+}
+
+/// What a line after the first says.
+pub fn said(version: u8, line: &[u8]) -> Result<Line, Rule>
+    ensures { IsTold version line.now result }
+{
+    if is_silent(line) {
+        return Ok(Line::Silent);
+    }
+    let words = words_of(line);
+    let Some(form) = form_of(version, &words) else {
+        return Err(Rule::UnknownForm);
+    };
+    match line_of(form, &words) {
+        Some(line) => Ok(line),
+        None => Err(Rule::BadNumber),
+    }
+}
