@@ -1,24 +1,19 @@
 -- How the parts of a name are joined, a part at a time.
-use Rattle.std.proofs.Common.{◌≡◌, ◌<◌, ◌≤◌, length, ℕ, List, [], ◌∷◌, ◌++◌, Option, Some, None, Result, Ok, Err, refl, sym, ap, subst, ◌∙◌, append_assoc, append-nil, arith}
+use Rattle.std.proofs.Common.{◌≡◌, ℕ, List, [], ◌∷◌, ◌++◌, Option, Some, None, Ok, Err, sym, ap, subst, ◌∙◌, append_assoc}
 use Rattle.std.specs.List.{flat_map, join_by}
 use Rattle.ppdb_base.specs.declared.BlobFault.{BlobFault}
 use Rattle.blob_grammar.specs.Reading.{Reading}
 use Rattle.blob_grammar.specs.Reader.{Left, answer_from, answer, rest_of, tail}
 use Rattle.ppdb_heaps.specs.declared.join.NameError.TheVariants.{Blob}
-use Rattle.ppdb_heaps.specs.Names.{NamePart, separator, names, without_zero, joined, IsName, NameReading}
+use Rattle.ppdb_heaps.specs.Names.{separator, names, NameReading}
 use Rattle.std.specs.Borrow.{Bor}
 use Rattle.ppdb_heaps.specs.Cursor.{lent}
-use Rattle.ppdb_heaps.specs.Joining.{HasAppended, IsRefusal}
+use Rattle.ppdb_heaps.specs.Joining.{IsRefusal}
 
 some-of : {X : Type 0} (items : List X) (fault : Option BlobFault) (x : X) → Ok (Some x) ≡ answer_from items fault → items ≡ x ∷ tail items
 some-of (y ∷ items) fault x e = let s : x ≡ y = cc in cc
 some-of [] None x e = absurd cc
 some-of [] (Some f) x e = absurd cc
-
-none-of : {X : Type 0} (items : List X) (fault : Option BlobFault) → let none : Option X = None in Ok none ≡ answer_from items fault → (items ≡ []) × (fault ≡ None)
-none-of (y ∷ items) fault e = absurd cc
-none-of [] None e = (refl, refl)
-none-of [] (Some f) e = absurd cc
 
 err-of : {X : Type 0} (items : List X) (fault : Option BlobFault) (f : BlobFault) → Err f ≡ answer_from items fault → fault ≡ Some f
 err-of (y ∷ items) fault f e = absurd cc
@@ -44,40 +39,6 @@ joining-first blobs blob old sep left x h e =
       goes_on = append_assoc old x (after_separator sep (tail left.items)) ∙ ap (λ contents. old ++ join_by (λ content. content) sep contents) (sym items);
     }
 
-pub joining-next : (blobs blob old sep into : List ℕ) (left : Left (List ℕ)) (x : List ℕ) → Joining blobs blob old sep into left → Ok (Some x) ≡ answer left
-    → Joining blobs blob old sep ((into ++ sep) ++ x) (rest_of left)
-joining-next blobs blob old sep into left x h e =
-    let items : left.items ≡ x ∷ tail left.items = some-of left.items left.fault x e in
-    let more = after_separator sep (tail left.items) in
-    record {
-      contents = h.contents;
-      reading = h.reading;
-      goes_on =
-          append_assoc (into ++ sep) x more ∙ append_assoc into sep (x ++ more) ∙ ap (λ t. into ++ t) (sym (append_assoc sep x more))
-          ∙ ap (λ contents. into ++ after_separator sep contents) (sym items) ∙ h.goes_on;
-    }
-
-name-whole : (blobs blob sep : List ℕ) (contents : List (List ℕ)) (fault : Option BlobFault) → NameReading blobs blob sep contents fault → fault ≡ None → IsName blobs blob (join_by (λ content. content) sep contents)
-name-whole blobs blob sep contents fault h whole = record {
-  parts = separator h.bytes ∷ h.parts;
-  whole = subst (λ f. Reading (names blobs) blob (separator h.bytes ∷ h.parts) f) whole h.reading;
-  text = ap (λ s. join_by (λ content. content) s contents) h.separator_is ∙ ap (λ c. join_by (λ content. content) (without_zero h.bytes) c) h.contents_are;
-}
-
-pub joining-end : (blobs blob old sep into : List ℕ) (left : Left (List ℕ)) → let none : Option (List ℕ) = None in Joining blobs blob old sep into left → Ok none ≡ answer left → HasAppended blobs blob old into
-joining-end blobs blob old sep into left h e =
-    let ends = none-of left.items left.fault e in (
-      join_by (λ content. content) sep h.contents,
-      name-whole blobs blob sep h.contents left.fault h.reading ends.1,
-      sym (append-nil into) ∙ ap (λ contents. into ++ after_separator sep contents) (sym ends.0) ∙ h.goes_on,
-    )
-
--- A name that has no part has no text; there is none that is whole.
-pub joining-none : (blobs blob old sep : List ℕ) (left : Left (List ℕ)) → let none : Option (List ℕ) = None in NameReading blobs blob sep left.items left.fault → Ok none ≡ answer left → HasAppended blobs blob old old
-joining-none blobs blob old sep left h e =
-    let ends = none-of left.items left.fault e in
-    ([], subst (λ n. IsName blobs blob n) (ap (λ contents. join_by (λ content. content) sep contents) ends.0) (name-whole blobs blob sep left.items left.fault h ends.1), sym (append-nil old))
-
 pub joining-fault : (blobs blob sep : List ℕ) (contents : List (List ℕ)) (left : Left (List ℕ)) (fault : BlobFault) → NameReading blobs blob sep contents left.fault → Err fault ≡ answer left → IsRefusal blobs blob (Blob fault)
 joining-fault blobs blob sep contents left fault h e = (separator h.bytes ∷ h.parts, subst (λ f. Reading (names blobs) blob (separator h.bytes ∷ h.parts) f) (err-of left.items left.fault fault e) h.reading)
 
@@ -88,16 +49,6 @@ joining-starts blobs blob old into sep own before left x h s e l i =
     let h' : NameReading blobs blob sep before.items before.fault = subst (λ (t : List ℕ). NameReading blobs blob t before.items before.fault) (sym s) h in
     subst (λ (t : List ℕ). Joining blobs blob old sep t left) (sym i) (subst (λ (t : Left (List ℕ)). Joining blobs blob old sep (old ++ x) t) (sym l) (joining-first blobs blob old sep before x h' e))
 
-pub joining-goes : (blobs blob old sep into then_into now : List ℕ) (before left : Left (List ℕ)) (x : List ℕ) → Joining blobs blob old sep into before → Ok (Some x) ≡ answer before → left ≡ rest_of before → then_into ≡ into ++ sep → now ≡ then_into ++ x
-    → Joining blobs blob old sep now left
-joining-goes blobs blob old sep into then_into now before left x h e l i j =
-    let k : now ≡ (into ++ sep) ++ x = j ∙ ap (λ (t : List ℕ). t ++ x) i in
-    subst (λ (t : List ℕ). Joining blobs blob old sep t left) (sym k) (subst (λ (t : Left (List ℕ)). Joining blobs blob old sep ((into ++ sep) ++ x) t) (sym l) (joining-next blobs blob old sep into before x h e))
-
 -- An answer turned over, where its slice is known.
 pub answer-is : (left : Left (List ℕ)) (o p : Option (Bor (List ℕ))) → lent (Ok o) ≡ answer left → o ≡ p → lent (Ok p) ≡ answer left
 answer-is left o p e i = sym (ap (λ (q : Option (Bor (List ℕ))). lent (Ok q)) i) ∙ e
-
--- The rest of the name has one part fewer.
-pub fewer : (before left : Left (List ℕ)) (x : List ℕ) → Ok (Some x) ≡ answer before → left ≡ rest_of before → length left.items < length before.items
-fewer before left x e l = omega (arith, ap length (some-of before.items before.fault x e), ap (λ (t : Left (List ℕ)). length t.items) l)

@@ -1,7 +1,7 @@
-use Rattle.std.proofs.Common.{sym, ◌∙◌, ap, append_assoc, Some, refl}
+use Rattle.std.proofs.Common.{◌∙◌, Some}
 use Rattle.std.proofs.lemmas.Result.{err_from_is_err_and}
 use Rattle.ppdb_heaps.specs.Views.{blobs_of}
-use Rattle.ppdb_heaps.proofs.Joins.{joining-starts, joining-goes, joining-end, joining-none, joining-fault, answer-is, fewer}
+use Rattle.ppdb_heaps.proofs.Joins.{joining-starts, joining-fault, answer-is}
 use Rattle.ppdb_heaps.proofs.join.parts_into.Goals as goal
 
 pub loop-part-init : goal.loop-part-init

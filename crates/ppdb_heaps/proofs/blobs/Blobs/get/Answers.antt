@@ -1,5 +1,4 @@
-use Rattle.std.proofs.Common.{arith, sym, ◌≤◌, length}
-use Rattle.ppdb_heaps.specs.Heaps.{blob_at}
+use Rattle.std.proofs.Common.{arith, sym}
 use Rattle.ppdb_heaps.proofs.Heaps.{blob_at-past}
 use Rattle.ppdb_heaps.proofs.blobs.Blobs.get.Goals as goal
 
