@@ -3,18 +3,22 @@
 ghost use Rattle.std.specs.Prelude.{◌≡◌};
 ghost use Rattle.sequence_points.specs.Points.{IsSingleDocument, common_document};
 
-/// A sequence point.
+/// A sequence point: from this IL offset on, the code comes from these lines (Portable PDB v1.0, "Sequence Points Blob").
 #[derive(Clone, Copy, Debug, PartialEq, Eq)]
 pub struct Point {
+    /// The IL offset, below 0x20000000.
     pub offset: u32,
+    /// A row of the Document table.
     pub document: u32,
     pub span: Span,
 }
 
-/// What a point covers.
+/// The lines and columns that a point covers.
 #[derive(Clone, Copy, Debug, PartialEq, Eq)]
 pub enum Span {
+    /// No lines: a debugger does not stop here.
     Hidden,
+    /// Lines below 0x20000000 and not 0xfeefee, and columns up to 0xffff.
     Lines {
         start_line: u32,
         start_column: u32,
@@ -23,7 +27,7 @@ pub enum Span {
     },
 }
 
-/// How many rows the blob may name.
+/// How many rows the tables Document and StandAloneSig have, which a blob may name.
 #[derive(Clone, Copy)]
 pub struct PointLimits {
     pub documents: u32,

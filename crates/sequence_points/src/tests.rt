@@ -179,6 +179,12 @@ fn reads_one_document(rt: HostRuntime) {
             None,
         ),
         in_one(b"\0\x02\0\0\x01\0\0", &[(2, 1, None), (3, 1, None)], None),
+        // a method of a compiler's file
+        in_one(
+            b"\0\0\0\x01\x02\x1e\x01\0\x01\0\x04",
+            &[(0, 1, Some((2, 30, 2, 31))), (1, 1, Some((2, 32, 2, 33)))],
+            None,
+        ),
         // a header alone
         in_one(b"\0", &[], Some((Code::BlobEnd, 1))),
     ];
@@ -248,6 +254,18 @@ fn reads_several_documents(rt: HostRuntime) {
             0,
             b"\x02\x01\0\0\x01\x05\x01\0\x03\x01\0\0\0\x02\0\x02\x01\0\0\0\x01",
             &[(0, 1, Some((5, 1, 5, 2))), (1, 3, None), (2, 2, None)],
+            None,
+        ),
+        // a method of a compiler's file, in three documents
+        in_several(
+            0,
+            b"\0\x01\0\0\x12\x02\x16\0\x02\x10\0\x13\x02\x5b\0\x03\x10\0\x13\0\0\x10\0\x3b\0\x2a",
+            &[
+                (0, 1, Some((2, 22, 2, 40))),
+                (16, 2, Some((3, 3, 3, 22))),
+                (32, 3, Some((3, 3, 3, 22))),
+                (48, 3, Some((3, 24, 3, 83))),
+            ],
             None,
         ),
         // a document record where the Document column is set
