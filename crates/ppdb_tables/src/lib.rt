@@ -21,3 +21,6 @@ pub use rows::{
     VariableRow,
 };
 pub use tables::Tables;
+
+#[cfg(test)]
+mod tests;

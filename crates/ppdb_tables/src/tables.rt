@@ -40,14 +40,12 @@ pub struct Tables<'a> {
     ghost narrow: { (slice_index variables.layout 0 ≡ 2) × (slice_index variables.layout 1 ≡ 2) },
 }
 
-/// The row of a table whose fields are the cells of these columns; counts one step.
+/// The row of a table with these cells, by their columns; counts one step.
 macro_rules! read_row {
-    ($table:expr, $row:expr, $steps:expr, $type:ident { $($field:ident: $column:literal),* }) => {{
+    ($table:expr, $row:expr, $steps:expr, $type:ident, $($field:ident = $column:literal),*) => {{
         $steps.tick();
         let cells = $table.row($row);
-        $type {
-            $($field: $table.cell(cells, $column)),*
-        }
+        $type { $($field: $table.cell(cells, $column)),* }
     }};
 }
 
@@ -94,12 +92,11 @@ impl<'a> Tables<'a> {
             self.documents,
             row,
             steps,
-            DocumentRow {
-                name: 0,
-                algorithm: 1,
-                hash: 2,
-                language: 3
-            }
+            DocumentRow,
+            name = 0,
+            algorithm = 1,
+            hash = 2,
+            language = 3
         )
     }
 
@@ -113,10 +110,9 @@ impl<'a> Tables<'a> {
             self.methods,
             row,
             steps,
-            MethodDebugRow {
-                document: 0,
-                points: 1
-            }
+            MethodDebugRow,
+            document = 0,
+            points = 1
         )
     }
 
@@ -130,14 +126,13 @@ impl<'a> Tables<'a> {
             self.scopes,
             row,
             steps,
-            ScopeRow {
-                method: 0,
-                import: 1,
-                variables: 2,
-                constants: 3,
-                start: 4,
-                length: 5
-            }
+            ScopeRow,
+            method = 0,
+            import = 1,
+            variables = 2,
+            constants = 3,
+            start = 4,
+            length = 5
         )
     }
 
@@ -166,10 +161,9 @@ impl<'a> Tables<'a> {
             self.constants,
             row,
             steps,
-            ConstantRow {
-                name: 0,
-                signature: 1
-            }
+            ConstantRow,
+            name = 0,
+            signature = 1
         )
     }
 
@@ -179,15 +173,7 @@ impl<'a> Tables<'a> {
         ensures row { row_at (raw_of self.now).imports row ≡ Some result }
         ensures step { steps.new ≡ steps.old + 1 }
     {
-        read_row!(
-            self.imports,
-            row,
-            steps,
-            ImportRow {
-                parent: 0,
-                imports: 1
-            }
-        )
+        read_row!(self.imports, row, steps, ImportRow, parent = 0, imports = 1)
     }
 
     /// A row of StateMachineMethod.
@@ -200,10 +186,9 @@ impl<'a> Tables<'a> {
             self.machines,
             row,
             steps,
-            MachineRow {
-                move_next: 0,
-                kickoff: 1
-            }
+            MachineRow,
+            move_next = 0,
+            kickoff = 1
         )
     }
 
@@ -217,11 +202,10 @@ impl<'a> Tables<'a> {
             self.customs,
             row,
             steps,
-            CustomRow {
-                parent: 0,
-                kind: 1,
-                value: 2
-            }
+            CustomRow,
+            parent = 0,
+            kind = 1,
+            value = 2
         )
     }
 

@@ -1,0 +1,178 @@
+ghost use Rattle.std.specs.Prelude.{◌≡◌, ◌<◌};
+
+use crate::{
+    DocumentRow, MethodDebugRow, Parent, ScopeRow, Tables, VariableRow, coded_parent, parent_of,
+    read_head, read_tables,
+};
+use metadata_root::read_root;
+use ppdb_base::{Code, Fault, Steps};
+use std::marker::Brand;
+use std::sync::ledger::{Blank, Ledger};
+
+/// A small debug file: one document, one method, two scopes.
+const SMALL: [u8; 280] = [
+    0x42, 0x53, 0x4a, 0x42, 0x01, 0x00, 0x01, 0x00, 0x00, 0x00, 0x00, 0x00, 0x0c, 0x00, 0x00, 0x00,
+    0x50, 0x44, 0x42, 0x20, 0x76, 0x31, 0x2e, 0x30, 0x00, 0x00, 0x00, 0x00, 0x00, 0x00, 0x05, 0x00,
+    0x70, 0x00, 0x00, 0x00, 0x24, 0x00, 0x00, 0x00, 0x23, 0x50, 0x64, 0x62, 0x00, 0x00, 0x00, 0x00,
+    0x94, 0x00, 0x00, 0x00, 0x60, 0x00, 0x00, 0x00, 0x23, 0x7e, 0x00, 0x00, 0xf4, 0x00, 0x00, 0x00,
+    0x08, 0x00, 0x00, 0x00, 0x23, 0x53, 0x74, 0x72, 0x69, 0x6e, 0x67, 0x73, 0x00, 0x00, 0x00, 0x00,
+    0xfc, 0x00, 0x00, 0x00, 0x00, 0x00, 0x00, 0x00, 0x23, 0x47, 0x55, 0x49, 0x44, 0x00, 0x00, 0x00,
+    0xfc, 0x00, 0x00, 0x00, 0x1c, 0x00, 0x00, 0x00, 0x23, 0x42, 0x6c, 0x6f, 0x62, 0x00, 0x00, 0x00,
+    0x00, 0x00, 0x00, 0x00, 0x00, 0x00, 0x00, 0x00, 0x00, 0x00, 0x00, 0x00, 0x00, 0x00, 0x00, 0x00,
+    0x00, 0x00, 0x00, 0x00, 0x01, 0x00, 0x00, 0x06, 0x40, 0x00, 0x00, 0x00, 0x00, 0x00, 0x00, 0x00,
+    0x01, 0x00, 0x00, 0x00, 0x00, 0x00, 0x00, 0x00, 0x02, 0x00, 0x00, 0x01, 0x00, 0x00, 0x00, 0x00,
+    0x00, 0x00, 0x0f, 0x00, 0x00, 0x00, 0x00, 0x00, 0x00, 0xc4, 0x00, 0x00, 0x01, 0x00, 0x00, 0x00,
+    0x01, 0x00, 0x00, 0x00, 0x02, 0x00, 0x00, 0x00, 0x02, 0x00, 0x00, 0x00, 0x05, 0x00, 0x00, 0x00,
+    0x00, 0x00, 0x00, 0x00, 0x01, 0x00, 0x0a, 0x00, 0x01, 0x00, 0x00, 0x00, 0x01, 0x00, 0x01, 0x00,
+    0x00, 0x00, 0x00, 0x00, 0x09, 0x00, 0x00, 0x00, 0x01, 0x00, 0x00, 0x00, 0x02, 0x00, 0x01, 0x00,
+    0x02, 0x00, 0x00, 0x00, 0x03, 0x00, 0x00, 0x00, 0x00, 0x00, 0x00, 0x00, 0x01, 0x00, 0x00, 0x00,
+    0x01, 0x00, 0x03, 0x00, 0x00, 0x78, 0x00, 0x79, 0x00, 0x00, 0x00, 0x00, 0x00, 0x01, 0x61, 0x01,
+    0x62, 0x04, 0x2f, 0x00, 0x01, 0x03, 0x0e, 0x00, 0x00, 0x00, 0x04, 0x0a, 0x05, 0x03, 0x00, 0x00,
+    0x04, 0x01, 0x02, 0x04, 0x79, 0x00, 0x00, 0x00,
+];
+
+fn tables_of(bytes: &[u8; 280]) -> Option<Result<Tables<'_>, Fault>> {
+    let Ok(root) = read_root(bytes) else {
+        return None;
+    };
+    let Ok(head) = read_head(&root) else {
+        return None;
+    };
+    Some(read_tables(&root, &head))
+}
+
+/// The code and the byte of the fault of the small file with some bytes changed.
+fn fault_with(changes: &[(usize, u8)]) -> Option<(Code, u32)> {
+    let mut bytes = SMALL;
+    for change in changes {
+        if change.0 < 280 {
+            bytes[change.0] = change.1;
+        }
+    }
+    match tables_of(&bytes) {
+        Some(Err(fault)) => Some((fault.code, fault.place.byte)),
+        _ => None,
+    }
+}
+
+#[test]
+fn names_the_first_fault(rt: HostRuntime) {
+    assert_eq!(rt; fault_with(&[(52, 0x22)]), Some((Code::TablesShort, 32)));
+    assert_eq!(rt; fault_with(&[(154, 0x08)]), Some((Code::HeapBits, 6)));
+    assert_eq!(rt; fault_with(&[(156, 0x01)]), Some((Code::TablesForeign, 8)));
+    assert_eq!(rt; fault_with(&[(175, 0x01)]), Some((Code::TableRows, 24)));
+    assert_eq!(rt; fault_with(&[(176, 0x02)]), Some((Code::MethodRows, 28)));
+    assert_eq!(rt;
+        fault_with(&[(176, 0x02), (183, 0x01)]),
+        Some((Code::MethodRows, 28))
+    );
+    assert_eq!(rt; fault_with(&[(184, 0x03)]), Some((Code::TablesBounds, 96)));
+    assert_eq!(rt; fault_with(&[(162, 0xff)]), Some((Code::TablesBounds, 84)));
+    assert_eq!(rt; fault_with(&[]), None);
+}
+
+/// A row of each table, and how many rows were read.
+fn rows_of<L: Ledger>(
+    tables: &Tables<'_>,
+    blank: Blank,
+) -> Option<(DocumentRow, MethodDebugRow, ScopeRow, VariableRow)>
+    requires { (blank.name ≡ L.name) × (blank.parts ≡ L.parts) × (0 < L.parts) }
+{
+    let mut steps = Steps::<L>::new(blank);
+    if tables.rows(0x30) < 1
+        || tables.rows(0x31) < 1
+        || tables.rows(0x32) < 2
+        || tables.rows(0x33) < 2
+    {
+        return None;
+    }
+    Some((
+        tables.document(1, &mut steps),
+        tables.method_debug(1, &mut steps),
+        tables.scope(2, &mut steps),
+        tables.variable(2, &mut steps),
+    ))
+}
+
+/// The same, with a counter of its own.
+fn first_rows(tables: &Tables<'_>) -> Option<(DocumentRow, MethodDebugRow, ScopeRow, VariableRow)> {
+    rows_of::<Brand>(tables, Blank::new(1))
+}
+
+#[test]
+fn reads_the_rows(rt: HostRuntime) {
+    let tables = tables_of(&SMALL);
+    assert!(rt; matches!(&tables, Some(Ok(_))));
+    if let Some(Ok(tables)) = tables {
+        assert_eq!(rt; tables.rows(0x06), 1);
+        assert_eq!(rt; tables.rows(0x32), 2);
+        assert_eq!(rt; tables.rows(0x34), 0);
+        let rows = first_rows(&tables);
+        assert!(rt; rows.is_some());
+        if let Some((document, method, scope, variable)) = rows {
+            assert_eq!(rt;
+                document,
+                DocumentRow {
+                    name: 5,
+                    algorithm: 0,
+                    hash: 0,
+                    language: 0
+                }
+            );
+            assert_eq!(rt;
+                method,
+                MethodDebugRow {
+                    document: 1,
+                    points: 10
+                }
+            );
+            assert_eq!(rt;
+                scope,
+                ScopeRow {
+                    method: 1,
+                    import: 0,
+                    variables: 2,
+                    constants: 1,
+                    start: 2,
+                    length: 3
+                }
+            );
+            assert_eq!(rt;
+                variable,
+                VariableRow {
+                    attributes: 0,
+                    slot: 1,
+                    name: 3
+                }
+            );
+        }
+    }
+}
+
+/// The tables by their tags.
+const TAGS: [u8; 27] = [
+    0x06, 0x04, 0x01, 0x02, 0x08, 0x09, 0x0a, 0x00, 0x0e, 0x17, 0x14, 0x11, 0x1a, 0x1b, 0x20, 0x23,
+    0x26, 0x27, 0x28, 0x2a, 0x2c, 0x2b, 0x30, 0x32, 0x33, 0x34, 0x35,
+];
+
+#[test]
+fn tags_pick_tables(rt: HostRuntime) {
+    for (tag, table) in TAGS.iter().enumerate() {
+        let coded = 7 * 32 + tag as u32;
+        let parent = Parent {
+            table: *table,
+            row: 7,
+        };
+        assert_eq!(rt; parent_of(coded), Some(parent));
+        assert_eq!(rt; coded_parent(parent), Some(coded));
+    }
+    assert_eq!(rt; parent_of(27), None);
+    assert_eq!(rt; parent_of(7 * 32 + 31), None);
+    assert_eq!(rt;
+        coded_parent(Parent {
+            table: 0x31,
+            row: 1
+        }),
+        None
+    );
+}
