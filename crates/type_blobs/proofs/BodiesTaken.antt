@@ -1,13 +1,12 @@
 -- What is left of a constant behind the code of its body.
-use Rattle.std.proofs.Common.{◌≡◌, ℕ, zero, suc, ◌+◌, ◌-◌, ◌<◌, ◌≤◌, Bool, true, false, ◌&&◌, List, [], ◌∷◌, ◌++◌, length, get_or, take, drop, Option, Some, None, Result, Ok, Err, refl, sym, ap, subst, ◌∙◌, arith}
-use Rattle.std.specs.Prelude.{is_some, ◌==◌, if◌then◌else◌}
+use Rattle.std.proofs.Common.{◌≡◌, ℕ, ◌+◌, ◌-◌, ◌<◌, ◌≤◌, Bool, true, false, ◌&&◌, List, [], ◌∷◌, length, get_or, take, drop, Some, None, Result, Ok, Err, refl, sym, ap, ◌∙◌, arith}
+use Rattle.std.specs.Prelude.{is_some, ◌==◌}
 use Rattle.std.proofs.lemmas.List.{length-drop, take_all}
 use Rattle.std.proofs.Math.Seq.{drop-cons}
 use Rattle.ppdb_base.specs.declared.BlobFault.{BlobFault}
-use Rattle.ppdb_base.specs.declared.Code.{Code}
 use Rattle.ppdb_base.specs.declared.Code.TheVariants.{BlobEnd, ValueRange}
-use Rattle.blob_grammar.specs.Grammar.{Value, number, octets, Form, unsigned, byte, fixed, rest}
-use Rattle.blob_grammar.specs.Reader.{field_at, unsigned_at, is_empty, field, IsThere, IsMissing}
+use Rattle.blob_grammar.specs.Grammar.{Value, number, octets, unsigned, byte, fixed, rest}
+use Rattle.blob_grammar.specs.Reader.{field_at, unsigned_at, is_empty, IsThere, IsMissing}
 use Rattle.blob_grammar.proofs.Steps.{not_empty}
 use Rattle.type_blobs.specs.declared.types.TypeLimits.{TypeLimits}
 use Rattle.type_blobs.specs.declared.types.TypeToken.{TypeToken}
@@ -16,7 +15,7 @@ use Rattle.type_blobs.specs.declared.constant.Constant.{Constant}
 use Rattle.type_blobs.specs.Types.{is_type, token_of}
 use Rattle.type_blobs.specs.Numbers.{number_at}
 use Rattle.type_blobs.specs.Constants.{ConstantBody, primitive, enumerated, general, object, constants, modifier_of, body_of, is_modifier, is_code, is_enumerable, is_general, is_text, size_of, after_two}
-use Rattle.type_blobs.specs.ConstantReading.{Rest, begins_modifier, finished, end_of, left_of, constant_left, modifier_answer, body_answer, fault_end, whole_end, shown, shown_body, BodyIs}
+use Rattle.type_blobs.specs.ConstantReading.{Rest, begins_modifier, finished, left_of, constant_left, modifier_answer, body_answer, fault_end, whole_end, shown_body, BodyIs}
 use Rattle.type_blobs.proofs.NextStep.{Found, found, step-field, step-out, step-none, step-end, step-end_none, step-over, step-number, step-no_number}
 use Rattle.type_blobs.proofs.Codes.{OfGeneral, of_general, OfPrimitive, of_primitive}
 use Rattle.type_blobs.proofs.ConstantRests.{rest as rest_behind, rest_goes, rest_bad, rest_stop}

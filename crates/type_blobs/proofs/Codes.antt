@@ -1,5 +1,5 @@
 -- What the tests of a constant's codes say together.
-use Rattle.std.proofs.Common.{◌≡◌, ℕ, ◌<◌, ◌≤◌, Bool, true, false, ◌&&◌, ◌||◌, Some, None, [], ◌∷◌, refl, sym, ap, subst, ◌∙◌, zero, suc, arith, ◌⊎◌, inl, inr}
+use Rattle.std.proofs.Common.{◌≡◌, ℕ, ◌<◌, ◌≤◌, Bool, true, false, ◌&&◌, ◌||◌, Some, None, [], ◌∷◌, refl, sym, subst, zero, suc, arith, ◌⊎◌, inl, inr}
 use Rattle.std.specs.Prelude.{◌==◌, nat_le}
 use Rattle.blob_grammar.specs.Grammar.{number, unsigned, fixed, rest}
 use Rattle.type_blobs.specs.Constants.{is_modifier, is_primitive, is_enumerable, is_general, is_string, is_object, is_code, size_of, after_code, after_two, body_of}
@@ -7,10 +7,6 @@ use Rattle.type_blobs.specs.Constants.{is_modifier, is_primitive, is_enumerable,
 either : (a b : Bool) → (a || b) ≡ true → (a ≡ true) ⊎ (b ≡ true)
 either true b e = inl refl
 either false b e = inr e
-
--- a test that is true is not true of another number
-other : (code n m : ℕ) → (code == n) ≡ true → (n == m) ≡ false → (code == m) ≡ false
-other code n m e f = grind arith
 
 pub eq-is : (code n : ℕ) → (code == n) ≡ true → code ≡ n
 eq-is code n e = grind arith

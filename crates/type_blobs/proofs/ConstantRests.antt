@@ -1,7 +1,6 @@
 -- What is left of a constant, a step at a time.
-use Rattle.std.proofs.Common.{◌≡◌, ℕ, zero, suc, ◌+◌, Bool, true, false, List, [], ◌∷◌, ◌++◌, drop, take, Option, Some, None, refl, ap, ◌∙◌}
+use Rattle.std.proofs.Common.{◌≡◌, ℕ, zero, suc, ◌+◌, List, [], ◌∷◌, ◌++◌, drop, take, Option, Some, None, refl, ap, ◌∙◌}
 use Rattle.std.specs.List.{fold}
-use Rattle.ppdb_base.specs.declared.BlobFault.{BlobFault}
 use Rattle.ppdb_base.specs.declared.Code.{Code}
 use Rattle.blob_grammar.specs.Grammar.{Value, Field, Cut, closed, with_value}
 use Rattle.blob_grammar.specs.Reader.{Step, field, stop, bad, step, take_field, fields_for, fields_from, begun_from}

@@ -1,15 +1,14 @@
 -- What a cursor of a constant has left at the start is what the blob holds.
-use Rattle.std.proofs.Common.{◌≡◌, ℕ, Bool, true, false, List, [], Option, Some, None, refl, sym, ap, subst, ◌∙◌}
+use Rattle.std.proofs.Common.{◌≡◌, ℕ, Bool, true, false, List, [], Option, Some, None, refl, sym, ap, subst}
 use Rattle.std.specs.Prelude.{is_some}
 use Rattle.ppdb_base.specs.declared.BlobFault.{BlobFault}
 use Rattle.blob_grammar.specs.Grammar.{Value, Field, cut}
-use Rattle.blob_grammar.specs.Reading.{Ends, Reading}
+use Rattle.blob_grammar.specs.Reading.{Ends}
 use Rattle.blob_grammar.specs.Reader.{read_from, front_of, begun_from}
 use Rattle.blob_grammar.proofs.Readers.{read_from-reads}
 use Rattle.type_blobs.specs.declared.types.TypeLimits.{TypeLimits}
-use Rattle.type_blobs.specs.declared.types.Modifier.{Modifier}
 use Rattle.type_blobs.specs.Constants.{ConstantBody, constants, body_of}
-use Rattle.type_blobs.specs.ConstantReading.{ConstantEnd, fault_of, begins_modifier, EndIs, ConstantReading, whole_end, fault_end, end_of, constant_left}
+use Rattle.type_blobs.specs.ConstantReading.{fault_of, begins_modifier, EndIs, ConstantReading, whole_end, fault_end, end_of, constant_left}
 use Rattle.blob_grammar.proofs.FrontFields.{longest-front_of}
 
 pub fault_is : (begun : List Value) (fault : Option BlobFault) → fault_of (end_of begun fault) ≡ fault

@@ -1,5 +1,5 @@
 -- What the reading of one number says of what is left of a blob.
-use Rattle.std.proofs.Common.{◌≡◌, ℕ, ◌+◌, Bool, false, List, [], ◌∷◌, ◌++◌, drop, Option, Some, None, Err, refl, sym, ap, ◌∙◌, ◌&&◌}
+use Rattle.std.proofs.Common.{◌≡◌, ℕ, ◌+◌, Bool, false, List, [], ◌∷◌, ◌++◌, drop, Option, Some, None, Err, sym, ap, ◌∙◌, ◌&&◌}
 use Rattle.std.proofs.lemmas.List.{drop-drop}
 use Rattle.ppdb_base.specs.declared.BlobFault.{BlobFault}
 use Rattle.blob_grammar.specs.Grammar.{Value, number, unsigned, Grammar}

@@ -1,6 +1,6 @@
 -- What a cursor of imports has left, a field at a time.
-use Rattle.std.proofs.Common.{◌≡◌, ℕ, zero, suc, ◌+◌, ◌<◌, ◌≤◌, Bool, true, false, ◌&&◌, List, [], ◌∷◌, ◌++◌, length, drop, Option, Some, None, Result, Ok, Err, refl, sym, ap, ◌∙◌, arith}
-use Rattle.std.specs.Prelude.{is_some, slice_get, nat_le}
+use Rattle.std.proofs.Common.{◌≡◌, ℕ, zero, suc, ◌+◌, ◌<◌, ◌≤◌, Bool, true, false, ◌&&◌, List, [], ◌∷◌, ◌++◌, length, drop, Option, Some, None, Ok, Err, refl, sym, ap, ◌∙◌, arith}
+use Rattle.std.specs.Prelude.{is_some, nat_le}
 use Rattle.ppdb_base.specs.declared.BlobFault.{BlobFault}
 use Rattle.ppdb_base.specs.declared.Code.TheVariants.{ValueRange}
 use Rattle.blob_grammar.specs.Grammar.{Value, number, unsigned}
@@ -13,7 +13,7 @@ use Rattle.type_blobs.specs.declared.types.TypeToken.{TypeToken}
 use Rattle.type_blobs.specs.declared.types.TypeLimits.{TypeLimits}
 use Rattle.type_blobs.specs.Types.{is_row, is_type, token_of}
 use Rattle.type_blobs.specs.Numbers.{number_at}
-use Rattle.type_blobs.specs.Imports.{Part, alias_part, assembly_part, namespace_part, target_part, parts_of, next_part, part_allows, text_of, import_of, imports, ImportItem, namespace, assembly_namespace, target, xml, alias, assembly_alias, namespace_alias, assembly_namespace_alias, target_alias}
+use Rattle.type_blobs.specs.Imports.{Part, alias_part, assembly_part, namespace_part, target_part, next_part, part_allows, text_of, import_of, imports, ImportItem, namespace, assembly_namespace, target, xml, alias, assembly_alias, namespace_alias, assembly_namespace_alias, target_alias}
 use Rattle.type_blobs.specs.ImportReading.{imports_left, fields_left, text_at, assembly_at, target_at}
 use Rattle.type_blobs.proofs.NextStep.{Found, found}
 use Rattle.type_blobs.proofs.FieldsTaken.{takes, refuses}
@@ -123,10 +123,6 @@ module _ (limits : TypeLimits) (heap : ℕ → Option (List ℕ)) (blob : List �
   pub no_alias : (kind at : ℕ) (fault : BlobFault) → 4 ≤ kind → kind ≤ 9 → text_at heap blob at ≡ Err fault → Left_after kind at (nothing_left (Some fault))
   unfolding fields_left
   no_alias kind at fault low high e = refused alias_part kind [] at (text_of heap) fault (alias_first kind low high) e
-
-  -- after an alias
-  abbrev named : ℕ → List ℕ → ℕ → ℕ → Left ImportItem → Type 0
-  named kind name at next left = Text at name next → Left_after kind at left
 
   alias_taken : (kind at : ℕ) (name : List ℕ) (next : ℕ) → IsPart alias_part kind [] → (f : Found (λ n. is_some (heap n)) (text_of heap) blob at name next) → Left_after kind at (goes_on (number kind ∷ number f.n ∷ []) next)
   unfolding fields_left

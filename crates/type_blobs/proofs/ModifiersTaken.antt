@@ -1,12 +1,11 @@
 -- What a cursor of a constant has left where a modifier comes, and where none does.
-use Rattle.std.proofs.Common.{◌≡◌, ℕ, zero, suc, ◌+◌, ◌<◌, ◌≤◌, Bool, true, false, ◌&&◌, ◌||◌, List, [], ◌∷◌, ◌++◌, length, drop, Option, Some, None, Result, Ok, Err, refl, sym, ap, subst, ◌∙◌, arith, ◌⊎◌, inl, inr}
+use Rattle.std.proofs.Common.{◌≡◌, ℕ, ◌+◌, ◌≤◌, Bool, true, false, ◌&&◌, List, [], ◌∷◌, length, drop, Option, Some, None, Result, Ok, Err, refl, sym, ap, subst, ◌∙◌, inl, inr}
 use Rattle.std.specs.Prelude.{◌==◌, is_some}
 use Rattle.std.proofs.lemmas.List.{drop_all}
 use Rattle.ppdb_base.specs.declared.BlobFault.{BlobFault}
-use Rattle.ppdb_base.specs.declared.Code.{Code}
 use Rattle.ppdb_base.specs.declared.Code.TheVariants.{BlobEnd, ValueRange}
-use Rattle.blob_grammar.specs.Grammar.{Value, number, integer, octets, Form, unsigned, byte}
-use Rattle.blob_grammar.specs.Reader.{Left, field_at, is_empty, Step, field, stop, bad, stop_or, if_allowed, step_at, step_in, step}
+use Rattle.blob_grammar.specs.Grammar.{Value, number, integer, octets, unsigned, byte}
+use Rattle.blob_grammar.specs.Reader.{field_at, is_empty, Step, field, stop, bad, stop_or, step}
 use Rattle.type_blobs.specs.declared.types.TypeLimits.{TypeLimits}
 use Rattle.type_blobs.specs.declared.types.TypeToken.{TypeToken}
 use Rattle.type_blobs.specs.declared.types.Modifier.{Modifier}
@@ -14,7 +13,7 @@ use Rattle.type_blobs.specs.Types.{is_type, token_of}
 use Rattle.type_blobs.specs.Numbers.{number_at}
 use Rattle.type_blobs.specs.Constants.{constants, modifier_of, body_of, is_modifier, is_code, after_code}
 use Rattle.type_blobs.specs.ConstantReading.{Rest, ConstantLeft, ConstantEnd, bad_modifier, begins_modifier, modifier_fault, finished, end_of, left_of, constant_left, with_modifier}
-use Rattle.type_blobs.proofs.NextStep.{Found, found, step-field, step-out, step-none, step-number, step-no_number, IsBad}
+use Rattle.type_blobs.proofs.NextStep.{found, step-field, step-out, step-none, step-number, step-no_number}
 use Rattle.type_blobs.proofs.Rests.{push_rest}
 use Rattle.type_blobs.proofs.Codes.{modifier_is}
 use Rattle.type_blobs.proofs.ConstantRests.{rest, Steps, rest_goes, rest_closes, rest_bad, rest_stop}

@@ -1,11 +1,9 @@
 -- What is left of a blob and what has begun where it ends, a step of the plain reader at a time.
-use Rattle.std.proofs.Common.{◌≡◌, ℕ, ◌+◌, ◌<◌, ◌≤◌, Bool, true, false, ◌&&◌, List, [], ◌∷◌, ◌++◌, length, drop, Option, Some, None, Result, Ok, Err, refl, sym, ap, subst, ◌∙◌, arith}
+use Rattle.std.proofs.Common.{◌≡◌, ℕ, ◌+◌, List, [], ◌∷◌, ◌++◌, drop, Option, Some, None, refl, ap, ◌∙◌}
 use Rattle.std.specs.List.{fold}
 use Rattle.std.proofs.lemmas.List.{drop-drop}
-use Rattle.ppdb_base.specs.declared.Code.{Code}
-use Rattle.ppdb_base.specs.declared.BlobFault.{BlobFault}
-use Rattle.blob_grammar.specs.Grammar.{Value, Form, Field, Grammar, Cut, closed, with_value}
-use Rattle.blob_grammar.specs.Reader.{Left, field_at, is_empty, Step, field, stop, bad, stop_or, if_allowed, step_at, step_in, step, push, close_and, take_step, take_field, read_from, fields_from, begun_from}
+use Rattle.blob_grammar.specs.Grammar.{Value, Grammar, Cut, closed, with_value}
+use Rattle.blob_grammar.specs.Reader.{Left, Step, field, stop, bad, step, push, close_and, take_step, take_field, read_from, fields_from, begun_from}
 use Rattle.blob_grammar.proofs.Steps.{read_from-step}
 use Rattle.type_blobs.specs.ConstantReading.{Rest, rest_at}
 use Rattle.blob_grammar.proofs.FrontFields.{fields_from-step}

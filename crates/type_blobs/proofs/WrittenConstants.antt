@@ -1,5 +1,5 @@
 -- What constant_into writes is read again.
-use Rattle.std.proofs.Common.{◌≡◌, ℕ, ◌+◌, ◌^◌, ◌<◌, ◌≤◌, Bool, true, false, List, [], ◌∷◌, ◌++◌, length, Option, Some, None, refl, sym, ap, subst, ◌∙◌, arith, append_assoc, append-nil}
+use Rattle.std.proofs.Common.{◌≡◌, ℕ, Bool, true, false, List, [], ◌∷◌, ◌++◌, length, Some, None, refl, sym, ap, subst, ◌∙◌, arith, append-nil}
 use Rattle.std.specs.Prelude.{All, is_some, nat_le, ◌&&◌}
 use Rattle.std.specs.List.{flat_map}
 use Rattle.std.proofs.lemmas.List.Elements.{All-head, All-tail}
@@ -12,9 +12,9 @@ use Rattle.type_blobs.specs.declared.types.TypeLimits.{TypeLimits}
 use Rattle.type_blobs.specs.declared.types.TypeToken.{TypeToken}
 use Rattle.type_blobs.specs.declared.types.Modifier.{Modifier}
 use Rattle.type_blobs.specs.Types.{number_of, token_of, IsToken, IsThere}
-use Rattle.type_blobs.specs.Constants.{ConstantBody, primitive, enumerated, general, object, is_primitive, is_enumerable, is_general, is_string, is_text, is_code, size_of, body_of, modifier_of, after_two, constants}
+use Rattle.type_blobs.specs.Constants.{ConstantBody, primitive, enumerated, general, object, is_enumerable, is_general, is_string, is_text, is_code, size_of, body_of, modifier_of, after_two, constants}
 use Rattle.type_blobs.specs.ConstantReading.{ConstantLeft, body, ConstantReading}
-use Rattle.type_blobs.specs.Spelling.{code_of, modifier_spelling, body_spelling, constant_spelling, IsValue, IsPrimitive, IsBody, IsBodyThere}
+use Rattle.type_blobs.specs.Spelling.{code_of, modifier_spelling, body_spelling, constant_spelling, IsPrimitive, IsBody, IsBodyThere}
 use Rattle.type_blobs.proofs.Codes.{OfGeneral, of_general, OfPrimitive, of_primitive, primitive_range, enumerable_range, eq-is}
 use Rattle.type_blobs.proofs.WrittenNumbers.{number_field, number_allowed, number_small, token-back, type_is, fields_longest}
 
@@ -94,9 +94,6 @@ module _ (limits : TypeLimits) where
   body_spelled object = refl
 
   -- the body's fields are allowed, and what they make is the body
-  abbrev Follows : List Modifier → ConstantBody → Type 0
-  Follows whole b = FollowFrom (constants limits) (after whole []) (body_fields b) []
-
   record IsMade (whole : List Modifier) (b : ConstantBody) : Type 0 where
     pub follow : FollowFrom (constants limits) (after whole []) (body_fields b) []
     pub begun : List Value

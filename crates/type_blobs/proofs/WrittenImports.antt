@@ -1,19 +1,18 @@
 -- What import_into writes is read again.
-use Rattle.std.proofs.Common.{◌≡◌, ℕ, zero, suc, ◌+◌, ◌^◌, ◌<◌, ◌≤◌, Bool, true, List, [], ◌∷◌, ◌++◌, length, get_or, Option, Some, None, refl, sym, ap, subst, ◌∙◌, arith, append_assoc, append-nil}
+use Rattle.std.proofs.Common.{◌≡◌, ℕ, zero, suc, ◌^◌, ◌<◌, ◌≤◌, true, List, [], ◌∷◌, ◌++◌, Option, Some, None, refl, sym, ap, subst, ◌∙◌, arith, append_assoc, append-nil}
 use Rattle.std.specs.Prelude.{All, map, is_some, IsSome}
 use Rattle.std.specs.List.{flat_map}
 use Rattle.std.proofs.lemmas.List.Elements.{All-head, All-tail}
 use Rattle.std.proofs.lemmas.Grind.{flat_map-append}
 use Rattle.cli_ints.specs.Shortest.{short_unsigned}
-use Rattle.blob_grammar.specs.Grammar.{number, unsigned, Field, Cut, bytes_of, IsAllowed, cut}
+use Rattle.blob_grammar.specs.Grammar.{number, Field, Cut, bytes_of, IsAllowed, cut}
 use Rattle.blob_grammar.specs.Reading.{Reading}
 use Rattle.blob_grammar.specs.Reader.{cut_from}
 use Rattle.blob_grammar.proofs.Written.{FollowFrom, follow-append, cut_from-append}
 use Rattle.type_blobs.specs.declared.types.TypeLimits.{TypeLimits}
 use Rattle.type_blobs.specs.declared.import_writer.ImportNumbers.{ImportNumbers}
-use Rattle.type_blobs.specs.Types.{number_of, IsToken}
 use Rattle.type_blobs.specs.Imports.{Part, alias_part, assembly_part, namespace_part, target_part, parts_of, part_allows, allows, ImportItem, item_of, imports}
-use Rattle.type_blobs.specs.Spelling.{part_number, field_numbers, import_spelling, IsImport, IsPartThere, import_item, StandFor}
+use Rattle.type_blobs.specs.Spelling.{part_number, import_spelling, IsImport, IsPartThere, import_item, StandFor}
 use Rattle.type_blobs.proofs.WrittenNumbers.{number_field, number_allowed, number_small, row_is, type_is, fields_longest}
 
 -- the fields of an import, and those of several

@@ -1,10 +1,9 @@
 -- Numbers that are written, and the types that they name.
-use Rattle.std.proofs.Common.{◌≡◌, ℕ, ◌+◌, ◌*◌, ◌/◌, ◌%◌, ◌^◌, ◌<◌, ◌≤◌, Bool, true, ◌&&◌, List, [], ◌∷◌, ◌++◌, Some, refl, sym, ap, subst, ◌∙◌, arith, ◌⊎◌, inl, inr, append-nil}
-use Rattle.std.specs.Prelude.{nat_le}
+use Rattle.std.proofs.Common.{◌≡◌, ℕ, ◌+◌, ◌*◌, ◌/◌, ◌%◌, ◌^◌, ◌<◌, ◌≤◌, true, List, [], Some, refl, sym, ap, subst, ◌∙◌, arith, ◌⊎◌, inl, inr, append-nil}
 use Rattle.cli_ints.specs.Compressed.{SpellsUnsigned}
 use Rattle.cli_ints.specs.Shortest.{short_unsigned}
 use Rattle.cli_ints.proofs.Shortest.{short_unsigned-shortest}
-use Rattle.blob_grammar.specs.Grammar.{Value, number, Form, unsigned, Field, Grammar, Cut, IsAllowed, MayFollow, cut, bytes_of, AtFront}
+use Rattle.blob_grammar.specs.Grammar.{number, unsigned, Field, Grammar, Cut, IsAllowed, bytes_of}
 use Rattle.blob_grammar.specs.Reading.{IsLongestFront}
 use Rattle.blob_grammar.specs.Reader.{field_at}
 use Rattle.blob_grammar.proofs.Fields.{FieldFound, field-is, field-all}

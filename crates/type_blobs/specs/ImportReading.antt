@@ -1,5 +1,5 @@
 -- What a cursor of imports has left, and what its answers show.
-use Rattle.std.specs.Prelude.{◌≡◌, ℕ, ◌≤◌, List, [], ◌∷◌, length, drop, Option, Some, None, Result, Ok, Err, is_some}
+use Rattle.std.specs.Prelude.{◌≡◌, ℕ, ◌≤◌, List, [], ◌∷◌, drop, Option, Some, None, Result, Ok, Err, is_some}
 use Rattle.ppdb_base.specs.declared.BlobFault.{BlobFault}
 use Rattle.ppdb_heaps.specs.Heaps.{blob_at}
 use Rattle.ppdb_heaps.specs.Views.{blobs_of}

@@ -1,4 +1,4 @@
-use Rattle.std.proofs.Common.{◌≡◌, ◌≤◌, true, false, refl, sym, ap, arith}
+use Rattle.std.proofs.Common.{◌≡◌, false, refl, sym, arith}
 use Rattle.std.proofs.lemmas.Result.{err_from_is_err_and}
 use Rattle.type_blobs.specs.Constants.{is_modifier, is_code}
 use Rattle.type_blobs.proofs.Codes.{of_primitive, of_general, general_between, no_code-below, no_code-between, no_code-above}

@@ -1,4 +1,4 @@
-use Rattle.std.proofs.Common.{sym, refl}
+use Rattle.std.proofs.Common.{sym}
 use Rattle.std.proofs.lemmas.Result.{err_from_is_err_and}
 use Rattle.type_blobs.proofs.ModifiersTaken.{nothing_there, no_modifier, body_next, a_modifier, no_type}
 use Rattle.type_blobs.proofs.BodiesTaken.{byte_there}

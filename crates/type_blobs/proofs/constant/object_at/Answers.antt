@@ -1,6 +1,5 @@
-use Rattle.std.proofs.Common.{Some, sym, subst, arith}
-use Rattle.type_blobs.specs.ConstantReading.{finished}
-use Rattle.type_blobs.proofs.BodiesTaken.{IsFault, object_end, object_more}
+use Rattle.std.proofs.Common.{arith}
+use Rattle.type_blobs.proofs.BodiesTaken.{object_end, object_more}
 use Rattle.type_blobs.proofs.constant.object_at.Goals as goal
 
 pub returns-then-at-blob : goal.returns-then-at-blob

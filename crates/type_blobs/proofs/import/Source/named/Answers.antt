@@ -1,4 +1,4 @@
-use Rattle.std.proofs.Common.{◌≡◌, ℕ, refl, sym, arith}
+use Rattle.std.proofs.Common.{◌≡◌, refl, sym, arith}
 use Rattle.std.proofs.lemmas.Result.{err_from_is_err_and}
 use Rattle.type_blobs.specs.Types.{token_of}
 use Rattle.type_blobs.specs.Imports.{text_of, namespace_part, assembly_part, target_part}
