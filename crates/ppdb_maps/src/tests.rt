@@ -238,3 +238,22 @@ fn answers_what_lines_say(rt: HostRuntime) -> Result<(), Fail> {
     );
     Ok(())
 }
+
+// 64 MB of lines, each of which keeps one offset.
+#[test]
+fn reads_a_long_text(rt: HostRuntime) -> Result<(), Fail> {
+    let mut text = Vec::new(rt.alloc());
+    text.extend_from_slice(b"ppdbmap 1\nmethod 1 2147483647 2147483647\n")?;
+    for offset in 1_000_000_000..1_002_485_514u32 {
+        let line = format!(in rt.alloc(); "run {offset} {offset} 1\n")?;
+        text.extend_from_slice(line.as_bytes())?;
+    }
+    assert!(rt; text.len() >= 67_108_864);
+    let map = text_of(&rt, &text)?;
+    assert_eq!(rt;
+        map.method(1).run_line(2_485_513),
+        Some((1_002_485_513, 1_002_485_513, 1))
+    );
+    assert_eq!(rt; map.method(1).image(1_002_485_514), None);
+    Ok(())
+}
