@@ -1,3 +1,4 @@
 pub mod Heaps
 pub mod Names
 pub mod Joins
+pub mod Whole

@@ -1,0 +1,29 @@
+-- The text and the part indexes of a document name, as functions of the blob.
+use Rattle.std.proofs.Common.{◌≡◌, ℕ, Bool, true, List, [], None, refl, sym, ap, subst, ◌∙◌}
+use Rattle.ppdb_base.specs.declared.BlobFault.{BlobFault}
+use Rattle.blob_grammar.specs.Grammar.{Value}
+use Rattle.blob_grammar.specs.Reading.{Reading}
+use Rattle.blob_grammar.specs.Indexes.{HasIndexes}
+use Rattle.blob_grammar.specs.Reader.{read_from}
+use Rattle.blob_grammar.proofs.Readers.{read_from-reads}
+use Rattle.blob_grammar.proofs.Unique.{reading-unique}
+use Rattle.blob_grammar.proofs.FrontFields.{front_of-indexes}
+use Rattle.ppdb_heaps.specs.Names.{NamePart, names, joined, IsName, name_of, name_indexes}
+
+-- A blob that is a whole name has one text, and it is name_of.
+pub name_of-is : (blobs blob name : List ℕ) → IsName blobs blob name → name ≡ name_of blobs blob
+unfolding name_of
+name_of-is blobs blob name h =
+    let left = read_from (names blobs) [] [] 0 blob in
+    h.text ∙ ap joined (reading-unique (names blobs) blob h.parts left.items None left.fault h.whole (read_from-reads (names blobs) blob)).0
+
+pub name-unique : (blobs blob a b : List ℕ) → IsName blobs blob a → IsName blobs blob b → a ≡ b
+name-unique blobs blob a b p q = name_of-is blobs blob a p ∙ sym (name_of-is blobs blob b q)
+
+pub name_of-whole : (blobs blob : List ℕ) (parts : List NamePart) → Reading (names blobs) blob parts None → IsName blobs blob (name_of blobs blob)
+name_of-whole blobs blob parts h =
+    let n : IsName blobs blob (joined parts) = record { parts = parts; whole = h; text = refl } in
+    subst (λ (t : List ℕ). IsName blobs blob t) (name_of-is blobs blob (joined parts) n) n
+
+pub name_indexes-are : (blobs blob : List ℕ) → HasIndexes (names blobs) (λ before begun. true) blob (name_indexes blobs blob)
+name_indexes-are blobs blob = front_of-indexes (names blobs) (λ before begun. true) blob
