@@ -1,5 +1,5 @@
 -- What the functions that read the root say to one another.
-use Rattle.std.specs.Prelude.{◌≡◌, ◌≢◌, ℕ, ◌+◌, ◌<◌, ◌≤◌, ◌⊎◌, List, [], length, take, drop, codes, option_map, Option, Some, None, IsSome, MatchOption, Any, nat_lt, if◌then◌else◌}
+use Rattle.std.specs.Prelude.{◌≡◌, ◌≢◌, ℕ, ◌+◌, ◌<◌, ◌≤◌, ◌⊎◌, List, length, take, drop, codes, option_map, Option, Some, None, IsSome, MatchOption, nat_lt, if◌then◌else◌}
 use Rattle.ppdb_base.specs.declared.code.Code.{Code}
 use Rattle.ppdb_base.specs.declared.code.Code.TheVariants.{RootTruncated, StreamName, StreamUnknown, StreamRepeated}
 use Rattle.ppdb_base.specs.declared.fault.Fault.{Fault}

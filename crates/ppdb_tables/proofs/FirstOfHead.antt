@@ -1,5 +1,5 @@
 -- The first fault of the #Pdb stream, from what its readers saw.
-use Rattle.std.proofs.Common.{◌≡◌, ◌≢◌, ℕ, suc, ◌+◌, ◌-◌, ◌*◌, ◌^◌, ◌<◌, ◌≤◌, ◌⊎◌, inl, inr, List, [], ◌∷◌, ◌++◌, length, sum, replicate, refl, sym, ap, subst, ◌∙◌, arith, lit≤}
+use Rattle.std.proofs.Common.{◌≡◌, ◌≢◌, ℕ, suc, ◌+◌, ◌-◌, ◌*◌, ◌^◌, ◌<◌, ◌≤◌, inl, inr, List, [], ◌∷◌, ◌++◌, length, sum, replicate, refl, sym, ap, subst, ◌∙◌, arith, lit≤}
 use Rattle.ppdb_base.specs.declared.code.Code.{Code}
 use Rattle.ppdb_base.specs.declared.code.Code.TheVariants.{PdbShort, PdbTables, PdbRows, EntryPoint}
 use Rattle.ppdb_base.specs.declared.fault.Place.{Place}
@@ -14,7 +14,7 @@ use Rattle.ppdb_tables.specs.declared.counts.Part.{Part}
 use Rattle.ppdb_tables.specs.Counts.{HasCount, counts_below, count_fields, IsShort, IsCountFault}
 use Rattle.ppdb_tables.specs.Head.{BadPdb, BadPdbFields, short, foreign, rows, BadEntry, entry, NamesMethod, entry_in, referenced, pdb_fields, pdb_count_place, pdb_rows}
 use Rattle.ppdb_tables.proofs.FieldLists.{field_within, starts_by, all_fit}
-use Rattle.ppdb_tables.proofs.RowCounts.{cut, sum-cut, sum-fields, fields_cut, count_cut, one_more, counts_mono, counts-step, earlier_table, rows_in-set, has_count}
+use Rattle.ppdb_tables.proofs.RowCounts.{cut, sum-cut, sum-fields, fields_cut, count_cut, one_more, counts_mono, earlier_table, rows_in-set, has_count}
 
 -- the fields before the row counts
 abbrev front : List ℕ

@@ -1,9 +1,9 @@
 -- The first row that passes the end of the #~ stream.
-use Rattle.std.proofs.Common.{◌≡◌, ℕ, zero, suc, true, false, Bool, ◌+◌, ◌-◌, ◌*◌, ◌<◌, ◌≤◌, List, [], ◌∷◌, ◌++◌, length, sum, take, drop, get_or, replicate, map, refl, sym, ap, subst, ◌∙◌, append_assoc, arith, lit≤, lit<}
-use Rattle.std.specs.Prelude.{flat_map, slice_index, nat_lt}
-use Rattle.std.specs.List.{range_with_len, list_any, list_all}
+use Rattle.std.proofs.Common.{◌≡◌, ℕ, suc, true, false, Bool, ◌+◌, ◌-◌, ◌*◌, ◌<◌, ◌≤◌, List, [], ◌∷◌, ◌++◌, length, sum, take, drop, get_or, replicate, map, refl, sym, ap, subst, ◌∙◌, append_assoc, arith, lit≤, lit<}
+use Rattle.std.specs.Prelude.{slice_index, nat_lt}
+use Rattle.std.specs.List.{list_any, list_all}
 use Rattle.std.specs.Int.{bit_at}
-use Rattle.std.specs.Prelude.{nat_le, ◌==◌}
+use Rattle.std.specs.Prelude.{◌==◌}
 use Rattle.std.proofs.Math.Seq.{split_at}
 use Rattle.std.proofs.lemmas.List.{take_more, replicate-append-replicate, get_or-map}
 use Rattle.std.proofs.lemmas.Bool.{ltb-true, false≢true}
@@ -25,7 +25,7 @@ use Rattle.row_layout.specs.declared.column.Column.{Column}
 use Rattle.row_layout.specs.declared.column.Column.TheVariants.{U16, U32, Text, Blob, Guid, Row, Parent}
 use Rattle.row_layout.specs.Columns.{width_of, index_width, has_rows, parent_tables}
 use Rattle.ppdb_tables.specs.Layouts.{Table, debug_tables, row_len, row_fields, row_fields_of}
-use Rattle.ppdb_tables.specs.Tables.{BadRows, bounds, rows_start}
+use Rattle.ppdb_tables.specs.Tables.{BadBounds, bounds, rows_start}
 use Rattle.ppdb_tables.specs.Bounds.{IsRowFault}
 use Rattle.ppdb_tables.proofs.RowCounts.{sum-replicate}
 
@@ -124,17 +124,17 @@ module _ (sizes : Sizes) where
 
   module _ (stream : List ℕ) where
     judged_case : (before after : List ℕ) → row_fields sizes debug_tables ≡ before ++ after → rows_start stream + sum before ≤ length stream
-        → (code : Code) (at : Place) → BadRows sizes stream code at → ComesBefore (numbers code at) (4 ∷ 0 ∷ 0 ∷ 0 ∷ (rows_start stream + sum before) ∷ []) → ⊥
+        → (code : Code) (at : Place) → BadBounds sizes stream code at → ComesBefore (numbers code at) (4 ∷ 0 ∷ 0 ∷ 0 ∷ (rows_start stream + sum before) ∷ []) → ⊥
     judged_case before after split le _ _ (bounds at len f over) past =
         let lt = byte_before 4 TablesBounds (rows_start stream + at) (rows_start stream + sum before) past in
         absurd (omega (arith, lt, le, over, ends_by_cut (row_fields sizes debug_tables) before after at len f split (omega (arith, lt))))
 
-    least_bounds : (code : Code) (at : Place) → BadRows sizes stream code at → 17 ≤ number_of code
+    least_bounds : (code : Code) (at : Place) → BadBounds sizes stream code at → 17 ≤ number_of code
     least_bounds _ _ (bounds at len f over) = lit≤ tt
 
     -- the first row of a table that passes the end, after tables that fit, is the first fault
     pub row_is_first : (index first : ℕ) (fault : Fault) → index < 8 → first ≡ rows_start stream + sum (row_fields sizes (take index debug_tables))
-        → IsRowFault stream first (slice_index sizes.rows (0x30 + index)) (row_len sizes (table index)) fault → IsFirst (BadRows sizes stream) fault
+        → IsRowFault stream first (slice_index sizes.rows (0x30 + index)) (row_len sizes (table index)) fault → IsFirst (BadBounds sizes stream) fault
     row_is_first index first fault lt here f =
         let row = f.0 in
         let len = row_len sizes (table index) in
@@ -143,15 +143,15 @@ module _ (sizes : Sizes) where
         let place : first + row * len ≡ rows_start stream + sum before = omega (arith, here, sum-append (row_fields sizes (take index debug_tables)) (replicate row len), sum-replicate row len) in
         let is : fault ≡ record { code = TablesBounds; place = at_byte 4 (rows_start stream + sum before) } = f.2 ∙ ap (λ b. record { code = TablesBounds; place = at_byte 4 b }) place in
         let field : IsField (row_fields sizes debug_tables) (sum before) len = record { before = before; after = cut.0; in_order = cut.1; place = refl } in
-        subst (IsFirst (BadRows sizes stream)) (sym is)
-        (first_at (BadRows sizes stream) TablesBounds (at_byte 4 (rows_start stream + sum before))
+        subst (IsFirst (BadBounds sizes stream)) (sym is)
+        (first_at (BadBounds sizes stream) TablesBounds (at_byte 4 (rows_start stream + sum before))
         (judged_case before (len ∷ cut.0) cut.1 (omega (arith, place, f.3)))
         (bounds (sum before) len field (omega (arith, place, f.4)))
         (λ other bad. least_bounds other _ bad))
 
-    accepted_case : rows_start stream + sum (row_fields sizes debug_tables) ≤ length stream → (code : Code) (at : Place) → BadRows sizes stream code at → ⊥
+    accepted_case : rows_start stream + sum (row_fields sizes debug_tables) ≤ length stream → (code : Code) (at : Place) → BadBounds sizes stream code at → ⊥
     accepted_case le _ _ (bounds at len f over) =
         absurd (omega (arith, le, over, ends_within (row_fields sizes debug_tables) at len f))
 
-    pub rows_accepted : rows_start stream + sum (row_fields sizes debug_tables) ≤ length stream → IsAccepted (BadRows sizes stream)
+    pub rows_accepted : rows_start stream + sum (row_fields sizes debug_tables) ≤ length stream → IsAccepted (BadBounds sizes stream)
     rows_accepted le = accepted_case le

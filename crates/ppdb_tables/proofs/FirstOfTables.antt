@@ -1,5 +1,5 @@
 -- The first fault of the #~ stream before its rows, from what its readers saw.
-use Rattle.std.proofs.Common.{◌≡◌, ◌≢◌, ℕ, suc, ◌+◌, ◌-◌, ◌*◌, ◌^◌, ◌<◌, ◌≤◌, inl, inr, List, [], ◌∷◌, ◌++◌, length, sum, replicate, refl, sym, ap, subst, ◌∙◌, append_assoc, arith, lit≤, lit<}
+use Rattle.std.proofs.Common.{◌≡◌, ◌≢◌, ℕ, suc, ◌+◌, ◌-◌, ◌<◌, ◌≤◌, inl, inr, List, [], ◌∷◌, ◌++◌, length, sum, replicate, refl, sym, ap, subst, ◌∙◌, append_assoc, arith, lit≤, lit<}
 use Rattle.ppdb_base.specs.declared.code.Code.{Code}
 use Rattle.ppdb_base.specs.declared.code.Code.TheVariants.{TablesShort, HeapBits, TablesForeign, TableRows, MethodRows}
 use Rattle.ppdb_base.specs.declared.fault.Place.{Place}

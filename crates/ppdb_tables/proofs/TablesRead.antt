@@ -1,6 +1,6 @@
 -- The tables that stand in the stream, from where they were placed.
-use Rattle.std.proofs.Common.{◌≡◌, ℕ, suc, true, false, ◌+◌, ◌*◌, ◌<◌, ◌≤◌, inl, inr, List, [], ◌∷◌, length, take, drop, map, sum, get_or, Some, Option, refl, sym, ap, subst, ◌∙◌, arith, lit≤}
-use Rattle.std.specs.Prelude.{slice_get, slice_index, nat_lt, if◌then◌else◌}
+use Rattle.std.proofs.Common.{◌≡◌, ℕ, ◌+◌, ◌*◌, ◌<◌, ◌≤◌, inl, inr, List, [], ◌∷◌, length, map, sum, Some, refl, sym, ap, ◌∙◌, arith, lit≤}
+use Rattle.std.specs.Prelude.{slice_get, slice_index}
 use Rattle.std.specs.List.{range_with_len}
 use Rattle.std.proofs.lemmas.Bool.{cases_lt, lt-ltb, le-ltb}
 use Rattle.std.proofs.lemmas.Option.{get_or_from_slice_get, slice_get_within}
@@ -12,10 +12,10 @@ use Rattle.row_layout.specs.declared.column.Column.{Column}
 use Rattle.ppdb_tables.specs.declared.head.PdbHead.{PdbHead}
 use Rattle.ppdb_tables.specs.declared.layouts.Layouts.{Layouts}
 use Rattle.ppdb_tables.specs.declared.table.Table as declared
-use Rattle.ppdb_tables.specs.Head.{BadPdb, IsHeadOf, pdb_rows}
-use Rattle.ppdb_tables.specs.Layouts.{Table, debug_tables, widths_of, row_len, row_fields}
+use Rattle.ppdb_tables.specs.Head.{BadPdb, IsHeadOf}
+use Rattle.ppdb_tables.specs.Layouts.{debug_tables, widths_of, row_len}
 use Rattle.ppdb_tables.specs.LayoutsOf.{AreLayouts}
-use Rattle.ppdb_tables.specs.Tables.{count_in, sizes_in, table_rows, table_place, rows_at, rows_start}
+use Rattle.ppdb_tables.specs.Tables.{count_in, sizes_in, table_rows, table_place, rows_at}
 use Rattle.ppdb_tables.specs.TableOf.{IsTableAt, rows_of}
 use Rattle.ppdb_tables.specs.RawTables.{RawTables}
 use Rattle.ppdb_tables.specs.Bounds.{StandsAt}

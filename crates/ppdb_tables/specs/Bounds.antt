@@ -1,10 +1,10 @@
 -- What the functions that place the tables say to one another.
-use Rattle.std.specs.Prelude.{◌≡◌, ℕ, ◌+◌, ◌*◌, ◌<◌, ◌≤◌, List, length, take, drop, sum, slice_index}
+use Rattle.std.specs.Prelude.{◌≡◌, ℕ, ◌+◌, ◌*◌, ◌<◌, ◌≤◌, List, length, take, sum}
 use Rattle.ppdb_base.specs.declared.code.Code.TheVariants.{TablesBounds}
 use Rattle.ppdb_base.specs.declared.fault.Fault.{Fault}
 use Rattle.ppdb_base.specs.Place.{at_byte}
 use Rattle.row_layout.specs.declared.column.Sizes.{Sizes}
-use Rattle.ppdb_tables.specs.Layouts.{Table, debug_tables, row_fields, row_fields_of}
+use Rattle.ppdb_tables.specs.Layouts.{debug_tables, row_fields}
 use Rattle.ppdb_tables.specs.Tables.{rows_start}
 
 -- the fault of the first of some rows, which stand one after another from a place on, that passes the end

@@ -1,5 +1,5 @@
 -- The columns of the debug tables (Portable PDB v1.0, "Metadata Tables"), and the rows of a table as its bytes (ECMA-335 II.24.2.6).
-use Rattle.std.specs.Prelude.{ℕ, ◌+◌, ◌*◌, List, [], ◌∷◌, map, flat_map, replicate, take, drop, sum, slice_index}
+use Rattle.std.specs.Prelude.{ℕ, ◌*◌, List, [], ◌∷◌, map, flat_map, replicate, take, drop, sum, slice_index}
 use Rattle.std.specs.List.{range_with_len}
 use Rattle.row_layout.specs.declared.column.Sizes.{Sizes}
 use Rattle.row_layout.specs.declared.column.Column.{Column}

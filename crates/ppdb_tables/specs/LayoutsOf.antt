@@ -1,5 +1,5 @@
 -- What the layouts of the debug tables are.
-use Rattle.std.specs.Prelude.{◌≡◌, ℕ}
+use Rattle.std.specs.Prelude.{◌≡◌}
 use Rattle.row_layout.specs.declared.column.Sizes.{Sizes}
 use Rattle.ppdb_tables.specs.declared.layouts.Layouts.{Layouts}
 use Rattle.ppdb_tables.specs.Layouts.{widths_of, document_columns, method_columns, scope_columns, variable_columns, constant_columns, import_columns, machine_columns, custom_columns}

@@ -1,5 +1,5 @@
 -- The #~ stream, and what is wrong with it (ECMA-335 II.24.2.6; Portable PDB v1.0, "Standalone debugging metadata", #~).
-use Rattle.std.specs.Prelude.{◌≡◌, ◌≢◌, ℕ, ◌+◌, ◌*◌, ◌%◌, ◌^◌, ◌<◌, ◌≤◌, ◌⊎◌, List, ◌∷◌, length, take, drop, sum, filter, map, nat_lt, nat_le, if◌then◌else◌, slice_index}
+use Rattle.std.specs.Prelude.{◌≢◌, ℕ, ◌+◌, ◌*◌, ◌%◌, ◌^◌, ◌<◌, ◌≤◌, ◌⊎◌, List, ◌∷◌, length, take, drop, sum, filter, map, nat_lt, if◌then◌else◌, slice_index}
 use Rattle.std.specs.List.{range_with_len}
 use Rattle.ppdb_base.specs.declared.code.Code.{Code}
 use Rattle.ppdb_base.specs.declared.code.Code.TheVariants.{TablesShort, HeapBits, TablesForeign, TableRows, TablesBounds, MethodRows}
@@ -56,8 +56,8 @@ abbrev pub rows_start : List ℕ → ℕ
 rows_start stream = sum (table_fields stream)
 
 -- The rule of the rows, F17.
-pub data BadRows (sizes : Sizes) (stream : List ℕ) : Code → Place → Type 0 where
-  bounds : (at len : ℕ) → IsField (row_fields sizes debug_tables) at len → length stream < rows_start stream + at + len → BadRows sizes stream TablesBounds (at_byte 4 (rows_start stream + at))
+pub data BadBounds (sizes : Sizes) (stream : List ℕ) : Code → Place → Type 0 where
+  bounds : (at len : ℕ) → IsField (row_fields sizes debug_tables) at len → length stream < rows_start stream + at + len → BadBounds sizes stream TablesBounds (at_byte 4 (rows_start stream + at))
 
 -- how many rows a table has: 00 to 2c by #Pdb, 30 to 37 by #~, all others none
 abbrev pub count_in : PdbHead → List ℕ → ℕ → ℕ
@@ -70,7 +70,7 @@ sizes_in head stream = record { heap = heap_sizes stream; rows = map (count_in h
 
 -- the rules of the stream: the rows are judged where no field is bad
 abbrev pub BadTables : PdbHead → List ℕ → Code → Place → Type 0
-BadTables head stream = Then (BadTableFields (slice_index head.rows 6) stream) (BadRows (sizes_in head stream) stream)
+BadTables head stream = Then (BadTableFields (slice_index head.rows 6) stream) (BadBounds (sizes_in head stream) stream)
 
 -- where a table begins: after the rows of the tables below it
 abbrev pub table_place : Sizes → List ℕ → ℕ → ℕ

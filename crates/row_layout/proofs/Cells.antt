@@ -1,8 +1,7 @@
 -- Cells that are written are the cells that are read.
-use Rattle.std.proofs.Common.{◌≡◌, ℕ, zero, suc, ◌+◌, ◌<◌, ◌≤◌, ◌^◌, List, [], ◌∷◌, ◌++◌, take, drop, length, sum, inl, inr, get_or, All, refl, ap, ◌∙◌, sym, subst, append_assoc, length-append, add-one, arith, zero-add}
+use Rattle.std.proofs.Common.{◌≡◌, ℕ, zero, suc, ◌+◌, ◌<◌, ◌≤◌, ◌^◌, List, [], ◌∷◌, ◌++◌, take, drop, length, sum, inl, inr, get_or, All, refl, ap, ◌∙◌, sym, subst, append_assoc, length-append, add-one, arith}
 use Rattle.std.proofs.lemmas.List.{take_more, drop_at, drop-drop, length-take-le, append-nil}
-use Rattle.std.proofs.lemmas.List.Elements.{AllZip-get_or, All-tail, All-head}
-use Rattle.std.specs.List.{AllZip}
+use Rattle.std.proofs.lemmas.List.Elements.{AllZip-get_or}
 use Rattle.ppdb_base.proofs.Fields.{sum-append, sum_cons}
 use Rattle.byteorder.specs.Endian.{little_number, little_bytes}
 use Rattle.byteorder.specs.Numbers.{little_number-reads_back, length-bytes_low_first}

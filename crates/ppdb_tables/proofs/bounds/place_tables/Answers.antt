@@ -1,4 +1,4 @@
-use Rattle.std.proofs.Common.{◌≡◌, ℕ, ◌+◌, ◌*◌, ◌<◌, ◌≤◌, length, take, map, sum, get_or, refl, subst, sym, ap, ◌∙◌, arith, below_more, slice_index, set, add-one}
+use Rattle.std.proofs.Common.{◌≡◌, ℕ, ◌+◌, ◌*◌, take, sum, get_or, subst, sym, ap, ◌∙◌, arith, below_more, slice_index, set}
 use Rattle.std.proofs.lemmas.List.{length-replicate, length-set, get_or-set_same, get_or-set_other}
 use Rattle.std.proofs.lemmas.Result.{err_from_is_err_and}
 use Rattle.ppdb_tables.specs.Layouts.{debug_tables, row_fields, row_len}

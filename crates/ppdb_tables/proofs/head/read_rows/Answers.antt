@@ -1,4 +1,4 @@
-use Rattle.std.proofs.Common.{◌≡◌, ℕ, ◌+◌, ◌≤◌, subst, sym, ap, ◌∙◌, arith, add-one, below_more, slice_index, set}
+use Rattle.std.proofs.Common.{◌≡◌, ℕ, ◌≤◌, subst, ap, ◌∙◌, arith, below_more, slice_index, set}
 use Rattle.std.proofs.lemmas.List.{length-replicate, length-set, get_or-set_same, get_or-set_other}
 use Rattle.std.proofs.lemmas.Result.{err_from_is_err_and}
 use Rattle.ppdb_tables.specs.Counts.{IsCountFault}

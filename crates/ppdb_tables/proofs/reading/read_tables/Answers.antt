@@ -1,4 +1,4 @@
-use Rattle.std.proofs.Common.{◌≡◌, ℕ, ◌+◌, ◌*◌, ◌≤◌, length, sum, slice_index, refl, sym, ap, subst, ◌∙◌, arith, lit<}
+use Rattle.std.proofs.Common.{◌≤◌, length, slice_index, refl, sym, ap, subst, ◌∙◌, arith, lit<}
 use Rattle.std.proofs.lemmas.Result.{err_from_is_err_and}
 use Rattle.std.proofs.lemmas.List.FromFn.{length-map-range_with_len}
 use Rattle.ppdb_base.specs.First.{IsAccepted, IsFirst}
@@ -6,7 +6,7 @@ use Rattle.ppdb_base.proofs.Judging.{first_of_after, accepted_then}
 use Rattle.metadata_root.specs.declared.kind.StreamKind.TheVariants.{Pdb, Tables}
 use Rattle.metadata_root.specs.Streams.{bytes_of}
 use Rattle.ppdb_tables.specs.Layouts.{document_columns, method_columns, scope_columns, variable_columns, constant_columns, import_columns, machine_columns, custom_columns, document_row, method_row, scope_row, variable_row, constant_row, import_row, machine_row, custom_row}
-use Rattle.ppdb_tables.specs.Tables.{BadTables, BadTableFields, BadRows, count_in, sizes_in}
+use Rattle.ppdb_tables.specs.Tables.{BadTables, BadTableFields, BadBounds, count_in, sizes_in}
 use Rattle.ppdb_tables.proofs.TablesRead.{table_fits, table_read, same_tables, small_counts}
 use Rattle.ppdb_tables.proofs.reading.read_tables.Goals as goal
 
@@ -18,8 +18,8 @@ returns-in_err-places-clause-first c =
     let fault = c.in_err-places.field-0.0 in
     let header = c.in_ok-header.ensures in
     rw (p.1, p.2) (subst (λ bytes. IsFirst (BadTables head bytes) fault) c.stream_bytes-stream.ensures.bytes
-    (first_of_after (BadTableFields (slice_index head.rows 6) stream) (BadRows (sizes_in head stream) stream) fault header.accepted
-    (subst (λ sizes. IsFirst (BadRows sizes stream) fault) header.sizes c.in_err-places.ensures.first)))
+    (first_of_after (BadTableFields (slice_index head.rows 6) stream) (BadBounds (sizes_in head stream) stream) fault header.accepted
+    (subst (λ sizes. IsFirst (BadBounds sizes stream) fault) header.sizes c.in_err-places.ensures.first)))
 
 pub returns-clause-accepted : goal.returns-clause-accepted
 returns-clause-accepted c =
@@ -27,8 +27,8 @@ returns-clause-accepted c =
     let stream = c.stream_bytes-stream.result.now in
     let header = c.in_ok-header.ensures in
     subst (λ bytes. IsAccepted (BadTables head bytes)) c.stream_bytes-stream.ensures.bytes
-    (accepted_then (BadTableFields (slice_index head.rows 6) stream) (BadRows (sizes_in head stream) stream) header.accepted
-    (subst (λ sizes. IsAccepted (BadRows sizes stream)) header.sizes c.in_ok-places.ensures.accepted))
+    (accepted_then (BadTableFields (slice_index head.rows 6) stream) (BadBounds (sizes_in head stream) stream) header.accepted
+    (subst (λ sizes. IsAccepted (BadBounds sizes stream)) header.sizes c.in_ok-places.ensures.accepted))
 
 pub at-requires : goal.at-requires
 at-requires c = (

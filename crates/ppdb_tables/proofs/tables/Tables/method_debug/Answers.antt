@@ -1,4 +1,4 @@
-use Rattle.std.proofs.Common.{◌≡◌, ◌∙◌, arith}
+use Rattle.std.proofs.Common.{arith}
 use Rattle.ppdb_tables.specs.Layouts.{method_row}
 use Rattle.ppdb_tables.proofs.RowsRead.{row_read}
 use Rattle.ppdb_tables.proofs.tables.Tables.method_debug.Goals as goal

@@ -1,4 +1,4 @@
-use Rattle.std.proofs.Common.{◌≡◌, ◌∙◌, arith}
+use Rattle.std.proofs.Common.{arith}
 use Rattle.ppdb_tables.specs.Layouts.{scope_row}
 use Rattle.ppdb_tables.proofs.RowsRead.{row_read}
 use Rattle.ppdb_tables.proofs.tables.Tables.scope.Goals as goal
