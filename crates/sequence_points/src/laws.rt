@@ -1,6 +1,6 @@
-//! What is written is read again.
+//! What is written is read again, and what is read can be written.
 
-ghost use Rattle.std.specs.Prelude.{◌≡◌, ◌≤◌, [], List, ℕ, All, None};
+ghost use Rattle.std.specs.Prelude.{◌≡◌, ◌<◌, ◌≤◌, [], List, ℕ, All, None};
 ghost use Rattle.sequence_points.specs.declared.point.Point.{Point};
 ghost use Rattle.sequence_points.specs.declared.point.PointLimits.{PointLimits};
 ghost use Rattle.sequence_points.specs.Points.{PointsReading, common_document};
@@ -12,4 +12,13 @@ pub fn written_points_are_read()
     ensures { (signature : ℕ) (points : List Point) (limits : PointLimits) → CanBeWritten signature points → large_steps [] points ≡ []
         → signature ≤ limits.signatures → All (λ p. p.document ≤ limits.documents) points
         → PointsReading (common_document points) limits (points_blob signature points) signature points None }
+{}
+
+/// The signature and the points of a whole blob can be written, wherever the Document column names a row that is
+/// there; and each row that they name is there.
+pub fn read_points_can_be_written()
+    ensures { (column : ℕ) (limits : PointLimits) (blob : List ℕ) (signature : ℕ) (points : List Point)
+        → column ≤ limits.documents → limits.documents < 0x20000000 → limits.signatures < 0x20000000
+        → PointsReading column limits blob signature points None
+        → CanBeWritten signature points × (signature ≤ limits.signatures) × All (λ p. (1 ≤ p.document) × (p.document ≤ limits.documents)) points }
 {}

@@ -14,6 +14,6 @@ mod tests;
 mod writer;
 
 pub use cursor::{PointCursor, blob_fault};
-pub use laws::written_points_are_read;
+pub use laws::{read_points_can_be_written, written_points_are_read};
 pub use point::{Point, PointLimits, Span, single_document};
 pub use writer::{PointError, points_into};
