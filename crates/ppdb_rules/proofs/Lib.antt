@@ -18,3 +18,4 @@ pub mod CustomFaults
 pub mod TextSets
 pub mod NameSets
 pub mod AllRows
+pub mod NameParts

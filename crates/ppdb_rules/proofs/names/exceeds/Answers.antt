@@ -3,7 +3,8 @@ use Rattle.std.specs.Borrow.{Bor}
 use Rattle.ppdb_rules.specs.SeenNames.{HasRoom}
 use Rattle.std.proofs.lemmas.Result.{err_from_is_err_and}
 use Rattle.ppdb_heaps.specs.Views.{blobs_of}
-use Rattle.ppdb_heaps.proofs.Joins.{joining-starts, joining-goes, joining-end, joining-none, joining-fault, answer-is, fewer}
+use Rattle.ppdb_heaps.proofs.Joins.{answer-is, joining-starts}
+use Rattle.ppdb_rules.proofs.NameParts.{joining-end, joining-goes}
 use Rattle.ppdb_rules.proofs.names.exceeds.Goals as goal
 
 -- where there is no room, there are more bytes
