@@ -1,0 +1,15 @@
+pub mod Cells
+pub mod Earlier
+pub mod Scopes
+pub mod Names
+pub mod Chains
+pub mod Customs
+pub mod Blobs
+pub mod Rows
+pub mod Lists
+pub mod Errors
+pub mod Judged
+pub mod Open
+pub mod Seen
+pub mod Marks
+pub mod SeenNames

@@ -1,0 +1,23 @@
+//! The rules of the rows of a Portable PDB file: where the first one is broken.
+#![tactic(auto)]
+
+mod cells;
+mod constants;
+mod contents;
+mod customs;
+mod documents;
+mod errors;
+mod imports;
+mod lists;
+mod machines;
+mod methods;
+mod names;
+mod owners;
+mod rows;
+mod scopes;
+mod seen;
+mod variables;
+
+pub use documents::judge_documents;
+pub use errors::VerifyError;
+pub use rows::judge_rows;

@@ -1,0 +1,75 @@
+// The rules of MethodDebugInformation.
+ghost use Rattle.std.specs.Prelude.{◌≡◌, ◌<◌, ◌≤◌, ◌+◌, ℕ, Some, OnOk, IfErr};
+ghost use Rattle.ppdb_tables.specs.RawTables.{row_at, count};
+ghost use Rattle.ppdb_tables.specs.RawOf.{raw_of};
+ghost use Rattle.ppdb_rules.specs.Errors.{FaultIs};
+ghost use Rattle.ppdb_rules.specs.Judged.{ToTable, ToRow, ToCell, IsFirstOf};
+
+use crate::cells::{DOCUMENT, METHOD_DEBUG, fault, fault_within, names_no_row, row_count};
+use crate::contents::points_fault;
+use ppdb_base::{Code, Fault, Steps};
+use ppdb_tables::{MethodDebugRow, Tables};
+use std::sync::ledger::Ledger;
+
+/// Judges the document of a method.
+fn judge_document(tables: &Tables<'_>, row: u32, method: &MethodDebugRow) -> Result<(), Fault>
+    requires there { row_at (raw_of tables.now).methods row ≡ Some method.now }
+    requires judged { ToCell (raw_of tables.now) 0x31 row 0 }
+    ensures ok { OnOk result (ToCell (raw_of tables.now) 0x31 row 1) }
+    ensures document { OnOk result (method.now.document ≤ count (raw_of tables.now) 0x30) }
+    ensures err { IfErr result (IsFirstOf (raw_of tables.now)) }
+{
+    if names_no_row(tables, DOCUMENT, 0, method.document) {
+        return Err(fault(Code::RowIndex, METHOD_DEBUG, row, 0));
+    }
+    Ok(())
+}
+
+/// Judges the sequence points of a method.
+fn judge_points(tables: &Tables<'_>, row: u32, method: &MethodDebugRow) -> Result<(), Fault>
+    requires there { row_at (raw_of tables.now).methods row ≡ Some method.now }
+    requires judged { ToCell (raw_of tables.now) 0x31 row 1 }
+    requires document { method.now.document ≤ count (raw_of tables.now) 0x30 }
+    ensures ok { OnOk result (ToCell (raw_of tables.now) 0x31 row 2) }
+    ensures err { IfErr result (IsFirstOf (raw_of tables.now)) }
+{
+    let Some(content) = tables.blobs().get(method.points) else {
+        return Err(fault(Code::BlobIndex, METHOD_DEBUG, row, 1));
+    };
+    if content.len() == 0 {
+        return Ok(());
+    }
+    match points_fault(tables, content, method.document) {
+        Some(inside) => Err(fault_within(inside, METHOD_DEBUG, row, 1)),
+        None => Ok(()),
+    }
+}
+
+/// Judges a row of MethodDebugInformation.
+fn judge_method(tables: &Tables<'_>, row: u32, method: &MethodDebugRow) -> Result<(), Fault>
+    requires there { row_at (raw_of tables.now).methods row ≡ Some method.now }
+    requires judged { ToCell (raw_of tables.now) 0x31 row 0 }
+    ensures ok { OnOk result (ToRow (raw_of tables.now) 0x31 (row + 1)) }
+    ensures err { IfErr result (IsFirstOf (raw_of tables.now)) }
+{
+    judge_document(tables, row, method)?;
+    judge_points(tables, row, method)?;
+    Ok(())
+}
+
+/// Judges the rows of MethodDebugInformation in order, and stops at the first fault.
+pub(crate) fn judge_methods<L: Ledger>(
+    tables: &Tables<'_>,
+    steps: &mut Steps<L>,
+) -> Result<(), Fault>
+    requires { ToTable (raw_of tables.now) 0x31 }
+    ensures ok { OnOk result (ToTable (raw_of tables.now) 0x32) }
+    ensures err { IfErr result (IsFirstOf (raw_of tables.now)) }
+{
+    let count = row_count(tables, METHOD_DEBUG);
+    for row in 1..count + 1 {
+        let method = tables.method_debug(row, steps);
+        judge_method(tables, row, &method)?;
+    }
+    Ok(())
+}
