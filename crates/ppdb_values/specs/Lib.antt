@@ -1,0 +1,13 @@
+pub mod Chains
+pub mod Constants
+pub mod Customs
+pub mod Documents
+pub mod Imports
+pub mod Links
+pub mod Meaning
+pub mod Parts
+pub mod RawFile
+pub mod Value
+pub mod Worked
+pub mod WorkedProgram
+pub mod WorkedSmall
