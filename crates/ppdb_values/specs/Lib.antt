@@ -5,8 +5,11 @@ pub mod Documents
 pub mod Imports
 pub mod Links
 pub mod Meaning
+pub mod Ordered
 pub mod Parts
 pub mod RawFile
+pub mod Readings
+pub mod Rules
 pub mod Value
 pub mod Worked
 pub mod WorkedProgram

@@ -1,5 +1,25 @@
-// What three worked files say.
+// What a value takes from the blobs of a file, where chains of import scopes end, and what three worked files say.
+ghost use Rattle.std.specs.Prelude.{List};
+ghost use Rattle.ppdb_tables.specs.declared.rows.ImportRow.{ImportRow};
+ghost use Rattle.ppdb_values.specs.Chains.{ChainsEnd};
+ghost use Rattle.ppdb_values.specs.Readings.{ValuesAreRead, ConstantsAreRead};
 ghost use Rattle.ppdb_values.specs.Worked.{WorkedValues, WorkedMeaning};
+
+/// A value has the names, points, imports and records that the blobs hold, by the grammar of each.
+pub fn values_are_read()
+    ensures { ValuesAreRead }
+{}
+
+/// A value has the modifiers and the bodies that the signatures of constants hold.
+pub fn constants_are_read()
+    ensures { ConstantsAreRead }
+{}
+
+/// Where each parent of an import scope is there, and no chain of parents goes on for ever, no chain has more links than there
+/// are import scopes.
+pub fn import_chains_end()
+    ensures { (imports : List ImportRow) → ChainsEnd (λ (import : ImportRow). import.parent) imports }
+{}
 
 /// The values of three worked files, from their rows and heaps.
 pub fn worked_values()

@@ -13,5 +13,7 @@ mod scope;
 pub use custom::{CustomBody, CustomValue};
 pub use file::{DocumentValue, FileValue, MethodValue};
 pub use import::{ImportScopeValue, ImportValue};
-pub use laws::{worked_meaning, worked_values};
+pub use laws::{
+    constants_are_read, import_chains_end, values_are_read, worked_meaning, worked_values,
+};
 pub use scope::{ConstantBody, ConstantValue, ScopeValue, VariableValue};
