@@ -6,6 +6,7 @@ pub mod Imports
 pub mod Links
 pub mod Meaning
 pub mod Ordered
+pub mod Owners
 pub mod Parts
 pub mod RawFile
 pub mod Readings

@@ -2,6 +2,7 @@
 ghost use Rattle.std.specs.Prelude.{List};
 ghost use Rattle.ppdb_tables.specs.declared.rows.ImportRow.{ImportRow};
 ghost use Rattle.ppdb_values.specs.Chains.{ChainsEnd};
+ghost use Rattle.ppdb_values.specs.Owners.{OwnersAreLast};
 ghost use Rattle.ppdb_values.specs.Readings.{ValuesAreRead, ConstantsAreRead};
 ghost use Rattle.ppdb_values.specs.Worked.{WorkedValues, WorkedMeaning};
 
@@ -13,6 +14,11 @@ pub fn values_are_read()
 /// A value has the modifiers and the bodies that the signatures of constants hold.
 pub fn constants_are_read()
     ensures { ConstantsAreRead }
+{}
+
+/// A variable or a constant belongs to the last scope whose list begins at or before it.
+pub fn owners_are_last()
+    ensures { OwnersAreLast }
 {}
 
 /// Where each parent of an import scope is there, and no chain of parents goes on for ever, no chain has more links than there
