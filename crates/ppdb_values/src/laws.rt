@@ -2,7 +2,7 @@
 ghost use Rattle.std.specs.Prelude.{List};
 ghost use Rattle.ppdb_tables.specs.declared.rows.ImportRow.{ImportRow};
 ghost use Rattle.ppdb_values.specs.Chains.{ChainsEnd};
-ghost use Rattle.ppdb_values.specs.Owners.{OwnersAreLast};
+ghost use Rattle.ppdb_values.specs.Owners.{OwnersAreLast, ListsAreOwned};
 ghost use Rattle.ppdb_values.specs.Readings.{ValuesAreRead, ConstantsAreRead};
 ghost use Rattle.ppdb_values.specs.Worked.{WorkedValues, WorkedMeaning};
 
@@ -19,6 +19,12 @@ pub fn constants_are_read()
 /// A variable or a constant belongs to the last scope whose list begins at or before it.
 pub fn owners_are_last()
     ensures { OwnersAreLast }
+{}
+
+/// Where the lists of the scopes are in order, a scope owns the items from the first of its list up to the first of the next
+/// row's.
+pub fn lists_are_owned()
+    ensures { ListsAreOwned }
 {}
 
 /// Where each parent of an import scope is there, and no chain of parents goes on for ever, no chain has more links than there
