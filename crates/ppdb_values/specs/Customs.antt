@@ -28,11 +28,11 @@ async_body (catch_handler handler ∷ entries) = Async handler (filter_map step_
 async_body _ = Async None []
 
 -- What a record says, by its kind: those of three kinds are read, all others stay bytes.
-abbrev pub body_of : RawTables → Kind → List ℕ → CustomBody
-body_of raw AsyncKind content = async_body (records_of (async_stepping (count raw 0x06)) content)
-body_of raw HoistedKind content = Hoisted (records_of hoisted_scopes content)
-body_of raw DocumentsKind content = TypeDocuments (records_of (type_documents (count raw 0x30)) content)
-body_of raw _ content = Unread content
+abbrev pub custom_body : RawTables → Kind → List ℕ → CustomBody
+custom_body raw AsyncKind content = async_body (records_of (async_stepping (count raw 0x06)) content)
+custom_body raw HoistedKind content = Hoisted (records_of hoisted_scopes content)
+custom_body raw DocumentsKind content = TypeDocuments (records_of (type_documents (count raw 0x30)) content)
+custom_body raw _ content = Unread content
 
 -- In a valid file the tag of the coded parent has a table.
 abbrev pub no_parent : Parent
@@ -49,5 +49,5 @@ abbrev pub custom_of : RawTables → CustomRow → CustomValue
 custom_of raw row = record {
   parent = parent_of row.parent;
   kind = kind_in raw row;
-  value = body_of raw (kind_of [] (kind_in raw row)) (blob raw row.value);
+  value = custom_body raw (kind_of [] (kind_in raw row)) (blob raw row.value);
 }

@@ -10,6 +10,7 @@ pub mod Owners
 pub mod Parts
 pub mod RawFile
 pub mod Readings
+pub mod Rows
 pub mod Rules
 pub mod Value
 pub mod Worked

@@ -6,7 +6,7 @@ use Rattle.std.specs.List.{filter, find}
 use Rattle.ppdb_tables.specs.declared.rows.MachineRow.{MachineRow}
 use Rattle.ppdb_values.specs.declared.file.FileValue.{FileValue}
 use Rattle.ppdb_values.specs.Parts.{customs_on, slots_in}
-use Rattle.ppdb_values.specs.Meaning.{Custom, custom_of}
+use Rattle.ppdb_values.specs.Meaning.{Custom, without_parent}
 
 pub record Links : Type 0 where
   -- the method that starts the state machine whose MoveNext this is
@@ -31,5 +31,5 @@ links value m = record {
   kickoff = kickoff_of value.machines m;
   move_next = move_next_of value.machines m;
   is_entry = value.entry == m;
-  customs = map custom_of (filter (λ custom. is_none (slots_in custom.value)) (customs_on value 0x06 m));
+  customs = map without_parent (filter (λ custom. is_none (slots_in custom.value)) (customs_on value 0x06 m));
 }

@@ -63,12 +63,12 @@ point_meaning value m p = record { offset = p.offset; span = p.span; document = 
 
 -- ---- the scopes
 
-abbrev pub custom_of : CustomValue → Custom
-custom_of custom = record { kind = custom.kind; value = custom.value }
+abbrev pub without_parent : CustomValue → Custom
+without_parent custom = record { kind = custom.kind; value = custom.value }
 
 -- the custom records on a row, apart from it
 abbrev pub noted_on : FileValue → ℕ → ℕ → List Custom
-noted_on value table row = map custom_of (customs_on value table row)
+noted_on value table row = map without_parent (customs_on value table row)
 
 -- items of a table from a row on, each with its custom records
 abbrev pub noted_from : {X : Type 0} → FileValue → ℕ → ℕ → List X → List (Noted X)
