@@ -6,11 +6,13 @@ use Rattle.std.specs.Option.{option_map}
 use Rattle.std.proofs.lemmas.Bool.Decides.{nat_tests}
 use Rattle.sequence_points.specs.declared.point.Point.{Point}
 use Rattle.ppdb_tables.specs.declared.rows.MethodDebugRow.{MethodDebugRow}
-use Rattle.ppdb_tables.specs.RawTables.{RawTables}
+use Rattle.ppdb_tables.specs.RawTables.{RawTables, row_at}
 use Rattle.ppdb_values.specs.declared.file.MethodValue.{MethodValue}
-use Rattle.ppdb_values.specs.RawFile.{blob}
+use Rattle.ppdb_values.specs.RawFile.{RawFile, blob}
 use Rattle.ppdb_values.specs.Documents.{method_of, method_with, points_in, signature_in}
-use Rattle.ppdb_values.specs.Rows.{method_in, MethodsAreRows}
+use Rattle.ppdb_values.specs.Value.{value_of}
+use Rattle.ppdb_values.specs.Parts.{method_at}
+use Rattle.ppdb_values.specs.Rows.{method_in}
 
 -- a row has no points, or a value with its number
 abbrev IsNumbered : ℕ → Option MethodValue → Type 0
@@ -59,6 +61,6 @@ found_at raw n (suc d) (x ∷ xs) = elim (numbered_row raw n x) [
   | inr v ↦ rw (v.1, is_other v.0.method (n + suc d) n v.2 (inr (omega arith))) (rw (next n d) at (found_at raw (n + 1) d xs))
 ]
 
-pub methods_are_rows : MethodsAreRows
-methods_are_rows raw zero = none_after raw.tables 0 1 raw.tables.methods (omega arith)
-methods_are_rows raw (suc d) = let e : 1 + d ≡ suc d = omega arith in rw e at (found_at raw.tables 1 d raw.tables.methods)
+pub method_is_row : (raw : RawFile) (m : ℕ) → method_at (value_of raw) m ≡ method_in raw.tables m (row_at raw.tables.methods m)
+method_is_row raw zero = none_after raw.tables 0 1 raw.tables.methods (omega arith)
+method_is_row raw (suc d) = let e : 1 + d ≡ suc d = omega arith in rw e at (found_at raw.tables 1 d raw.tables.methods)

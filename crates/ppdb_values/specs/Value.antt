@@ -2,6 +2,7 @@
 use Rattle.std.specs.Prelude.{map, Bool, false, ℕ, ◌+◌, ◌==◌, nat_le, List, [], ◌∷◌, ◌++◌, take, Option, Some, None}
 use Rattle.std.specs.Option.{option_map}
 use Rattle.std.specs.List.{filter, filter_map, last_or, repeat}
+use Rattle.custom_info.specs.declared.slots.Range.{Range}
 use Rattle.ppdb_tables.specs.declared.rows.ScopeRow.{ScopeRow}
 use Rattle.ppdb_tables.specs.declared.rows.VariableRow.{VariableRow}
 use Rattle.ppdb_tables.specs.RawTables.{RawTables, numbered}
@@ -31,12 +32,16 @@ owned_by list scopes owner items = filter (λ item. is_number owner (owner_of li
 abbrev pub variable_of : RawTables → VariableRow → VariableValue
 variable_of raw row = record { attributes = row.attributes; slot = row.slot; name = text raw row.name }
 
--- A scope: its range from the start up to and without its sum with the length, and the variables and constants that it owns.
+-- the range of a scope: from its start up to and without the sum with its length
+abbrev pub range_of : ScopeRow → Range
+range_of scope = record { start = scope.start; end = scope.start + scope.length }
+
+-- A scope, with the variables and constants that it owns.
 abbrev pub scope_of : RawTables → ℕ × ScopeRow → ScopeValue
 scope_of raw row = record {
   method = row.1.method;
   import = row.1.import;
-  range = record { start = row.1.start; end = row.1.start + row.1.length };
+  range = range_of row.1;
   variables = map (λ item. variable_of raw item.1) (owned_by (λ scope. scope.variables) raw.scopes row.0 raw.variables);
   constants = map (λ item. constant_of raw item.1) (owned_by (λ scope. scope.constants) raw.scopes row.0 raw.constants);
 }

@@ -4,7 +4,7 @@ ghost use Rattle.ppdb_tables.specs.declared.rows.ImportRow.{ImportRow};
 ghost use Rattle.ppdb_values.specs.Chains.{ChainsEnd};
 ghost use Rattle.ppdb_values.specs.Owners.{OwnersAreLast, ListsAreOwned};
 ghost use Rattle.ppdb_values.specs.Readings.{ValuesAreRead, ConstantsAreRead};
-ghost use Rattle.ppdb_values.specs.Rows.{MethodsAreRows};
+ghost use Rattle.ppdb_values.specs.Rows.{ValuesAreRows};
 ghost use Rattle.ppdb_values.specs.Worked.{WorkedValues, WorkedMeaning};
 
 /// A value has the names, points, imports and records that the blobs hold, by the grammar of each.
@@ -17,9 +17,9 @@ pub fn constants_are_read()
     ensures { ConstantsAreRead }
 {}
 
-/// What a value has of a method is what the method's row has.
-pub fn methods_are_rows()
-    ensures { MethodsAreRows }
+/// What a value has of a method, of an offset and of an import scope is what the rows have, under the same numbers.
+pub fn values_are_rows()
+    ensures { ValuesAreRows }
 {}
 
 /// A variable or a constant belongs to the last scope whose list begins at or before it.

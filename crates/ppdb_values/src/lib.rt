@@ -14,7 +14,7 @@ pub use custom::{CustomBody, CustomValue};
 pub use file::{DocumentValue, FileValue, MethodValue};
 pub use import::{ImportScopeValue, ImportValue};
 pub use laws::{
-    constants_are_read, import_chains_end, lists_are_owned, methods_are_rows, owners_are_last,
-    values_are_read, worked_meaning, worked_values,
+    constants_are_read, import_chains_end, lists_are_owned, owners_are_last, values_are_read,
+    values_are_rows, worked_meaning, worked_values,
 };
 pub use scope::{ConstantBody, ConstantValue, ScopeValue, VariableValue};
