@@ -5,7 +5,9 @@ ghost use Rattle.ppdb_values.specs.Chains.{ChainsEnd};
 ghost use Rattle.ppdb_values.specs.Owners.{OwnersAreLast, ListsAreOwned};
 ghost use Rattle.ppdb_values.specs.Readings.{ValuesAreRead, ConstantsAreRead};
 ghost use Rattle.ppdb_values.specs.Rows.{ValuesAreRows};
+ghost use Rattle.ppdb_values.specs.Rules.{KeepsRules};
 ghost use Rattle.ppdb_values.specs.Worked.{WorkedValues, WorkedMeaning};
+ghost use Rattle.ppdb_values.specs.WorkedProgram.{program_file};
 
 /// A value has the names, points, imports and records that the blobs hold, by the grammar of each.
 pub fn values_are_read()
@@ -47,4 +49,9 @@ pub fn worked_values()
 /// What the values of two worked files say of an offset of a method, and of a method.
 pub fn worked_meaning()
     ensures { WorkedMeaning }
+{}
+
+/// A worked file keeps the rules.
+pub fn worked_file_keeps_rules()
+    ensures { KeepsRules program_file }
 {}

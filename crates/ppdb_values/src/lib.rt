@@ -15,6 +15,6 @@ pub use file::{DocumentValue, FileValue, MethodValue};
 pub use import::{ImportScopeValue, ImportValue};
 pub use laws::{
     constants_are_read, import_chains_end, lists_are_owned, owners_are_last, values_are_read,
-    values_are_rows, worked_meaning, worked_values,
+    values_are_rows, worked_file_keeps_rules, worked_meaning, worked_values,
 };
 pub use scope::{ConstantBody, ConstantValue, ScopeValue, VariableValue};
