@@ -1,0 +1,116 @@
+-- The owner of an item is the last scope whose list begins at or before it.
+use Rattle.std.proofs.Common.{◌≡◌, ℕ, zero, suc, ◌+◌, ◌≤◌, ◌<◌, ◌⊎◌, List, [], ◌∷◌, refl, ap, sym, ◌∙◌, arith, inl, inr, true, false, slice_get}
+use Rattle.std.specs.Prelude.{Option, Some, None, nat_le}
+use Rattle.std.specs.List.{filter, last_or, enumerate_from}
+use Rattle.std.specs.Option.{option_map}
+use Rattle.std.proofs.lemmas.Bool.{cases_lt}
+use Rattle.std.proofs.lemmas.Bool.Decides.{nat_tests}
+use Rattle.ppdb_tables.specs.declared.rows.ScopeRow.{ScopeRow}
+use Rattle.ppdb_tables.specs.RawTables.{row_at}
+use Rattle.ppdb_values.specs.Value.{owner_of}
+use Rattle.ppdb_values.specs.Owners.{IsOwner}
+
+-- the last of some scopes whose list begins at or before an item
+record IsLastOf (list : ScopeRow → ℕ) (scopes : List ScopeRow) (item index : ℕ) : Type 0 where
+  scope : ScopeRow
+  there : slice_get scopes index ≡ Some scope
+  begun : list scope ≤ item
+  last : (later : ℕ) (other : ScopeRow) → slice_get scopes later ≡ Some other → list other ≤ item → later ≤ index
+
+-- no list begins at or before the item
+abbrev NoneOf : (ScopeRow → ℕ) → List ScopeRow → ℕ → Type 0
+NoneOf list scopes item = (index : ℕ) (other : ScopeRow) → slice_get scopes index ≡ Some other → item < list other
+
+-- the owner among some scopes that are numbered from a row on, where this was the last before them
+abbrev owner_from : (ScopeRow → ℕ) → Option (ℕ × ScopeRow) → ℕ → List ScopeRow → ℕ → Option ℕ
+owner_from list before first scopes item = option_map (λ scope. scope.0) (last_or before (filter (λ scope. nat_le (list scope.1) item) (enumerate_from first scopes)))
+
+-- what it is
+abbrev Found : (ScopeRow → ℕ) → Option (ℕ × ScopeRow) → ℕ → List ScopeRow → ℕ → Type 0
+Found list before first scopes item =
+    ((index : ℕ) × IsLastOf list scopes item index × (owner_from list before first scopes item ≡ Some (first + index)))
+    ⊎ (NoneOf list scopes item × (owner_from list before first scopes item ≡ option_map (λ scope. scope.0) before))
+
+within : (a b : ℕ) → a ≤ b → nat_le a b ≡ true
+within a b h = grind (arith, nat_tests)
+
+beyond : (a b : ℕ) → b < a → nat_le a b ≡ false
+beyond a b h = grind (arith, nat_tests)
+
+none_in : (list : ScopeRow → ℕ) (item : ℕ) → NoneOf list [] item
+none_in list item index other h = cc
+
+none_more : (list : ScopeRow → ℕ) (item : ℕ) (x : ScopeRow) (scopes : List ScopeRow) → item < list x → NoneOf list scopes item → NoneOf list (x ∷ scopes) item
+none_more list item x scopes h none zero other e = let same : x ≡ other = cc in rw (sym same) h
+none_more list item x scopes h none (suc index) other e = none index other e
+
+last_more : (list : ScopeRow → ℕ) (item index : ℕ) (x : ScopeRow) (scopes : List ScopeRow) → IsLastOf list scopes item index → IsLastOf list (x ∷ scopes) item (suc index)
+last_more list item index x scopes h = record { scope = h.scope; there = h.there; begun = h.begun; last = later_than }
+  where
+    later_than : (later : ℕ) (other : ScopeRow) → slice_get (x ∷ scopes) later ≡ Some other → list other ≤ item → later ≤ suc index
+    later_than zero other e le = omega arith
+    later_than (suc later) other e le = let below = h.last later other e le in omega (arith, below)
+
+last_first : (list : ScopeRow → ℕ) (item : ℕ) (x : ScopeRow) (scopes : List ScopeRow) → list x ≤ item → NoneOf list scopes item → IsLastOf list (x ∷ scopes) item 0
+last_first list item x scopes h none = record { scope = x; there = refl; begun = h; last = later_than }
+  where
+    later_than : (later : ℕ) (other : ScopeRow) → slice_get (x ∷ scopes) later ≡ Some other → list other ≤ item → later ≤ 0
+    later_than zero other e le = omega arith
+    later_than (suc later) other e le = let above = none later other e in absurd (omega (arith, above, le))
+
+next_row : (first index : ℕ) → Some (first + 1 + index) ≡ Some (first + suc index)
+next_row first index = ap (λ (n : ℕ). Some n) (let e : first + 1 + index ≡ first + suc index = omega arith in e)
+
+this_row : (first : ℕ) → Some first ≡ Some (first + 0)
+this_row first = ap (λ (n : ℕ). Some n) (let e : first ≡ first + 0 = omega arith in e)
+
+found : (list : ScopeRow → ℕ) (before : Option (ℕ × ScopeRow)) (first : ℕ) (scopes : List ScopeRow) (item : ℕ) → Found list before first scopes item
+found list before first [] item = inr (none_in list item, refl)
+found list before first (x ∷ scopes) item = elim (cases_lt item (list x)) [
+  | inl later ↦ rw (beyond (list x) item later) (elim (found list before (first + 1) scopes item) [
+    | inl f ↦ inl (suc f.0, last_more list item f.0 x scopes f.1, f.2 ∙ next_row first f.0)
+    | inr none ↦ inr (none_more list item x scopes later none.0, none.1)
+  ])
+  | inr begun ↦ rw (within (list x) item begun) (elim (found list (Some (first, x)) (first + 1) scopes item) [
+    | inl f ↦ inl (suc f.0, last_more list item f.0 x scopes f.1, f.2 ∙ next_row first f.0)
+    | inr none ↦ inl (0, last_first list item x scopes begun none.0, none.1 ∙ this_row first)
+  ])
+]
+
+one_more : (index : ℕ) → 1 + index ≡ suc index
+one_more index = omega arith
+
+-- the last scope, by its row
+by_row : (list : ScopeRow → ℕ) (scopes : List ScopeRow) (item index : ℕ) → IsLastOf list scopes item index → IsOwner list scopes (suc index) item
+by_row list scopes item index h = record { scope = h.scope; there = h.there; begun = h.begun; last = later_than }
+  where
+    later_than : (later : ℕ) (other : ScopeRow) → row_at scopes later ≡ Some other → list other ≤ item → later ≤ suc index
+    later_than zero other e le = omega arith
+    later_than (suc later) other e le = let below = h.last later other e le in omega (arith, below)
+
+pub owner_is_last : (list : ScopeRow → ℕ) (scopes : List ScopeRow) (owner item : ℕ) → owner_of list scopes item ≡ Some owner → IsOwner list scopes owner item
+owner_is_last list scopes owner item h = elim (found list None 1 scopes item) [
+  | inl f ↦
+      let same : suc f.0 ≡ owner = let e = f.2 in let m = one_more f.0 in cc in
+      rw (sym same) (by_row list scopes item f.0 f.1)
+  | inr none ↦ let e = none.1 in cc
+]
+
+-- two owners are one
+same_owner : (list : ScopeRow → ℕ) (scopes : List ScopeRow) (a b item : ℕ) → IsOwner list scopes a item → IsOwner list scopes b item → a ≡ b
+same_owner list scopes a b item x y =
+    let up = x.last b y.scope y.there y.begun in
+    let down = y.last a x.scope x.there x.begun in
+    omega (arith, up, down)
+
+none_owns : (list : ScopeRow → ℕ) (scopes : List ScopeRow) (owner item : ℕ) → NoneOf list scopes item → IsOwner list scopes owner item → ⊥
+none_owns list scopes zero item none h = let e = h.there in cc
+none_owns list scopes (suc index) item none h = let above = none index h.scope h.there in let begun = h.begun in omega (arith, above, begun)
+
+pub owner_is_found : (list : ScopeRow → ℕ) (scopes : List ScopeRow) (owner item : ℕ) → IsOwner list scopes owner item → owner_of list scopes item ≡ Some owner
+owner_is_found list scopes owner item h = elim (found list None 1 scopes item) [
+  | inl f ↦
+      let same : suc f.0 ≡ owner = same_owner list scopes (suc f.0) owner item (by_row list scopes item f.0 f.1) h in
+      f.2 ∙ ap (λ (n : ℕ). Some n) (one_more f.0 ∙ same)
+  | inr none ↦ absurd (none_owns list scopes owner item none.0 h)
+]

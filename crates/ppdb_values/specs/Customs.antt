@@ -1,0 +1,53 @@
+-- The value of a record of custom debug information (Portable PDB v1.0, "CustomDebugInformation Table", and its kinds
+-- "Async Method Stepping Information", "State Machine Hoisted Local Scopes" and "Type Definition Documents").
+use Rattle.std.specs.Prelude.{ℕ, List, [], ◌∷◌, Option, Some, None, unwrap_or}
+use Rattle.std.specs.List.{filter_map}
+use Rattle.custom_info.specs.declared.kinds.Kind.{Kind}
+use Rattle.custom_info.specs.declared.kinds.Kind.TheVariants.{Async as AsyncKind, Hoisted as HoistedKind, TypeDocuments as DocumentsKind}
+use Rattle.custom_info.specs.declared.stepping.AsyncStep.{AsyncStep}
+use Rattle.custom_info.specs.Kinds.{kind_of}
+use Rattle.custom_info.specs.AsyncStepping.{async_stepping, Entry, catch_handler, await_step}
+use Rattle.custom_info.specs.HoistedScopes.{hoisted_scopes}
+use Rattle.custom_info.specs.TypeDocuments.{type_documents}
+use Rattle.ppdb_tables.specs.declared.rows.CustomRow.{CustomRow}
+use Rattle.ppdb_tables.specs.declared.parent.Parent.{Parent}
+use Rattle.ppdb_tables.specs.Parents.{parent_in}
+use Rattle.ppdb_tables.specs.RawTables.{RawTables, count}
+use Rattle.ppdb_values.specs.declared.custom.CustomBody.{CustomBody}
+use Rattle.ppdb_values.specs.declared.custom.CustomBody.TheVariants.{Async, Hoisted, TypeDocuments, Unread}
+use Rattle.ppdb_values.specs.declared.custom.CustomValue.{CustomValue}
+use Rattle.ppdb_values.specs.RawFile.{blob, guid, records_of}
+
+abbrev pub step_of : Entry → Option AsyncStep
+step_of (await_step step) = Some step
+step_of (catch_handler handler) = None
+
+-- The first entry is the catch handler, the others are the steps.
+abbrev pub async_body : List Entry → CustomBody
+async_body (catch_handler handler ∷ entries) = Async handler (filter_map step_of entries)
+async_body _ = Async None []
+
+-- What a record says, by its kind: those of three kinds are read, all others stay bytes.
+abbrev pub custom_body : RawTables → Kind → List ℕ → CustomBody
+custom_body raw AsyncKind content = async_body (records_of (async_stepping (count raw 0x06)) content)
+custom_body raw HoistedKind content = Hoisted (records_of hoisted_scopes content)
+custom_body raw DocumentsKind content = TypeDocuments (records_of (type_documents (count raw 0x30)) content)
+custom_body raw _ content = Unread content
+
+-- In a valid file the tag of the coded parent has a table.
+abbrev pub no_parent : Parent
+no_parent = record { table = 0; row = 0 }
+
+abbrev pub parent_of : ℕ → Parent
+parent_of coded = unwrap_or (parent_in coded) no_parent
+
+-- In a valid file the kind is a GUID that is there.
+abbrev pub kind_in : RawTables → CustomRow → List ℕ
+kind_in raw row = unwrap_or (guid raw row.kind) []
+
+abbrev pub custom_of : RawTables → CustomRow → CustomValue
+custom_of raw row = record {
+  parent = parent_of row.parent;
+  kind = kind_in raw row;
+  value = custom_body raw (kind_of [] (kind_in raw row)) (blob raw row.value);
+}

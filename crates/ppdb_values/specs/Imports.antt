@@ -1,0 +1,32 @@
+-- The value of an import scope (Portable PDB v1.0, "ImportScope Table", "Imports Blob").
+use Rattle.std.specs.Prelude.{map, ℕ, List, Option}
+use Rattle.ppdb_heaps.specs.Heaps.{blob_at}
+use Rattle.type_blobs.specs.Imports.{imports, ImportItem, namespace, assembly_namespace, target, xml, alias, assembly_alias, namespace_alias, assembly_namespace_alias, target_alias}
+use Rattle.ppdb_tables.specs.declared.rows.ImportRow.{ImportRow}
+use Rattle.ppdb_tables.specs.RawTables.{RawTables}
+use Rattle.ppdb_values.specs.declared.import.ImportValue.{ImportValue}
+use Rattle.ppdb_values.specs.declared.import.ImportValue.TheVariants.{Namespace, AssemblyNamespace, Target, Xml, Alias, AssemblyAlias, NamespaceAlias, AssemblyNamespaceAlias, TargetAlias}
+use Rattle.ppdb_values.specs.declared.import.ImportScopeValue.{ImportScopeValue}
+use Rattle.ppdb_values.specs.RawFile.{blob, records_of, type_limits}
+
+-- the contents of #Blob by their indexes
+abbrev pub heap_of : RawTables → ℕ → Option (List ℕ)
+heap_of raw index = blob_at raw.blobs index
+
+abbrev pub import_value : ImportItem → ImportValue
+import_value (namespace name) = Namespace name
+import_value (assembly_namespace assembly name) = AssemblyNamespace assembly name
+import_value (target type) = Target type
+import_value (xml prefix name) = Xml prefix name
+import_value (alias name) = Alias name
+import_value (assembly_alias name assembly) = AssemblyAlias name assembly
+import_value (namespace_alias name other) = NamespaceAlias name other
+import_value (assembly_namespace_alias name assembly other) = AssemblyNamespaceAlias name assembly other
+import_value (target_alias name type) = TargetAlias name type
+
+-- An import scope: its parent, and its imports with the texts themselves.
+abbrev pub import_scope_of : RawTables → ImportRow → ImportScopeValue
+import_scope_of raw row = record {
+  parent = row.parent;
+  imports = map import_value (records_of (imports (type_limits raw) (heap_of raw)) (blob raw row.imports));
+}

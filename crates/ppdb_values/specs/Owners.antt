@@ -1,0 +1,40 @@
+-- Which scope owns an item (Portable PDB v1.0, "LocalScope Table": VariableList, ConstantList).
+use Rattle.std.specs.Prelude.{◌≡◌, ℕ, suc, ◌+◌, ◌-◌, ◌<◌, ◌≤◌, ◌↔◌, List, length, Some, unwrap_or, slice_range}
+use Rattle.std.specs.Option.{option_map}
+use Rattle.ppdb_tables.specs.declared.rows.ScopeRow.{ScopeRow}
+use Rattle.ppdb_tables.specs.RawTables.{numbered, row_at}
+use Rattle.ppdb_tables.specs.declared.rows.VariableRow.{VariableRow}
+use Rattle.ppdb_tables.specs.declared.rows.ConstantRow.{ConstantRow}
+use Rattle.ppdb_values.specs.Value.{owner_of, owned_by}
+use Rattle.ppdb_values.specs.Rules.{KeepsLists}
+
+-- The list of the scope begins at or before the item, and no later scope's list does.
+pub record IsOwner (list : ScopeRow → ℕ) (scopes : List ScopeRow) (owner item : ℕ) : Type 0 where
+  pub scope : ScopeRow
+  pub there : row_at scopes owner ≡ Some scope
+  pub begun : list scope ≤ item
+  pub last : (later : ℕ) (other : ScopeRow) → row_at scopes later ≡ Some other → list other ≤ item → later ≤ owner
+
+-- The owner that the value of a file goes by is that scope.
+pub record OwnersAreLast : Type 0 where
+  pub is_last : (list : ScopeRow → ℕ) (scopes : List ScopeRow) (owner item : ℕ) → owner_of list scopes item ≡ Some owner → IsOwner list scopes owner item
+  pub is_found : (list : ScopeRow → ℕ) (scopes : List ScopeRow) (owner item : ℕ) → IsOwner list scopes owner item → owner_of list scopes item ≡ Some owner
+
+-- ---- lists in order
+
+-- where the list of a scope ends: where that of the next row begins, or right after the last item
+abbrev pub list_end : (ScopeRow → ℕ) → List ScopeRow → ℕ → ℕ → ℕ
+list_end list scopes owner items = unwrap_or (option_map list (row_at scopes (suc owner))) (items + 1)
+
+-- the items of the list of a scope, with their rows
+abbrev pub list_of : {X : Type 0} → (ScopeRow → ℕ) → List ScopeRow → ℕ → ScopeRow → List X → List (ℕ × X)
+list_of list scopes owner scope items = slice_range (numbered items) (list scope - 1) (list_end list scopes owner (length items) - 1)
+
+-- Where the lists are in order, a scope owns the items of its list.
+pub record ListsAreOwned : Type 0 where
+  pub item : (list : ScopeRow → ℕ) (scopes : List ScopeRow) (items owner item : ℕ) (scope : ScopeRow) → KeepsLists list scopes items → row_at scopes owner ≡ Some scope → item ≤ items
+      → (owner_of list scopes item ≡ Some owner) ↔ ((list scope ≤ item) × (item < list_end list scopes owner items))
+  pub variables : (list : ScopeRow → ℕ) (scopes : List ScopeRow) (owner : ℕ) (scope : ScopeRow) (items : List VariableRow) → KeepsLists list scopes (length items) → row_at scopes owner ≡ Some scope
+      → owned_by list scopes owner items ≡ list_of list scopes owner scope items
+  pub constants : (list : ScopeRow → ℕ) (scopes : List ScopeRow) (owner : ℕ) (scope : ScopeRow) (items : List ConstantRow) → KeepsLists list scopes (length items) → row_at scopes owner ≡ Some scope
+      → owned_by list scopes owner items ≡ list_of list scopes owner scope items

@@ -1,0 +1,48 @@
+-- A Portable PDB file as it is stored: its identity and entry point, and its tables with their heaps (Portable PDB v1.0,
+-- "#Pdb stream" and "Metadata Tables").
+use Rattle.std.specs.Prelude.{ℕ, List, [], Option, unwrap_or}
+use Rattle.blob_grammar.specs.Grammar.{Value, Grammar}
+use Rattle.blob_grammar.specs.Reader.{read_from, begun_from}
+use Rattle.ppdb_heaps.specs.Heaps.{text_at, blob_at, guid_at}
+use Rattle.sequence_points.specs.declared.point.PointLimits.{PointLimits}
+use Rattle.type_blobs.specs.declared.types.TypeLimits.{TypeLimits}
+use Rattle.ppdb_tables.specs.RawTables.{RawTables, count}
+
+pub record RawFile : Type 0 where
+  pub id : List ℕ
+  pub entry : ℕ
+  pub tables : RawTables
+
+-- ---- items by their indexes; in a valid file each item is there
+
+-- the text at an index of #Strings (ECMA-335 II.24.2.3)
+abbrev pub text : RawTables → ℕ → List ℕ
+text raw index = unwrap_or (text_at raw.texts index) []
+
+-- the content of the blob at an index of #Blob (II.24.2.4)
+abbrev pub blob : RawTables → ℕ → List ℕ
+blob raw index = unwrap_or (blob_at raw.blobs index) []
+
+-- the GUID of a number of #GUID, none for 0 (II.24.2.5)
+abbrev pub guid : RawTables → ℕ → Option (List ℕ)
+guid raw number = guid_at raw.guids number
+
+-- ---- what a blob holds
+
+-- the records of a blob, as the plain reader reads them
+unfoldable pub records_of : {R : Type 0} → Grammar R → List ℕ → List R
+records_of g blob = (read_from g [] [] 0 blob).items
+
+-- the values after the last whole record
+unfoldable pub begun_of : {R : Type 0} → Grammar R → List ℕ → List Value
+begun_of g blob = begun_from g [] [] blob
+
+-- ---- the tables whose rows a blob may name
+
+-- Document and StandAloneSig
+abbrev pub point_limits : RawTables → PointLimits
+point_limits raw = record { documents = count raw 0x30; signatures = count raw 0x11 }
+
+-- TypeRef, TypeDef, TypeSpec and AssemblyRef
+abbrev pub type_limits : RawTables → TypeLimits
+type_limits raw = record { type_refs = count raw 0x01; type_defs = count raw 0x02; type_specs = count raw 0x1b; assembly_refs = count raw 0x23 }

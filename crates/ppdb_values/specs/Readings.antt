@@ -1,0 +1,49 @@
+-- What the value of a file takes from a blob is what the blob holds by its grammar, however it is read (Portable PDB v1.0, the
+-- formats of its blobs).
+use Rattle.std.specs.Prelude.{◌≡◌, ℕ, List, Option, Some}
+use Rattle.ppdb_base.specs.declared.fault.BlobFault.{BlobFault}
+use Rattle.blob_grammar.specs.Reading.{Reading}
+use Rattle.ppdb_heaps.specs.Names.{IsName, name_of}
+use Rattle.sequence_points.specs.declared.point.Point.{Point}
+use Rattle.sequence_points.specs.Points.{PointsReading}
+use Rattle.type_blobs.specs.declared.types.Modifier.{Modifier}
+use Rattle.type_blobs.specs.Constants.{constants, ConstantBody, body_of}
+use Rattle.type_blobs.specs.ConstantReading.{ConstantReading, body}
+use Rattle.type_blobs.specs.Imports.{imports, ImportItem}
+use Rattle.custom_info.specs.declared.slots.Slot.{Slot}
+use Rattle.custom_info.specs.declared.stepping.AsyncStep.{AsyncStep}
+use Rattle.custom_info.specs.AsyncStepping.{async_stepping, entries_of}
+use Rattle.custom_info.specs.HoistedScopes.{hoisted_scopes}
+use Rattle.custom_info.specs.TypeDocuments.{type_documents}
+use Rattle.ppdb_tables.specs.RawTables.{RawTables, count}
+use Rattle.ppdb_values.specs.declared.custom.CustomBody.TheVariants.{Async}
+use Rattle.ppdb_values.specs.RawFile.{records_of, begun_of, point_limits, type_limits}
+use Rattle.ppdb_values.specs.Documents.{points_in, signature_in}
+use Rattle.ppdb_values.specs.Imports.{heap_of}
+use Rattle.ppdb_values.specs.Customs.{async_body}
+
+-- The text of a whole name, the points and the signature, the imports, the slots and the rows are those of the reading.
+pub record ValuesAreRead : Type 0 where
+  pub name : (raw : RawTables) (content name : List ℕ) → IsName raw.blobs content name → name_of raw.blobs content ≡ name
+  pub points : (raw : RawTables) (column signature : ℕ) (content : List ℕ) (points : List Point) (fault : Option BlobFault)
+      → PointsReading column (point_limits raw) content signature points fault → points_in raw column content ≡ points
+  pub signature : (raw : RawTables) (column signature : ℕ) (content : List ℕ) (points : List Point) (fault : Option BlobFault)
+      → PointsReading column (point_limits raw) content signature points fault → signature_in raw column content ≡ Some signature
+  pub imports : (raw : RawTables) (content : List ℕ) (items : List ImportItem) (fault : Option BlobFault)
+      → Reading (imports (type_limits raw) (heap_of raw)) content items fault → records_of (imports (type_limits raw) (heap_of raw)) content ≡ items
+  pub slots : (content : List ℕ) (slots : List Slot) (fault : Option BlobFault)
+      → Reading hoisted_scopes content slots fault → records_of hoisted_scopes content ≡ slots
+  pub rows : (raw : RawTables) (content rows : List ℕ) (fault : Option BlobFault)
+      → Reading (type_documents (count raw 0x30)) content rows fault → records_of (type_documents (count raw 0x30)) content ≡ rows
+  pub stepping : (raw : RawTables) (content : List ℕ) (handler : Option ℕ) (steps : List AsyncStep) (fault : Option BlobFault)
+      → Reading (async_stepping (count raw 0x06)) content (entries_of handler steps) fault
+      → async_body (records_of (async_stepping (count raw 0x06)) content) ≡ Async handler steps
+
+-- The modifiers and the body of a whole constant are those of the reading.
+pub record ConstantsAreRead : Type 0 where
+  pub modifiers : (raw : RawTables) (content : List ℕ) (modifiers : List Modifier) (value : ConstantBody)
+      → ConstantReading (type_limits raw) content (record { modifiers = modifiers; end = body value })
+      → records_of (constants (type_limits raw)) content ≡ modifiers
+  pub body_is : (raw : RawTables) (content : List ℕ) (modifiers : List Modifier) (value : ConstantBody)
+      → ConstantReading (type_limits raw) content (record { modifiers = modifiers; end = body value })
+      → body_of (begun_of (constants (type_limits raw)) content) ≡ Some value
