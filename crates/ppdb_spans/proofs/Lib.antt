@@ -1,0 +1,5 @@
+pub mod Sums
+pub mod Rising
+pub mod Named
+pub mod ImportFields
+pub mod RowLists

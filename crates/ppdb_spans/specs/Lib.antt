@@ -1,0 +1,4 @@
+pub mod References
+pub mod Spans
+pub mod Begun
+pub mod TableRows
