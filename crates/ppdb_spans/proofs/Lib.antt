@@ -3,3 +3,4 @@ pub mod Rising
 pub mod Named
 pub mod ImportFields
 pub mod RowLists
+pub mod Placed

@@ -22,7 +22,7 @@ use Rattle.ppdb_spans.proofs.Sums.{Rises}
 abbrev key : Reference → List ℕ
 key r = numbers SpanTotal r.at
 
-abbrev Each : (Reference → Type 0) → List Reference → Type 0
+abbrev pub Each : (Reference → Type 0) → List Reference → Type 0
 Each P [] = Unit {0}
 Each P (r ∷ rs) = P r × Each P rs
 
@@ -31,7 +31,7 @@ abbrev Ordered : List Reference → Type 0
 Ordered [] = Unit {0}
 Ordered (r ∷ rs) = Each (λ s. ComesBefore (key s) (key r) → ⊥) rs × Ordered rs
 
-each-append : (P : Reference → Type 0) (xs ys : List Reference) → Each P xs → Each P ys → Each P (xs ++ ys)
+pub each-append : (P : Reference → Type 0) (xs ys : List Reference) → Each P xs → Each P ys → Each P (xs ++ ys)
 each-append P [] ys a b = b
 each-append P (x ∷ xs) ys a b = (a.0, each-append P xs ys a.1 b)
 

@@ -1,0 +1,70 @@
+-- The rules of the rows and the sum of the items, as one.
+use Rattle.std.proofs.Common.{◌≡◌, ℕ, ◌<◌, ◌⊎◌, inl, inr, List, [], ◌∷◌, sym, ◌∙◌, arith}
+use Rattle.std.proofs.lemmas.Bool.{cases_order}
+use Rattle.ppdb_base.specs.declared.code.Code.{Code}
+use Rattle.ppdb_base.specs.declared.fault.Fault.{Fault}
+use Rattle.ppdb_base.specs.declared.fault.Place.{Place}
+use Rattle.ppdb_base.specs.First.{IsAccepted, IsFirst, IsJudgedTo}
+use Rattle.ppdb_base.specs.Place.{ComesBefore, numbers}
+use Rattle.ppdb_base.proofs.Judging.{first_of_one, first_of_two}
+use Rattle.ppdb_tables.specs.RawTables.{RawTables}
+use Rattle.ppdb_rules.specs.declared.errors.VerifyError.{VerifyError}
+use Rattle.ppdb_rules.specs.declared.errors.VerifyError.TheVariants.{Fault as TheFault, Memory}
+use Rattle.ppdb_rules.specs.Errors.{FaultIs}
+use Rattle.ppdb_rules.specs.Rows.{BadRow}
+use Rattle.ppdb_spans.specs.Spans.{BadSpan}
+use Rattle.ppdb_verify.specs.Files.{BadRows}
+
+-- what holds of a fault makes another thing hold of it
+pub fault_is : (P Q : Fault → Type 0) → ((f : Fault) → P f → Q f) → (e : VerifyError) → FaultIs P e → FaultIs Q e
+fault_is P Q all (TheFault f) holds = all f holds
+fault_is P Q all Memory holds = tt
+
+-- where one does not come before another, but before a third, the other comes before the third
+passes : (xs fs ss : List ℕ) → (ComesBefore xs fs → ⊥) → ComesBefore xs ss → ComesBefore fs ss
+passes xs fs [] none early = absurd early
+passes xs [] (s ∷ ss) none early = tt
+passes [] (f ∷ fs) (s ∷ ss) none early = absurd (none tt)
+passes (x ∷ xs) (f ∷ fs) (s ∷ ss) none early = elim (cases_order x f) [
+  | inl same ↦ elim early [
+    | inl lt ↦ inl (omega (arith, same, lt))
+    | inr on ↦ inr (sym same ∙ on.0, passes xs fs ss (λ h. none (inr (same, h))) on.1)
+  ]
+  | inr (inl lt) ↦ absurd (none (inl lt))
+  | inr (inr gt) ↦ elim early [
+    | inl lt ↦ inl (omega (arith, gt, lt))
+    | inr on ↦ inl (omega (arith, gt, on.0))
+  ]
+]
+
+module _ (raw : RawTables) where
+  swapped : (code : Code) (at : Place) → BadRows raw code at → BadSpan raw code at ⊎ BadRow raw code at
+  swapped code at bad = elim bad [
+    | inl row ↦ inr row
+    | inr span ↦ inl span
+  ]
+
+  -- the rows have no fault before the item that passes the limit
+  pub span_is_first : (over : Fault) → IsFirst (BadSpan raw) over → IsJudgedTo (BadRow raw) (numbers over.code over.place) → IsFirst (BadRows raw) over
+  span_is_first over first judged = first_of_one (BadRows raw) (BadSpan raw) (BadRow raw) swapped over (inr first.bad) first judged
+
+  -- the first fault of the rows does not come before it
+  pub span_is_earlier : (over fault : Fault) → IsFirst (BadSpan raw) over → IsFirst (BadRow raw) fault
+      → (ComesBefore (numbers fault.code fault.place) (numbers over.code over.place) → ⊥) → IsFirst (BadRows raw) over
+  span_is_earlier over fault first row late =
+      span_is_first over first (λ code at bad early. late (passes (numbers code at) (numbers fault.code fault.place) (numbers over.code over.place) (row.least code at bad) early))
+
+  -- it does
+  pub row_is_earlier : (over fault : Fault) → IsFirst (BadSpan raw) over → IsFirst (BadRow raw) fault
+      → ComesBefore (numbers fault.code fault.place) (numbers over.code over.place) → IsFirst (BadRows raw) fault
+  row_is_earlier over fault first row early = first_of_two (BadRows raw) (BadRow raw) (BadSpan raw) (λ code at bad. bad) fault over (inl row.bad) row first early
+
+  -- no sum passes its limit
+  pub row_is_first : (fault : Fault) → IsAccepted (BadSpan raw) → IsFirst (BadRow raw) fault → IsFirst (BadRows raw) fault
+  row_is_first fault spans row = first_of_one (BadRows raw) (BadRow raw) (BadSpan raw) (λ code at bad. bad) fault (inl row.bad) row (λ code at bad early. spans code at bad)
+
+  pub both_accepted : IsAccepted (BadRow raw) → IsAccepted (BadSpan raw) → IsAccepted (BadRows raw)
+  both_accepted rows spans code at bad = elim bad [
+    | inl row ↦ rows code at row
+    | inr span ↦ spans code at span
+  ]

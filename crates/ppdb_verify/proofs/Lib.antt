@@ -1,0 +1,4 @@
+pub mod Families
+pub mod Streamed
+pub mod Headed
+pub mod Parts

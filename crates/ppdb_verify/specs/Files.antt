@@ -1,0 +1,44 @@
+-- The rules of a whole file, F1 to F40, and what a file is read as.
+use Rattle.std.specs.Prelude.{◌≡◌, ℕ, ◌%◌, ◌^◌, ◌⊎◌, List, map, take}
+use Rattle.std.specs.List.{range_with_len}
+use Rattle.ppdb_base.specs.declared.code.Code.{Code}
+use Rattle.ppdb_base.specs.declared.fault.Place.{Place}
+use Rattle.ppdb_base.specs.First.{Then}
+use Rattle.metadata_root.specs.declared.kind.StreamKind.TheVariants.{Pdb, Tables}
+use Rattle.metadata_root.specs.Streams.{Streams, AreStreamsOf, BadContainer, bytes_of}
+use Rattle.ppdb_tables.specs.declared.head.PdbHead.{PdbHead}
+use Rattle.ppdb_tables.specs.Head.{BadPdb, entry_in, pdb_rows}
+use Rattle.ppdb_tables.specs.RawTables.{RawTables}
+use Rattle.ppdb_tables.specs.Tables.{BadTables, tables_in}
+use Rattle.ppdb_rules.specs.Rows.{BadRow}
+use Rattle.ppdb_spans.specs.Spans.{BadSpan}
+use Rattle.ppdb_values.specs.RawFile.{RawFile}
+
+-- what the bytes of #Pdb say
+abbrev pub head_in : List ℕ → PdbHead
+head_in stream = record { id = take 20 stream; entry = entry_in stream % 2 ^ 24; rows = map (pdb_rows stream) (range_with_len 0 64) }
+
+-- the file that the streams hold
+abbrev pub raw_in : Streams → RawFile
+raw_in streams =
+    let head = head_in (bytes_of streams Pdb) in
+    record { id = head.id; entry = head.entry; tables = tables_in streams head }
+
+-- the rules of the rows, F19 to F40
+abbrev pub BadRows : RawTables → Code → Place → Type 0
+BadRows raw code at = BadRow raw code at ⊎ BadSpan raw code at
+
+-- the rules of #Pdb, of #~ and of the rows, each judged only where nothing of the parts before is bad
+abbrev pub BadContents : Streams → Code → Place → Type 0
+BadContents streams =
+    Then (BadPdb (bytes_of streams Pdb)) (Then (BadTables (head_in (bytes_of streams Pdb)) (bytes_of streams Tables)) (BadRows (raw_in streams).tables))
+
+-- all rules
+abbrev pub BadFile : List ℕ → Code → Place → Type 0
+BadFile file = Then (BadContainer file) (λ code at. (streams : Streams) × AreStreamsOf file streams × BadContents streams code at)
+
+-- the file is read as this
+pub record IsRawOf (file : List ℕ) (raw : RawFile) : Type 0 where
+  pub streams : Streams
+  pub are : AreStreamsOf file streams
+  pub raw_is : raw ≡ raw_in streams

@@ -1,0 +1,39 @@
+// A file that keeps all rules.
+ghost use Rattle.std.specs.Prelude.{◌≡◌, ℕ, ◌<◌, ◌≤◌, slice_index};
+ghost use Rattle.ppdb_base.specs.First.{IsAccepted};
+ghost use Rattle.ppdb_tables.specs.RawTables.{count};
+ghost use Rattle.ppdb_tables.specs.RawOf.{raw_of};
+ghost use Rattle.ppdb_verify.specs.Files.{BadRows};
+
+use ppdb_tables::{PdbHead, Tables};
+
+/// A debug file that keeps all rules, where it stands in memory.
+#[derive(Clone, Copy)]
+pub struct Verified<'a> {
+    pub(crate) head: PdbHead,
+    pub(crate) tables: Tables<'a>,
+    ghost accepted: { IsAccepted (BadRows (raw_of tables)) },
+    ghost entry: { head.entry ≤ count (raw_of tables) 0x06 },
+    ghost rows: { (table : ℕ) → table < 0x2D → slice_index head.rows table ≡ count (raw_of tables) table },
+}
+
+impl<'a> Verified<'a> {
+    ghost use Rattle.ppdb_verify.specs.Views.{head_of, tables_of};
+
+    /// What the `#Pdb` stream says.
+    pub fn head(&self) -> &PdbHead
+        ensures head { result.now ≡ head_of self.now }
+        ensures entry { (head_of self.now).entry ≤ count (raw_of (tables_of self.now)) 0x06 }
+        ensures rows { (table : ℕ) → table < 0x2D → slice_index (head_of self.now).rows table ≡ count (raw_of (tables_of self.now)) table }
+    {
+        &self.head
+    }
+
+    /// The tables, which keep all rules of the rows.
+    pub fn tables(&self) -> &Tables<'a>
+        ensures tables { result.now ≡ tables_of self.now }
+        ensures accepted { IsAccepted (BadRows (raw_of (tables_of self.now))) }
+    {
+        &self.tables
+    }
+}
