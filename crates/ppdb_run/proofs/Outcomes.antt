@@ -11,7 +11,8 @@ use Rattle.ppdb_run.specs.declared.status.Status.TheVariants as statuses
 use Rattle.ppdb_run.specs.declared.stop.Stop.{Stop}
 use Rattle.ppdb_run.specs.Ends.{OnDue, OnOutcome, OnTask}
 use Rattle.ppdb_run.specs.Head.{BadToHead, HasHead}
-use Rattle.ppdb_run.specs.Outcome.{Outcome, Step, ◌>>=◌, gives, judged, refused, prints, id_text, id_line, entry_line, file_at, input_of, max_file, steps_of, IsOutcome}
+use Rattle.ppdb_text.specs.Heads.{id_line, entry_line}
+use Rattle.ppdb_run.specs.Outcome.{Outcome, Step, ◌>>=◌, gives, judged, refused, prints, id_text, file_at, input_of, max_file, steps_of, IsOutcome}
 use Rattle.ppdb_run.specs.Stops.{Gives, Settles, Finds, refusal_of}
 use Rattle.ppdb_run.specs.Words.{Task, Id, Words}
 use Rattle.ppdb_run.proofs.Heads.{one_head}

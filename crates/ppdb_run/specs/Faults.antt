@@ -4,7 +4,7 @@ use Rattle.hex.specs.Hex.{encode_lower}
 use Rattle.ppdb_base.specs.declared.fault.Place.{Place}
 use Rattle.ppdb_base.specs.declared.fault.Fault.{Fault}
 use Rattle.ppdb_base.specs.Place.{number_of}
-use Rattle.ppdb_run.specs.Lines.{numbered}
+use Rattle.ppdb_text.specs.Lines.{numbered}
 
 -- the name of a part that has no tables
 unfoldable pub part_text : ℕ → List ℕ

@@ -1,21 +1,7 @@
--- Lines of text and their pieces. A piece that has a name of its own is put by a function of its own.
-use Rattle.std.specs.Prelude.{ℕ, List, [], ◌∷◌, ◌++◌, codes}
-use Rattle.std.specs.Fmt.{decimal}
-use Rattle.ppdb_base.specs.Escaped.{escaped}
+-- The lines of a file that could not be read or written.
+use Rattle.std.specs.Prelude.{ℕ, List, codes}
+use Rattle.ppdb_text.specs.Lines.{line, named}
 
--- a line of words
-abbrev pub line : List ℕ → List ℕ
-line text = text ++ 10 ∷ []
-
--- words and a name, whose bytes are escaped
-unfoldable pub named : List ℕ → List ℕ → List ℕ
-named words name = words ++ escaped name
-
--- words and a decimal number
-unfoldable pub numbered : List ℕ → ℕ → List ℕ
-numbered words number = words ++ decimal number
-
--- the lines of a file that could not be read or written
 abbrev pub read_fault_line : List ℕ → List ℕ
 read_fault_line name = line (named (codes "read fault ") name)
 

@@ -1,7 +1,5 @@
 -- What a command comes to over the files: a status, a text, and at most one file that is written.
-use Rattle.std.specs.Prelude.{ℕ, ◌≡◌, ◌+◌, ◌⊎◌, List, ◌++◌, ◌==◌, if◌then◌else◌, Option, Some, None, Result, Ok, Err, codes}
-use Rattle.std.specs.Int.{to_be_bytes, w32}
-use Rattle.hex.specs.Hex.{encode_lower}
+use Rattle.std.specs.Prelude.{ℕ, ◌≡◌, ◌⊎◌, List, ◌++◌, Option, Some, None, Result, Ok, Err, codes}
 use Rattle.ppdb_base.specs.declared.code.Code.{Code}
 use Rattle.ppdb_base.specs.declared.fault.Place.{Place}
 use Rattle.ppdb_base.specs.declared.fault.Fault.{Fault}
@@ -12,7 +10,8 @@ use Rattle.ppdb_run.specs.declared.status.Status.{Status}
 use Rattle.ppdb_run.specs.declared.status.Status.TheVariants as statuses
 use Rattle.ppdb_run.specs.Faults.{fault_text}
 use Rattle.ppdb_run.specs.Head.{BadToHead, HasHead}
-use Rattle.ppdb_run.specs.Lines.{line, named}
+use Rattle.ppdb_text.specs.Heads.{id_line, entry_line}
+use Rattle.ppdb_text.specs.Lines.{line, named}
 use Rattle.ppdb_run.specs.Words.{Task, Id}
 
 pub record Outcome : Type 0 where
@@ -74,16 +73,6 @@ judged name Bad Says (Ok x) = IsAccepted Bad × Says x
 judged name Bad Says (Err refusal) = (fault : Fault) × IsFirst Bad fault × (refusal ≡ refused name fault)
 
 -- ---- the commands
-
--- the token of a MethodDef row, or of no method (ECMA-335 II.22)
-abbrev pub token_of : ℕ → ℕ
-token_of row = if row == 0 then 0 else 0x06000000 + row
-
-unfoldable pub id_line : List ℕ → List ℕ
-id_line id = codes "id " ++ line (encode_lower id)
-
-unfoldable pub entry_line : ℕ → List ℕ
-entry_line row = codes "entry " ++ line (encode_lower (to_be_bytes w32 (token_of row)))
 
 abbrev pub id_text : PdbHead → List ℕ
 id_text head = id_line head.id ++ entry_line head.entry

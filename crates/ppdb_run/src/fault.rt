@@ -3,11 +3,11 @@ ghost use Rattle.std.specs.Prelude.{◌≡◌, ◌≤◌, ◌++◌, ℕ, OnOk, O
 ghost use Rattle.ppdb_base.specs.Causes.{Rose};
 ghost use Rattle.ppdb_base.specs.Written.{appended, AppendsFront};
 ghost use Rattle.ppdb_run.specs.Faults.{fault_text, place_text, cell_text, column_text, row_text, byte_text, table_text, part_text};
-ghost use Rattle.ppdb_run.specs.Lines.{line};
+ghost use Rattle.ppdb_text.specs.Lines.{line};
 ghost use Rattle.ppdb_run.specs.Outcome.{refused};
 
-use crate::line::{put_named, put_numbered, put_pair};
 use ppdb_base::{Fault, Place, Sink, WriteError};
+use ppdb_text::{put_named, put_numbered, put_pair};
 
 /// The number of the part that has the rows of the tables.
 const ROWS: u8 = 5;
@@ -19,7 +19,7 @@ pub fn put_refused<O: Sink>(out: &mut O, name: &str, fault: Fault) -> Result<(),
     ensures failed { IsErrOf result WriteError.Failed → Rose (O.faults out.old) (O.faults out.new) }
     ensures later { O.faults out.old ≤ O.faults out.new }
 {
-    put_named(out, b"refused ", name)?;
+    put_named(out, b"refused ", name.as_bytes())?;
     put_fault(out, fault)?;
     out.put(b"\n")
 }

@@ -1,21 +1,21 @@
 // The command `id`.
-ghost use Rattle.std.specs.Prelude.{◌≡◌, ◌≤◌, ◌<◌, ◌++◌, ◌^◌, ℕ, Some, None, length, OnOk, OnErr, IfOk, IfErr, IfSome, IsErrOf};
+ghost use Rattle.std.specs.Prelude.{◌≡◌, ◌≤◌, ◌<◌, ◌^◌, ℕ, Some, None, length, OnOk, OnErr, IfOk, IfErr, IfSome, IsErrOf};
 ghost use Rattle.ppdb_base.specs.Causes.{Rose};
 ghost use Rattle.ppdb_base.specs.First.{IsAccepted, IsFirst};
 ghost use Rattle.ppdb_base.specs.Written.{appended, AppendsFront};
 ghost use Rattle.ppdb_run.specs.Ends.{OnTask};
 ghost use Rattle.ppdb_run.specs.Head.{BadToHead, HasHead};
-ghost use Rattle.ppdb_run.specs.Outcome.{prints, steps_of, IsOutcome, id_text, id_line, entry_line, token_of};
+ghost use Rattle.ppdb_run.specs.Outcome.{prints, steps_of, IsOutcome, id_text};
 ghost use Rattle.ppdb_run.specs.Stops.{Gives, Settles, Finds, OnCut, OnNoInput, OnReadFault, OnSink, OnUntold, OnUsage};
 ghost use Rattle.ppdb_run.specs.Words.{Id};
 ghost use Rattle.ppdb_run.specs.declared.status.Status.TheVariants as statuses;
 
 use crate::input::read_input;
-use crate::line::put_field;
 use crate::stop::Stop;
 use metadata_root::read_root;
 use ppdb_base::{Fault, Folder, Sink, WriteError};
 use ppdb_tables::{PdbHead, read_head};
+use ppdb_text::{put_entry_line, put_id_line};
 use std::alloc::Global;
 
 /// Puts the identity and the entry point of a file.
@@ -91,37 +91,4 @@ fn put_id<O: Sink>(out: &mut O, head: &PdbHead) -> Result<(), WriteError>
 {
     put_id_line(out, &head.id)?;
     put_entry_line(out, head.entry)
-}
-
-#[tactic(auto, unfolding(crate::specs::Outcome::id_line))]
-fn put_id_line<O: Sink>(out: &mut O, id: &[u8; 20]) -> Result<(), WriteError>
-    ensures ok { OnOk result (O.written out.new ≡ appended (O.written out.old) (id_line id.now)) }
-    ensures err { OnErr result (AppendsFront (O.written out.old) (O.written out.new) (id_line id.now)) }
-    ensures failed { IsErrOf result WriteError.Failed → Rose (O.faults out.old) (O.faults out.new) }
-    ensures later { O.faults out.old ≤ O.faults out.new }
-{
-    let mut digits = [0; 40];
-    let _whole = hex::encode_to_slice(*id, &mut digits);
-    put_field(out, b"id ", &digits)
-}
-
-#[tactic(auto, unfolding(crate::specs::Outcome::entry_line))]
-fn put_entry_line<O: Sink>(out: &mut O, row: u32) -> Result<(), WriteError>
-    requires { row < 2 ^ 24 }
-    ensures ok { OnOk result (O.written out.new ≡ appended (O.written out.old) (entry_line row)) }
-    ensures err { OnErr result (AppendsFront (O.written out.old) (O.written out.new) (entry_line row)) }
-    ensures failed { IsErrOf result WriteError.Failed → Rose (O.faults out.old) (O.faults out.new) }
-    ensures later { O.faults out.old ≤ O.faults out.new }
-{
-    let mut digits = [0; 8];
-    let _whole = hex::encode_to_slice(method_token(row).to_be_bytes(), &mut digits);
-    put_field(out, b"entry ", &digits)
-}
-
-/// The token of a MethodDef row, or of no method.
-fn method_token(row: u32) -> u32
-    requires { row < 2 ^ 24 }
-    ensures { result ≡ token_of row }
-{
-    if row == 0 { 0 } else { 0x0600_0000 + row }
 }

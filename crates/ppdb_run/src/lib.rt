@@ -6,7 +6,6 @@ mod fault;
 mod id;
 mod input;
 pub mod laws;
-mod line;
 mod status;
 mod stop;
 mod words;

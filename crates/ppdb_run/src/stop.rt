@@ -6,9 +6,9 @@ ghost use Rattle.ppdb_run.specs.declared.stop.Stop.TheVariants as stops;
 ghost use Rattle.ppdb_run.specs.Stops.{line_of, status_of, stop_of};
 
 use crate::fault::put_refused;
-use crate::line::put_named_line;
 use crate::status::Status;
 use ppdb_base::{Fault, Memory, Sink, WriteError};
+use ppdb_text::put_named_line;
 
 /// What ends a run before its answer. A name is that of the file that it comes from.
 #[derive(Clone, Copy)]
@@ -68,9 +68,9 @@ impl Stop<'_> {
     {
         match self {
             Stop::Usage => out.put(b"usage\n"),
-            Stop::ReadFault(name) => put_named_line(out, b"read fault ", name),
-            Stop::Absent(name) => put_named_line(out, b"absent ", name),
-            Stop::TooLong(name) => put_named_line(out, b"too long ", name),
+            Stop::ReadFault(name) => put_named_line(out, b"read fault ", name.as_bytes()),
+            Stop::Absent(name) => put_named_line(out, b"absent ", name.as_bytes()),
+            Stop::TooLong(name) => put_named_line(out, b"too long ", name.as_bytes()),
             Stop::Refused(name, fault) => put_refused(out, name, fault),
             Stop::Sink | Stop::Memory => Ok(()),
         }

@@ -2,7 +2,7 @@
 ghost use Rattle.std.specs.Prelude.{◌≡◌, ◌≤◌, ◌++◌, ℕ, OnOk, OnErr, IsErrOf};
 ghost use Rattle.ppdb_base.specs.Causes.{Rose};
 ghost use Rattle.ppdb_base.specs.Written.{appended, AppendsFront};
-ghost use Rattle.ppdb_run.specs.Lines.{line, named, numbered};
+ghost use Rattle.ppdb_text.specs.Lines.{line, named, numbered};
 
 use itoa::Buffer;
 use ppdb_base::{Sink, WriteError, put_escaped};
@@ -20,14 +20,14 @@ pub fn put_pair<O: Sink>(out: &mut O, words: &[u8], value: &[u8]) -> Result<(), 
 
 /// Puts words and a name, whose bytes are escaped.
 #[tactic(auto, unfolding(crate::specs::Lines::named))]
-pub fn put_named<O: Sink>(out: &mut O, words: &[u8], name: &str) -> Result<(), WriteError>
+pub fn put_named<O: Sink>(out: &mut O, words: &[u8], name: &[u8]) -> Result<(), WriteError>
     ensures ok { OnOk result (O.written out.new ≡ appended (O.written out.old) (named words.now name.now)) }
     ensures err { OnErr result (AppendsFront (O.written out.old) (O.written out.new) (named words.now name.now)) }
     ensures failed { IsErrOf result WriteError.Failed → Rose (O.faults out.old) (O.faults out.new) }
     ensures later { O.faults out.old ≤ O.faults out.new }
 {
     out.put(words)?;
-    put_escaped(out, name.as_bytes())
+    put_escaped(out, name)
 }
 
 /// Puts words and a decimal number.
@@ -42,7 +42,7 @@ pub fn put_numbered<O: Sink>(out: &mut O, words: &[u8], number: u32) -> Result<(
 }
 
 /// Puts a line of words and a name.
-pub fn put_named_line<O: Sink>(out: &mut O, words: &[u8], name: &str) -> Result<(), WriteError>
+pub fn put_named_line<O: Sink>(out: &mut O, words: &[u8], name: &[u8]) -> Result<(), WriteError>
     ensures ok { OnOk result (O.written out.new ≡ appended (O.written out.old) (line (named words.now name.now))) }
     ensures err { OnErr result (AppendsFront (O.written out.old) (O.written out.new) (line (named words.now name.now))) }
     ensures failed { IsErrOf result WriteError.Failed → Rose (O.faults out.old) (O.faults out.new) }
