@@ -1,6 +1,7 @@
 -- The debug information of methods keeps its rules.
-use Rattle.std.proofs.Common.{◌≡◌, ℕ, ◌⊎◌, List, [], ◌∷◌, length, refl, ◌∙◌, inl, inr}
+use Rattle.std.proofs.Common.{◌≡◌, ◌≢◌, ℕ, ◌⊎◌, List, [], ◌∷◌, length, refl, ◌∙◌, inl, inr}
 use Rattle.std.specs.Prelude.{Some}
+use Rattle.std.proofs.lemmas.Bool.{cases_eq}
 use Rattle.ppdb_base.specs.First.{IsAccepted}
 use Rattle.ppdb_heaps.specs.Heaps.{blob_at}
 use Rattle.ppdb_tables.specs.declared.rows.MethodDebugRow.{MethodDebugRow}
@@ -33,15 +34,15 @@ module _ (raw : RawTables) (accepted : IsAccepted (BadRow raw)) where
   points_there : (row : ℕ) (x : MethodDebugRow) → row_at raw.methods row ≡ Some x → HasBlob raw x.points
   points_there row x here = blob_there raw accepted 0x31 row 1 x.points (method_points here)
 
-  pub methods_kept : HasShape raw → (count raw 0x31 ≡ 0) ⊎ (count raw 0x31 ≡ count raw 0x06) → KeepsMethods raw
+  pub methods_kept : HasShape raw → (count raw 0x31 ≢ 0 → count raw 0x31 ≡ count raw 0x06) → KeepsMethods raw
   methods_kept shape counted = record {
     each = λ row x here. record {
       document = row_or_none raw accepted 0x31 row 0 0x30 x.document (method_document here);
       points = points_there row x here;
       points_whole = points_whole row x (blob raw x.points) here (points_there row x here);
     };
-    rows = elim counted [
+    rows = elim (cases_eq (count raw 0x31) 0) [
       | inl none ↦ inl (no_rows raw.methods (shape.methods ∙ none))
-      | inr same ↦ inr (shape.methods ∙ same)
+      | inr some ↦ inr (shape.methods ∙ counted some)
     ];
   }

@@ -1,5 +1,5 @@
 -- A file in whose rows nothing is bad (Portable PDB v1.0, "Metadata Tables"; ECMA-335 II.22).
-use Rattle.std.specs.Prelude.{◌≡◌, ◌≤◌, ◌⊎◌}
+use Rattle.std.specs.Prelude.{◌≡◌, ◌≢◌, ◌≤◌}
 use Rattle.ppdb_base.specs.First.{IsAccepted}
 use Rattle.ppdb_tables.specs.RawTables.{HasShape, count}
 use Rattle.ppdb_rules.specs.Rows.{BadRow}
@@ -11,7 +11,7 @@ use Rattle.ppdb_values.specs.Rules.{KeepsRules}
 pub record HasGoodRows (raw : RawFile) : Type 0 where
   pub shape : HasShape raw.tables
   pub entry : raw.entry ≤ count raw.tables 0x06
-  pub methods : (count raw.tables 0x31 ≡ 0) ⊎ (count raw.tables 0x31 ≡ count raw.tables 0x06)
+  pub methods : count raw.tables 0x31 ≢ 0 → count raw.tables 0x31 ≡ count raw.tables 0x06
   pub accepted : IsAccepted (BadRow raw.tables)
 
 -- Such a file keeps the rules.

@@ -1,5 +1,5 @@
 -- What was read of #Pdb is what its bytes say.
-use Rattle.std.proofs.Common.{◌≡◌, ℕ, ◌+◌, ◌*◌, ◌%◌, ◌^◌, ◌<◌, ◌≤◌, Bool, true, false, cond, List, [], ◌∷◌, map, inl, inr, refl, sym, ap, subst, ◌∙◌, arith, nat_lt}
+use Rattle.std.proofs.Common.{◌≡◌, ℕ, ◌%◌, ◌^◌, ◌<◌, ◌≤◌, Bool, true, false, cond, List, [], ◌∷◌, map, inl, inr, refl, sym, ap, subst, ◌∙◌, arith, nat_lt}
 use Rattle.std.specs.Prelude.{slice_index, if◌then◌else◌}
 use Rattle.std.specs.List.{range_with_len}
 use Rattle.std.proofs.lemmas.Bool.{cases_lt, lt-ltb, ltb-true}
@@ -7,13 +7,13 @@ use Rattle.std.proofs.lemmas.List.FromFn.{get_or-map-range_with_len}
 use Rattle.ppdb_base.specs.declared.code.Code.TheVariants.{EntryPoint}
 use Rattle.ppdb_base.specs.declared.code.Code.{Code}
 use Rattle.ppdb_base.specs.declared.fault.Place.{Place}
-use Rattle.ppdb_base.specs.First.{IsAccepted, IsFirst, Then}
+use Rattle.ppdb_base.specs.First.{IsAccepted, Then}
 use Rattle.ppdb_base.specs.Place.{at_byte}
 use Rattle.metadata_root.specs.declared.kind.StreamKind.TheVariants.{Tables, Strings, Guids, Blobs}
 use Rattle.metadata_root.specs.Streams.{Streams, bytes_of}
 use Rattle.row_layout.specs.declared.column.Sizes.{Sizes}
 use Rattle.ppdb_tables.specs.declared.head.PdbHead.{PdbHead}
-use Rattle.ppdb_tables.specs.Head.{BadEntry, BadPdb, IsHeadOf, NamesMethod, entry_in, pdb_rows}
+use Rattle.ppdb_tables.specs.Head.{BadPdb, IsHeadOf, NamesMethod, entry_in, pdb_rows}
 use Rattle.ppdb_tables.specs.Head.BadEntry.{entry}
 use Rattle.ppdb_tables.specs.Layouts.{document_columns, method_columns, scope_columns, variable_columns, constant_columns, import_columns, machine_columns, custom_columns, document_row, method_row, scope_row, variable_row, constant_row, import_row, machine_row, custom_row}
 use Rattle.ppdb_tables.specs.RawTables.{RawTables, count}

@@ -1,4 +1,6 @@
 pub mod Families
+pub mod Fitting
 pub mod Streamed
 pub mod Headed
+pub mod Counted
 pub mod Parts

@@ -1,5 +1,5 @@
 -- The parts of a file one after the other.
-use Rattle.std.proofs.Common.{◌≡◌, List, ℕ, inl, sym, subst, ◌∙◌}
+use Rattle.std.proofs.Common.{◌≡◌, List, ℕ, inl, subst, ◌∙◌}
 use Rattle.ppdb_base.specs.declared.code.Code.{Code}
 use Rattle.ppdb_base.specs.declared.fault.Fault.{Fault}
 use Rattle.ppdb_base.specs.declared.fault.Place.{Place}

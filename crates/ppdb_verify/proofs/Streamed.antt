@@ -1,15 +1,15 @@
 -- A file whose root keeps its rules has its streams once.
-use Rattle.std.proofs.Common.{◌≡◌, ℕ, zero, suc, ◌+◌, ◌<◌, ◌≤◌, inl, inr, List, [], ◌∷◌, ◌++◌, length, take, drop, sum, Option, Some, None, refl, sym, ap, ◌∙◌, append_assoc, arith}
+use Rattle.std.proofs.Common.{◌≡◌, ℕ, zero, suc, ◌+◌, ◌<◌, ◌≤◌, inl, inr, List, length, take, drop, sum, Option, Some, None, refl, sym, ap, ◌∙◌, arith}
 use Rattle.std.specs.Prelude.{MatchOption}
 use Rattle.std.proofs.lemmas.Bool.{cases_lt}
-use Rattle.std.proofs.lemmas.List.{append-nil}
 use Rattle.ppdb_base.specs.declared.code.Code.TheVariants.{RootTruncated, StreamRepeated}
 use Rattle.ppdb_base.specs.First.{IsAccepted}
 use Rattle.ppdb_base.specs.Place.{at_byte}
 use Rattle.ppdb_base.proofs.Fields.{sum-append}
+use Rattle.ppdb_verify.proofs.Fitting.{fields_fit}
 use Rattle.metadata_root.specs.declared.kind.StreamKind.{StreamKind}
 use Rattle.metadata_root.specs.declared.kind.StreamKind.TheVariants.{Pdb, Tables, Strings, UserStrings, Guids, Blobs}
-use Rattle.metadata_root.specs.Root.{BadRoot, fields_to, header_fields, header_place, name_at, name_len, name_place, root_fields, stream_count}
+use Rattle.metadata_root.specs.Root.{BadRoot, fields_to, header_fields, header_place, name_len, name_place, root_fields, stream_count}
 use Rattle.metadata_root.specs.Root.BadRoot.{truncated, repeated}
 use Rattle.metadata_root.specs.Streams.{AreStreamsOf, IsHeaderOf, IsListed, IsStream, Stream, Streams, offset_in, size_in}
 
@@ -27,21 +27,10 @@ before_later file j (suc k) lt =
     ]
 
 module _ (file : List ℕ) (accepted : IsAccepted (BadRoot file)) where
-  -- each field ends in the file
-  fields_end : (before after : List ℕ) → root_fields file ≡ before ++ after → sum before ≤ length file → sum (root_fields file) ≤ length file
-  fields_end before [] is le = let e : sum (root_fields file) ≡ sum before = ap sum (is ∙ append-nil before) in omega (arith, e, le)
-  fields_end before (len ∷ after) is le =
-      let next : sum before + len ≤ length file = elim (cases_lt (length file) (sum before + len)) [
-        | inl past ↦ absurd (accepted RootTruncated (at_byte 1 (sum before)) (truncated (sum before) len (record { before = before; after = after; in_order = is; place = refl }) le past))
-        | inr within ↦ within
-      ] in
-      let e : sum (before ++ len ∷ []) ≡ sum before + sum (len ∷ []) = sum-append before (len ∷ []) in
-      let one : sum (len ∷ []) ≡ len = omega arith in
-      fields_end (before ++ len ∷ []) after (is ∙ sym (append_assoc before (len ∷ []) after)) (omega (arith, e, one, next))
-
   name_within : (k : ℕ) → k < stream_count file → name_place file k ≤ length file
   name_within k counted =
-      let all : header_place file (stream_count file) ≤ length file = fields_end [] (root_fields file) refl (omega arith) in
+      let all : header_place file (stream_count file) ≤ length file =
+      fields_fit (root_fields file) (length file) (λ at len is from past. accepted RootTruncated (at_byte 1 at) (truncated at len is from past)) in
       omega (arith, before_later file k (stream_count file) counted, all)
 
   apart : (kind : StreamKind) (j k : ℕ) → IsHeaderOf file kind j → IsHeaderOf file kind k → j < k → ⊥

@@ -1,10 +1,11 @@
 // A file that keeps all rules.
-ghost use Rattle.std.specs.Prelude.{◌≡◌, ℕ, ◌<◌, ◌≤◌, slice_index};
+ghost use Rattle.std.specs.Prelude.{◌≡◌, ◌≢◌, ℕ, ◌<◌, ◌≤◌, slice_index};
 ghost use Rattle.ppdb_base.specs.First.{IsAccepted};
 ghost use Rattle.ppdb_tables.specs.RawTables.{count};
 ghost use Rattle.ppdb_tables.specs.RawOf.{raw_of};
 ghost use Rattle.ppdb_verify.specs.Files.{BadRows};
 
+use ppdb_facts::accepted_files_keep_rules;
 use ppdb_tables::{PdbHead, Tables};
 
 /// A debug file that keeps all rules, where it stands in memory.
@@ -14,11 +15,13 @@ pub struct Verified<'a> {
     pub(crate) tables: Tables<'a>,
     ghost accepted: { IsAccepted (BadRows (raw_of tables)) },
     ghost entry: { head.entry ≤ count (raw_of tables) 0x06 },
+    ghost methods: { count (raw_of tables) 0x31 ≢ 0 → count (raw_of tables) 0x31 ≡ count (raw_of tables) 0x06 },
     ghost rows: { (table : ℕ) → table < 0x2D → slice_index head.rows table ≡ count (raw_of tables) table },
 }
 
 impl<'a> Verified<'a> {
-    ghost use Rattle.ppdb_verify.specs.Views.{head_of, tables_of};
+    ghost use Rattle.ppdb_values.specs.Rules.{KeepsRules};
+    ghost use Rattle.ppdb_verify.specs.Views.{head_of, raw_file, tables_of};
 
     /// What the `#Pdb` stream says.
     pub fn head(&self) -> &PdbHead
@@ -35,5 +38,12 @@ impl<'a> Verified<'a> {
         ensures accepted { IsAccepted (BadRows (raw_of (tables_of self.now))) }
     {
         &self.tables
+    }
+    /// The file keeps the rules of its format.
+    pub fn keeps(&self)
+        ensures rules { KeepsRules (raw_file self.now) }
+    {
+        self.tables.shape();
+        accepted_files_keep_rules();
     }
 }

@@ -1,12 +1,12 @@
-use Rattle.std.proofs.Common.{◌≡◌, ◌≤◌, ℕ, ◌<◌, sym, subst, ap, ◌∙◌}
+use Rattle.std.proofs.Common.{◌≡◌, ◌≢◌, ◌≤◌, sym, subst, ap, ◌∙◌}
 use Rattle.std.specs.Prelude.{slice_index}
 use Rattle.ppdb_base.specs.First.{IsFirst}
 use Rattle.metadata_root.specs.declared.kind.StreamKind.TheVariants.{Pdb}
 use Rattle.metadata_root.specs.Streams.{bytes_of}
 use Rattle.ppdb_tables.specs.RawTables.{RawTables, count}
 use Rattle.ppdb_tables.specs.RawOf.{raw_of}
-use Rattle.ppdb_values.specs.RawFile.{RawFile}
 use Rattle.ppdb_verify.specs.Files.{BadFile, BadRows, raw_in}
+use Rattle.ppdb_verify.proofs.Counted.{methods_fit}
 use Rattle.ppdb_verify.proofs.Families.{fault_is}
 use Rattle.ppdb_verify.proofs.Headed.{entry_within, rows_are}
 use Rattle.ppdb_verify.proofs.Parts.{all_accepted, head_first, rows_first, same_tables, tables_first}
@@ -29,6 +29,7 @@ invariant_of-result g c =
     record {
       accepted = c.in-Ok-judge_all.ensures.accepted;
       entry = subst (λ (r : RawTables). c.in-Ok-read_head.head.entry ≤ count r 0x06) (sym raw_is) (entry_within pdb c.in-Ok-read_head.head is c.in-Ok.root c.in-Ok-read_head.ensures.accepted);
+      methods = subst (λ (r : RawTables). count r 0x31 ≢ 0 → count r 0x31 ≡ count r 0x06) (sym raw_is) (methods_fit c.in-Ok.root c.in-Ok-read_head.head c.in-Ok-read_tables.ensures.accepted);
       rows = λ table lt. subst (λ (r : RawTables). slice_index c.in-Ok-read_head.head.rows table ≡ count r table) (sym raw_is) (rows_are pdb c.in-Ok-read_head.head is c.in-Ok.root table lt);
     }
 

@@ -1,4 +1,4 @@
-use Rattle.std.proofs.Common.{◌≡◌, ℕ, ◌+◌, ◌<◌, ◌≤◌, [], ◌∷◌, length, inl, inr, arith}
+use Rattle.std.proofs.Common.{◌+◌, ◌≤◌, [], ◌∷◌, length, inl, inr, arith}
 use Rattle.ppdb_base.specs.Place.{numbers}
 use Rattle.ppdb_base.proofs.Judging.{ComesBefore-trans}
 use Rattle.ppdb_tables.specs.RawOf.{raw_of}

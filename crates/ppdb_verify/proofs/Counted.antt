@@ -1,0 +1,64 @@
+-- There is debug information for each method or for none.
+use Rattle.std.proofs.Common.{◌≡◌, ◌≢◌, ℕ, zero, suc, ◌+◌, ◌*◌, ◌≤◌, List, [], ◌∷◌, length, sum, replicate, inl, inr, refl, sym, ◌∙◌, false, arith}
+use Rattle.std.specs.Prelude.{◌==◌, slice_index}
+use Rattle.std.proofs.lemmas.Bool.{cases_eq, cases_lt}
+use Rattle.std.proofs.lemmas.Bool.Decides.{nat_tests}
+use Rattle.std.specs.Int.{bit_at}
+use Rattle.std.proofs.lemmas.List.FromFn.{get_or-map-range_with_len}
+use Rattle.ppdb_base.specs.declared.code.Code.TheVariants.{TablesShort, MethodRows}
+use Rattle.ppdb_base.specs.First.{IsAccepted}
+use Rattle.ppdb_base.specs.Place.{at_byte}
+use Rattle.ppdb_base.proofs.Fields.{sum-append, sum_cons}
+use Rattle.metadata_root.specs.declared.kind.StreamKind.TheVariants.{Tables}
+use Rattle.metadata_root.specs.Streams.{Streams, bytes_of}
+use Rattle.ppdb_tables.specs.Counts.{count_fields, counts_below}
+use Rattle.ppdb_tables.specs.declared.head.PdbHead.{PdbHead}
+use Rattle.ppdb_tables.specs.RawTables.{count}
+use Rattle.ppdb_tables.specs.Tables.{BadTableFields, BadTables, count_in, table_count_place, table_fields, table_rows, tables_in, valid}
+use Rattle.ppdb_tables.specs.Tables.BadTableFields.{short, method_rows}
+use Rattle.ppdb_verify.proofs.Fitting.{fields_fit}
+
+sum_replicate : (n x : ℕ) → sum (replicate n x) ≡ x * n
+sum_replicate zero x = omega arith
+sum_replicate (suc n) x = sum_cons x (replicate n x) ∙ omega (arith, sum_replicate n x)
+
+counts_step : (bits t : ℕ) → counts_below bits (suc t) ≡ counts_below bits t + bit_at bits t
+unfolding counts_below
+counts_step bits t = refl
+
+counts_up : (bits t u : ℕ) → t ≤ u → counts_below bits t ≤ counts_below bits u
+counts_up bits t zero le = let e : t ≡ 0 = omega arith in rw e (omega arith)
+counts_up bits t (suc u) le = elim (cases_lt u t) [
+  | inl past ↦ let e : t ≡ suc u = omega arith in rw e (omega arith)
+  | inr before ↦ omega (arith, counts_up bits t u before, counts_step bits u)
+]
+
+not_set : (bits table : ℕ) → bit_at bits table ≢ 1 → (bit_at bits table == 1) ≡ false
+not_set bits table apart = grind (arith, nat_tests, apart)
+
+module _ (methods : ℕ) (stream : List ℕ) (accepted : IsAccepted (BadTableFields methods stream)) where
+  place_within : (table : ℕ) → table ≤ 64 → table_count_place stream table ≤ length stream
+  place_within table le =
+      let fit = fields_fit (table_fields stream) (length stream) (λ at len is from past. accepted TablesShort (at_byte 4 at) (short at len is from past)) in
+      let parts = sum-append (4 ∷ 1 ∷ 1 ∷ 1 ∷ 1 ∷ 8 ∷ 8 ∷ []) (count_fields (valid stream)) in
+      let counted = sum_replicate (counts_below (valid stream) 64) 4 in
+      let up = counts_up (valid stream) table 64 le in
+      omega (arith, fit, parts, counted, up)
+
+  method_rows_fit : table_rows stream 0x31 ≢ 0 → table_rows stream 0x31 ≡ methods
+  method_rows_fit some = elim (cases_eq (bit_at (valid stream) 0x31) 1) [
+    | inl set ↦ elim (cases_eq (table_rows stream 0x31) methods) [
+      | inl same ↦ same
+      | inr other ↦ absurd (accepted MethodRows (at_byte 4 (table_count_place stream 0x31)) (method_rows set (place_within 0x31 (omega arith)) some other))
+    ]
+    | inr clear ↦ absurd (some (rw (not_set (valid stream) 0x31 clear) refl))
+  ]
+
+-- where there is debug information of methods, there is one row for each
+pub methods_fit : (streams : Streams) (head : PdbHead) → IsAccepted (BadTables head (bytes_of streams Tables))
+    → count (tables_in streams head) 0x31 ≢ 0 → count (tables_in streams head) 0x31 ≡ count (tables_in streams head) 0x06
+methods_fit streams head accepted some =
+    let stream = bytes_of streams Tables in
+    let counted : count (tables_in streams head) 0x31 ≡ table_rows stream 0x31 = get_or-map-range_with_len (count_in head stream) 0 64 0x31 0x31 0 (omega arith) (omega arith) in
+    let methods : slice_index head.rows 6 ≡ count (tables_in streams head) 0x06 = sym (get_or-map-range_with_len (count_in head stream) 0 64 6 6 0 (omega arith) (omega arith)) in
+    counted ∙ method_rows_fit (slice_index head.rows 6) stream (λ code at bad. accepted code at (inl bad)) (λ none. some (counted ∙ none)) ∙ methods
