@@ -10,3 +10,5 @@ pub mod Imports
 pub mod Machines
 pub mod Customs
 pub mod Files
+pub mod Cursors
+pub mod BlobsRead

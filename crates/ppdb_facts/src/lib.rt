@@ -3,4 +3,4 @@
 
 mod laws;
 
-pub use laws::accepted_files_keep_rules;
+pub use laws::{accepted_files_keep_rules, cursors_never_fault};
