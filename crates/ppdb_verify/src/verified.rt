@@ -6,6 +6,7 @@ ghost use Rattle.ppdb_tables.specs.RawOf.{raw_of};
 ghost use Rattle.ppdb_verify.specs.Files.{BadRows};
 
 use ppdb_facts::{accepted_files_keep_rules, cursors_never_fault};
+use ppdb_sound::values_are_sound;
 use ppdb_tables::{PdbHead, Tables};
 
 /// A debug file that keeps all rules, where it stands in memory.
@@ -21,7 +22,9 @@ pub struct Verified<'a> {
 
 impl<'a> Verified<'a> {
     ghost use Rattle.ppdb_facts.specs.Cursors.{CursorsNeverFault};
+    ghost use Rattle.ppdb_sound.specs.Sound.{IsSound};
     ghost use Rattle.ppdb_values.specs.Rules.{KeepsRules};
+    ghost use Rattle.ppdb_values.specs.Value.{value_of};
     ghost use Rattle.ppdb_verify.specs.Views.{head_of, raw_file, tables_of};
 
     /// What the `#Pdb` stream says.
@@ -41,13 +44,16 @@ impl<'a> Verified<'a> {
         &self.tables
     }
 
-    /// The file keeps the rules of its format, and no cursor over a blob of a row, read as that row says, ever answers a fault.
+    /// The file keeps the rules of its format, no cursor over a blob of a row, read as that row says, ever answers a fault, and
+    /// its value is sound.
     pub fn keeps(&self)
         ensures rules { KeepsRules (raw_file self.now) }
         ensures cursors { CursorsNeverFault (raw_of (tables_of self.now)) }
+        ensures sound { IsSound (value_of (raw_file self.now)) }
     {
         self.tables.shape();
         accepted_files_keep_rules();
         cursors_never_fault();
+        values_are_sound();
     }
 }

@@ -12,4 +12,8 @@ returns c =
       methods = file.methods;
       accepted = λ code at bad. file.accepted code at (inl bad);
     }) in
-    record { rules = rules; cursors = c.cursors_never_fault.ensures (raw_file file) rules }
+    record {
+      rules = rules;
+      cursors = c.cursors_never_fault.ensures (raw_file file) rules;
+      sound = c.values_are_sound.ensures (raw_file file) rules;
+    }
