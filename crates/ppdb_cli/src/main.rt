@@ -21,6 +21,7 @@ use std_sink::StdSink;
 const HELP: &[u8] = b"ppdb: Portable PDB debug files
 
 ppdb id FILE      prints the identity and the entry point of a file
+ppdb verify FILE  says whether a file is valid, and else its first fault
 ppdb --help       prints this text
 ppdb --version    prints the version
 ";

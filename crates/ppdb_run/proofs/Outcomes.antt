@@ -1,21 +1,21 @@
 -- A task has one outcome over the files.
-use Rattle.std.proofs.Common.{ℕ, ◌≡◌, inl, inr, List, ◌++◌, refl, sym, ◌∙◌, ap, subst}
-use Rattle.std.specs.Prelude.{Option, Some, None, Result, Ok, Err, IfSome}
+use Rattle.std.proofs.Common.{ℕ, ◌≡◌, inl, inr, List, refl, sym, ◌∙◌, ap, subst}
+use Rattle.std.specs.Prelude.{Option, Some, None, Result, Ok, Err, IfSome, codes}
 use Rattle.ppdb_base.specs.declared.code.Code.{Code}
 use Rattle.ppdb_base.specs.declared.fault.Place.{Place}
 use Rattle.ppdb_base.specs.First.{IsAccepted}
 use Rattle.ppdb_base.specs.Files.{Files, reading}
 use Rattle.ppdb_base.proofs.Judging.{one_first, first_not_accepted}
-use Rattle.ppdb_tables.specs.declared.head.PdbHead.{PdbHead}
 use Rattle.ppdb_run.specs.declared.status.Status.TheVariants as statuses
 use Rattle.ppdb_run.specs.declared.stop.Stop.{Stop}
 use Rattle.ppdb_run.specs.Ends.{OnDue, OnOutcome, OnTask}
-use Rattle.ppdb_run.specs.Head.{BadToHead, HasHead}
-use Rattle.ppdb_text.specs.Heads.{id_line, entry_line}
-use Rattle.ppdb_run.specs.Outcome.{Outcome, Step, ◌>>=◌, gives, judged, refused, prints, id_text, file_at, input_of, max_file, steps_of, IsOutcome}
+use Rattle.ppdb_text.specs.Lines.{line}
+use Rattle.ppdb_run.specs.Outcome.{Outcome, Step, ◌>>=◌, gives, judged, refused, prints, id_text, file_at, input_of, max_file, verified, steps_of, IsOutcome}
 use Rattle.ppdb_run.specs.Stops.{Gives, Settles, Finds, refusal_of}
-use Rattle.ppdb_run.specs.Words.{Task, Id, Words}
-use Rattle.ppdb_run.proofs.Heads.{one_head}
+use Rattle.ppdb_run.specs.Words.{Task, Id, Verify, Words}
+use Rattle.ppdb_values.specs.RawFile.{RawFile}
+use Rattle.ppdb_verify.specs.Files.{BadFile, IsRawOf, raw_in}
+use Rattle.ppdb_verify.proofs.Streamed.{same_streams}
 use Rattle.ppdb_run.proofs.OneTask.{one_task}
 
 -- ---- what a step gives
@@ -76,28 +76,59 @@ one_judged name Bad Says same one (Ok x) (Err b) h k = first_not_accepted Bad k.
 one_judged name Bad Says same one (Err a) (Ok y) h k = first_not_accepted Bad h.0 h.1 k.0
 one_judged name Bad Says same one (Err a) (Err b) h k = h.2 ∙ ap (refused name) (one_first Bad h.0 k.0 h.1 k.1) ∙ sym k.2
 
--- ---- the commands
+-- what a file is read as is one thing
+one_raw : (bytes : List ℕ) (x y : RawFile) → IsAccepted (BadFile bytes) → IsRawOf bytes x → IsRawOf bytes y → x ≡ y
+one_raw bytes x y accepted one other =
+    one.raw_is ∙ (ap raw_in (same_streams bytes (λ code at bad. accepted code at (inl (inl bad))) one.streams other.streams one.are other.are) ∙ sym other.raw_is)
 
-abbrev id_answer : List ℕ → List ℕ → Step Outcome
-id_answer file bytes = judged file (BadToHead bytes) (HasHead bytes) >>= λ head. gives (Ok (prints statuses.Done (id_text head)))
+abbrev judged_file : List ℕ → List ℕ → Step RawFile
+judged_file file bytes = judged file (BadFile bytes) (IsRawOf bytes)
 
-one_id : (file bytes : List ℕ) (r t : Result Outcome Outcome) → id_answer file bytes r → id_answer file bytes t → r ≡ t
-one_id file bytes =
-    one_next (λ h k. (h.id ≡ k.id) × (h.entry ≡ k.entry)) (judged file (BadToHead bytes) (HasHead bytes)) (λ head. gives (Ok (prints statuses.Done (id_text head))))
-    (one_judged file (BadToHead bytes) (HasHead bytes) (λ h k. (h.id ≡ k.id) × (h.entry ≡ k.entry)) (λ h k accepted one other. one_head bytes h k accepted one other))
-    (λ h k same r t e f. e ∙ (λ i. Ok (prints statuses.Done (id_line (same.0 i) ++ entry_line (same.1 i)))) ∙ sym f)
+one_verified : (files : Files) (file : List ℕ) → GivesOne (λ x y. x ≡ y) (verified files file)
+one_verified files file r t h k =
+    agrees r t (one_next (λ x y. x ≡ y) (file_at files file) (judged_file file) (one_given (input_of file (reading files file max_file)))
+    (λ x y e. subst (λ z. (r t : Result RawFile Outcome) → judged_file file x r → judged_file file z t → r ≡ t) e (λ r t h k. is_one x r t (one_judged file (BadFile x) (IsRawOf x) (λ a b. a ≡ b) (one_raw x) r t h k))) r t h k)
+  where
+    agrees : (r t : Result RawFile Outcome) → r ≡ t → Agree (λ x y. x ≡ y) r t
+    agrees r t e = subst (λ z. Agree (λ x y. x ≡ y) r z) e (agree_refl r)
 
--- a file that was read, and its head
-pub id_given : (file : List ℕ) (files : Option Files) (bytes : List ℕ) (head : PdbHead) → IfSome files (λ all. file_at all file (Ok bytes)) → IsAccepted (BadToHead bytes) → HasHead bytes head
-    → IfSome files (λ all. steps_of (Id file) all (Ok (prints statuses.Done (id_text head))))
-id_given file None bytes head h accepted says = tt
-id_given file (Some all) bytes head h accepted says = inl (bytes, h, inl (head, (accepted, says), refl))
+    is_one : (bytes : List ℕ) (r t : Result RawFile Outcome) → Agree (λ x y. x ≡ y) r t → r ≡ t
+    is_one bytes (Ok x) (Ok y) e = ap Ok e
+    is_one bytes (Ok x) (Err b) e = absurd e
+    is_one bytes (Err a) (Ok y) e = absurd e
+    is_one bytes (Err a) (Err b) e = ap Err e
+
+-- a file that was read and keeps all rules
+pub read_accepted : (files : Option Files) (file bytes : List ℕ) (raw : RawFile) → IfSome files (λ all. file_at all file (Ok bytes)) → IsAccepted (BadFile bytes) → IsRawOf bytes raw
+    → IfSome files (λ all. verified all file (Ok raw))
+read_accepted None file bytes raw h accepted is = tt
+read_accepted (Some all) file bytes raw h accepted is = inl (bytes, h, (accepted, is))
+
+-- ---- the commands that answer of a file that is verified
+
+abbrev Answering : List ℕ → (RawFile → Result Outcome Outcome) → Files → Step Outcome
+Answering file answer files = verified files file >>= λ raw. gives (answer raw)
+
+one_answer : (file : List ℕ) (answer : RawFile → Result Outcome Outcome) (files : Files) (r t : Result Outcome Outcome) → Answering file answer files r → Answering file answer files t → r ≡ t
+one_answer file answer files =
+    one_next (λ x y. x ≡ y) (verified files file) (λ raw. gives (answer raw)) (one_verified files file) (λ x y same r t e f. e ∙ (ap answer same ∙ sym f))
+
+-- where the file is not verified, there is no answer
+pub no_answer : {V : Type 0} (view : V → RawFile) (file : List ℕ) (answer : RawFile → Result Outcome Outcome) (files : Option Files) (stop : Stop)
+    → IfSome files (λ all. Gives view (Err stop) (verified all file)) → IfSome files (λ all. Gives (λ (o : Outcome). o) (Err stop) (Answering file answer all))
+no_answer view file answer None stop h = tt
+no_answer view file answer (Some all) stop h = gives_stop view (λ (o : Outcome). o) stop (verified all file) (λ raw. gives (answer raw)) h
+
+-- where it is, the answer is due
+pub answered : (file : List ℕ) (answer : RawFile → Result Outcome Outcome) (files : Option Files) (raw : RawFile)
+    → IfSome files (λ all. verified all file (Ok raw)) → IfSome files (λ all. Answering file answer all (answer raw))
+answered file answer None raw h = tt
+answered file answer (Some all) raw h = inl (raw, h, refl)
 
 -- a task comes to one thing
 one_end : (task : Task) (files : Files) (r t : Result Outcome Outcome) → steps_of task files r → steps_of task files t → r ≡ t
-one_end (Id file) files =
-    one_next (λ x y. x ≡ y) (file_at files file) (id_answer file) (one_given (input_of file (reading files file max_file)))
-    (λ x y e. subst (λ z. (r t : Result Outcome Outcome) → id_answer file x r → id_answer file z t → r ≡ t) e (one_id file x))
+one_end (Id file) files = one_answer file (λ raw. Ok (prints statuses.Done (id_text raw))) files
+one_end (Verify file) files = one_answer file (λ raw. Ok (prints statuses.Done (line (codes "accepted")))) files
 
 abbrev same_result : Result Outcome Outcome → Result Outcome Outcome → Type 0
 same_result r t = r ≡ t
@@ -126,6 +157,7 @@ of_task {P = P} words task files k h = on_task files k.holds
     on_task (Some told) k (Some other) asks all seen =
         subst (λ (t : Task). OnDue (Some t) all P) (one_task words task other h asks) (subst (λ (fs : Files). OnDue (Some task) fs P) seen k)
     on_task None k (Some (Id file)) asks all seen = absurd seen
+    on_task None k (Some (Verify file)) asks all seen = absurd seen
 
 -- what holds of one outcome holds of the outcome
 pub on_due : (P : Outcome → Type 0) (asked : Option Task) (files : Files) (a : Outcome) → IsOutcome asked files a → P a → OnDue asked files P

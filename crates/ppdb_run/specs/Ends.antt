@@ -8,7 +8,7 @@ use Rattle.ppdb_run.specs.declared.status.Status.TheVariants.{Done, WriteFault, 
 use Rattle.ppdb_run.specs.Lines.{read_fault_line, write_fault_line}
 use Rattle.ppdb_run.specs.Outcome.{Outcome, IsOutcome}
 use Rattle.ppdb_run.specs.Status.{UnlessFault}
-use Rattle.ppdb_run.specs.Words.{Task, Id, Words, NoTask}
+use Rattle.ppdb_run.specs.Words.{Task, Id, Verify, Words, NoTask}
 use Rattle.ppdb_run.specs.Writes.{WritesAll, WritesFront}
 
 -- what the words ask for: a task, or nothing where no task has them
@@ -20,6 +20,7 @@ Asks words None = NoTask words
 abbrev pub IsApart : Option Task → Type 0
 IsApart None = Unit {0}
 IsApart (Some (Id file)) = ⊥
+IsApart (Some (Verify file)) = ⊥
 
 -- the files that an outcome is over: those that the folder tells; where it tells none, any, if the task has to do with no file
 abbrev pub AreSeen : Option Task → Option Files → Files → Type 0
@@ -45,13 +46,16 @@ HasOutcome words files status = (asked : Option Task) → Asks words asked → (
 -- the files of a task that are read, in the order of its words and as often as they are named, and the file that it writes
 abbrev pub read_files : Task → List (List ℕ)
 read_files (Id file) = file ∷ []
+read_files (Verify file) = file ∷ []
 
 abbrev pub written_file : Task → Option (List ℕ)
 written_file (Id file) = None
+written_file (Verify file) = None
 
 -- the task comes to read the file: nothing that comes before is refused
 abbrev pub ComesToRead : Task → Files → List ℕ → Type 0
 ComesToRead (Id file) files name = name ≡ file
+ComesToRead (Verify file) files name = name ≡ file
 
 -- this file of the task was to be read, after so many reads that gave a file
 pub record IsUnread (words : List (List ℕ)) (files : Option Files) (before after : ℕ) (name : List ℕ) : Type 0 where

@@ -1,6 +1,5 @@
 pub mod Ends
 pub mod Faults
-pub mod Head
 pub mod Lines
 pub mod Outcome
 pub mod Status

@@ -5,14 +5,14 @@ use Rattle.ppdb_base.specs.declared.fault.Place.{Place}
 use Rattle.ppdb_base.specs.declared.fault.Fault.{Fault}
 use Rattle.ppdb_base.specs.Files.{Files, Reading, Missing, Longer, Contents, reading}
 use Rattle.ppdb_base.specs.First.{IsAccepted, IsFirst}
-use Rattle.ppdb_tables.specs.declared.head.PdbHead.{PdbHead}
 use Rattle.ppdb_run.specs.declared.status.Status.{Status}
 use Rattle.ppdb_run.specs.declared.status.Status.TheVariants as statuses
 use Rattle.ppdb_run.specs.Faults.{fault_text}
-use Rattle.ppdb_run.specs.Head.{BadToHead, HasHead}
 use Rattle.ppdb_text.specs.Heads.{id_line, entry_line}
 use Rattle.ppdb_text.specs.Lines.{line, named}
-use Rattle.ppdb_run.specs.Words.{Task, Id}
+use Rattle.ppdb_run.specs.Words.{Task, Id, Verify}
+use Rattle.ppdb_values.specs.RawFile.{RawFile}
+use Rattle.ppdb_verify.specs.Files.{BadFile, IsRawOf}
 
 pub record Outcome : Type 0 where
   pub status : Status
@@ -72,17 +72,25 @@ abbrev pub judged : {A : Type 0} → List ℕ → (Code → Place → Type 0) �
 judged name Bad Says (Ok x) = IsAccepted Bad × Says x
 judged name Bad Says (Err refusal) = (fault : Fault) × IsFirst Bad fault × (refusal ≡ refused name fault)
 
+-- what a file is read as, where no rule is broken; else it is refused with its first fault
+abbrev pub verified : Files → List ℕ → Step RawFile
+verified files file = do
+  bytes ← file_at files file
+  judged file (BadFile bytes) (IsRawOf bytes)
+
 -- ---- the commands
 
-abbrev pub id_text : PdbHead → List ℕ
-id_text head = id_line head.id ++ entry_line head.entry
+abbrev pub id_text : RawFile → List ℕ
+id_text raw = id_line raw.id ++ entry_line raw.entry
 
 -- what a task comes to
 abbrev pub steps_of : Task → Files → Step Outcome
 steps_of (Id file) files = do
-  bytes ← file_at files file
-  head ← judged file (BadToHead bytes) (HasHead bytes)
-  gives (Ok (prints statuses.Done (id_text head)))
+  raw ← verified files file
+  gives (Ok (prints statuses.Done (id_text raw)))
+steps_of (Verify file) files = do
+  raw ← verified files file
+  gives (Ok (prints statuses.Done (line (codes "accepted"))))
 
 -- the outcome of a task, or of words that are no task's
 abbrev pub IsOutcome : Option Task → Files → Outcome → Type 0

@@ -16,10 +16,12 @@ is_file_word (first ∷ second ∷ rest) = not (first == 0x2d && second == 0x2d)
 -- what is asked for
 pub data Task : Type 0 where
   Id : (file : List ℕ) → Task
+  Verify : (file : List ℕ) → Task
 
 -- the words of a task, one case for each form
 abbrev pub Words : Task → List (List ℕ) → Type 0
 Words (Id file) words = (words ≡ codes "id" ∷ file ∷ []) × IsTrue (is_file_word file)
+Words (Verify file) words = (words ≡ codes "verify" ∷ file ∷ []) × IsTrue (is_file_word file)
 
 -- no task has these words
 abbrev pub NoTask : List (List ℕ) → Type 0

@@ -1,29 +1,28 @@
 // The command `id`.
-ghost use Rattle.std.specs.Prelude.{◌≡◌, ◌≤◌, ◌<◌, ◌^◌, ℕ, Some, None, length, OnOk, OnErr, IfOk, IfErr, IfSome, IsErrOf};
+ghost use Rattle.std.specs.Prelude.{◌≡◌, ◌≤◌, ℕ, Some, None, OnOk, OnErr, IfErr, IfSome, IsErrOf};
 ghost use Rattle.ppdb_base.specs.Causes.{Rose};
-ghost use Rattle.ppdb_base.specs.First.{IsAccepted, IsFirst};
 ghost use Rattle.ppdb_base.specs.Written.{appended, AppendsFront};
 ghost use Rattle.ppdb_run.specs.Ends.{OnTask};
-ghost use Rattle.ppdb_run.specs.Head.{BadToHead, HasHead};
-ghost use Rattle.ppdb_run.specs.Outcome.{prints, steps_of, IsOutcome, id_text};
-ghost use Rattle.ppdb_run.specs.Stops.{Gives, Settles, Finds, OnCut, OnNoInput, OnReadFault, OnSink, OnUntold, OnUsage};
+ghost use Rattle.ppdb_run.specs.Outcome.{IsOutcome, id_text};
+ghost use Rattle.ppdb_run.specs.Stops.{Settles, Finds, OnCut, OnNoInput, OnReadFault, OnSink, OnUntold, OnUsage};
 ghost use Rattle.ppdb_run.specs.Words.{Id};
-ghost use Rattle.ppdb_run.specs.declared.status.Status.TheVariants as statuses;
+ghost use Rattle.ppdb_verify.specs.Views.{raw_file};
 
-use crate::input::read_input;
 use crate::stop::Stop;
-use metadata_root::read_root;
-use ppdb_base::{Fault, Folder, Sink, WriteError};
-use ppdb_tables::{PdbHead, read_head};
+use crate::verified::read_verified;
+use ppdb_base::{Folder, List, Sink, Steps, WriteError};
 use ppdb_text::{put_entry_line, put_id_line};
+use ppdb_verify::Verified;
 use std::alloc::Global;
+use std::sync::ledger::Ledger;
 
-/// Puts the identity and the entry point of a file.
-pub fn id<'a, F: Folder, O: Sink>(
+/// Verifies a file, and puts its identity and its entry point.
+pub fn id<'a, F: Folder, O: Sink, L: Ledger>(
     alloc: Global,
     file: &'a str,
     folder: &mut F,
     out: &mut O,
+    steps: &mut Steps<L>,
 ) -> Result<(), Stop<'a>>
     // What it comes to over told files.
     ensures found { IfSome (F.files folder.old) (λ all. Finds result (IsOutcome (Some (Id file.now)) all)) }
@@ -41,54 +40,24 @@ pub fn id<'a, F: Folder, O: Sink>(
     ensures understood { IfErr result (λ stop. OnUsage stop ⊥) }
     ensures later { O.faults out.old ≤ O.faults out.new }
 {
-    let head = read_identity(alloc, file, folder)?;
-    put_id(out, &head)?;
+    let mut bytes = List::new(alloc);
+    let verified = match read_verified(alloc, file, folder, &mut bytes, steps) {
+        Ok(verified) => verified,
+        Err(stop) => return Err(stop),
+    };
+    put_id(out, &verified)?;
     Ok(())
 }
 
-/// Reads a file and its head.
-fn read_identity<'a, F: Folder>(
-    alloc: Global,
-    file: &'a str,
-    folder: &mut F,
-) -> Result<PdbHead, Stop<'a>>
-    ensures told { IfSome (F.files folder.old) (λ all. Gives (λ head. prints statuses.Done (id_text head)) result (steps_of (Id file.now) all)) }
-    ensures entry { IfOk result (λ head. head.entry < 2 ^ 24) }
-    ensures kind { IfErr result (λ stop. OnSink stop ⊥) }
-    ensures files { F.files folder.new ≡ F.files folder.old }
-
-    ensures read_fault { IfErr result (λ stop. OnReadFault stop (λ name. Rose (F.read_faults folder.old) (F.read_faults folder.new))) }
-    ensures unread { IfErr result (λ stop. OnReadFault stop (λ name. (name ≡ file.now) × (F.reads folder.new ≡ F.reads folder.old))) }
-    ensures untold { F.files folder.old ≡ None → IfErr result (λ stop. OnNoInput stop (Rose (F.read_faults folder.old) (F.read_faults folder.new))) }
-    ensures understood { IfErr result (λ stop. OnUsage stop ⊥) }
-{
-    let bytes = read_input(alloc, folder, file)?;
-    match head_of(bytes.as_slice()) {
-        Ok(head) => Ok(head),
-        Err(fault) => Err(Stop::Refused(file, fault)),
-    }
-}
-
-/// The head of a file, or the first fault up to it.
-fn head_of(bytes: &[u8]) -> Result<PdbHead, Fault>
-    requires { length bytes.now ≤ 134217728 }
-    ensures accepted { OnOk result (IsAccepted (BadToHead bytes.now)) }
-    ensures head { IfOk result (HasHead bytes.now) }
-    ensures first { IfErr result (IsFirst (BadToHead bytes.now)) }
-    ensures entry { IfOk result (λ head. head.entry < 2 ^ 24) }
-{
-    let root = read_root(bytes)?;
-    read_head(&root)
-}
-
 /// Puts the two lines of `id`.
-fn put_id<O: Sink>(out: &mut O, head: &PdbHead) -> Result<(), WriteError>
-    requires { head.now.entry < 2 ^ 24 }
-    ensures ok { OnOk result (O.written out.new ≡ appended (O.written out.old) (id_text head.now)) }
-    ensures err { OnErr result (AppendsFront (O.written out.old) (O.written out.new) (id_text head.now)) }
+fn put_id<O: Sink>(out: &mut O, file: &Verified<'_>) -> Result<(), WriteError>
+    ensures ok { OnOk result (O.written out.new ≡ appended (O.written out.old) (id_text (raw_file file.now))) }
+    ensures err { OnErr result (AppendsFront (O.written out.old) (O.written out.new) (id_text (raw_file file.now))) }
     ensures failed { IsErrOf result WriteError.Failed → Rose (O.faults out.old) (O.faults out.new) }
     ensures later { O.faults out.old ≤ O.faults out.new }
 {
+    file.tables().shape();
+    let head = file.head();
     put_id_line(out, &head.id)?;
     put_entry_line(out, head.entry)
 }

@@ -8,6 +8,8 @@ mod input;
 pub mod laws;
 mod status;
 mod stop;
+mod verified;
+mod verify_command;
 mod words;
 
 pub use commands::run;

@@ -8,6 +8,8 @@ ghost use Rattle.ppdb_run.specs.Task.{task_of};
 pub enum Command<'a> {
     /// The identity and the entry point of a file.
     Id { file: &'a str },
+    /// Whether a file keeps all rules.
+    Verify { file: &'a str },
 }
 
 /// The words are those of no command.
@@ -21,6 +23,9 @@ pub fn read_words(words: &[String]) -> Result<Command<'_>, Usage>
 {
     match words {
         [name, file] if name.as_str() == "id" && names_file(file) => Ok(Command::Id {
+            file: file.as_str(),
+        }),
+        [name, file] if name.as_str() == "verify" && names_file(file) => Ok(Command::Verify {
             file: file.as_str(),
         }),
         _ => Err(Usage),
