@@ -2,8 +2,16 @@
 #![tactic(auto)]
 
 #[cfg(test)]
+mod changed;
+#[cfg(test)]
+mod copies;
+#[cfg(test)]
 mod files;
 #[cfg(test)]
-mod id;
+mod large;
+#[cfg(test)]
+mod rules;
 #[cfg(test)]
 mod running;
+#[cfg(test)]
+mod words;

@@ -1,11 +1,12 @@
 // Runs of a command over files in memory.
 ghost use Rattle.std.specs.Prelude.{◌≡◌, ◌<◌};
 
-use ppdb_base::{Folder, MemorySink, Sink, Steps};
+use ppdb_base::{Folder, MemorySink, Sink, SteadyFolder, Steps};
 use ppdb_run::{Status, run};
 use std::alloc::{AllocError, Global};
 use std::marker::Brand;
 use std::sync::ledger::{Blank, Ledger};
+use std::test::Fail;
 
 /// Runs the command of these words.
 pub fn ran<F: Folder, O: Sink>(
@@ -49,4 +50,26 @@ pub fn prints<F: Folder>(
     let mut out = MemorySink::new(alloc);
     let ended = ran(alloc, words, folder, &mut out)?;
     Ok(ended.number() == status && out.as_slice() == text.as_bytes())
+}
+
+/// Verifies these bytes as the file B, and says whether that printed this and ended as it says.
+pub fn verifies(alloc: Global, bytes: &[u8], text: &str) -> Result<bool, Fail> {
+    let mut folder = SteadyFolder::new(alloc);
+    folder.set("B", bytes)?;
+    let status = if text == "accepted\n" { 0 } else { 1 };
+    Ok(prints(alloc, &["verify", "B"], &mut folder, status, text)?)
+}
+
+/// Verifies these bytes as the file B, and says whether that ended as accepted or refused, with the line of it.
+pub fn answers(alloc: Global, bytes: &[u8]) -> Result<bool, Fail> {
+    let mut folder = SteadyFolder::new(alloc);
+    folder.set("B", bytes)?;
+    let mut out = MemorySink::new(alloc);
+    let status = ran(alloc, &["verify", "B"], &mut folder, &mut out)?;
+    let text = out.as_slice();
+    Ok(match status {
+        Status::Done => text == b"accepted\n".as_slice(),
+        Status::Refused => text.starts_with(b"refused B F") && text.ends_with(b"\n"),
+        _ => false,
+    })
 }
