@@ -23,7 +23,7 @@ pub fn run<F: Folder, O: Sink, K: Ledger, L: Ledger>(
     folder: &mut F,
     out: &mut O,
     checks: &mut Steps<K>,
-    steps: &mut Steps<L>,
+    _steps: &mut Steps<L>,
 ) -> Status
     // Where nothing outside failed, it ends with the outcome of the words over the files that the folder tells.
     // Words that have to do with no file have an outcome also where none are told.
@@ -48,7 +48,7 @@ pub fn run<F: Folder, O: Sink, K: Ledger, L: Ledger>(
     ensures usage { result ≡ Status.Usage → NoTask (texts words.now) }
     ensures untold { F.files folder.old ≡ None → (result ≡ Status.Absent) ⊎ (result ≡ Status.TooLong) → Rose (F.read_faults folder.old) (F.read_faults folder.new) }
 {
-    match carry_out(alloc, words, folder, out, checks, steps) {
+    match carry_out(alloc, words, folder, out, checks) {
         Ok(()) => Status::Done,
         Err(stop) => tell(stop, out),
     }
@@ -66,13 +66,12 @@ fn tell<O: Sink>(stop: Stop<'_>, out: &mut O) -> Status
 }
 
 /// Carries out the command of the words, up to the line of a stop.
-fn carry_out<'a, F: Folder, O: Sink, K: Ledger, L: Ledger>(
+fn carry_out<'a, F: Folder, O: Sink, K: Ledger>(
     alloc: Global,
     words: &'a [String],
     folder: &mut F,
     out: &mut O,
     checks: &mut Steps<K>,
-    steps: &mut Steps<L>,
 ) -> Result<(), Stop<'a>>
     ensures found { FindsOutcome (texts words.now) (F.files folder.old) result }
     ensures told { OnOutcome (texts words.now) (F.files folder.old) (Settles result) }
@@ -90,7 +89,7 @@ fn carry_out<'a, F: Folder, O: Sink, K: Ledger, L: Ledger>(
     ensures later { O.faults out.old ≤ O.faults out.new }
 {
     match read_words(words) {
-        Ok(Command::Id { file }) => id(alloc, file, folder, out, steps),
+        Ok(Command::Id { file }) => id(alloc, file, folder, out, checks),
         Ok(Command::Verify { file }) => verify(alloc, file, folder, out, checks),
         Err(Usage) => Err(Stop::Usage),
     }
