@@ -1,2 +1,4 @@
 pub mod Heads
 pub mod Lines
+pub mod Putting
+pub mod Values

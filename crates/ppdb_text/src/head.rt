@@ -34,8 +34,8 @@ pub fn put_entry_line<O: Sink>(out: &mut O, row: u32) -> Result<(), WriteError>
     put_field(out, b"entry ", &digits)
 }
 
-/// The token of a MethodDef row, or of no method.
-fn method_token(row: u32) -> u32
+/// The token of a MethodDef row, or of no method, which is 0 (ECMA-335 II.22).
+pub fn method_token(row: u32) -> u32
     requires { row < 2 ^ 24 }
     ensures { result ≡ token_of row }
 {

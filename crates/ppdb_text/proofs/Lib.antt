@@ -1,0 +1,2 @@
+pub mod Hexed
+pub mod Putting
