@@ -1,0 +1,7 @@
+pub mod Ascii
+pub mod Lines
+pub mod Members
+pub mod Numbered
+pub mod Pieces
+pub mod ScopeLists
+pub mod Whole

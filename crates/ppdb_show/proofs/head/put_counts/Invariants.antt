@@ -1,0 +1,18 @@
+use Rattle.std.proofs.Common.{◌-◌, ◌≤◌}
+use Rattle.ppdb_tables.specs.RawOf.{raw_of}
+use Rattle.ppdb_text.specs.Putting.{Putting}
+use Rattle.ppdb_show.specs.Show.{lines_as, count_lines, count_lines_of}
+use Rattle.ppdb_show.specs.Walk.{between}
+use Rattle.ppdb_show.proofs.head.put_counts.Given as goal
+
+abbrev pub invariant-counts : goal.invariant-counts
+invariant-counts g l =
+    let sink = g.O.Sink in
+    record {
+      to : l.table ≤ 0x2d;
+      put : Putting (sink.written l.fn.out) (sink.written l.out) (lines_as l.form (between (count_lines_of (raw_of l.tables)) l.table 0x2d)) (lines_as l.form (count_lines (raw_of l.tables)));
+      later : sink.faults l.fn.out ≤ sink.faults l.out;
+    }
+
+abbrev pub decreases-counts : goal.decreases-counts
+decreases-counts g l = 0x2d - l.table

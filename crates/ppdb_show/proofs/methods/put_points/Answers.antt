@@ -1,0 +1,29 @@
+use Rattle.std.proofs.Common.{arith}
+use Rattle.ppdb_base.specs.Written.{AppendsFront}
+use Rattle.ppdb_base.proofs.Written.{on_err}
+use Rattle.ppdb_text.proofs.Putting.{put_piece, put_front, put_whole}
+use Rattle.std.proofs.Common.{map}
+use Rattle.ppdb_show.specs.Show.{lines_as, point_line}
+use Rattle.ppdb_show.proofs.Lines.{mapped_step, mapped_done}
+use Rattle.ppdb_show.proofs.Whole.{answered, ended}
+use Rattle.ppdb_show.proofs.methods.put_points.Goals as goal
+
+pub points-preserved : goal.points-preserved
+points-preserved g c =
+    let e = answered c.points.points.left.items c.points.points.left.fault c.in-Ok-Some.point c.next.result c.in-Ok-Some.field-0 c.next.ensures.answer c.in-Ok-Some.is c.in-Ok-Some.field-0-is in
+    rw c.next.ensures.left (record {
+      whole = c.points.invariant.whole;
+      put = put_piece _ _ _ _ _ _ (rw (mapped_step c.args.form point_line c.points.points.left.items c.in-Ok-Some.point e) at c.points.invariant.put) c.in_ok-put_point-in-Ok-Some.ensures.ok;
+      later = omega arith;
+    })
+
+pub returns-in_err-put_point-in-Ok-Some-clause-err : goal.returns-in_err-put_point-in-Ok-Some-clause-err
+returns-in_err-put_point-in-Ok-Some-clause-err g c =
+    let e = answered c.points.points.left.items c.points.points.left.fault c.in-Ok-Some.point c.next.result c.in-Ok-Some.field-0 c.next.ensures.answer c.in-Ok-Some.is c.in-Ok-Some.field-0-is in
+    on_err {P = AppendsFront _ _ (lines_as c.args.form (map point_line c.args.points.now.left.items))} _
+    (put_front _ _ _ _ _ _ (rw (mapped_step c.args.form point_line c.points.points.left.items c.in-Ok-Some.point e) at c.points.invariant.put) c.in_err-put_point-in-Ok-Some.ensures.err)
+
+pub returns-in-Ok-None-clause-ok : goal.returns-in-Ok-None-clause-ok
+returns-in-Ok-None-clause-ok g c =
+    let e = ended c.points.points.left.items c.points.points.left.fault c.next.result c.in-Ok-None.field-0 c.next.ensures.answer c.in-Ok-None.is c.in-Ok-None.field-0-is in
+    put_whole _ _ _ (rw (mapped_done c.args.form point_line c.points.points.left.items e) at c.points.invariant.put)

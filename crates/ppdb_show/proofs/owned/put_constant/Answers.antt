@@ -1,0 +1,11 @@
+use Rattle.ppdb_show.proofs.owned.put_constant.Goals as goal
+
+pub returns-clause-ok : goal.returns-clause-ok
+returns-clause-ok g c =
+    rw (rw c.tables-tables.ensures.tables at c.constant-constant.ensures.row, c.requires.owner)
+    (rw c.tables-tables.ensures.tables at (rw c.text_at.ensures at (rw c.blob_of.ensures.blob at c.put_line.ensures.ok)))
+
+pub returns-clause-err : goal.returns-clause-err
+returns-clause-err g c =
+    rw (rw c.tables-tables.ensures.tables at c.constant-constant.ensures.row, c.requires.owner)
+    (rw c.tables-tables.ensures.tables at (rw c.text_at.ensures at (rw c.blob_of.ensures.blob at c.put_line.ensures.err)))

@@ -1,0 +1,4 @@
+pub mod Lines
+pub mod Show
+pub mod Views
+pub mod Walk

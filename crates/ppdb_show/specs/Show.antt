@@ -1,0 +1,230 @@
+-- All rows of a file, line by line (this project's format; Portable PDB v1.0, "#Pdb stream" and "Metadata Tables").
+use Rattle.std.specs.Prelude.{map, ℕ, List, [], ◌∷◌, ◌++◌, Option, Some, None, codes, if◌then◌else◌, ◌==◌, unwrap_or}
+use Rattle.std.specs.List.{flat_map, range_with_len}
+use Rattle.sequence_points.specs.declared.point.Point.{Point}
+use Rattle.sequence_points.specs.declared.point.Span.{Span}
+use Rattle.sequence_points.specs.declared.point.Span.TheVariants.{Hidden, Lines}
+use Rattle.ppdb_tables.specs.declared.rows.ScopeRow.{ScopeRow}
+use Rattle.ppdb_tables.specs.declared.rows.MachineRow.{MachineRow}
+use Rattle.ppdb_tables.specs.declared.rows.ConstantRow.{ConstantRow}
+use Rattle.ppdb_tables.specs.declared.rows.CustomRow.{CustomRow}
+use Rattle.ppdb_tables.specs.RawTables.{RawTables, numbered, count}
+use Rattle.ppdb_text.specs.Heads.{token_of}
+use Rattle.ppdb_values.specs.declared.file.DocumentValue.{DocumentValue}
+use Rattle.ppdb_values.specs.declared.file.MethodValue.{MethodValue}
+use Rattle.ppdb_values.specs.declared.scope.VariableValue.{VariableValue}
+use Rattle.ppdb_values.specs.declared.import.ImportScopeValue.{ImportScopeValue}
+use Rattle.ppdb_values.specs.declared.import.ImportValue.{ImportValue}
+use Rattle.ppdb_values.specs.declared.import.ImportValue.TheVariants.{Namespace, AssemblyNamespace, Target, Xml, Alias, AssemblyAlias, NamespaceAlias, AssemblyNamespaceAlias, TargetAlias}
+use Rattle.type_blobs.specs.declared.types.TypeToken.{TypeToken}
+use Rattle.ppdb_values.specs.RawFile.{RawFile, text, blob, guid as guid_in}
+use Rattle.ppdb_values.specs.Documents.{document_of, method_of}
+use Rattle.ppdb_values.specs.Imports.{import_scope_of}
+use Rattle.ppdb_values.specs.Customs.{parent_of}
+use Rattle.ppdb_values.specs.Value.{owner_of, variable_of, range_of}
+use Rattle.ppdb_show.specs.declared.form.Form.{Form}
+use Rattle.ppdb_show.specs.declared.form.Form.TheVariants.{Text, Json}
+use Rattle.ppdb_show.specs.Lines.{Line, Field, field, mark, number, table, token, guid, octets, name, text_of, json_of}
+
+-- ---- the head
+
+abbrev pub id_line : List ℕ → Line
+id_line id = record { word = codes "id"; fields = field (codes " ") (codes "id") (octets id) ∷ [] }
+
+abbrev pub entry_line : ℕ → Line
+entry_line row = record { word = codes "entry"; fields = field (codes " ") (codes "entry") (token (token_of row)) ∷ [] }
+
+abbrev pub count_line : ℕ → ℕ → Line
+count_line tt rows = record { word = codes "rows"; fields = field (codes " ") (codes "table") (table tt) ∷ field (codes " ") (codes "count") (number rows) ∷ [] }
+
+-- a table of the type system, where it has rows
+abbrev pub count_lines_of : RawTables → ℕ → List Line
+count_lines_of raw tt = if count raw tt == 0 then [] else count_line tt (count raw tt) ∷ []
+
+-- the tables 00 to 2c
+unfoldable pub count_lines : RawTables → List Line
+count_lines raw = flat_map (count_lines_of raw) (range_with_len 0 0x2d)
+
+-- ---- documents, and methods with their points
+
+abbrev pub document_line : ℕ → DocumentValue → Line
+document_line row document = record {
+  word = codes "document";
+  fields = field (codes " ") (codes "row") (number row)
+      ∷ field (codes " algorithm ") (codes "algorithm") (guid document.algorithm)
+      ∷ field (codes " hash ") (codes "hash") (octets document.hash)
+      ∷ field (codes " language ") (codes "language") (guid document.language)
+      ∷ field (codes " name ") (codes "name") (name document.name) ∷ [];
+}
+
+abbrev pub span_fields : Span → List Field
+span_fields Hidden = mark (codes " hidden") ∷ []
+span_fields (Lines start_line start_column end_line end_column) =
+    field (codes " ") (codes "start_line") (number start_line)
+    ∷ field (codes ":") (codes "start_column") (number start_column)
+    ∷ field (codes " ") (codes "end_line") (number end_line)
+    ∷ field (codes ":") (codes "end_column") (number end_column) ∷ []
+
+abbrev pub point_line : Point → Line
+point_line point = record {
+  word = codes "point";
+  fields = field (codes " ") (codes "offset") (number point.offset) ∷ field (codes " ") (codes "document") (number point.document) ∷ span_fields point.span;
+}
+
+abbrev pub method_line : ℕ → ℕ → Line
+method_line method signature = record {
+  word = codes "method";
+  fields = field (codes " ") (codes "method") (number method) ∷ field (codes " signature ") (codes "signature") (number signature) ∷ [];
+}
+
+-- a method that has points, and its points
+abbrev pub lines_of_method : Option MethodValue → List Line
+lines_of_method (Some method) = method_line method.method method.signature ∷ map point_line method.points
+lines_of_method None = []
+
+-- ---- scopes, and the variables and constants that they own
+
+abbrev pub scope_line : ℕ → ScopeRow → Line
+scope_line row scope = record {
+  word = codes "scope";
+  fields = field (codes " ") (codes "row") (number row)
+      ∷ field (codes " method ") (codes "method") (number scope.method)
+      ∷ field (codes " import ") (codes "import") (number scope.import)
+      ∷ field (codes " range ") (codes "start") (number (range_of scope).start)
+      ∷ field (codes " ") (codes "end") (number (range_of scope).end) ∷ [];
+}
+
+abbrev pub variable_line : ℕ → ℕ → VariableValue → Line
+variable_line row scope variable = record {
+  word = codes "variable";
+  fields = field (codes " ") (codes "row") (number row)
+      ∷ field (codes " scope ") (codes "scope") (number scope)
+      ∷ field (codes " slot ") (codes "slot") (number variable.slot)
+      ∷ field (codes " attributes ") (codes "attributes") (number variable.attributes)
+      ∷ field (codes " name ") (codes "name") (name variable.name) ∷ [];
+}
+
+-- the signature is shown as it is stored
+abbrev pub constant_line : RawTables → ℕ → ℕ → ConstantRow → Line
+constant_line raw row scope constant = record {
+  word = codes "constant";
+  fields = field (codes " ") (codes "row") (number row)
+      ∷ field (codes " scope ") (codes "scope") (number scope)
+      ∷ field (codes " signature ") (codes "signature") (octets (blob raw constant.signature))
+      ∷ field (codes " name ") (codes "name") (name (text raw constant.name)) ∷ [];
+}
+
+-- the scope that owns an item; in a valid file there is one
+abbrev pub scope_of_item : (ScopeRow → ℕ) → RawTables → ℕ → ℕ
+scope_of_item list raw item = unwrap_or (owner_of list raw.scopes item) 0
+
+-- ---- import scopes, and what they import
+
+abbrev pub alias_field : List ℕ → Field
+alias_field alias = field (codes " alias ") (codes "alias") (name alias)
+
+abbrev pub assembly_field : ℕ → Field
+assembly_field row = field (codes " assembly ") (codes "assembly") (number row)
+
+abbrev pub namespace_field : List ℕ → Field
+namespace_field namespace = field (codes " namespace ") (codes "namespace") (name namespace)
+
+abbrev pub type_fields : TypeToken → List Field
+type_fields target = field (codes " type ") (codes "type_table") (table target.table) ∷ field (codes " ") (codes "type_row") (number target.row) ∷ []
+
+abbrev pub use_line_of : ℕ → List Field → Line
+use_line_of kind fields = record { word = codes "use"; fields = field (codes " ") (codes "kind") (number kind) ∷ fields }
+
+abbrev pub use_line : ImportValue → Line
+use_line (Namespace namespace) = use_line_of 1 (namespace_field namespace ∷ [])
+use_line (AssemblyNamespace assembly namespace) = use_line_of 2 (assembly_field assembly ∷ namespace_field namespace ∷ [])
+use_line (Target target) = use_line_of 3 (type_fields target)
+use_line (Xml alias namespace) = use_line_of 4 (alias_field alias ∷ namespace_field namespace ∷ [])
+use_line (Alias alias) = use_line_of 5 (alias_field alias ∷ [])
+use_line (AssemblyAlias alias assembly) = use_line_of 6 (alias_field alias ∷ assembly_field assembly ∷ [])
+use_line (NamespaceAlias alias namespace) = use_line_of 7 (alias_field alias ∷ namespace_field namespace ∷ [])
+use_line (AssemblyNamespaceAlias alias assembly namespace) = use_line_of 8 (alias_field alias ∷ assembly_field assembly ∷ namespace_field namespace ∷ [])
+use_line (TargetAlias alias target) = use_line_of 9 (alias_field alias ∷ type_fields target)
+
+abbrev pub import_line : ℕ → ℕ → Line
+import_line row parent = record {
+  word = codes "import";
+  fields = field (codes " ") (codes "row") (number row) ∷ field (codes " parent ") (codes "parent") (number parent) ∷ [];
+}
+
+abbrev pub lines_of_import : ℕ → ImportScopeValue → List Line
+lines_of_import row import = import_line row import.parent ∷ map use_line import.imports
+
+-- ---- state machines, and custom debug information
+
+abbrev pub machine_line : ℕ → MachineRow → Line
+machine_line row machine = record {
+  word = codes "machine";
+  fields = field (codes " ") (codes "row") (number row)
+      ∷ field (codes " move ") (codes "move") (number machine.move_next)
+      ∷ field (codes " kickoff ") (codes "kickoff") (number machine.kickoff) ∷ [];
+}
+
+-- the value is shown as it is stored
+abbrev pub custom_line : RawTables → ℕ → CustomRow → Line
+custom_line raw row custom = record {
+  word = codes "custom";
+  fields = field (codes " ") (codes "row") (number row)
+      ∷ field (codes " parent ") (codes "parent_table") (table (parent_of custom.parent).table)
+      ∷ field (codes " ") (codes "parent_row") (number (parent_of custom.parent).row)
+      ∷ field (codes " kind ") (codes "kind") (guid (guid_in raw custom.kind))
+      ∷ field (codes " value ") (codes "value") (octets (blob raw custom.value)) ∷ [];
+}
+
+-- ---- the rows of each table, by their numbers
+
+abbrev pub document_lines : RawTables → List Line
+document_lines raw = map (λ row. document_line row.0 (document_of raw row.1)) (numbered raw.documents)
+
+abbrev pub method_lines : RawTables → List Line
+method_lines raw = flat_map (λ row. lines_of_method (method_of raw row)) (numbered raw.methods)
+
+abbrev pub scope_lines : RawTables → List Line
+scope_lines raw = map (λ row. scope_line row.0 row.1) (numbered raw.scopes)
+
+abbrev pub variable_lines : RawTables → List Line
+variable_lines raw = map (λ row. variable_line row.0 (scope_of_item (λ scope. scope.variables) raw row.0) (variable_of raw row.1)) (numbered raw.variables)
+
+abbrev pub constant_lines : RawTables → List Line
+constant_lines raw = map (λ row. constant_line raw row.0 (scope_of_item (λ scope. scope.constants) raw row.0) row.1) (numbered raw.constants)
+
+abbrev pub import_lines : RawTables → List Line
+import_lines raw = flat_map (λ row. lines_of_import row.0 (import_scope_of raw row.1)) (numbered raw.imports)
+
+abbrev pub machine_lines : RawTables → List Line
+machine_lines raw = map (λ row. machine_line row.0 row.1) (numbered raw.machines)
+
+abbrev pub custom_lines : RawTables → List Line
+custom_lines raw = map (λ row. custom_line raw row.0 row.1) (numbered raw.customs)
+
+-- ---- the whole file
+
+abbrev pub head_lines : RawFile → List Line
+head_lines raw = id_line raw.id ∷ entry_line raw.entry ∷ count_lines raw.tables
+
+abbrev pub row_lines : RawTables → List Line
+row_lines raw = document_lines raw ++ (method_lines raw ++ (scope_lines raw ++ (variable_lines raw ++ (constant_lines raw
+    ++ (import_lines raw ++ (machine_lines raw ++ custom_lines raw))))))
+
+abbrev pub show_lines : RawFile → List Line
+show_lines raw = head_lines raw ++ row_lines raw.tables
+
+-- a line in a form
+abbrev pub put_as : Form → Line → List ℕ
+put_as Text shown = text_of shown
+put_as Json shown = json_of shown
+
+unfoldable pub lines_as : Form → List Line → List ℕ
+lines_as form lines = flat_map (put_as form) lines
+
+-- What `show` prints: as text, and as JSON.
+abbrev pub show_text_of : RawFile → List ℕ
+show_text_of raw = flat_map text_of (show_lines raw)
+
+abbrev pub show_json_of : RawFile → List ℕ
+show_json_of raw = flat_map json_of (show_lines raw)

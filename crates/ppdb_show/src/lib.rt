@@ -1,0 +1,18 @@
+//! The texts of a valid file: all its rows, as lines of text or as objects of JSON.
+#![tactic(auto)]
+
+mod documents;
+mod form;
+mod head;
+mod heaps;
+mod imports;
+mod item;
+mod json;
+mod line;
+mod methods;
+mod owned;
+mod rows;
+mod show;
+mod text;
+
+pub use show::{show_json, show_text};
