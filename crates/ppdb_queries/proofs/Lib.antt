@@ -1,0 +1,14 @@
+pub mod Powers
+pub mod Keys
+pub mod Searches
+pub mod Filters
+pub mod Views
+pub mod Chained
+pub mod Whole
+pub mod Owned
+pub mod Agreeing
+pub mod Parents
+pub mod Lengths
+pub mod Records
+pub mod Slots
+pub mod PointLists

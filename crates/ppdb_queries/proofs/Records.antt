@@ -1,0 +1,81 @@
+-- The slots of a record, by its kind.
+use Rattle.std.proofs.Common.{◌≡◌, ℕ, List, [], ◌∷◌, refl, ap, subst, ◌∙◌, Bool, true, false}
+use Rattle.std.specs.Prelude.{Option, Some, None, unwrap_or, if◌then◌else◌}
+use Rattle.std.specs.Str.{bytes_eq}
+use Rattle.std.proofs.lemmas.Slice.Eq.{bytes_eq-Decides}
+use Rattle.blob_grammar.specs.Reader as reader
+use Rattle.blob_grammar.proofs.Readers.{read_from-reads}
+use Rattle.custom_info.specs.declared.kinds.Kind.{Kind}
+use Rattle.custom_info.specs.declared.kinds.Kind.TheVariants.{Async, Hoisted, TypeDocuments, Free, Unknown}
+use Rattle.custom_info.specs.Kinds.{kind_of, hoisted_scopes as hoisted_guid}
+use Rattle.custom_info.specs.AsyncStepping.{Entry, catch_handler, await_step}
+use Rattle.custom_info.specs.HoistedScopes.{hoisted_scopes}
+use Rattle.ppdb_tables.specs.declared.rows.CustomRow.{CustomRow}
+use Rattle.ppdb_tables.specs.RawTables.{RawTables}
+use Rattle.ppdb_values.specs.Customs.{custom_body, async_body, kind_in}
+use Rattle.ppdb_values.specs.Parts.{slots_in}
+use Rattle.ppdb_values.specs.RawFile.{blob, guid, records_of}
+use Rattle.ppdb_values.specs.Rules.{IsCustom, IsWhole, IsWholeOfKind}
+use Rattle.ppdb_queries.specs.Hoisted.{slots_by, slots_of}
+
+-- ---- kinds
+
+abbrev kind_by : Bool → Bool → Bool → Bool → Kind
+kind_by a h t f = if a then Async else if h then Hoisted else if t then TypeDocuments else if f then Free else Unknown
+
+other_kind : (a h t f : Bool) → h ≡ false → kind_by a h t f ≡ Hoisted → ⊥
+other_kind true h t f other e = cc
+other_kind false true t f other e = cc
+other_kind false false true f other e = cc
+other_kind false false false true other e = cc
+other_kind false false false false other e = cc
+
+not_hoisted : (guid : List ℕ) → bytes_eq guid hoisted_guid ≡ false → kind_of [] guid ≡ Hoisted → ⊥
+not_hoisted found other e = other_kind _ (bytes_eq found hoisted_guid) _ _ other e
+
+is_hoisted : (guid : List ℕ) → bytes_eq guid hoisted_guid ≡ true → kind_of [] guid ≡ Hoisted
+is_hoisted found same = let e : found ≡ hoisted_guid = (bytes_eq-Decides found hoisted_guid).0 same in rw e refl
+
+kind_is : (raw : RawTables) (row : CustomRow) (found : List ℕ) → guid raw row.kind ≡ Some found → kind_in raw row ≡ found
+kind_is raw row found e = ap (λ (o : Option (List ℕ)). unwrap_or o []) e
+
+-- ---- slots
+
+async_has_none : (entries : List Entry) → slots_in (async_body entries) ≡ None
+async_has_none [] = refl
+async_has_none (catch_handler handler ∷ entries) = refl
+async_has_none (await_step step ∷ entries) = refl
+
+other_has_none : (raw : RawTables) (kind : Kind) (content : List ℕ) → (kind ≡ Hoisted → ⊥) → slots_by (slots_in (custom_body raw kind content)) ≡ []
+other_has_none raw Async content other = ap slots_by (async_has_none _)
+other_has_none raw Hoisted content other = absurd (other refl)
+other_has_none raw TypeDocuments content other = refl
+other_has_none raw Free content other = refl
+other_has_none raw Unknown content other = refl
+
+-- a record of another kind has no slots
+pub slots_none : (raw : RawTables) (row : CustomRow) (found : List ℕ) → guid raw row.kind ≡ Some found → bytes_eq found hoisted_guid ≡ false → slots_of raw row ≡ []
+slots_none raw row found there other =
+    other_has_none raw (kind_of [] (kind_in raw row)) (blob raw row.value)
+    (not_hoisted (kind_in raw row) (ap (λ (g : List ℕ). bytes_eq g hoisted_guid) (kind_is raw row found there) ∙ other))
+
+hoisted_kind : (raw : RawTables) (row : CustomRow) (found : List ℕ) → guid raw row.kind ≡ Some found → bytes_eq found hoisted_guid ≡ true → kind_of [] (kind_in raw row) ≡ Hoisted
+hoisted_kind raw row found there same = is_hoisted (kind_in raw row) (ap (λ (g : List ℕ). bytes_eq g hoisted_guid) (kind_is raw row found there) ∙ same)
+
+-- a record of hoisted locals has the slots of its blob
+pub slots_are : (raw : RawTables) (row : CustomRow) (found : List ℕ) → guid raw row.kind ≡ Some found → bytes_eq found hoisted_guid ≡ true
+    → slots_of raw row ≡ records_of hoisted_scopes (blob raw row.value)
+slots_are raw row found there same = ap (λ (kind : Kind). slots_by (slots_in (custom_body raw kind (blob raw row.value)))) (hoisted_kind raw row found there same)
+
+pub slots_whole : (raw : RawTables) (row : CustomRow) (found : List ℕ) → IsCustom raw row → guid raw row.kind ≡ Some found → bytes_eq found hoisted_guid ≡ true
+    → IsWhole hoisted_scopes (blob raw row.value)
+slots_whole raw row found keeps there same = subst (λ (kind : Kind). IsWholeOfKind raw kind (blob raw row.value)) (hoisted_kind raw row found there same) keeps.value_whole
+
+-- no bytes are no slots
+pub nothing_whole : IsWhole hoisted_scopes []
+unfolding records_of reader.read_from reader.read_for
+nothing_whole = read_from-reads hoisted_scopes []
+
+pub nothing_read : records_of hoisted_scopes [] ≡ []
+unfolding records_of reader.read_from reader.read_for
+nothing_read = refl

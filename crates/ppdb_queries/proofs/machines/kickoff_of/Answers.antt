@@ -1,0 +1,80 @@
+use Rattle.std.proofs.Common.{◌-◌, ◌/◌, ◌+◌, length, map, arith, sym}
+use Rattle.ppdb_tables.specs.RawOf.{raw_of}
+use Rattle.ppdb_verify.specs.Views.{tables_of}
+use Rattle.std.proofs.lemmas.List.{length-map}
+use Rattle.ppdb_queries.proofs.Powers.{within_digits}
+use Rattle.ppdb_queries.proofs.Searches.{unprobed}
+use Rattle.ppdb_queries.proofs.Keys.{key_at}
+use Rattle.ppdb_queries.proofs.Searches.{all_below, all_above, probed}
+use Rattle.ppdb_queries.proofs.Filters.{rising_sorted, above_both, kickoff_found, kickoff_none}
+use Rattle.ppdb_queries.proofs.machines.kickoff_of.Goals as goal
+
+pub halves-init : goal.halves-init
+halves-init g c =
+    let shape = c.keeps.ensures.rules.shape.machines in
+    let len = length-map (raw_of (tables_of c.args.file.now)).machines (λ machine. machine.move_next) in
+    let rows = c.count-end.ensures.rows in
+    record {
+      from = omega arith;
+      forward = omega arith;
+      to = omega (arith, shape, rows);
+      below = λ i here. absurd (omega arith);
+      above = λ i past inside. absurd (omega (arith, len, shape, rows));
+      later = omega arith;
+      halved = unprobed (length (raw_of (tables_of c.args.file.now)).machines) c.args.steps.now _ (omega (arith, shape, rows));
+    }
+
+pub returns-then-machine-method-clause-found : goal.returns-then-machine-method-clause-found
+returns-then-machine-method-clause-found g c =
+    kickoff_found (raw_of (tables_of c.args.file.now)).machines c.args.method (c.halves.first + (c.halves.end - c.halves.first) / 2) c.machine-machine.result
+    c.keeps.ensures.rules.machines.by_move_next (omega arith) (omega arith) c.machine-machine.ensures.row c.if-machine-method.true
+
+pub returns-then-machine-method-clause-cost : goal.returns-then-machine-method-clause-cost
+returns-then-machine-method-clause-cost g c =
+    let probe = probed _ _ _ _ _ 0 c.halves.invariant.halved c.machine-machine.ensures.step (omega arith) (omega arith) (omega arith) in
+    let h = within_digits (c.machine-machine.new.steps - c.args.steps.now) (length (raw_of (tables_of c.args.file.now)).machines) probe.cost in
+    omega (arith, h)
+
+pub halves-preserved-then-machine-method-2 : goal.halves-preserved-then-machine-method-2
+halves-preserved-then-machine-method-2 g c =
+    let machines = (raw_of (tables_of c.args.file.now)).machines in
+    let keys = map (λ machine. machine.move_next) machines in
+    let len = length-map machines (λ machine. machine.move_next) in
+    let middle = c.halves.first + (c.halves.end - c.halves.first) / 2 in
+    let at = key_at (λ machine. machine.move_next) machines middle c.machine-machine.result c.machine-machine.ensures.row in
+    let sorted = rising_sorted keys c.keeps.ensures.rules.machines.by_move_next in
+    record {
+      from = omega arith;
+      forward = omega arith;
+      to = c.halves.invariant.to;
+      below = all_below keys c.args.method middle c.machine-machine.result.move_next sorted (sym at) (omega arith) (omega (arith, len)) c.if-machine-method-2.true;
+      above = c.halves.invariant.above;
+      later = omega arith;
+      halved = probed _ _ _ _ _ _ c.halves.invariant.halved c.machine-machine.ensures.step (omega arith) (omega arith) (omega arith);
+    }
+
+pub halves-preserved : goal.halves-preserved
+halves-preserved g c =
+    let machines = (raw_of (tables_of c.args.file.now)).machines in
+    let keys = map (λ machine. machine.move_next) machines in
+    let len = length-map machines (λ machine. machine.move_next) in
+    let middle = c.halves.first + (c.halves.end - c.halves.first) / 2 in
+    let at = key_at (λ machine. machine.move_next) machines middle c.machine-machine.result c.machine-machine.ensures.row in
+    let sorted = rising_sorted keys c.keeps.ensures.rules.machines.by_move_next in
+    record {
+      from = omega arith;
+      forward = omega arith;
+      to = omega arith;
+      below = c.halves.invariant.below;
+      above = all_above keys (c.args.method + 1) middle c.machine-machine.result.move_next sorted (sym at) (omega arith) (omega (arith, len)) (above_both c.if-machine-method.false c.if-machine-method-2.false);
+      later = omega arith;
+      halved = probed _ _ _ _ _ _ c.halves.invariant.halved c.machine-machine.ensures.step (omega arith) (omega arith) (omega arith);
+    }
+
+pub returns-clause-found : goal.returns-clause-found
+returns-clause-found g c = kickoff_none (raw_of (tables_of c.args.file.now)).machines c.args.method c.halves.first c.halves.end c.halves-test.false c.halves.invariant.below c.halves.invariant.above
+
+pub returns-clause-cost : goal.returns-clause-cost
+returns-clause-cost g c =
+    let h = within_digits (c.halves.steps - c.args.steps.now) (length (raw_of (tables_of c.args.file.now)).machines) c.halves.invariant.halved.cost in
+    omega (arith, h)

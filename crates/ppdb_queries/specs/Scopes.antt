@@ -1,0 +1,55 @@
+-- Scopes that hold an offset, as rows (Portable PDB v1.0, "LocalScope Table").
+use Rattle.std.specs.Prelude.{map, ℕ, ◌≡◌, ◌-◌, ◌<◌, ◌≤◌, ◌==◌, ◌&&◌, List, [], ◌∷◌, length, slice_range, Option, Some, None}
+use Rattle.std.specs.List.{filter}
+use Rattle.ppdb_tables.specs.declared.rows.ScopeRow.{ScopeRow}
+use Rattle.ppdb_tables.specs.RawTables.{RawTables, numbered}
+use Rattle.ppdb_values.specs.Owners.{list_end}
+use Rattle.ppdb_values.specs.Parts.{holds}
+use Rattle.ppdb_values.specs.Value.{range_of}
+use Rattle.ppdb_queries.specs.declared.run.Run.{Run}
+use Rattle.ppdb_queries.specs.declared.scopes.ScopeView.{ScopeView}
+use Rattle.ppdb_queries.specs.Cursors.{Walk}
+
+-- the items of a scope: from its list number up to that of the next row, or to the table's end
+abbrev pub list_run : (ScopeRow → ℕ) → List ScopeRow → ℕ → ℕ × ScopeRow → Run
+list_run list scopes items scope = record { first = list scope.1; end = list_end list scopes scope.0 items }
+
+abbrev pub scope_view : RawTables → ℕ × ScopeRow → ScopeView
+scope_view raw scope = record {
+  row = scope.0;
+  import = scope.1.import;
+  range = range_of scope.1;
+  variables = list_run (λ s. s.variables) raw.scopes (length raw.variables) scope;
+  constants = list_run (λ s. s.constants) raw.scopes (length raw.constants) scope;
+}
+
+-- the scopes of a method that hold an offset, by row
+abbrev pub scopes_at : RawTables → ℕ → ℕ → List ScopeView
+scopes_at raw m x = map (scope_view raw) (filter (λ scope. (scope.1.method == m) && holds (range_of scope.1) x) (numbered raw.scopes))
+
+-- how many scopes a method has
+abbrev pub scopes_of : RawTables → ℕ → ℕ
+scopes_of raw m = length (filter (λ scope. scope.1.method == m) (numbered raw.scopes))
+
+-- ---- a walk over some rows
+
+-- the scopes of some rows that hold an offset
+abbrev pub views_between : RawTables → ℕ → ℕ → ℕ → List ScopeView
+views_between raw x first end = map (scope_view raw) (filter (λ scope. holds (range_of scope.1) x) (slice_range (numbered raw.scopes) (first - 1) (end - 1)))
+
+abbrev pub scopes_left : RawTables → ℕ → ℕ → ℕ → Walk ScopeView
+scopes_left raw x first end = record { items = views_between raw x first end; rows = end - first }
+
+-- what a search for the next scope of some rows found: the scope and the row after it
+abbrev pub NextScope : RawTables → ℕ → ℕ → ℕ → Option (ScopeView × ℕ) → Type 0
+NextScope raw x first end None = views_between raw x first end ≡ []
+NextScope raw x first end (Some found) = (views_between raw x first end ≡ found.0 ∷ views_between raw x found.1 end) × (first < found.1) × (found.1 ≤ end)
+
+-- the rows that such a search looked at
+abbrev pub rows_passed : ℕ → ℕ → Option (ScopeView × ℕ) → ℕ
+rows_passed first end None = end - first
+rows_passed first end (Some found) = found.1 - first
+
+-- where the lists of a scope end
+abbrev pub ends_after : RawTables → ℕ → ℕ × ℕ
+ends_after raw row = (list_end (λ s. s.variables) raw.scopes row (length raw.variables), list_end (λ s. s.constants) raw.scopes row (length raw.constants))

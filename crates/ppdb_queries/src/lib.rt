@@ -1,0 +1,29 @@
+//! What a debugger asks of a verified file: which point, scopes, variables, imports and state machine belong to an offset of a
+//! method, and which custom records to a row. Each answer is the filter over all rows of a table, found by halving where the
+//! table is sorted. No call takes memory; each counts the rows that it reads.
+#![tactic(auto)]
+
+mod copied;
+#[cfg(test)]
+mod files;
+mod hoisted;
+mod imports;
+mod laws;
+mod machines;
+mod method;
+mod points;
+mod rows;
+mod run;
+mod scopes;
+mod search;
+#[cfg(test)]
+mod tests;
+
+pub use hoisted::{Hoisted, HoistedCursor, hoisted_at};
+pub use imports::{ImportChain, ImportLink, imports_of};
+pub use laws::{lists_are_values, rows_are_values, views_are_there};
+pub use machines::{kickoff_of, move_next_of};
+pub use method::NoMethod;
+pub use points::{PointAt, point_at};
+pub use run::{Run, customs_of, scope_run};
+pub use scopes::{ScopeCursor, ScopeView, scopes_at};

@@ -1,0 +1,126 @@
+// The point of an offset.
+ghost use Rattle.std.specs.Prelude.{◌≡◌, ◌+◌, ◌<◌, ◌≤◌, None, Some, IfOk, OnOk, OnErr};
+ghost use Rattle.ppdb_heaps.specs.Names.{NameReading};
+ghost use Rattle.ppdb_tables.specs.RawOf.{raw_of};
+ghost use Rattle.ppdb_tables.specs.RawTables.{row_at};
+ghost use Rattle.ppdb_values.specs.Parts.{last_point};
+ghost use Rattle.ppdb_values.specs.RawFile.{blob as blob_in, point_limits as limits_of};
+ghost use Rattle.ppdb_values.specs.Rules.{HasRow};
+ghost use Rattle.ppdb_verify.specs.Views.{tables_of, raw_file};
+ghost use Rattle.ppdb_queries.specs.Points.{PointIs, PointsAre};
+ghost use Rattle.ppdb_queries.specs.Runs.{IsNoMethod};
+
+use crate::method::{NoMethod, judge_method};
+use crate::rows::{blob, blobs, count, document, keeps, method_debug};
+use ppdb_base::Steps;
+use ppdb_heaps::NameCursor;
+use ppdb_tables::{DocumentRow, MethodDebugRow};
+use ppdb_verify::Verified;
+use sequence_points::{Point, PointCursor, PointLimits, read_points_can_be_written};
+use std::sync::ledger::Ledger;
+
+/// A sequence point, with the method's local signature and the name of the point's document.
+#[derive(Drop)]
+pub struct PointAt<'a> {
+    /// The point.
+    pub point: Point,
+    /// The row of StandAloneSig of the method's local variables, or 0.
+    pub signature: u32,
+    /// The name of the document, from its first part.
+    pub name: NameCursor<'a>,
+}
+
+/// The row counts of the tables that a points blob may name.
+fn point_limits(file: &Verified<'_>) -> PointLimits
+    ensures { result ≡ limits_of (raw_of (tables_of file.now)) }
+{
+    PointLimits {
+        documents: count(file, 0x30),
+        signatures: count(file, 0x11),
+    }
+}
+
+/// The points of a method; None where its blob is nil.
+fn points_of<'a>(file: &Verified<'a>, method: u32, row: &MethodDebugRow) -> Option<PointCursor<'a>>
+    requires { row_at (raw_of (tables_of file.now)).methods method ≡ Some row.now }
+    ensures { PointsAre (raw_file file.now) method result }
+{
+    keeps(file);
+    read_points_can_be_written();
+    let content = blob(file, row.points);
+    if content.is_empty() {
+        return None;
+    }
+    match PointCursor::new(content, row.document, point_limits(file)) {
+        Ok(cursor) => Some(cursor),
+        Err(_) => unreachable!(),
+    }
+}
+
+/// The last point that is not after the offset.
+fn last_not_after(mut cursor: PointCursor<'_>, offset: u32) -> Option<Point>
+    requires { cursor.left.fault ≡ None }
+    ensures { result ≡ last_point cursor.entry.left.items offset }
+{
+    let mut last = None;
+    'points: while let Ok(Some(point)) = cursor.next() {
+        if point.offset <= offset {
+            last = Some(point);
+        }
+    }
+    last
+}
+
+/// The name of a document, from its first part.
+fn name_of<'a>(file: &Verified<'a>, row: u32, document: &DocumentRow) -> NameCursor<'a>
+    requires { row_at (raw_of (tables_of file.now)).documents row ≡ Some document.now }
+    ensures name { NameReading (raw_of (tables_of file.now)).blobs (blob_in (raw_of (tables_of file.now)) document.now.name) result.separator result.left.items result.left.fault }
+    ensures whole { result.left.fault ≡ None }
+{
+    keeps(file);
+    let content = blob(file, document.name);
+    match NameCursor::new(content, blobs(file)) {
+        Ok(cursor) => cursor,
+        Err(_) => unreachable!(),
+    }
+}
+
+/// The last sequence point of a method that is not after an offset; None exactly where there is no such point. It reads at most
+/// two rows.
+///
+/// # Errors
+///
+/// The method is 0 or above the rows of MethodDef.
+pub fn point_at<'a, L: Ledger>(
+    file: &Verified<'a>,
+    method: u32,
+    offset: u32,
+    steps: &mut Steps<L>,
+) -> Result<Option<PointAt<'a>>, NoMethod>
+    ensures none { OnErr result (IsNoMethod (raw_of (tables_of file.now)) method) }
+    ensures there { OnOk result (HasRow (raw_of (tables_of file.now)) 0x06 method) }
+    ensures point { IfOk result (PointIs (raw_file file.now) method offset) }
+    ensures later { steps.old ≤ steps.new }
+    ensures cost { steps.new ≤ steps.old + 2 }
+{
+    judge_method(file, method)?;
+    keeps(file);
+    if count(file, 0x31) < method {
+        return Ok(None);
+    }
+    let row = method_debug(file, method, steps);
+    let Some(points) = points_of(file, method, &row) else {
+        return Ok(None);
+    };
+    let signature = points.signature();
+    let Some(point) = last_not_after(points, offset) else {
+        return Ok(None);
+    };
+    let document = document(file, point.document, steps);
+    let name = name_of(file, point.document, &document);
+    Ok(Some(PointAt {
+        point,
+        signature,
+        name,
+    }))
+}
