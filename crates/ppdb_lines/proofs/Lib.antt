@@ -1,0 +1,4 @@
+pub mod Ascii
+pub mod Members
+pub mod Pieces
+pub mod Texts

@@ -1,0 +1,17 @@
+use Rattle.std.proofs.Common.{rules}
+use Rattle.std.proofs.lemmas.Result.{on_err_weaker}
+use Rattle.ppdb_base.proofs.Written.{on_err, front_of_first, front_of_second}
+use Rattle.ppdb_lines.specs.Lines.{text_of}
+use Rattle.ppdb_lines.proofs.text.put_text_line.Goals as goal
+
+pub returns-in_err-put-clause-err : goal.returns-in_err-put-clause-err
+unfolding text_of
+returns-in_err-put-clause-err g c = search (rules, on_err, front_of_first, front_of_second)
+
+pub returns-in_err-put_parts-clause-err : goal.returns-in_err-put_parts-clause-err
+unfolding text_of
+returns-in_err-put_parts-clause-err g c = search (rules, on_err, front_of_first, front_of_second)
+
+pub returns-clause-err : goal.returns-clause-err
+unfolding text_of
+returns-clause-err g c = search (rules, on_err_weaker, front_of_first, front_of_second)
