@@ -2,8 +2,6 @@
 use Rattle.std.proofs.Common.{ℕ, suc, ◌+◌, ◌-◌, ◌≡◌, ◌≢◌, ◌<◌, ◌≤◌, List, [], ◌∷◌, ◌++◌, length, map, true, false, ◌==◌, refl, ◌∙◌, ap, arith}
 use Rattle.std.specs.Prelude.{Option, Some, Result, Ok, Err, OnOk, OnErr}
 use Rattle.std.specs.List.{flat_map, range_with_len}
-use Rattle.std.proofs.lemmas.List.{append-nil}
-use Rattle.std.proofs.lemmas.Grind.{flat_map-append}
 use Rattle.blob_grammar.specs.Reader.{tail}
 use Rattle.type_blobs.specs.Imports.{ImportItem}
 use Rattle.ppdb_base.specs.Written.{appended, AppendsFront}
@@ -14,23 +12,14 @@ use Rattle.ppdb_tables.specs.RawTables.{RawTables, row_at, count}
 use Rattle.ppdb_values.specs.RawFile.{RawFile, blob}
 use Rattle.ppdb_values.specs.Documents.{method_with, points_in, signature_in}
 use Rattle.ppdb_values.specs.Imports.{import_value, import_scope_of}
-use Rattle.ppdb_show.specs.declared.form.Form.{Form}
-use Rattle.ppdb_show.specs.declared.form.Form.TheVariants.{Text, Json}
-use Rattle.ppdb_show.specs.Lines.{Line, text_of, json_of}
-use Rattle.ppdb_show.specs.Show.{put_as, lines_as, lines_of_method, method_line, point_line, use_line, import_line, id_line, entry_line, count_lines, count_lines_of, head_lines, row_lines, document_lines, method_lines, scope_lines, variable_lines, constant_lines, import_lines, machine_lines, custom_lines}
+use Rattle.ppdb_lines.specs.declared.form.Form.{Form}
+use Rattle.ppdb_lines.specs.declared.form.Form.TheVariants.{Text, Json}
+use Rattle.ppdb_lines.specs.Lines.{Line, text_of, json_of}
+use Rattle.ppdb_lines.proofs.Texts.{no_lines, more_lines}
+use Rattle.ppdb_lines.specs.Forms.{lines_as}
+use Rattle.ppdb_lines.specs.Uses.{use_line}
+use Rattle.ppdb_show.specs.Show.{lines_of_method, method_line, point_line, import_line, id_line, entry_line, count_lines, count_lines_of, head_lines, row_lines, document_lines, method_lines, scope_lines, variable_lines, constant_lines, import_lines, machine_lines, custom_lines}
 use Rattle.ppdb_show.specs.Walk.{between, lines_of_method_row, lines_of_import_row}
-
-pub one_line : (form : Form) (shown : Line) → lines_as form (shown ∷ []) ≡ put_as form shown
-unfolding lines_as
-one_line form shown = append-nil (put_as form shown)
-
-pub no_lines : (form : Form) → lines_as form [] ≡ []
-unfolding lines_as
-no_lines form = refl
-
-pub more_lines : (form : Form) (xs ys : List Line) → lines_as form (xs ++ ys) ≡ lines_as form xs ++ lines_as form ys
-unfolding lines_as
-more_lines form xs ys = flat_map-append (put_as form) xs ys
 
 range_first : (row end : ℕ) → row < end → range_with_len row (end - row) ≡ row ∷ range_with_len (row + 1) (end - (row + 1))
 range_first row end h = let e : end - row ≡ suc (end - (row + 1)) = omega arith in rw e refl

@@ -1,4 +1,2 @@
-pub mod Lines
 pub mod Show
-pub mod Views
 pub mod Walk

@@ -14,17 +14,13 @@ use Rattle.ppdb_values.specs.declared.file.DocumentValue.{DocumentValue}
 use Rattle.ppdb_values.specs.declared.file.MethodValue.{MethodValue}
 use Rattle.ppdb_values.specs.declared.scope.VariableValue.{VariableValue}
 use Rattle.ppdb_values.specs.declared.import.ImportScopeValue.{ImportScopeValue}
-use Rattle.ppdb_values.specs.declared.import.ImportValue.{ImportValue}
-use Rattle.ppdb_values.specs.declared.import.ImportValue.TheVariants.{Namespace, AssemblyNamespace, Target, Xml, Alias, AssemblyAlias, NamespaceAlias, AssemblyNamespaceAlias, TargetAlias}
-use Rattle.type_blobs.specs.declared.types.TypeToken.{TypeToken}
 use Rattle.ppdb_values.specs.RawFile.{RawFile, text, blob, guid as guid_in}
 use Rattle.ppdb_values.specs.Documents.{document_of, method_of}
 use Rattle.ppdb_values.specs.Imports.{import_scope_of}
 use Rattle.ppdb_values.specs.Customs.{parent_of}
 use Rattle.ppdb_values.specs.Value.{owner_of, variable_of, range_of}
-use Rattle.ppdb_show.specs.declared.form.Form.{Form}
-use Rattle.ppdb_show.specs.declared.form.Form.TheVariants.{Text, Json}
-use Rattle.ppdb_show.specs.Lines.{Line, Field, field, mark, number, table, token, guid, octets, name, text_of, json_of}
+use Rattle.ppdb_lines.specs.Uses.{use_line}
+use Rattle.ppdb_lines.specs.Lines.{Line, Field, field, mark, number, table, token, guid, octets, name, text_of, json_of}
 
 -- ---- the head
 
@@ -120,32 +116,6 @@ scope_of_item list raw item = unwrap_or (owner_of list raw.scopes item) 0
 
 -- ---- import scopes, and what they import
 
-abbrev pub alias_field : List ℕ → Field
-alias_field alias = field (codes " alias ") (codes "alias") (name alias)
-
-abbrev pub assembly_field : ℕ → Field
-assembly_field row = field (codes " assembly ") (codes "assembly") (number row)
-
-abbrev pub namespace_field : List ℕ → Field
-namespace_field namespace = field (codes " namespace ") (codes "namespace") (name namespace)
-
-abbrev pub type_fields : TypeToken → List Field
-type_fields target = field (codes " type ") (codes "type_table") (table target.table) ∷ field (codes " ") (codes "type_row") (number target.row) ∷ []
-
-abbrev pub use_line_of : ℕ → List Field → Line
-use_line_of kind fields = record { word = codes "use"; fields = field (codes " ") (codes "kind") (number kind) ∷ fields }
-
-abbrev pub use_line : ImportValue → Line
-use_line (Namespace namespace) = use_line_of 1 (namespace_field namespace ∷ [])
-use_line (AssemblyNamespace assembly namespace) = use_line_of 2 (assembly_field assembly ∷ namespace_field namespace ∷ [])
-use_line (Target target) = use_line_of 3 (type_fields target)
-use_line (Xml alias namespace) = use_line_of 4 (alias_field alias ∷ namespace_field namespace ∷ [])
-use_line (Alias alias) = use_line_of 5 (alias_field alias ∷ [])
-use_line (AssemblyAlias alias assembly) = use_line_of 6 (alias_field alias ∷ assembly_field assembly ∷ [])
-use_line (NamespaceAlias alias namespace) = use_line_of 7 (alias_field alias ∷ namespace_field namespace ∷ [])
-use_line (AssemblyNamespaceAlias alias assembly namespace) = use_line_of 8 (alias_field alias ∷ assembly_field assembly ∷ namespace_field namespace ∷ [])
-use_line (TargetAlias alias target) = use_line_of 9 (alias_field alias ∷ type_fields target)
-
 abbrev pub import_line : ℕ → ℕ → Line
 import_line row parent = record {
   word = codes "import";
@@ -213,14 +183,6 @@ row_lines raw = document_lines raw ++ (method_lines raw ++ (scope_lines raw ++ (
 
 abbrev pub show_lines : RawFile → List Line
 show_lines raw = head_lines raw ++ row_lines raw.tables
-
--- a line in a form
-abbrev pub put_as : Form → Line → List ℕ
-put_as Text shown = text_of shown
-put_as Json shown = json_of shown
-
-unfoldable pub lines_as : Form → List Line → List ℕ
-lines_as form lines = flat_map (put_as form) lines
 
 -- What `show` prints: as text, and as JSON.
 abbrev pub show_text_of : RawFile → List ℕ

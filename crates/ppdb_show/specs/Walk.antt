@@ -10,7 +10,7 @@ use Rattle.ppdb_show.specs.declared.rows.Rows.{Rows}
 use Rattle.ppdb_show.specs.declared.rows.Rows.TheVariants.{Documents, Methods, Scopes, Imports, Machines, Customs}
 use Rattle.ppdb_show.specs.declared.owned.Owned.{Owned}
 use Rattle.ppdb_show.specs.declared.owned.Owned.TheVariants.{Variables, Constants}
-use Rattle.ppdb_show.specs.Lines.{Line}
+use Rattle.ppdb_lines.specs.Lines.{Line}
 use Rattle.ppdb_show.specs.Show.{document_line, lines_of_method, scope_line, variable_line, constant_line, lines_of_import, machine_line, custom_line, scope_of_item, document_lines, method_lines, scope_lines, variable_lines, constant_lines, import_lines, machine_lines, custom_lines}
 
 -- the row is there

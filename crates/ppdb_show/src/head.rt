@@ -4,12 +4,13 @@ ghost use Rattle.ppdb_base.specs.Causes.{Rose};
 ghost use Rattle.ppdb_base.specs.Written.{appended, AppendsFront};
 ghost use Rattle.ppdb_tables.specs.RawOf.{raw_of};
 ghost use Rattle.ppdb_verify.specs.Views.{raw_file};
-ghost use Rattle.ppdb_show.specs.Show.{lines_as, id_line, entry_line, head_lines, count_lines, count_lines_of};
+ghost use Rattle.ppdb_lines.specs.Forms.{lines_as};
+ghost use Rattle.ppdb_show.specs.Show.{id_line, entry_line, head_lines, count_lines, count_lines_of};
 
-use crate::form::{Form, put_line};
-use crate::line::Item::{Number, Octets, Table, Token};
-use crate::line::Part::Field;
 use ppdb_base::{Sink, WriteError};
+use ppdb_lines::Item::{Number, Octets, Table, Token};
+use ppdb_lines::Part::Field;
+use ppdb_lines::{Form, put_line};
 use ppdb_tables::Tables;
 use ppdb_text::method_token;
 use ppdb_verify::Verified;

@@ -2,49 +2,24 @@
 ghost use Rattle.std.specs.Prelude.{◌≡◌, ◌≤◌, [], ◌∷◌, map, None, Some, OnOk, OnErr, IsErrOf};
 ghost use Rattle.ppdb_base.specs.Causes.{Rose};
 ghost use Rattle.ppdb_base.specs.Written.{appended, AppendsFront};
-ghost use Rattle.type_blobs.specs.ImportReading.{shown};
 ghost use Rattle.ppdb_tables.specs.RawTables.{row_at};
 ghost use Rattle.ppdb_values.specs.RawFile.{blob, records_of, type_limits};
 ghost use Rattle.ppdb_values.specs.Imports.{heap_of, import_value, import_scope_of};
 ghost use Rattle.ppdb_verify.specs.Views.{raw_file};
-ghost use Rattle.ppdb_show.specs.Show.{lines_as, use_line};
+ghost use Rattle.ppdb_lines.specs.Forms.{lines_as};
+ghost use Rattle.ppdb_lines.specs.Uses.{use_line};
 ghost use Rattle.ppdb_show.specs.Walk.{HasRow, lines_of_import_row};
 
-use crate::form::{Form, put_line};
 use crate::heaps::blob_of;
-use crate::line::Item::{Name, Number, Table};
-use crate::line::Part::Field;
 use ppdb_base::{Sink, Steps, WriteError};
+use ppdb_lines::Item::Number;
+use ppdb_lines::Part::Field;
+use ppdb_lines::{Form, put_line, put_use};
 use ppdb_tables::ImportRow;
 use ppdb_verify::Verified;
 use std::alloc::Global;
 use std::sync::ledger::Ledger;
-use type_blobs::{Import, ImportCursor, TypeLimits};
-
-/// The parts of the line of an import.
-macro_rules! kind_part {
-    ($kind:literal) => { Field(" ", "kind", Number($kind)) };
-}
-
-macro_rules! alias_part {
-    ($alias:expr) => { Field(" alias ", "alias", Name($alias)) };
-}
-
-macro_rules! assembly_part {
-    ($row:expr) => { Field(" assembly ", "assembly", Number($row)) };
-}
-
-macro_rules! namespace_part {
-    ($namespace:expr) => { Field(" namespace ", "namespace", Name($namespace)) };
-}
-
-macro_rules! type_table {
-    ($target:expr) => { Field(" type ", "type_table", Table($target.table)) };
-}
-
-macro_rules! type_row {
-    ($target:expr) => { Field(" ", "type_row", Number($target.row)) };
-}
+use type_blobs::{ImportCursor, TypeLimits};
 
 /// Puts the line of an import scope, and the lines of what it imports.
 pub(crate) fn put_import<O: Sink, L: Ledger>(
@@ -107,113 +82,5 @@ fn put_uses<O: Sink>(
             Ok(None) => return Ok(()),
             Err(_) => unreachable!(),
         }
-    }
-}
-
-/// Puts the line of an import.
-fn put_use<O: Sink>(
-    alloc: Global,
-    form: Form,
-    import: &Import<'_>,
-    out: &mut O,
-) -> Result<(), WriteError>
-    ensures ok { OnOk result (O.written out.new ≡ appended (O.written out.old) (lines_as form (use_line (import_value (shown import.now)) ∷ []))) }
-    ensures err { OnErr result (AppendsFront (O.written out.old) (O.written out.new) (lines_as form (use_line (import_value (shown import.now)) ∷ []))) }
-    ensures failed { IsErrOf result WriteError.Failed → Rose (O.faults out.old) (O.faults out.new) }
-    ensures later { O.faults out.old ≤ O.faults out.new }
-{
-    match *import {
-        Import::Namespace { namespace } => put_line(
-            alloc,
-            form,
-            out,
-            "use",
-            &[kind_part!(1), namespace_part!(namespace)],
-        ),
-        Import::AssemblyNamespace {
-            assembly,
-            namespace,
-        } => put_line(
-            alloc,
-            form,
-            out,
-            "use",
-            &[
-                kind_part!(2),
-                assembly_part!(assembly),
-                namespace_part!(namespace),
-            ],
-        ),
-        Import::Target { target } => put_line(
-            alloc,
-            form,
-            out,
-            "use",
-            &[kind_part!(3), type_table!(target), type_row!(target)],
-        ),
-        Import::Xml { alias, namespace } => put_line(
-            alloc,
-            form,
-            out,
-            "use",
-            &[
-                kind_part!(4),
-                alias_part!(alias),
-                namespace_part!(namespace),
-            ],
-        ),
-        Import::Alias { alias } => put_line(
-            alloc,
-            form,
-            out,
-            "use",
-            &[kind_part!(5), alias_part!(alias)],
-        ),
-        Import::AssemblyAlias { alias, assembly } => put_line(
-            alloc,
-            form,
-            out,
-            "use",
-            &[kind_part!(6), alias_part!(alias), assembly_part!(assembly)],
-        ),
-        Import::NamespaceAlias { alias, namespace } => put_line(
-            alloc,
-            form,
-            out,
-            "use",
-            &[
-                kind_part!(7),
-                alias_part!(alias),
-                namespace_part!(namespace),
-            ],
-        ),
-        Import::AssemblyNamespaceAlias {
-            alias,
-            assembly,
-            namespace,
-        } => put_line(
-            alloc,
-            form,
-            out,
-            "use",
-            &[
-                kind_part!(8),
-                alias_part!(alias),
-                assembly_part!(assembly),
-                namespace_part!(namespace),
-            ],
-        ),
-        Import::TargetAlias { alias, target } => put_line(
-            alloc,
-            form,
-            out,
-            "use",
-            &[
-                kind_part!(9),
-                alias_part!(alias),
-                type_table!(target),
-                type_row!(target),
-            ],
-        ),
     }
 }

@@ -2,17 +2,12 @@
 #![tactic(auto)]
 
 mod documents;
-mod form;
 mod head;
 mod heaps;
 mod imports;
-mod item;
-mod json;
-mod line;
 mod methods;
 mod owned;
 mod rows;
 mod show;
-mod text;
 
 pub use show::{show_json, show_text};

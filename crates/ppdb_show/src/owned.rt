@@ -5,14 +5,14 @@ ghost use Rattle.ppdb_base.specs.Written.{appended, AppendsFront};
 ghost use Rattle.ppdb_tables.specs.RawOf.{raw_of};
 ghost use Rattle.ppdb_values.specs.Owners.{list_end};
 ghost use Rattle.ppdb_verify.specs.Views.{raw_file};
-ghost use Rattle.ppdb_show.specs.Show.{lines_as};
+ghost use Rattle.ppdb_lines.specs.Forms.{lines_as};
 ghost use Rattle.ppdb_show.specs.Walk.{HasRow, OwnsItem, item_table, items_of, list_by, lines_of_item, lines_between, lines_of_items};
 
-use crate::form::{Form, put_line};
 use crate::heaps::{blob_of, text_at};
-use crate::line::Item::{Name, Number, Octets};
-use crate::line::Part::Field;
 use ppdb_base::{Sink, Steps, WriteError};
+use ppdb_lines::Item::{Name, Number, Octets};
+use ppdb_lines::Part::Field;
+use ppdb_lines::{Form, put_line};
 use ppdb_tables::{ScopeRow, Tables};
 use ppdb_verify::Verified;
 use std::alloc::Global;

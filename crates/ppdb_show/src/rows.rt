@@ -3,17 +3,17 @@ ghost use Rattle.std.specs.Prelude.{◌≡◌, ◌≤◌, ◌<◌, ◌+◌, ◌^
 ghost use Rattle.ppdb_base.specs.Causes.{Rose};
 ghost use Rattle.ppdb_base.specs.Written.{appended, AppendsFront};
 ghost use Rattle.ppdb_verify.specs.Views.{raw_file};
-ghost use Rattle.ppdb_show.specs.Show.{lines_as};
+ghost use Rattle.ppdb_lines.specs.Forms.{lines_as};
 ghost use Rattle.ppdb_show.specs.Walk.{HasRow, number_of, lines_of_row, lines_of_table, lines_of_scope, lines_of_machine, lines_of_custom};
 
 use crate::documents::put_document;
-use crate::form::{Form, put_line};
 use crate::heaps::blob_of;
 use crate::imports::put_import;
-use crate::line::Item::{Guid, Number, Octets, Table};
-use crate::line::Part::Field;
 use crate::methods::put_method;
 use ppdb_base::{Sink, Steps, WriteError};
+use ppdb_lines::Item::{Guid, Number, Octets, Table};
+use ppdb_lines::Part::Field;
+use ppdb_lines::{Form, put_line};
 use ppdb_tables::parent_of;
 use ppdb_verify::Verified;
 use std::alloc::Global;

@@ -3,13 +3,14 @@ ghost use Rattle.std.specs.Prelude.{◌≡◌, ◌≤◌, OnOk, OnErr, IsErrOf};
 ghost use Rattle.ppdb_base.specs.Causes.{Rose};
 ghost use Rattle.ppdb_base.specs.Written.{appended, AppendsFront};
 ghost use Rattle.ppdb_verify.specs.Views.{raw_file};
-ghost use Rattle.ppdb_show.specs.Show.{lines_as, row_lines, show_lines, show_text_of, show_json_of};
+ghost use Rattle.ppdb_lines.specs.Forms.{lines_as};
+ghost use Rattle.ppdb_show.specs.Show.{row_lines, show_lines, show_text_of, show_json_of};
 
-use crate::form::Form;
 use crate::head::put_head;
 use crate::owned::{Owned, put_owned};
 use crate::rows::{Rows, put_rows};
 use ppdb_base::{Sink, Steps, WriteError};
+use ppdb_lines::Form;
 use ppdb_verify::Verified;
 use std::alloc::Global;
 use std::sync::ledger::Ledger;

@@ -1,7 +1,7 @@
 use Rattle.ppdb_base.specs.Written.{AppendsFront}
 use Rattle.ppdb_base.proofs.Written.{on_err, front_nothing}
 use Rattle.ppdb_verify.specs.Views.{raw_file}
-use Rattle.ppdb_show.specs.Show.{lines_as}
+use Rattle.ppdb_lines.specs.Forms.{lines_as}
 use Rattle.ppdb_show.specs.Walk.{lines_of_document}
 use Rattle.ppdb_show.proofs.documents.put_document.Goals as goal
 

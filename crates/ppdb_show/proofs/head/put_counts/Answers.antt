@@ -3,7 +3,8 @@ use Rattle.ppdb_base.specs.Written.{AppendsFront}
 use Rattle.ppdb_base.proofs.Written.{on_err}
 use Rattle.ppdb_tables.specs.RawOf.{raw_of}
 use Rattle.ppdb_text.proofs.Putting.{put_none, put_piece, put_front, put_whole}
-use Rattle.ppdb_show.specs.Show.{lines_as, count_lines, count_lines_of}
+use Rattle.ppdb_lines.specs.Forms.{lines_as}
+use Rattle.ppdb_show.specs.Show.{count_lines, count_lines_of}
 use Rattle.ppdb_show.proofs.Lines.{counts_between, next_row, last_row}
 use Rattle.ppdb_show.proofs.head.put_counts.Goals as goal
 

@@ -1,7 +1,8 @@
 use Rattle.std.proofs.Common.{◌-◌, ◌≤◌}
 use Rattle.ppdb_tables.specs.RawOf.{raw_of}
 use Rattle.ppdb_text.specs.Putting.{Putting}
-use Rattle.ppdb_show.specs.Show.{lines_as, count_lines, count_lines_of}
+use Rattle.ppdb_lines.specs.Forms.{lines_as}
+use Rattle.ppdb_show.specs.Show.{count_lines, count_lines_of}
 use Rattle.ppdb_show.specs.Walk.{between}
 use Rattle.ppdb_show.proofs.head.put_counts.Given as goal
 

@@ -1,7 +1,8 @@
 use Rattle.ppdb_base.specs.Written.{AppendsFront}
 use Rattle.ppdb_base.proofs.Written.{on_err, front_of_first, front_of_second}
 use Rattle.ppdb_verify.specs.Views.{raw_file}
-use Rattle.ppdb_show.specs.Show.{lines_as, head_lines}
+use Rattle.ppdb_lines.specs.Forms.{lines_as}
+use Rattle.ppdb_show.specs.Show.{head_lines}
 use Rattle.ppdb_show.proofs.Lines.{head_text, ok_after, err_after}
 use Rattle.ppdb_show.proofs.head.put_head.Goals as goal
 

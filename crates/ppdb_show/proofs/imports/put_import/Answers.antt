@@ -1,7 +1,7 @@
 use Rattle.ppdb_base.specs.Written.{AppendsFront}
 use Rattle.ppdb_base.proofs.Written.{on_err, front_of_first}
 use Rattle.ppdb_verify.specs.Views.{raw_file}
-use Rattle.ppdb_show.specs.Show.{lines_as}
+use Rattle.ppdb_lines.specs.Forms.{lines_as}
 use Rattle.ppdb_show.specs.Walk.{lines_of_import_row}
 use Rattle.ppdb_show.proofs.Lines.{import_text, ok_after, err_after}
 use Rattle.ppdb_show.proofs.imports.put_import.Goals as goal

@@ -7,7 +7,8 @@ use Rattle.type_blobs.specs.declared.import.Import.{Import}
 use Rattle.type_blobs.specs.ImportReading.{shown, shown_answer}
 use Rattle.ppdb_text.proofs.Putting.{put_piece, put_front, put_whole}
 use Rattle.ppdb_values.specs.Imports.{import_value}
-use Rattle.ppdb_show.specs.Show.{lines_as, use_line}
+use Rattle.ppdb_lines.specs.Forms.{lines_as}
+use Rattle.ppdb_lines.specs.Uses.{use_line}
 use Rattle.ppdb_show.proofs.Lines.{uses_step, uses_done}
 use Rattle.ppdb_show.proofs.Whole.{answers_some, answers_none}
 use Rattle.ppdb_show.proofs.imports.put_uses.Goals as goal

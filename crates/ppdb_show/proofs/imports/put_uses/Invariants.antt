@@ -2,7 +2,8 @@ use Rattle.std.proofs.Common.{◌≡◌, ◌≤◌, length, map}
 use Rattle.std.specs.Prelude.{None}
 use Rattle.ppdb_text.specs.Putting.{Putting}
 use Rattle.ppdb_values.specs.Imports.{import_value}
-use Rattle.ppdb_show.specs.Show.{lines_as, use_line}
+use Rattle.ppdb_lines.specs.Forms.{lines_as}
+use Rattle.ppdb_lines.specs.Uses.{use_line}
 use Rattle.ppdb_show.proofs.imports.put_uses.Given as goal
 
 abbrev pub invariant-imports : goal.invariant-imports

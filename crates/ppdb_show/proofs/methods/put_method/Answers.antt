@@ -2,7 +2,7 @@ use Rattle.std.proofs.Common.{sym, ◌∙◌}
 use Rattle.ppdb_base.specs.Written.{AppendsFront}
 use Rattle.ppdb_base.proofs.Written.{on_err, front_of_first, appended_nothing}
 use Rattle.ppdb_verify.specs.Views.{raw_file}
-use Rattle.ppdb_show.specs.Show.{lines_as}
+use Rattle.ppdb_lines.specs.Forms.{lines_as}
 use Rattle.ppdb_show.specs.Walk.{lines_of_method_row}
 use Rattle.ppdb_show.proofs.Lines.{is_nil, not_nil, no_method, method_text, ok_after, err_after}
 use Rattle.ppdb_show.proofs.methods.put_method.Goals as goal

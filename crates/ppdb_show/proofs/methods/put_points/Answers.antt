@@ -3,7 +3,8 @@ use Rattle.ppdb_base.specs.Written.{AppendsFront}
 use Rattle.ppdb_base.proofs.Written.{on_err}
 use Rattle.ppdb_text.proofs.Putting.{put_piece, put_front, put_whole}
 use Rattle.std.proofs.Common.{map}
-use Rattle.ppdb_show.specs.Show.{lines_as, point_line}
+use Rattle.ppdb_lines.specs.Forms.{lines_as}
+use Rattle.ppdb_show.specs.Show.{point_line}
 use Rattle.ppdb_show.proofs.Lines.{mapped_step, mapped_done}
 use Rattle.ppdb_show.proofs.Whole.{answered, ended}
 use Rattle.ppdb_show.proofs.methods.put_points.Goals as goal

@@ -1,7 +1,8 @@
 use Rattle.std.proofs.Common.{◌≡◌, ◌≤◌, length, map}
 use Rattle.std.specs.Prelude.{None}
 use Rattle.ppdb_text.specs.Putting.{Putting}
-use Rattle.ppdb_show.specs.Show.{lines_as, point_line}
+use Rattle.ppdb_lines.specs.Forms.{lines_as}
+use Rattle.ppdb_show.specs.Show.{point_line}
 use Rattle.ppdb_show.proofs.methods.put_points.Given as goal
 
 abbrev pub invariant-points : goal.invariant-points

@@ -1,7 +1,7 @@
 use Rattle.std.proofs.Common.{◌-◌, ◌≤◌}
 use Rattle.ppdb_text.specs.Putting.{Putting}
 use Rattle.ppdb_verify.specs.Views.{raw_file}
-use Rattle.ppdb_show.specs.Show.{lines_as}
+use Rattle.ppdb_lines.specs.Forms.{lines_as}
 use Rattle.ppdb_show.specs.Walk.{lines_between}
 use Rattle.ppdb_show.proofs.owned.put_items.Given as goal
 

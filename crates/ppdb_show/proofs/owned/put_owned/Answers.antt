@@ -4,7 +4,7 @@ use Rattle.ppdb_base.proofs.Written.{on_err}
 use Rattle.ppdb_text.proofs.Putting.{put_none, put_piece, put_front, put_whole}
 use Rattle.ppdb_verify.specs.Views.{raw_file}
 use Rattle.ppdb_values.specs.Owners.{list_end}
-use Rattle.ppdb_show.specs.Show.{lines_as}
+use Rattle.ppdb_lines.specs.Forms.{lines_as}
 use Rattle.ppdb_show.specs.Walk.{list_by, items_of, lines_of_item, lines_of_items}
 use Rattle.ppdb_show.proofs.Lines.{last_row}
 use Rattle.ppdb_show.proofs.Numbered.{items_between, split_lines}

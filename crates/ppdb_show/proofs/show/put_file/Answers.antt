@@ -1,8 +1,10 @@
 use Rattle.ppdb_base.specs.Written.{AppendsFront}
 use Rattle.ppdb_base.proofs.Written.{on_err, front_of_first}
 use Rattle.ppdb_verify.specs.Views.{raw_file}
-use Rattle.ppdb_show.specs.Show.{lines_as, head_lines, row_lines, show_lines}
-use Rattle.ppdb_show.proofs.Lines.{more_lines, ok_after, err_after}
+use Rattle.ppdb_lines.specs.Forms.{lines_as}
+use Rattle.ppdb_show.specs.Show.{head_lines, row_lines, show_lines}
+use Rattle.ppdb_lines.proofs.Texts.{more_lines}
+use Rattle.ppdb_show.proofs.Lines.{ok_after, err_after}
 use Rattle.ppdb_show.proofs.show.put_file.Goals as goal
 
 pub returns-in_err-put_head-clause-err : goal.returns-in_err-put_head-clause-err
