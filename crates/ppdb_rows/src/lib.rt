@@ -14,4 +14,6 @@ mod rules;
 #[cfg(test)]
 mod running;
 #[cfg(test)]
+mod shown;
+#[cfg(test)]
 mod words;
