@@ -11,11 +11,7 @@ use ppdb_base::{Sink, WriteError};
 
 /// Puts a line as text.
 #[tactic(auto, unfolding(crate::specs::Lines::text_of))]
-pub fn put_text_line<O: Sink>(
-    out: &mut O,
-    word: &str,
-    parts: &[Part<'_>],
-) -> Result<(), WriteError>
+pub fn put_text_line<O: Sink>(out: &mut O, word: &str, parts: &[Part<'_>]) -> Result<(), WriteError>
     ensures ok { OnOk result (O.written out.new ≡ appended (O.written out.old) (text_of (line_of word.now parts.now))) }
     ensures err { OnErr result (AppendsFront (O.written out.old) (O.written out.new) (text_of (line_of word.now parts.now))) }
     ensures failed { IsErrOf result WriteError.Failed → Rose (O.faults out.old) (O.faults out.new) }
