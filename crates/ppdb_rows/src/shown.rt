@@ -23,9 +23,19 @@ variable 1 scope 1 slot 0 attributes 0 name x
 variable 2 scope 2 slot 1 attributes 0 name y
 ";
 
-/// The last line but one of the objects.
-const VARIABLE: &[u8] =
-    b"\n{\"attributes\":0,\"line\":\"variable\",\"name\":\"x\",\"row\":1,\"scope\":1,\"slot\":0}\n";
+const OBJECTS: &[u8] = br#"{"id":"0000000000000000000000000000000000000000","line":"id"}
+{"entry":"06000001","line":"entry"}
+{"count":1,"line":"rows","table":"06"}
+{"algorithm":null,"hash":null,"language":null,"line":"document","name":"/a/b","row":1}
+{"line":"method","method":1,"signature":0}
+{"document":1,"end_column":9,"end_line":10,"line":"point","offset":0,"start_column":5,"start_line":10}
+{"document":1,"line":"point","offset":3}
+{"document":1,"end_column":2,"end_line":13,"line":"point","offset":7,"start_column":1,"start_line":12}
+{"end":9,"import":0,"line":"scope","method":1,"row":1,"start":0}
+{"end":5,"import":0,"line":"scope","method":1,"row":2,"start":2}
+{"attributes":0,"line":"variable","name":"x","row":1,"scope":1,"slot":0}
+{"attributes":0,"line":"variable","name":"y","row":2,"scope":2,"slot":1}
+"#;
 
 /// What is put of the file of these bytes, as text or as objects of JSON.
 fn shown<L: Ledger>(alloc: Global, bytes: &[u8], is_json: bool, blank: Blank) -> Option<SteadySink>
@@ -51,27 +61,22 @@ fn shown<L: Ledger>(alloc: Global, bytes: &[u8], is_json: bool, blank: Blank) ->
     }
 }
 
-/// Whether the text is shown of the file.
-fn shows_text(alloc: Global, bytes: &[u8], text: &[u8]) -> bool {
-    match shown::<Brand>(alloc, bytes, false, Blank::new(1)) {
+/// Whether this is put of the file of these bytes.
+fn shows<L: Ledger>(alloc: Global, bytes: &[u8], is_json: bool, text: &[u8], blank: Blank) -> bool
+    requires { (blank.name ≡ L.name) × (blank.parts ≡ L.parts) × (0 < L.parts) }
+{
+    match shown::<L>(alloc, bytes, is_json, blank) {
         Some(out) => out.as_slice() == text,
         None => false,
     }
 }
 
-/// Whether the objects of the file have these bytes among them.
-fn shows_objects(alloc: Global, bytes: &[u8], objects: &[u8]) -> bool {
-    match shown::<Brand>(alloc, bytes, true, Blank::new(1)) {
-        Some(out) => out
-            .as_slice()
-            .windows(objects.len())
-            .any(|part| part == objects),
-        None => false,
-    }
+#[test]
+fn a_file_is_shown_as_text(rt: HostRuntime) {
+    assert!(rt; shows::<Brand>(rt.alloc(), &B, false, TEXT, Blank::new(1)));
 }
 
 #[test]
-fn a_file_is_shown(rt: HostRuntime) {
-    assert!(rt; shows_text(rt.alloc(), &B, TEXT));
-    assert!(rt; shows_objects(rt.alloc(), &B, VARIABLE));
+fn a_file_is_shown_as_objects(rt: HostRuntime) {
+    assert!(rt; shows::<Brand>(rt.alloc(), &B, true, OBJECTS, Blank::new(1)));
 }
