@@ -1,4 +1,4 @@
-//! The texts of a valid file: all its rows, as lines of text or as objects of JSON.
+//! The texts of a valid file: all its rows, as lines of text or as objects of JSON, and what belongs to an offset of a method.
 #![tactic(auto)]
 
 mod documents;
@@ -10,4 +10,5 @@ mod owned;
 mod rows;
 mod show;
 
+pub use ppdb_query::{QueryError, query_text};
 pub use show::{show_json, show_text};

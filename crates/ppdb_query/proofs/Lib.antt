@@ -1,0 +1,9 @@
+pub mod Added
+pub mod Bounded
+pub mod Chains
+pub mod Given
+pub mod Names
+pub mod OfKind
+pub mod Runs
+pub mod Shown
+pub mod Views
