@@ -5,7 +5,7 @@ use Rattle.ppdb_base.specs.Files.{Files}
 use Rattle.ppdb_base.specs.Written.{AppendsFront}
 use Rattle.ppdb_base.proofs.Written.{front_nothing}
 use Rattle.ppdb_run.specs.declared.stop.Stop.{Stop}
-use Rattle.ppdb_run.specs.declared.stop.Stop.TheVariants.{Usage, ReadFault, Absent, TooLong, Refused, Sink, Memory}
+use Rattle.ppdb_run.specs.declared.stop.Stop.TheVariants.{Usage, ReadFault, Absent, TooLong, Refused, NoMethod, Sink, Memory}
 use Rattle.ppdb_run.specs.Ends.{OnTask}
 use Rattle.ppdb_run.specs.Stops.{OnCut}
 use Rattle.ppdb_run.specs.Words.{Task}
@@ -16,6 +16,7 @@ on_cut (ReadFault name) p = tt
 on_cut (Absent name) p = tt
 on_cut (TooLong name) p = tt
 on_cut (Refused name fault) p = tt
+on_cut (NoMethod method) p = tt
 on_cut Sink p = p
 on_cut Memory p = p
 

@@ -6,7 +6,7 @@ use Rattle.ppdb_base.specs.Written.{appended, AppendsFront}
 use Rattle.ppdb_base.proofs.Written.{front_whole, appended_nothing}
 use Rattle.ppdb_run.specs.declared.status.Status.{Status}
 use Rattle.ppdb_run.specs.declared.stop.Stop.{Stop}
-use Rattle.ppdb_run.specs.declared.stop.Stop.TheVariants.{Usage, ReadFault, Absent, TooLong, Refused, Sink, Memory}
+use Rattle.ppdb_run.specs.declared.stop.Stop.TheVariants.{Usage, ReadFault, Absent, TooLong, Refused, NoMethod, Sink, Memory}
 use Rattle.ppdb_run.specs.Ends.{OnOutcome, IsUnread, IsDue, answer, read_fault, PutsFront}
 use Rattle.ppdb_run.specs.Outcome.{Outcome}
 use Rattle.ppdb_run.specs.Stops.{line_of, refusal_of, OnReadFault, OnUntold, OnCut, Tells, Told, Failed, OutOfMemory}
@@ -50,6 +50,7 @@ module _ (words : List (List ℕ)) (files : Option Files) (before after : ℕ) (
   stopped (Absent name) due at h = the_refusal due _ at.settles at.silent h
   stopped (TooLong name) due at h = the_refusal due _ at.settles at.silent h
   stopped (Refused name fault) due at h = the_refusal due _ at.settles at.silent h
+  stopped (NoMethod method) due at h = the_refusal due _ at.settles at.silent h
   stopped Sink due at h = the_text due at.cut h
   stopped Memory due at h = the_text due at.cut h
 

@@ -1,18 +1,16 @@
 -- A task has one outcome over the files.
-use Rattle.std.proofs.Common.{ℕ, ◌≡◌, inl, inr, List, refl, sym, ◌∙◌, ap, subst}
-use Rattle.std.specs.Prelude.{Option, Some, None, Result, Ok, Err, IfSome, codes}
+use Rattle.std.proofs.Common.{ℕ, ◌≡◌, inl, inr, List, refl, sym, ◌∙◌, ap, subst, arith}
+use Rattle.std.specs.Prelude.{Option, Some, None, Result, Ok, Err, IfSome}
 use Rattle.ppdb_base.specs.declared.code.Code.{Code}
 use Rattle.ppdb_base.specs.declared.fault.Place.{Place}
 use Rattle.ppdb_base.specs.First.{IsAccepted}
 use Rattle.ppdb_base.specs.Files.{Files, reading}
 use Rattle.ppdb_base.proofs.Judging.{one_first, first_not_accepted}
-use Rattle.ppdb_run.specs.declared.status.Status.TheVariants as statuses
 use Rattle.ppdb_run.specs.declared.stop.Stop.{Stop}
-use Rattle.ppdb_run.specs.Ends.{OnDue, OnOutcome, OnTask}
-use Rattle.ppdb_text.specs.Lines.{line}
-use Rattle.ppdb_run.specs.Outcome.{Outcome, Step, ◌>>=◌, gives, judged, refused, prints, id_text, file_at, input_of, max_file, verified, steps_of, IsOutcome}
+use Rattle.ppdb_run.specs.Ends.{Asks, AreSeen, OnDue, OnOutcome, OnTask, OnRead, IsWithinBound, IsWithinRows}
+use Rattle.ppdb_run.specs.Outcome.{Outcome, Step, ◌>>=◌, gives, judged, refused, file_at, input_of, max_file, verified, answer_of, outcome_of, steps_of, IsOutcome}
 use Rattle.ppdb_run.specs.Stops.{Gives, Settles, Finds, refusal_of}
-use Rattle.ppdb_run.specs.Words.{Task, Id, Verify, Words}
+use Rattle.ppdb_run.specs.Words.{Task, Id, Verify, Show, Query, Words, file_of}
 use Rattle.ppdb_values.specs.RawFile.{RawFile}
 use Rattle.ppdb_verify.specs.Files.{BadFile, IsRawOf, raw_in}
 use Rattle.ppdb_verify.proofs.Streamed.{same_streams}
@@ -104,31 +102,18 @@ pub read_accepted : (files : Option Files) (file bytes : List ℕ) (raw : RawFil
 read_accepted None file bytes raw h accepted is = tt
 read_accepted (Some all) file bytes raw h accepted is = inl (bytes, h, (accepted, is))
 
--- ---- the commands that answer of a file that is verified
+-- ---- a task answers of its file where that is verified
 
-abbrev Answering : List ℕ → (RawFile → Result Outcome Outcome) → Files → Step Outcome
-Answering file answer files = verified files file >>= λ raw. gives (answer raw)
-
-one_answer : (file : List ℕ) (answer : RawFile → Result Outcome Outcome) (files : Files) (r t : Result Outcome Outcome) → Answering file answer files r → Answering file answer files t → r ≡ t
-one_answer file answer files =
-    one_next (λ x y. x ≡ y) (verified files file) (λ raw. gives (answer raw)) (one_verified files file) (λ x y same r t e f. e ∙ (ap answer same ∙ sym f))
+one_end : (task : Task) (files : Files) (r t : Result Outcome Outcome) → steps_of task files r → steps_of task files t → r ≡ t
+one_end task files =
+    one_next (λ x y. x ≡ y) (verified files (file_of task)) (λ raw. gives (answer_of task raw)) (one_verified files (file_of task))
+    (λ x y same r t e f. e ∙ (ap (answer_of task) same ∙ sym f))
 
 -- where the file is not verified, there is no answer
-pub no_answer : {V : Type 0} (view : V → RawFile) (file : List ℕ) (answer : RawFile → Result Outcome Outcome) (files : Option Files) (stop : Stop)
-    → IfSome files (λ all. Gives view (Err stop) (verified all file)) → IfSome files (λ all. Gives (λ (o : Outcome). o) (Err stop) (Answering file answer all))
-no_answer view file answer None stop h = tt
-no_answer view file answer (Some all) stop h = gives_stop view (λ (o : Outcome). o) stop (verified all file) (λ raw. gives (answer raw)) h
-
--- where it is, the answer is due
-pub answered : (file : List ℕ) (answer : RawFile → Result Outcome Outcome) (files : Option Files) (raw : RawFile)
-    → IfSome files (λ all. verified all file (Ok raw)) → IfSome files (λ all. Answering file answer all (answer raw))
-answered file answer None raw h = tt
-answered file answer (Some all) raw h = inl (raw, h, refl)
-
--- a task comes to one thing
-one_end : (task : Task) (files : Files) (r t : Result Outcome Outcome) → steps_of task files r → steps_of task files t → r ≡ t
-one_end (Id file) files = one_answer file (λ raw. Ok (prints statuses.Done (id_text raw))) files
-one_end (Verify file) files = one_answer file (λ raw. Ok (prints statuses.Done (line (codes "accepted")))) files
+pub no_answer : {V : Type 0} (view : V → RawFile) (task : Task) (files : Option Files) (stop : Stop)
+    → IfSome files (λ all. Gives view (Err stop) (verified all (file_of task))) → IfSome files (λ all. Gives (λ (o : Outcome). o) (Err stop) (steps_of task all))
+no_answer view task None stop h = tt
+no_answer view task (Some all) stop h = gives_stop view (λ (o : Outcome). o) stop (verified all (file_of task)) (λ raw. gives (answer_of task raw)) h
 
 abbrev same_result : Result Outcome Outcome → Result Outcome Outcome → Type 0
 same_result r t = r ≡ t
@@ -148,16 +133,22 @@ one_outcome (Some task) files a b (inr h) (inr k) = err_inj a b (one_end task fi
 
 -- ---- what a command knows of its outcome
 
+-- what holds of a task over the files that are told holds of what the words ask for
+pub of_told : (P : Option Task → Files → Type 0) (words : List (List ℕ)) (task : Task) (files : Option Files) → IfSome files (λ all. P (Some task) all) → Words task words
+    → (asked : Option Task) → Asks words asked → (all : Files) → AreSeen asked files all → P asked all
+of_told P words task files k h None none all seen = absurd (none task h)
+of_told P words task None k h (Some other) asks all seen = absurd seen
+of_told P words task (Some told) k h (Some other) asks all seen =
+    subst (λ (t : Task). P (Some t) all) (one_task words task other h asks) (subst (λ (fs : Files). P (Some task) fs) seen k)
+
 -- what holds of the outcome of a task holds of that of its words
 pub of_task : {P : Outcome → Type 0} (words : List (List ℕ)) (task : Task) (files : Option Files) → OnTask task files P → Words task words → OnOutcome words files P
-of_task {P = P} words task files k h = on_task files k.holds
-  where
-    on_task : (fs : Option Files) → IfSome fs (λ all. OnDue (Some task) all P) → OnOutcome words fs P
-    on_task fs k None none all seen = absurd (none task h)
-    on_task (Some told) k (Some other) asks all seen =
-        subst (λ (t : Task). OnDue (Some t) all P) (one_task words task other h asks) (subst (λ (fs : Files). OnDue (Some task) fs P) seen k)
-    on_task None k (Some (Id file)) asks all seen = absurd seen
-    on_task None k (Some (Verify file)) asks all seen = absurd seen
+of_task {P = P} words task files k h = of_told (λ asked all. OnDue asked all P) words task files k.holds h
+
+-- so do the rows that it reads
+pub of_rows : (words : List (List ℕ)) (task : Task) (files : Option Files) (before after : ℕ) → IsWithinRows task files before after → Words task words
+    → (other : Task) → Words other words → IsWithinRows other files before after
+of_rows words task files before after k h other h' = subst (λ (t : Task). IsWithinRows t files before after) (one_task words task other h h') k
 
 -- what holds of one outcome holds of the outcome
 pub on_due : (P : Outcome → Type 0) (asked : Option Task) (files : Files) (a : Outcome) → IsOutcome asked files a → P a → OnDue asked files P
@@ -182,11 +173,48 @@ stop_found T task (Some all) view stop h = at_refusal (refusal_of stop) h
     at_refusal None h = tt
     at_refusal (Some refusal) h = inr h
 
--- what holds of the answer holds of the outcome
-pub on_answer : (P : Outcome → Type 0) (task : Task) (files : Option Files) (answer : Outcome) → IfSome files (λ all. steps_of task all (Ok answer)) → P answer → OnTask task files P
-on_answer P task None answer h p = record { holds = tt }
-on_answer P task (Some all) answer h p = record { holds = on_due P (Some task) all answer (inl h) p }
+-- the outcome of a task whose file is verified
+is_answer : (task : Task) (files : Files) (raw : RawFile) → verified files (file_of task) (Ok raw) → IsOutcome (Some task) files (outcome_of (answer_of task raw))
+is_answer task files raw h = by_result (answer_of task raw) (inl (raw, h, refl))
+  where
+    by_result : (r : Result Outcome Outcome) → steps_of task files r → IsOutcome (Some task) files (outcome_of r)
+    by_result (Ok answer) h = inl h
+    by_result (Err refusal) h = inr h
 
-pub answer_found : (task : Task) (files : Option Files) (answer : Outcome) → IfSome files (λ all. steps_of task all (Ok answer)) → IfSome files (λ all. (due : Outcome) × IsOutcome (Some task) all due)
-answer_found task None answer h = tt
-answer_found task (Some all) answer h = (answer, inl h)
+-- what holds of the answer holds of the outcome
+pub on_answer : (P : Outcome → Type 0) (task : Task) (files : Option Files) (raw : RawFile)
+    → IfSome files (λ all. verified all (file_of task) (Ok raw)) → P (outcome_of (answer_of task raw)) → OnTask task files P
+on_answer P task None raw h p = record { holds = tt }
+on_answer P task (Some all) raw h p = record { holds = on_due P (Some task) all (outcome_of (answer_of task raw)) (is_answer task all raw h) p }
+
+-- a task that was done, or stopped in place of its answer, has an outcome
+pub answer_found : (T : Type 0) (task : Task) (files : Option Files) (raw : RawFile) (result : Result T Stop)
+    → IfSome files (λ all. verified all (file_of task) (Ok raw)) → Settles result (outcome_of (answer_of task raw)) → IfSome files (λ all. Finds result (IsOutcome (Some task) all))
+answer_found T task None raw result h settles = tt
+answer_found T task (Some all) raw (Ok x) h settles = (outcome_of (answer_of task raw), is_answer task all raw h)
+answer_found T task (Some all) raw (Err stop) h settles = at_refusal (refusal_of stop) settles
+  where
+    at_refusal : (o : Option Outcome) → IfSome o (λ refusal. outcome_of (answer_of task raw) ≡ refusal) → IfSome o (IsOutcome (Some task) all)
+    at_refusal None e = tt
+    at_refusal (Some refusal) e = subst (λ due. IsOutcome (Some task) all due) e (is_answer task all raw h)
+
+-- ---- the rows that a task reads
+
+-- what holds of the file that was verified holds of what it is read as
+pub on_read : (P : RawFile → Type 0) (task : Task) (files : Option Files) (raw : RawFile) → IfSome files (λ all. verified all (file_of task) (Ok raw)) → P raw → OnRead task files P
+on_read P task None raw h p = tt
+on_read P task (Some all) raw h p = λ other is. subst P (one_verified all (file_of task) (Ok raw) (Ok other) h is) p
+
+-- a task that read nothing is within its rows
+pub nothing_read : (task : Task) (files : Option Files) (steps : ℕ) → IsWithinRows task files steps steps
+nothing_read task files steps = record { none = λ no. refl; bound = on_all files }
+  where
+    within : (task : Task) (raw : RawFile) → IsWithinBound task raw steps steps
+    within (Id file) raw = tt
+    within (Verify file) raw = tt
+    within (Show file json) raw = tt
+    within (Query file method offset) raw = omega arith
+
+    on_all : (files : Option Files) → OnRead task files (λ raw. IsWithinBound task raw steps steps)
+    on_all None = tt
+    on_all (Some all) = λ raw is. within task raw

@@ -1,26 +1,27 @@
 -- How a run ends: what its status, its text and the files afterwards have to do with the outcome of its words.
-use Rattle.std.specs.Prelude.{ℕ, ◌≡◌, ◌<◌, ◌-◌, ◌⊎◌, List, [], ◌∷◌, Option, Some, None, IfSome, slice_get, Contains}
+use Rattle.std.specs.Prelude.{ℕ, ◌≡◌, ◌<◌, ◌≤◌, ◌+◌, ◌-◌, ◌⊎◌, List, [], ◌∷◌, Option, Some, None, Ok, IfSome, slice_get, Contains}
 use Rattle.ppdb_base.specs.Causes.{Rose}
 use Rattle.ppdb_base.specs.Files.{Files}
 use Rattle.ppdb_base.specs.Written.{appended, AppendsFront}
 use Rattle.ppdb_run.specs.declared.status.Status.{Status}
 use Rattle.ppdb_run.specs.declared.status.Status.TheVariants.{Done, WriteFault, Memory}
 use Rattle.ppdb_run.specs.Lines.{read_fault_line, write_fault_line}
-use Rattle.ppdb_run.specs.Outcome.{Outcome, IsOutcome}
+use Rattle.ppdb_run.specs.Outcome.{Outcome, IsOutcome, verified}
 use Rattle.ppdb_run.specs.Status.{UnlessFault}
-use Rattle.ppdb_run.specs.Words.{Task, Id, Verify, Words, NoTask}
+use Rattle.ppdb_run.specs.Words.{Task, Id, Verify, Show, Query, Words, NoTask, file_of}
 use Rattle.ppdb_run.specs.Writes.{WritesAll, WritesFront}
+use Rattle.ppdb_query.specs.Bound.{query_rows}
+use Rattle.ppdb_values.specs.RawFile.{RawFile}
 
 -- what the words ask for: a task, or nothing where no task has them
 abbrev pub Asks : List (List ℕ) → Option Task → Type 0
 Asks words (Some task) = Words task words
 Asks words None = NoTask words
 
--- the task has to do with no file: its outcome is the same over all files
+-- what is asked for has to do with no file, so that its outcome is the same over all files: each task reads one
 abbrev pub IsApart : Option Task → Type 0
 IsApart None = Unit {0}
-IsApart (Some (Id file)) = ⊥
-IsApart (Some (Verify file)) = ⊥
+IsApart (Some task) = ⊥
 
 -- the files that an outcome is over: those that the folder tells; where it tells none, any, if the task has to do with no file
 abbrev pub AreSeen : Option Task → Option Files → Files → Type 0
@@ -45,17 +46,14 @@ HasOutcome words files status = (asked : Option Task) → Asks words asked → (
 
 -- the files of a task that are read, in the order of its words and as often as they are named, and the file that it writes
 abbrev pub read_files : Task → List (List ℕ)
-read_files (Id file) = file ∷ []
-read_files (Verify file) = file ∷ []
+read_files task = file_of task ∷ []
 
 abbrev pub written_file : Task → Option (List ℕ)
-written_file (Id file) = None
-written_file (Verify file) = None
+written_file task = None
 
 -- the task comes to read the file: nothing that comes before is refused
 abbrev pub ComesToRead : Task → Files → List ℕ → Type 0
-ComesToRead (Id file) files name = name ≡ file
-ComesToRead (Verify file) files name = name ≡ file
+ComesToRead task files name = name ≡ file_of task
 
 -- this file of the task was to be read, after so many reads that gave a file
 pub record IsUnread (words : List (List ℕ)) (files : Option Files) (before after : ℕ) (name : List ℕ) : Type 0 where
@@ -106,3 +104,26 @@ pub record PutsFront (words : List (List ℕ)) (files : Option Files) (due : Out
 -- a count of faults rose: of the reads, of the writes or of the sink
 abbrev pub HadFault : ℕ → ℕ → ℕ → ℕ → ℕ → ℕ → Type 0
 HadFault reads reads_after writes writes_after puts puts_after = Rose reads reads_after ⊎ Rose writes writes_after ⊎ Rose puts puts_after
+
+-- ---- the rows that are read beside those that the verifier reads
+
+-- the verifier reads all that the task needs
+abbrev pub ReadsNoRows : Task → Type 0
+ReadsNoRows (Id file) = Unit {0}
+ReadsNoRows (Verify file) = Unit {0}
+ReadsNoRows (Show file json) = ⊥
+ReadsNoRows (Query file method offset) = ⊥
+
+-- a query reads at most so many rows of a file, before and after which the counter stood so
+abbrev pub IsWithinBound : Task → RawFile → ℕ → ℕ → Type 0
+IsWithinBound (Query file method offset) raw before after = after ≤ before + query_rows raw.tables method offset
+IsWithinBound task raw before after = Unit {0}
+
+-- P holds of a task and of what its file is read as, where the folder tells it
+abbrev pub OnRead : Task → Option Files → (RawFile → Type 0) → Type 0
+OnRead task files P = IfSome files (λ all. (raw : RawFile) → verified all (file_of task) (Ok raw) → P raw)
+
+-- the rows that a task reads, and those that it may read
+pub record IsWithinRows (task : Task) (files : Option Files) (before after : ℕ) : Type 0 where
+  pub none : ReadsNoRows task → after ≡ before
+  pub bound : OnRead task files (λ raw. IsWithinBound task raw before after)

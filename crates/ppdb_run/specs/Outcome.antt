@@ -1,5 +1,5 @@
 -- What a command comes to over the files: a status, a text, and at most one file that is written.
-use Rattle.std.specs.Prelude.{ℕ, ◌≡◌, ◌⊎◌, List, ◌++◌, Option, Some, None, Result, Ok, Err, codes}
+use Rattle.std.specs.Prelude.{ℕ, ◌≡◌, ◌⊎◌, List, ◌++◌, true, false, ◌&&◌, if◌then◌else◌, nat_le, Option, Some, None, Result, Ok, Err, codes}
 use Rattle.ppdb_base.specs.declared.code.Code.{Code}
 use Rattle.ppdb_base.specs.declared.fault.Place.{Place}
 use Rattle.ppdb_base.specs.declared.fault.Fault.{Fault}
@@ -9,8 +9,11 @@ use Rattle.ppdb_run.specs.declared.status.Status.{Status}
 use Rattle.ppdb_run.specs.declared.status.Status.TheVariants as statuses
 use Rattle.ppdb_run.specs.Faults.{fault_text}
 use Rattle.ppdb_text.specs.Heads.{id_line, entry_line}
-use Rattle.ppdb_text.specs.Lines.{line, named}
-use Rattle.ppdb_run.specs.Words.{Task, Id, Verify}
+use Rattle.ppdb_text.specs.Lines.{line, named, numbered}
+use Rattle.ppdb_run.specs.Words.{Task, Id, Verify, Show, Query, file_of}
+use Rattle.ppdb_query.specs.Query.{query_text_of}
+use Rattle.ppdb_show.specs.Show.{show_text_of, show_json_of}
+use Rattle.ppdb_tables.specs.RawTables.{count}
 use Rattle.ppdb_values.specs.RawFile.{RawFile}
 use Rattle.ppdb_verify.specs.Files.{BadFile, IsRawOf}
 
@@ -36,6 +39,9 @@ too_long name = prints statuses.TooLong (line (named (codes "too long ") name))
 
 abbrev pub refused : List ℕ → Fault → Outcome
 refused name fault = prints statuses.Refused (named (codes "refused ") name ++ line (fault_text fault))
+
+abbrev pub no_method : ℕ → Outcome
+no_method method = prints statuses.NoMethod (line (numbered (codes "no method ") method))
 
 -- ---- steps, of which each may end a command by a refusal
 
@@ -83,14 +89,29 @@ verified files file = do
 abbrev pub id_text : RawFile → List ℕ
 id_text raw = id_line raw.id ++ entry_line raw.entry
 
+-- a text is the answer
+abbrev pub done : List ℕ → Result Outcome Outcome
+done text = Ok (prints statuses.Done text)
+
+-- what a task answers of its file: a text, or that the file has no such method
+abbrev pub answer_of : Task → RawFile → Result Outcome Outcome
+answer_of (Id file) raw = done (id_text raw)
+answer_of (Verify file) raw = done (line (codes "accepted"))
+answer_of (Show file false) raw = done (show_text_of raw)
+answer_of (Show file true) raw = done (show_json_of raw)
+answer_of (Query file method offset) raw =
+    if nat_le 1 method && nat_le method (count raw.tables 0x06) then done (query_text_of raw method offset) else Err (no_method method)
+
+-- what a command ends with
+abbrev pub outcome_of : Result Outcome Outcome → Outcome
+outcome_of (Ok answer) = answer
+outcome_of (Err refusal) = refusal
+
 -- what a task comes to
 abbrev pub steps_of : Task → Files → Step Outcome
-steps_of (Id file) files = do
-  raw ← verified files file
-  gives (Ok (prints statuses.Done (id_text raw)))
-steps_of (Verify file) files = do
-  raw ← verified files file
-  gives (Ok (prints statuses.Done (line (codes "accepted"))))
+steps_of task files = do
+  raw ← verified files (file_of task)
+  gives (answer_of task raw)
 
 -- the outcome of a task, or of words that are no task's
 abbrev pub IsOutcome : Option Task → Files → Outcome → Type 0

@@ -8,10 +8,10 @@ use Rattle.ppdb_base.specs.Written.{appended, AppendsFront}
 use Rattle.ppdb_run.specs.declared.status.Status.{Status}
 use Rattle.ppdb_run.specs.declared.status.Status.TheVariants as statuses
 use Rattle.ppdb_run.specs.declared.stop.Stop.{Stop}
-use Rattle.ppdb_run.specs.declared.stop.Stop.TheVariants.{Usage, ReadFault, Absent, TooLong, Refused, Sink, Memory}
+use Rattle.ppdb_run.specs.declared.stop.Stop.TheVariants.{Usage, ReadFault, Absent, TooLong, Refused, NoMethod, Sink, Memory}
 use Rattle.ppdb_run.specs.Ends.{Asks, AreSeen}
 use Rattle.ppdb_run.specs.Lines.{read_fault_line}
-use Rattle.ppdb_run.specs.Outcome.{Outcome, Step, IsOutcome, usage, absent, too_long, refused}
+use Rattle.ppdb_run.specs.Outcome.{Outcome, Step, IsOutcome, usage, absent, too_long, refused, no_method}
 use Rattle.ppdb_run.specs.Words.{Task}
 
 -- the refusal that it is; none where something outside failed, or there was no memory left
@@ -21,6 +21,7 @@ refusal_of (ReadFault name) = None
 refusal_of (Absent name) = Some (absent name.now)
 refusal_of (TooLong name) = Some (too_long name.now)
 refusal_of (Refused name fault) = Some (refused name.now fault)
+refusal_of (NoMethod method) = Some (no_method method)
 refusal_of Sink = None
 refusal_of Memory = None
 
@@ -30,6 +31,7 @@ status_of (ReadFault name) = statuses.ReadFault
 status_of (Absent name) = statuses.Absent
 status_of (TooLong name) = statuses.TooLong
 status_of (Refused name fault) = statuses.Refused
+status_of (NoMethod method) = statuses.NoMethod
 status_of Sink = statuses.WriteFault
 status_of Memory = statuses.Memory
 
@@ -40,6 +42,7 @@ line_of (ReadFault name) = read_fault_line name.now
 line_of (Absent name) = (absent name.now).text
 line_of (TooLong name) = (too_long name.now).text
 line_of (Refused name fault) = (refused name.now fault).text
+line_of (NoMethod method) = (no_method method).text
 line_of Sink = []
 line_of Memory = []
 
@@ -107,6 +110,13 @@ IsOfReading (Absent name) = Unit {0}
 IsOfReading (TooLong name) = Unit {0}
 IsOfReading Memory = Unit {0}
 IsOfReading stop = ⊥
+
+-- a stop that an answer comes to
+abbrev pub IsOfAnswer : Stop → Type 0
+IsOfAnswer (NoMethod method) = Unit {0}
+IsOfAnswer Sink = Unit {0}
+IsOfAnswer Memory = Unit {0}
+IsOfAnswer stop = ⊥
 
 -- a line says why a run stopped, and the status is that of the stop or of a failed put
 pub data Tells (stop : Stop) (status : Status) (before after : ℕ) (old new : Option (List ℕ)) : Type 0 where

@@ -2,16 +2,15 @@
 ghost use Rattle.std.specs.Prelude.{◌≡◌, ◌≤◌, ◌⊎◌, ℕ, None, OnOk, IfErr, IsErrOf};
 ghost use Rattle.ppdb_base.specs.Causes.{Rose};
 ghost use Rattle.ppdb_base.specs.Written.{appended, AppendsFront};
-ghost use Rattle.ppdb_run.specs.Ends.{OnOutcome, HasOutcome, LeavesFiles, HadFault, PutsFront, IsUnread, TellsUnread, TellsUnwritten};
+ghost use Rattle.ppdb_run.specs.Ends.{OnOutcome, HasOutcome, IsWithinRows, LeavesFiles, HadFault, PutsFront, IsUnread, TellsUnread, TellsUnwritten};
 ghost use Rattle.ppdb_run.specs.Status.{UnlessFault};
 ghost use Rattle.ppdb_run.specs.Stops.{Tells, Settles, FindsOutcome, OnCut, OnNoInput, OnReadFault, OnSink, OnUntold, OnUsage};
-ghost use Rattle.ppdb_run.specs.Words.{NoTask, texts};
+ghost use Rattle.ppdb_run.specs.Words.{Task, Words, NoTask, texts};
 
-use crate::id::id;
+use crate::answer::answer;
 use crate::status::Status;
 use crate::stop::Stop;
-use crate::verify_command::verify;
-use crate::words::{Command, Usage, read_words};
+use crate::words::{Usage, read_words};
 use ppdb_base::{Folder, Sink, Steps, WriteError};
 use std::alloc::Global;
 use std::sync::ledger::Ledger;
@@ -23,7 +22,7 @@ pub fn run<F: Folder, O: Sink, K: Ledger, L: Ledger>(
     folder: &mut F,
     out: &mut O,
     checks: &mut Steps<K>,
-    _steps: &mut Steps<L>,
+    steps: &mut Steps<L>,
 ) -> Status
     // Where nothing outside failed, it ends with the outcome of the words over the files that the folder tells.
     // Words that have to do with no file have an outcome also where none are told.
@@ -47,8 +46,11 @@ pub fn run<F: Folder, O: Sink, K: Ledger, L: Ledger>(
     // Whether or not files are told.
     ensures usage { result ≡ Status.Usage → NoTask (texts words.now) }
     ensures untold { F.files folder.old ≡ None → (result ≡ Status.Absent) ⊎ (result ≡ Status.TooLong) → Rose (F.read_faults folder.old) (F.read_faults folder.new) }
+
+    // The rows that are read beside those that the verifier reads.
+    ensures rows { (task : Task) → Words task (texts words.now) → IsWithinRows task (F.files folder.old) steps.old steps.new }
 {
-    match carry_out(alloc, words, folder, out, checks) {
+    match carry_out(alloc, words, folder, out, checks, steps) {
         Ok(()) => Status::Done,
         Err(stop) => tell(stop, out),
     }
@@ -66,12 +68,13 @@ fn tell<O: Sink>(stop: Stop<'_>, out: &mut O) -> Status
 }
 
 /// Carries out the command of the words, up to the line of a stop.
-fn carry_out<'a, F: Folder, O: Sink, K: Ledger>(
+fn carry_out<'a, F: Folder, O: Sink, K: Ledger, L: Ledger>(
     alloc: Global,
     words: &'a [String],
     folder: &mut F,
     out: &mut O,
     checks: &mut Steps<K>,
+    steps: &mut Steps<L>,
 ) -> Result<(), Stop<'a>>
     ensures found { FindsOutcome (texts words.now) (F.files folder.old) result }
     ensures told { OnOutcome (texts words.now) (F.files folder.old) (Settles result) }
@@ -79,6 +82,7 @@ fn carry_out<'a, F: Folder, O: Sink, K: Ledger>(
     ensures cut { OnOutcome (texts words.now) (F.files folder.old) (λ due. IfErr result (λ stop. OnCut stop (AppendsFront (O.written out.old) (O.written out.new) due.text))) }
     ensures silent { IfErr result (λ stop. OnUntold stop (O.written out.new ≡ O.written out.old)) }
     ensures files { F.files folder.new ≡ F.files folder.old }
+    ensures rows { (task : Task) → Words task (texts words.now) → IsWithinRows task (F.files folder.old) steps.old steps.new }
 
     ensures read_fault { IfErr result (λ stop. OnReadFault stop (λ name. Rose (F.read_faults folder.old) (F.read_faults folder.new))) }
     ensures unread { IfErr result (λ stop. OnReadFault stop (λ name. IsUnread (texts words.now) (F.files folder.old) (F.reads folder.old) (F.reads folder.new) name)) }
@@ -89,8 +93,7 @@ fn carry_out<'a, F: Folder, O: Sink, K: Ledger>(
     ensures later { O.faults out.old ≤ O.faults out.new }
 {
     match read_words(words) {
-        Ok(Command::Id { file }) => id(alloc, file, folder, out, checks),
-        Ok(Command::Verify { file }) => verify(alloc, file, folder, out, checks),
+        Ok(command) => answer(alloc, command, folder, out, checks, steps),
         Err(Usage) => Err(Stop::Usage),
     }
 }

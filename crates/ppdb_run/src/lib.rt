@@ -1,15 +1,15 @@
 //! The commands over a folder and a sink: which words ask for what, and what they come to.
 #![tactic(auto)]
 
+mod answer;
 mod commands;
 mod fault;
-mod id;
 mod input;
 pub mod laws;
+mod number;
 mod status;
 mod stop;
 mod verified;
-mod verify_command;
 mod words;
 
 pub use commands::run;

@@ -3,12 +3,13 @@ ghost use Rattle.std.specs.Prelude.{◌≡◌, ◌≤◌, OnOk, OnErr, IsErrOf};
 ghost use Rattle.ppdb_base.specs.Causes.{Rose};
 ghost use Rattle.ppdb_base.specs.Written.{appended, AppendsFront};
 ghost use Rattle.ppdb_run.specs.declared.stop.Stop.TheVariants as stops;
+ghost use Rattle.ppdb_run.specs.Outcome.{no_method};
 ghost use Rattle.ppdb_run.specs.Stops.{line_of, status_of, stop_of};
 
 use crate::fault::put_refused;
 use crate::status::Status;
 use ppdb_base::{Fault, Memory, Sink, WriteError};
-use ppdb_text::put_named_line;
+use ppdb_text::{put_named_line, put_numbered};
 
 /// What ends a run before its answer. A name is that of the file that it comes from.
 #[derive(Clone, Copy)]
@@ -20,6 +21,8 @@ pub enum Stop<'a> {
     TooLong(&'a str),
     /// The file has this first fault.
     Refused(&'a str, Fault),
+    /// The file has no method of this number.
+    NoMethod(u32),
     /// The sink failed, so that no line can say so.
     Sink,
     Memory,
@@ -54,6 +57,7 @@ impl Stop<'_> {
             Stop::Absent(_) => Status::Absent,
             Stop::TooLong(_) => Status::TooLong,
             Stop::Refused(_, _) => Status::Refused,
+            Stop::NoMethod(_) => Status::NoMethod,
             Stop::Sink => Status::WriteFault,
             Stop::Memory => Status::Memory,
         }
@@ -72,7 +76,19 @@ impl Stop<'_> {
             Stop::Absent(name) => put_named_line(out, b"absent ", name.as_bytes()),
             Stop::TooLong(name) => put_named_line(out, b"too long ", name.as_bytes()),
             Stop::Refused(name, fault) => put_refused(out, name, fault),
+            Stop::NoMethod(method) => put_no_method(out, method),
             Stop::Sink | Stop::Memory => Ok(()),
         }
     }
+}
+
+/// Puts the line of a method that is not there.
+fn put_no_method<O: Sink>(out: &mut O, method: u32) -> Result<(), WriteError>
+    ensures ok { OnOk result (O.written out.new ≡ appended (O.written out.old) (no_method method).text) }
+    ensures err { OnErr result (AppendsFront (O.written out.old) (O.written out.new) (no_method method).text) }
+    ensures failed { IsErrOf result WriteError.Failed → Rose (O.faults out.old) (O.faults out.new) }
+    ensures later { O.faults out.old ≤ O.faults out.new }
+{
+    put_numbered(out, b"no method ", method)?;
+    out.put(b"\n")
 }

@@ -4,7 +4,7 @@ use Rattle.ppdb_base.specs.Written.{appended}
 use Rattle.ppdb_base.proofs.Written.{on_err, front_of_first, front_of_second, appended_twice}
 use Rattle.ppdb_tables.specs.declared.head.PdbHead.{PdbHead}
 use Rattle.ppdb_text.specs.Heads.{id_line, entry_line}
-use Rattle.ppdb_run.proofs.id.put_id.Goals as goal
+use Rattle.ppdb_run.proofs.answer.put_id.Goals as goal
 
 abbrev puts : Option (List ℕ) → PdbHead → Option (List ℕ)
 puts old head = appended old (id_line head.id ++ entry_line head.entry)
