@@ -20,10 +20,13 @@ use std_sink::StdSink;
 
 const HELP: &[u8] = b"ppdb: Portable PDB debug files
 
-ppdb id FILE      prints the identity and the entry point of a file
-ppdb verify FILE  says whether a file is valid, and else its first fault
-ppdb --help       prints this text
-ppdb --version    prints the version
+ppdb id FILE                   prints the identity and the entry point of a file
+ppdb verify FILE               says whether a file is valid, and else its first fault
+ppdb show FILE                 prints all rows of a file, a line each
+ppdb show FILE --json          prints them as JSON, an object a line
+ppdb query FILE METHOD OFFSET  prints what belongs to an IL offset of a method, by the method's row
+ppdb --help                    prints this text
+ppdb --version                 prints the version
 ";
 
 const VERSION: &[u8] = b"ppdb 0.1.0\n";
