@@ -198,5 +198,5 @@ query_lines raw m x = point_lines raw m x
     ++ (scope_lines raw.tables m x ++ (hoisted_lines raw.tables m x ++ (link_lines raw m ++ record_lines raw.tables m)))
 
 -- What `query` prints.
-abbrev pub query_text_of : RawFile → ℕ → ℕ → List ℕ
+unfoldable pub query_text_of : RawFile → ℕ → ℕ → List ℕ
 query_text_of raw m x = flat_map text_of (query_lines raw m x)

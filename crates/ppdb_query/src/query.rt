@@ -65,6 +65,7 @@ fn put_answer<L: Ledger>(
 ///
 /// The method is 0 or above the rows of MethodDef, and nothing was put; or the sink failed, or there was no memory left, and a
 /// front of the text was put.
+#[tactic(auto, unfolding(crate::specs::Query::query_text_of))]
 pub fn query_text<O: Sink, L: Ledger>(
     alloc: Global,
     file: &Verified<'_>,

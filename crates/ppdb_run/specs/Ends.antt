@@ -114,16 +114,16 @@ ReadsNoRows (Verify file) = Unit {0}
 ReadsNoRows (Show file json) = ⊥
 ReadsNoRows (Query file method offset) = ⊥
 
--- a query reads at most so many rows of a file, before and after which the counter stood so
+-- so many rows were counted before the task and after it: a query reads no more than its bound
 abbrev pub IsWithinBound : Task → RawFile → ℕ → ℕ → Type 0
 IsWithinBound (Query file method offset) raw before after = after ≤ before + query_rows raw.tables method offset
 IsWithinBound task raw before after = Unit {0}
 
--- P holds of a task and of what its file is read as, where the folder tells it
+-- P holds of what the file of a task is read as, where the folder tells it and it is valid
 abbrev pub OnRead : Task → Option Files → (RawFile → Type 0) → Type 0
 OnRead task files P = IfSome files (λ all. (raw : RawFile) → verified all (file_of task) (Ok raw) → P raw)
 
--- the rows that a task reads, and those that it may read
+-- so many rows were counted before the task and after it: it reads none that it has no need of, and no more than its bound
 pub record IsWithinRows (task : Task) (files : Option Files) (before after : ℕ) : Type 0 where
   pub none : ReadsNoRows task → after ≡ before
   pub bound : OnRead task files (λ raw. IsWithinBound task raw before after)
