@@ -10,10 +10,12 @@ mod files;
 #[cfg(test)]
 mod large;
 #[cfg(test)]
+mod query;
+#[cfg(test)]
 mod rules;
 #[cfg(test)]
 mod running;
 #[cfg(test)]
-mod shown;
+mod show;
 #[cfg(test)]
 mod words;
