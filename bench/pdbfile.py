@@ -20,6 +20,11 @@ PARENTS = [0x06, 0x04, 0x01, 0x02, 0x08, 0x09, 0x0a, 0x00, 0x0e, 0x17, 0x14, 0x1
            0x2a, 0x2c, 0x2b, 0x30, 0x32, 0x33, 0x34, 0x35]
 STREAMS = ['#Pdb', '#~', '#Strings', '#GUID', '#Blob']
 HOISTED = uuid.UUID('6DA9A61E-F8C7-4874-BE62-68BC5630DF71').bytes_le
+STEPPING = uuid.UUID('54FD2AC5-E925-401A-9C2A-F94F171072F8').bytes_le
+SOURCE_LINK = uuid.UUID('CC110556-A091-4D38-9FEC-25AB9A351A6A').bytes_le
+OPTIONS = uuid.UUID('B5FEEC05-8CD0-4A83-96DA-466284BB4BD8').bytes_le
+SHA256 = uuid.UUID('8829D00F-11B8-4213-878B-770E8597AC16').bytes_le
+CSHARP = uuid.UUID('3F5162F8-07C6-11D3-9053-00C04FA302A1').bytes_le
 
 
 class Pdb:
@@ -210,6 +215,51 @@ def made(methods):
         pdb.tables[0x34].append((texts.text(b'Limit%d' % (method % 300)), blobs.blob(b'\x08' + struct.pack('<i', method))))
         if method % 4 == 0:
             pdb.tables[0x37].append((method * 32, 1, blobs.blob(struct.pack('<II', 8, 24))))
+    pdb.texts, pdb.blobs = bytes(texts.data), bytes(blobs.data)
+    return pdb
+
+
+def signed(value, bits):
+    """A compressed signed number in one or two bytes (ECMA-335 II.23.2): 7 or 14 bits."""
+    turned = (value << 1 | (value < 0)) & ((1 << bits) - 1)
+    return bytes([turned]) if bits == 7 else struct.pack('>H', 0x8000 | turned)
+
+
+def program():
+    """A file with every kind of row and record that an asynchronous method has."""
+    pdb = Pdb()
+    texts, blobs = Heap(), Heap()
+    for table, count in {0x00: 1, 0x01: 14, 0x02: 3, 0x06: 5, 0x0a: 12, 0x11: 2, 0x23: 2}.items():
+        pdb.counts[table] = count
+    pdb.entry = 2
+    parts = [blobs.blob(part) for part in (b'', b'src', b'app', b'Program.cs')]
+    name = blobs.blob(b'/' + b''.join(unsigned(part) for part in parts))
+    pdb.tables[0x30] = [(name, 1, blobs.blob(b'\x5a' * 32), 2)]
+    lines = [(14, 6, 5, 1), (1, 7, 9, 25), (7, 8, 9, 22), (13, None), (72, 9, 9, 29), (25, None), (20, 10, 5, 1), (8, None)]
+    points = bytearray(unsigned(1) + unsigned(0) + b'\0\0')
+    before = None
+    for offset, line, *columns in lines:
+        points += unsigned(offset) + b'\0'
+        if line is None:
+            points += b'\0'
+        elif before is None:
+            points += unsigned(columns[1]) + unsigned(line) + unsigned(columns[0])
+            before = (line, columns[0])
+        else:
+            points += unsigned(columns[1]) + signed(line - before[0], 7) + signed(columns[0] - before[1], 7)
+            before = (line, columns[0])
+    pdb.tables[0x31] = [(0, 0)] * 3 + [(1, blobs.blob(bytes(points)))] + [(0, 0)]
+    pdb.tables[0x32] = [(4, 2, 1, 1, 0, 175)]
+    pdb.tables[0x34] = [(texts.text(b'Limit'), blobs.blob(b'\x08\x03\0\0\0'))]
+    uses = b''.join(b'\x01' + unsigned(blobs.blob(name)) for name in (b'System', b'System.Threading.Tasks'))
+    pdb.tables[0x35] = [(0, 0), (1, blobs.blob(uses))]
+    pdb.tables[0x36] = [(4, 1)]
+    pdb.guids = SHA256 + CSHARP + SOURCE_LINK + OPTIONS + HOISTED + STEPPING
+    pdb.tables[0x37] = [
+        (39, 3, blobs.blob(b'{}')), (39, 4, blobs.blob(b'a\0b\0')),
+        (128, 5, blobs.blob(struct.pack('<IIII', 14, 147, 0, 0))),
+        (128, 6, blobs.blob(struct.pack('<III', 0, 61, 82) + unsigned(4))),
+    ]
     pdb.texts, pdb.blobs = bytes(texts.data), bytes(blobs.data)
     return pdb
 
