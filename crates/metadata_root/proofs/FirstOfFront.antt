@@ -18,7 +18,7 @@ use Rattle.metadata_root.specs.Root.{BadRoot, not_metadata, windows_pdb, truncat
 use Rattle.metadata_root.specs.Streams.{BadStreams, bounds, missing_pdb, missing_tables, IsListed, Stream, Streams, stream_of, AreStreamsOf, IsStream}
 use Rattle.metadata_root.specs.Reading.{listed, slice_of, IsListing, IsFirstOutside, IsInside, HasExtent}
 use Rattle.std.proofs.lemmas.List.{length-take}
-use Rattle.ppdb_base.proofs.Fields.{sum-append, sum_cons}
+use Rattle.ppdb_base.proofs.Fields.{sum_append, sum_cons}
 use Rattle.metadata_root.proofs.Order.{fields_split, ends_by_place}
 use Rattle.metadata_root.proofs.FirstOfRoot.{AreGoodTo, cut_is_first, found_where, missing_where}
 
@@ -73,7 +73,7 @@ unfolding fields_to
 front_is_first file fault signed at len before after split is le past =
     let whole = fields_split file 0 (stream_count file) (omega arith) in
     let cut : root_fields file ≡ before ++ (len ∷ (after ++ whole.0)) = whole.1 ∙ ap (λ xs. xs ++ whole.0) split ∙ append_assoc before (len ∷ after) whole.0 in
-    let within : sum (front_fields file) ≡ sum before + (len + sum after) = ap sum split ∙ sum-append before (len ∷ after) ∙ ap (λ n. sum before + n) (sum_cons len after) in
+    let within : sum (front_fields file) ≡ sum before + (len + sum after) = ap sum split ∙ sum_append before (len ∷ after) ∙ ap (λ n. sum before + n) (sum_cons len after) in
     subst (IsFirst (BadRoot file)) (sym past.0)
     (cut_is_first file signed 0 at len before (after ++ whole.0) cut is le past.1 (good_to_none file) (λ j lt. absurd (omega (arith, is, lt, within, first_place file j))))
 

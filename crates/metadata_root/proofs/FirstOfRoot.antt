@@ -18,7 +18,7 @@ use Rattle.metadata_root.specs.Root.{IsBadName, BadRoot, not_metadata, windows_p
 use Rattle.metadata_root.specs.Reading.{IsGoodName, IsHeaderFault, cut, name, CutsHeader, BreaksNameRule, listed, IsListing, HasExtent, IsFirstOutside, IsInside, ReadsHeader, outside_after}
 use Rattle.metadata_root.specs.Streams.{offset_in, size_in}
 use Rattle.metadata_root.proofs.Listings.{same_kind, cases_kind}
-use Rattle.ppdb_base.proofs.Fields.{ends_by_cut, ends_within, sum-append}
+use Rattle.ppdb_base.proofs.Fields.{ends_by_cut, ends_within, sum_append}
 use Rattle.metadata_root.proofs.Order.{fields_split, earlier_header, name_len_pos}
 
 -- the names of the first k headers break no rule
@@ -102,7 +102,7 @@ module _ (file : List ℕ) (signed : BeginsWith (codes "BSJB") file) where
 
   -- the same, cut after n more bytes of the header
   cut_after : (k n : ℕ) (front back : List ℕ) (rest : List ℕ) → root_fields file ≡ fields_to file k ++ (front ++ back) → (root_fields file ≡ (fields_to file k ++ front) ++ back) × (sum (fields_to file k ++ front) ≡ header_place file k + sum front)
-  cut_after k n front back rest e = (e ∙ sym (append_assoc (fields_to file k) front back), sum-append (fields_to file k) front)
+  cut_after k n front back rest e = (e ∙ sym (append_assoc (fields_to file k) front back), sum_append (fields_to file k) front)
 
   header_cut : (k byte : ℕ) → k < stream_count file → AreGoodTo file k → byte ≤ length file → CutsHeader file (header_place file k) byte → IsFirst (BadRoot file) (record { code = RootTruncated; place = at_byte 1 byte })
   header_cut k byte lt names le (inl at) =

@@ -2,7 +2,7 @@
 use Rattle.std.proofs.Common.{◌≡◌, ℕ, zero, suc, ◌+◌, ◌<◌, ◌≤◌, inl, inr, List, [], ◌++◌, sum, sym, ap, ◌∙◌, append_assoc, arith}
 use Rattle.std.proofs.lemmas.Bool.{cases_lt}
 use Rattle.std.proofs.lemmas.List.{append-nil}
-use Rattle.ppdb_base.proofs.Fields.{sum-append}
+use Rattle.ppdb_base.proofs.Fields.{sum_append}
 use Rattle.metadata_root.specs.Root.{fields_to, header_fields, header_place, name_len}
 
 pub name_len_pos : (file : List ℕ) (at : ℕ) → 0 < name_len file at
@@ -11,7 +11,7 @@ name_len_pos file at = grind arith
 -- a header ends where the next begins
 pub next_place : (file : List ℕ) (k : ℕ) → header_place file (suc k) ≡ header_place file k + 8 + name_len file (header_place file k + 8)
 unfolding fields_to
-next_place file k = sum-append (fields_to file k) (header_fields file (sum (fields_to file k))) ∙ omega arith
+next_place file k = sum_append (fields_to file k) (header_fields file (sum (fields_to file k))) ∙ omega arith
 
 -- the fields up to a header are the first of the root's
 pub fields_split : (file : List ℕ) (k n : ℕ) → k ≤ n → (rest : List ℕ) × (fields_to file n ≡ fields_to file k ++ rest)

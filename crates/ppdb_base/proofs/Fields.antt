@@ -6,8 +6,8 @@ use Rattle.ppdb_base.specs.Fields.{IsField}
 pub sum_cons : (x : ℕ) (xs : List ℕ) → sum (x ∷ xs) ≡ x + sum xs
 sum_cons x xs = sum_by-append (λ n. n) (x ∷ []) xs ∙ omega arith
 
-pub sum-append : (xs ys : List ℕ) → sum (xs ++ ys) ≡ sum xs + sum ys
-sum-append xs ys = sum_by-append (λ n. n) xs ys
+pub sum_append : (xs ys : List ℕ) → sum (xs ++ ys) ≡ sum xs + sum ys
+sum_append xs ys = sum_by-append (λ n. n) xs ys
 
 -- of two cuts of one list, a field that begins before the second ends not after it
 ends_before : (b a before after : List ℕ) (len : ℕ) → b ++ (len ∷ a) ≡ before ++ after → sum b < sum before → sum b + len ≤ sum before
@@ -29,4 +29,4 @@ ends_by_cut fields before after at len f cut lt =
 -- a field ends within the fields
 pub ends_within : (fields : List ℕ) (at len : ℕ) → IsField fields at len → at + len ≤ sum fields
 ends_within fields at len f =
-    omega (arith, f.place, ap sum f.in_order, sum-append f.before (len ∷ f.after), sum_cons len f.after)
+    omega (arith, f.place, ap sum f.in_order, sum_append f.before (len ∷ f.after), sum_cons len f.after)

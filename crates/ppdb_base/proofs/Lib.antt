@@ -2,6 +2,7 @@ pub mod Between
 pub mod Escaped
 pub mod Fields
 pub mod Judging
+pub mod Least
 pub mod Moved
 pub mod Stops
 pub mod Tree

@@ -7,83 +7,83 @@ pub enum Code {
     /// The file is no metadata.
     NotMetadata = 1,
     /// The file is a Windows PDB.
-    WindowsPdb,
+    WindowsPdb = 2,
     /// A field of the root passes the file's end.
-    RootTruncated,
+    RootTruncated = 3,
     /// A stream's name is empty, not ASCII or too long.
-    StreamName,
+    StreamName = 4,
     /// A stream's name is not known.
-    StreamUnknown,
+    StreamUnknown = 5,
     /// A stream's name stands twice.
-    StreamRepeated,
+    StreamRepeated = 6,
     /// A stream passes the file's end.
-    StreamBounds,
+    StreamBounds = 7,
     /// A stream that must be there is not listed.
-    StreamMissing,
+    StreamMissing = 8,
     /// A field of `#Pdb` passes the stream's end.
-    PdbShort,
+    PdbShort = 9,
     /// `#Pdb` counts the rows of a table that is no type-system table.
-    PdbTables,
+    PdbTables = 10,
     /// `#Pdb` counts too many rows.
-    PdbRows,
+    PdbRows = 11,
     /// The entry point is no method that is there.
-    EntryPoint,
+    EntryPoint = 12,
     /// A field before the tables passes the stream's end.
-    TablesShort,
+    TablesShort = 13,
     /// An unknown bit of HeapSizes is set.
-    HeapBits,
+    HeapBits = 14,
     /// `#~` has a table that is no debug table.
-    TablesForeign,
+    TablesForeign = 15,
     /// A table has too many rows.
-    TableRows,
+    TableRows = 16,
     /// A row passes the stream's end.
-    TablesBounds,
+    TablesBounds = 17,
     /// MethodDebugInformation has not as many rows as MethodDef.
-    MethodRows,
+    MethodRows = 18,
     /// A text is not there.
-    StringIndex,
+    StringIndex = 19,
     /// A blob is not there.
-    BlobIndex,
+    BlobIndex = 20,
     /// A GUID is not there.
-    GuidIndex,
+    GuidIndex = 21,
     /// A row is not there.
-    RowIndex,
+    RowIndex = 22,
     /// A coded parent's tag names no table.
-    CodedTag,
+    CodedTag = 23,
     /// A document has no name.
-    NameNil,
+    NameNil = 24,
     /// Two documents have one name.
-    DocumentRepeated,
+    DocumentRepeated = 25,
     /// The scopes are out of order.
-    ScopeOrder,
+    ScopeOrder = 26,
     /// A scope's range is empty or too long.
-    ScopeRange,
+    ScopeRange = 27,
     /// Two scopes meet, and neither holds the other.
-    ScopeCrossing,
+    ScopeCrossing = 28,
     /// A list is out of range or falls.
-    ListRange,
+    ListRange = 29,
     /// Two variables of a scope have one slot.
-    SlotRepeated,
+    SlotRepeated = 30,
     /// Two variables or constants of a scope have one name.
-    NameRepeated,
+    NameRepeated = 31,
     /// A chain of import scopes never ends.
-    ImportCycle,
+    ImportCycle = 32,
     /// The state machines are out of order.
-    MachineOrder,
+    MachineOrder = 33,
     /// Two state machines have one kickoff method.
-    KickoffRepeated,
+    KickoffRepeated = 34,
     /// The custom records are out of order.
-    CustomOrder,
+    CustomOrder = 35,
     /// A custom record's parent is not of its kind's table.
-    KindParent,
+    KindParent = 36,
     /// A blob ends inside a field, or where one must come.
-    BlobEnd,
+    BlobEnd = 37,
     /// A compressed integer has no form.
-    IntegerForm,
+    IntegerForm = 38,
     /// A field is not allowed there.
-    ValueRange,
+    ValueRange = 39,
     /// The texts and blobs are too long in all.
-    SpanTotal,
+    SpanTotal = 40,
 }
 
 impl Code {

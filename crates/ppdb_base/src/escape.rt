@@ -1,7 +1,6 @@
 // Names and other bytes as printed text.
-ghost use Rattle.std.specs.Prelude.{◌≡◌, ◌≤◌, [], ◌∷◌, OnOk, OnErr, IsErrOf};
-ghost use Rattle.ppdb_base.specs.Causes.{Rose};
-ghost use Rattle.ppdb_base.specs.Written.{appended, AppendsFront};
+ghost use Rattle.std.specs.Prelude.{◌≡◌, [], ◌∷◌};
+ghost use Rattle.ppdb_base.specs.Written.{Puts};
 ghost use Rattle.ppdb_base.specs.Escaped.{escaped, escaped_byte, code_of, is_plain};
 ghost use Rattle.hex.specs.Hex.{encode_lower};
 
@@ -10,10 +9,7 @@ use crate::sink::{Sink, WriteError};
 /// Puts bytes as text: printable ASCII but the backslash as it is, any other byte as `\x` and two digits,
 /// and no bytes as `\-`.
 pub fn put_escaped<O: Sink>(out: &mut O, bytes: &[u8]) -> Result<(), WriteError>
-    ensures ok { OnOk result (O.written out.new ≡ appended (O.written out.old) (escaped bytes.now)) }
-    ensures err { OnErr result (AppendsFront (O.written out.old) (O.written out.new) (escaped bytes.now)) }
-    ensures failed { IsErrOf result WriteError.Failed → Rose (O.faults out.old) (O.faults out.new) }
-    ensures later { O.faults out.old ≤ O.faults out.new }
+    ensures { Puts result (O.written out.old) (O.written out.new) (O.faults out.old) (O.faults out.new) (escaped bytes.now) }
 {
     if bytes.is_empty() {
         return out.put(b"\\-");
@@ -25,10 +21,7 @@ pub fn put_escaped<O: Sink>(out: &mut O, bytes: &[u8]) -> Result<(), WriteError>
 }
 
 fn put_escaped_byte<O: Sink>(out: &mut O, byte: u8) -> Result<(), WriteError>
-    ensures ok { OnOk result (O.written out.new ≡ appended (O.written out.old) (escaped_byte byte)) }
-    ensures err { OnErr result (AppendsFront (O.written out.old) (O.written out.new) (escaped_byte byte)) }
-    ensures failed { IsErrOf result WriteError.Failed → Rose (O.faults out.old) (O.faults out.new) }
-    ensures later { O.faults out.old ≤ O.faults out.new }
+    ensures { Puts result (O.written out.old) (O.written out.new) (O.faults out.old) (O.faults out.new) (escaped_byte byte) }
 {
     if stands_for_itself(byte) {
         out.put(&[byte])
@@ -39,10 +32,7 @@ fn put_escaped_byte<O: Sink>(out: &mut O, byte: u8) -> Result<(), WriteError>
 
 /// Puts `\x` and the digits of a byte.
 fn put_code<O: Sink>(out: &mut O, byte: u8) -> Result<(), WriteError>
-    ensures ok { OnOk result (O.written out.new ≡ appended (O.written out.old) (code_of byte)) }
-    ensures err { OnErr result (AppendsFront (O.written out.old) (O.written out.new) (code_of byte)) }
-    ensures failed { IsErrOf result WriteError.Failed → Rose (O.faults out.old) (O.faults out.new) }
-    ensures later { O.faults out.old ≤ O.faults out.new }
+    ensures { Puts result (O.written out.old) (O.written out.new) (O.faults out.old) (O.faults out.new) (code_of byte) }
 {
     out.put(b"\\x")?;
     out.put(&hex_digits(byte))

@@ -1,7 +1,7 @@
 // The files that a program reads and writes.
 ghost use Rattle.std.specs.Prelude.{◌≡◌, ◌≤◌, [], ℕ, Option, None, is_ok, if◌then◌else◌, length, OnOk, OnErr, IfSome, IsErrOf};
 ghost use Rattle.ppdb_base.specs.declared.folder.ReadError.TheVariants as read_errors;
-ghost use Rattle.ppdb_base.specs.Causes.{Rose, counted};
+ghost use Rattle.ppdb_base.specs.Causes.{Rose, counted_where};
 ghost use Rattle.ppdb_base.specs.Files.{Files, reading, Answers, with_file, LeavesFront};
 
 use crate::list::{Bytes, Memory};
@@ -57,7 +57,7 @@ pub trait Folder {
 
         // What it changes.
         ensures later { read_faults self.old ≤ read_faults self.new }
-        ensures reads { reads self.new ≡ (if is_ok result then counted (reads self.old) else reads self.old) }
+        ensures reads { reads self.new ≡ counted_where (is_ok result) (reads self.old) }
         ensures files { files self.new ≡ files self.old }
         ensures write_faults { write_faults self.new ≡ write_faults self.old };
 

@@ -1,6 +1,8 @@
 // A vector that contracts see as a list.
-ghost use Rattle.std.specs.Prelude.{◌≡◌, [], ◌∷◌, ◌++◌, ◌↔◌, length, take, IsTrue, OnOk, OnErr};
-ghost use Rattle.std.specs.Prelude as prelude;
+ghost use Rattle.std.specs.Prelude.{◌≡◌, [], ◌∷◌, ◌++◌, ◌↔◌, length, take, option_to_list, IsTrue, IsNone, IsOk, IfOk, OnOk, OnErr};
+ghost use Rattle.std.specs.Borrow.{Lends, sem, Array};
+ghost use Rattle.std.specs.List.{refill};
+ghost use Rattle.ppdb_base.specs.contracts.list.List.{the_row};
 
 use std::alloc::{AllocError, AllocFailed, Global};
 use std::marker::Model;
@@ -31,6 +33,8 @@ pub struct List<T> {
 pub type Bytes = List<u8>;
 
 impl<T> Model for List<T> {
+    ghost use Rattle.std.specs.Prelude as prelude;
+
     ghost Value = { prelude.List T };
 
     ghost view = { λ l. l.items.items };
@@ -44,6 +48,30 @@ impl<T> List<T> {
         List {
             items: Vec::new(alloc),
         }
+    }
+
+    /// The empty list, with memory for `len` items.
+    pub fn with_capacity(alloc: Global, len: usize) -> Result<List<T>, Memory>
+        ensures empty { IfOk result (λ list. list ≡ []) }
+        ensures nothing { len ≡ 0 → IsOk result }
+    {
+        Ok(List {
+            items: Vec::with_capacity(alloc, len)?,
+        })
+    }
+
+    /// The list of a vector's items. It takes no memory.
+    pub fn from_vec(items: Vec<T>) -> List<T>
+        ensures { result ≡ items.items }
+    {
+        List { items }
+    }
+
+    /// The items as a vector. It takes no memory.
+    pub fn into_vec(self) -> Vec<T>
+        ensures { result.items ≡ self }
+    {
+        self.items
     }
 
     /// The number of items.
@@ -65,6 +93,30 @@ impl<T> List<T> {
         ensures { result.now ≡ self.now }
     {
         self.items.as_slice()
+    }
+
+    /// Lends the items, to be changed in their places; their number stays.
+    pub fn as_mut_slice(&mut self) -> &mut [T]
+        ensures* writes_back { sem 𝓛 (Lends (the_row T.row) (Array T.row 0) self.entry result (refill (length self.old) self.old)) }
+        ensures items { result.now ≡ self.old }
+    {
+        self.items.as_mut_slice()
+    }
+
+    /// Takes the last item out, if there is one. The list keeps its memory.
+    pub fn pop(&mut self) -> Option<T>
+        ensures items { self.old ≡ self.new ++ option_to_list result }
+        ensures none { IsNone result ↔ (self.old ≡ []) }
+    {
+        self.items.pop()
+    }
+
+    /// Asks for memory for so many further items. The items stay.
+    pub fn reserve(&mut self, further: usize) -> Result<(), Memory>
+        ensures { self.new ≡ self.old }
+    {
+        self.items.reserve(further)?;
+        Ok(())
     }
 }
 
@@ -90,6 +142,17 @@ impl<T: Drop> List<T> {
         ensures { self.new ≡ [] }
     {
         self.items.clear();
+    }
+}
+
+impl<T: Copy> List<T> {
+    /// A list of copies of the items, and memory for no more.
+    pub fn copied(alloc: Global, items: &[T]) -> Result<List<T>, Memory>
+        ensures { IfOk result (λ list. list ≡ items.now) }
+    {
+        Ok(List {
+            items: Vec::from_slice(alloc, items)?,
+        })
     }
 }
 

@@ -1,8 +1,7 @@
 // Where a program's text goes.
-ghost use Rattle.std.specs.Prelude.{◌≡◌, ◌≤◌, ℕ, List, Option, OnOk, OnErr, IsErrOf};
+ghost use Rattle.std.specs.Prelude.{◌≡◌, ℕ, List, Option};
 ghost use Rattle.ppdb_base.specs.declared.sink.WriteError.TheVariants as write_errors;
-ghost use Rattle.ppdb_base.specs.Causes.{Rose};
-ghost use Rattle.ppdb_base.specs.Written.{appended, AppendsFront};
+ghost use Rattle.ppdb_base.specs.Written.{Puts};
 
 use crate::list::Memory;
 
@@ -33,8 +32,5 @@ pub trait Sink {
 
     /// Puts bytes at the end.
     fn put(&mut self, bytes: &[u8]) -> Result<(), WriteError>
-        ensures ok { OnOk result (written self.new ≡ appended (written self.old) bytes.now) }
-        ensures err { OnErr result (AppendsFront (written self.old) (written self.new) bytes.now) }
-        ensures failed { IsErrOf result WriteError.Failed → Rose (faults self.old) (faults self.new) }
-        ensures later { faults self.old ≤ faults self.new };
+        ensures { Puts result (written self.old) (written self.new) (faults self.old) (faults self.new) bytes.now };
 }

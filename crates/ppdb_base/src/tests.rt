@@ -1,6 +1,6 @@
 use crate::{
-    Bytes, Code, Folder, List, MemoryFolder, MemorySink, ReadError, Sink, SteadyFolder, SteadySink,
-    WriteError, put_escaped,
+    Bytes, Code, Folder, List, Memory, MemoryFolder, MemorySink, ReadError, Sink, SteadyFolder,
+    SteadySink, WriteError, put_escaped,
 };
 
 #[test]
@@ -33,6 +33,24 @@ fn keeps_a_list(rt: HostRuntime) {
     assert_eq!(rt; bytes.as_slice(), b"ab".as_slice());
     bytes.clear();
     assert!(rt; bytes.is_empty());
+}
+
+#[test]
+fn works_on_a_list(rt: HostRuntime) {
+    let copied: Result<Bytes, Memory> = List::copied(rt.alloc(), b"dacb");
+    let mut bytes = copied.unwrap_or(List::new(rt.alloc()));
+    bytes.as_mut_slice().sort_unstable();
+    assert_eq!(rt; bytes.as_slice(), b"abcd".as_slice());
+    assert_eq!(rt; bytes.pop(), Some(b'd'));
+    assert_eq!(rt; bytes.reserve(9), Ok(()));
+    let mut bytes = List::from_vec(bytes.into_vec());
+    assert_eq!(rt; bytes.as_slice(), b"abc".as_slice());
+    bytes.clear();
+    assert_eq!(rt; bytes.pop(), None);
+    assert_eq!(rt;
+        Bytes::with_capacity(rt.alloc(), 4).is_ok_and(|list| list.is_empty()),
+        true
+    );
 }
 
 #[test]

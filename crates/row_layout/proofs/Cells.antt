@@ -2,7 +2,7 @@
 use Rattle.std.proofs.Common.{◌≡◌, ℕ, zero, suc, ◌+◌, ◌<◌, ◌≤◌, ◌^◌, List, [], ◌∷◌, ◌++◌, take, drop, length, sum, inl, inr, get_or, All, refl, ap, ◌∙◌, sym, subst, append_assoc, length-append, add-one, arith}
 use Rattle.std.proofs.lemmas.List.{take_more, drop_at, drop-drop, length-take-le, append-nil}
 use Rattle.std.proofs.lemmas.List.Elements.{AllZip-get_or}
-use Rattle.ppdb_base.proofs.Fields.{sum-append, sum_cons}
+use Rattle.ppdb_base.proofs.Fields.{sum_append, sum_cons}
 use Rattle.byteorder.specs.Endian.{little_number, little_bytes}
 use Rattle.byteorder.specs.Numbers.{little_number-reads_back, length-bytes_low_first}
 use Rattle.row_layout.specs.Rows.{Fit, row_bytes, cell_in, cell_place, places_from, IsWidth}
@@ -80,7 +80,7 @@ places_push (v ∷ vs) at w =
     ap (λ rest. at ∷ rest) (places_push vs (at + v) w ∙ ap (λ n. places_from (at + v) vs ++ n ∷ []) e)
 
 pub sum_more : (widths : List ℕ) (i : ℕ) → i < length widths → sum (take (i + 1) widths) ≡ sum (take i widths) + get_or widths i 0
-sum_more widths i h = rw (take_more widths i 0 h) (sum-append (take i widths) (get_or widths i 0 ∷ []) ∙ omega arith)
+sum_more widths i h = rw (take_more widths i 0 h) (sum_append (take i widths) (get_or widths i 0 ∷ []) ∙ omega arith)
 
 pub width_below : (widths : List ℕ) (i : ℕ) → i < length widths → All IsWidth widths → get_or widths i 0 ≤ 4
 width_below widths i h all =
