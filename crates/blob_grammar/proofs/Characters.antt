@@ -2,24 +2,8 @@
 use Rattle.std.proofs.Common.{◌≡◌, ℕ, zero, suc, ◌<◌, ◌≤◌, Bool, true, false, List, [], ◌∷◌, ◌++◌, length, take, refl, sym, ap, subst, arith, if◌then◌else◌, Result, Ok}
 use Rattle.std.proofs.lemmas.List.{length-take}
 use Rattle.ppdb_base.specs.declared.Code.{Code}
-use Rattle.blob_grammar.specs.Grammar.{Value, octets, IsCharacter}
-use Rattle.blob_grammar.specs.Reader.{is_character, character_len, character_of}
-
-character-is : (bytes : List ℕ) → is_character bytes ≡ true → IsCharacter bytes
-character-is [] h = absurd cc
-character-is (a ∷ []) h = grind arith
-character-is (a ∷ b ∷ []) h = grind arith
-character-is (a ∷ b ∷ c ∷ []) h = grind arith
-character-is (a ∷ b ∷ c ∷ d ∷ []) h = grind arith
-character-is (a ∷ b ∷ c ∷ d ∷ e ∷ es) h = absurd cc
-
-is-character : (bytes : List ℕ) → IsCharacter bytes → is_character bytes ≡ true
-is-character [] h = absurd h
-is-character (a ∷ []) h = grind arith
-is-character (a ∷ b ∷ []) h = grind arith
-is-character (a ∷ b ∷ c ∷ []) h = grind arith
-is-character (a ∷ b ∷ c ∷ d ∷ []) h = grind arith
-is-character (a ∷ b ∷ c ∷ d ∷ e ∷ es) h = absurd h
+use Rattle.blob_grammar.specs.Grammar.{Value, octets, is_character}
+use Rattle.blob_grammar.specs.Reader.{character_len, character_of}
 
 -- the first of four tests that holds
 chosen : (t u v w : Bool) (P : ℕ → Type 0) → P 0 → (t ≡ true → P 1) → (t ≡ false → u ≡ true → P 2) → (u ≡ false → v ≡ true → P 3) → (v ≡ false → w ≡ true → P 4)
@@ -33,29 +17,29 @@ chosen false false false false P none one two three four = none
 -- So many bytes at the front are a character; nothing is said of none.
 abbrev pub CharacterAt : List ℕ → ℕ → Type 0
 CharacterAt bytes zero = Unit {0}
-CharacterAt bytes (suc len) = IsCharacter (take (suc len) bytes) × (length (take (suc len) bytes) ≡ suc len)
+CharacterAt bytes (suc len) = (is_character (take (suc len) bytes) ≡ true) × (length (take (suc len) bytes) ≡ suc len)
 
 pub character-at : (bytes : List ℕ) → CharacterAt bytes (character_len bytes)
 unfolding character_len
 character-at [] = tt
 character-at (a ∷ []) =
     let t = is_character (a ∷ []) in
-    chosen t t t t (CharacterAt (a ∷ [])) tt (λ y. (character-is (a ∷ []) y, refl)) (λ n y. absurd cc) (λ n y. absurd cc) (λ n y. absurd cc)
+    chosen t t t t (CharacterAt (a ∷ [])) tt (λ y. (y, refl)) (λ n y. absurd cc) (λ n y. absurd cc) (λ n y. absurd cc)
 character-at (a ∷ b ∷ []) =
     let t = is_character (a ∷ []) in
     let u = is_character (a ∷ b ∷ []) in
-    chosen t u u u (CharacterAt (a ∷ b ∷ [])) tt (λ y. (character-is (a ∷ []) y, refl)) (λ n y. (character-is (a ∷ b ∷ []) y, refl)) (λ n y. absurd cc) (λ n y. absurd cc)
+    chosen t u u u (CharacterAt (a ∷ b ∷ [])) tt (λ y. (y, refl)) (λ n y. (y, refl)) (λ n y. absurd cc) (λ n y. absurd cc)
 character-at (a ∷ b ∷ c ∷ []) =
     let t = is_character (a ∷ []) in
     let u = is_character (a ∷ b ∷ []) in
     let v = is_character (a ∷ b ∷ c ∷ []) in
-    chosen t u v v (CharacterAt (a ∷ b ∷ c ∷ [])) tt (λ y. (character-is (a ∷ []) y, refl)) (λ n y. (character-is (a ∷ b ∷ []) y, refl)) (λ n y. (character-is (a ∷ b ∷ c ∷ []) y, refl)) (λ n y. absurd cc)
+    chosen t u v v (CharacterAt (a ∷ b ∷ c ∷ [])) tt (λ y. (y, refl)) (λ n y. (y, refl)) (λ n y. (y, refl)) (λ n y. absurd cc)
 character-at (a ∷ b ∷ c ∷ d ∷ bs) =
     let t = is_character (a ∷ []) in
     let u = is_character (a ∷ b ∷ []) in
     let v = is_character (a ∷ b ∷ c ∷ []) in
     let w = is_character (a ∷ b ∷ c ∷ d ∷ []) in
-    chosen t u v w (CharacterAt (a ∷ b ∷ c ∷ d ∷ bs)) tt (λ y. (character-is (a ∷ []) y, refl)) (λ n y. (character-is (a ∷ b ∷ []) y, refl)) (λ n y. (character-is (a ∷ b ∷ c ∷ []) y, refl)) (λ n y. (character-is (a ∷ b ∷ c ∷ d ∷ []) y, refl))
+    chosen t u v w (CharacterAt (a ∷ b ∷ c ∷ d ∷ bs)) tt (λ y. (y, refl)) (λ n y. (y, refl)) (λ n y. (y, refl)) (λ n y. (y, refl))
 
 not_one : (a : ℕ) → 0x80 ≤ a → is_character (a ∷ []) ≡ false
 not_one a h = grind arith
@@ -66,15 +50,14 @@ not_two a b h = grind arith
 not_three : (a b c : ℕ) → 0xF0 ≤ a → is_character (a ∷ b ∷ c ∷ []) ≡ false
 not_three a b c h = grind arith
 
-pub character-all : (text after : List ℕ) → IsCharacter text → character_len (text ++ after) ≡ length text
+pub character-all : (text after : List ℕ) → is_character text ≡ true → character_len (text ++ after) ≡ length text
 unfolding character_len
-character-all [] after h = absurd h
-character-all (a ∷ []) after h = rw (is-character (a ∷ []) h) refl
-character-all (a ∷ b ∷ []) after h = rw (not_one a (omega (arith, h.0)), is-character (a ∷ b ∷ []) h) refl
-character-all (a ∷ b ∷ c ∷ []) after h = rw (not_one a (omega (arith, h.0)), not_two a b (omega (arith, h.0)), is-character (a ∷ b ∷ c ∷ []) h) refl
-character-all (a ∷ b ∷ c ∷ d ∷ []) after h =
-    rw (not_one a (omega (arith, h.0)), not_two a b (omega (arith, h.0)), not_three a b c (omega (arith, h.0)), is-character (a ∷ b ∷ c ∷ d ∷ []) h) refl
-character-all (a ∷ b ∷ c ∷ d ∷ e ∷ es) after h = absurd h
+character-all [] after h = absurd cc
+character-all (a ∷ []) after h = rw h refl
+character-all (a ∷ b ∷ []) after h = let low : 0xC2 ≤ a = grind arith in rw (not_one a (omega arith), h) refl
+character-all (a ∷ b ∷ c ∷ []) after h = let low : 0xE0 ≤ a = grind arith in rw (not_one a (omega arith), not_two a b low, h) refl
+character-all (a ∷ b ∷ c ∷ d ∷ []) after h = let low : 0xF0 ≤ a = grind arith in rw (not_one a (omega arith), not_two a b (omega arith), not_three a b c low, h) refl
+character-all (a ∷ b ∷ c ∷ d ∷ e ∷ es) after h = absurd cc
 
 pub character_len-within : (bytes : List ℕ) → character_len bytes ≤ length bytes
 character_len-within bytes = within (character_len bytes) (character-at bytes)

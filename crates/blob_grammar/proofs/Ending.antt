@@ -102,7 +102,7 @@ blob_end-inside (fixed (suc len)) bytes small sane h =
     ]
 blob_end-inside rest [] small sane h = record { more = 0 ∷ []; some_more = λ e. cc; value = octets (0 ∷ []); spelled = (refl, omega arith, refl) }
 blob_end-inside rest (b ∷ bs) small sane h = absurd (h.1 (inl (record { bytes = b ∷ bs; value = octets (b ∷ bs) }, [], sym (append-nil (b ∷ bs)), (refl, omega arith, refl))))
-blob_end-inside character [] small sane h = record { more = 0 ∷ []; some_more = λ e. cc; value = octets (0 ∷ []); spelled = (refl, (omega arith, omega arith)) }
+blob_end-inside character [] small sane h = record { more = 0 ∷ []; some_more = λ e. cc; value = octets (0 ∷ []); spelled = (refl, refl) }
 blob_end-inside character (b ∷ bs) small sane h = absurd (h.1 (inr (refl, λ e. cc)))
 
 pub blob_end-nothing : (bytes : List ℕ) → IsFaultOf BlobEnd None bytes → bytes ≡ []

@@ -10,7 +10,7 @@ use Rattle.cli_ints.specs.Compressed.{SpellsUnsigned, SpellsSigned, bits_of, unr
 use Rattle.blob_grammar.proofs.Characters.{CharacterAt, character-at, character-all}
 use Rattle.ppdb_base.specs.declared.Code.{Code}
 use Rattle.ppdb_base.specs.declared.Code.TheVariants.{BlobEnd, IntegerForm, ValueRange}
-use Rattle.blob_grammar.specs.Grammar.{Value, number, integer, octets, Form, unsigned, signed, byte, word, fixed, rest, character, IsCharacter, Spells}
+use Rattle.blob_grammar.specs.Grammar.{Value, number, integer, octets, Form, unsigned, signed, byte, word, fixed, rest, character, is_character, Spells}
 use Rattle.blob_grammar.specs.Reading.{BeginsNoNumber}
 use Rattle.blob_grammar.specs.Reader.{field_at, as_number, as_integer, word_at, unsigned_at, two_at, four_at, signed_at, signed_of, character_of, character_len}
 
@@ -182,11 +182,11 @@ field-is rest [] = (λ n. n, λ e. absurd cc)
 field-is rest (b ∷ bytes) = record { text = b ∷ bytes; parts = sym (append-nil (b ∷ bytes)) ∙ ap (λ t. (b ∷ bytes) ++ t) (sym (drop-length (b ∷ bytes))); spelled = (refl, omega arith, drop-length (b ∷ bytes)); len_is = refl; positive = omega arith; within = omega arith }
 field-is character bytes = character-is bytes (character_len bytes) (character-at bytes)
 
-character_of-some : (text after : List ℕ) → IsCharacter text → character_of (text ++ after) (length text) ≡ Ok (octets text, length text)
-character_of-some [] after h = absurd h
+character_of-some : (text after : List ℕ) → is_character text ≡ true → character_of (text ++ after) (length text) ≡ Ok (octets text, length text)
+character_of-some [] after h = absurd cc
 character_of-some (a ∷ text) after h = ap (λ (xs : List ℕ). let r : Result (Value × ℕ) Code = Ok (octets xs, length (a ∷ text)) in r) (take-append_seam (a ∷ text) after)
 
-character-found : (text xs after : List ℕ) → xs ≡ text → IsCharacter text → character_of (text ++ after) (character_len (text ++ after)) ≡ Ok (octets xs, length text)
+character-found : (text xs after : List ℕ) → xs ≡ text → is_character text ≡ true → character_of (text ++ after) (character_len (text ++ after)) ≡ Ok (octets xs, length text)
 character-found text xs after e h = rw (character-all text after h, e) (character_of-some text after h)
 
 -- each field that stands there is found

@@ -1,15 +1,16 @@
 -- The fields that the plain reader takes are those of the longest valid front.
-use Rattle.std.proofs.Common.{◌≡◌, ℕ, zero, suc, ◌+◌, ◌<◌, Bool, true, false, ◌&&◌, List, [], ◌∷◌, ◌++◌, length, take, drop, Option, Some, None, Ok, Err, refl, sym, ap, subst, ◌∙◌, append_assoc, append-nil, arith, length-append}
+use Rattle.std.proofs.Common.{◌≡◌, ℕ, zero, suc, ◌+◌, ◌<◌, Bool, true, false, ◌&&◌, List, [], ◌∷◌, ◌++◌, length, take, drop, Option, Some, Ok, Err, refl, sym, ap, subst, ◌∙◌, append_assoc, append-nil, arith, length-append}
+use Rattle.std.specs.List.{flat_map}
 use Rattle.std.proofs.Math.Seq.{take-append_seam}
+use Rattle.std.proofs.lemmas.List.{length-drop}
 use Rattle.ppdb_base.specs.declared.Code.{Code}
-use Rattle.ppdb_base.specs.declared.Code.TheVariants.{BlobEnd, ValueRange}
 use Rattle.blob_grammar.specs.Grammar.{Value, Form, Field, Grammar, Cut, with_value, cut, MayFollow, AtFront}
-use Rattle.blob_grammar.specs.Reading.{IsLongestFront, HasBegun}
-use Rattle.blob_grammar.specs.Indexes.{indexes_of, HasIndexes}
-use Rattle.blob_grammar.specs.Reader.{field_at, is_empty, Step, field, stop, bad, stop_or, if_allowed, step_at, step_in, step, take_field, fields_for, fields_from, front_of, cut_from, begun_from}
+use Rattle.blob_grammar.specs.Reading.{IsLongestFront}
+use Rattle.blob_grammar.specs.Places.{PlacedField, placed_of, HasFields}
+use Rattle.blob_grammar.specs.Reader.{field_at, is_empty, Step, field, stop, bad, stop_or, if_allowed, step_at, step_in, step, take_field, fields_for, fields_from, front_of}
 use Rattle.blob_grammar.proofs.Fronts.{cut-push, front-push, longest_where_stuck, front-unique}
 use Rattle.blob_grammar.proofs.Readers.{whole_of, begun_of, StepIs, step-is}
-use Rattle.blob_grammar.proofs.Steps.{Shorter, shorter_in}
+use Rattle.blob_grammar.proofs.Steps.{Takes, takes_in}
 
 abbrev IsFront : {R : Type 0} → Grammar R → List ℕ → List Field → Type 0
 IsFront g blob fields = (after : List ℕ) × IsLongestFront g blob fields after
@@ -54,26 +55,19 @@ front_of-longest g blob = fields_for-longest g blob (suc (length blob)) [] blob 
 pub longest-front_of : {R : Type 0} (g : Grammar R) (blob : List ℕ) (fields : List Field) (after : List ℕ) → IsLongestFront g blob fields after → fields ≡ front_of g blob
 longest-front_of g blob fields after h = let f = front_of-longest g blob in (front-unique g blob fields (front_of g blob) after f.0 h f.1).0
 
-pub begun_from-is : {R : Type 0} (g : Grammar R) (blob : List ℕ) → HasBegun g blob (begun_from g [] [] blob)
-unfolding begun_from
-begun_from-is g blob = let f = front_of-longest g blob in record { fields = front_of g blob; after = f.0; front = f.1; begun_is = refl }
+-- What a walk tells of the fields that the plain reader takes.
+pub front_of-fields : {R X : Type 0} (g : Grammar R) (tell : PlacedField → List X) (blob : List ℕ) → HasFields g tell blob (flat_map tell (placed_of g (front_of g blob)))
+front_of-fields g tell blob = let f = front_of-longest g blob in record { fields = front_of g blob; after = f.0; front = f.1; items_are = refl }
 
-pub begun-unique : {R : Type 0} (g : Grammar R) (blob : List ℕ) (a b : List Value) → HasBegun g blob a → HasBegun g blob b → a ≡ b
-begun-unique g blob a b p q =
-    p.begun_is ∙ ap (λ (fs : List Field). (cut g fs).begun) (front-unique g blob p.fields q.fields p.after q.after p.front q.front).0 ∙ sym q.begun_is
-
-pub front_of-indexes : {R : Type 0} (g : Grammar R) (is_index : List R → List Value → Bool) (blob : List ℕ) → HasIndexes g is_index blob (indexes_of g is_index (front_of g blob))
-front_of-indexes g is_index blob = let f = front_of-longest g blob in record { fields = front_of g blob; after = f.0; front = f.1; indexes_are = refl }
-
-pub indexes-unique : {R : Type 0} (g : Grammar R) (is_index : List R → List Value → Bool) (blob : List ℕ) (a b : List (ℕ × ℕ)) → HasIndexes g is_index blob a → HasIndexes g is_index blob b → a ≡ b
-indexes-unique g is_index blob a b p q =
-    p.indexes_are ∙ ap (λ (fs : List Field). indexes_of g is_index fs) (front-unique g blob p.fields q.fields p.after q.after p.front q.front).0 ∙ sym q.indexes_are
+-- There is one such list.
+pub fields-are : {R X : Type 0} (g : Grammar R) (tell : PlacedField → List X) (blob : List ℕ) (items : List X) → HasFields g tell blob items → items ≡ flat_map tell (placed_of g (front_of g blob))
+fields-are g tell blob items h = h.items_are ∙ ap (λ (fs : List Field). flat_map tell (placed_of g fs)) (longest-front_of g blob h.fields h.after h.front)
 
 -- ---- a step at a time
 
-same_take : {R : Type 0} (g : Grammar R) (h k : ℕ → List R → List Value → List Field) (place : Cut R) (bytes : List ℕ) (s : Step) → Shorter bytes s
+same_take : {R : Type 0} (g : Grammar R) (h k : ℕ → List R → List Value → List Field) (place : Cut R) (bytes : List ℕ) (s : Step) → Takes bytes s
     → ((len : ℕ) → length (drop len bytes) < length bytes → (w : List R) (b : List Value) → h len w b ≡ k len w b) → take_field g h place bytes s ≡ take_field g k place bytes s
-same_take g h k place bytes (field value len) less e = ap (λ (l : List Field). record { bytes = take len bytes; value = value } ∷ l) (e len less (with_value g place value).whole (with_value g place value).begun)
+same_take g h k place bytes (field value len) less e = ap (λ (l : List Field). record { bytes = take len bytes; value = value } ∷ l) (e len (omega (arith, less.0, less.1, length-drop len bytes)) (with_value g place value).whole (with_value g place value).begun)
 same_take g h k place bytes stop less e = refl
 same_take g h k place bytes (bad code) less e = refl
 
@@ -82,7 +76,7 @@ unfolding fields_for
 fields-enough g zero n whole begun bytes p q = absurd (omega arith)
 fields-enough g (suc m) zero whole begun bytes p q = absurd (omega arith)
 fields-enough g (suc m) (suc n) whole begun bytes p q =
-    same_take g (λ len w b. fields_for m g w b (drop len bytes)) (λ len w b. fields_for n g w b (drop len bytes)) (record { whole = whole; begun = begun }) bytes (step g whole begun bytes) (shorter_in g whole begun bytes (g.form whole begun))
+    same_take g (λ len w b. fields_for m g w b (drop len bytes)) (λ len w b. fields_for n g w b (drop len bytes)) (record { whole = whole; begun = begun }) bytes (step g whole begun bytes) (takes_in g whole begun bytes (g.form whole begun))
     (λ len less w b. fields-enough g m n w b (drop len bytes) (omega arith) (omega arith))
 
 -- The fields from a place on are what one step takes, and the fields from there on.
@@ -90,7 +84,7 @@ pub fields_from-step : {R : Type 0} (g : Grammar R) (whole : List R) (begun : Li
     → fields_from g whole begun bytes ≡ take_field g (λ len w b. fields_from g w b (drop len bytes)) (record { whole = whole; begun = begun }) bytes (step g whole begun bytes)
 unfolding fields_for fields_from
 fields_from-step g whole begun bytes =
-    same_take g (λ len w b. fields_for (length bytes) g w b (drop len bytes)) (λ len w b. fields_for (suc (length (drop len bytes))) g w b (drop len bytes)) (record { whole = whole; begun = begun }) bytes (step g whole begun bytes) (shorter_in g whole begun bytes (g.form whole begun))
+    same_take g (λ len w b. fields_for (length bytes) g w b (drop len bytes)) (λ len w b. fields_for (suc (length (drop len bytes))) g w b (drop len bytes)) (record { whole = whole; begun = begun }) bytes (step g whole begun bytes) (takes_in g whole begun bytes (g.form whole begun))
     (λ len less w b. fields-enough g (length bytes) (suc (length (drop len bytes))) w b (drop len bytes) less (omega arith))
 
 abbrev place : {R : Type 0} → List R → List Value → Cut R
@@ -124,23 +118,3 @@ pub fields-none : {R : Type 0} (g : Grammar R) (whole : List R) (begun : List Va
 fields-none g whole begun bytes form code expected none =
     fields_to g whole begun bytes (Some form) (step_at g whole begun bytes (Err code)) expected (ap (step_at g whole begun bytes) none)
     ∙ no_step g (λ len w b. fields_from g w b (drop len bytes)) (place whole begun) bytes (is_empty bytes && g.may_stop whole begun) code
-
--- Nor where nothing may follow.
-pub fields-nothing : {R : Type 0} (g : Grammar R) (whole : List R) (begun : List Value) (bytes : List ℕ) → g.form whole begun ≡ None → fields_from g whole begun bytes ≡ []
-fields-nothing g whole begun [] expected =
-    fields_to g whole begun [] None (stop_or (g.may_stop whole begun) BlobEnd) expected refl ∙ no_step g (λ len w b. fields_from g w b (drop len [])) (place whole begun) [] (g.may_stop whole begun) BlobEnd
-fields-nothing g whole begun (b ∷ bytes) expected = fields_to g whole begun (b ∷ bytes) None (bad ValueRange) expected refl
-
--- ---- what has begun, a step at a time
-
-pub begun-field : {R : Type 0} (g : Grammar R) (whole : List R) (begun : List Value) (bytes : List ℕ) (form : Form) (value : Value) (len : ℕ)
-    → g.form whole begun ≡ Some form → field_at form bytes ≡ Ok (value, len) → g.allows whole begun value ≡ true
-    → begun_from g whole begun bytes ≡ begun_from g (with_value g (place whole begun) value).whole (with_value g (place whole begun) value).begun (drop len bytes)
-unfolding begun_from
-begun-field g whole begun bytes form value len expected found allowed =
-    ap (λ (fs : List Field). (cut_from g (place whole begun) fs).begun) (fields-field g whole begun bytes form value len expected found allowed)
-
--- Where no field follows, what has begun is what had.
-pub begun-end : {R : Type 0} (g : Grammar R) (whole : List R) (begun : List Value) (bytes : List ℕ) → fields_from g whole begun bytes ≡ [] → begun_from g whole begun bytes ≡ begun
-unfolding begun_from
-begun-end g whole begun bytes none = ap (λ (fs : List Field). (cut_from g (place whole begun) fs).begun) none

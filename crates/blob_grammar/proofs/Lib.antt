@@ -9,3 +9,5 @@ pub mod Placed
 pub mod Written
 pub mod Ending
 pub mod FrontFields
+pub mod Walks
+pub mod ReadRecords

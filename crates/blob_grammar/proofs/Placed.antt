@@ -1,15 +1,12 @@
 -- What a number that was read at a place says of the bytes there.
-use Rattle.std.proofs.Common.{◌≡◌, ℕ, ◌+◌, ◌≤◌, List, [], ◌∷◌, length, drop, Result, Ok, Err, refl, sym, ap, arith, ℤ, ◌⊎◌, inl, inr}
-use Rattle.std.specs.Prelude.{IfOk}
-use Rattle.std.proofs.lemmas.List.{length-drop}
-use Rattle.cli_ints.specs.declared.IntFault.TheVariants.{End}
+use Rattle.std.proofs.Common.{◌≡◌, ℕ, ◌≤◌, List, length, Result, Ok, Err, refl, sym, ap, arith}
 use Rattle.cli_ints.specs.declared.IntFault.{IntFault}
-use Rattle.cli_ints.specs.Compressed.{SpellsUnsigned, SpellsSigned}
+use Rattle.cli_ints.specs.Compressed.{SpellsUnsigned}
 use Rattle.ppdb_base.specs.declared.BlobFault.{BlobFault}
-use Rattle.blob_grammar.specs.Reader.{placed, code_of, word_at, as_number, field_at, unsigned_at, signed_at}
+use Rattle.blob_grammar.specs.Reader.{placed, code_of, word_at, as_number, field_at, unsigned_at}
 use Rattle.blob_grammar.specs.Grammar.{number, Form, unsigned, word}
 use Rattle.ppdb_base.specs.declared.Code.{Code}
-use Rattle.blob_grammar.proofs.Fields.{IntFound, unsigned-is, signed-is}
+use Rattle.blob_grammar.proofs.Fields.{IntFound, unsigned-is}
 
 pub placed_ok : {V : Type 0} (at : ℕ) (r : Result (V × ℕ) IntFault) (x : V × ℕ) → placed at r ≡ Ok x → r ≡ Ok x
 placed_ok at (Ok y) x e = cc
@@ -31,27 +28,6 @@ within P bytes (Err y) x f e = absurd cc
 -- a number lies within the bytes
 pub unsigned_within : (bytes : List ℕ) (x : ℕ × ℕ) → unsigned_at bytes ≡ Ok x → (1 ≤ x.1) × (x.1 ≤ length bytes)
 unsigned_within bytes x e = within (λ t v. SpellsUnsigned t v) bytes (unsigned_at bytes) x (unsigned-is bytes) e
-
-pub signed_within : (bytes : List ℕ) (x : ℤ × ℕ) → signed_at bytes ≡ Ok x → (1 ≤ x.1) × (x.1 ≤ length bytes)
-signed_within bytes x e = within (λ t v. SpellsSigned t v) bytes (signed_at bytes) x (signed-is bytes) e
-
-reaches : {V : Type 0} (P : List ℕ → V → Type 0) (blob : List ℕ) (at : ℕ) (r : Result (V × ℕ) IntFault) → at ≤ length blob → IntFound P (drop at blob) r → IfOk (placed at r) (λ x. at + x.1 ≤ length blob)
-reaches P blob at (Ok x) less f = omega (arith, f.within, length-drop at blob)
-reaches P blob at (Err e) less f = tt
-
-word_found : (bytes : List ℕ) → IntFound (λ t n. Unit {0}) bytes (word_at bytes) ⊎ (word_at bytes ≡ Err End)
-word_found [] = inr refl
-word_found (a ∷ []) = inr refl
-word_found (a ∷ b ∷ []) = inr refl
-word_found (a ∷ b ∷ c ∷ []) = inr refl
-word_found (a ∷ b ∷ c ∷ d ∷ bs) = inl (record { text = a ∷ b ∷ c ∷ d ∷ []; parts = refl; spelled = tt; len_is = refl; positive = omega arith; within = omega arith })
-
--- a number that was found ends within the blob
-pub unsigned_ends : (blob : List ℕ) (at : ℕ) → at ≤ length blob → IfOk (placed at (unsigned_at (drop at blob))) (λ x. at + x.1 ≤ length blob)
-unsigned_ends blob at less = reaches SpellsUnsigned blob at (unsigned_at (drop at blob)) less (unsigned-is (drop at blob))
-
-pub signed_ends : (blob : List ℕ) (at : ℕ) → at ≤ length blob → IfOk (placed at (signed_at (drop at blob))) (λ x. at + x.1 ≤ length blob)
-signed_ends blob at less = reaches SpellsSigned blob at (signed_at (drop at blob)) less (signed-is (drop at blob))
 
 pub unsigned_there : (at : ℕ) (bytes : List ℕ) (v len : ℕ) → placed at (unsigned_at bytes) ≡ Ok (v, len) → field_at unsigned bytes ≡ Ok (number v, len)
 unsigned_there at bytes v len e = ap as_number (placed_ok at (unsigned_at bytes) (v, len) e)

@@ -1,5 +1,5 @@
 -- The plain reader a step at a time, and the records before a place seen through what the grammar asks of them.
-use Rattle.std.proofs.Common.{◌≡◌, ℕ, zero, suc, ◌+◌, ◌<◌, ◌≤◌, Bool, true, false, ◌&&◌, List, [], ◌∷◌, ◌++◌, length, drop, Option, Some, None, Result, Ok, Err, ltb, refl, ap, ◌∙◌, arith, length-append}
+use Rattle.std.proofs.Common.{◌≡◌, ℕ, zero, suc, ◌+◌, ◌<◌, ◌≤◌, Bool, true, false, ◌&&◌, List, [], ◌∷◌, ◌++◌, length, drop, Option, Some, None, Result, Ok, Err, ltb, refl, ap, ◌∙◌, arith}
 use Rattle.ppdb_base.specs.declared.Code.{Code}
 use Rattle.ppdb_base.specs.declared.Code.TheVariants.{BlobEnd, ValueRange}
 use Rattle.std.proofs.lemmas.List.{length-drop, drop-drop, drop_all}
@@ -10,36 +10,37 @@ use Rattle.blob_grammar.proofs.Fields.{Front, FieldFound, field-is}
 
 -- ---- the turns do not matter, if there are enough
 
-abbrev pub Shorter : List ℕ → Step → Type 0
-Shorter bytes (field value len) = length (drop len bytes) < length bytes
-Shorter bytes stop = Unit {0}
-Shorter bytes (bad code) = Unit {0}
+-- A step takes some of the bytes.
+abbrev pub Takes : List ℕ → Step → Type 0
+Takes bytes (field value len) = (1 ≤ len) × (len ≤ length bytes)
+Takes bytes stop = Unit {0}
+Takes bytes (bad code) = Unit {0}
 
-shorter_value : (bytes : List ℕ) (form : Form) (x : Value × ℕ) (b : Bool) → Front (λ text. Unit {0}) bytes x.1 → Shorter bytes (if_allowed b x.0 x.1)
-shorter_value bytes form x true f = omega (arith, ap length f.parts, length-append f.text (drop x.1 bytes), f.len_is, f.positive)
-shorter_value bytes form x false f = tt
+takes_value : (bytes : List ℕ) (form : Form) (x : Value × ℕ) (b : Bool) → Front (λ text. Unit {0}) bytes x.1 → Takes bytes (if_allowed b x.0 x.1)
+takes_value bytes form x true f = (omega (arith, f.len_is, f.positive), omega (arith, f.within))
+takes_value bytes form x false f = tt
 
-shorter_stop : (bytes : List ℕ) (b : Bool) (code : Code) → Shorter bytes (stop_or b code)
-shorter_stop bytes true code = tt
-shorter_stop bytes false code = tt
+takes_stop : (bytes : List ℕ) (b : Bool) (code : Code) → Takes bytes (stop_or b code)
+takes_stop bytes true code = tt
+takes_stop bytes false code = tt
 
-shorter_form : {R : Type 0} (g : Grammar R) (whole : List R) (begun : List Value) (bytes : List ℕ) (form : Form) (r : Result (Value × ℕ) Code) → FieldFound form bytes r → Shorter bytes (step_at g whole begun bytes r)
-shorter_form g whole begun bytes form (Ok x) f = shorter_value bytes form x (g.allows whole begun x.0) (record { text = f.text; parts = f.parts; spelled = tt; len_is = f.len_is; positive = f.positive; within = f.within })
-shorter_form g whole begun bytes form (Err code) f = shorter_stop bytes (is_empty bytes && g.may_stop whole begun) code
+takes_form : {R : Type 0} (g : Grammar R) (whole : List R) (begun : List Value) (bytes : List ℕ) (form : Form) (r : Result (Value × ℕ) Code) → FieldFound form bytes r → Takes bytes (step_at g whole begun bytes r)
+takes_form g whole begun bytes form (Ok x) f = takes_value bytes form x (g.allows whole begun x.0) (record { text = f.text; parts = f.parts; spelled = tt; len_is = f.len_is; positive = f.positive; within = f.within })
+takes_form g whole begun bytes form (Err code) f = takes_stop bytes (is_empty bytes && g.may_stop whole begun) code
 
-pub shorter_in : {R : Type 0} (g : Grammar R) (whole : List R) (begun : List Value) (bytes : List ℕ) (o : Option Form) → Shorter bytes (step_in g whole begun bytes o)
-shorter_in g whole begun bytes (Some form) = shorter_form g whole begun bytes form (field_at form bytes) (field-is form bytes)
-shorter_in g whole begun [] None = shorter_stop [] (g.may_stop whole begun) BlobEnd
-shorter_in g whole begun (b ∷ bytes) None = tt
+pub takes_in : {R : Type 0} (g : Grammar R) (whole : List R) (begun : List Value) (bytes : List ℕ) (o : Option Form) → Takes bytes (step_in g whole begun bytes o)
+takes_in g whole begun bytes (Some form) = takes_form g whole begun bytes form (field_at form bytes) (field-is form bytes)
+takes_in g whole begun [] None = takes_stop [] (g.may_stop whole begun) BlobEnd
+takes_in g whole begun (b ∷ bytes) None = tt
 
 -- the reader goes on alike by two continuations that agree after the field
 same_close : {R : Type 0} (h k : List R → List Value → Left R) (whole : List R) (begun : List Value) (o : Option R) → ((w : List R) (b : List Value) → h w b ≡ k w b) → close_and h whole begun o ≡ close_and k whole begun o
 same_close h k whole begun None e = e whole begun
 same_close h k whole begun (Some r) e = ap (λ left. push r left) (e (whole ++ r ∷ []) [])
 
-same_take : {R : Type 0} (g : Grammar R) (h k : ℕ → List R → List Value → Left R) (whole : List R) (begun : List Value) (at : ℕ) (bytes : List ℕ) (s : Step) → Shorter bytes s
+same_take : {R : Type 0} (g : Grammar R) (h k : ℕ → List R → List Value → Left R) (whole : List R) (begun : List Value) (at : ℕ) (bytes : List ℕ) (s : Step) → Takes bytes s
     → ((len : ℕ) → length (drop len bytes) < length bytes → (w : List R) (b : List Value) → h len w b ≡ k len w b) → take_step g h whole begun at s ≡ take_step g k whole begun at s
-same_take g h k whole begun at bytes (field value len) less e = same_close (h len) (k len) whole (begun ++ value ∷ []) (g.record_of whole (begun ++ value ∷ [])) (e len less)
+same_take g h k whole begun at bytes (field value len) less e = same_close (h len) (k len) whole (begun ++ value ∷ []) (g.record_of whole (begun ++ value ∷ [])) (e len (omega (arith, less.0, less.1, length-drop len bytes)))
 same_take g h k whole begun at bytes stop less e = refl
 same_take g h k whole begun at bytes (bad code) less e = refl
 
@@ -48,7 +49,7 @@ unfolding read_for
 enough g zero n whole begun at bytes p q = absurd (omega arith)
 enough g (suc m) zero whole begun at bytes p q = absurd (omega arith)
 enough g (suc m) (suc n) whole begun at bytes p q =
-    same_take g (λ len w b. read_for m g w b (at + len) (drop len bytes)) (λ len w b. read_for n g w b (at + len) (drop len bytes)) whole begun at bytes (step g whole begun bytes) (shorter_in g whole begun bytes (g.form whole begun))
+    same_take g (λ len w b. read_for m g w b (at + len) (drop len bytes)) (λ len w b. read_for n g w b (at + len) (drop len bytes)) whole begun at bytes (step g whole begun bytes) (takes_in g whole begun bytes (g.form whole begun))
     (λ len less w b. enough g m n w b (at + len) (drop len bytes) (omega arith) (omega arith))
 
 -- What is left is what one step takes, and what is left then.
@@ -56,7 +57,7 @@ pub read_from-step : {R : Type 0} (g : Grammar R) (whole : List R) (begun : List
     → read_from g whole begun at bytes ≡ take_step g (λ len w b. read_from g w b (at + len) (drop len bytes)) whole begun at (step g whole begun bytes)
 unfolding read_for read_from
 read_from-step g whole begun at bytes =
-    same_take g (λ len w b. read_for (length bytes) g w b (at + len) (drop len bytes)) (λ len w b. read_for (suc (length (drop len bytes))) g w b (at + len) (drop len bytes)) whole begun at bytes (step g whole begun bytes) (shorter_in g whole begun bytes (g.form whole begun))
+    same_take g (λ len w b. read_for (length bytes) g w b (at + len) (drop len bytes)) (λ len w b. read_for (suc (length (drop len bytes))) g w b (at + len) (drop len bytes)) whole begun at bytes (step g whole begun bytes) (takes_in g whole begun bytes (g.form whole begun))
     (λ len less w b. enough g (length bytes) (suc (length (drop len bytes))) w b (at + len) (drop len bytes) less (omega arith))
 
 -- ---- what came before, seen through what the grammar asks of it

@@ -5,9 +5,11 @@ use Rattle.ppdb_base.specs.declared.Code.{Code}
 use Rattle.ppdb_base.specs.declared.Code.TheVariants.{BlobEnd, IntegerForm, ValueRange}
 use Rattle.ppdb_base.specs.declared.BlobFault.{BlobFault}
 use Rattle.blob_grammar.specs.Grammar.{Value, number, integer, octets, Form, unsigned, signed, byte, word, fixed, rest, character, Spells, Field, Grammar, cut}
-use Rattle.blob_grammar.specs.Reading.{BeginsNoNumber, IsOutOfRange, IsFaultOf, Ends, Reading}
+use Rattle.blob_grammar.specs.Reading.{BeginsNoNumber, IsOutOfRange, IsFaultOf, Ends, Reading, IsReadOnce}
+use Rattle.blob_grammar.specs.Reader.{read_from}
 use Rattle.blob_grammar.proofs.Fields.{BeginsNone}
 use Rattle.blob_grammar.proofs.Fronts.{front-unique}
+use Rattle.blob_grammar.proofs.Readers.{read_from-reads}
 
 no_number : (text : List ℕ) (v : ℕ) (left : List ℕ) → SpellsUnsigned text v → BeginsNone (text ++ left) → ⊥
 no_number [] v left h n = h
@@ -102,3 +104,15 @@ reading-unique g blob a b e d p q =
     let t : p.after ≡ q.after = r.1 in
     let ends : Ends g p.fields p.after d = subst (λ (fs : List Field). Ends g fs p.after d) (sym f) (subst (λ (x : List ℕ). Ends g q.fields x d) (sym t) q.ends) in
     (p.made ∙ ap (λ (fs : List Field). (cut g fs).whole) f ∙ sym q.made, ends-unique g p.fields p.after e d p.ends ends)
+
+-- So each blob is read in one way.
+pub read-once : {R : Type 0} (g : Grammar R) (blob : List ℕ) → IsReadOnce g blob
+read-once g blob =
+    let left = read_from g [] [] 0 blob in
+    record {
+      records = left.items;
+      fault = left.fault;
+      reading = read_from-reads g blob;
+      one_front = λ a b x y p q. front-unique g blob a b x y p q;
+      one_reading = λ others end h. reading-unique g blob others left.items end left.fault h (read_from-reads g blob);
+    }

@@ -1,10 +1,17 @@
 -- Records that are written one after the other, each allowed after those before it, are read again.
-use Rattle.std.proofs.Common.{◌≡◌, ℕ, true, List, [], ◌∷◌, ◌++◌, None, refl, sym, ap, subst, ◌∙◌, append_assoc, append-nil, arith, ◌≤◌}
+use Rattle.std.proofs.Common.{◌≡◌, ℕ, ◌+◌, ◌^◌, ◌<◌, true, List, [], ◌∷◌, ◌++◌, length, length-append, Some, None, refl, sym, ap, subst, ◌∙◌, append_assoc, append-nil, arith}
+use Rattle.std.specs.List.{flat_map}
 use Rattle.std.proofs.lemmas.List.Sums.{fold-append}
 use Rattle.std.proofs.lemmas.Grind.{flat_map-append}
-use Rattle.blob_grammar.specs.Grammar.{Value, number, integer, octets, Form, unsigned, signed, byte, word, fixed, rest, character, Spells, Field, Grammar, Cut, with_value, cut, bytes_of, IsAllowed, EachFollows}
-use Rattle.blob_grammar.specs.Reading.{Reading}
+use Rattle.blob_grammar.specs.Grammar.{number, unsigned, Field, Grammar, Cut, with_value, cut, bytes_of, IsAllowed, EachFollows}
+use Rattle.blob_grammar.specs.Reading.{IsLongestFront, Reading}
+use Rattle.blob_grammar.specs.Places.{PlacedField, placed_from, placed_of, HasFields}
+use Rattle.blob_grammar.specs.Reader.{field_at}
 pub use Rattle.blob_grammar.specs.Reader.{cut_from}
+use Rattle.cli_ints.specs.Compressed.{SpellsUnsigned}
+use Rattle.cli_ints.specs.Shortest.{short_unsigned}
+use Rattle.cli_ints.proofs.Shortest.{short_unsigned-shortest}
+use Rattle.blob_grammar.proofs.Fields.{FieldFound, field-is, field-all}
 use Rattle.blob_grammar.proofs.Fronts.{cut-push, IsStuck, longest_where_stuck}
 
 -- the fields are allowed after a place
@@ -56,42 +63,48 @@ all_follow g fields_of MayAdd w whole (r ∷ rs) left h =
       cut_from-append g (after whole) fs gs ∙ ap (λ c. cut_from g c gs) made ∙ again.1 ∙ ap after (append_assoc whole (r ∷ []) rs),
     )
 
-no_bytes : (form : Form) (value : Value) (left : List ℕ) → Spells form [] value left → ⊥
-no_bytes unsigned (number n) left h = h
-no_bytes unsigned (integer z) left h = h
-no_bytes unsigned (octets xs) left h = h
-no_bytes signed (number n) left h = h
-no_bytes signed (integer z) left h = h.1
-no_bytes signed (octets xs) left h = h
-no_bytes byte (number n) left h = cc
-no_bytes byte (integer z) left h = h
-no_bytes byte (octets xs) left h = h
-no_bytes word (number n) left h = omega (arith, h.0)
-no_bytes word (integer z) left h = h
-no_bytes word (octets xs) left h = h
-no_bytes (fixed len) (number n) left h = h
-no_bytes (fixed len) (integer z) left h = h
-no_bytes (fixed len) (octets xs) left h = let a : 0 ≡ len = h.1 in let b : 1 ≤ len = h.2 in omega arith
-no_bytes rest (number n) left h = h
-no_bytes rest (integer z) left h = h
-no_bytes rest (octets xs) left h = omega (arith, h.1)
-no_bytes character (number n) left h = h
-no_bytes character (integer z) left h = h
-no_bytes character (octets xs) left h = h.1
+-- ---- the end of what is written
 
-both_nil : (a b : List ℕ) → [] ≡ a ++ b → a ≡ []
-both_nil [] b e = refl
-both_nil (x ∷ a) b e = absurd cc
-
+-- no field stands where no byte is left
 stuck_at_end : {R : Type 0} (g : Grammar R) (fs : List Field) → IsStuck g fs []
-stuck_at_end g fs f left e m = no_bytes m.form f.value left (subst (λ b. Spells m.form b f.value left) (both_nil f.bytes left e) m.spelled)
+stuck_at_end g fs f left e m =
+    let there = ap (field_at m.form) e ∙ field-all m.form f.bytes f.value left m.spelled in
+    let none = subst (FieldFound m.form []) there (field-is m.form []) in
+    omega (arith, none.positive, none.within)
+
+-- Fields that are allowed one after the other are the longest valid front of what they spell.
+pub fields_longest : {R : Type 0} (g : Grammar R) (fs : List Field) → FollowFrom g (after []) fs [] → IsLongestFront g (bytes_of fs) fs []
+fields_longest g fs h = longest_where_stuck g (bytes_of fs) fs [] (record { bytes = sym (append-nil (bytes_of fs)); each = follow-each g [] fs [] h }) (stuck_at_end g fs)
+
+-- So a walk tells of them, and of nothing else.
+pub written_fields : {R X : Type 0} (g : Grammar R) (tell : PlacedField → List X) (fs : List Field) → FollowFrom g (after []) fs [] → HasFields g tell (bytes_of fs) (flat_map tell (placed_of g fs))
+written_fields g tell fs h = record { fields = fs; after = []; front = fields_longest g fs h; items_are = refl }
+
+pub placed_from-append : {R : Type 0} (g : Grammar R) (c : Cut R) (at : ℕ) (fs gs : List Field) → placed_from g c at (fs ++ gs) ≡ placed_from g c at fs ++ placed_from g (cut_from g c fs) (at + length (bytes_of fs)) gs
+placed_from-append g c at [] gs = ap (λ n. placed_from g c n gs) (let e : at ≡ at + 0 = omega arith in e)
+placed_from-append g c at (f ∷ fs) gs =
+    let next = with_value g c f.value in
+    let e : at + length f.bytes + length (bytes_of fs) ≡ at + length (f.bytes ++ bytes_of fs) = omega (arith, length-append f.bytes (bytes_of fs)) in
+    ap (λ l. record { byte = at; before = c.begun; value = f.value } ∷ l)
+    (placed_from-append g next (at + length f.bytes) fs gs ∙ ap (λ n. placed_from g next (at + length f.bytes) fs ++ placed_from g (cut_from g next fs) n gs) e)
+
+-- ---- a number as a field
+
+abbrev pub number_field : ℕ → Field
+number_field n = record { bytes = short_unsigned n; value = number n }
+
+pub number_spelled : (n : ℕ) → n < 2 ^ 29 → SpellsUnsigned (short_unsigned n) n
+number_spelled n small = (short_unsigned-shortest n small).spelled
+
+pub number_allowed : {R : Type 0} (g : Grammar R) (place : Cut R) (n : ℕ) (left : List ℕ) → g.form place.whole place.begun ≡ Some unsigned → n < 2 ^ 29 → g.allows place.whole place.begun (number n) ≡ true → IsAllowed g place (number_field n) left
+number_allowed g place n left form small h = record { form = unsigned; expected = form; spelled = number_spelled n small; allowed = h }
 
 -- What fields spell that are allowed one after the other, and after which the grammar may stop, is read so.
 pub fields_read : {R : Type 0} (g : Grammar R) (fs : List Field) → FollowFrom g (after []) fs [] → g.may_stop (cut g fs).whole (cut g fs).begun ≡ true → Reading g (bytes_of fs) (cut g fs).whole None
 fields_read g fs h stops = record {
   fields = fs;
   after = [];
-  front = longest_where_stuck g (bytes_of fs) fs [] (record { bytes = sym (append-nil (bytes_of fs)); each = follow-each g [] fs [] h }) (stuck_at_end g fs);
+  front = fields_longest g fs h;
   made = refl;
   ends = (refl, stops);
 }

@@ -1,5 +1,5 @@
 -- Blobs of the #Blob heap as lists of fields (Portable PDB v1.0, the formats of its blobs; ECMA-335 II.23.2).
-use Rattle.std.specs.Prelude.{◌≡◌, ℕ, ◌≤◌, List, [], ◌∷◌, ◌++◌, length, Option, Some, None, Bool, true, ℤ, ◌==◌, if◌then◌else◌}
+use Rattle.std.specs.Prelude.{◌≡◌, ℕ, ◌≤◌, List, [], ◌∷◌, ◌++◌, length, Option, Some, None, Bool, true, false, ◌&&◌, nat_le, ℤ, ◌==◌, if◌then◌else◌}
 use Rattle.std.specs.List.{fold, flat_map}
 use Rattle.std.specs.Int.{w32, from_le_bytes}
 use Rattle.cli_ints.specs.Compressed.{SpellsUnsigned, SpellsSigned}
@@ -21,21 +21,22 @@ pub data Form : Type 0 where
   rest : Form
   character : Form
 
-abbrev pub IsIn : ℕ → ℕ → ℕ → Type 0
-IsIn low high b = (low ≤ b) × (b ≤ high)
+abbrev pub is_in : ℕ → ℕ → ℕ → Bool
+is_in low high b = nat_le low b && nat_le b high
 
 -- The second byte of a character after its first: after E0 from A0, after F0 from 90, after ED up to 9F, after F4 up to 8F,
 -- else 80 to BF, so that no form is longer than needed, none is a surrogate and none is above U+10FFFF (Unicode, table 3-7).
-abbrev pub IsSecond : ℕ → ℕ → Type 0
-IsSecond first b = IsIn (if first == 0xE0 then 0xA0 else (if first == 0xF0 then 0x90 else 0x80)) (if first == 0xED then 0x9F else (if first == 0xF4 then 0x8F else 0xBF)) b
+abbrev pub is_second : ℕ → ℕ → Bool
+is_second first b =
+    is_in (if first == 0xE0 then 0xA0 else (if first == 0xF0 then 0x90 else 0x80)) (if first == 0xED then 0x9F else (if first == 0xF4 then 0x8F else 0xBF)) b
 
 -- The bytes are one well-formed UTF-8 character (Unicode, table 3-7).
-abbrev pub IsCharacter : List ℕ → Type 0
-IsCharacter (a ∷ []) = IsIn 0x00 0x7F a
-IsCharacter (a ∷ b ∷ []) = IsIn 0xC2 0xDF a × IsSecond a b
-IsCharacter (a ∷ b ∷ c ∷ []) = IsIn 0xE0 0xEF a × IsSecond a b × IsIn 0x80 0xBF c
-IsCharacter (a ∷ b ∷ c ∷ d ∷ []) = IsIn 0xF0 0xF4 a × IsSecond a b × IsIn 0x80 0xBF c × IsIn 0x80 0xBF d
-IsCharacter _ = ⊥
+abbrev pub is_character : List ℕ → Bool
+is_character (a ∷ []) = is_in 0x00 0x7F a
+is_character (a ∷ b ∷ []) = is_in 0xC2 0xDF a && is_second a b
+is_character (a ∷ b ∷ c ∷ []) = is_in 0xE0 0xEF a && (is_second a b && is_in 0x80 0xBF c)
+is_character (a ∷ b ∷ c ∷ d ∷ []) = is_in 0xF0 0xF4 a && (is_second a b && (is_in 0x80 0xBF c && is_in 0x80 0xBF d))
+is_character _ = false
 
 -- The bytes are a field of this form with this value, where these bytes stand after them.
 abbrev pub Spells : Form → List ℕ → Value → List ℕ → Type 0
@@ -45,7 +46,7 @@ Spells byte bytes (number n) after = bytes ≡ n ∷ []
 Spells word bytes (number n) after = (length bytes ≡ 4) × (n ≡ from_le_bytes w32 bytes)
 Spells (fixed len) bytes (octets xs) after = (xs ≡ bytes) × (length bytes ≡ len) × (1 ≤ len)
 Spells rest bytes (octets xs) after = (xs ≡ bytes) × (1 ≤ length bytes) × (after ≡ [])
-Spells character bytes (octets xs) after = (xs ≡ bytes) × IsCharacter bytes
+Spells character bytes (octets xs) after = (xs ≡ bytes) × (is_character bytes ≡ true)
 Spells _ bytes _ after = ⊥
 
 -- A field: its bytes and its value.

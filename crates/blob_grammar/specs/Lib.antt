@@ -1,5 +1,7 @@
 pub mod Grammar
+pub mod Allowed
 pub mod Reading
 pub mod Ending
-pub mod Indexes
+pub mod Places
 pub mod Reader
+pub mod Cursors

@@ -1,6 +1,6 @@
 -- The plain reader: it takes one field after the other, and keeps the records made so far.
-use Rattle.std.specs.Prelude.{◌≡◌, ℕ, zero, suc, ◌+◌, ◌-◌, ◌*◌, ◌^◌, List, [], ◌∷◌, ◌++◌, length, take, drop, nat_lt, nat_le, ◌==◌, if◌then◌else◌, Option, Some, None, Bool, true, false, ◌&&◌, ℤ, Result, Ok, Err, ◌≤◌}
-use Rattle.std.specs.List.{fold}
+use Rattle.std.specs.Prelude.{◌≡◌, ℕ, zero, suc, ◌+◌, ◌-◌, ◌*◌, ◌^◌, List, [], ◌∷◌, ◌++◌, length, take, drop, nat_lt, if◌then◌else◌, Option, Some, None, Bool, true, false, ◌&&◌, ℤ, Result, Ok, Err, ◌≤◌}
+use Rattle.std.specs.List.{fold, flat_map}
 use Rattle.std.specs.Int.{w32, from_le_bytes}
 use Rattle.ppdb_base.specs.declared.Code.{Code}
 use Rattle.ppdb_base.specs.declared.Code.TheVariants.{BlobEnd, IntegerForm, ValueRange}
@@ -8,7 +8,8 @@ use Rattle.ppdb_base.specs.declared.BlobFault.{BlobFault}
 use Rattle.cli_ints.specs.declared.IntFault.{IntFault}
 use Rattle.cli_ints.specs.declared.IntFault.TheVariants.{End, Form as NoForm}
 use Rattle.cli_ints.specs.Compressed.{bits_of, unrotated}
-use Rattle.blob_grammar.specs.Grammar.{Value, number, integer, octets, Form, unsigned, signed, byte, word, fixed, rest, character, Field, Grammar, Cut, with_value}
+use Rattle.blob_grammar.specs.Grammar.{Value, number, integer, octets, Form, unsigned, signed, byte, word, fixed, rest, character, Field, Grammar, Cut, with_value, is_character}
+use Rattle.blob_grammar.specs.Places.{PlacedField, placed_from}
 
 -- What is left of a blob: the items to come, and the fault after them, if the blob is not whole.
 pub record Left (X : Type 0) : Type 0 where
@@ -75,19 +76,6 @@ unfoldable pub signed_at : List ℕ → Result (ℤ × ℕ) IntFault
 signed_at bytes = signed_of (unsigned_at bytes)
 
 -- how many bytes the character at the front has, by the rows of Unicode's table 3-7; 0 where none is there
-abbrev pub is_in : ℕ → ℕ → ℕ → Bool
-is_in low high b = nat_le low b && nat_le b high
-
-abbrev pub is_second : ℕ → ℕ → Bool
-is_second first b = is_in (if first == 0xE0 then 0xA0 else (if first == 0xF0 then 0x90 else 0x80)) (if first == 0xED then 0x9F else (if first == 0xF4 then 0x8F else 0xBF)) b
-
-abbrev pub is_character : List ℕ → Bool
-is_character (a ∷ []) = is_in 0x00 0x7F a
-is_character (a ∷ b ∷ []) = is_in 0xC2 0xDF a && is_second a b
-is_character (a ∷ b ∷ c ∷ []) = is_in 0xE0 0xEF a && (is_second a b && is_in 0x80 0xBF c)
-is_character (a ∷ b ∷ c ∷ d ∷ []) = is_in 0xF0 0xF4 a && (is_second a b && (is_in 0x80 0xBF c && is_in 0x80 0xBF d))
-is_character _ = false
-
 unfoldable pub character_len : List ℕ → ℕ
 character_len bytes =
     if is_character (take 1 bytes) then 1 else (if is_character (take 2 bytes) then 2 else (if is_character (take 3 bytes) then 3 else (if is_character (take 4 bytes) then 4 else 0)))
@@ -207,3 +195,10 @@ cut_from g c fields = fold (λ c f. with_value g c f.value) c fields
 -- the values of the record that has begun where the longest valid front ends, from a place on
 unfoldable pub begun_from : {R : Type 0} → Grammar R → List R → List Value → List ℕ → List Value
 begun_from g whole begun bytes = (cut_from g (record { whole = whole; begun = begun }) (fields_from g whole begun bytes)).begun
+
+-- what a walk tells of the fields from a place of the grammar and a byte on, and how the blob ends
+unfoldable pub fields_left : {R X : Type 0} → Grammar R → (PlacedField → List X) → Cut R → ℕ → List ℕ → Left X
+fields_left g tell place at bytes = record {
+  items = flat_map tell (placed_from g place at (fields_from g place.whole place.begun bytes));
+  fault = (read_from g place.whole place.begun at bytes).fault;
+}

@@ -3,7 +3,7 @@ use Rattle.std.specs.Prelude.{◌≡◌, ◌≢◌, ℕ, ◌≤◌, List, [], �
 use Rattle.ppdb_base.specs.declared.Code.{Code}
 use Rattle.ppdb_base.specs.declared.Code.TheVariants.{BlobEnd, IntegerForm, ValueRange}
 use Rattle.ppdb_base.specs.declared.BlobFault.{BlobFault}
-use Rattle.blob_grammar.specs.Grammar.{Value, Form, unsigned, signed, character, Spells, Field, Grammar, cut, bytes_of, AtFront}
+use Rattle.blob_grammar.specs.Grammar.{Form, unsigned, signed, character, Spells, Field, Grammar, cut, bytes_of, AtFront}
 
 -- The longest valid front: the longest list of fields at the blob's front in which each is allowed after those before it.
 pub record IsLongestFront {R : Type 0} (g : Grammar R) (blob : List ℕ) (fields : List Field) (after : List ℕ) : Type 0 where
@@ -51,9 +51,10 @@ pub record Reading {R : Type 0} (g : Grammar R) (blob : List ℕ) (records : Lis
   pub made : records ≡ (cut g fields).whole
   pub ends : Ends g fields after fault
 
--- The values of the record that has begun where the longest valid front ends.
-pub record HasBegun {R : Type 0} (g : Grammar R) (blob : List ℕ) (begun : List Value) : Type 0 where
-  pub fields : List Field
-  pub after : List ℕ
-  pub front : IsLongestFront g blob fields after
-  pub begun_is : begun ≡ (cut g fields).begun
+-- The blob is read in one way: it has one longest valid front, and one list of records with one end.
+pub record IsReadOnce {R : Type 0} (g : Grammar R) (blob : List ℕ) : Type 0 where
+  pub records : List R
+  pub fault : Option BlobFault
+  pub reading : Reading g blob records fault
+  pub one_front : (a b : List Field) (x y : List ℕ) → IsLongestFront g blob a x → IsLongestFront g blob b y → (a ≡ b) × (x ≡ y)
+  pub one_reading : (others : List R) (end : Option BlobFault) → Reading g blob others end → (others ≡ records) × (end ≡ fault)

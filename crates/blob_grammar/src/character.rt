@@ -1,6 +1,6 @@
 ghost use Rattle.std.specs.Prelude.{◌≡◌, ◌≤◌, ◌<◌, ◌^◌, ◌+◌, length, take, IfOk, IfErr};
-ghost use Rattle.blob_grammar.specs.Grammar.{octets, character};
-ghost use Rattle.blob_grammar.specs.Reader.{is_in as in_range, is_second as second_fits, is_character as is_well_formed, character_len as len_of_character, IsThere, IsMissing};
+ghost use Rattle.blob_grammar.specs.Grammar.{octets, character, is_in as in_range, is_second as second_fits, is_character as is_well_formed};
+ghost use Rattle.blob_grammar.specs.Reader.{character_len as len_of_character, IsThere, IsMissing};
 
 use crate::fault::fault_at;
 use cli_ints::IntFault;

@@ -7,6 +7,7 @@ use cli_ints::{IntFault, read_signed, read_unsigned};
 use ppdb_base::BlobFault;
 
 /// The unsigned number at a place of a blob, and its length.
+#[inline(always)]
 pub fn unsigned_field(blob: &[u8], at: usize) -> Result<(u32, usize), BlobFault>
     requires within { at ≤ length blob.now }
     requires short { length blob.now < 2 ^ 32 }
@@ -20,6 +21,7 @@ pub fn unsigned_field(blob: &[u8], at: usize) -> Result<(u32, usize), BlobFault>
 }
 
 /// The signed number at a place of a blob, and its length.
+#[inline(always)]
 pub fn signed_field(blob: &[u8], at: usize) -> Result<(i32, usize), BlobFault>
     requires within { at ≤ length blob.now }
     requires short { length blob.now < 2 ^ 32 }

@@ -6,7 +6,6 @@ pub mod StepsLeft
 pub mod WrittenRows
 pub mod WrittenSlots
 pub mod WrittenSteps
-pub mod ReadRecords
 pub mod ReadRows
 pub mod ReadSlots
 pub mod ReadSteps

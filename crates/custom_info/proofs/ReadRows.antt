@@ -8,9 +8,9 @@ use Rattle.cli_ints.specs.Compressed.{SpellsUnsigned}
 use Rattle.cli_ints.proofs.Shortest.{unsigned-below}
 use Rattle.blob_grammar.specs.Grammar.{Value, number, integer, octets, Form, unsigned, Spells, Field, Cut, with_value, IsAllowed}
 use Rattle.blob_grammar.specs.Reading.{Reading}
-use Rattle.custom_info.specs.Fields.{is_row}
+use Rattle.blob_grammar.specs.Allowed.{is_row}
 use Rattle.custom_info.specs.TypeDocuments.{type_documents, IsRowNumber}
-use Rattle.custom_info.proofs.ReadRecords.{of_reading}
+use Rattle.blob_grammar.proofs.ReadRecords.{of_reading}
 
 pub row-there : (rows row : ℕ) → is_row rows row ≡ true → (1 ≤ row) × (row ≤ rows)
 row-there rows row e = let p = and_parts (nat_le 1 row) (nat_le row rows) e in (leb-true 1 row p.0, leb-true row rows p.1)

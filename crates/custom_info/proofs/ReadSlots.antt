@@ -8,7 +8,7 @@ use Rattle.blob_grammar.specs.Grammar.{Value, number, integer, octets, Field, Cu
 use Rattle.blob_grammar.specs.Reading.{Reading}
 use Rattle.custom_info.specs.declared.slots.Slot.{Slot}
 use Rattle.custom_info.specs.HoistedScopes.{hoisted_scopes, IsSlot, is_length, slot_with}
-use Rattle.custom_info.proofs.ReadRecords.{of_reading}
+use Rattle.blob_grammar.proofs.ReadRecords.{of_reading}
 
 not-zero : (len : ℕ) → (suc len == 0) ≡ false
 not-zero len = grind arith

@@ -10,7 +10,7 @@ use Rattle.blob_grammar.specs.Reading.{Reading}
 use Rattle.custom_info.specs.declared.stepping.AsyncStep.{AsyncStep}
 use Rattle.custom_info.specs.AsyncStepping.{async_stepping, Entry, catch_handler, await_step, entries_of, handler_of, is_stored, IsHandler, IsStep}
 use Rattle.custom_info.specs.Fields.{is_offset}
-use Rattle.custom_info.proofs.ReadRecords.{of_reading}
+use Rattle.blob_grammar.proofs.ReadRecords.{of_reading}
 use Rattle.custom_info.proofs.ReadRows.{row-there, unsigned-spelled}
 
 abbrev IsRead : ℕ → Entry → Type 0

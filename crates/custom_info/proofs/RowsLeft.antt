@@ -7,7 +7,8 @@ use Rattle.blob_grammar.specs.Reading.{Reading}
 use Rattle.blob_grammar.specs.Reader.{placed, push}
 use Rattle.blob_grammar.proofs.Readers.{read_from-reads}
 use Rattle.blob_grammar.proofs.Steps.{Alike, read_from-alike, nothing_left, left-end, not_empty}
-use Rattle.custom_info.specs.Fields.{is_row, checked}
+use Rattle.blob_grammar.specs.Allowed.{is_row}
+use Rattle.custom_info.specs.Fields.{checked}
 use Rattle.custom_info.specs.TypeDocuments.{type_documents, rows_left}
 use Rattle.custom_info.proofs.Checked.{left-kept, left-refused}
 

@@ -9,7 +9,8 @@ use Rattle.blob_grammar.specs.Reader.{Left, placed, word_at, push, is_empty}
 use Rattle.blob_grammar.proofs.Readers.{read_from-reads}
 use Rattle.blob_grammar.proofs.Steps.{Alike, read_from-alike, nothing_left, left_at, left-end, not_empty}
 use Rattle.custom_info.specs.declared.stepping.AsyncStep.{AsyncStep}
-use Rattle.custom_info.specs.Fields.{is_row, is_offset, checked}
+use Rattle.blob_grammar.specs.Allowed.{is_row}
+use Rattle.custom_info.specs.Fields.{is_offset, checked}
 use Rattle.custom_info.specs.AsyncStepping.{async_steps, steps_left, async_stepping, Entry, catch_handler, await_step, is_stored, handler_of, entries_of}
 use Rattle.custom_info.proofs.Checked.{left-kept, left-refused, and-false}
 use Rattle.custom_info.proofs.Mapped.{Renames, renamed, read_from-renamed}

@@ -6,7 +6,8 @@ use Rattle.std.specs.Int.{w32, to_le_bytes}
 use Rattle.cli_ints.specs.Shortest.{short_unsigned}
 use Rattle.blob_grammar.specs.Grammar.{Value, number, Form, word, unsigned, Grammar}
 use Rattle.blob_grammar.specs.Reader.{Left, read_from}
-use Rattle.custom_info.specs.Fields.{is_row, is_offset, is_number, is_between}
+use Rattle.blob_grammar.specs.Allowed.{is_row, is_number, is_between}
+use Rattle.custom_info.specs.Fields.{is_offset}
 use Rattle.custom_info.specs.declared.stepping.AsyncStep.{AsyncStep}
 
 -- ---- the steps

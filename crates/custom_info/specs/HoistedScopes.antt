@@ -4,7 +4,7 @@ use Rattle.std.specs.List.{flat_map}
 use Rattle.std.specs.Int.{w32, to_le_bytes}
 use Rattle.blob_grammar.specs.Grammar.{Value, number, word, Grammar}
 use Rattle.blob_grammar.specs.Reader.{Left, read_from}
-use Rattle.custom_info.specs.Fields.{is_number, is_between}
+use Rattle.blob_grammar.specs.Allowed.{is_number, is_between}
 use Rattle.custom_info.specs.declared.slots.Slot.{Slot}
 use Rattle.custom_info.specs.declared.slots.Slot.TheVariants.{Empty, Held}
 

@@ -4,7 +4,7 @@ use Rattle.std.specs.List.{flat_map}
 use Rattle.cli_ints.specs.Shortest.{short_unsigned}
 use Rattle.blob_grammar.specs.Grammar.{Value, number, unsigned, Grammar}
 use Rattle.blob_grammar.specs.Reader.{Left, read_from}
-use Rattle.custom_info.specs.Fields.{is_row, is_number, is_between}
+use Rattle.blob_grammar.specs.Allowed.{is_row, is_number, is_between}
 
 abbrev pub row_of : List Value → Option ℕ
 row_of (number row ∷ []) = Some row

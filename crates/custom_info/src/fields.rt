@@ -4,7 +4,8 @@ ghost use Rattle.std.specs.Int.{w32, to_le_bytes};
 ghost use Rattle.blob_grammar.specs.Reader.{unsigned_at};
 ghost use Rattle.cli_ints.specs.Shortest.{short_unsigned};
 ghost use Rattle.blob_grammar.specs.Reader.{placed, word_at};
-ghost use Rattle.custom_info.specs.Fields.{is_row, is_offset, checked};
+ghost use Rattle.blob_grammar.specs.Allowed.{is_row};
+ghost use Rattle.custom_info.specs.Fields.{is_offset, checked};
 
 use blob_grammar::{unsigned_field, word_field};
 use cli_ints::spell_unsigned;

@@ -1,5 +1,6 @@
 // Which kinds of custom debug information are read, and which are passed on unread.
 ghost use Rattle.std.specs.Prelude.{◌≡◌};
+ghost use Rattle.custom_info.specs.Kinds as kinds;
 ghost use Rattle.custom_info.specs.Kinds.{kind_of as the_kind};
 
 use crate::marks::Marks;
@@ -82,6 +83,23 @@ const PASSED_ON: [[u8; 16]; 10] = [
     COMPILATION_OPTIONS,
     METADATA_REFERENCES,
 ];
+
+/// Each constant is the GUID of its kind, its bytes as they lie in a file.
+pub fn kinds_are_their_guids()
+    ensures async_stepping { ASYNC_STEPPING ≡ kinds.async_stepping }
+    ensures hoisted_scopes { HOISTED_SCOPES ≡ kinds.hoisted_scopes }
+    ensures type_documents { TYPE_DOCUMENTS ≡ kinds.type_documents }
+    ensures source_link { SOURCE_LINK ≡ kinds.source_link }
+    ensures embedded_source { EMBEDDED_SOURCE ≡ kinds.embedded_source }
+    ensures dynamic_locals { DYNAMIC_LOCALS ≡ kinds.dynamic_locals }
+    ensures tuple_names { TUPLE_NAMES ≡ kinds.tuple_names }
+    ensures default_namespace { DEFAULT_NAMESPACE ≡ kinds.default_namespace }
+    ensures slot_map { SLOT_MAP ≡ kinds.slot_map }
+    ensures lambda_map { LAMBDA_MAP ≡ kinds.lambda_map }
+    ensures state_map { STATE_MAP ≡ kinds.state_map }
+    ensures compilation_options { COMPILATION_OPTIONS ≡ kinds.compilation_options }
+    ensures metadata_references { METADATA_REFERENCES ≡ kinds.metadata_references }
+{}
 
 /// What is done with a record of a kind.
 #[derive(Clone, Copy, Debug, PartialEq, Eq)]

@@ -1,13 +1,20 @@
 // What is written is read again, and what is read can be written.
 ghost use Rattle.std.specs.Prelude.{ℕ, List, Option, None, All};
 ghost use Rattle.ppdb_base.specs.declared.BlobFault.{BlobFault};
-ghost use Rattle.blob_grammar.specs.Reading.{Reading};
+ghost use Rattle.blob_grammar.specs.Reading.{Reading, IsReadOnce};
 ghost use Rattle.custom_info.specs.declared.slots.Slot.{Slot};
 ghost use Rattle.custom_info.specs.declared.stepping.AsyncStep.{AsyncStep};
 ghost use Rattle.custom_info.specs.TypeDocuments.{type_documents, IsRowNumber, rows_spelling};
 ghost use Rattle.custom_info.specs.HoistedScopes.{hoisted_scopes, IsSlot, slots_spelling};
 ghost use Rattle.custom_info.specs.AsyncStepping.{async_stepping, entries_of, IsHandler, IsStep, async_spelling};
 ghost use Rattle.std.specs.Prelude.{◌≤◌};
+
+/// Each blob is read as stepping information, as hoisted scopes and as type documents in one way.
+pub fn customs_are_read_once()
+    ensures steps { (methods : ℕ) (blob : List ℕ) → IsReadOnce (async_stepping methods) blob }
+    ensures slots { (blob : List ℕ) → IsReadOnce hoisted_scopes blob }
+    ensures rows { (documents : ℕ) (blob : List ℕ) → IsReadOnce (type_documents documents) blob }
+{}
 
 /// Rows that `rows_into` writes are read again, in a file that has those documents.
 pub fn written_rows_are_read()

@@ -1,4 +1,5 @@
-// Records of files that the C# compiler wrote, with their values.
+// Records of files that the C# compiler wrote, with their values, and the kinds.
+use crate::*;
 
 /// Async method stepping information: its bytes, its handler, and its steps as pause, resume and method.
 pub const ASYNC_RECORDS: [(&[u8], Option<u32>, &[(u32, u32, u32)]); 20] = [
@@ -215,5 +216,70 @@ pub const HOISTED_RECORDS: [(&[u8], &[(u32, u32)]); 25] = [
     (
         b"\x00\x00\x00\x00\x58\x01\x00\x00\x00\x00\x00\x00\x00\x00\x00\x00\x00\x00\x00\x00\x00\x00\x00\x00\x43\x00\x00\x00\x51\x00\x00\x00\x56\x00\x00\x00\x3e\x00\x00\x00",
         &[(0, 344), (0, 0), (0, 0), (67, 148), (86, 148)],
+    ),
+];
+
+/// What is done with each kind, its GUID, and the text of its GUID.
+pub const KINDS: [(Kind, [u8; 16], &str); 13] = [
+    (
+        Kind::Async,
+        ASYNC_STEPPING,
+        "54FD2AC5-E925-401A-9C2A-F94F171072F8",
+    ),
+    (
+        Kind::Hoisted,
+        HOISTED_SCOPES,
+        "6DA9A61E-F8C7-4874-BE62-68BC5630DF71",
+    ),
+    (
+        Kind::TypeDocuments,
+        TYPE_DOCUMENTS,
+        "932E74BC-DBA9-4478-8D46-0F32A7BAB3D3",
+    ),
+    (
+        Kind::Free,
+        SOURCE_LINK,
+        "CC110556-A091-4D38-9FEC-25AB9A351A6A",
+    ),
+    (
+        Kind::Free,
+        EMBEDDED_SOURCE,
+        "0E8A571B-6926-466E-B4AD-8AB04611F5FE",
+    ),
+    (
+        Kind::Free,
+        DYNAMIC_LOCALS,
+        "83C563C4-B4F3-47D5-B824-BA5441477EA8",
+    ),
+    (
+        Kind::Free,
+        TUPLE_NAMES,
+        "ED9FDF71-8879-4747-8ED3-FE5EDE3CE710",
+    ),
+    (
+        Kind::Free,
+        DEFAULT_NAMESPACE,
+        "58B2EAB6-209F-4E4E-A22C-B2D0F910C782",
+    ),
+    (Kind::Free, SLOT_MAP, "755F52A8-91C5-45BE-B4B8-209571E552BD"),
+    (
+        Kind::Free,
+        LAMBDA_MAP,
+        "A643004C-0240-496F-A783-30D64F4979DE",
+    ),
+    (
+        Kind::Free,
+        STATE_MAP,
+        "8B78CD68-2EDE-420B-980B-E15884B8AAA3",
+    ),
+    (
+        Kind::Free,
+        COMPILATION_OPTIONS,
+        "B5FEEC05-8CD0-4A83-96DA-466284BB4BD8",
+    ),
+    (
+        Kind::Free,
+        METADATA_REFERENCES,
+        "7E4D4708-096E-4C5C-AEDA-CB10BA6A740D",
     ),
 ];

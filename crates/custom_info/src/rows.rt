@@ -1,10 +1,13 @@
 // Type definition documents.
 ghost use Rattle.std.specs.Prelude.{◌≡◌, ◌≤◌, ◌<◌, ◌^◌, ℕ, length, ◌++◌, All, OnOk, OnErr};
+ghost use Rattle.cli_ints.specs.Shortest.{short_unsigned};
 ghost use Rattle.blob_grammar.specs.Reading.{Reading};
 ghost use Rattle.blob_grammar.specs.Reader.{Left, NextIs, answer, rest_of};
 ghost use Rattle.custom_info.specs.TypeDocuments.{type_documents, rows_left, IsRowNumber, rows_spelling};
 
 use crate::fields::{number_into, row_field};
+use crate::written::{Written, all_into};
+use blob_grammar::BlobCursor;
 use ppdb_base::{BlobFault, Bytes, Memory};
 use std::marker::Model;
 
@@ -63,18 +66,40 @@ impl<'a> RowCursor<'a> {
     }
 }
 
+impl<'a> BlobCursor for RowCursor<'a> {
+    type Item = u32;
+
+    ghost Seen = { ℕ };
+
+    ghost seen = { λ row. row };
+
+    ghost left = { λ c. c };
+
+    ghost Kept = { Unit {0} };
+
+    ghost kept = { λ c. tt };
+
+    fn next_item(&mut self) -> Result<Option<u32>, BlobFault> {
+        self.next()
+    }
+}
+
+/// A Document row, in its shortest form.
+impl Written for u32 {
+    ghost can_be_written = { IsRowNumber };
+
+    ghost spelling = { short_unsigned };
+
+    fn write_into(&self, into: &mut Bytes) -> Result<(), Memory> {
+        number_into(*self, into)
+    }
+}
+
 /// Appends rows, each in its shortest form. After a refusal the bytes are unchanged.
 pub fn rows_into(rows: &[u32], into: &mut Bytes) -> Result<(), Memory>
     requires { All IsRowNumber rows.now }
     ensures ok { OnOk result (into.new ≡ into.old ++ rows_spelling rows.now) }
     ensures err { OnErr result (into.new ≡ into.old) }
 {
-    let len = into.len();
-    for row in rows {
-        if number_into(*row, into).is_err() {
-            into.truncate(len);
-            return Err(Memory);
-        }
-    }
-    Ok(())
+    all_into(rows, into)
 }

@@ -7,7 +7,8 @@ ghost use Rattle.custom_info.specs.declared.slots.Slot.{Slot};
 ghost use Rattle.custom_info.specs.HoistedScopes.{hoisted_scopes, slots_left, is_length, slot_with, IsSlot, slot_spelling, slots_spelling};
 
 use crate::fields::{OFFSET_LIMIT, field_where, word_into};
-use blob_grammar::word_field;
+use crate::written::{Written, all_into};
+use blob_grammar::{BlobCursor, word_field};
 use ppdb_base::{BlobFault, Bytes, Memory};
 use std::marker::Model;
 
@@ -105,17 +106,37 @@ impl<'a> SlotCursor<'a> {
     }
 }
 
-/// Appends a slot. After a refusal the bytes begin with what they held.
-fn slot_into(slot: &Slot, into: &mut Bytes) -> Result<(), Memory>
-    requires { IsSlot slot.now }
-    ensures ok { OnOk result (into.new ≡ into.old ++ slot_spelling slot.now) }
-    ensures err { OnErr result (take (length into.old) into.new ≡ into.old) }
-{
-    match slot {
-        Slot::Empty => into.append(&[0; 8]),
-        Slot::Held(range) => {
-            word_into(range.start, into)?;
-            word_into(range.end - range.start, into)
+impl<'a> BlobCursor for SlotCursor<'a> {
+    type Item = Slot;
+
+    ghost Seen = { Slot };
+
+    ghost seen = { λ slot. slot };
+
+    ghost left = { λ c. c };
+
+    ghost Kept = { Unit {0} };
+
+    ghost kept = { λ c. tt };
+
+    fn next_item(&mut self) -> Result<Option<Slot>, BlobFault> {
+        self.next()
+    }
+}
+
+/// Its start and its length, an empty one as zeros.
+impl Written for Slot {
+    ghost can_be_written = { IsSlot };
+
+    ghost spelling = { slot_spelling };
+
+    fn write_into(&self, into: &mut Bytes) -> Result<(), Memory> {
+        match self {
+            Slot::Empty => into.append(&[0; 8]),
+            Slot::Held(range) => {
+                word_into(range.start, into)?;
+                word_into(range.end - range.start, into)
+            }
         }
     }
 }
@@ -126,12 +147,5 @@ pub fn slots_into(slots: &[Slot], into: &mut Bytes) -> Result<(), Memory>
     ensures ok { OnOk result (into.new ≡ into.old ++ slots_spelling slots.now) }
     ensures err { OnErr result (into.new ≡ into.old) }
 {
-    let len = into.len();
-    for slot in slots {
-        if slot_into(slot, into).is_err() {
-            into.truncate(len);
-            return Err(Memory);
-        }
-    }
-    Ok(())
+    all_into(slots, into)
 }

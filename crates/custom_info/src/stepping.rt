@@ -6,7 +6,8 @@ ghost use Rattle.custom_info.specs.Fields.{checked};
 ghost use Rattle.custom_info.specs.AsyncStepping.{async_stepping, steps_left, is_stored, handler_of as the_handler, stored_of, entries_of, IsHandler, IsStep, step_spelling, async_spelling};
 
 use crate::fields::{OFFSET_LIMIT, field_where, number_into, offset_field, row_field, word_into};
-use blob_grammar::word_field;
+use crate::written::{Written, all_into};
+use blob_grammar::{BlobCursor, word_field};
 use ppdb_base::{BlobFault, Bytes, Memory};
 use std::marker::Model;
 
@@ -125,15 +126,38 @@ impl<'a> AsyncCursor<'a> {
     }
 }
 
-/// Appends a step. After a refusal the bytes begin with what they held.
-fn step_into(step: &AsyncStep, into: &mut Bytes) -> Result<(), Memory>
-    requires { IsStep step.now }
-    ensures ok { OnOk result (into.new ≡ into.old ++ step_spelling step.now) }
-    ensures err { OnErr result (take (length into.old) into.new ≡ into.old) }
-{
-    word_into(step.pause, into)?;
-    word_into(step.resume, into)?;
-    number_into(step.method, into)
+impl<'a> BlobCursor for AsyncCursor<'a> {
+    ghost use Rattle.std.specs.Prelude.{ℕ, Option};
+    ghost use Rattle.custom_info.specs.declared.stepping.AsyncStep.{AsyncStep};
+
+    type Item = AsyncStep;
+
+    ghost Seen = { AsyncStep };
+
+    ghost seen = { λ step. step };
+
+    ghost left = { λ c. c.left };
+
+    ghost Kept = { Option ℕ };
+
+    ghost kept = { λ c. c.handler };
+
+    fn next_item(&mut self) -> Result<Option<AsyncStep>, BlobFault> {
+        self.next()
+    }
+}
+
+/// Its offsets as four bytes each, and its method in the shortest form.
+impl Written for AsyncStep {
+    ghost can_be_written = { IsStep };
+
+    ghost spelling = { step_spelling };
+
+    fn write_into(&self, into: &mut Bytes) -> Result<(), Memory> {
+        word_into(self.pause, into)?;
+        word_into(self.resume, into)?;
+        number_into(self.method, into)
+    }
 }
 
 /// Appends a handler and steps: offsets as four bytes, methods in their shortest form. After a refusal the bytes are unchanged.
@@ -145,11 +169,9 @@ pub fn async_into(handler: Option<u32>, steps: &[AsyncStep], into: &mut Bytes) -
 {
     let len = into.len();
     word_into(stored(handler), into)?;
-    for step in steps {
-        if step_into(step, into).is_err() {
-            into.truncate(len);
-            return Err(Memory);
-        }
+    let written = all_into(steps, into);
+    if written.is_err() {
+        into.truncate(len);
     }
-    Ok(())
+    written
 }

@@ -3,17 +3,21 @@ use Rattle.std.proofs.Common.{◌≡◌, ℕ, zero, suc, ◌+◌, ◌≤◌, Boo
 use Rattle.std.specs.Prelude.{◌==◌, is_some, option_map}
 use Rattle.std.proofs.lemmas.Bool.{cases_lt, eq-eqb, ne_eqb, and_right, and_left}
 use Rattle.ppdb_base.specs.declared.Code.{Code}
-use Rattle.ppdb_base.specs.declared.Code.TheVariants.{ValueRange}
+use Rattle.ppdb_base.specs.declared.Code.TheVariants.{ValueRange, BlobEnd}
 use Rattle.ppdb_base.specs.declared.BlobFault.{BlobFault}
-use Rattle.blob_grammar.specs.Grammar.{Value, number, octets, Form, character, unsigned}
+use Rattle.blob_grammar.specs.Grammar.{Value, number, octets, Form, character, unsigned, Cut, closed}
+use Rattle.blob_grammar.specs.declared.places.PlacedIndex.{PlacedIndex}
+use Rattle.blob_grammar.specs.Places.{HasFields, HasEnd}
+use Rattle.blob_grammar.proofs.Walks.{walk-field, walk-out, walk-none, walk-end, walk-fields, walk-end_is, fields_left-alike, alike-begun, SameBegun}
+use Rattle.std.proofs.lemmas.List.{drop_all, drop-drop}
 use Rattle.blob_grammar.specs.Reading.{Reading}
-use Rattle.blob_grammar.specs.Reader.{Left, push, placed, unsigned_at, character_of, character_len, IsThere, IsMissing, is_empty, read_from, close_and}
+use Rattle.blob_grammar.specs.Reader.{Left, push, placed, unsigned_at, character_of, character_len, IsThere, IsMissing, is_empty, read_from, close_and, fields_left}
 use Rattle.blob_grammar.proofs.Readers.{read_from-reads}
 use Rattle.blob_grammar.proofs.Placed.{unsigned_there, unsigned_not_there, placed_ok, unsigned_within}
 use Rattle.blob_grammar.proofs.Steps.{Alike, read_from-alike, nothing_left, left_at, left-field, left-out, left-none, left-end, not_empty}
 use Rattle.ppdb_heaps.specs.Heaps.{blob_at}
-use Rattle.ppdb_heaps.specs.Names.{NamePart, separator, part, form, allows, part_of, may_stop, names, without_zero, contents_of, NameReading}
-use Rattle.ppdb_heaps.specs.Cursor.{before_place, contents_left, parts_left}
+use Rattle.ppdb_heaps.specs.Names.{NamePart, separator, part, form, allows, part_of, may_stop, names, part_index, without_zero, contents_of, NameReading}
+use Rattle.ppdb_heaps.specs.Cursor.{before_place, contents_left, parts_left, indexes_left}
 
 -- ---- what the grammar asks of the records before
 
@@ -120,18 +124,21 @@ unfolding parts_left
 part-end blobs blob start at ends later =
     ap contents_left (left-end (names blobs) (before_place start at) [] blob at unsigned (if-form (at == start)) ends (ap (λ b. may_stop b []) (before-later start at later)))
 
+-- A name does not end before its first part.
+stays : (blob : List ℕ) (start at : ℕ) → at ≤ length blob → (at ≡ length blob → at ≡ start) → (is_empty (drop at blob) && may_stop (before_place start at) []) ≡ false
+stays blob start at within goes_on =
+    elim (cases_lt at (length blob)) [
+      | inl less ↦ and_left (is_empty (drop at blob)) (may_stop (before_place start at) []) (not_empty blob at less)
+      | inr past ↦ and_right (is_empty (drop at blob)) (may_stop (before_place start at) []) (ap (λ b. may_stop b []) (before-first start at (goes_on (omega arith))))
+    ]
+
 -- No index stands there.
 pub part-missing : (blobs blob : List ℕ) (start at : ℕ) (fault : BlobFault) → at ≤ length blob → (at ≡ length blob → at ≡ start) → placed at (unsigned_at (drop at blob)) ≡ Err fault
     → parts_left blobs blob start at ≡ nothing_left (Some fault)
 unfolding parts_left
 part-missing blobs blob start at fault within goes_on e =
     let n = unsigned_not_there at (drop at blob) fault e in
-    let stays : (is_empty (drop at blob) && may_stop (before_place start at) []) ≡ false =
-    (elim (cases_lt at (length blob)) [
-      | inl less ↦ and_left (is_empty (drop at blob)) (may_stop (before_place start at) []) (not_empty blob at less)
-      | inr past ↦ and_right (is_empty (drop at blob)) (may_stop (before_place start at) []) (ap (λ b. may_stop b []) (before-first start at (goes_on (omega arith))))
-    ]) in
-    ap contents_left (left-none (names blobs) (before_place start at) [] blob at unsigned n.code (if-form (at == start)) n.none stays) ∙ ap (λ f. nothing_left (Some f)) (sym n.fault_is)
+    ap contents_left (left-none (names blobs) (before_place start at) [] blob at unsigned n.code (if-form (at == start)) n.none (stays blob start at within goes_on)) ∙ ap (λ f. nothing_left (Some f)) (sym n.fault_is)
 
 -- The index of a part that is not there.
 pub part-absent : (blobs blob : List ℕ) (start at index len : ℕ) → placed at (unsigned_at (drop at blob)) ≡ Ok (index, len) → blob_at blobs index ≡ None
@@ -157,6 +164,48 @@ part-there blobs blob start at index len content begun e there =
     (left-field g before [] blob at unsigned (number index) len (if-form (at == start)) found (if-allows blobs (at == start) index ∙ ap is_some there)
     ∙ ap (close_and (λ w b. left_at g w b blob (at + len)) before (number index ∷ [])) made
     ∙ ap (push (part content)) (read_from-alike g g SameKind (names-alike blobs) (before ++ part content ∷ []) (before_place start (at + len)) [] (at + len) (drop (at + len) blob) same))
+
+-- ---- the next index
+
+abbrev start_of : ℕ → ℕ → Cut NamePart
+start_of start at = record { whole = before_place start at; begun = [] }
+
+pub index-end : (blobs blob : List ℕ) (start at : ℕ) → at ≡ length blob → (at ≡ start → ⊥) → indexes_left blobs blob start at ≡ nothing_left None
+unfolding indexes_left unsigned_at
+index-end blobs blob start at ends later =
+    ap (fields_left (names blobs) part_index (start_of start at) at) (drop_all at blob (omega arith))
+    ∙ walk-end (names blobs) part_index (start_of start at) at unsigned BlobEnd (if-form (at == start)) refl (ap (λ b. may_stop b []) (before-later start at later))
+
+pub index-missing : (blobs blob : List ℕ) (start at : ℕ) (fault : BlobFault) → at ≤ length blob → (at ≡ length blob → at ≡ start) → placed at (unsigned_at (drop at blob)) ≡ Err fault
+    → indexes_left blobs blob start at ≡ nothing_left (Some fault)
+unfolding indexes_left
+index-missing blobs blob start at fault within goes_on e =
+    let n = unsigned_not_there at (drop at blob) fault e in
+    walk-none (names blobs) part_index (start_of start at) at (drop at blob) unsigned n.code (if-form (at == start)) n.none (stays blob start at within goes_on) ∙ ap (λ f. nothing_left (Some f)) (sym n.fault_is)
+
+pub index-absent : (blobs blob : List ℕ) (start at index len : ℕ) → placed at (unsigned_at (drop at blob)) ≡ Ok (index, len) → blob_at blobs index ≡ None
+    → indexes_left blobs blob start at ≡ nothing_left (Some (record { code = ValueRange; byte = at }))
+unfolding indexes_left
+index-absent blobs blob start at index len e absent =
+    walk-out (names blobs) part_index (start_of start at) at (drop at blob) unsigned (number index) len (if-form (at == start)) (unsigned_there at (drop at blob) index len e) (if-allows blobs (at == start) index ∙ ap is_some absent)
+
+pub index-there : (blobs blob : List ℕ) (start at index len : ℕ) (content : List ℕ) → start ≤ at → placed at (unsigned_at (drop at blob)) ≡ Ok (index, len) → blob_at blobs index ≡ Some content
+    → indexes_left blobs blob start at ≡ push (record { byte = at; index = index }) (indexes_left blobs blob start (at + len))
+unfolding indexes_left
+index-there blobs blob start at index len content begun e there =
+    let g = names blobs in
+    let before = before_place start at in
+    let found = unsigned_there at (drop at blob) index len e in
+    let made : part_of blobs before (number index ∷ []) ≡ Some (part content) = if-part blobs (at == start) index ∙ ap (option_map (λ content. part content)) there in
+    let wide = unsigned_within (drop at blob) (index, len) (placed_ok at (unsigned_at (drop at blob)) (index, len) e) in
+    let later : at + len ≡ start → ⊥ = λ q. omega (arith, wide.0) in
+    let same : kind (before ++ part content ∷ []) ≡ kind (before_place start (at + len)) = if-more (at == start) (part content) ∙ sym (ap kind (before-later start (at + len) later)) in
+    let next : Cut NamePart = record { whole = before ++ part content ∷ []; begun = [] } in
+    walk-field g part_index (start_of start at) at (drop at blob) unsigned (number index) len (if-form (at == start)) found (if-allows blobs (at == start) index ∙ ap is_some there)
+    ∙ ap (λ (c : Cut NamePart). push (record { byte = at; index = index }) (fields_left g part_index c (at + len) (drop len (drop at blob)))) (ap (λ o. closed o before (number index ∷ [])) made)
+    ∙ ap (push (record { byte = at; index = index }))
+    (fields_left-alike g part_index (SameBegun g part_index SameKind) (alike-begun g part_index SameKind (names-alike blobs)) next (start_of start (at + len)) (at + len) (drop len (drop at blob)) (same, refl)
+    ∙ ap (fields_left g part_index (start_of start (at + len)) (at + len)) (drop-drop len at blob))
 
 pub stays_at : (at end start : ℕ) → ((at ≡ end) × (at ≡ start)) ⊎ (at ≡ end → ⊥) → at ≡ end → at ≡ start
 stays_at at end start (inl h) e = h.1
@@ -206,3 +255,31 @@ separator-there blobs blob bytes len h =
       separator_is = ap without_zero (sym (taken blob bytes (character_len blob) len h.0));
       contents_are = ap (λ l. contents_of l.items) (sym alike);
     }
+
+-- After its separator a name has the indexes that are left there.
+indexes_begun : (blobs blob bytes : List ℕ) (len : ℕ) → IsThere character blob 0 (octets bytes) len
+    → fields_left (names blobs) part_index (record { whole = []; begun = [] }) 0 blob ≡ indexes_left blobs blob len len
+unfolding indexes_left
+indexes_begun blobs blob bytes len h =
+    let g = names blobs in
+    let first : Cut NamePart = record { whole = separator bytes ∷ []; begun = [] } in
+    let same : kind (separator bytes ∷ []) ≡ kind (before_place len len) = sym (ap kind (before-first len len refl)) in
+    walk-field g part_index (record { whole = []; begun = [] }) 0 blob character (octets bytes) len refl h.0 refl
+    ∙ ap (λ n. fields_left g part_index first n (drop len blob)) (zero-add len)
+    ∙ fields_left-alike g part_index (SameBegun g part_index SameKind) (alike-begun g part_index SameKind (names-alike blobs)) first (start_of len len) len (drop len blob) (same, refl)
+
+pub indexes-there : (blobs blob bytes : List ℕ) (len : ℕ) → IsThere character blob 0 (octets bytes) len → HasFields (names blobs) part_index blob (indexes_left blobs blob len len).items
+indexes-there blobs blob bytes len h = subst (λ (l : Left PlacedIndex). HasFields (names blobs) part_index blob l.items) (indexes_begun blobs blob bytes len h) (walk-fields (names blobs) part_index blob)
+
+pub indexes-end : (blobs blob bytes : List ℕ) (len : ℕ) → IsThere character blob 0 (octets bytes) len → HasEnd (names blobs) blob (indexes_left blobs blob len len).fault
+indexes-end blobs blob bytes len h = subst (λ (l : Left PlacedIndex). HasEnd (names blobs) blob l.fault) (indexes_begun blobs blob bytes len h) (walk-end_is (names blobs) part_index blob)
+
+no_index : (blobs blob : List ℕ) (fault : BlobFault) → IsMissing character blob 0 fault → fields_left (names blobs) part_index (record { whole = []; begun = [] }) 0 blob ≡ nothing_left (Some fault)
+no_index blobs blob fault h =
+    walk-none (names blobs) part_index (record { whole = []; begun = [] }) 0 blob character h.code refl h.none (and_right (is_empty blob) false refl) ∙ ap (λ f. nothing_left (Some f)) (sym h.fault_is)
+
+pub indexes-none : (blobs blob : List ℕ) (fault : BlobFault) → IsMissing character blob 0 fault → HasFields (names blobs) part_index blob []
+indexes-none blobs blob fault h = subst (λ (l : Left PlacedIndex). HasFields (names blobs) part_index blob l.items) (no_index blobs blob fault h) (walk-fields (names blobs) part_index blob)
+
+pub indexes-fault : (blobs blob : List ℕ) (fault : BlobFault) → IsMissing character blob 0 fault → HasEnd (names blobs) blob (Some fault)
+indexes-fault blobs blob fault h = ([], separator-missing blobs blob fault h)

@@ -1,14 +1,14 @@
 -- The text and the part indexes of a document name, as functions of the blob.
-use Rattle.std.proofs.Common.{◌≡◌, ℕ, Bool, true, List, [], None, refl, sym, ap, subst, ◌∙◌}
-use Rattle.ppdb_base.specs.declared.BlobFault.{BlobFault}
-use Rattle.blob_grammar.specs.Grammar.{Value}
+use Rattle.std.proofs.Common.{◌≡◌, ℕ, List, [], None, refl, sym, ap, subst, ◌∙◌}
 use Rattle.blob_grammar.specs.Reading.{Reading}
-use Rattle.blob_grammar.specs.Indexes.{HasIndexes}
+use Rattle.std.specs.Prelude.{◌↔◌}
+use Rattle.blob_grammar.specs.declared.places.PlacedIndex.{PlacedIndex}
+use Rattle.blob_grammar.specs.Places.{HasFields}
 use Rattle.blob_grammar.specs.Reader.{read_from}
 use Rattle.blob_grammar.proofs.Readers.{read_from-reads}
 use Rattle.blob_grammar.proofs.Unique.{reading-unique}
-use Rattle.blob_grammar.proofs.FrontFields.{front_of-indexes}
-use Rattle.ppdb_heaps.specs.Names.{NamePart, names, joined, IsName, name_of, name_indexes}
+use Rattle.blob_grammar.proofs.FrontFields.{front_of-fields, fields-are}
+use Rattle.ppdb_heaps.specs.Names.{NamePart, names, part_index, joined, IsName, name_of, name_indexes}
 
 -- A blob that is a whole name has one text, and it is name_of.
 pub name_of-is : (blobs blob name : List ℕ) → IsName blobs blob name → name ≡ name_of blobs blob
@@ -25,5 +25,8 @@ name_of-whole blobs blob parts h =
     let n : IsName blobs blob (joined parts) = record { parts = parts; whole = h; text = refl } in
     subst (λ (t : List ℕ). IsName blobs blob t) (name_of-is blobs blob (joined parts) n) n
 
-pub name_indexes-are : (blobs blob : List ℕ) → HasIndexes (names blobs) (λ before begun. true) blob (name_indexes blobs blob)
-name_indexes-are blobs blob = front_of-indexes (names blobs) (λ before begun. true) blob
+pub name_indexes-are : (blobs blob : List ℕ) (indexes : List PlacedIndex) → (indexes ≡ name_indexes blobs blob) ↔ HasFields (names blobs) part_index blob indexes
+name_indexes-are blobs blob indexes = (
+  λ e. subst (λ (l : List PlacedIndex). HasFields (names blobs) part_index blob l) (sym e) (front_of-fields (names blobs) part_index blob),
+  fields-are (names blobs) part_index blob indexes,
+)

@@ -1,10 +1,12 @@
 -- The names of documents (Portable PDB v1.0, "Document Name Blob"): a separator, and parts that are blobs of their own.
-use Rattle.std.specs.Prelude.{◌≡◌, ℕ, zero, List, [], ◌∷◌, Option, Some, None, Bool, true, false, is_some, option_map}
+use Rattle.std.specs.Prelude.{◌≡◌, ◌≢◌, ℕ, zero, ◌+◌, ◌^◌, ◌<◌, List, [], ◌∷◌, length, map, All, Option, Some, None, Bool, true, false, is_some, option_map}
 use Rattle.std.specs.List.{flat_map, join_by}
 use Rattle.ppdb_base.specs.declared.BlobFault.{BlobFault}
 use Rattle.blob_grammar.specs.Grammar.{Value, number, octets, Form, character, unsigned, Grammar}
 use Rattle.blob_grammar.specs.Reading.{Reading}
-use Rattle.blob_grammar.specs.Indexes.{indexes_of}
+use Rattle.cli_ints.specs.Shortest.{short_unsigned}
+use Rattle.blob_grammar.specs.declared.places.PlacedIndex.{PlacedIndex}
+use Rattle.blob_grammar.specs.Places.{PlacedField, placed_of}
 use Rattle.blob_grammar.specs.Reader.{read_from, front_of}
 use Rattle.ppdb_heaps.specs.Heaps.{blob_at}
 
@@ -80,6 +82,31 @@ pub record NameReading (blobs blob sep : List ℕ) (contents : List (List ℕ)) 
 unfoldable pub name_of : List ℕ → List ℕ → List ℕ
 name_of blobs blob = joined (read_from (names blobs) [] [] 0 blob).items
 
+abbrev pub index_at : ℕ → Value → List PlacedIndex
+index_at at (number n) = record { byte = at; index = n } ∷ []
+index_at at value = []
+
+-- The index of a part, with its byte: each number in a name is one.
+abbrev pub part_index : PlacedField → List PlacedIndex
+part_index field = index_at field.byte field.value
+
 -- The indexes of the parts in the longest valid front of a name, each with the byte at which it stands.
-abbrev pub name_indexes : List ℕ → List ℕ → List (ℕ × ℕ)
-name_indexes blobs blob = indexes_of (names blobs) (λ before begun. true) (front_of (names blobs) blob)
+abbrev pub name_indexes : List ℕ → List ℕ → List PlacedIndex
+name_indexes blobs blob = flat_map part_index (placed_of (names blobs) (front_of (names blobs) blob))
+
+-- The shortest spelling of a name: the separator's byte, and the indexes of the parts, each in its shortest form.
+abbrev pub name_spelling : ℕ → List ℕ → List ℕ
+name_spelling byte indexes = byte ∷ flat_map short_unsigned indexes
+
+-- The indexes, each with the byte at which its spelling begins.
+abbrev pub indexes_at : ℕ → List ℕ → List PlacedIndex
+indexes_at at [] = []
+indexes_at at (n ∷ ns) = record { byte = at; index = n } ∷ indexes_at (at + length (short_unsigned n)) ns
+
+-- A name that can be written: a separator of one byte below 80, and the indexes of its parts, of which there is at least one.
+-- They have a spelling, and these contents stand there.
+pub record IsWritable (blobs : List ℕ) (byte : ℕ) (indexes : List ℕ) (contents : List (List ℕ)) : Type 0 where
+  pub one_byte : byte < 0x80
+  pub some : indexes ≢ []
+  pub small : All (λ n. n < 2 ^ 29) indexes
+  pub there : map (blob_at blobs) indexes ≡ map (λ content. Some content) contents

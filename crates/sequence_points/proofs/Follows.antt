@@ -10,7 +10,8 @@ use Rattle.sequence_points.specs.declared.point.Span.TheVariants.{Hidden, Lines}
 use Rattle.sequence_points.specs.declared.place.Start.{Start}
 use Rattle.sequence_points.specs.declared.step.LineStep.{LineStep}
 use Rattle.sequence_points.specs.Places.{start_after}
-use Rattle.sequence_points.specs.Written.{IsOffset, IsDocument, IsSpan, last_of, last_start, large_step, large_steps, numbered, first_of, bytes_after, points_bytes, BeginsWith}
+use Rattle.sequence_points.specs.Written.{IsSpan, last_of, last_start, large_step, large_steps, numbered, first_of, bytes_after, points_bytes, BeginsWith}
+use Rattle.sequence_points.specs.Ranges.{IsOffset, IsDocument}
 use Rattle.sequence_points.specs.Following.{IsStart, IsBehind, MayFollow, EachMayFollow}
 use Rattle.sequence_points.proofs.Before.{last_of-push, last_start-push}
 
@@ -23,10 +24,10 @@ no_first (x ∷ xs) e = absurd cc
 abbrev IsAbove : Point → Point → Type 0
 IsAbove p q = p.offset < q.offset
 
-pairs-head : (p : Point) (ps : List Point) → AllPairs (λ p q. p.offset < q.offset) (p ∷ ps) → All (λ q. p.offset < q.offset) ps
+pub pairs-head : (p : Point) (ps : List Point) → AllPairs (λ p q. p.offset < q.offset) (p ∷ ps) → All (λ q. p.offset < q.offset) ps
 pairs-head p ps h = λ k d less. h 0 (suc k) d (omega arith) (omega arith)
 
-pairs-tail : (p : Point) (ps : List Point) → AllPairs (λ p q. p.offset < q.offset) (p ∷ ps) → AllPairs (λ p q. p.offset < q.offset) ps
+pub pairs-tail : (p : Point) (ps : List Point) → AllPairs (λ p q. p.offset < q.offset) (p ∷ ps) → AllPairs (λ p q. p.offset < q.offset) ps
 pairs-tail p ps h = λ i j d less within. h (suc i) (suc j) d (omega arith) (omega arith)
 
 not_negative : (n : ℕ) → 0 ≤ n

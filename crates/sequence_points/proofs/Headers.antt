@@ -10,10 +10,11 @@ use Rattle.blob_grammar.specs.Reader.{Left, push, placed, is_empty}
 use Rattle.blob_grammar.proofs.Placed.{unsigned_there, unsigned_not_there}
 use Rattle.blob_grammar.proofs.Readers.{read_from-reads}
 use Rattle.blob_grammar.proofs.Steps.{nothing_left, left_at, left-field, left-out, left-none, read_from-alike}
+use Rattle.blob_grammar.specs.Allowed.{is_row, is_number}
 use Rattle.sequence_points.specs.declared.point.PointLimits.{PointLimits}
 use Rattle.sequence_points.specs.declared.point.Point.{Point}
 use Rattle.sequence_points.specs.declared.place.Place.{Place}
-use Rattle.sequence_points.specs.Records.{Entry, header, is_row, sequence_points}
+use Rattle.sequence_points.specs.Records.{Entry, header, sequence_points}
 use Rattle.sequence_points.specs.Points.{PointsReading}
 use Rattle.sequence_points.specs.Places.{entries_of, last_entries, as_points, points_at, points_left, after_signature}
 use Rattle.sequence_points.proofs.Sums.{SameSums, alike}
@@ -32,12 +33,12 @@ row_none zero limits blob at signature fault z e =
     left-none (sequence_points 0 limits) [] (number signature ∷ []) blob at unsigned n.code refl n.none (and-false (is_empty (drop at blob))) ∙ ap (λ f. nothing_left (Some f)) (sym n.fault_is)
 row_none (suc column) limits blob at signature fault z e = absurd (omega arith)
 
-pub row_out : (column : ℕ) (limits : PointLimits) (blob : List ℕ) (at signature row len : ℕ) → column ≡ 0 → placed at (unsigned_at (drop at blob)) ≡ Ok (row, len) → is_row limits.documents (number row) ≡ false
+pub row_out : (column : ℕ) (limits : PointLimits) (blob : List ℕ) (at signature row len : ℕ) → column ≡ 0 → placed at (unsigned_at (drop at blob)) ≡ Ok (row, len) → is_number (is_row limits.documents) (number row) ≡ false
     → after_signature column limits blob at signature ≡ nothing_left (Some (record { code = ValueRange; byte = at }))
 row_out zero limits blob at signature row len z e out = left-out (sequence_points 0 limits) [] (number signature ∷ []) blob at unsigned (number row) len refl (unsigned_there at (drop at blob) row len e) out
 row_out (suc column) limits blob at signature row len z e out = absurd (omega arith)
 
-pub row_in : (column : ℕ) (limits : PointLimits) (blob : List ℕ) (at signature row len : ℕ) → column ≡ 0 → placed at (unsigned_at (drop at blob)) ≡ Ok (row, len) → is_row limits.documents (number row) ≡ true
+pub row_in : (column : ℕ) (limits : PointLimits) (blob : List ℕ) (at signature row len : ℕ) → column ≡ 0 → placed at (unsigned_at (drop at blob)) ≡ Ok (row, len) → is_number (is_row limits.documents) (number row) ≡ true
     → after_signature column limits blob at signature ≡ push (header signature row) (left_at (sequence_points column limits) (header signature row ∷ []) [] blob (at + len))
 row_in zero limits blob at signature row len z e inside = left-field (sequence_points 0 limits) [] (number signature ∷ []) blob at unsigned (number row) len refl (unsigned_there at (drop at blob) row len e) inside
 row_in (suc column) limits blob at signature row len z e inside = absurd (omega arith)

@@ -4,15 +4,18 @@ use Rattle.std.specs.Prelude.{All, is_some, ◌-ℤ◌, ◌⊎◌, ◌==◌, if�
 use Rattle.std.proofs.lemmas.Int.{ints}
 use Rattle.cli_ints.specs.Shortest.{short_unsigned, short_signed}
 use Rattle.blob_grammar.specs.Grammar.{Value, number, Form, unsigned, signed, Spells, Field, bytes_of}
+use Rattle.blob_grammar.specs.Allowed.{is_row, is_number}
 use Rattle.sequence_points.specs.declared.point.Point.{Point}
 use Rattle.sequence_points.specs.declared.point.PointLimits.{PointLimits}
 use Rattle.sequence_points.specs.declared.point.Span.{Span}
 use Rattle.sequence_points.specs.declared.point.Span.TheVariants.{Hidden, Lines}
 use Rattle.sequence_points.specs.declared.place.Start.{Start}
-use Rattle.sequence_points.specs.Records.{Entry, hidden, visible, in_document, sums, int_of, is_line, is_column, is_row, columns_form, start_form, document_record, point_form, point_allows, point_of_fields, form, sequence_points}
+use Rattle.sequence_points.specs.Records.{Entry, hidden, visible, in_document, sums, int_of, columns_form, start_form, document_record, point_form, point_allows, point_of_fields, form, sequence_points}
+use Rattle.sequence_points.specs.Ranges.{is_line, is_column}
 use Rattle.sequence_points.specs.Points.{document_after, points_after}
 use Rattle.sequence_points.specs.Places.{start_after}
-use Rattle.sequence_points.specs.Written.{IsLine, IsSpan, last_of, last_start, points_bytes, last_offset, columns_bytes, start_bytes, span_bytes, bytes_after, if_large, large_step}
+use Rattle.sequence_points.specs.Written.{IsSpan, last_of, last_start, points_bytes, last_offset, columns_bytes, start_bytes, span_bytes, bytes_after, if_large, large_step}
+use Rattle.sequence_points.specs.Ranges.{IsLine}
 use Rattle.sequence_points.specs.Following.{IsStart, IsBehind, MayFollow, EachMayFollow}
 use Rattle.sequence_points.proofs.Sums.{IsStarted, form_is, allows_is, record_is}
 use Rattle.sequence_points.proofs.Offsets.{second_is, not_hidden, lt-true}
@@ -46,7 +49,7 @@ ends column limits es begun form bytes value fields e records s expected spells 
 
 -- ---- a document record
 
-pub row-true : (rows row : ℕ) → 1 ≤ row → row ≤ rows → is_row rows (number row) ≡ true
+pub row-true : (rows row : ℕ) → 1 ≤ row → row ≤ rows → is_number (is_row rows) (number row) ≡ true
 row-true rows row low high = grind arith
 
 zero_spells : (left : List ℕ) → Spells unsigned (0 ∷ []) (number 0) left
@@ -61,7 +64,7 @@ write_document column limits es last start document row bytes points s small low
       made = more column limits es [] unsigned (0 ∷ []) (number 0) (record { bytes = short_unsigned row; value = number row } ∷ rest.fields) (in_document row ∷ rest.records) s.started refl zero_spells
           (let o = s.offset in lt-true ((sums es).offset + 0) 536870912 (omega arith)) refl
           (ends column limits es (number 0 ∷ []) unsigned (short_unsigned row) (number row) rest.fields (in_document row) rest.records s.started refl (unsigned_spells row high)
-          (ap (λ b. if b then is_row limits.documents (number row) else true) s.has_point ∙ row-true limits.documents row low there) (ap (λ b. document_record b (number 0) (number row)) s.has_point) rest.made);
+          (ap (λ b. if b then is_number (is_row limits.documents) (number row) else true) s.has_point ∙ row-true limits.documents row low there) (ap (λ b. document_record b (number 0) (number row)) s.has_point) rest.made);
       bytes_are = ap (λ bs. 0 ∷ short_unsigned row ++ bs) rest.bytes_are;
       points_are = rest.points_are;
     }

@@ -12,6 +12,6 @@ pub mod Stands
 pub mod Law
 pub mod Reread
 pub mod Writable
-pub mod ReadFields
 pub mod WellRead
 pub mod ReadPoints
+pub mod MovedPoints

@@ -2,8 +2,8 @@
 use Rattle.std.proofs.Common.{◌≡◌, ℕ, zero, suc, ◌+◌, ◌<◌, ◌≤◌, Bool, true, false, ◌&&◌, ◌||◌, List, [], ◌∷◌, ◌++◌, length, drop, Option, Some, None, Result, Ok, Err, ℤ, pos, refl, sym, ap, subst, ◌∙◌, arith}
 use Rattle.std.specs.Prelude.{if◌then◌else◌, not, ◌==◌, nat_lt, neg_ℤ, ◌≤ℤ◌, ◌⊎◌}
 use Rattle.std.proofs.Common.{inl, inr}
-use mir.Val.{to_z, of_z, SFits}
-use mir.Syntax.{w64}
+use Rattle.std.specs.Int.{w64, cast_signed, cast_unsigned}
+use Rattle.std.specs.Int.RustNames.{FitsSigned}
 use Rattle.std.specs.List.{list_any}
 use Rattle.std.proofs.lemmas.Int.{ints, to_z-of_z}
 use Rattle.blob_grammar.specs.Reader.{unsigned_at}
@@ -15,12 +15,13 @@ use Rattle.blob_grammar.specs.Grammar.{Value, number, integer, octets, unsigned,
 use Rattle.blob_grammar.specs.Reader.{push, placed, field_at, as_number, is_empty}
 use Rattle.blob_grammar.proofs.Steps.{left-none, left-end, not_empty}
 use Rattle.blob_grammar.proofs.Placed.{unsigned_there, unsigned_not_there}
+use Rattle.blob_grammar.specs.Allowed.{is_row, is_number}
 use Rattle.sequence_points.specs.declared.point.PointLimits.{PointLimits}
 use Rattle.sequence_points.specs.declared.point.Span.TheVariants.{Hidden}
 use Rattle.sequence_points.specs.declared.place.Place.{Place}
 use Rattle.sequence_points.specs.declared.place.Last.{Last}
 use Rattle.sequence_points.specs.declared.place.Start.{Start}
-use Rattle.sequence_points.specs.Records.{header, hidden, in_document, is_point, is_row, is_visible, offset_of, start_line_of, start_column_of, int_of, Sums, sums, columns_form, second_allows, sequence_points, document_record, hidden_point}
+use Rattle.sequence_points.specs.Records.{header, hidden, in_document, is_point, is_visible, offset_of, start_line_of, start_column_of, int_of, Sums, sums, columns_form, second_allows, sequence_points, document_record, hidden_point}
 use Rattle.sequence_points.specs.Points.{document_after}
 use Rattle.sequence_points.specs.Places.{entries_of, last_entries, point_entry, start_of, points_at, points_left, no_points, int_placed, place_after, in_document_at, as_points}
 use Rattle.sequence_points.proofs.Sums.{SameSums, sums-push, document-push, same_five}
@@ -62,23 +63,23 @@ row_none limits blob place at first fault e =
     let n = unsigned_not_there at (drop at blob) fault e in
     at-none limits blob place first [] at unsigned n.code refl n.none ∙ ap (λ f. no_points (Some f)) (sym n.fault_is)
 
-pub row_out : (limits : PointLimits) (blob : List ℕ) (place : Place) (at row len : ℕ) → (S place).has_point ≡ true → placed at (unsigned_at (drop at blob)) ≡ Ok (row, len) → is_row limits.documents (number row) ≡ false
+pub row_out : (limits : PointLimits) (blob : List ℕ) (place : Place) (at row len : ℕ) → (S place).has_point ≡ true → placed at (unsigned_at (drop at blob)) ≡ Ok (row, len) → is_number (is_row limits.documents) (number row) ≡ false
     → points_at limits blob place (number 0 ∷ []) at ≡ no_points (Some (record { code = ValueRange; byte = at }))
 row_out limits blob place at row len later e out =
-    at-out limits blob place (number 0 ∷ []) at unsigned (number row) len refl (unsigned_there at (drop at blob) row len e) (ap (λ b. if b then is_row limits.documents (number row) else true) later ∙ out)
+    at-out limits blob place (number 0 ∷ []) at unsigned (number row) len refl (unsigned_there at (drop at blob) row len e) (ap (λ b. if b then is_number (is_row limits.documents) (number row) else true) later ∙ out)
 
-pub row_in : (limits : PointLimits) (blob : List ℕ) (place : Place) (at row len : ℕ) → (S place).has_point ≡ true → placed at (unsigned_at (drop at blob)) ≡ Ok (row, len) → is_row limits.documents (number row) ≡ true
+pub row_in : (limits : PointLimits) (blob : List ℕ) (place : Place) (at row len : ℕ) → (S place).has_point ≡ true → placed at (unsigned_at (drop at blob)) ≡ Ok (row, len) → is_number (is_row limits.documents) (number row) ≡ true
     → points_at limits blob place (number 0 ∷ []) at ≡ points_left limits blob (in_document_at place (at + len) row)
 row_in limits blob place at row len later e inside =
     at-record limits blob place (number 0 ∷ []) at unsigned (number row) len (in_document row) (in_document_at place (at + len) row) refl (unsigned_there at (drop at blob) row len e)
-    (ap (λ b. if b then is_row limits.documents (number row) else true) later ∙ inside) (ap (λ b. document_record b (number 0) (number row)) later) refl (same-document place (at + len) row)
+    (ap (λ b. if b then is_number (is_row limits.documents) (number row) else true) later ∙ inside) (ap (λ b. document_record b (number 0) (number row)) later) refl (same-document place (at + len) row)
 
 -- ---- Lines
 
 -- a point's first field is not 0, unless it is the first point
 pub second_is : (limits : PointLimits) (s : Sums) (step : ℕ) (v : Value) (b : Bool) → s.has_point ≡ b → (b ≡ true → 0 < step) → (second_allows limits s (number step) v ≡ true) × (document_record s.has_point (number step) v ≡ None)
 second_is limits s zero v true e h = absurd (omega (arith, h refl))
-second_is limits s zero v false e h = (ap (λ x. if x then is_row limits.documents v else true) e, ap (λ x. document_record x (number 0) v) e)
+second_is limits s zero v false e h = (ap (λ x. if x then is_number (is_row limits.documents) v else true) e, ap (λ x. document_record x (number 0) v) e)
 second_is limits s (suc step) v true e h = (refl, ap (λ x. document_record x (number (suc step)) v) e)
 second_is limits s (suc step) v false e h = (refl, ap (λ x. document_record x (number (suc step)) v) e)
 
@@ -196,11 +197,11 @@ hidden_read limits blob place step lines at len offset z l is h o =
     ap (λ n. points_at limits blob place (number step ∷ number n ∷ []) at) l ∙ hidden_in limits blob place step at len offset (subst (λ (n : ℕ). columns_there at blob n (Ok (pos 0, len))) l there) o
 
 -- an integer whose stored form is 0
-pub zero_int : (z : ℤ) → neg_ℤ (pos 4294967296) ≤ℤ z → z ≤ℤ pos 4294967296 → of_z w64 z ≡ 0 → z ≡ pos 0
-zero_int z low high e = let fits : SFits w64 z = omega (arith, ints) in sym (to_z-of_z w64 z fits) ∙ ap (to_z w64) e
+pub zero_int : (z : ℤ) → neg_ℤ (pos 4294967296) ≤ℤ z → z ≤ℤ pos 4294967296 → cast_unsigned w64 z ≡ 0 → z ≡ pos 0
+zero_int z low high e = let fits : FitsSigned w64 z = omega (arith, ints) in sym (to_z-of_z w64 z fits) ∙ ap (cast_signed w64) e
 
-pub not_zero_int : (lines : ℕ) (z : ℤ) → ((lines ≡ 0) × (of_z w64 z ≡ 0 → ⊥)) ⊎ (lines ≡ 0 → ⊥) → lines ≡ 0 → z ≡ pos 0 → ⊥
-not_zero_int lines z (inl h) l e = h.1 (ap (of_z w64) e)
+pub not_zero_int : (lines : ℕ) (z : ℤ) → ((lines ≡ 0) × (cast_unsigned w64 z ≡ 0 → ⊥)) ⊎ (lines ≡ 0 → ⊥) → lines ≡ 0 → z ≡ pos 0 → ⊥
+not_zero_int lines z (inl h) l e = h.1 (ap (cast_unsigned w64) e)
 not_zero_int lines z (inr h) l e = h l
 
 -- ---- the first field

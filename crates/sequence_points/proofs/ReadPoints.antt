@@ -4,13 +4,15 @@ use Rattle.std.specs.Prelude.{All, nat_le, ◌<ℤ◌, if◌then◌else◌}
 use Rattle.std.proofs.lemmas.Int.{ints}
 use Rattle.std.proofs.lemmas.Bool.{and_parts, ltb-true, leb-true}
 use Rattle.blob_grammar.specs.Grammar.{Value, number, integer, octets, Form, unsigned, Spells, Field, Cut, with_value, closed, cut, IsAllowed}
+use Rattle.blob_grammar.specs.Allowed.{is_row, is_number}
 use Rattle.sequence_points.specs.declared.point.Point.{Point}
 use Rattle.sequence_points.specs.declared.point.PointLimits.{PointLimits}
-use Rattle.sequence_points.specs.Records.{Entry, Sums, sums, int_of, is_line, is_column, is_row, second_allows, document_record, hidden_point, columns_form, may_stop, sequence_points}
+use Rattle.sequence_points.specs.Records.{Entry, Sums, sums, int_of, second_allows, document_record, hidden_point, columns_form, may_stop, sequence_points}
+use Rattle.sequence_points.specs.Ranges.{is_line, is_column}
 use Rattle.sequence_points.specs.Points.{PointsReading}
 use Rattle.sequence_points.specs.Written.{CanBeWritten}
 use Rattle.sequence_points.proofs.Offsets.{not_hidden}
-use Rattle.sequence_points.proofs.ReadFields.{of_reading}
+use Rattle.blob_grammar.proofs.ReadRecords.{of_reading}
 use Rattle.sequence_points.proofs.WellRead.{IsThere, Well, well_header, well_document, well_hidden, well_visible, span_read}
 
 -- ---- what holds while the fields are read
@@ -61,7 +63,7 @@ unsigned_read form bytes v after e s = let same : form ≡ unsigned = cc in by_v
     by_value (integer z) t = absurd t
     by_value (octets xs) t = absurd t
 
-row_read : (limits : PointLimits) (row : ℕ) → is_row limits.documents (number row) ≡ true → IsThere limits row
+row_read : (limits : PointLimits) (row : ℕ) → is_number (is_row limits.documents) (number row) ≡ true → IsThere limits row
 row_read limits row h = let p = and_parts (nat_le 1 row) (nat_le row limits.documents) h in (leb-true 1 row p.0, leb-true row limits.documents p.1)
 
 -- records were read, and one more
@@ -106,7 +108,7 @@ second : (column : ℕ) (limits : PointLimits) (x : Entry) (xs : List Entry) (st
     → second_allows limits (sums es) (number step) (number value) ≡ true → GoesOn limits column es (number step ∷ number value ∷ []) (document_record (sums es).has_point (number step) (number value))
 second column limits x xs zero value true w small has allowed =
     let es = x ∷ xs in
-    let there = row_read limits value (sym (ap (λ b. if b then is_row limits.documents (number value) else true) has) ∙ allowed) in
+    let there = row_read limits value (sym (ap (λ b. if b then is_number (is_row limits.documents) (number value) else true) has) ∙ allowed) in
     subst (λ (b : Bool). GoesOn limits column es (number 0 ∷ number value ∷ []) (document_record b (number 0) (number value))) (sym has) (well_document limits es value w there, tt)
 second column limits x xs zero value false w small has allowed =
     let es = x ∷ xs in

@@ -10,7 +10,8 @@ use Rattle.sequence_points.specs.declared.point.Point.{Point}
 use Rattle.sequence_points.specs.declared.point.PointLimits.{PointLimits}
 use Rattle.sequence_points.specs.Records.{Entry, header, hidden, visible, in_document, is_point, sequence_points}
 use Rattle.sequence_points.specs.Points.{PointsReading, points_after, common_document}
-use Rattle.sequence_points.specs.Written.{CanBeWritten, IsDocument, large_steps, initial_document, points_bytes, points_blob}
+use Rattle.sequence_points.specs.Written.{CanBeWritten, large_steps, initial_document, points_bytes, points_blob}
+use Rattle.sequence_points.specs.Ranges.{IsDocument}
 use Rattle.sequence_points.proofs.Follows.{each_follows}
 use Rattle.sequence_points.proofs.Spelled.{unsigned_spells}
 use Rattle.sequence_points.proofs.Makes.{field_more, field_last, made_read}

@@ -3,8 +3,7 @@ use Rattle.std.proofs.Common.{◌≡◌, ℕ, ◌+◌, Bool, ◌&&◌, List, [],
 use Rattle.std.specs.Prelude.{if◌then◌else◌, unsigned_abs}
 use Rattle.std.specs.Prelude.{neg_ℤ, ◌≤ℤ◌}
 use Rattle.std.proofs.lemmas.Int.{ints, to_z-of_z}
-use mir.Val.{to_z, of_z}
-use mir.Syntax.{w64}
+use Rattle.std.specs.Int.{w64, cast_signed, cast_unsigned}
 use Rattle.ppdb_base.specs.declared.Code.{Code}
 use Rattle.ppdb_base.specs.declared.Code.TheVariants.{ValueRange}
 use Rattle.ppdb_base.specs.declared.BlobFault.{BlobFault}
@@ -13,7 +12,8 @@ use Rattle.blob_grammar.specs.Reader.{push, field_at}
 use Rattle.sequence_points.specs.declared.point.PointLimits.{PointLimits}
 use Rattle.sequence_points.specs.declared.point.Span.TheVariants.{Lines}
 use Rattle.sequence_points.specs.declared.place.Place.{Place}
-use Rattle.sequence_points.specs.Records.{visible, is_line, is_column, int_of, Sums, sums, start_form}
+use Rattle.sequence_points.specs.Records.{visible, int_of, Sums, sums, start_form}
+use Rattle.sequence_points.specs.Ranges.{is_line, is_column}
 use Rattle.sequence_points.specs.Points.{document_after}
 use Rattle.sequence_points.specs.Places.{entries_of, points_at, points_left, no_points, int_placed, RangeIs, place_after}
 use Rattle.sequence_points.proofs.Places.{with_point, at-field, at-record, at-out, at-none, document-at, same-visible}
@@ -129,5 +129,5 @@ point_in limits blob place step lines c line columns at b z len base offset star
     = (let o : (S place).offset + step ≡ offset = sym offset_is in let d : document_after (entries_of place) ≡ place.document = document-at place in cc) in all)
 
 -- a signed number that was passed is itself
-pub passed : (P : ℤ → Type 0) (z : ℤ) → neg_ℤ (pos 4294967296) ≤ℤ z → z ≤ℤ pos 4294967296 → P (to_z w64 (of_z w64 z)) → P z
+pub passed : (P : ℤ → Type 0) (z : ℤ) → neg_ℤ (pos 4294967296) ≤ℤ z → z ≤ℤ pos 4294967296 → P (cast_signed w64 (cast_unsigned w64 z)) → P z
 passed P z low high h = subst P (to_z-of_z w64 z (omega (arith, ints))) h

@@ -9,9 +9,11 @@ use Rattle.std.proofs.lemmas.List.Kept.{AllPairs-cons}
 use Rattle.sequence_points.specs.declared.point.Point.{Point}
 use Rattle.sequence_points.specs.declared.point.PointLimits.{PointLimits}
 use Rattle.sequence_points.specs.declared.point.Span.TheVariants.{Hidden, Lines}
-use Rattle.sequence_points.specs.Records.{Entry, header, hidden, visible, in_document, Sums, sums, is_line, is_column}
+use Rattle.sequence_points.specs.Records.{Entry, header, hidden, visible, in_document, Sums, sums}
+use Rattle.sequence_points.specs.Ranges.{is_line, is_column}
 use Rattle.sequence_points.specs.Points.{document_after, point_of, points_after, signature_of}
-use Rattle.sequence_points.specs.Written.{IsOffset, IsLine, IsColumn, IsSpan}
+use Rattle.sequence_points.specs.Written.{IsSpan}
+use Rattle.sequence_points.specs.Ranges.{IsOffset, IsLine, IsColumn}
 use Rattle.sequence_points.proofs.Sums.{IsStarted, sums-push, document-push, started-push}
 use Rattle.sequence_points.proofs.Places.{or-true}
 use Rattle.sequence_points.proofs.Offsets.{or-false}

@@ -5,7 +5,8 @@ use Rattle.std.proofs.lemmas.List.Elements.{All-nil, All-cons}
 use Rattle.std.proofs.lemmas.List.Kept.{AllPairs-cons}
 use Rattle.sequence_points.specs.declared.point.Point.{Point}
 use Rattle.sequence_points.specs.declared.point.Span.TheVariants.{Hidden, Lines}
-use Rattle.sequence_points.specs.Written.{IsOffset, IsDocument, IsSpan, CanBeWritten}
+use Rattle.sequence_points.specs.Written.{IsSpan, CanBeWritten}
+use Rattle.sequence_points.specs.Ranges.{IsOffset, IsDocument}
 
 pub record AreRanged (points : List Point) : Type 0 where
   pub rise : AllPairs (λ p q. p.offset < q.offset) points

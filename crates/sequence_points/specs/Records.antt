@@ -2,7 +2,9 @@
 use Rattle.std.specs.Prelude.{ℕ, zero, suc, ◌+◌, List, [], ◌∷◌, Option, Some, None, Bool, true, false, not, ◌&&◌, nat_le, nat_lt, ◌==◌, if◌then◌else◌, ℤ, pos, negsuc, ◌+ℤ◌}
 use Rattle.std.specs.List.{sum_by, list_any}
 use Rattle.blob_grammar.specs.Grammar.{Value, number, integer, Form, unsigned, signed, Grammar}
+use Rattle.blob_grammar.specs.Allowed.{is_row, is_number}
 use Rattle.sequence_points.specs.declared.point.PointLimits.{PointLimits}
+use Rattle.sequence_points.specs.Ranges.{is_offset, is_line, is_column}
 
 -- A record of the blob, its numbers as they are stored: offset, start line and start column are differences.
 pub data Entry : Type 0 where
@@ -64,27 +66,6 @@ int_of (number n) = pos n
 int_of (integer z) = z
 int_of _ = pos 0
 
-abbrev pub is_offset : ℕ → Bool
-is_offset n = nat_lt n 536870912
-
--- a line lies in 0 to 0x1fffffff and is not 0xfeefee
-abbrev pub is_line : ℤ → Bool
-is_line (pos n) = nat_lt n 536870912 && not (n == 16707566)
-is_line (negsuc n) = false
-
--- a column lies in 0 to 0xffff
-abbrev pub is_column : ℤ → Bool
-is_column (pos n) = nat_lt n 65536
-is_column (negsuc n) = false
-
-abbrev pub is_row : ℕ → Value → Bool
-is_row rows (number n) = nat_le 1 n && nat_le n rows
-is_row rows _ = false
-
-abbrev pub is_row_or_0 : ℕ → Value → Bool
-is_row_or_0 rows (number n) = nat_le n rows
-is_row_or_0 rows _ = false
-
 -- ---- the header: LocalSignature, and InitialDocument where the Document column of the method is 0
 
 abbrev pub header_form : List Value → Option Form
@@ -93,8 +74,8 @@ header_form (signature ∷ []) = Some unsigned
 header_form _ = None
 
 abbrev pub header_allows : PointLimits → List Value → Value → Bool
-header_allows limits [] signature = is_row_or_0 limits.signatures signature
-header_allows limits _ row = is_row limits.documents row
+header_allows limits [] signature = is_number (λ row. nat_le row limits.signatures) signature
+header_allows limits _ document = is_number (is_row limits.documents) document
 
 abbrev pub header_for : ℕ → ℕ → Option Entry
 header_for zero signature = None
@@ -126,7 +107,7 @@ point_form before _ = None
 
 -- After a first field: the row of a document record, which is known by its 0 and is not the first record; or the lines of a point.
 abbrev pub second_allows : PointLimits → Sums → Value → Value → Bool
-second_allows limits before (number zero) value = if before.has_point then is_row limits.documents value else true
+second_allows limits before (number zero) value = if before.has_point then is_number (is_row limits.documents) value else true
 second_allows limits before _ value = true
 
 abbrev pub point_allows : PointLimits → Sums → List Value → Value → Bool

@@ -11,21 +11,10 @@ use Rattle.sequence_points.specs.declared.place.Start.{Start}
 use Rattle.sequence_points.specs.declared.step.LineStep.{LineStep}
 use Rattle.sequence_points.specs.declared.writer.PointError.{PointError}
 use Rattle.sequence_points.specs.declared.writer.PointError.TheVariants.{Step, Memory}
+use Rattle.sequence_points.specs.Ranges.{IsOffset, IsDocument, IsLine, IsColumn}
 use Rattle.sequence_points.specs.Points.{common_document}
 
 -- ---- what can be written
-
-abbrev pub IsOffset : ℕ → Type 0
-IsOffset offset = offset < 0x20000000
-
-abbrev pub IsDocument : ℕ → Type 0
-IsDocument row = (1 ≤ row) × (row < 0x20000000)
-
-abbrev pub IsLine : ℕ → Type 0
-IsLine line = (line < 0x20000000) × (line ≢ 0xfeefee)
-
-abbrev pub IsColumn : ℕ → Type 0
-IsColumn column = column < 0x10000
 
 -- An end line above the start line, or the same line and an end column above the start column.
 abbrev pub IsSpan : Span → Type 0

@@ -12,7 +12,7 @@ use crate::place::Place;
 use crate::point::{Point, PointLimits};
 use crate::ranges::out_of_range;
 use crate::records::{offset_after_documents, point_after_offset};
-use blob_grammar::unsigned_field;
+use blob_grammar::{BlobCursor, fault_after, unsigned_field};
 use ppdb_base::BlobFault;
 use std::marker::Model;
 
@@ -67,6 +67,7 @@ impl<'a> PointCursor<'a> {
     }
 
     /// The next point; None at the end of a whole blob.
+    #[inline(always)]
     pub fn next(&mut self) -> Result<Option<Point>, BlobFault>
         ensures answer { result ≡ answer self.old.left }
         ensures left { self.new ≡ record self.old { left = rest_of self.old.left } }
@@ -81,6 +82,27 @@ impl<'a> PointCursor<'a> {
     }
 }
 
+impl<'a> BlobCursor for PointCursor<'a> {
+    ghost use Rattle.std.specs.Prelude.{ℕ};
+    ghost use Rattle.sequence_points.specs.declared.point.Point.{Point};
+
+    type Item = Point;
+
+    ghost Seen = { Point };
+
+    ghost seen = { λ point. point };
+
+    ghost left = { λ c. c.left };
+
+    ghost Kept = { ℕ };
+
+    ghost kept = { λ c. c.signature };
+
+    fn next_item(&mut self) -> Result<Option<Point>, BlobFault> {
+        self.next()
+    }
+}
+
 /// The fault of a blob, None where it is whole.
 pub fn blob_fault(blob: &[u8], column: u32, limits: PointLimits) -> Option<BlobFault>
     requires some { 0 < length blob.now }
@@ -88,15 +110,8 @@ pub fn blob_fault(blob: &[u8], column: u32, limits: PointLimits) -> Option<BlobF
     requires column { column ≤ limits.documents }
     ensures { (entries : List Entry) × Reading (sequence_points column limits) blob.now entries result }
 {
-    let mut cursor = match PointCursor::new(blob, column, limits) {
-        Ok(cursor) => cursor,
-        Err(fault) => return Some(fault),
-    };
-    'points: loop {
-        match cursor.next() {
-            Ok(Some(_)) => {}
-            Ok(None) => return None,
-            Err(fault) => return Some(fault),
-        }
+    match PointCursor::new(blob, column, limits) {
+        Ok(mut cursor) => fault_after(&mut cursor),
+        Err(fault) => Some(fault),
     }
 }

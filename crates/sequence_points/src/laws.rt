@@ -1,10 +1,17 @@
 //! What is written is read again, and what is read can be written.
 
 ghost use Rattle.std.specs.Prelude.{◌≡◌, ◌<◌, ◌≤◌, [], List, ℕ, All, None};
+ghost use Rattle.blob_grammar.specs.Reading.{IsReadOnce};
 ghost use Rattle.sequence_points.specs.declared.point.Point.{Point};
 ghost use Rattle.sequence_points.specs.declared.point.PointLimits.{PointLimits};
 ghost use Rattle.sequence_points.specs.Points.{PointsReading, common_document};
+ghost use Rattle.sequence_points.specs.Records.{sequence_points};
 ghost use Rattle.sequence_points.specs.Written.{CanBeWritten, large_steps, points_blob};
+
+/// Each blob is read as sequence points in one way.
+pub fn points_are_read_once()
+    ensures { (column : ℕ) (limits : PointLimits) (blob : List ℕ) → IsReadOnce (sequence_points column limits) blob }
+{}
 
 /// What `points_into` appends is whole and has the signature and the points, wherever the Document column is
 /// the points' single document and each row that they name is there.

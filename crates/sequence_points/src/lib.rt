@@ -4,6 +4,7 @@
 mod cursor;
 mod header;
 mod laws;
+mod moved;
 mod place;
 mod point;
 mod ranges;
@@ -14,6 +15,7 @@ mod tests;
 mod writer;
 
 pub use cursor::{PointCursor, blob_fault};
-pub use laws::{read_points_can_be_written, written_points_are_read};
+pub use laws::{points_are_read_once, read_points_can_be_written, written_points_are_read};
+pub use moved::points_move_in_order;
 pub use point::{Point, PointLimits, Span, single_document};
 pub use writer::{PointError, points_into};

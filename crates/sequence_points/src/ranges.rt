@@ -1,8 +1,8 @@
 //! The ranges of lines, columns and rows.
 
 ghost use Rattle.std.specs.Prelude.{◌≡◌, ◌<◌, ◌^◌, ◌≤ℤ◌, neg_ℤ, pos, ◌+ℤ◌};
-ghost use Rattle.blob_grammar.specs.Grammar.{number};
-ghost use Rattle.sequence_points.specs.Records.{is_line as line_fits, is_column as column_fits, is_row as row_fits};
+ghost use Rattle.blob_grammar.specs.Allowed.{is_row as row_fits};
+ghost use Rattle.sequence_points.specs.Ranges.{is_line as line_fits, is_column as column_fits};
 ghost use Rattle.sequence_points.specs.Places.{RangeIs, PassesAs};
 
 use ppdb_base::{BlobFault, Code};
@@ -73,7 +73,7 @@ pub(crate) fn as_column(column: i64) -> Option<u32>
 
 /// Whether a table of so many rows has the row.
 pub(crate) fn is_row(row: u32, rows: u32) -> bool
-    ensures { result ≡ row_fits rows (number row) }
+    ensures { result ≡ row_fits rows row }
 {
     1 <= row && row <= rows
 }

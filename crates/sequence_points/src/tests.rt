@@ -156,6 +156,17 @@ fn reads_one_document(rt: HostRuntime) {
             &[(0, 1, Some((10, 5, 10, 9))), (3, 1, None)],
             Some((Code::IntegerForm, 13)),
         ),
+        // a header alone
+        in_one(b"\0", &[], Some((Code::BlobEnd, 1))),
+    ];
+    for row in &table {
+        check_read(&rt, row);
+    }
+}
+
+#[test]
+fn reads_starts(rt: HostRuntime) {
+    let table = [
         // a difference of two bytes where one would do
         in_one(
             b"\0\0\0\x04\x0a\x46\x03\0\x01\x02\xbf\x81",
@@ -185,8 +196,6 @@ fn reads_one_document(rt: HostRuntime) {
             &[(0, 1, Some((2, 30, 2, 31))), (1, 1, Some((2, 32, 2, 33)))],
             None,
         ),
-        // a header alone
-        in_one(b"\0", &[], Some((Code::BlobEnd, 1))),
     ];
     for row in &table {
         check_read(&rt, row);

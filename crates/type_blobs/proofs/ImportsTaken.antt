@@ -11,9 +11,12 @@ use Rattle.blob_grammar.proofs.Readers.{read_from-reads}
 use Rattle.blob_grammar.proofs.Steps.{Alike, read_from-alike, nothing_left, left_at, left-field, left-out, left-none, left-end, not_empty}
 use Rattle.type_blobs.specs.declared.types.TypeToken.{TypeToken}
 use Rattle.type_blobs.specs.declared.types.TypeLimits.{TypeLimits}
-use Rattle.type_blobs.specs.Types.{is_row, is_type, token_of}
+use Rattle.blob_grammar.specs.Allowed.{is_row}
+use Rattle.type_blobs.specs.Types.{is_type, token_of}
 use Rattle.type_blobs.specs.Numbers.{number_at}
-use Rattle.type_blobs.specs.Imports.{Part, alias_part, assembly_part, namespace_part, target_part, next_part, part_allows, text_of, import_of, imports, ImportItem, namespace, assembly_namespace, target, xml, alias, assembly_alias, namespace_alias, assembly_namespace_alias, target_alias}
+use Rattle.type_blobs.specs.Imports.{next_part, part_allows, text_of, import_of, imports, ImportItem, namespace, assembly_namespace, target, xml, alias, assembly_alias, namespace_alias, assembly_namespace_alias, target_alias}
+use Rattle.type_blobs.specs.declared.import_part.ImportPart.{ImportPart}
+use Rattle.type_blobs.specs.declared.import_part.ImportPart.TheVariants.{Alias, Assembly, Namespace, Target}
 use Rattle.type_blobs.specs.ImportReading.{imports_left, fields_left, text_at, assembly_at, target_at}
 use Rattle.type_blobs.proofs.NextStep.{Found, found}
 use Rattle.type_blobs.proofs.FieldsTaken.{takes, refuses}
@@ -44,18 +47,18 @@ module _ (limits : TypeLimits) (heap : ℕ → Option (List ℕ)) (blob : List �
 
   -- ---- a field of a part
 
-  abbrev IsPart : Part → ℕ → List Value → Type 0
+  abbrev IsPart : ImportPart → ℕ → List Value → Type 0
   IsPart part kind fields = next_part (number kind ∷ fields) ≡ Some part
 
-  allows_part : (part : Part) (kind : ℕ) (fields : List Value) → IsPart part kind fields → (n : ℕ) → (imports limits heap).allows [] (number kind ∷ fields) (number n) ≡ part_allows limits heap part n
+  allows_part : (part : ImportPart) (kind : ℕ) (fields : List Value) → IsPart part kind fields → (n : ℕ) → (imports limits heap).allows [] (number kind ∷ fields) (number n) ≡ part_allows limits heap part n
   allows_part part kind fields e n = rw e refl
 
-  pub taken : {X : Type 0} (part : Part) (kind : ℕ) (fields : List Value) (at : ℕ) (means : ℕ → X) (meaning : X) (next : ℕ) → IsPart part kind fields
+  pub taken : {X : Type 0} (part : ImportPart) (kind : ℕ) (fields : List Value) (at : ℕ) (means : ℕ → X) (meaning : X) (next : ℕ) → IsPart part kind fields
       → (f : Found (part_allows limits heap part) means blob at meaning next) → after (number kind ∷ fields) at ≡ goes_on ((number kind ∷ fields) ++ number f.n ∷ []) next
   taken part kind fields at means meaning next is f =
       takes (imports limits heap) [] (number kind ∷ fields) blob at (part_allows limits heap part) means meaning next refl (allows_part part kind fields is) f
 
-  pub refused : {X : Type 0} (part : Part) (kind : ℕ) (fields : List Value) (at : ℕ) (means : ℕ → X) (fault : BlobFault) → IsPart part kind fields
+  pub refused : {X : Type 0} (part : ImportPart) (kind : ℕ) (fields : List Value) (at : ℕ) (means : ℕ → X) (fault : BlobFault) → IsPart part kind fields
       → number_at (part_allows limits heap part) means blob at ≡ Err fault → after (number kind ∷ fields) at ≡ nothing_left (Some fault)
   refused part kind fields at means fault is e =
       refuses (imports limits heap) [] (number kind ∷ fields) blob at (part_allows limits heap part) means fault refl (allows_part part kind fields is) (and-false (is_empty (drop at blob))) e
@@ -87,7 +90,7 @@ module _ (limits : TypeLimits) (heap : ℕ → Option (List ℕ)) (blob : List �
   unfolding fields_left
   an_import_1 at text next e =
       let f = text_found at text next e in
-      taken namespace_part 1 [] at (text_of heap) text next refl f ∙ closed (number 1 ∷ number f.n ∷ []) (namespace text) next (ap (λ t. Some (namespace t)) f.means_it)
+      taken Namespace 1 [] at (text_of heap) text next refl f ∙ closed (number 1 ∷ number f.n ∷ []) (namespace text) next (ap (λ t. Some (namespace t)) f.means_it)
 
   pub an_import_2 : (at assembly next : ℕ) (text : List ℕ) (end : ℕ) → assembly_at limits blob at ≡ Ok (assembly, next) → Text next text end → Left_after 2 at (then (assembly_namespace assembly text) end)
   unfolding fields_left
@@ -96,18 +99,18 @@ module _ (limits : TypeLimits) (heap : ℕ → Option (List ℕ)) (blob : List �
       let f = text_found next text end e in
       let p : a.n ≡ assembly = a.means_it in
       let q : text_of heap f.n ≡ text = f.means_it in
-      taken assembly_part 2 [] at (λ n. n) assembly next refl a ∙ taken namespace_part 2 (number a.n ∷ []) next (text_of heap) text end refl f
+      taken Assembly 2 [] at (λ n. n) assembly next refl a ∙ taken Namespace 2 (number a.n ∷ []) next (text_of heap) text end refl f
       ∙ closed (number 2 ∷ number a.n ∷ number f.n ∷ []) (assembly_namespace assembly text) end (rw (p, q) refl)
 
   pub an_import_3 : (at : ℕ) (token : TypeToken) (next : ℕ) → target_at limits blob at ≡ Ok (token, next) → Left_after 3 at (then (target token) next)
   unfolding fields_left
   an_import_3 at token next e =
       let f = target_found at token next e in
-      taken target_part 3 [] at token_of token next refl f ∙ closed (number 3 ∷ number f.n ∷ []) (target token) next (ap (λ t. Some (target t)) f.means_it)
+      taken Target 3 [] at token_of token next refl f ∙ closed (number 3 ∷ number f.n ∷ []) (target token) next (ap (λ t. Some (target t)) f.means_it)
 
   -- ---- an import that begins with an alias
 
-  alias_first : (kind : ℕ) → 4 ≤ kind → kind ≤ 9 → IsPart alias_part kind []
+  alias_first : (kind : ℕ) → 4 ≤ kind → kind ≤ 9 → IsPart Alias kind []
   alias_first zero low high = absurd (omega arith)
   alias_first (suc zero) low high = absurd (omega arith)
   alias_first (suc (suc zero)) low high = absurd (omega arith)
@@ -122,11 +125,11 @@ module _ (limits : TypeLimits) (heap : ℕ → Option (List ℕ)) (blob : List �
 
   pub no_alias : (kind at : ℕ) (fault : BlobFault) → 4 ≤ kind → kind ≤ 9 → text_at heap blob at ≡ Err fault → Left_after kind at (nothing_left (Some fault))
   unfolding fields_left
-  no_alias kind at fault low high e = refused alias_part kind [] at (text_of heap) fault (alias_first kind low high) e
+  no_alias kind at fault low high e = refused Alias kind [] at (text_of heap) fault (alias_first kind low high) e
 
-  alias_taken : (kind at : ℕ) (name : List ℕ) (next : ℕ) → IsPart alias_part kind [] → (f : Found (λ n. is_some (heap n)) (text_of heap) blob at name next) → Left_after kind at (goes_on (number kind ∷ number f.n ∷ []) next)
+  alias_taken : (kind at : ℕ) (name : List ℕ) (next : ℕ) → IsPart Alias kind [] → (f : Found (λ n. is_some (heap n)) (text_of heap) blob at name next) → Left_after kind at (goes_on (number kind ∷ number f.n ∷ []) next)
   unfolding fields_left
-  alias_taken kind at name next is f = taken alias_part kind [] at (text_of heap) name next is f
+  alias_taken kind at name next is f = taken Alias kind [] at (text_of heap) name next is f
 
   pub an_import_4 : (at : ℕ) (name : List ℕ) (next : ℕ) (text : List ℕ) (end : ℕ) → Text at name next → Text next text end → Left_after 4 at (then (xml name text) end)
   an_import_4 at name next text end d e =
@@ -134,7 +137,7 @@ module _ (limits : TypeLimits) (heap : ℕ → Option (List ℕ)) (blob : List �
       let f = text_found next text end e in
       let p : text_of heap a.n ≡ name = a.means_it in
       let q : text_of heap f.n ≡ text = f.means_it in
-      alias_taken 4 at name next refl a ∙ taken namespace_part 4 (number a.n ∷ []) next (text_of heap) text end refl f
+      alias_taken 4 at name next refl a ∙ taken Namespace 4 (number a.n ∷ []) next (text_of heap) text end refl f
       ∙ closed (number 4 ∷ number a.n ∷ number f.n ∷ []) (xml name text) end (rw (p, q) refl)
 
   pub an_import_5 : (at : ℕ) (name : List ℕ) (next : ℕ) → Text at name next → Left_after 5 at (then (alias name) next)
@@ -148,7 +151,7 @@ module _ (limits : TypeLimits) (heap : ℕ → Option (List ℕ)) (blob : List �
       let f = assembly_found next assembly end e in
       let p : text_of heap a.n ≡ name = a.means_it in
       let q : f.n ≡ assembly = f.means_it in
-      alias_taken 6 at name next refl a ∙ taken assembly_part 6 (number a.n ∷ []) next (λ n. n) assembly end refl f
+      alias_taken 6 at name next refl a ∙ taken Assembly 6 (number a.n ∷ []) next (λ n. n) assembly end refl f
       ∙ closed (number 6 ∷ number a.n ∷ number f.n ∷ []) (assembly_alias name assembly) end (rw (p, q) refl)
 
   pub an_import_7 : (at : ℕ) (name : List ℕ) (next : ℕ) (text : List ℕ) (end : ℕ) → Text at name next → Text next text end → Left_after 7 at (then (namespace_alias name text) end)
@@ -157,7 +160,7 @@ module _ (limits : TypeLimits) (heap : ℕ → Option (List ℕ)) (blob : List �
       let f = text_found next text end e in
       let p : text_of heap a.n ≡ name = a.means_it in
       let q : text_of heap f.n ≡ text = f.means_it in
-      alias_taken 7 at name next refl a ∙ taken namespace_part 7 (number a.n ∷ []) next (text_of heap) text end refl f
+      alias_taken 7 at name next refl a ∙ taken Namespace 7 (number a.n ∷ []) next (text_of heap) text end refl f
       ∙ closed (number 7 ∷ number a.n ∷ number f.n ∷ []) (namespace_alias name text) end (rw (p, q) refl)
 
   pub an_import_8 : (at : ℕ) (name : List ℕ) (next assembly more : ℕ) (text : List ℕ) (end : ℕ) → Text at name next → assembly_at limits blob next ≡ Ok (assembly, more) → Text more text end
@@ -169,8 +172,8 @@ module _ (limits : TypeLimits) (heap : ℕ → Option (List ℕ)) (blob : List �
       let p : text_of heap a.n ≡ name = a.means_it in
       let q : b.n ≡ assembly = b.means_it in
       let r : text_of heap f.n ≡ text = f.means_it in
-      alias_taken 8 at name next refl a ∙ taken assembly_part 8 (number a.n ∷ []) next (λ n. n) assembly more refl b
-      ∙ taken namespace_part 8 (number a.n ∷ number b.n ∷ []) more (text_of heap) text end refl f
+      alias_taken 8 at name next refl a ∙ taken Assembly 8 (number a.n ∷ []) next (λ n. n) assembly more refl b
+      ∙ taken Namespace 8 (number a.n ∷ number b.n ∷ []) more (text_of heap) text end refl f
       ∙ closed (number 8 ∷ number a.n ∷ number b.n ∷ number f.n ∷ []) (assembly_namespace_alias name assembly text) end (rw (p, q, r) refl)
 
   pub an_import_9 : (at : ℕ) (name : List ℕ) (next : ℕ) (token : TypeToken) (end : ℕ) → Text at name next → target_at limits blob next ≡ Ok (token, end) → Left_after 9 at (then (target_alias name token) end)
@@ -179,12 +182,12 @@ module _ (limits : TypeLimits) (heap : ℕ → Option (List ℕ)) (blob : List �
       let f = target_found next token end e in
       let p : text_of heap a.n ≡ name = a.means_it in
       let q : token_of f.n ≡ token = f.means_it in
-      alias_taken 9 at name next refl a ∙ taken target_part 9 (number a.n ∷ []) next token_of token end refl f
+      alias_taken 9 at name next refl a ∙ taken Target 9 (number a.n ∷ []) next token_of token end refl f
       ∙ closed (number 9 ∷ number a.n ∷ number f.n ∷ []) (target_alias name token) end (rw (p, q) refl)
 
   -- ---- a later field that is missing
 
-  pub no_first : {X : Type 0} (part : Part) (kind at : ℕ) (means : ℕ → X) (fault : BlobFault) → IsPart part kind [] → number_at (part_allows limits heap part) means blob at ≡ Err fault → Left_after kind at (nothing_left (Some fault))
+  pub no_first : {X : Type 0} (part : ImportPart) (kind at : ℕ) (means : ℕ → X) (fault : BlobFault) → IsPart part kind [] → number_at (part_allows limits heap part) means blob at ≡ Err fault → Left_after kind at (nothing_left (Some fault))
   unfolding fields_left
   no_first part kind at means fault is e = refused part kind [] at means fault is e
 
@@ -192,10 +195,10 @@ module _ (limits : TypeLimits) (heap : ℕ → Option (List ℕ)) (blob : List �
   unfolding fields_left
   no_text_2 at assembly next fault d e =
       let a = assembly_found at assembly next d in
-      taken assembly_part 2 [] at (λ n. n) assembly next refl a ∙ refused namespace_part 2 (number a.n ∷ []) next (text_of heap) fault refl e
+      taken Assembly 2 [] at (λ n. n) assembly next refl a ∙ refused Namespace 2 (number a.n ∷ []) next (text_of heap) fault refl e
 
   -- the import goes on after its alias, with this part
-  pub no_second : {X : Type 0} (part : Part) (kind at : ℕ) (name : List ℕ) (next : ℕ) (means : ℕ → X) (fault : BlobFault) → IsPart alias_part kind [] → ((n : ℕ) → IsPart part kind (number n ∷ []))
+  pub no_second : {X : Type 0} (part : ImportPart) (kind at : ℕ) (name : List ℕ) (next : ℕ) (means : ℕ → X) (fault : BlobFault) → IsPart Alias kind [] → ((n : ℕ) → IsPart part kind (number n ∷ []))
       → ((n : ℕ) → goes_on (number kind ∷ number n ∷ []) next ≡ after (number kind ∷ number n ∷ []) next)
       → Text at name next → number_at (part_allows limits heap part) means blob next ≡ Err fault → Left_after kind at (nothing_left (Some fault))
   no_second part kind at name next means fault first second goes d e =
@@ -206,8 +209,8 @@ module _ (limits : TypeLimits) (heap : ℕ → Option (List ℕ)) (blob : List �
   no_text_8 at name next assembly more fault d h e =
       let a = text_found at name next d in
       let b = assembly_found next assembly more h in
-      alias_taken 8 at name next refl a ∙ taken assembly_part 8 (number a.n ∷ []) next (λ n. n) assembly more refl b
-      ∙ refused namespace_part 8 (number a.n ∷ number b.n ∷ []) more (text_of heap) fault refl e
+      alias_taken 8 at name next refl a ∙ taken Assembly 8 (number a.n ∷ []) next (λ n. n) assembly more refl b
+      ∙ refused Namespace 8 (number a.n ∷ number b.n ∷ []) more (text_of heap) fault refl e
 
   -- ---- the kind
 

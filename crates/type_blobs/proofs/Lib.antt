@@ -10,3 +10,5 @@ pub mod ConstantsRead
 pub mod WrittenNumbers
 pub mod WrittenImports
 pub mod WrittenConstants
+pub mod FieldsLeft
+pub mod ImportFieldsAre

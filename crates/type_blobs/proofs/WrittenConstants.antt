@@ -7,7 +7,7 @@ use Rattle.std.proofs.lemmas.Grind.{flat_map-append}
 use Rattle.cli_ints.specs.Shortest.{short_unsigned}
 use Rattle.blob_grammar.specs.Grammar.{Value, number, octets, Form, unsigned, byte, fixed, rest, Field, Cut, bytes_of, IsAllowed, cut}
 use Rattle.blob_grammar.specs.Reader.{cut_from}
-use Rattle.blob_grammar.proofs.Written.{FollowFrom, follow-append, cut_from-append, Writes, EachMayAdd, fields_after, all_follow}
+use Rattle.blob_grammar.proofs.Written.{FollowFrom, follow-append, cut_from-append, Writes, EachMayAdd, fields_after, all_follow, number_field, number_allowed, fields_longest}
 use Rattle.type_blobs.specs.declared.types.TypeLimits.{TypeLimits}
 use Rattle.type_blobs.specs.declared.types.TypeToken.{TypeToken}
 use Rattle.type_blobs.specs.declared.types.Modifier.{Modifier}
@@ -16,7 +16,7 @@ use Rattle.type_blobs.specs.Constants.{ConstantBody, primitive, enumerated, gene
 use Rattle.type_blobs.specs.ConstantReading.{ConstantLeft, body, ConstantReading}
 use Rattle.type_blobs.specs.Spelling.{code_of, modifier_spelling, body_spelling, constant_spelling, IsPrimitive, IsBody, IsBodyThere}
 use Rattle.type_blobs.proofs.Codes.{OfGeneral, of_general, OfPrimitive, of_primitive, primitive_range, enumerable_range, eq-is}
-use Rattle.type_blobs.proofs.WrittenNumbers.{number_field, number_allowed, number_small, token-back, type_is, fields_longest}
+use Rattle.type_blobs.proofs.WrittenNumbers.{number_small, token-back, type_is}
 
 abbrev code_field : ℕ → Field
 code_field code = record { bytes = code ∷ []; value = number code }

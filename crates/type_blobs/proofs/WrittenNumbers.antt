@@ -1,17 +1,9 @@
 -- Numbers that are written, and the types that they name.
-use Rattle.std.proofs.Common.{◌≡◌, ℕ, ◌+◌, ◌*◌, ◌/◌, ◌%◌, ◌^◌, ◌<◌, ◌≤◌, true, List, [], Some, refl, sym, ap, subst, ◌∙◌, arith, ◌⊎◌, inl, inr, append-nil}
-use Rattle.cli_ints.specs.Compressed.{SpellsUnsigned}
-use Rattle.cli_ints.specs.Shortest.{short_unsigned}
-use Rattle.cli_ints.proofs.Shortest.{short_unsigned-shortest}
-use Rattle.blob_grammar.specs.Grammar.{number, unsigned, Field, Grammar, Cut, IsAllowed, bytes_of}
-use Rattle.blob_grammar.specs.Reading.{IsLongestFront}
-use Rattle.blob_grammar.specs.Reader.{field_at}
-use Rattle.blob_grammar.proofs.Fields.{FieldFound, field-is, field-all}
-use Rattle.blob_grammar.proofs.Fronts.{IsStuck, longest_where_stuck}
-use Rattle.blob_grammar.proofs.Written.{FollowFrom, follow-each}
+use Rattle.std.proofs.Common.{◌≡◌, ℕ, ◌+◌, ◌*◌, ◌/◌, ◌%◌, ◌^◌, ◌<◌, ◌≤◌, true, refl, ap, ◌∙◌, arith, ◌⊎◌, inl, inr}
 use Rattle.type_blobs.specs.declared.types.TypeToken.{TypeToken}
 use Rattle.type_blobs.specs.declared.types.TypeLimits.{TypeLimits}
-use Rattle.type_blobs.specs.Types.{table_of, tag_of, rows_of, is_row, is_type, token_of, number_of, IsToken, IsThere}
+use Rattle.blob_grammar.specs.Allowed.{is_row}
+use Rattle.type_blobs.specs.Types.{table_of, tag_of, rows_of, is_type, token_of, number_of, IsToken, IsThere}
 
 -- ---- the number of a type
 
@@ -55,29 +47,3 @@ type_is limits token h there =
     let b : number_of token / 4 ≡ token.row = row-of token.row (tag_of token.table) small in
     ap (λ (p : ℕ × ℕ). is_row (rows_of limits p.0) p.1) (let q : (number_of token % 4, number_of token / 4) ≡ (tag_of token.table, token.row) = cc in q)
     ∙ row_is (rows_of limits (tag_of token.table)) token.row there
-
--- ---- a number as a field
-
-pub number_spelled : (n : ℕ) → n < 2 ^ 29 → SpellsUnsigned (short_unsigned n) n
-number_spelled n small = (short_unsigned-shortest n small).spelled
-
-abbrev pub number_field : ℕ → Field
-number_field n = record { bytes = short_unsigned n; value = number n }
-
-pub number_allowed : {R : Type 0} (g : Grammar R) (place : Cut R) (n : ℕ) (left : List ℕ) → g.form place.whole place.begun ≡ Some unsigned → n < 2 ^ 29 → g.allows place.whole place.begun (number n) ≡ true → IsAllowed g place (number_field n) left
-number_allowed g place n left form small h = record { form = unsigned; expected = form; spelled = number_spelled n small; allowed = h }
-
--- ---- the end of what is written
-
--- no field stands where no byte is left
-stuck_at_end : {R : Type 0} (g : Grammar R) (fs : List Field) → IsStuck g fs []
-stuck_at_end g fs f left e m =
-    let there = ap (field_at m.form) e ∙ field-all m.form f.bytes f.value left m.spelled in
-    let none = subst (FieldFound m.form []) there (field-is m.form []) in
-    omega (arith, none.positive, none.within)
-
--- Fields that are allowed one after the other are the longest valid front of what they spell.
-pub fields_longest : {R : Type 0} (g : Grammar R) (fs : List Field) → FollowFrom g (record { whole = []; begun = [] }) fs [] → IsLongestFront g (bytes_of fs) fs []
-fields_longest g fs h =
-    let each = follow-each g [] fs [] h in
-    longest_where_stuck g (bytes_of fs) fs [] (record { bytes = sym (append-nil (bytes_of fs)); each = each }) (stuck_at_end g fs)

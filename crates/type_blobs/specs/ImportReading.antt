@@ -1,18 +1,21 @@
 -- What a cursor of imports has left, and what its answers show.
-use Rattle.std.specs.Prelude.{◌≡◌, ℕ, ◌≤◌, List, [], ◌∷◌, drop, Option, Some, None, Result, Ok, Err, is_some}
+use Rattle.std.specs.Prelude.{◌≡◌, ◌≢◌, ℕ, zero, suc, ◌≤◌, List, [], ◌∷◌, length, drop, Option, Some, None, Result, Ok, Err, is_some}
 use Rattle.ppdb_base.specs.declared.BlobFault.{BlobFault}
 use Rattle.ppdb_heaps.specs.Heaps.{blob_at}
 use Rattle.ppdb_heaps.specs.Views.{blobs_of}
 use Rattle.ppdb_heaps.specs.declared.blobs.Blobs.{Blobs}
-use Rattle.blob_grammar.specs.Grammar.{number}
-use Rattle.blob_grammar.specs.Reader.{Left, read_from, push}
+use Rattle.blob_grammar.specs.Grammar.{Value, number}
+use Rattle.blob_grammar.specs.Reader.{Left, read_from, push, fields_left as fields_left_from}
 use Rattle.type_blobs.specs.declared.types.TypeToken.{TypeToken}
 use Rattle.type_blobs.specs.declared.types.TypeLimits.{TypeLimits}
 use Rattle.type_blobs.specs.declared.import.Import.{Import}
 use Rattle.type_blobs.specs.declared.import.Import.TheVariants.{Namespace, AssemblyNamespace, Target, Xml, Alias, AssemblyAlias, NamespaceAlias, AssemblyNamespaceAlias, TargetAlias}
-use Rattle.type_blobs.specs.Types.{is_row, is_type, token_of}
+use Rattle.blob_grammar.specs.Allowed.{is_row}
+use Rattle.type_blobs.specs.Types.{is_type, token_of}
 use Rattle.type_blobs.specs.Numbers.{number_at}
-use Rattle.type_blobs.specs.Imports.{ImportItem, namespace, assembly_namespace, target, xml, alias, assembly_alias, namespace_alias, assembly_namespace_alias, target_alias, imports, text_of}
+use Rattle.type_blobs.specs.Imports.{ImportItem, namespace, assembly_namespace, target, xml, alias, assembly_alias, namespace_alias, assembly_namespace_alias, target_alias, imports, text_of, parts_of, import_field}
+use Rattle.type_blobs.specs.declared.import_part.ImportField.{ImportField}
+use Rattle.type_blobs.specs.declared.import_fields.ImportPlace.{ImportPlace}
 
 -- the contents of #Blob by their indexes
 abbrev pub heap_of : Blobs → ℕ → Option (List ℕ)
@@ -62,3 +65,41 @@ abbrev pub NextImportIs : (ℕ → Left ImportItem) → ℕ → ℕ → Result (
 NextImportIs left end at (Ok (Some found)) = (left at ≡ push (shown found.0) (left found.1)) × (found.1 ≤ end)
 NextImportIs left end at (Ok None) = left at ≡ record { items = []; fault = None }
 NextImportIs left end at (Err fault) = left at ≡ record { items = []; fault = Some fault }
+
+-- ---- a walk over the fields
+
+abbrev pub zeros : ℕ → List Value
+zeros zero = []
+zeros (suc n) = number 0 ∷ zeros n
+
+-- Of an import that has begun, only its kind and how many of its fields were read matters, the kind among them.
+abbrev pub begun_of : ℕ → ℕ → List Value
+begun_of kind zero = []
+begun_of kind (suc fields) = number kind ∷ zeros fields
+
+-- The same kind, and as many fields.
+abbrev pub SameShape : List Value → List Value → Type 0
+SameShape [] [] = Unit {0}
+SameShape (number k ∷ vs) (number l ∷ ws) = (k ≡ l) × (length vs ≡ length ws)
+SameShape _ _ = ⊥
+
+-- So many fields of an import of this kind were read.
+pub record IsBegun (kind fields : ℕ) : Type 0 where
+  pub from : fields ≢ 0 → 1 ≤ kind
+  pub to : fields ≢ 0 → kind ≤ 9
+  pub within : fields ≤ length (parts_of kind)
+
+-- what is left of a blob at a place
+unfoldable pub import_fields_left : TypeLimits → (ℕ → Option (List ℕ)) → List ℕ → ImportPlace → Left ImportField
+import_fields_left limits heap blob place =
+    fields_left_from (imports limits heap) import_field (record { whole = []; begun = begun_of place.kind place.fields }) place.at (drop place.at blob)
+
+pub record IsPlace (blob : List ℕ) (place : ImportPlace) : Type 0 where
+  pub within : place.at ≤ length blob
+  pub begun : IsBegun place.kind place.fields
+
+-- The next field was read at a place.
+abbrev pub NextFieldIs : (ImportPlace → Left ImportField) → List ℕ → ImportPlace → Result (Option (ImportField × ImportPlace)) BlobFault → Type 0
+NextFieldIs left blob place (Ok (Some found)) = (left place ≡ push found.0 (left found.1)) × IsPlace blob found.1
+NextFieldIs left blob place (Ok None) = left place ≡ record { items = []; fault = None }
+NextFieldIs left blob place (Err fault) = left place ≡ record { items = []; fault = Some fault }

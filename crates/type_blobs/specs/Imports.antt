@@ -2,31 +2,30 @@
 use Rattle.std.specs.Prelude.{ℕ, zero, suc, List, [], ◌∷◌, length, Option, Some, None, Bool, true, false, is_some, ◌&&◌, nat_le, ◌==◌, slice_get, slice_index, if◌then◌else◌, unwrap_or}
 use Rattle.std.specs.Option.{option_map}
 use Rattle.blob_grammar.specs.Grammar.{Value, number, unsigned, Grammar}
-use Rattle.blob_grammar.specs.Indexes.{indexes_of}
+use Rattle.std.specs.List.{flat_map}
+use Rattle.blob_grammar.specs.declared.places.PlacedIndex.{PlacedIndex}
+use Rattle.blob_grammar.specs.Places.{PlacedField, placed_of}
+use Rattle.type_blobs.specs.declared.import_part.ImportPart.{ImportPart}
+use Rattle.type_blobs.specs.declared.import_part.ImportPart.TheVariants.{Kind, Alias, Assembly, Namespace, Target}
+use Rattle.type_blobs.specs.declared.import_part.ImportField.{ImportField}
 use Rattle.blob_grammar.specs.Reader.{front_of}
 use Rattle.type_blobs.specs.declared.types.TypeToken.{TypeToken}
 use Rattle.type_blobs.specs.declared.types.TypeLimits.{TypeLimits}
-use Rattle.type_blobs.specs.Types.{is_row, is_type, token_of}
-
--- What a field names: an alias or a namespace by the index of its text in #Blob, a row of AssemblyRef, or a type.
-pub data Part : Type 0 where
-  alias_part : Part
-  assembly_part : Part
-  namespace_part : Part
-  target_part : Part
+use Rattle.blob_grammar.specs.Allowed.{is_row, is_between}
+use Rattle.type_blobs.specs.Types.{is_type, token_of}
 
 -- The fields of the kinds 1 to 9.
-abbrev pub parts_by_kind : List (List Part)
+abbrev pub parts_by_kind : List (List ImportPart)
 parts_by_kind =
-    (namespace_part ∷ [])
-    ∷ (assembly_part ∷ namespace_part ∷ [])
-    ∷ (target_part ∷ [])
-    ∷ (alias_part ∷ namespace_part ∷ [])
-    ∷ (alias_part ∷ [])
-    ∷ (alias_part ∷ assembly_part ∷ [])
-    ∷ (alias_part ∷ namespace_part ∷ [])
-    ∷ (alias_part ∷ assembly_part ∷ namespace_part ∷ [])
-    ∷ (alias_part ∷ target_part ∷ [])
+    (Namespace ∷ [])
+    ∷ (Assembly ∷ Namespace ∷ [])
+    ∷ (Target ∷ [])
+    ∷ (Alias ∷ Namespace ∷ [])
+    ∷ (Alias ∷ [])
+    ∷ (Alias ∷ Assembly ∷ [])
+    ∷ (Alias ∷ Namespace ∷ [])
+    ∷ (Alias ∷ Assembly ∷ Namespace ∷ [])
+    ∷ (Alias ∷ Target ∷ [])
     ∷ []
 
 -- the item of a kind, None for 0 and past the last
@@ -34,7 +33,7 @@ abbrev pub of_kind : {X : Type 0} → List X → ℕ → Option X
 of_kind items zero = None
 of_kind items (suc kind) = slice_get items kind
 
-abbrev pub parts_of : ℕ → List Part
+abbrev pub parts_of : ℕ → List ImportPart
 parts_of kind = unwrap_or (of_kind parts_by_kind kind) []
 
 -- An import, with texts in place of the indexes.
@@ -70,29 +69,26 @@ items_by_kind heap =
 abbrev pub item_of : (ℕ → Option (List ℕ)) → ℕ → List ℕ → Option ImportItem
 item_of heap kind numbers = option_map (λ make. make numbers) (of_kind (items_by_kind heap) kind)
 
--- A text, a row or a type is there.
-abbrev pub part_allows : TypeLimits → (ℕ → Option (List ℕ)) → Part → ℕ → Bool
-part_allows limits heap alias_part n = is_some (heap n)
-part_allows limits heap namespace_part n = is_some (heap n)
-part_allows limits heap assembly_part n = is_row limits.assembly_refs n
-part_allows limits heap target_part n = is_type limits n
+-- One of the nine kinds; a text, a row or a type is there.
+abbrev pub part_allows : TypeLimits → (ℕ → Option (List ℕ)) → ImportPart → ℕ → Bool
+part_allows limits heap Kind n = nat_le 1 n && nat_le n 9
+part_allows limits heap Alias n = is_some (heap n)
+part_allows limits heap Assembly n = is_row limits.assembly_refs n
+part_allows limits heap Namespace n = is_some (heap n)
+part_allows limits heap Target n = is_type limits n
 
 -- the part that comes after some fields of an import
-abbrev pub next_part : List Value → Option Part
+abbrev pub next_part : List Value → Option ImportPart
+next_part [] = Some Kind
 next_part (number kind ∷ fields) = slice_get (parts_of kind) (length fields)
 next_part _ = None
 
-abbrev pub next_allows : TypeLimits → (ℕ → Option (List ℕ)) → Option Part → Value → Bool
+abbrev pub next_allows : TypeLimits → (ℕ → Option (List ℕ)) → Option ImportPart → Value → Bool
 next_allows limits heap (Some part) (number n) = part_allows limits heap part n
 next_allows limits heap _ value = false
 
-abbrev pub is_kind : Value → Bool
-is_kind (number n) = nat_le 1 n && nat_le n 9
-is_kind _ = false
-
 abbrev pub allows : TypeLimits → (ℕ → Option (List ℕ)) → List Value → Value → Bool
-allows limits heap [] value = is_kind value
-allows limits heap (kind ∷ fields) value = next_allows limits heap (next_part (kind ∷ fields)) value
+allows limits heap begun value = next_allows limits heap (next_part begun) value
 
 abbrev pub numbers_of : List Value → List ℕ
 numbers_of [] = []
@@ -103,10 +99,6 @@ abbrev pub import_of : (ℕ → Option (List ℕ)) → List Value → Option Imp
 import_of heap (number kind ∷ fields) = if length fields == length (parts_of kind) then item_of heap kind (numbers_of fields) else None
 import_of heap _ = None
 
-abbrev pub is_between : List Value → Bool
-is_between [] = true
-is_between _ = false
-
 -- Any number of imports; all fields are compressed unsigned numbers.
 abbrev pub imports : TypeLimits → (ℕ → Option (List ℕ)) → Grammar ImportItem
 imports limits heap = record {
@@ -116,13 +108,28 @@ imports limits heap = record {
   may_stop = λ whole begun. is_between begun;
 }
 
--- ---- the indexes of texts, for the sum of their lengths
+-- ---- the fields where they stand
 
-abbrev pub names_text : Option Part → Bool
-names_text (Some alias_part) = true
-names_text (Some namespace_part) = true
+-- A field, its byte, and what it says: by the fields of its import before it.
+abbrev pub field_of : Option ImportPart → ℕ → Value → List ImportField
+field_of (Some part) at (number n) = record { byte = at; part = part; number = n } ∷ []
+field_of _ at value = []
+
+abbrev pub import_field : PlacedField → List ImportField
+import_field field = field_of (next_part field.before) field.byte field.value
+
+-- The fields of the longest valid front of some imports, in order.
+abbrev pub import_fields : TypeLimits → (ℕ → Option (List ℕ)) → List ℕ → List ImportField
+import_fields limits heap blob = flat_map import_field (placed_of (imports limits heap) (front_of (imports limits heap) blob))
+
+abbrev pub names_text : ImportPart → Bool
+names_text Alias = true
+names_text Namespace = true
 names_text _ = false
 
--- The indexes of the texts in the longest valid front of some imports, in order, each with the byte at which it stands.
-unfoldable pub import_indexes : TypeLimits → (ℕ → Option (List ℕ)) → List ℕ → List (ℕ × ℕ)
-import_indexes limits heap blob = indexes_of (imports limits heap) (λ before begun. names_text (next_part begun)) (front_of (imports limits heap) blob)
+abbrev pub text_index : ImportField → List PlacedIndex
+text_index field = if names_text field.part then record { byte = field.byte; index = field.number } ∷ [] else []
+
+-- The indexes of the texts among them, each with the byte at which it stands.
+unfoldable pub import_indexes : TypeLimits → (ℕ → Option (List ℕ)) → List ℕ → List PlacedIndex
+import_indexes limits heap blob = flat_map text_index (import_fields limits heap blob)

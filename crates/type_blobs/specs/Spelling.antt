@@ -1,6 +1,6 @@
 -- How constants and imports are written: each number in its shortest form (ECMA-335 II.23.2; Portable PDB v1.0,
 -- "LocalConstantSig Blob" and "Imports Blob").
-use Rattle.std.specs.Prelude.{◌≡◌, ℕ, ◌<◌, ◌≤◌, ◌^◌, List, [], ◌∷◌, ◌++◌, length, map, Option, Some, IsSome, Bool, true, false, if◌then◌else◌}
+use Rattle.std.specs.Prelude.{◌≡◌, ℕ, ◌+◌, ◌<◌, ◌≤◌, ◌^◌, List, [], ◌∷◌, ◌++◌, length, map, Option, Some, IsSome, Bool, true, false, if◌then◌else◌}
 use Rattle.std.specs.List.{flat_map}
 use Rattle.cli_ints.specs.Shortest.{short_unsigned}
 use Rattle.type_blobs.specs.declared.types.TypeLimits.{TypeLimits}
@@ -8,7 +8,10 @@ use Rattle.type_blobs.specs.declared.types.Modifier.{Modifier}
 use Rattle.type_blobs.specs.declared.import_writer.ImportNumbers.{ImportNumbers}
 use Rattle.type_blobs.specs.Types.{number_of, IsToken, IsThere}
 use Rattle.type_blobs.specs.Constants.{ConstantBody, primitive, enumerated, general, object, is_primitive, is_enumerable, is_general, is_string, is_text, size_of}
-use Rattle.type_blobs.specs.Imports.{Part, alias_part, assembly_part, namespace_part, target_part, parts_of, ImportItem, item_of}
+use Rattle.type_blobs.specs.Imports.{parts_of, ImportItem, item_of}
+use Rattle.type_blobs.specs.declared.import_part.ImportPart.{ImportPart}
+use Rattle.type_blobs.specs.declared.import_part.ImportPart.TheVariants.{Kind, Alias, Assembly, Namespace, Target}
+use Rattle.type_blobs.specs.declared.import_part.ImportField.{ImportField}
 
 -- ---- constants
 
@@ -53,11 +56,12 @@ IsBodyThere limits object = Unit {0}
 
 -- ---- imports
 
-abbrev pub part_number : ImportNumbers → Part → ℕ
-part_number numbers alias_part = numbers.alias
-part_number numbers assembly_part = numbers.assembly
-part_number numbers namespace_part = numbers.namespace
-part_number numbers target_part = number_of numbers.target
+abbrev pub part_number : ImportNumbers → ImportPart → ℕ
+part_number numbers Kind = numbers.kind
+part_number numbers Alias = numbers.alias
+part_number numbers Assembly = numbers.assembly
+part_number numbers Namespace = numbers.namespace
+part_number numbers Target = number_of numbers.target
 
 -- the numbers of the fields that the kind has
 abbrev pub field_numbers : ImportNumbers → List ℕ
@@ -77,15 +81,26 @@ pub record IsImport (numbers : ImportNumbers) : Type 0 where
   pub target : IsToken numbers.target
 
 -- The text, the row or the type of a field is there.
-abbrev pub IsPartThere : TypeLimits → (ℕ → Option (List ℕ)) → ImportNumbers → Part → Type 0
-IsPartThere limits heap numbers alias_part = IsSome (heap numbers.alias)
-IsPartThere limits heap numbers assembly_part = (1 ≤ numbers.assembly) × (numbers.assembly ≤ limits.assembly_refs)
-IsPartThere limits heap numbers namespace_part = IsSome (heap numbers.namespace)
-IsPartThere limits heap numbers target_part = IsThere limits numbers.target
+abbrev pub IsPartThere : TypeLimits → (ℕ → Option (List ℕ)) → ImportNumbers → ImportPart → Type 0
+IsPartThere limits heap numbers Kind = Unit {0}
+IsPartThere limits heap numbers Alias = IsSome (heap numbers.alias)
+IsPartThere limits heap numbers Assembly = (1 ≤ numbers.assembly) × (numbers.assembly ≤ limits.assembly_refs)
+IsPartThere limits heap numbers Namespace = IsSome (heap numbers.namespace)
+IsPartThere limits heap numbers Target = IsThere limits numbers.target
 
 -- The import that the numbers stand for.
 abbrev pub import_item : (ℕ → Option (List ℕ)) → ImportNumbers → Option ImportItem
 import_item heap numbers = item_of heap numbers.kind (field_numbers numbers)
+
+-- The fields of these parts, each with the byte at which its spelling begins, and those of all imports from a byte on.
+abbrev pub parts_at : ImportNumbers → ℕ → List ImportPart → List ImportField
+parts_at numbers at [] = []
+parts_at numbers at (part ∷ parts) =
+    record { byte = at; part = part; number = part_number numbers part } ∷ parts_at numbers (at + length (short_unsigned (part_number numbers part))) parts
+
+abbrev pub fields_at : ℕ → List ImportNumbers → List ImportField
+fields_at at [] = []
+fields_at at (numbers ∷ all) = parts_at numbers at (Kind ∷ parts_of numbers.kind) ++ fields_at (at + length (import_spelling numbers)) all
 
 -- After a refusal the list begins with what it held.
 abbrev pub BeginsWith : List ℕ → List ℕ → Type 0

@@ -1,5 +1,6 @@
 -- Type references (ECMA-335 II.23.2.8, TypeDefOrRefOrSpecEncoded): a compressed number, a row times four and a tag.
-use Rattle.std.specs.Prelude.{◌≡◌, ℕ, zero, suc, ◌+◌, ◌*◌, ◌/◌, ◌%◌, ◌≤◌, Bool, ◌&&◌, nat_le, ◌==◌, if◌then◌else◌, ◌⊎◌}
+use Rattle.std.specs.Prelude.{◌≡◌, ℕ, zero, suc, ◌+◌, ◌*◌, ◌/◌, ◌%◌, ◌≤◌, Bool, ◌==◌, if◌then◌else◌, ◌⊎◌}
+use Rattle.blob_grammar.specs.Allowed.{is_row}
 use Rattle.type_blobs.specs.declared.types.TypeToken.{TypeToken}
 use Rattle.type_blobs.specs.declared.types.TypeLimits.{TypeLimits}
 
@@ -18,10 +19,6 @@ rows_of limits zero = limits.type_defs
 rows_of limits (suc zero) = limits.type_refs
 rows_of limits (suc (suc zero)) = limits.type_specs
 rows_of limits _ = 0
-
--- a table of so many rows has the row
-abbrev pub is_row : ℕ → ℕ → Bool
-is_row rows row = nat_le 1 row && nat_le row rows
 
 -- The number names a row that is there.
 abbrev pub is_type : TypeLimits → ℕ → Bool

@@ -1,11 +1,12 @@
 ghost use Rattle.std.specs.Prelude.{◌≡◌, ◌≤◌, ◌<◌, ◌^◌, ◌+◌, length, IfOk};
 ghost use Rattle.blob_grammar.specs.Reading.{Reading};
 ghost use Rattle.blob_grammar.specs.Reader.{Left, answer, rest_of};
-ghost use Rattle.type_blobs.specs.Imports.{imports, ImportItem};
-ghost use Rattle.type_blobs.specs.Numbers.{shown_at};
+ghost use Rattle.type_blobs.specs.Imports.{imports, ImportItem, part_allows};
+ghost use Rattle.type_blobs.specs.Numbers.{number_at, shown_at};
 ghost use Rattle.type_blobs.specs.ImportReading.{heap_of, shown_answer, imports_left, fields_left, text_at, assembly_at, target_at, FieldsAre, NextImportIs};
 
-use crate::types::{TypeLimits, TypeToken, is_row, out_of_range, type_at};
+use crate::import_part::ImportPart;
+use crate::types::{TypeLimits, TypeToken, is_row, is_type, out_of_range, type_at};
 use blob_grammar::unsigned_field;
 use ppdb_base::{BlobFault, Code};
 use ppdb_heaps::Blobs;
@@ -61,10 +62,10 @@ pub enum Import<'a> {
 
 /// A blob of imports, and what its fields name.
 #[derive(Clone, Copy)]
-struct Source<'a> {
-    blob: &'a [u8],
-    blobs: Blobs<'a>,
-    limits: TypeLimits,
+pub(crate) struct Source<'a> {
+    pub(crate) blob: &'a [u8],
+    pub(crate) blobs: Blobs<'a>,
+    pub(crate) limits: TypeLimits,
     ghost short: { length blob.now < 2 ^ 32 },
 }
 
@@ -82,18 +83,39 @@ impl<'a> Source<'a> {
         }
     }
 
+    /// Whether a field may have the number.
+    fn allows(&self, part: ImportPart, number: u32) -> bool
+        ensures { result ≡ part_allows self.now.limits (heap_of self.now.blobs) part number }
+    {
+        match part {
+            ImportPart::Kind => 1 <= number && number <= 9,
+            ImportPart::Alias | ImportPart::Namespace => self.blobs.get(number).is_some(),
+            ImportPart::Assembly => is_row(self.limits.assembly_refs, number),
+            ImportPart::Target => is_type(self.limits, number),
+        }
+    }
+
+    /// The number of a field at a place, and the place after it.
+    pub(crate) fn field(&self, part: ImportPart, at: usize) -> Result<(u32, usize), BlobFault>
+        requires { at ≤ length self.now.blob.now }
+        ensures found { result ≡ number_at (part_allows self.now.limits (heap_of self.now.blobs) part) (λ n. n) self.now.blob.now at }
+        ensures within { IfOk result (λ x. x.1 ≤ length self.now.blob.now) }
+    {
+        let (number, len) = unsigned_field(self.blob, at)?;
+        if self.allows(part, number) {
+            Ok((number, at + len))
+        } else {
+            Err(out_of_range(at))
+        }
+    }
+
     /// The AssemblyRef row at a place, and the place after it.
     fn assembly(&self, at: usize) -> Result<(u32, usize), BlobFault>
         requires { at ≤ length self.now.blob.now }
         ensures found { result ≡ assembly_at self.now.limits self.now.blob.now at }
         ensures within { IfOk result (λ x. x.1 ≤ length self.now.blob.now) }
     {
-        let (row, len) = unsigned_field(self.blob, at)?;
-        if is_row(self.limits.assembly_refs, row) {
-            Ok((row, at + len))
-        } else {
-            Err(out_of_range(at))
-        }
+        self.field(ImportPart::Assembly, at)
     }
 
     /// The type at a place, and the place after it.

@@ -4,7 +4,10 @@
 
 mod constant;
 mod constant_writer;
+mod cursors;
 mod import;
+mod import_fields;
+mod import_part;
 mod import_writer;
 mod laws;
 mod numbers;
@@ -13,8 +16,13 @@ mod types;
 pub use constant::{Constant, ConstantCursor};
 pub use constant_writer::constant_into;
 pub use import::{Import, ImportCursor};
+pub use import_fields::ImportFields;
+pub use import_part::{ImportField, ImportPart};
 pub use import_writer::{ImportNumbers, import_into};
-pub use laws::{written_constant_is_read, written_imports_are_read};
+pub use laws::{
+    constants_are_read_once, import_fields_are, imports_are_read_once, written_constant_is_read,
+    written_imports_are_read,
+};
 pub use types::{Modifier, TypeLimits, TypeToken};
 
 #[cfg(test)]

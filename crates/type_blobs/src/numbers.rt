@@ -36,19 +36,3 @@ pub(crate) fn number_into(number: u32, into: &mut Bytes) -> Result<(), Memory>
 {
     into.append(spell_unsigned(number).as_slice())
 }
-
-/// Appends numbers in their shortest forms. After a refusal the bytes are unchanged.
-pub(crate) fn numbers_into(numbers: &[u32], into: &mut Bytes) -> Result<(), Memory>
-    requires { All (λ n. n < 2 ^ 29) numbers.now }
-    ensures ok { OnOk result (into.new ≡ into.old ++ flat_map short_unsigned numbers.now) }
-    ensures err { OnErr result (into.new ≡ into.old) }
-{
-    let len = into.len();
-    for number in numbers {
-        if number_into(*number, into).is_err() {
-            into.truncate(len);
-            return Err(Memory);
-        }
-    }
-    Ok(())
-}

@@ -1,5 +1,6 @@
 ghost use Rattle.std.specs.Prelude.{◌≡◌, ◌≤◌, ◌<◌, ◌^◌, ◌+◌, length, IfOk};
-ghost use Rattle.type_blobs.specs.Types.{is_type, is_row, token_of};
+ghost use Rattle.blob_grammar.specs.Allowed.{is_row};
+ghost use Rattle.type_blobs.specs.Types.{is_type, token_of};
 ghost use Rattle.type_blobs.specs.Numbers.{number_at};
 
 use blob_grammar::unsigned_field;
@@ -40,7 +41,7 @@ pub(crate) fn is_row(rows: u32, row: u32) -> bool
 }
 
 /// Whether the number names a type that is there.
-fn is_type(limits: TypeLimits, number: u32) -> bool
+pub(crate) fn is_type(limits: TypeLimits, number: u32) -> bool
     ensures { result ≡ is_type limits number }
 {
     let row = number / 4;

@@ -9,8 +9,7 @@ use Rattle.sequence_points.specs.Records.{sums, int_of}
 use Rattle.sequence_points.specs.Places.{points_left, entries_of, PointIs, place_after, start_of}
 use Rattle.sequence_points.proofs.Offsets.{row_none, lines_in, columns_none, columns_in, hidden_read, zero_int, not_zero_int, small}
 use Rattle.sequence_points.proofs.Visible.{passed}
-use mir.Val.{to_z, of_z}
-use mir.Syntax.{w64}
+use Rattle.std.specs.Int.{w64, cast_signed, cast_unsigned}
 use Rattle.sequence_points.proofs.records.point_after_offset.Goals as goal
 
 pub returns-in_err-lines : goal.returns-in_err-lines
@@ -42,5 +41,5 @@ returns c = λ limits.
     let columns = columns_in limits c.args.blob.now c.args.place c.args.step c.in_ok-lines.lines (c.args.at + c.in_ok-lines.len) c.in-Ok.found.1 c.in-Ok.found.0 (sym c.in-Ok.ensures.found)
     (not_zero_int c.in_ok-lines.lines c.in-Ok.found.0 c.else-lines-eq0.either) in
     let e = lines_in limits c.args.blob.now c.args.place c.args.step c.args.at c.in_ok-lines.lines c.in_ok-lines.len c.requires.point (sym c.in_ok-lines.ensures.found) ∙ columns.goes_on in
-    let same : int_of columns.value ≡ to_z w64 (of_z w64 c.in-Ok.found.0) = passed (λ z. int_of columns.value ≡ z → int_of columns.value ≡ to_z w64 (of_z w64 c.in-Ok.found.0)) c.in-Ok.found.0 c.in-Ok.ensures.low c.in-Ok.ensures.high (λ x. x) columns.is in
+    let same : int_of columns.value ≡ cast_signed w64 (cast_unsigned w64 c.in-Ok.found.0) = passed (λ z. int_of columns.value ≡ z → int_of columns.value ≡ cast_signed w64 (cast_unsigned w64 c.in-Ok.found.0)) c.in-Ok.found.0 c.in-Ok.ensures.low c.in-Ok.ensures.high (λ x. x) columns.is in
     subst (λ (left : Left Point). PointIs limits c.args.blob.now left c.visible_point.result) (sym e) (c.visible_point.ensures limits columns.value same)

@@ -3,9 +3,9 @@ use Rattle.blob_grammar.specs.Grammar.{number}
 use Rattle.sequence_points.specs.Places.{no_points, RangeIs, points_left, entries_of, place_after}
 use Rattle.sequence_points.specs.declared.place.Place.{Place}
 use Rattle.blob_grammar.specs.Reader.{push}
-use Rattle.sequence_points.specs.Records.{is_line, is_column, sums}
-use mir.Val.{to_z, of_z}
-use mir.Syntax.{w64}
+use Rattle.sequence_points.specs.Records.{sums}
+use Rattle.sequence_points.specs.Ranges.{is_line, is_column}
+use Rattle.std.specs.Int.{w64, cast_signed, cast_unsigned}
 use Rattle.sequence_points.proofs.Visible.{passed, no_line, line_out, line_in, no_column, column_out, point_in}
 use Rattle.sequence_points.proofs.records.visible_point.Goals as goal
 
@@ -34,7 +34,7 @@ returns-in_default-column_range c = λ limits value is.
     first.goes_on ∙ column_out limits c.args.blob.now c.args.place (number c.args.step) (number c.args.lines) value first.value c.args.columns (c.args.at + c.in-Ok.found.1) c.has_visible-is_signed.result c.in-Ok-int_field.found.0 c.in-Ok-int_field.found.1 c.column.result
     c.has_visible-is_signed.ensures is (sym c.in-Ok-int_field.ensures.found) c.column.ensures
     (passed (λ z. RangeIs is_column (pos c.column.result +ℤ z) c.args.columns None) c.in-Ok-int_field.found.0 c.in-Ok-int_field.ensures.low c.in-Ok-int_field.ensures.high
-    (passed (λ z. RangeIs is_column (pos c.column.result +ℤ to_z w64 (of_z w64 c.in-Ok-int_field.found.0)) z None) c.args.columns c.requires.low c.requires.high c.in_default-column_range.ensures)) ∙ ap (λ f. no_points (Some f)) (sym c.out_of_range-in_default-column_range.ensures)
+    (passed (λ z. RangeIs is_column (pos c.column.result +ℤ cast_signed w64 (cast_unsigned w64 c.in-Ok-int_field.found.0)) z None) c.args.columns c.requires.low c.requires.high c.in_default-column_range.ensures)) ∙ ap (λ f. no_points (Some f)) (sym c.out_of_range-in_default-column_range.ensures)
 
 pub returns : goal.returns
 returns c = λ limits value is.
@@ -46,7 +46,7 @@ returns c = λ limits value is.
           (c.offset.result + c.args.step) c.in-Some.start_line c.in-Some.end_line c.in-Some-column_range.start_column c.in-Some-column_range.end_column
           c.has_visible-is_signed.ensures is (sym c.in-Ok-int_field.ensures.found) c.column.ensures
           (passed (λ z. RangeIs is_column (pos c.column.result +ℤ z) c.args.columns (Some (c.in-Some-column_range.start_column, c.in-Some-column_range.end_column))) c.in-Ok-int_field.found.0 c.in-Ok-int_field.ensures.low c.in-Ok-int_field.ensures.high
-          (passed (λ z. RangeIs is_column (pos c.column.result +ℤ to_z w64 (of_z w64 c.in-Ok-int_field.found.0)) z (Some (c.in-Some-column_range.start_column, c.in-Some-column_range.end_column))) c.args.columns c.requires.low c.requires.high c.in-Some-column_range.ensures))
+          (passed (λ z. RangeIs is_column (pos c.column.result +ℤ cast_signed w64 (cast_unsigned w64 c.in-Ok-int_field.found.0)) z (Some (c.in-Some-column_range.start_column, c.in-Some-column_range.end_column))) c.args.columns c.requires.low c.requires.high c.in-Some-column_range.ensures))
           first.first_is first.last_is (ap (λ n. n + c.args.step) c.offset.ensures)
           ∙ ap (λ q. push q (points_left limits c.args.blob.now next)) (sym c.seen_point.ensures.point)
           ∙ ap (λ p. push c.seen_point.result.0 (points_left limits c.args.blob.now p)) (sym c.seen_point.ensures.place),

@@ -1,7 +1,8 @@
 use Rattle.std.proofs.Common.{◌≡◌, refl, sym, arith}
 use Rattle.std.proofs.lemmas.Result.{err_from_is_err_and}
 use Rattle.type_blobs.specs.Types.{token_of}
-use Rattle.type_blobs.specs.Imports.{text_of, namespace_part, assembly_part, target_part}
+use Rattle.type_blobs.specs.Imports.{text_of}
+use Rattle.type_blobs.specs.declared.import_part.ImportPart.TheVariants.{Namespace, Assembly, Target}
 use Rattle.type_blobs.specs.ImportReading.{heap_of}
 use Rattle.type_blobs.proofs.ImportsTaken.{of_kind_is, no_first, no_text_2, an_import_1, an_import_2, an_import_3}
 use Rattle.type_blobs.proofs.import.Source.unnamed.Goals as goal
@@ -12,7 +13,7 @@ returns-in_err-namespace-in-1 c =
     let heap = heap_of c.args.self.now.blobs in
     let blob = c.args.self.now.blob.now in
     let p = err_from_is_err_and c.from_residual.result c.from_residual.ensures.1 in
-    rw (p.1, p.2) (of_kind_is limits heap blob c.args.kind 1 c.args.at _ c.in-1.is (no_first limits heap blob namespace_part 1 c.args.at (text_of heap) c.in_err-namespace-in-1.field-0.0 refl (sym c.in_err-namespace-in-1.ensures.found)))
+    rw (p.1, p.2) (of_kind_is limits heap blob c.args.kind 1 c.args.at _ c.in-1.is (no_first limits heap blob Namespace 1 c.args.at (text_of heap) c.in_err-namespace-in-1.field-0.0 refl (sym c.in_err-namespace-in-1.ensures.found)))
 
 pub returns-in_err-assembly-in-2 : goal.returns-in_err-assembly-in-2
 returns-in_err-assembly-in-2 c =
@@ -20,7 +21,7 @@ returns-in_err-assembly-in-2 c =
     let heap = heap_of c.args.self.now.blobs in
     let blob = c.args.self.now.blob.now in
     let p = err_from_is_err_and c.from_residual-in_err-assembly-in-2.result c.from_residual-in_err-assembly-in-2.ensures.1 in
-    rw (p.1, p.2) (of_kind_is limits heap blob c.args.kind 2 c.args.at _ c.in-2.is (no_first limits heap blob assembly_part 2 c.args.at (λ n. n) c.in_err-assembly-in-2.field-0.0 refl (sym c.in_err-assembly-in-2.ensures.found)))
+    rw (p.1, p.2) (of_kind_is limits heap blob c.args.kind 2 c.args.at _ c.in-2.is (no_first limits heap blob Assembly 2 c.args.at (λ n. n) c.in_err-assembly-in-2.field-0.0 refl (sym c.in_err-assembly-in-2.ensures.found)))
 
 pub returns-in_err-namespace-in-2 : goal.returns-in_err-namespace-in-2
 returns-in_err-namespace-in-2 c =
@@ -37,7 +38,7 @@ returns-in_err-target-in_default c =
     let blob = c.args.self.now.blob.now in
     let kind : c.args.kind ≡ 3 = omega arith in
     let p = err_from_is_err_and c.from_residual-in_err-target-in_default.result c.from_residual-in_err-target-in_default.ensures.1 in
-    rw (p.1, p.2) (of_kind_is limits heap blob c.args.kind 3 c.args.at _ kind (no_first limits heap blob target_part 3 c.args.at token_of c.in_err-target-in_default.field-0.0 refl (sym c.in_err-target-in_default.ensures.found)))
+    rw (p.1, p.2) (of_kind_is limits heap blob c.args.kind 3 c.args.at _ kind (no_first limits heap blob Target 3 c.args.at token_of c.in_err-target-in_default.field-0.0 refl (sym c.in_err-target-in_default.ensures.found)))
 
 pub returns-in_ok-namespace-in-1 : goal.returns-in_ok-namespace-in-1
 returns-in_ok-namespace-in-1 c =
