@@ -1,17 +1,25 @@
 -- The rules of the rows stand in the tables 30 to 37.
-use Rattle.std.proofs.Common.{◌≡◌, ℕ, ◌<◌, ◌≤◌, [], ◌∷◌, refl, inl, inr, arith}
+use Rattle.std.proofs.Common.{◌≡◌, ℕ, ◌+◌, ◌≤◌, ◌⊎◌, [], ◌∷◌, refl, sym, subst, inl, inr, arith}
 use Rattle.ppdb_base.specs.declared.code.Code.{Code}
 use Rattle.ppdb_base.specs.declared.fault.Place.{Place}
 use Rattle.ppdb_base.specs.Place.{ComesBefore, numbers}
 use Rattle.ppdb_base.specs.First.{IsAccepted}
-use Rattle.ppdb_tables.specs.RawTables.{RawTables}
+use Rattle.ppdb_tables.specs.RawTables.{RawTables, HasShape, count}
 use Rattle.ppdb_rules.specs.Cells.TextCell.{variable_name, constant_name}
-use Rattle.ppdb_rules.specs.Cells.BlobCell.{document_name, document_hash, method_points, constant_signature, import_list, custom_value}
-use Rattle.ppdb_rules.specs.Cells.GuidCell.{document_algorithm, document_language, custom_kind}
-use Rattle.ppdb_rules.specs.Cells.RowCell.{method_document, scope_method, scope_import, import_parent, machine_move_next, machine_kickoff, custom_parent}
-use Rattle.ppdb_rules.specs.Judged.{ToTable}
+use Rattle.ppdb_rules.specs.Cells.BlobCell.{document_name}
+use Rattle.ppdb_rules.specs.Cells.GuidCell.{custom_kind}
+use Rattle.ppdb_rules.specs.Cells.RowCell.{scope_method}
+use Rattle.ppdb_rules.specs.Judged.{ToTable, ToRow}
 use Rattle.ppdb_rules.specs.Rows.{BadRow}
 use Rattle.ppdb_rules.specs.Rows.BadRow.{string_index, blob_index, guid_index, row_index}
+use Rattle.ppdb_rules.proofs.DocumentFaults.{past_table as past_documents}
+use Rattle.ppdb_rules.proofs.MethodDebugFaults.{past_table as past_methods}
+use Rattle.ppdb_rules.proofs.ScopeFaults.{past_table as past_scopes}
+use Rattle.ppdb_rules.proofs.VariableFaults.{past_table as past_variables}
+use Rattle.ppdb_rules.proofs.ConstantFaults.{past_table as past_constants}
+use Rattle.ppdb_rules.proofs.ImportFaults.{past_table as past_imports}
+use Rattle.ppdb_rules.proofs.MachineFaults.{past_table as past_machines}
+use Rattle.ppdb_rules.proofs.CustomFaults.{past_table as past_customs}
 
 -- where a rule of the rows may be broken
 record IsRowPlace (at : Place) : Type 0 where
@@ -39,3 +47,26 @@ pub past_last : (raw : RawTables) → ToTable raw 0x38 → IsAccepted (BadRow ra
 past_last raw judged code at bad =
     let p = row_place raw code at bad in
     judged code at bad (inr (p.part, inl (let t = p.to in omega (arith, t))))
+
+-- a table past its last row is judged
+module _ (raw : RawTables) (shape : HasShape raw) where
+  abbrev IsPast : ℕ → Type 0
+  IsPast table = ToRow raw table (count raw table + 1) → ToTable raw (table + 1)
+
+  one_of : (table : ℕ) → 0x30 ≤ table → table ≤ 0x37
+      → (table ≡ 0x30) ⊎ ((table ≡ 0x31) ⊎ ((table ≡ 0x32) ⊎ ((table ≡ 0x33) ⊎ ((table ≡ 0x34) ⊎ ((table ≡ 0x35) ⊎ ((table ≡ 0x36) ⊎ (table ≡ 0x37)))))))
+  one_of table from to = grind arith
+
+  past_of : (table : ℕ) → (table ≡ 0x30) ⊎ ((table ≡ 0x31) ⊎ ((table ≡ 0x32) ⊎ ((table ≡ 0x33) ⊎ ((table ≡ 0x34) ⊎ ((table ≡ 0x35) ⊎ ((table ≡ 0x36) ⊎ (table ≡ 0x37)))))))
+      → IsPast table
+  past_of table (inl e) = subst IsPast (sym e) (past_documents raw (count raw 0x30 + 1) (omega (arith, shape.documents)))
+  past_of table (inr (inl e)) = subst IsPast (sym e) (past_methods raw (count raw 0x31 + 1) (omega (arith, shape.methods)))
+  past_of table (inr (inr (inl e))) = subst IsPast (sym e) (past_scopes raw (count raw 0x32 + 1) (omega (arith, shape.scopes)))
+  past_of table (inr (inr (inr (inl e)))) = subst IsPast (sym e) (past_variables raw (count raw 0x33 + 1) (omega (arith, shape.variables)))
+  past_of table (inr (inr (inr (inr (inl e))))) = subst IsPast (sym e) (past_constants raw (count raw 0x34 + 1) (omega (arith, shape.constants)))
+  past_of table (inr (inr (inr (inr (inr (inl e)))))) = subst IsPast (sym e) (past_imports raw (count raw 0x35 + 1) (omega (arith, shape.imports)))
+  past_of table (inr (inr (inr (inr (inr (inr (inl e))))))) = subst IsPast (sym e) (past_machines raw (count raw 0x36 + 1) (omega (arith, shape.machines)))
+  past_of table (inr (inr (inr (inr (inr (inr (inr e))))))) = subst IsPast (sym e) (past_customs raw (count raw 0x37 + 1) (omega (arith, shape.customs)))
+
+  pub past_rows : (table : ℕ) → 0x30 ≤ table → table ≤ 0x37 → IsPast table
+  past_rows table from to = past_of table (one_of table from to)

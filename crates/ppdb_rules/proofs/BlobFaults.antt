@@ -3,7 +3,6 @@ use Rattle.std.proofs.Common.{◌≡◌, ℕ, zero, suc, ◌<◌, ◌⊎◌, Lis
 use Rattle.ppdb_base.specs.declared.fault.BlobFault.{BlobFault}
 use Rattle.ppdb_base.specs.Place.{number_of}
 use Rattle.blob_grammar.specs.Grammar.{Grammar}
-use Rattle.blob_grammar.specs.Reading.{Reading}
 use Rattle.blob_grammar.proofs.Unique.{reading-unique}
 use Rattle.ppdb_heaps.specs.Heaps.{blob_at, guid_at}
 use Rattle.ppdb_heaps.specs.Names.{names}

@@ -1,28 +1,18 @@
 -- How a cell, a row and a table are judged, for any table whose faults are those of its rows.
-use Rattle.std.proofs.Common.{◌≡◌, ℕ, zero, suc, add-one, ◌+◌, ◌<◌, ◌≤◌, ◌⊎◌, inl, inr, List, [], ◌∷◌, length, Some, None, slice_get, refl, sym, subst, ◌∙◌, arith, Bool, true, false, IsTrue, ◌↔◌}
+use Rattle.std.proofs.Common.{◌≡◌, ℕ, suc, add-one, ◌+◌, ◌<◌, ◌⊎◌, inl, inr, List, [], ◌∷◌, length, Some, sym, subst, arith, Bool, true, false, IsTrue, ◌↔◌}
 use Rattle.std.proofs.lemmas.Bool.{cases_lt}
-use Rattle.std.proofs.lemmas.Option.{slice_get_within}
 use Rattle.ppdb_base.specs.declared.code.Code.{Code}
 use Rattle.ppdb_base.specs.declared.fault.BlobFault.{BlobFault}
 use Rattle.ppdb_base.specs.declared.fault.Place.{Place}
 use Rattle.ppdb_base.specs.declared.fault.Fault.{Fault}
 use Rattle.ppdb_base.specs.Place.{ComesBefore, numbers, number_of}
-use Rattle.ppdb_base.specs.First.{IsJudgedTo, IsFirst}
 use Rattle.ppdb_base.proofs.Judging.{next_column, next_row, next_table}
 use Rattle.ppdb_tables.specs.RawTables.{RawTables, row_at}
+use Rattle.ppdb_tables.proofs.NumberedRows.{row_within, same_row}
 use Rattle.ppdb_rules.specs.Blobs.{in_blob}
 use Rattle.ppdb_rules.specs.Earlier.{HasEarlier}
 use Rattle.ppdb_rules.specs.Rows.{BadRow}
 use Rattle.ppdb_rules.specs.Judged.{ToTable, ToRow, ToCell, IsFirstOf}
-
--- a row has one content
-pub same_row : {X : Type 0} (rows : List X) (n : ℕ) (x y : X) → row_at rows n ≡ Some x → row_at rows n ≡ Some y → x ≡ y
-same_row rows n x y a b = cc
-
--- a row's number is from 1 to the count of rows
-pub row_within : {X : Type 0} (rows : List X) (n : ℕ) (x : X) → row_at rows n ≡ Some x → (0 < n) × (n ≤ length rows)
-row_within rows zero x h = cc
-row_within rows (suc i) x h = let w : i < length rows = slice_get_within rows i x h in (omega arith, omega arith)
 
 -- what a test that failed stands for does not hold
 pub refuted : {P : Type 0} (b : Bool) → (IsTrue b ↔ P) → b ≡ false → P → ⊥

@@ -1,16 +1,13 @@
 -- How the answers of a constant's cursor tell its fault.
-use Rattle.std.proofs.Common.{◌≡◌, List, [], ◌∷◌, Option, Some, None, Result, Ok, Err, refl}
+use Rattle.std.proofs.Common.{◌≡◌, List, [], ◌∷◌, Some, None, Ok, Err, refl}
 use Rattle.ppdb_base.specs.declared.fault.BlobFault.{BlobFault}
-use Rattle.blob_grammar.specs.Reader.{answer_from}
-use Rattle.type_blobs.specs.declared.types.Modifier.{Modifier}
 use Rattle.type_blobs.specs.declared.constant.Constant.{Constant}
 use Rattle.type_blobs.specs.ConstantReading.{ConstantEnd, body, bad_body, bad_modifier, fault_of, modifier_fault, body_answer, shown_body}
 
-pub ends_in_modifier : (modifiers : List Modifier) (end : ConstantEnd) (fault : BlobFault) → Err fault ≡ answer_from modifiers (modifier_fault end) → fault_of end ≡ Some fault
-ends_in_modifier [] (body b) fault e = absurd cc
-ends_in_modifier [] (bad_body f) fault e = absurd cc
-ends_in_modifier [] (bad_modifier f) fault e = cc
-ends_in_modifier (m ∷ ms) end fault e = absurd cc
+pub ends_in_modifier : (end : ConstantEnd) (fault : BlobFault) → Some fault ≡ modifier_fault end → fault_of end ≡ Some fault
+ends_in_modifier (body b) fault e = absurd cc
+ends_in_modifier (bad_body f) fault e = absurd cc
+ends_in_modifier (bad_modifier f) fault e = cc
 
 pub ends_in_body : (constant : Constant) (end : ConstantEnd) → shown_body (Ok constant) ≡ body_answer end → fault_of end ≡ None
 ends_in_body constant (body b) e = refl

@@ -1,9 +1,6 @@
 -- Which scope owns an item, and what it has seen of its items.
-use Rattle.std.proofs.Common.{◌≡◌, ℕ, ◌+◌, ◌-◌, ◌<◌, ◌≤◌, ◌⊎◌, List, [], length, Some, None, refl, sym, subst, ◌∙◌, arith, inl, inr, zero, suc, ap, true, false, slice_get}
+use Rattle.std.proofs.Common.{◌≡◌, ℕ, ◌+◌, ◌-◌, ◌<◌, ◌≤◌, ◌⊎◌, List, [], length, Some, None, refl, sym, subst, ◌∙◌, arith, inl, inr, zero, suc, ap, slice_index, ◌≢◌}
 use Rattle.std.proofs.lemmas.Bool.{cases_lt, cases_eq}
-use Rattle.std.proofs.lemmas.Option.{slice_get_cases}
-use Rattle.std.specs.BTreeSet.{BTreeSet}
-use Rattle.std.specs.Borrow.{Bor}
 use Rattle.ppdb_base.specs.declared.code.Code.TheVariants.{ListRange}
 use Rattle.ppdb_base.specs.Place.{cell}
 use Rattle.ppdb_heaps.specs.Heaps.{text_at}
@@ -15,20 +12,14 @@ use Rattle.ppdb_rules.specs.declared.lists.ScopeList.{ScopeList}
 use Rattle.ppdb_rules.specs.declared.lists.ScopeList.TheVariants.{Variables, Constants}
 use Rattle.ppdb_rules.specs.Earlier.{HasEarlier}
 use Rattle.ppdb_rules.specs.Judged.{ToCell, ToTable}
-use Rattle.ppdb_rules.specs.Lists.{list_of, table_of}
+use Rattle.ppdb_rules.specs.Lists.{list_of}
 use Rattle.ppdb_rules.specs.Rows.BadRow.{variable_list, constant_list, variables_alone, constants_alone}
-use Rattle.ppdb_rules.specs.Scopes.{AreSameText, IsListOut, Owns, ShareOwner}
-use Rattle.ppdb_rules.specs.Seen.{AreSlots, AreTexts, Has, HasText, HasEarlierOf, HaveLists, OwnsBefore}
-use Rattle.ppdb_rules.proofs.CellFaults.{earlier_here, earlier_next, earlier_on, none_earlier, same_row, row_within}
-use Rattle.ppdb_rules.proofs.SeenSets.{has_none, has_no_text}
-
--- a number from 1 to the count of rows is that of a row
-pub row_there : {X : Type 0} (rows : List X) (n : ℕ) → 0 < n → n ≤ length rows → (x : X) × (row_at rows n ≡ Some x)
-row_there rows zero low high = absurd (omega (arith, low))
-row_there rows (suc i) low high = elim (slice_get_cases rows i).1 [
-  | inl x ↦ (x.0, x.2)
-  | inr past ↦ absurd (omega (arith, past.0))
-]
+use Rattle.ppdb_rules.specs.Scopes.{AreSameText, Owns, ShareOwner}
+use Rattle.ppdb_rules.specs.Seen.{AreSlots, AreTexts, HasText, HasNoTexts, HasEarlierOf, HaveLists, OwnsBefore}
+use Rattle.ppdb_rules.specs.declared.seen.Texts.{Texts}
+use Rattle.ppdb_tables.proofs.NumberedRows.{row_there, row_within, same_row}
+use Rattle.ppdb_rules.proofs.CellFaults.{earlier_here, earlier_next, earlier_on, none_earlier}
+use Rattle.ppdb_rules.proofs.SeenSets.{has_no_text}
 
 -- past LocalScope, no list is out of range
 pub lists_of_variables : (raw : RawTables) → ToTable raw 0x33 → HaveLists raw Variables
@@ -149,29 +140,34 @@ module _ {X : Type 0} (list : ScopeRow → ℕ) (scopes : List ScopeRow) (rows :
     forbidden = (record { owner = owner; first = h.forbidden.0; second = owns }, h.forbidden.1);
   }
 
--- the sets of a scope that is reached first are empty
-pub slots_at_new : (scopes : List ScopeRow) (variables : List VariableRow) (row before owner : ℕ) (seen : BTreeSet ℕ)
-    → OwnsBefore (λ s. s.variables) scopes before row → before < owner → seen.keys ≡ [] → AreSlots scopes variables row owner seen
-slots_at_new scopes variables row before owner seen owns past empty = record {
-  sound = λ n has. absurd (has_none seen n empty has);
-  complete = λ n h. absurd (new_owner (λ s. s.variables) scopes variables row before owner (λ (e : VariableRow). e.slot ≡ n) owns past h);
-}
+-- the marks before an owner are none of a later one
+pub slots_on : (scopes : List ScopeRow) (variables : List VariableRow) (row before owner : ℕ) (marks : List ℕ)
+    → OwnsBefore (λ s. s.variables) scopes before row → before ≤ owner → AreSlots scopes variables row before marks → AreSlots scopes variables row owner marks
+slots_on scopes variables row before owner marks owns on seen = elim (cases_lt before owner) [
+  | inl past ↦ record {
+    reached = λ n. let old = seen.reached n in omega (arith, old, on);
+    sound = λ n some marked. absurd (let old = seen.reached n in omega (arith, old, marked, past));
+    complete = λ n h. absurd (new_owner (λ s. s.variables) scopes variables row before owner (λ (e : VariableRow). e.slot ≡ n) owns past h);
+  }
+  | inr ge ↦ subst (λ (o : ℕ). AreSlots scopes variables row o marks) (let e : before ≡ owner = omega (arith, on, ge) in e) seen
+]
 
-pub slots_at_first : (scopes : List ScopeRow) (variables : List VariableRow) (owner : ℕ) (seen : BTreeSet ℕ) → seen.keys ≡ [] → AreSlots scopes variables 1 owner seen
-slots_at_first scopes variables owner seen empty = record {
-  sound = λ n has. absurd (has_none seen n empty has);
+pub slots_at_first : (scopes : List ScopeRow) (variables : List VariableRow) (owner : ℕ) (marks : List ℕ) → marks ≡ [] → AreSlots scopes variables 1 owner marks
+slots_at_first scopes variables owner marks empty = record {
+  reached = λ n. rw empty (omega arith);
+  sound = λ n some marked. absurd (let zero : slice_index marks n ≡ 0 = rw empty refl in omega (arith, some, marked, zero));
   complete = λ n h. absurd (none_earlier variables h);
 }
 
 module _ {X : Type 0} (list : ScopeRow → ℕ) (scopes : List ScopeRow) (texts : List ℕ) (name_of : X → ℕ) (rows : List X) where
-  pub texts_at_new : (row before owner : ℕ) (seen : BTreeSet (Bor (List ℕ))) → OwnsBefore list scopes before row → before < owner → seen.keys ≡ []
+  pub texts_at_new : (row before owner : ℕ) (seen : Texts) → OwnsBefore list scopes before row → before < owner → HasNoTexts seen
       → AreTexts list scopes texts name_of rows row owner seen
   texts_at_new row before owner seen owns past empty = record {
     sound = λ t has. absurd (has_no_text seen t empty has);
     complete = λ t h. absurd (new_owner list scopes rows row before owner (λ (e : X). text_at texts (name_of e) ≡ Some t) owns past h);
   }
 
-  pub texts_at_first : (owner : ℕ) (seen : BTreeSet (Bor (List ℕ))) → seen.keys ≡ [] → AreTexts list scopes texts name_of rows 1 owner seen
+  pub texts_at_first : (owner : ℕ) (seen : Texts) → HasNoTexts seen → AreTexts list scopes texts name_of rows 1 owner seen
   texts_at_first owner seen empty = record {
     sound = λ t has. absurd (has_no_text seen t empty has);
     complete = λ t h. absurd (none_earlier rows h);
@@ -208,23 +204,30 @@ module _ {X : Type 0} (list : ScopeRow → ℕ) (scopes : List ScopeRow) (texts 
       }
 
 -- what the sets have past an item
-pub slots_after : (scopes : List ScopeRow) (variables : List VariableRow) (row owner : ℕ) (variable : VariableRow) (old new : BTreeSet ℕ)
+pub slots_after : (scopes : List ScopeRow) (variables : List VariableRow) (row owner : ℕ) (variable : VariableRow) (old new : List ℕ)
     → AreSlots scopes variables row owner old → row_at variables row ≡ Some variable → Owns (λ s. s.variables) scopes owner row
-    → ((n : ℕ) → Has old n → Has new n) → Has new variable.slot → ((n : ℕ) → Has new n → Has old n ⊎ (n ≡ variable.slot))
+    → slice_index new variable.slot ≡ owner → ((n : ℕ) → n ≢ variable.slot → slice_index new n ≡ slice_index old n)
     → AreSlots scopes variables (row + 1) owner new
-slots_after scopes variables row owner variable old new seen there owns kept added only = record {
-  sound = λ n has. elim (only n has) [
-    | inl o ↦ earlier_on (λ before (e : VariableRow). Owns (λ s. s.variables) scopes owner before × (e.slot ≡ n)) variables row (seen.sound n o)
-    | inr e ↦ earlier_here (λ before (v : VariableRow). Owns (λ s. s.variables) scopes owner before × (v.slot ≡ n)) variables row variable there (owns, sym e)
+slots_after scopes variables row owner variable old new seen there owns marked others = record {
+  reached = λ n. elim (cases_eq n variable.slot) [
+    | inl same ↦ rw (same, marked) (omega arith)
+    | inr other ↦ rw (others n other) (seen.reached n)
   ];
-  complete = λ n h. elim (earlier_next (λ before (e : VariableRow). Owns (λ s. s.variables) scopes owner before × (e.slot ≡ n)) variables row variable there h) [
-    | inl early ↦ kept n (seen.complete n early)
-    | inr here ↦ subst (λ (m : ℕ). Has new m) here.1 added
+  sound = λ n some mark. elim (cases_eq n variable.slot) [
+    | inl same ↦ earlier_here (λ before (v : VariableRow). Owns (λ s. s.variables) scopes owner before × (v.slot ≡ n)) variables row variable there (owns, sym same)
+    | inr other ↦ earlier_on (λ before (e : VariableRow). Owns (λ s. s.variables) scopes owner before × (e.slot ≡ n)) variables row (seen.sound n some (sym (others n other) ∙ mark))
+  ];
+  complete = λ n h. elim (cases_eq n variable.slot) [
+    | inl same ↦ rw same marked
+    | inr other ↦ elim (earlier_next (λ before (e : VariableRow). Owns (λ s. s.variables) scopes owner before × (e.slot ≡ n)) variables row variable there h) [
+      | inl early ↦ others n other ∙ seen.complete n early
+      | inr here ↦ absurd (other (sym here.1))
+    ]
   ];
 }
 
 pub texts_after : {X : Type 0} (list : ScopeRow → ℕ) (scopes : List ScopeRow) (texts : List ℕ) (name_of : X → ℕ) (rows : List X) (row owner : ℕ) (x : X) (text : List ℕ)
-    (old new : BTreeSet (Bor (List ℕ))) → AreTexts list scopes texts name_of rows row owner old → row_at rows row ≡ Some x → Owns list scopes owner row
+    (old new : Texts) → AreTexts list scopes texts name_of rows row owner old → row_at rows row ≡ Some x → Owns list scopes owner row
     → text_at texts (name_of x) ≡ Some text
     → ((t : List ℕ) → HasText old t → HasText new t) → HasText new text → ((t : List ℕ) → HasText new t → HasText old t ⊎ (t ≡ text))
     → AreTexts list scopes texts name_of rows (row + 1) owner new

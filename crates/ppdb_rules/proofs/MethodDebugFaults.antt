@@ -1,32 +1,25 @@
 -- The faults of MethodDebug.
-use Rattle.std.proofs.Common.{◌≡◌, subst, ℕ, suc, ◌+◌, ◌<◌, ◌≤◌, ◌⊎◌, ◌%◌, inl, inr, length, Some, None, refl, sym, ◌∙◌, arith, ap}
+use Rattle.std.proofs.Common.{◌≡◌, ℕ, suc, ◌+◌, ◌<◌, ◌⊎◌, length, Some, None, arith}
 use Rattle.ppdb_base.specs.declared.code.Code.{Code}
 use Rattle.ppdb_base.specs.declared.code.Code.TheVariants.{BlobIndex, RowIndex}
 use Rattle.ppdb_base.specs.declared.fault.BlobFault.{BlobFault}
 use Rattle.ppdb_base.specs.declared.fault.Place.{Place}
 use Rattle.ppdb_base.specs.declared.fault.Fault.{Fault}
 use Rattle.ppdb_base.specs.Place.{number_of}
-use Rattle.ppdb_heaps.specs.Heaps.{text_at, blob_at}
-use Rattle.ppdb_heaps.specs.Names.{names}
+use Rattle.ppdb_heaps.specs.Heaps.{blob_at}
 use Rattle.ppdb_tables.specs.declared.rows.MethodDebugRow.{MethodDebugRow}
 use Rattle.ppdb_tables.specs.RawTables.{RawTables, row_at, count}
 use Rattle.sequence_points.specs.Records.{sequence_points}
-use Rattle.type_blobs.specs.Constants.{constants}
-use Rattle.type_blobs.specs.Imports.{imports}
-use Rattle.ppdb_rules.specs.Blobs.{HasFault, IsNil, NamesNoGuid, in_blob, point_limits, type_limits}
+use Rattle.ppdb_rules.specs.Blobs.{HasFault, IsNil, in_blob, point_limits}
 use Rattle.ppdb_rules.specs.Cells.TextCell.{variable_name}
 use Rattle.ppdb_rules.specs.Cells.BlobCell.{document_name, method_points}
 use Rattle.ppdb_rules.specs.Cells.GuidCell.{custom_kind}
 use Rattle.ppdb_rules.specs.Cells.RowCell.{method_document, scope_method}
-use Rattle.ppdb_rules.specs.Chains.{NeverEnds}
-use Rattle.ppdb_rules.specs.Earlier.{HasEarlier, NamesNoRow}
+use Rattle.ppdb_rules.specs.Earlier.{NamesNoRow}
 use Rattle.ppdb_rules.specs.Judged.{ToTable, ToRow, ToCell, IsFirstOf}
-use Rattle.ppdb_rules.specs.Names.{AreSameName}
 use Rattle.ppdb_rules.specs.Rows.{BadRow}
 use Rattle.ppdb_rules.specs.Rows.BadRow.{blob_index, guid_index, points_content, row_index, string_index}
-use Rattle.ppdb_rules.specs.Scopes.{AreSameText, ShareOwner}
-use Rattle.ppdb_rules.specs.Customs.{HasBadValue, HasNoParent, HasOtherParent}
-use Rattle.ppdb_rules.proofs.BlobFaults.{one_fault, not_there, one_bad_value, value_not_there, name_whole}
+use Rattle.ppdb_rules.proofs.BlobFaults.{one_fault, not_there}
 use Rattle.ppdb_rules.proofs.CellFaults as cells
 
 -- the faults of a row, by column, byte and code

@@ -1,10 +1,10 @@
 -- How the parts of a name are joined, a part at a time.
-use Rattle.std.proofs.Common.{◌≡◌, ◌<◌, length, ℕ, List, [], ◌∷◌, ◌++◌, Option, Some, None, Ok, Err, refl, sym, ap, subst, ◌∙◌, append_assoc, append-nil, arith}
+use Rattle.std.proofs.Common.{◌≡◌, ℕ, List, [], ◌∷◌, ◌++◌, Option, Some, None, Ok, refl, sym, ap, subst, ◌∙◌, append_assoc, append-nil}
 use Rattle.std.specs.List.{flat_map, join_by}
 use Rattle.ppdb_base.specs.declared.fault.BlobFault.{BlobFault}
 use Rattle.blob_grammar.specs.Reading.{Reading}
 use Rattle.blob_grammar.specs.Reader.{Left, answer_from, answer, rest_of, tail}
-use Rattle.ppdb_heaps.specs.Names.{NamePart, separator, names, without_zero, IsName, NameReading}
+use Rattle.ppdb_heaps.specs.Names.{separator, names, without_zero, IsName, NameReading}
 use Rattle.ppdb_heaps.specs.Joining.{HasAppended}
 use Rattle.ppdb_heaps.proofs.Joins.{Joining}
 

@@ -1,18 +1,16 @@
 -- Names of documents, and sets of them.
-use Rattle.std.proofs.Common.{◌≡◌, ℕ, ◌+◌, ◌<◌, ◌≤◌, ◌⊎◌, List, [], ◌++◌, length, length-append, Option, Some, None, refl, sym, subst, ap, ◌∙◌, arith, inl, inr, Bool, true, false, cond, IsTrue, ◌↔◌}
+use Rattle.std.proofs.Common.{◌≡◌, ℕ, ◌+◌, ◌<◌, ◌≤◌, ◌⊎◌, List, [], length, Some, None, refl, sym, subst, ap, ◌∙◌, arith, inl, inr, Bool, true, false, cond}
 use Rattle.std.specs.Ordering.{nat_cmp, is_eq}
 use Rattle.std.specs.Cmp.Lexicographic.{slice_cmp}
 use Rattle.std.specs.BTreeSet.{BTreeSet, contains, Updates}
 use Rattle.std.specs.declared.vec.Vec.{Vec}
 use Rattle.std.specs.declared.alloc.Global.{Global}
-use Rattle.ppdb_base.specs.declared.code.Code.TheVariants.{DocumentRepeated}
 use Rattle.blob_grammar.specs.Reading.{Reading}
 use Rattle.blob_grammar.proofs.Unique.{reading-unique}
-use Rattle.ppdb_heaps.specs.Heaps.{blob_at}
-use Rattle.ppdb_heaps.specs.Names.{IsName, joined, names}
+use Rattle.ppdb_heaps.specs.Names.{joined, names}
 use Rattle.ppdb_tables.specs.declared.rows.DocumentRow.{DocumentRow}
 use Rattle.ppdb_tables.specs.RawTables.{RawTables, row_at}
-use Rattle.ppdb_rules.specs.Blobs.{HasFault, IsNil}
+use Rattle.ppdb_rules.specs.Blobs.{IsNil}
 use Rattle.ppdb_rules.specs.Earlier.{HasEarlier}
 use Rattle.ppdb_rules.specs.Judged.{ToCell}
 use Rattle.ppdb_rules.specs.Names.{AreSameName, SpellsName}

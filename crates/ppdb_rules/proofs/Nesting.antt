@@ -15,7 +15,7 @@ use Rattle.ppdb_rules.specs.Judged.{ToCell}
 use Rattle.ppdb_rules.specs.Open.{AreOpen, EndsThere}
 use Rattle.ppdb_rules.specs.Rows.BadRow.{scope_order, scope_crossing, scope_range}
 use Rattle.ppdb_rules.specs.Scopes.{AreCrossed, Covers, Crosses, IsAbove, extent_of}
-use Rattle.ppdb_rules.proofs.CellFaults.{same_row}
+use Rattle.ppdb_tables.proofs.NumberedRows.{same_row}
 use Rattle.ppdb_rules.proofs.Order.{scopes_in_order}
 
 abbrev end_of : ScopeRow → ℕ

@@ -1,5 +1,5 @@
 -- Rows that are in order up to a place: the row before decides whether some earlier row is greater.
-use Rattle.std.proofs.Common.{◌≡◌, ℕ, ◌-◌, ◌<◌, ◌≤◌, ◌⊎◌, List, Some, refl, subst, arith, inl, inr}
+use Rattle.std.proofs.Common.{◌≡◌, ℕ, ◌-◌, ◌<◌, ◌≤◌, List, Some, refl, subst, arith, inl, inr}
 use Rattle.std.proofs.lemmas.Bool.{cases_lt}
 use Rattle.ppdb_base.specs.declared.code.Code.TheVariants.{ScopeOrder, MachineOrder, CustomOrder}
 use Rattle.ppdb_base.specs.Place.{cell}
@@ -11,7 +11,7 @@ use Rattle.ppdb_rules.specs.Earlier.{HasEarlier}
 use Rattle.ppdb_rules.specs.Judged.{ToCell}
 use Rattle.ppdb_rules.specs.Rows.BadRow.{scope_order, machine_order, custom_order}
 use Rattle.ppdb_rules.specs.Scopes.{Extent, IsAbove, extent_of}
-use Rattle.ppdb_rules.proofs.CellFaults.{same_row}
+use Rattle.ppdb_tables.proofs.NumberedRows.{same_row}
 
 -- the row before forbids a row that some earlier one forbids, where earlier rows forbid none of one another
 pub row_before : {X : Type 0} (Forbids : X → X → Type 0) (rows : List X) (row : ℕ) (x before : X) → row_at rows (row - 1) ≡ Some before

@@ -1,5 +1,5 @@
 -- The faults of LocalScope.
-use Rattle.std.proofs.Common.{◌≡◌, ℕ, suc, ◌+◌, ◌<◌, ◌≤◌, ◌⊎◌, inl, inr, length, Some, None, refl, arith, ap}
+use Rattle.std.proofs.Common.{◌≡◌, ℕ, suc, ◌+◌, ◌<◌, length, Some, arith}
 use Rattle.ppdb_base.specs.declared.code.Code.{Code}
 use Rattle.ppdb_base.specs.declared.code.Code.TheVariants.{RowIndex, ScopeOrder, ScopeRange, ScopeCrossing, ListRange}
 use Rattle.ppdb_base.specs.declared.fault.Place.{Place}

@@ -6,7 +6,7 @@ use Rattle.std.proofs.lemmas.List.{get_or-set_same, get_or-set_other, length-set
 use Rattle.std.proofs.Math.ListN.{set}
 use Rattle.ppdb_tables.specs.RawTables.{row_at}
 use Rattle.std.proofs.lemmas.Option.{slice_get_past}
-use Rattle.ppdb_rules.proofs.CellFaults.{row_within}
+use Rattle.ppdb_tables.proofs.NumberedRows.{row_within}
 use Rattle.ppdb_tables.specs.declared.rows.ImportRow.{ImportRow}
 use Rattle.ppdb_rules.specs.Chains.{parent_in, ancestor_of, NeverEnds}
 use Rattle.ppdb_rules.specs.Marks.{Ends, MarksEnd, WalksTo}

@@ -1,5 +1,5 @@
 -- Chains of import scopes (Portable PDB v1.0, "ImportScope Table", Parent).
-use Rattle.std.specs.Prelude.{ℕ, zero, suc, ◌≡◌, ◌≢◌, ◌<◌, List, length, slice_index, unwrap_or}
+use Rattle.std.specs.Prelude.{ℕ, zero, suc, ◌≢◌, List, unwrap_or}
 use Rattle.std.specs.Option.{option_map}
 use Rattle.ppdb_tables.specs.declared.rows.ImportRow.{ImportRow}
 use Rattle.ppdb_tables.specs.RawTables.{row_at}

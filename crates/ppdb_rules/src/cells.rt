@@ -10,35 +10,6 @@ ghost use Rattle.ppdb_rules.specs.Earlier.{NamesNoRow};
 use ppdb_base::{BlobFault, Code, Fault, Place};
 use ppdb_tables::Tables;
 
-/// The numbers of the tables.
-pub(crate) const TYPE_REF: u8 = 0x01;
-
-pub(crate) const TYPE_DEF: u8 = 0x02;
-
-pub(crate) const METHOD_DEF: u8 = 0x06;
-
-pub(crate) const STAND_ALONE_SIG: u8 = 0x11;
-
-pub(crate) const TYPE_SPEC: u8 = 0x1b;
-
-pub(crate) const ASSEMBLY_REF: u8 = 0x23;
-
-pub(crate) const DOCUMENT: u8 = 0x30;
-
-pub(crate) const METHOD_DEBUG: u8 = 0x31;
-
-pub(crate) const LOCAL_SCOPE: u8 = 0x32;
-
-pub(crate) const LOCAL_VARIABLE: u8 = 0x33;
-
-pub(crate) const LOCAL_CONSTANT: u8 = 0x34;
-
-pub(crate) const IMPORT_SCOPE: u8 = 0x35;
-
-pub(crate) const STATE_MACHINE: u8 = 0x36;
-
-pub(crate) const CUSTOM: u8 = 0x37;
-
 /// The fault of a cell.
 pub(crate) fn fault(code: Code, table: u8, row: u32, column: u8) -> Fault
     ensures { result ≡ record { code = code; place = cell table row column } }

@@ -1,6 +1,5 @@
 // The rules of LocalConstant.
 ghost use Rattle.std.specs.Prelude.{◌≡◌, ◌<◌, ◌≤◌, ◌+◌, ◌-◌, ◌⊎◌, ℕ, Some, OnOk, IfOk, IfErr};
-ghost use Rattle.ppdb_tables.specs.declared.rows.ConstantRow.{ConstantRow};
 ghost use Rattle.ppdb_tables.specs.RawTables.{row_at, count};
 ghost use Rattle.ppdb_tables.specs.RawOf.{raw_of};
 ghost use Rattle.ppdb_rules.specs.Errors.{FaultIs};
@@ -8,32 +7,25 @@ ghost use Rattle.ppdb_rules.specs.Judged.{ToTable, ToRow, ToCell, IsFirstOf};
 ghost use Rattle.ppdb_rules.specs.declared.lists.ScopeList.TheVariants.{Constants};
 ghost use Rattle.ppdb_heaps.specs.Heaps.{text_at};
 ghost use Rattle.ppdb_rules.specs.Scopes.{Owns};
-ghost use Rattle.ppdb_rules.specs.Seen.{AreTexts, HaveLists, OwnsBefore};
+ghost use Rattle.ppdb_rules.specs.Seen.{AreConstantNames, HaveLists, OwnsBefore};
 
-use crate::cells::{LOCAL_CONSTANT, LOCAL_SCOPE, fault, fault_within, row_count};
+use crate::cells::{fault, fault_within, row_count};
 use crate::contents::constant_fault;
 use crate::errors::VerifyError;
 use crate::lists::ScopeList;
 use crate::owners::owner_of;
-use crate::seen::note_text;
+use crate::seen::Texts;
 use ppdb_base::{Code, Fault, Steps};
-use ppdb_tables::{ConstantRow, Tables};
+use ppdb_tables::{ConstantRow, LOCAL_CONSTANT, LOCAL_SCOPE, Tables};
 use std::alloc::Global;
-use std::collections::BTreeSet;
 use std::sync::ledger::Ledger;
 
 /// Goes on to the owner of a constant: a scope that is reached first has no earlier constants.
-fn go_to_owner<'a>(
-    tables: &Tables<'a>,
-    row: u32,
-    before: u32,
-    owner: u32,
-    names: &mut BTreeSet<&'a [u8]>,
-)
+fn go_to_owner<'a>(tables: &Tables<'a>, row: u32, before: u32, owner: u32, names: &mut Texts<'a>)
     requires on { before ≤ owner }
     requires before { OwnsBefore (λ s. s.constants) (raw_of tables.now).scopes before row }
-    requires names { AreTexts (λ s. s.constants) (raw_of tables.now).scopes (raw_of tables.now).texts (λ (v : ConstantRow). v.name) (raw_of tables.now).constants row before names.old }
-    ensures { AreTexts (λ s. s.constants) (raw_of tables.now).scopes (raw_of tables.now).texts (λ (v : ConstantRow). v.name) (raw_of tables.now).constants row owner names.new }
+    requires names { AreConstantNames (raw_of tables.now) row before names.old }
+    ensures { AreConstantNames (raw_of tables.now) row owner names.new }
 {
     let _ = tables.strings();
     if owner == before {
@@ -66,19 +58,19 @@ fn judge_repeat<'a>(
     constant: &ConstantRow,
     owner: u32,
     name: &'a [u8],
-    names: &mut BTreeSet<&'a [u8]>,
+    names: &mut Texts<'a>,
 ) -> Result<(), VerifyError>
     requires there { row_at (raw_of tables.now).constants row ≡ Some constant.now }
     requires judged { ToCell (raw_of tables.now) 0x34 row 0 }
     requires some { 0 < count (raw_of tables.now) 0x32 }
     requires text { text_at (raw_of tables.now).texts constant.now.name ≡ Some name.now }
     requires owns { Owns (λ s. s.constants) (raw_of tables.now).scopes owner row }
-    requires names { AreTexts (λ s. s.constants) (raw_of tables.now).scopes (raw_of tables.now).texts (λ (v : ConstantRow). v.name) (raw_of tables.now).constants row owner names.old }
+    requires names { AreConstantNames (raw_of tables.now) row owner names.old }
     ensures ok { OnOk result (ToCell (raw_of tables.now) 0x34 row 1) }
-    ensures names { OnOk result (AreTexts (λ s. s.constants) (raw_of tables.now).scopes (raw_of tables.now).texts (λ (v : ConstantRow). v.name) (raw_of tables.now).constants (row + 1) owner names.new) }
+    ensures names { OnOk result (AreConstantNames (raw_of tables.now) (row + 1) owner names.new) }
     ensures err { IfErr result (FaultIs (IsFirstOf (raw_of tables.now))) }
 {
-    let is_new = note_text(names, name)?;
+    let is_new = names.note(name)?;
     if !is_new {
         return Err(VerifyError::Fault(fault(Code::NameRepeated, LOCAL_CONSTANT, row, 0)));
     }
@@ -107,7 +99,7 @@ fn judge_constant<'a, L: Ledger>(
     row: u32,
     constant: &ConstantRow,
     before: u32,
-    names: &mut BTreeSet<&'a [u8]>,
+    names: &mut Texts<'a>,
     steps: &mut Steps<L>,
 ) -> Result<u32, VerifyError>
     requires first { 1 ≤ row }
@@ -115,10 +107,10 @@ fn judge_constant<'a, L: Ledger>(
     requires lists { HaveLists (raw_of tables.now) Constants }
     requires judged { ToCell (raw_of tables.now) 0x34 row 0 }
     requires before { OwnsBefore (λ s. s.constants) (raw_of tables.now).scopes before row }
-    requires names { AreTexts (λ s. s.constants) (raw_of tables.now).scopes (raw_of tables.now).texts (λ (v : ConstantRow). v.name) (raw_of tables.now).constants row before names.old }
+    requires names { AreConstantNames (raw_of tables.now) row before names.old }
     ensures ok { OnOk result (ToRow (raw_of tables.now) 0x34 (row + 1)) }
     ensures owner { IfOk result (λ owner. OwnsBefore (λ s. s.constants) (raw_of tables.now).scopes owner (row + 1)) }
-    ensures names { IfOk result (λ owner. AreTexts (λ s. s.constants) (raw_of tables.now).scopes (raw_of tables.now).texts (λ (v : ConstantRow). v.name) (raw_of tables.now).constants (row + 1) owner names.new) }
+    ensures names { IfOk result (λ owner. AreConstantNames (raw_of tables.now) (row + 1) owner names.new) }
     ensures err { IfErr result (FaultIs (IsFirstOf (raw_of tables.now))) }
 {
     let name = judge_there(tables, row, constant)?;
@@ -129,20 +121,22 @@ fn judge_constant<'a, L: Ledger>(
     Ok(owner)
 }
 
-/// Judges the rows of LocalConstant in order, and stops at the first fault.
+/// Judges the rows of LocalConstant in order up to and with one, and stops at the first fault.
 pub(crate) fn judge_constants<L: Ledger>(
     alloc: Global,
     tables: &Tables<'_>,
+    last: u32,
     steps: &mut Steps<L>,
 ) -> Result<(), VerifyError>
-    requires { ToTable (raw_of tables.now) 0x34 }
-    ensures ok { OnOk result (ToTable (raw_of tables.now) 0x35) }
+    requires judged { ToTable (raw_of tables.now) 0x34 }
+    requires within { last ≤ count (raw_of tables.now) 0x34 }
+    ensures ok { OnOk result (ToRow (raw_of tables.now) 0x34 (last + 1)) }
     ensures err { IfErr result (FaultIs (IsFirstOf (raw_of tables.now))) }
 {
-    let mut names = BTreeSet::new(alloc);
+    let mut names = Texts::new(alloc);
     let mut owner = 0;
-    let count = row_count(tables, LOCAL_CONSTANT);
-    for row in 1..count + 1 {
+    tables.shape();
+    for row in 1..last + 1 {
         let constant = tables.constant(row, steps);
         owner = judge_constant(tables, row, &constant, owner, &mut names, steps)?;
     }

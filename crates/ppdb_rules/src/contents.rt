@@ -15,13 +15,13 @@ ghost use Rattle.ppdb_rules.specs.Blobs as words;
 ghost use Rattle.ppdb_rules.specs.Blobs.{Reads};
 ghost use Rattle.ppdb_rules.specs.Customs.{ReadsValue};
 
-use crate::cells::{
-    ASSEMBLY_REF, DOCUMENT, METHOD_DEF, STAND_ALONE_SIG, TYPE_DEF, TYPE_REF, TYPE_SPEC,
-};
+use blob_grammar::fault_after;
 use custom_info::{AsyncCursor, Kind, RowCursor, SlotCursor};
 use ppdb_base::BlobFault;
 use ppdb_heaps::Blobs;
-use ppdb_tables::Tables;
+use ppdb_tables::{
+    ASSEMBLY_REF, DOCUMENT, METHOD_DEF, STAND_ALONE_SIG, TYPE_DEF, TYPE_REF, TYPE_SPEC, Tables,
+};
 use sequence_points::{PointLimits, blob_fault};
 use type_blobs::{ConstantCursor, ImportCursor, TypeLimits};
 
@@ -63,12 +63,8 @@ fn constant_end(content: &[u8], limits: TypeLimits) -> Option<BlobFault>
     ensures { Reads (constants limits) content.now result }
 {
     let mut cursor = ConstantCursor::new(content, limits);
-    'modifiers: loop {
-        match cursor.next_modifier() {
-            Ok(Some(_)) => {}
-            Ok(None) => break,
-            Err(fault) => return Some(fault),
-        }
+    if let Some(fault) = fault_after(&mut cursor) {
+        return Some(fault);
     }
     match cursor.body() {
         Ok(_) => None,
@@ -89,14 +85,7 @@ fn imports_end(content: &[u8], blobs: Blobs<'_>, limits: TypeLimits) -> Option<B
     requires { length content.now < 2 ^ 32 }
     ensures { Reads (imports limits (blob_at (blobs_of blobs.entry))) content.now result }
 {
-    let mut cursor = ImportCursor::new(content, blobs, limits);
-    'imports: loop {
-        match cursor.next() {
-            Ok(Some(_)) => {}
-            Ok(None) => return None,
-            Err(fault) => return Some(fault),
-        }
-    }
+    fault_after(&mut ImportCursor::new(content, blobs, limits))
 }
 
 /// The fault of a list of imports, None where it is whole.
@@ -112,16 +101,9 @@ fn async_fault(content: &[u8], methods: u32) -> Option<BlobFault>
     requires { length content.now < 2 ^ 32 }
     ensures { Reads (async_stepping methods) content.now result }
 {
-    let mut cursor = match AsyncCursor::new(content, methods) {
-        Ok(cursor) => cursor,
-        Err(fault) => return Some(fault),
-    };
-    'steps: loop {
-        match cursor.next() {
-            Ok(Some(_)) => {}
-            Ok(None) => return None,
-            Err(fault) => return Some(fault),
-        }
+    match AsyncCursor::new(content, methods) {
+        Ok(mut cursor) => fault_after(&mut cursor),
+        Err(fault) => Some(fault),
     }
 }
 
@@ -130,14 +112,7 @@ fn hoisted_fault(content: &[u8]) -> Option<BlobFault>
     requires { length content.now < 2 ^ 32 }
     ensures { Reads hoisted_scopes content.now result }
 {
-    let mut cursor = SlotCursor::new(content);
-    'slots: loop {
-        match cursor.next() {
-            Ok(Some(_)) => {}
-            Ok(None) => return None,
-            Err(fault) => return Some(fault),
-        }
-    }
+    fault_after(&mut SlotCursor::new(content))
 }
 
 /// The fault of a list of a type's documents, None where it is whole.
@@ -145,14 +120,7 @@ fn type_documents_fault(content: &[u8], documents: u32) -> Option<BlobFault>
     requires { length content.now < 2 ^ 32 }
     ensures { Reads (type_documents documents) content.now result }
 {
-    let mut cursor = RowCursor::new(content, documents);
-    'rows: loop {
-        match cursor.next() {
-            Ok(Some(_)) => {}
-            Ok(None) => return None,
-            Err(fault) => return Some(fault),
-        }
-    }
+    fault_after(&mut RowCursor::new(content, documents))
 }
 
 /// The fault of a custom record's value, None where it is whole or of a kind that is not read.

@@ -10,11 +10,11 @@ ghost use Rattle.ppdb_rules.specs.Judged.{ToTable, ToRow, ToCell, IsFirstOf};
 ghost use Rattle.ppdb_rules.specs.Customs.{HasNoParent, HasOtherParent, IsOfKind, parent_table};
 ghost use Rattle.ppdb_rules.specs.Earlier.{HasEarlier};
 
-use crate::cells::{CUSTOM, fault, fault_within, names_no_row, row_count};
+use crate::cells::{fault, fault_within, names_no_row, row_count};
 use crate::contents::value_fault;
 use custom_info::{Kind, Marks, kind_of};
 use ppdb_base::{Code, Fault, Steps};
-use ppdb_tables::{CustomRow, Tables, parent_of};
+use ppdb_tables::{CUSTOM, CustomRow, METHOD_DEF, TYPE_DEF, Tables, parent_of};
 use std::alloc::Global;
 use std::sync::ledger::Ledger;
 
@@ -83,8 +83,8 @@ fn table_of_parents(kind: Kind) -> Option<u8>
     ensures { result ≡ parent_table kind }
 {
     match kind {
-        Kind::Async | Kind::Hoisted => Some(0x06),
-        Kind::TypeDocuments => Some(0x02),
+        Kind::Async | Kind::Hoisted => Some(METHOD_DEF),
+        Kind::TypeDocuments => Some(TYPE_DEF),
         Kind::Free | Kind::Unknown => None,
     }
 }
@@ -159,18 +159,20 @@ fn judge_custom<L: Ledger>(
     Ok(())
 }
 
-/// Judges the rows of CustomDebugInformation in order, and stops at the first fault.
+/// Judges the rows of CustomDebugInformation in order up to and with one, and stops at the first fault.
 pub(crate) fn judge_customs<L: Ledger>(
     alloc: Global,
     tables: &Tables<'_>,
+    last: u32,
     steps: &mut Steps<L>,
 ) -> Result<(), Fault>
-    requires { ToTable (raw_of tables.now) 0x37 }
-    ensures ok { OnOk result (ToTable (raw_of tables.now) 0x38) }
+    requires judged { ToTable (raw_of tables.now) 0x37 }
+    requires within { last ≤ count (raw_of tables.now) 0x37 }
+    ensures ok { OnOk result (ToRow (raw_of tables.now) 0x37 (last + 1)) }
     ensures err { IfErr result (IsFirstOf (raw_of tables.now)) }
 {
-    let count = row_count(tables, CUSTOM);
-    for row in 1..count + 1 {
+    tables.shape();
+    for row in 1..last + 1 {
         let custom = tables.custom(row, steps);
         judge_custom(alloc, tables, row, &custom, steps)?;
     }

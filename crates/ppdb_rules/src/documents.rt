@@ -9,12 +9,12 @@ ghost use Rattle.ppdb_rules.specs.Blobs.{IsNil};
 ghost use Rattle.ppdb_rules.specs.Names.{SpellsName};
 ghost use Rattle.ppdb_rules.specs.SeenNames.{AreNames};
 
-use crate::cells::{DOCUMENT, fault, fault_within, names_no_blob, names_no_guid, row_count};
+use crate::cells::{fault, fault_within, names_no_blob, names_no_guid, row_count};
 use crate::errors::VerifyError;
 use crate::names::{at_least, exceeds, joined, note_name};
 use ppdb_base::{Code, Fault, Steps};
 use ppdb_heaps::NameError;
-use ppdb_tables::{DocumentRow, Tables};
+use ppdb_tables::{DOCUMENT, DocumentRow, Tables};
 use std::alloc::Global;
 use std::collections::BTreeSet;
 use std::sync::ledger::Ledger;
@@ -154,21 +154,23 @@ fn judge_document(
 
 /// Judges the rows of Document in order up to and with one, and stops at the first fault. Names longer than any before are
 /// not joined in that row.
-pub fn judge_documents<L: Ledger>(
+pub(crate) fn judge_documents<L: Ledger>(
     alloc: Global,
     tables: &Tables<'_>,
     last: u32,
     steps: &mut Steps<L>,
 ) -> Result<(), VerifyError>
     requires judged { ToTable (raw_of tables.now) 0x30 }
-    requires first { 1 ≤ last }
     requires within { last ≤ count (raw_of tables.now) 0x30 }
     ensures ok { OnOk result (ToRow (raw_of tables.now) 0x30 (last + 1)) }
     ensures err { IfErr result (FaultIs (IsFirstOf (raw_of tables.now))) }
 {
+    tables.shape();
+    if last == 0 {
+        return Ok(());
+    }
     let mut seen = BTreeSet::new(alloc);
     let mut longest = 0;
-    let _count = row_count(tables, DOCUMENT);
     for row in 1..last {
         let document = tables.document(row, steps);
         judge_document(alloc, tables, row, &document, &mut seen, &mut longest)?;

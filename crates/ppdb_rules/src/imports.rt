@@ -8,11 +8,11 @@ ghost use Rattle.ppdb_rules.specs.Judged.{ToTable, ToRow, ToCell, IsFirstOf};
 ghost use Rattle.ppdb_rules.specs.Chains.{NeverEnds};
 ghost use Rattle.ppdb_rules.specs.Marks.{MarksEnd};
 
-use crate::cells::{IMPORT_SCOPE, fault, fault_within, names_no_row, row_count};
+use crate::cells::{fault, fault_within, names_no_row, row_count};
 use crate::contents::imports_fault;
 use crate::errors::VerifyError;
 use ppdb_base::{Code, Fault, Steps};
-use ppdb_tables::{ImportRow, Tables};
+use ppdb_tables::{IMPORT_SCOPE, ImportRow, Tables};
 use std::alloc::Global;
 use std::sync::ledger::Ledger;
 
@@ -105,20 +105,22 @@ fn judge_import<L: Ledger>(
     Ok(())
 }
 
-/// Judges the rows of ImportScope in order, and stops at the first fault.
+/// Judges the rows of ImportScope in order up to and with one, and stops at the first fault.
 pub(crate) fn judge_imports<L: Ledger>(
     alloc: Global,
     tables: &Tables<'_>,
+    last: u32,
     steps: &mut Steps<L>,
 ) -> Result<(), VerifyError>
-    requires { ToTable (raw_of tables.now) 0x35 }
-    ensures ok { OnOk result (ToTable (raw_of tables.now) 0x36) }
+    requires judged { ToTable (raw_of tables.now) 0x35 }
+    requires within { last ≤ count (raw_of tables.now) 0x35 }
+    ensures ok { OnOk result (ToRow (raw_of tables.now) 0x35 (last + 1)) }
     ensures err { IfErr result (FaultIs (IsFirstOf (raw_of tables.now))) }
 {
     let count = row_count(tables, IMPORT_SCOPE);
     let mut all: Vec<u32> = vec![in alloc; 0; count as usize]?;
     let marks = all.as_mut_slice();
-    for row in 1..count + 1 {
+    for row in 1..last + 1 {
         let import = tables.import(row, steps);
         judge_import(tables, row, &import, marks, steps)?;
     }

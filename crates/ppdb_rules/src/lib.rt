@@ -18,6 +18,5 @@ mod scopes;
 mod seen;
 mod variables;
 
-pub use documents::judge_documents;
 pub use errors::VerifyError;
-pub use rows::judge_rows;
+pub use rows::{judge_rows, judge_rows_to};

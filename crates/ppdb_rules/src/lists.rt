@@ -2,7 +2,7 @@
 ghost use Rattle.std.specs.Prelude.{◌≡◌};
 ghost use Rattle.ppdb_rules.specs.Lists.{list_of, table_of, column_of};
 
-use ppdb_tables::ScopeRow;
+use ppdb_tables::{LOCAL_CONSTANT, LOCAL_VARIABLE, ScopeRow};
 
 /// A list of a scope.
 #[derive(Clone, Copy)]
@@ -29,8 +29,8 @@ impl ScopeList {
         ensures { result ≡ table_of self }
     {
         match self {
-            ScopeList::Variables => 0x33,
-            ScopeList::Constants => 0x34,
+            ScopeList::Variables => LOCAL_VARIABLE,
+            ScopeList::Constants => LOCAL_CONSTANT,
         }
     }
 

@@ -8,13 +8,12 @@ ghost use Rattle.ppdb_rules.specs.Judged.{ToTable, ToRow, ToCell, IsFirstOf};
 ghost use Rattle.ppdb_rules.specs.Earlier.{HasEarlier};
 ghost use Rattle.ppdb_rules.specs.Seen.{AreKickoffs};
 
-use crate::cells::{METHOD_DEF, STATE_MACHINE, fault, names_no_row, row_count};
+use crate::cells::{fault, names_no_row, row_count};
 use crate::errors::VerifyError;
-use crate::seen::note;
+use crate::seen::note_method;
 use ppdb_base::{Code, Fault, Steps};
-use ppdb_tables::{MachineRow, Tables};
+use ppdb_tables::{METHOD_DEF, MachineRow, STATE_MACHINE, Tables};
 use std::alloc::Global;
-use std::collections::BTreeSet;
 use std::sync::ledger::Ledger;
 
 /// Whether some earlier MoveNext method is equal or greater.
@@ -58,19 +57,19 @@ fn judge_kickoff(
     tables: &Tables<'_>,
     row: u32,
     machine: &MachineRow,
-    seen: &mut BTreeSet<u32>,
+    seen: &mut Vec<u32>,
 ) -> Result<(), VerifyError>
     requires there { row_at (raw_of tables.now).machines row ≡ Some machine.now }
     requires judged { ToCell (raw_of tables.now) 0x36 row 1 }
-    requires seen { AreKickoffs (raw_of tables.now).machines row seen.old }
+    requires seen { AreKickoffs (raw_of tables.now).machines row seen.old.items }
     ensures ok { OnOk result (ToCell (raw_of tables.now) 0x36 row 2) }
-    ensures seen { OnOk result (AreKickoffs (raw_of tables.now).machines (row + 1) seen.new) }
+    ensures seen { OnOk result (AreKickoffs (raw_of tables.now).machines (row + 1) seen.new.items) }
     ensures err { IfErr result (FaultIs (IsFirstOf (raw_of tables.now))) }
 {
     if names_no_row(tables, METHOD_DEF, 1, machine.kickoff) {
         return Err(VerifyError::Fault(fault(Code::RowIndex, STATE_MACHINE, row, 1)));
     }
-    let is_new = note(seen, machine.kickoff)?;
+    let is_new = note_method(seen, machine.kickoff)?;
     if !is_new {
         return Err(VerifyError::Fault(fault(Code::KickoffRepeated, STATE_MACHINE, row, 1)));
     }
@@ -82,14 +81,14 @@ fn judge_machine<L: Ledger>(
     tables: &Tables<'_>,
     row: u32,
     machine: &MachineRow,
-    seen: &mut BTreeSet<u32>,
+    seen: &mut Vec<u32>,
     steps: &mut Steps<L>,
 ) -> Result<(), VerifyError>
     requires there { row_at (raw_of tables.now).machines row ≡ Some machine.now }
     requires judged { ToCell (raw_of tables.now) 0x36 row 0 }
-    requires seen { AreKickoffs (raw_of tables.now).machines row seen.old }
+    requires seen { AreKickoffs (raw_of tables.now).machines row seen.old.items }
     ensures ok { OnOk result (ToRow (raw_of tables.now) 0x36 (row + 1)) }
-    ensures seen { OnOk result (AreKickoffs (raw_of tables.now).machines (row + 1) seen.new) }
+    ensures seen { OnOk result (AreKickoffs (raw_of tables.now).machines (row + 1) seen.new.items) }
     ensures err { IfErr result (FaultIs (IsFirstOf (raw_of tables.now))) }
 {
     judge_move_next(tables, row, machine, steps)?;
@@ -97,19 +96,21 @@ fn judge_machine<L: Ledger>(
     Ok(())
 }
 
-/// Judges the rows of StateMachineMethod in order, and stops at the first fault.
+/// Judges the rows of StateMachineMethod in order up to and with one, and stops at the first fault.
 pub(crate) fn judge_machines<L: Ledger>(
     alloc: Global,
     tables: &Tables<'_>,
+    last: u32,
     steps: &mut Steps<L>,
 ) -> Result<(), VerifyError>
-    requires { ToTable (raw_of tables.now) 0x36 }
-    ensures ok { OnOk result (ToTable (raw_of tables.now) 0x37) }
+    requires judged { ToTable (raw_of tables.now) 0x36 }
+    requires within { last ≤ count (raw_of tables.now) 0x36 }
+    ensures ok { OnOk result (ToRow (raw_of tables.now) 0x36 (last + 1)) }
     ensures err { IfErr result (FaultIs (IsFirstOf (raw_of tables.now))) }
 {
-    let mut seen = BTreeSet::new(alloc);
-    let count = row_count(tables, STATE_MACHINE);
-    for row in 1..count + 1 {
+    let mut seen: Vec<u32> = Vec::new(alloc);
+    tables.shape();
+    for row in 1..last + 1 {
         let machine = tables.machine(row, steps);
         judge_machine(tables, row, &machine, &mut seen, steps)?;
     }

@@ -5,10 +5,10 @@ ghost use Rattle.ppdb_tables.specs.RawOf.{raw_of};
 ghost use Rattle.ppdb_rules.specs.Errors.{FaultIs};
 ghost use Rattle.ppdb_rules.specs.Judged.{ToTable, ToRow, ToCell, IsFirstOf};
 
-use crate::cells::{DOCUMENT, METHOD_DEBUG, fault, fault_within, names_no_row, row_count};
+use crate::cells::{fault, fault_within, names_no_row, row_count};
 use crate::contents::points_fault;
 use ppdb_base::{Code, Fault, Steps};
-use ppdb_tables::{MethodDebugRow, Tables};
+use ppdb_tables::{DOCUMENT, METHOD_DEBUG, MethodDebugRow, Tables};
 use std::sync::ledger::Ledger;
 
 /// Judges the document of a method.
@@ -57,17 +57,19 @@ fn judge_method(tables: &Tables<'_>, row: u32, method: &MethodDebugRow) -> Resul
     Ok(())
 }
 
-/// Judges the rows of MethodDebugInformation in order, and stops at the first fault.
+/// Judges the rows of MethodDebugInformation in order up to and with one, and stops at the first fault.
 pub(crate) fn judge_methods<L: Ledger>(
     tables: &Tables<'_>,
+    last: u32,
     steps: &mut Steps<L>,
 ) -> Result<(), Fault>
-    requires { ToTable (raw_of tables.now) 0x31 }
-    ensures ok { OnOk result (ToTable (raw_of tables.now) 0x32) }
+    requires judged { ToTable (raw_of tables.now) 0x31 }
+    requires within { last ≤ count (raw_of tables.now) 0x31 }
+    ensures ok { OnOk result (ToRow (raw_of tables.now) 0x31 (last + 1)) }
     ensures err { IfErr result (IsFirstOf (raw_of tables.now)) }
 {
-    let count = row_count(tables, METHOD_DEBUG);
-    for row in 1..count + 1 {
+    tables.shape();
+    for row in 1..last + 1 {
         let method = tables.method_debug(row, steps);
         judge_method(tables, row, &method)?;
     }

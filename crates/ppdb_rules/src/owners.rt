@@ -6,10 +6,10 @@ ghost use Rattle.ppdb_rules.specs.Lists.{list_of};
 ghost use Rattle.ppdb_rules.specs.Scopes.{Owns};
 ghost use Rattle.ppdb_rules.specs.Seen.{HaveLists, OwnsBefore};
 
-use crate::cells::{LOCAL_SCOPE, row_count};
+use crate::cells::row_count;
 use crate::lists::ScopeList;
 use ppdb_base::Steps;
-use ppdb_tables::Tables;
+use ppdb_tables::{LOCAL_SCOPE, Tables};
 use std::sync::ledger::Ledger;
 
 /// The owner of an item, looked for from the owner of the item before on.

@@ -1,12 +1,13 @@
-// The rules of all rows but those of Document, table by table.
-ghost use Rattle.std.specs.Prelude.{◌≡◌, OnOk, IfErr};
+// The rules of the rows, table by table.
+ghost use Rattle.std.specs.Prelude.{◌≡◌, ◌+◌, ◌<◌, ◌≤◌, OnOk, IfErr};
 ghost use Rattle.ppdb_base.specs.First.{IsAccepted};
+ghost use Rattle.ppdb_tables.specs.RawTables.{count};
 ghost use Rattle.ppdb_tables.specs.RawOf.{raw_of};
 ghost use Rattle.ppdb_rules.specs.Errors.{FaultIs};
-ghost use Rattle.ppdb_rules.specs.Judged.{ToTable, IsFirstOf};
+ghost use Rattle.ppdb_rules.specs.Judged.{ToTable, ToRow, IsFirstOf};
 ghost use Rattle.ppdb_rules.specs.Rows.{BadRow};
 
-use crate::cells::{DOCUMENT, row_count};
+use crate::cells::row_count;
 use crate::constants::judge_constants;
 use crate::customs::judge_customs;
 use crate::documents::judge_documents;
@@ -17,25 +18,73 @@ use crate::methods::judge_methods;
 use crate::scopes::judge_scopes;
 use crate::variables::judge_variables;
 use ppdb_base::Steps;
-use ppdb_tables::Tables;
+use ppdb_tables::{
+    CUSTOM, DOCUMENT, IMPORT_SCOPE, LOCAL_CONSTANT, LOCAL_SCOPE, LOCAL_VARIABLE, METHOD_DEBUG,
+    STATE_MACHINE, Tables,
+};
 use std::alloc::Global;
 use std::sync::ledger::Ledger;
 
-/// Judges all rows of Document.
-fn judge_all_documents<L: Ledger>(
+/// Judges the rows of a table in order up to and with one, and stops at the first fault.
+fn judge_table<L: Ledger>(
     alloc: Global,
     tables: &Tables<'_>,
+    table: u8,
+    last: u32,
     steps: &mut Steps<L>,
 ) -> Result<(), VerifyError>
-    requires { ToTable (raw_of tables.now) 0x30 }
-    ensures ok { OnOk result (ToTable (raw_of tables.now) 0x31) }
+    requires table { (0x30 ≤ table) × (table ≤ 0x37) }
+    requires within { last ≤ count (raw_of tables.now) table }
+    requires judged { ToTable (raw_of tables.now) table }
+    ensures ok { OnOk result (ToRow (raw_of tables.now) table (last + 1)) }
     ensures err { IfErr result (FaultIs (IsFirstOf (raw_of tables.now))) }
 {
-    let count = row_count(tables, DOCUMENT);
-    if count == 0 {
-        return Ok(());
+    match table {
+        DOCUMENT => judge_documents(alloc, tables, last, steps)?,
+        METHOD_DEBUG => judge_methods(tables, last, steps)?,
+        LOCAL_SCOPE => judge_scopes(alloc, tables, last, steps)?,
+        LOCAL_VARIABLE => judge_variables(alloc, tables, last, steps)?,
+        LOCAL_CONSTANT => judge_constants(alloc, tables, last, steps)?,
+        IMPORT_SCOPE => judge_imports(alloc, tables, last, steps)?,
+        STATE_MACHINE => judge_machines(alloc, tables, last, steps)?,
+        _ => judge_customs(alloc, tables, last, steps)?,
     }
-    judge_documents(alloc, tables, count, steps)?;
+    Ok(())
+}
+
+/// Judges all rows of the tables before one.
+fn judge_tables_before<L: Ledger>(
+    alloc: Global,
+    tables: &Tables<'_>,
+    end: u8,
+    steps: &mut Steps<L>,
+) -> Result<(), VerifyError>
+    requires table { (0x30 ≤ end) × (end ≤ 0x38) }
+    ensures ok { OnOk result (ToTable (raw_of tables.now) end) }
+    ensures err { IfErr result (FaultIs (IsFirstOf (raw_of tables.now))) }
+{
+    for table in DOCUMENT..end {
+        let last = row_count(tables, table);
+        judge_table(alloc, tables, table, last, steps)?;
+    }
+    Ok(())
+}
+
+/// Judges the rows up to and with one of a table: answers whether no rule is broken there, and else the first fault.
+pub fn judge_rows_to<L: Ledger>(
+    alloc: Global,
+    tables: &Tables<'_>,
+    table: u8,
+    last: u32,
+    steps: &mut Steps<L>,
+) -> Result<(), VerifyError>
+    requires table { (0x30 ≤ table) × (table ≤ 0x37) }
+    requires within { last ≤ count (raw_of tables.now) table }
+    ensures ok { OnOk result (ToRow (raw_of tables.now) table (last + 1)) }
+    ensures err { IfErr result (FaultIs (IsFirstOf (raw_of tables.now))) }
+{
+    judge_tables_before(alloc, tables, table, steps)?;
+    judge_table(alloc, tables, table, last, steps)?;
     Ok(())
 }
 
@@ -48,13 +97,6 @@ pub fn judge_rows<L: Ledger>(
     ensures accepted { OnOk result (IsAccepted (BadRow (raw_of tables.now))) }
     ensures first { IfErr result (FaultIs (IsFirstOf (raw_of tables.now))) }
 {
-    judge_all_documents(alloc, tables, steps)?;
-    judge_methods(tables, steps)?;
-    judge_scopes(alloc, tables, steps)?;
-    judge_variables(alloc, tables, steps)?;
-    judge_constants(alloc, tables, steps)?;
-    judge_imports(alloc, tables, steps)?;
-    judge_machines(alloc, tables, steps)?;
-    judge_customs(alloc, tables, steps)?;
+    judge_tables_before(alloc, tables, CUSTOM + 1, steps)?;
     Ok(())
 }

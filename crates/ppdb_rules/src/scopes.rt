@@ -10,11 +10,11 @@ ghost use Rattle.ppdb_rules.specs.Lists.{list_of, table_of, column_of};
 ghost use Rattle.ppdb_rules.specs.Open.{AreOpen};
 ghost use Rattle.ppdb_rules.specs.Scopes.{AreCrossed, HasNoRange, IsAbove, IsListOut, extent_of};
 
-use crate::cells::{IMPORT_SCOPE, LOCAL_SCOPE, METHOD_DEF, fault, names_no_row, row_count};
+use crate::cells::{fault, names_no_row, row_count};
 use crate::errors::VerifyError;
 use crate::lists::ScopeList;
 use ppdb_base::{Code, Fault, Steps};
-use ppdb_tables::{ScopeRow, Tables};
+use ppdb_tables::{IMPORT_SCOPE, LOCAL_SCOPE, METHOD_DEF, ScopeRow, Tables};
 use std::alloc::{AllocError, Global};
 use std::sync::ledger::Ledger;
 
@@ -257,19 +257,21 @@ fn judge_scope<L: Ledger>(
     Ok(())
 }
 
-/// Judges the rows of LocalScope in order, and stops at the first fault.
+/// Judges the rows of LocalScope in order up to and with one, and stops at the first fault.
 pub(crate) fn judge_scopes<L: Ledger>(
     alloc: Global,
     tables: &Tables<'_>,
+    last: u32,
     steps: &mut Steps<L>,
 ) -> Result<(), VerifyError>
-    requires { ToTable (raw_of tables.now) 0x32 }
-    ensures ok { OnOk result (ToTable (raw_of tables.now) 0x33) }
+    requires judged { ToTable (raw_of tables.now) 0x32 }
+    requires within { last ≤ count (raw_of tables.now) 0x32 }
+    ensures ok { OnOk result (ToRow (raw_of tables.now) 0x32 (last + 1)) }
     ensures err { IfErr result (FaultIs (IsFirstOf (raw_of tables.now))) }
 {
     let mut ends: Vec<u64> = Vec::new(alloc);
-    let count = row_count(tables, LOCAL_SCOPE);
-    for row in 1..count + 1 {
+    tables.shape();
+    for row in 1..last + 1 {
         let scope = tables.scope(row, steps);
         judge_scope(tables, row, &scope, &mut ends, steps)?;
     }

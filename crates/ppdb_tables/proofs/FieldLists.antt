@@ -3,7 +3,7 @@ use Rattle.std.proofs.Common.{◌≡◌, ℕ, suc, ◌+◌, ◌<◌, ◌≤◌, 
 use Rattle.std.proofs.lemmas.Bool.{cases_lt}
 use Rattle.std.proofs.Math.Seq.{split_at}
 use Rattle.ppdb_base.specs.Fields.{IsField}
-use Rattle.ppdb_base.proofs.Fields.{ends_by_cut, ends_within, sum-append, sum_cons}
+use Rattle.ppdb_base.proofs.Fields.{ends_by_cut, ends_within, sum_append, sum_cons}
 
 -- a field is one of more fields, after those before them
 pub field_within : (front fields back : List ℕ) (at len : ℕ) → IsField fields at len → IsField (front ++ (fields ++ back)) (sum front + at) len
@@ -11,7 +11,7 @@ field_within front fields back at len f = record {
   before = front ++ f.before;
   after = f.after ++ back;
   in_order = ap (λ xs. front ++ (xs ++ back)) f.in_order ∙ simp append_assoc refl;
-  place = ap (λ n. sum front + n) f.place ∙ sym (sum-append front f.before);
+  place = ap (λ n. sum front + n) f.place ∙ sym (sum_append front f.before);
 }
 
 -- the field at an index
@@ -27,19 +27,19 @@ starts_by front last at len f some =
           let fields = front ++ last ∷ [] in
           let final : IsField fields (sum front) last = record { before = front; after = []; in_order = refl; place = refl } in
           let ends = ends_by_cut fields f.before (len ∷ f.after) (sum front) last final f.in_order (omega (arith, gt, f.place)) in
-          absurd (omega (arith, ends, f.place, some, ends_within fields at len f, sum-append front (last ∷ []), sum_cons last []))
+          absurd (omega (arith, ends, f.place, some, ends_within fields at len f, sum_append front (last ∷ []), sum_cons last []))
     ]
 
 -- where no field passes an end, all lie before it
 module _ (fields : List ℕ) (end : ℕ) (fit : (at len : ℕ) → IsField fields at len → at ≤ end → end < at + len → ⊥) where
   rest_fits : (before after : List ℕ) → fields ≡ before ++ after → sum before ≤ end → sum fields ≤ end
-  rest_fits before [] cut le = omega (arith, le, ap sum cut, sum-append before [])
+  rest_fits before [] cut le = omega (arith, le, ap sum cut, sum_append before [])
   rest_fits before (len ∷ after) cut le =
       elim (cases_lt end (sum before + len)) [
         | inl past ↦ absurd (fit (sum before) len (record { before = before; after = after; in_order = cut; place = refl }) le past)
         | inr within ↦
             rest_fits (before ++ len ∷ []) after (cut ∙ sym (append_assoc before (len ∷ []) after))
-            (omega (arith, within, sum-append before (len ∷ []), sum_cons len []))
+            (omega (arith, within, sum_append before (len ∷ []), sum_cons len []))
       ]
 
   pub all_fit : sum fields ≤ end

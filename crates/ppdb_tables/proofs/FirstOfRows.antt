@@ -19,7 +19,7 @@ use Rattle.ppdb_base.specs.Place.{ComesBefore, numbers, number_of, at_byte}
 use Rattle.ppdb_base.specs.First.{IsAccepted, IsFirst}
 use Rattle.ppdb_base.proofs.Judging.{first_at, byte_before}
 use Rattle.ppdb_base.specs.Fields.{IsField}
-use Rattle.ppdb_base.proofs.Fields.{ends_by_cut, ends_within, sum-append, sum_cons}
+use Rattle.ppdb_base.proofs.Fields.{ends_by_cut, ends_within, sum_append, sum_cons}
 use Rattle.row_layout.specs.declared.column.Sizes.{Sizes}
 use Rattle.row_layout.specs.declared.column.Column.{Column}
 use Rattle.row_layout.specs.declared.column.Column.TheVariants.{U16, U32, Text, Blob, Guid, Row, Parent}
@@ -101,9 +101,9 @@ module _ (sizes : Sizes) where
   pub next_table : (index : ℕ) → index < 8 → sum (row_fields sizes (take (index + 1) debug_tables)) ≡ sum (row_fields sizes (take index debug_tables)) + slice_index sizes.rows (0x30 + index) * row_len sizes (table index)
   next_table index lt =
       let fields = replicate (slice_index sizes.rows (0x30 + index)) (row_len sizes (table index)) in
-      ap sum (next_fields index lt) ∙ sum-append (row_fields sizes (take index debug_tables)) (row_fields_of sizes (table index) ++ [])
+      ap sum (next_fields index lt) ∙ sum_append (row_fields sizes (take index debug_tables)) (row_fields_of sizes (table index) ++ [])
       ∙ ap (λ xs. sum (row_fields sizes (take index debug_tables)) + sum (xs ++ [])) (fields_of index lt)
-      ∙ ap (λ n. sum (row_fields sizes (take index debug_tables)) + n) (sum-append fields [] ∙ omega (arith, sum-replicate (slice_index sizes.rows (0x30 + index)) (row_len sizes (table index))))
+      ∙ ap (λ n. sum (row_fields sizes (take index debug_tables)) + n) (sum_append fields [] ∙ omega (arith, sum-replicate (slice_index sizes.rows (0x30 + index)) (row_len sizes (table index))))
 
   -- all rows, cut before a row of a table
   cut_at_row : (index row : ℕ) → index < 8 → row < slice_index sizes.rows (0x30 + index)
@@ -140,7 +140,7 @@ module _ (sizes : Sizes) where
         let len = row_len sizes (table index) in
         let cut = cut_at_row index row lt f.1 in
         let before = row_fields sizes (take index debug_tables) ++ replicate row len in
-        let place : first + row * len ≡ rows_start stream + sum before = omega (arith, here, sum-append (row_fields sizes (take index debug_tables)) (replicate row len), sum-replicate row len) in
+        let place : first + row * len ≡ rows_start stream + sum before = omega (arith, here, sum_append (row_fields sizes (take index debug_tables)) (replicate row len), sum-replicate row len) in
         let is : fault ≡ record { code = TablesBounds; place = at_byte 4 (rows_start stream + sum before) } = f.2 ∙ ap (λ b. record { code = TablesBounds; place = at_byte 4 b }) place in
         let field : IsField (row_fields sizes debug_tables) (sum before) len = record { before = before; after = cut.0; in_order = cut.1; place = refl } in
         subst (IsFirst (BadBounds sizes stream)) (sym is)

@@ -1,8 +1,9 @@
-mod FieldLists
-mod RowCounts
+pub mod FieldLists
+pub mod RowCounts
 mod ParentCodes
 mod FirstOfHead
 mod FirstOfTables
 mod FirstOfRows
-mod RowsRead
+pub mod RowsRead
 mod TablesRead
+pub mod NumberedRows

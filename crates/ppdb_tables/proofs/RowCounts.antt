@@ -4,7 +4,7 @@ use Rattle.std.specs.Prelude.{◌==◌}
 use Rattle.std.specs.Int.{bit_at}
 use Rattle.std.proofs.lemmas.Bool.{cases_lt, cases_eq, eq-eqb, ne_eqb}
 use Rattle.std.proofs.lemmas.List.{replicate-append-replicate}
-use Rattle.ppdb_base.proofs.Fields.{sum-append, sum_cons}
+use Rattle.ppdb_base.proofs.Fields.{sum_append, sum_cons}
 use Rattle.metadata_root.specs.Fields.{number_at}
 use Rattle.ppdb_tables.specs.Counts.{HasCount, counts_below, count_fields, count_place, rows_in}
 
@@ -35,11 +35,11 @@ cut front n = front ++ replicate n 4
 
 pub sum-cut : (front : List ℕ) (n : ℕ) → sum (cut front n) ≡ sum front + 4 * n
 unfolding cut
-sum-cut front n = omega (arith, sum-append front (replicate n 4), sum-replicate n 4)
+sum-cut front n = omega (arith, sum_append front (replicate n 4), sum-replicate n 4)
 
 -- all fields are those after the last row count
 pub sum-fields : (front : List ℕ) (bits : ℕ) → sum (front ++ count_fields bits) ≡ sum front + 4 * counts_below bits 64
-sum-fields front bits = omega (arith, sum-append front (count_fields bits), sum-replicate (counts_below bits 64) 4)
+sum-fields front bits = omega (arith, sum_append front (count_fields bits), sum-replicate (counts_below bits 64) 4)
 
 pub fields_cut : (front : List ℕ) (bits n : ℕ) → n ≤ counts_below bits 64 → front ++ count_fields bits ≡ cut front n ++ replicate (counts_below bits 64 - n) 4
 unfolding cut

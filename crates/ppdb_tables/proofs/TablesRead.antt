@@ -56,18 +56,10 @@ table_read row_of head sizes stream whole number columns place count layout t si
 -- tables are one where all their parts are
 pub same_tables : (a b : RawTables) → a.counts ≡ b.counts → a.texts ≡ b.texts → a.guids ≡ b.guids → a.blobs ≡ b.blobs → a.documents ≡ b.documents → a.methods ≡ b.methods → a.scopes ≡ b.scopes → a.variables ≡ b.variables → a.constants ≡ b.constants → a.imports ≡ b.imports → a.machines ≡ b.machines → a.customs ≡ b.customs → a ≡ b
 same_tables a b counts texts guids blobs documents methods scopes variables constants imports machines customs =
-    ap (λ x. record { counts = x; texts = a.texts; guids = a.guids; blobs = a.blobs; documents = a.documents; methods = a.methods; scopes = a.scopes; variables = a.variables; constants = a.constants; imports = a.imports; machines = a.machines; customs = a.customs }) counts
-    ∙ ap (λ x. record { counts = b.counts; texts = x; guids = a.guids; blobs = a.blobs; documents = a.documents; methods = a.methods; scopes = a.scopes; variables = a.variables; constants = a.constants; imports = a.imports; machines = a.machines; customs = a.customs }) texts
-    ∙ ap (λ x. record { counts = b.counts; texts = b.texts; guids = x; blobs = a.blobs; documents = a.documents; methods = a.methods; scopes = a.scopes; variables = a.variables; constants = a.constants; imports = a.imports; machines = a.machines; customs = a.customs }) guids
-    ∙ ap (λ x. record { counts = b.counts; texts = b.texts; guids = b.guids; blobs = x; documents = a.documents; methods = a.methods; scopes = a.scopes; variables = a.variables; constants = a.constants; imports = a.imports; machines = a.machines; customs = a.customs }) blobs
-    ∙ ap (λ x. record { counts = b.counts; texts = b.texts; guids = b.guids; blobs = b.blobs; documents = x; methods = a.methods; scopes = a.scopes; variables = a.variables; constants = a.constants; imports = a.imports; machines = a.machines; customs = a.customs }) documents
-    ∙ ap (λ x. record { counts = b.counts; texts = b.texts; guids = b.guids; blobs = b.blobs; documents = b.documents; methods = x; scopes = a.scopes; variables = a.variables; constants = a.constants; imports = a.imports; machines = a.machines; customs = a.customs }) methods
-    ∙ ap (λ x. record { counts = b.counts; texts = b.texts; guids = b.guids; blobs = b.blobs; documents = b.documents; methods = b.methods; scopes = x; variables = a.variables; constants = a.constants; imports = a.imports; machines = a.machines; customs = a.customs }) scopes
-    ∙ ap (λ x. record { counts = b.counts; texts = b.texts; guids = b.guids; blobs = b.blobs; documents = b.documents; methods = b.methods; scopes = b.scopes; variables = x; constants = a.constants; imports = a.imports; machines = a.machines; customs = a.customs }) variables
-    ∙ ap (λ x. record { counts = b.counts; texts = b.texts; guids = b.guids; blobs = b.blobs; documents = b.documents; methods = b.methods; scopes = b.scopes; variables = b.variables; constants = x; imports = a.imports; machines = a.machines; customs = a.customs }) constants
-    ∙ ap (λ x. record { counts = b.counts; texts = b.texts; guids = b.guids; blobs = b.blobs; documents = b.documents; methods = b.methods; scopes = b.scopes; variables = b.variables; constants = b.constants; imports = x; machines = a.machines; customs = a.customs }) imports
-    ∙ ap (λ x. record { counts = b.counts; texts = b.texts; guids = b.guids; blobs = b.blobs; documents = b.documents; methods = b.methods; scopes = b.scopes; variables = b.variables; constants = b.constants; imports = b.imports; machines = x; customs = a.customs }) machines
-    ∙ ap (λ x. record { counts = b.counts; texts = b.texts; guids = b.guids; blobs = b.blobs; documents = b.documents; methods = b.methods; scopes = b.scopes; variables = b.variables; constants = b.constants; imports = b.imports; machines = b.machines; customs = x }) customs
+    let parts : record { counts = a.counts; texts = a.texts; guids = a.guids; blobs = a.blobs; documents = a.documents; methods = a.methods; scopes = a.scopes; variables = a.variables; constants = a.constants; imports = a.imports; machines = a.machines; customs = a.customs }
+    ≡ record { counts = b.counts; texts = b.texts; guids = b.guids; blobs = b.blobs; documents = b.documents; methods = b.methods; scopes = b.scopes; variables = b.variables; constants = b.constants; imports = b.imports; machines = b.machines; customs = b.customs } =
+    rw (counts, texts, guids, blobs, documents, methods, scopes, variables, constants, imports, machines, customs) refl in
+    parts
 
 -- ---- the counts are small
 

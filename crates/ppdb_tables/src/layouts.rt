@@ -1,5 +1,6 @@
 ghost use Rattle.std.specs.Prelude.{◌≡◌, sum, [], ◌∷◌};
 
+use crate::numbers::{DOCUMENT, IMPORT_SCOPE, LOCAL_CONSTANT, LOCAL_VARIABLE, METHOD_DEF};
 use row_layout::{Column, RowLayout, Sizes};
 
 /// How the rows of the debug tables are laid out (Portable PDB v1.0, "Metadata Tables").
@@ -25,15 +26,22 @@ impl Layouts {
         use Column::{Blob, Guid, Parent, Row, Text, U16, U32};
         Layouts {
             documents: RowLayout::of(&[Blob, Guid, Blob, Guid], sizes),
-            methods: RowLayout::of(&[Row(0x30), Blob], sizes),
+            methods: RowLayout::of(&[Row(DOCUMENT), Blob], sizes),
             scopes: RowLayout::of(
-                &[Row(0x06), Row(0x35), Row(0x33), Row(0x34), U32, U32],
+                &[
+                    Row(METHOD_DEF),
+                    Row(IMPORT_SCOPE),
+                    Row(LOCAL_VARIABLE),
+                    Row(LOCAL_CONSTANT),
+                    U32,
+                    U32,
+                ],
                 sizes,
             ),
             variables: RowLayout::of(&[U16, U16, Text], sizes),
             constants: RowLayout::of(&[Text, Blob], sizes),
-            imports: RowLayout::of(&[Row(0x35), Blob], sizes),
-            machines: RowLayout::of(&[Row(0x06), Row(0x06)], sizes),
+            imports: RowLayout::of(&[Row(IMPORT_SCOPE), Blob], sizes),
+            machines: RowLayout::of(&[Row(METHOD_DEF), Row(METHOD_DEF)], sizes),
             customs: RowLayout::of(&[Parent, Guid, Blob], sizes),
         }
     }

@@ -6,6 +6,7 @@ mod counts;
 mod head;
 mod header;
 mod layouts;
+mod numbers;
 mod parent;
 mod reading;
 mod rows;
@@ -14,6 +15,10 @@ mod table;
 mod tables;
 
 pub use head::{PdbHead, read_head};
+pub use numbers::{
+    ASSEMBLY_REF, CUSTOM, DOCUMENT, IMPORT_SCOPE, LOCAL_CONSTANT, LOCAL_SCOPE, LOCAL_VARIABLE,
+    METHOD_DEBUG, METHOD_DEF, STAND_ALONE_SIG, STATE_MACHINE, TYPE_DEF, TYPE_REF, TYPE_SPEC,
+};
 pub use parent::{Parent, coded_parent, codes_are_parents, parent_of};
 pub use reading::read_tables;
 pub use rows::{

@@ -8,7 +8,7 @@ use Rattle.std.proofs.lemmas.List.FromFn.{get_or-map-range_with_len}
 use Rattle.ppdb_base.specs.declared.code.Code.TheVariants.{TablesShort, MethodRows}
 use Rattle.ppdb_base.specs.First.{IsAccepted}
 use Rattle.ppdb_base.specs.Place.{at_byte}
-use Rattle.ppdb_base.proofs.Fields.{sum-append, sum_cons}
+use Rattle.ppdb_base.proofs.Fields.{sum_append, sum_cons}
 use Rattle.metadata_root.specs.declared.kind.StreamKind.TheVariants.{Tables}
 use Rattle.metadata_root.specs.Streams.{Streams, bytes_of}
 use Rattle.ppdb_tables.specs.Counts.{count_fields, counts_below}
@@ -40,7 +40,7 @@ module _ (methods : ℕ) (stream : List ℕ) (accepted : IsAccepted (BadTableFie
   place_within : (table : ℕ) → table ≤ 64 → table_count_place stream table ≤ length stream
   place_within table le =
       let fit = fields_fit (table_fields stream) (length stream) (λ at len is from past. accepted TablesShort (at_byte 4 at) (short at len is from past)) in
-      let parts = sum-append (4 ∷ 1 ∷ 1 ∷ 1 ∷ 1 ∷ 8 ∷ 8 ∷ []) (count_fields (valid stream)) in
+      let parts = sum_append (4 ∷ 1 ∷ 1 ∷ 1 ∷ 1 ∷ 8 ∷ 8 ∷ []) (count_fields (valid stream)) in
       let counted = sum_replicate (counts_below (valid stream) 64) 4 in
       let up = counts_up (valid stream) table 64 le in
       omega (arith, fit, parts, counted, up)

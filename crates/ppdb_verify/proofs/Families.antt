@@ -12,7 +12,7 @@ use Rattle.ppdb_rules.specs.declared.errors.VerifyError.{VerifyError}
 use Rattle.ppdb_rules.specs.declared.errors.VerifyError.TheVariants.{Fault as TheFault, Memory}
 use Rattle.ppdb_rules.specs.Errors.{FaultIs}
 use Rattle.ppdb_rules.specs.Rows.{BadRow}
-use Rattle.ppdb_spans.specs.Spans.{BadSpan}
+use Rattle.reference_total.specs.Spans.{BadSpan}
 use Rattle.ppdb_verify.specs.Files.{BadRows}
 
 -- what holds of a fault makes another thing hold of it

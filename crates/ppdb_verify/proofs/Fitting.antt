@@ -3,7 +3,7 @@ use Rattle.std.proofs.Common.{◌≡◌, ℕ, ◌+◌, ◌<◌, ◌≤◌, List,
 use Rattle.std.proofs.lemmas.Bool.{cases_lt}
 use Rattle.std.proofs.lemmas.List.{append-nil}
 use Rattle.ppdb_base.specs.Fields.{IsField}
-use Rattle.ppdb_base.proofs.Fields.{sum-append}
+use Rattle.ppdb_base.proofs.Fields.{sum_append}
 
 module _ (fields : List ℕ) (most : ℕ) (none_past : (at len : ℕ) → IsField fields at len → at ≤ most → most < at + len → ⊥) where
   fit_from : (before after : List ℕ) → fields ≡ before ++ after → sum before ≤ most → sum fields ≤ most
@@ -13,7 +13,7 @@ module _ (fields : List ℕ) (most : ℕ) (none_past : (at len : ℕ) → IsFiel
         | inl past ↦ absurd (none_past (sum before) len (record { before = before; after = after; in_order = is; place = refl }) le past)
         | inr within ↦ within
       ] in
-      let e : sum (before ++ len ∷ []) ≡ sum before + sum (len ∷ []) = sum-append before (len ∷ []) in
+      let e : sum (before ++ len ∷ []) ≡ sum before + sum (len ∷ []) = sum_append before (len ∷ []) in
       let one : sum (len ∷ []) ≡ len = omega arith in
       fit_from (before ++ len ∷ []) after (is ∙ sym (append_assoc before (len ∷ []) after)) (omega (arith, e, one, next))
 

@@ -4,3 +4,4 @@ pub mod Streamed
 pub mod Headed
 pub mod Counted
 pub mod Parts
+pub mod Bytes

@@ -5,7 +5,7 @@ use Rattle.std.proofs.lemmas.Bool.{cases_lt}
 use Rattle.ppdb_base.specs.declared.code.Code.TheVariants.{RootTruncated, StreamRepeated}
 use Rattle.ppdb_base.specs.First.{IsAccepted}
 use Rattle.ppdb_base.specs.Place.{at_byte}
-use Rattle.ppdb_base.proofs.Fields.{sum-append}
+use Rattle.ppdb_base.proofs.Fields.{sum_append}
 use Rattle.ppdb_verify.proofs.Fitting.{fields_fit}
 use Rattle.metadata_root.specs.declared.kind.StreamKind.{StreamKind}
 use Rattle.metadata_root.specs.declared.kind.StreamKind.TheVariants.{Pdb, Tables, Strings, UserStrings, Guids, Blobs}
@@ -15,7 +15,7 @@ use Rattle.metadata_root.specs.Streams.{AreStreamsOf, IsHeaderOf, IsListed, IsSt
 
 next_header : (file : List ℕ) (k : ℕ) → header_place file (suc k) ≡ header_place file k + 8 + name_len file (header_place file k + 8)
 unfolding fields_to
-next_header file k = sum-append (fields_to file k) (header_fields file (sum (fields_to file k))) ∙ omega arith
+next_header file k = sum_append (fields_to file k) (header_fields file (sum (fields_to file k))) ∙ omega arith
 
 -- a name begins before the later headers
 before_later : (file : List ℕ) (j k : ℕ) → j < k → name_place file j ≤ header_place file k

@@ -11,7 +11,7 @@ use Rattle.ppdb_tables.specs.Head.{BadPdb, entry_in, pdb_rows}
 use Rattle.ppdb_tables.specs.RawTables.{RawTables}
 use Rattle.ppdb_tables.specs.Tables.{BadTables, tables_in}
 use Rattle.ppdb_rules.specs.Rows.{BadRow}
-use Rattle.ppdb_spans.specs.Spans.{BadSpan}
+use Rattle.reference_total.specs.Spans.{BadSpan}
 use Rattle.ppdb_values.specs.RawFile.{RawFile}
 
 -- what the bytes of #Pdb say

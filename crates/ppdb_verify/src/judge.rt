@@ -5,22 +5,19 @@ ghost use Rattle.ppdb_base.specs.Place.{numbers};
 ghost use Rattle.ppdb_tables.specs.RawOf.{raw_of};
 ghost use Rattle.ppdb_rules.specs.Errors.{FaultIs};
 ghost use Rattle.ppdb_rules.specs.Rows.{BadRow};
-ghost use Rattle.ppdb_spans.specs.Spans.{BadSpan};
+ghost use Rattle.reference_total.specs.Spans.{BadSpan};
 ghost use Rattle.ppdb_verify.specs.Files.{BadRows};
 
 use crate::order::comes_before;
 use ppdb_base::{Fault, Steps};
-use ppdb_rules::{VerifyError, judge_documents, judge_rows};
-use ppdb_spans::judge_spans;
+use ppdb_rules::{VerifyError, judge_rows, judge_rows_to};
 use ppdb_tables::Tables;
+use reference_total::judge_spans;
 use std::alloc::Global;
 use std::sync::ledger::Ledger;
 
-/// The number of the table Document.
-const DOCUMENT: u8 = 0x30;
-
-/// Judges the rows at least up to the item with which the sum passes its limit. Where that is one of a document, the documents
-/// behind it are not judged, since their names may be too long to join.
+/// Judges the rows up to and with the one with which the sum passes its limit. What comes behind it is not judged: a small file
+/// may name so much there that judging it would not end in years.
 fn judge_up_to<L: Ledger>(
     alloc: Global,
     tables: &Tables<'_>,
@@ -32,11 +29,7 @@ fn judge_up_to<L: Ledger>(
     ensures err { IfErr result (FaultIs (IsFirst (BadRow (raw_of tables.now)))) }
 {
     tables.shape();
-    if over.place.table == DOCUMENT {
-        judge_documents(alloc, tables, over.place.row, steps)?;
-        return Ok(());
-    }
-    judge_rows(alloc, tables, steps)?;
+    judge_rows_to(alloc, tables, over.place.table, over.place.row, steps)?;
     Ok(())
 }
 

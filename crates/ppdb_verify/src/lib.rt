@@ -3,9 +3,15 @@
 
 mod file;
 mod judge;
+mod laws;
 mod order;
 mod verified;
 
 pub use file::verify;
+pub use laws::worked_bytes_are_read;
 pub use ppdb_rules::VerifyError;
+pub use ppdb_values::{
+    ConstantBody, ConstantValue, CustomBody, CustomValue, DocumentValue, FileValue,
+    ImportScopeValue, ImportValue, MethodValue, ScopeValue, VariableValue,
+};
 pub use verified::Verified;

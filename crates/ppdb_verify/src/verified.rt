@@ -5,9 +5,9 @@ ghost use Rattle.ppdb_tables.specs.RawTables.{count};
 ghost use Rattle.ppdb_tables.specs.RawOf.{raw_of};
 ghost use Rattle.ppdb_verify.specs.Files.{BadRows};
 
-use ppdb_facts::{accepted_files_keep_rules, cursors_never_fault};
-use ppdb_sound::values_are_sound;
+use accepted_files::{accepted_files_keep_rules, cursors_never_fault};
 use ppdb_tables::{PdbHead, Tables};
+use sound_values::values_are_sound;
 
 /// A debug file that keeps all rules, where it stands in memory.
 #[derive(Clone, Copy)]
@@ -21,8 +21,8 @@ pub struct Verified<'a> {
 }
 
 impl<'a> Verified<'a> {
-    ghost use Rattle.ppdb_facts.specs.Cursors.{CursorsNeverFault};
-    ghost use Rattle.ppdb_sound.specs.Sound.{IsSound};
+    ghost use Rattle.accepted_files.specs.Cursors.{CursorsNeverFault};
+    ghost use Rattle.sound_values.specs.Sound.{IsSound};
     ghost use Rattle.ppdb_values.specs.Rules.{KeepsRules};
     ghost use Rattle.ppdb_values.specs.Value.{value_of};
     ghost use Rattle.ppdb_verify.specs.Views.{head_of, raw_file, tables_of};

@@ -1,23 +1,19 @@
-use Rattle.std.proofs.Common.{arith, [], inl, refl}
+use Rattle.std.proofs.Common.{inl, refl}
 use Rattle.ppdb_tables.specs.RawOf.{raw_of}
-use Rattle.ppdb_rules.proofs.CellFaults.{row_within}
 use Rattle.ppdb_tables.specs.declared.rows.ConstantRow.{ConstantRow}
 use Rattle.ppdb_rules.proofs.ListOwners.{lists_of_constants, texts_at_first}
-use Rattle.ppdb_rules.proofs.ConstantFaults.{first_row, past_table}
+use Rattle.ppdb_rules.proofs.ConstantFaults.{first_row}
 use Rattle.ppdb_rules.proofs.constants.judge_constants.Goals as goal
 
 pub loop-row-init : goal.loop-row-init
 loop-row-init g c = record {
-  judged = first_row (raw_of c.args.tables.now) c.requires;
+  judged = first_row (raw_of c.args.tables.now) c.requires.judged;
   before = inl (refl, refl);
-  names = texts_at_first (λ s. s.constants) (raw_of c.args.tables.now).scopes (raw_of c.args.tables.now).texts (λ (v : ConstantRow). v.name) (raw_of c.args.tables.now).constants 0 c.new-names.result c.new-names.ensures.empty;
+  names = texts_at_first (λ s. s.constants) (raw_of c.args.tables.now).scopes (raw_of c.args.tables.now).texts (λ (v : ConstantRow). v.name) (raw_of c.args.tables.now).constants 0 c.new-names.result c.new-names.ensures;
 }
 
-pub returns-clause-ok : goal.returns-clause-ok
-returns-clause-ok g c = past_table (raw_of c.args.tables.now) c.loop-row.row (omega (arith, c.row_count-count.ensures.all.constants, c.row_count-count.ensures.count)) c.loop-row.invariant.judged
-
 pub judge_constant-requires-clause-lists : goal.judge_constant-requires-clause-lists
-judge_constant-requires-clause-lists g c = lists_of_constants (raw_of c.args.tables.now) c.requires
+judge_constant-requires-clause-lists g c = lists_of_constants (raw_of c.args.tables.now) c.requires.judged
 
 pub loop-row-preserved : goal.loop-row-preserved
 loop-row-preserved g c = record {

@@ -1,12 +1,11 @@
 use Rattle.ppdb_tables.specs.RawOf.{raw_of}
 use Rattle.ppdb_rules.specs.Judged.{ToRow}
-use Rattle.ppdb_tables.specs.declared.rows.ConstantRow.{ConstantRow}
-use Rattle.ppdb_rules.specs.Seen.{AreTexts, OwnsBefore}
+use Rattle.ppdb_rules.specs.Seen.{AreConstantNames, OwnsBefore}
 use Rattle.ppdb_rules.proofs.constants.judge_constants.Given as goal
 
 abbrev pub invariant-loop-row : goal.invariant-loop-row
 invariant-loop-row g l = record {
   judged : ToRow (raw_of l.tables) 0x34 l.row;
   before : OwnsBefore (λ s. s.constants) (raw_of l.tables).scopes l.owner l.row;
-  names : AreTexts (λ s. s.constants) (raw_of l.tables).scopes (raw_of l.tables).texts (λ (v : ConstantRow). v.name) (raw_of l.tables).constants l.row l.owner l.names;
+  names : AreConstantNames (raw_of l.tables) l.row l.owner l.names;
 }

@@ -1,4 +1,4 @@
-use Rattle.std.proofs.Common.{◌≡◌, Some, sym, arith}
+use Rattle.std.proofs.Common.{◌≡◌, Some, sym}
 use Rattle.ppdb_heaps.specs.Heaps.{text_at}
 use Rattle.ppdb_tables.specs.RawOf.{raw_of}
 use Rattle.ppdb_rules.proofs.ListOwners.{constants_from_1, text_there}

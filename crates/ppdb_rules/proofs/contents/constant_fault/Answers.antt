@@ -1,5 +1,4 @@
-use Rattle.std.proofs.Common.{subst, ℕ, List}
-use Rattle.ppdb_tables.specs.RawOf.{raw_of}
+use Rattle.std.proofs.Common.{subst}
 use Rattle.type_blobs.specs.Constants.{constants}
 use Rattle.type_blobs.specs.declared.types.TypeLimits.{TypeLimits}
 use Rattle.ppdb_rules.specs.Blobs.{Reads}

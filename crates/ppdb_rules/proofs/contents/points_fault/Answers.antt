@@ -1,5 +1,4 @@
-use Rattle.std.proofs.Common.{subst, ℕ, List}
-use Rattle.ppdb_tables.specs.RawOf.{raw_of}
+use Rattle.std.proofs.Common.{subst}
 use Rattle.sequence_points.specs.Records.{sequence_points}
 use Rattle.sequence_points.specs.declared.point.PointLimits.{PointLimits}
 use Rattle.ppdb_rules.specs.Blobs.{Reads}

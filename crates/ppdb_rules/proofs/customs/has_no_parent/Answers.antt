@@ -1,4 +1,4 @@
-use Rattle.std.proofs.Common.{◌%◌, ◌/◌, ◌<◌, ℕ, ap, sym, ◌≡◌, ◌∙◌}
+use Rattle.std.proofs.Common.{sym, ◌∙◌}
 use Rattle.ppdb_rules.proofs.Parents.{small_table}
 use Rattle.ppdb_rules.proofs.customs.has_no_parent.Goals as goal
 

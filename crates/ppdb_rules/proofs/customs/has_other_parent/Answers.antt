@@ -1,5 +1,4 @@
 use Rattle.std.proofs.Common.{◌≡◌, ℕ, IsTrue, not, nat_eq, Some, sym, ◌∙◌, arith}
-use Rattle.std.proofs.lemmas.Bool.{cases_eq}
 use Rattle.std.proofs.lemmas.Bool.Decides.{nat_tests}
 use Rattle.ppdb_tables.specs.RawOf.{raw_of}
 use Rattle.ppdb_tables.specs.Parents.{parent_in}

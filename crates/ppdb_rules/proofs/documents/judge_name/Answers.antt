@@ -1,4 +1,3 @@
-use Rattle.ppdb_heaps.specs.Heaps.{blob_at}
 use Rattle.ppdb_tables.specs.RawOf.{raw_of}
 use Rattle.ppdb_rules.specs.SeenNames.{HasBytes}
 use Rattle.ppdb_rules.proofs.BlobFaults.{name_whole, value_there}

@@ -1,5 +1,6 @@
 use Rattle.ppdb_tables.specs.RawOf.{raw_of}
-use Rattle.ppdb_rules.proofs.CellFaults.{refuted, row_within}
+use Rattle.ppdb_tables.proofs.NumberedRows.{row_within}
+use Rattle.ppdb_rules.proofs.CellFaults.{refuted}
 use Rattle.ppdb_rules.proofs.ImportFaults.{no_parent_first, cycle_first, next_0}
 use Rattle.ppdb_rules.proofs.imports.judge_parent.Goals as goal
 

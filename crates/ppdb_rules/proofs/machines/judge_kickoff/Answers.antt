@@ -15,7 +15,7 @@ returns-then-not-is_new-clause-err c = same_kickoff_first (raw_of c.args.tables.
 
 pub returns-clause-ok : goal.returns-clause-ok
 returns-clause-ok c =
-    let lacks : Has c.args.seen.now c.args.machine.now.kickoff → ⊥ = rw c.if-not-is_new.false at c.in_ok-is_new.ensures.new in
+    let lacks : Has c.args.seen.now.items c.args.machine.now.kickoff → ⊥ = rw c.if-not-is_new.false at c.in_ok-is_new.ensures.new in
     next_1 (raw_of c.args.tables.now) c.args.row c.args.machine.now c.requires.there c.requires.judged
     (refuted c.names_no_row.result c.names_no_row.ensures c.if-names_no_row.false)
     (λ h. lacks (c.requires.seen.complete c.args.machine.now.kickoff h))

@@ -6,5 +6,5 @@ use Rattle.ppdb_rules.proofs.machines.judge_machines.Given as goal
 abbrev pub invariant-loop-row : goal.invariant-loop-row
 invariant-loop-row g l = record {
   judged : ToRow (raw_of l.tables) 0x36 l.row;
-  seen : AreKickoffs (raw_of l.tables).machines l.row l.seen;
+  seen : AreKickoffs (raw_of l.tables).machines l.row l.seen.items;
 }

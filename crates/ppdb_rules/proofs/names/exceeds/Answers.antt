@@ -1,7 +1,6 @@
-use Rattle.std.proofs.Common.{ap, sym, ◌∙◌, List, [], ◌++◌, length, Option, Some, None, is_some, Bool, true, false, not, IsTrue, ◌↔◌, ◌<◌, refl, arith, ℕ, ◌+◌, ◌≡◌}
+use Rattle.std.proofs.Common.{ap, ◌∙◌, List, [], ◌++◌, length, Option, Some, None, is_some, Bool, true, false, not, IsTrue, ◌↔◌, ◌<◌, refl, arith, ℕ, ◌≡◌}
 use Rattle.std.specs.Borrow.{Bor}
 use Rattle.ppdb_rules.specs.SeenNames.{HasRoom}
-use Rattle.std.proofs.lemmas.Result.{err_from_is_err_and}
 use Rattle.ppdb_heaps.specs.Views.{blobs_of}
 use Rattle.ppdb_heaps.proofs.Joins.{answer-is, joining-starts}
 use Rattle.ppdb_rules.proofs.NameParts.{joining-end, joining-goes}

@@ -1,6 +1,6 @@
 use Rattle.std.proofs.Common.{arith}
 use Rattle.ppdb_tables.specs.RawOf.{raw_of}
-use Rattle.ppdb_rules.proofs.CellFaults.{row_within}
+use Rattle.ppdb_tables.proofs.NumberedRows.{row_within}
 use Rattle.ppdb_rules.proofs.scopes.is_list_out.Goals as goal
 
 pub scope-requires : goal.scope-requires

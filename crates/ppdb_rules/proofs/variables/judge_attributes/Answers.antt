@@ -1,4 +1,3 @@
-use Rattle.std.proofs.Common.{arith}
 use Rattle.ppdb_tables.specs.RawOf.{raw_of}
 use Rattle.ppdb_rules.proofs.ListOwners.{variables_from_1}
 use Rattle.ppdb_rules.proofs.VariableFaults.{alone_first, next_0}

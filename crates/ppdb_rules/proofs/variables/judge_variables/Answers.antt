@@ -1,24 +1,20 @@
-use Rattle.std.proofs.Common.{arith, [], inl, refl}
+use Rattle.std.proofs.Common.{inl, refl}
 use Rattle.ppdb_tables.specs.RawOf.{raw_of}
-use Rattle.ppdb_rules.proofs.CellFaults.{row_within}
 use Rattle.ppdb_tables.specs.declared.rows.VariableRow.{VariableRow}
 use Rattle.ppdb_rules.proofs.ListOwners.{lists_of_variables, slots_at_first, texts_at_first}
-use Rattle.ppdb_rules.proofs.VariableFaults.{first_row, past_table}
+use Rattle.ppdb_rules.proofs.VariableFaults.{first_row}
 use Rattle.ppdb_rules.proofs.variables.judge_variables.Goals as goal
 
 pub loop-row-init : goal.loop-row-init
 loop-row-init g c = record {
-  judged = first_row (raw_of c.args.tables.now) c.requires;
+  judged = first_row (raw_of c.args.tables.now) c.requires.judged;
   before = inl (refl, refl);
-  slots = slots_at_first (raw_of c.args.tables.now).scopes (raw_of c.args.tables.now).variables 0 c.new-slots.result c.new-slots.ensures.empty;
-  names = texts_at_first (λ s. s.variables) (raw_of c.args.tables.now).scopes (raw_of c.args.tables.now).texts (λ (v : VariableRow). v.name) (raw_of c.args.tables.now).variables 0 c.new-names.result c.new-names.ensures.empty;
+  slots = slots_at_first (raw_of c.args.tables.now).scopes (raw_of c.args.tables.now).variables 0 c.new-slots.result.items c.new-slots.ensures.items;
+  names = texts_at_first (λ s. s.variables) (raw_of c.args.tables.now).scopes (raw_of c.args.tables.now).texts (λ (v : VariableRow). v.name) (raw_of c.args.tables.now).variables 0 c.new-names.result c.new-names.ensures;
 }
 
-pub returns-clause-ok : goal.returns-clause-ok
-returns-clause-ok g c = past_table (raw_of c.args.tables.now) c.loop-row.row (omega (arith, c.row_count-count.ensures.all.variables, c.row_count-count.ensures.count)) c.loop-row.invariant.judged
-
 pub judge_variable-requires-clause-lists : goal.judge_variable-requires-clause-lists
-judge_variable-requires-clause-lists g c = lists_of_variables (raw_of c.args.tables.now) c.requires
+judge_variable-requires-clause-lists g c = lists_of_variables (raw_of c.args.tables.now) c.requires.judged
 
 pub loop-row-preserved : goal.loop-row-preserved
 loop-row-preserved g c = record {

@@ -31,100 +31,28 @@ returns-clause-accepted c =
     (subst (λ sizes. IsAccepted (BadBounds sizes stream)) header.sizes c.in_ok-places.ensures.accepted))
 
 pub at-requires : goal.at-requires
-at-requires c = (
-  lit< tt,
-  (
-    lit< tt,
-    (
-      c.stream_bytes-stream.ensures.short,
-      table_fits c.in_ok-header.header.sizes c.stream_bytes-stream.result.now 0 48 document_columns c.of-layouts.result.documents (slice_index c.in_ok-places.places 0) refl (c.in_ok-places.ensures.places 0 (lit< tt)) c.of-layouts.ensures.documents,
-    ),
-  ),
-)
+at-requires c = (lit< tt, (lit< tt, (c.stream_bytes-stream.ensures.short, table_fits c.in_ok-header.header.sizes c.stream_bytes-stream.result.now 0 48 document_columns c.of-layouts.result.documents (slice_index c.in_ok-places.places 0) refl (c.in_ok-places.ensures.places 0 (lit< tt)) c.of-layouts.ensures.documents)))
 
 pub at-requires-2 : goal.at-requires-2
-at-requires-2 c = (
-  lit< tt,
-  (
-    lit< tt,
-    (
-      c.stream_bytes-stream.ensures.short,
-      table_fits c.in_ok-header.header.sizes c.stream_bytes-stream.result.now 1 49 method_columns c.of-layouts.result.methods (slice_index c.in_ok-places.places 1) refl (c.in_ok-places.ensures.places 1 (lit< tt)) c.of-layouts.ensures.methods,
-    ),
-  ),
-)
+at-requires-2 c = (lit< tt, (lit< tt, (c.stream_bytes-stream.ensures.short, table_fits c.in_ok-header.header.sizes c.stream_bytes-stream.result.now 1 49 method_columns c.of-layouts.result.methods (slice_index c.in_ok-places.places 1) refl (c.in_ok-places.ensures.places 1 (lit< tt)) c.of-layouts.ensures.methods)))
 
 pub at-requires-3 : goal.at-requires-3
-at-requires-3 c = (
-  lit< tt,
-  (
-    lit< tt,
-    (
-      c.stream_bytes-stream.ensures.short,
-      table_fits c.in_ok-header.header.sizes c.stream_bytes-stream.result.now 2 50 scope_columns c.of-layouts.result.scopes (slice_index c.in_ok-places.places 2) refl (c.in_ok-places.ensures.places 2 (lit< tt)) c.of-layouts.ensures.scopes,
-    ),
-  ),
-)
+at-requires-3 c = (lit< tt, (lit< tt, (c.stream_bytes-stream.ensures.short, table_fits c.in_ok-header.header.sizes c.stream_bytes-stream.result.now 2 50 scope_columns c.of-layouts.result.scopes (slice_index c.in_ok-places.places 2) refl (c.in_ok-places.ensures.places 2 (lit< tt)) c.of-layouts.ensures.scopes)))
 
 pub at-requires-4 : goal.at-requires-4
-at-requires-4 c = (
-  lit< tt,
-  (
-    lit< tt,
-    (
-      c.stream_bytes-stream.ensures.short,
-      table_fits c.in_ok-header.header.sizes c.stream_bytes-stream.result.now 3 51 variable_columns c.of-layouts.result.variables (slice_index c.in_ok-places.places 3) refl (c.in_ok-places.ensures.places 3 (lit< tt)) c.of-layouts.ensures.variables,
-    ),
-  ),
-)
+at-requires-4 c = (lit< tt, (lit< tt, (c.stream_bytes-stream.ensures.short, table_fits c.in_ok-header.header.sizes c.stream_bytes-stream.result.now 3 51 variable_columns c.of-layouts.result.variables (slice_index c.in_ok-places.places 3) refl (c.in_ok-places.ensures.places 3 (lit< tt)) c.of-layouts.ensures.variables)))
 
 pub at-requires-5 : goal.at-requires-5
-at-requires-5 c = (
-  lit< tt,
-  (
-    lit< tt,
-    (
-      c.stream_bytes-stream.ensures.short,
-      table_fits c.in_ok-header.header.sizes c.stream_bytes-stream.result.now 4 52 constant_columns c.of-layouts.result.constants (slice_index c.in_ok-places.places 4) refl (c.in_ok-places.ensures.places 4 (lit< tt)) c.of-layouts.ensures.constants,
-    ),
-  ),
-)
+at-requires-5 c = (lit< tt, (lit< tt, (c.stream_bytes-stream.ensures.short, table_fits c.in_ok-header.header.sizes c.stream_bytes-stream.result.now 4 52 constant_columns c.of-layouts.result.constants (slice_index c.in_ok-places.places 4) refl (c.in_ok-places.ensures.places 4 (lit< tt)) c.of-layouts.ensures.constants)))
 
 pub at-requires-6 : goal.at-requires-6
-at-requires-6 c = (
-  lit< tt,
-  (
-    lit< tt,
-    (
-      c.stream_bytes-stream.ensures.short,
-      table_fits c.in_ok-header.header.sizes c.stream_bytes-stream.result.now 5 53 import_columns c.of-layouts.result.imports (slice_index c.in_ok-places.places 5) refl (c.in_ok-places.ensures.places 5 (lit< tt)) c.of-layouts.ensures.imports,
-    ),
-  ),
-)
+at-requires-6 c = (lit< tt, (lit< tt, (c.stream_bytes-stream.ensures.short, table_fits c.in_ok-header.header.sizes c.stream_bytes-stream.result.now 5 53 import_columns c.of-layouts.result.imports (slice_index c.in_ok-places.places 5) refl (c.in_ok-places.ensures.places 5 (lit< tt)) c.of-layouts.ensures.imports)))
 
 pub at-requires-7 : goal.at-requires-7
-at-requires-7 c = (
-  lit< tt,
-  (
-    lit< tt,
-    (
-      c.stream_bytes-stream.ensures.short,
-      table_fits c.in_ok-header.header.sizes c.stream_bytes-stream.result.now 6 54 machine_columns c.of-layouts.result.machines (slice_index c.in_ok-places.places 6) refl (c.in_ok-places.ensures.places 6 (lit< tt)) c.of-layouts.ensures.machines,
-    ),
-  ),
-)
+at-requires-7 c = (lit< tt, (lit< tt, (c.stream_bytes-stream.ensures.short, table_fits c.in_ok-header.header.sizes c.stream_bytes-stream.result.now 6 54 machine_columns c.of-layouts.result.machines (slice_index c.in_ok-places.places 6) refl (c.in_ok-places.ensures.places 6 (lit< tt)) c.of-layouts.ensures.machines)))
 
 pub at-requires-8 : goal.at-requires-8
-at-requires-8 c = (
-  lit< tt,
-  (
-    lit< tt,
-    (
-      c.stream_bytes-stream.ensures.short,
-      table_fits c.in_ok-header.header.sizes c.stream_bytes-stream.result.now 7 55 custom_columns c.of-layouts.result.customs (slice_index c.in_ok-places.places 7) refl (c.in_ok-places.ensures.places 7 (lit< tt)) c.of-layouts.ensures.customs,
-    ),
-  ),
-)
+at-requires-8 c = (lit< tt, (lit< tt, (c.stream_bytes-stream.ensures.short, table_fits c.in_ok-header.header.sizes c.stream_bytes-stream.result.now 7 55 custom_columns c.of-layouts.result.customs (slice_index c.in_ok-places.places 7) refl (c.in_ok-places.ensures.places 7 (lit< tt)) c.of-layouts.ensures.customs)))
 
 pub invariant_of-result : goal.invariant_of-result
 invariant_of-result c =

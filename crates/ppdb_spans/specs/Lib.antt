@@ -1,4 +1,0 @@
-pub mod References
-pub mod Spans
-pub mod Begun
-pub mod TableRows

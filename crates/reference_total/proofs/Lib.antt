@@ -1,0 +1,6 @@
+pub mod Sums
+pub mod Rising
+pub mod Ascending
+pub mod RowLists
+pub mod Placed
+pub mod Walked
