@@ -1,22 +1,14 @@
 -- One step of a chain.
-use Rattle.std.proofs.Common.{◌≡◌, ℕ, zero, suc, List, [], ◌∷◌, length, refl, sym, ap, subst, ◌∙◌}
+use Rattle.std.proofs.Common.{◌≡◌, ℕ, zero, suc, List, [], ◌∷◌, length, refl, sym, ap, ◌∙◌}
 use Rattle.std.specs.Prelude.{Some, None, map, ◌+◌, ◌≤◌}
 use Rattle.std.proofs.Common.{arith}
 use Rattle.ppdb_tables.specs.declared.rows.ImportRow.{ImportRow}
-use Rattle.ppdb_values.specs.Rules.{KeepsImports, IsImport}
+use Rattle.ppdb_values.specs.Rules.{KeepsImports}
 use Rattle.blob_grammar.specs.Reader.{tail, Left}
-use Rattle.blob_grammar.specs.Reading.{Reading}
-use Rattle.ppdb_heaps.specs.Heaps.{blob_at}
-use Rattle.ppdb_heaps.specs.Views.{blobs_of}
-use Rattle.ppdb_heaps.specs.declared.blobs.Blobs.{Blobs}
-use Rattle.type_blobs.specs.declared.types.TypeLimits.{TypeLimits}
-use Rattle.type_blobs.specs.ImportReading.{heap_of as heap_in}
-use Rattle.type_blobs.specs.Imports.{imports, ImportItem}
-use Rattle.ppdb_values.specs.Imports.{heap_of}
-use Rattle.ppdb_values.specs.RawFile.{blob, records_of, type_limits}
+use Rattle.type_blobs.specs.Imports.{ImportItem}
+use Rattle.verified_rows.specs.Imports.{imports_in}
 use Rattle.ppdb_queries.specs.declared.imports.ImportLink.{ImportLink}
-use Rattle.ppdb_queries.proofs.Whole.{whole_left, left_of}
-use Rattle.ppdb_queries.specs.Chains.{link_of, links_from, imports_in}
+use Rattle.ppdb_queries.specs.Chains.{link_of, links_from}
 use Rattle.ppdb_queries.specs.Cursors.{next_of}
 use Rattle.ppdb_tables.specs.RawTables.{RawTables, row_at}
 use Rattle.ppdb_values.specs.Chains.{chain_for, chain_of, link_and}
@@ -35,19 +27,6 @@ none_for parent rows (suc most) = refl
 
 pub chain_zero : {X : Type 0} (parent : X → ℕ) (rows : List X) → chain_of parent rows 0 ≡ []
 chain_zero parent rows = none_for parent rows (length rows)
-
--- a cursor of the imports of a row has all of them left
-pub cursor_of : (raw : RawTables) (row : ImportRow) (content : List ℕ) (blobs : Blobs) (limits : TypeLimits) (left : Left ImportItem)
-    → IsImport raw row → content ≡ blob raw row.imports → blobs_of blobs ≡ raw.blobs → limits ≡ type_limits raw
-    → Reading (imports limits (heap_in blobs)) content left.items left.fault → left ≡ imports_in raw row
-cursor_of raw row content blobs limits left keeps same heap counts reading =
-    let g = imports (type_limits raw) (heap_of raw) in
-    let there : Reading g (blob raw row.imports) left.items left.fault =
-    subst (λ (heap : List ℕ). Reading (imports (type_limits raw) (λ index. blob_at heap index)) (blob raw row.imports) left.items left.fault) heap
-    (subst (λ (l : TypeLimits). Reading (imports l (heap_in blobs)) (blob raw row.imports) left.items left.fault) counts
-    (subst (λ (c : List ℕ). Reading (imports limits (heap_in blobs)) c left.items left.fault) same reading)) in
-    let whole = whole_left g (blob raw row.imports) left.items left.fault there keeps.imports_whole in
-    left_of left (records_of g (blob raw row.imports)) whole.0 whole.1
 
 -- the links that are left at a row that was read
 pub links_next : (raw : RawTables) (row : ℕ) (scope : ImportRow) (left : Left ImportItem) → KeepsImports raw → row ≤ length raw.imports → row_at raw.imports row ≡ Some scope → left ≡ imports_in raw scope

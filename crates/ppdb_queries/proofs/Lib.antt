@@ -4,11 +4,9 @@ pub mod Searches
 pub mod Filters
 pub mod Views
 pub mod Chained
-pub mod Whole
 pub mod Owned
 pub mod Agreeing
 pub mod Parents
-pub mod Lengths
 pub mod Records
 pub mod Slots
 pub mod PointLists

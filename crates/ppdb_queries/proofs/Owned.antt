@@ -6,8 +6,8 @@ use Rattle.std.specs.Option.{option_map}
 use Rattle.std.proofs.lemmas.List.{length-map, length-take, length-drop}
 use Rattle.std.proofs.lemmas.List.FromFn.{length-enumerate_from}
 use Rattle.std.proofs.lemmas.List.Sums.{sum_by-append}
-use Rattle.std.proofs.lemmas.Option.{slice_get_within}
 use Rattle.ppdb_tables.specs.declared.rows.ScopeRow.{ScopeRow}
+use Rattle.ppdb_tables.proofs.NumberedRows.{row_within}
 use Rattle.ppdb_tables.specs.RawTables.{RawTables, numbered, row_at}
 use Rattle.ppdb_values.specs.declared.scope.ScopeValue.{ScopeValue}
 use Rattle.ppdb_values.specs.Constants.{constant_of}
@@ -25,10 +25,6 @@ use Rattle.ppdb_values.specs.Parts.{holds}
 use Rattle.ppdb_values.specs.Value.{range_of}
 
 -- ---- lists in order
-
-row_within : {X : Type 0} (rows : List X) (row : ℕ) (x : X) → row_at rows row ≡ Some x → (1 ≤ row) × (row ≤ length rows)
-row_within rows zero x e = cc
-row_within rows (suc i) x e = let h = slice_get_within rows i x e in (omega arith, omega (arith, h))
 
 -- a later row has no lower list
 rises : (list : ScopeRow → ℕ) (scopes : List ScopeRow) (items a b : ℕ) (x y : ScopeRow) → KeepsLists list scopes items → row_at scopes a ≡ Some x → row_at scopes b ≡ Some y → a ≤ b → list x ≤ list y

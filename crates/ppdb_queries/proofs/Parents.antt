@@ -1,6 +1,7 @@
 -- The custom records on a row, by its coded index and by the row itself.
 use Rattle.std.proofs.Common.{◌≡◌, ℕ, suc, ◌+◌, List, [], ◌∷◌, refl, sym, ap, subst, ◌∙◌, Bool, true, false, cond, arith, inl, inr}
-use Rattle.std.specs.Prelude.{Option, Some, IfSome, slice_get, ◌==◌, ◌&&◌}
+use Rattle.std.specs.Prelude.{Option, Some, None, IfSome, slice_get, ◌==◌, ◌&&◌, ◌/◌, ◌<◌, ◌≤◌}
+use Rattle.std.specs.Option.{option_map}
 use Rattle.std.specs.List.{filter, enumerate_from}
 use Rattle.std.proofs.lemmas.Bool.{eq-eqb, cases_eq}
 use Rattle.std.proofs.lemmas.Bool.Decides.{nat_tests}
@@ -36,6 +37,14 @@ names laws wanted coded e = subst (λ (o : Option ℕ). IfSome o (λ coded. pare
 
 codes : (laws : CodesAreParents) (wanted : Parent) (coded : ℕ) → parent_in coded ≡ Some wanted → coded_in wanted ≡ Some coded
 codes laws wanted coded e = subst (λ (o : Option Parent). IfSome o (λ parent. coded_in parent ≡ Some coded)) e (laws.parent coded)
+
+row_in : (n : ℕ) (o : Option ℕ) (parent : Parent) → option_map (λ table. record { table = table; row = n }) o ≡ Some parent → parent.row ≡ n
+row_in n (Some table) parent e = let there : Parent = record { table = table; row = n } in let same : there ≡ parent = cc in sym (ap (λ (p : Parent). p.row) same)
+row_in n None parent e = cc
+
+-- the code of a row that is there has a form
+pub code_small : (laws : CodesAreParents) (wanted : Parent) (coded : ℕ) → coded_in wanted ≡ Some coded → wanted.row ≤ 16777215 → coded < 536870912
+code_small laws wanted coded e few = let row = row_in (coded / 32) _ wanted (names laws wanted coded e) in omega (arith, row, few)
 
 -- a record's coded parent is the code of a row exactly where its parent is the row
 same_test : (raw : RawTables) (laws : CodesAreParents) (wanted : Parent) (coded : ℕ) (row : CustomRow) → coded_in wanted ≡ Some coded → IsCustom raw row

@@ -1,6 +1,6 @@
 -- The slots of a record, by its kind.
-use Rattle.std.proofs.Common.{◌≡◌, ℕ, List, [], ◌∷◌, refl, ap, subst, ◌∙◌, Bool, true, false}
-use Rattle.std.specs.Prelude.{Option, Some, None, unwrap_or, if◌then◌else◌}
+use Rattle.std.proofs.Common.{◌≡◌, ℕ, List, [], ◌∷◌, refl, ap, sym, ◌∙◌, Bool, true, false}
+use Rattle.std.specs.Prelude.{None, if◌then◌else◌}
 use Rattle.std.specs.Str.{bytes_eq}
 use Rattle.std.proofs.lemmas.Slice.Eq.{bytes_eq-Decides}
 use Rattle.blob_grammar.specs.Reader as reader
@@ -14,8 +14,8 @@ use Rattle.ppdb_tables.specs.declared.rows.CustomRow.{CustomRow}
 use Rattle.ppdb_tables.specs.RawTables.{RawTables}
 use Rattle.ppdb_values.specs.Customs.{custom_body, async_body, kind_in}
 use Rattle.ppdb_values.specs.Parts.{slots_in}
-use Rattle.ppdb_values.specs.RawFile.{blob, guid, records_of}
-use Rattle.ppdb_values.specs.Rules.{IsCustom, IsWhole, IsWholeOfKind}
+use Rattle.ppdb_values.specs.RawFile.{blob, records_of}
+use Rattle.ppdb_values.specs.Rules.{IsWhole}
 use Rattle.ppdb_queries.specs.Hoisted.{slots_by, slots_of}
 
 -- ---- kinds
@@ -36,9 +36,6 @@ not_hoisted found other e = other_kind _ (bytes_eq found hoisted_guid) _ _ other
 is_hoisted : (guid : List ℕ) → bytes_eq guid hoisted_guid ≡ true → kind_of [] guid ≡ Hoisted
 is_hoisted found same = let e : found ≡ hoisted_guid = (bytes_eq-Decides found hoisted_guid).0 same in rw e refl
 
-kind_is : (raw : RawTables) (row : CustomRow) (found : List ℕ) → guid raw row.kind ≡ Some found → kind_in raw row ≡ found
-kind_is raw row found e = ap (λ (o : Option (List ℕ)). unwrap_or o []) e
-
 -- ---- slots
 
 async_has_none : (entries : List Entry) → slots_in (async_body entries) ≡ None
@@ -54,22 +51,19 @@ other_has_none raw Free content other = refl
 other_has_none raw Unknown content other = refl
 
 -- a record of another kind has no slots
-pub slots_none : (raw : RawTables) (row : CustomRow) (found : List ℕ) → guid raw row.kind ≡ Some found → bytes_eq found hoisted_guid ≡ false → slots_of raw row ≡ []
+pub slots_none : (raw : RawTables) (row : CustomRow) (found : List ℕ) → found ≡ kind_in raw row → bytes_eq found hoisted_guid ≡ false → slots_of raw row ≡ []
 slots_none raw row found there other =
     other_has_none raw (kind_of [] (kind_in raw row)) (blob raw row.value)
-    (not_hoisted (kind_in raw row) (ap (λ (g : List ℕ). bytes_eq g hoisted_guid) (kind_is raw row found there) ∙ other))
+    (not_hoisted (kind_in raw row) (ap (λ (g : List ℕ). bytes_eq g hoisted_guid) (sym there) ∙ other))
 
-hoisted_kind : (raw : RawTables) (row : CustomRow) (found : List ℕ) → guid raw row.kind ≡ Some found → bytes_eq found hoisted_guid ≡ true → kind_of [] (kind_in raw row) ≡ Hoisted
-hoisted_kind raw row found there same = is_hoisted (kind_in raw row) (ap (λ (g : List ℕ). bytes_eq g hoisted_guid) (kind_is raw row found there) ∙ same)
+-- a record with the GUID of hoisted locals is of their kind
+pub hoisted_kind : (raw : RawTables) (row : CustomRow) (found : List ℕ) → found ≡ kind_in raw row → bytes_eq found hoisted_guid ≡ true → kind_of [] (kind_in raw row) ≡ Hoisted
+hoisted_kind raw row found there same = is_hoisted (kind_in raw row) (ap (λ (g : List ℕ). bytes_eq g hoisted_guid) (sym there) ∙ same)
 
 -- a record of hoisted locals has the slots of its blob
-pub slots_are : (raw : RawTables) (row : CustomRow) (found : List ℕ) → guid raw row.kind ≡ Some found → bytes_eq found hoisted_guid ≡ true
+pub slots_are : (raw : RawTables) (row : CustomRow) (found : List ℕ) → found ≡ kind_in raw row → bytes_eq found hoisted_guid ≡ true
     → slots_of raw row ≡ records_of hoisted_scopes (blob raw row.value)
 slots_are raw row found there same = ap (λ (kind : Kind). slots_by (slots_in (custom_body raw kind (blob raw row.value)))) (hoisted_kind raw row found there same)
-
-pub slots_whole : (raw : RawTables) (row : CustomRow) (found : List ℕ) → IsCustom raw row → guid raw row.kind ≡ Some found → bytes_eq found hoisted_guid ≡ true
-    → IsWhole hoisted_scopes (blob raw row.value)
-slots_whole raw row found keeps there same = subst (λ (kind : Kind). IsWholeOfKind raw kind (blob raw row.value)) (hoisted_kind raw row found there same) keeps.value_whole
 
 -- no bytes are no slots
 pub nothing_whole : IsWhole hoisted_scopes []

@@ -1,12 +1,10 @@
 // The hoisted locals of a method that hold an offset.
 ghost use Rattle.std.specs.Prelude.{◌≡◌, ◌+◌, ◌*◌, ◌<◌, ◌≤◌, ◌^◌, ℕ, [], length, Some, None, IfOk, OnOk, OnErr};
 ghost use Rattle.blob_grammar.specs.Reader.{tail};
-ghost use Rattle.custom_info.specs.HoistedScopes.{hoisted_scopes};
 ghost use Rattle.ppdb_tables.specs.RawOf.{raw_of};
 ghost use Rattle.ppdb_tables.specs.RawTables.{row_at};
 ghost use Rattle.ppdb_tables.specs.declared.rows.CustomRow.{CustomRow};
-ghost use Rattle.ppdb_values.specs.RawFile.{records_of};
-ghost use Rattle.ppdb_values.specs.Rules.{HasRow, IsWhole};
+ghost use Rattle.ppdb_values.specs.Rules.{HasRow};
 ghost use Rattle.ppdb_verify.specs.Views.{tables_of};
 ghost use Rattle.ppdb_queries.specs.Cursors.{next_of};
 ghost use Rattle.ppdb_queries.specs.Digits.{digits};
@@ -15,7 +13,6 @@ ghost use Rattle.ppdb_queries.specs.Runs.{IsNoMethod};
 
 use crate::copied::copy_of;
 use crate::method::{NoMethod, judge_method};
-use crate::rows::{blob, custom, guid, keeps};
 use crate::run::{Run, customs_of};
 use crate::scopes::holds;
 use custom_info::{HOISTED_SCOPES, Range, Slot, SlotCursor};
@@ -24,6 +21,7 @@ use ppdb_tables::{CustomRow, Parent};
 use ppdb_verify::Verified;
 use std::marker::Model;
 use std::sync::ledger::Ledger;
+use verified_rows::{custom, guid_of_kind};
 
 /// A hoisted local where it holds an offset.
 #[derive(Clone, Copy, Debug, PartialEq, Eq)]
@@ -100,18 +98,16 @@ impl<'a> RecordSlots<'a> {
     }
 }
 
-/// The blob of a record's slots; no bytes where the record is of another kind.
-fn slots_blob<'a>(file: &Verified<'a>, row: u32, cells: &CustomRow) -> &'a [u8]
+/// The slots of a record, from the first; none where the record is of another kind.
+fn slots_at<'a>(file: &Verified<'a>, row: u32, cells: &CustomRow) -> SlotCursor<'a>
     requires { row_at (raw_of (tables_of file.now)).customs row ≡ Some cells.now }
-    ensures slots { records_of hoisted_scopes result.now ≡ slots_of (raw_of (tables_of file.now)) cells.now }
-    ensures whole { IsWhole hoisted_scopes result.now }
-    ensures short { length result.now < 2 ^ 32 }
+    ensures slots { result ≡ record { items = slots_of (raw_of (tables_of file.now)) cells.now; fault = None } }
+    ensures few { length result.items < 2 ^ 32 }
 {
-    keeps(file);
-    if guid(file, cells.kind) == HOISTED_SCOPES {
-        blob(file, cells.value)
+    if guid_of_kind(file, row, cells) == HOISTED_SCOPES {
+        verified_rows::slots_of(file, row, cells)
     } else {
-        &[]
+        SlotCursor::new(&[])
     }
 }
 
@@ -131,7 +127,7 @@ fn record_slots<'a, L: Ledger>(
         offset,
         row,
         slot: 0,
-        slots: SlotCursor::new(slots_blob(file, row, &cells)),
+        slots: slots_at(file, row, &cells),
     }
 }
 
@@ -174,7 +170,7 @@ impl<'a> HoistedCursor<'a> {
             if self.first == self.end {
                 return None;
             }
-            keeps(&self.file);
+            self.file.keeps();
             self.current = record_slots(&self.file, self.first, self.offset, steps);
             self.first += 1;
         }

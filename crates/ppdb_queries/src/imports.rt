@@ -1,22 +1,19 @@
 // The chain of an import scope.
-ghost use Rattle.std.specs.Prelude.{◌≡◌, ◌+◌, ◌<◌, ◌≤◌, length, Some};
+ghost use Rattle.std.specs.Prelude.{◌≡◌, ◌+◌, ◌≤◌, length};
 ghost use Rattle.blob_grammar.specs.Reader.{tail};
 ghost use Rattle.ppdb_tables.specs.RawOf.{raw_of};
-ghost use Rattle.ppdb_tables.specs.RawTables.{row_at};
-ghost use Rattle.ppdb_values.specs.RawFile.{type_limits as limits_of};
 ghost use Rattle.ppdb_values.specs.Rules.{HasRowOrNone};
 ghost use Rattle.ppdb_verify.specs.Views.{tables_of};
-ghost use Rattle.ppdb_queries.specs.Chains.{links_from, imports_in};
+ghost use Rattle.ppdb_queries.specs.Chains.{links_from};
 ghost use Rattle.ppdb_queries.specs.Cursors.{next_of};
 
 use crate::copied::copy_of;
-use crate::rows::{blob, blobs, count, import, keeps};
 use ppdb_base::Steps;
-use ppdb_tables::ImportRow;
 use ppdb_verify::Verified;
 use std::marker::Model;
 use std::sync::ledger::Ledger;
-use type_blobs::{ImportCursor, TypeLimits};
+use type_blobs::ImportCursor;
+use verified_rows::import;
 
 /// An import scope, and what it imports.
 #[derive(Drop)]
@@ -25,28 +22,6 @@ pub struct ImportLink<'a> {
     pub row: u32,
     /// Its imports, from the first.
     pub imports: ImportCursor<'a>,
-}
-
-/// The row counts of the tables that an import may name.
-fn type_limits(file: &Verified<'_>) -> TypeLimits
-    ensures { result ≡ limits_of (raw_of (tables_of file.now)) }
-{
-    TypeLimits {
-        type_refs: count(file, 0x01),
-        type_defs: count(file, 0x02),
-        type_specs: count(file, 0x1b),
-        assembly_refs: count(file, 0x23),
-    }
-}
-
-/// The imports of a row.
-fn imports_at<'a>(file: &Verified<'a>, row: u32, scope: &ImportRow) -> ImportCursor<'a>
-    requires { row_at (raw_of (tables_of file.now)).imports row ≡ Some scope.now }
-    ensures { result ≡ imports_in (raw_of (tables_of file.now)) scope.now }
-{
-    keeps(file);
-    let content = blob(file, scope.imports);
-    ImportCursor::new(content, blobs(file), type_limits(file))
 }
 
 /// An import scope, its parent, and so on.
@@ -82,12 +57,12 @@ impl<'a> ImportChain<'a> {
             return None;
         }
         let row = self.row;
-        keeps(&self.file);
+        self.file.keeps();
         let scope = import(&self.file, row, steps);
         self.row = scope.parent;
         Some(ImportLink {
             row,
-            imports: imports_at(&self.file, row, &scope),
+            imports: verified_rows::imports_of(&self.file, row, &scope),
         })
     }
 }

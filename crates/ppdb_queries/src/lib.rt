@@ -12,7 +12,6 @@ mod laws;
 mod machines;
 mod method;
 mod points;
-mod rows;
 mod run;
 mod scopes;
 mod search;

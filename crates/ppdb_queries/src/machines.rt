@@ -9,10 +9,10 @@ ghost use Rattle.ppdb_queries.specs.Runs.{IsNoMethod};
 ghost use Rattle.ppdb_queries.specs.Digits.{digits};
 
 use crate::method::{NoMethod, judge_method};
-use crate::rows::{count, keeps, machine};
 use ppdb_base::Steps;
 use ppdb_verify::Verified;
 use std::sync::ledger::Ledger;
+use verified_rows::{count, machine};
 
 /// The kickoff method of the state machine whose MoveNext is the method; None exactly where there is no such machine.
 ///
@@ -31,7 +31,7 @@ pub fn kickoff_of<L: Ledger>(
     ensures cost { steps.new ≤ steps.old + digits (length (raw_of (tables_of file.now)).machines) }
 {
     judge_method(file, method)?;
-    keeps(file);
+    file.keeps();
     let mut first = 1;
     let mut end = count(file, 0x36) + 1;
     'halves: while first < end {
@@ -66,7 +66,7 @@ pub fn move_next_of<L: Ledger>(
     ensures cost { steps.new ≤ steps.old + length (raw_of (tables_of file.now)).machines }
 {
     judge_method(file, method)?;
-    keeps(file);
+    file.keeps();
     for row in 1..count(file, 0x36) + 1 {
         let machine = machine(file, row, steps);
         if machine.kickoff == method {

@@ -1,23 +1,19 @@
 // The point of an offset.
-ghost use Rattle.std.specs.Prelude.{◌≡◌, ◌+◌, ◌<◌, ◌≤◌, None, Some, IfOk, OnOk, OnErr};
-ghost use Rattle.ppdb_heaps.specs.Names.{NameReading};
+ghost use Rattle.std.specs.Prelude.{◌≡◌, ◌+◌, ◌≤◌, None, IfOk, OnOk, OnErr};
 ghost use Rattle.ppdb_tables.specs.RawOf.{raw_of};
-ghost use Rattle.ppdb_tables.specs.RawTables.{row_at};
 ghost use Rattle.ppdb_values.specs.Parts.{last_point};
-ghost use Rattle.ppdb_values.specs.RawFile.{blob as blob_in, point_limits as limits_of};
 ghost use Rattle.ppdb_values.specs.Rules.{HasRow};
 ghost use Rattle.ppdb_verify.specs.Views.{tables_of, raw_file};
-ghost use Rattle.ppdb_queries.specs.Points.{PointIs, PointsAre};
+ghost use Rattle.ppdb_queries.specs.Points.{PointIs};
 ghost use Rattle.ppdb_queries.specs.Runs.{IsNoMethod};
 
 use crate::method::{NoMethod, judge_method};
-use crate::rows::{blob, blobs, count, document, keeps, method_debug};
 use ppdb_base::Steps;
 use ppdb_heaps::NameCursor;
-use ppdb_tables::{DocumentRow, MethodDebugRow};
 use ppdb_verify::Verified;
-use sequence_points::{Point, PointCursor, PointLimits, read_points_can_be_written};
+use sequence_points::{Point, PointCursor};
 use std::sync::ledger::Ledger;
+use verified_rows::{count, document, method_debug, name, points_of};
 
 /// A sequence point, with the method's local signature and the name of the point's document.
 #[derive(Drop)]
@@ -28,33 +24,6 @@ pub struct PointAt<'a> {
     pub signature: u32,
     /// The name of the document, from its first part.
     pub name: NameCursor<'a>,
-}
-
-/// The row counts of the tables that a points blob may name.
-fn point_limits(file: &Verified<'_>) -> PointLimits
-    ensures { result ≡ limits_of (raw_of (tables_of file.now)) }
-{
-    PointLimits {
-        documents: count(file, 0x30),
-        signatures: count(file, 0x11),
-    }
-}
-
-/// The points of a method; None where its blob is nil.
-fn points_of<'a>(file: &Verified<'a>, method: u32, row: &MethodDebugRow) -> Option<PointCursor<'a>>
-    requires { row_at (raw_of (tables_of file.now)).methods method ≡ Some row.now }
-    ensures { PointsAre (raw_file file.now) method result }
-{
-    keeps(file);
-    read_points_can_be_written();
-    let content = blob(file, row.points);
-    if content.is_empty() {
-        return None;
-    }
-    match PointCursor::new(content, row.document, point_limits(file)) {
-        Ok(cursor) => Some(cursor),
-        Err(_) => unreachable!(),
-    }
 }
 
 /// The last point that is not after the offset.
@@ -69,20 +38,6 @@ fn last_not_after(mut cursor: PointCursor<'_>, offset: u32) -> Option<Point>
         }
     }
     last
-}
-
-/// The name of a document, from its first part.
-fn name_of<'a>(file: &Verified<'a>, row: u32, document: &DocumentRow) -> NameCursor<'a>
-    requires { row_at (raw_of (tables_of file.now)).documents row ≡ Some document.now }
-    ensures name { NameReading (raw_of (tables_of file.now)).blobs (blob_in (raw_of (tables_of file.now)) document.now.name) result.separator result.left.items result.left.fault }
-    ensures whole { result.left.fault ≡ None }
-{
-    keeps(file);
-    let content = blob(file, document.name);
-    match NameCursor::new(content, blobs(file)) {
-        Ok(cursor) => cursor,
-        Err(_) => unreachable!(),
-    }
 }
 
 /// The last sequence point of a method that is not after an offset; None exactly where there is no such point. It reads at most
@@ -104,7 +59,7 @@ pub fn point_at<'a, L: Ledger>(
     ensures cost { steps.new ≤ steps.old + 2 }
 {
     judge_method(file, method)?;
-    keeps(file);
+    file.keeps();
     if count(file, 0x31) < method {
         return Ok(None);
     }
@@ -117,7 +72,7 @@ pub fn point_at<'a, L: Ledger>(
         return Ok(None);
     };
     let document = document(file, point.document, steps);
-    let name = name_of(file, point.document, &document);
+    let name = name(file, point.document, &document);
     Ok(Some(PointAt {
         point,
         signature,

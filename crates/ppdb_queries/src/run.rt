@@ -8,12 +8,12 @@ ghost use Rattle.ppdb_queries.specs.Runs.{IsRunOf, IsNoMethod, rows_in, customs_
 ghost use Rattle.ppdb_queries.specs.Digits.{digits};
 
 use crate::method::{NoMethod, judge_method};
-use crate::rows::{count, custom, keeps, scope};
 use crate::search::{KeyedRows, first_not_below};
 use ppdb_base::Steps;
 use ppdb_tables::{Parent, coded_parent, codes_are_parents};
 use ppdb_verify::Verified;
 use std::sync::ledger::Ledger;
+use verified_rows::{count, custom, scope};
 
 /// The rows from `first` up to and without `end`.
 #[derive(Clone, Copy, Debug, PartialEq, Eq)]
@@ -32,12 +32,12 @@ impl<'f, 'a> KeyedRows for ByMethod<'f, 'a> {
     ghost keys = { λ table. map (λ scope. scope.method) (raw_of (tables_of table.file.now)).scopes };
 
     fn rows(&self) -> u32 {
-        keeps(self.file);
+        self.file.keeps();
         count(self.file, 0x32)
     }
 
     fn key<L: Ledger>(&self, row: u32, steps: &mut Steps<L>) -> u32 {
-        keeps(self.file);
+        self.file.keeps();
         scope(self.file, row, steps).method
     }
 }
@@ -52,12 +52,12 @@ impl<'f, 'a> KeyedRows for ByParent<'f, 'a> {
     ghost keys = { λ table. map (λ custom. custom.parent) (raw_of (tables_of table.file.now)).customs };
 
     fn rows(&self) -> u32 {
-        keeps(self.file);
+        self.file.keeps();
         count(self.file, 0x37)
     }
 
     fn key<L: Ledger>(&self, row: u32, steps: &mut Steps<L>) -> u32 {
-        keeps(self.file);
+        self.file.keeps();
         custom(self.file, row, steps).parent
     }
 }
@@ -79,7 +79,7 @@ pub fn scope_run<L: Ledger>(
     ensures cost { steps.new ≤ steps.old + 2 * digits (length (raw_of (tables_of file.now)).scopes) }
 {
     judge_method(file, method)?;
-    keeps(file);
+    file.keeps();
     let scopes = ByMethod { file };
     let first = first_not_below(&scopes, method, steps);
     let end = first_not_below(&scopes, method + 1, steps);
@@ -93,7 +93,7 @@ fn customs_of_code<L: Ledger>(file: &Verified<'_>, coded: u32, steps: &mut Steps
     ensures later { steps.old ≤ steps.new }
     ensures cost { steps.new ≤ steps.old + 2 * digits (length (raw_of (tables_of file.now)).customs) }
 {
-    keeps(file);
+    file.keeps();
     let customs = ByParent { file };
     let first = first_not_below(&customs, coded, steps);
     let end = first_not_below(&customs, coded + 1, steps);
@@ -109,7 +109,7 @@ pub fn customs_of<L: Ledger>(file: &Verified<'_>, parent: Parent, steps: &mut St
     ensures later { steps.old ≤ steps.new }
     ensures cost { steps.new ≤ steps.old + 2 * digits (length (raw_of (tables_of file.now)).customs) }
 {
-    keeps(file);
+    file.keeps();
     codes_are_parents();
     let coded = coded_parent(parent).unwrap();
     customs_of_code(file, coded, steps)

@@ -14,7 +14,6 @@ ghost use Rattle.ppdb_queries.specs.Scopes.{scope_view, scopes_at as scopes_in, 
 
 use crate::copied::copy_of;
 use crate::method::NoMethod;
-use crate::rows::{count, keeps, scope};
 use crate::run::{Run, scope_run};
 use custom_info::Range;
 use ppdb_base::Steps;
@@ -22,6 +21,7 @@ use ppdb_tables::ScopeRow;
 use ppdb_verify::Verified;
 use std::marker::Model;
 use std::sync::ledger::Ledger;
+use verified_rows::{count, scope};
 
 /// A scope, with the rows of its variables and constants.
 #[derive(Clone, Copy, Debug, PartialEq, Eq)]
@@ -63,7 +63,7 @@ fn list_ends<L: Ledger>(file: &Verified<'_>, row: u32, steps: &mut Steps<L>) -> 
     ensures later { steps.old ≤ steps.new }
     ensures cost { steps.new ≤ steps.old + 1 }
 {
-    keeps(file);
+    file.keeps();
     if row < count(file, 0x32) {
         let next = scope(file, row + 1, steps);
         (next.variables, next.constants)
@@ -116,7 +116,7 @@ fn next_scope<L: Ledger>(
     ensures later { steps.old ≤ steps.new }
     ensures cost { steps.new ≤ steps.old + 2 * rows_passed first end result }
 {
-    keeps(file);
+    file.keeps();
     let mut row = first;
     'rows: while row < end {
         let scope = scope(file, row, steps);

@@ -1,6 +1,6 @@
 ghost use Rattle.std.specs.Prelude.{◌≡◌, ◌<◌};
 
-use crate::files::{PARENTS, PROGRAM, SMALL};
+use crate::files::PARENTS;
 use crate::{
     Hoisted, ImportLink, NoMethod, Run, ScopeView, customs_of, hoisted_at, imports_of, kickoff_of,
     move_next_of, point_at, scopes_at,
@@ -14,6 +14,7 @@ use sequence_points::{Point, Span};
 use std::alloc::Global;
 use std::marker::Brand;
 use std::sync::ledger::{Blank, Ledger};
+use worked_files::{PROGRAM, SMALL};
 
 /// Why a query found nothing.
 #[derive(Clone, Copy, Debug, PartialEq, Eq)]

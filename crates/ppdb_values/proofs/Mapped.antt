@@ -33,11 +33,12 @@ get_map f [] i = refl
 get_map f (x ∷ xs) zero = refl
 get_map f (x ∷ xs) (suc i) = get_map f xs i
 
-row_map : {X Y : Type 0} (f : X → Y) (xs : List X) (row : ℕ) → row_at (map f xs) row ≡ option_map f (row_at xs row)
+pub row_map : {X Y : Type 0} (f : X → Y) (xs : List X) (row : ℕ) → row_at (map f xs) row ≡ option_map f (row_at xs row)
 row_map f xs zero = refl
 row_map f xs (suc i) = get_map f xs i
 
-chain_map : {X Y : Type 0} (f : X → Y) (parent : X → ℕ) (other : Y → ℕ) (same : (x : X) → other (f x) ≡ parent x) (most : ℕ) (xs : List X) (row : ℕ)
+-- a chain of what rows are made to is that of the rows
+pub chain_map : {X Y : Type 0} (f : X → Y) (parent : X → ℕ) (other : Y → ℕ) (same : (x : X) → other (f x) ≡ parent x) (most : ℕ) (xs : List X) (row : ℕ)
     → chain_for other (map f xs) most row ≡ map (λ link. (link.0, f link.1)) (chain_for parent xs most row)
 unfolding chain_for
 chain_map f parent other same zero xs row = refl

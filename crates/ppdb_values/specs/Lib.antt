@@ -6,13 +6,17 @@ pub mod Imports
 pub mod Links
 pub mod Meaning
 pub mod Ordered
+pub mod Order
 pub mod Owners
 pub mod Parts
+pub mod Ranges
 pub mod RawFile
 pub mod Readings
 pub mod Rows
 pub mod Rules
+pub mod Types
 pub mod Value
 pub mod Worked
 pub mod WorkedProgram
 pub mod WorkedSmall
+pub mod WrittenImports

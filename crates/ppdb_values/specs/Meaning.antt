@@ -1,5 +1,5 @@
 -- What a file says of an IL offset of a method (Portable PDB v1.0: sequence points, local scopes, import scopes, custom
--- debug information, hoisted local scopes), with no row of the tables 30 to 37 in it.
+-- debug information, hoisted local scopes). That of a sound value has no row of the tables 30 to 37 in it.
 use Rattle.std.specs.Prelude.{map, ℕ, length, if◌then◌else◌, List, Option, Some, None}
 use Rattle.std.specs.Option.{option_map}
 use Rattle.std.specs.List.{filter_map, flat_map, enumerate_from}
@@ -16,14 +16,10 @@ use Rattle.ppdb_values.specs.declared.scope.VariableValue.{VariableValue}
 use Rattle.ppdb_values.specs.declared.scope.ConstantValue.{ConstantValue}
 use Rattle.ppdb_values.specs.declared.import.ImportScopeValue.{ImportScopeValue}
 use Rattle.ppdb_values.specs.declared.import.ImportValue.{ImportValue}
-use Rattle.ppdb_values.specs.declared.custom.CustomBody.{CustomBody}
 use Rattle.ppdb_values.specs.declared.custom.CustomValue.{CustomValue}
+use Rattle.ppdb_values.specs.declared.noted.Custom.{Custom}
+use Rattle.ppdb_values.specs.declared.noted.Noted.{Noted}
 use Rattle.ppdb_values.specs.Parts.{points_of, signature_of, last_point, holds, scopes_at, first_item, import_chain, customs_on, hoisted_of}
-
--- A custom record, apart from the row that it belongs to.
-pub record Custom : Type 0 where
-  pub kind : List ℕ
-  pub value : CustomBody
 
 -- A sequence point, with its document and the method's local signature. In a valid file the document is there.
 pub record PointMeaning : Type 0 where
@@ -31,11 +27,6 @@ pub record PointMeaning : Type 0 where
   pub span : Span
   pub document : Option DocumentValue
   pub signature : ℕ
-
--- An item, with the custom records on it.
-pub record Noted (X : Type 0) : Type 0 where
-  pub item : X
-  pub customs : List Custom
 
 -- A scope, with what it owns, and its import scope, the parent of that, and so on.
 pub record ScopeMeaning : Type 0 where

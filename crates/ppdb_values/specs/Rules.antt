@@ -27,7 +27,8 @@ use Rattle.ppdb_values.specs.RawFile.{RawFile, text, blob, records_of, begun_of,
 use Rattle.ppdb_values.specs.Documents.{document_of}
 use Rattle.ppdb_values.specs.Imports.{heap_of}
 use Rattle.ppdb_values.specs.Customs.{parent_of, kind_in}
-use Rattle.ppdb_values.specs.Value.{owner_of}
+use Rattle.ppdb_values.specs.Ranges.{ComesAfter, IsInOrAfter}
+use Rattle.ppdb_values.specs.Value.{owner_of, range_of}
 use Rattle.ppdb_values.specs.Chains.{chain_for, chain_of}
 use Rattle.ppdb_values.specs.Ordered.{EachRow, EachPair, IsSorted, Rises}
 
@@ -86,19 +87,11 @@ pub record IsScope (raw : RawTables) (row : ScopeRow) : Type 0 where
   pub not_empty : 0 < row.length
   pub end : row.start + row.length < 0x80000000
 
--- A later scope of the method starts later, or there and is not longer.
-abbrev pub ComesAfter : ScopeRow → ScopeRow → Type 0
-ComesAfter a b = (a.start < b.start) ⊎ ((a.start ≡ b.start) × (b.length ≤ a.length))
-
--- It lies in the earlier one, or after it.
-abbrev pub IsInOrAfter : ScopeRow → ScopeRow → Type 0
-IsInOrAfter a b = (b.start + b.length ≤ a.start + a.length) ⊎ (a.start + a.length ≤ b.start)
-
 pub record KeepsScopes (raw : RawTables) : Type 0 where
   pub each : EachRow (IsScope raw) raw.scopes
   pub by_method : IsSorted (map (λ scope. scope.method) raw.scopes)
-  pub by_start : EachPair (λ a b. a.method ≡ b.method → ComesAfter a b) raw.scopes
-  pub nested : EachPair (λ a b. a.method ≡ b.method → IsInOrAfter a b) raw.scopes
+  pub by_start : EachPair (λ a b. a.method ≡ b.method → ComesAfter (range_of a) (range_of b)) raw.scopes
+  pub nested : EachPair (λ a b. a.method ≡ b.method → IsInOrAfter (range_of a) (range_of b)) raw.scopes
 
 -- The lists of the scopes share out the items of a table: the first list begins at 1, none begins before that of the row before,
 -- and each begins at an item or right after the last. Where there are no scopes, there are no items.

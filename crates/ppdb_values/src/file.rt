@@ -1,12 +1,9 @@
-ghost use Rattle.std.specs.Prelude.{◌≡◌, []};
-
 use crate::custom::CustomValue;
 use crate::import::ImportScopeValue;
 use crate::scope::ScopeValue;
 use ppdb_base::{Bytes, List};
 use ppdb_tables::MachineRow;
 use sequence_points::Point;
-use std::alloc::Global;
 
 /// What a debug file says (Portable PDB v1.0).
 #[derive(Drop)]
@@ -53,24 +50,4 @@ pub struct MethodValue {
     pub signature: u32,
     /// The points, ascending by IL offset.
     pub points: List<Point>,
-}
-
-impl FileValue {
-    /// The value of a file without rows of its own: an identity, an entry point, and the row counts of the type system.
-    /// It takes no memory.
-    pub fn new(alloc: Global, id: [u8; 20], entry: u32, rows: [u32; 64]) -> FileValue
-        ensures { result ≡ record { id = id; entry = entry; rows = rows; documents = []; methods = []; scopes = []; imports = []; machines = []; customs = [] } }
-    {
-        FileValue {
-            id,
-            entry,
-            rows,
-            documents: List::new(alloc),
-            methods: List::new(alloc),
-            scopes: List::new(alloc),
-            imports: List::new(alloc),
-            machines: List::new(alloc),
-            customs: List::new(alloc),
-        }
-    }
 }

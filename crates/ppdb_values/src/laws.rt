@@ -6,8 +6,10 @@ ghost use Rattle.ppdb_values.specs.Owners.{OwnersAreLast, ListsAreOwned};
 ghost use Rattle.ppdb_values.specs.Readings.{ValuesAreRead, ConstantsAreRead};
 ghost use Rattle.ppdb_values.specs.Rows.{ValuesAreRows};
 ghost use Rattle.ppdb_values.specs.Rules.{KeepsRules};
+ghost use Rattle.ppdb_values.specs.Types.{ValuesHaveTypes};
 ghost use Rattle.ppdb_values.specs.Worked.{WorkedValues, WorkedMeaning};
 ghost use Rattle.ppdb_values.specs.WorkedProgram.{program_file};
+ghost use Rattle.ppdb_values.specs.WrittenImports.{ImportsAreStored};
 
 /// A value has the names, points, imports and records that the blobs hold, by the grammar of each.
 pub fn values_are_read()
@@ -33,6 +35,16 @@ pub fn owners_are_last()
 /// row's.
 pub fn lists_are_owned()
     ensures { ListsAreOwned }
+{}
+
+/// An import of a value is the item that its blob holds, and the numbers that its writer takes stand for it.
+pub fn imports_are_stored()
+    ensures { ImportsAreStored }
+{}
+
+/// The value of a file has what the types of the code carry, where the file has.
+pub fn values_have_types()
+    ensures { ValuesHaveTypes }
 {}
 
 /// Where each parent of an import scope is there, and no chain of parents goes on for ever, no chain has more links than there

@@ -4,17 +4,26 @@
 //! `specs/` says what the value of a file is, and what a value means at an IL offset of a method and of a method as a whole.
 #![tactic(auto)]
 
+mod copied;
 mod custom;
 mod file;
 mod import;
 mod laws;
+mod noted;
+mod same;
 mod scope;
+mod written;
 
+pub use copied::{Copied, copied_all};
 pub use custom::{CustomBody, CustomValue};
 pub use file::{DocumentValue, FileValue, MethodValue};
 pub use import::{ImportScopeValue, ImportValue};
 pub use laws::{
-    constants_are_read, import_chains_end, lists_are_owned, owners_are_last, values_are_read,
-    values_are_rows, worked_file_keeps_rules, worked_meaning, worked_values,
+    constants_are_read, import_chains_end, imports_are_stored, lists_are_owned, owners_are_last,
+    values_are_read, values_are_rows, values_have_types, worked_file_keeps_rules, worked_meaning,
+    worked_values,
 };
+pub use noted::{Custom, Noted};
+pub use same::{Same, compare_names, same_all};
 pub use scope::{ConstantBody, ConstantValue, ScopeValue, VariableValue};
+pub use written::import_numbers;

@@ -1,5 +1,0 @@
-use Rattle.ppdb_sound.proofs.WorkedUnsound.{unsound}
-use Rattle.ppdb_sound.proofs.laws.other_values_are_unsound.Goals as goal
-
-pub returns : goal.returns
-returns c = unsound

@@ -1,5 +1,0 @@
-use Rattle.ppdb_sound.proofs.Values.{value_sound}
-use Rattle.ppdb_sound.proofs.laws.values_are_sound.Goals as goal
-
-pub returns : goal.returns
-returns c = value_sound c.codes_are_parents.ensures

@@ -1,5 +1,0 @@
-use Rattle.ppdb_sound.proofs.WorkedSound.{sound}
-use Rattle.ppdb_sound.proofs.laws.worked_values_are_sound.Goals as goal
-
-pub returns : goal.returns
-returns c = sound c.codes_are_parents.ensures

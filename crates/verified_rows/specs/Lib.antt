@@ -1,0 +1,4 @@
+pub mod Names
+pub mod Points
+pub mod Imports
+pub mod Customs
