@@ -1,12 +1,22 @@
 -- A draft holds a line that was added.
-use Rattle.std.proofs.Common.{inl, inr, ◌⊎◌, ℕ, ◌≡◌, ◌<◌, ◌≤◌, ◌&&◌, ◌++◌, Bool, true, false, cond, List, [], ◌∷◌, Option, Some, None, Result, Ok, Err, OnOk, IfErr, lit≤, refl, sym, ap, ◌∙◌, subst, arith, rules}
-use Rattle.std.specs.Prelude.{IsSome, IsTrue, nat_eq, is_some}
+use Rattle.std.proofs.Common.{inl, inr, ℕ, ◌≡◌, ◌≤◌, ◌&&◌, ◌||◌, ◌++◌, map, Bool, true, false, cond, List, [], ◌∷◌, Option, Some, None, Result, Ok, Err, OnOk}
+use Rattle.std.proofs.Common.{IfErr, lit≤, refl, sym, ap, ◌∙◌, subst}
+use Rattle.std.specs.Prelude.{nat_eq, is_some, option_map}
+use Rattle.std.specs.List.{find, list_any, IsDistinct}
+use Rattle.std.specs.Option.{option_or}
+use Rattle.std.specs.Prelude.{Vec}
+use Rattle.std.specs.declared.alloc.Global.{Global}
+use Rattle.std.proofs.lemmas.List.{map-append}
+use Rattle.std.proofs.lemmas.List.Folds.{find-append}
+use Rattle.std.proofs.lemmas.Map.Keys.{IsDistinct-push}
 use Rattle.std.specs.BTreeMap as tree
 use Rattle.std.specs.BTreeMap.{BTreeMap, is_at}
 use Rattle.std.proofs.lemmas.Bool.{false≢true}
 use Rattle.ppdb_base.specs.declared.offsets.Run.{Run}
 use Rattle.ppdb_maps.specs.Map.{MethodLine, pair_cmp}
-use Rattle.ppdb_maps.specs.Before.{methods_of, follows_method}
+use Rattle.ppdb_maps.specs.BitSets.{has_row}
+use Rattle.ppdb_maps.specs.Gathered.{row_key, same_pair}
+use Rattle.ppdb_maps.specs.Before.{methods_of, follows_method, row_in}
 use Rattle.ppdb_maps.specs.Rules.{kind_of, Breaks, BeginsEarly, EndsBeyond, run_alone, run_early, run_long}
 use Rattle.ppdb_maps.specs.Runs.{RefusesRun}
 use Rattle.ppdb_maps.specs.Drafts.{Holds, HoldsMethods, IsClosed, RefusedBy, AddsLine}
@@ -14,24 +24,90 @@ use Rattle.ppdb_maps.specs.declared.draft.Draft.{Draft}
 use Rattle.ppdb_maps.specs.declared.refusal.Refusal.{Refusal}
 use Rattle.ppdb_maps.specs.declared.refusal.Refusal.TheVariants.{Breaks as refused, Memory}
 use Rattle.ppdb_maps.specs.declared.line.Line.{Line}
-use Rattle.ppdb_maps.specs.declared.line.Line.TheVariants.{Silent, Rows, Row, Method, Kept, Dropped, Slots, Slot}
+use Rattle.ppdb_maps.specs.declared.line.Line.TheVariants.{Silent, Row, Method, Kept, Slot}
 use Rattle.ppdb_maps.specs.declared.rule.Rule.{Rule}
-use Rattle.ppdb_maps.specs.declared.rule.Rule.TheVariants.{FirstLine, UnknownForm, BadNumber, Repeated, Undeclared, NoMethod, Overlap, Beyond, NamesDropped}
+use Rattle.ppdb_maps.specs.declared.rule.Rule.TheVariants.{NoMethod}
+use Rattle.ppdb_maps.specs.declared.bit_set.RowSet.{RowSet}
+use Rattle.ppdb_maps.specs.declared.entries.RowImage.{RowImage}
+use Rattle.ppdb_maps.proofs.OneMap.{pair_equal, pair_is}
 use Rattle.ppdb_maps.proofs.Refusing.{at_pair}
 
-pub row_added : (before : List Line) (draft : Draft) (rows : BTreeMap (ℕ × ℕ) ℕ) (t o n : ℕ) → IsClosed before draft
-    → ((q : ℕ × ℕ) → tree.get pair_cmp rows q ≡ cond (is_at (pair_cmp (t, o)) q) (Some n) (tree.get pair_cmp draft.rows q))
-    → Holds (Row t o n ∷ before) (record draft { rows = rows })
-row_added before draft rows t o n closed updates = record {
+abbrev is_row : ℕ → ℕ → RowImage → Bool
+is_row table old row = nat_eq row.table table && nat_eq row.old old
+
+-- what is found with one more row at the end, that was not there before
+pushed : (o : Option RowImage) (row : RowImage) (b : Bool) → (b ≡ true → is_some (option_map (λ (r : RowImage). r.new) o) ≡ false)
+    → option_map (λ (r : RowImage). r.new) (option_or o (cond b (Some row) None)) ≡ cond b (Some row.new) (option_map (λ (r : RowImage). r.new) o)
+pushed None row true fresh = refl
+pushed None row false fresh = refl
+pushed (Some other) row true fresh = absurd (false≢true (sym (fresh refl)))
+pushed (Some other) row false fresh = refl
+
+row_absent : (rows : List RowImage) (t o : ℕ) → is_some (option_map (λ (r : RowImage). r.new) (find (is_row t o) rows)) ≡ false
+    → list_any (same_pair (t, o)) (map row_key rows) ≡ false
+row_absent [] t o fresh = refl
+row_absent (row ∷ rows) t o fresh = of (is_row t o row) refl fresh (row_absent rows t o)
+  where
+    turned : (nat_eq t row.table && nat_eq o row.old) ≡ is_row t o row
+    turned = pair_equal.symm (t, o) (row_key row)
+
+    of : (b : Bool) → is_row t o row ≡ b → is_some (option_map (λ (r : RowImage). r.new) (cond b (Some row) (find (is_row t o) rows))) ≡ false
+        → (is_some (option_map (λ (r : RowImage). r.new) (find (is_row t o) rows)) ≡ false → list_any (same_pair (t, o)) (map row_key rows) ≡ false)
+        → list_any (same_pair (t, o)) (map row_key (row ∷ rows)) ≡ false
+    of true is fresh rest = absurd (false≢true (sym fresh))
+    of false is fresh rest = ap (λ b. b || list_any (same_pair (t, o)) (map row_key rows)) (turned ∙ is) ∙ rest fresh
+
+some_or : {A : Type 0} (b : Bool) (x : A) (o : Option A) → (b || is_some o) ≡ is_some (cond b (Some x) o)
+some_or true x o = refl
+some_or false x o = refl
+
+pub none_held : (draft : Draft) → draft.counts.entries ≡ [] → draft.rows.items ≡ [] → ((table row : ℕ) → has_row draft.moved table row ≡ false)
+    → draft.methods.entries ≡ []
+    → draft.current ≡ None → draft.drops.keys ≡ [] → draft.slotted.keys ≡ [] → draft.slots.entries ≡ [] → Holds [] draft
+unfolding IsDistinct
+none_held draft counts rows moved methods current drops slotted slots = record {
+  others = record {
+    counts = λ table. rw counts refl;
+    rows = λ table old. rw rows refl;
+    distinct = rw rows tt;
+    moved = moved;
+    drops = λ method. rw drops refl;
+    slotted = λ method. rw slotted refl;
+    slots = λ method old. rw slots refl;
+  };
+  methods = subst (λ (m : Option MethodLine). HoldsMethods [] m draft) (sym current) ((λ method. rw methods refl), refl);
+}
+
+pub row_added : (before : List Line) (draft : Draft) (rows : Vec RowImage Global) (moved : RowSet) (t o n : ℕ) → IsClosed before draft
+    → is_some (row_in before t o) ≡ false
+    → rows.items ≡ draft.rows.items ++ record { table = t; old = o; new = n } ∷ []
+    → ((a b : ℕ) → has_row moved a b ≡ (nat_eq t a && nat_eq o b || has_row draft.moved a b))
+    → Holds (Row t o n ∷ before) (record draft { rows = rows; moved = moved })
+row_added before draft rows moved t o n closed fresh pushes marks = record {
   others = record {
     counts = closed.others.counts;
-    rows = λ a b. updates (a, b) ∙ rw (at_pair t o a b, closed.others.rows a b) refl;
+    rows = λ a b.
+        ap (λ rs. option_map (λ (r : RowImage). r.new) (find (is_row a b) rs)) pushes
+        ∙ (ap (option_map (λ (r : RowImage). r.new)) (find-append (is_row a b) draft.rows.items (record { table = t; old = o; new = n } ∷ []))
+        ∙ (pushed (find (is_row a b) draft.rows.items) (record { table = t; old = o; new = n }) (nat_eq t a && nat_eq o b) (λ is. absent a b is)
+        ∙ ap (cond (nat_eq t a && nat_eq o b) (Some n)) (closed.others.rows a b)));
+    distinct = subst (λ rs. IsDistinct same_pair (map row_key rs)) (sym pushes)
+        (subst (IsDistinct same_pair) (sym (map-append row_key draft.rows.items (record { table = t; old = o; new = n } ∷ [])))
+        (IsDistinct-push pair_equal (map row_key draft.rows.items) (t, o) closed.others.distinct
+        (row_absent draft.rows.items t o (ap is_some (closed.others.rows t o) ∙ fresh))));
+    moved = λ a b. marks a b ∙ (ap (λ m. nat_eq t a && nat_eq o b || m) (closed.others.moved a b) ∙ some_or (nat_eq t a && nat_eq o b) n (row_in before a b));
     drops = closed.others.drops;
     slotted = closed.others.slotted;
     slots = closed.others.slots;
   };
-  methods = subst (λ (m : Option MethodLine). HoldsMethods (Row t o n ∷ before) m (record draft { rows = rows })) (sym closed.closed) (closed.methods, refl);
+  methods = subst (λ (m : Option MethodLine). HoldsMethods (Row t o n ∷ before) m (record draft { rows = rows; moved = moved })) (sym closed.closed)
+      (closed.methods, refl);
 }
+  where
+    absent : (a b : ℕ) → (nat_eq t a && nat_eq o b) ≡ true → is_some (option_map (λ (r : RowImage). r.new) (find (is_row a b) draft.rows.items)) ≡ false
+    absent a b is =
+        let same : (t, o) ≡ (a, b) = pair_is (t, o) (a, b) is in
+        ap is_some (closed.others.rows a b) ∙ subst (λ (p : ℕ × ℕ). is_some (row_in before p.0 p.1) ≡ false) same fresh
 
 pub slot_added : (before : List Line) (draft : Draft) (slots : BTreeMap (ℕ × ℕ) ℕ) (m o n : ℕ) → IsClosed before draft
     → ((q : ℕ × ℕ) → tree.get pair_cmp slots q ≡ cond (is_at (pair_cmp (m, o)) q) (Some n) (tree.get pair_cmp draft.slots q))
@@ -40,6 +116,8 @@ slot_added before draft slots m o n closed updates = record {
   others = record {
     counts = closed.others.counts;
     rows = closed.others.rows;
+    distinct = closed.others.distinct;
+    moved = closed.others.moved;
     drops = closed.others.drops;
     slotted = closed.others.slotted;
     slots = λ a b. updates (a, b) ∙ rw (at_pair m o a b, closed.others.slots a b) refl;
@@ -53,6 +131,8 @@ method_added before draft m o n closed = record {
   others = record {
     counts = closed.others.counts;
     rows = closed.others.rows;
+    distinct = closed.others.distinct;
+    moved = closed.others.moved;
     drops = closed.others.drops;
     slotted = closed.others.slotted;
     slots = closed.others.slots;
@@ -65,6 +145,8 @@ silent_added before draft holds = record {
   others = record {
     counts = holds.others.counts;
     rows = holds.others.rows;
+    distinct = holds.others.distinct;
+    moved = holds.others.moved;
     drops = holds.others.drops;
     slotted = holds.others.slotted;
     slots = holds.others.slots;
@@ -90,11 +172,13 @@ run_unowned before draft run holds is =
     least other (run_early e h) = lit≤ tt
     least other (run_long e h) = lit≤ tt
 
-first_line : (before : List Line) (line other : MethodLine) (lines others : List MethodLine) → methods_of before ≡ line ∷ lines → methods_of before ≡ other ∷ others → other ≡ line
+first_line : (before : List Line) (line other : MethodLine) (lines others : List MethodLine) → methods_of before ≡ line ∷ lines
+    → methods_of before ≡ other ∷ others → other ≡ line
 first_line before line other lines others a b = let e : line ∷ lines ≡ other ∷ others = sym a ∙ b in cc
 
 -- a run that an open method took, or refused
-pub run_added : (before : List Line) (draft : Draft) (line taken : MethodLine) (run : Run) (result : Result (Unit {0}) Refusal) → Holds before draft → draft.current ≡ Some line
+pub run_added : (before : List Line) (draft : Draft) (line taken : MethodLine) (run : Run) (result : Result (Unit {0}) Refusal) → Holds before draft
+    → draft.current ≡ Some line
     → OnOk result (taken ≡ record line { runs = line.runs ++ run ∷ [] }) → OnOk result ((BeginsEarly run line.runs → ⊥) × (EndsBeyond run line → ⊥))
     → IfErr result (RefusesRun run line) → AddsLine before (Kept run) result (record draft { current = Some taken })
 run_added before draft line taken run result holds is added kept why =
@@ -111,6 +195,8 @@ run_added before draft line taken run result holds is added kept why =
         others = record {
           counts = holds.others.counts;
           rows = holds.others.rows;
+          distinct = holds.others.distinct;
+          moved = holds.others.moved;
           drops = holds.others.drops;
           slotted = holds.others.slotted;
           slots = holds.others.slots;
@@ -137,5 +223,6 @@ run_added before draft line taken run result holds is added kept why =
       where
         least : (other : Rule) → Breaks before other (Kept run) → 8 ≤ kind_of other
         least other (run_alone k) = absurd (follows h.3 k)
-        least other (run_early {line = early} e k) = absurd (w.1 (subst (λ (l : MethodLine). BeginsEarly run l.runs) (first_line before line early h.0 _ h.1 e) k))
+        least other (run_early {line = early} e k) = absurd
+            (w.1 (subst (λ (l : MethodLine). BeginsEarly run l.runs) (first_line before line early h.0 _ h.1 e) k))
         least other (run_long e k) = lit≤ tt

@@ -1,14 +1,15 @@
 -- Parts at a mark, the first line of a text and the words of a line.
-use Rattle.std.proofs.Common.{ℕ, zero, suc, ◌≡◌, ◌<◌, ◌≤◌, ◌+◌, ◌-◌, Bool, true, false, cond, List, [], ◌∷◌, Option, Some, None, length, take, drop, get_or, add-one, sym, ap, ◌∙◌, refl, subst, inl, inr, ◌⊎◌, arith, rules, Bor, MatchOption}
+use Rattle.std.proofs.Common.{ℕ, zero, suc, ◌≡◌, ◌<◌, ◌≤◌, ◌+◌, ◌-◌, Bool, true, false, List, [], ◌∷◌, Option, Some, None, length, take, drop, get_or}
+use Rattle.std.proofs.Common.{add-one, ap, ◌∙◌, refl, inl, inr, arith, Bor, MatchOption}
 use Rattle.std.specs.Prelude.{◌==◌, position}
-use Rattle.std.specs.List.{slice_split, onto_first, position_or_len}
+use Rattle.std.specs.List.{onto_first, position_or_len}
 use Rattle.std.specs.Str.Lines.{lines, lines_of_parts, strip_carriage_return}
 use Rattle.std.proofs.Math.Seq.{take-length}
 use Rattle.std.proofs.lemmas.List.{length-drop}
 use Rattle.std.proofs.lemmas.List.Quantifiers.{position-Some}
 use Rattle.std.proofs.lemmas.Bool.{cases_lt, lt-ltb, ne_eqb, false≢true}
 use Rattle.std.specs.Option.{is_some}
-use Rattle.ppdb_maps.specs.Words.{text_lines, parts_at, line_words}
+use Rattle.ppdb_maps.specs.Words.{parts_at}
 use Rattle.ppdb_maps.specs.Cuts.{IsLineOf}
 
 parts_at_place : (mark : ℕ) (xs : List ℕ) (i : ℕ) → i < length xs → (get_or xs i 0 == mark) ≡ true → ((k : ℕ) → k < i → (get_or xs k 0 == mark) ≡ false)
@@ -26,10 +27,14 @@ end_of_slice j xs = rw (← length-drop j xs) (take-length (drop j xs))
 
 -- the parts where the mark is found
 pub parts_found : (mark : ℕ) (xs : List ℕ) (i : ℕ) → position (λ b. b == mark) xs ≡ Some i
-    → (parts_at mark xs ≡ take i xs ∷ parts_at mark (take (length xs - (i + 1)) (drop (i + 1) xs))) × (length (take (length xs - (i + 1)) (drop (i + 1) xs)) < length xs)
+    → (parts_at mark xs ≡ take i xs ∷ parts_at mark (take (length xs - (i + 1)) (drop (i + 1) xs)))
+    × (length (take (length xs - (i + 1)) (drop (i + 1) xs)) < length xs)
 parts_found mark xs i found =
     let there = position-Some (λ b. b == mark) xs i 0 found in
-    rw (end_of_slice (i + 1) xs) (rw add-one (parts_at_place mark xs i there.0 there.1 there.2), (let h = length-drop (i + 1) xs in let within : i < length xs = there.0 in omega (arith, h, within)))
+    rw (end_of_slice (i + 1) xs) (
+      rw add-one (parts_at_place mark xs i there.0 there.1 there.2),
+      (let h = length-drop (i + 1) xs in let within : i < length xs = there.0 in omega (arith, h, within)),
+    )
 
 none_before : (mark : ℕ) (xs : List ℕ) → length xs ≤ position_or_len (λ b. b == mark) xs → parts_at mark xs ≡ xs ∷ []
 none_before mark [] far = refl
@@ -70,11 +75,13 @@ some_part mark (x ∷ xs) = of (x == mark) refl
     of false is = let o = onto (parts_at mark xs) in (o.0, (o.1.0, rw is o.1.1))
 
 -- the first line, where an LF ends it
-pub line_ended : (text line rest : List ℕ) → parts_at 10 text ≡ line ∷ parts_at 10 rest → length rest < length text → IsLineOf text (strip_carriage_return line) rest
+pub line_ended : (text line rest : List ℕ) → parts_at 10 text ≡ line ∷ parts_at 10 rest → length rest < length text
+    → IsLineOf text (strip_carriage_return line) rest
 line_ended [] line rest cut shorter = absurd (omega arith)
 line_ended (b ∷ bs) line rest cut shorter =
     let some = some_part 10 rest in
-    let lines_are : lines (b ∷ bs) ≡ strip_carriage_return line ∷ lines rest = ap lines_of_parts cut ∙ lines_after line (parts_at 10 rest) some.0 some.1.0 some.1.1 in
+    let lines_are : lines (b ∷ bs) ≡ strip_carriage_return line ∷ lines rest = ap lines_of_parts cut
+    ∙ lines_after line (parts_at 10 rest) some.0 some.1.0 some.1.1 in
     record { first = lines_are; shorter = λ _. shorter }
 
 some_length : (line bs : List ℕ) (b : ℕ) → b ∷ bs ≡ line → (length line == 0) ≡ false
@@ -88,7 +95,8 @@ line_last (b ∷ bs) line cut is =
     record { first = lines_are; shorter = λ _. omega arith }
 
 more_than_one : (r : Option (Bor (List ℕ))) (last word : List ℕ)
-    → MatchOption r ((word ≡ last) × (parts_at 32 last ≡ word ∷ [])) (λ rest. (parts_at 32 last ≡ word ∷ parts_at 32 rest.now) × (length rest.now < length last))
+    → MatchOption r ((word ≡ last) × (parts_at 32 last ≡ word ∷ []))
+    (λ rest. (parts_at 32 last ≡ word ∷ parts_at 32 rest.now) × (length rest.now < length last))
     → is_some r ≡ true → 1 < length (parts_at 32 last)
 more_than_one None last word cut some = absurd (false≢true some)
 more_than_one (Some rest) last word cut some =

@@ -1,20 +1,19 @@
 -- The lists of a map answer as the maps in which they were gathered.
-use Rattle.std.proofs.Common.{zero, suc, inl, inr, ◌⊎◌, ℕ, ◌≡◌, ◌<◌, ◌≤◌, ◌+◌, ◌&&◌, Bool, true, false, cond, List, [], ◌∷◌, Option, Some, None, Result, Ok, Err, length, map, refl, sym, ap, ◌∙◌, subst, arith, rules}
-use Rattle.std.specs.Prelude.{find, nat_eq, option_map, MatchResult, All}
+use Rattle.std.proofs.Common.{ℕ, ◌≡◌, ◌&&◌, Bool, true, false, List, [], ◌∷◌, Some, map, refl, sym, ap, ◌∙◌, subst, arith}
+use Rattle.std.specs.Prelude.{find, nat_eq, option_map, All}
 use Rattle.std.specs.List.{AllByRecursion, list_any}
-use Rattle.std.specs.List.Sorted.{IsStrictlySortedBy}
+use Rattle.std.specs.List.Sorted.{IsStrictlySortedBy, IsSortedByKey, IsPermutation}
 use Rattle.std.specs.Ordering.{nat_cmp}
 use Rattle.std.specs.Map.{lookup, keys_of, values_of}
 use Rattle.std.specs.BTreeMap.{BTreeMap, is_at, IsOrdered, get}
 use Rattle.std.specs.BTreeSet as sorted
-use Rattle.std.proofs.lemmas.Bool.{false≢true}
 use Rattle.std.proofs.lemmas.Bool.Decides.{nat_tests}
 use Rattle.std.proofs.lemmas.Cmp.{nat_cmp_total}
 use Rattle.std.proofs.lemmas.List.Elements.{All-head, All-tail}
 use Rattle.std.proofs.lemmas.Map.Views.{All-found, exact_unsigned_eq}
-use Rattle.ppdb_maps.specs.Map.{Map, MethodLine, Ascends, pair_cmp, count_of, row_line, method_line, is_dropped, has_slots, slot_line}
-use Rattle.ppdb_maps.specs.Gathered.{count_entry, row_entry, slot_entry}
-use Rattle.ppdb_maps.specs.Drafts.{IsClosed, HasLines}
+use Rattle.ppdb_maps.specs.Map.{Map, MethodLine, Ascends, pair_cmp}
+use Rattle.ppdb_maps.specs.Gathered.{count_entry, row_key, same_pair, slot_entry}
+use Rattle.ppdb_maps.specs.Drafts.{IsClosed}
 use Rattle.ppdb_maps.specs.Before.{methods_of}
 use Rattle.ppdb_maps.specs.Text.{HoldsWhat}
 use Rattle.ppdb_maps.specs.declared.entries.Count.{Count}
@@ -22,15 +21,19 @@ use Rattle.ppdb_maps.specs.declared.entries.RowImage.{RowImage}
 use Rattle.ppdb_maps.specs.declared.entries.SlotImage.{SlotImage}
 use Rattle.ppdb_maps.specs.declared.draft.Draft.{Draft}
 use Rattle.ppdb_maps.specs.declared.line.Line.{Line}
+use Rattle.ppdb_maps.proofs.OneMap.{pair_equal, pair_exact, pair_is, pair_total}
 use Rattle.ppdb_maps.proofs.Refusing.{at_number, at_pair}
+use Rattle.ppdb_maps.proofs.Sorting.{found_alike, sorts_strictly}
 
 -- what is found among the entries is what the map has
-found_entry : {K X A : Type 0} (make : K × X → A) (test : A → Bool) (value : A → X) (at : K → Bool) → ((e : K × X) → test (make e) ≡ at e.0) → ((e : K × X) → value (make e) ≡ e.1)
+found_entry : {K X A : Type 0} (make : K × X → A) (test : A → Bool) (value : A → X) (at : K → Bool) → ((e : K × X) → test (make e) ≡ at e.0)
+    → ((e : K × X) → value (make e) ≡ e.1)
     → (es : List (K × X)) → option_map value (find test (map make es)) ≡ lookup at es
 found_entry make test value at same gives [] = refl
 found_entry make test value at same gives (e ∷ es) = of (at e.0) refl (found_entry make test value at same gives es)
   where
-    of : (b : Bool) → at e.0 ≡ b → option_map value (find test (map make es)) ≡ lookup at es → option_map value (find test (map make (e ∷ es))) ≡ lookup at (e ∷ es)
+    of : (b : Bool) → at e.0 ≡ b → option_map value (find test (map make es)) ≡ lookup at es
+        → option_map value (find test (map make (e ∷ es))) ≡ lookup at (e ∷ es)
     of true is rest = rw (same e, is) (ap Some (gives e))
     of false is rest = rw (same e, is) rest
 
@@ -44,15 +47,15 @@ turned a b = grind (arith, nat_tests)
 turned_pair : (a b x y : ℕ) → (nat_eq a x && nat_eq b y) ≡ (nat_eq x a && nat_eq y b)
 turned_pair a b x y = rw (turned a x, turned b y) refl
 
-pub counts_found : (m : BTreeMap ℕ ℕ) (table : ℕ) → option_map (λ (c : Count). c.rows) (find (λ c. nat_eq c.table table) (map count_entry m.entries)) ≡ get nat_cmp m table
-counts_found m table = found_entry count_entry (λ (c : Count). nat_eq c.table table) (λ (c : Count). c.rows) (is_at (nat_cmp table)) (λ e. turned e.0 table ∙ sym (at_number table e.0)) (λ e. refl) m.entries
+pub counts_found : (m : BTreeMap ℕ ℕ) (table : ℕ)
+    → option_map (λ (c : Count). c.rows) (find (λ c. nat_eq c.table table) (map count_entry m.entries)) ≡ get nat_cmp m table
+counts_found m table = found_entry count_entry (λ (c : Count). nat_eq c.table table) (λ (c : Count). c.rows) (is_at (nat_cmp table))
+    (λ e. turned e.0 table ∙ sym (at_number table e.0)) (λ e. refl) m.entries
 
-pub rows_found : (m : BTreeMap (ℕ × ℕ) ℕ) (table old : ℕ) → option_map (λ (r : RowImage). r.new) (find (λ r. nat_eq r.table table && nat_eq r.old old) (map row_entry m.entries)) ≡ get pair_cmp m (table, old)
-rows_found m table old = found_entry row_entry (λ (r : RowImage). nat_eq r.table table && nat_eq r.old old) (λ (r : RowImage). r.new) (is_at (pair_cmp (table, old)))
-    (λ e. turned_pair e.0.0 e.0.1 table old ∙ sym (at_pair table old e.0.0 e.0.1)) (λ e. refl) m.entries
-
-pub slots_found : (m : BTreeMap (ℕ × ℕ) ℕ) (method old : ℕ) → option_map (λ (s : SlotImage). s.new) (find (λ s. nat_eq s.method method && nat_eq s.old old) (map slot_entry m.entries)) ≡ get pair_cmp m (method, old)
-slots_found m method old = found_entry slot_entry (λ (s : SlotImage). nat_eq s.method method && nat_eq s.old old) (λ (s : SlotImage). s.new) (is_at (pair_cmp (method, old)))
+pub slots_found : (m : BTreeMap (ℕ × ℕ) ℕ) (method old : ℕ)
+    → option_map (λ (s : SlotImage). s.new) (find (λ s. nat_eq s.method method && nat_eq s.old old) (map slot_entry m.entries)) ≡ get pair_cmp m (method, old)
+slots_found m method old = found_entry slot_entry (λ (s : SlotImage). nat_eq s.method method && nat_eq s.old old) (λ (s : SlotImage). s.new)
+    (is_at (pair_cmp (method, old)))
     (λ e. turned_pair e.0.0 e.0.1 method old ∙ sym (at_pair method old e.0.0 e.0.1)) (λ e. refl) m.entries
 
 -- a number is in a set by `nat_eq`
@@ -61,19 +64,21 @@ any_number n [] = refl
 any_number n (x ∷ xs) = rw (at_number n x, any_number n xs) refl
 
 -- a line that was found is at its number
-found_at_number : (lines : List MethodLine) (m : ℕ) (line : MethodLine) → find (λ l. nat_eq l.method m) lines ≡ Some line → line.method ≡ m
+pub found_at_number : (lines : List MethodLine) (m : ℕ) (line : MethodLine) → find (λ l. nat_eq l.method m) lines ≡ Some line → line.method ≡ m
 found_at_number [] m line is = cc
 found_at_number (l ∷ ls) m line is = of (nat_eq l.method m) refl (found_at_number ls m line)
   where
     of : (b : Bool) → nat_eq l.method m ≡ b → (find (λ x. nat_eq x.method m) ls ≡ Some line → line.method ≡ m) → line.method ≡ m
-    of true here rest = let e : Some l ≡ Some line = rw here at is in let f : l ≡ line = cc in subst (λ (x : MethodLine). x.method ≡ m) f (exact_unsigned_eq l.method m here)
+    of true here rest = let e : Some l ≡ Some line = rw here at is in let f : l ≡ line = cc in subst (λ (x : MethodLine). x.method ≡ m) f
+        (exact_unsigned_eq l.method m here)
     of false here rest = rest (rw here at is)
 
 -- each entry stands at its line's number
 abbrev Keyed : List (ℕ × MethodLine) → Type 0
 Keyed es = AllByRecursion (λ (e : ℕ × MethodLine). e.1.method ≡ e.0) es
 
-keyed_of : (lines : List MethodLine) (m : BTreeMap ℕ MethodLine) (es : List (ℕ × MethodLine)) → ((k : ℕ) → get nat_cmp m k ≡ find (λ l. nat_eq l.method k) lines)
+keyed_of : (lines : List MethodLine) (m : BTreeMap ℕ MethodLine) (es : List (ℕ × MethodLine))
+    → ((k : ℕ) → get nat_cmp m k ≡ find (λ l. nat_eq l.method k) lines)
     → All (λ e. get nat_cmp m e.0 ≡ Some e.1) es → Keyed es
 keyed_of lines m [] are all = tt
 keyed_of lines m (e ∷ es) are all = (
@@ -97,25 +102,31 @@ method_keys (e ∷ es) keyed = rw (keyed.0, method_keys es keyed.1) refl
 -- the lists that were made of a draft
 pub record MadeOf (draft : Draft) (made : Map) : Type 0 where
   pub counts : made.counts ≡ map count_entry draft.counts.entries
-  pub rows : made.rows ≡ map row_entry draft.rows.entries
+  pub rows : IsPermutation draft.rows.items made.rows
   pub methods : made.methods ≡ values_of draft.methods.entries
   pub drops : made.drops ≡ draft.drops.keys
   pub slotted : made.slotted ≡ draft.slotted.keys
   pub slots : made.slots ≡ map slot_entry draft.slots.entries
   pub counts_ordered : IsOrdered nat_cmp draft.counts
-  pub rows_ordered : IsOrdered pair_cmp draft.rows
+  pub rows_ordered : IsSortedByKey row_key pair_cmp made.rows
   pub methods_ordered : IsOrdered nat_cmp draft.methods
   pub drops_ordered : sorted.IsOrdered nat_cmp draft.drops
   pub slotted_ordered : sorted.IsOrdered nat_cmp draft.slotted
   pub slots_ordered : IsOrdered pair_cmp draft.slots
 
 keyed_draft : (before : List Line) (draft : Draft) → IsClosed before draft → IsOrdered nat_cmp draft.methods → Keyed draft.methods.entries
-keyed_draft before draft closed ordered = keyed_of (methods_of before) draft.methods draft.methods.entries closed.methods (All-found nat_cmp_total draft.methods ordered)
+keyed_draft before draft closed ordered = keyed_of (methods_of before) draft.methods draft.methods.entries closed.methods
+    (All-found nat_cmp_total draft.methods ordered)
+
+rows_ascend : (before : List Line) (draft : Draft) (made : Map) → IsClosed before draft → MadeOf draft made
+    → IsStrictlySortedBy pair_cmp (map row_key made.rows)
+rows_ascend before draft made closed h =
+    sorts_strictly row_key same_pair pair_cmp pair_equal pair_is pair_total pair_exact draft.rows.items made.rows closed.others.distinct h.rows h.rows_ordered
 
 pub made_ascends : (before : List Line) (draft : Draft) (made : Map) → IsClosed before draft → MadeOf draft made → Ascends made
 made_ascends before draft made closed h = record {
   counts = rw (h.counts, same_keys count_entry (λ (c : Count). c.table) (λ e. refl) draft.counts.entries) h.counts_ordered;
-  rows = rw (h.rows, same_keys row_entry (λ (r : RowImage). (r.table, r.old)) (λ e. refl) draft.rows.entries) h.rows_ordered;
+  rows = rows_ascend before draft made closed h;
   methods = rw (h.methods, method_keys draft.methods.entries (keyed_draft before draft closed h.methods_ordered)) h.methods_ordered;
   drops = rw h.drops h.drops_ordered;
   slotted = rw h.slotted h.slotted_ordered;
@@ -125,14 +136,14 @@ made_ascends before draft made closed h = record {
 pub made_holds : (before : List Line) (draft : Draft) (made : Map) → IsClosed before draft → MadeOf draft made → HoldsWhat before made
 made_holds before draft made closed h = record {
   counts = λ table. rw h.counts (counts_found draft.counts table ∙ closed.others.counts table);
-  rows = λ table old. rw h.rows (rows_found draft.rows table old ∙ closed.others.rows table old);
+  rows = λ table old.
+      ap (option_map (λ (r : RowImage). r.new))
+      (found_alike row_key same_pair pair_cmp pair_equal pair_is pair_total pair_exact draft.rows.items made.rows h.rows
+      (rows_ascend before draft made closed h) (table, old))
+      ∙ closed.others.rows table old;
   methods = λ method. rw h.methods (method_found draft.methods.entries method (keyed_draft before draft closed h.methods_ordered) ∙ closed.methods method);
   drops = λ method. rw h.drops (any_number method draft.drops.keys ∙ closed.others.drops method);
   slotted = λ method. rw h.slotted (any_number method draft.slotted.keys ∙ closed.others.slotted method);
   slots = λ method old. rw h.slots (slots_found draft.slots method old ∙ closed.others.slots method old);
   ascends = made_ascends before draft made closed h;
 }
-
-pub empty_ascends : (made : Map) → made.counts ≡ [] → made.rows ≡ [] → made.methods ≡ [] → made.drops ≡ [] → made.slotted ≡ [] → made.slots ≡ [] → Ascends made
-unfolding IsStrictlySortedBy
-empty_ascends made a b d e f g = record { counts = rw a tt; rows = rw b tt; methods = rw d tt; drops = rw e tt; slotted = rw f tt; slots = rw g tt }

@@ -1,10 +1,11 @@
 -- What a list in order has at the place before which its keys are less.
-use Rattle.std.proofs.Common.{zero, suc, inl, inr, ◌⊎◌, ℕ, ◌≡◌, ◌<◌, ◌≤◌, ◌+◌, ◌&&◌, ◌||◌, Bool, true, false, cond, List, [], ◌∷◌, Option, Some, None, length, map, Bor, refl, sym, ap, ◌∙◌, subst, arith, rules}
+use Rattle.std.proofs.Common.{zero, suc, inl, inr, ℕ, ◌≡◌, ◌<◌, ◌≤◌, ◌+◌, ◌&&◌, ◌||◌, Bool, true, false, cond, List, [], ◌∷◌, Option, Some, None, length, map}
+use Rattle.std.proofs.Common.{Bor, refl, sym, ap, ◌∙◌, subst, arith}
 use Rattle.std.specs.Prelude.{slice_get, slice_index_or, find, filter, nat_eq, nat_lt}
-use Rattle.std.specs.List.{AllByRecursion, AllWithin, list_any}
+use Rattle.std.specs.List.{AllByRecursion, list_any}
 use Rattle.std.specs.Cmp.{IsTotalOrder}
 use Rattle.std.specs.List.Sorted.{IsStrictlySortedBy, IsPartitionedBy, IsPartitionPoint}
-use Rattle.std.specs.Ordering.{nat_cmp, is_lt, is_eq, ordering_then}
+use Rattle.std.specs.Ordering.{nat_cmp, is_lt}
 use Rattle.std.specs.declared.cmp.Ordering.{Ordering}
 use Rattle.std.specs.declared.cmp.Ordering.TheVariants.{Less, Equal, Greater}
 use Rattle.std.proofs.lemmas.Bool.{false≢true, cases_lt, le-ltb, lt-ltb, ne_eqb, eq-eqb, ltb-true, ltb-false}
@@ -13,8 +14,8 @@ use Rattle.std.proofs.lemmas.Map.Views.{exact_unsigned_eq}
 use Rattle.ppdb_maps.specs.Map.{pair_cmp}
 use Rattle.std.specs.Option.{option_copied}
 use Rattle.std.specs.Slice.{IsItemAt}
-use Rattle.std.specs.Prelude.{is_some, option_map}
-use Rattle.ppdb_maps.specs.Search.{Parted, Grouped, lent}
+use Rattle.std.specs.Prelude.{is_some}
+use Rattle.ppdb_maps.specs.Search.{Parted, Grouped}
 use Rattle.std.proofs.lemmas.Option.{slice_get_past}
 use Rattle.ppdb_maps.proofs.Searching.{item_copied}
 use Rattle.std.proofs.lemmas.Bool.Decides.{nat_tests}
@@ -25,7 +26,8 @@ if_passes test None = None
 if_passes test (Some x) = cond (test x) (Some x) None
 
 module _ {A : Type 0} (before at : A → Bool) where
-  none_there : (x : A) (xs : List A) → before x ≡ false → AllByRecursion (λ y. (at y ≡ true → before x ≡ true) × (before y ≡ true → before x ≡ true)) xs → find at xs ≡ None
+  none_there : (x : A) (xs : List A) → before x ≡ false → AllByRecursion (λ y. (at y ≡ true → before x ≡ true) × (before y ≡ true → before x ≡ true)) xs
+      → find at xs ≡ None
   none_there x [] later all = refl
   none_there x (y ∷ ys) later all = of (at y) refl (none_there x ys later all.1)
     where
@@ -33,7 +35,8 @@ module _ {A : Type 0} (before at : A → Bool) where
       of true is rest = absurd (false≢true (sym later ∙ all.0.0 is))
       of false is rest = rw (is, rest) refl
 
-  all_at : (x : A) (ys : List A) (k : ℕ) (d : A) → AllByRecursion (λ y. (at y ≡ true → before x ≡ true) × (before y ≡ true → before x ≡ true)) ys → k < length ys
+  all_at : (x : A) (ys : List A) (k : ℕ) (d : A) → AllByRecursion (λ y. (at y ≡ true → before x ≡ true) × (before y ≡ true → before x ≡ true)) ys
+      → k < length ys
       → before (slice_index_or ys k d) ≡ true → before x ≡ true
   all_at x [] k d all within = absurd (omega arith)
   all_at x (y ∷ ys) zero d all within = all.0.1
@@ -48,7 +51,8 @@ module _ {A : Type 0} (before at : A → Bool) where
 
   -- what is found stands at the place before which all items are before the key
   pub found_there : (xs : List A) (i : ℕ) → Parted before at xs
-      → ((k : ℕ) (d : A) → k < i → k < length xs → before (slice_index_or xs k d) ≡ true) → ((k : ℕ) (d : A) → i ≤ k → k < length xs → before (slice_index_or xs k d) ≡ false)
+      → ((k : ℕ) (d : A) → k < i → k < length xs → before (slice_index_or xs k d) ≡ true)
+      → ((k : ℕ) (d : A) → i ≤ k → k < length xs → before (slice_index_or xs k d) ≡ false)
       → find at xs ≡ if_passes at (slice_get xs i)
   found_there [] i parted less more = refl
   found_there (x ∷ xs) zero parted less more =
@@ -56,7 +60,9 @@ module _ {A : Type 0} (before at : A → Bool) where
       rw (none_there x xs later parted.1) refl
   found_there (x ∷ xs) (suc i) parted less more =
       let here : before x ≡ true = less 0 x (omega arith) (omega arith) in
-      step (at x) refl here (found_there xs i parted.2 (λ k d lt within. less (suc k) d (omega arith) (omega arith)) (λ k d le within. more (suc k) d (omega arith) (omega arith)))
+      step (at x) refl here
+      (found_there xs i parted.2 (λ k d lt within. less (suc k) d (omega arith) (omega arith))
+      (λ k d le within. more (suc k) d (omega arith) (omega arith)))
     where
       step : (b : Bool) → at x ≡ b → before x ≡ true → find at xs ≡ if_passes at (slice_get xs i) → find at (x ∷ xs) ≡ if_passes at (slice_get xs i)
       step true is here rest = absurd (false≢true (sym (parted.0 is) ∙ here))
@@ -73,7 +79,8 @@ module _ {A K : Type 0} {R : K → K → Ordering} (o : IsTotalOrder R) (key : A
   less_is : (x : K) → R x k ≡ Less → is_lt (R x k) ≡ true
   less_is x less = rw less refl
 
-  all_less : (x : A) (xs : List A) → AllByRecursion (λ y. R (key x) y ≡ Less) (map key xs) → AllByRecursion (λ y. (at y ≡ true → before x ≡ true) × (before y ≡ true → before x ≡ true)) xs
+  all_less : (x : A) (xs : List A) → AllByRecursion (λ y. R (key x) y ≡ Less) (map key xs)
+      → AllByRecursion (λ y. (at y ≡ true → before x ≡ true) × (before y ≡ true → before x ≡ true)) xs
   all_less x [] all = tt
   all_less x (y ∷ ys) all = (
     (
@@ -95,10 +102,12 @@ pub found_lent : {A : Type 0} (before at : A → Bool) (xs : List A) (i : ℕ) (
     → find at xs ≡ if_passes at (option_copied r)
 found_lent before at xs i r item parted_list point =
     let p = point (partitioned before at xs parted_list) in
-    found_there before at xs i parted_list (λ k d lt within. p.0 k d (omega arith) lt) (λ k d le within. p.1 k d le within) ∙ ap (if_passes at) (sym (item_copied xs i r item))
+    found_there before at xs i parted_list (λ k d lt within. p.0 k d (omega arith) lt) (λ k d le within. p.1 k d le within)
+    ∙ ap (if_passes at) (sym (item_copied xs i r item))
 
 -- a list that ascends by a number, and one that ascends by two
-pub by_number : {A : Type 0} (key : A → ℕ) (k : ℕ) (xs : List A) → IsStrictlySortedBy nat_cmp (map key xs) → Parted (λ x. nat_lt (key x) k) (λ x. nat_eq (key x) k) xs
+pub by_number : {A : Type 0} (key : A → ℕ) (k : ℕ) (xs : List A) → IsStrictlySortedBy nat_cmp (map key xs)
+    → Parted (λ x. nat_lt (key x) k) (λ x. nat_eq (key x) k) xs
 by_number {A} key k xs rise =
     parted nat_cmp_total key k (λ x. nat_lt (key x) k) (λ x. nat_eq (key x) k) (λ x. below (key x) k) (λ x is. exact_unsigned_eq (key x) k is) xs rise
   where
@@ -108,7 +117,8 @@ by_number {A} key k xs rise =
 pub by_pair : {A : Type 0} (first second : A → ℕ) (a b : ℕ) (xs : List A) → IsStrictlySortedBy pair_cmp (map (λ x. (first x, second x)) xs)
     → Parted (λ x. nat_lt (first x) a || (nat_eq (first x) a && nat_lt (second x) b)) (λ x. nat_eq (first x) a && nat_eq (second x) b) xs
 by_pair {A} first second a b xs rise =
-    parted pair_cmp_total (λ x. (first x, second x)) (a, b) (λ x. nat_lt (first x) a || (nat_eq (first x) a && nat_lt (second x) b)) (λ x. nat_eq (first x) a && nat_eq (second x) b)
+    parted pair_cmp_total (λ x. (first x, second x)) (a, b) (λ x. nat_lt (first x) a || (nat_eq (first x) a && nat_lt (second x) b))
+    (λ x. nat_eq (first x) a && nat_eq (second x) b)
     (λ x. below (first x) (second x) a b) (λ x is. same (first x) (second x) is) xs rise
   where
     pair_cmp_total : IsTotalOrder pair_cmp
@@ -139,11 +149,12 @@ any_found n (x ∷ xs) = of (nat_eq x n) refl (any_found n xs)
     turned : nat_eq n x ≡ nat_eq x n
     turned = grind (arith, nat_tests)
 
-    of : (b : Bool) → nat_eq x n ≡ b → is_some (find (λ y. nat_eq y n) xs) ≡ list_any (nat_eq n) xs → is_some (find (λ y. nat_eq y n) (x ∷ xs)) ≡ list_any (nat_eq n) (x ∷ xs)
+    of : (b : Bool) → nat_eq x n ≡ b → is_some (find (λ y. nat_eq y n) xs) ≡ list_any (nat_eq n) xs
+        → is_some (find (λ y. nat_eq y n) (x ∷ xs)) ≡ list_any (nat_eq n) (x ∷ xs)
     of true is rest = rw (turned, is) refl
     of false is rest = rw (turned, is) rest
 
-pub some_lent : {A : Type 0} (r : Option (Bor A)) → is_some (option_map (lent {A = A}) r) ≡ is_some r
+pub some_lent : {A : Type 0} (r : Option (Bor A)) → is_some (option_copied r) ≡ is_some r
 some_lent None = refl
 some_lent (Some x) = refl
 
@@ -151,27 +162,32 @@ some_lent (Some x) = refl
 
 module _ {A : Type 0} (before at : A → Bool) where
   -- nothing after an item that is neither before the key nor at it is at it
-  rest_apart : (x : A) (xs : List A) → before x ≡ false → at x ≡ false → AllByRecursion (λ y. (before y ≡ true → before x ≡ true) × (at y ≡ true → before x ≡ false → at x ≡ true)) xs
+  rest_apart : (x : A) (xs : List A) → before x ≡ false → at x ≡ false
+      → AllByRecursion (λ y. (before y ≡ true → before x ≡ true) × (at y ≡ true → before x ≡ false → at x ≡ true)) xs
       → (n : ℕ) → (filter at xs ≡ []) × (if_passes at (slice_get xs n) ≡ None)
   rest_apart x [] later other all n = (refl, refl)
   rest_apart x (y ∷ ys) later other all n = of (at y) refl (λ m. rest_apart x ys later other all.1 m) n
     where
-      of : (b : Bool) → at y ≡ b → ((m : ℕ) → (filter at ys ≡ []) × (if_passes at (slice_get ys m) ≡ None)) → (n : ℕ) → (filter at (y ∷ ys) ≡ []) × (if_passes at (slice_get (y ∷ ys) n) ≡ None)
+      of : (b : Bool) → at y ≡ b → ((m : ℕ) → (filter at ys ≡ []) × (if_passes at (slice_get ys m) ≡ None)) → (n : ℕ) → (filter at (y ∷ ys) ≡ [])
+          × (if_passes at (slice_get (y ∷ ys) n) ≡ None)
       of true is rest n = absurd (false≢true (sym other ∙ all.0.1 is later))
       of false is rest zero = (rw is (rest 0).0, rw is refl)
       of false is rest (suc n) = (rw is (rest n).0, (rest n).1)
 
   -- the items at the key stand in a row from the place before which all items are before it
   pub nth_there : (xs : List A) (i n j : ℕ) → j ≡ i + n → Grouped before at xs
-      → ((k : ℕ) (d : A) → k < i → k < length xs → before (slice_index_or xs k d) ≡ true) → ((k : ℕ) (d : A) → i ≤ k → k < length xs → before (slice_index_or xs k d) ≡ false)
+      → ((k : ℕ) (d : A) → k < i → k < length xs → before (slice_index_or xs k d) ≡ true)
+      → ((k : ℕ) (d : A) → i ≤ k → k < length xs → before (slice_index_or xs k d) ≡ false)
       → slice_get (filter at xs) n ≡ if_passes at (slice_get xs j)
   nth_there [] i n j sum grouped less more = refl
   nth_there (x ∷ xs) (suc i) n zero sum grouped less more = absurd (omega arith)
   nth_there (x ∷ xs) (suc i) n (suc j) sum grouped less more =
       step (at x) refl (less 0 x (omega arith) (omega arith))
-      (nth_there xs i n j (omega arith) grouped.2 (λ k d lt within. less (suc k) d (omega arith) (omega arith)) (λ k d le within. more (suc k) d (omega arith) (omega arith)))
+      (nth_there xs i n j (omega arith) grouped.2 (λ k d lt within. less (suc k) d (omega arith) (omega arith))
+      (λ k d le within. more (suc k) d (omega arith) (omega arith)))
     where
-      step : (b : Bool) → at x ≡ b → before x ≡ true → slice_get (filter at xs) n ≡ if_passes at (slice_get xs j) → slice_get (filter at (x ∷ xs)) n ≡ if_passes at (slice_get xs j)
+      step : (b : Bool) → at x ≡ b → before x ≡ true → slice_get (filter at xs) n ≡ if_passes at (slice_get xs j)
+          → slice_get (filter at (x ∷ xs)) n ≡ if_passes at (slice_get xs j)
       step true is here rest = absurd (false≢true (sym (grouped.0 is) ∙ here))
       step false is here rest = rw is rest
   nth_there (x ∷ xs) zero zero zero sum grouped less more = step (at x) refl (more 0 x (omega arith) (omega arith))
@@ -185,7 +201,8 @@ module _ {A : Type 0} (before at : A → Bool) where
       step (at x) refl (more 0 x (omega arith) (omega arith))
       (nth_there xs 0 n j (omega arith) grouped.2 (λ k d lt within. absurd (omega arith)) (λ k d le within. more (suc k) d (omega arith) (omega arith)))
     where
-      step : (b : Bool) → at x ≡ b → before x ≡ false → slice_get (filter at xs) n ≡ if_passes at (slice_get xs j) → slice_get (filter at (x ∷ xs)) (suc n) ≡ if_passes at (slice_get xs j)
+      step : (b : Bool) → at x ≡ b → before x ≡ false → slice_get (filter at xs) n ≡ if_passes at (slice_get xs j)
+          → slice_get (filter at (x ∷ xs)) (suc n) ≡ if_passes at (slice_get xs j)
       step true is later rest = rw is rest
       step false is later rest = let h = rest_apart x xs later is grouped.1 j in rw (is, h.0) (sym h.1)
 
@@ -194,7 +211,8 @@ module _ {A : Type 0} (before at : A → Bool) where
   grouped_by (x ∷ xs) grouped zero zero d le within is = is
   grouped_by (x ∷ xs) grouped zero (suc j) d le within is = all_before x xs j d grouped.1 (omega arith) is
     where
-      all_before : (x : A) (ys : List A) (k : ℕ) (d : A) → AllByRecursion (λ y. (before y ≡ true → before x ≡ true) × (at y ≡ true → before x ≡ false → at x ≡ true)) ys → k < length ys
+      all_before : (x : A) (ys : List A) (k : ℕ) (d : A)
+          → AllByRecursion (λ y. (before y ≡ true → before x ≡ true) × (at y ≡ true → before x ≡ false → at x ≡ true)) ys → k < length ys
           → before (slice_index_or ys k d) ≡ true → before x ≡ true
       all_before x [] k d all within = absurd (omega arith)
       all_before x (y ∷ ys) zero d all within = all.0.0
@@ -203,12 +221,14 @@ module _ {A : Type 0} (before at : A → Bool) where
   grouped_by (x ∷ xs) grouped (suc i) (suc j) d le within is = grouped_by xs grouped.2 i j d (omega arith) (omega arith) is
 
 -- the same of an item that `get` lends
-pub nth_lent : {A : Type 0} (before at : A → Bool) (xs : List A) (i n place : ℕ) (r : Option (Bor A)) → place ≡ i + n → IsItemAt xs place r → Grouped before at xs
+pub nth_lent : {A : Type 0} (before at : A → Bool) (xs : List A) (i n place : ℕ) (r : Option (Bor A)) → place ≡ i + n → IsItemAt xs place r
+    → Grouped before at xs
     → (IsPartitionedBy before xs → IsPartitionPoint (λ y. before y ≡ true) (λ y. before y ≡ false) xs i)
     → slice_get (filter at xs) n ≡ if_passes at (option_copied r)
 nth_lent before at xs i n place r is item grouped point =
     let p = point (grouped_by before at xs grouped) in
-    nth_there before at xs i n place is grouped (λ k d lt within. p.0 k d (omega arith) lt) (λ k d le within. p.1 k d le within) ∙ ap (if_passes at) (sym (item_copied xs place r item))
+    nth_there before at xs i n place is grouped (λ k d lt within. p.0 k d (omega arith) lt) (λ k d le within. p.1 k d le within)
+    ∙ ap (if_passes at) (sym (item_copied xs place r item))
 
 -- there is none past the end of the list
 pub nth_past : {A : Type 0} (before at : A → Bool) (xs : List A) (i n : ℕ) → length xs ≤ i + n → Grouped before at xs
@@ -216,7 +236,8 @@ pub nth_past : {A : Type 0} (before at : A → Bool) (xs : List A) (i n : ℕ) �
     → slice_get (filter at xs) n ≡ None
 nth_past before at xs i n past grouped point =
     let p = point (grouped_by before at xs grouped) in
-    nth_there before at xs i n (i + n) refl grouped (λ k d lt within. p.0 k d (omega arith) lt) (λ k d le within. p.1 k d le within) ∙ ap (if_passes at) (slice_get_past xs (i + n) past)
+    nth_there before at xs i n (i + n) refl grouped (λ k d lt within. p.0 k d (omega arith) lt) (λ k d le within. p.1 k d le within)
+    ∙ ap (if_passes at) (slice_get_past xs (i + n) past)
 
 -- a list that ascends by two numbers has the items of a first number next to each other
 pub by_first : {A : Type 0} (first second : A → ℕ) (a : ℕ) (xs : List A) → IsStrictlySortedBy pair_cmp (map (λ x. (first x, second x)) xs)
@@ -235,7 +256,8 @@ by_first {A} first second a (x ∷ xs) rise = ((λ is. apart (first x) is), late
         clash x y u v above less = let e : Greater ≡ Less = rw (le-ltb x y (omega (arith, above)), ne_eqb x y (λ e. omega (arith, above, e))) at less in cc
 
     later : (x : A) (ys : List A) → AllByRecursion (λ p. pair_cmp (first x, second x) p ≡ Less) (map (λ y. (first y, second y)) ys)
-        → AllByRecursion (λ y. (nat_lt (first y) a ≡ true → nat_lt (first x) a ≡ true) × (nat_eq (first y) a ≡ true → nat_lt (first x) a ≡ false → nat_eq (first x) a ≡ true)) ys
+        → AllByRecursion (λ y. (nat_lt (first y) a ≡ true → nat_lt (first x) a ≡ true)
+        × (nat_eq (first y) a ≡ true → nat_lt (first x) a ≡ false → nat_eq (first x) a ≡ true)) ys
     later x [] all = tt
     later x (y ∷ ys) all =
         let le = not_above (first x) (first y) (second x) (second y) all.0 in (

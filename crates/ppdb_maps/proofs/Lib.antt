@@ -9,3 +9,11 @@ pub mod Adding
 pub mod Halving
 pub mod Finishing
 pub mod Looping
+pub mod Sorting
+pub mod Bits
+pub mod Refusals
+pub mod Readable
+pub mod OneMap
+pub mod OneList
+pub mod OneReading
+pub mod InRange

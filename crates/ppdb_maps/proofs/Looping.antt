@@ -1,18 +1,17 @@
 -- Lines that are read one after another.
-use Rattle.std.proofs.Common.{zero, suc, ℕ, ◌≡◌, ◌<◌, ◌≤◌, ◌+◌, ◌++◌, List, [], ◌∷◌, Option, Some, None, Result, Ok, Err, length, append_assoc, append-nil, length-append, refl, sym, ap, ◌∙◌, subst, arith, rules}
+use Rattle.std.proofs.Common.{ℕ, ◌≡◌, ◌<◌, ◌+◌, ◌++◌, List, [], ◌∷◌, Result, Ok, Err, length, append_assoc, append-nil, length-append, refl, sym, ap, ◌∙◌}
+use Rattle.std.proofs.Common.{subst, arith}
 use Rattle.std.specs.Prelude.{MatchResult}
 use Rattle.std.specs.Str.Lines.{lines}
-use Rattle.ppdb_maps.specs.Words.{text_lines}
 use Rattle.ppdb_maps.specs.Forms.{Tells, Values, silent, told, run_line, rows_line, row_line, method_line, drop_line, slots_line, slot_line, IsHead}
 use Rattle.ppdb_maps.specs.Cuts.{IsLineOf}
-use Rattle.ppdb_maps.specs.Rules.{Breaks, BreaksLine, BreaksFirst, Keeps, kind_of, by_lines}
+use Rattle.ppdb_maps.specs.Rules.{by_lines}
 use Rattle.ppdb_maps.specs.Text.{Read, start, further, Refused, at_line, at_head}
 use Rattle.ppdb_maps.specs.Drafts.{Holds, AddsLine, HasLength}
-use Rattle.ppdb_maps.specs.Loops.{TextAdded, TextRefused, IsTextAdded, IsAt, ReadWhole, RefusedLine, RefusedIn, RefusedAs}
+use Rattle.ppdb_maps.specs.Loops.{TextAdded, TextRefused, IsAt, ReadWhole, RefusedIn, RefusedAs}
 use Rattle.ppdb_maps.specs.declared.draft.Draft.{Draft}
 use Rattle.ppdb_maps.specs.declared.line.Form.{Form}
 use Rattle.ppdb_maps.specs.declared.line.Line.{Line}
-use Rattle.ppdb_maps.specs.declared.rule.Rule.{Rule}
 use Rattle.ppdb_maps.specs.declared.refusal.Refusal.{Refusal}
 use Rattle.ppdb_maps.specs.declared.refusal.Refusal.TheVariants.{Breaks as refused, Memory as no_memory}
 use Rattle.ppdb_maps.specs.declared.refusal.MapError.{MapError}
@@ -60,17 +59,21 @@ first_of (b ∷ bs) line rest some is = is.first
 
 -- what reading one more line answers
 abbrev pub Added : ℕ → List ℕ → Draft → Result (Unit {0}) Refusal → Draft → Type 0
-Added version text old result new = (before : List Line) → Holds before old → MatchResult result (λ _. TextAdded version before text new) (TextRefused version before text)
+Added version text old result new = (before : List Line) → Holds before old
+    → MatchResult result (λ _. TextAdded version before text new) (TextRefused version before text)
 
 added_ok : (version : ℕ) (before : List Line) (text : List ℕ) (new : Draft) (result : Result (Unit {0}) Refusal) (u : Unit {0}) → result ≡ Ok u
     → MatchResult result (λ _. TextAdded version before text new) (TextRefused version before text) → TextAdded version before text new
-added_ok version before text new result u is h = subst (λ (r : Result (Unit {0}) Refusal). MatchResult r (λ _. TextAdded version before text new) (TextRefused version before text)) is h
+added_ok version before text new result u is h = subst
+    (λ (r : Result (Unit {0}) Refusal). MatchResult r (λ _. TextAdded version before text new) (TextRefused version before text)) is h
 
 added_err : (version : ℕ) (before : List Line) (text : List ℕ) (new : Draft) (result : Result (Unit {0}) Refusal) (why : Refusal) → result ≡ Err why
     → MatchResult result (λ _. TextAdded version before text new) (TextRefused version before text) → TextRefused version before text why
-added_err version before text new result why is h = subst (λ (r : Result (Unit {0}) Refusal). MatchResult r (λ _. TextAdded version before text new) (TextRefused version before text)) is h
+added_err version before text new result why is h = subst
+    (λ (r : Result (Unit {0}) Refusal). MatchResult r (λ _. TextAdded version before text new) (TextRefused version before text)) is h
 
-pub so_far_more : (version : ℕ) (all : List (List ℕ)) (rest line others : List ℕ) (number : ℕ) (old new : Draft) (result : Result (Unit {0}) Refusal) (u : Unit {0})
+pub so_far_more : (version : ℕ) (all : List (List ℕ)) (rest line others : List ℕ) (number : ℕ) (old new : Draft) (result : Result (Unit {0}) Refusal)
+    (u : Unit {0})
     → SoFar version all (lines rest) number old → 0 < length rest → IsLineOf rest line others → Added version line old result new → result ≡ Ok u
     → SoFar version all (lines others) (number + 1) new
 so_far_more version all rest line others number old new result u so some first added is =
@@ -79,14 +82,17 @@ so_far_more version all rest line others number old new result u so some first a
     record {
       front = so.front ++ line ∷ [];
       said = more.line ∷ so.said;
-      cut = so.cut ∙ (ap (λ (ls : List (List ℕ)). so.front ++ ls) (first_of rest line others some first) ∙ sym (append_assoc so.front (line ∷ []) (lines others)));
+      cut = so.cut ∙ (ap (λ (ls : List (List ℕ)). so.front ++ ls) (first_of rest line others some first)
+          ∙ sym (append_assoc so.front (line ∷ []) (lines others)));
       read = further so.read more.tells more.keeps;
       holds = more.holds;
       at = let e = length-append so.front (line ∷ []) in omega (arith, at, e);
     }
 
-pub so_far_refused : (version : ℕ) (all : List (List ℕ)) (rest line others : List ℕ) (number : ℕ) (old new : Draft) (result : Result (Unit {0}) Refusal) (why : Refusal) (e : MapError)
-    → SoFar version all (lines rest) number old → 0 < length rest → IsLineOf rest line others → Added version line old result new → result ≡ Err why → IsAt number why e
+pub so_far_refused : (version : ℕ) (all : List (List ℕ)) (rest line others : List ℕ) (number : ℕ) (old new : Draft) (result : Result (Unit {0}) Refusal)
+    (why : Refusal) (e : MapError)
+    → SoFar version all (lines rest) number old → 0 < length rest → IsLineOf rest line others → Added version line old result new → result ≡ Err why
+    → IsAt number why e
     → RefusedIn version all e
 so_far_refused version all rest line others number old new result why e so some first added is at =
     of why e (added_err version so.said line new result why is (added so.said so.holds)) at
@@ -108,13 +114,15 @@ so_far_refused version all rest line others number old new result why e so some 
           is = refl;
         })
 
-pub whole : (version : ℕ) (all : List (List ℕ)) (rest : List ℕ) (number : ℕ) (draft : Draft) → rest ≡ [] → SoFar version all (lines rest) number draft → ReadWhole version all draft
+pub whole : (version : ℕ) (all : List (List ℕ)) (rest : List ℕ) (number : ℕ) (draft : Draft) → rest ≡ [] → SoFar version all (lines rest) number draft
+    → ReadWhole version all draft
 whole version all rest number draft empty so =
     let e : so.front ≡ all = sym (so.cut ∙ (ap (λ (t : List ℕ). so.front ++ lines t) empty ∙ append-nil so.front)) in
     record { said = so.said; read = subst (λ (ls : List (List ℕ)). Read version ls so.said) e so.read; holds = so.holds }
 
 -- the text's refused line
-pub refused_as : (text head rest : List ℕ) (version : ℕ) (e : MapError) → IsLineOf text head rest → IsHead head version → RefusedIn version (lines rest) e → RefusedAs text e
+pub refused_as : (text head rest : List ℕ) (version : ℕ) (e : MapError) → IsLineOf text head rest → IsHead head version → RefusedIn version (lines rest) e
+    → RefusedAs text e
 refused_as text head rest version (refused_line line kind) first begins r =
     subst (λ l. Refused text l kind) (sym r.at) (subst (λ k. Refused text (length r.front + 2) k) (sym r.is)
     (at_line r.back (first.first ∙ ap (λ (ls : List (List ℕ)). head ∷ ls) r.cut) begins r.read r.breaks))

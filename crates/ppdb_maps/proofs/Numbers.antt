@@ -1,12 +1,12 @@
 -- How decimal numbers below 2^32 are spelled, and what a table's two digits say.
-use Rattle.std.proofs.Common.{zero, suc, ◌≡◌, ℕ, ◌+◌, ◌*◌, ◌<◌, ◌≤◌, ◌^◌, ◌≢◌, ◌⊎◌, List, [], ◌∷◌, length, take, get_or, sym, ap, subst, inl, inr, arith, rules, Result, Ok, Err, IfSome, IfNone}
+use Rattle.std.proofs.Common.{zero, suc, ◌≡◌, ℕ, ◌<◌, ◌≤◌, ◌^◌, ◌≢◌, List, [], ◌∷◌, length, get_or, sym, ap, subst, inl, inr, arith, Result, Ok, Err, IfSome}
+use Rattle.std.proofs.Common.{IfNone}
 use Rattle.std.specs.Fmt.{decimal}
 use Rattle.std.specs.Result.{result_ok, OkIff}
-use Rattle.std.specs.Int.{IsInRange}
-use Rattle.std.specs.Char.{digit_value}
 use Rattle.std.specs.Str.Parse.{AllDigits, digits_value}
 use Rattle.std.proofs.lemmas.Str.Parse.{IsNumeralModel, numerals_by_value, tells_digits, digits_value_short}
-use Rattle.std.proofs.lemmas.Fmt.{digits_decimal, digits_value-decimal, length-decimal-le, decimal_nonempty, first_decimal, decimal_digit, decimal-digits_value, decimal_injective}
+use Rattle.std.proofs.lemmas.Fmt.{digits_decimal, digits_value-decimal, length-decimal-le, decimal_nonempty, first_decimal, decimal_digit}
+use Rattle.std.proofs.lemmas.Fmt.{decimal-digits_value, decimal_injective}
 use Rattle.ppdb_maps.specs.Spelling.{MaySpell}
 use Rattle.ppdb_maps.specs.Forms.{IsNumber, IsHexDigit, IsTable}
 
@@ -85,7 +85,8 @@ one_table word m n a b =
     omega (arith, a.is, b.is, high, low)
 
 -- what `try_from` and `ok` answer of a number that a word spells
-pub spelled_or_none : {E : Type 0} (r : Result ℕ E) (v : ℕ) (word : List ℕ) → OkIff r (v < 2 ^ 32) v → word ≡ decimal v → IfSome (result_ok r) (λ n. word ≡ decimal n)
+pub spelled_or_none : {E : Type 0} (r : Result ℕ E) (v : ℕ) (word : List ℕ) → OkIff r (v < 2 ^ 32) v → word ≡ decimal v
+    → IfSome (result_ok r) (λ n. word ≡ decimal n)
 spelled_or_none (Ok n) v word is spelled = subst (λ k. word ≡ decimal k) (sym is.1) spelled
 spelled_or_none (Err e) v word is spelled = tt
 

@@ -1,19 +1,20 @@
 -- Which rules a line breaks, by what the lines before it say.
-use Rattle.std.proofs.Common.{inl, inr, ◌⊎◌, ℕ, ◌≡◌, ◌<◌, ◌≤◌, ◌&&◌, Bool, true, false, cond, List, [], ◌∷◌, Option, Some, None, lit≤, refl, sym, ap, ◌∙◌, subst, arith, rules}
+use Rattle.std.proofs.Common.{◌⊎◌, ℕ, ◌≡◌, ◌≤◌, ◌&&◌, Bool, true, false, List, Option, Some, None, lit≤, refl, sym, ◌∙◌, arith}
 use Rattle.std.specs.Prelude.{IsSome, IsTrue, nat_eq, is_some}
-use Rattle.std.specs.Ordering.{nat_cmp, is_eq, ordering_then}
+use Rattle.std.specs.Ordering.{nat_cmp}
 use Rattle.std.proofs.lemmas.Bool.{false≢true}
 use Rattle.std.proofs.lemmas.Bool.Decides.{nat_tests}
 use Rattle.std.specs.BTreeMap.{is_at}
 use Rattle.ppdb_maps.specs.Map.{pair_cmp}
-use Rattle.ppdb_maps.specs.Before.{count_in, row_in, method_in, drop_in, slots_in, slot_in, follows_method}
-use Rattle.ppdb_maps.specs.Rules.{kind_of, Breaks, second_rows, second_row, second_method, second_drop, second_slots, second_slot, row_alone, slot_alone, run_alone, run_early, run_long, drop_named, dropped_method, dropped_row, dropped_slots}
+use Rattle.ppdb_maps.specs.Before.{count_in, row_in, method_in, drop_in, slots_in, slot_in}
+use Rattle.ppdb_maps.specs.Rules.{kind_of, Breaks, second_row, second_method, second_drop, second_slots, second_slot, row_alone, slot_alone, drop_named}
+use Rattle.ppdb_maps.specs.Rules.{dropped_method, dropped_row, dropped_slots}
 use Rattle.ppdb_maps.specs.Drafts.{RefusedBy}
 use Rattle.ppdb_maps.specs.declared.refusal.Refusal.TheVariants.{Breaks as refused}
 use Rattle.ppdb_maps.specs.declared.line.Line.{Line}
-use Rattle.ppdb_maps.specs.declared.line.Line.TheVariants.{Silent, Rows, Row, Method, Kept, Dropped, Slots, Slot}
+use Rattle.ppdb_maps.specs.declared.line.Line.TheVariants.{Row, Method, Dropped, Slots, Slot}
 use Rattle.ppdb_maps.specs.declared.rule.Rule.{Rule}
-use Rattle.ppdb_maps.specs.declared.rule.Rule.TheVariants.{FirstLine, UnknownForm, BadNumber, Repeated, Undeclared, NoMethod, Overlap, Beyond, NamesDropped}
+use Rattle.ppdb_maps.specs.declared.rule.Rule.TheVariants.{Repeated, Undeclared, NamesDropped}
 use Rattle.ppdb_maps.proofs.Saying.{from_four}
 
 pub none_of : {A : Type 0} (o : Option A) → is_some o ≡ false → o ≡ None
@@ -34,7 +35,8 @@ untrue b absent there = false≢true (sym absent ∙ there)
 pub repeated : (before : List Line) (line : Line) → Breaks before Repeated line → RefusedBy before line (refused Repeated)
 repeated before line breaks = (breaks, λ other h. from_four before other line h)
 
-pub row_undeclared : (before : List Line) (t o n : ℕ) → is_some (row_in before t o) ≡ false → is_some (count_in before t) ≡ false → RefusedBy before (Row t o n) (refused Undeclared)
+pub row_undeclared : (before : List Line) (t o n : ℕ) → is_some (row_in before t o) ≡ false → is_some (count_in before t) ≡ false
+    → RefusedBy before (Row t o n) (refused Undeclared)
 row_undeclared before t o n row count = (row_alone (none_of (count_in before t) count), λ other h. least other h)
   where
     least : (other : Rule) → Breaks before other (Row t o n) → 5 ≤ kind_of other
@@ -42,7 +44,8 @@ row_undeclared before t o n row count = (row_alone (none_of (count_in before t) 
     least other (row_alone h) = lit≤ tt
     least other (dropped_row h k) = lit≤ tt
 
-pub row_dropped : (before : List Line) (t o n : ℕ) → is_some (row_in before t o) ≡ false → is_some (count_in before t) ≡ true → t ≡ 0x06 → drop_in before o ≡ true
+pub row_dropped : (before : List Line) (t o n : ℕ) → is_some (row_in before t o) ≡ false → is_some (count_in before t) ≡ true → t ≡ 0x06
+    → drop_in before o ≡ true
     → RefusedBy before (Row t o n) (refused NamesDropped)
 row_dropped before t o n row count six drop = (dropped_row six drop, λ other h. least other h)
   where
@@ -51,24 +54,28 @@ row_dropped before t o n row count six drop = (dropped_row six drop, λ other h.
     least other (row_alone h) = absurd (none_and_some (count_in before t) h count)
     least other (dropped_row h k) = lit≤ tt
 
-pub row_keeps : (before : List Line) (t o n : ℕ) → is_some (row_in before t o) ≡ false → is_some (count_in before t) ≡ true → (t ≡ 0x06 → drop_in before o ≡ true → ⊥)
+pub row_keeps : (before : List Line) (t o n : ℕ) → is_some (row_in before t o) ≡ false → is_some (count_in before t) ≡ true
+    → (t ≡ 0x06 → drop_in before o ≡ true → ⊥)
     → (rule : Rule) → Breaks before rule (Row t o n) → ⊥
 row_keeps before t o n row count kept rule (second_row h) = both (row_in before t o) row h
 row_keeps before t o n row count kept rule (row_alone h) = none_and_some (count_in before t) h count
 row_keeps before t o n row count kept rule (dropped_row h k) = kept h k
 
-pub method_dropped : (before : List Line) (m o n : ℕ) → is_some (method_in before m) ≡ false → drop_in before m ≡ true → RefusedBy before (Method m o n) (refused NamesDropped)
+pub method_dropped : (before : List Line) (m o n : ℕ) → is_some (method_in before m) ≡ false → drop_in before m ≡ true
+    → RefusedBy before (Method m o n) (refused NamesDropped)
 method_dropped before m o n method drop = (dropped_method drop, λ other h. least other h)
   where
     least : (other : Rule) → Breaks before other (Method m o n) → 9 ≤ kind_of other
     least other (second_method h) = absurd (both (method_in before m) method h)
     least other (dropped_method h) = lit≤ tt
 
-pub method_keeps : (before : List Line) (m o n : ℕ) → is_some (method_in before m) ≡ false → drop_in before m ≡ false → (rule : Rule) → Breaks before rule (Method m o n) → ⊥
+pub method_keeps : (before : List Line) (m o n : ℕ) → is_some (method_in before m) ≡ false → drop_in before m ≡ false → (rule : Rule)
+    → Breaks before rule (Method m o n) → ⊥
 method_keeps before m o n method drop rule (second_method h) = both (method_in before m) method h
 method_keeps before m o n method drop rule (dropped_method h) = untrue (drop_in before m) drop h
 
-pub drop_of_named : (before : List Line) (m : ℕ) → drop_in before m ≡ false → IsSome (method_in before m) ⊎ IsSome (row_in before 0x06 m) ⊎ IsTrue (slots_in before m)
+pub drop_of_named : (before : List Line) (m : ℕ) → drop_in before m ≡ false → IsSome (method_in before m) ⊎ IsSome (row_in before 0x06 m)
+    ⊎ IsTrue (slots_in before m)
     → RefusedBy before (Dropped m) (refused NamesDropped)
 drop_of_named before m drop named = (drop_named named, λ other h. least other h)
   where
@@ -83,14 +90,16 @@ slots_dropped before m slots drop = (dropped_slots drop, λ other h. least other
     least other (second_slots h) = absurd (untrue (slots_in before m) slots h)
     least other (dropped_slots h) = lit≤ tt
 
-pub slot_undeclared : (before : List Line) (m o n : ℕ) → is_some (slot_in before m o) ≡ false → slots_in before m ≡ false → RefusedBy before (Slot m o n) (refused Undeclared)
+pub slot_undeclared : (before : List Line) (m o n : ℕ) → is_some (slot_in before m o) ≡ false → slots_in before m ≡ false
+    → RefusedBy before (Slot m o n) (refused Undeclared)
 slot_undeclared before m o n slot slots = (slot_alone slots, λ other h. least other h)
   where
     least : (other : Rule) → Breaks before other (Slot m o n) → 5 ≤ kind_of other
     least other (second_slot h) = absurd (both (slot_in before m o) slot h)
     least other (slot_alone h) = lit≤ tt
 
-pub slot_keeps : (before : List Line) (m o n : ℕ) → is_some (slot_in before m o) ≡ false → slots_in before m ≡ true → (rule : Rule) → Breaks before rule (Slot m o n) → ⊥
+pub slot_keeps : (before : List Line) (m o n : ℕ) → is_some (slot_in before m o) ≡ false → slots_in before m ≡ true → (rule : Rule)
+    → Breaks before rule (Slot m o n) → ⊥
 slot_keeps before m o n slot slots rule (second_slot h) = both (slot_in before m o) slot h
 slot_keeps before m o n slot slots rule (slot_alone h) = untrue (slots_in before m) h slots
 

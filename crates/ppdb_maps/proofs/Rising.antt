@@ -1,5 +1,5 @@
 -- The last of a method's runs, and runs that rise when one is added.
-use Rattle.std.proofs.Common.{zero, suc, inl, inr, ◌⊎◌, ℕ, ◌≡◌, ◌<◌, ◌≤◌, ◌+◌, ◌-◌, ◌++◌, ◌↔◌, List, [], ◌∷◌, length, refl, sym, ap, ◌∙◌, subst, arith, rules, IsTrue}
+use Rattle.std.proofs.Common.{zero, suc, inl, inr, ◌⊎◌, ℕ, ◌≡◌, ◌<◌, ◌≤◌, ◌++◌, ◌↔◌, List, [], ◌∷◌, length, refl, arith}
 use Rattle.std.specs.Prelude.{slice_index_or}
 use Rattle.std.proofs.lemmas.Bool.{cases_lt}
 use Rattle.ppdb_base.specs.declared.offsets.Run.{Run}
@@ -25,8 +25,13 @@ pub rise_with : (old new : ℕ) (runs : List Run) (run last : Run) → 0 < run.l
     → (BeginsEarly run runs → ⊥) → (runs ≡ [] → (old ≤ run.old) × (new ≤ run.new)) → RiseFrom old new (runs ++ last ∷ [])
     → RiseFrom old new ((runs ++ run ∷ []) ++ last ∷ [])
 rise_with old new [] run last some ends new_ends late first rise = (some, (first refl).0, (first refl).1, (rise.0, ends, new_ends, tt))
-rise_with old new (x ∷ []) run last some ends new_ends late first rise =
-    (rise.0, rise.1, rise.2, rise_with (end_of x) (new_end_of x) [] run last some ends new_ends (λ h. h) (λ _. (not_less _ _ (λ h. late (inl h)), not_less _ _ (λ h. late (inr h)))) rise.3)
+rise_with old new (x ∷ []) run last some ends new_ends late first rise = (
+  rise.0,
+  rise.1,
+  rise.2,
+  rise_with (end_of x) (new_end_of x) [] run last some ends new_ends (λ h. h)
+      (λ _. (not_less _ _ (λ h. late (inl h)), not_less _ _ (λ h. late (inr h)))) rise.3,
+)
 rise_with old new (x ∷ y ∷ runs) run last some ends new_ends late first rise =
     (rise.0, rise.1, rise.2, rise_with (end_of x) (new_end_of x) (y ∷ runs) run last some ends new_ends late (λ e. absurd (clash e)) rise.3)
   where

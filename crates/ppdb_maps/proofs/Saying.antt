@@ -1,20 +1,23 @@
 -- A line of a form has its values; a line says one thing.
-use Rattle.std.proofs.Common.{zero, suc, inl, inr, ◌⊎◌, lit<, lit≤, ℕ, ◌≡◌, ◌<◌, ◌≤◌, ◌+◌, List, [], ◌∷◌, Option, Some, None, length, take, refl, sym, ap, ◌∙◌, subst, arith, rules}
+use Rattle.std.proofs.Common.{zero, suc, inl, inr, lit<, lit≤, ℕ, ◌≡◌, ◌<◌, ◌≤◌, List, [], ◌∷◌, Option, Some, length, take, refl, sym, ap, ◌∙◌, subst, arith}
 use Rattle.ppdb_base.specs.declared.offsets.Run.{Run}
 use Rattle.ppdb_maps.specs.Words.{IsSilent, line_words}
-use Rattle.ppdb_maps.specs.Forms.{name_of, words_in, since, HasForm, IsNumber, IsTable, ROWS, OFFSETS, SLOTS, Values, Says, Tells, rows_line, row_line, method_line, run_line, drop_line, slots_line, slot_line, silent, told}
+use Rattle.ppdb_maps.specs.Forms.{name_of, words_in, HasForm, IsNumber, IsTable, ROWS, Values, Tells, rows_line, row_line, method_line, run_line, drop_line}
+use Rattle.ppdb_maps.specs.Forms.{slots_line, slot_line, silent, told}
 use Rattle.ppdb_maps.specs.declared.line.Form.{Form}
 use Rattle.ppdb_maps.specs.declared.line.Form.TheVariants.{TableRows, RowMove, MethodSizes, OffsetRun, MethodDrop, MethodSlots, SlotMove}
 use Rattle.ppdb_maps.specs.declared.line.Line.{Line}
-use Rattle.ppdb_maps.specs.declared.line.Line.TheVariants.{Silent, Rows, Row, Method, Kept, Dropped, Slots, Slot}
+use Rattle.ppdb_maps.specs.declared.line.Line.TheVariants.{Kept}
 use Rattle.std.specs.Prelude.{find, bytes_eq}
 use Rattle.std.proofs.lemmas.Bool.{cases_lt}
 use Rattle.std.proofs.lemmas.List.{length-take-le}
 use Rattle.ppdb_maps.specs.Cuts.{AreWordsOf}
 use Rattle.ppdb_maps.specs.Reading.{FitsForm, values_of}
-use Rattle.ppdb_maps.specs.Rules.{kind_of, Breaks, BreaksLine, BreaksFirst, no_form, no_value, by_lines, second_rows, second_row, second_method, second_drop, second_slots, second_slot, row_alone, slot_alone, run_alone, run_early, run_long, drop_named, dropped_method, dropped_row, dropped_slots}
+use Rattle.ppdb_maps.specs.Rules.{kind_of, Breaks, BreaksLine, BreaksFirst, no_form, no_value, by_lines, second_rows, second_row, second_method, second_drop}
+use Rattle.ppdb_maps.specs.Rules.{second_slots, second_slot, row_alone, slot_alone, run_alone, run_early, run_long, drop_named, dropped_method, dropped_row}
+use Rattle.ppdb_maps.specs.Rules.{dropped_slots}
 use Rattle.ppdb_maps.specs.declared.rule.Rule.{Rule}
-use Rattle.ppdb_maps.specs.declared.rule.Rule.TheVariants.{FirstLine, UnknownForm, BadNumber, Repeated, Undeclared, NoMethod, Overlap, Beyond, NamesDropped}
+use Rattle.ppdb_maps.specs.declared.rule.Rule.TheVariants.{UnknownForm, BadNumber}
 use Rattle.ppdb_maps.specs.declared.words.Words.{Words}
 use Rattle.ppdb_maps.proofs.Numbers.{one_number, one_table}
 
@@ -24,24 +27,6 @@ rows_values a b line (rows_line t n) = ((_, t), (_, n))
 pub row_values : (a b d : List ℕ) (line : Line) → Values RowMove (a ∷ b ∷ d ∷ []) line
     → ((t : ℕ) × IsTable a t) × ((n : ℕ) × IsNumber b 1 ROWS n) × ((n : ℕ) × IsNumber d 1 ROWS n)
 row_values a b d line (row_line t o n) = ((_, t), (_, o), (_, n))
-
-pub method_values : (a b d : List ℕ) (line : Line) → Values MethodSizes (a ∷ b ∷ d ∷ []) line
-    → ((n : ℕ) × IsNumber a 1 ROWS n) × ((n : ℕ) × IsNumber b 0 OFFSETS n) × ((n : ℕ) × IsNumber d 0 OFFSETS n)
-method_values a b d line (method_line m o n) = ((_, m), (_, o), (_, n))
-
-pub run_values : (a b d : List ℕ) (line : Line) → Values OffsetRun (a ∷ b ∷ d ∷ []) line
-    → ((n : ℕ) × IsNumber a 0 OFFSETS n) × ((n : ℕ) × IsNumber b 0 OFFSETS n) × ((n : ℕ) × IsNumber d 1 OFFSETS n)
-run_values a b d line (run_line o n l) = ((_, o), (_, n), (_, l))
-
-pub drop_values : (a : List ℕ) (line : Line) → Values MethodDrop (a ∷ []) line → (n : ℕ) × IsNumber a 1 ROWS n
-drop_values a line (drop_line m) = (_, m)
-
-pub slots_values : (a : List ℕ) (line : Line) → Values MethodSlots (a ∷ []) line → (n : ℕ) × IsNumber a 1 ROWS n
-slots_values a line (slots_line m) = (_, m)
-
-pub slot_values : (a b d : List ℕ) (line : Line) → Values SlotMove (a ∷ b ∷ d ∷ []) line
-    → ((n : ℕ) × IsNumber a 1 ROWS n) × ((n : ℕ) × IsNumber b 0 SLOTS n) × ((n : ℕ) × IsNumber d 0 SLOTS n)
-slot_values a b d line (slot_line m o n) = ((_, m), (_, o), (_, n))
 
 same_run : (r s : Run) → r.old ≡ s.old → r.new ≡ s.new → r.length ≡ s.length → r ≡ s
 same_run r s old new long =
@@ -59,7 +44,8 @@ one_of_form form values x y (row_line {table = t} {old = o} {new = n} a b d) (ro
     let old = one_number _ _ _ o o2 (lit< tt) b b2 in
     let new = one_number _ _ _ n n2 (lit< tt) d d2 in
     cc
-one_of_form form values x y (method_line {method = m} {old_size = o} {new_size = n} a b d) (method_line {method = m2} {old_size = o2} {new_size = n2} a2 b2 d2) =
+one_of_form form values x y (method_line {method = m} {old_size = o} {new_size = n} a b d)
+    (method_line {method = m2} {old_size = o2} {new_size = n2} a2 b2 d2) =
     let method = one_number _ _ _ m m2 (lit< tt) a a2 in
     let old = one_number _ _ _ o o2 (lit< tt) b b2 in
     let new = one_number _ _ _ n n2 (lit< tt) d d2 in
@@ -125,7 +111,8 @@ count_fits n name a b d words version form few many has = elim (cases_lt 4 n) [
         head_of (suc n) is some = let h = has.named in cc
 
 -- the words that were read have each form that the line has
-pub fits_form : (line : List ℕ) (words : Words) (version : ℕ) (form : Form) → AreWordsOf line words → HasForm version (line_words line) form → FitsForm version words form
+pub fits_form : (line : List ℕ) (words : Words) (version : ℕ) (form : Form) → AreWordsOf line words → HasForm version (line_words line) form
+    → FitsForm version words form
 fits_form line words version form are has =
     let h = count_fits words.count words.name.now words.first.now words.second.now words.third.now (line_words line) version form are.few are.many has in
     record { named = h.0; counted = h.1; there = has.there }
@@ -140,7 +127,8 @@ has_form line words version form are fits =
     let names : line_words line ≡ name_of form ∷ values_of form words = is ∙ (taken form ∙ ap (λ n. n ∷ values_of form words) fits.named) in
     (names, ap length is ∙ long form)
   where
-    taken : (form : Form) → take (words_in form) (words.name.now ∷ words.first.now ∷ words.second.now ∷ words.third.now ∷ []) ≡ words.name.now ∷ values_of form words
+    taken : (form : Form)
+        → take (words_in form) (words.name.now ∷ words.first.now ∷ words.second.now ∷ words.third.now ∷ []) ≡ words.name.now ∷ values_of form words
     taken TableRows = refl
     taken RowMove = refl
     taken MethodSizes = refl
@@ -153,15 +141,18 @@ has_form line words version form are fits =
     long form = length-take-le (words_in form) (words.name.now ∷ words.first.now ∷ words.second.now ∷ words.third.now ∷ []) (few_words form).1
 
 -- the form as the definition of lines has it
-abbrev form_there : (line : List ℕ) (words : Words) (version : ℕ) (form : Form) → AreWordsOf line words → FitsForm version words form → HasForm version (line_words line) form
+abbrev form_there : (line : List ℕ) (words : Words) (version : ℕ) (form : Form) → AreWordsOf line words → FitsForm version words form
+    → HasForm version (line_words line) form
 form_there line words version form are fits =
     let h = has_form line words version form are fits in
     record { values = values_of form words; named = h.0; counted = h.1; there = fits.there }
 
 -- values that were read are what the line says
-pub tells_form : (line : List ℕ) (words : Words) (version : ℕ) (form : Form) (says : Line) → (IsSilent line → ⊥) → AreWordsOf line words → FitsForm version words form
+pub tells_form : (line : List ℕ) (words : Words) (version : ℕ) (form : Form) (says : Line) → (IsSilent line → ⊥) → AreWordsOf line words
+    → FitsForm version words form
     → Values form (values_of form words) says → Tells version line says
-tells_form line words version form says loud are fits values = told loud (record { form = form; has = form_there line words version form are fits; values = values })
+tells_form line words version form says loud are fits values = told loud
+    (record { form = form; has = form_there line words version form are fits; values = values })
 
 -- the rules on what lines say have the numbers from 4 on
 pub from_four : (before : List Line) (rule : Rule) (line : Line) → Breaks before rule line → 4 ≤ kind_of rule
@@ -193,7 +184,8 @@ breaks_form line words version before loud are none =
     least other (by_lines {line = says} tells breaks) = let h = from_four before other says breaks in omega (arith, h)
 
 -- a line of a form with a value that is misspelled or out of its range
-pub breaks_value : (line : List ℕ) (words : Words) (version : ℕ) (form : Form) (before : List Line) → (IsSilent line → ⊥) → AreWordsOf line words → FitsForm version words form
+pub breaks_value : (line : List ℕ) (words : Words) (version : ℕ) (form : Form) (before : List Line) → (IsSilent line → ⊥) → AreWordsOf line words
+    → FitsForm version words form
     → ((says : Line) → Values form (values_of form words) says → ⊥) → BreaksFirst version before line BadNumber
 breaks_value line words version form before loud are fits none =
     let has = form_there line words version form are fits in
@@ -217,7 +209,8 @@ one_said version text x y (told loud a) (told loud2 b) =
     one_of_form a.form a.has.values x y a.values (subst (λ (f : Form). Values f a.has.values y) form (subst (λ v. Values b.form v y) values b.values))
 
 -- a line that says something breaks rules by what it says
-pub breaks_said : (version : ℕ) (before : List Line) (text : List ℕ) (says : Line) (rule : Rule) → Tells version text says → BreaksLine version before text rule → Breaks before rule says
+pub breaks_said : (version : ℕ) (before : List Line) (text : List ℕ) (says : Line) (rule : Rule) → Tells version text says
+    → BreaksLine version before text rule → Breaks before rule says
 breaks_said version before text says rule (silent a) (no_form loud none) = absurd (loud a)
 breaks_said version before text says rule (told loud a) (no_form loud2 none) = absurd (none a.form a.has)
 breaks_said version before text says rule (silent a) (no_value loud has none) = absurd (loud a)

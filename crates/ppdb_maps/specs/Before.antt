@@ -1,5 +1,5 @@
 -- What lines of a map text say together; a list of lines has the last one first.
-use Rattle.std.specs.Prelude.{◌≡◌, ℕ, ◌+◌, ◌&&◌, ◌++◌, Bool, true, false, cond, nat_eq, List, [], ◌∷◌, Option, Some, None}
+use Rattle.std.specs.Prelude.{ℕ, ◌&&◌, ◌++◌, Bool, true, false, cond, nat_eq, List, [], ◌∷◌, Option, Some, None}
 use Rattle.std.specs.List.{find}
 use Rattle.ppdb_base.specs.declared.offsets.Run.{Run}
 use Rattle.ppdb_maps.specs.Map.{MethodLine}

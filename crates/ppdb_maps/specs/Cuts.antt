@@ -1,8 +1,16 @@
 -- The first line of a text and the words of a line, as slices.
 use Rattle.std.specs.Prelude.{◌≡◌, ℕ, ◌<◌, ◌≤◌, List, [], ◌∷◌, length, take}
 use Rattle.std.specs.Str.Lines.{lines}
-use Rattle.ppdb_maps.specs.Words.{text_lines, line_words}
+use Rattle.ppdb_maps.specs.Words.{parts_at, text_lines, line_words}
 use Rattle.ppdb_maps.specs.declared.words.Words.{Words}
+
+-- the mark does not stand in the bytes
+abbrev pub IsUncut : ℕ → List ℕ → List ℕ → Type 0
+IsUncut mark bytes front = (front ≡ bytes) × (parts_at mark bytes ≡ front ∷ [])
+
+-- what stands before the first mark, and what stands after it
+abbrev pub IsCut : ℕ → List ℕ → List ℕ → List ℕ → Type 0
+IsCut mark bytes front rest = (parts_at mark bytes ≡ front ∷ parts_at mark rest) × (length rest < length bytes)
 
 -- the text's first line, and what stands after it
 pub record IsLineOf (text line rest : List ℕ) : Type 0 where

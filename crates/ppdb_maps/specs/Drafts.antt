@@ -1,10 +1,13 @@
 -- What a draft holds of the lines read so far, of which the last one stands first.
-use Rattle.std.specs.Prelude.{◌≡◌, ℕ, ◌<◌, ◌≤◌, ◌⊎◌, ◌↔◌, ◌++◌, Bool, true, false, List, [], ◌∷◌, Option, Some, None, Result, MatchResult, IsSome, IsTrue, find, nat_eq}
+use Rattle.std.specs.Prelude.{◌≡◌, ℕ, ◌<◌, ◌≤◌, ◌⊎◌, ◌↔◌, Bool, true, false, List, ◌∷◌, Option, Some, None, Result, MatchResult, IsSome, IsTrue, find, nat_eq}
+use Rattle.std.specs.Prelude.{is_some, option_map, map, ◌&&◌}
+use Rattle.std.specs.List.{IsDistinct}
+use Rattle.ppdb_maps.specs.declared.entries.RowImage.{RowImage}
 use Rattle.std.specs.Ordering.{nat_cmp}
 use Rattle.std.specs.BTreeMap as tree
 use Rattle.std.specs.BTreeSet as sorted
-use Rattle.std.specs.BTreeMap.{BTreeMap}
-use Rattle.ppdb_base.specs.declared.offsets.Run.{Run}
+use Rattle.ppdb_maps.specs.BitSets.{has_row}
+use Rattle.ppdb_maps.specs.Gathered.{row_key, same_pair}
 use Rattle.ppdb_maps.specs.Map.{MethodLine, pair_cmp}
 use Rattle.ppdb_maps.specs.Before.{count_in, row_in, method_in, methods_of, drop_in, slots_in, slot_in, follows_method}
 use Rattle.ppdb_maps.specs.Rules.{Breaks, kind_of}
@@ -12,13 +15,16 @@ use Rattle.ppdb_maps.specs.declared.draft.Draft.{Draft}
 use Rattle.ppdb_maps.specs.declared.refusal.Refusal.{Refusal}
 use Rattle.ppdb_maps.specs.declared.refusal.Refusal.TheVariants.{Breaks as refused, Memory}
 use Rattle.ppdb_maps.specs.declared.line.Line.{Line}
-use Rattle.ppdb_maps.specs.declared.line.Line.TheVariants.{Silent, Rows, Row, Method, Kept, Dropped, Slots, Slot}
+use Rattle.ppdb_maps.specs.declared.line.Line.TheVariants.{Kept}
 use Rattle.ppdb_maps.specs.declared.rule.Rule.{Rule}
 
 -- all but the methods
 pub record HoldsOthers (before : List Line) (draft : Draft) : Type 0 where
   pub counts : (table : ℕ) → tree.get nat_cmp draft.counts table ≡ count_in before table
-  pub rows : (table old : ℕ) → tree.get pair_cmp draft.rows (table, old) ≡ row_in before table old
+  pub rows : (table old : ℕ)
+      → option_map (λ (r : RowImage). r.new) (find (λ r. nat_eq r.table table && nat_eq r.old old) draft.rows.items) ≡ row_in before table old
+  pub distinct : IsDistinct same_pair (map row_key draft.rows.items)
+  pub moved : (table old : ℕ) → has_row draft.moved table old ≡ is_some (row_in before table old)
   pub drops : (method : ℕ) → sorted.contains nat_cmp draft.drops method ≡ drop_in before method
   pub slotted : (method : ℕ) → sorted.contains nat_cmp draft.slotted method ≡ slots_in before method
   pub slots : (method old : ℕ) → tree.get pair_cmp draft.slots (method, old) ≡ slot_in before method old

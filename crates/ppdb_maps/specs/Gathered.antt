@@ -1,5 +1,5 @@
 -- The entries of a map's lists, from those of the maps in which they were gathered.
-use Rattle.std.specs.Prelude.{ℕ}
+use Rattle.std.specs.Prelude.{ℕ, ◌&&◌, Bool, nat_eq}
 use Rattle.ppdb_maps.specs.declared.entries.Count.{Count}
 use Rattle.ppdb_maps.specs.declared.entries.RowImage.{RowImage}
 use Rattle.ppdb_maps.specs.declared.entries.SlotImage.{SlotImage}
@@ -7,8 +7,13 @@ use Rattle.ppdb_maps.specs.declared.entries.SlotImage.{SlotImage}
 abbrev pub count_entry : ℕ × ℕ → Count
 count_entry e = record { table = e.0; rows = e.1 }
 
-abbrev pub row_entry : (ℕ × ℕ) × ℕ → RowImage
-row_entry e = record { table = e.0.0; old = e.0.1; new = e.1 }
+-- what `row` lines are ordered by
+abbrev pub row_key : RowImage → ℕ × ℕ
+row_key row = (row.table, row.old)
 
 abbrev pub slot_entry : (ℕ × ℕ) × ℕ → SlotImage
 slot_entry e = record { method = e.0.0; old = e.0.1; new = e.1 }
+
+-- both numbers of two pairs are the same
+abbrev pub same_pair : ℕ × ℕ → ℕ × ℕ → Bool
+same_pair p q = nat_eq p.0 q.0 && nat_eq p.1 q.1

@@ -6,10 +6,12 @@ pub mod Forms
 pub mod Before
 pub mod Rules
 pub mod Text
+pub mod Readable
 pub mod Cuts
 pub mod Reading
 pub mod Loops
 pub mod Gathered
 pub mod Search
+pub mod BitSets
 pub mod Drafts
 pub mod Spelling

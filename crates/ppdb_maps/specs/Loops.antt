@@ -1,6 +1,5 @@
 -- What the readers of lines answer.
-use Rattle.std.specs.Prelude.{◌≡◌, ℕ, ◌+◌, ◌++◌, List, [], ◌∷◌, Result, MatchResult, length}
-use Rattle.std.specs.Str.Lines.{lines}
+use Rattle.std.specs.Prelude.{◌≡◌, ℕ, ◌+◌, ◌++◌, List, ◌∷◌, Result, MatchResult, length}
 use Rattle.ppdb_maps.specs.Forms.{Tells}
 use Rattle.ppdb_maps.specs.Rules.{Keeps, BreaksFirst, kind_of}
 use Rattle.ppdb_maps.specs.Text.{Read, Refused}

@@ -1,5 +1,5 @@
 -- What a map says: one entry for each of its lines that says something, and the questions that are asked of it.
-use Rattle.std.specs.Prelude.{◌≡◌, ℕ, ◌+◌, ◌<◌, ◌&&◌, Bool, true, false, cond, nat_eq, List, [], ◌∷◌, Option, Some, None, unwrap_or, filter, map}
+use Rattle.std.specs.Prelude.{ℕ, ◌&&◌, Bool, cond, nat_eq, List, Option, Some, None, unwrap_or, filter, map}
 use Rattle.std.specs.List.{find, list_any}
 use Rattle.std.specs.List.Sorted.{IsStrictlySortedBy}
 use Rattle.std.specs.Option.{option_map}
@@ -26,6 +26,11 @@ pub record Map : Type 0 where
   pub drops : List ℕ
   pub slotted : List ℕ
   pub slots : List SlotImage
+
+-- the map of these lists
+abbrev pub map_of : List Count → List RowImage → List MethodLine → List ℕ → List ℕ → List SlotImage → Map
+map_of counts rows methods drops slotted slots =
+    record { counts = counts; rows = rows; methods = methods; drops = drops; slotted = slotted; slots = slots }
 
 -- by the first number, and by the second where the first are equal
 abbrev pub pair_cmp : ℕ × ℕ → ℕ × ℕ → Ordering

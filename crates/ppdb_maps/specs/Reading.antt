@@ -1,5 +1,5 @@
 -- What the readers of a line answer.
-use Rattle.std.specs.Prelude.{◌≡◌, ℕ, ◌<◌, ◌≤◌, List, [], ◌∷◌, Option, Some, None, Result, MatchOption, MatchResult}
+use Rattle.std.specs.Prelude.{◌≡◌, ℕ, ◌≤◌, List, [], ◌∷◌, Option, Result, MatchOption, MatchResult}
 use Rattle.ppdb_maps.specs.Forms.{name_of, words_in, since, Values, Tells}
 use Rattle.ppdb_maps.specs.Rules.{BreaksFirst}
 use Rattle.ppdb_maps.specs.declared.words.Words.{Words}

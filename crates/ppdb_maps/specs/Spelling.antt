@@ -1,5 +1,5 @@
 -- How decimal numbers below 2^32 are spelled.
-use Rattle.std.specs.Prelude.{◌≡◌, ℕ, ◌<◌, ◌≤◌, ◌≢◌, List, [], ◌∷◌, length}
+use Rattle.std.specs.Prelude.{ℕ, ◌≤◌, ◌≢◌, List, [], ◌∷◌, length}
 
 -- one to ten characters, and no zero before others
 abbrev pub MaySpell : List ℕ → Type 0

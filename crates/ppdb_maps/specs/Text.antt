@@ -1,5 +1,5 @@
 -- Map texts (docs/FORMAT.md, "Map texts"): the map that a text has, and its refused line.
-use Rattle.std.specs.Prelude.{◌≡◌, ℕ, ◌+◌, ◌++◌, List, [], ◌∷◌, Option, length}
+use Rattle.std.specs.Prelude.{◌≡◌, ℕ, ◌+◌, ◌++◌, List, [], ◌∷◌, length}
 use Rattle.ppdb_maps.specs.Map.{Map, Ascends, count_of, row_line, method_line, is_dropped, has_slots, slot_line}
 use Rattle.ppdb_maps.specs.Words.{text_lines}
 use Rattle.ppdb_maps.specs.Forms.{IsHead, Tells}

@@ -1,12 +1,14 @@
 // What the lines of a map text say together, while they are read.
-ghost use Rattle.std.specs.Prelude.{◌<◌, [], List, OnOk, IfOk};
+ghost use Rattle.std.specs.Prelude.{ℕ, ◌<◌, [], List, OnOk, IfOk};
 ghost use Rattle.ppdb_maps.specs.Loops.{IsTextAdded};
-ghost use Rattle.ppdb_maps.specs.Text.{HoldsWhat};
+ghost use Rattle.ppdb_maps.specs.Text.{HoldsWhat, Read};
 ghost use Rattle.ppdb_maps.specs.declared.line.Line.{Line};
 ghost use Rattle.ppdb_maps.specs.declared.line.Line.TheVariants.{Rows, Row, Method as SizesOf, Kept, Dropped, Slots, Slot};
 ghost use Rattle.ppdb_maps.specs.Drafts.{Holds, IsClosed, IsAdded, IsAddedTo, HasLength, IsNamedIn};
 
-use crate::finish::{counts_of, methods_of, numbers_of, rows_of, slots_of};
+use crate::bit_set::RowSet;
+use crate::entries::RowImage;
+use crate::finish::{counts_of, in_order, methods_of, numbers_of, slots_of};
 use crate::line::Line;
 use crate::map_text::MapText;
 use crate::method::Method;
@@ -21,7 +23,9 @@ use std::collections::{BTreeMap, BTreeSet};
 #[derive(Drop)]
 pub struct Draft {
     counts: BTreeMap<u8, u32>,
-    rows: BTreeMap<(u8, u32), u32>,
+    /// In the order of their lines.
+    rows: Vec<RowImage>,
+    moved: RowSet,
     methods: BTreeMap<u32, Method>,
     /// The last method, while its runs may follow; it is not among `methods` yet.
     current: Option<Method>,
@@ -37,7 +41,8 @@ impl Draft {
     {
         Draft {
             counts: BTreeMap::new(alloc),
-            rows: BTreeMap::new(alloc),
+            rows: Vec::new(alloc),
+            moved: RowSet::new(alloc),
             methods: BTreeMap::new(alloc),
             current: None,
             drops: BTreeSet::new(alloc),
@@ -66,10 +71,10 @@ impl Draft {
         Ok(())
     }
 
-    fn add_row(&mut self, table: u8, old: u32, new: u32) -> Result<(), Refusal>
+    fn add_row(&mut self, alloc: Global, table: u8, old: u32, new: u32) -> Result<(), Refusal>
         ensures { IsAdded (Row table old new) self.old result self.new }
     {
-        if self.rows.contains_key(&(table, old)) {
+        if self.moved.contains(table, old) {
             return Err(Refusal::Breaks(Rule::Repeated));
         }
         if !self.counts.contains_key(&table) {
@@ -78,7 +83,8 @@ impl Draft {
         if table == 0x06 && self.drops.contains(&old) {
             return Err(Refusal::Breaks(Rule::NamesDropped));
         }
-        self.rows.insert((table, old), new)?;
+        self.moved.insert(alloc, table, old)?;
+        self.rows.push(RowImage { table, old, new })?;
         Ok(())
     }
 
@@ -119,7 +125,7 @@ impl Draft {
         ensures { (before : List Line) → IsClosed before self.now → IsNamedIn before method result }
     {
         self.methods.contains_key(&method)
-            || self.rows.contains_key(&(0x06, method))
+            || self.moved.contains(0x06, method)
             || self.slotted.contains(&method)
     }
 
@@ -173,7 +179,7 @@ impl Draft {
             }
             Line::Row { table, old, new } => {
                 self.close()?;
-                self.add_row(table, old, new)
+                self.add_row(alloc, table, old, new)
             }
             Line::Method {
                 method,
@@ -210,12 +216,13 @@ impl Draft {
 
     /// The map of the lines.
     pub fn finish(self, alloc: Global) -> Result<MapText, Memory>
-        requires { (before : List Line) × IsClosed before self }
+        requires { (version : ℕ) × (texts : List (List ℕ)) × (before : List Line) × Read version texts before × IsClosed before self }
         ensures { (before : List Line) → IsClosed before self → IfOk result (HoldsWhat before) }
     {
         let Draft {
             counts,
             rows,
+            moved: _,
             methods,
             current: _,
             drops,
@@ -223,7 +230,7 @@ impl Draft {
             slots,
         } = self;
         let counts = counts_of(alloc, counts)?;
-        let rows = rows_of(alloc, rows)?;
+        let rows = in_order(rows)?;
         let methods = methods_of(alloc, methods)?;
         let drops = numbers_of(alloc, drops)?;
         let slotted = numbers_of(alloc, slotted)?;

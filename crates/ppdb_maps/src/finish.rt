@@ -4,7 +4,8 @@ ghost use Rattle.std.specs.Ordering.{nat_cmp};
 ghost use Rattle.std.specs.BTreeMap.{IsOrdered, values};
 ghost use Rattle.std.specs.BTreeSet as sorted;
 ghost use Rattle.ppdb_maps.specs.Map.{pair_cmp};
-ghost use Rattle.ppdb_maps.specs.Gathered.{count_entry, row_entry, slot_entry};
+ghost use Rattle.ppdb_maps.specs.Gathered.{count_entry, row_key, slot_entry};
+ghost use Rattle.std.specs.List.Sorted.{IsPermutation, IsSortedByKey};
 
 use crate::entries::{Count, RowImage, SlotImage};
 use crate::method::Method;
@@ -21,13 +22,13 @@ pub fn counts_of(alloc: Global, counts: BTreeMap<u8, u32>) -> Result<Vec<Count>,
         .collect(alloc)
 }
 
-pub fn rows_of(alloc: Global, rows: BTreeMap<(u8, u32), u32>) -> Result<Vec<RowImage>, AllocError>
-    ensures ordered { IsOrdered pair_cmp rows }
-    ensures items { IfOk result (λ v. v.items ≡ map row_entry rows.entries) }
+/// Rows in ascending order of their tables and numbers.
+pub fn in_order(mut rows: Vec<RowImage>) -> Result<Vec<RowImage>, AllocError>
+    ensures moved { IfOk result (λ v. IsPermutation rows.items v.items) }
+    ensures sorted { IfOk result (λ v. IsSortedByKey row_key pair_cmp v.items) }
 {
-    rows.into_iter()
-        .map(|((table, old), new)| RowImage { table, old, new })
-        .collect(alloc)
+    rows.sort_by_key(|row| (row.table, row.old))?;
+    Ok(rows)
 }
 
 pub fn slots_of(
@@ -47,6 +48,7 @@ pub fn methods_of(alloc: Global, methods: BTreeMap<u32, Method>) -> Result<Vec<M
     ensures ordered { IsOrdered nat_cmp methods }
     ensures items { IfOk result (λ v. v.items ≡ values methods) }
 {
+    // For the proof alone: it says that the methods are in order.
     let _count = methods.len();
     methods.into_values().collect(alloc)
 }

@@ -1,6 +1,7 @@
 //! Maps: what a rewriting of a module says of its rows, offsets and slots.
 #![tactic(auto)]
 
+mod bit_set;
 mod draft;
 mod entries;
 mod finish;
@@ -21,7 +22,10 @@ mod search;
 mod tests;
 mod words;
 
-pub use laws::{kept_offsets_rise, next_image_never_falls};
+pub use laws::{
+    kept_offsets_rise, maps_are_readable, next_image_never_falls, refusals_are_one,
+    texts_have_one_map,
+};
 pub use map_text::MapText;
 pub use method_map::MethodMap;
 pub use read::read_map;

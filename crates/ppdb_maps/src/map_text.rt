@@ -1,6 +1,8 @@
 // The map that a text has.
 ghost use Rattle.std.specs.Prelude.{◌≡◌, [], slice_get, option_map};
-ghost use Rattle.ppdb_maps.specs.Map.{Ascends, MethodLine, count_of, row_line, row_image, is_dropped, slot_line, slot_image, offsets_in, rows_of, slots_of};
+ghost use Rattle.ppdb_maps.specs.Map.{MethodLine, map_of, count_of, output_count, row_line, row_image, moved_row};
+ghost use Rattle.ppdb_maps.specs.Map.{is_dropped, has_slots, slot_line, slot_image, offsets_in, rows_of, slots_of};
+ghost use Rattle.ppdb_maps.specs.Readable.{IsReadable};
 ghost use Rattle.ppdb_maps.specs.declared.entries.RowImage.{RowImage};
 ghost use Rattle.ppdb_maps.specs.declared.entries.SlotImage.{SlotImage};
 ghost use Rattle.ppdb_maps.specs.Says.{offsets_of};
@@ -24,21 +26,21 @@ pub struct MapText {
 }
 
 impl Model for MapText {
-    ghost use Rattle.ppdb_maps.specs.Map.{Map};
+    ghost use Rattle.ppdb_maps.specs.Map.{Map, map_of};
 
     ghost Value = { Map };
 
-    ghost use Rattle.ppdb_maps.specs.Map.{Ascends};
+    ghost use Rattle.ppdb_maps.specs.Readable.{IsReadable};
 
-    ghost view = { λ m. record { counts = m.counts.items; rows = m.rows.items; methods = m.methods.items; drops = m.drops.items; slotted = m.slotted.items; slots = m.slots.items } };
+    ghost view = { λ m. map_of m.counts.items m.rows.items m.methods.items m.drops.items m.slotted.items m.slots.items };
 
-    ghost invariant = { λ m. Ascends (record { counts = m.counts.items; rows = m.rows.items; methods = m.methods.items; drops = m.drops.items; slotted = m.slotted.items; slots = m.slots.items }) };
+    ghost invariant = { λ m. IsReadable (map_of m.counts.items m.rows.items m.methods.items m.drops.items m.slotted.items m.slots.items) };
 }
 
 impl MapText {
     /// The map without lines: nothing changes. It takes no memory.
     pub fn empty(alloc: Global) -> MapText
-        ensures { result ≡ record { counts = []; rows = []; methods = []; drops = []; slotted = []; slots = [] } }
+        ensures { result ≡ map_of [] [] [] [] [] [] }
     {
         MapText {
             counts: Vec::new(alloc),
@@ -50,7 +52,7 @@ impl MapText {
         }
     }
 
-    /// The map of lists that are in order.
+    /// The map of lists that are in order, in range, and fit together.
     pub fn new(
         counts: Vec<Count>,
         rows: Vec<RowImage>,
@@ -59,8 +61,8 @@ impl MapText {
         slotted: Vec<u32>,
         slots: Vec<SlotImage>,
     ) -> MapText
-        requires { Ascends (record { counts = counts.items; rows = rows.items; methods = methods.items; drops = drops.items; slotted = slotted.items; slots = slots.items }) }
-        ensures { result ≡ record { counts = counts.items; rows = rows.items; methods = methods.items; drops = drops.items; slotted = slotted.items; slots = slots.items } }
+        requires { IsReadable (map_of counts.items rows.items methods.items drops.items slotted.items slots.items) }
+        ensures { result ≡ map_of counts.items rows.items methods.items drops.items slotted.items slots.items }
     {
         MapText {
             counts,
@@ -72,11 +74,27 @@ impl MapText {
         }
     }
 
+    /// Its lists ascend strictly, its numbers are in the ranges of map texts, and no line stands
+    /// where another forbids it.
+    pub fn keeps(&self)
+        ensures { IsReadable self.now }
+    {
+        // For the proof alone: it opens the value, whose invariant this is.
+        let _ = &self.counts;
+    }
+
     /// The rows of a table in the output; none where the table has no `rows` line.
     pub fn rows(&self, table: u8) -> Option<u32>
         ensures { result ≡ count_of self.now table }
     {
         count_at(self.counts.as_slice(), table).map(|count| count.rows)
+    }
+
+    /// The rows of a table in the output, where the input has so many.
+    pub fn output_rows(&self, table: u8, rows: u32) -> u32
+        ensures { result ≡ output_count self.now table rows }
+    {
+        self.rows(table).unwrap_or(rows)
     }
 
     /// The NEW of the row's `row` line.
@@ -100,6 +118,16 @@ impl MapText {
         }
     }
 
+    /// The image of a row that may be 0 for no row; 0 where there is no image.
+    pub fn moved_row(&self, table: u8, old: u32) -> u32
+        ensures { result ≡ moved_row self.now table old }
+    {
+        if old == 0 {
+            return 0;
+        }
+        self.row(table, old).unwrap_or(0)
+    }
+
     /// What becomes of the offsets of a method.
     pub fn method(&self, method: u32) -> MethodMap<'_>
         ensures { offsets_of result.says ≡ offsets_in self.now method }
@@ -120,6 +148,13 @@ impl MapText {
         has_number(self.drops.as_slice(), method)
     }
 
+    /// Whether the method has a `slots` line.
+    pub fn has_slots(&self, method: u32) -> bool
+        ensures { result ≡ has_slots self.now method }
+    {
+        has_number(self.slotted.as_slice(), method)
+    }
+
     /// The NEW of the slot's `slot` line.
     fn new_slot(&self, method: u32, old: u16) -> Option<u16>
         ensures { result ≡ slot_line self.now method old }
@@ -132,7 +167,7 @@ impl MapText {
     pub fn slot(&self, method: u32, old: u16) -> Option<u16>
         ensures { result ≡ slot_image self.now method old }
     {
-        if has_number(self.slotted.as_slice(), method) {
+        if self.has_slots(method) {
             self.new_slot(method, old)
         } else {
             Some(old)

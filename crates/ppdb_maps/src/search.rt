@@ -1,5 +1,5 @@
 // A halving search in a list that is in order.
-ghost use Rattle.std.specs.Prelude.{◌≡◌, ◌&&◌, Bool, map, nat_eq, option_map, find, filter, slice_get};
+ghost use Rattle.std.specs.Prelude.{◌≡◌, ◌&&◌, Bool, map, nat_eq, option_copied, find, filter, slice_get};
 ghost use Rattle.std.specs.Fn.{ComputesKey};
 ghost use Rattle.std.specs.List.{list_any};
 ghost use Rattle.std.specs.List.Sorted.{IsStrictlySortedBy};
@@ -8,7 +8,7 @@ ghost use Rattle.ppdb_maps.specs.declared.entries.Count.{Count};
 ghost use Rattle.ppdb_maps.specs.declared.entries.RowImage.{RowImage};
 ghost use Rattle.ppdb_maps.specs.declared.entries.SlotImage.{SlotImage};
 ghost use Rattle.ppdb_maps.specs.Map.{MethodLine, pair_cmp};
-ghost use Rattle.ppdb_maps.specs.Search.{Parted, Grouped, lent};
+ghost use Rattle.ppdb_maps.specs.Search.{FindsBy, CountsBy};
 
 use crate::entries::{Count, RowImage, SlotImage};
 use crate::method::Method;
@@ -21,7 +21,7 @@ pub fn find_by<T, B: FnMut(&T) -> bool, A: FnMut(&T) -> bool>(
 ) -> Option<&T>
     requires before_callable { B.IsAlwaysCallable before }
     requires at_callable { A.IsAlwaysCallable at }
-    ensures { (is_before : T → Bool) (is_at : T → Bool) → ComputesKey B.FnMut is_before before → ComputesKey A.FnMut is_at at → Parted is_before is_at items.now → option_map lent result ≡ find is_at items.now }
+    ensures { (low hit : T → Bool) → ComputesKey B.FnMut low before → ComputesKey A.FnMut hit at → FindsBy low hit items.now (option_copied result) }
 {
     let place = items.partition_point(before);
     let item = items.get(place)?;
@@ -38,7 +38,7 @@ pub fn nth_by<T, B: FnMut(&T) -> bool, A: FnMut(&T) -> bool>(
 ) -> Option<&T>
     requires before_callable { B.IsAlwaysCallable before }
     requires at_callable { A.IsAlwaysCallable at }
-    ensures { (is_before : T → Bool) (is_at : T → Bool) → ComputesKey B.FnMut is_before before → ComputesKey A.FnMut is_at at → Grouped is_before is_at items.now → option_map lent result ≡ slice_get (filter is_at items.now) index }
+    ensures { (low hit : T → Bool) → ComputesKey B.FnMut low before → ComputesKey A.FnMut hit at → CountsBy low hit items.now index (option_copied result) }
 {
     let first = items.partition_point(before);
     let index = index as usize;
@@ -52,7 +52,7 @@ pub fn nth_by<T, B: FnMut(&T) -> bool, A: FnMut(&T) -> bool>(
 /// The count of a table.
 pub fn count_at(counts: &[Count], table: u8) -> Option<&Count>
     requires { IsStrictlySortedBy nat_cmp (map (λ (c : Count). c.table) counts.now) }
-    ensures { option_map lent result ≡ find (λ c. nat_eq c.table table) counts.now }
+    ensures { option_copied result ≡ find (λ c. nat_eq c.table table) counts.now }
 {
     find_by(
         counts,
@@ -64,7 +64,7 @@ pub fn count_at(counts: &[Count], table: u8) -> Option<&Count>
 /// The image of a row.
 pub fn row_at(rows: &[RowImage], table: u8, old: u32) -> Option<&RowImage>
     requires { IsStrictlySortedBy pair_cmp (map (λ (r : RowImage). (r.table, r.old)) rows.now) }
-    ensures { option_map lent result ≡ find (λ r. nat_eq r.table table && nat_eq r.old old) rows.now }
+    ensures { option_copied result ≡ find (λ r. nat_eq r.table table && nat_eq r.old old) rows.now }
 {
     find_by(
         rows,
@@ -76,7 +76,7 @@ pub fn row_at(rows: &[RowImage], table: u8, old: u32) -> Option<&RowImage>
 /// The image of a slot.
 pub fn slot_at(slots: &[SlotImage], method: u32, old: u16) -> Option<&SlotImage>
     requires { IsStrictlySortedBy pair_cmp (map (λ (s : SlotImage). (s.method, s.old)) slots.now) }
-    ensures { option_map lent result ≡ find (λ s. nat_eq s.method method && nat_eq s.old old) slots.now }
+    ensures { option_copied result ≡ find (λ s. nat_eq s.method method && nat_eq s.old old) slots.now }
 {
     find_by(
         slots,
@@ -88,7 +88,7 @@ pub fn slot_at(slots: &[SlotImage], method: u32, old: u16) -> Option<&SlotImage>
 /// The line of a method.
 pub fn method_at(methods: &[Method], method: u32) -> Option<&Method>
     requires { IsStrictlySortedBy nat_cmp (map (λ (m : MethodLine). m.method) methods.now) }
-    ensures { option_map lent result ≡ find (λ l. nat_eq l.method method) methods.now }
+    ensures { option_copied result ≡ find (λ l. nat_eq l.method method) methods.now }
 {
     find_by(
         methods,
@@ -108,7 +108,7 @@ pub fn has_number(numbers: &[u32], number: u32) -> bool
 /// The image of a row of the table, by its index among those of the table.
 pub fn nth_row(rows: &[RowImage], table: u8, index: u32) -> Option<&RowImage>
     requires { IsStrictlySortedBy pair_cmp (map (λ (r : RowImage). (r.table, r.old)) rows.now) }
-    ensures { option_map lent result ≡ slice_get (filter (λ r. nat_eq r.table table) rows.now) index }
+    ensures { option_copied result ≡ slice_get (filter (λ r. nat_eq r.table table) rows.now) index }
 {
     nth_by(
         rows,
@@ -121,7 +121,7 @@ pub fn nth_row(rows: &[RowImage], table: u8, index: u32) -> Option<&RowImage>
 /// The image of a slot of the method, by its index among those of the method.
 pub fn nth_slot(slots: &[SlotImage], method: u32, index: u32) -> Option<&SlotImage>
     requires { IsStrictlySortedBy pair_cmp (map (λ (s : SlotImage). (s.method, s.old)) slots.now) }
-    ensures { option_map lent result ≡ slice_get (filter (λ s. nat_eq s.method method) slots.now) index }
+    ensures { option_copied result ≡ slice_get (filter (λ s. nat_eq s.method method) slots.now) index }
 {
     nth_by(
         slots,

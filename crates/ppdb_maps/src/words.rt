@@ -1,8 +1,7 @@
 // The lines of a text, and the words of a line.
-ghost use Rattle.std.specs.Prelude.{◌≡◌, ◌<◌, [], ◌∷◌, ◌==◌, length, position, MatchOption};
+ghost use Rattle.std.specs.Prelude.{◌≡◌, ◌==◌, position, MatchOption};
 ghost use Rattle.std.specs.Str.Lines.{strip_carriage_return};
-ghost use Rattle.ppdb_maps.specs.Words.{parts_at};
-ghost use Rattle.ppdb_maps.specs.Cuts.{IsLineOf, AreWordsOf};
+ghost use Rattle.ppdb_maps.specs.Cuts.{IsCut, IsUncut, IsLineOf, AreWordsOf};
 
 /// Where the first `mark` stands.
 fn place_of(bytes: &[u8], mark: u8) -> Option<usize>
@@ -13,7 +12,7 @@ fn place_of(bytes: &[u8], mark: u8) -> Option<usize>
 
 /// What stands before the first `mark`, and what stands after it.
 pub fn cut_at(bytes: &[u8], mark: u8) -> (&[u8], Option<&[u8]>)
-    ensures { MatchOption result.1 ((result.0.now ≡ bytes.now) × (parts_at mark bytes.now ≡ result.0.now ∷ [])) (λ rest. (parts_at mark bytes.now ≡ result.0.now ∷ parts_at mark rest.now) × (length rest.now < length bytes.now)) }
+    ensures { MatchOption result.1 (IsUncut mark bytes.now result.0.now) (λ rest. IsCut mark bytes.now result.0.now rest.now) }
 {
     match place_of(bytes, mark) {
         Some(at) => (&bytes[..at], Some(&bytes[at + 1..])),

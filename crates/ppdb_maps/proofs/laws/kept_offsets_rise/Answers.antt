@@ -11,7 +11,8 @@ below o rise x y u v a b lt = elim (cases_lt x u) [
   | inr le ↦ elim (cases_lt u x) [
     | inl more ↦ absurd (let h = moves_rise 0 0 (stop_runs o) rise u v x y (kept_stops o u v b) (kept_stops o x y a) more in omega (arith, h, lt))
     | inr ge ↦ absurd (let same : x ≡ u = omega (arith, le, ge) in
-        let h : y ≡ v = moves_same 0 0 (stop_runs o) rise u y v (kept_stops o u y (subst (λ k. Kept o k y) same a)) (kept_stops o u v b) in omega (arith, h, lt))
+        let h : y ≡ v = moves_same 0 0 (stop_runs o) rise u y v (kept_stops o u y (subst (λ k. Kept o k y) same a)) (kept_stops o u v b) in omega
+        (arith, h, lt))
   ]
 ]
 

@@ -13,7 +13,8 @@ pub returns-then-not-is_ascii_digit : goal.returns-then-not-is_ascii_digit
 returns-then-not-is_ascii_digit c =
     λ all. let h = digit_at c.args.word.now c.loop-byte.byte-index all (omega arith) in grind (arith, common_steps, h)
 
-below : (word : List ℕ) (i value : ℕ) → AllDigits 10 (take i word) → value ≡ digits_value 10 (take i word) → i < length word → length word ≤ 10 → value < 1000000000
+below : (word : List ℕ) (i value : ℕ) → AllDigits 10 (take i word) → value ≡ digits_value 10 (take i word) → i < length word → length word ≤ 10
+    → value < 1000000000
 below word i value are say lt few =
     let h : digits_value 10 (take i word) < 1000000000 = nine_digits (take i word) are (omega (arith, length-take-le i word (omega arith))) in
     omega (arith, h, say)
@@ -32,7 +33,8 @@ pub loop-byte-preserved : goal.loop-byte-preserved
 loop-byte-preserved c =
     let lt : c.loop-byte.byte-index < length c.args.word.now = omega arith in
     let digit : digit_value (get_or c.args.word.now c.loop-byte.byte-index 0) < 10 = grind (arith, common_steps) in
-    let same : digit_value (get_or c.args.word.now c.loop-byte.byte-index 0) + 48 ≡ get_or c.args.word.now c.loop-byte.byte-index 0 = digit_value_digit _ (digit_from_value _ digit) in
+    let same : digit_value (get_or c.args.word.now c.loop-byte.byte-index 0) + 48 ≡ get_or c.args.word.now c.loop-byte.byte-index 0 = digit_value_digit _
+    (digit_from_value _ digit) in
     let more = digits_value_more 10 c.args.word.now c.loop-byte.byte-index lt in
     record {
       are = digits_more 10 c.args.word.now c.loop-byte.byte-index lt c.loop-byte.invariant.are digit;

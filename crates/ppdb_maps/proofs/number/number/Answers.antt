@@ -10,4 +10,8 @@ returns-else-least-value-clause-none c = λ n is.
     let from = is.from in
     let to = is.to in
     let same : n ≡ c.in_ok-value.value = decimal_injective n c.in_ok-value.value (grind arith) (grind arith) (sym is.spelled ∙ spelled) in
-    elim c.else-least-value.branch [ else-least-value-via-then-least-value+else-value-most w ↦ omega (arith, same, from, to) | else-least-value-via-else-least-value w ↦ omega (arith, same, from, to) ]
+    elim c.else-least-value.branch [
+      | else-least-value-via-then-least-value+else-value-most w ↦ omega (arith, same, from, to)
+      | else-least-value-via-else-least-value w ↦ omega
+          (arith, same, from, to)
+    ]

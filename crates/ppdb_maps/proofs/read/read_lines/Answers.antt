@@ -1,7 +1,7 @@
 use Rattle.std.proofs.Common.{◌<◌, length, arith}
 use Rattle.std.specs.Str.Lines.{lines}
 use Rattle.std.proofs.lemmas.Grind.{common_steps}
-use Rattle.ppdb_maps.proofs.Looping.{so_far_start, so_far_more}
+use Rattle.ppdb_maps.proofs.Looping.{so_far_start, so_far_more, so_far_refused}
 use Rattle.ppdb_maps.proofs.read.read_lines.Goals as goal
 
 pub loop-rest-init : goal.loop-rest-init
@@ -12,7 +12,17 @@ loop-rest-preserved c =
     let some : 0 < length c.loop-rest.rest.now = grind (arith, common_steps) in
     let shorter = c.first_line.ensures.shorter some in
     record {
-      so_far = so_far_more c.args.version (lines c.args.text.now) c.loop-rest.rest.now c.first_line.result.0.now c.first_line.result.1.now c.loop-rest.number c.loop-rest.draft
+      so_far = so_far_more c.args.version (lines c.args.text.now) c.loop-rest.rest.now c.first_line.result.0.now c.first_line.result.1.now c.loop-rest.number
+          c.loop-rest.draft
           c.add_text.new.self c.add_text.result c.in-Ok.field-0 c.loop-rest.invariant.so_far some c.first_line.ensures c.add_text.ensures c.in-Ok.is;
       room = grind (arith, shorter, c.loop-rest.invariant.room);
     }
+
+pub returns-in-Err-clause-refused : goal.returns-in-Err-clause-refused
+returns-in-Err-clause-refused c =
+    let some : 0 < length c.loop-rest.rest.now = grind (arith, common_steps) in
+    so_far_refused c.args.version (lines c.args.text.now) c.loop-rest.rest.now c.first_line.result.0.now c.first_line.result.1.now c.loop-rest.number
+    c.loop-rest.draft
+    c.add_text.new.self c.add_text.result c.in-Err.refusal c.refusal_at.result c.loop-rest.invariant.so_far some c.first_line.ensures c.add_text.ensures
+    c.in-Err.is
+    c.refusal_at.ensures

@@ -9,4 +9,5 @@ returns-in_default-clause-refused c =
 pub returns-in_err-draft-clause-refused : goal.returns-in_err-draft-clause-refused
 returns-in_err-draft-clause-refused c =
     let p = err_from_is_err_and c.from_residual.result c.from_residual.ensures.1 in
-    rw (p.1, p.2) (refused_as c.args.text.now c.first_line.result.0.now c.first_line.result.1.now c.in-Some.version _ c.first_line.ensures c.in-Some.ensures.some c.in_err-draft.ensures.refused)
+    rw (p.1, p.2) (refused_as c.args.text.now c.first_line.result.0.now c.first_line.result.1.now c.in-Some.version _ c.first_line.ensures
+    c.in-Some.ensures.some c.in_err-draft.ensures.refused)

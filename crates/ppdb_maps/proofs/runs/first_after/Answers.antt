@@ -10,7 +10,8 @@ use Rattle.ppdb_maps.proofs.runs.first_after.Goals as goal
 pub returns : goal.returns
 returns c =
     let parted = IsPartitionedBy-leb end_of _ c.args.offset (ends_rise 0 0 _ c.requires) in
-    let point = IsPartitionPoint-from_clause (λ r. leb (end_of r) c.args.offset) _ _ c.partition_point-at.ensures.partitioned parted (λ a r q k. search rules) in
+    let point = IsPartitionPoint-from_clause (λ r. leb (end_of r) c.args.offset) _ _ c.partition_point-at.ensures.partitioned parted
+    (λ a r q k. search rules) in
     let found : c.copied.result ≡ run_at c.args.runs.now c.args.offset =
     c.copied.ensures ∙ item_copied _ _ _ c.get.ensures.lookup
     ∙ found_at c.args.runs.now c.args.offset c.partition_point-at.result

@@ -6,6 +6,7 @@ use Rattle.ppdb_maps.specs.declared.entries.RowImage.{RowImage}
 use Rattle.ppdb_maps.proofs.search.row_at.Goals as goal
 
 pub returns : goal.returns
-returns c = c.find_by.ensures (λ (x : RowImage). nat_lt x.table c.args.table || (nat_eq x.table c.args.table && nat_lt x.old c.args.old)) (λ (x : RowImage). nat_eq x.table c.args.table && nat_eq x.old c.args.old)
+returns c = c.find_by.ensures (λ (x : RowImage). nat_lt x.table c.args.table || (nat_eq x.table c.args.table && nat_lt x.old c.args.old))
+    (λ (x : RowImage). nat_eq x.table c.args.table && nat_eq x.old c.args.old)
     (always_returns_same _ _ _ (λ a r f k. search rules)) (always_returns_same _ _ _ (λ a r f k. search rules))
     (by_pair (λ (x : RowImage). x.table) (λ (x : RowImage). x.old) c.args.table c.args.old c.args.rows.now c.requires)

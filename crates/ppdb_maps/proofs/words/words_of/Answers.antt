@@ -9,5 +9,6 @@ returns-else-is_none c =
     let three = rw c.in-Some-rest-2.is at c.cut_at-3.ensures in
     record {
       few = λ le. absurd (omega (arith, le));
-      many = λ _. many_words c.cut_at-4.result.1 c.args.line.now c.cut_at.result.0.now c.cut_at-2.result.0.now c.cut_at-3.result.0.now c.cut_at-4.result.0.now c.in-Some.rest.now c.in-Some-rest.rest.now c.in-Some-rest-2.rest.now one.0 two.0 three.0 c.cut_at-4.ensures c.if-is_none.ensures;
+      many = λ _. many_words c.cut_at-4.result.1 c.args.line.now c.cut_at.result.0.now c.cut_at-2.result.0.now c.cut_at-3.result.0.now c.cut_at-4.result.0.now
+          c.in-Some.rest.now c.in-Some-rest.rest.now c.in-Some-rest-2.rest.now one.0 two.0 three.0 c.cut_at-4.ensures c.if-is_none.ensures;
     }

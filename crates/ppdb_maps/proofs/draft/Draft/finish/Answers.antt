@@ -1,32 +1,33 @@
-use Rattle.ppdb_maps.proofs.Finishing.{made_ascends, made_holds}
+use Rattle.ppdb_maps.proofs.Finishing.{made_holds}
+use Rattle.ppdb_maps.proofs.Readable.{read_readable}
 use Rattle.ppdb_maps.proofs.draft.Draft.finish.Goals as goal
 
 pub new-requires : goal.new-requires
-new-requires c = made_ascends c.requires.0 c.args.self _ c.requires.1 (record {
+new-requires c = read_readable c.requires.0 c.requires.1 c.requires.2 _ c.requires.3 (made_holds c.requires.2 c.args.self _ c.requires.4 (record {
   counts = c.in_ok-counts.ensures.items;
-  rows = c.in_ok-rows.ensures.items;
+  rows = c.in_ok-rows.ensures.moved;
   methods = c.in_ok-methods.ensures.items;
   drops = c.in_ok-drops.ensures.items;
   slotted = c.in_ok-slotted.ensures.items;
   slots = c.in_ok-slots.ensures.items;
   counts_ordered = c.in_ok-counts.ensures.ordered;
-  rows_ordered = c.in_ok-rows.ensures.ordered;
+  rows_ordered = c.in_ok-rows.ensures.sorted;
   methods_ordered = c.in_ok-methods.ensures.ordered;
   drops_ordered = c.in_ok-drops.ensures.ordered;
   slotted_ordered = c.in_ok-slotted.ensures.ordered;
   slots_ordered = c.in_ok-slots.ensures.ordered;
-})
+}))
 
 pub returns : goal.returns
 returns c = λ before closed. rw c.new.ensures (made_holds before c.args.self _ closed (record {
   counts = c.in_ok-counts.ensures.items;
-  rows = c.in_ok-rows.ensures.items;
+  rows = c.in_ok-rows.ensures.moved;
   methods = c.in_ok-methods.ensures.items;
   drops = c.in_ok-drops.ensures.items;
   slotted = c.in_ok-slotted.ensures.items;
   slots = c.in_ok-slots.ensures.items;
   counts_ordered = c.in_ok-counts.ensures.ordered;
-  rows_ordered = c.in_ok-rows.ensures.ordered;
+  rows_ordered = c.in_ok-rows.ensures.sorted;
   methods_ordered = c.in_ok-methods.ensures.ordered;
   drops_ordered = c.in_ok-drops.ensures.ordered;
   slotted_ordered = c.in_ok-slotted.ensures.ordered;

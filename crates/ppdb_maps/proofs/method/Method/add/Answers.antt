@@ -8,8 +8,10 @@ use Rattle.ppdb_maps.proofs.method.Method.add.Goals as goal
 
 pub invariant_of-self-2 : goal.invariant_of-self-2
 invariant_of-self-2 c =
-    let within : (c.self.inside.old_size < end_of c.args.run → ⊥) × (c.self.inside.new_size < new_end_of c.args.run → ⊥) =
-    ((λ h. false≢true (sym c.if-ends_beyond.false ∙ c.ends_beyond.ensures.1 (inl h))), (λ h. false≢true (sym c.if-ends_beyond.false ∙ c.ends_beyond.ensures.1 (inr h)))) in
+    let within : (c.self.inside.old_size < end_of c.args.run → ⊥) × (c.self.inside.new_size < new_end_of c.args.run → ⊥) = (
+      (λ h. false≢true (sym c.if-ends_beyond.false ∙ c.ends_beyond.ensures.1 (inl h))),
+      (λ h. false≢true (sym c.if-ends_beyond.false ∙ c.ends_beyond.ensures.1 (inr h))),
+    ) in
     rw c.in_ok-push.ensures.ok
     (rise_with 0 0 c.self.inside.runs c.args.run (record { old = c.self.inside.old_size; new = c.self.inside.new_size; length = 1 }) c.requires
     (not_less _ _ within.0) (not_less _ _ within.1)

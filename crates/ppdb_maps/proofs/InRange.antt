@@ -1,0 +1,269 @@
+-- What lines that break no rule say is in range and fits together.
+use Rattle.std.proofs.Common.{inl, inr, ◌⊎◌, ℕ, ◌≡◌, ◌<◌, ◌≤◌, ◌++◌, ◌&&◌, Bool, true, false, cond, List, [], ◌∷◌, Option, Some, None, refl, sym, ap, ◌∙◌}
+use Rattle.std.proofs.Common.{subst, arith}
+use Rattle.std.specs.Prelude.{nat_eq, is_some}
+use Rattle.std.specs.List.{find}
+use Rattle.std.proofs.lemmas.Bool.{false≢true, eqb-true, and_parts}
+use Rattle.ppdb_base.specs.declared.offsets.Run.{Run}
+use Rattle.ppdb_base.specs.Offsets.{Rise, lined}
+use Rattle.ppdb_maps.specs.Before.{count_in, row_in, method_in, methods_of, with_run, drop_in, slots_in, slot_in}
+use Rattle.ppdb_maps.specs.Forms.{ROWS, OFFSETS, SLOTS, Values, Tells, silent, told, rows_line, row_line, method_line, run_line, drop_line, slots_line}
+use Rattle.ppdb_maps.specs.Forms.{slot_line}
+use Rattle.ppdb_maps.specs.Map.{MethodLine}
+use Rattle.ppdb_maps.specs.Readable.{IsRow}
+use Rattle.ppdb_maps.specs.Rules.{Breaks, row_alone, slot_alone, run_early, run_long, drop_named, dropped_method, dropped_row, dropped_slots, by_lines}
+use Rattle.ppdb_maps.specs.Text.{Read, start, further}
+use Rattle.ppdb_maps.specs.declared.line.Form.{Form}
+use Rattle.ppdb_maps.specs.declared.line.Line.{Line}
+use Rattle.ppdb_maps.specs.declared.line.Line.TheVariants.{Silent, Rows, Row, Method, Kept, Dropped, Slots, Slot}
+use Rattle.ppdb_maps.specs.declared.rule.Rule.{Rule}
+use Rattle.ppdb_maps.specs.declared.rule.Rule.TheVariants.{Undeclared, Overlap, Beyond, NamesDropped}
+use Rattle.ppdb_maps.proofs.Finishing.{found_at_number}
+use Rattle.ppdb_maps.proofs.Rising.{rise_with, not_less}
+
+-- the numbers of a line
+abbrev InRange : Line → Type 0
+InRange Silent = Unit {0}
+InRange (Rows t n) = (t ≤ 0x2c) × (n ≤ ROWS)
+InRange (Row t o n) = IsRow o × IsRow n
+InRange (Method m o n) = IsRow m × (o ≤ OFFSETS) × (n ≤ OFFSETS)
+InRange (Kept run) = 0 < run.length
+InRange (Dropped m) = IsRow m
+InRange (Slots m) = IsRow m
+InRange (Slot m o n) = (o ≤ SLOTS) × (n ≤ SLOTS)
+
+values_range : (form : Form) (values : List (List ℕ)) (line : Line) → Values form values line → InRange line
+values_range form values line (rows_line a b) = (a.known, b.to)
+values_range form values line (row_line a b d) = ((b.from, b.to), (d.from, d.to))
+values_range form values line (method_line a b d) = ((a.from, a.to), b.to, d.to)
+values_range form values line (run_line a b d) = d.from
+values_range form values line (drop_line a) = (a.from, a.to)
+values_range form values line (slots_line a) = (a.from, a.to)
+values_range form values line (slot_line a b d) = (b.to, d.to)
+
+tells_range : (version : ℕ) (text : List ℕ) (line : Line) → Tells version text line → InRange line
+tells_range version text line (silent h) = tt
+tells_range version text line (told loud says) = values_range says.form says.has.values line says.values
+
+-- the numbers of a method's line, with its runs
+abbrev pub FitsLine : List Line → MethodLine → Type 0
+FitsLine said line =
+    IsRow line.method × (line.old_size ≤ OFFSETS) × (line.new_size ≤ OFFSETS)
+    × Rise (lined line.runs line.old_size line.new_size) × (drop_in said line.method ≡ false)
+
+-- the answers of lines
+pub record Fits (said : List Line) : Type 0 where
+  pub counts : (t n : ℕ) → count_in said t ≡ Some n → (t ≤ 0x2c) × (n ≤ ROWS)
+  pub rows : (t o n : ℕ) → row_in said t o ≡ Some n → IsRow o × IsRow n × (is_some (count_in said t) ≡ true) × (t ≡ 0x06 → drop_in said o ≡ false)
+  pub methods : (m : ℕ) (line : MethodLine) → method_in said m ≡ Some line → FitsLine said line
+  pub drops : (m : ℕ) → drop_in said m ≡ true → IsRow m
+  pub slotted : (m : ℕ) → slots_in said m ≡ true → IsRow m × (drop_in said m ≡ false)
+  pub slots : (m o n : ℕ) → slot_in said m o ≡ Some n → (o ≤ SLOTS) × (n ≤ SLOTS) × (slots_in said m ≡ true)
+
+-- an answer comes from the last line or from the lines before it
+answer_from : {A : Type 0} (b : Bool) (x y : A) (o : Option A) → cond b (Some x) o ≡ Some y → ((b ≡ true) × (x ≡ y)) ⊎ ((b ≡ false) × (o ≡ Some y))
+answer_from true x y o is = let e : x ≡ y = cc in inl (refl, e)
+answer_from false x y o is = inr (refl, is)
+
+true_from : (b c : Bool) → cond b true c ≡ true → (b ≡ true) ⊎ (c ≡ true)
+true_from true c is = inl refl
+true_from false c is = inr is
+
+still_some : {A : Type 0} (b : Bool) (x : A) (o : Option A) → is_some o ≡ true → is_some (cond b (Some x) o) ≡ true
+still_some true x o is = refl
+still_some false x o is = is
+
+still_true : (b c : Bool) → c ≡ true → cond b true c ≡ true
+still_true true c is = refl
+still_true false c is = is
+
+still_false : (b c : Bool) → (b ≡ true → ⊥) → c ≡ false → cond b true c ≡ false
+still_false true c never is = absurd (never refl)
+still_false false c never is = is
+
+not_true : (b : Bool) → (b ≡ true → ⊥) → b ≡ false
+not_true true never = absurd (never refl)
+not_true false never = refl
+
+not_false : (b : Bool) → (b ≡ false → ⊥) → b ≡ true
+not_false true never = refl
+not_false false never = absurd (never refl)
+
+not_none : {A : Type 0} (o : Option A) → (o ≡ None → ⊥) → is_some o ≡ true
+not_none None never = absurd (never refl)
+not_none (Some x) never = refl
+
+there : {A : Type 0} (o : Option A) (x : A) → o ≡ Some x → is_some o ≡ true
+there o x is = ap is_some is
+
+-- no line before breaks a rule by this one
+abbrev KeepsAll : List Line → Line → Type 0
+KeepsAll before line = (rule : Rule) → Breaks before rule line → ⊥
+
+fits_silent : (before : List Line) → Fits before → Fits (Silent ∷ before)
+fits_silent before fits = record
+    { counts = fits.counts; rows = fits.rows; methods = fits.methods; drops = fits.drops; slotted = fits.slotted; slots = fits.slots }
+
+fits_rows : (before : List Line) (t n : ℕ) → Fits before → InRange (Rows t n) → Fits (Rows t n ∷ before)
+fits_rows before t n fits range = record {
+  counts = λ k m is. elim (answer_from (nat_eq t k) n m (count_in before k) is) [
+    | inl (hit, same) ↦ (subst (λ x. x ≤ 0x2c) (eqb-true t k hit) range.0, subst (λ x. x ≤ ROWS) same range.1)
+    | inr (miss, rest) ↦ fits.counts k m rest
+  ];
+  rows = λ k o m is. let h = fits.rows k o m is in (h.0, h.1, still_some (nat_eq t k) n (count_in before k) h.2, h.3);
+  methods = fits.methods;
+  drops = fits.drops;
+  slotted = fits.slotted;
+  slots = fits.slots;
+}
+
+fits_row : (before : List Line) (t o n : ℕ) → Fits before → InRange (Row t o n) → KeepsAll before (Row t o n) → Fits (Row t o n ∷ before)
+fits_row before t o n fits range keeps = record {
+  counts = fits.counts;
+  rows = λ k j m is. elim (answer_from (nat_eq t k && nat_eq o j) n m (row_in before k j) is) [
+    | inl (hit, same) ↦
+        let parts = and_parts (nat_eq t k) (nat_eq o j) hit in
+        let tables : t ≡ k = eqb-true t k parts.0 in
+        let olds : o ≡ j = eqb-true o j parts.1 in (
+          subst IsRow olds range.0,
+          subst IsRow same range.1,
+          subst (λ x. is_some (count_in before x) ≡ true) tables (not_none (count_in before t) (λ none. keeps Undeclared (row_alone none))),
+          λ six. subst (λ x. drop_in before x ≡ false) olds (not_true (drop_in before o) (λ drop. keeps NamesDropped (dropped_row (tables ∙ six) drop))),
+        )
+    | inr (miss, rest) ↦ fits.rows k j m rest
+  ];
+  methods = fits.methods;
+  drops = fits.drops;
+  slotted = fits.slotted;
+  slots = fits.slots;
+}
+
+fits_method : (before : List Line) (m o n : ℕ) → Fits before → InRange (Method m o n) → KeepsAll before (Method m o n) → Fits (Method m o n ∷ before)
+fits_method before m o n fits range keeps = record {
+  counts = fits.counts;
+  rows = fits.rows;
+  methods = λ k line is. elim (answer_from (nat_eq m k) (record { method = m; old_size = o; new_size = n; runs = [] }) line (method_in before k) is) [
+    | inl (hit, same) ↦
+        subst (λ l. FitsLine before l) same
+        (range.0, range.1, range.2, (omega arith, omega arith, omega arith, tt), not_true (drop_in before m) (λ drop. keeps NamesDropped (dropped_method drop)))
+    | inr (miss, rest) ↦ fits.methods k line rest
+  ];
+  drops = fits.drops;
+  slotted = fits.slotted;
+  slots = fits.slots;
+}
+
+fits_kept : (before : List Line) (run : Run) → Fits before → InRange (Kept run) → KeepsAll before (Kept run) → Fits (Kept run ∷ before)
+fits_kept before run fits range keeps = record {
+  counts = fits.counts;
+  rows = fits.rows;
+  methods = λ k line is. of k line (methods_of before) refl is;
+  drops = fits.drops;
+  slotted = fits.slotted;
+  slots = fits.slots;
+}
+  where
+    with_longer : (first : MethodLine) (others : List MethodLine) → methods_of before ≡ first ∷ others → FitsLine before first
+        → FitsLine before (record first { runs = first.runs ++ run ∷ [] })
+    with_longer first others e fit = (
+      fit.0,
+      fit.1,
+      fit.2,
+      rise_with 0 0 first.runs run (record { old = first.old_size; new = first.new_size; length = 1 }) range
+          (not_less _ _ (λ h. keeps Beyond (run_long e (inl h)))) (not_less _ _ (λ h. keeps Beyond (run_long e (inr h))))
+          (λ early. keeps Overlap (run_early e early)) (λ _. (omega arith, omega arith)) fit.3,
+      fit.4,
+    )
+
+    of : (k : ℕ) (line : MethodLine) (lines : List MethodLine) → methods_of before ≡ lines → find (λ l. nat_eq l.method k) (with_run run lines) ≡ Some line
+        → FitsLine before line
+    of k line [] e is = absurd (cc)
+    of k line (first ∷ others) e is =
+        elim (answer_from (nat_eq first.method k) (record first { runs = first.runs ++ run ∷ [] }) line (find (λ l. nat_eq l.method k) others) is) [
+          | inl (hit, same) ↦ subst (λ l. FitsLine before l) same
+              (with_longer first others e (fits.methods k first (ap (find (λ l. nat_eq l.method k)) e ∙ rw hit refl)))
+          | inr (miss, rest) ↦ fits.methods k line (ap (find (λ l. nat_eq l.method k)) e ∙ rw miss rest)
+        ]
+
+fits_drop : (before : List Line) (m : ℕ) → Fits before → InRange (Dropped m) → KeepsAll before (Dropped m) → Fits (Dropped m ∷ before)
+fits_drop before m fits range keeps = record {
+  counts = fits.counts;
+  rows = λ t o n is.
+      let h = fits.rows t o n is in
+      (h.0, h.1, h.2, λ six. still_false (nat_eq m o) (drop_in before o) (λ hit. no_row t o n six (eqb-true m o hit) is) (h.3 six));
+  methods = λ k line is.
+      let h = fits.methods k line is in
+      (h.0, h.1, h.2, h.3, still_false (nat_eq m line.method) (drop_in before line.method) (λ hit. no_method k line (eqb-true m line.method hit) is) h.4);
+  drops = λ k is. elim (true_from (nat_eq m k) (drop_in before k) is) [ inl hit ↦ subst IsRow (eqb-true m k hit) range | inr rest ↦ fits.drops k rest ];
+  slotted = λ k is. let h = fits.slotted k is in (h.0, still_false (nat_eq m k) (drop_in before k) (λ hit. no_slots k (eqb-true m k hit) is) h.1);
+  slots = fits.slots;
+}
+  where
+    no_row : (t o n : ℕ) → t ≡ 0x06 → m ≡ o → row_in before t o ≡ Some n → ⊥
+    no_row t o n six same is =
+        keeps NamesDropped (drop_named
+        (inr (inl (subst (λ x. is_some (row_in before 0x06 x) ≡ true) (sym same) (subst (λ x. is_some (row_in before x o) ≡ true) six (there _ n is))))))
+
+    no_method : (k : ℕ) (line : MethodLine) → m ≡ line.method → method_in before k ≡ Some line → ⊥
+    no_method k line same is =
+        keeps NamesDropped (drop_named
+        (inl (subst (λ x. is_some (method_in before x) ≡ true) (sym (same ∙ found_at_number (methods_of before) k line is)) (there _ line is))))
+
+    no_slots : (k : ℕ) → m ≡ k → slots_in before k ≡ true → ⊥
+    no_slots k same is = keeps NamesDropped (drop_named (inr (inr (subst (λ x. slots_in before x ≡ true) (sym same) is))))
+
+fits_slots : (before : List Line) (m : ℕ) → Fits before → InRange (Slots m) → KeepsAll before (Slots m) → Fits (Slots m ∷ before)
+fits_slots before m fits range keeps = record {
+  counts = fits.counts;
+  rows = fits.rows;
+  methods = fits.methods;
+  drops = fits.drops;
+  slotted = λ k is. elim (true_from (nat_eq m k) (slots_in before k) is) [
+    | inl hit ↦
+        let same : m ≡ k = eqb-true m k hit in
+        subst (λ x. IsRow x × (drop_in before x ≡ false)) same (range, not_true (drop_in before m) (λ drop. keeps NamesDropped (dropped_slots drop)))
+    | inr rest ↦ fits.slotted k rest
+  ];
+  slots = λ k o n is. let h = fits.slots k o n is in (h.0, h.1, still_true (nat_eq m k) (slots_in before k) h.2);
+}
+
+fits_slot : (before : List Line) (m o n : ℕ) → Fits before → InRange (Slot m o n) → KeepsAll before (Slot m o n) → Fits (Slot m o n ∷ before)
+fits_slot before m o n fits range keeps = record {
+  counts = fits.counts;
+  rows = fits.rows;
+  methods = fits.methods;
+  drops = fits.drops;
+  slotted = fits.slotted;
+  slots = λ k j i is. elim (answer_from (nat_eq m k && nat_eq o j) n i (slot_in before k j) is) [
+    | inl (hit, same) ↦
+        let parts = and_parts (nat_eq m k) (nat_eq o j) hit in (
+          subst (λ x. x ≤ SLOTS) (eqb-true o j parts.1) range.0,
+          subst (λ x. x ≤ SLOTS) same range.1,
+          subst (λ x. slots_in before x ≡ true) (eqb-true m k parts.0) (not_false (slots_in before m) (λ none. keeps Undeclared (slot_alone none))),
+        )
+    | inr (miss, rest) ↦ fits.slots k j i rest
+  ];
+}
+
+fits_line : (before : List Line) (line : Line) → Fits before → InRange line → KeepsAll before line → Fits (line ∷ before)
+fits_line before Silent fits range keeps = fits_silent before fits
+fits_line before (Rows t n) fits range keeps = fits_rows before t n fits range
+fits_line before (Row t o n) fits range keeps = fits_row before t o n fits range keeps
+fits_line before (Method m o n) fits range keeps = fits_method before m o n fits range keeps
+fits_line before (Kept run) fits range keeps = fits_kept before run fits range keeps
+fits_line before (Dropped m) fits range keeps = fits_drop before m fits range keeps
+fits_line before (Slots m) fits range keeps = fits_slots before m fits range keeps
+fits_line before (Slot m o n) fits range keeps = fits_slot before m o n fits range keeps
+
+-- lines that were read fit together
+pub read_fits : (version : ℕ) (texts : List (List ℕ)) (said : List Line) → Read version texts said → Fits said
+read_fits version texts said start = record {
+  counts = λ t n is. absurd (cc);
+  rows = λ t o n is. absurd (cc);
+  methods = λ m line is. absurd (cc);
+  drops = λ m is. absurd (false≢true is);
+  slotted = λ m is. absurd (false≢true is);
+  slots = λ m o n is. absurd (cc);
+}
+read_fits version texts said (further {texts = front} {before} {text} {line} read tells keeps) =
+    fits_line before line (read_fits version front before read) (tells_range version text line tells) (λ rule breaks. keeps rule (by_lines tells breaks))

@@ -1,0 +1,133 @@
+-- A text has one map: its lines say one thing, and a map that holds it is one.
+use Rattle.std.proofs.Common.{◌≡◌, ℕ, ◌+◌, ◌⊎◌, ◌&&◌, ◌++◌, Bool, true, false, cond, List, [], ◌∷◌, Some, None, refl, sym, ◌∙◌, ap, arith, inl, inr, map, subst}
+use Rattle.std.specs.Prelude.{nat_eq, codes}
+use Rattle.std.specs.List.{find, list_any}
+use Rattle.std.specs.List.Sorted.{IsStrictlySortedBy}
+use Rattle.std.specs.Option.{option_map}
+use Rattle.std.specs.Ordering.{nat_cmp}
+use Rattle.std.specs.Cmp.{IsTotalOrder, IsEquivalence}
+use Rattle.std.proofs.lemmas.Map.Lookups.{CmpEqualImpliesEq, exact_pairs, exact_unsigned}
+use Rattle.std.proofs.lemmas.Bool.{cases_lt, eq-eqb, ne_eqb, eqb-true, and_parts, and_from}
+use Rattle.std.proofs.lemmas.Cmp.{then_total, on_total, nat_cmp_total, nat_eq_equiv}
+use Rattle.std.proofs.lemmas.List.{append_cancel_left}
+use Rattle.ppdb_maps.specs.declared.entries.Count.{Count}
+use Rattle.ppdb_maps.specs.declared.entries.RowImage.{RowImage}
+use Rattle.ppdb_maps.specs.declared.entries.SlotImage.{SlotImage}
+use Rattle.ppdb_maps.specs.declared.line.Line.{Line}
+use Rattle.ppdb_maps.specs.Gathered.{same_pair}
+use Rattle.ppdb_maps.specs.Map.{Map, MethodLine, pair_cmp}
+use Rattle.ppdb_maps.specs.Text.{Read, HoldsWhat}
+use Rattle.ppdb_maps.specs.Readable.{TextsHaveOneMap}
+use Rattle.ppdb_maps.proofs.OneList.{one_list}
+use Rattle.ppdb_maps.proofs.OneReading.{read_same}
+
+-- an item that is found is made of what it was found by and what it says
+rebuilt : {X V : Type 0} (p : X → Bool) (val : X → V) (make : V → X) → ((x : X) → p x ≡ true → make (val x) ≡ x) → (xs : List X)
+    → find p xs ≡ option_map make (option_map val (find p xs))
+rebuilt p val make is [] = refl
+rebuilt {X} p val make is (x ∷ xs) = step (p x) refl (rebuilt p val make is xs)
+  where
+    step : (b : Bool) → p x ≡ b → find p xs ≡ option_map make (option_map val (find p xs))
+        → cond b (Some x) (find p xs) ≡ option_map make (option_map val (cond b (Some x) (find p xs)))
+    step false miss rest = rest
+    step true hit rest = ap Some (sym (is x hit))
+
+alike : {X V : Type 0} (p : X → Bool) (val : X → V) (make : V → X) → ((x : X) → p x ≡ true → make (val x) ≡ x) → (xs ys : List X)
+    → option_map val (find p xs) ≡ option_map val (find p ys) → find p xs ≡ find p ys
+alike p val make is xs ys e = rebuilt p val make is xs ∙ ap (option_map make) e ∙ sym (rebuilt p val make is ys)
+
+pub same_number : (a b : ℕ) → nat_eq a b ≡ true → a ≡ b
+same_number a b e = eqb-true a b e
+
+pub number_same : (a : ℕ) → nat_eq a a ≡ true
+number_same a = eq-eqb a a refl
+
+pub pair_is : (p q : ℕ × ℕ) → same_pair p q ≡ true → p ≡ q
+pair_is p q e =
+    let parts = and_parts (nat_eq p.0 q.0) (nat_eq p.1 q.1) e in
+    ap (λ n. (n, p.1)) (eqb-true p.0 q.0 parts.0) ∙ ap (λ n. (q.0, n)) (eqb-true p.1 q.1 parts.1)
+
+pub is_pair : (p : ℕ × ℕ) → same_pair p p ≡ true
+is_pair p = and_from (nat_eq p.0 p.0) (nat_eq p.1 p.1) (eq-eqb p.0 p.0 refl) (eq-eqb p.1 p.1 refl)
+
+pub pair_equal : IsEquivalence same_pair
+pair_equal = record {
+  refl = is_pair;
+  symm = λ p q. ap (λ b. b && nat_eq p.1 q.1) (nat_eq_equiv.symm p.0 q.0) ∙ ap (λ b. nat_eq q.0 p.0 && b) (nat_eq_equiv.symm p.1 q.1);
+  congr = λ p q r e. ap (λ k. same_pair k r) (pair_is p q e);
+}
+
+pub pair_exact : CmpEqualImpliesEq pair_cmp
+pair_exact = exact_pairs nat_cmp nat_cmp exact_unsigned exact_unsigned
+
+pub pair_total : IsTotalOrder pair_cmp
+pair_total = then_total (on_total (λ (p : ℕ × ℕ). p.0) nat_cmp_total) (on_total (λ (p : ℕ × ℕ). p.1) nat_cmp_total)
+
+pub same_or_apart : (j k : ℕ) → (j ≡ k) ⊎ (j ≡ k → ⊥)
+same_or_apart j k = elim (cases_lt j k) [
+  | inl less ↦ inr (λ e. omega (arith, e))
+  | inr ge ↦ elim (cases_lt k j) [ inl more ↦ inr (λ e. omega (arith, e)) | inr le ↦ inl (omega arith) ]
+]
+
+number_found : (n : ℕ) (xs : List ℕ) → find (λ x. nat_eq x n) xs ≡ cond (list_any (nat_eq n) xs) (Some n) None
+number_found n [] = refl
+number_found n (x ∷ xs) = elim (same_or_apart x n) [
+  | inl same ↦ rw (eq-eqb x n same, eq-eqb n x (sym same)) (ap Some same)
+  | inr apart ↦ rw (ne_eqb x n apart, ne_eqb n x (λ e. apart (sym e))) (number_found n xs)
+]
+
+map_itself : (xs : List ℕ) → map (λ (x : ℕ). x) xs ≡ xs
+map_itself [] = refl
+map_itself (x ∷ xs) = ap (λ l. x ∷ l) (map_itself xs)
+
+numbers_one : (xs ys : List ℕ) → IsStrictlySortedBy nat_cmp xs → IsStrictlySortedBy nat_cmp ys → ((n : ℕ) → list_any (nat_eq n) xs ≡ list_any (nat_eq n) ys)
+    → xs ≡ ys
+numbers_one xs ys a b same = one_list (λ (x : ℕ). x) nat_eq nat_cmp same_number number_same nat_cmp_total xs ys
+    (subst (IsStrictlySortedBy nat_cmp) (sym (map_itself xs)) a) (subst (IsStrictlySortedBy nat_cmp) (sym (map_itself ys)) b)
+    (λ n. number_found n xs ∙ ap (λ r. cond r (Some n) None) (same n) ∙ sym (number_found n ys))
+
+maps_same : (said : List Line) (a b : Map) → HoldsWhat said a → HoldsWhat said b → a ≡ b
+maps_same said a b x y =
+    let counts : a.counts ≡ b.counts = one_list (λ (c : Count). c.table) nat_eq nat_cmp same_number number_same nat_cmp_total a.counts b.counts
+    x.ascends.counts y.ascends.counts
+    (λ n. alike (λ (c : Count). nat_eq c.table n) (λ (c : Count). c.rows) (λ r. record { table = n; rows = r })
+    (λ c hit. ap (λ t. record { table = t; rows = c.rows }) (sym (eqb-true c.table n hit))) a.counts b.counts (x.counts n ∙ sym (y.counts n))) in
+    let rows : a.rows ≡ b.rows = one_list (λ (r : RowImage). (r.table, r.old)) same_pair pair_cmp pair_is is_pair pair_total a.rows b.rows x.ascends.rows
+    y.ascends.rows
+    (λ k. alike (λ (r : RowImage). nat_eq r.table k.0 && nat_eq r.old k.1) (λ (r : RowImage). r.new) (λ n. record { table = k.0; old = k.1; new = n })
+    (λ r hit. let parts = and_parts (nat_eq r.table k.0) (nat_eq r.old k.1) hit in
+    ap (λ t. record { table = t; old = k.1; new = r.new }) (sym (eqb-true r.table k.0 parts.0))
+    ∙ ap (λ o. record { table = r.table; old = o; new = r.new }) (sym (eqb-true r.old k.1 parts.1)))
+    a.rows b.rows (x.rows k.0 k.1 ∙ sym (y.rows k.0 k.1))) in
+    let methods : a.methods ≡ b.methods = one_list (λ (l : MethodLine). l.method) nat_eq nat_cmp same_number number_same nat_cmp_total a.methods b.methods
+    x.ascends.methods y.ascends.methods
+    (λ n. x.methods n ∙ sym (y.methods n)) in
+    let drops : a.drops ≡ b.drops = numbers_one a.drops b.drops x.ascends.drops y.ascends.drops (λ n. x.drops n ∙ sym (y.drops n)) in
+    let slotted : a.slotted ≡ b.slotted = numbers_one a.slotted b.slotted x.ascends.slotted y.ascends.slotted (λ n. x.slotted n ∙ sym (y.slotted n)) in
+    let slots : a.slots ≡ b.slots = one_list (λ (s : SlotImage). (s.method, s.old)) same_pair pair_cmp pair_is is_pair pair_total a.slots b.slots
+    x.ascends.slots y.ascends.slots
+    (λ k. alike (λ (s : SlotImage). nat_eq s.method k.0 && nat_eq s.old k.1) (λ (s : SlotImage). s.new) (λ n. record { method = k.0; old = k.1; new = n })
+    (λ s hit. let parts = and_parts (nat_eq s.method k.0) (nat_eq s.old k.1) hit in
+    ap (λ t. record { method = t; old = k.1; new = s.new }) (sym (eqb-true s.method k.0 parts.0))
+    ∙ ap (λ o. record { method = s.method; old = o; new = s.new }) (sym (eqb-true s.old k.1 parts.1)))
+    a.slots b.slots (x.slots k.0 k.1 ∙ sym (y.slots k.0 k.1))) in
+    ap (λ z. record { counts = z; rows = a.rows; methods = a.methods; drops = a.drops; slotted = a.slotted; slots = a.slots }) counts
+    ∙ ap (λ z. record { counts = b.counts; rows = z; methods = a.methods; drops = a.drops; slotted = a.slotted; slots = a.slots }) rows
+    ∙ ap (λ z. record { counts = b.counts; rows = b.rows; methods = z; drops = a.drops; slotted = a.slotted; slots = a.slots }) methods
+    ∙ ap (λ z. record { counts = b.counts; rows = b.rows; methods = b.methods; drops = z; slotted = a.slotted; slots = a.slots }) drops
+    ∙ ap (λ z. record { counts = b.counts; rows = b.rows; methods = b.methods; drops = b.drops; slotted = z; slots = a.slots }) slotted
+    ∙ ap (λ z. record { counts = b.counts; rows = b.rows; methods = b.methods; drops = b.drops; slotted = b.slotted; slots = z }) slots
+
+pub version_same : (head : List ℕ) (v w : ℕ) → head ≡ codes "ppdbmap " ++ (48 + v) ∷ [] → head ≡ codes "ppdbmap " ++ (48 + w) ∷ [] → v ≡ w
+version_same head v w a b =
+    let e : ◌≡◌ {A = List ℕ} ((48 + v) ∷ []) ((48 + w) ∷ []) = append_cancel_left (codes "ppdbmap ") _ _ (sym a ∙ b) in
+    let n : 48 + v ≡ 48 + w = cc in omega (arith, n)
+
+pub texts_have_one_map : TextsHaveOneMap
+texts_have_one_map = λ text a b x y.
+    let lines : ◌≡◌ {A = List (List ℕ)} (x.head ∷ x.rest) (y.head ∷ y.rest) = sym x.lines ∙ y.lines in
+    let heads : x.head ≡ y.head = cc in
+    let rests : x.rest ≡ y.rest = cc in
+    let versions : x.version ≡ y.version = version_same y.head x.version y.version (sym heads ∙ x.begins.spelled) y.begins.spelled in
+    let says : x.said ≡ y.said = read_same y.version x.rest y.rest x.said y.said rests (subst (λ v. Read v x.rest x.said) versions x.read) y.read in
+    maps_same y.said a b (subst (λ l. HoldsWhat l a) says x.holds_what) y.holds_what

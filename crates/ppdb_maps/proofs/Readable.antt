@@ -1,0 +1,73 @@
+-- A map that a text has is readable.
+use Rattle.std.proofs.Common.{ℕ, ◌≡◌, ◌||◌, Bool, true, false, List, [], ◌∷◌, refl, sym, ap, ◌∙◌}
+use Rattle.std.specs.Prelude.{nat_eq, is_some}
+use Rattle.std.specs.List.{AllByRecursion, list_any}
+use Rattle.std.specs.List.Sorted.{IsStrictlySortedBy}
+use Rattle.std.specs.Option.{option_map}
+use Rattle.std.specs.Ordering.{nat_cmp}
+use Rattle.std.proofs.lemmas.Bool.{eq-eqb}
+use Rattle.std.proofs.lemmas.Cmp.{nat_cmp_total}
+use Rattle.ppdb_maps.specs.Gathered.{same_pair}
+use Rattle.ppdb_maps.specs.Map.{Map, MethodLine, pair_cmp}
+use Rattle.ppdb_maps.specs.Readable.{IsReadable, IsCount, IsRow, IsRowOf, IsLineOf, IsSlottedOf, IsSlotOf, MapsAreReadable}
+use Rattle.ppdb_maps.specs.Text.{HoldsWhat, Read}
+use Rattle.ppdb_maps.specs.declared.entries.Count.{Count}
+use Rattle.ppdb_maps.specs.declared.entries.RowImage.{RowImage}
+use Rattle.ppdb_maps.specs.declared.entries.SlotImage.{SlotImage}
+use Rattle.ppdb_maps.specs.declared.line.Line.{Line}
+use Rattle.ppdb_maps.proofs.InRange.{Fits, read_fits}
+use Rattle.ppdb_maps.proofs.OneList.{each_found}
+use Rattle.ppdb_maps.proofs.OneMap.{same_number, number_same, pair_is, is_pair, pair_total}
+
+still_any : (b c : Bool) → c ≡ true → (b || c) ≡ true
+still_any true c is = refl
+still_any false c is = is
+
+-- what holds of all numbers that are in a list holds of each of its items
+each_number : (P : ℕ → Type 0) (xs : List ℕ) → ((n : ℕ) → list_any (nat_eq n) xs ≡ true → P n) → AllByRecursion P xs
+each_number P [] holds = tt
+each_number P (x ∷ xs) holds = (
+  holds x (rw (eq-eqb x x refl) refl),
+  each_number P xs (λ n is. holds n (still_any (nat_eq n x) (list_any (nat_eq n) xs) is)),
+)
+
+-- the answers of a map are those of its lines
+pub held_fits : (said : List Line) (m : Map) → HoldsWhat said m → Fits said → IsReadable m
+held_fits said m holds fits = record {
+  ascends = holds.ascends;
+  counts = each_found (λ (c : Count). c.table) nat_eq nat_cmp same_number number_same nat_cmp_total IsCount m.counts holds.ascends.counts
+      (λ c found. fits.counts c.table c.rows (sym (holds.counts c.table) ∙ ap (option_map (λ (c : Count). c.rows)) found));
+  rows = each_found (λ (r : RowImage). (r.table, r.old)) same_pair pair_cmp pair_is is_pair pair_total (IsRowOf m) m.rows holds.ascends.rows
+      (λ r found.
+      let h = fits.rows r.table r.old r.new (sym (holds.rows r.table r.old) ∙ ap (option_map (λ (r : RowImage). r.new)) found) in
+      (h.0, h.1, ap is_some (holds.counts r.table) ∙ h.2, λ six. holds.drops r.old ∙ h.3 six));
+  methods = each_found (λ (l : MethodLine). l.method) nat_eq nat_cmp same_number number_same nat_cmp_total (IsLineOf m) m.methods holds.ascends.methods
+      (λ l found.
+      let h = fits.methods l.method l (sym (holds.methods l.method) ∙ found) in
+      (h.0, h.1, h.2, h.3, holds.drops l.method ∙ h.4));
+  drops = each_number IsRow m.drops (λ n is. fits.drops n (sym (holds.drops n) ∙ is));
+  slotted = each_number (IsSlottedOf m) m.slotted (λ n is. let h = fits.slotted n (sym (holds.slotted n) ∙ is) in (h.0, holds.drops n ∙ h.1));
+  slots = each_found (λ (s : SlotImage). (s.method, s.old)) same_pair pair_cmp pair_is is_pair pair_total (IsSlotOf m) m.slots holds.ascends.slots
+      (λ s found.
+      let h = fits.slots s.method s.old s.new (sym (holds.slots s.method s.old) ∙ ap (option_map (λ (s : SlotImage). s.new)) found) in
+      (h.0, h.1, holds.slotted s.method ∙ h.2));
+}
+
+-- a map of lines that were read is readable
+pub read_readable : (version : ℕ) (texts : List (List ℕ)) (said : List Line) (m : Map) → Read version texts said → HoldsWhat said m → IsReadable m
+read_readable version texts said m read holds = held_fits said m holds (read_fits version texts said read)
+
+pub maps_are_readable : MapsAreReadable
+maps_are_readable = λ text m is. read_readable is.version is.rest is.said m is.read is.holds_what
+
+pub empty_readable : (m : Map) → m.counts ≡ [] → m.rows ≡ [] → m.methods ≡ [] → m.drops ≡ [] → m.slotted ≡ [] → m.slots ≡ [] → IsReadable m
+unfolding IsStrictlySortedBy
+empty_readable m a b d e f g = record {
+  ascends = record { counts = rw a tt; rows = rw b tt; methods = rw d tt; drops = rw e tt; slotted = rw f tt; slots = rw g tt };
+  counts = rw a tt;
+  rows = rw b tt;
+  methods = rw d tt;
+  drops = rw e tt;
+  slotted = rw f tt;
+  slots = rw g tt;
+}

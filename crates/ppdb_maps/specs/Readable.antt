@@ -1,0 +1,59 @@
+-- What reading promises of every map, and that a text has one map or one refused line (docs/FORMAT.md, "Map texts").
+use Rattle.std.specs.Prelude.{◌≡◌, ℕ, ◌≤◌, false, IsSome, IsTrue, List}
+use Rattle.std.specs.List.{AllByRecursion}
+use Rattle.ppdb_base.specs.Offsets.{Rise, lined}
+use Rattle.ppdb_maps.specs.declared.entries.Count.{Count}
+use Rattle.ppdb_maps.specs.declared.entries.RowImage.{RowImage}
+use Rattle.ppdb_maps.specs.declared.entries.SlotImage.{SlotImage}
+use Rattle.ppdb_maps.specs.Forms.{ROWS, OFFSETS, SLOTS}
+use Rattle.ppdb_maps.specs.Map.{Map, MethodLine, Ascends, count_of, is_dropped, has_slots}
+use Rattle.ppdb_maps.specs.Text.{IsMapOf, Refused}
+
+-- the number of a row that is there
+abbrev pub IsRow : ℕ → Type 0
+IsRow row = (1 ≤ row) × (row ≤ ROWS)
+
+-- a table from 00 to 2c, and how many rows it may have
+abbrev pub IsCount : Count → Type 0
+IsCount count = (count.table ≤ 0x2c) × (count.rows ≤ ROWS)
+
+-- a row and its image; its table has a count, and the row is no dropped method
+abbrev pub IsRowOf : Map → RowImage → Type 0
+IsRowOf m row = IsRow row.old × IsRow row.new × IsSome (count_of m row.table) × (row.table ≡ 0x06 → is_dropped m row.old ≡ false)
+
+-- a method that is not dropped, its sizes, and runs that rise within them
+abbrev pub IsLineOf : Map → MethodLine → Type 0
+IsLineOf m line =
+    IsRow line.method × (line.old_size ≤ OFFSETS) × (line.new_size ≤ OFFSETS)
+    × Rise (lined line.runs line.old_size line.new_size) × (is_dropped m line.method ≡ false)
+
+-- a method with slots that is not dropped
+abbrev pub IsSlottedOf : Map → ℕ → Type 0
+IsSlottedOf m method = IsRow method × (is_dropped m method ≡ false)
+
+-- a slot and its image, of a method with slots
+abbrev pub IsSlotOf : Map → SlotImage → Type 0
+IsSlotOf m slot = (slot.old ≤ SLOTS) × (slot.new ≤ SLOTS) × IsTrue (has_slots m slot.method)
+
+-- the numbers are in the ranges of map texts, and no line stands where another forbids it
+pub record IsReadable (m : Map) : Type 0 where
+  pub ascends : Ascends m
+  pub counts : AllByRecursion IsCount m.counts
+  pub rows : AllByRecursion (IsRowOf m) m.rows
+  pub methods : AllByRecursion (IsLineOf m) m.methods
+  pub drops : AllByRecursion IsRow m.drops
+  pub slotted : AllByRecursion (IsSlottedOf m) m.slotted
+  pub slots : AllByRecursion (IsSlotOf m) m.slots
+
+-- a map that a text has is readable
+abbrev pub MapsAreReadable : Type 0
+MapsAreReadable = (text : List ℕ) (m : Map) → IsMapOf text m → IsReadable m
+
+-- a text has one map
+abbrev pub TextsHaveOneMap : Type 0
+TextsHaveOneMap = (text : List ℕ) (a b : Map) → IsMapOf text a → IsMapOf text b → a ≡ b
+
+-- a text with a map has no refused line, and a refused line and its number are one
+pub record RefusalsAreOne : Type 0 where
+  pub apart : (text : List ℕ) (a : Map) (line kind : ℕ) → IsMapOf text a → Refused text line kind → ⊥
+  pub refusal : (text : List ℕ) (line kind other least : ℕ) → Refused text line kind → Refused text other least → (line ≡ other) × (kind ≡ least)
