@@ -1,5 +1,5 @@
 -- What is put for a field is ASCII.
-use Rattle.std.proofs.Common.{ℕ, ◌≡◌, ◌<◌, ◌≤◌, List, [], ◌∷◌, ◌++◌, Bool, true, false, ◌&&◌, not, ◌==◌, nat_le, nat_lt, if◌then◌else◌, refl, arith, ◌∙◌, ap, inl}
+use Rattle.std.proofs.Common.{ℕ, ◌≡◌, ◌<◌, List, [], ◌∷◌, ◌++◌, Bool, true, false, nat_lt, if◌then◌else◌, refl, arith, ◌∙◌, ap, inl}
 use Rattle.std.specs.Prelude.{Option, Some, None, codes, Result, Ok, Err, OnOk, unwrap_or}
 use Rattle.std.specs.Result.{is_err}
 use Rattle.ppdb_base.specs.Written.{appended}
@@ -15,7 +15,7 @@ use Rattle.uuid.specs.Text.{lower}
 use Rattle.uuid.specs.Parts.{swap_fields}
 use Rattle.uuid.proofs.TextLemmas.{hyphenated_ascii}
 use Rattle.ppdb_base.specs.Escaped.{escaped, escaped_byte, code_of, is_plain}
-use Rattle.ppdb_text.specs.Values.{table_text, token_text, guid_text, hex_text, hyphenated}
+use Rattle.ppdb_lines.specs.Values.{table_text, token_text, guid_text, hex_text, hyphenated}
 use Rattle.ppdb_lines.specs.Lines.{Content, number, table, token, guid, octets, name, content_text}
 use Rattle.ppdb_lines.specs.Views.{IsText}
 

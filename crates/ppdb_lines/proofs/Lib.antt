@@ -1,4 +1,10 @@
 pub mod Ascii
-pub mod Members
-pub mod Pieces
+pub mod Counted
+pub mod Hexed
+pub mod Keeping
+pub mod Ordered
+pub mod Parts
+pub mod Places
+pub mod Printed
+pub mod Putting
 pub mod Texts

@@ -1,4 +1,9 @@
 pub mod Forms
+pub mod Heads
+pub mod Keeping
 pub mod Lines
+pub mod Pieces
+pub mod Tokens
 pub mod Uses
+pub mod Values
 pub mod Views

@@ -1,12 +1,12 @@
 // Lines as text or as JSON.
-ghost use Rattle.std.specs.Prelude.{◌≡◌, ◌≤◌, [], ◌∷◌, OnOk, OnErr, IsErrOf};
-ghost use Rattle.ppdb_base.specs.Causes.{Rose};
-ghost use Rattle.ppdb_base.specs.Written.{appended, AppendsFront};
+ghost use Rattle.std.specs.Prelude.{[], ◌∷◌};
+ghost use Rattle.ppdb_base.specs.Written.{Puts};
 ghost use Rattle.ppdb_lines.specs.Forms.{lines_as};
+ghost use Rattle.ppdb_lines.specs.Tokens.{IsKeyOrder};
 ghost use Rattle.ppdb_lines.specs.Views.{line_of};
 
-use crate::json::put_json_line;
 use crate::line::Part;
+use crate::object::put_json_line;
 use crate::text::put_text_line;
 use ppdb_base::{Sink, WriteError};
 use std::alloc::Global;
@@ -20,21 +20,28 @@ pub enum Form {
     Json,
 }
 
-/// Puts a line.
-pub fn put_line<O: Sink>(
-    alloc: Global,
-    form: Form,
-    out: &mut O,
-    word: &str,
-    parts: &[Part<'_>],
-) -> Result<(), WriteError>
-    ensures ok { OnOk result (O.written out.new ≡ appended (O.written out.old) (lines_as form (line_of word.now parts.now ∷ []))) }
-    ensures err { OnErr result (AppendsFront (O.written out.old) (O.written out.new) (lines_as form (line_of word.now parts.now ∷ []))) }
-    ensures failed { IsErrOf result WriteError.Failed → Rose (O.faults out.old) (O.faults out.new) }
-    ensures later { O.faults out.old ≤ O.faults out.new }
-{
-    match form {
-        Form::Text => put_text_line(out, word, parts),
-        Form::Json => put_json_line(alloc, out, word, parts),
+/// Puts lines in a form.
+#[derive(Clone, Copy)]
+pub struct Printer {
+    pub alloc: Global,
+    pub form: Form,
+}
+
+impl Printer {
+    /// Puts a line. The order is that of its keys in JSON: 0 is the word's, and 1 that of the first part.
+    pub fn put_line<O: Sink>(
+        self,
+        out: &mut O,
+        word: &str,
+        order: &[usize],
+        parts: &[Part<'_>],
+    ) -> Result<(), WriteError>
+        requires { IsKeyOrder order.now (line_of word.now parts.now) }
+        ensures { Puts result (O.written out.old) (O.written out.new) (O.faults out.old) (O.faults out.new) (lines_as self.form (line_of word.now parts.now ∷ [])) }
+    {
+        match self.form {
+            Form::Text => put_text_line(out, word, parts),
+            Form::Json => put_json_line(self.alloc, out, word, order, parts),
+        }
     }
 }

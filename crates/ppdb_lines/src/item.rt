@@ -1,21 +1,17 @@
 // What a field holds, as text.
 ghost use Rattle.std.specs.Prelude.{◌≡◌, ◌≤◌, OnOk, OnErr, IsErrOf};
-ghost use Rattle.ppdb_base.specs.Causes.{Rose};
-ghost use Rattle.ppdb_base.specs.Written.{appended, AppendsFront};
+ghost use Rattle.ppdb_base.specs.Written.{Puts};
 ghost use Rattle.ppdb_lines.specs.Lines.{content_text};
 ghost use Rattle.ppdb_lines.specs.Views.{content_of};
 
 use crate::line::Item;
+use crate::values::{put_guid, put_hex, put_table, put_token};
 use itoa::Buffer;
 use ppdb_base::{Sink, WriteError, put_escaped};
-use ppdb_text::{put_guid, put_hex, put_table, put_token};
 
 /// Puts what a field holds.
 pub fn put_item<O: Sink>(out: &mut O, item: &Item<'_>) -> Result<(), WriteError>
-    ensures ok { OnOk result (O.written out.new ≡ appended (O.written out.old) (content_text (content_of item.now))) }
-    ensures err { OnErr result (AppendsFront (O.written out.old) (O.written out.new) (content_text (content_of item.now))) }
-    ensures failed { IsErrOf result WriteError.Failed → Rose (O.faults out.old) (O.faults out.new) }
-    ensures later { O.faults out.old ≤ O.faults out.new }
+    ensures { Puts result (O.written out.old) (O.written out.new) (O.faults out.old) (O.faults out.new) (content_text (content_of item.now)) }
 {
     match *item {
         Item::Number(number) => out.put(Buffer::new().format(number).as_bytes()),

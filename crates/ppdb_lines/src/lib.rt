@@ -1,15 +1,23 @@
-//! A line that is shown: its first word and its fields, put as text or as an object of JSON.
+//! Lines as the commands print them: their pieces, and a line by its first word and its fields, put as text or as an
+//! object of JSON.
 #![tactic(auto)]
 
 mod form;
+mod head;
 mod item;
-mod json;
+mod kept;
 mod line;
+mod object;
+mod pieces;
 mod text;
 mod uses;
+mod values;
 
-pub use form::{Form, put_line};
-pub use json::put_json_line;
+pub use form::{Form, Printer};
+pub use head::{put_entry_line, put_id_line};
 pub use line::{Item, Part};
+pub use pieces::{
+    put_named, put_named_line, put_numbered, put_numbered64, put_pair, put_signed, put_tabled,
+};
 pub use text::put_text_line;
 pub use uses::put_use;

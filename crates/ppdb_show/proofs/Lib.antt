@@ -1,4 +1,13 @@
+pub mod Added
+pub mod Bounded
+pub mod Chains
+pub mod Given
 pub mod Lines
+pub mod Names
 pub mod Numbered
+pub mod OfKind
+pub mod Runs
 pub mod ScopeLists
+pub mod Shown
+pub mod Views
 pub mod Whole

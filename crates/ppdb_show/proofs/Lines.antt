@@ -1,11 +1,9 @@
 -- Lines, one after the other, in a form.
 use Rattle.std.proofs.Common.{ℕ, suc, ◌+◌, ◌-◌, ◌≡◌, ◌≢◌, ◌<◌, ◌≤◌, List, [], ◌∷◌, ◌++◌, length, map, true, false, ◌==◌, refl, ◌∙◌, ap, arith}
-use Rattle.std.specs.Prelude.{Option, Some, Result, Ok, Err, OnOk, OnErr}
+use Rattle.std.specs.Prelude.{Some}
 use Rattle.std.specs.List.{flat_map, range_with_len}
 use Rattle.blob_grammar.specs.Reader.{tail}
 use Rattle.type_blobs.specs.Imports.{ImportItem}
-use Rattle.ppdb_base.specs.Written.{appended, AppendsFront}
-use Rattle.ppdb_base.proofs.Written.{appended_twice, front_of_second}
 use Rattle.ppdb_tables.specs.declared.rows.MethodDebugRow.{MethodDebugRow}
 use Rattle.ppdb_tables.specs.declared.rows.ImportRow.{ImportRow}
 use Rattle.ppdb_tables.specs.RawTables.{RawTables, row_at, count}
@@ -17,9 +15,10 @@ use Rattle.ppdb_lines.specs.declared.form.Form.TheVariants.{Text, Json}
 use Rattle.ppdb_lines.specs.Lines.{Line, text_of, json_of}
 use Rattle.ppdb_lines.proofs.Texts.{no_lines, more_lines}
 use Rattle.ppdb_lines.specs.Forms.{lines_as}
+use Rattle.ppdb_lines.specs.Heads.{id_line, entry_line}
 use Rattle.ppdb_lines.specs.Uses.{use_line}
-use Rattle.ppdb_show.specs.Show.{lines_of_method, method_line, point_line, import_line, id_line, entry_line, count_lines, count_lines_of, head_lines, row_lines, document_lines, method_lines, scope_lines, variable_lines, constant_lines, import_lines, machine_lines, custom_lines}
-use Rattle.ppdb_show.specs.Walk.{between, lines_of_method_row, lines_of_import_row}
+use Rattle.ppdb_show.specs.Show.{lines_of_method, method_line, point_line, import_line, count_lines, count_lines_of, head_lines, row_lines, document_lines, method_lines, scope_lines, variable_lines, constant_lines, import_lines, machine_lines, custom_lines}
+use Rattle.ppdb_show.specs.ShowWalk.{between, lines_of_method_row, lines_of_import_row}
 
 range_first : (row end : ℕ) → row < end → range_with_len row (end - row) ≡ row ∷ range_with_len (row + 1) (end - (row + 1))
 range_first row end h = let e : end - row ≡ suc (end - (row + 1)) = omega arith in rw e refl
@@ -32,16 +31,6 @@ next_row form lines row end h =
 
 pub last_row : (form : Form) (lines : ℕ → List Line) (row end : ℕ) → end ≤ row → lines_as form (between lines row end) ≡ []
 last_row form lines row end h = let e : end - row ≡ 0 = omega arith in rw e (no_lines form)
-
--- ---- two pieces, where a call puts the second
-
-pub ok_after : {T E : Type 0} (r : Result T E) (old mid new : Option (List ℕ)) (s t : List ℕ) → mid ≡ appended old s → OnOk r (new ≡ appended mid t) → OnOk r (new ≡ appended old (s ++ t))
-ok_after (Ok x) old mid new s t e h = h ∙ ap (λ (w : Option (List ℕ)). appended w t) e ∙ appended_twice old s t
-ok_after (Err x) old mid new s t e h = tt
-
-pub err_after : {T E : Type 0} (r : Result T E) (old mid new : Option (List ℕ)) (s t : List ℕ) → mid ≡ appended old s → OnErr r (AppendsFront mid new t) → OnErr r (AppendsFront old new (s ++ t))
-err_after (Ok x) old mid new s t e h = tt
-err_after (Err x) old mid new s t e h = front_of_second old mid new s t e h
 
 -- ---- items in order
 

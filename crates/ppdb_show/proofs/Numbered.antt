@@ -7,15 +7,15 @@ use Rattle.ppdb_tables.specs.RawTables.{RawTables, HasShape, numbered, row_at, c
 use Rattle.ppdb_values.specs.Documents.{document_of, method_of}
 use Rattle.ppdb_values.specs.Imports.{import_scope_of}
 use Rattle.ppdb_values.specs.Value.{variable_of}
-use Rattle.ppdb_show.specs.declared.rows.Rows.{Rows}
-use Rattle.ppdb_show.specs.declared.rows.Rows.TheVariants.{Documents, Methods, Scopes, Imports, Machines, Customs}
-use Rattle.ppdb_show.specs.declared.owned.Owned.{Owned}
-use Rattle.ppdb_show.specs.declared.owned.Owned.TheVariants.{Variables, Constants}
+use Rattle.ppdb_show.specs.declared.show.rows.Rows.{Rows}
+use Rattle.ppdb_show.specs.declared.show.rows.Rows.TheVariants.{Documents, Methods, Scopes, Imports, Machines, Customs}
+use Rattle.ppdb_show.specs.declared.show.owned.Owned.{Owned}
+use Rattle.ppdb_show.specs.declared.show.owned.Owned.TheVariants.{Variables, Constants}
 use Rattle.ppdb_lines.specs.Lines.{Line}
 use Rattle.ppdb_lines.specs.declared.form.Form.{Form}
 use Rattle.ppdb_lines.specs.Forms.{lines_as}
 use Rattle.ppdb_show.specs.Show.{document_line, lines_of_method, scope_line, variable_line, constant_line, lines_of_import, machine_line, custom_line, scope_of_item}
-use Rattle.ppdb_show.specs.Walk.{made_of, between, number_of, lines_of_row, lines_of_table, items_of, item_table, lines_of_item, lines_of_items}
+use Rattle.ppdb_show.specs.ShowWalk.{made_of, between, number_of, lines_of_row, lines_of_table, items_of, item_table, lines_of_item, lines_of_items}
 use Rattle.ppdb_lines.proofs.Texts.{more_lines}
 
 rows_from : {X : Type 0} (lines : ℕ → X → List Line) (at : ℕ → Option X) (k : ℕ) (rows : List X) → ((i : ℕ) → at (k + i) ≡ slice_get rows i)

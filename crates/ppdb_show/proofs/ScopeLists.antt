@@ -11,9 +11,9 @@ use Rattle.ppdb_values.specs.Rules.{KeepsLists, KeepsRules}
 use Rattle.ppdb_values.specs.Owners.{list_end}
 use Rattle.ppdb_values.specs.RawFile.{RawFile}
 use Rattle.ppdb_values.proofs.Lists.{owner_in_list}
-use Rattle.ppdb_show.specs.declared.owned.Owned.{Owned}
-use Rattle.ppdb_show.specs.declared.owned.Owned.TheVariants.{Variables, Constants}
-use Rattle.ppdb_show.specs.Walk.{list_by, items_of}
+use Rattle.ppdb_show.specs.declared.show.owned.Owned.{Owned}
+use Rattle.ppdb_show.specs.declared.show.owned.Owned.TheVariants.{Variables, Constants}
+use Rattle.ppdb_show.specs.ShowWalk.{list_by, items_of}
 use Rattle.ppdb_show.proofs.Numbered.{row_there, row_past}
 
 -- where the list of a row begins, right after the last item where there is no such row

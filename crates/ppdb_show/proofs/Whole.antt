@@ -9,14 +9,12 @@ use Rattle.blob_grammar.proofs.Unique.{reading-unique}
 use Rattle.sequence_points.specs.declared.point.Point.{Point}
 use Rattle.sequence_points.specs.Records.{sequence_points}
 use Rattle.sequence_points.specs.Points.{PointsReading}
-use Rattle.ppdb_heaps.specs.Names.{name_of}
-use Rattle.ppdb_heaps.specs.Joining.{HasAppended}
 use Rattle.ppdb_tables.specs.declared.rows.MethodDebugRow.{MethodDebugRow}
 use Rattle.ppdb_tables.specs.RawTables.{RawTables, row_at}
 use Rattle.ppdb_values.specs.RawFile.{blob, records_of, point_limits}
 use Rattle.ppdb_values.specs.Documents.{points_in, signature_in}
 use Rattle.ppdb_values.specs.Rules.{IsWhole, KeepsMethods}
-use Rattle.ppdb_values.proofs.Readings.{name_is, points_are, signature_is}
+use Rattle.ppdb_values.proofs.Readings.{points_are, signature_is}
 
 none_some : {X : Type 0} (x : X) → Some x ≡ None → ⊥
 none_some x e = grind (arith, e)
@@ -45,11 +43,6 @@ points_read raw column signature content points fault whole read = (
   (all_read (sequence_points column (point_limits raw)) content read.entries fault whole read.reading).1,
   (sym (points_are raw column signature content points fault read), signature_is raw column signature content points fault read),
 )
-
--- ---- names
-
-pub name_joined : (raw : RawTables) (content after : List ℕ) → HasAppended raw.blobs content [] after → after ≡ name_of raw.blobs content
-name_joined raw content after h = h.2 ∙ sym (name_is raw content h.0 h.1)
 
 -- ---- the answers of cursors
 

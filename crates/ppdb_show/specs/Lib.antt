@@ -1,2 +1,5 @@
+pub mod Bound
+pub mod Query
+pub mod QueryWalk
 pub mod Show
-pub mod Walk
+pub mod ShowWalk

@@ -9,7 +9,7 @@ use Rattle.ppdb_tables.specs.declared.rows.MachineRow.{MachineRow}
 use Rattle.ppdb_tables.specs.declared.rows.ConstantRow.{ConstantRow}
 use Rattle.ppdb_tables.specs.declared.rows.CustomRow.{CustomRow}
 use Rattle.ppdb_tables.specs.RawTables.{RawTables, numbered, count}
-use Rattle.ppdb_text.specs.Heads.{token_of}
+use Rattle.ppdb_lines.specs.Heads.{id_line, entry_line}
 use Rattle.ppdb_values.specs.declared.file.DocumentValue.{DocumentValue}
 use Rattle.ppdb_values.specs.declared.file.MethodValue.{MethodValue}
 use Rattle.ppdb_values.specs.declared.scope.VariableValue.{VariableValue}
@@ -20,15 +20,9 @@ use Rattle.ppdb_values.specs.Imports.{import_scope_of}
 use Rattle.ppdb_values.specs.Customs.{parent_of}
 use Rattle.ppdb_values.specs.Value.{owner_of, variable_of, range_of}
 use Rattle.ppdb_lines.specs.Uses.{use_line}
-use Rattle.ppdb_lines.specs.Lines.{Line, Field, field, mark, number, table, token, guid, octets, name, text_of, json_of}
+use Rattle.ppdb_lines.specs.Lines.{Line, Field, field, mark, number, table, guid, octets, name, text_of, json_of}
 
 -- ---- the head
-
-abbrev pub id_line : List ℕ → Line
-id_line id = record { word = codes "id"; fields = field (codes " ") (codes "id") (octets id) ∷ [] }
-
-abbrev pub entry_line : ℕ → Line
-entry_line row = record { word = codes "entry"; fields = field (codes " ") (codes "entry") (token (token_of row)) ∷ [] }
 
 abbrev pub count_line : ℕ → ℕ → Line
 count_line tt rows = record { word = codes "rows"; fields = field (codes " ") (codes "table") (table tt) ∷ field (codes " ") (codes "count") (number rows) ∷ [] }

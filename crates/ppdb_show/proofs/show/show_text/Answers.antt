@@ -3,8 +3,5 @@ use Rattle.ppdb_show.specs.Show.{show_lines}
 use Rattle.ppdb_show.proofs.Lines.{as_text}
 use Rattle.ppdb_show.proofs.show.show_text.Goals as goal
 
-pub returns-clause-ok : goal.returns-clause-ok
-returns-clause-ok g c = rw (as_text (show_lines (raw_file c.args.file.now))) at c.put_file.ensures.ok
-
-pub returns-clause-err : goal.returns-clause-err
-returns-clause-err g c = rw (as_text (show_lines (raw_file c.args.file.now))) at c.put_file.ensures.err
+pub returns : goal.returns
+returns g c = rw (as_text (show_lines (raw_file c.args.file.now))) at c.put_file.ensures

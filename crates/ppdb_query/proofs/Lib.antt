@@ -1,9 +1,0 @@
-pub mod Added
-pub mod Bounded
-pub mod Chains
-pub mod Given
-pub mod Names
-pub mod OfKind
-pub mod Runs
-pub mod Shown
-pub mod Views

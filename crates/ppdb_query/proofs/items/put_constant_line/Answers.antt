@@ -1,4 +1,0 @@
-use Rattle.ppdb_query.proofs.items.put_constant_line.Goals as goal
-
-pub returns : goal.returns
-returns c = rw c.blob.ensures.content at (rw c.text.ensures at c.put_line.ensures)

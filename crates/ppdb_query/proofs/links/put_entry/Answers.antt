@@ -1,5 +1,0 @@
-use Rattle.ppdb_query.proofs.Added.{adds_none}
-use Rattle.ppdb_query.proofs.links.put_entry.Goals as goal
-
-pub returns-then-not-is_entry : goal.returns-then-not-is_entry
-returns-then-not-is_entry c = rw c.if-not-is_entry.true (adds_none c.args.text.now)

@@ -1,5 +1,0 @@
-use Rattle.ppdb_query.proofs.Added.{adds_none}
-use Rattle.ppdb_query.proofs.links.put_method.Goals as goal
-
-pub returns-in-None : goal.returns-in-None
-returns-in-None c = rw c.in-None.is (adds_none c.args.text.now)

@@ -1,0 +1,4 @@
+use Rattle.ppdb_show.proofs.tests.compared.Given as goal
+
+abbrev pub ghosts-compared_in : goal.ghosts-compared_in
+ghosts-compared_in a = record { name = a.blank.name; parts = a.blank.parts }

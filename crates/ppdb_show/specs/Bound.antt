@@ -1,0 +1,32 @@
+-- How many rows a query of an offset of a method reads at most.
+use Rattle.std.specs.Prelude.{ℕ, ◌+◌, ◌*◌, List, length}
+use Rattle.std.specs.List.{sum_by}
+use Rattle.ppdb_tables.specs.RawTables.{RawTables}
+use Rattle.ppdb_queries.specs.declared.scopes.ScopeView.{ScopeView}
+use Rattle.ppdb_queries.specs.Digits.{digits}
+use Rattle.ppdb_queries.specs.Scopes.{scopes_at, scopes_of}
+use Rattle.ppdb_show.specs.Query.{customs_on, variables_of, constants_of, imports_of}
+
+-- a row that is shown, and the custom records on it
+abbrev pub with_customs : RawTables → ℕ → ℕ → ℕ
+with_customs raw table row = 1 + length (customs_on raw table row)
+
+-- rows that are shown, each with the custom records on it
+abbrev pub all_with_customs : {X : Type 0} → RawTables → ℕ → List (ℕ × X) → ℕ
+all_with_customs raw table rows = sum_by (λ row. with_customs raw table row.0) rows
+
+-- a scope with what is shown of it: its variables, its constants, and its import scope with the parents of that
+abbrev pub shown_of_scope : RawTables → ScopeView → ℕ
+shown_of_scope raw scope = with_customs raw 0x32 scope.row
+    + (all_with_customs raw 0x33 (variables_of raw scope)
+    + (all_with_customs raw 0x34 (constants_of raw scope)
+    + all_with_customs raw 0x35 (imports_of raw scope)))
+
+-- The scopes, variables, constants and import scopes that are shown, each as often as it is shown, and the custom records on
+-- them and on the method.
+abbrev pub shown : RawTables → ℕ → ℕ → ℕ
+shown raw m x = sum_by (shown_of_scope raw) (scopes_at raw m x) + length (customs_on raw 0x06 m)
+
+unfoldable pub query_rows : RawTables → ℕ → ℕ → ℕ
+query_rows raw m x = 4 + 2 * digits (length raw.scopes) + 2 * scopes_of raw m + 2 * length raw.machines
+    + (4 * digits (length raw.customs) + 4) * (1 + shown raw m x)

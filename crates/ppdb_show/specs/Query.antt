@@ -1,0 +1,193 @@
+-- What a query of an offset of a method prints, line by line (this project's format; Portable PDB v1.0, "Metadata Tables").
+use Rattle.std.specs.Prelude.{map, ℕ, List, [], ◌∷◌, ◌++◌, Option, Some, None, Bool, true, false, ◌==◌, codes, unwrap_or}
+use Rattle.std.specs.Option.{option_map}
+use Rattle.std.specs.List.{flat_map}
+use Rattle.sequence_points.specs.declared.point.Point.{Point}
+use Rattle.custom_info.specs.declared.slots.Range.{Range}
+use Rattle.custom_info.specs.declared.stepping.AsyncStep.{AsyncStep}
+use Rattle.ppdb_tables.specs.declared.rows.ConstantRow.{ConstantRow}
+use Rattle.ppdb_tables.specs.declared.rows.CustomRow.{CustomRow}
+use Rattle.ppdb_tables.specs.declared.rows.ImportRow.{ImportRow}
+use Rattle.ppdb_tables.specs.declared.rows.VariableRow.{VariableRow}
+use Rattle.ppdb_tables.specs.RawTables.{RawTables, row_at}
+use Rattle.ppdb_values.specs.declared.custom.CustomBody.{CustomBody}
+use Rattle.ppdb_values.specs.declared.custom.CustomBody.TheVariants.{Async, Hoisted, TypeDocuments, Unread}
+use Rattle.ppdb_values.specs.declared.scope.VariableValue.{VariableValue}
+use Rattle.ppdb_values.specs.Chains.{chain_of}
+use Rattle.ppdb_values.specs.Customs.{custom_of}
+use Rattle.ppdb_values.specs.Documents.{document_of}
+use Rattle.ppdb_values.specs.Imports.{import_scope_of}
+use Rattle.ppdb_values.specs.Links.{kickoff_of, move_next_of}
+use Rattle.ppdb_values.specs.Parts.{points_of, signature_of, last_point}
+use Rattle.ppdb_values.specs.RawFile.{RawFile, text, blob, guid as guid_in}
+use Rattle.ppdb_values.specs.Value.{owned_by, variable_of, value_of}
+use Rattle.ppdb_queries.specs.declared.hoisted.Hoisted.{Hoisted as HoistedLocal}
+use Rattle.ppdb_queries.specs.declared.scopes.ScopeView.{ScopeView}
+use Rattle.ppdb_queries.specs.Hoisted.{hoisted_at}
+use Rattle.ppdb_queries.specs.Runs.{customs_at}
+use Rattle.ppdb_queries.specs.Scopes.{scopes_at}
+use Rattle.ppdb_lines.specs.Lines.{Line, Field, field, mark, number, guid, octets, name, text_of}
+use Rattle.ppdb_lines.specs.Uses.{use_line}
+use Rattle.ppdb_show.specs.Show.{span_fields}
+
+-- ---- custom records ("CustomDebugInformation Table")
+
+-- the kind, and the value as it is stored
+abbrev pub custom_found : RawTables → CustomRow → Line
+custom_found raw custom = record {
+  word = codes "custom";
+  fields = field (codes " ") (codes "kind") (guid (guid_in raw custom.kind)) ∷ field (codes " ") (codes "value") (octets (blob raw custom.value)) ∷ [];
+}
+
+-- the custom records on a row
+abbrev pub customs_on : RawTables → ℕ → ℕ → List (ℕ × CustomRow)
+customs_on raw table row = customs_at raw (record { table = table; row = row })
+
+abbrev pub customs_found : RawTables → ℕ → ℕ → List Line
+customs_found raw table row = map (λ custom. custom_found raw custom.1) (customs_on raw table row)
+
+-- ---- the sequence point ("Sequence Points Blob", "Document Table")
+
+abbrev pub no_point_line : Line
+no_point_line = record { word = codes "point"; fields = mark (codes " none") ∷ [] }
+
+abbrev pub point_found : Point → ℕ → List ℕ → Line
+point_found point signature document = record {
+  word = codes "point";
+  fields = field (codes " ") (codes "offset") (number point.offset) ∷ field (codes " ") (codes "document") (number point.document)
+      ∷ (span_fields point.span ++ field (codes " signature ") (codes "signature") (number signature) ∷ field (codes " name ") (codes "name") (name document) ∷ []);
+}
+
+-- the name of a document; in a valid file it is there
+abbrev pub document_name : RawTables → ℕ → List ℕ
+document_name raw row = unwrap_or (option_map (λ document. (document_of raw document).name) (row_at raw.documents row)) []
+
+-- the last point that is not after the offset
+abbrev pub line_of_point : RawFile → ℕ → Option Point → Line
+line_of_point raw m (Some point) = point_found point (signature_of (value_of raw) m) (document_name raw.tables point.document)
+line_of_point raw m None = no_point_line
+
+abbrev pub points_found : RawFile → ℕ → ℕ → List Line
+points_found raw m x = line_of_point raw m (last_point (points_of (value_of raw) m) x) ∷ []
+
+-- ---- scopes that hold the offset ("LocalScope Table", "LocalVariable Table", "LocalConstant Table", "ImportScope Table")
+
+abbrev pub scope_found : Range → Line
+scope_found range = record {
+  word = codes "scope";
+  fields = field (codes " ") (codes "start") (number range.start) ∷ field (codes " ") (codes "end") (number range.end) ∷ [];
+}
+
+abbrev pub variable_found : VariableValue → Line
+variable_found variable = record {
+  word = codes "variable";
+  fields = field (codes " ") (codes "slot") (number variable.slot) ∷ field (codes " ") (codes "attributes") (number variable.attributes)
+      ∷ field (codes " ") (codes "name") (name variable.name) ∷ [];
+}
+
+-- the signature as it is stored
+abbrev pub constant_found : RawTables → ConstantRow → Line
+constant_found raw constant = record {
+  word = codes "constant";
+  fields = field (codes " ") (codes "signature") (octets (blob raw constant.signature)) ∷ field (codes " ") (codes "name") (name (text raw constant.name)) ∷ [];
+}
+
+abbrev pub import_found : ℕ → Line
+import_found row = record { word = codes "import"; fields = field (codes " ") (codes "row") (number row) ∷ [] }
+
+abbrev pub variable_answer : RawTables → ℕ × VariableRow → List Line
+variable_answer raw variable = variable_found (variable_of raw variable.1) ∷ customs_found raw 0x33 variable.0
+
+abbrev pub constant_answer : RawTables → ℕ × ConstantRow → List Line
+constant_answer raw constant = constant_found raw constant.1 ∷ customs_found raw 0x34 constant.0
+
+abbrev pub import_answer : RawTables → ℕ × ImportRow → List Line
+import_answer raw import = import_found import.0 ∷ (map use_line (import_scope_of raw import.1).imports ++ customs_found raw 0x35 import.0)
+
+-- the variables and the constants that a scope owns, and its import scope with the parents of that
+abbrev pub variables_of : RawTables → ScopeView → List (ℕ × VariableRow)
+variables_of raw scope = owned_by (λ s. s.variables) raw.scopes scope.row raw.variables
+
+abbrev pub constants_of : RawTables → ScopeView → List (ℕ × ConstantRow)
+constants_of raw scope = owned_by (λ s. s.constants) raw.scopes scope.row raw.constants
+
+abbrev pub imports_of : RawTables → ScopeView → List (ℕ × ImportRow)
+imports_of raw scope = chain_of (λ s. s.parent) raw.imports scope.import
+
+abbrev pub scope_answer : RawTables → ScopeView → List Line
+scope_answer raw scope = scope_found scope.range ∷ (customs_found raw 0x32 scope.row
+    ++ (flat_map (variable_answer raw) (variables_of raw scope)
+    ++ (flat_map (constant_answer raw) (constants_of raw scope)
+    ++ flat_map (import_answer raw) (imports_of raw scope))))
+
+abbrev pub scopes_found : RawTables → ℕ → ℕ → List Line
+scopes_found raw m x = flat_map (scope_answer raw) (scopes_at raw m x)
+
+-- ---- hoisted locals that hold the offset ("State Machine Hoisted Local Scopes")
+
+abbrev pub hoisted_line : HoistedLocal → Line
+hoisted_line local = record {
+  word = codes "hoisted";
+  fields = field (codes " ") (codes "slot") (number local.slot)
+      ∷ field (codes " ") (codes "start") (number local.range.start) ∷ field (codes " ") (codes "end") (number local.range.end) ∷ [];
+}
+
+abbrev pub hoisted_lines : RawTables → ℕ → ℕ → List Line
+hoisted_lines raw m x = map hoisted_line (hoisted_at raw m x)
+
+-- ---- the method ("#Pdb stream": EntryPoint, "StateMachineMethod Table")
+
+abbrev pub entry_lines : Bool → List Line
+entry_lines true = record { word = codes "entry"; fields = [] } ∷ []
+entry_lines false = []
+
+abbrev pub link_line : List ℕ → ℕ → Line
+link_line word method = record { word = word; fields = field (codes " ") (codes "method") (number method) ∷ [] }
+
+abbrev pub links_to : List ℕ → Option ℕ → List Line
+links_to word (Some method) = link_line word method ∷ []
+links_to word None = []
+
+-- whether it is the entry point, the kickoff of the state machine that it runs, and the MoveNext of the one that it starts
+abbrev pub link_lines : RawFile → ℕ → List Line
+link_lines raw m = entry_lines (raw.entry == m)
+    ++ (links_to (codes "kickoff") (kickoff_of raw.tables.machines m) ++ links_to (codes "move") (move_next_of raw.tables.machines m))
+
+-- ---- the other custom records of the method ("Async Method Stepping Information")
+
+abbrev pub handler_field : Option ℕ → Field
+handler_field (Some offset) = field (codes " ") (codes "handler") (number offset)
+handler_field None = mark (codes " -")
+
+abbrev pub async_line : Option ℕ → Line
+async_line handler = record { word = codes "async"; fields = handler_field handler ∷ [] }
+
+abbrev pub step_line : AsyncStep → Line
+step_line step = record {
+  word = codes "step";
+  fields = field (codes " ") (codes "pause") (number step.pause)
+      ∷ field (codes " ") (codes "resume") (number step.resume) ∷ field (codes " ") (codes "method") (number step.method) ∷ [];
+}
+
+-- Stepping information is read, hoisted locals are left out.
+abbrev pub lines_of_body : Line → CustomBody → List Line
+lines_of_body stored (Async handler steps) = async_line handler ∷ map step_line steps
+lines_of_body stored (Hoisted slots) = []
+lines_of_body stored (TypeDocuments documents) = stored ∷ []
+lines_of_body stored (Unread bytes) = stored ∷ []
+
+abbrev pub lines_of_record : RawTables → ℕ × CustomRow → List Line
+lines_of_record raw custom = lines_of_body (custom_found raw custom.1) (custom_of raw custom.1).value
+
+abbrev pub record_lines : RawTables → ℕ → List Line
+record_lines raw m = flat_map (lines_of_record raw) (customs_on raw 0x06 m)
+
+-- ---- the whole answer
+
+abbrev pub query_lines : RawFile → ℕ → ℕ → List Line
+query_lines raw m x = points_found raw m x
+    ++ (scopes_found raw.tables m x ++ (hoisted_lines raw.tables m x ++ (link_lines raw m ++ record_lines raw.tables m)))
+
+-- What `query` prints.
+unfoldable pub query_text_of : RawFile → ℕ → ℕ → List ℕ
+query_text_of raw m x = flat_map text_of (query_lines raw m x)

@@ -1,0 +1,70 @@
+-- Lines put one after the other, and the rows that are read for them, for the functions that put them.
+use Rattle.std.specs.Prelude.{map, ℕ, ◌≡◌, ◌+◌, ◌*◌, ◌≤◌, ◌++◌, List, ◌∷◌, length, Option, Some, None}
+use Rattle.std.specs.List.{flat_map, sum_by}
+use Rattle.ppdb_tables.specs.declared.rows.ScopeRow.{ScopeRow}
+use Rattle.ppdb_tables.specs.RawTables.{RawTables, row_at}
+use Rattle.ppdb_values.specs.Imports.{import_value}
+use Rattle.ppdb_values.specs.Rules.{HasRow}
+use Rattle.ppdb_queries.specs.declared.imports.ImportLink.{ImportLink}
+use Rattle.ppdb_queries.specs.declared.points.PointAt.{PointAt}
+use Rattle.ppdb_queries.specs.declared.scopes.ScopeView.{ScopeView}
+use Rattle.ppdb_queries.specs.Digits.{digits}
+use Rattle.ppdb_queries.specs.Scopes.{scope_view, scopes_at, scopes_of}
+use Rattle.ppdb_lines.specs.Lines.{Line, text_of}
+use Rattle.ppdb_lines.specs.Uses.{use_line}
+use Rattle.ppdb_show.specs.Query.{customs_on, customs_found, import_found, point_found, no_point_line, document_name, variables_of, constants_of, imports_of}
+
+unfoldable pub lines_text : List Line → List ℕ
+lines_text lines = flat_map text_of lines
+
+-- the lines were put behind a text
+abbrev pub Adds : List ℕ → List ℕ → List Line → Type 0
+Adds old new lines = new ≡ old ++ lines_text lines
+
+-- Of some items, each with its lines and the rows that are read for them, these are left: the lines of the others were put, and
+-- the rows read from before to after leave those of the rest.
+pub record Walked {X : Type 0} (lines : X → List Line) (reads : X → ℕ) (all rest : List X) (old new : List ℕ) (before after : ℕ) : Type 0 where
+  pub put : old ++ lines_text (flat_map lines all) ≡ new ++ lines_text (flat_map lines rest)
+  pub read : after + sum_by reads rest ≤ before + sum_by reads all
+
+-- ---- rows that are read
+
+-- the custom records on a row: two searches, and each record
+abbrev pub customs_reads : RawTables → ℕ → ℕ → ℕ
+customs_reads raw table row = 2 * digits (length raw.customs) + length (customs_on raw table row)
+
+-- a row, and the custom records on it
+abbrev pub item_reads : {X : Type 0} → RawTables → ℕ → ℕ × X → ℕ
+item_reads raw table item = 1 + customs_reads raw table item.0
+
+abbrev pub items_reads : {X : Type 0} → RawTables → ℕ → List (ℕ × X) → ℕ
+items_reads raw table items = sum_by (item_reads raw table) items
+
+abbrev pub scope_reads : RawTables → ScopeView → ℕ
+scope_reads raw scope = customs_reads raw 0x32 scope.row
+    + (items_reads raw 0x33 (variables_of raw scope) + (items_reads raw 0x34 (constants_of raw scope) + items_reads raw 0x35 (imports_of raw scope)))
+
+abbrev pub scopes_reads : RawTables → ℕ → ℕ → ℕ
+scopes_reads raw m x = 2 * digits (length raw.scopes) + 2 * scopes_of raw m + sum_by (scope_reads raw) (scopes_at raw m x)
+
+-- ---- what cursors give
+
+-- the view of a scope that is there
+pub record IsViewOf (raw : RawTables) (view : ScopeView) : Type 0 where
+  pub scope : ScopeRow
+  pub there : row_at raw.scopes view.row ≡ Some scope
+  pub is_view : view ≡ scope_view raw (view.row, scope)
+
+-- an import scope, as a cursor gives it
+abbrev pub lines_of_link : RawTables → ImportLink → List Line
+lines_of_link raw link = import_found link.row ∷ (map use_line (map import_value link.imports.items) ++ customs_found raw 0x35 link.row)
+
+-- the document of a point that was found is there
+abbrev pub HasDocument : RawTables → Option PointAt → Type 0
+HasDocument raw (Some at) = HasRow raw 0x30 at.point.document
+HasDocument raw None = Unit {0}
+
+-- a point that was found, or that there is none
+abbrev pub found_line : RawTables → Option PointAt → Line
+found_line raw (Some at) = point_found at.point at.signature (document_name raw at.point.document)
+found_line raw None = no_point_line

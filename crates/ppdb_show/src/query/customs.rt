@@ -1,0 +1,57 @@
+// The lines of the custom records on a row.
+ghost use Rattle.std.specs.Prelude.{◌≡◌, ◌++◌, ◌+◌, ◌≤◌, [], ◌∷◌, OnOk, IsSome};
+ghost use Rattle.ppdb_tables.specs.Parents.{coded_in};
+ghost use Rattle.ppdb_tables.specs.RawOf.{raw_of};
+ghost use Rattle.ppdb_values.specs.Rules.{HasRow};
+ghost use Rattle.ppdb_verify.specs.Views.{tables_of};
+ghost use Rattle.ppdb_show.specs.Query.{custom_found, customs_found};
+ghost use Rattle.ppdb_show.specs.QueryWalk.{Adds, customs_reads};
+
+use crate::query::text::put_line;
+use ppdb_base::{Memory, SteadySink, Steps};
+use ppdb_lines::Item::{Guid, Octets};
+use ppdb_lines::Part::Field;
+use ppdb_queries::customs_of;
+use ppdb_tables::{CustomRow, Parent};
+use ppdb_verify::Verified;
+use std::sync::ledger::Ledger;
+use verified_rows::{blob, custom, guid};
+
+/// Puts the line of a custom record.
+pub(crate) fn put_custom(
+    text: &mut SteadySink,
+    file: &Verified<'_>,
+    custom: &CustomRow,
+) -> Result<(), Memory>
+    ensures { OnOk result (Adds text.old text.new (custom_found (raw_of (tables_of file.now)) custom.now ∷ [])) }
+{
+    let parts = [
+        Field(" ", "kind", Guid(guid(file, custom.kind))),
+        Field(" ", "value", Octets(blob(file, custom.value))),
+    ];
+    put_line(text, "custom", &parts)
+}
+
+/// Puts the lines of the custom records on a row.
+pub(crate) fn put_customs<L: Ledger>(
+    text: &mut SteadySink,
+    file: &Verified<'_>,
+    parent: Parent,
+    steps: &mut Steps<L>,
+) -> Result<(), Memory>
+    requires tag { IsSome (coded_in parent) }
+    requires there { HasRow (raw_of (tables_of file.now)) parent.table parent.row }
+    ensures ok { OnOk result (Adds text.old text.new (customs_found (raw_of (tables_of file.now)) parent.table parent.row)) }
+    ensures later { steps.old ≤ steps.new }
+    ensures cost { steps.new ≤ steps.old + customs_reads (raw_of (tables_of file.now)) parent.table parent.row }
+{
+    let run = customs_of(file, parent, steps);
+    file.keeps();
+    let mut row = run.first;
+    'customs: while row < run.end {
+        let custom = custom(file, row, steps);
+        put_custom(text, file, &custom)?;
+        row += 1;
+    }
+    Ok(())
+}

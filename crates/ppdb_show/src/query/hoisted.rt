@@ -1,0 +1,41 @@
+// The lines of the hoisted locals that hold an offset.
+ghost use Rattle.std.specs.Prelude.{◌≡◌, ◌++◌, ◌+◌, ◌≤◌, OnOk};
+ghost use Rattle.ppdb_tables.specs.RawOf.{raw_of};
+ghost use Rattle.ppdb_values.specs.Rules.{HasRow};
+ghost use Rattle.ppdb_verify.specs.Views.{tables_of};
+ghost use Rattle.ppdb_show.specs.Query.{hoisted_lines};
+ghost use Rattle.ppdb_show.specs.QueryWalk.{Adds, customs_reads};
+
+use crate::query::text::put_line;
+use ppdb_base::{Memory, SteadySink, Steps};
+use ppdb_lines::Item::Number;
+use ppdb_lines::Part::Field;
+use ppdb_queries::hoisted_at;
+use ppdb_verify::Verified;
+use std::sync::ledger::Ledger;
+
+/// Puts the lines of the hoisted locals of a method that hold an offset.
+pub(crate) fn put_hoisted<L: Ledger>(
+    text: &mut SteadySink,
+    file: &Verified<'_>,
+    method: u32,
+    offset: u32,
+    steps: &mut Steps<L>,
+) -> Result<(), Memory>
+    requires { HasRow (raw_of (tables_of file.now)) 0x06 method }
+    ensures ok { OnOk result (Adds text.old text.new (hoisted_lines (raw_of (tables_of file.now)) method offset)) }
+    ensures cost { steps.new ≤ steps.old + customs_reads (raw_of (tables_of file.now)) 0x06 method }
+{
+    let Ok(mut locals) = hoisted_at(file, method, offset, steps) else {
+        unreachable!()
+    };
+    'locals: while let Some(local) = locals.next(steps) {
+        let parts = [
+            Field(" ", "slot", Number(local.slot)),
+            Field(" ", "start", Number(local.range.start)),
+            Field(" ", "end", Number(local.range.end)),
+        ];
+        put_line(text, "hoisted", &parts)?;
+    }
+    Ok(())
+}

@@ -1,0 +1,138 @@
+// The lines of variables and constants.
+ghost use Rattle.std.specs.Prelude.{◌≡◌, ◌++◌, ◌+◌, ◌≤◌, [], ◌∷◌, length, OnOk, Some};
+ghost use Rattle.std.specs.List.{flat_map};
+ghost use Rattle.ppdb_tables.specs.RawOf.{raw_of};
+ghost use Rattle.ppdb_tables.specs.RawTables.{row_at};
+ghost use Rattle.ppdb_values.specs.Value.{variable_of};
+ghost use Rattle.ppdb_verify.specs.Views.{tables_of};
+ghost use Rattle.ppdb_queries.specs.Runs.{rows_in};
+ghost use Rattle.ppdb_show.specs.Query.{variable_found, constant_found, variable_answer, constant_answer};
+ghost use Rattle.ppdb_show.specs.QueryWalk.{Adds, customs_reads, items_reads};
+
+use crate::query::customs::put_customs;
+use crate::query::text::put_line;
+use ppdb_base::{Memory, SteadySink, Steps};
+use ppdb_lines::Item::{Name, Number, Octets};
+use ppdb_lines::Part::Field;
+use ppdb_queries::Run;
+use ppdb_tables::{ConstantRow, Parent, VariableRow};
+use ppdb_verify::Verified;
+use std::sync::ledger::Ledger;
+use verified_rows::{blob, constant, text as text_of, variable};
+
+/// Puts the line of a variable.
+fn put_variable_line(
+    text: &mut SteadySink,
+    file: &Verified<'_>,
+    variable: &VariableRow,
+) -> Result<(), Memory>
+    ensures { OnOk result (Adds text.old text.new (variable_found (variable_of (raw_of (tables_of file.now)) variable.now) ∷ [])) }
+{
+    let parts = [
+        Field(" ", "slot", Number(variable.slot as u32)),
+        Field(" ", "attributes", Number(variable.attributes as u32)),
+        Field(" ", "name", Name(text_of(file, variable.name))),
+    ];
+    put_line(text, "variable", &parts)
+}
+
+/// Puts the line of a variable, and those of the custom records on it.
+fn put_variable<L: Ledger>(
+    text: &mut SteadySink,
+    file: &Verified<'_>,
+    row: u32,
+    variable: &VariableRow,
+    steps: &mut Steps<L>,
+) -> Result<(), Memory>
+    requires { row_at (raw_of (tables_of file.now)).variables row ≡ Some variable.now }
+    ensures ok { OnOk result (Adds text.old text.new (variable_answer (raw_of (tables_of file.now)) (row, variable.now))) }
+    ensures later { steps.old ≤ steps.new }
+    ensures cost { steps.new ≤ steps.old + customs_reads (raw_of (tables_of file.now)) 0x33 row }
+{
+    put_variable_line(text, file, variable)?;
+    file.keeps();
+    let parent = Parent { table: 0x33, row };
+    put_customs(text, file, parent, steps)
+}
+
+/// Puts the lines of the variables of a run, each with those of the custom records on it.
+pub(crate) fn put_variables<L: Ledger>(
+    text: &mut SteadySink,
+    file: &Verified<'_>,
+    run: Run,
+    steps: &mut Steps<L>,
+) -> Result<(), Memory>
+    requires first { 1 ≤ run.first }
+    requires forward { run.first ≤ run.end }
+    requires last { run.end ≤ length (raw_of (tables_of file.now)).variables + 1 }
+    ensures ok { OnOk result (Adds text.old text.new (flat_map (variable_answer (raw_of (tables_of file.now))) (rows_in run (raw_of (tables_of file.now)).variables))) }
+    ensures later { steps.old ≤ steps.new }
+    ensures cost { steps.new ≤ steps.old + items_reads (raw_of (tables_of file.now)) 0x33 (rows_in run (raw_of (tables_of file.now)).variables) }
+{
+    file.keeps();
+    let mut row = run.first;
+    'variables: while row < run.end {
+        let variable = variable(file, row, steps);
+        put_variable(text, file, row, &variable, steps)?;
+        row += 1;
+    }
+    Ok(())
+}
+
+/// Puts the line of a constant.
+fn put_constant_line(
+    text: &mut SteadySink,
+    file: &Verified<'_>,
+    constant: &ConstantRow,
+) -> Result<(), Memory>
+    ensures { OnOk result (Adds text.old text.new (constant_found (raw_of (tables_of file.now)) constant.now ∷ [])) }
+{
+    let parts = [
+        Field(" ", "signature", Octets(blob(file, constant.signature))),
+        Field(" ", "name", Name(text_of(file, constant.name))),
+    ];
+    put_line(text, "constant", &parts)
+}
+
+/// Puts the line of a constant, and those of the custom records on it.
+fn put_constant<L: Ledger>(
+    text: &mut SteadySink,
+    file: &Verified<'_>,
+    row: u32,
+    constant: &ConstantRow,
+    steps: &mut Steps<L>,
+) -> Result<(), Memory>
+    requires { row_at (raw_of (tables_of file.now)).constants row ≡ Some constant.now }
+    ensures ok { OnOk result (Adds text.old text.new (constant_answer (raw_of (tables_of file.now)) (row, constant.now))) }
+    ensures later { steps.old ≤ steps.new }
+    ensures cost { steps.new ≤ steps.old + customs_reads (raw_of (tables_of file.now)) 0x34 row }
+{
+    put_constant_line(text, file, constant)?;
+    file.keeps();
+    let parent = Parent { table: 0x34, row };
+    put_customs(text, file, parent, steps)
+}
+
+/// Puts the lines of the constants of a run, each with those of the custom records on it.
+pub(crate) fn put_constants<L: Ledger>(
+    text: &mut SteadySink,
+    file: &Verified<'_>,
+    run: Run,
+    steps: &mut Steps<L>,
+) -> Result<(), Memory>
+    requires first { 1 ≤ run.first }
+    requires forward { run.first ≤ run.end }
+    requires last { run.end ≤ length (raw_of (tables_of file.now)).constants + 1 }
+    ensures ok { OnOk result (Adds text.old text.new (flat_map (constant_answer (raw_of (tables_of file.now))) (rows_in run (raw_of (tables_of file.now)).constants))) }
+    ensures later { steps.old ≤ steps.new }
+    ensures cost { steps.new ≤ steps.old + items_reads (raw_of (tables_of file.now)) 0x34 (rows_in run (raw_of (tables_of file.now)).constants) }
+{
+    file.keeps();
+    let mut row = run.first;
+    'constants: while row < run.end {
+        let constant = constant(file, row, steps);
+        put_constant(text, file, row, &constant, steps)?;
+        row += 1;
+    }
+    Ok(())
+}

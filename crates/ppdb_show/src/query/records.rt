@@ -1,0 +1,121 @@
+// The lines of the custom records on a method.
+ghost use Rattle.std.specs.Prelude.{◌≡◌, ◌++◌, ◌+◌, ◌≤◌, ◌<◌, ◌^◌, [], ◌∷◌, length, map, OnOk, None, Some};
+ghost use Rattle.ppdb_tables.specs.RawOf.{raw_of};
+ghost use Rattle.ppdb_tables.specs.RawTables.{row_at};
+ghost use Rattle.ppdb_values.specs.Rules.{HasRow};
+ghost use Rattle.ppdb_verify.specs.Views.{tables_of};
+ghost use Rattle.verified_rows.specs.Customs.{IsOfKind};
+ghost use Rattle.ppdb_show.specs.Query.{async_line, step_line, lines_of_record, record_lines};
+ghost use Rattle.ppdb_show.specs.QueryWalk.{Adds, customs_reads};
+
+use crate::query::customs::put_custom;
+use crate::query::text::put_line;
+use custom_info::{AsyncCursor, AsyncStep, Kind};
+use ppdb_base::{Memory, SteadySink, Steps};
+use ppdb_lines::Item::Number;
+use ppdb_lines::Part::{Field, Mark};
+use ppdb_queries::customs_of;
+use ppdb_tables::{CustomRow, Parent};
+use ppdb_verify::Verified;
+use std::alloc::Global;
+use std::sync::ledger::Ledger;
+use verified_rows::{custom, kind, stepping_of};
+
+/// Puts the line of an async method's catch handler.
+fn put_handler(text: &mut SteadySink, handler: Option<u32>) -> Result<(), Memory>
+    ensures { OnOk result (Adds text.old text.new (async_line handler ∷ [])) }
+{
+    match handler {
+        Some(offset) => put_line(text, "async", &[Field(" ", "handler", Number(offset))]),
+        None => put_line(text, "async", &[Mark(" -")]),
+    }
+}
+
+/// Puts the line of a step.
+fn put_step(text: &mut SteadySink, step: AsyncStep) -> Result<(), Memory>
+    ensures { OnOk result (Adds text.old text.new (step_line step ∷ [])) }
+{
+    let parts = [
+        Field(" ", "pause", Number(step.pause)),
+        Field(" ", "resume", Number(step.resume)),
+        Field(" ", "method", Number(step.method)),
+    ];
+    put_line(text, "step", &parts)
+}
+
+/// Puts the lines of the steps that are left.
+fn put_steps(text: &mut SteadySink, cursor: &mut AsyncCursor<'_>) -> Result<(), Memory>
+    requires { cursor.old.left.fault ≡ None }
+    ensures { OnOk result (Adds text.old text.new (map step_line cursor.old.left.items)) }
+{
+    'steps: loop {
+        match cursor.next() {
+            Ok(Some(step)) => put_step(text, step)?,
+            Ok(None) => return Ok(()),
+            Err(_) => unreachable!(),
+        }
+    }
+}
+
+/// Puts the lines of the stepping information of an async method.
+fn put_async(
+    text: &mut SteadySink,
+    file: &Verified<'_>,
+    row: u32,
+    record: &CustomRow,
+) -> Result<(), Memory>
+    requires there { row_at (raw_of (tables_of file.now)).customs row ≡ Some record.now }
+    requires kind { IsOfKind (raw_of (tables_of file.now)) record.now Kind.Async }
+    ensures { OnOk result (Adds text.old text.new (lines_of_record (raw_of (tables_of file.now)) (row, record.now))) }
+{
+    let mut cursor = stepping_of(file, row, record);
+    put_handler(text, cursor.handler())?;
+    put_steps(text, &mut cursor)
+}
+
+/// Puts the lines of a custom record on a method: stepping information is read, hoisted locals are left out.
+fn put_record(
+    alloc: Global,
+    text: &mut SteadySink,
+    file: &Verified<'_>,
+    row: u32,
+    record: &CustomRow,
+) -> Result<(), Memory>
+    requires { row_at (raw_of (tables_of file.now)).customs row ≡ Some record.now }
+    ensures { OnOk result (Adds text.old text.new (lines_of_record (raw_of (tables_of file.now)) (row, record.now))) }
+{
+    file.keeps();
+    match kind(alloc, file, row, record) {
+        Kind::Async => put_async(text, file, row, record),
+        Kind::Hoisted => Ok(()),
+        Kind::TypeDocuments | Kind::Free | Kind::Unknown => put_custom(text, file, record),
+    }
+}
+
+/// Puts the lines of the custom records on a method.
+pub(crate) fn put_records<L: Ledger>(
+    alloc: Global,
+    text: &mut SteadySink,
+    file: &Verified<'_>,
+    method: u32,
+    steps: &mut Steps<L>,
+) -> Result<(), Memory>
+    requires { HasRow (raw_of (tables_of file.now)) 0x06 method }
+    ensures ok { OnOk result (Adds text.old text.new (record_lines (raw_of (tables_of file.now)) method)) }
+    ensures later { steps.old ≤ steps.new }
+    ensures cost { steps.new ≤ steps.old + customs_reads (raw_of (tables_of file.now)) 0x06 method }
+{
+    let parent = Parent {
+        table: 0x06,
+        row: method,
+    };
+    let run = customs_of(file, parent, steps);
+    file.keeps();
+    let mut row = run.first;
+    'records: while row < run.end {
+        let record = custom(file, row, steps);
+        put_record(alloc, text, file, row, &record)?;
+        row += 1;
+    }
+    Ok(())
+}

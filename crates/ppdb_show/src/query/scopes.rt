@@ -1,0 +1,72 @@
+// The lines of the scopes that hold an offset.
+ghost use Rattle.std.specs.Prelude.{◌≡◌, ◌++◌, ◌+◌, ◌≤◌, OnOk};
+ghost use Rattle.ppdb_tables.specs.RawOf.{raw_of};
+ghost use Rattle.ppdb_values.specs.Rules.{HasRow};
+ghost use Rattle.ppdb_verify.specs.Views.{tables_of};
+ghost use Rattle.ppdb_show.specs.Query.{scope_answer, scopes_found};
+ghost use Rattle.ppdb_show.specs.QueryWalk.{Adds, IsViewOf, scope_reads, scopes_reads};
+
+use crate::query::customs::put_customs;
+use crate::query::imports::put_imports;
+use crate::query::items::{put_constants, put_variables};
+use crate::query::text::put_line;
+use ppdb_base::{Memory, SteadySink, Steps};
+use ppdb_lines::Item::Number;
+use ppdb_lines::Part::Field;
+use ppdb_queries::{ScopeView, scopes_at};
+use ppdb_tables::Parent;
+use ppdb_verify::Verified;
+use std::alloc::Global;
+use std::sync::ledger::Ledger;
+
+/// Puts the lines of a scope: of its range, of the custom records on it, of its variables and constants, and of its imports.
+fn put_scope<L: Ledger>(
+    alloc: Global,
+    text: &mut SteadySink,
+    file: &Verified<'_>,
+    scope: ScopeView,
+    steps: &mut Steps<L>,
+) -> Result<(), Memory>
+    requires { IsViewOf (raw_of (tables_of file.now)) scope }
+    ensures ok { OnOk result (Adds text.old text.new (scope_answer (raw_of (tables_of file.now)) scope)) }
+    ensures later { steps.old ≤ steps.new }
+    ensures cost { steps.new ≤ steps.old + scope_reads (raw_of (tables_of file.now)) scope }
+{
+    let parts = [
+        Field(" ", "start", Number(scope.range.start)),
+        Field(" ", "end", Number(scope.range.end)),
+    ];
+    put_line(text, "scope", &parts)?;
+    file.keeps();
+    let parent = Parent {
+        table: 0x32,
+        row: scope.row,
+    };
+    put_customs(text, file, parent, steps)?;
+    put_variables(text, file, scope.variables, steps)?;
+    put_constants(text, file, scope.constants, steps)?;
+    put_imports(alloc, text, file, scope.import, steps)
+}
+
+/// Puts the lines of the scopes of a method that hold an offset.
+pub(crate) fn put_scopes<L: Ledger>(
+    alloc: Global,
+    text: &mut SteadySink,
+    file: &Verified<'_>,
+    method: u32,
+    offset: u32,
+    steps: &mut Steps<L>,
+) -> Result<(), Memory>
+    requires { HasRow (raw_of (tables_of file.now)) 0x06 method }
+    ensures ok { OnOk result (Adds text.old text.new (scopes_found (raw_of (tables_of file.now)) method offset)) }
+    ensures later { steps.old ≤ steps.new }
+    ensures cost { steps.new ≤ steps.old + scopes_reads (raw_of (tables_of file.now)) method offset }
+{
+    let Ok(mut scopes) = scopes_at(file, method, offset, steps) else {
+        unreachable!()
+    };
+    'scopes: while let Some(scope) = scopes.next(steps) {
+        put_scope(alloc, text, file, scope, steps)?;
+    }
+    Ok(())
+}

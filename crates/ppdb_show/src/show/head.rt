@@ -1,0 +1,65 @@
+// The lines of the identity, of the entry point, and of the tables of the type system.
+ghost use Rattle.std.specs.Prelude.{◌≡◌, ◌≤◌, ◌<◌, ◌^◌, [], ◌∷◌, OnOk, OnErr, IsErrOf};
+ghost use Rattle.ppdb_base.specs.Written.{Puts};
+ghost use Rattle.ppdb_tables.specs.RawOf.{raw_of};
+ghost use Rattle.ppdb_verify.specs.Views.{raw_file};
+ghost use Rattle.ppdb_lines.specs.Forms.{lines_as};
+ghost use Rattle.ppdb_show.specs.Show.{head_lines, count_lines, count_lines_of};
+
+use ppdb_base::{Sink, WriteError};
+use ppdb_lines::Item::{Number, Table};
+use ppdb_lines::Part::Field;
+use ppdb_lines::{Printer, put_entry_line, put_id_line};
+use ppdb_tables::Tables;
+use ppdb_verify::Verified;
+
+/// How many tables the type system has.
+const TYPE_SYSTEM: u8 = 0x2d;
+
+/// Puts the lines of the identity, of the entry point, and of the tables of the type system that have rows.
+pub(crate) fn put_head<O: Sink>(
+    printer: Printer,
+    file: &Verified<'_>,
+    out: &mut O,
+) -> Result<(), WriteError>
+    ensures { Puts result (O.written out.old) (O.written out.new) (O.faults out.old) (O.faults out.new) (lines_as printer.form (head_lines (raw_file file.now))) }
+{
+    file.keeps();
+    let head = file.head();
+    put_id_line(printer, out, &head.id)?;
+    put_entry_line(printer, out, head.entry)?;
+    put_counts(printer, file.tables(), out)
+}
+
+/// Puts the lines of the tables of the type system that have rows.
+fn put_counts<O: Sink>(printer: Printer, tables: &Tables<'_>, out: &mut O) -> Result<(), WriteError>
+    ensures { Puts result (O.written out.old) (O.written out.new) (O.faults out.old) (O.faults out.new) (lines_as printer.form (count_lines (raw_of tables.now))) }
+{
+    let mut table = 0;
+    'counts: while table < TYPE_SYSTEM {
+        put_count(printer, tables, table, out)?;
+        table += 1;
+    }
+    Ok(())
+}
+
+/// Puts the line of a table of the type system, where it has rows.
+fn put_count<O: Sink>(
+    printer: Printer,
+    tables: &Tables<'_>,
+    table: u8,
+    out: &mut O,
+) -> Result<(), WriteError>
+    requires { table < 64 }
+    ensures { Puts result (O.written out.old) (O.written out.new) (O.faults out.old) (O.faults out.new) (lines_as printer.form (count_lines_of (raw_of tables.now) table)) }
+{
+    let count = tables.rows(table);
+    if count == 0 {
+        return Ok(());
+    }
+    let parts = [
+        Field(" ", "table", Table(table)),
+        Field(" ", "count", Number(count)),
+    ];
+    printer.put_line(out, "rows", &[2, 0, 1], &parts)
+}

@@ -1,0 +1,59 @@
+// The lines of an import scope.
+ghost use Rattle.std.specs.Prelude.{◌≡◌, ◌≤◌, [], ◌∷◌, map, None, Some, OnOk, OnErr, IsErrOf};
+ghost use Rattle.ppdb_base.specs.Written.{Puts};
+ghost use Rattle.ppdb_tables.specs.RawTables.{row_at};
+ghost use Rattle.ppdb_values.specs.RawFile.{blob, records_of, type_limits};
+ghost use Rattle.ppdb_values.specs.Imports.{heap_of, import_value, import_scope_of};
+ghost use Rattle.ppdb_verify.specs.Views.{raw_file};
+ghost use Rattle.ppdb_lines.specs.Forms.{lines_as};
+ghost use Rattle.ppdb_lines.specs.Uses.{use_line};
+ghost use Rattle.ppdb_show.specs.ShowWalk.{lines_of_import_row};
+ghost use Rattle.ppdb_values.specs.Rules.{HasRow};
+
+use ppdb_base::{Sink, Steps, WriteError};
+use ppdb_lines::Item::Number;
+use ppdb_lines::Part::Field;
+use ppdb_lines::{Printer, put_use};
+use ppdb_verify::Verified;
+use std::sync::ledger::Ledger;
+use type_blobs::ImportCursor;
+use verified_rows::{import, imports_of};
+
+/// Puts the line of an import scope, and the lines of what it imports.
+pub(crate) fn put_import<O: Sink, L: Ledger>(
+    printer: Printer,
+    file: &Verified<'_>,
+    row: u32,
+    out: &mut O,
+    steps: &mut Steps<L>,
+) -> Result<(), WriteError>
+    requires { HasRow (raw_file file.now).tables 0x35 row }
+    ensures { Puts result (O.written out.old) (O.written out.new) (O.faults out.old) (O.faults out.new) (lines_as printer.form (lines_of_import_row (raw_file file.now).tables row)) }
+{
+    let import = import(file, row, steps);
+    let parts = [
+        Field(" ", "row", Number(row)),
+        Field(" parent ", "parent", Number(import.parent)),
+    ];
+    printer.put_line(out, "import", &[0, 2, 1], &parts)?;
+    let mut imports = imports_of(file, row, &import);
+    put_uses(printer, &mut imports, out)
+}
+
+/// Puts the lines of the imports that are left.
+fn put_uses<O: Sink>(
+    printer: Printer,
+    imports: &mut ImportCursor<'_>,
+    out: &mut O,
+) -> Result<(), WriteError>
+    requires { imports.old.fault ≡ None }
+    ensures { Puts result (O.written out.old) (O.written out.new) (O.faults out.old) (O.faults out.new) (lines_as printer.form (map use_line (map import_value imports.old.items))) }
+{
+    'imports: loop {
+        match imports.next() {
+            Ok(Some(import)) => put_use(printer, out, &import)?,
+            Ok(None) => return Ok(()),
+            Err(_) => unreachable!(),
+        }
+    }
+}

@@ -1,0 +1,112 @@
+// The lines of a method and of its points.
+ghost use Rattle.std.specs.Prelude.{◌≡◌, ◌≤◌, ◌<◌, ◌≢◌, [], ◌∷◌, map, None, Some, OnOk, OnErr, IsErrOf};
+ghost use Rattle.ppdb_base.specs.Written.{Puts};
+ghost use Rattle.ppdb_tables.specs.RawTables.{row_at};
+ghost use Rattle.ppdb_values.specs.Documents.{points_in, signature_in};
+ghost use Rattle.ppdb_values.specs.RawFile.{blob};
+ghost use Rattle.ppdb_verify.specs.Views.{raw_file};
+ghost use Rattle.ppdb_lines.specs.Forms.{lines_as};
+ghost use Rattle.ppdb_show.specs.Show.{point_line};
+ghost use Rattle.ppdb_show.specs.ShowWalk.{lines_of_method_row};
+ghost use Rattle.ppdb_values.specs.Rules.{HasRow};
+
+use ppdb_base::{Sink, Steps, WriteError};
+use ppdb_lines::Item::Number;
+use ppdb_lines::Part::{Field, Mark};
+use ppdb_lines::Printer;
+use ppdb_tables::MethodDebugRow;
+use ppdb_verify::Verified;
+use sequence_points::{Point, PointCursor, Span};
+use std::sync::ledger::Ledger;
+use verified_rows::{blob, method_debug, point_limits};
+
+/// Puts the line of a method that has points, and the lines of these.
+pub(crate) fn put_method<O: Sink, L: Ledger>(
+    printer: Printer,
+    file: &Verified<'_>,
+    row: u32,
+    out: &mut O,
+    steps: &mut Steps<L>,
+) -> Result<(), WriteError>
+    requires { HasRow (raw_file file.now).tables 0x31 row }
+    ensures { Puts result (O.written out.old) (O.written out.new) (O.faults out.old) (O.faults out.new) (lines_as printer.form (lines_of_method_row (raw_file file.now).tables row)) }
+{
+    let method = method_debug(file, row, steps);
+    if blob(file, method.points).is_empty() {
+        return Ok(());
+    }
+    let mut points = points_of(file, row, &method);
+    let parts = [
+        Field(" ", "method", Number(row)),
+        Field(" signature ", "signature", Number(points.signature())),
+    ];
+    printer.put_line(out, "method", &[0, 1, 2], &parts)?;
+    put_points(printer, &mut points, out)
+}
+
+/// The points of a method that has some.
+fn points_of<'a>(file: &Verified<'a>, row: u32, method: &MethodDebugRow) -> PointCursor<'a>
+    requires row { row_at (raw_file file.now).tables.methods row ≡ Some method.now }
+    requires some { blob (raw_file file.now).tables method.now.points ≢ [] }
+    ensures whole { result.left.fault ≡ None }
+    ensures points { result.left.items ≡ points_in (raw_file file.now).tables method.now.document (blob (raw_file file.now).tables method.now.points) }
+    ensures signature { signature_in (raw_file file.now).tables method.now.document (blob (raw_file file.now).tables method.now.points) ≡ Some result.signature }
+{
+    file.keeps();
+    match PointCursor::new(
+        blob(file, method.points),
+        method.document,
+        point_limits(file),
+    ) {
+        Ok(points) => points,
+        Err(_) => unreachable!(),
+    }
+}
+
+/// Puts the lines of the points that are left.
+fn put_points<O: Sink>(
+    printer: Printer,
+    points: &mut PointCursor<'_>,
+    out: &mut O,
+) -> Result<(), WriteError>
+    requires { points.old.left.fault ≡ None }
+    ensures { Puts result (O.written out.old) (O.written out.new) (O.faults out.old) (O.faults out.new) (lines_as printer.form (map point_line points.old.left.items)) }
+{
+    'points: loop {
+        match points.next() {
+            Ok(Some(point)) => put_point(printer, point, out)?,
+            Ok(None) => return Ok(()),
+            Err(_) => unreachable!(),
+        }
+    }
+}
+
+/// Puts the line of a point.
+fn put_point<O: Sink>(printer: Printer, point: Point, out: &mut O) -> Result<(), WriteError>
+    ensures { Puts result (O.written out.old) (O.written out.new) (O.faults out.old) (O.faults out.new) (lines_as printer.form (point_line point ∷ [])) }
+{
+    let offset = Field(" ", "offset", Number(point.offset));
+    let document = Field(" ", "document", Number(point.document));
+    match point.span {
+        Span::Hidden => {
+            let parts = [offset, document, Mark(" hidden")];
+            printer.put_line(out, "point", &[2, 0, 1], &parts)
+        }
+        Span::Lines {
+            start_line,
+            start_column,
+            end_line,
+            end_column,
+        } => {
+            let parts = [
+                offset,
+                document,
+                Field(" ", "start_line", Number(start_line)),
+                Field(":", "start_column", Number(start_column)),
+                Field(" ", "end_line", Number(end_line)),
+                Field(":", "end_column", Number(end_column)),
+            ];
+            printer.put_line(out, "point", &[2, 6, 5, 0, 1, 4, 3], &parts)
+        }
+    }
+}

@@ -1,0 +1,161 @@
+// The lines of the rows of a table.
+ghost use Rattle.std.specs.Prelude.{◌≡◌, ◌≤◌, ◌<◌, ◌+◌, ◌^◌, Some, OnOk, OnErr, IsErrOf};
+ghost use Rattle.ppdb_base.specs.Written.{Puts};
+ghost use Rattle.ppdb_verify.specs.Views.{raw_file};
+ghost use Rattle.ppdb_lines.specs.Forms.{lines_as};
+ghost use Rattle.ppdb_show.specs.ShowWalk.{number_of, lines_of_row, lines_of_table, lines_of_scope, lines_of_machine, lines_of_custom};
+ghost use Rattle.ppdb_values.specs.Rules.{HasRow};
+
+use crate::show::documents::put_document;
+use crate::show::imports::put_import;
+use crate::show::methods::put_method;
+use ppdb_base::{Sink, Steps, WriteError};
+use ppdb_lines::Item::{Guid, Number, Octets, Table};
+use ppdb_lines::Part::Field;
+use ppdb_lines::Printer;
+use ppdb_tables::parent_of;
+use ppdb_verify::Verified;
+use std::sync::ledger::Ledger;
+use verified_rows::{blob, count, custom, guid, machine, scope};
+
+/// The tables whose rows are shown each by itself.
+#[derive(Clone, Copy)]
+pub(crate) enum Rows {
+    /// Document, table 30.
+    Documents,
+    /// MethodDebugInformation, table 31.
+    Methods,
+    /// LocalScope, table 32.
+    Scopes,
+    /// ImportScope, table 35.
+    Imports,
+    /// StateMachineMethod, table 36.
+    Machines,
+    /// CustomDebugInformation, table 37.
+    Customs,
+}
+
+/// The number of a table.
+fn table_of(rows: Rows) -> u8
+    ensures { result ≡ number_of rows }
+{
+    match rows {
+        Rows::Documents => 0x30,
+        Rows::Methods => 0x31,
+        Rows::Scopes => 0x32,
+        Rows::Imports => 0x35,
+        Rows::Machines => 0x36,
+        Rows::Customs => 0x37,
+    }
+}
+
+/// Puts the lines of the rows of a table.
+pub(crate) fn put_rows<O: Sink, L: Ledger>(
+    printer: Printer,
+    rows: Rows,
+    file: &Verified<'_>,
+    out: &mut O,
+    steps: &mut Steps<L>,
+) -> Result<(), WriteError>
+    ensures { Puts result (O.written out.old) (O.written out.new) (O.faults out.old) (O.faults out.new) (lines_as printer.form (lines_of_table (raw_file file.now).tables rows)) }
+{
+    file.keeps();
+    let count = count(file, table_of(rows));
+    let mut row = 1;
+    'rows: while row <= count {
+        put_row(printer, rows, file, row, out, steps)?;
+        row += 1;
+    }
+    Ok(())
+}
+
+/// Puts the lines of a row of a table.
+fn put_row<O: Sink, L: Ledger>(
+    printer: Printer,
+    rows: Rows,
+    file: &Verified<'_>,
+    row: u32,
+    out: &mut O,
+    steps: &mut Steps<L>,
+) -> Result<(), WriteError>
+    requires { HasRow (raw_file file.now).tables (number_of rows) row }
+    ensures { Puts result (O.written out.old) (O.written out.new) (O.faults out.old) (O.faults out.new) (lines_as printer.form (lines_of_row (raw_file file.now).tables rows row)) }
+{
+    match rows {
+        Rows::Documents => put_document(printer, file, row, out, steps),
+        Rows::Methods => put_method(printer, file, row, out, steps),
+        Rows::Scopes => put_scope(printer, file, row, out, steps),
+        Rows::Imports => put_import(printer, file, row, out, steps),
+        Rows::Machines => put_machine(printer, file, row, out, steps),
+        Rows::Customs => put_custom(printer, file, row, out, steps),
+    }
+}
+
+/// Puts the line of a scope.
+fn put_scope<O: Sink, L: Ledger>(
+    printer: Printer,
+    file: &Verified<'_>,
+    row: u32,
+    out: &mut O,
+    steps: &mut Steps<L>,
+) -> Result<(), WriteError>
+    requires { HasRow (raw_file file.now).tables 0x32 row }
+    ensures { Puts result (O.written out.old) (O.written out.new) (O.faults out.old) (O.faults out.new) (lines_as printer.form (lines_of_scope (raw_file file.now).tables row)) }
+{
+    file.keeps();
+    let scope = scope(file, row, steps);
+    let parts = [
+        Field(" ", "row", Number(row)),
+        Field(" method ", "method", Number(scope.method)),
+        Field(" import ", "import", Number(scope.import)),
+        Field(" range ", "start", Number(scope.start)),
+        Field(" ", "end", Number(scope.start + scope.length)),
+    ];
+    printer.put_line(out, "scope", &[5, 3, 0, 2, 1, 4], &parts)
+}
+
+/// Puts the line of a state machine.
+fn put_machine<O: Sink, L: Ledger>(
+    printer: Printer,
+    file: &Verified<'_>,
+    row: u32,
+    out: &mut O,
+    steps: &mut Steps<L>,
+) -> Result<(), WriteError>
+    requires { HasRow (raw_file file.now).tables 0x36 row }
+    ensures { Puts result (O.written out.old) (O.written out.new) (O.faults out.old) (O.faults out.new) (lines_as printer.form (lines_of_machine (raw_file file.now).tables row)) }
+{
+    let machine = machine(file, row, steps);
+    let parts = [
+        Field(" ", "row", Number(row)),
+        Field(" move ", "move", Number(machine.move_next)),
+        Field(" kickoff ", "kickoff", Number(machine.kickoff)),
+    ];
+    printer.put_line(out, "machine", &[3, 0, 2, 1], &parts)
+}
+
+/// Puts the line of a custom record.
+fn put_custom<O: Sink, L: Ledger>(
+    printer: Printer,
+    file: &Verified<'_>,
+    row: u32,
+    out: &mut O,
+    steps: &mut Steps<L>,
+) -> Result<(), WriteError>
+    requires { HasRow (raw_file file.now).tables 0x37 row }
+    ensures { Puts result (O.written out.old) (O.written out.new) (O.faults out.old) (O.faults out.new) (lines_as printer.form (lines_of_custom (raw_file file.now).tables row)) }
+{
+    file.keeps();
+    let custom = custom(file, row, steps);
+    let Some(parent) = parent_of(custom.parent) else {
+        unreachable!()
+    };
+    let parts = [
+        Field(" ", "row", Number(row)),
+        Field(" parent ", "parent_table", Table(parent.table)),
+        Field(" ", "parent_row", Number(parent.row)),
+        Field(" kind ", "kind", Guid(guid(file, custom.kind))),
+        Field(" value ", "value", Octets(blob(file, custom.value))),
+    ];
+    printer.put_line(out, "custom", &[4, 0, 3, 2, 1, 5], &parts)
+}

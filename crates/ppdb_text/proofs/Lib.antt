@@ -1,2 +1,0 @@
-pub mod Hexed
-pub mod Putting

@@ -1,4 +1,0 @@
-pub mod Heads
-pub mod Lines
-pub mod Putting
-pub mod Values
