@@ -3,33 +3,21 @@
 
 ghost use Rattle.std.specs.Prelude.{◌≡◌, ◌<◌};
 
+mod help;
 mod real_folder;
 mod std_sink;
 mod writing;
 
 use ppdb_base::{Folder, Sink, Steps};
-use ppdb_run::{Status, run};
+use ppdb_run::{Status, read_words, run};
 use real_folder::RealFolder;
 use std::alloc::Global;
-use std::io::{ErrorKind, Write};
+use std::io::ErrorKind;
 use std::marker::Brand;
 use std::process::ExitCode;
 use std::sync::ledger::{Blank, Ledger};
 use std::{env, io};
 use std_sink::StdSink;
-
-const HELP: &[u8] = b"ppdb: Portable PDB debug files
-
-ppdb id FILE                   prints the identity and the entry point of a file
-ppdb verify FILE               says whether a file is valid, and else its first fault
-ppdb show FILE                 prints all rows of a file, a line each
-ppdb show FILE --json          prints them as JSON, an object a line
-ppdb query FILE METHOD OFFSET  prints what belongs to an IL offset of a method, by the method's row
-ppdb --help                    prints this text
-ppdb --version                 prints the version
-";
-
-const VERSION: &[u8] = b"ppdb 0.1.0\n";
 
 fn main(rt: HostRuntime) -> ExitCode {
     let status = match program_words(&rt) {
@@ -59,43 +47,51 @@ fn program_words(rt: &HostRuntime) -> Result<Vec<String>, Status> {
 /// Answers the words on the standard output, and ends with its writing.
 fn answer(rt: &HostRuntime, words: &[String]) -> Status {
     let mut out = StdSink::new(io::writer(rt));
-    let status = match own_text(words) {
+    let mut folder = RealFolder::new(rt);
+    let status = match asked_text(words) {
         Some(text) => put_text(&mut out, text),
-        None => run_outside(rt, words, &mut out),
+        None => run_outside(rt.alloc(), words, &mut folder, &mut out),
     };
-    match out.flush() {
+    let ended = match out.flush() {
         Err(_) if status != Status::Memory => Status::WriteFault,
         _ => status,
+    };
+    tell_more(rt, words, ended, folder.reason());
+    ended
+}
+
+/// Says on the standard error what the line of a run that ended so does not say: whose words they are, or why a read failed.
+fn tell_more(rt: &HostRuntime, words: &[String], status: Status, reason: Option<ErrorKind>) {
+    let _ = match (status, reason) {
+        (Status::Usage, _) => rt.eprintln(help::hint(words)),
+        (Status::ReadFault, Some(reason)) => eprintln!(rt; "ppdb: {reason}"),
+        _ => Ok(()),
+    };
+}
+
+/// The text of words that ask for the program itself and are no command.
+fn asked_text(words: &[String]) -> Option<&'static str> {
+    match read_words(words) {
+        Ok(_) => None,
+        Err(_) => help::own_text(words),
     }
 }
 
-/// The text of the words that ask for the program itself.
-fn own_text(words: &[String]) -> Option<&'static [u8]> {
-    match words {
-        [word] if word.as_str() == "--help" => Some(HELP),
-        [word] if word.as_str() == "--version" => Some(VERSION),
-        _ => None,
-    }
-}
-
-fn put_text<O: Sink>(out: &mut O, text: &[u8]) -> Status {
-    match out.put(text) {
+fn put_text<O: Sink>(out: &mut O, text: &str) -> Status {
+    match out.put(text.as_bytes()) {
         Ok(()) => Status::Done,
         Err(_) => Status::WriteFault,
     }
 }
 
-/// Runs the command over the current folder.
-fn run_outside<W: Write>(rt: &HostRuntime, words: &[String], out: &mut StdSink<W>) -> Status {
-    let mut folder = RealFolder::new(rt);
-    run_counted::<_, _, Brand, Brand>(
-        rt.alloc(),
-        words,
-        &mut folder,
-        out,
-        Blank::new(1),
-        Blank::new(1),
-    )
+/// Runs the command over a folder.
+fn run_outside<F: Folder, O: Sink>(
+    alloc: Global,
+    words: &[String],
+    folder: &mut F,
+    out: &mut O,
+) -> Status {
+    run_counted::<_, _, Brand, Brand>(alloc, words, folder, out, Blank::new(1), Blank::new(1))
 }
 
 /// Runs the command over counters of its own.

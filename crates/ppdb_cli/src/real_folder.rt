@@ -1,8 +1,8 @@
 // The current folder of the system. No contract knows what it holds.
-ghost use Rattle.std.specs.Prelude.{◌≡◌, ◌≤◌, [], ℕ, None, length, IfErr, OnOk};
+ghost use Rattle.std.specs.Prelude.{◌≡◌, ◌≤◌, [], None, length, IfErr, OnOk};
 
 use crate::writing::write_all;
-use ppdb_base::{Bytes, Folder, ReadError, WriteError};
+use ppdb_base::{Bytes, Folder, Memory, ReadError, WriteError};
 use std::fs::File;
 use std::io::{ErrorKind, Read};
 use std::rt::Files;
@@ -14,6 +14,39 @@ pub struct RealFolder<'a, R: Files> {
     reads: u64,
     read_faults: u64,
     write_faults: u64,
+    /// The system's reason for the last failed read, where it had one.
+    reason: Option<ErrorKind>,
+}
+
+/// Why a file was not read, with the system's reason where it had one.
+struct NotRead {
+    error: ReadError,
+    reason: Option<ErrorKind>,
+}
+
+impl NotRead {
+    /// What stands of an error of the system.
+    fn failed(reason: ErrorKind) -> NotRead {
+        NotRead {
+            error: ReadError::Failed,
+            reason: Some(reason),
+        }
+    }
+}
+
+impl From<ReadError> for NotRead {
+    fn from(error: ReadError) -> NotRead {
+        NotRead {
+            error,
+            reason: None,
+        }
+    }
+}
+
+impl From<Memory> for NotRead {
+    fn from(_: Memory) -> NotRead {
+        NotRead::from(ReadError::Memory)
+    }
 }
 
 impl<'a, R: Files> RealFolder<'a, R> {
@@ -28,7 +61,13 @@ impl<'a, R: Files> RealFolder<'a, R> {
             reads: 0,
             read_faults: 0,
             write_faults: 0,
+            reason: None,
         }
+    }
+
+    /// The system's reason for the last failed read, where it had one.
+    pub fn reason(&self) -> Option<ErrorKind> {
+        self.reason
     }
 }
 
@@ -48,8 +87,9 @@ impl<R: Files> Folder for RealFolder<'_, R> {
                 self.reads = self.reads.saturating_add(1);
                 Ok(())
             }
-            Err(error) => {
+            Err(NotRead { error, reason }) => {
                 into.clear();
+                self.reason = reason;
                 if error != ReadError::Memory {
                     self.read_faults = self.read_faults.saturating_add(1);
                 }
@@ -67,19 +107,19 @@ impl<R: Files> Folder for RealFolder<'_, R> {
     }
 }
 
-fn read_file<R: Files>(files: &R, name: &str, max: usize, into: &mut Bytes) -> Result<(), ReadError>
+fn read_file<R: Files>(files: &R, name: &str, max: usize, into: &mut Bytes) -> Result<(), NotRead>
     requires { into.old ≡ [] }
     ensures within { OnOk result (length into.new ≤ max) }
 {
     match File::open(files, name) {
         Ok(mut file) => read_to_end(&mut file, max, into),
-        Err(error) if error.kind() == ErrorKind::NotFound => Err(ReadError::Absent),
-        Err(_) => Err(ReadError::Failed),
+        Err(error) if error.kind() == ErrorKind::NotFound => Err(NotRead::from(ReadError::Absent)),
+        Err(error) => Err(NotRead::failed(error.kind())),
     }
 }
 
 /// Reads to the end of a file, and at most one byte past `max`. A read of no bytes is the end.
-fn read_to_end<R: Read>(file: &mut R, max: usize, into: &mut Bytes) -> Result<(), ReadError>
+fn read_to_end<R: Read>(file: &mut R, max: usize, into: &mut Bytes) -> Result<(), NotRead>
     requires { into.old ≡ [] }
     ensures within { OnOk result (length into.new ≤ max) }
 {
@@ -89,10 +129,10 @@ fn read_to_end<R: Read>(file: &mut R, max: usize, into: &mut Bytes) -> Result<()
         match file.read(&mut buffer[..room]) {
             Ok(0) => return Ok(()),
             Ok(count) => into.append(&buffer[..count])?,
-            Err(_) => return Err(ReadError::Failed),
+            Err(error) => return Err(NotRead::failed(error.kind())),
         }
     }
-    Err(ReadError::TooLong)
+    Err(NotRead::from(ReadError::TooLong))
 }
 
 fn write_file<R: Files>(files: &R, name: &str, bytes: &[u8]) -> Result<(), WriteError>

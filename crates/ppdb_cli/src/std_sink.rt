@@ -7,7 +7,7 @@ use ppdb_base::{Sink, WriteError};
 use std::io::Write;
 
 /// How many bytes are kept before they are written.
-const BUFFER: usize = 8192;
+const BUFFER: usize = 65536;
 
 /// A writer to which bytes go when many are put, or by `flush`. After a failure nothing that was kept is written.
 #[derive(Drop)]
@@ -17,7 +17,7 @@ pub struct StdSink<W: Write> {
     /// How many bytes of the buffer are still to be written.
     kept: usize,
     faults: u64,
-    ghost in_range: { kept ≤ 8192 },
+    ghost in_range: { kept ≤ 65536 },
 }
 
 impl<W: Write> StdSink<W> {
@@ -44,6 +44,7 @@ impl<W: Write> StdSink<W> {
     }
 
     /// Counts a failure.
+    #[inline(always)]
     fn counted(&mut self, written: Result<(), WriteError>) -> Result<(), WriteError>
         ensures result { result ≡ written }
         ensures kept { self.new.kept ≡ self.old.kept }
@@ -57,6 +58,7 @@ impl<W: Write> StdSink<W> {
     }
 
     /// Writes what is kept, and keeps it no longer.
+    #[inline(never)]
     fn write_out(&mut self) -> Result<(), WriteError>
         ensures kept { self.new.kept ≡ 0 }
         ensures faults { self.new.faults ≡ self.old.faults }
@@ -68,8 +70,9 @@ impl<W: Write> StdSink<W> {
     }
 
     /// Keeps bytes for which there is room.
+    #[inline(always)]
     fn keep(&mut self, bytes: &[u8])
-        requires { self.old.kept + length bytes.now ≤ 8192 }
+        requires { self.old.kept + length bytes.now ≤ 65536 }
         ensures faults { self.new.faults ≡ self.old.faults }
     {
         let end = self.kept + bytes.len();
@@ -78,6 +81,7 @@ impl<W: Write> StdSink<W> {
     }
 
     /// Keeps the bytes behind those that are kept, or writes them where they are too many.
+    #[inline(always)]
     fn take(&mut self, bytes: &[u8]) -> Result<(), WriteError>
         ensures faults { self.new.faults ≡ self.old.faults }
         ensures failed { IfErr result (λ error. error ≡ WriteError.Failed) }
@@ -100,6 +104,7 @@ impl<W: Write> Sink for StdSink<W> {
 
     ghost faults = { λ s. s.faults };
 
+    #[inline(always)]
     fn put(&mut self, bytes: &[u8]) -> Result<(), WriteError> {
         let taken = self.take(bytes);
         self.counted(taken)

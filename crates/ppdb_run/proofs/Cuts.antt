@@ -5,26 +5,22 @@ use Rattle.ppdb_base.specs.Files.{Files}
 use Rattle.ppdb_base.specs.Written.{AppendsFront}
 use Rattle.ppdb_base.proofs.Written.{front_nothing}
 use Rattle.ppdb_run.specs.declared.stop.Stop.{Stop}
-use Rattle.ppdb_run.specs.declared.stop.Stop.TheVariants.{Usage, ReadFault, Absent, TooLong, Refused, NoMethod, Sink, Memory}
 use Rattle.ppdb_run.specs.Ends.{OnTask}
-use Rattle.ppdb_run.specs.Stops.{OnCut}
+use Rattle.ppdb_run.specs.Stops.{Cause, Refusal, Unread, Unwritten, Unput, OutOfMemory, cause_of, OnCut}
 use Rattle.ppdb_run.specs.Words.{Task}
 
-pub on_cut : {P : Type 0} (stop : Stop) → P → OnCut stop P
-on_cut Usage p = tt
-on_cut (ReadFault name) p = tt
-on_cut (Absent name) p = tt
-on_cut (TooLong name) p = tt
-on_cut (Refused name fault) p = tt
-on_cut (NoMethod method) p = tt
-on_cut Sink p = p
-on_cut Memory p = p
+on_cut : {P : Type 0} (cause : Cause) → P → OnCut cause P
+on_cut (Refusal outcome) p = tt
+on_cut (Unread name) p = tt
+on_cut (Unwritten name) p = tt
+on_cut Unput p = p
+on_cut OutOfMemory p = p
 
 abbrev at_stop : (T : Type 0) → Stop → Result T Stop
 at_stop T stop = Err stop
 
 -- where nothing was put yet, nothing of the text was
 pub cut_nothing : (T : Type 0) (task : Task) (files : Option Files) (stop : Stop) (written : Option (List ℕ))
-    → OnTask task files (λ due. IfErr (at_stop T stop) (λ s. OnCut s (AppendsFront written written due.text)))
+    → OnTask task files (λ due. IfErr (at_stop T stop) (λ s. OnCut (cause_of s) (AppendsFront written written due.text)))
 cut_nothing T task None stop written = record { holds = tt }
-cut_nothing T task (Some all) stop written = record { holds = λ due is. on_cut stop (front_nothing written due.text) }
+cut_nothing T task (Some all) stop written = record { holds = λ due is. on_cut (cause_of stop) (front_nothing written due.text) }

@@ -1,59 +1,247 @@
 -- How a run ends that was stopped.
-use Rattle.std.proofs.Common.{ℕ, ◌≡◌, List, sym, ◌∙◌, ap, subst}
-use Rattle.std.specs.Prelude.{Option, Err, IfSome}
+use Rattle.std.proofs.Common.{ℕ, ◌≡◌, ◌≤◌, ◌⊎◌, inl, inr, List, refl, sym, ◌∙◌, ap, subst, arith}
+use Rattle.std.specs.Prelude.{Option, None, Some, Err, IfSome}
+use Rattle.ppdb_base.specs.Causes.{Rose}
 use Rattle.ppdb_base.specs.Files.{Files}
 use Rattle.ppdb_base.specs.Written.{appended}
 use Rattle.ppdb_run.specs.declared.status.Status.{Status}
+use Rattle.ppdb_run.specs.declared.status.Status.TheVariants as statuses
 use Rattle.ppdb_run.specs.declared.stop.Stop.{Stop}
-use Rattle.ppdb_run.specs.declared.stop.Stop.TheVariants.{Usage, ReadFault, Absent, TooLong, Refused, NoMethod, Sink, Memory}
-use Rattle.ppdb_run.specs.Ends.{OnOutcome, HasOutcome}
+use Rattle.ppdb_run.specs.Ends.{OnOutcome, HasOutcome, HadFault, IsUnread, IsUnwritten, LeavesFiles, TellsUnread, TellsUnwritten, UnlessWritten}
+use Rattle.ppdb_run.specs.Lines.{read_fault_line, write_fault_line}
 use Rattle.ppdb_run.specs.Outcome.{Outcome, IsOutcome}
 use Rattle.ppdb_run.specs.Status.{UnlessFault}
-use Rattle.ppdb_run.specs.Stops.{line_of, status_of, refusal_of, FindsOutcome, OnUntold, Tells, Told, Failed, OutOfMemory}
+use Rattle.ppdb_run.specs.Stops.{Cause, Refusal, Unread, Unwritten, Unput, OutOfMemory, cause_of, line_of, status_of, refusal_of}
+use Rattle.ppdb_run.specs.Stops.{ComesFrom, FindsOutcome, IsNoInput, LeavesAt, OnKept, OnUntold, Tells, Told, Failed, NoMemory}
+use Rattle.ppdb_run.specs.Writes.{WritesFront}
+use Rattle.ppdb_run.proofs.Causes.{IsRefusal, Refuses, refuses, at_refusal}
 
--- what a stop comes to holds of the status of the run
-by_status : (P : Type 0) (stop : Stop) (status : Status) (faults faults' : ℕ) (mid new : Option (List ℕ)) → Tells stop status faults faults' mid new
-    → (new ≡ appended mid (line_of stop) → UnlessFault (status_of stop) P) → UnlessFault status P
-by_status P stop status f f' mid new (Told s w l) h = subst (λ x. UnlessFault x P) (sym s) (h w)
-by_status P stop status f f' mid new (Failed s r w) h = subst (λ x. UnlessFault x P) (sym s) tt
-by_status P stop status f f' mid new (OutOfMemory s w l) h = subst (λ x. UnlessFault x P) (sym s) tt
+-- a count that rose has risen later
+rose_on : (a b c : ℕ) → a ≤ b → Rose a b → b ≤ c → Rose a c
+rose_on a b c l h k = grind arith
 
--- a stop that is a refusal is an outcome
-found : (Due : Outcome → Type 0) (stop : Stop) → IfSome (refusal_of stop) Due → UnlessFault (status_of stop) ((due : Outcome) × Due due)
-found Due Usage h = (_, h)
-found Due (ReadFault name) h = tt
-found Due (Absent name) h = (_, h)
-found Due (TooLong name) h = (_, h)
-found Due (Refused name fault) h = (_, h)
-found Due (NoMethod method) h = (_, h)
-found Due Sink h = tt
-found Due Memory h = tt
+rose_before : (a b c : ℕ) → a ≤ b → Rose b c → Rose a c
+rose_before a b c h k = grind arith
+
+-- the files are as before, so the one that is written is
+front_none : (writes : Option (List ℕ × List ℕ)) (old new : Option Files) → new ≡ old → WritesFront writes old new
+front_none None old new e = e
+front_none (Some file) old new e = inl e
+
+front_at : (cause : Cause) (writes : Option (List ℕ × List ℕ)) (old new : Option Files) → LeavesAt cause writes old new → WritesFront writes old new
+front_at (Refusal outcome) writes old new h = front_none writes old new h
+front_at (Unread name) writes old new h = front_none writes old new h
+front_at (Unwritten name) writes old new h = h
+front_at Unput writes old new h = front_none writes old new h
+front_at OutOfMemory writes old new h = h
+
+module _ (cause : Cause) (status : Status) (faults faults' : ℕ) (mid new : Option (List ℕ)) (is : Refuses cause)
+    (tells : Tells cause status faults faults' mid new) where
+  -- what a stop comes to holds of the status of the run
+  by_status : (P : Type 0) → (status ≡ status_of cause → new ≡ appended mid (line_of cause) → UnlessFault (status_of cause) P) → UnlessFault status P
+  by_status P h = elim tells [
+    | Told s w l ↦ subst (λ x. UnlessFault x P) (sym s) (h s w)
+    | Failed s r w ↦ subst (λ x. UnlessFault x P) (sym s) tt
+    | NoMemory s w l ↦ subst (λ x. UnlessFault x P) (sym s) tt
+  ]
+
+  -- a stop that is a refusal is an outcome
+  found : (cause : Cause) → Refuses cause → (Due : Outcome → Type 0) → IfSome (refusal_of cause) Due → UnlessFault (status_of cause) ((due : Outcome) × Due due)
+  found (Refusal outcome) is Due h = unless outcome.status is (outcome, h)
+    where
+      unless : {P : Type 0} (s : Status) → IsRefusal s → P → UnlessFault s P
+      unless {P = P} s is p = at_refusal (λ s. UnlessFault s P) p p p p p p p p p p s is
+  found (Unread name) is Due h = tt
+  found (Unwritten name) is Due h = tt
+  found Unput is Due h = tt
+  found OutOfMemory is Due h = tt
+
+  -- it has the status of the outcome
+  due_status : (cause : Cause) → Refuses cause → (due : Outcome) → IfSome (refusal_of cause) (λ refusal. due ≡ refusal) → status ≡ status_of cause
+      → UnlessFault (status_of cause) (status ≡ due.status)
+  due_status (Refusal outcome) is due e s =
+      let same : status ≡ due.status = s ∙ sym (ap (λ (o : Outcome). o.status) e) in
+      at_refusal (λ x. UnlessFault x (status ≡ due.status)) same same same same same same same same same same outcome.status is
+  due_status (Unread name) is due e s = tt
+  due_status (Unwritten name) is due e s = tt
+  due_status Unput is due e s = tt
+  due_status OutOfMemory is due e s = tt
+
+  -- its line is the text of the outcome
+  due_text : (cause : Cause) → Refuses cause → (due : Outcome) (old : Option (List ℕ)) → IfSome (refusal_of cause) (λ refusal. due ≡ refusal)
+      → OnUntold cause (mid ≡ old) → new ≡ appended mid (line_of cause) → UnlessFault (status_of cause) (new ≡ appended old due.text)
+  due_text (Refusal outcome) is due old e silent w =
+      let same : new ≡ appended old due.text =
+      w ∙ (ap (λ m. appended m outcome.text) silent ∙ ap (λ (o : Outcome). appended old o.text) (sym e)) in
+      at_refusal (λ x. UnlessFault x (new ≡ appended old due.text)) same same same same same same same same same same outcome.status is
+  due_text (Unread name) is due old e silent w = tt
+  due_text (Unwritten name) is due old e silent w = tt
+  due_text Unput is due old e silent w = tt
+  due_text OutOfMemory is due old e silent w = tt
+
+  -- the files that it leaves
+  due_files : (cause : Cause) → Refuses cause → (due : Outcome) (before after : Option Files) → LeavesAt cause due.writes before after
+      → LeavesFiles (status_of cause) due before after
+  due_files (Refusal outcome) is due before after h = at_refusal (λ x. LeavesFiles x due before after) h h h h h h h h h h outcome.status is
+  due_files (Unread name) is due before after h = h
+  due_files (Unwritten name) is due before after h = h
+  due_files Unput is due before after h = front_none due.writes before after h
+  due_files OutOfMemory is due before after h = h
+
+  all_files : (due : Outcome) (before after : Option Files) → LeavesAt cause due.writes before after → LeavesFiles status due before after
+  all_files due before after h = elim tells [
+    | Told s w l ↦ subst (λ x. LeavesFiles x due before after) (sym s) (due_files cause is due before after h)
+    | Failed s r w ↦ subst (λ x. LeavesFiles x due before after) (sym s) (front_at cause due.writes before after h)
+    | NoMemory s w l ↦ subst (λ x. LeavesFiles x due before after) (sym s) (front_at cause due.writes before after h)
+  ]
+
+  -- files that were kept are as before
+  as_before : (cause : Cause) → Refuses cause → (P : Type 0) → OnKept cause P → UnlessWritten (status_of cause) P
+  as_before (Refusal outcome) is P h = at_refusal (λ x. UnlessWritten x P) h h h h h h h h h h outcome.status is
+  as_before (Unread name) is P h = h
+  as_before (Unwritten name) is P h = tt
+  as_before Unput is P h = tt
+  as_before OutOfMemory is P h = tt
+
+  pub stopped_kept : (P : Type 0) → OnKept cause P → UnlessWritten status P
+  stopped_kept P h = elim tells [
+    | Told s w l ↦ subst (λ x. UnlessWritten x P) (sym s) (as_before cause is P h)
+    | Failed s r w ↦ subst (λ x. UnlessWritten x P) (sym s) tt
+    | NoMemory s w l ↦ subst (λ x. UnlessWritten x P) (sym s) tt
+  ]
+
+  -- without a fault it is the outcome, or there was no memory left
+  module _ (M : Type 0) (R W : List ℕ → Type 0) (files : Option Files) (reads reads' writes writes' before : ℕ) (from : before ≤ faults)
+      (comes : ComesFrom cause M R W files (Rose reads reads') (Rose writes writes') (Rose before faults)) where
+    ended : (cause : Cause) → ComesFrom cause M R W files (Rose reads reads') (Rose writes writes') (Rose before faults) → (due : Outcome)
+        → IfSome (refusal_of cause) (λ refusal. due ≡ refusal) → status ≡ status_of cause → faults ≤ faults'
+        → (status ≡ due.status) ⊎ (status ≡ statuses.Memory) ⊎ HadFault reads reads' writes writes' before faults'
+    ended (Refusal outcome) comes due e s l = inl (s ∙ sym (ap (λ (o : Outcome). o.status) e))
+    ended (Unread name) comes due e s l = inr (inr (inl comes.1))
+    ended (Unwritten name) comes due e s l = inr (inr (inr (inl comes.1)))
+    ended Unput comes due e s l = inr (inr (inr (inr (rose_on before faults faults' from comes l))))
+    ended OutOfMemory comes due e s l = inr (inl s)
+
+    complete : (due : Outcome) → IfSome (refusal_of cause) (λ refusal. due ≡ refusal)
+        → (status ≡ due.status) ⊎ (status ≡ statuses.Memory) ⊎ HadFault reads reads' writes writes' before faults'
+    complete due e = elim tells [
+      | Told s w l ↦ ended cause comes due e s l
+      | Failed s r w ↦ inr (inr (inr (inr (rose_before before faults faults' from r))))
+      | NoMemory s w l ↦ inr (inl s)
+    ]
+
+  -- a refusal was told
+  refusal_in : (cause : Cause) → IsRefusal (status_of cause) → (outcome : Outcome) × (cause ≡ Refusal outcome)
+  refusal_in (Refusal outcome) is = (outcome, refl)
+  refusal_in (Unread name) is = absurd is
+  refusal_in (Unwritten name) is = absurd is
+  refusal_in Unput is = absurd is
+  refusal_in OutOfMemory is = absurd is
+
+  refused : IsRefusal status → (outcome : Outcome) × (cause ≡ Refusal outcome) × (status ≡ outcome.status)
+  refused is = elim tells [
+    | Told s w l ↦
+        let told = refusal_in cause (subst (λ x. IsRefusal x) s is) in
+        (told.0, told.1, s ∙ ap status_of told.1)
+    | Failed s r w ↦ absurd (subst (λ x. IsRefusal x) s is)
+    | NoMemory s w l ↦ absurd (subst (λ x. IsRefusal x) s is)
+  ]
+
+  module _ (M : Type 0) (R W : List ℕ → Type 0) (files : Option Files) (A B C : Type 0) where
+    -- the file that was not read, whose line is the text
+    unread_of : (S : Type 0) (cause : Cause) → Refuses cause → ComesFrom cause M R W files A B C → OnUntold cause S → statuses.ReadFault ≡ status_of cause
+        → new ≡ appended mid (line_of cause) → (name : List ℕ) × R name × A × S × (new ≡ appended mid (read_fault_line name))
+    unread_of S (Refusal outcome) is comes silent s w = absurd (subst (λ x. IsRefusal x) (sym s) is)
+    unread_of S (Unread name) is comes silent s w = (name, comes.0, comes.1, silent, w)
+    unread_of S (Unwritten name) is comes silent s w = absurd cc
+    unread_of S Unput is comes silent s w = absurd cc
+    unread_of S OutOfMemory is comes silent s w = absurd cc
+
+    unread_at : (S : Type 0) → ComesFrom cause M R W files A B C → OnUntold cause S → status ≡ statuses.ReadFault
+        → (name : List ℕ) × R name × A × S × (new ≡ appended mid (read_fault_line name))
+    unread_at S comes silent e = elim tells [
+      | Told s w l ↦ unread_of S cause is comes silent (sym e ∙ s) w
+      | Failed s r w ↦ absurd (let x : statuses.ReadFault ≡ statuses.WriteFault = sym e ∙ s in cc)
+      | NoMemory s w l ↦ absurd (let x : statuses.ReadFault ≡ statuses.Memory = sym e ∙ s in cc)
+    ]
+
+    pub stopped_read_fault : (S : Type 0) → ComesFrom cause M R W files A B C → OnUntold cause S → status ≡ statuses.ReadFault → A
+    stopped_read_fault S comes silent e = (unread_at S comes silent e).2
+
+    -- the file that was not written, whose line is the text
+    unwritten_of : (S : Type 0) (cause : Cause) → Refuses cause → ComesFrom cause M R W files A B C → OnUntold cause S → statuses.WriteFault ≡ status_of cause
+        → new ≡ appended mid (line_of cause) → C ⊎ ((name : List ℕ) × W name × B × S × (new ≡ appended mid (write_fault_line name)))
+    unwritten_of S (Refusal outcome) is comes silent s w = absurd (subst (λ x. IsRefusal x) (sym s) is)
+    unwritten_of S (Unread name) is comes silent s w = absurd cc
+    unwritten_of S (Unwritten name) is comes silent s w = inr (name, comes.0, comes.1, silent, w)
+    unwritten_of S Unput is comes silent s w = inl comes
+    unwritten_of S OutOfMemory is comes silent s w = absurd cc
+
+    -- what a refusal comes from
+    pub stopped_usage : ComesFrom cause M R W files A B C → status ≡ statuses.Usage → M
+    stopped_usage comes e =
+        let told = refused (subst (λ s. IsRefusal s) (sym e) tt) in
+        (subst (λ c. ComesFrom c M R W files A B C) told.1 comes).0 (sym told.2 ∙ e)
+
+    pub stopped_untold : ComesFrom cause M R W files A B C → files ≡ None → IsNoInput status → A
+    stopped_untold comes untold was =
+        let told = refused (no_input status was) in
+        (subst (λ c. ComesFrom c M R W files A B C) told.1 comes).1 untold (subst (λ s. IsNoInput s) told.2 was)
+      where
+        no_input : (s : Status) → IsNoInput s → IsRefusal s
+        no_input s (inl e) = subst (λ s. IsRefusal s) (sym e) tt
+        no_input s (inr e) = subst (λ s. IsRefusal s) (sym e) tt
+
+  -- what the line says of a file that was not read
+  pub stopped_unread : (M A B C : Type 0) (W : List ℕ → Type 0) (words : List (List ℕ)) (told files : Option Files) (reads reads' : ℕ) (old : Option (List ℕ))
+      → ComesFrom cause M (IsUnread words told reads reads') W files A B C → OnUntold cause (mid ≡ old) → status ≡ statuses.ReadFault
+      → TellsUnread words told reads reads' old new
+  stopped_unread M A B C W words told files reads reads' old comes silent e =
+      let at = unread_at M (IsUnread words told reads reads') W files A B C (mid ≡ old) comes silent e in
+      record { name = at.0; unread = at.1; written = at.4 ∙ ap (λ m. appended m (read_fault_line at.0)) at.3 }
+
+  -- or of one that was not written, unless the sink failed
+  module _ (M A B : Type 0) (R : List ℕ → Type 0) (words : List (List ℕ)) (files : Option Files) (old : Option (List ℕ)) (before : ℕ) (from : before ≤ faults)
+      (comes : ComesFrom cause M R (IsUnwritten words) files A B (Rose before faults)) (silent : OnUntold cause (mid ≡ old)) where
+    unwritten_at : status ≡ statuses.WriteFault → Rose before faults' ⊎ (B × TellsUnwritten words old new)
+    unwritten_at e = elim tells [
+      | Told s w l ↦ elim (unwritten_of M R (IsUnwritten words) files A B (Rose before faults) (mid ≡ old) cause is comes silent (sym e ∙ s) w) [
+        | inl put ↦ inl (rose_on before faults faults' from put l)
+        | inr at ↦ inr (at.2, record { name = at.0; unwritten = at.1; written = at.4 ∙ ap (λ m. appended m (write_fault_line at.0)) at.3 })
+      ]
+      | Failed s r w ↦ inl (rose_before before faults faults' from r)
+      | NoMemory s w l ↦ absurd (let x : statuses.WriteFault ≡ statuses.Memory = sym e ∙ s in cc)
+    ]
+
+    pub stopped_write_fault : status ≡ statuses.WriteFault → B ⊎ Rose before faults'
+    stopped_write_fault e = elim (unwritten_at e) [ inl put ↦ inr put | inr at ↦ inl at.0 ]
+
+    pub stopped_unwritten : status ≡ statuses.WriteFault → Rose before faults' ⊎ TellsUnwritten words old new
+    stopped_unwritten e = elim (unwritten_at e) [ inl put ↦ inl put | inr at ↦ inr at.1 ]
+
+  -- over the outcome of the words
+  module _ (words : List (List ℕ)) (files : Option Files) (settles : OnOutcome words files (λ due. IfSome (refusal_of cause) (λ refusal. due ≡ refusal))) where
+    pub stopped_status : OnOutcome words files (λ due. UnlessFault status (status ≡ due.status))
+    stopped_status asked asks all seen due h =
+        by_status _ (λ s w. due_status cause is due (settles asked asks all seen due h) s)
+
+    pub stopped_text : (old : Option (List ℕ)) → OnUntold cause (mid ≡ old) → OnOutcome words files (λ due. UnlessFault status (new ≡ appended old due.text))
+    stopped_text old silent asked asks all seen due h =
+        by_status _ (λ s w. due_text cause is due old (settles asked asks all seen due h) silent w)
+
+    pub stopped_complete : (M : Type 0) (R W : List ℕ → Type 0) (told : Option Files) (reads reads' writes writes' before : ℕ) → before ≤ faults
+        → ComesFrom cause M R W told (Rose reads reads') (Rose writes writes') (Rose before faults)
+        → OnOutcome words files (λ due. (status ≡ due.status) ⊎ (status ≡ statuses.Memory) ⊎ HadFault reads reads' writes writes' before faults')
+    stopped_complete M R W told reads reads' writes writes' before from comes asked asks all seen due h =
+        complete M R W told reads reads' writes writes' before from comes due (settles asked asks all seen due h)
+
+  pub stopped_files : (words : List (List ℕ)) (files before after : Option Files)
+      → OnOutcome words files (λ due. LeavesAt cause due.writes before after) → OnOutcome words files (λ due. LeavesFiles status due before after)
+  stopped_files words files before after leaves asked asks all seen due h = all_files due before after (leaves asked asks all seen due h)
 
 pub stopped_outcome : (T : Type 0) (words : List (List ℕ)) (files : Option Files) (stop : Stop) (status : Status) (faults faults' : ℕ) (mid new : Option (List ℕ))
-    → FindsOutcome {T = T} words files (Err stop) → Tells stop status faults faults' mid new → HasOutcome words files status
+    → FindsOutcome {T = T} words files (Err stop) → Tells (cause_of stop) status faults faults' mid new → HasOutcome words files status
 stopped_outcome T words files stop status f f' mid new find tells asked asks all seen =
-    by_status _ stop status f f' mid new tells (λ w. found (IsOutcome asked all) stop (find asked asks all seen))
-
--- and its line is the text of the outcome
-put : (stop : Stop) (due : Outcome) (old mid new : Option (List ℕ)) → IfSome (refusal_of stop) (λ refusal. due ≡ refusal) → OnUntold stop (mid ≡ old)
-    → new ≡ appended mid (line_of stop) → UnlessFault (status_of stop) (new ≡ appended old due.text)
-put stop due old mid new = by_stop stop
-  where
-    line : (refusal : Outcome) → due ≡ refusal → mid ≡ old → new ≡ appended mid refusal.text → new ≡ appended old due.text
-    line refusal e silent w = w ∙ (ap (λ m. appended m refusal.text) silent ∙ ap (λ (o : Outcome). appended old o.text) (sym e))
-
-    by_stop : (stop : Stop) → IfSome (refusal_of stop) (λ refusal. due ≡ refusal) → OnUntold stop (mid ≡ old) → new ≡ appended mid (line_of stop) → UnlessFault (status_of stop) (new ≡ appended old due.text)
-    by_stop Usage e silent w = line _ e silent w
-    by_stop (ReadFault name) e silent w = tt
-    by_stop (Absent name) e silent w = line _ e silent w
-    by_stop (TooLong name) e silent w = line _ e silent w
-    by_stop (Refused name fault) e silent w = line _ e silent w
-    by_stop (NoMethod method) e silent w = line _ e silent w
-    by_stop Sink e silent w = tt
-    by_stop Memory e silent w = tt
-
-pub stopped_text : (words : List (List ℕ)) (files : Option Files) (stop : Stop) (status : Status) (faults faults' : ℕ) (old mid new : Option (List ℕ))
-    → OnOutcome words files (λ due. IfSome (refusal_of stop) (λ refusal. due ≡ refusal)) → OnUntold stop (mid ≡ old) → Tells stop status faults faults' mid new
-    → OnOutcome words files (λ due. UnlessFault status (new ≡ appended old due.text))
-stopped_text words files stop status f f' old mid new settles silent tells asked asks all seen due is =
-    by_status _ stop status f f' mid new tells (put stop due old mid new (settles asked asks all seen due is) silent)
+    let cause = cause_of stop in
+    by_status cause status f f' mid new (refuses stop) tells _
+    (λ s w. found cause status f f' mid new (refuses stop) tells cause (refuses stop) (IsOutcome asked all) (find asked asks all seen))

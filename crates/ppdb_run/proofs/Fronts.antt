@@ -5,11 +5,10 @@ use Rattle.ppdb_base.specs.Files.{Files}
 use Rattle.ppdb_base.specs.Written.{appended, AppendsFront}
 use Rattle.ppdb_base.proofs.Written.{front_whole, appended_nothing}
 use Rattle.ppdb_run.specs.declared.status.Status.{Status}
-use Rattle.ppdb_run.specs.declared.stop.Stop.{Stop}
-use Rattle.ppdb_run.specs.declared.stop.Stop.TheVariants.{Usage, ReadFault, Absent, TooLong, Refused, NoMethod, Sink, Memory}
-use Rattle.ppdb_run.specs.Ends.{OnOutcome, IsUnread, IsDue, answer, read_fault, PutsFront}
+use Rattle.ppdb_run.specs.Ends.{OnOutcome, IsUnread, IsUnwritten, IsDue, answer, read_fault, write_fault, PutsFront}
 use Rattle.ppdb_run.specs.Outcome.{Outcome}
-use Rattle.ppdb_run.specs.Stops.{line_of, refusal_of, OnReadFault, OnUntold, OnCut, Tells, Told, Failed, OutOfMemory}
+use Rattle.ppdb_run.specs.Stops.{Cause, Refusal, Unread, Unwritten, Unput, OutOfMemory, line_of, refusal_of}
+use Rattle.ppdb_run.specs.Stops.{ComesFrom, OnUntold, OnCut, Tells, Told, Failed, NoMemory}
 
 module _ (words : List (List ℕ)) (files : Option Files) (before after : ℕ) (ReadFailed WriteFailed : Type 0) (old mid new : Option (List ℕ)) where
   abbrev Due : Outcome → List ℕ → Type 0
@@ -17,14 +16,6 @@ module _ (words : List (List ℕ)) (files : Option Files) (before after : ℕ) (
 
   abbrev Puts : Outcome → Type 0
   Puts due = PutsFront words files due before after ReadFailed WriteFailed old new
-
-  -- all that is known where a command stopped: mid is what was written then
-  record At (stop : Stop) (due : Outcome) : Type 0 where
-    settles : IfSome (refusal_of stop) (λ refusal. due ≡ refusal)
-    unread : OnReadFault stop (λ name. IsUnread words files before after name)
-    failed : OnReadFault stop (λ name. ReadFailed)
-    silent : OnUntold stop (mid ≡ old)
-    cut : OnCut stop (AppendsFront old mid due.text)
 
   nothing_put : (front rest : List ℕ) → [] ≡ front ++ rest → new ≡ appended mid front → new ≡ mid
   nothing_put [] rest e w = w ∙ appended_nothing mid
@@ -44,32 +35,31 @@ module _ (words : List (List ℕ)) (files : Option Files) (before after : ℕ) (
   the_refusal : (due refusal : Outcome) → due ≡ refusal → mid ≡ old → AppendsFront mid new refusal.text → Puts due
   the_refusal due refusal e silent h = the_line due refusal.text (subst (λ (text : List ℕ). Due due text) (ap (λ (o : Outcome). o.text) e) answer) silent h
 
-  stopped : (stop : Stop) (due : Outcome) → At stop due → AppendsFront mid new (line_of stop) → Puts due
-  stopped Usage due at h = the_refusal due _ at.settles at.silent h
-  stopped (ReadFault name) due at h = the_line due _ (read_fault name.now at.unread at.failed) at.silent h
-  stopped (Absent name) due at h = the_refusal due _ at.settles at.silent h
-  stopped (TooLong name) due at h = the_refusal due _ at.settles at.silent h
-  stopped (Refused name fault) due at h = the_refusal due _ at.settles at.silent h
-  stopped (NoMethod method) due at h = the_refusal due _ at.settles at.silent h
-  stopped Sink due at h = the_text due at.cut h
-  stopped Memory due at h = the_text due at.cut h
+  module _ (M C : Type 0) where
+    stopped : (cause : Cause) (due : Outcome) → ComesFrom cause M (IsUnread words files before after) (IsUnwritten words) files ReadFailed WriteFailed C
+        → IfSome (refusal_of cause) (λ refusal. due ≡ refusal) → OnUntold cause (mid ≡ old) → OnCut cause (AppendsFront old mid due.text)
+        → AppendsFront mid new (line_of cause) → Puts due
+    stopped (Refusal outcome) due comes settles silent cut h = the_refusal due outcome settles silent h
+    stopped (Unread name) due comes settles silent cut h = the_line due _ (read_fault name comes.0 comes.1) silent h
+    stopped (Unwritten name) due comes settles silent cut h = the_line due _ (write_fault name comes.0 comes.1) silent h
+    stopped Unput due comes settles silent cut h = the_text due cut h
+    stopped OutOfMemory due comes settles silent cut h = the_text due cut h
 
-  told_front : (stop : Stop) (status : Status) (faults faults' : ℕ) → Tells stop status faults faults' mid new → AppendsFront mid new (line_of stop)
-  told_front stop status faults faults' (Told s w l) = front_whole mid new (line_of stop) w
-  told_front stop status faults faults' (Failed s r f) = f
-  told_front stop status faults faults' (OutOfMemory s f l) = f
+    told_front : (cause : Cause) (status : Status) (faults faults' : ℕ) → Tells cause status faults faults' mid new → AppendsFront mid new (line_of cause)
+    told_front cause status faults faults' (Told s w l) = front_whole mid new (line_of cause) w
+    told_front cause status faults faults' (Failed s r f) = f
+    told_front cause status faults faults' (NoMemory s f l) = f
 
-  -- a run that stopped put a front of a text that was due
-  pub front_of_stop : (stop : Stop) (status : Status) (faults faults' : ℕ)
-      → OnOutcome words files (λ due. IfSome (refusal_of stop) (λ refusal. due ≡ refusal))
-      → OnOutcome words files (λ due. OnCut stop (AppendsFront old mid due.text))
-      → OnReadFault stop (λ name. IsUnread words files before after name)
-      → OnReadFault stop (λ name. ReadFailed)
-      → OnUntold stop (mid ≡ old)
-      → Tells stop status faults faults' mid new
-      → OnOutcome words files Puts
-  front_of_stop stop status f f' settles cut unread failed silent t asked h all seen due is =
-      stopped stop due (record { settles = settles asked h all seen due is; unread = unread; failed = failed; silent = silent; cut = cut asked h all seen due is }) (told_front stop status f f' t)
+    -- a run that stopped put a front of a text that was due
+    pub front_of_stop : (cause : Cause) (status : Status) (faults faults' : ℕ)
+        → ComesFrom cause M (IsUnread words files before after) (IsUnwritten words) files ReadFailed WriteFailed C
+        → OnOutcome words files (λ due. IfSome (refusal_of cause) (λ refusal. due ≡ refusal))
+        → OnOutcome words files (λ due. OnCut cause (AppendsFront old mid due.text))
+        → OnUntold cause (mid ≡ old)
+        → Tells cause status faults faults' mid new
+        → OnOutcome words files Puts
+    front_of_stop cause status f f' comes settles cut silent t asked h all seen due is =
+        stopped cause due comes (settles asked h all seen due is) silent (cut asked h all seen due is) (told_front cause status f f' t)
 
 -- a run that was done put its text
 pub front_of_done : (words : List (List ℕ)) (files : Option Files) (before after : ℕ) (ReadFailed WriteFailed : Type 0) (old new : Option (List ℕ))

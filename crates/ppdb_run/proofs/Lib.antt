@@ -1,7 +1,10 @@
+pub mod Causes
 pub mod Cuts
 pub mod Endings
 pub mod Fronts
+pub mod Kept
 pub mod Numbers
 pub mod OneTask
 pub mod Outcomes
+pub mod Total
 pub mod WordList

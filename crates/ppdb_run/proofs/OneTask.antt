@@ -1,45 +1,42 @@
--- The words of two tasks differ.
-use Rattle.std.proofs.Common.{ℕ, ◌≡◌, ◌≤◌, ◌<◌, ◌^◌, List, [], ◌∷◌, true, false, arith}
-use Rattle.std.specs.Prelude.{codes}
+-- The words of two tasks differ: a task is read back from its words.
+use Rattle.std.proofs.Common.{ℕ, ◌≡◌, ◌≤◌, ◌<◌, ◌^◌, ◌==◌, List, [], ◌∷◌, true, false, if◌then◌else◌, Option, Some, None, ap, arith}
 use Rattle.std.specs.Fmt.{decimal}
-use Rattle.std.proofs.lemmas.Fmt.{decimal_injective}
-use Rattle.ppdb_run.specs.Words.{Task, Id, Verify, Show, Query, Words, max_method, max_offset}
+use Rattle.std.specs.Str.Parse.{AllDigits, digits_value}
+use Rattle.std.proofs.lemmas.Str.Parse.{IsNumeralModel, numerals_by_value, tells_digits}
+use Rattle.std.proofs.lemmas.Fmt.{digits_value-decimal}
+use Rattle.ppdb_base.specs.declared.limits.TheConstants.{MAX_ROWS, MAX_OFFSET}
+use Rattle.ppdb_run.specs.Words.{Id, Verify, Show, Query, Task, Ask, Words}
 
--- a number is spelled in one way
-one_number : (m n most : ℕ) → most < 2 ^ 32 → m ≤ most → n ≤ most → decimal m ≡ decimal n → m ≡ n
-one_number m n most below a b e = decimal_injective m n (omega arith) (omega arith) e
+numerals : IsNumeralModel (AllDigits 10) (digits_value 10)
+numerals = numerals_by_value (AllDigits 10) tells_digits
 
-one_query : (f g : List ℕ) (m n x y : ℕ) → m ≤ max_method → n ≤ max_method → x ≤ max_offset → y ≤ max_offset
-    → codes "query" ∷ f ∷ decimal m ∷ decimal x ∷ [] ≡ codes "query" ∷ g ∷ decimal n ∷ decimal y ∷ [] → Query f m x ≡ Query g n y
-one_query f g m n x y a b c d e =
-    let file : f ≡ g = cc in
-    let method : m ≡ n = one_number m n max_method (omega arith) a b cc in
-    let offset : x ≡ y = one_number x y max_offset (omega arith) c d cc in
+-- the task of a name's first letter, of a file and of the words behind it
+task_of : ℕ → List ℕ → List (List ℕ) → Option Task
+task_of letter file [] = if letter == 105 then Some (Ask Id file) else if letter == 118 then Some (Ask Verify file) else Some (Ask (Show false) file)
+task_of letter file (one ∷ []) = Some (Ask (Show true) file)
+task_of letter file (one ∷ two ∷ rest) = Some (Ask (Query (digits_value 10 one) (digits_value 10 two)) file)
+
+task_in : List (List ℕ) → Option Task
+task_in ((letter ∷ letters) ∷ file ∷ rest) = task_of letter file rest
+task_in words = None
+
+value : (n most : ℕ) → most < 2 ^ 32 → n ≤ most → digits_value 10 (decimal n) ≡ n
+value n most below a = digits_value-decimal numerals n (omega arith)
+
+read_back : (words : List (List ℕ)) (task : Task) → Words task words → task_in words ≡ Some task
+unfolding task_in task_of
+read_back words (Ask Id f) h = ap task_in h.0
+read_back words (Ask Verify f) h = ap task_in h.0
+read_back words (Ask (Show false) f) h = ap task_in h.0
+read_back words (Ask (Show true) f) h = ap task_in h.0
+read_back words (Ask (Query m x) f) h =
+    let method = value m MAX_ROWS (omega arith) h.2 in
+    let offset = value x MAX_OFFSET (omega arith) h.3 in
+    let same : task_in words ≡ Some (Ask (Query (digits_value 10 (decimal m)) (digits_value 10 (decimal x))) f) = ap task_in h.0 in
     cc
 
 pub one_task : (words : List (List ℕ)) (one other : Task) → Words one words → Words other words → one ≡ other
-one_task words (Id f) (Id g) h k = cc (h.0, k.0)
-one_task words (Id f) (Verify g) h k = cc (h.0, k.0)
-one_task words (Id f) (Show g false) h k = cc (h.0, k.0)
-one_task words (Id f) (Show g true) h k = cc (h.0, k.0)
-one_task words (Id f) (Query g n y) h k = cc (h.0, k.0)
-one_task words (Verify f) (Id g) h k = cc (h.0, k.0)
-one_task words (Verify f) (Verify g) h k = cc (h.0, k.0)
-one_task words (Verify f) (Show g false) h k = cc (h.0, k.0)
-one_task words (Verify f) (Show g true) h k = cc (h.0, k.0)
-one_task words (Verify f) (Query g n y) h k = cc (h.0, k.0)
-one_task words (Show f false) (Id g) h k = cc (h.0, k.0)
-one_task words (Show f false) (Verify g) h k = cc (h.0, k.0)
-one_task words (Show f false) (Show g false) h k = cc (h.0, k.0)
-one_task words (Show f false) (Show g true) h k = cc (h.0, k.0)
-one_task words (Show f false) (Query g n y) h k = cc (h.0, k.0)
-one_task words (Show f true) (Id g) h k = cc (h.0, k.0)
-one_task words (Show f true) (Verify g) h k = cc (h.0, k.0)
-one_task words (Show f true) (Show g false) h k = cc (h.0, k.0)
-one_task words (Show f true) (Show g true) h k = cc (h.0, k.0)
-one_task words (Show f true) (Query g n y) h k = cc (h.0, k.0)
-one_task words (Query f m x) (Id g) h k = cc (h.0, k.0)
-one_task words (Query f m x) (Verify g) h k = cc (h.0, k.0)
-one_task words (Query f m x) (Show g false) h k = cc (h.0, k.0)
-one_task words (Query f m x) (Show g true) h k = cc (h.0, k.0)
-one_task words (Query f m x) (Query g n y) h k = one_query f g m n x y h.2 k.2 h.3 k.3 (let e = h.0 in let d = k.0 in cc)
+one_task words one other h k =
+    let a = read_back words one h in
+    let b = read_back words other k in
+    cc

@@ -5,12 +5,13 @@ use Rattle.ppdb_base.specs.declared.code.Code.{Code}
 use Rattle.ppdb_base.specs.declared.fault.Place.{Place}
 use Rattle.ppdb_base.specs.First.{IsAccepted}
 use Rattle.ppdb_base.specs.Files.{Files, reading}
+use Rattle.ppdb_base.specs.declared.limits.TheConstants.{MAX_FILE_BYTES}
 use Rattle.ppdb_base.proofs.Judging.{one_first, first_not_accepted}
 use Rattle.ppdb_run.specs.declared.stop.Stop.{Stop}
 use Rattle.ppdb_run.specs.Ends.{Asks, AreSeen, OnDue, OnOutcome, OnTask, OnRead, IsWithinBound, IsWithinRows}
-use Rattle.ppdb_run.specs.Outcome.{Outcome, Step, ◌>>=◌, gives, judged, refused, file_at, input_of, max_file, verified, answer_of, outcome_of, steps_of, IsOutcome}
-use Rattle.ppdb_run.specs.Stops.{Gives, Settles, Finds, refusal_of}
-use Rattle.ppdb_run.specs.Words.{Task, Id, Verify, Show, Query, Words, file_of}
+use Rattle.ppdb_run.specs.Outcome.{Outcome, Step, ◌>>=◌, gives, judged, refused, file_at, input_of, verified, answer_of, outcome_of, steps_of, IsOutcome}
+use Rattle.ppdb_run.specs.Stops.{cause_of, Gives, Settles, Finds, refusal_of}
+use Rattle.ppdb_run.specs.Words.{Question, Id, Verify, Show, Query, Task, Ask, Words}
 use Rattle.ppdb_values.specs.RawFile.{RawFile}
 use Rattle.ppdb_verify.specs.Files.{BadFile, IsRawOf, raw_in}
 use Rattle.ppdb_verify.proofs.Streamed.{same_streams}
@@ -21,7 +22,7 @@ use Rattle.ppdb_run.proofs.OneTask.{one_task}
 -- a step that stops ends the whole
 pub gives_stop : {U X Y Z : Type 0} (view : X → Y) (other : U → Z) (stop : Stop) (first : Step Y) (next : Y → Step Z)
     → Gives view (Err stop) first → Gives other (Err stop) (first >>= next)
-gives_stop view other stop first next h = at_refusal (refusal_of stop) h
+gives_stop view other stop first next h = at_refusal (refusal_of (cause_of stop)) h
   where
     at_refusal : (o : Option Outcome) → IfSome o (λ refusal. first (Err refusal)) → IfSome o (λ refusal. (first >>= next) (Err refusal))
     at_refusal None h = tt
@@ -31,7 +32,7 @@ gives_stop view other stop first next h = at_refusal (refusal_of stop) h
 pub gives_next : {U Y Z : Type 0} (other : U → Z) (result : Result U Stop) (first : Step Y) (next : Y → Step Z) (x : Y)
     → first (Ok x) → Gives other result (next x) → Gives other result (first >>= next)
 gives_next other (Ok u) first next x h k = inl (x, h, k)
-gives_next other (Err stop) first next x h k = at_refusal (refusal_of stop) k
+gives_next other (Err stop) first next x h k = at_refusal (refusal_of (cause_of stop)) k
   where
     at_refusal : (o : Option Outcome) → IfSome o (λ refusal. next x (Err refusal)) → IfSome o (λ refusal. (first >>= next) (Err refusal))
     at_refusal None k = tt
@@ -84,7 +85,7 @@ judged_file file bytes = judged file (BadFile bytes) (IsRawOf bytes)
 
 one_verified : (files : Files) (file : List ℕ) → GivesOne (λ x y. x ≡ y) (verified files file)
 one_verified files file r t h k =
-    agrees r t (one_next (λ x y. x ≡ y) (file_at files file) (judged_file file) (one_given (input_of file (reading files file max_file)))
+    agrees r t (one_next (λ x y. x ≡ y) (file_at files file) (judged_file file) (one_given (input_of file (reading files file MAX_FILE_BYTES)))
     (λ x y e. subst (λ z. (r t : Result RawFile Outcome) → judged_file file x r → judged_file file z t → r ≡ t) e (λ r t h k. is_one x r t (one_judged file (BadFile x) (IsRawOf x) (λ a b. a ≡ b) (one_raw x) r t h k))) r t h k)
   where
     agrees : (r t : Result RawFile Outcome) → r ≡ t → Agree (λ x y. x ≡ y) r t
@@ -105,15 +106,15 @@ read_accepted (Some all) file bytes raw h accepted is = inl (bytes, h, (accepted
 -- ---- a task answers of its file where that is verified
 
 one_end : (task : Task) (files : Files) (r t : Result Outcome Outcome) → steps_of task files r → steps_of task files t → r ≡ t
-one_end task files =
-    one_next (λ x y. x ≡ y) (verified files (file_of task)) (λ raw. gives (answer_of task raw)) (one_verified files (file_of task))
-    (λ x y same r t e f. e ∙ (ap (answer_of task) same ∙ sym f))
+one_end (Ask question file) files =
+    one_next (λ x y. x ≡ y) (verified files file) (λ raw. gives (answer_of question raw)) (one_verified files file)
+    (λ x y same r t e f. e ∙ (ap (answer_of question) same ∙ sym f))
 
 -- where the file is not verified, there is no answer
-pub no_answer : {V : Type 0} (view : V → RawFile) (task : Task) (files : Option Files) (stop : Stop)
-    → IfSome files (λ all. Gives view (Err stop) (verified all (file_of task))) → IfSome files (λ all. Gives (λ (o : Outcome). o) (Err stop) (steps_of task all))
-no_answer view task None stop h = tt
-no_answer view task (Some all) stop h = gives_stop view (λ (o : Outcome). o) stop (verified all (file_of task)) (λ raw. gives (answer_of task raw)) h
+pub no_answer : {V : Type 0} (view : V → RawFile) (question : Question) (file : List ℕ) (files : Option Files) (stop : Stop)
+    → IfSome files (λ all. Gives view (Err stop) (verified all file)) → IfSome files (λ all. Gives (λ (o : Outcome). o) (Err stop) (steps_of (Ask question file) all))
+no_answer view question file None stop h = tt
+no_answer view question file (Some all) stop h = gives_stop view (λ (o : Outcome). o) stop (verified all file) (λ raw. gives (answer_of question raw)) h
 
 abbrev same_result : Result Outcome Outcome → Result Outcome Outcome → Type 0
 same_result r t = r ≡ t
@@ -137,7 +138,7 @@ one_outcome (Some task) files a b (inr h) (inr k) = err_inj a b (one_end task fi
 pub of_told : (P : Option Task → Files → Type 0) (words : List (List ℕ)) (task : Task) (files : Option Files) → IfSome files (λ all. P (Some task) all) → Words task words
     → (asked : Option Task) → Asks words asked → (all : Files) → AreSeen asked files all → P asked all
 of_told P words task files k h None none all seen = absurd (none task h)
-of_told P words task None k h (Some other) asks all seen = absurd seen
+of_told P words task None k h (Some (Ask question file)) asks all seen = absurd seen
 of_told P words task (Some told) k h (Some other) asks all seen =
     subst (λ (t : Task). P (Some t) all) (one_task words task other h asks) (subst (λ (fs : Files). P (Some task) fs) seen k)
 
@@ -158,7 +159,7 @@ on_due P asked files a is p = λ b other. subst P (one_outcome asked files a b i
 pub stop_settles : (T : Type 0) {X : Type 0} (task : Task) (files : Option Files) (view : X → Outcome) (stop : Stop)
     → IfSome files (λ all. Gives view (Err stop) (steps_of task all)) → OnTask task files (Settles {T = T} (Err stop))
 stop_settles T task None view stop h = record { holds = tt }
-stop_settles T task (Some all) view stop h = record { holds = λ due is. at_refusal due is (refusal_of stop) h }
+stop_settles T task (Some all) view stop h = record { holds = λ due is. at_refusal due is (refusal_of (cause_of stop)) h }
   where
     at_refusal : (due : Outcome) → IsOutcome (Some task) all due → (o : Option Outcome) → IfSome o (λ refusal. steps_of task all (Err refusal)) → IfSome o (λ refusal. due ≡ refusal)
     at_refusal due is None h = tt
@@ -167,54 +168,58 @@ stop_settles T task (Some all) view stop h = record { holds = λ due is. at_refu
 pub stop_found : (T : Type 0) {X : Type 0} (task : Task) (files : Option Files) (view : X → Outcome) (stop : Stop)
     → IfSome files (λ all. Gives view (Err stop) (steps_of task all)) → IfSome files (λ all. Finds {T = T} (Err stop) (IsOutcome (Some task) all))
 stop_found T task None view stop h = tt
-stop_found T task (Some all) view stop h = at_refusal (refusal_of stop) h
+stop_found T task (Some all) view stop h = at_refusal (refusal_of (cause_of stop)) h
   where
     at_refusal : (o : Option Outcome) → IfSome o (λ refusal. steps_of task all (Err refusal)) → IfSome o (IsOutcome (Some task) all)
     at_refusal None h = tt
     at_refusal (Some refusal) h = inr h
 
--- the outcome of a task whose file is verified
-is_answer : (task : Task) (files : Files) (raw : RawFile) → verified files (file_of task) (Ok raw) → IsOutcome (Some task) files (outcome_of (answer_of task raw))
-is_answer task files raw h = by_result (answer_of task raw) (inl (raw, h, refl))
+-- the outcome of a question whose file is verified
+pub is_answer : (question : Question) (file : List ℕ) (files : Files) (raw : RawFile) → verified files file (Ok raw)
+    → IsOutcome (Some (Ask question file)) files (outcome_of (answer_of question raw))
+is_answer question file files raw h = by_result (answer_of question raw) (inl (raw, h, refl))
   where
-    by_result : (r : Result Outcome Outcome) → steps_of task files r → IsOutcome (Some task) files (outcome_of r)
+    by_result : (r : Result Outcome Outcome) → steps_of (Ask question file) files r → IsOutcome (Some (Ask question file)) files (outcome_of r)
     by_result (Ok answer) h = inl h
     by_result (Err refusal) h = inr h
 
 -- what holds of the answer holds of the outcome
-pub on_answer : (P : Outcome → Type 0) (task : Task) (files : Option Files) (raw : RawFile)
-    → IfSome files (λ all. verified all (file_of task) (Ok raw)) → P (outcome_of (answer_of task raw)) → OnTask task files P
-on_answer P task None raw h p = record { holds = tt }
-on_answer P task (Some all) raw h p = record { holds = on_due P (Some task) all (outcome_of (answer_of task raw)) (is_answer task all raw h) p }
+pub on_answer : (P : Outcome → Type 0) (question : Question) (file : List ℕ) (files : Option Files) (raw : RawFile)
+    → IfSome files (λ all. verified all file (Ok raw)) → P (outcome_of (answer_of question raw)) → OnTask (Ask question file) files P
+on_answer P question file None raw h p = record { holds = tt }
+on_answer P question file (Some all) raw h p =
+    record { holds = on_due P (Some (Ask question file)) all (outcome_of (answer_of question raw)) (is_answer question file all raw h) p }
 
--- a task that was done, or stopped in place of its answer, has an outcome
-pub answer_found : (T : Type 0) (task : Task) (files : Option Files) (raw : RawFile) (result : Result T Stop)
-    → IfSome files (λ all. verified all (file_of task) (Ok raw)) → Settles result (outcome_of (answer_of task raw)) → IfSome files (λ all. Finds result (IsOutcome (Some task) all))
-answer_found T task None raw result h settles = tt
-answer_found T task (Some all) raw (Ok x) h settles = (outcome_of (answer_of task raw), is_answer task all raw h)
-answer_found T task (Some all) raw (Err stop) h settles = at_refusal (refusal_of stop) settles
+-- a question that was answered, or not for its answer's sake, has an outcome
+pub answer_found : (T : Type 0) (question : Question) (file : List ℕ) (files : Option Files) (raw : RawFile) (result : Result T Stop)
+    → IfSome files (λ all. verified all file (Ok raw)) → Settles result (outcome_of (answer_of question raw))
+    → IfSome files (λ all. Finds result (IsOutcome (Some (Ask question file)) all))
+answer_found T question file None raw result h settles = tt
+answer_found T question file (Some all) raw (Ok x) h settles = (outcome_of (answer_of question raw), is_answer question file all raw h)
+answer_found T question file (Some all) raw (Err stop) h settles = at_refusal (refusal_of (cause_of stop)) settles
   where
-    at_refusal : (o : Option Outcome) → IfSome o (λ refusal. outcome_of (answer_of task raw) ≡ refusal) → IfSome o (IsOutcome (Some task) all)
+    at_refusal : (o : Option Outcome) → IfSome o (λ refusal. outcome_of (answer_of question raw) ≡ refusal) → IfSome o (IsOutcome (Some (Ask question file)) all)
     at_refusal None e = tt
-    at_refusal (Some refusal) e = subst (λ due. IsOutcome (Some task) all due) e (is_answer task all raw h)
+    at_refusal (Some refusal) e = subst (λ due. IsOutcome (Some (Ask question file)) all due) e (is_answer question file all raw h)
 
 -- ---- the rows that a task reads
 
 -- what holds of the file that was verified holds of what it is read as
-pub on_read : (P : RawFile → Type 0) (task : Task) (files : Option Files) (raw : RawFile) → IfSome files (λ all. verified all (file_of task) (Ok raw)) → P raw → OnRead task files P
-on_read P task None raw h p = tt
-on_read P task (Some all) raw h p = λ other is. subst P (one_verified all (file_of task) (Ok raw) (Ok other) h is) p
+pub on_read : (P : Question → RawFile → Type 0) (question : Question) (file : List ℕ) (files : Option Files) (raw : RawFile)
+    → IfSome files (λ all. verified all file (Ok raw)) → P question raw → OnRead (Ask question file) files P
+on_read P question file None raw h p = tt
+on_read P question file (Some all) raw h p = λ other is. subst (P question) (one_verified all file (Ok raw) (Ok other) h is) p
 
--- a task that read nothing is within its rows
-pub nothing_read : (task : Task) (files : Option Files) (steps : ℕ) → IsWithinRows task files steps steps
-nothing_read task files steps = record { none = λ no. refl; bound = on_all files }
+-- a question for which nothing was read is within its rows
+pub nothing_read : (question : Question) (file : List ℕ) (files : Option Files) (steps : ℕ) → IsWithinRows (Ask question file) files steps steps
+nothing_read question file files steps = record { none = λ no. refl; bound = on_all files }
   where
-    within : (task : Task) (raw : RawFile) → IsWithinBound task raw steps steps
-    within (Id file) raw = tt
-    within (Verify file) raw = tt
-    within (Show file json) raw = tt
-    within (Query file method offset) raw = omega arith
+    within : (question : Question) (raw : RawFile) → IsWithinBound question raw steps steps
+    within Id raw = tt
+    within Verify raw = tt
+    within (Show json) raw = tt
+    within (Query method offset) raw = omega arith
 
-    on_all : (files : Option Files) → OnRead task files (λ raw. IsWithinBound task raw steps steps)
+    on_all : (files : Option Files) → OnRead (Ask question file) files (λ question raw. IsWithinBound question raw steps steps)
     on_all None = tt
-    on_all (Some all) = λ raw is. within task raw
+    on_all (Some all) = λ raw is. within question raw

@@ -1,5 +1,5 @@
 -- How a run ends: what its status, its text and the files afterwards have to do with the outcome of its words.
-use Rattle.std.specs.Prelude.{ℕ, ◌≡◌, ◌<◌, ◌≤◌, ◌+◌, ◌-◌, ◌⊎◌, List, [], ◌∷◌, Option, Some, None, Ok, IfSome, slice_get, Contains}
+use Rattle.std.specs.Prelude.{ℕ, ◌≡◌, ◌<◌, ◌≤◌, ◌+◌, ◌-◌, ◌⊎◌, List, Option, Some, None, Ok, IfSome, slice_get, Contains}
 use Rattle.ppdb_base.specs.Causes.{Rose}
 use Rattle.ppdb_base.specs.Files.{Files}
 use Rattle.ppdb_base.specs.Written.{appended, AppendsFront}
@@ -8,9 +8,9 @@ use Rattle.ppdb_run.specs.declared.status.Status.TheVariants.{Done, WriteFault, 
 use Rattle.ppdb_run.specs.Lines.{read_fault_line, write_fault_line}
 use Rattle.ppdb_run.specs.Outcome.{Outcome, IsOutcome, verified}
 use Rattle.ppdb_run.specs.Status.{UnlessFault}
-use Rattle.ppdb_run.specs.Words.{Task, Id, Verify, Show, Query, Words, NoTask, file_of}
+use Rattle.ppdb_run.specs.Words.{Question, Id, Verify, Query, Task, Ask, Words, NoTask, read_files, written_file}
 use Rattle.ppdb_run.specs.Writes.{WritesAll, WritesFront}
-use Rattle.ppdb_query.specs.Bound.{query_rows}
+use Rattle.ppdb_show.specs.Bound.{query_rows}
 use Rattle.ppdb_values.specs.RawFile.{RawFile}
 
 -- what the words ask for: a task, or nothing where no task has them
@@ -21,7 +21,7 @@ Asks words None = NoTask words
 -- what is asked for has to do with no file, so that its outcome is the same over all files: each task reads one
 abbrev pub IsApart : Option Task → Type 0
 IsApart None = Unit {0}
-IsApart (Some task) = ⊥
+IsApart (Some (Ask question file)) = ⊥
 
 -- the files that an outcome is over: those that the folder tells; where it tells none, any, if the task has to do with no file
 abbrev pub AreSeen : Option Task → Option Files → Files → Type 0
@@ -44,16 +44,9 @@ OnOutcome words files P = (asked : Option Task) → Asks words asked → (all : 
 abbrev pub HasOutcome : List (List ℕ) → Option Files → Status → Type 0
 HasOutcome words files status = (asked : Option Task) → Asks words asked → (all : Files) → AreSeen asked files all → UnlessFault status ((due : Outcome) × IsOutcome asked all due)
 
--- the files of a task that are read, in the order of its words and as often as they are named, and the file that it writes
-abbrev pub read_files : Task → List (List ℕ)
-read_files task = file_of task ∷ []
-
-abbrev pub written_file : Task → Option (List ℕ)
-written_file task = None
-
 -- the task comes to read the file: nothing that comes before is refused
 abbrev pub ComesToRead : Task → Files → List ℕ → Type 0
-ComesToRead task files name = name ≡ file_of task
+ComesToRead (Ask question file) files name = name ≡ file
 
 -- this file of the task was to be read, after so many reads that gave a file
 pub record IsUnread (words : List (List ℕ)) (files : Option Files) (before after : ℕ) (name : List ℕ) : Type 0 where
@@ -76,6 +69,22 @@ LeavesFiles Done due old new = WritesAll due.writes old new
 LeavesFiles WriteFault due old new = WritesFront due.writes old new
 LeavesFiles Memory due old new = WritesFront due.writes old new
 LeavesFiles status due old new = new ≡ old
+
+-- P holds, unless the file that the outcome writes may hold some of its bytes
+abbrev pub UnlessWritten : Status → Type 0 → Type 0
+UnlessWritten Done P = Unit {0}
+UnlessWritten WriteFault P = Unit {0}
+UnlessWritten Memory P = Unit {0}
+UnlessWritten status P = P
+
+-- what is asked for writes no file
+abbrev pub WritesNoFile : Option Task → Type 0
+WritesNoFile None = Unit {0}
+WritesNoFile (Some task) = written_file task ≡ None
+
+-- where the words have no file written, the files are as before
+abbrev pub KeepsFiles : List (List ℕ) → Option Files → Option Files → Type 0
+KeepsFiles words old new = (asked : Option Task) → Asks words asked → WritesNoFile asked → new ≡ old
 
 -- the text that was put is the line of the file that could not be read
 pub record TellsUnread (words : List (List ℕ)) (files : Option Files) (before after : ℕ) (old new : Option (List ℕ)) : Type 0 where
@@ -107,23 +116,26 @@ HadFault reads reads_after writes writes_after puts puts_after = Rose reads read
 
 -- ---- the rows that are read beside those that the verifier reads
 
--- the verifier reads all that the task needs
-abbrev pub ReadsNoRows : Task → Type 0
-ReadsNoRows (Id file) = Unit {0}
-ReadsNoRows (Verify file) = Unit {0}
-ReadsNoRows (Show file json) = ⊥
-ReadsNoRows (Query file method offset) = ⊥
+-- the verifier reads all that the answer needs
+abbrev pub ReadsNoRows : Question → Type 0
+ReadsNoRows Id = Unit {0}
+ReadsNoRows Verify = Unit {0}
+ReadsNoRows question = ⊥
 
--- so many rows were counted before the task and after it: a query reads no more than its bound
-abbrev pub IsWithinBound : Task → RawFile → ℕ → ℕ → Type 0
-IsWithinBound (Query file method offset) raw before after = after ≤ before + query_rows raw.tables method offset
-IsWithinBound task raw before after = Unit {0}
+-- it reads all that the task needs
+abbrev pub NeedsNoRows : Task → Type 0
+NeedsNoRows (Ask question file) = ReadsNoRows question
 
--- P holds of what the file of a task is read as, where the folder tells it and it is valid
-abbrev pub OnRead : Task → Option Files → (RawFile → Type 0) → Type 0
-OnRead task files P = IfSome files (λ all. (raw : RawFile) → verified all (file_of task) (Ok raw) → P raw)
+-- so many rows were counted before the answer and after it: that to a query reads no more than its bound
+abbrev pub IsWithinBound : Question → RawFile → ℕ → ℕ → Type 0
+IsWithinBound (Query method offset) raw before after = after ≤ before + query_rows raw.tables method offset
+IsWithinBound question raw before after = Unit {0}
+
+-- P holds of the question and of what its file is read as, where the folder tells it and it is valid
+abbrev pub OnRead : Task → Option Files → (Question → RawFile → Type 0) → Type 0
+OnRead (Ask question file) files P = IfSome files (λ all. (raw : RawFile) → verified all file (Ok raw) → P question raw)
 
 -- so many rows were counted before the task and after it: it reads none that it has no need of, and no more than its bound
 pub record IsWithinRows (task : Task) (files : Option Files) (before after : ℕ) : Type 0 where
-  pub none : ReadsNoRows task → after ≡ before
-  pub bound : OnRead task files (λ raw. IsWithinBound task raw before after)
+  pub none : NeedsNoRows task → after ≡ before
+  pub bound : OnRead task files (λ question raw. IsWithinBound question raw before after)

@@ -1,17 +1,25 @@
 -- What a command comes to over the files: a status, a text, and at most one file that is written.
-use Rattle.std.specs.Prelude.{ℕ, ◌≡◌, ◌⊎◌, List, ◌++◌, true, false, ◌&&◌, if◌then◌else◌, nat_le, Option, Some, None, Result, Ok, Err, codes}
+use Rattle.std.specs.Prelude.{ℕ, ◌≡◌, ◌⊎◌, List, [], ◌∷◌, true, false, ◌&&◌, if◌then◌else◌, nat_le, Option, Some, None, Result, Ok, Err, codes}
 use Rattle.ppdb_base.specs.declared.code.Code.{Code}
 use Rattle.ppdb_base.specs.declared.fault.Place.{Place}
 use Rattle.ppdb_base.specs.declared.fault.Fault.{Fault}
 use Rattle.ppdb_base.specs.Files.{Files, Reading, Missing, Longer, Contents, reading}
+use Rattle.ppdb_base.specs.declared.limits.Limit.{Limit}
+use Rattle.ppdb_base.specs.declared.link_error.LinkError.{LinkError}
+use Rattle.ppdb_base.specs.declared.merge_error.MergeError.{MergeError}
+use Rattle.ppdb_base.specs.declared.limits.TheConstants.{MAX_FILE_BYTES}
 use Rattle.ppdb_base.specs.First.{IsAccepted, IsFirst}
 use Rattle.ppdb_run.specs.declared.status.Status.{Status}
 use Rattle.ppdb_run.specs.declared.status.Status.TheVariants as statuses
-use Rattle.ppdb_run.specs.Faults.{fault_text}
-use Rattle.ppdb_text.specs.Heads.{id_line, entry_line}
-use Rattle.ppdb_text.specs.Lines.{line, named, numbered}
-use Rattle.ppdb_run.specs.Words.{Task, Id, Verify, Show, Query, file_of}
-use Rattle.ppdb_query.specs.Query.{query_text_of}
+use Rattle.ppdb_lines.specs.declared.form.Form.TheVariants.{Text}
+use Rattle.ppdb_lines.specs.Forms.{lines_as}
+use Rattle.ppdb_lines.specs.Heads.{id_line, entry_line}
+use Rattle.ppdb_lines.specs.Lines.{Line, text_of}
+use Rattle.ppdb_lines.specs.Pieces.{line}
+use Rattle.ppdb_run.specs.Lines.{about, usage_line, refused_line, map_line, unfit_line, limit_text, map_limit_text}
+use Rattle.ppdb_run.specs.Lines.{no_method_line, links_line, sizes_line}
+use Rattle.ppdb_run.specs.Words.{Question, Id, Verify, Show, Query, Task, Ask}
+use Rattle.ppdb_show.specs.Query.{query_text_of}
 use Rattle.ppdb_show.specs.Show.{show_text_of, show_json_of}
 use Rattle.ppdb_tables.specs.RawTables.{count}
 use Rattle.ppdb_values.specs.RawFile.{RawFile}
@@ -28,20 +36,45 @@ prints status text = record { status = status; text = text; writes = None }
 
 -- ---- the refusals
 
+-- a line alone
+abbrev pub tells : Status → Line → Outcome
+tells status said = prints status (text_of said)
+
 abbrev pub usage : Outcome
-usage = prints statuses.Usage (line (codes "usage"))
+usage = tells statuses.Usage usage_line
 
 abbrev pub absent : List ℕ → Outcome
-absent name = prints statuses.Absent (line (named (codes "absent ") name))
+absent name = tells statuses.Absent (about (codes "absent") name [])
 
 abbrev pub too_long : List ℕ → Outcome
-too_long name = prints statuses.TooLong (line (named (codes "too long ") name))
+too_long name = tells statuses.TooLong (about (codes "too long") name [])
 
 abbrev pub refused : List ℕ → Fault → Outcome
-refused name fault = prints statuses.Refused (named (codes "refused ") name ++ line (fault_text fault))
+refused name fault = tells statuses.Refused (refused_line name fault)
+
+abbrev pub no_map : List ℕ → ℕ → ℕ → Outcome
+no_map name n kind = tells statuses.Unfit (map_line name n kind)
+
+abbrev pub unfit : List ℕ → MergeError → Outcome
+unfit name error = tells statuses.Unfit (unfit_line name error)
+
+abbrev pub limited : Limit → Outcome
+limited limit = prints statuses.Limit (limit_text limit)
+
+abbrev pub map_limited : ℕ → Outcome
+map_limited bytes = prints statuses.Limit (map_limit_text bytes)
 
 abbrev pub no_method : ℕ → Outcome
-no_method method = prints statuses.NoMethod (line (numbered (codes "no method ") method))
+no_method method = tells statuses.NoMethod (no_method_line method)
+
+abbrev pub unlinked : List ℕ → LinkError → Outcome
+unlinked name error = tells statuses.Unlinked (links_line name error)
+
+abbrev pub no_document : List ℕ → Outcome
+no_document name = tells statuses.NoDocument (about (codes "no document") name [])
+
+abbrev pub sizes_differ : ℕ → ℕ → ℕ → Outcome
+sizes_differ method first second = tells statuses.Uncomposed (sizes_line method first second)
 
 -- ---- steps, of which each may end a command by a refusal
 
@@ -60,10 +93,6 @@ abbrev pub ◌>>=◌ : {A B : Type 0} → Step A → (A → Step B) → Step B
 abbrev pub gives : {A : Type 0} → Result A Outcome → Step A
 gives told result = result ≡ told
 
--- the largest file that is read
-abbrev pub max_file : ℕ
-max_file = 134217728
-
 abbrev pub input_of : List ℕ → Reading → Result (List ℕ) Outcome
 input_of name Missing = Err (absent name)
 input_of name Longer = Err (too_long name)
@@ -71,7 +100,7 @@ input_of name (Contents bytes) = Ok bytes
 
 -- the bytes of a file that is read
 abbrev pub file_at : Files → List ℕ → Step (List ℕ)
-file_at files name = gives (input_of name (reading files name max_file))
+file_at files name = gives (input_of name (reading files name MAX_FILE_BYTES))
 
 -- what a file says, where none of the rules is broken; else the file is refused with its first fault
 abbrev pub judged : {A : Type 0} → List ℕ → (Code → Place → Type 0) → (A → Type 0) → Step A
@@ -87,19 +116,19 @@ verified files file = do
 -- ---- the commands
 
 abbrev pub id_text : RawFile → List ℕ
-id_text raw = id_line raw.id ++ entry_line raw.entry
+id_text raw = lines_as Text (id_line raw.id ∷ entry_line raw.entry ∷ [])
 
 -- a text is the answer
 abbrev pub done : List ℕ → Result Outcome Outcome
 done text = Ok (prints statuses.Done text)
 
--- what a task answers of its file: a text, or that the file has no such method
-abbrev pub answer_of : Task → RawFile → Result Outcome Outcome
-answer_of (Id file) raw = done (id_text raw)
-answer_of (Verify file) raw = done (line (codes "accepted"))
-answer_of (Show file false) raw = done (show_text_of raw)
-answer_of (Show file true) raw = done (show_json_of raw)
-answer_of (Query file method offset) raw =
+-- what the answer to a question about a file is: a text, or that the file has no such method
+abbrev pub answer_of : Question → RawFile → Result Outcome Outcome
+answer_of Id raw = done (id_text raw)
+answer_of Verify raw = done (line (codes "accepted"))
+answer_of (Show false) raw = done (show_text_of raw)
+answer_of (Show true) raw = done (show_json_of raw)
+answer_of (Query method offset) raw =
     if nat_le 1 method && nat_le method (count raw.tables 0x06) then done (query_text_of raw method offset) else Err (no_method method)
 
 -- what a command ends with
@@ -109,11 +138,15 @@ outcome_of (Err refusal) = refusal
 
 -- what a task comes to
 abbrev pub steps_of : Task → Files → Step Outcome
-steps_of task files = do
-  raw ← verified files (file_of task)
-  gives (answer_of task raw)
+steps_of (Ask question file) files = do
+  raw ← verified files file
+  gives (answer_of question raw)
 
 -- the outcome of a task, or of words that are no task's
 abbrev pub IsOutcome : Option Task → Files → Outcome → Type 0
 IsOutcome None files due = due ≡ usage
 IsOutcome (Some task) files due = steps_of task files (Ok due) ⊎ steps_of task files (Err due)
+
+-- what is asked for has an outcome over the files: it cannot be that none is one
+abbrev pub HasDue : Option Task → Files → Type 0
+HasDue asked files = ((due : Outcome) → IsOutcome asked files due → ⊥) → ⊥

@@ -1,7 +1,7 @@
 -- The status that a process ends with.
 use Rattle.std.specs.Prelude.{ℕ}
 use Rattle.ppdb_run.specs.declared.status.Status.{Status}
-use Rattle.ppdb_run.specs.declared.status.Status.TheVariants.{Done, Refused, Usage, ReadFault, WriteFault, Memory, Absent, TooLong, Unfit, Limit, NoMethod}
+use Rattle.ppdb_run.specs.declared.status.Status.TheVariants.{Done, Refused, Usage, ReadFault, WriteFault, Memory, Absent, TooLong, Unfit, Limit, NoMethod, Unlinked, NoDocument, Uncomposed}
 
 abbrev pub status_number : Status → ℕ
 status_number Done = 0
@@ -15,6 +15,9 @@ status_number TooLong = 7
 status_number Unfit = 8
 status_number Limit = 9
 status_number NoMethod = 10
+status_number Unlinked = 11
+status_number NoDocument = 12
+status_number Uncomposed = 13
 
 -- P holds, unless something outside failed or there was no memory left
 abbrev pub UnlessFault : Status → Type 0 → Type 0

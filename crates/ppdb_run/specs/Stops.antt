@@ -1,5 +1,7 @@
--- What ends a run before its answer.
-use Rattle.std.specs.Prelude.{ℕ, List, [], Option, Some, None, Result, Ok, Err, IfSome, ◌≡◌, ◌≤◌}
+-- What ends a run before its answer: why, and what holds then.
+use Rattle.std.specs.Prelude.{ℕ, List, [], Option, Some, None, Result, Ok, Err, IfSome, ◌≡◌, ◌≤◌, ◌⊎◌}
+use Rattle.ppdb_base.specs.declared.link_error.LinkError.TheVariants as link_errors
+use Rattle.ppdb_base.specs.declared.merge_error.MergeError.TheVariants as merge_errors
 use Rattle.ppdb_base.specs.declared.sink.WriteError.{WriteError}
 use Rattle.ppdb_base.specs.declared.sink.WriteError.TheVariants as write_errors
 use Rattle.ppdb_base.specs.Causes.{Rose}
@@ -8,118 +10,142 @@ use Rattle.ppdb_base.specs.Written.{appended, AppendsFront}
 use Rattle.ppdb_run.specs.declared.status.Status.{Status}
 use Rattle.ppdb_run.specs.declared.status.Status.TheVariants as statuses
 use Rattle.ppdb_run.specs.declared.stop.Stop.{Stop}
-use Rattle.ppdb_run.specs.declared.stop.Stop.TheVariants.{Usage, ReadFault, Absent, TooLong, Refused, NoMethod, Sink, Memory}
+use Rattle.ppdb_run.specs.declared.stop.Stop.TheVariants as stops
 use Rattle.ppdb_run.specs.Ends.{Asks, AreSeen}
-use Rattle.ppdb_run.specs.Lines.{read_fault_line}
-use Rattle.ppdb_run.specs.Outcome.{Outcome, Step, IsOutcome, usage, absent, too_long, refused, no_method}
+use Rattle.ppdb_run.specs.Lines.{read_fault_line, write_fault_line}
+use Rattle.ppdb_run.specs.Outcome.{Outcome, Step, IsOutcome, usage, absent, too_long, refused, no_map, unfit, limited, map_limited}
+use Rattle.ppdb_run.specs.Outcome.{no_method, unlinked, no_document, sizes_differ}
 use Rattle.ppdb_run.specs.Words.{Task}
+use Rattle.ppdb_run.specs.Writes.{WritesAll, WritesFront}
 
--- the refusal that it is; none where something outside failed, or there was no memory left
-abbrev pub refusal_of : Stop → Option Outcome
-refusal_of Usage = Some usage
-refusal_of (ReadFault name) = None
-refusal_of (Absent name) = Some (absent name.now)
-refusal_of (TooLong name) = Some (too_long name.now)
-refusal_of (Refused name fault) = Some (refused name.now fault)
-refusal_of (NoMethod method) = Some (no_method method)
-refusal_of Sink = None
-refusal_of Memory = None
+-- why a run stopped
+pub data Cause : Type 0 where
+  -- it is the outcome
+  Refusal : Outcome → Cause
+  -- the file was not read
+  Unread : (name : List ℕ) → Cause
+  -- the file was not written
+  Unwritten : (name : List ℕ) → Cause
+  -- the sink failed
+  Unput : Cause
+  -- there was no memory left
+  OutOfMemory : Cause
 
-abbrev pub status_of : Stop → Status
-status_of Usage = statuses.Usage
-status_of (ReadFault name) = statuses.ReadFault
-status_of (Absent name) = statuses.Absent
-status_of (TooLong name) = statuses.TooLong
-status_of (Refused name fault) = statuses.Refused
-status_of (NoMethod method) = statuses.NoMethod
-status_of Sink = statuses.WriteFault
-status_of Memory = statuses.Memory
-
--- the line that says so, or nothing
-abbrev pub line_of : Stop → List ℕ
-line_of Usage = usage.text
-line_of (ReadFault name) = read_fault_line name.now
-line_of (Absent name) = (absent name.now).text
-line_of (TooLong name) = (too_long name.now).text
-line_of (Refused name fault) = (refused name.now fault).text
-line_of (NoMethod method) = (no_method method).text
-line_of Sink = []
-line_of Memory = []
+abbrev pub cause_of : Stop → Cause
+cause_of stops.Usage = Refusal usage
+cause_of (stops.ReadFault name) = Unread name.now
+cause_of (stops.WriteFault name) = Unwritten name.now
+cause_of (stops.Absent name) = Refusal (absent name.now)
+cause_of (stops.TooLong name) = Refusal (too_long name.now)
+cause_of (stops.Refused name fault) = Refusal (refused name.now fault)
+cause_of (stops.Map name line kind) = Refusal (no_map name.now line kind)
+cause_of (stops.Unfit name merge_errors.Memory) = OutOfMemory
+cause_of (stops.Unfit name error) = Refusal (unfit name.now error)
+cause_of (stops.Limit limit) = Refusal (limited limit)
+cause_of (stops.MapLimit bytes) = Refusal (map_limited bytes)
+cause_of (stops.NoMethod method) = Refusal (no_method method)
+cause_of (stops.Unlinked name link_errors.Memory) = OutOfMemory
+cause_of (stops.Unlinked name error) = Refusal (unlinked name.now error)
+cause_of (stops.NoDocument name) = Refusal (no_document name.now)
+cause_of (stops.SizesDiffer method first second) = Refusal (sizes_differ method first second)
+cause_of stops.Sink = Unput
+cause_of stops.Memory = OutOfMemory
 
 -- a write that failed is the sink's
 abbrev pub stop_of : WriteError → Stop
-stop_of write_errors.Failed = Sink
-stop_of write_errors.Memory = Memory
+stop_of write_errors.Failed = stops.Sink
+stop_of write_errors.Memory = stops.Memory
+
+-- ---- what a cause says
+
+abbrev pub refusal_of : Cause → Option Outcome
+refusal_of (Refusal outcome) = Some outcome
+refusal_of cause = None
+
+abbrev pub status_of : Cause → Status
+status_of (Refusal outcome) = outcome.status
+status_of (Unread name) = statuses.ReadFault
+status_of (Unwritten name) = statuses.WriteFault
+status_of Unput = statuses.WriteFault
+status_of OutOfMemory = statuses.Memory
+
+-- the line that says so, or nothing
+abbrev pub line_of : Cause → List ℕ
+line_of (Refusal outcome) = outcome.text
+line_of (Unread name) = read_fault_line name
+line_of (Unwritten name) = write_fault_line name
+line_of Unput = []
+line_of OutOfMemory = []
+
+-- P holds where a line is still to say so; where the sink failed or there was no memory left the text may be cut off
+abbrev pub OnUntold : Cause → Type 0 → Type 0
+OnUntold Unput P = Unit {0}
+OnUntold OutOfMemory P = Unit {0}
+OnUntold cause P = P
+
+abbrev pub OnCut : Cause → Type 0 → Type 0
+OnCut Unput P = P
+OnCut OutOfMemory P = P
+OnCut cause P = Unit {0}
+
+-- P holds, unless the file that is written may hold some of its bytes
+abbrev pub OnKept : Cause → Type 0 → Type 0
+OnKept (Unwritten name) P = Unit {0}
+OnKept OutOfMemory P = Unit {0}
+OnKept cause P = P
+
+-- the status of a file that was not there or too long
+abbrev pub IsNoInput : Status → Type 0
+IsNoInput status = (status ≡ statuses.Absent) ⊎ (status ≡ statuses.TooLong)
+
+-- what a stop comes from: Misused says that the words are no command's, ReadFailed, WriteFailed and PutFailed that a count of faults rose,
+-- and ToRead and ToWrite of which file
+abbrev pub ComesFrom : Cause → (Misused : Type 0) → (ToRead ToWrite : List ℕ → Type 0) → (files : Option Files) → (ReadFailed WriteFailed PutFailed : Type 0) → Type 0
+ComesFrom (Refusal outcome) Misused ToRead ToWrite files ReadFailed WriteFailed PutFailed =
+    (outcome.status ≡ statuses.Usage → Misused) × (files ≡ None → IsNoInput outcome.status → ReadFailed)
+ComesFrom (Unread name) Misused ToRead ToWrite files ReadFailed WriteFailed PutFailed = ToRead name × ReadFailed
+ComesFrom (Unwritten name) Misused ToRead ToWrite files ReadFailed WriteFailed PutFailed = ToWrite name × WriteFailed
+ComesFrom Unput Misused ToRead ToWrite files ReadFailed WriteFailed PutFailed = PutFailed
+ComesFrom OutOfMemory Misused ToRead ToWrite files ReadFailed WriteFailed PutFailed = Unit {0}
+
+-- no file: a stop that comes from no file of this kind
+abbrev pub no_file : List ℕ → Type 0
+no_file name = ⊥
+
+-- the files where a command stopped that writes these bytes
+abbrev pub LeavesAt : Cause → Option (List ℕ × List ℕ) → Option Files → Option Files → Type 0
+LeavesAt (Unwritten name) writes old new = WritesFront writes old new
+LeavesAt OutOfMemory writes old new = WritesFront writes old new
+LeavesAt cause writes old new = new ≡ old
+
+-- ---- what a step and a command come to
 
 -- an answer, seen by view, is one that the step may give; a stop that is a refusal is a refusal that it may give
 abbrev pub Gives : {X Y : Type 0} → (X → Y) → Result X Stop → Step Y → Type 0
 Gives view (Ok x) step = step (Ok (view x))
-Gives view (Err stop) step = IfSome (refusal_of stop) (λ refusal. step (Err refusal))
+Gives view (Err stop) step = IfSome (refusal_of (cause_of stop)) (λ refusal. step (Err refusal))
 
 -- a command was done, or stopped at the refusal that is its outcome
 abbrev pub Settles : {T : Type 0} → Result T Stop → Outcome → Type 0
 Settles (Ok _) due = due.status ≡ statuses.Done
-Settles (Err stop) due = IfSome (refusal_of stop) (λ refusal. due ≡ refusal)
+Settles (Err stop) due = IfSome (refusal_of (cause_of stop)) (λ refusal. due ≡ refusal)
 
 -- a command that was done, or stopped at a refusal, has an outcome
 abbrev pub Finds : {T : Type 0} → Result T Stop → (Outcome → Type 0) → Type 0
 Finds (Ok _) Due = (due : Outcome) × Due due
-Finds (Err stop) Due = IfSome (refusal_of stop) Due
+Finds (Err stop) Due = IfSome (refusal_of (cause_of stop)) Due
 
 -- so have the words, over the files that they see
 abbrev pub FindsOutcome : {T : Type 0} → List (List ℕ) → Option Files → Result T Stop → Type 0
 FindsOutcome words files result = (asked : Option Task) → Asks words asked → (all : Files) → AreSeen asked files all → Finds result (IsOutcome asked all)
 
--- P holds of the name where a read has failed
-abbrev pub OnReadFault : Stop → (List ℕ → Type 0) → Type 0
-OnReadFault (ReadFault name) P = P name.now
-OnReadFault stop P = Unit {0}
-
--- P holds where the sink has failed
-abbrev pub OnSink : Stop → Type 0 → Type 0
-OnSink Sink P = P
-OnSink stop P = Unit {0}
-
--- P holds where a file was not there or too long
-abbrev pub OnNoInput : Stop → Type 0 → Type 0
-OnNoInput (Absent name) P = P
-OnNoInput (TooLong name) P = P
-OnNoInput stop P = Unit {0}
-
--- P holds where a line is still to say so: not where the sink failed or there was no memory left
-abbrev pub OnUntold : Stop → Type 0 → Type 0
-OnUntold Sink P = Unit {0}
-OnUntold Memory P = Unit {0}
-OnUntold stop P = P
-
--- P holds where the words are no command's
-abbrev pub OnUsage : Stop → Type 0 → Type 0
-OnUsage Usage P = P
-OnUsage stop P = Unit {0}
-
--- P holds where the sink failed or there was no memory left, so that the text may be cut off
-abbrev pub OnCut : Stop → Type 0 → Type 0
-OnCut Sink P = P
-OnCut Memory P = P
-OnCut stop P = Unit {0}
-
--- a stop that a read comes to
-abbrev pub IsOfReading : Stop → Type 0
-IsOfReading (ReadFault name) = Unit {0}
-IsOfReading (Absent name) = Unit {0}
-IsOfReading (TooLong name) = Unit {0}
-IsOfReading Memory = Unit {0}
-IsOfReading stop = ⊥
-
--- a stop that an answer comes to
-abbrev pub IsOfAnswer : Stop → Type 0
-IsOfAnswer (NoMethod method) = Unit {0}
-IsOfAnswer Sink = Unit {0}
-IsOfAnswer Memory = Unit {0}
-IsOfAnswer stop = ⊥
+-- the files that a command leaves
+abbrev pub Leaves : {T : Type 0} → Result T Stop → Option (List ℕ × List ℕ) → Option Files → Option Files → Type 0
+Leaves (Ok _) writes old new = WritesAll writes old new
+Leaves (Err stop) writes old new = LeavesAt (cause_of stop) writes old new
 
 -- a line says why a run stopped, and the status is that of the stop or of a failed put
-pub data Tells (stop : Stop) (status : Status) (before after : ℕ) (old new : Option (List ℕ)) : Type 0 where
-  Told : status ≡ status_of stop → new ≡ appended old (line_of stop) → before ≤ after → Tells stop status before after old new
-  Failed : status ≡ statuses.WriteFault → Rose before after → AppendsFront old new (line_of stop) → Tells stop status before after old new
-  OutOfMemory : status ≡ statuses.Memory → AppendsFront old new (line_of stop) → before ≤ after → Tells stop status before after old new
+pub data Tells (cause : Cause) (status : Status) (before after : ℕ) (old new : Option (List ℕ)) : Type 0 where
+  Told : status ≡ status_of cause → new ≡ appended old (line_of cause) → before ≤ after → Tells cause status before after old new
+  Failed : status ≡ statuses.WriteFault → Rose before after → AppendsFront old new (line_of cause) → Tells cause status before after old new
+  NoMemory : status ≡ statuses.Memory → AppendsFront old new (line_of cause) → before ≤ after → Tells cause status before after old new

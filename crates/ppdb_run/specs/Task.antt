@@ -1,11 +1,19 @@
 -- A command as it is asked for.
+use Rattle.ppdb_run.specs.declared.question.Question.{Question as Asked}
+use Rattle.ppdb_run.specs.declared.question.Question.TheVariants as asked
 use Rattle.ppdb_run.specs.declared.words.Command.{Command}
 use Rattle.ppdb_run.specs.declared.words.Command.TheVariants as commands
-use Rattle.ppdb_run.specs.Words.{Task, Id, Verify, Show, Query}
+use Rattle.ppdb_run.specs.Words.{Question, Id, Verify, Show, Query, Task, Ask}
+
+abbrev pub question_of : Asked → Question
+question_of asked.Id = Id
+question_of asked.Verify = Verify
+question_of (asked.Show json) = Show json
+question_of (asked.Query method offset) = Query method offset
 
 -- a command without where its words lie in memory
 abbrev pub task_of : Command → Task
-task_of (commands.Id file) = Id file.now
-task_of (commands.Verify file) = Verify file.now
-task_of (commands.Show file json) = Show file.now json
-task_of (commands.Query file method offset) = Query file.now method offset
+task_of (commands.Id file) = Ask Id file.now
+task_of (commands.Verify file) = Ask Verify file.now
+task_of (commands.Show file json) = Ask (Show json) file.now
+task_of (commands.Query file method offset) = Ask (Query method offset) file.now

@@ -1,8 +1,9 @@
 -- The command line: which words ask for what.
-use Rattle.std.specs.Prelude.{ℕ, ◌≡◌, ◌≤◌, List, [], ◌∷◌, map, Bool, true, false, not, ◌&&◌, ◌==◌, codes, IsTrue, String}
+use Rattle.std.specs.Prelude.{ℕ, ◌≡◌, ◌≤◌, List, [], ◌∷◌, map, Bool, true, false, not, ◌&&◌, ◌==◌, Option, None, codes, IsTrue, String}
 use Rattle.std.specs.Fmt.{decimal}
 use Rattle.std.specs.String.{string_bytes}
 use Rattle.std.specs.declared.alloc.Global.{Global}
+use Rattle.ppdb_base.specs.declared.limits.TheConstants.{MAX_ROWS, MAX_OFFSET}
 
 -- the words as bytes
 abbrev pub texts : List (String Global) → List (List ℕ)
@@ -14,26 +15,25 @@ is_file_word [] = false
 is_file_word (first ∷ []) = true
 is_file_word (first ∷ second ∷ rest) = not (first == 0x2d && second == 0x2d)
 
--- the largest row of a method, and the largest offset
-abbrev pub max_method : ℕ
-max_method = 16777215
-
-abbrev pub max_offset : ℕ
-max_offset = 2147483647
+-- what is asked of one file, whose answer is a text
+pub data Question : Type 0 where
+  Id : Question
+  Verify : Question
+  Show : (json : Bool) → Question
+  Query : (method offset : ℕ) → Question
 
 -- what is asked for
 pub data Task : Type 0 where
-  Id : (file : List ℕ) → Task
-  Verify : (file : List ℕ) → Task
-  Show : (file : List ℕ) → (json : Bool) → Task
-  Query : (file : List ℕ) → (method offset : ℕ) → Task
+  -- a question about a file
+  Ask : (question : Question) → (file : List ℕ) → Task
 
--- the file that a task reads
-abbrev pub file_of : Task → List ℕ
-file_of (Id file) = file
-file_of (Verify file) = file
-file_of (Show file json) = file
-file_of (Query file method offset) = file
+-- the files that a task reads, in the order of its words and as often as they are named
+abbrev pub read_files : Task → List (List ℕ)
+read_files (Ask question file) = file ∷ []
+
+-- the file that a task writes, if any
+abbrev pub written_file : Task → Option (List ℕ)
+written_file (Ask question file) = None
 
 -- the words are one that names a file
 abbrev pub IsFileAlone : List ℕ → List (List ℕ) → Type 0
@@ -41,12 +41,12 @@ IsFileAlone file words = (words ≡ file ∷ []) × IsTrue (is_file_word file)
 
 -- the words of a task, one case for each form
 abbrev pub Words : Task → List (List ℕ) → Type 0
-Words (Id file) words = (words ≡ codes "id" ∷ file ∷ []) × IsTrue (is_file_word file)
-Words (Verify file) words = (words ≡ codes "verify" ∷ file ∷ []) × IsTrue (is_file_word file)
-Words (Show file false) words = (words ≡ codes "show" ∷ file ∷ []) × IsTrue (is_file_word file)
-Words (Show file true) words = (words ≡ codes "show" ∷ file ∷ codes "--json" ∷ []) × IsTrue (is_file_word file)
-Words (Query file method offset) words =
-    (words ≡ codes "query" ∷ file ∷ decimal method ∷ decimal offset ∷ []) × IsTrue (is_file_word file) × (method ≤ max_method) × (offset ≤ max_offset)
+Words (Ask Id file) words = (words ≡ codes "id" ∷ file ∷ []) × IsTrue (is_file_word file)
+Words (Ask Verify file) words = (words ≡ codes "verify" ∷ file ∷ []) × IsTrue (is_file_word file)
+Words (Ask (Show false) file) words = (words ≡ codes "show" ∷ file ∷ []) × IsTrue (is_file_word file)
+Words (Ask (Show true) file) words = (words ≡ codes "show" ∷ file ∷ codes "--json" ∷ []) × IsTrue (is_file_word file)
+Words (Ask (Query method offset) file) words =
+    (words ≡ codes "query" ∷ file ∷ decimal method ∷ decimal offset ∷ []) × IsTrue (is_file_word file) × (method ≤ MAX_ROWS) × (offset ≤ MAX_OFFSET)
 
 -- no task has these words
 abbrev pub NoTask : List (List ℕ) → Type 0

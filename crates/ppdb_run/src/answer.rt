@@ -1,83 +1,85 @@
-// The commands that answer of one file: what they read and verify, and what they put.
+// The answers to questions about one file: what is read and verified, and what is put.
 ghost use Rattle.std.specs.Prelude.{◌≡◌, ◌≤◌, ℕ, Some, None, OnOk, OnErr, IfErr, IfSome, IsErrOf};
 ghost use Rattle.ppdb_base.specs.Causes.{Rose};
-ghost use Rattle.ppdb_base.specs.Written.{appended, AppendsFront};
+ghost use Rattle.ppdb_base.specs.Written.{appended, AppendsFront, Puts};
 ghost use Rattle.ppdb_run.specs.Ends.{OnTask, IsWithinRows, IsWithinBound, ReadsNoRows};
 ghost use Rattle.ppdb_run.specs.Outcome.{IsOutcome, answer_of, id_text, outcome_of};
-ghost use Rattle.ppdb_run.specs.Stops.{Settles, Finds, IsOfAnswer, OnCut, OnNoInput, OnReadFault, OnSink, OnUntold, OnUsage};
-ghost use Rattle.ppdb_run.specs.Task.{task_of};
-ghost use Rattle.ppdb_run.specs.Words.{file_of};
+ghost use Rattle.ppdb_run.specs.Stops.{cause_of, Settles, Finds, ComesFrom, no_file, OnCut, OnUntold};
+ghost use Rattle.ppdb_run.specs.Task.{question_of};
+ghost use Rattle.ppdb_run.specs.Words.{Ask};
 ghost use Rattle.ppdb_verify.specs.Views.{raw_file};
 
+use crate::question::Question;
 use crate::stop::Stop;
 use crate::verified::read_verified;
-use crate::words::Command;
 use ppdb_base::{Folder, List, Sink, Steps, WriteError};
-use ppdb_query::{QueryError, query_text};
-use ppdb_show::{show_json, show_text};
-use ppdb_text::{put_entry_line, put_id_line};
+use ppdb_lines::{Form, Printer, put_entry_line, put_id_line};
+use ppdb_show::{QueryError, query_text, show_json, show_text};
 use ppdb_verify::Verified;
 use std::alloc::Global;
 use std::sync::ledger::Ledger;
 
-/// Reads and verifies the file of a command, and puts its answer.
+/// Reads and verifies a file, and puts the answer to a question about it.
 pub fn answer<'a, F: Folder, O: Sink, K: Ledger, L: Ledger>(
     alloc: Global,
-    command: Command<'a>,
+    question: Question,
+    file: &'a str,
     folder: &mut F,
     out: &mut O,
     checks: &mut Steps<K>,
     steps: &mut Steps<L>,
 ) -> Result<(), Stop<'a>>
     // What it comes to over told files.
-    ensures found { IfSome (F.files folder.old) (λ all. Finds result (IsOutcome (Some (task_of command.entry)) all)) }
-    ensures told { OnTask (task_of command.entry) (F.files folder.old) (Settles result) }
-    ensures text { OnTask (task_of command.entry) (F.files folder.old) (λ due. OnOk result (O.written out.new ≡ appended (O.written out.old) due.text)) }
-    ensures cut { OnTask (task_of command.entry) (F.files folder.old) (λ due. IfErr result (λ stop. OnCut stop (AppendsFront (O.written out.old) (O.written out.new) due.text))) }
-    ensures silent { IfErr result (λ stop. OnUntold stop (O.written out.new ≡ O.written out.old)) }
+    ensures found { IfSome (F.files folder.old) (λ all. Finds result (IsOutcome (Some (Ask (question_of question) file.now)) all)) }
+    ensures told { OnTask (Ask (question_of question) file.now) (F.files folder.old) (Settles result) }
+    ensures text { OnTask (Ask (question_of question) file.now) (F.files folder.old) (λ due. OnOk result (O.written out.new ≡ appended (O.written out.old) due.text)) }
+    ensures rows { IsWithinRows (Ask (question_of question) file.now) (F.files folder.old) steps.old steps.new }
     ensures files { F.files folder.new ≡ F.files folder.old }
-    ensures rows { IsWithinRows (task_of command.entry) (F.files folder.old) steps.old steps.new }
 
-    // What a stop comes from.
-    ensures read_fault { IfErr result (λ stop. OnReadFault stop (λ name. Rose (F.read_faults folder.old) (F.read_faults folder.new))) }
-    ensures unread { IfErr result (λ stop. OnReadFault stop (λ name. (name ≡ file_of (task_of command.entry)) × (F.reads folder.new ≡ F.reads folder.old))) }
-    ensures sink { IfErr result (λ stop. OnSink stop (Rose (O.faults out.old) (O.faults out.new))) }
-    ensures untold { F.files folder.old ≡ None → IfErr result (λ stop. OnNoInput stop (Rose (F.read_faults folder.old) (F.read_faults folder.new))) }
-    ensures understood { IfErr result (λ stop. OnUsage stop ⊥) }
+    // What a stop comes from, and what it leaves.
+    ensures causes { IfErr result (λ stop. ComesFrom (cause_of stop)
+        ⊥
+        (λ name. (name ≡ file.now) × (F.reads folder.new ≡ F.reads folder.old))
+        no_file
+        (F.files folder.old)
+        (Rose (F.read_faults folder.old) (F.read_faults folder.new))
+        (Rose (F.write_faults folder.old) (F.write_faults folder.new))
+        (Rose (O.faults out.old) (O.faults out.new))) }
+    ensures silent { IfErr result (λ stop. OnUntold (cause_of stop) (O.written out.new ≡ O.written out.old)) }
+    ensures cut { OnTask (Ask (question_of question) file.now) (F.files folder.old) (λ due. IfErr result (λ stop. OnCut (cause_of stop) (AppendsFront (O.written out.old) (O.written out.new) due.text))) }
     ensures later { O.faults out.old ≤ O.faults out.new }
 {
     let mut bytes = List::new(alloc);
-    let verified = match read_verified(alloc, command.file(), folder, &mut bytes, checks) {
+    let verified = match read_verified(alloc, file, folder, &mut bytes, checks) {
         Ok(verified) => verified,
         Err(stop) => return Err(stop),
     };
-    put_answer(alloc, command, &verified, out, steps)
+    put_answer(alloc, question, &verified, out, steps)
 }
 
-/// Puts what a command answers of its verified file.
+/// Puts the answer to a question about a verified file.
 fn put_answer<'a, O: Sink, L: Ledger>(
     alloc: Global,
-    command: Command<'a>,
+    question: Question,
     file: &Verified<'_>,
     out: &mut O,
     steps: &mut Steps<L>,
 ) -> Result<(), Stop<'a>>
-    ensures told { Settles result (outcome_of (answer_of (task_of command.entry) (raw_file file.now))) }
-    ensures text { OnOk result (O.written out.new ≡ appended (O.written out.old) (outcome_of (answer_of (task_of command.entry) (raw_file file.now))).text) }
-    ensures cut { IfErr result (λ stop. OnCut stop (AppendsFront (O.written out.old) (O.written out.new) (outcome_of (answer_of (task_of command.entry) (raw_file file.now))).text)) }
-    ensures silent { IfErr result (λ stop. OnUntold stop (O.written out.new ≡ O.written out.old)) }
-    ensures kind { IfErr result IsOfAnswer }
-    ensures sink { IfErr result (λ stop. OnSink stop (Rose (O.faults out.old) (O.faults out.new))) }
+    ensures told { Settles result (outcome_of (answer_of (question_of question) (raw_file file.now))) }
+    ensures text { OnOk result (O.written out.new ≡ appended (O.written out.old) (outcome_of (answer_of (question_of question) (raw_file file.now))).text) }
+    ensures causes { IfErr result (λ stop. ComesFrom (cause_of stop) ⊥ no_file no_file None ⊥ ⊥ (Rose (O.faults out.old) (O.faults out.new))) }
+    ensures silent { IfErr result (λ stop. OnUntold (cause_of stop) (O.written out.new ≡ O.written out.old)) }
+    ensures cut { IfErr result (λ stop. OnCut (cause_of stop) (AppendsFront (O.written out.old) (O.written out.new) (outcome_of (answer_of (question_of question) (raw_file file.now))).text)) }
     ensures later { O.faults out.old ≤ O.faults out.new }
-    ensures none { ReadsNoRows (task_of command.entry) → steps.new ≡ steps.old }
-    ensures bound { IsWithinBound (task_of command.entry) (raw_file file.now) steps.old steps.new }
+    ensures none { ReadsNoRows (question_of question) → steps.new ≡ steps.old }
+    ensures bound { IsWithinBound (question_of question) (raw_file file.now) steps.old steps.new }
 {
-    match command {
-        Command::Id { .. } => put_id(out, file)?,
-        Command::Verify { .. } => out.put(b"accepted\n")?,
-        Command::Show { json: false, .. } => show_text(alloc, file, out, steps)?,
-        Command::Show { json: true, .. } => show_json(alloc, file, out, steps)?,
-        Command::Query { method, offset, .. } => {
+    match question {
+        Question::Id => put_id(alloc, out, file)?,
+        Question::Verify => out.put(b"accepted\n")?,
+        Question::Show { json: false } => show_text(alloc, file, out, steps)?,
+        Question::Show { json: true } => show_json(alloc, file, out, steps)?,
+        Question::Query { method, offset } => {
             match query_text(alloc, file, method, offset, out, steps) {
                 Ok(()) => {}
                 Err(QueryError::NoMethod) => return Err(Stop::NoMethod(method)),
@@ -90,14 +92,15 @@ fn put_answer<'a, O: Sink, L: Ledger>(
 }
 
 /// Puts the two lines of `id`.
-fn put_id<O: Sink>(out: &mut O, file: &Verified<'_>) -> Result<(), WriteError>
-    ensures ok { OnOk result (O.written out.new ≡ appended (O.written out.old) (id_text (raw_file file.now))) }
-    ensures err { OnErr result (AppendsFront (O.written out.old) (O.written out.new) (id_text (raw_file file.now))) }
-    ensures failed { IsErrOf result WriteError.Failed → Rose (O.faults out.old) (O.faults out.new) }
-    ensures later { O.faults out.old ≤ O.faults out.new }
+fn put_id<O: Sink>(alloc: Global, out: &mut O, file: &Verified<'_>) -> Result<(), WriteError>
+    ensures { Puts result (O.written out.old) (O.written out.new) (O.faults out.old) (O.faults out.new) (id_text (raw_file file.now)) }
 {
-    file.tables().shape();
+    let printer = Printer {
+        alloc,
+        form: Form::Text,
+    };
+    file.keeps();
     let head = file.head();
-    put_id_line(out, &head.id)?;
-    put_entry_line(out, head.entry)
+    put_id_line(printer, out, &head.id)?;
+    put_entry_line(printer, out, head.entry)
 }

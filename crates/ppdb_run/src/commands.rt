@@ -2,9 +2,10 @@
 ghost use Rattle.std.specs.Prelude.{◌≡◌, ◌≤◌, ◌⊎◌, ℕ, None, OnOk, IfErr, IsErrOf};
 ghost use Rattle.ppdb_base.specs.Causes.{Rose};
 ghost use Rattle.ppdb_base.specs.Written.{appended, AppendsFront};
-ghost use Rattle.ppdb_run.specs.Ends.{OnOutcome, HasOutcome, IsWithinRows, LeavesFiles, HadFault, PutsFront, IsUnread, TellsUnread, TellsUnwritten};
+ghost use Rattle.ppdb_run.specs.Ends.{OnOutcome, HasOutcome, IsWithinRows, LeavesFiles, KeepsFiles, HadFault, PutsFront, IsUnread, IsUnwritten};
+ghost use Rattle.ppdb_run.specs.Ends.{TellsUnread, TellsUnwritten, UnlessWritten};
 ghost use Rattle.ppdb_run.specs.Status.{UnlessFault};
-ghost use Rattle.ppdb_run.specs.Stops.{Tells, Settles, FindsOutcome, OnCut, OnNoInput, OnReadFault, OnSink, OnUntold, OnUsage};
+ghost use Rattle.ppdb_run.specs.Stops.{cause_of, Tells, Settles, FindsOutcome, ComesFrom, Leaves, OnKept, OnCut, OnUntold};
 ghost use Rattle.ppdb_run.specs.Words.{Task, Words, NoTask, texts};
 
 use crate::answer::answer;
@@ -43,6 +44,10 @@ pub fn run<F: Folder, O: Sink, K: Ledger, L: Ledger>(
     // Whatever comes, what was put is a front of a text that was due.
     ensures front { OnOutcome (texts words.now) (F.files folder.old) (λ due. PutsFront (texts words.now) (F.files folder.old) due (F.reads folder.old) (F.reads folder.new) (Rose (F.read_faults folder.old) (F.read_faults folder.new)) (Rose (F.write_faults folder.old) (F.write_faults folder.new)) (O.written out.old) (O.written out.new)) }
 
+    // Whether or not the words have an outcome.
+    ensures kept { UnlessWritten result (F.files folder.new ≡ F.files folder.old) }
+    ensures read_only { KeepsFiles (texts words.now) (F.files folder.old) (F.files folder.new) }
+
     // Whether or not files are told.
     ensures usage { result ≡ Status.Usage → NoTask (texts words.now) }
     ensures untold { F.files folder.old ≡ None → (result ≡ Status.Absent) ⊎ (result ≡ Status.TooLong) → Rose (F.read_faults folder.old) (F.read_faults folder.new) }
@@ -58,7 +63,7 @@ pub fn run<F: Folder, O: Sink, K: Ledger, L: Ledger>(
 
 /// Puts the line that says why a run stopped, and answers its status, or that of a failed put.
 fn tell<O: Sink>(stop: Stop<'_>, out: &mut O) -> Status
-    ensures { Tells stop.entry result (O.faults out.old) (O.faults out.new) (O.written out.old) (O.written out.new) }
+    ensures { Tells (cause_of stop.entry) result (O.faults out.old) (O.faults out.new) (O.written out.old) (O.written out.new) }
 {
     match stop.put(out) {
         Ok(()) => stop.status(),
@@ -76,24 +81,34 @@ fn carry_out<'a, F: Folder, O: Sink, K: Ledger, L: Ledger>(
     checks: &mut Steps<K>,
     steps: &mut Steps<L>,
 ) -> Result<(), Stop<'a>>
+    // What it comes to.
     ensures found { FindsOutcome (texts words.now) (F.files folder.old) result }
     ensures told { OnOutcome (texts words.now) (F.files folder.old) (Settles result) }
     ensures text { OnOutcome (texts words.now) (F.files folder.old) (λ due. OnOk result (O.written out.new ≡ appended (O.written out.old) due.text)) }
-    ensures cut { OnOutcome (texts words.now) (F.files folder.old) (λ due. IfErr result (λ stop. OnCut stop (AppendsFront (O.written out.old) (O.written out.new) due.text))) }
-    ensures silent { IfErr result (λ stop. OnUntold stop (O.written out.new ≡ O.written out.old)) }
-    ensures files { F.files folder.new ≡ F.files folder.old }
+    ensures files { OnOutcome (texts words.now) (F.files folder.old) (λ due. Leaves result due.writes (F.files folder.old) (F.files folder.new)) }
     ensures rows { (task : Task) → Words task (texts words.now) → IsWithinRows task (F.files folder.old) steps.old steps.new }
 
-    ensures read_fault { IfErr result (λ stop. OnReadFault stop (λ name. Rose (F.read_faults folder.old) (F.read_faults folder.new))) }
-    ensures unread { IfErr result (λ stop. OnReadFault stop (λ name. IsUnread (texts words.now) (F.files folder.old) (F.reads folder.old) (F.reads folder.new) name)) }
-    ensures sink { IfErr result (λ stop. OnSink stop (Rose (O.faults out.old) (O.faults out.new))) }
-    ensures untold { F.files folder.old ≡ None → IfErr result (λ stop. OnNoInput stop (Rose (F.read_faults folder.old) (F.read_faults folder.new))) }
-    ensures usage { IfErr result (λ stop. OnUsage stop (NoTask (texts words.now))) }
+    // What a stop comes from, and what it leaves.
+    ensures causes { IfErr result (λ stop. ComesFrom (cause_of stop)
+        (NoTask (texts words.now))
+        (IsUnread (texts words.now) (F.files folder.old) (F.reads folder.old) (F.reads folder.new))
+        (IsUnwritten (texts words.now))
+        (F.files folder.old)
+        (Rose (F.read_faults folder.old) (F.read_faults folder.new))
+        (Rose (F.write_faults folder.old) (F.write_faults folder.new))
+        (Rose (O.faults out.old) (O.faults out.new))) }
     ensures no_task { NoTask (texts words.now) → IsErrOf result Stop.Usage }
+    ensures silent { IfErr result (λ stop. OnUntold (cause_of stop) (O.written out.new ≡ O.written out.old)) }
+    ensures cut { OnOutcome (texts words.now) (F.files folder.old) (λ due. IfErr result (λ stop. OnCut (cause_of stop) (AppendsFront (O.written out.old) (O.written out.new) due.text))) }
+    ensures kept { IfErr result (λ stop. OnKept (cause_of stop) (F.files folder.new ≡ F.files folder.old)) }
+    ensures read_only { KeepsFiles (texts words.now) (F.files folder.old) (F.files folder.new) }
     ensures later { O.faults out.old ≤ O.faults out.new }
 {
     match read_words(words) {
-        Ok(command) => answer(alloc, command, folder, out, checks, steps),
+        Ok(command) => {
+            let (question, file) = command.question();
+            answer(alloc, question, file, folder, out, checks, steps)
+        }
         Err(Usage) => Err(Stop::Usage),
     }
 }

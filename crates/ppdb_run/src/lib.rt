@@ -6,12 +6,18 @@ mod commands;
 mod fault;
 mod input;
 pub mod laws;
+mod limit;
 mod number;
+mod question;
 mod status;
 mod stop;
+mod unfit;
 mod verified;
 mod words;
 
 pub use commands::run;
 pub use status::Status;
 pub use words::{Command, Usage, read_words};
+
+#[cfg(test)]
+mod tests;

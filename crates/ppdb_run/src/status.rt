@@ -26,6 +26,12 @@ pub enum Status {
     Limit,
     /// The file has no such method.
     NoMethod,
+    /// The Source Link record of the file gives no addresses.
+    Unlinked,
+    /// The file has no such document.
+    NoDocument,
+    /// Two maps do not fit one another.
+    Uncomposed,
 }
 
 impl Status {
@@ -45,6 +51,9 @@ impl Status {
             Status::Unfit => 8,
             Status::Limit => 9,
             Status::NoMethod => 10,
+            Status::Unlinked => 11,
+            Status::NoDocument => 12,
+            Status::Uncomposed => 13,
         }
     }
 }

@@ -1,8 +1,8 @@
 // The files that a command reads and verifies.
-ghost use Rattle.std.specs.Prelude.{◌≡◌, ℕ, None, IfErr, IfSome};
+ghost use Rattle.std.specs.Prelude.{◌≡◌, ℕ, IfErr, IfSome};
 ghost use Rattle.ppdb_base.specs.Causes.{Rose};
 ghost use Rattle.ppdb_run.specs.Outcome.{verified};
-ghost use Rattle.ppdb_run.specs.Stops.{Gives, OnNoInput, OnReadFault, OnSink, OnUsage};
+ghost use Rattle.ppdb_run.specs.Stops.{cause_of, Gives, ComesFrom, no_file};
 ghost use Rattle.ppdb_verify.specs.Views.{raw_file};
 
 use crate::input::read_input;
@@ -21,13 +21,15 @@ pub fn read_verified<'a, 'b, F: Folder, L: Ledger>(
     steps: &mut Steps<L>,
 ) -> Result<Verified<'b>, Stop<'a>>
     ensures told { IfSome (F.files folder.old) (λ all. Gives raw_file result (verified all file.now)) }
-    ensures kind { IfErr result (λ stop. OnSink stop ⊥) }
     ensures files { F.files folder.new ≡ F.files folder.old }
-
-    ensures read_fault { IfErr result (λ stop. OnReadFault stop (λ name. Rose (F.read_faults folder.old) (F.read_faults folder.new))) }
-    ensures unread { IfErr result (λ stop. OnReadFault stop (λ name. (name ≡ file.now) × (F.reads folder.new ≡ F.reads folder.old))) }
-    ensures untold { F.files folder.old ≡ None → IfErr result (λ stop. OnNoInput stop (Rose (F.read_faults folder.old) (F.read_faults folder.new))) }
-    ensures understood { IfErr result (λ stop. OnUsage stop ⊥) }
+    ensures causes { IfErr result (λ stop. ComesFrom (cause_of stop)
+        ⊥
+        (λ failed. (failed ≡ file.now) × (F.reads folder.new ≡ F.reads folder.old))
+        no_file
+        (F.files folder.old)
+        (Rose (F.read_faults folder.old) (F.read_faults folder.new))
+        ⊥
+        ⊥) }
 {
     match read_input(alloc, folder, file) {
         Ok(contents) => *bytes = contents,

@@ -1,15 +1,11 @@
 // The words of the command line.
 ghost use Rattle.std.specs.Prelude.{◌≡◌, ℕ, List, ◌∷◌, codes, IfOk, OnErr};
-ghost use Rattle.ppdb_run.specs.Words.{Words, NoTask, IsFileAlone, file_of, is_file_word, texts};
-ghost use Rattle.ppdb_run.specs.Task.{task_of};
+ghost use Rattle.ppdb_run.specs.Words.{Ask, Words, NoTask, IsFileAlone, is_file_word, texts};
+ghost use Rattle.ppdb_run.specs.Task.{question_of, task_of};
 
 use crate::number::number;
-
-/// The largest row of a method.
-const MAX_METHOD: u32 = 16_777_215;
-
-/// The largest offset.
-const MAX_OFFSET: u32 = 2_147_483_647;
+use crate::question::Question;
+use ppdb_base::{MAX_OFFSET, MAX_ROWS};
 
 /// What the words ask for.
 #[derive(Clone, Copy, Debug, PartialEq, Eq)]
@@ -36,15 +32,19 @@ pub enum Command<'a> {
 }
 
 impl<'a> Command<'a> {
-    /// The file that the command reads.
-    pub(crate) fn file(self) -> &'a str
-        ensures { result.now ≡ file_of (task_of self.entry) }
+    /// What the command asks, and of which file.
+    pub(crate) fn question(self) -> (Question, &'a str)
+        ensures { Ask (question_of result.0) result.1.now ≡ task_of self.entry }
     {
         match self {
-            Command::Id { file }
-            | Command::Verify { file }
-            | Command::Show { file, .. }
-            | Command::Query { file, .. } => file,
+            Command::Id { file } => (Question::Id, file),
+            Command::Verify { file } => (Question::Verify, file),
+            Command::Show { file, json } => (Question::Show { json }, file),
+            Command::Query {
+                file,
+                method,
+                offset,
+            } => (Question::Query { method, offset }, file),
         }
     }
 }
@@ -107,7 +107,7 @@ fn query(args: &[String]) -> Result<Command<'_>, Usage>
     let [file, method, offset] = args else {
         return Err(Usage);
     };
-    match (number(method, MAX_METHOD), number(offset, MAX_OFFSET)) {
+    match (number(method, MAX_ROWS), number(offset, MAX_OFFSET)) {
         (Some(method), Some(offset)) if names_file(file) => Ok(Command::Query {
             file: file.as_str(),
             method,

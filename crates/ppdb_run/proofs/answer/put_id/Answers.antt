@@ -1,24 +1,17 @@
-use Rattle.std.proofs.Common.{rules, ◌++◌, ◌∙◌, ap, List, ℕ, Option}
-use Rattle.std.proofs.lemmas.Result.{on_err_weaker, on_ok_weaker}
-use Rattle.ppdb_base.specs.Written.{appended}
-use Rattle.ppdb_base.proofs.Written.{on_err, front_of_first, front_of_second, appended_twice}
-use Rattle.ppdb_tables.specs.declared.head.PdbHead.{PdbHead}
-use Rattle.ppdb_text.specs.Heads.{id_line, entry_line}
+use Rattle.std.proofs.Common.{[], ◌∷◌}
+use Rattle.ppdb_base.proofs.Written.{puts_cut, puts_then}
+use Rattle.ppdb_lines.specs.declared.form.Form.TheVariants.{Text}
+use Rattle.ppdb_lines.specs.Heads.{id_line, entry_line}
+use Rattle.ppdb_lines.proofs.Texts.{more_lines}
+use Rattle.ppdb_verify.specs.Views.{raw_file}
 use Rattle.ppdb_run.proofs.answer.put_id.Goals as goal
 
-abbrev puts : Option (List ℕ) → PdbHead → Option (List ℕ)
-puts old head = appended old (id_line head.id ++ entry_line head.entry)
+pub returns-in_err-put_id_line : goal.returns-in_err-put_id_line
+returns-in_err-put_id_line g c =
+    rw (more_lines Text (id_line (raw_file c.args.file.now).id ∷ []) (entry_line (raw_file c.args.file.now).entry ∷ []))
+    (puts_cut _ _ _ _ _ _ _ _ c.from_residual.ensures.1 (rw c.head-head.ensures.head at c.in_err-put_id_line.ensures))
 
-pub returns-in_err-put_id_line-clause-err : goal.returns-in_err-put_id_line-clause-err
-returns-in_err-put_id_line-clause-err g c = search (rules, on_err, front_of_first)
-
-pub returns-clause-err : goal.returns-clause-err
-returns-clause-err g c = search (rules, on_err_weaker, front_of_first, front_of_second)
-
-pub returns-clause-ok : goal.returns-clause-ok
-returns-clause-ok g c =
-    let old = g.O.Sink.written c.args.out.now in
-    let head = c.head-head.result.now in
-    on_ok_weaker c.put_entry_line.result
-    (λ w. w ∙ (ap (λ m. appended m (entry_line head.entry)) c.in_ok-put_id_line.ensures.ok ∙ (appended_twice old (id_line head.id) (entry_line head.entry) ∙ ap (puts old) c.head-head.ensures.head)))
-    c.put_entry_line.ensures.ok
+pub returns : goal.returns
+returns g c =
+    rw (more_lines Text (id_line (raw_file c.args.file.now).id ∷ []) (entry_line (raw_file c.args.file.now).entry ∷ []))
+    (puts_then _ _ _ _ _ _ _ _ _ (rw c.head-head.ensures.head at c.in_ok-put_id_line.ensures) (rw c.head-head.ensures.head at c.put_entry_line.ensures))

@@ -1,13 +1,6 @@
-use Rattle.std.proofs.Common.{rules}
-use Rattle.std.proofs.lemmas.Result.{on_err_weaker}
-use Rattle.ppdb_base.proofs.Written.{on_err, front_of_first, front_of_second}
 use Rattle.ppdb_run.proofs.fault.put_refused.Goals as goal
 
-pub returns-in_err-put_named-clause-err : goal.returns-in_err-put_named-clause-err
-returns-in_err-put_named-clause-err g c = search (rules, on_err, front_of_first)
-
-pub returns-in_err-put_fault-clause-err : goal.returns-in_err-put_fault-clause-err
-returns-in_err-put_fault-clause-err g c = search (rules, on_err, front_of_first, front_of_second)
-
-pub returns-clause-err : goal.returns-clause-err
-returns-clause-err g c = search (rules, on_err_weaker, front_of_first, front_of_second)
+pub returns-then-place-eq-ROWS : goal.returns-then-place-eq-ROWS
+returns-then-place-eq-ROWS g c =
+    rw c.if-place-eq-ROWS.true
+    (rw (c.as_bytes.ensures.value, c.from.ensures, c.number.ensures, c.from-then-place-eq-ROWS.ensures) at c.put_text_line.ensures)

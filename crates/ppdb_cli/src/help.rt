@@ -1,0 +1,127 @@
+// What the program says of itself: its help, its version, and where the help is when words are no command.
+
+/// The version of the program, of its manual page and of its packages.
+const VERSION: &str = "ppdb 0.1.0\n";
+
+const HELP: &str = "ppdb: Portable PDB debug files
+
+ppdb id FILE                   prints the identity and the entry point of a file
+ppdb verify FILE               says whether a file is valid, and else its first fault
+ppdb show FILE                 prints all rows of a file, a line each
+ppdb show FILE --json          prints them as JSON, an object a line
+ppdb query FILE METHOD OFFSET  prints what belongs to an IL offset of a method, by the method's row
+ppdb help COMMAND              prints more of a command; so does COMMAND --help
+ppdb --help                    prints this text; so do -h and help
+ppdb --version                 prints the version; so does -V
+
+Numbers are decimal. Of a token and a hexadecimal offset, as stack traces have them:
+    ppdb query app.pdb $((0x06000012 & 0xffffff)) $((0x1a))
+
+The status, and the line that is printed with it:
+0   done: the answer
+1   the file is refused: refused FILE FAULT
+2   the words are no command: usage
+3   the file could not be read: read fault FILE
+4   the answer could not be written
+5   there was no memory left
+6   there is no such file: absent FILE
+7   the file is longer than 134217728 bytes: too long FILE
+10  the file has no such method: no method METHOD
+";
+
+const ID: &str = "ppdb id FILE
+
+Verifies the file, and prints its identity in 40 hexadecimal digits and the token of its entry
+point, 00000000 where it has none:
+    id 94bb8c260d0933409e88695c1845fc2a6b9eb4cc
+    entry 0600000b
+";
+
+const VERIFY: &str = "ppdb verify FILE
+
+Prints `accepted` where the file keeps all rules of the format, F1 to F40, else `refused FILE FAULT`
+with its first fault, a code and a place, and status 1. The manual page says what each code means.
+";
+
+const SHOW: &str = "ppdb show FILE [--json]
+
+Verifies the file, and prints all its rows, a line each: documents, methods with their sequence
+points, scopes, variables, constants, imports, state machines and custom debug information. With
+--json each line is an object of JSON.
+";
+
+const QUERY: &str = "ppdb query FILE METHOD OFFSET
+
+Verifies the file, and prints what belongs to an IL offset of a method: its last sequence point that
+is not after the offset, the scopes that hold it with their variables, constants and imports,
+hoisted variables, the links of a state machine, and custom records. METHOD is the method's row, to
+16777215, and OFFSET a number to 2147483647, both decimal. Of a token and a hexadecimal offset:
+    ppdb query app.pdb $((0x06000012 & 0xffffff)) $((0x1a))
+";
+
+/// A command, of which the program can say more.
+#[derive(Clone, Copy)]
+enum Topic {
+    Id,
+    Verify,
+    Show,
+    Query,
+}
+
+impl Topic {
+    /// The command with this name.
+    fn named(word: &str) -> Option<Topic> {
+        match word {
+            "id" => Some(Topic::Id),
+            "verify" => Some(Topic::Verify),
+            "show" => Some(Topic::Show),
+            "query" => Some(Topic::Query),
+            _ => None,
+        }
+    }
+
+    /// What the program says of the command.
+    fn text(self) -> &'static str {
+        match self {
+            Topic::Id => ID,
+            Topic::Verify => VERIFY,
+            Topic::Show => SHOW,
+            Topic::Query => QUERY,
+        }
+    }
+
+    /// The words of the command, and where the help is.
+    fn hint(self) -> &'static str {
+        match self {
+            Topic::Id => "ppdb: the words are: ppdb id FILE; more: ppdb help id",
+            Topic::Verify => "ppdb: the words are: ppdb verify FILE; more: ppdb help verify",
+            Topic::Show => "ppdb: the words are: ppdb show FILE [--json]; more: ppdb help show",
+            Topic::Query =>
+                "ppdb: the words are: ppdb query FILE METHOD OFFSET, two decimal numbers; more: ppdb help query",
+        }
+    }
+}
+
+/// The text of the words that ask for the program itself.
+pub fn own_text(words: &[String]) -> Option<&'static str> {
+    match words {
+        [word] => match word.as_str() {
+            "--help" | "-h" | "help" => Some(HELP),
+            "--version" | "-V" => Some(VERSION),
+            _ => None,
+        },
+        [word, command] if word.as_str() == "help" => Topic::named(command).map(Topic::text),
+        [command, word] if word.as_str() == "--help" || word.as_str() == "-h" => {
+            Topic::named(command).map(Topic::text)
+        }
+        _ => None,
+    }
+}
+
+/// What to say of words that are no command.
+pub fn hint(words: &[String]) -> &'static str {
+    match words.first().and_then(|word| Topic::named(word)) {
+        Some(topic) => topic.hint(),
+        None => "ppdb: no command has these words; ppdb --help lists the commands",
+    }
+}

@@ -1,0 +1,88 @@
+-- What a question is asked of: one file, which it reads and does not write.
+use Rattle.std.proofs.Common.{ℕ, ◌≡◌, ◌-◌, inl, inr, List, Bool, true, false, Option, Some, None, Result, Ok, Err, refl, sym, ◌∙◌, ap, subst, arith}
+use Rattle.std.specs.Prelude.{IfSome, if◌then◌else◌}
+use Rattle.ppdb_base.specs.Files.{Files, Reading, Missing, Longer, Contents, reading}
+use Rattle.ppdb_base.specs.declared.limits.TheConstants.{MAX_FILE_BYTES}
+use Rattle.ppdb_run.specs.declared.stop.Stop.{Stop}
+use Rattle.ppdb_run.specs.Ends.{OnTask, ComesToRead, IsUnread}
+use Rattle.ppdb_run.specs.Outcome.{Outcome, IsOutcome, absent, answer_of, done, input_of, no_method, too_long, verified}
+use Rattle.ppdb_run.specs.Stops.{Cause, Refusal, Unread, Unwritten, Unput, OutOfMemory, cause_of, Leaves, LeavesAt}
+use Rattle.ppdb_run.specs.Words.{Question, Id, Verify, Show, Query, Ask, Words}
+use Rattle.ppdb_values.specs.RawFile.{RawFile}
+
+-- ---- its outcome writes no file
+
+abbrev WritesNone : Result Outcome Outcome → Type 0
+WritesNone (Ok answer) = answer.writes ≡ None
+WritesNone (Err refusal) = refusal.writes ≡ None
+
+answer_writes : (question : Question) (raw : RawFile) → WritesNone (answer_of question raw)
+answer_writes Id raw = refl
+answer_writes Verify raw = refl
+answer_writes (Show false) raw = refl
+answer_writes (Show true) raw = refl
+answer_writes (Query method offset) raw = by_test _ _
+  where
+    by_test : (text : List ℕ) (test : Bool) → WritesNone (if test then done text else Err (no_method method))
+    by_test text true = refl
+    by_test text false = refl
+
+abbrev Same : {A : Type 0} → Result A Outcome → Result A Outcome → Type 0
+Same r t = r ≡ t
+
+one_refusal : {A : Type 0} (a b : Outcome) → Same {A = A} (Err a) (Err b) → a ≡ b
+one_refusal a b e = cc e
+
+not_both : {A B : Type 0} (x : A) (a : Outcome) → Same (Ok x) (Err a) → B
+not_both x a e = absurd cc
+
+refusal_writes : (file : List ℕ) (files : Files) (refusal : Outcome) → verified files file (Err refusal) → refusal.writes ≡ None
+refusal_writes file files refusal (inl (bytes, read, judged)) = ap (λ (o : Outcome). o.writes) judged.2
+refusal_writes file files refusal (inr (first, read, is)) =
+    ap (λ (o : Outcome). o.writes) (one_refusal refusal first is) ∙ by_reading (reading files file MAX_FILE_BYTES) read
+  where
+    by_reading : (r : Reading) → Err first ≡ input_of file r → first.writes ≡ None
+    by_reading Missing e = ap (λ (o : Outcome). o.writes) (one_refusal first (absent file) e)
+    by_reading Longer e = ap (λ (o : Outcome). o.writes) (one_refusal first (too_long file) e)
+    by_reading (Contents bytes) e = not_both bytes first (sym e)
+
+writes_none : (question : Question) (file : List ℕ) (files : Files) (due : Outcome) → IsOutcome (Some (Ask question file)) files due → due.writes ≡ None
+writes_none question file files due (inl (inl (raw, read, is))) = subst (λ r. WritesNone r) (sym is) (answer_writes question raw)
+writes_none question file files due (inl (inr (refusal, read, is))) = not_both due refusal is
+writes_none question file files due (inr (inl (raw, read, is))) = subst (λ r. WritesNone r) (sym is) (answer_writes question raw)
+writes_none question file files due (inr (inr (refusal, read, is))) =
+    ap (λ (o : Outcome). o.writes) (one_refusal due refusal is) ∙ refusal_writes file files refusal read
+
+leaves_at : (cause : Cause) (old new : Option Files) → new ≡ old → LeavesAt cause None old new
+leaves_at (Refusal outcome) old new e = e
+leaves_at (Unread name) old new e = e
+leaves_at (Unwritten name) old new e = e
+leaves_at Unput old new e = e
+leaves_at OutOfMemory old new e = e
+
+leaves : (T : Type 0) (result : Result T Stop) (old new : Option Files) → new ≡ old → Leaves result None old new
+leaves T (Ok x) old new e = e
+leaves T (Err stop) old new e = leaves_at (cause_of stop) old new e
+
+-- so the files are as before
+pub leaves_all : {T : Type 0} (question : Question) (file : List ℕ) (files : Option Files) (result : Result T Stop) (old new : Option Files) → new ≡ old
+    → OnTask (Ask question file) files (λ due. Leaves result due.writes old new)
+leaves_all question file None result old new e = record { holds = tt }
+leaves_all question file (Some all) result old new e =
+    record { holds = λ due is. subst (λ w. Leaves result w old new) (sym (writes_none question file all due is)) (leaves _ result old new e) }
+
+-- ---- its file is the one that is read
+
+pub is_unread : (words : List (List ℕ)) (question : Question) (file : List ℕ) (files : Option Files) (before after : ℕ) (name : List ℕ)
+    → Words (Ask question file) words → name ≡ file → after ≡ before → IsUnread words files before after name
+is_unread words question file files before after name asked e same = record {
+  task = Ask question file;
+  asked = asked;
+  named = (0, omega arith, sym e);
+  next = λ below. let none : after - before ≡ 0 = omega (arith, same) in rw none (ap Some (sym e));
+  comes = comes files;
+}
+  where
+    comes : (files : Option Files) → IfSome files (λ all. ComesToRead (Ask question file) all name)
+    comes None = tt
+    comes (Some all) = e

@@ -1,0 +1,14 @@
+// What a command asks of one file.
+
+/// What is asked of a file, whose answer is a text.
+#[derive(Clone, Copy, Debug, PartialEq, Eq)]
+pub enum Question {
+    /// Its identity and its entry point.
+    Id,
+    /// Whether it keeps all rules.
+    Verify,
+    /// All rows, as lines of text or as objects of JSON.
+    Show { json: bool },
+    /// What belongs to an offset of a method.
+    Query { method: u32, offset: u32 },
+}
