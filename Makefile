@@ -1,10 +1,23 @@
-# make            builds the program where it is not built for these sources
-# make check      the checks of the built program (scripts/check-*), as .ci/run makes them after the proofs
-# make install    copies the program to PREFIX/bin/ppdb and the manual page to PREFIX/share/man/man1/ppdb.1
+# make              builds the program where it is not built for these sources
+# make check        the checks of the built program and of the repository (scripts/check-*), as .ci/run makes them after the proofs
+# make install      copies the program, its manual page, completions and documents below prefix, /usr/local where it is not set
+# make uninstall    removes what make install copied
+# make release      makes a tar file and a Debian package in build/release
+# make clean        removes build/ and the built programs; what is proved is kept
+# make help         prints these lines
 PREFIX ?= /usr/local
+prefix ?= $(PREFIX)
+bindir ?= $(prefix)/bin
+datadir ?= $(prefix)/share
+mandir ?= $(datadir)/man
+docdir ?= $(datadir)/doc/ppdb
+bashdir ?= $(datadir)/bash-completion/completions
+zshdir ?= $(datadir)/zsh/site-functions
 DESTDIR ?=
 
-.PHONY: all check install
+documents = docs/FORMAT.md docs/lines.schema.json NOTICE LICENSE
+
+.PHONY: all check install uninstall release clean help
 
 all:
 	@scripts/build
@@ -13,7 +26,23 @@ check: all
 	@set -e; for script in scripts/check-*; do "$$script"; done
 
 install: all
-	install -d "$(DESTDIR)$(PREFIX)/bin"
-	install -m 755 crates/ppdb_cli/out/ppdb_cli "$(DESTDIR)$(PREFIX)/bin/ppdb"
-	install -d "$(DESTDIR)$(PREFIX)/share/man/man1"
-	install -m 644 man/ppdb.1 "$(DESTDIR)$(PREFIX)/share/man/man1/ppdb.1"
+	install -d "$(DESTDIR)$(bindir)" "$(DESTDIR)$(mandir)/man1" "$(DESTDIR)$(docdir)" "$(DESTDIR)$(bashdir)" "$(DESTDIR)$(zshdir)"
+	install -m 755 crates/ppdb_cli/out/ppdb_cli "$(DESTDIR)$(bindir)/ppdb"
+	install -m 644 man/ppdb.1 "$(DESTDIR)$(mandir)/man1/ppdb.1"
+	install -m 644 $(documents) "$(DESTDIR)$(docdir)"
+	install -m 644 completions/ppdb.bash "$(DESTDIR)$(bashdir)/ppdb"
+	install -m 644 completions/_ppdb "$(DESTDIR)$(zshdir)/_ppdb"
+
+uninstall:
+	rm -f "$(DESTDIR)$(bindir)/ppdb" "$(DESTDIR)$(mandir)/man1/ppdb.1" "$(DESTDIR)$(bashdir)/ppdb" "$(DESTDIR)$(zshdir)/_ppdb"
+	rm -f $(foreach file,$(notdir $(documents)),"$(DESTDIR)$(docdir)/$(file)")
+	-rmdir "$(DESTDIR)$(docdir)" 2>/dev/null
+
+release: all
+	scripts/release build/release
+
+clean:
+	rm -rf build crates/ppdb_cli/out/ppdb_cli crates/check_blobs/out/check_blobs
+
+help:
+	@sed -n '/^# /!q;s/^# //p' Makefile

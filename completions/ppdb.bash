@@ -1,0 +1,20 @@
+# Completion of the command ppdb in bash.
+_ppdb() {
+  local current=${COMP_WORDS[COMP_CWORD]} command=${COMP_WORDS[1]}
+  local IFS=$'\n'
+  COMPREPLY=()
+  if [ "$COMP_CWORD" = 1 ]; then
+    COMPREPLY=($(compgen -W $'id\nverify\nshow\nquery\nhelp\n--help\n--version' -- "$current"))
+  elif [ "$COMP_CWORD" = 2 ]; then
+    case $command in
+      id | verify | show | query)
+        compopt -o filenames 2>/dev/null
+        COMPREPLY=($(compgen -f -X '!*.pdb' -- "$current") $(compgen -d -- "$current"))
+        ;;
+      help) COMPREPLY=($(compgen -W $'id\nverify\nshow\nquery' -- "$current")) ;;
+    esac
+  elif [ "$COMP_CWORD" = 3 ] && [ "$command" = show ]; then
+    COMPREPLY=($(compgen -W '--json' -- "$current"))
+  fi
+}
+complete -F _ppdb ppdb
