@@ -1,0 +1,5 @@
+pub mod Told
+pub mod Bytes
+pub mod Laid
+pub mod Worked
+pub mod Begins

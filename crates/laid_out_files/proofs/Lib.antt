@@ -1,0 +1,9 @@
+pub mod Bits
+pub mod Container
+pub mod Counts
+pub mod Head
+pub mod Laid
+pub mod Rows
+pub mod Rules
+pub mod Tables
+pub mod TablesBack
