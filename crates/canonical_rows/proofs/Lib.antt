@@ -1,0 +1,11 @@
+pub mod Lists
+pub mod Read
+pub mod Names
+pub mod Documents
+pub mod Imports
+pub mod ImportScopes
+pub mod Methods
+pub mod Cells
+pub mod ListColumns
+pub mod Others
+pub mod Reread

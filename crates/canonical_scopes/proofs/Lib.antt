@@ -1,0 +1,10 @@
+pub mod Pieces
+pub mod Lists
+pub mod Counts
+pub mod Heaps
+pub mod Scopes
+pub mod Items
+pub mod Variables
+pub mod Constants
+pub mod Customs
+pub mod Reread

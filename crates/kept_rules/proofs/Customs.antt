@@ -1,0 +1,84 @@
+-- The custom records of a file that keeps the rules are in order, stand on their tables and are whole.
+use Rattle.std.proofs.Common.{◌≡◌, ℕ, ◌/◌, ◌%◌, ◌<◌, List, [], refl, ap, ◌∙◌, subst, arith, slice_get}
+use Rattle.std.specs.Prelude.{Option, Some, None, unwrap_or}
+use Rattle.std.specs.Option.{option_map}
+use Rattle.ppdb_base.specs.declared.fault.BlobFault.{BlobFault}
+use Rattle.custom_info.specs.declared.kinds.Kind.{Kind}
+use Rattle.custom_info.specs.declared.kinds.Kind.TheVariants.{Async, Hoisted, TypeDocuments, Free, Unknown}
+use Rattle.custom_info.specs.AsyncStepping.{async_stepping}
+use Rattle.custom_info.specs.HoistedScopes.{hoisted_scopes}
+use Rattle.custom_info.specs.TypeDocuments.{type_documents}
+use Rattle.custom_info.specs.Kinds.{kind_of}
+use Rattle.ppdb_tables.specs.declared.parent.Parent.{Parent}
+use Rattle.ppdb_tables.specs.declared.rows.CustomRow.{CustomRow}
+use Rattle.ppdb_tables.specs.RawTables.{RawTables, count, row_at}
+use Rattle.row_layout.specs.Columns.{parent_tables}
+use Rattle.ppdb_rules.specs.Customs.{HasBadValue, HasOtherParent, IsOfKind, ReadsValue, parent_table}
+use Rattle.ppdb_rules.specs.Earlier.{HasEarlier}
+use Rattle.ppdb_values.specs.Customs.{kind_in, no_parent, parent_of}
+use Rattle.ppdb_values.specs.RawFile.{blob}
+use Rattle.ppdb_values.specs.Rules.{IsCustom, IsWholeOfKind, KeepsCustoms, StandsOn}
+use Rattle.kept_rules.proofs.Orders.{up_to}
+use Rattle.kept_rules.proofs.Whole.{no_fault}
+
+-- ---- the table of the parent
+
+abbrev with_row : ℕ → Option ℕ → Option Parent
+with_row row o = option_map (λ (table : ℕ). record { table = table; row = row }) o
+
+table_named : (o : Option ℕ) (row : ℕ) → with_row row o ≡ Some (unwrap_or (with_row row o) no_parent) → o ≡ Some (unwrap_or (with_row row o) no_parent).table
+table_named None row is = cc
+table_named (Some table) row is = refl
+
+on_table : (kind : Kind) (table parent : ℕ) → parent_table kind ≡ Some table → StandsOn kind parent → parent ≡ table
+on_table Async table parent has stands = cc
+on_table Hoisted table parent has stands = cc
+on_table TypeDocuments table parent has stands = cc
+on_table Free table parent has stands = cc
+on_table Unknown table parent has stands = cc
+
+-- ---- what the record says
+
+no_value_fault : (raw : RawTables) (kind : Kind) (content : List ℕ) (fault : BlobFault) → IsWholeOfKind raw kind content
+    → ReadsValue raw kind content (Some fault) → ⊥
+no_value_fault raw Async content fault whole reads = no_fault (async_stepping (count raw 0x06)) content fault whole reads
+no_value_fault raw Hoisted content fault whole reads = no_fault hoisted_scopes content fault whole reads
+no_value_fault raw TypeDocuments content fault whole reads = no_fault (type_documents (count raw 0x30)) content fault whole reads
+no_value_fault raw Free content fault whole reads = cc
+no_value_fault raw Unknown content fault whole reads = cc
+
+module _ (raw : RawTables) (x : CustomRow) (is : IsCustom raw x) where
+  kind_is : (kind : Kind) → IsOfKind raw.guids x.kind kind → kind_of [] (kind_in raw x) ≡ kind
+  kind_is kind of =
+      let there = of.there in
+      let named = is.kind in
+      let same : kind_in raw x ≡ of.guid = cc in
+      ap (λ (guid : List ℕ). kind_of [] guid) same ∙ of.kind_is
+
+  on_its_table : HasOtherParent raw.guids x → ⊥
+  on_its_table bad =
+      let stands = subst (λ (kind : Kind). StandsOn kind (parent_of x.parent).table) (kind_is bad.kind bad.of_kind) is.stands_on in
+      bad.other (table_named (slice_get parent_tables (x.parent % 32)) (x.parent / 32) is.tag
+      ∙ ap (λ (table : ℕ). Some table) (on_table bad.kind bad.table (parent_of x.parent).table bad.has_table stands))
+
+  whole_value : (fault : BlobFault) → HasBadValue raw x fault → ⊥
+  whole_value fault bad =
+      let there = bad.there in
+      let named = is.value in
+      let same : blob raw x.value ≡ bad.content = cc in
+      let whole = subst (λ (kind : Kind). IsWholeOfKind raw kind (blob raw x.value)) (kind_is bad.kind bad.of_kind) is.value_whole in
+      no_value_fault raw bad.kind bad.content fault (subst (λ (content : List ℕ). IsWholeOfKind raw bad.kind content) same whole) bad.reads
+
+module _ (raw : RawTables) (keeps : KeepsCustoms raw) where
+  pub no_parent_above : (row : ℕ) (x : CustomRow) → row_at raw.customs row ≡ Some x → HasEarlier (λ _ (e : CustomRow). x.parent < e.parent) raw.customs row → ⊥
+  no_parent_above row x here h =
+      let sooner = h.sooner in
+      let up = up_to (λ custom. custom.parent) raw.customs h.before row h.earlier x keeps.by_parent h.there here (omega (arith, sooner)) in
+      let falls = h.forbidden in
+      omega (arith, up, falls)
+
+  pub no_other_parent : (row : ℕ) (x : CustomRow) → row_at raw.customs row ≡ Some x → HasOtherParent raw.guids x → ⊥
+  no_other_parent row x here bad = on_its_table raw x (keeps.each row x here) bad
+
+  pub no_bad_value : (row : ℕ) (x : CustomRow) (fault : BlobFault) → row_at raw.customs row ≡ Some x → HasBadValue raw x fault → ⊥
+  no_bad_value row x fault here bad = whole_value raw x (keeps.each row x here) fault bad

@@ -1,0 +1,55 @@
+-- The documents of a file that keeps the rules are not at fault.
+use Rattle.std.proofs.Common.{◌≡◌, ℕ, List, [], subst, sym, ◌∙◌}
+use Rattle.std.specs.Prelude.{Some, None}
+use Rattle.ppdb_base.specs.declared.fault.BlobFault.{BlobFault}
+use Rattle.blob_grammar.specs.Reader.{read_from, read_for, character_len, unsigned_at, two_at, four_at}
+use Rattle.blob_grammar.specs.Reading.{Reading}
+use Rattle.blob_grammar.proofs.Readers.{read_from-reads}
+use Rattle.blob_grammar.proofs.Unique.{reading-unique}
+use Rattle.ppdb_heaps.specs.Names.{NamePart, names, name_of}
+use Rattle.ppdb_tables.specs.declared.rows.DocumentRow.{DocumentRow}
+use Rattle.ppdb_tables.specs.RawTables.{RawTables, row_at}
+use Rattle.ppdb_rules.specs.Blobs.{HasFault, IsNil}
+use Rattle.ppdb_rules.specs.Earlier.{HasEarlier}
+use Rattle.ppdb_rules.specs.Names.{AreSameName, SpellsName}
+use Rattle.ppdb_values.specs.RawFile.{blob}
+use Rattle.ppdb_values.specs.Rules.{HasBlob, IsWhole, KeepsDocuments}
+use Rattle.ppdb_values.proofs.Readings.{name_is}
+use Rattle.kept_rules.proofs.Whole.{no_fault_there}
+
+-- a name has a separator, and so is not empty
+some_name : (blobs : List ℕ) (parts : List NamePart) → Reading (names blobs) [] parts None → ⊥
+unfolding read_from read_for character_len unsigned_at two_at four_at
+some_name blobs parts reading =
+    let read = read_from (names blobs) [] [] 0 [] in
+    let ended = (reading-unique (names blobs) [] parts read.items None read.fault reading (read_from-reads (names blobs) [])).1 in
+    cc
+
+not_nil : (raw : RawTables) (index : ℕ) → HasBlob raw index → IsWhole (names raw.blobs) (blob raw index) → IsNil raw.blobs index → ⊥
+not_nil raw index there whole nil =
+    let none : blob raw index ≡ [] = cc in
+    some_name raw.blobs _ (subst (λ (content : List ℕ). IsWhole (names raw.blobs) content) none whole)
+
+-- the name that a blob spells is that of the document
+name_there : (raw : RawTables) (index : ℕ) (name : List ℕ) → HasBlob raw index → SpellsName raw.blobs index name → name_of raw.blobs (blob raw index) ≡ name
+name_there raw index name there spells =
+    let named = spells.there in
+    let same : spells.content ≡ blob raw index = cc in
+    subst (λ (content : List ℕ). name_of raw.blobs content ≡ name) same (name_is raw spells.content name spells.is_name)
+
+module _ (raw : RawTables) (keeps : KeepsDocuments raw) where
+  pub name_not_nil : (row : ℕ) (x : DocumentRow) → row_at raw.documents row ≡ Some x → IsNil raw.blobs x.name → ⊥
+  name_not_nil row x here nil = not_nil raw x.name (keeps.each row x here).name (keeps.each row x here).name_whole nil
+
+  pub no_document_repeated : (row : ℕ) (x : DocumentRow) → row_at raw.documents row ≡ Some x
+      → HasEarlier (λ _ (e : DocumentRow). AreSameName raw.blobs e.name x.name) raw.documents row → ⊥
+  no_document_repeated row x here repeated =
+      let e = repeated.earlier in
+      let same = repeated.forbidden in
+      keeps.names_differ repeated.before row e x repeated.there here repeated.sooner
+      (name_there raw e.name same.name (keeps.each repeated.before e repeated.there).name same.first
+      ∙ sym (name_there raw x.name same.name (keeps.each row x here).name same.second))
+
+  pub no_name_fault : (row : ℕ) (x : DocumentRow) (fault : BlobFault) → row_at raw.documents row ≡ Some x
+      → HasFault (names raw.blobs) raw.blobs x.name fault → ⊥
+  no_name_fault row x fault here bad = no_fault_there raw (names raw.blobs) x.name fault (keeps.each row x here).name (keeps.each row x here).name_whole bad

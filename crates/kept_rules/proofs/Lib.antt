@@ -1,0 +1,12 @@
+pub mod Whole
+pub mod Orders
+pub mod Cells
+pub mod Documents
+pub mod Methods
+pub mod Scopes
+pub mod ScopeLists
+pub mod Constants
+pub mod Imports
+pub mod Machines
+pub mod Customs
+pub mod Files

@@ -1,0 +1,10 @@
+pub mod Among
+pub mod Counts
+pub mod Ids
+pub mod Limits
+pub mod Shape
+pub mod Stand
+pub mod Used
+pub mod Uses
+pub mod Worked
+pub mod WorkedParts

@@ -1,0 +1,3 @@
+pub mod GoodRows
+pub mod StreamBytes
+pub mod ValidFiles
