@@ -1,0 +1,9 @@
+use Rattle.std.proofs.Common.{arith, refl}
+use Rattle.value_check.proofs.Walks.{all_end}
+use Rattle.value_check.proofs.chains.chains_end.Goals as goal
+
+pub returns : goal.returns
+returns c = (
+  (λ _. all_end c.args.imports.now (λ k lt. c.loop-i.invariant.ended k (omega (arith, lt)))),
+  (λ _. refl),
+)

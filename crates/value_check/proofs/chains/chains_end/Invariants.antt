@@ -1,0 +1,10 @@
+use Rattle.std.proofs.Common.{ℕ, ◌+◌, ◌<◌, length}
+use Rattle.ppdb_values.specs.Chains.{NeverEnds}
+use Rattle.value_check.specs.Chains.{MarksEnd, parent_of}
+use Rattle.value_check.proofs.chains.chains_end.Given as goal
+
+abbrev pub invariant-loop-i : goal.invariant-loop-i
+invariant-loop-i l = record {
+  ended : (k : ℕ) → k < l.i → ¬ (NeverEnds (parent_of l.imports) (k + 1));
+  marks : MarksEnd (parent_of l.imports) (length l.imports) (l.i + 1) l.marks;
+}

@@ -1,0 +1,25 @@
+//! Whether a value is sound: whether a Portable PDB file can say it.
+//!
+//! Each pass goes over one part of the value once and tells one fact of `IsSound`; `sound` joins them.
+#![tactic(auto)]
+
+mod chains;
+mod constants;
+mod counts;
+mod customs;
+mod differ;
+mod documents;
+mod imports;
+mod machines;
+mod methods;
+mod nesting;
+mod order;
+mod part;
+mod ranges;
+mod rows;
+mod scopes;
+#[cfg(test)]
+mod tests;
+mod value;
+
+pub use value::sound;

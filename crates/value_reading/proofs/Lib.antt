@@ -1,0 +1,9 @@
+pub mod Answered
+pub mod Rows
+pub mod Lists
+pub mod Bodies
+pub mod WholeConstants
+pub mod Shared
+pub mod Counts
+pub mod Walked
+pub mod Given

@@ -1,0 +1,326 @@
+// What is read of worked files, and of two whose scopes own nothing.
+ghost use Rattle.std.specs.Prelude.{◌≡◌, ◌<◌};
+
+use crate::value_of;
+use custom_info::{AsyncStep, Range, Slot};
+use ppdb_base::{Memory, Steps};
+use ppdb_tables::{MachineRow, Parent};
+use ppdb_values::{
+    ConstantBody, ConstantValue, CustomBody, CustomValue, DocumentValue, FileValue, ImportValue,
+    MethodValue, ScopeValue,
+};
+use ppdb_verify::verify;
+use sequence_points::{Point, Span};
+use std::alloc::Global;
+use std::marker::Brand;
+use std::sync::ledger::{Blank, Ledger};
+use worked_files::{EMPTY, PROGRAM, SMALL};
+
+/// The file of one method with an outer scope that owns `x`, a scope that owns nothing, and one that owns `y`.
+const THREE_SCOPES: [u8; 296] = [
+    0x42, 0x53, 0x4a, 0x42, 0x01, 0x00, 0x01, 0x00, 0x00, 0x00, 0x00, 0x00, 0x0c, 0x00, 0x00, 0x00,
+    0x50, 0x44, 0x42, 0x20, 0x76, 0x31, 0x2e, 0x30, 0x00, 0x00, 0x00, 0x00, 0x00, 0x00, 0x05, 0x00,
+    0x70, 0x00, 0x00, 0x00, 0x24, 0x00, 0x00, 0x00, 0x23, 0x50, 0x64, 0x62, 0x00, 0x00, 0x00, 0x00,
+    0x94, 0x00, 0x00, 0x00, 0x70, 0x00, 0x00, 0x00, 0x23, 0x7e, 0x00, 0x00, 0x04, 0x01, 0x00, 0x00,
+    0x08, 0x00, 0x00, 0x00, 0x23, 0x53, 0x74, 0x72, 0x69, 0x6e, 0x67, 0x73, 0x00, 0x00, 0x00, 0x00,
+    0x0c, 0x01, 0x00, 0x00, 0x00, 0x00, 0x00, 0x00, 0x23, 0x47, 0x55, 0x49, 0x44, 0x00, 0x00, 0x00,
+    0x0c, 0x01, 0x00, 0x00, 0x1c, 0x00, 0x00, 0x00, 0x23, 0x42, 0x6c, 0x6f, 0x62, 0x00, 0x00, 0x00,
+    0x00, 0x00, 0x00, 0x00, 0x00, 0x00, 0x00, 0x00, 0x00, 0x00, 0x00, 0x00, 0x00, 0x00, 0x00, 0x00,
+    0x00, 0x00, 0x00, 0x00, 0x01, 0x00, 0x00, 0x06, 0x40, 0x00, 0x00, 0x00, 0x00, 0x00, 0x00, 0x00,
+    0x01, 0x00, 0x00, 0x00, 0x00, 0x00, 0x00, 0x00, 0x02, 0x00, 0x00, 0x01, 0x00, 0x00, 0x00, 0x00,
+    0x00, 0x00, 0x0f, 0x00, 0x00, 0x00, 0x00, 0x00, 0x00, 0x00, 0xc4, 0x00, 0x01, 0x00, 0x00, 0x00,
+    0x01, 0x00, 0x00, 0x00, 0x03, 0x00, 0x00, 0x00, 0x02, 0x00, 0x00, 0x00, 0x05, 0x00, 0x00, 0x00,
+    0x00, 0x00, 0x00, 0x00, 0x01, 0x00, 0x0a, 0x00, 0x01, 0x00, 0x00, 0x00, 0x01, 0x00, 0x01, 0x00,
+    0x00, 0x00, 0x00, 0x00, 0x09, 0x00, 0x00, 0x00, 0x01, 0x00, 0x00, 0x00, 0x02, 0x00, 0x01, 0x00,
+    0x02, 0x00, 0x00, 0x00, 0x02, 0x00, 0x00, 0x00, 0x01, 0x00, 0x00, 0x00, 0x02, 0x00, 0x01, 0x00,
+    0x05, 0x00, 0x00, 0x00, 0x03, 0x00, 0x00, 0x00, 0x00, 0x00, 0x00, 0x00, 0x01, 0x00, 0x00, 0x00,
+    0x01, 0x00, 0x03, 0x00, 0x00, 0x78, 0x00, 0x79, 0x00, 0x00, 0x00, 0x00, 0x00, 0x01, 0x61, 0x01,
+    0x62, 0x04, 0x2f, 0x00, 0x01, 0x03, 0x0e, 0x00, 0x00, 0x00, 0x04, 0x0a, 0x05, 0x03, 0x00, 0x00,
+    0x04, 0x01, 0x02, 0x04, 0x79, 0x00, 0x00, 0x00,
+];
+
+fn value_in<L: Ledger>(alloc: Global, bytes: &[u8], blank: Blank) -> Result<FileValue, Memory>
+    requires { (blank.name ≡ L.name) × (blank.parts ≡ L.parts) × (0 < L.parts) }
+{
+    if bytes.len() > 0x0800_0000 {
+        return Err(Memory);
+    }
+    let mut steps = Steps::<L>::new(blank);
+    match verify(alloc, bytes, &mut steps) {
+        Ok(file) => value_of(alloc, &file, &mut steps),
+        Err(_) => Err(Memory),
+    }
+}
+
+/// The value of a file; none of one that is not valid.
+fn value(alloc: Global, bytes: &[u8]) -> Result<FileValue, Memory> {
+    value_in::<Brand>(alloc, bytes, Blank::new(1))
+}
+
+/// How many rows a table of the type system has, all other row counts being 0.
+fn counts(value: &FileValue, tables: &[(usize, u32)]) -> bool {
+    let mut rows = [0; 64];
+    for (table, count) in tables {
+        if *table < 64 {
+            rows[*table] = *count;
+        }
+    }
+    value.rows == rows
+}
+
+/// A scope's range, and whether it owns the variables of these slots and names and no constants.
+fn owns(scope: &ScopeValue, start: u32, end: u32, variables: &[(u16, &[u8])]) -> bool {
+    let own = scope.variables.as_slice();
+    if own.len() != variables.len() || !scope.constants.is_empty() {
+        return false;
+    }
+    for i in 0..own.len() {
+        if own[i].slot != variables[i].0 || own[i].name.as_slice() != variables[i].1 {
+            return false;
+        }
+    }
+    scope.range == Range { start, end } && scope.method == 1 && scope.import == 0
+}
+
+fn lines(start_line: u32, start_column: u32, end_line: u32, end_column: u32) -> Span {
+    Span::Lines {
+        start_line,
+        start_column,
+        end_line,
+        end_column,
+    }
+}
+
+fn point(offset: u32, span: Span) -> Point {
+    Point {
+        offset,
+        document: 1,
+        span,
+    }
+}
+
+#[test]
+fn a_file_without_rows_has_no_parts(rt: HostRuntime) {
+    let found = value(rt.alloc(), &EMPTY);
+    assert!(rt; found.is_ok());
+    if let Ok(value) = found {
+        assert_eq!(rt; value.id, [0; 20]);
+        assert_eq!(rt; value.entry, 0);
+        assert!(rt; counts(&value, &[]));
+        assert!(rt;
+            value.documents.is_empty() && value.methods.is_empty() && value.scopes.is_empty()
+        );
+        assert!(rt;
+            value.imports.is_empty() && value.machines.is_empty() && value.customs.is_empty()
+        );
+    }
+}
+
+/// The document `/a/b`, without GUIDs and hash.
+fn is_small_document(documents: &[DocumentValue]) -> bool {
+    let [document] = documents else {
+        return false;
+    };
+    document.name.as_slice() == b"/a/b".as_slice()
+        && document.algorithm.is_none()
+        && document.hash.is_empty()
+        && document.language.is_none()
+}
+
+/// Method 1 with three points.
+fn is_small_method(methods: &[MethodValue]) -> bool {
+    let [method] = methods else {
+        return false;
+    };
+    let points = [
+        point(0, lines(10, 5, 10, 9)),
+        point(3, Span::Hidden),
+        point(7, lines(12, 1, 13, 2)),
+    ];
+    method.method == 1 && method.signature == 0 && method.points.as_slice() == points.as_slice()
+}
+
+#[test]
+fn a_small_file_has_its_value(rt: HostRuntime) {
+    let found = value(rt.alloc(), &SMALL);
+    assert!(rt; found.is_ok());
+    if let Ok(value) = found {
+        assert_eq!(rt; value.entry, 1);
+        assert!(rt; counts(&value, &[(0x06, 1)]));
+        assert!(rt; is_small_document(value.documents.as_slice()));
+        assert!(rt; is_small_method(value.methods.as_slice()));
+        if let [outer, inner] = value.scopes.as_slice() {
+            assert!(rt; owns(outer, 0, 9, &[(0, b"x")]));
+            assert!(rt; owns(inner, 2, 5, &[(1, b"y")]));
+        } else {
+            assert!(rt; false);
+        }
+    }
+}
+
+#[test]
+fn the_last_of_equal_lists_owns_the_variables(rt: HostRuntime) {
+    let mut equal = SMALL;
+    equal[220] = 1;
+    let found = value(rt.alloc(), &equal);
+    assert!(rt; found.is_ok());
+    if let Ok(value) = found {
+        if let [outer, inner] = value.scopes.as_slice() {
+            assert!(rt; owns(outer, 0, 9, &[]));
+            assert!(rt; owns(inner, 2, 5, &[(0, b"x"), (1, b"y")]));
+        } else {
+            assert!(rt; false);
+        }
+    }
+}
+
+#[test]
+fn a_scope_between_two_may_own_nothing(rt: HostRuntime) {
+    let found = value(rt.alloc(), &THREE_SCOPES);
+    assert!(rt; found.is_ok());
+    if let Ok(value) = found {
+        if let [first, second, third] = value.scopes.as_slice() {
+            assert!(rt; owns(first, 0, 9, &[(0, b"x")]));
+            assert!(rt; owns(second, 2, 4, &[]));
+            assert!(rt; owns(third, 5, 8, &[(1, b"y")]));
+        } else {
+            assert!(rt; false);
+        }
+    }
+}
+
+/// The program's document, with a hash of 32 bytes 5a.
+fn is_program_document(documents: &[DocumentValue]) -> bool {
+    let [document] = documents else {
+        return false;
+    };
+    document.name.as_slice() == b"/src/app/Program.cs".as_slice()
+        && document.hash.as_slice() == [0x5a; 32].as_slice()
+        && document.algorithm.is_some()
+        && document.language.is_some()
+}
+
+/// Method 4, whose nine points alone are there: the blobs of all others are nil.
+fn is_program_method(methods: &[MethodValue]) -> bool {
+    let [method] = methods else {
+        return false;
+    };
+    let points = [
+        point(0, Span::Hidden),
+        point(14, lines(6, 5, 6, 6)),
+        point(15, lines(7, 9, 7, 34)),
+        point(22, lines(8, 9, 8, 31)),
+        point(35, Span::Hidden),
+        point(107, lines(9, 9, 9, 38)),
+        point(132, Span::Hidden),
+        point(152, lines(10, 5, 10, 6)),
+        point(160, Span::Hidden),
+    ];
+    method.method == 4 && method.signature == 1 && method.points.as_slice() == points.as_slice()
+}
+
+/// The constant `Limit`, which is 3.
+fn is_limit(constants: &[ConstantValue]) -> bool {
+    let [constant] = constants else {
+        return false;
+    };
+    constant.name.as_slice() == b"Limit".as_slice()
+        && constant.modifiers.is_empty()
+        && match &constant.body {
+            ConstantBody::Primitive { code, value } => {
+                *code == 0x08 && value.as_slice() == [3, 0, 0, 0].as_slice()
+            }
+            _ => false,
+        }
+}
+
+/// The namespace that an import names.
+fn is_namespace(import: &ImportValue, name: &[u8]) -> bool {
+    match import {
+        ImportValue::Namespace { namespace } => namespace.as_slice() == name,
+        _ => false,
+    }
+}
+
+/// The records on the module and on method 4.
+fn are_program_customs(customs: &[CustomValue]) -> bool {
+    let [link, options, hoisted, stepping] = customs else {
+        return false;
+    };
+    let module = Parent {
+        table: 0x00,
+        row: 1,
+    };
+    let method = Parent {
+        table: 0x06,
+        row: 4,
+    };
+    let slots = [
+        Slot::Held(Range {
+            start: 14,
+            end: 161,
+        }),
+        Slot::Empty,
+    ];
+    let steps = [AsyncStep {
+        pause: 61,
+        resume: 82,
+        method: 4,
+    }];
+    let parents = link.parent == module
+        && options.parent == module
+        && hoisted.parent == method
+        && stepping.parent == method;
+    parents
+        && match (&link.value, &options.value) {
+            (CustomBody::Unread(link), CustomBody::Unread(options)) => {
+                link.as_slice() == b"{}".as_slice() && options.as_slice() == b"a\0b\0".as_slice()
+            }
+            _ => false,
+        }
+        && match (&hoisted.value, &stepping.value) {
+            (
+                CustomBody::Hoisted(own),
+                CustomBody::Async {
+                    handler: None,
+                    steps: found,
+                },
+            ) => { own.as_slice() == slots.as_slice() && found.as_slice() == steps.as_slice() }
+            _ => false,
+        }
+}
+
+#[test]
+fn a_program_has_its_value(rt: HostRuntime) {
+    let found = value(rt.alloc(), &PROGRAM);
+    assert!(rt; found.is_ok());
+    if let Ok(value) = found {
+        assert_eq!(rt; value.entry, 2);
+        assert!(rt; is_program_document(value.documents.as_slice()));
+        assert!(rt; is_program_method(value.methods.as_slice()));
+        let machine = MachineRow {
+            move_next: 4,
+            kickoff: 1,
+        };
+        assert!(rt; value.machines.as_slice() == [machine].as_slice());
+        assert!(rt; are_program_customs(value.customs.as_slice()));
+        if let [scope] = value.scopes.as_slice() {
+            assert!(rt; scope.method == 4 && scope.import == 2 && scope.variables.is_empty());
+            assert!(rt; scope.range == Range { start: 0, end: 175 });
+            assert!(rt; is_limit(scope.constants.as_slice()));
+        } else {
+            assert!(rt; false);
+        }
+        if let [all, own] = value.imports.as_slice() {
+            assert!(rt; all.parent == 0 && all.imports.is_empty() && own.parent == 1);
+            if let [system, tasks] = own.imports.as_slice() {
+                assert!(rt; is_namespace(system, b"System"));
+                assert!(rt; is_namespace(tasks, b"System.Threading.Tasks"));
+            } else {
+                assert!(rt; false);
+            }
+        } else {
+            assert!(rt; false);
+        }
+    }
+}
