@@ -1,0 +1,32 @@
+-- A blob that is made piece by piece: bytes, and the indexes of blobs that are noted on the way.
+use Rattle.std.specs.Prelude.{ℕ, ◌+◌, List, [], ◌++◌, length}
+use Rattle.heap_items.specs.Told.{told}
+use Rattle.heap_items.specs.Items.{with_use, index_of, as_blob, shortest}
+use Rattle.heap_items.specs.Uses.{Piece, octets, index}
+use Rattle.noted_items.specs.Noted.{Noted}
+
+-- The blobs that were noted, the length of all uses, and the blob that is being made.
+pub record Making : Type 0 where
+  pub items : List (List ℕ)
+  pub total : ℕ
+  pub blob : List ℕ
+
+abbrev pub noted_of : Making → Noted
+noted_of making = record { items = making.items; total = making.total }
+
+-- a blob is begun
+abbrev pub begun : Making → Making
+begun making = record making { blob = [] }
+
+-- one more piece
+abbrev pub with_piece : Making → Piece → Making
+with_piece making (octets bytes) = record making { blob = making.blob ++ bytes }
+with_piece making (index content) = record {
+  items = with_use making.items content;
+  total = told (making.total + length content);
+  blob = making.blob ++ shortest (index_of as_blob (with_use making.items content) content);
+}
+
+-- the blob is noted
+abbrev pub made : Making → Making
+made making = record making { items = with_use making.items making.blob; total = told (making.total + length making.blob) }

@@ -1,0 +1,121 @@
+// What import scopes import, as blobs.
+ghost use Rattle.std.specs.Prelude.{◌≡◌, ◌<◌, ◌^◌, All, fold, OnOk};
+ghost use Rattle.type_blobs.specs.Types as types;
+ghost use Rattle.ppdb_canon.specs.Uses.{import_pieces, imports_pieces, type};
+ghost use Rattle.sound_values.specs.Writing.{HasSpelling};
+ghost use Rattle.noted_items.specs.Making.{with_piece};
+
+use crate::blobs::BlobHeap;
+use ppdb_base::Memory;
+use ppdb_values::ImportValue;
+use type_blobs::TypeToken;
+
+/// The tag of a table of types.
+fn tag_of(table: u8) -> u32
+    ensures value { result ≡ types.tag_of table }
+    ensures small { result < 4 }
+{
+    match table {
+        0x02 => 0,
+        0x01 => 1,
+        _ => 2,
+    }
+}
+
+/// Puts the number of a type behind the blob that is being made.
+fn put_type(blobs: &mut BlobHeap, target: &TypeToken) -> Result<(), Memory>
+    requires { types.IsToken target.now }
+    ensures { OnOk result (blobs.new ≡ with_piece blobs.old (type target.now)) }
+{
+    blobs.put_number(4 * target.row + tag_of(target.table))
+}
+
+/// Puts an import behind it; the texts are noted as blobs of their own.
+fn put_import(blobs: &mut BlobHeap, import: &ImportValue) -> Result<(), Memory>
+    requires { HasSpelling import.now }
+    ensures { OnOk result (blobs.new ≡ fold with_piece blobs.old (import_pieces import.now)) }
+{
+    match import {
+        ImportValue::Namespace { namespace } => {
+            blobs.put_number(1)?;
+            blobs.put_index(namespace.as_slice())
+        }
+        ImportValue::AssemblyNamespace {
+            assembly,
+            namespace,
+        } => {
+            blobs.put_number(2)?;
+            blobs.put_number(*assembly)?;
+            blobs.put_index(namespace.as_slice())
+        }
+        ImportValue::Target { target } => {
+            blobs.put_number(3)?;
+            put_type(blobs, target)
+        }
+        ImportValue::Xml { alias, namespace } => {
+            blobs.put_number(4)?;
+            blobs.put_index(alias.as_slice())?;
+            blobs.put_index(namespace.as_slice())
+        }
+        ImportValue::Alias { alias } => {
+            blobs.put_number(5)?;
+            blobs.put_index(alias.as_slice())
+        }
+        ImportValue::AssemblyAlias { alias, assembly } => {
+            blobs.put_number(6)?;
+            blobs.put_index(alias.as_slice())?;
+            blobs.put_number(*assembly)
+        }
+        ImportValue::NamespaceAlias { alias, namespace } => {
+            blobs.put_number(7)?;
+            blobs.put_index(alias.as_slice())?;
+            blobs.put_index(namespace.as_slice())
+        }
+        ImportValue::AssemblyNamespaceAlias {
+            alias,
+            assembly,
+            namespace,
+        } => {
+            blobs.put_number(8)?;
+            blobs.put_index(alias.as_slice())?;
+            blobs.put_number(*assembly)?;
+            blobs.put_index(namespace.as_slice())
+        }
+        ImportValue::TargetAlias { alias, target } => {
+            blobs.put_number(9)?;
+            blobs.put_index(alias.as_slice())?;
+            put_type(blobs, target)
+        }
+    }
+}
+
+/// Puts all imports behind it, in order.
+fn put_imports(blobs: &mut BlobHeap, imports: &[ImportValue]) -> Result<(), Memory>
+    requires { All HasSpelling imports.now }
+    ensures { OnOk result (blobs.new ≡ fold with_piece blobs.old (imports_pieces imports.now)) }
+{
+    for import in imports {
+        put_import(blobs, import)?;
+    }
+    Ok(())
+}
+
+impl BlobHeap {
+    ghost use Rattle.std.specs.Prelude.{◌≡◌, All, OnOk, IfOk};
+    ghost use Rattle.ppdb_canon.specs.Uses.{imports_pieces};
+    ghost use Rattle.sound_values.specs.Writing.{HasSpelling};
+    ghost use Rattle.noted_items.specs.Noted.{with_blob, blob_place, cell};
+    ghost use Rattle.noted_items.specs.Making.{noted_of};
+
+    /// Notes what an import scope imports, its texts first, and answers the index of its blob.
+    pub fn note_imports(&mut self, imports: &[ImportValue]) -> Result<u32, Memory>
+        requires { All HasSpelling imports.now }
+        ensures noted { OnOk result (noted_of self.new ≡ with_blob (noted_of self.old) (imports_pieces imports.now)) }
+        ensures index { IfOk result (λ index. index ≡ cell (blob_place self.new.items (imports_pieces imports.now))) }
+    {
+        self.begin();
+        put_imports(self, imports)?;
+        let index = self.finish()?;
+        Ok(index)
+    }
+}

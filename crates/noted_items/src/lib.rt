@@ -1,0 +1,13 @@
+//! The texts and blobs of a file, as they are noted part by part: each item is kept once, and the length of every use is counted.
+#![tactic(auto)]
+
+mod blobs;
+mod bodies;
+mod cells;
+mod imports;
+mod names;
+mod texts;
+
+pub use blobs::BlobHeap;
+pub use cells::cell_of;
+pub use texts::TextHeap;

@@ -1,0 +1,5 @@
+pub mod Firsts
+pub mod Limits
+pub mod Counted
+pub mod Writable
+pub mod Written

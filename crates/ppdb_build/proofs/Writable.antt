@@ -1,0 +1,126 @@
+-- The parts of a sound value that passes no early limit can be written.
+use Rattle.std.proofs.Common.{◌≡◌, ℕ, zero, suc, ◌<◌, ◌≤◌, Bool, true, false, cond, List, [], ◌∷◌, length, take, get_or, refl, sym, ap, ◌∙◌, arith, Option, Some, None, All}
+use Rattle.std.specs.Prelude.{nat_le, ◌==◌, if◌then◌else◌, slice_index}
+use Rattle.std.specs.Option.{option_or, option_map}
+use Rattle.std.specs.List.{filter_map, cons_option, find, sum_by}
+use Rattle.std.proofs.lemmas.Bool.{leb-false}
+use Rattle.std.proofs.lemmas.Option.{none-some}
+use Rattle.std.proofs.lemmas.List.Elements.{All-nil, All-cons, All-weaker, All-contains}
+use Rattle.std.proofs.lemmas.List.Concat.{length-flat_map}
+use Rattle.sequence_points.specs.declared.point.Point.{Point}
+use Rattle.sequence_points.specs.Written.{first_of}
+use Rattle.sequence_points.specs.Ranges.{IsOffset}
+use Rattle.ppdb_base.specs.declared.limits.Limit.{Limit}
+use Rattle.ppdb_base.specs.declared.limits.Limit.TheVariants.{PointOffset}
+use Rattle.ppdb_tables.specs.RawTables.{row_at}
+use Rattle.ppdb_values.specs.declared.file.FileValue.{FileValue}
+use Rattle.ppdb_values.specs.declared.file.MethodValue.{MethodValue}
+use Rattle.ppdb_values.specs.declared.scope.ScopeValue.{ScopeValue}
+use Rattle.ppdb_values.specs.Ordered.{EachRow}
+use Rattle.ppdb_values.specs.Types.{HasTypes}
+use Rattle.sound_values.specs.Named.{count}
+use Rattle.sound_values.specs.Sound.{IsSound}
+use Rattle.sound_values.specs.Writing.{HasSpelling, SoundPartsCanBeWritten}
+use Rattle.ppdb_canon.specs.Limits.{too_many_rows, tables, list_past_end, large_offset, large_step_of, first_met}
+use Rattle.ppdb_canon.proofs.Among.{among_rows}
+use Rattle.ppdb_build.specs.declared.error.BuildError.{BuildError}
+use Rattle.ppdb_build.specs.declared.error.BuildError.TheVariants.{Limit as Passed, Memory}
+use Rattle.ppdb_build.specs.Building.{IsLimit, early_limit_of, IsWritableMethod, IsWritableConstant, IsWritableScope, IsWritableImport, IsWritableCustom, ArePartsWritable}
+use Rattle.ppdb_build.proofs.Firsts.{first_at}
+use Rattle.ppdb_build.proofs.Limits.{neither}
+use Rattle.ppdb_build.proofs.Counted.{AreFew, are_few}
+
+-- each row is so, one after another
+pub each_all : {X : Type 0} (P : X → Type 0) (rows : List X) → EachRow P rows → All P rows
+each_all P [] each = All-nil P
+each_all {X} P (x ∷ rows) each = All-cons P x rows (each 1 x refl) (each_all P rows (later each))
+  where
+    later : EachRow P (x ∷ rows) → EachRow P rows
+    later each zero y is = cc
+    later each (suc row) y is = each (suc (suc row)) y is
+
+-- the first step that has no form
+pub step_at : (methods : List MethodValue) (i : ℕ) (method : MethodValue) → i < length methods → filter_map large_step_of (take i methods) ≡ [] → get_or methods i method ≡ method
+    → (error : BuildError) → IsLimit (large_step_of method) error → IsLimit (first_of (filter_map large_step_of methods)) error
+step_at methods i method inside none is (Passed limit) here = first_at large_step_of methods i method limit inside none (ap large_step_of is ∙ here)
+step_at methods i method inside none is Memory here = tt
+
+-- ---- no offset is too large
+
+nothing_mapped : {X Y : Type 0} (f : X → Y) (o : Option X) → option_map f o ≡ None → o ≡ None
+nothing_mapped f None e = refl
+nothing_mapped f (Some x) e = absurd (none-some (f x) (sym e))
+
+no_first : {X : Type 0} (xs : List X) → first_of xs ≡ None → xs ≡ []
+no_first [] e = refl
+no_first (x ∷ xs) e = absurd (none-some x (sym e))
+
+none_kept : {Y : Type 0} (o : Option Y) (ys : List Y) → cons_option o ys ≡ [] → (o ≡ None) × (ys ≡ [])
+none_kept None ys e = (refl, e)
+none_kept (Some y) ys e = cc
+
+none_made : {X Y : Type 0} (h : X → Option Y) (xs : List X) → filter_map h xs ≡ [] → All (λ x. h x ≡ None) xs
+none_made h [] e = All-nil (λ x. h x ≡ None)
+none_made h (x ∷ xs) e = let parts = none_kept (h x) (filter_map h xs) e in All-cons (λ x. h x ≡ None) x xs parts.0 (none_made h xs parts.1)
+
+none_found : {X : Type 0} (p : X → Bool) (xs : List X) → find p xs ≡ None → All (λ x. p x ≡ false) xs
+none_found p [] e = All-nil (λ x. p x ≡ false)
+none_found {X} p (x ∷ xs) e = by (p x) refl (none_found p xs)
+  where
+    by : (b : Bool) → p x ≡ b → (find p xs ≡ None → All (λ x. p x ≡ false) xs) → All (λ x. p x ≡ false) (x ∷ xs)
+    by true is rest = absurd (none-some x (sym (sym (ap (λ b. cond b (Some x) (find p xs)) is) ∙ e)))
+    by false is rest = All-cons (λ x. p x ≡ false) x xs is (rest (sym (ap (λ b. cond b (Some x) (find p xs)) is) ∙ e))
+
+small_offsets : (method : MethodValue) → large_offset method ≡ None → All (λ (point : Point). IsOffset point.offset) method.points
+small_offsets method e =
+    All-weaker (λ (point : Point). nat_le 0x20000000 point.offset ≡ false) (λ point. IsOffset point.offset) (λ point below. leb-false 0x20000000 point.offset below) method.points
+    (none_found (λ (point : Point). nat_le 0x20000000 point.offset) method.points
+    (nothing_mapped (λ (point : Point). PointOffset method.method point.offset) (find (λ (point : Point). nat_le 0x20000000 point.offset) method.points) e))
+
+no_offset : (value : FileValue) → early_limit_of value ≡ None → first_of (filter_map large_offset value.methods) ≡ None
+no_offset value none =
+    let a = neither (first_of (filter_map (too_many_rows value) tables)) _ none in
+    let b = neither (list_past_end value 0x33 (λ scope. length scope.variables)) _ a.1 in
+    let c = neither (list_past_end value 0x34 (λ scope. length scope.constants)) _ b.1 in
+    let d = neither (first_of (filter_map large_offset value.methods)) None c.1 in
+    d.0
+
+offsets_small : (value : FileValue) → early_limit_of value ≡ None → (method : MethodValue) (row : ℕ) → row_at value.methods row ≡ Some method → All (λ (point : Point). IsOffset point.offset) method.points
+offsets_small value none method row there =
+    small_offsets method
+    (All-contains (λ (m : MethodValue). large_offset m ≡ None) value.methods method (none_made large_offset value.methods (no_first (filter_map large_offset value.methods) (no_offset value none)))
+    (among_rows value.methods row method there))
+
+-- ---- a row that a value names fits three bytes
+
+choice_small : (b : Bool) (x y : ℕ) → x ≤ 16777215 → y ≤ 16777215 → (if b then x else y) ≤ 16777215
+choice_small true x y h g = h
+choice_small false x y h g = g
+
+count_small : (value : FileValue) → IsSound value → AreFew value → (table : ℕ) → count value table ≤ 16777215
+count_small value sound few table =
+    choice_small (table == 0x30) _ _ few.documents
+    (choice_small (table == 0x32) _ _ few.scopes
+    (choice_small (table == 0x33) _ _ (let n = length-flat_map (λ (scope : ScopeValue). scope.variables) value.scopes in let m = few.variables in omega (arith, n, m))
+    (choice_small (table == 0x34) _ _ (let n = length-flat_map (λ (scope : ScopeValue). scope.constants) value.scopes in let m = few.constants in omega (arith, n, m))
+    (choice_small (table == 0x35) _ _ few.imports (sound.rows.most table)))))
+
+-- ---- all parts
+
+pub parts_writable : SoundPartsCanBeWritten → (value : FileValue) → IsSound value → HasTypes value → early_limit_of value ≡ None → ArePartsWritable value
+parts_writable law value sound types none =
+    let few = are_few value types.rows none in
+    let parts = law value sound few.documents in
+    record {
+      methods = each_all IsWritableMethod value.methods (λ row method there. let own = sound.methods.each row method there in (own.row.0, parts.points row method there (offsets_small value none method row there)));
+      scopes = each_all IsWritableScope value.scopes (λ row scope there.
+          let own = sound.scopes.each row scope there in
+          let before = own.not_empty in
+          (omega (arith, before), each_all IsWritableConstant scope.constants (λ at constant here. (parts.modifiers row scope there at constant here, parts.bodies row scope there at constant here))));
+      imports = each_all IsWritableImport value.imports (λ row scope there. each_all HasSpelling scope.imports (parts.imports row scope there));
+      customs = each_all IsWritableCustom value.customs (λ row custom there.
+          let own = sound.customs.each row custom there in
+          let named = own.parent.1 in
+          let most = count_small value sound few custom.parent.table in
+          (omega (arith, named, most), parts.customs row custom there));
+    }

@@ -1,0 +1,23 @@
+-- The file of a draft is the one that is written.
+use Rattle.std.proofs.Common.{◌≡◌, ℕ, List, length, replicate, refl, sym, ap, ◌∙◌}
+use Rattle.sha2.specs.Sha256.{sha256}
+use Rattle.heap_items.specs.Told.{told}
+use Rattle.file_layout.specs.Bytes.{file_bytes}
+use Rattle.ppdb_values.specs.declared.file.FileValue.{FileValue}
+use Rattle.ppdb_values.specs.Types.{HasTypes}
+use Rattle.ppdb_canon.specs.declared.choice.IdChoice.{IdChoice}
+use Rattle.ppdb_canon.specs.declared.choice.IdChoice.TheVariants.{Hash, Keep}
+use Rattle.ppdb_canon.specs.Canonical.{canonical}
+use Rattle.ppdb_canon.specs.Canon.{canon, chosen_id, id_from}
+use Rattle.ppdb_canon.proofs.Ids.{ids_forgotten}
+use Rattle.file_drafting.specs.Draft.{Draft}
+use Rattle.draft_layout.specs.Drafts.{file_from, id_in}
+
+pub written_is : (value : FileValue) (counts : List ℕ) (draft : Draft) (choice : IdChoice) → length value.id ≡ 20
+    → ((id : List ℕ) → length id ≡ 20 → file_from id value.entry counts draft ≡ canonical value id)
+    → file_bytes (file_from (id_in choice value.id value.entry counts draft) value.entry counts draft) ≡ canon value choice
+written_is value counts draft Keep long file = ap file_bytes (file value.id long)
+written_is value counts draft Hash long file =
+    let zero = replicate 20 0 in
+    ap (λ bytes. file_bytes (file_from (id_from (sha256 bytes)) value.entry counts draft)) (ap file_bytes (file zero refl))
+    ∙ ap file_bytes (file (chosen_id value Hash) (ids_forgotten.long value Hash long))

@@ -1,0 +1,11 @@
+use Rattle.std.proofs.Common.{◌≡◌, [], take, fold}
+use Rattle.std.specs.List.{filter_map}
+use Rattle.ppdb_canon.specs.Limits.{large_step_of}
+use Rattle.file_drafting.specs.Draft.{with_method}
+use Rattle.ppdb_build.proofs.parts.add_methods.Given as goal
+
+abbrev pub invariant-loop-method : goal.invariant-loop-method
+invariant-loop-method l = record {
+  added : l.draft ≡ fold with_method l.initial.draft (take l.method-index l.methods);
+  none : filter_map large_step_of (take l.method-index l.methods) ≡ [];
+}

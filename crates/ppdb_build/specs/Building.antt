@@ -1,0 +1,63 @@
+-- Why a file is not written, and what of a value can be.
+use Rattle.std.specs.Prelude.{◌≡◌, ◌≤◌, [], ◌∷◌, fold, length, Option, Some, All}
+use Rattle.std.specs.List.{filter_map}
+use Rattle.sequence_points.specs.Written.{CanBeWritten, first_of}
+use Rattle.type_blobs.specs.Types.{IsToken}
+use Rattle.type_blobs.specs.Spelling.{IsBody}
+use Rattle.ppdb_base.specs.declared.limits.Limit.{Limit}
+use Rattle.ppdb_values.specs.declared.file.FileValue.{FileValue}
+use Rattle.ppdb_values.specs.declared.file.MethodValue.{MethodValue}
+use Rattle.ppdb_values.specs.declared.scope.ScopeValue.{ScopeValue}
+use Rattle.ppdb_values.specs.declared.scope.ConstantValue.{ConstantValue}
+use Rattle.ppdb_values.specs.declared.import.ImportScopeValue.{ImportScopeValue}
+use Rattle.ppdb_values.specs.declared.custom.CustomValue.{CustomValue}
+use Rattle.sound_values.specs.Scopes.{stored_body}
+use Rattle.sound_values.specs.Writing.{HasSpelling, IsWritable}
+use Rattle.ppdb_canon.specs.Limits.{first_met, too_many_rows, tables, list_past_end, large_offset, first_limit}
+use Rattle.file_drafting.specs.Draft.{Draft, with_scope, with_constants, with_import, with_machine, with_custom}
+use Rattle.ppdb_build.specs.declared.error.BuildError.{BuildError}
+use Rattle.ppdb_build.specs.declared.error.BuildError.TheVariants.{Limit as Passed, Memory}
+
+-- a refusal that names a limit names this one
+abbrev pub IsLimit : Option Limit → BuildError → Type 0
+IsLimit limit (Passed passed) = limit ≡ Some passed
+IsLimit limit Memory = Unit {0}
+
+-- it names the first limit that the value passes
+abbrev pub IsLimitOf : FileValue → BuildError → Type 0
+IsLimitOf value error = IsLimit (first_limit value) error
+
+-- L1 to L3: the first limit that lengths and offsets pass
+abbrev pub early_limit_of : FileValue → Option Limit
+early_limit_of value = first_met (first_of (filter_map (too_many_rows value) tables)
+    ∷ list_past_end value 0x33 (λ scope. length scope.variables) ∷ list_past_end value 0x34 (λ scope. length scope.constants)
+    ∷ first_of (filter_map large_offset value.methods) ∷ [])
+
+-- ---- parts that the writers of blobs take
+
+abbrev pub IsWritableMethod : MethodValue → Type 0
+IsWritableMethod method = (1 ≤ method.method) × CanBeWritten method.signature method.points
+
+abbrev pub IsWritableConstant : ConstantValue → Type 0
+IsWritableConstant constant = All (λ m. IsToken m.target) constant.modifiers × IsBody (stored_body constant.body)
+
+abbrev pub IsWritableScope : ScopeValue → Type 0
+IsWritableScope scope = (scope.range.start ≤ scope.range.end) × All IsWritableConstant scope.constants
+
+abbrev pub IsWritableImport : ImportScopeValue → Type 0
+IsWritableImport scope = All HasSpelling scope.imports
+
+abbrev pub IsWritableCustom : CustomValue → Type 0
+IsWritableCustom custom = (custom.parent.row ≤ 16777215) × IsWritable custom.value
+
+pub record ArePartsWritable (value : FileValue) : Type 0 where
+  pub methods : All IsWritableMethod value.methods
+  pub scopes : All IsWritableScope value.scopes
+  pub imports : All IsWritableImport value.imports
+  pub customs : All IsWritableCustom value.customs
+
+-- ---- the parts behind the methods
+
+abbrev pub after_methods : Draft → FileValue → Draft
+after_methods draft value =
+    fold with_custom (fold with_machine (fold with_import (fold with_constants (fold with_scope draft value.scopes) value.scopes) value.imports) value.machines) value.customs

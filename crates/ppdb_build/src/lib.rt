@@ -1,0 +1,15 @@
+//! The one file that says a value, byte for byte, or the limit of the format that the value passes.
+#![tactic(auto)]
+
+mod error;
+mod parts;
+mod write;
+
+pub use error::BuildError;
+pub use ppdb_base::Limit;
+pub use ppdb_canon::IdChoice;
+pub use ppdb_values::{
+    ConstantBody, ConstantValue, CustomBody, CustomValue, DocumentValue, FileValue,
+    ImportScopeValue, ImportValue, MethodValue, ScopeValue, VariableValue,
+};
+pub use write::write_file;
