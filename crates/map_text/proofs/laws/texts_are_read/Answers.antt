@@ -1,0 +1,5 @@
+use Rattle.map_text.proofs.Reading.{texts_are_read}
+use Rattle.map_text.proofs.laws.texts_are_read.Goals as goal
+
+pub returns : goal.returns
+returns c = texts_are_read

@@ -1,0 +1,3 @@
+pub mod MapTexts
+pub mod Putting
+pub mod Laws

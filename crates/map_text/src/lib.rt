@@ -1,0 +1,11 @@
+//! The canonical text of a map: how its lines are put, and that it is read as this map.
+#![tactic(auto)]
+
+mod counted;
+mod laws;
+mod lines;
+#[cfg(test)]
+mod tests;
+
+pub use counted::Counted;
+pub use laws::texts_are_read;
