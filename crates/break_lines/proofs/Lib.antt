@@ -1,0 +1,4 @@
+pub mod Rows
+pub mod Names
+pub mod Methods
+pub mod Documents

@@ -1,0 +1,3 @@
+pub mod Breaks
+pub mod Walks
+pub mod Laws

@@ -1,0 +1,10 @@
+pub mod Best
+pub mod Texts
+pub mod Places
+pub mod Narrowed
+pub mod Narrowing
+pub mod Searched
+pub mod Ascends
+pub mod Free
+pub mod Records
+pub mod Objects

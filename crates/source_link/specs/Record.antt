@@ -1,0 +1,48 @@
+-- The pairs that a Source Link record says, or why it says none (Source Link JSON schema; RFC 8259).
+use Rattle.std.specs.Prelude.{◌≡◌, ℕ, ◌⊎◌, cond, List, [], ◌∷◌, Option, Some, None, Result, Ok, Err, IfErr, codes}
+use Rattle.std.specs.Option.{option_map, option_and_then}
+use Rattle.std.specs.Str.{is_utf8}
+use Rattle.serde_json.specs.Data.{Data, Members, no_members, member}
+use Rattle.serde_json.specs.Read.{read}
+use Rattle.serde_json.specs.Find.{get_member, as_object, as_str}
+use Rattle.ppdb_base.specs.declared.link_error.LinkError.{LinkError}
+use Rattle.ppdb_base.specs.declared.link_error.LinkError.TheVariants.{NotJson, Shape, Memory}
+use Rattle.source_link.specs.declared.pair.Pair.{Pair}
+use Rattle.source_link.specs.Pairs.{pair_of}
+
+-- what the bytes are as JSON, in UTF-8
+abbrev pub data_in : List ℕ → Option Data
+data_in bytes = cond (is_utf8 bytes) (read bytes) None
+
+-- a member of `documents`: its key and a text
+abbrev pub pair_in : List ℕ → Data → Option Pair
+pair_in key d = option_and_then (pair_of key) (as_str d)
+
+-- the members by key, of which each is a pair
+abbrev pub pairs_in : Members → Option (List Pair)
+pairs_in no_members = Some []
+pairs_in (member key d more) = option_and_then (λ pair. option_map (λ pairs. pair ∷ pairs) (pairs_in more)) (pair_in key d)
+
+-- without a member `documents` there are none
+abbrev pub documents_in : Option Data → Option (List Pair)
+documents_in None = Some []
+documents_in (Some d) = option_and_then pairs_in (as_object d)
+
+abbrev pub pairs_of : Data → Option (List Pair)
+pairs_of d = option_and_then (λ members. documents_in (get_member (codes "documents") members)) (as_object d)
+
+abbrev pub shaped : Option (List Pair) → Result (List Pair) LinkError
+shaped None = Err Shape
+shaped (Some pairs) = Ok pairs
+
+abbrev pub judged : Option Data → Result (List Pair) LinkError
+judged None = Err NotJson
+judged (Some d) = shaped (pairs_of d)
+
+-- the pairs that the bytes of a record say, or why they say none
+abbrev pub links_of : List ℕ → Result (List Pair) LinkError
+links_of bytes = judged (data_in bytes)
+
+-- an answer that is a refusal has its cause; that there is no memory says nothing
+abbrev pub IsRefusedBy : {X : Type 0} → Result X LinkError → Result (List Pair) LinkError → Type 0
+IsRefusedBy answer said = IfErr answer (λ error. (error ≡ Memory) ⊎ (said ≡ Err error))

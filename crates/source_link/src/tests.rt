@@ -1,0 +1,225 @@
+ghost use Rattle.std.specs.Prelude.{◌≡◌, ◌<◌};
+
+use crate::{Links, find_link, read_links};
+use ppdb_base::{Bytes, LinkError, List, Steps};
+use ppdb_verify::{Verified, verify};
+use std::alloc::Global;
+use std::marker::Brand;
+use std::sync::ledger::{Blank, Ledger};
+use std::test::Fail;
+use worked_files::{PROGRAM, SMALL};
+
+/// Records, names, and the addresses that they have.
+const ADDRESSES: [(&str, &str, Option<&str>); 28] = [
+    (
+        "{\"documents\":{\"/src/*\":\"https://x.test/*\",\"/SRC/app/*\":\"https://y.test/a/*?r=1\"}}",
+        "/src/app/Program.cs",
+        Some("https://y.test/a/Program.cs?r=1"),
+    ),
+    (
+        "{\"documents\":{\"/src/*\":\"https://x.test/*\",\"/SRC/app/*\":\"https://y.test/a/*?r=1\"}}",
+        "/src/lib/a\\b.cs",
+        Some("https://x.test/lib/a/b.cs"),
+    ),
+    (
+        "{\"documents\":{\"/a/*\":\"x*y\"}}",
+        "/A/B.cs",
+        Some("xB.csy"),
+    ),
+    ("{\"documents\":{\"/a/*\":\"x*y\"}}", "/a/", Some("xy")),
+    ("{\"documents\":{\"/a/*\":\"x*y\"}}", "/a", None),
+    ("{\"documents\":{\"/a/*\":\"x*y\"}}", "", None),
+    (
+        "{\"documents\":{\"/a/b\":\"exact\",\"/a/b*\":\"p*\",\"/a/*\":\"q*\",\"/A/B\":\"EXACT\"}}",
+        "/a/b",
+        Some("EXACT"),
+    ),
+    (
+        "{\"documents\":{\"/a/b\":\"exact\",\"/a/b*\":\"p*\",\"/a/*\":\"q*\",\"/A/B\":\"EXACT\"}}",
+        "/a/bc",
+        Some("pc"),
+    ),
+    (
+        "{\"documents\":{\"/a/b\":\"exact\",\"/a/b*\":\"p*\",\"/a/*\":\"q*\",\"/A/B\":\"EXACT\"}}",
+        "/A/b",
+        Some("EXACT"),
+    ),
+    ("{\"documents\":{\"*\":\"all/*\"}}", "", Some("all/")),
+    ("{\"documents\":{\"*\":\"all/*\"}}", "a\\b", Some("all/a/b")),
+    (
+        "{\"documents\":{\"*\":\"all/*\"}}",
+        "c:\\X\\Y.cs",
+        Some("all/c:/X/Y.cs"),
+    ),
+    ("{\"documents\":{\"\":\"empty\"}}", "", Some("empty")),
+    ("{\"documents\":{\"\":\"empty\"}}", "a", None),
+    (
+        "{\"documents\":{\"a\":\"one\"},\"documents\":{\"b\":\"two\"}}",
+        "a",
+        None,
+    ),
+    (
+        "{\"documents\":{\"a\":\"one\"},\"documents\":{\"b\":\"two\"}}",
+        "b",
+        Some("two"),
+    ),
+    (
+        "{\"documents\":{\"a\":\"one\",\"a\":\"two\"}}",
+        "a",
+        Some("two"),
+    ),
+    ("{\"documents\":{\"a\":\"x**y*\"}}", "a", Some("x**y*")),
+    ("{\"documents\":{\"a\":\"\"}}", "a", Some("")),
+    ("{\"documents\":{\"\\u0041*\":\"x*\"}}", "ab", Some("xb")),
+    ("{\"documents\":{\"É*\":\"x*\"}}", "é/a", None),
+    ("{\"documents\":{\"É*\":\"x*\"}}", "É/a", Some("x/a")),
+    (
+        "{\"documents\":{\"K*\":\"k*\",\"\\u212a*\":\"kelvin*\"}}",
+        "kx",
+        Some("kx"),
+    ),
+    (
+        "{\"documents\":{\"K*\":\"k*\",\"\\u212a*\":\"kelvin*\"}}",
+        "Kx",
+        Some("kx"),
+    ),
+    (
+        "{\"documents\":{\"/s/*\":\"u/*\"}}",
+        "/S/A*B\\c d",
+        Some("u/A*B/c d"),
+    ),
+    ("{\"other\":[1,{\"documents\":3}]}", "a", None),
+    (" \n{} \n", "a", None),
+    (
+        "{\"a\":[[[[[[[[[[[[[[[[[[[[[[[[[[[[[[[[[[[[[[[[[[[[[[[[[[[[[[[[[[[[[[[[[[[[[[[[[[[[[[[[[[[[[[[[[[[[[[[[[[[[[[[[[[[[[[[[[[[[[[[[[[[[\
+            [[]]]]]]]]]]]]]]]]]]]]]]]]]]]]]]]]]]]]]]]]]]]]]]]]]]]]]]]]]]]]]]]]]]]]]]]]]]]]]]]]]]]]]]]]]]]]]]]]]]]]]]]]]]]]]]]]]]]]]]]]]]]]]]}",
+        "a",
+        None,
+    ),
+];
+
+/// Records that are no JSON text.
+const NOT_JSON: [&str; 5] = [
+    "",
+    "{",
+    "{\"a\":1e999}",
+    "﻿{}",
+    "{\"a\":[[[[[[[[[[[[[[[[[[[[[[[[[[[[[[[[[[[[[[[[[[[[[[[[[[[[[[[[[[[[[[[[[[[[[[[[[[[[[[[[[[[[[[[[[[[[[[[[[[[[[[[[[[[[[[[[[[[[[[[[[[[[[[[]\
+        ]]]]]]]]]]]]]]]]]]]]]]]]]]]]]]]]]]]]]]]]]]]]]]]]]]]]]]]]]]]]]]]]]]]]]]]]]]]]]]]]]]]]]]]]]]]]]]]]]]]]]]]]]]]]]]]]]]]]]]]]]]]]]]}",
+];
+
+/// Records that map no names to addresses.
+const NO_SHAPE: [&str; 8] = [
+    "{\"documents\":null}",
+    "{\"documents\":[]}",
+    "\"x\"",
+    "{\"documents\":{\"a*\":5}}",
+    "{\"documents\":{\"a*b\":\"x\"}}",
+    "{\"documents\":{\"**\":\"x*\"}}",
+    "{\"documents\":{\"a*\":\"x\"}}",
+    "{\"documents\":{\"a*\":\"x**\"}}",
+];
+
+fn links(alloc: Global, record: &str) -> Result<Links, Fail> {
+    match read_links(alloc, record.as_bytes()) {
+        Ok(links) => Ok(links),
+        Err(_) => Err(Fail::from("refused")),
+    }
+}
+
+/// The address of a name, after what the list held.
+fn address_of(alloc: Global, record: &str, name: &str) -> Result<Option<Bytes>, Fail> {
+    let links = links(alloc, record)?;
+    let mut into: Bytes = List::new(alloc);
+    match links.address(name.as_bytes(), &mut into) {
+        Ok(true) => Ok(Some(into)),
+        Ok(false) => Ok(None),
+        Err(_) => Err(Fail::from("no memory")),
+    }
+}
+
+#[test]
+fn names_have_addresses(rt: HostRuntime) -> Result<(), Fail> {
+    for (record, name, address) in ADDRESSES {
+        let found = address_of(rt.alloc(), record, name)?;
+        assert_eq!(rt;
+            found.as_ref().map(|bytes| bytes.as_slice()),
+            address.map(|text| text.as_bytes()),
+            "{name} in {record}"
+        );
+    }
+    Ok(())
+}
+
+#[test]
+fn an_address_goes_behind(rt: HostRuntime) -> Result<(), Fail> {
+    let links = links(rt.alloc(), ADDRESSES[0].0)?;
+    let mut into: Bytes = List::new(rt.alloc());
+    assert!(rt; into.append(b"link 1 ").is_ok());
+    assert_eq!(rt; links.address(b"/none", &mut into), Ok(false));
+    assert_eq!(rt; into.as_slice(), b"link 1 ".as_slice());
+    assert_eq!(rt; links.address(b"/src/a", &mut into), Ok(true));
+    assert_eq!(rt; into.as_slice(), b"link 1 https://x.test/a".as_slice());
+    Ok(())
+}
+
+fn refusal(alloc: Global, bytes: &[u8]) -> Option<LinkError> {
+    match read_links(alloc, bytes) {
+        Ok(_) => None,
+        Err(error) => Some(error),
+    }
+}
+
+#[test]
+fn records_are_refused(rt: HostRuntime) {
+    for record in NOT_JSON {
+        assert_eq!(rt;
+            refusal(rt.alloc(), record.as_bytes()),
+            Some(LinkError::NotJson),
+            "{record}"
+        );
+    }
+    assert_eq!(rt;
+        refusal(rt.alloc(), b"{\"\xff\":1}"),
+        Some(LinkError::NotJson)
+    );
+    for record in NO_SHAPE {
+        assert_eq!(rt;
+            refusal(rt.alloc(), record.as_bytes()),
+            Some(LinkError::Shape),
+            "{record}"
+        );
+    }
+}
+
+/// Whether the record of a file is this.
+fn is_record_in<L: Ledger>(
+    alloc: Global,
+    bytes: &[u8],
+    record: Option<&[u8]>,
+    blank: Blank,
+) -> Result<bool, Fail>
+    requires { (blank.name ≡ L.name) × (blank.parts ≡ L.parts) × (0 < L.parts) }
+{
+    let mut steps = Steps::<L>::new(blank);
+    if bytes.len() > 0x0800_0000 {
+        return Err(Fail::from("too long"));
+    }
+    let file: Verified<'_> = match verify(alloc, bytes, &mut steps) {
+        Ok(file) => file,
+        Err(_) => return Err(Fail::from("not valid")),
+    };
+    Ok(find_link(&file, &mut steps) == record)
+}
+
+/// Whether the record of a file is this.
+fn is_record(alloc: Global, bytes: &[u8], record: Option<&[u8]>) -> Result<bool, Fail> {
+    is_record_in::<Brand>(alloc, bytes, record, Blank::new(1))
+}
+
+#[test]
+fn files_have_records(rt: HostRuntime) -> Result<(), Fail> {
+    assert!(rt; is_record(rt.alloc(), &PROGRAM, Some(b"{}"))?);
+    assert!(rt; is_record(rt.alloc(), &SMALL, None)?);
+    Ok(())
+}
