@@ -10,6 +10,8 @@ mod files;
 #[cfg(test)]
 mod large;
 #[cfg(test)]
+mod links;
+#[cfg(test)]
 mod query;
 #[cfg(test)]
 mod rules;

@@ -10,6 +10,8 @@ ppdb verify FILE               says whether a file is valid, and else its first 
 ppdb show FILE                 prints all rows of a file, a line each
 ppdb show FILE --json          prints them as JSON, an object a line
 ppdb query FILE METHOD OFFSET  prints what belongs to an IL offset of a method, by the method's row
+ppdb links FILE                prints for each document the address of its source, by Source Link
+ppdb breaks FILE DOCUMENT LINE prints where a debugger may stop for a line of a document
 ppdb help COMMAND              prints more of a command; so does COMMAND --help
 ppdb --help                    prints this text; so do -h and help
 ppdb --version                 prints the version; so does -V
@@ -27,6 +29,8 @@ The status, and the line that is printed with it:
 6   there is no such file: absent FILE
 7   the file is longer than 134217728 bytes: too long FILE
 10  the file has no such method: no method METHOD
+11  the Source Link record cannot be read: links FILE not json, links FILE shape
+12  the file has no such document: no document DOCUMENT
 ";
 
 const ID: &str = "ppdb id FILE
@@ -59,6 +63,26 @@ hoisted variables, the links of a state machine, and custom records. METHOD is t
     ppdb query app.pdb $((0x06000012 & 0xffffff)) $((0x1a))
 ";
 
+const LINKS: &str = "ppdb links FILE
+
+Verifies the file, and prints for each document, by row, the address at which its source is found,
+or that there is none, by the Source Link record that the compiler left in the file:
+    link 1 https://example.org/raw/abc/async_iter.cs
+    link 2 none
+Without such a record no document has an address. Where the record is no JSON, or not of the form of
+Source Link, the line is `links FILE not json` or `links FILE shape`, and the status 11.
+";
+
+const BREAKS: &str = "ppdb breaks FILE DOCUMENT LINE
+
+Verifies the file, and prints the sequence points of a document that cover a line and are not
+hidden, each with its method, its IL offset, and where it starts and ends, line:column:
+    break 39 0 20:108 20:109
+DOCUMENT is the name as `show` has it, before it is escaped, and is compared byte by byte; LINE is a
+decimal number to 536870911. A line without code has no points, and the status is 0; where no
+document has the name, the line is `no document DOCUMENT`, and the status 12.
+";
+
 /// A command, of which the program can say more.
 #[derive(Clone, Copy)]
 enum Topic {
@@ -66,6 +90,8 @@ enum Topic {
     Verify,
     Show,
     Query,
+    Links,
+    Breaks,
 }
 
 impl Topic {
@@ -76,6 +102,8 @@ impl Topic {
             "verify" => Some(Topic::Verify),
             "show" => Some(Topic::Show),
             "query" => Some(Topic::Query),
+            "links" => Some(Topic::Links),
+            "breaks" => Some(Topic::Breaks),
             _ => None,
         }
     }
@@ -87,6 +115,8 @@ impl Topic {
             Topic::Verify => VERIFY,
             Topic::Show => SHOW,
             Topic::Query => QUERY,
+            Topic::Links => LINKS,
+            Topic::Breaks => BREAKS,
         }
     }
 
@@ -98,6 +128,9 @@ impl Topic {
             Topic::Show => "ppdb: the words are: ppdb show FILE [--json]; more: ppdb help show",
             Topic::Query =>
                 "ppdb: the words are: ppdb query FILE METHOD OFFSET, two decimal numbers; more: ppdb help query",
+            Topic::Links => "ppdb: the words are: ppdb links FILE; more: ppdb help links",
+            Topic::Breaks =>
+                "ppdb: the words are: ppdb breaks FILE DOCUMENT LINE, a name and a decimal number; more: ppdb help breaks",
         }
     }
 }

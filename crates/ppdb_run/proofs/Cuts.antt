@@ -9,7 +9,7 @@ use Rattle.ppdb_run.specs.Ends.{OnTask}
 use Rattle.ppdb_run.specs.Stops.{Cause, Refusal, Unread, Unwritten, Unput, OutOfMemory, cause_of, OnCut}
 use Rattle.ppdb_run.specs.Words.{Task}
 
-on_cut : {P : Type 0} (cause : Cause) → P → OnCut cause P
+pub on_cut : {P : Type 0} (cause : Cause) → P → OnCut cause P
 on_cut (Refusal outcome) p = tt
 on_cut (Unread name) p = tt
 on_cut (Unwritten name) p = tt

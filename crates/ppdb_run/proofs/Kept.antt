@@ -5,10 +5,15 @@ use Rattle.ppdb_base.specs.Files.{Files, Reading, Missing, Longer, Contents, rea
 use Rattle.ppdb_base.specs.declared.limits.TheConstants.{MAX_FILE_BYTES}
 use Rattle.ppdb_run.specs.declared.stop.Stop.{Stop}
 use Rattle.ppdb_run.specs.Ends.{OnTask, ComesToRead, IsUnread}
-use Rattle.ppdb_run.specs.Outcome.{Outcome, IsOutcome, absent, answer_of, done, input_of, no_method, too_long, verified}
+use Rattle.ppdb_run.specs.Outcome.{Outcome, IsOutcome, absent, answer_of, breaks_answer, done, input_of, links_answer, no_method, too_long, verified}
 use Rattle.ppdb_run.specs.Stops.{Cause, Refusal, Unread, Unwritten, Unput, OutOfMemory, cause_of, Leaves, LeavesAt}
-use Rattle.ppdb_run.specs.Words.{Question, Id, Verify, Show, Query, Ask, Words}
+use Rattle.ppdb_run.specs.Words.{Question, Id, Verify, Show, Query, Links, Breaks, Ask, Words}
+use Rattle.ppdb_base.specs.declared.link_error.LinkError.{LinkError}
+use Rattle.source_link.specs.declared.pair.Pair.{Pair}
+use Rattle.source_lines.specs.Links.{file_links}
+use Rattle.break_lines.specs.Breaks.{document_named}
 use Rattle.ppdb_values.specs.RawFile.{RawFile}
+use Rattle.ppdb_values.specs.Value.{value_of}
 
 -- ---- its outcome writes no file
 
@@ -16,12 +21,22 @@ abbrev WritesNone : Result Outcome Outcome → Type 0
 WritesNone (Ok answer) = answer.writes ≡ None
 WritesNone (Err refusal) = refusal.writes ≡ None
 
-answer_writes : (question : Question) (raw : RawFile) → WritesNone (answer_of question raw)
-answer_writes Id raw = refl
-answer_writes Verify raw = refl
-answer_writes (Show false) raw = refl
-answer_writes (Show true) raw = refl
-answer_writes (Query method offset) raw = by_test _ _
+answer_writes : (question : Question) (file : List ℕ) (raw : RawFile) → WritesNone (answer_of question file raw)
+answer_writes Id file raw = refl
+answer_writes Verify file raw = refl
+answer_writes (Show false) file raw = refl
+answer_writes (Show true) file raw = refl
+answer_writes Links file raw = by_pairs (file_links (value_of raw))
+  where
+    by_pairs : (pairs : Result (List Pair) LinkError) → WritesNone (links_answer file (value_of raw) pairs)
+    by_pairs (Ok pairs) = refl
+    by_pairs (Err error) = refl
+answer_writes (Breaks document line) file raw = by_row (document_named (value_of raw) document)
+  where
+    by_row : (row : Option ℕ) → WritesNone (breaks_answer document line (value_of raw) row)
+    by_row None = refl
+    by_row (Some row) = refl
+answer_writes (Query method offset) file raw = by_test _ _
   where
     by_test : (text : List ℕ) (test : Bool) → WritesNone (if test then done text else Err (no_method method))
     by_test text true = refl
@@ -47,9 +62,9 @@ refusal_writes file files refusal (inr (first, read, is)) =
     by_reading (Contents bytes) e = not_both bytes first (sym e)
 
 writes_none : (question : Question) (file : List ℕ) (files : Files) (due : Outcome) → IsOutcome (Some (Ask question file)) files due → due.writes ≡ None
-writes_none question file files due (inl (inl (raw, read, is))) = subst (λ r. WritesNone r) (sym is) (answer_writes question raw)
+writes_none question file files due (inl (inl (raw, read, is))) = subst (λ r. WritesNone r) (sym is) (answer_writes question file raw)
 writes_none question file files due (inl (inr (refusal, read, is))) = not_both due refusal is
-writes_none question file files due (inr (inl (raw, read, is))) = subst (λ r. WritesNone r) (sym is) (answer_writes question raw)
+writes_none question file files due (inr (inl (raw, read, is))) = subst (λ r. WritesNone r) (sym is) (answer_writes question file raw)
 writes_none question file files due (inr (inr (refusal, read, is))) =
     ap (λ (o : Outcome). o.writes) (one_refusal due refusal is) ∙ refusal_writes file files refusal read
 

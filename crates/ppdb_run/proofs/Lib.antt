@@ -6,5 +6,6 @@ pub mod Kept
 pub mod Numbers
 pub mod OneTask
 pub mod Outcomes
+pub mod BreakTexts
 pub mod Total
 pub mod WordList

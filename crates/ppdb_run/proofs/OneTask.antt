@@ -5,16 +5,20 @@ use Rattle.std.specs.Str.Parse.{AllDigits, digits_value}
 use Rattle.std.proofs.lemmas.Str.Parse.{IsNumeralModel, numerals_by_value, tells_digits}
 use Rattle.std.proofs.lemmas.Fmt.{digits_value-decimal}
 use Rattle.ppdb_base.specs.declared.limits.TheConstants.{MAX_ROWS, MAX_OFFSET}
-use Rattle.ppdb_run.specs.Words.{Id, Verify, Show, Query, Task, Ask, Words}
+use Rattle.ppdb_run.specs.declared.words.TheConstants.{MAX_LINE}
+use Rattle.ppdb_run.specs.Words.{Id, Verify, Show, Query, Links, Breaks, Task, Ask, Words}
 
 numerals : IsNumeralModel (AllDigits 10) (digits_value 10)
 numerals = numerals_by_value (AllDigits 10) tells_digits
 
 -- the task of a name's first letter, of a file and of the words behind it
 task_of : ℕ → List ℕ → List (List ℕ) → Option Task
-task_of letter file [] = if letter == 105 then Some (Ask Id file) else if letter == 118 then Some (Ask Verify file) else Some (Ask (Show false) file)
+task_of letter file [] =
+    if letter == 105 then Some (Ask Id file) else if letter == 118 then Some (Ask Verify file) else if letter == 108 then Some (Ask Links file)
+    else Some (Ask (Show false) file)
 task_of letter file (one ∷ []) = Some (Ask (Show true) file)
-task_of letter file (one ∷ two ∷ rest) = Some (Ask (Query (digits_value 10 one) (digits_value 10 two)) file)
+task_of letter file (one ∷ two ∷ rest) =
+    if letter == 98 then Some (Ask (Breaks one (digits_value 10 two)) file) else Some (Ask (Query (digits_value 10 one) (digits_value 10 two)) file)
 
 task_in : List (List ℕ) → Option Task
 task_in ((letter ∷ letters) ∷ file ∷ rest) = task_of letter file rest
@@ -33,6 +37,11 @@ read_back words (Ask (Query m x) f) h =
     let method = value m MAX_ROWS (omega arith) h.2 in
     let offset = value x MAX_OFFSET (omega arith) h.3 in
     let same : task_in words ≡ Some (Ask (Query (digits_value 10 (decimal m)) (digits_value 10 (decimal x))) f) = ap task_in h.0 in
+    cc
+read_back words (Ask Links f) h = ap task_in h.0
+read_back words (Ask (Breaks document n) f) h =
+    let line = value n MAX_LINE (omega arith) h.3 in
+    let same : task_in words ≡ Some (Ask (Breaks document (digits_value 10 (decimal n))) f) = ap task_in h.0 in
     cc
 
 pub one_task : (words : List (List ℕ)) (one other : Task) → Words one words → Words other words → one ≡ other

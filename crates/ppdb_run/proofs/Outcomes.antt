@@ -11,7 +11,7 @@ use Rattle.ppdb_run.specs.declared.stop.Stop.{Stop}
 use Rattle.ppdb_run.specs.Ends.{Asks, AreSeen, OnDue, OnOutcome, OnTask, OnRead, IsWithinBound, IsWithinRows}
 use Rattle.ppdb_run.specs.Outcome.{Outcome, Step, ◌>>=◌, gives, judged, refused, file_at, input_of, verified, answer_of, outcome_of, steps_of, IsOutcome}
 use Rattle.ppdb_run.specs.Stops.{cause_of, Gives, Settles, Finds, refusal_of}
-use Rattle.ppdb_run.specs.Words.{Question, Id, Verify, Show, Query, Task, Ask, Words}
+use Rattle.ppdb_run.specs.Words.{Question, Id, Verify, Show, Query, Links, Breaks, Task, Ask, Words}
 use Rattle.ppdb_values.specs.RawFile.{RawFile}
 use Rattle.ppdb_verify.specs.Files.{BadFile, IsRawOf, raw_in}
 use Rattle.ppdb_verify.proofs.Streamed.{same_streams}
@@ -107,14 +107,14 @@ read_accepted (Some all) file bytes raw h accepted is = inl (bytes, h, (accepted
 
 one_end : (task : Task) (files : Files) (r t : Result Outcome Outcome) → steps_of task files r → steps_of task files t → r ≡ t
 one_end (Ask question file) files =
-    one_next (λ x y. x ≡ y) (verified files file) (λ raw. gives (answer_of question raw)) (one_verified files file)
-    (λ x y same r t e f. e ∙ (ap (answer_of question) same ∙ sym f))
+    one_next (λ x y. x ≡ y) (verified files file) (λ raw. gives (answer_of question file raw)) (one_verified files file)
+    (λ x y same r t e f. e ∙ (ap (answer_of question file) same ∙ sym f))
 
 -- where the file is not verified, there is no answer
 pub no_answer : {V : Type 0} (view : V → RawFile) (question : Question) (file : List ℕ) (files : Option Files) (stop : Stop)
     → IfSome files (λ all. Gives view (Err stop) (verified all file)) → IfSome files (λ all. Gives (λ (o : Outcome). o) (Err stop) (steps_of (Ask question file) all))
 no_answer view question file None stop h = tt
-no_answer view question file (Some all) stop h = gives_stop view (λ (o : Outcome). o) stop (verified all file) (λ raw. gives (answer_of question raw)) h
+no_answer view question file (Some all) stop h = gives_stop view (λ (o : Outcome). o) stop (verified all file) (λ raw. gives (answer_of question file raw)) h
 
 abbrev same_result : Result Outcome Outcome → Result Outcome Outcome → Type 0
 same_result r t = r ≡ t
@@ -176,8 +176,8 @@ stop_found T task (Some all) view stop h = at_refusal (refusal_of (cause_of stop
 
 -- the outcome of a question whose file is verified
 pub is_answer : (question : Question) (file : List ℕ) (files : Files) (raw : RawFile) → verified files file (Ok raw)
-    → IsOutcome (Some (Ask question file)) files (outcome_of (answer_of question raw))
-is_answer question file files raw h = by_result (answer_of question raw) (inl (raw, h, refl))
+    → IsOutcome (Some (Ask question file)) files (outcome_of (answer_of question file raw))
+is_answer question file files raw h = by_result (answer_of question file raw) (inl (raw, h, refl))
   where
     by_result : (r : Result Outcome Outcome) → steps_of (Ask question file) files r → IsOutcome (Some (Ask question file)) files (outcome_of r)
     by_result (Ok answer) h = inl h
@@ -185,20 +185,20 @@ is_answer question file files raw h = by_result (answer_of question raw) (inl (r
 
 -- what holds of the answer holds of the outcome
 pub on_answer : (P : Outcome → Type 0) (question : Question) (file : List ℕ) (files : Option Files) (raw : RawFile)
-    → IfSome files (λ all. verified all file (Ok raw)) → P (outcome_of (answer_of question raw)) → OnTask (Ask question file) files P
+    → IfSome files (λ all. verified all file (Ok raw)) → P (outcome_of (answer_of question file raw)) → OnTask (Ask question file) files P
 on_answer P question file None raw h p = record { holds = tt }
 on_answer P question file (Some all) raw h p =
-    record { holds = on_due P (Some (Ask question file)) all (outcome_of (answer_of question raw)) (is_answer question file all raw h) p }
+    record { holds = on_due P (Some (Ask question file)) all (outcome_of (answer_of question file raw)) (is_answer question file all raw h) p }
 
 -- a question that was answered, or not for its answer's sake, has an outcome
 pub answer_found : (T : Type 0) (question : Question) (file : List ℕ) (files : Option Files) (raw : RawFile) (result : Result T Stop)
-    → IfSome files (λ all. verified all file (Ok raw)) → Settles result (outcome_of (answer_of question raw))
+    → IfSome files (λ all. verified all file (Ok raw)) → Settles result (outcome_of (answer_of question file raw))
     → IfSome files (λ all. Finds result (IsOutcome (Some (Ask question file)) all))
 answer_found T question file None raw result h settles = tt
-answer_found T question file (Some all) raw (Ok x) h settles = (outcome_of (answer_of question raw), is_answer question file all raw h)
+answer_found T question file (Some all) raw (Ok x) h settles = (outcome_of (answer_of question file raw), is_answer question file all raw h)
 answer_found T question file (Some all) raw (Err stop) h settles = at_refusal (refusal_of (cause_of stop)) settles
   where
-    at_refusal : (o : Option Outcome) → IfSome o (λ refusal. outcome_of (answer_of question raw) ≡ refusal) → IfSome o (IsOutcome (Some (Ask question file)) all)
+    at_refusal : (o : Option Outcome) → IfSome o (λ refusal. outcome_of (answer_of question file raw) ≡ refusal) → IfSome o (IsOutcome (Some (Ask question file)) all)
     at_refusal None e = tt
     at_refusal (Some refusal) e = subst (λ due. IsOutcome (Some (Ask question file)) all due) e (is_answer question file all raw h)
 
@@ -219,6 +219,8 @@ nothing_read question file files steps = record { none = λ no. refl; bound = on
     within Verify raw = tt
     within (Show json) raw = tt
     within (Query method offset) raw = omega arith
+    within Links raw = omega arith
+    within (Breaks document line) raw = omega arith
 
     on_all : (files : Option Files) → OnRead (Ask question file) files (λ question raw. IsWithinBound question raw steps steps)
     on_all None = tt

@@ -61,7 +61,7 @@ module _ (question : Question) (file : List ℕ) (files : Files) (none : (due : 
       let accepted : IsAccepted (BadFile bytes) = accepted_without_first (BadFile bytes) (λ fault first.
       none (refused file fault) (inr (inr (refused file fault, inl (bytes, read, (fault, first, refl)), refl)))) in
       some_streams bytes (λ code at bad. accepted code at (inl bad)) (λ streams are.
-      none (outcome_of (answer_of question (raw_in streams)))
+      none (outcome_of (answer_of question file (raw_in streams)))
       (is_answer question file files (raw_in streams) (inl (bytes, read, (accepted, record { streams = streams; are = are; raw_is = refl })))))
 
 pub has_due : (asked : Option Task) (files : Files) → HasDue asked files

@@ -1,5 +1,5 @@
 -- How a run ends: what its status, its text and the files afterwards have to do with the outcome of its words.
-use Rattle.std.specs.Prelude.{ℕ, ◌≡◌, ◌<◌, ◌≤◌, ◌+◌, ◌-◌, ◌⊎◌, List, Option, Some, None, Ok, IfSome, slice_get, Contains}
+use Rattle.std.specs.Prelude.{ℕ, ◌≡◌, ◌<◌, ◌≤◌, ◌+◌, ◌-◌, ◌*◌, ◌⊎◌, List, length, Option, Some, None, Ok, IfSome, slice_get, Contains}
 use Rattle.ppdb_base.specs.Causes.{Rose}
 use Rattle.ppdb_base.specs.Files.{Files}
 use Rattle.ppdb_base.specs.Written.{appended, AppendsFront}
@@ -8,9 +8,13 @@ use Rattle.ppdb_run.specs.declared.status.Status.TheVariants.{Done, WriteFault, 
 use Rattle.ppdb_run.specs.Lines.{read_fault_line, write_fault_line}
 use Rattle.ppdb_run.specs.Outcome.{Outcome, IsOutcome, verified}
 use Rattle.ppdb_run.specs.Status.{UnlessFault}
-use Rattle.ppdb_run.specs.Words.{Question, Id, Verify, Query, Task, Ask, Words, NoTask, read_files, written_file}
+use Rattle.ppdb_run.specs.Words.{Question, Id, Verify, Query, Links, Breaks, Task, Ask, Words, NoTask, read_files, written_file}
 use Rattle.ppdb_run.specs.Writes.{WritesAll, WritesFront}
+use Rattle.ppdb_queries.specs.Digits.{digits}
+use Rattle.ppdb_queries.specs.Runs.{customs_at}
 use Rattle.ppdb_show.specs.Bound.{query_rows}
+use Rattle.ppdb_tables.specs.RawTables.{count}
+use Rattle.source_link.specs.FileLinks.{module_row}
 use Rattle.ppdb_values.specs.RawFile.{RawFile}
 
 -- what the words ask for: a task, or nothing where no task has them
@@ -126,9 +130,12 @@ ReadsNoRows question = ⊥
 abbrev pub NeedsNoRows : Task → Type 0
 NeedsNoRows (Ask question file) = ReadsNoRows question
 
--- so many rows were counted before the answer and after it: that to a query reads no more than its bound
+-- so many rows were counted before the answer and after it: that to a query, of links or of breaks reads no more than its bound
 abbrev pub IsWithinBound : Question → RawFile → ℕ → ℕ → Type 0
 IsWithinBound (Query method offset) raw before after = after ≤ before + query_rows raw.tables method offset
+IsWithinBound Links raw before after =
+    after ≤ before + 2 * digits (length raw.tables.customs) + length (customs_at raw.tables module_row) + count raw.tables 0x30
+IsWithinBound (Breaks document line) raw before after = after ≤ before + count raw.tables 0x30 + length raw.tables.methods
 IsWithinBound question raw before after = Unit {0}
 
 -- P holds of the question and of what its file is read as, where the folder tells it and it is valid

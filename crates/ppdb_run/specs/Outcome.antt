@@ -18,11 +18,17 @@ use Rattle.ppdb_lines.specs.Lines.{Line, text_of}
 use Rattle.ppdb_lines.specs.Pieces.{line}
 use Rattle.ppdb_run.specs.Lines.{about, usage_line, refused_line, map_line, unfit_line, limit_text, map_limit_text}
 use Rattle.ppdb_run.specs.Lines.{no_method_line, links_line, sizes_line}
-use Rattle.ppdb_run.specs.Words.{Question, Id, Verify, Show, Query, Task, Ask}
+use Rattle.ppdb_run.specs.Words.{Question, Id, Verify, Show, Query, Links, Breaks, Task, Ask}
 use Rattle.ppdb_show.specs.Query.{query_text_of}
+use Rattle.source_link.specs.declared.pair.Pair.{Pair}
+use Rattle.source_lines.specs.Links.{file_links, link_text}
+use Rattle.source_lines.specs.Breaks.{break_text}
+use Rattle.break_lines.specs.Breaks.{document_named}
 use Rattle.ppdb_show.specs.Show.{show_text_of, show_json_of}
 use Rattle.ppdb_tables.specs.RawTables.{count}
+use Rattle.ppdb_values.specs.declared.file.FileValue.{FileValue}
 use Rattle.ppdb_values.specs.RawFile.{RawFile}
+use Rattle.ppdb_values.specs.Value.{value_of}
 use Rattle.ppdb_verify.specs.Files.{BadFile, IsRawOf}
 
 pub record Outcome : Type 0 where
@@ -122,14 +128,26 @@ id_text raw = lines_as Text (id_line raw.id ∷ entry_line raw.entry ∷ [])
 abbrev pub done : List ℕ → Result Outcome Outcome
 done text = Ok (prints statuses.Done text)
 
--- what the answer to a question about a file is: a text, or that the file has no such method
-abbrev pub answer_of : Question → RawFile → Result Outcome Outcome
-answer_of Id raw = done (id_text raw)
-answer_of Verify raw = done (line (codes "accepted"))
-answer_of (Show false) raw = done (show_text_of raw)
-answer_of (Show true) raw = done (show_json_of raw)
-answer_of (Query method offset) raw =
+-- the addresses of the documents, where the Source Link record gives some
+abbrev pub links_answer : List ℕ → FileValue → Result (List Pair) LinkError → Result Outcome Outcome
+links_answer file value (Ok pairs) = done (link_text value pairs)
+links_answer file value (Err error) = Err (unlinked file error)
+
+-- the breaks of a line, where there is such a document
+abbrev pub breaks_answer : List ℕ → ℕ → FileValue → Option ℕ → Result Outcome Outcome
+breaks_answer document line value None = Err (no_document document)
+breaks_answer document line value (Some row) = done (break_text value row line)
+
+-- what the answer to a question about a file is: a text, or why there is none
+abbrev pub answer_of : Question → List ℕ → RawFile → Result Outcome Outcome
+answer_of Id file raw = done (id_text raw)
+answer_of Verify file raw = done (line (codes "accepted"))
+answer_of (Show false) file raw = done (show_text_of raw)
+answer_of (Show true) file raw = done (show_json_of raw)
+answer_of (Query method offset) file raw =
     if nat_le 1 method && nat_le method (count raw.tables 0x06) then done (query_text_of raw method offset) else Err (no_method method)
+answer_of Links file raw = links_answer file (value_of raw) (file_links (value_of raw))
+answer_of (Breaks document line) file raw = breaks_answer document line (value_of raw) (document_named (value_of raw) document)
 
 -- what a command ends with
 abbrev pub outcome_of : Result Outcome Outcome → Outcome
@@ -140,7 +158,7 @@ outcome_of (Err refusal) = refusal
 abbrev pub steps_of : Task → Files → Step Outcome
 steps_of (Ask question file) files = do
   raw ← verified files file
-  gives (answer_of question raw)
+  gives (answer_of question file raw)
 
 -- the outcome of a task, or of words that are no task's
 abbrev pub IsOutcome : Option Task → Files → Outcome → Type 0

@@ -4,6 +4,7 @@ use Rattle.std.specs.Fmt.{decimal}
 use Rattle.std.specs.String.{string_bytes}
 use Rattle.std.specs.declared.alloc.Global.{Global}
 use Rattle.ppdb_base.specs.declared.limits.TheConstants.{MAX_ROWS, MAX_OFFSET}
+use Rattle.ppdb_run.specs.declared.words.TheConstants.{MAX_LINE}
 
 -- the words as bytes
 abbrev pub texts : List (String Global) → List (List ℕ)
@@ -15,12 +16,19 @@ is_file_word [] = false
 is_file_word (first ∷ []) = true
 is_file_word (first ∷ second ∷ rest) = not (first == 0x2d && second == 0x2d)
 
+-- a word that can name a document: it is not empty
+abbrev pub is_name_word : List ℕ → Bool
+is_name_word [] = false
+is_name_word word = true
+
 -- what is asked of one file, whose answer is a text
 pub data Question : Type 0 where
   Id : Question
   Verify : Question
   Show : (json : Bool) → Question
   Query : (method offset : ℕ) → Question
+  Links : Question
+  Breaks : (document : List ℕ) → (line : ℕ) → Question
 
 -- what is asked for
 pub data Task : Type 0 where
@@ -47,6 +55,9 @@ Words (Ask (Show false) file) words = (words ≡ codes "show" ∷ file ∷ []) �
 Words (Ask (Show true) file) words = (words ≡ codes "show" ∷ file ∷ codes "--json" ∷ []) × IsTrue (is_file_word file)
 Words (Ask (Query method offset) file) words =
     (words ≡ codes "query" ∷ file ∷ decimal method ∷ decimal offset ∷ []) × IsTrue (is_file_word file) × (method ≤ MAX_ROWS) × (offset ≤ MAX_OFFSET)
+Words (Ask Links file) words = (words ≡ codes "links" ∷ file ∷ []) × IsTrue (is_file_word file)
+Words (Ask (Breaks document line) file) words =
+    (words ≡ codes "breaks" ∷ file ∷ document ∷ decimal line ∷ []) × IsTrue (is_file_word file) × IsTrue (is_name_word document) × (line ≤ MAX_LINE)
 
 -- no task has these words
 abbrev pub NoTask : List (List ℕ) → Type 0

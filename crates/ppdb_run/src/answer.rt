@@ -10,6 +10,7 @@ ghost use Rattle.ppdb_run.specs.Words.{Ask};
 ghost use Rattle.ppdb_verify.specs.Views.{raw_file};
 
 use crate::question::Question;
+use crate::sources::{answer_breaks, answer_links};
 use crate::stop::Stop;
 use crate::verified::read_verified;
 use ppdb_base::{Folder, List, Sink, Steps, WriteError};
@@ -22,7 +23,7 @@ use std::sync::ledger::Ledger;
 /// Reads and verifies a file, and puts the answer to a question about it.
 pub fn answer<'a, F: Folder, O: Sink, K: Ledger, L: Ledger>(
     alloc: Global,
-    question: Question,
+    question: Question<'a>,
     file: &'a str,
     folder: &mut F,
     out: &mut O,
@@ -30,10 +31,10 @@ pub fn answer<'a, F: Folder, O: Sink, K: Ledger, L: Ledger>(
     steps: &mut Steps<L>,
 ) -> Result<(), Stop<'a>>
     // What it comes to over told files.
-    ensures found { IfSome (F.files folder.old) (λ all. Finds result (IsOutcome (Some (Ask (question_of question) file.now)) all)) }
-    ensures told { OnTask (Ask (question_of question) file.now) (F.files folder.old) (Settles result) }
-    ensures text { OnTask (Ask (question_of question) file.now) (F.files folder.old) (λ due. OnOk result (O.written out.new ≡ appended (O.written out.old) due.text)) }
-    ensures rows { IsWithinRows (Ask (question_of question) file.now) (F.files folder.old) steps.old steps.new }
+    ensures found { IfSome (F.files folder.old) (λ all. Finds result (IsOutcome (Some (Ask (question_of question.entry) file.now)) all)) }
+    ensures told { OnTask (Ask (question_of question.entry) file.now) (F.files folder.old) (Settles result) }
+    ensures text { OnTask (Ask (question_of question.entry) file.now) (F.files folder.old) (λ due. OnOk result (O.written out.new ≡ appended (O.written out.old) due.text)) }
+    ensures rows { IsWithinRows (Ask (question_of question.entry) file.now) (F.files folder.old) steps.old steps.new }
     ensures files { F.files folder.new ≡ F.files folder.old }
 
     // What a stop comes from, and what it leaves.
@@ -46,7 +47,7 @@ pub fn answer<'a, F: Folder, O: Sink, K: Ledger, L: Ledger>(
         (Rose (F.write_faults folder.old) (F.write_faults folder.new))
         (Rose (O.faults out.old) (O.faults out.new))) }
     ensures silent { IfErr result (λ stop. OnUntold (cause_of stop) (O.written out.new ≡ O.written out.old)) }
-    ensures cut { OnTask (Ask (question_of question) file.now) (F.files folder.old) (λ due. IfErr result (λ stop. OnCut (cause_of stop) (AppendsFront (O.written out.old) (O.written out.new) due.text))) }
+    ensures cut { OnTask (Ask (question_of question.entry) file.now) (F.files folder.old) (λ due. IfErr result (λ stop. OnCut (cause_of stop) (AppendsFront (O.written out.old) (O.written out.new) due.text))) }
     ensures later { O.faults out.old ≤ O.faults out.new }
 {
     let mut bytes = List::new(alloc);
@@ -54,25 +55,26 @@ pub fn answer<'a, F: Folder, O: Sink, K: Ledger, L: Ledger>(
         Ok(verified) => verified,
         Err(stop) => return Err(stop),
     };
-    put_answer(alloc, question, &verified, out, steps)
+    put_answer(alloc, question, file, &verified, out, steps)
 }
 
 /// Puts the answer to a question about a verified file.
 fn put_answer<'a, O: Sink, L: Ledger>(
     alloc: Global,
-    question: Question,
+    question: Question<'a>,
+    name: &'a str,
     file: &Verified<'_>,
     out: &mut O,
     steps: &mut Steps<L>,
 ) -> Result<(), Stop<'a>>
-    ensures told { Settles result (outcome_of (answer_of (question_of question) (raw_file file.now))) }
-    ensures text { OnOk result (O.written out.new ≡ appended (O.written out.old) (outcome_of (answer_of (question_of question) (raw_file file.now))).text) }
+    ensures told { Settles result (outcome_of (answer_of (question_of question.entry) name.now (raw_file file.now))) }
+    ensures text { OnOk result (O.written out.new ≡ appended (O.written out.old) (outcome_of (answer_of (question_of question.entry) name.now (raw_file file.now))).text) }
     ensures causes { IfErr result (λ stop. ComesFrom (cause_of stop) ⊥ no_file no_file None ⊥ ⊥ (Rose (O.faults out.old) (O.faults out.new))) }
     ensures silent { IfErr result (λ stop. OnUntold (cause_of stop) (O.written out.new ≡ O.written out.old)) }
-    ensures cut { IfErr result (λ stop. OnCut (cause_of stop) (AppendsFront (O.written out.old) (O.written out.new) (outcome_of (answer_of (question_of question) (raw_file file.now))).text)) }
+    ensures cut { IfErr result (λ stop. OnCut (cause_of stop) (AppendsFront (O.written out.old) (O.written out.new) (outcome_of (answer_of (question_of question.entry) name.now (raw_file file.now))).text)) }
     ensures later { O.faults out.old ≤ O.faults out.new }
-    ensures none { ReadsNoRows (question_of question) → steps.new ≡ steps.old }
-    ensures bound { IsWithinBound (question_of question) (raw_file file.now) steps.old steps.new }
+    ensures none { ReadsNoRows (question_of question.entry) → steps.new ≡ steps.old }
+    ensures bound { IsWithinBound (question_of question.entry) (raw_file file.now) steps.old steps.new }
 {
     match question {
         Question::Id => put_id(alloc, out, file)?,
@@ -86,6 +88,10 @@ fn put_answer<'a, O: Sink, L: Ledger>(
                 Err(QueryError::Failed) => return Err(Stop::Sink),
                 Err(QueryError::Memory) => return Err(Stop::Memory),
             }
+        }
+        Question::Links => return answer_links(alloc, name, file, out, steps),
+        Question::Breaks { document, line } => {
+            return answer_breaks(document, line, file, out, steps);
         }
     }
     Ok(())

@@ -9,6 +9,7 @@ pub mod laws;
 mod limit;
 mod number;
 mod question;
+mod sources;
 mod status;
 mod stop;
 mod unfit;

@@ -1,11 +1,14 @@
 // The words of the command line.
 ghost use Rattle.std.specs.Prelude.{◌≡◌, ℕ, List, ◌∷◌, codes, IfOk, OnErr};
-ghost use Rattle.ppdb_run.specs.Words.{Ask, Words, NoTask, IsFileAlone, is_file_word, texts};
+ghost use Rattle.ppdb_run.specs.Words.{Ask, Words, NoTask, IsFileAlone, is_file_word, is_name_word, texts};
 ghost use Rattle.ppdb_run.specs.Task.{question_of, task_of};
 
 use crate::number::number;
 use crate::question::Question;
 use ppdb_base::{MAX_OFFSET, MAX_ROWS};
+
+/// The largest line of a sequence point.
+pub(crate) const MAX_LINE: u32 = 0x1fff_ffff;
 
 /// What the words ask for.
 #[derive(Clone, Copy, Debug, PartialEq, Eq)]
@@ -29,11 +32,21 @@ pub enum Command<'a> {
         method: u32,
         offset: u32,
     },
+    /// The addresses of the documents of a file.
+    Links {
+        file: &'a str,
+    },
+    /// The places at which a debugger may stop for a line of a document, to 536870911.
+    Breaks {
+        file: &'a str,
+        document: &'a str,
+        line: u32,
+    },
 }
 
 impl<'a> Command<'a> {
     /// What the command asks, and of which file.
-    pub(crate) fn question(self) -> (Question, &'a str)
+    pub(crate) fn question(self) -> (Question<'a>, &'a str)
         ensures { Ask (question_of result.0) result.1.now ≡ task_of self.entry }
     {
         match self {
@@ -45,6 +58,12 @@ impl<'a> Command<'a> {
                 method,
                 offset,
             } => (Question::Query { method, offset }, file),
+            Command::Links { file } => (Question::Links, file),
+            Command::Breaks {
+                file,
+                document,
+                line,
+            } => (Question::Breaks { document, line }, file),
         }
     }
 }
@@ -66,6 +85,8 @@ pub fn read_words(words: &[String]) -> Result<Command<'_>, Usage>
         "verify" => one_file(args).map(|file| Command::Verify { file }),
         "show" => show(args),
         "query" => query(args),
+        "links" => one_file(args).map(|file| Command::Links { file }),
+        "breaks" => breaks(args),
         _ => Err(Usage),
     }
 }
@@ -115,6 +136,31 @@ fn query(args: &[String]) -> Result<Command<'_>, Usage>
         }),
         _ => Err(Usage),
     }
+}
+
+/// The command `breaks` of the words after its name.
+fn breaks(args: &[String]) -> Result<Command<'_>, Usage>
+    ensures command { IfOk result (λ command. Words (task_of command) (codes "breaks" ∷ texts args.now)) }
+    ensures usage { OnErr result (NoTask (codes "breaks" ∷ texts args.now)) }
+{
+    let [file, document, line] = args else {
+        return Err(Usage);
+    };
+    match number(line, MAX_LINE) {
+        Some(line) if names_file(file) && names_document(document) => Ok(Command::Breaks {
+            file: file.as_str(),
+            document: document.as_str(),
+            line,
+        }),
+        _ => Err(Usage),
+    }
+}
+
+/// Whether a word can be a document's name: it is not empty.
+fn names_document(word: &str) -> bool
+    ensures { result ≡ is_name_word word.now }
+{
+    !word.is_empty()
 }
 
 /// Whether a word can be a file's name: it is not empty and does not begin with two dashes.
