@@ -4,14 +4,14 @@ _ppdb() {
   local IFS=$'\n'
   COMPREPLY=()
   if [ "$COMP_CWORD" = 1 ]; then
-    COMPREPLY=($(compgen -W $'id\nverify\nshow\nquery\nhelp\n--help\n--version' -- "$current"))
+    COMPREPLY=($(compgen -W $'id\nverify\nshow\nquery\nlinks\nbreaks\nhelp\n--help\n--version' -- "$current"))
   elif [ "$COMP_CWORD" = 2 ]; then
     case $command in
-      id | verify | show | query)
+      id | verify | show | query | links | breaks)
         compopt -o filenames 2>/dev/null
         COMPREPLY=($(compgen -f -X '!*.pdb' -- "$current") $(compgen -d -- "$current"))
         ;;
-      help) COMPREPLY=($(compgen -W $'id\nverify\nshow\nquery' -- "$current")) ;;
+      help) COMPREPLY=($(compgen -W $'id\nverify\nshow\nquery\nlinks\nbreaks' -- "$current")) ;;
     esac
   elif [ "$COMP_CWORD" = 3 ] && [ "$command" = show ]; then
     COMPREPLY=($(compgen -W '--json' -- "$current"))
