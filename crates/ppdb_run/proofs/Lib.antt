@@ -1,5 +1,4 @@
 pub mod Causes
-pub mod Choices
 pub mod Cuts
 pub mod Endings
 pub mod Fronts
@@ -7,8 +6,6 @@ pub mod Kept
 pub mod Numbers
 pub mod OneTask
 pub mod Outcomes
-pub mod Rebuilds
 pub mod BreakTexts
 pub mod Total
-pub mod Unknowns
 pub mod WordList

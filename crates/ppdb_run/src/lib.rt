@@ -8,9 +8,7 @@ mod input;
 pub mod laws;
 mod limit;
 mod number;
-mod options;
 mod question;
-mod rebuild;
 mod sources;
 mod status;
 mod stop;
@@ -19,7 +17,6 @@ mod verified;
 mod words;
 
 pub use commands::run;
-pub use options::Options;
 pub use status::Status;
 pub use words::{Command, Usage, read_words};
 
