@@ -3,6 +3,7 @@
 
 mod error;
 mod parts;
+mod rebuilding;
 mod write;
 
 pub use error::BuildError;
@@ -12,4 +13,6 @@ pub use ppdb_values::{
     ConstantBody, ConstantValue, CustomBody, CustomValue, DocumentValue, FileValue,
     ImportScopeValue, ImportValue, MethodValue, ScopeValue, VariableValue,
 };
+pub use rebuilding::rebuild;
+pub use value_reading::value_of;
 pub use write::write_file;

@@ -4,7 +4,11 @@ ghost use Rattle.std.specs.List.{filter_map};
 ghost use Rattle.sequence_points.specs.Written.{first_of};
 ghost use Rattle.ppdb_values.specs.Types.{IsGuid, HasTypes};
 ghost use Rattle.sound_values.specs.Sound.{IsSound};
-ghost use Rattle.ppdb_canon.specs.Canon.{canon};
+ghost use Rattle.ppdb_canon.specs.Canon.{canon, chosen_id, with_id};
+ghost use Rattle.ppdb_base.specs.First.{IsAccepted};
+ghost use Rattle.ppdb_values.specs.RawFile.{RawFile};
+ghost use Rattle.ppdb_verify.specs.Files.{BadFile, IsRawOf};
+ghost use Rattle.written_files.specs.Written.{IsSameAgain, Says};
 ghost use Rattle.ppdb_canon.specs.Limits.{first_limit, large_step_of};
 ghost use Rattle.ppdb_build.specs.Building.{IsLimitOf, ArePartsWritable, early_limit_of};
 ghost use Rattle.file_drafting.specs.Drafted.{IsDraftOf};
@@ -22,6 +26,7 @@ use ppdb_values::FileValue;
 use sound_values::sound_parts_can_be_written;
 use std::alloc::Global;
 use value_limits::{length_limit, offset_limit, value_has_types};
+use written_files::{written_files_are_canonical, written_files_are_valid};
 
 /// L1 to L3: the first limit that lengths and offsets pass.
 fn early_limit(value: &FileValue) -> Option<Limit>
@@ -98,6 +103,20 @@ fn file_of_draft(
     Ok(file)
 }
 
+/// What is written of a value is valid and says the value; however it is read, its value has the same file again.
+fn file_is_valid(value: &FileValue, id: IdChoice, file: &Bytes)
+    requires sound { IsSound value.now }
+    requires types { HasTypes value.now }
+    requires within { first_limit value.now ≡ None }
+    requires written { file.now ≡ canon value.now id }
+    ensures accepted { IsAccepted (BadFile file.now) }
+    ensures reread { Says file.now (with_id value.now (chosen_id value.now id)) }
+    ensures again { (again : RawFile) → IsRawOf file.now again → IsSameAgain value.now id again }
+{
+    written_files_are_valid();
+    written_files_are_canonical();
+}
+
 /// The one file of a sound value, with the identity that is chosen.
 ///
 /// # Errors
@@ -108,6 +127,9 @@ pub fn write_file(alloc: Global, value: &FileValue, id: IdChoice) -> Result<Byte
     ensures written { IfOk result (λ bytes. bytes ≡ canon value.now id) }
     ensures within { OnOk result (first_limit value.now ≡ None) }
     ensures limit { IfErr result (IsLimitOf value.now) }
+    ensures accepted { IfOk result (λ bytes. IsAccepted (BadFile bytes)) }
+    ensures reread { IfOk result (λ bytes. Says bytes (with_id value.now (chosen_id value.now id))) }
+    ensures again { IfOk result (λ bytes. (again : RawFile) → IsRawOf bytes again → IsSameAgain value.now id again) }
 {
     value_has_types(value);
     match early_limit(value) {
@@ -124,5 +146,6 @@ pub fn write_file(alloc: Global, value: &FileValue, id: IdChoice) -> Result<Byte
         Ok(file) => file,
         Err(error) => return Err(error),
     };
+    file_is_valid(value, id, &file);
     Ok(file)
 }

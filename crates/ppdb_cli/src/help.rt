@@ -12,6 +12,7 @@ ppdb show FILE --json          prints them as JSON, an object a line
 ppdb query FILE METHOD OFFSET  prints what belongs to an IL offset of a method, by the method's row
 ppdb links FILE                prints for each document the address of its source, by Source Link
 ppdb breaks FILE DOCUMENT LINE prints where a debugger may stop for a line of a document
+ppdb rebuild IN OUT            writes the one canonical file that says what a file says
 ppdb help COMMAND              prints more of a command; so does COMMAND --help
 ppdb --help                    prints this text; so do -h and help
 ppdb --version                 prints the version; so does -V
@@ -24,10 +25,12 @@ The status, and the line that is printed with it:
 1   the file is refused: refused FILE FAULT
 2   the words are no command: usage
 3   the file could not be read: read fault FILE
-4   the answer could not be written
+4   the answer could not be written, or a file: write fault FILE
 5   there was no memory left
 6   there is no such file: absent FILE
 7   the file is longer than 134217728 bytes: too long FILE
+8   a custom record has an unknown kind: unfit FILE M6 row ROW kind GUID
+9   what is to be written passes a limit of the format: limit LIMIT
 10  the file has no such method: no method METHOD
 11  the Source Link record cannot be read: links FILE not json, links FILE shape
 12  the file has no such document: no document DOCUMENT
@@ -83,6 +86,15 @@ decimal number to 536870911. A line without code has no points, and the status i
 document has the name, the line is `no document DOCUMENT`, and the status 12.
 ";
 
+const REBUILD: &str = "ppdb rebuild IN OUT [--keep-id] [--free GUID]..
+
+Verifies IN, and writes to OUT the canonical file that says the same: its rows in their order, each
+item of a heap once, each number in its shortest form. Files that say the same are rebuilt to the
+same bytes. It prints nothing. IN is read before OUT is written, so both may be one file.
+--keep-id     the identity is that of IN, and not made from the bytes of the new file
+--free GUID   passes on a kind of custom debug information that is unknown, else status 8
+";
+
 /// A command, of which the program can say more.
 #[derive(Clone, Copy)]
 enum Topic {
@@ -92,6 +104,7 @@ enum Topic {
     Query,
     Links,
     Breaks,
+    Rebuild,
 }
 
 impl Topic {
@@ -104,6 +117,7 @@ impl Topic {
             "query" => Some(Topic::Query),
             "links" => Some(Topic::Links),
             "breaks" => Some(Topic::Breaks),
+            "rebuild" => Some(Topic::Rebuild),
             _ => None,
         }
     }
@@ -117,6 +131,7 @@ impl Topic {
             Topic::Query => QUERY,
             Topic::Links => LINKS,
             Topic::Breaks => BREAKS,
+            Topic::Rebuild => REBUILD,
         }
     }
 
@@ -131,6 +146,8 @@ impl Topic {
             Topic::Links => "ppdb: the words are: ppdb links FILE; more: ppdb help links",
             Topic::Breaks =>
                 "ppdb: the words are: ppdb breaks FILE DOCUMENT LINE, a name and a decimal number; more: ppdb help breaks",
+            Topic::Rebuild =>
+                "ppdb: the words are: ppdb rebuild IN OUT [--keep-id] [--free GUID]..; more: ppdb help rebuild",
         }
     }
 }

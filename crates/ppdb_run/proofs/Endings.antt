@@ -24,7 +24,7 @@ rose_before : (a b c : ℕ) → a ≤ b → Rose b c → Rose a c
 rose_before a b c h k = grind arith
 
 -- the files are as before, so the one that is written is
-front_none : (writes : Option (List ℕ × List ℕ)) (old new : Option Files) → new ≡ old → WritesFront writes old new
+pub front_none : (writes : Option (List ℕ × List ℕ)) (old new : Option Files) → new ≡ old → WritesFront writes old new
 front_none None old new e = e
 front_none (Some file) old new e = inl e
 
@@ -108,6 +108,21 @@ module _ (cause : Cause) (status : Status) (faults faults' : ℕ) (mid new : Opt
     | Told s w l ↦ subst (λ x. UnlessWritten x P) (sym s) (as_before cause is P h)
     | Failed s r w ↦ subst (λ x. UnlessWritten x P) (sym s) tt
     | NoMemory s w l ↦ subst (λ x. UnlessWritten x P) (sym s) tt
+  ]
+
+  -- it was not done
+  not_done : (cause : Cause) → Refuses cause → statuses.Done ≡ status_of cause → ⊥
+  not_done (Refusal outcome) is e = subst (λ x. IsRefusal x) (sym e) is
+  not_done (Unread name) is e = absurd cc
+  not_done (Unwritten name) is e = absurd cc
+  not_done Unput is e = absurd cc
+  not_done OutOfMemory is e = absurd cc
+
+  pub stopped_not_done : status ≡ statuses.Done → ⊥
+  stopped_not_done e = elim tells [
+    | Told s w l ↦ not_done cause is (sym e ∙ s)
+    | Failed s r w ↦ absurd (let x : statuses.Done ≡ statuses.WriteFault = sym e ∙ s in cc)
+    | NoMemory s w l ↦ absurd (let x : statuses.Done ≡ statuses.Memory = sym e ∙ s in cc)
   ]
 
   -- without a fault it is the outcome, or there was no memory left

@@ -4,16 +4,17 @@ use Rattle.std.specs.Prelude.{IfSome, if◌then◌else◌}
 use Rattle.ppdb_base.specs.Files.{Files, Reading, Missing, Longer, Contents, reading}
 use Rattle.ppdb_base.specs.declared.limits.TheConstants.{MAX_FILE_BYTES}
 use Rattle.ppdb_run.specs.declared.stop.Stop.{Stop}
-use Rattle.ppdb_run.specs.Ends.{OnTask, ComesToRead, IsUnread}
+use Rattle.ppdb_run.specs.Ends.{OnTask, IsUnread, IsUnwritten}
 use Rattle.ppdb_run.specs.Outcome.{Outcome, IsOutcome, absent, answer_of, breaks_answer, done, input_of, links_answer, no_method, too_long, verified}
 use Rattle.ppdb_run.specs.Stops.{Cause, Refusal, Unread, Unwritten, Unput, OutOfMemory, cause_of, Leaves, LeavesAt}
-use Rattle.ppdb_run.specs.Words.{Question, Id, Verify, Show, Query, Links, Breaks, Ask, Words}
+use Rattle.ppdb_run.specs.Words.{Question, Id, Verify, Show, Query, Links, Breaks, Options, Ask, Rebuild, Words}
 use Rattle.ppdb_base.specs.declared.link_error.LinkError.{LinkError}
 use Rattle.source_link.specs.declared.pair.Pair.{Pair}
 use Rattle.source_lines.specs.Links.{file_links}
 use Rattle.break_lines.specs.Breaks.{document_named}
 use Rattle.ppdb_values.specs.RawFile.{RawFile}
 use Rattle.ppdb_values.specs.Value.{value_of}
+use Rattle.ppdb_run.proofs.Endings.{front_none}
 
 -- ---- its outcome writes no file
 
@@ -61,7 +62,7 @@ refusal_writes file files refusal (inr (first, read, is)) =
     by_reading Longer e = ap (λ (o : Outcome). o.writes) (one_refusal first (too_long file) e)
     by_reading (Contents bytes) e = not_both bytes first (sym e)
 
-writes_none : (question : Question) (file : List ℕ) (files : Files) (due : Outcome) → IsOutcome (Some (Ask question file)) files due → due.writes ≡ None
+pub writes_none : (question : Question) (file : List ℕ) (files : Files) (due : Outcome) → IsOutcome (Some (Ask question file)) files due → due.writes ≡ None
 writes_none question file files due (inl (inl (raw, read, is))) = subst (λ r. WritesNone r) (sym is) (answer_writes question file raw)
 writes_none question file files due (inl (inr (refusal, read, is))) = not_both due refusal is
 writes_none question file files due (inr (inl (raw, read, is))) = subst (λ r. WritesNone r) (sym is) (answer_writes question file raw)
@@ -79,6 +80,20 @@ leaves : (T : Type 0) (result : Result T Stop) (old new : Option Files) → new 
 leaves T (Ok x) old new e = e
 leaves T (Err stop) old new e = leaves_at (cause_of stop) old new e
 
+-- files that are as before are left so, whatever is written
+pub leaves_unchanged : (cause : Cause) (writes : Option (List ℕ × List ℕ)) (old new : Option Files) → new ≡ old → LeavesAt cause writes old new
+leaves_unchanged (Refusal outcome) writes old new e = e
+leaves_unchanged (Unread name) writes old new e = e
+leaves_unchanged (Unwritten name) writes old new e = front_none writes old new e
+leaves_unchanged Unput writes old new e = e
+leaves_unchanged OutOfMemory writes old new e = front_none writes old new e
+
+-- the outcome of a question writes nothing that could be bad
+pub nothing_to_judge : (P : Outcome → Type 0) → ((due : Outcome) → due.writes ≡ None → P due) → (question : Question) (file : List ℕ) (files : Option Files)
+    → OnTask (Ask question file) files P
+nothing_to_judge P none question file None = record { holds = tt }
+nothing_to_judge P none question file (Some all) = record { holds = λ due is. none due (writes_none question file all due is) }
+
 -- so the files are as before
 pub leaves_all : {T : Type 0} (question : Question) (file : List ℕ) (files : Option Files) (result : Result T Stop) (old new : Option Files) → new ≡ old
     → OnTask (Ask question file) files (λ due. Leaves result due.writes old new)
@@ -88,6 +103,10 @@ leaves_all question file (Some all) result old new e =
 
 -- ---- its file is the one that is read
 
+on_told : {P : Files → Type 0} (files : Option Files) → ((all : Files) → P all) → IfSome files P
+on_told None h = tt
+on_told (Some all) h = h all
+
 pub is_unread : (words : List (List ℕ)) (question : Question) (file : List ℕ) (files : Option Files) (before after : ℕ) (name : List ℕ)
     → Words (Ask question file) words → name ≡ file → after ≡ before → IsUnread words files before after name
 is_unread words question file files before after name asked e same = record {
@@ -95,9 +114,20 @@ is_unread words question file files before after name asked e same = record {
   asked = asked;
   named = (0, omega arith, sym e);
   next = λ below. let none : after - before ≡ 0 = omega (arith, same) in rw none (ap Some (sym e));
-  comes = comes files;
+  comes = on_told files (λ all. e);
 }
-  where
-    comes : (files : Option Files) → IfSome files (λ all. ComesToRead (Ask question file) all name)
-    comes None = tt
-    comes (Some all) = e
+
+-- so it is where a file is rebuilt, and the other file is the one that is written
+pub is_input : (words : List (List ℕ)) (input output : List ℕ) (options : Options) (files : Option Files) (before after : ℕ) (name : List ℕ)
+    → Words (Rebuild input output options) words → name ≡ input → after ≡ before → IsUnread words files before after name
+is_input words input output options files before after name asked e same = record {
+  task = Rebuild input output options;
+  asked = asked;
+  named = (0, omega arith, sym e);
+  next = λ below. let none : after - before ≡ 0 = omega (arith, same) in rw none (ap Some (sym e));
+  comes = on_told files (λ all. e);
+}
+
+pub is_output : (words : List (List ℕ)) (input output : List ℕ) (options : Options) (name : List ℕ)
+    → Words (Rebuild input output options) words → name ≡ output → IsUnwritten words name
+is_output words input output options name asked e = record { task = Rebuild input output options; asked = asked; named = ap Some (sym e) }

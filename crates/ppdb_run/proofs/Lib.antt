@@ -1,4 +1,5 @@
 pub mod Causes
+pub mod Choices
 pub mod Cuts
 pub mod Endings
 pub mod Fronts
@@ -6,6 +7,8 @@ pub mod Kept
 pub mod Numbers
 pub mod OneTask
 pub mod Outcomes
+pub mod Rebuilds
 pub mod BreakTexts
 pub mod Total
+pub mod Unknowns
 pub mod WordList

@@ -1,12 +1,12 @@
 -- The words of two tasks differ: a task is read back from its words.
-use Rattle.std.proofs.Common.{ℕ, ◌≡◌, ◌≤◌, ◌<◌, ◌^◌, ◌==◌, List, [], ◌∷◌, true, false, if◌then◌else◌, Option, Some, None, ap, arith}
+use Rattle.std.proofs.Common.{ℕ, ◌≡◌, ◌≤◌, ◌<◌, ◌^◌, ◌==◌, List, [], ◌∷◌, true, false, if◌then◌else◌, Option, Some, None, refl, sym, ◌∙◌, ap, subst, arith}
 use Rattle.std.specs.Fmt.{decimal}
 use Rattle.std.specs.Str.Parse.{AllDigits, digits_value}
 use Rattle.std.proofs.lemmas.Str.Parse.{IsNumeralModel, numerals_by_value, tells_digits}
 use Rattle.std.proofs.lemmas.Fmt.{digits_value-decimal}
 use Rattle.ppdb_base.specs.declared.limits.TheConstants.{MAX_ROWS, MAX_OFFSET}
 use Rattle.ppdb_run.specs.declared.words.TheConstants.{MAX_LINE}
-use Rattle.ppdb_run.specs.Words.{Id, Verify, Show, Query, Links, Breaks, Task, Ask, Words}
+use Rattle.ppdb_run.specs.Words.{Question, Id, Verify, Show, Query, Links, Breaks, Options, AreOptions, no_option, keep_id, free, Task, Ask, Rebuild, Words}
 
 numerals : IsNumeralModel (AllDigits 10) (digits_value 10)
 numerals = numerals_by_value (AllDigits 10) tells_digits
@@ -21,31 +21,58 @@ task_of letter file (one ∷ two ∷ rest) =
     if letter == 98 then Some (Ask (Breaks one (digits_value 10 two)) file) else Some (Ask (Query (digits_value 10 one) (digits_value 10 two)) file)
 
 task_in : List (List ℕ) → Option Task
-task_in ((letter ∷ letters) ∷ file ∷ rest) = task_of letter file rest
+task_in ((letter ∷ letters) ∷ file ∷ rest) = if letter == 114 then None else task_of letter file rest
 task_in words = None
 
 value : (n most : ℕ) → most < 2 ^ 32 → n ≤ most → digits_value 10 (decimal n) ≡ n
 value n most below a = digits_value-decimal numerals n (omega arith)
 
-read_back : (words : List (List ℕ)) (task : Task) → Words task words → task_in words ≡ Some task
+read_back : (words : List (List ℕ)) (question : Question) (f : List ℕ) → Words (Ask question f) words → task_in words ≡ Some (Ask question f)
 unfolding task_in task_of
-read_back words (Ask Id f) h = ap task_in h.0
-read_back words (Ask Verify f) h = ap task_in h.0
-read_back words (Ask (Show false) f) h = ap task_in h.0
-read_back words (Ask (Show true) f) h = ap task_in h.0
-read_back words (Ask (Query m x) f) h =
+read_back words Id f h = ap task_in h.0
+read_back words Verify f h = ap task_in h.0
+read_back words (Show false) f h = ap task_in h.0
+read_back words (Show true) f h = ap task_in h.0
+read_back words (Query m x) f h =
     let method = value m MAX_ROWS (omega arith) h.2 in
     let offset = value x MAX_OFFSET (omega arith) h.3 in
     let same : task_in words ≡ Some (Ask (Query (digits_value 10 (decimal m)) (digits_value 10 (decimal x))) f) = ap task_in h.0 in
     cc
-read_back words (Ask Links f) h = ap task_in h.0
-read_back words (Ask (Breaks document n) f) h =
+
+read_back words Links f h = ap task_in h.0
+read_back words (Breaks document n) f h =
     let line = value n MAX_LINE (omega arith) h.3 in
     let same : task_in words ≡ Some (Ask (Breaks document (digits_value 10 (decimal n))) f) = ap task_in h.0 in
     cc
 
+-- the words of a rebuild begin with a letter of their own
+rebuilds : (words : List (List ℕ)) (input output : List ℕ) (options : Options) → Words (Rebuild input output options) words → task_in words ≡ None
+unfolding task_in task_of
+rebuilds words input output options h = ap task_in h.1
+
+-- words have one list of options at most
+pub one_choice : (words : List (List ℕ)) (one other : Options) → AreOptions words one → AreOptions words other → one ≡ other
+one_choice _ _ _ no_option no_option = refl
+one_choice _ _ _ (keep_id h) (keep_id k) = ap (λ (o : Options). record { keep_id = true; marks = o.marks }) (one_choice _ _ _ h k)
+one_choice _ _ _ (free word guid e h) (free again other e' k) =
+    let same : guid ≡ other = let both : Some guid ≡ Some other = sym e ∙ e' in cc in
+    let rest = one_choice _ _ _ h k in
+    cc
+
 pub one_task : (words : List (List ℕ)) (one other : Task) → Words one words → Words other words → one ≡ other
-one_task words one other h k =
-    let a = read_back words one h in
-    let b = read_back words other k in
+one_task words (Ask q f) (Ask r g) h k =
+    let a = read_back words q f h in
+    let b = read_back words r g k in
+    cc
+one_task words (Ask q f) (Rebuild i o options) h k =
+    let a = read_back words q f h in
+    let b = rebuilds words i o options k in
+    absurd cc
+one_task words (Rebuild i o options) (Ask q f) h k =
+    let a = rebuilds words i o options h in
+    let b = read_back words q f k in
+    absurd cc
+one_task words (Rebuild i o options) (Rebuild i' o' options') h k =
+    let same : (i ≡ i') × (o ≡ o') × (h.0 ≡ k.0) = let whole = sym h.1 ∙ k.1 in (cc, cc, cc) in
+    let choice : options ≡ options' = one_choice k.0 options options' (subst (λ w. AreOptions w options) same.2 h.4) k.4 in
     cc

@@ -9,10 +9,11 @@ use Rattle.ppdb_base.specs.declared.limits.TheConstants.{MAX_FILE_BYTES}
 use Rattle.ppdb_base.proofs.Judging.{one_first, first_not_accepted}
 use Rattle.ppdb_run.specs.declared.stop.Stop.{Stop}
 use Rattle.ppdb_run.specs.Ends.{Asks, AreSeen, OnDue, OnOutcome, OnTask, OnRead, IsWithinBound, IsWithinRows}
-use Rattle.ppdb_run.specs.Outcome.{Outcome, Step, ◌>>=◌, gives, judged, refused, file_at, input_of, verified, answer_of, outcome_of, steps_of, IsOutcome}
+use Rattle.ppdb_run.specs.Outcome.{Outcome, Step, ◌>>=◌, gives, judged, refused, file_at, input_of, verified, answer_of, rebuilt, outcome_of, steps_of, IsOutcome}
 use Rattle.ppdb_run.specs.Stops.{cause_of, Gives, Settles, Finds, refusal_of}
-use Rattle.ppdb_run.specs.Words.{Question, Id, Verify, Show, Query, Links, Breaks, Task, Ask, Words}
+use Rattle.ppdb_run.specs.Words.{Question, Id, Verify, Show, Query, Links, Breaks, Task, Ask, Rebuild, Words}
 use Rattle.ppdb_values.specs.RawFile.{RawFile}
+use Rattle.ppdb_values.specs.Value.{value_of}
 use Rattle.ppdb_verify.specs.Files.{BadFile, IsRawOf, raw_in}
 use Rattle.ppdb_verify.proofs.Streamed.{same_streams}
 use Rattle.ppdb_run.proofs.OneTask.{one_task}
@@ -105,10 +106,15 @@ read_accepted (Some all) file bytes raw h accepted is = inl (bytes, h, (accepted
 
 -- ---- a task answers of its file where that is verified
 
+one_over : (answer : RawFile → Result Outcome Outcome) (file : List ℕ) (files : Files) (r t : Result Outcome Outcome)
+    → (verified files file >>= (λ raw. gives (answer raw))) r → (verified files file >>= (λ raw. gives (answer raw))) t → r ≡ t
+one_over answer file files =
+    one_next (λ x y. x ≡ y) (verified files file) (λ raw. gives (answer raw)) (one_verified files file)
+    (λ x y same r t e f. e ∙ (ap answer same ∙ sym f))
+
 one_end : (task : Task) (files : Files) (r t : Result Outcome Outcome) → steps_of task files r → steps_of task files t → r ≡ t
-one_end (Ask question file) files =
-    one_next (λ x y. x ≡ y) (verified files file) (λ raw. gives (answer_of question file raw)) (one_verified files file)
-    (λ x y same r t e f. e ∙ (ap (answer_of question file) same ∙ sym f))
+one_end (Ask question file) files = one_over (answer_of question file) file files
+one_end (Rebuild input output options) files = one_over (λ raw. rebuilt input output options (value_of raw)) input files
 
 -- where the file is not verified, there is no answer
 pub no_answer : {V : Type 0} (view : V → RawFile) (question : Question) (file : List ℕ) (files : Option Files) (stop : Stop)
@@ -139,6 +145,7 @@ pub of_told : (P : Option Task → Files → Type 0) (words : List (List ℕ)) (
     → (asked : Option Task) → Asks words asked → (all : Files) → AreSeen asked files all → P asked all
 of_told P words task files k h None none all seen = absurd (none task h)
 of_told P words task None k h (Some (Ask question file)) asks all seen = absurd seen
+of_told P words task None k h (Some (Rebuild input output options)) asks all seen = absurd seen
 of_told P words task (Some told) k h (Some other) asks all seen =
     subst (λ (t : Task). P (Some t) all) (one_task words task other h asks) (subst (λ (fs : Files). P (Some task) fs) seen k)
 

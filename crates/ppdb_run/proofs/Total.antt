@@ -1,5 +1,5 @@
 -- What is asked for has an outcome.
-use Rattle.std.proofs.Common.{ℕ, ◌≡◌, ◌+◌, ◌≤◌, inl, inr, List, length, take, drop, Option, Some, None, refl, sym, ap}
+use Rattle.std.proofs.Common.{ℕ, ◌≡◌, ◌+◌, ◌≤◌, inl, inr, List, length, take, drop, Option, Some, None, Result, Ok, Err, refl, sym, ap}
 use Rattle.std.specs.Prelude.{MatchOption}
 use Rattle.std.proofs.lemmas.Bool.{cases_lt}
 use Rattle.ppdb_base.specs.declared.code.Code.TheVariants.{StreamBounds}
@@ -14,9 +14,10 @@ use Rattle.metadata_root.specs.Root.{header_place}
 use Rattle.metadata_root.specs.Streams.{AreStreamsOf, BadContainer, IsListed, IsStream, Stream, Streams, offset_in, size_in}
 use Rattle.metadata_root.specs.Streams.BadStreams.{bounds}
 use Rattle.ppdb_verify.specs.Files.{BadFile, raw_in}
-use Rattle.ppdb_run.specs.Outcome.{Outcome, IsOutcome, HasDue, absent, too_long, refused, usage, input_of, answer_of, outcome_of}
-use Rattle.ppdb_run.specs.Words.{Question, Task, Ask}
-use Rattle.ppdb_run.proofs.Outcomes.{is_answer}
+use Rattle.ppdb_values.specs.RawFile.{RawFile}
+use Rattle.ppdb_values.specs.Value.{value_of}
+use Rattle.ppdb_run.specs.Outcome.{Outcome, ◌>>=◌, IsOutcome, HasDue, absent, too_long, refused, usage, gives, input_of, answer_of, rebuilt, outcome_of, steps_of, verified}
+use Rattle.ppdb_run.specs.Words.{Task, Ask, Rebuild}
 
 -- what a stream of a kind is: that it is not listed, or the slice that is
 abbrev Found : List ℕ → StreamKind → Option Stream → Type 0
@@ -51,19 +52,35 @@ module _ (file : List ℕ) (accepted : IsAccepted (BadContainer file)) where
       found Pdb (λ pdb a. found Tables (λ tables b. found Strings (λ strings c. found UserStrings (λ user_strings d. found Guids (λ guids e. found Blobs (λ blobs f.
       none _ (are pdb tables strings user_strings guids blobs a b c d e f)))))))
 
--- the answer, or what the file is refused for
-module _ (question : Question) (file : List ℕ) (files : Files) (none : (due : Outcome) → IsOutcome (Some (Ask question file)) files due → ⊥) where
+-- what a file is read as, or what it is refused for
+module _ (file : List ℕ) (files : Files) (given : (raw : RawFile) → verified files file (Ok raw) → ⊥) (refuses : (refusal : Outcome) → verified files file (Err refusal) → ⊥) where
   by_reading : (r : Reading) → reading files file MAX_FILE_BYTES ≡ r → ⊥
-  by_reading Missing is = none (absent file) (inr (inr (absent file, inr (absent file, sym (ap (input_of file) is), refl), refl)))
-  by_reading Longer is = none (too_long file) (inr (inr (too_long file, inr (too_long file, sym (ap (input_of file) is), refl), refl)))
+  by_reading Missing is = refuses (absent file) (inr (absent file, sym (ap (input_of file) is), refl))
+  by_reading Longer is = refuses (too_long file) (inr (too_long file, sym (ap (input_of file) is), refl))
   by_reading (Contents bytes) is =
       let read = sym (ap (input_of file) is) in
       let accepted : IsAccepted (BadFile bytes) = accepted_without_first (BadFile bytes) (λ fault first.
-      none (refused file fault) (inr (inr (refused file fault, inl (bytes, read, (fault, first, refl)), refl)))) in
+      refuses (refused file fault) (inl (bytes, read, (fault, first, refl)))) in
       some_streams bytes (λ code at bad. accepted code at (inl bad)) (λ streams are.
-      none (outcome_of (answer_of question file (raw_in streams)))
-      (is_answer question file files (raw_in streams) (inl (bytes, read, (accepted, record { streams = streams; are = are; raw_is = refl })))))
+      given (raw_in streams) (inl (bytes, read, (accepted, record { streams = streams; are = are; raw_is = refl }))))
+
+-- so a task over one file has an outcome
+over_file : (answer : RawFile → Result Outcome Outcome) (file : List ℕ) (files : Files) (Due : Outcome → Type 0)
+    → ((r : Result Outcome Outcome) → (verified files file >>= (λ raw. gives (answer raw))) r → Due (outcome_of r)) → ((due : Outcome) → Due due → ⊥) → ⊥
+over_file answer file files Due is none =
+    by_reading file files
+    (λ raw h. none (outcome_of (answer raw)) (is (answer raw) (inl (raw, h, refl))))
+    (λ refusal h. none refusal (is (Err refusal) (inr (refusal, h, refl))))
+    (reading files file MAX_FILE_BYTES) refl
+
+ends : (task : Task) (files : Files) (r : Result Outcome Outcome) → steps_of task files r → IsOutcome (Some task) files (outcome_of r)
+ends task files (Ok answer) h = inl h
+ends task files (Err refusal) h = inr h
 
 pub has_due : (asked : Option Task) (files : Files) → HasDue asked files
 has_due None files none = none usage refl
-has_due (Some (Ask question file)) files none = by_reading question file files none (reading files file MAX_FILE_BYTES) refl
+has_due (Some (Ask question file)) files none =
+    over_file (answer_of question file) file files (IsOutcome (Some (Ask question file)) files) (ends (Ask question file) files) none
+has_due (Some (Rebuild input output options)) files none =
+    over_file (λ raw. rebuilt input output options (value_of raw)) input files (IsOutcome (Some (Rebuild input output options)) files)
+    (ends (Rebuild input output options) files) none

@@ -1,21 +1,24 @@
 -- How a run ends: what its status, its text and the files afterwards have to do with the outcome of its words.
 use Rattle.std.specs.Prelude.{ℕ, ◌≡◌, ◌<◌, ◌≤◌, ◌+◌, ◌-◌, ◌*◌, ◌⊎◌, List, length, Option, Some, None, Ok, IfSome, slice_get, Contains}
 use Rattle.ppdb_base.specs.Causes.{Rose}
-use Rattle.ppdb_base.specs.Files.{Files}
+use Rattle.ppdb_base.specs.declared.limits.TheConstants.{MAX_FILE_BYTES}
+use Rattle.ppdb_base.specs.Files.{Files, Contents, reading}
+use Rattle.ppdb_base.specs.First.{IsAccepted}
 use Rattle.ppdb_base.specs.Written.{appended, AppendsFront}
 use Rattle.ppdb_run.specs.declared.status.Status.{Status}
 use Rattle.ppdb_run.specs.declared.status.Status.TheVariants.{Done, WriteFault, Memory}
 use Rattle.ppdb_run.specs.Lines.{read_fault_line, write_fault_line}
-use Rattle.ppdb_run.specs.Outcome.{Outcome, IsOutcome, verified}
+use Rattle.ppdb_run.specs.Outcome.{Outcome, IsOutcome, verified, written}
 use Rattle.ppdb_run.specs.Status.{UnlessFault}
-use Rattle.ppdb_run.specs.Words.{Question, Id, Verify, Query, Links, Breaks, Task, Ask, Words, NoTask, read_files, written_file}
+use Rattle.ppdb_run.specs.Words.{Question, Id, Verify, Query, Links, Breaks, Options, Task, Ask, Rebuild, Words, NoTask, read_files, written_file}
 use Rattle.ppdb_run.specs.Writes.{WritesAll, WritesFront}
+use Rattle.ppdb_show.specs.Bound.{query_rows}
 use Rattle.ppdb_queries.specs.Digits.{digits}
 use Rattle.ppdb_queries.specs.Runs.{customs_at}
-use Rattle.ppdb_show.specs.Bound.{query_rows}
 use Rattle.ppdb_tables.specs.RawTables.{count}
 use Rattle.source_link.specs.FileLinks.{module_row}
 use Rattle.ppdb_values.specs.RawFile.{RawFile}
+use Rattle.ppdb_verify.specs.Files.{BadFile}
 
 -- what the words ask for: a task, or nothing where no task has them
 abbrev pub Asks : List (List ℕ) → Option Task → Type 0
@@ -26,6 +29,7 @@ Asks words None = NoTask words
 abbrev pub IsApart : Option Task → Type 0
 IsApart None = Unit {0}
 IsApart (Some (Ask question file)) = ⊥
+IsApart (Some (Rebuild input output options)) = ⊥
 
 -- the files that an outcome is over: those that the folder tells; where it tells none, any, if the task has to do with no file
 abbrev pub AreSeen : Option Task → Option Files → Files → Type 0
@@ -44,6 +48,10 @@ pub record OnTask (task : Task) (files : Option Files) (P : Outcome → Type 0) 
 abbrev pub OnOutcome : List (List ℕ) → Option Files → (Outcome → Type 0) → Type 0
 OnOutcome words files P = (asked : Option Task) → Asks words asked → (all : Files) → AreSeen asked files all → OnDue asked all P
 
+-- so does P of what is asked for and of its outcome
+abbrev pub OnAsked : List (List ℕ) → Option Files → (Option Task → Outcome → Type 0) → Type 0
+OnAsked words files P = (asked : Option Task) → Asks words asked → (all : Files) → AreSeen asked files all → OnDue asked all (P asked)
+
 -- the words have an outcome over the files that they see, unless something outside failed first
 abbrev pub HasOutcome : List (List ℕ) → Option Files → Status → Type 0
 HasOutcome words files status = (asked : Option Task) → Asks words asked → (all : Files) → AreSeen asked files all → UnlessFault status ((due : Outcome) × IsOutcome asked all due)
@@ -51,6 +59,7 @@ HasOutcome words files status = (asked : Option Task) → Asks words asked → (
 -- the task comes to read the file: nothing that comes before is refused
 abbrev pub ComesToRead : Task → Files → List ℕ → Type 0
 ComesToRead (Ask question file) files name = name ≡ file
+ComesToRead (Rebuild input output options) files name = name ≡ input
 
 -- this file of the task was to be read, after so many reads that gave a file
 pub record IsUnread (words : List (List ℕ)) (files : Option Files) (before after : ℕ) (name : List ℕ) : Type 0 where
@@ -118,6 +127,22 @@ pub record PutsFront (words : List (List ℕ)) (files : Option Files) (due : Out
 abbrev pub HadFault : ℕ → ℕ → ℕ → ℕ → ℕ → ℕ → Type 0
 HadFault reads reads_after writes writes_after puts puts_after = Rose reads reads_after ⊎ Rose writes writes_after ⊎ Rose puts puts_after
 
+-- ---- a file that is written
+
+-- no rule is broken in what is written
+abbrev pub WritesValid : Outcome → Type 0
+WritesValid due = IfSome due.writes (λ file. IsAccepted (BadFile file.1))
+
+-- where a file holds these bytes, it is rebuilt to them
+abbrev pub RebuildsToItself : Options → List ℕ → Type 0
+RebuildsToItself options bytes =
+    (files : Files) (name other : List ℕ) → reading files name MAX_FILE_BYTES ≡ Contents bytes → IsOutcome (Some (Rebuild name other options)) files (written other bytes)
+
+-- the same task over what was written writes the same bytes again
+abbrev pub WritesAgain : Option Task → Outcome → Type 0
+WritesAgain (Some (Rebuild input output options)) due = IfSome due.writes (λ file. RebuildsToItself options file.1)
+WritesAgain asked due = Unit {0}
+
 -- ---- the rows that are read beside those that the verifier reads
 
 -- the verifier reads all that the answer needs
@@ -129,8 +154,9 @@ ReadsNoRows question = ⊥
 -- it reads all that the task needs
 abbrev pub NeedsNoRows : Task → Type 0
 NeedsNoRows (Ask question file) = ReadsNoRows question
+NeedsNoRows (Rebuild input output options) = ⊥
 
--- so many rows were counted before the answer and after it: that to a query, of links or of breaks reads no more than its bound
+-- so many rows were counted before the answer and after it: to a query, of links and of breaks no more than its bound
 abbrev pub IsWithinBound : Question → RawFile → ℕ → ℕ → Type 0
 IsWithinBound (Query method offset) raw before after = after ≤ before + query_rows raw.tables method offset
 IsWithinBound Links raw before after =
@@ -141,6 +167,7 @@ IsWithinBound question raw before after = Unit {0}
 -- P holds of the question and of what its file is read as, where the folder tells it and it is valid
 abbrev pub OnRead : Task → Option Files → (Question → RawFile → Type 0) → Type 0
 OnRead (Ask question file) files P = IfSome files (λ all. (raw : RawFile) → verified all file (Ok raw) → P question raw)
+OnRead (Rebuild input output options) files P = Unit {0}
 
 -- so many rows were counted before the task and after it: it reads none that it has no need of, and no more than its bound
 pub record IsWithinRows (task : Task) (files : Option Files) (before after : ℕ) : Type 0 where

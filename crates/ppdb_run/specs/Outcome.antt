@@ -1,5 +1,8 @@
 -- What a command comes to over the files: a status, a text, and at most one file that is written.
-use Rattle.std.specs.Prelude.{ℕ, ◌≡◌, ◌⊎◌, List, [], ◌∷◌, true, false, ◌&&◌, if◌then◌else◌, nat_le, Option, Some, None, Result, Ok, Err, codes}
+use Rattle.std.specs.Prelude.{ℕ, ◌≡◌, ◌⊎◌, List, [], ◌∷◌, Bool, true, false, ◌&&◌, if◌then◌else◌, nat_le, find, Option, Some, None, option_map, Result, Ok, Err, codes}
+use Rattle.custom_info.specs.declared.kinds.Kind.{Kind}
+use Rattle.custom_info.specs.declared.kinds.Kind.TheVariants.{Unknown}
+use Rattle.custom_info.specs.Kinds.{kind_of}
 use Rattle.ppdb_base.specs.declared.code.Code.{Code}
 use Rattle.ppdb_base.specs.declared.fault.Place.{Place}
 use Rattle.ppdb_base.specs.declared.fault.Fault.{Fault}
@@ -7,6 +10,7 @@ use Rattle.ppdb_base.specs.Files.{Files, Reading, Missing, Longer, Contents, rea
 use Rattle.ppdb_base.specs.declared.limits.Limit.{Limit}
 use Rattle.ppdb_base.specs.declared.link_error.LinkError.{LinkError}
 use Rattle.ppdb_base.specs.declared.merge_error.MergeError.{MergeError}
+use Rattle.ppdb_base.specs.declared.merge_error.MergeError.TheVariants.{KindUnknown}
 use Rattle.ppdb_base.specs.declared.limits.TheConstants.{MAX_FILE_BYTES}
 use Rattle.ppdb_base.specs.First.{IsAccepted, IsFirst}
 use Rattle.ppdb_run.specs.declared.status.Status.{Status}
@@ -18,17 +22,21 @@ use Rattle.ppdb_lines.specs.Lines.{Line, text_of}
 use Rattle.ppdb_lines.specs.Pieces.{line}
 use Rattle.ppdb_run.specs.Lines.{about, usage_line, refused_line, map_line, unfit_line, limit_text, map_limit_text}
 use Rattle.ppdb_run.specs.Lines.{no_method_line, links_line, sizes_line}
-use Rattle.ppdb_run.specs.Words.{Question, Id, Verify, Show, Query, Links, Breaks, Task, Ask}
+use Rattle.ppdb_run.specs.Words.{Question, Id, Verify, Show, Query, Links, Breaks, Options, Task, Ask, Rebuild}
 use Rattle.ppdb_show.specs.Query.{query_text_of}
 use Rattle.source_link.specs.declared.pair.Pair.{Pair}
 use Rattle.source_lines.specs.Links.{file_links, link_text}
 use Rattle.source_lines.specs.Breaks.{break_text}
 use Rattle.break_lines.specs.Breaks.{document_named}
 use Rattle.ppdb_show.specs.Show.{show_text_of, show_json_of}
-use Rattle.ppdb_tables.specs.RawTables.{count}
+use Rattle.ppdb_canon.specs.declared.choice.IdChoice.{IdChoice}
+use Rattle.ppdb_canon.specs.declared.choice.IdChoice.TheVariants.{Hash, Keep}
+use Rattle.ppdb_canon.specs.Canon.{canon}
+use Rattle.ppdb_canon.specs.Limits.{first_limit}
+use Rattle.ppdb_tables.specs.RawTables.{count, numbered}
 use Rattle.ppdb_values.specs.declared.file.FileValue.{FileValue}
-use Rattle.ppdb_values.specs.RawFile.{RawFile}
 use Rattle.ppdb_values.specs.Value.{value_of}
+use Rattle.ppdb_values.specs.RawFile.{RawFile}
 use Rattle.ppdb_verify.specs.Files.{BadFile, IsRawOf}
 
 pub record Outcome : Type 0 where
@@ -149,6 +157,37 @@ answer_of (Query method offset) file raw =
 answer_of Links file raw = links_answer file (value_of raw) (file_links (value_of raw))
 answer_of (Breaks document line) file raw = breaks_answer document line (value_of raw) (document_named (value_of raw) document)
 
+-- ---- a file that is written anew
+
+-- a file is written, and nothing is put
+abbrev pub written : List ℕ → List ℕ → Outcome
+written name bytes = record { status = statuses.Done; text = []; writes = Some (name, bytes) }
+
+-- a result, unless there is a refusal before it
+abbrev pub unless : Option Outcome → Result Outcome Outcome → Result Outcome Outcome
+unless (Some refusal) result = Err refusal
+unless None result = result
+
+-- neither read nor passed on
+abbrev pub is_unknown : Kind → Bool
+is_unknown Unknown = true
+is_unknown kind = false
+
+-- the first custom record whose kind is neither read nor passed on
+abbrev pub unknown_kind : List (List ℕ) → FileValue → Option MergeError
+unknown_kind marks value = option_map (λ custom. KindUnknown custom.0 custom.1.kind) (find (λ custom. is_unknown (kind_of marks custom.1.kind)) (numbered value.customs))
+
+-- the identity of what is written
+abbrev pub choice_of : Bool → IdChoice
+choice_of true = Keep
+choice_of false = Hash
+
+-- the canonical file of what a file says, where it can be written
+abbrev pub rebuilt : List ℕ → List ℕ → Options → FileValue → Result Outcome Outcome
+rebuilt input output options value =
+    unless (option_map (unfit input) (unknown_kind options.marks value))
+    (unless (option_map limited (first_limit value)) (Ok (written output (canon value (choice_of options.keep_id)))))
+
 -- what a command ends with
 abbrev pub outcome_of : Result Outcome Outcome → Outcome
 outcome_of (Ok answer) = answer
@@ -159,6 +198,9 @@ abbrev pub steps_of : Task → Files → Step Outcome
 steps_of (Ask question file) files = do
   raw ← verified files file
   gives (answer_of question file raw)
+steps_of (Rebuild input output options) files = do
+  raw ← verified files input
+  gives (rebuilt input output options (value_of raw))
 
 -- the outcome of a task, or of words that are no task's
 abbrev pub IsOutcome : Option Task → Files → Outcome → Type 0

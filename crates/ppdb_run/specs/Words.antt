@@ -1,8 +1,10 @@
 -- The command line: which words ask for what.
-use Rattle.std.specs.Prelude.{ℕ, ◌≡◌, ◌≤◌, List, [], ◌∷◌, map, Bool, true, false, not, ◌&&◌, ◌==◌, Option, None, codes, IsTrue, String}
+use Rattle.std.specs.Prelude.{ℕ, ◌≡◌, ◌≤◌, List, [], ◌∷◌, map, Bool, true, false, not, ◌&&◌, ◌==◌, Option, Some, None, codes, IsTrue, String}
 use Rattle.std.specs.Fmt.{decimal}
 use Rattle.std.specs.String.{string_bytes}
 use Rattle.std.specs.declared.alloc.Global.{Global}
+use Rattle.uuid.specs.Text.{parsed}
+use Rattle.uuid.specs.Parts.{swap_fields}
 use Rattle.ppdb_base.specs.declared.limits.TheConstants.{MAX_ROWS, MAX_OFFSET}
 use Rattle.ppdb_run.specs.declared.words.TheConstants.{MAX_LINE}
 
@@ -30,22 +32,40 @@ pub data Question : Type 0 where
   Links : Question
   Breaks : (document : List ℕ) → (line : ℕ) → Question
 
+-- how a file is written
+pub record Options : Type 0 where
+  -- with the identity of the file that was read
+  pub keep_id : Bool
+  -- kinds of custom debug information that are passed on unread although they are on no list, as they lie in a file
+  pub marks : List (List ℕ)
+
 -- what is asked for
 pub data Task : Type 0 where
   -- a question about a file
   Ask : (question : Question) → (file : List ℕ) → Task
+  -- the canonical file of a file
+  Rebuild : (input output : List ℕ) → (options : Options) → Task
 
 -- the files that a task reads, in the order of its words and as often as they are named
 abbrev pub read_files : Task → List (List ℕ)
 read_files (Ask question file) = file ∷ []
+read_files (Rebuild input output options) = input ∷ []
 
 -- the file that a task writes, if any
 abbrev pub written_file : Task → Option (List ℕ)
 written_file (Ask question file) = None
+written_file (Rebuild input output options) = Some output
 
 -- the words are one that names a file
 abbrev pub IsFileAlone : List ℕ → List (List ℕ) → Type 0
 IsFileAlone file words = (words ≡ file ∷ []) × IsTrue (is_file_word file)
+
+-- the words of options: any list of --keep-id and of --free with a GUID behind it
+pub data AreOptions : List (List ℕ) → Options → Type 0 where
+  no_option : AreOptions [] (record { keep_id = false; marks = [] })
+  keep_id : {words : List (List ℕ)} {options : Options} → AreOptions words options → AreOptions (codes "--keep-id" ∷ words) (record { keep_id = true; marks = options.marks })
+  free : {words : List (List ℕ)} {options : Options} (word guid : List ℕ) → parsed word ≡ Some guid → AreOptions words options
+      → AreOptions (codes "--free" ∷ word ∷ words) (record { keep_id = options.keep_id; marks = swap_fields guid ∷ options.marks })
 
 -- the words of a task, one case for each form
 abbrev pub Words : Task → List (List ℕ) → Type 0
@@ -58,6 +78,8 @@ Words (Ask (Query method offset) file) words =
 Words (Ask Links file) words = (words ≡ codes "links" ∷ file ∷ []) × IsTrue (is_file_word file)
 Words (Ask (Breaks document line) file) words =
     (words ≡ codes "breaks" ∷ file ∷ document ∷ decimal line ∷ []) × IsTrue (is_file_word file) × IsTrue (is_name_word document) × (line ≤ MAX_LINE)
+Words (Rebuild input output options) words =
+    (rest : List (List ℕ)) × (words ≡ codes "rebuild" ∷ input ∷ output ∷ rest) × IsTrue (is_file_word input) × IsTrue (is_file_word output) × AreOptions rest options
 
 -- no task has these words
 abbrev pub NoTask : List (List ℕ) → Type 0

@@ -4,14 +4,16 @@ ghost use Rattle.ppdb_base.specs.Causes.{Rose};
 ghost use Rattle.ppdb_base.specs.Written.{appended, AppendsFront};
 ghost use Rattle.ppdb_run.specs.Ends.{OnOutcome, HasOutcome, IsWithinRows, LeavesFiles, KeepsFiles, HadFault, PutsFront, IsUnread, IsUnwritten};
 ghost use Rattle.ppdb_run.specs.Ends.{TellsUnread, TellsUnwritten, UnlessWritten};
+ghost use Rattle.ppdb_run.specs.Ends.{OnAsked, WritesValid, WritesAgain};
 ghost use Rattle.ppdb_run.specs.Status.{UnlessFault};
 ghost use Rattle.ppdb_run.specs.Stops.{cause_of, Tells, Settles, FindsOutcome, ComesFrom, Leaves, OnKept, OnCut, OnUntold};
 ghost use Rattle.ppdb_run.specs.Words.{Task, Words, NoTask, texts};
 
 use crate::answer::answer;
+use crate::rebuild::rebuild;
 use crate::status::Status;
 use crate::stop::Stop;
-use crate::words::{Usage, read_words};
+use crate::words::{Asked, Usage, read_words};
 use ppdb_base::{Folder, Sink, Steps, WriteError};
 use std::alloc::Global;
 use std::sync::ledger::Ledger;
@@ -43,6 +45,10 @@ pub fn run<F: Folder, O: Sink, K: Ledger, L: Ledger>(
 
     // Whatever comes, what was put is a front of a text that was due.
     ensures front { OnOutcome (texts words.now) (F.files folder.old) (λ due. PutsFront (texts words.now) (F.files folder.old) due (F.reads folder.old) (F.reads folder.new) (Rose (F.read_faults folder.old) (F.read_faults folder.new)) (Rose (F.write_faults folder.old) (F.write_faults folder.new)) (O.written out.old) (O.written out.new)) }
+
+    // What a command writes is valid, and the same command over it writes it again.
+    ensures accepted { result ≡ Status.Done → OnOutcome (texts words.now) (F.files folder.old) WritesValid }
+    ensures again { result ≡ Status.Done → OnAsked (texts words.now) (F.files folder.old) WritesAgain }
 
     // Whether or not the words have an outcome.
     ensures kept { UnlessWritten result (F.files folder.new ≡ F.files folder.old) }
@@ -86,6 +92,8 @@ fn carry_out<'a, F: Folder, O: Sink, K: Ledger, L: Ledger>(
     ensures told { OnOutcome (texts words.now) (F.files folder.old) (Settles result) }
     ensures text { OnOutcome (texts words.now) (F.files folder.old) (λ due. OnOk result (O.written out.new ≡ appended (O.written out.old) due.text)) }
     ensures files { OnOutcome (texts words.now) (F.files folder.old) (λ due. Leaves result due.writes (F.files folder.old) (F.files folder.new)) }
+    ensures accepted { OnOk result (OnOutcome (texts words.now) (F.files folder.old) WritesValid) }
+    ensures again { OnOk result (OnAsked (texts words.now) (F.files folder.old) WritesAgain) }
     ensures rows { (task : Task) → Words task (texts words.now) → IsWithinRows task (F.files folder.old) steps.old steps.new }
 
     // What a stop comes from, and what it leaves.
@@ -105,10 +113,14 @@ fn carry_out<'a, F: Folder, O: Sink, K: Ledger, L: Ledger>(
     ensures later { O.faults out.old ≤ O.faults out.new }
 {
     match read_words(words) {
-        Ok(command) => {
-            let (question, file) = command.question();
-            answer(alloc, question, file, folder, out, checks, steps)
-        }
+        Ok(command) => match command.asked() {
+            Asked::Ask(question, file) => {
+                answer(alloc, question, file, folder, out, checks, steps)
+            }
+            Asked::Rebuild(input, output, options) => {
+                rebuild(alloc, input, output, options, folder, checks, steps)
+            }
+        },
         Err(Usage) => Err(Stop::Usage),
     }
 }

@@ -8,7 +8,9 @@ mod input;
 pub mod laws;
 mod limit;
 mod number;
+mod options;
 mod question;
+mod rebuild;
 mod sources;
 mod status;
 mod stop;
@@ -17,6 +19,7 @@ mod verified;
 mod words;
 
 pub use commands::run;
+pub use options::Options;
 pub use status::Status;
 pub use words::{Command, Usage, read_words};
 

@@ -1,5 +1,5 @@
 // The files that a command reads and verifies.
-ghost use Rattle.std.specs.Prelude.{◌≡◌, ℕ, IfErr, IfSome};
+ghost use Rattle.std.specs.Prelude.{◌≡◌, ◌≤◌, ℕ, IfErr, IfSome};
 ghost use Rattle.ppdb_base.specs.Causes.{Rose};
 ghost use Rattle.ppdb_run.specs.Outcome.{verified};
 ghost use Rattle.ppdb_run.specs.Stops.{cause_of, Gives, ComesFrom, no_file};
@@ -22,6 +22,8 @@ pub fn read_verified<'a, 'b, F: Folder, L: Ledger>(
 ) -> Result<Verified<'b>, Stop<'a>>
     ensures told { IfSome (F.files folder.old) (λ all. Gives raw_file result (verified all file.now)) }
     ensures files { F.files folder.new ≡ F.files folder.old }
+    ensures write_faults { F.write_faults folder.new ≡ F.write_faults folder.old }
+    ensures later { F.read_faults folder.old ≤ F.read_faults folder.new }
     ensures causes { IfErr result (λ stop. ComesFrom (cause_of stop)
         ⊥
         (λ failed. (failed ≡ file.now) × (F.reads folder.new ≡ F.reads folder.old))

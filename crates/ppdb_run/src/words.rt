@@ -1,9 +1,10 @@
 // The words of the command line.
 ghost use Rattle.std.specs.Prelude.{◌≡◌, ℕ, List, ◌∷◌, codes, IfOk, OnErr};
-ghost use Rattle.ppdb_run.specs.Words.{Ask, Words, NoTask, IsFileAlone, is_file_word, is_name_word, texts};
-ghost use Rattle.ppdb_run.specs.Task.{question_of, task_of};
+ghost use Rattle.ppdb_run.specs.Words.{Words, NoTask, IsFileAlone, is_file_word, is_name_word, texts};
+ghost use Rattle.ppdb_run.specs.Task.{asked_task, task_of};
 
 use crate::number::number;
+use crate::options::{Options, read_options};
 use crate::question::Question;
 use ppdb_base::{MAX_OFFSET, MAX_ROWS};
 
@@ -42,28 +43,48 @@ pub enum Command<'a> {
         document: &'a str,
         line: u32,
     },
+    /// The canonical file of a file, written to another.
+    Rebuild {
+        input: &'a str,
+        output: &'a str,
+        options: Options<'a>,
+    },
+}
+
+/// What a command asks for.
+#[derive(Clone, Copy)]
+pub(crate) enum Asked<'a> {
+    /// A question about a file.
+    Ask(Question<'a>, &'a str),
+    /// The canonical file of a file, the file that is written, and how.
+    Rebuild(&'a str, &'a str, Options<'a>),
 }
 
 impl<'a> Command<'a> {
-    /// What the command asks, and of which file.
-    pub(crate) fn question(self) -> (Question<'a>, &'a str)
-        ensures { Ask (question_of result.0) result.1.now ≡ task_of self.entry }
+    /// What the command asks for.
+    pub(crate) fn asked(self) -> Asked<'a>
+        ensures { asked_task result ≡ task_of self.entry }
     {
         match self {
-            Command::Id { file } => (Question::Id, file),
-            Command::Verify { file } => (Question::Verify, file),
-            Command::Show { file, json } => (Question::Show { json }, file),
+            Command::Id { file } => Asked::Ask(Question::Id, file),
+            Command::Verify { file } => Asked::Ask(Question::Verify, file),
+            Command::Show { file, json } => Asked::Ask(Question::Show { json }, file),
             Command::Query {
                 file,
                 method,
                 offset,
-            } => (Question::Query { method, offset }, file),
-            Command::Links { file } => (Question::Links, file),
+            } => Asked::Ask(Question::Query { method, offset }, file),
+            Command::Links { file } => Asked::Ask(Question::Links, file),
             Command::Breaks {
                 file,
                 document,
                 line,
-            } => (Question::Breaks { document, line }, file),
+            } => Asked::Ask(Question::Breaks { document, line }, file),
+            Command::Rebuild {
+                input,
+                output,
+                options,
+            } => Asked::Rebuild(input, output, options),
         }
     }
 }
@@ -87,6 +108,7 @@ pub fn read_words(words: &[String]) -> Result<Command<'_>, Usage>
         "query" => query(args),
         "links" => one_file(args).map(|file| Command::Links { file }),
         "breaks" => breaks(args),
+        "rebuild" => rebuild(args),
         _ => Err(Usage),
     }
 }
@@ -152,6 +174,24 @@ fn breaks(args: &[String]) -> Result<Command<'_>, Usage>
             document: document.as_str(),
             line,
         }),
+        _ => Err(Usage),
+    }
+}
+
+/// The command `rebuild` of the words after its name.
+fn rebuild(args: &[String]) -> Result<Command<'_>, Usage>
+    ensures command { IfOk result (λ command. Words (task_of command) (codes "rebuild" ∷ texts args.now)) }
+    ensures usage { OnErr result (NoTask (codes "rebuild" ∷ texts args.now)) }
+{
+    match args {
+        [input, output, words @ ..] if names_file(input) && names_file(output) => {
+            let options = read_options(words)?;
+            Ok(Command::Rebuild {
+                input: input.as_str(),
+                output: output.as_str(),
+                options,
+            })
+        }
         _ => Err(Usage),
     }
 }

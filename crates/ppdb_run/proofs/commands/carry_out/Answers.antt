@@ -1,50 +1,120 @@
-use Rattle.std.proofs.Common.{subst, sym}
+use Rattle.std.proofs.Common.{subst, sym, Some}
 use Rattle.ppdb_run.specs.Outcome.{IsOutcome}
 use Rattle.ppdb_run.specs.Stops.{Finds}
-use Rattle.ppdb_run.specs.Task.{question_of}
-use Rattle.ppdb_run.specs.Words.{Ask, Words, texts}
+use Rattle.std.specs.Prelude.{IfSome}
+use Rattle.ppdb_base.specs.First.{IsAccepted}
+use Rattle.ppdb_verify.specs.Files.{BadFile}
+use Rattle.ppdb_run.specs.Ends.{WritesAgain, WritesValid}
+use Rattle.ppdb_run.specs.Task.{options_of, question_of}
+use Rattle.ppdb_run.specs.Words.{Ask, Rebuild, Words, texts}
 use Rattle.ppdb_run.proofs.Causes.{widened_stop}
-use Rattle.ppdb_run.proofs.Kept.{is_unread, leaves_all}
+use Rattle.ppdb_run.proofs.Kept.{is_unread, is_input, is_output, leaves_all, nothing_to_judge}
 use Rattle.ppdb_run.proofs.Outcomes.{of_told, of_task, of_rows}
+use Rattle.ppdb_run.proofs.Rebuilds.{nothing_put, on_asked, on_done, on_then, writes_file}
 use Rattle.ppdb_run.proofs.commands.carry_out.Goals as goal
 
-pub returns-in-Ok-clause-found : goal.returns-in-Ok-clause-found
-returns-in-Ok-clause-found g c =
-    let words = subst (λ task. Words task (texts c.args.words.now)) (sym c.question.ensures) c.in-Ok.ensures.command in
+pub returns-in-Ask-clause-found : goal.returns-in-Ask-clause-found
+returns-in-Ask-clause-found g c =
+    let words = subst (λ task. Words task (texts c.args.words.now)) (sym c.in-Ask.ensures) c.in-Ok.ensures.command in
     of_told (λ asked all. Finds c.answer.result (IsOutcome asked all)) (texts c.args.words.now)
-    (Ask (question_of c.question.result.0) c.question.result.1.now) (g.F.Folder.files c.args.folder.now) c.answer.ensures.found words
+    (Ask (question_of c.in-Ask.question) c.in-Ask.file.now) (g.F.Folder.files c.args.folder.now) c.answer.ensures.found words
 
-pub returns-in-Ok-clause-told : goal.returns-in-Ok-clause-told
-returns-in-Ok-clause-told g c =
-    let words = subst (λ task. Words task (texts c.args.words.now)) (sym c.question.ensures) c.in-Ok.ensures.command in
+pub returns-in-Ask-clause-told : goal.returns-in-Ask-clause-told
+returns-in-Ask-clause-told g c =
+    let words = subst (λ task. Words task (texts c.args.words.now)) (sym c.in-Ask.ensures) c.in-Ok.ensures.command in
     of_task _ _ _ c.answer.ensures.told words
 
-pub returns-in-Ok-clause-text : goal.returns-in-Ok-clause-text
-returns-in-Ok-clause-text g c =
-    let words = subst (λ task. Words task (texts c.args.words.now)) (sym c.question.ensures) c.in-Ok.ensures.command in
+pub returns-in-Ask-clause-text : goal.returns-in-Ask-clause-text
+returns-in-Ask-clause-text g c =
+    let words = subst (λ task. Words task (texts c.args.words.now)) (sym c.in-Ask.ensures) c.in-Ok.ensures.command in
     of_task _ _ _ c.answer.ensures.text words
 
-pub returns-in-Ok-clause-files : goal.returns-in-Ok-clause-files
-returns-in-Ok-clause-files g c =
-    let words = subst (λ task. Words task (texts c.args.words.now)) (sym c.question.ensures) c.in-Ok.ensures.command in
-    let left = leaves_all (question_of c.question.result.0) c.question.result.1.now (g.F.Folder.files c.args.folder.now) c.answer.result _ _
+pub returns-in-Ask-clause-files : goal.returns-in-Ask-clause-files
+returns-in-Ask-clause-files g c =
+    let words = subst (λ task. Words task (texts c.args.words.now)) (sym c.in-Ask.ensures) c.in-Ok.ensures.command in
+    let left = leaves_all (question_of c.in-Ask.question) c.in-Ask.file.now (g.F.Folder.files c.args.folder.now) c.answer.result _ _
     c.answer.ensures.files in
     of_task _ _ _ left words
 
-pub returns-in-Ok-clause-cut : goal.returns-in-Ok-clause-cut
-returns-in-Ok-clause-cut g c =
-    let words = subst (λ task. Words task (texts c.args.words.now)) (sym c.question.ensures) c.in-Ok.ensures.command in
+pub returns-in-Ask-clause-cut : goal.returns-in-Ask-clause-cut
+returns-in-Ask-clause-cut g c =
+    let words = subst (λ task. Words task (texts c.args.words.now)) (sym c.in-Ask.ensures) c.in-Ok.ensures.command in
     of_task _ _ _ c.answer.ensures.cut words
 
-pub returns-in-Ok-clause-rows : goal.returns-in-Ok-clause-rows
-returns-in-Ok-clause-rows g c =
-    let words = subst (λ task. Words task (texts c.args.words.now)) (sym c.question.ensures) c.in-Ok.ensures.command in
+pub returns-in-Ask-clause-rows : goal.returns-in-Ask-clause-rows
+returns-in-Ask-clause-rows g c =
+    let words = subst (λ task. Words task (texts c.args.words.now)) (sym c.in-Ask.ensures) c.in-Ok.ensures.command in
     of_rows _ _ _ _ _ c.answer.ensures.rows words
 
-pub returns-in-Ok-clause-causes : goal.returns-in-Ok-clause-causes
-returns-in-Ok-clause-causes g c =
-    let words = subst (λ task. Words task (texts c.args.words.now)) (sym c.question.ensures) c.in-Ok.ensures.command in
+pub returns-in-Ask-clause-causes : goal.returns-in-Ask-clause-causes
+returns-in-Ask-clause-causes g c =
+    let words = subst (λ task. Words task (texts c.args.words.now)) (sym c.in-Ask.ensures) c.in-Ok.ensures.command in
     widened_stop c.answer.result (λ m. absurd m)
-    (λ name r. is_unread (texts c.args.words.now) (question_of c.question.result.0) c.question.result.1.now (g.F.Folder.files c.args.folder.now)
+    (λ name r. is_unread (texts c.args.words.now) (question_of c.in-Ask.question) c.in-Ask.file.now (g.F.Folder.files c.args.folder.now)
     _ _ name words r.0 r.1)
     (λ name w. absurd w) (λ e. e) (λ a. a) (λ b. b) (λ p. p) c.answer.ensures.causes
+
+pub returns-in-Ask-clause-accepted : goal.returns-in-Ask-clause-accepted
+returns-in-Ask-clause-accepted g c =
+    let words = subst (λ task. Words task (texts c.args.words.now)) (sym c.in-Ask.ensures) c.in-Ok.ensures.command in
+    on_done c.answer.result (of_task _ _ _ (nothing_to_judge WritesValid (λ due none. subst (λ w. IfSome w (λ file. IsAccepted (BadFile file.1))) (sym none) tt) (question_of c.in-Ask.question) c.in-Ask.file.now
+    (g.F.Folder.files c.args.folder.now)) words)
+
+pub returns-in-Ask-clause-again : goal.returns-in-Ask-clause-again
+returns-in-Ask-clause-again g c =
+    let words = subst (λ task. Words task (texts c.args.words.now)) (sym c.in-Ask.ensures) c.in-Ok.ensures.command in
+    on_done c.answer.result (on_asked WritesAgain _ (Ask (question_of c.in-Ask.question) c.in-Ask.file.now) (g.F.Folder.files c.args.folder.now)
+    (nothing_to_judge (WritesAgain (Some (Ask (question_of c.in-Ask.question) c.in-Ask.file.now))) (λ due none. tt) (question_of c.in-Ask.question) c.in-Ask.file.now
+    (g.F.Folder.files c.args.folder.now)) words)
+
+pub returns-in-Rebuild-clause-found : goal.returns-in-Rebuild-clause-found
+returns-in-Rebuild-clause-found g c =
+    let words = subst (λ task. Words task (texts c.args.words.now)) (sym c.in-Rebuild.ensures) c.in-Ok.ensures.command in
+    of_told (λ asked all. Finds c.rebuild.result (IsOutcome asked all)) (texts c.args.words.now) (Rebuild c.in-Rebuild.input.now c.in-Rebuild.output.now (options_of c.in-Rebuild.options))
+    (g.F.Folder.files c.args.folder.now) c.rebuild.ensures.found words
+
+pub returns-in-Rebuild-clause-told : goal.returns-in-Rebuild-clause-told
+returns-in-Rebuild-clause-told g c =
+    let words = subst (λ task. Words task (texts c.args.words.now)) (sym c.in-Rebuild.ensures) c.in-Ok.ensures.command in
+    of_task _ _ _ c.rebuild.ensures.told words
+
+pub returns-in-Rebuild-clause-text : goal.returns-in-Rebuild-clause-text
+returns-in-Rebuild-clause-text g c =
+    let words = subst (λ task. Words task (texts c.args.words.now)) (sym c.in-Rebuild.ensures) c.in-Ok.ensures.command in
+    of_task _ _ _ (nothing_put c.in-Rebuild.input.now c.in-Rebuild.output.now (options_of c.in-Rebuild.options) (g.F.Folder.files c.args.folder.now) c.rebuild.result
+    (g.O.Sink.written c.args.out.now) c.rebuild.ensures.silent) words
+
+pub returns-in-Rebuild-clause-files : goal.returns-in-Rebuild-clause-files
+returns-in-Rebuild-clause-files g c =
+    let words = subst (λ task. Words task (texts c.args.words.now)) (sym c.in-Rebuild.ensures) c.in-Ok.ensures.command in
+    of_task _ _ _ c.rebuild.ensures.files words
+
+pub returns-in-Rebuild-clause-accepted : goal.returns-in-Rebuild-clause-accepted
+returns-in-Rebuild-clause-accepted g c =
+    let words = subst (λ task. Words task (texts c.args.words.now)) (sym c.in-Rebuild.ensures) c.in-Ok.ensures.command in
+    on_then c.rebuild.result (λ h. of_task _ _ _ h words) c.rebuild.ensures.accepted
+
+pub returns-in-Rebuild-clause-again : goal.returns-in-Rebuild-clause-again
+returns-in-Rebuild-clause-again g c =
+    let words = subst (λ task. Words task (texts c.args.words.now)) (sym c.in-Rebuild.ensures) c.in-Ok.ensures.command in
+    on_then c.rebuild.result (λ h. on_asked WritesAgain _ (Rebuild c.in-Rebuild.input.now c.in-Rebuild.output.now (options_of c.in-Rebuild.options)) (g.F.Folder.files c.args.folder.now) h words)
+    c.rebuild.ensures.again
+
+pub returns-in-Rebuild-clause-rows : goal.returns-in-Rebuild-clause-rows
+returns-in-Rebuild-clause-rows g c =
+    let words = subst (λ task. Words task (texts c.args.words.now)) (sym c.in-Rebuild.ensures) c.in-Ok.ensures.command in
+    of_rows _ (Rebuild c.in-Rebuild.input.now c.in-Rebuild.output.now (options_of c.in-Rebuild.options)) (g.F.Folder.files c.args.folder.now) _ _ (record { none = λ no. absurd no; bound = tt }) words
+
+pub returns-in-Rebuild-clause-causes : goal.returns-in-Rebuild-clause-causes
+returns-in-Rebuild-clause-causes g c =
+    let words = subst (λ task. Words task (texts c.args.words.now)) (sym c.in-Rebuild.ensures) c.in-Ok.ensures.command in
+    widened_stop c.rebuild.result (λ m. absurd m)
+    (λ name r. is_input (texts c.args.words.now) c.in-Rebuild.input.now c.in-Rebuild.output.now (options_of c.in-Rebuild.options) (g.F.Folder.files c.args.folder.now)
+    _ _ name words r.0 r.1)
+    (λ name w. is_output (texts c.args.words.now) c.in-Rebuild.input.now c.in-Rebuild.output.now (options_of c.in-Rebuild.options) name words w)
+    (λ e. e) (λ a. a) (λ b. b) (λ p. absurd p) c.rebuild.ensures.causes
+
+pub returns-in-Rebuild-clause-read_only : goal.returns-in-Rebuild-clause-read_only
+returns-in-Rebuild-clause-read_only g c =
+    let words = subst (λ task. Words task (texts c.args.words.now)) (sym c.in-Rebuild.ensures) c.in-Ok.ensures.command in
+    writes_file (texts c.args.words.now) c.in-Rebuild.input.now c.in-Rebuild.output.now (options_of c.in-Rebuild.options) _ _ words

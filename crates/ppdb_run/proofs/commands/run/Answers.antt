@@ -1,7 +1,7 @@
 use Rattle.ppdb_run.specs.Stops.{cause_of}
 use Rattle.ppdb_run.proofs.Causes.{refuses}
 use Rattle.ppdb_run.proofs.Endings.{stopped_outcome, stopped_status, stopped_text, stopped_files, stopped_complete, stopped_kept}
-use Rattle.ppdb_run.proofs.Endings.{stopped_read_fault, stopped_unread, stopped_write_fault, stopped_unwritten, stopped_usage, stopped_untold}
+use Rattle.ppdb_run.proofs.Endings.{stopped_not_done, stopped_read_fault, stopped_unread, stopped_write_fault, stopped_unwritten, stopped_usage, stopped_untold}
 use Rattle.ppdb_run.proofs.Fronts.{front_of_done, front_of_stop}
 use Rattle.ppdb_run.proofs.commands.run.Goals as goal
 
@@ -57,3 +57,9 @@ returns-in-Err-clause-usage g c = λ is.
 pub returns-in-Err-clause-untold : goal.returns-in-Err-clause-untold
 returns-in-Err-clause-untold g c = λ untold no.
     stopped_untold (cause_of c.in-Err.stop) _ _ _ _ _ (refuses c.in-Err.stop) c.tell.ensures _ _ _ _ _ _ _ c.in-Err.ensures.causes untold no
+
+pub returns-in-Err-clause-accepted : goal.returns-in-Err-clause-accepted
+returns-in-Err-clause-accepted g c = λ is. absurd (stopped_not_done (cause_of c.in-Err.stop) _ _ _ _ _ (refuses c.in-Err.stop) c.tell.ensures is)
+
+pub returns-in-Err-clause-again : goal.returns-in-Err-clause-again
+returns-in-Err-clause-again g c = λ is. absurd (stopped_not_done (cause_of c.in-Err.stop) _ _ _ _ _ (refuses c.in-Err.stop) c.tell.ensures is)

@@ -1,0 +1,58 @@
+use Rattle.std.proofs.Common.{◌∙◌, subst}
+use Rattle.ppdb_base.specs.Causes.{Rose}
+use Rattle.ppdb_run.specs.Outcome.{written}
+use Rattle.ppdb_run.specs.Task.{options_of}
+use Rattle.ppdb_run.specs.Words.{Rebuild}
+use Rattle.ppdb_run.proofs.Causes.{widened_stop}
+use Rattle.ppdb_run.proofs.Outcomes.{stop_found, stop_settles}
+use Rattle.ppdb_run.proofs.Rebuilds.{nothing_written, written_found, written_settles, written_silent, written_leaves, written_valid, written_again}
+use Rattle.ppdb_run.proofs.rebuild.rebuild.Goals as goal
+
+pub returns-in-Err-clause-found : goal.returns-in-Err-clause-found
+returns-in-Err-clause-found g c =
+    stop_found (Unit {0}) (Rebuild c.args.input.now c.args.output.now (options_of c.args.options)) (g.F.Folder.files c.args.folder.now) (written c.args.output.now)
+    c.in-Err.stop (c.in-Err.ensures.told c.args.output.now)
+
+pub returns-in-Err-clause-told : goal.returns-in-Err-clause-told
+returns-in-Err-clause-told g c =
+    stop_settles (Unit {0}) (Rebuild c.args.input.now c.args.output.now (options_of c.args.options)) (g.F.Folder.files c.args.folder.now) (written c.args.output.now)
+    c.in-Err.stop (c.in-Err.ensures.told c.args.output.now)
+
+pub returns-in-Err-clause-files : goal.returns-in-Err-clause-files
+returns-in-Err-clause-files g c =
+    nothing_written c.args.input.now c.args.output.now (options_of c.args.options) (g.F.Folder.files c.args.folder.now) c.in-Err.stop _ _ c.in-Err.ensures.files
+
+pub returns-clause-found : goal.returns-clause-found
+returns-clause-found g c =
+    written_found c.args.input.now c.args.output.now (options_of c.args.options) (g.F.Folder.files c.args.folder.now) c.write_output.result _
+    c.write_output.ensures.no_refusal (c.in-Ok.ensures.told c.args.output.now)
+
+pub returns-clause-told : goal.returns-clause-told
+returns-clause-told g c =
+    written_settles c.args.input.now c.args.output.now (options_of c.args.options) (g.F.Folder.files c.args.folder.now) c.write_output.result _
+    c.write_output.ensures.no_refusal (c.in-Ok.ensures.told c.args.output.now)
+
+pub returns-clause-silent : goal.returns-clause-silent
+returns-clause-silent g c =
+    written_silent c.args.input.now c.args.output.now (options_of c.args.options) (g.F.Folder.files c.args.folder.now) c.write_output.result _
+    c.write_output.ensures.no_refusal (c.in-Ok.ensures.told c.args.output.now)
+
+pub returns-clause-files : goal.returns-clause-files
+returns-clause-files g c =
+    written_leaves c.args.input.now c.args.output.now (options_of c.args.options) (g.F.Folder.files c.args.folder.now) c.write_output.result _
+    c.write_output.ensures.no_refusal (c.in-Ok.ensures.told c.args.output.now) _ _ _ c.in-Ok.ensures.files (rw c.as_slice.ensures at c.write_output.ensures.files)
+
+pub returns-clause-accepted : goal.returns-clause-accepted
+returns-clause-accepted g c =
+    written_valid c.args.input.now c.args.output.now (options_of c.args.options) (g.F.Folder.files c.args.folder.now) c.write_output.result _
+    c.write_output.ensures.no_refusal (c.in-Ok.ensures.told c.args.output.now) c.in-Ok.ensures.accepted
+
+pub returns-clause-again : goal.returns-clause-again
+returns-clause-again g c =
+    written_again c.args.input.now c.args.output.now (options_of c.args.options) (g.F.Folder.files c.args.folder.now) c.write_output.result _
+    c.write_output.ensures.no_refusal (c.in-Ok.ensures.told c.args.output.now) c.in-Ok.ensures.again
+
+pub returns-clause-causes : goal.returns-clause-causes
+returns-clause-causes g c =
+    widened_stop c.write_output.result (λ m. m) (λ name r. absurd r) (λ name w. w) (λ e. c.in-Ok.ensures.files ∙ e) (λ a. absurd a)
+    (λ b. subst (λ n. Rose n (g.F.Folder.write_faults c.write_output.new.folder)) c.in-Ok.ensures.write_faults b) (λ p. p) c.write_output.ensures.causes

@@ -1,0 +1,20 @@
+use Rattle.std.proofs.Common.{subst}
+use Rattle.ppdb_values.specs.Value.{value_of}
+use Rattle.ppdb_verify.specs.Views.{raw_file}
+use Rattle.ppdb_run.specs.Ends.{RebuildsToItself}
+use Rattle.ppdb_run.specs.Outcome.{gives, rebuilt, written}
+use Rattle.ppdb_run.specs.Stops.{Gives}
+use Rattle.ppdb_run.specs.Task.{options_of}
+use Rattle.ppdb_run.proofs.Rebuilds.{not_read, is_rebuilt}
+use Rattle.ppdb_run.proofs.rebuild.rebuilt_bytes.Goals as goal
+
+pub returns-in-Err-clause-told : goal.returns-in-Err-clause-told
+returns-in-Err-clause-told g c = λ output.
+    not_read c.args.input.now output (options_of c.args.options) (g.F.Folder.files c.args.folder.now) raw_file c.in-Err.stop c.in-Err.ensures.told
+
+pub returns-clause-told : goal.returns-clause-told
+returns-clause-told g c = λ output.
+    is_rebuilt c.args.input.now output (options_of c.args.options) (g.F.Folder.files c.args.folder.now) (raw_file c.in-Ok.file) c.file_bytes.result
+    c.in-Ok.ensures.told
+    (subst (λ marks. Gives (written output) c.file_bytes.result (gives (rebuilt c.args.input.now output (record { keep_id = c.args.options.keep_id; marks = marks }) (value_of (raw_file c.in-Ok.file)))))
+    c.in_ok-marks.ensures (c.file_bytes.ensures.told output))

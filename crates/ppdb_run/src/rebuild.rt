@@ -1,0 +1,178 @@
+// The command `rebuild`: the canonical file of a file.
+ghost use Rattle.std.specs.Prelude.{◌≡◌, ◌≤◌, ℕ, List, [], Some, None, IfOk, OnOk, IfErr, IfSome};
+ghost use Rattle.ppdb_base.specs.Causes.{Rose};
+ghost use Rattle.ppdb_base.specs.First.{IsAccepted};
+ghost use Rattle.ppdb_run.specs.Ends.{OnTask, RebuildsToItself, WritesAgain, WritesValid};
+ghost use Rattle.ppdb_run.specs.Outcome.{IsOutcome, choice_of, is_unknown as neither_read_nor_free, gives, rebuilt, steps_of, unknown_kind, written};
+ghost use Rattle.ppdb_run.specs.Stops.{cause_of, refusal_of, Settles, Finds, Gives, Leaves, ComesFrom, OnKept, no_file};
+ghost use Rattle.ppdb_run.specs.Task.{options_of};
+ghost use Rattle.ppdb_run.specs.Words.{Rebuild};
+ghost use Rattle.ppdb_values.specs.Value.{value_of};
+ghost use Rattle.ppdb_verify.specs.Files.{BadFile};
+ghost use Rattle.ppdb_verify.specs.Views.{raw_file};
+
+use crate::options::Options;
+use crate::stop::Stop;
+use crate::verified::read_verified;
+use custom_info::{Kind, Marks, kind_of};
+use ppdb_base::{Bytes, Folder, List, MergeError, Steps, WriteError};
+use ppdb_build::{BuildError, IdChoice};
+use ppdb_verify::Verified;
+use std::alloc::Global;
+use std::sync::ledger::Ledger;
+use verified_rows::{count, custom, guid_of_kind};
+
+/// Writes the canonical file of a file.
+pub fn rebuild<'a, F: Folder, K: Ledger, L: Ledger>(
+    alloc: Global,
+    input: &'a str,
+    output: &'a str,
+    options: Options<'a>,
+    folder: &mut F,
+    checks: &mut Steps<K>,
+    steps: &mut Steps<L>,
+) -> Result<(), Stop<'a>>
+    // What it comes to over told files.
+    ensures found { IfSome (F.files folder.old) (λ all. Finds result (IsOutcome (Some (Rebuild input.now output.now (options_of options.entry))) all)) }
+    ensures told { OnTask (Rebuild input.now output.now (options_of options.entry)) (F.files folder.old) (Settles result) }
+    ensures silent { OnTask (Rebuild input.now output.now (options_of options.entry)) (F.files folder.old) (λ due. OnOk result (due.text ≡ [])) }
+    ensures files { OnTask (Rebuild input.now output.now (options_of options.entry)) (F.files folder.old) (λ due. Leaves result due.writes (F.files folder.old) (F.files folder.new)) }
+
+    ensures accepted { OnOk result (OnTask (Rebuild input.now output.now (options_of options.entry)) (F.files folder.old) WritesValid) }
+    ensures again { OnOk result (OnTask (Rebuild input.now output.now (options_of options.entry)) (F.files folder.old) (WritesAgain (Some (Rebuild input.now output.now (options_of options.entry))))) }
+
+    // What a stop comes from, and what it leaves.
+    ensures causes { IfErr result (λ stop. ComesFrom (cause_of stop)
+        ⊥
+        (λ failed. (failed ≡ input.now) × (F.reads folder.new ≡ F.reads folder.old))
+        (λ failed. failed ≡ output.now)
+        (F.files folder.old)
+        (Rose (F.read_faults folder.old) (F.read_faults folder.new))
+        (Rose (F.write_faults folder.old) (F.write_faults folder.new))
+        ⊥) }
+    ensures kept { IfErr result (λ stop. OnKept (cause_of stop) (F.files folder.new ≡ F.files folder.old)) }
+{
+    let bytes = match rebuilt_bytes(alloc, input, options, folder, checks, steps) {
+        Ok(bytes) => bytes,
+        Err(stop) => return Err(stop),
+    };
+    write_output(folder, output, bytes.as_slice())
+}
+
+/// Writes a file of a command.
+fn write_output<'a, F: Folder>(folder: &mut F, name: &'a str, bytes: &[u8]) -> Result<(), Stop<'a>>
+    ensures files { Leaves result (Some (name.now, bytes.now)) (F.files folder.old) (F.files folder.new) }
+    ensures causes { IfErr result (λ stop. ComesFrom (cause_of stop)
+        ⊥
+        no_file
+        (λ failed. failed ≡ name.now)
+        (F.files folder.old)
+        ⊥
+        (Rose (F.write_faults folder.old) (F.write_faults folder.new))
+        ⊥) }
+    ensures no_refusal { IfErr result (λ stop. refusal_of (cause_of stop) ≡ None) }
+    ensures kept { IfErr result (λ stop. OnKept (cause_of stop) (F.files folder.new ≡ F.files folder.old)) }
+    ensures reads { F.reads folder.new ≡ F.reads folder.old }
+    ensures read_faults { F.read_faults folder.new ≡ F.read_faults folder.old }
+{
+    match folder.write(name, bytes) {
+        Ok(()) => Ok(()),
+        Err(WriteError::Failed) => Err(Stop::WriteFault(name)),
+        Err(WriteError::Memory) => Err(Stop::Memory),
+    }
+}
+
+/// Reads and verifies a file, and makes its canonical file.
+fn rebuilt_bytes<'a, F: Folder, K: Ledger, L: Ledger>(
+    alloc: Global,
+    input: &'a str,
+    options: Options<'a>,
+    folder: &mut F,
+    checks: &mut Steps<K>,
+    steps: &mut Steps<L>,
+) -> Result<Bytes, Stop<'a>>
+    ensures told { (output : List ℕ) → IfSome (F.files folder.old) (λ all. Gives (written output) result (steps_of (Rebuild input.now output (options_of options.entry)) all)) }
+    ensures accepted { IfOk result (λ bytes. IsAccepted (BadFile bytes)) }
+    ensures again { IfOk result (RebuildsToItself (options_of options.entry)) }
+    ensures files { F.files folder.new ≡ F.files folder.old }
+    ensures write_faults { F.write_faults folder.new ≡ F.write_faults folder.old }
+    ensures later { F.read_faults folder.old ≤ F.read_faults folder.new }
+    ensures causes { IfErr result (λ stop. ComesFrom (cause_of stop)
+        ⊥
+        (λ failed. (failed ≡ input.now) × (F.reads folder.new ≡ F.reads folder.old))
+        no_file
+        (F.files folder.old)
+        (Rose (F.read_faults folder.old) (F.read_faults folder.new))
+        ⊥
+        ⊥) }
+{
+    let marks = options.marks(alloc)?;
+    let mut bytes = List::new(alloc);
+    let file = match read_verified(alloc, input, folder, &mut bytes, checks) {
+        Ok(file) => file,
+        Err(stop) => return Err(stop),
+    };
+    file_bytes(alloc, input, &file, &marks, options.keep_id, steps)
+}
+
+/// The canonical file of a verified file, where each of its custom records is of a kind that is read or passed on.
+fn file_bytes<'a, L: Ledger>(
+    alloc: Global,
+    name: &'a str,
+    file: &Verified<'_>,
+    marks: &Marks,
+    keep_id: bool,
+    steps: &mut Steps<L>,
+) -> Result<Bytes, Stop<'a>>
+    ensures told { (output : List ℕ) → Gives (written output) result (gives (rebuilt name.now output (record { keep_id = keep_id; marks = marks.now }) (value_of (raw_file file.now)))) }
+    ensures accepted { IfOk result (λ bytes. IsAccepted (BadFile bytes)) }
+    ensures again { IfOk result (RebuildsToItself (record { keep_id = keep_id; marks = marks.now })) }
+    ensures causes { IfErr result (λ stop. ComesFrom (cause_of stop) ⊥ no_file no_file None ⊥ ⊥ ⊥) }
+{
+    match unknown(file, marks, steps) {
+        Some(error) => return Err(Stop::Unfit(name, error)),
+        None => {}
+    }
+    match ppdb_build::rebuild(alloc, file, choice(keep_id), steps) {
+        Ok(bytes) => Ok(bytes),
+        Err(BuildError::Limit(limit)) => Err(Stop::Limit(limit)),
+        Err(BuildError::Memory) => Err(Stop::Memory),
+    }
+}
+
+/// Which identity is written.
+fn choice(keep_id: bool) -> IdChoice
+    ensures { result ≡ choice_of keep_id }
+{
+    if keep_id {
+        IdChoice::Keep
+    } else {
+        IdChoice::Hash
+    }
+}
+
+/// The first custom record of a kind that is neither read nor passed on.
+fn unknown<L: Ledger>(
+    file: &Verified<'_>,
+    marks: &Marks,
+    steps: &mut Steps<L>,
+) -> Option<MergeError>
+    ensures { result ≡ unknown_kind marks.now (value_of (raw_file file.now)) }
+{
+    file.keeps();
+    for row in 1..count(file, 0x37) + 1 {
+        let cells = custom(file, row, steps);
+        let kind = guid_of_kind(file, row, &cells);
+        if is_unknown(kind_of(&kind, marks)) {
+            return Some(MergeError::KindUnknown { row, kind });
+        }
+    }
+    None
+}
+
+/// Whether a record of the kind is neither read nor passed on.
+fn is_unknown(kind: Kind) -> bool
+    ensures { result ≡ neither_read_nor_free kind }
+{
+    matches!(kind, Kind::Unknown)
+}
