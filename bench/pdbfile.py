@@ -219,6 +219,16 @@ def made(methods):
     return pdb
 
 
+def long_name(parts):
+    """A valid file of one document, whose name has so many parts, each the same text of 1000000 bytes."""
+    pdb = Pdb()
+    blobs = Heap()
+    part = blobs.blob(b'a' * 1000000)
+    pdb.tables[0x30].append((blobs.blob(b'\0' + unsigned(part) * parts), 0, 0, 0))
+    pdb.blobs = bytes(blobs.data)
+    return pdb
+
+
 def signed(value, bits):
     """A compressed signed number in one or two bytes (ECMA-335 II.23.2): 7 or 14 bits."""
     turned = (value << 1 | (value < 0)) & ((1 << bits) - 1)

@@ -5,7 +5,7 @@ use std::alloc::{AllocError, Global};
 use std::test::Fail;
 
 /// A file of one document, whose name has so many parts, each the same text of 1000000 bytes.
-pub fn long_name(alloc: Global, parts: u16) -> Result<Vec<u8>, AllocError> {
+fn long_name(alloc: Global, parts: u16) -> Result<Vec<u8>, AllocError> {
     let text = vec![in alloc; 0x61; 1_000_000]?;
     let name = vec![in alloc; 1; usize::from(parts)]?;
     let mut blobs = Vec::new(alloc);

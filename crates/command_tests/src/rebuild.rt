@@ -1,6 +1,5 @@
 // The canonical files that are written, and what is not written.
 use crate::files::{FREE_KIND, NOTHING, Parts, file_of};
-use crate::large::long_name;
 use crate::running::{prints, verifies};
 use ppdb_base::{MemoryFolder, SteadyFolder};
 use std::alloc::{AllocError, Global};
@@ -263,17 +262,6 @@ fn inputs_that_are_not_rebuilt(rt: HostRuntime) -> Result<(), Fail> {
             "{text}"
         );
     }
-    assert!(rt; folder.get("O").is_none());
-    Ok(())
-}
-
-// A name of 268 times the same million of bytes.
-#[test]
-fn a_name_that_is_too_long(rt: HostRuntime) -> Result<(), Fail> {
-    let mut folder = SteadyFolder::new(rt.alloc());
-    folder.set("N", &long_name(rt.alloc(), 268)?)?;
-    let text = "limit L5 bytes 268000196\n";
-    assert!(rt; prints(rt.alloc(), &["rebuild", "N", "O"], &mut folder, 9, text)?);
     assert!(rt; folder.get("O").is_none());
     Ok(())
 }

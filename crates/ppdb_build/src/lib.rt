@@ -4,6 +4,8 @@
 mod error;
 mod parts;
 mod rebuilding;
+#[cfg(test)]
+mod tests;
 mod write;
 
 pub use error::BuildError;
@@ -14,5 +16,6 @@ pub use ppdb_values::{
     ImportScopeValue, ImportValue, MethodValue, ScopeValue, VariableValue,
 };
 pub use rebuilding::rebuild;
+pub use value_check::sound;
 pub use value_reading::value_of;
 pub use write::write_file;
