@@ -1,5 +1,6 @@
 -- The tables of a draft have as many rows as those of the canonical file.
-use Rattle.std.proofs.Common.{◌≡◌, ℕ, ◌≤◌, List, [], ◌∷◌, ◌++◌, length, map, min, take, replicate, refl, sym, ap, subst, ◌∙◌, arith, Option, Some, None, slice_index}
+use Rattle.std.proofs.Common.{◌≡◌, ℕ, ◌≤◌, List, [], ◌∷◌, ◌++◌, length, map, min, take, replicate, refl, sym, ap, subst, ◌∙◌, arith, Option, Some}
+use Rattle.std.proofs.Common.{None, slice_index}
 use Rattle.std.specs.Prelude.{All}
 use Rattle.std.specs.List.{filter_map}
 use Rattle.std.proofs.lemmas.List.{length-map}
@@ -52,8 +53,10 @@ module _ (value : FileValue) (entries : length value.rows ≡ 64) where
   few : (table n : ℕ) → slice_index (counts value) table ≡ n → too_many_rows value table ≡ None → n ≤ 16777215
   few table n is none = let most = not_above 16777215 (slice_index (counts value) table) (TableRows table) none in omega (arith, is, most)
 
-  parted : (table : ℕ) (rest : List ℕ) → first_of (filter_map (too_many_rows value) (table ∷ rest)) ≡ None → (too_many_rows value table ≡ None) × (first_of (filter_map (too_many_rows value) rest) ≡ None)
-  parted table rest none = neither (too_many_rows value table) (first_of (filter_map (too_many_rows value) rest)) (sym (first_or (too_many_rows value) table rest) ∙ none)
+  parted : (table : ℕ) (rest : List ℕ) → first_of (filter_map (too_many_rows value) (table ∷ rest)) ≡ None → (too_many_rows value table ≡ None)
+      × (first_of (filter_map (too_many_rows value) rest) ≡ None)
+  parted table rest none = neither (too_many_rows value table) (first_of (filter_map (too_many_rows value) rest))
+      (sym (first_or (too_many_rows value) table rest) ∙ none)
 
   pub are_few : early_limit_of value ≡ None → AreFew value
   are_few none =
@@ -89,24 +92,39 @@ unfolding canonical_tables
 counts_same value draft are is =
     let rows = value.rows in
     let held = held_rows (canonical_tables value) in
-    let a : cell (length held.documents) ≡ length value.documents = same_cell _ _ (length-map (map (document_row value) value.documents) held_document ∙ length-map value.documents (document_row value)) are.documents in
-    let b : cell (length held.methods) ≡ length (method_rows value value.methods) = same_cell _ _ (length-map (method_rows value value.methods) held_method) are.methods in
+    let a : cell (length held.documents) ≡ length value.documents = same_cell _ _
+    (length-map (map (document_row value) value.documents) held_document ∙ length-map value.documents (document_row value)) are.documents in
+    let b : cell (length held.methods) ≡ length (method_rows value value.methods) = same_cell _ _ (length-map (method_rows value value.methods) held_method)
+    are.methods in
     let c : cell (length held.scopes) ≡ length value.scopes =
-    same_cell _ _ (length-map (map (scope_row value) (numbered value.scopes)) held_scope ∙ length-map (numbered value.scopes) (scope_row value) ∙ length-enumerate_from 1 value.scopes) are.scopes in
-    let d : cell (length held.variables) ≡ length (variables_of value) = same_cell _ _ (length-map (map (variable_row value) (variables_of value)) held_variable ∙ length-map (variables_of value) (variable_row value)) are.variables in
-    let e : cell (length held.constants) ≡ length (constants_of value) = same_cell _ _ (length-map (map (constant_row value) (constants_of value)) held_constant ∙ length-map (constants_of value) (constant_row value)) are.constants in
-    let f : cell (length held.imports) ≡ length value.imports = same_cell _ _ (length-map (map (import_row value) value.imports) held_import ∙ length-map value.imports (import_row value)) are.imports in
+    same_cell _ _ (length-map (map (scope_row value) (numbered value.scopes)) held_scope ∙ length-map (numbered value.scopes) (scope_row value)
+    ∙ length-enumerate_from 1 value.scopes) are.scopes in
+    let d : cell (length held.variables) ≡ length (variables_of value) = same_cell _ _
+    (length-map (map (variable_row value) (variables_of value)) held_variable ∙ length-map (variables_of value) (variable_row value)) are.variables in
+    let e : cell (length held.constants) ≡ length (constants_of value) = same_cell _ _
+    (length-map (map (constant_row value) (constants_of value)) held_constant ∙ length-map (constants_of value) (constant_row value)) are.constants in
+    let f : cell (length held.imports) ≡ length value.imports = same_cell _ _
+    (length-map (map (import_row value) value.imports) held_import ∙ length-map value.imports (import_row value)) are.imports in
     let g : cell (length held.machines) ≡ length value.machines = same_cell _ _ refl are.machines in
-    let h : cell (length held.customs) ≡ length value.customs = same_cell _ _ (length-map (map (custom_row value) value.customs) held_custom ∙ length-map value.customs (custom_row value)) are.customs in
+    let h : cell (length held.customs) ≡ length value.customs = same_cell _ _
+    (length-map (map (custom_row value) value.customs) held_custom ∙ length-map value.customs (custom_row value)) are.customs in
     ap (counts_in rows) is.rows_are
-    ∙ ap (λ n. counts_with rows n (cell (length held.methods)) (cell (length held.scopes)) (cell (length held.variables)) (cell (length held.constants)) (cell (length held.imports)) (cell (length held.machines)) (cell (length held.customs))) a
-    ∙ ap (λ n. counts_with rows (length value.documents) n (cell (length held.scopes)) (cell (length held.variables)) (cell (length held.constants)) (cell (length held.imports)) (cell (length held.machines)) (cell (length held.customs))) b
-    ∙ ap (λ n. counts_with rows (length value.documents) (length (method_rows value value.methods)) n (cell (length held.variables)) (cell (length held.constants)) (cell (length held.imports)) (cell (length held.machines)) (cell (length held.customs))) c
-    ∙ ap (λ n. counts_with rows (length value.documents) (length (method_rows value value.methods)) (length value.scopes) n (cell (length held.constants)) (cell (length held.imports)) (cell (length held.machines)) (cell (length held.customs))) d
-    ∙ ap (λ n. counts_with rows (length value.documents) (length (method_rows value value.methods)) (length value.scopes) (length (variables_of value)) n (cell (length held.imports)) (cell (length held.machines)) (cell (length held.customs))) e
-    ∙ ap (λ n. counts_with rows (length value.documents) (length (method_rows value value.methods)) (length value.scopes) (length (variables_of value)) (length (constants_of value)) n (cell (length held.machines)) (cell (length held.customs))) f
-    ∙ ap (λ n. counts_with rows (length value.documents) (length (method_rows value value.methods)) (length value.scopes) (length (variables_of value)) (length (constants_of value)) (length value.imports) n (cell (length held.customs))) g
-    ∙ ap (λ n. counts_with rows (length value.documents) (length (method_rows value value.methods)) (length value.scopes) (length (variables_of value)) (length (constants_of value)) (length value.imports) (length value.machines) n) h
+    ∙ ap (λ n. counts_with rows n (cell (length held.methods)) (cell (length held.scopes)) (cell (length held.variables)) (cell (length held.constants))
+    (cell (length held.imports)) (cell (length held.machines)) (cell (length held.customs))) a
+    ∙ ap (λ n. counts_with rows (length value.documents) n (cell (length held.scopes)) (cell (length held.variables)) (cell (length held.constants))
+    (cell (length held.imports)) (cell (length held.machines)) (cell (length held.customs))) b
+    ∙ ap (λ n. counts_with rows (length value.documents) (length (method_rows value value.methods)) n (cell (length held.variables))
+    (cell (length held.constants)) (cell (length held.imports)) (cell (length held.machines)) (cell (length held.customs))) c
+    ∙ ap (λ n. counts_with rows (length value.documents) (length (method_rows value value.methods)) (length value.scopes) n (cell (length held.constants))
+    (cell (length held.imports)) (cell (length held.machines)) (cell (length held.customs))) d
+    ∙ ap (λ n. counts_with rows (length value.documents) (length (method_rows value value.methods)) (length value.scopes) (length (variables_of value)) n
+    (cell (length held.imports)) (cell (length held.machines)) (cell (length held.customs))) e
+    ∙ ap (λ n. counts_with rows (length value.documents) (length (method_rows value value.methods)) (length value.scopes) (length (variables_of value))
+    (length (constants_of value)) n (cell (length held.machines)) (cell (length held.customs))) f
+    ∙ ap (λ n. counts_with rows (length value.documents) (length (method_rows value value.methods)) (length value.scopes) (length (variables_of value))
+    (length (constants_of value)) (length value.imports) n (cell (length held.customs))) g
+    ∙ ap (λ n. counts_with rows (length value.documents) (length (method_rows value value.methods)) (length value.scopes) (length (variables_of value))
+    (length (constants_of value)) (length value.imports) (length value.machines) n) h
 
 -- a value that meets no limit has no table with too many rows
 pub within_few : (value : FileValue) → length value.rows ≡ 64 → IsWithinLimits value → AreFew value

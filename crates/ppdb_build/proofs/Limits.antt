@@ -40,7 +40,8 @@ late_of value = first_met (above 134217728 FileSize (length (file_bytes (canonic
 
 split : (value : FileValue) → first_limit value ≡ option_or (early_limit_of value) (option_or (step_of value) (late_of value))
 split value =
-    chain (first_of (filter_map (too_many_rows value) tables)) (list_past_end value 0x33 (λ scope. length scope.variables)) (list_past_end value 0x34 (λ scope. length scope.constants))
+    chain (first_of (filter_map (too_many_rows value) tables)) (list_past_end value 0x33 (λ scope. length scope.variables))
+    (list_past_end value 0x34 (λ scope. length scope.constants))
     (first_of (filter_map large_offset value.methods))
     (step_of value ∷ above 134217728 FileSize (length (file_bytes (canonical value value.id))) ∷ above 268435456 SpanTotal (span value) ∷ [])
 

@@ -1,5 +1,6 @@
 -- The parts of a sound value that passes no early limit can be written.
-use Rattle.std.proofs.Common.{◌≡◌, ℕ, zero, suc, ◌<◌, ◌≤◌, Bool, true, false, cond, List, [], ◌∷◌, length, take, get_or, refl, sym, ap, ◌∙◌, arith, Option, Some, None, All}
+use Rattle.std.proofs.Common.{◌≡◌, ℕ, zero, suc, ◌<◌, ◌≤◌, Bool, true, false, cond, List, [], ◌∷◌, length, take, get_or, refl, sym, ap, ◌∙◌, arith}
+use Rattle.std.proofs.Common.{Option, Some, None, All}
 use Rattle.std.specs.Prelude.{nat_le, ◌==◌, if◌then◌else◌, slice_index}
 use Rattle.std.specs.Option.{option_or, option_map}
 use Rattle.std.specs.List.{filter_map, cons_option, find, sum_by}
@@ -25,7 +26,8 @@ use Rattle.ppdb_canon.specs.Limits.{too_many_rows, tables, list_past_end, large_
 use Rattle.ppdb_canon.proofs.Among.{among_rows}
 use Rattle.ppdb_build.specs.declared.error.BuildError.{BuildError}
 use Rattle.ppdb_build.specs.declared.error.BuildError.TheVariants.{Limit as Passed, Memory}
-use Rattle.ppdb_build.specs.Building.{IsLimit, early_limit_of, IsWritableMethod, IsWritableConstant, IsWritableScope, IsWritableImport, IsWritableCustom, ArePartsWritable}
+use Rattle.ppdb_build.specs.Building.{IsLimit, early_limit_of, IsWritableMethod, IsWritableConstant, IsWritableScope, IsWritableImport}
+use Rattle.ppdb_build.specs.Building.{IsWritableCustom, ArePartsWritable}
 use Rattle.ppdb_build.proofs.Firsts.{first_at}
 use Rattle.ppdb_build.proofs.Limits.{neither}
 use Rattle.ppdb_build.proofs.Counted.{AreFew, are_few}
@@ -40,7 +42,8 @@ each_all {X} P (x ∷ rows) each = All-cons P x rows (each 1 x refl) (each_all P
     later each (suc row) y is = each (suc (suc row)) y is
 
 -- the first step that has no form
-pub step_at : (methods : List MethodValue) (i : ℕ) (method : MethodValue) → i < length methods → filter_map large_step_of (take i methods) ≡ [] → get_or methods i method ≡ method
+pub step_at : (methods : List MethodValue) (i : ℕ) (method : MethodValue) → i < length methods → filter_map large_step_of (take i methods) ≡ []
+    → get_or methods i method ≡ method
     → (error : BuildError) → IsLimit (large_step_of method) error → IsLimit (first_of (filter_map large_step_of methods)) error
 step_at methods i method inside none is (Passed limit) here = first_at large_step_of methods i method limit inside none (ap large_step_of is ∙ here)
 step_at methods i method inside none is Memory here = tt
@@ -73,7 +76,8 @@ none_found {X} p (x ∷ xs) e = by (p x) refl (none_found p xs)
 
 small_offsets : (method : MethodValue) → large_offset method ≡ None → All (λ (point : Point). IsOffset point.offset) method.points
 small_offsets method e =
-    All-weaker (λ (point : Point). nat_le 0x20000000 point.offset ≡ false) (λ point. IsOffset point.offset) (λ point below. leb-false 0x20000000 point.offset below) method.points
+    All-weaker (λ (point : Point). nat_le 0x20000000 point.offset ≡ false) (λ point. IsOffset point.offset)
+    (λ point below. leb-false 0x20000000 point.offset below) method.points
     (none_found (λ (point : Point). nat_le 0x20000000 point.offset) method.points
     (nothing_mapped (λ (point : Point). PointOffset method.method point.offset) (find (λ (point : Point). nat_le 0x20000000 point.offset) method.points) e))
 
@@ -85,10 +89,12 @@ no_offset value none =
     let d = neither (first_of (filter_map large_offset value.methods)) None c.1 in
     d.0
 
-offsets_small : (value : FileValue) → early_limit_of value ≡ None → (method : MethodValue) (row : ℕ) → row_at value.methods row ≡ Some method → All (λ (point : Point). IsOffset point.offset) method.points
+offsets_small : (value : FileValue) → early_limit_of value ≡ None → (method : MethodValue) (row : ℕ) → row_at value.methods row ≡ Some method
+    → All (λ (point : Point). IsOffset point.offset) method.points
 offsets_small value none method row there =
     small_offsets method
-    (All-contains (λ (m : MethodValue). large_offset m ≡ None) value.methods method (none_made large_offset value.methods (no_first (filter_map large_offset value.methods) (no_offset value none)))
+    (All-contains (λ (m : MethodValue). large_offset m ≡ None) value.methods method
+    (none_made large_offset value.methods (no_first (filter_map large_offset value.methods) (no_offset value none)))
     (among_rows value.methods row method there))
 
 -- ---- a row that a value names fits three bytes
@@ -101,8 +107,10 @@ count_small : (value : FileValue) → IsSound value → AreFew value → (table 
 count_small value sound few table =
     choice_small (table == 0x30) _ _ few.documents
     (choice_small (table == 0x32) _ _ few.scopes
-    (choice_small (table == 0x33) _ _ (let n = length-flat_map (λ (scope : ScopeValue). scope.variables) value.scopes in let m = few.variables in omega (arith, n, m))
-    (choice_small (table == 0x34) _ _ (let n = length-flat_map (λ (scope : ScopeValue). scope.constants) value.scopes in let m = few.constants in omega (arith, n, m))
+    (choice_small (table == 0x33) _ _
+    (let n = length-flat_map (λ (scope : ScopeValue). scope.variables) value.scopes in let m = few.variables in omega (arith, n, m))
+    (choice_small (table == 0x34) _ _
+    (let n = length-flat_map (λ (scope : ScopeValue). scope.constants) value.scopes in let m = few.constants in omega (arith, n, m))
     (choice_small (table == 0x35) _ _ few.imports (sound.rows.most table)))))
 
 -- ---- all parts
@@ -112,11 +120,16 @@ parts_writable law value sound types none =
     let few = are_few value types.rows none in
     let parts = law value sound few.documents in
     record {
-      methods = each_all IsWritableMethod value.methods (λ row method there. let own = sound.methods.each row method there in (own.row.0, parts.points row method there (offsets_small value none method row there)));
+      methods = each_all IsWritableMethod value.methods (λ row method there.
+          let own = sound.methods.each row method there in
+          (own.row.0, parts.points row method there (offsets_small value none method row there)));
       scopes = each_all IsWritableScope value.scopes (λ row scope there.
           let own = sound.scopes.each row scope there in
-          let before = own.not_empty in
-          (omega (arith, before), each_all IsWritableConstant scope.constants (λ at constant here. (parts.modifiers row scope there at constant here, parts.bodies row scope there at constant here))));
+          let before = own.not_empty in (
+            omega (arith, before),
+            each_all IsWritableConstant scope.constants
+                (λ at constant here. (parts.modifiers row scope there at constant here, parts.bodies row scope there at constant here)),
+          ));
       imports = each_all IsWritableImport value.imports (λ row scope there. each_all HasSpelling scope.imports (parts.imports row scope there));
       customs = each_all IsWritableCustom value.customs (λ row custom there.
           let own = sound.customs.each row custom there in

@@ -60,4 +60,5 @@ pub record ArePartsWritable (value : FileValue) : Type 0 where
 
 abbrev pub after_methods : Draft → FileValue → Draft
 after_methods draft value =
-    fold with_custom (fold with_machine (fold with_import (fold with_constants (fold with_scope draft value.scopes) value.scopes) value.imports) value.machines) value.customs
+    fold with_custom (fold with_machine (fold with_import (fold with_constants (fold with_scope draft value.scopes) value.scopes) value.imports)
+    value.machines) value.customs

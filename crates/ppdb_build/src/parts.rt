@@ -9,9 +9,11 @@ ghost use Rattle.sound_values.specs.Scopes.{stored_body};
 ghost use Rattle.sound_values.specs.Sound.{IsSound};
 ghost use Rattle.sound_values.specs.Writing.{HasSpelling, IsWritable};
 ghost use Rattle.ppdb_canon.specs.Limits.{large_step_of};
-ghost use Rattle.file_drafting.specs.Draft.{with_document, with_method, with_all_methods, with_variable, with_scope, with_constant, with_constants, with_import, with_machine, with_custom};
+ghost use Rattle.file_drafting.specs.Draft.{with_document, with_method, with_all_methods, with_variable, with_scope, with_constant, with_constants};
+ghost use Rattle.file_drafting.specs.Draft.{with_import, with_machine, with_custom};
 ghost use Rattle.file_drafting.specs.Drafted.{drafted, with_methods};
-ghost use Rattle.ppdb_build.specs.Building.{IsWritableMethod, IsWritableConstant, IsWritableScope, IsWritableImport, IsWritableCustom, ArePartsWritable, IsLimit, after_methods};
+ghost use Rattle.ppdb_build.specs.Building.{IsWritableMethod, IsWritableConstant, IsWritableScope, IsWritableImport, IsWritableCustom};
+ghost use Rattle.ppdb_build.specs.Building.{ArePartsWritable, IsLimit, after_methods};
 
 use crate::error::BuildError;
 use file_drafting::{Drafting, lent_body};

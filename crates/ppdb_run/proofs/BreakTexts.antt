@@ -31,7 +31,8 @@ named_there raw name row e = by_place (position test (value_of raw).documents) r
         let inside = within (value_of raw).documents i is in
         (omega (arith, row_is), omega (arith, row_is, inside, documents_many raw))
 
-pub breaks_text : (document : List ℕ) (line row : ℕ) (value : FileValue) (items : List Break) (old new : Option (List ℕ)) → document_named value document ≡ Some row
+pub breaks_text : (document : List ℕ) (line row : ℕ) (value : FileValue) (items : List Break) (old new : Option (List ℕ))
+    → document_named value document ≡ Some row
     → items ≡ breaks_in value row line → new ≡ appended old (text_of_breaks items)
     → new ≡ appended old (outcome_of (breaks_answer document line value (document_named value document))).text
 breaks_text document line row value items old new named are put =

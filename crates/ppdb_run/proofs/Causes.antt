@@ -7,7 +7,8 @@ use Rattle.ppdb_base.specs.declared.merge_error.MergeError.{MergeError}
 use Rattle.ppdb_base.specs.declared.link_error.LinkError.TheVariants as link_errors
 use Rattle.ppdb_base.specs.declared.merge_error.MergeError.TheVariants as merge_errors
 use Rattle.ppdb_run.specs.declared.status.Status.{Status}
-use Rattle.ppdb_run.specs.declared.status.Status.TheVariants.{Done, Refused, Usage, ReadFault, WriteFault, Memory, Absent, TooLong, Unfit, Limit, NoMethod, Unlinked, NoDocument, Uncomposed}
+use Rattle.ppdb_run.specs.declared.status.Status.TheVariants.{Done, Refused, Usage, ReadFault, WriteFault, Memory, Absent, TooLong, Unfit, Limit}
+use Rattle.ppdb_run.specs.declared.status.Status.TheVariants.{NoMethod, Unlinked, NoDocument, Uncomposed}
 use Rattle.ppdb_run.specs.declared.stop.Stop.{Stop}
 use Rattle.ppdb_run.specs.declared.stop.Stop.TheVariants as stops
 use Rattle.ppdb_run.specs.Stops.{Cause, Refusal, Unread, Unwritten, Unput, OutOfMemory, cause_of, ComesFrom}

@@ -27,7 +27,8 @@ first_of _ _ no_option = inl refl
 first_of _ _ (keep_id {words = words} {options = o} h) = inr (inl (words, refl, (o, h)))
 first_of _ _ (free {words = words} {options = o} word guid e h) = inr (inr (word ∷ words, words, refl, (word, guid, refl, e), (o, h)))
 
--- what was read of the words: whether --keep-id is among them; the options of all words are those of the rest with it, and there are none where the rest has none
+-- what was read of the words: whether --keep-id is among them; the options of all words are those of the rest with it, and there are none where the
+-- rest has none
 pub record Reads (keep : Bool) (rest words : List (List ℕ)) : Type 0 where
   pub on : (others : Options) → AreOptions rest others → AreOptions words (record { keep_id = keep || others.keep_id; marks = marks_in words })
   pub back : (options : Options) → AreOptions words options → (others : Options) × AreOptions rest others
@@ -42,7 +43,8 @@ reads_all words = record {
 pub reads_keep : (keep : Bool) (rest next words : List (List ℕ)) → rest ≡ codes "--keep-id" ∷ next → Reads keep rest words → Reads true next words
 reads_keep keep rest next words e h = record {
   on = λ others k. subst (λ k. AreOptions words (record { keep_id = k; marks = marks_in words })) (or_true keep)
-      (h.on (record { keep_id = true; marks = others.marks }) (subst (λ r. AreOptions r (record { keep_id = true; marks = others.marks })) (sym e) (keep_id k)));
+      (h.on (record { keep_id = true; marks = others.marks })
+      (subst (λ r. AreOptions r (record { keep_id = true; marks = others.marks })) (sym e) (keep_id k)));
   back = λ options k. let others = h.back options k in behind (first_of rest others.0 others.1);
 }
   where
@@ -52,7 +54,8 @@ reads_keep keep rest next words e h = record {
 
     behind : First rest → (others : Options) × AreOptions next others
     behind (inl none) = absurd (let both : codes "--keep-id" ∷ next ≡ [] = sym e ∙ none in cc)
-    behind (inr (inl (r, is, (o, k)))) = let same : r ≡ next = let both : codes "--keep-id" ∷ r ≡ codes "--keep-id" ∷ next = sym is ∙ e in cc in (o, subst (λ r. AreOptions r o) same k)
+    behind (inr (inl (r, is, (o, k)))) = let same : r ≡ next = let both : codes "--keep-id" ∷ r ≡ codes "--keep-id" ∷ next = sym is
+        ∙ e in cc in (o, subst (λ r. AreOptions r o) same k)
     behind (inr (inr (n, r, is, g, (o, k)))) = absurd (let both : codes "--keep-id" ∷ next ≡ codes "--free" ∷ n = sym e ∙ is in cc)
 
 -- --free is read, with a GUID behind it
@@ -119,7 +122,8 @@ no_guid rest behind e none options h = by_first (first_of rest options h)
         none r (subst (λ w. IsBehindGuid w r) same b)
 
 -- nor is another word
-pub no_word : (rest : List (List ℕ)) (word : List ℕ) (others : List (List ℕ)) → rest ≡ word ∷ others → (word ≡ codes "--keep-id" → ⊥) → (word ≡ codes "--free" → ⊥)
+pub no_word : (rest : List (List ℕ)) (word : List ℕ) (others : List (List ℕ)) → rest ≡ word ∷ others → (word ≡ codes "--keep-id" → ⊥)
+    → (word ≡ codes "--free" → ⊥)
     → (options : Options) → AreOptions rest options → ⊥
 no_word rest word others e not_keep not_free options h = by_first (first_of rest options h)
   where

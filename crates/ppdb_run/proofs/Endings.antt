@@ -254,7 +254,8 @@ module _ (cause : Cause) (status : Status) (faults faults' : ℕ) (mid new : Opt
       → OnOutcome words files (λ due. LeavesAt cause due.writes before after) → OnOutcome words files (λ due. LeavesFiles status due before after)
   stopped_files words files before after leaves asked asks all seen due h = all_files due before after (leaves asked asks all seen due h)
 
-pub stopped_outcome : (T : Type 0) (words : List (List ℕ)) (files : Option Files) (stop : Stop) (status : Status) (faults faults' : ℕ) (mid new : Option (List ℕ))
+pub stopped_outcome : (T : Type 0) (words : List (List ℕ)) (files : Option Files) (stop : Stop) (status : Status) (faults faults' : ℕ)
+    (mid new : Option (List ℕ))
     → FindsOutcome {T = T} words files (Err stop) → Tells (cause_of stop) status faults faults' mid new → HasOutcome words files status
 stopped_outcome T words files stop status f f' mid new find tells asked asks all seen =
     let cause = cause_of stop in

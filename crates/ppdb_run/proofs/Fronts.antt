@@ -65,4 +65,5 @@ module _ (words : List (List ℕ)) (files : Option Files) (before after : ℕ) (
 pub front_of_done : (words : List (List ℕ)) (files : Option Files) (before after : ℕ) (ReadFailed WriteFailed : Type 0) (old new : Option (List ℕ))
     → OnOutcome words files (λ due. new ≡ appended old due.text)
     → OnOutcome words files (λ due. PutsFront words files due before after ReadFailed WriteFailed old new)
-front_of_done words files b a R W old new put asked h all seen due is = record { text = due.text; is_due = answer; written = front_whole old new _ (put asked h all seen due is) }
+front_of_done words files b a R W old new put asked h all seen due is = record
+    { text = due.text; is_due = answer; written = front_whole old new _ (put asked h all seen due is) }

@@ -1,5 +1,6 @@
 -- How decimal numbers below 2^32 are spelled.
-use Rattle.std.proofs.Common.{zero, suc, ◌≡◌, ℕ, ◌<◌, ◌^◌, ◌≢◌, ◌⊎◌, List, [], ◌∷◌, length, get_or, sym, ap, ◌∙◌, subst, inl, inr, arith, Result, Ok, Err, IfSome, IfNone}
+use Rattle.std.proofs.Common.{zero, suc, ◌≡◌, ℕ, ◌<◌, ◌^◌, ◌≢◌, ◌⊎◌, List, [], ◌∷◌, length, get_or, sym, ap, ◌∙◌, subst, inl, inr, arith, Result, Ok}
+use Rattle.std.proofs.Common.{Err, IfSome, IfNone}
 use Rattle.std.specs.Fmt.{decimal}
 use Rattle.std.specs.Result.{result_ok, OkIff}
 use Rattle.std.specs.Str.Parse.{AllDigits, digits_value, ParsesUnsigned}
@@ -30,10 +31,12 @@ pub parsed : {E : Type 0} (r : Result ℕ E) (word : List ℕ) → ParsesUnsigne
     → IfSome (result_ok r) (λ n. word ≡ decimal n)
 parsed r word h plain lead = by_result r (parse_plain numerals 32 word r h plain)
   where
-    by_result : {E : Type 0} (r : Result ℕ E) → OkIff r (AllDigits 10 word × (0 < length word) × (digits_value 10 word < 2 ^ 32)) (digits_value 10 word) → IfSome (result_ok r) (λ n. word ≡ decimal n)
+    by_result : {E : Type 0} (r : Result ℕ E) → OkIff r (AllDigits 10 word × (0 < length word) × (digits_value 10 word < 2 ^ 32)) (digits_value 10 word)
+        → IfSome (result_ok r) (λ n. word ≡ decimal n)
     by_result (Ok n) is = sym (ap decimal is.1 ∙ decimal-digits_value numerals word is.0.0 is.0.1 lead (omega (arith, is.0.2)))
     by_result (Err e) is = tt
 
-pub not_parsed : {E : Type 0} (r : Result ℕ E) (word : List ℕ) → ParsesUnsigned 32 10 word r → IfNone (result_ok r) ((n : ℕ) → n < 2 ^ 32 → word ≡ decimal n → ⊥)
+pub not_parsed : {E : Type 0} (r : Result ℕ E) (word : List ℕ) → ParsesUnsigned 32 10 word r
+    → IfNone (result_ok r) ((n : ℕ) → n < 2 ^ 32 → word ≡ decimal n → ⊥)
 not_parsed (Ok n) word h = tt
 not_parsed (Err e) word h = λ n below is. let k = parse-decimal 32 n word (Err e) below (omega arith) is h in cc

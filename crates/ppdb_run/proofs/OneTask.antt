@@ -38,7 +38,6 @@ read_back words (Query m x) f h =
     let offset = value x MAX_OFFSET (omega arith) h.3 in
     let same : task_in words ≡ Some (Ask (Query (digits_value 10 (decimal m)) (digits_value 10 (decimal x))) f) = ap task_in h.0 in
     cc
-
 read_back words Links f h = ap task_in h.0
 read_back words (Breaks document n) f h =
     let line = value n MAX_LINE (omega arith) h.3 in

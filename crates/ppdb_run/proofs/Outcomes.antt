@@ -9,7 +9,8 @@ use Rattle.ppdb_base.specs.declared.limits.TheConstants.{MAX_FILE_BYTES}
 use Rattle.ppdb_base.proofs.Judging.{one_first, first_not_accepted}
 use Rattle.ppdb_run.specs.declared.stop.Stop.{Stop}
 use Rattle.ppdb_run.specs.Ends.{Asks, AreSeen, OnDue, OnOutcome, OnTask, OnRead, IsWithinBound, IsWithinRows}
-use Rattle.ppdb_run.specs.Outcome.{Outcome, Step, ◌>>=◌, gives, judged, refused, file_at, input_of, verified, answer_of, rebuilt, outcome_of, steps_of, IsOutcome}
+use Rattle.ppdb_run.specs.Outcome.{Outcome, Step, ◌>>=◌, gives, judged, refused, file_at, input_of, verified, answer_of, rebuilt, outcome_of}
+use Rattle.ppdb_run.specs.Outcome.{steps_of, IsOutcome}
 use Rattle.ppdb_run.specs.Stops.{cause_of, Gives, Settles, Finds, refusal_of}
 use Rattle.ppdb_run.specs.Words.{Question, Id, Verify, Show, Query, Links, Breaks, Task, Ask, Rebuild, Words}
 use Rattle.ppdb_values.specs.RawFile.{RawFile}
@@ -79,7 +80,8 @@ one_judged name Bad Says same one (Err a) (Err b) h k = h.2 ∙ ap (refused name
 -- what a file is read as is one thing
 one_raw : (bytes : List ℕ) (x y : RawFile) → IsAccepted (BadFile bytes) → IsRawOf bytes x → IsRawOf bytes y → x ≡ y
 one_raw bytes x y accepted one other =
-    one.raw_is ∙ (ap raw_in (same_streams bytes (λ code at bad. accepted code at (inl (inl bad))) one.streams other.streams one.are other.are) ∙ sym other.raw_is)
+    one.raw_is ∙ (ap raw_in (same_streams bytes (λ code at bad. accepted code at (inl (inl bad))) one.streams other.streams one.are other.are)
+    ∙ sym other.raw_is)
 
 abbrev judged_file : List ℕ → List ℕ → Step RawFile
 judged_file file bytes = judged file (BadFile bytes) (IsRawOf bytes)
@@ -87,7 +89,8 @@ judged_file file bytes = judged file (BadFile bytes) (IsRawOf bytes)
 one_verified : (files : Files) (file : List ℕ) → GivesOne (λ x y. x ≡ y) (verified files file)
 one_verified files file r t h k =
     agrees r t (one_next (λ x y. x ≡ y) (file_at files file) (judged_file file) (one_given (input_of file (reading files file MAX_FILE_BYTES)))
-    (λ x y e. subst (λ z. (r t : Result RawFile Outcome) → judged_file file x r → judged_file file z t → r ≡ t) e (λ r t h k. is_one x r t (one_judged file (BadFile x) (IsRawOf x) (λ a b. a ≡ b) (one_raw x) r t h k))) r t h k)
+    (λ x y e. subst (λ z. (r t : Result RawFile Outcome) → judged_file file x r → judged_file file z t → r ≡ t) e
+    (λ r t h k. is_one x r t (one_judged file (BadFile x) (IsRawOf x) (λ a b. a ≡ b) (one_raw x) r t h k))) r t h k)
   where
     agrees : (r t : Result RawFile Outcome) → r ≡ t → Agree (λ x y. x ≡ y) r t
     agrees r t e = subst (λ z. Agree (λ x y. x ≡ y) r z) e (agree_refl r)
@@ -99,7 +102,8 @@ one_verified files file r t h k =
     is_one bytes (Err a) (Err b) e = ap Err e
 
 -- a file that was read and keeps all rules
-pub read_accepted : (files : Option Files) (file bytes : List ℕ) (raw : RawFile) → IfSome files (λ all. file_at all file (Ok bytes)) → IsAccepted (BadFile bytes) → IsRawOf bytes raw
+pub read_accepted : (files : Option Files) (file bytes : List ℕ) (raw : RawFile) → IfSome files (λ all. file_at all file (Ok bytes))
+    → IsAccepted (BadFile bytes) → IsRawOf bytes raw
     → IfSome files (λ all. verified all file (Ok raw))
 read_accepted None file bytes raw h accepted is = tt
 read_accepted (Some all) file bytes raw h accepted is = inl (bytes, h, (accepted, is))
@@ -118,7 +122,8 @@ one_end (Rebuild input output options) files = one_over (λ raw. rebuilt input o
 
 -- where the file is not verified, there is no answer
 pub no_answer : {V : Type 0} (view : V → RawFile) (question : Question) (file : List ℕ) (files : Option Files) (stop : Stop)
-    → IfSome files (λ all. Gives view (Err stop) (verified all file)) → IfSome files (λ all. Gives (λ (o : Outcome). o) (Err stop) (steps_of (Ask question file) all))
+    → IfSome files (λ all. Gives view (Err stop) (verified all file))
+    → IfSome files (λ all. Gives (λ (o : Outcome). o) (Err stop) (steps_of (Ask question file) all))
 no_answer view question file None stop h = tt
 no_answer view question file (Some all) stop h = gives_stop view (λ (o : Outcome). o) stop (verified all file) (λ raw. gives (answer_of question file raw)) h
 
@@ -141,7 +146,8 @@ one_outcome (Some task) files a b (inr h) (inr k) = err_inj a b (one_end task fi
 -- ---- what a command knows of its outcome
 
 -- what holds of a task over the files that are told holds of what the words ask for
-pub of_told : (P : Option Task → Files → Type 0) (words : List (List ℕ)) (task : Task) (files : Option Files) → IfSome files (λ all. P (Some task) all) → Words task words
+pub of_told : (P : Option Task → Files → Type 0) (words : List (List ℕ)) (task : Task) (files : Option Files) → IfSome files (λ all. P (Some task) all)
+    → Words task words
     → (asked : Option Task) → Asks words asked → (all : Files) → AreSeen asked files all → P asked all
 of_told P words task files k h None none all seen = absurd (none task h)
 of_told P words task None k h (Some (Ask question file)) asks all seen = absurd seen
@@ -150,7 +156,8 @@ of_told P words task (Some told) k h (Some other) asks all seen =
     subst (λ (t : Task). P (Some t) all) (one_task words task other h asks) (subst (λ (fs : Files). P (Some task) fs) seen k)
 
 -- what holds of the outcome of a task holds of that of its words
-pub of_task : {P : Outcome → Type 0} (words : List (List ℕ)) (task : Task) (files : Option Files) → OnTask task files P → Words task words → OnOutcome words files P
+pub of_task : {P : Outcome → Type 0} (words : List (List ℕ)) (task : Task) (files : Option Files) → OnTask task files P → Words task words
+    → OnOutcome words files P
 of_task {P = P} words task files k h = of_told (λ asked all. OnDue asked all P) words task files k.holds h
 
 -- so do the rows that it reads
@@ -168,7 +175,8 @@ pub stop_settles : (T : Type 0) {X : Type 0} (task : Task) (files : Option Files
 stop_settles T task None view stop h = record { holds = tt }
 stop_settles T task (Some all) view stop h = record { holds = λ due is. at_refusal due is (refusal_of (cause_of stop)) h }
   where
-    at_refusal : (due : Outcome) → IsOutcome (Some task) all due → (o : Option Outcome) → IfSome o (λ refusal. steps_of task all (Err refusal)) → IfSome o (λ refusal. due ≡ refusal)
+    at_refusal : (due : Outcome) → IsOutcome (Some task) all due → (o : Option Outcome) → IfSome o (λ refusal. steps_of task all (Err refusal))
+        → IfSome o (λ refusal. due ≡ refusal)
     at_refusal due is None h = tt
     at_refusal due is (Some refusal) h = one_outcome (Some task) all due refusal is (inr h)
 
@@ -205,7 +213,8 @@ answer_found T question file None raw result h settles = tt
 answer_found T question file (Some all) raw (Ok x) h settles = (outcome_of (answer_of question file raw), is_answer question file all raw h)
 answer_found T question file (Some all) raw (Err stop) h settles = at_refusal (refusal_of (cause_of stop)) settles
   where
-    at_refusal : (o : Option Outcome) → IfSome o (λ refusal. outcome_of (answer_of question file raw) ≡ refusal) → IfSome o (IsOutcome (Some (Ask question file)) all)
+    at_refusal : (o : Option Outcome) → IfSome o (λ refusal. outcome_of (answer_of question file raw) ≡ refusal)
+        → IfSome o (IsOutcome (Some (Ask question file)) all)
     at_refusal None e = tt
     at_refusal (Some refusal) e = subst (λ due. IsOutcome (Some (Ask question file)) all due) e (is_answer question file all raw h)
 

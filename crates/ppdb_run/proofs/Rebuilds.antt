@@ -48,7 +48,8 @@ module _ (input output : List ℕ) (options : Options) (files : Option Files) wh
       → IfSome files (λ all. Gives (written output) result (steps_of task all))
   is_rebuilt raw result h k = by_files files h
     where
-      by_files : (files : Option Files) → IfSome files (λ all. verified all input (Ok raw)) → IfSome files (λ all. Gives (written output) result (steps_of task all))
+      by_files : (files : Option Files) → IfSome files (λ all. verified all input (Ok raw))
+          → IfSome files (λ all. Gives (written output) result (steps_of task all))
       by_files None h = tt
       by_files (Some all) h = gives_next (written output) result (verified all input) (λ raw. gives (rebuilt input output options (value_of raw))) raw h k
 
@@ -65,7 +66,8 @@ module _ (input output : List ℕ) (options : Options) (files : Option Files) wh
   -- a run that wrote it, or could not, has an outcome, which is this
   module _ {T : Type 0} (result : Result T Stop) (bytes : List ℕ) (refuses : IfErr result (λ stop. refusal_of (cause_of stop) ≡ None))
       (h : IfSome files (λ all. steps_of task all (Ok (written output bytes)))) where
-    finds : (result : Result T Stop) → IfErr result (λ stop. refusal_of (cause_of stop) ≡ None) → (Due : Outcome → Type 0) → Due (written output bytes) → Finds result Due
+    finds : (result : Result T Stop) → IfErr result (λ stop. refusal_of (cause_of stop) ≡ None) → (Due : Outcome → Type 0) → Due (written output bytes)
+        → Finds result Due
     finds (Ok x) none Due due = (written output bytes, due)
     finds (Err stop) none Due due = subst (λ o. IfSome o Due) (sym none) tt
 
@@ -80,7 +82,8 @@ module _ (input output : List ℕ) (options : Options) (files : Option Files) wh
     pub written_found : IfSome files (λ all. Finds result (IsOutcome (Some task) all))
     written_found = by_files files h
       where
-        by_files : (files : Option Files) → IfSome files (λ all. steps_of task all (Ok (written output bytes))) → IfSome files (λ all. Finds result (IsOutcome (Some task) all))
+        by_files : (files : Option Files) → IfSome files (λ all. steps_of task all (Ok (written output bytes)))
+            → IfSome files (λ all. Finds result (IsOutcome (Some task) all))
         by_files None h = tt
         by_files (Some all) h = finds result refuses (IsOutcome (Some task) all) (inl h)
 
@@ -90,8 +93,10 @@ module _ (input output : List ℕ) (options : Options) (files : Option Files) wh
     pub written_silent : OnTask task files (λ due. OnOk result (due.text ≡ []))
     written_silent = on_written (λ due. OnOk result (due.text ≡ [])) bytes h (silent result)
 
-    pub written_leaves : (old mid new : Option Files) → mid ≡ old → Leaves result (Some (output, bytes)) mid new → OnTask task files (λ due. Leaves result due.writes old new)
-    written_leaves old mid new e leaves = on_written (λ due. Leaves result due.writes old new) bytes h (subst (λ m. Leaves result (Some (output, bytes)) m new) e leaves)
+    pub written_leaves : (old mid new : Option Files) → mid ≡ old → Leaves result (Some (output, bytes)) mid new
+        → OnTask task files (λ due. Leaves result due.writes old new)
+    written_leaves old mid new e leaves = on_written (λ due. Leaves result due.writes old new) bytes h
+        (subst (λ m. Leaves result (Some (output, bytes)) m new) e leaves)
 
     done : {P : Type 0} (result : Result T Stop) → P → OnOk result P
     done (Ok x) p = p
@@ -134,7 +139,8 @@ writes_file words input output options old new h (Some other) asks keeps =
     absurd (let same = subst (λ (t : Task). WritesNoFile (Some t)) (one_task words other (Rebuild input output options) asks h) keeps in cc)
 
 -- what holds of a task and its outcome over told files holds of what the words ask for
-pub on_asked : (P : Option Task → Outcome → Type 0) (words : List (List ℕ)) (asked : Task) (files : Option Files) → OnTask asked files (P (Some asked)) → Words asked words
+pub on_asked : (P : Option Task → Outcome → Type 0) (words : List (List ℕ)) (asked : Task) (files : Option Files) → OnTask asked files (P (Some asked))
+    → Words asked words
     → OnAsked words files P
 on_asked P words asked files k h =
     of_told (λ asked all. (due : Outcome) → IsOutcome asked all due → P asked due) words asked files k.holds h
@@ -150,10 +156,12 @@ on_then (Err stop) f p = tt
 
 -- ---- what is written is rebuilt to itself
 
-unknown_as : (marks : List (List ℕ)) (value other : FileValue) (id : List ℕ) → other ≡ with_id value id → unknown_kind marks value ≡ None → unknown_kind marks other ≡ None
+unknown_as : (marks : List (List ℕ)) (value other : FileValue) (id : List ℕ) → other ≡ with_id value id → unknown_kind marks value ≡ None
+    → unknown_kind marks other ≡ None
 unknown_as marks value other id e none = ap (unknown_kind marks) e ∙ none
 
-pub rebuilds : (options : Options) (value : FileValue) (bytes : List ℕ) → unknown_kind options.marks value ≡ None → bytes ≡ canon value (choice_of options.keep_id)
+pub rebuilds : (options : Options) (value : FileValue) (bytes : List ℕ) → unknown_kind options.marks value ≡ None
+    → bytes ≡ canon value (choice_of options.keep_id)
     → IsAccepted (BadFile bytes) → Says bytes (with_id value (chosen_id value (choice_of options.keep_id)))
     → ((again : RawFile) → IsRawOf bytes again → IsSameAgain value (choice_of options.keep_id) again) → RebuildsToItself options bytes
 rebuilds options value bytes none is accepted says same files name other read =

@@ -16,7 +16,8 @@ use Rattle.metadata_root.specs.Streams.BadStreams.{bounds}
 use Rattle.ppdb_verify.specs.Files.{BadFile, raw_in}
 use Rattle.ppdb_values.specs.RawFile.{RawFile}
 use Rattle.ppdb_values.specs.Value.{value_of}
-use Rattle.ppdb_run.specs.Outcome.{Outcome, ◌>>=◌, IsOutcome, HasDue, absent, too_long, refused, usage, gives, input_of, answer_of, rebuilt, outcome_of, steps_of, verified}
+use Rattle.ppdb_run.specs.Outcome.{Outcome, ◌>>=◌, IsOutcome, HasDue, absent, too_long, refused, usage, gives, input_of, answer_of, rebuilt}
+use Rattle.ppdb_run.specs.Outcome.{outcome_of, steps_of, verified}
 use Rattle.ppdb_run.specs.Words.{Task, Ask, Rebuild}
 
 -- what a stream of a kind is: that it is not listed, or the slice that is
@@ -26,7 +27,8 @@ Found file kind stream = MatchOption stream (IsListed file kind → ⊥) (IsStre
 module _ (file : List ℕ) (accepted : IsAccepted (BadContainer file)) where
   within : (kind : StreamKind) (listed : IsListed file kind) → offset_in file listed.0 + size_in file listed.0 ≤ length file
   within kind listed = elim (cases_lt (length file) (offset_in file listed.0 + size_in file listed.0)) [
-    | inl past ↦ absurd (accepted StreamBounds (at_byte 2 (header_place file listed.0)) (inr (λ code at bad. accepted code at (inl bad), bounds listed.0 listed.1.counted past)))
+    | inl past ↦ absurd (accepted StreamBounds (at_byte 2 (header_place file listed.0))
+        (inr (λ code at bad. accepted code at (inl bad), bounds listed.0 listed.1.counted past)))
     | inr le ↦ le
   ]
 
@@ -49,11 +51,13 @@ module _ (file : List ℕ) (accepted : IsAccepted (BadContainer file)) where
   -- a file has its streams
   some_streams : ((streams : Streams) → AreStreamsOf file streams → ⊥) → ⊥
   some_streams none =
-      found Pdb (λ pdb a. found Tables (λ tables b. found Strings (λ strings c. found UserStrings (λ user_strings d. found Guids (λ guids e. found Blobs (λ blobs f.
+      found Pdb (λ pdb a. found Tables (λ tables b. found Strings
+      (λ strings c. found UserStrings (λ user_strings d. found Guids (λ guids e. found Blobs (λ blobs f.
       none _ (are pdb tables strings user_strings guids blobs a b c d e f)))))))
 
 -- what a file is read as, or what it is refused for
-module _ (file : List ℕ) (files : Files) (given : (raw : RawFile) → verified files file (Ok raw) → ⊥) (refuses : (refusal : Outcome) → verified files file (Err refusal) → ⊥) where
+module _ (file : List ℕ) (files : Files) (given : (raw : RawFile) → verified files file (Ok raw) → ⊥)
+    (refuses : (refusal : Outcome) → verified files file (Err refusal) → ⊥) where
   by_reading : (r : Reading) → reading files file MAX_FILE_BYTES ≡ r → ⊥
   by_reading Missing is = refuses (absent file) (inr (absent file, sym (ap (input_of file) is), refl))
   by_reading Longer is = refuses (too_long file) (inr (too_long file, sym (ap (input_of file) is), refl))

@@ -54,7 +54,8 @@ OnAsked words files P = (asked : Option Task) → Asks words asked → (all : Fi
 
 -- the words have an outcome over the files that they see, unless something outside failed first
 abbrev pub HasOutcome : List (List ℕ) → Option Files → Status → Type 0
-HasOutcome words files status = (asked : Option Task) → Asks words asked → (all : Files) → AreSeen asked files all → UnlessFault status ((due : Outcome) × IsOutcome asked all due)
+HasOutcome words files status = (asked : Option Task) → Asks words asked → (all : Files) → AreSeen asked files all
+    → UnlessFault status ((due : Outcome) × IsOutcome asked all due)
 
 -- the task comes to read the file: nothing that comes before is refused
 abbrev pub ComesToRead : Task → Files → List ℕ → Type 0
@@ -114,11 +115,13 @@ pub record TellsUnwritten (words : List (List ℕ)) (old new : Option (List ℕ)
 -- the texts that may be due: that of the outcome, or, where a read or a write failed, the line of the file
 pub data IsDue (words : List (List ℕ)) (files : Option Files) (due : Outcome) (before after : ℕ) (ReadFailed WriteFailed : Type 0) : List ℕ → Type 0 where
   answer : IsDue words files due before after ReadFailed WriteFailed due.text
-  read_fault : (name : List ℕ) → IsUnread words files before after name → ReadFailed → IsDue words files due before after ReadFailed WriteFailed (read_fault_line name)
+  read_fault : (name : List ℕ) → IsUnread words files before after name → ReadFailed
+      → IsDue words files due before after ReadFailed WriteFailed (read_fault_line name)
   write_fault : (name : List ℕ) → IsUnwritten words name → WriteFailed → IsDue words files due before after ReadFailed WriteFailed (write_fault_line name)
 
 -- the text that was put is a front of one that was due
-pub record PutsFront (words : List (List ℕ)) (files : Option Files) (due : Outcome) (before after : ℕ) (ReadFailed WriteFailed : Type 0) (old new : Option (List ℕ)) : Type 0 where
+pub record PutsFront (words : List (List ℕ)) (files : Option Files) (due : Outcome) (before after : ℕ) (ReadFailed WriteFailed : Type 0)
+    (old new : Option (List ℕ)) : Type 0 where
   pub text : List ℕ
   pub is_due : IsDue words files due before after ReadFailed WriteFailed text
   pub written : AppendsFront old new text
@@ -136,7 +139,8 @@ WritesValid due = IfSome due.writes (λ file. IsAccepted (BadFile file.1))
 -- where a file holds these bytes, it is rebuilt to them
 abbrev pub RebuildsToItself : Options → List ℕ → Type 0
 RebuildsToItself options bytes =
-    (files : Files) (name other : List ℕ) → reading files name MAX_FILE_BYTES ≡ Contents bytes → IsOutcome (Some (Rebuild name other options)) files (written other bytes)
+    (files : Files) (name other : List ℕ) → reading files name MAX_FILE_BYTES ≡ Contents bytes
+    → IsOutcome (Some (Rebuild name other options)) files (written other bytes)
 
 -- the same task over what was written writes the same bytes again
 abbrev pub WritesAgain : Option Task → Outcome → Type 0

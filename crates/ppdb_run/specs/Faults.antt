@@ -20,7 +20,8 @@ part_text part =
 -- a cell of a table and a byte there, as ` table 32 row 2 column 4 byte 0`
 abbrev pub cell_fields : Place → List Field
 cell_fields at =
-    said (codes " table ") (table at.table) ∷ said (codes " row ") (number at.row) ∷ said (codes " column ") (number at.column) ∷ said (codes " byte ") (number at.byte) ∷ []
+    said (codes " table ") (table at.table) ∷ said (codes " row ") (number at.row) ∷ said (codes " column ") (number at.column)
+    ∷ said (codes " byte ") (number at.byte) ∷ []
 
 -- a byte of a part, as ` root byte 48`
 abbrev pub byte_fields : Place → List Field

@@ -43,18 +43,21 @@ merge_fields (Unmapped t row place) = said (codes " M1 table ") (table t) ∷ sa
 merge_fields (ImageTwice t first second image) =
     said (codes " M2 table ") (table t) ∷ said (codes " rows ") (number first) ∷ said (codes " ") (number second) ∷ said (codes " image ") (number image) ∷ []
 merge_fields (MethodTaken input first second image) =
-    said (codes " M3 input ") (number input) ∷ said (codes " row ") (number first) ∷ said (codes " row ") (number second) ∷ said (codes " image ") (number image) ∷ []
+    said (codes " M3 input ") (number input) ∷ said (codes " row ") (number first) ∷ said (codes " row ") (number second)
+    ∷ said (codes " image ") (number image) ∷ []
 merge_fields (OffsetBeyond method offset size) =
     said (codes " M4 method ") (number method) ∷ said (codes " offset ") (number offset) ∷ said (codes " size ") (number size) ∷ []
 merge_fields (AsyncLost method offset) = said (codes " M5 method ") (number method) ∷ said (codes " offset ") (number offset) ∷ []
 merge_fields (KindUnknown row kind) = said (codes " M6 row ") (number row) ∷ said (codes " kind ") (guid (Some kind)) ∷ []
 merge_fields (DocumentConflict row joined) = said (codes " M7 document ") (number row) ∷ said (codes " joined ") (number joined) ∷ []
-merge_fields (RowsDiffer input t first second) = said (codes " M8 table ") (table t) ∷ said (codes " rows ") (number first) ∷ said (codes " ") (number second) ∷ []
+merge_fields (RowsDiffer input t first second) = said (codes " M8 table ") (table t) ∷ said (codes " rows ") (number first)
+    ∷ said (codes " ") (number second) ∷ []
 merge_fields (ImageRange input t row image rows) =
     said (codes " M9 table ") (table t) ∷ said (codes " row ") (number row) ∷ said (codes " image ") (number image) ∷ said (codes " rows ") (number rows) ∷ []
 merge_fields (SlotUnmapped row slot) = said (codes " M10 variable ") (number row) ∷ said (codes " slot ") (number slot) ∷ []
 merge_fields (SlotTwice method first second image) =
-    said (codes " M11 method ") (number method) ∷ said (codes " slots ") (number first) ∷ said (codes " ") (number second) ∷ said (codes " image ") (number image) ∷ []
+    said (codes " M11 method ") (number method) ∷ said (codes " slots ") (number first) ∷ said (codes " ") (number second)
+    ∷ said (codes " image ") (number image) ∷ []
 merge_fields Memory = []
 
 abbrev pub unfit_line : List ℕ → MergeError → Line
@@ -76,7 +79,11 @@ map_limit_text bytes = line (numbered (codes "limit map bytes ") bytes)
 -- the sizes of a method after the first map and before the second
 abbrev pub sizes_line : ℕ → ℕ → ℕ → Line
 sizes_line method first second =
-    record { word = codes "sizes differ"; fields = said (codes " method ") (number method) ∷ said (codes " ") (number first) ∷ said (codes " ") (number second) ∷ [] }
+    record {
+      word = codes "sizes differ";
+      fields = said (codes " method ") (number method) ∷ said (codes " ") (number first)
+          ∷ said (codes " ") (number second) ∷ [];
+    }
 
 -- ---- questions about a file
 

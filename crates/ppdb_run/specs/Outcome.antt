@@ -1,5 +1,6 @@
 -- What a command comes to over the files: a status, a text, and at most one file that is written.
-use Rattle.std.specs.Prelude.{ℕ, ◌≡◌, ◌⊎◌, List, [], ◌∷◌, Bool, true, false, ◌&&◌, if◌then◌else◌, nat_le, find, Option, Some, None, option_map, Result, Ok, Err, codes}
+use Rattle.std.specs.Prelude.{ℕ, ◌≡◌, ◌⊎◌, List, [], ◌∷◌, Bool, true, false, ◌&&◌, if◌then◌else◌, nat_le, find, Option, Some, None, option_map}
+use Rattle.std.specs.Prelude.{Result, Ok, Err, codes}
 use Rattle.custom_info.specs.declared.kinds.Kind.{Kind}
 use Rattle.custom_info.specs.declared.kinds.Kind.TheVariants.{Unknown}
 use Rattle.custom_info.specs.Kinds.{kind_of}
@@ -175,7 +176,8 @@ is_unknown kind = false
 
 -- the first custom record whose kind is neither read nor passed on
 abbrev pub unknown_kind : List (List ℕ) → FileValue → Option MergeError
-unknown_kind marks value = option_map (λ custom. KindUnknown custom.0 custom.1.kind) (find (λ custom. is_unknown (kind_of marks custom.1.kind)) (numbered value.customs))
+unknown_kind marks value = option_map (λ custom. KindUnknown custom.0 custom.1.kind)
+    (find (λ custom. is_unknown (kind_of marks custom.1.kind)) (numbered value.customs))
 
 -- the identity of what is written
 abbrev pub choice_of : Bool → IdChoice

@@ -100,7 +100,8 @@ IsNoInput status = (status ≡ statuses.Absent) ⊎ (status ≡ statuses.TooLong
 
 -- what a stop comes from: Misused says that the words are no command's, ReadFailed, WriteFailed and PutFailed that a count of faults rose,
 -- and ToRead and ToWrite of which file
-abbrev pub ComesFrom : Cause → (Misused : Type 0) → (ToRead ToWrite : List ℕ → Type 0) → (files : Option Files) → (ReadFailed WriteFailed PutFailed : Type 0) → Type 0
+abbrev pub ComesFrom : Cause → (Misused : Type 0) → (ToRead ToWrite : List ℕ → Type 0) → (files : Option Files) → (ReadFailed WriteFailed PutFailed : Type 0)
+    → Type 0
 ComesFrom (Refusal outcome) Misused ToRead ToWrite files ReadFailed WriteFailed PutFailed =
     (outcome.status ≡ statuses.Usage → Misused) × (files ≡ None → IsNoInput outcome.status → ReadFailed)
 ComesFrom (Unread name) Misused ToRead ToWrite files ReadFailed WriteFailed PutFailed = ToRead name × ReadFailed

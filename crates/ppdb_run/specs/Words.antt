@@ -63,7 +63,8 @@ IsFileAlone file words = (words ≡ file ∷ []) × IsTrue (is_file_word file)
 -- the words of options: any list of --keep-id and of --free with a GUID behind it
 pub data AreOptions : List (List ℕ) → Options → Type 0 where
   no_option : AreOptions [] (record { keep_id = false; marks = [] })
-  keep_id : {words : List (List ℕ)} {options : Options} → AreOptions words options → AreOptions (codes "--keep-id" ∷ words) (record { keep_id = true; marks = options.marks })
+  keep_id : {words : List (List ℕ)} {options : Options} → AreOptions words options
+      → AreOptions (codes "--keep-id" ∷ words) (record { keep_id = true; marks = options.marks })
   free : {words : List (List ℕ)} {options : Options} (word guid : List ℕ) → parsed word ≡ Some guid → AreOptions words options
       → AreOptions (codes "--free" ∷ word ∷ words) (record { keep_id = options.keep_id; marks = swap_fields guid ∷ options.marks })
 
@@ -79,7 +80,8 @@ Words (Ask Links file) words = (words ≡ codes "links" ∷ file ∷ []) × IsTr
 Words (Ask (Breaks document line) file) words =
     (words ≡ codes "breaks" ∷ file ∷ document ∷ decimal line ∷ []) × IsTrue (is_file_word file) × IsTrue (is_name_word document) × (line ≤ MAX_LINE)
 Words (Rebuild input output options) words =
-    (rest : List (List ℕ)) × (words ≡ codes "rebuild" ∷ input ∷ output ∷ rest) × IsTrue (is_file_word input) × IsTrue (is_file_word output) × AreOptions rest options
+    (rest : List (List ℕ)) × (words ≡ codes "rebuild" ∷ input ∷ output ∷ rest) × IsTrue (is_file_word input) × IsTrue (is_file_word output)
+    × AreOptions rest options
 
 -- no task has these words
 abbrev pub NoTask : List (List ℕ) → Type 0

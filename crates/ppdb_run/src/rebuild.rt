@@ -36,10 +36,12 @@ pub fn rebuild<'a, F: Folder, K: Ledger, L: Ledger>(
     ensures found { IfSome (F.files folder.old) (λ all. Finds result (IsOutcome (Some (Rebuild input.now output.now (options_of options.entry))) all)) }
     ensures told { OnTask (Rebuild input.now output.now (options_of options.entry)) (F.files folder.old) (Settles result) }
     ensures silent { OnTask (Rebuild input.now output.now (options_of options.entry)) (F.files folder.old) (λ due. OnOk result (due.text ≡ [])) }
-    ensures files { OnTask (Rebuild input.now output.now (options_of options.entry)) (F.files folder.old) (λ due. Leaves result due.writes (F.files folder.old) (F.files folder.new)) }
+    ensures files { OnTask (Rebuild input.now output.now (options_of options.entry)) (F.files folder.old)
+        (λ due. Leaves result due.writes (F.files folder.old) (F.files folder.new)) }
 
     ensures accepted { OnOk result (OnTask (Rebuild input.now output.now (options_of options.entry)) (F.files folder.old) WritesValid) }
-    ensures again { OnOk result (OnTask (Rebuild input.now output.now (options_of options.entry)) (F.files folder.old) (WritesAgain (Some (Rebuild input.now output.now (options_of options.entry))))) }
+    ensures again { OnOk result (OnTask (Rebuild input.now output.now (options_of options.entry)) (F.files folder.old)
+        (WritesAgain (Some (Rebuild input.now output.now (options_of options.entry))))) }
 
     // What a stop comes from, and what it leaves.
     ensures causes { IfErr result (λ stop. ComesFrom (cause_of stop)
@@ -91,7 +93,8 @@ fn rebuilt_bytes<'a, F: Folder, K: Ledger, L: Ledger>(
     checks: &mut Steps<K>,
     steps: &mut Steps<L>,
 ) -> Result<Bytes, Stop<'a>>
-    ensures told { (output : List ℕ) → IfSome (F.files folder.old) (λ all. Gives (written output) result (steps_of (Rebuild input.now output (options_of options.entry)) all)) }
+    ensures told { (output : List ℕ) → IfSome (F.files folder.old)
+        (λ all. Gives (written output) result (steps_of (Rebuild input.now output (options_of options.entry)) all)) }
     ensures accepted { IfOk result (λ bytes. IsAccepted (BadFile bytes)) }
     ensures again { IfOk result (RebuildsToItself (options_of options.entry)) }
     ensures files { F.files folder.new ≡ F.files folder.old }
@@ -124,7 +127,8 @@ fn file_bytes<'a, L: Ledger>(
     keep_id: bool,
     steps: &mut Steps<L>,
 ) -> Result<Bytes, Stop<'a>>
-    ensures told { (output : List ℕ) → Gives (written output) result (gives (rebuilt name.now output (record { keep_id = keep_id; marks = marks.now }) (value_of (raw_file file.now)))) }
+    ensures told { (output : List ℕ) → Gives (written output) result
+        (gives (rebuilt name.now output (record { keep_id = keep_id; marks = marks.now }) (value_of (raw_file file.now)))) }
     ensures accepted { IfOk result (λ bytes. IsAccepted (BadFile bytes)) }
     ensures again { IfOk result (RebuildsToItself (record { keep_id = keep_id; marks = marks.now })) }
     ensures causes { IfErr result (λ stop. ComesFrom (cause_of stop) ⊥ no_file no_file None ⊥ ⊥ ⊥) }

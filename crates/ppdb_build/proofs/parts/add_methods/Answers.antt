@@ -25,7 +25,8 @@ loop-method-preserved c =
 
 pub returns-in-Err-clause-limit : goal.returns-in-Err-clause-limit
 returns-in-Err-clause-limit c =
-    step_at c.args.methods.now c.loop-method.method-index c.method-item.result (omega arith) c.loop-method.invariant.none (sym c.method-item.is) c.in-Err.error c.in-Err.ensures.limit
+    step_at c.args.methods.now c.loop-method.method-index c.method-item.result (omega arith) c.loop-method.invariant.none (sym c.method-item.is)
+    c.in-Err.error c.in-Err.ensures.limit
 
 pub returns-clause-none : goal.returns-clause-none
 returns-clause-none c =

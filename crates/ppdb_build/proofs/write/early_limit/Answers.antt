@@ -14,5 +14,6 @@ returns c =
     c.or.ensures
     ∙ ap (λ (o : Option Limit). option_or o c.offset_limit.result) c.length_limit.ensures
     ∙ ap (option_or _) (c.offset_limit.ensures ∙ ap (λ (methods : List MethodValue). first_of (filter_map large_offset methods)) c.as_slice.ensures)
-    ∙ one_more (first_of (filter_map (too_many_rows value) tables)) (list_past_end value 0x33 (λ scope. length scope.variables)) (list_past_end value 0x34 (λ scope. length scope.constants))
+    ∙ one_more (first_of (filter_map (too_many_rows value) tables)) (list_past_end value 0x33 (λ scope. length scope.variables))
+    (list_past_end value 0x34 (λ scope. length scope.constants))
     (first_of (filter_map large_offset value.methods))

@@ -13,31 +13,37 @@ pub returns-in-Some-clause-limit : goal.returns-in-Some-clause-limit
 returns-in-Some-clause-limit c =
     let value = c.args.value.now in
     let draft = c.args.draft.now in
-    let counted : c.counts_of-counts.result ≡ counts value = c.counts_of-counts.ensures ∙ counts_same value draft (are_few value c.requires.types.rows c.requires.early) c.requires.draft in
+    let counted : c.counts_of-counts.result ≡ counts value = c.counts_of-counts.ensures
+    ∙ counts_same value draft (are_few value c.requires.types.rows c.requires.early) c.requires.draft in
     let len : c.draft_len-len.result ≡ told (length (file_bytes (canonical value value.id))) =
     c.draft_len-len.ensures value.id value.entry c.requires.types.id
     ∙ ap told (draft_length value draft c.counts_of-counts.result value.id value.id c.requires.draft counted c.requires.types.id c.requires.types.id) in
-    late_first value c.requires.early c.requires.steps ∙ sym (c.in-Some.ensures (length (file_bytes (canonical value value.id))) (span value) len (c.span.ensures ∙ c.requires.draft.span_is))
+    late_first value c.requires.early c.requires.steps
+    ∙ sym (c.in-Some.ensures (length (file_bytes (canonical value value.id))) (span value) len (c.span.ensures ∙ c.requires.draft.span_is))
 
 pub can_be_laid-requires-clause-none : goal.can_be_laid-requires-clause-none
 can_be_laid-requires-clause-none c =
     let value = c.args.value.now in
     let draft = c.args.draft.now in
-    let counted : c.counts_of-counts.result ≡ counts value = c.counts_of-counts.ensures ∙ counts_same value draft (are_few value c.requires.types.rows c.requires.early) c.requires.draft in
+    let counted : c.counts_of-counts.result ≡ counts value = c.counts_of-counts.ensures
+    ∙ counts_same value draft (are_few value c.requires.types.rows c.requires.early) c.requires.draft in
     let len : c.draft_len-len.result ≡ told (length (file_bytes (canonical value value.id))) =
     c.draft_len-len.ensures value.id value.entry c.requires.types.id
     ∙ ap told (draft_length value draft c.counts_of-counts.result value.id value.id c.requires.draft counted c.requires.types.id c.requires.types.id) in
-    late_first value c.requires.early c.requires.steps ∙ sym (c.in-None.ensures (length (file_bytes (canonical value value.id))) (span value) len (c.span.ensures ∙ c.requires.draft.span_is))
+    late_first value c.requires.early c.requires.steps
+    ∙ sym (c.in-None.ensures (length (file_bytes (canonical value value.id))) (span value) len (c.span.ensures ∙ c.requires.draft.span_is))
 
 pub returns-clause-within : goal.returns-clause-within
 returns-clause-within c =
     let value = c.args.value.now in
     let draft = c.args.draft.now in
-    let counted : c.counts_of-counts.result ≡ counts value = c.counts_of-counts.ensures ∙ counts_same value draft (are_few value c.requires.types.rows c.requires.early) c.requires.draft in
+    let counted : c.counts_of-counts.result ≡ counts value = c.counts_of-counts.ensures
+    ∙ counts_same value draft (are_few value c.requires.types.rows c.requires.early) c.requires.draft in
     let len : c.draft_len-len.result ≡ told (length (file_bytes (canonical value value.id))) =
     c.draft_len-len.ensures value.id value.entry c.requires.types.id
     ∙ ap told (draft_length value draft c.counts_of-counts.result value.id value.id c.requires.draft counted c.requires.types.id c.requires.types.id) in
-    late_first value c.requires.early c.requires.steps ∙ sym (c.in-None.ensures (length (file_bytes (canonical value value.id))) (span value) len (c.span.ensures ∙ c.requires.draft.span_is))
+    late_first value c.requires.early c.requires.steps
+    ∙ sym (c.in-None.ensures (length (file_bytes (canonical value value.id))) (span value) len (c.span.ensures ∙ c.requires.draft.span_is))
 
 pub returns-clause-written : goal.returns-clause-written
 returns-clause-written c =

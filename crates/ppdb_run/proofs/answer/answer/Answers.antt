@@ -22,7 +22,8 @@ returns-in-Err-clause-told g c =
 
 pub returns-in-Err-clause-cut : goal.returns-in-Err-clause-cut
 returns-in-Err-clause-cut g c =
-    cut_nothing (Unit {0}) (Ask (question_of c.args.question) c.args.file.now) (g.F.Folder.files c.args.folder.now) c.in-Err.stop (g.O.Sink.written c.args.out.now)
+    cut_nothing (Unit {0}) (Ask (question_of c.args.question) c.args.file.now) (g.F.Folder.files c.args.folder.now) c.in-Err.stop
+    (g.O.Sink.written c.args.out.now)
 
 pub returns-in-Err-clause-rows : goal.returns-in-Err-clause-rows
 returns-in-Err-clause-rows g c = nothing_read (question_of c.args.question) c.args.file.now (g.F.Folder.files c.args.folder.now) c.args.steps.now
@@ -53,7 +54,8 @@ returns-clause-cut g c =
 
 pub returns-clause-causes : goal.returns-clause-causes
 returns-clause-causes g c =
-    widened_stop c.put_answer.result (λ m. m) (λ name r. absurd r) (λ name w. w) (λ e. refl) (λ a. absurd a) (λ b. absurd b) (λ p. p) c.put_answer.ensures.causes
+    widened_stop c.put_answer.result (λ m. m) (λ name r. absurd r) (λ name w. w) (λ e. refl) (λ a. absurd a) (λ b. absurd b) (λ p. p)
+    c.put_answer.ensures.causes
 
 pub returns-clause-rows : goal.returns-clause-rows
 returns-clause-rows g c = record {

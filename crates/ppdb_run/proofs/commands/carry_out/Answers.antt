@@ -57,20 +57,23 @@ returns-in-Ask-clause-causes g c =
 pub returns-in-Ask-clause-accepted : goal.returns-in-Ask-clause-accepted
 returns-in-Ask-clause-accepted g c =
     let words = subst (λ task. Words task (texts c.args.words.now)) (sym c.in-Ask.ensures) c.in-Ok.ensures.command in
-    on_done c.answer.result (of_task _ _ _ (nothing_to_judge WritesValid (λ due none. subst (λ w. IfSome w (λ file. IsAccepted (BadFile file.1))) (sym none) tt) (question_of c.in-Ask.question) c.in-Ask.file.now
+    on_done c.answer.result (of_task _ _ _ (nothing_to_judge WritesValid
+    (λ due none. subst (λ w. IfSome w (λ file. IsAccepted (BadFile file.1))) (sym none) tt) (question_of c.in-Ask.question) c.in-Ask.file.now
     (g.F.Folder.files c.args.folder.now)) words)
 
 pub returns-in-Ask-clause-again : goal.returns-in-Ask-clause-again
 returns-in-Ask-clause-again g c =
     let words = subst (λ task. Words task (texts c.args.words.now)) (sym c.in-Ask.ensures) c.in-Ok.ensures.command in
     on_done c.answer.result (on_asked WritesAgain _ (Ask (question_of c.in-Ask.question) c.in-Ask.file.now) (g.F.Folder.files c.args.folder.now)
-    (nothing_to_judge (WritesAgain (Some (Ask (question_of c.in-Ask.question) c.in-Ask.file.now))) (λ due none. tt) (question_of c.in-Ask.question) c.in-Ask.file.now
+    (nothing_to_judge (WritesAgain (Some (Ask (question_of c.in-Ask.question) c.in-Ask.file.now))) (λ due none. tt) (question_of c.in-Ask.question)
+    c.in-Ask.file.now
     (g.F.Folder.files c.args.folder.now)) words)
 
 pub returns-in-Rebuild-clause-found : goal.returns-in-Rebuild-clause-found
 returns-in-Rebuild-clause-found g c =
     let words = subst (λ task. Words task (texts c.args.words.now)) (sym c.in-Rebuild.ensures) c.in-Ok.ensures.command in
-    of_told (λ asked all. Finds c.rebuild.result (IsOutcome asked all)) (texts c.args.words.now) (Rebuild c.in-Rebuild.input.now c.in-Rebuild.output.now (options_of c.in-Rebuild.options))
+    of_told (λ asked all. Finds c.rebuild.result (IsOutcome asked all)) (texts c.args.words.now)
+    (Rebuild c.in-Rebuild.input.now c.in-Rebuild.output.now (options_of c.in-Rebuild.options))
     (g.F.Folder.files c.args.folder.now) c.rebuild.ensures.found words
 
 pub returns-in-Rebuild-clause-told : goal.returns-in-Rebuild-clause-told
@@ -81,7 +84,8 @@ returns-in-Rebuild-clause-told g c =
 pub returns-in-Rebuild-clause-text : goal.returns-in-Rebuild-clause-text
 returns-in-Rebuild-clause-text g c =
     let words = subst (λ task. Words task (texts c.args.words.now)) (sym c.in-Rebuild.ensures) c.in-Ok.ensures.command in
-    of_task _ _ _ (nothing_put c.in-Rebuild.input.now c.in-Rebuild.output.now (options_of c.in-Rebuild.options) (g.F.Folder.files c.args.folder.now) c.rebuild.result
+    of_task _ _ _ (nothing_put c.in-Rebuild.input.now c.in-Rebuild.output.now (options_of c.in-Rebuild.options) (g.F.Folder.files c.args.folder.now)
+    c.rebuild.result
     (g.O.Sink.written c.args.out.now) c.rebuild.ensures.silent) words
 
 pub returns-in-Rebuild-clause-files : goal.returns-in-Rebuild-clause-files
@@ -97,19 +101,22 @@ returns-in-Rebuild-clause-accepted g c =
 pub returns-in-Rebuild-clause-again : goal.returns-in-Rebuild-clause-again
 returns-in-Rebuild-clause-again g c =
     let words = subst (λ task. Words task (texts c.args.words.now)) (sym c.in-Rebuild.ensures) c.in-Ok.ensures.command in
-    on_then c.rebuild.result (λ h. on_asked WritesAgain _ (Rebuild c.in-Rebuild.input.now c.in-Rebuild.output.now (options_of c.in-Rebuild.options)) (g.F.Folder.files c.args.folder.now) h words)
+    on_then c.rebuild.result (λ h. on_asked WritesAgain _ (Rebuild c.in-Rebuild.input.now c.in-Rebuild.output.now (options_of c.in-Rebuild.options))
+    (g.F.Folder.files c.args.folder.now) h words)
     c.rebuild.ensures.again
 
 pub returns-in-Rebuild-clause-rows : goal.returns-in-Rebuild-clause-rows
 returns-in-Rebuild-clause-rows g c =
     let words = subst (λ task. Words task (texts c.args.words.now)) (sym c.in-Rebuild.ensures) c.in-Ok.ensures.command in
-    of_rows _ (Rebuild c.in-Rebuild.input.now c.in-Rebuild.output.now (options_of c.in-Rebuild.options)) (g.F.Folder.files c.args.folder.now) _ _ (record { none = λ no. absurd no; bound = tt }) words
+    of_rows _ (Rebuild c.in-Rebuild.input.now c.in-Rebuild.output.now (options_of c.in-Rebuild.options)) (g.F.Folder.files c.args.folder.now) _ _
+    (record { none = λ no. absurd no; bound = tt }) words
 
 pub returns-in-Rebuild-clause-causes : goal.returns-in-Rebuild-clause-causes
 returns-in-Rebuild-clause-causes g c =
     let words = subst (λ task. Words task (texts c.args.words.now)) (sym c.in-Rebuild.ensures) c.in-Ok.ensures.command in
     widened_stop c.rebuild.result (λ m. absurd m)
-    (λ name r. is_input (texts c.args.words.now) c.in-Rebuild.input.now c.in-Rebuild.output.now (options_of c.in-Rebuild.options) (g.F.Folder.files c.args.folder.now)
+    (λ name r. is_input (texts c.args.words.now) c.in-Rebuild.input.now c.in-Rebuild.output.now (options_of c.in-Rebuild.options)
+    (g.F.Folder.files c.args.folder.now)
     _ _ name words r.0 r.1)
     (λ name w. is_output (texts c.args.words.now) c.in-Rebuild.input.now c.in-Rebuild.output.now (options_of c.in-Rebuild.options) name words w)
     (λ e. e) (λ a. a) (λ b. b) (λ p. absurd p) c.rebuild.ensures.causes

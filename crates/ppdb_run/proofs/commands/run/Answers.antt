@@ -25,19 +25,23 @@ returns-in-Err-clause-complete g c =
 
 pub returns-in-Err-clause-read_fault : goal.returns-in-Err-clause-read_fault
 returns-in-Err-clause-read_fault g c = λ is.
-    stopped_read_fault (cause_of c.in-Err.stop) _ _ _ _ _ (refuses c.in-Err.stop) c.tell.ensures _ _ _ _ _ _ _ _ c.in-Err.ensures.causes c.in-Err.ensures.silent is
+    stopped_read_fault (cause_of c.in-Err.stop) _ _ _ _ _ (refuses c.in-Err.stop) c.tell.ensures _ _ _ _ _ _ _ _ c.in-Err.ensures.causes
+    c.in-Err.ensures.silent is
 
 pub returns-in-Err-clause-unread : goal.returns-in-Err-clause-unread
 returns-in-Err-clause-unread g c = λ is.
-    stopped_unread (cause_of c.in-Err.stop) _ _ _ _ _ (refuses c.in-Err.stop) c.tell.ensures _ _ _ _ _ _ _ _ _ _ _ c.in-Err.ensures.causes c.in-Err.ensures.silent is
+    stopped_unread (cause_of c.in-Err.stop) _ _ _ _ _ (refuses c.in-Err.stop) c.tell.ensures _ _ _ _ _ _ _ _ _ _ _ c.in-Err.ensures.causes
+    c.in-Err.ensures.silent is
 
 pub returns-in-Err-clause-write_fault : goal.returns-in-Err-clause-write_fault
 returns-in-Err-clause-write_fault g c = λ is.
-    stopped_write_fault (cause_of c.in-Err.stop) _ _ _ _ _ (refuses c.in-Err.stop) c.tell.ensures _ _ _ _ _ _ _ _ c.in-Err.ensures.later c.in-Err.ensures.causes c.in-Err.ensures.silent is
+    stopped_write_fault (cause_of c.in-Err.stop) _ _ _ _ _ (refuses c.in-Err.stop) c.tell.ensures _ _ _ _ _ _ _ _ c.in-Err.ensures.later
+    c.in-Err.ensures.causes c.in-Err.ensures.silent is
 
 pub returns-in-Err-clause-unwritten : goal.returns-in-Err-clause-unwritten
 returns-in-Err-clause-unwritten g c = λ is.
-    stopped_unwritten (cause_of c.in-Err.stop) _ _ _ _ _ (refuses c.in-Err.stop) c.tell.ensures _ _ _ _ _ _ _ _ c.in-Err.ensures.later c.in-Err.ensures.causes c.in-Err.ensures.silent is
+    stopped_unwritten (cause_of c.in-Err.stop) _ _ _ _ _ (refuses c.in-Err.stop) c.tell.ensures _ _ _ _ _ _ _ _ c.in-Err.ensures.later
+    c.in-Err.ensures.causes c.in-Err.ensures.silent is
 
 pub returns-in-Ok-clause-front : goal.returns-in-Ok-clause-front
 returns-in-Ok-clause-front g c = front_of_done _ _ _ _ _ _ _ _ c.in-Ok.ensures.text

@@ -9,19 +9,24 @@ pub returns-in_ok-put_tabled-in-TableRows : goal.returns-in_ok-put_tabled-in-Tab
 returns-in_ok-put_tabled-in-TableRows g c = rw c.in-TableRows.is (puts_then _ _ _ _ _ _ _ _ _ c.in_ok-put_tabled-in-TableRows.ensures c.put_number_line.ensures)
 
 pub returns-in_err-put_tabled-in-ListPastEnd : goal.returns-in_err-put_tabled-in-ListPastEnd
-returns-in_err-put_tabled-in-ListPastEnd g c = rw c.in-ListPastEnd.is (puts_cut _ _ _ _ _ _ _ _ c.from_residual-in_err-put_tabled-in-ListPastEnd.ensures.1 c.in_err-put_tabled-in-ListPastEnd.ensures)
+returns-in_err-put_tabled-in-ListPastEnd g c = rw c.in-ListPastEnd.is
+    (puts_cut _ _ _ _ _ _ _ _ c.from_residual-in_err-put_tabled-in-ListPastEnd.ensures.1 c.in_err-put_tabled-in-ListPastEnd.ensures)
 
 pub returns-in_ok-put_tabled-in-ListPastEnd : goal.returns-in_ok-put_tabled-in-ListPastEnd
-returns-in_ok-put_tabled-in-ListPastEnd g c = rw c.in-ListPastEnd.is (puts_then _ _ _ _ _ _ _ _ _ c.in_ok-put_tabled-in-ListPastEnd.ensures (rw c.from.ensures at c.put_number_line-in-ListPastEnd.ensures))
+returns-in_ok-put_tabled-in-ListPastEnd g c = rw c.in-ListPastEnd.is
+    (puts_then _ _ _ _ _ _ _ _ _ c.in_ok-put_tabled-in-ListPastEnd.ensures (rw c.from.ensures at c.put_number_line-in-ListPastEnd.ensures))
 
 pub returns-in_err-put_numbered-in-PointOffset : goal.returns-in_err-put_numbered-in-PointOffset
-returns-in_err-put_numbered-in-PointOffset g c = rw c.in-PointOffset.is (puts_cut _ _ _ _ _ _ _ _ c.from_residual-in_err-put_numbered-in-PointOffset.ensures.1 c.in_err-put_numbered-in-PointOffset.ensures)
+returns-in_err-put_numbered-in-PointOffset g c = rw c.in-PointOffset.is
+    (puts_cut _ _ _ _ _ _ _ _ c.from_residual-in_err-put_numbered-in-PointOffset.ensures.1 c.in_err-put_numbered-in-PointOffset.ensures)
 
 pub returns-in_ok-put_numbered-in-PointOffset : goal.returns-in_ok-put_numbered-in-PointOffset
-returns-in_ok-put_numbered-in-PointOffset g c = rw c.in-PointOffset.is (puts_then _ _ _ _ _ _ _ _ _ c.in_ok-put_numbered-in-PointOffset.ensures (rw c.from-in-PointOffset.ensures at c.put_number_line-in-PointOffset.ensures))
+returns-in_ok-put_numbered-in-PointOffset g c = rw c.in-PointOffset.is
+    (puts_then _ _ _ _ _ _ _ _ _ c.in_ok-put_numbered-in-PointOffset.ensures (rw c.from-in-PointOffset.ensures at c.put_number_line-in-PointOffset.ensures))
 
 pub returns-in_err-put_numbered-in-LineStep : goal.returns-in_err-put_numbered-in-LineStep
-returns-in_err-put_numbered-in-LineStep g c = rw c.in-LineStep.is (puts_cut _ _ _ _ _ _ _ _ c.from_residual-in_err-put_numbered-in-LineStep.ensures.1 c.in_err-put_numbered-in-LineStep.ensures)
+returns-in_err-put_numbered-in-LineStep g c = rw c.in-LineStep.is
+    (puts_cut _ _ _ _ _ _ _ _ c.from_residual-in_err-put_numbered-in-LineStep.ensures.1 c.in_err-put_numbered-in-LineStep.ensures)
 
 pub returns-in_ok-put_numbered-in-LineStep : goal.returns-in_ok-put_numbered-in-LineStep
 returns-in_ok-put_numbered-in-LineStep g c =

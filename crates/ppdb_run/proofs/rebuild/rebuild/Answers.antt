@@ -10,12 +10,14 @@ use Rattle.ppdb_run.proofs.rebuild.rebuild.Goals as goal
 
 pub returns-in-Err-clause-found : goal.returns-in-Err-clause-found
 returns-in-Err-clause-found g c =
-    stop_found (Unit {0}) (Rebuild c.args.input.now c.args.output.now (options_of c.args.options)) (g.F.Folder.files c.args.folder.now) (written c.args.output.now)
+    stop_found (Unit {0}) (Rebuild c.args.input.now c.args.output.now (options_of c.args.options)) (g.F.Folder.files c.args.folder.now)
+    (written c.args.output.now)
     c.in-Err.stop (c.in-Err.ensures.told c.args.output.now)
 
 pub returns-in-Err-clause-told : goal.returns-in-Err-clause-told
 returns-in-Err-clause-told g c =
-    stop_settles (Unit {0}) (Rebuild c.args.input.now c.args.output.now (options_of c.args.options)) (g.F.Folder.files c.args.folder.now) (written c.args.output.now)
+    stop_settles (Unit {0}) (Rebuild c.args.input.now c.args.output.now (options_of c.args.options)) (g.F.Folder.files c.args.folder.now)
+    (written c.args.output.now)
     c.in-Err.stop (c.in-Err.ensures.told c.args.output.now)
 
 pub returns-in-Err-clause-files : goal.returns-in-Err-clause-files
@@ -40,7 +42,8 @@ returns-clause-silent g c =
 pub returns-clause-files : goal.returns-clause-files
 returns-clause-files g c =
     written_leaves c.args.input.now c.args.output.now (options_of c.args.options) (g.F.Folder.files c.args.folder.now) c.write_output.result _
-    c.write_output.ensures.no_refusal (c.in-Ok.ensures.told c.args.output.now) _ _ _ c.in-Ok.ensures.files (rw c.as_slice.ensures at c.write_output.ensures.files)
+    c.write_output.ensures.no_refusal (c.in-Ok.ensures.told c.args.output.now) _ _ _ c.in-Ok.ensures.files
+    (rw c.as_slice.ensures at c.write_output.ensures.files)
 
 pub returns-clause-accepted : goal.returns-clause-accepted
 returns-clause-accepted g c =

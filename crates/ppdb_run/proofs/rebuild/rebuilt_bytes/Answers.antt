@@ -16,5 +16,6 @@ pub returns-clause-told : goal.returns-clause-told
 returns-clause-told g c = λ output.
     is_rebuilt c.args.input.now output (options_of c.args.options) (g.F.Folder.files c.args.folder.now) (raw_file c.in-Ok.file) c.file_bytes.result
     c.in-Ok.ensures.told
-    (subst (λ marks. Gives (written output) c.file_bytes.result (gives (rebuilt c.args.input.now output (record { keep_id = c.args.options.keep_id; marks = marks }) (value_of (raw_file c.in-Ok.file)))))
+    (subst (λ marks. Gives (written output) c.file_bytes.result
+    (gives (rebuilt c.args.input.now output (record { keep_id = c.args.options.keep_id; marks = marks }) (value_of (raw_file c.in-Ok.file)))))
     c.in_ok-marks.ensures (c.file_bytes.ensures.told output))

@@ -15,7 +15,8 @@ returns-then-is_unknown g c =
     let is : is_unknown (kind_of c.args.marks.now (kind_in raw c.custom-cells.result)) ≡ true =
     rw (← c.guid_of_kind-kind.ensures, ← c.kind_of.ensures, ← c.is_unknown.ensures) c.if-is_unknown.true in
     rw c.guid_of_kind-kind.ensures
-    (sym (ap (option_map (λ custom. KindUnknown custom.0 custom.1.kind)) (at_unknown c.args.marks.now raw c.loop-row.row c.custom-cells.result c.custom-cells.ensures.row is c.loop-row.invariant)))
+    (sym (ap (option_map (λ custom. KindUnknown custom.0 custom.1.kind))
+    (at_unknown c.args.marks.now raw c.loop-row.row c.custom-cells.result c.custom-cells.ensures.row is c.loop-row.invariant)))
 
 pub loop-row-preserved : goal.loop-row-preserved
 loop-row-preserved g c =
@@ -28,4 +29,5 @@ pub returns : goal.returns
 returns g c =
     let raw = raw_of (tables_of c.args.file.now) in
     let shape = c.keeps.ensures.rules.shape.customs in
-    sym (ap (option_map (λ custom. KindUnknown custom.0 custom.1.kind)) (none_unknown c.args.marks.now raw c.loop-row.row (omega (arith, shape)) c.loop-row.invariant))
+    sym (ap (option_map (λ custom. KindUnknown custom.0 custom.1.kind))
+    (none_unknown c.args.marks.now raw c.loop-row.row (omega (arith, shape)) c.loop-row.invariant))
