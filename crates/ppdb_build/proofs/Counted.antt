@@ -1,5 +1,5 @@
 -- The tables of a draft have as many rows as those of the canonical file.
-use Rattle.std.proofs.Common.{◌≡◌, ℕ, ◌≤◌, List, [], ◌∷◌, ◌++◌, length, map, min, take, replicate, refl, sym, ap, subst, ◌∙◌, arith, Option, Some}
+use Rattle.std.proofs.Common.{◌≡◌, ℕ, ◌≤◌, List, [], ◌∷◌, ◌++◌, length, map, take, replicate, refl, sym, ap, subst, ◌∙◌, arith}
 use Rattle.std.proofs.Common.{None, slice_index}
 use Rattle.std.specs.Prelude.{All}
 use Rattle.std.specs.List.{filter_map}
@@ -12,10 +12,9 @@ use Rattle.ppdb_tables.specs.RawTables.{numbered}
 use Rattle.ppdb_values.specs.declared.file.FileValue.{FileValue}
 use Rattle.ppdb_values.specs.Types.{IsGuid, HasTypes}
 use Rattle.heap_items.specs.Items.{first_uses}
-use Rattle.file_layout.specs.declared.rows.Rows.{Rows}
-use Rattle.ppdb_canon.specs.Uses.{variables_of, constants_of, guid_uses, guids}
+use Rattle.ppdb_canon.specs.Uses.{variables_of, constants_of, guid_uses}
 use Rattle.ppdb_canon.specs.Canonical.{counts, document_row, method_rows, scope_row, variable_row, constant_row, import_row, custom_row, canonical_tables}
-use Rattle.ppdb_canon.specs.Limits.{too_many_rows, tables, list_past_end, large_offset, IsWithinLimits}
+use Rattle.ppdb_canon.specs.Limits.{too_many_rows, tables, IsWithinLimits}
 use Rattle.ppdb_canon.proofs.Counts as known
 use Rattle.noted_items.specs.Noted.{cell}
 use Rattle.file_drafting.specs.Draft.{Draft}

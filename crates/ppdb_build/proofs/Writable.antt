@@ -1,9 +1,9 @@
 -- The parts of a sound value that passes no early limit can be written.
 use Rattle.std.proofs.Common.{◌≡◌, ℕ, zero, suc, ◌<◌, ◌≤◌, Bool, true, false, cond, List, [], ◌∷◌, length, take, get_or, refl, sym, ap, ◌∙◌, arith}
 use Rattle.std.proofs.Common.{Option, Some, None, All}
-use Rattle.std.specs.Prelude.{nat_le, ◌==◌, if◌then◌else◌, slice_index}
-use Rattle.std.specs.Option.{option_or, option_map}
-use Rattle.std.specs.List.{filter_map, cons_option, find, sum_by}
+use Rattle.std.specs.Prelude.{nat_le, ◌==◌, if◌then◌else◌}
+use Rattle.std.specs.Option.{option_map}
+use Rattle.std.specs.List.{filter_map, cons_option, find}
 use Rattle.std.proofs.lemmas.Bool.{leb-false}
 use Rattle.std.proofs.lemmas.Option.{none-some}
 use Rattle.std.proofs.lemmas.List.Elements.{All-nil, All-cons, All-weaker, All-contains}
@@ -11,7 +11,6 @@ use Rattle.std.proofs.lemmas.List.Concat.{length-flat_map}
 use Rattle.sequence_points.specs.declared.point.Point.{Point}
 use Rattle.sequence_points.specs.Written.{first_of}
 use Rattle.sequence_points.specs.Ranges.{IsOffset}
-use Rattle.ppdb_base.specs.declared.limits.Limit.{Limit}
 use Rattle.ppdb_base.specs.declared.limits.Limit.TheVariants.{PointOffset}
 use Rattle.ppdb_tables.specs.RawTables.{row_at}
 use Rattle.ppdb_values.specs.declared.file.FileValue.{FileValue}
@@ -22,7 +21,7 @@ use Rattle.ppdb_values.specs.Types.{HasTypes}
 use Rattle.sound_values.specs.Named.{count}
 use Rattle.sound_values.specs.Sound.{IsSound}
 use Rattle.sound_values.specs.Writing.{HasSpelling, SoundPartsCanBeWritten}
-use Rattle.ppdb_canon.specs.Limits.{too_many_rows, tables, list_past_end, large_offset, large_step_of, first_met}
+use Rattle.ppdb_canon.specs.Limits.{too_many_rows, tables, list_past_end, large_offset, large_step_of}
 use Rattle.ppdb_canon.proofs.Among.{among_rows}
 use Rattle.ppdb_build.specs.declared.error.BuildError.{BuildError}
 use Rattle.ppdb_build.specs.declared.error.BuildError.TheVariants.{Limit as Passed, Memory}

@@ -1,10 +1,8 @@
 -- The file of a draft is the one that is written.
-use Rattle.std.proofs.Common.{◌≡◌, ℕ, List, length, replicate, refl, sym, ap, ◌∙◌}
+use Rattle.std.proofs.Common.{◌≡◌, ℕ, List, length, replicate, refl, ap, ◌∙◌}
 use Rattle.sha2.specs.Sha256.{sha256}
-use Rattle.heap_items.specs.Told.{told}
 use Rattle.file_layout.specs.Bytes.{file_bytes}
 use Rattle.ppdb_values.specs.declared.file.FileValue.{FileValue}
-use Rattle.ppdb_values.specs.Types.{HasTypes}
 use Rattle.ppdb_canon.specs.declared.choice.IdChoice.{IdChoice}
 use Rattle.ppdb_canon.specs.declared.choice.IdChoice.TheVariants.{Hash, Keep}
 use Rattle.ppdb_canon.specs.Canonical.{canonical}

@@ -1,7 +1,5 @@
-use Rattle.std.proofs.Common.{◌≡◌, ◌≤◌, ℕ, List, length, sym, ◌∙◌, subst, ap, arith}
-use Rattle.file_layout.specs.Bytes.{file_bytes}
+use Rattle.std.proofs.Common.{◌≡◌, ℕ, List, length, ◌∙◌, arith}
 use Rattle.draft_layout.proofs.Laid.{draft_length, draft_file, draft_fit}
-use Rattle.canonical_rows.specs.Reread.{IsReread}
 use Rattle.ppdb_build.proofs.Counted.{draft_guids, counts_same, within_few}
 use Rattle.ppdb_build.proofs.write.can_be_laid.Goals as goal
 

@@ -1,4 +1,4 @@
-use Rattle.std.proofs.Common.{◌≡◌, length, ap, ◌∙◌, Option, List}
+use Rattle.std.proofs.Common.{length, ap, ◌∙◌, Option, List}
 use Rattle.std.specs.Option.{option_or}
 use Rattle.std.specs.List.{filter_map}
 use Rattle.sequence_points.specs.Written.{first_of}

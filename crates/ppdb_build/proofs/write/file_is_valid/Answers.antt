@@ -1,4 +1,4 @@
-use Rattle.std.proofs.Common.{ℕ, List, sym, subst}
+use Rattle.std.proofs.Common.{sym, subst}
 use Rattle.ppdb_base.specs.First.{IsAccepted}
 use Rattle.ppdb_verify.specs.Files.{BadFile, IsRawOf}
 use Rattle.ppdb_canon.specs.Canon.{chosen_id, with_id}

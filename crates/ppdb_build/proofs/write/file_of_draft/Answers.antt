@@ -1,4 +1,4 @@
-use Rattle.std.proofs.Common.{◌≡◌, ℕ, List, length, sym, ap, ◌∙◌}
+use Rattle.std.proofs.Common.{◌≡◌, length, sym, ap, ◌∙◌}
 use Rattle.heap_items.specs.Told.{told}
 use Rattle.file_layout.specs.Bytes.{file_bytes}
 use Rattle.ppdb_canon.specs.Canonical.{canonical, counts}

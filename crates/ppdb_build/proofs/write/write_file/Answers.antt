@@ -1,5 +1,4 @@
-use Rattle.std.proofs.Common.{◌≡◌, sym, subst}
-use Rattle.file_drafting.specs.Draft.{Draft}
+use Rattle.std.proofs.Common.{sym, subst}
 use Rattle.file_drafting.specs.Drafted.{IsDraftOf}
 use Rattle.ppdb_build.proofs.Limits.{early_first, step_first}
 use Rattle.ppdb_build.proofs.write.write_file.Goals as goal
