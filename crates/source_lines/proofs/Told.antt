@@ -15,7 +15,8 @@ use Rattle.source_link.specs.declared.pair.Pair.{Pair}
 use Rattle.source_link.specs.FileLinks.{link_record}
 use Rattle.source_link.specs.Laws.{AreLinks, OrderIsFree}
 use Rattle.source_lines.specs.Breaks.{break_line, text_of_breaks}
-use Rattle.source_lines.specs.Links.{links_in, AreFileLinks}
+use Rattle.source_lines.specs.Found.{AreFileLinks}
+use Rattle.source_lines.specs.Links.{links_in}
 use Rattle.source_lines.proofs.Documents.{same_text}
 
 pub rest_is : (old new : Option (List ℕ)) (before after : ℕ) (rest other whole : List ℕ) → rest ≡ other

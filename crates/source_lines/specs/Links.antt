@@ -1,5 +1,5 @@
 -- What is told of the sources of a file, line by line (this project's format; Source Link JSON schema).
-use Rattle.std.specs.Prelude.{◌≡◌, ℕ, List, [], ◌∷◌, Option, Some, None, Result, Ok, codes}
+use Rattle.std.specs.Prelude.{ℕ, List, [], ◌∷◌, Option, Some, None, Result, Ok, codes}
 use Rattle.std.specs.List.{flat_map}
 use Rattle.ppdb_base.specs.declared.link_error.LinkError.{LinkError}
 use Rattle.ppdb_lines.specs.Lines.{Line, Field, field, mark, number, name, text_of}
@@ -33,9 +33,3 @@ link_of pairs document = text_of (link_line document.0 (address_of document.1.na
 -- a line for each document, by row
 abbrev pub link_text : FileValue → List Pair → List ℕ
 link_text value pairs = flat_map (link_of pairs) (numbered value.documents)
-
--- links that give each name the address that the pairs of a file give it
-pub record AreFileLinks (value : FileValue) (links : List Pair) : Type 0 where
-  pub pairs : List Pair
-  pub said : file_links value ≡ Ok pairs
-  pub text : link_text value links ≡ link_text value pairs

@@ -12,7 +12,8 @@ ghost use Rattle.ppdb_queries.specs.Digits.{digits};
 ghost use Rattle.ppdb_queries.specs.Runs.{customs_at};
 ghost use Rattle.source_link.specs.FileLinks.{module_row};
 ghost use Rattle.source_link.specs.Record.{IsRefusedBy};
-ghost use Rattle.source_lines.specs.Links.{AreFileLinks, file_links as links_said, link_of, link_text};
+ghost use Rattle.source_lines.specs.Found.{AreFileLinks};
+ghost use Rattle.source_lines.specs.Links.{file_links as links_said, link_of, link_text};
 
 use ppdb_base::{Bytes, LinkError, List, Sink, Steps, WriteError};
 use ppdb_lines::Item::{Name, Number};

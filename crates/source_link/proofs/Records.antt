@@ -20,7 +20,8 @@ use Rattle.ppdb_values.specs.Value.{value_of}
 use Rattle.ppdb_queries.specs.declared.run.Run.{Run}
 use Rattle.ppdb_queries.specs.Runs.{customs_at, rows_in}
 use Rattle.ppdb_queries.proofs.Views.{run_step}
-use Rattle.source_link.specs.FileLinks.{module_row, is_link_record, bytes_in, link_record, link_between}
+use Rattle.source_link.specs.FileLinks.{module_row, is_link_record, bytes_in, link_record}
+use Rattle.source_link.specs.RecordRows.{link_between}
 use Rattle.source_link.proofs.Best.{found}
 
 find_mapped : {A B C : Type 0} (f : A → B) (g : B → C) (p : B → Bool) (xs : List A)

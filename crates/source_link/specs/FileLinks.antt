@@ -1,12 +1,10 @@
 -- The Source Link record of a file (Portable PDB v1.0, "CustomDebugInformation Table", "Source Link").
-use Rattle.std.specs.Prelude.{ℕ, ◌-◌, ◌&&◌, Bool, List, [], Option, slice_range}
+use Rattle.std.specs.Prelude.{ℕ, ◌&&◌, Bool, List, [], Option}
 use Rattle.std.specs.List.{find}
 use Rattle.std.specs.Option.{option_map}
 use Rattle.std.specs.Str.{bytes_eq}
 use Rattle.custom_info.specs.Kinds.{source_link}
 use Rattle.ppdb_tables.specs.declared.parent.Parent.{Parent}
-use Rattle.ppdb_tables.specs.RawTables.{RawTables, numbered}
-use Rattle.ppdb_values.specs.Customs.{custom_of}
 use Rattle.ppdb_values.specs.declared.custom.CustomBody.{CustomBody}
 use Rattle.ppdb_values.specs.declared.custom.CustomBody.TheVariants.{Unread}
 use Rattle.ppdb_values.specs.declared.custom.CustomValue.{CustomValue}
@@ -29,9 +27,3 @@ bytes_in _ = []
 -- the first such record
 abbrev pub link_record : FileValue → Option (List ℕ)
 link_record value = option_map (λ (custom : CustomValue). bytes_in custom.value) (find is_link_record value.customs)
-
--- the first of this kind among the custom records from a row up to another
-abbrev pub link_between : RawTables → ℕ → ℕ → Option (List ℕ)
-link_between raw first end =
-    option_map (λ row. bytes_in (custom_of raw row.1).value)
-    (find (λ row. bytes_eq (custom_of raw row.1).kind source_link) (slice_range (numbered raw.customs) (first - 1) (end - 1)))

@@ -4,3 +4,4 @@ pub mod Address
 pub mod Laws
 pub mod Search
 pub mod FileLinks
+pub mod RecordRows

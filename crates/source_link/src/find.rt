@@ -5,7 +5,8 @@ ghost use Rattle.ppdb_values.specs.Value.{value_of};
 ghost use Rattle.ppdb_verify.specs.Views.{raw_file};
 ghost use Rattle.ppdb_queries.specs.Digits.{digits};
 ghost use Rattle.ppdb_queries.specs.Runs.{customs_at};
-ghost use Rattle.source_link.specs.FileLinks.{link_between as first_link, link_record, module_row};
+ghost use Rattle.source_link.specs.FileLinks.{link_record, module_row};
+ghost use Rattle.source_link.specs.RecordRows.{link_between as first_link};
 
 use custom_info::SOURCE_LINK;
 use ppdb_base::Steps;

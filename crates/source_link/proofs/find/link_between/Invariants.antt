@@ -1,6 +1,6 @@
 use Rattle.std.proofs.Common.{◌≡◌, ◌+◌, ◌-◌, ◌≤◌}
 use Rattle.ppdb_verify.specs.Views.{raw_file}
-use Rattle.source_link.specs.FileLinks.{link_between}
+use Rattle.source_link.specs.RecordRows.{link_between}
 use Rattle.source_link.proofs.find.link_between.Given as goal
 
 abbrev pub invariant-records : goal.invariant-records
