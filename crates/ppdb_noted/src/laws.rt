@@ -1,5 +1,5 @@
 // What is promised of files whose records stand at their items.
-ghost use Rattle.ppdb_noted.specs.Laws.{MeaningsAreNoted, LinksAreNoted};
+ghost use Rattle.ppdb_noted.specs.Laws.{MeaningsAreNoted, LinksAreNoted, SortedInOrder};
 ghost use Rattle.ppdb_noted.specs.Worked.{WorkedNoted};
 
 /// What a value says of an offset of a method, and of a method, is read off its noted form.
@@ -11,4 +11,9 @@ pub fn meanings_are_noted()
 /// The noted forms of four worked files, and their values.
 pub fn worked_files_are_noted()
     ensures { WorkedNoted }
+{}
+
+/// Items are set in order by a key in one way.
+pub fn sorted_in_order<T>()
+    ensures { SortedInOrder T }
 {}
