@@ -1,5 +1,5 @@
 -- A file whose records stand at their items is the noted form of its value.
-use Rattle.std.proofs.Common.{◌≡◌, ℕ, suc, ◌+◌, ◌-◌, ◌<◌, ◌≤◌, ◌++◌, Bool, true, false, cond, List, [], ◌∷◌, refl, sym, ◌∙◌, ap, arith, subst, map, length, take, append-nil, append_assoc}
+use Rattle.std.proofs.Common.{◌≡◌, ℕ, suc, ◌+◌, ◌-◌, ◌<◌, ◌≤◌, ◌++◌, Bool, false, List, [], ◌∷◌, refl, sym, ◌∙◌, ap, arith, map, length, take, append-nil, append_assoc}
 use Rattle.std.specs.Prelude.{nat_lt, filter, sum_by}
 use Rattle.std.specs.List.{enumerate_from, flat_map}
 use Rattle.std.proofs.lemmas.Bool.{lt-ltb, ne_eqb}

@@ -5,6 +5,7 @@ pub mod NotedMeanings
 pub mod Orders
 pub mod Parents
 pub mod Rows
+pub mod Soundness
 pub mod Spread
 pub mod StableSort
 pub mod Values

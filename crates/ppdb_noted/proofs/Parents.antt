@@ -1,6 +1,6 @@
 -- The tables that a parent may be of, and the one parent of each coded index.
-use Rattle.std.proofs.Common.{◌≡◌, ◌≢◌, ℕ, suc, ◌+◌, ◌<◌, Bool, true, false, cond, List, [], ◌∷◌, length, refl, sym, ◌∙◌, ap, subst, arith}
-use Rattle.std.specs.Prelude.{◌==◌, ◌&&◌, nat_eq, nat_lt, Option, Some, None, IsSome, IfSome, is_some, not, position, unwrap_or, filter}
+use Rattle.std.proofs.Common.{◌≡◌, ◌≢◌, ℕ, ◌+◌, ◌<◌, Bool, true, false, cond, List, [], ◌∷◌, length, refl, sym, ◌∙◌, ap, subst, arith}
+use Rattle.std.specs.Prelude.{◌==◌, nat_eq, nat_lt, Option, Some, None, IsSome, IfSome, not, position, unwrap_or, filter}
 use Rattle.std.specs.List.{position_or_len}
 use Rattle.std.specs.Option.{option_map}
 use Rattle.std.proofs.lemmas.Bool.{ltb-true, eqb-true, eq-eqb, and_parts}
@@ -42,11 +42,70 @@ found P table xs each some = step (nat_lt (position_or_len (λ x. x == table) xs
     step false is h = cc
 
 tagged_tables : Each IsTagged parent_tables
-tagged_tables =
-    (low (omega arith), (low (omega arith), (low (omega arith), (low (omega arith), (low (omega arith), (low (omega arith), (low (omega arith),
-    (low (omega arith), (low (omega arith), (low (omega arith), (low (omega arith), (low (omega arith), (low (omega arith), (low (omega arith),
-    (low (omega arith), (low (omega arith), (low (omega arith), (low (omega arith), (low (omega arith), (low (omega arith), (low (omega arith),
-    (low (omega arith), (document, (scope, (variable, (constant, (import_scope, tt)))))))))))))))))))))))))))
+tagged_tables = (
+  low (omega arith),
+  (
+    low (omega arith),
+    (
+      low (omega arith),
+      (
+        low (omega arith),
+        (
+          low (omega arith),
+          (
+            low (omega arith),
+            (
+              low (omega arith),
+              (
+                low (omega arith),
+                (
+                  low (omega arith),
+                  (
+                    low (omega arith),
+                    (
+                      low (omega arith),
+                      (
+                        low (omega arith),
+                        (
+                          low (omega arith),
+                          (
+                            low (omega arith),
+                            (
+                              low (omega arith),
+                              (
+                                low (omega arith),
+                                (
+                                  low (omega arith),
+                                  (
+                                    low (omega arith),
+                                    (
+                                      low (omega arith),
+                                      (
+                                        low (omega arith),
+                                        (
+                                          low (omega arith),
+                                          (low (omega arith), (document, (scope, (variable, (constant, (import_scope, tt)))))),
+                                        ),
+                                      ),
+                                    ),
+                                  ),
+                                ),
+                              ),
+                            ),
+                          ),
+                        ),
+                      ),
+                    ),
+                  ),
+                ),
+              ),
+            ),
+          ),
+        ),
+      ),
+    ),
+  ),
+)
 
 mapped_some : {X Y : Type 0} (f : X → Y) (o : Option X) → IsSome (option_map f o) → IsSome o
 mapped_some f None some = some

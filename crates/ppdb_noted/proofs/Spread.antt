@@ -1,14 +1,11 @@
 -- The records of a value, row by row of a table.
-use Rattle.std.proofs.Common.{◌≡◌, ◌≢◌, ℕ, zero, suc, ◌+◌, ◌<◌, ◌≤◌, ◌++◌, ◌⊎◌, Bool, true, false, cond, List, [], ◌∷◌, length, map, refl, sym, ◌∙◌, ap, subst, arith, inl, inr, append-nil}
-use Rattle.std.specs.Prelude.{nat_eq, filter, sum_by}
-use Rattle.std.specs.List.{enumerate_from, flat_map}
+use Rattle.std.proofs.Common.{◌≡◌, ℕ, zero, suc, ◌+◌, ◌<◌, ◌≤◌, ◌++◌, Bool, true, false, cond, List, [], ◌∷◌, length, map, refl, sym, ◌∙◌, ap, subst, arith, inl, inr, append-nil}
+use Rattle.std.specs.Prelude.{nat_eq, filter}
 use Rattle.std.proofs.lemmas.Bool.{cases_lt, eqb-true, and_parts}
 use Rattle.std.proofs.lemmas.List.Elements.{filter-append}
-use Rattle.std.proofs.lemmas.List.Sums.{sum_by-cons}
 use Rattle.ppdb_values.specs.declared.custom.CustomValue.{CustomValue}
 use Rattle.ppdb_values.specs.declared.file.FileValue.{FileValue}
 use Rattle.ppdb_values.specs.declared.noted.Custom.{Custom}
-use Rattle.ppdb_values.specs.declared.noted.Noted.{Noted}
 use Rattle.ppdb_values.specs.Meaning.{without_parent, noted_on, noted_from}
 use Rattle.ppdb_noted.specs.Each.{Each}
 use Rattle.ppdb_noted.specs.Noted.{placed, on_row, customs_of}
@@ -57,7 +54,7 @@ spread_apart customs table row other first zero apart = refl
 spread_apart customs table row other first (suc n) apart =
     filter-append (at table row) (filter (at other first) customs) (spread customs other (first + 1) n)
     ∙ ap (λ l. l ++ filter (at table row) (spread customs other (first + 1) n))
-      (filter_apart (at table row) (at other first) (λ c here there. let same = at_parts table row other first c here there in apart first (omega arith) (omega arith) same.0 same.1) customs)
+    (filter_apart (at table row) (at other first) (λ c here there. let same = at_parts table row other first c here there in apart first (omega arith) (omega arith) same.0 same.1) customs)
     ∙ spread_apart customs table row other (first + 1) n (λ number le less. apart number (omega (arith, le)) (omega (arith, less)))
 
 pub spread_there : (customs : List CustomValue) (table row first n : ℕ) → first ≤ row → row < first + n → filter (at table row) (spread customs table first n) ≡ filter (at table row) customs
@@ -66,7 +63,7 @@ spread_there customs table row first (suc n) le less = elim (cases_lt first row)
   | inl before ↦
       filter-append (at table row) (filter (at table first) customs) (spread customs table (first + 1) n)
       ∙ ap (λ l. l ++ filter (at table row) (spread customs table (first + 1) n))
-        (filter_apart (at table row) (at table first) (λ c here there. let same = (at_parts table row table first c here there).1 in absurd (omega (arith, same, before))) customs)
+      (filter_apart (at table row) (at table first) (λ c here there. let same = (at_parts table row table first c here there).1 in absurd (omega (arith, same, before))) customs)
       ∙ spread_there customs table row (first + 1) n (omega (arith, before)) (omega (arith, less))
   | inr after ↦
       let same : row ≡ first = omega (arith, le, after) in

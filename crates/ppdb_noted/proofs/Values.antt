@@ -1,27 +1,23 @@
 -- A sound value is the value of its noted form.
-use Rattle.std.proofs.Common.{◌≡◌, ◌≢◌, ℕ, suc, ◌+◌, ◌-◌, ◌<◌, ◌≤◌, ◌++◌, ◌⊎◌, Bool, true, false, cond, List, [], ◌∷◌, length, map, take, refl, sym, ◌∙◌, ap, subst, arith, inl, inr, append-nil, append_assoc}
+use Rattle.std.proofs.Common.{◌≡◌, ◌≢◌, ℕ, suc, ◌+◌, ◌-◌, ◌≤◌, ◌++◌, Bool, true, List, [], ◌∷◌, length, map, take, refl, sym, ◌∙◌, ap, subst, arith, append_assoc}
 use Rattle.std.specs.Prelude.{nat_eq, nat_lt, filter, sum_by}
 use Rattle.std.specs.List.{enumerate_from, flat_map}
-use Rattle.std.proofs.lemmas.Bool.{cases_lt, eqb-true, and_parts, lt-ltb, ltb-true}
+use Rattle.std.proofs.lemmas.Bool.{eqb-true, and_parts, lt-ltb, ltb-true}
 use Rattle.std.proofs.lemmas.List.{length-append}
 use Rattle.std.proofs.lemmas.List.Sums.{sum_by-append, sum_by-cons}
 use Rattle.ppdb_tables.specs.Parents.{CodesAreParents}
 use Rattle.ppdb_values.specs.declared.custom.CustomValue.{CustomValue}
 use Rattle.ppdb_values.specs.declared.file.FileValue.{FileValue}
 use Rattle.ppdb_values.specs.declared.scope.ScopeValue.{ScopeValue}
-use Rattle.ppdb_values.specs.declared.noted.Custom.{Custom}
 use Rattle.ppdb_values.specs.Meaning.{noted_on, noted_from}
 use Rattle.ppdb_values.specs.Parts.{first_item}
 use Rattle.sound_values.specs.Named.{HasRow}
 use Rattle.sound_values.specs.Customs.{SoundCustom, SoundCustoms, coded_of}
-use Rattle.sound_values.specs.Sound.{IsSound}
-use Rattle.ppdb_noted.specs.declared.file.NotedScope.{NotedScope}
-use Rattle.ppdb_noted.specs.declared.file.NotedFile.{NotedFile}
 use Rattle.ppdb_noted.specs.Each.{Each, Pairs}
 use Rattle.ppdb_noted.specs.Noted.{placed, items_of, customs_of, all_customs, scope_of, noted_scope, noted_file}
 use Rattle.ppdb_noted.specs.Sorted.{in_order}
 use Rattle.ppdb_noted.specs.Unnoted.{value_of_noted}
-use Rattle.ppdb_noted.proofs.Files.{parts_filter, only_first, only_second, only_third, only_fourth, only_fifth, only_sixth, documents_of, scopes_of, variables_of, constants_of, imports_of}
+use Rattle.ppdb_noted.proofs.Files.{parts_filter, only_first, only_second, only_third, only_fourth, only_fifth, only_sixth, scopes_of}
 use Rattle.ppdb_noted.proofs.Lists.{each_row, key_pairs, Each-append, Each-filter, Each-weaker}
 use Rattle.ppdb_noted.proofs.Orders.{one_order, in_order_rises, rises_of, key_kept, filter_swap}
 use Rattle.ppdb_noted.proofs.Parents.{IsTagged, low, document, scope, variable, constant, import_scope, tagged, HasTag, codes_same}
@@ -75,7 +71,7 @@ items_noted {A} value table items before (s ∷ scopes) row are is_row =
     let moves : suc (sum_by (λ b. length (items b)) (before ++ s ∷ [])) ≡ first + length (items s) =
     (let sums = sum_by-append (λ b. length (items b)) before (s ∷ []) in omega (arith, sums)) in
     ap (λ n. customs_of (noted_from value table n (items s)) ++ flat_map (λ (s : ℕ × ScopeValue). customs_of (noted_from value table (first_item (λ b. length (items b)) value s.0) (items s.1))) (enumerate_from (row + 1) scopes))
-      (first_is (λ b. length (items b)) value before (s ∷ scopes) row are is_row)
+    (first_is (λ b. length (items b)) value before (s ∷ scopes) row are is_row)
     ∙ ap (λ l. l ++ flat_map (λ (s : ℕ × ScopeValue). customs_of (noted_from value table (first_item (λ b. length (items b)) value s.0) (items s.1))) (enumerate_from (row + 1) scopes)) (customs_noted value table first (items s))
     ∙ ap (λ l. notes value table first (length (items s)) ++ l) (later ∙ ap (λ n. notes value table n (sum_by (λ b. length (items b)) scopes)) moves)
     ∙ sym (notes_append value table first (length (items s)) (sum_by (λ b. length (items b)) scopes))
@@ -209,7 +205,7 @@ module _ (value : FileValue) where
       let each = each_row (SoundCustom value) cs sound.each in
       ap (in_order code) (all_are_spread value)
       ∙ one_order code 0 (in_order code (all_spread value)) cs (in_order_rises code (all_spread value)) (rises_of code cs (by_parent sound))
-        (λ k. key_kept code k (all_spread value) ∙ codes_same codes (all_spread value) cs (all_tags (tags each)) (tags each) (same_rows each) k)
+      (λ k. key_kept code k (all_spread value) ∙ codes_same codes (all_spread value) cs (all_tags (tags each)) (tags each) (same_rows each) k)
 
   pub value_back : CodesAreParents → SoundCustoms value → value_of_noted (noted_file value) ≡ value
   value_back codes sound =

@@ -1,5 +1,5 @@
 // What is promised of files whose records stand at their items.
-ghost use Rattle.ppdb_noted.specs.Laws.{MeaningsAreNoted, LinksAreNoted, SortedInOrder, FilesComeBack, ValuesComeBack};
+ghost use Rattle.ppdb_noted.specs.Laws.{MeaningsAreNoted, LinksAreNoted, SortedInOrder, FilesComeBack, ValuesComeBack, SoundnessIsNoted};
 ghost use Rattle.ppdb_noted.specs.Worked.{WorkedNoted};
 
 use ppdb_tables::codes_are_parents;
@@ -28,6 +28,13 @@ pub fn files_come_back()
 /// A sound value is the value of its noted form.
 pub fn values_come_back()
     ensures { ValuesComeBack }
+{
+    codes_are_parents()
+}
+
+/// A value is sound exactly where the parts of its noted form are.
+pub fn soundness_is_noted()
+    ensures { SoundnessIsNoted }
 {
     codes_are_parents()
 }
