@@ -3,3 +3,4 @@ pub mod Joined
 pub mod Laws
 pub mod Same
 pub mod Small
+pub mod Worked

@@ -7,4 +7,4 @@ mod sorting;
 mod unnoted;
 
 pub use unnoted::value_of;
-pub use laws::{joined_is_sound, one_file_stays};
+pub use laws::{joined_is_sound, one_file_stays, worked_joins};
