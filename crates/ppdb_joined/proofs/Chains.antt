@@ -1,5 +1,6 @@
 -- The chains of import scopes end where those of each file do.
-use Rattle.std.proofs.Common.{◌≡◌, ◌≢◌, ℕ, zero, suc, ◌+◌, ◌-◌, ◌≤◌, ◌<◌, ◌++◌, ◌⊎◌, List, [], ◌∷◌, length, map, refl, sym, ◌∙◌, ap, subst, arith, inl, inr, append-nil, append_assoc, slice_get}
+use Rattle.std.proofs.Common.{◌≡◌, ℕ, zero, suc, ◌+◌, ◌-◌, ◌≤◌, ◌<◌, ◌++◌, List, [], ◌∷◌, length, map, refl, sym, ◌∙◌, ap, subst, arith, inl}
+use Rattle.std.proofs.Common.{inr, append-nil, append_assoc, slice_get}
 use Rattle.std.specs.Prelude.{Option, Some, None, flat_map, unwrap_or}
 use Rattle.std.specs.Option.{option_map}
 use Rattle.std.proofs.lemmas.Bool.{cases_lt}
@@ -56,17 +57,21 @@ module _ (file : NotedFile) (before rest : List (Noted ImportScopeValue)) (shift
   shown i less =
       let number : shift + suc i ≡ suc (length before + i) = omega (arith, is_shift) in
       let many = length-map file.imports (with_item (renumbered_import shift)) in
-      ap (row_at all) number ∙ get_after before (moved ++ rest) i ∙ get_front moved rest i (omega (arith, less, many)) ∙ get_map (with_item (renumbered_import shift)) file.imports i
+      ap (row_at all) number ∙ get_after before (moved ++ rest) i ∙ get_front moved rest i (omega (arith, less, many))
+      ∙ get_map (with_item (renumbered_import shift)) file.imports i
 
-  of_item : (o : Option (Noted ImportScopeValue)) → unwrap_or (option_map parent (option_map (with_item (renumbered_import shift)) o)) 0 ≡ shifted shift (unwrap_or (option_map parent o) 0)
+  of_item : (o : Option (Noted ImportScopeValue))
+      → unwrap_or (option_map parent (option_map (with_item (renumbered_import shift)) o)) 0 ≡ shifted shift (unwrap_or (option_map parent o) 0)
   of_item None = refl
   of_item (Some n) = refl
 
   one_step : (row : ℕ) → row ≤ length file.imports → parent_at parent all (shifted shift row) ≡ shifted shift (parent_at parent file.imports row)
   one_step zero most = refl
-  one_step (suc i) most = ap (λ (o : Option (Noted ImportScopeValue)). unwrap_or (option_map parent o) 0) (shown i (omega (arith, most))) ∙ of_item (slice_get file.imports i)
+  one_step (suc i) most =
+      ap (λ (o : Option (Noted ImportScopeValue)). unwrap_or (option_map parent o) 0) (shown i (omega (arith, most))) ∙ of_item (slice_get file.imports i)
 
-  parent_within : (bound : ℕ) (imports : List (Noted ImportScopeValue)) → Each (λ n. n.item.parent ≤ bound) imports → (row : ℕ) → parent_at parent imports row ≤ bound
+  parent_within : (bound : ℕ) (imports : List (Noted ImportScopeValue)) → Each (λ n. n.item.parent ≤ bound) imports → (row : ℕ)
+      → parent_at parent imports row ≤ bound
   parent_within bound imports each zero = omega arith
   parent_within bound [] each (suc i) = omega arith
   parent_within bound (n ∷ ns) each (suc zero) = each.0
@@ -88,7 +93,8 @@ module _ (file : NotedFile) (before rest : List (Noted ImportScopeValue)) (shift
 abbrev pub imports_of : NotedFile → List (Noted ImportScopeValue)
 imports_of file = file.imports
 
-chains_from : (documents : List DocumentValue) (before : List (Noted ImportScopeValue)) (shift : ℕ) → shift ≡ length before → (files : List NotedFile) → Each ChainsEnd files
+chains_from : (documents : List DocumentValue) (before : List (Noted ImportScopeValue)) (shift : ℕ) → shift ≡ length before → (files : List NotedFile)
+    → Each ChainsEnd files
     → (row : ℕ) → shift < row → NeverEnds (parent_at parent (before ++ flat_map imports_of (renumbered_all documents shift files))) row → ⊥
 chains_from documents before shift is_shift [] ends zero above never = absurd (omega (arith, above))
 chains_from documents before shift is_shift [] ends (suc i) above never =

@@ -1,6 +1,7 @@
 -- What is sound in one value is sound in another that has all rows that it names.
-use Rattle.std.proofs.Common.{◌≡◌, ◌≢◌, ℕ, zero, suc, ◌≤◌, ◌<◌, ◌⊎◌, Bool, true, false, cond, List, [], ◌∷◌, ◌++◌, length, map, refl, sym, ap, subst, arith, inl, inr}
-use Rattle.std.specs.Prelude.{◌==◌, nat_eq, All, AllPairs, flat_map, slice_index}
+use Rattle.std.proofs.Common.{◌≡◌, ◌≢◌, ℕ, ◌≤◌, ◌<◌, ◌⊎◌, Bool, true, false, cond, List, [], ◌∷◌, map, refl, sym, subst}
+use Rattle.std.proofs.Common.{arith, inl, inr}
+use Rattle.std.specs.Prelude.{nat_eq, flat_map, slice_index}
 use Rattle.std.proofs.lemmas.Bool.{ne_eqb, eqb-true}
 use Rattle.custom_info.specs.declared.kinds.Kind.{Kind}
 use Rattle.custom_info.specs.declared.kinds.Kind.TheVariants.{Async as AsyncKind, Hoisted as HoistedKind, TypeDocuments as DocumentsKind, Free, Unknown}
@@ -16,7 +17,8 @@ use Rattle.ppdb_tables.specs.declared.rows.MachineRow.{MachineRow}
 use Rattle.ppdb_values.specs.declared.file.FileValue.{FileValue}
 use Rattle.ppdb_values.specs.declared.file.MethodValue.{MethodValue}
 use Rattle.ppdb_values.specs.declared.import.ImportValue.{ImportValue}
-use Rattle.ppdb_values.specs.declared.import.ImportValue.TheVariants.{Namespace, AssemblyNamespace, Target, Xml, Alias, AssemblyAlias, NamespaceAlias, AssemblyNamespaceAlias, TargetAlias}
+use Rattle.ppdb_values.specs.declared.import.ImportValue.TheVariants.{Namespace, AssemblyNamespace, Target, Xml, Alias, AssemblyAlias, NamespaceAlias}
+use Rattle.ppdb_values.specs.declared.import.ImportValue.TheVariants.{AssemblyNamespaceAlias, TargetAlias}
 use Rattle.ppdb_values.specs.declared.import.ImportScopeValue.{ImportScopeValue}
 use Rattle.ppdb_values.specs.declared.scope.ConstantValue.{ConstantValue}
 use Rattle.ppdb_values.specs.declared.scope.ConstantBody.{ConstantBody}
@@ -31,12 +33,12 @@ use Rattle.sound_values.specs.Named.{HasRow, HasRowOrNone, HasType, count, type_
 use Rattle.sound_values.specs.Customs.{IsBodyOfKind, SoundCustom}
 use Rattle.sound_values.specs.Imports.{SoundImport, SoundImportScope}
 use Rattle.sound_values.specs.Methods.{SoundMethod, SoundPoint}
-use Rattle.sound_values.specs.Scopes.{SoundConstant, SoundScope, stored_body}
+use Rattle.sound_values.specs.Scopes.{SoundConstant, stored_body}
 use Rattle.sound_values.specs.Sound.{SoundMachine}
 use Rattle.ppdb_noted.specs.declared.file.NotedScope.{NotedScope}
-use Rattle.ppdb_noted.specs.Each.{Each, Pairs}
+use Rattle.ppdb_noted.specs.Each.{Each}
 use Rattle.ppdb_noted.specs.NamedRows.{Named, names, names_some, in_token, in_body, in_constant, in_import, in_steps}
-use Rattle.ppdb_noted.specs.Noted.{items_of, scope_of}
+use Rattle.ppdb_noted.specs.Noted.{items_of}
 use Rattle.ppdb_noted.specs.SoundParts.{SoundNote, SoundNotedScope}
 use Rattle.ppdb_noted.proofs.Lists.{Each-weaker, Each-map, Each-unmap, Pairs-map, each_row, row_each}
 use Rattle.ppdb_joined.specs.Joined.{shifted, with_documents, renumbered_method, renumbered_scope, renumbered_import, renumbered_custom}
@@ -74,8 +76,10 @@ note_any value other table no_type no_method c s = record { stands_on = s.stands
     body Unknown (Hoisted slots) on is = absurd is
     body Unknown (TypeDocuments rows) on is = absurd is
 
-pub notes_any : (value other : FileValue) (table : ℕ) → table ≢ 0x02 → table ≢ 0x06 → (cs : List Custom) → Each (SoundNote value table) cs → Each (SoundNote other table) cs
-notes_any value other table no_type no_method cs each = Each-weaker (SoundNote value table) (SoundNote other table) (note_any value other table no_type no_method) cs each
+pub notes_any : (value other : FileValue) (table : ℕ) → table ≢ 0x02 → table ≢ 0x06 → (cs : List Custom) → Each (SoundNote value table) cs
+    → Each (SoundNote other table) cs
+notes_any value other table no_type no_method cs each =
+    Each-weaker (SoundNote value table) (SoundNote other table) (note_any value other table no_type no_method) cs each
 
 -- the value `other` has the rows of the type system that are named, a row of Document for each of `value`, and its import scopes
 module _ (value other : FileValue) (row_of : ℕ → ℕ) (shift : ℕ) (documents : (row : ℕ) → HasRow value 0x30 row → HasRow other 0x30 (row_of row))
@@ -85,7 +89,8 @@ module _ (value other : FileValue) (row_of : ℕ → ℕ) (shift : ℕ) (documen
 
   -- ---- types
 
-  rows_fit : (table row : ℕ) → ((table ≡ 0x02) ⊎ ((table ≡ 0x01) ⊎ (table ≡ 0x1b))) → row ≤ slice_index other.rows table → row ≤ rows_of (type_limits other) (tag_of table)
+  rows_fit : (table row : ℕ) → ((table ≡ 0x02) ⊎ ((table ≡ 0x01) ⊎ (table ≡ 0x1b))) → row ≤ slice_index other.rows table
+      → row ≤ rows_of (type_limits other) (tag_of table)
   rows_fit table row (inl is) fits = subst (λ t. row ≤ slice_index other.rows t → row ≤ rows_of (type_limits other) (tag_of t)) (sym is) (λ h. h) fits
   rows_fit table row (inr (inl is)) fits = subst (λ t. row ≤ slice_index other.rows t → row ≤ rows_of (type_limits other) (tag_of t)) (sym is) (λ h. h) fits
   rows_fit table row (inr (inr is)) fits = subst (λ t. row ≤ slice_index other.rows t → row ≤ rows_of (type_limits other) (tag_of t)) (sym is) (λ h. h) fits
@@ -108,19 +113,22 @@ module _ (value other : FileValue) (row_of : ℕ → ℕ) (shift : ℕ) (documen
       step true is h = let none = eqb-true row 0 is in omega (arith, none)
       step false is h = h.0
 
-  pub method_fits : (m : MethodValue) → SoundMethod value m → Each Fits (names 0x06 m.method ∷ names_some 0x11 m.signature) → SoundMethod other (renumbered_method row_of m)
+  pub method_fits : (m : MethodValue) → SoundMethod value m → Each Fits (names 0x06 m.method ∷ names_some 0x11 m.signature)
+      → SoundMethod other (renumbered_method row_of m)
   method_fits m s fits = record {
     row = (s.row.0, fits.0);
     signature = some_fits 0x11 m.signature fits.1;
     some = map_some _ m.points s.some;
-    rise = all_pairs _ _ (Pairs-map (λ (p : Point). record p { document = row_of p.document }) (λ p q. p.offset < q.offset) m.points (pairs_all _ m.points s.rise));
+    rise = all_pairs _ _
+        (Pairs-map (λ (p : Point). record p { document = row_of p.document }) (λ p q. p.offset < q.offset) m.points (pairs_all _ m.points s.rise));
     points = all_each (SoundPoint other) _ (Each-map (λ (p : Point). record p { document = row_of p.document }) (SoundPoint other) m.points
         (Each-weaker (SoundPoint value) _ point_fits m.points (each_all (SoundPoint value) m.points s.points)));
   }
 
   -- ---- scopes
 
-  body_fits : (b : ConstantBody) → IsBody (stored_body b) → IsBodyThere (type_limits value) (stored_body b) → Each Fits (in_body b) → IsBodyThere (type_limits other) (stored_body b)
+  body_fits : (b : ConstantBody) → IsBody (stored_body b) → IsBodyThere (type_limits value) (stored_body b) → Each Fits (in_body b)
+      → IsBodyThere (type_limits other) (stored_body b)
   body_fits (Primitive code content) is there fits = tt
   body_fits (Enumerated code content target) is there fits = there_fits target is.2 there fits.0
   body_fits (General code target rest) is there fits = there_fits target is.1 there fits.0
@@ -132,7 +140,8 @@ module _ (value other : FileValue) (row_of : ℕ → ℕ) (shift : ℕ) (documen
       record {
         name = s.name;
         modifiers = all_each (λ (modifier : Modifier). HasType other modifier.target) n.item.modifiers
-            (Each-with (λ (modifier : Modifier). HasType value modifier.target) (λ (modifier : Modifier). Fits (in_token modifier.target)) (λ (modifier : Modifier). HasType other modifier.target)
+            (Each-with (λ (modifier : Modifier). HasType value modifier.target) (λ (modifier : Modifier). Fits (in_token modifier.target))
+            (λ (modifier : Modifier). HasType other modifier.target)
             (λ modifier has fit. type_fits modifier.target has fit) n.item.modifiers
             (each_all (λ (modifier : Modifier). HasType value modifier.target) n.item.modifiers s.modifiers)
             (Each-unmap (λ (modifier : Modifier). in_token modifier.target) Fits n.item.modifiers both.0));
@@ -140,12 +149,15 @@ module _ (value other : FileValue) (row_of : ℕ → ℕ) (shift : ℕ) (documen
         body_there = body_fits n.item.body s.body s.body_there both.1;
       }
 
-  constants_fit : (ns : List (Noted ConstantValue)) → Each (SoundConstant value) (items_of ns) → Each Fits (flat_map in_constant ns) → Each (SoundConstant other) (items_of ns)
+  constants_fit : (ns : List (Noted ConstantValue)) → Each (SoundConstant value) (items_of ns) → Each Fits (flat_map in_constant ns)
+      → Each (SoundConstant other) (items_of ns)
   constants_fit ns each fits =
-      Each-map (λ n. n.item) (SoundConstant other) ns (Each-with (λ n. SoundConstant value n.item) (λ n. Each Fits (in_constant n)) (λ n. SoundConstant other n.item) constant_fits ns
+      Each-map (λ n. n.item) (SoundConstant other) ns
+      (Each-with (λ n. SoundConstant value n.item) (λ n. Each Fits (in_constant n)) (λ n. SoundConstant other n.item) constant_fits ns
       (Each-unmap (λ n. n.item) (SoundConstant value) ns each) (Each-unflat in_constant Fits ns fits))
 
-  pub scope_fits : (s : NotedScope) → SoundNotedScope value s → Fits (names 0x06 s.method) → Each Fits (flat_map in_constant s.constants) → SoundNotedScope other (renumbered_scope shift s)
+  pub scope_fits : (s : NotedScope) → SoundNotedScope value s → Fits (names 0x06 s.method) → Each Fits (flat_map in_constant s.constants)
+      → SoundNotedScope other (renumbered_scope shift s)
   scope_fits s sound fits constants = record {
     itself = record {
       method = (sound.itself.method.0, fits);
@@ -155,12 +167,16 @@ module _ (value other : FileValue) (row_of : ℕ → ℕ) (shift : ℕ) (documen
       variables = sound.itself.variables;
       slots_differ = sound.itself.slots_differ;
       variable_names_differ = sound.itself.variable_names_differ;
-      constants = row_each (SoundConstant other) (items_of s.constants) (constants_fit s.constants (each_row (SoundConstant value) (items_of s.constants) sound.itself.constants) constants);
+      constants =
+          row_each (SoundConstant other) (items_of s.constants)
+          (constants_fit s.constants (each_row (SoundConstant value) (items_of s.constants) sound.itself.constants) constants);
       constant_names_differ = sound.itself.constant_names_differ;
     };
     customs = notes_any value other 0x32 (λ e. omega (arith, e)) (λ e. omega (arith, e)) s.customs sound.customs;
-    variables = Each-weaker _ _ (λ n each. notes_any value other 0x33 (λ e. omega (arith, e)) (λ e. omega (arith, e)) n.customs each) s.variables sound.variables;
-    constants = Each-weaker _ _ (λ n each. notes_any value other 0x34 (λ e. omega (arith, e)) (λ e. omega (arith, e)) n.customs each) s.constants sound.constants;
+    variables =
+        Each-weaker _ _ (λ n each. notes_any value other 0x33 (λ e. omega (arith, e)) (λ e. omega (arith, e)) n.customs each) s.variables sound.variables;
+    constants =
+        Each-weaker _ _ (λ n each. notes_any value other 0x34 (λ e. omega (arith, e)) (λ e. omega (arith, e)) n.customs each) s.constants sound.constants;
   }
 
   -- ---- imports
@@ -176,11 +192,13 @@ module _ (value other : FileValue) (row_of : ℕ → ℕ) (shift : ℕ) (documen
   import_fits (AssemblyNamespaceAlias alias assembly namespace) s fits = (s.0, fits.0)
   import_fits (TargetAlias alias target) s fits = type_fits target s fits.0
 
-  pub import_scope_fits : (i : ImportScopeValue) → SoundImportScope value i → Each Fits (flat_map in_import i.imports) → SoundImportScope other (renumbered_import shift i)
+  pub import_scope_fits : (i : ImportScopeValue) → SoundImportScope value i → Each Fits (flat_map in_import i.imports)
+      → SoundImportScope other (renumbered_import shift i)
   import_scope_fits i s fits = record {
     parent = imports i.parent s.parent;
     imports = row_each (SoundImport other) i.imports
-        (Each-with (SoundImport value) (λ import. Each Fits (in_import import)) (SoundImport other) import_fits i.imports (each_row (SoundImport value) i.imports s.imports) (Each-unflat in_import Fits i.imports fits));
+        (Each-with (SoundImport value) (λ import. Each Fits (in_import import)) (SoundImport other) import_fits i.imports
+        (each_row (SoundImport value) i.imports s.imports) (Each-unflat in_import Fits i.imports fits));
   }
 
   -- ---- state machines and custom records
@@ -192,13 +210,16 @@ module _ (value other : FileValue) (row_of : ℕ → ℕ) (shift : ℕ) (documen
   custom_body_fits AsyncKind (Async handler steps) is fits = (
     is.0,
     all_each (λ (step : AsyncStep). IsStep step × (step.method ≤ count other 0x06)) steps
-        (Each-with (λ (step : AsyncStep). IsStep step × (step.method ≤ count value 0x06)) (λ (step : AsyncStep). Fits (names 0x06 step.method)) (λ (step : AsyncStep). IsStep step × (step.method ≤ count other 0x06))
+        (Each-with (λ (step : AsyncStep). IsStep step × (step.method ≤ count value 0x06)) (λ (step : AsyncStep). Fits (names 0x06 step.method))
+        (λ (step : AsyncStep). IsStep step × (step.method ≤ count other 0x06))
         (λ step s fit. (s.0, fit)) steps (each_all (λ (step : AsyncStep). IsStep step × (step.method ≤ count value 0x06)) steps is.1)
         (Each-unmap (λ (step : AsyncStep). names 0x06 step.method) Fits steps fits)),
   )
   custom_body_fits HoistedKind (Hoisted slots) is fits = is
   custom_body_fits DocumentsKind (TypeDocuments rows) is fits =
-      all_each (HasRow other 0x30) (map row_of rows) (Each-map row_of (HasRow other 0x30) rows (Each-weaker (HasRow value 0x30) (λ row. HasRow other 0x30 (row_of row)) documents rows (each_all (HasRow value 0x30) rows is)))
+      all_each (HasRow other 0x30) (map row_of rows)
+      (Each-map row_of (HasRow other 0x30) rows
+      (Each-weaker (HasRow value 0x30) (λ row. HasRow other 0x30 (row_of row)) documents rows (each_all (HasRow value 0x30) rows is)))
   custom_body_fits Free (Unread content) is fits = tt
   custom_body_fits Unknown (Unread content) is fits = tt
   custom_body_fits AsyncKind (Hoisted slots) is fits = absurd is

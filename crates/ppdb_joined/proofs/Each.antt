@@ -1,5 +1,5 @@
 -- Facts of the items of lists that are put together.
-use Rattle.std.proofs.Common.{◌≡◌, ℕ, zero, suc, ◌<◌, ◌++◌, List, [], ◌∷◌, length, map, arith, get_or}
+use Rattle.std.proofs.Common.{zero, suc, ◌++◌, List, [], ◌∷◌, arith}
 use Rattle.std.specs.Prelude.{All, AllPairs, flat_map}
 use Rattle.ppdb_noted.specs.Each.{Each, Pairs}
 use Rattle.ppdb_noted.proofs.Lists.{Each-append, each_of}
@@ -50,14 +50,16 @@ pub Pairs-append : {A : Type 0} (R : A → A → Type 0) (xs ys : List A) → Pa
 Pairs-append R [] ys pairs also across = also
 Pairs-append R (x ∷ xs) ys pairs also across = (Each-append (R x) xs ys pairs.0 across.0, Pairs-append R xs ys pairs.1 also across.1)
 
-pub Pairs-flat : {A B : Type 0} (f : A → List B) (R : B → B → Type 0) (xs : List A) → Each (λ x. Pairs R (f x)) xs → Pairs (λ x y. Each (λ a. Each (R a) (f y)) (f x)) xs → Pairs R (flat_map f xs)
+pub Pairs-flat : {A B : Type 0} (f : A → List B) (R : B → B → Type 0) (xs : List A) → Each (λ x. Pairs R (f x)) xs
+    → Pairs (λ x y. Each (λ a. Each (R a) (f y)) (f x)) xs → Pairs R (flat_map f xs)
 Pairs-flat f R [] each across = tt
 Pairs-flat {A} {B} f R (x ∷ xs) each across = Pairs-append R (f x) (flat_map f xs) each.0 (Pairs-flat f R xs each.1 across.1) (turned (f x) xs across.0)
   where
     turned : (these : List B) (ys : List A) → Each (λ y. Each (λ a. Each (R a) (f y)) these) ys → Each (λ a. Each (R a) (flat_map f ys)) these
     turned these [] each = each_of (λ a. Unit {0}) (λ a. tt) these
     turned these (y ∷ ys) each =
-        Each-with (λ a. Each (R a) (f y)) (λ a. Each (R a) (flat_map f ys)) _ (λ a p q. Each-append (R a) (f y) (flat_map f ys) p q) these each.0 (turned these ys each.1)
+        Each-with (λ a. Each (R a) (f y)) (λ a. Each (R a) (flat_map f ys)) _ (λ a p q. Each-append (R a) (f y) (flat_map f ys) p q) these each.0
+        (turned these ys each.1)
 
 pub Pairs-with : {A : Type 0} (R S T : A → A → Type 0) → ((x y : A) → R x y → S x y → T x y) → (xs : List A) → Pairs R xs → Pairs S xs → Pairs T xs
 Pairs-with R S T both [] rs ss = tt

@@ -1,6 +1,7 @@
 -- Documents by their names.
-use Rattle.std.proofs.Common.{◌≡◌, ◌≢◌, ℕ, zero, suc, ◌+◌, ◌≤◌, ◌<◌, Bool, true, false, cond, List, [], ◌∷◌, length, refl, sym, ◌∙◌, ap, subst, arith, inl, inr}
-use Rattle.std.specs.Prelude.{◌&&◌, ◌||◌, not, nat_eq, nat_lt, Option, Some, None, position, unwrap_or, bytes_eq}
+use Rattle.std.proofs.Common.{◌≡◌, ◌≢◌, ℕ, zero, suc, ◌+◌, ◌≤◌, Bool, true, false, cond, List, [], ◌∷◌, length, refl, sym, ◌∙◌, ap, subst, arith, inl}
+use Rattle.std.proofs.Common.{inr}
+use Rattle.std.specs.Prelude.{◌||◌, nat_eq, nat_lt, Option, Some, None, position, unwrap_or, bytes_eq}
 use Rattle.std.specs.List.{list_any, position_or_len}
 use Rattle.std.specs.Option.{option_map}
 use Rattle.std.proofs.lemmas.Bool.{cases_lt, eqb-true, eq-eqb, and_parts, lt-ltb, le-ltb}
@@ -10,7 +11,7 @@ use Rattle.ppdb_values.specs.declared.noted.Noted.{Noted}
 use Rattle.ppdb_noted.specs.Each.{Each, Pairs}
 use Rattle.ppdb_noted.specs.Noted.{items_of}
 use Rattle.ppdb_noted.proofs.Lists.{Each-weaker}
-use Rattle.ppdb_joined.specs.Joined.{firsts, row_named}
+use Rattle.ppdb_joined.specs.Joined.{firsts}
 
 -- ---- names that are equal
 
@@ -56,7 +57,8 @@ position_cons p x xs = step (p x) refl
     step false is = rw is (later (position_or_len p xs) (length xs))
 
 -- the first that passes is there, where one passes
-pub found_within : {A : Type 0} (p : A → Bool) (xs : List A) → list_any p xs ≡ true → (1 ≤ unwrap_or (option_map suc (position p xs)) 0) × (unwrap_or (option_map suc (position p xs)) 0 ≤ length xs)
+pub found_within : {A : Type 0} (p : A → Bool) (xs : List A) → list_any p xs ≡ true
+    → (1 ≤ unwrap_or (option_map suc (position p xs)) 0) × (unwrap_or (option_map suc (position p xs)) 0 ≤ length xs)
 found_within p [] any = cc
 found_within {A} p (x ∷ xs) any = rw (position_cons p x xs) (step (p x) any (found_within p xs))
   where
@@ -65,8 +67,10 @@ found_within {A} p (x ∷ xs) any = rw (position_cons p x xs) (step (p x) any (f
     more None within = absurd (omega (arith, within.0))
     more (Some n) within = (omega arith, omega (arith, within.1))
 
-    step : (b : Bool) → (b || list_any p xs) ≡ true → (list_any p xs ≡ true → (1 ≤ unwrap_or (option_map suc (position p xs)) 0) × (unwrap_or (option_map suc (position p xs)) 0 ≤ length xs))
-        → (1 ≤ unwrap_or (option_map suc (cond b (Some 0) (option_map suc (position p xs)))) 0) × (unwrap_or (option_map suc (cond b (Some 0) (option_map suc (position p xs)))) 0 ≤ suc (length xs))
+    step : (b : Bool) → (b || list_any p xs) ≡ true
+        → (list_any p xs ≡ true → (1 ≤ unwrap_or (option_map suc (position p xs)) 0) × (unwrap_or (option_map suc (position p xs)) 0 ≤ length xs))
+        → (1 ≤ unwrap_or (option_map suc (cond b (Some 0) (option_map suc (position p xs)))) 0) ×
+        (unwrap_or (option_map suc (cond b (Some 0) (option_map suc (position p xs)))) 0 ≤ suc (length xs))
     step true any rest = (omega arith, omega arith)
     step false any rest = more (position p xs) (rest any)
 
@@ -87,7 +91,8 @@ row_found [] differ i n here = cc
 row_found (d ∷ ds) differ zero n here =
     let same : d ≡ n = cc in
     let is : bytes_eq d.item.name n.item.name ≡ true = subst (λ m. bytes_eq d.item.name m.item.name ≡ true) same (bytes_same d.item.name) in
-    position_cons (λ e. bytes_eq e.name n.item.name) d.item (items_of ds) ∙ ap (λ b. cond b (Some 0) (option_map suc (position (λ e. bytes_eq e.name n.item.name) (items_of ds)))) is
+    position_cons (λ e. bytes_eq e.name n.item.name) d.item (items_of ds)
+    ∙ ap (λ b. cond b (Some 0) (option_map suc (position (λ e. bytes_eq e.name n.item.name) (items_of ds)))) is
 row_found (d ∷ ds) differ (suc i) n here =
     let apart : d.item.name ≢ n.item.name = each_row_at (λ e. d.item.name ≢ e.item.name) ds i n differ.0 here in
     position_cons (λ e. bytes_eq e.name n.item.name) d.item (items_of ds)
@@ -103,11 +108,13 @@ abbrev pub is_named : List DocumentValue → List ℕ → Bool
 is_named documents name = list_any (λ (d : DocumentValue). bytes_eq d.name name) documents
 
 -- documents whose names differ all stand
-pub firsts_all : (names : List (List ℕ)) (ds : List DocumentValue) → Each (λ d. among names d.name ≡ false) ds → Pairs (λ a b. a.name ≢ b.name) ds → firsts names ds ≡ ds
+pub firsts_all : (names : List (List ℕ)) (ds : List DocumentValue) → Each (λ d. among names d.name ≡ false) ds → Pairs (λ a b. a.name ≢ b.name) ds
+    → firsts names ds ≡ ds
 firsts_all names [] new differ = refl
 firsts_all names (d ∷ ds) new differ = rw new.0 (ap (λ l. d ∷ l) (firsts_all (d.name ∷ names) ds (more ds new.1 differ.0) differ.1))
   where
-    more : (es : List DocumentValue) → Each (λ e. among names e.name ≡ false) es → Each (λ e. d.name ≢ e.name) es → Each (λ e. among (d.name ∷ names) e.name ≡ false) es
+    more : (es : List DocumentValue) → Each (λ e. among names e.name ≡ false) es → Each (λ e. d.name ≢ e.name) es
+        → Each (λ e. among (d.name ∷ names) e.name ≡ false) es
     more [] new apart = tt
     more (e ∷ es) new apart = (rw (bytes_apart d.name e.name apart.0) new.0, more es new.1 apart.1)
 
@@ -116,11 +123,15 @@ pub firsts_new : (names : List (List ℕ)) (ds : List DocumentValue) → Each (�
 firsts_new names [] = tt
 firsts_new names (d ∷ ds) = step (among names d.name) refl (firsts_new names ds) (firsts_new (d.name ∷ names) ds)
   where
-    step : (b : Bool) → among names d.name ≡ b → Each (λ e. among names e.name ≡ false) (firsts names ds) → Each (λ e. among (d.name ∷ names) e.name ≡ false) (firsts (d.name ∷ names) ds)
+    step : (b : Bool) → among names d.name ≡ b → Each (λ e. among names e.name ≡ false) (firsts names ds)
+        → Each (λ e. among (d.name ∷ names) e.name ≡ false) (firsts (d.name ∷ names) ds)
         → Each (λ e. among names e.name ≡ false) (cond b (firsts names ds) (d ∷ firsts (d.name ∷ names) ds))
     step true is rest other = rest
-    step false is rest other =
-        (is, Each-weaker (λ e. among (d.name ∷ names) e.name ≡ false) (λ e. among names e.name ≡ false) (λ e new. (or_false (bytes_eq d.name e.name) (among names e.name) new).1) (firsts (d.name ∷ names) ds) other)
+    step false is rest other = (
+      is,
+      Each-weaker (λ e. among (d.name ∷ names) e.name ≡ false) (λ e. among names e.name ≡ false)
+          (λ e new. (or_false (bytes_eq d.name e.name) (among names e.name) new).1) (firsts (d.name ∷ names) ds) other,
+    )
 
 pub firsts_differ : (names : List (List ℕ)) (ds : List DocumentValue) → Pairs (λ a b. a.name ≢ b.name) (firsts names ds)
 firsts_differ names [] = tt
@@ -130,15 +141,18 @@ firsts_differ names (d ∷ ds) = step (among names d.name) (firsts_differ names 
         → Pairs (λ a b. a.name ≢ b.name) (cond b (firsts names ds) (d ∷ firsts (d.name ∷ names) ds))
     step true rest other = rest
     step false rest other = (
-      Each-weaker (λ e. among (d.name ∷ names) e.name ≡ false) (λ e. d.name ≢ e.name) (λ e new. bytes_differ d.name e.name (or_false (bytes_eq d.name e.name) (among names e.name) new).0)
+      Each-weaker (λ e. among (d.name ∷ names) e.name ≡ false) (λ e. d.name ≢ e.name)
+          (λ e new. bytes_differ d.name e.name (or_false (bytes_eq d.name e.name) (among names e.name) new).0)
           (firsts (d.name ∷ names) ds) (firsts_new (d.name ∷ names) ds),
       other,
     )
 
 -- a name that is there stays there, but for the names that are left out
-pub firsts_has : (names : List (List ℕ)) (ds : List DocumentValue) (name : List ℕ) → is_named ds name ≡ true → among names name ≡ false → is_named (firsts names ds) name ≡ true
+pub firsts_has : (names : List (List ℕ)) (ds : List DocumentValue) (name : List ℕ) → is_named ds name ≡ true → among names name ≡ false
+    → is_named (firsts names ds) name ≡ true
 firsts_has names [] name has new = cc
-firsts_has names (d ∷ ds) name has new = step (among names d.name) refl (bytes_eq d.name name) refl (λ h. firsts_has names ds name h new) (λ h n. firsts_has (d.name ∷ names) ds name h n)
+firsts_has names (d ∷ ds) name has new =
+    step (among names d.name) refl (bytes_eq d.name name) refl (λ h. firsts_has names ds name h new) (λ h n. firsts_has (d.name ∷ names) ds name h n)
   where
     step : (b : Bool) → among names d.name ≡ b → (c : Bool) → bytes_eq d.name name ≡ c → (is_named ds name ≡ true → is_named (firsts names ds) name ≡ true)
         → (is_named ds name ≡ true → among (d.name ∷ names) name ≡ false → is_named (firsts (d.name ∷ names) ds) name ≡ true)

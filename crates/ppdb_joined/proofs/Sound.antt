@@ -1,17 +1,16 @@
 -- What is joined is sound.
-use Rattle.std.proofs.Common.{◌≡◌, ◌≢◌, ℕ, zero, suc, ◌+◌, ◌≤◌, ◌<◌, ◌++◌, ◌⊎◌, Bool, true, false, List, [], ◌∷◌, length, map, refl, sym, ◌∙◌, ap, subst, arith, inl, inr}
-use Rattle.std.specs.Prelude.{◌||◌, filter, flat_map, bytes_eq, Option, Some, None, unwrap_or, position, slice_index}
-use Rattle.std.specs.List.{list_any, repeat}
+use Rattle.std.proofs.Common.{◌≡◌, ◌≢◌, ℕ, zero, suc, ◌+◌, ◌≤◌, ◌<◌, Bool, true, false, List, [], ◌∷◌, length, map, refl, sym, ◌∙◌, ap, subst}
+use Rattle.std.proofs.Common.{arith, inl, inr}
+use Rattle.std.specs.Prelude.{◌||◌, filter, flat_map, bytes_eq, Option, unwrap_or, slice_index}
+use Rattle.std.specs.List.{repeat}
 use Rattle.std.specs.Option.{option_map}
 use Rattle.std.proofs.lemmas.List.{length-append, length-map}
 use Rattle.std.proofs.lemmas.Bool.{cases_lt}
-use Rattle.ppdb_tables.specs.RawTables.{row_at}
 use Rattle.ppdb_values.specs.declared.custom.CustomValue.{CustomValue}
 use Rattle.ppdb_values.specs.declared.file.DocumentValue.{DocumentValue}
 use Rattle.ppdb_values.specs.declared.file.FileValue.{FileValue}
 use Rattle.ppdb_values.specs.declared.file.MethodValue.{MethodValue}
 use Rattle.ppdb_values.specs.declared.import.ImportScopeValue.{ImportScopeValue}
-use Rattle.ppdb_values.specs.declared.noted.Custom.{Custom}
 use Rattle.ppdb_values.specs.declared.noted.Noted.{Noted}
 use Rattle.ppdb_values.specs.Ranges.{ComesAfter, IsInOrAfter}
 use Rattle.ppdb_tables.specs.declared.rows.MachineRow.{MachineRow}
@@ -28,11 +27,12 @@ use Rattle.ppdb_noted.specs.NamedRows.{Named, names, names_some, in_constant, in
 use Rattle.ppdb_noted.specs.Noted.{items_of, with_item}
 use Rattle.ppdb_noted.specs.SoundParts.{SoundNote, SoundNotedScope, SoundIn, SoundMoved, SoundParts}
 use Rattle.ppdb_noted.specs.Unnoted.{value_of_noted}
-use Rattle.ppdb_noted.proofs.Lists.{Each-append, Each-filter, Each-map, Each-unmap, Each-weaker, each_of, Pairs-map, Pairs-weaker}
+use Rattle.ppdb_noted.proofs.Lists.{Each-filter, Each-map, Each-unmap, Each-weaker, each_of, Pairs-map, Pairs-weaker}
 use Rattle.ppdb_noted.proofs.Mapped.{row_map}
 use Rattle.ppdb_noted.proofs.Orders.{in_order_each, in_order_rises, pairs_of}
 use Rattle.ppdb_joined.specs.Joinable.{AreJoinable, CountsRows}
-use Rattle.ppdb_joined.specs.Joined.{joined, joined_documents, joined_document, joined_rows, row_in, row_named, customs_named, shifted, renumbered, renumbered_all, renumbered_method, renumbered_scope, renumbered_import, renumbered_custom}
+use Rattle.ppdb_joined.specs.Joined.{joined, joined_documents, joined_document, joined_rows, row_in, row_named, customs_named, shifted, renumbered}
+use Rattle.ppdb_joined.specs.Joined.{renumbered_all, renumbered_method, renumbered_scope, renumbered_import, renumbered_custom}
 use Rattle.ppdb_joined.specs.Same.{same_custom, same_record, fresh}
 use Rattle.ppdb_joined.proofs.Apart.{methods_across, scopes_across, machines_across}
 use Rattle.ppdb_joined.proofs.Chains.{ChainsEnd, chains_end, imports_of}
@@ -51,7 +51,8 @@ each_named : (ds : List DocumentValue) → Each (λ d. is_named ds d.name ≡ tr
 each_named [] = tt
 each_named (d ∷ ds) = (
   ap (λ b. b || is_named ds d.name) (bytes_same d.name),
-  Each-weaker (λ e. is_named ds e.name ≡ true) (λ e. is_named (d ∷ ds) e.name ≡ true) (λ e is. or_right (bytes_eq d.name e.name) (is_named ds e.name) is) ds (each_named ds),
+  Each-weaker (λ e. is_named ds e.name ≡ true) (λ e. is_named (d ∷ ds) e.name ≡ true) (λ e is. or_right (bytes_eq d.name e.name) (is_named ds e.name) is) ds
+      (each_named ds),
 )
 
 -- ---- the rows that a file names, part by part
@@ -114,23 +115,31 @@ module _ (value : FileValue) (docs : List DocumentValue) (file : NotedFile) (shi
 
   file_whole : IsWhole value (renumbered docs shift file)
   file_whole = record {
-    documents = Each-weaker _ _ (λ n each. notes_any (moved_value file) value 0x30 (λ e. omega (arith, e)) (λ e. omega (arith, e)) n.customs each) file.documents sound.documents;
+    documents =
+        Each-weaker _ _
+        (λ n each. notes_any (moved_value file) value 0x30 (λ e. omega (arith, e)) (λ e. omega (arith, e)) n.customs each) file.documents sound.documents;
     methods = Each-map (renumbered_method row) (SoundMethod value) file.methods
-        (Each-with (SoundMethod (moved_value file)) _ _ (method_fits (moved_value file) value row shift documents imports) file.methods sound.methods fit.methods);
+        (Each-with (SoundMethod (moved_value file)) _ _
+        (method_fits (moved_value file) value row shift documents imports) file.methods sound.methods fit.methods);
     methods_differ = Pairs-map (renumbered_method row) (λ a b. a.method ≢ b.method) file.methods sound.methods_differ;
     scopes = Each-map (renumbered_scope shift) (SoundNotedScope value) file.scopes
-        (Each-with (λ s. SoundNotedScope (moved_value file) s × P (names 0x06 s.method)) (λ s. Each P (flat_map in_constant s.constants)) (λ s. SoundNotedScope value (renumbered_scope shift s))
+        (Each-with (λ s. SoundNotedScope (moved_value file) s × P (names 0x06 s.method)) (λ s. Each P (flat_map in_constant s.constants))
+        (λ s. SoundNotedScope value (renumbered_scope shift s))
         (λ s both constants. scope_fits (moved_value file) value row shift documents imports s both.0 both.1 constants) file.scopes
-        (Each-with (SoundNotedScope (moved_value file)) (λ s. P (names 0x06 s.method)) _ (λ s a b. (a, b)) file.scopes sound.scopes fit.scopes) fit.constants);
+        (Each-with (SoundNotedScope (moved_value file)) (λ s. P (names 0x06 s.method)) _
+        (λ s a b. (a, b)) file.scopes sound.scopes fit.scopes) fit.constants);
     by_start = Pairs-map (renumbered_scope shift) (λ a b. a.method ≡ b.method → ComesAfter a.range b.range) file.scopes sound.by_start;
     nested = Pairs-map (renumbered_scope shift) (λ a b. a.method ≡ b.method → IsInOrAfter a.range b.range) file.scopes sound.nested;
     imports = Each-map (with_item (renumbered_import shift)) (λ n. SoundImportScope value n.item × Each (SoundNote value 0x35) n.customs) file.imports
-        (Each-with (λ n. SoundImportScope (moved_value file) n.item × Each (SoundNote (moved_value file) 0x35) n.customs) (λ n. Each P (flat_map in_import n.item.imports)) _
+        (Each-with (λ n. SoundImportScope (moved_value file) n.item × Each (SoundNote (moved_value file) 0x35) n.customs)
+        (λ n. Each P (flat_map in_import n.item.imports)) _
         (λ n both fits. (
           import_scope_fits (moved_value file) value row shift documents imports n.item both.0 fits,
           notes_any (moved_value file) value 0x35 (λ e. omega (arith, e)) (λ e. omega (arith, e)) n.customs both.1,
         )) file.imports sound.imports fit.imports);
-    machines = Each-with (SoundMachine (moved_value file)) _ _ (machine_fits (moved_value file) value row shift documents imports) file.machines sound.machines fit.machines;
+    machines =
+        Each-with (SoundMachine (moved_value file)) _ _
+        (machine_fits (moved_value file) value row shift documents imports) file.machines sound.machines fit.machines;
     moved_differ = sound.moved_differ;
     kickoffs_differ = sound.kickoffs_differ;
     customs = Each-map (renumbered_custom row) (λ c. (c.parent.table < 0x2d) × SoundCustom value c) file.customs
@@ -159,7 +168,8 @@ shifted_within : (shift count total row : ℕ) → shift + count ≤ total → r
 shifted_within shift count total zero fits most = omega arith
 shifted_within shift count total (suc index) fits most = omega (arith, fits, most)
 
-all_whole : (value : FileValue) (docs : List DocumentValue) → length value.documents ≡ length docs → (shift : ℕ) (files : List NotedFile) → Each SoundMoved files
+all_whole : (value : FileValue) (docs : List DocumentValue) → length value.documents ≡ length docs → (shift : ℕ) (files : List NotedFile)
+    → Each SoundMoved files
     → Each (λ file. Each (λ n. n.row ≤ slice_index value.rows n.table) (all_named file)) files → Each (NamesDocuments docs) files
     → shift + length (flat_map imports_of (renumbered_all docs shift files)) ≤ length value.imports → Each (IsWhole value) (renumbered_all docs shift files)
 all_whole value docs many shift [] sound named has fits = tt
@@ -170,7 +180,8 @@ all_whole value docs many shift (f ∷ fs) sound named has fits =
     let length_its = length-map f.imports (with_item (renumbered_import shift)) in
     let length_items = length-map f.imports (λ n. n.item) in (
       file_whole value docs f shift sound.0 named.0 (documents_there value docs many f has.0)
-          (λ row most. shifted_within shift (length f.imports) (length value.imports) row (omega (arith, fits, sum, length_its)) (omega (arith, most, length_items))),
+          (λ row most. shifted_within shift (length f.imports) (length value.imports) row (omega (arith, fits, sum, length_its))
+          (omega (arith, most, length_items))),
       all_whole value docs many (shift + length f.imports) fs sound.1 named.1 has.1 (omega (arith, fits, sum, length_its)),
     )
 
@@ -180,10 +191,12 @@ chains_of files each = Each-weaker SoundMoved ChainsEnd (λ f s. record {
   ends = s.chains_end;
 }) files each
 
-notes_named : (value : FileValue) (name : List ℕ) (file : NotedFile) → Each (λ n. Each (SoundNote value 0x30) n.customs) file.documents → Each (SoundNote value 0x30) (customs_named name file)
+notes_named : (value : FileValue) (name : List ℕ) (file : NotedFile) → Each (λ n. Each (SoundNote value 0x30) n.customs) file.documents
+    → Each (SoundNote value 0x30) (customs_named name file)
 notes_named value name file each =
     Each-flat (λ n. n.customs) (SoundNote value 0x30) (filter (λ (d : Noted DocumentValue). bytes_eq d.item.name name) file.documents)
-    (Each-filter (λ n. Each (SoundNote value 0x30) n.customs) (λ n. Each (SoundNote value 0x30) n.customs) (λ (d : Noted DocumentValue). bytes_eq d.item.name name) (λ n is holds. holds) file.documents each)
+    (Each-filter (λ n. Each (SoundNote value 0x30) n.customs) (λ n. Each (SoundNote value 0x30) n.customs)
+    (λ (d : Noted DocumentValue). bytes_eq d.item.name name) (λ n is holds. holds) file.documents each)
 
 module _ (first : NotedFile) (others : List NotedFile) (joinable : AreJoinable (first ∷ others)) (counts : CountsRows first (first ∷ others)) where
   abbrev files : List NotedFile
@@ -210,7 +223,8 @@ module _ (first : NotedFile) (others : List NotedFile) (joinable : AreJoinable (
   names_there : Each (NamesDocuments docs) files
   names_there =
       Each-weaker (λ f. Each (λ d. is_named all_documents d.name ≡ true) (items_of f.documents)) (NamesDocuments docs)
-      (λ f each. Each-weaker (λ n. is_named all_documents n.item.name ≡ true) (λ n. is_named docs n.item.name ≡ true) (λ n is. firsts_has [] all_documents n.item.name is refl) f.documents
+      (λ f each. Each-weaker (λ n. is_named all_documents n.item.name ≡ true) (λ n. is_named docs n.item.name ≡ true)
+      (λ n is. firsts_has [] all_documents n.item.name is refl) f.documents
       (Each-unmap (λ n. n.item) (λ d. is_named all_documents d.name ≡ true) f.documents each)) files
       (Each-unflat (λ (file : NotedFile). items_of file.documents) (λ d. is_named all_documents d.name ≡ true) files (each_named all_documents))
 
@@ -225,50 +239,65 @@ module _ (first : NotedFile) (others : List NotedFile) (joinable : AreJoinable (
       its : (d : DocumentValue) → Each (SoundNote value 0x30) (joined_document parts d).customs
       its d =
           fresh_each same_custom (SoundNote value 0x30) [] (map (customs_named d.name) parts)
-          (Each-map (customs_named d.name) (Each (SoundNote value 0x30)) parts (Each-weaker (IsWhole value) _ (λ f w. notes_named value d.name f w.documents) parts each_whole))
+          (Each-map (customs_named d.name) (Each (SoundNote value 0x30)) parts
+          (Each-weaker (IsWhole value) _ (λ f w. notes_named value d.name f w.documents) parts each_whole))
 
   methods_apart : Pairs (λ a b. a.method ≢ b.method) whole.methods
   methods_apart =
       in_order_pairs (λ m. m.method) (λ a b. a.method ≢ b.method) (λ a b apart e. apart (sym e)) _
-      (Pairs-flat (λ (file : NotedFile). file.methods) (λ a b. a.method ≢ b.method) parts (Each-weaker (IsWhole value) _ (λ f w. w.methods_differ) parts each_whole)
+      (Pairs-flat (λ (file : NotedFile). file.methods) (λ a b. a.method ≢ b.method) parts
+      (Each-weaker (IsWhole value) _ (λ f w. w.methods_differ) parts each_whole)
       (methods_across docs 0 files joinable.methods_differ))
 
   machines_apart : Pairs (λ a b. a.move_next ≢ b.move_next) whole.machines
   machines_apart =
       in_order_pairs (λ r. r.move_next) (λ a b. a.move_next ≢ b.move_next) (λ a b apart e. apart (sym e)) _
-      (Pairs-flat (λ (file : NotedFile). file.machines) (λ a b. a.move_next ≢ b.move_next) parts (Each-weaker (IsWhole value) _ (λ f w. w.moved_differ) parts each_whole)
-      (Pairs-weaker _ _ (λ a b h. Each-weaker _ _ (λ r each. Each-weaker _ _ (λ q both. both.0) b.machines each) a.machines h) parts (machines_across docs 0 files joinable.methods_differ)))
+      (Pairs-flat (λ (file : NotedFile). file.machines) (λ a b. a.move_next ≢ b.move_next) parts
+      (Each-weaker (IsWhole value) _ (λ f w. w.moved_differ) parts each_whole)
+      (Pairs-weaker _ _ (λ a b h. Each-weaker _ _ (λ r each. Each-weaker _ _ (λ q both. both.0) b.machines each) a.machines h) parts
+      (machines_across docs 0 files joinable.methods_differ)))
 
   kickoffs_apart : Pairs (λ a b. a.kickoff ≢ b.kickoff) whole.machines
   kickoffs_apart =
       in_order_pairs (λ r. r.move_next) (λ a b. a.kickoff ≢ b.kickoff) (λ a b apart e. apart (sym e)) _
-      (Pairs-flat (λ (file : NotedFile). file.machines) (λ a b. a.kickoff ≢ b.kickoff) parts (Each-weaker (IsWhole value) _ (λ f w. w.kickoffs_differ) parts each_whole)
-      (Pairs-weaker _ _ (λ a b h. Each-weaker _ _ (λ r each. Each-weaker _ _ (λ q both. both.1) b.machines each) a.machines h) parts (machines_across docs 0 files joinable.methods_differ)))
+      (Pairs-flat (λ (file : NotedFile). file.machines) (λ a b. a.kickoff ≢ b.kickoff) parts
+      (Each-weaker (IsWhole value) _ (λ f w. w.kickoffs_differ) parts each_whole)
+      (Pairs-weaker _ _ (λ a b h. Each-weaker _ _ (λ r each. Each-weaker _ _ (λ q both. both.1) b.machines each) a.machines h) parts
+      (machines_across docs 0 files joinable.methods_differ)))
 
   -- two scopes of one method are of one file
-  scopes_keyed : (R : NotedScope → NotedScope → Type 0) → Each (λ f. Pairs (λ a b. a.method ≡ b.method → R a b) f.scopes) parts → Pairs (λ a b. a.method ≡ b.method → R a b) whole.scopes
+  scopes_keyed : (R : NotedScope → NotedScope → Type 0) → Each (λ f. Pairs (λ a b. a.method ≡ b.method → R a b) f.scopes) parts
+      → Pairs (λ a b. a.method ≡ b.method → R a b) whole.scopes
   scopes_keyed R each =
       in_order_keyed (λ s. s.method) R _
       (Pairs-flat (λ (file : NotedFile). file.scopes) (λ a b. a.method ≡ b.method → R a b) parts each
-      (Pairs-weaker _ _ (λ a b h. Each-weaker _ _ (λ s each. Each-weaker _ _ (λ t apart same. absurd (apart same)) b.scopes each) a.scopes h) parts (scopes_across docs 0 files joinable.methods_differ)))
+      (Pairs-weaker _ _ (λ a b h. Each-weaker _ _ (λ s each. Each-weaker _ _ (λ t apart same. absurd (apart same)) b.scopes each) a.scopes h) parts
+      (scopes_across docs 0 files joinable.methods_differ)))
 
   in_whole : SoundIn value whole
   in_whole = record {
     documents = document_notes;
     names_differ = Pairs-map (joined_document parts) (λ a b. a.item.name ≢ b.item.name) docs (firsts_differ [] all_documents);
-    methods = in_order_each (λ m. m.method) (SoundMethod value) _ (Each-flat (λ (file : NotedFile). file.methods) (SoundMethod value) parts (Each-weaker (IsWhole value) _ (λ f w. w.methods) parts each_whole));
+    methods =
+        in_order_each (λ m. m.method) (SoundMethod value) _
+        (Each-flat (λ (file : NotedFile). file.methods) (SoundMethod value) parts (Each-weaker (IsWhole value) _ (λ f w. w.methods) parts each_whole));
     methods_differ = methods_apart;
-    scopes = in_order_each (λ s. s.method) (SoundNotedScope value) _ (Each-flat (λ (file : NotedFile). file.scopes) (SoundNotedScope value) parts (Each-weaker (IsWhole value) _ (λ f w. w.scopes) parts each_whole));
+    scopes =
+        in_order_each (λ s. s.method) (SoundNotedScope value) _
+        (Each-flat (λ (file : NotedFile). file.scopes) (SoundNotedScope value) parts (Each-weaker (IsWhole value) _ (λ f w. w.scopes) parts each_whole));
     by_start = scopes_keyed (λ a b. ComesAfter a.range b.range) (Each-weaker (IsWhole value) _ (λ f w. w.by_start) parts each_whole);
     nested = scopes_keyed (λ a b. IsInOrAfter a.range b.range) (Each-weaker (IsWhole value) _ (λ f w. w.nested) parts each_whole);
     imports = Each-flat imports_of _ parts (Each-weaker (IsWhole value) _ (λ f w. w.imports) parts each_whole);
     chains_end = chains_end docs files (chains_of files joinable.each);
-    machines = in_order_each (λ r. r.move_next) (SoundMachine value) _ (Each-flat (λ (file : NotedFile). file.machines) (SoundMachine value) parts (Each-weaker (IsWhole value) _ (λ f w. w.machines) parts each_whole));
+    machines =
+        in_order_each (λ r. r.move_next) (SoundMachine value) _
+        (Each-flat (λ (file : NotedFile). file.machines) (SoundMachine value) parts (Each-weaker (IsWhole value) _ (λ f w. w.machines) parts each_whole));
     moved_differ = machines_apart;
     kickoffs_differ = kickoffs_apart;
     customs = in_order_each (λ c. coded_of c.parent) (λ c. (c.parent.table < 0x2d) × SoundCustom value c) _
         (fresh_each same_record _ [] (map (λ (file : NotedFile). file.customs) parts)
-        (Each-map (λ (file : NotedFile). file.customs) (Each (λ c. (c.parent.table < 0x2d) × SoundCustom value c)) parts (Each-weaker (IsWhole value) _ (λ f w. w.customs) parts each_whole)));
+        (Each-map (λ (file : NotedFile). file.customs) (Each (λ c. (c.parent.table < 0x2d) × SoundCustom value c)) parts
+        (Each-weaker (IsWhole value) _ (λ f w. w.customs) parts each_whole)));
   }
 
   pub whole_sound : SoundParts whole
@@ -277,12 +306,20 @@ module _ (first : NotedFile) (others : List NotedFile) (joinable : AreJoinable (
     entry = counts.entry;
     parts = in_whole;
     order = record {
-      methods = Pairs-with (λ a b. a.method ≤ b.method) (λ a b. a.method ≢ b.method) (λ a b. a.method < b.method) (λ a b le apart. less a.method b.method le apart) whole.methods
-          (pairs_of (λ m. m.method) 0 whole.methods (in_order_rises (λ (m : MethodValue). m.method) (flat_map (λ (file : NotedFile). file.methods) parts))) methods_apart;
+      methods =
+          Pairs-with (λ a b. a.method ≤ b.method) (λ a b. a.method ≢ b.method) (λ a b. a.method < b.method)
+          (λ a b le apart. less a.method b.method le apart) whole.methods
+          (pairs_of (λ m. m.method) 0 whole.methods
+          (in_order_rises (λ (m : MethodValue). m.method) (flat_map (λ (file : NotedFile). file.methods) parts))) methods_apart;
       scopes = pairs_of (λ s. s.method) 0 whole.scopes (in_order_rises (λ (s : NotedScope). s.method) (flat_map (λ (file : NotedFile). file.scopes) parts));
-      machines = Pairs-with (λ a b. a.move_next ≤ b.move_next) (λ a b. a.move_next ≢ b.move_next) (λ a b. a.move_next < b.move_next) (λ a b le apart. less a.move_next b.move_next le apart) whole.machines
-          (pairs_of (λ r. r.move_next) 0 whole.machines (in_order_rises (λ (r : MachineRow). r.move_next) (flat_map (λ (file : NotedFile). file.machines) parts))) machines_apart;
-      customs = pairs_of (λ c. coded_of c.parent) 0 whole.customs (in_order_rises (λ (c : CustomValue). coded_of c.parent) (fresh same_record [] (map (λ (file : NotedFile). file.customs) parts)));
+      machines =
+          Pairs-with (λ a b. a.move_next ≤ b.move_next) (λ a b. a.move_next ≢ b.move_next) (λ a b. a.move_next < b.move_next)
+          (λ a b le apart. less a.move_next b.move_next le apart) whole.machines
+          (pairs_of (λ r. r.move_next) 0 whole.machines
+          (in_order_rises (λ (r : MachineRow). r.move_next) (flat_map (λ (file : NotedFile). file.machines) parts))) machines_apart;
+      customs =
+          pairs_of (λ c. coded_of c.parent) 0 whole.customs
+          (in_order_rises (λ (c : CustomValue). coded_of c.parent) (fresh same_record [] (map (λ (file : NotedFile). file.customs) parts)));
     };
   }
     where

@@ -1,6 +1,6 @@
 -- Files joined into one, each with its records at their items (Portable PDB v1.0, "Document Table", "ImportScope Table",
 -- "CustomDebugInformation Table").
-use Rattle.std.specs.Prelude.{ℕ, zero, suc, ◌+◌, cond, List, [], ◌∷◌, ◌++◌, length, map, filter, flat_map, position, unwrap_or, bytes_eq}
+use Rattle.std.specs.Prelude.{ℕ, zero, suc, ◌+◌, cond, List, [], ◌∷◌, length, map, filter, flat_map, position, unwrap_or, bytes_eq}
 use Rattle.std.specs.List.{list_any, repeat}
 use Rattle.std.specs.Option.{option_map}
 use Rattle.sequence_points.specs.declared.point.Point.{Point}

@@ -1,5 +1,5 @@
 -- Files whose rows have numbers of four bytes.
-use Rattle.std.specs.Prelude.{ℕ, ◌<◌, length, sum_by}
+use Rattle.std.specs.Prelude.{◌<◌, length, sum_by}
 use Rattle.ppdb_noted.specs.declared.file.NotedFile.{NotedFile}
 
 pub record IsSmall (file : NotedFile) : Type 0 where

@@ -8,7 +8,11 @@ use ppdb_values::{Custom, CustomValue, Noted};
 use std::alloc::Global;
 
 /// Puts records behind others, as records on a row.
-pub fn place(notes: List<Custom>, parent: Parent, customs: &mut List<CustomValue>) -> Result<(), Memory>
+pub fn place(
+    notes: List<Custom>,
+    parent: Parent,
+    customs: &mut List<CustomValue>,
+) -> Result<(), Memory>
     ensures { OnOk result (customs.new ≡ customs.old ++ map (on_row parent.table parent.row) notes) }
 {
     for note in notes.into_vec() {

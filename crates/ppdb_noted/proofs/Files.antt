@@ -1,5 +1,6 @@
 -- A file whose records stand at their items is the noted form of its value.
-use Rattle.std.proofs.Common.{◌≡◌, ℕ, suc, ◌+◌, ◌-◌, ◌<◌, ◌≤◌, ◌++◌, Bool, false, List, [], ◌∷◌, refl, sym, ◌∙◌, ap, arith, map, length, take, append-nil, append_assoc}
+use Rattle.std.proofs.Common.{◌≡◌, ℕ, suc, ◌+◌, ◌-◌, ◌<◌, ◌≤◌, ◌++◌, Bool, false, List, [], ◌∷◌, refl, sym, ◌∙◌, ap, arith, map, length, take, append-nil}
+use Rattle.std.proofs.Common.{append_assoc}
 use Rattle.std.specs.Prelude.{nat_lt, filter, sum_by}
 use Rattle.std.specs.List.{enumerate_from, flat_map}
 use Rattle.std.proofs.lemmas.Bool.{lt-ltb, ne_eqb}
@@ -50,7 +51,8 @@ constants_of scopes = flat_map (λ scope. customs_of scope.constants) scopes
 abbrev pub imports_of : NotedFile → List (List Custom)
 imports_of file = customs_of file.imports
 
-none_low : (q : CustomValue → Bool) → ((c : CustomValue) → c.parent.table < 0x2d → q c ≡ false) → (cs : List CustomValue) → Each (λ c. c.parent.table < 0x2d) cs → filter q cs ≡ []
+none_low : (q : CustomValue → Bool) → ((c : CustomValue) → c.parent.table < 0x2d → q c ≡ false) → (cs : List CustomValue)
+    → Each (λ c. c.parent.table < 0x2d) cs → filter q cs ≡ []
 none_low q none [] low = refl
 none_low q none (c ∷ cs) low = rw (none c low.0) (none_low q none cs low.1)
 
@@ -83,7 +85,7 @@ module _ {A : Type 0} (a b c d e f : List A) where
 
 -- ---- scopes, after some before them
 
-take_front : {A : Type 0} (xs ys : List A) → take (length xs) (xs ++ ys) ≡ xs
+pub take_front : {A : Type 0} (xs ys : List A) → take (length xs) (xs ++ ys) ≡ xs
 take_front [] ys = refl
 take_front (x ∷ xs) ys = ap (λ l. x ∷ l) (take_front xs ys)
 
@@ -102,12 +104,14 @@ count_more items before scope first count is_first is_count =
     ap (sum_by items) (map-append scope_of before (scope ∷ [])) ∙ sum_by-append items (map scope_of before) (scope_of scope ∷ []) in
     omega (arith, is_first, is_count, sums)
 
-both_lengths : {A : Type 0} (noted : List (Noted A)) → length (customs_of noted) ≡ length (items_of noted)
+pub both_lengths : {A : Type 0} (noted : List (Noted A)) → length (customs_of noted) ≡ length (items_of noted)
 both_lengths noted = length-map noted _ ∙ sym (length-map noted _)
 
 scopes_back : (value : FileValue) (before scopes : List NotedScope) (row variable constant : ℕ) → value.scopes ≡ map scope_of (before ++ scopes)
-    → row ≡ suc (length before) → variable ≡ suc (sum_by (λ s. length s.variables) (map scope_of before)) → constant ≡ suc (sum_by (λ s. length s.constants) (map scope_of before))
-    → AreRows (noted_on value 0x32) row (scopes_of scopes) → AreRows (noted_on value 0x33) variable (variables_of scopes) → AreRows (noted_on value 0x34) constant (constants_of scopes)
+    → row ≡ suc (length before) → variable ≡ suc (sum_by (λ s. length s.variables) (map scope_of before)) → constant ≡ suc
+    (sum_by (λ s. length s.constants) (map scope_of before))
+    → AreRows (noted_on value 0x32) row (scopes_of scopes) → AreRows (noted_on value 0x33) variable (variables_of scopes) → AreRows
+    (noted_on value 0x34) constant (constants_of scopes)
     → map (noted_scope value) (enumerate_from row (map scope_of scopes)) ≡ scopes
 scopes_back value before [] row variable constant are is_row is_variable is_constant rows variables constants = refl
 scopes_back value before (s ∷ scopes) row variable constant are is_row is_variable is_constant rows variables constants =
@@ -123,7 +127,8 @@ scopes_back value before (s ∷ scopes) row variable constant are is_row is_vari
     let second : NotedScope = record first { customs = s.customs } in
     let third : NotedScope = record second { variables = s.variables } in
     let here : first ≡ s =
-    ap (λ c. record first { customs = c }) rows.0 ∙ ap (λ v. record second { variables = v }) its_variables ∙ ap (λ c. record third { constants = c }) its_constants in
+    ap (λ c. record first { customs = c }) rows.0 ∙ ap (λ v. record second { variables = v }) its_variables
+    ∙ ap (λ c. record third { constants = c }) its_constants in
     let later : map (noted_scope value) (enumerate_from (row + 1) (map scope_of scopes)) ≡ scopes =
     scopes_back value (before ++ s ∷ []) scopes (row + 1) (variable + length (customs_of s.variables)) (constant + length (customs_of s.constants))
     (are ∙ ap (map scope_of) (sym (append_assoc before (s ∷ []) scopes))) (let l = length-append before (s ∷ []) in omega (arith, is_row, l))
@@ -142,7 +147,8 @@ module _ (file : NotedFile) (low : Each (λ c. c.parent.table < 0x2d) file.custo
   -- the parts of the records, as a test leaves them
   abbrev shown : (q : CustomValue → Bool) → filter q (all_customs file)
       ≡ filter q file.customs ++ filter q (placed 0x30 1 (documents_of file)) ++ filter q (placed 0x32 1 (scopes_of file.scopes))
-      ++ filter q (placed 0x33 1 (variables_of file.scopes)) ++ filter q (placed 0x34 1 (constants_of file.scopes)) ++ filter q (placed 0x35 1 (imports_of file))
+      ++ filter q (placed 0x33 1 (variables_of file.scopes)) ++ filter q (placed 0x34 1 (constants_of file.scopes)) ++ filter q
+      (placed 0x35 1 (imports_of file))
   shown q = parts_filter q file.customs _ _ _ _ _
 
   none_documents : (q : CustomValue → Bool) → ((row : ℕ) (c : Custom) → q (on_row 0x30 row c) ≡ false) → filter q (placed 0x30 1 (documents_of file)) ≡ []
@@ -151,10 +157,12 @@ module _ (file : NotedFile) (low : Each (λ c. c.parent.table < 0x2d) file.custo
   none_scopes : (q : CustomValue → Bool) → ((row : ℕ) (c : Custom) → q (on_row 0x32 row c) ≡ false) → filter q (placed 0x32 1 (scopes_of file.scopes)) ≡ []
   none_scopes q none = none_placed q 0x32 none 1 (scopes_of file.scopes)
 
-  none_variables : (q : CustomValue → Bool) → ((row : ℕ) (c : Custom) → q (on_row 0x33 row c) ≡ false) → filter q (placed 0x33 1 (variables_of file.scopes)) ≡ []
+  none_variables : (q : CustomValue → Bool) → ((row : ℕ) (c : Custom) → q (on_row 0x33 row c) ≡ false)
+      → filter q (placed 0x33 1 (variables_of file.scopes)) ≡ []
   none_variables q none = none_placed q 0x33 none 1 (variables_of file.scopes)
 
-  none_constants : (q : CustomValue → Bool) → ((row : ℕ) (c : Custom) → q (on_row 0x34 row c) ≡ false) → filter q (placed 0x34 1 (constants_of file.scopes)) ≡ []
+  none_constants : (q : CustomValue → Bool) → ((row : ℕ) (c : Custom) → q (on_row 0x34 row c) ≡ false)
+      → filter q (placed 0x34 1 (constants_of file.scopes)) ≡ []
   none_constants q none = none_placed q 0x34 none 1 (constants_of file.scopes)
 
   none_imports : (q : CustomValue → Bool) → ((row : ℕ) (c : Custom) → q (on_row 0x35 row c) ≡ false) → filter q (placed 0x35 1 (imports_of file)) ≡ []
@@ -162,33 +170,40 @@ module _ (file : NotedFile) (low : Each (λ c. c.parent.table < 0x2d) file.custo
 
   documents_only : (row : ℕ) → filter (at 0x30 row) (all_customs file) ≡ filter (at 0x30 row) (placed 0x30 1 (documents_of file))
   documents_only row =
-      shown (at 0x30 row) ∙ only_second _ _ _ _ _ _ (none_low (at 0x30 row) (not_low 0x30 row (omega arith)) file.customs low) (none_scopes (at 0x30 row) (λ r c. refl))
+      shown (at 0x30 row)
+      ∙ only_second _ _ _ _ _ _ (none_low (at 0x30 row) (not_low 0x30 row (omega arith)) file.customs low) (none_scopes (at 0x30 row) (λ r c. refl))
       (none_variables (at 0x30 row) (λ r c. refl)) (none_constants (at 0x30 row) (λ r c. refl)) (none_imports (at 0x30 row) (λ r c. refl))
 
   scopes_only : (row : ℕ) → filter (at 0x32 row) (all_customs file) ≡ filter (at 0x32 row) (placed 0x32 1 (scopes_of file.scopes))
   scopes_only row =
-      shown (at 0x32 row) ∙ only_third _ _ _ _ _ _ (none_low (at 0x32 row) (not_low 0x32 row (omega arith)) file.customs low) (none_documents (at 0x32 row) (λ r c. refl))
+      shown (at 0x32 row)
+      ∙ only_third _ _ _ _ _ _ (none_low (at 0x32 row) (not_low 0x32 row (omega arith)) file.customs low) (none_documents (at 0x32 row) (λ r c. refl))
       (none_variables (at 0x32 row) (λ r c. refl)) (none_constants (at 0x32 row) (λ r c. refl)) (none_imports (at 0x32 row) (λ r c. refl))
 
   variables_only : (row : ℕ) → filter (at 0x33 row) (all_customs file) ≡ filter (at 0x33 row) (placed 0x33 1 (variables_of file.scopes))
   variables_only row =
-      shown (at 0x33 row) ∙ only_fourth _ _ _ _ _ _ (none_low (at 0x33 row) (not_low 0x33 row (omega arith)) file.customs low) (none_documents (at 0x33 row) (λ r c. refl))
+      shown (at 0x33 row)
+      ∙ only_fourth _ _ _ _ _ _ (none_low (at 0x33 row) (not_low 0x33 row (omega arith)) file.customs low) (none_documents (at 0x33 row) (λ r c. refl))
       (none_scopes (at 0x33 row) (λ r c. refl)) (none_constants (at 0x33 row) (λ r c. refl)) (none_imports (at 0x33 row) (λ r c. refl))
 
   constants_only : (row : ℕ) → filter (at 0x34 row) (all_customs file) ≡ filter (at 0x34 row) (placed 0x34 1 (constants_of file.scopes))
   constants_only row =
-      shown (at 0x34 row) ∙ only_fifth _ _ _ _ _ _ (none_low (at 0x34 row) (not_low 0x34 row (omega arith)) file.customs low) (none_documents (at 0x34 row) (λ r c. refl))
+      shown (at 0x34 row)
+      ∙ only_fifth _ _ _ _ _ _ (none_low (at 0x34 row) (not_low 0x34 row (omega arith)) file.customs low) (none_documents (at 0x34 row) (λ r c. refl))
       (none_scopes (at 0x34 row) (λ r c. refl)) (none_variables (at 0x34 row) (λ r c. refl)) (none_imports (at 0x34 row) (λ r c. refl))
 
   imports_only : (row : ℕ) → filter (at 0x35 row) (all_customs file) ≡ filter (at 0x35 row) (placed 0x35 1 (imports_of file))
   imports_only row =
-      shown (at 0x35 row) ∙ only_sixth _ _ _ _ _ _ (none_low (at 0x35 row) (not_low 0x35 row (omega arith)) file.customs low) (none_documents (at 0x35 row) (λ r c. refl))
+      shown (at 0x35 row)
+      ∙ only_sixth _ _ _ _ _ _ (none_low (at 0x35 row) (not_low 0x35 row (omega arith)) file.customs low) (none_documents (at 0x35 row) (λ r c. refl))
       (none_scopes (at 0x35 row) (λ r c. refl)) (none_variables (at 0x35 row) (λ r c. refl)) (none_constants (at 0x35 row) (λ r c. refl))
 
   low_only : filter (λ c. nat_lt c.parent.table 0x2d) (all_customs file) ≡ file.customs
   low_only =
-      shown (λ c. nat_lt c.parent.table 0x2d) ∙ only_first _ _ _ _ _ _ (none_documents (λ c. nat_lt c.parent.table 0x2d) (λ r c. refl)) (none_scopes (λ c. nat_lt c.parent.table 0x2d) (λ r c. refl))
-      (none_variables (λ c. nat_lt c.parent.table 0x2d) (λ r c. refl)) (none_constants (λ c. nat_lt c.parent.table 0x2d) (λ r c. refl)) (none_imports (λ c. nat_lt c.parent.table 0x2d) (λ r c. refl))
+      shown (λ c. nat_lt c.parent.table 0x2d)
+      ∙ only_first _ _ _ _ _ _ (none_documents (λ c. nat_lt c.parent.table 0x2d) (λ r c. refl)) (none_scopes (λ c. nat_lt c.parent.table 0x2d) (λ r c. refl))
+      (none_variables (λ c. nat_lt c.parent.table 0x2d) (λ r c. refl)) (none_constants (λ c. nat_lt c.parent.table 0x2d) (λ r c. refl))
+      (none_imports (λ c. nat_lt c.parent.table 0x2d) (λ r c. refl))
       ∙ all_low file.customs low
 
   -- the records on a row are those that are placed there
@@ -208,11 +223,13 @@ module _ (file : NotedFile) (low : Each (λ c. c.parent.table < 0x2d) file.custo
 
   customs_back : Pairs (λ a b. coded_of a.parent ≤ coded_of b.parent) file.customs → (noted_file value).customs ≡ file.customs
   customs_back order =
-      in_order_filter code (λ c. nat_lt c.parent.table 0x2d) (all_customs file) ∙ ap (in_order code) low_only ∙ in_order_is code file.customs (rises_of code file.customs order)
+      in_order_filter code (λ c. nat_lt c.parent.table 0x2d) (all_customs file) ∙ ap (in_order code) low_only
+      ∙ in_order_is code file.customs (rises_of code file.customs order)
 
   scopes_come_back : (noted_file value).scopes ≡ file.scopes
   scopes_come_back = scopes_back value [] file.scopes 1 1 1 refl refl refl refl
-      (rows_are 0x32 (scopes_of file.scopes) scopes_only) (rows_are 0x33 (variables_of file.scopes) variables_only) (rows_are 0x34 (constants_of file.scopes) constants_only)
+      (rows_are 0x32 (scopes_of file.scopes) scopes_only) (rows_are 0x33 (variables_of file.scopes) variables_only)
+      (rows_are 0x34 (constants_of file.scopes) constants_only)
 
   pub file_back : Pairs (λ a b. coded_of a.parent ≤ coded_of b.parent) file.customs → noted_file value ≡ file
   file_back order =

@@ -100,12 +100,14 @@ row_pairs R (x ∷ xs) pairs (suc (suc i)) (suc (suc j)) y z here there less =
 
 -- ---- by the places of keys
 
-pub each_key : {A : Type 0} (key : A → ℕ) (P : ℕ → Type 0) (xs : List A) → Each (λ x. P (key x)) xs → (i : ℕ) → i < length (map key xs) → P (get_or (map key xs) i 0)
+pub each_key : {A : Type 0} (key : A → ℕ) (P : ℕ → Type 0) (xs : List A) → Each (λ x. P (key x)) xs → (i : ℕ) → i < length (map key xs)
+    → P (get_or (map key xs) i 0)
 each_key key P [] each i less = absurd (omega (arith, less))
 each_key key P (x ∷ xs) each zero less = each.0
 each_key key P (x ∷ xs) each (suc i) less = each_key key P xs each.1 i (omega (arith, less))
 
-pub key_each : {A : Type 0} (key : A → ℕ) (P : ℕ → Type 0) (xs : List A) → ((i : ℕ) → i < length (map key xs) → P (get_or (map key xs) i 0)) → Each (λ x. P (key x)) xs
+pub key_each : {A : Type 0} (key : A → ℕ) (P : ℕ → Type 0) (xs : List A) → ((i : ℕ) → i < length (map key xs) → P (get_or (map key xs) i 0))
+    → Each (λ x. P (key x)) xs
 key_each key P [] at = tt
 key_each key P (x ∷ xs) at = (at 0 (omega arith), key_each key P xs (λ i less. at (suc i) (omega (arith, less))))
 

@@ -32,12 +32,15 @@ last_same : {A : Type 0} (xs : List A) → last_or None xs ≡ last_of xs
 last_same [] = refl
 last_same (x ∷ xs) = last_is None x xs
 
-items_numbered : (value : FileValue) (row : ℕ) → option_map (λ (n : Noted DocumentValue). n.item) (row_at (noted_file value).documents row) ≡ row_at value.documents row
+items_numbered : (value : FileValue) (row : ℕ)
+    → option_map (λ (n : Noted DocumentValue). n.item) (row_at (noted_file value).documents row) ≡ row_at value.documents row
 items_numbered value row =
-    ap (option_map (λ (n : Noted DocumentValue). n.item)) (row_numbered (λ (item : ℕ × DocumentValue). record { item = item.1; customs = noted_on value 0x30 item.0 }) value.documents row)
+    ap (option_map (λ (n : Noted DocumentValue). n.item))
+    (row_numbered (λ (item : ℕ × DocumentValue). record { item = item.1; customs = noted_on value 0x30 item.0 }) value.documents row)
     ∙ back (row_at value.documents row)
   where
-    back : (o : Option DocumentValue) → option_map (λ (n : Noted DocumentValue). n.item) (option_map (λ x. record { item = x; customs = noted_on value 0x30 row }) o) ≡ o
+    back : (o : Option DocumentValue)
+        → option_map (λ (n : Noted DocumentValue). n.item) (option_map (λ x. record { item = x; customs = noted_on value 0x30 row }) o) ≡ o
     back None = refl
     back (Some x) = refl
 
@@ -47,25 +50,32 @@ point_is value m x = of (find (λ (e : MethodValue). nat_eq e.method m) value.me
   where
     shown : (e : MethodValue) (o : Option Point) → signature_by (find (λ (e : MethodValue). nat_eq e.method m) value.methods) ≡ e.signature
         → option_map (point_meaning value m) o
-        ≡ option_map (λ (p : Point). record { offset = p.offset; span = p.span; document = noted.document_at (noted_file value) p.document; signature = e.signature }) o
+        ≡ option_map
+        (λ (p : Point). record { offset = p.offset; span = p.span; document = noted.document_at (noted_file value) p.document; signature = e.signature }) o
     shown e None is = refl
     shown e (Some p) is = ap Some (rw (is, items_numbered value p.document) refl)
 
-    of : (o : Option MethodValue) → find (λ (e : MethodValue). nat_eq e.method m) value.methods ≡ o → option_map (point_meaning value m) (last_point (points_by o) x)
+    of : (o : Option MethodValue) → find (λ (e : MethodValue). nat_eq e.method m) value.methods ≡ o
+        → option_map (point_meaning value m) (last_point (points_by o) x)
         ≡ option_and_then (λ (e : MethodValue). noted.point_meaning (noted_file value) e x) o
     of None is = refl
     of (Some e) is =
         shown e (last_point e.points x) (ap signature_by is)
-        ∙ ap (option_map (λ (p : Point). record { offset = p.offset; span = p.span; document = noted.document_at (noted_file value) p.document; signature = e.signature })) (last_same (filter (λ (p : Point). nat_le p.offset x) e.points))
+        ∙ ap (option_map
+        (λ (p : Point). record { offset = p.offset; span = p.span; document = noted.document_at (noted_file value) p.document; signature = e.signature }))
+        (last_same (filter (λ (p : Point). nat_le p.offset x) e.points))
 
 -- ---- the scopes
 
-chain_is : (value : FileValue) (import : ℕ) → map (import_meaning value) (import_chain value import) ≡ map imported (noted.chain (noted_file value).imports import)
+chain_is : (value : FileValue) (import : ℕ)
+    → map (import_meaning value) (import_chain value import) ≡ map imported (noted.chain (noted_file value).imports import)
 chain_is value import =
     sym (
     ap (map imported) (ap (map (λ (link : ℕ × Noted ImportScopeValue). link.1))
-    (chain_of_numbered (λ (item : ℕ × ImportScopeValue). record { item = item.1; customs = noted_on value 0x35 item.0 }) (λ scope. scope.parent) (λ n. n.item.parent) (λ n x. refl) value.imports import)
-    ∙ map_map_both (λ (link : ℕ × Noted ImportScopeValue). link.1) (λ link. (link.0, record { item = link.1; customs = noted_on value 0x35 link.0 })) (import_chain value import))
+    (chain_of_numbered (λ (item : ℕ × ImportScopeValue). record { item = item.1; customs = noted_on value 0x35 item.0 }) (λ scope. scope.parent)
+    (λ n. n.item.parent) (λ n x. refl) value.imports import)
+    ∙ map_map_both (λ (link : ℕ × Noted ImportScopeValue). link.1) (λ link. (link.0, record { item = link.1; customs = noted_on value 0x35 link.0 }))
+    (import_chain value import))
     ∙ map_map_both imported (λ (link : ℕ × ImportScopeValue). record { item = link.1; customs = noted_on value 0x35 link.0 }) (import_chain value import)
     )
 
@@ -81,7 +91,8 @@ scopes_are : (value : FileValue) (m x : ℕ) → map (scope_meaning value) (scop
 scopes_are value m x =
     maps_same (scope_meaning value) (λ row. noted.scope_meaning (noted_file value) (noted_scope value row)) (scope_is value) (scopes_at value m x)
     ∙ sym (
-    ap (map (noted.scope_meaning (noted_file value))) (filter_map_both (noted_scope value) (λ (s : NotedScope). nat_eq s.method m && noted.held x s.range) (numbered value.scopes))
+    ap (map (noted.scope_meaning (noted_file value)))
+    (filter_map_both (noted_scope value) (λ (s : NotedScope). nat_eq s.method m && noted.held x s.range) (numbered value.scopes))
     ∙ map_map_both (noted.scope_meaning (noted_file value)) (noted_scope value) (scopes_at value m x)
     )
 
@@ -93,8 +104,10 @@ on_method m [] = refl
 on_method m (c ∷ cs) = step (nat_lt c.parent.table 0x2d) refl (is_at 0x06 m c.parent) refl (on_method m cs)
   where
     step : (a : Bool) → nat_lt c.parent.table 0x2d ≡ a → (b : Bool) → is_at 0x06 m c.parent ≡ b
-        → filter (λ custom. is_at 0x06 m custom.parent) (filter (λ custom. nat_lt custom.parent.table 0x2d) cs) ≡ filter (λ custom. is_at 0x06 m custom.parent) cs
-        → filter (λ custom. is_at 0x06 m custom.parent) (cond a (c ∷ filter (λ custom. nat_lt custom.parent.table 0x2d) cs) (filter (λ custom. nat_lt custom.parent.table 0x2d) cs))
+        → filter (λ custom. is_at 0x06 m custom.parent) (filter (λ custom. nat_lt custom.parent.table 0x2d) cs) ≡ filter
+        (λ custom. is_at 0x06 m custom.parent) cs
+        → filter (λ custom. is_at 0x06 m custom.parent)
+        (cond a (c ∷ filter (λ custom. nat_lt custom.parent.table 0x2d) cs) (filter (λ custom. nat_lt custom.parent.table 0x2d) cs))
         ≡ cond b (c ∷ filter (λ custom. is_at 0x06 m custom.parent) cs) (filter (λ custom. is_at 0x06 m custom.parent) cs)
     step true low b is rest = rw is (ap (λ l. cond b (c ∷ l) l) rest)
     step false high false is rest = rest

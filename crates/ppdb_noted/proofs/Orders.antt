@@ -118,7 +118,8 @@ rises_of key (x ∷ xs) pairs = (omega arith, rises_after key x xs pairs)
 
 each_above : {A : Type 0} (key : A → ℕ) (from : ℕ) (xs : List A) → Rises key from xs → Each (λ x. from ≤ key x) xs
 each_above key from [] rise = tt
-each_above key from (x ∷ xs) rise = (rise.0, Each-weaker (λ y. key x ≤ key y) (λ y. from ≤ key y) (λ y le. omega (arith, le, rise.0)) xs (each_above key (key x) xs rise.1))
+each_above key from (x ∷ xs) rise =
+    (rise.0, Each-weaker (λ y. key x ≤ key y) (λ y. from ≤ key y) (λ y le. omega (arith, le, rise.0)) xs (each_above key (key x) xs rise.1))
 
 pub pairs_of : {A : Type 0} (key : A → ℕ) (from : ℕ) (xs : List A) → Rises key from xs → Pairs (λ a b. key a ≤ key b) xs
 pairs_of key from [] rise = tt
@@ -152,14 +153,16 @@ filter_swap p q (x ∷ xs) = step (p x) refl (q x) refl (filter_swap p q xs)
 
 -- what is left out before items are set in order is left out after
 pub in_order_filter : {A : Type 0} (key : A → ℕ) (p : A → Bool) (xs : List A) → filter p (in_order key xs) ≡ in_order key (filter p xs)
-in_order_filter key p xs = one_order key 0 (filter p (in_order key xs)) (in_order key (filter p xs)) (rises_filter key p 0 (in_order key xs) (in_order_rises key xs)) (in_order_rises key (filter p xs)) same
+in_order_filter key p xs =
+    one_order key 0 (filter p (in_order key xs)) (in_order key (filter p xs)) (rises_filter key p 0 (in_order key xs) (in_order_rises key xs))
+    (in_order_rises key (filter p xs)) same
   where
     same : (k : ℕ) → of_key key k (filter p (in_order key xs)) ≡ of_key key k (in_order key (filter p xs))
     same k =
         filter_swap (λ z. nat_eq (key z) k) p (in_order key xs) ∙ ap (filter p) (key_kept key k xs) ∙ filter_swap p (λ z. nat_eq (key z) k) xs
         ∙ sym (key_kept key k (filter p xs))
 
-put_each : {A : Type 0} (key : A → ℕ) (P : A → Type 0) (x : A) (ys : List A) → P x → Each P ys → Each P (put key x ys)
+pub put_each : {A : Type 0} (key : A → ℕ) (P : A → Type 0) (x : A) (ys : List A) → P x → Each P ys → Each P (put key x ys)
 put_each key P x [] here each = (here, tt)
 put_each key P x (y ∷ ys) here each = step (nat_le (key x) (key y)) (put_each key P x ys here each.1)
   where

@@ -37,7 +37,8 @@ hits P table (x ∷ xs) each less = step (nat_eq x table) refl (λ within. hits 
 found : (P : ℕ → Type 0) (table : ℕ) (xs : List ℕ) → Each P xs → IsSome (position (λ x. x == table) xs) → P table
 found P table xs each some = step (nat_lt (position_or_len (λ x. x == table) xs) (length xs)) refl some
   where
-    step : (b : Bool) → nat_lt (position_or_len (λ x. x == table) xs) (length xs) ≡ b → IsSome (cond b (Some (position_or_len (λ x. x == table) xs)) None) → P table
+    step : (b : Bool) → nat_lt (position_or_len (λ x. x == table) xs) (length xs) ≡ b → IsSome (cond b (Some (position_or_len (λ x. x == table) xs)) None)
+        → P table
     step true is h = hits P table xs each (ltb-true (position_or_len (λ x. x == table) xs) (length xs) is)
     step false is h = cc
 
@@ -141,7 +142,8 @@ module _ (codes : CodesAreParents) where
   some_same p q is = cc
 
   -- the records of a code are those on its parent
-  on_parent : (k : ℕ) (parent : Parent) → parent_in k ≡ Some parent → (xs : List CustomValue) → Each HasTag xs → of_key code k xs ≡ filter (at parent.table parent.row) xs
+  on_parent : (k : ℕ) (parent : Parent) → parent_in k ≡ Some parent → (xs : List CustomValue) → Each HasTag xs
+      → of_key code k xs ≡ filter (at parent.table parent.row) xs
   on_parent k parent is [] tags = refl
   on_parent k parent is (x ∷ xs) tags = step (nat_eq (code x) k) refl (on_parent k parent is xs tags.1)
     where
@@ -151,14 +153,17 @@ module _ (codes : CodesAreParents) where
           let both = and_parts (nat_eq x.parent.table parent.table) (nat_eq x.parent.row parent.row) is_at in
           let tables = eqb-true x.parent.table parent.table both.0 in
           let rows = eqb-true x.parent.row parent.row both.1 in
-          let same : x.parent ≡ parent = ap (λ t. record { table = t; row = x.parent.row }) tables ∙ ap (λ r. record { table = parent.table; row = r }) rows in
+          let same : x.parent ≡ parent =
+          ap (λ t. record { table = t; row = x.parent.row }) tables ∙ ap (λ r. record { table = parent.table; row = r }) rows in
           absurd (other (ap coded_of same ∙ code_of_parent k parent is))
 
       step : (b : Bool) → nat_eq (code x) k ≡ b → of_key code k xs ≡ filter (at parent.table parent.row) xs
-          → cond b (x ∷ of_key code k xs) (of_key code k xs) ≡ cond (at parent.table parent.row x) (x ∷ filter (at parent.table parent.row) xs) (filter (at parent.table parent.row) xs)
+          → cond b (x ∷ of_key code k xs) (of_key code k xs) ≡ cond (at parent.table parent.row x) (x ∷ filter (at parent.table parent.row) xs)
+          (filter (at parent.table parent.row) xs)
       step true here rest =
           let same : x.parent ≡ parent = some_same x.parent parent (sym (parent_of_code x tags.0) ∙ ap parent_in (eqb-true (code x) k here) ∙ is) in
-          let is_at : at parent.table parent.row x ≡ true = rw (eq-eqb x.parent.table parent.table (ap (λ p. p.table) same), eq-eqb x.parent.row parent.row (ap (λ p. p.row) same)) refl in
+          let is_at : at parent.table parent.row x ≡ true =
+          rw (eq-eqb x.parent.table parent.table (ap (λ p. p.table) same), eq-eqb x.parent.row parent.row (ap (λ p. p.row) same)) refl in
           rw is_at (ap (λ l. x ∷ l) rest)
       step false here rest =
           let not_at : at parent.table parent.row x ≡ false =

@@ -51,7 +51,8 @@ without_row table row [] = refl
 without_row table row (c ∷ cs) = ap (λ l. c ∷ l) (without_row table row cs)
 
 -- what passes no record of a table passes none that is placed there
-pub none_placed : (q : CustomValue → Bool) (table : ℕ) → ((row : ℕ) (c : Custom) → q (on_row table row c) ≡ false) → (first : ℕ) (rows : List (List Custom)) → filter q (placed table first rows) ≡ []
+pub none_placed : (q : CustomValue → Bool) (table : ℕ) → ((row : ℕ) (c : Custom) → q (on_row table row c) ≡ false) → (first : ℕ) (rows : List (List Custom))
+    → filter q (placed table first rows) ≡ []
 none_placed q table none first [] = refl
 none_placed q table none first (cs ∷ rows) =
     filter-append q (map (on_row table first) cs) (placed table (first + 1) rows)
@@ -69,7 +70,8 @@ none_before : (table first other : ℕ) (rows : List (List Custom)) → other < 
 none_before table first other [] less = refl
 none_before table first other (cs ∷ rows) less =
     filter-append (at table other) (map (on_row table first) cs) (placed table (first + 1) rows)
-    ∙ ap (λ l. l ++ filter (at table other) (placed table (first + 1) rows)) (none_of (at table other) (on_row table first) (λ c. is_elsewhere table first other c (λ e. omega (arith, e, less))) cs)
+    ∙ ap (λ l. l ++ filter (at table other) (placed table (first + 1) rows))
+    (none_of (at table other) (on_row table first) (λ c. is_elsewhere table first other c (λ e. omega (arith, e, less))) cs)
     ∙ none_before table (first + 1) other rows (omega (arith, less))
 
 -- the records at the rows are those that were placed there
@@ -88,14 +90,16 @@ placed_rows table first (cs ∷ rows) = (here, rows_same _ _ (first + 1) later r
     later : (row : ℕ) → first + 1 ≤ row → records_at (placed table first (cs ∷ rows)) table row ≡ records_at (placed table (first + 1) rows) table row
     later row le =
         ap (map without_parent) (filter-append (at table row) (map (on_row table first) cs) (placed table (first + 1) rows)
-        ∙ ap (λ l. l ++ filter (at table row) (placed table (first + 1) rows)) (none_of (at table row) (on_row table first) (λ c. is_elsewhere table first row c (λ e. omega (arith, e, le))) cs))
+        ∙ ap (λ l. l ++ filter (at table row) (placed table (first + 1) rows))
+        (none_of (at table row) (on_row table first) (λ c. is_elsewhere table first row c (λ e. omega (arith, e, le))) cs))
 
 -- items whose rows have their records
 pub items_at : {A : Type 0} (records : ℕ → List Custom) (first : ℕ) (items : List (Noted A)) → AreRows records first (customs_of items)
     → map (λ (item : ℕ × A). record { item = item.1; customs = records item.0 }) (enumerate_from first (items_of items)) ≡ items
 items_at records first [] rows = refl
 items_at {A} records first (n ∷ items) rows =
-    ap (λ (here : List Custom). record { item = n.item; customs = here } ∷ map (λ (item : ℕ × A). record { item = item.1; customs = records item.0 }) (enumerate_from (first + 1) (items_of items))) rows.0
+    ap (λ (here : List Custom). record { item = n.item; customs = here } ∷ map (λ (item : ℕ × A). record { item = item.1; customs = records item.0 })
+    (enumerate_from (first + 1) (items_of items))) rows.0
     ∙ ap (λ l. n ∷ l) (items_at records (first + 1) items rows.1)
 
 -- two records on one row have one parent

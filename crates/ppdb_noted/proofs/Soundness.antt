@@ -33,22 +33,27 @@ use Rattle.ppdb_noted.specs.Each.{Each, Pairs}
 use Rattle.ppdb_noted.specs.Noted.{placed, on_row, all_customs, items_of, customs_of, scope_of, noted_scope, noted_file}
 use Rattle.ppdb_noted.specs.SoundParts.{SoundNote, SoundNotedScope, SoundIn, SoundParts}
 use Rattle.ppdb_noted.specs.Unnoted.{value_of_noted}
-use Rattle.ppdb_noted.proofs.Lists.{each_row, row_each, pairs_row, row_pairs, key_pairs, pairs_key, Each-append, Each-filter, Each-weaker, Each-map, Pairs-map, Pairs-unmap, Pairs-weaker}
+use Rattle.ppdb_noted.proofs.Lists.{each_row, row_each, pairs_row, row_pairs, key_pairs, pairs_key, Each-append, Each-filter, Each-weaker, Each-map}
+use Rattle.ppdb_noted.proofs.Lists.{Pairs-map, Pairs-unmap, Pairs-weaker}
 use Rattle.ppdb_noted.proofs.Mapped.{row_map}
 use Rattle.ppdb_noted.proofs.Orders.{in_order_each, in_order_rises, rises_filter, rises_of, pairs_of}
 use Rattle.ppdb_noted.proofs.Rows.{at}
-use Rattle.ppdb_noted.proofs.Files.{scopes_of, variables_of, constants_of}
+use Rattle.ppdb_noted.proofs.Files.{both_lengths, scopes_of, variables_of, constants_of}
 use Rattle.ppdb_noted.proofs.Values.{value_back, by_parent, items_back, scope_back, scopes_back}
 
 -- ---- chains of import scopes
 
-of_item : (o : Option (Noted ImportScopeValue)) → unwrap_or (option_map (λ n. n.item.parent) o) 0 ≡ unwrap_or (option_map (λ (scope : ImportScopeValue). scope.parent) (option_map (λ n. n.item) o)) 0
+of_item : (o : Option (Noted ImportScopeValue))
+    → unwrap_or (option_map (λ n. n.item.parent) o) 0 ≡ unwrap_or (option_map (λ (scope : ImportScopeValue). scope.parent) (option_map (λ n. n.item) o)) 0
 of_item None = refl
 of_item (Some n) = refl
 
 -- the parent of a row is that of its item
-parent_same : (noted : List (Noted ImportScopeValue)) (row : ℕ) → parent_at (λ n. n.item.parent) noted row ≡ parent_at (λ scope. scope.parent) (items_of noted) row
-parent_same noted row = of_item (row_at noted row) ∙ ap (λ (o : Option ImportScopeValue). unwrap_or (option_map (λ (scope : ImportScopeValue). scope.parent) o) 0) (sym (row_map (λ n. n.item) noted row))
+parent_same : (noted : List (Noted ImportScopeValue)) (row : ℕ)
+    → parent_at (λ n. n.item.parent) noted row ≡ parent_at (λ scope. scope.parent) (items_of noted) row
+parent_same noted row =
+    of_item (row_at noted row)
+    ∙ ap (λ (o : Option ImportScopeValue). unwrap_or (option_map (λ (scope : ImportScopeValue). scope.parent) o) 0) (sym (row_map (λ n. n.item) noted row))
 
 ancestors_same : (f g : ℕ → ℕ) → ((row : ℕ) → f row ≡ g row) → (row steps : ℕ) → ancestor_of f row steps ≡ ancestor_of g row steps
 ancestors_same f g same row zero = refl
@@ -74,11 +79,13 @@ module _ (value : FileValue) (sound : IsSound value) where
           let tables = eqb-true c.parent.table table (and_parts (nat_eq c.parent.table table) (nat_eq c.parent.row row) here).0 in
           record { stands_on = subst (StandsOn (kind_of [] c.kind)) tables s.stands_on; body = s.body }
 
-  noted_sound : {A : Type 0} (table first : ℕ) (items : List A) → Each (λ noted. Each (SoundNote value table) noted.customs) (noted_from value table first items)
+  noted_sound : {A : Type 0} (table first : ℕ) (items : List A)
+      → Each (λ noted. Each (SoundNote value table) noted.customs) (noted_from value table first items)
   noted_sound table first [] = tt
   noted_sound table first (x ∷ items) = (notes_sound table first, noted_sound table (first + 1) items)
 
-  scopes_sound : (row : ℕ) (scopes : List ScopeValue) → Each (SoundScope value) scopes → Each (SoundNotedScope value) (map (noted_scope value) (enumerate_from row scopes))
+  scopes_sound : (row : ℕ) (scopes : List ScopeValue) → Each (SoundScope value) scopes
+      → Each (SoundNotedScope value) (map (noted_scope value) (enumerate_from row scopes))
   scopes_sound row [] each = tt
   scopes_sound row (s ∷ scopes) each = (
     record {
@@ -104,13 +111,16 @@ module _ (value : FileValue) (sound : IsSound value) where
       ∙ ap (λ imports. parent_at (λ scope. scope.parent) imports r) (items_back value 0x35 1 value.imports)) row never)
 
   low_each : Each (λ c. (c.parent.table < 0x2d) × SoundCustom value c) (noted_file value).customs
-  low_each = Each-filter (SoundCustom value) (λ c. (c.parent.table < 0x2d) × SoundCustom value c) (λ c. nat_lt c.parent.table 0x2d) (λ c low s. (ltb-true c.parent.table 0x2d low, s)) value.customs customs_each
+  low_each =
+      Each-filter (SoundCustom value) (λ c. (c.parent.table < 0x2d) × SoundCustom value c) (λ c. nat_lt c.parent.table 0x2d)
+      (λ c low s. (ltb-true c.parent.table 0x2d low, s)) value.customs customs_each
 
   pub in_sound : SoundIn value (noted_file value)
   in_sound = record {
     documents = noted_sound 0x30 1 value.documents;
     names_differ = Pairs-unmap (λ n. n.item) (λ a b. a.name ≢ b.name) (noted_file value).documents
-        (subst (Pairs (λ a b. a.name ≢ b.name)) (sym (items_back value 0x30 1 value.documents)) (pairs_row (λ a b. a.name ≢ b.name) value.documents sound.documents.names_differ));
+        (subst (Pairs (λ a b. a.name ≢ b.name)) (sym (items_back value 0x30 1 value.documents))
+        (pairs_row (λ a b. a.name ≢ b.name) value.documents sound.documents.names_differ));
     methods = each_row (SoundMethod value) value.methods sound.methods.each;
     methods_differ = Pairs-weaker (λ a b. a.method < b.method) (λ a b. a.method ≢ b.method) (λ a b less e. omega (arith, less, e)) value.methods
         (key_pairs (λ m. m.method) (λ a b. a < b) value.methods sound.methods.by_row);
@@ -135,14 +145,19 @@ module _ (value : FileValue) (sound : IsSound value) where
         parts = subst (λ v. SoundIn v (noted_file value)) back in_sound;
         order = record {
           methods = key_pairs (λ m. m.method) (λ a b. a < b) value.methods sound.methods.by_row;
-          scopes = scope_pairs (λ a b. a.method ≤ b.method) (key_pairs (λ s. s.method) (λ a b. a ≤ b) value.scopes (λ i j less within. sound.scopes.by_method i j (omega (arith, less)) within));
+          scopes =
+              scope_pairs (λ a b. a.method ≤ b.method)
+              (key_pairs (λ s. s.method) (λ a b. a ≤ b) value.scopes (λ i j less within. sound.scopes.by_method i j (omega (arith, less)) within));
           machines = key_pairs (λ m. m.move_next) (λ a b. a < b) value.machines sound.machines.by_move_next;
           customs = low_pairs;
         };
       }
     where
       low_pairs : Pairs (λ a b. coded_of a.parent ≤ coded_of b.parent) (noted_file value).customs
-      low_pairs = pairs_of (λ c. coded_of c.parent) 0 (noted_file value).customs (rises_filter (λ c. coded_of c.parent) (λ c. nat_lt c.parent.table 0x2d) 0 value.customs (rises_of (λ c. coded_of c.parent) value.customs (by_parent value sound.customs)))
+      low_pairs =
+          pairs_of (λ c. coded_of c.parent) 0 (noted_file value).customs
+          (rises_filter (λ c. coded_of c.parent) (λ c. nat_lt c.parent.table 0x2d) 0 value.customs
+          (rises_of (λ c. coded_of c.parent) value.customs (by_parent value sound.customs)))
 
 -- ---- the value of sound parts
 
@@ -152,7 +167,8 @@ sorted_pairs key xs pairs i j le within = elim (cases_lt i j) [
   | inr ge ↦ let same : i ≡ j = omega (arith, le, ge) in subst (λ k. get_or (map key xs) k 0 ≤ get_or (map key xs) j 0) (sym same) (omega arith)
 ]
 
-placed_sound : (value : FileValue) (table : ℕ) → ((row : ℕ) → IsSome (coded_in (record { table = table; row = row }))) → (first : ℕ) (rows : List (List Custom)) → 1 ≤ first
+placed_sound : (value : FileValue) (table : ℕ) → ((row : ℕ) → IsSome (coded_in (record { table = table; row = row })))
+    → (first : ℕ) (rows : List (List Custom)) → 1 ≤ first
     → first + length rows ≤ suc (count value table) → Each (λ cs. Each (SoundNote value table) cs) rows → Each (SoundCustom value) (placed table first rows)
 placed_sound value table tag first [] least most each = tt
 placed_sound value table tag first (cs ∷ rows) least most each =
@@ -164,7 +180,8 @@ placed_sound value table tag first (cs ∷ rows) least most each =
     on c s = record { tag = tag first; parent = (least, omega (arith, most)); stands_on = s.stands_on; body = s.body }
 
 -- how many rows the scopes own
-owned_count : (items : NotedScope → List (List Custom)) (count : ScopeValue → ℕ) → ((s : NotedScope) → length (items s) ≡ count (scope_of s)) → (scopes : List NotedScope)
+owned_count : (items : NotedScope → List (List Custom)) (count : ScopeValue → ℕ) → ((s : NotedScope) → length (items s) ≡ count (scope_of s))
+    → (scopes : List NotedScope)
     → length (flat_map items scopes) ≡ sum_by count (map scope_of scopes)
 owned_count items count same [] = refl
 owned_count items count same (s ∷ scopes) =
@@ -174,9 +191,6 @@ owned_count items count same (s ∷ scopes) =
 Each-flat_map : {A B : Type 0} (f : A → List B) (P : B → Type 0) (xs : List A) → Each (λ x. Each P (f x)) xs → Each P (flat_map f xs)
 Each-flat_map f P [] each = tt
 Each-flat_map f P (x ∷ xs) each = Each-append P (f x) (flat_map f xs) each.0 (Each-flat_map f P xs each.1)
-
-both_lengths : {A : Type 0} (noted : List (Noted A)) → length (customs_of noted) ≡ length (items_of noted)
-both_lengths noted = length-map noted _ ∙ sym (length-map noted _)
 
 module _ (file : NotedFile) (sound : SoundParts file) where
   abbrev its : FileValue
@@ -192,8 +206,10 @@ module _ (file : NotedFile) (sound : SoundParts file) where
 
   scope_customs : Each (SoundCustom its) (placed 0x32 1 (scopes_of file.scopes))
   scope_customs = placed_sound its 0x32 (λ row. refl) 1 (scopes_of file.scopes) (omega arith)
-      (let l : length (scopes_of file.scopes) ≡ length (map scope_of file.scopes) = length-map file.scopes _ ∙ sym (length-map file.scopes _) in omega (arith, l))
-      (Each-map (λ s. s.customs) (λ cs. Each (SoundNote its 0x32) cs) file.scopes (Each-weaker (SoundNotedScope its) _ (λ s h. h.customs) file.scopes parts.scopes))
+      (let l : length (scopes_of file.scopes) ≡ length (map scope_of file.scopes) = length-map file.scopes _
+      ∙ sym (length-map file.scopes _) in omega (arith, l))
+      (Each-map (λ s. s.customs) (λ cs. Each (SoundNote its 0x32) cs) file.scopes
+      (Each-weaker (SoundNotedScope its) _ (λ s h. h.customs) file.scopes parts.scopes))
 
   variable_customs : Each (SoundCustom its) (placed 0x33 1 (variables_of file.scopes))
   variable_customs = placed_sound its 0x33 (λ row. refl) 1 (variables_of file.scopes) (omega arith)
@@ -215,8 +231,10 @@ module _ (file : NotedFile) (sound : SoundParts file) where
 
   all_sound : Each (SoundCustom its) (all_customs file)
   all_sound =
-      Each-append (SoundCustom its) _ _ (Each-append (SoundCustom its) _ _ (Each-append (SoundCustom its) _ _ (Each-append (SoundCustom its) _ _ (Each-append (SoundCustom its) _ _
-      (Each-weaker _ (SoundCustom its) (λ c h. h.1) file.customs parts.customs) document_customs) scope_customs) variable_customs) constant_customs) import_customs
+      Each-append (SoundCustom its) _ _
+      (Each-append (SoundCustom its) _ _ (Each-append (SoundCustom its) _ _ (Each-append (SoundCustom its) _ _ (Each-append (SoundCustom its) _ _
+      (Each-weaker _ (SoundCustom its)
+      (λ c h. h.1) file.customs parts.customs) document_customs) scope_customs) variable_customs) constant_customs) import_customs
 
   abbrev code : CustomValue → ℕ
   code custom = coded_of custom.parent
@@ -225,16 +243,26 @@ module _ (file : NotedFile) (sound : SoundParts file) where
   value_sound = record {
     rows = sound.rows;
     entry = sound.entry;
-    documents = record { names_differ = row_pairs _ (items_of file.documents) (Pairs-map (λ n. n.item) (λ a b. a.name ≢ b.name) file.documents parts.names_differ) };
-    methods = record { each = row_each (SoundMethod its) file.methods parts.methods; by_row = pairs_key (λ m. m.method) (λ a b. a < b) file.methods sound.order.methods };
+    documents =
+        record { names_differ = row_pairs _ (items_of file.documents) (Pairs-map (λ n. n.item) (λ a b. a.name ≢ b.name) file.documents parts.names_differ) };
+    methods =
+        record {
+          each = row_each (SoundMethod its) file.methods parts.methods;
+          by_row = pairs_key (λ m. m.method)
+              (λ a b. a < b) file.methods sound.order.methods;
+        };
     scopes = record {
-      each = row_each (SoundScope its) (map scope_of file.scopes) (Each-map scope_of (SoundScope its) file.scopes (Each-weaker (SoundNotedScope its) _ (λ s h. h.itself) file.scopes parts.scopes));
+      each = row_each (SoundScope its) (map scope_of file.scopes)
+          (Each-map scope_of (SoundScope its) file.scopes (Each-weaker (SoundNotedScope its) _ (λ s h. h.itself) file.scopes parts.scopes));
       by_method = sorted_pairs (λ s. s.method) (map scope_of file.scopes) (Pairs-map scope_of (λ a b. a.method ≤ b.method) file.scopes sound.order.scopes);
-      by_start = row_pairs _ (map scope_of file.scopes) (Pairs-map scope_of (λ a b. a.method ≡ b.method → ComesAfter a.range b.range) file.scopes parts.by_start);
-      nested = row_pairs _ (map scope_of file.scopes) (Pairs-map scope_of (λ a b. a.method ≡ b.method → IsInOrAfter a.range b.range) file.scopes parts.nested);
+      by_start =
+          row_pairs _ (map scope_of file.scopes) (Pairs-map scope_of (λ a b. a.method ≡ b.method → ComesAfter a.range b.range) file.scopes parts.by_start);
+      nested =
+          row_pairs _ (map scope_of file.scopes) (Pairs-map scope_of (λ a b. a.method ≡ b.method → IsInOrAfter a.range b.range) file.scopes parts.nested);
     };
     imports = record {
-      each = row_each (SoundImportScope its) (items_of file.imports) (Each-map (λ n. n.item) (SoundImportScope its) file.imports (Each-weaker _ _ (λ n h. h.0) file.imports parts.imports));
+      each = row_each (SoundImportScope its) (items_of file.imports)
+          (Each-map (λ n. n.item) (SoundImportScope its) file.imports (Each-weaker _ _ (λ n h. h.0) file.imports parts.imports));
       chains_end = λ row never. parts.chains_end row (never_same _ _ (λ r. sym (parent_same file.imports r)) row never);
     };
     machines = record {

@@ -33,7 +33,8 @@ same_at key xs ys stable w k is =
 first_passes : {A : Type 0} (p : A → Bool) (xs l : List A) (x : A) → filter p xs ≡ x ∷ l → p x ≡ true
 first_passes p xs l x is = All-head (λ z. p z ≡ true) x l (subst (All (λ z. p z ≡ true)) is (filter_passes p xs))
 
-same_keys : {A : Type 0} (key : A → ℕ) (xs ys : List A) → IsStableByKey key nat_cmp xs ys → (k : ℕ) → (l r : List A) → of_key key k xs ≡ l → of_key key k ys ≡ r
+same_keys : {A : Type 0} (key : A → ℕ) (xs ys : List A) → IsStableByKey key nat_cmp xs ys → (k : ℕ) → (l r : List A) → of_key key k xs ≡ l
+    → of_key key k ys ≡ r
     → of_key key k ys ≡ of_key key k xs
 same_keys key xs ys stable k [] [] is_l is_r = is_r ∙ sym is_l
 same_keys key xs ys stable k [] (y ∷ r) is_l is_r =

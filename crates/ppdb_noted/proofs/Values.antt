@@ -1,5 +1,6 @@
 -- A sound value is the value of its noted form.
-use Rattle.std.proofs.Common.{◌≡◌, ◌≢◌, ℕ, suc, ◌+◌, ◌-◌, ◌≤◌, ◌++◌, Bool, true, List, [], ◌∷◌, length, map, take, refl, sym, ◌∙◌, ap, subst, arith, append_assoc}
+use Rattle.std.proofs.Common.{◌≡◌, ◌≢◌, ℕ, suc, ◌+◌, ◌-◌, ◌≤◌, ◌++◌, Bool, true, List, [], ◌∷◌, length, map, take, refl, sym, ◌∙◌, ap, subst, arith}
+use Rattle.std.proofs.Common.{append_assoc}
 use Rattle.std.specs.Prelude.{nat_eq, nat_lt, filter, sum_by}
 use Rattle.std.specs.List.{enumerate_from, flat_map}
 use Rattle.std.proofs.lemmas.Bool.{eqb-true, and_parts, lt-ltb, ltb-true}
@@ -17,12 +18,13 @@ use Rattle.ppdb_noted.specs.Each.{Each, Pairs}
 use Rattle.ppdb_noted.specs.Noted.{placed, items_of, customs_of, all_customs, scope_of, noted_scope, noted_file}
 use Rattle.ppdb_noted.specs.Sorted.{in_order}
 use Rattle.ppdb_noted.specs.Unnoted.{value_of_noted}
-use Rattle.ppdb_noted.proofs.Files.{parts_filter, only_first, only_second, only_third, only_fourth, only_fifth, only_sixth, scopes_of}
+use Rattle.ppdb_noted.proofs.Files.{take_front, parts_filter, only_first, only_second, only_third, only_fourth, only_fifth, only_sixth, scopes_of}
 use Rattle.ppdb_noted.proofs.Lists.{each_row, key_pairs, Each-append, Each-filter, Each-weaker}
 use Rattle.ppdb_noted.proofs.Orders.{one_order, in_order_rises, rises_of, key_kept, filter_swap}
 use Rattle.ppdb_noted.proofs.Parents.{IsTagged, low, document, scope, variable, constant, import_scope, tagged, HasTag, codes_same}
 use Rattle.ppdb_noted.proofs.Rows.{at}
-use Rattle.ppdb_noted.proofs.Spread.{filter_apart, filter_within, spread, spread_apart, spread_there, spread_none, spread_each, notes, placed_notes, notes_append, customs_noted}
+use Rattle.ppdb_noted.proofs.Spread.{filter_apart, filter_within, spread, spread_apart, spread_there, spread_none, spread_each, notes, placed_notes}
+use Rattle.ppdb_noted.proofs.Spread.{notes_append, customs_noted}
 
 -- ---- items, without their records
 
@@ -40,19 +42,18 @@ scope_back value row s =
 pub scopes_back : (value : FileValue) (row : ℕ) (scopes : List ScopeValue) → map scope_of (map (noted_scope value) (enumerate_from row scopes)) ≡ scopes
 scopes_back value row [] = refl
 scopes_back value row (s ∷ scopes) =
-    ap (λ h. h ∷ map scope_of (map (noted_scope value) (enumerate_from (row + 1) scopes))) (scope_back value row s) ∙ ap (λ l. s ∷ l) (scopes_back value (row + 1) scopes)
+    ap (λ h. h ∷ map scope_of (map (noted_scope value) (enumerate_from (row + 1) scopes))) (scope_back value row s)
+    ∙ ap (λ l. s ∷ l) (scopes_back value (row + 1) scopes)
 
 -- ---- the records of the rows of scopes, variables and constants
 
-scopes_noted : (value : FileValue) (row : ℕ) (scopes : List ScopeValue) → scopes_of (map (noted_scope value) (enumerate_from row scopes)) ≡ notes value 0x32 row (length scopes)
+scopes_noted : (value : FileValue) (row : ℕ) (scopes : List ScopeValue)
+    → scopes_of (map (noted_scope value) (enumerate_from row scopes)) ≡ notes value 0x32 row (length scopes)
 scopes_noted value row [] = refl
 scopes_noted value row (s ∷ scopes) = ap (λ l. noted_on value 0x32 row ∷ l) (scopes_noted value (row + 1) scopes)
 
-take_front : {A : Type 0} (xs ys : List A) → take (length xs) (xs ++ ys) ≡ xs
-take_front [] ys = refl
-take_front (x ∷ xs) ys = ap (λ l. x ∷ l) (take_front xs ys)
-
-first_is : (items : ScopeValue → ℕ) (value : FileValue) (before scopes : List ScopeValue) (row : ℕ) → value.scopes ≡ before ++ scopes → row ≡ suc (length before)
+first_is : (items : ScopeValue → ℕ) (value : FileValue) (before scopes : List ScopeValue) (row : ℕ) → value.scopes ≡ before ++ scopes
+    → row ≡ suc (length before)
     → first_item items value row ≡ suc (sum_by items before)
 first_is items value before scopes row are is_row =
     let number : row - 1 ≡ length before = omega (arith, is_row) in
@@ -61,18 +62,24 @@ first_is items value before scopes row are is_row =
 -- items of a table, each scope's after those of the scopes before it
 items_noted : {A : Type 0} (value : FileValue) (table : ℕ) (items : ScopeValue → List A) (before scopes : List ScopeValue) (row : ℕ)
     → value.scopes ≡ before ++ scopes → row ≡ suc (length before)
-    → flat_map (λ (s : ℕ × ScopeValue). customs_of (noted_from value table (first_item (λ b. length (items b)) value s.0) (items s.1))) (enumerate_from row scopes)
+    → flat_map (λ (s : ℕ × ScopeValue). customs_of (noted_from value table (first_item (λ b. length (items b)) value s.0) (items s.1)))
+    (enumerate_from row scopes)
     ≡ notes value table (suc (sum_by (λ b. length (items b)) before)) (sum_by (λ b. length (items b)) scopes)
 items_noted value table items before [] row are is_row = refl
 items_noted {A} value table items before (s ∷ scopes) row are is_row =
     let count : ScopeValue → ℕ = λ b. length (items b) in
     let first = suc (sum_by (λ b. length (items b)) before) in
-    let later = items_noted value table items (before ++ s ∷ []) scopes (row + 1) (are ∙ sym (append_assoc before (s ∷ []) scopes)) (let l = length-append before (s ∷ []) in omega (arith, is_row, l)) in
+    let later =
+    items_noted value table items (before ++ s ∷ []) scopes (row + 1) (are ∙ sym (append_assoc before (s ∷ []) scopes))
+    (let l = length-append before (s ∷ []) in omega (arith, is_row, l)) in
     let moves : suc (sum_by (λ b. length (items b)) (before ++ s ∷ [])) ≡ first + length (items s) =
     (let sums = sum_by-append (λ b. length (items b)) before (s ∷ []) in omega (arith, sums)) in
-    ap (λ n. customs_of (noted_from value table n (items s)) ++ flat_map (λ (s : ℕ × ScopeValue). customs_of (noted_from value table (first_item (λ b. length (items b)) value s.0) (items s.1))) (enumerate_from (row + 1) scopes))
+    ap (λ n. customs_of (noted_from value table n (items s)) ++ flat_map
+    (λ (s : ℕ × ScopeValue). customs_of (noted_from value table (first_item (λ b. length (items b)) value s.0) (items s.1)))
+    (enumerate_from (row + 1) scopes))
     (first_is (λ b. length (items b)) value before (s ∷ scopes) row are is_row)
-    ∙ ap (λ l. l ++ flat_map (λ (s : ℕ × ScopeValue). customs_of (noted_from value table (first_item (λ b. length (items b)) value s.0) (items s.1))) (enumerate_from (row + 1) scopes)) (customs_noted value table first (items s))
+    ∙ ap (λ l. l ++ flat_map (λ (s : ℕ × ScopeValue). customs_of (noted_from value table (first_item (λ b. length (items b)) value s.0) (items s.1)))
+    (enumerate_from (row + 1) scopes)) (customs_noted value table first (items s))
     ∙ ap (λ l. notes value table first (length (items s)) ++ l) (later ∙ ap (λ n. notes value table n (sum_by (λ b. length (items b)) scopes)) moves)
     ∙ sym (notes_append value table first (length (items s)) (sum_by (λ b. length (items b)) scopes))
     ∙ ap (notes value table first) (sym (sum_by-cons (λ b. length (items b)) s scopes))
@@ -86,8 +93,10 @@ flat_map-map f g (x ∷ xs) = ap (λ l. f (g x) ++ l) (flat_map-map f g xs)
 -- as rows spread over their tables
 abbrev all_spread : FileValue → List CustomValue
 all_spread value =
-    filter (λ c. nat_lt c.parent.table 0x2d) value.customs ++ spread value.customs 0x30 1 (length value.documents) ++ spread value.customs 0x32 1 (length value.scopes)
-    ++ spread value.customs 0x33 1 (sum_by (λ s. length s.variables) value.scopes) ++ spread value.customs 0x34 1 (sum_by (λ s. length s.constants) value.scopes)
+    filter (λ c. nat_lt c.parent.table 0x2d) value.customs ++ spread value.customs 0x30 1 (length value.documents) ++ spread value.customs 0x32 1
+    (length value.scopes)
+    ++ spread value.customs 0x33 1 (sum_by (λ s. length s.variables) value.scopes) ++ spread value.customs 0x34 1
+    (sum_by (λ s. length s.constants) value.scopes)
     ++ spread value.customs 0x35 1 (length value.imports)
 
 six : {A : Type 0} (a b c d e f u v w x y : List A) → b ≡ u → c ≡ v → d ≡ w → e ≡ x → f ≡ y → a ++ b ++ c ++ d ++ e ++ f ≡ a ++ u ++ v ++ w ++ x ++ y
@@ -97,9 +106,13 @@ all_are_spread : (value : FileValue) → all_customs (noted_file value) ≡ all_
 all_are_spread value = six _ _ _ _ _ _ _ _ _ _ _
     (ap (placed 0x30 1) (customs_noted value 0x30 1 value.documents) ∙ placed_notes value 0x30 1 (length value.documents))
     (ap (placed 0x32 1) (scopes_noted value 1 value.scopes) ∙ placed_notes value 0x32 1 (length value.scopes))
-    (ap (placed 0x33 1) (flat_map-map (λ s. customs_of s.variables) (noted_scope value) (enumerate_from 1 value.scopes) ∙ items_noted value 0x33 (λ s. s.variables) [] value.scopes 1 refl refl)
+    (ap (placed 0x33 1)
+    (flat_map-map (λ s. customs_of s.variables) (noted_scope value) (enumerate_from 1 value.scopes)
+    ∙ items_noted value 0x33 (λ s. s.variables) [] value.scopes 1 refl refl)
     ∙ placed_notes value 0x33 1 (sum_by (λ s. length s.variables) value.scopes))
-    (ap (placed 0x34 1) (flat_map-map (λ s. customs_of s.constants) (noted_scope value) (enumerate_from 1 value.scopes) ∙ items_noted value 0x34 (λ s. s.constants) [] value.scopes 1 refl refl)
+    (ap (placed 0x34 1)
+    (flat_map-map (λ s. customs_of s.constants) (noted_scope value) (enumerate_from 1 value.scopes)
+    ∙ items_noted value 0x34 (λ s. s.constants) [] value.scopes 1 refl refl)
     ∙ placed_notes value 0x34 1 (sum_by (λ s. length s.constants) value.scopes))
     (ap (placed 0x35 1) (customs_noted value 0x35 1 value.imports) ∙ placed_notes value 0x35 1 (length value.imports))
 
@@ -109,7 +122,8 @@ all_none : {A : Type 0} (a b c d e f : List A) → a ≡ [] → b ≡ [] → c �
 all_none a b c d e f none_a none_b none_c none_d none_e none_f = rw (none_a, none_b, none_c, none_d, none_e, none_f) refl
 
 first_found : {A : Type 0} (P : A → Type 0) (p : A → Bool) (xs : List A) (x : A) (more : List A) → Each P xs → filter p xs ≡ x ∷ more → P x × (p x ≡ true)
-first_found P p xs x more each is = (subst (Each (λ y. P y × (p y ≡ true))) is (Each-filter P (λ y. P y × (p y ≡ true)) p (λ y passes holds. (holds, passes)) xs each)).0
+first_found P p xs x more each is =
+    (subst (Each (λ y. P y × (p y ≡ true))) is (Each-filter P (λ y. P y × (p y ≡ true)) p (λ y passes holds. (holds, passes)) xs each)).0
 
 abbrev is_low : CustomValue → Bool
 is_low c = nat_lt c.parent.table 0x2d
@@ -130,22 +144,26 @@ module _ (value : FileValue) where
 
   not_low : (table row : ℕ) → 0x2d ≤ table → filter (at table row) (filter is_low cs) ≡ []
   not_low table row high =
-      filter_apart (at table row) is_low (λ c here low. let t = at_table table row c here in let l = ltb-true c.parent.table 0x2d low in absurd (omega (arith, t, l, high))) cs
+      filter_apart (at table row) is_low
+      (λ c here low. let t = at_table table row c here in let l = ltb-true c.parent.table 0x2d low in absurd (omega (arith, t, l, high))) cs
 
   there : (table row n : ℕ) → 1 ≤ row → row ≤ n → filter (at table row) (spread cs table 1 n) ≡ filter (at table row) cs
   there table row n least most = spread_there cs table row 1 n least (omega (arith, most))
 
   shown : (p : CustomValue → Bool) → filter p (all_spread value)
       ≡ filter p (filter is_low cs) ++ filter p (spread cs 0x30 1 (length value.documents)) ++ filter p (spread cs 0x32 1 (length value.scopes))
-      ++ filter p (spread cs 0x33 1 (sum_by (λ s. length s.variables) value.scopes)) ++ filter p (spread cs 0x34 1 (sum_by (λ s. length s.constants) value.scopes))
+      ++ filter p (spread cs 0x33 1 (sum_by (λ s. length s.variables) value.scopes)) ++ filter p
+      (spread cs 0x34 1 (sum_by (λ s. length s.constants) value.scopes))
       ++ filter p (spread cs 0x35 1 (length value.imports))
   shown p = parts_filter p (filter is_low cs) _ _ _ _ _
 
   -- the records on a row that is there
   same_on : {table : ℕ} → IsTagged table → (row : ℕ) → HasRow value table row → filter (at table row) (all_spread value) ≡ filter (at table row) cs
   same_on {table} (low less) row has =
-      shown (at table row) ∙ only_first _ _ _ _ _ _ (apart table row 0x30 _ (λ e. omega (arith, e, less))) (apart table row 0x32 _ (λ e. omega (arith, e, less)))
-      (apart table row 0x33 _ (λ e. omega (arith, e, less))) (apart table row 0x34 _ (λ e. omega (arith, e, less))) (apart table row 0x35 _ (λ e. omega (arith, e, less)))
+      shown (at table row)
+      ∙ only_first _ _ _ _ _ _ (apart table row 0x30 _ (λ e. omega (arith, e, less))) (apart table row 0x32 _ (λ e. omega (arith, e, less)))
+      (apart table row 0x33 _ (λ e. omega (arith, e, less))) (apart table row 0x34 _ (λ e. omega (arith, e, less)))
+      (apart table row 0x35 _ (λ e. omega (arith, e, less)))
       ∙ filter_within (at table row) is_low (λ c here. let t = at_table table row c here in lt-ltb c.parent.table 0x2d (omega (arith, t, less))) cs
   same_on document row has =
       shown (at 0x30 row) ∙ only_second _ _ _ _ _ _ (not_low 0x30 row (omega arith)) (apart 0x30 row 0x32 _ (λ e. omega (arith, e)))
@@ -183,7 +201,8 @@ module _ (value : FileValue) where
           let f = first_found (SoundCustom value) (at table row) cs c more sound is in
           let tables = at_table table row c f.1 in
           let rows = at_row table row c f.1 in
-          same_on (subst IsTagged tables (tagged c.parent f.0.tag)) row (subst (λ r. HasRow value table r) rows (subst (λ t. HasRow value t c.parent.row) tables f.0.parent))
+          same_on (subst IsTagged tables (tagged c.parent f.0.tag)) row
+          (subst (λ r. HasRow value table r) rows (subst (λ t. HasRow value t c.parent.row) tables f.0.parent))
 
   tags : Each (SoundCustom value) cs → Each HasTag cs
   tags sound = Each-weaker (SoundCustom value) HasTag (λ c s. s.tag) cs sound
@@ -213,5 +232,6 @@ module _ (value : FileValue) where
       let second : FileValue = record first { documents = value.documents } in
       let third : FileValue = record second { scopes = value.scopes } in
       let fourth : FileValue = record third { imports = value.imports } in
-      ap (λ d. record first { documents = d }) (items_back value 0x30 1 value.documents) ∙ ap (λ s. record second { scopes = s }) (scopes_back value 1 value.scopes)
+      ap (λ d. record first { documents = d }) (items_back value 0x30 1 value.documents)
+      ∙ ap (λ s. record second { scopes = s }) (scopes_back value 1 value.scopes)
       ∙ ap (λ i. record third { imports = i }) (items_back value 0x35 1 value.imports) ∙ ap (λ c. record fourth { customs = c }) (customs_back codes sound)

@@ -63,7 +63,8 @@ scope_meaning file s = record {
 
 abbrev pub slots_among : List CustomValue → ℕ → List SlotMeaning
 slots_among customs x =
-    flat_map (λ hoisted. filter_map (slot_at x hoisted.0) (enumerate_from 0 hoisted.1)) (enumerate_from 0 (filter_map (λ (c : CustomValue). slots_in c.value) customs))
+    flat_map (λ hoisted. filter_map (slot_at x hoisted.0) (enumerate_from 0 hoisted.1))
+    (enumerate_from 0 (filter_map (λ (c : CustomValue). slots_in c.value) customs))
 
 -- the records on a method
 abbrev pub on_method : NotedFile → ℕ → List CustomValue

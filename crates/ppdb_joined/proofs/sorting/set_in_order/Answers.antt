@@ -1,4 +1,4 @@
-use Rattle.std.proofs.Common.{rules, of_calls, ◌≡◌, subst}
+use Rattle.std.proofs.Common.{rules, of_calls}
 use Rattle.std.proofs.lemmas.Fn.{always_returns_same}
 use Rattle.ppdb_noted.proofs.StableSort.{sorted_is_in_order}
 use Rattle.ppdb_joined.proofs.Adjacent.{in_order_already}
