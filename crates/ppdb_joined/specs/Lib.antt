@@ -1,0 +1,6 @@
+pub mod Joinable
+pub mod Joined
+pub mod Laws
+pub mod Same
+pub mod Small
+pub mod Worked

@@ -1,0 +1,11 @@
+//! Files joined into one, where each custom record stands at its item: what the joined file is, that it is sound, and the value of
+//! such a file, in which rows have numbers again.
+#![tactic(auto)]
+
+mod laws;
+mod placing;
+mod sorting;
+mod unnoted;
+
+pub use laws::{joined_is_sound, one_file_stays, worked_joins};
+pub use unnoted::value_of;
