@@ -1,6 +1,5 @@
 -- Up to the greatest number, what is kept is what is kept up to the old size.
-use Rattle.std.proofs.Common.{◌≡◌, ℕ, ◌<◌, ◌≤◌, Bool, true, false, List, [], ◌∷◌, refl, sym, ◌∙◌, arith}
-use Rattle.ppdb_base.specs.declared.offsets.Run.{Run}
+use Rattle.std.proofs.Common.{◌≡◌, ℕ, ◌<◌, ◌≤◌, Bool, true, false, List, [], ◌∷◌, refl, sym, arith}
 use Rattle.ppdb_base.specs.Offsets.{Offsets, every, gone, lined, Rise, Kept as Moved, kept_runs, is_kept_between, old_size}
 use Rattle.ppdb_base.proofs.Moved.{kept_is, keeps_between, kept_below}
 use Rattle.ppdb_base.proofs.Between.{BetweenIs}

@@ -6,3 +6,4 @@ pub mod Walk
 pub mod Readings
 pub mod Movable
 pub mod Blobs
+pub mod SeenPoints

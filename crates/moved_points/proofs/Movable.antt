@@ -1,5 +1,5 @@
 -- Points that have moved can be written.
-use Rattle.std.proofs.Common.{◌≡◌, ◌≢◌, ℕ, ◌<◌, ◌≤◌, ◌-◌, Bool, true, false, List, [], ◌∷◌, length, map, refl, sym, ap, subst, ◌∙◌, arith}
+use Rattle.std.proofs.Common.{◌≡◌, ℕ, ◌<◌, ◌≤◌, ◌-◌, Bool, true, false, List, [], ◌∷◌, length, map, sym, subst, ◌∙◌, arith}
 use Rattle.std.specs.Prelude.{cond, All, AllPairs, get_or}
 use Rattle.std.proofs.lemmas.List.Elements.{All-nil, All-cons, All-head, All-tail, All-map, All-get_or}
 use Rattle.std.proofs.lemmas.List.Kept.{AllPairs-cons}
@@ -16,8 +16,6 @@ use Rattle.moved_points.specs.MovedBlob.{in_new_document, moved_in}
 use Rattle.moved_points.specs.Conditions.{ReadsAs, IsWhole, EachPoint, HasImage}
 use Rattle.moved_points.specs.Writing.{CanMove, IsWritable}
 use Rattle.moved_points.proofs.Stays.{at_image, image_small}
-use Rattle.moved_points.proofs.Readings.{same_points}
-use Rattle.std.proofs.Common.{None}
 
 -- points that can be written where there is one
 pub writable_head : (all : List Point) (p : Point) (ps : List Point) → all ≡ p ∷ ps → IsWritable all → CanBeWritten 0 (p ∷ ps)

@@ -1,5 +1,5 @@
 -- A blob reads as one list of points.
-use Rattle.std.proofs.Common.{◌≡◌, ℕ, List, [], Option, Some, None, refl, sym, ap, ◌∙◌}
+use Rattle.std.proofs.Common.{◌≡◌, ℕ, List, [], Option, Some, None, sym, ap, ◌∙◌}
 use Rattle.ppdb_base.specs.declared.BlobFault.{BlobFault}
 use Rattle.blob_grammar.specs.Reading.{Reading}
 use Rattle.blob_grammar.proofs.Unique.{read-once}
@@ -7,7 +7,7 @@ use Rattle.sequence_points.specs.declared.point.Point.{Point}
 use Rattle.sequence_points.specs.declared.point.PointLimits.{PointLimits}
 use Rattle.sequence_points.specs.Points.{PointsReading, points_after}
 use Rattle.sequence_points.specs.Records.{Entry, sequence_points}
-use Rattle.moved_points.specs.Conditions.{ReadsAs, IsWhole}
+use Rattle.moved_points.specs.Conditions.{IsWhole}
 
 pub same_points : (column : ℕ) (limits : PointLimits) (blob : List ℕ) (s t : ℕ) (ps qs : List Point) (a b : Option BlobFault)
     → PointsReading column limits blob s ps a → PointsReading column limits blob t qs b → (ps ≡ qs) × (a ≡ b)

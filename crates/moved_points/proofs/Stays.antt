@@ -1,7 +1,7 @@
 -- The next point stays or goes.
-use Rattle.std.proofs.Common.{◌≡◌, ℕ, ◌<◌, ◌≤◌, Bool, true, false, List, [], ◌∷◌, refl, sym, ap, ◌∙◌, arith}
+use Rattle.std.proofs.Common.{◌≡◌, ℕ, ◌<◌, ◌≤◌, Bool, true, false, List, ◌∷◌, refl, sym, ap, ◌∙◌, arith}
 use Rattle.std.specs.Prelude.{IsTrue, ◌↔◌, cond, map}
-use Rattle.ppdb_base.specs.Offsets.{Offsets, Rise, moved, is_kept_between, KeepsBetween, old_size, IsNextImage}
+use Rattle.ppdb_base.specs.Offsets.{Offsets, Rise, moved, is_kept_between, KeepsBetween, old_size}
 use Rattle.ppdb_base.proofs.Moved.{kept_test, moved_is}
 use Rattle.sequence_points.specs.declared.point.Point.{Point}
 use Rattle.sequence_points.specs.MovedPoints.{first_offset, moved_points}

@@ -1,6 +1,6 @@
 -- What is asked of a blob of sequence points and of a map before the points are moved.
-use Rattle.std.specs.Prelude.{◌≡◌, ℕ, ◌<◌, List, None, All}
-use Rattle.ppdb_base.specs.Offsets.{Offsets, IsNextImage}
+use Rattle.std.specs.Prelude.{◌≡◌, ℕ, ◌<◌, ◌++◌, List, None, All}
+use Rattle.ppdb_base.specs.Offsets.{Offsets, IsNextImage, old_size}
 use Rattle.sequence_points.specs.declared.point.Point.{Point}
 use Rattle.sequence_points.specs.declared.point.PointLimits.{PointLimits}
 use Rattle.sequence_points.specs.Points.{PointsReading}
@@ -23,3 +23,14 @@ pub record HasImage (offsets : Offsets) (offset : ℕ) : Type 0 where
   pub image : ℕ
   pub next : IsNextImage offsets offset image
   pub small : image < number_limit
+
+-- The point can be moved: it lies below the old size, and its offset has an image that can be written.
+pub record IsMovable (offsets : Offsets) (p : Point) : Type 0 where
+  pub below : p.offset < old_size offsets
+  pub image : HasImage offsets p.offset
+
+-- Some of the points were seen to hold this, and these are left.
+pub record Seen (P : Point → Type 0) (all left : List Point) : Type 0 where
+  pub front : List Point
+  pub cut : all ≡ front ++ left
+  pub hold : All P front

@@ -1,5 +1,5 @@
 -- The points of a method at new offsets and in new documents, and their one canonical blob (Portable PDB v1.0, "Sequence Points Blob").
-use Rattle.std.specs.Prelude.{◌≡◌, ℕ, ◌-◌, ◌≤◌, List, [], ◌∷◌, map, get_or, Bool, false, ℤ}
+use Rattle.std.specs.Prelude.{◌≡◌, ℕ, ◌-◌, ◌≤◌, List, [], ◌∷◌, map, get_or}
 use Rattle.ppdb_base.specs.Offsets.{Offsets, Rise, old_size, is_kept_between}
 use Rattle.sequence_points.specs.declared.point.Point.{Point}
 use Rattle.sequence_points.specs.declared.writer.PointError.{PointError}

@@ -1,5 +1,5 @@
 -- What the writer has come to: the points that it wrote, and what is asked of the next one.
-use Rattle.std.specs.Prelude.{◌≡◌, ◌≢◌, ℕ, ◌+◌, ◌<◌, ◌≤◌, ◌++◌, List, [], ◌∷◌, length, Option, Some, None, All, Bool, true, false, ℤ}
+use Rattle.std.specs.Prelude.{◌≡◌, ◌≢◌, ℕ, ◌+◌, ◌<◌, ◌≤◌, ◌++◌, List, [], ◌∷◌, length, Option, Some, None, Bool, true, false}
 use Rattle.std.specs.Option.{option_map}
 use Rattle.sequence_points.specs.declared.point.Point.{Point}
 use Rattle.sequence_points.specs.declared.place.Start.{Start as Seen}
@@ -13,7 +13,7 @@ use Rattle.moved_points.specs.MovedBlob.{moved_blob}
 use Rattle.sequence_points.specs.Written.{CanBeWritten, IsSpan, last_of, last_start, large_step, large_steps, points_bytes}
 use Rattle.moved_points.specs.declared.writer.Start.{Start}
 use Rattle.moved_points.specs.declared.writer.Written.{Written}
-use Rattle.ppdb_base.specs.Offsets.{Offsets, old_size}
+use Rattle.ppdb_base.specs.Offsets.{Offsets}
 use Rattle.moved_points.specs.Conditions.{HasImage}
 
 -- the start of a point, as the words on what is written have it

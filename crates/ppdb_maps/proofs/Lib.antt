@@ -17,3 +17,4 @@ pub mod OneMap
 pub mod OneList
 pub mod OneReading
 pub mod InRange
+pub mod SampleMap

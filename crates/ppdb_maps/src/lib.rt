@@ -16,6 +16,7 @@ mod reading;
 mod refusal;
 mod rule;
 mod runs;
+mod sample;
 mod says;
 mod search;
 #[cfg(test)]
@@ -30,3 +31,4 @@ pub use map_text::MapText;
 pub use method_map::MethodMap;
 pub use read::read_map;
 pub use refusal::MapError;
+pub use sample::sample_map;

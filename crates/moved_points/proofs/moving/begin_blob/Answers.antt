@@ -1,12 +1,9 @@
-use Rattle.std.proofs.Common.{◌≡◌, ◌∷◌, [], List, refl, sym, ap, subst, ◌∙◌, append-nil, Some, None}
-use Rattle.std.proofs.lemmas.Result.{err_from_is_err_and}
+use Rattle.std.proofs.Common.{◌∷◌, subst}
 use Rattle.std.proofs.lemmas.List.Elements.{All-head}
 use Rattle.sequence_points.specs.declared.point.Point.{Point}
 use Rattle.sequence_points.specs.Ranges.{IsDocument}
-use Rattle.sequence_points.specs.Points.{common_document}
-use Rattle.sequence_points.specs.Written.{CanBeWritten}
-use Rattle.moved_points.specs.MovedBlob.{moved_in, IsFirstStep}
-use Rattle.moved_points.specs.Writing.{IsBlobIn, IsWalked}
+use Rattle.moved_points.specs.MovedBlob.{moved_in}
+use Rattle.moved_points.specs.Writing.{IsWalked}
 use Rattle.moved_points.proofs.Blobs.{blob_is}
 use Rattle.moved_points.proofs.Movable.{writable_head}
 use Rattle.moved_points.proofs.moving.begin_blob.Goals as goal

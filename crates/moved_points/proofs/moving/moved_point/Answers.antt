@@ -1,7 +1,5 @@
-use Rattle.std.proofs.Common.{◌≡◌, refl, sym, ap}
-use Rattle.ppdb_base.specs.Offsets.{moved}
+use Rattle.std.proofs.Common.{sym, ap}
 use Rattle.ppdb_base.proofs.Moved.{moved_is}
-use Rattle.sequence_points.specs.declared.point.Point.{Point}
 use Rattle.moved_points.specs.MovedBlob.{in_new_document}
 use Rattle.moved_points.proofs.moving.moved_point.Goals as goal
 

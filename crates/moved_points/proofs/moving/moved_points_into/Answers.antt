@@ -1,11 +1,11 @@
-use Rattle.std.proofs.Common.{◌≡◌, ◌++◌, [], sym, ap, subst, ◌∙◌, Some, None, true, false}
+use Rattle.std.proofs.Common.{◌≡◌, ◌++◌, [], sym, ap, subst, ◌∙◌, true, false}
 use Rattle.std.specs.Prelude.{IfNone}
 use Rattle.std.proofs.lemmas.Result.{err_from_is_err_and}
 use Rattle.sequence_points.specs.Points.{common_document}
 use Rattle.sequence_points.specs.Written.{large_steps}
 use Rattle.moved_points.specs.MovedBlob.{moved_in, moved_blob, IsFirstStep}
 use Rattle.moved_points.specs.Writing.{IsBlobIn}
-use Rattle.moved_points.proofs.Movable.{Ready, ready}
+use Rattle.moved_points.proofs.Movable.{ready}
 use Rattle.moved_points.proofs.moving.moved_points_into.Goals as goal
 
 pub blob_into-requires-clause-points : goal.blob_into-requires-clause-points
@@ -25,7 +25,7 @@ returns-in_err-document-clause-step g c =
     let p = err_from_is_err_and c.from_residual.result c.from_residual.ensures.1 in
     rw (p.1, p.2)
     (λ old points reads.
-        subst (λ ps. IsFirstStep (moved_in (g.G.OffsetImage.offsets c.args.image.now) c.args.documents.now ps) c.in_err-document.field-0.0) (c.points_of-points.ensures old points reads) c.in_err-document.ensures.step)
+    subst (λ ps. IsFirstStep (moved_in (g.G.OffsetImage.offsets c.args.image.now) c.args.documents.now ps) c.in_err-document.field-0.0) (c.points_of-points.ensures old points reads) c.in_err-document.ensures.step)
 
 pub returns-in-Some-clause-moved : goal.returns-in-Some-clause-moved
 returns-in-Some-clause-moved g c = λ old points reads.
@@ -65,7 +65,7 @@ returns-in_err-document-2-clause-step g c =
     let p = err_from_is_err_and c.from_residual-in_err-document-2.result c.from_residual-in_err-document-2.ensures.1 in
     rw (p.1, p.2)
     (λ old points reads.
-        subst (λ ps. IsFirstStep (moved_in (g.G.OffsetImage.offsets c.args.image.now) c.args.documents.now ps) c.in_err-document-2.field-0.0) (c.points_of-points-2.ensures old points reads) c.in_err-document-2.ensures.step)
+    subst (λ ps. IsFirstStep (moved_in (g.G.OffsetImage.offsets c.args.image.now) c.args.documents.now ps) c.in_err-document-2.field-0.0) (c.points_of-points-2.ensures old points reads) c.in_err-document-2.ensures.step)
 
 pub returns-clause-moved : goal.returns-clause-moved
 returns-clause-moved g c = λ old points reads.

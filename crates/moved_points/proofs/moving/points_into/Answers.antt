@@ -1,11 +1,11 @@
-use Rattle.std.proofs.Common.{◌≡◌, ◌∷◌, List, refl, sym, ap, subst, ◌∙◌, Some, None, true, false}
+use Rattle.std.proofs.Common.{◌≡◌, ◌∷◌, List, sym, ap, subst, ◌∙◌, true, false}
 use Rattle.std.proofs.lemmas.Result.{err_from_is_err_and}
 use Rattle.std.proofs.lemmas.List.Elements.{All-head}
 use Rattle.sequence_points.specs.declared.point.Point.{Point}
 use Rattle.sequence_points.specs.Ranges.{IsDocument}
 use Rattle.moved_points.specs.MovedBlob.{moved_in}
 use Rattle.moved_points.specs.Writing.{coming}
-use Rattle.moved_points.proofs.Walk.{Progress, begin, may_come, onward, refused, walked, stopped, begins}
+use Rattle.moved_points.proofs.Walk.{Progress, may_come, onward, refused, walked, stopped}
 use Rattle.moved_points.proofs.moving.points_into.Goals as goal
 use Rattle.moved_points.proofs.moving.points_into.Goals.{else-in_one-via-then-in_one+else-point-first, else-in_one-via-else-in_one}
 
