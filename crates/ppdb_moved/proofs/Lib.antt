@@ -1,0 +1,6 @@
+pub mod Lists
+pub mod Meanings
+pub mod PointMeanings
+pub mod Points
+pub mod Scopes
+pub mod Slots

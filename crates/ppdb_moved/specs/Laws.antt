@@ -1,0 +1,40 @@
+-- What a moved file says at the images of kept offsets: the images of what the file says there.
+use Rattle.std.specs.Prelude.{◌≡◌, ◌≢◌, ℕ, ◌≤◌, List, map}
+use Rattle.std.specs.List.{filter_map, find}
+use Rattle.std.specs.Prelude.{nat_eq}
+use Rattle.std.specs.Option.{option_map, option_and_then}
+use Rattle.std.specs.List.Sorted.{IsSortedByKey, IsStableByKey}
+use Rattle.std.specs.Ordering.{nat_cmp}
+use Rattle.ppdb_base.specs.Offsets.{gone, Rise, Kept, old_size}
+use Rattle.ppdb_maps.specs.Map.{Map, moved_row, offsets_in}
+use Rattle.ppdb_tables.specs.declared.rows.MachineRow.{MachineRow}
+use Rattle.ppdb_values.specs.declared.file.MethodValue.{MethodValue}
+use Rattle.ppdb_values.specs.declared.noted.Noted.{Noted}
+use Rattle.ppdb_values.specs.Meaning.{meaning}
+use Rattle.ppdb_values.specs.declared.scope.VariableValue.{VariableValue}
+use Rattle.ppdb_noted.specs.declared.file.NotedFile.{NotedFile}
+use Rattle.ppdb_noted.specs.Noted.{noted_file, entries, placed, customs_of, items_of}
+use Rattle.ppdb_moved.specs.Moved.{moved_file, moved_method}
+use Rattle.ppdb_moved.specs.Images.{scope_image, point_image, slot_image}
+use Rattle.ppdb_noted.specs.NotedMeaning.{noted_meaning, slots_at, scope_meaning, scopes_at, point_meaning}
+use Rattle.ppdb_values.specs.declared.file.FileValue.{FileValue}
+use Rattle.ppdb_moved.specs.Fits.{FitsScope, FitsMethod, FitsCustom}
+use Rattle.ppdb_noted.specs.Sorted.{in_order}
+use Rattle.ppdb_noted.specs.Each.{Each, Pairs}
+
+abbrev pub ScopesMean : Type 0
+ScopesMean = (m : Map) (w : NotedFile) (method : ℕ) → Rise (offsets_in m method) → (offsets_in m method ≢ gone) → (x y : ℕ) → Kept (offsets_in m method) x y → x ≤ old_size (offsets_in m method)
+    → Each (FitsScope m method) w.scopes
+    → map (scope_meaning (moved_file m w)) (scopes_at (moved_row m 0x06 method) y (moved_file m w).scopes)
+    ≡ map (scope_image m method) (map (scope_meaning w) (scopes_at method x w.scopes))
+
+abbrev pub PointsMean : Type 0
+PointsMean = (m : Map) (w : NotedFile) (method : ℕ) → Rise (offsets_in m method) → (offsets_in m method ≢ gone) → (x y : ℕ) → Kept (offsets_in m method) x y → x ≤ old_size (offsets_in m method)
+    → (es : List MethodValue) → Each (FitsMethod m method) es → Pairs (λ (a b : MethodValue). b.method ≢ a.method) es
+    → option_and_then (λ (q : MethodValue). point_meaning (moved_file m w) q y) (find (λ (q : MethodValue). nat_eq q.method (moved_row m 0x06 method)) (filter_map (moved_method m) es))
+    ≡ option_map (point_image m method) (option_and_then (λ (q : MethodValue). point_meaning w q x) (find (λ (q : MethodValue). nat_eq q.method method) es))
+
+abbrev pub SlotsMean : Type 0
+SlotsMean = (m : Map) (w : NotedFile) (method : ℕ) → Rise (offsets_in m method) → (offsets_in m method ≢ gone) → (x y : ℕ) → Kept (offsets_in m method) x y → x ≤ old_size (offsets_in m method)
+    → Each (FitsCustom m method) w.customs
+    → slots_at (moved_file m w) (moved_row m 0x06 method) y ≡ map (slot_image m method) (slots_at w method x)

@@ -1,0 +1,17 @@
+// What a moved file says at the images of kept offsets.
+ghost use Rattle.ppdb_moved.specs.Laws.{PointsMean, ScopesMean, SlotsMean};
+
+/// The last point that is not after the image of a kept offset is the image of the one that was not after the offset.
+pub fn points_mean()
+    ensures { PointsMean }
+{}
+
+/// The scopes that hold the image of a kept offset are the images of those that held the offset.
+pub fn scopes_mean()
+    ensures { ScopesMean }
+{}
+
+/// The hoisted locals that hold the image of a kept offset are the images of those that held the offset.
+pub fn slots_mean()
+    ensures { SlotsMean }
+{}
