@@ -1,5 +1,5 @@
 // What is promised of files whose records stand at their items.
-ghost use Rattle.ppdb_noted.specs.Laws.{MeaningsAreNoted, LinksAreNoted, SortedInOrder};
+ghost use Rattle.ppdb_noted.specs.Laws.{MeaningsAreNoted, LinksAreNoted, SortedInOrder, FilesComeBack};
 ghost use Rattle.ppdb_noted.specs.Worked.{WorkedNoted};
 
 /// What a value says of an offset of a method, and of a method, is read off its noted form.
@@ -16,4 +16,9 @@ pub fn worked_files_are_noted()
 /// Items are set in order by a key in one way.
 pub fn sorted_in_order<T>()
     ensures { SortedInOrder T }
+{}
+
+/// A file whose records stand at their items is the noted form of its value.
+pub fn files_come_back()
+    ensures { FilesComeBack }
 {}

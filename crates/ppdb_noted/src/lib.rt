@@ -6,4 +6,4 @@ mod file;
 mod laws;
 
 pub use file::{NotedFile, NotedScope};
-pub use laws::{meanings_are_noted, sorted_in_order, worked_files_are_noted};
+pub use laws::{files_come_back, meanings_are_noted, sorted_in_order, worked_files_are_noted};
