@@ -24,14 +24,6 @@ pub filter_map-map : {A B : Type 0} (f : A → Option B) (g : A → B) (xs : Lis
 filter_map-map f g [] each = refl
 filter_map-map f g (x ∷ xs) each = rw each.0 (ap (λ l. g x ∷ l) (filter_map-map f g xs each.1))
 
-pub Each-filter : {A : Type 0} (P Q : A → Type 0) (p : A → Bool) → ((x : A) → p x ≡ true → P x → Q x) → (xs : List A) → Each P xs → Each Q (filter p xs)
-Each-filter P Q p holds [] each = tt
-Each-filter P Q p holds (x ∷ xs) each = step (p x) refl (Each-filter P Q p holds xs each.1)
-  where
-    step : (b : Bool) → p x ≡ b → Each Q (filter p xs) → Each Q (cond b (x ∷ filter p xs) (filter p xs))
-    step true is rest = (holds x is each.0, rest)
-    step false is rest = rest
-
 -- the images of what stays keep the relation
 pub Each-filter_map : {A B : Type 0} (f : A → Option B) (P : A → Type 0) (Q : B → Type 0)
     → ((x : A) (y : B) → f x ≡ Some y → P x → Q y) → (xs : List A) → Each P xs → Each Q (filter_map f xs)
@@ -58,7 +50,3 @@ Pairs-filter_map f P R S kept (x ∷ xs) each pairs = step (f x) refl (Pairs-fil
       Each-filter_map f (λ u. P u × R x u) (S y) (λ u v is_v both. kept x u y v is is_v each.0 both.0 both.1) xs (Each-both P (R x) xs each.1 pairs.0),
       rest,
     )
-
-pub Each-weaker : {A : Type 0} (P Q : A → Type 0) → ((x : A) → P x → Q x) → (xs : List A) → Each P xs → Each Q xs
-Each-weaker P Q holds [] each = tt
-Each-weaker P Q holds (x ∷ xs) each = (holds x each.0, Each-weaker P Q holds xs each.1)

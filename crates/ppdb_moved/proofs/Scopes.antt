@@ -12,7 +12,8 @@ use Rattle.ppdb_moved.specs.Moved.{moved_range, is_empty, scope_image, moved_sco
 use Rattle.ppdb_noted.specs.NotedMeaning.{held as holds, scopes_at}
 use Rattle.ppdb_moved.specs.Fits.{FitsScope}
 use Rattle.ppdb_noted.specs.Each.{Each}
-use Rattle.ppdb_moved.proofs.Lists.{Alike, filter-filter_map, filter_map-map, Each-filter, Each-weaker}
+use Rattle.ppdb_noted.proofs.Lists.{Each-filter, Each-weaker}
+use Rattle.ppdb_moved.proofs.Lists.{Alike, filter-filter_map, filter_map-map}
 
 -- a range holds a kept offset exactly where the moved range holds its image
 pub holds_kept : (o : Offsets) → Rise o → (o ≢ gone) → (x y : ℕ) → Kept o x y → x ≤ old_size o → (r : Range) → r.start ≤ r.end → r.end ≤ old_size o

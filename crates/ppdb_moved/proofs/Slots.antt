@@ -18,7 +18,8 @@ use Rattle.ppdb_moved.specs.Moved.{moved_range, is_empty, moved_slot, moved_body
 use Rattle.ppdb_moved.specs.Images.{slot_image}
 use Rattle.ppdb_noted.specs.NotedMeaning.{slots_among, slots_at}
 use Rattle.ppdb_moved.specs.Fits.{FitsSlot, FitsSlots, FitsCustom}
-use Rattle.ppdb_moved.proofs.Lists.{Alike, filter-filter_map, filter_map-map, Each-filter, Each-weaker}
+use Rattle.ppdb_noted.proofs.Lists.{Each-filter, Each-weaker}
+use Rattle.ppdb_moved.proofs.Lists.{Alike, filter-filter_map, filter_map-map}
 use Rattle.ppdb_moved.proofs.Scopes.{holds_kept, empty_holds}
 
 -- ---- the slots of one record

@@ -3,23 +3,14 @@ use Rattle.std.specs.Prelude.{◌≡◌, ◌≢◌, ℕ, ◌≤◌, List, map}
 use Rattle.std.specs.List.{filter_map, find}
 use Rattle.std.specs.Prelude.{nat_eq}
 use Rattle.std.specs.Option.{option_map, option_and_then}
-use Rattle.std.specs.List.Sorted.{IsSortedByKey, IsStableByKey}
-use Rattle.std.specs.Ordering.{nat_cmp}
 use Rattle.ppdb_base.specs.Offsets.{gone, Rise, Kept, old_size}
 use Rattle.ppdb_maps.specs.Map.{Map, moved_row, offsets_in}
-use Rattle.ppdb_tables.specs.declared.rows.MachineRow.{MachineRow}
 use Rattle.ppdb_values.specs.declared.file.MethodValue.{MethodValue}
-use Rattle.ppdb_values.specs.declared.noted.Noted.{Noted}
-use Rattle.ppdb_values.specs.Meaning.{meaning}
-use Rattle.ppdb_values.specs.declared.scope.VariableValue.{VariableValue}
 use Rattle.ppdb_noted.specs.declared.file.NotedFile.{NotedFile}
-use Rattle.ppdb_noted.specs.Noted.{noted_file, entries, placed, customs_of, items_of}
 use Rattle.ppdb_moved.specs.Moved.{moved_file, moved_method}
 use Rattle.ppdb_moved.specs.Images.{scope_image, point_image, slot_image}
-use Rattle.ppdb_noted.specs.NotedMeaning.{noted_meaning, slots_at, scope_meaning, scopes_at, point_meaning}
-use Rattle.ppdb_values.specs.declared.file.FileValue.{FileValue}
+use Rattle.ppdb_noted.specs.NotedMeaning.{slots_at, scope_meaning, scopes_at, point_meaning}
 use Rattle.ppdb_moved.specs.Fits.{FitsScope, FitsMethod, FitsCustom}
-use Rattle.ppdb_noted.specs.Sorted.{in_order}
 use Rattle.ppdb_noted.specs.Each.{Each, Pairs}
 
 abbrev pub ScopesMean : Type 0
