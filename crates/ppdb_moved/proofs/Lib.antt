@@ -1,3 +1,5 @@
+pub mod Customs
+pub mod Links
 pub mod Lists
 pub mod Meanings
 pub mod PointMeanings

@@ -20,6 +20,7 @@ use Rattle.ppdb_noted.specs.NotedMeaning.{slots_among, slots_at}
 use Rattle.ppdb_moved.specs.Fits.{FitsSlot, FitsSlots, FitsCustom}
 use Rattle.ppdb_noted.proofs.Lists.{Each-filter, Each-weaker}
 use Rattle.ppdb_moved.proofs.Lists.{Alike, filter-filter_map, filter_map-map}
+use Rattle.ppdb_moved.proofs.Customs.{on, image_of, records_moved}
 use Rattle.ppdb_moved.proofs.Scopes.{holds_kept, empty_holds}
 
 -- ---- the slots of one record
@@ -67,56 +68,6 @@ records_kept m method rise live x y kept at p (l ∷ ls) fits =
 
 -- ---- the records of a method
 
-abbrev on : ℕ → CustomValue → Bool
-on method c = nat_eq c.parent.table 0x06 && nat_eq c.parent.row method
-
-abbrev image_of : Map → CustomValue → CustomValue
-image_of m c = record {
-  parent = record { table = c.parent.table; row = moved_row m c.parent.table c.parent.row };
-  kind = c.kind;
-  value = moved_body m c.parent.row c.value;
-}
-
--- a method that moves is not dropped
-not_dropped : (m : Map) (method : ℕ) → (offsets_in m method ≢ gone) → is_dropped m method ≡ false
-not_dropped m method live = of (is_dropped m method) refl
-  where
-    of : (b : Bool) → is_dropped m method ≡ b → b ≡ false
-    of false is = refl
-    of true is = absurd (live (ap (λ c. cond c gone (line_offsets (method_line m method))) is))
-
-goes_not : (m : Map) (method : ℕ) → (offsets_in m method ≢ gone) → (c : CustomValue) → on method c ≡ true
-    → nat_eq c.parent.table 0x06 && is_dropped m c.parent.row ≡ false
-goes_not m method live c is =
-    let parts = and_parts (nat_eq c.parent.table 0x06) (nat_eq c.parent.row method) is in
-    let same : c.parent.row ≡ method = eqb-true c.parent.row method parts.1 in
-    rw parts.0 (subst (λ n. is_dropped m n ≡ false) (sym same) (not_dropped m method live))
-
-custom_alike : (m : Map) (method : ℕ) → (offsets_in m method ≢ gone) → (c : CustomValue) → FitsCustom m method c
-    → Alike (on (moved_row m 0x06 method)) (moved_custom m c) (on method c)
-custom_alike m method live c fits = by_going (nat_eq c.parent.table 0x06 && is_dropped m c.parent.row) refl (on method c) refl
-  where
-    table_of : (a : Bool) → nat_eq c.parent.table 0x06 ≡ a → (b : Bool) → nat_eq c.parent.row method ≡ b
-        → a && nat_eq (moved_row m c.parent.table c.parent.row) (moved_row m 0x06 method) ≡ a && b
-    table_of false apart b row = refl
-    table_of true six true row =
-        let t : c.parent.table ≡ 6 = eqb-true c.parent.table 6 six in
-        let r : c.parent.row ≡ method = eqb-true c.parent.row method row in
-        eq-eqb (moved_row m c.parent.table c.parent.row) (moved_row m 0x06 method) (ap (λ n. moved_row m n c.parent.row) t ∙ ap (moved_row m 0x06) r)
-    table_of true six false row =
-        let t : c.parent.table ≡ 6 = eqb-true c.parent.table 6 six in
-        ne_eqb (moved_row m c.parent.table c.parent.row) (moved_row m 0x06 method)
-        (λ e. eqb-false c.parent.row method row (fits.own t (sym (ap (λ n. moved_row m n c.parent.row) t) ∙ e)))
-
-    by_going : (b : Bool) → nat_eq c.parent.table 0x06 && is_dropped m c.parent.row ≡ b → (d : Bool) → on method c ≡ d
-        → Alike (on (moved_row m 0x06 method)) (cond b None (Some (image_of m c))) (on method c)
-    by_going true goes false is = is
-    by_going true goes true is = absurd (both_ways (nat_eq c.parent.table 0x06 && is_dropped m c.parent.row) (goes_not m method live c is) goes)
-    by_going false stays d is = table_of (nat_eq c.parent.table 0x06) refl (nat_eq c.parent.row method) refl
-
-custom_stays : (m : Map) (method : ℕ) → (offsets_in m method ≢ gone) → (c : CustomValue) → on method c ≡ true → moved_custom m c ≡ Some (image_of m c)
-custom_stays m method live c is = ap (λ b. cond b None (Some (image_of m c))) (goes_not m method live c is)
-
 -- of a record of the method: its slots fit
 abbrev OfMethod : Map → ℕ → CustomValue → Type 0
 OfMethod m method c = (c.parent.row ≡ method) × FitsSlots (offsets_in m method) c.value
@@ -154,18 +105,10 @@ pub slots_mean : (m : Map) (w : NotedFile) (method : ℕ) → Rise (offsets_in m
     → Each (FitsCustom m method) w.customs
     → slots_at (moved_file m w) (moved_row m 0x06 method) y ≡ map (slot_image m method) (slots_at w method x)
 slots_mean m w method rise live x y kept at fits =
-    ap (λ customs. slots_among customs y) (moved_on ∙ stays)
+    ap (λ customs. slots_among customs y) (records_moved m w method live fits)
     ∙ ap (λ lists. flat_map (λ hoisted. filter_map (slot_at y hoisted.0) (enumerate_from 0 hoisted.1)) (enumerate_from 0 lists)) (lists_moved m method (filter (on method) w.customs) own)
     ∙ records_kept m method rise live x y kept at 0 (filter_map (λ (c : CustomValue). slots_in c.value) (filter (on method) w.customs)) (lists_fit m method (filter (on method) w.customs) own)
   where
-    moved_on : filter (on (moved_row m 0x06 method)) (filter_map (moved_custom m) w.customs) ≡ filter_map (moved_custom m) (filter (on method) w.customs)
-    moved_on = filter-filter_map (moved_custom m) (on method) (on (moved_row m 0x06 method)) w.customs
-        (Each-weaker (FitsCustom m method) (λ c. Alike (on (moved_row m 0x06 method)) (moved_custom m c) (on method c)) (λ c f. custom_alike m method live c f) w.customs fits)
-
-    stays : filter_map (moved_custom m) (filter (on method) w.customs) ≡ map (image_of m) (filter (on method) w.customs)
-    stays = filter_map-map (moved_custom m) (image_of m) (filter (on method) w.customs)
-        (Each-filter (FitsCustom m method) (λ c. moved_custom m c ≡ Some (image_of m c)) (on method) (λ c is f. custom_stays m method live c is) w.customs fits)
-
     own : Each (OfMethod m method) (filter (on method) w.customs)
     own = Each-filter (FitsCustom m method) (OfMethod m method) (on method)
         (λ c is f. let same : c.parent.row ≡ method = eqb-true c.parent.row method (and_parts (nat_eq c.parent.table 0x06) (nat_eq c.parent.row method) is).1 in

@@ -1,5 +1,7 @@
 -- What a map that fits knows of a file.
-use Rattle.std.specs.Prelude.{◌≡◌, ℕ, ◌<◌, ◌≤◌, List, [], ◌∷◌}
+use Rattle.std.specs.Prelude.{◌≡◌, ℕ, ◌<◌, ◌≤◌, true, List, [], ◌∷◌}
+use Rattle.ppdb_tables.specs.declared.rows.MachineRow.{MachineRow}
+use Rattle.ppdb_noted.specs.NamedRows.{live_machine}
 use Rattle.ppdb_base.specs.Offsets.{Offsets, old_size}
 use Rattle.custom_info.specs.declared.slots.Slot.{Slot}
 use Rattle.custom_info.specs.declared.slots.Slot.TheVariants.{Empty, Held}
@@ -42,3 +44,12 @@ FitsSlots offsets body = Unit {0}
 pub record FitsCustom (m : Map) (method : ℕ) (c : CustomValue) : Type 0 where
   pub own : c.parent.table ≡ 0x06 → moved_row m 0x06 c.parent.row ≡ moved_row m 0x06 method → c.parent.row ≡ method
   pub slots : FitsSlots (offsets_in m c.parent.row) c.value
+
+-- of the row of the entry point, or 0
+abbrev pub FitsEntry : Map → ℕ → ℕ → Type 0
+FitsEntry m method entry = moved_row m 0x06 entry ≡ moved_row m 0x06 method → entry ≡ method
+
+-- of a state machine; one of a dropped method goes
+pub record FitsMachine (m : Map) (method : ℕ) (r : MachineRow) : Type 0 where
+  pub move_next : live_machine m r ≡ true → moved_row m 0x06 r.move_next ≡ moved_row m 0x06 method → r.move_next ≡ method
+  pub kickoff : live_machine m r ≡ true → moved_row m 0x06 r.kickoff ≡ moved_row m 0x06 method → r.kickoff ≡ method

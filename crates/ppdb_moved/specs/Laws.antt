@@ -7,10 +7,13 @@ use Rattle.ppdb_base.specs.Offsets.{gone, Rise, Kept, old_size}
 use Rattle.ppdb_maps.specs.Map.{Map, moved_row, offsets_in}
 use Rattle.ppdb_values.specs.declared.file.MethodValue.{MethodValue}
 use Rattle.ppdb_noted.specs.declared.file.NotedFile.{NotedFile}
-use Rattle.ppdb_moved.specs.Moved.{moved_file, moved_method}
-use Rattle.ppdb_moved.specs.Images.{scope_image, point_image, slot_image}
-use Rattle.ppdb_noted.specs.NotedMeaning.{slots_at, scope_meaning, scopes_at, point_meaning}
-use Rattle.ppdb_moved.specs.Fits.{FitsScope, FitsMethod, FitsCustom}
+use Rattle.ppdb_tables.specs.declared.rows.MachineRow.{MachineRow}
+use Rattle.ppdb_values.specs.declared.noted.Custom.{Custom}
+use Rattle.ppdb_values.specs.Links.{kickoff_of, move_next_of}
+use Rattle.ppdb_moved.specs.Moved.{moved_file, moved_method, moved_body}
+use Rattle.ppdb_moved.specs.Images.{scope_image, point_image, slot_image, partner_image}
+use Rattle.ppdb_noted.specs.NotedMeaning.{noted_links, slots_at, scope_meaning, scopes_at, point_meaning}
+use Rattle.ppdb_moved.specs.Fits.{FitsScope, FitsMethod, FitsCustom, FitsEntry, FitsMachine}
 use Rattle.ppdb_noted.specs.Each.{Each, Pairs}
 
 abbrev pub ScopesMean : Type 0
@@ -29,3 +32,16 @@ abbrev pub SlotsMean : Type 0
 SlotsMean = (m : Map) (w : NotedFile) (method : ℕ) → Rise (offsets_in m method) → (offsets_in m method ≢ gone) → (x y : ℕ) → Kept (offsets_in m method) x y → x ≤ old_size (offsets_in m method)
     → Each (FitsCustom m method) w.customs
     → slots_at (moved_file m w) (moved_row m 0x06 method) y ≡ map (slot_image m method) (slots_at w method x)
+
+-- What is linked to a method is moved: a partner that is dropped is none.
+pub record LinksMean (m : Map) (w : NotedFile) (method : ℕ) : Type 0 where
+  pub kickoff : kickoff_of (moved_file m w).machines (moved_row m 0x06 method) ≡ option_and_then (partner_image m) (kickoff_of w.machines method)
+  pub move_next : move_next_of (moved_file m w).machines (moved_row m 0x06 method) ≡ option_and_then (partner_image m) (move_next_of w.machines method)
+  pub entry : FitsEntry m method w.entry → nat_eq (moved_file m w).entry (moved_row m 0x06 method) ≡ nat_eq w.entry method
+  pub customs : (noted_links (moved_file m w) (moved_row m 0x06 method)).customs
+      ≡ map (λ (c : Custom). record c { value = moved_body m method c.value }) (noted_links w method).customs
+
+abbrev pub LinksMoved : Type 0
+LinksMoved = (m : Map) (w : NotedFile) (method : ℕ) → (offsets_in m method ≢ gone) → Each (FitsMachine m method) w.machines
+    → Pairs (λ (a b : MachineRow). a.move_next ≢ b.move_next) w.machines → Pairs (λ (a b : MachineRow). a.kickoff ≢ b.kickoff) w.machines
+    → Each (FitsCustom m method) w.customs → LinksMean m w method

@@ -1,5 +1,5 @@
 // What a moved file says at the images of kept offsets.
-ghost use Rattle.ppdb_moved.specs.Laws.{PointsMean, ScopesMean, SlotsMean};
+ghost use Rattle.ppdb_moved.specs.Laws.{LinksMoved, PointsMean, ScopesMean, SlotsMean};
 
 /// The last point that is not after the image of a kept offset is the image of the one that was not after the offset.
 pub fn points_mean()
@@ -14,4 +14,9 @@ pub fn scopes_mean()
 /// The hoisted locals that hold the image of a kept offset are the images of those that held the offset.
 pub fn slots_mean()
     ensures { SlotsMean }
+{}
+
+/// What is linked to the image of a method is the image of what was linked to the method.
+pub fn links_mean()
+    ensures { LinksMoved }
 {}

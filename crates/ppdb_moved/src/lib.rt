@@ -4,4 +4,4 @@
 
 mod laws;
 
-pub use laws::{points_mean, scopes_mean, slots_mean};
+pub use laws::{links_mean, points_mean, scopes_mean, slots_mean};
