@@ -11,7 +11,7 @@ use Rattle.ppdb_noted.specs.Each.{Each}
 use Rattle.ppdb_noted.specs.declared.file.NotedFile.{NotedFile}
 use Rattle.ppdb_noted.proofs.Lists.{Each-filter, Each-weaker}
 use Rattle.ppdb_moved.specs.Moved.{moved_body, moved_custom, moved_file}
-use Rattle.ppdb_moved.specs.Fits.{FitsCustom}
+use Rattle.ppdb_moved.specs.FitsMethod.{FitsCustom}
 use Rattle.ppdb_moved.proofs.Lists.{Alike, filter-filter_map, filter_map-map}
 
 abbrev pub on : ℕ → CustomValue → Bool

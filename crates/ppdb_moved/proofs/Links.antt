@@ -18,7 +18,7 @@ use Rattle.ppdb_noted.specs.declared.file.NotedFile.{NotedFile}
 use Rattle.ppdb_noted.specs.Each.{Each, Pairs}
 use Rattle.ppdb_noted.specs.NamedRows.{live_machine}
 use Rattle.ppdb_noted.proofs.Lists.{Each-filter, Each-weaker}
-use Rattle.ppdb_moved.specs.Fits.{FitsMachine, FitsCustom, FitsEntry}
+use Rattle.ppdb_moved.specs.FitsMethod.{FitsMachine, FitsCustom, FitsEntry}
 use Rattle.ppdb_moved.specs.Images.{partner_image}
 use Rattle.ppdb_moved.specs.Laws.{LinksMean, LinksMoved}
 use Rattle.ppdb_moved.specs.Moved.{moved_body, moved_file, moved_machine}

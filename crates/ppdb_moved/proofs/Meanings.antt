@@ -10,7 +10,7 @@ use Rattle.ppdb_noted.specs.declared.file.NotedFile.{NotedFile}
 use Rattle.ppdb_moved.specs.Moved.{with_item, moved_import, moved_import_scope, scope_image, moved_file}
 use Rattle.ppdb_moved.specs.Images.{scope_image as scope_image_meaning}
 use Rattle.ppdb_noted.specs.NotedMeaning.{chain, imported, scope_meaning, scopes_at, held as holds}
-use Rattle.ppdb_moved.specs.Fits.{FitsScope}
+use Rattle.ppdb_moved.specs.FitsMethod.{FitsScope}
 use Rattle.ppdb_noted.specs.Sorted.{in_order}
 use Rattle.ppdb_noted.specs.Each.{Each}
 use Rattle.ppdb_values.specs.Chains.{chain_of}

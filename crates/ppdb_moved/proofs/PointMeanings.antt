@@ -11,7 +11,7 @@ use Rattle.ppdb_values.specs.declared.file.MethodValue.{MethodValue}
 use Rattle.ppdb_noted.specs.declared.file.NotedFile.{NotedFile}
 use Rattle.sequence_points.specs.MovedPoints.{moved_points}
 use Rattle.ppdb_moved.specs.Moved.{moved_method, moved_file, with_points}
-use Rattle.ppdb_moved.specs.Fits.{PointsRise, FitsMethod}
+use Rattle.ppdb_moved.specs.FitsMethod.{PointsRise, FitsMethod}
 use Rattle.ppdb_noted.specs.NotedMeaning.{document_at, point_at, point_meaning}
 use Rattle.ppdb_values.specs.Meaning.{PointMeaning}
 use Rattle.ppdb_moved.specs.Images.{point_image}

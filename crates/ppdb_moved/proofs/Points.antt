@@ -8,7 +8,7 @@ use Rattle.ppdb_base.specs.Offsets.{Offsets, every, gone, lined, Rise, Kept, mov
 use Rattle.ppdb_base.proofs.Moved.{moved_kept, moved_never_falls, moved_passes, keeps_between, kept_below}
 use Rattle.sequence_points.specs.declared.point.Point.{Point}
 use Rattle.sequence_points.specs.MovedPoints.{moved_points, first_offset}
-use Rattle.ppdb_moved.specs.Fits.{PointsRise}
+use Rattle.ppdb_moved.specs.FitsMethod.{PointsRise}
 use Rattle.ppdb_noted.specs.NotedMeaning.{last_of, point_at}
 
 abbrev pub moved_point : Offsets → Point → Point

@@ -10,7 +10,7 @@ use Rattle.custom_info.specs.declared.slots.Range.{Range}
 use Rattle.ppdb_noted.specs.declared.file.NotedScope.{NotedScope}
 use Rattle.ppdb_moved.specs.Moved.{moved_range, is_empty, scope_image, moved_scope}
 use Rattle.ppdb_noted.specs.NotedMeaning.{held as holds, scopes_at}
-use Rattle.ppdb_moved.specs.Fits.{FitsScope}
+use Rattle.ppdb_moved.specs.FitsMethod.{FitsScope}
 use Rattle.ppdb_noted.specs.Each.{Each}
 use Rattle.ppdb_noted.proofs.Lists.{Each-filter, Each-weaker}
 use Rattle.ppdb_moved.proofs.Lists.{Alike, filter-filter_map, filter_map-map}

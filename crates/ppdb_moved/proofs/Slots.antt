@@ -17,7 +17,7 @@ use Rattle.ppdb_noted.specs.declared.file.NotedFile.{NotedFile}
 use Rattle.ppdb_moved.specs.Moved.{moved_range, is_empty, moved_slot, moved_body, moved_custom, moved_file}
 use Rattle.ppdb_moved.specs.Images.{slot_image}
 use Rattle.ppdb_noted.specs.NotedMeaning.{slots_among, slots_at}
-use Rattle.ppdb_moved.specs.Fits.{FitsSlot, FitsSlots, FitsCustom}
+use Rattle.ppdb_moved.specs.FitsMethod.{FitsSlot, FitsSlots, FitsCustom}
 use Rattle.ppdb_noted.proofs.Lists.{Each-filter, Each-weaker}
 use Rattle.ppdb_moved.proofs.Lists.{Alike, filter-filter_map, filter_map-map}
 use Rattle.ppdb_moved.proofs.Customs.{on, image_of, records_moved}

@@ -1,55 +1,74 @@
--- What a map that fits knows of a file.
-use Rattle.std.specs.Prelude.{◌≡◌, ℕ, ◌<◌, ◌≤◌, true, List, [], ◌∷◌}
-use Rattle.ppdb_tables.specs.declared.rows.MachineRow.{MachineRow}
-use Rattle.ppdb_noted.specs.NamedRows.{live_machine}
-use Rattle.ppdb_base.specs.Offsets.{Offsets, old_size}
+-- When a map fits a file (docs/FORMAT.md, "Fitting").
+use Rattle.std.specs.Prelude.{◌≡◌, ℕ, ◌<◌, ◌≤◌, Bool, true, IfSome, List, Some, Contains}
+use Rattle.ppdb_base.specs.Offsets.{Kept, old_size}
 use Rattle.custom_info.specs.declared.slots.Slot.{Slot}
 use Rattle.custom_info.specs.declared.slots.Slot.TheVariants.{Empty, Held}
+use Rattle.custom_info.specs.declared.stepping.AsyncStep.{AsyncStep}
+use Rattle.ppdb_maps.specs.Map.{Map, row_image, offsets_in, slot_image}
 use Rattle.ppdb_values.specs.declared.custom.CustomBody.{CustomBody}
-use Rattle.ppdb_values.specs.declared.custom.CustomBody.TheVariants.{Hoisted}
-use Rattle.ppdb_values.specs.declared.custom.CustomValue.{CustomValue}
-use Rattle.ppdb_noted.specs.Each.{Each}
-use Rattle.ppdb_maps.specs.Map.{Map, moved_row, offsets_in}
-use Rattle.sequence_points.specs.declared.point.Point.{Point}
-use Rattle.ppdb_values.specs.declared.file.MethodValue.{MethodValue}
-use Rattle.sequence_points.specs.MovedPoints.{first_offset}
+use Rattle.ppdb_values.specs.declared.custom.CustomBody.TheVariants.{Async, Hoisted}
+use Rattle.ppdb_values.specs.declared.noted.Noted.{Noted}
+use Rattle.ppdb_values.specs.declared.scope.VariableValue.{VariableValue}
 use Rattle.ppdb_noted.specs.declared.file.NotedScope.{NotedScope}
+use Rattle.ppdb_noted.specs.declared.file.NotedFile.{NotedFile}
+use Rattle.ppdb_noted.specs.Each.{Each}
+use Rattle.ppdb_noted.specs.NamedRows.{Named, named_rows, live_scope, live_custom}
 
--- offsets rise, and the last is below the end
-abbrev pub PointsRise : ℕ → List Point → Type 0
-PointsRise end [] = Unit {0}
-PointsRise end (p ∷ ps) = (p.offset < first_offset end ps) × PointsRise end ps
+-- ---- rows
 
--- of a scope: no other method has the method's image
-pub record FitsScope (m : Map) (method : ℕ) (s : NotedScope) : Type 0 where
-  pub order : s.range.start < s.range.end
-  pub within : s.range.end ≤ old_size (offsets_in m s.method)
-  pub own : moved_row m 0x06 s.method ≡ moved_row m 0x06 method → s.method ≡ method
+-- the row is one of the output
+abbrev pub IsImaged : Map → Named → Type 0
+IsImaged m n = (image : ℕ) × (row_image m n.table n.row ≡ Some image)
 
--- of a method with points
-pub record FitsMethod (m : Map) (method : ℕ) (e : MethodValue) : Type 0 where
-  pub rise : PointsRise (old_size (offsets_in m e.method)) e.points
-  pub own : moved_row m 0x06 e.method ≡ moved_row m 0x06 method → e.method ≡ method
+-- two rows of one table with one image are one row
+abbrev pub AreApart : Map → Named → Named → Type 0
+AreApart m a b = (image : ℕ) → a.table ≡ b.table → row_image m a.table a.row ≡ Some image → row_image m b.table b.row ≡ Some image → a.row ≡ b.row
 
--- of a slot of hoisted locals
-abbrev pub FitsSlot : Offsets → Slot → Type 0
-FitsSlot offsets Empty = Unit {0}
-FitsSlot offsets (Held range) = (range.start < range.end) × (range.end ≤ old_size offsets)
+-- ---- offsets
 
-abbrev pub FitsSlots : Offsets → CustomBody → Type 0
-FitsSlots offsets (Hoisted slots) = Each (FitsSlot offsets) slots
-FitsSlots offsets body = Unit {0}
+abbrev pub IsKept : Map → ℕ → ℕ → Type 0
+IsKept m method offset = (image : ℕ) × Kept (offsets_in m method) offset image
 
--- of a custom record that is on a method
-pub record FitsCustom (m : Map) (method : ℕ) (c : CustomValue) : Type 0 where
-  pub own : c.parent.table ≡ 0x06 → moved_row m 0x06 c.parent.row ≡ moved_row m 0x06 method → c.parent.row ≡ method
-  pub slots : FitsSlots (offsets_in m c.parent.row) c.value
+-- a step pauses in the method of the record and resumes in its own
+abbrev pub KeepsStep : Map → ℕ → AsyncStep → Type 0
+KeepsStep m method step = IsKept m method step.pause × IsKept m step.method step.resume
 
--- of the row of the entry point, or 0
-abbrev pub FitsEntry : Map → ℕ → ℕ → Type 0
-FitsEntry m method entry = moved_row m 0x06 entry ≡ moved_row m 0x06 method → entry ≡ method
+-- the offsets of an async record on a method
+abbrev pub KeepsAsync : Map → ℕ → CustomBody → Type 0
+KeepsAsync m method (Async handler steps) = IfSome handler (IsKept m method) × Each (KeepsStep m method) steps
+KeepsAsync m method body = Unit {0}
 
--- of a state machine; one of a dropped method goes
-pub record FitsMachine (m : Map) (method : ℕ) (r : MachineRow) : Type 0 where
-  pub move_next : live_machine m r ≡ true → moved_row m 0x06 r.move_next ≡ moved_row m 0x06 method → r.move_next ≡ method
-  pub kickoff : live_machine m r ≡ true → moved_row m 0x06 r.kickoff ≡ moved_row m 0x06 method → r.kickoff ≡ method
+abbrev pub EndsWithin : ℕ → Slot → Type 0
+EndsWithin size Empty = Unit {0}
+EndsWithin size (Held range) = range.end ≤ size
+
+-- the ranges of hoisted locals
+abbrev pub AreWithin : ℕ → CustomBody → Type 0
+AreWithin size (Hoisted slots) = Each (EndsWithin size) slots
+AreWithin size body = Unit {0}
+
+-- ---- slots
+
+abbrev pub HasSlot : Map → ℕ → Noted VariableValue → Type 0
+HasSlot m method v = (image : ℕ) × (slot_image m method v.item.slot ≡ Some image)
+
+-- two slots of a method with one image are one slot
+abbrev pub SlotsAreApart : Map → List NotedScope → Type 0
+SlotsAreApart m scopes = (s t : NotedScope) (v w : Noted VariableValue) (image : ℕ) → Contains scopes s → Contains scopes t → live_scope m s ≡ true → s.method ≡ t.method
+    → Contains s.variables v → Contains t.variables w → slot_image m s.method v.item.slot ≡ Some image → slot_image m t.method w.item.slot ≡ Some image
+    → v.item.slot ≡ w.item.slot
+
+-- ---- the file
+
+-- Each row that the file names has an image, and no two of a table have one; points lie below the old size of their method, and ranges end
+-- within it; async offsets are kept; slots of variables have images, and no two of a method have one. Nothing is asked of what stands at
+-- a dropped method.
+pub record Fits (first : Bool) (m : Map) (file : NotedFile) : Type 0 where
+  pub images : Each (IsImaged m) (named_rows first m file)
+  pub apart : (a b : Named) → Contains (named_rows first m file) a → Contains (named_rows first m file) b → AreApart m a b
+  pub points : Each (λ e. Each (λ p. p.offset < old_size (offsets_in m e.method)) e.points) file.methods
+  pub ranges : Each (λ s. s.range.end ≤ old_size (offsets_in m s.method)) file.scopes
+  pub hoisted : Each (λ c. AreWithin (old_size (offsets_in m c.parent.row)) c.value) file.customs
+  pub async : Each (λ c. live_custom m c ≡ true → KeepsAsync m c.parent.row c.value) file.customs
+  pub slots : Each (λ s. live_scope m s ≡ true → Each (HasSlot m s.method) s.variables) file.scopes
+  pub slots_apart : SlotsAreApart m file.scopes

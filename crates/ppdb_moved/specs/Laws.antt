@@ -1,5 +1,5 @@
 -- What a moved file says at the images of kept offsets: the images of what the file says there.
-use Rattle.std.specs.Prelude.{◌≡◌, ◌≢◌, ℕ, ◌≤◌, List, map}
+use Rattle.std.specs.Prelude.{◌≡◌, ◌≢◌, ℕ, ◌≤◌, Bool, true, List, Contains, map}
 use Rattle.std.specs.List.{filter_map, find}
 use Rattle.std.specs.Prelude.{nat_eq}
 use Rattle.std.specs.Option.{option_map, option_and_then}
@@ -13,7 +13,11 @@ use Rattle.ppdb_values.specs.Links.{kickoff_of, move_next_of}
 use Rattle.ppdb_moved.specs.Moved.{moved_file, moved_method, moved_body}
 use Rattle.ppdb_moved.specs.Images.{scope_image, point_image, slot_image, partner_image}
 use Rattle.ppdb_noted.specs.NotedMeaning.{noted_links, slots_at, scope_meaning, scopes_at, point_meaning}
-use Rattle.ppdb_moved.specs.Fits.{FitsScope, FitsMethod, FitsCustom, FitsEntry, FitsMachine}
+use Rattle.ppdb_maps.specs.Readable.{IsReadable}
+use Rattle.ppdb_noted.specs.NamedRows.{names, named_rows}
+use Rattle.ppdb_noted.specs.SoundParts.{SoundMoved}
+use Rattle.ppdb_moved.specs.Fits.{Fits}
+use Rattle.ppdb_moved.specs.FitsMethod.{FitsScope, FitsMethod, FitsCustom, FitsEntry, FitsMachine, FitsFile}
 use Rattle.ppdb_noted.specs.Each.{Each, Pairs}
 
 abbrev pub ScopesMean : Type 0
@@ -45,3 +49,8 @@ abbrev pub LinksMoved : Type 0
 LinksMoved = (m : Map) (w : NotedFile) (method : ℕ) → (offsets_in m method ≢ gone) → Each (FitsMachine m method) w.machines
     → Pairs (λ (a b : MachineRow). a.move_next ≢ b.move_next) w.machines → Pairs (λ (a b : MachineRow). a.kickoff ≢ b.kickoff) w.machines
     → Each (FitsCustom m method) w.customs → LinksMean m w method
+
+-- A file that a map fits, and the method's own parts of it.
+abbrev pub FitsAreOfMethods : Type 0
+FitsAreOfMethods = (first : Bool) (m : Map) (w : NotedFile) (method : ℕ) → IsReadable m → SoundMoved w → Fits first m w
+    → Contains (named_rows first m w) (names 0x06 method) → FitsFile first m w method
