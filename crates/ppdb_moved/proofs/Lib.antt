@@ -1,4 +1,6 @@
 pub mod Customs
+pub mod Elements
+pub mod Fitting
 pub mod Links
 pub mod Lists
 pub mod Meanings

@@ -1,5 +1,5 @@
 // What a moved file says at the images of kept offsets.
-ghost use Rattle.ppdb_moved.specs.Laws.{LinksMoved, PointsMean, ScopesMean, SlotsMean};
+ghost use Rattle.ppdb_moved.specs.Laws.{FitsAreOfMethods, LinksMoved, PointsMean, ScopesMean, SlotsMean};
 
 /// The last point that is not after the image of a kept offset is the image of the one that was not after the offset.
 pub fn points_mean()
@@ -19,4 +19,9 @@ pub fn slots_mean()
 /// What is linked to the image of a method is the image of what was linked to the method.
 pub fn links_mean()
     ensures { LinksMoved }
+{}
+
+/// What a map that fits a file says of a method that the file names.
+pub fn fits_are_of_methods()
+    ensures { FitsAreOfMethods }
 {}
