@@ -4,6 +4,7 @@ pub mod Fitting
 pub mod Links
 pub mod Lists
 pub mod Meanings
+pub mod Means
 pub mod PointMeanings
 pub mod Points
 pub mod Scopes

@@ -78,7 +78,7 @@ module _ (side : MachineRow → ℕ) (other : MachineRow → ℕ) where
   one_passes method [] differ = tt
   one_passes method (r ∷ rs) differ = (
     Each-weaker (λ b. side r ≢ side b) (λ b. nat_eq (side r) method ≡ true → nat_eq (side b) method ≡ false)
-    (λ b ne is. ne_eqb (side b) method (λ e. ne (eqb-true (side r) method is ∙ sym e))) rs differ.0,
+        (λ b ne is. ne_eqb (side b) method (λ e. ne (eqb-true (side r) method is ∙ sym e))) rs differ.0,
     one_passes method rs differ.1,
   )
 

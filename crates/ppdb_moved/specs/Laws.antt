@@ -11,8 +11,8 @@ use Rattle.ppdb_tables.specs.declared.rows.MachineRow.{MachineRow}
 use Rattle.ppdb_values.specs.declared.noted.Custom.{Custom}
 use Rattle.ppdb_values.specs.Links.{kickoff_of, move_next_of}
 use Rattle.ppdb_moved.specs.Moved.{moved_file, moved_method, moved_body}
-use Rattle.ppdb_moved.specs.Images.{scope_image, point_image, slot_image, partner_image}
-use Rattle.ppdb_noted.specs.NotedMeaning.{noted_links, slots_at, scope_meaning, scopes_at, point_meaning}
+use Rattle.ppdb_moved.specs.Images.{scope_image, point_image, slot_image, meaning_image, partner_image}
+use Rattle.ppdb_noted.specs.NotedMeaning.{noted_links, noted_meaning, slots_at, scope_meaning, scopes_at, point_meaning}
 use Rattle.ppdb_maps.specs.Readable.{IsReadable}
 use Rattle.ppdb_noted.specs.NamedRows.{names, named_rows}
 use Rattle.ppdb_noted.specs.SoundParts.{SoundMoved}
@@ -54,3 +54,13 @@ LinksMoved = (m : Map) (w : NotedFile) (method : ℕ) → (offsets_in m method �
 abbrev pub FitsAreOfMethods : Type 0
 FitsAreOfMethods = (first : Bool) (m : Map) (w : NotedFile) (method : ℕ) → 1 ≤ method → IsReadable m → SoundMoved w → Fits first m w
     → Contains (named_rows first m w) (names 0x06 method) → FitsFile first m w method
+
+-- What a moved file says of the image of a method: at the image of each kept offset the image of what was said there, and the image of
+-- what was linked to the method.
+pub record MovedMeans (m : Map) (w : NotedFile) (method : ℕ) : Type 0 where
+  pub meaning : (x y : ℕ) → Kept (offsets_in m method) x y
+      → noted_meaning (moved_file m w) (moved_row m 0x06 method) y ≡ meaning_image m method (noted_meaning w method x)
+  pub links : LinksMean m w method
+
+abbrev pub FilesMean : Type 0
+FilesMean = (first : Bool) (m : Map) (w : NotedFile) (method : ℕ) → SoundMoved w → FitsFile first m w method → MovedMeans m w method

@@ -1,5 +1,5 @@
 // What a moved file says at the images of kept offsets.
-ghost use Rattle.ppdb_moved.specs.Laws.{FitsAreOfMethods, LinksMoved, PointsMean, ScopesMean, SlotsMean};
+ghost use Rattle.ppdb_moved.specs.Laws.{FilesMean, FitsAreOfMethods, LinksMoved, PointsMean, ScopesMean, SlotsMean};
 
 /// The last point that is not after the image of a kept offset is the image of the one that was not after the offset.
 pub fn points_mean()
@@ -24,4 +24,9 @@ pub fn links_mean()
 /// What a map that fits a file says of a method that the file names.
 pub fn fits_are_of_methods()
     ensures { FitsAreOfMethods }
+{}
+
+/// What a moved file says at the image of a kept offset of a method that the file names is the image of what the file said there.
+pub fn files_mean()
+    ensures { FilesMean }
 {}

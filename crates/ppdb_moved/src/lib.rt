@@ -4,4 +4,4 @@
 
 mod laws;
 
-pub use laws::{fits_are_of_methods, links_mean, points_mean, scopes_mean, slots_mean};
+pub use laws::{files_mean, fits_are_of_methods, links_mean, points_mean, scopes_mean, slots_mean};
