@@ -1,0 +1,11 @@
+pub mod Customs
+pub mod Elements
+pub mod Fitting
+pub mod Links
+pub mod Lists
+pub mod Meanings
+pub mod Means
+pub mod PointMeanings
+pub mod Points
+pub mod Scopes
+pub mod Slots

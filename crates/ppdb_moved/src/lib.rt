@@ -1,0 +1,7 @@
+//! A debug file moved by a map: rows, IL offsets and slots become their images, and what has none goes. What it says at a kept offset of
+//! a method is what the file said there, moved.
+#![tactic(auto)]
+
+mod laws;
+
+pub use laws::{files_mean, fits_are_of_methods, links_mean, points_mean, scopes_mean, slots_mean};
