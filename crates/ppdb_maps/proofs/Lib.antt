@@ -18,3 +18,5 @@ pub mod OneList
 pub mod OneReading
 pub mod InRange
 pub mod SampleMap
+pub mod TextSteps
+pub mod SampleTexts

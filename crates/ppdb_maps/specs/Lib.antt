@@ -8,6 +8,7 @@ pub mod Rules
 pub mod Text
 pub mod Readable
 pub mod Sample
+pub mod SampleTexts
 pub mod Cuts
 pub mod Reading
 pub mod Loops
