@@ -14,7 +14,7 @@ abbrev pub at_image : Offsets → List ℕ → Point → Point
 at_image o documents p = in_new_document documents (record p { offset = moved o p.offset })
 
 -- the answer of the test is whether the point stays
-test_is : (o : Offsets) → Rise o → old_size o ≤ 4294967295 → (p : Point) (ps : List Point) (end : ℕ) (r : Bool)
+pub test_is : (o : Offsets) → Rise o → old_size o ≤ 4294967295 → (p : Point) (ps : List Point) (end : ℕ) (r : Bool)
     → end ≡ first_offset 4294967295 ps → (IsTrue r ↔ KeepsBetween o p.offset end) → is_kept_between o p.offset (first_offset (old_size o) ps) ≡ r
 test_is o rise le p ps end r ends says =
     sym (to_the_next o p.offset ps rise le) ∙ sym (ap (is_kept_between o p.offset) ends) ∙ kept_test o rise p.offset end r says

@@ -1,17 +1,16 @@
 -- The sample's map keeps what maps keep.
-use Rattle.std.proofs.Common.{◌≡◌, ℕ, zero, suc, ◌+◌, ◌-◌, ◌<◌, ◌≤◌, List, [], ◌∷◌, map, refl, sym, ap, arith}
+use Rattle.std.proofs.Common.{◌≡◌, ℕ, zero, suc, ◌+◌, ◌<◌, ◌≤◌, List, [], ◌∷◌, map, refl, sym, ap, arith}
 use Rattle.std.specs.List.{range_with_len, AllByRecursion}
 use Rattle.std.specs.List.Sorted.{IsStrictlySortedBy}
 use Rattle.std.specs.Ordering.{nat_cmp}
 use Rattle.std.specs.Cmp.{nat_cmp_is}
 use Rattle.std.specs.declared.cmp.Ordering.TheVariants.{Less}
-use Rattle.ppdb_base.specs.declared.offsets.Run.{Run}
 use Rattle.ppdb_base.specs.Offsets.{Rise, lined}
 use Rattle.ppdb_maps.specs.declared.entries.Count.{Count}
 use Rattle.ppdb_maps.specs.declared.entries.RowImage.{RowImage}
 use Rattle.ppdb_maps.specs.declared.entries.SlotImage.{SlotImage}
-use Rattle.ppdb_maps.specs.Map.{Map, MethodLine, Ascends, pair_cmp, map_of}
-use Rattle.ppdb_maps.specs.Readable.{IsRow, IsRowOf, IsLineOf, IsReadable}
+use Rattle.ppdb_maps.specs.Map.{MethodLine, pair_cmp, map_of}
+use Rattle.ppdb_maps.specs.Readable.{IsRowOf, IsLineOf, IsReadable}
 use Rattle.ppdb_maps.specs.Sample.{sample_row, sample_method, sample_runs, sample_map_of}
 
 pub sample_rise : Rise (lined sample_runs 16 20)

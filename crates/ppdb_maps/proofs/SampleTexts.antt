@@ -1,18 +1,15 @@
 -- The texts of three samples have the samples' maps.
-use Rattle.std.proofs.Common.{◌≡◌, ℕ, ◌<◌, ◌≤◌, Bool, true, false, List, [], ◌∷◌, ◌++◌, Option, Some, None, refl, sym, ap, subst, ◌∙◌, arith, inl, inr}
+use Rattle.std.proofs.Common.{◌≡◌, ℕ, Bool, true, false, [], ◌∷◌, Some, None, refl, arith}
 use Rattle.std.specs.Prelude.{codes, cond, nat_eq, ◌&&◌}
 use Rattle.std.specs.Option.{option_map}
 use Rattle.std.proofs.lemmas.Bool.Decides.{nat_tests}
-use Rattle.ppdb_maps.specs.Map.{Map, MethodLine, Ascends, count_of, row_line, method_line}
+use Rattle.ppdb_maps.specs.Map.{MethodLine, count_of}
 use Rattle.ppdb_maps.specs.declared.entries.Count.{Count}
 use Rattle.ppdb_maps.specs.declared.entries.RowImage.{RowImage}
 use Rattle.ppdb_maps.specs.Sample.{sample_map_of}
 use Rattle.ppdb_maps.specs.Forms.{IsHead, Tells, ROWS}
-use Rattle.ppdb_maps.specs.Before.{count_in, row_in, method_in}
-use Rattle.ppdb_maps.specs.Text.{Read, start, further, HoldsWhat, IsMapOf}
-use Rattle.ppdb_maps.specs.Readable.{IsReadable}
-use Rattle.ppdb_maps.specs.SampleTexts.{text_of_none, text_of_one, text_of_two, SampleTexts}
-use Rattle.ppdb_maps.specs.declared.line.Line.{Line}
+use Rattle.ppdb_maps.specs.Text.{Read, start, further, HoldsWhat}
+use Rattle.ppdb_maps.specs.SampleTexts.{SampleTexts}
 use Rattle.ppdb_maps.specs.declared.line.Line.TheVariants.{Rows, Row, Method, Kept}
 use Rattle.ppdb_maps.proofs.SampleMap.{sample_readable}
 use Rattle.ppdb_maps.proofs.TextSteps.{tells_rows, tells_row, tells_method, keeps_rows, keeps_row, keeps_method, with_runs, number_of_digit, row_of_digit, front_run, back_run}

@@ -5,8 +5,8 @@ use Rattle.std.specs.Fmt.{decimal}
 use Rattle.std.proofs.lemmas.Fmt.{decimal_digit, decimal_step}
 use Rattle.ppdb_base.specs.declared.offsets.Run.{Run}
 use Rattle.ppdb_maps.specs.Map.{MethodLine}
-use Rattle.ppdb_maps.specs.Words.{IsSilent, line_words, text_lines}
-use Rattle.ppdb_maps.specs.Forms.{IsHead, IsNumber, IsTable, ROWS, OFFSETS, Tells, told, Says, HasForm, Values, rows_line, row_line, method_line, run_line}
+use Rattle.ppdb_maps.specs.Words.{IsSilent, line_words}
+use Rattle.ppdb_maps.specs.Forms.{IsNumber, IsTable, ROWS, OFFSETS, Tells, told, rows_line, row_line, method_line, run_line}
 use Rattle.ppdb_maps.specs.Before.{count_in, row_in, method_in, drop_in, methods_of, follows_method}
 use Rattle.ppdb_maps.specs.Rules.{Breaks, Keeps, BeginsEarly, EndsBeyond, second_rows, second_row, row_alone, dropped_row, second_method, dropped_method, run_alone, run_early, run_long}
 use Rattle.ppdb_maps.specs.declared.line.Form.TheVariants.{TableRows, RowMove, MethodSizes, OffsetRun}
