@@ -9,3 +9,4 @@ pub mod PointMeanings
 pub mod Points
 pub mod Scopes
 pub mod Slots
+pub mod PastEnd
