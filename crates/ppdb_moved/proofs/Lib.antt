@@ -10,3 +10,5 @@ pub mod Points
 pub mod Scopes
 pub mod Slots
 pub mod PastEnd
+pub mod Front
+pub mod Counts

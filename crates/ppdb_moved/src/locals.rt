@@ -1,8 +1,5 @@
 // Local scopes and their variables, moved in their places, and state machines.
-ghost use Rattle.std.specs.Prelude.{◌≡◌};
-ghost use Rattle.ppdb_moved.specs.Moved.{moved_scope, moved_machine};
-
-use crate::moves::{InMethod, Moves, move_all};
+use crate::moves::{InMethod, Moves, Stays, move_all};
 use ppdb_maps::MapText;
 use ppdb_noted::NotedScope;
 use ppdb_tables::MachineRow;
@@ -32,27 +29,35 @@ impl Moves<MapText> for NotedScope {
     }
 }
 
-/// A scope, moved; none where its range becomes empty.
-pub fn moved_scope(map: &MapText, mut scope: NotedScope) -> Option<NotedScope>
-    ensures { result ≡ moved_scope map.now scope }
-{
-    scope.move_by(map);
-    if scope.range.start < scope.range.end {
-        Some(scope)
-    } else {
-        None
+/// A scope stays where its range does not become empty.
+impl Stays<MapText> for NotedScope {
+    ghost use Rattle.ppdb_moved.specs.Moved.{moved_scope};
+
+    ghost stays = { moved_scope };
+
+    fn stay_by(mut self, map: &MapText) -> Option<NotedScope> {
+        self.move_by(map);
+        if self.range.start < self.range.end {
+            Some(self)
+        } else {
+            None
+        }
     }
 }
 
-/// A state machine, moved; none where one of its methods is dropped.
-pub fn moved_machine(map: &MapText, machine: MachineRow) -> Option<MachineRow>
-    ensures { result ≡ moved_machine map.now machine }
-{
-    if map.dropped(machine.move_next) || map.dropped(machine.kickoff) {
-        return None;
+/// A state machine stays where none of its methods is dropped.
+impl Stays<MapText> for MachineRow {
+    ghost use Rattle.ppdb_moved.specs.Moved.{moved_machine};
+
+    ghost stays = { moved_machine };
+
+    fn stay_by(self, map: &MapText) -> Option<MachineRow> {
+        if map.dropped(self.move_next) || map.dropped(self.kickoff) {
+            return None;
+        }
+        Some(MachineRow {
+            move_next: map.moved_row(0x06, self.move_next),
+            kickoff: map.moved_row(0x06, self.kickoff),
+        })
     }
-    Some(MachineRow {
-        move_next: map.moved_row(0x06, machine.move_next),
-        kickoff: map.moved_row(0x06, machine.kickoff),
-    })
 }

@@ -2,12 +2,12 @@
 ghost use Rattle.std.specs.Prelude.{◌≡◌, option_map};
 ghost use Rattle.ppdb_base.specs.Offsets.{moved};
 ghost use Rattle.ppdb_maps.specs.Map.{offsets_in};
-ghost use Rattle.ppdb_moved.specs.Moved.{moved_custom};
 
-use crate::moves::{InMethod, Moves, move_all};
+use crate::moves::{InMethod, Moves, Stays, move_all};
 use crate::offsets::moved_offset;
 use custom_info::AsyncStep;
 use ppdb_maps::MapText;
+use ppdb_tables::Parent;
 use ppdb_values::{CustomBody, CustomValue};
 
 impl Moves<InMethod<'_>> for AsyncStep {
@@ -52,18 +52,19 @@ impl Moves<InMethod<'_>> for CustomBody {
     }
 }
 
-/// A custom record on a row of the type system, moved; none where it is on a dropped method.
-pub fn moved_custom(map: &MapText, mut custom: CustomValue) -> Option<CustomValue>
-    ensures { result ≡ moved_custom map.now custom }
-{
-    if custom.parent.table == 0x06 && map.dropped(custom.parent.row) {
-        return None;
+/// A custom record on a row of the type system stays where it is on no dropped method.
+impl Stays<MapText> for CustomValue {
+    ghost use Rattle.ppdb_moved.specs.Moved.{moved_custom};
+
+    ghost stays = { moved_custom };
+
+    fn stay_by(mut self, map: &MapText) -> Option<CustomValue> {
+        let Parent { table, row } = self.parent;
+        if table == 0x06 && map.dropped(row) {
+            return None;
+        }
+        self.value.move_by(&InMethod { map, method: row });
+        self.parent.row = map.moved_row(table, row);
+        Some(self)
     }
-    let by = InMethod {
-        map,
-        method: custom.parent.row,
-    };
-    custom.value.move_by(&by);
-    custom.parent.row = map.moved_row(custom.parent.table, custom.parent.row);
-    Some(custom)
 }
