@@ -9,3 +9,6 @@ pub mod PointMeanings
 pub mod Points
 pub mod Scopes
 pub mod Slots
+pub mod PastEnd
+pub mod Front
+pub mod Counts
