@@ -1,5 +1,5 @@
 -- The map of the sample file of n methods (docs/FORMAT.md, "Sample"): the methods change places, and of the 16 bytes of each those at
--- the offsets 4 to 7 go, and 8 come in their place.
+-- the offsets 4 to 7 go, six bytes stand in their place, and two more at the end.
 use Rattle.std.specs.Prelude.{ℕ, ◌+◌, ◌-◌, List, [], ◌∷◌, map}
 use Rattle.std.specs.List.{range_with_len}
 use Rattle.ppdb_base.specs.declared.offsets.Run.{Run}
