@@ -17,3 +17,6 @@ pub mod OneMap
 pub mod OneList
 pub mod OneReading
 pub mod InRange
+pub mod SampleMap
+pub mod TextSteps
+pub mod SampleTexts

@@ -7,6 +7,8 @@ pub mod Before
 pub mod Rules
 pub mod Text
 pub mod Readable
+pub mod Sample
+pub mod SampleTexts
 pub mod Cuts
 pub mod Reading
 pub mod Loops

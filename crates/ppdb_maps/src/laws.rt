@@ -1,6 +1,7 @@
 // What every map of offsets keeps, and what every map text has.
 ghost use Rattle.std.specs.Prelude.{ℕ, ◌<◌, ◌≤◌, ◌↔◌};
 ghost use Rattle.ppdb_base.specs.Offsets.{Kept, IsNextImage};
+ghost use Rattle.ppdb_maps.specs.SampleTexts.{SampleTexts};
 ghost use Rattle.ppdb_maps.specs.Readable.{MapsAreReadable, RefusalsAreOne, TextsHaveOneMap};
 
 use ppdb_base::OffsetImage;
@@ -28,4 +29,9 @@ pub fn refusals_are_one()
 /// A map that a text has is readable.
 pub fn maps_are_readable()
     ensures { MapsAreReadable }
+{}
+
+/// The texts of the samples of none, one and two methods have the samples' maps.
+pub fn sample_texts_have_their_maps()
+    ensures { SampleTexts }
 {}

@@ -16,6 +16,7 @@ mod reading;
 mod refusal;
 mod rule;
 mod runs;
+mod sample;
 mod says;
 mod search;
 #[cfg(test)]
@@ -24,9 +25,10 @@ mod words;
 
 pub use laws::{
     kept_offsets_rise, maps_are_readable, next_image_never_falls, refusals_are_one,
-    texts_have_one_map,
+    sample_texts_have_their_maps, texts_have_one_map,
 };
 pub use map_text::MapText;
 pub use method_map::MethodMap;
 pub use read::read_map;
 pub use refusal::MapError;
+pub use sample::sample_map;

@@ -1,6 +1,6 @@
 // A method's line, with the runs of its kept offsets.
 ghost use Rattle.std.specs.Prelude.{◌≡◌, ◌<◌, ◌⊎◌, ◌↔◌, ◌++◌, [], ◌∷◌, IsTrue, IfErr, OnOk};
-ghost use Rattle.ppdb_base.specs.Offsets.{end_of, new_end_of, lined};
+ghost use Rattle.ppdb_base.specs.Offsets.{end_of, new_end_of, lined, Rise};
 ghost use Rattle.ppdb_maps.specs.Says.{offsets_of};
 ghost use Rattle.ppdb_maps.specs.Rules.{BeginsEarly, EndsBeyond};
 ghost use Rattle.ppdb_maps.specs.Runs.{RefusesRun};
@@ -71,6 +71,19 @@ impl Method {
             old_size,
             new_size,
             runs: List::new(alloc),
+        }
+    }
+
+    /// A method with runs that rise within the sizes.
+    pub fn with_runs(method: u32, old_size: u32, new_size: u32, runs: List<Run>) -> Method
+        requires { Rise (lined runs old_size new_size) }
+        ensures { result ≡ record { method = method; old_size = old_size; new_size = new_size; runs = runs } }
+    {
+        Method {
+            method,
+            old_size,
+            new_size,
+            runs,
         }
     }
 

@@ -1,0 +1,3 @@
+pub mod MovedBlob
+pub mod Conditions
+pub mod Writing

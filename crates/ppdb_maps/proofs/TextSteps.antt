@@ -1,0 +1,137 @@
+-- Lines that tell something and break no rule.
+use Rattle.std.proofs.Common.{◌≡◌, ℕ, ◌+◌, ◌/◌, ◌%◌, ◌<◌, ◌≤◌, ◌++◌, Bool, true, false, List, [], ◌∷◌, length, Option, Some, None, refl, sym, ap, subst, ◌∙◌, arith, inl, inr}
+use Rattle.std.specs.Prelude.{codes, IsSome, IsTrue}
+use Rattle.std.specs.Fmt.{decimal}
+use Rattle.std.proofs.lemmas.Fmt.{decimal_digit, decimal_step}
+use Rattle.ppdb_base.specs.declared.offsets.Run.{Run}
+use Rattle.ppdb_maps.specs.Map.{MethodLine}
+use Rattle.ppdb_maps.specs.Words.{IsSilent, line_words}
+use Rattle.ppdb_maps.specs.Forms.{IsNumber, IsTable, ROWS, OFFSETS, Tells, told, rows_line, row_line, method_line, run_line}
+use Rattle.ppdb_maps.specs.Before.{count_in, row_in, method_in, drop_in, methods_of, follows_method}
+use Rattle.ppdb_maps.specs.Rules.{Breaks, Keeps, BeginsEarly, EndsBeyond, second_rows, second_row, row_alone, dropped_row, second_method, dropped_method, run_alone, run_early, run_long}
+use Rattle.ppdb_maps.specs.declared.line.Form.TheVariants.{TableRows, RowMove, MethodSizes, OffsetRun}
+use Rattle.ppdb_maps.specs.declared.line.Line.{Line}
+use Rattle.ppdb_maps.specs.declared.line.Line.TheVariants.{Rows, Row, Method, Kept}
+use Rattle.ppdb_maps.specs.declared.rule.Rule.{Rule}
+use Rattle.ppdb_maps.proofs.Saying.{breaks_said}
+use Rattle.ppdb_maps.specs.Text.{Read, further}
+
+digit : (n : ℕ) → n < 10 → (48 + n) ∷ [] ≡ decimal n
+digit n h = sym (decimal_digit n h)
+
+two_digits : (n : ℕ) → 10 ≤ n → n < 20 → decimal n ≡ decimal (n / 10) ++ (48 + n % 10) ∷ []
+two_digits n low high = decimal_step n low (omega arith)
+
+pub number_of_digit : (n most : ℕ) → n < 10 → n ≤ most → IsNumber ((48 + n) ∷ []) 0 most n
+number_of_digit n most small high = record { spelled = digit n small; from = omega arith; to = high }
+
+pub row_of_digit : (n most : ℕ) → 1 ≤ n → n < 10 → n ≤ most → IsNumber ((48 + n) ∷ []) 1 most n
+row_of_digit n most low small high = record { spelled = digit n small; from = low; to = high }
+
+sixteen : decimal 16 ≡ codes "16"
+sixteen = decimal_step 16 (omega arith) (omega arith) ∙ ap (λ ds. ds ++ 54 ∷ []) (decimal_digit 1 (omega arith))
+
+twenty : decimal 20 ≡ codes "20"
+twenty = decimal_step 20 (omega arith) (omega arith) ∙ ap (λ ds. ds ++ 48 ∷ []) (decimal_digit 2 (omega arith))
+
+ten : decimal 10 ≡ codes "10"
+ten = decimal_step 10 (omega arith) (omega arith) ∙ ap (λ ds. ds ++ 48 ∷ []) (decimal_digit 1 (omega arith))
+
+methods_table : IsTable (codes "06") 6
+methods_table = record { high = 0; low = 6; c = 48; d = 54; spelled = refl; digits = (inl (omega arith, refl), inl (omega arith, refl)); is = refl; known = omega arith }
+
+-- ---- what lines tell
+
+pub tells_rows : (text b : List ℕ) (n : ℕ) → line_words text ≡ codes "rows" ∷ codes "06" ∷ b ∷ [] → (IsSilent text → ⊥) → IsNumber b 0 ROWS n → Tells 1 text (Rows 6 n)
+tells_rows text b n words loud is_number = told loud (record {
+  form = TableRows;
+  has = record { values = codes "06" ∷ b ∷ []; named = words; counted = ap length words; there = omega arith };
+  values = rows_line methods_table is_number;
+})
+
+pub tells_row : (text a b : List ℕ) (o n : ℕ) → line_words text ≡ codes "row" ∷ codes "06" ∷ a ∷ b ∷ [] → (IsSilent text → ⊥) → IsNumber a 1 ROWS o → IsNumber b 1 ROWS n → Tells 1 text (Row 6 o n)
+tells_row text a b o n words loud old new = told loud (record {
+  form = RowMove;
+  has = record { values = codes "06" ∷ a ∷ b ∷ []; named = words; counted = ap length words; there = omega arith };
+  values = row_line methods_table old new;
+})
+
+pub tells_method : (text a : List ℕ) (m : ℕ) → line_words text ≡ codes "method" ∷ a ∷ codes "16" ∷ codes "20" ∷ [] → (IsSilent text → ⊥) → IsNumber a 1 ROWS m → Tells 1 text (Method m 16 20)
+tells_method text a m words loud is_number = told loud (record {
+  form = MethodSizes;
+  has = record { values = a ∷ codes "16" ∷ codes "20" ∷ []; named = words; counted = ap length words; there = omega arith };
+  values = method_line is_number (record { spelled = sym sixteen; from = omega arith; to = omega arith }) (record { spelled = sym twenty; from = omega arith; to = omega arith });
+})
+
+abbrev pub front_run : Run
+front_run = record { old = 0; new = 0; length = 4 }
+
+abbrev pub back_run : Run
+back_run = record { old = 8; new = 10; length = 8 }
+
+pub tells_front : Tells 1 (codes "run 0 0 4") (Kept front_run)
+tells_front = told (λ e. omega (arith, e)) (record {
+  form = OffsetRun;
+  has = record { values = codes "0" ∷ codes "0" ∷ codes "4" ∷ []; named = refl; counted = refl; there = omega arith };
+  values = run_line (number_of_digit 0 OFFSETS (omega arith) (omega arith)) (number_of_digit 0 OFFSETS (omega arith) (omega arith)) (row_of_digit 4 OFFSETS (omega arith) (omega arith) (omega arith));
+})
+
+pub tells_back : Tells 1 (codes "run 8 10 8") (Kept back_run)
+tells_back = told (λ e. omega (arith, e)) (record {
+  form = OffsetRun;
+  has = record { values = codes "8" ∷ codes "10" ∷ codes "8" ∷ []; named = refl; counted = refl; there = omega arith };
+  values = run_line (number_of_digit 8 OFFSETS (omega arith) (omega arith)) (record { spelled = sym ten; from = omega arith; to = omega arith }) (row_of_digit 8 OFFSETS (omega arith) (omega arith) (omega arith));
+})
+
+-- ---- lines that break no rule
+
+not_some : {A : Type 0} (o : Option A) → o ≡ None → IsSome o → ⊥
+not_some None e some = let h : false ≡ true = some in cc
+not_some (Some x) e some = absurd cc
+
+not_true : (b : Bool) → b ≡ false → IsTrue b → ⊥
+not_true false e t = cc
+not_true true e t = absurd cc
+
+pub keeps_rows : (before : List Line) (text : List ℕ) (t n : ℕ) → Tells 1 text (Rows t n) → count_in before t ≡ None → Keeps 1 before text
+keeps_rows before text t n tells none rule b = of rule (breaks_said 1 before text (Rows t n) rule tells b)
+  where
+    of : (r : Rule) → Breaks before r (Rows t n) → ⊥
+    of r (second_rows some) = not_some (count_in before t) none some
+
+pub keeps_row : (before : List Line) (text : List ℕ) (t o n count : ℕ) → Tells 1 text (Row t o n) → count_in before t ≡ Some count → row_in before t o ≡ None → drop_in before o ≡ false → Keeps 1 before text
+keeps_row before text t o n count tells counted none live rule b = of rule (breaks_said 1 before text (Row t o n) rule tells b)
+  where
+    of : (r : Rule) → Breaks before r (Row t o n) → ⊥
+    of r (second_row some) = not_some (row_in before t o) none some
+    of r (row_alone alone) = let e : Some count ≡ None = sym counted ∙ alone in cc
+    of r (dropped_row is dropped) = not_true (drop_in before o) live dropped
+
+pub keeps_method : (before : List Line) (text : List ℕ) (m o n : ℕ) → Tells 1 text (Method m o n) → method_in before m ≡ None → drop_in before m ≡ false → Keeps 1 before text
+keeps_method before text m o n tells none live rule b = of rule (breaks_said 1 before text (Method m o n) rule tells b)
+  where
+    of : (r : Rule) → Breaks before r (Method m o n) → ⊥
+    of r (second_method some) = not_some (method_in before m) none some
+    of r (dropped_method dropped) = not_true (drop_in before m) live dropped
+
+pub keeps_run : (before : List Line) (text : List ℕ) (run : Run) (line : MethodLine) (others : List MethodLine) → Tells 1 text (Kept run) → follows_method before ≡ true → methods_of before ≡ line ∷ others
+    → (BeginsEarly run line.runs → ⊥) → (EndsBeyond run line → ⊥) → Keeps 1 before text
+keeps_run before text run line others tells follows last late short rule b = of rule (breaks_said 1 before text (Kept run) rule tells b)
+  where
+    of : (r : Rule) → Breaks before r (Kept run) → ⊥
+    of r (run_alone alone) = let e : true ≡ false = sym follows ∙ alone in cc
+    of r (run_early {line = l} {lines = ls} is early) =
+        let e : line ∷ others ≡ l ∷ ls = sym last ∙ is in
+        let same : l ≡ line = cc in late (subst (λ (x : MethodLine). BeginsEarly run x.runs) same early)
+    of r (run_long {line = l} {lines = ls} is long) =
+        let e : line ∷ others ≡ l ∷ ls = sym last ∙ is in
+        let same : l ≡ line = cc in short (subst (EndsBeyond run) same long)
+
+-- the two runs of a method that was just named
+pub with_runs : (texts : List (List ℕ)) (before : List Line) (m : ℕ) → Read 1 texts (Method m 16 20 ∷ before)
+    → Read 1 ((texts ++ codes "run 0 0 4" ∷ []) ++ codes "run 8 10 8" ∷ []) (Kept back_run ∷ Kept front_run ∷ Method m 16 20 ∷ before)
+with_runs texts before m read =
+    further (further read tells_front (keeps_run (Method m 16 20 ∷ before) (codes "run 0 0 4") front_run (record { method = m; old_size = 16; new_size = 20; runs = [] }) (methods_of before) tells_front refl refl
+    (λ e. e) (λ e. elim e [ inl h ↦ omega (arith, h) | inr h ↦ omega (arith, h) ])))
+    tells_back (keeps_run (Kept front_run ∷ Method m 16 20 ∷ before) (codes "run 8 10 8") back_run (record { method = m; old_size = 16; new_size = 20; runs = front_run ∷ [] }) (methods_of before) tells_back refl refl
+    (λ e. elim e [ inl h ↦ omega (arith, h) | inr h ↦ omega (arith, h) ]) (λ e. elim e [ inl h ↦ omega (arith, h) | inr h ↦ omega (arith, h) ]))

@@ -1,0 +1,33 @@
+use Rattle.std.proofs.Common.{◌≡◌, ◌+◌, ◌-◌, ◌∷◌, ◌++◌, [], ℕ, map, sym, ap, subst, ◌∙◌, arith}
+use Rattle.std.specs.List.{range_with_len}
+use Rattle.std.proofs.lemmas.List.FromFn.{map-range_with_len_more}
+use Rattle.ppdb_maps.specs.declared.entries.Count.{Count}
+use Rattle.ppdb_maps.specs.declared.entries.RowImage.{RowImage}
+use Rattle.ppdb_maps.specs.Readable.{IsReadable}
+use Rattle.ppdb_maps.specs.Sample.{sample_row, sample_method}
+use Rattle.ppdb_maps.proofs.SampleMap.{sample_readable, sample_of}
+use Rattle.ppdb_maps.proofs.sample.sample_map.Goals as goal
+
+pub loop-before-preserved : goal.loop-before-preserved
+loop-before-preserved c =
+    let i = c.loop-before.before in
+    let n = c.args.n in
+    let new : n - i ≡ n + 1 - (i + 1) = omega arith in
+    record {
+      rows = c.in_ok-push-2.ensures.items
+          ∙ ap (λ (k : ℕ). let r : RowImage = record { table = 6; old = i + 1; new = k } in c.loop-before.rows.items ++ r ∷ []) new
+          ∙ ap (λ xs. xs ++ sample_row n (i + 1) ∷ []) c.loop-before.invariant.rows ∙ sym (map-range_with_len_more (sample_row n) 1 i (i + 1) (omega arith));
+      methods = c.in_ok-push-3.ensures.items ∙ ap (λ m. c.loop-before.methods.items ++ m ∷ []) c.in_ok-sample_method.ensures
+          ∙ ap (λ xs. xs ++ sample_method (i + 1) ∷ []) c.loop-before.invariant.methods ∙ sym (map-range_with_len_more sample_method 1 i (i + 1) (omega arith));
+    }
+
+pub new-requires : goal.new-requires
+new-requires c =
+    let n = c.args.n in
+    let end : c.loop-before.before ≡ n = omega arith in
+    let one : Count = record { table = 0x06; rows = n } in
+    subst IsReadable
+    (sym (sample_of n c.push.new.self.items c.loop-before.rows.items c.loop-before.methods.items c.new-drops.result.items c.new-slotted.result.items c.new-slots.result.items
+    (c.in_ok-push.ensures.items ∙ ap (λ xs. xs ++ one ∷ []) c.new-counts.ensures.items) (c.loop-before.invariant.rows ∙ ap (λ k. map (sample_row n) (range_with_len 1 k)) end)
+    (c.loop-before.invariant.methods ∙ ap (λ k. map sample_method (range_with_len 1 k)) end) c.new-drops.ensures.items c.new-slotted.ensures.items c.new-slots.ensures.items))
+    (sample_readable n c.requires)

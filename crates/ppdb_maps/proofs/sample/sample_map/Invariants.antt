@@ -1,0 +1,10 @@
+use Rattle.std.proofs.Common.{◌≡◌, map}
+use Rattle.std.specs.List.{range_with_len}
+use Rattle.ppdb_maps.specs.Sample.{sample_row, sample_method}
+use Rattle.ppdb_maps.proofs.sample.sample_map.Given as goal
+
+abbrev pub invariant-loop-before : goal.invariant-loop-before
+invariant-loop-before l = record {
+  rows : l.rows.items ≡ map (sample_row l.n) (range_with_len 1 l.before);
+  methods : l.methods.items ≡ map sample_method (range_with_len 1 l.before);
+}

@@ -1,0 +1,14 @@
+pub mod Customs
+pub mod Elements
+pub mod Fitting
+pub mod Links
+pub mod Lists
+pub mod Meanings
+pub mod Means
+pub mod PointMeanings
+pub mod Points
+pub mod Scopes
+pub mod Slots
+pub mod PastEnd
+pub mod Front
+pub mod Counts

@@ -1,0 +1,5 @@
+pub mod Fits
+pub mod FitsMethod
+pub mod Images
+pub mod Laws
+pub mod Moved
