@@ -7,5 +7,6 @@ pub mod Meanings
 pub mod Means
 pub mod PointMeanings
 pub mod Points
+pub mod RisingPoints
 pub mod Scopes
 pub mod Slots

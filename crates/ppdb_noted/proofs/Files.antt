@@ -1,5 +1,5 @@
 -- A file whose records stand at their items is the noted form of its value.
-use Rattle.std.proofs.Common.{◌≡◌, ℕ, suc, ◌+◌, ◌-◌, ◌<◌, ◌≤◌, ◌++◌, Bool, true, false, cond, List, [], ◌∷◌, refl, sym, ◌∙◌, ap, arith, subst, map, length, take, append-nil, append_assoc}
+use Rattle.std.proofs.Common.{◌≡◌, ℕ, suc, ◌+◌, ◌-◌, ◌<◌, ◌≤◌, ◌++◌, Bool, false, List, [], ◌∷◌, refl, sym, ◌∙◌, ap, arith, map, length, take, append-nil, append_assoc}
 use Rattle.std.specs.Prelude.{nat_lt, filter, sum_by}
 use Rattle.std.specs.List.{enumerate_from, flat_map}
 use Rattle.std.proofs.lemmas.Bool.{lt-ltb, ne_eqb}
@@ -63,22 +63,22 @@ not_low table row high c low = rw (ne_eqb c.parent.table table (λ e. omega (ari
 
 -- one part alone
 module _ {A : Type 0} (a b c d e f : List A) where
-  only_first : b ≡ [] → c ≡ [] → d ≡ [] → e ≡ [] → f ≡ [] → a ++ b ++ c ++ d ++ e ++ f ≡ a
+  pub only_first : b ≡ [] → c ≡ [] → d ≡ [] → e ≡ [] → f ≡ [] → a ++ b ++ c ++ d ++ e ++ f ≡ a
   only_first none_b none_c none_d none_e none_f = simp (none_b, none_c, none_d, none_e, none_f, append-nil) refl
 
-  only_second : a ≡ [] → c ≡ [] → d ≡ [] → e ≡ [] → f ≡ [] → a ++ b ++ c ++ d ++ e ++ f ≡ b
+  pub only_second : a ≡ [] → c ≡ [] → d ≡ [] → e ≡ [] → f ≡ [] → a ++ b ++ c ++ d ++ e ++ f ≡ b
   only_second none_a none_c none_d none_e none_f = simp (none_a, none_c, none_d, none_e, none_f, append-nil) refl
 
-  only_third : a ≡ [] → b ≡ [] → d ≡ [] → e ≡ [] → f ≡ [] → a ++ b ++ c ++ d ++ e ++ f ≡ c
+  pub only_third : a ≡ [] → b ≡ [] → d ≡ [] → e ≡ [] → f ≡ [] → a ++ b ++ c ++ d ++ e ++ f ≡ c
   only_third none_a none_b none_d none_e none_f = simp (none_a, none_b, none_d, none_e, none_f, append-nil) refl
 
-  only_fourth : a ≡ [] → b ≡ [] → c ≡ [] → e ≡ [] → f ≡ [] → a ++ b ++ c ++ d ++ e ++ f ≡ d
+  pub only_fourth : a ≡ [] → b ≡ [] → c ≡ [] → e ≡ [] → f ≡ [] → a ++ b ++ c ++ d ++ e ++ f ≡ d
   only_fourth none_a none_b none_c none_e none_f = simp (none_a, none_b, none_c, none_e, none_f, append-nil) refl
 
-  only_fifth : a ≡ [] → b ≡ [] → c ≡ [] → d ≡ [] → f ≡ [] → a ++ b ++ c ++ d ++ e ++ f ≡ e
+  pub only_fifth : a ≡ [] → b ≡ [] → c ≡ [] → d ≡ [] → f ≡ [] → a ++ b ++ c ++ d ++ e ++ f ≡ e
   only_fifth none_a none_b none_c none_d none_f = simp (none_a, none_b, none_c, none_d, none_f, append-nil) refl
 
-  only_sixth : a ≡ [] → b ≡ [] → c ≡ [] → d ≡ [] → e ≡ [] → a ++ b ++ c ++ d ++ e ++ f ≡ f
+  pub only_sixth : a ≡ [] → b ≡ [] → c ≡ [] → d ≡ [] → e ≡ [] → a ++ b ++ c ++ d ++ e ++ f ≡ f
   only_sixth none_a none_b none_c none_d none_e = simp (none_a, none_b, none_c, none_d, none_e) refl
 
 -- ---- scopes, after some before them

@@ -3,5 +3,9 @@ pub mod Lists
 pub mod Mapped
 pub mod NotedMeanings
 pub mod Orders
+pub mod Parents
 pub mod Rows
+pub mod Soundness
+pub mod Spread
 pub mod StableSort
+pub mod Values

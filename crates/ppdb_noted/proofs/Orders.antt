@@ -124,7 +124,7 @@ pub pairs_of : {A : Type 0} (key : A → ℕ) (from : ℕ) (xs : List A) → Ris
 pairs_of key from [] rise = tt
 pairs_of key from (x ∷ xs) rise = (each_above key (key x) xs rise.1, pairs_of key (key x) xs rise.1)
 
-rises_filter : {A : Type 0} (key : A → ℕ) (p : A → Bool) (from : ℕ) (xs : List A) → Rises key from xs → Rises key from (filter p xs)
+pub rises_filter : {A : Type 0} (key : A → ℕ) (p : A → Bool) (from : ℕ) (xs : List A) → Rises key from xs → Rises key from (filter p xs)
 rises_filter key p from [] rise = tt
 rises_filter key p from (x ∷ xs) rise = step (p x) (rises_filter key p (key x) xs rise.1)
   where
