@@ -5,8 +5,10 @@ pub mod Links
 pub mod Lists
 pub mod Meanings
 pub mod Means
+pub mod NamedParts
 pub mod PointMeanings
 pub mod Points
 pub mod RisingPoints
+pub mod RowImages
 pub mod Scopes
 pub mod Slots

@@ -14,11 +14,11 @@ use Rattle.ppdb_moved.specs.FitsMethod.{PointsRise}
 
 pub all_each : {A : Type 0} (P : A → Type 0) (xs : List A) → Each P xs → All P xs
 all_each P [] each = λ k d less. absurd (omega (arith, less))
-all_each P (x ∷ xs) each = λ k d less. at k d less
+all_each P (x ∷ xs) each = λ k d less. at k d less (all_each P xs each.1)
   where
-    at : (k : ℕ) (d : _) → k < length (x ∷ xs) → P (get_or (x ∷ xs) k d)
-    at zero d less = each.0
-    at (suc k) d less = all_each P xs each.1 k d (omega (arith, less))
+    at : (k : ℕ) (d : _) → k < length (x ∷ xs) → All P xs → P (get_or (x ∷ xs) k d)
+    at zero d less rest = each.0
+    at (suc k) d less rest = rest k d (omega (arith, less))
 
 pub all_pairs : {A : Type 0} (R : A → A → Type 0) (xs : List A) → Pairs R xs → AllPairs R xs
 all_pairs R [] pairs = λ i j d less within. absurd (omega (arith, within))

@@ -52,7 +52,7 @@ LinksMoved = (m : Map) (w : NotedFile) (method : ℕ) → (offsets_in m method �
 
 -- A file that a map fits, and the method's own parts of it.
 abbrev pub FitsAreOfMethods : Type 0
-FitsAreOfMethods = (first : Bool) (m : Map) (w : NotedFile) (method : ℕ) → 1 ≤ method → IsReadable m → SoundMoved w → Fits first m w
+FitsAreOfMethods = (first : Bool) (m : Map) (w : NotedFile) (method : ℕ) → 1 ≤ method → method ≤ 16777215 → IsReadable m → SoundMoved w → Fits first m w
     → Contains (named_rows first m w) (names 0x06 method) → FitsFile first m w method
 
 -- What a moved file says of the image of a method: at the image of each kept offset the image of what was said there, and the image of
