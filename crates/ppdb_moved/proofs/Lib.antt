@@ -12,3 +12,4 @@ pub mod RisingPoints
 pub mod RowImages
 pub mod Scopes
 pub mod Slots
+pub mod SoundItems
