@@ -18,7 +18,6 @@ use Rattle.ppdb_maps.specs.Map.{Map, MethodLine, moved_row, row_image, row_line,
 use Rattle.ppdb_maps.specs.Readable.{IsReadable, IsLineOf, IsRowOf}
 use Rattle.ppdb_tables.specs.declared.rows.MachineRow.{MachineRow}
 use Rattle.sequence_points.specs.declared.point.Point.{Point}
-use Rattle.sequence_points.proofs.Follows.{pairs-head, pairs-tail}
 use Rattle.ppdb_values.specs.declared.custom.CustomBody.{CustomBody}
 use Rattle.ppdb_values.specs.declared.custom.CustomBody.TheVariants.{Async, Hoisted, TypeDocuments, Unread}
 use Rattle.ppdb_values.specs.declared.custom.CustomValue.{CustomValue}
@@ -38,8 +37,9 @@ use Rattle.ppdb_moved.specs.Fits.{Fits, IsImaged, AreWithin, EndsWithin}
 use Rattle.ppdb_moved.specs.FitsMethod.{PointsRise, FitsScope, FitsMethod, FitsSlot, FitsSlots, FitsCustom, FitsEntry, FitsMachine, FitsFile}
 use Rattle.ppdb_moved.proofs.Elements.{each_in, in_each}
 use Rattle.ppdb_moved.proofs.NamedParts.{NamedParts, named_parts}
+use Rattle.ppdb_moved.proofs.RisingPoints.{points_are_rising}
 use Rattle.ppdb_moved.proofs.RowImages.{found_holds, moved_is_image, row_moved}
-use Rattle.ppdb_moved.proofs.Lists.{Each-both}
+use Rattle.ppdb_moved.proofs.Lists.{each_of_three}
 
 -- ---- readable maps
 
@@ -58,7 +58,7 @@ offsets_rise m ready method = by_drop (is_dropped m method)
     by_drop true = tt
     by_drop false = by_line (method_line m method) (found_holds (IsLineOf m) (λ l. nat_eq l.method method) m.methods ready.methods)
 
-moved_dropped : (m : Map) (row : ℕ) → is_dropped m row ≡ true → moved_row m 0x06 row ≡ 0
+pub moved_dropped : (m : Map) (row : ℕ) → is_dropped m row ≡ true → moved_row m 0x06 row ≡ 0
 moved_dropped m row is = ap (λ b. cond (nat_eq row 0) 0 (unwrap_or (cond b None (elim (count_of m 0x06) as (λ _. Option ℕ) [ None ↦ Some row | Some count ↦ row_line m 0x06 row ])) 0)) is ∙ by_zero (nat_eq row 0)
   where
     by_zero : (b : Bool) → ◌≡◌ {A = ℕ} (cond b 0 0) 0
@@ -138,13 +138,7 @@ module _ (first : Bool) (m : Map) (w : NotedFile) (method : ℕ) (above : 1 ≤ 
 
   method_fits : (e : MethodValue) → AllPairs (λ (p q : Point). p.offset < q.offset) e.points → Each (λ (p : Point). p.offset < old_size (offsets_in m e.method)) e.points
       → (is_dropped m e.method ≡ false → In (names 0x06 e.method)) → FitsMethod m method e
-  method_fits e rise below there = record { rise = rises (old_size (offsets_in m e.method)) e.points rise below; own = own e.method there }
-    where
-      rises : (end : ℕ) (ps : List Point) → AllPairs (λ (p q : Point). p.offset < q.offset) ps → Each (λ (p : Point). p.offset < end) ps → PointsRise end ps
-      rises end [] pairs below = tt
-      rises end (p ∷ []) pairs below = (below.0, tt)
-      rises end (p ∷ q ∷ ps) pairs below =
-          (All-head (λ (r : Point). p.offset < r.offset) q ps (pairs-head p (q ∷ ps) pairs), rises end (q ∷ ps) (pairs-tail p (q ∷ ps) pairs) below.1)
+  method_fits e rise under there = record { rise = points_are_rising (old_size (offsets_in m e.method)) e.points rise under; own = own e.method there }
 
   scope_fits : (value : FileValue) (s : NotedScope) → SoundNotedScope value s → s.range.end ≤ old_size (offsets_in m s.method)
       → (is_dropped m s.method ≡ false → In (names 0x06 s.method)) → FitsScope m method s
@@ -185,11 +179,6 @@ module _ (first : Bool) (m : Map) (w : NotedFile) (method : ℕ) (above : 1 ≤ 
         (there (ap (λ d. not (nat_eq c.parent.table 0x06 && d)) alive ∙ and_no (nat_eq c.parent.table 0x06))));
     slots = body_fits value (offsets_in m c.parent.row) (kind_of [] c.kind) c.value sound.body within;
   }
-
--- each of three facts of an item give one more
-each_of_three : {A : Type 0} (P Q R S : A → Type 0) (xs : List A) → ((x : A) → P x → Q x → R x → S x) → Each P xs → Each Q xs → Each R xs → Each S xs
-each_of_three P Q R S [] all p q r = tt
-each_of_three P Q R S (x ∷ xs) all p q r = (all x p.0 q.0 r.0, each_of_three P Q R S xs all p.1 q.1 r.1)
 
 pub fits_file : FitsAreOfMethods
 fits_file first m w method above below ready sound fits named = record {

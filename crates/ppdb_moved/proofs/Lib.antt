@@ -13,3 +13,4 @@ pub mod RowImages
 pub mod Scopes
 pub mod Slots
 pub mod SoundItems
+pub mod SoundMoves

@@ -1,7 +1,9 @@
 -- The points that stay rise, and their offsets are offsets.
 use Rattle.std.proofs.Common.{◌≡◌, ◌≢◌, ℕ, zero, suc, ◌+◌, ◌<◌, ◌≤◌, ◌++◌, Bool, true, false, cond, List, [], ◌∷◌, refl, sym, subst, arith, inl, inr, length, get_or}
 use Rattle.std.specs.Prelude.{All, AllPairs}
+use Rattle.std.proofs.lemmas.List.Elements.{All-head}
 use Rattle.std.proofs.lemmas.List.Kept.{AllPairs-cons}
+use Rattle.sequence_points.proofs.Follows.{pairs-head, pairs-tail}
 use Rattle.ppdb_base.specs.Offsets.{Offsets, every, gone, lined, Rise, Kept, Moves, IsNextIn, KeepsBetween, all_offsets, stop_runs, moved, old_size, is_kept_between}
 use Rattle.ppdb_base.specs.declared.offsets.Run.{Run}
 use Rattle.ppdb_base.proofs.Moved.{moves_right, moved_is, moved_kept, moved_never_falls, moved_passes, is_kept}
@@ -79,3 +81,10 @@ module _ (o : Offsets) (rise : Rise o) (live : o ≢ gone) where
           → Pairs (λ (p q : Point). p.offset < q.offset) (cond b (record p { offset = moved o p.offset } ∷ moved_points o ps) (moved_points o ps))
       step true is rest = (each_above (moved o p.offset) ps points.1 (passes (is_kept o rise p.offset (first_offset (old_size o) ps) is)), rest)
       step false is rest = rest
+
+-- points whose offsets rise below an end
+pub points_are_rising : (end : ℕ) (ps : List Point) → AllPairs (λ (p q : Point). p.offset < q.offset) ps → Each (λ (p : Point). p.offset < end) ps → PointsRise end ps
+points_are_rising end [] pairs below = tt
+points_are_rising end (p ∷ []) pairs below = (below.0, tt)
+points_are_rising end (p ∷ q ∷ ps) pairs below =
+    (All-head (λ (r : Point). p.offset < r.offset) q ps (pairs-head p (q ∷ ps) pairs), points_are_rising end (q ∷ ps) (pairs-tail p (q ∷ ps) pairs) below.1)

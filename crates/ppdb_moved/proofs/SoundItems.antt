@@ -226,3 +226,30 @@ ranges_moved o rise live a b a_order b_order a_within b_within filled comes lies
     by_order : ComesAfter a b → ComesAfter (moved_range o a) (moved_range o b)
     by_order (inl later) = by_start (moved_never_falls o rise live a.start b.start (omega (arith, later)) (omega (arith, b_order, b_within)))
     by_order (inr (same, within)) = inr (ap (moved o) same, moved_never_falls o rise live b.end a.end within a_within)
+
+-- an offset below 2 ^ 31 moves to one
+pub small_after : (m : Map) → IsReadable m → (method : ℕ) → Rise (offsets_in m method) → (x : ℕ) → x < 0x80000000 → x ≤ old_size (offsets_in m method) → moved (offsets_in m method) x < 0x80000000
+small_after m ready method rise x small within = small_in (offsets_in m method) rise (size_fits m ready method) x small within
+
+-- what a body says of its kind is the same where the documents are as many
+pub body_same : (v u : FileValue) → (count (most v) 0x30 ≡ count (most u) 0x30) → (kind : Kind) (body : CustomBody) → IsBodyOfKind (most v) kind body → IsBodyOfKind (most u) kind body
+body_same v u same kinds.Async (Async handler steps) sound = sound
+body_same v u same kinds.Hoisted (Hoisted slots) sound = sound
+body_same v u same kinds.TypeDocuments (TypeDocuments documents) sound = λ k d less. ((sound k d less).0, subst (λ n. get_or documents k d ≤ n) same (sound k d less).1)
+body_same v u same kinds.Free (Unread content) sound = tt
+body_same v u same kinds.Unknown (Unread content) sound = tt
+body_same v u same kinds.Async (Hoisted slots) sound = absurd sound
+body_same v u same kinds.Async (TypeDocuments rows) sound = absurd sound
+body_same v u same kinds.Async (Unread content) sound = absurd sound
+body_same v u same kinds.Hoisted (Async handler steps) sound = absurd sound
+body_same v u same kinds.Hoisted (TypeDocuments rows) sound = absurd sound
+body_same v u same kinds.Hoisted (Unread content) sound = absurd sound
+body_same v u same kinds.TypeDocuments (Async handler steps) sound = absurd sound
+body_same v u same kinds.TypeDocuments (Hoisted slots) sound = absurd sound
+body_same v u same kinds.TypeDocuments (Unread content) sound = absurd sound
+body_same v u same kinds.Free (Async handler steps) sound = absurd sound
+body_same v u same kinds.Free (Hoisted slots) sound = absurd sound
+body_same v u same kinds.Free (TypeDocuments rows) sound = absurd sound
+body_same v u same kinds.Unknown (Async handler steps) sound = absurd sound
+body_same v u same kinds.Unknown (Hoisted slots) sound = absurd sound
+body_same v u same kinds.Unknown (TypeDocuments rows) sound = absurd sound
