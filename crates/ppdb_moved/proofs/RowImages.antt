@@ -69,5 +69,10 @@ at_repeat (suc n) (suc i) d x less = at_repeat n i d x (omega (arith, less))
 
 pub count_most : (value : FileValue) (table : ℕ) → table < 0x2d → count (record value { rows = repeat 64 (16777215 ∷ []) }) table ≡ 16777215
 count_most value table less =
-    rw (ne_eqb table 0x30 (λ e. absurd (omega (arith, less, e))), ne_eqb table 0x32 (λ e. absurd (omega (arith, less, e))), ne_eqb table 0x33 (λ e. absurd (omega (arith, less, e))),
-    ne_eqb table 0x34 (λ e. absurd (omega (arith, less, e))), ne_eqb table 0x35 (λ e. absurd (omega (arith, less, e)))) (at_repeat 64 table _ 16777215 (omega (arith, less)))
+    rw (
+      ne_eqb table 0x30 (λ e. absurd (omega (arith, less, e))),
+      ne_eqb table 0x32 (λ e. absurd (omega (arith, less, e))),
+      ne_eqb table 0x33 (λ e. absurd (omega (arith, less, e))),
+      ne_eqb table 0x34 (λ e. absurd (omega (arith, less, e))),
+      ne_eqb table 0x35 (λ e. absurd (omega (arith, less, e))),
+    ) (at_repeat 64 table _ 16777215 (omega (arith, less)))

@@ -152,10 +152,15 @@ step_moved : (m : Map) → IsReadable m → ((n : ℕ) → Rise (offsets_in m n)
     → IsImaged m (names 0x06 step.method) → IsStep (moved_step m method step) × ((moved_step m method step).method ≤ count (most u) 0x06)
 step_moved m ready rise v u method step sound keeps image =
     let row = row_moved m ready 0x06 step.method sound.0.2 sound.1 image in
-    let below : moved_row m 0x06 step.method ≤ 16777215 = row.1 in
-    ((small_in (offsets_in m method) (rise method) (size_fits m ready method) step.pause sound.0.0 (kept_within (offsets_in m method) (rise method) step.pause keeps.0.0 keeps.0.1),
-    small_in (offsets_in m step.method) (rise step.method) (size_fits m ready step.method) step.resume sound.0.1 (kept_within (offsets_in m step.method) (rise step.method) step.resume keeps.1.0 keeps.1.1),
-    row.0, omega (arith, below)), row.1)
+    let below : moved_row m 0x06 step.method ≤ 16777215 = row.1 in (
+      (
+        small_in (offsets_in m method) (rise method) (size_fits m ready method) step.pause sound.0.0 (kept_within (offsets_in m method) (rise method) step.pause keeps.0.0 keeps.0.1),
+        small_in (offsets_in m step.method) (rise step.method) (size_fits m ready step.method) step.resume sound.0.1 (kept_within (offsets_in m step.method) (rise step.method) step.resume keeps.1.0 keeps.1.1),
+        row.0,
+        omega (arith, below),
+      ),
+      row.1,
+    )
 
 steps_moved : (m : Map) → IsReadable m → ((n : ℕ) → Rise (offsets_in m n)) → (v u : FileValue) (method : ℕ) (steps : List AsyncStep)
     → Each (λ (step : AsyncStep). IsStep step × (step.method ≤ count (most v) 0x06)) steps → Each (KeepsStep m method) steps → Each (IsImaged m) (map (λ (step : AsyncStep). names 0x06 step.method) steps)
@@ -174,10 +179,11 @@ handler_moved m ready rise method (Some x) sound keeps =
 pub body_kept : (m : Map) → IsReadable m → ((n : ℕ) → Rise (offsets_in m n)) → (v u : FileValue) → (count (most v) 0x30 ≡ count (most u) 0x30) → (method : ℕ) (kind : Kind) (body : CustomBody)
     → IsBodyOfKind (most v) kind body → KeepsAsync m method body → AreWithin (old_size (offsets_in m method)) body → Each (IsImaged m) (in_steps body)
     → IsBodyOfKind (most u) kind (moved_body m method body)
-body_kept m ready rise v u same method kinds.Async (Async handler steps) sound keeps within images =
-    (handler_moved m ready rise method handler sound.0 keeps.0,
-    all_each (λ (step : AsyncStep). IsStep step × (step.method ≤ count (most u) 0x06)) (map (moved_step m method) steps)
-    (steps_moved m ready rise v u method steps (each_all (λ (step : AsyncStep). IsStep step × (step.method ≤ count (most v) 0x06)) steps sound.1) keeps.1 images))
+body_kept m ready rise v u same method kinds.Async (Async handler steps) sound keeps within images = (
+  handler_moved m ready rise method handler sound.0 keeps.0,
+  all_each (λ (step : AsyncStep). IsStep step × (step.method ≤ count (most u) 0x06)) (map (moved_step m method) steps)
+      (steps_moved m ready rise v u method steps (each_all (λ (step : AsyncStep). IsStep step × (step.method ≤ count (most v) 0x06)) steps sound.1) keeps.1 images),
+)
 body_kept m ready rise v u same method kinds.Hoisted (Hoisted slots) sound keeps within images =
     all_each IsSlot (map (moved_slot (offsets_in m method)) slots) (slots_moved (offsets_in m method) (rise method) (size_fits m ready method) slots (each_all IsSlot slots sound) within)
 body_kept m ready rise v u same method kinds.TypeDocuments (TypeDocuments documents) sound keeps within images =

@@ -1,6 +1,6 @@
 -- A sound file that a map fits is sound, part by part, after it has moved.
-use Rattle.std.proofs.Common.{◌≡◌, ◌≢◌, ℕ, zero, suc, ◌<◌, ◌≤◌, ◌&&◌, ◌||◌, ◌⊎◌, not, Bool, true, false, cond, List, [], ◌∷◌, Option, Some, None, map, length, refl, sym, ◌∙◌, ap, subst, arith, inl, inr}
-use Rattle.std.specs.Prelude.{nat_eq, nat_lt, All, AllPairs, IfSome, IsSome, Contains, unwrap_or, position}
+use Rattle.std.proofs.Common.{◌≡◌, ◌≢◌, ℕ, zero, suc, ◌+◌, ◌*◌, ◌<◌, ◌≤◌, ◌&&◌, ◌||◌, ◌⊎◌, not, Bool, true, false, cond, List, [], ◌∷◌, Option, Some, None, map, length, refl, sym, ◌∙◌, ap, subst, arith, inl, inr}
+use Rattle.std.specs.Prelude.{nat_eq, nat_lt, ◌==◌, All, AllPairs, IfSome, IsSome, Contains, unwrap_or, position}
 use Rattle.std.specs.List.{filter_map, repeat, sum_by}
 use Rattle.std.specs.Option.{option_map}
 use Rattle.std.proofs.lemmas.Bool.{ltb-true, not-false, both_ways, ne_eqb}
@@ -12,11 +12,16 @@ use Rattle.ppdb_maps.specs.Map.{Map, moved_row, row_image, offsets_in, is_droppe
 use Rattle.ppdb_maps.specs.Readable.{IsReadable}
 use Rattle.ppdb_tables.specs.declared.parent.Parent.{Parent}
 use Rattle.ppdb_tables.specs.declared.rows.MachineRow.{MachineRow}
+use Rattle.row_layout.specs.Columns.{parent_tables}
 use Rattle.ppdb_tables.specs.Parents.{coded_in}
+use Rattle.ppdb_tables.specs.RawTables.{row_at}
 use Rattle.ppdb_values.specs.declared.custom.CustomValue.{CustomValue}
 use Rattle.ppdb_values.specs.declared.file.FileValue.{FileValue}
 use Rattle.ppdb_values.specs.declared.file.MethodValue.{MethodValue}
+use Rattle.ppdb_values.specs.declared.file.DocumentValue.{DocumentValue}
 use Rattle.ppdb_values.specs.declared.import.ImportScopeValue.{ImportScopeValue}
+use Rattle.ppdb_values.specs.declared.import.ImportValue.{ImportValue}
+use Rattle.ppdb_values.specs.Chains.{NeverEnds, parent_at, ancestor_of}
 use Rattle.ppdb_values.specs.declared.noted.Custom.{Custom}
 use Rattle.ppdb_values.specs.declared.noted.Noted.{Noted}
 use Rattle.ppdb_values.specs.declared.scope.VariableValue.{VariableValue}
@@ -36,10 +41,11 @@ use Rattle.ppdb_noted.specs.Unnoted.{value_of_noted}
 use Rattle.ppdb_noted.specs.Noted.{items_of, scope_of}
 use Rattle.sound_values.specs.Scopes.{SoundVariable, SoundConstant, SoundScope}
 use Rattle.sound_values.specs.Imports.{SoundImport, SoundImportScope}
-use Rattle.ppdb_noted.proofs.Lists.{Each-weaker, Each-map, Each-unmap, each_row, row_each, pairs_row, row_pairs}
+use Rattle.ppdb_noted.proofs.Mapped.{row_map}
+use Rattle.ppdb_noted.proofs.Lists.{Each-weaker, Pairs-weaker, Each-map, Each-unmap, each_row, row_each, pairs_row, row_pairs}
 use Rattle.ppdb_moved.specs.Fits.{Fits, IsImaged, HasSlot, KeepsAsync, AreWithin}
 use Rattle.ppdb_moved.specs.FitsMethod.{PointsRise}
-use Rattle.ppdb_moved.specs.Moved.{moved_range, is_empty, with_item, moved_variable, moved_constant, moved_import, moved_import_scope, with_points, moved_method, scope_image, moved_scope, moved_machine, moved_custom, moved_file}
+use Rattle.ppdb_moved.specs.Moved.{moved_range, is_empty, with_item, moved_variable, moved_constant, moved_import, moved_import_scope, with_points, moved_method, scope_image, moved_scope, moved_machine, moved_body, moved_custom, moved_file}
 use Rattle.ppdb_moved.proofs.Fitting.{offsets_rise, moved_dropped}
 use Rattle.ppdb_moved.proofs.Elements.{each_in}
 use Rattle.ppdb_moved.proofs.Lists.{Each-filter_map, Pairs-filter_map, Each-both, each_of_three, each_of_four}
@@ -79,6 +85,13 @@ note_kept v u same table c sound = record { stands_on = sound.stands_on; body = 
 
 notes_kept : (v u : FileValue) → (count (most v) 0x30 ≡ count (most u) 0x30) → (table : ℕ) (cs : List Custom) → Each (SoundNote (most v) table) cs → Each (SoundNote (most u) table) cs
 notes_kept v u same table cs each = Each-weaker (SoundNote (most v) table) (SoundNote (most u) table) (note_kept v u same table) cs each
+
+ancestors_same : (f g : ℕ → ℕ) → ((row : ℕ) → f row ≡ g row) → (row steps : ℕ) → ancestor_of f row steps ≡ ancestor_of g row steps
+ancestors_same f g same row zero = refl
+ancestors_same f g same row (suc steps) = ap (λ r. ancestor_of f r steps) (same row) ∙ ancestors_same f g same (g row) steps
+
+never_same : (f g : ℕ → ℕ) → ((row : ℕ) → f row ≡ g row) → (row : ℕ) → NeverEnds f row → NeverEnds g row
+never_same f g same row never steps e = never steps (ancestors_same f g same row steps ∙ e)
 
 module _ (first : Bool) (m : Map) (w : NotedFile) (ready : IsReadable m) (sound : SoundMoved w) (fits : Fits first m w) where
   abbrev old : FileValue
@@ -178,8 +191,8 @@ module _ (first : Bool) (m : Map) (w : NotedFile) (ready : IsReadable m) (sound 
   methods_apart : Pairs (λ (a b : MethodValue). a.method ≢ b.method) (moved_file m w).methods
   methods_apart = Pairs-filter_map (moved_method m) MethodFacts (λ (a b : MethodValue). a.method ≢ b.method) (λ (a b : MethodValue). a.method ≢ b.method)
       (λ e f p q is also facts more apart same.
-        apart (one_method e.method f.method (facts.there (stays_live e p is)).0 (more.there (stays_live f q also)).0 facts.sound_e.row.0 more.sound_e.row.0
-        (facts.image (stays_live e p is)).0 (more.image (stays_live f q also)).0 (sym (method_row e p is) ∙ same ∙ method_row f q also))) w.methods method_facts sound.methods_differ
+      apart (one_method e.method f.method (facts.there (stays_live e p is)).0 (more.there (stays_live f q also)).0 facts.sound_e.row.0 more.sound_e.row.0
+      (facts.image (stays_live e p is)).0 (more.image (stays_live f q also)).0 (sym (method_row e p is) ∙ same ∙ method_row f q also))) w.methods method_facts sound.methods_differ
 
   -- ---- scopes
 
@@ -305,10 +318,155 @@ module _ (first : Bool) (m : Map) (w : NotedFile) (ready : IsReadable m) (sound 
       lie a b c d is also facts more both same =
           let first = scope_stays a c is in let second = scope_stays b d also in
           let one : a.method ≡ b.method = one_method a.method b.method (facts.there first.live) (more.there second.live) facts.sound_s.itself.method.0 more.sound_s.itself.method.0
-              (facts.image first.live) (more.image second.live) (ap (λ (s : NotedScope). s.method) first.is ∙ same ∙ sym (ap (λ (s : NotedScope). s.method) second.is)) in
+          (facts.image first.live) (more.image second.live) (ap (λ (s : NotedScope). s.method) first.is ∙ same ∙ sym (ap (λ (s : NotedScope). s.method) second.is)) in
           let within : b.range.end ≤ old_size (offsets_in m a.method) = subst (λ n. b.range.end ≤ old_size (offsets_in m n)) (sym one) more.within in
           let moved_both = ranges_moved (offsets_in m a.method) (rise a.method) (live_of m a.method first.live) a.range b.range facts.sound_s.itself.not_empty more.sound_s.itself.not_empty facts.within within
-              first.filled (both one).0 (both one).1 in
+          first.filled (both one).0 (both one).1 in
           subst (λ (t : NotedScope). ComesAfter t.range d.range × IsInOrAfter t.range d.range) first.is
           (subst (λ (t : NotedScope). ComesAfter (scope_image m a).range t.range × IsInOrAfter (scope_image m a).range t.range) second.is
           (subst (λ n. ComesAfter (moved_range (offsets_in m a.method) a.range) (moved_range (offsets_in m n) b.range) × IsInOrAfter (moved_range (offsets_in m a.method) a.range) (moved_range (offsets_in m n) b.range)) one moved_both))
+
+  -- ---- import scopes
+
+  imports_moved : (xs : List (Noted ImportScopeValue)) → Each (λ (n : Noted ImportScopeValue). SoundImportScope (most old) n.item × Each (SoundNote (most old) 0x35) n.customs) xs
+      → Each (λ (n : Noted ImportScopeValue). Each (λ i. Each (IsImaged m) (in_import i)) n.item.imports) xs
+      → Each (λ (n : Noted ImportScopeValue). SoundImportScope (most new) n.item × Each (SoundNote (most new) 0x35) n.customs) (map (with_item (moved_import_scope m)) xs)
+  imports_moved [] each named = tt
+  imports_moved (x ∷ xs) each named = (
+    (
+      record {
+        parent = subst (λ n. x.item.parent ≤ n) imports_as_many each.0.0.parent;
+        imports = row_each (SoundImport (most new)) (map (moved_import m) x.item.imports)
+            (all_moved x.item.imports (each_row (SoundImport (most old)) x.item.imports each.0.0.imports) named.0);
+      },
+      notes_kept old new refl 0x35 x.customs each.0.1,
+    ),
+    imports_moved xs each.1 named.1,
+  )
+    where
+      all_moved : (is : List ImportValue) → Each (SoundImport (most old)) is → Each (λ i. Each (IsImaged m) (in_import i)) is → Each (SoundImport (most new)) (map (moved_import m) is)
+      all_moved [] each named = tt
+      all_moved (i ∷ is) each named = (import_moved m ready old new i each.0 named.0, all_moved is each.1 named.1)
+
+  parent_kept : (row : ℕ) → parent_at (λ (n : Noted ImportScopeValue). n.item.parent) (map (with_item (moved_import_scope m)) w.imports) row ≡ parent_at (λ (n : Noted ImportScopeValue). n.item.parent) w.imports row
+  parent_kept row = ap (λ o. unwrap_or (option_map (λ (n : Noted ImportScopeValue). n.item.parent) o) 0) (row_map (with_item (moved_import_scope m)) w.imports row) ∙ of_item (row_at w.imports row)
+    where
+      of_item : (o : Option (Noted ImportScopeValue)) → unwrap_or (option_map (λ (n : Noted ImportScopeValue). n.item.parent) (option_map (with_item (moved_import_scope m)) o)) 0
+          ≡ unwrap_or (option_map (λ (n : Noted ImportScopeValue). n.item.parent) o) 0
+      of_item None = refl
+      of_item (Some n) = refl
+
+  -- ---- state machines
+
+  record MachineFacts (r : MachineRow) : Type 0 where
+    sound_r : SoundMachine (most old) r
+    image : live_machine m r ≡ true → IsImaged m (names 0x06 r.move_next) × IsImaged m (names 0x06 r.kickoff)
+    there : live_machine m r ≡ true → Contains (named_rows first m w) (names 0x06 r.move_next) × Contains (named_rows first m w) (names 0x06 r.kickoff)
+
+  machine_facts : Each MachineFacts w.machines
+  machine_facts = each_of_three (SoundMachine (most old)) _ _ MachineFacts w.machines (λ r a b c. record { sound_r = a; image = b; there = c }) sound.machines images.machines inside.machines
+
+  record MachineStays (r s : MachineRow) : Type 0 where
+    live : live_machine m r ≡ true
+    moves : s.move_next ≡ moved_row m 0x06 r.move_next
+    starts : s.kickoff ≡ moved_row m 0x06 r.kickoff
+
+  machine_stays : (r s : MachineRow) → moved_machine m r ≡ Some s → MachineStays r s
+  machine_stays r s eq = by_drop (is_dropped m r.move_next || is_dropped m r.kickoff) refl eq
+    where
+      by_drop : (b : Bool) → is_dropped m r.move_next || is_dropped m r.kickoff ≡ b
+          → cond b None (Some (record { move_next = moved_row m 0x06 r.move_next; kickoff = moved_row m 0x06 r.kickoff })) ≡ Some s → MachineStays r s
+      by_drop true goes eq = absurd (cc)
+      by_drop false stays eq =
+          let is : record { move_next = moved_row m 0x06 r.move_next; kickoff = moved_row m 0x06 r.kickoff } ≡ s = some_of _ s eq in
+          record { live = ap not stays; moves = sym (ap (λ (t : MachineRow). t.move_next) is); starts = sym (ap (λ (t : MachineRow). t.kickoff) is) }
+
+  machines_moved : Each (SoundMachine (most new)) (moved_file m w).machines
+  machines_moved = Each-filter_map (moved_machine m) MachineFacts (SoundMachine (most new)) (λ r s eq facts.
+      let stays = machine_stays r s eq in
+      record {
+        move_next = subst (HasRow (most new) 0x06) (sym stays.moves) (row_moved m ready 0x06 r.move_next facts.sound_r.move_next.0 facts.sound_r.move_next.1 (facts.image stays.live).0);
+        kickoff = subst (HasRow (most new) 0x06) (sym stays.starts) (row_moved m ready 0x06 r.kickoff facts.sound_r.kickoff.0 facts.sound_r.kickoff.1 (facts.image stays.live).1);
+      }) w.machines machine_facts
+
+  moves_apart : Pairs (λ (a b : MachineRow). a.move_next ≢ b.move_next) (moved_file m w).machines
+  moves_apart = Pairs-filter_map (moved_machine m) MachineFacts (λ (a b : MachineRow). a.move_next ≢ b.move_next) (λ (a b : MachineRow). a.move_next ≢ b.move_next)
+      (λ a b c d is also facts more apart same.
+      let first_stays = machine_stays a c is in let second = machine_stays b d also in
+      apart (one_method a.move_next b.move_next (facts.there first_stays.live).0 (more.there second.live).0 facts.sound_r.move_next.0 more.sound_r.move_next.0
+      (facts.image first_stays.live).0 (more.image second.live).0 (sym first_stays.moves ∙ same ∙ second.moves))) w.machines machine_facts sound.moved_differ
+
+  kickoffs_apart : Pairs (λ (a b : MachineRow). a.kickoff ≢ b.kickoff) (moved_file m w).machines
+  kickoffs_apart = Pairs-filter_map (moved_machine m) MachineFacts (λ (a b : MachineRow). a.kickoff ≢ b.kickoff) (λ (a b : MachineRow). a.kickoff ≢ b.kickoff)
+      (λ a b c d is also facts more apart same.
+      let first_stays = machine_stays a c is in let second = machine_stays b d also in
+      apart (one_method a.kickoff b.kickoff (facts.there first_stays.live).1 (more.there second.live).1 facts.sound_r.kickoff.0 more.sound_r.kickoff.0
+      (facts.image first_stays.live).1 (more.image second.live).1 (sym first_stays.starts ∙ same ∙ second.starts))) w.machines machine_facts sound.kickoffs_differ
+
+  -- ---- custom records
+
+  record CustomFacts (c : CustomValue) : Type 0 where
+    low : c.parent.table < 0x2d
+    sound_c : SoundCustom (most old) c
+    within : AreWithin (old_size (offsets_in m c.parent.row)) c.value
+    async : live_custom m c ≡ true → KeepsAsync m c.parent.row c.value
+    image : live_custom m c ≡ true → IsImaged m (names c.parent.table c.parent.row) × Each (IsImaged m) (in_steps c.value)
+
+  custom_facts : Each CustomFacts w.customs
+  custom_facts = each_of_four (λ c. (c.parent.table < 0x2d) × SoundCustom (most old) c) _ _ _ CustomFacts w.customs
+      (λ c a b d e. record { low = a.0; sound_c = a.1; within = b; async = d; image = e }) sound.customs fits.hoisted fits.async images.customs
+
+  tag_kept : (table row other : ℕ) → IsSome (coded_in (record { table = table; row = row })) → IsSome (coded_in (record { table = table; row = other }))
+  tag_kept table row other is = by_place (position (λ t. t == table) parent_tables) is
+    where
+      by_place : (o : Option ℕ) → IsSome (option_map (λ tag. row * 32 + tag) o) → IsSome (option_map (λ tag. other * 32 + tag) o)
+      by_place None is = is
+      by_place (Some tag) is = refl
+
+  custom_moved : (c d : CustomValue) → moved_custom m c ≡ Some d → CustomFacts c → (d.parent.table < 0x2d) × SoundCustom (most new) d
+  custom_moved c d eq facts = by_drop (nat_eq c.parent.table 0x06 && is_dropped m c.parent.row) refl eq
+    where
+      image : CustomValue
+      image = record { parent = record { table = c.parent.table; row = moved_row m c.parent.table c.parent.row }; kind = c.kind; value = moved_body m c.parent.row c.value }
+
+      most_rows : count (most old) c.parent.table ≡ 16777215
+      most_rows = count_most old c.parent.table facts.low
+
+      sound_image : live_custom m c ≡ true → SoundCustom (most new) image
+      sound_image live =
+          let row = row_moved m ready c.parent.table c.parent.row facts.sound_c.parent.0 (subst (λ n. c.parent.row ≤ n) most_rows facts.sound_c.parent.1) (facts.image live).0 in
+          record {
+            tag = tag_kept c.parent.table c.parent.row (moved_row m c.parent.table c.parent.row) facts.sound_c.tag;
+            parent = (row.0, subst (λ n. moved_row m c.parent.table c.parent.row ≤ n) (sym (count_most new c.parent.table facts.low)) row.1);
+            stands_on = facts.sound_c.stands_on;
+            body = body_kept m ready rise old new refl c.parent.row (kind_of [] c.kind) c.value facts.sound_c.body (facts.async live) facts.within (facts.image live).1;
+          }
+
+      by_drop : (b : Bool) → nat_eq c.parent.table 0x06 && is_dropped m c.parent.row ≡ b → cond b None (Some image) ≡ Some d → (d.parent.table < 0x2d) × SoundCustom (most new) d
+      by_drop true goes eq = absurd (cc)
+      by_drop false stays eq = subst (λ (e : CustomValue). (e.parent.table < 0x2d) × SoundCustom (most new) e) (some_of image d eq) (facts.low, sound_image (ap not stays))
+
+  -- ---- the file
+
+  documents_kept : (xs : List (Noted DocumentValue)) → Each (λ (n : Noted DocumentValue). Each (SoundNote (most old) 0x30) n.customs) xs → Each (λ (n : Noted DocumentValue). Each (SoundNote (most new) 0x30) n.customs) xs
+  documents_kept [] each = tt
+  documents_kept (x ∷ xs) each = (notes_kept old new refl 0x30 x.customs each.0, documents_kept xs each.1)
+
+  pub moved_sound : SoundMoved (moved_file m w)
+  moved_sound = record {
+    documents = documents_kept w.documents sound.documents;
+    names_differ = sound.names_differ;
+    methods = methods_moved;
+    methods_differ = methods_apart;
+    scopes = scopes_moved;
+    by_start = Pairs-weaker (λ (a b : NotedScope). a.method ≡ b.method → ComesAfter a.range b.range × IsInOrAfter a.range b.range) (λ (a b : NotedScope). a.method ≡ b.method → ComesAfter a.range b.range)
+        (λ a b both e. (both e).0) (moved_file m w).scopes scopes_lie;
+    nested = Pairs-weaker (λ (a b : NotedScope). a.method ≡ b.method → ComesAfter a.range b.range × IsInOrAfter a.range b.range) (λ (a b : NotedScope). a.method ≡ b.method → IsInOrAfter a.range b.range)
+        (λ a b both e. (both e).1) (moved_file m w).scopes scopes_lie;
+    imports = imports_moved w.imports sound.imports images.imports;
+    chains_end = λ row never. sound.chains_end row (never_same _ _ parent_kept row never);
+    machines = machines_moved;
+    moved_differ = moves_apart;
+    kickoffs_differ = kickoffs_apart;
+    customs = Each-filter_map (moved_custom m) CustomFacts (λ c. (c.parent.table < 0x2d) × SoundCustom (most new) c) custom_moved w.customs custom_facts;
+  }

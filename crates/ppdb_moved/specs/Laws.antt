@@ -64,3 +64,7 @@ pub record MovedMeans (m : Map) (w : NotedFile) (method : ℕ) : Type 0 where
 
 abbrev pub FilesMean : Type 0
 FilesMean = (first : Bool) (m : Map) (w : NotedFile) (method : ℕ) → SoundMoved w → FitsFile first m w method → MovedMeans m w method
+
+-- A sound file that a map fits is sound, part by part, after it has moved.
+abbrev pub MovedIsSound : Type 0
+MovedIsSound = (first : Bool) (m : Map) (w : NotedFile) → IsReadable m → SoundMoved w → Fits first m w → SoundMoved (moved_file m w)

@@ -4,4 +4,7 @@
 
 mod laws;
 
-pub use laws::{files_mean, fits_are_of_methods, links_mean, points_mean, scopes_mean, slots_mean};
+pub use laws::{
+    files_mean, fits_are_of_methods, links_mean, moved_is_sound, points_mean, scopes_mean,
+    slots_mean,
+};
