@@ -75,7 +75,7 @@ found_within {A} p (x ∷ xs) any = rw (position_cons p x xs) (step (p x) any (f
 abbrev pub NamesDiffer : List (Noted DocumentValue) → Type 0
 NamesDiffer documents = Pairs (λ a b. a.item.name ≢ b.item.name) documents
 
-each_row_at : {A : Type 0} (P : A → Type 0) (xs : List A) (i : ℕ) (x : A) → Each P xs → row_at xs (suc i) ≡ Some x → P x
+pub each_row_at : {A : Type 0} (P : A → Type 0) (xs : List A) (i : ℕ) (x : A) → Each P xs → row_at xs (suc i) ≡ Some x → P x
 each_row_at P [] i x each here = cc
 each_row_at P (y ∷ ys) zero x each here = let same : y ≡ x = cc in subst P same each.0
 each_row_at P (y ∷ ys) (suc i) x each here = each_row_at P ys i x each.1 here
@@ -129,9 +129,11 @@ firsts_differ names (d ∷ ds) = step (among names d.name) (firsts_differ names 
     step : (b : Bool) → Pairs (λ a b. a.name ≢ b.name) (firsts names ds) → Pairs (λ a b. a.name ≢ b.name) (firsts (d.name ∷ names) ds)
         → Pairs (λ a b. a.name ≢ b.name) (cond b (firsts names ds) (d ∷ firsts (d.name ∷ names) ds))
     step true rest other = rest
-    step false rest other =
-        (Each-weaker (λ e. among (d.name ∷ names) e.name ≡ false) (λ e. d.name ≢ e.name) (λ e new. bytes_differ d.name e.name (or_false (bytes_eq d.name e.name) (among names e.name) new).0)
-        (firsts (d.name ∷ names) ds) (firsts_new (d.name ∷ names) ds), other)
+    step false rest other = (
+      Each-weaker (λ e. among (d.name ∷ names) e.name ≡ false) (λ e. d.name ≢ e.name) (λ e new. bytes_differ d.name e.name (or_false (bytes_eq d.name e.name) (among names e.name) new).0)
+          (firsts (d.name ∷ names) ds) (firsts_new (d.name ∷ names) ds),
+      other,
+    )
 
 -- a name that is there stays there, but for the names that are left out
 pub firsts_has : (names : List (List ℕ)) (ds : List DocumentValue) (name : List ℕ) → is_named ds name ≡ true → among names name ≡ false → is_named (firsts names ds) name ≡ true

@@ -136,7 +136,7 @@ module _ (file : NotedFile) (sound : SoundParts file) where
       ∙ ap (λ s. record second { scopes = s }) (map_same (renumbered_scope 0) file.scopes (each_of _ scope_stays file.scopes))
       ∙ ap (λ i. record third { imports = i }) (map_same (with_item (renumbered_import 0)) file.imports (each_of _ import_stays file.imports))
       ∙ ap (λ c. record fourth { customs = c })
-        (map_same (renumbered_custom (joined_row documents file)) file.customs (Each-weaker _ _ (λ c h. custom_stays c h.1) file.customs sound.parts.customs))
+      (map_same (renumbered_custom (joined_row documents file)) file.customs (Each-weaker _ _ (λ c h. custom_stays c h.1) file.customs sound.parts.customs))
 
   document_stays : (n : Noted DocumentValue) → filter (named n.item.name) file.documents ≡ n ∷ [] → joined_document (file ∷ []) n.item ≡ n
   document_stays n only =

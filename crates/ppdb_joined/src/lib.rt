@@ -3,4 +3,4 @@
 
 mod laws;
 
-pub use laws::one_file_stays;
+pub use laws::{joined_is_sound, one_file_stays};
