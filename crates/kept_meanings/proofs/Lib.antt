@@ -1,0 +1,3 @@
+pub mod ImportChains
+pub mod Joins
+pub mod Only
