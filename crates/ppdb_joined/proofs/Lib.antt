@@ -1,3 +1,4 @@
+pub mod Adjacent
 pub mod Apart
 pub mod Chains
 pub mod Counted
@@ -5,4 +6,5 @@ pub mod Each
 pub mod Kept
 pub mod Names
 pub mod One
+pub mod Placed
 pub mod Sound

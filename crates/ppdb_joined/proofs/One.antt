@@ -29,8 +29,9 @@ use Rattle.ppdb_noted.specs.Sorted.{in_order}
 use Rattle.ppdb_noted.specs.SoundParts.{SoundIn, SoundParts}
 use Rattle.ppdb_noted.specs.Unnoted.{value_of_noted}
 use Rattle.ppdb_noted.proofs.Lists.{Each-weaker, each_of, Pairs-map, Pairs-weaker}
+use Rattle.ppdb_noted.proofs.Mapped.{row_map}
 use Rattle.ppdb_noted.proofs.Orders.{in_order_is, rises_of}
-use Rattle.ppdb_joined.specs.Joined.{firsts, joined_documents, row_named, joined_row, customs_named, shifted, with_documents, renumbered_method, renumbered_scope, renumbered_import, renumbered_custom, renumbered, joined_document, joined_parts, joined}
+use Rattle.ppdb_joined.specs.Joined.{firsts, joined_documents, row_named, joined_rows, row_in, customs_named, shifted, with_documents, renumbered_method, renumbered_scope, renumbered_import, renumbered_custom, renumbered, joined_document, joined_parts, joined}
 use Rattle.ppdb_joined.specs.Same.{same_custom, same_record, fresh}
 use Rattle.ppdb_joined.proofs.Names.{bytes_same, bytes_apart, NamesDiffer, row_found, firsts_all}
 
@@ -91,32 +92,33 @@ module _ (file : NotedFile) (sound : SoundParts file) where
       ap (firsts []) (append-nil documents)
       ∙ firsts_all [] documents (each_of _ (λ d. refl) documents) (Pairs-map (λ n. n.item) (λ a b. a.name ≢ b.name) file.documents sound.parts.names_differ)
 
-  row_stays : (row : ℕ) → HasRow its 0x30 row → joined_row documents file row ≡ row
+  row_stays : (row : ℕ) → HasRow its 0x30 row → row_in (joined_rows documents file) row ≡ row
   row_stays zero has = absurd (omega (arith, has.0))
   row_stays (suc i) has =
       let many = length-map file.documents (λ n. n.item) in
       let here = row_of file.documents i (omega (arith, has.1, many)) in
-      ap (λ (o : Option (Noted DocumentValue)). unwrap_or (option_map (λ (d : Noted DocumentValue). row_named documents d.item.name) o) 0) here.1
+      ap (λ (o : Option ℕ). unwrap_or o 0) (row_map (λ (d : Noted DocumentValue). row_named documents d.item.name) file.documents (suc i))
+      ∙ ap (λ (o : Option (Noted DocumentValue)). unwrap_or (option_map (λ (d : Noted DocumentValue). row_named documents d.item.name) o) 0) here.1
       ∙ ap (λ (o : Option ℕ). unwrap_or (option_map suc o) 0) (row_found file.documents sound.parts.names_differ i here.0 here.1)
 
-  method_stays : (m : MethodValue) → SoundMethod its m → renumbered_method (joined_row documents file) m ≡ m
+  method_stays : (m : MethodValue) → SoundMethod its m → renumbered_method (row_in (joined_rows documents file)) m ≡ m
   method_stays m s =
       ap (λ points. record m { points = points })
-      (map_same (λ (p : Point). record p { document = joined_row documents file p.document }) m.points
+      (map_same (λ (p : Point). record p { document = row_in (joined_rows documents file) p.document }) m.points
       (Each-weaker (SoundPoint its) _ (λ p h. ap (λ row. record p { document = row }) (row_stays p.document h.document)) m.points (each_all (SoundPoint its) m.points s.points)))
 
-  body_stays : (kind : Kind) (body : CustomBody) → IsBodyOfKind its kind body → with_documents (joined_row documents file) body ≡ body
+  body_stays : (kind : Kind) (body : CustomBody) → IsBodyOfKind its kind body → with_documents (row_in (joined_rows documents file)) body ≡ body
   body_stays kind (Async handler steps) is = refl
   body_stays kind (Hoisted slots) is = refl
   body_stays kind (Unread content) is = refl
   body_stays DocumentsKind (TypeDocuments rows) is =
-      ap (λ l. TypeDocuments l) (map_same (joined_row documents file) rows (Each-weaker (HasRow its 0x30) _ row_stays rows (each_all (HasRow its 0x30) rows is)))
+      ap (λ l. TypeDocuments l) (map_same (row_in (joined_rows documents file)) rows (Each-weaker (HasRow its 0x30) _ row_stays rows (each_all (HasRow its 0x30) rows is)))
   body_stays AsyncKind (TypeDocuments rows) is = absurd is
   body_stays HoistedKind (TypeDocuments rows) is = absurd is
   body_stays Free (TypeDocuments rows) is = absurd is
   body_stays Unknown (TypeDocuments rows) is = absurd is
 
-  custom_stays : (c : CustomValue) → SoundCustom its c → renumbered_custom (joined_row documents file) c ≡ c
+  custom_stays : (c : CustomValue) → SoundCustom its c → renumbered_custom (row_in (joined_rows documents file)) c ≡ c
   custom_stays c s = ap (λ body. record c { value = body }) (body_stays (kind_of [] c.kind) c.value s.body)
 
   scope_stays : (s : NotedScope) → renumbered_scope 0 s ≡ s
@@ -132,11 +134,11 @@ module _ (file : NotedFile) (sound : SoundParts file) where
       let third : NotedFile = record second { scopes = file.scopes } in
       let fourth : NotedFile = record third { imports = file.imports } in
       ap (λ m. record first { methods = m })
-      (map_same (renumbered_method (joined_row documents file)) file.methods (Each-weaker (SoundMethod its) _ method_stays file.methods sound.parts.methods))
+      (map_same (renumbered_method (row_in (joined_rows documents file))) file.methods (Each-weaker (SoundMethod its) _ method_stays file.methods sound.parts.methods))
       ∙ ap (λ s. record second { scopes = s }) (map_same (renumbered_scope 0) file.scopes (each_of _ scope_stays file.scopes))
       ∙ ap (λ i. record third { imports = i }) (map_same (with_item (renumbered_import 0)) file.imports (each_of _ import_stays file.imports))
       ∙ ap (λ c. record fourth { customs = c })
-      (map_same (renumbered_custom (joined_row documents file)) file.customs (Each-weaker _ _ (λ c h. custom_stays c h.1) file.customs sound.parts.customs))
+      (map_same (renumbered_custom (row_in (joined_rows documents file))) file.customs (Each-weaker _ _ (λ c h. custom_stays c h.1) file.customs sound.parts.customs))
 
   document_stays : (n : Noted DocumentValue) → filter (named n.item.name) file.documents ≡ n ∷ [] → joined_document (file ∷ []) n.item ≡ n
   document_stays n only =

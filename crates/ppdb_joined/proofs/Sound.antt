@@ -29,9 +29,10 @@ use Rattle.ppdb_noted.specs.Noted.{items_of, with_item}
 use Rattle.ppdb_noted.specs.SoundParts.{SoundNote, SoundNotedScope, SoundIn, SoundMoved, SoundParts}
 use Rattle.ppdb_noted.specs.Unnoted.{value_of_noted}
 use Rattle.ppdb_noted.proofs.Lists.{Each-append, Each-filter, Each-map, Each-unmap, Each-weaker, each_of, Pairs-map, Pairs-weaker}
+use Rattle.ppdb_noted.proofs.Mapped.{row_map}
 use Rattle.ppdb_noted.proofs.Orders.{in_order_each, in_order_rises, pairs_of}
 use Rattle.ppdb_joined.specs.Joinable.{AreJoinable, CountsRows}
-use Rattle.ppdb_joined.specs.Joined.{joined, joined_documents, joined_document, joined_row, row_named, customs_named, shifted, renumbered, renumbered_all, renumbered_method, renumbered_scope, renumbered_import, renumbered_custom}
+use Rattle.ppdb_joined.specs.Joined.{joined, joined_documents, joined_document, joined_rows, row_in, row_named, customs_named, shifted, renumbered, renumbered_all, renumbered_method, renumbered_scope, renumbered_import, renumbered_custom}
 use Rattle.ppdb_joined.specs.Same.{same_custom, same_record, fresh}
 use Rattle.ppdb_joined.proofs.Apart.{methods_across, scopes_across, machines_across}
 use Rattle.ppdb_joined.proofs.Chains.{ChainsEnd, chains_end, imports_of}
@@ -100,7 +101,7 @@ moved_value file = record (value_of_noted file) { rows = repeat 64 (16777215 ∷
 
 module _ (value : FileValue) (docs : List DocumentValue) (file : NotedFile) (shift : ℕ) (sound : SoundMoved file)
     (named : Each (λ n. n.row ≤ slice_index value.rows n.table) (all_named file))
-    (documents : (row : ℕ) → HasRow (moved_value file) 0x30 row → HasRow value 0x30 (joined_row docs file row))
+    (documents : (row : ℕ) → HasRow (moved_value file) 0x30 row → HasRow value 0x30 (row_in (joined_rows docs file) row))
     (imports : (row : ℕ) → HasRowOrNone (moved_value file) 0x35 row → HasRowOrNone value 0x35 (shifted shift row)) where
   abbrev P : Named → Type 0
   P n = n.row ≤ slice_index value.rows n.table
@@ -109,7 +110,7 @@ module _ (value : FileValue) (docs : List DocumentValue) (file : NotedFile) (shi
   fit = names_fit P file named
 
   abbrev row : ℕ → ℕ
-  row r = joined_row docs file r
+  row r = row_in (joined_rows docs file) r
 
   file_whole : IsWhole value (renumbered docs shift file)
   file_whole = record {
@@ -142,15 +143,16 @@ abbrev NamesDocuments : List DocumentValue → NotedFile → Type 0
 NamesDocuments docs file = Each (λ n. is_named docs n.item.name ≡ true) file.documents
 
 documents_there : (value : FileValue) (docs : List DocumentValue) → length value.documents ≡ length docs → (file : NotedFile) → NamesDocuments docs file
-    → (row : ℕ) → HasRow (moved_value file) 0x30 row → HasRow value 0x30 (joined_row docs file row)
+    → (row : ℕ) → HasRow (moved_value file) 0x30 row → HasRow value 0x30 (row_in (joined_rows docs file) row)
 documents_there value docs many file named zero has = absurd (omega (arith, has.0))
 documents_there value docs many file named (suc i) has =
     let length_items = length-map file.documents (λ n. n.item) in
     let here = row_of file.documents i (omega (arith, has.1, length_items)) in
     let is = each_row_at (λ n. is_named docs n.item.name ≡ true) file.documents i here.0 named here.1 in
     let within = found_within (λ (d : DocumentValue). bytes_eq d.name here.0.item.name) docs is in
-    let same : row_named docs here.0.item.name ≡ joined_row docs file (suc i) =
-    sym (ap (λ (o : Option (Noted DocumentValue)). unwrap_or (option_map (λ (d : Noted DocumentValue). row_named docs d.item.name) o) 0) here.1) in
+    let same : row_named docs here.0.item.name ≡ row_in (joined_rows docs file) (suc i) =
+    sym (ap (λ (o : Option ℕ). unwrap_or o 0) (row_map (λ (d : Noted DocumentValue). row_named docs d.item.name) file.documents (suc i))
+    ∙ ap (λ (o : Option (Noted DocumentValue)). unwrap_or (option_map (λ (d : Noted DocumentValue). row_named docs d.item.name) o) 0) here.1) in
     subst (HasRow value 0x30) same (within.0, omega (arith, within.1, many))
 
 shifted_within : (shift count total row : ℕ) → shift + count ≤ total → row ≤ count → shifted shift row ≤ total

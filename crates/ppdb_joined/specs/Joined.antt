@@ -34,9 +34,13 @@ joined_documents files = firsts [] (flat_map (λ (file : NotedFile). items_of fi
 abbrev pub row_named : List DocumentValue → List ℕ → ℕ
 row_named documents name = unwrap_or (option_map suc (position (λ (d : DocumentValue). bytes_eq d.name name) documents)) 0
 
--- the joined row of a file's document, and 0 where there is none
-abbrev pub joined_row : List DocumentValue → NotedFile → ℕ → ℕ
-joined_row documents file row = unwrap_or (option_map (λ (d : Noted DocumentValue). row_named documents d.item.name) (row_at file.documents row)) 0
+-- the joined rows of a file's documents
+abbrev pub joined_rows : List DocumentValue → NotedFile → List ℕ
+joined_rows documents file = map (λ (d : Noted DocumentValue). row_named documents d.item.name) file.documents
+
+-- that of a row, and 0 where there is none
+abbrev pub row_in : List ℕ → ℕ → ℕ
+row_in rows row = unwrap_or (row_at rows row) 0
 
 -- the records of a file's document of the name
 abbrev pub customs_named : List ℕ → NotedFile → List Custom
@@ -68,10 +72,10 @@ renumbered_custom row c = record c { value = with_documents row c.value }
 
 abbrev pub renumbered : List DocumentValue → ℕ → NotedFile → NotedFile
 renumbered documents shift file = record file {
-  methods = map (renumbered_method (joined_row documents file)) file.methods;
+  methods = map (renumbered_method (row_in (joined_rows documents file))) file.methods;
   scopes = map (renumbered_scope shift) file.scopes;
   imports = map (with_item (renumbered_import shift)) file.imports;
-  customs = map (renumbered_custom (joined_row documents file)) file.customs;
+  customs = map (renumbered_custom (row_in (joined_rows documents file))) file.customs;
 }
 
 -- import scopes count through all files

@@ -2,3 +2,5 @@ pub mod Joinable
 pub mod Joined
 pub mod Laws
 pub mod Same
+pub mod Small
+pub mod Worked

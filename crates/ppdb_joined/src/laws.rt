@@ -1,4 +1,5 @@
 // What is promised of files that are joined.
+ghost use Rattle.ppdb_joined.specs.Worked.{WorkedJoins};
 ghost use Rattle.ppdb_joined.specs.Laws.{OneFileStays, JoinedIsSound};
 
 /// One file alone stays as it is, where its parts are sound.
@@ -9,4 +10,9 @@ pub fn one_file_stays()
 /// What is joined is sound, where the files can be joined and the first counts all rows of the type system.
 pub fn joined_is_sound()
     ensures { JoinedIsSound }
+{}
+
+/// Worked files that are joined.
+pub fn worked_joins()
+    ensures { WorkedJoins }
 {}
