@@ -36,7 +36,7 @@ use Rattle.ppdb_noted.proofs.Lists.{Each-weaker, Each-map, Each-unmap, Each-appe
 use Rattle.ppdb_noted.proofs.Mapped.{filter_map_both, row_map}
 use Rattle.ppdb_noted.proofs.Orders.{in_order_keeps, in_order_filter}
 use Rattle.ppdb_joined.specs.Joinable.{AreJoinable, AgreeOnDocuments, methods_of}
-use Rattle.ppdb_joined.specs.Joined.{joined, joined_documents, joined_row, row_named, renumbered, renumbered_all, renumbered_method, renumbered_scope, renumbered_custom, renumbered_import, shifted, with_documents, joined_document, firsts}
+use Rattle.ppdb_joined.specs.Joined.{joined, joined_documents, joined_rows, row_in, row_named, renumbered, renumbered_all, renumbered_method, renumbered_scope, renumbered_custom, renumbered_import, shifted, with_documents, joined_document, firsts}
 use Rattle.ppdb_joined.specs.Same.{fresh, same_record}
 use Rattle.ppdb_joined.proofs.One.{map_same}
 use Rattle.ppdb_values.specs.Rules.{StandsOn}
@@ -46,6 +46,10 @@ use Rattle.ppdb_joined.proofs.Names.{same_bytes, bytes_same, position_cons, is_n
 use Rattle.ppdb_moved.proofs.Elements.{each_left}
 use Rattle.kept_meanings.specs.Laws.{SaysNothingOf, SaysTheSame, JoinedMeans}
 use Rattle.kept_meanings.proofs.Only.{imports_in, none_left, find_left, find_map, only_one, fresh_only, one_in_order}
+
+-- the joined row of a file's document
+abbrev joined_row : List DocumentValue → NotedFile → ℕ → ℕ
+joined_row documents file row = row_in (joined_rows documents file) row
 
 -- ---- files that say nothing of a method
 
@@ -100,13 +104,13 @@ joined_customs : (files : List NotedFile) → (joined files).customs
 joined_customs [] = refl
 joined_customs (f ∷ fs) = refl
 
-joined_rows : (files : List NotedFile) (row : ℕ) → document_at (joined files) row ≡ row_at (joined_documents files) row
-joined_rows [] row = by_row row
+document_rows : (files : List NotedFile) (row : ℕ) → document_at (joined files) row ≡ row_at (joined_documents files) row
+document_rows [] row = by_row row
   where
     by_row : (row : ℕ) → option_map (λ (n : Noted DocumentValue). n.item) (row_at [] row) ≡ row_at [] row
     by_row zero = refl
     by_row (suc i) = refl
-joined_rows (f ∷ fs) row =
+document_rows (f ∷ fs) row =
     ap (option_map (λ (n : Noted DocumentValue). n.item)) (row_map (joined_document (renumbered_all (joined_documents (f ∷ fs)) 0 (f ∷ fs))) (joined_documents (f ∷ fs)) row)
     ∙ same (row_at (joined_documents (f ∷ fs)) row)
   where
@@ -270,7 +274,10 @@ module _ (before after : List NotedFile) (file : NotedFile) (able : AreJoinable 
 
   -- a document of the file is the joined one of its name
   document_kept : (row : ℕ) → document_at (joined files) (joined_row (joined_documents files) file row) ≡ document_at file row
-  document_kept row = joined_rows files (joined_row (joined_documents files) file row) ∙ by_row row (row_at file.documents row) refl
+  document_kept row =
+      document_rows files (joined_row (joined_documents files) file row)
+      ∙ ap (λ (o : Option ℕ). row_at (joined_documents files) (unwrap_or o 0)) (row_map (λ (d : Noted DocumentValue). row_named (joined_documents files) d.item.name) file.documents row)
+      ∙ by_row row (row_at file.documents row) refl
     where
       of_number : (i : ℕ) (n : Noted DocumentValue) → row_at file.documents (suc i) ≡ Some n → row_at (joined_documents files) (row_named (joined_documents files) n.item.name) ≡ Some n.item
       of_number i n here =

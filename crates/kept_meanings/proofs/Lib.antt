@@ -1,3 +1,4 @@
 pub mod ImportChains
 pub mod Joins
+pub mod MoreRows
 pub mod Only
