@@ -6,6 +6,7 @@ pub mod Lists
 pub mod Meanings
 pub mod Means
 pub mod NamedParts
+pub mod NamedRows
 pub mod PointMeanings
 pub mod Points
 pub mod RisingPoints

@@ -45,13 +45,14 @@ use Rattle.ppdb_noted.proofs.Mapped.{row_map}
 use Rattle.ppdb_noted.proofs.Lists.{Each-weaker, Pairs-weaker, Each-map, Each-unmap, each_row, row_each, pairs_row, row_pairs}
 use Rattle.ppdb_moved.specs.Fits.{Fits, IsImaged, HasSlot, KeepsAsync, AreWithin}
 use Rattle.ppdb_moved.specs.FitsMethod.{PointsRise}
+use Rattle.ppdb_moved.specs.Laws.{IsImageOfNamed, MovedNames}
 use Rattle.ppdb_moved.specs.Moved.{moved_range, is_empty, with_item, moved_variable, moved_constant, moved_import, moved_import_scope, with_points, moved_method, scope_image, moved_scope, moved_machine, moved_body, moved_custom, moved_file}
 use Rattle.ppdb_moved.proofs.Fitting.{offsets_rise, moved_dropped}
 use Rattle.ppdb_moved.proofs.Elements.{each_in}
 use Rattle.ppdb_moved.proofs.Lists.{Each-filter_map, Pairs-filter_map, Each-both, each_of_three, each_of_four}
 use Rattle.ppdb_moved.proofs.NamedParts.{NamedParts, named_parts}
 use Rattle.ppdb_moved.proofs.RisingPoints.{all_each, all_pairs, points_rise, points_are_rising}
-use Rattle.ppdb_moved.proofs.RowImages.{row_moved, some_moved, one_image, count_most}
+use Rattle.ppdb_moved.proofs.RowImages.{moved_is_image, row_moved, some_moved, one_image, count_most}
 use Rattle.ppdb_moved.proofs.SoundItems.{most, each_all, small_after, body_same, constant_moved, import_moved, body_kept, ranges_moved}
 
 some_of : {A : Type 0} (a b : A) → Some a ≡ Some b → a ≡ b
@@ -469,4 +470,50 @@ module _ (first : Bool) (m : Map) (w : NotedFile) (ready : IsReadable m) (sound 
     moved_differ = moves_apart;
     kickoffs_differ = kickoffs_apart;
     customs = Each-filter_map (moved_custom m) CustomFacts (λ c. (c.parent.table < 0x2d) × SoundCustom (most new) c) custom_moved w.customs custom_facts;
+  }
+
+  -- ---- the methods of which the moved file says something are images of methods that the file names
+
+  abbrev IsOfNamed : ℕ → Type 0
+  IsOfNamed row = IsImageOfNamed first m w row
+
+  of_named : (method : ℕ) → 1 ≤ method → Contains (named_rows first m w) (names 0x06 method) → IsImaged m (names 0x06 method) → IsOfNamed (moved_row m 0x06 method)
+  of_named method above there image = (method, there, image.1 ∙ ap Some (sym (moved_is_image m 0x06 method image.0 above image.1)))
+
+  customs_inside : Each (λ (c : CustomValue). CustomFacts c × (live_custom m c ≡ true → Contains (named_rows first m w) (names c.parent.table c.parent.row))) w.customs
+  customs_inside = Each-both CustomFacts (λ (c : CustomValue). live_custom m c ≡ true → Contains (named_rows first m w) (names c.parent.table c.parent.row)) w.customs custom_facts
+      (Each-weaker _ (λ (c : CustomValue). live_custom m c ≡ true → Contains (named_rows first m w) (names c.parent.table c.parent.row)) (λ c holds live. (holds live).0) w.customs inside.customs)
+
+  custom_of_named : (c d : CustomValue) → moved_custom m c ≡ Some d → CustomFacts c × (live_custom m c ≡ true → Contains (named_rows first m w) (names c.parent.table c.parent.row))
+      → d.parent.table ≡ 0x06 → IsOfNamed d.parent.row
+  custom_of_named c d eq facts six = by_drop (nat_eq c.parent.table 0x06 && is_dropped m c.parent.row) refl eq
+    where
+      image : CustomValue
+      image = record { parent = record { table = c.parent.table; row = moved_row m c.parent.table c.parent.row }; kind = c.kind; value = moved_body m c.parent.row c.value }
+
+      by_table : live_custom m c ≡ true → c.parent.table ≡ 0x06 → IsOfNamed (moved_row m c.parent.table c.parent.row)
+      by_table live is =
+          subst (λ t. IsOfNamed (moved_row m t c.parent.row)) (sym is)
+          (of_named c.parent.row facts.0.sound_c.parent.0 (subst (λ t. Contains (named_rows first m w) (names t c.parent.row)) is (facts.1 live))
+          (subst (λ t. IsImaged m (names t c.parent.row)) is (facts.0.image live).0))
+
+      by_drop : (b : Bool) → nat_eq c.parent.table 0x06 && is_dropped m c.parent.row ≡ b → cond b None (Some image) ≡ Some d → IsOfNamed d.parent.row
+      by_drop true goes eq = absurd (cc)
+      by_drop false stays eq =
+          let is : image ≡ d = some_of image d eq in
+          subst (λ (e : CustomValue). IsOfNamed e.parent.row) is (by_table (ap not stays) (ap (λ (e : CustomValue). e.parent.table) is ∙ six))
+
+  pub moved_names : MovedNames first m w
+  moved_names = record {
+    methods = Each-filter_map (moved_method m) MethodFacts (λ (q : MethodValue). IsOfNamed q.method)
+        (λ e q is facts. subst IsOfNamed (sym (method_row e q is)) (of_named e.method facts.sound_e.row.0 (facts.there (stays_live e q is)).0 (facts.image (stays_live e q is)).0)) w.methods method_facts;
+    scopes = Each-filter_map (moved_scope m) ScopeFacts (λ (t : NotedScope). IsOfNamed t.method)
+        (λ s t is facts. let stays = scope_stays s t is in
+        subst IsOfNamed (ap (λ (r : NotedScope). r.method) stays.is) (of_named s.method facts.sound_s.itself.method.0 (facts.there stays.live) (facts.image stays.live))) w.scopes scope_facts;
+    machines = Each-filter_map (moved_machine m) MachineFacts (λ (s : MachineRow). IsOfNamed s.move_next × IsOfNamed s.kickoff)
+        (λ r s is facts. let stays = machine_stays r s is in (
+          subst IsOfNamed (sym stays.moves) (of_named r.move_next facts.sound_r.move_next.0 (facts.there stays.live).0 (facts.image stays.live).0),
+          subst IsOfNamed (sym stays.starts) (of_named r.kickoff facts.sound_r.kickoff.0 (facts.there stays.live).1 (facts.image stays.live).1),
+        )) w.machines machine_facts;
+    customs = Each-filter_map (moved_custom m) _ (λ (d : CustomValue). d.parent.table ≡ 0x06 → IsOfNamed d.parent.row) custom_of_named w.customs customs_inside;
   }

@@ -1,10 +1,10 @@
 -- What a moved file says at the images of kept offsets: the images of what the file says there.
-use Rattle.std.specs.Prelude.{◌≡◌, ◌≢◌, ℕ, ◌≤◌, Bool, true, List, Contains, map}
+use Rattle.std.specs.Prelude.{◌≡◌, ◌≢◌, ℕ, ◌≤◌, Bool, true, List, Some, Contains, map}
 use Rattle.std.specs.List.{filter_map, find}
 use Rattle.std.specs.Prelude.{nat_eq}
 use Rattle.std.specs.Option.{option_map, option_and_then}
 use Rattle.ppdb_base.specs.Offsets.{gone, Rise, Kept, old_size}
-use Rattle.ppdb_maps.specs.Map.{Map, moved_row, offsets_in}
+use Rattle.ppdb_maps.specs.Map.{Map, row_image, moved_row, offsets_in}
 use Rattle.ppdb_values.specs.declared.file.MethodValue.{MethodValue}
 use Rattle.ppdb_noted.specs.declared.file.NotedFile.{NotedFile}
 use Rattle.ppdb_tables.specs.declared.rows.MachineRow.{MachineRow}
@@ -68,3 +68,22 @@ FilesMean = (first : Bool) (m : Map) (w : NotedFile) (method : ℕ) → SoundMov
 -- A sound file that a map fits is sound, part by part, after it has moved.
 abbrev pub MovedIsSound : Type 0
 MovedIsSound = (first : Bool) (m : Map) (w : NotedFile) → IsReadable m → SoundMoved w → Fits first m w → SoundMoved (moved_file m w)
+
+-- the row is the image of a method that the file names
+abbrev pub IsImageOfNamed : Bool → Map → NotedFile → ℕ → Type 0
+IsImageOfNamed first m w row = (method : ℕ) × Contains (named_rows first m w) (names 0x06 method) × (row_image m 0x06 method ≡ Some row)
+
+-- A moved file says something only of images of methods that the file names.
+pub record MovedNames (first : Bool) (m : Map) (w : NotedFile) : Type 0 where
+  pub methods : Each (λ e. IsImageOfNamed first m w e.method) (moved_file m w).methods
+  pub scopes : Each (λ s. IsImageOfNamed first m w s.method) (moved_file m w).scopes
+  pub machines : Each (λ r. IsImageOfNamed first m w r.move_next × IsImageOfNamed first m w r.kickoff) (moved_file m w).machines
+  pub customs : Each (λ c. c.parent.table ≡ 0x06 → IsImageOfNamed first m w c.parent.row) (moved_file m w).customs
+
+abbrev pub MovedNamesImages : Type 0
+MovedNamesImages = (first : Bool) (m : Map) (w : NotedFile) → IsReadable m → SoundMoved w → Fits first m w → MovedNames first m w
+
+-- The rows that a file names are rows.
+abbrev pub NamedRowsAreRows : Type 0
+NamedRowsAreRows = (first : Bool) (m : Map) (w : NotedFile) → SoundMoved w → w.entry ≤ 16777215
+    → Each (λ n. (1 ≤ n.row) × (n.row ≤ 16777215)) (named_rows first m w)

@@ -5,6 +5,6 @@
 mod laws;
 
 pub use laws::{
-    files_mean, fits_are_of_methods, links_mean, moved_is_sound, points_mean, scopes_mean,
-    slots_mean,
+    files_mean, fits_are_of_methods, links_mean, moved_is_sound, moved_names_images,
+    named_rows_are_rows, points_mean, scopes_mean, slots_mean,
 };
