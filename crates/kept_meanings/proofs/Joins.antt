@@ -99,7 +99,7 @@ joined_machines : (files : List NotedFile) → (joined files).machines ≡ in_or
 joined_machines [] = refl
 joined_machines (f ∷ fs) = refl
 
-joined_customs : (files : List NotedFile) → (joined files).customs
+pub joined_customs : (files : List NotedFile) → (joined files).customs
     ≡ in_order (λ c. coded_of c.parent) (fresh same_record [] (map (λ (f : NotedFile). f.customs) (renumbered_all (joined_documents files) 0 files)))
 joined_customs [] = refl
 joined_customs (f ∷ fs) = refl
@@ -118,7 +118,7 @@ document_rows (f ∷ fs) row =
     same None = refl
     same (Some d) = refl
 
-each_mid : {A : Type 0} (P : A → Type 0) (before after : List A) (x : A) → Each P (before ++ x ∷ after) → P x
+pub each_mid : {A : Type 0} (P : A → Type 0) (before after : List A) (x : A) → Each P (before ++ x ∷ after) → P x
 each_mid P [] after x each = each.0
 each_mid P (b ∷ bs) after x each = each_mid P bs after x each.1
 
@@ -179,11 +179,11 @@ named_row d (e ∷ es) each there =
     step true is there rest = ap (λ x. Some x) (each.0 (same_bytes e.name d.name is))
     step false is there rest = after (position (λ (e : DocumentValue). bytes_eq e.name d.name) es) (rest there)
 
-pairs_before : {A : Type 0} (R : A → A → Type 0) (before after : List A) (x : A) → Pairs R (before ++ x ∷ after) → Each (λ f. R f x) before
+pub pairs_before : {A : Type 0} (R : A → A → Type 0) (before after : List A) (x : A) → Pairs R (before ++ x ∷ after) → Each (λ f. R f x) before
 pairs_before R [] after x pairs = tt
 pairs_before R (b ∷ bs) after x pairs = (each_mid (R b) bs after x pairs.0, pairs_before R bs after x pairs.1)
 
-pairs_after : {A : Type 0} (R : A → A → Type 0) (before after : List A) (x : A) → Pairs R (before ++ x ∷ after) → Each (R x) after
+pub pairs_after : {A : Type 0} (R : A → A → Type 0) (before after : List A) (x : A) → Pairs R (before ++ x ∷ after) → Each (R x) after
 pairs_after R [] after x pairs = pairs.0
 pairs_after R (b ∷ bs) after x pairs = pairs_after R bs after x pairs.1
 

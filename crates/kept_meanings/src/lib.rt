@@ -3,4 +3,4 @@
 
 mod laws;
 
-pub use laws::joined_means;
+pub use laws::{inputs_keep_meaning, joined_means};
