@@ -1,5 +1,6 @@
 -- Inputs that fit can be joined, and what each says of a method is kept.
-use Rattle.std.proofs.Common.{◌≡◌, ◌≢◌, ℕ, zero, suc, ◌+◌, ◌≤◌, ◌<◌, ◌++◌, ◌&&◌, Bool, true, false, cond, List, [], ◌∷◌, Option, Some, None, length, map, flat_map, refl, sym, ◌∙◌, ap, subst, arith}
+use Rattle.std.proofs.Common.{◌≡◌, ◌≢◌, ℕ, zero, suc, ◌+◌, ◌≤◌, ◌<◌, ◌++◌, ◌&&◌, Bool, true, false, cond, List, [], ◌∷◌, Option, Some, None, length, map}
+use Rattle.std.proofs.Common.{flat_map, refl, sym, ◌∙◌, ap, subst, arith}
 use Rattle.std.specs.Prelude.{nat_eq, Contains, unwrap_or}
 use Rattle.std.specs.List.{filter, repeat}
 use Rattle.std.specs.Option.{option_map, option_and_then}
@@ -42,14 +43,16 @@ use Rattle.ppdb_moved.proofs.Means.{files_mean}
 use Rattle.ppdb_moved.proofs.NamedRows.{named_rows_are_rows}
 use Rattle.ppdb_moved.proofs.RowImages.{moved_is_image, row_moved}
 use Rattle.ppdb_moved.proofs.SoundMoves.{moved_sound, moved_names}
-use Rattle.kept_meanings.specs.Kept.{MovedBy, Input, in_turn, named_by, NamesMethod, FitsAlone, MethodsApart, InputsFit, moved_input, joined_inputs, KeepsMeaning}
+use Rattle.kept_meanings.specs.Kept.{MovedBy, Input, in_turn, named_by, NamesMethod, FitsAlone, MethodsApart, InputsFit, moved_input, joined_inputs}
+use Rattle.kept_meanings.specs.Kept.{KeepsMeaning}
 use Rattle.kept_meanings.specs.Laws.{SaysNothingOf, SaysTheSame}
 use Rattle.kept_meanings.proofs.Joins.{joined_means, each_mid, pairs_before, pairs_after, joined_customs}
 use Rattle.kept_meanings.proofs.MoreRows.{sound_moved}
 
 -- ---- lists
 
-pairs_given : {A : Type 0} (P : A → Type 0) (R S : A → A → Type 0) → ((x y : A) → P x → P y → R x y → S x y) → (xs : List A) → Each P xs → Pairs R xs → Pairs S xs
+pairs_given : {A : Type 0} (P : A → Type 0) (R S : A → A → Type 0) → ((x y : A) → P x → P y → R x y → S x y) → (xs : List A) → Each P xs → Pairs R xs
+    → Pairs S xs
 pairs_given P R S holds [] each pairs = tt
 pairs_given P R S holds (x ∷ xs) each pairs = (heads xs each.1 pairs.0, pairs_given P R S holds xs each.1 pairs.1)
   where
@@ -65,13 +68,17 @@ map_split f (b ∷ bs) after x = ap (λ l. f b ∷ l) (map_split f bs after x)
 
 methods_named : (first : Bool) (m : Map) (w : NotedFile) → MovedNames first m w → Each (IsImageOfNamed first m w) (methods_of (moved_file m w))
 methods_named first m w named =
-    Each-append P (map (λ (e : MethodValue). e.method) file.methods ++ map (λ (s : NotedScope). s.method) file.scopes ++ flat_map sides file.machines) of_records
+    Each-append P (map (λ (e : MethodValue). e.method) file.methods ++ map (λ (s : NotedScope). s.method) file.scopes
+    ++ flat_map sides file.machines) of_records
     (Each-append P (map (λ (e : MethodValue). e.method) file.methods ++ map (λ (s : NotedScope). s.method) file.scopes) (flat_map sides file.machines)
     (Each-append P (map (λ (e : MethodValue). e.method) file.methods) (map (λ (s : NotedScope). s.method) file.scopes)
     (Each-map (λ (e : MethodValue). e.method) P file.methods named.methods) (Each-map (λ (s : NotedScope). s.method) P file.scopes named.scopes))
-    (Each-flat sides P file.machines (Each-weaker (λ (r : MachineRow). P r.move_next × P r.kickoff) (λ r. Each P (sides r)) (λ r both. (both.0, (both.1, tt))) file.machines named.machines)))
+    (Each-flat sides P file.machines
+    (Each-weaker (λ (r : MachineRow). P r.move_next × P r.kickoff) (λ r. Each P (sides r))
+    (λ r both. (both.0, (both.1, tt))) file.machines named.machines)))
     (Each-map (λ (c : CustomValue). c.parent.row) P (filter (λ (c : CustomValue). nat_eq c.parent.table 0x06) file.customs)
-    (Each-filter (λ (c : CustomValue). c.parent.table ≡ 0x06 → P c.parent.row) (λ (c : CustomValue). P c.parent.row) (λ (c : CustomValue). nat_eq c.parent.table 0x06)
+    (Each-filter (λ (c : CustomValue). c.parent.table ≡ 0x06 → P c.parent.row) (λ (c : CustomValue). P c.parent.row)
+    (λ (c : CustomValue). nat_eq c.parent.table 0x06)
     (λ c is holds. holds (eqb-true c.parent.table 0x06 is)) file.customs named.customs))
   where
     P : ℕ → Type 0
@@ -96,7 +103,8 @@ module _ (noted : SoundnessIsNoted) where
   moved_is_sound i fits = moved_sound i.0 i.1.map (noted_file i.1.value) fits.ready (input_sound i fits) fits.fits
 
   pub input_names : (i : Input) → FitsAlone i → Each (IsImageOfNamed i.0 i.1.map (noted_file i.1.value)) (methods_of (moved_input i))
-  input_names i fits = methods_named i.0 i.1.map (noted_file i.1.value) (moved_names i.0 i.1.map (noted_file i.1.value) fits.ready (input_sound i fits) fits.fits)
+  input_names i fits = methods_named i.0 i.1.map (noted_file i.1.value)
+      (moved_names i.0 i.1.map (noted_file i.1.value) fits.ready (input_sound i fits) fits.fits)
 
   inputs_apart : (a b : Input) → FitsAlone a → FitsAlone b → MethodsApart a b → AreApart (methods_of (moved_input a)) (methods_of (moved_input b))
   inputs_apart a b fits also apart =
@@ -105,7 +113,8 @@ module _ (noted : SoundnessIsNoted) where
       (λ other of_b same. apart of_a.0 of_b.0 row of_a.1 of_b.1 of_a.2 (of_b.2 ∙ ap Some (sym same))) (methods_of (moved_input b)) (input_names b also))
       (methods_of (moved_input a)) (input_names a fits)
 
-  pub can_be_joined : (inputs : List Input) → Each FitsAlone inputs → Pairs MethodsApart inputs → Pairs (λ (a b : Input). AgreeOnDocuments (noted_file a.1.value) (noted_file b.1.value)) inputs
+  pub can_be_joined : (inputs : List Input) → Each FitsAlone inputs → Pairs MethodsApart inputs
+      → Pairs (λ (a b : Input). AgreeOnDocuments (noted_file a.1.value) (noted_file b.1.value)) inputs
       → AreJoinable (map moved_input inputs)
   can_be_joined inputs each apart agree = record {
     each = Each-map moved_input SoundMoved inputs (Each-weaker FitsAlone (λ i. SoundMoved (moved_input i)) moved_is_sound inputs each);

@@ -23,7 +23,8 @@ found_each P p (y ∷ ys) x each is = step (p y) is (λ e. found_each P p ys x e
 -- none is left of points that are all after it
 none_left : (x : ℕ) (ps : List Point) → All (λ (q : Point). x < q.offset) ps → filter (λ (q : Point). nat_le q.offset x) ps ≡ []
 none_left x [] above = refl
-none_left x (q ∷ qs) above = rw (lt-leb q.offset x (All-head (λ (q : Point). x < q.offset) q qs above)) (none_left x qs (All-tail (λ (q : Point). x < q.offset) q qs above))
+none_left x (q ∷ qs) above = rw (lt-leb q.offset x (All-head (λ (q : Point). x < q.offset) q qs above))
+    (none_left x qs (All-tail (λ (q : Point). x < q.offset) q qs above))
 
 -- at its own offset a point is the last
 pub last_at : (p : Point) (ps : List Point) (before : Option Point) → AllPairs (λ (p q : Point). p.offset < q.offset) ps → Contains ps p
@@ -32,7 +33,8 @@ last_at p [] before rise there = absurd (omega (arith, there.1))
 last_at p (q ∷ qs) before rise (zero, inside, same) =
     subst (λ (r : Point). last_or before (filter (λ (q : Point). nat_le q.offset r.offset) (q ∷ qs)) ≡ Some r) same
     (rw (le-leb q.offset q.offset (omega arith), none_left q.offset qs (pairs-head q qs rise)) refl)
-last_at p (q ∷ qs) before rise (suc k, inside, same) = step (nat_le q.offset p.offset) (λ b. last_at p qs b (pairs-tail q qs rise) (k, omega (arith, inside), same))
+last_at p (q ∷ qs) before rise (suc k, inside, same) = step (nat_le q.offset p.offset)
+    (λ b. last_at p qs b (pairs-tail q qs rise) (k, omega (arith, inside), same))
   where
     step : (b : Bool) → ((before : Option Point) → last_or before (filter (λ (r : Point). nat_le r.offset p.offset) qs) ≡ Some p)
         → last_or before (cond b (q ∷ filter (λ (r : Point). nat_le r.offset p.offset) qs) (filter (λ (r : Point). nat_le r.offset p.offset) qs)) ≡ Some p
@@ -57,7 +59,8 @@ last_from t (p ∷ ps) before q is = step (t p) is (λ b e. last_from t ps b q e
     of_own (inl e) = inr (0, omega arith, some_of p q e)
     of_own (inr there) = inr (later_in p q ps there)
 
-    step : (b : Bool) → last_or before (cond b (p ∷ filter t ps) (filter t ps)) ≡ Some q → ((before : Option Point) → last_or before (filter t ps) ≡ Some q → (before ≡ Some q) ⊎ Contains ps q)
+    step : (b : Bool) → last_or before (cond b (p ∷ filter t ps) (filter t ps)) ≡ Some q
+        → ((before : Option Point) → last_or before (filter t ps) ≡ Some q → (before ≡ Some q) ⊎ Contains ps q)
         → (before ≡ Some q) ⊎ Contains (p ∷ ps) q
     step true e rest = of_own (rest (Some p) e)
     step false e rest = of_rest (rest before e)

@@ -19,7 +19,8 @@ use Rattle.ppdb_values.specs.declared.custom.CustomValue.{CustomValue}
 use Rattle.ppdb_values.specs.declared.file.FileValue.{FileValue}
 use Rattle.ppdb_values.specs.declared.import.ImportScopeValue.{ImportScopeValue}
 use Rattle.ppdb_values.specs.declared.import.ImportValue.{ImportValue}
-use Rattle.ppdb_values.specs.declared.import.ImportValue.TheVariants.{Namespace, AssemblyNamespace, Target, Xml, Alias, AssemblyAlias, NamespaceAlias, AssemblyNamespaceAlias, TargetAlias}
+use Rattle.ppdb_values.specs.declared.import.ImportValue.TheVariants.{Namespace, AssemblyNamespace, Target, Xml, Alias, AssemblyAlias, NamespaceAlias}
+use Rattle.ppdb_values.specs.declared.import.ImportValue.TheVariants.{AssemblyNamespaceAlias, TargetAlias}
 use Rattle.ppdb_values.specs.declared.noted.Custom.{Custom}
 use Rattle.ppdb_values.specs.declared.noted.Noted.{Noted}
 use Rattle.ppdb_values.specs.declared.scope.ConstantValue.{ConstantValue}
@@ -48,7 +49,8 @@ module _ (v u : FileValue) (more : (table : ℕ) → count v table ≤ count u t
 
   -- ---- types
 
-  within : (table row : ℕ) → (table ≡ 0x02) ⊎ ((table ≡ 0x01) ⊎ (table ≡ 0x1b)) → row ≤ rows_of (type_limits v) (tag_of table) → row ≤ rows_of (type_limits u) (tag_of table)
+  within : (table row : ℕ) → (table ≡ 0x02) ⊎ ((table ≡ 0x01) ⊎ (table ≡ 0x1b)) → row ≤ rows_of (type_limits v) (tag_of table)
+      → row ≤ rows_of (type_limits u) (tag_of table)
   within table row (inl is) le = subst (λ t. row ≤ rows_of (type_limits u) (tag_of t)) (sym is)
       (may 0x02 row (subst (λ t. row ≤ rows_of (type_limits v) (tag_of t)) is le))
   within table row (inr (inl is)) le = subst (λ t. row ≤ rows_of (type_limits u) (tag_of t)) (sym is)
@@ -109,10 +111,13 @@ module _ (v u : FileValue) (more : (table : ℕ) → count v table ≤ count u t
   kind_more kinds.Unknown (TypeDocuments rows) sound = absurd sound
 
   notes_more : (table : ℕ) (cs : List Custom) → Each (SoundNote v table) cs → Each (SoundNote u table) cs
-  notes_more table cs each = Each-weaker (SoundNote v table) (SoundNote u table) (λ c s. record { stands_on = s.stands_on; body = kind_more (kind_of [] c.kind) c.value s.body }) cs each
+  notes_more table cs each = Each-weaker (SoundNote v table) (SoundNote u table)
+      (λ c s. record { stands_on = s.stands_on; body = kind_more (kind_of [] c.kind) c.value s.body }) cs each
 
-  noted_more : {A : Type 0} (table : ℕ) (xs : List (Noted A)) → Each (λ (n : Noted A). Each (SoundNote v table) n.customs) xs → Each (λ (n : Noted A). Each (SoundNote u table) n.customs) xs
-  noted_more table xs each = Each-weaker (λ n. Each (SoundNote v table) n.customs) (λ n. Each (SoundNote u table) n.customs) (λ n s. notes_more table n.customs s) xs each
+  noted_more : {A : Type 0} (table : ℕ) (xs : List (Noted A)) → Each (λ (n : Noted A). Each (SoundNote v table) n.customs) xs
+      → Each (λ (n : Noted A). Each (SoundNote u table) n.customs) xs
+  noted_more table xs each = Each-weaker (λ n. Each (SoundNote v table) n.customs) (λ n. Each (SoundNote u table) n.customs)
+      (λ n s. notes_more table n.customs s) xs each
 
   scope_more : (s : NotedScope) → SoundNotedScope v s → SoundNotedScope u s
   scope_more s sound = record {
@@ -141,20 +146,43 @@ module _ (v u : FileValue) (more : (table : ℕ) → count v table ≤ count u t
       signature = may 0x11 e.signature s.signature;
       some = s.some;
       rise = s.rise;
-      points = λ k d less. let p = s.points k d less in record { offset = p.offset; document = has 0x30 (get_or e.points k d).document p.document; span = p.span };
+      points = λ k d less. let p = s.points k d less in record {
+        offset = p.offset;
+        document = has 0x30
+            (get_or e.points k d).document p.document;
+        span = p.span;
+      };
     }) file.methods sound.methods;
     methods_differ = sound.methods_differ;
     scopes = Each-weaker (SoundNotedScope v) (SoundNotedScope u) scope_more file.scopes sound.scopes;
     by_start = sound.by_start;
     nested = sound.nested;
-    imports = Each-weaker (λ n. SoundImportScope v n.item × Each (SoundNote v 0x35) n.customs) (λ n. SoundImportScope u n.item × Each (SoundNote u 0x35) n.customs)
-        (λ n s. ((record { parent = may 0x35 n.item.parent s.0.parent; imports = λ row i here. import_more i (s.0.imports row i here) }), notes_more 0x35 n.customs s.1)) file.imports sound.imports;
+    imports = Each-weaker (λ n. SoundImportScope v n.item × Each (SoundNote v 0x35) n.customs)
+        (λ n. SoundImportScope u n.item × Each (SoundNote u 0x35) n.customs)
+        (λ n s. (
+          (record {
+            parent = may 0x35 n.item.parent s.0.parent;
+            imports = λ row i here. import_more i
+                (s.0.imports row i here);
+          }),
+          notes_more 0x35 n.customs s.1,
+        )) file.imports sound.imports;
     chains_end = sound.chains_end;
-    machines = Each-weaker (SoundMachine v) (SoundMachine u) (λ r s. record { move_next = has 0x06 r.move_next s.move_next; kickoff = has 0x06 r.kickoff s.kickoff }) file.machines sound.machines;
+    machines = Each-weaker (SoundMachine v) (SoundMachine u)
+        (λ r s. record { move_next = has 0x06 r.move_next s.move_next; kickoff = has 0x06 r.kickoff s.kickoff }) file.machines sound.machines;
     moved_differ = sound.moved_differ;
     kickoffs_differ = sound.kickoffs_differ;
     customs = Each-weaker (λ c. (c.parent.table < 0x2d) × SoundCustom v c) (λ c. (c.parent.table < 0x2d) × SoundCustom u c)
-        (λ c s. (s.0, record { tag = s.1.tag; parent = has c.parent.table c.parent.row s.1.parent; stands_on = s.1.stands_on; body = kind_more (kind_of [] c.kind) c.value s.1.body })) file.customs sound.customs;
+        (λ c s. (
+          s.0,
+          record {
+            tag = s.1.tag;
+            parent = has c.parent.table c.parent.row s.1.parent;
+            stands_on = s.1.stands_on;
+            body = kind_more
+                (kind_of [] c.kind) c.value s.1.body;
+          },
+        )) file.customs sound.customs;
   }
 
 -- as many rows as may be are no fewer
@@ -166,8 +194,14 @@ more_rows v sound table = elim (cases_lt table 0x2d) [
   where
     low_count : table < 0x2d → count v table ≤ 16777215
     low_count low =
-        rw (ne_eqb table 0x30 (λ e. absurd (omega (arith, low, e))), ne_eqb table 0x32 (λ e. absurd (omega (arith, low, e))), ne_eqb table 0x33 (λ e. absurd (omega (arith, low, e))),
-        ne_eqb table 0x34 (λ e. absurd (omega (arith, low, e))), ne_eqb table 0x35 (λ e. absurd (omega (arith, low, e)))) (sound.most table)
+        rw (
+          ne_eqb table 0x30 (λ e. absurd (omega (arith, low, e))),
+          ne_eqb table 0x32 (λ e. absurd (omega (arith, low, e))),
+          ne_eqb table 0x33
+              (λ e. absurd (omega (arith, low, e))),
+          ne_eqb table 0x34 (λ e. absurd (omega (arith, low, e))),
+          ne_eqb table 0x35 (λ e. absurd (omega (arith, low, e))),
+        ) (sound.most table)
 
     none : 0x2d ≤ table → (n : ℕ) → slice_index v.rows table ≤ n
     none high n = let zero_rows = sound.others table high in omega (arith, zero_rows)
@@ -177,8 +211,10 @@ more_rows v sound table = elim (cases_lt table 0x2d) [
     step a b d false rest = rest
 
     others : 0x2d ≤ table → count v table ≤ count (record v { rows = repeat 64 (16777215 ∷ []) }) table
-    others high = step _ _ _ (nat_eq table 0x30) (step _ _ _ (nat_eq table 0x32) (step _ _ _ (nat_eq table 0x33) (step _ _ _ (nat_eq table 0x34) (step _ _ _ (nat_eq table 0x35) (none high _)))))
+    others high = step _ _ _ (nat_eq table 0x30)
+        (step _ _ _ (nat_eq table 0x32) (step _ _ _ (nat_eq table 0x33) (step _ _ _ (nat_eq table 0x34) (step _ _ _ (nat_eq table 0x35) (none high _)))))
 
 -- a sound file is sound where its rows are not counted
 pub sound_moved : (file : NotedFile) → SoundParts file → SoundMoved file
-sound_moved file sound = sound_more (value_of_noted file) (record (value_of_noted file) { rows = repeat 64 (16777215 ∷ []) }) (more_rows (value_of_noted file) sound.rows) file sound.parts
+sound_moved file sound = sound_more (value_of_noted file) (record (value_of_noted file) { rows = repeat 64 (16777215 ∷ []) })
+    (more_rows (value_of_noted file) sound.rows) file sound.parts

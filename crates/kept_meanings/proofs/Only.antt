@@ -1,5 +1,6 @@
 -- What is left of the parts of all files by a test that only the parts of one pass.
-use Rattle.std.proofs.Common.{◌≡◌, ◌≢◌, ℕ, zero, suc, ◌+◌, ◌++◌, ◌&&◌, not, Bool, true, false, cond, List, [], ◌∷◌, Option, Some, None, length, map, flat_map, refl, sym, ◌∙◌, ap, subst, arith, append-nil}
+use Rattle.std.proofs.Common.{◌≡◌, ◌≢◌, ℕ, zero, suc, ◌+◌, ◌++◌, ◌&&◌, not, Bool, true, false, cond, List, [], ◌∷◌, Option, Some, None, length, map, flat_map}
+use Rattle.std.proofs.Common.{refl, sym, ◌∙◌, ap, subst, arith, append-nil}
 use Rattle.std.specs.Prelude.{nat_eq}
 use Rattle.std.specs.List.{filter, find, list_any}
 use Rattle.std.specs.Option.{option_map}
@@ -31,7 +32,8 @@ pub find_map : {A B : Type 0} (f : A → B) (p : B → Bool) (xs : List A) → f
 find_map f p [] = refl
 find_map f p (x ∷ xs) = step (p (f x)) (find_map f p xs)
   where
-    step : (b : Bool) → find p (map f xs) ≡ option_map f (find (λ x. p (f x)) xs) → cond b (Some (f x)) (find p (map f xs)) ≡ option_map f (cond b (Some x) (find (λ x. p (f x)) xs))
+    step : (b : Bool) → find p (map f xs) ≡ option_map f (find (λ x. p (f x)) xs)
+        → cond b (Some (f x)) (find p (map f xs)) ≡ option_map f (cond b (Some x) (find (λ x. p (f x)) xs))
     step true rest = refl
     step false rest = rest
 
@@ -65,7 +67,8 @@ module _ {A : Type 0} (g : NotedFile → List A) (p : A → Bool) (documents : L
       filter-append p (g (renumbered documents shift f)) (flat_map g (renumbered_all documents (shift + length f.imports) (fs ++ file ∷ after)))
       ∙ ap (λ l. l ++ filter p (flat_map g (renumbered_all documents (shift + length f.imports) (fs ++ file ∷ after)))) (none.0 shift)
       ∙ only_one (shift + length f.imports) fs after file none.1 also
-      ∙ (let e : (shift + length f.imports) + imports_in fs ≡ shift + (length f.imports + imports_in fs) = omega arith in ap (λ n. filter p (g (renumbered documents n file))) e)
+      ∙ (let e : (shift + length f.imports) + imports_in fs
+      ≡ shift + (length f.imports + imports_in fs) = omega arith in ap (λ n. filter p (g (renumbered documents n file))) e)
 
 -- ---- what is left of later lists
 
@@ -84,7 +87,8 @@ module _ {A : Type 0} (same : A → A → Bool) (p : A → Bool) (alike : (x e :
   left_of earlier (x ∷ xs) fails = step (p x) refl (list_any (same x) earlier) refl (left_of earlier xs fails)
     where
       step : (b : Bool) → p x ≡ b → (c : Bool) → list_any (same x) earlier ≡ c → filter p (filter (λ x. not (list_any (same x) earlier)) xs) ≡ filter p xs
-          → filter p (cond (not c) (x ∷ filter (λ x. not (list_any (same x) earlier)) xs) (filter (λ x. not (list_any (same x) earlier)) xs)) ≡ cond b (x ∷ filter p xs) (filter p xs)
+          → filter p (cond (not c) (x ∷ filter (λ x. not (list_any (same x) earlier)) xs) (filter (λ x. not (list_any (same x) earlier)) xs))
+          ≡ cond b (x ∷ filter p xs) (filter p xs)
       step true is true any rest = absurd (both_ways (list_any (same x) earlier) (not_among x earlier is fails) any)
       step true is false any rest = rw is (ap (λ l. x ∷ l) rest)
       step false is true any rest = rest
@@ -94,7 +98,8 @@ module _ {A : Type 0} (same : A → A → Bool) (p : A → Bool) (alike : (x e :
   Each-join [] ys a b = b
   Each-join (x ∷ xs) ys a b = (a.0, Each-join xs ys a.1 b)
 
-  none_fresh : (earlier : List A) (lists : List (List A)) → Each (λ l. Each (λ e. p e ≡ false) l) lists → Each (λ e. p e ≡ false) earlier → filter p (fresh same earlier lists) ≡ []
+  none_fresh : (earlier : List A) (lists : List (List A)) → Each (λ l. Each (λ e. p e ≡ false) l) lists → Each (λ e. p e ≡ false) earlier
+      → filter p (fresh same earlier lists) ≡ []
   none_fresh earlier [] fails also = refl
   none_fresh earlier (items ∷ more) fails also =
       filter-append p (filter (λ x. not (list_any (same x) earlier)) items) (fresh same (earlier ++ items) more)
@@ -118,7 +123,8 @@ module _ {A : Type 0} (same : A → A → Bool) (p : A → Bool) (alike : (x e :
           step true rest = rw fails.0 rest
           step false rest = rest
 
-  pub fresh_only : (earlier : List A) (before after : List (List A)) (items : List A) → Each (λ e. p e ≡ false) earlier → Each (λ l. Each (λ e. p e ≡ false) l) before
+  pub fresh_only : (earlier : List A) (before after : List (List A)) (items : List A) → Each (λ e. p e ≡ false) earlier
+      → Each (λ l. Each (λ e. p e ≡ false) l) before
       → Each (λ l. Each (λ e. p e ≡ false) l) after → filter p (fresh same earlier (before ++ items ∷ after)) ≡ filter p items
   fresh_only earlier [] after items fails none also =
       filter-append p (filter (λ x. not (list_any (same x) earlier)) items) (fresh same (earlier ++ items) after)
@@ -130,13 +136,15 @@ module _ {A : Type 0} (same : A → A → Bool) (p : A → Bool) (alike : (x e :
       ∙ fresh_only (earlier ++ b) bs after items (Each-join earlier b fails none.0) none.1 also
 
 -- one item alone is in order
-pub one_in_order : {A : Type 0} (key : A → ℕ) (p : A → Bool) (xs : List A) → Pairs (λ a b. p a ≡ true → p b ≡ false) xs → in_order key (filter p xs) ≡ filter p xs
+pub one_in_order : {A : Type 0} (key : A → ℕ) (p : A → Bool) (xs : List A) → Pairs (λ a b. p a ≡ true → p b ≡ false) xs
+    → in_order key (filter p xs) ≡ filter p xs
 one_in_order key p [] pairs = refl
 one_in_order key p (x ∷ xs) pairs = step (p x) refl (one_in_order key p xs pairs.1)
   where
     none : p x ≡ true → filter p xs ≡ []
     none is = none_left p xs (Each-weaker (λ y. p x ≡ true → p y ≡ false) (λ y. p y ≡ false) (λ y fails. fails is) xs pairs.0)
 
-    step : (b : Bool) → p x ≡ b → in_order key (filter p xs) ≡ filter p xs → in_order key (cond b (x ∷ filter p xs) (filter p xs)) ≡ cond b (x ∷ filter p xs) (filter p xs)
+    step : (b : Bool) → p x ≡ b → in_order key (filter p xs) ≡ filter p xs
+        → in_order key (cond b (x ∷ filter p xs) (filter p xs)) ≡ cond b (x ∷ filter p xs) (filter p xs)
     step true is rest = rw (none is) refl
     step false is rest = rest

@@ -77,7 +77,8 @@ pub record KeepsMeaning (inputs : List MovedBy) (value : FileValue) : Type 0 whe
       → meaning value (moved_row input.1.map 0x06 method) y ≡ meaning_image input.1.map method (meaning input.1.value method x)
   pub all_links : (input : Input) (method : ℕ) → Contains (in_turn inputs) input → NamesMethod input method
       → links value (moved_row input.1.map 0x06 method) ≡ links_image input.0 input.1.map method (links input.1.value method)
-  pub points : (input : Input) (method x y : ℕ) (p : Point) → Contains (in_turn inputs) input → NamesMethod input method → Kept (offsets_in input.1.map method) x y
+  pub points : (input : Input) (method x y : ℕ) (p : Point) → Contains (in_turn inputs) input → NamesMethod input method
+      → Kept (offsets_in input.1.map method) x y
       → Contains (points_of input.1.value method) p → p.offset ≡ x
       → (q : Point) × Contains (points_of value (moved_row input.1.map 0x06 method)) q × (q.offset ≡ y) × (q.span ≡ p.span)
 

@@ -1,5 +1,6 @@
 -- What a map that fits a file says of a method that the file names.
-use Rattle.std.proofs.Common.{◌≡◌, ◌≢◌, ℕ, zero, suc, ◌+◌, ◌<◌, ◌≤◌, ◌&&◌, ◌||◌, not, Bool, true, false, cond, List, [], ◌∷◌, ◌++◌, Option, Some, None, refl, sym, ◌∙◌, ap, subst, arith, flat_map, map}
+use Rattle.std.proofs.Common.{◌≡◌, ◌≢◌, ℕ, zero, suc, ◌+◌, ◌<◌, ◌≤◌, ◌&&◌, ◌||◌, not, Bool, true, false, cond, List, [], ◌∷◌, ◌++◌, Option, Some, None, refl}
+use Rattle.std.proofs.Common.{sym, ◌∙◌, ap, subst, arith, flat_map, map}
 use Rattle.std.specs.Prelude.{nat_eq, All, AllPairs, IfSome, unwrap_or, Contains}
 use Rattle.std.specs.List.{filter, find, repeat, AllByRecursion}
 use Rattle.std.specs.Option.{option_map}
@@ -28,7 +29,8 @@ use Rattle.sound_values.specs.Methods.{SoundMethod}
 use Rattle.ppdb_noted.specs.declared.file.NotedScope.{NotedScope}
 use Rattle.ppdb_noted.specs.declared.file.NotedFile.{NotedFile}
 use Rattle.ppdb_noted.specs.Each.{Each, Pairs}
-use Rattle.ppdb_noted.specs.NamedRows.{Named, names, names_some, named_rows, in_entry, all_named, live_file, live_method, live_scope, live_machine, live_custom, in_steps}
+use Rattle.ppdb_noted.specs.NamedRows.{Named, names, names_some, named_rows, in_entry, all_named, live_file, live_method, live_scope, live_machine}
+use Rattle.ppdb_noted.specs.NamedRows.{live_custom, in_steps}
 use Rattle.ppdb_noted.specs.SoundParts.{SoundMoved, SoundNotedScope}
 use Rattle.ppdb_noted.specs.Unnoted.{value_of_noted}
 use Rattle.ppdb_moved.specs.Laws.{FitsAreOfMethods}
@@ -59,7 +61,10 @@ offsets_rise m ready method = by_drop (is_dropped m method)
     by_drop false = by_line (method_line m method) (found_holds (IsLineOf m) (λ l. nat_eq l.method method) m.methods ready.methods)
 
 pub moved_dropped : (m : Map) (row : ℕ) → is_dropped m row ≡ true → moved_row m 0x06 row ≡ 0
-moved_dropped m row is = ap (λ b. cond (nat_eq row 0) 0 (unwrap_or (cond b None (elim (count_of m 0x06) as (λ _. Option ℕ) [ None ↦ Some row | Some count ↦ row_line m 0x06 row ])) 0)) is ∙ by_zero (nat_eq row 0)
+moved_dropped m row is = ap
+    (λ b. cond (nat_eq row 0) 0
+    (unwrap_or (cond b None (elim (count_of m 0x06) as (λ _. Option ℕ) [ None ↦ Some row | Some count ↦ row_line m 0x06 row ])) 0)) is
+    ∙ by_zero (nat_eq row 0)
   where
     by_zero : (b : Bool) → ◌≡◌ {A = ℕ} (cond b 0 0) 0
     by_zero true = refl
@@ -136,7 +141,8 @@ module _ (first : Bool) (m : Map) (w : NotedFile) (method : ℕ) (above : 1 ≤ 
           there : Each In (names 0x06 w.entry ∷ [])
           there = subst (Each In) is_entry parts.entry
 
-  method_fits : (e : MethodValue) → AllPairs (λ (p q : Point). p.offset < q.offset) e.points → Each (λ (p : Point). p.offset < old_size (offsets_in m e.method)) e.points
+  method_fits : (e : MethodValue) → AllPairs (λ (p q : Point). p.offset < q.offset) e.points
+      → Each (λ (p : Point). p.offset < old_size (offsets_in m e.method)) e.points
       → (is_dropped m e.method ≡ false → In (names 0x06 e.method)) → FitsMethod m method e
   method_fits e rise under there = record { rise = points_are_rising (old_size (offsets_in m e.method)) e.points rise under; own = own e.method there }
 
@@ -158,7 +164,8 @@ module _ (first : Bool) (m : Map) (w : NotedFile) (method : ℕ) (above : 1 ≤ 
       one Empty sound within = tt
       one (Held range) sound within = (sound.0, within)
 
-  body_fits : (value : FileValue) (offsets : Offsets) (kind : Kind) (body : CustomBody) → IsBodyOfKind value kind body → AreWithin (old_size offsets) body → FitsSlots offsets body
+  body_fits : (value : FileValue) (offsets : Offsets) (kind : Kind) (body : CustomBody) → IsBodyOfKind value kind body → AreWithin (old_size offsets) body
+      → FitsSlots offsets body
   body_fits value offsets kinds.Hoisted (Hoisted slots) sound within = slots_fit offsets slots sound within
   body_fits value offsets kinds.Async (Hoisted slots) sound within = absurd sound
   body_fits value offsets kinds.TypeDocuments (Hoisted slots) sound within = absurd sound
@@ -188,17 +195,20 @@ fits_file first m w method above below ready sound fits named = record {
   methods = each_of_three (SoundMethod value) (λ e. Each (λ (p : Point). p.offset < old_size (offsets_in m e.method)) e.points)
       (λ e. is_dropped m e.method ≡ false → Contains (named_rows first m w) (names 0x06 e.method)) (FitsMethod m method) w.methods
       (λ e sound_e under there. method_fits first m w method above below ready fits named e sound_e.rise under there) sound.methods fits.points
-      (Each-weaker (λ e. is_dropped m e.method ≡ false → In_ (names 0x06 e.method) × Each In_ (names_some 0x11 e.signature)) (λ e. is_dropped m e.method ≡ false → In_ (names 0x06 e.method))
+      (Each-weaker (λ e. is_dropped m e.method ≡ false → In_ (names 0x06 e.method) × Each In_ (names_some 0x11 e.signature))
+      (λ e. is_dropped m e.method ≡ false → In_ (names 0x06 e.method))
       (λ e holds is. (holds is).0) w.methods named_in.methods);
   scopes = each_of_three (SoundNotedScope value) (λ s. s.range.end ≤ old_size (offsets_in m s.method))
       (λ s. is_dropped m s.method ≡ false → Contains (named_rows first m w) (names 0x06 s.method)) (FitsScope m method) w.scopes
       (scope_fits first m w method above below ready fits named value) sound.scopes fits.ranges named_in.scopes;
-  machines = Each-weaker (λ r. live_machine m r ≡ true → Contains (named_rows first m w) (names 0x06 r.move_next) × Contains (named_rows first m w) (names 0x06 r.kickoff))
+  machines = Each-weaker
+      (λ r. live_machine m r ≡ true → Contains (named_rows first m w) (names 0x06 r.move_next) × Contains (named_rows first m w) (names 0x06 r.kickoff))
       (FitsMachine m method) (machine_fits first m w method above below ready fits named) w.machines named_in.machines;
   customs = each_of_three (λ c. (c.parent.table < 0x2d) × SoundCustom value c) (λ c. AreWithin (old_size (offsets_in m c.parent.row)) c.value)
       (λ c. live_custom m c ≡ true → Contains (named_rows first m w) (names c.parent.table c.parent.row)) (FitsCustom m method) w.customs
       (λ c sound_c within there. custom_fits first m w method above below ready fits named value c sound_c.1 within there) sound.customs fits.hoisted
-      (Each-weaker (λ c. live_custom m c ≡ true → In_ (names c.parent.table c.parent.row) × Each In_ (in_steps c.value)) (λ c. live_custom m c ≡ true → In_ (names c.parent.table c.parent.row))
+      (Each-weaker (λ c. live_custom m c ≡ true → In_ (names c.parent.table c.parent.row) × Each In_ (in_steps c.value))
+      (λ c. live_custom m c ≡ true → In_ (names c.parent.table c.parent.row))
       (λ c holds is. (holds is).0) w.customs named_in.customs);
 }
   where

@@ -56,6 +56,7 @@ pub each_of_three : {A : Type 0} (P Q R S : A → Type 0) (xs : List A) → ((x 
 each_of_three P Q R S [] all p q r = tt
 each_of_three P Q R S (x ∷ xs) all p q r = (all x p.0 q.0 r.0, each_of_three P Q R S xs all p.1 q.1 r.1)
 
-pub each_of_four : {A : Type 0} (P Q R S T : A → Type 0) (xs : List A) → ((x : A) → P x → Q x → R x → S x → T x) → Each P xs → Each Q xs → Each R xs → Each S xs → Each T xs
+pub each_of_four : {A : Type 0} (P Q R S T : A → Type 0) (xs : List A) → ((x : A) → P x → Q x → R x → S x → T x) → Each P xs → Each Q xs → Each R xs
+    → Each S xs → Each T xs
 each_of_four P Q R S T [] all p q r s = tt
 each_of_four P Q R S T (x ∷ xs) all p q r s = (all x p.0 q.0 r.0 s.0, each_of_four P Q R S T xs all p.1 q.1 r.1 s.1)

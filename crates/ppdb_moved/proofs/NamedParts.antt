@@ -10,7 +10,8 @@ use Rattle.ppdb_values.specs.declared.noted.Noted.{Noted}
 use Rattle.ppdb_noted.specs.declared.file.NotedScope.{NotedScope}
 use Rattle.ppdb_noted.specs.declared.file.NotedFile.{NotedFile}
 use Rattle.ppdb_noted.specs.Each.{Each}
-use Rattle.ppdb_noted.specs.NamedRows.{Named, names, names_some, named_rows, in_entry, in_constant, in_import, in_steps, all_named, live_file, live_method, live_scope, live_machine, live_custom}
+use Rattle.ppdb_noted.specs.NamedRows.{Named, names, names_some, named_rows, in_entry, in_constant, in_import, in_steps, all_named, live_file, live_method}
+use Rattle.ppdb_noted.specs.NamedRows.{live_scope, live_machine, live_custom}
 use Rattle.ppdb_noted.proofs.Lists.{Each-weaker, Each-unmap}
 use Rattle.ppdb_moved.proofs.Elements.{each_parts, each_made, each_left}
 
@@ -24,7 +25,8 @@ pub record NamedParts (P : Named → Type 0) (first : Bool) (m : Map) (w : Noted
   pub customs : Each (λ c. live_custom m c ≡ true → P (names c.parent.table c.parent.row) × Each P (in_steps c.value)) w.customs
 
 -- what is left of a part of live items
-live_made : {A B : Type 0} (live : A → Bool) (f : A → List B) (P : B → Type 0) (xs : List A) → Each P (flat_map f (filter live xs)) → Each (λ x. live x ≡ true → Each P (f x)) xs
+live_made : {A B : Type 0} (live : A → Bool) (f : A → List B) (P : B → Type 0) (xs : List A) → Each P (flat_map f (filter live xs))
+    → Each (λ x. live x ≡ true → Each P (f x)) xs
 live_made live f P xs each = each_left (λ x. Each P (f x)) live xs (each_made f P (filter live xs) each)
 
 pub named_parts : (P : Named → Type 0) (first : Bool) (m : Map) (w : NotedFile) → Each P (named_rows first m w) → NamedParts P first m w
@@ -37,17 +39,23 @@ named_parts P first m w each =
     let machines = each_parts P (flat_map of_machine (filter (live_machine m) w.machines)) (flat_map of_custom (filter (live_custom m) w.customs)) imports.1 in
     record {
       entry = entry.0;
-      methods = Each-weaker (λ e. live_method m e ≡ true → Each P (of_method e)) (λ e. is_dropped m e.method ≡ false → P (names 0x06 e.method) × Each P (names_some 0x11 e.signature))
+      methods = Each-weaker (λ e. live_method m e ≡ true → Each P (of_method e))
+          (λ e. is_dropped m e.method ≡ false → P (names 0x06 e.method) × Each P (names_some 0x11 e.signature))
           (λ e holds is. let both = holds (ap not is) in (both.0, both.1)) w.methods (live_made (live_method m) of_method P w.methods methods.0);
-      scopes = Each-weaker (λ s. live_scope m s ≡ true → P (names 0x06 s.method)) (λ s. is_dropped m s.method ≡ false → P (names 0x06 s.method)) (λ s holds is. holds (ap not is)) w.scopes
-          (each_left (λ s. P (names 0x06 s.method)) (live_scope m) w.scopes (Each-unmap (λ (s : NotedScope). names 0x06 s.method) P (filter (live_scope m) w.scopes) scopes.0));
-      constants = Each-weaker (λ s. live_scope m s ≡ true → Each P (of_constants s)) (λ s. is_dropped m s.method ≡ false → Each (λ n. Each P (in_constant n)) s.constants)
+      scopes = Each-weaker (λ s. live_scope m s ≡ true → P (names 0x06 s.method)) (λ s. is_dropped m s.method ≡ false → P (names 0x06 s.method))
+          (λ s holds is. holds (ap not is)) w.scopes
+          (each_left (λ s. P (names 0x06 s.method)) (live_scope m) w.scopes
+          (Each-unmap (λ (s : NotedScope). names 0x06 s.method) P (filter (live_scope m) w.scopes) scopes.0));
+      constants = Each-weaker (λ s. live_scope m s ≡ true → Each P (of_constants s))
+          (λ s. is_dropped m s.method ≡ false → Each (λ n. Each P (in_constant n)) s.constants)
           (λ s holds is. each_made in_constant P s.constants (holds (ap not is))) w.scopes (live_made (live_scope m) of_constants P w.scopes constants.0);
       imports = Each-weaker (λ i. Each P (of_imports i)) (λ (i : Noted ImportScopeValue). Each (λ n. Each P (in_import n)) i.item.imports)
           (λ i holds. each_made in_import P i.item.imports holds) w.imports (each_made of_imports P w.imports imports.0);
-      machines = Each-weaker (λ r. live_machine m r ≡ true → Each P (of_machine r)) (λ r. live_machine m r ≡ true → P (names 0x06 r.move_next) × P (names 0x06 r.kickoff))
+      machines = Each-weaker (λ r. live_machine m r ≡ true → Each P (of_machine r))
+          (λ r. live_machine m r ≡ true → P (names 0x06 r.move_next) × P (names 0x06 r.kickoff))
           (λ r holds is. let both = holds is in (both.0, both.1.0)) w.machines (live_made (live_machine m) of_machine P w.machines machines.0);
-      customs = Each-weaker (λ c. live_custom m c ≡ true → Each P (of_custom c)) (λ c. live_custom m c ≡ true → P (names c.parent.table c.parent.row) × Each P (in_steps c.value))
+      customs = Each-weaker (λ c. live_custom m c ≡ true → Each P (of_custom c))
+          (λ c. live_custom m c ≡ true → P (names c.parent.table c.parent.row) × Each P (in_steps c.value))
           (λ c holds is. let both = holds is in (both.0, both.1)) w.customs (live_made (live_custom m) of_custom P w.customs machines.1);
     }
   where

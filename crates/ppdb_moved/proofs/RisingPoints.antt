@@ -1,10 +1,12 @@
 -- The points that stay rise, and their offsets are offsets.
-use Rattle.std.proofs.Common.{◌≡◌, ◌≢◌, ℕ, zero, suc, ◌+◌, ◌<◌, ◌≤◌, ◌++◌, Bool, true, false, cond, List, [], ◌∷◌, refl, sym, subst, arith, inl, inr, length, get_or}
+use Rattle.std.proofs.Common.{◌≡◌, ◌≢◌, ℕ, zero, suc, ◌+◌, ◌<◌, ◌≤◌, ◌++◌, Bool, true, false, cond, List, [], ◌∷◌, refl, sym, subst, arith, inl, inr, length}
+use Rattle.std.proofs.Common.{get_or}
 use Rattle.std.specs.Prelude.{All, AllPairs}
 use Rattle.std.proofs.lemmas.List.Elements.{All-head}
 use Rattle.std.proofs.lemmas.List.Kept.{AllPairs-cons}
 use Rattle.sequence_points.proofs.Follows.{pairs-head, pairs-tail}
-use Rattle.ppdb_base.specs.Offsets.{Offsets, every, gone, lined, Rise, Kept, Moves, IsNextIn, KeepsBetween, all_offsets, stop_runs, moved, old_size, is_kept_between}
+use Rattle.ppdb_base.specs.Offsets.{Offsets, every, gone, lined, Rise, Kept, Moves, IsNextIn, KeepsBetween, all_offsets, stop_runs, moved, old_size}
+use Rattle.ppdb_base.specs.Offsets.{is_kept_between}
 use Rattle.ppdb_base.specs.declared.offsets.Run.{Run}
 use Rattle.ppdb_base.proofs.Moved.{moves_right, moved_is, moved_kept, moved_never_falls, moved_passes, is_kept}
 use Rattle.sequence_points.specs.declared.point.Point.{Point}
@@ -32,7 +34,8 @@ all_pairs R (x ∷ xs) pairs = AllPairs-cons R x xs (all_each (R x) xs pairs.0) 
 pub size_moved : (runs : List Run) (old new : ℕ) → Rise (lined runs old new) → moved (lined runs old new) old ≡ new
 size_moved runs old new rise = moved_is (lined runs old new) rise old new (record {
   stop = old;
-  stops = moves_right runs (record { old = old; new = new; length = 1 } ∷ []) old new (inl (record { step = 0; inside = omega arith; old = omega arith; new = omega arith }));
+  stops = moves_right runs (record { old = old; new = new; length = 1 } ∷ []) old new
+      (inl (record { step = 0; inside = omega arith; old = omega arith; new = omega arith }));
   after = omega arith;
   least = λ other image moves le. le;
 })
@@ -69,7 +72,8 @@ module _ (o : Offsets) (rise : Rise o) (live : o ≢ gone) where
   points_rise [] points = tt
   points_rise (p ∷ ps) points = step (is_kept_between o p.offset (first_offset (old_size o) ps)) refl (points_rise ps points.1)
     where
-      passes : KeepsBetween o p.offset (first_offset (old_size o) ps) → (u : ℕ) → first_offset (old_size o) ps ≤ u → u ≤ old_size o → moved o p.offset < moved o u
+      passes : KeepsBetween o p.offset (first_offset (old_size o) ps) → (u : ℕ) → first_offset (old_size o) ps ≤ u → u ≤ old_size o
+          → moved o p.offset < moved o u
       passes kept u from to =
           let before = kept.before in let after = kept.after in
           let up : moved o p.offset ≤ moved o kept.offset = moved_never_falls o rise live p.offset kept.offset kept.after (omega (arith, before, from, to)) in
@@ -83,7 +87,8 @@ module _ (o : Offsets) (rise : Rise o) (live : o ≢ gone) where
       step false is rest = rest
 
 -- points whose offsets rise below an end
-pub points_are_rising : (end : ℕ) (ps : List Point) → AllPairs (λ (p q : Point). p.offset < q.offset) ps → Each (λ (p : Point). p.offset < end) ps → PointsRise end ps
+pub points_are_rising : (end : ℕ) (ps : List Point) → AllPairs (λ (p q : Point). p.offset < q.offset) ps → Each (λ (p : Point). p.offset < end) ps
+    → PointsRise end ps
 points_are_rising end [] pairs below = tt
 points_are_rising end (p ∷ []) pairs below = (below.0, tt)
 points_are_rising end (p ∷ q ∷ ps) pairs below =

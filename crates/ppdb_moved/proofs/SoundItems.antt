@@ -1,5 +1,6 @@
 -- The items of a sound file are sound after they have moved.
-use Rattle.std.proofs.Common.{◌≡◌, ◌≢◌, ℕ, zero, suc, ◌<◌, ◌≤◌, ◌⊎◌, ◌++◌, Bool, true, false, cond, List, [], ◌∷◌, Option, Some, None, map, refl, sym, ◌∙◌, ap, subst, arith, inl, inr}
+use Rattle.std.proofs.Common.{◌≡◌, ◌≢◌, ℕ, zero, suc, ◌<◌, ◌≤◌, ◌⊎◌, ◌++◌, Bool, true, false, cond, List, [], ◌∷◌, Option, Some, None, map, refl, sym, ◌∙◌}
+use Rattle.std.proofs.Common.{ap, subst, arith, inl, inr}
 use Rattle.std.specs.Prelude.{nat_eq, nat_lt, not, All, IfSome, IsSome, get_or}
 use Rattle.std.specs.List.{repeat}
 use Rattle.std.specs.Option.{option_map}
@@ -26,7 +27,8 @@ use Rattle.ppdb_values.specs.declared.scope.ConstantValue.{ConstantValue}
 use Rattle.ppdb_values.specs.declared.scope.ConstantBody.{ConstantBody}
 use Rattle.ppdb_values.specs.declared.scope.ConstantBody.TheVariants.{Primitive, Enumerated, General, Object}
 use Rattle.ppdb_values.specs.declared.import.ImportValue.{ImportValue}
-use Rattle.ppdb_values.specs.declared.import.ImportValue.TheVariants.{Namespace, AssemblyNamespace, Target, Xml, Alias, AssemblyAlias, NamespaceAlias, AssemblyNamespaceAlias, TargetAlias}
+use Rattle.ppdb_values.specs.declared.import.ImportValue.TheVariants.{Namespace, AssemblyNamespace, Target, Xml, Alias, AssemblyAlias, NamespaceAlias}
+use Rattle.ppdb_values.specs.declared.import.ImportValue.TheVariants.{AssemblyNamespaceAlias, TargetAlias}
 use Rattle.ppdb_values.specs.declared.custom.CustomBody.{CustomBody}
 use Rattle.ppdb_values.specs.declared.custom.CustomBody.TheVariants.{Async, Hoisted, TypeDocuments, Unread}
 use Rattle.ppdb_values.specs.declared.noted.Noted.{Noted}
@@ -39,7 +41,8 @@ use Rattle.ppdb_noted.specs.Each.{Each}
 use Rattle.ppdb_noted.specs.NamedRows.{names, in_token, in_body, in_constant, in_import, in_steps}
 use Rattle.ppdb_noted.proofs.Lists.{Each-map, Each-unmap, Each-weaker}
 use Rattle.ppdb_moved.specs.Fits.{IsImaged, KeepsStep, KeepsAsync, EndsWithin, AreWithin}
-use Rattle.ppdb_moved.specs.Moved.{moved_range, is_empty, moved_slot, moved_step, moved_body, moved_token, moved_modifier, moved_constant_body, moved_constant, moved_import}
+use Rattle.ppdb_moved.specs.Moved.{moved_range, is_empty, moved_slot, moved_step, moved_body, moved_token, moved_modifier, moved_constant_body}
+use Rattle.ppdb_moved.specs.Moved.{moved_constant, moved_import}
 use Rattle.ppdb_moved.proofs.Elements.{each_parts}
 use Rattle.ppdb_moved.proofs.Lists.{Each-both}
 use Rattle.ppdb_moved.proofs.Means.{kept_within}
@@ -82,19 +85,23 @@ small_in (lined runs old new) rise fits x small within =
 
 -- ---- types and imports
 
-within_types : (u : FileValue) (table row : ℕ) → (table ≡ 0x02) ⊎ ((table ≡ 0x01) ⊎ (table ≡ 0x1b)) → row ≤ 16777215 → row ≤ rows_of (type_limits (most u)) (tag_of table)
+within_types : (u : FileValue) (table row : ℕ) → (table ≡ 0x02) ⊎ ((table ≡ 0x01) ⊎ (table ≡ 0x1b)) → row ≤ 16777215
+    → row ≤ rows_of (type_limits (most u)) (tag_of table)
 within_types u table row (inl is) below = subst (λ t. row ≤ rows_of (type_limits (most u)) (tag_of t)) (sym is) below
 within_types u table row (inr (inl is)) below = subst (λ t. row ≤ rows_of (type_limits (most u)) (tag_of t)) (sym is) below
 within_types u table row (inr (inr is)) below = subst (λ t. row ≤ rows_of (type_limits (most u)) (tag_of t)) (sym is) below
 
 token_moved : (m : Map) → IsReadable m → (v u : FileValue) (t : TypeToken) → HasType (most v) t → IsImaged m (in_token t) → HasType (most u) (moved_token m t)
 token_moved m ready v u t has image =
-    let row = row_moved m ready t.table t.row has.1.0 has.0.1 image in ((has.0.0, row.1), (row.0, within_types u t.table (moved_row m t.table t.row) has.0.0 row.1))
+    let row = row_moved m ready t.table t.row has.1.0 has.0.1 image in
+    ((has.0.0, row.1), (row.0, within_types u t.table (moved_row m t.table t.row) has.0.0 row.1))
 
-assembly_moved : (m : Map) → IsReadable m → (v u : FileValue) (row : ℕ) → HasRow (most v) 0x23 row → IsImaged m (names 0x23 row) → HasRow (most u) 0x23 (moved_row m 0x23 row)
+assembly_moved : (m : Map) → IsReadable m → (v u : FileValue) (row : ℕ) → HasRow (most v) 0x23 row → IsImaged m (names 0x23 row)
+    → HasRow (most u) 0x23 (moved_row m 0x23 row)
 assembly_moved m ready v u row has image = row_moved m ready 0x23 row has.0 has.1 image
 
-pub import_moved : (m : Map) → IsReadable m → (v u : FileValue) (i : ImportValue) → SoundImport (most v) i → Each (IsImaged m) (in_import i) → SoundImport (most u) (moved_import m i)
+pub import_moved : (m : Map) → IsReadable m → (v u : FileValue) (i : ImportValue) → SoundImport (most v) i → Each (IsImaged m) (in_import i)
+    → SoundImport (most u) (moved_import m i)
 import_moved m ready v u (Namespace namespace) sound images = tt
 import_moved m ready v u (AssemblyNamespace assembly namespace) sound images = assembly_moved m ready v u assembly sound images.0
 import_moved m ready v u (Target target) sound images = token_moved m ready v u target sound images.0
@@ -107,8 +114,10 @@ import_moved m ready v u (TargetAlias alias target) sound images = token_moved m
 
 -- ---- constants
 
-body_moved : (m : Map) → IsReadable m → (v u : FileValue) (body : ConstantBody) → IsBody (stored_body body) → IsBodyThere (type_limits (most v)) (stored_body body)
-    → Each (IsImaged m) (in_body body) → IsBody (stored_body (moved_constant_body m body)) × IsBodyThere (type_limits (most u)) (stored_body (moved_constant_body m body))
+body_moved : (m : Map) → IsReadable m → (v u : FileValue) (body : ConstantBody) → IsBody (stored_body body)
+    → IsBodyThere (type_limits (most v)) (stored_body body)
+    → Each (IsImaged m) (in_body body)
+    → IsBody (stored_body (moved_constant_body m body)) × IsBodyThere (type_limits (most u)) (stored_body (moved_constant_body m body))
 body_moved m ready v u (Primitive code value) is there images = (is, tt)
 body_moved m ready v u (Enumerated code value target) is there images =
     let has = token_moved m ready v u target (is.2, there) images.0 in ((is.0, is.1, has.0), has.1)
@@ -116,8 +125,10 @@ body_moved m ready v u (General code target rest) is there images =
     let has = token_moved m ready v u target (is.1, there) images.0 in ((is.0, has.0), has.1)
 body_moved m ready v u Object is there images = (tt, tt)
 
-modifiers_moved : (m : Map) → IsReadable m → (v u : FileValue) (modifiers : List Modifier) → Each (λ (modifier : Modifier). HasType (most v) modifier.target) modifiers
-    → Each (IsImaged m) (map (λ (modifier : Modifier). in_token modifier.target) modifiers) → Each (λ (modifier : Modifier). HasType (most u) modifier.target) (map (moved_modifier m) modifiers)
+modifiers_moved : (m : Map) → IsReadable m → (v u : FileValue) (modifiers : List Modifier)
+    → Each (λ (modifier : Modifier). HasType (most v) modifier.target) modifiers
+    → Each (IsImaged m) (map (λ (modifier : Modifier). in_token modifier.target) modifiers)
+    → Each (λ (modifier : Modifier). HasType (most u) modifier.target) (map (moved_modifier m) modifiers)
 modifiers_moved m ready v u [] sound images = tt
 modifiers_moved m ready v u (x ∷ xs) sound images = (token_moved m ready v u x.target sound.0 images.0, modifiers_moved m ready v u xs sound.1 images.1)
 
@@ -129,14 +140,16 @@ constant_moved m ready v u n sound images =
     record {
       name = sound.name;
       modifiers = all_each (λ (modifier : Modifier). HasType (most u) modifier.target) (map (moved_modifier m) n.item.modifiers)
-          (modifiers_moved m ready v u n.item.modifiers (each_all (λ (modifier : Modifier). HasType (most v) modifier.target) n.item.modifiers sound.modifiers) parts.0);
+          (modifiers_moved m ready v u n.item.modifiers
+          (each_all (λ (modifier : Modifier). HasType (most v) modifier.target) n.item.modifiers sound.modifiers) parts.0);
       body = body.0;
       body_there = body.1;
     }
 
 -- ---- records on methods and types
 
-slots_moved : (o : Offsets) → Rise o → SizeFits o → (slots : List Slot) → Each IsSlot slots → Each (EndsWithin (old_size o)) slots → Each IsSlot (map (moved_slot o) slots)
+slots_moved : (o : Offsets) → Rise o → SizeFits o → (slots : List Slot) → Each IsSlot slots → Each (EndsWithin (old_size o)) slots
+    → Each IsSlot (map (moved_slot o) slots)
 slots_moved o rise fits [] sound within = tt
 slots_moved o rise fits (s ∷ ss) sound within = (one s sound.0 within.0, slots_moved o rise fits ss sound.1 within.1)
   where
@@ -146,16 +159,23 @@ slots_moved o rise fits (s ∷ ss) sound within = (one s sound.0 within.0, slots
       where
         by_range : (b : Bool) → is_empty (moved_range o range) ≡ b → IsSlot (cond b Empty (Held (moved_range o range)))
         by_range true is = tt
-        by_range false is = (ltb-true (moved o range.start) (moved o range.end) (not-false (nat_lt (moved o range.start) (moved o range.end)) is), small_in o rise fits range.end sound.1 within)
+        by_range false is = (
+          ltb-true (moved o range.start) (moved o range.end)
+              (not-false (nat_lt (moved o range.start) (moved o range.end)) is),
+          small_in o rise fits range.end sound.1 within,
+        )
 
-step_moved : (m : Map) → IsReadable m → ((n : ℕ) → Rise (offsets_in m n)) → (v u : FileValue) (method : ℕ) (step : AsyncStep) → IsStep step × (step.method ≤ count (most v) 0x06) → KeepsStep m method step
+step_moved : (m : Map) → IsReadable m → ((n : ℕ) → Rise (offsets_in m n)) → (v u : FileValue) (method : ℕ) (step : AsyncStep)
+    → IsStep step × (step.method ≤ count (most v) 0x06) → KeepsStep m method step
     → IsImaged m (names 0x06 step.method) → IsStep (moved_step m method step) × ((moved_step m method step).method ≤ count (most u) 0x06)
 step_moved m ready rise v u method step sound keeps image =
     let row = row_moved m ready 0x06 step.method sound.0.2 sound.1 image in
     let below : moved_row m 0x06 step.method ≤ 16777215 = row.1 in (
       (
-        small_in (offsets_in m method) (rise method) (size_fits m ready method) step.pause sound.0.0 (kept_within (offsets_in m method) (rise method) step.pause keeps.0.0 keeps.0.1),
-        small_in (offsets_in m step.method) (rise step.method) (size_fits m ready step.method) step.resume sound.0.1 (kept_within (offsets_in m step.method) (rise step.method) step.resume keeps.1.0 keeps.1.1),
+        small_in (offsets_in m method) (rise method) (size_fits m ready method) step.pause sound.0.0
+            (kept_within (offsets_in m method) (rise method) step.pause keeps.0.0 keeps.0.1),
+        small_in (offsets_in m step.method) (rise step.method) (size_fits m ready step.method) step.resume sound.0.1
+            (kept_within (offsets_in m step.method) (rise step.method) step.resume keeps.1.0 keeps.1.1),
         row.0,
         omega (arith, below),
       ),
@@ -163,29 +183,34 @@ step_moved m ready rise v u method step sound keeps image =
     )
 
 steps_moved : (m : Map) → IsReadable m → ((n : ℕ) → Rise (offsets_in m n)) → (v u : FileValue) (method : ℕ) (steps : List AsyncStep)
-    → Each (λ (step : AsyncStep). IsStep step × (step.method ≤ count (most v) 0x06)) steps → Each (KeepsStep m method) steps → Each (IsImaged m) (map (λ (step : AsyncStep). names 0x06 step.method) steps)
+    → Each (λ (step : AsyncStep). IsStep step × (step.method ≤ count (most v) 0x06)) steps → Each (KeepsStep m method) steps
+    → Each (IsImaged m) (map (λ (step : AsyncStep). names 0x06 step.method) steps)
     → Each (λ (step : AsyncStep). IsStep step × (step.method ≤ count (most u) 0x06)) (map (moved_step m method) steps)
 steps_moved m ready rise v u method [] sound keeps images = tt
 steps_moved m ready rise v u method (s ∷ ss) sound keeps images =
     (step_moved m ready rise v u method s sound.0 keeps.0 images.0, steps_moved m ready rise v u method ss sound.1 keeps.1 images.1)
 
-handler_moved : (m : Map) → IsReadable m → ((n : ℕ) → Rise (offsets_in m n)) → (method : ℕ) (handler : Option ℕ) → IsHandler handler → IfSome handler (λ x. (image : ℕ) × Kept (offsets_in m method) x image)
+handler_moved : (m : Map) → IsReadable m → ((n : ℕ) → Rise (offsets_in m n)) → (method : ℕ) (handler : Option ℕ) → IsHandler handler
+    → IfSome handler (λ x. (image : ℕ) × Kept (offsets_in m method) x image)
     → IsHandler (option_map (moved (offsets_in m method)) handler)
 handler_moved m ready rise method None sound keeps = tt
 handler_moved m ready rise method (Some x) sound keeps =
     small_in (offsets_in m method) (rise method) (size_fits m ready method) x sound (kept_within (offsets_in m method) (rise method) x keeps.0 keeps.1)
 
 -- the body of a record moves to one of its kind, where the documents are as many
-pub body_kept : (m : Map) → IsReadable m → ((n : ℕ) → Rise (offsets_in m n)) → (v u : FileValue) → (count (most v) 0x30 ≡ count (most u) 0x30) → (method : ℕ) (kind : Kind) (body : CustomBody)
+pub body_kept : (m : Map) → IsReadable m → ((n : ℕ) → Rise (offsets_in m n)) → (v u : FileValue) → (count (most v) 0x30 ≡ count (most u) 0x30)
+    → (method : ℕ) (kind : Kind) (body : CustomBody)
     → IsBodyOfKind (most v) kind body → KeepsAsync m method body → AreWithin (old_size (offsets_in m method)) body → Each (IsImaged m) (in_steps body)
     → IsBodyOfKind (most u) kind (moved_body m method body)
 body_kept m ready rise v u same method kinds.Async (Async handler steps) sound keeps within images = (
   handler_moved m ready rise method handler sound.0 keeps.0,
   all_each (λ (step : AsyncStep). IsStep step × (step.method ≤ count (most u) 0x06)) (map (moved_step m method) steps)
-      (steps_moved m ready rise v u method steps (each_all (λ (step : AsyncStep). IsStep step × (step.method ≤ count (most v) 0x06)) steps sound.1) keeps.1 images),
+      (steps_moved m ready rise v u method steps
+      (each_all (λ (step : AsyncStep). IsStep step × (step.method ≤ count (most v) 0x06)) steps sound.1) keeps.1 images),
 )
 body_kept m ready rise v u same method kinds.Hoisted (Hoisted slots) sound keeps within images =
-    all_each IsSlot (map (moved_slot (offsets_in m method)) slots) (slots_moved (offsets_in m method) (rise method) (size_fits m ready method) slots (each_all IsSlot slots sound) within)
+    all_each IsSlot (map (moved_slot (offsets_in m method)) slots)
+    (slots_moved (offsets_in m method) (rise method) (size_fits m ready method) slots (each_all IsSlot slots sound) within)
 body_kept m ready rise v u same method kinds.TypeDocuments (TypeDocuments documents) sound keeps within images =
     λ k d less. ((sound k d less).0, subst (λ n. get_or documents k d ≤ n) same (sound k d less).1)
 body_kept m ready rise v u same method kinds.Free (Unread content) sound keeps within images = tt
@@ -209,7 +234,8 @@ body_kept m ready rise v u same method kinds.Unknown (TypeDocuments rows) sound 
 -- ---- ranges of one method
 
 pub ranges_moved : (o : Offsets) → Rise o → (o ≢ gone) → (a b : Range) → a.start < a.end → b.start < b.end → a.end ≤ old_size o → b.end ≤ old_size o
-    → is_empty (moved_range o a) ≡ false → ComesAfter a b → IsInOrAfter a b → ComesAfter (moved_range o a) (moved_range o b) × IsInOrAfter (moved_range o a) (moved_range o b)
+    → is_empty (moved_range o a) ≡ false → ComesAfter a b → IsInOrAfter a b
+    → ComesAfter (moved_range o a) (moved_range o b) × IsInOrAfter (moved_range o a) (moved_range o b)
 ranges_moved o rise live a b a_order b_order a_within b_within filled comes lies = (by_order comes, in_or_after lies)
   where
     starts_apart : moved o a.start < moved o a.end
@@ -221,7 +247,8 @@ ranges_moved o rise live a b a_order b_order a_within b_within filled comes lies
 
     at_one_start : moved o a.start ≡ moved o b.start → IsInOrAfter a b → moved o b.end ≤ moved o a.end
     at_one_start same (inl inside) = moved_never_falls o rise live b.end a.end inside a_within
-    at_one_start same (inr past) = absurd (omega (arith, same, starts_apart, moved_never_falls o rise live a.end b.start past (omega (arith, b_order, b_within))))
+    at_one_start same (inr past) = absurd
+        (omega (arith, same, starts_apart, moved_never_falls o rise live a.end b.start past (omega (arith, b_order, b_within))))
 
     by_start : moved o a.start ≤ moved o b.start → ComesAfter (moved_range o a) (moved_range o b)
     by_start le = elim (cases_lt (moved o a.start) (moved o b.start)) [
@@ -234,14 +261,17 @@ ranges_moved o rise live a b a_order b_order a_within b_within filled comes lies
     by_order (inr (same, within)) = inr (ap (moved o) same, moved_never_falls o rise live b.end a.end within a_within)
 
 -- an offset below 2 ^ 31 moves to one
-pub small_after : (m : Map) → IsReadable m → (method : ℕ) → Rise (offsets_in m method) → (x : ℕ) → x < 0x80000000 → x ≤ old_size (offsets_in m method) → moved (offsets_in m method) x < 0x80000000
+pub small_after : (m : Map) → IsReadable m → (method : ℕ) → Rise (offsets_in m method) → (x : ℕ) → x < 0x80000000 → x ≤ old_size (offsets_in m method)
+    → moved (offsets_in m method) x < 0x80000000
 small_after m ready method rise x small within = small_in (offsets_in m method) rise (size_fits m ready method) x small within
 
 -- what a body says of its kind is the same where the documents are as many
-pub body_same : (v u : FileValue) → (count (most v) 0x30 ≡ count (most u) 0x30) → (kind : Kind) (body : CustomBody) → IsBodyOfKind (most v) kind body → IsBodyOfKind (most u) kind body
+pub body_same : (v u : FileValue) → (count (most v) 0x30 ≡ count (most u) 0x30) → (kind : Kind) (body : CustomBody) → IsBodyOfKind (most v) kind body
+    → IsBodyOfKind (most u) kind body
 body_same v u same kinds.Async (Async handler steps) sound = sound
 body_same v u same kinds.Hoisted (Hoisted slots) sound = sound
-body_same v u same kinds.TypeDocuments (TypeDocuments documents) sound = λ k d less. ((sound k d less).0, subst (λ n. get_or documents k d ≤ n) same (sound k d less).1)
+body_same v u same kinds.TypeDocuments (TypeDocuments documents) sound = λ k d less.
+    ((sound k d less).0, subst (λ n. get_or documents k d ≤ n) same (sound k d less).1)
 body_same v u same kinds.Free (Unread content) sound = tt
 body_same v u same kinds.Unknown (Unread content) sound = tt
 body_same v u same kinds.Async (Hoisted slots) sound = absurd sound

@@ -21,19 +21,23 @@ use Rattle.ppdb_moved.specs.FitsMethod.{FitsScope, FitsMethod, FitsCustom, FitsE
 use Rattle.ppdb_noted.specs.Each.{Each, Pairs}
 
 abbrev pub ScopesMean : Type 0
-ScopesMean = (m : Map) (w : NotedFile) (method : ℕ) → Rise (offsets_in m method) → (offsets_in m method ≢ gone) → (x y : ℕ) → Kept (offsets_in m method) x y → x ≤ old_size (offsets_in m method)
+ScopesMean = (m : Map) (w : NotedFile) (method : ℕ) → Rise (offsets_in m method) → (offsets_in m method ≢ gone) → (x y : ℕ) → Kept (offsets_in m method) x y
+    → x ≤ old_size (offsets_in m method)
     → Each (FitsScope m method) w.scopes
     → map (scope_meaning (moved_file m w)) (scopes_at (moved_row m 0x06 method) y (moved_file m w).scopes)
     ≡ map (scope_image m method) (map (scope_meaning w) (scopes_at method x w.scopes))
 
 abbrev pub PointsMean : Type 0
-PointsMean = (m : Map) (w : NotedFile) (method : ℕ) → Rise (offsets_in m method) → (offsets_in m method ≢ gone) → (x y : ℕ) → Kept (offsets_in m method) x y → x ≤ old_size (offsets_in m method)
+PointsMean = (m : Map) (w : NotedFile) (method : ℕ) → Rise (offsets_in m method) → (offsets_in m method ≢ gone) → (x y : ℕ) → Kept (offsets_in m method) x y
+    → x ≤ old_size (offsets_in m method)
     → (es : List MethodValue) → Each (FitsMethod m method) es → Pairs (λ (a b : MethodValue). b.method ≢ a.method) es
-    → option_and_then (λ (q : MethodValue). point_meaning (moved_file m w) q y) (find (λ (q : MethodValue). nat_eq q.method (moved_row m 0x06 method)) (filter_map (moved_method m) es))
+    → option_and_then (λ (q : MethodValue). point_meaning (moved_file m w) q y)
+    (find (λ (q : MethodValue). nat_eq q.method (moved_row m 0x06 method)) (filter_map (moved_method m) es))
     ≡ option_map (point_image m method) (option_and_then (λ (q : MethodValue). point_meaning w q x) (find (λ (q : MethodValue). nat_eq q.method method) es))
 
 abbrev pub SlotsMean : Type 0
-SlotsMean = (m : Map) (w : NotedFile) (method : ℕ) → Rise (offsets_in m method) → (offsets_in m method ≢ gone) → (x y : ℕ) → Kept (offsets_in m method) x y → x ≤ old_size (offsets_in m method)
+SlotsMean = (m : Map) (w : NotedFile) (method : ℕ) → Rise (offsets_in m method) → (offsets_in m method ≢ gone) → (x y : ℕ) → Kept (offsets_in m method) x y
+    → x ≤ old_size (offsets_in m method)
     → Each (FitsCustom m method) w.customs
     → slots_at (moved_file m w) (moved_row m 0x06 method) y ≡ map (slot_image m method) (slots_at w method x)
 
