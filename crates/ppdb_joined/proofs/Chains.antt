@@ -53,7 +53,7 @@ module _ (file : NotedFile) (before rest : List (Noted ImportScopeValue)) (shift
   abbrev all : List (Noted ImportScopeValue)
   all = before ++ (moved ++ rest)
 
-  shown : (i : ℕ) → i < length file.imports → row_at all (shift + suc i) ≡ option_map (with_item (renumbered_import shift)) (slice_get file.imports i)
+  pub shown : (i : ℕ) → i < length file.imports → row_at all (shift + suc i) ≡ option_map (with_item (renumbered_import shift)) (slice_get file.imports i)
   shown i less =
       let number : shift + suc i ≡ suc (length before + i) = omega (arith, is_shift) in
       let many = length-map file.imports (with_item (renumbered_import shift)) in

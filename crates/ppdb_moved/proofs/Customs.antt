@@ -71,7 +71,8 @@ records_moved m w method live fits = moved_on ∙ stays
   where
     moved_on : filter (on (moved_row m 0x06 method)) (filter_map (moved_custom m) w.customs) ≡ filter_map (moved_custom m) (filter (on method) w.customs)
     moved_on = filter-filter_map (moved_custom m) (on method) (on (moved_row m 0x06 method)) w.customs
-        (Each-weaker (FitsCustom m method) (λ c. Alike (on (moved_row m 0x06 method)) (moved_custom m c) (on method c)) (λ c f. custom_alike m method live c f) w.customs fits)
+        (Each-weaker (FitsCustom m method) (λ c. Alike (on (moved_row m 0x06 method)) (moved_custom m c) (on method c))
+        (λ c f. custom_alike m method live c f) w.customs fits)
 
     stays : filter_map (moved_custom m) (filter (on method) w.customs) ≡ map (image_of m) (filter (on method) w.customs)
     stays = filter_map-map (moved_custom m) (image_of m) (filter (on method) w.customs)

@@ -1,5 +1,6 @@
 -- What a map that fits a file says of a method that the file names.
-use Rattle.std.proofs.Common.{◌≡◌, ◌≢◌, ℕ, zero, suc, ◌+◌, ◌<◌, ◌≤◌, ◌&&◌, ◌||◌, not, Bool, true, false, cond, List, [], ◌∷◌, ◌++◌, Option, Some, None, refl, sym, ◌∙◌, ap, subst, arith, flat_map, map}
+use Rattle.std.proofs.Common.{◌≡◌, ◌≢◌, ℕ, zero, suc, ◌+◌, ◌<◌, ◌≤◌, ◌&&◌, ◌||◌, not, Bool, true, false, cond, List, [], ◌∷◌, ◌++◌, Option, Some, None, refl}
+use Rattle.std.proofs.Common.{sym, ◌∙◌, ap, subst, arith, flat_map, map}
 use Rattle.std.specs.Prelude.{nat_eq, All, AllPairs, IfSome, unwrap_or, Contains}
 use Rattle.std.specs.List.{filter, find, repeat, AllByRecursion}
 use Rattle.std.specs.Option.{option_map}
@@ -18,7 +19,6 @@ use Rattle.ppdb_maps.specs.Map.{Map, MethodLine, moved_row, row_image, row_line,
 use Rattle.ppdb_maps.specs.Readable.{IsReadable, IsLineOf, IsRowOf}
 use Rattle.ppdb_tables.specs.declared.rows.MachineRow.{MachineRow}
 use Rattle.sequence_points.specs.declared.point.Point.{Point}
-use Rattle.sequence_points.proofs.Follows.{pairs-head, pairs-tail}
 use Rattle.ppdb_values.specs.declared.custom.CustomBody.{CustomBody}
 use Rattle.ppdb_values.specs.declared.custom.CustomBody.TheVariants.{Async, Hoisted, TypeDocuments, Unread}
 use Rattle.ppdb_values.specs.declared.custom.CustomValue.{CustomValue}
@@ -29,25 +29,21 @@ use Rattle.sound_values.specs.Methods.{SoundMethod}
 use Rattle.ppdb_noted.specs.declared.file.NotedScope.{NotedScope}
 use Rattle.ppdb_noted.specs.declared.file.NotedFile.{NotedFile}
 use Rattle.ppdb_noted.specs.Each.{Each, Pairs}
-use Rattle.ppdb_noted.specs.NamedRows.{Named, names, names_some, named_rows, in_entry, all_named, live_file, live_method, live_scope, live_machine, live_custom, in_steps}
+use Rattle.ppdb_noted.specs.NamedRows.{Named, names, names_some, named_rows, in_entry, all_named, live_file, live_method, live_scope, live_machine}
+use Rattle.ppdb_noted.specs.NamedRows.{live_custom, in_steps}
 use Rattle.ppdb_noted.specs.SoundParts.{SoundMoved, SoundNotedScope}
 use Rattle.ppdb_noted.specs.Unnoted.{value_of_noted}
 use Rattle.ppdb_moved.specs.Laws.{FitsAreOfMethods}
 use Rattle.ppdb_noted.proofs.Lists.{Each-weaker, Each-unmap}
 use Rattle.ppdb_moved.specs.Fits.{Fits, IsImaged, AreWithin, EndsWithin}
 use Rattle.ppdb_moved.specs.FitsMethod.{PointsRise, FitsScope, FitsMethod, FitsSlot, FitsSlots, FitsCustom, FitsEntry, FitsMachine, FitsFile}
-use Rattle.ppdb_moved.proofs.Elements.{each_in, in_each, each_parts, each_made, each_left}
-use Rattle.ppdb_moved.proofs.Lists.{Each-both}
+use Rattle.ppdb_moved.proofs.Elements.{each_in, in_each}
+use Rattle.ppdb_moved.proofs.NamedParts.{NamedParts, named_parts}
+use Rattle.ppdb_moved.proofs.RisingPoints.{points_are_rising}
+use Rattle.ppdb_moved.proofs.RowImages.{found_holds, moved_is_image, row_moved}
+use Rattle.ppdb_moved.proofs.Lists.{each_of_three}
 
 -- ---- readable maps
-
-found_holds : {A : Type 0} (P : A → Type 0) (p : A → Bool) (xs : List A) → AllByRecursion P xs → IfSome (find p xs) P
-found_holds P p [] all = tt
-found_holds P p (x ∷ xs) all = step (p x) (found_holds P p xs all.1)
-  where
-    step : (b : Bool) → IfSome (find p xs) P → IfSome (cond b (Some x) (find p xs)) P
-    step true rest = all.0
-    step false rest = rest
 
 rise_every : Rise every
 rise_every = (omega arith, omega arith, omega arith, tt)
@@ -64,31 +60,11 @@ offsets_rise m ready method = by_drop (is_dropped m method)
     by_drop true = tt
     by_drop false = by_line (method_line m method) (found_holds (IsLineOf m) (λ l. nat_eq l.method method) m.methods ready.methods)
 
--- the image of a row is a row
-image_above : (m : Map) → IsReadable m → (row image : ℕ) → 1 ≤ row → row_image m 0x06 row ≡ Some image → 1 ≤ image
-image_above m ready row image above is = by_drop (is_dropped m row) is
-  where
-    some_of : (a b : ℕ) → Some a ≡ Some b → a ≡ b
-    some_of a b e = cc
-
-    by_row : (o : Option RowImage) → IfSome o (IsRowOf m) → option_map (λ (r : RowImage). r.new) o ≡ Some image → 1 ≤ image
-    by_row None holds e = absurd cc
-    by_row (Some r) holds e = subst (λ n. 1 ≤ n) (some_of r.new image e) holds.1.0
-
-    by_count : (c : Option ℕ) → elim c as (λ _. Option ℕ) [ None ↦ Some row | Some count ↦ row_line m 0x06 row ] ≡ Some image → 1 ≤ image
-    by_count None e = subst (λ n. 1 ≤ n) (some_of row image e) above
-    by_count (Some count) e = by_row (find (λ r. nat_eq r.table 0x06 && nat_eq r.old row) m.rows) (found_holds (IsRowOf m) (λ r. nat_eq r.table 0x06 && nat_eq r.old row) m.rows ready.rows) e
-
-    by_drop : (b : Bool) → cond b None (elim (count_of m 0x06) as (λ _. Option ℕ) [ None ↦ Some row | Some count ↦ row_line m 0x06 row ]) ≡ Some image → 1 ≤ image
-    by_drop true e = absurd cc
-    by_drop false e = by_count (count_of m 0x06) e
-
-moved_imaged : (m : Map) (row image : ℕ) → 1 ≤ row → row_image m 0x06 row ≡ Some image → moved_row m 0x06 row ≡ image
-moved_imaged m row image above is =
-    ap (λ o. cond (nat_eq row 0) 0 (unwrap_or o 0)) is ∙ ap (λ b. cond b 0 image) (ne_eqb row 0 (λ e. absurd (omega (arith, above, e))))
-
-moved_dropped : (m : Map) (row : ℕ) → is_dropped m row ≡ true → moved_row m 0x06 row ≡ 0
-moved_dropped m row is = ap (λ b. cond (nat_eq row 0) 0 (unwrap_or (cond b None (elim (count_of m 0x06) as (λ _. Option ℕ) [ None ↦ Some row | Some count ↦ row_line m 0x06 row ])) 0)) is ∙ by_zero (nat_eq row 0)
+pub moved_dropped : (m : Map) (row : ℕ) → is_dropped m row ≡ true → moved_row m 0x06 row ≡ 0
+moved_dropped m row is = ap
+    (λ b. cond (nat_eq row 0) 0
+    (unwrap_or (cond b None (elim (count_of m 0x06) as (λ _. Option ℕ) [ None ↦ Some row | Some count ↦ row_line m 0x06 row ])) 0)) is
+    ∙ by_zero (nat_eq row 0)
   where
     by_zero : (b : Bool) → ◌≡◌ {A = ℕ} (cond b 0 0) 0
     by_zero true = refl
@@ -96,16 +72,7 @@ moved_dropped m row is = ap (λ b. cond (nat_eq row 0) 0 (unwrap_or (cond b None
 
 -- ---- a method that the file names
 
-six_parts : {A : Type 0} (P : A → Type 0) (a b c d e f : List A) → Each P (a ++ (b ++ (c ++ (d ++ (e ++ f))))) → Each P a × Each P b × Each P e × Each P f
-six_parts P a b c d e f each =
-    let p1 = each_parts P a (b ++ (c ++ (d ++ (e ++ f)))) each in
-    let p2 = each_parts P b (c ++ (d ++ (e ++ f))) p1.1 in
-    let p3 = each_parts P c (d ++ (e ++ f)) p2.1 in
-    let p4 = each_parts P d (e ++ f) p3.1 in
-    let p5 = each_parts P e f p4.1 in
-    (p1.0, p2.0, p5.0, p5.1)
-
-module _ (first : Bool) (m : Map) (w : NotedFile) (method : ℕ) (above : 1 ≤ method) (ready : IsReadable m) (fits : Fits first m w)
+module _ (first : Bool) (m : Map) (w : NotedFile) (method : ℕ) (above : 1 ≤ method) (below : method ≤ 16777215) (ready : IsReadable m) (fits : Fits first m w)
     (named : Contains (named_rows first m w) (names 0x06 method)) where
   abbrev In : Named → Type 0
   In n = Contains (named_rows first m w) n
@@ -114,10 +81,10 @@ module _ (first : Bool) (m : Map) (w : NotedFile) (method : ℕ) (above : 1 ≤ 
   image = in_each (IsImaged m) (named_rows first m w) (names 0x06 method) fits.images named
 
   image_is : moved_row m 0x06 method ≡ image.0
-  image_is = moved_imaged m method image.0 above image.1
+  image_is = moved_is_image m 0x06 method image.0 above image.1
 
   image_there : 1 ≤ moved_row m 0x06 method
-  image_there = subst (λ n. 1 ≤ n) (sym image_is) (image_above m ready method image.0 above image.1)
+  image_there = (row_moved m ready 0x06 method above below image).0
 
   stays : is_dropped m method ≡ false
   stays = by_drop (is_dropped m method) refl
@@ -142,7 +109,7 @@ module _ (first : Bool) (m : Map) (w : NotedFile) (method : ℕ) (above : 1 ≤ 
   own_named zero is same = absurd (omega (arith, image_there, same))
   own_named (suc row) is same =
       let i : IsImaged m (names 0x06 (suc row)) = in_each (IsImaged m) (named_rows first m w) (names 0x06 (suc row)) fits.images is in
-      let moved : moved_row m 0x06 (suc row) ≡ i.0 = moved_imaged m (suc row) i.0 (omega arith) i.1 in
+      let moved : moved_row m 0x06 (suc row) ≡ i.0 = moved_is_image m 0x06 (suc row) i.0 (omega arith) i.1 in
       let equal : i.0 ≡ image.0 = sym moved ∙ same ∙ image_is in
       fits.apart (names 0x06 (suc row)) (names 0x06 method) is named image.0 refl (i.1 ∙ ap Some equal) image.1
 
@@ -155,40 +122,8 @@ module _ (first : Bool) (m : Map) (w : NotedFile) (method : ℕ) (above : 1 ≤ 
 
   -- ---- the rows that the parts name
 
-  all_in : Each In (named_rows first m w)
-  all_in = each_in In (named_rows first m w) (λ n is. is)
-
-  entry_in : Each In (in_entry first (live_file m w))
-  entry_in = (each_parts In (in_entry first (live_file m w)) (all_named (live_file m w)) all_in).0
-
-  parts_in : Each In (flat_map (λ (e : MethodValue). names 0x06 e.method ∷ names_some 0x11 e.signature) (filter (live_method m) w.methods))
-      × Each In (map (λ (s : NotedScope). names 0x06 s.method) (filter (live_scope m) w.scopes))
-      × Each In (flat_map (λ (r : MachineRow). names 0x06 r.move_next ∷ names 0x06 r.kickoff ∷ []) (filter (live_machine m) w.machines))
-      × Each In (flat_map (λ (c : CustomValue). names c.parent.table c.parent.row ∷ in_steps c.value) (filter (live_custom m) w.customs))
-  parts_in = six_parts In _ _ _ _ _ _ (each_parts In (in_entry first (live_file m w)) (all_named (live_file m w)) all_in).1
-
-  methods_in : Each (λ e. is_dropped m e.method ≡ false → In (names 0x06 e.method)) w.methods
-  methods_in = Each-weaker (λ e. live_method m e ≡ true → Each In (names 0x06 e.method ∷ names_some 0x11 e.signature))
-      (λ e. is_dropped m e.method ≡ false → In (names 0x06 e.method)) (λ e holds is. (holds (ap not is)).0) w.methods
-      (each_left (λ e. Each In (names 0x06 e.method ∷ names_some 0x11 e.signature)) (live_method m) w.methods
-      (each_made (λ (e : MethodValue). names 0x06 e.method ∷ names_some 0x11 e.signature) In (filter (live_method m) w.methods) parts_in.0))
-
-  scopes_in : Each (λ s. is_dropped m s.method ≡ false → In (names 0x06 s.method)) w.scopes
-  scopes_in = Each-weaker (λ s. live_scope m s ≡ true → In (names 0x06 s.method)) (λ s. is_dropped m s.method ≡ false → In (names 0x06 s.method))
-      (λ s holds is. holds (ap not is)) w.scopes
-      (each_left (λ s. In (names 0x06 s.method)) (live_scope m) w.scopes (Each-unmap (λ (s : NotedScope). names 0x06 s.method) In (filter (live_scope m) w.scopes) parts_in.1))
-
-  machines_in : Each (λ r. live_machine m r ≡ true → In (names 0x06 r.move_next) × In (names 0x06 r.kickoff)) w.machines
-  machines_in = Each-weaker (λ r. live_machine m r ≡ true → Each In (names 0x06 r.move_next ∷ names 0x06 r.kickoff ∷ []))
-      (λ r. live_machine m r ≡ true → In (names 0x06 r.move_next) × In (names 0x06 r.kickoff)) (λ r holds is. let both = holds is in (both.0, both.1.0)) w.machines
-      (each_left (λ r. Each In (names 0x06 r.move_next ∷ names 0x06 r.kickoff ∷ [])) (live_machine m) w.machines
-      (each_made (λ (r : MachineRow). names 0x06 r.move_next ∷ names 0x06 r.kickoff ∷ []) In (filter (live_machine m) w.machines) parts_in.2))
-
-  customs_in : Each (λ c. live_custom m c ≡ true → In (names c.parent.table c.parent.row)) w.customs
-  customs_in = Each-weaker (λ c. live_custom m c ≡ true → Each In (names c.parent.table c.parent.row ∷ in_steps c.value))
-      (λ c. live_custom m c ≡ true → In (names c.parent.table c.parent.row)) (λ c holds is. (holds is).0) w.customs
-      (each_left (λ c. Each In (names c.parent.table c.parent.row ∷ in_steps c.value)) (live_custom m) w.customs
-      (each_made (λ (c : CustomValue). names c.parent.table c.parent.row ∷ in_steps c.value) In (filter (live_custom m) w.customs) parts_in.3))
+  parts : NamedParts In first m w
+  parts = named_parts In first m w (each_in In (named_rows first m w) (λ n is. is))
 
   -- ---- part by part
 
@@ -204,17 +139,12 @@ module _ (first : Bool) (m : Map) (w : NotedFile) (method : ℕ) (above : 1 ≤ 
               ∙ ap (λ b. cond b [] (names 0x06 w.entry ∷ [])) (ne_eqb w.entry 0 (λ z. absurd (omega (arith, sym e ∙ z))))
 
           there : Each In (names 0x06 w.entry ∷ [])
-          there = subst (Each In) is_entry entry_in
+          there = subst (Each In) is_entry parts.entry
 
-  method_fits : (e : MethodValue) → AllPairs (λ (p q : Point). p.offset < q.offset) e.points → Each (λ (p : Point). p.offset < old_size (offsets_in m e.method)) e.points
+  method_fits : (e : MethodValue) → AllPairs (λ (p q : Point). p.offset < q.offset) e.points
+      → Each (λ (p : Point). p.offset < old_size (offsets_in m e.method)) e.points
       → (is_dropped m e.method ≡ false → In (names 0x06 e.method)) → FitsMethod m method e
-  method_fits e rise below there = record { rise = rises (old_size (offsets_in m e.method)) e.points rise below; own = own e.method there }
-    where
-      rises : (end : ℕ) (ps : List Point) → AllPairs (λ (p q : Point). p.offset < q.offset) ps → Each (λ (p : Point). p.offset < end) ps → PointsRise end ps
-      rises end [] pairs below = tt
-      rises end (p ∷ []) pairs below = (below.0, tt)
-      rises end (p ∷ q ∷ ps) pairs below =
-          (All-head (λ (r : Point). p.offset < r.offset) q ps (pairs-head p (q ∷ ps) pairs), rises end (q ∷ ps) (pairs-tail p (q ∷ ps) pairs) below.1)
+  method_fits e rise under there = record { rise = points_are_rising (old_size (offsets_in m e.method)) e.points rise under; own = own e.method there }
 
   scope_fits : (value : FileValue) (s : NotedScope) → SoundNotedScope value s → s.range.end ≤ old_size (offsets_in m s.method)
       → (is_dropped m s.method ≡ false → In (names 0x06 s.method)) → FitsScope m method s
@@ -234,7 +164,8 @@ module _ (first : Bool) (m : Map) (w : NotedFile) (method : ℕ) (above : 1 ≤ 
       one Empty sound within = tt
       one (Held range) sound within = (sound.0, within)
 
-  body_fits : (value : FileValue) (offsets : Offsets) (kind : Kind) (body : CustomBody) → IsBodyOfKind value kind body → AreWithin (old_size offsets) body → FitsSlots offsets body
+  body_fits : (value : FileValue) (offsets : Offsets) (kind : Kind) (body : CustomBody) → IsBodyOfKind value kind body → AreWithin (old_size offsets) body
+      → FitsSlots offsets body
   body_fits value offsets kinds.Hoisted (Hoisted slots) sound within = slots_fit offsets slots sound within
   body_fits value offsets kinds.Async (Hoisted slots) sound within = absurd sound
   body_fits value offsets kinds.TypeDocuments (Hoisted slots) sound within = absurd sound
@@ -256,30 +187,36 @@ module _ (first : Bool) (m : Map) (w : NotedFile) (method : ℕ) (above : 1 ≤ 
     slots = body_fits value (offsets_in m c.parent.row) (kind_of [] c.kind) c.value sound.body within;
   }
 
--- each of three facts of an item give one more
-each_of_three : {A : Type 0} (P Q R S : A → Type 0) (xs : List A) → ((x : A) → P x → Q x → R x → S x) → Each P xs → Each Q xs → Each R xs → Each S xs
-each_of_three P Q R S [] all p q r = tt
-each_of_three P Q R S (x ∷ xs) all p q r = (all x p.0 q.0 r.0, each_of_three P Q R S xs all p.1 q.1 r.1)
-
 pub fits_file : FitsAreOfMethods
-fits_file first m w method above ready sound fits named = record {
+fits_file first m w method above below ready sound fits named = record {
   rise = offsets_rise m ready method;
-  live = live first m w method above ready fits named;
-  entry = entry_fits first m w method above ready fits named;
+  live = live first m w method above below ready fits named;
+  entry = entry_fits first m w method above below ready fits named;
   methods = each_of_three (SoundMethod value) (λ e. Each (λ (p : Point). p.offset < old_size (offsets_in m e.method)) e.points)
       (λ e. is_dropped m e.method ≡ false → Contains (named_rows first m w) (names 0x06 e.method)) (FitsMethod m method) w.methods
-      (λ e sound_e below there. method_fits first m w method above ready fits named e sound_e.rise below there) sound.methods fits.points
-      (methods_in first m w method above ready fits named);
+      (λ e sound_e under there. method_fits first m w method above below ready fits named e sound_e.rise under there) sound.methods fits.points
+      (Each-weaker (λ e. is_dropped m e.method ≡ false → In_ (names 0x06 e.method) × Each In_ (names_some 0x11 e.signature))
+      (λ e. is_dropped m e.method ≡ false → In_ (names 0x06 e.method))
+      (λ e holds is. (holds is).0) w.methods named_in.methods);
   scopes = each_of_three (SoundNotedScope value) (λ s. s.range.end ≤ old_size (offsets_in m s.method))
       (λ s. is_dropped m s.method ≡ false → Contains (named_rows first m w) (names 0x06 s.method)) (FitsScope m method) w.scopes
-      (scope_fits first m w method above ready fits named value) sound.scopes fits.ranges (scopes_in first m w method above ready fits named);
-  machines = Each-weaker (λ r. live_machine m r ≡ true → Contains (named_rows first m w) (names 0x06 r.move_next) × Contains (named_rows first m w) (names 0x06 r.kickoff))
-      (FitsMachine m method) (machine_fits first m w method above ready fits named) w.machines (machines_in first m w method above ready fits named);
+      (scope_fits first m w method above below ready fits named value) sound.scopes fits.ranges named_in.scopes;
+  machines = Each-weaker
+      (λ r. live_machine m r ≡ true → Contains (named_rows first m w) (names 0x06 r.move_next) × Contains (named_rows first m w) (names 0x06 r.kickoff))
+      (FitsMachine m method) (machine_fits first m w method above below ready fits named) w.machines named_in.machines;
   customs = each_of_three (λ c. (c.parent.table < 0x2d) × SoundCustom value c) (λ c. AreWithin (old_size (offsets_in m c.parent.row)) c.value)
       (λ c. live_custom m c ≡ true → Contains (named_rows first m w) (names c.parent.table c.parent.row)) (FitsCustom m method) w.customs
-      (λ c sound_c within there. custom_fits first m w method above ready fits named value c sound_c.1 within there) sound.customs fits.hoisted
-      (customs_in first m w method above ready fits named);
+      (λ c sound_c within there. custom_fits first m w method above below ready fits named value c sound_c.1 within there) sound.customs fits.hoisted
+      (Each-weaker (λ c. live_custom m c ≡ true → In_ (names c.parent.table c.parent.row) × Each In_ (in_steps c.value))
+      (λ c. live_custom m c ≡ true → In_ (names c.parent.table c.parent.row))
+      (λ c holds is. (holds is).0) w.customs named_in.customs);
 }
   where
     value : FileValue
     value = record (value_of_noted w) { rows = repeat 64 (16777215 ∷ []) }
+
+    In_ : Named → Type 0
+    In_ n = Contains (named_rows first m w) n
+
+    named_in : NamedParts In_ first m w
+    named_in = parts first m w method above below ready fits named

@@ -5,10 +5,16 @@ pub mod Links
 pub mod Lists
 pub mod Meanings
 pub mod Means
+pub mod NamedParts
+pub mod NamedRows
 pub mod PointMeanings
 pub mod Points
+pub mod RisingPoints
+pub mod RowImages
 pub mod Scopes
 pub mod Slots
 pub mod PastEnd
 pub mod Front
 pub mod Counts
+pub mod SoundItems
+pub mod SoundMoves

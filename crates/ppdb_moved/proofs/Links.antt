@@ -74,7 +74,8 @@ module _ (side : MachineRow → ℕ) (other : MachineRow → ℕ) where
   abbrev Differs : List MachineRow → Type 0
   Differs machines = Pairs (λ (a b : MachineRow). side a ≢ side b) machines
 
-  one_passes : (method : ℕ) (machines : List MachineRow) → Differs machines → Pairs (λ a b. nat_eq (side a) method ≡ true → nat_eq (side b) method ≡ false) machines
+  one_passes : (method : ℕ) (machines : List MachineRow) → Differs machines
+      → Pairs (λ a b. nat_eq (side a) method ≡ true → nat_eq (side b) method ≡ false) machines
   one_passes method [] differ = tt
   one_passes method (r ∷ rs) differ = (
     Each-weaker (λ b. side r ≢ side b) (λ b. nat_eq (side r) method ≡ true → nat_eq (side b) method ≡ false)
@@ -108,7 +109,8 @@ kickoffs_moved : (m : Map) (machines : List MachineRow) (method : ℕ) → (offs
     → Pairs (λ (a b : MachineRow). a.move_next ≢ b.move_next) machines
     → kickoff_of (filter_map (moved_machine m) machines) (moved_row m 0x06 method) ≡ option_and_then (partner_image m) (kickoff_of machines method)
 kickoffs_moved m machines method live fits differ =
-    ap (option_map (λ (r : MachineRow). r.kickoff)) (find_moved (moved_machine m) passes passes_moved machines alike (one_passes (λ r. r.move_next) (λ r. r.kickoff) method machines differ))
+    ap (option_map (λ (r : MachineRow). r.kickoff))
+    (find_moved (moved_machine m) passes passes_moved machines alike (one_passes (λ r. r.move_next) (λ r. r.kickoff) method machines differ))
     ∙ of (find passes machines) refl
   where
     passes : MachineRow → Bool
@@ -128,7 +130,8 @@ kickoffs_moved m machines method live fits differ =
     by_dropped r stays false is = rw (stays, is) refl
 
     of : (o : Option MachineRow) → find passes machines ≡ o
-        → option_map (λ (r : MachineRow). r.kickoff) (option_and_then (moved_machine m) o) ≡ option_and_then (partner_image m) (option_map (λ (r : MachineRow). r.kickoff) o)
+        → option_map (λ (r : MachineRow). r.kickoff) (option_and_then (moved_machine m) o)
+        ≡ option_and_then (partner_image m) (option_map (λ (r : MachineRow). r.kickoff) o)
     of None is = refl
     of (Some r) is =
         let own : r.move_next ≡ method = eqb-true r.move_next method (found_passes passes machines r is) in
@@ -139,7 +142,8 @@ moves_moved : (m : Map) (machines : List MachineRow) (method : ℕ) → (offsets
     → Pairs (λ (a b : MachineRow). a.kickoff ≢ b.kickoff) machines
     → move_next_of (filter_map (moved_machine m) machines) (moved_row m 0x06 method) ≡ option_and_then (partner_image m) (move_next_of machines method)
 moves_moved m machines method live fits differ =
-    ap (option_map (λ (r : MachineRow). r.move_next)) (find_moved (moved_machine m) passes passes_moved machines alike (one_passes (λ r. r.kickoff) (λ r. r.move_next) method machines differ))
+    ap (option_map (λ (r : MachineRow). r.move_next))
+    (find_moved (moved_machine m) passes passes_moved machines alike (one_passes (λ r. r.kickoff) (λ r. r.move_next) method machines differ))
     ∙ of (find passes machines) refl
   where
     passes : MachineRow → Bool
@@ -159,7 +163,8 @@ moves_moved m machines method live fits differ =
     by_dropped r stays false is = rw (is, stays) refl
 
     of : (o : Option MachineRow) → find passes machines ≡ o
-        → option_map (λ (r : MachineRow). r.move_next) (option_and_then (moved_machine m) o) ≡ option_and_then (partner_image m) (option_map (λ (r : MachineRow). r.move_next) o)
+        → option_map (λ (r : MachineRow). r.move_next) (option_and_then (moved_machine m) o)
+        ≡ option_and_then (partner_image m) (option_map (λ (r : MachineRow). r.move_next) o)
     of None is = refl
     of (Some r) is =
         let own : r.kickoff ≡ method = eqb-true r.kickoff method (found_passes passes machines r is) in
@@ -188,13 +193,16 @@ notes_moved m method (d ∷ ds) each = step d.value refl (notes_moved m method d
     kept (TypeDocuments rows) is = refl
     kept (Unread bytes) is = refl
 
-    by_kind : (b : Bool) → is_none (slots_in d.value) ≡ b → map without_parent (filter is_plain (map (image_of m) ds)) ≡ map (moved_note m method) (map without_parent (filter is_plain ds))
+    by_kind : (b : Bool) → is_none (slots_in d.value) ≡ b
+        → map without_parent (filter is_plain (map (image_of m) ds)) ≡ map (moved_note m method) (map without_parent (filter is_plain ds))
         → map without_parent (cond b (image_of m d ∷ filter is_plain (map (image_of m) ds)) (filter is_plain (map (image_of m) ds)))
         ≡ map (moved_note m method) (map without_parent (cond b (d ∷ filter is_plain ds) (filter is_plain ds)))
-    by_kind true is rest = ap (λ v. record { kind = d.kind; value = v } ∷ map without_parent (filter is_plain (map (image_of m) ds))) head ∙ ap (λ l. moved_note m method (without_parent d) ∷ l) rest
+    by_kind true is rest = ap (λ v. record { kind = d.kind; value = v } ∷ map without_parent (filter is_plain (map (image_of m) ds))) head
+        ∙ ap (λ l. moved_note m method (without_parent d) ∷ l) rest
     by_kind false is rest = rest
 
-    step : (v : CustomBody) → d.value ≡ v → map without_parent (filter is_plain (map (image_of m) ds)) ≡ map (moved_note m method) (map without_parent (filter is_plain ds))
+    step : (v : CustomBody) → d.value ≡ v
+        → map without_parent (filter is_plain (map (image_of m) ds)) ≡ map (moved_note m method) (map without_parent (filter is_plain ds))
         → map without_parent (filter is_plain (map (image_of m) (d ∷ ds))) ≡ map (moved_note m method) (map without_parent (filter is_plain (d ∷ ds)))
     step v is rest =
         let same : is_none (slots_in (moved_body m d.parent.row d.value)) ≡ is_none (slots_in d.value) =

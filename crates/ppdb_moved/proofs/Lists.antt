@@ -50,3 +50,13 @@ Pairs-filter_map f P R S kept (x ∷ xs) each pairs = step (f x) refl (Pairs-fil
       Each-filter_map f (λ u. P u × R x u) (S y) (λ u v is_v both. kept x u y v is is_v each.0 both.0 both.1) xs (Each-both P (R x) xs each.1 pairs.0),
       rest,
     )
+
+-- each of several facts of an item give one more
+pub each_of_three : {A : Type 0} (P Q R S : A → Type 0) (xs : List A) → ((x : A) → P x → Q x → R x → S x) → Each P xs → Each Q xs → Each R xs → Each S xs
+each_of_three P Q R S [] all p q r = tt
+each_of_three P Q R S (x ∷ xs) all p q r = (all x p.0 q.0 r.0, each_of_three P Q R S xs all p.1 q.1 r.1)
+
+pub each_of_four : {A : Type 0} (P Q R S T : A → Type 0) (xs : List A) → ((x : A) → P x → Q x → R x → S x → T x) → Each P xs → Each Q xs → Each R xs
+    → Each S xs → Each T xs
+each_of_four P Q R S T [] all p q r s = tt
+each_of_four P Q R S T (x ∷ xs) all p q r s = (all x p.0 q.0 r.0 s.0, each_of_four P Q R S T xs all p.1 q.1 r.1 s.1)

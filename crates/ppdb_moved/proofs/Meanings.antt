@@ -20,17 +20,21 @@ use Rattle.ppdb_noted.proofs.Orders.{in_order_keeps}
 use Rattle.std.proofs.lemmas.Bool.{eqb-true, and_parts}
 
 -- the chain of moved imports is the chain, moved
-chain_moved : (m : Map) (imports : List (Noted ImportScopeValue)) (row : ℕ) → chain (map (with_item (moved_import_scope m)) imports) row ≡ map (with_item (moved_import_scope m)) (chain imports row)
+chain_moved : (m : Map) (imports : List (Noted ImportScopeValue)) (row : ℕ)
+    → chain (map (with_item (moved_import_scope m)) imports) row ≡ map (with_item (moved_import_scope m)) (chain imports row)
 chain_moved m imports row =
-    ap (map (λ (link : ℕ × Noted ImportScopeValue). link.1)) (chain_of_map (with_item (moved_import_scope m)) (λ n. n.item.parent) (λ n. n.item.parent) (λ x. refl) imports row)
-    ∙ map_map_both (λ (link : ℕ × Noted ImportScopeValue). link.1) (λ link. (link.0, with_item (moved_import_scope m) link.1)) (chain_of (λ n. n.item.parent) imports row)
+    ap (map (λ (link : ℕ × Noted ImportScopeValue). link.1))
+    (chain_of_map (with_item (moved_import_scope m)) (λ n. n.item.parent) (λ n. n.item.parent) (λ x. refl) imports row)
+    ∙ map_map_both (λ (link : ℕ × Noted ImportScopeValue). link.1) (λ link. (link.0, with_item (moved_import_scope m) link.1))
+    (chain_of (λ n. n.item.parent) imports row)
     ∙ sym (map_map_both (with_item (moved_import_scope m)) (λ (link : ℕ × Noted ImportScopeValue). link.1) (chain_of (λ n. n.item.parent) imports row))
 
 length_map : {A B : Type 0} (f : A → B) (xs : List A) → length (map f xs) ≡ length xs
 length_map f [] = refl
 length_map f (x ∷ xs) = ap suc (length_map f xs)
 
-imported_moved : (m : Map) (links : List (Noted ImportScopeValue)) → map imported (map (with_item (moved_import_scope m)) links) ≡ map (with_item (map (moved_import m))) (map imported links)
+imported_moved : (m : Map) (links : List (Noted ImportScopeValue))
+    → map imported (map (with_item (moved_import_scope m)) links) ≡ map (with_item (map (moved_import m))) (map imported links)
 imported_moved m [] = refl
 imported_moved m (l ∷ ls) = ap (λ r. record { item = map (moved_import m) l.item.imports; customs = l.customs } ∷ r) (imported_moved m ls)
 
@@ -41,13 +45,15 @@ scope_moved m w s =
     ap (λ l. record (scope_image_meaning m s.method (scope_meaning w s)) { imports = l })
     (ap (map imported) imports ∙ imported_moved m (chain w.imports s.import))
 
-scopes_moved : (m : Map) (w : NotedFile) (method x : ℕ) (ss : List NotedScope) → map (scope_meaning (moved_file m w)) (map (scope_image m) (scopes_at method x ss))
+scopes_moved : (m : Map) (w : NotedFile) (method x : ℕ) (ss : List NotedScope)
+    → map (scope_meaning (moved_file m w)) (map (scope_image m) (scopes_at method x ss))
     ≡ map (scope_image_meaning m method) (map (scope_meaning w) (scopes_at method x ss))
 scopes_moved m w method x [] = refl
 scopes_moved m w method x (s ∷ ss) = step (nat_eq s.method method && holds x s.range) refl (scopes_moved m w method x ss)
   where
     step : (b : Bool) → nat_eq s.method method && holds x s.range ≡ b
-        → map (scope_meaning (moved_file m w)) (map (scope_image m) (scopes_at method x ss)) ≡ map (scope_image_meaning m method) (map (scope_meaning w) (scopes_at method x ss))
+        → map (scope_meaning (moved_file m w)) (map (scope_image m) (scopes_at method x ss))
+        ≡ map (scope_image_meaning m method) (map (scope_meaning w) (scopes_at method x ss))
         → map (scope_meaning (moved_file m w)) (map (scope_image m) (cond b (s ∷ scopes_at method x ss) (scopes_at method x ss)))
         ≡ map (scope_image_meaning m method) (map (scope_meaning w) (cond b (s ∷ scopes_at method x ss) (scopes_at method x ss)))
     step false is rest = rest
@@ -59,7 +65,8 @@ scopes_moved m w method x (s ∷ ss) = step (nat_eq s.method method && holds x s
         ∙ ap (λ l. scope_image_meaning m method (scope_meaning w s) ∷ l) rest
 
 -- the scopes' part of the meaning
-pub scopes_mean : (m : Map) (w : NotedFile) (method : ℕ) → Rise (offsets_in m method) → (offsets_in m method ≢ gone) → (x y : ℕ) → Kept (offsets_in m method) x y → x ≤ old_size (offsets_in m method)
+pub scopes_mean : (m : Map) (w : NotedFile) (method : ℕ) → Rise (offsets_in m method) → (offsets_in m method ≢ gone) → (x y : ℕ)
+    → Kept (offsets_in m method) x y → x ≤ old_size (offsets_in m method)
     → Each (FitsScope m method) w.scopes
     → map (scope_meaning (moved_file m w)) (scopes_at (moved_row m 0x06 method) y (moved_file m w).scopes)
     ≡ map (scope_image_meaning m method) (map (scope_meaning w) (scopes_at method x w.scopes))
@@ -68,4 +75,5 @@ scopes_mean m w method rise live x y kept at fits =
 
 -- sets of scopes in order by their methods hold the same ones at an offset
 pub scopes_ordered : (method x : ℕ) (ss : List NotedScope) → scopes_at method x (in_order (λ (s : NotedScope). s.method) ss) ≡ scopes_at method x ss
-scopes_ordered method x ss = in_order_keeps (λ (s : NotedScope). s.method) _ (λ a b p q. omega (arith, eqb-true a.method method (and_parts _ _ p).0, eqb-true b.method method (and_parts _ _ q).0)) ss
+scopes_ordered method x ss = in_order_keeps (λ (s : NotedScope). s.method) _
+    (λ a b p q. omega (arith, eqb-true a.method method (and_parts _ _ p).0, eqb-true b.method method (and_parts _ _ q).0)) ss

@@ -34,14 +34,31 @@ files_mean first m w method sound fits = record {
 }
   where
     differ : Pairs (λ (a b : MethodValue). b.method ≢ a.method) w.methods
-    differ = Pairs-weaker (λ (a b : MethodValue). a.method ≢ b.method) (λ (a b : MethodValue). b.method ≢ a.method) (λ a b apart e. apart (sym e)) w.methods sound.methods_differ
+    differ = Pairs-weaker (λ (a b : MethodValue). a.method ≢ b.method) (λ (a b : MethodValue). b.method ≢ a.method)
+        (λ a b apart e. apart (sym e)) w.methods sound.methods_differ
 
-    means : (x y : ℕ) → Kept (offsets_in m method) x y → noted_meaning (moved_file m w) (moved_row m 0x06 method) y ≡ meaning_image m method (noted_meaning w method x)
+    means : (x y : ℕ) → Kept (offsets_in m method) x y
+        → noted_meaning (moved_file m w) (moved_row m 0x06 method) y ≡ meaning_image m method (noted_meaning w method x)
     means x y kept =
         let at : x ≤ old_size (offsets_in m method) = kept_within (offsets_in m method) fits.rise x y kept in
-        ap (λ p. record { point = p; scopes = (noted_meaning (moved_file m w) (moved_row m 0x06 method) y).scopes; slots = (noted_meaning (moved_file m w) (moved_row m 0x06 method) y).slots })
+        ap (λ p. record {
+          point = p;
+          scopes = (noted_meaning (moved_file m w) (moved_row m 0x06 method) y).scopes;
+          slots =
+              (noted_meaning (moved_file m w) (moved_row m 0x06 method) y).slots;
+        })
         (points_mean m w method fits.rise fits.live x y kept at w.methods fits.methods differ)
-        ∙ ap (λ s. record { point = (meaning_image m method (noted_meaning w method x)).point; scopes = s; slots = (noted_meaning (moved_file m w) (moved_row m 0x06 method) y).slots })
+        ∙ ap (λ s. record {
+          point = (meaning_image m method (noted_meaning w method x)).point;
+          scopes = s;
+          slots =
+              (noted_meaning (moved_file m w) (moved_row m 0x06 method) y).slots;
+        })
         (scopes_mean m w method fits.rise fits.live x y kept at fits.scopes)
-        ∙ ap (λ s. record { point = (meaning_image m method (noted_meaning w method x)).point; scopes = (meaning_image m method (noted_meaning w method x)).scopes; slots = s })
+        ∙ ap (λ s. record {
+          point = (meaning_image m method (noted_meaning w method x)).point;
+          scopes =
+              (meaning_image m method (noted_meaning w method x)).scopes;
+          slots = s;
+        })
         (slots_mean m w method fits.rise fits.live x y kept at fits.customs)

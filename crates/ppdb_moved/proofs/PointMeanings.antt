@@ -28,7 +28,8 @@ own_points m w e rise live x y kept at fits =
     step (moved_points (offsets_in m e.method) e.points) (point_at x e.points) (points_kept (offsets_in m e.method) rise live x y kept at e.points fits)
   where
     step : (l : List Point) (o : Option Point) → point_at y l ≡ option_map (moved_point (offsets_in m e.method)) o
-        → option_and_then (λ (q : MethodValue). point_meaning (moved_file m w) q y) (with_points m e l) ≡ option_map (point_image m e.method) (option_map (told w e) o)
+        → option_and_then (λ (q : MethodValue). point_meaning (moved_file m w) q y) (with_points m e l)
+        ≡ option_map (point_image m e.method) (option_map (told w e) o)
     step [] None is = refl
     step [] (Some p) is = absurd (cc)
     step (z ∷ zs) None is = ap (option_map _) is
@@ -46,16 +47,19 @@ none_there m method (e ∷ es) fits apart = step (moved_points (offsets_in m e.m
     step (p ∷ ps) rest = rw (ne_eqb (moved_row m 0x06 e.method) (moved_row m 0x06 method) (λ i. apart.0 (fits.0.own i))) rest
 
 -- the point's part of the meaning
-pub points_mean : (m : Map) (w : NotedFile) (method : ℕ) → Rise (offsets_in m method) → (offsets_in m method ≢ gone) → (x y : ℕ) → Kept (offsets_in m method) x y → x ≤ old_size (offsets_in m method)
+pub points_mean : (m : Map) (w : NotedFile) (method : ℕ) → Rise (offsets_in m method) → (offsets_in m method ≢ gone) → (x y : ℕ)
+    → Kept (offsets_in m method) x y → x ≤ old_size (offsets_in m method)
     → (es : List MethodValue) → Each (FitsMethod m method) es → Pairs (λ (a b : MethodValue). b.method ≢ a.method) es
-    → option_and_then (λ (q : MethodValue). point_meaning (moved_file m w) q y) (find (λ (q : MethodValue). nat_eq q.method (moved_row m 0x06 method)) (filter_map (moved_method m) es))
+    → option_and_then (λ (q : MethodValue). point_meaning (moved_file m w) q y)
+    (find (λ (q : MethodValue). nat_eq q.method (moved_row m 0x06 method)) (filter_map (moved_method m) es))
     ≡ option_map (point_image m method) (option_and_then (λ (q : MethodValue). point_meaning w q x) (find (λ (q : MethodValue). nat_eq q.method method) es))
 points_mean m w method rise live x y kept at [] fits pairs = refl
 points_mean m w method rise live x y kept at (e ∷ es) fits pairs =
     by_method (nat_eq e.method method) refl (points_mean m w method rise live x y kept at es fits.1 pairs.1)
   where
     hit : (e.method ≡ method) → (l : List Point) → find (λ (q : MethodValue). nat_eq q.method (moved_row m 0x06 method)) (filter_map (moved_method m) es) ≡ None
-        → find (λ (q : MethodValue). nat_eq q.method (moved_row m 0x06 method)) (cons_option (with_points m e l) (filter_map (moved_method m) es)) ≡ with_points m e l
+        → find (λ (q : MethodValue). nat_eq q.method (moved_row m 0x06 method)) (cons_option (with_points m e l) (filter_map (moved_method m) es))
+        ≡ with_points m e l
     hit is [] none = none
     hit is (p ∷ ps) none = rw (eq-eqb (moved_row m 0x06 e.method) (moved_row m 0x06 method) (ap (moved_row m 0x06) is)) refl
 
@@ -65,19 +69,26 @@ points_mean m w method rise live x y kept at (e ∷ es) fits pairs =
     miss apart [] = refl
     miss apart (p ∷ ps) = rw (ne_eqb (moved_row m 0x06 e.method) (moved_row m 0x06 method) (λ i. apart (fits.0.own i))) refl
 
-    own : e.method ≡ method → option_and_then (λ (q : MethodValue). point_meaning (moved_file m w) q y) (moved_method m e) ≡ option_map (point_image m method) (point_meaning w e x)
+    own : e.method ≡ method
+        → option_and_then (λ (q : MethodValue). point_meaning (moved_file m w) q y) (moved_method m e)
+        ≡ option_map (point_image m method) (point_meaning w e x)
     own is =
-        subst (λ n. option_and_then (λ (q : MethodValue). point_meaning (moved_file m w) q y) (moved_method m e) ≡ option_map (point_image m n) (point_meaning w e x)) is
+        subst (λ n. option_and_then (λ (q : MethodValue). point_meaning (moved_file m w) q y) (moved_method m e)
+        ≡ option_map (point_image m n) (point_meaning w e x)) is
         (own_points m w e (subst (λ n. Rise (offsets_in m n)) (sym is) rise) (subst (λ n. offsets_in m n ≢ gone) (sym is) live) x y
         (subst (λ n. Kept (offsets_in m n) x y) (sym is) kept) (subst (λ n. x ≤ old_size (offsets_in m n)) (sym is) at) fits.0.rise)
 
     by_method : (b : Bool) → nat_eq e.method method ≡ b
-        → option_and_then (λ (q : MethodValue). point_meaning (moved_file m w) q y) (find (λ (q : MethodValue). nat_eq q.method (moved_row m 0x06 method)) (filter_map (moved_method m) es))
+        → option_and_then (λ (q : MethodValue). point_meaning (moved_file m w) q y)
+        (find (λ (q : MethodValue). nat_eq q.method (moved_row m 0x06 method)) (filter_map (moved_method m) es))
         ≡ option_map (point_image m method) (option_and_then (λ (q : MethodValue). point_meaning w q x) (find (λ (q : MethodValue). nat_eq q.method method) es))
-        → option_and_then (λ (q : MethodValue). point_meaning (moved_file m w) q y) (find (λ (q : MethodValue). nat_eq q.method (moved_row m 0x06 method)) (filter_map (moved_method m) (e ∷ es)))
-        ≡ option_map (point_image m method) (option_and_then (λ (q : MethodValue). point_meaning w q x) (cond b (Some e) (find (λ (q : MethodValue). nat_eq q.method method) es)))
+        → option_and_then (λ (q : MethodValue). point_meaning (moved_file m w) q y)
+        (find (λ (q : MethodValue). nat_eq q.method (moved_row m 0x06 method)) (filter_map (moved_method m) (e ∷ es)))
+        ≡ option_map (point_image m method)
+        (option_and_then (λ (q : MethodValue). point_meaning w q x) (cond b (Some e) (find (λ (q : MethodValue). nat_eq q.method method) es)))
     by_method false is rest =
-        ap (option_and_then (λ (q : MethodValue). point_meaning (moved_file m w) q y)) (miss (eqb-false e.method method is) (moved_points (offsets_in m e.method) e.points)) ∙ rest
+        ap (option_and_then (λ (q : MethodValue). point_meaning (moved_file m w) q y))
+        (miss (eqb-false e.method method is) (moved_points (offsets_in m e.method) e.points)) ∙ rest
     by_method true is rest =
         let same : e.method ≡ method = eqb-true e.method method is in
         ap (option_and_then (λ (q : MethodValue). point_meaning (moved_file m w) q y))

@@ -77,13 +77,15 @@ pub points_kept : (o : Offsets) → Rise o → (o ≢ gone) → (x y : ℕ) → 
     → point_at y (moved_points o ps) ≡ option_map (moved_point o) (point_at x ps)
 points_kept o rise live x y kept at [] fits = refl
 points_kept o rise live x y kept at (p ∷ []) fits = elim (cases_lt x p.offset) [
-  | inl less ↦ ap last_of (after_new o rise live x y kept (p ∷ []) fits less) ∙ sym (ap (λ l. option_map (moved_point o) (last_of l)) (after_old (old_size o) x (p ∷ []) fits less))
+  | inl less ↦ ap last_of (after_new o rise live x y kept (p ∷ []) fits less)
+      ∙ sym (ap (λ l. option_map (moved_point o) (last_of l)) (after_old (old_size o) x (p ∷ []) fits less))
   | inr le ↦
       let below : moved o p.offset ≤ y = omega (arith, moved_kept o rise x y kept, moved_never_falls o rise live p.offset x le at) in
       rw (kept_near o rise x y p.offset (old_size o) kept le fits.0 (omega arith) (inr refl), le-leb (moved o p.offset) y below, le-leb p.offset x le) refl
 ]
 points_kept o rise live x y kept at (p ∷ q ∷ qs) fits = elim (cases_lt x p.offset) [
-  | inl less ↦ ap last_of (after_new o rise live x y kept (p ∷ q ∷ qs) fits less) ∙ sym (ap (λ l. option_map (moved_point o) (last_of l)) (after_old (old_size o) x (p ∷ q ∷ qs) fits less))
+  | inl less ↦ ap last_of (after_new o rise live x y kept (p ∷ q ∷ qs) fits less)
+      ∙ sym (ap (λ l. option_map (moved_point o) (last_of l)) (after_old (old_size o) x (p ∷ q ∷ qs) fits less))
   | inr le ↦ elim (cases_lt x q.offset) [
     | inl before ↦
         let below : moved o p.offset ≤ y = omega (arith, moved_kept o rise x y kept, moved_never_falls o rise live p.offset x le at) in

@@ -38,14 +38,16 @@ empty_holds y r empty = elim (cases_lt r.start r.end) [
 ]
 
 -- a scope stays as it holds the offset, and goes only where it does not
-scope_alike : (m : Map) → (method : ℕ) → Rise (offsets_in m method) → (offsets_in m method ≢ gone) → (x y : ℕ) → Kept (offsets_in m method) x y → x ≤ old_size (offsets_in m method)
+scope_alike : (m : Map) → (method : ℕ) → Rise (offsets_in m method) → (offsets_in m method ≢ gone) → (x y : ℕ) → Kept (offsets_in m method) x y
+    → x ≤ old_size (offsets_in m method)
     → (s : NotedScope) → FitsScope m method s
     → Alike (λ (t : NotedScope). nat_eq t.method (moved_row m 0x06 method) && holds y t.range) (moved_scope m s) (nat_eq s.method method && holds x s.range)
 scope_alike m method rise live x y kept at s fits = by_method (nat_eq s.method method) refl
   where
     same_holds : s.method ≡ method → holds y (scope_image m s).range ≡ holds x s.range
     same_holds is = subst (λ n. holds y (moved_range (offsets_in m n) s.range) ≡ holds x s.range) (sym is)
-        (holds_kept (offsets_in m method) rise live x y kept at s.range (omega (arith, fits.order)) (subst (λ n. s.range.end ≤ old_size (offsets_in m n)) is fits.within))
+        (holds_kept (offsets_in m method) rise live x y kept at s.range (omega (arith, fits.order))
+        (subst (λ n. s.range.end ≤ old_size (offsets_in m n)) is fits.within))
 
     by_range : s.method ≡ method → (b : Bool) → is_empty (scope_image m s).range ≡ b
         → Alike (λ (t : NotedScope). nat_eq t.method (moved_row m 0x06 method) && holds y t.range) (cond b None (Some (scope_image m s))) (holds x s.range)
@@ -63,7 +65,8 @@ scope_alike m method rise live x y kept at s fits = by_method (nat_eq s.method m
     by_method false is = other (eqb-false s.method method is) (is_empty (scope_image m s).range)
 
 -- a scope that holds a kept offset stays
-scope_stays : (m : Map) → (method : ℕ) → Rise (offsets_in m method) → (offsets_in m method ≢ gone) → (x y : ℕ) → Kept (offsets_in m method) x y → x ≤ old_size (offsets_in m method)
+scope_stays : (m : Map) → (method : ℕ) → Rise (offsets_in m method) → (offsets_in m method ≢ gone) → (x y : ℕ) → Kept (offsets_in m method) x y
+    → x ≤ old_size (offsets_in m method)
     → (s : NotedScope) → nat_eq s.method method && holds x s.range ≡ true → FitsScope m method s → moved_scope m s ≡ Some (scope_image m s)
 scope_stays m method rise live x y kept at s held fits = by_range (is_empty (scope_image m s).range) refl
   where
@@ -74,19 +77,23 @@ scope_stays m method rise live x y kept at s held fits = by_range (is_empty (sco
     same_holds =
         let is : s.method ≡ method = eqb-true s.method method parts.0 in
         subst (λ n. holds y (moved_range (offsets_in m n) s.range) ≡ holds x s.range) (sym is)
-        (holds_kept (offsets_in m method) rise live x y kept at s.range (omega (arith, fits.order)) (subst (λ n. s.range.end ≤ old_size (offsets_in m n)) is fits.within))
+        (holds_kept (offsets_in m method) rise live x y kept at s.range (omega (arith, fits.order))
+        (subst (λ n. s.range.end ≤ old_size (offsets_in m n)) is fits.within))
 
     by_range : (b : Bool) → is_empty (scope_image m s).range ≡ b → cond b None (Some (scope_image m s)) ≡ Some (scope_image m s)
     by_range true empty = absurd (both_ways (holds x s.range) (sym same_holds ∙ empty_holds y (scope_image m s).range empty) parts.1)
     by_range false filled = refl
 
 -- the scopes that hold the image are the images of those that hold the offset, in order
-pub scopes_kept : (m : Map) (method : ℕ) → Rise (offsets_in m method) → (offsets_in m method ≢ gone) → (x y : ℕ) → Kept (offsets_in m method) x y → x ≤ old_size (offsets_in m method)
+pub scopes_kept : (m : Map) (method : ℕ) → Rise (offsets_in m method) → (offsets_in m method ≢ gone) → (x y : ℕ) → Kept (offsets_in m method) x y
+    → x ≤ old_size (offsets_in m method)
     → (ss : List NotedScope) → Each (FitsScope m method) ss
     → scopes_at (moved_row m 0x06 method) y (filter_map (moved_scope m) ss) ≡ map (scope_image m) (scopes_at method x ss)
 scopes_kept m method rise live x y kept at ss fits =
     filter-filter_map (moved_scope m) (λ s. nat_eq s.method method && holds x s.range) (λ t. nat_eq t.method (moved_row m 0x06 method) && holds y t.range) ss
-    (Each-weaker (FitsScope m method) (λ s. Alike (λ (t : NotedScope). nat_eq t.method (moved_row m 0x06 method) && holds y t.range) (moved_scope m s) (nat_eq s.method method && holds x s.range))
+    (Each-weaker (FitsScope m method)
+    (λ s. Alike (λ (t : NotedScope). nat_eq t.method (moved_row m 0x06 method) && holds y t.range) (moved_scope m s)
+    (nat_eq s.method method && holds x s.range))
     (λ s f. scope_alike m method rise live x y kept at s f) ss fits)
     ∙ filter_map-map (moved_scope m) (scope_image m) (scopes_at method x ss)
     (Each-filter (FitsScope m method) (λ s. moved_scope m s ≡ Some (scope_image m s)) (λ s. nat_eq s.method method && holds x s.range)
@@ -99,7 +106,8 @@ Follows a b = a.method ≡ b.method → (a.range.start ≤ b.range.start) × ((a
 
 -- scopes of one method that the map moves keep that order and stay nested or disjoint
 pub follows_kept : (m : Map) → ((n : ℕ) → Rise (offsets_in m n)) → (a b : NotedScope) → (offsets_in m a.method ≢ gone)
-    → a.range.start ≤ a.range.end → a.range.end ≤ old_size (offsets_in m a.method) → b.range.start ≤ b.range.end → b.range.end ≤ old_size (offsets_in m b.method)
+    → a.range.start ≤ a.range.end → a.range.end ≤ old_size (offsets_in m a.method) → b.range.start ≤ b.range.end
+    → b.range.end ≤ old_size (offsets_in m b.method)
     → ((moved_row m 0x06 a.method ≡ moved_row m 0x06 b.method) → a.method ≡ b.method)
     → Follows a b → Follows (scope_image m a) (scope_image m b)
 follows_kept m rises a b live a_order a_within b_order b_within own follows images =
@@ -109,7 +117,8 @@ follows_kept m rises a b live a_order a_within b_order b_within own follows imag
     let start : moved (offsets_in m a.method) a.range.start ≤ moved (offsets_in m a.method) b.range.start =
     moved_never_falls (offsets_in m a.method) (rises a.method) live a.range.start b.range.start f.0 (omega arith) in
     subst (λ n. (moved (offsets_in m a.method) a.range.start ≤ moved (offsets_in m n) b.range.start)
-    × ((moved (offsets_in m a.method) a.range.end ≤ moved (offsets_in m n) b.range.start) ⊎ (moved (offsets_in m n) b.range.end ≤ moved (offsets_in m a.method) a.range.end))) is (
+    × ((moved (offsets_in m a.method) a.range.end ≤ moved (offsets_in m n) b.range.start) ⊎
+    (moved (offsets_in m n) b.range.end ≤ moved (offsets_in m a.method) a.range.end))) is (
       start,
       elim f.1 [
         | inl past ↦ inl (moved_never_falls (offsets_in m a.method) (rises a.method) live a.range.end b.range.start past (omega arith))

@@ -25,9 +25,11 @@ use Rattle.ppdb_moved.proofs.Scopes.{holds_kept, empty_holds}
 
 -- ---- the slots of one record
 
-slot_kept : (m : Map) (method : ℕ) → Rise (offsets_in m method) → (offsets_in m method ≢ gone) → (x y : ℕ) → Kept (offsets_in m method) x y → x ≤ old_size (offsets_in m method)
+slot_kept : (m : Map) (method : ℕ) → Rise (offsets_in m method) → (offsets_in m method ≢ gone) → (x y : ℕ) → Kept (offsets_in m method) x y
+    → x ≤ old_size (offsets_in m method)
     → (p k : ℕ) (slot : Slot) → FitsSlot (offsets_in m method) slot → (rest : List SlotMeaning)
-    → cons_option (slot_at y p (k, moved_slot (offsets_in m method) slot)) (map (slot_image m method) rest) ≡ map (slot_image m method) (cons_option (slot_at x p (k, slot)) rest)
+    → cons_option (slot_at y p (k, moved_slot (offsets_in m method) slot)) (map (slot_image m method) rest)
+    ≡ map (slot_image m method) (cons_option (slot_at x p (k, slot)) rest)
 slot_kept m method rise live x y kept at p k Empty fits rest = refl
 slot_kept m method rise live x y kept at p k (Held range) fits rest =
     by_range (is_empty (moved_range (offsets_in m method) range)) refl (holds range x) refl
@@ -43,9 +45,11 @@ slot_kept m method rise live x y kept at p k (Held range) fits rest =
     by_range false filled true is = rw (same ∙ is) refl
     by_range false filled false is = rw (same ∙ is) refl
 
-record_kept : (m : Map) (method : ℕ) → Rise (offsets_in m method) → (offsets_in m method ≢ gone) → (x y : ℕ) → Kept (offsets_in m method) x y → x ≤ old_size (offsets_in m method)
+record_kept : (m : Map) (method : ℕ) → Rise (offsets_in m method) → (offsets_in m method ≢ gone) → (x y : ℕ) → Kept (offsets_in m method) x y
+    → x ≤ old_size (offsets_in m method)
     → (p k : ℕ) (slots : List Slot) → Each (FitsSlot (offsets_in m method)) slots
-    → filter_map (slot_at y p) (enumerate_from k (map (moved_slot (offsets_in m method)) slots)) ≡ map (slot_image m method) (filter_map (slot_at x p) (enumerate_from k slots))
+    → filter_map (slot_at y p) (enumerate_from k (map (moved_slot (offsets_in m method)) slots))
+    ≡ map (slot_image m method) (filter_map (slot_at x p) (enumerate_from k slots))
 record_kept m method rise live x y kept at p k [] fits = refl
 record_kept m method rise live x y kept at p k (s ∷ ss) fits =
     ap (λ l. cons_option (slot_at y p (k, moved_slot (offsets_in m method) s)) l) (record_kept m method rise live x y kept at p (k + 1) ss fits.1)
@@ -55,16 +59,20 @@ map_append : {A B : Type 0} (f : A → B) (xs ys : List A) → map f (xs ++ ys) 
 map_append f [] ys = refl
 map_append f (x ∷ xs) ys = ap (λ l. f x ∷ l) (map_append f xs ys)
 
-records_kept : (m : Map) (method : ℕ) → Rise (offsets_in m method) → (offsets_in m method ≢ gone) → (x y : ℕ) → Kept (offsets_in m method) x y → x ≤ old_size (offsets_in m method)
+records_kept : (m : Map) (method : ℕ) → Rise (offsets_in m method) → (offsets_in m method ≢ gone) → (x y : ℕ) → Kept (offsets_in m method) x y
+    → x ≤ old_size (offsets_in m method)
     → (p : ℕ) (lists : List (List Slot)) → Each (Each (FitsSlot (offsets_in m method))) lists
-    → flat_map (λ hoisted. filter_map (slot_at y hoisted.0) (enumerate_from 0 hoisted.1)) (enumerate_from p (map (map (moved_slot (offsets_in m method))) lists))
+    → flat_map (λ hoisted. filter_map (slot_at y hoisted.0) (enumerate_from 0 hoisted.1))
+    (enumerate_from p (map (map (moved_slot (offsets_in m method))) lists))
     ≡ map (slot_image m method) (flat_map (λ hoisted. filter_map (slot_at x hoisted.0) (enumerate_from 0 hoisted.1)) (enumerate_from p lists))
 records_kept m method rise live x y kept at p [] fits = refl
 records_kept m method rise live x y kept at p (l ∷ ls) fits =
-    ap (λ h. h ++ flat_map (λ hoisted. filter_map (slot_at y hoisted.0) (enumerate_from 0 hoisted.1)) (enumerate_from (p + 1) (map (map (moved_slot (offsets_in m method))) ls)))
+    ap (λ h. h ++ flat_map (λ hoisted. filter_map (slot_at y hoisted.0) (enumerate_from 0 hoisted.1))
+    (enumerate_from (p + 1) (map (map (moved_slot (offsets_in m method))) ls)))
     (record_kept m method rise live x y kept at p 0 l fits.0)
     ∙ ap (λ t. map (slot_image m method) (filter_map (slot_at x p) (enumerate_from 0 l)) ++ t) (records_kept m method rise live x y kept at (p + 1) ls fits.1)
-    ∙ sym (map_append (slot_image m method) (filter_map (slot_at x p) (enumerate_from 0 l)) (flat_map (λ hoisted. filter_map (slot_at x hoisted.0) (enumerate_from 0 hoisted.1)) (enumerate_from (p + 1) ls)))
+    ∙ sym (map_append (slot_image m method) (filter_map (slot_at x p) (enumerate_from 0 l))
+    (flat_map (λ hoisted. filter_map (slot_at x hoisted.0) (enumerate_from 0 hoisted.1)) (enumerate_from (p + 1) ls)))
 
 -- ---- the records of a method
 
@@ -73,17 +81,22 @@ abbrev OfMethod : Map → ℕ → CustomValue → Type 0
 OfMethod m method c = (c.parent.row ≡ method) × FitsSlots (offsets_in m method) c.value
 
 lists_moved : (m : Map) (method : ℕ) (ds : List CustomValue) → Each (OfMethod m method) ds
-    → filter_map (λ (c : CustomValue). slots_in c.value) (map (image_of m) ds) ≡ map (map (moved_slot (offsets_in m method))) (filter_map (λ (c : CustomValue). slots_in c.value) ds)
+    → filter_map (λ (c : CustomValue). slots_in c.value) (map (image_of m) ds)
+    ≡ map (map (moved_slot (offsets_in m method))) (filter_map (λ (c : CustomValue). slots_in c.value) ds)
 lists_moved m method [] each = refl
 lists_moved m method (d ∷ ds) each = step d.value (lists_moved m method ds each.1)
   where
     is : d.parent.row ≡ method
     is = each.0.0
 
-    step : (v : CustomBody) → filter_map (λ (c : CustomValue). slots_in c.value) (map (image_of m) ds) ≡ map (map (moved_slot (offsets_in m method))) (filter_map (λ (c : CustomValue). slots_in c.value) ds)
+    step : (v : CustomBody)
+        → filter_map (λ (c : CustomValue). slots_in c.value) (map (image_of m) ds)
+        ≡ map (map (moved_slot (offsets_in m method))) (filter_map (λ (c : CustomValue). slots_in c.value) ds)
         → cons_option (slots_in (moved_body m d.parent.row v)) (filter_map (λ (c : CustomValue). slots_in c.value) (map (image_of m) ds))
         ≡ map (map (moved_slot (offsets_in m method))) (cons_option (slots_in v) (filter_map (λ (c : CustomValue). slots_in c.value) ds))
-    step (Hoisted slots) rest = ap (λ n. map (moved_slot (offsets_in m n)) slots ∷ filter_map (λ (c : CustomValue). slots_in c.value) (map (image_of m) ds)) is ∙ ap (λ l. map (moved_slot (offsets_in m method)) slots ∷ l) rest
+    step (Hoisted slots) rest = ap
+        (λ n. map (moved_slot (offsets_in m n)) slots ∷ filter_map (λ (c : CustomValue). slots_in c.value) (map (image_of m) ds)) is
+        ∙ ap (λ l. map (moved_slot (offsets_in m method)) slots ∷ l) rest
     step (Async handler steps) rest = rest
     step (TypeDocuments rows) rest = rest
     step (Unread bytes) rest = rest
@@ -93,7 +106,8 @@ lists_fit : (m : Map) (method : ℕ) (ds : List CustomValue) → Each (OfMethod 
 lists_fit m method [] each = tt
 lists_fit m method (d ∷ ds) each = step d.value each.0.1 (lists_fit m method ds each.1)
   where
-    step : (v : CustomBody) → FitsSlots (offsets_in m method) v → Each (Each (FitsSlot (offsets_in m method))) (filter_map (λ (c : CustomValue). slots_in c.value) ds)
+    step : (v : CustomBody) → FitsSlots (offsets_in m method) v
+        → Each (Each (FitsSlot (offsets_in m method))) (filter_map (λ (c : CustomValue). slots_in c.value) ds)
         → Each (Each (FitsSlot (offsets_in m method))) (cons_option (slots_in v) (filter_map (λ (c : CustomValue). slots_in c.value) ds))
     step (Hoisted slots) fits rest = (fits, rest)
     step (Async handler steps) fits rest = rest
@@ -101,13 +115,16 @@ lists_fit m method (d ∷ ds) each = step d.value each.0.1 (lists_fit m method d
     step (Unread bytes) fits rest = rest
 
 -- the hoisted part of the meaning
-pub slots_mean : (m : Map) (w : NotedFile) (method : ℕ) → Rise (offsets_in m method) → (offsets_in m method ≢ gone) → (x y : ℕ) → Kept (offsets_in m method) x y → x ≤ old_size (offsets_in m method)
+pub slots_mean : (m : Map) (w : NotedFile) (method : ℕ) → Rise (offsets_in m method) → (offsets_in m method ≢ gone) → (x y : ℕ)
+    → Kept (offsets_in m method) x y → x ≤ old_size (offsets_in m method)
     → Each (FitsCustom m method) w.customs
     → slots_at (moved_file m w) (moved_row m 0x06 method) y ≡ map (slot_image m method) (slots_at w method x)
 slots_mean m w method rise live x y kept at fits =
     ap (λ customs. slots_among customs y) (records_moved m w method live fits)
-    ∙ ap (λ lists. flat_map (λ hoisted. filter_map (slot_at y hoisted.0) (enumerate_from 0 hoisted.1)) (enumerate_from 0 lists)) (lists_moved m method (filter (on method) w.customs) own)
-    ∙ records_kept m method rise live x y kept at 0 (filter_map (λ (c : CustomValue). slots_in c.value) (filter (on method) w.customs)) (lists_fit m method (filter (on method) w.customs) own)
+    ∙ ap (λ lists. flat_map (λ hoisted. filter_map (slot_at y hoisted.0) (enumerate_from 0 hoisted.1)) (enumerate_from 0 lists))
+    (lists_moved m method (filter (on method) w.customs) own)
+    ∙ records_kept m method rise live x y kept at 0 (filter_map (λ (c : CustomValue). slots_in c.value) (filter (on method) w.customs))
+    (lists_fit m method (filter (on method) w.customs) own)
   where
     own : Each (OfMethod m method) (filter (on method) w.customs)
     own = Each-filter (FitsCustom m method) (OfMethod m method) (on method)

@@ -54,7 +54,8 @@ HasSlot m method v = (image : ℕ) × (slot_image m method v.item.slot ≡ Some 
 
 -- two slots of a method with one image are one slot
 abbrev pub SlotsAreApart : Map → List NotedScope → Type 0
-SlotsAreApart m scopes = (s t : NotedScope) (v w : Noted VariableValue) (image : ℕ) → Contains scopes s → Contains scopes t → live_scope m s ≡ true → s.method ≡ t.method
+SlotsAreApart m scopes = (s t : NotedScope) (v w : Noted VariableValue) (image : ℕ) → Contains scopes s → Contains scopes t → live_scope m s ≡ true
+    → s.method ≡ t.method
     → Contains s.variables v → Contains t.variables w → slot_image m s.method v.item.slot ≡ Some image → slot_image m t.method w.item.slot ≡ Some image
     → v.item.slot ≡ w.item.slot
 

@@ -1,5 +1,5 @@
 // What a moved file says at the images of kept offsets.
-ghost use Rattle.ppdb_moved.specs.Laws.{FilesMean, FitsAreOfMethods, LinksMoved, PointsMean, ScopesMean, SlotsMean};
+ghost use Rattle.ppdb_moved.specs.Laws.{FilesMean, FitsAreOfMethods, LinksMoved, MovedIsSound, MovedNamesImages, NamedRowsAreRows, PointsMean, ScopesMean, SlotsMean};
 
 /// The last point that is not after the image of a kept offset is the image of the one that was not after the offset.
 pub fn points_mean()
@@ -29,4 +29,19 @@ pub fn fits_are_of_methods()
 /// What a moved file says at the image of a kept offset of a method that the file names is the image of what the file said there.
 pub fn files_mean()
     ensures { FilesMean }
+{}
+
+/// A sound file that a map fits is sound after it has moved.
+pub fn moved_is_sound()
+    ensures { MovedIsSound }
+{}
+
+/// A moved file says something only of images of methods that the file names.
+pub fn moved_names_images()
+    ensures { MovedNamesImages }
+{}
+
+/// The rows of the type system that a sound file names are rows.
+pub fn named_rows_are_rows()
+    ensures { NamedRowsAreRows }
 {}

@@ -13,7 +13,10 @@ mod records;
 mod types;
 
 pub use file::moved_file;
-pub use laws::{files_mean, fits_are_of_methods, links_mean, points_mean, scopes_mean, slots_mean};
+pub use laws::{
+    files_mean, fits_are_of_methods, links_mean, moved_is_sound, moved_names_images,
+    named_rows_are_rows, points_mean, scopes_mean, slots_mean,
+};
 pub use methods::move_points;
 pub use moves::{InMethod, Moves, Stays, move_all, moved_all};
 pub use offsets::moved_offset;

@@ -1,0 +1,17 @@
+// What joined files say of a method.
+ghost use Rattle.kept_meanings.specs.Kept.{InputsKeepMeaning};
+ghost use Rattle.kept_meanings.specs.Laws.{JoinedMeans};
+
+use ppdb_noted::soundness_is_noted;
+
+/// What joined files say of a method of which one file alone says something is what that file says.
+pub fn joined_means()
+    ensures { JoinedMeans }
+{}
+
+/// Inputs that fit are joined to a file that keeps what each said of its methods at the offsets that its map keeps.
+pub fn inputs_keep_meaning()
+    ensures { InputsKeepMeaning }
+{
+    soundness_is_noted();
+}
