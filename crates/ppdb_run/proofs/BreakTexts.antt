@@ -1,5 +1,5 @@
 -- The document of a name is there, and the text of its breaks is what is due.
-use Rattle.std.proofs.Common.{ℕ, suc, ◌≡◌, ◌+◌, ◌≤◌, ◌<◌, ◌⊎◌, inl, inr, List, [], ◌∷◌, length, Bool, Option, Some, None, refl, sym, ◌∙◌, ap, subst, arith}
+use Rattle.std.proofs.Common.{ℕ, suc, ◌≡◌, ◌≤◌, ◌<◌, List, [], ◌∷◌, length, Bool, Option, Some, None, refl, sym, ◌∙◌, ap, subst, arith}
 use Rattle.std.specs.Prelude.{option_map, position}
 use Rattle.std.specs.Str.{bytes_eq}
 use Rattle.std.proofs.lemmas.List.Quantifiers.{position-Some}
@@ -12,7 +12,7 @@ use Rattle.break_lines.specs.declared.item.Break.{Break}
 use Rattle.break_lines.specs.Breaks.{breaks_in, document_named}
 use Rattle.break_lines.proofs.Documents.{documents_many}
 use Rattle.source_lines.specs.Breaks.{text_of_breaks}
-use Rattle.ppdb_run.specs.Outcome.{Outcome, breaks_answer, outcome_of}
+use Rattle.ppdb_run.specs.Outcome.{breaks_answer, outcome_of}
 
 pub named_there : (raw : RawFile) (name : List ℕ) (row : ℕ) → document_named (value_of raw) name ≡ Some row → (1 ≤ row) × (row ≤ length raw.tables.documents)
 named_there raw name row e = by_place (position test (value_of raw).documents) refl

@@ -1,14 +1,10 @@
 -- What is known of a file that is rebuilt.
-use Rattle.std.proofs.Common.{ℕ, ◌≡◌, inl, inr, List, [], ◌∷◌, Bool, true, false, refl, sym, ◌∙◌, ap, subst, arith}
+use Rattle.std.proofs.Common.{ℕ, ◌≡◌, inl, List, [], refl, sym, ◌∙◌, ap, subst}
 use Rattle.std.specs.Prelude.{Option, Some, None, option_map, Result, Ok, Err, IfSome, IfErr, OnOk}
-use Rattle.ppdb_base.specs.Files.{Files, Contents, reading}
+use Rattle.ppdb_base.specs.Files.{Files}
 use Rattle.ppdb_base.specs.First.{IsAccepted}
 use Rattle.ppdb_base.specs.Written.{appended}
 use Rattle.ppdb_base.proofs.Written.{appended_nothing}
-use Rattle.ppdb_base.specs.declared.limits.TheConstants.{MAX_FILE_BYTES}
-use Rattle.ppdb_base.specs.declared.limits.Limit.{Limit}
-use Rattle.ppdb_base.specs.declared.merge_error.MergeError.{MergeError}
-use Rattle.ppdb_canon.specs.declared.choice.IdChoice.{IdChoice}
 use Rattle.ppdb_canon.specs.Canon.{canon, chosen_id, with_id}
 use Rattle.ppdb_canon.specs.Limits.{first_limit}
 use Rattle.ppdb_values.specs.declared.file.FileValue.{FileValue}
@@ -17,14 +13,13 @@ use Rattle.ppdb_values.specs.Value.{value_of}
 use Rattle.ppdb_verify.specs.Files.{BadFile, IsRawOf}
 use Rattle.written_files.specs.Written.{Says, IsSameAgain}
 use Rattle.ppdb_run.specs.declared.stop.Stop.{Stop}
-use Rattle.ppdb_run.specs.Ends.{Asks, AreSeen, KeepsFiles, OnTask, OnOutcome, OnAsked, RebuildsToItself, WritesAgain, WritesNoFile, WritesValid}
+use Rattle.ppdb_run.specs.Ends.{KeepsFiles, OnTask, OnAsked, RebuildsToItself, WritesAgain, WritesNoFile, WritesValid}
 use Rattle.ppdb_run.specs.Outcome.{Outcome, IsOutcome, choice_of, gives, input_of, limited, rebuilt, steps_of, unfit, unknown_kind, unless, verified, written}
 use Rattle.ppdb_run.specs.Stops.{cause_of, refusal_of, Gives, Leaves, LeavesAt, Finds, Settles}
-use Rattle.ppdb_run.specs.Words.{Options, Task, Ask, Rebuild, Words}
-use Rattle.ppdb_run.specs.Writes.{WritesFront}
-use Rattle.ppdb_run.proofs.Kept.{leaves_unchanged, writes_none}
+use Rattle.ppdb_run.specs.Words.{Options, Task, Rebuild, Words}
+use Rattle.ppdb_run.proofs.Kept.{leaves_unchanged}
 use Rattle.ppdb_run.proofs.OneTask.{one_task}
-use Rattle.ppdb_run.proofs.Outcomes.{gives_next, gives_stop, of_told, on_due, one_outcome}
+use Rattle.ppdb_run.proofs.Outcomes.{gives_next, gives_stop, of_told, on_due}
 
 -- ---- what it comes to
 

@@ -1,10 +1,8 @@
 -- The first custom record of a kind that is neither read nor passed on, looked for row by row.
 use Rattle.std.proofs.Common.{ℕ, zero, suc, ◌≡◌, ◌+◌, ◌-◌, ◌≤◌, ◌<◌, List, [], ◌∷◌, length, map, drop, Bool, true, false, Option, Some, None, refl}
 use Rattle.std.proofs.Common.{sym, ◌∙◌, ap, subst, arith}
-use Rattle.std.specs.Prelude.{slice_get, option_map, if◌then◌else◌}
+use Rattle.std.specs.Prelude.{slice_get, if◌then◌else◌}
 use Rattle.std.specs.List.{enumerate_from, find}
-use Rattle.ppdb_base.specs.declared.merge_error.MergeError.{MergeError}
-use Rattle.ppdb_base.specs.declared.merge_error.MergeError.TheVariants.{KindUnknown}
 use Rattle.custom_info.specs.Kinds.{kind_of}
 use Rattle.ppdb_tables.specs.declared.rows.CustomRow.{CustomRow}
 use Rattle.ppdb_tables.specs.RawTables.{RawTables, row_at}

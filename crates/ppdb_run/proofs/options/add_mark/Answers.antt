@@ -1,4 +1,3 @@
-use Rattle.std.proofs.Common.{◌≡◌}
 use Rattle.uuid.specs.Text.{parsed}
 use Rattle.ppdb_run.proofs.Choices.{no_mark}
 use Rattle.ppdb_run.proofs.options.add_mark.Goals as goal

@@ -1,7 +1,6 @@
 use Rattle.std.proofs.Common.{subst}
 use Rattle.ppdb_values.specs.Value.{value_of}
 use Rattle.ppdb_verify.specs.Views.{raw_file}
-use Rattle.ppdb_run.specs.Ends.{RebuildsToItself}
 use Rattle.ppdb_run.specs.Outcome.{gives, rebuilt, written}
 use Rattle.ppdb_run.specs.Stops.{Gives}
 use Rattle.ppdb_run.specs.Task.{options_of}

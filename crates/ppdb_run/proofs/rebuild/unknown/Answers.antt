@@ -1,9 +1,9 @@
-use Rattle.std.proofs.Common.{◌≡◌, sym, ◌∙◌, ap, true, false, arith}
+use Rattle.std.proofs.Common.{◌≡◌, sym, ap, true, false, arith}
 use Rattle.std.specs.Prelude.{option_map}
 use Rattle.ppdb_base.specs.declared.merge_error.MergeError.TheVariants.{KindUnknown}
 use Rattle.custom_info.specs.Kinds.{kind_of}
 use Rattle.ppdb_tables.specs.RawOf.{raw_of}
-use Rattle.ppdb_values.specs.Customs.{custom_of, kind_in}
+use Rattle.ppdb_values.specs.Customs.{kind_in}
 use Rattle.ppdb_verify.specs.Views.{tables_of}
 use Rattle.ppdb_run.specs.Outcome.{is_unknown}
 use Rattle.ppdb_run.proofs.Unknowns.{at_unknown, past_known, none_unknown}

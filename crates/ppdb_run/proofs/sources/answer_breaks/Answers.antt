@@ -1,4 +1,4 @@
-use Rattle.std.proofs.Common.{◌≡◌, ◌<◌, inl, inr, sym, ◌∙◌, Some, arith}
+use Rattle.std.proofs.Common.{◌≡◌, inl, inr, sym, ◌∙◌, Some, arith}
 use Rattle.break_lines.specs.Breaks.{document_named}
 use Rattle.ppdb_values.specs.Value.{value_of}
 use Rattle.ppdb_verify.specs.Views.{raw_file}
