@@ -5,3 +5,7 @@ pub mod Sizes
 pub mod Laws
 pub mod Composition
 pub mod Worked
+pub mod Says
+pub mod Parts
+pub mod Joining
+pub mod Refused

@@ -1,0 +1,69 @@
+-- What is put of runs of which each is held back until it is known that none goes on with it.
+use Rattle.std.specs.Prelude.{◌≡◌, ℕ, ◌+◌, ◌-◌, ◌<◌, ◌≤◌, ◌++◌, List, [], ◌∷◌, Option, Some, None, option_to_list, map, take, drop, length}
+use Rattle.std.specs.List.{flat_map, AllByRecursion}
+use Rattle.std.specs.Option.{option_map}
+use Rattle.ppdb_base.specs.declared.offsets.Run.{Run}
+use Rattle.ppdb_base.specs.Offsets.{Offsets, every, gone, lined, end_of, new_end_of}
+use Rattle.ppdb_maps.specs.declared.line.Line.TheVariants.{Kept}
+use Rattle.ppdb_maps.specs.Forms.{OFFSETS}
+use Rattle.ppdb_maps.specs.Map.{Map, MethodLine, method_line}
+use Rattle.map_text.specs.declared.counted.Counted.{Counted}
+use Rattle.map_text.specs.Putting.{Puts}
+use Rattle.map_compose.specs.declared.joined.JoinedRuns.{JoinedRuns}
+use Rattle.map_compose.specs.declared.joined.JoinedLine.{JoinedLine}
+use Rattle.map_compose.specs.Runs.{met, longest}
+use Rattle.map_compose.specs.Says.{lines_text}
+
+-- the lines of runs
+abbrev pub runs_text : List Run → List ℕ
+runs_text runs = lines_text (map Kept runs)
+
+-- a run of a map that a text has
+abbrev pub IsShort : Run → Type 0
+IsShort run = (0 < run.length) × (end_of run ≤ OFFSETS) × (new_end_of run ≤ OFFSETS)
+
+-- whatever runs came before: if those given up and the one held are their longest form, so they are with these runs after them
+abbrev pub JoinsRuns : Option Run → Option Run → List Run → List Run → Type 0
+JoinsRuns old new given runs = (before front : List Run) → longest before ≡ front ++ option_to_list old
+    → longest (before ++ runs) ≡ (front ++ given) ++ option_to_list new
+
+-- with one run more
+abbrev pub JoinsOne : Option Run → Run → Option Run → Run → Type 0
+JoinsOne old held given run = JoinsRuns old (Some held) (option_to_list given) (run ∷ [])
+
+-- the lines of what is given up are put
+pub record Joins (old new : Option Run) (before after : Counted) (runs : List Run) : Type 0 where
+  pub given : List Run
+  pub joins : JoinsRuns old new given runs
+  pub puts : Puts before after (runs_text given)
+
+-- ---- the runs of all methods in their longest form
+
+-- where the runs of lines stand, one after the other, from a place on
+abbrev pub places : ℕ → List MethodLine → List JoinedLine
+places from [] = []
+places from (line ∷ lines) =
+    record { method = line.method; start = from; end = from + length (longest line.runs) } ∷ places (from + length (longest line.runs)) lines
+
+pub record AreJoinedOf (joined : JoinedRuns) (m : Map) : Type 0 where
+  pub runs : joined.runs.items ≡ flat_map (λ (line : MethodLine). longest line.runs) m.methods
+  pub lines : joined.lines.items ≡ places 0 m.methods
+
+-- those of one method, where it has a line
+abbrev pub LendsJoined : JoinedRuns → ℕ → Option (List Run) → Type 0
+LendsJoined joined method result = (m : Map) → AreJoinedOf joined m → result ≡ option_map (λ (line : MethodLine). longest line.runs) (method_line m method)
+
+-- ---- the runs that a line keeps, and after it those of another
+
+abbrev pub runs_of : Option (List Run) → List Run
+runs_of None = []
+runs_of (Some runs) = runs
+
+abbrev pub lined_after : List Run → Option (List Run) → List Run
+lined_after runs None = longest runs
+lined_after runs (Some others) = longest (met runs others)
+
+abbrev pub runs_after : Offsets → Option (List Run) → List Run
+runs_after every others = runs_of others
+runs_after gone others = runs_of others
+runs_after (lined runs old new) others = lined_after runs others

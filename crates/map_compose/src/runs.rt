@@ -1,0 +1,120 @@
+// The lines of the offsets that both maps keep.
+ghost use Rattle.std.specs.Prelude.{◌≡◌, ◌<◌, ◌≤◌, OnOk, min, max, option_copied};
+ghost use Rattle.std.specs.List.{AllByRecursion, filter_map};
+ghost use Rattle.ppdb_base.specs.Offsets.{RiseFrom, end_of, new_end_of};
+ghost use Rattle.ppdb_maps.specs.Says.{offsets_of, lined_runs};
+ghost use Rattle.map_text.specs.Putting.{Puts};
+ghost use Rattle.map_compose.specs.Runs.{longest, met, meet};
+ghost use Rattle.map_compose.specs.Joining.{IsShort, Joins, runs_text, runs_after};
+
+use crate::joined::run_at;
+use crate::joining::{put_held, put_joined};
+use map_text::Counted;
+use ppdb_base::{Memory, Run};
+use ppdb_maps::MethodMap;
+
+/// The offsets that the first run gives and the second takes on.
+fn part_of(first: Run, second: Run) -> Option<Run>
+    requires first { IsShort first }
+    requires second { IsShort second }
+    ensures { result ≡ meet first second }
+{
+    let low = first.new.max(second.old);
+    let high = (first.new + first.length).min(second.old + second.length);
+    if low >= high {
+        return None;
+    }
+    Some(Run {
+        old: first.old + (low - first.new),
+        new: second.new + (low - second.old),
+        length: high - low,
+    })
+}
+
+/// Takes the offsets that one run gives and the others take on.
+fn put_met(
+    run: Run,
+    others: &[Run],
+    held: &mut Option<Run>,
+    text: &mut Counted,
+) -> Result<(), Memory>
+    requires run { IsShort run }
+    requires short { AllByRecursion IsShort others.now }
+    requires rise { RiseFrom 0 0 others.now }
+    ensures { OnOk result (Joins held.old held.new text.old text.new (filter_map (meet run) others.now)) }
+{
+    let end = run.new + run.length;
+    let from = others.partition_point(|other| other.old + other.length <= run.new);
+    'others: for other in &others[from..] {
+        if other.old >= end {
+            break;
+        }
+        if let Some(part) = part_of(run, *other) {
+            put_joined(held, part, text)?;
+        }
+    }
+    Ok(())
+}
+
+/// Puts the lines of the runs that both keep.
+fn put_both(
+    line: &MethodMap<'_>,
+    others: &[Run],
+    text: &mut Counted,
+) -> Result<(), Memory>
+    requires first { AllByRecursion IsShort (lined_runs (offsets_of line.now.says)) }
+    requires second { AllByRecursion IsShort others.now }
+    requires rise { RiseFrom 0 0 others.now }
+    ensures { OnOk result (Puts text.old text.new (runs_text (longest (met (lined_runs (offsets_of line.now.says)) others.now)))) }
+{
+    let mut held = None;
+    let mut index = 0;
+    'runs: while let Some(run) = run_at(line, index) {
+        put_met(run, others, &mut held, text)?;
+        index += 1;
+    }
+    put_held(held, text)
+}
+
+/// Puts the lines of the runs of a line in their longest form.
+fn put_longest(line: &MethodMap<'_>, text: &mut Counted) -> Result<(), Memory>
+    requires { AllByRecursion IsShort (lined_runs (offsets_of line.now.says)) }
+    ensures { OnOk result (Puts text.old text.new (runs_text (longest (lined_runs (offsets_of line.now.says))))) }
+{
+    let mut held = None;
+    let mut index = 0;
+    'runs: while let Some(run) = run_at(line, index) {
+        put_joined(&mut held, run, text)?;
+        index += 1;
+    }
+    put_held(held, text)
+}
+
+/// Puts the lines of runs as they are.
+fn put_plain(runs: &[Run], text: &mut Counted) -> Result<(), Memory>
+    ensures { OnOk result (Puts text.old text.new (runs_text runs.now)) }
+{
+    'runs: for run in runs {
+        text.put_run(run)?;
+    }
+    Ok(())
+}
+
+/// Puts the lines of the runs that a line keeps, and after it the runs of another, where it is there.
+pub fn put_runs(
+    line: &MethodMap<'_>,
+    others: Option<&[Run]>,
+    text: &mut Counted,
+) -> Result<(), Memory>
+    requires first { AllByRecursion IsShort (lined_runs (offsets_of line.now.says)) }
+    requires second { AllByRecursion IsShort (runs_of (option_copied others.now)) }
+    requires rise { RiseFrom 0 0 (runs_of (option_copied others.now)) }
+    ensures { OnOk result (Puts text.old text.new (runs_text (runs_after (offsets_of line.now.says) (option_copied others.now)))) }
+{
+    match (line.sizes(), others) {
+        (Some(_), Some(runs)) => put_both(line, runs, text),
+        (Some(_), None) => put_longest(line, text),
+        (None, Some(runs)) => put_plain(runs, text),
+        (None, None) => Ok(()),
+    }
+}
