@@ -17,7 +17,7 @@ use Rattle.ppdb_maps.specs.Says.{sizes_of}
 use Rattle.map_compose.specs.Composition.{Follows, ComposedComposes, sizes_then}
 use Rattle.map_compose.specs.Laws.{MovesOn}
 use Rattle.map_compose.proofs.Found.{either, has, given, made_found, filter_map_map, flat_found, has_append, has_filter, has_ascending, has_key, find_filter}
-use Rattle.map_compose.proofs.Runs.{runs_compose}
+use Rattle.map_compose.proofs.Meeting.{runs_compose}
 
 -- ---- small things
 

@@ -1,8 +1,14 @@
 pub mod Rising
-pub mod Runs
+pub mod Meeting
 pub mod Found
 pub mod Orders
 pub mod Equations
 pub mod Readable
 pub mod Next
+pub mod Putting
+pub mod JoinedRuns
+pub mod Making
+pub mod Following
+pub mod Merging
+pub mod Bounds
 pub mod Worked

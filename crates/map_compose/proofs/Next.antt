@@ -11,7 +11,7 @@ use Rattle.ppdb_maps.specs.Map.{Map, offsets_in}
 use Rattle.ppdb_maps.specs.Readable.{IsReadable}
 use Rattle.map_compose.specs.Composed.{composed}
 use Rattle.map_compose.specs.Sizes.{SizesAgree}
-use Rattle.map_compose.proofs.Runs.{runs_compose, moves_split}
+use Rattle.map_compose.proofs.Meeting.{runs_compose, moves_split}
 use Rattle.map_compose.proofs.Rising.{size_run, met_rises}
 use Rattle.map_compose.proofs.Equations.{composed_composes}
 use Rattle.map_compose.proofs.Readable.{composed_is_readable, offsets_rise}

@@ -85,28 +85,28 @@ put_hold P n (m ∷ ms) h all = of (nat_lt n m) (nat_eq n m) (put_hold P n ms h 
     of false true rest = all
     of false false rest = (all.0, rest)
 
-ascending_hold : (P : ℕ → Type 0) (ns : List ℕ) → AllByRecursion P ns → AllByRecursion P (ascending ns)
+pub ascending_hold : (P : ℕ → Type 0) (ns : List ℕ) → AllByRecursion P ns → AllByRecursion P (ascending ns)
 ascending_hold P [] all = tt
 ascending_hold P (n ∷ ns) all = put_hold P n (ascending ns) all.0 (ascending_hold P ns all.1)
 
 -- ---- what a readable map says
 
 module _ (m : Map) (readable : IsReadable m) where
-  row_olds : AllByRecursion IsRow (olds m)
+  pub row_olds : AllByRecursion IsRow (olds m)
   row_olds = map_hold (IsRowOf m) IsRow (λ (r : RowImage). r.old) (λ r is. is.0) (rows_of m 0x06)
       (filter_hold (IsRowOf m) (IsRowOf m) (λ r. nat_eq r.table 0x06) (λ r is at. is) m.rows readable.rows)
 
-  line_numbers : AllByRecursion IsRow (numbers m)
+  pub line_numbers : AllByRecursion IsRow (numbers m)
   line_numbers = map_hold (IsLineOf m) IsRow (λ (l : MethodLine). l.method) (λ l is. is.0) m.methods readable.methods
 
-  slotted_rows : AllByRecursion IsRow m.slotted
+  pub slotted_rows : AllByRecursion IsRow m.slotted
   slotted_rows = all m.slotted readable.slotted
     where
       all : (ns : List ℕ) → AllByRecursion (IsSlottedOf m) ns → AllByRecursion IsRow ns
       all [] is = tt
       all (n ∷ ns) is = (is.0.0, all ns is.1)
 
-  counted : (table rows : ℕ) → count_of m table ≡ Some rows → rows ≤ ROWS
+  pub counted : (table rows : ℕ) → count_of m table ≡ Some rows → rows ≤ ROWS
   counted table rows is = of (find (λ (c : Count). nat_eq c.table table) m.counts) refl is
     where
       of : (o : Option Count) → find (λ (c : Count). nat_eq c.table table) m.counts ≡ o → option_map (λ (c : Count). c.rows) o ≡ Some rows → rows ≤ ROWS
@@ -143,7 +143,7 @@ module _ (m : Map) (readable : IsReadable m) where
       of true is = lined_slot method old new is
       of false is = let e : old ≡ new = cc in subst (λ n. n ≤ SLOTS) e slot
 
-  line_fits : (method : ℕ) (line : MethodLine) → method_line m method ≡ Some line → IsLineOf m line
+  pub line_fits : (method : ℕ) (line : MethodLine) → method_line m method ≡ Some line → IsLineOf m line
   line_fits method line is = found_holds (IsLineOf m) (λ (l : MethodLine). nat_eq l.method method) m.methods line readable.methods is
 
   -- the offsets of each method rise
@@ -155,10 +155,10 @@ module _ (m : Map) (readable : IsReadable m) where
       of false None is = (omega arith, omega arith, omega arith, tt)
       of false (Some line) is = (line_fits method line is).3
 
-  rows_up : (table : ℕ) → Up (map (λ (r : RowImage). r.old) (rows_of m table))
+  pub rows_up : (table : ℕ) → Up (map (λ (r : RowImage). r.old) (rows_of m table))
   rows_up table = key_up (λ (r : RowImage). r.table) (λ (r : RowImage). r.old) table m.rows readable.ascends.rows
 
-  slots_up : (method : ℕ) → Up (map (λ (x : SlotImage). x.old) (slots_of m method))
+  pub slots_up : (method : ℕ) → Up (map (λ (x : SlotImage). x.old) (slots_of m method))
   slots_up method = key_up (λ (x : SlotImage). x.method) (λ (x : SlotImage). x.old) method m.slots readable.ascends.slots
 
   rows_hold : (table : ℕ) → AllByRecursion (λ (r : RowImage). IsRow r.old × (is_some (count_of m table) ≡ true)) (rows_of m table)
@@ -204,8 +204,8 @@ all_met a b c d qs small rise = nil (filter_map (meet all_offsets) qs) ∙ stay 
 
 -- ---- the map of both
 
-module _ (f s : Map) (f_readable : IsReadable f) (s_readable : IsReadable s) (agree : SizesAgree f s) where
-  spoken_rows : (own others : List ℕ) → AllByRecursion IsRow own → AllByRecursion IsRow others → AllByRecursion IsRow (spoken_of f own others)
+module _ (f s : Map) (f_readable : IsReadable f) (s_readable : IsReadable s) where
+  pub spoken_rows : (own others : List ℕ) → AllByRecursion IsRow own → AllByRecursion IsRow others → AllByRecursion IsRow (spoken_of f own others)
   spoken_rows own others a b = ascending_hold IsRow (own ++ (olds f ++ others))
       (both_hold IsRow own (olds f ++ others) a (both_hold IsRow (olds f) others (row_olds f f_readable) b))
 
@@ -215,7 +215,7 @@ module _ (f s : Map) (f_readable : IsReadable f) (s_readable : IsReadable s) (ag
 
   -- ---- rows
 
-  source_rows : (table : ℕ) → AllByRecursion (λ (r : RowImage). IsRow r.old × (is_some (composed_count f s table) ≡ true)) (sources (count_of f table) (count_of s table) f s table)
+  pub source_rows : (table : ℕ) → AllByRecursion (λ (r : RowImage). IsRow r.old × (is_some (composed_count f s table) ≡ true)) (sources (count_of f table) (count_of s table) f s table)
   source_rows table = of (count_of f table) (count_of s table) refl refl
     where
       of : (a b : Option ℕ) → count_of f table ≡ a → count_of s table ≡ b
@@ -238,7 +238,7 @@ module _ (f s : Map) (f_readable : IsReadable f) (s_readable : IsReadable s) (ag
           all [] h = tt
           all (r ∷ rs) h = ((h.0.0, ap (λ o. is_some (option_or (count_of s table) o)) is ∙ by (count_of s table)), all rs h.1)
 
-  sources_up : (table : ℕ) → Up (map (λ (r : RowImage). r.old) (sources (count_of f table) (count_of s table) f s table))
+  pub sources_up : (table : ℕ) → Up (map (λ (r : RowImage). r.old) (sources (count_of f table) (count_of s table) f s table))
   sources_up table = of (count_of f table) (count_of s table)
     where
       none : Up []
@@ -293,8 +293,8 @@ module _ (f s : Map) (f_readable : IsReadable f) (s_readable : IsReadable s) (ag
 
   -- ---- methods
 
-  line_holds : (k : ℕ) (line : MethodLine) → IsRow k → composed_line f s k ≡ Some line → IsLineOf (composed f s) line
-  line_holds k line row is = of (has_image f s k) refl is
+  line_holds : SizesAgree f s → (k : ℕ) (line : MethodLine) → IsRow k → composed_line f s k ≡ Some line → IsLineOf (composed f s) line
+  line_holds agree k line row is = of (has_image f s k) refl is
     where
       second_fits : (b : MethodLine) → second_line f s k ≡ Some b → IsLineOf s b
       second_fits b at = by (row_image f 0x06 k) at
@@ -366,7 +366,7 @@ module _ (f s : Map) (f_readable : IsReadable f) (s_readable : IsReadable s) (ag
   slotted_fit : (k : ℕ) → IsRow k → has_slot_lines f s k ≡ true → IsSlottedOf (composed f s) k
   slotted_fit k row is = (row, stays k (and_parts (has_image f s k) _ is).0)
 
-  slot_source_fits : (k : ℕ) → AllByRecursion (λ (x : SlotImage). x.old ≤ SLOTS) (slot_sources f s k)
+  pub slot_source_fits : (k : ℕ) → AllByRecursion (λ (x : SlotImage). x.old ≤ SLOTS) (slot_sources f s k)
   slot_source_fits k = of (has_slots f k) (row_image f 0x06 k)
     where
       of : (b : Bool) (o : Option ℕ) → AllByRecursion (λ (x : SlotImage). x.old ≤ SLOTS) (cond b (slots_of f k) (of_image [] (slots_of s) o))
@@ -374,7 +374,7 @@ module _ (f s : Map) (f_readable : IsReadable f) (s_readable : IsReadable s) (ag
       of false None = tt
       of false (Some image) = slots_hold s s_readable image
 
-  slot_sources_up : (k : ℕ) → Up (map (λ (x : SlotImage). x.old) (slot_sources f s k))
+  pub slot_sources_up : (k : ℕ) → Up (map (λ (x : SlotImage). x.old) (slot_sources f s k))
   slot_sources_up k = of (has_slots f k) (row_image f 0x06 k)
     where
       none : Up []
@@ -427,14 +427,14 @@ module _ (f s : Map) (f_readable : IsReadable f) (s_readable : IsReadable s) (ag
       slotted_up : Up (slotted_methods f s)
       slotted_up = filter_up (has_slot_lines f s) (spoken_of f f.slotted s.slotted) (ascending_up (f.slotted ++ (olds f ++ s.slotted)))
 
-  readable : IsReadable (composed f s)
-  readable = record {
+  readable : SizesAgree f s → IsReadable (composed f s)
+  readable agree = record {
     ascends = ascends;
     counts = made_hold (λ k. has k tables ≡ true) IsCount (count_entry f s) count_fits tables (all_there tables);
     rows = flat_hold (λ k. has k tables ≡ true) (IsRowOf (composed f s)) (row_entries f s)
         (λ table there. made_hold (λ (r : RowImage). IsRow r.old × (is_some (composed_count f s table) ≡ true)) (IsRowOf (composed f s)) (row_entry f s table) (entry_fits table)
         (sources (count_of f table) (count_of s table) f s table) (source_rows table)) tables (all_there tables);
-    methods = made_hold IsRow (IsLineOf (composed f s)) (composed_line f s) line_holds (spoken_of f (numbers f) (numbers s))
+    methods = made_hold IsRow (IsLineOf (composed f s)) (composed_line f s) (line_holds agree) (spoken_of f (numbers f) (numbers s))
         (spoken_rows (numbers f) (numbers s) (line_numbers f f_readable) (line_numbers s s_readable));
     drops = filter_hold IsRow IsRow (drops_one f s) (λ k row is. row) (spoken_of f f.drops s.drops) (spoken_rows f.drops s.drops f_readable.drops s_readable.drops);
     slotted = filter_hold IsRow (IsSlottedOf (composed f s)) (has_slot_lines f s) slotted_fit (spoken_of f f.slotted s.slotted)

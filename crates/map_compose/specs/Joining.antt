@@ -1,5 +1,6 @@
 -- What is put of runs of which each is held back until it is known that none goes on with it.
-use Rattle.std.specs.Prelude.{◌≡◌, ℕ, ◌+◌, ◌-◌, ◌<◌, ◌≤◌, ◌++◌, List, [], ◌∷◌, Option, Some, None, option_to_list, map, take, drop, length}
+use Rattle.std.specs.Prelude.{◌≡◌, ℕ, ◌+◌, ◌-◌, ◌<◌, ◌≤◌, ◌++◌, List, [], ◌∷◌, Option, Some, None, option_to_list, option_copied, map, take, drop, length}
+use Rattle.std.specs.Borrow.{Bor}
 use Rattle.std.specs.List.{flat_map, AllByRecursion}
 use Rattle.std.specs.Option.{option_map}
 use Rattle.ppdb_base.specs.declared.offsets.Run.{Run}
@@ -8,24 +9,23 @@ use Rattle.ppdb_maps.specs.declared.line.Line.TheVariants.{Kept}
 use Rattle.ppdb_maps.specs.Forms.{OFFSETS}
 use Rattle.ppdb_maps.specs.Map.{Map, MethodLine, method_line}
 use Rattle.map_text.specs.declared.counted.Counted.{Counted}
-use Rattle.map_text.specs.Putting.{Puts}
 use Rattle.map_compose.specs.declared.joined.JoinedRuns.{JoinedRuns}
 use Rattle.map_compose.specs.declared.joined.JoinedLine.{JoinedLine}
 use Rattle.map_compose.specs.Runs.{met, longest}
-use Rattle.map_compose.specs.Says.{lines_text}
-
--- the lines of runs
-abbrev pub runs_text : List Run → List ℕ
-runs_text runs = lines_text (map Kept runs)
+use Rattle.map_compose.specs.Says.{PutsLines}
 
 -- a run of a map that a text has
 abbrev pub IsShort : Run → Type 0
 IsShort run = (0 < run.length) × (end_of run ≤ OFFSETS) × (new_end_of run ≤ OFFSETS)
 
--- whatever runs came before: if those given up and the one held are their longest form, so they are with these runs after them
+-- those given up and the one held are the longest form of the runs that came, and none is held only where none came
+pub record Holding (came given : List Run) (held : Option Run) : Type 0 where
+  pub are : longest came ≡ given ++ option_to_list held
+  pub none : held ≡ None → came ≡ []
+
+-- whatever runs came before, it is so with these runs after them
 abbrev pub JoinsRuns : Option Run → Option Run → List Run → List Run → Type 0
-JoinsRuns old new given runs = (before front : List Run) → longest before ≡ front ++ option_to_list old
-    → longest (before ++ runs) ≡ (front ++ given) ++ option_to_list new
+JoinsRuns old new given runs = (came front : List Run) → Holding came front old → Holding (came ++ runs) (front ++ given) new
 
 -- with one run more
 abbrev pub JoinsOne : Option Run → Run → Option Run → Run → Type 0
@@ -35,7 +35,7 @@ JoinsOne old held given run = JoinsRuns old (Some held) (option_to_list given) (
 pub record Joins (old new : Option Run) (before after : Counted) (runs : List Run) : Type 0 where
   pub given : List Run
   pub joins : JoinsRuns old new given runs
-  pub puts : Puts before after (runs_text given)
+  pub puts : PutsLines before after (map Kept given)
 
 -- ---- the runs of all methods in their longest form
 
@@ -54,6 +54,9 @@ abbrev pub LendsJoined : JoinedRuns → ℕ → Option (List Run) → Type 0
 LendsJoined joined method result = (m : Map) → AreJoinedOf joined m → result ≡ option_map (λ (line : MethodLine). longest line.runs) (method_line m method)
 
 -- ---- the runs that a line keeps, and after it those of another
+
+abbrev pub lent : Option (Bor (List Run)) → Option (List Run)
+lent runs = option_copied runs
 
 abbrev pub runs_of : Option (List Run) → List Run
 runs_of None = []

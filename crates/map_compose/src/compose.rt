@@ -1,10 +1,9 @@
 // The text of the map of two maps.
-ghost use Rattle.std.specs.Prelude.{◌≡◌, ◌≤◌, length, IfOk, IfErr, OnOk};
+ghost use Rattle.std.specs.Prelude.{◌≡◌, ◌≤◌, length, IfOk, IfErr};
 ghost use Rattle.map_text.specs.MapTexts.{map_text};
-ghost use Rattle.map_text.specs.Putting.{Puts};
 ghost use Rattle.ppdb_maps.specs.Text.{IsMapOf};
 ghost use Rattle.map_compose.specs.Composed.{composed};
-ghost use Rattle.map_compose.specs.Refused.{RefusesFor};
+ghost use Rattle.map_compose.specs.Refused.{Counts, RefusesFor};
 ghost use Rattle.map_compose.specs.Sizes.{SizesAgree};
 
 use crate::error::ComposeError;
@@ -18,22 +17,23 @@ use ppdb_base::{Bytes, MAX_FILE_BYTES, Memory};
 use ppdb_maps::MapText;
 use std::alloc::Global;
 
-/// Puts the text of the map of two maps.
-fn put_map(
+/// The text of the map of two maps, counted on where it is too long.
+fn counted_map(
     alloc: Global,
     first: &MapText,
     second: &MapText,
-    text: &mut Counted,
-) -> Result<(), Memory>
+) -> Result<Counted, Memory>
     requires { SizesAgree first.now second.now }
-    ensures { OnOk result (Puts text.old text.new (map_text (composed first.now second.now))) }
+    ensures { IfOk result (λ text. Counts text (map_text (composed first.now second.now))) }
 {
     let joined = JoinedRuns::of(alloc, second)?;
+    let mut text = Counted::new(alloc);
     text.put_head()?;
-    put_tables(first, second, text)?;
-    put_part(Part::Drops, first, second, &joined, text)?;
-    put_part(Part::Slots, first, second, &joined, text)?;
-    put_part(Part::Methods, first, second, &joined, text)
+    put_tables(first, second, &mut text)?;
+    put_part(Part::Drops, first, second, &joined, &mut text)?;
+    put_part(Part::Slots, first, second, &joined, &mut text)?;
+    put_part(Part::Methods, first, second, &joined, &mut text)?;
+    Ok(text)
 }
 
 /// The text of the map of two maps: of what the second makes of what the first makes of a module.
@@ -61,8 +61,7 @@ pub fn compose_maps(
             second: found.second,
         });
     }
-    let mut text = Counted::new(alloc);
-    put_map(alloc, first, second, &mut text)?;
+    let text = counted_map(alloc, first, second)?;
     let bytes = text.len();
     if bytes > MAX_FILE_BYTES as u64 {
         return Err(ComposeError::TooLong { bytes });

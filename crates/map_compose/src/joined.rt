@@ -1,5 +1,5 @@
 // The runs of each method of a map, in their longest form.
-ghost use Rattle.std.specs.Prelude.{◌≡◌, ◌++◌, IfOk, OnOk, slice_get, option_map, option_copied};
+ghost use Rattle.std.specs.Prelude.{◌≡◌, ◌++◌, IfOk, OnOk, slice_get, option_to_list, option_copied};
 ghost use Rattle.std.specs.List.{AllByRecursion};
 ghost use Rattle.ppdb_base.specs.declared.offsets.Run.{Run as TheRun};
 ghost use Rattle.ppdb_maps.specs.Map.{MethodLine, method_line};
@@ -35,6 +35,16 @@ pub fn run_at(line: &MethodMap<'_>, index: u32) -> Option<Run>
     Some(Run { old, new, length })
 }
 
+/// Adds a run, where there is one.
+fn push_held(held: Option<Run>, runs: &mut Vec<Run>) -> Result<(), Memory>
+    ensures { OnOk result (runs.new.items ≡ runs.old.items ++ option_to_list held) }
+{
+    if let Some(run) = held {
+        runs.push(run)?;
+    }
+    Ok(())
+}
+
 /// Adds the runs of a line in their longest form.
 fn push_joined(line: &MethodMap<'_>, runs: &mut Vec<Run>) -> Result<(), Memory>
     requires { AllByRecursion IsShort (lined_runs (offsets_of line.now.says)) }
@@ -44,16 +54,11 @@ fn push_joined(line: &MethodMap<'_>, runs: &mut Vec<Run>) -> Result<(), Memory>
     let mut index = 0;
     'runs: while let Some(run) = run_at(line, index) {
         let step = join(held, run);
-        if let Some(given) = step.given {
-            runs.push(given)?;
-        }
+        push_held(step.given, runs)?;
         held = Some(step.held);
         index += 1;
     }
-    if let Some(last) = held {
-        runs.push(last)?;
-    }
-    Ok(())
+    push_held(held, runs)
 }
 
 impl JoinedRuns {

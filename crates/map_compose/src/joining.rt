@@ -1,9 +1,10 @@
 // Runs that go on are one: a run is held back until the next does not go on where it ends.
-ghost use Rattle.std.specs.Prelude.{◌≡◌, ◌<◌, ◌^◌, [], ◌∷◌, OnOk, option_to_list};
+ghost use Rattle.std.specs.Prelude.{◌≡◌, ◌<◌, ◌^◌, [], ◌∷◌, OnOk, map, option_to_list};
 ghost use Rattle.ppdb_base.specs.Offsets.{end_of};
-ghost use Rattle.map_text.specs.Putting.{Puts};
+ghost use Rattle.ppdb_maps.specs.declared.line.Line.TheVariants.{Kept};
 ghost use Rattle.map_compose.specs.Runs.{goes_on as continues};
-ghost use Rattle.map_compose.specs.Joining.{Joins, JoinsOne, runs_text};
+ghost use Rattle.map_compose.specs.Says.{PutsLines};
+ghost use Rattle.map_compose.specs.Joining.{Joins, JoinsOne};
 
 use map_text::Counted;
 use ppdb_base::{Memory, Run};
@@ -49,6 +50,16 @@ pub fn join(held: Option<Run>, run: Run) -> Step
     }
 }
 
+/// Puts the line of a run, where there is one.
+pub fn put_held(held: Option<Run>, text: &mut Counted) -> Result<(), Memory>
+    ensures { OnOk result (PutsLines text.old text.new (map Kept (option_to_list held))) }
+{
+    match held {
+        None => Ok(()),
+        Some(run) => text.put_run(&run),
+    }
+}
+
 /// Takes one more run, and puts the line of a run that is given up.
 pub fn put_joined(
     held: &mut Option<Run>,
@@ -59,19 +70,7 @@ pub fn put_joined(
     ensures { OnOk result (Joins held.old held.new text.old text.new (run ∷ [])) }
 {
     let step = join(*held, run);
-    if let Some(given) = step.given {
-        text.put_run(&given)?;
-    }
+    put_held(step.given, text)?;
     *held = Some(step.held);
     Ok(())
-}
-
-/// Puts the line of the run that is held back.
-pub fn put_held(held: Option<Run>, text: &mut Counted) -> Result<(), Memory>
-    ensures { OnOk result (Puts text.old text.new (runs_text (option_to_list held))) }
-{
-    match held {
-        None => Ok(()),
-        Some(run) => text.put_run(&run),
-    }
 }

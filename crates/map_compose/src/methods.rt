@@ -1,11 +1,10 @@
 // The lines of methods, part by part.
 ghost use Rattle.std.specs.Prelude.{◌≡◌, OnOk};
 ghost use Rattle.std.specs.List.{flat_map};
-ghost use Rattle.map_text.specs.Putting.{Puts};
 ghost use Rattle.map_compose.specs.Joining.{AreJoinedOf};
 ghost use Rattle.map_compose.specs.Composition.{sizes_then};
 ghost use Rattle.map_compose.specs.Sizes.{SizesAgree};
-ghost use Rattle.map_compose.specs.Says.{lines_text, line_of_both, drop_of_both};
+ghost use Rattle.map_compose.specs.Says.{PutsLines, line_of_both, drop_of_both};
 ghost use Rattle.map_compose.specs.Parts.{part_says, all_numbers};
 
 use crate::image::{drops, image_of};
@@ -38,7 +37,7 @@ fn put_drop(
     method: u32,
     text: &mut Counted,
 ) -> Result<(), Memory>
-    ensures { OnOk result (Puts text.old text.new (lines_text (drop_of_both first.now second.now method))) }
+    ensures { OnOk result (PutsLines text.old text.new (drop_of_both first.now second.now method)) }
 {
     if drops(first, second, method) {
         text.put_drop(method)
@@ -57,7 +56,7 @@ fn put_line(
 ) -> Result<(), Memory>
     requires joined { AreJoinedOf joined.now second.now }
     requires agree { SizesAgree first.now second.now }
-    ensures { OnOk result (Puts text.old text.new (lines_text (line_of_both first.now second.now method))) }
+    ensures { OnOk result (PutsLines text.old text.new (line_of_both first.now second.now method)) }
 {
     first.keeps();
     second.keeps();
@@ -85,7 +84,7 @@ fn put_method(
 ) -> Result<(), Memory>
     requires joined { AreJoinedOf joined.now second.now }
     requires agree { SizesAgree first.now second.now }
-    ensures { OnOk result (Puts text.old text.new (lines_text (part_says part first.now second.now method))) }
+    ensures { OnOk result (PutsLines text.old text.new (part_says part first.now second.now method)) }
 {
     match part {
         Part::Drops => put_drop(first, second, method, text),
@@ -104,7 +103,7 @@ pub fn put_part(
 ) -> Result<(), Memory>
     requires joined { AreJoinedOf joined.now second.now }
     requires agree { SizesAgree first.now second.now }
-    ensures { OnOk result (Puts text.old text.new (lines_text (flat_map (part_says part first.now second.now) (all_numbers part first.now second.now)))) }
+    ensures { OnOk result (PutsLines text.old text.new (flat_map (part_says part first.now second.now) (all_numbers part first.now second.now))) }
 {
     let mut passed = Passed { own: 0, other: 0 };
     'methods: while let Some(method) = part.next(first, second, &mut passed) {

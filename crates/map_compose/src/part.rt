@@ -76,10 +76,12 @@ impl Part {
                 passed.own += 1;
                 Some(own)
             }
-            (Some(own), Some(other)) => {
-                if own == other {
-                    passed.own += 1;
-                }
+            (Some(own), Some(other)) if own == other => {
+                passed.own += 1;
+                passed.other += 1;
+                Some(own)
+            }
+            (Some(_), Some(other)) => {
                 passed.other += 1;
                 Some(other)
             }

@@ -1,11 +1,12 @@
 // The lines of the offsets that both maps keep.
-ghost use Rattle.std.specs.Prelude.{◌≡◌, ◌<◌, ◌≤◌, OnOk, min, max, option_copied};
+ghost use Rattle.std.specs.Prelude.{◌≡◌, OnOk, map, option_to_list};
 ghost use Rattle.std.specs.List.{AllByRecursion, filter_map};
-ghost use Rattle.ppdb_base.specs.Offsets.{RiseFrom, end_of, new_end_of};
+ghost use Rattle.ppdb_base.specs.Offsets.{RiseFrom};
 ghost use Rattle.ppdb_maps.specs.Says.{offsets_of, lined_runs};
-ghost use Rattle.map_text.specs.Putting.{Puts};
+ghost use Rattle.ppdb_maps.specs.declared.line.Line.TheVariants.{Kept};
+ghost use Rattle.map_compose.specs.Says.{PutsLines};
 ghost use Rattle.map_compose.specs.Runs.{longest, met, meet};
-ghost use Rattle.map_compose.specs.Joining.{IsShort, Joins, runs_text, runs_after};
+ghost use Rattle.map_compose.specs.Joining.{IsShort, Joins, runs_of, lent, runs_after};
 
 use crate::joined::run_at;
 use crate::joining::{put_held, put_joined};
@@ -31,6 +32,23 @@ fn part_of(first: Run, second: Run) -> Option<Run>
     })
 }
 
+/// Takes the offsets that one run gives and another takes on.
+fn put_meeting(
+    run: Run,
+    other: Run,
+    held: &mut Option<Run>,
+    text: &mut Counted,
+) -> Result<(), Memory>
+    requires run { IsShort run }
+    requires other { IsShort other }
+    ensures { OnOk result (Joins held.old held.new text.old text.new (option_to_list (meet run other))) }
+{
+    match part_of(run, other) {
+        None => Ok(()),
+        Some(part) => put_joined(held, part, text),
+    }
+}
+
 /// Takes the offsets that one run gives and the others take on.
 fn put_met(
     run: Run,
@@ -49,9 +67,7 @@ fn put_met(
         if other.old >= end {
             break;
         }
-        if let Some(part) = part_of(run, *other) {
-            put_joined(held, part, text)?;
-        }
+        put_meeting(run, *other, held, text)?;
     }
     Ok(())
 }
@@ -65,7 +81,7 @@ fn put_both(
     requires first { AllByRecursion IsShort (lined_runs (offsets_of line.now.says)) }
     requires second { AllByRecursion IsShort others.now }
     requires rise { RiseFrom 0 0 others.now }
-    ensures { OnOk result (Puts text.old text.new (runs_text (longest (met (lined_runs (offsets_of line.now.says)) others.now)))) }
+    ensures { OnOk result (PutsLines text.old text.new (map Kept (longest (met (lined_runs (offsets_of line.now.says)) others.now)))) }
 {
     let mut held = None;
     let mut index = 0;
@@ -79,7 +95,7 @@ fn put_both(
 /// Puts the lines of the runs of a line in their longest form.
 fn put_longest(line: &MethodMap<'_>, text: &mut Counted) -> Result<(), Memory>
     requires { AllByRecursion IsShort (lined_runs (offsets_of line.now.says)) }
-    ensures { OnOk result (Puts text.old text.new (runs_text (longest (lined_runs (offsets_of line.now.says))))) }
+    ensures { OnOk result (PutsLines text.old text.new (map Kept (longest (lined_runs (offsets_of line.now.says))))) }
 {
     let mut held = None;
     let mut index = 0;
@@ -92,7 +108,7 @@ fn put_longest(line: &MethodMap<'_>, text: &mut Counted) -> Result<(), Memory>
 
 /// Puts the lines of runs as they are.
 fn put_plain(runs: &[Run], text: &mut Counted) -> Result<(), Memory>
-    ensures { OnOk result (Puts text.old text.new (runs_text runs.now)) }
+    ensures { OnOk result (PutsLines text.old text.new (map Kept runs.now)) }
 {
     'runs: for run in runs {
         text.put_run(run)?;
@@ -107,9 +123,9 @@ pub fn put_runs(
     text: &mut Counted,
 ) -> Result<(), Memory>
     requires first { AllByRecursion IsShort (lined_runs (offsets_of line.now.says)) }
-    requires second { AllByRecursion IsShort (runs_of (option_copied others.now)) }
-    requires rise { RiseFrom 0 0 (runs_of (option_copied others.now)) }
-    ensures { OnOk result (Puts text.old text.new (runs_text (runs_after (offsets_of line.now.says) (option_copied others.now)))) }
+    requires second { AllByRecursion IsShort (runs_of (lent others.entry)) }
+    requires rise { RiseFrom 0 0 (runs_of (lent others.entry)) }
+    ensures { OnOk result (PutsLines text.old text.new (map Kept (runs_after (offsets_of line.now.says) (lent others.entry)))) }
 {
     match (line.sizes(), others) {
         (Some(_), Some(runs)) => put_both(line, runs, text),

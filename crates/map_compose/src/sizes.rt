@@ -1,5 +1,5 @@
 // Where the sizes of a method differ.
-ghost use Rattle.std.specs.Prelude.{MatchOption};
+ghost use Rattle.std.specs.Prelude.{ℕ, MatchOption};
 ghost use Rattle.map_compose.specs.Sizes.{SizesDiffer, IsFirstDiffering, SizesAgree};
 
 use crate::image::image_of;

@@ -1,9 +1,8 @@
 // The lines of a method's slots.
 ghost use Rattle.std.specs.Prelude.{◌≡◌, OnOk, Some, slice_get, option_map};
-ghost use Rattle.map_text.specs.Putting.{Puts};
 ghost use Rattle.ppdb_maps.specs.declared.entries.SlotImage.{SlotImage};
 ghost use Rattle.map_compose.specs.Composed.{slot_sources};
-ghost use Rattle.map_compose.specs.Says.{lines_text, followed, slots_of_both, slot_images};
+ghost use Rattle.map_compose.specs.Says.{PutsLines, slot_image_says, slot_after, followed, slots_of_both, slot_images};
 
 use crate::image::{image_of, slot_by_both};
 use map_text::Counted;
@@ -29,6 +28,23 @@ fn source_slot(
     Some(old)
 }
 
+/// Puts the line of a slot's image, where there is one.
+fn put_image(
+    first: &MapText,
+    second: &MapText,
+    method: u32,
+    image: u32,
+    old: u16,
+    text: &mut Counted,
+) -> Result<(), Memory>
+    ensures { OnOk result (PutsLines text.old text.new (slot_image_says method old (slot_after first.now second.now method image old))) }
+{
+    match slot_by_both(first, second, method, image, old) {
+        None => Ok(()),
+        Some(new) => text.put_slot(method, old, new),
+    }
+}
+
 /// Puts the lines of the images of a method's slots.
 fn put_images(
     first: &MapText,
@@ -38,15 +54,13 @@ fn put_images(
     text: &mut Counted,
 ) -> Result<(), Memory>
     requires { followed first.now second.now method ≡ Some image }
-    ensures { OnOk result (Puts text.old text.new (lines_text (slot_images first.now second.now method))) }
+    ensures { OnOk result (PutsLines text.old text.new (slot_images first.now second.now method)) }
 {
     first.keeps();
     second.keeps();
     let mut index = 0;
     'slots: while let Some(old) = source_slot(first, second, method, image, index) {
-        if let Some(new) = slot_by_both(first, second, method, image, old) {
-            text.put_slot(method, old, new)?;
-        }
+        put_image(first, second, method, image, old, text)?;
         index += 1;
     }
     Ok(())
@@ -59,7 +73,7 @@ pub fn put_slots(
     method: u32,
     text: &mut Counted,
 ) -> Result<(), Memory>
-    ensures { OnOk result (Puts text.old text.new (lines_text (slots_of_both first.now second.now method))) }
+    ensures { OnOk result (PutsLines text.old text.new (slots_of_both first.now second.now method)) }
 {
     let Some(image) = image_of(first, second, method) else {
         return Ok(());

@@ -1,10 +1,9 @@
 // The lines of tables and their rows.
 ghost use Rattle.std.specs.Prelude.{◌≡◌, OnOk, true, is_some, slice_get, option_map};
 ghost use Rattle.std.specs.List.{flat_map};
-ghost use Rattle.map_text.specs.Putting.{Puts};
 ghost use Rattle.ppdb_maps.specs.declared.entries.RowImage.{RowImage};
-ghost use Rattle.map_compose.specs.Composed.{tables, composed_count};
-ghost use Rattle.map_compose.specs.Says.{lines_text, table_says, rows_say, sources_of};
+ghost use Rattle.map_compose.specs.Composed.{tables, composed_count, composed_row};
+ghost use Rattle.map_compose.specs.Says.{PutsLines, image_says, table_says, rows_say, sources_of};
 
 use crate::image::row_by_both;
 use map_text::Counted;
@@ -23,6 +22,22 @@ fn source_row(first: &MapText, second: &MapText, table: u8, index: u32) -> Optio
     Some(old)
 }
 
+/// Puts the line of a row's image, where there is one.
+fn put_image(
+    first: &MapText,
+    second: &MapText,
+    table: u8,
+    old: u32,
+    text: &mut Counted,
+) -> Result<(), Memory>
+    ensures { OnOk result (PutsLines text.old text.new (image_says table old (composed_row first.now second.now table old))) }
+{
+    match row_by_both(first, second, table, old) {
+        None => Ok(()),
+        Some(new) => text.put_row(table, old, new),
+    }
+}
+
 /// Puts the lines of a table's rows.
 fn put_rows_of(
     first: &MapText,
@@ -31,15 +46,13 @@ fn put_rows_of(
     text: &mut Counted,
 ) -> Result<(), Memory>
     requires { is_some (composed_count first.now second.now table) ≡ true }
-    ensures { OnOk result (Puts text.old text.new (lines_text (rows_say first.now second.now table))) }
+    ensures { OnOk result (PutsLines text.old text.new (rows_say first.now second.now table)) }
 {
     first.keeps();
     second.keeps();
     let mut index = 0;
     'rows: while let Some(old) = source_row(first, second, table, index) {
-        if let Some(new) = row_by_both(first, second, table, old) {
-            text.put_row(table, old, new)?;
-        }
+        put_image(first, second, table, old, text)?;
         index += 1;
     }
     Ok(())
@@ -52,7 +65,7 @@ fn put_table(
     table: u8,
     text: &mut Counted,
 ) -> Result<(), Memory>
-    ensures { OnOk result (Puts text.old text.new (lines_text (table_says first.now second.now table))) }
+    ensures { OnOk result (PutsLines text.old text.new (table_says first.now second.now table)) }
 {
     match second.rows(table).or(first.rows(table)) {
         None => Ok(()),
@@ -69,7 +82,7 @@ pub fn put_tables(
     second: &MapText,
     text: &mut Counted,
 ) -> Result<(), Memory>
-    ensures { OnOk result (Puts text.old text.new (lines_text (flat_map (table_says first.now second.now) tables))) }
+    ensures { OnOk result (PutsLines text.old text.new (flat_map (table_says first.now second.now) tables)) }
 {
     'tables: for table in 0..0x2d {
         put_table(first, second, table, text)?;

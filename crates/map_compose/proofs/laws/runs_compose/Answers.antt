@@ -1,4 +1,4 @@
-use Rattle.map_compose.proofs.Runs.{runs_compose}
+use Rattle.map_compose.proofs.Meeting.{runs_compose}
 use Rattle.map_compose.proofs.laws.runs_compose.Goals as goal
 
 pub returns : goal.returns

@@ -1,0 +1,1 @@
+use Rattle.map_compose.proofs.tables.put_table.Goals as goal
