@@ -98,7 +98,7 @@ joins_apart h r off = λ came front hold. record {
 
 -- ---- more runs
 
-holding_same : (came came' front front' : List Run) (held : Option Run) → came ≡ came' → front ≡ front' → Holding came front held → Holding came' front' held
+pub holding_same : (came came' front front' : List Run) (held : Option Run) → came ≡ came' → front ≡ front' → Holding came front held → Holding came' front' held
 holding_same came came' front front' held a b hold =
     subst (λ l. Holding l front' held) a (subst (λ l. Holding came l held) b hold)
 

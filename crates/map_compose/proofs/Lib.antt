@@ -10,5 +10,9 @@ pub mod JoinedRuns
 pub mod Making
 pub mod Following
 pub mod Merging
+pub mod Differing
+pub mod Fronts
+pub mod Gathering
+pub mod Places
 pub mod Bounds
 pub mod Worked

@@ -14,7 +14,7 @@ use Rattle.map_compose.specs.Composed.{row_entry, slot_entry, composed_row, comp
 use Rattle.map_compose.specs.Says.{PutsLines, image_says, slot_image_says}
 use Rattle.map_compose.proofs.Putting.{says_then, says_same, map_join, take_more, take_past, within}
 
-made_join : {X Y : Type 0} (make : X → Option Y) (xs ys : List X) → filter_map make (xs ++ ys) ≡ filter_map make xs ++ filter_map make ys
+pub made_join : {X Y : Type 0} (make : X → Option Y) (xs ys : List X) → filter_map make (xs ++ ys) ≡ filter_map make xs ++ filter_map make ys
 made_join make [] ys = refl
 made_join {X} {Y} make (x ∷ xs) ys = of (make x) (made_join make xs ys)
   where

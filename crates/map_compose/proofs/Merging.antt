@@ -16,6 +16,7 @@ use Rattle.map_compose.specs.Parts.{part_numbers, other_numbers}
 use Rattle.map_compose.proofs.Found.{either, has, has_append, has_ascending}
 use Rattle.map_compose.proofs.Orders.{Up, Above, less, is_less, ascending_up}
 use Rattle.map_compose.proofs.Bounds.{few}
+use Rattle.map_compose.proofs.Equations.{olds}
 use Rattle.map_compose.proofs.Readable.{ascending_hold, row_olds, line_numbers, slotted_rows, rows_up}
 
 -- ---- lists that ascend are told by their numbers
@@ -35,7 +36,7 @@ not_above k ns above = of (has k ns) refl
     of false is = refl
     of true is = absurd (let h = above_has k k ns above is in omega (arith, h))
 
-one_up : (as bs : List ℕ) → Up as → Up bs → ((n : ℕ) → has n as ≡ has n bs) → as ≡ bs
+one_up : (xs ys : List ℕ) → Up xs → Up ys → ((n : ℕ) → has n xs ≡ has n ys) → xs ≡ ys
 unfolding IsStrictlySortedBy
 one_up [] [] a b alike = refl
 one_up [] (n ∷ ns) a b alike = absurd (false≢true (alike n ∙ ap (λ t. t || has n ns) (eq-eqb n n refl)))
@@ -114,7 +115,7 @@ only_other y ys up = first_of y (y ∷ ys) ys up.0 (λ n. refl)
 drop_at : (xs : List ℕ) (i x : ℕ) → slice_get xs i ≡ Some x → drop i xs ≡ x ∷ drop (i + 1) xs
 drop_at [] i x is = absurd (cc)
 drop_at (y ∷ ys) zero x is = let e : y ≡ x = cc in ap (λ z. z ∷ ys) e
-drop_at (y ∷ ys) (suc i) x is = drop_at ys i x is ∙ ap (λ n. x ∷ n) (sym (ap (λ n. drop n (y ∷ ys)) (add-one (suc i))) ∙ refl)
+drop_at (y ∷ ys) (suc i) x is = rw (add-one (suc i)) (drop_at ys i x is ∙ ap (λ n. x ∷ drop n ys) (add-one i))
 
 drop_past : (xs : List ℕ) (i : ℕ) → slice_get xs i ≡ None → drop i xs ≡ []
 drop_past [] zero is = refl
@@ -183,14 +184,14 @@ part_rows Methods m readable = line_numbers m readable
 pub others_up : (part : Part) (f s : Map) → IsReadable f → IsReadable s → Up (other_numbers part f s)
 others_up part f s f_readable s_readable = of (is_some (count_of f 0x06))
   where
-    of : (b : Bool) → Up (cond b _ (part_numbers part s))
+    of : (b : Bool) → Up (cond b (olds f) (part_numbers part s))
     of true = rows_up f f_readable 0x06
     of false = part_up part s s_readable
 
 others_rows : (part : Part) (f s : Map) → IsReadable f → IsReadable s → AllByRecursion IsRow (other_numbers part f s)
 others_rows part f s f_readable s_readable = of (is_some (count_of f 0x06))
   where
-    of : (b : Bool) → AllByRecursion IsRow (cond b _ (part_numbers part s))
+    of : (b : Bool) → AllByRecursion IsRow (cond b (olds f) (part_numbers part s))
     of true = row_olds f f_readable
     of false = part_rows part s s_readable
 

@@ -4,10 +4,11 @@ use Rattle.std.specs.Borrow.{Bor}
 use Rattle.std.specs.List.{flat_map, AllByRecursion}
 use Rattle.std.specs.Option.{option_map}
 use Rattle.ppdb_base.specs.declared.offsets.Run.{Run}
-use Rattle.ppdb_base.specs.Offsets.{Offsets, every, gone, lined, end_of, new_end_of}
+use Rattle.ppdb_base.specs.Offsets.{Offsets, every, gone, lined, RiseFrom, end_of, new_end_of}
 use Rattle.ppdb_maps.specs.declared.line.Line.TheVariants.{Kept}
 use Rattle.ppdb_maps.specs.Forms.{OFFSETS}
 use Rattle.ppdb_maps.specs.Map.{Map, MethodLine, method_line}
+use Rattle.ppdb_maps.specs.Readable.{IsReadable}
 use Rattle.map_text.specs.declared.counted.Counted.{Counted}
 use Rattle.map_compose.specs.declared.joined.JoinedRuns.{JoinedRuns}
 use Rattle.map_compose.specs.declared.joined.JoinedLine.{JoinedLine}
@@ -17,6 +18,11 @@ use Rattle.map_compose.specs.Says.{PutsLines}
 -- a run of a map that a text has
 abbrev pub IsShort : Run → Type 0
 IsShort run = (0 < run.length) × (end_of run ≤ OFFSETS) × (new_end_of run ≤ OFFSETS)
+
+-- the runs of a line
+pub record AreRuns (runs : List Run) : Type 0 where
+  pub rise : RiseFrom 0 0 runs
+  pub short : AllByRecursion IsShort runs
 
 -- those given up and the one held are the longest form of the runs that came, and none is held only where none came
 pub record Holding (came given : List Run) (held : Option Run) : Type 0 where
@@ -51,7 +57,7 @@ pub record AreJoinedOf (joined : JoinedRuns) (m : Map) : Type 0 where
 
 -- those of one method, where it has a line
 abbrev pub LendsJoined : JoinedRuns → ℕ → Option (List Run) → Type 0
-LendsJoined joined method result = (m : Map) → AreJoinedOf joined m → result ≡ option_map (λ (line : MethodLine). longest line.runs) (method_line m method)
+LendsJoined joined method result = (m : Map) → IsReadable m → AreJoinedOf joined m → result ≡ option_map (λ (line : MethodLine). longest line.runs) (method_line m method)
 
 -- ---- the runs that a line keeps, and after it those of another
 

@@ -5,7 +5,7 @@ ghost use Rattle.ppdb_base.specs.declared.offsets.Run.{Run as TheRun};
 ghost use Rattle.ppdb_maps.specs.Map.{MethodLine, method_line};
 ghost use Rattle.ppdb_maps.specs.Says.{offsets_of, lined_runs};
 ghost use Rattle.map_compose.specs.Runs.{longest};
-ghost use Rattle.map_compose.specs.Joining.{IsShort, AreJoinedOf, LendsJoined};
+ghost use Rattle.map_compose.specs.Joining.{AreRuns, AreJoinedOf, LendsJoined};
 
 use crate::joining::join;
 use ppdb_base::{Memory, Run};
@@ -47,7 +47,7 @@ fn push_held(held: Option<Run>, runs: &mut Vec<Run>) -> Result<(), Memory>
 
 /// Adds the runs of a line in their longest form.
 fn push_joined(line: &MethodMap<'_>, runs: &mut Vec<Run>) -> Result<(), Memory>
-    requires { AllByRecursion IsShort (lined_runs (offsets_of line.now.says)) }
+    requires { AreRuns (lined_runs (offsets_of line.now.says)) }
     ensures { OnOk result (runs.new.items ≡ runs.old.items ++ longest (lined_runs (offsets_of line.now.says))) }
 {
     let mut held = None;

@@ -1,18 +1,25 @@
 // The lines of the offsets that both maps keep.
-ghost use Rattle.std.specs.Prelude.{◌≡◌, OnOk, map, option_to_list};
-ghost use Rattle.std.specs.List.{AllByRecursion, filter_map};
-ghost use Rattle.ppdb_base.specs.Offsets.{RiseFrom};
+ghost use Rattle.std.specs.Prelude.{◌≡◌, ◌≤◌, ◌↔◌, IsTrue, OnOk, map, option_to_list};
+ghost use Rattle.std.specs.List.{filter_map};
+ghost use Rattle.ppdb_base.specs.Offsets.{end_of};
 ghost use Rattle.ppdb_maps.specs.Says.{offsets_of, lined_runs};
 ghost use Rattle.ppdb_maps.specs.declared.line.Line.TheVariants.{Kept};
 ghost use Rattle.map_compose.specs.Says.{PutsLines};
 ghost use Rattle.map_compose.specs.Runs.{longest, met, meet};
-ghost use Rattle.map_compose.specs.Joining.{IsShort, Joins, runs_of, lent, runs_after};
+ghost use Rattle.map_compose.specs.Joining.{IsShort, AreRuns, Joins, runs_of, lent, runs_after};
 
 use crate::joined::run_at;
 use crate::joining::{put_held, put_joined};
 use map_text::Counted;
 use ppdb_base::{Memory, Run};
 use ppdb_maps::MethodMap;
+
+/// Whether the run ends before or at the offset.
+fn ends_by(run: &Run, offset: u32) -> bool
+    ensures { IsTrue result ↔ (end_of run.now ≤ offset) }
+{
+    run.old <= offset && run.length <= offset - run.old
+}
 
 /// The offsets that the first run gives and the second takes on.
 fn part_of(first: Run, second: Run) -> Option<Run>
@@ -49,21 +56,20 @@ fn put_meeting(
     }
 }
 
-/// Takes the offsets that one run gives and the others take on.
-fn put_met(
+/// Takes the offsets that one run gives and the others take on, up to the first that begins where
+/// its images end.
+fn put_front(
     run: Run,
     others: &[Run],
     held: &mut Option<Run>,
     text: &mut Counted,
 ) -> Result<(), Memory>
     requires run { IsShort run }
-    requires short { AllByRecursion IsShort others.now }
-    requires rise { RiseFrom 0 0 others.now }
+    requires others { AreRuns others.now }
     ensures { OnOk result (Joins held.old held.new text.old text.new (filter_map (meet run) others.now)) }
 {
     let end = run.new + run.length;
-    let from = others.partition_point(|other| other.old + other.length <= run.new);
-    'others: for other in &others[from..] {
+    'others: for other in others {
         if other.old >= end {
             break;
         }
@@ -72,15 +78,30 @@ fn put_met(
     Ok(())
 }
 
+/// Takes the offsets that one run gives and the others take on, from the first that does not end
+/// before its images.
+fn put_met(
+    run: Run,
+    others: &[Run],
+    held: &mut Option<Run>,
+    text: &mut Counted,
+) -> Result<(), Memory>
+    requires run { IsShort run }
+    requires others { AreRuns others.now }
+    ensures { OnOk result (Joins held.old held.new text.old text.new (filter_map (meet run) others.now)) }
+{
+    let from = others.partition_point(|other| ends_by(other, run.new));
+    put_front(run, &others[from..], held, text)
+}
+
 /// Puts the lines of the runs that both keep.
 fn put_both(
     line: &MethodMap<'_>,
     others: &[Run],
     text: &mut Counted,
 ) -> Result<(), Memory>
-    requires first { AllByRecursion IsShort (lined_runs (offsets_of line.now.says)) }
-    requires second { AllByRecursion IsShort others.now }
-    requires rise { RiseFrom 0 0 others.now }
+    requires line { AreRuns (lined_runs (offsets_of line.now.says)) }
+    requires others { AreRuns others.now }
     ensures { OnOk result (PutsLines text.old text.new (map Kept (longest (met (lined_runs (offsets_of line.now.says)) others.now)))) }
 {
     let mut held = None;
@@ -94,7 +115,7 @@ fn put_both(
 
 /// Puts the lines of the runs of a line in their longest form.
 fn put_longest(line: &MethodMap<'_>, text: &mut Counted) -> Result<(), Memory>
-    requires { AllByRecursion IsShort (lined_runs (offsets_of line.now.says)) }
+    requires { AreRuns (lined_runs (offsets_of line.now.says)) }
     ensures { OnOk result (PutsLines text.old text.new (map Kept (longest (lined_runs (offsets_of line.now.says))))) }
 {
     let mut held = None;
@@ -122,9 +143,8 @@ pub fn put_runs(
     others: Option<&[Run]>,
     text: &mut Counted,
 ) -> Result<(), Memory>
-    requires first { AllByRecursion IsShort (lined_runs (offsets_of line.now.says)) }
-    requires second { AllByRecursion IsShort (runs_of (lent others.entry)) }
-    requires rise { RiseFrom 0 0 (runs_of (lent others.entry)) }
+    requires line { AreRuns (lined_runs (offsets_of line.now.says)) }
+    requires others { AreRuns (runs_of (lent others)) }
     ensures { OnOk result (PutsLines text.old text.new (map Kept (runs_after (offsets_of line.now.says) (lent others.entry)))) }
 {
     match (line.sizes(), others) {
