@@ -165,7 +165,7 @@ live_image s image some = of (is_dropped s image) some
     of true some = absurd (cc)
 
 module _ (f s : Map) (m image : ℕ) (follows : Follows f s m image) where
-  there : has_image f s m ≡ true
+  pub there : has_image f s m ≡ true
   there = ap (λ o. is_some (option_and_then (row_image s 0x06) o)) follows.first ∙ follows.second
 
   stays : is_dropped (composed f s) m ≡ false
@@ -179,13 +179,13 @@ module _ (f s : Map) (m image : ℕ) (follows : Follows f s m image) where
       ∙ ap line_offsets (lines_are f s m ∙ ap (λ b. cond b (sized m (composed_runs f s m) (method_line f m) (second_line f s m)) None) there
       ∙ ap (λ o. sized m (composed_runs f s m) (method_line f m) (of_image None (method_line s) o)) follows.first)
 
-  runs_are : composed_runs f s m ≡ longest (met (kept_runs (offsets_in f m)) (kept_runs (offsets_in s image)))
+  pub runs_are : composed_runs f s m ≡ longest (met (kept_runs (offsets_in f m)) (kept_runs (offsets_in s image)))
   runs_are = ap (λ o. longest (met (kept_runs (offsets_in f m)) (kept_runs (of_image every (offsets_in s) o)))) follows.first
 
-  first_offsets : offsets_in f m ≡ line_offsets (method_line f m)
+  pub first_offsets : offsets_in f m ≡ line_offsets (method_line f m)
   first_offsets = ap (λ b. cond b gone (line_offsets (method_line f m))) (came_by f m image follows.first).live
 
-  second_are : offsets_in s image ≡ line_offsets (method_line s image)
+  pub second_are : offsets_in s image ≡ line_offsets (method_line s image)
   second_are = ap (λ b. cond b gone (line_offsets (method_line s image))) (live_image s image follows.second)
 
   pub kept_are : (x z : ℕ) → Kept (offsets_in (composed f s) m) x z ↔ MovesOn (kept_runs (offsets_in f m)) (kept_runs (offsets_in s image)) x z

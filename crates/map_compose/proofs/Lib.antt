@@ -14,5 +14,6 @@ pub mod Differing
 pub mod Fronts
 pub mod Gathering
 pub mod Places
+pub mod Lined
 pub mod Bounds
 pub mod Worked

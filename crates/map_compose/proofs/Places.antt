@@ -36,7 +36,7 @@ number line = line.method
 
 -- ---- the runs of a readable map
 
-line_short : (a b c d : ℕ) (rs : List Run) → c ≤ OFFSETS → d ≤ OFFSETS → RiseFrom a b (rs ++ record { old = c; new = d; length = 1 } ∷ []) → AllByRecursion IsShort rs
+pub line_short : (a b c d : ℕ) (rs : List Run) → c ≤ OFFSETS → d ≤ OFFSETS → RiseFrom a b (rs ++ record { old = c; new = d; length = 1 } ∷ []) → AllByRecursion IsShort rs
 line_short a b c d [] p q rise = tt
 line_short a b c d (r ∷ rs) p q rise = ((rise.0, old (end_of r) (new_end_of r) rs rise.3, new (end_of r) (new_end_of r) rs rise.3), line_short (end_of r) (new_end_of r) c d rs p q rise.3)
   where
@@ -54,7 +54,7 @@ line_runs m line fits = record {
   short = line_short 0 0 line.old_size line.new_size line.runs fits.1 fits.2 fits.3;
 }
 
-no_runs : AreRuns []
+pub no_runs : AreRuns []
 no_runs = record { rise = tt; short = tt }
 
 pub offset_runs : (m : Map) (method : ℕ) → IsReadable m → AreRuns (lined_runs (offsets_in m method))
