@@ -15,5 +15,8 @@ pub mod Fronts
 pub mod Gathering
 pub mod Places
 pub mod Lined
+pub mod Saying
+pub mod Lengths
+pub mod Counting
 pub mod Bounds
 pub mod Worked

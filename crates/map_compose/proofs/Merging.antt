@@ -36,7 +36,7 @@ not_above k ns above = of (has k ns) refl
     of false is = refl
     of true is = absurd (let h = above_has k k ns above is in omega (arith, h))
 
-one_up : (xs ys : List ℕ) → Up xs → Up ys → ((n : ℕ) → has n xs ≡ has n ys) → xs ≡ ys
+pub one_up : (xs ys : List ℕ) → Up xs → Up ys → ((n : ℕ) → has n xs ≡ has n ys) → xs ≡ ys
 unfolding IsStrictlySortedBy
 one_up [] [] a b alike = refl
 one_up [] (n ∷ ns) a b alike = absurd (false≢true (alike n ∙ ap (λ t. t || has n ns) (eq-eqb n n refl)))

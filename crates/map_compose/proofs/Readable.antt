@@ -54,7 +54,7 @@ map_hold : {A X : Type 0} (Q : A → Type 0) (P : X → Type 0) (g : A → X) �
 map_hold Q P g holds [] all = tt
 map_hold Q P g holds (a ∷ xs) all = (holds a all.0, map_hold Q P g holds xs all.1)
 
-filter_hold : {X : Type 0} (P : X → Type 0) (R : X → Type 0) (p : X → Bool) → ((x : X) → P x → p x ≡ true → R x) → (xs : List X) → AllByRecursion P xs
+pub filter_hold : {X : Type 0} (P : X → Type 0) (R : X → Type 0) (p : X → Bool) → ((x : X) → P x → p x ≡ true → R x) → (xs : List X) → AllByRecursion P xs
     → AllByRecursion R (filter p xs)
 filter_hold P R p holds [] all = tt
 filter_hold {X} P R p holds (x ∷ xs) all = of (p x) refl (filter_hold P R p holds xs all.1)
@@ -161,11 +161,11 @@ module _ (m : Map) (readable : IsReadable m) where
   pub slots_up : (method : ℕ) → Up (map (λ (x : SlotImage). x.old) (slots_of m method))
   slots_up method = key_up (λ (x : SlotImage). x.method) (λ (x : SlotImage). x.old) method m.slots readable.ascends.slots
 
-  rows_hold : (table : ℕ) → AllByRecursion (λ (r : RowImage). IsRow r.old × (is_some (count_of m table) ≡ true)) (rows_of m table)
+  pub rows_hold : (table : ℕ) → AllByRecursion (λ (r : RowImage). IsRow r.old × (is_some (count_of m table) ≡ true)) (rows_of m table)
   rows_hold table = filter_hold (IsRowOf m) (λ (r : RowImage). IsRow r.old × (is_some (count_of m table) ≡ true)) (λ r. nat_eq r.table table)
       (λ r is at. (is.0, subst (λ t. is_some (count_of m t) ≡ true) (eqb-true r.table table at) is.2)) m.rows readable.rows
 
-  slots_hold : (method : ℕ) → AllByRecursion (λ (x : SlotImage). x.old ≤ SLOTS) (slots_of m method)
+  pub slots_hold : (method : ℕ) → AllByRecursion (λ (x : SlotImage). x.old ≤ SLOTS) (slots_of m method)
   slots_hold method = filter_hold (IsSlotOf m) (λ (x : SlotImage). x.old ≤ SLOTS) (λ x. nat_eq x.method method) (λ x is at. is.0) m.slots readable.slots
 
 -- ---- all offsets

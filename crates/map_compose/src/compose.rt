@@ -12,7 +12,7 @@ use crate::methods::put_part;
 use crate::part::Part;
 use crate::sizes::first_differing;
 use crate::tables::put_tables;
-use map_text::Counted;
+use map_text::{Counted, texts_are_read};
 use ppdb_base::{Bytes, MAX_FILE_BYTES, Memory};
 use ppdb_maps::MapText;
 use std::alloc::Global;
@@ -26,6 +26,8 @@ fn counted_map(
     requires { SizesAgree first.now second.now }
     ensures { IfOk result (λ text. Counts text (map_text (composed first.now second.now))) }
 {
+    first.keeps();
+    second.keeps();
     let joined = JoinedRuns::of(alloc, second)?;
     let mut text = Counted::new(alloc);
     text.put_head()?;
@@ -66,5 +68,6 @@ pub fn compose_maps(
     if bytes > MAX_FILE_BYTES as u64 {
         return Err(ComposeError::TooLong { bytes });
     }
+    texts_are_read();
     Ok(text.into_text())
 }
