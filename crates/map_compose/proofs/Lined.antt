@@ -87,16 +87,16 @@ module _ (f s : Map) (m image : ℕ) (f_readable : IsReadable f) (s_readable : I
   by_lines None None old new is also sizes = absurd (cc)
   by_lines (Some a) None old new is also sizes =
       let fits = line_fits f m a f_readable is in
-      let pair : (a.old_size, a.new_size) ≡ (old, new) = some_same sizes in
       let runs : composed_runs f s m ≡ longest a.runs = runs_by (Some a) None is also ∙ ap longest (met_all 0 0 a.old_size a.new_size a.runs (omega (arith, fits.2)) fits.3) in
+      let pair : (a.old_size, a.new_size) ≡ (old, new) = some_same sizes in
       ap (λ rs. Some (line_with a.old_size a.new_size rs)) runs ∙ ap (λ (p : ℕ × ℕ). Some (line_with p.0 p.1 (longest a.runs))) pair
     where
       some_same : {A : Type 0} {x y : A} → Some x ≡ Some y → x ≡ y
       some_same e = cc
   by_lines None (Some b) old new is also sizes =
       let fits = line_fits s image b s_readable also in
-      let pair : (b.old_size, b.new_size) ≡ (old, new) = some_same sizes in
       let runs : composed_runs f s m ≡ longest b.runs = runs_by None (Some b) is also ∙ ap longest (all_met 0 0 b.old_size b.new_size b.runs (omega (arith, fits.1)) fits.3) in
+      let pair : (b.old_size, b.new_size) ≡ (old, new) = some_same sizes in
       ap (λ rs. Some (line_with b.old_size b.new_size rs)) runs ∙ ap (λ (p : ℕ × ℕ). Some (line_with p.0 p.1 (longest b.runs))) pair
     where
       some_same : {A : Type 0} {x y : A} → Some x ≡ Some y → x ≡ y
@@ -104,7 +104,6 @@ module _ (f s : Map) (m image : ℕ) (f_readable : IsReadable f) (s_readable : I
   by_lines (Some a) (Some b) old new is also sizes =
       let fits = line_fits f m a f_readable is in
       let more = line_fits s image b s_readable also in
-      let pair : (a.old_size, b.new_size) ≡ (old, new) = some_same sizes in
       let same : a.new_size ≡ b.old_size = elim (either a.new_size b.old_size) [
         | inl eq ↦ eq
         | inr differ ↦ absurd (agree m a.new_size b.old_size
@@ -113,6 +112,7 @@ module _ (f s : Map) (m image : ℕ) (f_readable : IsReadable f) (s_readable : I
       let runs : composed_runs f s m ≡ longest (met a.runs (longest b.runs)) =
           runs_by (Some a) (Some b) is also
           ∙ sym (longest_met a.runs b.runs a.old_size b.old_size b.new_size (subst (λ n. Rise (lined a.runs a.old_size n)) same fits.3) more.3) in
+      let pair : (a.old_size, b.new_size) ≡ (old, new) = some_same sizes in
       ap (λ rs. Some (line_with a.old_size b.new_size rs)) runs ∙ ap (λ (p : ℕ × ℕ). Some (line_with p.0 p.1 (longest (met a.runs (longest b.runs))))) pair
     where
       some_same : {A : Type 0} {x y : A} → Some x ≡ Some y → x ≡ y
