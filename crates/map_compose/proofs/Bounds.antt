@@ -1,5 +1,5 @@
 -- How many lines of a kind a readable map may have.
-use Rattle.std.proofs.Common.{ℕ, ◌≡◌, ◌+◌, ◌<◌, ◌≤◌, ◌++◌, List, [], ◌∷◌, length, map, refl, sym, ap, ◌∙◌, arith, subst, true, Option, Some, None}
+use Rattle.std.proofs.Common.{ℕ, ◌≡◌, ◌+◌, ◌≤◌, ◌++◌, List, [], ◌∷◌, length, map, arith, true}
 use Rattle.std.specs.Prelude.{is_some}
 use Rattle.std.specs.List.{AllByRecursion}
 use Rattle.std.specs.List.Sorted.{IsStrictlySortedBy}
@@ -8,8 +8,8 @@ use Rattle.ppdb_base.specs.declared.offsets.Run.{Run}
 use Rattle.ppdb_base.specs.Offsets.{RiseFrom, end_of, new_end_of}
 use Rattle.ppdb_maps.specs.declared.entries.RowImage.{RowImage}
 use Rattle.ppdb_maps.specs.declared.entries.SlotImage.{SlotImage}
-use Rattle.ppdb_maps.specs.Forms.{ROWS, OFFSETS, SLOTS}
-use Rattle.ppdb_maps.specs.Map.{Map, count_of, rows_of, slots_of}
+use Rattle.ppdb_maps.specs.Forms.{ROWS, SLOTS}
+use Rattle.ppdb_maps.specs.Map.{Map}
 use Rattle.ppdb_maps.specs.Readable.{IsReadable, IsRow}
 use Rattle.map_compose.specs.Composed.{composed_count, slot_sources}
 use Rattle.map_compose.specs.Says.{sources_of}

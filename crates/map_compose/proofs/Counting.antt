@@ -1,8 +1,7 @@
 -- The whole text of the map of two maps is counted, and kept where it is not too long.
-use Rattle.std.proofs.Common.{ℕ, ◌≡◌, ◌+◌, ◌<◌, ◌≤◌, ◌++◌, List, [], length, refl, sym, ap, ◌∙◌, arith, subst}
+use Rattle.std.proofs.Common.{ℕ, ◌≡◌, ◌<◌, ◌++◌, List, [], length, sym, ap, ◌∙◌, arith, subst}
 use Rattle.std.specs.Prelude.{codes}
 use Rattle.std.specs.List.{flat_map}
-use Rattle.std.proofs.lemmas.List.{append_assoc}
 use Rattle.ppdb_maps.specs.Map.{Map}
 use Rattle.ppdb_maps.specs.Readable.{IsReadable}
 use Rattle.map_text.specs.declared.counted.Counted.{Counted}
@@ -20,7 +19,8 @@ use Rattle.map_compose.proofs.Putting.{puts_then}
 use Rattle.map_compose.proofs.Readable.{composed_is_readable}
 use Rattle.map_compose.proofs.Saying.{text_is}
 
-counts_text : (start end : Counted) (text : List ℕ) → start.length ≡ 0 → start.text ≡ [] → length text < 0xffffffffffffffff → Puts start end text → Counts end text
+counts_text : (start end : Counted) (text : List ℕ) → start.length ≡ 0 → start.text ≡ [] → length text < 0xffffffffffffffff → Puts start end text
+    → Counts end text
 counts_text start end text none empty short puts =
     let counted = puts.counted in
     record {

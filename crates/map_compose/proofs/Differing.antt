@@ -1,13 +1,12 @@
 -- The first method whose sizes differ.
-use Rattle.std.proofs.Common.{ℕ, zero, suc, ◌≡◌, ◌+◌, ◌<◌, ◌≤◌, ◌≢◌, ◌⊎◌, Bool, true, false, cond, List, [], ◌∷◌, length, map, refl, sym, ap, ◌∙◌, arith, add-one, subst, inl, inr, Option, Some, None}
+use Rattle.std.proofs.Common.{ℕ, zero, suc, ◌≡◌, ◌+◌, ◌<◌, ◌≤◌, Bool, true, false, cond, List, [], ◌∷◌, length, map, refl, sym, ap, ◌∙◌, arith, subst, inl}
+use Rattle.std.proofs.Common.{inr, Option, Some, None}
 use Rattle.std.specs.Prelude.{nat_eq}
-use Rattle.std.specs.List.{find, slice_get, AllByRecursion}
+use Rattle.std.specs.List.{find, slice_get}
 use Rattle.std.specs.List.Sorted.{IsStrictlySortedBy}
 use Rattle.std.specs.Option.{option_map}
-use Rattle.std.specs.Ordering.{nat_cmp}
-use Rattle.std.specs.declared.cmp.Ordering.TheVariants.{Less}
 use Rattle.std.proofs.lemmas.Bool.{cases_lt, eqb-true}
-use Rattle.ppdb_maps.specs.Map.{Map, MethodLine, method_line}
+use Rattle.ppdb_maps.specs.Map.{Map, MethodLine}
 use Rattle.ppdb_maps.specs.Readable.{IsReadable}
 use Rattle.map_compose.specs.Sizes.{SizesDiffer, SizesAgree, IsFirstDiffering}
 use Rattle.map_compose.proofs.Orders.{Up, Above, less}
@@ -31,11 +30,13 @@ above_at n (k ∷ ks) zero l above is = let e : k ≡ l = cc in subst (λ z. n <
 above_at n (k ∷ ks) (suc j) l above is = above_at n ks j l above.1 is
 
 -- in order of their indexes
-at_up : (ls : List MethodLine) (i j : ℕ) (l k : MethodLine) → Up (map number ls) → i ≤ j → slice_get ls i ≡ Some l → slice_get ls j ≡ Some k → l.method ≤ k.method
+at_up : (ls : List MethodLine) (i j : ℕ) (l k : MethodLine) → Up (map number ls) → i ≤ j → slice_get ls i ≡ Some l → slice_get ls j ≡ Some k
+    → l.method ≤ k.method
 unfolding IsStrictlySortedBy
 at_up [] i j l k up le a b = absurd (cc)
 at_up (x ∷ xs) zero zero l k up le a b = let e : Some l ≡ Some k = sym a ∙ b in let same : l ≡ k = cc in subst (λ z. l.method ≤ z.method) same (omega arith)
-at_up (x ∷ xs) zero (suc j) l k up le a b = let e : x ≡ l = cc in let h = above_at x.method xs j k up.0 b in subst (λ z. z.method ≤ k.method) e (omega (arith, h))
+at_up (x ∷ xs) zero (suc j) l k up le a b = let e : x ≡ l = cc in let h =
+    above_at x.method xs j k up.0 b in subst (λ z. z.method ≤ k.method) e (omega (arith, h))
 at_up (x ∷ xs) (suc i) zero l k up le a b = absurd (omega (arith, le))
 at_up (x ∷ xs) (suc i) (suc j) l k up le a b = at_up xs i j l k up.1 (omega (arith, le)) a b
 
@@ -48,7 +49,8 @@ index_of f s method a b differ =
 abbrev pub NoneOf : Map → Map → ℕ → Type 0
 NoneOf f s index = (j : ℕ) (l : MethodLine) → j < index → slice_get f.methods j ≡ Some l → (a b : ℕ) → SizesDiffer f s l.method a b → ⊥
 
-line_of : (ls : List MethodLine) (i method : ℕ) → option_map number (slice_get ls i) ≡ Some method → (l : MethodLine) × ((slice_get ls i ≡ Some l) × (l.method ≡ method))
+line_of : (ls : List MethodLine) (i method : ℕ) → option_map number (slice_get ls i) ≡ Some method
+    → (l : MethodLine) × ((slice_get ls i ≡ Some l) × (l.method ≡ method))
 line_of ls i method is = of (slice_get ls i) refl is
   where
     of : (o : Option MethodLine) → slice_get ls i ≡ o → option_map number o ≡ Some method → (l : MethodLine) × ((slice_get ls i ≡ Some l) × (l.method ≡ method))

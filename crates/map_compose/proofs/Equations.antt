@@ -1,5 +1,6 @@
 -- The composed map answers each question as the second map does of what the first answers.
-use Rattle.std.proofs.Common.{◌≡◌, ℕ, ◌+◌, ◌<◌, ◌≤◌, ◌⊎◌, ◌&&◌, ◌||◌, ◌++◌, ◌≢◌, Bool, true, false, cond, List, [], ◌∷◌, Option, Some, None, refl, sym, ◌∙◌, ap, arith, inl, inr, map, subst, zero, suc}
+use Rattle.std.proofs.Common.{◌≡◌, ℕ, ◌+◌, ◌<◌, ◌≤◌, ◌⊎◌, ◌&&◌, ◌||◌, ◌++◌, ◌≢◌, Bool, true, false, cond, List, [], ◌∷◌, Option, Some, None, refl, sym, ◌∙◌}
+use Rattle.std.proofs.Common.{ap, arith, inl, inr, map, subst, zero, suc}
 use Rattle.std.specs.Prelude.{nat_eq, is_some, ◌↔◌}
 use Rattle.std.specs.List.{filter_map, find, range_with_len, cons_option}
 use Rattle.std.specs.Option.{option_map, option_and_then, option_or}
@@ -8,10 +9,13 @@ use Rattle.ppdb_base.specs.Offsets.{every, gone, Moves, Kept, kept_runs, all_off
 use Rattle.ppdb_maps.specs.declared.entries.Count.{Count}
 use Rattle.ppdb_maps.specs.declared.entries.RowImage.{RowImage}
 use Rattle.ppdb_maps.specs.declared.entries.SlotImage.{SlotImage}
-use Rattle.ppdb_maps.specs.Map.{Map, MethodLine, count_of, row_line, row_image, method_line, is_dropped, has_slots, slot_line, slot_image, offsets_in, line_offsets, rows_of, slots_of}
+use Rattle.ppdb_maps.specs.Map.{Map, MethodLine, count_of, row_line, row_image, method_line, is_dropped, has_slots, slot_line, slot_image, offsets_in}
+use Rattle.ppdb_maps.specs.Map.{line_offsets, rows_of, slots_of}
 use Rattle.std.specs.List.{AllByRecursion}
 use Rattle.map_compose.specs.Runs.{met, longest}
-use Rattle.map_compose.specs.Composed.{tables, composed_count, count_entry, composed_row, sources, row_entry, row_entries, spoken_of, of_image, drops_one, has_image, second_line, composed_runs, sized, composed_line, has_slot_lines, composed_slot, slot_sources, slot_entry, slot_entries, slotted_methods, composed}
+use Rattle.map_compose.specs.Composed.{tables, composed_count, count_entry, composed_row, sources, row_entry, row_entries, spoken_of, of_image, drops_one}
+use Rattle.map_compose.specs.Composed.{has_image, second_line, composed_runs, sized, composed_line, has_slot_lines, composed_slot, slot_sources, slot_entry}
+use Rattle.map_compose.specs.Composed.{slot_entries, slotted_methods, composed}
 use Rattle.ppdb_maps.specs.Readable.{IsReadable, IsCount}
 use Rattle.ppdb_maps.specs.Says.{sizes_of}
 use Rattle.map_compose.specs.Composition.{Follows, ComposedComposes, sizes_then}
@@ -44,10 +48,12 @@ abbrev pub olds : Map → List ℕ
 olds f = map (λ (r : RowImage). r.old) (rows_of f 0x06)
 
 pub spoken_has : (f : Map) (own others : List ℕ) (m : ℕ) → has m (spoken_of f own others) ≡ (has m own || (has m (olds f) || has m others))
-spoken_has f own others m = has_ascending m (own ++ (olds f ++ others)) ∙ has_append m own (olds f ++ others) ∙ ap (λ b. has m own || b) (has_append m (olds f) others)
+spoken_has f own others m = has_ascending m (own ++ (olds f ++ others)) ∙ has_append m own (olds f ++ others)
+    ∙ ap (λ b. has m own || b) (has_append m (olds f) others)
 
 olds_have : (f : Map) (m : ℕ) → has m (olds f) ≡ is_some (find (λ (r : RowImage). nat_eq r.table 0x06 && nat_eq r.old m) f.rows)
-olds_have f m = has_key (λ (r : RowImage). r.old) m (rows_of f 0x06) ∙ ap is_some (find_filter (λ (r : RowImage). nat_eq r.table 0x06) (λ (r : RowImage). nat_eq r.old m) f.rows)
+olds_have f m = has_key (λ (r : RowImage). r.old) m (rows_of f 0x06)
+    ∙ ap is_some (find_filter (λ (r : RowImage). nat_eq r.table 0x06) (λ (r : RowImage). nat_eq r.old m) f.rows)
 
 -- ---- how a method's image came about
 
@@ -129,16 +135,19 @@ lines_are f s m =
     made_found (λ (l : MethodLine). l.method) (composed_line f s) (line_named f s) m (spoken_of f (numbers f) (numbers s))
     ∙ given_true (has m (spoken_of f (numbers f) (numbers s))) (composed_line f s m) (λ some. of (has_image f s m) some)
   where
-    second_some : (o : Option ℕ) → row_image f 0x06 m ≡ o → is_some (of_image None (method_line s) o) ≡ true → has m (spoken_of f (numbers f) (numbers s)) ≡ true
+    second_some : (o : Option ℕ) → row_image f 0x06 m ≡ o → is_some (of_image None (method_line s) o) ≡ true
+        → has m (spoken_of f (numbers f) (numbers s)) ≡ true
     second_some None is some = absurd (cc)
     second_some (Some image) is some = spoken_by f (numbers f) (numbers s) m image is (has_key (λ (l : MethodLine). l.method) image s.methods ∙ some)
 
-    by : (a b : Option MethodLine) → method_line f m ≡ a → second_line f s m ≡ b → is_some (sized m (composed_runs f s m) a b) ≡ true → has m (spoken_of f (numbers f) (numbers s)) ≡ true
+    by : (a b : Option MethodLine) → method_line f m ≡ a → second_line f s m ≡ b → is_some (sized m (composed_runs f s m) a b) ≡ true
+        → has m (spoken_of f (numbers f) (numbers s)) ≡ true
     by (Some a) b is also some = spoken_own f (numbers f) (numbers s) m (has_key (λ (l : MethodLine). l.method) m f.methods ∙ ap is_some is)
     by None (Some b) is also some = second_some (row_image f 0x06 m) refl (ap is_some also)
     by None None is also some = absurd (cc)
 
-    of : (b : Bool) → is_some (cond b (sized m (composed_runs f s m) (method_line f m) (second_line f s m)) None) ≡ true → has m (spoken_of f (numbers f) (numbers s)) ≡ true
+    of : (b : Bool) → is_some (cond b (sized m (composed_runs f s m) (method_line f m) (second_line f s m)) None) ≡ true
+        → has m (spoken_of f (numbers f) (numbers s)) ≡ true
     of false some = absurd (cc)
     of true some = by (method_line f m) (second_line f s m) refl refl some
 
@@ -155,12 +164,17 @@ all_first x z on = of on.first on.second
 
 all_second : (x z : ℕ) → Moves (all_offsets ∷ []) x z → MovesOn (all_offsets ∷ []) (all_offsets ∷ []) x z
 all_second x z (inr none) = absurd none
-all_second x z (inl a) = record { y = x; first = inl (record { step = x; inside = omega (arith, a.inside, a.old); old = omega arith; new = omega arith }); second = inl a }
+all_second x z (inl a) = record {
+  y = x;
+  first = inl (record { step = x; inside = omega (arith, a.inside, a.old); old = omega arith; new = omega arith });
+  second = inl a;
+}
 
 pub live_image : (s : Map) (image : ℕ) → is_some (row_image s 0x06 image) ≡ true → is_dropped s image ≡ false
 live_image s image some = of (is_dropped s image) some
   where
-    of : (b : Bool) → is_some (cond b None (elim (count_of s 0x06) as (λ _. Option ℕ) [ None ↦ Some image | Some count ↦ row_line s 0x06 image ])) ≡ true → b ≡ false
+    of : (b : Bool) → is_some (cond b None (elim (count_of s 0x06) as (λ _. Option ℕ) [ None ↦ Some image | Some count ↦ row_line s 0x06 image ])) ≡ true
+        → b ≡ false
     of false some = refl
     of true some = absurd (cc)
 
@@ -195,15 +209,18 @@ module _ (f s : Map) (m image : ℕ) (follows : Follows f s m image) where
     where
       by_runs : Moves (composed_runs f s m) x z ↔ MovesOn (kept_runs (offsets_in f m)) (kept_runs (offsets_in s image)) x z
       by_runs = subst (λ rs. Moves rs x z ↔ MovesOn (kept_runs (offsets_in f m)) (kept_runs (offsets_in s image)) x z) (sym runs_are) (
-        λ moves. runs_compose.met_moves (kept_runs (offsets_in f m)) (kept_runs (offsets_in s image)) x z (runs_compose.longest_moves (met (kept_runs (offsets_in f m)) (kept_runs (offsets_in s image))) x z moves),
-        λ on. runs_compose.moves_longest (met (kept_runs (offsets_in f m)) (kept_runs (offsets_in s image))) x z (runs_compose.moves_met (kept_runs (offsets_in f m)) (kept_runs (offsets_in s image)) x z on),
+        λ moves. runs_compose.met_moves (kept_runs (offsets_in f m)) (kept_runs (offsets_in s image)) x z
+            (runs_compose.longest_moves (met (kept_runs (offsets_in f m)) (kept_runs (offsets_in s image))) x z moves),
+        λ on. runs_compose.moves_longest (met (kept_runs (offsets_in f m)) (kept_runs (offsets_in s image))) x z
+            (runs_compose.moves_met (kept_runs (offsets_in f m)) (kept_runs (offsets_in s image)) x z on),
       )
 
       of : (a b : Option MethodLine) → method_line f m ≡ a → method_line s image ≡ b
           → Moves (kept_runs (line_offsets (sized m (composed_runs f s m) a b))) x z ↔ MovesOn (kept_runs (offsets_in f m)) (kept_runs (offsets_in s image)) x z
       of None None is also =
           subst (λ o. Moves (all_offsets ∷ []) x z ↔ MovesOn (kept_runs o) (kept_runs (offsets_in s image)) x z) (sym (first_offsets ∙ ap line_offsets is))
-          (subst (λ o. Moves (all_offsets ∷ []) x z ↔ MovesOn (all_offsets ∷ []) (kept_runs o) x z) (sym (second_are ∙ ap line_offsets also)) (all_second x z, all_first x z))
+          (subst (λ o. Moves (all_offsets ∷ []) x z ↔ MovesOn (all_offsets ∷ []) (kept_runs o) x z) (sym (second_are ∙ ap line_offsets also))
+          (all_second x z, all_first x z))
       of (Some a) None is also = by_runs
       of None (Some b) is also = by_runs
       of (Some a) (Some b) is also = by_runs
@@ -212,9 +229,11 @@ module _ (f s : Map) (m image : ℕ) (follows : Follows f s m image) where
   pub sizes_are : sizes_of (offsets_in (composed f s) m) ≡ sizes_then (sizes_of (offsets_in f m)) (sizes_of (offsets_in s image))
   sizes_are =
       ap sizes_of offsets_are ∙ of (method_line f m) (method_line s image)
-      ∙ sym (ap (λ o. sizes_then (sizes_of o) (sizes_of (offsets_in s image))) first_offsets ∙ ap (λ o. sizes_then (sizes_of (line_offsets (method_line f m))) (sizes_of o)) second_are)
+      ∙ sym (ap (λ o. sizes_then (sizes_of o) (sizes_of (offsets_in s image))) first_offsets
+      ∙ ap (λ o. sizes_then (sizes_of (line_offsets (method_line f m))) (sizes_of o)) second_are)
     where
-      of : (a b : Option MethodLine) → sizes_of (line_offsets (sized m (composed_runs f s m) a b)) ≡ sizes_then (sizes_of (line_offsets a)) (sizes_of (line_offsets b))
+      of : (a b : Option MethodLine) → sizes_of (line_offsets (sized m (composed_runs f s m) a b))
+          ≡ sizes_then (sizes_of (line_offsets a)) (sizes_of (line_offsets b))
       of None None = refl
       of None (Some b) = refl
       of (Some a) None = refl
@@ -258,7 +277,8 @@ known a (suc n) table from to = elim (either table a) [
   | inr apart ↦ rw (ne_eqb table a apart) (known (a + 1) n table (omega (arith, from, apart)) (omega (arith, to)))
 ]
 
-unknown_none : (table : ℕ) (cs : List Count) → 0x2d ≤ table → AllByRecursion (λ (c : Count). c.table ≤ 0x2c) cs → option_map (λ (c : Count). c.rows) (find (λ (c : Count). nat_eq c.table table) cs) ≡ None
+unknown_none : (table : ℕ) (cs : List Count) → 0x2d ≤ table → AllByRecursion (λ (c : Count). c.table ≤ 0x2c) cs
+    → option_map (λ (c : Count). c.rows) (find (λ (c : Count). nat_eq c.table table) cs) ≡ None
 unknown_none table [] above each = refl
 unknown_none table (c ∷ cs) above each = rw (ne_eqb c.table table (λ e. omega (arith, above, each.0, e))) (unknown_none table cs above each.1)
 
@@ -266,7 +286,8 @@ pub counts_are : (f s : Map) → TablesKnown f → TablesKnown s → (table : �
 counts_are f s f_known s_known table = counts_there f s table ∙ given_true (has table tables) (composed_count f s table) (λ some. elim (cases_lt table 0x2d) [
   | inl less ↦ known 0 0x2d table (omega arith) (omega (arith, less))
   | inr above ↦
-      let none : composed_count f s table ≡ None = ap (λ o. option_or o (count_of f table)) (unknown_none table s.counts above s_known) ∙ unknown_none table f.counts above f_known in
+      let none : composed_count f s table ≡ None = ap (λ o. option_or o (count_of f table)) (unknown_none table s.counts above s_known)
+      ∙ unknown_none table f.counts above f_known in
       let e : false ≡ true = sym (ap is_some none) ∙ some in absurd (cc)
 ])
 
@@ -275,7 +296,8 @@ pub entries_named : (f s : Map) (k : ℕ) → map (λ (r : RowImage). r.table) (
 entries_named f s k = of (sources (count_of f k) (count_of s k) f s k)
   where
     one : (o : Option ℕ) (old : ℕ) (rest : List RowImage) → map (λ (r : RowImage). r.table) rest ≡ map (λ (r : RowImage). k) rest
-        → map (λ (r : RowImage). r.table) (cons_option (option_map (λ new. record { table = k; old = old; new = new }) o) rest) ≡ map (λ (r : RowImage). k) (cons_option (option_map (λ new. record { table = k; old = old; new = new }) o) rest)
+        → map (λ (r : RowImage). r.table) (cons_option (option_map (λ new. record { table = k; old = old; new = new }) o) rest)
+        ≡ map (λ (r : RowImage). k) (cons_option (option_map (λ new. record { table = k; old = old; new = new }) o) rest)
     one None old rest is = is
     one (Some n) old rest is = ap (λ l. k ∷ l) is
 
@@ -287,7 +309,8 @@ table_known : (f s : Map) → TablesKnown f → TablesKnown s → (table : ℕ) 
 table_known f s f_known s_known table some = elim (cases_lt table 0x2d) [
   | inl less ↦ known 0 0x2d table (omega arith) (omega (arith, less))
   | inr above ↦
-      let none : composed_count f s table ≡ None = ap (λ o. option_or o (count_of f table)) (unknown_none table s.counts above s_known) ∙ unknown_none table f.counts above f_known in
+      let none : composed_count f s table ≡ None = ap (λ o. option_or o (count_of f table)) (unknown_none table s.counts above s_known)
+      ∙ unknown_none table f.counts above f_known in
       let e : false ≡ true = sym (ap is_some none) ∙ some in absurd (cc)
 ]
 
@@ -309,15 +332,18 @@ abbrev row_sources : Map → Map → ℕ → List RowImage
 row_sources f s table = sources (count_of f table) (count_of s table) f s table
 
 rows_there : (f s : Map) (table old : ℕ)
-    → row_line (composed f s) table old ≡ given (has table tables) (given (has old (line_olds (sources (count_of f table) (count_of s table) f s table))) (composed_row f s table old))
+    → row_line (composed f s) table old ≡ given (has table tables)
+    (given (has old (line_olds (sources (count_of f table) (count_of s table) f s table))) (composed_row f s table old))
 rows_there f s table old =
     ap (option_map (λ (r : RowImage). r.new))
     (flat_found (λ (r : RowImage). r.table) (λ (r : RowImage). nat_eq r.old old) (row_entries f s) (entries_named f s) table tables
-    ∙ ap (given (has table tables)) (ap (find (λ (r : RowImage). nat_eq r.old old)) (filter_map_map (λ (r : RowImage). r.old) (row_of f s table) (row_sources f s table))
+    ∙ ap (given (has table tables)) (ap (find (λ (r : RowImage). nat_eq r.old old))
+    (filter_map_map (λ (r : RowImage). r.old) (row_of f s table) (row_sources f s table))
     ∙ made_found (λ (r : RowImage). r.old) (row_of f s table) (row_named f s table) old (line_olds (row_sources f s table))))
     ∙ of (has table tables) (has old (line_olds (row_sources f s table))) (composed_row f s table old)
   where
-    of : (a b : Bool) (o : Option ℕ) → option_map (λ (r : RowImage). r.new) (given a (given b (option_map (λ new. record { table = table; old = old; new = new }) o))) ≡ given a (given b o)
+    of : (a b : Bool) (o : Option ℕ) → option_map (λ (r : RowImage). r.new)
+        (given a (given b (option_map (λ new. record { table = table; old = old; new = new }) o))) ≡ given a (given b o)
     of false b o = refl
     of true false o = refl
     of true true None = refl
@@ -331,15 +357,19 @@ by line old drops count = cond drops None (elim count as (λ _. Option ℕ) [ No
 pub image_plain : (m : Map) (table old : ℕ) → (nat_eq table 0x06 && is_dropped m old) ≡ false → count_of m table ≡ None → row_image m table old ≡ Some old
 image_plain m table old live none = ap (λ b. by (row_line m table old) old b (count_of m table)) live ∙ ap (by (row_line m table old) old false) none
 
-lines_have : (m : Map) (table old : ℕ) → has old (line_olds (rows_of m table)) ≡ is_some (find (λ (r : RowImage). nat_eq r.table table && nat_eq r.old old) m.rows)
-lines_have m table old = has_key (λ (r : RowImage). r.old) old (rows_of m table) ∙ ap is_some (find_filter (λ (r : RowImage). nat_eq r.table table) (λ (r : RowImage). nat_eq r.old old) m.rows)
+lines_have : (m : Map) (table old : ℕ) → has old (line_olds (rows_of m table))
+    ≡ is_some (find (λ (r : RowImage). nat_eq r.table table && nat_eq r.old old) m.rows)
+lines_have m table old = has_key (λ (r : RowImage). r.old) old (rows_of m table)
+    ∙ ap is_some (find_filter (λ (r : RowImage). nat_eq r.table table) (λ (r : RowImage). nat_eq r.old old) m.rows)
 
 pub is_some_map : {A B : Type 0} (g : A → B) (o : Option A) → is_some (option_map g o) ≡ is_some o
 is_some_map g None = refl
 is_some_map g (Some a) = refl
 
 image_lined : (m : Map) (table old n : ℕ) → count_of m table ≡ Some n → is_some (row_image m table old) ≡ true → has old (line_olds (rows_of m table)) ≡ true
-image_lined m table old n count some = lines_have m table old ∙ sym (is_some_map (λ (r : RowImage). r.new) (find (λ (r : RowImage). nat_eq r.table table && nat_eq r.old old) m.rows)) ∙ of (nat_eq table 0x06 && is_dropped m old) (count_of m table) count some
+image_lined m table old n count some = lines_have m table old
+    ∙ sym (is_some_map (λ (r : RowImage). r.new) (find (λ (r : RowImage). nat_eq r.table table && nat_eq r.old old) m.rows))
+    ∙ of (nat_eq table 0x06 && is_dropped m old) (count_of m table) count some
   where
     of : (b : Bool) (c : Option ℕ) → c ≡ Some n → is_some (by (row_line m table old) old b c) ≡ true → is_some (row_line m table old) ≡ true
     of true c is some = absurd (cc)
@@ -368,7 +398,8 @@ and_second false b c e is = absurd (cc)
 pub dropped_none : (f s : Map) (table old : ℕ) → (nat_eq table 0x06 && drops_one f s old) ≡ true → composed_row f s table old ≡ None
 dropped_none f s table old is =
     let parts = and_parts (nat_eq table 0x06) (drops_one f s old) is in
-    subst (λ t. composed_row f s t old ≡ None) (sym (eqb-true table 0x06 parts.0)) (elim (or_parts (is_dropped f old) (of_image false (is_dropped s) (row_image f 0x06 old)) parts.1) [
+    subst (λ t. composed_row f s t old ≡ None) (sym (eqb-true table 0x06 parts.0))
+    (elim (or_parts (is_dropped f old) (of_image false (is_dropped s) (row_image f 0x06 old)) parts.1) [
       | inl own ↦ ap (option_and_then (row_image s 0x06)) (none_of f old own)
       | inr later ↦ let i = of_some (is_dropped s) (row_image f 0x06 old) later in ap (option_and_then (row_image s 0x06)) i.1.0 ∙ none_of s i.0 i.1.1
     ])
@@ -403,15 +434,18 @@ rows_are f s f_known s_known table old =
         of false is = refl
         of true is =
             let at : row_image f 0x06 old ≡ Some old = subst (λ t. row_image f t old ≡ Some old) (eqb-true table 0x06 is) (first_stays live none) in
-            sym (ap (of_image false (is_dropped s)) at) ∙ and_second (nat_eq table 0x06) (is_dropped f old) (of_image false (is_dropped s) (row_image f 0x06 old)) live is
+            sym (ap (of_image false (is_dropped s)) at) ∙ and_second (nat_eq table 0x06) (is_dropped f old)
+            (of_image false (is_dropped s) (row_image f 0x06 old)) live is
 
     of : (cf cs : Option ℕ) → count_of f table ≡ cf → count_of s table ≡ cs → (nat_eq table 0x06 && drops_one f s old) ≡ false
         → by (lined_row f s table old cf cs) old false (option_or cs cf) ≡ composed_row f s table old
     of None None is also live = sym (ap (option_and_then (row_image s table)) (first_stays live is) ∙ image_plain s table old (second_live live is) also)
     of None (Some n) is also live = lined (rows_of s table) (ap (λ o. is_some (option_or o (count_of f table))) also) (λ some.
         image_lined s table old n also (sym (ap (λ o. is_some (option_and_then (row_image s table) o)) (first_stays live is)) ∙ some))
-    of (Some n) None is also live = lined (rows_of f table) (ap (λ o. is_some (option_or o (count_of f table))) also ∙ ap is_some is) (λ some. image_lined f table old n is (first_some f s table old some))
-    of (Some n) (Some k) is also live = lined (rows_of f table) (ap (λ o. is_some (option_or o (count_of f table))) also) (λ some. image_lined f table old n is (first_some f s table old some))
+    of (Some n) None is also live = lined (rows_of f table) (ap (λ o. is_some (option_or o (count_of f table))) also
+        ∙ ap is_some is) (λ some. image_lined f table old n is (first_some f s table old some))
+    of (Some n) (Some k) is also live = lined (rows_of f table) (ap (λ o. is_some (option_or o (count_of f table))) also)
+        (λ some. image_lined f table old n is (first_some f s table old some))
 
     by_drop : (b : Bool) → (nat_eq table 0x06 && drops_one f s old) ≡ b
         → by (lined_row f s table old (count_of f table) (count_of s table)) old b (composed_count f s table) ≡ composed_row f s table old
@@ -429,7 +463,8 @@ slots_named f s k = of (slot_sources f s k)
     one None old rest is = is
     one (Some n) old rest is = ap (λ l. k ∷ l) is
 
-    of : (xs : List SlotImage) → map (λ (x : SlotImage). x.method) (filter_map (slot_entry f s k) xs) ≡ map (λ (x : SlotImage). k) (filter_map (slot_entry f s k) xs)
+    of : (xs : List SlotImage) → map (λ (x : SlotImage). x.method) (filter_map (slot_entry f s k) xs)
+        ≡ map (λ (x : SlotImage). k) (filter_map (slot_entry f s k) xs)
     of [] = refl
     of (x ∷ xs) = one (composed_slot f s k x.old) x.old (filter_map (slot_entry f s k) xs) (of xs)
 
@@ -451,11 +486,13 @@ slots_there : (f s : Map) (m old : ℕ)
 slots_there f s m old =
     ap (option_map (λ (x : SlotImage). x.new))
     (flat_found (λ (x : SlotImage). x.method) (λ (x : SlotImage). nat_eq x.old old) (slot_entries f s) (slots_named f s) m (slotted_methods f s)
-    ∙ ap (given (has m (slotted_methods f s))) (ap (find (λ (x : SlotImage). nat_eq x.old old)) (filter_map_map (λ (x : SlotImage). x.old) (slot_of f s m) (slot_sources f s m))
+    ∙ ap (given (has m (slotted_methods f s))) (ap (find (λ (x : SlotImage). nat_eq x.old old))
+    (filter_map_map (λ (x : SlotImage). x.old) (slot_of f s m) (slot_sources f s m))
     ∙ made_found (λ (x : SlotImage). x.old) (slot_of f s m) (slot_named f s m) old (slot_olds (slot_sources f s m))))
     ∙ of (has m (slotted_methods f s)) (has old (slot_olds (slot_sources f s m))) (composed_slot f s m old)
   where
-    of : (a b : Bool) (o : Option ℕ) → option_map (λ (x : SlotImage). x.new) (given a (given b (option_map (λ new. record { method = m; old = old; new = new }) o))) ≡ given a (given b o)
+    of : (a b : Bool) (o : Option ℕ) → option_map (λ (x : SlotImage). x.new)
+        (given a (given b (option_map (λ new. record { method = m; old = old; new = new }) o))) ≡ given a (given b o)
     of false b o = refl
     of true false o = refl
     of true true None = refl
@@ -464,7 +501,8 @@ slots_there f s m old =
 -- a slot with an image has a line, where its method has lines
 slot_lined : (m : Map) (method old : ℕ) → has_slots m method ≡ true → is_some (slot_image m method old) ≡ true → has old (slot_olds (slots_of m method)) ≡ true
 slot_lined m method old lines some =
-    has_key (λ (x : SlotImage). x.old) old (slots_of m method) ∙ ap is_some (find_filter (λ (x : SlotImage). nat_eq x.method method) (λ (x : SlotImage). nat_eq x.old old) m.slots)
+    has_key (λ (x : SlotImage). x.old) old (slots_of m method) ∙ ap is_some
+    (find_filter (λ (x : SlotImage). nat_eq x.method method) (λ (x : SlotImage). nat_eq x.old old) m.slots)
     ∙ sym (is_some_map (λ (x : SlotImage). x.new) (find (λ (x : SlotImage). nat_eq x.method method && nat_eq x.old old) m.slots))
     ∙ subst (λ b. is_some (cond b (slot_line m method old) (Some old)) ≡ true) lines some
 
@@ -477,7 +515,8 @@ module _ (f s : Map) (m image : ℕ) (follows : Follows f s m image) where
   slotted_is =
       has_filter (has_slot_lines f s) m (spoken_of f f.slotted s.slotted)
       ∙ ap (λ b. has m (spoken_of f f.slotted s.slotted) && b) lines_of
-      ∙ and_both (has m (spoken_of f f.slotted s.slotted)) (has_slots f m || has_slots s image) (λ some. elim (or_parts (has_slots f m) (has_slots s image) some) [
+      ∙ and_both (has m (spoken_of f f.slotted s.slotted)) (has_slots f m || has_slots s image)
+      (λ some. elim (or_parts (has_slots f m) (has_slots s image) some) [
         | inl own ↦ spoken_own f f.slotted s.slotted m own
         | inr later ↦ spoken_by f f.slotted s.slotted m image follows.first later
       ])
@@ -488,11 +527,13 @@ module _ (f s : Map) (m image : ℕ) (follows : Follows f s m image) where
   pub slots_are : (old : ℕ) → slot_image (composed f s) m old ≡ option_and_then (slot_image s image) (slot_image f m old)
   slots_are old =
       ap (λ b. cond b (slot_line (composed f s) m old) (Some old)) slotted_is
-      ∙ ap (λ l. cond (has_slots f m || has_slots s image) l (Some old)) (slots_there f s m old ∙ ap (λ b. given b (given (has old (slot_olds (slot_sources f s m))) (composed_slot f s m old))) slotted_is)
+      ∙ ap (λ l. cond (has_slots f m || has_slots s image) l (Some old)) (slots_there f s m old
+      ∙ ap (λ b. given b (given (has old (slot_olds (slot_sources f s m))) (composed_slot f s m old))) slotted_is)
       ∙ of (has_slots f m) (has_slots s image) refl refl
     where
       source_is : (b : Bool) → has_slots f m ≡ b → slot_sources f s m ≡ cond b (slots_of f m) (slots_of s image)
-      source_is b is = ap (λ o. cond (has_slots f m) (slots_of f m) (of_image [] (slots_of s) o)) follows.first ∙ ap (λ c. cond c (slots_of f m) (slots_of s image)) is
+      source_is b is = ap (λ o. cond (has_slots f m) (slots_of f m) (of_image [] (slots_of s) o)) follows.first
+          ∙ ap (λ c. cond c (slots_of f m) (slots_of s image)) is
 
       -- an image by both is one by the first
       some_first : is_some (composed_slot f s m old) ≡ true → is_some (slot_image f m old) ≡ true
@@ -503,13 +544,16 @@ module _ (f s : Map) (m image : ℕ) (follows : Follows f s m image) where
           by (Some n) some = refl
 
       of : (a b : Bool) → has_slots f m ≡ a → has_slots s image ≡ b
-          → cond (a || b) (given (a || b) (given (has old (slot_olds (slot_sources f s m))) (composed_slot f s m old))) (Some old) ≡ option_and_then (slot_image s image) (slot_image f m old)
+          → cond (a || b) (given (a || b) (given (has old (slot_olds (slot_sources f s m))) (composed_slot f s m old))) (Some old)
+          ≡ option_and_then (slot_image s image) (slot_image f m old)
       of true b is also = given_true (has old (slot_olds (slot_sources f s m))) (composed_slot f s m old)
           (λ some. ap (λ xs. has old (slot_olds xs)) (source_is true is) ∙ slot_lined f m old is (some_first some)) ∙ slot_on old
       of false true is also = given_true (has old (slot_olds (slot_sources f s m))) (composed_slot f s m old)
           (λ some. ap (λ xs. has old (slot_olds xs)) (source_is false is)
-          ∙ slot_lined s image old also (sym (ap is_some (slot_on old ∙ ap (λ c. option_and_then (slot_image s image) (cond c (slot_line f m old) (Some old))) is)) ∙ some)) ∙ slot_on old
-      of false false is also = sym (ap (λ c. option_and_then (slot_image s image) (cond c (slot_line f m old) (Some old))) is ∙ ap (λ c. cond c (slot_line s image old) (Some old)) also)
+          ∙ slot_lined s image old also (sym (ap is_some (slot_on old
+          ∙ ap (λ c. option_and_then (slot_image s image) (cond c (slot_line f m old) (Some old))) is)) ∙ some)) ∙ slot_on old
+      of false false is also = sym (ap (λ c. option_and_then (slot_image s image) (cond c (slot_line f m old) (Some old))) is
+          ∙ ap (λ c. cond c (slot_line s image old) (Some old)) also)
 
 pub composed_composes : ComposedComposes
 composed_composes = λ f s f_readable s_readable. record {

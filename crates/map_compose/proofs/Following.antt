@@ -3,7 +3,7 @@ use Rattle.std.proofs.Common.{ℕ, ◌≡◌, ◌||◌, ◌&&◌, Bool, true, fa
 use Rattle.std.specs.Prelude.{is_some}
 use Rattle.std.specs.Option.{option_and_then}
 use Rattle.ppdb_maps.specs.Map.{Map, row_image, slot_image, has_slots}
-use Rattle.map_compose.specs.Composed.{has_image, composed_row, composed_slot, of_image, has_slot_lines}
+use Rattle.map_compose.specs.Composed.{has_image, composed_slot, of_image, has_slot_lines}
 use Rattle.map_compose.specs.Composition.{Follows}
 use Rattle.map_compose.specs.Says.{followed, slot_after}
 

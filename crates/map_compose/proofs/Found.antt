@@ -1,5 +1,6 @@
 -- What is found by its number in a list that is made from numbers.
-use Rattle.std.proofs.Common.{◌≡◌, ℕ, ◌⊎◌, ◌&&◌, ◌||◌, ◌++◌, Bool, true, false, cond, List, [], ◌∷◌, Option, Some, None, refl, sym, ◌∙◌, ap, arith, inl, inr, map, subst}
+use Rattle.std.proofs.Common.{◌≡◌, ℕ, ◌⊎◌, ◌&&◌, ◌||◌, ◌++◌, Bool, true, false, cond, List, [], ◌∷◌, Option, Some, None, refl, sym, ◌∙◌, ap, arith, inl, inr}
+use Rattle.std.proofs.Common.{map, subst}
 use Rattle.std.specs.Prelude.{nat_eq, is_some}
 use Rattle.std.specs.List.{filter, filter_map, flat_map, find, list_any, cons_option}
 use Rattle.std.specs.Option.{option_or}
@@ -51,7 +52,8 @@ filter_map_map f g (x ∷ xs) = ap (cons_option (g (f x))) (filter_map_map f g x
 
 -- ---- by number and further, in lists that are made from numbers
 
-not_there : {X : Type 0} (key : X → ℕ) (q : X → Bool) (n k : ℕ) → (k ≡ n → ⊥) → (xs : List X) → map key xs ≡ map (λ x. k) xs → find (λ x. nat_eq (key x) n && q x) xs ≡ None
+not_there : {X : Type 0} (key : X → ℕ) (q : X → Bool) (n k : ℕ) → (k ≡ n → ⊥) → (xs : List X) → map key xs ≡ map (λ x. k) xs
+    → find (λ x. nat_eq (key x) n && q x) xs ≡ None
 not_there key q n k apart [] keyed = refl
 not_there key q n k apart (x ∷ xs) keyed =
     let one : key x ≡ k = cc in
@@ -70,9 +72,12 @@ pub flat_found : {X : Type 0} (key : X → ℕ) (q : X → Bool) (make : ℕ →
 flat_found key q make keyed n [] = refl
 flat_found {X} key q make keyed n (k ∷ ks) =
     find-append (λ x. nat_eq (key x) n && q x) (make k) (flat_map make ks) ∙ ap (option_or _) (flat_found key q make keyed n ks) ∙ elim (either k n) [
-      | inl same ↦ subst (λ j. option_or (find (λ x. nat_eq (key x) n && q x) (make j)) (given (has n ks) (find q (make n))) ≡ given (nat_eq n j || has n ks) (find q (make n))) (sym same)
-          (rw (eq-eqb n n refl) (ap (λ o. option_or o (given (has n ks) (find q (make n)))) (all_there key q n (make n) (keyed n)) ∙ twice (has n ks) (find q (make n))))
-      | inr apart ↦ rw (ne_eqb n k (λ e. apart (sym e))) (ap (λ o. option_or o (given (has n ks) (find q (make n)))) (not_there key q n k apart (make k) (keyed k)))
+      | inl same ↦ subst (λ j. option_or (find (λ x. nat_eq (key x) n && q x) (make j)) (given (has n ks) (find q (make n)))
+          ≡ given (nat_eq n j || has n ks) (find q (make n))) (sym same)
+          (rw (eq-eqb n n refl) (ap (λ o. option_or o (given (has n ks) (find q (make n)))) (all_there key q n (make n) (keyed n))
+          ∙ twice (has n ks) (find q (make n))))
+      | inr apart ↦ rw (ne_eqb n k (λ e. apart (sym e))) (ap (λ o. option_or o (given (has n ks) (find q (make n))))
+          (not_there key q n k apart (make k) (keyed k)))
     ]
   where
     twice : (b : Bool) (o : Option X) → option_or o (given b o) ≡ o
@@ -92,7 +97,8 @@ has_append n (x ∷ xs) ys = step (nat_eq n x) (has_append n xs ys)
 pub has_filter : (p : ℕ → Bool) (n : ℕ) (ns : List ℕ) → has n (filter p ns) ≡ (has n ns && p n)
 has_filter p n [] = refl
 has_filter p n (k ∷ ks) = elim (either k n) [
-  | inl same ↦ subst (λ j. has n (cond (p j) (j ∷ filter p ks) (filter p ks)) ≡ ((nat_eq n j || has n ks) && p n)) (sym same) (rw (eq-eqb n n refl) (of_same (p n) refl (has_filter p n ks)))
+  | inl same ↦ subst (λ j. has n (cond (p j) (j ∷ filter p ks) (filter p ks)) ≡ ((nat_eq n j || has n ks) && p n)) (sym same)
+      (rw (eq-eqb n n refl) (of_same (p n) refl (has_filter p n ks)))
   | inr apart ↦ rw (ne_eqb n k (λ e. apart (sym e))) (of_other (p k) apart (has_filter p n ks))
 ]
   where
@@ -143,6 +149,7 @@ pub find_filter : {X : Type 0} (p q : X → Bool) (xs : List X) → find q (filt
 find_filter p q [] = refl
 find_filter p q (x ∷ xs) = step (p x) (find_filter p q xs)
   where
-    step : (b : Bool) → find q (filter p xs) ≡ find (λ x. p x && q x) xs → find q (cond b (x ∷ filter p xs) (filter p xs)) ≡ cond (b && q x) (Some x) (find (λ x. p x && q x) xs)
+    step : (b : Bool) → find q (filter p xs) ≡ find (λ x. p x && q x) xs
+        → find q (cond b (x ∷ filter p xs) (filter p xs)) ≡ cond (b && q x) (Some x) (find (λ x. p x && q x) xs)
     step true rest = ap (λ o. cond (q x) (Some x) o) rest
     step false rest = rest

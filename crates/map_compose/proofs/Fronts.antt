@@ -1,5 +1,6 @@
 -- Which of rising runs may meet a run: those from the first that does not end before it, up to the first that begins after it.
-use Rattle.std.proofs.Common.{ℕ, zero, suc, ◌≡◌, ◌+◌, ◌-◌, ◌<◌, ◌≤◌, ◌++◌, List, [], ◌∷◌, length, take, drop, map, refl, sym, ap, ◌∙◌, arith, subst, Option, Some, None, length-drop, slice_index_or}
+use Rattle.std.proofs.Common.{ℕ, zero, suc, ◌≡◌, ◌+◌, ◌-◌, ◌<◌, ◌≤◌, ◌++◌, List, [], ◌∷◌, length, take, drop, refl, sym, ap, ◌∙◌, arith, subst, Option, Some}
+use Rattle.std.proofs.Common.{None, length-drop, slice_index_or}
 use Rattle.std.specs.Prelude.{min, max, option_to_list}
 use Rattle.std.specs.List.{filter_map, cons_option, AllByRecursion}
 use Rattle.std.proofs.lemmas.Bool.{le-ltb}
@@ -29,7 +30,8 @@ pub begins_there : (r : Run) (xs : List Run) (n : ℕ) → ((k : ℕ) (d : Run) 
     → filter_map (meet r) (take (length xs - n) (drop n xs)) ≡ filter_map (meet r) xs
 begins_there r xs n before = ap (filter_map (meet r)) (take_over (drop n xs) (length xs - n) (let e = length-drop n xs in omega (arith, e))) ∙ skip xs n before
   where
-    skip : (xs : List Run) (n : ℕ) → ((k : ℕ) (d : Run) → k < n → k < length xs → end_of (slice_index_or xs k d) ≤ r.new) → filter_map (meet r) (drop n xs) ≡ filter_map (meet r) xs
+    skip : (xs : List Run) (n : ℕ) → ((k : ℕ) (d : Run) → k < n → k < length xs → end_of (slice_index_or xs k d) ≤ r.new)
+        → filter_map (meet r) (drop n xs) ≡ filter_map (meet r) xs
     skip [] zero before = refl
     skip [] (suc n) before = refl
     skip (x ∷ xs) zero before = refl

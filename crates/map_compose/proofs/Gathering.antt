@@ -1,7 +1,7 @@
 -- Runs that are taken one by one, by their indexes.
-use Rattle.std.proofs.Common.{ℕ, zero, suc, ◌≡◌, ◌+◌, ◌<◌, ◌≤◌, ◌++◌, List, [], ◌∷◌, length, take, map, refl, sym, ap, ◌∙◌, arith, subst, Option, Some, None}
+use Rattle.std.proofs.Common.{ℕ, zero, suc, ◌≡◌, ◌+◌, ◌≤◌, ◌++◌, List, [], ◌∷◌, length, take, refl, sym, ap, ◌∙◌, arith, subst, Option, Some, None}
 use Rattle.std.specs.Prelude.{option_to_list}
-use Rattle.std.specs.List.{filter_map, flat_map, slice_get, AllByRecursion}
+use Rattle.std.specs.List.{filter_map, slice_get, AllByRecursion}
 use Rattle.std.proofs.lemmas.List.{append_assoc, append-nil}
 use Rattle.ppdb_base.specs.declared.offsets.Run.{Run}
 use Rattle.ppdb_base.specs.Offsets.{RiseFrom, end_of, new_end_of}
@@ -31,9 +31,11 @@ few_runs rs are = omega (arith, few_from 0 0 rs (omega arith) are.rise are.short
 
 -- ---- one run more
 
-pub joins_next : (a b c : Option Run) (s t u : Counted) (rs : List Run) (i : ℕ) (r : Run) → slice_get rs i ≡ Some r → Joins a b s t (take i rs) → Joins b c t u (r ∷ [])
+pub joins_next : (a b c : Option Run) (s t u : Counted) (rs : List Run) (i : ℕ) (r : Run) → slice_get rs i ≡ Some r → Joins a b s t (take i rs)
+    → Joins b c t u (r ∷ [])
     → Joins a c s u (take (i + 1) rs)
-joins_next a b c s t u rs i r is h k = joins_same a c s u (take i rs ++ r ∷ []) (take (i + 1) rs) (sym (take_more rs i r is)) (joins_then a b c s t u (take i rs) (r ∷ []) h k)
+joins_next a b c s t u rs i r is h k = joins_same a c s u (take i rs ++ r ∷ []) (take (i + 1) rs) (sym (take_more rs i r is))
+    (joins_then a b c s t u (take i rs) (r ∷ []) h k)
 
 pub met_next : (a b c : Option Run) (s t u : Counted) (rs qs : List Run) (i : ℕ) (r : Run) → slice_get rs i ≡ Some r → Joins a b s t (met (take i rs) qs)
     → Joins b c t u (filter_map (meet r) qs) → Joins a c s u (met (take (i + 1) rs) qs)
@@ -46,7 +48,8 @@ met_next a b c s t u rs qs i r is h k =
 pub joins_past : (a b : Option Run) (s t : Counted) (rs : List Run) (i : ℕ) → slice_get rs i ≡ None → Joins a b s t (take i rs) → Joins a b s t rs
 joins_past a b s t rs i is h = joins_same a b s t (take i rs) rs (take_past rs i is) h
 
-pub met_past : (a b : Option Run) (s t : Counted) (rs qs : List Run) (i : ℕ) → slice_get rs i ≡ None → Joins a b s t (met (take i rs) qs) → Joins a b s t (met rs qs)
+pub met_past : (a b : Option Run) (s t : Counted) (rs qs : List Run) (i : ℕ) → slice_get rs i ≡ None → Joins a b s t (met (take i rs) qs)
+    → Joins a b s t (met rs qs)
 met_past a b s t rs qs i is h = joins_same a b s t (met (take i rs) qs) (met rs qs) (ap (λ l. met l qs) (take_past rs i is)) h
 
 -- ---- runs that are kept in a list
@@ -69,7 +72,8 @@ gathers_next old mid new held next given rs i r is h one are = record {
   given = h.given ++ option_to_list given;
   are = are ∙ ap (λ l. l ++ option_to_list given) h.are ∙ append_assoc old h.given (option_to_list given);
   joins = λ came front hold.
-      holding_same ((came ++ take i rs) ++ r ∷ []) (came ++ take (i + 1) rs) ((front ++ h.given) ++ option_to_list given) (front ++ (h.given ++ option_to_list given)) (Some next)
+      holding_same ((came ++ take i rs) ++ r ∷ []) (came ++ take (i + 1) rs) ((front ++ h.given) ++ option_to_list given)
+      (front ++ (h.given ++ option_to_list given)) (Some next)
       (append_assoc came (take i rs) (r ∷ []) ∙ ap (λ l. came ++ l) (sym (take_more rs i r is))) (append_assoc front h.given (option_to_list given))
       (one (came ++ take i rs) (front ++ h.given) (h.joins came front hold));
 }

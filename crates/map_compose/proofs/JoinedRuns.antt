@@ -1,5 +1,5 @@
 -- Runs that come one after the other, joined as they come.
-use Rattle.std.proofs.Common.{◌≡◌, ℕ, ◌+◌, ◌<◌, ◌≤◌, ◌++◌, ◌&&◌, Bool, true, false, cond, List, [], ◌∷◌, Option, Some, None, refl, sym, ◌∙◌, ap, arith, subst, map}
+use Rattle.std.proofs.Common.{◌≡◌, ◌+◌, ◌++◌, ◌&&◌, Bool, true, false, cond, List, [], ◌∷◌, Option, Some, None, refl, sym, ◌∙◌, ap, arith, subst, map}
 use Rattle.std.specs.Prelude.{nat_eq, option_to_list}
 use Rattle.std.proofs.lemmas.Bool.{eqb-true, and_parts}
 use Rattle.std.proofs.lemmas.List.{append_assoc, append-nil}
@@ -8,7 +8,7 @@ use Rattle.ppdb_base.specs.Offsets.{end_of, new_end_of}
 use Rattle.ppdb_maps.specs.declared.line.Line.TheVariants.{Kept}
 use Rattle.map_text.specs.declared.counted.Counted.{Counted}
 use Rattle.map_compose.specs.Runs.{goes_on, before, longest}
-use Rattle.map_compose.specs.Joining.{Holding, JoinsRuns, JoinsOne, Joins}
+use Rattle.map_compose.specs.Joining.{Holding, JoinsOne, Joins}
 use Rattle.map_compose.specs.Says.{PutsLines}
 use Rattle.map_compose.proofs.Putting.{says_then, says_none, says_same, map_join}
 use Rattle.map_compose.proofs.Rising.{run_same}
@@ -98,7 +98,8 @@ joins_apart h r off = λ came front hold. record {
 
 -- ---- more runs
 
-pub holding_same : (came came' front front' : List Run) (held : Option Run) → came ≡ came' → front ≡ front' → Holding came front held → Holding came' front' held
+pub holding_same : (came came' front front' : List Run) (held : Option Run) → came ≡ came' → front ≡ front' → Holding came front held
+    → Holding came' front' held
 holding_same came came' front front' held a b hold =
     subst (λ l. Holding l front' held) a (subst (λ l. Holding came l held) b hold)
 
@@ -116,7 +117,8 @@ joins_then a b c s t u rs qs h k = record {
       holding_same ((came ++ rs) ++ qs) (came ++ (rs ++ qs)) ((front ++ h.given) ++ k.given) (front ++ (h.given ++ k.given)) c
       (append_assoc came rs qs) (append_assoc front h.given k.given)
       (k.joins (came ++ rs) (front ++ h.given) (h.joins came front hold));
-  puts = says_same s u (map (λ r. Kept r) h.given ++ map (λ r. Kept r) k.given) (map (λ r. Kept r) (h.given ++ k.given)) (sym (map_join (λ r. Kept r) h.given k.given))
+  puts = says_same s u (map (λ r. Kept r) h.given ++ map (λ r. Kept r) k.given) (map (λ r. Kept r) (h.given ++ k.given))
+      (sym (map_join (λ r. Kept r) h.given k.given))
       (says_then s t u (map (λ r. Kept r) h.given) (map (λ r. Kept r) k.given) h.puts k.puts);
 }
 

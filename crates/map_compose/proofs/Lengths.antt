@@ -1,11 +1,9 @@
 -- The text of a readable map has fewer than 2 ^ 64 bytes.
-use Rattle.std.proofs.Common.{ℕ, zero, suc, ◌≡◌, ◌+◌, ◌*◌, ◌<◌, ◌≤◌, ◌^◌, ◌++◌, ◌&&◌, Bool, true, false, cond, List, [], ◌∷◌, length, map, refl, sym, ap, ◌∙◌, arith, subst, length-append}
+use Rattle.std.proofs.Common.{ℕ, zero, suc, ◌+◌, ◌*◌, ◌<◌, ◌≤◌, ◌++◌, Bool, true, false, cond, List, [], ◌∷◌, length, map, arith, length-append}
 use Rattle.std.specs.Prelude.{nat_eq, codes}
 use Rattle.std.specs.Fmt.{decimal}
 use Rattle.std.specs.List.{AllByRecursion, filter, flat_map}
 use Rattle.std.proofs.lemmas.List.{length-map}
-use Rattle.ppdb_base.specs.declared.offsets.Run.{Run}
-use Rattle.ppdb_base.specs.Offsets.{RiseFrom}
 use Rattle.ppdb_maps.specs.declared.entries.Count.{Count}
 use Rattle.ppdb_maps.specs.declared.entries.RowImage.{RowImage}
 use Rattle.ppdb_maps.specs.declared.entries.SlotImage.{SlotImage}
@@ -46,7 +44,8 @@ words_long (w ∷ ws) (suc most) all le =
     let rest = words_long ws most all.1 (omega (arith, le)) in
     omega (arith, all.0, rest, length-append (32 ∷ w) (flat_map (λ w. 32 ∷ w) ws))
 
-spaced_long : (word : List ℕ) (ws : List (List ℕ)) → length word ≤ 10 → AllByRecursion (λ w. length w ≤ 10) ws → length ws ≤ 3 → length (spaced word ws ++ 10 ∷ []) ≤ 64
+spaced_long : (word : List ℕ) (ws : List (List ℕ)) → length word ≤ 10 → AllByRecursion (λ w. length w ≤ 10) ws → length ws ≤ 3
+    → length (spaced word ws ++ 10 ∷ []) ≤ 64
 spaced_long word ws short all few =
     let rest = words_long ws 3 all few in
     omega (arith, short, rest, length-append (spaced word ws) (10 ∷ []), length-append word (flat_map (λ w. 32 ∷ w) ws))
@@ -54,7 +53,8 @@ spaced_long word ws short all few =
 line_long : (x : Line) → IsSmall x → length (ended (line_text x)) ≤ 64
 line_long Silent small = omega arith
 line_long (Rows t n) small = spaced_long (codes "rows") (table_word t ∷ decimal n ∷ []) (omega arith) (omega arith, (digits_few n small, tt)) (omega arith)
-line_long (Row t o n) small = spaced_long (codes "row") (table_word t ∷ decimal o ∷ decimal n ∷ []) (omega arith) (omega arith, (digits_few o small.0, (digits_few n small.1, tt))) (omega arith)
+line_long (Row t o n) small = spaced_long (codes "row") (table_word t ∷ decimal o ∷ decimal n ∷ []) (omega arith)
+    (omega arith, (digits_few o small.0, (digits_few n small.1, tt))) (omega arith)
 line_long (Method m o n) small = spaced_long (codes "method") (decimal m ∷ decimal o ∷ decimal n ∷ []) (omega arith)
     (digits_few m small.0, (digits_few o small.1, (digits_few n small.2, tt))) (omega arith)
 line_long (Kept r) small = spaced_long (codes "run") (decimal r.old ∷ decimal r.new ∷ decimal r.length ∷ []) (omega arith)
@@ -91,7 +91,8 @@ each : {A : Type 0} (P Q : A → Type 0) → ((a : A) → P a → Q a) → (xs :
 each P Q holds [] all = tt
 each P Q holds (x ∷ xs) all = (holds x all.0, each P Q holds xs all.1)
 
-mapped : {A B : Type 0} (P : A → Type 0) (Q : B → Type 0) (g : A → B) → ((a : A) → P a → Q (g a)) → (xs : List A) → AllByRecursion P xs → AllByRecursion Q (map g xs)
+mapped : {A B : Type 0} (P : A → Type 0) (Q : B → Type 0) (g : A → B) → ((a : A) → P a → Q (g a)) → (xs : List A) → AllByRecursion P xs
+    → AllByRecursion Q (map g xs)
 mapped P Q g holds [] all = tt
 mapped P Q g holds (x ∷ xs) all = (holds x all.0, mapped P Q g holds xs all.1)
 
@@ -117,24 +118,33 @@ module _ (m : Map) (readable : IsReadable m) where
   count_few count is = record {
     few =
         let rows = few_rows (map (λ (r : RowImage). r.old) (rows_of m count.table)) (rows_up m readable count.table)
-            (mapped (IsRowOf m) IsRow (λ (r : RowImage). r.old) (λ r row. row.0) (rows_of m count.table) (chosen (IsRowOf m) (λ r. nat_eq r.table count.table) m.rows readable.rows)) in
+        (mapped (IsRowOf m) IsRow (λ (r : RowImage). r.old) (λ r row. row.0) (rows_of m count.table)
+        (chosen (IsRowOf m) (λ r. nat_eq r.table count.table) m.rows readable.rows)) in
         let same = length-map (rows_of m count.table) (λ (r : RowImage). r.old) in
         let also = length-map (rows_of m count.table) row_says in
         omega (arith, rows, same, also);
-    small = (omega (arith, is.1), mapped (IsRowOf m) IsSmall row_says row_small (rows_of m count.table) (chosen (IsRowOf m) (λ r. nat_eq r.table count.table) m.rows readable.rows));
+    small = (
+      omega (arith, is.1),
+      mapped (IsRowOf m) IsSmall row_says row_small (rows_of m count.table)
+          (chosen (IsRowOf m) (λ r. nat_eq r.table count.table) m.rows readable.rows),
+    );
   }
 
   slots_few : (method : ℕ) → IsSlottedOf m method → Few (slots_say m) 65537 method
   slots_few method is = record {
     few =
         let slots = few SLOTS (map (λ (x : SlotImage). x.old) (slots_of m method)) (slots_up m readable method)
-            (mapped (λ (x : SlotImage). x.old ≤ SLOTS) (λ k. k ≤ SLOTS) (λ (x : SlotImage). x.old) (λ x le. le) (slots_of m method) (slots_hold m readable method)) in
+        (mapped (λ (x : SlotImage). x.old ≤ SLOTS) (λ k. k ≤ SLOTS) (λ (x : SlotImage). x.old) (λ x le. le) (slots_of m method)
+        (slots_hold m readable method)) in
         let same = length-map (slots_of m method) (λ (x : SlotImage). x.old) in
         let also = length-map (slots_of m method) slot_says in
         omega (arith, slots, same, also);
-    small = (omega (arith, is.0.1), mapped (λ (x : SlotImage). IsSmall (slot_says x)) IsSmall slot_says (λ x small. small) (slots_of m method)
-        (filter_hold (IsSlotOf m) (λ (x : SlotImage). IsSmall (slot_says x)) (λ x. nat_eq x.method method)
-        (λ x slot at. let e = eqb-true x.method method at in (omega (arith, e, is.0.1), omega (arith, slot.0), omega (arith, slot.1))) m.slots readable.slots));
+    small = (
+      omega (arith, is.0.1),
+      mapped (λ (x : SlotImage). IsSmall (slot_says x)) IsSmall slot_says (λ x small. small) (slots_of m method)
+          (filter_hold (IsSlotOf m) (λ (x : SlotImage). IsSmall (slot_says x)) (λ x. nat_eq x.method method)
+          (λ x slot at. let e = eqb-true x.method method at in (omega (arith, e, is.0.1), omega (arith, slot.0), omega (arith, slot.1))) m.slots readable.slots),
+    );
   }
 
   line_few : (line : MethodLine) → IsLineOf m line → Few method_says 2147483648 line
@@ -143,12 +153,17 @@ module _ (m : Map) (readable : IsReadable m) where
         let runs = few_runs line.runs (line_runs m line is) in
         let same = length-map line.runs (λ r. Kept r) in
         omega (arith, runs, same);
-    small = ((omega (arith, is.0.1), is.1, is.2), mapped IsShort IsSmall (λ r. Kept r) (λ r short. (omega (arith, short.1), omega (arith, short.2), omega (arith, short.1))) line.runs (line_runs m line is).short);
+    small = (
+      (omega (arith, is.0.1), is.1, is.2),
+      mapped IsShort IsSmall (λ r. Kept r)
+          (λ r short. (omega (arith, short.1), omega (arith, short.2), omega (arith, short.1))) line.runs (line_runs m line is).short,
+    );
   }
 
   few_counts : length m.counts ≤ 45
   few_counts =
-      let counts = few 0x2c (map (λ (c : Count). c.table) m.counts) readable.ascends.counts (mapped IsCount (λ k. k ≤ 0x2c) (λ (c : Count). c.table) (λ c is. is.0) m.counts readable.counts) in
+      let counts = few 0x2c (map (λ (c : Count). c.table) m.counts) readable.ascends.counts
+      (mapped IsCount (λ k. k ≤ 0x2c) (λ (c : Count). c.table) (λ c is. is.0) m.counts readable.counts) in
       let same = length-map m.counts (λ (c : Count). c.table) in
       omega (arith, counts, same)
 
@@ -163,9 +178,11 @@ module _ (m : Map) (readable : IsReadable m) where
 
   says_small : AllByRecursion IsSmall (map_says m)
   says_small =
-      both_small (flat_map (count_says m) m.counts) _ (flat_small (count_says m) 16777217 m.counts (each IsCount (Few (count_says m) 16777217) count_few m.counts readable.counts))
+      both_small (flat_map (count_says m) m.counts) _ (flat_small (count_says m) 16777217 m.counts
+      (each IsCount (Few (count_says m) 16777217) count_few m.counts readable.counts))
       (both_small (map (λ k. Dropped k) m.drops) _ (drops_small m.drops readable.drops)
-      (both_small (flat_map (slots_say m) m.slotted) _ (flat_small (slots_say m) 65537 m.slotted (each (IsSlottedOf m) (Few (slots_say m) 65537) slots_few m.slotted readable.slotted))
+      (both_small (flat_map (slots_say m) m.slotted) _ (flat_small (slots_say m) 65537 m.slotted
+      (each (IsSlottedOf m) (Few (slots_say m) 65537) slots_few m.slotted readable.slotted))
       (flat_small method_says 2147483648 m.methods (each (IsLineOf m) (Few method_says 2147483648) line_few m.methods readable.methods))))
 
   few_lines : length (map_says m) ≤ 45 * 16777217 + 16777216 + 16777216 * 65537 + 16777216 * 2147483648
@@ -178,7 +195,8 @@ module _ (m : Map) (readable : IsReadable m) where
       let counts = few_counts in
       let methods = few_methods in
       let same = length-map m.drops (λ k. Dropped k) in
-      let one = length-append (flat_map (count_says m) m.counts) (map (λ k. Dropped k) m.drops ++ (flat_map (slots_say m) m.slotted ++ flat_map method_says m.methods)) in
+      let one = length-append (flat_map (count_says m) m.counts) (map (λ k. Dropped k) m.drops
+      ++ (flat_map (slots_say m) m.slotted ++ flat_map method_says m.methods)) in
       let two = length-append (map (λ k. Dropped k) m.drops) (flat_map (slots_say m) m.slotted ++ flat_map method_says m.methods) in
       let three = length-append (flat_map (slots_say m) m.slotted) (flat_map method_says m.methods) in
       omega (arith, tables, drops, slotted, slots, lines, counts, methods, same, one, two, three)

@@ -1,10 +1,8 @@
 -- What is put in a loop over the lines of a map: the lines of what is made from those that were passed.
-use Rattle.std.proofs.Common.{ℕ, zero, suc, ◌≡◌, ◌+◌, ◌<◌, ◌≤◌, ◌++◌, cond, List, [], ◌∷◌, length, map, take, refl, sym, ap, ◌∙◌, arith, subst, Option, Some, None}
+use Rattle.std.proofs.Common.{ℕ, ◌≡◌, ◌+◌, ◌<◌, ◌++◌, List, [], ◌∷◌, length, map, take, refl, sym, ap, ◌∙◌, Option, Some, None}
 use Rattle.std.specs.List.{filter_map, cons_option, slice_get}
 use Rattle.std.specs.Option.{option_map}
-use Rattle.std.specs.Prelude.{option_to_list}
 use Rattle.ppdb_maps.specs.declared.line.Line.{Line}
-use Rattle.ppdb_maps.specs.declared.line.Line.TheVariants.{Row, Slot}
 use Rattle.ppdb_maps.specs.declared.entries.RowImage.{RowImage}
 use Rattle.ppdb_maps.specs.declared.entries.SlotImage.{SlotImage}
 use Rattle.ppdb_maps.specs.Map.{Map}
@@ -36,7 +34,8 @@ module _ {X Y : Type 0} (key : X → ℕ) (make : X → Option Y) (says : Y → 
   key_within xs i k is = let x = key_of xs i k is in within xs i x.0 x.1.0
 
   pub made_next : (xs : List X) (i k : ℕ) (old mid new : Counted) → option_map key (slice_get xs i) ≡ Some k
-      → PutsLines old mid (map says (filter_map make (take i xs))) → PutsLines mid new (lines k) → PutsLines old new (map says (filter_map make (take (i + 1) xs)))
+      → PutsLines old mid (map says (filter_map make (take i xs))) → PutsLines mid new (lines k)
+      → PutsLines old new (map says (filter_map make (take (i + 1) xs)))
   made_next xs i k old mid new is h put =
       let x = key_of xs i k is in
       says_same old new (map says (filter_map make (take i xs)) ++ lines k) (map says (filter_map make (take (i + 1) xs)))
@@ -55,7 +54,8 @@ module _ {X Y : Type 0} (key : X → ℕ) (make : X → Option Y) (says : Y → 
 
 -- ---- rows, and slots
 
-row_told : (f s : Map) (table : ℕ) (x : RowImage) → map row_says (cons_option (row_entry f s table x) []) ≡ image_says table x.old (composed_row f s table x.old)
+row_told : (f s : Map) (table : ℕ) (x : RowImage) → map row_says (cons_option (row_entry f s table x) [])
+    ≡ image_says table x.old (composed_row f s table x.old)
 row_told f s table x = of (composed_row f s table x.old)
   where
     of : (o : Option ℕ) → map row_says (cons_option (option_map (λ new. record { table = table; old = x.old; new = new }) o) []) ≡ image_says table x.old o
@@ -79,10 +79,12 @@ pub rows_done : (f s : Map) (table : ℕ) (xs : List RowImage) (i : ℕ) (old ne
 rows_done f s table xs i old new is h =
     made_done old_row (row_entry f s table) row_says (λ n. image_says table n (composed_row f s table n)) (row_told f s table) xs i old new is h
 
-slot_told : (f s : Map) (method : ℕ) (x : SlotImage) → map slot_says (cons_option (slot_entry f s method x) []) ≡ slot_image_says method x.old (composed_slot f s method x.old)
+slot_told : (f s : Map) (method : ℕ) (x : SlotImage) → map slot_says (cons_option (slot_entry f s method x) [])
+    ≡ slot_image_says method x.old (composed_slot f s method x.old)
 slot_told f s method x = of (composed_slot f s method x.old)
   where
-    of : (o : Option ℕ) → map slot_says (cons_option (option_map (λ new. record { method = method; old = x.old; new = new }) o) []) ≡ slot_image_says method x.old o
+    of : (o : Option ℕ) → map slot_says (cons_option (option_map (λ new. record { method = method; old = x.old; new = new }) o) [])
+        ≡ slot_image_says method x.old o
     of None = refl
     of (Some n) = refl
 
@@ -92,13 +94,17 @@ old_slot x = x.old
 pub slot_within : (xs : List SlotImage) (i k : ℕ) → option_map (λ (x : SlotImage). x.old) (slice_get xs i) ≡ Some k → i < length xs
 slot_within xs i k is = key_within old_slot (λ x. None) slot_says (λ k. []) (λ x. refl) xs i k is
 
-pub slots_next : (f s : Map) (method : ℕ) (xs : List SlotImage) (i k : ℕ) (old mid new : Counted) → option_map (λ (x : SlotImage). x.old) (slice_get xs i) ≡ Some k
-    → PutsLines old mid (map slot_says (filter_map (slot_entry f s method) (take i xs))) → PutsLines mid new (slot_image_says method k (composed_slot f s method k))
+pub slots_next : (f s : Map) (method : ℕ) (xs : List SlotImage) (i k : ℕ) (old mid new : Counted)
+    → option_map (λ (x : SlotImage). x.old) (slice_get xs i) ≡ Some k
+    → PutsLines old mid (map slot_says (filter_map (slot_entry f s method) (take i xs)))
+    → PutsLines mid new (slot_image_says method k (composed_slot f s method k))
     → PutsLines old new (map slot_says (filter_map (slot_entry f s method) (take (i + 1) xs)))
 slots_next f s method xs i k old mid new is h put =
-    made_next old_slot (slot_entry f s method) slot_says (λ n. slot_image_says method n (composed_slot f s method n)) (slot_told f s method) xs i k old mid new is h put
+    made_next old_slot (slot_entry f s method) slot_says (λ n. slot_image_says method n (composed_slot f s method n))
+    (slot_told f s method) xs i k old mid new is h put
 
 pub slots_done : (f s : Map) (method : ℕ) (xs : List SlotImage) (i : ℕ) (old new : Counted) → option_map (λ (x : SlotImage). x.old) (slice_get xs i) ≡ None
-    → PutsLines old new (map slot_says (filter_map (slot_entry f s method) (take i xs))) → PutsLines old new (map slot_says (filter_map (slot_entry f s method) xs))
+    → PutsLines old new (map slot_says (filter_map (slot_entry f s method) (take i xs)))
+    → PutsLines old new (map slot_says (filter_map (slot_entry f s method) xs))
 slots_done f s method xs i old new is h =
     made_done old_slot (slot_entry f s method) slot_says (λ n. slot_image_says method n (composed_slot f s method n)) (slot_told f s method) xs i old new is h

@@ -28,7 +28,8 @@ part_takes : (r q : Run) (low high x z : ℕ) → r.new ≤ low → q.old ≤ lo
     → Gives (part r q low high) x z → TakesOn r q x z
 part_takes r q low high x z a b c d gives = step (nat_lt low high) gives
   where
-    step : (b : Bool) → Gives (cond b (Some (record { old = r.old + (low - r.new); new = q.new + (low - q.old); length = high - low })) None) x z → TakesOn r q x z
+    step : (b : Bool) → Gives (cond b (Some (record { old = r.old + (low - r.new); new = q.new + (low - q.old); length = high - low })) None) x z
+        → TakesOn r q x z
     step false none = absurd none
     step true t = record {
       y = low + t.step;
@@ -38,7 +39,13 @@ part_takes r q low high x z a b c d gives = step (nat_lt low high) gives
 
 takes_part : (r q : Run) (low high x z : ℕ) (t : TakesOn r q x z) → r.new ≤ low → q.old ≤ low → low ≤ t.y → t.y < high → Gives (part r q low high) x z
 takes_part r q low high x z t a b le less = rw (lt-ltb low high (omega (arith, le, less)))
-    (record { step = t.y - low; inside = omega (arith, le, less); old = omega (arith, t.first.old, t.first.new, a, le); new = omega (arith, t.second.old, t.second.new, b, le) })
+    (record {
+      step = t.y - low;
+      inside = omega (arith, le, less);
+      old = omega (arith, t.first.old, t.first.new, a, le);
+      new =
+          omega (arith, t.second.old, t.second.new, b, le);
+    })
 
 meet_takes : (r q : Run) (x z : ℕ) → Gives (meet r q) x z → TakesOn r q x z
 meet_takes r q x z gives = part_takes r q (max r.new q.old) (min (new_end_of r) (end_of q)) x z

@@ -1,17 +1,18 @@
 -- Two lists of numbers that ascend, merged: what is left after the least of their first numbers.
-use Rattle.std.proofs.Common.{ℕ, zero, suc, ◌≡◌, ◌+◌, ◌<◌, ◌≤◌, ◌⊎◌, ◌++◌, ◌||◌, Bool, true, false, cond, List, [], ◌∷◌, length, map, drop, refl, sym, ap, ◌∙◌, arith, add-one, subst, inl, inr, Option, Some, None}
+use Rattle.std.proofs.Common.{ℕ, zero, suc, ◌≡◌, ◌+◌, ◌<◌, ◌≤◌, ◌⊎◌, ◌++◌, ◌||◌, Bool, true, false, cond, List, [], ◌∷◌, length, drop, refl, sym, ap, ◌∙◌}
+use Rattle.std.proofs.Common.{arith, add-one, subst, inl, inr, Some, None}
 use Rattle.std.specs.Prelude.{nat_eq, is_some}
-use Rattle.std.specs.List.{AllByRecursion, slice_get, filter_map, flat_map}
+use Rattle.std.specs.List.{AllByRecursion, slice_get}
 use Rattle.std.specs.List.Sorted.{IsStrictlySortedBy}
 use Rattle.std.specs.Ordering.{nat_cmp}
 use Rattle.std.specs.declared.cmp.Ordering.TheVariants.{Less}
-use Rattle.std.proofs.lemmas.Bool.{cases_lt, eq-eqb, ne_eqb, eqb-true, false≢true}
+use Rattle.std.proofs.lemmas.Bool.{eq-eqb, ne_eqb, eqb-true, false≢true}
 use Rattle.ppdb_maps.specs.Forms.{ROWS}
 use Rattle.ppdb_maps.specs.Map.{Map, count_of}
 use Rattle.ppdb_maps.specs.Readable.{IsReadable, IsRow}
 use Rattle.map_compose.specs.declared.part.Part.{Part}
 use Rattle.map_compose.specs.declared.part.Part.TheVariants.{Drops, Slots, Methods}
-use Rattle.map_compose.specs.Ascending.{put_once, ascending}
+use Rattle.map_compose.specs.Ascending.{ascending}
 use Rattle.map_compose.specs.Parts.{part_numbers, other_numbers}
 use Rattle.map_compose.proofs.Found.{either, has, has_append, has_ascending}
 use Rattle.map_compose.proofs.Orders.{Up, Above, less, is_less, ascending_up}
@@ -66,7 +67,8 @@ one_up (m ∷ ms) (n ∷ ns) a b alike =
 -- a number below all is the first
 first_of : (z : ℕ) (all rest : List ℕ) → Above z rest → ((n : ℕ) → has n all ≡ (nat_eq n z || has n rest)) → ascending all ≡ z ∷ ascending rest
 unfolding IsStrictlySortedBy
-first_of z all rest above alike = one_up (ascending all) (z ∷ ascending rest) (ascending_up all) (ascending_hold (λ k. nat_cmp z k ≡ Less) rest above, ascending_up rest)
+first_of z all rest above alike = one_up (ascending all) (z ∷ ascending rest) (ascending_up all)
+    (ascending_hold (λ k. nat_cmp z k ≡ Less) rest above, ascending_up rest)
     (λ n. has_ascending n all ∙ alike n ∙ sym (ap (λ t. nat_eq n z || t) (has_ascending n rest)))
 
 above_both : (z : ℕ) (xs ys : List ℕ) → Above z xs → Above z ys → Above z (xs ++ ys)
@@ -79,12 +81,14 @@ above_less z y (k ∷ ks) h above = (is_less z k (let j = less y k above.0 in om
 
 own_first : (x y : ℕ) (xs ys : List ℕ) → x < y → Up (x ∷ xs) → Up (y ∷ ys) → ascending ((x ∷ xs) ++ y ∷ ys) ≡ x ∷ ascending (xs ++ y ∷ ys)
 unfolding IsStrictlySortedBy
-own_first x y xs ys h up also = first_of x ((x ∷ xs) ++ y ∷ ys) (xs ++ y ∷ ys) (above_both x xs (y ∷ ys) up.0 (is_less x y h, above_less x y ys h also.0)) (λ n. refl)
+own_first x y xs ys h up also = first_of x ((x ∷ xs) ++ y ∷ ys) (xs ++ y ∷ ys) (above_both x xs (y ∷ ys) up.0 (is_less x y h, above_less x y ys h also.0))
+    (λ n. refl)
 
 other_first : (x y : ℕ) (xs ys : List ℕ) → y < x → Up (x ∷ xs) → Up (y ∷ ys) → ascending ((x ∷ xs) ++ y ∷ ys) ≡ y ∷ ascending ((x ∷ xs) ++ ys)
 unfolding IsStrictlySortedBy
 other_first x y xs ys h up also = first_of y ((x ∷ xs) ++ y ∷ ys) ((x ∷ xs) ++ ys) (above_both y (x ∷ xs) ys (is_less y x h, above_less y x xs h up.0) also.0)
-    (λ n. ap (λ t. nat_eq n x || t) (has_append n xs (y ∷ ys)) ∙ of (nat_eq n x) (has n xs) (nat_eq n y) (has n ys) ∙ ap (λ t. nat_eq n y || (nat_eq n x || t)) (sym (has_append n xs ys)))
+    (λ n. ap (λ t. nat_eq n x || t) (has_append n xs (y ∷ ys)) ∙ of (nat_eq n x) (has n xs) (nat_eq n y) (has n ys)
+    ∙ ap (λ t. nat_eq n y || (nat_eq n x || t)) (sym (has_append n xs ys)))
   where
     of : (a b c d : Bool) → (a || (b || (c || d))) ≡ (c || (a || (b || d)))
     of true b true d = refl
@@ -204,4 +208,5 @@ few_own part m readable = few ROWS (part_numbers part m) (part_up part m readabl
 
 pub few_others : (part : Part) (f s : Map) → IsReadable f → IsReadable s → length (other_numbers part f s) ≤ 16777216
 few_others part f s f_readable s_readable =
-    few ROWS (other_numbers part f s) (others_up part f s f_readable s_readable) (row_most (other_numbers part f s) (others_rows part f s f_readable s_readable))
+    few ROWS (other_numbers part f s) (others_up part f s f_readable s_readable)
+    (row_most (other_numbers part f s) (others_rows part f s f_readable s_readable))

@@ -30,7 +30,8 @@ stop_is runs old new x y s = elim (moves_split runs (size_run old new ∷ []) x 
 
 is_stop : (runs : List Run) (old new x y : ℕ) → StopIs runs old new x y → Stops (lined runs old new) x y
 is_stop runs old new x y (kept m) = moves_left runs (size_run old new ∷ []) x y m
-is_stop runs old new x y (size a b) = moves_right runs (size_run old new ∷ []) x y (inl (record { step = 0; inside = omega arith; old = omega (arith, a); new = omega (arith, b) }))
+is_stop runs old new x y (size a b) = moves_right runs (size_run old new ∷ []) x y
+    (inl (record { step = 0; inside = omega arith; old = omega (arith, a); new = omega (arith, b) }))
 
 -- the image of a kept offset of a line is below its new size
 kept_new_below : (runs : List Run) (old new : ℕ) → Rise (lined runs old new) → (x y : ℕ) → Moves runs x y → y < new
@@ -50,7 +51,8 @@ record StopsOn (firsts seconds : List Run) (old middle new x z : ℕ) : Type 0 w
   first : Stops (lined firsts old middle) x y
   second : Stops (lined seconds middle new) y z
 
-stops_on : (firsts seconds : List Run) (old middle new x z : ℕ) → Stops (lined (longest (met firsts seconds)) old new) x z → StopsOn firsts seconds old middle new x z
+stops_on : (firsts seconds : List Run) (old middle new x z : ℕ) → Stops (lined (longest (met firsts seconds)) old new) x z
+    → StopsOn firsts seconds old middle new x z
 stops_on firsts seconds old middle new x z s = of (stop_is (longest (met firsts seconds)) old new x z s)
   where
     of : StopIs (longest (met firsts seconds)) old new x z → StopsOn firsts seconds old middle new x z
@@ -100,7 +102,8 @@ tight_stops firsts seconds old middle new tight y z s = of (stop_is seconds midd
 live : (runs : List Run) (old new : ℕ) → lined runs old new ≢ gone
 live runs old new e = absurd (cc)
 
-next_composed : (firsts seconds : List Run) (old middle new x : ℕ) → Rise (lined firsts old middle) → Rise (lined seconds middle new) → Rise (lined (longest (met firsts seconds)) old new)
+next_composed : (firsts seconds : List Run) (old middle new x : ℕ) → Rise (lined firsts old middle) → Rise (lined seconds middle new)
+    → Rise (lined (longest (met firsts seconds)) old new)
     → Tight firsts seconds old middle new → x ≤ old
     → moved (lined seconds middle new) (moved (lined firsts old middle) x) ≡ moved (lined (longest (met firsts seconds)) old new) x
 next_composed firsts seconds old middle new x rise also all tight le =
@@ -129,7 +132,8 @@ next_composed firsts seconds old middle new x rise also all tight le =
     top (size a b) = omega (arith, b)
 
 -- at an offset that both keep
-next_kept : (f s : Map) (method image x z : ℕ) → IsReadable f → IsReadable s → SizesAgree f s → Follows f s method image → Kept (offsets_in (composed f s) method) x z
+next_kept : (f s : Map) (method image x z : ℕ) → IsReadable f → IsReadable s → SizesAgree f s → Follows f s method image
+    → Kept (offsets_in (composed f s) method) x z
     → moved (offsets_in s image) (moved (offsets_in f method) x) ≡ moved (offsets_in (composed f s) method) x
 next_kept f s method image x z f_readable s_readable agree follows both =
     let on = ((composed_composes f s f_readable s_readable).kept method image x z follows).0 both in

@@ -1,5 +1,6 @@
 -- What is made from numbers that ascend, in their order, ascends by them.
-use Rattle.std.proofs.Common.{ℕ, ◌+◌, ◌≡◌, ◌<◌, ◌≤◌, ◌++◌, Bool, true, false, cond, List, [], ◌∷◌, Option, Some, None, refl, sym, ◌∙◌, map, subst, arith, inl, inr}
+use Rattle.std.proofs.Common.{ℕ, ◌+◌, ◌≡◌, ◌<◌, ◌≤◌, ◌++◌, Bool, true, false, cond, List, [], ◌∷◌, Option, Some, None, refl, sym, ◌∙◌, map, subst, arith, inl}
+use Rattle.std.proofs.Common.{inr}
 use Rattle.std.specs.Prelude.{nat_eq, nat_lt}
 use Rattle.std.specs.List.{filter, filter_map, flat_map, AllByRecursion, cons_option, range_with_len}
 use Rattle.std.specs.List.Sorted.{IsStrictlySortedBy}
@@ -98,7 +99,10 @@ made_up {A} {X} from key make keyed (a ∷ items) up = of (make a) refl (made_up
   where
     of : (o : Option X) → make a ≡ o → Up (map key (filter_map make items)) → Up (map key (cons_option o (filter_map make items)))
     of None is rest = rest
-    of (Some x) is rest = (subst (λ k. Above k (map key (filter_map make items))) (sym (keyed a x is)) (made_above (from a) from key make keyed items up.0), rest)
+    of (Some x) is rest = (
+      subst (λ k. Above k (map key (filter_map make items))) (sym (keyed a x is)) (made_above (from a) from key make keyed items up.0),
+      rest,
+    )
 
 filter_above : (n : ℕ) (p : ℕ → Bool) (ns : List ℕ) → Above n ns → Above n (filter p ns)
 filter_above n p [] all = tt
@@ -162,7 +166,8 @@ module _ {X : Type 0} (key value : X → ℕ) where
       → AllByRecursion (λ p. pair_cmp (k, n) p ≡ Less) (map pair (flat_map make ns))
   flat_above make keyed k n [] all = tt
   flat_above make keyed k n (j ∷ js) all =
-      all_join (λ p. pair_cmp (k, n) p ≡ Less) (make j) (flat_map make js) (keyed_above k j n (make j) (less k j all.0) (keyed j)) (flat_above make keyed k n js all.1)
+      all_join (λ p. pair_cmp (k, n) p ≡ Less) (make j) (flat_map make js) (keyed_above k j n (make j) (less k j all.0) (keyed j))
+      (flat_above make keyed k n js all.1)
 
   -- lists of one key each, made from keys that ascend
   pub flat_pairs : (make : ℕ → List X) → ((k : ℕ) → map key (make k) ≡ map (λ x. k) (make k)) → ((k : ℕ) → Up (map value (make k))) → (ns : List ℕ) → Up ns

@@ -1,15 +1,16 @@
 -- Where the runs of each method stand in one list, and that they are found there.
-use Rattle.std.proofs.Common.{ℕ, zero, suc, ◌≡◌, ◌+◌, ◌-◌, ◌<◌, ◌≤◌, ◌++◌, Bool, true, false, cond, List, [], ◌∷◌, length, take, drop, map, refl, sym, ap, ◌∙◌, arith, subst, Option, Some, None, inl, inr, length-append}
+use Rattle.std.proofs.Common.{ℕ, ◌≡◌, ◌+◌, ◌-◌, ◌≤◌, ◌++◌, Bool, true, false, cond, List, [], ◌∷◌, length, take, drop, map, refl, sym, ap, ◌∙◌, arith, subst}
+use Rattle.std.proofs.Common.{Option, Some, None, inl, inr, length-append}
 use Rattle.std.specs.Prelude.{nat_eq, nat_lt}
 use Rattle.std.specs.List.{flat_map, find, slice_get, AllByRecursion}
 use Rattle.std.specs.Option.{option_map}
 use Rattle.std.specs.List.Sorted.{IsStrictlySortedBy, IsPartitionedBy, IsPartitionPoint}
 use Rattle.std.specs.Ordering.{nat_cmp}
 use Rattle.std.proofs.lemmas.Bool.{eqb-true, eq-eqb}
-use Rattle.std.proofs.lemmas.Cmp.{nat_cmp_total, nat_eq_equiv}
+use Rattle.std.proofs.lemmas.Cmp.{nat_cmp_total}
 use Rattle.std.proofs.lemmas.List.{append_assoc, append-nil}
 use Rattle.ppdb_base.specs.declared.offsets.Run.{Run}
-use Rattle.ppdb_base.specs.Offsets.{Offsets, gone, lined, Rise, RiseFrom, end_of, new_end_of}
+use Rattle.ppdb_base.specs.Offsets.{gone, RiseFrom, end_of, new_end_of}
 use Rattle.ppdb_base.proofs.Moved.{rise_front}
 use Rattle.ppdb_maps.specs.Forms.{OFFSETS}
 use Rattle.ppdb_maps.specs.Map.{Map, MethodLine, method_line, is_dropped, line_offsets, offsets_in}
@@ -36,9 +37,13 @@ number line = line.method
 
 -- ---- the runs of a readable map
 
-pub line_short : (a b c d : ℕ) (rs : List Run) → c ≤ OFFSETS → d ≤ OFFSETS → RiseFrom a b (rs ++ record { old = c; new = d; length = 1 } ∷ []) → AllByRecursion IsShort rs
+pub line_short : (a b c d : ℕ) (rs : List Run) → c ≤ OFFSETS → d ≤ OFFSETS → RiseFrom a b (rs ++ record { old = c; new = d; length = 1 } ∷ [])
+    → AllByRecursion IsShort rs
 line_short a b c d [] p q rise = tt
-line_short a b c d (r ∷ rs) p q rise = ((rise.0, old (end_of r) (new_end_of r) rs rise.3, new (end_of r) (new_end_of r) rs rise.3), line_short (end_of r) (new_end_of r) c d rs p q rise.3)
+line_short a b c d (r ∷ rs) p q rise = (
+  (rise.0, old (end_of r) (new_end_of r) rs rise.3, new (end_of r) (new_end_of r) rs rise.3),
+  line_short (end_of r) (new_end_of r) c d rs p q rise.3,
+)
   where
     old : (a b : ℕ) (xs : List Run) → RiseFrom a b (xs ++ record { old = c; new = d; length = 1 } ∷ []) → a ≤ OFFSETS
     old a b [] rise = omega (arith, p, rise.1)
@@ -81,35 +86,49 @@ own_runs m i method readable is = of (slice_get m.methods i) refl is
     of None at is = absurd (cc)
     of (Some line) at is =
         let e : line.method ≡ method = cc in
-        let live : is_dropped m line.method ≡ false = (all_get (IsLineOf m) m.methods i line readable.methods at).4 in
-        (line, (at, e, subst (λ k. lined_runs (offsets_in m k) ≡ line.runs) e
-        (ap (λ b. lined_runs (cond b gone (line_offsets (method_line m line.method)))) live
-        ∙ ap (λ o. lined_runs (line_offsets o)) (own_line m i line readable at))))
+        let live : is_dropped m line.method ≡ false = (all_get (IsLineOf m) m.methods i line readable.methods at).4 in (
+          line,
+          (
+            at,
+            e,
+            subst (λ k. lined_runs (offsets_in m k) ≡ line.runs) e
+                (ap (λ b. lined_runs (cond b gone (line_offsets (method_line m line.method)))) live
+                ∙ ap (λ o. lined_runs (line_offsets o)) (own_line m i line readable at)),
+          ),
+        )
 
 -- ---- the places
 
 places_more : (from : ℕ) (lines : List MethodLine) (line : MethodLine)
-    → places from (lines ++ line ∷ []) ≡ places from lines ++ record { method = line.method; start = from + length (flat_map long lines); end = from + length (flat_map long lines) + length (long line) } ∷ []
+    → places from (lines ++ line ∷ []) ≡ places from lines ++ record {
+      method = line.method;
+      start = from + length (flat_map long lines);
+      end =
+          from + length (flat_map long lines) + length (long line);
+    } ∷ []
 places_more from [] line = ap (λ n. record { method = line.method; start = n; end = n + length (long line) } ∷ []) (let e : from ≡ from + 0 = omega arith in e)
 places_more from (l ∷ ls) line =
     ap (λ x. record { method = l.method; start = from; end = from + length (long l) } ∷ x)
     (places_more (from + length (long l)) ls line
     ∙ ap (λ n. places (from + length (long l)) ls ++ record { method = line.method; start = n; end = n + length (long line) } ∷ [])
-    (let e : from + length (long l) + length (flat_map long ls) ≡ from + length (long l ++ flat_map long ls) = omega (arith, length-append (long l) (flat_map long ls)) in e))
+    (let e : from + length (long l) + length (flat_map long ls) ≡ from + length (long l ++ flat_map long ls) =
+    omega (arith, length-append (long l) (flat_map long ls)) in e))
 
 pub runs_next : (lines : List MethodLine) (i : ℕ) (line : MethodLine) (old new : List Run) → slice_get lines i ≡ Some line → old ≡ flat_map long (take i lines)
     → new ≡ old ++ long line → new ≡ flat_map long (take (i + 1) lines)
 runs_next lines i line old new is was are =
     are ∙ ap (λ l. l ++ long line) was
-    ∙ sym (ap (flat_map long) (take_more lines i line is) ∙ flat_join long (take i lines) (line ∷ []) ∙ ap (λ l. flat_map long (take i lines) ++ l) (append-nil (long line)))
+    ∙ sym (ap (flat_map long) (take_more lines i line is) ∙ flat_join long (take i lines) (line ∷ [])
+    ∙ ap (λ l. flat_map long (take i lines) ++ l) (append-nil (long line)))
 
 pub places_next : (lines : List MethodLine) (i : ℕ) (line : MethodLine) (old new : List Run) (kept : List JoinedLine) → slice_get lines i ≡ Some line
     → old ≡ flat_map long (take i lines) → new ≡ old ++ long line → kept ≡ places 0 (take i lines)
     → kept ++ record { method = line.method; start = length old; end = length new } ∷ [] ≡ places 0 (take (i + 1) lines)
 places_next lines i line old new kept is was are were =
-    let begins : length old ≡ 0 + length (flat_map long (take i lines)) = ap length was ∙ (let e : length (flat_map long (take i lines)) ≡ 0 + length (flat_map long (take i lines)) = omega arith in e) in
+    let begins : length old ≡ 0 + length (flat_map long (take i lines)) = ap length was
+    ∙ (let e : length (flat_map long (take i lines)) ≡ 0 + length (flat_map long (take i lines)) = omega arith in e) in
     let ends : length new ≡ 0 + length (flat_map long (take i lines)) + length (long line) =
-        (let a = ap length are in let b = length-append old (long line) in let d = ap length was in omega (arith, a, b, d)) in
+    (let a = ap length are in let b = length-append old (long line) in let d = ap length was in omega (arith, a, b, d)) in
     ap (λ l. l ++ record { method = line.method; start = length old; end = length new } ∷ []) were
     ∙ ap (λ n. places 0 (take i lines) ++ record { method = line.method; start = n; end = length new } ∷ []) begins
     ∙ ap (λ n. places 0 (take i lines) ++ record { method = line.method; start = 0 + length (flat_map long (take i lines)); end = n } ∷ []) ends
@@ -133,7 +152,8 @@ front_of [] [] zs = refl
 front_of [] (y ∷ ys) zs = ap (λ l. y ∷ l) (front_of [] ys zs)
 front_of (x ∷ xs) ys zs = front_of xs ys zs
 
-pub placed : (method : ℕ) (front : List Run) (lines : List MethodLine) (place : JoinedLine) → find (λ (j : JoinedLine). nat_eq j.method method) (places (length front) lines) ≡ Some place
+pub placed : (method : ℕ) (front : List Run) (lines : List MethodLine) (place : JoinedLine)
+    → find (λ (j : JoinedLine). nat_eq j.method method) (places (length front) lines) ≡ Some place
     → Placed method front lines place
 placed method front [] place is = absurd (cc)
 placed method front (l ∷ ls) place is = of (nat_eq l.method method) refl is (λ rest. placed method (front ++ long l) ls place
@@ -145,7 +165,8 @@ placed method front (l ∷ ls) place is = of (nat_eq l.method method) refl is (�
     of : (b : Bool) → nat_eq l.method method ≡ b
         → cond b (Some (record { method = l.method; start = length front; end = length front + length (long l) }))
         (find (λ (j : JoinedLine). nat_eq j.method method) (places (length front + length (long l)) ls)) ≡ Some place
-        → (find (λ (j : JoinedLine). nat_eq j.method method) (places (length front + length (long l)) ls) ≡ Some place → Placed method (front ++ long l) ls place)
+        → (find (λ (j : JoinedLine). nat_eq j.method method) (places (length front + length (long l)) ls) ≡ Some place
+        → Placed method (front ++ long l) ls place)
         → Placed method front (l ∷ ls) place
     of true hit is rest =
         let e : record { method = l.method; start = length front; end = length front + length (long l) } ≡ place = cc in
@@ -154,7 +175,8 @@ placed method front (l ∷ ls) place is = of (nat_eq l.method method) refl is (�
           found = ap (λ b. cond b (Some l) (find (λ (l : MethodLine). nat_eq l.method method) ls)) hit;
           within = omega (arith, length-append front (long l ++ flat_map long ls), length-append (long l) (flat_map long ls));
           order = omega arith;
-          runs = ap (λ n. take n (drop (length front) (front ++ (long l ++ flat_map long ls)))) (let n : length front + length (long l) - length front ≡ length (long l) = omega arith in n)
+          runs = ap (λ n. take n (drop (length front) (front ++ (long l ++ flat_map long ls))))
+              (let n : length front + length (long l) - length front ≡ length (long l) = omega arith in n)
               ∙ front_of front (long l) (flat_map long ls);
         })
     of false miss is rest =
@@ -174,7 +196,8 @@ not_placed method from (l ∷ ls) is = of (nat_eq l.method method) is (not_place
   where
     of : (b : Bool) → cond b (Some (record { method = l.method; start = from; end = from + length (long l) }))
         (find (λ (j : JoinedLine). nat_eq j.method method) (places (from + length (long l)) ls)) ≡ None
-        → (find (λ (j : JoinedLine). nat_eq j.method method) (places (from + length (long l)) ls) ≡ None → find (λ (l : MethodLine). nat_eq l.method method) ls ≡ None)
+        → (find (λ (j : JoinedLine). nat_eq j.method method) (places (from + length (long l)) ls) ≡ None
+        → find (λ (l : MethodLine). nat_eq l.method method) ls ≡ None)
         → cond b (Some l) (find (λ (l : MethodLine). nat_eq l.method method) ls) ≡ None
     of true is rest = absurd (cc)
     of false is rest = rest is
@@ -215,4 +238,5 @@ range_lent joined m k place r are is got = of r got
 
     of : (r : Option (Bor (List Run))) → IsGetRangeResult joined.runs.items place.start place.end r → option_copied r ≡ option_map long (method_line m k)
     of None got = elim got.0 [ inl before ↦ absurd (let h = at.order in omega (arith, before, h)) | inr past ↦ absurd (omega (arith, past, inside)) ]
-    of (Some b) got = ap Some (got.0.2 ∙ ap (λ xs. take (place.end - place.start) (drop place.start xs)) are.runs ∙ at.runs) ∙ sym (ap (option_map long) at.found)
+    of (Some b) got = ap Some (got.0.2 ∙ ap (λ xs. take (place.end - place.start) (drop place.start xs)) are.runs ∙ at.runs)
+        ∙ sym (ap (option_map long) at.found)

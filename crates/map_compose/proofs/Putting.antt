@@ -1,5 +1,6 @@
 -- What is put one after the other is put as one text, and texts of lines.
-use Rattle.std.proofs.Common.{ℕ, zero, suc, ◌≡◌, ◌+◌, ◌<◌, ◌≤◌, ◌++◌, Bool, true, false, cond, List, [], ◌∷◌, length, map, take, drop, refl, sym, ap, ◌∙◌, arith, add-one, subst, Option, Some, None, Result, Ok, Err, OnOk}
+use Rattle.std.proofs.Common.{ℕ, zero, suc, ◌≡◌, ◌+◌, ◌<◌, ◌≤◌, ◌++◌, Bool, true, false, cond, List, [], ◌∷◌, length, map, take, refl, sym, ap, ◌∙◌, arith}
+use Rattle.std.proofs.Common.{add-one, subst, Some, None, Result, Ok, Err, OnOk}
 use Rattle.std.specs.List.{flat_map, range_with_len, slice_get}
 use Rattle.std.specs.Prelude.{slice_index_or}
 use Rattle.std.proofs.lemmas.List.{append_assoc, append-nil, length-append}
@@ -87,7 +88,8 @@ map_next says old mid new xs i d less h k =
     (sym (ap (map says) (take_at xs i d less) ∙ map_join says (take i xs) (slice_index_or xs i d ∷ [])))
     (says_then old mid new (map says (take i xs)) (says (slice_index_or xs i d) ∷ []) h (says_one mid new (says (slice_index_or xs i d)) k))
 
-pub map_done : {X : Type 0} (says : X → Line) (old new : Counted) (xs : List X) (i : ℕ) → length xs ≤ i → PutsLines old new (map says (take i xs)) → PutsLines old new (map says xs)
+pub map_done : {X : Type 0} (says : X → Line) (old new : Counted) (xs : List X) (i : ℕ) → length xs ≤ i → PutsLines old new (map says (take i xs))
+    → PutsLines old new (map says xs)
 map_done says old new xs i le h = says_same old new _ _ (ap (map says) (take_over xs i le)) h
 
 -- ---- results
@@ -133,7 +135,8 @@ pub record PutSome (old new : Counted) (all rest : List Line) : Type 0 where
 pub some_none : (text : Counted) (all : List Line) → PutSome text text all all
 some_none text all = record { done = []; are = refl; puts = says_none text }
 
-pub some_next : (old mid new : Counted) (all rest next says : List Line) → rest ≡ says ++ next → PutSome old mid all rest → PutsLines mid new says → PutSome old new all next
+pub some_next : (old mid new : Counted) (all rest next says : List Line) → rest ≡ says ++ next → PutSome old mid all rest → PutsLines mid new says
+    → PutSome old new all next
 some_next old mid new all rest next says is h put = record {
   done = h.done ++ says;
   are = h.are ∙ ap (λ l. h.done ++ l) is ∙ sym (append_assoc h.done says next);

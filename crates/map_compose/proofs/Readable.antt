@@ -1,5 +1,6 @@
 -- The map of two readable maps whose sizes agree is readable.
-use Rattle.std.proofs.Common.{◌≡◌, ℕ, ◌+◌, ◌<◌, ◌≤◌, ◌&&◌, ◌||◌, ◌++◌, Bool, true, false, cond, List, [], ◌∷◌, Option, Some, None, refl, sym, ◌∙◌, ap, arith, inl, inr, map, subst, zero, suc}
+use Rattle.std.proofs.Common.{◌≡◌, ℕ, ◌+◌, ◌<◌, ◌≤◌, ◌&&◌, ◌||◌, ◌++◌, Bool, true, false, cond, List, [], ◌∷◌, Option, Some, None, refl, sym, ◌∙◌, ap, arith}
+use Rattle.std.proofs.Common.{inl, inr, map, subst, zero, suc}
 use Rattle.std.specs.Prelude.{nat_eq, nat_lt, is_some, min, max}
 use Rattle.std.specs.List.{filter, filter_map, flat_map, find, range_with_len, cons_option, AllByRecursion}
 use Rattle.std.specs.Option.{option_map, option_and_then, option_or}
@@ -10,17 +11,21 @@ use Rattle.ppdb_maps.specs.declared.entries.Count.{Count}
 use Rattle.ppdb_maps.specs.declared.entries.RowImage.{RowImage}
 use Rattle.ppdb_maps.specs.declared.entries.SlotImage.{SlotImage}
 use Rattle.ppdb_maps.specs.Forms.{ROWS, OFFSETS, SLOTS}
-use Rattle.ppdb_maps.specs.Map.{Map, MethodLine, Ascends, count_of, row_line, row_image, method_line, is_dropped, has_slots, slot_line, slot_image, offsets_in, line_offsets, rows_of, slots_of}
+use Rattle.ppdb_maps.specs.Map.{Map, MethodLine, Ascends, count_of, row_line, row_image, method_line, is_dropped, has_slots, slot_line, slot_image}
+use Rattle.ppdb_maps.specs.Map.{offsets_in, line_offsets, rows_of, slots_of}
 use Rattle.ppdb_maps.specs.Readable.{IsReadable, IsRow, IsCount, IsRowOf, IsLineOf, IsSlottedOf, IsSlotOf}
 use Rattle.map_compose.specs.Runs.{meet, met, longest}
 use Rattle.map_compose.specs.Ascending.{put_once, ascending}
-use Rattle.map_compose.specs.Composed.{tables, composed_count, count_entry, composed_row, sources, row_entry, row_entries, spoken_of, of_image, drops_one, has_image, second_line, composed_runs, sized, composed_line, has_slot_lines, composed_slot, slot_sources, slot_entry, slot_entries, slotted_methods, composed}
+use Rattle.map_compose.specs.Composed.{tables, composed_count, count_entry, composed_row, sources, row_entry, row_entries, spoken_of, of_image, drops_one}
+use Rattle.map_compose.specs.Composed.{has_image, second_line, composed_runs, sized, composed_line, has_slot_lines, composed_slot, slot_sources, slot_entry}
+use Rattle.map_compose.specs.Composed.{slot_entries, slotted_methods, composed}
 use Rattle.map_compose.specs.Composition.{ComposedIsReadable}
 use Rattle.map_compose.specs.Sizes.{SizesAgree}
 use Rattle.map_compose.proofs.Found.{either, has}
 use Rattle.map_compose.proofs.Orders.{Up, ascending_up, range_up, made_up, filter_up, flat_pairs, key_up}
 use Rattle.map_compose.proofs.Rising.{run_same, met_rises, longest_rises}
-use Rattle.map_compose.proofs.Equations.{composed_composes, counts_are, tables_known, line_named, count_named, entries_named, row_named, slots_named, slot_named, olds, numbers, came_by, live_image}
+use Rattle.map_compose.proofs.Equations.{composed_composes, counts_are, tables_known, line_named, count_named, entries_named, row_named, slots_named}
+use Rattle.map_compose.proofs.Equations.{slot_named, olds, numbers, came_by, live_image}
 
 -- ---- each item of a list
 
@@ -50,7 +55,8 @@ flat_hold : {X : Type 0} (Q : ℕ → Type 0) (P : X → Type 0) (make : ℕ →
 flat_hold Q P make holds [] all = tt
 flat_hold Q P make holds (n ∷ ns) all = both_hold P (make n) (flat_map make ns) (holds n all.0) (flat_hold Q P make holds ns all.1)
 
-map_hold : {A X : Type 0} (Q : A → Type 0) (P : X → Type 0) (g : A → X) → ((a : A) → Q a → P (g a)) → (xs : List A) → AllByRecursion Q xs → AllByRecursion P (map g xs)
+map_hold : {A X : Type 0} (Q : A → Type 0) (P : X → Type 0) (g : A → X) → ((a : A) → Q a → P (g a)) → (xs : List A) → AllByRecursion Q xs
+    → AllByRecursion P (map g xs)
 map_hold Q P g holds [] all = tt
 map_hold Q P g holds (a ∷ xs) all = (holds a all.0, map_hold Q P g holds xs all.1)
 
@@ -111,14 +117,17 @@ module _ (m : Map) (readable : IsReadable m) where
     where
       of : (o : Option Count) → find (λ (c : Count). nat_eq c.table table) m.counts ≡ o → option_map (λ (c : Count). c.rows) o ≡ Some rows → rows ≤ ROWS
       of None at is = absurd (cc)
-      of (Some c) at is = let e : c.rows ≡ rows = cc in subst (λ n. n ≤ ROWS) e (found_holds IsCount (λ (c : Count). nat_eq c.table table) m.counts c readable.counts at).1
+      of (Some c) at is = let e : c.rows ≡ rows = cc in subst (λ n. n ≤ ROWS) e
+          (found_holds IsCount (λ (c : Count). nat_eq c.table table) m.counts c readable.counts at).1
 
   lined_row : (table old new : ℕ) → row_line m table old ≡ Some new → IsRow new
   lined_row table old new is = of (find (λ (r : RowImage). nat_eq r.table table && nat_eq r.old old) m.rows) refl is
     where
-      of : (o : Option RowImage) → find (λ (r : RowImage). nat_eq r.table table && nat_eq r.old old) m.rows ≡ o → option_map (λ (r : RowImage). r.new) o ≡ Some new → IsRow new
+      of : (o : Option RowImage) → find (λ (r : RowImage). nat_eq r.table table && nat_eq r.old old) m.rows ≡ o
+          → option_map (λ (r : RowImage). r.new) o ≡ Some new → IsRow new
       of None at is = absurd (cc)
-      of (Some r) at is = let e : r.new ≡ new = cc in subst IsRow e (found_holds (IsRowOf m) (λ (r : RowImage). nat_eq r.table table && nat_eq r.old old) m.rows r readable.rows at).1
+      of (Some r) at is = let e : r.new ≡ new = cc in subst IsRow e
+          (found_holds (IsRowOf m) (λ (r : RowImage). nat_eq r.table table && nat_eq r.old old) m.rows r readable.rows at).1
 
   -- the image of a row is one
   image_row : (table old new : ℕ) → IsRow old → row_image m table old ≡ Some new → IsRow new
@@ -132,9 +141,11 @@ module _ (m : Map) (readable : IsReadable m) where
   lined_slot : (method old new : ℕ) → slot_line m method old ≡ Some new → new ≤ SLOTS
   lined_slot method old new is = of (find (λ (x : SlotImage). nat_eq x.method method && nat_eq x.old old) m.slots) refl is
     where
-      of : (o : Option SlotImage) → find (λ (x : SlotImage). nat_eq x.method method && nat_eq x.old old) m.slots ≡ o → option_map (λ (x : SlotImage). x.new) o ≡ Some new → new ≤ SLOTS
+      of : (o : Option SlotImage) → find (λ (x : SlotImage). nat_eq x.method method && nat_eq x.old old) m.slots ≡ o
+          → option_map (λ (x : SlotImage). x.new) o ≡ Some new → new ≤ SLOTS
       of None at is = absurd (cc)
-      of (Some x) at is = let e : x.new ≡ new = cc in subst (λ n. n ≤ SLOTS) e (found_holds (IsSlotOf m) (λ (x : SlotImage). nat_eq x.method method && nat_eq x.old old) m.slots x readable.slots at).1
+      of (Some x) at is = let e : x.new ≡ new = cc in subst (λ n. n ≤ SLOTS) e
+          (found_holds (IsSlotOf m) (λ (x : SlotImage). nat_eq x.method method && nat_eq x.old old) m.slots x readable.slots at).1
 
   image_slot : (method old new : ℕ) → old ≤ SLOTS → slot_image m method old ≡ Some new → new ≤ SLOTS
   image_slot method old new slot is = of (has_slots m method) is
@@ -171,7 +182,8 @@ module _ (m : Map) (readable : IsReadable m) where
 -- ---- all offsets
 
 -- met with all offsets, runs stay
-pub met_all : (a b c d : ℕ) (rs : List Run) → d ≤ 4294967296 → RiseFrom a b (rs ++ record { old = c; new = d; length = 1 } ∷ []) → met rs (all_offsets ∷ []) ≡ rs
+pub met_all : (a b c d : ℕ) (rs : List Run) → d ≤ 4294967296 → RiseFrom a b (rs ++ record { old = c; new = d; length = 1 } ∷ [])
+    → met rs (all_offsets ∷ []) ≡ rs
 met_all a b c d [] small rise = refl
 met_all a b c d (r ∷ rs) small rise =
     let within : new_end_of r ≤ 4294967296 = omega (arith, small, ends (end_of r) (new_end_of r) rs rise.3) in
@@ -183,7 +195,8 @@ met_all a b c d (r ∷ rs) small rise =
     ends a b [] rise = rise.2
     ends a b (x ∷ xs) rise = omega (arith, rise.2, ends (end_of x) (new_end_of x) xs rise.3)
 
-pub all_met : (a b c d : ℕ) (qs : List Run) → c ≤ 4294967296 → RiseFrom a b (qs ++ record { old = c; new = d; length = 1 } ∷ []) → met (all_offsets ∷ []) qs ≡ qs
+pub all_met : (a b c d : ℕ) (qs : List Run) → c ≤ 4294967296 → RiseFrom a b (qs ++ record { old = c; new = d; length = 1 } ∷ [])
+    → met (all_offsets ∷ []) qs ≡ qs
 all_met a b c d qs small rise = nil (filter_map (meet all_offsets) qs) ∙ stay a b qs rise
   where
     nil : (l : List Run) → l ++ [] ≡ l
@@ -215,7 +228,8 @@ module _ (f s : Map) (f_readable : IsReadable f) (s_readable : IsReadable s) whe
 
   -- ---- rows
 
-  pub source_rows : (table : ℕ) → AllByRecursion (λ (r : RowImage). IsRow r.old × (is_some (composed_count f s table) ≡ true)) (sources (count_of f table) (count_of s table) f s table)
+  pub source_rows : (table : ℕ) → AllByRecursion (λ (r : RowImage). IsRow r.old × (is_some (composed_count f s table) ≡ true))
+      (sources (count_of f table) (count_of s table) f s table)
   source_rows table = of (count_of f table) (count_of s table) refl refl
     where
       of : (a b : Option ℕ) → count_of f table ≡ a → count_of s table ≡ b
@@ -257,10 +271,12 @@ module _ (f s : Map) (f_readable : IsReadable f) (s_readable : IsReadable s) whe
       of None at is = absurd (cc)
       of (Some mid) at is = image_row s s_readable table mid new (image_row f f_readable table old mid row at) is
 
-  entry_fits : (table : ℕ) (line row : RowImage) → IsRow line.old × (is_some (composed_count f s table) ≡ true) → row_entry f s table line ≡ Some row → IsRowOf (composed f s) row
+  entry_fits : (table : ℕ) (line row : RowImage) → IsRow line.old × (is_some (composed_count f s table) ≡ true) → row_entry f s table line ≡ Some row
+      → IsRowOf (composed f s) row
   entry_fits table line row held is = of (composed_row f s table line.old) refl is
     where
-      of : (o : Option ℕ) → composed_row f s table line.old ≡ o → option_map (λ new. record { table = table; old = line.old; new = new }) o ≡ Some row → IsRowOf (composed f s) row
+      of : (o : Option ℕ) → composed_row f s table line.old ≡ o → option_map (λ new. record { table = table; old = line.old; new = new }) o ≡ Some row
+          → IsRowOf (composed f s) row
       of None at is = absurd (cc)
       of (Some new) at is =
           let e : record { table = table; old = line.old; new = new } ≡ row = cc in
@@ -286,7 +302,8 @@ module _ (f s : Map) (f_readable : IsReadable f) (s_readable : IsReadable s) whe
       fits : (rows : ℕ) → rows ≤ ROWS → (o : Count) → record { table = table; rows = rows } ≡ o → IsCount o
       fits rows le o e = subst IsCount e (omega (arith, small 0x2d 0 there), le)
 
-      of : (b a : Option ℕ) → count_of s table ≡ b → count_of f table ≡ a → option_map (λ rows. record { table = table; rows = rows }) (option_or b a) ≡ Some count → IsCount count
+      of : (b a : Option ℕ) → count_of s table ≡ b → count_of f table ≡ a
+          → option_map (λ rows. record { table = table; rows = rows }) (option_or b a) ≡ Some count → IsCount count
       of None None is also h = absurd (cc)
       of None (Some n) is also h = fits n (counted f f_readable table n also) count (cc)
       of (Some n) a is also h = fits n (counted s s_readable table n is) count (cc)
@@ -311,10 +328,12 @@ module _ (f s : Map) (f_readable : IsReadable f) (s_readable : IsReadable s) whe
           by None is there = absurd (false≢true there)
           by (Some image) is there = ap (λ b. cond b gone (line_offsets (method_line f k))) (came_by f k image is).live ∙ ap line_offsets at
 
-      second_runs : has_image f s k ≡ true → (o : Option MethodLine) → second_line f s k ≡ o → of_image every (offsets_in s) (row_image f 0x06 k) ≡ line_offsets o
+      second_runs : has_image f s k ≡ true → (o : Option MethodLine) → second_line f s k ≡ o
+          → of_image every (offsets_in s) (row_image f 0x06 k) ≡ line_offsets o
       second_runs there o at = by (row_image f 0x06 k) there at
         where
-          by : (i : Option ℕ) → is_some (option_and_then (row_image s 0x06) i) ≡ true → of_image None (method_line s) i ≡ o → of_image every (offsets_in s) i ≡ line_offsets o
+          by : (i : Option ℕ) → is_some (option_and_then (row_image s 0x06) i) ≡ true → of_image None (method_line s) i ≡ o
+              → of_image every (offsets_in s) i ≡ line_offsets o
           by None there at = absurd (false≢true there)
           by (Some image) there at = ap (λ b. cond b gone (line_offsets (method_line s image))) (live_image s image there) ∙ ap line_offsets at
 
@@ -328,7 +347,8 @@ module _ (f s : Map) (f_readable : IsReadable f) (s_readable : IsReadable s) whe
           → IsLineOf (composed f s) (record { method = k; old_size = old; new_size = new; runs = composed_runs f s k })
       rises there old new runs p q e rise = (row, p, q, subst (λ rs. Rise (lined rs old new)) (sym e) rise, stays k there)
 
-      by : has_image f s k ≡ true → (a b : Option MethodLine) → method_line f k ≡ a → second_line f s k ≡ b → sized k (composed_runs f s k) a b ≡ Some line → IsLineOf (composed f s) line
+      by : has_image f s k ≡ true → (a b : Option MethodLine) → method_line f k ≡ a → second_line f s k ≡ b → sized k (composed_runs f s k) a b ≡ Some line
+          → IsLineOf (composed f s) line
       by there None None at also is = absurd (cc)
       by there (Some a) None at also is =
           let fits = line_fits f f_readable k a at in
@@ -350,14 +370,23 @@ module _ (f s : Map) (f_readable : IsReadable f) (s_readable : IsReadable s) whe
           let e : record { method = k; old_size = a.old_size; new_size = b.new_size; runs = composed_runs f s k } ≡ line = cc in
           let same : a.new_size ≡ b.old_size = elim (either a.new_size b.old_size) [
             | inl eq ↦ eq
-            | inr differ ↦ absurd (agree k a.new_size b.old_size (record { a = a; b = b; there = there; before = at; after = also; sizes = (refl, refl, differ) }))
+            | inr differ ↦ absurd (agree k a.new_size b.old_size (record {
+              a = a;
+              b = b;
+              there = there;
+              before = at;
+              after = also;
+              sizes =
+                  (refl, refl, differ);
+            }))
           ] in
           subst (IsLineOf (composed f s)) e
           (rises there a.old_size b.new_size (longest (met a.runs b.runs)) fits.1 also_fits.2
           (runs_are there (Some a) (Some b) at also)
           (met_rises a.runs b.runs a.old_size b.old_size b.new_size (subst (λ n. Rise (lined a.runs a.old_size n)) same fits.3) also_fits.3))
 
-      of : (b : Bool) → has_image f s k ≡ b → cond b (sized k (composed_runs f s k) (method_line f k) (second_line f s k)) None ≡ Some line → IsLineOf (composed f s) line
+      of : (b : Bool) → has_image f s k ≡ b → cond b (sized k (composed_runs f s k) (method_line f k) (second_line f s k)) None ≡ Some line
+          → IsLineOf (composed f s) line
       of false there is = absurd (cc)
       of true there is = by there (method_line f k) (second_line f s k) refl refl is
 
@@ -385,7 +414,8 @@ module _ (f s : Map) (f_readable : IsReadable f) (s_readable : IsReadable s) whe
       of false None = none
       of false (Some image) = slots_up s s_readable image
 
-  slot_holds : (k : ℕ) → has k (slotted_methods f s) ≡ true → (line x : SlotImage) → line.old ≤ SLOTS → slot_entry f s k line ≡ Some x → IsSlotOf (composed f s) x
+  slot_holds : (k : ℕ) → has k (slotted_methods f s) ≡ true → (line x : SlotImage) → line.old ≤ SLOTS → slot_entry f s k line ≡ Some x
+      → IsSlotOf (composed f s) x
   slot_holds k there line x small is = of (composed_slot f s k line.old) refl is
     where
       second : (o : Option ℕ) (mid new : ℕ) → mid ≤ SLOTS → of_image None (λ image. slot_image s image mid) o ≡ Some new → new ≤ SLOTS
@@ -397,7 +427,8 @@ module _ (f s : Map) (f_readable : IsReadable f) (s_readable : IsReadable s) whe
       first None new at is = absurd (cc)
       first (Some mid) new at is = second (row_image f 0x06 k) mid new (image_slot f f_readable k line.old mid small at) is
 
-      of : (o : Option ℕ) → composed_slot f s k line.old ≡ o → option_map (λ new. record { method = k; old = line.old; new = new }) o ≡ Some x → IsSlotOf (composed f s) x
+      of : (o : Option ℕ) → composed_slot f s k line.old ≡ o → option_map (λ new. record { method = k; old = line.old; new = new }) o ≡ Some x
+          → IsSlotOf (composed f s) x
       of None at is = absurd (cc)
       of (Some new) at is =
           let e : record { method = k; old = line.old; new = new } ≡ x = cc in
@@ -432,15 +463,18 @@ module _ (f s : Map) (f_readable : IsReadable f) (s_readable : IsReadable s) whe
     ascends = ascends;
     counts = made_hold (λ k. has k tables ≡ true) IsCount (count_entry f s) count_fits tables (all_there tables);
     rows = flat_hold (λ k. has k tables ≡ true) (IsRowOf (composed f s)) (row_entries f s)
-        (λ table there. made_hold (λ (r : RowImage). IsRow r.old × (is_some (composed_count f s table) ≡ true)) (IsRowOf (composed f s)) (row_entry f s table) (entry_fits table)
+        (λ table there. made_hold (λ (r : RowImage). IsRow r.old × (is_some (composed_count f s table) ≡ true)) (IsRowOf (composed f s))
+        (row_entry f s table) (entry_fits table)
         (sources (count_of f table) (count_of s table) f s table) (source_rows table)) tables (all_there tables);
     methods = made_hold IsRow (IsLineOf (composed f s)) (composed_line f s) (line_holds agree) (spoken_of f (numbers f) (numbers s))
         (spoken_rows (numbers f) (numbers s) (line_numbers f f_readable) (line_numbers s s_readable));
-    drops = filter_hold IsRow IsRow (drops_one f s) (λ k row is. row) (spoken_of f f.drops s.drops) (spoken_rows f.drops s.drops f_readable.drops s_readable.drops);
+    drops = filter_hold IsRow IsRow (drops_one f s) (λ k row is. row) (spoken_of f f.drops s.drops)
+        (spoken_rows f.drops s.drops f_readable.drops s_readable.drops);
     slotted = filter_hold IsRow (IsSlottedOf (composed f s)) (has_slot_lines f s) slotted_fit (spoken_of f f.slotted s.slotted)
         (spoken_rows f.slotted s.slotted (slotted_rows f f_readable) (slotted_rows s s_readable));
     slots = flat_hold (λ k. has k (slotted_methods f s) ≡ true) (IsSlotOf (composed f s)) (slot_entries f s)
-        (λ k there. made_hold (λ (x : SlotImage). x.old ≤ SLOTS) (IsSlotOf (composed f s)) (slot_entry f s k) (slot_holds k there) (slot_sources f s k) (slot_source_fits k))
+        (λ k there. made_hold (λ (x : SlotImage). x.old ≤ SLOTS) (IsSlotOf (composed f s)) (slot_entry f s k) (slot_holds k there) (slot_sources f s k)
+        (slot_source_fits k))
         (slotted_methods f s) (all_there (slotted_methods f s));
   }
 

@@ -83,7 +83,8 @@ one_rises r some c d m e (q ∷ qs) rise = elim (cases_lt (max r.new q.old) (min
       | inl inside ↦ rw (lt-ltb (new_end_of r) (end_of q) inside, none_met r (end_of q) (new_end_of q) qs (size_run m e ∷ []) rise.3 (omega (arith, inside)))
           (omega arith, omega (arith, less, inside), omega (arith, less, inside), tt)
       | inr past ↦ rw (le-ltb (new_end_of r) (end_of q) past)
-          (weaker _ _ (from r (end_of q)) (up e qs r.new) _ (omega (arith, less, past)) (omega (arith, less, past, up_from (end_of q) (new_end_of q) m e qs r.new rise.3))
+          (weaker _ _ (from r (end_of q)) (up e qs r.new) _ (omega (arith, less, past))
+          (omega (arith, less, past, up_from (end_of q) (new_end_of q) m e qs r.new rise.3))
           (one_rises r some (end_of q) (new_end_of q) m e qs rise.3))
     ],
   )
@@ -154,8 +155,11 @@ before_apart r (q ∷ qs) apart = step (goes_on r q) refl
         let old : end_of r ≡ q.old = eqb-true (end_of r) q.old ends.0 in
         let new : new_end_of r ≡ q.new = eqb-true (new_end_of r) q.new ends.1 in
         let long : r.old + (r.length + q.length) ≡ end_of q = omega (arith, old) in
-        let wide : r.new + (r.length + q.length) ≡ new_end_of q = omega (arith, new) in
-        (ap (λ e. nat_eq e n.old && nat_eq (r.new + (r.length + q.length)) n.new) long ∙ ap (λ e. nat_eq (end_of q) n.old && nat_eq e n.new) wide ∙ rest.0, rest.1)
+        let wide : r.new + (r.length + q.length) ≡ new_end_of q = omega (arith, new) in (
+          ap (λ e. nat_eq e n.old && nat_eq (r.new + (r.length + q.length)) n.new) long ∙ ap (λ e. nat_eq (end_of q) n.old && nat_eq e n.new) wide
+              ∙ rest.0,
+          rest.1,
+        )
 
     step : (t : Bool) → goes_on r q ≡ t → Apart (cond t (record r { length = r.length + q.length } ∷ qs) (r ∷ q ∷ qs))
     step false is = (is, apart)
@@ -190,7 +194,8 @@ not_shorter : (r : Run) (rs : List Run) (q : Run) (qs : List Run) → RiseFrom (
     → ((x z : ℕ) → Moves (q ∷ qs) x z → Moves (r ∷ rs) x z) → q.length ≤ r.length
 not_shorter r rs q qs rise apart old new back = elim (cases_lt r.length q.length) [
   | inr le ↦ le
-  | inl less ↦ absurd (of rs rise apart (beyond (back (end_of r) (new_end_of r) (inl (record { step = r.length; inside = less; old = omega (arith, old); new = omega (arith, new) })))))
+  | inl less ↦ absurd (of rs rise apart (beyond (back (end_of r) (new_end_of r)
+      (inl (record { step = r.length; inside = less; old = omega (arith, old); new = omega (arith, new) })))))
 ]
   where
     beyond : Moves (r ∷ rs) (end_of r) (new_end_of r) → Moves rs (end_of r) (new_end_of r)
@@ -220,8 +225,10 @@ one_longest a b (r ∷ rs) (q ∷ qs) rise also apart clear alike =
     let tails : rs ≡ qs = one_longest (end_of r) (new_end_of r) rs qs rise.3 (subst (λ p. RiseFrom (end_of p) (new_end_of p) qs) (sym same) also.3)
     (apart_tail r rs apart) (apart_tail q qs clear)
     (λ x z. (
-      λ m. tail_moves q qs x z (subst (λ p. (end_of p ≤ x) × (new_end_of p ≤ z)) same (moves_from (end_of r) (new_end_of r) rs rise.3 x z m)) ((alike x z).0 (inr m)),
-      λ m. tail_moves r rs x z (subst (λ p. (end_of p ≤ x) × (new_end_of p ≤ z)) (sym same) (moves_from (end_of q) (new_end_of q) qs also.3 x z m)) ((alike x z).1 (inr m)),
+      λ m. tail_moves q qs x z (subst (λ p. (end_of p ≤ x) × (new_end_of p ≤ z)) same (moves_from (end_of r) (new_end_of r) rs rise.3 x z m))
+          ((alike x z).0 (inr m)),
+      λ m. tail_moves r rs x z (subst (λ p. (end_of p ≤ x) × (new_end_of p ≤ z)) (sym same) (moves_from (end_of q) (new_end_of q) qs also.3 x z m))
+          ((alike x z).1 (inr m)),
     )) in
     ap (λ p. p ∷ rs) same ∙ ap (λ l. q ∷ l) tails
   where

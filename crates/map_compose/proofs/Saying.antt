@@ -1,31 +1,31 @@
 -- What the text of the map of two maps says, table by table and part by part.
-use Rattle.std.proofs.Common.{ℕ, zero, suc, ◌≡◌, ◌+◌, ◌<◌, ◌≤◌, ◌⊎◌, ◌++◌, ◌||◌, ◌&&◌, Bool, true, false, cond, List, [], ◌∷◌, length, map, refl, sym, ap, ◌∙◌, arith, subst, inl, inr, Option, Some, None}
+use Rattle.std.proofs.Common.{ℕ, ◌≡◌, ◌⊎◌, ◌++◌, ◌||◌, ◌&&◌, Bool, true, false, cond, List, [], ◌∷◌, map, refl, sym, ap, ◌∙◌, arith, subst, inl, inr, Option}
+use Rattle.std.proofs.Common.{Some, None}
 use Rattle.std.specs.Prelude.{nat_eq, is_some, codes}
-use Rattle.std.specs.List.{AllByRecursion, filter, filter_map, flat_map, find, cons_option}
+use Rattle.std.specs.List.{AllByRecursion, filter, filter_map, flat_map, cons_option}
 use Rattle.std.specs.List.Sorted.{IsStrictlySortedBy}
 use Rattle.std.specs.Option.{option_map, option_and_then}
-use Rattle.std.specs.Ordering.{nat_cmp}
-use Rattle.std.specs.declared.cmp.Ordering.TheVariants.{Less}
-use Rattle.std.proofs.lemmas.Bool.{eq-eqb, ne_eqb, eqb-true, false≢true, and_parts}
-use Rattle.std.proofs.lemmas.List.{append_assoc, append-nil}
+use Rattle.std.proofs.lemmas.Bool.{eq-eqb, ne_eqb, false≢true, and_parts}
+use Rattle.std.proofs.lemmas.List.{append-nil}
 use Rattle.ppdb_maps.specs.declared.entries.Count.{Count}
 use Rattle.ppdb_maps.specs.declared.entries.RowImage.{RowImage}
 use Rattle.ppdb_maps.specs.declared.entries.SlotImage.{SlotImage}
 use Rattle.ppdb_maps.specs.declared.line.Line.{Line}
 use Rattle.ppdb_maps.specs.declared.line.Line.TheVariants.{Rows, Dropped, Slots}
-use Rattle.ppdb_maps.specs.Map.{Map, MethodLine, method_line, count_of, is_dropped, row_image, row_line, rows_of, slots_of}
+use Rattle.ppdb_maps.specs.Map.{Map, MethodLine, method_line, count_of, is_dropped, row_image, rows_of}
 use Rattle.ppdb_maps.specs.Readable.{IsReadable, IsRow}
-use Rattle.map_text.specs.MapTexts.{map_says, count_says, slots_say, method_says, row_says, slot_says, map_text, ended, line_text}
+use Rattle.map_text.specs.MapTexts.{count_says, slots_say, method_says, row_says, slot_says, map_text, ended}
 use Rattle.map_compose.specs.declared.part.Part.{Part}
 use Rattle.map_compose.specs.declared.part.Part.TheVariants.{Drops, Slots as SlotLines, Methods}
-use Rattle.map_compose.specs.Composed.{tables, composed_count, count_entry, row_entries, composed_line, composed_runs, sized, second_line, composed_row, has_image, drops_one, of_image, has_slot_lines, slot_entries, slotted_methods, spoken_of, composed}
+use Rattle.map_compose.specs.Composed.{tables, composed_count, count_entry, row_entries, composed_line, composed_runs, sized, second_line, has_image}
+use Rattle.map_compose.specs.Composed.{drops_one, of_image, has_slot_lines, slot_entries, slotted_methods, spoken_of, composed}
 use Rattle.map_compose.specs.Parts.{part_numbers, other_numbers, all_numbers, part_says}
-use Rattle.map_compose.specs.Says.{lines_text, counted_says, table_says, rows_say, drop_of_both, slots_of_both, lined_says, line_of_both}
-use Rattle.map_compose.proofs.Equations.{olds, came_by, Came, CameBy, moved, stayed, entries_named, slots_named, spoken_has}
+use Rattle.map_compose.specs.Says.{lines_text, counted_says, table_says, drop_of_both, slots_of_both, lined_says, line_of_both}
+use Rattle.map_compose.proofs.Equations.{olds, came_by, Came, moved, stayed, entries_named, slots_named, spoken_has}
 use Rattle.map_compose.proofs.Found.{either, has, has_append, has_ascending, has_filter}
 use Rattle.map_compose.proofs.Merging.{one_up}
 use Rattle.map_compose.proofs.Orders.{Up, Above, less, ascending_up, filter_up, range_up}
-use Rattle.map_compose.proofs.Putting.{flat_join, map_join, lines_join}
+use Rattle.map_compose.proofs.Putting.{lines_join}
 use Rattle.map_compose.proofs.Readable.{rows_hold}
 
 -- ---- those of one key
@@ -38,7 +38,8 @@ module _ {X : Type 0} (key : X → ℕ) (make : ℕ → List X) (keyed : (k : �
   chosen_join k [] ys = refl
   chosen_join k (x ∷ xs) ys = of (nat_eq (key x) k) (chosen_join k xs ys)
     where
-      of : (b : Bool) → chosen k (xs ++ ys) ≡ chosen k xs ++ chosen k ys → cond b (x ∷ chosen k (xs ++ ys)) (chosen k (xs ++ ys)) ≡ cond b (x ∷ chosen k xs) (chosen k xs) ++ chosen k ys
+      of : (b : Bool) → chosen k (xs ++ ys) ≡ chosen k xs ++ chosen k ys
+          → cond b (x ∷ chosen k (xs ++ ys)) (chosen k (xs ++ ys)) ≡ cond b (x ∷ chosen k xs) (chosen k xs) ++ chosen k ys
       of true e = ap (λ l. x ∷ l) e
       of false e = e
 
@@ -111,7 +112,8 @@ flat_filter : (says : ℕ → List Line) (p : ℕ → Bool) → ((k : ℕ) → p
 flat_filter says p none [] = refl
 flat_filter says p none (n ∷ ns) = of (p n) refl (flat_filter says p none ns)
   where
-    of : (b : Bool) → p n ≡ b → flat_map says (filter p ns) ≡ flat_map says ns → flat_map says (cond b (n ∷ filter p ns) (filter p ns)) ≡ says n ++ flat_map says ns
+    of : (b : Bool) → p n ≡ b → flat_map says (filter p ns) ≡ flat_map says ns
+        → flat_map says (cond b (n ∷ filter p ns) (filter p ns)) ≡ says n ++ flat_map says ns
     of true is e = ap (λ l. says n ++ l) e
     of false is e = e ∙ ap (λ l. l ++ flat_map says ns) (sym (none n is))
 
@@ -191,7 +193,8 @@ image_old f s k n some there = of (row_image f 0x06 k) refl there
 drop_known : (f s : Map) (k n : ℕ) → count_of f 0x06 ≡ Some n → drops_one f s k ≡ true → (has k f.drops || has k (olds f)) ≡ true
 drop_known f s k n some drops = of (is_dropped f k) refl (row_image f 0x06 k) refl drops
   where
-    of : (b : Bool) → is_dropped f k ≡ b → (o : Option ℕ) → row_image f 0x06 k ≡ o → (b || of_image false (is_dropped s) o) ≡ true → (has k f.drops || has k (olds f)) ≡ true
+    of : (b : Bool) → is_dropped f k ≡ b → (o : Option ℕ) → row_image f 0x06 k ≡ o → (b || of_image false (is_dropped s) o) ≡ true
+        → (has k f.drops || has k (olds f)) ≡ true
     of true is o at drops = or_left (has k f.drops) (has k (olds f)) is
     of false is None at drops = absurd (false≢true drops)
     of false is (Some image) at drops = or_right (has k f.drops) (has k (olds f)) (moved_old f k image n some at)
@@ -200,18 +203,23 @@ drop_known f s k n some drops = of (is_dropped f k) refl (row_image f 0x06 k) re
 
 module _ (f s : Map) (f_readable : IsReadable f) (s_readable : IsReadable s) where
   tables_say : flat_map (count_says (composed f s)) (composed f s).counts ≡ flat_map (table_says f s) tables
-  tables_say = flat_made (count_says (composed f s)) (count_entry f s) (table_says f s) (λ k. has k tables ≡ true) (λ k there. of k there (composed_count f s k) refl) tables (within_itself tables)
+  tables_say = flat_made (count_says (composed f s)) (count_entry f s) (table_says f s) (λ k. has k tables ≡ true)
+      (λ k there. of k there (composed_count f s k) refl) tables (within_itself tables)
     where
       rows_are : (k : ℕ) → has k tables ≡ true → rows_of (composed f s) k ≡ row_entries f s k
       rows_are k there = chosen_flat (λ (r : RowImage). r.table) (row_entries f s) (entries_named f s) k tables (range_up 0 0x2d) there
 
       of : (k : ℕ) → has k tables ≡ true → (o : Option ℕ) → composed_count f s k ≡ o
-          → ((count_entry f s k ≡ None) × (table_says f s k ≡ [])) ⊎ ((x : Count) × ((count_entry f s k ≡ Some x) × (count_says (composed f s) x ≡ table_says f s k)))
+          → ((count_entry f s k ≡ None) × (table_says f s k ≡ [])) ⊎ ((x : Count)
+          × ((count_entry f s k ≡ Some x) × (count_says (composed f s) x ≡ table_says f s k)))
       of k there None is = inl (ap (option_map (λ rows. record { table = k; rows = rows })) is, ap (counted_says f s k) is)
-      of k there (Some n) is = inr (record { table = k; rows = n }, (
-        ap (option_map (λ rows. record { table = k; rows = rows })) is,
-        ap (λ rs. Rows k n ∷ map row_says rs) (rows_are k there) ∙ sym (ap (counted_says f s k) is),
-      ))
+      of k there (Some n) is = inr (
+        record { table = k; rows = n },
+        (
+          ap (option_map (λ rows. record { table = k; rows = rows })) is,
+          ap (λ rs. Rows k n ∷ map row_says rs) (rows_are k there) ∙ sym (ap (counted_says f s k) is),
+        ),
+      )
 
   drops_say : map (λ k. Dropped k) (composed f s).drops ≡ flat_map (part_says Drops f s) (all_numbers Drops f s)
   drops_say =
@@ -222,29 +230,35 @@ module _ (f s : Map) (f_readable : IsReadable f) (s_readable : IsReadable s) whe
       of (n ∷ ns) = by (drops_one f s n) (of ns)
         where
           by : (b : Bool) → map (λ k. Dropped k) (filter (drops_one f s) ns) ≡ flat_map (drop_of_both f s) ns
-              → map (λ k. Dropped k) (cond b (n ∷ filter (drops_one f s) ns) (filter (drops_one f s) ns)) ≡ cond b (Dropped n ∷ []) [] ++ flat_map (drop_of_both f s) ns
+              → map (λ k. Dropped k) (cond b (n ∷ filter (drops_one f s) ns) (filter (drops_one f s) ns)) ≡ cond b (Dropped n ∷ []) []
+              ++ flat_map (drop_of_both f s) ns
           by true e = ap (λ l. Dropped n ∷ l) e
           by false e = e
 
   slots_told : flat_map (slots_say (composed f s)) (composed f s).slotted ≡ flat_map (part_says SlotLines f s) (all_numbers SlotLines f s)
   slots_told =
-      flat_same (slots_say (composed f s)) (slots_of_both f s) (λ k. has k (slotted_methods f s) ≡ true) each (slotted_methods f s) (within_itself (slotted_methods f s))
+      flat_same (slots_say (composed f s)) (slots_of_both f s) (λ k. has k (slotted_methods f s) ≡ true) each (slotted_methods f s)
+      (within_itself (slotted_methods f s))
       ∙ ap (flat_map (slots_of_both f s)) (part_same SlotLines f s (has_slot_lines f s) f_readable
       (λ k n some lines. or_right (has k f.slotted) (has k (olds f)) (image_old f s k n some (and_parts (has_image f s k) _ lines).0)))
-      ∙ flat_filter (slots_of_both f s) (has_slot_lines f s) (λ k is. ap (λ b. cond b (Slots k ∷ map slot_says (slot_entries f s k)) []) is) (all_numbers SlotLines f s)
+      ∙ flat_filter (slots_of_both f s) (has_slot_lines f s) (λ k is. ap (λ b. cond b (Slots k ∷ map slot_says (slot_entries f s k)) []) is)
+      (all_numbers SlotLines f s)
     where
       up : Up (slotted_methods f s)
       up = filter_up (has_slot_lines f s) (spoken_of f f.slotted s.slotted) (ascending_up (f.slotted ++ (olds f ++ s.slotted)))
 
       each : (k : ℕ) → has k (slotted_methods f s) ≡ true → slots_say (composed f s) k ≡ slots_of_both f s k
       each k there =
-          ap (λ xs. Slots k ∷ map slot_says xs) (chosen_flat (λ (x : SlotImage). x.method) (slot_entries f s) (slots_named f s) k (slotted_methods f s) up there)
+          ap (λ xs. Slots k ∷ map slot_says xs) (chosen_flat (λ (x : SlotImage). x.method) (slot_entries f s) (slots_named f s) k
+          (slotted_methods f s) up there)
           ∙ sym (ap (λ b. cond b (Slots k ∷ map slot_says (slot_entries f s k)) [])
-          (and_parts (has k (spoken_of f f.slotted s.slotted)) (has_slot_lines f s k) (sym (has_filter (has_slot_lines f s) k (spoken_of f f.slotted s.slotted)) ∙ there)).1)
+          (and_parts (has k (spoken_of f f.slotted s.slotted)) (has_slot_lines f s k)
+          (sym (has_filter (has_slot_lines f s) k (spoken_of f f.slotted s.slotted)) ∙ there)).1)
 
   lines_told : flat_map method_says (composed f s).methods ≡ flat_map (part_says Methods f s) (all_numbers Methods f s)
   lines_told =
-      flat_made method_says (composed_line f s) (line_of_both f s) (λ k. Unit {0}) (λ k u. of k (composed_line f s k) refl) (spoken_of f (part_numbers Methods f) (part_numbers Methods s))
+      flat_made method_says (composed_line f s) (line_of_both f s) (λ k. Unit {0}) (λ k u. of k (composed_line f s k) refl)
+      (spoken_of f (part_numbers Methods f) (part_numbers Methods s))
       (all_unit (spoken_of f (part_numbers Methods f) (part_numbers Methods s)))
       ∙ sym (flat_filter (line_of_both f s) (has_image f s) none_says (spoken_of f (part_numbers Methods f) (part_numbers Methods s)))
       ∙ ap (flat_map (line_of_both f s)) (part_same Methods f s (has_image f s) f_readable
@@ -259,20 +273,26 @@ module _ (f s : Map) (f_readable : IsReadable f) (s_readable : IsReadable s) whe
       all_unit (n ∷ ns) = (tt, all_unit ns)
 
       of : (k : ℕ) (o : Option MethodLine) → composed_line f s k ≡ o
-          → ((composed_line f s k ≡ None) × (line_of_both f s k ≡ [])) ⊎ ((x : MethodLine) × ((composed_line f s k ≡ Some x) × (method_says x ≡ line_of_both f s k)))
+          → ((composed_line f s k ≡ None) × (line_of_both f s k ≡ []))
+          ⊎ ((x : MethodLine) × ((composed_line f s k ≡ Some x) × (method_says x ≡ line_of_both f s k)))
       of k None is = inl (is, ap lined_says is)
       of k (Some x) is = inr (x, (is, sym (ap lined_says is)))
 
-  pub text_is : map_text (composed f s) ≡ ended (codes "ppdbmap 3") ++ (lines_text (flat_map (table_says f s) tables) ++ (lines_text (flat_map (part_says Drops f s) (all_numbers Drops f s))
-      ++ (lines_text (flat_map (part_says SlotLines f s) (all_numbers SlotLines f s)) ++ lines_text (flat_map (part_says Methods f s) (all_numbers Methods f s)))))
+  pub text_is : map_text (composed f s) ≡ ended (codes "ppdbmap 3")
+      ++ (lines_text (flat_map (table_says f s) tables) ++ (lines_text (flat_map (part_says Drops f s) (all_numbers Drops f s))
+      ++ (lines_text (flat_map (part_says SlotLines f s) (all_numbers SlotLines f s))
+      ++ lines_text (flat_map (part_says Methods f s) (all_numbers Methods f s)))))
   text_is =
       let slots = flat_map (part_says SlotLines f s) (all_numbers SlotLines f s) in
       let lines = flat_map (part_says Methods f s) (all_numbers Methods f s) in
       let drops = flat_map (part_says Drops f s) (all_numbers Drops f s) in
       ap (λ l. ended (codes "ppdbmap 3") ++ lines_text l)
-      (ap (λ l. l ++ (map (λ k. Dropped k) (composed f s).drops ++ (flat_map (slots_say (composed f s)) (composed f s).slotted ++ flat_map method_says (composed f s).methods))) tables_say
-      ∙ ap (λ l. flat_map (table_says f s) tables ++ (l ++ (flat_map (slots_say (composed f s)) (composed f s).slotted ++ flat_map method_says (composed f s).methods))) drops_say
+      (ap (λ l. l ++ (map (λ k. Dropped k) (composed f s).drops ++
+      (flat_map (slots_say (composed f s)) (composed f s).slotted ++ flat_map method_says (composed f s).methods))) tables_say
+      ∙ ap (λ l. flat_map (table_says f s) tables ++ (l ++ (flat_map (slots_say (composed f s)) (composed f s).slotted
+      ++ flat_map method_says (composed f s).methods))) drops_say
       ∙ ap (λ l. flat_map (table_says f s) tables ++ (drops ++ (l ++ flat_map method_says (composed f s).methods))) slots_told
       ∙ ap (λ l. flat_map (table_says f s) tables ++ (drops ++ (slots ++ l))) lines_told)
       ∙ ap (λ l. ended (codes "ppdbmap 3") ++ l) (lines_join (flat_map (table_says f s) tables) (drops ++ (slots ++ lines))
-      ∙ ap (λ l. lines_text (flat_map (table_says f s) tables) ++ l) (lines_join drops (slots ++ lines) ∙ ap (λ l. lines_text drops ++ l) (lines_join slots lines)))
+      ∙ ap (λ l. lines_text (flat_map (table_says f s) tables) ++ l) (lines_join drops (slots ++ lines)
+      ∙ ap (λ l. lines_text drops ++ l) (lines_join slots lines)))

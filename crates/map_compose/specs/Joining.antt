@@ -1,5 +1,5 @@
 -- What is put of runs of which each is held back until it is known that none goes on with it.
-use Rattle.std.specs.Prelude.{◌≡◌, ℕ, ◌+◌, ◌-◌, ◌<◌, ◌≤◌, ◌++◌, List, [], ◌∷◌, Option, Some, None, option_to_list, option_copied, map, take, drop, length}
+use Rattle.std.specs.Prelude.{◌≡◌, ℕ, ◌+◌, ◌<◌, ◌≤◌, ◌++◌, List, [], ◌∷◌, Option, Some, None, option_to_list, option_copied, map, length}
 use Rattle.std.specs.Borrow.{Bor}
 use Rattle.std.specs.List.{flat_map, AllByRecursion}
 use Rattle.std.specs.Option.{option_map}
@@ -57,7 +57,8 @@ pub record AreJoinedOf (joined : JoinedRuns) (m : Map) : Type 0 where
 
 -- those of one method, where it has a line
 abbrev pub LendsJoined : JoinedRuns → ℕ → Option (List Run) → Type 0
-LendsJoined joined method result = (m : Map) → IsReadable m → AreJoinedOf joined m → result ≡ option_map (λ (line : MethodLine). longest line.runs) (method_line m method)
+LendsJoined joined method result = (m : Map) → IsReadable m → AreJoinedOf joined m
+    → result ≡ option_map (λ (line : MethodLine). longest line.runs) (method_line m method)
 
 -- ---- the runs that a line keeps, and after it those of another
 

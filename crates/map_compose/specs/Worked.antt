@@ -100,5 +100,10 @@ pub record WorkedComposed : Type 0 where
       (codes "ppdbmap 3\nmethod 1 8 8\nrun 3 3 2\n")
   pub differs : SizesDiffer (record no_lines { methods = line 1 9 12 (run 0 0 1 ∷ run 5 6 4 ∷ []) ∷ [] })
       (record no_lines { methods = line 1 10 10 [] ∷ [] }) 1 12 10
-  pub differs_by_image : SizesDiffer (record no_lines { counts = count 6 2 ∷ []; rows = row 6 1 2 ∷ row 6 2 1 ∷ []; methods = line 1 5 6 [] ∷ line 2 5 7 [] ∷ [] })
+  pub differs_by_image : SizesDiffer (record no_lines {
+    counts = count 6 2 ∷ [];
+    rows = row 6 1 2 ∷ row 6 2 1 ∷ [];
+    methods =
+        line 1 5 6 [] ∷ line 2 5 7 [] ∷ [];
+  })
       (record no_lines { methods = line 1 8 8 [] ∷ line 2 9 9 [] ∷ [] }) 1 6 9

@@ -18,11 +18,7 @@ use ppdb_maps::MapText;
 use std::alloc::Global;
 
 /// The text of the map of two maps, counted on where it is too long.
-fn counted_map(
-    alloc: Global,
-    first: &MapText,
-    second: &MapText,
-) -> Result<Counted, Memory>
+fn counted_map(alloc: Global, first: &MapText, second: &MapText) -> Result<Counted, Memory>
     requires { SizesAgree first.now second.now }
     ensures { IfOk result (λ text. Counts text (map_text (composed first.now second.now))) }
 {
@@ -43,11 +39,7 @@ fn counted_map(
 /// # Errors
 ///
 /// The sizes of a method differ, the text is too long, or there was no memory left.
-pub fn compose_maps(
-    alloc: Global,
-    first: &MapText,
-    second: &MapText,
-) -> Result<Bytes, ComposeError>
+pub fn compose_maps(alloc: Global, first: &MapText, second: &MapText) -> Result<Bytes, ComposeError>
     ensures text { IfOk result (λ text. text ≡ map_text (composed first.now second.now)) }
     ensures read { IfOk result (λ text. IsMapOf text (composed first.now second.now)) }
     ensures agree { IfOk result (λ _. SizesAgree first.now second.now) }

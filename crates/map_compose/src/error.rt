@@ -15,7 +15,9 @@ pub enum ComposeError {
         second: u32,
     },
     /// The text would have so many bytes, and a map's text has at most 134217728.
-    TooLong { bytes: u64 },
+    TooLong {
+        bytes: u64,
+    },
     /// There was no memory left.
     Memory,
 }

@@ -61,11 +61,7 @@ pub fn put_held(held: Option<Run>, text: &mut Counted) -> Result<(), Memory>
 }
 
 /// Takes one more run, and puts the line of a run that is given up.
-pub fn put_joined(
-    held: &mut Option<Run>,
-    run: Run,
-    text: &mut Counted,
-) -> Result<(), Memory>
+pub fn put_joined(held: &mut Option<Run>, run: Run, text: &mut Counted) -> Result<(), Memory>
     requires { end_of run < 2 ^ 32 }
     ensures { OnOk result (Joins held.old held.new text.old text.new (run ∷ [])) }
 {

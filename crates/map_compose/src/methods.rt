@@ -17,10 +17,7 @@ use ppdb_base::Memory;
 use ppdb_maps::MapText;
 
 /// The old size of the first line and the new size of the second, or those of the only line.
-fn sizes_by_both(
-    first: Option<(u32, u32)>,
-    second: Option<(u32, u32)>,
-) -> Option<(u32, u32)>
+fn sizes_by_both(first: Option<(u32, u32)>, second: Option<(u32, u32)>) -> Option<(u32, u32)>
     ensures { result ≡ sizes_then first second }
 {
     match (first, second) {

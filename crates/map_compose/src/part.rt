@@ -49,12 +49,7 @@ impl Part {
     }
 
     /// The next method of both lists, each once.
-    pub fn next(
-        self,
-        first: &MapText,
-        second: &MapText,
-        passed: &mut Passed,
-    ) -> Option<u32>
+    pub fn next(self, first: &MapText, second: &MapText, passed: &mut Passed) -> Option<u32>
         ensures { MatchOption result (numbers_left self first.now second.now passed.old ≡ [])
             (λ method. numbers_left self first.now second.now passed.old ≡ method ∷ numbers_left self first.now second.now passed.new) }
     {

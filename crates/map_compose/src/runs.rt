@@ -95,11 +95,7 @@ fn put_met(
 }
 
 /// Puts the lines of the runs that both keep.
-fn put_both(
-    line: &MethodMap<'_>,
-    others: &[Run],
-    text: &mut Counted,
-) -> Result<(), Memory>
+fn put_both(line: &MethodMap<'_>, others: &[Run], text: &mut Counted) -> Result<(), Memory>
     requires line { AreRuns (lined_runs (offsets_of line.now.says)) }
     requires others { AreRuns others.now }
     ensures { OnOk result (PutsLines text.old text.new (map Kept (longest (met (lined_runs (offsets_of line.now.says)) others.now)))) }

@@ -37,7 +37,11 @@ pub fn first_differing(first: &MapText, second: &MapText) -> Option<Differing>
     let mut index = 0;
     'methods: while let Some(method) = first.method_line(index) {
         if let Some((first, second)) = difference(first, second, method) {
-            return Some(Differing { method, first, second });
+            return Some(Differing {
+                method,
+                first,
+                second,
+            });
         }
         index += 1;
     }

@@ -59,12 +59,7 @@ fn put_rows_of(
 }
 
 /// Puts the lines of a table, where it has any.
-fn put_table(
-    first: &MapText,
-    second: &MapText,
-    table: u8,
-    text: &mut Counted,
-) -> Result<(), Memory>
+fn put_table(first: &MapText, second: &MapText, table: u8, text: &mut Counted) -> Result<(), Memory>
     ensures { OnOk result (PutsLines text.old text.new (table_says first.now second.now table)) }
 {
     match second.rows(table).or(first.rows(table)) {
@@ -77,11 +72,7 @@ fn put_table(
 }
 
 /// Puts the lines of all tables.
-pub fn put_tables(
-    first: &MapText,
-    second: &MapText,
-    text: &mut Counted,
-) -> Result<(), Memory>
+pub fn put_tables(first: &MapText, second: &MapText, text: &mut Counted) -> Result<(), Memory>
     ensures { OnOk result (PutsLines text.old text.new (flat_map (table_says first.now second.now) tables)) }
 {
     'tables: for table in 0..0x2d {

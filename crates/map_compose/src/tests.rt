@@ -80,14 +80,19 @@ fn worked_maps_compose(rt: HostRuntime) -> Result<(), Fail> {
 
 #[test]
 fn sizes_differ(rt: HostRuntime) -> Result<(), Fail> {
-    let first = map_of(&rt, "ppdbmap 1/rows 06 2/row 06 1 2/row 06 2 1/method 1 5 6/method 2 5 7")?;
+    let first = map_of(
+        &rt,
+        "ppdbmap 1/rows 06 2/row 06 1 2/row 06 2 1/method 1 5 6/method 2 5 7",
+    )?;
     let second = map_of(&rt, "ppdbmap 1/method 1 8 8/method 2 9 9")?;
     match compose_maps(rt.alloc(), &first, &second) {
-        Err(ComposeError::SizesDiffer {
-            method,
-            first,
-            second,
-        }) => {
+        Err(
+            ComposeError::SizesDiffer {
+                method,
+                first,
+                second,
+            },
+        ) => {
             assert!(rt; method == 1 && first == 6 && second == 9);
             Ok(())
         }

@@ -1,11 +1,12 @@
 use Rattle.std.proofs.Common.{arith, ap, length}
 use Rattle.std.specs.List.{flat_map}
-use Rattle.map_compose.specs.Parts.{part_says, all_numbers, numbers_left}
+use Rattle.map_compose.specs.Parts.{part_says, all_numbers}
 use Rattle.map_compose.proofs.Putting.{some_none, some_next, some_all}
 use Rattle.map_compose.proofs.methods.put_part.Goals as goal
 
 pub methods-init : goal.methods-init
-methods-init c = some_none c.args.text.now (flat_map (part_says c.args.part c.args.first.now c.args.second.now) (all_numbers c.args.part c.args.first.now c.args.second.now))
+methods-init c = some_none c.args.text.now (flat_map (part_says c.args.part c.args.first.now c.args.second.now)
+    (all_numbers c.args.part c.args.first.now c.args.second.now))
 
 pub methods-preserved : goal.methods-preserved
 methods-preserved c = some_next _ _ _ _ _ _ (part_says c.args.part c.args.first.now c.args.second.now c.in-Some.method)

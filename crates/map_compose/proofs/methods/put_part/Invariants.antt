@@ -1,8 +1,6 @@
-use Rattle.std.proofs.Common.{◌≡◌, ◌++◌, List, length}
+use Rattle.std.proofs.Common.{length}
 use Rattle.std.specs.List.{flat_map}
-use Rattle.ppdb_maps.specs.declared.line.Line.{Line}
 use Rattle.map_compose.specs.Parts.{part_says, all_numbers, numbers_left}
-use Rattle.map_compose.specs.Says.{PutsLines}
 use Rattle.map_compose.proofs.Putting.{PutSome}
 use Rattle.map_compose.proofs.methods.put_part.Given as goal
 

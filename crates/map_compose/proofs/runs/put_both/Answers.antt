@@ -1,4 +1,4 @@
-use Rattle.std.proofs.Common.{arith, sym, length, ◌<◌, ◌≤◌}
+use Rattle.std.proofs.Common.{arith, sym, length, ◌<◌}
 use Rattle.ppdb_maps.specs.Says.{offsets_of, lined_runs}
 use Rattle.map_compose.specs.Runs.{met}
 use Rattle.map_compose.proofs.Gathering.{run_short, few_runs, met_next, met_past}
@@ -31,10 +31,12 @@ runs-preserved c =
     let inside : c.runs.index < length (lined_runs (offsets_of c.args.line.now.says)) = within _ c.runs.index c.in-Some.run' (sym c.in-Some.ensures) in
     record {
       within = omega arith;
-      joins = met_next _ _ _ _ _ _ (lined_runs (offsets_of c.args.line.now.says)) c.args.others.now c.runs.index c.in-Some.run' (sym c.in-Some.ensures) c.runs.invariant.joins c.in_ok-put_met.ensures;
+      joins = met_next _ _ _ _ _ _ (lined_runs (offsets_of c.args.line.now.says)) c.args.others.now c.runs.index c.in-Some.run'
+          (sym c.in-Some.ensures) c.runs.invariant.joins c.in_ok-put_met.ensures;
     }
 
 pub returns : goal.returns
 returns c = ok_then c.put_held.result
     (λ h. joins_all _ _ _ _ (met (lined_runs (offsets_of c.args.line.now.says)) c.args.others.now)
-    (met_past _ _ _ _ (lined_runs (offsets_of c.args.line.now.says)) c.args.others.now c.runs.index (sym c.in_default.ensures) c.runs.invariant.joins) h) c.put_held.ensures
+    (met_past _ _ _ _ (lined_runs (offsets_of c.args.line.now.says)) c.args.others.now c.runs.index
+    (sym c.in_default.ensures) c.runs.invariant.joins) h) c.put_held.ensures

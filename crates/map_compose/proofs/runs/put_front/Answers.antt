@@ -1,4 +1,4 @@
-use Rattle.std.proofs.Common.{arith, ap, take, length, ◌≡◌}
+use Rattle.std.proofs.Common.{arith, ap}
 use Rattle.std.specs.List.{filter_map}
 use Rattle.map_compose.specs.Runs.{meet}
 use Rattle.map_compose.proofs.Fronts.{stops_here, one_more, short_at}
@@ -17,7 +17,8 @@ others-preserved c = joins_same _ _ _ _ _ _ (one_more c.args.run c.args.others.n
     (joins_then _ _ _ _ _ _ _ _ c.others.invariant c.in_ok-put_meeting.ensures)
 
 pub returns-after-others : goal.returns-after-others
-returns-after-others c = joins_same _ _ _ _ _ _ (ap (filter_map (meet c.args.run)) (take_over c.args.others.now c.others.other-index (omega arith))) c.others.invariant
+returns-after-others c = joins_same _ _ _ _ _ _ (ap (filter_map (meet c.args.run))
+    (take_over c.args.others.now c.others.other-index (omega arith))) c.others.invariant
 
 pub returns-then-other-end : goal.returns-then-other-end
 returns-then-other-end c = joins_same _ _ _ _ _ _

@@ -26,10 +26,12 @@ slots-preserved c =
     let inside : c.slots.index < length (slot_sources c.args.first.now c.args.second.now c.args.method) = slot_within _ _ _ (sym c.in-Some.ensures) in
     record {
       within = omega arith;
-      puts = slots_next c.args.first.now c.args.second.now c.args.method (slot_sources c.args.first.now c.args.second.now c.args.method) c.slots.index c.in-Some.old _ _ _ (sym c.in-Some.ensures) c.slots.invariant.puts
+      puts = slots_next c.args.first.now c.args.second.now c.args.method
+          (slot_sources c.args.first.now c.args.second.now c.args.method) c.slots.index c.in-Some.old _ _ _ (sym c.in-Some.ensures) c.slots.invariant.puts
           (subst (λ o. PutsLines c.slots.text c.put_image.new.text (slot_image_says c.args.method c.in-Some.old o))
           (sym (slot_follows c.args.first.now c.args.second.now c.args.method c.args.image c.in-Some.old c.requires)) c.in_ok-put_image.ensures);
     }
 
 pub returns : goal.returns
-returns c = slots_done c.args.first.now c.args.second.now c.args.method (slot_sources c.args.first.now c.args.second.now c.args.method) c.slots.index _ _ (sym c.in_default.ensures) c.slots.invariant.puts
+returns c = slots_done c.args.first.now c.args.second.now c.args.method (slot_sources c.args.first.now c.args.second.now c.args.method) c.slots.index _ _
+    (sym c.in_default.ensures) c.slots.invariant.puts

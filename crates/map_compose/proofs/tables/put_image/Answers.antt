@@ -1,4 +1,4 @@
-use Rattle.std.proofs.Common.{sym, subst, ◌≡◌, Some, None}
+use Rattle.std.proofs.Common.{subst}
 use Rattle.ppdb_maps.specs.declared.line.Line.TheVariants.{Row}
 use Rattle.map_compose.specs.Says.{PutsLines, image_says}
 use Rattle.map_compose.proofs.Putting.{says_none, says_one, ok_then}

@@ -24,8 +24,11 @@ rows-preserved c =
     let inside : c.rows.index < length (sources_of c.args.first.now c.args.second.now c.args.table) = row_within _ _ _ (sym c.in-Some.ensures) in
     record {
       within = omega arith;
-      puts = rows_next c.args.first.now c.args.second.now c.args.table (sources_of c.args.first.now c.args.second.now c.args.table) c.rows.index c.in-Some.old _ _ _ (sym c.in-Some.ensures) c.rows.invariant.puts c.in_ok-put_image.ensures;
+      puts = rows_next c.args.first.now c.args.second.now c.args.table
+          (sources_of c.args.first.now c.args.second.now c.args.table) c.rows.index c.in-Some.old _ _ _
+          (sym c.in-Some.ensures) c.rows.invariant.puts c.in_ok-put_image.ensures;
     }
 
 pub returns : goal.returns
-returns c = rows_done c.args.first.now c.args.second.now c.args.table (sources_of c.args.first.now c.args.second.now c.args.table) c.rows.index _ _ (sym c.in_default.ensures) c.rows.invariant.puts
+returns c = rows_done c.args.first.now c.args.second.now c.args.table (sources_of c.args.first.now c.args.second.now c.args.table) c.rows.index _ _
+    (sym c.in_default.ensures) c.rows.invariant.puts

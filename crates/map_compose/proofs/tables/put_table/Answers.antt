@@ -1,1 +1,0 @@
-use Rattle.map_compose.proofs.tables.put_table.Goals as goal

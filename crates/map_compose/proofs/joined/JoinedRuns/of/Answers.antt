@@ -1,4 +1,4 @@
-use Rattle.std.proofs.Common.{arith, refl, sym, ap, ◌∙◌, ◌≡◌, ◌++◌, ◌∷◌, [], length, subst, ◌<◌, ◌≤◌, take}
+use Rattle.std.proofs.Common.{arith, sym, ap, ◌∙◌, ◌≡◌, ◌++◌, ◌∷◌, [], length, subst, ◌<◌}
 use Rattle.std.proofs.lemmas.List.{length-map}
 use Rattle.std.specs.List.{flat_map}
 use Rattle.ppdb_maps.specs.Map.{MethodLine}
@@ -31,7 +31,8 @@ lines-preserved c =
     let inside : c.lines.index < length c.args.map.now.methods = line_inside c.args.map.now.methods c.lines.index c.in-Some.method (sym c.in-Some.ensures) in
     let own = own_runs c.args.map.now c.lines.index c.in-Some.method c.keeps.ensures (sym c.in-Some.ensures) in
     let are : c.push_joined.new.runs.items ≡ c.lines.runs.items ++ long own.0 =
-        c.in_ok-push_joined.ensures ∙ ap (λ o. c.lines.runs.items ++ longest (lined_runs o)) c.method.ensures ∙ ap (λ rs. c.lines.runs.items ++ longest rs) own.1.2 in
+    c.in_ok-push_joined.ensures ∙ ap (λ o. c.lines.runs.items ++ longest (lined_runs o)) c.method.ensures
+    ∙ ap (λ rs. c.lines.runs.items ++ longest rs) own.1.2 in
     let start : c.len-start.result ≡ length c.lines.runs.items = omega arith in
     let end : c.len-end.result ≡ length c.push_joined.new.runs.items = omega arith in
     record {
@@ -40,7 +41,8 @@ lines-preserved c =
       lines = c.in_ok-push.ensures.items
           ∙ ap (λ n. c.lines.lines.items ++ record { method = c.in-Some.method; start = n; end = c.len-end.result } ∷ []) start
           ∙ ap (λ n. c.lines.lines.items ++ record { method = c.in-Some.method; start = length c.lines.runs.items; end = n } ∷ []) end
-          ∙ ap (λ k. c.lines.lines.items ++ record { method = k; start = length c.lines.runs.items; end = length c.push_joined.new.runs.items } ∷ []) (sym own.1.1)
+          ∙ ap (λ k. c.lines.lines.items ++ record { method = k; start = length c.lines.runs.items; end = length c.push_joined.new.runs.items } ∷ [])
+          (sym own.1.1)
           ∙ places_next c.args.map.now.methods c.lines.index own.0 c.lines.runs.items c.push_joined.new.runs.items c.lines.lines.items own.1.0
           c.lines.invariant.runs are c.lines.invariant.lines;
     }
