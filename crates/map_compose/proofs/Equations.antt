@@ -187,7 +187,7 @@ module _ (f s : Map) (m image : ℕ) (follows : Follows f s m image) where
       ∙ ap (of_image false (is_dropped s)) follows.first ∙ live_image s image follows.second
 
   -- by the lines of both
-  offsets_are : offsets_in (composed f s) m ≡ line_offsets (sized m (composed_runs f s m) (method_line f m) (method_line s image))
+  pub offsets_are : offsets_in (composed f s) m ≡ line_offsets (sized m (composed_runs f s m) (method_line f m) (method_line s image))
   offsets_are =
       ap (λ b. cond b gone (line_offsets (method_line (composed f s) m))) stays
       ∙ ap line_offsets (lines_are f s m ∙ ap (λ b. cond b (sized m (composed_runs f s m) (method_line f m) (second_line f s m)) None) there

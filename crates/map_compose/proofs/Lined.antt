@@ -63,13 +63,13 @@ longest_met rs qs old middle new rise also =
 -- ---- the line
 
 module _ (f s : Map) (m image : ℕ) (f_readable : IsReadable f) (s_readable : IsReadable s) (agree : SizesAgree f s) (follows : Follows f s m image) where
-  line_fits : (k : Map) (n : ℕ) (line : MethodLine) → IsReadable k → method_line k n ≡ Some line → IsLineOf k line
+  pub line_fits : (k : Map) (n : ℕ) (line : MethodLine) → IsReadable k → method_line k n ≡ Some line → IsLineOf k line
   line_fits k n line readable is = found_holds (IsLineOf k) (λ (l : MethodLine). nat_eq l.method n) k.methods line readable.methods is
 
   second_is : second_line f s m ≡ method_line s image
   second_is = ap (of_image None (method_line s)) follows.first
 
-  runs_by : (a b : Option MethodLine) → method_line f m ≡ a → method_line s image ≡ b
+  pub runs_by : (a b : Option MethodLine) → method_line f m ≡ a → method_line s image ≡ b
       → composed_runs f s m ≡ longest (met (kept_runs (line_offsets a)) (kept_runs (line_offsets b)))
   runs_by a b is also =
       runs_are f s m image follows

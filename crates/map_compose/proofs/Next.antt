@@ -1,20 +1,21 @@
 -- The next image of the next image.
-use Rattle.std.proofs.Common.{◌≡◌, ℕ, ◌<◌, ◌≤◌, ◌++◌, ◌≢◌, List, [], ◌∷◌, refl, sym, ◌∙◌, ap, arith, inl, inr, subst}
-use Rattle.std.proofs.lemmas.Bool.{cases_lt}
+use Rattle.std.proofs.Common.{◌≡◌, ℕ, ◌<◌, ◌≤◌, ◌++◌, ◌≢◌, ◌⊎◌, List, Option, Some, None, [], ◌∷◌, refl, sym, ◌∙◌, ap, arith, inl, inr, subst}
+use Rattle.std.proofs.lemmas.Bool.{cases_lt, lt-ltb}
 use Rattle.ppdb_base.specs.declared.offsets.Run.{Run}
-use Rattle.ppdb_base.specs.Offsets.{Offsets, gone, lined, Moves, Rise, RiseFrom, Kept, Stops, IsNextIn, stop_runs, moved, end_of, new_end_of}
+use Rattle.ppdb_base.specs.Offsets.{Offsets, every, gone, lined, Moves, Rise, RiseFrom, Kept, Stops, IsNextIn, stop_runs, old_size, moved, end_of, new_end_of}
 use Rattle.ppdb_base.proofs.Moved.{moves_left, moves_right, moved_is, moved_kept, has_next, kept_below}
 use Rattle.ppdb_base.proofs.Stops.{is_next, moves_rise, moves_same}
 use Rattle.map_compose.specs.Runs.{met, longest}
 use Rattle.map_compose.specs.Composition.{NextComposes, Follows}
-use Rattle.ppdb_maps.specs.Map.{Map, offsets_in}
+use Rattle.ppdb_maps.specs.Map.{Map, MethodLine, method_line, line_offsets, offsets_in}
 use Rattle.ppdb_maps.specs.Readable.{IsReadable}
-use Rattle.map_compose.specs.Composed.{composed}
+use Rattle.map_compose.specs.Composed.{composed, composed_runs, sized}
 use Rattle.map_compose.specs.Sizes.{SizesAgree}
 use Rattle.map_compose.proofs.Meeting.{runs_compose, moves_split}
-use Rattle.map_compose.proofs.Rising.{size_run, met_rises}
-use Rattle.map_compose.proofs.Equations.{composed_composes}
-use Rattle.map_compose.proofs.Readable.{composed_is_readable, offsets_rise}
+use Rattle.map_compose.proofs.Rising.{size_run, met_rises, longest_rises}
+use Rattle.map_compose.proofs.Equations.{composed_composes, offsets_are, first_offsets, second_are}
+use Rattle.map_compose.proofs.Lined.{line_fits, runs_by}
+use Rattle.map_compose.proofs.Readable.{composed_is_readable, offsets_rise, met_all, all_met}
 
 -- a stop of a line is a kept offset, or the old size
 data StopIs (runs : List Run) (old new x y : ℕ) : Type 0 where
@@ -142,9 +143,87 @@ next_kept f s method image x z f_readable s_readable agree follows both =
     ∙ sym (moved_kept (offsets_in (composed f s) method)
     (offsets_rise (composed f s) (composed_is_readable f s f_readable s_readable agree) method) x z both)
 
+-- ---- where one of the two has no line
+
+-- without a line each offset is its own next image
+every_stays : (x : ℕ) → x ≤ 4294967295 → moved every x ≡ x
+every_stays x le = rw (lt-ltb x 4294967296 (omega (arith, le))) (omega arith)
+
+-- the longest runs have the same stops
+longest_stops : (runs : List Run) (old new x y : ℕ) → Stops (lined runs old new) x y → Stops (lined (longest runs) old new) x y
+longest_stops runs old new x y s = of (stop_is runs old new x y s)
+  where
+    of : StopIs runs old new x y → Stops (lined (longest runs) old new) x y
+    of (kept m) = is_stop (longest runs) old new x y (kept (runs_compose.moves_longest runs x y m))
+    of (size a b) = is_stop (longest runs) old new x y (size a b)
+
+stops_longest : (runs : List Run) (old new x y : ℕ) → Stops (lined (longest runs) old new) x y → Stops (lined runs old new) x y
+stops_longest runs old new x y s = of (stop_is (longest runs) old new x y s)
+  where
+    of : StopIs (longest runs) old new x y → Stops (lined runs old new) x y
+    of (kept m) = is_stop runs old new x y (kept (runs_compose.longest_moves runs x y m))
+    of (size a b) = is_stop runs old new x y (size a b)
+
+longest_next : (runs : List Run) (old new x : ℕ) → Rise (lined runs old new) → x ≤ old → moved (lined runs old new) x ≡ moved (lined (longest runs) old new) x
+longest_next runs old new x rise le =
+    let one = has_next (lined runs old new) rise (live runs old new) x le in
+    let next : IsNextIn (stop_runs (lined runs old new)) x one.0 = is_next 0 0 (stop_runs (lined runs old new)) rise x one.0 one.1 in
+    moved_is (lined runs old new) rise x one.0 next
+    ∙ sym (moved_is (lined (longest runs) old new) (longest_rises 0 0 runs (size_run old new ∷ []) rise) x one.0 (record {
+      stop = next.stop;
+      stops = longest_stops runs old new next.stop one.0 next.stops;
+      after = next.after;
+      least = λ other image moves from. next.least other image (stops_longest runs old new other image moves) from;
+    }))
+
+-- the next image of an offset is within the new size
+next_within : (runs : List Run) (old new x : ℕ) → Rise (lined runs old new) → x ≤ old → moved (lined runs old new) x ≤ new
+next_within runs old new x rise le =
+    let one = has_next (lined runs old new) rise (live runs old new) x le in
+    let next : IsNextIn (stop_runs (lined runs old new)) x one.0 = is_next 0 0 (stop_runs (lined runs old new)) rise x one.0 one.1 in
+    let is = moved_is (lined runs old new) rise x one.0 next in
+    omega (arith, is, of (stop_is runs old new next.stop one.0 next.stops))
+  where
+    of : {w y : ℕ} → StopIs runs old new w y → y ≤ new
+    of {w} {y} (kept m) = omega (arith, kept_new_below runs old new rise w y m)
+    of (size a b) = omega (arith, b)
+
+module _ (f s : Map) (m image : ℕ) (f_readable : IsReadable f) (s_readable : IsReadable s) (agree : SizesAgree f s) (follows : Follows f s m image) where
+  abbrev both_line : Option MethodLine → Option MethodLine → Offsets
+  both_line a b = line_offsets (sized m (composed_runs f s m) a b)
+
+  by_lines : (a b : Option MethodLine) (x : ℕ) → method_line f m ≡ a → method_line s image ≡ b → (a ≡ None) ⊎ (b ≡ None) → x ≤ old_size (both_line a b)
+      → moved (line_offsets b) (moved (line_offsets a) x) ≡ moved (both_line a b) x
+  by_lines None None x is also one le = ap (moved every) (every_stays x le)
+  by_lines None (Some b) x is also one le =
+      let fits = line_fits f s m image f_readable s_readable agree follows s image b s_readable also in
+      let runs : composed_runs f s m ≡ longest b.runs =
+          runs_by f s m image f_readable s_readable agree follows None (Some b) is also
+          ∙ ap longest (all_met 0 0 b.old_size b.new_size b.runs (omega (arith, fits.1)) fits.3) in
+      ap (moved (lined b.runs b.old_size b.new_size)) (every_stays x (omega (arith, le, fits.1)))
+      ∙ longest_next b.runs b.old_size b.new_size x fits.3 le ∙ sym (ap (λ rs. moved (lined rs b.old_size b.new_size) x) runs)
+  by_lines (Some a) None x is also one le =
+      let fits = line_fits f s m image f_readable s_readable agree follows f m a f_readable is in
+      let runs : composed_runs f s m ≡ longest a.runs =
+          runs_by f s m image f_readable s_readable agree follows (Some a) None is also
+          ∙ ap longest (met_all 0 0 a.old_size a.new_size a.runs (omega (arith, fits.2)) fits.3) in
+      every_stays (moved (lined a.runs a.old_size a.new_size) x) (omega (arith, next_within a.runs a.old_size a.new_size x fits.3 le, fits.2))
+      ∙ longest_next a.runs a.old_size a.new_size x fits.3 le ∙ sym (ap (λ rs. moved (lined rs a.old_size a.new_size) x) runs)
+  by_lines (Some a) (Some b) x is also (inl one) le = absurd (cc)
+  by_lines (Some a) (Some b) x is also (inr one) le = absurd (cc)
+
+  next_alone : (x : ℕ) → (method_line f m ≡ None) ⊎ (method_line s image ≡ None) → x ≤ old_size (offsets_in (composed f s) m)
+      → moved (offsets_in s image) (moved (offsets_in f m) x) ≡ moved (offsets_in (composed f s) m) x
+  next_alone x one le =
+      ap (λ o. moved (offsets_in s image) (moved o x)) (first_offsets f s m image follows)
+      ∙ ap (λ o. moved o (moved (line_offsets (method_line f m)) x)) (second_are f s m image follows)
+      ∙ by_lines (method_line f m) (method_line s image) x refl refl one (subst (λ o. x ≤ old_size o) (offsets_are f s m image follows) le)
+      ∙ sym (ap (λ o. moved o x) (offsets_are f s m image follows))
+
 pub next_composes : NextComposes
 next_composes = record {
   tight = λ firsts seconds old middle new x rise also tight le.
       next_composed firsts seconds old middle new x rise also (met_rises firsts seconds old middle new rise also) tight le;
   kept = next_kept;
+  alone = λ f s m image x f_readable s_readable agree follows one le. next_alone f s m image f_readable s_readable agree follows x one le;
 }

@@ -1,9 +1,9 @@
 -- The equations by which a map is the composition of two, and when the map of two maps is readable.
-use Rattle.std.specs.Prelude.{◌≡◌, ℕ, ◌≤◌, ◌↔◌, true, List, Option, Some, None, is_some}
+use Rattle.std.specs.Prelude.{◌≡◌, ℕ, ◌≤◌, ◌↔◌, ◌⊎◌, true, List, Option, Some, None, is_some}
 use Rattle.std.specs.Option.{option_and_then}
 use Rattle.ppdb_base.specs.declared.offsets.Run.{Run}
-use Rattle.ppdb_base.specs.Offsets.{lined, Rise, Kept, kept_runs, moved}
-use Rattle.ppdb_maps.specs.Map.{Map, count_of, row_image, is_dropped, slot_image, offsets_in}
+use Rattle.ppdb_base.specs.Offsets.{lined, Rise, Kept, kept_runs, old_size, moved}
+use Rattle.ppdb_maps.specs.Map.{Map, count_of, row_image, is_dropped, method_line, slot_image, offsets_in}
 use Rattle.ppdb_maps.specs.Readable.{IsReadable}
 use Rattle.ppdb_maps.specs.Says.{sizes_of}
 use Rattle.map_compose.specs.Composed.{composed, composed_count, composed_row, drops_one}
@@ -49,4 +49,8 @@ pub record NextComposes : Type 0 where
   -- at each offset that both keep
   pub kept : (f s : Map) (method image x z : ℕ) → IsReadable f → IsReadable s → SizesAgree f s → Follows f s method image
       → Kept (offsets_in (composed f s) method) x z
+      → moved (offsets_in s image) (moved (offsets_in f method) x) ≡ moved (offsets_in (composed f s) method) x
+  -- where one of the two has no line: by it each offset is its own next image
+  pub alone : (f s : Map) (method image x : ℕ) → IsReadable f → IsReadable s → SizesAgree f s → Follows f s method image
+      → (method_line f method ≡ None) ⊎ (method_line s image ≡ None) → x ≤ old_size (offsets_in (composed f s) method)
       → moved (offsets_in s image) (moved (offsets_in f method) x) ≡ moved (offsets_in (composed f s) method) x
