@@ -143,7 +143,8 @@ module _ (m : Map) (readable : IsReadable m) where
       omega (arith, is.0.1),
       mapped (λ (x : SlotImage). IsSmall (slot_says x)) IsSmall slot_says (λ x small. small) (slots_of m method)
           (filter_hold (IsSlotOf m) (λ (x : SlotImage). IsSmall (slot_says x)) (λ x. nat_eq x.method method)
-          (λ x slot at. let e = eqb-true x.method method at in (omega (arith, e, is.0.1), omega (arith, slot.0), omega (arith, slot.1))) m.slots readable.slots),
+          (λ x slot at. let e = eqb-true x.method method at in (omega (arith, e, is.0.1), omega (arith, slot.0), omega (arith, slot.1)))
+          m.slots readable.slots),
     );
   }
 

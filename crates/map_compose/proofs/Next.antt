@@ -198,15 +198,15 @@ module _ (f s : Map) (m image : ℕ) (f_readable : IsReadable f) (s_readable : I
   by_lines None (Some b) x is also one le =
       let fits = line_fits f s m image f_readable s_readable agree follows s image b s_readable also in
       let runs : composed_runs f s m ≡ longest b.runs =
-          runs_by f s m image f_readable s_readable agree follows None (Some b) is also
-          ∙ ap longest (all_met 0 0 b.old_size b.new_size b.runs (omega (arith, fits.1)) fits.3) in
+      runs_by f s m image f_readable s_readable agree follows None (Some b) is also
+      ∙ ap longest (all_met 0 0 b.old_size b.new_size b.runs (omega (arith, fits.1)) fits.3) in
       ap (moved (lined b.runs b.old_size b.new_size)) (every_stays x (omega (arith, le, fits.1)))
       ∙ longest_next b.runs b.old_size b.new_size x fits.3 le ∙ sym (ap (λ rs. moved (lined rs b.old_size b.new_size) x) runs)
   by_lines (Some a) None x is also one le =
       let fits = line_fits f s m image f_readable s_readable agree follows f m a f_readable is in
       let runs : composed_runs f s m ≡ longest a.runs =
-          runs_by f s m image f_readable s_readable agree follows (Some a) None is also
-          ∙ ap longest (met_all 0 0 a.old_size a.new_size a.runs (omega (arith, fits.2)) fits.3) in
+      runs_by f s m image f_readable s_readable agree follows (Some a) None is also
+      ∙ ap longest (met_all 0 0 a.old_size a.new_size a.runs (omega (arith, fits.2)) fits.3) in
       every_stays (moved (lined a.runs a.old_size a.new_size) x) (omega (arith, next_within a.runs a.old_size a.new_size x fits.3 le, fits.2))
       ∙ longest_next a.runs a.old_size a.new_size x fits.3 le ∙ sym (ap (λ rs. moved (lined rs a.old_size a.new_size) x) runs)
   by_lines (Some a) (Some b) x is also (inl one) le = absurd (cc)

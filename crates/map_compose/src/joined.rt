@@ -1,8 +1,5 @@
 // The runs of each method of a map, in their longest form.
 ghost use Rattle.std.specs.Prelude.{◌≡◌, ◌++◌, IfOk, OnOk, slice_get, option_to_list, option_copied};
-ghost use Rattle.std.specs.List.{AllByRecursion};
-ghost use Rattle.ppdb_base.specs.declared.offsets.Run.{Run as TheRun};
-ghost use Rattle.ppdb_maps.specs.Map.{MethodLine, method_line};
 ghost use Rattle.ppdb_maps.specs.Says.{offsets_of, lined_runs};
 ghost use Rattle.map_compose.specs.Runs.{longest};
 ghost use Rattle.map_compose.specs.Joining.{AreRuns, AreJoinedOf, LendsJoined};
