@@ -1,0 +1,54 @@
+-- How many lines of a kind a readable map may have.
+use Rattle.std.proofs.Common.{ℕ, ◌≡◌, ◌+◌, ◌≤◌, ◌++◌, List, [], ◌∷◌, length, map, arith, true}
+use Rattle.std.specs.Prelude.{is_some}
+use Rattle.std.specs.List.{AllByRecursion}
+use Rattle.std.specs.List.Sorted.{IsStrictlySortedBy}
+use Rattle.std.proofs.lemmas.List.{length-map}
+use Rattle.ppdb_base.specs.declared.offsets.Run.{Run}
+use Rattle.ppdb_base.specs.Offsets.{RiseFrom, end_of, new_end_of}
+use Rattle.ppdb_maps.specs.declared.entries.RowImage.{RowImage}
+use Rattle.ppdb_maps.specs.declared.entries.SlotImage.{SlotImage}
+use Rattle.ppdb_maps.specs.Forms.{ROWS, SLOTS}
+use Rattle.ppdb_maps.specs.Map.{Map}
+use Rattle.ppdb_maps.specs.Readable.{IsReadable, IsRow}
+use Rattle.map_compose.specs.Composed.{composed_count, slot_sources}
+use Rattle.map_compose.specs.Says.{sources_of}
+use Rattle.map_compose.proofs.Orders.{Up, Above, less}
+use Rattle.map_compose.proofs.Readable.{source_rows, sources_up, slot_source_fits, slot_sources_up}
+
+above_few : (n most : ℕ) (ns : List ℕ) → n ≤ most → Above n ns → Up ns → AllByRecursion (λ k. k ≤ most) ns → n + length ns ≤ most
+unfolding IsStrictlySortedBy
+above_few n most [] le above up all = omega (arith, le)
+above_few n most (k ∷ ks) le above up all = let h = less n k above.0 in omega (arith, h, above_few k most ks all.0 up.0 up.1 all.1)
+
+-- numbers that ascend, none above `most`
+pub few : (most : ℕ) (ns : List ℕ) → Up ns → AllByRecursion (λ k. k ≤ most) ns → length ns ≤ most + 1
+unfolding IsStrictlySortedBy
+few most [] up all = omega arith
+few most (k ∷ ks) up all = omega (arith, above_few k most ks all.0 up.0 up.1 all.1)
+
+rows_least : (f s : Map) (table : ℕ) (rs : List RowImage) → AllByRecursion (λ (r : RowImage). IsRow r.old × (is_some (composed_count f s table) ≡ true)) rs
+    → AllByRecursion (λ k. k ≤ ROWS) (map (λ (r : RowImage). r.old) rs)
+rows_least f s table [] all = tt
+rows_least f s table (r ∷ rs) all = (all.0.0.1, rows_least f s table rs all.1)
+
+pub few_sources : (f s : Map) (table : ℕ) → IsReadable f → IsReadable s → length (sources_of f s table) ≤ 16777216
+few_sources f s table f_readable s_readable =
+    let most = few ROWS _ (sources_up f s f_readable s_readable table) (rows_least f s table _ (source_rows f s f_readable s_readable table)) in
+    let same = length-map (sources_of f s table) (λ (r : RowImage). r.old) in
+    omega (arith, most, same)
+
+slots_least : (xs : List SlotImage) → AllByRecursion (λ (x : SlotImage). x.old ≤ SLOTS) xs → AllByRecursion (λ k. k ≤ SLOTS) (map (λ (x : SlotImage). x.old) xs)
+slots_least [] all = tt
+slots_least (x ∷ xs) all = (all.0, slots_least xs all.1)
+
+pub few_slots : (f s : Map) (method : ℕ) → IsReadable f → IsReadable s → length (slot_sources f s method) ≤ 65536
+few_slots f s method f_readable s_readable =
+    let most = few SLOTS _ (slot_sources_up f s f_readable s_readable method) (slots_least _ (slot_source_fits f s f_readable s_readable method)) in
+    let same = length-map (slot_sources f s method) (λ (x : SlotImage). x.old) in
+    omega (arith, most, same)
+
+-- runs that rise are no more than the offsets before the size
+pub few_runs : (a b c d : ℕ) (rs : List Run) → RiseFrom a b (rs ++ record { old = c; new = d; length = 1 } ∷ []) → a + length rs ≤ c
+few_runs a b c d [] rise = omega (arith, rise.1)
+few_runs a b c d (r ∷ rs) rise = omega (arith, rise.0, rise.1, few_runs (end_of r) (new_end_of r) c d rs rise.3)

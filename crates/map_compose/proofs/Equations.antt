@@ -1,0 +1,566 @@
+-- The composed map answers each question as the second map does of what the first answers.
+use Rattle.std.proofs.Common.{◌≡◌, ℕ, ◌+◌, ◌<◌, ◌≤◌, ◌⊎◌, ◌&&◌, ◌||◌, ◌++◌, ◌≢◌, Bool, true, false, cond, List, [], ◌∷◌, Option, Some, None, refl, sym, ◌∙◌}
+use Rattle.std.proofs.Common.{ap, arith, inl, inr, map, subst, zero, suc}
+use Rattle.std.specs.Prelude.{nat_eq, is_some, ◌↔◌}
+use Rattle.std.specs.List.{filter_map, find, range_with_len, cons_option}
+use Rattle.std.specs.Option.{option_map, option_and_then, option_or}
+use Rattle.std.proofs.lemmas.Bool.{cases_lt, eq-eqb, ne_eqb, eqb-true, and_parts}
+use Rattle.ppdb_base.specs.Offsets.{every, gone, Moves, Kept, kept_runs, all_offsets}
+use Rattle.ppdb_maps.specs.declared.entries.Count.{Count}
+use Rattle.ppdb_maps.specs.declared.entries.RowImage.{RowImage}
+use Rattle.ppdb_maps.specs.declared.entries.SlotImage.{SlotImage}
+use Rattle.ppdb_maps.specs.Map.{Map, MethodLine, count_of, row_line, row_image, method_line, is_dropped, has_slots, slot_line, slot_image, offsets_in}
+use Rattle.ppdb_maps.specs.Map.{line_offsets, rows_of, slots_of}
+use Rattle.std.specs.List.{AllByRecursion}
+use Rattle.map_compose.specs.Runs.{met, longest}
+use Rattle.map_compose.specs.Composed.{tables, composed_count, count_entry, composed_row, sources, row_entry, row_entries, spoken_of, of_image, drops_one}
+use Rattle.map_compose.specs.Composed.{has_image, second_line, composed_runs, sized, composed_line, has_slot_lines, composed_slot, slot_sources, slot_entry}
+use Rattle.map_compose.specs.Composed.{slot_entries, slotted_methods, composed}
+use Rattle.ppdb_maps.specs.Readable.{IsReadable, IsCount}
+use Rattle.ppdb_maps.specs.Says.{sizes_of}
+use Rattle.map_compose.specs.Composition.{Follows, ComposedComposes, sizes_then}
+use Rattle.map_compose.specs.Laws.{MovesOn}
+use Rattle.map_compose.proofs.Found.{either, has, given, made_found, filter_map_map, flat_found, has_append, has_filter, has_ascending, has_key, find_filter}
+use Rattle.map_compose.proofs.Meeting.{runs_compose}
+
+-- ---- small things
+
+given_true : {A : Type 0} (b : Bool) (o : Option A) → (is_some o ≡ true → b ≡ true) → given b o ≡ o
+given_true true o is = refl
+given_true false None is = refl
+given_true false (Some x) is = let e : false ≡ true = is refl in absurd (cc)
+
+and_both : (a b : Bool) → (b ≡ true → a ≡ true) → (a && b) ≡ b
+and_both true b is = refl
+and_both false false is = refl
+and_both false true is = is refl
+
+or_left : (a b : Bool) → a ≡ true → (a || b) ≡ true
+or_left a b e = rw e refl
+
+or_right : (a b : Bool) → b ≡ true → (a || b) ≡ true
+or_right true b e = refl
+or_right false b e = e
+
+-- ---- the methods that may be spoken of
+
+abbrev pub olds : Map → List ℕ
+olds f = map (λ (r : RowImage). r.old) (rows_of f 0x06)
+
+pub spoken_has : (f : Map) (own others : List ℕ) (m : ℕ) → has m (spoken_of f own others) ≡ (has m own || (has m (olds f) || has m others))
+spoken_has f own others m = has_ascending m (own ++ (olds f ++ others)) ∙ has_append m own (olds f ++ others)
+    ∙ ap (λ b. has m own || b) (has_append m (olds f) others)
+
+olds_have : (f : Map) (m : ℕ) → has m (olds f) ≡ is_some (find (λ (r : RowImage). nat_eq r.table 0x06 && nat_eq r.old m) f.rows)
+olds_have f m = has_key (λ (r : RowImage). r.old) m (rows_of f 0x06)
+    ∙ ap is_some (find_filter (λ (r : RowImage). nat_eq r.table 0x06) (λ (r : RowImage). nat_eq r.old m) f.rows)
+
+-- ---- how a method's image came about
+
+-- by a `row` line, or it is the method itself
+pub data Came (f : Map) (m image : ℕ) : Type 0 where
+  moved : has m (olds f) ≡ true → count_of f 0x06 ≢ None → Came f m image
+  stayed : image ≡ m → count_of f 0x06 ≡ None → Came f m image
+
+some_mapped : {A B : Type 0} (g : A → B) (o : Option A) (b : B) → option_map g o ≡ Some b → is_some o ≡ true
+some_mapped g None b is = absurd (cc)
+some_mapped g (Some a) b is = refl
+
+pub record CameBy (f : Map) (m image : ℕ) : Type 0 where
+  pub live : is_dropped f m ≡ false
+  pub came : Came f m image
+
+pub came_by : (f : Map) (m image : ℕ) → row_image f 0x06 m ≡ Some image → CameBy f m image
+came_by f m image is = by_drop (is_dropped f m) refl is
+  where
+    by_count : (c : Option ℕ) → count_of f 0x06 ≡ c → elim c as (λ _. Option ℕ) [ None ↦ Some m | Some count ↦ row_line f 0x06 m ] ≡ Some image → Came f m image
+    by_count None none is = stayed (cc) none
+    by_count (Some n) some is = moved (olds_have f m ∙ some_mapped _ _ image is) (λ none. let e : Some n ≡ None = sym some ∙ none in absurd (cc))
+
+    by_drop : (b : Bool) → is_dropped f m ≡ b
+        → cond b None (elim (count_of f 0x06) as (λ _. Option ℕ) [ None ↦ Some m | Some count ↦ row_line f 0x06 m ]) ≡ Some image → CameBy f m image
+    by_drop true drops is = absurd (cc)
+    by_drop false live is = record { live = live; came = by_count (count_of f 0x06) refl is }
+
+-- a method that the second map's numbers have, or the first map moved, is spoken of
+spoken_by : (f : Map) (own others : List ℕ) (m image : ℕ) → row_image f 0x06 m ≡ Some image → has image others ≡ true → has m (spoken_of f own others) ≡ true
+spoken_by f own others m image is in_others = spoken_has f own others m ∙ or_right (has m own) _ (of (came_by f m image is).came)
+  where
+    of : Came f m image → (has m (olds f) || has m others) ≡ true
+    of (moved there some) = or_left (has m (olds f)) (has m others) there
+    of (stayed same none) = or_right (has m (olds f)) (has m others) (subst (λ n. has n others ≡ true) same in_others)
+
+spoken_own : (f : Map) (own others : List ℕ) (m : ℕ) → has m own ≡ true → has m (spoken_of f own others) ≡ true
+spoken_own f own others m in_own = spoken_has f own others m ∙ or_left (has m own) _ in_own
+
+-- ---- drops
+
+or_parts : (a b : Bool) → (a || b) ≡ true → (a ≡ true) ⊎ (b ≡ true)
+or_parts true b e = inl refl
+or_parts false b e = inr e
+
+-- what is true of an image holds of one
+of_some : (says : ℕ → Bool) (o : Option ℕ) → of_image false says o ≡ true → (image : ℕ) × ((o ≡ Some image) × (says image ≡ true))
+of_some says None e = absurd (cc)
+of_some says (Some image) e = (image, (refl, e))
+
+drops_are : (f s : Map) (m : ℕ) → is_dropped (composed f s) m ≡ drops_one f s m
+drops_are f s m =
+    has_filter (drops_one f s) m (spoken_of f f.drops s.drops)
+    ∙ and_both (has m (spoken_of f f.drops s.drops)) (drops_one f s m) (λ drops. elim (or_parts (is_dropped f m) _ drops) [
+      | inl own ↦ spoken_own f f.drops s.drops m own
+      | inr later ↦ let i = of_some (is_dropped s) (row_image f 0x06 m) later in spoken_by f f.drops s.drops m i.0 i.1.0 i.1.1
+    ])
+
+-- ---- lines of methods
+
+pub line_named : (f s : Map) (k : ℕ) (l : MethodLine) → composed_line f s k ≡ Some l → l.method ≡ k
+line_named f s k l is = of (has_image f s k) is
+  where
+    by : (a b : Option MethodLine) → sized k (composed_runs f s k) a b ≡ Some l → l.method ≡ k
+    by None None is = absurd (cc)
+    by (Some a) None is = cc
+    by None (Some b) is = cc
+    by (Some a) (Some b) is = cc
+
+    of : (b : Bool) → cond b (sized k (composed_runs f s k) (method_line f k) (second_line f s k)) None ≡ Some l → l.method ≡ k
+    of false is = absurd (cc)
+    of true is = by (method_line f k) (second_line f s k) is
+
+abbrev pub numbers : Map → List ℕ
+numbers m = map (λ (l : MethodLine). l.method) m.methods
+
+pub lines_are : (f s : Map) (m : ℕ) → method_line (composed f s) m ≡ composed_line f s m
+lines_are f s m =
+    made_found (λ (l : MethodLine). l.method) (composed_line f s) (line_named f s) m (spoken_of f (numbers f) (numbers s))
+    ∙ given_true (has m (spoken_of f (numbers f) (numbers s))) (composed_line f s m) (λ some. of (has_image f s m) some)
+  where
+    second_some : (o : Option ℕ) → row_image f 0x06 m ≡ o → is_some (of_image None (method_line s) o) ≡ true
+        → has m (spoken_of f (numbers f) (numbers s)) ≡ true
+    second_some None is some = absurd (cc)
+    second_some (Some image) is some = spoken_by f (numbers f) (numbers s) m image is (has_key (λ (l : MethodLine). l.method) image s.methods ∙ some)
+
+    by : (a b : Option MethodLine) → method_line f m ≡ a → second_line f s m ≡ b → is_some (sized m (composed_runs f s m) a b) ≡ true
+        → has m (spoken_of f (numbers f) (numbers s)) ≡ true
+    by (Some a) b is also some = spoken_own f (numbers f) (numbers s) m (has_key (λ (l : MethodLine). l.method) m f.methods ∙ ap is_some is)
+    by None (Some b) is also some = second_some (row_image f 0x06 m) refl (ap is_some also)
+    by None None is also some = absurd (cc)
+
+    of : (b : Bool) → is_some (cond b (sized m (composed_runs f s m) (method_line f m) (second_line f s m)) None) ≡ true
+        → has m (spoken_of f (numbers f) (numbers s)) ≡ true
+    of false some = absurd (cc)
+    of true some = by (method_line f m) (second_line f s m) refl refl some
+
+-- ---- kept offsets
+
+-- all offsets, and what a run of them takes on
+all_first : (x z : ℕ) → MovesOn (all_offsets ∷ []) (all_offsets ∷ []) x z → Moves (all_offsets ∷ []) x z
+all_first x z on = of on.first on.second
+  where
+    of : Moves (all_offsets ∷ []) x on.y → Moves (all_offsets ∷ []) on.y z → Moves (all_offsets ∷ []) x z
+    of (inl a) (inl b) = inl (record { step = a.step; inside = a.inside; old = a.old; new = omega (arith, a.new, a.old, b.old, b.new) })
+    of (inl a) (inr none) = absurd none
+    of (inr none) b = absurd none
+
+all_second : (x z : ℕ) → Moves (all_offsets ∷ []) x z → MovesOn (all_offsets ∷ []) (all_offsets ∷ []) x z
+all_second x z (inr none) = absurd none
+all_second x z (inl a) = record {
+  y = x;
+  first = inl (record { step = x; inside = omega (arith, a.inside, a.old); old = omega arith; new = omega arith });
+  second = inl a;
+}
+
+pub live_image : (s : Map) (image : ℕ) → is_some (row_image s 0x06 image) ≡ true → is_dropped s image ≡ false
+live_image s image some = of (is_dropped s image) some
+  where
+    of : (b : Bool) → is_some (cond b None (elim (count_of s 0x06) as (λ _. Option ℕ) [ None ↦ Some image | Some count ↦ row_line s 0x06 image ])) ≡ true
+        → b ≡ false
+    of false some = refl
+    of true some = absurd (cc)
+
+module _ (f s : Map) (m image : ℕ) (follows : Follows f s m image) where
+  pub there : has_image f s m ≡ true
+  there = ap (λ o. is_some (option_and_then (row_image s 0x06) o)) follows.first ∙ follows.second
+
+  stays : is_dropped (composed f s) m ≡ false
+  stays = drops_are f s m ∙ ap (λ b. b || of_image false (is_dropped s) (row_image f 0x06 m)) (came_by f m image follows.first).live
+      ∙ ap (of_image false (is_dropped s)) follows.first ∙ live_image s image follows.second
+
+  -- by the lines of both
+  pub offsets_are : offsets_in (composed f s) m ≡ line_offsets (sized m (composed_runs f s m) (method_line f m) (method_line s image))
+  offsets_are =
+      ap (λ b. cond b gone (line_offsets (method_line (composed f s) m))) stays
+      ∙ ap line_offsets (lines_are f s m ∙ ap (λ b. cond b (sized m (composed_runs f s m) (method_line f m) (second_line f s m)) None) there
+      ∙ ap (λ o. sized m (composed_runs f s m) (method_line f m) (of_image None (method_line s) o)) follows.first)
+
+  pub runs_are : composed_runs f s m ≡ longest (met (kept_runs (offsets_in f m)) (kept_runs (offsets_in s image)))
+  runs_are = ap (λ o. longest (met (kept_runs (offsets_in f m)) (kept_runs (of_image every (offsets_in s) o)))) follows.first
+
+  pub first_offsets : offsets_in f m ≡ line_offsets (method_line f m)
+  first_offsets = ap (λ b. cond b gone (line_offsets (method_line f m))) (came_by f m image follows.first).live
+
+  pub second_are : offsets_in s image ≡ line_offsets (method_line s image)
+  second_are = ap (λ b. cond b gone (line_offsets (method_line s image))) (live_image s image follows.second)
+
+  pub kept_are : (x z : ℕ) → Kept (offsets_in (composed f s) m) x z ↔ MovesOn (kept_runs (offsets_in f m)) (kept_runs (offsets_in s image)) x z
+  kept_are x z =
+      subst (λ o. Moves (kept_runs o) x z ↔ MovesOn (kept_runs (offsets_in f m)) (kept_runs (offsets_in s image)) x z) (sym offsets_are)
+      (of (method_line f m) (method_line s image) refl refl)
+    where
+      by_runs : Moves (composed_runs f s m) x z ↔ MovesOn (kept_runs (offsets_in f m)) (kept_runs (offsets_in s image)) x z
+      by_runs = subst (λ rs. Moves rs x z ↔ MovesOn (kept_runs (offsets_in f m)) (kept_runs (offsets_in s image)) x z) (sym runs_are) (
+        λ moves. runs_compose.met_moves (kept_runs (offsets_in f m)) (kept_runs (offsets_in s image)) x z
+            (runs_compose.longest_moves (met (kept_runs (offsets_in f m)) (kept_runs (offsets_in s image))) x z moves),
+        λ on. runs_compose.moves_longest (met (kept_runs (offsets_in f m)) (kept_runs (offsets_in s image))) x z
+            (runs_compose.moves_met (kept_runs (offsets_in f m)) (kept_runs (offsets_in s image)) x z on),
+      )
+
+      of : (a b : Option MethodLine) → method_line f m ≡ a → method_line s image ≡ b
+          → Moves (kept_runs (line_offsets (sized m (composed_runs f s m) a b))) x z ↔ MovesOn (kept_runs (offsets_in f m)) (kept_runs (offsets_in s image)) x z
+      of None None is also =
+          subst (λ o. Moves (all_offsets ∷ []) x z ↔ MovesOn (kept_runs o) (kept_runs (offsets_in s image)) x z) (sym (first_offsets ∙ ap line_offsets is))
+          (subst (λ o. Moves (all_offsets ∷ []) x z ↔ MovesOn (all_offsets ∷ []) (kept_runs o) x z) (sym (second_are ∙ ap line_offsets also))
+          (all_second x z, all_first x z))
+      of (Some a) None is also = by_runs
+      of None (Some b) is also = by_runs
+      of (Some a) (Some b) is also = by_runs
+
+  -- the sizes of the line are those of the lines of both
+  pub sizes_are : sizes_of (offsets_in (composed f s) m) ≡ sizes_then (sizes_of (offsets_in f m)) (sizes_of (offsets_in s image))
+  sizes_are =
+      ap sizes_of offsets_are ∙ of (method_line f m) (method_line s image)
+      ∙ sym (ap (λ o. sizes_then (sizes_of o) (sizes_of (offsets_in s image))) first_offsets
+      ∙ ap (λ o. sizes_then (sizes_of (line_offsets (method_line f m))) (sizes_of o)) second_are)
+    where
+      of : (a b : Option MethodLine) → sizes_of (line_offsets (sized m (composed_runs f s m) a b))
+          ≡ sizes_then (sizes_of (line_offsets a)) (sizes_of (line_offsets b))
+      of None None = refl
+      of None (Some b) = refl
+      of (Some a) None = refl
+      of (Some a) (Some b) = refl
+
+-- ---- rows
+
+pub count_named : (f s : Map) (k : ℕ) (c : Count) → count_entry f s k ≡ Some c → c.table ≡ k
+count_named f s k c is = of (composed_count f s k) is
+  where
+    of : (o : Option ℕ) → option_map (λ rows. record { table = k; rows = rows }) o ≡ Some c → c.table ≡ k
+    of None is = absurd (cc)
+    of (Some n) is = cc
+
+counts_there : (f s : Map) (table : ℕ) → count_of (composed f s) table ≡ given (has table tables) (composed_count f s table)
+counts_there f s table =
+    ap (option_map (λ (c : Count). c.rows)) (made_found (λ (c : Count). c.table) (count_entry f s) (count_named f s) table tables)
+    ∙ of (has table tables) (composed_count f s table)
+  where
+    of : (b : Bool) (o : Option ℕ) → option_map (λ (c : Count). c.rows) (given b (option_map (λ rows. record { table = table; rows = rows }) o)) ≡ given b o
+    of false o = refl
+    of true None = refl
+    of true (Some n) = refl
+
+-- only tables of the type system have a `rows` line
+abbrev pub TablesKnown : Map → Type 0
+TablesKnown m = AllByRecursion (λ (c : Count). c.table ≤ 0x2c) m.counts
+
+pub tables_known : (m : Map) → IsReadable m → TablesKnown m
+tables_known m readable = of m.counts readable.counts
+  where
+    of : (cs : List Count) → AllByRecursion IsCount cs → AllByRecursion (λ (c : Count). c.table ≤ 0x2c) cs
+    of [] all = tt
+    of (c ∷ cs) all = (all.0.0, of cs all.1)
+
+-- a table is one of those of the type system, or above them
+known : (a n table : ℕ) → a ≤ table → table < a + n → has table (range_with_len a n) ≡ true
+known a zero table from to = absurd (omega (arith, from, to))
+known a (suc n) table from to = elim (either table a) [
+  | inl same ↦ rw (eq-eqb table a same) refl
+  | inr apart ↦ rw (ne_eqb table a apart) (known (a + 1) n table (omega (arith, from, apart)) (omega (arith, to)))
+]
+
+unknown_none : (table : ℕ) (cs : List Count) → 0x2d ≤ table → AllByRecursion (λ (c : Count). c.table ≤ 0x2c) cs
+    → option_map (λ (c : Count). c.rows) (find (λ (c : Count). nat_eq c.table table) cs) ≡ None
+unknown_none table [] above each = refl
+unknown_none table (c ∷ cs) above each = rw (ne_eqb c.table table (λ e. omega (arith, above, each.0, e))) (unknown_none table cs above each.1)
+
+pub counts_are : (f s : Map) → TablesKnown f → TablesKnown s → (table : ℕ) → count_of (composed f s) table ≡ composed_count f s table
+counts_are f s f_known s_known table = counts_there f s table ∙ given_true (has table tables) (composed_count f s table) (λ some. elim (cases_lt table 0x2d) [
+  | inl less ↦ known 0 0x2d table (omega arith) (omega (arith, less))
+  | inr above ↦
+      let none : composed_count f s table ≡ None = ap (λ o. option_or o (count_of f table)) (unknown_none table s.counts above s_known)
+      ∙ unknown_none table f.counts above f_known in
+      let e : false ≡ true = sym (ap is_some none) ∙ some in absurd (cc)
+])
+
+-- the lines of a table have its number
+pub entries_named : (f s : Map) (k : ℕ) → map (λ (r : RowImage). r.table) (row_entries f s k) ≡ map (λ (r : RowImage). k) (row_entries f s k)
+entries_named f s k = of (sources (count_of f k) (count_of s k) f s k)
+  where
+    one : (o : Option ℕ) (old : ℕ) (rest : List RowImage) → map (λ (r : RowImage). r.table) rest ≡ map (λ (r : RowImage). k) rest
+        → map (λ (r : RowImage). r.table) (cons_option (option_map (λ new. record { table = k; old = old; new = new }) o) rest)
+        ≡ map (λ (r : RowImage). k) (cons_option (option_map (λ new. record { table = k; old = old; new = new }) o) rest)
+    one None old rest is = is
+    one (Some n) old rest is = ap (λ l. k ∷ l) is
+
+    of : (rs : List RowImage) → map (λ (r : RowImage). r.table) (filter_map (row_entry f s k) rs) ≡ map (λ (r : RowImage). k) (filter_map (row_entry f s k) rs)
+    of [] = refl
+    of (r ∷ rs) = one (composed_row f s k r.old) r.old (filter_map (row_entry f s k) rs) (of rs)
+
+table_known : (f s : Map) → TablesKnown f → TablesKnown s → (table : ℕ) → is_some (composed_count f s table) ≡ true → has table tables ≡ true
+table_known f s f_known s_known table some = elim (cases_lt table 0x2d) [
+  | inl less ↦ known 0 0x2d table (omega arith) (omega (arith, less))
+  | inr above ↦
+      let none : composed_count f s table ≡ None = ap (λ o. option_or o (count_of f table)) (unknown_none table s.counts above s_known)
+      ∙ unknown_none table f.counts above f_known in
+      let e : false ≡ true = sym (ap is_some none) ∙ some in absurd (cc)
+]
+
+abbrev pub row_of : Map → Map → ℕ → ℕ → Option RowImage
+row_of f s table old = option_map (λ new. record { table = table; old = old; new = new }) (composed_row f s table old)
+
+pub row_named : (f s : Map) (table k : ℕ) (r : RowImage) → row_of f s table k ≡ Some r → r.old ≡ k
+row_named f s table k r is = of (composed_row f s table k) is
+  where
+    of : (o : Option ℕ) → option_map (λ new. record { table = table; old = k; new = new }) o ≡ Some r → r.old ≡ k
+    of None is = absurd (cc)
+    of (Some n) is = cc
+
+abbrev pub line_olds : List RowImage → List ℕ
+line_olds rs = map (λ (r : RowImage). r.old) rs
+
+-- the lines from which the rows of a table come
+abbrev row_sources : Map → Map → ℕ → List RowImage
+row_sources f s table = sources (count_of f table) (count_of s table) f s table
+
+rows_there : (f s : Map) (table old : ℕ)
+    → row_line (composed f s) table old ≡ given (has table tables)
+    (given (has old (line_olds (sources (count_of f table) (count_of s table) f s table))) (composed_row f s table old))
+rows_there f s table old =
+    ap (option_map (λ (r : RowImage). r.new))
+    (flat_found (λ (r : RowImage). r.table) (λ (r : RowImage). nat_eq r.old old) (row_entries f s) (entries_named f s) table tables
+    ∙ ap (given (has table tables)) (ap (find (λ (r : RowImage). nat_eq r.old old))
+    (filter_map_map (λ (r : RowImage). r.old) (row_of f s table) (row_sources f s table))
+    ∙ made_found (λ (r : RowImage). r.old) (row_of f s table) (row_named f s table) old (line_olds (row_sources f s table))))
+    ∙ of (has table tables) (has old (line_olds (row_sources f s table))) (composed_row f s table old)
+  where
+    of : (a b : Bool) (o : Option ℕ) → option_map (λ (r : RowImage). r.new)
+        (given a (given b (option_map (λ new. record { table = table; old = old; new = new }) o))) ≡ given a (given b o)
+    of false b o = refl
+    of true false o = refl
+    of true true None = refl
+    of true true (Some n) = refl
+
+-- ---- the image of a row, by its line, whether its method is dropped, and the table's count
+
+abbrev by : Option ℕ → ℕ → Bool → Option ℕ → Option ℕ
+by line old drops count = cond drops None (elim count as (λ _. Option ℕ) [ None ↦ Some old | Some n ↦ line ])
+
+pub image_plain : (m : Map) (table old : ℕ) → (nat_eq table 0x06 && is_dropped m old) ≡ false → count_of m table ≡ None → row_image m table old ≡ Some old
+image_plain m table old live none = ap (λ b. by (row_line m table old) old b (count_of m table)) live ∙ ap (by (row_line m table old) old false) none
+
+lines_have : (m : Map) (table old : ℕ) → has old (line_olds (rows_of m table))
+    ≡ is_some (find (λ (r : RowImage). nat_eq r.table table && nat_eq r.old old) m.rows)
+lines_have m table old = has_key (λ (r : RowImage). r.old) old (rows_of m table)
+    ∙ ap is_some (find_filter (λ (r : RowImage). nat_eq r.table table) (λ (r : RowImage). nat_eq r.old old) m.rows)
+
+pub is_some_map : {A B : Type 0} (g : A → B) (o : Option A) → is_some (option_map g o) ≡ is_some o
+is_some_map g None = refl
+is_some_map g (Some a) = refl
+
+image_lined : (m : Map) (table old n : ℕ) → count_of m table ≡ Some n → is_some (row_image m table old) ≡ true → has old (line_olds (rows_of m table)) ≡ true
+image_lined m table old n count some = lines_have m table old
+    ∙ sym (is_some_map (λ (r : RowImage). r.new) (find (λ (r : RowImage). nat_eq r.table table && nat_eq r.old old) m.rows))
+    ∙ of (nat_eq table 0x06 && is_dropped m old) (count_of m table) count some
+  where
+    of : (b : Bool) (c : Option ℕ) → c ≡ Some n → is_some (by (row_line m table old) old b c) ≡ true → is_some (row_line m table old) ≡ true
+    of true c is some = absurd (cc)
+    of false None is some = absurd (cc)
+    of false (Some k) is some = some
+
+-- a row has an image by both only where it has one by the first
+pub first_some : (f s : Map) (table old : ℕ) → is_some (composed_row f s table old) ≡ true → is_some (row_image f table old) ≡ true
+first_some f s table old some = of (row_image f table old) some
+  where
+    of : (o : Option ℕ) → is_some (option_and_then (row_image s table) o) ≡ true → is_some o ≡ true
+    of None some = some
+    of (Some n) some = refl
+
+and_first : (a b c : Bool) → (a && (b || c)) ≡ false → (a && b) ≡ false
+and_first true true c e = e
+and_first true false c e = refl
+and_first false b c e = refl
+
+and_second : (a b c : Bool) → (a && (b || c)) ≡ false → a ≡ true → c ≡ false
+and_second true true c e is = absurd (cc)
+and_second true false c e is = e
+and_second false b c e is = absurd (cc)
+
+-- a dropped row has no image by both
+pub dropped_none : (f s : Map) (table old : ℕ) → (nat_eq table 0x06 && drops_one f s old) ≡ true → composed_row f s table old ≡ None
+dropped_none f s table old is =
+    let parts = and_parts (nat_eq table 0x06) (drops_one f s old) is in
+    subst (λ t. composed_row f s t old ≡ None) (sym (eqb-true table 0x06 parts.0))
+    (elim (or_parts (is_dropped f old) (of_image false (is_dropped s) (row_image f 0x06 old)) parts.1) [
+      | inl own ↦ ap (option_and_then (row_image s 0x06)) (none_of f old own)
+      | inr later ↦ let i = of_some (is_dropped s) (row_image f 0x06 old) later in ap (option_and_then (row_image s 0x06)) i.1.0 ∙ none_of s i.0 i.1.1
+    ])
+  where
+    none_of : (m : Map) (row : ℕ) → is_dropped m row ≡ true → row_image m 0x06 row ≡ None
+    none_of m row drops = ap (λ b. by (row_line m 0x06 row) row b (count_of m 0x06)) drops
+
+abbrev lined_row : Map → Map → ℕ → ℕ → Option ℕ → Option ℕ → Option ℕ
+lined_row f s table old cf cs = given (has table tables) (given (has old (line_olds (sources cf cs f s table))) (composed_row f s table old))
+
+pub rows_are : (f s : Map) → TablesKnown f → TablesKnown s → (table old : ℕ) → row_image (composed f s) table old ≡ composed_row f s table old
+rows_are f s f_known s_known table old =
+    ap (λ b. by (row_line (composed f s) table old) old (nat_eq table 0x06 && b) (count_of (composed f s) table)) (drops_are f s old)
+    ∙ ap (by (row_line (composed f s) table old) old (nat_eq table 0x06 && drops_one f s old)) (counts_are f s f_known s_known table)
+    ∙ ap (λ l. by l old (nat_eq table 0x06 && drops_one f s old) (composed_count f s table)) (rows_there f s table old)
+    ∙ by_drop (nat_eq table 0x06 && drops_one f s old) refl
+  where
+    lined : (src : List RowImage) → is_some (composed_count f s table) ≡ true → (is_some (composed_row f s table old) ≡ true → has old (line_olds src) ≡ true)
+        → given (has table tables) (given (has old (line_olds src)) (composed_row f s table old)) ≡ composed_row f s table old
+    lined src there has_it =
+        ap (λ b. given b (given (has old (line_olds src)) (composed_row f s table old))) (table_known f s f_known s_known table there)
+        ∙ given_true (has old (line_olds src)) (composed_row f s table old) has_it
+
+    -- the first map leaves the row where it is
+    first_stays : (nat_eq table 0x06 && drops_one f s old) ≡ false → count_of f table ≡ None → row_image f table old ≡ Some old
+    first_stays live none = image_plain f table old (and_first (nat_eq table 0x06) (is_dropped f old) _ live) none
+
+    second_live : (nat_eq table 0x06 && drops_one f s old) ≡ false → count_of f table ≡ None → (nat_eq table 0x06 && is_dropped s old) ≡ false
+    second_live live none = of (nat_eq table 0x06) refl
+      where
+        of : (b : Bool) → nat_eq table 0x06 ≡ b → (b && is_dropped s old) ≡ false
+        of false is = refl
+        of true is =
+            let at : row_image f 0x06 old ≡ Some old = subst (λ t. row_image f t old ≡ Some old) (eqb-true table 0x06 is) (first_stays live none) in
+            sym (ap (of_image false (is_dropped s)) at) ∙ and_second (nat_eq table 0x06) (is_dropped f old)
+            (of_image false (is_dropped s) (row_image f 0x06 old)) live is
+
+    of : (cf cs : Option ℕ) → count_of f table ≡ cf → count_of s table ≡ cs → (nat_eq table 0x06 && drops_one f s old) ≡ false
+        → by (lined_row f s table old cf cs) old false (option_or cs cf) ≡ composed_row f s table old
+    of None None is also live = sym (ap (option_and_then (row_image s table)) (first_stays live is) ∙ image_plain s table old (second_live live is) also)
+    of None (Some n) is also live = lined (rows_of s table) (ap (λ o. is_some (option_or o (count_of f table))) also) (λ some.
+        image_lined s table old n also (sym (ap (λ o. is_some (option_and_then (row_image s table) o)) (first_stays live is)) ∙ some))
+    of (Some n) None is also live = lined (rows_of f table) (ap (λ o. is_some (option_or o (count_of f table))) also
+        ∙ ap is_some is) (λ some. image_lined f table old n is (first_some f s table old some))
+    of (Some n) (Some k) is also live = lined (rows_of f table) (ap (λ o. is_some (option_or o (count_of f table))) also)
+        (λ some. image_lined f table old n is (first_some f s table old some))
+
+    by_drop : (b : Bool) → (nat_eq table 0x06 && drops_one f s old) ≡ b
+        → by (lined_row f s table old (count_of f table) (count_of s table)) old b (composed_count f s table) ≡ composed_row f s table old
+    by_drop true is = sym (dropped_none f s table old is)
+    by_drop false is = of (count_of f table) (count_of s table) refl refl is
+
+-- ---- slots
+
+pub slots_named : (f s : Map) (k : ℕ) → map (λ (x : SlotImage). x.method) (slot_entries f s k) ≡ map (λ (x : SlotImage). k) (slot_entries f s k)
+slots_named f s k = of (slot_sources f s k)
+  where
+    one : (o : Option ℕ) (old : ℕ) (rest : List SlotImage) → map (λ (x : SlotImage). x.method) rest ≡ map (λ (x : SlotImage). k) rest
+        → map (λ (x : SlotImage). x.method) (cons_option (option_map (λ new. record { method = k; old = old; new = new }) o) rest)
+        ≡ map (λ (x : SlotImage). k) (cons_option (option_map (λ new. record { method = k; old = old; new = new }) o) rest)
+    one None old rest is = is
+    one (Some n) old rest is = ap (λ l. k ∷ l) is
+
+    of : (xs : List SlotImage) → map (λ (x : SlotImage). x.method) (filter_map (slot_entry f s k) xs)
+        ≡ map (λ (x : SlotImage). k) (filter_map (slot_entry f s k) xs)
+    of [] = refl
+    of (x ∷ xs) = one (composed_slot f s k x.old) x.old (filter_map (slot_entry f s k) xs) (of xs)
+
+abbrev pub slot_of : Map → Map → ℕ → ℕ → Option SlotImage
+slot_of f s m old = option_map (λ new. record { method = m; old = old; new = new }) (composed_slot f s m old)
+
+pub slot_named : (f s : Map) (m k : ℕ) (x : SlotImage) → slot_of f s m k ≡ Some x → x.old ≡ k
+slot_named f s m k x is = of (composed_slot f s m k) is
+  where
+    of : (o : Option ℕ) → option_map (λ new. record { method = m; old = k; new = new }) o ≡ Some x → x.old ≡ k
+    of None is = absurd (cc)
+    of (Some n) is = cc
+
+abbrev pub slot_olds : List SlotImage → List ℕ
+slot_olds xs = map (λ (x : SlotImage). x.old) xs
+
+slots_there : (f s : Map) (m old : ℕ)
+    → slot_line (composed f s) m old ≡ given (has m (slotted_methods f s)) (given (has old (slot_olds (slot_sources f s m))) (composed_slot f s m old))
+slots_there f s m old =
+    ap (option_map (λ (x : SlotImage). x.new))
+    (flat_found (λ (x : SlotImage). x.method) (λ (x : SlotImage). nat_eq x.old old) (slot_entries f s) (slots_named f s) m (slotted_methods f s)
+    ∙ ap (given (has m (slotted_methods f s))) (ap (find (λ (x : SlotImage). nat_eq x.old old))
+    (filter_map_map (λ (x : SlotImage). x.old) (slot_of f s m) (slot_sources f s m))
+    ∙ made_found (λ (x : SlotImage). x.old) (slot_of f s m) (slot_named f s m) old (slot_olds (slot_sources f s m))))
+    ∙ of (has m (slotted_methods f s)) (has old (slot_olds (slot_sources f s m))) (composed_slot f s m old)
+  where
+    of : (a b : Bool) (o : Option ℕ) → option_map (λ (x : SlotImage). x.new)
+        (given a (given b (option_map (λ new. record { method = m; old = old; new = new }) o))) ≡ given a (given b o)
+    of false b o = refl
+    of true false o = refl
+    of true true None = refl
+    of true true (Some n) = refl
+
+-- a slot with an image has a line, where its method has lines
+slot_lined : (m : Map) (method old : ℕ) → has_slots m method ≡ true → is_some (slot_image m method old) ≡ true → has old (slot_olds (slots_of m method)) ≡ true
+slot_lined m method old lines some =
+    has_key (λ (x : SlotImage). x.old) old (slots_of m method) ∙ ap is_some
+    (find_filter (λ (x : SlotImage). nat_eq x.method method) (λ (x : SlotImage). nat_eq x.old old) m.slots)
+    ∙ sym (is_some_map (λ (x : SlotImage). x.new) (find (λ (x : SlotImage). nat_eq x.method method && nat_eq x.old old) m.slots))
+    ∙ subst (λ b. is_some (cond b (slot_line m method old) (Some old)) ≡ true) lines some
+
+module _ (f s : Map) (m image : ℕ) (follows : Follows f s m image) where
+  lines_of : has_slot_lines f s m ≡ (has_slots f m || has_slots s image)
+  lines_of = ap (λ b. b && (has_slots f m || of_image false (has_slots s) (row_image f 0x06 m))) (there f s m image follows)
+      ∙ ap (λ o. has_slots f m || of_image false (has_slots s) o) follows.first
+
+  slotted_is : has m (slotted_methods f s) ≡ (has_slots f m || has_slots s image)
+  slotted_is =
+      has_filter (has_slot_lines f s) m (spoken_of f f.slotted s.slotted)
+      ∙ ap (λ b. has m (spoken_of f f.slotted s.slotted) && b) lines_of
+      ∙ and_both (has m (spoken_of f f.slotted s.slotted)) (has_slots f m || has_slots s image)
+      (λ some. elim (or_parts (has_slots f m) (has_slots s image) some) [
+        | inl own ↦ spoken_own f f.slotted s.slotted m own
+        | inr later ↦ spoken_by f f.slotted s.slotted m image follows.first later
+      ])
+
+  slot_on : (old : ℕ) → composed_slot f s m old ≡ option_and_then (slot_image s image) (slot_image f m old)
+  slot_on old = ap (λ o. option_and_then (λ slot. of_image None (λ i. slot_image s i slot) o) (slot_image f m old)) follows.first
+
+  pub slots_are : (old : ℕ) → slot_image (composed f s) m old ≡ option_and_then (slot_image s image) (slot_image f m old)
+  slots_are old =
+      ap (λ b. cond b (slot_line (composed f s) m old) (Some old)) slotted_is
+      ∙ ap (λ l. cond (has_slots f m || has_slots s image) l (Some old)) (slots_there f s m old
+      ∙ ap (λ b. given b (given (has old (slot_olds (slot_sources f s m))) (composed_slot f s m old))) slotted_is)
+      ∙ of (has_slots f m) (has_slots s image) refl refl
+    where
+      source_is : (b : Bool) → has_slots f m ≡ b → slot_sources f s m ≡ cond b (slots_of f m) (slots_of s image)
+      source_is b is = ap (λ o. cond (has_slots f m) (slots_of f m) (of_image [] (slots_of s) o)) follows.first
+          ∙ ap (λ c. cond c (slots_of f m) (slots_of s image)) is
+
+      -- an image by both is one by the first
+      some_first : is_some (composed_slot f s m old) ≡ true → is_some (slot_image f m old) ≡ true
+      some_first some = by (slot_image f m old) some
+        where
+          by : (o : Option ℕ) → is_some (option_and_then (λ slot. of_image None (λ i. slot_image s i slot) (row_image f 0x06 m)) o) ≡ true → is_some o ≡ true
+          by None some = some
+          by (Some n) some = refl
+
+      of : (a b : Bool) → has_slots f m ≡ a → has_slots s image ≡ b
+          → cond (a || b) (given (a || b) (given (has old (slot_olds (slot_sources f s m))) (composed_slot f s m old))) (Some old)
+          ≡ option_and_then (slot_image s image) (slot_image f m old)
+      of true b is also = given_true (has old (slot_olds (slot_sources f s m))) (composed_slot f s m old)
+          (λ some. ap (λ xs. has old (slot_olds xs)) (source_is true is) ∙ slot_lined f m old is (some_first some)) ∙ slot_on old
+      of false true is also = given_true (has old (slot_olds (slot_sources f s m))) (composed_slot f s m old)
+          (λ some. ap (λ xs. has old (slot_olds xs)) (source_is false is)
+          ∙ slot_lined s image old also (sym (ap is_some (slot_on old
+          ∙ ap (λ c. option_and_then (slot_image s image) (cond c (slot_line f m old) (Some old))) is)) ∙ some)) ∙ slot_on old
+      of false false is also = sym (ap (λ c. option_and_then (slot_image s image) (cond c (slot_line f m old) (Some old))) is
+          ∙ ap (λ c. cond c (slot_line s image old) (Some old)) also)
+
+pub composed_composes : ComposedComposes
+composed_composes = λ f s f_readable s_readable. record {
+  counts = counts_are f s (tables_known f f_readable) (tables_known s s_readable);
+  rows = rows_are f s (tables_known f f_readable) (tables_known s s_readable);
+  drops = drops_are f s;
+  slots = λ m image old follows. slots_are f s m image follows old;
+  sizes = λ m image follows. sizes_are f s m image follows;
+  kept = λ m image x z follows. kept_are f s m image follows x z;
+}

@@ -1,0 +1,210 @@
+-- The text of a readable map has fewer than 2 ^ 64 bytes.
+use Rattle.std.proofs.Common.{ℕ, zero, suc, ◌+◌, ◌*◌, ◌<◌, ◌≤◌, ◌++◌, Bool, true, false, cond, List, [], ◌∷◌, length, map, arith, length-append}
+use Rattle.std.specs.Prelude.{nat_eq, codes}
+use Rattle.std.specs.Fmt.{decimal}
+use Rattle.std.specs.List.{AllByRecursion, filter, flat_map}
+use Rattle.std.proofs.lemmas.List.{length-map}
+use Rattle.ppdb_maps.specs.declared.entries.Count.{Count}
+use Rattle.ppdb_maps.specs.declared.entries.RowImage.{RowImage}
+use Rattle.ppdb_maps.specs.declared.entries.SlotImage.{SlotImage}
+use Rattle.ppdb_maps.specs.declared.line.Line.{Line}
+use Rattle.ppdb_maps.specs.declared.line.Line.TheVariants.{Silent, Rows, Row, Method, Kept, Dropped, Slots, Slot}
+use Rattle.ppdb_maps.specs.Forms.{ROWS, OFFSETS, SLOTS}
+use Rattle.ppdb_maps.specs.Map.{Map, MethodLine, rows_of, slots_of}
+use Rattle.ppdb_maps.specs.Readable.{IsReadable, IsRow, IsCount, IsRowOf, IsLineOf, IsSlottedOf, IsSlotOf}
+use Rattle.ppdb_maps.proofs.Numbers.{may_spell_decimal, length_may_spell}
+use Rattle.map_text.specs.MapTexts.{spaced, table_word, line_text, ended, row_says, slot_says, count_says, slots_say, method_says, map_says, map_text}
+use Rattle.map_compose.specs.Says.{lines_text}
+use Rattle.std.proofs.lemmas.Bool.{eqb-true}
+use Rattle.map_compose.specs.Joining.{IsShort}
+use Rattle.map_compose.proofs.Bounds.{few}
+use Rattle.map_compose.proofs.Gathering.{few_runs}
+use Rattle.map_compose.proofs.Orders.{Up}
+use Rattle.map_compose.proofs.Places.{line_runs}
+use Rattle.map_compose.proofs.Readable.{line_numbers, rows_up, slots_up, slots_hold, slotted_rows, filter_hold}
+
+digits_few : (n : ℕ) → n ≤ OFFSETS → length (decimal n) ≤ 10
+digits_few n le = length_may_spell (decimal n) (may_spell_decimal n (omega (arith, le)))
+
+-- the numbers of a line
+abbrev IsSmall : Line → Type 0
+IsSmall Silent = Unit {0}
+IsSmall (Rows t n) = n ≤ OFFSETS
+IsSmall (Row t o n) = (o ≤ OFFSETS) × (n ≤ OFFSETS)
+IsSmall (Method m o n) = (m ≤ OFFSETS) × (o ≤ OFFSETS) × (n ≤ OFFSETS)
+IsSmall (Kept r) = (r.old ≤ OFFSETS) × (r.new ≤ OFFSETS) × (r.length ≤ OFFSETS)
+IsSmall (Dropped m) = m ≤ OFFSETS
+IsSmall (Slots m) = m ≤ OFFSETS
+IsSmall (Slot m o n) = (m ≤ OFFSETS) × (o ≤ OFFSETS) × (n ≤ OFFSETS)
+
+words_long : (ws : List (List ℕ)) (most : ℕ) → AllByRecursion (λ w. length w ≤ 10) ws → length ws ≤ most → length (flat_map (λ w. 32 ∷ w) ws) ≤ most * 11
+words_long [] most all le = omega (arith, le)
+words_long (w ∷ ws) zero all le = absurd (omega (arith, le))
+words_long (w ∷ ws) (suc most) all le =
+    let rest = words_long ws most all.1 (omega (arith, le)) in
+    omega (arith, all.0, rest, length-append (32 ∷ w) (flat_map (λ w. 32 ∷ w) ws))
+
+spaced_long : (word : List ℕ) (ws : List (List ℕ)) → length word ≤ 10 → AllByRecursion (λ w. length w ≤ 10) ws → length ws ≤ 3
+    → length (spaced word ws ++ 10 ∷ []) ≤ 64
+spaced_long word ws short all few =
+    let rest = words_long ws 3 all few in
+    omega (arith, short, rest, length-append (spaced word ws) (10 ∷ []), length-append word (flat_map (λ w. 32 ∷ w) ws))
+
+line_long : (x : Line) → IsSmall x → length (ended (line_text x)) ≤ 64
+line_long Silent small = omega arith
+line_long (Rows t n) small = spaced_long (codes "rows") (table_word t ∷ decimal n ∷ []) (omega arith) (omega arith, (digits_few n small, tt)) (omega arith)
+line_long (Row t o n) small = spaced_long (codes "row") (table_word t ∷ decimal o ∷ decimal n ∷ []) (omega arith)
+    (omega arith, (digits_few o small.0, (digits_few n small.1, tt))) (omega arith)
+line_long (Method m o n) small = spaced_long (codes "method") (decimal m ∷ decimal o ∷ decimal n ∷ []) (omega arith)
+    (digits_few m small.0, (digits_few o small.1, (digits_few n small.2, tt))) (omega arith)
+line_long (Kept r) small = spaced_long (codes "run") (decimal r.old ∷ decimal r.new ∷ decimal r.length ∷ []) (omega arith)
+    (digits_few r.old small.0, (digits_few r.new small.1, (digits_few r.length small.2, tt))) (omega arith)
+line_long (Dropped m) small = spaced_long (codes "drop") (decimal m ∷ []) (omega arith) (digits_few m small, tt) (omega arith)
+line_long (Slots m) small = spaced_long (codes "slots") (decimal m ∷ []) (omega arith) (digits_few m small, tt) (omega arith)
+line_long (Slot m o n) small = spaced_long (codes "slot") (decimal m ∷ decimal o ∷ decimal n ∷ []) (omega arith)
+    (digits_few m small.0, (digits_few o small.1, (digits_few n small.2, tt))) (omega arith)
+
+lines_long : (xs : List Line) → AllByRecursion IsSmall xs → length (lines_text xs) ≤ length xs * 64
+lines_long [] all = omega arith
+lines_long (x ∷ xs) all = omega (arith, line_long x all.0, lines_long xs all.1, length-append (ended (line_text x)) (lines_text xs))
+
+-- ---- how many lines
+
+-- each says so many lines at most, and each of them is small
+record Few {A : Type 0} (says : A → List Line) (most : ℕ) (a : A) : Type 0 where
+  few : length (says a) ≤ most
+  small : AllByRecursion IsSmall (says a)
+
+flat_few : {A : Type 0} (says : A → List Line) (most : ℕ) (xs : List A) → AllByRecursion (Few says most) xs → length (flat_map says xs) ≤ length xs * most
+flat_few says most [] all = omega arith
+flat_few says most (x ∷ xs) all = let one = all.0.few in omega (arith, one, flat_few says most xs all.1, length-append (says x) (flat_map says xs))
+
+both_small : (xs ys : List Line) → AllByRecursion IsSmall xs → AllByRecursion IsSmall ys → AllByRecursion IsSmall (xs ++ ys)
+both_small [] ys a b = b
+both_small (x ∷ xs) ys a b = (a.0, both_small xs ys a.1 b)
+
+flat_small : {A : Type 0} (says : A → List Line) (most : ℕ) (xs : List A) → AllByRecursion (Few says most) xs → AllByRecursion IsSmall (flat_map says xs)
+flat_small says most [] all = tt
+flat_small says most (x ∷ xs) all = both_small (says x) (flat_map says xs) all.0.small (flat_small says most xs all.1)
+
+each : {A : Type 0} (P Q : A → Type 0) → ((a : A) → P a → Q a) → (xs : List A) → AllByRecursion P xs → AllByRecursion Q xs
+each P Q holds [] all = tt
+each P Q holds (x ∷ xs) all = (holds x all.0, each P Q holds xs all.1)
+
+mapped : {A B : Type 0} (P : A → Type 0) (Q : B → Type 0) (g : A → B) → ((a : A) → P a → Q (g a)) → (xs : List A) → AllByRecursion P xs
+    → AllByRecursion Q (map g xs)
+mapped P Q g holds [] all = tt
+mapped P Q g holds (x ∷ xs) all = (holds x all.0, mapped P Q g holds xs all.1)
+
+chosen : {A : Type 0} (P : A → Type 0) (p : A → Bool) (xs : List A) → AllByRecursion P xs → AllByRecursion P (filter p xs)
+chosen P p [] all = tt
+chosen {A} P p (x ∷ xs) all = of (p x) (chosen P p xs all.1)
+  where
+    of : (b : Bool) → AllByRecursion P (filter p xs) → AllByRecursion P (cond b (x ∷ filter p xs) (filter p xs))
+    of true rest = (all.0, rest)
+    of false rest = rest
+
+module _ (m : Map) (readable : IsReadable m) where
+  row_small : (r : RowImage) → IsRowOf m r → IsSmall (row_says r)
+  row_small r is = (omega (arith, is.0.1), omega (arith, is.1.1))
+
+  row_most : (ns : List ℕ) → AllByRecursion IsRow ns → AllByRecursion (λ k. k ≤ ROWS) ns
+  row_most ns all = each IsRow (λ k. k ≤ ROWS) (λ k is. is.1) ns all
+
+  few_rows : (ns : List ℕ) → Up ns → AllByRecursion IsRow ns → length ns ≤ 16777216
+  few_rows ns up all = few ROWS ns up (row_most ns all)
+
+  count_few : (count : Count) → IsCount count → Few (count_says m) 16777217 count
+  count_few count is = record {
+    few =
+        let rows = few_rows (map (λ (r : RowImage). r.old) (rows_of m count.table)) (rows_up m readable count.table)
+        (mapped (IsRowOf m) IsRow (λ (r : RowImage). r.old) (λ r row. row.0) (rows_of m count.table)
+        (chosen (IsRowOf m) (λ r. nat_eq r.table count.table) m.rows readable.rows)) in
+        let same = length-map (rows_of m count.table) (λ (r : RowImage). r.old) in
+        let also = length-map (rows_of m count.table) row_says in
+        omega (arith, rows, same, also);
+    small = (
+      omega (arith, is.1),
+      mapped (IsRowOf m) IsSmall row_says row_small (rows_of m count.table)
+          (chosen (IsRowOf m) (λ r. nat_eq r.table count.table) m.rows readable.rows),
+    );
+  }
+
+  slots_few : (method : ℕ) → IsSlottedOf m method → Few (slots_say m) 65537 method
+  slots_few method is = record {
+    few =
+        let slots = few SLOTS (map (λ (x : SlotImage). x.old) (slots_of m method)) (slots_up m readable method)
+        (mapped (λ (x : SlotImage). x.old ≤ SLOTS) (λ k. k ≤ SLOTS) (λ (x : SlotImage). x.old) (λ x le. le) (slots_of m method)
+        (slots_hold m readable method)) in
+        let same = length-map (slots_of m method) (λ (x : SlotImage). x.old) in
+        let also = length-map (slots_of m method) slot_says in
+        omega (arith, slots, same, also);
+    small = (
+      omega (arith, is.0.1),
+      mapped (λ (x : SlotImage). IsSmall (slot_says x)) IsSmall slot_says (λ x small. small) (slots_of m method)
+          (filter_hold (IsSlotOf m) (λ (x : SlotImage). IsSmall (slot_says x)) (λ x. nat_eq x.method method)
+          (λ x slot at. let e = eqb-true x.method method at in (omega (arith, e, is.0.1), omega (arith, slot.0), omega (arith, slot.1)))
+          m.slots readable.slots),
+    );
+  }
+
+  line_few : (line : MethodLine) → IsLineOf m line → Few method_says 2147483648 line
+  line_few line is = record {
+    few =
+        let runs = few_runs line.runs (line_runs m line is) in
+        let same = length-map line.runs (λ r. Kept r) in
+        omega (arith, runs, same);
+    small = (
+      (omega (arith, is.0.1), is.1, is.2),
+      mapped IsShort IsSmall (λ r. Kept r)
+          (λ r short. (omega (arith, short.1), omega (arith, short.2), omega (arith, short.1))) line.runs (line_runs m line is).short,
+    );
+  }
+
+  few_counts : length m.counts ≤ 45
+  few_counts =
+      let counts = few 0x2c (map (λ (c : Count). c.table) m.counts) readable.ascends.counts
+      (mapped IsCount (λ k. k ≤ 0x2c) (λ (c : Count). c.table) (λ c is. is.0) m.counts readable.counts) in
+      let same = length-map m.counts (λ (c : Count). c.table) in
+      omega (arith, counts, same)
+
+  few_methods : length m.methods ≤ 16777216
+  few_methods =
+      let methods = few_rows (map (λ (l : MethodLine). l.method) m.methods) readable.ascends.methods (line_numbers m readable) in
+      let same = length-map m.methods (λ (l : MethodLine). l.method) in
+      omega (arith, methods, same)
+
+  drops_small : (ns : List ℕ) → AllByRecursion IsRow ns → AllByRecursion IsSmall (map (λ k. Dropped k) ns)
+  drops_small ns all = mapped IsRow IsSmall (λ k. Dropped k) (λ k is. omega (arith, is.1)) ns all
+
+  says_small : AllByRecursion IsSmall (map_says m)
+  says_small =
+      both_small (flat_map (count_says m) m.counts) _ (flat_small (count_says m) 16777217 m.counts
+      (each IsCount (Few (count_says m) 16777217) count_few m.counts readable.counts))
+      (both_small (map (λ k. Dropped k) m.drops) _ (drops_small m.drops readable.drops)
+      (both_small (flat_map (slots_say m) m.slotted) _ (flat_small (slots_say m) 65537 m.slotted
+      (each (IsSlottedOf m) (Few (slots_say m) 65537) slots_few m.slotted readable.slotted))
+      (flat_small method_says 2147483648 m.methods (each (IsLineOf m) (Few method_says 2147483648) line_few m.methods readable.methods))))
+
+  few_lines : length (map_says m) ≤ 45 * 16777217 + 16777216 + 16777216 * 65537 + 16777216 * 2147483648
+  few_lines =
+      let tables = flat_few (count_says m) 16777217 m.counts (each IsCount (Few (count_says m) 16777217) count_few m.counts readable.counts) in
+      let drops = few_rows m.drops readable.ascends.drops readable.drops in
+      let slotted = few_rows m.slotted readable.ascends.slotted (slotted_rows m readable) in
+      let slots = flat_few (slots_say m) 65537 m.slotted (each (IsSlottedOf m) (Few (slots_say m) 65537) slots_few m.slotted readable.slotted) in
+      let lines = flat_few method_says 2147483648 m.methods (each (IsLineOf m) (Few method_says 2147483648) line_few m.methods readable.methods) in
+      let counts = few_counts in
+      let methods = few_methods in
+      let same = length-map m.drops (λ k. Dropped k) in
+      let one = length-append (flat_map (count_says m) m.counts) (map (λ k. Dropped k) m.drops
+      ++ (flat_map (slots_say m) m.slotted ++ flat_map method_says m.methods)) in
+      let two = length-append (map (λ k. Dropped k) m.drops) (flat_map (slots_say m) m.slotted ++ flat_map method_says m.methods) in
+      let three = length-append (flat_map (slots_say m) m.slotted) (flat_map method_says m.methods) in
+      omega (arith, tables, drops, slotted, slots, lines, counts, methods, same, one, two, three)
+
+  pub text_short : length (map_text m) < 0xffffffffffffffff
+  text_short =
+      let lines = lines_long (map_says m) says_small in
+      let few = few_lines in
+      let all = length-append (ended (codes "ppdbmap 3")) (lines_text (map_says m)) in
+      omega (arith, lines, few, all)

@@ -1,0 +1,482 @@
+-- The map of two readable maps whose sizes agree is readable.
+use Rattle.std.proofs.Common.{◌≡◌, ℕ, ◌+◌, ◌<◌, ◌≤◌, ◌&&◌, ◌||◌, ◌++◌, Bool, true, false, cond, List, [], ◌∷◌, Option, Some, None, refl, sym, ◌∙◌, ap, arith}
+use Rattle.std.proofs.Common.{inl, inr, map, subst, zero, suc}
+use Rattle.std.specs.Prelude.{nat_eq, nat_lt, is_some, min, max}
+use Rattle.std.specs.List.{filter, filter_map, flat_map, find, range_with_len, cons_option, AllByRecursion}
+use Rattle.std.specs.Option.{option_map, option_and_then, option_or}
+use Rattle.std.proofs.lemmas.Bool.{lt-ltb, eq-eqb, eqb-true, and_parts, false≢true}
+use Rattle.ppdb_base.specs.declared.offsets.Run.{Run}
+use Rattle.ppdb_base.specs.Offsets.{every, gone, lined, Rise, RiseFrom, kept_runs, all_offsets, end_of, new_end_of}
+use Rattle.ppdb_maps.specs.declared.entries.Count.{Count}
+use Rattle.ppdb_maps.specs.declared.entries.RowImage.{RowImage}
+use Rattle.ppdb_maps.specs.declared.entries.SlotImage.{SlotImage}
+use Rattle.ppdb_maps.specs.Forms.{ROWS, OFFSETS, SLOTS}
+use Rattle.ppdb_maps.specs.Map.{Map, MethodLine, Ascends, count_of, row_line, row_image, method_line, is_dropped, has_slots, slot_line, slot_image}
+use Rattle.ppdb_maps.specs.Map.{offsets_in, line_offsets, rows_of, slots_of}
+use Rattle.ppdb_maps.specs.Readable.{IsReadable, IsRow, IsCount, IsRowOf, IsLineOf, IsSlottedOf, IsSlotOf}
+use Rattle.map_compose.specs.Runs.{meet, met, longest}
+use Rattle.map_compose.specs.Ascending.{put_once, ascending}
+use Rattle.map_compose.specs.Composed.{tables, composed_count, count_entry, composed_row, sources, row_entry, row_entries, spoken_of, of_image, drops_one}
+use Rattle.map_compose.specs.Composed.{has_image, second_line, composed_runs, sized, composed_line, has_slot_lines, composed_slot, slot_sources, slot_entry}
+use Rattle.map_compose.specs.Composed.{slot_entries, slotted_methods, composed}
+use Rattle.map_compose.specs.Composition.{ComposedIsReadable}
+use Rattle.map_compose.specs.Sizes.{SizesAgree}
+use Rattle.map_compose.proofs.Found.{either, has}
+use Rattle.map_compose.proofs.Orders.{Up, ascending_up, range_up, made_up, filter_up, flat_pairs, key_up}
+use Rattle.map_compose.proofs.Rising.{run_same, met_rises, longest_rises}
+use Rattle.map_compose.proofs.Equations.{composed_composes, counts_are, tables_known, line_named, count_named, entries_named, row_named, slots_named}
+use Rattle.map_compose.proofs.Equations.{slot_named, olds, numbers, came_by, live_image}
+
+-- ---- each item of a list
+
+pub found_holds : {X : Type 0} (P : X → Type 0) (p : X → Bool) (xs : List X) (x : X) → AllByRecursion P xs → find p xs ≡ Some x → P x
+found_holds P p [] x all is = absurd (cc)
+found_holds {X} P p (y ∷ ys) x all is = of (p y) is (found_holds P p ys x all.1)
+  where
+    of : (b : Bool) → cond b (Some y) (find p ys) ≡ Some x → (find p ys ≡ Some x → P x) → P x
+    of true is rest = let e : y ≡ x = cc in subst P e all.0
+    of false is rest = rest is
+
+made_hold : {A X : Type 0} (Q : A → Type 0) (P : X → Type 0) (make : A → Option X) → ((a : A) (x : X) → Q a → make a ≡ Some x → P x) → (xs : List A)
+    → AllByRecursion Q xs → AllByRecursion P (filter_map make xs)
+made_hold Q P make holds [] all = tt
+made_hold {A} {X} Q P make holds (a ∷ xs) all = of (make a) refl (made_hold Q P make holds xs all.1)
+  where
+    of : (o : Option X) → make a ≡ o → AllByRecursion P (filter_map make xs) → AllByRecursion P (cons_option o (filter_map make xs))
+    of None is rest = rest
+    of (Some x) is rest = (holds a x all.0 is, rest)
+
+both_hold : {X : Type 0} (P : X → Type 0) (xs ys : List X) → AllByRecursion P xs → AllByRecursion P ys → AllByRecursion P (xs ++ ys)
+both_hold P [] ys a b = b
+both_hold P (x ∷ xs) ys a b = (a.0, both_hold P xs ys a.1 b)
+
+flat_hold : {X : Type 0} (Q : ℕ → Type 0) (P : X → Type 0) (make : ℕ → List X) → ((k : ℕ) → Q k → AllByRecursion P (make k)) → (ns : List ℕ)
+    → AllByRecursion Q ns → AllByRecursion P (flat_map make ns)
+flat_hold Q P make holds [] all = tt
+flat_hold Q P make holds (n ∷ ns) all = both_hold P (make n) (flat_map make ns) (holds n all.0) (flat_hold Q P make holds ns all.1)
+
+map_hold : {A X : Type 0} (Q : A → Type 0) (P : X → Type 0) (g : A → X) → ((a : A) → Q a → P (g a)) → (xs : List A) → AllByRecursion Q xs
+    → AllByRecursion P (map g xs)
+map_hold Q P g holds [] all = tt
+map_hold Q P g holds (a ∷ xs) all = (holds a all.0, map_hold Q P g holds xs all.1)
+
+pub filter_hold : {X : Type 0} (P : X → Type 0) (R : X → Type 0) (p : X → Bool) → ((x : X) → P x → p x ≡ true → R x) → (xs : List X) → AllByRecursion P xs
+    → AllByRecursion R (filter p xs)
+filter_hold P R p holds [] all = tt
+filter_hold {X} P R p holds (x ∷ xs) all = of (p x) refl (filter_hold P R p holds xs all.1)
+  where
+    of : (b : Bool) → p x ≡ b → AllByRecursion R (filter p xs) → AllByRecursion R (cond b (x ∷ filter p xs) (filter p xs))
+    of true is rest = (holds x all.0 is, rest)
+    of false is rest = rest
+
+-- each number is one of the list
+all_there : (ns : List ℕ) → AllByRecursion (λ n. has n ns ≡ true) ns
+all_there [] = tt
+all_there (n ∷ ns) = (ap (λ b. b || has n ns) (eq-eqb n n refl), weaker ns (all_there ns))
+  where
+    weaker : (ks : List ℕ) → AllByRecursion (λ k. has k ns ≡ true) ks → AllByRecursion (λ k. has k (n ∷ ns) ≡ true) ks
+    weaker [] all = tt
+    weaker (k ∷ ks) all = (of (nat_eq k n) all.0, weaker ks all.1)
+      where
+        of : (b : Bool) → has k ns ≡ true → (b || has k ns) ≡ true
+        of true h = refl
+        of false h = h
+
+put_hold : (P : ℕ → Type 0) (n : ℕ) (ns : List ℕ) → P n → AllByRecursion P ns → AllByRecursion P (put_once n ns)
+put_hold P n [] h all = (h, tt)
+put_hold P n (m ∷ ms) h all = of (nat_lt n m) (nat_eq n m) (put_hold P n ms h all.1)
+  where
+    of : (a b : Bool) → AllByRecursion P (put_once n ms) → AllByRecursion P (cond a (n ∷ m ∷ ms) (cond b (m ∷ ms) (m ∷ put_once n ms)))
+    of true b rest = (h, all)
+    of false true rest = all
+    of false false rest = (all.0, rest)
+
+pub ascending_hold : (P : ℕ → Type 0) (ns : List ℕ) → AllByRecursion P ns → AllByRecursion P (ascending ns)
+ascending_hold P [] all = tt
+ascending_hold P (n ∷ ns) all = put_hold P n (ascending ns) all.0 (ascending_hold P ns all.1)
+
+-- ---- what a readable map says
+
+module _ (m : Map) (readable : IsReadable m) where
+  pub row_olds : AllByRecursion IsRow (olds m)
+  row_olds = map_hold (IsRowOf m) IsRow (λ (r : RowImage). r.old) (λ r is. is.0) (rows_of m 0x06)
+      (filter_hold (IsRowOf m) (IsRowOf m) (λ r. nat_eq r.table 0x06) (λ r is at. is) m.rows readable.rows)
+
+  pub line_numbers : AllByRecursion IsRow (numbers m)
+  line_numbers = map_hold (IsLineOf m) IsRow (λ (l : MethodLine). l.method) (λ l is. is.0) m.methods readable.methods
+
+  pub slotted_rows : AllByRecursion IsRow m.slotted
+  slotted_rows = all m.slotted readable.slotted
+    where
+      all : (ns : List ℕ) → AllByRecursion (IsSlottedOf m) ns → AllByRecursion IsRow ns
+      all [] is = tt
+      all (n ∷ ns) is = (is.0.0, all ns is.1)
+
+  pub counted : (table rows : ℕ) → count_of m table ≡ Some rows → rows ≤ ROWS
+  counted table rows is = of (find (λ (c : Count). nat_eq c.table table) m.counts) refl is
+    where
+      of : (o : Option Count) → find (λ (c : Count). nat_eq c.table table) m.counts ≡ o → option_map (λ (c : Count). c.rows) o ≡ Some rows → rows ≤ ROWS
+      of None at is = absurd (cc)
+      of (Some c) at is = let e : c.rows ≡ rows = cc in subst (λ n. n ≤ ROWS) e
+          (found_holds IsCount (λ (c : Count). nat_eq c.table table) m.counts c readable.counts at).1
+
+  lined_row : (table old new : ℕ) → row_line m table old ≡ Some new → IsRow new
+  lined_row table old new is = of (find (λ (r : RowImage). nat_eq r.table table && nat_eq r.old old) m.rows) refl is
+    where
+      of : (o : Option RowImage) → find (λ (r : RowImage). nat_eq r.table table && nat_eq r.old old) m.rows ≡ o
+          → option_map (λ (r : RowImage). r.new) o ≡ Some new → IsRow new
+      of None at is = absurd (cc)
+      of (Some r) at is = let e : r.new ≡ new = cc in subst IsRow e
+          (found_holds (IsRowOf m) (λ (r : RowImage). nat_eq r.table table && nat_eq r.old old) m.rows r readable.rows at).1
+
+  -- the image of a row is one
+  image_row : (table old new : ℕ) → IsRow old → row_image m table old ≡ Some new → IsRow new
+  image_row table old new row is = of (nat_eq table 0x06 && is_dropped m old) (count_of m table) is
+    where
+      of : (b : Bool) (c : Option ℕ) → cond b None (elim c as (λ _. Option ℕ) [ None ↦ Some old | Some count ↦ row_line m table old ]) ≡ Some new → IsRow new
+      of true c is = absurd (cc)
+      of false None is = let e : old ≡ new = cc in subst IsRow e row
+      of false (Some n) is = lined_row table old new is
+
+  lined_slot : (method old new : ℕ) → slot_line m method old ≡ Some new → new ≤ SLOTS
+  lined_slot method old new is = of (find (λ (x : SlotImage). nat_eq x.method method && nat_eq x.old old) m.slots) refl is
+    where
+      of : (o : Option SlotImage) → find (λ (x : SlotImage). nat_eq x.method method && nat_eq x.old old) m.slots ≡ o
+          → option_map (λ (x : SlotImage). x.new) o ≡ Some new → new ≤ SLOTS
+      of None at is = absurd (cc)
+      of (Some x) at is = let e : x.new ≡ new = cc in subst (λ n. n ≤ SLOTS) e
+          (found_holds (IsSlotOf m) (λ (x : SlotImage). nat_eq x.method method && nat_eq x.old old) m.slots x readable.slots at).1
+
+  image_slot : (method old new : ℕ) → old ≤ SLOTS → slot_image m method old ≡ Some new → new ≤ SLOTS
+  image_slot method old new slot is = of (has_slots m method) is
+    where
+      of : (b : Bool) → cond b (slot_line m method old) (Some old) ≡ Some new → new ≤ SLOTS
+      of true is = lined_slot method old new is
+      of false is = let e : old ≡ new = cc in subst (λ n. n ≤ SLOTS) e slot
+
+  pub line_fits : (method : ℕ) (line : MethodLine) → method_line m method ≡ Some line → IsLineOf m line
+  line_fits method line is = found_holds (IsLineOf m) (λ (l : MethodLine). nat_eq l.method method) m.methods line readable.methods is
+
+  -- the offsets of each method rise
+  pub offsets_rise : (method : ℕ) → Rise (offsets_in m method)
+  offsets_rise method = of (is_dropped m method) (method_line m method) refl
+    where
+      of : (b : Bool) (o : Option MethodLine) → method_line m method ≡ o → Rise (cond b gone (line_offsets o))
+      of true o is = tt
+      of false None is = (omega arith, omega arith, omega arith, tt)
+      of false (Some line) is = (line_fits method line is).3
+
+  pub rows_up : (table : ℕ) → Up (map (λ (r : RowImage). r.old) (rows_of m table))
+  rows_up table = key_up (λ (r : RowImage). r.table) (λ (r : RowImage). r.old) table m.rows readable.ascends.rows
+
+  pub slots_up : (method : ℕ) → Up (map (λ (x : SlotImage). x.old) (slots_of m method))
+  slots_up method = key_up (λ (x : SlotImage). x.method) (λ (x : SlotImage). x.old) method m.slots readable.ascends.slots
+
+  pub rows_hold : (table : ℕ) → AllByRecursion (λ (r : RowImage). IsRow r.old × (is_some (count_of m table) ≡ true)) (rows_of m table)
+  rows_hold table = filter_hold (IsRowOf m) (λ (r : RowImage). IsRow r.old × (is_some (count_of m table) ≡ true)) (λ r. nat_eq r.table table)
+      (λ r is at. (is.0, subst (λ t. is_some (count_of m t) ≡ true) (eqb-true r.table table at) is.2)) m.rows readable.rows
+
+  pub slots_hold : (method : ℕ) → AllByRecursion (λ (x : SlotImage). x.old ≤ SLOTS) (slots_of m method)
+  slots_hold method = filter_hold (IsSlotOf m) (λ (x : SlotImage). x.old ≤ SLOTS) (λ x. nat_eq x.method method) (λ x is at. is.0) m.slots readable.slots
+
+-- ---- all offsets
+
+-- met with all offsets, runs stay
+pub met_all : (a b c d : ℕ) (rs : List Run) → d ≤ 4294967296 → RiseFrom a b (rs ++ record { old = c; new = d; length = 1 } ∷ [])
+    → met rs (all_offsets ∷ []) ≡ rs
+met_all a b c d [] small rise = refl
+met_all a b c d (r ∷ rs) small rise =
+    let within : new_end_of r ≤ 4294967296 = omega (arith, small, ends (end_of r) (new_end_of r) rs rise.3) in
+    let one : meet r all_offsets ≡ Some r = rw (lt-ltb (max r.new 0) (min (new_end_of r) 4294967296) (omega (arith, within, rise.0)))
+    (ap Some (run_same _ r (omega arith) (omega arith) (omega (arith, within)))) in
+    ap (λ o. cons_option o [] ++ met rs (all_offsets ∷ [])) one ∙ ap (λ l. r ∷ l) (met_all (end_of r) (new_end_of r) c d rs small rise.3)
+  where
+    ends : (a b : ℕ) (xs : List Run) → RiseFrom a b (xs ++ record { old = c; new = d; length = 1 } ∷ []) → b ≤ d
+    ends a b [] rise = rise.2
+    ends a b (x ∷ xs) rise = omega (arith, rise.2, ends (end_of x) (new_end_of x) xs rise.3)
+
+pub all_met : (a b c d : ℕ) (qs : List Run) → c ≤ 4294967296 → RiseFrom a b (qs ++ record { old = c; new = d; length = 1 } ∷ [])
+    → met (all_offsets ∷ []) qs ≡ qs
+all_met a b c d qs small rise = nil (filter_map (meet all_offsets) qs) ∙ stay a b qs rise
+  where
+    nil : (l : List Run) → l ++ [] ≡ l
+    nil [] = refl
+    nil (x ∷ xs) = ap (λ l. x ∷ l) (nil xs)
+
+    ends : (a b : ℕ) (xs : List Run) → RiseFrom a b (xs ++ record { old = c; new = d; length = 1 } ∷ []) → a ≤ c
+    ends a b [] rise = rise.1
+    ends a b (x ∷ xs) rise = omega (arith, rise.1, ends (end_of x) (new_end_of x) xs rise.3)
+
+    stay : (a b : ℕ) (xs : List Run) → RiseFrom a b (xs ++ record { old = c; new = d; length = 1 } ∷ []) → filter_map (meet all_offsets) xs ≡ xs
+    stay a b [] rise = refl
+    stay a b (x ∷ xs) rise =
+        let within : end_of x ≤ 4294967296 = omega (arith, small, ends (end_of x) (new_end_of x) xs rise.3) in
+        let one : meet all_offsets x ≡ Some x = rw (lt-ltb (max 0 x.old) (min 4294967296 (end_of x)) (omega (arith, within, rise.0)))
+        (ap Some (run_same _ x (omega arith) (omega arith) (omega (arith, within)))) in
+        ap (λ o. cons_option o (filter_map (meet all_offsets) xs)) one ∙ ap (λ l. x ∷ l) (stay (end_of x) (new_end_of x) xs rise.3)
+
+-- ---- the map of both
+
+module _ (f s : Map) (f_readable : IsReadable f) (s_readable : IsReadable s) where
+  pub spoken_rows : (own others : List ℕ) → AllByRecursion IsRow own → AllByRecursion IsRow others → AllByRecursion IsRow (spoken_of f own others)
+  spoken_rows own others a b = ascending_hold IsRow (own ++ (olds f ++ others))
+      (both_hold IsRow own (olds f ++ others) a (both_hold IsRow (olds f) others (row_olds f f_readable) b))
+
+  -- a method with an image is not dropped
+  stays : (k : ℕ) → has_image f s k ≡ true → is_dropped (composed f s) k ≡ false
+  stays k there = live_image (composed f s) k (ap is_some ((composed_composes f s f_readable s_readable).rows 0x06 k) ∙ there)
+
+  -- ---- rows
+
+  pub source_rows : (table : ℕ) → AllByRecursion (λ (r : RowImage). IsRow r.old × (is_some (composed_count f s table) ≡ true))
+      (sources (count_of f table) (count_of s table) f s table)
+  source_rows table = of (count_of f table) (count_of s table) refl refl
+    where
+      of : (a b : Option ℕ) → count_of f table ≡ a → count_of s table ≡ b
+          → AllByRecursion (λ (r : RowImage). IsRow r.old × (is_some (composed_count f s table) ≡ true)) (sources a b f s table)
+      of None None is also = tt
+      of None (Some n) is also = all (rows_of s table) (rows_hold s s_readable table)
+        where
+          all : (rs : List RowImage) → AllByRecursion (λ (r : RowImage). IsRow r.old × (is_some (count_of s table) ≡ true)) rs
+              → AllByRecursion (λ (r : RowImage). IsRow r.old × (is_some (composed_count f s table) ≡ true)) rs
+          all [] h = tt
+          all (r ∷ rs) h = ((h.0.0, ap (λ o. is_some (option_or o (count_of f table))) also), all rs h.1)
+      of (Some n) b is also = all (rows_of f table) (rows_hold f f_readable table)
+        where
+          by : (o : Option ℕ) → is_some (option_or o (Some n)) ≡ true
+          by None = refl
+          by (Some k) = refl
+
+          all : (rs : List RowImage) → AllByRecursion (λ (r : RowImage). IsRow r.old × (is_some (count_of f table) ≡ true)) rs
+              → AllByRecursion (λ (r : RowImage). IsRow r.old × (is_some (composed_count f s table) ≡ true)) rs
+          all [] h = tt
+          all (r ∷ rs) h = ((h.0.0, ap (λ o. is_some (option_or (count_of s table) o)) is ∙ by (count_of s table)), all rs h.1)
+
+  pub sources_up : (table : ℕ) → Up (map (λ (r : RowImage). r.old) (sources (count_of f table) (count_of s table) f s table))
+  sources_up table = of (count_of f table) (count_of s table)
+    where
+      none : Up []
+      none = filter_up (λ n. false) (0 ∷ []) (ascending_up (0 ∷ []))
+
+      of : (a b : Option ℕ) → Up (map (λ (r : RowImage). r.old) (sources a b f s table))
+      of None None = none
+      of None (Some n) = rows_up s s_readable table
+      of (Some n) b = rows_up f f_readable table
+
+  -- by both maps the image of a row is one
+  both_row : (table old new : ℕ) → IsRow old → composed_row f s table old ≡ Some new → IsRow new
+  both_row table old new row is = of (row_image f table old) refl is
+    where
+      of : (o : Option ℕ) → row_image f table old ≡ o → option_and_then (row_image s table) o ≡ Some new → IsRow new
+      of None at is = absurd (cc)
+      of (Some mid) at is = image_row s s_readable table mid new (image_row f f_readable table old mid row at) is
+
+  entry_fits : (table : ℕ) (line row : RowImage) → IsRow line.old × (is_some (composed_count f s table) ≡ true) → row_entry f s table line ≡ Some row
+      → IsRowOf (composed f s) row
+  entry_fits table line row held is = of (composed_row f s table line.old) refl is
+    where
+      of : (o : Option ℕ) → composed_row f s table line.old ≡ o → option_map (λ new. record { table = table; old = line.old; new = new }) o ≡ Some row
+          → IsRowOf (composed f s) row
+      of None at is = absurd (cc)
+      of (Some new) at is =
+          let e : record { table = table; old = line.old; new = new } ≡ row = cc in
+          subst (IsRowOf (composed f s)) e (
+            held.0,
+            both_row table line.old new held.0 at,
+            ap is_some (counts_are f s (tables_known f f_readable) (tables_known s s_readable) table) ∙ held.1,
+            λ six. stays line.old (subst (λ t. is_some (composed_row f s t line.old) ≡ true) six (ap is_some at)),
+          )
+
+  count_fits : (table : ℕ) (count : Count) → has table tables ≡ true → count_entry f s table ≡ Some count → IsCount count
+  count_fits table count there is = of (count_of s table) (count_of f table) refl refl is
+    where
+      small : (n a : ℕ) → has table (range_with_len a n) ≡ true → table < a + n
+      small zero a h = absurd (false≢true h)
+      small (suc n) a h = step (nat_eq table a) refl h (small n (a + 1))
+        where
+          step : (b : Bool) → nat_eq table a ≡ b → (b || has table (range_with_len (a + 1) n)) ≡ true
+              → (has table (range_with_len (a + 1) n) ≡ true → table < (a + 1) + n) → table < a + suc n
+          step true is h rest = let e = eqb-true table a is in omega (arith, e)
+          step false is h rest = let less = rest h in omega (arith, less)
+
+      fits : (rows : ℕ) → rows ≤ ROWS → (o : Count) → record { table = table; rows = rows } ≡ o → IsCount o
+      fits rows le o e = subst IsCount e (omega (arith, small 0x2d 0 there), le)
+
+      of : (b a : Option ℕ) → count_of s table ≡ b → count_of f table ≡ a
+          → option_map (λ rows. record { table = table; rows = rows }) (option_or b a) ≡ Some count → IsCount count
+      of None None is also h = absurd (cc)
+      of None (Some n) is also h = fits n (counted f f_readable table n also) count (cc)
+      of (Some n) a is also h = fits n (counted s s_readable table n is) count (cc)
+
+  -- ---- methods
+
+  line_holds : SizesAgree f s → (k : ℕ) (line : MethodLine) → IsRow k → composed_line f s k ≡ Some line → IsLineOf (composed f s) line
+  line_holds agree k line row is = of (has_image f s k) refl is
+    where
+      second_fits : (b : MethodLine) → second_line f s k ≡ Some b → IsLineOf s b
+      second_fits b at = by (row_image f 0x06 k) at
+        where
+          by : (o : Option ℕ) → of_image None (method_line s) o ≡ Some b → IsLineOf s b
+          by None at = absurd (cc)
+          by (Some image) at = line_fits s s_readable image b at
+
+      -- the offsets of a method with an image are those of its line
+      first_runs : has_image f s k ≡ true → (o : Option MethodLine) → method_line f k ≡ o → offsets_in f k ≡ line_offsets o
+      first_runs there o at = by (row_image f 0x06 k) refl there
+        where
+          by : (i : Option ℕ) → row_image f 0x06 k ≡ i → is_some (option_and_then (row_image s 0x06) i) ≡ true → offsets_in f k ≡ line_offsets o
+          by None is there = absurd (false≢true there)
+          by (Some image) is there = ap (λ b. cond b gone (line_offsets (method_line f k))) (came_by f k image is).live ∙ ap line_offsets at
+
+      second_runs : has_image f s k ≡ true → (o : Option MethodLine) → second_line f s k ≡ o
+          → of_image every (offsets_in s) (row_image f 0x06 k) ≡ line_offsets o
+      second_runs there o at = by (row_image f 0x06 k) there at
+        where
+          by : (i : Option ℕ) → is_some (option_and_then (row_image s 0x06) i) ≡ true → of_image None (method_line s) i ≡ o
+              → of_image every (offsets_in s) i ≡ line_offsets o
+          by None there at = absurd (false≢true there)
+          by (Some image) there at = ap (λ b. cond b gone (line_offsets (method_line s image))) (live_image s image there) ∙ ap line_offsets at
+
+      runs_are : has_image f s k ≡ true → (a b : Option MethodLine) → method_line f k ≡ a → second_line f s k ≡ b
+          → composed_runs f s k ≡ longest (met (kept_runs (line_offsets a)) (kept_runs (line_offsets b)))
+      runs_are there a b at also =
+          ap (λ o. longest (met (kept_runs o) (kept_runs (of_image every (offsets_in s) (row_image f 0x06 k))))) (first_runs there a at)
+          ∙ ap (λ o. longest (met (kept_runs (line_offsets a)) (kept_runs o))) (second_runs there b also)
+
+      rises : has_image f s k ≡ true → (old new : ℕ) (runs : List Run) → old ≤ OFFSETS → new ≤ OFFSETS → composed_runs f s k ≡ runs → Rise (lined runs old new)
+          → IsLineOf (composed f s) (record { method = k; old_size = old; new_size = new; runs = composed_runs f s k })
+      rises there old new runs p q e rise = (row, p, q, subst (λ rs. Rise (lined rs old new)) (sym e) rise, stays k there)
+
+      by : has_image f s k ≡ true → (a b : Option MethodLine) → method_line f k ≡ a → second_line f s k ≡ b → sized k (composed_runs f s k) a b ≡ Some line
+          → IsLineOf (composed f s) line
+      by there None None at also is = absurd (cc)
+      by there (Some a) None at also is =
+          let fits = line_fits f f_readable k a at in
+          let e : record { method = k; old_size = a.old_size; new_size = a.new_size; runs = composed_runs f s k } ≡ line = cc in
+          subst (IsLineOf (composed f s)) e
+          (rises there a.old_size a.new_size (longest a.runs) fits.1 fits.2
+          (runs_are there (Some a) None at also ∙ ap longest (met_all 0 0 a.old_size a.new_size a.runs (omega (arith, fits.2)) fits.3))
+          (longest_rises 0 0 a.runs (record { old = a.old_size; new = a.new_size; length = 1 } ∷ []) fits.3))
+      by there None (Some b) at also is =
+          let fits = second_fits b also in
+          let e : record { method = k; old_size = b.old_size; new_size = b.new_size; runs = composed_runs f s k } ≡ line = cc in
+          subst (IsLineOf (composed f s)) e
+          (rises there b.old_size b.new_size (longest b.runs) fits.1 fits.2
+          (runs_are there None (Some b) at also ∙ ap longest (all_met 0 0 b.old_size b.new_size b.runs (omega (arith, fits.1)) fits.3))
+          (longest_rises 0 0 b.runs (record { old = b.old_size; new = b.new_size; length = 1 } ∷ []) fits.3))
+      by there (Some a) (Some b) at also is =
+          let fits = line_fits f f_readable k a at in
+          let also_fits = second_fits b also in
+          let e : record { method = k; old_size = a.old_size; new_size = b.new_size; runs = composed_runs f s k } ≡ line = cc in
+          let same : a.new_size ≡ b.old_size = elim (either a.new_size b.old_size) [
+            | inl eq ↦ eq
+            | inr differ ↦ absurd (agree k a.new_size b.old_size (record {
+              a = a;
+              b = b;
+              there = there;
+              before = at;
+              after = also;
+              sizes =
+                  (refl, refl, differ);
+            }))
+          ] in
+          subst (IsLineOf (composed f s)) e
+          (rises there a.old_size b.new_size (longest (met a.runs b.runs)) fits.1 also_fits.2
+          (runs_are there (Some a) (Some b) at also)
+          (met_rises a.runs b.runs a.old_size b.old_size b.new_size (subst (λ n. Rise (lined a.runs a.old_size n)) same fits.3) also_fits.3))
+
+      of : (b : Bool) → has_image f s k ≡ b → cond b (sized k (composed_runs f s k) (method_line f k) (second_line f s k)) None ≡ Some line
+          → IsLineOf (composed f s) line
+      of false there is = absurd (cc)
+      of true there is = by there (method_line f k) (second_line f s k) refl refl is
+
+  -- ---- slots
+
+  slotted_fit : (k : ℕ) → IsRow k → has_slot_lines f s k ≡ true → IsSlottedOf (composed f s) k
+  slotted_fit k row is = (row, stays k (and_parts (has_image f s k) _ is).0)
+
+  pub slot_source_fits : (k : ℕ) → AllByRecursion (λ (x : SlotImage). x.old ≤ SLOTS) (slot_sources f s k)
+  slot_source_fits k = of (has_slots f k) (row_image f 0x06 k)
+    where
+      of : (b : Bool) (o : Option ℕ) → AllByRecursion (λ (x : SlotImage). x.old ≤ SLOTS) (cond b (slots_of f k) (of_image [] (slots_of s) o))
+      of true o = slots_hold f f_readable k
+      of false None = tt
+      of false (Some image) = slots_hold s s_readable image
+
+  pub slot_sources_up : (k : ℕ) → Up (map (λ (x : SlotImage). x.old) (slot_sources f s k))
+  slot_sources_up k = of (has_slots f k) (row_image f 0x06 k)
+    where
+      none : Up []
+      none = filter_up (λ n. false) (0 ∷ []) (ascending_up (0 ∷ []))
+
+      of : (b : Bool) (o : Option ℕ) → Up (map (λ (x : SlotImage). x.old) (cond b (slots_of f k) (of_image [] (slots_of s) o)))
+      of true o = slots_up f f_readable k
+      of false None = none
+      of false (Some image) = slots_up s s_readable image
+
+  slot_holds : (k : ℕ) → has k (slotted_methods f s) ≡ true → (line x : SlotImage) → line.old ≤ SLOTS → slot_entry f s k line ≡ Some x
+      → IsSlotOf (composed f s) x
+  slot_holds k there line x small is = of (composed_slot f s k line.old) refl is
+    where
+      second : (o : Option ℕ) (mid new : ℕ) → mid ≤ SLOTS → of_image None (λ image. slot_image s image mid) o ≡ Some new → new ≤ SLOTS
+      second None mid new le is = absurd (cc)
+      second (Some image) mid new le is = image_slot s s_readable image mid new le is
+
+      first : (o : Option ℕ) (new : ℕ) → slot_image f k line.old ≡ o
+          → option_and_then (λ slot. of_image None (λ image. slot_image s image slot) (row_image f 0x06 k)) o ≡ Some new → new ≤ SLOTS
+      first None new at is = absurd (cc)
+      first (Some mid) new at is = second (row_image f 0x06 k) mid new (image_slot f f_readable k line.old mid small at) is
+
+      of : (o : Option ℕ) → composed_slot f s k line.old ≡ o → option_map (λ new. record { method = k; old = line.old; new = new }) o ≡ Some x
+          → IsSlotOf (composed f s) x
+      of None at is = absurd (cc)
+      of (Some new) at is =
+          let e : record { method = k; old = line.old; new = new } ≡ x = cc in
+          subst (IsSlotOf (composed f s)) e (small, first (slot_image f k line.old) new refl at, there)
+
+  -- ---- the lists ascend
+
+  ascends : Ascends (composed f s)
+  ascends = record {
+    counts = made_up (λ k. k) (λ (c : Count). c.table) (count_entry f s) (count_named f s) tables (subst Up (sym (map_same tables)) (range_up 0 0x2d));
+    rows = flat_pairs (λ (r : RowImage). r.table) (λ (r : RowImage). r.old) (row_entries f s) (entries_named f s)
+        (λ table. made_up (λ (r : RowImage). r.old) (λ (r : RowImage). r.old) (row_entry f s table) (λ line row is. row_named f s table line.old row is)
+        (sources (count_of f table) (count_of s table) f s table) (sources_up table)) tables (range_up 0 0x2d);
+    methods = made_up (λ k. k) (λ (l : MethodLine). l.method) (composed_line f s) (line_named f s) (spoken_of f (numbers f) (numbers s))
+        (subst Up (sym (map_same (spoken_of f (numbers f) (numbers s)))) (ascending_up (numbers f ++ (olds f ++ numbers s))));
+    drops = filter_up (drops_one f s) (spoken_of f f.drops s.drops) (ascending_up (f.drops ++ (olds f ++ s.drops)));
+    slotted = slotted_up;
+    slots = flat_pairs (λ (x : SlotImage). x.method) (λ (x : SlotImage). x.old) (slot_entries f s) (slots_named f s)
+        (λ k. made_up (λ (x : SlotImage). x.old) (λ (x : SlotImage). x.old) (slot_entry f s k) (λ line x is. slot_named f s k line.old x is)
+        (slot_sources f s k) (slot_sources_up k)) (slotted_methods f s) slotted_up;
+  }
+    where
+      map_same : (ns : List ℕ) → map (λ k. k) ns ≡ ns
+      map_same [] = refl
+      map_same (n ∷ ns) = ap (λ l. n ∷ l) (map_same ns)
+
+      slotted_up : Up (slotted_methods f s)
+      slotted_up = filter_up (has_slot_lines f s) (spoken_of f f.slotted s.slotted) (ascending_up (f.slotted ++ (olds f ++ s.slotted)))
+
+  readable : SizesAgree f s → IsReadable (composed f s)
+  readable agree = record {
+    ascends = ascends;
+    counts = made_hold (λ k. has k tables ≡ true) IsCount (count_entry f s) count_fits tables (all_there tables);
+    rows = flat_hold (λ k. has k tables ≡ true) (IsRowOf (composed f s)) (row_entries f s)
+        (λ table there. made_hold (λ (r : RowImage). IsRow r.old × (is_some (composed_count f s table) ≡ true)) (IsRowOf (composed f s))
+        (row_entry f s table) (entry_fits table)
+        (sources (count_of f table) (count_of s table) f s table) (source_rows table)) tables (all_there tables);
+    methods = made_hold IsRow (IsLineOf (composed f s)) (composed_line f s) (line_holds agree) (spoken_of f (numbers f) (numbers s))
+        (spoken_rows (numbers f) (numbers s) (line_numbers f f_readable) (line_numbers s s_readable));
+    drops = filter_hold IsRow IsRow (drops_one f s) (λ k row is. row) (spoken_of f f.drops s.drops)
+        (spoken_rows f.drops s.drops f_readable.drops s_readable.drops);
+    slotted = filter_hold IsRow (IsSlottedOf (composed f s)) (has_slot_lines f s) slotted_fit (spoken_of f f.slotted s.slotted)
+        (spoken_rows f.slotted s.slotted (slotted_rows f f_readable) (slotted_rows s s_readable));
+    slots = flat_hold (λ k. has k (slotted_methods f s) ≡ true) (IsSlotOf (composed f s)) (slot_entries f s)
+        (λ k there. made_hold (λ (x : SlotImage). x.old ≤ SLOTS) (IsSlotOf (composed f s)) (slot_entry f s k) (slot_holds k there) (slot_sources f s k)
+        (slot_source_fits k))
+        (slotted_methods f s) (all_there (slotted_methods f s));
+  }
+
+pub composed_is_readable : ComposedIsReadable
+composed_is_readable = λ f s f_readable s_readable agree. readable f s f_readable s_readable agree

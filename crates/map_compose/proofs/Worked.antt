@@ -1,0 +1,33 @@
+-- The worked maps, by computation.
+use Rattle.std.proofs.Common.{refl, arith}
+use Rattle.std.specs.Fmt.{digits}
+use Rattle.map_compose.specs.Worked.{WorkedComposed}
+
+pub worked_maps : WorkedComposed
+unfolding digits
+worked_maps = record {
+  cuts = refl;
+  drops = refl;
+  nothing = refl;
+  no_slot = refl;
+  one_image = refl;
+  joined_across = refl;
+  parted = refl;
+  second_alone = refl;
+  first_alone = refl;
+  without_image = refl;
+  exchanged = refl;
+  no_size = refl;
+  line_dropped = refl;
+  image_dropped = refl;
+  both_drop = refl;
+  dropped_row = refl;
+  types = refl;
+  slot_taken_on = refl;
+  slots_of_second = refl;
+  nothing_kept = refl;
+  no_run = refl;
+  inside = refl;
+  differs = record { a = _; b = _; there = refl; before = refl; after = refl; sizes = (refl, refl, λ e. omega (arith, e)) };
+  differs_by_image = record { a = _; b = _; there = refl; before = refl; after = refl; sizes = (refl, refl, λ e. omega (arith, e)) };
+}

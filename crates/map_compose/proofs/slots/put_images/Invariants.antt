@@ -1,0 +1,15 @@
+use Rattle.std.proofs.Common.{map, take, length, ◌≤◌, ◌-◌}
+use Rattle.std.specs.List.{filter_map}
+use Rattle.map_text.specs.MapTexts.{slot_says}
+use Rattle.map_compose.specs.Composed.{slot_entry, slot_sources}
+use Rattle.map_compose.specs.Says.{PutsLines}
+use Rattle.map_compose.proofs.slots.put_images.Given as goal
+
+abbrev pub invariant-slots : goal.invariant-slots
+invariant-slots l = record {
+  within : l.index ≤ length (slot_sources l.first l.second l.method);
+  puts : PutsLines l.fn.text l.text (map slot_says (filter_map (slot_entry l.first l.second l.method) (take l.index (slot_sources l.first l.second l.method))));
+}
+
+abbrev pub decreases-slots : goal.decreases-slots
+decreases-slots l = length (slot_sources l.first l.second l.method) - l.index

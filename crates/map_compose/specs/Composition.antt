@@ -1,0 +1,56 @@
+-- The equations by which a map is the composition of two, and when the map of two maps is readable.
+use Rattle.std.specs.Prelude.{◌≡◌, ℕ, ◌≤◌, ◌↔◌, ◌⊎◌, true, List, Option, Some, None, is_some}
+use Rattle.std.specs.Option.{option_and_then}
+use Rattle.ppdb_base.specs.declared.offsets.Run.{Run}
+use Rattle.ppdb_base.specs.Offsets.{lined, Rise, Kept, kept_runs, old_size, moved}
+use Rattle.ppdb_maps.specs.Map.{Map, count_of, row_image, is_dropped, method_line, slot_image, offsets_in}
+use Rattle.ppdb_maps.specs.Readable.{IsReadable}
+use Rattle.ppdb_maps.specs.Says.{sizes_of}
+use Rattle.map_compose.specs.Composed.{composed, composed_count, composed_row, drops_one}
+use Rattle.map_compose.specs.Laws.{MovesOn}
+use Rattle.map_compose.specs.Runs.{met, longest}
+use Rattle.map_compose.specs.Sizes.{SizesAgree}
+
+-- the method becomes `image` by the first map, and is there after both
+pub record Follows (f s : Map) (method image : ℕ) : Type 0 where
+  pub first : row_image f 0x06 method ≡ Some image
+  pub second : is_some (row_image s 0x06 image) ≡ true
+
+-- the old size of the first line and the new size of the second, where both are there; else those of the line that is
+abbrev pub sizes_then : Option (ℕ × ℕ) → Option (ℕ × ℕ) → Option (ℕ × ℕ)
+sizes_then None second = second
+sizes_then (Some first) None = Some first
+sizes_then (Some first) (Some second) = Some (first.0, second.1)
+
+pub record IsComposition (f s c : Map) : Type 0 where
+  pub counts : (table : ℕ) → count_of c table ≡ composed_count f s table
+  pub rows : (table old : ℕ) → row_image c table old ≡ composed_row f s table old
+  pub drops : (method : ℕ) → is_dropped c method ≡ drops_one f s method
+  pub slots : (method image old : ℕ) → Follows f s method image → slot_image c method old ≡ option_and_then (slot_image s image) (slot_image f method old)
+  pub sizes : (method image : ℕ) → Follows f s method image
+      → sizes_of (offsets_in c method) ≡ sizes_then (sizes_of (offsets_in f method)) (sizes_of (offsets_in s image))
+  pub kept : (method image x z : ℕ) → Follows f s method image
+      → Kept (offsets_in c method) x z ↔ MovesOn (kept_runs (offsets_in f method)) (kept_runs (offsets_in s image)) x z
+
+-- the map of two readable maps is their composition
+abbrev pub ComposedComposes : Type 0
+ComposedComposes = (f s : Map) → IsReadable f → IsReadable s → IsComposition f s (composed f s)
+
+-- readable maps whose sizes agree compose to a readable one
+abbrev pub ComposedIsReadable : Type 0
+ComposedIsReadable = (f s : Map) → IsReadable f → IsReadable s → SizesAgree f s → IsReadable (composed f s)
+
+-- Of two lines whose sizes agree: where the second keeps nothing but images of the first, the next image of the next image is that
+-- of the composed line.
+pub record NextComposes : Type 0 where
+  pub tight : (firsts seconds : List Run) (old middle new x : ℕ) → Rise (lined firsts old middle) → Rise (lined seconds middle new)
+      → ((y z : ℕ) → Kept (lined seconds middle new) y z → (w : ℕ) × Kept (lined firsts old middle) w y) → x ≤ old
+      → moved (lined seconds middle new) (moved (lined firsts old middle) x) ≡ moved (lined (longest (met firsts seconds)) old new) x
+  -- at each offset that both keep
+  pub kept : (f s : Map) (method image x z : ℕ) → IsReadable f → IsReadable s → SizesAgree f s → Follows f s method image
+      → Kept (offsets_in (composed f s) method) x z
+      → moved (offsets_in s image) (moved (offsets_in f method) x) ≡ moved (offsets_in (composed f s) method) x
+  -- where one of the two has no line: by it each offset is its own next image
+  pub alone : (f s : Map) (method image x : ℕ) → IsReadable f → IsReadable s → SizesAgree f s → Follows f s method image
+      → (method_line f method ≡ None) ⊎ (method_line s image ≡ None) → x ≤ old_size (offsets_in (composed f s) method)
+      → moved (offsets_in s image) (moved (offsets_in f method) x) ≡ moved (offsets_in (composed f s) method) x

@@ -1,0 +1,79 @@
+-- What is put of runs of which each is held back until it is known that none goes on with it.
+use Rattle.std.specs.Prelude.{◌≡◌, ℕ, ◌+◌, ◌<◌, ◌≤◌, ◌++◌, List, [], ◌∷◌, Option, Some, None, option_to_list, option_copied, map, length}
+use Rattle.std.specs.Borrow.{Bor}
+use Rattle.std.specs.List.{flat_map, AllByRecursion}
+use Rattle.std.specs.Option.{option_map}
+use Rattle.ppdb_base.specs.declared.offsets.Run.{Run}
+use Rattle.ppdb_base.specs.Offsets.{Offsets, every, gone, lined, RiseFrom, end_of, new_end_of}
+use Rattle.ppdb_maps.specs.declared.line.Line.TheVariants.{Kept}
+use Rattle.ppdb_maps.specs.Forms.{OFFSETS}
+use Rattle.ppdb_maps.specs.Map.{Map, MethodLine, method_line}
+use Rattle.ppdb_maps.specs.Readable.{IsReadable}
+use Rattle.map_text.specs.declared.counted.Counted.{Counted}
+use Rattle.map_compose.specs.declared.joined.JoinedRuns.{JoinedRuns}
+use Rattle.map_compose.specs.declared.joined.JoinedLine.{JoinedLine}
+use Rattle.map_compose.specs.Runs.{met, longest}
+use Rattle.map_compose.specs.Says.{PutsLines}
+
+-- a run of a map that a text has
+abbrev pub IsShort : Run → Type 0
+IsShort run = (0 < run.length) × (end_of run ≤ OFFSETS) × (new_end_of run ≤ OFFSETS)
+
+-- the runs of a line
+pub record AreRuns (runs : List Run) : Type 0 where
+  pub rise : RiseFrom 0 0 runs
+  pub short : AllByRecursion IsShort runs
+
+-- those given up and the one held are the longest form of the runs that came, and none is held only where none came
+pub record Holding (came given : List Run) (held : Option Run) : Type 0 where
+  pub are : longest came ≡ given ++ option_to_list held
+  pub none : held ≡ None → came ≡ []
+
+-- whatever runs came before, it is so with these runs after them
+abbrev pub JoinsRuns : Option Run → Option Run → List Run → List Run → Type 0
+JoinsRuns old new given runs = (came front : List Run) → Holding came front old → Holding (came ++ runs) (front ++ given) new
+
+-- with one run more
+abbrev pub JoinsOne : Option Run → Run → Option Run → Run → Type 0
+JoinsOne old held given run = JoinsRuns old (Some held) (option_to_list given) (run ∷ [])
+
+-- the lines of what is given up are put
+pub record Joins (old new : Option Run) (before after : Counted) (runs : List Run) : Type 0 where
+  pub given : List Run
+  pub joins : JoinsRuns old new given runs
+  pub puts : PutsLines before after (map Kept given)
+
+-- ---- the runs of all methods in their longest form
+
+-- where the runs of lines stand, one after the other, from a place on
+abbrev pub places : ℕ → List MethodLine → List JoinedLine
+places from [] = []
+places from (line ∷ lines) =
+    record { method = line.method; start = from; end = from + length (longest line.runs) } ∷ places (from + length (longest line.runs)) lines
+
+pub record AreJoinedOf (joined : JoinedRuns) (m : Map) : Type 0 where
+  pub runs : joined.runs.items ≡ flat_map (λ (line : MethodLine). longest line.runs) m.methods
+  pub lines : joined.lines.items ≡ places 0 m.methods
+
+-- those of one method, where it has a line
+abbrev pub LendsJoined : JoinedRuns → ℕ → Option (List Run) → Type 0
+LendsJoined joined method result = (m : Map) → IsReadable m → AreJoinedOf joined m
+    → result ≡ option_map (λ (line : MethodLine). longest line.runs) (method_line m method)
+
+-- ---- the runs that a line keeps, and after it those of another
+
+abbrev pub lent : Option (Bor (List Run)) → Option (List Run)
+lent runs = option_copied runs
+
+abbrev pub runs_of : Option (List Run) → List Run
+runs_of None = []
+runs_of (Some runs) = runs
+
+abbrev pub lined_after : List Run → Option (List Run) → List Run
+lined_after runs None = longest runs
+lined_after runs (Some others) = longest (met runs others)
+
+abbrev pub runs_after : Offsets → Option (List Run) → List Run
+runs_after every others = runs_of others
+runs_after gone others = runs_of others
+runs_after (lined runs old new) others = lined_after runs others

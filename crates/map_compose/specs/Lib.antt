@@ -1,0 +1,11 @@
+pub mod Runs
+pub mod Ascending
+pub mod Composed
+pub mod Sizes
+pub mod Laws
+pub mod Composition
+pub mod Worked
+pub mod Says
+pub mod Parts
+pub mod Joining
+pub mod Refused

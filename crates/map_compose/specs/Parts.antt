@@ -1,0 +1,33 @@
+-- The parts of a map's text that are about methods, and the methods of which each may speak.
+use Rattle.std.specs.Prelude.{ℕ, cond, is_some, List, ◌++◌, map, drop}
+use Rattle.ppdb_maps.specs.declared.entries.RowImage.{RowImage}
+use Rattle.ppdb_maps.specs.declared.line.Line.{Line}
+use Rattle.ppdb_maps.specs.Map.{Map, MethodLine, count_of, rows_of}
+use Rattle.map_compose.specs.declared.part.Part.{Part}
+use Rattle.map_compose.specs.declared.part.Part.TheVariants.{Drops, Slots, Methods}
+use Rattle.map_compose.specs.declared.part.Passed.{Passed}
+use Rattle.map_compose.specs.Ascending.{ascending}
+use Rattle.map_compose.specs.Says.{drop_of_both, slots_of_both, line_of_both}
+
+-- the methods with a line of the part
+abbrev pub part_numbers : Part → Map → List ℕ
+part_numbers Drops m = m.drops
+part_numbers Slots m = m.slotted
+part_numbers Methods m = map (λ (l : MethodLine). l.method) m.methods
+
+-- the methods that the first map moves by lines; where it has no `rows` line for them, those of the second map's lines
+abbrev pub other_numbers : Part → Map → Map → List ℕ
+other_numbers part f s = cond (is_some (count_of f 0x06)) (map (λ (r : RowImage). r.old) (rows_of f 0x06)) (part_numbers part s)
+
+-- the methods of both lists, and those that are left
+abbrev pub all_numbers : Part → Map → Map → List ℕ
+all_numbers part f s = ascending (part_numbers part f ++ other_numbers part f s)
+
+abbrev pub numbers_left : Part → Map → Map → Passed → List ℕ
+numbers_left part f s passed = ascending (drop passed.own (part_numbers part f) ++ drop passed.other (other_numbers part f s))
+
+-- what a part says of a method
+abbrev pub part_says : Part → Map → Map → ℕ → List Line
+part_says Drops f s method = drop_of_both f s method
+part_says Slots f s method = slots_of_both f s method
+part_says Methods f s method = line_of_both f s method

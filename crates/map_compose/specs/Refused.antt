@@ -1,0 +1,21 @@
+-- Why two maps are not made into one.
+use Rattle.std.specs.Prelude.{ℕ, ◌≡◌, ◌<◌, ◌≤◌, List, length}
+use Rattle.ppdb_maps.specs.Map.{Map}
+use Rattle.map_text.specs.declared.counted.Counted.{Counted}
+use Rattle.map_text.specs.MapTexts.{map_text}
+use Rattle.map_text.specs.Putting.{LONGEST}
+use Rattle.map_compose.specs.declared.error.ComposeError.{ComposeError}
+use Rattle.map_compose.specs.declared.error.ComposeError.TheVariants.{SizesDiffer, TooLong, Memory}
+use Rattle.map_compose.specs.Composed.{composed}
+use Rattle.map_compose.specs.Sizes.{SizesAgree, IsFirstDiffering}
+
+-- each byte of a text is counted, and the text is kept as long as it is not too long
+pub record Counts (counted : Counted) (text : List ℕ) : Type 0 where
+  pub length : counted.length ≡ length text
+  pub kept : counted.length ≤ LONGEST → counted.text ≡ text
+
+-- the sizes of the least method that differs; else the length of a text that is longer than any map's text
+abbrev pub RefusesFor : Map → Map → ComposeError → Type 0
+RefusesFor f s (SizesDiffer method first second) = IsFirstDiffering f s method first second
+RefusesFor f s (TooLong bytes) = SizesAgree f s × (bytes ≡ length (map_text (composed f s))) × (LONGEST < bytes)
+RefusesFor f s Memory = Unit {0}

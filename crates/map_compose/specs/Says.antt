@@ -1,0 +1,71 @@
+-- What the lines of the map of two maps say of a table and of a method.
+use Rattle.std.specs.Prelude.{ℕ, ◌≤◌, cond, List, [], ◌∷◌, Option, Some, None, map}
+use Rattle.std.specs.List.{flat_map}
+use Rattle.std.specs.Option.{option_and_then}
+use Rattle.ppdb_maps.specs.declared.entries.RowImage.{RowImage}
+use Rattle.ppdb_maps.specs.declared.line.Line.{Line}
+use Rattle.ppdb_maps.specs.declared.line.Line.TheVariants.{Rows, Row, Dropped, Slots, Slot}
+use Rattle.ppdb_maps.specs.Map.{Map, MethodLine, count_of, row_image, slot_image}
+use Rattle.map_text.specs.MapTexts.{ended, line_text, row_says, slot_says, method_says}
+use Rattle.map_text.specs.declared.counted.Counted.{Counted}
+use Rattle.map_text.specs.Putting.{Puts}
+use Rattle.map_compose.specs.Composed.{composed_count, sources, row_entries, has_image, composed_line, drops_one, has_slot_lines, slot_entries}
+
+-- the text of lines, each ended by LF
+abbrev pub lines_text : List Line → List ℕ
+lines_text says = flat_map ended (map line_text says)
+
+-- they are put into a text whose length fits its type
+pub record PutsLines (old new : Counted) (says : List Line) : Type 0 where
+  pub puts : old.length ≤ 0xffffffffffffffff → Puts old new (lines_text says)
+
+-- ---- a table
+
+abbrev pub sources_of : Map → Map → ℕ → List RowImage
+sources_of f s table = sources (count_of f table) (count_of s table) f s table
+
+-- of a row with an image
+abbrev pub image_says : ℕ → ℕ → Option ℕ → List Line
+image_says table old None = []
+image_says table old (Some new) = Row table old new ∷ []
+
+abbrev pub rows_say : Map → Map → ℕ → List Line
+rows_say f s table = map row_says (row_entries f s table)
+
+abbrev pub counted_says : Map → Map → ℕ → Option ℕ → List Line
+counted_says f s table None = []
+counted_says f s table (Some rows) = Rows table rows ∷ rows_say f s table
+
+abbrev pub table_says : Map → Map → ℕ → List Line
+table_says f s table = counted_says f s table (composed_count f s table)
+
+-- ---- a method
+
+-- what the first map makes of a method that is there after both
+abbrev pub followed : Map → Map → ℕ → Option ℕ
+followed f s method = cond (has_image f s method) (row_image f 0x06 method) None
+
+-- a slot of the method, which the first map makes `image`
+abbrev pub slot_after : Map → Map → ℕ → ℕ → ℕ → Option ℕ
+slot_after f s method image old = option_and_then (slot_image s image) (slot_image f method old)
+
+-- of a slot with an image
+abbrev pub slot_image_says : ℕ → ℕ → Option ℕ → List Line
+slot_image_says method old None = []
+slot_image_says method old (Some new) = Slot method old new ∷ []
+
+abbrev pub drop_of_both : Map → Map → ℕ → List Line
+drop_of_both f s method = cond (drops_one f s method) (Dropped method ∷ []) []
+
+abbrev pub slot_images : Map → Map → ℕ → List Line
+slot_images f s method = map slot_says (slot_entries f s method)
+
+abbrev pub slots_of_both : Map → Map → ℕ → List Line
+slots_of_both f s method = cond (has_slot_lines f s method) (Slots method ∷ slot_images f s method) []
+
+abbrev pub lined_says : Option MethodLine → List Line
+lined_says None = []
+lined_says (Some line) = method_says line
+
+abbrev pub line_of_both : Map → Map → ℕ → List Line
+line_of_both f s method = lined_says (composed_line f s method)

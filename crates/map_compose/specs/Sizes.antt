@@ -1,0 +1,21 @@
+-- Where two maps do not follow one another: a method's size after the first is not its size before the second.
+use Rattle.std.specs.Prelude.{◌≡◌, ◌≢◌, ℕ, ◌≤◌, true, Some}
+use Rattle.ppdb_maps.specs.Map.{Map, MethodLine, method_line}
+use Rattle.map_compose.specs.Composed.{has_image, second_line}
+
+-- the method is there after both, and its sizes are these
+pub record SizesDiffer (f s : Map) (method first second : ℕ) : Type 0 where
+  pub a : MethodLine
+  pub b : MethodLine
+  pub there : has_image f s method ≡ true
+  pub before : method_line f method ≡ Some a
+  pub after : second_line f s method ≡ Some b
+  pub sizes : (a.new_size ≡ first) × (b.old_size ≡ second) × (first ≢ second)
+
+-- the least method whose sizes differ
+pub record IsFirstDiffering (f s : Map) (method first second : ℕ) : Type 0 where
+  pub differ : SizesDiffer f s method first second
+  pub least : (other a b : ℕ) → SizesDiffer f s other a b → method ≤ other
+
+abbrev pub SizesAgree : Map → Map → Type 0
+SizesAgree f s = (method first second : ℕ) → SizesDiffer f s method first second → ⊥

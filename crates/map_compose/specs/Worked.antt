@@ -1,0 +1,109 @@
+-- Worked maps, composed, and the canonical texts of what they come to.
+use Rattle.std.specs.Prelude.{◌≡◌, ℕ, List, [], ◌∷◌, codes}
+use Rattle.ppdb_base.specs.declared.offsets.Run.{Run}
+use Rattle.ppdb_maps.specs.declared.entries.Count.{Count}
+use Rattle.ppdb_maps.specs.declared.entries.RowImage.{RowImage}
+use Rattle.ppdb_maps.specs.declared.entries.SlotImage.{SlotImage}
+use Rattle.ppdb_maps.specs.Map.{Map, MethodLine, map_of}
+use Rattle.map_text.specs.MapTexts.{map_text}
+use Rattle.map_compose.specs.Composed.{composed}
+use Rattle.map_compose.specs.Sizes.{SizesDiffer}
+
+abbrev pub count : ℕ → ℕ → Count
+count table rows = record { table = table; rows = rows }
+
+abbrev pub row : ℕ → ℕ → ℕ → RowImage
+row table old new = record { table = table; old = old; new = new }
+
+abbrev pub run : ℕ → ℕ → ℕ → Run
+run old new length = record { old = old; new = new; length = length }
+
+abbrev pub line : ℕ → ℕ → ℕ → List Run → MethodLine
+line method old_size new_size runs = record { method = method; old_size = old_size; new_size = new_size; runs = runs }
+
+abbrev pub slot : ℕ → ℕ → ℕ → SlotImage
+slot method old new = record { method = method; old = old; new = new }
+
+abbrev pub no_lines : Map
+no_lines = map_of [] [] [] [] [] []
+
+-- the two maps come to the map of this text
+abbrev pub ComesTo : Map → Map → List ℕ → Type 0
+ComesTo f s text = map_text (composed f s) ≡ text
+
+pub record WorkedComposed : Type 0 where
+  pub cuts : ComesTo (record no_lines { methods = line 1 9 12 (run 0 0 1 ∷ run 5 6 4 ∷ []) ∷ [] })
+      (record no_lines { methods = line 1 12 12 (run 0 0 8 ∷ []) ∷ [] })
+      (codes "ppdbmap 3\nmethod 1 9 12\nrun 0 0 1\nrun 5 6 2\n")
+  pub drops : ComesTo (record no_lines { drops = 1 ∷ [] })
+      (record no_lines { counts = count 6 2 ∷ []; rows = row 6 1 2 ∷ [] })
+      (codes "ppdbmap 3\nrows 06 2\ndrop 1\n")
+  pub nothing : ComesTo no_lines
+      no_lines
+      (codes "ppdbmap 3\n")
+  pub no_slot : ComesTo (record no_lines { slotted = 1 ∷ []; slots = slot 1 0 5 ∷ [] })
+      (record no_lines { slotted = 1 ∷ []; slots = slot 1 6 7 ∷ [] })
+      (codes "ppdbmap 3\nslots 1\n")
+  pub one_image : ComesTo (record no_lines { counts = count 6 2 ∷ []; rows = row 6 1 1 ∷ row 6 2 1 ∷ [] })
+      (record no_lines { methods = line 1 8 8 (run 0 0 4 ∷ run 4 4 4 ∷ []) ∷ []; slotted = 1 ∷ []; slots = slot 1 3 4 ∷ [] })
+      (codes "ppdbmap 3\nrows 06 2\nrow 06 1 1\nrow 06 2 1\nslots 1\nslot 1 3 4\nslots 2\nslot 2 3 4\nmethod 1 8 8\nrun 0 0 8\nmethod 2 8 8\nrun 0 0 8\n")
+  pub joined_across : ComesTo (record no_lines { methods = line 1 10 12 (run 0 2 4 ∷ run 4 8 4 ∷ []) ∷ [] })
+      (record no_lines { methods = line 1 12 9 (run 2 0 4 ∷ run 8 4 4 ∷ []) ∷ [] })
+      (codes "ppdbmap 3\nmethod 1 10 9\nrun 0 0 8\n")
+  pub parted : ComesTo (record no_lines { methods = line 1 10 12 (run 0 0 10 ∷ []) ∷ [] })
+      (record no_lines { methods = line 1 12 20 (run 2 3 2 ∷ run 4 5 3 ∷ run 9 15 3 ∷ []) ∷ [] })
+      (codes "ppdbmap 3\nmethod 1 10 20\nrun 2 3 5\nrun 9 15 1\n")
+  pub second_alone : ComesTo no_lines
+      (record no_lines { methods = line 2 4 5 (run 0 0 2 ∷ run 2 2 2 ∷ []) ∷ [] })
+      (codes "ppdbmap 3\nmethod 2 4 5\nrun 0 0 4\n")
+  pub first_alone : ComesTo (record no_lines { methods = line 2 4 5 (run 0 0 2 ∷ run 2 2 2 ∷ []) ∷ [] })
+      no_lines
+      (codes "ppdbmap 3\nmethod 2 4 5\nrun 0 0 4\n")
+  pub without_image : ComesTo (record no_lines { counts = count 6 2 ∷ []; rows = row 6 2 1 ∷ []; methods = line 1 3 3 [] ∷ []; slotted = 1 ∷ [] })
+      (record no_lines { methods = line 1 5 5 [] ∷ []; slotted = 1 ∷ []; slots = slot 1 0 0 ∷ [] })
+      (codes "ppdbmap 3\nrows 06 2\nrow 06 2 1\nslots 2\nslot 2 0 0\nmethod 2 5 5\n")
+  pub exchanged : ComesTo (record no_lines { counts = count 6 2 ∷ []; rows = row 6 1 2 ∷ row 6 2 1 ∷ []; methods = line 1 5 6 (run 0 1 5 ∷ []) ∷ [] })
+      (record no_lines { methods = line 1 7 7 (run 0 0 7 ∷ []) ∷ line 2 6 6 (run 1 1 5 ∷ []) ∷ [] })
+      (codes "ppdbmap 3\nrows 06 2\nrow 06 1 2\nrow 06 2 1\nmethod 1 5 6\nrun 0 1 5\nmethod 2 7 7\nrun 0 0 7\n")
+  pub no_size : ComesTo (record no_lines { counts = count 6 1 ∷ []; rows = row 6 2 1 ∷ []; methods = line 1 5 6 [] ∷ [] })
+      (record no_lines { methods = line 1 8 8 [] ∷ [] })
+      (codes "ppdbmap 3\nrows 06 1\nrow 06 2 1\nmethod 2 8 8\n")
+  pub line_dropped : ComesTo (record no_lines { methods = line 1 5 6 [] ∷ [] })
+      (record no_lines { drops = 1 ∷ [] })
+      (codes "ppdbmap 3\ndrop 1\n")
+  pub image_dropped : ComesTo (record no_lines { counts = count 6 3 ∷ []; rows = row 6 1 3 ∷ row 6 2 2 ∷ [] })
+      (record no_lines { counts = count 2 1 ∷ []; drops = 3 ∷ [] })
+      (codes "ppdbmap 3\nrows 02 1\nrows 06 3\nrow 06 2 2\ndrop 1\n")
+  pub both_drop : ComesTo (record no_lines { drops = 2 ∷ 7 ∷ [] })
+      (record no_lines { drops = 2 ∷ 3 ∷ [] })
+      (codes "ppdbmap 3\ndrop 2\ndrop 3\ndrop 7\n")
+  pub dropped_row : ComesTo (record no_lines { drops = 2 ∷ [] })
+      (record no_lines { counts = count 6 4 ∷ []; rows = row 6 1 4 ∷ row 6 2 3 ∷ [] })
+      (codes "ppdbmap 3\nrows 06 4\nrow 06 1 4\ndrop 2\n")
+  pub types : ComesTo (record no_lines { counts = count 2 5 ∷ []; rows = row 2 1 5 ∷ row 2 2 4 ∷ [] })
+      (record no_lines { counts = count 2 9 ∷ []; rows = row 2 5 1 ∷ [] })
+      (codes "ppdbmap 3\nrows 02 9\nrow 02 1 1\n")
+  pub slot_taken_on : ComesTo (record no_lines { slotted = 1 ∷ []; slots = slot 1 0 5 ∷ slot 1 1 6 ∷ [] })
+      (record no_lines { slotted = 1 ∷ []; slots = slot 1 5 0 ∷ [] })
+      (codes "ppdbmap 3\nslots 1\nslot 1 0 0\n")
+  pub slots_of_second : ComesTo no_lines
+      (record no_lines { slotted = 1 ∷ 2 ∷ []; slots = slot 1 65535 0 ∷ [] })
+      (codes "ppdbmap 3\nslots 1\nslot 1 65535 0\nslots 2\n")
+  pub nothing_kept : ComesTo (record no_lines { methods = line 1 9 0 [] ∷ [] })
+      (record no_lines { methods = line 1 0 7 [] ∷ [] })
+      (codes "ppdbmap 3\nmethod 1 9 7\n")
+  pub no_run : ComesTo (record no_lines { methods = line 1 9 9 (run 0 0 9 ∷ []) ∷ [] })
+      (record no_lines { methods = line 1 9 9 [] ∷ [] })
+      (codes "ppdbmap 3\nmethod 1 9 9\n")
+  pub inside : ComesTo (record no_lines { methods = line 1 8 8 (run 0 0 4 ∷ run 4 4 4 ∷ []) ∷ [] })
+      (record no_lines { methods = line 1 8 8 (run 3 3 2 ∷ []) ∷ [] })
+      (codes "ppdbmap 3\nmethod 1 8 8\nrun 3 3 2\n")
+  pub differs : SizesDiffer (record no_lines { methods = line 1 9 12 (run 0 0 1 ∷ run 5 6 4 ∷ []) ∷ [] })
+      (record no_lines { methods = line 1 10 10 [] ∷ [] }) 1 12 10
+  pub differs_by_image : SizesDiffer (record no_lines {
+    counts = count 6 2 ∷ [];
+    rows = row 6 1 2 ∷ row 6 2 1 ∷ [];
+    methods =
+        line 1 5 6 [] ∷ line 2 5 7 [] ∷ [];
+  })
+      (record no_lines { methods = line 1 8 8 [] ∷ line 2 9 9 [] ∷ [] }) 1 6 9

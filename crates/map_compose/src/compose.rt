@@ -1,0 +1,65 @@
+// The text of the map of two maps.
+ghost use Rattle.std.specs.Prelude.{◌≡◌, ◌≤◌, length, IfOk, IfErr};
+ghost use Rattle.map_text.specs.MapTexts.{map_text};
+ghost use Rattle.ppdb_maps.specs.Text.{IsMapOf};
+ghost use Rattle.map_compose.specs.Composed.{composed};
+ghost use Rattle.map_compose.specs.Refused.{Counts, RefusesFor};
+ghost use Rattle.map_compose.specs.Sizes.{SizesAgree};
+
+use crate::error::ComposeError;
+use crate::joined::JoinedRuns;
+use crate::methods::put_part;
+use crate::part::Part;
+use crate::sizes::first_differing;
+use crate::tables::put_tables;
+use map_text::{Counted, texts_are_read};
+use ppdb_base::{Bytes, MAX_FILE_BYTES, Memory};
+use ppdb_maps::MapText;
+use std::alloc::Global;
+
+/// The text of the map of two maps, counted on where it is too long.
+fn counted_map(alloc: Global, first: &MapText, second: &MapText) -> Result<Counted, Memory>
+    requires { SizesAgree first.now second.now }
+    ensures { IfOk result (λ text. Counts text (map_text (composed first.now second.now))) }
+{
+    first.keeps();
+    second.keeps();
+    let joined = JoinedRuns::of(alloc, second)?;
+    let mut text = Counted::new(alloc);
+    text.put_head()?;
+    put_tables(first, second, &mut text)?;
+    put_part(Part::Drops, first, second, &joined, &mut text)?;
+    put_part(Part::Slots, first, second, &joined, &mut text)?;
+    put_part(Part::Methods, first, second, &joined, &mut text)?;
+    Ok(text)
+}
+
+/// The text of the map of two maps: of what the second makes of what the first makes of a module.
+///
+/// # Errors
+///
+/// The sizes of a method differ, the text is too long, or there was no memory left.
+pub fn compose_maps(alloc: Global, first: &MapText, second: &MapText) -> Result<Bytes, ComposeError>
+    ensures text { IfOk result (λ text. text ≡ map_text (composed first.now second.now)) }
+    ensures read { IfOk result (λ text. IsMapOf text (composed first.now second.now)) }
+    ensures agree { IfOk result (λ _. SizesAgree first.now second.now) }
+    ensures short { IfOk result (λ text. length text ≤ 134217728) }
+    ensures refused { IfErr result (RefusesFor first.now second.now) }
+{
+    first.keeps();
+    second.keeps();
+    if let Some(found) = first_differing(first, second) {
+        return Err(ComposeError::SizesDiffer {
+            method: found.method,
+            first: found.first,
+            second: found.second,
+        });
+    }
+    let text = counted_map(alloc, first, second)?;
+    let bytes = text.len();
+    if bytes > MAX_FILE_BYTES as u64 {
+        return Err(ComposeError::TooLong { bytes });
+    }
+    texts_are_read();
+    Ok(text.into_text())
+}

@@ -1,0 +1,47 @@
+// What becomes of a row, a method and a slot by one map after another.
+ghost use Rattle.std.specs.Prelude.{◌≡◌};
+ghost use Rattle.map_compose.specs.Composed.{composed_row, drops_one};
+ghost use Rattle.map_compose.specs.Says.{followed, slot_after};
+
+use ppdb_maps::MapText;
+
+/// The image of a row by both maps.
+pub fn row_by_both(first: &MapText, second: &MapText, table: u8, old: u32) -> Option<u32>
+    ensures { result ≡ composed_row first.now second.now table old }
+{
+    let middle = first.row(table, old)?;
+    second.row(table, middle)
+}
+
+/// What the first map makes of a method that is there after both.
+pub fn image_of(first: &MapText, second: &MapText, method: u32) -> Option<u32>
+    ensures { result ≡ followed first.now second.now method }
+{
+    let image = first.row(0x06, method)?;
+    second.row(0x06, image)?;
+    Some(image)
+}
+
+/// Whether the first map drops the method, or the second its image.
+pub fn drops(first: &MapText, second: &MapText, method: u32) -> bool
+    ensures { result ≡ drops_one first.now second.now method }
+{
+    match first.row(0x06, method) {
+        None => first.dropped(method),
+        Some(image) => first.dropped(method) || second.dropped(image),
+    }
+}
+
+/// The image of a slot of a method by both maps.
+pub fn slot_by_both(
+    first: &MapText,
+    second: &MapText,
+    method: u32,
+    image: u32,
+    old: u16,
+) -> Option<u16>
+    ensures { result ≡ slot_after first.now second.now method image old }
+{
+    let middle = first.slot(method, old)?;
+    second.slot(image, middle)
+}

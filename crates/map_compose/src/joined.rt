@@ -1,0 +1,92 @@
+// The runs of each method of a map, in their longest form.
+ghost use Rattle.std.specs.Prelude.{◌≡◌, ◌++◌, IfOk, OnOk, slice_get, option_to_list, option_copied};
+ghost use Rattle.ppdb_maps.specs.Says.{offsets_of, lined_runs};
+ghost use Rattle.map_compose.specs.Runs.{longest};
+ghost use Rattle.map_compose.specs.Joining.{AreRuns, AreJoinedOf, LendsJoined};
+
+use crate::joining::join;
+use ppdb_base::{Memory, Run};
+use ppdb_maps::{MapText, MethodMap};
+use std::alloc::Global;
+
+/// A method, and where its runs stand.
+#[derive(Clone, Copy)]
+struct JoinedLine {
+    method: u32,
+    start: usize,
+    end: usize,
+}
+
+/// The runs of each method of a map in their longest form.
+#[derive(Drop)]
+pub struct JoinedRuns {
+    runs: Vec<Run>,
+    lines: Vec<JoinedLine>,
+}
+
+/// The run with this index.
+pub fn run_at(line: &MethodMap<'_>, index: u32) -> Option<Run>
+    ensures { result ≡ slice_get (lined_runs (offsets_of line.now.says)) index }
+{
+    let (old, new, length) = line.run_line(index)?;
+    Some(Run { old, new, length })
+}
+
+/// Adds a run, where there is one.
+fn push_held(held: Option<Run>, runs: &mut Vec<Run>) -> Result<(), Memory>
+    ensures { OnOk result (runs.new.items ≡ runs.old.items ++ option_to_list held) }
+{
+    if let Some(run) = held {
+        runs.push(run)?;
+    }
+    Ok(())
+}
+
+/// Adds the runs of a line in their longest form.
+fn push_joined(line: &MethodMap<'_>, runs: &mut Vec<Run>) -> Result<(), Memory>
+    requires { AreRuns (lined_runs (offsets_of line.now.says)) }
+    ensures { OnOk result (runs.new.items ≡ runs.old.items ++ longest (lined_runs (offsets_of line.now.says))) }
+{
+    let mut held = None;
+    let mut index = 0;
+    'runs: while let Some(run) = run_at(line, index) {
+        let step = join(held, run);
+        push_held(step.given, runs)?;
+        held = Some(step.held);
+        index += 1;
+    }
+    push_held(held, runs)
+}
+
+impl JoinedRuns {
+    /// The runs of all methods of a map in their longest form.
+    pub fn of(alloc: Global, map: &MapText) -> Result<JoinedRuns, Memory>
+        ensures { IfOk result (λ joined. AreJoinedOf joined map.now) }
+    {
+        map.keeps();
+        let mut runs = Vec::new(alloc);
+        let mut lines = Vec::new(alloc);
+        let mut index = 0;
+        'lines: while let Some(method) = map.method_line(index) {
+            let start = runs.len();
+            push_joined(&map.method(method), &mut runs)?;
+            let end = runs.len();
+            lines.push(JoinedLine { method, start, end })?;
+            index += 1;
+        }
+        Ok(JoinedRuns { runs, lines })
+    }
+
+    /// The runs of a method that has a line.
+    pub fn of_method(&self, method: u32) -> Option<&[Run]>
+        ensures { LendsJoined self.now method (option_copied result) }
+    {
+        let at = self.lines.partition_point(|line| line.method < method);
+        let line = self.lines.get(at)?;
+        if line.method == method {
+            self.runs.get(line.start..line.end)
+        } else {
+            None
+        }
+    }
+}

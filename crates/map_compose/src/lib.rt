@@ -1,0 +1,21 @@
+//! Two maps made into one: what a second rewriting of a module makes of what a first one makes of it.
+#![tactic(auto)]
+
+mod compose;
+mod error;
+mod image;
+mod joined;
+mod joining;
+mod laws;
+mod methods;
+mod part;
+mod runs;
+mod sizes;
+mod slots;
+mod tables;
+#[cfg(test)]
+mod tests;
+
+pub use compose::compose_maps;
+pub use error::ComposeError;
+pub use laws::{composed_composes, composed_is_readable, next_composes, runs_compose, worked_maps};

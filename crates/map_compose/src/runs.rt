@@ -1,0 +1,152 @@
+// The lines of the offsets that both maps keep.
+ghost use Rattle.std.specs.Prelude.{◌≡◌, ◌≤◌, ◌↔◌, IsTrue, OnOk, map, option_to_list};
+ghost use Rattle.std.specs.List.{filter_map};
+ghost use Rattle.ppdb_base.specs.Offsets.{end_of};
+ghost use Rattle.ppdb_maps.specs.Says.{offsets_of, lined_runs};
+ghost use Rattle.ppdb_maps.specs.declared.line.Line.TheVariants.{Kept};
+ghost use Rattle.map_compose.specs.Says.{PutsLines};
+ghost use Rattle.map_compose.specs.Runs.{longest, met, meet};
+ghost use Rattle.map_compose.specs.Joining.{IsShort, AreRuns, Joins, runs_of, lent, runs_after};
+
+use crate::joined::run_at;
+use crate::joining::{put_held, put_joined};
+use map_text::Counted;
+use ppdb_base::{Memory, Run};
+use ppdb_maps::MethodMap;
+
+/// Whether the run ends before or at the offset.
+fn ends_by(run: &Run, offset: u32) -> bool
+    ensures { IsTrue result ↔ (end_of run.now ≤ offset) }
+{
+    run.old <= offset && run.length <= offset - run.old
+}
+
+/// The offsets that the first run gives and the second takes on.
+fn part_of(first: Run, second: Run) -> Option<Run>
+    requires first { IsShort first }
+    requires second { IsShort second }
+    ensures { result ≡ meet first second }
+{
+    let low = first.new.max(second.old);
+    let high = (first.new + first.length).min(second.old + second.length);
+    if low >= high {
+        return None;
+    }
+    Some(Run {
+        old: first.old + (low - first.new),
+        new: second.new + (low - second.old),
+        length: high - low,
+    })
+}
+
+/// Takes the offsets that one run gives and another takes on.
+fn put_meeting(
+    run: Run,
+    other: Run,
+    held: &mut Option<Run>,
+    text: &mut Counted,
+) -> Result<(), Memory>
+    requires run { IsShort run }
+    requires other { IsShort other }
+    ensures { OnOk result (Joins held.old held.new text.old text.new (option_to_list (meet run other))) }
+{
+    match part_of(run, other) {
+        None => Ok(()),
+        Some(part) => put_joined(held, part, text),
+    }
+}
+
+/// Takes the offsets that one run gives and the others take on, up to the first that begins where
+/// its images end.
+fn put_front(
+    run: Run,
+    others: &[Run],
+    held: &mut Option<Run>,
+    text: &mut Counted,
+) -> Result<(), Memory>
+    requires run { IsShort run }
+    requires others { AreRuns others.now }
+    ensures { OnOk result (Joins held.old held.new text.old text.new (filter_map (meet run) others.now)) }
+{
+    let end = run.new + run.length;
+    'others: for other in others {
+        if other.old >= end {
+            break;
+        }
+        put_meeting(run, *other, held, text)?;
+    }
+    Ok(())
+}
+
+/// Takes the offsets that one run gives and the others take on, from the first that does not end
+/// before its images.
+fn put_met(
+    run: Run,
+    others: &[Run],
+    held: &mut Option<Run>,
+    text: &mut Counted,
+) -> Result<(), Memory>
+    requires run { IsShort run }
+    requires others { AreRuns others.now }
+    ensures { OnOk result (Joins held.old held.new text.old text.new (filter_map (meet run) others.now)) }
+{
+    let from = others.partition_point(|other| ends_by(other, run.new));
+    put_front(run, &others[from..], held, text)
+}
+
+/// Puts the lines of the runs that both keep.
+fn put_both(line: &MethodMap<'_>, others: &[Run], text: &mut Counted) -> Result<(), Memory>
+    requires line { AreRuns (lined_runs (offsets_of line.now.says)) }
+    requires others { AreRuns others.now }
+    ensures { OnOk result (PutsLines text.old text.new (map Kept (longest (met (lined_runs (offsets_of line.now.says)) others.now)))) }
+{
+    let mut held = None;
+    let mut index = 0;
+    'runs: while let Some(run) = run_at(line, index) {
+        put_met(run, others, &mut held, text)?;
+        index += 1;
+    }
+    put_held(held, text)
+}
+
+/// Puts the lines of the runs of a line in their longest form.
+fn put_longest(line: &MethodMap<'_>, text: &mut Counted) -> Result<(), Memory>
+    requires { AreRuns (lined_runs (offsets_of line.now.says)) }
+    ensures { OnOk result (PutsLines text.old text.new (map Kept (longest (lined_runs (offsets_of line.now.says))))) }
+{
+    let mut held = None;
+    let mut index = 0;
+    'runs: while let Some(run) = run_at(line, index) {
+        put_joined(&mut held, run, text)?;
+        index += 1;
+    }
+    put_held(held, text)
+}
+
+/// Puts the lines of runs as they are.
+fn put_plain(runs: &[Run], text: &mut Counted) -> Result<(), Memory>
+    ensures { OnOk result (PutsLines text.old text.new (map Kept runs.now)) }
+{
+    'runs: for run in runs {
+        text.put_run(run)?;
+    }
+    Ok(())
+}
+
+/// Puts the lines of the runs that a line keeps, and after it the runs of another, where it is there.
+pub fn put_runs(
+    line: &MethodMap<'_>,
+    others: Option<&[Run]>,
+    text: &mut Counted,
+) -> Result<(), Memory>
+    requires line { AreRuns (lined_runs (offsets_of line.now.says)) }
+    requires others { AreRuns (runs_of (lent others)) }
+    ensures { OnOk result (PutsLines text.old text.new (map Kept (runs_after (offsets_of line.now.says) (lent others.entry)))) }
+{
+    match (line.sizes(), others) {
+        (Some(_), Some(runs)) => put_both(line, runs, text),
+        (Some(_), None) => put_longest(line, text),
+        (None, Some(runs)) => put_plain(runs, text),
+        (None, None) => Ok(()),
+    }
+}
