@@ -74,7 +74,7 @@ first_end : (list : ScopeRow → ℕ) (items : ℕ) (rest : List ScopeRow) → u
 first_end list items [] = refl
 first_end list items (scope ∷ others) = refl
 
-drop_none : {X : Type 0} (n : ℕ) → drop {X} n [] ≡ []
+drop_none : {X : Type 0} (n : ℕ) → ◌≡◌ {A = List X} (drop n []) []
 drop_none zero = refl
 drop_none (suc n) = refl
 

@@ -72,6 +72,13 @@ fn add_others<L: Ledger>(
     Ok(())
 }
 
+/// The identity of a file has 20 bytes.
+fn id_is_long(file: &Verified<'_>)
+    ensures { length (raw_file file.now).id ≡ 20 }
+{
+    let _id: &[u8] = &file.head().id;
+}
+
 /// The draft of a file's value, made from its rows, each of which is read once: a part at a time, and never the whole value.
 pub fn draft_of_file<L: Ledger>(
     alloc: Global,
@@ -86,7 +93,7 @@ pub fn draft_of_file<L: Ledger>(
     drafts_are_canonical();
     values_have_types();
     scopes_own_their_lists();
-    let _id: &[u8] = &file.head().id;
+    id_is_long(file);
     let mut draft = draft_methods(alloc, file, steps)?;
     add_lists(alloc, file, &mut draft, steps)?;
     add_others(alloc, file, &mut draft, steps)?;
