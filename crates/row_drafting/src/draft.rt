@@ -1,0 +1,101 @@
+// The draft of a verified file.
+ghost use Rattle.std.specs.Prelude.{◌≡◌, ◌+◌, fold, length, All, IfOk, OnOk};
+ghost use Rattle.ppdb_values.specs.Types.{IsNarrow, HasTypes};
+ghost use Rattle.ppdb_values.specs.Value.{value_of};
+ghost use Rattle.ppdb_verify.specs.Views.{raw_file};
+ghost use Rattle.value_reading.specs.Totals.{row_total};
+ghost use Rattle.file_drafting.specs.Draft.{with_scope, with_constants, with_import, with_machine, with_custom};
+ghost use Rattle.file_drafting.specs.Drafted.{with_methods, IsDraftOf};
+
+use crate::constants::add_constants;
+use crate::documents::add_documents;
+use crate::methods::add_methods;
+use crate::others::{add_customs, add_imports, add_machines};
+use crate::scopes::add_scopes;
+use file_drafting::{Drafting, drafts_are_canonical};
+use ppdb_base::{Memory, Steps};
+use ppdb_values::values_have_types;
+use ppdb_verify::Verified;
+use std::alloc::Global;
+use std::sync::ledger::Ledger;
+use value_reading::scopes_own_their_lists;
+use verified_rows::count;
+
+/// Drafts the documents and the methods.
+fn draft_methods<L: Ledger>(
+    alloc: Global,
+    file: &Verified<'_>,
+    steps: &mut Steps<L>,
+) -> Result<Drafting, Memory>
+    ensures draft { IfOk result (λ draft. draft ≡ with_methods (value_of (raw_file file.now))) }
+    ensures cost { OnOk result (steps.new ≡ steps.old + (length (raw_file file.now).tables.documents + length (raw_file file.now).tables.methods)) }
+{
+    file.keeps();
+    let mut draft = Drafting::new(alloc)?;
+    add_documents(alloc, file, &mut draft, steps)?;
+    add_methods(alloc, file, &mut draft, steps)?;
+    draft.end_methods(count(file, 0x06))?;
+    Ok(draft)
+}
+
+/// Adds the scopes and what they own.
+fn add_lists<L: Ledger>(
+    alloc: Global,
+    file: &Verified<'_>,
+    draft: &mut Drafting,
+    steps: &mut Steps<L>,
+) -> Result<(), Memory>
+    ensures added { OnOk result (draft.new ≡ fold with_constants (fold with_scope draft.old (value_of (raw_file file.now)).scopes) (value_of (raw_file file.now)).scopes) }
+    ensures narrow { OnOk result (All (λ scope. All IsNarrow scope.variables) (value_of (raw_file file.now)).scopes) }
+    ensures cost { OnOk result (steps.new ≡ steps.old + (length (raw_file file.now).tables.scopes + length (raw_file file.now).tables.variables + length (raw_file file.now).tables.constants)) }
+{
+    file.keeps();
+    scopes_own_their_lists();
+    add_scopes(file, draft, steps)?;
+    add_constants(alloc, file, draft, steps)?;
+    Ok(())
+}
+
+/// Adds the import scopes, the state machines and the custom records.
+fn add_others<L: Ledger>(
+    alloc: Global,
+    file: &Verified<'_>,
+    draft: &mut Drafting,
+    steps: &mut Steps<L>,
+) -> Result<(), Memory>
+    ensures added { OnOk result (draft.new ≡ fold with_custom (fold with_machine (fold with_import draft.old (value_of (raw_file file.now)).imports) (value_of (raw_file file.now)).machines) (value_of (raw_file file.now)).customs) }
+    ensures cost { OnOk result (steps.new ≡ steps.old + (length (raw_file file.now).tables.imports + length (raw_file file.now).tables.machines + length (raw_file file.now).tables.customs)) }
+{
+    add_imports(alloc, file, draft, steps)?;
+    add_machines(file, draft, steps)?;
+    add_customs(alloc, file, draft, steps)?;
+    Ok(())
+}
+
+/// The identity of a file has 20 bytes.
+fn id_is_long(file: &Verified<'_>)
+    ensures { length (raw_file file.now).id ≡ 20 }
+{
+    let _id: &[u8] = &file.head().id;
+}
+
+/// The draft of a file's value, made from its rows, each of which is read once: a part at a time, and never the whole value.
+pub fn draft_of_file<L: Ledger>(
+    alloc: Global,
+    file: &Verified<'_>,
+    steps: &mut Steps<L>,
+) -> Result<Drafting, Memory>
+    ensures draft { IfOk result (λ draft. IsDraftOf (value_of (raw_file file.now)) draft) }
+    ensures types { OnOk result (HasTypes (value_of (raw_file file.now))) }
+    ensures rows { OnOk result (steps.new ≡ steps.old + row_total (raw_file file.now).tables) }
+{
+    file.keeps();
+    drafts_are_canonical();
+    values_have_types();
+    scopes_own_their_lists();
+    id_is_long(file);
+    let mut draft = draft_methods(alloc, file, steps)?;
+    add_lists(alloc, file, &mut draft, steps)?;
+    add_others(alloc, file, &mut draft, steps)?;
+    Ok(draft)
+}

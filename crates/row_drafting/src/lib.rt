@@ -1,0 +1,19 @@
+//! The draft of a verified file, made from its rows: each row is read once, and no value of the file is made. The limits of the format
+//! that a valid file says nothing past.
+#![tactic(auto)]
+
+mod constants;
+mod documents;
+mod draft;
+mod laws;
+mod lists;
+mod methods;
+mod others;
+mod scopes;
+
+pub use draft::draft_of_file;
+pub use laws::files_pass_no_early_limit;
+pub use lists::list_limit;
+
+#[cfg(test)]
+mod tests;
