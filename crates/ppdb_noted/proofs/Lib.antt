@@ -1,0 +1,4 @@
+pub mod Mapped
+pub mod NotedMeanings
+pub mod Orders
+pub mod StableSort
