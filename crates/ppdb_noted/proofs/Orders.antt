@@ -1,9 +1,11 @@
 -- Setting items in order by a key keeps the items of each key as they were.
 use Rattle.std.proofs.Common.{◌≡◌, ℕ, ◌≤◌, ◌<◌, ◌⊎◌, Bool, true, false, cond, List, [], ◌∷◌, refl, sym, ◌∙◌, ap, inl, inr, arith, subst}
-use Rattle.std.specs.Prelude.{nat_eq}
+use Rattle.std.specs.Prelude.{nat_eq, nat_le}
 use Rattle.std.specs.List.{filter}
-use Rattle.std.proofs.lemmas.Bool.{cases_lt, le-leb, lt-leb, eq-eqb, ne_eqb}
+use Rattle.std.proofs.lemmas.Bool.{cases_lt, le-leb, lt-leb, eq-eqb, ne_eqb, eqb-true}
+use Rattle.ppdb_noted.specs.Each.{Each, Pairs}
 use Rattle.ppdb_noted.specs.Sorted.{put, in_order}
+use Rattle.ppdb_noted.proofs.Lists.{Each-weaker}
 
 -- items that pass the test have one key
 abbrev pub OneKey : {A : Type 0} → (A → ℕ) → (A → Bool) → Type 0
@@ -103,3 +105,68 @@ one_order key from (x ∷ xs) (y ∷ ys) rise also same = elim (cases_lt (key x)
         ap (λ z. z ∷ xs) parts.0 ∙ ap (λ l. y ∷ l) tails
   ]
 ]
+
+-- ---- what is in order
+
+pub rises_of : {A : Type 0} (key : A → ℕ) (xs : List A) → Pairs (λ a b. key a ≤ key b) xs → Rises key 0 xs
+rises_of key [] pairs = tt
+rises_of key (x ∷ xs) pairs = (omega arith, rises_after key x xs pairs)
+  where
+    rises_after : {A : Type 0} (key : A → ℕ) (x : A) (xs : List A) → Pairs (λ a b. key a ≤ key b) (x ∷ xs) → Rises key (key x) xs
+    rises_after key x [] pairs = tt
+    rises_after key x (y ∷ ys) pairs = (pairs.0.0, rises_after key y ys pairs.1)
+
+each_above : {A : Type 0} (key : A → ℕ) (from : ℕ) (xs : List A) → Rises key from xs → Each (λ x. from ≤ key x) xs
+each_above key from [] rise = tt
+each_above key from (x ∷ xs) rise = (rise.0, Each-weaker (λ y. key x ≤ key y) (λ y. from ≤ key y) (λ y le. omega (arith, le, rise.0)) xs (each_above key (key x) xs rise.1))
+
+pub pairs_of : {A : Type 0} (key : A → ℕ) (from : ℕ) (xs : List A) → Rises key from xs → Pairs (λ a b. key a ≤ key b) xs
+pairs_of key from [] rise = tt
+pairs_of key from (x ∷ xs) rise = (each_above key (key x) xs rise.1, pairs_of key (key x) xs rise.1)
+
+pub rises_filter : {A : Type 0} (key : A → ℕ) (p : A → Bool) (from : ℕ) (xs : List A) → Rises key from xs → Rises key from (filter p xs)
+rises_filter key p from [] rise = tt
+rises_filter key p from (x ∷ xs) rise = step (p x) (rises_filter key p (key x) xs rise.1)
+  where
+    step : (b : Bool) → Rises key (key x) (filter p xs) → Rises key from (cond b (x ∷ filter p xs) (filter p xs))
+    step true rest = (rise.0, rest)
+    step false rest = rises_from key (key x) from (filter p xs) rise.0 rest
+
+pub key_kept : {A : Type 0} (key : A → ℕ) (k : ℕ) (xs : List A) → of_key key k (in_order key xs) ≡ of_key key k xs
+key_kept key k xs = in_order_keeps key (λ z. nat_eq (key z) k) (λ a b p q. omega (arith, eqb-true (key a) k p, eqb-true (key b) k q)) xs
+
+-- a list whose keys rise is in order
+pub in_order_is : {A : Type 0} (key : A → ℕ) (xs : List A) → Rises key 0 xs → in_order key xs ≡ xs
+in_order_is key xs rise = one_order key 0 (in_order key xs) xs (in_order_rises key xs) rise (λ k. key_kept key k xs)
+
+pub filter_swap : {A : Type 0} (p q : A → Bool) (xs : List A) → filter p (filter q xs) ≡ filter q (filter p xs)
+filter_swap p q [] = refl
+filter_swap p q (x ∷ xs) = step (p x) refl (q x) refl (filter_swap p q xs)
+  where
+    step : (a : Bool) → p x ≡ a → (b : Bool) → q x ≡ b → filter p (filter q xs) ≡ filter q (filter p xs)
+        → filter p (cond b (x ∷ filter q xs) (filter q xs)) ≡ filter q (cond a (x ∷ filter p xs) (filter p xs))
+    step true is true also rest = rw (is, also) (ap (λ l. x ∷ l) rest)
+    step true is false also rest = rw also rest
+    step false is true also rest = rw is rest
+    step false is false also rest = rest
+
+-- what is left out before items are set in order is left out after
+pub in_order_filter : {A : Type 0} (key : A → ℕ) (p : A → Bool) (xs : List A) → filter p (in_order key xs) ≡ in_order key (filter p xs)
+in_order_filter key p xs = one_order key 0 (filter p (in_order key xs)) (in_order key (filter p xs)) (rises_filter key p 0 (in_order key xs) (in_order_rises key xs)) (in_order_rises key (filter p xs)) same
+  where
+    same : (k : ℕ) → of_key key k (filter p (in_order key xs)) ≡ of_key key k (in_order key (filter p xs))
+    same k =
+        filter_swap (λ z. nat_eq (key z) k) p (in_order key xs) ∙ ap (filter p) (key_kept key k xs) ∙ filter_swap p (λ z. nat_eq (key z) k) xs
+        ∙ sym (key_kept key k (filter p xs))
+
+put_each : {A : Type 0} (key : A → ℕ) (P : A → Type 0) (x : A) (ys : List A) → P x → Each P ys → Each P (put key x ys)
+put_each key P x [] here each = (here, tt)
+put_each key P x (y ∷ ys) here each = step (nat_le (key x) (key y)) (put_each key P x ys here each.1)
+  where
+    step : (b : Bool) → Each P (put key x ys) → Each P (cond b (x ∷ y ∷ ys) (y ∷ put key x ys))
+    step true rest = (here, each)
+    step false rest = (each.0, rest)
+
+pub in_order_each : {A : Type 0} (key : A → ℕ) (P : A → Type 0) (xs : List A) → Each P xs → Each P (in_order key xs)
+in_order_each key P [] each = tt
+in_order_each key P (x ∷ xs) each = put_each key P x (in_order key xs) each.0 (in_order_each key P xs each.1)

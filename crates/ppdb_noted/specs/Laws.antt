@@ -1,11 +1,16 @@
 -- What is promised of files whose records stand at their items.
-use Rattle.std.specs.Prelude.{◌≡◌, ℕ}
+use Rattle.std.specs.Prelude.{◌≡◌, ℕ, ◌≤◌, ◌<◌, Bool, true, List, filter}
+use Rattle.std.specs.List.Sorted.{IsSortedByKey, IsStableByKey}
+use Rattle.std.specs.Ordering.{nat_cmp}
 use Rattle.ppdb_values.specs.declared.file.FileValue.{FileValue}
 use Rattle.ppdb_values.specs.Meaning.{meaning}
 use Rattle.ppdb_values.specs.Links.{links}
+use Rattle.sound_values.specs.Customs.{coded_of}
 use Rattle.sound_values.specs.Sound.{IsSound}
 use Rattle.ppdb_noted.specs.declared.file.NotedFile.{NotedFile}
+use Rattle.ppdb_noted.specs.Each.{Each, Pairs}
 use Rattle.ppdb_noted.specs.Noted.{noted_file}
+use Rattle.ppdb_noted.specs.Sorted.{in_order}
 use Rattle.ppdb_noted.specs.Unnoted.{value_of_noted}
 use Rattle.ppdb_noted.specs.NotedMeaning.{noted_meaning, noted_links}
 use Rattle.ppdb_noted.specs.SoundParts.{SoundParts}
@@ -16,6 +21,22 @@ MeaningsAreNoted = (value : FileValue) (method x : ℕ) → meaning value method
 
 abbrev pub LinksAreNoted : Type 0
 LinksAreNoted = (value : FileValue) (method : ℕ) → links value method ≡ noted_links (noted_file value) method
+
+-- What sets items in order by a key.
+pub record SortedInOrder (A : Type 0) : Type 0 where
+  -- a stable sort leaves the items in order
+  pub sorted : (key : A → ℕ) (xs ys : List A) → IsSortedByKey key nat_cmp ys → IsStableByKey key nat_cmp xs ys → ys ≡ in_order key xs
+  -- items whose keys rise are in order
+  pub risen : (key : A → ℕ) (xs : List A) → Pairs (λ a b. key a ≤ key b) xs → in_order key xs ≡ xs
+  -- the items that are left are in the order that they had, and those of one key as they were
+  pub left : (key : A → ℕ) (test : A → Bool) (xs : List A) → filter test (in_order key xs) ≡ in_order key (filter test xs)
+  pub one_key : (key : A → ℕ) (test : A → Bool) (xs : List A) → ((x y : A) → test x ≡ true → test y ≡ true → key x ≡ key y)
+      → filter test (in_order key xs) ≡ filter test xs
+
+-- Records that stand at the items that they are on come back, where the others are on rows of the tables 00 to 2c, in their order.
+abbrev pub FilesComeBack : Type 0
+FilesComeBack = (file : NotedFile) → Each (λ custom. custom.parent.table < 0x2d) file.customs
+    → Pairs (λ a b. coded_of a.parent ≤ coded_of b.parent) file.customs → noted_file (value_of_noted file) ≡ file
 
 -- A sound value is the value of its noted form.
 abbrev pub ValuesComeBack : Type 0

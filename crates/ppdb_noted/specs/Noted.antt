@@ -74,3 +74,7 @@ scope_of scope = record {
   variables = items_of scope.variables;
   constants = items_of scope.constants;
 }
+
+-- another item in place of an item, with the same records
+abbrev pub with_item : {X : Type 0} → (X → X) → Noted X → Noted X
+with_item change noted = record { item = change noted.item; customs = noted.customs }

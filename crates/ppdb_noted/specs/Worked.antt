@@ -3,13 +3,11 @@ use Rattle.std.specs.Prelude.{◌≡◌, ℕ, [], ◌∷◌, ◌++◌}
 use Rattle.custom_info.specs.Kinds.{dynamic_locals}
 use Rattle.ppdb_values.specs.declared.file.FileValue.{FileValue}
 use Rattle.ppdb_values.specs.declared.noted.Noted.{Noted}
-use Rattle.ppdb_values.specs.declared.scope.ScopeValue.{ScopeValue}
 use Rattle.ppdb_values.specs.declared.scope.VariableValue.{VariableValue}
 use Rattle.ppdb_values.specs.declared.custom.CustomBody.{CustomBody}
 use Rattle.ppdb_values.specs.declared.custom.CustomBody.TheVariants.{Unread}
 use Rattle.ppdb_values.specs.WorkedSmall.{zeros, empty_value, small_value, small_document, variable_x, variable_y}
 use Rattle.ppdb_values.specs.WorkedProgram.{program_value, program_document, program_imports, limit}
-use Rattle.ppdb_noted.specs.declared.file.NotedScope.{NotedScope}
 use Rattle.ppdb_noted.specs.declared.file.NotedFile.{NotedFile}
 use Rattle.ppdb_noted.specs.Noted.{noted_file}
 use Rattle.ppdb_noted.specs.Unnoted.{value_of_noted}

@@ -6,4 +6,7 @@ mod file;
 mod laws;
 
 pub use file::{NotedFile, NotedScope};
-pub use laws::{meanings_are_noted, worked_files_are_noted};
+pub use laws::{
+    files_come_back, meanings_are_noted, sorted_in_order, soundness_is_noted, values_come_back,
+    worked_files_are_noted,
+};

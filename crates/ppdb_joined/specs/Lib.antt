@@ -1,0 +1,4 @@
+pub mod Joinable
+pub mod Joined
+pub mod Laws
+pub mod Same

@@ -1,0 +1,12 @@
+// What is promised of files that are joined.
+ghost use Rattle.ppdb_joined.specs.Laws.{OneFileStays, JoinedIsSound};
+
+/// One file alone stays as it is, where its parts are sound.
+pub fn one_file_stays()
+    ensures { OneFileStays }
+{}
+
+/// What is joined is sound, where the files can be joined and the first counts all rows of the type system.
+pub fn joined_is_sound()
+    ensures { JoinedIsSound }
+{}
