@@ -28,13 +28,13 @@ get_drop [] (suc a) i = refl
 get_drop (x ∷ xs) zero i = let e : zero + i ≡ i = omega arith in rw e refl
 get_drop (x ∷ xs) (suc a) i = let e : suc a + i ≡ suc (a + i) = omega arith in rw e (get_drop xs a i)
 
-get_take : {X : Type 0} (n : ℕ) (xs : List X) (i : ℕ) (x : X) → slice_get (take n xs) i ≡ Some x → (i < n) × (slice_get xs i ≡ Some x)
+pub get_take : {X : Type 0} (n : ℕ) (xs : List X) (i : ℕ) (x : X) → slice_get (take n xs) i ≡ Some x → (i < n) × (slice_get xs i ≡ Some x)
 get_take zero xs i x e = cc
 get_take (suc n) [] i x e = cc
 get_take (suc n) (y ∷ ys) zero x e = (omega arith, e)
 get_take (suc n) (y ∷ ys) (suc i) x e = let h = get_take n ys i x e in (omega (arith, h.0), h.1)
 
-get_numbered : {X : Type 0} (n : ℕ) (xs : List X) (i : ℕ) (x : ℕ × X) → slice_get (enumerate_from n xs) i ≡ Some x → (x.0 ≡ n + i) × (slice_get xs i ≡ Some x.1)
+pub get_numbered : {X : Type 0} (n : ℕ) (xs : List X) (i : ℕ) (x : ℕ × X) → slice_get (enumerate_from n xs) i ≡ Some x → (x.0 ≡ n + i) × (slice_get xs i ≡ Some x.1)
 get_numbered n [] i x e = cc
 get_numbered {X} n (y ∷ ys) zero x e =
     let same : (n, y) ≡ x = cc in
