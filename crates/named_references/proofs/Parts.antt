@@ -1,0 +1,133 @@
+-- Part by part, what a file names is what its value names.
+use Rattle.std.proofs.Common.{◌≡◌, ℕ, zero, suc, ◌+◌, ◌-◌, Bool, true, false, ◌&&◌, ◌||◌, not, cond, nat_eq, List, [], ◌∷◌, ◌++◌, length, Option, Some, None, refl, sym, ap, ◌∙◌, map, slice_get, drop, arith, append-nil}
+use Rattle.std.specs.Prelude.{nat_lt, is_some, slice_range}
+use Rattle.std.specs.List.{flat_map, filter, filter_map, enumerate_from}
+use Rattle.std.specs.Option.{option_map}
+use Rattle.std.proofs.lemmas.List.{map-append}
+use Rattle.std.proofs.lemmas.List.Concat.{flat_map_single}
+use Rattle.ppdb_base.specs.declared.fault.Place.{Place}
+use Rattle.ppdb_base.specs.Place.{at_byte, cell}
+use Rattle.blob_grammar.specs.Grammar.{Value, Field, Grammar, cut}
+use Rattle.blob_grammar.specs.Reader.{front_of}
+use Rattle.blob_grammar.specs.Allowed.{is_between}
+use Rattle.blob_grammar.proofs.FrontFields.{longest-front_of}
+use Rattle.custom_info.specs.declared.kinds.Kind.{Kind}
+use Rattle.custom_info.specs.declared.kinds.Kind.TheVariants.{Async, Hoisted, TypeDocuments, Free, Unknown}
+use Rattle.custom_info.specs.Kinds.{kind_of}
+use Rattle.type_blobs.specs.Imports.{imports as import_grammar, ImportItem}
+use Rattle.ppdb_maps.specs.Map.{Map, is_dropped}
+use Rattle.ppdb_tables.specs.declared.parent.Parent.{Parent}
+use Rattle.ppdb_tables.specs.declared.rows.MethodDebugRow.{MethodDebugRow}
+use Rattle.ppdb_tables.specs.declared.rows.ScopeRow.{ScopeRow}
+use Rattle.ppdb_tables.specs.declared.rows.ConstantRow.{ConstantRow}
+use Rattle.ppdb_tables.specs.declared.rows.ImportRow.{ImportRow}
+use Rattle.ppdb_tables.specs.declared.rows.MachineRow.{MachineRow}
+use Rattle.ppdb_tables.specs.declared.rows.CustomRow.{CustomRow}
+use Rattle.ppdb_tables.specs.RawTables.{RawTables, count, numbered, row_at}
+use Rattle.ppdb_values.specs.declared.custom.CustomValue.{CustomValue}
+use Rattle.ppdb_values.specs.declared.file.FileValue.{FileValue}
+use Rattle.ppdb_values.specs.declared.file.MethodValue.{MethodValue}
+use Rattle.ppdb_values.specs.declared.import.ImportScopeValue.{ImportScopeValue}
+use Rattle.ppdb_values.specs.declared.noted.Noted.{Noted}
+use Rattle.ppdb_values.specs.declared.scope.ConstantValue.{ConstantValue}
+use Rattle.ppdb_values.specs.declared.scope.ScopeValue.{ScopeValue}
+use Rattle.ppdb_values.specs.Constants.{constant_of}
+use Rattle.ppdb_values.specs.Customs.{custom_of, custom_body, parent_of, kind_in}
+use Rattle.ppdb_values.specs.Documents.{method_of, method_with, signature_in, points_in}
+use Rattle.ppdb_values.specs.Imports.{import_scope_of, import_value, heap_of}
+use Rattle.ppdb_values.specs.Owners.{ListsAreOwned, list_of}
+use Rattle.ppdb_values.specs.Parts.{first_item}
+use Rattle.ppdb_values.specs.RawFile.{RawFile, blob, records_of, type_limits}
+use Rattle.ppdb_values.specs.Rules.{KeepsRules, IsWhole}
+use Rattle.ppdb_values.specs.Value.{value_of, scope_of, owned_by}
+use Rattle.value_reading.specs.Scopes.{scope_in, scopes_in}
+use Rattle.rows_in_blobs.specs.declared.row.PlacedRow.{PlacedRow}
+use Rattle.ppdb_references.specs.References.{Reference, names as names_at, names_some as some_at, inside, of_entry, of_points, of_method, of_scope, types_of, of_constant, of_import, of_machine, methods_in, methods_of, of_parent, is_live_parent, of_custom}
+use Rattle.ppdb_references.specs.Lists.{of_list, of_scope_constants}
+use Rattle.ppdb_references.proofs.ConstantLists.{all-scopes, get_numbered, get_take, get_drop}
+use Rattle.ppdb_noted.specs.declared.file.NotedScope.{NotedScope}
+use Rattle.ppdb_noted.specs.Noted.{noted_file, noted_scope}
+use Rattle.ppdb_noted.specs.NamedRows.{Named, names, names_some, in_entry, in_constant, in_body, in_token, in_import, in_steps, live_file, live_method, live_scope, live_machine, live_custom}
+use Rattle.named_references.specs.Laws.{named_by}
+use Rattle.named_references.proofs.FieldWalks.{row_named}
+use Rattle.named_references.proofs.ConstantNames.{constant-names}
+use Rattle.named_references.proofs.ImportNames.{import-names}
+use Rattle.named_references.proofs.StepNames.{step-names}
+use Rattle.named_references.proofs.Listed.{unplaced, flat_map-made, flat_map-same, unplaced-flat, named-mapped, named-filtered, unnumbered, numbered-out, numbered-made, numbered-value, map-twice, noted-items, filter-both}
+
+some-named : (place : Place) (table row : ℕ) → unplaced (some_at place table row) ≡ names_some table row
+some-named place table row = by (nat_eq row 0)
+  where
+    by : (b : Bool) → unplaced (cond b [] (names_at place table row ∷ [])) ≡ cond b [] (names table row ∷ [])
+    by true = refl
+    by false = refl
+
+pub inside-named : (table row column : ℕ) (rows : List PlacedRow) → unplaced (inside table row column rows) ≡ map row_named rows
+inside-named table row column [] = refl
+inside-named table row column (x ∷ rows) = ap (λ (l : List Named). row_named x ∷ l) (inside-named table row column rows)
+
+-- ---- the entry point
+
+pub entry-named : (first : Bool) (m : Map) (raw : RawFile) → unplaced (of_entry first m raw.entry) ≡ in_entry first (live_file m (noted_file (value_of raw)))
+entry-named false m raw = refl
+entry-named true m raw = by (is_dropped m raw.entry)
+  where
+    by : (b : Bool) → unplaced (cond b [] (some_at (at_byte 3 20) 0x06 raw.entry)) ≡ names_some 0x06 (cond b 0 raw.entry)
+    by true = refl
+    by false = some-named (at_byte 3 20) 0x06 raw.entry
+
+-- ---- methods
+
+abbrev pub method_rows : MethodValue → List Named
+method_rows v = names 0x06 v.method ∷ names_some 0x11 v.signature
+
+-- the method of a row has its number
+method-number : (row : ℕ) (column : ℕ) (o : Option ℕ) (raw : RawTables) (content : List ℕ) (make : ℕ → MethodValue) → ((signature : ℕ) → (make signature).method ≡ row)
+    → (v : MethodValue) → option_map make o ≡ Some v → v.method ≡ row
+method-number row column None raw content make h v e = cc
+method-number row column (Some signature) raw content make h v e = let same : make signature ≡ v = cc in ap (λ (w : MethodValue). w.method) (sym same) ∙ h signature
+
+method-is : (raw : RawTables) (x : ℕ × MethodDebugRow) (v : MethodValue) → method_of raw x ≡ Some v → v.method ≡ x.0
+method-is raw x v e = by (blob raw x.1.points) e
+  where
+    by : (content : List ℕ) → method_with raw x.0 x.1.document content ≡ Some v → v.method ≡ x.0
+    by [] e = cc
+    by (b ∷ bytes) e = method-number x.0 x.1.document (signature_in raw x.1.document (b ∷ bytes)) raw (b ∷ bytes) (λ signature. record { method = x.0; signature = signature; points = points_in raw x.1.document (b ∷ bytes) }) (λ signature. refl) v e
+
+module _ (m : Map) where
+  method-row : (raw : RawTables) (x : ℕ × MethodDebugRow) (o : Option MethodValue) (d : Bool) → ((v : MethodValue) → o ≡ Some v → v.method ≡ x.0) → is_dropped m x.0 ≡ d
+      → unplaced (cond d [] (of_points x.0 o)) ≡ elim o as (λ (w : Option MethodValue). List Named) [ None ↦ [] | Some v ↦ cond (live_method m v) (method_rows v) [] ]
+  method-row raw x None true is e = refl
+  method-row raw x None false is e = refl
+  method-row raw x (Some v) true is e = let d : is_dropped m v.method ≡ true = ap (is_dropped m) (is v refl) ∙ e in rw d refl
+  method-row raw x (Some v) false is e =
+      let d : is_dropped m v.method ≡ false = ap (is_dropped m) (is v refl) ∙ e in
+      rw d (ap (λ (l : List Named). names 0x06 x.0 ∷ l) (some-named (cell 0x31 x.0 1) 0x11 v.signature) ∙ ap (λ (n : ℕ). names 0x06 n ∷ names_some 0x11 v.signature) (sym (is v refl)))
+
+  pub methods-named : (raw : RawTables) → unplaced (flat_map (of_method m raw) (numbered raw.methods)) ≡ flat_map method_rows (filter (live_method m) (filter_map (method_of raw) (numbered raw.methods)))
+  methods-named raw =
+      unplaced-flat (of_method m raw) (numbered raw.methods)
+      ∙ named-filtered (method_of raw) (λ x. unplaced (of_method m raw x)) (live_method m) method_rows (numbered raw.methods)
+      (λ x. method-row raw x (method_of raw x) (is_dropped m x.0) (λ v e. method-is raw x v e) refl)
+
+  -- ---- scopes
+
+  abbrev pub noted_row : RawFile → ℕ × ScopeRow → NotedScope
+  noted_row raw x = noted_scope (value_of raw) (x.0, scope_of raw.tables x)
+
+  pub noted-scopes : (raw : RawFile) → (noted_file (value_of raw)).scopes ≡ map (noted_row raw) (numbered raw.tables.scopes)
+  noted-scopes raw =
+      ap (map (noted_scope (value_of raw))) (numbered-made (scope_of raw.tables) 1 raw.tables.scopes)
+      ∙ map-twice (λ row. (row.0, scope_of raw.tables row)) (noted_scope (value_of raw)) (numbered raw.tables.scopes)
+
+  scope-row : (d : Bool) (place : Place) (row : ℕ) → unplaced (cond d [] (names_at place 0x06 row ∷ [])) ≡ cond (not d) (names 0x06 row ∷ []) []
+  scope-row true place row = refl
+  scope-row false place row = refl
+
+  pub scopes-named : (raw : RawFile) → unplaced (flat_map (of_scope m) (numbered raw.tables.scopes)) ≡ map (λ (s : NotedScope). names 0x06 s.method) (filter (live_scope m) (noted_file (value_of raw)).scopes)
+  scopes-named raw =
+      unplaced-flat (of_scope m) (numbered raw.tables.scopes)
+      ∙ named-mapped (noted_row raw) (λ x. unplaced (of_scope m x)) (live_scope m) (λ s. names 0x06 s.method ∷ []) (numbered raw.tables.scopes)
+      (λ i x e. scope-row (is_dropped m x.1.method) (cell 0x32 x.0 0) x.1.method)
+      ∙ flat_map_single (λ (s : NotedScope). names 0x06 s.method) (filter (live_scope m) (map (noted_row raw) (numbered raw.tables.scopes)))
+      ∙ ap (λ (scopes : List NotedScope). map (λ (s : NotedScope). names 0x06 s.method) (filter (live_scope m) scopes)) (sym (noted-scopes raw))

@@ -1,0 +1,4 @@
+pub mod References
+pub mod Imaging
+pub mod TableRows
+pub mod Lists

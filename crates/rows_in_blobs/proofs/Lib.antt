@@ -1,0 +1,4 @@
+pub mod Items
+pub mod TypesTaken
+pub mod StepsTaken
+pub mod ImportsWalked
