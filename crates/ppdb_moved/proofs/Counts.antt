@@ -1,6 +1,6 @@
 -- The row counts of the output, one more at a time.
-use Rattle.std.proofs.Common.{◌≡◌, ℕ, ◌+◌, ◌<◌, ◌++◌, List, [], ◌∷◌, length, take, drop, set, get_or, refl, sym, ap, ◌∙◌, arith}
-use Rattle.std.proofs.lemmas.List.{take_more, take_more_set, drop-set-lt, length-take-le}
+use Rattle.std.proofs.Common.{◌≡◌, ℕ, ◌+◌, ◌<◌, ◌++◌, List, [], ◌∷◌, length, take, set, get_or, sym, ap, ◌∙◌, arith}
+use Rattle.std.proofs.lemmas.List.{take_more, take_more_set, length-take-le}
 use Rattle.ppdb_maps.specs.Map.{Map, output_count}
 use Rattle.ppdb_moved.specs.Moved.{moved_counts}
 

@@ -14,14 +14,13 @@ use Rattle.ppdb_values.specs.declared.noted.Custom.{Custom}
 use Rattle.ppdb_values.specs.Links.{kickoff_of, move_next_of}
 use Rattle.ppdb_values.specs.Meaning.{without_parent}
 use Rattle.ppdb_values.specs.Parts.{slots_in}
-use Rattle.ppdb_noted.specs.declared.file.NotedFile.{NotedFile}
 use Rattle.ppdb_noted.specs.Each.{Each, Pairs}
 use Rattle.ppdb_noted.specs.NamedRows.{live_machine}
 use Rattle.ppdb_noted.proofs.Lists.{Each-filter, Each-weaker}
-use Rattle.ppdb_moved.specs.FitsMethod.{FitsMachine, FitsCustom, FitsEntry}
+use Rattle.ppdb_moved.specs.FitsMethod.{FitsMachine, FitsCustom}
 use Rattle.ppdb_moved.specs.Images.{partner_image}
-use Rattle.ppdb_moved.specs.Laws.{LinksMean, LinksMoved}
-use Rattle.ppdb_moved.specs.Moved.{moved_body, moved_file, moved_machine}
+use Rattle.ppdb_moved.specs.Laws.{LinksMoved}
+use Rattle.ppdb_moved.specs.Moved.{moved_body, moved_machine}
 use Rattle.ppdb_moved.proofs.Customs.{on, image_of, not_dropped, records_moved}
 
 -- ---- the one item that passes, where what goes may pass too

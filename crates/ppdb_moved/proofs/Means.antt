@@ -1,20 +1,15 @@
 -- The whole meaning of a moved file at the image of a kept offset of a method that the file names.
-use Rattle.std.proofs.Common.{◌≡◌, ◌≢◌, ℕ, ◌<◌, ◌≤◌, Bool, List, [], ◌∷◌, Option, refl, sym, ap, ◌∙◌, arith, inl, inr}
-use Rattle.std.specs.Prelude.{nat_eq}
+use Rattle.std.proofs.Common.{◌≡◌, ◌≢◌, ℕ, ◌≤◌, sym, ap, ◌∙◌, arith, inl, inr}
 use Rattle.ppdb_base.specs.Offsets.{Offsets, every, gone, lined, Rise, Kept, old_size}
 use Rattle.ppdb_base.proofs.Moved.{kept_below}
-use Rattle.ppdb_maps.specs.Map.{Map, moved_row, offsets_in}
+use Rattle.ppdb_maps.specs.Map.{moved_row, offsets_in}
 use Rattle.ppdb_values.specs.declared.file.MethodValue.{MethodValue}
-use Rattle.ppdb_values.specs.Meaning.{Meaning, PointMeaning, ScopeMeaning, SlotMeaning}
-use Rattle.ppdb_noted.specs.declared.file.NotedFile.{NotedFile}
 use Rattle.ppdb_noted.specs.Each.{Pairs}
-use Rattle.ppdb_noted.specs.NotedMeaning.{noted_meaning, slots_at}
-use Rattle.ppdb_noted.specs.SoundParts.{SoundMoved}
+use Rattle.ppdb_noted.specs.NotedMeaning.{noted_meaning}
 use Rattle.ppdb_noted.proofs.Lists.{Pairs-weaker}
 use Rattle.ppdb_moved.specs.Moved.{moved_file}
 use Rattle.ppdb_moved.specs.Images.{meaning_image}
-use Rattle.ppdb_moved.specs.FitsMethod.{FitsFile}
-use Rattle.ppdb_moved.specs.Laws.{MovedMeans, FilesMean}
+use Rattle.ppdb_moved.specs.Laws.{FilesMean}
 use Rattle.ppdb_moved.proofs.Links.{links_mean}
 use Rattle.ppdb_moved.proofs.Meanings.{scopes_mean}
 use Rattle.ppdb_moved.proofs.PointMeanings.{points_mean}

@@ -1,10 +1,10 @@
 -- The hoisted locals that hold a kept offset move to those that hold its image.
-use Rattle.std.proofs.Common.{◌≡◌, ℕ, ◌+◌, ◌≤◌, ◌≢◌, ◌&&◌, ◌++◌, Bool, true, false, cond, List, [], ◌∷◌, Some, None, refl, sym, ◌∙◌, ap, arith, subst, map}
+use Rattle.std.proofs.Common.{◌≡◌, ℕ, ◌+◌, ◌≤◌, ◌≢◌, ◌++◌, Bool, true, false, cond, List, [], ◌∷◌, Some, None, refl, sym, ◌∙◌, ap, arith, subst, map}
 use Rattle.std.specs.Prelude.{nat_eq}
 use Rattle.std.specs.List.{filter, filter_map, flat_map, enumerate_from, cons_option}
-use Rattle.std.proofs.lemmas.Bool.{eq-eqb, ne_eqb, eqb-true, eqb-false, and_parts, both_ways}
+use Rattle.std.proofs.lemmas.Bool.{eqb-true, and_parts, both_ways}
 use Rattle.ppdb_base.specs.Offsets.{gone, Rise, Kept, old_size}
-use Rattle.ppdb_maps.specs.Map.{Map, moved_row, offsets_in, is_dropped, line_offsets, method_line}
+use Rattle.ppdb_maps.specs.Map.{Map, moved_row, offsets_in}
 use Rattle.custom_info.specs.declared.slots.Slot.{Slot}
 use Rattle.custom_info.specs.declared.slots.Slot.TheVariants.{Empty, Held}
 use Rattle.ppdb_values.specs.declared.custom.CustomBody.{CustomBody}
@@ -14,12 +14,11 @@ use Rattle.ppdb_values.specs.Meaning.{SlotMeaning, slot_at}
 use Rattle.ppdb_values.specs.Parts.{holds, slots_in}
 use Rattle.ppdb_noted.specs.Each.{Each}
 use Rattle.ppdb_noted.specs.declared.file.NotedFile.{NotedFile}
-use Rattle.ppdb_moved.specs.Moved.{moved_range, is_empty, moved_slot, moved_body, moved_custom, moved_file}
+use Rattle.ppdb_moved.specs.Moved.{moved_range, is_empty, moved_slot, moved_body, moved_file}
 use Rattle.ppdb_moved.specs.Images.{slot_image}
 use Rattle.ppdb_noted.specs.NotedMeaning.{slots_among, slots_at}
 use Rattle.ppdb_moved.specs.FitsMethod.{FitsSlot, FitsSlots, FitsCustom}
-use Rattle.ppdb_noted.proofs.Lists.{Each-filter, Each-weaker}
-use Rattle.ppdb_moved.proofs.Lists.{Alike, filter-filter_map, filter_map-map}
+use Rattle.ppdb_noted.proofs.Lists.{Each-filter}
 use Rattle.ppdb_moved.proofs.Customs.{on, image_of, records_moved}
 use Rattle.ppdb_moved.proofs.Scopes.{holds_kept, empty_holds}
 

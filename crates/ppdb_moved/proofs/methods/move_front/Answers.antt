@@ -1,7 +1,5 @@
-use Rattle.std.proofs.Common.{◌≡◌, ℕ, ◌≤◌, ◌<◌, ◌++◌, ◌+◌, length, take, drop, get_or, sym, ap, subst, ◌∙◌, arith}
+use Rattle.std.proofs.Common.{ℕ, ◌<◌, length, get_or, ap, arith}
 use Rattle.sequence_points.specs.declared.point.Point.{Point}
-use Rattle.sequence_points.specs.declared.point.Span.TheVariants.{Hidden}
-use Rattle.sequence_points.specs.MovedPoints.{moved_points}
 use Rattle.ppdb_moved.proofs.Front.{front_stays, front_goes, left_after_set, left_next}
 use Rattle.ppdb_moved.proofs.methods.move_front.Goals as goal
 use Rattle.ppdb_moved.proofs.methods.move_front.Goals.{then-kept_between, else-kept_between}

@@ -1,4 +1,4 @@
-use Rattle.std.proofs.Common.{◌≡◌, ◌≤◌, ◌++◌, take, drop, length}
+use Rattle.std.proofs.Common.{◌≡◌, ◌≤◌, ◌++◌, take, drop}
 use Rattle.sequence_points.specs.MovedPoints.{moved_points}
 use Rattle.ppdb_moved.proofs.methods.move_front.Given as goal
 
