@@ -1,5 +1,5 @@
 -- The list of the last scope of a draft begins behind the rows of a table exactly where the last scope of the value owns none of them.
-use Rattle.std.proofs.Common.{◌≡◌, ℕ, zero, suc, ◌+◌, ◌-◌, ◌<◌, ◌≤◌, Bool, true, false, ◌&&◌, List, [], ◌∷◌, length, map, min, take, refl, sym, ap, ◌∙◌}
+use Rattle.std.proofs.Common.{◌≡◌, ℕ, zero, suc, ◌+◌, ◌-◌, ◌&&◌, List, [], ◌∷◌, length, map, min, take, refl, sym, ap, ◌∙◌}
 use Rattle.std.proofs.Common.{arith, slice_get, inl, inr}
 use Rattle.std.specs.Prelude.{Option, Some, None, ◌==◌}
 use Rattle.std.specs.Option.{option_or}
@@ -9,12 +9,12 @@ use Rattle.std.proofs.lemmas.List.{length-map}
 use Rattle.std.proofs.lemmas.List.Concat.{length-flat_map}
 use Rattle.std.proofs.lemmas.List.FromFn.{length-enumerate_from}
 use Rattle.std.proofs.lemmas.List.Sums.{sum_by-cons}
-use Rattle.std.proofs.lemmas.Option.{none-some, slice_get_cases, slice_get_within}
+use Rattle.std.proofs.lemmas.Option.{none-some, slice_get_cases}
 use Rattle.sequence_points.specs.Written.{last_of}
 use Rattle.ppdb_base.specs.declared.limits.Limit.{Limit}
 use Rattle.ppdb_base.specs.declared.limits.Limit.TheVariants.{ListPastEnd}
 use Rattle.ppdb_tables.specs.declared.rows.ScopeRow.{ScopeRow}
-use Rattle.ppdb_tables.specs.RawTables.{numbered, row_at}
+use Rattle.ppdb_tables.specs.RawTables.{numbered}
 use Rattle.ppdb_values.specs.declared.file.FileValue.{FileValue}
 use Rattle.ppdb_values.specs.declared.scope.ScopeValue.{ScopeValue}
 use Rattle.sound_values.proofs.Listed.{row_of_map, row_of_numbered}
@@ -22,7 +22,7 @@ use Rattle.ppdb_canon.specs.Uses.{variables_of, constants_of}
 use Rattle.ppdb_canon.specs.Canonical.{scope_row, variable_row, constant_row, canonical_tables}
 use Rattle.ppdb_canon.specs.Limits.{met, owns_none, list_past_end}
 use Rattle.file_drafting.specs.Draft.{Draft}
-use Rattle.file_drafting.specs.Drafted.{held_scope, held_variable, held_constant, held_rows, IsDraftOf}
+use Rattle.file_drafting.specs.Drafted.{held_scope, held_variable, held_constant, IsDraftOf}
 
 -- ---- the last scope
 

@@ -1,7 +1,6 @@
 -- The points of a method of a file that keeps the rules can be written, and none of their steps from line to line is large.
-use Rattle.std.proofs.Common.{◌≡◌, ℕ, suc, ◌+◌, ◌⊎◌, List, [], ◌∷◌, length, Option, Some, None, refl, sym, ap, subst, ◌∙◌, arith, inl, inr, All}
+use Rattle.std.proofs.Common.{◌≡◌, ℕ, suc, ◌+◌, ◌⊎◌, List, [], ◌∷◌, Option, Some, None, refl, sym, subst, ◌∙◌, arith, inl, inr}
 use Rattle.std.specs.Option.{option_map}
-use Rattle.sequence_points.specs.declared.point.Point.{Point}
 use Rattle.sequence_points.specs.Points.{PointsReading}
 use Rattle.sequence_points.specs.Records.{sequence_points}
 use Rattle.sequence_points.specs.Written.{CanBeWritten, large_steps}

@@ -1,13 +1,12 @@
 -- The scopes of a file one after the other: their ranges, the rows of their variables, and all constants, in the order of their rows.
 use Rattle.std.proofs.Common.{◌≡◌, ℕ, zero, suc, ◌+◌, ◌-◌, ◌≤◌, List, [], ◌∷◌, ◌++◌, length, map, take, drop, fold, flat_map, refl, sym, ap, subst, ◌∙◌}
 use Rattle.std.proofs.Common.{arith, slice_get, zero-add, All}
-use Rattle.std.specs.Prelude.{Option, Some, None, unwrap_or, slice_range}
+use Rattle.std.specs.Prelude.{Some, unwrap_or, slice_range}
 use Rattle.std.specs.List.{enumerate_from, sum_by}
 use Rattle.std.specs.Option.{option_map}
 use Rattle.std.proofs.lemmas.List.{length-map}
 use Rattle.std.proofs.lemmas.List.Elements.{All-nil, All-cons, All-head, All-tail, All-append}
 use Rattle.std.proofs.lemmas.List.Sums.{fold-append, sum_by-cons}
-use Rattle.std.proofs.lemmas.Option.{slice_get_within}
 use Rattle.ppdb_tables.specs.declared.rows.ScopeRow.{ScopeRow}
 use Rattle.ppdb_tables.specs.declared.rows.VariableRow.{VariableRow}
 use Rattle.ppdb_tables.specs.RawTables.{numbered, row_at}
@@ -22,7 +21,7 @@ use Rattle.sound_values.proofs.Counts.{variables_counted}
 use Rattle.sound_values.proofs.Listed.{sum_of_map}
 use Rattle.value_reading.specs.declared.scopes.Scope.{Scope}
 use Rattle.value_reading.specs.Lent.{variables_of, constants_of}
-use Rattle.value_reading.specs.Scopes.{list_range, scope_in, scopes_in, items_in, scope_with, rows_in, IsWithin, HasLists, OwnTheirLists}
+use Rattle.value_reading.specs.Scopes.{list_range, scope_in, scopes_in, items_in, scope_with, rows_in, HasLists, OwnTheirLists}
 use Rattle.value_reading.proofs.Shared.{list_within}
 use Rattle.row_drafting.proofs.Rows.{items_counted}
 

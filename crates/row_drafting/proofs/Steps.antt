@@ -5,19 +5,18 @@ use Rattle.std.specs.Prelude.{is_some, unsigned_abs, ◌-ℤ◌, if◌then◌els
 use Rattle.std.specs.Option.{option_map, option_to_list}
 use Rattle.std.proofs.lemmas.Int.{ints}
 use Rattle.std.proofs.lemmas.Bool.{and_parts}
-use Rattle.cli_ints.specs.Compressed.{SpellsUnsigned, SpellsSigned, unrotated}
+use Rattle.cli_ints.specs.Compressed.{SpellsSigned, unrotated}
 use Rattle.cli_ints.specs.Shortest.{fits_half}
 use Rattle.ppdb_base.specs.declared.fault.BlobFault.{BlobFault}
-use Rattle.blob_grammar.specs.Grammar.{Value, number, integer, octets, Form, unsigned, signed, Spells, Field, Cut, with_value, closed, cut, IsAllowed}
+use Rattle.blob_grammar.specs.Grammar.{Value, number, integer, octets, Form, unsigned, signed, Spells, Field, Cut, with_value, closed, IsAllowed}
 use Rattle.blob_grammar.proofs.ReadRecords.{of_reading}
 use Rattle.sequence_points.specs.declared.point.Point.{Point}
 use Rattle.sequence_points.specs.declared.point.PointLimits.{PointLimits}
-use Rattle.sequence_points.specs.declared.point.Span.{Span}
 use Rattle.sequence_points.specs.declared.point.Span.TheVariants.{Hidden, Lines}
 use Rattle.sequence_points.specs.declared.place.Start.{Start}
-use Rattle.sequence_points.specs.Records.{Entry, header, hidden, visible, in_document, is_visible, start_line_of, Sums, sums, int_of, start_form, header_for}
+use Rattle.sequence_points.specs.Records.{Entry, header, hidden, visible, in_document, is_visible, start_line_of, Sums, sums, int_of}
 use Rattle.sequence_points.specs.Records.{header_of, document_record, hidden_point, visible_point, point_of_fields, record_of, sequence_points}
-use Rattle.sequence_points.specs.Ranges.{is_line, is_column}
+use Rattle.sequence_points.specs.Ranges.{is_line}
 use Rattle.sequence_points.specs.Points.{PointsReading, document_after, point_of, points_after}
 use Rattle.sequence_points.specs.Places.{start_after}
 use Rattle.sequence_points.specs.Written.{last_start, if_large, large_step, large_steps, numbered}

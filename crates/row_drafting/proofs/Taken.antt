@@ -1,5 +1,5 @@
 -- The constants of a file that keeps the rules can be written.
-use Rattle.std.proofs.Common.{◌≡◌, ℕ, Option, Some, None, refl, sym, ap, subst, ◌∙◌, true}
+use Rattle.std.proofs.Common.{◌≡◌, ℕ, Option, Some, None, refl, sym, subst, true}
 use Rattle.std.specs.Prelude.{All, is_some}
 use Rattle.std.proofs.lemmas.List.Elements.{All-weaker}
 use Rattle.type_blobs.specs.declared.types.Modifier.{Modifier}

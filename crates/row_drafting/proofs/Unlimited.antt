@@ -1,7 +1,7 @@
 -- The value of a file that keeps the rules passes no limit on rows, offsets and steps.
-use Rattle.std.proofs.Common.{◌≡◌, ℕ, zero, suc, ◌<◌, ◌≤◌, Bool, true, false, cond, List, [], ◌∷◌, length, length-append, take, refl, sym, ap, subst, ◌∙◌}
+use Rattle.std.proofs.Common.{◌≡◌, ℕ, ◌≤◌, Bool, false, cond, List, [], ◌∷◌, length, length-append, take, refl, ap, ◌∙◌}
 use Rattle.std.proofs.Common.{arith, Option, Some, None, slice_index, All}
-use Rattle.std.specs.Prelude.{nat_lt, nat_le, if◌then◌else◌}
+use Rattle.std.specs.Prelude.{nat_lt, nat_le}
 use Rattle.std.specs.Option.{option_map}
 use Rattle.std.specs.List.{filter_map, cons_option, find, repeat}
 use Rattle.std.proofs.lemmas.List.{length-map, length-take}
@@ -11,9 +11,7 @@ use Rattle.std.proofs.lemmas.List.FromFn.{length-map-range_with_len}
 use Rattle.ppdb_base.specs.declared.limits.Limit.{Limit}
 use Rattle.ppdb_base.specs.declared.limits.Limit.TheVariants.{TableRows, PointOffset, LineStep}
 use Rattle.sequence_points.specs.declared.point.Point.{Point}
-use Rattle.sequence_points.specs.Ranges.{IsOffset}
-use Rattle.sequence_points.specs.Written.{first_of, large_steps}
-use Rattle.ppdb_tables.specs.RawTables.{count}
+use Rattle.sequence_points.specs.Written.{first_of}
 use Rattle.ppdb_values.specs.declared.file.FileValue.{FileValue}
 use Rattle.ppdb_values.specs.declared.file.MethodValue.{MethodValue}
 use Rattle.ppdb_values.specs.declared.scope.ScopeValue.{ScopeValue}

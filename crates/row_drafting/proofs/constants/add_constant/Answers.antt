@@ -1,8 +1,5 @@
-use Rattle.std.proofs.Common.{sym, ap, subst, ◌∙◌}
-use Rattle.std.specs.Prelude.{All}
-use Rattle.type_blobs.specs.declared.types.Modifier.{Modifier}
+use Rattle.std.proofs.Common.{subst}
 use Rattle.type_blobs.specs.Spelling.{IsBody}
-use Rattle.type_blobs.specs.Types.{IsToken}
 use Rattle.type_blobs.specs.ConstantReading.{shown}
 use Rattle.ppdb_verify.specs.Views.{raw_file}
 use Rattle.value_reading.specs.Lent.{constant_value_shown}

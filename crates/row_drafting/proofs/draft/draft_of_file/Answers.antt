@@ -1,4 +1,4 @@
-use Rattle.std.proofs.Common.{◌≡◌, length, sym, ap, subst, ◌∙◌, fold, arith}
+use Rattle.std.proofs.Common.{sym, ap, subst, ◌∙◌, fold, arith}
 use Rattle.ppdb_values.specs.Value.{value_of}
 use Rattle.ppdb_verify.specs.Views.{raw_file}
 use Rattle.file_drafting.specs.Draft.{with_scope, with_constants, with_import, with_machine, with_custom}
