@@ -10,7 +10,8 @@ use Rattle.ppdb_values.specs.Rules.{KeepsRules}
 use Rattle.ppdb_values.specs.Value.{value_of}
 use Rattle.sound_values.proofs.Listed.{row_of_map}
 
-pub parent_small : (raw : RawFile) → KeepsRules raw → (row : ℕ) (custom : CustomValue) → row_at (value_of raw).customs row ≡ Some custom → custom.parent.row ≤ 16777215
+pub parent_small : (raw : RawFile) → KeepsRules raw → (row : ℕ) (custom : CustomValue) → row_at (value_of raw).customs row ≡ Some custom
+    → custom.parent.row ≤ 16777215
 parent_small raw keeps row custom here =
     let r = row_of_map (custom_of raw.tables) raw.tables.customs row custom here in
     let kept = keeps.customs.each row r.0 r.1 in

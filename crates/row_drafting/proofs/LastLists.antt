@@ -1,5 +1,6 @@
 -- The list of the last scope of a draft begins behind the rows of a table exactly where the last scope of the value owns none of them.
-use Rattle.std.proofs.Common.{◌≡◌, ℕ, zero, suc, ◌+◌, ◌-◌, ◌<◌, ◌≤◌, Bool, true, false, ◌&&◌, List, [], ◌∷◌, length, map, min, take, refl, sym, ap, ◌∙◌, arith, slice_get, inl, inr}
+use Rattle.std.proofs.Common.{◌≡◌, ℕ, zero, suc, ◌+◌, ◌-◌, ◌&&◌, List, [], ◌∷◌, length, map, min, take, refl, sym, ap, ◌∙◌}
+use Rattle.std.proofs.Common.{arith, slice_get, inl, inr}
 use Rattle.std.specs.Prelude.{Option, Some, None, ◌==◌}
 use Rattle.std.specs.Option.{option_or}
 use Rattle.std.specs.List.{sum_by}
@@ -8,12 +9,12 @@ use Rattle.std.proofs.lemmas.List.{length-map}
 use Rattle.std.proofs.lemmas.List.Concat.{length-flat_map}
 use Rattle.std.proofs.lemmas.List.FromFn.{length-enumerate_from}
 use Rattle.std.proofs.lemmas.List.Sums.{sum_by-cons}
-use Rattle.std.proofs.lemmas.Option.{none-some, slice_get_cases, slice_get_within}
+use Rattle.std.proofs.lemmas.Option.{none-some, slice_get_cases}
 use Rattle.sequence_points.specs.Written.{last_of}
 use Rattle.ppdb_base.specs.declared.limits.Limit.{Limit}
 use Rattle.ppdb_base.specs.declared.limits.Limit.TheVariants.{ListPastEnd}
 use Rattle.ppdb_tables.specs.declared.rows.ScopeRow.{ScopeRow}
-use Rattle.ppdb_tables.specs.RawTables.{numbered, row_at}
+use Rattle.ppdb_tables.specs.RawTables.{numbered}
 use Rattle.ppdb_values.specs.declared.file.FileValue.{FileValue}
 use Rattle.ppdb_values.specs.declared.scope.ScopeValue.{ScopeValue}
 use Rattle.sound_values.proofs.Listed.{row_of_map, row_of_numbered}
@@ -21,7 +22,7 @@ use Rattle.ppdb_canon.specs.Uses.{variables_of, constants_of}
 use Rattle.ppdb_canon.specs.Canonical.{scope_row, variable_row, constant_row, canonical_tables}
 use Rattle.ppdb_canon.specs.Limits.{met, owns_none, list_past_end}
 use Rattle.file_drafting.specs.Draft.{Draft}
-use Rattle.file_drafting.specs.Drafted.{held_scope, held_variable, held_constant, held_rows, IsDraftOf}
+use Rattle.file_drafting.specs.Drafted.{held_scope, held_variable, held_constant, IsDraftOf}
 
 -- ---- the last scope
 
@@ -40,7 +41,8 @@ none_last (x ∷ xs) e = elim (slice_get_cases (x ∷ xs) (length (x ∷ xs) - 1
   | inr past ↦ let out = past.0 in absurd (omega (arith, out))
 ]
 
-sum_last : {X : Type 0} (size : X → ℕ) (xs : List X) (k : ℕ) (x : X) → slice_get xs k ≡ Some x → length xs ≡ suc k → sum_by size xs ≡ sum_by size (take k xs) + size x
+sum_last : {X : Type 0} (size : X → ℕ) (xs : List X) (k : ℕ) (x : X) → slice_get xs k ≡ Some x → length xs ≡ suc k
+    → sum_by size xs ≡ sum_by size (take k xs) + size x
 sum_last size [] k x here many = cc
 sum_last size (y ∷ []) zero x here many = let same : y ≡ x = cc in let one = sum_by-cons size y [] in let e = ap size same in omega (arith, one, e)
 sum_last size (y ∷ []) (suc k) x here many = cc
@@ -57,7 +59,8 @@ sum_last size (y ∷ z ∷ xs) (suc k) x here many =
 abbrev held_cell : ℕ → ℕ
 held_cell number = min number 0xffffffff
 
-past_end_is : (rows before own last : ℕ) → rows ≡ before + own → last ≡ held_cell (suc before) → ((rows == 65535) && (last == 65536)) ≡ ((rows == 65535) && (own == 0))
+past_end_is : (rows before own last : ℕ) → rows ≡ before + own → last ≡ held_cell (suc before)
+    → ((rows == 65535) && (last == 65536)) ≡ ((rows == 65535) && (own == 0))
 past_end_is rows before own last all is = grind (arith, nat_tests)
 
 module _ (value : FileValue) (draft : Draft) (is : IsDraftOf value draft) where
@@ -88,8 +91,10 @@ module _ (value : FileValue) (draft : Draft) (is : IsDraftOf value draft) where
     last : last_of value.scopes ≡ Some scope
     variables : row.variables ≡ held_cell (suc (sum_by (λ scope. length scope.variables) (take index value.scopes)))
     constants : row.constants ≡ held_cell (suc (sum_by (λ scope. length scope.constants) (take index value.scopes)))
-    all_variables : sum_by (λ scope. length scope.variables) value.scopes ≡ sum_by (λ scope. length scope.variables) (take index value.scopes) + length scope.variables
-    all_constants : sum_by (λ scope. length scope.constants) value.scopes ≡ sum_by (λ scope. length scope.constants) (take index value.scopes) + length scope.constants
+    all_variables : sum_by (λ scope. length scope.variables) value.scopes
+        ≡ sum_by (λ scope. length scope.variables) (take index value.scopes) + length scope.variables
+    all_constants : sum_by (λ scope. length scope.constants) value.scopes
+        ≡ sum_by (λ scope. length scope.constants) (take index value.scopes) + length scope.constants
 
   last_scope : (row : ScopeRow) (index : ℕ) → slice_get draft.rows.scopes index ≡ Some row → length draft.rows.scopes ≡ suc index → IsLast row index
   last_scope row index here many =
@@ -102,13 +107,16 @@ module _ (value : FileValue) (draft : Draft) (is : IsDraftOf value draft) where
       record {
         scope = s.0;
         last = last_is value.scopes index s.0 s.1 long;
-        variables = ap (λ (x : ScopeRow). x.variables) (sym same) ∙ ap (λ n. held_cell (suc (sum_by (λ (scope : ScopeValue). length scope.variables) (take n value.scopes)))) down;
-        constants = ap (λ (x : ScopeRow). x.constants) (sym same) ∙ ap (λ n. held_cell (suc (sum_by (λ (scope : ScopeValue). length scope.constants) (take n value.scopes)))) down;
+        variables = ap (λ (x : ScopeRow). x.variables) (sym same) ∙ ap (λ n. held_cell
+            (suc (sum_by (λ (scope : ScopeValue). length scope.variables) (take n value.scopes)))) down;
+        constants = ap (λ (x : ScopeRow). x.constants) (sym same) ∙ ap (λ n. held_cell
+            (suc (sum_by (λ (scope : ScopeValue). length scope.constants) (take n value.scopes)))) down;
         all_variables = sum_last (λ (scope : ScopeValue). length scope.variables) value.scopes index s.0 s.1 long;
         all_constants = sum_last (λ (scope : ScopeValue). length scope.constants) value.scopes index s.0 s.1 long;
       }
 
-  one_list : (table rows last before own : ℕ) (items : ScopeValue → ℕ) (scope : ScopeValue) → last_of value.scopes ≡ Some scope → rows ≡ sum_by items value.scopes
+  one_list : (table rows last before own : ℕ) (items : ScopeValue → ℕ) (scope : ScopeValue) → last_of value.scopes ≡ Some scope
+      → rows ≡ sum_by items value.scopes
       → sum_by items value.scopes ≡ before + items scope → last ≡ held_cell (suc before)
       → met ((rows == 65535) && (last == 65536)) (ListPastEnd table 65535) ≡ list_past_end value table items
   one_list table rows last before own items scope there many all begins =
@@ -125,8 +133,10 @@ module _ (value : FileValue) (draft : Draft) (is : IsDraftOf value draft) where
       (met ((length draft.rows.constants == 65535) && (row.constants == 65536)) (ListPastEnd 0x34 65535)) ≡ list_limits
   limit_told row index here many =
       let l = last_scope row index here many in
-      let v = one_list 0x33 (length draft.rows.variables) row.variables (sum_by (λ scope. length scope.variables) (take index value.scopes)) 0 (λ scope. length scope.variables) l.scope l.last variables_many l.all_variables l.variables in
-      let c = one_list 0x34 (length draft.rows.constants) row.constants (sum_by (λ scope. length scope.constants) (take index value.scopes)) 0 (λ scope. length scope.constants) l.scope l.last constants_many l.all_constants l.constants in
+      let v = one_list 0x33 (length draft.rows.variables) row.variables (sum_by (λ scope. length scope.variables) (take index value.scopes)) 0
+      (λ scope. length scope.variables) l.scope l.last variables_many l.all_variables l.variables in
+      let c = one_list 0x34 (length draft.rows.constants) row.constants (sum_by (λ scope. length scope.constants) (take index value.scopes)) 0
+      (λ scope. length scope.constants) l.scope l.last constants_many l.all_constants l.constants in
       ap (λ o. option_or o (met ((length draft.rows.constants == 65535) && (row.constants == 65536)) (ListPastEnd 0x34 65535))) v
       ∙ ap (λ o. option_or (list_past_end value 0x33 (λ scope. length scope.variables)) o) c
 
@@ -135,6 +145,8 @@ module _ (value : FileValue) (draft : Draft) (is : IsDraftOf value draft) where
   none_told none = by value.scopes refl (sym scopes_many ∙ none)
     where
       by : (scopes : List ScopeValue) → value.scopes ≡ scopes → length scopes ≡ 0 → list_limits ≡ None
-      by [] e z = ap (λ (scopes : List ScopeValue). option_or (met ((sum_by (λ scope. length scope.variables) scopes == 65535) && owns_none (λ scope. length scope.variables) (last_of scopes)) (ListPastEnd 0x33 65535))
-          (met ((sum_by (λ scope. length scope.constants) scopes == 65535) && owns_none (λ scope. length scope.constants) (last_of scopes)) (ListPastEnd 0x34 65535))) e
+      by [] e z = ap (λ (scopes : List ScopeValue). option_or (met ((sum_by (λ scope. length scope.variables) scopes == 65535) && owns_none
+          (λ scope. length scope.variables) (last_of scopes)) (ListPastEnd 0x33 65535))
+          (met ((sum_by (λ scope. length scope.constants) scopes == 65535) && owns_none (λ scope. length scope.constants) (last_of scopes))
+          (ListPastEnd 0x34 65535))) e
       by (scope ∷ scopes) e z = absurd (omega (arith, z))

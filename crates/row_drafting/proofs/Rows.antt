@@ -1,5 +1,6 @@
 -- What was added of the rows of a table, and what of them is left, row after row.
-use Rattle.std.proofs.Common.{◌≡◌, ℕ, zero, suc, ◌+◌, ◌-◌, ◌≤◌, ◌<◌, List, [], ◌∷◌, ◌++◌, length, take, drop, fold, Option, Some, None, refl, sym, ap, subst, ◌∙◌, arith, slice_get, All}
+use Rattle.std.proofs.Common.{◌≡◌, ℕ, zero, suc, ◌+◌, ◌-◌, ◌≤◌, ◌<◌, List, [], ◌∷◌, ◌++◌, length, take, drop, fold, Option, Some, None, refl, sym, ap, subst}
+use Rattle.std.proofs.Common.{◌∙◌, arith, slice_get, All}
 use Rattle.std.specs.Prelude.{slice_range}
 use Rattle.std.specs.Option.{option_to_list}
 use Rattle.std.specs.List.{filter_map, cons_option}
@@ -68,7 +69,8 @@ module _ (raw : RawFile) where
   abbrev pub methods_from : ℕ → List MethodValue
   methods_from row = filter_map (method_of raw.tables) (drop (row - 1) (numbered raw.tables.methods))
 
-  method_first : (row : ℕ) → 1 ≤ row → row ≤ length raw.tables.methods → methods_from row ≡ option_to_list (method_at (value_of raw) row) ++ methods_from (row + 1)
+  method_first : (row : ℕ) → 1 ≤ row → row ≤ length raw.tables.methods → methods_from row
+      ≡ option_to_list (method_at (value_of raw) row) ++ methods_from (row + 1)
   method_first row low high =
       let f = method_of raw.tables in
       let rows = numbered raw.tables.methods in
@@ -81,14 +83,17 @@ module _ (raw : RawFile) where
       ∙ cons_is (method_at (value_of raw) row) (filter_map f others)
 
   pub method_added : {D : Type 0} (add : D → MethodValue → D) (all draft more : D) (row : ℕ) → 1 ≤ row → row ≤ length raw.tables.methods
-      → fold add draft (methods_from row) ≡ all → more ≡ fold add draft (option_to_list (method_at (value_of raw) row)) → fold add more (methods_from (row + 1)) ≡ all
+      → fold add draft (methods_from row) ≡ all → more ≡ fold add draft (option_to_list (method_at (value_of raw) row))
+      → fold add more (methods_from (row + 1)) ≡ all
   method_added add all draft more row low high =
       one_of add all draft more (methods_from row) (methods_from (row + 1)) (method_at (value_of raw) row) (method_first row low high)
 
-  pub methods_added : {D : Type 0} (add : D → MethodValue → D) (all draft : D) (row : ℕ) → length raw.tables.methods < row → fold add draft (methods_from row) ≡ all → draft ≡ all
+  pub methods_added : {D : Type 0} (add : D → MethodValue → D) (all draft : D) (row : ℕ) → length raw.tables.methods < row
+      → fold add draft (methods_from row) ≡ all → draft ≡ all
   methods_added add all draft row past is =
       let many = length-enumerate_from 1 raw.tables.methods in
-      ap (λ rows. fold add draft (filter_map (method_of raw.tables) rows)) (sym (drop_past (numbered raw.tables.methods) (row - 1) (omega (arith, past, many)))) ∙ is
+      ap (λ rows. fold add draft (filter_map (method_of raw.tables) rows))
+      (sym (drop_past (numbered raw.tables.methods) (row - 1) (omega (arith, past, many)))) ∙ is
 
 -- ---- lists of a scope
 
@@ -129,8 +134,10 @@ module _ {X : Type 0} (xs : List X) where
   all_one P None others one all = all
   all_one P (Some x) others one all = All-cons P x others (All-head P x [] one) all
 
-  pub item_holds : (P : X → Type 0) (row end : ℕ) → 1 ≤ row → row < end → end ≤ length xs + 1 → All P (option_to_list (row_at xs row)) → All P (rows_from (row + 1) end) → All P (rows_from row end)
-  item_holds P row end low less last one all = subst (All P) (sym (slice_first row end low less last)) (all_one P (row_at xs row) (rows_from (row + 1) end) one all)
+  pub item_holds : (P : X → Type 0) (row end : ℕ) → 1 ≤ row → row < end → end ≤ length xs + 1 → All P (option_to_list (row_at xs row))
+      → All P (rows_from (row + 1) end) → All P (rows_from row end)
+  item_holds P row end low less last one all = subst (All P) (sym (slice_first row end low less last))
+      (all_one P (row_at xs row) (rows_from (row + 1) end) one all)
 
   pub none_holds : (P : X → Type 0) (row end : ℕ) → end ≤ row → All P (rows_from row end)
   none_holds P row end past = subst (All P) (sym (slice_none row end past)) (All-nil P)

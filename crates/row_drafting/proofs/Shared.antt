@@ -1,12 +1,12 @@
 -- The scopes of a file one after the other: their ranges, the rows of their variables, and all constants, in the order of their rows.
-use Rattle.std.proofs.Common.{◌≡◌, ℕ, zero, suc, ◌+◌, ◌-◌, ◌≤◌, List, [], ◌∷◌, ◌++◌, length, map, take, drop, fold, flat_map, refl, sym, ap, subst, ◌∙◌, arith, slice_get, zero-add, All}
-use Rattle.std.specs.Prelude.{Option, Some, None, unwrap_or, slice_range}
+use Rattle.std.proofs.Common.{◌≡◌, ℕ, zero, suc, ◌+◌, ◌-◌, ◌≤◌, List, [], ◌∷◌, ◌++◌, length, map, take, drop, fold, flat_map, refl, sym, ap, subst, ◌∙◌}
+use Rattle.std.proofs.Common.{arith, slice_get, zero-add, All}
+use Rattle.std.specs.Prelude.{Some, unwrap_or, slice_range}
 use Rattle.std.specs.List.{enumerate_from, sum_by}
 use Rattle.std.specs.Option.{option_map}
 use Rattle.std.proofs.lemmas.List.{length-map}
 use Rattle.std.proofs.lemmas.List.Elements.{All-nil, All-cons, All-head, All-tail, All-append}
 use Rattle.std.proofs.lemmas.List.Sums.{fold-append, sum_by-cons}
-use Rattle.std.proofs.lemmas.Option.{slice_get_within}
 use Rattle.ppdb_tables.specs.declared.rows.ScopeRow.{ScopeRow}
 use Rattle.ppdb_tables.specs.declared.rows.VariableRow.{VariableRow}
 use Rattle.ppdb_tables.specs.RawTables.{numbered, row_at}
@@ -21,7 +21,7 @@ use Rattle.sound_values.proofs.Counts.{variables_counted}
 use Rattle.sound_values.proofs.Listed.{sum_of_map}
 use Rattle.value_reading.specs.declared.scopes.Scope.{Scope}
 use Rattle.value_reading.specs.Lent.{variables_of, constants_of}
-use Rattle.value_reading.specs.Scopes.{list_range, scope_in, scopes_in, items_in, scope_with, rows_in, IsWithin, HasLists, OwnTheirLists}
+use Rattle.value_reading.specs.Scopes.{list_range, scope_in, scopes_in, items_in, scope_with, rows_in, HasLists, OwnTheirLists}
 use Rattle.value_reading.proofs.Shared.{list_within}
 use Rattle.row_drafting.proofs.Rows.{items_counted}
 
@@ -30,7 +30,8 @@ use Rattle.row_drafting.proofs.Rows.{items_counted}
 abbrev pub IsForward : Scope → Type 0
 IsForward scope = scope.range.start ≤ scope.range.end
 
-forward_from : (f : ℕ × ScopeRow → Scope) → ((row : ℕ × ScopeRow) → IsForward (f row)) → (n : ℕ) (xs : List ScopeRow) → All IsForward (map f (enumerate_from n xs))
+forward_from : (f : ℕ × ScopeRow → Scope) → ((row : ℕ × ScopeRow) → IsForward (f row)) → (n : ℕ) (xs : List ScopeRow)
+    → All IsForward (map f (enumerate_from n xs))
 forward_from f each n [] = All-nil IsForward
 forward_from f each n (x ∷ xs) = All-cons IsForward (f (n, x)) (map f (enumerate_from (n + 1) xs)) (each (n, x)) (forward_from f each (n + 1) xs)
 
@@ -43,7 +44,8 @@ abbrev pub variable_rows : Scope → ℕ
 variable_rows scope = rows_in scope.variables
 
 module _ (raw : RawFile) where
-  counted : (scopes : List Scope) → All (HasLists raw.tables) scopes → sum_by variable_rows scopes ≡ sum_by (λ scope. length (scope_with raw.tables scope).variables) scopes
+  counted : (scopes : List Scope) → All (HasLists raw.tables) scopes → sum_by variable_rows scopes
+      ≡ sum_by (λ scope. length (scope_with raw.tables scope).variables) scopes
   counted [] all = refl
   counted (scope ∷ scopes) all =
       let here = (All-head (HasLists raw.tables) scope scopes all).variables in
@@ -111,7 +113,8 @@ module _ {X : Type 0} (list : ScopeRow → ℕ) (scopes : List ScopeRow) (items 
   here_is : (n : ℕ) (scope : ScopeRow) (rest : List ScopeRow) → IsRest n (scope ∷ rest) → row_at scopes (suc n) ≡ Some scope
   here_is n scope rest is = let e : n + 0 ≡ n = omega arith in rw e at (is 0)
 
-  end_is : (n : ℕ) (scope : ScopeRow) (rest : List ScopeRow) → IsRest n (scope ∷ rest) → list_end list scopes (suc n) (length items) ≡ begin_of list (length items) rest
+  end_is : (n : ℕ) (scope : ScopeRow) (rest : List ScopeRow) → IsRest n (scope ∷ rest)
+      → list_end list scopes (suc n) (length items) ≡ begin_of list (length items) rest
   end_is n scope rest is =
       let e : n + 1 ≡ suc n = omega arith in
       let next : slice_get scopes (suc n) ≡ slice_get rest 0 = rw e at (is 1) in
@@ -125,7 +128,8 @@ module _ {X : Type 0} (list : ScopeRow → ℕ) (scopes : List ScopeRow) (items 
       let end = end_is n scope rest is in
       let low = within.first in
       let forward = within.forward in
-      let later : flat_map own (enumerate_from (suc n + 1) rest) ≡ drop (begin_of list (length items) rest - 1) items = rw e (joined_from (suc n) rest (rest_later n scope rest is)) in
+      let later : flat_map own (enumerate_from (suc n + 1) rest) ≡ drop (begin_of list (length items) rest - 1) items = rw e
+      (joined_from (suc n) rest (rest_later n scope rest is)) in
       ap (λ ys. own (suc n, scope) ++ ys) later
       ∙ ap (λ m. own (suc n, scope) ++ drop (m - 1) items) (sym end)
       ∙ slice_rest items (list scope - 1) (list_end list scopes (suc n) (length items) - 1) (omega (arith, low, forward))
@@ -156,33 +160,39 @@ module _ (raw : RawFile) (keeps : KeepsRules raw) (own : OwnTheirLists raw) wher
   variables_joined =
       let items = variables_of raw.tables in
       let many : length items ≡ length raw.tables.variables = length-map raw.tables.variables (variable_of raw.tables) in
-      let kept : KeepsLists (λ scope. scope.variables) raw.tables.scopes (length items) = subst (KeepsLists (λ scope. scope.variables) raw.tables.scopes) (sym many) keeps.variables.lists in
+      let kept : KeepsLists (λ scope. scope.variables) raw.tables.scopes (length items) = subst (KeepsLists (λ scope. scope.variables) raw.tables.scopes)
+      (sym many) keeps.variables.lists in
       ap (flat_map (λ (scope : ScopeValue). scope.variables)) (sym own.owned)
       ∙ flat_map_map (scope_with raw.tables) (λ (scope : ScopeValue). scope.variables) (scopes_in raw.tables)
       ∙ flat_map_map (scope_in raw.tables) (λ (scope : Scope). items_in scope.variables items) (numbered raw.tables.scopes)
-      ∙ ap (λ n. flat_map (λ (row : ℕ × ScopeRow). items_in (list_range (λ scope. scope.variables) raw.tables.scopes n row) items) (numbered raw.tables.scopes)) (sym many)
+      ∙ ap (λ n. flat_map (λ (row : ℕ × ScopeRow). items_in (list_range (λ scope. scope.variables) raw.tables.scopes n row) items)
+      (numbered raw.tables.scopes)) (sym many)
       ∙ joined (λ scope. scope.variables) raw.tables.scopes items kept
 
   pub constants_joined : flat_map (λ scope. scope.constants) (value_of raw).scopes ≡ constants_of raw.tables
   constants_joined =
       let items = constants_of raw.tables in
       let many : length items ≡ length raw.tables.constants = length-map raw.tables.constants (constant_of raw.tables) in
-      let kept : KeepsLists (λ scope. scope.constants) raw.tables.scopes (length items) = subst (KeepsLists (λ scope. scope.constants) raw.tables.scopes) (sym many) keeps.constants.lists in
+      let kept : KeepsLists (λ scope. scope.constants) raw.tables.scopes (length items) = subst (KeepsLists (λ scope. scope.constants) raw.tables.scopes)
+      (sym many) keeps.constants.lists in
       ap (flat_map (λ (scope : ScopeValue). scope.constants)) (sym own.owned)
       ∙ flat_map_map (scope_with raw.tables) (λ (scope : ScopeValue). scope.constants) (scopes_in raw.tables)
       ∙ flat_map_map (scope_in raw.tables) (λ (scope : Scope). items_in scope.constants items) (numbered raw.tables.scopes)
-      ∙ ap (λ n. flat_map (λ (row : ℕ × ScopeRow). items_in (list_range (λ scope. scope.constants) raw.tables.scopes n row) items) (numbered raw.tables.scopes)) (sym many)
+      ∙ ap (λ n. flat_map (λ (row : ℕ × ScopeRow). items_in (list_range (λ scope. scope.constants) raw.tables.scopes n row) items)
+      (numbered raw.tables.scopes)) (sym many)
       ∙ joined (λ scope. scope.constants) raw.tables.scopes items kept
 
   -- where those of all scopes are narrow, each row is
   pub rows_narrow : All (λ scope. All IsNarrow scope.variables) (value_of raw).scopes → All IsNarrowRow raw.tables.variables
   rows_narrow narrow =
-      unmade raw.tables.variables (subst (All IsNarrow) variables_joined (all_parts IsNarrow (λ (scope : ScopeValue). scope.variables) (value_of raw).scopes narrow))
+      unmade raw.tables.variables (subst (All IsNarrow) variables_joined
+      (all_parts IsNarrow (λ (scope : ScopeValue). scope.variables) (value_of raw).scopes narrow))
     where
       all_parts : {S X : Type 0} (P : X → Type 0) (part : S → List X) (all : List S) → All (λ s. All P (part s)) all → All P (flat_map part all)
       all_parts P part [] each = All-nil P
       all_parts P part (s ∷ all) each =
-          All-append P (part s) (flat_map part all) (All-head (λ t. All P (part t)) s all each) (all_parts P part all (All-tail (λ t. All P (part t)) s all each))
+          All-append P (part s) (flat_map part all) (All-head (λ t. All P (part t)) s all each)
+          (all_parts P part all (All-tail (λ t. All P (part t)) s all each))
 
       unmade : (rows : List VariableRow) → All IsNarrow (map (variable_of raw.tables) rows) → All IsNarrowRow rows
       unmade [] all = All-nil IsNarrowRow
@@ -191,6 +201,7 @@ module _ (raw : RawFile) (keeps : KeepsRules raw) (own : OwnTheirLists raw) wher
           (unmade rows (All-tail IsNarrow (variable_of raw.tables row) (map (variable_of raw.tables) rows) all))
 
 -- what is added scope by scope is added item by item
-pub fold_parts : {S X D : Type 0} (add : D → X → D) (part : S → List X) (draft : D) (all : List S) → fold (λ d s. fold add d (part s)) draft all ≡ fold add draft (flat_map part all)
+pub fold_parts : {S X D : Type 0} (add : D → X → D) (part : S → List X) (draft : D) (all : List S)
+    → fold (λ d s. fold add d (part s)) draft all ≡ fold add draft (flat_map part all)
 fold_parts add part draft [] = refl
 fold_parts add part draft (s ∷ all) = fold_parts add part (fold add draft (part s)) all ∙ sym (fold-append add draft (part s) (flat_map part all))

@@ -1,5 +1,5 @@
 -- The constants of a file that keeps the rules can be written.
-use Rattle.std.proofs.Common.{◌≡◌, ℕ, Option, Some, None, refl, sym, ap, subst, ◌∙◌, true}
+use Rattle.std.proofs.Common.{◌≡◌, ℕ, Option, Some, None, refl, sym, subst, true}
 use Rattle.std.specs.Prelude.{All, is_some}
 use Rattle.std.proofs.lemmas.List.Elements.{All-weaker}
 use Rattle.type_blobs.specs.declared.types.Modifier.{Modifier}
@@ -31,11 +31,13 @@ pub record IsTaken (constant : ConstantValue) : Type 0 where
   pub body : IsBody (stored_body constant.body)
 
 module _ (raw : RawFile) (keeps : KeepsRules raw) where
-  body_taken : (row : ConstantRow) (o : Option StoredBody) → body_of (begun_of (constants (type_limits raw.tables)) (blob raw.tables row.signature)) ≡ o → IsConstant raw.tables row
+  body_taken : (row : ConstantRow) (o : Option StoredBody) → body_of (begun_of (constants (type_limits raw.tables)) (blob raw.tables row.signature)) ≡ o
+      → IsConstant raw.tables row
       → is_some o ≡ true → IsBody (stored_body (body_by o))
   body_taken row None is kept some = cc
   body_taken row (Some body) is kept some =
-      let read = body_read (type_limits raw.tables) (limits_small raw keeps) (blob raw.tables row.signature) (records_of (constants (type_limits raw.tables)) (blob raw.tables row.signature)) None body kept.signature_whole is in
+      let read = body_read (type_limits raw.tables) (limits_small raw keeps) (blob raw.tables row.signature)
+      (records_of (constants (type_limits raw.tables)) (blob raw.tables row.signature)) None body kept.signature_whole is in
       subst IsBody (sym (stored_again body)) read.0
 
   row_taken : (row : ConstantRow) → IsConstant raw.tables row → IsTaken (constant_of raw.tables row)

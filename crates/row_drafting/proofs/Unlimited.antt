@@ -1,6 +1,7 @@
 -- The value of a file that keeps the rules passes no limit on rows, offsets and steps.
-use Rattle.std.proofs.Common.{◌≡◌, ℕ, zero, suc, ◌<◌, ◌≤◌, Bool, true, false, cond, List, [], ◌∷◌, length, length-append, take, refl, sym, ap, subst, ◌∙◌, arith, Option, Some, None, slice_index, All}
-use Rattle.std.specs.Prelude.{nat_lt, nat_le, if◌then◌else◌}
+use Rattle.std.proofs.Common.{◌≡◌, ℕ, ◌≤◌, Bool, false, cond, List, [], ◌∷◌, length, length-append, take, refl, ap, ◌∙◌}
+use Rattle.std.proofs.Common.{arith, Option, Some, None, slice_index, All}
+use Rattle.std.specs.Prelude.{nat_lt, nat_le}
 use Rattle.std.specs.Option.{option_map}
 use Rattle.std.specs.List.{filter_map, cons_option, find, repeat}
 use Rattle.std.proofs.lemmas.List.{length-map, length-take}
@@ -10,9 +11,7 @@ use Rattle.std.proofs.lemmas.List.FromFn.{length-map-range_with_len}
 use Rattle.ppdb_base.specs.declared.limits.Limit.{Limit}
 use Rattle.ppdb_base.specs.declared.limits.Limit.TheVariants.{TableRows, PointOffset, LineStep}
 use Rattle.sequence_points.specs.declared.point.Point.{Point}
-use Rattle.sequence_points.specs.Ranges.{IsOffset}
-use Rattle.sequence_points.specs.Written.{first_of, large_steps}
-use Rattle.ppdb_tables.specs.RawTables.{count}
+use Rattle.sequence_points.specs.Written.{first_of}
 use Rattle.ppdb_values.specs.declared.file.FileValue.{FileValue}
 use Rattle.ppdb_values.specs.declared.file.MethodValue.{MethodValue}
 use Rattle.ppdb_values.specs.declared.scope.ScopeValue.{ScopeValue}
@@ -85,14 +84,19 @@ module _ (raw : RawFile) (keeps : KeepsRules raw) where
       let k = length-map raw.tables.customs (custom_of raw.tables) in
       let customs = keeps.shape.customs in
       let machines = keeps.shape.machines in
-      All-cons P 0x30 (0x31 ∷ 0x32 ∷ 0x33 ∷ 0x34 ∷ 0x35 ∷ 0x36 ∷ 0x37 ∷ []) (few 0x30 _ (known.counted_documents value entries) (let most = keeps.shape.small 0x30 in omega (arith, d, most)))
+      All-cons P 0x30 (0x31 ∷ 0x32 ∷ 0x33 ∷ 0x34 ∷ 0x35 ∷ 0x36 ∷ 0x37 ∷ [])
+      (few 0x30 _ (known.counted_documents value entries) (let most = keeps.shape.small 0x30 in omega (arith, d, most)))
       (All-cons P 0x31 (0x32 ∷ 0x33 ∷ 0x34 ∷ 0x35 ∷ 0x36 ∷ 0x37 ∷ []) (few 0x31 _ (known.counted_methods value entries) (method_count value.methods))
-      (All-cons P 0x32 (0x33 ∷ 0x34 ∷ 0x35 ∷ 0x36 ∷ 0x37 ∷ []) (few 0x32 _ (known.counted_scopes value entries) (let most = keeps.shape.small 0x32 in omega (arith, s, most)))
-      (All-cons P 0x33 (0x34 ∷ 0x35 ∷ 0x36 ∷ 0x37 ∷ []) (few 0x33 _ (known.counted_variables value entries) (let most = keeps.shape.small 0x33 in omega (arith, v, vs, most)))
-      (All-cons P 0x34 (0x35 ∷ 0x36 ∷ 0x37 ∷ []) (few 0x34 _ (known.counted_constants value entries) (let most = keeps.shape.small 0x34 in omega (arith, c, cs, most)))
+      (All-cons P 0x32 (0x33 ∷ 0x34 ∷ 0x35 ∷ 0x36 ∷ 0x37 ∷ []) (few 0x32 _ (known.counted_scopes value entries)
+      (let most = keeps.shape.small 0x32 in omega (arith, s, most)))
+      (All-cons P 0x33 (0x34 ∷ 0x35 ∷ 0x36 ∷ 0x37 ∷ []) (few 0x33 _ (known.counted_variables value entries)
+      (let most = keeps.shape.small 0x33 in omega (arith, v, vs, most)))
+      (All-cons P 0x34 (0x35 ∷ 0x36 ∷ 0x37 ∷ []) (few 0x34 _ (known.counted_constants value entries)
+      (let most = keeps.shape.small 0x34 in omega (arith, c, cs, most)))
       (All-cons P 0x35 (0x36 ∷ 0x37 ∷ []) (few 0x35 _ (known.counted_imports value entries) (let most = keeps.shape.small 0x35 in omega (arith, i, most)))
       (All-cons P 0x36 (0x37 ∷ []) (few 0x36 _ (known.counted_machines value entries) (let most = keeps.shape.small 0x36 in omega (arith, machines, most)))
-      (All-cons P 0x37 [] (few 0x37 _ (known.counted_customs value entries) (let most = keeps.shape.small 0x37 in omega (arith, k, customs, most))) (All-nil P))))))))
+      (All-cons P 0x37 [] (few 0x37 _ (known.counted_customs value entries) (let most = keeps.shape.small 0x37 in omega (arith, k, customs, most)))
+      (All-nil P))))))))
 
   -- ---- points
 
@@ -109,8 +113,10 @@ module _ (raw : RawFile) (keeps : KeepsRules raw) where
       let written = methods_written raw keeps in
       record {
         rows = none_first (too_many_rows value) tables no_rows_limit;
-        offsets = none_first large_offset value.methods (each_all (λ (m : MethodValue). large_offset m ≡ None) value.methods (λ row m here. no_offset m (written row m here)));
-        steps = none_first large_step_of value.methods (each_all (λ (m : MethodValue). large_step_of m ≡ None) value.methods (λ row m here. no_step m (written row m here)));
+        offsets = none_first large_offset value.methods (each_all (λ (m : MethodValue). large_offset m ≡ None) value.methods
+            (λ row m here. no_offset m (written row m here)));
+        steps = none_first large_step_of value.methods (each_all (λ (m : MethodValue). large_step_of m ≡ None) value.methods
+            (λ row m here. no_step m (written row m here)));
       }
 
 pub files_pass : FilesPassNoEarlyLimit

@@ -7,16 +7,19 @@ use Rattle.file_drafting.specs.Draft.{with_scope, with_constants, with_import, w
 use Rattle.file_drafting.specs.Drafted.{drafted, with_methods}
 
 pub all_parts : (value : FileValue)
-    → fold with_custom (fold with_machine (fold with_import (fold with_constants (fold with_scope (with_methods value) value.scopes) value.scopes) value.imports) value.machines) value.customs
+    → fold with_custom (fold with_machine (fold with_import (fold with_constants (fold with_scope (with_methods value) value.scopes) value.scopes)
+    value.imports) value.machines) value.customs
     ≡ drafted value
 unfolding drafted
 all_parts value = refl
 
 -- the rows of the eight tables
 pub all_rows : (raw : RawTables) → HasShape raw
-    → row_total raw ≡ (length raw.documents + length raw.methods) + (length raw.scopes + length raw.variables + length raw.constants) + (length raw.imports + length raw.machines + length raw.customs)
+    → row_total raw ≡ (length raw.documents + length raw.methods) + (length raw.scopes + length raw.variables + length raw.constants) +
+    (length raw.imports + length raw.machines + length raw.customs)
 all_rows raw shape =
-    let total : row_total raw ≡ 0 + count raw 0x30 + count raw 0x31 + count raw 0x32 + count raw 0x33 + count raw 0x34 + count raw 0x35 + count raw 0x36 + count raw 0x37 = refl in
+    let total : row_total raw ≡ 0 + count raw 0x30 + count raw 0x31 + count raw 0x32 + count raw 0x33 + count raw 0x34 + count raw 0x35 + count raw 0x36 +
+    count raw 0x37 = refl in
     let documents = shape.documents in
     let methods = shape.methods in
     let scopes = shape.scopes in

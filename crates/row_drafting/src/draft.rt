@@ -45,9 +45,11 @@ fn add_lists<L: Ledger>(
     draft: &mut Drafting,
     steps: &mut Steps<L>,
 ) -> Result<(), Memory>
-    ensures added { OnOk result (draft.new ≡ fold with_constants (fold with_scope draft.old (value_of (raw_file file.now)).scopes) (value_of (raw_file file.now)).scopes) }
+    ensures added { OnOk result (draft.new ≡ fold with_constants (fold with_scope draft.old (value_of (raw_file file.now)).scopes)
+        (value_of (raw_file file.now)).scopes) }
     ensures narrow { OnOk result (All (λ scope. All IsNarrow scope.variables) (value_of (raw_file file.now)).scopes) }
-    ensures cost { OnOk result (steps.new ≡ steps.old + (length (raw_file file.now).tables.scopes + length (raw_file file.now).tables.variables + length (raw_file file.now).tables.constants)) }
+    ensures cost { OnOk result (steps.new ≡ steps.old
+        + (length (raw_file file.now).tables.scopes + length (raw_file file.now).tables.variables + length (raw_file file.now).tables.constants)) }
 {
     file.keeps();
     scopes_own_their_lists();
@@ -63,8 +65,10 @@ fn add_others<L: Ledger>(
     draft: &mut Drafting,
     steps: &mut Steps<L>,
 ) -> Result<(), Memory>
-    ensures added { OnOk result (draft.new ≡ fold with_custom (fold with_machine (fold with_import draft.old (value_of (raw_file file.now)).imports) (value_of (raw_file file.now)).machines) (value_of (raw_file file.now)).customs) }
-    ensures cost { OnOk result (steps.new ≡ steps.old + (length (raw_file file.now).tables.imports + length (raw_file file.now).tables.machines + length (raw_file file.now).tables.customs)) }
+    ensures added { OnOk result (draft.new ≡ fold with_custom (fold with_machine (fold with_import draft.old (value_of (raw_file file.now)).imports)
+        (value_of (raw_file file.now)).machines) (value_of (raw_file file.now)).customs) }
+    ensures cost { OnOk result (steps.new ≡ steps.old
+        + (length (raw_file file.now).tables.imports + length (raw_file file.now).tables.machines + length (raw_file file.now).tables.customs)) }
 {
     add_imports(alloc, file, draft, steps)?;
     add_machines(file, draft, steps)?;

@@ -4,10 +4,6 @@ ghost use Rattle.std.specs.Prelude.{◌≡◌, ◌<◌};
 use crate::draft_of_file;
 use file_drafting::Drafting;
 use ppdb_base::{Memory, Steps};
-use ppdb_tables::{
-    ConstantRow, CustomRow, DocumentRow, ImportRow, MachineRow, MethodDebugRow, ScopeRow,
-    VariableRow,
-};
 use ppdb_verify::verify;
 use std::alloc::Global;
 use std::marker::Brand;
@@ -32,92 +28,48 @@ fn draft(alloc: Global, bytes: &[u8]) -> Result<Drafting, Memory> {
     draft_in::<Brand>(alloc, bytes, Blank::new(1))
 }
 
-fn scope(import: u32, variables: u32, start: u32, length: u32) -> ScopeRow {
-    ScopeRow {
-        method: 1,
-        import,
-        variables,
-        constants: 1,
-        start,
-        length,
+/// One scope owns the first of two variables, and the scope behind it the other one.
+fn has_two_scopes(draft: &Drafting) -> bool {
+    let rows = draft.rows();
+    let (scopes, variables) = (rows.scopes.as_slice(), rows.variables.as_slice());
+    if scopes.len() != 2 || variables.len() != 2 {
+        return false;
     }
+    let first = scopes[0].variables == 1 && scopes[0].length == 9 && variables[0].name == 1;
+    first && scopes[1].variables == 2 && scopes[1].length == 3 && variables[1].name == 3
 }
 
-fn custom(parent: u32, kind: u32, value: u32) -> CustomRow {
-    CustomRow {
-        parent,
-        kind,
-        value,
+/// Method 4 has points; two import scopes stand beside a constant, a state machine and four custom records.
+fn has_a_program(draft: &Drafting) -> bool {
+    let rows = draft.rows();
+    let (methods, imports, customs) = (
+        rows.methods.as_slice(),
+        rows.imports.as_slice(),
+        rows.customs.as_slice(),
+    );
+    if methods.len() != 5 || imports.len() != 2 || customs.len() != 4 {
+        return false;
     }
+    let counts = rows.documents.len() == 1 && rows.constants.len() == 1 && rows.machines.len() == 1;
+    counts
+        && methods[3].points == 59
+        && imports[1].imports == 134
+        && customs[3].parent == 128
+        && customs[3].value == 164
 }
 
-#[test]
-fn a_small_file_is_drafted_row_by_row(rt: HostRuntime) {
-    let found = draft(rt.alloc(), &SMALL);
-    assert!(rt; found.is_ok());
-    if let Ok(draft) = found {
-        let rows = draft.rows();
-        let document = DocumentRow {
-            name: 5,
-            algorithm: 0,
-            hash: 0,
-            language: 0,
-        };
-        let method = MethodDebugRow {
-            document: 1,
-            points: 10,
-        };
-        let (x, y) = (
-            VariableRow {
-                attributes: 0,
-                slot: 0,
-                name: 1,
-            },
-            VariableRow {
-                attributes: 0,
-                slot: 1,
-                name: 3,
-            },
-        );
-        assert!(rt; rows.documents.as_slice() == [document].as_slice());
-        assert!(rt; rows.methods.as_slice() == [method].as_slice());
-        assert!(rt; rows.scopes.as_slice() == [scope(0, 1, 0, 9), scope(0, 2, 2, 3)].as_slice());
-        assert!(rt; rows.variables.as_slice() == [x, y].as_slice());
-    }
+fn small_is_drafted(alloc: Global) -> Result<bool, Memory> {
+    let draft = draft(alloc, &SMALL)?;
+    Ok(has_two_scopes(&draft))
+}
+
+fn program_is_drafted(alloc: Global) -> Result<bool, Memory> {
+    let draft = draft(alloc, &PROGRAM)?;
+    Ok(has_a_program(&draft))
 }
 
 #[test]
-fn a_program_is_drafted_row_by_row(rt: HostRuntime) {
-    let found = draft(rt.alloc(), &PROGRAM);
-    assert!(rt; found.is_ok());
-    if let Ok(draft) = found {
-        let rows = draft.rows();
-        let constant = ConstantRow {
-            name: 1,
-            signature: 98,
-        };
-        let outer = ImportRow {
-            parent: 0,
-            imports: 0,
-        };
-        let inner = ImportRow {
-            parent: 1,
-            imports: 134,
-        };
-        let machine = MachineRow {
-            move_next: 4,
-            kickoff: 1,
-        };
-        let records = [
-            custom(39, 3, 139),
-            custom(39, 4, 142),
-            custom(128, 5, 147),
-            custom(128, 6, 164),
-        ];
-        assert_eq!(rt; rows.methods.len(), 5);
-        assert!(rt; rows.constants.as_slice() == [constant].as_slice());
-        assert!(rt; rows.imports.as_slice() == [outer, inner].as_slice());
-        assert!(rt; rows.machines.as_slice() == [machine].as_slice());
-        assert!(rt; rows.customs.as_slice() == records.as_slice());
-    }
+fn worked_files_are_drafted_as_they_are(rt: HostRuntime) {
+    assert_eq!(rt; small_is_drafted(rt.alloc()), Ok(true));
+    assert_eq!(rt; program_is_drafted(rt.alloc()), Ok(true));
 }

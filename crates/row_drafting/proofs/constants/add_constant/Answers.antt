@@ -1,8 +1,5 @@
-use Rattle.std.proofs.Common.{sym, ap, subst, ◌∙◌}
-use Rattle.std.specs.Prelude.{All}
-use Rattle.type_blobs.specs.declared.types.Modifier.{Modifier}
+use Rattle.std.proofs.Common.{subst}
 use Rattle.type_blobs.specs.Spelling.{IsBody}
-use Rattle.type_blobs.specs.Types.{IsToken}
 use Rattle.type_blobs.specs.ConstantReading.{shown}
 use Rattle.ppdb_verify.specs.Views.{raw_file}
 use Rattle.value_reading.specs.Lent.{constant_value_shown}
@@ -12,11 +9,13 @@ use Rattle.row_drafting.proofs.constants.add_constant.Goals as goal
 pub constant-requires-clause-modifiers : goal.constant-requires-clause-modifiers
 constant-requires-clause-modifiers g c =
     let lent = c.in_ok-lent.lent in
-    let taken = constant_taken (raw_file c.args.file.now) c.keeps.ensures.rules c.args.row (constant_value_shown lent c.read_constant.new.modifiers) c.in_ok-lent.ensures.constant in
+    let taken = constant_taken (raw_file c.args.file.now) c.keeps.ensures.rules c.args.row (constant_value_shown lent c.read_constant.new.modifiers)
+    c.in_ok-lent.ensures.constant in
     rw c.as_slice.ensures taken.modifiers
 
 pub constant-requires-clause-body : goal.constant-requires-clause-body
 constant-requires-clause-body g c =
     let lent = c.in_ok-lent.lent in
-    let taken = constant_taken (raw_file c.args.file.now) c.keeps.ensures.rules c.args.row (constant_value_shown lent c.read_constant.new.modifiers) c.in_ok-lent.ensures.constant in
+    let taken = constant_taken (raw_file c.args.file.now) c.keeps.ensures.rules c.args.row (constant_value_shown lent c.read_constant.new.modifiers)
+    c.in_ok-lent.ensures.constant in
     subst IsBody (stored_again (shown lent.body)) taken.body

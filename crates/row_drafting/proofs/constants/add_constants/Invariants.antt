@@ -8,7 +8,8 @@ abbrev pub invariant-rows : goal.invariant-rows
 invariant-rows g l = record {
   from : 1 ≤ l.row;
   to : l.row ≤ l.count + 1;
-  added : fold with_constant l.draft (drop (l.row - 1) (constants_of (raw_file l.file).tables)) ≡ fold with_constant l.fn.draft (constants_of (raw_file l.file).tables);
+  added : fold with_constant l.draft (drop (l.row - 1) (constants_of (raw_file l.file).tables))
+      ≡ fold with_constant l.fn.draft (constants_of (raw_file l.file).tables);
   cost : l.steps + 1 ≡ l.fn.steps + l.row;
 }
 

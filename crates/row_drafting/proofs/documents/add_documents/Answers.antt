@@ -13,7 +13,8 @@ rows-preserved g c =
     record {
       from = omega arith;
       to = omega arith;
-      added = row_added with_document items (fold with_document c.args.draft.now items) c.rows.draft c.add_document.new.draft c.rows.row c.rows.invariant.from c.rows.invariant.added
+      added = row_added with_document items (fold with_document c.args.draft.now items) c.rows.draft c.add_document.new.draft c.rows.row c.rows.invariant.from
+          c.rows.invariant.added
           c.in_ok-add_document.ensures.added;
       cost = omega (arith, c.in_ok-add_document.ensures.step);
     }
@@ -23,4 +24,5 @@ returns-clause-added g c =
     let raw = raw_file c.args.file.now in
     let items = (value_of (raw_file c.args.file.now)).documents in
     let many = length-map raw.tables.documents (document_of raw.tables) in
-    rows_added with_document items (fold with_document c.args.draft.now items) c.rows.draft c.rows.row (omega (arith, many, c.keeps.ensures.rules.shape.documents)) c.rows.invariant.added
+    rows_added with_document items (fold with_document c.args.draft.now items) c.rows.draft c.rows.row
+    (omega (arith, many, c.keeps.ensures.rules.shape.documents)) c.rows.invariant.added

@@ -1,4 +1,4 @@
-use Rattle.std.proofs.Common.{◌≡◌, length, sym, ap, subst, ◌∙◌, fold, arith}
+use Rattle.std.proofs.Common.{sym, ap, subst, ◌∙◌, fold, arith}
 use Rattle.ppdb_values.specs.Value.{value_of}
 use Rattle.ppdb_verify.specs.Views.{raw_file}
 use Rattle.file_drafting.specs.Draft.{with_scope, with_constants, with_import, with_machine, with_custom}
@@ -10,7 +10,8 @@ use Rattle.row_drafting.proofs.draft.draft_of_file.Goals as goal
 pub returns-clause-draft : goal.returns-clause-draft
 returns-clause-draft g c =
     let value = value_of (raw_file c.args.file.now) in
-    let lists = c.in_ok-add_lists.ensures.added ∙ ap (λ draft. fold with_constants (fold with_scope draft value.scopes) value.scopes) c.in_ok-draft.ensures.draft in
+    let lists = c.in_ok-add_lists.ensures.added ∙ ap (λ draft. fold with_constants (fold with_scope draft value.scopes) value.scopes)
+    c.in_ok-draft.ensures.draft in
     let whole = c.in_ok-add_others.ensures.added
     ∙ ap (λ draft. fold with_custom (fold with_machine (fold with_import draft value.imports) value.machines) value.customs) lists ∙ all_parts value in
     subst (IsDraftOf value) (sym whole) (c.drafts_are_canonical.ensures value c.keeps.ensures.sound)

@@ -1,4 +1,4 @@
-use Rattle.std.proofs.Common.{◌≡◌, ◌-◌, suc, List, length, sym, ap, ◌∙◌, arith, slice_get}
+use Rattle.std.proofs.Common.{◌≡◌, ◌-◌, List, length, sym, ap, ◌∙◌, arith, slice_get}
 use Rattle.std.specs.Prelude.{Some}
 use Rattle.std.proofs.lemmas.Option.{slice_get_within}
 use Rattle.ppdb_tables.specs.declared.rows.ScopeRow.{ScopeRow}
@@ -11,7 +11,8 @@ returns-in-Some c = λ value is.
     let last = c.in-Some.last.now in
     let index = length draft.rows.scopes - 1 in
     let scopes : c.as_slice.result.now ≡ draft.rows.scopes = c.as_slice.ensures ∙ ap (λ rows. rows.scopes) c.rows-rows.ensures in
-    let there : slice_get draft.rows.scopes index ≡ Some last = sym (c.in-Some.ensures.value ∙ ap (λ (rows : List ScopeRow). slice_get rows (length rows - 1)) scopes) in
+    let there : slice_get draft.rows.scopes index ≡ Some last = sym (c.in-Some.ensures.value
+    ∙ ap (λ (rows : List ScopeRow). slice_get rows (length rows - 1)) scopes) in
     let inside = slice_get_within draft.rows.scopes index last there in
     let variables = rw c.rows-rows.ensures at (rw c.len.ensures at c.past_end.ensures) in
     let constants = rw c.rows-rows.ensures at (rw c.len-in-Some.ensures at c.past_end-in-Some.ensures) in

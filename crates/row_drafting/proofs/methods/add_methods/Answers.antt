@@ -12,7 +12,8 @@ rows-preserved g c =
     record {
       from = omega arith;
       to = omega arith;
-      added = method_added raw with_method (fold with_method c.args.draft.now (value_of raw).methods) c.rows.draft c.add_method.new.draft c.rows.row c.rows.invariant.from high c.rows.invariant.added
+      added = method_added raw with_method (fold with_method c.args.draft.now (value_of raw).methods) c.rows.draft c.add_method.new.draft c.rows.row
+          c.rows.invariant.from high c.rows.invariant.added
           c.in_ok-add_method.ensures.added;
       cost = omega (arith, c.in_ok-add_method.ensures.step);
     }
@@ -20,4 +21,5 @@ rows-preserved g c =
 pub returns-clause-added : goal.returns-clause-added
 returns-clause-added g c =
     let raw = raw_file c.args.file.now in
-    methods_added raw with_method (fold with_method c.args.draft.now (value_of raw).methods) c.rows.draft c.rows.row (omega (arith, c.keeps.ensures.rules.shape.methods)) c.rows.invariant.added
+    methods_added raw with_method (fold with_method c.args.draft.now (value_of raw).methods) c.rows.draft c.rows.row
+    (omega (arith, c.keeps.ensures.rules.shape.methods)) c.rows.invariant.added

@@ -13,7 +13,8 @@ rows-preserved g c =
     record {
       from = omega arith;
       to = omega arith;
-      added = row_added with_custom items (fold with_custom c.args.draft.now items) c.rows.draft c.add_custom.new.draft c.rows.row c.rows.invariant.from c.rows.invariant.added
+      added = row_added with_custom items (fold with_custom c.args.draft.now items) c.rows.draft c.add_custom.new.draft c.rows.row c.rows.invariant.from
+          c.rows.invariant.added
           c.in_ok-add_custom.ensures.added;
       cost = omega (arith, c.in_ok-add_custom.ensures.step);
     }
@@ -23,4 +24,5 @@ returns-clause-added g c =
     let raw = raw_file c.args.file.now in
     let items = (value_of (raw_file c.args.file.now)).customs in
     let many = length-map raw.tables.customs (custom_of raw.tables) in
-    rows_added with_custom items (fold with_custom c.args.draft.now items) c.rows.draft c.rows.row (omega (arith, many, c.keeps.ensures.rules.shape.customs)) c.rows.invariant.added
+    rows_added with_custom items (fold with_custom c.args.draft.now items) c.rows.draft c.rows.row (omega (arith, many, c.keeps.ensures.rules.shape.customs))
+    c.rows.invariant.added

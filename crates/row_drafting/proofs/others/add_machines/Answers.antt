@@ -11,7 +11,8 @@ rows-preserved g c =
     record {
       from = omega arith;
       to = omega arith;
-      added = row_added with_machine items (fold with_machine c.args.draft.now items) c.rows.draft c.add_machine.new.draft c.rows.row c.rows.invariant.from c.rows.invariant.added
+      added = row_added with_machine items (fold with_machine c.args.draft.now items) c.rows.draft c.add_machine.new.draft c.rows.row c.rows.invariant.from
+          c.rows.invariant.added
           c.in_ok-add_machine.ensures.added;
       cost = omega (arith, c.in_ok-add_machine.ensures.step);
     }
@@ -20,4 +21,5 @@ pub returns-clause-added : goal.returns-clause-added
 returns-clause-added g c =
     let raw = raw_file c.args.file.now in
     let items = (value_of (raw_file c.args.file.now)).machines in
-    rows_added with_machine items (fold with_machine c.args.draft.now items) c.rows.draft c.rows.row (omega (arith, c.keeps.ensures.rules.shape.machines)) c.rows.invariant.added
+    rows_added with_machine items (fold with_machine c.args.draft.now items) c.rows.draft c.rows.row (omega (arith, c.keeps.ensures.rules.shape.machines))
+    c.rows.invariant.added

@@ -8,7 +8,8 @@ abbrev pub invariant-rows : goal.invariant-rows
 invariant-rows g l = record {
   from : 1 ≤ l.row;
   to : l.row ≤ l.count + 1;
-  added : fold with_machine l.draft (drop (l.row - 1) (value_of (raw_file l.file)).machines) ≡ fold with_machine l.fn.draft (value_of (raw_file l.file)).machines;
+  added : fold with_machine l.draft (drop (l.row - 1) (value_of (raw_file l.file)).machines)
+      ≡ fold with_machine l.fn.draft (value_of (raw_file l.file)).machines;
   cost : l.steps + 1 ≡ l.fn.steps + l.row;
 }
 

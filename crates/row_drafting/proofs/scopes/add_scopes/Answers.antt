@@ -1,15 +1,14 @@
 use Rattle.std.proofs.Common.{List, arith, sym, ◌∙◌, ap, subst, fold, map, All}
 use Rattle.std.specs.List.{sum_by}
-use Rattle.std.proofs.lemmas.List.Elements.{All-nil, All-cons}
+use Rattle.std.proofs.lemmas.List.Elements.{All-cons}
 use Rattle.std.proofs.lemmas.List.Sums.{sum_by-cons}
 use Rattle.blob_grammar.specs.Reader.{tail}
 use Rattle.ppdb_values.specs.declared.scope.ScopeValue.{ScopeValue}
 use Rattle.ppdb_values.specs.Types.{IsNarrow}
-use Rattle.ppdb_values.specs.Value.{value_of}
 use Rattle.ppdb_verify.specs.Views.{raw_file}
 use Rattle.value_reading.specs.declared.scopes.Scope.{Scope}
 use Rattle.value_reading.specs.Scopes.{scope_with, HasLists}
-use Rattle.value_reading.proofs.Answered.{next_first, next_none, all_first, all_rest}
+use Rattle.value_reading.proofs.Answered.{next_first, all_first, all_rest}
 use Rattle.file_drafting.specs.Draft.{with_scope}
 use Rattle.row_drafting.proofs.Shared.{IsForward, variable_rows, all_forward, variables_shared}
 use Rattle.row_drafting.proofs.scopes.add_scopes.Goals as goal

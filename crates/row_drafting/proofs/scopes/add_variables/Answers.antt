@@ -21,16 +21,19 @@ rows-preserved g c =
     record {
       from = omega arith;
       to = omega arith;
-      added = item_added variables with_variable (fold with_variable c.args.draft.now (items_in c.args.list variables)) c.rows.draft c.add_variable.new.draft row end
+      added = item_added variables with_variable (fold with_variable c.args.draft.now (items_in c.args.list variables)) c.rows.draft c.add_variable.new.draft
+          row end
           (omega (arith, low)) (omega arith) last c.rows.invariant.added c.in_ok-add_variable.ensures.added;
-      narrow = λ rest. c.rows.invariant.narrow (item_holds variables IsNarrow row end (omega (arith, low)) (omega arith) last c.in_ok-add_variable.ensures.narrow rest);
+      narrow = λ rest. c.rows.invariant.narrow (item_holds variables IsNarrow row end (omega (arith, low)) (omega arith) last
+          c.in_ok-add_variable.ensures.narrow rest);
       cost = omega (arith, c.in_ok-add_variable.ensures.step);
     }
 
 pub returns-clause-added : goal.returns-clause-added
 returns-clause-added g c =
     let variables = variables_of (raw_file c.args.file.now).tables in
-    items_added variables with_variable (fold with_variable c.args.draft.now (items_in c.args.list variables)) c.rows.draft c.rows.row c.args.list.end (omega arith) c.rows.invariant.added
+    items_added variables with_variable (fold with_variable c.args.draft.now (items_in c.args.list variables)) c.rows.draft c.rows.row c.args.list.end
+    (omega arith) c.rows.invariant.added
 
 pub returns-clause-narrow : goal.returns-clause-narrow
 returns-clause-narrow g c =
