@@ -89,7 +89,7 @@ list_first raw (suc i) (suc e) cells there less =
     let n : 1 + i ≡ suc i = omega arith in
     rw (a, b, c)
     (ap (λ (rows : List (ℕ × ConstantRow)). flat_map (types_of raw) rows)
-        (take_first (numbered raw.constants) i e (suc i, cells) (numbered_get 1 raw.constants i cells there ∙ ap (λ (m : ℕ). Some (m, cells)) n) (omega (arith, less))))
+    (take_first (numbered raw.constants) i e (suc i, cells) (numbered_get 1 raw.constants i cells there ∙ ap (λ (m : ℕ). Some (m, cells)) n) (omega (arith, less))))
 
 pub list_over : (raw : RawTables) (row end : ℕ) → end ≤ row → of_list raw (record { first = row; end = end }) ≡ []
 list_over raw row end past = let e : end - 1 - (row - 1) ≡ 0 = omega (arith, past) in rw e refl
@@ -190,8 +190,8 @@ module _ (m : Map) (raw : RawTables) (owned : ListsAreOwned) (keeps : KeepsLists
   pub all-scopes : flat_map (of_constant m raw) (numbered raw.constants) ≡ flat_map (of_scope_constants m raw) (scopes_in raw)
   all-scopes =
       sym (flat_map-made (scope_in raw) (of_scope_constants m raw) (numbered raw.scopes)
-          ∙ scopes_from 0 raw.scopes (λ i. let e : 0 + i ≡ i = omega arith in rw e refl)
-          ∙ begins_first (row_at raw.scopes 1) refl)
+      ∙ scopes_from 0 raw.scopes (λ i. let e : 0 + i ≡ i = omega arith in rw e refl)
+      ∙ begins_first (row_at raw.scopes 1) refl)
 
 pub next_none : {X : Type 0} (xs : List X) → next_of xs ≡ None → xs ≡ []
 next_none [] e = refl

@@ -17,11 +17,7 @@ pub struct Imaged {
 #[derive(Clone, Copy, Debug, PartialEq, Eq)]
 pub enum ReferenceError {
     /// The row is named at the place, and has no image.
-    Unmapped {
-        table: u8,
-        row: u32,
-        place: Place,
-    },
+    Unmapped { table: u8, row: u32, place: Place },
     Memory,
 }
 

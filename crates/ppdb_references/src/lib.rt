@@ -10,3 +10,6 @@ mod rows;
 
 pub use file::images;
 pub use imaged::{Imaged, ReferenceError};
+
+#[cfg(test)]
+mod tests;

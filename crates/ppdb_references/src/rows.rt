@@ -13,9 +13,7 @@ use crate::imaged::ReferenceError;
 use crate::imager::Imager;
 use custom_info::Kind;
 use ppdb_base::{Place, Steps};
-use ppdb_tables::{
-    CustomRow, ImportRow, MachineRow, MethodDebugRow, Parent, ScopeRow, parent_of,
-};
+use ppdb_tables::{CustomRow, ImportRow, MachineRow, MethodDebugRow, Parent, ScopeRow, parent_of};
 use ppdb_values::values_are_rows;
 use ppdb_verify::Verified;
 use rows_in_blobs::{ImportRows, ResumeMethods, RowWalk};

@@ -1,5 +1,5 @@
 -- The rows in imports, a field at a time.
-use Rattle.std.proofs.Common.{◌≡◌, ℕ, List, [], ◌∷◌, ◌++◌, Option, Some, None, Result, Ok, Err, refl, sym, ap, ◌∙◌}
+use Rattle.std.proofs.Common.{◌≡◌, List, [], ◌∷◌, ◌++◌, Option, Some, None, Result, Ok, refl, sym, ap, ◌∙◌}
 use Rattle.std.specs.Prelude.{option_to_list}
 use Rattle.std.specs.List.{flat_map}
 use Rattle.ppdb_base.specs.declared.BlobFault.{BlobFault}
@@ -7,7 +7,6 @@ use Rattle.blob_grammar.specs.Reader.{answer_from, tail}
 use Rattle.type_blobs.specs.declared.import_part.ImportField.{ImportField}
 use Rattle.rows_in_blobs.specs.declared.row.PlacedRow.{PlacedRow}
 use Rattle.rows_in_blobs.specs.Rows.{import_row}
-use Rattle.rows_in_blobs.specs.Walk.{first_of, rest_of}
 
 -- the answer is a field: it is the first
 pub first_is : (items : List ImportField) (fault : Option BlobFault) (field : ImportField) → Ok (Some field) ≡ answer_from items fault → items ≡ field ∷ tail items

@@ -1,11 +1,11 @@
 -- The methods in async stepping information, a step at a time.
-use Rattle.std.proofs.Common.{◌≡◌, ℕ, ◌+◌, ◌≤◌, false, List, [], ◌∷◌, ◌++◌, length, drop, Option, Some, None, Ok, refl, sym, ap, ◌∙◌, arith}
+use Rattle.std.proofs.Common.{◌≡◌, ℕ, ◌≤◌, List, [], ◌∷◌, ◌++◌, length, drop, Option, Some, None, refl, sym, ap, ◌∙◌, arith}
 use Rattle.std.specs.Prelude.{IfSome, unwrap_or}
 use Rattle.std.proofs.lemmas.List.{drop_all}
 use Rattle.ppdb_base.specs.declared.Code.TheVariants.{BlobEnd}
 use Rattle.blob_grammar.specs.Allowed.{is_row}
-use Rattle.blob_grammar.specs.Grammar.{Value, number, word, unsigned, Cut, with_value}
-use Rattle.blob_grammar.specs.Reader.{Left, field_at, unsigned_at, word_at, fields_left}
+use Rattle.blob_grammar.specs.Grammar.{Value, number, word, unsigned, Cut}
+use Rattle.blob_grammar.specs.Reader.{Left, field_at, unsigned_at, word_at}
 use Rattle.blob_grammar.proofs.FrontFields.{fields-are}
 use Rattle.blob_grammar.proofs.Steps.{Alike}
 use Rattle.blob_grammar.proofs.Walks.{SameBegun, alike-begun, fields_left-alike, walk-fields}
@@ -67,7 +67,7 @@ module _ (methods : ℕ) (blob : List ℕ) where
   any_before first others at =
       ap (λ (l : Left PlacedRow). l.items)
       (fields_left-alike (async_stepping methods) resume_method (SameBegun (async_stepping methods) resume_method Begun) (alike-begun (async_stepping methods) resume_method Begun (alike methods))
-        (record { whole = first ∷ others; begun = [] }) (record { whole = catch_handler None ∷ []; begun = [] }) at (drop at blob) (tt, refl))
+      (record { whole = first ∷ others; begun = [] }) (record { whole = catch_handler None ∷ []; begun = [] }) at (drop at blob) (tt, refl))
 
   at_end : left [] (length blob) ≡ []
   at_end =

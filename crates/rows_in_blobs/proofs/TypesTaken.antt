@@ -1,5 +1,5 @@
 -- The types in the signature of a constant, a modifier or a body at a time.
-use Rattle.std.proofs.Common.{◌≡◌, ℕ, ◌+◌, ◌<◌, ◌≤◌, Bool, true, false, List, [], ◌∷◌, ◌++◌, length, take, drop, slice_get, zero, suc, Option, Some, None, Ok, Err, refl, sym, ap, ◌∙◌, arith, ◌⊎◌, inl, inr}
+use Rattle.std.proofs.Common.{◌≡◌, ℕ, ◌+◌, ◌<◌, ◌≤◌, Bool, true, false, List, [], ◌∷◌, length, take, drop, zero, suc, Option, Some, None, Ok, Err, refl, sym, ap, ◌∙◌, arith, ◌⊎◌, inl, inr}
 use Rattle.std.specs.Prelude.{nat_lt, IfSome, ◌==◌}
 use Rattle.std.proofs.lemmas.Bool.{cases_lt}
 use Rattle.std.proofs.lemmas.Bool.Decides.{nat_tests}
@@ -7,17 +7,17 @@ use Rattle.std.proofs.lemmas.List.{drop_all, length-drop}
 use Rattle.ppdb_base.specs.declared.Code.{Code}
 use Rattle.ppdb_base.specs.declared.Code.TheVariants.{BlobEnd}
 use Rattle.blob_grammar.specs.Grammar.{Value, number, octets, Form, byte, rest, unsigned, fixed, Cut, with_value}
-use Rattle.blob_grammar.specs.Reader.{Left, field_at, unsigned_at, as_number, fields_left}
+use Rattle.blob_grammar.specs.Reader.{Left, field_at, unsigned_at}
 use Rattle.blob_grammar.proofs.Steps.{Alike}
 use Rattle.blob_grammar.proofs.Walks.{SameBegun, alike-begun, fields_left-alike, walk-fields}
 use Rattle.blob_grammar.proofs.FrontFields.{fields-are}
 use Rattle.type_blobs.specs.declared.types.TypeLimits.{TypeLimits}
 use Rattle.type_blobs.specs.declared.types.Modifier.{Modifier}
 use Rattle.type_blobs.specs.Types.{is_type, token_of}
-use Rattle.type_blobs.specs.Constants.{constants, form, allows, is_modifier, is_code, is_enumerable, is_general, is_primitive, is_string, is_object, size_of, after_code, after_two}
+use Rattle.type_blobs.specs.Constants.{constants, form, allows, is_modifier, is_code, is_enumerable, is_general, is_primitive, is_string, size_of, after_code}
 use Rattle.type_blobs.proofs.Codes.{of_general, of_primitive, OfGeneral, OfPrimitive, enumerable_range, primitive_range}
 use Rattle.rows_in_blobs.specs.declared.row.PlacedRow.{PlacedRow}
-use Rattle.rows_in_blobs.specs.Rows.{type_at, type_behind, constant_type, constant_types}
+use Rattle.rows_in_blobs.specs.Rows.{type_at, constant_type, constant_types}
 use Rattle.rows_in_blobs.specs.Left.{types_left}
 use Rattle.rows_in_blobs.specs.Skips.{skip_of}
 use Rattle.rows_in_blobs.specs.Found.{Has, TypeIs, NextRowIs}
@@ -77,7 +77,7 @@ module _ (limits : TypeLimits) (blob : List ℕ) where
   any_before whole at =
       ap (λ (l : Left PlacedRow). l.items)
       (fields_left-alike (constants limits) constant_type (SameBegun (constants limits) constant_type Any) (alike-begun (constants limits) constant_type Any (alike limits))
-        (record { whole = whole; begun = [] }) (cut_of []) at (drop at blob) (tt, refl))
+      (record { whole = whole; begun = [] }) (cut_of []) at (drop at blob) (tt, refl))
 
   at_end : (at : ℕ) → length blob ≤ at → left [] at ≡ []
   at_end at past = items-none (constants limits) constant_type blob (cut_of []) at byte BlobEnd refl (ap (field_at byte) (drop_all at blob past))

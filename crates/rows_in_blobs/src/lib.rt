@@ -14,3 +14,6 @@ pub use import::ImportRows;
 pub use row::PlacedRow;
 pub use stepping::ResumeMethods;
 pub use walk::RowWalk;
+
+#[cfg(test)]
+mod tests;

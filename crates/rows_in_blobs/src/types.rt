@@ -46,11 +46,7 @@ pub(crate) fn placed_type(byte: u32, number: u32) -> PlacedRow
 }
 
 /// The type at a place of a blob, and the place after it; None where no type that is there is named.
-pub(crate) fn type_field(
-    blob: &[u8],
-    limits: TypeLimits,
-    at: usize,
-) -> Option<(PlacedRow, usize)>
+pub(crate) fn type_field(blob: &[u8], limits: TypeLimits, at: usize) -> Option<(PlacedRow, usize)>
     requires within { at ≤ length blob.now }
     requires short { length blob.now < 2 ^ 32 }
     ensures found { TypeIs limits blob.now at result }

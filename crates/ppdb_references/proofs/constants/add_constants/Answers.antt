@@ -24,7 +24,7 @@ scopes-init g c =
       same_map = refl;
       leads = ap (imaged_on c.args.imager.now)
           (all-scopes c.args.imager.now.map raw.tables c.lists_are_owned.ensures c.keeps.ensures.rules.constants.lists
-              ∙ ap (λ (scopes : List Scope). flat_map (of_scope_constants c.args.imager.now.map raw.tables) scopes) (sym c.new-scopes.ensures.scopes));
+          ∙ ap (λ (scopes : List Scope). flat_map (of_scope_constants c.args.imager.now.map raw.tables) scopes) (sym c.new-scopes.ensures.scopes));
     }
 
 pub add_scope_constants-requires : goal.add_scope_constants-requires
@@ -41,7 +41,7 @@ scopes-preserved g c =
     let first = next_first c.scopes.scopes c.in-Some.scope (sym c.next.ensures.answer ∙ c.in-Some.is) in
     let tell = of_scope_constants start.map raw.tables in
     let step : imaged_on now (tell c.in-Some.scope) ≡ Ok c.add_scope_constants.new.imager =
-        ap (λ (m : Map). imaged_on now (of_scope_constants m raw.tables c.in-Some.scope)) (sym c.scopes.invariant.same_map) ∙ c.in_ok-add_scope_constants.ensures in
+    ap (λ (m : Map). imaged_on now (of_scope_constants m raw.tables c.in-Some.scope)) (sym c.scopes.invariant.same_map) ∙ c.in_ok-add_scope_constants.ensures in
     rw c.next.ensures.left (record {
       within = all_rest (HasLists raw.tables) c.scopes.scopes (tail c.scopes.scopes) c.in-Some.scope first c.scopes.invariant.within;
       same_map = map-stays now c.add_scope_constants.new.imager (tell c.in-Some.scope) step ∙ c.scopes.invariant.same_map;
@@ -59,10 +59,10 @@ returns-in_err-add_scope_constants g c =
     let tell = of_scope_constants start.map raw.tables in
     rw (p.1, p.2)
     (goes-stop start now c.add_scope_constants.new.imager c.add_scope_constants.new.imager (flat_map (of_constant start.map raw.tables) (numbered raw.tables.constants)) (tell c.in-Some.scope)
-        (flat_map tell (tail c.scopes.scopes)) c.in_err-add_scope_constants.field-0.0
-        (c.scopes.invariant.leads ∙ ap (λ (scopes : List Scope). imaged_on now (flat_map tell scopes)) first)
-        (goes-as now c.add_scope_constants.new.imager (of_scope_constants now.map raw.tables c.in-Some.scope) (tell c.in-Some.scope) (Err c.in_err-add_scope_constants.field-0.0)
-            (ap (λ (m : Map). of_scope_constants m raw.tables c.in-Some.scope) c.scopes.invariant.same_map) c.in_err-add_scope_constants.ensures))
+    (flat_map tell (tail c.scopes.scopes)) c.in_err-add_scope_constants.field-0.0
+    (c.scopes.invariant.leads ∙ ap (λ (scopes : List Scope). imaged_on now (flat_map tell scopes)) first)
+    (goes-as now c.add_scope_constants.new.imager (of_scope_constants now.map raw.tables c.in-Some.scope) (tell c.in-Some.scope) (Err c.in_err-add_scope_constants.field-0.0)
+    (ap (λ (m : Map). of_scope_constants m raw.tables c.in-Some.scope) c.scopes.invariant.same_map) c.in_err-add_scope_constants.ensures))
 
 pub returns : goal.returns
 returns g c =

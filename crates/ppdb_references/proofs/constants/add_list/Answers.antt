@@ -32,10 +32,10 @@ returns-in_err-add_rows g c =
     let now = c.rows.imager in
     rw (p.1, p.2)
     (goes-stop c.args.imager.now now c.add_rows.new.imager c.add_rows.new.imager (of_list raw c.args.list) (types_of raw (c.rows.row, cells)) (of_list raw (record { first = c.rows.row + 1; end = c.args.list.end }))
-        c.in_err-add_rows.field-0.0
-        (c.rows.invariant.leads ∙ ap (imaged_on now) (list_first raw c.rows.row c.args.list.end cells c.constant-cells.ensures.row (omega arith)))
-        (goes-as now c.add_rows.new.imager (inside 0x34 c.rows.row 1 c.new-types.result) (types_of raw (c.rows.row, cells)) (Err c.in_err-add_rows.field-0.0)
-            (rw (c.new-types.ensures, c.blob.ensures.content, c.type_limits-limits.ensures) refl) c.in_err-add_rows.ensures))
+    c.in_err-add_rows.field-0.0
+    (c.rows.invariant.leads ∙ ap (imaged_on now) (list_first raw c.rows.row c.args.list.end cells c.constant-cells.ensures.row (omega arith)))
+    (goes-as now c.add_rows.new.imager (inside 0x34 c.rows.row 1 c.new-types.result) (types_of raw (c.rows.row, cells)) (Err c.in_err-add_rows.field-0.0)
+    (rw (c.new-types.ensures, c.blob.ensures.content, c.type_limits-limits.ensures) refl) c.in_err-add_rows.ensures))
 
 pub returns : goal.returns
 returns g c =

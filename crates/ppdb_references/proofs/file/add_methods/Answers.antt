@@ -17,7 +17,7 @@ returns-in_err-add_table g c =
     let s = c.args.imager.now in
     rw (p.1, p.2)
     (goes-cut s c.add_table.new.imager c.add_table.new.imager (of_table s.map raw MethodDebug) (of_table s.map raw LocalScope ++ flat_map (of_constant s.map raw) (numbered raw.constants)) c.in_err-add_table.field-0.0
-        c.in_err-add_table.ensures)
+    c.in_err-add_table.ensures)
 
 pub returns-in_err-add_table-2 : goal.returns-in_err-add_table-2
 returns-in_err-add_table-2 g c =
@@ -28,7 +28,7 @@ returns-in_err-add_table-2 g c =
     let u = c.add_table-2.new.imager in
     rw (p.1, p.2)
     (goes-more s t u (of_table s.map raw MethodDebug) (λ (m : Map). of_table m raw LocalScope ++ flat_map (of_constant m raw) (numbered raw.constants)) (Err c.in_err-add_table-2.field-0.0) c.in_ok-add_table.ensures
-        (goes-cut t u u (of_table t.map raw LocalScope) (flat_map (of_constant t.map raw) (numbered raw.constants)) c.in_err-add_table-2.field-0.0 c.in_err-add_table-2.ensures))
+    (goes-cut t u u (of_table t.map raw LocalScope) (flat_map (of_constant t.map raw) (numbered raw.constants)) c.in_err-add_table-2.field-0.0 c.in_err-add_table-2.ensures))
 
 pub returns : goal.returns
 returns g c =

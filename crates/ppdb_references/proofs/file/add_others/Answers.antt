@@ -24,7 +24,7 @@ returns-in_err-add_table-2 g c =
     let u = c.add_table-2.new.imager in
     rw (p.1, p.2)
     (goes-more s t u (of_table s.map raw ImportScope) (λ (m : Map). of_table m raw StateMachine ++ of_table m raw Custom) (Err c.in_err-add_table-2.field-0.0) c.in_ok-add_table.ensures
-        (goes-cut t u u (of_table t.map raw StateMachine) (of_table t.map raw Custom) c.in_err-add_table-2.field-0.0 c.in_err-add_table-2.ensures))
+    (goes-cut t u u (of_table t.map raw StateMachine) (of_table t.map raw Custom) c.in_err-add_table-2.field-0.0 c.in_err-add_table-2.ensures))
 
 pub returns : goal.returns
 returns g c =

@@ -49,7 +49,7 @@ returns-in_err-add_row g c =
     let there : row_at (rows_of now.map raw c.args.table) c.rows.row ≡ Some here.0 = ap (λ (m : Map). row_at (rows_of m raw c.args.table) c.rows.row) c.rows.invariant.same_map ∙ here.1 in
     rw (p.1, p.2)
     (goes-stop start now c.add_row.new.imager c.add_row.new.imager (of_table start.map raw c.args.table) here.0 (from_row (c.rows.row + 1) rows) c.in_err-add_row.field-0.0
-        (c.rows.invariant.leads ∙ ap (imaged_on now) (row_and_rest c.rows.row rows here.0 here.1)) (c.in_err-add_row.ensures here.0 there))
+    (c.rows.invariant.leads ∙ ap (imaged_on now) (row_and_rest c.rows.row rows here.0 here.1)) (c.in_err-add_row.ensures here.0 there))
 
 pub returns : goal.returns
 returns g c =

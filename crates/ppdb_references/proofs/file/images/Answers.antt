@@ -12,7 +12,7 @@ returns-in_err-add_file-clause-unmapped g c =
     let raw = raw_file c.args.file.now in
     rw (p.1, p.2)
     (refused c.args.map.now c.add_file.new.imager (references c.args.first c.args.map.now raw) c.in_err-add_file.field-0.0
-        (subst (λ (s : Imaging). Goes s (references c.args.first s.map raw) c.add_file.new.imager (Err c.in_err-add_file.field-0.0)) c.new-imager.ensures c.in_err-add_file.ensures))
+    (subst (λ (s : Imaging). Goes s (references c.args.first s.map raw) c.add_file.new.imager (Err c.in_err-add_file.field-0.0)) c.new-imager.ensures c.in_err-add_file.ensures))
 
 pub returns-clause-images : goal.returns-clause-images
 returns-clause-images g c =
@@ -20,4 +20,4 @@ returns-clause-images g c =
     let t = c.add_file.new.imager in
     rw c.into_images.ensures
     (images-are c.args.map.now t (references c.args.first c.args.map.now raw)
-        (subst (λ (s : Imaging). imaged_on s (references c.args.first s.map raw) ≡ Ok t) c.new-imager.ensures c.in_ok-add_file.ensures))
+    (subst (λ (s : Imaging). imaged_on s (references c.args.first s.map raw) ≡ Ok t) c.new-imager.ensures c.in_ok-add_file.ensures))

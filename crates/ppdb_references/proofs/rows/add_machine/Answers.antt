@@ -18,9 +18,9 @@ returns-in_err-add c =
     let cells = c.args.cells.now in
     rw (p.1, p.2)
     (goes-as s c.add.new.self (names (cell 0x36 c.args.row 0) 0x06 cells.move_next ∷ names (cell 0x36 c.args.row 1) 0x06 cells.kickoff ∷ []) (of_machine s.map (c.args.row, cells)) (Err c.in_err-add.field-0.0)
-        (machine_names s.map c.args.row cells (sym c.drops_machine.ensures ∙ c.if-drops_machine.false))
-        (goes-cut s c.add.new.self c.add.new.self (names (cell 0x36 c.args.row 0) 0x06 cells.move_next ∷ []) (names (cell 0x36 c.args.row 1) 0x06 cells.kickoff ∷ []) c.in_err-add.field-0.0
-            (goes-at s c.add.new.self c.cell.result (cell 0x36 c.args.row 0) 0x06 cells.move_next (Err c.in_err-add.field-0.0) c.cell.ensures c.in_err-add.ensures)))
+    (machine_names s.map c.args.row cells (sym c.drops_machine.ensures ∙ c.if-drops_machine.false))
+    (goes-cut s c.add.new.self c.add.new.self (names (cell 0x36 c.args.row 0) 0x06 cells.move_next ∷ []) (names (cell 0x36 c.args.row 1) 0x06 cells.kickoff ∷ []) c.in_err-add.field-0.0
+    (goes-at s c.add.new.self c.cell.result (cell 0x36 c.args.row 0) 0x06 cells.move_next (Err c.in_err-add.field-0.0) c.cell.ensures c.in_err-add.ensures)))
 
 pub returns : goal.returns
 returns c =
@@ -29,5 +29,5 @@ returns c =
     goes-as s c.add-2.new.self (names (cell 0x36 c.args.row 0) 0x06 cells.move_next ∷ names (cell 0x36 c.args.row 1) 0x06 cells.kickoff ∷ []) (of_machine s.map (c.args.row, cells)) c.add-2.result
     (machine_names s.map c.args.row cells (sym c.drops_machine.ensures ∙ c.if-drops_machine.false))
     (goes-then s c.add.new.self c.add-2.new.self (names (cell 0x36 c.args.row 0) 0x06 cells.move_next ∷ []) (names (cell 0x36 c.args.row 1) 0x06 cells.kickoff ∷ []) c.add-2.result
-        (rw c.cell.ensures at c.in_ok-add.ensures)
-        (goes-at c.add.new.self c.add-2.new.self c.cell-2.result (cell 0x36 c.args.row 1) 0x06 cells.kickoff c.add-2.result c.cell-2.ensures c.add-2.ensures))
+    (rw c.cell.ensures at c.in_ok-add.ensures)
+    (goes-at c.add.new.self c.add-2.new.self c.cell-2.result (cell 0x36 c.args.row 1) 0x06 cells.kickoff c.add-2.result c.cell-2.ensures c.add-2.ensures))

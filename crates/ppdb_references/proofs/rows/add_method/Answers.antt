@@ -32,9 +32,9 @@ returns-in_err-add c =
     let is = method_is raw c.args.row c.args.cells.now (Some value) c.values_are_rows.ensures c.requires c.in-Some.ensures.0 in
     rw (p.1, p.2)
     (goes-as s c.add.new.self (of_points c.args.row (Some value)) (of_method s.map raw.tables (c.args.row, c.args.cells.now)) (Err c.in_err-add.field-0.0)
-        (method_names s.map raw.tables c.args.row c.args.cells.now (Some value) (sym c.drops.ensures ∙ c.if-drops.false) is)
-        (goes-cut s c.add.new.self c.add.new.self (names (cell 0x31 c.args.row 1) 0x06 c.args.row ∷ []) (names_some (cell 0x31 c.args.row 1) 0x11 value.signature) c.in_err-add.field-0.0
-            (goes-at s c.add.new.self c.cell-place.result (cell 0x31 c.args.row 1) 0x06 c.args.row (Err c.in_err-add.field-0.0) c.cell-place.ensures c.in_err-add.ensures)))
+    (method_names s.map raw.tables c.args.row c.args.cells.now (Some value) (sym c.drops.ensures ∙ c.if-drops.false) is)
+    (goes-cut s c.add.new.self c.add.new.self (names (cell 0x31 c.args.row 1) 0x06 c.args.row ∷ []) (names_some (cell 0x31 c.args.row 1) 0x11 value.signature) c.in_err-add.field-0.0
+    (goes-at s c.add.new.self c.cell-place.result (cell 0x31 c.args.row 1) 0x06 c.args.row (Err c.in_err-add.field-0.0) c.cell-place.ensures c.in_err-add.ensures)))
 
 pub returns : goal.returns
 returns c =
@@ -45,6 +45,6 @@ returns c =
     goes-as s c.add_some.new.self (of_points c.args.row (Some value)) (of_method s.map raw.tables (c.args.row, c.args.cells.now)) c.add_some.result
     (method_names s.map raw.tables c.args.row c.args.cells.now (Some value) (sym c.drops.ensures ∙ c.if-drops.false) is)
     (goes-then s c.add.new.self c.add_some.new.self (names (cell 0x31 c.args.row 1) 0x06 c.args.row ∷ []) (names_some (cell 0x31 c.args.row 1) 0x11 value.signature) c.add_some.result
-        (rw c.cell-place.ensures at c.in_ok-add.ensures)
-        (goes-as c.add.new.self c.add_some.new.self (names_some c.cell-place.result 0x11 c.signature.result) (names_some (cell 0x31 c.args.row 1) 0x11 value.signature) c.add_some.result
-            (rw (c.cell-place.ensures, c.signature.ensures) refl) c.add_some.ensures))
+    (rw c.cell-place.ensures at c.in_ok-add.ensures)
+    (goes-as c.add.new.self c.add_some.new.self (names_some c.cell-place.result 0x11 c.signature.result) (names_some (cell 0x31 c.args.row 1) 0x11 value.signature) c.add_some.result
+    (rw (c.cell-place.ensures, c.signature.ensures) refl) c.add_some.ensures))

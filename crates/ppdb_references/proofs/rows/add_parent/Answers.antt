@@ -13,8 +13,8 @@ returns-in_err-add c =
     let raw = (raw_file c.args.file.now).tables in
     rw (p.1, p.2)
     (goes-cut s c.add.new.self c.add.new.self (names (cell 0x37 c.args.row 0) c.args.parent.table c.args.parent.row ∷ [])
-        (inside 0x37 c.args.row 2 (methods_of raw c.args.cells.now)) c.in_err-add.field-0.0
-        (goes-at s c.add.new.self c.cell.result (cell 0x37 c.args.row 0) c.args.parent.table c.args.parent.row (Err c.in_err-add.field-0.0) c.cell.ensures c.in_err-add.ensures))
+    (inside 0x37 c.args.row 2 (methods_of raw c.args.cells.now)) c.in_err-add.field-0.0
+    (goes-at s c.add.new.self c.cell.result (cell 0x37 c.args.row 0) c.args.parent.table c.args.parent.row (Err c.in_err-add.field-0.0) c.cell.ensures c.in_err-add.ensures))
 
 pub returns : goal.returns
 returns c =

@@ -17,8 +17,8 @@ rows-preserved g c =
     let tell = inside c.args.table c.args.row c.args.column in
     rw c.next_row.ensures.left
     (leads-few c.args.imager.now now c.add.new.self (tell (g.W.RowWalk.left c.args.walk.now)) (tell (c.in-Some.found ∷ [])) (tell (rest_of left))
-        (c.rows.invariant ∙ ap (λ (rows : List PlacedRow). imaged_on now (tell rows)) first)
-        (rw c.byte_of-place.ensures at c.in_ok-add.ensures))
+    (c.rows.invariant ∙ ap (λ (rows : List PlacedRow). imaged_on now (tell rows)) first)
+    (rw c.byte_of-place.ensures at c.in_ok-add.ensures))
 
 pub returns-in_err-add : goal.returns-in_err-add
 returns-in_err-add g c =
@@ -29,8 +29,8 @@ returns-in_err-add g c =
     let tell = inside c.args.table c.args.row c.args.column in
     rw (p.1, p.2)
     (goes-stop c.args.imager.now now c.add.new.self c.add.new.self (tell (g.W.RowWalk.left c.args.walk.now)) (tell (c.in-Some.found ∷ [])) (tell (rest_of left)) c.in_err-add.field-0.0
-        (c.rows.invariant ∙ ap (λ (rows : List PlacedRow). imaged_on now (tell rows)) first)
-        (goes-at now c.add.new.self c.byte_of-place.result (record (cell c.args.table c.args.row c.args.column) { byte = c.in-Some.found.byte }) c.in-Some.found.table c.in-Some.found.row (Err c.in_err-add.field-0.0) c.byte_of-place.ensures c.in_err-add.ensures))
+    (c.rows.invariant ∙ ap (λ (rows : List PlacedRow). imaged_on now (tell rows)) first)
+    (goes-at now c.add.new.self c.byte_of-place.result (record (cell c.args.table c.args.row c.args.column) { byte = c.in-Some.found.byte }) c.in-Some.found.table c.in-Some.found.row (Err c.in_err-add.field-0.0) c.byte_of-place.ensures c.in_err-add.ensures))
 
 pub returns : goal.returns
 returns g c =

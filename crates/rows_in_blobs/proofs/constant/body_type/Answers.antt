@@ -1,6 +1,6 @@
 use Rattle.rows_in_blobs.proofs.TypesTaken.{body_bare, body_short, body_untyped, body_taken}
 use Rattle.rows_in_blobs.proofs.constant.body_type.Goals as goal
-use Rattle.std.proofs.Common.{sym, arith, ◌≤◌, ◌+◌, length}
+use Rattle.std.proofs.Common.{sym, arith}
 
 pub returns-in_default : goal.returns-in_default
 returns-in_default c = body_bare c.args.limits c.args.blob.now c.args.at c.args.code c.requires.code.0 c.requires.body (sym c.in_default.ensures.skip)

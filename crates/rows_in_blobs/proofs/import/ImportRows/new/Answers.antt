@@ -6,7 +6,6 @@ use Rattle.type_blobs.specs.declared.import_part.ImportField.{ImportField}
 use Rattle.type_blobs.proofs.ImportFieldsAre.{import_fields-are}
 use Rattle.rows_in_blobs.specs.Rows.{import_row}
 use Rattle.rows_in_blobs.proofs.import.ImportRows.new.Goals as goal
-use Rattle.std.proofs.Common.{sym}
 
 pub returns : goal.returns
 returns c =
