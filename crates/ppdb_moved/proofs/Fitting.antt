@@ -1,16 +1,13 @@
 -- What a map that fits a file says of a method that the file names.
-<<<<<<< HEAD
 use Rattle.std.proofs.Common.{◌≡◌, ◌≢◌, ℕ, zero, suc, ◌+◌, ◌<◌, ◌≤◌, ◌&&◌, ◌||◌, not, Bool, true, false, cond, List, [], ◌∷◌, ◌++◌, Option, Some, None, refl}
 use Rattle.std.proofs.Common.{sym, ◌∙◌, ap, subst, arith, flat_map, map}
-=======
-use Rattle.std.proofs.Common.{◌≡◌, ◌≢◌, ℕ, zero, suc, ◌<◌, ◌≤◌, ◌&&◌, not, Bool, true, false, cond, List, [], ◌∷◌, ◌++◌, Option, Some, None, refl, sym, ◌∙◌, ap, subst, arith, flat_map, map}
->>>>>>> 9f25be28f2372b49474ff454c01e3a70708bcfb0
 use Rattle.std.specs.Prelude.{nat_eq, All, AllPairs, IfSome, unwrap_or, Contains}
 use Rattle.std.specs.List.{filter, find, repeat, AllByRecursion}
 use Rattle.std.specs.Option.{option_map}
-use Rattle.std.proofs.lemmas.Bool.{ne_eqb}
+use Rattle.std.proofs.lemmas.Bool.{ne_eqb, eqb-true, both_ways}
 use Rattle.std.proofs.lemmas.List.Elements.{All-head, All-tail}
-use Rattle.ppdb_base.specs.Offsets.{Offsets, every, gone, Rise, old_size}
+use Rattle.ppdb_base.specs.Offsets.{Offsets, every, gone, lined, Rise, old_size}
+use Rattle.ppdb_base.specs.declared.offsets.Run.{Run}
 use Rattle.custom_info.specs.declared.kinds.Kind.{Kind}
 use Rattle.custom_info.specs.declared.kinds.Kind.TheVariants as kinds
 use Rattle.custom_info.specs.declared.slots.Slot.{Slot}
@@ -31,31 +28,20 @@ use Rattle.sound_values.specs.Customs.{SoundCustom, IsBodyOfKind}
 use Rattle.sound_values.specs.Methods.{SoundMethod}
 use Rattle.ppdb_noted.specs.declared.file.NotedScope.{NotedScope}
 use Rattle.ppdb_noted.specs.declared.file.NotedFile.{NotedFile}
-<<<<<<< HEAD
 use Rattle.ppdb_noted.specs.Each.{Each, Pairs}
 use Rattle.ppdb_noted.specs.NamedRows.{Named, names, names_some, named_rows, in_entry, all_named, live_file, live_method, live_scope, live_machine}
 use Rattle.ppdb_noted.specs.NamedRows.{live_custom, in_steps}
 use Rattle.ppdb_noted.specs.SoundParts.{SoundMoved, SoundNotedScope}
-=======
-use Rattle.ppdb_noted.specs.Each.{Each}
-use Rattle.ppdb_noted.specs.NamedRows.{Named, names, names_some, named_rows, in_entry, all_named, live_file, live_method, live_scope, live_machine, live_custom, in_steps}
-use Rattle.ppdb_noted.specs.SoundParts.{SoundNotedScope}
->>>>>>> 9f25be28f2372b49474ff454c01e3a70708bcfb0
 use Rattle.ppdb_noted.specs.Unnoted.{value_of_noted}
 use Rattle.ppdb_moved.specs.Laws.{FitsAreOfMethods}
 use Rattle.ppdb_noted.proofs.Lists.{Each-weaker, Each-unmap}
 use Rattle.ppdb_moved.specs.Fits.{Fits, IsImaged, AreWithin, EndsWithin}
-<<<<<<< HEAD
 use Rattle.ppdb_moved.specs.FitsMethod.{PointsRise, FitsScope, FitsMethod, FitsSlot, FitsSlots, FitsCustom, FitsEntry, FitsMachine, FitsFile}
 use Rattle.ppdb_moved.proofs.Elements.{each_in, in_each}
 use Rattle.ppdb_moved.proofs.NamedParts.{NamedParts, named_parts}
 use Rattle.ppdb_moved.proofs.RisingPoints.{points_are_rising}
 use Rattle.ppdb_moved.proofs.RowImages.{found_holds, moved_is_image, row_moved}
 use Rattle.ppdb_moved.proofs.Lists.{each_of_three}
-=======
-use Rattle.ppdb_moved.specs.FitsMethod.{PointsRise, FitsScope, FitsMethod, FitsSlot, FitsSlots, FitsCustom, FitsEntry, FitsMachine}
-use Rattle.ppdb_moved.proofs.Elements.{each_in, in_each, each_parts, each_made, each_left}
->>>>>>> 9f25be28f2372b49474ff454c01e3a70708bcfb0
 
 -- ---- readable maps
 

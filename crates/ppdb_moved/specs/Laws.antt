@@ -1,9 +1,5 @@
 -- What a moved file says at the images of kept offsets: the images of what the file says there.
-<<<<<<< HEAD
 use Rattle.std.specs.Prelude.{◌≡◌, ◌≢◌, ℕ, ◌≤◌, Bool, true, List, Some, Contains, map}
-=======
-use Rattle.std.specs.Prelude.{◌≡◌, ◌≢◌, ℕ, ◌≤◌, Bool, List, Contains, map}
->>>>>>> 9f25be28f2372b49474ff454c01e3a70708bcfb0
 use Rattle.std.specs.List.{filter_map, find}
 use Rattle.std.specs.Prelude.{nat_eq}
 use Rattle.std.specs.Option.{option_map, option_and_then}
