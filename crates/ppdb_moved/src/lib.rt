@@ -8,6 +8,7 @@ mod laws;
 mod locals;
 mod methods;
 mod moves;
+mod noting;
 mod offsets;
 mod records;
 mod types;
