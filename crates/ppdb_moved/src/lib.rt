@@ -17,4 +17,5 @@ pub use file::moved_file;
 pub use laws::{files_mean, fits_are_of_methods, links_mean, points_mean, scopes_mean, slots_mean};
 pub use methods::move_points;
 pub use moves::{InMethod, Moves, Stays, move_all, moved_all};
+pub use noting::noted_file;
 pub use offsets::moved_offset;
