@@ -12,3 +12,6 @@ pub mod Slots
 pub mod PastEnd
 pub mod Front
 pub mod Counts
+pub mod AtRows
+pub mod ScopesAtRows
+pub mod FileAtRows
