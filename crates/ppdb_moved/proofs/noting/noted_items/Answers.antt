@@ -1,6 +1,5 @@
-use Rattle.std.proofs.Common.{◌≡◌, ℕ, ◌+◌, ◌-◌, ◌≤◌, ◌++◌, ◌∷◌, [], length, get_or, refl, ap, ◌∙◌, arith}
+use Rattle.std.proofs.Common.{◌≡◌, ℕ, ◌+◌, ◌-◌, ◌++◌, ◌∷◌, [], length, get_or, ap, ◌∙◌, arith}
 use Rattle.std.proofs.lemmas.List.{length-append}
-use Rattle.ppdb_values.specs.declared.noted.Noted.{Noted}
 use Rattle.ppdb_moved.specs.OnRows.{in_lists}
 use Rattle.ppdb_moved.proofs.AtRows.{noted_more}
 use Rattle.ppdb_moved.proofs.noting.noted_items.Goals as goal
