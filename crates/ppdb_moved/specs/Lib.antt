@@ -3,3 +3,4 @@ pub mod FitsMethod
 pub mod Images
 pub mod Laws
 pub mod Moved
+pub mod OnRows

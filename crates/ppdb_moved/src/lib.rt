@@ -8,6 +8,7 @@ mod laws;
 mod locals;
 mod methods;
 mod moves;
+mod noting;
 mod offsets;
 mod records;
 mod types;
@@ -19,4 +20,5 @@ pub use laws::{
 };
 pub use methods::move_points;
 pub use moves::{InMethod, Moves, Stays, move_all, moved_all};
+pub use noting::noted_file;
 pub use offsets::moved_offset;
