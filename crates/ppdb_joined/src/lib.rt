@@ -5,6 +5,8 @@
 mod laws;
 mod placing;
 mod sorting;
+#[cfg(test)]
+mod tests;
 mod unnoted;
 
 pub use laws::{joined_is_sound, one_file_stays, worked_joins};
