@@ -18,3 +18,6 @@ pub mod Front
 pub mod Counts
 pub mod SoundItems
 pub mod SoundMoves
+pub mod AtRows
+pub mod ScopesAtRows
+pub mod FileAtRows
