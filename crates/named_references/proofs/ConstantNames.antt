@@ -4,7 +4,7 @@ use Rattle.std.specs.Prelude.{◌==◌, is_some}
 use Rattle.std.specs.List.{flat_map}
 use Rattle.std.proofs.lemmas.List.{map-append}
 use Rattle.std.proofs.lemmas.Grind.{flat_map-append}
-use Rattle.blob_grammar.specs.Grammar.{Value, number, integer, octets, Cut, closed, with_value, cut}
+use Rattle.blob_grammar.specs.Grammar.{Value, number, integer, octets, Cut, with_value, cut}
 use Rattle.blob_grammar.specs.Reader.{front_of}
 use Rattle.type_blobs.specs.declared.types.TypeLimits.{TypeLimits}
 use Rattle.type_blobs.specs.declared.types.Modifier.{Modifier}
@@ -12,7 +12,6 @@ use Rattle.type_blobs.specs.Types.{token_of}
 use Rattle.type_blobs.specs.Constants.{constants, modifier_of, body_of, is_modifier, is_object, is_string, ConstantBody as StoredBody, primitive, enumerated, general, object}
 use Rattle.ppdb_values.specs.Constants.{body_value, body_by}
 use Rattle.ppdb_values.specs.RawFile.{records_of, begun_of}
-use Rattle.rows_in_blobs.specs.declared.row.PlacedRow.{PlacedRow}
 use Rattle.rows_in_blobs.specs.Rows.{constant_type, constant_types}
 use Rattle.ppdb_noted.specs.NamedRows.{Named, in_token, in_body}
 use Rattle.named_references.proofs.FieldWalks.{row_named, Tells, front-names, records-front, begun-front}
@@ -91,8 +90,8 @@ module _ (limits : TypeLimits) where
       by true e =
           rw e
           (append-nil (targets (whole ++ record { required = code == 0x1f; target = token_of n } ∷ []))
-              ∙ map-append (λ (modifier : Modifier). in_token modifier.target) whole (record { required = code == 0x1f; target = token_of n } ∷ [])
-              ∙ ap (λ (l : List Named). l ++ in_token (token_of n) ∷ []) (sym (append-nil (targets whole))))
+          ∙ map-append (λ (modifier : Modifier). in_token modifier.target) whole (record { required = code == 0x1f; target = token_of n } ∷ [])
+          ∙ ap (λ (l : List Named). l ++ in_token (token_of n) ∷ []) (sym (append-nil (targets whole))))
   second whole (number code) at (integer z) = stays whole (number code) [] at (integer z) refl
   second whole (number code) at (octets xs) = stays whole (number code) [] at (octets xs) refl
   second whole (integer z) at value = stays whole (integer z) [] at value refl

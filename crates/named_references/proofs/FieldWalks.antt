@@ -1,11 +1,10 @@
 -- What the fields of a blob tell, summed up by what they make.
-use Rattle.std.proofs.Common.{◌≡◌, ℕ, ◌+◌, true, List, [], ◌∷◌, ◌++◌, length, refl, sym, ap, subst, ◌∙◌, append_assoc, append-nil, map}
+use Rattle.std.proofs.Common.{◌≡◌, ℕ, ◌+◌, true, List, [], ◌∷◌, ◌++◌, length, sym, ap, subst, ◌∙◌, append_assoc, append-nil, map}
 use Rattle.std.specs.List.{flat_map}
 use Rattle.std.proofs.lemmas.List.{map-append}
-use Rattle.blob_grammar.specs.Grammar.{Value, Field, Grammar, Cut, cut, with_value, bytes_of, EachFollows}
+use Rattle.blob_grammar.specs.Grammar.{Value, Field, Grammar, Cut, cut, with_value, EachFollows}
 use Rattle.blob_grammar.specs.Places.{PlacedField, placed_from, placed_of}
-use Rattle.blob_grammar.specs.Reader.{front_of, read_from}
-use Rattle.blob_grammar.specs.Reading.{Reading}
+use Rattle.blob_grammar.specs.Reader.{front_of}
 use Rattle.blob_grammar.proofs.FrontFields.{front_of-longest, longest-front_of}
 use Rattle.blob_grammar.proofs.Fronts.{cut-push}
 use Rattle.blob_grammar.proofs.Readers.{read_from-reads}

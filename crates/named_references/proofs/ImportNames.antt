@@ -1,6 +1,6 @@
 -- The rows that imports name are those of their values.
-use Rattle.std.proofs.Common.{◌≡◌, ℕ, zero, suc, ◌+◌, Bool, true, false, List, [], ◌∷◌, ◌++◌, length, Option, Some, None, refl, sym, ap, ◌∙◌, append_assoc, append-nil, map, arith, slice_get, length-append, cond}
-use Rattle.std.specs.Prelude.{◌==◌, if◌then◌else◌}
+use Rattle.std.proofs.Common.{◌≡◌, ℕ, zero, suc, Bool, true, false, List, [], ◌∷◌, ◌++◌, length, Option, Some, None, refl, sym, ap, ◌∙◌, append_assoc, append-nil, map, arith, slice_get, cond}
+use Rattle.std.specs.Prelude.{◌==◌}
 use Rattle.std.specs.List.{flat_map}
 use Rattle.type_blobs.proofs.Codes.{eq-is}
 use Rattle.std.proofs.lemmas.Grind.{flat_map-append}
@@ -10,9 +10,8 @@ use Rattle.blob_grammar.specs.Reader.{front_of}
 use Rattle.type_blobs.specs.declared.types.TypeLimits.{TypeLimits}
 use Rattle.type_blobs.specs.declared.import_part.ImportPart.{ImportPart}
 use Rattle.type_blobs.specs.declared.import_part.ImportPart.TheVariants.{Kind, Alias, Assembly, Namespace, Target}
-use Rattle.type_blobs.specs.declared.import_part.ImportField.{ImportField}
 use Rattle.type_blobs.specs.Types.{token_of}
-use Rattle.type_blobs.specs.Imports.{ImportItem, imports, import_of, item_of, parts_of, numbers_of, next_part, next_allows, allows, part_allows, import_field, import_fields, field_of}
+use Rattle.type_blobs.specs.Imports.{ImportItem, imports, import_of, item_of, parts_of, numbers_of, next_allows, allows, import_field, field_of}
 use Rattle.ppdb_values.specs.Imports.{import_value}
 use Rattle.ppdb_values.specs.RawFile.{records_of}
 use Rattle.rows_in_blobs.specs.declared.row.PlacedRow.{PlacedRow}

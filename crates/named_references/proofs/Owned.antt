@@ -1,7 +1,7 @@
 -- What constants, imports, state machines and custom records name is what those of the value do.
-use Rattle.std.proofs.Common.{◌≡◌, ℕ, zero, suc, ◌+◌, ◌-◌, Bool, true, false, ◌&&◌, ◌||◌, not, cond, nat_eq, List, [], ◌∷◌, ◌++◌, length, Option, Some, None, refl, sym, ap, ◌∙◌, map, slice_get, drop, take, arith}
-use Rattle.std.specs.Prelude.{nat_lt, is_some, slice_range}
-use Rattle.std.specs.List.{flat_map, filter, enumerate_from}
+use Rattle.std.proofs.Common.{◌≡◌, ℕ, suc, ◌+◌, ◌-◌, Bool, true, false, ◌&&◌, ◌||◌, not, cond, List, [], ◌∷◌, length, Some, refl, sym, ap, ◌∙◌, map, slice_get, drop, arith}
+use Rattle.std.specs.Prelude.{nat_lt, slice_range}
+use Rattle.std.specs.List.{flat_map, filter}
 use Rattle.ppdb_base.specs.Place.{cell}
 use Rattle.blob_grammar.specs.Grammar.{Value, cut}
 use Rattle.blob_grammar.specs.Reader.{front_of}
@@ -10,9 +10,8 @@ use Rattle.blob_grammar.proofs.FrontFields.{longest-front_of}
 use Rattle.custom_info.specs.declared.kinds.Kind.{Kind}
 use Rattle.custom_info.specs.declared.kinds.Kind.TheVariants.{Async, Hoisted, TypeDocuments, Free, Unknown}
 use Rattle.custom_info.specs.Kinds.{kind_of}
-use Rattle.type_blobs.specs.Imports.{imports as import_grammar, ImportItem}
+use Rattle.type_blobs.specs.Imports.{imports as import_grammar}
 use Rattle.ppdb_maps.specs.Map.{Map, is_dropped}
-use Rattle.ppdb_tables.specs.declared.parent.Parent.{Parent}
 use Rattle.ppdb_tables.specs.declared.rows.ScopeRow.{ScopeRow}
 use Rattle.ppdb_tables.specs.declared.rows.ConstantRow.{ConstantRow}
 use Rattle.ppdb_tables.specs.declared.rows.ImportRow.{ImportRow}
@@ -21,10 +20,8 @@ use Rattle.ppdb_tables.specs.declared.rows.CustomRow.{CustomRow}
 use Rattle.ppdb_tables.specs.RawTables.{RawTables, count, numbered, row_at}
 use Rattle.ppdb_values.specs.declared.custom.CustomValue.{CustomValue}
 use Rattle.ppdb_values.specs.declared.import.ImportScopeValue.{ImportScopeValue}
-use Rattle.ppdb_values.specs.declared.import.ImportValue.{ImportValue}
 use Rattle.ppdb_values.specs.declared.noted.Noted.{Noted}
 use Rattle.ppdb_values.specs.declared.scope.ConstantValue.{ConstantValue}
-use Rattle.ppdb_values.specs.declared.scope.ScopeValue.{ScopeValue}
 use Rattle.ppdb_values.specs.Constants.{constant_of}
 use Rattle.ppdb_values.specs.Customs.{custom_of, custom_body, parent_of, kind_in}
 use Rattle.ppdb_values.specs.Imports.{import_scope_of, import_value, heap_of}
@@ -32,14 +29,14 @@ use Rattle.ppdb_values.specs.Owners.{ListsAreOwned, list_of}
 use Rattle.ppdb_values.specs.Parts.{first_item}
 use Rattle.ppdb_values.specs.RawFile.{RawFile, blob, records_of, type_limits}
 use Rattle.ppdb_values.specs.Rules.{KeepsRules}
-use Rattle.ppdb_values.specs.Value.{value_of, scope_of, owned_by}
-use Rattle.value_reading.specs.Scopes.{scope_in, scopes_in}
-use Rattle.ppdb_references.specs.References.{Reference, inside, names as names_at, types_of, of_constant, of_import, of_machine, methods_in, methods_of, of_parent, is_live_parent, of_custom}
+use Rattle.ppdb_values.specs.Value.{value_of, scope_of}
+use Rattle.value_reading.specs.Scopes.{scope_in}
+use Rattle.ppdb_references.specs.References.{names as names_at, types_of, of_constant, of_import, of_machine, methods_in, methods_of, of_parent, is_live_parent, of_custom}
 use Rattle.ppdb_references.specs.Lists.{of_list, of_scope_constants}
 use Rattle.ppdb_references.proofs.ConstantLists.{all-scopes, get_numbered, get_take, get_drop}
 use Rattle.ppdb_noted.specs.declared.file.NotedScope.{NotedScope}
 use Rattle.ppdb_noted.specs.Noted.{noted_file}
-use Rattle.ppdb_noted.specs.NamedRows.{Named, names, in_constant, in_body, in_token, in_import, in_steps, live_scope, live_machine, live_custom}
+use Rattle.ppdb_noted.specs.NamedRows.{Named, names, in_constant, in_import, in_steps, live_scope, live_machine, live_custom}
 use Rattle.named_references.proofs.FieldWalks.{row_named}
 use Rattle.named_references.proofs.ConstantNames.{constant-names}
 use Rattle.named_references.proofs.ImportNames.{import-names}
@@ -74,7 +71,7 @@ module _ (m : Map) (raw : RawFile) (owned : ListsAreOwned) (keeps : KeepsRules r
       (λ i x e. constant-named x.0 x.1 (in-slice (scope.constants - 1) ((scope_in raw.tables (row, scope)).constants.end - 1) i x e))
       ∙ sym (flat_map-made (λ (x : ℕ × ConstantRow). constant_of raw.tables x.1) value_rows list)
       ∙ ap (λ (items : List (ℕ × ConstantRow)). flat_map value_rows (map (λ (x : ℕ × ConstantRow). constant_of raw.tables x.1) items))
-          (sym (owned.constants (λ s. s.constants) raw.tables.scopes row scope raw.tables.constants keeps.constants.lists there))
+      (sym (owned.constants (λ s. s.constants) raw.tables.scopes row scope raw.tables.constants keeps.constants.lists there))
       ∙ sym (noted-items (value_of raw) 0x34 (first_item (λ before. length before.constants) (value_of raw) row) (scope_of raw.tables (row, scope)).constants in_constant value_rows (λ x. refl))
 
   scope-constants : (i : ℕ) (x : ℕ × ScopeRow) → slice_get (numbered raw.tables.scopes) i ≡ Some x
@@ -121,9 +118,9 @@ module _ (m : Map) (raw : RawFile) (owned : ListsAreOwned) (keeps : KeepsRules r
       unplaced-flat (of_import raw.tables) rows
       ∙ flat_map-same (λ x. unplaced (of_import raw.tables x)) (λ x. flat_map in_import (import_scope_of raw.tables x.1).imports) rows
       (λ i x e.
-          let n = get_numbered 1 raw.tables.imports i x e in
-          let up : 1 + i ≡ suc i = omega arith in
-          import-named x.0 x.1 (ap (row_at raw.tables.imports) (n.0 ∙ up) ∙ n.1))
+      let n = get_numbered 1 raw.tables.imports i x e in
+      let up : 1 + i ≡ suc i = omega arith in
+      import-named x.0 x.1 (ap (row_at raw.tables.imports) (n.0 ∙ up) ∙ n.1))
       ∙ unnumbered (λ cells. flat_map in_import (import_scope_of raw.tables cells).imports) 1 raw.tables.imports
       ∙ sym (flat_map-made (import_scope_of raw.tables) (λ (s : ImportScopeValue). flat_map in_import s.imports) raw.tables.imports)
       ∙ sym (noted-items (value_of raw) 0x35 1 (value_of raw).imports (λ (i : Noted ImportScopeValue). flat_map in_import i.item.imports) (λ (s : ImportScopeValue). flat_map in_import s.imports) (λ x. refl))

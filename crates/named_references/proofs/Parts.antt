@@ -1,59 +1,25 @@
 -- Part by part, what a file names is what its value names.
-use Rattle.std.proofs.Common.{◌≡◌, ℕ, zero, suc, ◌+◌, ◌-◌, Bool, true, false, ◌&&◌, ◌||◌, not, cond, nat_eq, List, [], ◌∷◌, ◌++◌, length, Option, Some, None, refl, sym, ap, ◌∙◌, map, slice_get, drop, arith, append-nil}
-use Rattle.std.specs.Prelude.{nat_lt, is_some, slice_range}
-use Rattle.std.specs.List.{flat_map, filter, filter_map, enumerate_from}
+use Rattle.std.proofs.Common.{◌≡◌, ℕ, Bool, true, false, not, cond, nat_eq, List, [], ◌∷◌, Option, Some, None, refl, sym, ap, ◌∙◌, map}
+use Rattle.std.specs.List.{flat_map, filter, filter_map}
 use Rattle.std.specs.Option.{option_map}
-use Rattle.std.proofs.lemmas.List.{map-append}
 use Rattle.std.proofs.lemmas.List.Concat.{flat_map_single}
 use Rattle.ppdb_base.specs.declared.fault.Place.{Place}
 use Rattle.ppdb_base.specs.Place.{at_byte, cell}
-use Rattle.blob_grammar.specs.Grammar.{Value, Field, Grammar, cut}
-use Rattle.blob_grammar.specs.Reader.{front_of}
-use Rattle.blob_grammar.specs.Allowed.{is_between}
-use Rattle.blob_grammar.proofs.FrontFields.{longest-front_of}
-use Rattle.custom_info.specs.declared.kinds.Kind.{Kind}
-use Rattle.custom_info.specs.declared.kinds.Kind.TheVariants.{Async, Hoisted, TypeDocuments, Free, Unknown}
-use Rattle.custom_info.specs.Kinds.{kind_of}
-use Rattle.type_blobs.specs.Imports.{imports as import_grammar, ImportItem}
 use Rattle.ppdb_maps.specs.Map.{Map, is_dropped}
-use Rattle.ppdb_tables.specs.declared.parent.Parent.{Parent}
 use Rattle.ppdb_tables.specs.declared.rows.MethodDebugRow.{MethodDebugRow}
 use Rattle.ppdb_tables.specs.declared.rows.ScopeRow.{ScopeRow}
-use Rattle.ppdb_tables.specs.declared.rows.ConstantRow.{ConstantRow}
-use Rattle.ppdb_tables.specs.declared.rows.ImportRow.{ImportRow}
-use Rattle.ppdb_tables.specs.declared.rows.MachineRow.{MachineRow}
-use Rattle.ppdb_tables.specs.declared.rows.CustomRow.{CustomRow}
-use Rattle.ppdb_tables.specs.RawTables.{RawTables, count, numbered, row_at}
-use Rattle.ppdb_values.specs.declared.custom.CustomValue.{CustomValue}
-use Rattle.ppdb_values.specs.declared.file.FileValue.{FileValue}
+use Rattle.ppdb_tables.specs.RawTables.{RawTables, numbered}
 use Rattle.ppdb_values.specs.declared.file.MethodValue.{MethodValue}
-use Rattle.ppdb_values.specs.declared.import.ImportScopeValue.{ImportScopeValue}
-use Rattle.ppdb_values.specs.declared.noted.Noted.{Noted}
-use Rattle.ppdb_values.specs.declared.scope.ConstantValue.{ConstantValue}
-use Rattle.ppdb_values.specs.declared.scope.ScopeValue.{ScopeValue}
-use Rattle.ppdb_values.specs.Constants.{constant_of}
-use Rattle.ppdb_values.specs.Customs.{custom_of, custom_body, parent_of, kind_in}
 use Rattle.ppdb_values.specs.Documents.{method_of, method_with, signature_in, points_in}
-use Rattle.ppdb_values.specs.Imports.{import_scope_of, import_value, heap_of}
-use Rattle.ppdb_values.specs.Owners.{ListsAreOwned, list_of}
-use Rattle.ppdb_values.specs.Parts.{first_item}
-use Rattle.ppdb_values.specs.RawFile.{RawFile, blob, records_of, type_limits}
-use Rattle.ppdb_values.specs.Rules.{KeepsRules, IsWhole}
-use Rattle.ppdb_values.specs.Value.{value_of, scope_of, owned_by}
-use Rattle.value_reading.specs.Scopes.{scope_in, scopes_in}
+use Rattle.ppdb_values.specs.RawFile.{RawFile, blob}
+use Rattle.ppdb_values.specs.Value.{value_of, scope_of}
 use Rattle.rows_in_blobs.specs.declared.row.PlacedRow.{PlacedRow}
-use Rattle.ppdb_references.specs.References.{Reference, names as names_at, names_some as some_at, inside, of_entry, of_points, of_method, of_scope, types_of, of_constant, of_import, of_machine, methods_in, methods_of, of_parent, is_live_parent, of_custom}
-use Rattle.ppdb_references.specs.Lists.{of_list, of_scope_constants}
-use Rattle.ppdb_references.proofs.ConstantLists.{all-scopes, get_numbered, get_take, get_drop}
+use Rattle.ppdb_references.specs.References.{names as names_at, names_some as some_at, inside, of_entry, of_points, of_method, of_scope}
 use Rattle.ppdb_noted.specs.declared.file.NotedScope.{NotedScope}
 use Rattle.ppdb_noted.specs.Noted.{noted_file, noted_scope}
-use Rattle.ppdb_noted.specs.NamedRows.{Named, names, names_some, in_entry, in_constant, in_body, in_token, in_import, in_steps, live_file, live_method, live_scope, live_machine, live_custom}
-use Rattle.named_references.specs.Laws.{named_by}
+use Rattle.ppdb_noted.specs.NamedRows.{Named, names, names_some, in_entry, live_file, live_method, live_scope}
 use Rattle.named_references.proofs.FieldWalks.{row_named}
-use Rattle.named_references.proofs.ConstantNames.{constant-names}
-use Rattle.named_references.proofs.ImportNames.{import-names}
-use Rattle.named_references.proofs.StepNames.{step-names}
-use Rattle.named_references.proofs.Listed.{unplaced, flat_map-made, flat_map-same, unplaced-flat, named-mapped, named-filtered, unnumbered, numbered-out, numbered-made, numbered-value, map-twice, noted-items, filter-both}
+use Rattle.named_references.proofs.Listed.{unplaced, unplaced-flat, named-mapped, named-filtered, numbered-made, map-twice}
 
 some-named : (place : Place) (table row : ℕ) → unplaced (some_at place table row) ≡ names_some table row
 some-named place table row = by (nat_eq row 0)

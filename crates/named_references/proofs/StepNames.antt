@@ -1,14 +1,13 @@
 -- The methods that async stepping information names are those of its steps.
-use Rattle.std.proofs.Common.{◌≡◌, ℕ, zero, suc, Bool, true, false, List, [], ◌∷◌, ◌++◌, Option, Some, None, refl, sym, ap, ◌∙◌, append_assoc, append-nil, map}
+use Rattle.std.proofs.Common.{◌≡◌, ℕ, true, List, [], ◌∷◌, ◌++◌, refl, sym, ap, ◌∙◌, append-nil, map}
 use Rattle.std.specs.List.{flat_map, filter_map}
 use Rattle.std.proofs.lemmas.Grind.{flat_map-append}
-use Rattle.blob_grammar.specs.Grammar.{Value, number, integer, octets, Cut, closed, with_value, cut}
+use Rattle.blob_grammar.specs.Grammar.{Value, number, integer, octets, Cut, with_value, cut}
 use Rattle.blob_grammar.specs.Reader.{front_of}
 use Rattle.custom_info.specs.declared.stepping.AsyncStep.{AsyncStep}
-use Rattle.custom_info.specs.AsyncStepping.{async_stepping, Entry, catch_handler, await_step, handler_of, step_of as step_with}
+use Rattle.custom_info.specs.AsyncStepping.{async_stepping, Entry, catch_handler, await_step}
 use Rattle.ppdb_values.specs.Customs.{step_of, async_body}
 use Rattle.ppdb_values.specs.RawFile.{records_of}
-use Rattle.rows_in_blobs.specs.declared.row.PlacedRow.{PlacedRow}
 use Rattle.rows_in_blobs.specs.Rows.{resume_method, resume_methods}
 use Rattle.ppdb_noted.specs.NamedRows.{Named, names, in_steps}
 use Rattle.named_references.proofs.FieldWalks.{row_named, Tells, front-names, front-good, records-front}

@@ -1,5 +1,5 @@
 -- All that a file names is all that its value names.
-use Rattle.std.proofs.Common.{◌≡◌, Bool, List, ◌++◌, refl, sym, ap, ◌∙◌, append_assoc, map}
+use Rattle.std.proofs.Common.{◌≡◌, Bool, List, ◌++◌, ap, ◌∙◌, append_assoc, map}
 use Rattle.std.specs.List.{flat_map}
 use Rattle.std.proofs.lemmas.List.{map-append}
 use Rattle.ppdb_maps.specs.Map.{Map}
@@ -37,10 +37,10 @@ all-named owned first m raw keeps =
     let machines : List Named = flat_map machine_rows file.machines in
     let customs : List Named = flat_map custom_rows file.customs in
     let first_tables =
-        both (flat_map (of_method m t) (numbered t.methods)) (flat_map (of_scope m) (numbered t.scopes) ++ flat_map (of_constant m t) (numbered t.constants)) methods (scopes ++ constants) (methods-named m t)
-        (both (flat_map (of_scope m) (numbered t.scopes)) (flat_map (of_constant m t) (numbered t.constants)) scopes constants (scopes-named m raw) (constants-named m raw owned keeps)) in
+    both (flat_map (of_method m t) (numbered t.methods)) (flat_map (of_scope m) (numbered t.scopes) ++ flat_map (of_constant m t) (numbered t.constants)) methods (scopes ++ constants) (methods-named m t)
+    (both (flat_map (of_scope m) (numbered t.scopes)) (flat_map (of_constant m t) (numbered t.constants)) scopes constants (scopes-named m raw) (constants-named m raw owned keeps)) in
     let last_tables =
-        both (flat_map (of_import t) (numbered t.imports)) (flat_map (of_machine m) (numbered t.machines) ++ flat_map (of_custom m t) (numbered t.customs)) imports (machines ++ customs) (imports-named m raw owned keeps)
-        (both (flat_map (of_machine m) (numbered t.machines)) (flat_map (of_custom m t) (numbered t.customs)) machines customs (machines-named m t) (customs-named m t)) in
+    both (flat_map (of_import t) (numbered t.imports)) (flat_map (of_machine m) (numbered t.machines) ++ flat_map (of_custom m t) (numbered t.customs)) imports (machines ++ customs) (imports-named m raw owned keeps)
+    (both (flat_map (of_machine m) (numbered t.machines)) (flat_map (of_custom m t) (numbered t.customs)) machines customs (machines-named m t) (customs-named m t)) in
     both (of_entry first m raw.entry) (of_methods m t ++ of_others m t) (in_entry first file) (methods ++ (scopes ++ (constants ++ (imports ++ (machines ++ customs))))) (entry-named first m raw)
     (both (of_methods m t) (of_others m t) (methods ++ (scopes ++ constants)) (imports ++ (machines ++ customs)) first_tables last_tables ∙ regroup methods scopes constants (imports ++ (machines ++ customs)))
