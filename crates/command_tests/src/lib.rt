@@ -14,8 +14,6 @@ mod links;
 #[cfg(test)]
 mod query;
 #[cfg(test)]
-mod rebuild;
-#[cfg(test)]
 mod rules;
 #[cfg(test)]
 mod running;
