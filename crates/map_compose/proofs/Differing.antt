@@ -1,14 +1,17 @@
 -- The first method whose sizes differ.
-use Rattle.std.proofs.Common.{ℕ, zero, suc, ◌≡◌, ◌+◌, ◌<◌, ◌≤◌, Bool, true, false, cond, List, [], ◌∷◌, length, map, refl, sym, ap, ◌∙◌, arith, subst, inl}
-use Rattle.std.proofs.Common.{inr, Option, Some, None}
+use Rattle.std.proofs.Common.{ℕ, zero, suc, ◌≡◌, ◌⊎◌, inl, inr, ◌+◌, ◌<◌, ◌≤◌, Bool, true, false, cond, List, [], ◌∷◌, length, map, refl, sym, ap, ◌∙◌, arith}
+use Rattle.std.proofs.Common.{subst}
+use Rattle.std.proofs.Common.{Option, Some, None}
 use Rattle.std.specs.Prelude.{nat_eq}
 use Rattle.std.specs.List.{find, slice_get}
 use Rattle.std.specs.List.Sorted.{IsStrictlySortedBy}
 use Rattle.std.specs.Option.{option_map}
 use Rattle.std.proofs.lemmas.Bool.{cases_lt, eqb-true}
-use Rattle.ppdb_maps.specs.Map.{Map, MethodLine}
+use Rattle.ppdb_maps.specs.Map.{Map, MethodLine, method_line}
 use Rattle.ppdb_maps.specs.Readable.{IsReadable}
-use Rattle.map_compose.specs.Sizes.{SizesDiffer, SizesAgree, IsFirstDiffering}
+use Rattle.map_compose.specs.Composed.{has_image, second_line}
+use Rattle.map_compose.specs.Sizes.{SizesDiffer, SizesAgree, IsFirstDiffering, FirstDiffering, SizesAreJudged}
+use Rattle.map_compose.proofs.Found.{either}
 use Rattle.map_compose.proofs.Orders.{Up, Above, less}
 
 abbrev number : MethodLine → ℕ
@@ -98,4 +101,91 @@ first_is f s index method first second readable is differ none = record {
             let le = at_up f.methods index at.0 line.0 at.1.0 readable.ascends.methods later line.1.0 at.1.1.0 in
             let p = line.1.1 in let q = at.1.1.1 in omega (arith, le, p, q)
       ];
+}
+
+-- ---- the sizes are judged
+
+record Differs (f s : Map) (method : ℕ) : Type 0 where
+  first : ℕ
+  second : ℕ
+  is : SizesDiffer f s method first second
+
+judge_one : (f s : Map) (method : ℕ) → Differs f s method ⊎ ((a b : ℕ) → SizesDiffer f s method a b → ⊥)
+judge_one f s method = of (has_image f s method) (method_line f method) (second_line f s method) refl refl refl
+  where
+    by : (a b : MethodLine) → has_image f s method ≡ true → method_line f method ≡ Some a → second_line f s method ≡ Some b
+        → (a.new_size ≡ b.old_size) ⊎ (a.new_size ≡ b.old_size → ⊥) → Differs f s method ⊎ ((x y : ℕ) → SizesDiffer f s method x y → ⊥)
+    by a b there before after (inr differ) =
+        inl (record {
+          first = a.new_size;
+          second = b.old_size;
+          is =
+              record { a = a; b = b; there = there; before = before; after = after; sizes = (refl, refl, differ) };
+        })
+    by a b there before after (inl same) = inr (λ x y found.
+        let p : Some a ≡ Some found.a = sym before ∙ found.before in
+        let q : Some b ≡ Some found.b = sym after ∙ found.after in
+        let one : a ≡ found.a = cc in
+        let two : b ≡ found.b = cc in
+        found.sizes.2 (sym found.sizes.0 ∙ (ap (λ (l : MethodLine). l.new_size) (sym one)
+        ∙ (same ∙ (ap (λ (l : MethodLine). l.old_size) two ∙ found.sizes.1)))))
+
+    of : (t : Bool) (o p : Option MethodLine) → has_image f s method ≡ t → method_line f method ≡ o → second_line f s method ≡ p
+        → Differs f s method ⊎ ((a b : ℕ) → SizesDiffer f s method a b → ⊥)
+    of false o p there before after = inr (λ a b found. let e : false ≡ true = sym there ∙ found.there in absurd (cc))
+    of true None p there before after = inr (λ a b found. let e : None ≡ Some found.a = sym before ∙ found.before in absurd (cc))
+    of true (Some l) None there before after = inr (λ a b found. let e : None ≡ Some found.b = sym after ∙ found.after in absurd (cc))
+    of true (Some l) (Some k) there before after = by l k there before after (either l.new_size k.old_size)
+
+there_is : (ls : List MethodLine) (i : ℕ) → i < length ls → (l : MethodLine) × (slice_get ls i ≡ Some l)
+there_is [] i less = absurd (omega (arith, less))
+there_is (l ∷ ls) zero less = (l, refl)
+there_is (l ∷ ls) (suc i) less = there_is ls i (omega (arith, less))
+
+past_is : (ls : List MethodLine) (i : ℕ) → length ls ≤ i → slice_get ls i ≡ None
+past_is [] i le = refl
+past_is (l ∷ ls) zero le = absurd (omega (arith, le))
+past_is (l ∷ ls) (suc i) le = past_is ls i (omega (arith, le))
+
+judge_from : (f s : Map) → IsReadable f → (left i : ℕ) → i + left ≡ length f.methods → NoneOf f s i → SizesAgree f s ⊎ FirstDiffering f s
+judge_from f s readable zero i is none = inl (none_all f s i (ap (option_map (λ (l : MethodLine). l.method)) (past_is f.methods i (omega (arith, is)))) none)
+judge_from f s readable (suc left) i is none =
+    let line = there_is f.methods i (omega (arith, is)) in
+    let numbered = ap (option_map (λ (l : MethodLine). l.method)) line.1 in
+    next line.0.method numbered (judge_one f s line.0.method) (judge_from f s readable left (i + 1) (omega (arith, is)))
+  where
+    next : (method : ℕ) → option_map (λ (l : MethodLine). l.method) (slice_get f.methods i) ≡ Some method
+        → Differs f s method ⊎ ((a b : ℕ) → SizesDiffer f s method a b → ⊥) → (NoneOf f s (i + 1) → SizesAgree f s ⊎ FirstDiffering f s)
+        → SizesAgree f s ⊎ FirstDiffering f s
+    next method numbered (inl differs) rest =
+        inr (record {
+          method = method;
+          first = differs.first;
+          second = differs.second;
+          is =
+              first_is f s i method differs.first differs.second readable numbered differs.is none;
+        })
+    next method numbered (inr agree) rest = rest (none_next f s i method numbered agree none)
+
+one_first : (f s : Map) (method first second other a b : ℕ) → IsFirstDiffering f s method first second → IsFirstDiffering f s other a b
+    → (method ≡ other) × (first ≡ a) × (second ≡ b)
+one_first f s method first second other a b this that =
+    let le = this.least other a b that.differ in
+    let ge = that.least method first second this.differ in
+    let same : method ≡ other = omega (arith, le, ge) in
+    let moved : SizesDiffer f s method a b = subst (λ m. SizesDiffer f s m a b) (sym same) that.differ in
+    let p : Some this.differ.a ≡ Some moved.a = sym this.differ.before ∙ moved.before in
+    let q : Some this.differ.b ≡ Some moved.b = sym this.differ.after ∙ moved.after in
+    let one : this.differ.a ≡ moved.a = cc in
+    let two : this.differ.b ≡ moved.b = cc in (
+      same,
+      sym this.differ.sizes.0 ∙ (ap (λ (l : MethodLine). l.new_size) one ∙ moved.sizes.0),
+      sym this.differ.sizes.1 ∙ (ap (λ (l : MethodLine). l.old_size) two ∙ moved.sizes.1),
+    )
+
+pub sizes_are_judged : SizesAreJudged
+sizes_are_judged = record {
+  judged = λ f s readable. judge_from f s readable (length f.methods) 0 (omega arith) (λ j l below. absurd (omega (arith, below)));
+  one = one_first;
+  apart = λ f s method first second agree this. agree method first second this.differ;
 }

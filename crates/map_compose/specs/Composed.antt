@@ -1,4 +1,4 @@
--- The map of two maps, one after the other: what the first makes of a row, an offset or a slot, the second takes on.
+-- The map of two maps (docs/FORMAT.md, "Two maps made into one"): what the first makes of a row, an offset or a slot, the second takes on.
 use Rattle.std.specs.Prelude.{ℕ, ◌&&◌, ◌||◌, Bool, false, cond, List, [], ◌++◌, Option, Some, None, is_some, map}
 use Rattle.std.specs.List.{filter, filter_map, flat_map, range_with_len}
 use Rattle.std.specs.Option.{option_map, option_and_then, option_or}

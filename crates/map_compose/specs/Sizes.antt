@@ -1,6 +1,7 @@
--- Where two maps do not follow one another: a method's size after the first is not its size before the second.
-use Rattle.std.specs.Prelude.{◌≡◌, ◌≢◌, ℕ, ◌≤◌, true, Some}
+-- Where two maps do not follow one another (docs/FORMAT.md, "Two maps made into one"): a method's size after the first is not that before the second.
+use Rattle.std.specs.Prelude.{◌≡◌, ◌≢◌, ℕ, ◌≤◌, ◌⊎◌, true, Some}
 use Rattle.ppdb_maps.specs.Map.{Map, MethodLine, method_line}
+use Rattle.ppdb_maps.specs.Readable.{IsReadable}
 use Rattle.map_compose.specs.Composed.{has_image, second_line}
 
 -- the method is there after both, and its sizes are these
@@ -17,5 +18,19 @@ pub record IsFirstDiffering (f s : Map) (method first second : ℕ) : Type 0 whe
   pub differ : SizesDiffer f s method first second
   pub least : (other a b : ℕ) → SizesDiffer f s other a b → method ≤ other
 
+-- there is one
+pub record FirstDiffering (f s : Map) : Type 0 where
+  pub method : ℕ
+  pub first : ℕ
+  pub second : ℕ
+  pub is : IsFirstDiffering f s method first second
+
 abbrev pub SizesAgree : Map → Map → Type 0
 SizesAgree f s = (method first second : ℕ) → SizesDiffer f s method first second → ⊥
+
+-- the sizes of two readable maps agree, or there is a first method that differs, which is one; and not both
+pub record SizesAreJudged : Type 0 where
+  pub judged : (f s : Map) → IsReadable f → SizesAgree f s ⊎ FirstDiffering f s
+  pub one : (f s : Map) (method first second other a b : ℕ) → IsFirstDiffering f s method first second → IsFirstDiffering f s other a b
+      → (method ≡ other) × (first ≡ a) × (second ≡ b)
+  pub apart : (f s : Map) (method first second : ℕ) → SizesAgree f s → IsFirstDiffering f s method first second → ⊥

@@ -1,6 +1,7 @@
 // What holds of the map of two maps.
 ghost use Rattle.map_compose.specs.Laws.{RunsCompose};
 ghost use Rattle.map_compose.specs.Composition.{ComposedComposes, ComposedIsReadable, NextComposes};
+ghost use Rattle.map_compose.specs.Sizes.{SizesAreJudged};
 ghost use Rattle.map_compose.specs.Worked.{WorkedComposed};
 
 /// What runs of two rewritings keep, one after the other, and that joined runs keep the same.
@@ -27,4 +28,9 @@ pub fn next_composes()
 /// The worked maps and their texts.
 pub fn worked_maps()
     ensures { WorkedComposed }
+{}
+
+/// The sizes of two maps agree, or there is a first method that differs, which is one.
+pub fn sizes_are_judged()
+    ensures { SizesAreJudged }
 {}

@@ -18,4 +18,7 @@ mod tests;
 
 pub use compose::compose_maps;
 pub use error::ComposeError;
-pub use laws::{composed_composes, composed_is_readable, next_composes, runs_compose, worked_maps};
+pub use laws::{
+    composed_composes, composed_is_readable, next_composes, runs_compose, sizes_are_judged,
+    worked_maps,
+};
