@@ -1,11 +1,10 @@
 -- The chain of a file's import scope is the same where the file's import scopes stand among others.
-use Rattle.std.proofs.Common.{◌≡◌, ℕ, zero, suc, ◌+◌, ◌≤◌, ◌<◌, ◌++◌, List, [], ◌∷◌, Option, Some, None, length, map, refl, sym, ◌∙◌, ap, subst, arith, inl}
-use Rattle.std.proofs.Common.{inr, slice_get}
+use Rattle.std.proofs.Common.{◌≡◌, ℕ, zero, suc, ◌+◌, ◌≤◌, ◌++◌, List, ◌∷◌, Option, Some, None, length, map, refl, sym, ◌∙◌, ap, arith}
+use Rattle.std.proofs.Common.{slice_get}
 use Rattle.std.specs.Option.{option_map}
-use Rattle.std.proofs.lemmas.Bool.{cases_lt}
 use Rattle.std.proofs.lemmas.List.{length-append, length-map}
 use Rattle.ppdb_tables.specs.RawTables.{row_at}
-use Rattle.ppdb_values.specs.Chains.{NeverEnds, parent_at, chain_for, chain_of, link_and}
+use Rattle.ppdb_values.specs.Chains.{chain_for, chain_of, link_and}
 use Rattle.ppdb_values.specs.declared.import.ImportScopeValue.{ImportScopeValue}
 use Rattle.ppdb_values.specs.declared.import.ImportValue.{ImportValue}
 use Rattle.ppdb_values.specs.declared.noted.Noted.{Noted}

@@ -1,52 +1,26 @@
 -- Inputs that fit can be joined, and what each says of a method is kept.
-use Rattle.std.proofs.Common.{◌≡◌, ◌≢◌, ℕ, zero, suc, ◌+◌, ◌≤◌, ◌<◌, ◌++◌, ◌&&◌, Bool, true, false, cond, List, [], ◌∷◌, Option, Some, None, length, map}
-use Rattle.std.proofs.Common.{flat_map, refl, sym, ◌∙◌, ap, subst, arith}
-use Rattle.std.specs.Prelude.{nat_eq, Contains, unwrap_or}
-use Rattle.std.specs.List.{filter, repeat}
-use Rattle.std.specs.Option.{option_map, option_and_then}
-use Rattle.std.proofs.lemmas.Bool.{eqb-true, ne_eqb}
-use Rattle.ppdb_base.specs.Offsets.{Kept}
-use Rattle.ppdb_maps.specs.Map.{Map, moved_row, row_image, offsets_in, is_dropped}
+use Rattle.std.proofs.Common.{◌≡◌, ◌≢◌, ℕ, ◌+◌, ◌++◌, Bool, List, [], ◌∷◌, Some, map}
+use Rattle.std.proofs.Common.{flat_map, refl, sym, ◌∙◌, ap}
+use Rattle.std.specs.Prelude.{nat_eq}
+use Rattle.std.specs.List.{filter}
+use Rattle.std.proofs.lemmas.Bool.{eqb-true}
+use Rattle.ppdb_maps.specs.Map.{Map}
 use Rattle.ppdb_tables.specs.declared.rows.MachineRow.{MachineRow}
 use Rattle.ppdb_values.specs.declared.custom.CustomValue.{CustomValue}
-use Rattle.ppdb_values.specs.declared.file.FileValue.{FileValue}
 use Rattle.ppdb_values.specs.declared.file.MethodValue.{MethodValue}
-use Rattle.ppdb_values.specs.declared.file.DocumentValue.{DocumentValue}
-use Rattle.ppdb_values.specs.Links.{Links, links, kickoff_of, move_next_of}
-use Rattle.ppdb_values.specs.Meaning.{Meaning, meaning}
-use Rattle.sound_values.specs.Customs.{coded_of}
-use Rattle.sound_values.specs.Sound.{IsSound}
 use Rattle.ppdb_noted.specs.declared.file.NotedScope.{NotedScope}
 use Rattle.ppdb_noted.specs.declared.file.NotedFile.{NotedFile}
 use Rattle.ppdb_noted.specs.Each.{Each, Pairs}
 use Rattle.ppdb_noted.specs.Laws.{SoundnessIsNoted}
-use Rattle.ppdb_noted.specs.NamedRows.{Named, names, named_rows}
 use Rattle.ppdb_noted.specs.Noted.{noted_file}
-use Rattle.ppdb_noted.specs.NotedMeaning.{noted_meaning, noted_links}
-use Rattle.ppdb_noted.specs.SoundParts.{SoundParts, SoundMoved}
-use Rattle.ppdb_noted.specs.Unnoted.{value_of_noted}
-use Rattle.ppdb_noted.proofs.Files.{file_back}
+use Rattle.ppdb_noted.specs.SoundParts.{SoundMoved}
 use Rattle.ppdb_noted.proofs.Lists.{Each-append, Each-filter, Each-map, Each-weaker, Pairs-map}
-use Rattle.ppdb_noted.proofs.NotedMeanings.{meaning_is, links_are}
-use Rattle.ppdb_noted.proofs.Orders.{in_order_each, in_order_rises, pairs_of}
 use Rattle.ppdb_joined.specs.Joinable.{AreJoinable, AgreeOnDocuments, AreApart, methods_of}
-use Rattle.ppdb_joined.specs.Joined.{joined, joined_documents, joined_rows, row_in, renumbered_all, renumbered_custom}
 use Rattle.ppdb_joined.proofs.Each.{Each-flat}
-use Rattle.ppdb_joined.proofs.Kept.{fresh_each}
-use Rattle.ppdb_moved.specs.Fits.{IsImaged}
-use Rattle.ppdb_moved.specs.Images.{meaning_image, links_image}
-use Rattle.ppdb_moved.specs.Laws.{IsImageOfNamed, MovedNames, MovedMeans}
+use Rattle.ppdb_moved.specs.Laws.{IsImageOfNamed, MovedNames}
 use Rattle.ppdb_moved.specs.Moved.{moved_file}
-use Rattle.ppdb_moved.proofs.Elements.{in_each}
-use Rattle.ppdb_moved.proofs.Fitting.{fits_file, moved_dropped}
-use Rattle.ppdb_moved.proofs.Means.{files_mean}
-use Rattle.ppdb_moved.proofs.NamedRows.{named_rows_are_rows}
-use Rattle.ppdb_moved.proofs.RowImages.{moved_is_image, row_moved}
 use Rattle.ppdb_moved.proofs.SoundMoves.{moved_sound, moved_names}
-use Rattle.kept_meanings.specs.Kept.{MovedBy, Input, in_turn, named_by, NamesMethod, FitsAlone, MethodsApart, InputsFit, moved_input, joined_inputs}
-use Rattle.kept_meanings.specs.Kept.{KeepsMeaning}
-use Rattle.kept_meanings.specs.Laws.{SaysNothingOf, SaysTheSame}
-use Rattle.kept_meanings.proofs.Joins.{joined_means, each_mid, pairs_before, pairs_after, joined_customs}
+use Rattle.kept_meanings.specs.Kept.{Input, FitsAlone, MethodsApart, moved_input}
 use Rattle.kept_meanings.proofs.MoreRows.{sound_moved}
 
 -- ---- lists

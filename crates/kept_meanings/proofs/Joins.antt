@@ -1,11 +1,11 @@
 -- Joined files say of a method what the file says that alone says something of it.
-use Rattle.std.proofs.Common.{◌≡◌, ◌≢◌, ℕ, zero, suc, ◌+◌, ◌≤◌, ◌<◌, ◌++◌, ◌&&◌, ◌||◌, ◌⊎◌, inl, inr, not, Bool, true, false, cond, List, [], ◌∷◌, Option}
-use Rattle.std.proofs.Common.{Some, None, length, map, flat_map, refl, sym, ◌∙◌, ap, subst, arith, append-nil, append_assoc}
+use Rattle.std.proofs.Common.{◌≡◌, ◌≢◌, ℕ, zero, suc, ◌+◌, ◌≤◌, ◌<◌, ◌++◌, ◌&&◌, ◌||◌, Bool, true, false, cond, List, [], ◌∷◌, Option}
+use Rattle.std.proofs.Common.{Some, None, length, map, flat_map, refl, sym, ◌∙◌, ap, subst, arith, append_assoc}
 use Rattle.std.specs.Prelude.{nat_eq, nat_le, unwrap_or, is_none, position, bytes_eq}
-use Rattle.std.specs.List.{filter, filter_map, find, list_any, enumerate_from, repeat}
+use Rattle.std.specs.List.{filter, find, list_any, repeat}
 use Rattle.std.specs.Option.{option_map, option_and_then}
 use Rattle.std.proofs.lemmas.List.{length-append, length-map}
-use Rattle.std.proofs.lemmas.Bool.{eq-eqb, ne_eqb, eqb-true, and_parts, both_ways}
+use Rattle.std.proofs.lemmas.Bool.{ne_eqb, eqb-true, and_parts}
 use Rattle.custom_info.specs.Kinds.{kind_of}
 use Rattle.custom_info.specs.declared.kinds.Kind.{Kind}
 use Rattle.custom_info.specs.declared.kinds.Kind.TheVariants as kinds
@@ -18,7 +18,6 @@ use Rattle.ppdb_values.specs.declared.custom.CustomValue.{CustomValue}
 use Rattle.ppdb_values.specs.declared.file.DocumentValue.{DocumentValue}
 use Rattle.ppdb_values.specs.declared.file.MethodValue.{MethodValue}
 use Rattle.ppdb_values.specs.declared.noted.Noted.{Noted}
-use Rattle.ppdb_values.specs.Links.{kickoff_of, move_next_of}
 use Rattle.ppdb_values.specs.Meaning.{PointMeaning, without_parent}
 use Rattle.ppdb_values.specs.Parts.{slots_in}
 use Rattle.sound_values.specs.Customs.{SoundCustom, IsBodyOfKind, coded_of}
@@ -30,14 +29,14 @@ use Rattle.ppdb_values.specs.declared.import.ImportScopeValue.{ImportScopeValue}
 use Rattle.ppdb_values.specs.Chains.{parent_at}
 use Rattle.ppdb_values.proofs.ChainEnds.{chains_end}
 use Rattle.kept_meanings.proofs.ImportChains.{chain_kept}
-use Rattle.ppdb_noted.specs.NotedMeaning.{last_of, held, scopes_at, point_at, method_of, point_meaning, document_at, on_method, slots_among, slots_at}
+use Rattle.ppdb_noted.specs.NotedMeaning.{last_of, held, scopes_at, point_at, method_of, point_meaning, document_at, on_method, slots_among}
 use Rattle.ppdb_noted.specs.NotedMeaning.{noted_meaning, scope_meaning, chain, imported}
 use Rattle.ppdb_noted.specs.SoundParts.{SoundMoved}
 use Rattle.ppdb_noted.specs.Sorted.{in_order}
 use Rattle.ppdb_noted.proofs.Lists.{Each-weaker, Each-map, Each-unmap, Each-append, Each-filter}
 use Rattle.ppdb_noted.proofs.Mapped.{filter_map_both, row_map}
 use Rattle.ppdb_noted.proofs.Orders.{in_order_keeps, in_order_filter}
-use Rattle.ppdb_joined.specs.Joinable.{AreJoinable, AgreeOnDocuments, methods_of}
+use Rattle.ppdb_joined.specs.Joinable.{AreJoinable, AgreeOnDocuments}
 use Rattle.ppdb_joined.specs.Joined.{joined, joined_documents, joined_rows, row_in, row_named, renumbered, renumbered_all, renumbered_method}
 use Rattle.ppdb_joined.specs.Joined.{renumbered_scope, renumbered_custom, renumbered_import, shifted, with_documents, joined_document, firsts}
 use Rattle.ppdb_joined.specs.Same.{fresh, same_record}

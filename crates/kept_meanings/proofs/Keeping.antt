@@ -4,7 +4,7 @@ use Rattle.std.proofs.Common.{refl, sym, ◌∙◌, ap, subst, arith}
 use Rattle.std.specs.Prelude.{nat_eq, nat_le, AllPairs, Contains}
 use Rattle.std.specs.List.{filter, find, last_or}
 use Rattle.std.specs.Option.{option_map, option_and_then}
-use Rattle.std.proofs.lemmas.Bool.{eqb-true, ne_eqb}
+use Rattle.std.proofs.lemmas.Bool.{ne_eqb}
 use Rattle.ppdb_base.specs.Offsets.{Kept, moved}
 use Rattle.ppdb_base.proofs.Moved.{moved_kept}
 use Rattle.sequence_points.specs.declared.point.Point.{Point}
@@ -14,14 +14,13 @@ use Rattle.ppdb_maps.specs.Map.{Map, moved_row, row_image, offsets_in, is_droppe
 use Rattle.ppdb_values.specs.declared.custom.CustomValue.{CustomValue}
 use Rattle.ppdb_values.specs.declared.file.FileValue.{FileValue}
 use Rattle.ppdb_values.specs.declared.file.DocumentValue.{DocumentValue}
-use Rattle.ppdb_values.specs.declared.noted.Custom.{Custom}
-use Rattle.ppdb_values.specs.Links.{Links, links, kickoff_of, move_next_of}
+use Rattle.ppdb_values.specs.Links.{links, kickoff_of, move_next_of}
 use Rattle.ppdb_values.specs.Meaning.{Meaning, PointMeaning, meaning, point_meaning}
 use Rattle.sound_values.specs.Customs.{coded_of}
 use Rattle.ppdb_noted.specs.declared.file.NotedFile.{NotedFile}
 use Rattle.ppdb_noted.specs.Each.{Each, Pairs}
 use Rattle.ppdb_noted.specs.Laws.{SoundnessIsNoted}
-use Rattle.ppdb_noted.specs.NamedRows.{Named, names, names_some, named_rows, in_entry, all_named, live_file}
+use Rattle.ppdb_noted.specs.NamedRows.{names, names_some, named_rows, in_entry, all_named, live_file}
 use Rattle.ppdb_noted.specs.Noted.{noted_file}
 use Rattle.ppdb_noted.specs.NotedMeaning.{noted_meaning, noted_links}
 use Rattle.ppdb_noted.specs.SoundParts.{SoundMoved}
@@ -38,14 +37,13 @@ use Rattle.ppdb_moved.specs.Fits.{IsImaged}
 use Rattle.ppdb_moved.specs.FitsMethod.{FitsFile}
 use Rattle.ppdb_moved.specs.Images.{meaning_image, links_image, partner_image, point_image}
 use Rattle.ppdb_moved.specs.Laws.{IsImageOfNamed, MovedMeans}
-use Rattle.ppdb_moved.specs.Moved.{moved_file, moved_body}
-use Rattle.ppdb_moved.proofs.Elements.{in_each, each_in}
+use Rattle.ppdb_moved.proofs.Elements.{in_each}
 use Rattle.ppdb_moved.proofs.Fitting.{fits_file, moved_dropped}
 use Rattle.ppdb_moved.proofs.Means.{files_mean}
 use Rattle.ppdb_moved.proofs.NamedRows.{named_rows_are_rows}
 use Rattle.ppdb_moved.proofs.RowImages.{moved_is_image, row_moved}
-use Rattle.kept_meanings.specs.Kept.{MovedBy, Input, in_turn, named_by, NamesMethod, FitsAlone, MethodsApart, InputsFit, moved_input, joined_inputs}
-use Rattle.kept_meanings.specs.Kept.{KeepsMeaning, InputsKeepMeaning}
+use Rattle.kept_meanings.specs.Kept.{MovedBy, Input, named_by, NamesMethod, FitsAlone, MethodsApart, InputsFit, moved_input, joined_inputs}
+use Rattle.kept_meanings.specs.Kept.{InputsKeepMeaning}
 use Rattle.kept_meanings.specs.Laws.{SaysNothingOf, SaysTheSame}
 use Rattle.kept_meanings.proofs.Inputs.{map_split, input_sound, input_names, can_be_joined}
 use Rattle.kept_meanings.proofs.LastPoints.{found_each, last_at, last_in}

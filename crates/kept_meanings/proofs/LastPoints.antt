@@ -1,5 +1,5 @@
 -- The last point that is not after an offset.
-use Rattle.std.proofs.Common.{◌≡◌, ℕ, zero, suc, ◌≤◌, ◌<◌, ◌⊎◌, inl, inr, Bool, true, false, cond, List, [], ◌∷◌, Option, Some, None, refl, ap, subst, arith}
+use Rattle.std.proofs.Common.{◌≡◌, ℕ, zero, suc, ◌<◌, ◌⊎◌, inl, inr, Bool, true, false, cond, List, [], ◌∷◌, Option, Some, None, refl, subst, arith}
 use Rattle.std.specs.Prelude.{nat_le, AllPairs, All, Contains}
 use Rattle.std.specs.List.{filter, find, last_or}
 use Rattle.std.proofs.lemmas.Bool.{le-leb, lt-leb}

@@ -1,23 +1,17 @@
 -- A file that is sound is sound where more rows are counted.
-use Rattle.std.proofs.Common.{◌≡◌, ◌≢◌, ℕ, ◌<◌, ◌≤◌, ◌⊎◌, Bool, true, false, cond, List, [], ◌∷◌, Option, Some, None, refl, sym, ap, subst, arith, inl, inr}
-use Rattle.std.specs.Prelude.{nat_eq, All, slice_index, get_or}
+use Rattle.std.proofs.Common.{◌≡◌, ℕ, ◌<◌, ◌≤◌, ◌⊎◌, Bool, true, false, cond, List, [], ◌∷◌, sym, subst, arith, inl, inr}
+use Rattle.std.specs.Prelude.{nat_eq, slice_index, get_or}
 use Rattle.std.specs.List.{repeat}
-use Rattle.std.proofs.lemmas.Bool.{cases_lt, ne_eqb, eqb-true}
+use Rattle.std.proofs.lemmas.Bool.{cases_lt, ne_eqb}
 use Rattle.type_blobs.specs.declared.types.TypeToken.{TypeToken}
-use Rattle.type_blobs.specs.declared.types.Modifier.{Modifier}
-use Rattle.type_blobs.specs.Types.{IsToken, IsThere, rows_of, tag_of}
+use Rattle.type_blobs.specs.Types.{rows_of, tag_of}
 use Rattle.type_blobs.specs.Spelling.{IsBody, IsBodyThere}
-use Rattle.custom_info.specs.AsyncStepping.{IsStep}
 use Rattle.custom_info.specs.Kinds.{kind_of}
 use Rattle.custom_info.specs.declared.kinds.Kind.{Kind}
 use Rattle.custom_info.specs.declared.kinds.Kind.TheVariants as kinds
-use Rattle.custom_info.specs.declared.stepping.AsyncStep.{AsyncStep}
-use Rattle.sequence_points.specs.declared.point.Point.{Point}
 use Rattle.ppdb_values.specs.declared.custom.CustomBody.{CustomBody}
 use Rattle.ppdb_values.specs.declared.custom.CustomBody.TheVariants.{Async, Hoisted, TypeDocuments, Unread}
-use Rattle.ppdb_values.specs.declared.custom.CustomValue.{CustomValue}
 use Rattle.ppdb_values.specs.declared.file.FileValue.{FileValue}
-use Rattle.ppdb_values.specs.declared.import.ImportScopeValue.{ImportScopeValue}
 use Rattle.ppdb_values.specs.declared.import.ImportValue.{ImportValue}
 use Rattle.ppdb_values.specs.declared.import.ImportValue.TheVariants.{Namespace, AssemblyNamespace, Target, Xml, Alias, AssemblyAlias, NamespaceAlias}
 use Rattle.ppdb_values.specs.declared.import.ImportValue.TheVariants.{AssemblyNamespaceAlias, TargetAlias}
@@ -28,7 +22,7 @@ use Rattle.ppdb_values.specs.declared.scope.ConstantBody.{ConstantBody}
 use Rattle.ppdb_values.specs.declared.scope.ConstantBody.TheVariants.{Primitive, Enumerated, General, Object}
 use Rattle.sound_values.specs.Customs.{SoundCustom, IsBodyOfKind}
 use Rattle.sound_values.specs.Imports.{SoundImport, SoundImportScope}
-use Rattle.sound_values.specs.Methods.{SoundMethod, SoundPoint}
+use Rattle.sound_values.specs.Methods.{SoundMethod}
 use Rattle.sound_values.specs.Named.{count, HasRow, HasRowOrNone, HasType, type_limits}
 use Rattle.sound_values.specs.Scopes.{SoundConstant, stored_body}
 use Rattle.sound_values.specs.Sound.{SoundMachine, SoundRows}
@@ -37,7 +31,7 @@ use Rattle.ppdb_noted.specs.declared.file.NotedFile.{NotedFile}
 use Rattle.ppdb_noted.specs.Each.{Each}
 use Rattle.ppdb_noted.specs.SoundParts.{SoundIn, SoundMoved, SoundNote, SoundNotedScope, SoundParts}
 use Rattle.ppdb_noted.specs.Unnoted.{value_of_noted}
-use Rattle.ppdb_noted.proofs.Lists.{Each-weaker, each_row, row_each}
+use Rattle.ppdb_noted.proofs.Lists.{Each-weaker}
 use Rattle.ppdb_moved.proofs.RowImages.{count_most}
 
 module _ (v u : FileValue) (more : (table : ℕ) → count v table ≤ count u table) where

@@ -22,7 +22,8 @@ pub writable_head : (all : List Point) (p : Point) (ps : List Point) → all ≡
 writable_head all p ps cut h = subst (CanBeWritten 0) cut (h (λ none. let e : p ∷ ps ≡ [] = sym cut ∙ none in cc))
 
 -- what holds of each point at its image
-moved_all : (o : Offsets) (documents : List ℕ) (P Q : Point → Type 0) → ((p : Point) → P p → Q (at_image o documents p)) → (ps : List Point) → All P ps → All Q (moved_in o documents ps)
+moved_all : (o : Offsets) (documents : List ℕ) (P Q : Point → Type 0) → ((p : Point) → P p → Q (at_image o documents p)) → (ps : List Point) → All P ps
+    → All Q (moved_in o documents ps)
 moved_all o documents P Q each [] h = All-nil Q
 moved_all o documents P Q each (p ∷ ps) h =
     by_test (is_kept_between o p.offset (first_offset (old_size o) ps)) (moved_all o documents P Q each ps (All-tail P p ps h))
@@ -32,7 +33,8 @@ moved_all o documents P Q each (p ∷ ps) h =
     by_test false rest = rest
     by_test true rest = All-cons Q (at_image o documents p) (moved_in o documents ps) (each p (All-head P p ps h)) rest
 
-rise_map : (documents : List ℕ) (ps : List Point) → AllPairs (λ p q. p.offset < q.offset) ps → AllPairs (λ p q. p.offset < q.offset) (map (in_new_document documents) ps)
+rise_map : (documents : List ℕ) (ps : List Point) → AllPairs (λ p q. p.offset < q.offset) ps
+    → AllPairs (λ p q. p.offset < q.offset) (map (in_new_document documents) ps)
 rise_map documents [] h = h
 rise_map documents (p ∷ ps) h =
     AllPairs-cons (λ (q r : Point). q.offset < r.offset) (in_new_document documents p) (map (in_new_document documents) ps)
@@ -46,13 +48,15 @@ new_document documents row rows first there = All-get_or IsDocument documents (r
 both : (P Q : Point → Type 0) (ps : List Point) → All P ps → All Q ps → All (λ p. P p × Q p) ps
 both P Q ps h k = λ i d less. (h i d less, k i d less)
 
-pub writable : (o : Offsets) → Rise o → (documents : List ℕ) → All IsDocument documents → (signature : ℕ) (points : List Point) → CanBeWritten signature points → All (λ p. p.offset < old_size o) points
+pub writable : (o : Offsets) → Rise o → (documents : List ℕ) → All IsDocument documents → (signature : ℕ) (points : List Point)
+    → CanBeWritten signature points → All (λ p. p.offset < old_size o) points
     → All (CanMove o documents) points → IsWritable (moved_in o documents points)
 writable o rise documents rows signature points can below each some = record {
   some = some;
   rise = rise_map documents (moved_points o points) (moved-rise o points rise can.rise below);
   offsets = moved_all o documents (CanMove o documents) (λ (p : Point). IsOffset p.offset) (λ p h. image_small o rise p.offset h.image) points each;
-  documents = moved_all o documents (CanMove o documents) (λ (p : Point). IsDocument p.document) (λ p h. new_document documents p.document rows h.first h.there) points each;
+  documents = moved_all o documents (CanMove o documents) (λ (p : Point). IsDocument p.document)
+      (λ p h. new_document documents p.document rows h.first h.there) points each;
   spans = moved_all o documents (λ (p : Point). IsSpan p.span) (λ (p : Point). IsSpan p.span) (λ p h. h) points can.spans;
   signature_is = omega arith;
 }
@@ -62,7 +66,8 @@ pub record Ready (o : Offsets) (documents : List ℕ) (points : List Point) : Ty
   pub each : All (CanMove o documents) points
   pub writable : IsWritable (moved_in o documents points)
 
-pub ready : (o : Offsets) → Rise o → (column : ℕ) (limits : PointLimits) (blob documents : List ℕ) (points : List Point) → column ≤ limits.documents → IsWhole column limits blob
+pub ready : (o : Offsets) → Rise o → (column : ℕ) (limits : PointLimits) (blob documents : List ℕ) (points : List Point) → column ≤ limits.documents
+    → IsWhole column limits blob
     → limits.documents < 0x20000000 → limits.signatures < 0x20000000 → length documents ≡ limits.documents → All IsDocument documents
     → EachPoint (λ p. p.offset < old_size o) column limits blob → EachPoint (λ p. HasImage o p.offset) column limits blob
     → ((signature : ℕ) (others : List Point) → ReadsAs column limits blob signature others → points ≡ others) → Ready o documents points
@@ -75,4 +80,5 @@ ready o rise column limits blob documents points there whole few_documents few_s
       first = row.0;
       there = omega (arith, row.1, len);
     } in
-    subst (Ready o documents) (sym at) (record { each = each; writable = writable o rise documents rows whole.0 whole.1 can.0 (below whole.0 whole.1 whole.2) each })
+    subst (Ready o documents) (sym at)
+    (record { each = each; writable = writable o rise documents rows whole.0 whole.1 can.0 (below whole.0 whole.1 whole.2) each })

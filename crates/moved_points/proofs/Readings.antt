@@ -17,7 +17,8 @@ same_points column limits blob s t ps qs a b r q =
     let y = once.one_reading q.entries b q.reading in
     (r.points_are ∙ ap (points_after []) (x.0 ∙ sym y.0) ∙ sym q.points_are, x.1 ∙ sym y.1)
 
-pub no_fault : (column : ℕ) (limits : PointLimits) (blob : List ℕ) (entries : List Entry) (fault : BlobFault) → IsWhole column limits blob → Reading (sequence_points column limits) blob entries (Some fault) → ⊥
+pub no_fault : (column : ℕ) (limits : PointLimits) (blob : List ℕ) (entries : List Entry) (fault : BlobFault) → IsWhole column limits blob
+    → Reading (sequence_points column limits) blob entries (Some fault) → ⊥
 no_fault column limits blob entries fault whole reading =
     let once = read-once (sequence_points column limits) blob in
     let x = once.one_reading entries (Some fault) reading in

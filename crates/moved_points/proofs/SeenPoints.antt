@@ -7,14 +7,21 @@ use Rattle.blob_grammar.specs.Reader.{Left, answer, answer_from, rest_of, tail}
 use Rattle.sequence_points.specs.declared.point.Point.{Point}
 use Rattle.moved_points.specs.Conditions.{Seen}
 
-by_items : (P : Point → Type 0) (all : List Point) (p : Point) (items : List Point) (fault : Option BlobFault) → answer_from items fault ≡ Ok (Some p) → Seen P all items → P p → Seen P all (tail items)
+by_items : (P : Point → Type 0) (all : List Point) (p : Point) (items : List Point) (fault : Option BlobFault) → answer_from items fault ≡ Ok (Some p)
+    → Seen P all items → P p → Seen P all (tail items)
 by_items P all p [] None e seen h = absurd cc
 by_items P all p [] (Some fault) e seen h = absurd cc
 by_items P all p (x ∷ xs) fault e seen h =
     let same : p ≡ x = cc in
-    record { front = seen.front ++ x ∷ []; cut = seen.cut ∙ sym (append_assoc seen.front (x ∷ []) xs); hold = All-push P seen.front x seen.hold (subst P same h) }
+    record {
+      front = seen.front ++ x ∷ [];
+      cut = seen.cut
+          ∙ sym (append_assoc seen.front (x ∷ []) xs);
+      hold = All-push P seen.front x seen.hold (subst P same h);
+    }
 
-pub seen_next : (P : Point → Type 0) (all : List Point) (p : Point) (left : Left Point) → answer left ≡ Ok (Some p) → Seen P all left.items → P p → Seen P all (rest_of left).items
+pub seen_next : (P : Point → Type 0) (all : List Point) (p : Point) (left : Left Point) → answer left ≡ Ok (Some p) → Seen P all left.items → P p
+    → Seen P all (rest_of left).items
 seen_next P all p left e seen h = by_items P all p left.items left.fault e seen h
 
 none_left : (items : List Point) (fault : Option BlobFault) → answer_from items fault ≡ Ok None → items ≡ []

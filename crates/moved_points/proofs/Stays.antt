@@ -37,7 +37,8 @@ moved_by_test o rise le documents p ps end r ends says =
 pub image_small : (o : Offsets) → Rise o → (x : ℕ) → HasImage o x → moved o x < 536870912
 image_small o rise x h = omega (arith, moved_is o rise x h.image h.next, h.small)
 
-pub stays : (o : Offsets) → Rise o → old_size o ≤ 4294967295 → (documents : List ℕ) (all : List Point) (p : Point) (ps : List Point) (end : ℕ) (r : Bool) (q : Point)
+pub stays : (o : Offsets) → Rise o → old_size o ≤ 4294967295
+    → (documents : List ℕ) (all : List Point) (p : Point) (ps : List Point) (end : ℕ) (r : Bool) (q : Point)
     → all ≡ p ∷ ps → end ≡ first_offset 4294967295 ps → (IsTrue r ↔ KeepsBetween o p.offset end) → r ≡ true → q ≡ at_image o documents p
     → moved_in o documents all ≡ q ∷ moved_in o documents ps
 stays o rise le documents all p ps end r q cut ends says kept is =

@@ -1,5 +1,6 @@
 -- A walk over points that are written one after another.
-use Rattle.std.proofs.Common.{◌≡◌, ℕ, ◌+◌, ◌<◌, Bool, true, false, List, [], ◌∷◌, ◌++◌, length, refl, sym, ap, subst, ◌∙◌, append_assoc, append-nil, arith, Option, Some, None}
+use Rattle.std.proofs.Common.{◌≡◌, ℕ, ◌+◌, ◌<◌, Bool, true, false, List, [], ◌∷◌, ◌++◌, length, refl, sym, ap, subst, ◌∙◌, append_assoc, append-nil, arith}
+use Rattle.std.proofs.Common.{Option, Some, None}
 use Rattle.std.specs.Prelude.{All, AllPairs}
 use Rattle.std.specs.Option.{option_map, option_to_list}
 use Rattle.std.proofs.lemmas.List.{length-append}
@@ -14,7 +15,8 @@ use Rattle.sequence_points.specs.Places.{start_after}
 use Rattle.sequence_points.specs.Points.{common_document}
 use Rattle.sequence_points.specs.Ranges.{IsOffset, IsDocument}
 use Rattle.sequence_points.specs.Following.{IsStart, IsBehind}
-use Rattle.sequence_points.specs.Written.{CanBeWritten, IsSpan, last_of, last_start, large_step, large_steps, numbered, first_of, bytes_after, points_bytes, BeginsWith}
+use Rattle.sequence_points.specs.Written.{CanBeWritten, IsSpan, last_of, last_start, large_step, large_steps, numbered, first_of, bytes_after, points_bytes}
+use Rattle.sequence_points.specs.Written.{BeginsWith}
 use Rattle.sequence_points.proofs.Before.{last_of-push, last_start-push}
 use Rattle.sequence_points.proofs.Follows.{pairs-head, pairs-tail, few_points}
 use Rattle.moved_points.specs.declared.writer.Written.{Written}
@@ -41,7 +43,8 @@ pub record Progress (in_one : Bool) (first : Point) (all left : List Point) (w :
 nothing_before : (points : List Point) → All (IsBehind None) points
 nothing_before points = λ k d h. tt
 
-pub begin : (in_one : Bool) (first : Point) (all : List Point) (w : Written) (old : List ℕ) → CanBeWritten 0 all → HasWritten [] w → Progress in_one first all all w old old
+pub begin : (in_one : Bool) (first : Point) (all : List Point) (w : Written) (old : List ℕ) → CanBeWritten 0 all → HasWritten [] w
+    → Progress in_one first all all w old old
 begin in_one first all w old can has = record {
   before = [];
   cut = refl;
@@ -61,7 +64,8 @@ start_kept : (start : Option Seen) (span : Span) → IsStart start → IsSpan sp
 start_kept start Hidden h s = h
 start_kept start (Lines a b c d) h s = (s.0, s.1)
 
-pub may_come : (in_one : Bool) (first : Point) (all : List Point) (p : Point) (ps : List Point) (w : Written) (old into : List ℕ) → CanBeWritten 0 all → Progress in_one first all (p ∷ ps) w old into → MayCome w p
+pub may_come : (in_one : Bool) (first : Point) (all : List Point) (p : Point) (ps : List Point) (w : Written) (old into : List ℕ) → CanBeWritten 0 all
+    → Progress in_one first all (p ∷ ps) w old into → MayCome w p
 may_come in_one first all p ps w old into can now =
     let few : length all < 4294967296 = few_points all can.offsets can.rise in
     let count : w.count ≡ length now.before = now.written.count in
@@ -78,9 +82,11 @@ no_step : (before : List Point) (p : Point) → large_step (last_start before) p
 no_step before p none = ap (λ o. option_to_list (option_map (numbered (length before + 1)) o) ++ []) none
 
 -- one more point
-pub onward : (in_one : Bool) (first : Point) (all : List Point) (p : Point) (ps : List Point) (w next : Written) (old into more : List ℕ) → Progress in_one first all (p ∷ ps) w old into
+pub onward : (in_one : Bool) (first : Point) (all : List Point) (p : Point) (ps : List Point) (w next : Written) (old into more : List ℕ)
+    → Progress in_one first all (p ∷ ps) w old into
     → (in_one ≡ true → p.document ≡ first.document) → more ≡ into ++ bytes_after w.last (start_seen w.start) p → large_step (start_seen w.start) p.span ≡ None
-    → next.count ≡ w.count + 1 → next.last ≡ Some p → start_seen next.start ≡ start_after (start_seen w.start) p.span → Progress in_one first all ps next old more
+    → next.count ≡ w.count + 1 → next.last ≡ Some p → start_seen next.start ≡ start_after (start_seen w.start) p.span
+    → Progress in_one first all ps next old more
 onward in_one first all p ps w next old into more now one bytes small count last start =
     let before = now.before in
     let small_before : large_step (last_start before) p.span ≡ None = ap (λ o. large_step o p.span) (sym now.written.start) ∙ small in
@@ -109,36 +115,44 @@ onward in_one first all p ps w next old into more now one bytes small count last
       start = subst IsStart (sym start) (start_kept (start_seen w.start) p.span now.start (All-head (λ (q : Point). IsSpan q.span) p ps now.spans));
     }
 
-pub begins : (in_one : Bool) (first : Point) (all left : List Point) (w : Written) (old into : List ℕ) → Progress in_one first all left w old into → BeginsWith old into
+pub begins : (in_one : Bool) (first : Point) (all left : List Point) (w : Written) (old into : List ℕ) → Progress in_one first all left w old into
+    → BeginsWith old into
 begins in_one first all left w old into now = (points_bytes [] now.before, now.bytes)
 
 -- a step that no number says
-pub refused : (in_one : Bool) (first : Point) (all : List Point) (p : Point) (ps : List Point) (w : Written) (old into : List ℕ) (e : PointError) → Progress in_one first all (p ∷ ps) w old into → IsStepOf w p e → IsFirstStep all e
+pub refused : (in_one : Bool) (first : Point) (all : List Point) (p : Point) (ps : List Point) (w : Written) (old into : List ℕ) (e : PointError)
+    → Progress in_one first all (p ∷ ps) w old into → IsStepOf w p e → IsFirstStep all e
 refused in_one first all p ps w old into Memory now is = tt
 refused in_one first all p ps w old into (Step index step) now is =
     let before = now.before in
     let counted : w.count ≡ length before = now.written.count in
     let at : index ≡ length before + 1 = omega (arith, is.0, counted) in
     let large : large_step (last_start before) p.span ≡ Some step = ap (λ o. large_step o p.span) (sym now.written.start) ∙ is.1 in
-    ap (λ xs. first_of (large_steps [] xs)) now.cut ∙ ap first_of (steps-append [] before (p ∷ ps)) ∙ ap (λ xs. first_of (xs ++ large_steps before (p ∷ ps))) now.steps
+    ap (λ xs. first_of (large_steps [] xs)) now.cut ∙ ap first_of (steps-append [] before (p ∷ ps))
+    ∙ ap (λ xs. first_of (xs ++ large_steps before (p ∷ ps))) now.steps
     ∙ ap (λ o. first_of (option_to_list (option_map (numbered (length before + 1)) o) ++ large_steps (before ++ p ∷ []) ps)) large
     ∙ ap (λ n. Some (numbered n step)) (sym at)
 
 -- all are written
-pub walked : (in_one : Bool) (first : Point) (ps : List Point) (w : Written) (old into : List ℕ) → IsDocument first.document → Progress in_one first (first ∷ ps) [] w old into → IsWalked in_one (first ∷ ps) old into true
+pub walked : (in_one : Bool) (first : Point) (ps : List Point) (w : Written) (old into : List ℕ) → IsDocument first.document
+    → Progress in_one first (first ∷ ps) [] w old into → IsWalked in_one (first ∷ ps) old into true
 walked in_one first ps w old into row now =
     let same : first ∷ ps ≡ now.before = now.cut ∙ append-nil now.before in (
       now.bytes ∙ ap (λ xs. old ++ points_bytes [] xs) (sym same),
       ap (large_steps []) same ∙ now.steps,
       λ e zero.
-          let one : common_document (first ∷ ps) ≡ first.document = common_one first ps (subst (All (λ (q : Point). q.document ≡ first.document)) (sym same) (now.one e)) in
+          let one : common_document (first ∷ ps)
+          ≡ first.document = common_one first ps (subst (All (λ (q : Point). q.document ≡ first.document)) (sym same) (now.one e)) in
           omega (arith, one, zero, row.0),
     )
 
 -- a point of another document
-pub stopped : (in_one : Bool) (first : Point) (ps : List Point) (p : Point) (left : List Point) (w : Written) (old into : List ℕ) → in_one ≡ true → (p.document ≡ first.document → ⊥)
+pub stopped : (in_one : Bool) (first : Point) (ps : List Point) (p : Point) (left : List Point) (w : Written) (old into : List ℕ) → in_one ≡ true
+    → (p.document ≡ first.document → ⊥)
     → Progress in_one first (first ∷ ps) (p ∷ left) w old into → IsWalked in_one (first ∷ ps) old into false
 stopped in_one first ps p left w old into e differ now = (
   e,
-  common_several first ps (λ all. differ (at_cut (λ (q : Point). q.document ≡ first.document) now.before p left (subst (All (λ (q : Point). q.document ≡ first.document)) now.cut all))),
+  common_several first ps
+      (λ all. differ (at_cut (λ (q : Point). q.document ≡ first.document) now.before p left
+      (subst (All (λ (q : Point). q.document ≡ first.document)) now.cut all))),
 )

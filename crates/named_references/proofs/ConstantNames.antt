@@ -9,7 +9,8 @@ use Rattle.blob_grammar.specs.Reader.{front_of}
 use Rattle.type_blobs.specs.declared.types.TypeLimits.{TypeLimits}
 use Rattle.type_blobs.specs.declared.types.Modifier.{Modifier}
 use Rattle.type_blobs.specs.Types.{token_of}
-use Rattle.type_blobs.specs.Constants.{constants, modifier_of, body_of, is_modifier, is_object, is_string, ConstantBody as StoredBody, primitive, enumerated, general, object}
+use Rattle.type_blobs.specs.Constants.{constants, modifier_of, body_of, is_modifier, is_object, is_string, ConstantBody as StoredBody, primitive, enumerated}
+use Rattle.type_blobs.specs.Constants.{general, object}
 use Rattle.ppdb_values.specs.Constants.{body_value, body_by}
 use Rattle.ppdb_values.specs.RawFile.{records_of, begun_of}
 use Rattle.rows_in_blobs.specs.Rows.{constant_type, constant_types}
@@ -78,14 +79,17 @@ module _ (limits : TypeLimits) where
   stays : (whole : List Modifier) (code : Value) (values : List Value) (at : ℕ) (value : Value) → modifier_of (code ∷ (values ++ value ∷ [])) ≡ None
       → named (after whole (code ∷ values) value) ≡ named (record { whole = whole; begun = code ∷ values }) ++ told (code ∷ values) at value
   stays whole code values at value none =
-      rw none (open_step whole code values value ∙ ap (λ (l : List Named). (targets whole ++ flat_map type_in values) ++ l) (told_number value ∙ sym (told_is code values at value)))
+      rw none (open_step whole code values value
+      ∙ ap (λ (l : List Named). (targets whole ++ flat_map type_in values) ++ l) (told_number value ∙ sym (told_is code values at value)))
 
   -- the second value may close a modifier
   second : (whole : List Modifier) (code : Value) (at : ℕ) (value : Value)
       → named (after whole (code ∷ []) value) ≡ named (record { whole = whole; begun = code ∷ [] }) ++ told (code ∷ []) at value
   second whole (number code) at (number n) = by (is_modifier code) refl
     where
-      by : (b : Bool) → is_modifier code ≡ b → named (after whole (number code ∷ []) (number n)) ≡ named (record { whole = whole; begun = number code ∷ [] }) ++ told (number code ∷ []) at (number n)
+      by : (b : Bool) → is_modifier code ≡ b
+          → named (after whole (number code ∷ []) (number n)) ≡ named (record { whole = whole; begun = number code ∷ [] })
+          ++ told (number code ∷ []) at (number n)
       by false e = stays whole (number code) [] at (number n) (rw e refl)
       by true e =
           rw e
@@ -99,7 +103,8 @@ module _ (limits : TypeLimits) where
 
   steps : (whole : List Modifier) (begun : List Value) (at : ℕ) (value : Value)
       → named (after whole begun value) ≡ named (record { whole = whole; begun = begun }) ++ told begun at value
-  steps whole [] at value = rw (first_open value) (sym (append-nil (targets whole ++ [])) ∙ ap (λ (l : List Named). (targets whole ++ []) ++ l) (sym (no_told at value)))
+  steps whole [] at value = rw (first_open value)
+      (sym (append-nil (targets whole ++ [])) ∙ ap (λ (l : List Named). (targets whole ++ []) ++ l) (sym (no_told at value)))
   steps whole (code ∷ []) at value = second whole code at value
   steps whole (code ∷ b ∷ []) at value = stays whole code (b ∷ []) at value (many_open code b value [])
   steps whole (code ∷ b ∷ c ∷ values) at value = stays whole code (b ∷ c ∷ values) at value (many_open code b c (values ++ value ∷ []))
@@ -112,7 +117,8 @@ module _ (limits : TypeLimits) where
   same_body : (a b : StoredBody) → a ≡ b → in_body (body_value b) ≡ in_body (body_value a)
   same_body a b e = ap (λ (x : StoredBody). in_body (body_value x)) (sym e)
 
-  alone : (code : ℕ) (body : StoredBody) (a b : Bool) → cond a (Some object) (cond b (Some (primitive code [])) None) ≡ Some body → in_body (body_value body) ≡ []
+  alone : (code : ℕ) (body : StoredBody) (a b : Bool) → cond a (Some object) (cond b (Some (primitive code [])) None) ≡ Some body
+      → in_body (body_value body) ≡ []
   alone code body true b e = same_body object body (cc)
   alone code body false true e = same_body (primitive code []) body (cc)
   alone code body false false e = absurd cc
@@ -130,7 +136,8 @@ module _ (limits : TypeLimits) where
   there None e = absurd cc
 
   pub constant-names : (blob : List ℕ) → is_some (body_of (begun_of (constants limits) blob)) ≡ true
-      → map row_named (constant_types limits blob) ≡ targets (records_of (constants limits) blob) ++ in_body (body_by (body_of (begun_of (constants limits) blob)))
+      → map row_named (constant_types limits blob) ≡ targets (records_of (constants limits) blob)
+      ++ in_body (body_by (body_of (begun_of (constants limits) blob)))
   constant-names blob some =
       let g = constants limits in
       let front = cut g (front_of g blob) in

@@ -21,7 +21,8 @@ module _ {R : Type 0} (g : Grammar R) (tell : PlacedField → List PlacedRow) (n
   -- What a place names is what the places before it name, and what the field tells.
   abbrev pub Tells : Type 0
   Tells = (place : Cut R) (at : ℕ) (value : Value) → Good place → g.allows place.whole place.begun value ≡ true
-      → Good (with_value g place value) × (named (with_value g place value) ≡ named place ++ map row_named (tell (record { byte = at; before = place.begun; value = value })))
+      → Good (with_value g place value)
+      × (named (with_value g place value) ≡ named place ++ map row_named (tell (record { byte = at; before = place.begun; value = value })))
 
   walk : Tells → (before fields : List Field) (after : List ℕ) (at : ℕ) → Good (cut g before) → EachFollows g before fields after
       → named (cut g (before ++ fields)) ≡ named (cut g before) ++ map row_named (flat_map tell (placed_from g (cut g before) at fields))

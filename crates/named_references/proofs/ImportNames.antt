@@ -1,5 +1,6 @@
 -- The rows that imports name are those of their values.
-use Rattle.std.proofs.Common.{◌≡◌, ℕ, zero, suc, Bool, true, false, List, [], ◌∷◌, ◌++◌, length, Option, Some, None, refl, sym, ap, ◌∙◌, append_assoc, append-nil, map, arith, slice_get, cond}
+use Rattle.std.proofs.Common.{◌≡◌, ℕ, zero, suc, Bool, true, false, List, [], ◌∷◌, ◌++◌, length, Option, Some, None, refl, sym, ap, ◌∙◌, append_assoc}
+use Rattle.std.proofs.Common.{append-nil, map, arith, slice_get, cond}
 use Rattle.std.specs.Prelude.{◌==◌}
 use Rattle.std.specs.List.{flat_map}
 use Rattle.type_blobs.proofs.Codes.{eq-is}
@@ -76,7 +77,8 @@ good-more (integer z ∷ values) n h = h
 good-more (octets xs ∷ values) n h = h
 
 -- one number more
-rows-more : (parts : List ImportPart) (ns : List ℕ) (n : ℕ) (part : ImportPart) → slice_get parts (length ns) ≡ Some part → parts_rows parts (ns ++ n ∷ []) ≡ parts_rows parts ns ++ part_row part n
+rows-more : (parts : List ImportPart) (ns : List ℕ) (n : ℕ) (part : ImportPart) → slice_get parts (length ns) ≡ Some part
+    → parts_rows parts (ns ++ n ∷ []) ≡ parts_rows parts ns ++ part_row part n
 rows-more [] ns n part e = cc
 rows-more (p ∷ parts) [] n part e = let same : p ≡ part = cc in ap (λ (q : ImportPart). part_row q n ++ parts_rows parts []) same ∙ none parts (part_row part n)
   where
@@ -179,33 +181,43 @@ module _ (heap : ℕ → Option (List ℕ)) where
     told begun at value = map row_named (tell (record { byte = at; before = begun; value = value }))
 
     abbrev Steps : List ImportItem → List Value → ℕ → Value → Type 0
-    Steps whole begun at value = Good (after whole begun value) × (named (after whole begun value) ≡ named (record { whole = whole; begun = begun }) ++ told begun at value)
+    Steps whole begun at value = Good (after whole begun value)
+        × (named (after whole begun value) ≡ named (record { whole = whole; begun = begun }) ++ told begun at value)
 
     -- the import that has begun closes where it has all its numbers
     closes : (whole : List ImportItem) (kind : ℕ) (values : List Value) (at n : ℕ) (part : ImportPart) (o : Option ImportItem) → Numbers values
         → slice_get (parts_of kind) (length values) ≡ Some part
         → ((item : ImportItem) → o ≡ Some item → item_rows item ≡ parts_rows (parts_of kind) (numbers_of (values ++ number n ∷ [])))
         → Good (closed o whole (number kind ∷ (values ++ number n ∷ [])))
-        × (named (closed o whole (number kind ∷ (values ++ number n ∷ []))) ≡ (flat_map item_rows whole ++ parts_rows (parts_of kind) (numbers_of values)) ++ part_row part n)
-    closes whole kind values at n part None good e is = (good-more values n good, ap (λ (l : List Named). flat_map item_rows whole ++ l) (more kind values n part e) ∙ sym (append_assoc (flat_map item_rows whole) (parts_rows (parts_of kind) (numbers_of values)) (part_row part n)))
+        × (named (closed o whole (number kind ∷ (values ++ number n ∷ []))) ≡ (flat_map item_rows whole ++ parts_rows (parts_of kind) (numbers_of values))
+        ++ part_row part n)
+    closes whole kind values at n part None good e is = (
+      good-more values n good,
+      ap (λ (l : List Named). flat_map item_rows whole ++ l) (more kind values n part e)
+          ∙ sym (append_assoc (flat_map item_rows whole) (parts_rows (parts_of kind) (numbers_of values)) (part_row part n)),
+    )
       where
         more : (kind : ℕ) (values : List Value) (n : ℕ) (part : ImportPart) → slice_get (parts_of kind) (length values) ≡ Some part
             → parts_rows (parts_of kind) (numbers_of (values ++ number n ∷ [])) ≡ parts_rows (parts_of kind) (numbers_of values) ++ part_row part n
         more kind values n part e =
-            ap (parts_rows (parts_of kind)) (numbers-more values n) ∙ rows-more (parts_of kind) (numbers_of values) n part (ap (slice_get (parts_of kind)) (numbers_len values) ∙ e)
+            ap (parts_rows (parts_of kind)) (numbers-more values n)
+            ∙ rows-more (parts_of kind) (numbers_of values) n part (ap (slice_get (parts_of kind)) (numbers_len values) ∙ e)
     closes whole kind values at n part (Some item) good e is = (
       tt,
       append-nil (flat_map item_rows (whole ++ item ∷ []))
           ∙ flat_map-append item_rows whole (item ∷ [])
           ∙ ap (λ (l : List Named). flat_map item_rows whole ++ l)
-          (append-nil (item_rows item) ∙ is item refl ∙ ap (parts_rows (parts_of kind)) (numbers-more values n) ∙ rows-more (parts_of kind) (numbers_of values) n part (ap (slice_get (parts_of kind)) (numbers_len values) ∙ e))
+          (append-nil (item_rows item) ∙ is item refl ∙ ap (parts_rows (parts_of kind)) (numbers-more values n)
+          ∙ rows-more (parts_of kind) (numbers_of values) n part (ap (slice_get (parts_of kind)) (numbers_len values) ∙ e))
           ∙ sym (append_assoc (flat_map item_rows whole) (parts_rows (parts_of kind) (numbers_of values)) (part_row part n)),
     )
 
-    record_rows : (kind : ℕ) (fields : List Value) (item : ImportItem) → import_of heap (number kind ∷ fields) ≡ Some item → item_rows item ≡ parts_rows (parts_of kind) (numbers_of fields)
+    record_rows : (kind : ℕ) (fields : List Value) (item : ImportItem) → import_of heap (number kind ∷ fields) ≡ Some item
+        → item_rows item ≡ parts_rows (parts_of kind) (numbers_of fields)
     record_rows kind fields item e = by (length fields == length (parts_of kind)) refl e
       where
-        by : (b : Bool) → (length fields == length (parts_of kind)) ≡ b → cond b (item_of heap kind (numbers_of fields)) None ≡ Some item → item_rows item ≡ parts_rows (parts_of kind) (numbers_of fields)
+        by : (b : Bool) → (length fields == length (parts_of kind)) ≡ b → cond b (item_of heap kind (numbers_of fields)) None ≡ Some item
+            → item_rows item ≡ parts_rows (parts_of kind) (numbers_of fields)
         by true q h = item_names kind (numbers_of fields) (numbers_len fields ∙ eq-is (length fields) (length (parts_of kind)) q) item h
         by false q h = absurd cc
 
@@ -215,7 +227,8 @@ module _ (heap : ℕ → Option (List ℕ)) where
 
     first : (whole : List ImportItem) (n : ℕ) (o : Option ImportItem) → ((item : ImportItem) → o ≡ Some item → item_rows item ≡ parts_rows (parts_of n) [])
         → Good (closed o whole (number n ∷ [])) × (named (closed o whole (number n ∷ [])) ≡ (flat_map item_rows whole ++ []) ++ [])
-    first whole n None is = (tt, ap (λ (l : List Named). flat_map item_rows whole ++ l) (none_yet (parts_of n)) ∙ sym (append-nil (flat_map item_rows whole ++ [])))
+    first whole n None is =
+        (tt, ap (λ (l : List Named). flat_map item_rows whole ++ l) (none_yet (parts_of n)) ∙ sym (append-nil (flat_map item_rows whole ++ [])))
     first whole n (Some item) is = (
       tt,
       append-nil (flat_map item_rows (whole ++ item ∷ []))
@@ -224,22 +237,29 @@ module _ (heap : ℕ → Option (List ℕ)) where
           ∙ sym (append-nil (flat_map item_rows whole ++ [])),
     )
 
-    told_number : (kind : ℕ) (values : List Value) (at n : ℕ) (part : ImportPart) → slice_get (parts_of kind) (length values) ≡ Some part → told (number kind ∷ values) at (number n) ≡ part_row part n
+    told_number : (kind : ℕ) (values : List Value) (at n : ℕ) (part : ImportPart) → slice_get (parts_of kind) (length values) ≡ Some part
+        → told (number kind ∷ values) at (number n) ≡ part_row part n
     told_number kind values at n part e =
         ap (λ (o : Option ImportPart). map row_named (flat_map import_row (field_of o at (number n)))) e
         ∙ ap (map row_named) (append-nil (row_of part at n)) ∙ part_is part at n
 
-    steps : (whole : List ImportItem) (begun : List Value) (at : ℕ) (value : Value) → Numbers begun → allows limits heap begun value ≡ true → Steps whole begun at value
+    steps : (whole : List ImportItem) (begun : List Value) (at : ℕ) (value : Value) → Numbers begun → allows limits heap begun value ≡ true
+        → Steps whole begun at value
     steps whole [] at (number n) good allowed = first whole n (import_of heap (number n ∷ [])) (λ item e. record_rows n [] item e)
     steps whole [] at (integer z) good allowed = absurd cc
     steps whole [] at (octets xs) good allowed = absurd cc
     steps whole (number kind ∷ values) at (number n) good allowed = by (slice_get (parts_of kind) (length values)) refl allowed
       where
-        by : (o : Option ImportPart) → slice_get (parts_of kind) (length values) ≡ o → next_allows limits heap o (number n) ≡ true → Steps whole (number kind ∷ values) at (number n)
+        by : (o : Option ImportPart) → slice_get (parts_of kind) (length values) ≡ o → next_allows limits heap o (number n) ≡ true
+            → Steps whole (number kind ∷ values) at (number n)
         by None e h = absurd cc
         by (Some part) e h =
-            let c = closes whole kind values at n part (import_of heap (number kind ∷ (values ++ number n ∷ []))) good e (λ item is. record_rows kind (values ++ number n ∷ []) item is) in
-            (c.0, c.1 ∙ ap (λ (l : List Named). (flat_map item_rows whole ++ parts_rows (parts_of kind) (numbers_of values)) ++ l) (sym (told_number kind values at n part e)))
+            let c = closes whole kind values at n part (import_of heap (number kind ∷ (values ++ number n ∷ []))) good e
+            (λ item is. record_rows kind (values ++ number n ∷ []) item is) in (
+              c.0,
+              c.1 ∙ ap (λ (l : List Named). (flat_map item_rows whole ++ parts_rows (parts_of kind) (numbers_of values)) ++ l)
+                  (sym (told_number kind values at n part e)),
+            )
     steps whole (number kind ∷ values) at (integer z) good allowed = absurd (no_integer (slice_get (parts_of kind) (length values)) allowed)
       where
         no_integer : (o : Option ImportPart) → next_allows limits heap o (integer z) ≡ true → ⊥
@@ -258,7 +278,8 @@ module _ (heap : ℕ → Option (List ℕ)) where
 
     twice : (fields : List PlacedField) → flat_map tell fields ≡ flat_map import_row (flat_map import_field fields)
     twice [] = refl
-    twice (f ∷ fields) = ap (λ (l : List PlacedRow). tell f ++ l) (twice fields) ∙ sym (flat_map-append import_row (import_field f) (flat_map import_field fields))
+    twice (f ∷ fields) = ap (λ (l : List PlacedRow). tell f ++ l) (twice fields)
+        ∙ sym (flat_map-append import_row (import_field f) (flat_map import_field fields))
 
     rows_end : (whole : List ImportItem) (begun : List Value) → begun ≡ [] → named (record { whole = whole; begun = begun }) ≡ flat_map item_rows whole
     rows_end whole begun e = rw e (append-nil (flat_map item_rows whole))

@@ -27,7 +27,8 @@ unplaced-flat tell (x ∷ xs) = map-append named_by (tell x) (flat_map tell xs) 
 
 -- items that are made of all
 module _ {X V : Type 0} (g : X → V) (tell : X → List Named) (p : V → Bool) (say : V → List Named) where
-  pub named-mapped : (xs : List X) → ((i : ℕ) (x : X) → slice_get xs i ≡ Some x → tell x ≡ cond (p (g x)) (say (g x)) []) → flat_map tell xs ≡ flat_map say (filter p (map g xs))
+  pub named-mapped : (xs : List X) → ((i : ℕ) (x : X) → slice_get xs i ≡ Some x → tell x ≡ cond (p (g x)) (say (g x)) [])
+      → flat_map tell xs ≡ flat_map say (filter p (map g xs))
   named-mapped [] h = refl
   named-mapped (x ∷ xs) h =
       ap (λ (l : List Named). l ++ flat_map tell xs) (h 0 x refl)
@@ -49,7 +50,9 @@ module _ {X V : Type 0} (f : X → Option V) (tell : X → List Named) (p : V �
   named-filtered (x ∷ xs) h =
       ap (λ (l : List Named). l ++ flat_map tell xs) (h x) ∙ ap (λ (l : List Named). if_some (f x) ++ l) (named-filtered xs h) ∙ by (f x) refl
     where
-      kept : (v : V) (b : Bool) → cond b (say v) [] ++ flat_map say (filter p (filter_map f xs)) ≡ flat_map say (cond b (v ∷ filter p (filter_map f xs)) (filter p (filter_map f xs)))
+      kept : (v : V) (b : Bool)
+          → cond b (say v) [] ++ flat_map say (filter p (filter_map f xs))
+          ≡ flat_map say (cond b (v ∷ filter p (filter_map f xs)) (filter p (filter_map f xs)))
       kept v true = refl
       kept v false = refl
 
@@ -67,7 +70,8 @@ pub numbered-out : {X : Type 0} (n : ℕ) (xs : List X) → map (λ row. row.1) 
 numbered-out n [] = refl
 numbered-out {X} n (x ∷ xs) = ap (λ (ys : List X). x ∷ ys) (numbered-out (n + 1) xs)
 
-pub numbered-made : {X Y : Type 0} (f : ℕ × X → Y) (n : ℕ) (rows : List X) → enumerate_from n (map f (enumerate_from n rows)) ≡ map (λ row. (row.0, f row)) (enumerate_from n rows)
+pub numbered-made : {X Y : Type 0} (f : ℕ × X → Y) (n : ℕ) (rows : List X)
+    → enumerate_from n (map f (enumerate_from n rows)) ≡ map (λ row. (row.0, f row)) (enumerate_from n rows)
 numbered-made f n [] = refl
 numbered-made f n (x ∷ xs) = ap (λ rest. (n, f (n, x)) ∷ rest) (numbered-made f (n + 1) xs)
 
@@ -80,11 +84,13 @@ map-twice f g [] = refl
 map-twice {X} {Y} {Z} f g (x ∷ xs) = ap (λ (zs : List Z). g (f x) ∷ zs) (map-twice f g xs)
 
 -- what is named does not hang on the records
-pub noted-items : {X : Type 0} (value : FileValue) (table n : ℕ) (items : List X) (say : Noted X → List Named) (tell : X → List Named) → ((x : Noted X) → say x ≡ tell x.item)
+pub noted-items : {X : Type 0} (value : FileValue) (table n : ℕ) (items : List X) (say : Noted X → List Named) (tell : X → List Named)
+    → ((x : Noted X) → say x ≡ tell x.item)
     → flat_map say (noted_from value table n items) ≡ flat_map tell items
 noted-items value table n [] say tell h = refl
 noted-items value table n (x ∷ xs) say tell h =
-    ap (λ (l : List Named). l ++ flat_map say (noted_from value table (n + 1) xs)) (h _) ∙ ap (λ (l : List Named). tell x ++ l) (noted-items value table (n + 1) xs say tell h)
+    ap (λ (l : List Named). l ++ flat_map say (noted_from value table (n + 1) xs)) (h _)
+    ∙ ap (λ (l : List Named). tell x ++ l) (noted-items value table (n + 1) xs say tell h)
 
 filter-one : {X : Type 0} (p q : X → Bool) (x : X) (xs : List X) (b c : Bool) → q x ≡ b → p x ≡ c → filter p (filter q xs) ≡ filter (λ y. q y && p y) xs
     → filter p (filter q (x ∷ xs)) ≡ filter (λ y. q y && p y) (x ∷ xs)

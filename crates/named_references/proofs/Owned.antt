@@ -1,5 +1,6 @@
 -- What constants, imports, state machines and custom records name is what those of the value do.
-use Rattle.std.proofs.Common.{◌≡◌, ℕ, suc, ◌+◌, ◌-◌, Bool, true, false, ◌&&◌, ◌||◌, not, cond, List, [], ◌∷◌, length, Some, refl, sym, ap, ◌∙◌, map, slice_get, drop, arith}
+use Rattle.std.proofs.Common.{◌≡◌, ℕ, suc, ◌+◌, ◌-◌, Bool, true, false, ◌&&◌, ◌||◌, not, cond, List, [], ◌∷◌, length, Some, refl, sym, ap, ◌∙◌, map}
+use Rattle.std.proofs.Common.{slice_get, drop, arith}
 use Rattle.std.specs.Prelude.{nat_lt, slice_range}
 use Rattle.std.specs.List.{flat_map, filter}
 use Rattle.ppdb_base.specs.Place.{cell}
@@ -31,7 +32,8 @@ use Rattle.ppdb_values.specs.RawFile.{RawFile, blob, records_of, type_limits}
 use Rattle.ppdb_values.specs.Rules.{KeepsRules}
 use Rattle.ppdb_values.specs.Value.{value_of, scope_of}
 use Rattle.value_reading.specs.Scopes.{scope_in}
-use Rattle.ppdb_references.specs.References.{names as names_at, types_of, of_constant, of_import, of_machine, methods_in, methods_of, of_parent, is_live_parent, of_custom}
+use Rattle.ppdb_references.specs.References.{names as names_at, types_of, of_constant, of_import, of_machine, methods_in, methods_of, of_parent}
+use Rattle.ppdb_references.specs.References.{is_live_parent, of_custom}
 use Rattle.ppdb_references.specs.Lists.{of_list, of_scope_constants}
 use Rattle.ppdb_references.proofs.ConstantLists.{all-scopes, get_numbered, get_take, get_drop}
 use Rattle.ppdb_noted.specs.declared.file.NotedScope.{NotedScope}
@@ -41,7 +43,8 @@ use Rattle.named_references.proofs.FieldWalks.{row_named}
 use Rattle.named_references.proofs.ConstantNames.{constant-names}
 use Rattle.named_references.proofs.ImportNames.{import-names}
 use Rattle.named_references.proofs.StepNames.{step-names}
-use Rattle.named_references.proofs.Listed.{unplaced, flat_map-made, flat_map-same, unplaced-flat, named-mapped, unnumbered, numbered-out, numbered-value, noted-items, filter-both}
+use Rattle.named_references.proofs.Listed.{unplaced, flat_map-made, flat_map-same, unplaced-flat, named-mapped, unnumbered, numbered-out, numbered-value}
+use Rattle.named_references.proofs.Listed.{noted-items, filter-both}
 use Rattle.named_references.proofs.Parts.{inside-named, noted_row, noted-scopes}
 
 -- ---- constants
@@ -50,12 +53,14 @@ abbrev value_rows : ConstantValue → List Named
 value_rows c = in_constant (record { item = c; customs = [] })
 
 module _ (m : Map) (raw : RawFile) (owned : ListsAreOwned) (keeps : KeepsRules raw) where
-  constant-named : (row : ℕ) (cells : ConstantRow) → row_at raw.tables.constants row ≡ Some cells → unplaced (types_of raw.tables (row, cells)) ≡ value_rows (constant_of raw.tables cells)
+  constant-named : (row : ℕ) (cells : ConstantRow) → row_at raw.tables.constants row ≡ Some cells
+      → unplaced (types_of raw.tables (row, cells)) ≡ value_rows (constant_of raw.tables cells)
   constant-named row cells there =
       inside-named 0x34 row 1 _ ∙ constant-names (type_limits raw.tables) (blob raw.tables cells.signature) ((keeps.constants.each row cells there).body)
 
   -- a constant of a slice of the table is that of its row
-  in-slice : (a b i : ℕ) (x : ℕ × ConstantRow) → slice_get (slice_range (numbered raw.tables.constants) a b) i ≡ Some x → row_at raw.tables.constants x.0 ≡ Some x.1
+  in-slice : (a b i : ℕ) (x : ℕ × ConstantRow) → slice_get (slice_range (numbered raw.tables.constants) a b) i ≡ Some x
+      → row_at raw.tables.constants x.0 ≡ Some x.1
   in-slice a b i x e =
       let t = get_take (b - a) (drop a (numbered raw.tables.constants)) i x e in
       let n = get_numbered 1 raw.tables.constants (a + i) x (sym (get_drop (numbered raw.tables.constants) a i) ∙ t.1) in
@@ -72,10 +77,12 @@ module _ (m : Map) (raw : RawFile) (owned : ListsAreOwned) (keeps : KeepsRules r
       ∙ sym (flat_map-made (λ (x : ℕ × ConstantRow). constant_of raw.tables x.1) value_rows list)
       ∙ ap (λ (items : List (ℕ × ConstantRow)). flat_map value_rows (map (λ (x : ℕ × ConstantRow). constant_of raw.tables x.1) items))
       (sym (owned.constants (λ s. s.constants) raw.tables.scopes row scope raw.tables.constants keeps.constants.lists there))
-      ∙ sym (noted-items (value_of raw) 0x34 (first_item (λ before. length before.constants) (value_of raw) row) (scope_of raw.tables (row, scope)).constants in_constant value_rows (λ x. refl))
+      ∙ sym (noted-items (value_of raw) 0x34 (first_item (λ before. length before.constants) (value_of raw) row)
+      (scope_of raw.tables (row, scope)).constants in_constant value_rows (λ x. refl))
 
   scope-constants : (i : ℕ) (x : ℕ × ScopeRow) → slice_get (numbered raw.tables.scopes) i ≡ Some x
-      → unplaced (of_scope_constants m raw.tables (scope_in raw.tables x)) ≡ cond (live_scope m (noted_row m raw x)) (flat_map in_constant (noted_row m raw x).constants) []
+      → unplaced (of_scope_constants m raw.tables (scope_in raw.tables x))
+      ≡ cond (live_scope m (noted_row m raw x)) (flat_map in_constant (noted_row m raw x).constants) []
   scope-constants i x e =
       let n = get_numbered 1 raw.tables.scopes i x e in
       let up : 1 + i ≡ suc i = omega arith in
@@ -86,13 +93,16 @@ module _ (m : Map) (raw : RawFile) (owned : ListsAreOwned) (keeps : KeepsRules r
       by true there = refl
       by false there = list-named x.0 x.1 there
 
-  pub constants-named : unplaced (flat_map (of_constant m raw.tables) (numbered raw.tables.constants)) ≡ flat_map (λ (s : NotedScope). flat_map in_constant s.constants) (filter (live_scope m) (noted_file (value_of raw)).scopes)
+  pub constants-named : unplaced (flat_map (of_constant m raw.tables) (numbered raw.tables.constants))
+      ≡ flat_map (λ (s : NotedScope). flat_map in_constant s.constants) (filter (live_scope m) (noted_file (value_of raw)).scopes)
   constants-named =
       let rows = numbered raw.tables.scopes in
       ap unplaced (all-scopes m raw.tables owned keeps.constants.lists ∙ flat_map-made (scope_in raw.tables) (of_scope_constants m raw.tables) rows)
       ∙ unplaced-flat (λ x. of_scope_constants m raw.tables (scope_in raw.tables x)) rows
-      ∙ named-mapped (noted_row m raw) (λ x. unplaced (of_scope_constants m raw.tables (scope_in raw.tables x))) (live_scope m) (λ (s : NotedScope). flat_map in_constant s.constants) rows scope-constants
-      ∙ ap (λ (scopes : List NotedScope). flat_map (λ (s : NotedScope). flat_map in_constant s.constants) (filter (live_scope m) scopes)) (sym (noted-scopes m raw))
+      ∙ named-mapped (noted_row m raw) (λ x. unplaced (of_scope_constants m raw.tables (scope_in raw.tables x))) (live_scope m)
+      (λ (s : NotedScope). flat_map in_constant s.constants) rows scope-constants
+      ∙ ap (λ (scopes : List NotedScope). flat_map (λ (s : NotedScope). flat_map in_constant s.constants) (filter (live_scope m) scopes))
+      (sym (noted-scopes m raw))
 
   -- ---- imports
 
@@ -107,12 +117,14 @@ module _ (m : Map) (raw : RawFile) (owned : ListsAreOwned) (keeps : KeepsRules r
       let content = blob raw.tables cells.imports in
       let whole = (keeps.imports.each row cells there).imports_whole in
       let front = longest-front_of g content whole.fields whole.after whole.front in
-      let ends : (cut g (front_of g content)).begun ≡ [] = no_begun (cut g (front_of g content)).begun (ap (λ fs. is_between (cut g fs).begun) (sym front) ∙ whole.ends.1) in
+      let ends : (cut g (front_of g content)).begun
+      ≡ [] = no_begun (cut g (front_of g content)).begun (ap (λ fs. is_between (cut g fs).begun) (sym front) ∙ whole.ends.1) in
       inside-named 0x35 row 1 _
       ∙ import-names (heap_of raw.tables) (type_limits raw.tables) content ends
       ∙ sym (flat_map-made import_value in_import (records_of g content))
 
-  pub imports-named : unplaced (flat_map (of_import raw.tables) (numbered raw.tables.imports)) ≡ flat_map (λ (i : Noted ImportScopeValue). flat_map in_import i.item.imports) (noted_file (value_of raw)).imports
+  pub imports-named : unplaced (flat_map (of_import raw.tables) (numbered raw.tables.imports))
+      ≡ flat_map (λ (i : Noted ImportScopeValue). flat_map in_import i.item.imports) (noted_file (value_of raw)).imports
   imports-named =
       let rows = numbered raw.tables.imports in
       unplaced-flat (of_import raw.tables) rows
@@ -123,21 +135,25 @@ module _ (m : Map) (raw : RawFile) (owned : ListsAreOwned) (keeps : KeepsRules r
       import-named x.0 x.1 (ap (row_at raw.tables.imports) (n.0 ∙ up) ∙ n.1))
       ∙ unnumbered (λ cells. flat_map in_import (import_scope_of raw.tables cells).imports) 1 raw.tables.imports
       ∙ sym (flat_map-made (import_scope_of raw.tables) (λ (s : ImportScopeValue). flat_map in_import s.imports) raw.tables.imports)
-      ∙ sym (noted-items (value_of raw) 0x35 1 (value_of raw).imports (λ (i : Noted ImportScopeValue). flat_map in_import i.item.imports) (λ (s : ImportScopeValue). flat_map in_import s.imports) (λ x. refl))
+      ∙ sym (noted-items (value_of raw) 0x35 1 (value_of raw).imports (λ (i : Noted ImportScopeValue). flat_map in_import i.item.imports)
+      (λ (s : ImportScopeValue). flat_map in_import s.imports) (λ x. refl))
 
 -- ---- state machines
 
 abbrev pub machine_rows : MachineRow → List Named
 machine_rows r = names 0x06 r.move_next ∷ names 0x06 r.kickoff ∷ []
 
-pub machines-named : (m : Map) (raw : RawTables) → unplaced (flat_map (of_machine m) (numbered raw.machines)) ≡ flat_map machine_rows (filter (live_machine m) raw.machines)
+pub machines-named : (m : Map) (raw : RawTables)
+    → unplaced (flat_map (of_machine m) (numbered raw.machines)) ≡ flat_map machine_rows (filter (live_machine m) raw.machines)
 machines-named m raw =
     unplaced-flat (of_machine m) (numbered raw.machines)
     ∙ named-mapped (λ (x : ℕ × MachineRow). x.1) (λ x. unplaced (of_machine m x)) (live_machine m) machine_rows (numbered raw.machines)
     (λ i x e. by x (is_dropped m x.1.move_next || is_dropped m x.1.kickoff))
     ∙ ap (λ (machines : List MachineRow). flat_map machine_rows (filter (live_machine m) machines)) (numbered-out 1 raw.machines)
   where
-    by : (x : ℕ × MachineRow) (d : Bool) → unplaced (cond d [] (names_at (cell 0x36 x.0 0) 0x06 x.1.move_next ∷ names_at (cell 0x36 x.0 1) 0x06 x.1.kickoff ∷ [])) ≡ cond (not d) (machine_rows x.1) []
+    by : (x : ℕ × MachineRow) (d : Bool)
+        → unplaced (cond d [] (names_at (cell 0x36 x.0 0) 0x06 x.1.move_next ∷ names_at (cell 0x36 x.0 1) 0x06 x.1.kickoff ∷ []))
+        ≡ cond (not d) (machine_rows x.1) []
     by x true = refl
     by x false = refl
 
@@ -163,10 +179,14 @@ custom-row raw x false = refl
 abbrev pub is_type_system : CustomValue → Bool
 is_type_system c = nat_lt c.parent.table 0x2d
 
-pub customs-named : (m : Map) (raw : RawTables) → unplaced (flat_map (of_custom m raw) (numbered raw.customs)) ≡ flat_map custom_rows (filter (live_custom m) (filter is_type_system (map (custom_of raw) raw.customs)))
+pub customs-named : (m : Map) (raw : RawTables)
+    → unplaced (flat_map (of_custom m raw) (numbered raw.customs))
+    ≡ flat_map custom_rows (filter (live_custom m) (filter is_type_system (map (custom_of raw) raw.customs)))
 customs-named m raw =
     unplaced-flat (of_custom m raw) (numbered raw.customs)
-    ∙ named-mapped (λ (x : ℕ × CustomRow). custom_of raw x.1) (λ x. unplaced (of_custom m raw x)) (λ c. is_type_system c && live_custom m c) custom_rows (numbered raw.customs)
+    ∙ named-mapped (λ (x : ℕ × CustomRow). custom_of raw x.1) (λ x. unplaced (of_custom m raw x)) (λ c. is_type_system c && live_custom m c) custom_rows
+    (numbered raw.customs)
     (λ i x e. custom-row raw x (is_live_parent m (parent_of x.1.parent)))
-    ∙ ap (λ (customs : List CustomValue). flat_map custom_rows (filter (λ c. is_type_system c && live_custom m c) customs)) (numbered-value (custom_of raw) 1 raw.customs)
+    ∙ ap (λ (customs : List CustomValue). flat_map custom_rows (filter (λ c. is_type_system c && live_custom m c) customs))
+    (numbered-value (custom_of raw) 1 raw.customs)
     ∙ ap (λ (customs : List CustomValue). flat_map custom_rows customs) (sym (filter-both (live_custom m) is_type_system (map (custom_of raw) raw.customs)))

@@ -48,29 +48,37 @@ abbrev pub method_rows : MethodValue → List Named
 method_rows v = names 0x06 v.method ∷ names_some 0x11 v.signature
 
 -- the method of a row has its number
-method-number : (row : ℕ) (column : ℕ) (o : Option ℕ) (raw : RawTables) (content : List ℕ) (make : ℕ → MethodValue) → ((signature : ℕ) → (make signature).method ≡ row)
+method-number : (row : ℕ) (column : ℕ) (o : Option ℕ) (raw : RawTables) (content : List ℕ) (make : ℕ → MethodValue)
+    → ((signature : ℕ) → (make signature).method ≡ row)
     → (v : MethodValue) → option_map make o ≡ Some v → v.method ≡ row
 method-number row column None raw content make h v e = cc
-method-number row column (Some signature) raw content make h v e = let same : make signature ≡ v = cc in ap (λ (w : MethodValue). w.method) (sym same) ∙ h signature
+method-number row column (Some signature) raw content make h v e = let same : make signature ≡ v = cc in ap (λ (w : MethodValue). w.method) (sym same)
+    ∙ h signature
 
 method-is : (raw : RawTables) (x : ℕ × MethodDebugRow) (v : MethodValue) → method_of raw x ≡ Some v → v.method ≡ x.0
 method-is raw x v e = by (blob raw x.1.points) e
   where
     by : (content : List ℕ) → method_with raw x.0 x.1.document content ≡ Some v → v.method ≡ x.0
     by [] e = cc
-    by (b ∷ bytes) e = method-number x.0 x.1.document (signature_in raw x.1.document (b ∷ bytes)) raw (b ∷ bytes) (λ signature. record { method = x.0; signature = signature; points = points_in raw x.1.document (b ∷ bytes) }) (λ signature. refl) v e
+    by (b ∷ bytes) e = method-number x.0 x.1.document (signature_in raw x.1.document (b ∷ bytes)) raw (b ∷ bytes)
+        (λ signature. record { method = x.0; signature = signature; points = points_in raw x.1.document (b ∷ bytes) }) (λ signature. refl) v e
 
 module _ (m : Map) where
-  method-row : (raw : RawTables) (x : ℕ × MethodDebugRow) (o : Option MethodValue) (d : Bool) → ((v : MethodValue) → o ≡ Some v → v.method ≡ x.0) → is_dropped m x.0 ≡ d
-      → unplaced (cond d [] (of_points x.0 o)) ≡ elim o as (λ (w : Option MethodValue). List Named) [ None ↦ [] | Some v ↦ cond (live_method m v) (method_rows v) [] ]
+  method-row : (raw : RawTables) (x : ℕ × MethodDebugRow) (o : Option MethodValue) (d : Bool) → ((v : MethodValue) → o ≡ Some v → v.method ≡ x.0)
+      → is_dropped m x.0 ≡ d
+      → unplaced (cond d [] (of_points x.0 o))
+      ≡ elim o as (λ (w : Option MethodValue). List Named) [ None ↦ [] | Some v ↦ cond (live_method m v) (method_rows v) [] ]
   method-row raw x None true is e = refl
   method-row raw x None false is e = refl
   method-row raw x (Some v) true is e = let d : is_dropped m v.method ≡ true = ap (is_dropped m) (is v refl) ∙ e in rw d refl
   method-row raw x (Some v) false is e =
       let d : is_dropped m v.method ≡ false = ap (is_dropped m) (is v refl) ∙ e in
-      rw d (ap (λ (l : List Named). names 0x06 x.0 ∷ l) (some-named (cell 0x31 x.0 1) 0x11 v.signature) ∙ ap (λ (n : ℕ). names 0x06 n ∷ names_some 0x11 v.signature) (sym (is v refl)))
+      rw d (ap (λ (l : List Named). names 0x06 x.0 ∷ l) (some-named (cell 0x31 x.0 1) 0x11 v.signature)
+      ∙ ap (λ (n : ℕ). names 0x06 n ∷ names_some 0x11 v.signature) (sym (is v refl)))
 
-  pub methods-named : (raw : RawTables) → unplaced (flat_map (of_method m raw) (numbered raw.methods)) ≡ flat_map method_rows (filter (live_method m) (filter_map (method_of raw) (numbered raw.methods)))
+  pub methods-named : (raw : RawTables)
+      → unplaced (flat_map (of_method m raw) (numbered raw.methods))
+      ≡ flat_map method_rows (filter (live_method m) (filter_map (method_of raw) (numbered raw.methods)))
   methods-named raw =
       unplaced-flat (of_method m raw) (numbered raw.methods)
       ∙ named-filtered (method_of raw) (λ x. unplaced (of_method m raw x)) (live_method m) method_rows (numbered raw.methods)
@@ -90,7 +98,9 @@ module _ (m : Map) where
   scope-row true place row = refl
   scope-row false place row = refl
 
-  pub scopes-named : (raw : RawFile) → unplaced (flat_map (of_scope m) (numbered raw.tables.scopes)) ≡ map (λ (s : NotedScope). names 0x06 s.method) (filter (live_scope m) (noted_file (value_of raw)).scopes)
+  pub scopes-named : (raw : RawFile)
+      → unplaced (flat_map (of_scope m) (numbered raw.tables.scopes))
+      ≡ map (λ (s : NotedScope). names 0x06 s.method) (filter (live_scope m) (noted_file (value_of raw)).scopes)
   scopes-named raw =
       unplaced-flat (of_scope m) (numbered raw.tables.scopes)
       ∙ named-mapped (noted_row raw) (λ x. unplaced (of_scope m x)) (live_scope m) (λ s. names 0x06 s.method ∷ []) (numbered raw.tables.scopes)

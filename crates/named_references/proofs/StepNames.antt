@@ -44,7 +44,8 @@ module _ (methods : ℕ) where
   told begun at value = map row_named (resume_method (record { byte = at; before = begun; value = value }))
 
   abbrev Steps : List Entry → List Value → ℕ → Value → Type 0
-  Steps whole begun at value = Good (after whole begun value) × (named (after whole begun value) ≡ named (record { whole = whole; begun = begun }) ++ told begun at value)
+  Steps whole begun at value = Good (after whole begun value)
+      × (named (after whole begun value) ≡ named (record { whole = whole; begun = begun }) ++ told begun at value)
 
   abbrev same : List Entry → Type 0
   same whole = flat_map entry_rows whole ≡ flat_map entry_rows whole ++ []
@@ -52,7 +53,8 @@ module _ (methods : ℕ) where
   stays : (whole : List Entry) → same whole
   stays whole = sym (append-nil (flat_map entry_rows whole))
 
-  steps : (whole : List Entry) (begun : List Value) (at : ℕ) (value : Value) → GoodAt whole begun → (async_stepping methods).allows whole begun value ≡ true → Steps whole begun at value
+  steps : (whole : List Entry) (begun : List Value) (at : ℕ) (value : Value) → GoodAt whole begun → (async_stepping methods).allows whole begun value ≡ true
+      → Steps whole begun at value
   steps [] [] at (number n) good allowed = (tt, refl)
   steps [] [] at (integer z) good allowed = absurd cc
   steps [] [] at (octets xs) good allowed = absurd cc

@@ -11,7 +11,8 @@ use Rattle.ppdb_values.specs.Owners.{ListsAreOwned}
 use Rattle.ppdb_values.specs.RawFile.{RawFile}
 use Rattle.ppdb_values.specs.Rules.{KeepsRules}
 use Rattle.ppdb_values.specs.Value.{value_of}
-use Rattle.ppdb_references.specs.References.{Reference, of_entry, of_method, of_scope, of_constant, of_import, of_machine, of_custom, of_methods, of_others, references}
+use Rattle.ppdb_references.specs.References.{Reference, of_entry, of_method, of_scope, of_constant, of_import, of_machine, of_custom, of_methods, of_others}
+use Rattle.ppdb_references.specs.References.{references}
 use Rattle.ppdb_noted.specs.Noted.{noted_file}
 use Rattle.ppdb_noted.specs.NamedRows.{Named, names, in_entry, in_constant, in_import, live_file, named_rows}
 use Rattle.named_references.specs.Laws.{named_by}
@@ -25,7 +26,8 @@ both xs ys a b e f = map-append named_by xs ys ∙ ap (λ (l : List Named). l ++
 regroup : (a b c d : List Named) → (a ++ (b ++ c)) ++ d ≡ a ++ (b ++ (c ++ d))
 regroup a b c d = append_assoc a (b ++ c) d ∙ ap (λ (l : List Named). a ++ l) (append_assoc b c d)
 
-pub all-named : (owned : ListsAreOwned) (first : Bool) (m : Map) (raw : RawFile) → KeepsRules raw → map named_by (references first m raw) ≡ named_rows first m (noted_file (value_of raw))
+pub all-named : (owned : ListsAreOwned) (first : Bool) (m : Map) (raw : RawFile) → KeepsRules raw
+    → map named_by (references first m raw) ≡ named_rows first m (noted_file (value_of raw))
 unfolding references
 all-named owned first m raw keeps =
     let t = raw.tables in
@@ -37,10 +39,17 @@ all-named owned first m raw keeps =
     let machines : List Named = flat_map machine_rows file.machines in
     let customs : List Named = flat_map custom_rows file.customs in
     let first_tables =
-    both (flat_map (of_method m t) (numbered t.methods)) (flat_map (of_scope m) (numbered t.scopes) ++ flat_map (of_constant m t) (numbered t.constants)) methods (scopes ++ constants) (methods-named m t)
-    (both (flat_map (of_scope m) (numbered t.scopes)) (flat_map (of_constant m t) (numbered t.constants)) scopes constants (scopes-named m raw) (constants-named m raw owned keeps)) in
+    both (flat_map (of_method m t) (numbered t.methods))
+    (flat_map (of_scope m) (numbered t.scopes) ++ flat_map (of_constant m t) (numbered t.constants)) methods (scopes ++ constants) (methods-named m t)
+    (both (flat_map (of_scope m) (numbered t.scopes)) (flat_map (of_constant m t) (numbered t.constants)) scopes constants (scopes-named m raw)
+    (constants-named m raw owned keeps)) in
     let last_tables =
-    both (flat_map (of_import t) (numbered t.imports)) (flat_map (of_machine m) (numbered t.machines) ++ flat_map (of_custom m t) (numbered t.customs)) imports (machines ++ customs) (imports-named m raw owned keeps)
-    (both (flat_map (of_machine m) (numbered t.machines)) (flat_map (of_custom m t) (numbered t.customs)) machines customs (machines-named m t) (customs-named m t)) in
-    both (of_entry first m raw.entry) (of_methods m t ++ of_others m t) (in_entry first file) (methods ++ (scopes ++ (constants ++ (imports ++ (machines ++ customs))))) (entry-named first m raw)
-    (both (of_methods m t) (of_others m t) (methods ++ (scopes ++ constants)) (imports ++ (machines ++ customs)) first_tables last_tables ∙ regroup methods scopes constants (imports ++ (machines ++ customs)))
+    both (flat_map (of_import t) (numbered t.imports))
+    (flat_map (of_machine m) (numbered t.machines) ++ flat_map (of_custom m t) (numbered t.customs)) imports (machines ++ customs)
+    (imports-named m raw owned keeps)
+    (both (flat_map (of_machine m) (numbered t.machines)) (flat_map (of_custom m t) (numbered t.customs)) machines customs (machines-named m t)
+    (customs-named m t)) in
+    both (of_entry first m raw.entry) (of_methods m t ++ of_others m t) (in_entry first file)
+    (methods ++ (scopes ++ (constants ++ (imports ++ (machines ++ customs))))) (entry-named first m raw)
+    (both (of_methods m t) (of_others m t) (methods ++ (scopes ++ constants)) (imports ++ (machines ++ customs)) first_tables last_tables
+    ∙ regroup methods scopes constants (imports ++ (machines ++ customs)))

@@ -13,4 +13,5 @@ abbrev pub named_by : Reference → Named
 named_by r = names r.table r.row
 
 abbrev pub ReferencesAreNamed : Type 0
-ReferencesAreNamed = (first : Bool) (m : Map) (raw : RawFile) → KeepsRules raw → map named_by (references first m raw) ≡ named_rows first m (noted_file (value_of raw))
+ReferencesAreNamed = (first : Bool) (m : Map) (raw : RawFile) → KeepsRules raw
+    → map named_by (references first m raw) ≡ named_rows first m (noted_file (value_of raw))

@@ -16,19 +16,24 @@ use Rattle.ppdb_moved.specs.declared.noting.OnRows.{OnRows}
 use Rattle.ppdb_moved.specs.OnRows.{on_row, in_lists, HasRows, HasAll, noted_by, noted_scopes_by}
 use Rattle.ppdb_moved.proofs.ScopesAtRows.{noted_same, scopes_are}
 
-rows_agree : (customs : List CustomValue) (table n : ℕ) (lists : List (List Custom)) → HasRows customs table n lists → (r : ℕ) → 1 ≤ r → r < 1 + n → in_lists lists r ≡ on_row customs table r
+rows_agree : (customs : List CustomValue) (table n : ℕ) (lists : List (List Custom)) → HasRows customs table n lists → (r : ℕ) → 1 ≤ r → r < 1 + n
+    → in_lists lists r ≡ on_row customs table r
 rows_agree customs table n lists has r low high = has.each (r - 1) (omega arith) ∙ ap (on_row customs table) (let e : r - 1 + 1 ≡ r = omega arith in e)
 
-pub file_is : (value : FileValue) (rows : OnRows) (documents : List (Noted DocumentValue)) (scopes : List NotedScope) (imports : List (Noted ImportScopeValue)) (others : List CustomValue)
-    → HasAll value.customs (length value.documents) (length value.scopes) (sum_by (λ (s : ScopeValue). length s.variables) value.scopes) (sum_by (λ (s : ScopeValue). length s.constants) value.scopes) (length value.imports) rows
+pub file_is : (value : FileValue) (rows : OnRows) (documents : List (Noted DocumentValue)) (scopes : List NotedScope)
+    (imports : List (Noted ImportScopeValue)) (others : List CustomValue)
+    → HasAll value.customs (length value.documents) (length value.scopes) (sum_by (λ (s : ScopeValue). length s.variables) value.scopes)
+    (sum_by (λ (s : ScopeValue). length s.constants) value.scopes) (length value.imports) rows
     → documents ≡ noted_by (in_lists rows.documents.items) 1 value.documents
     → scopes ≡ noted_scopes_by (in_lists rows.scopes.items) (in_lists rows.variables.items) (in_lists rows.constants.items) 1 1 1 value.scopes
     → imports ≡ noted_by (in_lists rows.imports.items) 1 value.imports → others ≡ rows.others
     → let file : NotedFile = record { id = value.id; entry = value.entry; rows = value.rows; documents = documents; methods = value.methods; scopes = scopes; imports = imports; machines = value.machines; customs = others } in
     file ≡ noted_file value
 file_is value rows documents scopes imports others has d s i o =
-    let d2 = d ∙ noted_same (in_lists rows.documents.items) (noted_on value 0x30) 1 value.documents (rows_agree value.customs 0x30 (length value.documents) rows.documents.items has.documents_are) in
-    let i2 = i ∙ noted_same (in_lists rows.imports.items) (noted_on value 0x35) 1 value.imports (rows_agree value.customs 0x35 (length value.imports) rows.imports.items has.imports_are) in
+    let d2 = d ∙ noted_same (in_lists rows.documents.items) (noted_on value 0x30) 1 value.documents
+    (rows_agree value.customs 0x30 (length value.documents) rows.documents.items has.documents_are) in
+    let i2 = i ∙ noted_same (in_lists rows.imports.items) (noted_on value 0x35) 1 value.imports
+    (rows_agree value.customs 0x35 (length value.imports) rows.imports.items has.imports_are) in
     let s2 = s ∙ scopes_are (in_lists rows.scopes.items) (in_lists rows.variables.items) (in_lists rows.constants.items) value [] value.scopes refl
     (rows_agree value.customs 0x32 (length value.scopes) rows.scopes.items has.scopes_are)
     (rows_agree value.customs 0x33 (sum_by (λ (x : ScopeValue). length x.variables) value.scopes) rows.variables.items has.variables_are)
@@ -36,7 +41,8 @@ file_is value rows documents scopes imports others has d s i o =
     let o2 = o ∙ has.others_are in
     ap (λ (t : List (Noted DocumentValue) × List NotedScope × List (Noted ImportScopeValue) × List CustomValue).
     let file : NotedFile = record { id = value.id; entry = value.entry; rows = value.rows; documents = t.0; methods = value.methods; scopes = t.1; imports = t.2; machines = value.machines; customs = t.3 } in file)
-    (let whole = noted_file value in let e : (documents, scopes, imports, others) ≡ (whole.documents, whole.scopes, whole.imports, whole.customs) = cc (d2, s2, i2, o2) in e)
+    (let whole = noted_file value in let e : (documents, scopes, imports, others)
+    ≡ (whole.documents, whole.scopes, whole.imports, whole.customs) = cc (d2, s2, i2, o2) in e)
 
 pub counts_same : (rows : OnRows) (a b c d e k l m n o : ℕ) → HasAll [] a b c d e rows → a ≡ k → b ≡ l → c ≡ m → d ≡ n → e ≡ o → HasAll [] k l m n o rows
 counts_same rows a b c d e k l m n o has p q r s t =

@@ -1,22 +1,19 @@
 -- What a map that fits a file says of a method that the file names.
-use Rattle.std.proofs.Common.{◌≡◌, ◌≢◌, ℕ, zero, suc, ◌+◌, ◌<◌, ◌≤◌, ◌&&◌, ◌||◌, not, Bool, true, false, cond, List, [], ◌∷◌, ◌++◌, Option, Some, None, refl}
-use Rattle.std.proofs.Common.{sym, ◌∙◌, ap, subst, arith, flat_map, map}
+use Rattle.std.proofs.Common.{◌≡◌, ◌≢◌, ℕ, zero, suc, ◌<◌, ◌≤◌, ◌&&◌, not, Bool, true, false, cond, List, [], ◌∷◌, Option, Some, None, refl}
+use Rattle.std.proofs.Common.{sym, ◌∙◌, ap, subst, arith}
 use Rattle.std.specs.Prelude.{nat_eq, All, AllPairs, IfSome, unwrap_or, Contains}
-use Rattle.std.specs.List.{filter, find, repeat, AllByRecursion}
-use Rattle.std.specs.Option.{option_map}
-use Rattle.std.proofs.lemmas.Bool.{ne_eqb, eqb-true, both_ways}
+use Rattle.std.specs.List.{repeat}
+use Rattle.std.proofs.lemmas.Bool.{ne_eqb}
 use Rattle.std.proofs.lemmas.List.Elements.{All-head, All-tail}
-use Rattle.ppdb_base.specs.Offsets.{Offsets, every, gone, lined, Rise, old_size}
-use Rattle.ppdb_base.specs.declared.offsets.Run.{Run}
+use Rattle.ppdb_base.specs.Offsets.{Offsets, every, gone, Rise, old_size}
 use Rattle.custom_info.specs.declared.kinds.Kind.{Kind}
 use Rattle.custom_info.specs.declared.kinds.Kind.TheVariants as kinds
 use Rattle.custom_info.specs.declared.slots.Slot.{Slot}
 use Rattle.custom_info.specs.declared.slots.Slot.TheVariants.{Empty, Held}
 use Rattle.custom_info.specs.HoistedScopes.{IsSlot}
 use Rattle.custom_info.specs.Kinds.{kind_of}
-use Rattle.ppdb_maps.specs.declared.entries.RowImage.{RowImage}
-use Rattle.ppdb_maps.specs.Map.{Map, MethodLine, moved_row, row_image, row_line, count_of, offsets_in, is_dropped, line_offsets, method_line}
-use Rattle.ppdb_maps.specs.Readable.{IsReadable, IsLineOf, IsRowOf}
+use Rattle.ppdb_maps.specs.Map.{Map, MethodLine, moved_row, row_line, count_of, offsets_in, is_dropped, line_offsets, method_line}
+use Rattle.ppdb_maps.specs.Readable.{IsReadable, IsLineOf}
 use Rattle.ppdb_tables.specs.declared.rows.MachineRow.{MachineRow}
 use Rattle.sequence_points.specs.declared.point.Point.{Point}
 use Rattle.ppdb_values.specs.declared.custom.CustomBody.{CustomBody}
@@ -28,15 +25,15 @@ use Rattle.sound_values.specs.Customs.{SoundCustom, IsBodyOfKind}
 use Rattle.sound_values.specs.Methods.{SoundMethod}
 use Rattle.ppdb_noted.specs.declared.file.NotedScope.{NotedScope}
 use Rattle.ppdb_noted.specs.declared.file.NotedFile.{NotedFile}
-use Rattle.ppdb_noted.specs.Each.{Each, Pairs}
-use Rattle.ppdb_noted.specs.NamedRows.{Named, names, names_some, named_rows, in_entry, all_named, live_file, live_method, live_scope, live_machine}
+use Rattle.ppdb_noted.specs.Each.{Each}
+use Rattle.ppdb_noted.specs.NamedRows.{Named, names, names_some, named_rows, in_entry, live_file, live_machine}
 use Rattle.ppdb_noted.specs.NamedRows.{live_custom, in_steps}
-use Rattle.ppdb_noted.specs.SoundParts.{SoundMoved, SoundNotedScope}
+use Rattle.ppdb_noted.specs.SoundParts.{SoundNotedScope}
 use Rattle.ppdb_noted.specs.Unnoted.{value_of_noted}
 use Rattle.ppdb_moved.specs.Laws.{FitsAreOfMethods}
-use Rattle.ppdb_noted.proofs.Lists.{Each-weaker, Each-unmap}
+use Rattle.ppdb_noted.proofs.Lists.{Each-weaker}
 use Rattle.ppdb_moved.specs.Fits.{Fits, IsImaged, AreWithin, EndsWithin}
-use Rattle.ppdb_moved.specs.FitsMethod.{PointsRise, FitsScope, FitsMethod, FitsSlot, FitsSlots, FitsCustom, FitsEntry, FitsMachine, FitsFile}
+use Rattle.ppdb_moved.specs.FitsMethod.{FitsScope, FitsMethod, FitsSlot, FitsSlots, FitsCustom, FitsEntry, FitsMachine}
 use Rattle.ppdb_moved.proofs.Elements.{each_in, in_each}
 use Rattle.ppdb_moved.proofs.NamedParts.{NamedParts, named_parts}
 use Rattle.ppdb_moved.proofs.RisingPoints.{points_are_rising}

@@ -15,35 +15,45 @@ rest_same : (all points : List Point) (place : ℕ) → drop place points ≡ dr
 rest_same all points place left = sym (drop-drop 1 place points) ∙ ap (drop 1) left ∙ drop-drop 1 place all
 
 -- the points from one on, by whether it stays
-by_test : (o : Offsets) → Rise o → old_size o ≤ 4294967295 → (all points : List Point) (place : ℕ) (d : Point) (end : ℕ) (r : Bool) → place < length points → drop place points ≡ drop place all
+by_test : (o : Offsets) → Rise o → old_size o ≤ 4294967295 → (all points : List Point) (place : ℕ) (d : Point) (end : ℕ) (r : Bool) → place < length points
+    → drop place points ≡ drop place all
     → end ≡ first_offset 4294967295 (drop (place + 1) points) → (IsTrue r ↔ KeepsBetween o (get_or points place d).offset end)
-    → moved_points o (drop place all) ≡ cond r (at_image o (get_or points place d) ∷ moved_points o (drop (place + 1) all)) (moved_points o (drop (place + 1) all))
+    → moved_points o (drop place all)
+    ≡ cond r (at_image o (get_or points place d) ∷ moved_points o (drop (place + 1) all)) (moved_points o (drop (place + 1) all))
 by_test o rise le all points place d end r less left ends says =
     let p = get_or points place d in
     let rest = drop (place + 1) all in
     let same : drop (place + 1) points ≡ rest = rest_same all points place left in
     ap (moved_points o) (sym left ∙ drop_more points place d less ∙ ap (λ ps. p ∷ ps) same)
-    ∙ ap (λ b. cond b (at_image o p ∷ moved_points o rest) (moved_points o rest)) (test_is o rise le p rest end r (ends ∙ ap (first_offset 4294967295) same) says)
+    ∙ ap (λ b. cond b (at_image o p ∷ moved_points o rest) (moved_points o rest))
+    (test_is o rise le p rest end r (ends ∙ ap (first_offset 4294967295) same) says)
 
-pub front_stays : (o : Offsets) → Rise o → old_size o ≤ 4294967295 → (all points : List Point) (stay place : ℕ) (d : Point) (end : ℕ) (r : Bool) (q : Point) → place < length points → stay ≤ place
+pub front_stays : (o : Offsets) → Rise o → old_size o ≤ 4294967295 → (all points : List Point) (stay place : ℕ) (d : Point) (end : ℕ) (r : Bool) (q : Point)
+    → place < length points → stay ≤ place
     → drop place points ≡ drop place all → moved_points o all ≡ take stay points ++ moved_points o (drop place all)
-    → end ≡ first_offset 4294967295 (drop (place + 1) points) → (IsTrue r ↔ KeepsBetween o (get_or points place d).offset end) → r ≡ true → q ≡ at_image o (get_or points place d)
+    → end ≡ first_offset 4294967295 (drop (place + 1) points) → (IsTrue r ↔ KeepsBetween o (get_or points place d).offset end) → r ≡ true
+    → q ≡ at_image o (get_or points place d)
     → moved_points o all ≡ take (stay + 1) (set points stay q) ++ moved_points o (drop (place + 1) all)
 front_stays o rise le all points stay place d end r q less within left done ends says kept is =
     let rest = moved_points o (drop (place + 1) all) in
     done
-    ∙ ap (λ ps. take stay points ++ ps) (by_test o rise le all points place d end r less left ends says ∙ ap (λ b. cond b (at_image o (get_or points place d) ∷ rest) rest) kept ∙ ap (λ x. x ∷ rest) (sym is))
+    ∙ ap (λ ps. take stay points ++ ps)
+    (by_test o rise le all points place d end r less left ends says ∙ ap (λ b. cond b (at_image o (get_or points place d) ∷ rest) rest) kept
+    ∙ ap (λ x. x ∷ rest) (sym is))
     ∙ sym (append_assoc (take stay points) (q ∷ []) rest) ∙ ap (λ ps. ps ++ rest) (sym (take_more_set points stay q (omega arith)))
 
-pub front_goes : (o : Offsets) → Rise o → old_size o ≤ 4294967295 → (all points : List Point) (stay place : ℕ) (d : Point) (end : ℕ) (r : Bool) → place < length points
+pub front_goes : (o : Offsets) → Rise o → old_size o ≤ 4294967295 → (all points : List Point) (stay place : ℕ) (d : Point) (end : ℕ) (r : Bool)
+    → place < length points
     → drop place points ≡ drop place all → moved_points o all ≡ take stay points ++ moved_points o (drop place all)
     → end ≡ first_offset 4294967295 (drop (place + 1) points) → (IsTrue r ↔ KeepsBetween o (get_or points place d).offset end) → r ≡ false
     → moved_points o all ≡ take stay points ++ moved_points o (drop (place + 1) all)
 front_goes o rise le all points stay place d end r less left done ends says out =
     let rest = moved_points o (drop (place + 1) all) in
-    done ∙ ap (λ ps. take stay points ++ ps) (by_test o rise le all points place d end r less left ends says ∙ ap (λ b. cond b (at_image o (get_or points place d) ∷ rest) rest) out)
+    done ∙ ap (λ ps. take stay points ++ ps)
+    (by_test o rise le all points place d end r less left ends says ∙ ap (λ b. cond b (at_image o (get_or points place d) ∷ rest) rest) out)
 
-pub left_after_set : (all points : List Point) (stay place : ℕ) (q : Point) → stay ≤ place → drop place points ≡ drop place all → drop (place + 1) (set points stay q) ≡ drop (place + 1) all
+pub left_after_set : (all points : List Point) (stay place : ℕ) (q : Point) → stay ≤ place → drop place points ≡ drop place all
+    → drop (place + 1) (set points stay q) ≡ drop (place + 1) all
 left_after_set all points stay place q within left = drop-set-lt (place + 1) points stay q (omega arith) ∙ rest_same all points place left
 
 pub left_next : (all points : List Point) (place : ℕ) → drop place points ≡ drop place all → drop (place + 1) points ≡ drop (place + 1) all

@@ -1,5 +1,5 @@
 -- What holds of each row that a file names, part by part of the file.
-use Rattle.std.proofs.Common.{◌≡◌, ℕ, ◌++◌, ◌||◌, not, Bool, true, false, List, [], ◌∷◌, ap, flat_map, map}
+use Rattle.std.proofs.Common.{◌≡◌, ◌++◌, not, Bool, true, false, List, [], ◌∷◌, ap, flat_map, map}
 use Rattle.std.specs.List.{filter}
 use Rattle.ppdb_maps.specs.Map.{Map, is_dropped}
 use Rattle.ppdb_tables.specs.declared.rows.MachineRow.{MachineRow}

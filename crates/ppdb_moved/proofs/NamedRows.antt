@@ -1,9 +1,8 @@
 -- The rows that a sound file names are rows.
-use Rattle.std.proofs.Common.{◌≡◌, ℕ, zero, suc, ◌<◌, ◌≤◌, ◌++◌, Bool, true, false, cond, List, [], ◌∷◌, map, flat_map, refl, subst, arith}
-use Rattle.std.specs.Prelude.{nat_eq, All}
-use Rattle.std.specs.List.{filter, repeat}
+use Rattle.std.proofs.Common.{◌≡◌, ℕ, zero, suc, ◌≤◌, Bool, true, false, cond, List, [], ◌∷◌, map, flat_map, refl, subst, arith}
+use Rattle.std.specs.Prelude.{nat_eq}
+use Rattle.std.specs.List.{filter}
 use Rattle.std.proofs.lemmas.Bool.{eqb-false}
-use Rattle.std.proofs.lemmas.List.Elements.{All-head, All-tail}
 use Rattle.type_blobs.specs.declared.types.TypeToken.{TypeToken}
 use Rattle.type_blobs.specs.declared.types.Modifier.{Modifier}
 use Rattle.type_blobs.specs.Spelling.{IsBody, IsBodyThere}
@@ -27,17 +26,16 @@ use Rattle.ppdb_values.specs.declared.noted.Noted.{Noted}
 use Rattle.ppdb_values.specs.declared.scope.ConstantValue.{ConstantValue}
 use Rattle.ppdb_values.specs.declared.scope.ConstantBody.{ConstantBody}
 use Rattle.ppdb_values.specs.declared.scope.ConstantBody.TheVariants.{Primitive, Enumerated, General, Object}
-use Rattle.sound_values.specs.Customs.{SoundCustom, IsBodyOfKind}
+use Rattle.sound_values.specs.Customs.{IsBodyOfKind}
 use Rattle.sound_values.specs.Imports.{SoundImport}
 use Rattle.sound_values.specs.Named.{count, HasType, type_limits}
 use Rattle.sound_values.specs.Scopes.{SoundConstant, stored_body}
 use Rattle.ppdb_noted.specs.declared.file.NotedScope.{NotedScope}
 use Rattle.ppdb_noted.specs.declared.file.NotedFile.{NotedFile}
 use Rattle.ppdb_noted.specs.Each.{Each}
-use Rattle.ppdb_noted.specs.NamedRows.{Named, names, names_some, named_rows, in_token, in_body, in_constant, in_import, in_steps, in_entry, all_named}
+use Rattle.ppdb_noted.specs.NamedRows.{Named, names, names_some, in_token, in_body, in_constant, in_import, in_steps, in_entry, all_named}
 use Rattle.ppdb_noted.specs.NamedRows.{live_file, live_method, live_scope, live_machine, live_custom}
 use Rattle.ppdb_noted.specs.Noted.{items_of}
-use Rattle.ppdb_noted.specs.SoundParts.{SoundMoved}
 use Rattle.ppdb_noted.specs.Unnoted.{value_of_noted}
 use Rattle.ppdb_noted.proofs.Lists.{Each-append, Each-filter, Each-map, Each-weaker, each_row}
 use Rattle.ppdb_moved.specs.Laws.{NamedRowsAreRows}

@@ -18,7 +18,8 @@ use Rattle.ppdb_moved.specs.OnRows.{noted_by, noted_scope_by, noted_scopes_by}
 pub scopes_more : (S V C : ℕ → List Custom) (row variable constant : ℕ) (xs : List ScopeValue) (s : ScopeValue)
     → noted_scopes_by S V C row variable constant (xs ++ s ∷ [])
     ≡ noted_scopes_by S V C row variable constant xs
-    ++ noted_scope_by S V C (row + length xs) (variable + sum_by (λ (x : ScopeValue). length x.variables) xs) (constant + sum_by (λ (x : ScopeValue). length x.constants) xs) s ∷ []
+    ++ noted_scope_by S V C (row + length xs) (variable + sum_by (λ (x : ScopeValue). length x.variables) xs)
+    (constant + sum_by (λ (x : ScopeValue). length x.constants) xs) s ∷ []
 scopes_more S V C row variable constant [] s =
     let r : row ≡ row + 0 = omega arith in
     let v : variable ≡ variable + 0 = omega arith in
@@ -27,31 +28,47 @@ scopes_more S V C row variable constant [] s =
 scopes_more S V C row variable constant (x ∷ xs) s =
     let more = noted_scopes_by S V C (row + 1) (variable + length x.variables) (constant + length x.constants) xs in
     let r : (row + 1) + length xs ≡ row + length (x ∷ xs) = omega arith in
-    let v : (variable + length x.variables) + sum_by (λ (y : ScopeValue). length y.variables) xs ≡ variable + sum_by (λ (y : ScopeValue). length y.variables) (x ∷ xs) = omega (arith, sum_by-cons (λ (y : ScopeValue). length y.variables) x xs) in
-    let k : (constant + length x.constants) + sum_by (λ (y : ScopeValue). length y.constants) xs ≡ constant + sum_by (λ (y : ScopeValue). length y.constants) (x ∷ xs) = omega (arith, sum_by-cons (λ (y : ScopeValue). length y.constants) x xs) in
+    let v : (variable + length x.variables) + sum_by (λ (y : ScopeValue). length y.variables) xs
+    ≡ variable + sum_by (λ (y : ScopeValue). length y.variables) (x ∷ xs) = omega (arith, sum_by-cons (λ (y : ScopeValue). length y.variables) x xs) in
+    let k : (constant + length x.constants) + sum_by (λ (y : ScopeValue). length y.constants) xs
+    ≡ constant + sum_by (λ (y : ScopeValue). length y.constants) (x ∷ xs) = omega (arith, sum_by-cons (λ (y : ScopeValue). length y.constants) x xs) in
     ap (λ ys. noted_scope_by S V C row variable constant x ∷ ys)
     (scopes_more S V C (row + 1) (variable + length x.variables) (constant + length x.constants) xs s
     ∙ ap (λ (t : ℕ × ℕ × ℕ). more ++ noted_scope_by S V C t.0 t.1 t.2 s ∷ [])
-    (let e : ((row + 1) + length xs, (variable + length x.variables) + sum_by (λ (y : ScopeValue). length y.variables) xs, (constant + length x.constants) + sum_by (λ (y : ScopeValue). length y.constants) xs)
-    ≡ (row + length (x ∷ xs), variable + sum_by (λ (y : ScopeValue). length y.variables) (x ∷ xs), constant + sum_by (λ (y : ScopeValue). length y.constants) (x ∷ xs)) = cc in e))
+    (let e : (
+      (row + 1) + length xs,
+      (variable + length x.variables) + sum_by (λ (y : ScopeValue). length y.variables) xs,
+      (constant + length x.constants) + sum_by (λ (y : ScopeValue). length y.constants) xs,
+    )
+    ≡ (
+      row + length (x ∷ xs),
+      variable + sum_by (λ (y : ScopeValue). length y.variables) (x ∷ xs),
+      constant + sum_by (λ (y : ScopeValue). length y.constants)
+          (x ∷ xs),
+    ) = cc in e))
 
 -- items have the same records where the rows have
-pub noted_same : {X : Type 0} (f g : ℕ → List Custom) (first : ℕ) (xs : List X) → ((r : ℕ) → first ≤ r → r < first + length xs → f r ≡ g r) → noted_by f first xs ≡ noted_by g first xs
+pub noted_same : {X : Type 0} (f g : ℕ → List Custom) (first : ℕ) (xs : List X) → ((r : ℕ) → first ≤ r → r < first + length xs → f r ≡ g r)
+    → noted_by f first xs ≡ noted_by g first xs
 noted_same f g first [] same = refl
 noted_same {X} f g first (x ∷ xs) same =
     ap (λ (cs : List Custom). let n : Noted X = record { item = x; customs = cs } in n ∷ noted_by f (first + 1) xs) (same first (omega arith) (omega arith))
-    ∙ ap (λ (ys : List (Noted X)). let n : Noted X = record { item = x; customs = g first } in n ∷ ys) (noted_same f g (first + 1) xs (λ r low high. same r (omega arith) (omega arith)))
+    ∙ ap (λ (ys : List (Noted X)). let n : Noted X = record { item = x; customs = g first } in n ∷ ys)
+    (noted_same f g (first + 1) xs (λ r low high. same r (omega arith) (omega arith)))
 
-first_is : (items : ScopeValue → ℕ) (value : FileValue) (before after : List ScopeValue) → value.scopes ≡ before ++ after → first_item items value (1 + length before) ≡ 1 + sum_by items before
+first_is : (items : ScopeValue → ℕ) (value : FileValue) (before after : List ScopeValue) → value.scopes ≡ before ++ after
+    → first_item items value (1 + length before) ≡ 1 + sum_by items before
 first_is items value before after cut =
     ap (λ n. suc (sum_by items (take n value.scopes))) (let e : 1 + length before - 1 ≡ length before = omega arith in e)
-    ∙ ap (λ xs. suc (sum_by items xs)) (ap (take (length before)) cut ∙ take_at before after (length before) refl) ∙ (let e : suc (sum_by items before) ≡ 1 + sum_by items before = omega arith in e)
+    ∙ ap (λ xs. suc (sum_by items xs)) (ap (take (length before)) cut ∙ take_at before after (length before) refl)
+    ∙ (let e : suc (sum_by items before) ≡ 1 + sum_by items before = omega arith in e)
 
 pub scopes_are : (S V C : ℕ → List Custom) (value : FileValue) (before after : List ScopeValue) → value.scopes ≡ before ++ after
     → ((r : ℕ) → 1 ≤ r → r < 1 + length value.scopes → S r ≡ noted_on value 0x32 r)
     → ((r : ℕ) → 1 ≤ r → r < 1 + sum_by (λ (s : ScopeValue). length s.variables) value.scopes → V r ≡ noted_on value 0x33 r)
     → ((r : ℕ) → 1 ≤ r → r < 1 + sum_by (λ (s : ScopeValue). length s.constants) value.scopes → C r ≡ noted_on value 0x34 r)
-    → noted_scopes_by S V C (1 + length before) (1 + sum_by (λ (s : ScopeValue). length s.variables) before) (1 + sum_by (λ (s : ScopeValue). length s.constants) before) after
+    → noted_scopes_by S V C (1 + length before) (1 + sum_by (λ (s : ScopeValue). length s.variables) before)
+    (1 + sum_by (λ (s : ScopeValue). length s.constants) before) after
     ≡ map (noted_scope value) (enumerate_from (1 + length before) after)
 scopes_are S V C value before [] cut same_s same_v same_c = refl
 scopes_are S V C value before (s ∷ ss) cut same_s same_v same_c =
@@ -61,30 +78,49 @@ scopes_are S V C value before (s ∷ ss) cut same_s same_v same_c =
     let variable = 1 + sum_by lv before in
     let constant = 1 + sum_by lc before in
     let count : length value.scopes ≡ length before + length (s ∷ ss) = ap length cut ∙ length-append before (s ∷ ss) in
-    let total_v : sum_by lv value.scopes ≡ sum_by lv before + (length s.variables + sum_by lv ss) = ap (sum_by lv) cut ∙ sum_by-append lv before (s ∷ ss) ∙ ap (λ n. sum_by lv before + n) (sum_by-cons lv s ss) in
-    let total_c : sum_by lc value.scopes ≡ sum_by lc before + (length s.constants + sum_by lc ss) = ap (sum_by lc) cut ∙ sum_by-append lc before (s ∷ ss) ∙ ap (λ n. sum_by lc before + n) (sum_by-cons lc s ss) in
+    let total_v : sum_by lv value.scopes ≡ sum_by lv before + (length s.variables + sum_by lv ss) = ap (sum_by lv) cut ∙ sum_by-append lv before (s ∷ ss)
+    ∙ ap (λ n. sum_by lv before + n) (sum_by-cons lv s ss) in
+    let total_c : sum_by lc value.scopes ≡ sum_by lc before + (length s.constants + sum_by lc ss) = ap (sum_by lc) cut ∙ sum_by-append lc before (s ∷ ss)
+    ∙ ap (λ n. sum_by lc before + n) (sum_by-cons lc s ss) in
     let own : S row ≡ noted_on value 0x32 row = same_s row (omega arith) (omega arith) in
     let its_v : noted_by V variable s.variables ≡ noted_from value 0x33 (first_item lv value row) s.variables
-    = noted_same V (noted_on value 0x33) variable s.variables (λ r low high. same_v r (omega arith) (omega arith)) ∙ ap (λ n. noted_from value 0x33 n s.variables) (sym (first_is lv value before (s ∷ ss) cut)) in
+    = noted_same V (noted_on value 0x33) variable s.variables (λ r low high. same_v r (omega arith) (omega arith))
+    ∙ ap (λ n. noted_from value 0x33 n s.variables) (sym (first_is lv value before (s ∷ ss) cut)) in
     let its_c : noted_by C constant s.constants ≡ noted_from value 0x34 (first_item lc value row) s.constants
-    = noted_same C (noted_on value 0x34) constant s.constants (λ r low high. same_c r (omega arith) (omega arith)) ∙ ap (λ n. noted_from value 0x34 n s.constants) (sym (first_is lc value before (s ∷ ss) cut)) in
+    = noted_same C (noted_on value 0x34) constant s.constants (λ r low high. same_c r (omega arith) (omega arith))
+    ∙ ap (λ n. noted_from value 0x34 n s.constants) (sym (first_is lc value before (s ∷ ss) cut)) in
     let head : noted_scope_by S V C row variable constant s ≡ noted_scope value (row, s)
-    = ap (λ (t : List Custom × List (Noted VariableValue) × List (Noted ConstantValue)). let n : NotedScope = record { method = s.method; import = s.import; range = s.range; customs = t.0; variables = t.1; constants = t.2 } in n)
-    (let e : (S row, noted_by V variable s.variables, noted_by C constant s.constants) ≡ (noted_on value 0x32 row, noted_from value 0x33 (first_item lv value row) s.variables, noted_from value 0x34 (first_item lc value row) s.constants) = cc in e) in
+    = ap (λ (t : List Custom × List (Noted VariableValue)
+    × List (Noted ConstantValue)). let
+    n : NotedScope = record { method = s.method; import = s.import; range = s.range; customs = t.0; variables = t.1; constants = t.2 } in n)
+    (let e : (S row, noted_by V variable s.variables, noted_by C constant s.constants)
+    ≡ (
+      noted_on value 0x32 row,
+      noted_from value 0x33 (first_item lv value row) s.variables,
+      noted_from value 0x34
+          (first_item lc value row) s.constants,
+    ) = cc in e) in
     let further = scopes_are S V C value (before ++ s ∷ []) ss (cut ∙ sym (append_assoc before (s ∷ []) ss)) same_s same_v same_c in
     let r : 1 + length (before ++ s ∷ []) ≡ row + 1 = omega (arith, length-append before (s ∷ [])) in
     let v : 1 + sum_by lv (before ++ s ∷ []) ≡ variable + length s.variables = omega (arith, sum_by-append lv before (s ∷ []), sum_by-cons lv s []) in
     let k : 1 + sum_by lc (before ++ s ∷ []) ≡ constant + length s.constants = omega (arith, sum_by-append lc before (s ∷ []), sum_by-cons lc s []) in
-    let tail : noted_scopes_by S V C (row + 1) (variable + length s.variables) (constant + length s.constants) ss ≡ map (noted_scope value) (enumerate_from (row + 1) ss)
+    let tail : noted_scopes_by S V C (row + 1) (variable + length s.variables) (constant + length s.constants) ss
+    ≡ map (noted_scope value) (enumerate_from (row + 1) ss)
     = ap (λ (t : ℕ × ℕ × ℕ). noted_scopes_by S V C t.0 t.1 t.2 ss)
-    (let e : (row + 1, variable + length s.variables, constant + length s.constants) ≡ (1 + length (before ++ s ∷ []), 1 + sum_by lv (before ++ s ∷ []), 1 + sum_by lc (before ++ s ∷ [])) = cc in e)
+    (let e : (row + 1, variable + length s.variables, constant + length s.constants)
+    ≡ (1 + length (before ++ s ∷ []), 1 + sum_by lv (before ++ s ∷ []), 1 + sum_by lc (before ++ s ∷ [])) = cc in e)
     ∙ further ∙ ap (λ n. map (noted_scope value) (enumerate_from n ss)) r in
-    ap (λ x. x ∷ noted_scopes_by S V C (row + 1) (variable + length s.variables) (constant + length s.constants) ss) head ∙ ap (λ xs. noted_scope value (row, s) ∷ xs) tail
+    ap (λ x. x ∷ noted_scopes_by S V C (row + 1) (variable + length s.variables) (constant + length s.constants) ss) head
+    ∙ ap (λ xs. noted_scope value (row, s) ∷ xs) tail
 
 -- a scope of which all parts are known
-pub scope_is : (S V C : ℕ → List Custom) (row variable constant : ℕ) (s : ScopeValue) (customs : List Custom) (variables : List (Noted VariableValue)) (constants : List (Noted ConstantValue))
+pub scope_is : (S V C : ℕ → List Custom) (row variable constant : ℕ) (s : ScopeValue) (customs : List Custom) (variables : List (Noted VariableValue))
+    (constants : List (Noted ConstantValue))
     → customs ≡ S row → variables ≡ noted_by V variable s.variables → constants ≡ noted_by C constant s.constants
-    → let n : NotedScope = record { method = s.method; import = s.import; range = s.range; customs = customs; variables = variables; constants = constants } in n ≡ noted_scope_by S V C row variable constant s
+    → let n : NotedScope = record { method = s.method; import = s.import; range = s.range; customs = customs; variables = variables; constants = constants }
+    in n ≡ noted_scope_by S V C row variable constant s
 scope_is S V C row variable constant s customs variables constants c v k =
-    ap (λ (t : List Custom × List (Noted VariableValue) × List (Noted ConstantValue)). let n : NotedScope = record { method = s.method; import = s.import; range = s.range; customs = t.0; variables = t.1; constants = t.2 } in n)
+    ap (λ (t : List Custom × List (Noted VariableValue)
+    × List (Noted ConstantValue)). let
+    n : NotedScope = record { method = s.method; import = s.import; range = s.range; customs = t.0; variables = t.1; constants = t.2 } in n)
     (let e : (customs, variables, constants) ≡ (S row, noted_by V variable s.variables, noted_by C constant s.constants) = cc in e)

@@ -1,16 +1,16 @@
 -- The items of a sound file are sound after they have moved.
-use Rattle.std.proofs.Common.{◌≡◌, ◌≢◌, ℕ, zero, suc, ◌<◌, ◌≤◌, ◌⊎◌, ◌++◌, Bool, true, false, cond, List, [], ◌∷◌, Option, Some, None, map, refl, sym, ◌∙◌}
+use Rattle.std.proofs.Common.{◌≡◌, ◌≢◌, ℕ, ◌<◌, ◌≤◌, ◌⊎◌, Bool, true, false, cond, List, [], ◌∷◌, Option, Some, None, map, refl, sym}
 use Rattle.std.proofs.Common.{ap, subst, arith, inl, inr}
-use Rattle.std.specs.Prelude.{nat_eq, nat_lt, not, All, IfSome, IsSome, get_or}
+use Rattle.std.specs.Prelude.{nat_eq, nat_lt, All, IfSome, get_or}
 use Rattle.std.specs.List.{repeat}
 use Rattle.std.specs.Option.{option_map}
-use Rattle.std.proofs.lemmas.Bool.{cases_lt, ne_eqb, ltb-true, not-false}
+use Rattle.std.proofs.lemmas.Bool.{cases_lt, ltb-true, not-false}
 use Rattle.std.proofs.lemmas.List.Elements.{All-head, All-tail}
 use Rattle.ppdb_base.specs.Offsets.{Offsets, every, gone, lined, Rise, Kept, moved, old_size}
 use Rattle.ppdb_base.proofs.Moved.{moved_never_falls}
 use Rattle.type_blobs.specs.declared.types.TypeToken.{TypeToken}
 use Rattle.type_blobs.specs.declared.types.Modifier.{Modifier}
-use Rattle.type_blobs.specs.Types.{IsToken, IsThere, rows_of, tag_of}
+use Rattle.type_blobs.specs.Types.{rows_of, tag_of}
 use Rattle.type_blobs.specs.Spelling.{IsBody, IsBodyThere}
 use Rattle.custom_info.specs.AsyncStepping.{IsHandler, IsStep}
 use Rattle.custom_info.specs.HoistedScopes.{IsSlot}
@@ -39,12 +39,10 @@ use Rattle.sound_values.specs.Named.{count, HasRow, HasType, type_limits}
 use Rattle.sound_values.specs.Scopes.{SoundConstant, stored_body}
 use Rattle.ppdb_noted.specs.Each.{Each}
 use Rattle.ppdb_noted.specs.NamedRows.{names, in_token, in_body, in_constant, in_import, in_steps}
-use Rattle.ppdb_noted.proofs.Lists.{Each-map, Each-unmap, Each-weaker}
 use Rattle.ppdb_moved.specs.Fits.{IsImaged, KeepsStep, KeepsAsync, EndsWithin, AreWithin}
 use Rattle.ppdb_moved.specs.Moved.{moved_range, is_empty, moved_slot, moved_step, moved_body, moved_token, moved_modifier, moved_constant_body}
 use Rattle.ppdb_moved.specs.Moved.{moved_constant, moved_import}
 use Rattle.ppdb_moved.proofs.Elements.{each_parts}
-use Rattle.ppdb_moved.proofs.Lists.{Each-both}
 use Rattle.ppdb_moved.proofs.Means.{kept_within}
 use Rattle.ppdb_moved.proofs.RisingPoints.{all_each, size_moved, itself_moved}
 use Rattle.ppdb_moved.proofs.RowImages.{row_moved, found_holds}

@@ -1,17 +1,14 @@
 -- A sound file that a map fits is sound, part by part, after it has moved.
-use Rattle.std.proofs.Common.{◌≡◌, ◌≢◌, ℕ, zero, suc, ◌+◌, ◌*◌, ◌<◌, ◌≤◌, ◌&&◌, ◌||◌, ◌⊎◌, not, Bool, true, false, cond, List, [], ◌∷◌, Option, Some, None}
-use Rattle.std.proofs.Common.{map, length, refl, sym, ◌∙◌, ap, subst, arith, inl, inr}
-use Rattle.std.specs.Prelude.{nat_eq, nat_lt, ◌==◌, All, AllPairs, IfSome, IsSome, Contains, unwrap_or, position}
-use Rattle.std.specs.List.{filter_map, repeat, sum_by}
+use Rattle.std.proofs.Common.{◌≡◌, ◌≢◌, ℕ, zero, suc, ◌+◌, ◌*◌, ◌<◌, ◌≤◌, ◌&&◌, ◌||◌, not, Bool, true, false, cond, List, [], ◌∷◌, Option, Some, None}
+use Rattle.std.proofs.Common.{map, length, refl, sym, ◌∙◌, ap, subst, arith}
+use Rattle.std.specs.Prelude.{nat_eq, nat_lt, ◌==◌, IsSome, Contains, unwrap_or, position}
 use Rattle.std.specs.Option.{option_map}
 use Rattle.std.proofs.lemmas.Bool.{ltb-true, not-false, both_ways, ne_eqb}
-use Rattle.std.proofs.lemmas.List.{length-map}
-use Rattle.ppdb_base.specs.Offsets.{Offsets, gone, Rise, moved, old_size, is_kept_between}
+use Rattle.ppdb_base.specs.Offsets.{gone, Rise, moved, old_size, is_kept_between}
 use Rattle.sequence_points.specs.declared.point.Point.{Point}
 use Rattle.sequence_points.specs.MovedPoints.{moved_points, first_offset}
-use Rattle.ppdb_maps.specs.Map.{Map, moved_row, row_image, offsets_in, is_dropped, line_offsets, method_line, slot_image}
+use Rattle.ppdb_maps.specs.Map.{Map, moved_row, offsets_in, is_dropped, line_offsets, method_line}
 use Rattle.ppdb_maps.specs.Readable.{IsReadable}
-use Rattle.ppdb_tables.specs.declared.parent.Parent.{Parent}
 use Rattle.ppdb_tables.specs.declared.rows.MachineRow.{MachineRow}
 use Rattle.row_layout.specs.Columns.{parent_tables}
 use Rattle.ppdb_tables.specs.Parents.{coded_in}
@@ -26,30 +23,28 @@ use Rattle.ppdb_values.specs.Chains.{NeverEnds, parent_at, ancestor_of}
 use Rattle.ppdb_values.specs.declared.noted.Custom.{Custom}
 use Rattle.ppdb_values.specs.declared.noted.Noted.{Noted}
 use Rattle.ppdb_values.specs.declared.scope.VariableValue.{VariableValue}
-use Rattle.ppdb_values.specs.declared.scope.ConstantValue.{ConstantValue}
 use Rattle.custom_info.specs.Kinds.{kind_of}
 use Rattle.ppdb_values.specs.Ranges.{ComesAfter, IsInOrAfter}
 use Rattle.sound_values.specs.Customs.{SoundCustom}
 use Rattle.sound_values.specs.Methods.{SoundMethod, SoundPoint}
-use Rattle.sound_values.specs.Named.{count, HasRow, HasRowOrNone}
+use Rattle.sound_values.specs.Named.{count, HasRow}
 use Rattle.sound_values.specs.Sound.{SoundMachine}
 use Rattle.ppdb_noted.specs.declared.file.NotedScope.{NotedScope}
 use Rattle.ppdb_noted.specs.declared.file.NotedFile.{NotedFile}
 use Rattle.ppdb_noted.specs.Each.{Each, Pairs}
-use Rattle.ppdb_noted.specs.NamedRows.{Named, names, names_some, named_rows, live_machine, live_custom, live_scope, in_constant, in_import, in_steps}
-use Rattle.ppdb_noted.specs.SoundParts.{SoundIn, SoundMoved, SoundNote, SoundNotedScope}
+use Rattle.ppdb_noted.specs.NamedRows.{names, names_some, named_rows, live_machine, live_custom, live_scope, in_constant, in_import, in_steps}
+use Rattle.ppdb_noted.specs.SoundParts.{SoundMoved, SoundNote, SoundNotedScope}
 use Rattle.ppdb_noted.specs.Unnoted.{value_of_noted}
-use Rattle.ppdb_noted.specs.Noted.{items_of, scope_of}
-use Rattle.sound_values.specs.Scopes.{SoundVariable, SoundConstant, SoundScope}
+use Rattle.ppdb_noted.specs.Noted.{items_of}
+use Rattle.sound_values.specs.Scopes.{SoundVariable, SoundConstant}
 use Rattle.sound_values.specs.Imports.{SoundImport, SoundImportScope}
 use Rattle.ppdb_noted.proofs.Mapped.{row_map}
-use Rattle.ppdb_noted.proofs.Lists.{Each-weaker, Pairs-weaker, Each-map, Each-unmap, each_row, row_each, pairs_row, row_pairs}
+use Rattle.ppdb_noted.proofs.Lists.{Each-weaker, Pairs-weaker, each_row, row_each, pairs_row, row_pairs}
 use Rattle.ppdb_moved.specs.Fits.{Fits, IsImaged, HasSlot, KeepsAsync, AreWithin}
-use Rattle.ppdb_moved.specs.FitsMethod.{PointsRise}
 use Rattle.ppdb_moved.specs.Laws.{IsImageOfNamed, MovedNames}
 use Rattle.ppdb_moved.specs.Moved.{moved_range, is_empty, with_item, moved_variable, moved_constant, moved_import, moved_import_scope, with_points}
 use Rattle.ppdb_moved.specs.Moved.{moved_method, scope_image, moved_scope, moved_machine, moved_body, moved_custom, moved_file}
-use Rattle.ppdb_moved.proofs.Fitting.{offsets_rise, moved_dropped}
+use Rattle.ppdb_moved.proofs.Fitting.{offsets_rise}
 use Rattle.ppdb_moved.proofs.Elements.{each_in}
 use Rattle.ppdb_moved.proofs.Lists.{Each-filter_map, Pairs-filter_map, Each-both, each_of_three, each_of_four}
 use Rattle.ppdb_moved.proofs.NamedParts.{NamedParts, named_parts}

@@ -1,5 +1,6 @@
 // What a moved file says at the images of kept offsets.
-ghost use Rattle.ppdb_moved.specs.Laws.{FilesMean, FitsAreOfMethods, LinksMoved, MovedIsSound, MovedNamesImages, NamedRowsAreRows, PointsMean, ScopesMean, SlotsMean};
+ghost use Rattle.ppdb_moved.specs.Laws.{FilesMean, FitsAreOfMethods, LinksMoved, MovedIsSound};
+ghost use Rattle.ppdb_moved.specs.Laws.{MovedNamesImages, NamedRowsAreRows, PointsMean, ScopesMean, SlotsMean};
 
 /// The last point that is not after the image of a kept offset is the image of the one that was not after the offset.
 pub fn points_mean()

@@ -1,5 +1,6 @@
 -- The constants of scopes in order are the rows of their table.
-use Rattle.std.proofs.Common.{◌≡◌, ℕ, zero, suc, ◌+◌, ◌-◌, ◌<◌, ◌≤◌, Bool, true, false, cond, List, [], ◌∷◌, ◌++◌, length, take, drop, map, slice_get, Option, Some, None, refl, sym, ap, subst, ◌∙◌, arith}
+use Rattle.std.proofs.Common.{◌≡◌, ℕ, zero, suc, ◌+◌, ◌-◌, ◌<◌, ◌≤◌, Bool, true, false, cond, List, [], ◌∷◌, ◌++◌, length, take, drop, map, slice_get, Option}
+use Rattle.std.proofs.Common.{Some, None, refl, sym, ap, ◌∙◌, arith}
 use Rattle.std.specs.Prelude.{slice_range, unwrap_or}
 use Rattle.std.specs.List.{flat_map, enumerate_from}
 use Rattle.std.specs.Option.{option_map, option_and_then}
@@ -10,7 +11,7 @@ use Rattle.ppdb_maps.specs.Map.{Map, is_dropped}
 use Rattle.ppdb_tables.specs.declared.rows.ScopeRow.{ScopeRow}
 use Rattle.ppdb_tables.specs.declared.rows.ConstantRow.{ConstantRow}
 use Rattle.ppdb_tables.specs.RawTables.{RawTables, numbered, row_at}
-use Rattle.ppdb_values.specs.Owners.{ListsAreOwned, list_end}
+use Rattle.ppdb_values.specs.Owners.{ListsAreOwned}
 use Rattle.ppdb_values.specs.Rules.{KeepsLists}
 use Rattle.ppdb_values.specs.Value.{owner_of}
 use Rattle.value_reading.specs.declared.scopes.ListRange.{ListRange}
@@ -34,7 +35,8 @@ get_take (suc n) [] i x e = cc
 get_take (suc n) (y ∷ ys) zero x e = (omega arith, e)
 get_take (suc n) (y ∷ ys) (suc i) x e = let h = get_take n ys i x e in (omega (arith, h.0), h.1)
 
-pub get_numbered : {X : Type 0} (n : ℕ) (xs : List X) (i : ℕ) (x : ℕ × X) → slice_get (enumerate_from n xs) i ≡ Some x → (x.0 ≡ n + i) × (slice_get xs i ≡ Some x.1)
+pub get_numbered : {X : Type 0} (n : ℕ) (xs : List X) (i : ℕ) (x : ℕ × X) → slice_get (enumerate_from n xs) i ≡ Some x
+    → (x.0 ≡ n + i) × (slice_get xs i ≡ Some x.1)
 get_numbered n [] i x e = cc
 get_numbered {X} n (y ∷ ys) zero x e =
     let same : (n, y) ≡ x = cc in
@@ -47,7 +49,8 @@ get_numbered n (y ∷ ys) (suc i) x e =
 
 pub numbered_get : {X : Type 0} (n : ℕ) (xs : List X) (i : ℕ) (x : X) → slice_get xs i ≡ Some x → slice_get (enumerate_from n xs) i ≡ Some (n + i, x)
 numbered_get n [] i x e = cc
-numbered_get {X} n (y ∷ ys) zero x e = let same : y ≡ x = cc in let e0 : n ≡ n + 0 = omega arith in ap (λ (z : X). Some (n, z)) same ∙ ap (λ (m : ℕ). Some (m, x)) e0
+numbered_get {X} n (y ∷ ys) zero x e = let same : y ≡ x = cc in let e0 : n ≡ n + 0 = omega arith in ap (λ (z : X). Some (n, z)) same
+    ∙ ap (λ (m : ℕ). Some (m, x)) e0
 numbered_get {X} n (y ∷ ys) (suc i) x e = let e0 : n + 1 + i ≡ n + suc i = omega arith in numbered_get (n + 1) ys i x e ∙ ap (λ (m : ℕ). Some (m, x)) e0
 
 drop_step : {X : Type 0} (xs : List X) (i : ℕ) (x : X) → slice_get xs i ≡ Some x → drop i xs ≡ x ∷ drop (suc i) xs
@@ -55,7 +58,8 @@ drop_step [] i x e = cc
 drop_step {X} (y ∷ ys) zero x e = let same : y ≡ x = cc in ap (λ (z : X). z ∷ ys) same
 drop_step (y ∷ ys) (suc i) x e = drop_step ys i x e
 
-pub take_first : {X : Type 0} (xs : List X) (i q : ℕ) (x : X) → slice_get xs i ≡ Some x → i < q → take (q - i) (drop i xs) ≡ x ∷ take (q - suc i) (drop (suc i) xs)
+pub take_first : {X : Type 0} (xs : List X) (i q : ℕ) (x : X) → slice_get xs i ≡ Some x → i < q
+    → take (q - i) (drop i xs) ≡ x ∷ take (q - suc i) (drop (suc i) xs)
 take_first {X} xs i q x e less =
     let n : q - i ≡ suc (q - suc i) = omega (arith, less) in
     ap (λ (l : List X). take (q - i) l) (drop_step xs i x e) ∙ ap (λ (k : ℕ). take k (x ∷ drop (suc i) xs)) n
@@ -89,7 +93,8 @@ list_first raw (suc i) (suc e) cells there less =
     let n : 1 + i ≡ suc i = omega arith in
     rw (a, b, c)
     (ap (λ (rows : List (ℕ × ConstantRow)). flat_map (types_of raw) rows)
-    (take_first (numbered raw.constants) i e (suc i, cells) (numbered_get 1 raw.constants i cells there ∙ ap (λ (m : ℕ). Some (m, cells)) n) (omega (arith, less))))
+    (take_first (numbered raw.constants) i e (suc i, cells) (numbered_get 1 raw.constants i cells there ∙ ap (λ (m : ℕ). Some (m, cells)) n)
+    (omega (arith, less))))
 
 pub list_over : (raw : RawTables) (row end : ℕ) → end ≤ row → of_list raw (record { first = row; end = end }) ≡ []
 list_over raw row end past = let e : end - 1 - (row - 1) ≡ 0 = omega (arith, past) in rw e refl
@@ -120,7 +125,8 @@ module _ (m : Map) (raw : RawTables) (owned : ListsAreOwned) (keeps : KeepsLists
       let n = get_numbered 1 raw.constants (r.first - 1 + i) x (sym (get_drop (numbered raw.constants) (r.first - 1) i) ∙ t.1) in
       let at = n.0 in
       let less = t.0 in
-      (owned.item (λ s. s.constants) raw.scopes (length raw.constants) row x.0 scope keeps there (omega (arith, at, less, low, high))).1 (omega (arith, at, low), omega (arith, at, less, low))
+      (owned.item (λ s. s.constants) raw.scopes (length raw.constants) row x.0 scope keeps there (omega (arith, at, less, low, high))).1
+      (omega (arith, at, low), omega (arith, at, less, low))
 
   dropped_is : (row : ℕ) (scope : ScopeRow) (i : ℕ) (x : ℕ × ConstantRow) → row_at raw.scopes row ≡ Some scope → slice_get (slice_of row scope) i ≡ Some x
       → is_dropped_constant m raw x.0 ≡ is_dropped m scope.method
@@ -128,9 +134,11 @@ module _ (m : Map) (raw : RawTables) (owned : ListsAreOwned) (keeps : KeepsLists
       ap (λ (o : Option ℕ). is_dropped_scope m (option_and_then (row_at raw.scopes) o)) (owner_is row scope i x there e)
       ∙ ap (is_dropped_scope m) there
 
-  by_scope : (row : ℕ) (scope : ScopeRow) → row_at raw.scopes row ≡ Some scope → flat_map (of_constant m raw) (slice_of row scope) ≡ of_scope_constants m raw (scope_in raw (row, scope))
+  by_scope : (row : ℕ) (scope : ScopeRow) → row_at raw.scopes row ≡ Some scope
+      → flat_map (of_constant m raw) (slice_of row scope) ≡ of_scope_constants m raw (scope_in raw (row, scope))
   by_scope row scope there =
-      flat_map-same (of_constant m raw) (if_kept (is_dropped m scope.method)) (slice_of row scope) (λ i x e. ap (λ (b : Bool). if_kept b x) (dropped_is row scope i x there e))
+      flat_map-same (of_constant m raw) (if_kept (is_dropped m scope.method)) (slice_of row scope)
+      (λ i x e. ap (λ (b : Bool). if_kept b x) (dropped_is row scope i x there e))
       ∙ by (is_dropped m scope.method)
     where
       by : (b : Bool) → flat_map (if_kept b) (slice_of row scope) ≡ cond b [] (of_list raw (range_of row scope))
@@ -156,20 +164,23 @@ module _ (m : Map) (raw : RawTables) (owned : ListsAreOwned) (keeps : KeepsLists
       let none : row_at raw.scopes (suc k) ≡ None = rw here at (h 0) in
       let all = length-enumerate_from 1 raw.constants in
       let past : length (numbered raw.constants) ≤ length raw.constants + 1 - 1 = omega (arith, all) in
-      rw none (sym (ap (λ (rows : List (ℕ × ConstantRow)). flat_map (of_constant m raw) rows) (drop_all (length raw.constants + 1 - 1) (numbered raw.constants) past)))
+      rw none (sym (ap (λ (rows : List (ℕ × ConstantRow)). flat_map (of_constant m raw) rows)
+      (drop_all (length raw.constants + 1 - 1) (numbered raw.constants) past)))
   scopes_from k (x ∷ xs) h =
       let here : k + 0 ≡ k = omega arith in
       let there : row_at raw.scopes (suc k) ≡ Some x = rw here at (h 0) in
       let s : suc k + 1 ≡ suc (suc k) = omega arith in
       let others = scopes_from (suc k) xs (λ i. let t : suc k + i ≡ k + suc i = omega arith in rw t (h (suc i))) in
-      let within : IsWithin (length raw.constants) (range_of (suc k) x) = list_within (λ s. s.constants) raw.scopes (length raw.constants) keeps (suc k) x there in
+      let within : IsWithin (length raw.constants) (range_of (suc k) x) = list_within (λ s. s.constants) raw.scopes (length raw.constants) keeps
+      (suc k) x there in
       let forward = within.forward in
       let end = (range_of (suc k) x).end in
       ap (λ (n : ℕ). told_by (suc k, x) ++ flat_map told_by (enumerate_from n xs)) s
       ∙ ap (λ (rs : List Reference). told_by (suc k, x) ++ rs) others
       ∙ ap (λ (rs : List Reference). rs ++ rest_from end) (sym (by_scope (suc k) x there))
       ∙ sym (flat_map-append (of_constant m raw) (slice_of (suc k) x) (drop (end - 1) (numbered raw.constants)))
-      ∙ ap (λ (rows : List (ℕ × ConstantRow)). flat_map (of_constant m raw) rows) (take_rest (numbered raw.constants) (x.constants - 1) (end - 1) (omega (arith, forward)))
+      ∙ ap (λ (rows : List (ℕ × ConstantRow)). flat_map (of_constant m raw) rows)
+      (take_rest (numbered raw.constants) (x.constants - 1) (end - 1) (omega (arith, forward)))
       ∙ ap (λ (o : Option ScopeRow). rest_from (begin_of o)) (sym there)
 
   begins_first : (o : Option ScopeRow) → row_at raw.scopes 1 ≡ o → rest_from (begin_of o) ≡ flat_map (of_constant m raw) (numbered raw.constants)

@@ -1,8 +1,7 @@
 -- A walk over the rows in a blob, a row at a time.
-use Rattle.std.proofs.Common.{◌≡◌, ℕ, List, [], ◌∷◌, ◌++◌, Option, Some, None, Result, Ok, Err, refl, sym, ap, ◌∙◌}
+use Rattle.std.proofs.Common.{◌≡◌, List, [], ◌∷◌, Some, None, refl, ap}
 use Rattle.rows_in_blobs.specs.declared.row.PlacedRow.{PlacedRow}
 use Rattle.rows_in_blobs.specs.Walk.{first_of, rest_of}
-use Rattle.ppdb_references.specs.References.{Reference, inside}
 
 pub first_is : (rows : List PlacedRow) (row : PlacedRow) → first_of rows ≡ Some row → rows ≡ row ∷ rest_of rows
 first_is [] row e = absurd cc

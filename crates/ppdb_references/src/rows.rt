@@ -6,7 +6,8 @@ ghost use Rattle.ppdb_tables.specs.RawTables.{row_at};
 ghost use Rattle.ppdb_values.specs.Rules.{HasRow};
 ghost use Rattle.ppdb_verify.specs.Views.{raw_file};
 ghost use Rattle.ppdb_references.specs.Imaging.{Goes};
-ghost use Rattle.ppdb_references.specs.References.{Reference, inside, of_entry, of_method, of_scope, of_import, of_machine, methods_of, of_parent, is_live_parent, of_custom};
+ghost use Rattle.ppdb_references.specs.References.{Reference, inside, of_entry, of_method, of_scope};
+ghost use Rattle.ppdb_references.specs.References.{of_import, of_machine, methods_of, of_parent, is_live_parent, of_custom};
 ghost use Rattle.ppdb_references.specs.TableRows.{number_of, rows_of};
 
 use crate::imaged::ReferenceError;

@@ -24,7 +24,8 @@ module _ {R X : Type 0} (g : Grammar R) (tell : PlacedField → List X) (blob : 
   by_step : (place : Cut R) (at : ℕ) (o : Option Form) (s : Step) → g.form place.whole place.begun ≡ o → step_in g place.whole place.begun (drop at blob) o ≡ s
       → items_at place at ≡ items_after place at s
   by_step place at o s e f =
-      ap (λ (l : Left X). l.items) (fields_left-step g tell place at (drop at blob)) ∙ ap (items_after place at) (ap (step_in g place.whole place.begun (drop at blob)) e ∙ f)
+      ap (λ (l : Left X). l.items) (fields_left-step g tell place at (drop at blob))
+      ∙ ap (items_after place at) (ap (step_in g place.whole place.begun (drop at blob)) e ∙ f)
 
   -- Nothing is left where no field may come,
   pub items-over : (place : Cut R) (at : ℕ) → g.form place.whole place.begun ≡ None → items_at place at ≡ []
@@ -35,18 +36,22 @@ module _ {R X : Type 0} (g : Grammar R) (tell : PlacedField → List X) (blob : 
       over (b ∷ bytes) = refl
 
   -- where none of the form is there,
-  pub items-none : (place : Cut R) (at : ℕ) (form : Form) (code : Code) → g.form place.whole place.begun ≡ Some form → field_at form (drop at blob) ≡ Err code → items_at place at ≡ []
+  pub items-none : (place : Cut R) (at : ℕ) (form : Form) (code : Code) → g.form place.whole place.begun ≡ Some form → field_at form (drop at blob) ≡ Err code
+      → items_at place at ≡ []
   items-none place at form code e missing =
-      by_step place at (Some form) (step_at g place.whole place.begun (drop at blob) (Err code)) e (ap (step_at g place.whole place.begun (drop at blob)) missing)
+      by_step place at (Some form) (step_at g place.whole place.begun (drop at blob) (Err code)) e
+      (ap (step_at g place.whole place.begun (drop at blob)) missing)
       ∙ nothing place at (is_empty (drop at blob) && g.may_stop place.whole place.begun) code
 
   -- and where one is there that is not allowed.
-  pub items-out : (place : Cut R) (at : ℕ) (form : Form) (value : Value) (len : ℕ) → g.form place.whole place.begun ≡ Some form → field_at form (drop at blob) ≡ Ok (value, len)
+  pub items-out : (place : Cut R) (at : ℕ) (form : Form) (value : Value) (len : ℕ) → g.form place.whole place.begun ≡ Some form
+      → field_at form (drop at blob) ≡ Ok (value, len)
       → g.allows place.whole place.begun value ≡ false → items_at place at ≡ []
   items-out place at form value len e found out = ap (λ (l : Left X). l.items) (walk-out g tell place at (drop at blob) form value len e found out)
 
   -- A field that is there and allowed.
-  pub items-field : (place : Cut R) (at : ℕ) (form : Form) (value : Value) (len : ℕ) → g.form place.whole place.begun ≡ Some form → field_at form (drop at blob) ≡ Ok (value, len)
+  pub items-field : (place : Cut R) (at : ℕ) (form : Form) (value : Value) (len : ℕ) → g.form place.whole place.begun ≡ Some form
+      → field_at form (drop at blob) ≡ Ok (value, len)
       → g.allows place.whole place.begun value ≡ true → items_at place at ≡ told g tell place at value ++ items_at (with_value g place value) (at + len)
   items-field place at form value len e found allowed =
       ap (λ (l : Left X). l.items) (walk-field g tell place at (drop at blob) form value len e found allowed)

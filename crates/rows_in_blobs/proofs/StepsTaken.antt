@@ -66,7 +66,8 @@ module _ (methods : ℕ) (blob : List ℕ) where
   unfolding Begun
   any_before first others at =
       ap (λ (l : Left PlacedRow). l.items)
-      (fields_left-alike (async_stepping methods) resume_method (SameBegun (async_stepping methods) resume_method Begun) (alike-begun (async_stepping methods) resume_method Begun (alike methods))
+      (fields_left-alike (async_stepping methods) resume_method (SameBegun (async_stepping methods) resume_method Begun)
+      (alike-begun (async_stepping methods) resume_method Begun (alike methods))
       (record { whole = first ∷ others; begun = [] }) (record { whole = catch_handler None ∷ []; begun = [] }) at (drop at blob) (tt, refl))
 
   at_end : left [] (length blob) ≡ []
@@ -84,31 +85,39 @@ module _ (methods : ℕ) (blob : List ℕ) where
 
   pub no_pause : (at : ℕ) → OffsetIs blob at None → methods_left methods blob at ≡ []
   unfolding methods_left
-  no_pause at none = items-no_number (async_stepping methods) resume_method blob (place_with []) at word (word_at (drop at blob)) is_offset refl refl (λ n. refl) none
+  no_pause at none = items-no_number (async_stepping methods) resume_method blob (place_with []) at word (word_at (drop at blob)) is_offset refl refl
+      (λ n. refl) none
 
   pause_taken : (at : ℕ) (pause : ℕ × ℕ) (p : IsOffset at pause) → left [] at ≡ left (number p.n ∷ []) pause.1
-  pause_taken at pause p = items-number (async_stepping methods) resume_method blob (place_with []) at word (word_at (drop at blob)) is_offset (λ n. n) pause p refl refl (λ n. refl)
+  pause_taken at pause p = items-number (async_stepping methods) resume_method blob (place_with []) at word (word_at (drop at blob)) is_offset
+      (λ n. n) pause p refl refl (λ n. refl)
 
   pub no_resume : (at : ℕ) (pause : ℕ × ℕ) → IsOffset at pause → OffsetIs blob pause.1 None → methods_left methods blob at ≡ []
   unfolding methods_left
   no_resume at pause p none =
       pause_taken at pause p
-      ∙ items-no_number (async_stepping methods) resume_method blob (place_with (number p.n ∷ [])) pause.1 word (word_at (drop pause.1 blob)) is_offset refl refl (λ n. refl) none
+      ∙ items-no_number (async_stepping methods) resume_method blob (place_with (number p.n ∷ [])) pause.1 word
+      (word_at (drop pause.1 blob)) is_offset refl refl (λ n. refl) none
 
-  resume_taken : (at : ℕ) (pause resume : ℕ × ℕ) (p : IsOffset at pause) (r : IsOffset pause.1 resume) → left [] at ≡ left (number p.n ∷ number r.n ∷ []) resume.1
+  resume_taken : (at : ℕ) (pause resume : ℕ × ℕ) (p : IsOffset at pause) (r : IsOffset pause.1 resume)
+      → left [] at ≡ left (number p.n ∷ number r.n ∷ []) resume.1
   resume_taken at pause resume p r =
       pause_taken at pause p
-      ∙ items-number (async_stepping methods) resume_method blob (place_with (number p.n ∷ [])) pause.1 word (word_at (drop pause.1 blob)) is_offset (λ n. n) resume r refl refl (λ n. refl)
+      ∙ items-number (async_stepping methods) resume_method blob (place_with (number p.n ∷ [])) pause.1 word (word_at (drop pause.1 blob)) is_offset
+      (λ n. n) resume r refl refl (λ n. refl)
 
-  pub method_next : (at : ℕ) (pause resume : ℕ × ℕ) (o : Option (PlacedRow × ℕ)) → IsOffset at pause → IsOffset pause.1 resume → MethodIs methods blob resume.1 o → IfSome o (λ x. x.1 ≤ length blob)
+  pub method_next : (at : ℕ) (pause resume : ℕ × ℕ) (o : Option (PlacedRow × ℕ)) → IsOffset at pause → IsOffset pause.1 resume
+      → MethodIs methods blob resume.1 o → IfSome o (λ x. x.1 ≤ length blob)
       → NextRowIs (methods_left methods blob) (length blob) at o
   unfolding methods_left
   method_next at pause resume None p r none within =
       resume_taken at pause resume p r
-      ∙ items-no_number (async_stepping methods) resume_method blob (place_with (number p.n ∷ number r.n ∷ [])) resume.1 unsigned (unsigned_at (drop resume.1 blob)) (is_row methods) refl refl (λ n. refl) none
+      ∙ items-no_number (async_stepping methods) resume_method blob (place_with (number p.n ∷ number r.n ∷ [])) resume.1 unsigned
+      (unsigned_at (drop resume.1 blob)) (is_row methods) refl refl (λ n. refl) none
   method_next at pause resume (Some found) p r h within = (
     resume_taken at pause resume p r
-        ∙ items-number (async_stepping methods) resume_method blob (place_with (number p.n ∷ number r.n ∷ [])) resume.1 unsigned (unsigned_at (drop resume.1 blob)) (is_row methods) (method_at resume.1) found h refl refl (λ n. refl)
+        ∙ items-number (async_stepping methods) resume_method blob (place_with (number p.n ∷ number r.n ∷ [])) resume.1 unsigned
+        (unsigned_at (drop resume.1 blob)) (is_row methods) (method_at resume.1) found h refl refl (λ n. refl)
         ∙ ap (λ (rows : List PlacedRow). method_at resume.1 h.n ∷ rows)
         (any_before (catch_handler None) (await_step (record { pause = p.n; resume = r.n; method = h.n }) ∷ []) found.1)
         ∙ ap (λ (row : PlacedRow). row ∷ left [] found.1) (sym h.meaning),
@@ -125,8 +134,10 @@ module _ (methods : ℕ) (blob : List ℕ) where
       items-no_number (async_stepping methods) resume_method blob (record { whole = []; begun = [] }) 0 word (word_at blob) is_stored refl refl (λ n. refl) none
       ∙ sym at_end
   by_handler (Some len) h =
-      let stored : Has (word_at blob) is_stored (λ n. n) 0 (h.0, len) = record { n = h.0; len = len; there = h.1; allowed = h.2; meaning = refl; next = omega arith } in
-      items-number (async_stepping methods) resume_method blob (record { whole = []; begun = [] }) 0 word (word_at blob) is_stored (λ n. n) (h.0, len) stored refl refl (λ n. refl)
+      let stored : Has (word_at blob) is_stored (λ n. n) 0
+      (h.0, len) = record { n = h.0; len = len; there = h.1; allowed = h.2; meaning = refl; next = omega arith } in
+      items-number (async_stepping methods) resume_method blob (record { whole = []; begun = [] }) 0 word (word_at blob) is_stored (λ n. n)
+      (h.0, len) stored refl refl (λ n. refl)
       ∙ any_before (catch_handler (handler_of h.0)) [] len
 
   pub methods-all : (o : Option ℕ) → HandlerIs blob o → methods_left methods blob (unwrap_or o (length blob)) ≡ resume_methods methods blob

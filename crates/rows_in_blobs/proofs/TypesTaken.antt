@@ -1,5 +1,6 @@
 -- The types in the signature of a constant, a modifier or a body at a time.
-use Rattle.std.proofs.Common.{◌≡◌, ℕ, ◌+◌, ◌<◌, ◌≤◌, Bool, true, false, List, [], ◌∷◌, length, take, drop, zero, suc, Option, Some, None, Ok, Err, refl, sym, ap, ◌∙◌, arith, ◌⊎◌, inl, inr}
+use Rattle.std.proofs.Common.{◌≡◌, ℕ, ◌+◌, ◌<◌, ◌≤◌, Bool, true, false, List, [], ◌∷◌, length, take, drop, zero, suc, Option, Some, None, Ok, Err, refl, sym}
+use Rattle.std.proofs.Common.{ap, ◌∙◌, arith, ◌⊎◌, inl, inr}
 use Rattle.std.specs.Prelude.{nat_lt, IfSome, ◌==◌}
 use Rattle.std.proofs.lemmas.Bool.{cases_lt}
 use Rattle.std.proofs.lemmas.Bool.Decides.{nat_tests}
@@ -76,7 +77,8 @@ module _ (limits : TypeLimits) (blob : List ℕ) where
   unfolding Any
   any_before whole at =
       ap (λ (l : Left PlacedRow). l.items)
-      (fields_left-alike (constants limits) constant_type (SameBegun (constants limits) constant_type Any) (alike-begun (constants limits) constant_type Any (alike limits))
+      (fields_left-alike (constants limits) constant_type (SameBegun (constants limits) constant_type Any)
+      (alike-begun (constants limits) constant_type Any (alike limits))
       (record { whole = whole; begun = [] }) (cut_of []) at (drop at blob) (tt, refl))
 
   at_end : (at : ℕ) → length blob ≤ at → left [] at ≡ []
@@ -95,14 +97,18 @@ module _ (limits : TypeLimits) (blob : List ℕ) where
   -- a number that names a type, behind a code
   type_there : (code : Value) (others : List Value) (at : ℕ) (found : PlacedRow × ℕ) (h : IsType at found) → form (code ∷ others) ≡ Some unsigned
       → ((n : ℕ) → allows limits (code ∷ others) (number n) ≡ is_type limits n)
-      → left (code ∷ others) at ≡ found.0 ∷ items_at (constants limits) constant_type blob (with_value (constants limits) (cut_of (code ∷ others)) (number h.n)) found.1
+      → left (code ∷ others) at ≡ found.0
+      ∷ items_at (constants limits) constant_type blob (with_value (constants limits) (cut_of (code ∷ others)) (number h.n)) found.1
   type_there code others at found h e same =
-      items-number (constants limits) constant_type blob (cut_of (code ∷ others)) at unsigned (unsigned_at (drop at blob)) (is_type limits) (type_at at) found h e refl same
-      ∙ ap (λ (row : PlacedRow). row ∷ items_at (constants limits) constant_type blob (with_value (constants limits) (cut_of (code ∷ others)) (number h.n)) found.1) (sym h.meaning)
+      items-number (constants limits) constant_type blob (cut_of (code ∷ others)) at unsigned (unsigned_at (drop at blob)) (is_type limits)
+      (type_at at) found h e refl same
+      ∙ ap (λ (row : PlacedRow). row
+      ∷ items_at (constants limits) constant_type blob (with_value (constants limits) (cut_of (code ∷ others)) (number h.n)) found.1) (sym h.meaning)
 
   no_type_there : (code : Value) (others : List Value) (at : ℕ) → TypeIs limits blob at None → form (code ∷ others) ≡ Some unsigned
       → ((n : ℕ) → allows limits (code ∷ others) (number n) ≡ is_type limits n) → left (code ∷ others) at ≡ []
-  no_type_there code others at none e same = items-no_number (constants limits) constant_type blob (cut_of (code ∷ others)) at unsigned (unsigned_at (drop at blob)) (is_type limits) e refl same none
+  no_type_there code others at none e same = items-no_number (constants limits) constant_type blob (cut_of (code ∷ others)) at unsigned
+      (unsigned_at (drop at blob)) (is_type limits) e refl same none
 
   -- bytes behind a code, which name nothing
   octets_there : (code : ℕ) (at : ℕ) (f : Form) (xs : List ℕ) (len : ℕ) → after_code code ≡ Some f → field_at f (drop at blob) ≡ Ok (octets xs, len)
@@ -121,7 +127,8 @@ module _ (limits : TypeLimits) (blob : List ℕ) where
       → items_at (constants limits) constant_type blob (with_value (constants limits) (cut_of (number code ∷ [])) (number n)) at ≡ left [] at
   closes code n at h = rw h (any_before (record { required = code == 0x1f; target = token_of n } ∷ []) at)
 
-  pub modifier_next : (at code : ℕ) (r : Option (PlacedRow × ℕ)) → Byte_at at code → is_modifier code ≡ true → TypeIs limits blob (at + 1) r → IfSome r (λ x. x.1 ≤ length blob)
+  pub modifier_next : (at code : ℕ) (r : Option (PlacedRow × ℕ)) → Byte_at at code → is_modifier code ≡ true → TypeIs limits blob (at + 1) r
+      → IfSome r (λ x. x.1 ≤ length blob)
       → NextRowIs (types_left limits blob) (length blob) at r
   unfolding types_left
   modifier_next at code (Some found) there h is within = (
@@ -164,7 +171,8 @@ module _ (limits : TypeLimits) (blob : List ℕ) where
         over = λ n next. rw known.no_modifier (general_over code n next known);
       }
 
-  enumerable_reached : (at code : ℕ) → Byte_at at code → is_enumerable code ≡ true → at + 1 + size_of code ≤ length blob → Reached code at (at + 1 + size_of code)
+  enumerable_reached : (at code : ℕ) → Byte_at at code → is_enumerable code ≡ true → at + 1 + size_of code ≤ length blob
+      → Reached code at (at + 1 + size_of code)
   enumerable_reached at code there h within =
       let range = enumerable_range code h in
       let known : OfPrimitive code = of_primitive code range.0 range.1 in
@@ -174,7 +182,8 @@ module _ (limits : TypeLimits) (blob : List ℕ) where
       record {
         others = octets (take (size_of code) bytes) ∷ [];
         same = code_taken at code there known.code_known
-            ∙ octets_there code (at + 1) (fixed (size_of code)) (take (size_of code) bytes) (size_of code) known.after (fixed_there (size_of code) bytes some long) (rw known.no_string refl);
+            ∙ octets_there code (at + 1) (fixed (size_of code)) (take (size_of code) bytes) (size_of code) known.after
+            (fixed_there (size_of code) bytes some long) (rw known.no_string refl);
         form_is = rw h refl;
         allowed = λ n. refl;
         over = λ n next. items-over (constants limits) constant_type blob (cut_of (number code ∷ octets (take (size_of code) bytes) ∷ number n ∷ [])) next refl;
@@ -203,12 +212,14 @@ module _ (limits : TypeLimits) (blob : List ℕ) where
           rw place (general_reached at code there g)
       by_kind false false e g = let s : ◌≡◌ {A = Option ℕ} None (Some skip) = rw (e, g) at h in absurd cc
 
-  pub body_taken : (at code skip : ℕ) (found : PlacedRow × ℕ) → Byte_at at code → skip_of code ≡ Some skip → at + 1 + skip ≤ length blob → IsType (at + 1 + skip) found
+  pub body_taken : (at code skip : ℕ) (found : PlacedRow × ℕ) → Byte_at at code → skip_of code ≡ Some skip → at + 1 + skip ≤ length blob
+      → IsType (at + 1 + skip) found
       → types_left limits blob at ≡ found.0 ∷ types_left limits blob (length blob)
   unfolding types_left
   body_taken at code skip found there h within is = taken_at at code (at + 1 + skip) found (reached at code skip there h within) is
 
-  pub body_untyped : (at code skip : ℕ) → Byte_at at code → skip_of code ≡ Some skip → at + 1 + skip ≤ length blob → TypeIs limits blob (at + 1 + skip) None → types_left limits blob at ≡ []
+  pub body_untyped : (at code skip : ℕ) → Byte_at at code → skip_of code ≡ Some skip → at + 1 + skip ≤ length blob → TypeIs limits blob (at + 1 + skip) None
+      → types_left limits blob at ≡ []
   unfolding types_left
   body_untyped at code skip there h within none = none_at at code (at + 1 + skip) (reached at code skip there h within) none
 
@@ -216,7 +227,8 @@ module _ (limits : TypeLimits) (blob : List ℕ) where
   value_over : (at code : ℕ) (xs : List ℕ) → is_enumerable code ≡ false → is_general code ≡ false → left (number code ∷ octets xs ∷ []) at ≡ []
   value_over at code xs e g = items-over (constants limits) constant_type blob (cut_of (number code ∷ octets xs ∷ [])) at (rw (e, g) refl)
 
-  behind : (at code : ℕ) (f : Form) → after_code code ≡ Some f → Octets f (drop at blob) → is_enumerable code ≡ false → is_general code ≡ false → left (number code ∷ []) at ≡ []
+  behind : (at code : ℕ) (f : Form) → after_code code ≡ Some f → Octets f (drop at blob) → is_enumerable code ≡ false → is_general code ≡ false
+      → left (number code ∷ []) at ≡ []
   behind at code f e (inr none) n g = items-none (constants limits) constant_type blob (cut_of (number code ∷ [])) at f none.0 e none.1
   behind at code f e (inl x) n g = by (allows limits (number code ∷ []) (octets x.0)) refl
     where
@@ -228,20 +240,24 @@ module _ (limits : TypeLimits) (blob : List ℕ) where
   unfolding types_left
   body_bare at code there m h = by_kind (is_enumerable code) (is_general code) (is_primitive code) (is_string code) (is_code code) refl refl refl refl refl
     where
-      by_kind : (a b c d k : Bool) → is_enumerable code ≡ a → is_general code ≡ b → is_primitive code ≡ c → is_string code ≡ d → is_code code ≡ k → left [] at ≡ []
+      by_kind : (a b c d k : Bool) → is_enumerable code ≡ a → is_general code ≡ b → is_primitive code ≡ c → is_string code ≡ d → is_code code ≡ k
+          → left [] at ≡ []
       by_kind a b c d false e g p s k = code_other at code there k
       by_kind true b c d true e g p s k = let t : ◌≡◌ {A = Option ℕ} (Some (size_of code)) None = rw e at h in absurd cc
       by_kind false true c d true e g p s k = let t : ◌≡◌ {A = Option ℕ} (Some 0) None = rw (e, g) at h in absurd cc
       by_kind false false true d true e g p s k =
           let range = primitive_range code p in
           let known : OfPrimitive code = of_primitive code range.0 range.1 in
-          code_taken at code there k ∙ behind (at + 1) code (fixed (size_of code)) known.after (fixed_octets (size_of code) (drop (at + 1) blob) known.some_bytes) e g
-      by_kind false false false true true e g p s k = code_taken at code there k ∙ behind (at + 1) code rest (rw (m, g, p, s) refl) (rest_octets (drop (at + 1) blob)) e g
+          code_taken at code there k
+          ∙ behind (at + 1) code (fixed (size_of code)) known.after (fixed_octets (size_of code) (drop (at + 1) blob) known.some_bytes) e g
+      by_kind false false false true true e g p s k = code_taken at code there k
+          ∙ behind (at + 1) code rest (rw (m, g, p, s) refl) (rest_octets (drop (at + 1) blob)) e g
       by_kind false false false false true e g p s k =
           code_taken at code there k ∙ items-over (constants limits) constant_type blob (cut_of (number code ∷ [])) (at + 1) (rw (m, g, p, s) refl)
 
   -- nothing behind a code, where the blob ends before its value
-  pub body_short : (at code skip : ℕ) → Byte_at at code → skip_of code ≡ Some skip → at + 1 ≤ length blob → length blob < at + 1 + skip → types_left limits blob at ≡ []
+  pub body_short : (at code skip : ℕ) → Byte_at at code → skip_of code ≡ Some skip → at + 1 ≤ length blob → length blob < at + 1 + skip
+      → types_left limits blob at ≡ []
   unfolding types_left
   body_short at code skip there h within short = by_kind (is_enumerable code) (is_general code) refl refl
     where
@@ -252,7 +268,8 @@ module _ (limits : TypeLimits) (blob : List ℕ) where
           let known : OfPrimitive code = of_primitive code range.0 range.1 in
           let few : length (drop (at + 1) blob) < size_of code = omega (arith, length-drop (at + 1) blob, same, short, within) in
           code_taken at code there known.code_known
-          ∙ items-none (constants limits) constant_type blob (cut_of (number code ∷ [])) (at + 1) (fixed (size_of code)) BlobEnd known.after (fixed_missing (size_of code) (drop (at + 1) blob) few)
+          ∙ items-none (constants limits) constant_type blob (cut_of (number code ∷ [])) (at + 1) (fixed (size_of code)) BlobEnd known.after
+          (fixed_missing (size_of code) (drop (at + 1) blob) few)
       by_kind false true e g = let none : 0 ≡ skip = let s : Some 0 ≡ Some skip = rw (e, g) at h in cc in absurd (omega (arith, none, short, within))
       by_kind false false e g = let s : ◌≡◌ {A = Option ℕ} None (Some skip) = rw (e, g) at h in absurd cc
 

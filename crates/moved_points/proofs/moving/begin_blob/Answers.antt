@@ -19,8 +19,11 @@ pub returns-then-branch-clause-blob : goal.returns-then-branch-clause-blob
 returns-then-branch-clause-blob g c =
     let o = g.G.OffsetImage.offsets c.args.image.now in
     let d = c.args.documents.now in
-    blob_is c.args.in_one c.args.signature (moved_in o d c.args.points) c.in-Some.first (moved_in o d c.next_moved.new.points) c.args.into.now c.header_into.new.into c.points_into.new.into c.column_of.result
+    blob_is c.args.in_one c.args.signature (moved_in o d c.args.points) c.in-Some.first
+    (moved_in o d c.next_moved.new.points) c.args.into.now c.header_into.new.into c.points_into.new.into c.column_of.result
     c.in-Some.ensures.next
     c.in-Ok.ensures.ok
-    (subst (IsWalked c.args.in_one (c.in-Some.first ∷ moved_in o d c.next_moved.new.points) c.header_into.new.into c.points_into.new.into) c.if-branch.true c.in_ok-points_into.ensures.walked)
+    (subst (IsWalked c.args.in_one
+    (c.in-Some.first ∷ moved_in o d c.next_moved.new.points) c.header_into.new.into c.points_into.new.into) c.if-branch.true
+    c.in_ok-points_into.ensures.walked)
     c.requires.several c.column_of.ensures

@@ -6,4 +6,5 @@ use Rattle.moved_points.proofs.moving.moved_point.Goals as goal
 pub returns : goal.returns
 returns g c =
     ap (λ offset. in_new_document c.args.documents.now (record c.args.point { offset = offset }))
-    (sym (moved_is (g.G.OffsetImage.offsets c.args.image.now) (g.met.G.OffsetImage.rise c.args.image.now) c.args.point.offset c.in-Some.offset c.in-Some.ensures.some))
+    (sym (moved_is (g.G.OffsetImage.offsets c.args.image.now)
+    (g.met.G.OffsetImage.rise c.args.image.now) c.args.point.offset c.in-Some.offset c.in-Some.ensures.some))

@@ -13,17 +13,24 @@ moved_point-requires g c =
 pub returns-then-kept_between-clause-next : goal.returns-then-kept_between-clause-next
 returns-then-kept_between-clause-next g c =
     c.points.invariant.same
-    ∙ stays (g.G.OffsetImage.offsets c.args.image.now) (g.met.G.OffsetImage.rise c.args.image.now) c.requires.size c.args.documents.now c.points.points c.in-Some.point c.pop.new.self c.in-Some.end c.kept_between.result
+    ∙ stays (g.G.OffsetImage.offsets c.args.image.now)
+    (g.met.G.OffsetImage.rise c.args.image.now) c.requires.size c.args.documents.now c.points.points c.in-Some.point c.pop.new.self c.in-Some.end
+    c.kept_between.result
     c.moved_point.result c.in-Some.ensures.0 c.in-Some.ensures.1 c.kept_between.ensures c.if-kept_between.true c.moved_point.ensures
 
 pub returns-then-kept_between-clause-points : goal.returns-then-kept_between-clause-points
 returns-then-kept_between-clause-points g c =
-    All-rest (CanMove (g.G.OffsetImage.offsets c.args.image.now) c.args.documents.now) c.in-Some.point c.pop.new.self c.points.points c.in-Some.ensures.0 c.points.invariant.can
+    All-rest (CanMove (g.G.OffsetImage.offsets c.args.image.now) c.args.documents.now) c.in-Some.point c.pop.new.self c.points.points c.in-Some.ensures.0
+    c.points.invariant.can
 
 pub points-preserved : goal.points-preserved
 points-preserved g c = record {
   same = c.points.invariant.same
-      ∙ goes (g.G.OffsetImage.offsets c.args.image.now) (g.met.G.OffsetImage.rise c.args.image.now) c.requires.size c.args.documents.now c.points.points c.in-Some.point c.pop.new.self c.in-Some.end c.kept_between.result
+      ∙ goes (g.G.OffsetImage.offsets c.args.image.now)
+      (g.met.G.OffsetImage.rise c.args.image.now) c.requires.size c.args.documents.now c.points.points c.in-Some.point c.pop.new.self c.in-Some.end
+      c.kept_between.result
       c.in-Some.ensures.0 c.in-Some.ensures.1 c.kept_between.ensures c.if-kept_between.false;
-  can = All-rest (CanMove (g.G.OffsetImage.offsets c.args.image.now) c.args.documents.now) c.in-Some.point c.pop.new.self c.points.points c.in-Some.ensures.0 c.points.invariant.can;
+  can = All-rest (CanMove
+      (g.G.OffsetImage.offsets c.args.image.now) c.args.documents.now) c.in-Some.point c.pop.new.self c.points.points c.in-Some.ensures.0
+      c.points.invariant.can;
 }

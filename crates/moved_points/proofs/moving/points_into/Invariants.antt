@@ -7,7 +7,8 @@ use Rattle.moved_points.proofs.moving.points_into.Given as goal
 
 abbrev pub invariant-points : goal.invariant-points
 invariant-points g l = record {
-  progress : Progress l.in_one l.first (l.first ∷ moved_in (g.G.OffsetImage.offsets l.fn.image) l.fn.documents l.fn.points) (coming l.next (moved_in (g.G.OffsetImage.offsets l.fn.image) l.fn.documents l.points)) l.written l.fn.into l.into;
+  progress : Progress l.in_one l.first (l.first ∷ moved_in (g.G.OffsetImage.offsets l.fn.image) l.fn.documents l.fn.points)
+      (coming l.next (moved_in (g.G.OffsetImage.offsets l.fn.image) l.fn.documents l.points)) l.written l.fn.into l.into;
   can : All (CanMove (g.G.OffsetImage.offsets l.fn.image) l.fn.documents) l.points;
 }
 

@@ -6,7 +6,8 @@ use Rattle.ppdb_moved.proofs.file.moved_rows.Goals as goal
 
 pub loop-table-preserved : goal.loop-table-preserved
 loop-table-preserved c = record {
-  front = counts_more c.args.map.now c.args.rows.now c.loop-table.moved c.loop-table.table c.output_rows.result (omega arith) (omega arith) c.loop-table.invariant.front c.output_rows.ensures;
+  front = counts_more c.args.map.now c.args.rows.now c.loop-table.moved c.loop-table.table c.output_rows.result (omega arith)
+      (omega arith) c.loop-table.invariant.front c.output_rows.ensures;
   rows = c.loop-table.invariant.rows;
   moved = omega (arith, length-set c.loop-table.moved c.loop-table.table c.output_rows.result);
 }

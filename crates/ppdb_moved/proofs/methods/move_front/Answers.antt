@@ -10,14 +10,20 @@ loop-place-preserved g c =
     elim c.if-kept_between.branch [
       | then-kept_between w ↦ rw (w.points-is, w.stay-is) (record {
         within = omega arith;
-        done = front_stays (g.G.OffsetImage.offsets c.args.image.now) (g.met.G.OffsetImage.rise c.args.image.now) c.requires c.args.points.now c.loop-place.points c.loop-place.stay c.loop-place.place _ c.offset_at.result c.kept_between.result _
-            less c.loop-place.invariant.within c.loop-place.invariant.left c.loop-place.invariant.done c.offset_at.ensures c.kept_between.ensures w.if-kept_between.true
+        done = front_stays (g.G.OffsetImage.offsets c.args.image.now)
+            (g.met.G.OffsetImage.rise c.args.image.now) c.requires c.args.points.now c.loop-place.points c.loop-place.stay c.loop-place.place _
+            c.offset_at.result c.kept_between.result _
+            less c.loop-place.invariant.within c.loop-place.invariant.left c.loop-place.invariant.done c.offset_at.ensures c.kept_between.ensures
+            w.if-kept_between.true
             (ap (λ (x : ℕ). let p : Point = record (get_or c.loop-place.points c.loop-place.place _) { offset = x } in p) w.moved_offset.ensures);
-        left = left_after_set c.args.points.now c.loop-place.points c.loop-place.stay c.loop-place.place _ c.loop-place.invariant.within c.loop-place.invariant.left;
+        left = left_after_set c.args.points.now c.loop-place.points c.loop-place.stay c.loop-place.place _ c.loop-place.invariant.within
+            c.loop-place.invariant.left;
       })
       | else-kept_between w ↦ rw (w.points-is, w.stay-is) (record {
         within = omega arith;
-        done = front_goes (g.G.OffsetImage.offsets c.args.image.now) (g.met.G.OffsetImage.rise c.args.image.now) c.requires c.args.points.now c.loop-place.points c.loop-place.stay c.loop-place.place _ c.offset_at.result c.kept_between.result
+        done = front_goes (g.G.OffsetImage.offsets c.args.image.now)
+            (g.met.G.OffsetImage.rise c.args.image.now) c.requires c.args.points.now c.loop-place.points c.loop-place.stay c.loop-place.place _
+            c.offset_at.result c.kept_between.result
             less c.loop-place.invariant.left c.loop-place.invariant.done c.offset_at.ensures c.kept_between.ensures w.if-kept_between.false;
         left = left_next c.args.points.now c.loop-place.points c.loop-place.place c.loop-place.invariant.left;
       })

@@ -6,4 +6,5 @@ pub loop-item-preserved : goal.loop-item-preserved
 loop-item-preserved g c =
     let less : c.loop-item.item-index < length c.args.items.now = omega arith in
     ap (λ x. set c.loop-item.items c.loop-item.item-index x) (c.move_by.ensures ∙ ap (g.T.Moves.moved c.args.by.now) (sym c.item-item.is))
-    ∙ map_over_more (g.T.Moves.moved c.args.by.now) c.args.items.now c.loop-item.items c.loop-item.item-index c.item-item.result less c.loop-item.invariant c.item-item.is
+    ∙ map_over_more (g.T.Moves.moved c.args.by.now) c.args.items.now c.loop-item.items c.loop-item.item-index c.item-item.result less c.loop-item.invariant
+    c.item-item.is

@@ -1,4 +1,4 @@
-use Rattle.std.proofs.Common.{◌≡◌, sym, ap, refl, subst, ◌∙◌, List, All, Ok, Err, [], ◌∷◌}
+use Rattle.std.proofs.Common.{◌≡◌, sym, ap, refl, subst, ◌∙◌, List, All, Ok, Err, []}
 use Rattle.std.proofs.lemmas.Result.{err_from_is_err_and}
 use Rattle.std.specs.List.{flat_map}
 use Rattle.blob_grammar.specs.Reader.{tail}
@@ -6,9 +6,9 @@ use Rattle.ppdb_maps.specs.Map.{Map}
 use Rattle.ppdb_tables.specs.RawTables.{numbered}
 use Rattle.ppdb_verify.specs.Views.{raw_file}
 use Rattle.value_reading.specs.declared.scopes.Scope.{Scope}
-use Rattle.value_reading.specs.Scopes.{HasLists, scopes_in}
+use Rattle.value_reading.specs.Scopes.{HasLists}
 use Rattle.value_reading.proofs.Answered.{next_first, all_first, all_rest}
-use Rattle.ppdb_references.specs.References.{Reference, of_constant}
+use Rattle.ppdb_references.specs.References.{of_constant}
 use Rattle.ppdb_references.specs.Imaging.{imaged_on}
 use Rattle.ppdb_references.specs.Lists.{of_scope_constants}
 use Rattle.ppdb_references.proofs.Going.{leads-few, leads-end, goes-stop, goes-as, map-stays}
@@ -45,7 +45,8 @@ scopes-preserved g c =
     rw c.next.ensures.left (record {
       within = all_rest (HasLists raw.tables) c.scopes.scopes (tail c.scopes.scopes) c.in-Some.scope first c.scopes.invariant.within;
       same_map = map-stays now c.add_scope_constants.new.imager (tell c.in-Some.scope) step ∙ c.scopes.invariant.same_map;
-      leads = leads-few start now c.add_scope_constants.new.imager (flat_map (of_constant start.map raw.tables) (numbered raw.tables.constants)) (tell c.in-Some.scope) (flat_map tell (tail c.scopes.scopes))
+      leads = leads-few start now c.add_scope_constants.new.imager (flat_map (of_constant start.map raw.tables) (numbered raw.tables.constants))
+          (tell c.in-Some.scope) (flat_map tell (tail c.scopes.scopes))
           (c.scopes.invariant.leads ∙ ap (λ (scopes : List Scope). imaged_on now (flat_map tell scopes)) first) step;
     })
 
@@ -58,10 +59,12 @@ returns-in_err-add_scope_constants g c =
     let first = next_first c.scopes.scopes c.in-Some.scope (sym c.next.ensures.answer ∙ c.in-Some.is) in
     let tell = of_scope_constants start.map raw.tables in
     rw (p.1, p.2)
-    (goes-stop start now c.add_scope_constants.new.imager c.add_scope_constants.new.imager (flat_map (of_constant start.map raw.tables) (numbered raw.tables.constants)) (tell c.in-Some.scope)
+    (goes-stop start now c.add_scope_constants.new.imager c.add_scope_constants.new.imager
+    (flat_map (of_constant start.map raw.tables) (numbered raw.tables.constants)) (tell c.in-Some.scope)
     (flat_map tell (tail c.scopes.scopes)) c.in_err-add_scope_constants.field-0.0
     (c.scopes.invariant.leads ∙ ap (λ (scopes : List Scope). imaged_on now (flat_map tell scopes)) first)
-    (goes-as now c.add_scope_constants.new.imager (of_scope_constants now.map raw.tables c.in-Some.scope) (tell c.in-Some.scope) (Err c.in_err-add_scope_constants.field-0.0)
+    (goes-as now c.add_scope_constants.new.imager (of_scope_constants now.map raw.tables c.in-Some.scope) (tell c.in-Some.scope)
+    (Err c.in_err-add_scope_constants.field-0.0)
     (ap (λ (m : Map). of_scope_constants m raw.tables c.in-Some.scope) c.scopes.invariant.same_map) c.in_err-add_scope_constants.ensures))
 
 pub returns : goal.returns
@@ -70,5 +73,6 @@ returns g c =
     let start = c.args.imager.now in
     let tell = of_scope_constants start.map raw.tables in
     let none : c.scopes.scopes ≡ [] = next_none c.scopes.scopes (sym c.next.ensures.answer ∙ c.in_default.is) in
-    leads-end start c.scopes.imager (flat_map (of_constant start.map raw.tables) (numbered raw.tables.constants)) (flat_map tell c.scopes.scopes) c.scopes.invariant.leads
+    leads-end start c.scopes.imager (flat_map (of_constant start.map raw.tables) (numbered raw.tables.constants))
+    (flat_map tell c.scopes.scopes) c.scopes.invariant.leads
     (ap (λ (scopes : List Scope). flat_map tell scopes) none)

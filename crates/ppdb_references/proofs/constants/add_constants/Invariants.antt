@@ -14,7 +14,8 @@ invariant-scopes g l =
     record {
       within : All (HasLists raw) l.scopes;
       same_map : l.imager.map ≡ l.fn.imager.map;
-      leads : Leads l.fn.imager (flat_map (of_constant l.fn.imager.map raw) (numbered raw.constants)) l.imager (flat_map (of_scope_constants l.fn.imager.map raw) l.scopes);
+      leads : Leads l.fn.imager (flat_map (of_constant l.fn.imager.map raw) (numbered raw.constants)) l.imager
+          (flat_map (of_scope_constants l.fn.imager.map raw) l.scopes);
     }
 
 abbrev pub decreases-scopes : goal.decreases-scopes

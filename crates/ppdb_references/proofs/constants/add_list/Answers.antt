@@ -1,8 +1,7 @@
-use Rattle.std.proofs.Common.{◌≡◌, ◌+◌, sym, ap, refl, ◌∙◌, arith, Err, List}
+use Rattle.std.proofs.Common.{◌+◌, ap, refl, ◌∙◌, arith, Err}
 use Rattle.std.proofs.lemmas.Result.{err_from_is_err_and}
-use Rattle.ppdb_values.specs.RawFile.{blob, type_limits}
+use Rattle.ppdb_values.specs.RawFile.{blob}
 use Rattle.ppdb_verify.specs.Views.{raw_file}
-use Rattle.rows_in_blobs.specs.declared.row.PlacedRow.{PlacedRow}
 use Rattle.ppdb_references.specs.References.{inside, types_of}
 use Rattle.ppdb_references.specs.Imaging.{imaged_on}
 use Rattle.ppdb_references.specs.Lists.{of_list}
@@ -19,7 +18,8 @@ rows-preserved g c =
     record {
       low = omega (arith, low);
       high = omega arith;
-      leads = leads-few c.args.imager.now now c.add_rows.new.imager (of_list raw c.args.list) (types_of raw (c.rows.row, cells)) (of_list raw (record { first = c.rows.row + 1; end = c.args.list.end }))
+      leads = leads-few c.args.imager.now now c.add_rows.new.imager (of_list raw c.args.list) (types_of raw (c.rows.row, cells))
+          (of_list raw (record { first = c.rows.row + 1; end = c.args.list.end }))
           (c.rows.invariant.leads ∙ ap (imaged_on now) (list_first raw c.rows.row c.args.list.end cells c.constant-cells.ensures.row (omega arith)))
           (rw (c.new-types.ensures, c.blob.ensures.content, c.type_limits-limits.ensures) at c.in_ok-add_rows.ensures);
     }
@@ -31,7 +31,8 @@ returns-in_err-add_rows g c =
     let cells = c.constant-cells.result in
     let now = c.rows.imager in
     rw (p.1, p.2)
-    (goes-stop c.args.imager.now now c.add_rows.new.imager c.add_rows.new.imager (of_list raw c.args.list) (types_of raw (c.rows.row, cells)) (of_list raw (record { first = c.rows.row + 1; end = c.args.list.end }))
+    (goes-stop c.args.imager.now now c.add_rows.new.imager c.add_rows.new.imager (of_list raw c.args.list) (types_of raw (c.rows.row, cells))
+    (of_list raw (record { first = c.rows.row + 1; end = c.args.list.end }))
     c.in_err-add_rows.field-0.0
     (c.rows.invariant.leads ∙ ap (imaged_on now) (list_first raw c.rows.row c.args.list.end cells c.constant-cells.ensures.row (omega arith)))
     (goes-as now c.add_rows.new.imager (inside 0x34 c.rows.row 1 c.new-types.result) (types_of raw (c.rows.row, cells)) (Err c.in_err-add_rows.field-0.0)
@@ -40,5 +41,6 @@ returns-in_err-add_rows g c =
 pub returns : goal.returns
 returns g c =
     let raw = (raw_file c.args.file.now).tables in
-    leads-end c.args.imager.now c.rows.imager (of_list raw c.args.list) (of_list raw (record { first = c.rows.row; end = c.args.list.end })) c.rows.invariant.leads
+    leads-end c.args.imager.now c.rows.imager (of_list raw c.args.list)
+    (of_list raw (record { first = c.rows.row; end = c.args.list.end })) c.rows.invariant.leads
     (list_over raw c.rows.row c.args.list.end (omega arith))

@@ -1,4 +1,4 @@
-use Rattle.std.proofs.Common.{◌≡◌, ◌≤◌, ◌-◌}
+use Rattle.std.proofs.Common.{◌≤◌, ◌-◌}
 use Rattle.ppdb_verify.specs.Views.{raw_file}
 use Rattle.ppdb_references.specs.Lists.{of_list}
 use Rattle.ppdb_references.proofs.Going.{Leads}

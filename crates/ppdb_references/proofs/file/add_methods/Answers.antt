@@ -16,7 +16,8 @@ returns-in_err-add_table g c =
     let raw = (raw_file c.args.file.now).tables in
     let s = c.args.imager.now in
     rw (p.1, p.2)
-    (goes-cut s c.add_table.new.imager c.add_table.new.imager (of_table s.map raw MethodDebug) (of_table s.map raw LocalScope ++ flat_map (of_constant s.map raw) (numbered raw.constants)) c.in_err-add_table.field-0.0
+    (goes-cut s c.add_table.new.imager c.add_table.new.imager (of_table s.map raw MethodDebug)
+    (of_table s.map raw LocalScope ++ flat_map (of_constant s.map raw) (numbered raw.constants)) c.in_err-add_table.field-0.0
     c.in_err-add_table.ensures)
 
 pub returns-in_err-add_table-2 : goal.returns-in_err-add_table-2
@@ -27,8 +28,10 @@ returns-in_err-add_table-2 g c =
     let t = c.add_table.new.imager in
     let u = c.add_table-2.new.imager in
     rw (p.1, p.2)
-    (goes-more s t u (of_table s.map raw MethodDebug) (λ (m : Map). of_table m raw LocalScope ++ flat_map (of_constant m raw) (numbered raw.constants)) (Err c.in_err-add_table-2.field-0.0) c.in_ok-add_table.ensures
-    (goes-cut t u u (of_table t.map raw LocalScope) (flat_map (of_constant t.map raw) (numbered raw.constants)) c.in_err-add_table-2.field-0.0 c.in_err-add_table-2.ensures))
+    (goes-more s t u (of_table s.map raw MethodDebug) (λ (m : Map). of_table m raw LocalScope ++ flat_map (of_constant m raw) (numbered raw.constants))
+    (Err c.in_err-add_table-2.field-0.0) c.in_ok-add_table.ensures
+    (goes-cut t u u (of_table t.map raw LocalScope)
+    (flat_map (of_constant t.map raw) (numbered raw.constants)) c.in_err-add_table-2.field-0.0 c.in_err-add_table-2.ensures))
 
 pub returns : goal.returns
 returns g c =
@@ -37,5 +40,7 @@ returns g c =
     let t = c.add_table.new.imager in
     let u = c.add_table-2.new.imager in
     let v = c.add_constants.new.imager in
-    goes-more s t v (of_table s.map raw MethodDebug) (λ (m : Map). of_table m raw LocalScope ++ flat_map (of_constant m raw) (numbered raw.constants)) c.add_constants.result c.in_ok-add_table.ensures
-    (goes-more t u v (of_table t.map raw LocalScope) (λ (m : Map). flat_map (of_constant m raw) (numbered raw.constants)) c.add_constants.result c.in_ok-add_table-2.ensures c.add_constants.ensures)
+    goes-more s t v (of_table s.map raw MethodDebug)
+    (λ (m : Map). of_table m raw LocalScope ++ flat_map (of_constant m raw) (numbered raw.constants)) c.add_constants.result c.in_ok-add_table.ensures
+    (goes-more t u v (of_table t.map raw LocalScope)
+    (λ (m : Map). flat_map (of_constant m raw) (numbered raw.constants)) c.add_constants.result c.in_ok-add_table-2.ensures c.add_constants.ensures)

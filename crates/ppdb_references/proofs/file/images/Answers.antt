@@ -1,4 +1,4 @@
-use Rattle.std.proofs.Common.{◌≡◌, subst, Ok, Err, List}
+use Rattle.std.proofs.Common.{◌≡◌, subst, Ok, Err}
 use Rattle.std.proofs.lemmas.Result.{err_from_is_err_and}
 use Rattle.ppdb_verify.specs.Views.{raw_file}
 use Rattle.ppdb_references.specs.References.{references}
@@ -12,7 +12,8 @@ returns-in_err-add_file-clause-unmapped g c =
     let raw = raw_file c.args.file.now in
     rw (p.1, p.2)
     (refused c.args.map.now c.add_file.new.imager (references c.args.first c.args.map.now raw) c.in_err-add_file.field-0.0
-    (subst (λ (s : Imaging). Goes s (references c.args.first s.map raw) c.add_file.new.imager (Err c.in_err-add_file.field-0.0)) c.new-imager.ensures c.in_err-add_file.ensures))
+    (subst (λ (s : Imaging). Goes s (references c.args.first s.map raw) c.add_file.new.imager
+    (Err c.in_err-add_file.field-0.0)) c.new-imager.ensures c.in_err-add_file.ensures))
 
 pub returns-clause-images : goal.returns-clause-images
 returns-clause-images g c =

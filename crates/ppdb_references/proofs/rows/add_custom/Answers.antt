@@ -16,5 +16,7 @@ pub returns : goal.returns
 returns c =
     let s = c.args.imager.now in
     let raw = (raw_file c.args.file.now).tables in
-    goes-as s c.add_parent.new.imager (of_parent raw (c.args.row, c.args.cells.now) c.in-Some.parent) (of_custom s.map raw (c.args.row, c.args.cells.now)) c.add_parent.result
-    (custom_names s.map raw c.args.row c.args.cells.now c.in-Some.parent c.in-Some.ensures (sym c.is_live.ensures ∙ c.if-not-is_live.false)) c.add_parent.ensures
+    goes-as s c.add_parent.new.imager (of_parent raw (c.args.row, c.args.cells.now) c.in-Some.parent)
+    (of_custom s.map raw (c.args.row, c.args.cells.now)) c.add_parent.result
+    (custom_names s.map raw c.args.row c.args.cells.now c.in-Some.parent c.in-Some.ensures
+    (sym c.is_live.ensures ∙ c.if-not-is_live.false)) c.add_parent.ensures

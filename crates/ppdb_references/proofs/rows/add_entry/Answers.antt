@@ -1,9 +1,8 @@
 use Rattle.std.proofs.Common.{sym, ◌∙◌}
-use Rattle.ppdb_base.specs.Place.{at_byte}
 use Rattle.ppdb_verify.specs.Views.{raw_file}
-use Rattle.ppdb_references.specs.References.{names_some, of_entry}
-use Rattle.ppdb_references.proofs.Going.{goes-as, goes-none}
-use Rattle.ppdb_references.proofs.RowNames.{entry_later, entry_dropped, entry_named}
+use Rattle.ppdb_references.specs.References.{of_entry}
+use Rattle.ppdb_references.proofs.Going.{goes-none}
+use Rattle.ppdb_references.proofs.RowNames.{entry_later, entry_dropped}
 use Rattle.ppdb_references.proofs.rows.add_entry.Goals as goal
 
 pub returns-then-not-first : goal.returns-then-not-first
@@ -14,4 +13,5 @@ returns-then-not-first c =
 pub returns-then-drops : goal.returns-then-drops
 returns-then-drops c =
     goes-none c.args.imager.now (of_entry c.args.first c.args.imager.now.map (raw_file c.args.file.now).entry)
-    (entry_dropped c.args.first c.args.imager.now.map (raw_file c.args.file.now).entry c.if-not-first.false (rw c.head.ensures.head at (sym c.drops.ensures ∙ c.if-drops.true)))
+    (entry_dropped c.args.first c.args.imager.now.map (raw_file c.args.file.now).entry c.if-not-first.false
+    (rw c.head.ensures.head at (sym c.drops.ensures ∙ c.if-drops.true)))

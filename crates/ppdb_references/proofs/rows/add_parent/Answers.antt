@@ -1,9 +1,9 @@
-use Rattle.std.proofs.Common.{Err, sym, ◌∙◌, ap, refl, [], ◌∷◌, List}
+use Rattle.std.proofs.Common.{Err, [], ◌∷◌}
 use Rattle.std.proofs.lemmas.Result.{err_from_is_err_and}
 use Rattle.ppdb_base.specs.Place.{cell}
 use Rattle.ppdb_verify.specs.Views.{raw_file}
-use Rattle.ppdb_references.specs.References.{names, inside, methods_of, of_parent}
-use Rattle.ppdb_references.proofs.Going.{goes-as, goes-none, goes-cut, goes-then, goes-at}
+use Rattle.ppdb_references.specs.References.{names, inside, methods_of}
+use Rattle.ppdb_references.proofs.Going.{goes-cut, goes-then, goes-at}
 use Rattle.ppdb_references.proofs.rows.add_parent.Goals as goal
 
 pub returns-in_err-add : goal.returns-in_err-add
@@ -14,7 +14,8 @@ returns-in_err-add c =
     rw (p.1, p.2)
     (goes-cut s c.add.new.self c.add.new.self (names (cell 0x37 c.args.row 0) c.args.parent.table c.args.parent.row ∷ [])
     (inside 0x37 c.args.row 2 (methods_of raw c.args.cells.now)) c.in_err-add.field-0.0
-    (goes-at s c.add.new.self c.cell.result (cell 0x37 c.args.row 0) c.args.parent.table c.args.parent.row (Err c.in_err-add.field-0.0) c.cell.ensures c.in_err-add.ensures))
+    (goes-at s c.add.new.self c.cell.result (cell 0x37 c.args.row 0) c.args.parent.table c.args.parent.row
+    (Err c.in_err-add.field-0.0) c.cell.ensures c.in_err-add.ensures))
 
 pub returns : goal.returns
 returns c =

@@ -1,11 +1,11 @@
-use Rattle.std.proofs.Common.{Err, ◌≡◌, ◌∙◌, sym, ap, [], ◌∷◌, ◌++◌, List}
+use Rattle.std.proofs.Common.{Err, ◌≡◌, ◌∙◌, sym, ap, [], ◌∷◌, List}
 use Rattle.std.proofs.lemmas.Result.{err_from_is_err_and}
 use Rattle.ppdb_base.specs.Place.{cell}
 use Rattle.rows_in_blobs.specs.declared.row.PlacedRow.{PlacedRow}
 use Rattle.rows_in_blobs.specs.Walk.{rest_of}
-use Rattle.ppdb_references.specs.References.{Reference, inside, names}
+use Rattle.ppdb_references.specs.References.{inside}
 use Rattle.ppdb_references.specs.Imaging.{imaged_on}
-use Rattle.ppdb_references.proofs.Going.{Leads, leads-few, leads-end, goes-stop, goes-at}
+use Rattle.ppdb_references.proofs.Going.{leads-few, leads-end, goes-stop, goes-at}
 use Rattle.ppdb_references.proofs.Walked.{first_is, none_is}
 use Rattle.ppdb_references.proofs.rows.add_rows.Goals as goal
 
@@ -28,9 +28,12 @@ returns-in_err-add g c =
     let now = c.rows.imager in
     let tell = inside c.args.table c.args.row c.args.column in
     rw (p.1, p.2)
-    (goes-stop c.args.imager.now now c.add.new.self c.add.new.self (tell (g.W.RowWalk.left c.args.walk.now)) (tell (c.in-Some.found ∷ [])) (tell (rest_of left)) c.in_err-add.field-0.0
+    (goes-stop c.args.imager.now now c.add.new.self c.add.new.self (tell (g.W.RowWalk.left c.args.walk.now)) (tell (c.in-Some.found ∷ []))
+    (tell (rest_of left)) c.in_err-add.field-0.0
     (c.rows.invariant ∙ ap (λ (rows : List PlacedRow). imaged_on now (tell rows)) first)
-    (goes-at now c.add.new.self c.byte_of-place.result (record (cell c.args.table c.args.row c.args.column) { byte = c.in-Some.found.byte }) c.in-Some.found.table c.in-Some.found.row (Err c.in_err-add.field-0.0) c.byte_of-place.ensures c.in_err-add.ensures))
+    (goes-at now c.add.new.self c.byte_of-place.result
+    (record (cell c.args.table c.args.row c.args.column) { byte = c.in-Some.found.byte }) c.in-Some.found.table c.in-Some.found.row
+    (Err c.in_err-add.field-0.0) c.byte_of-place.ensures c.in_err-add.ensures))
 
 pub returns : goal.returns
 returns g c =

@@ -1,8 +1,8 @@
-use Rattle.std.proofs.Common.{sym, ap, ◌∙◌, List}
+use Rattle.std.proofs.Common.{ap, List}
 use Rattle.ppdb_values.specs.RawFile.{blob}
 use Rattle.ppdb_verify.specs.Views.{raw_file}
 use Rattle.rows_in_blobs.specs.declared.row.PlacedRow.{PlacedRow}
-use Rattle.ppdb_references.specs.References.{inside, methods_of, methods_in}
+use Rattle.ppdb_references.specs.References.{inside, methods_of}
 use Rattle.ppdb_references.proofs.Going.{goes-none}
 use Rattle.ppdb_references.proofs.RowNames.{no_methods}
 use Rattle.ppdb_references.proofs.rows.add_steps.Goals as goal
@@ -11,4 +11,5 @@ pub returns-in_default : goal.returns-in_default
 returns-in_default c =
     let raw = (raw_file c.args.file.now).tables in
     goes-none c.args.imager.now (inside 0x37 c.args.row 2 (methods_of raw c.args.cells.now))
-    (ap (λ (rows : List PlacedRow). inside 0x37 c.args.row 2 rows) (no_methods raw _ (blob raw c.args.cells.now.value) (rw c.kind.ensures at c.in_default.not-Async)))
+    (ap (λ (rows : List PlacedRow). inside 0x37 c.args.row 2 rows)
+    (no_methods raw _ (blob raw c.args.cells.now.value) (rw c.kind.ensures at c.in_default.not-Async)))

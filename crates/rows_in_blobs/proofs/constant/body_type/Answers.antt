@@ -11,10 +11,12 @@ returns-then-place-blob c =
 
 pub returns-in_default-type_field : goal.returns-in_default-type_field
 returns-in_default-type_field c =
-    body_untyped c.args.limits c.args.blob.now c.args.at c.args.code c.in-Some.skip c.requires.code.0 (sym c.in-Some.ensures.skip) (omega arith) c.in_default-type_field.ensures.found
+    body_untyped c.args.limits c.args.blob.now c.args.at c.args.code c.in-Some.skip c.requires.code.0 (sym c.in-Some.ensures.skip)
+    (omega arith) c.in_default-type_field.ensures.found
 
 pub returns : goal.returns
 returns c = (
-  body_taken c.args.limits c.args.blob.now c.args.at c.args.code c.in-Some.skip (c.in-Some-type_field.row, c.in-Some-type_field.field-0-1) c.requires.code.0 (sym c.in-Some.ensures.skip) (omega arith) c.in-Some-type_field.ensures.found,
+  body_taken c.args.limits c.args.blob.now c.args.at c.args.code c.in-Some.skip (c.in-Some-type_field.row, c.in-Some-type_field.field-0-1) c.requires.code.0
+      (sym c.in-Some.ensures.skip) (omega arith) c.in-Some-type_field.ensures.found,
   omega arith,
 )

@@ -7,4 +7,5 @@ returns-in_default c = no_code c.args.limits c.args.blob.now c.args.at c.in_defa
 
 pub returns-then-is_modifier : goal.returns-then-is_modifier
 returns-then-is_modifier c =
-    modifier_next c.args.limits c.args.blob.now c.args.at c.in-Ok.code c.type_field.result c.in-Ok.ensures.found.0 (sym c.is_modifier.ensures ∙ c.if-is_modifier.true) c.type_field.ensures.found c.type_field.ensures.within
+    modifier_next c.args.limits c.args.blob.now c.args.at c.in-Ok.code c.type_field.result c.in-Ok.ensures.found.0
+    (sym c.is_modifier.ensures ∙ c.if-is_modifier.true) c.type_field.ensures.found c.type_field.ensures.within

@@ -10,5 +10,6 @@ returns-in_default-offset_field c =
 
 pub returns : goal.returns
 returns c =
-    method_next c.args.methods c.args.blob.now c.args.at (c.in-Some.field-0-0, c.in-Some.resume) (c.in-Some-offset_field.field-0-0, c.in-Some-offset_field.method) c.method_field.result
+    method_next c.args.methods c.args.blob.now c.args.at (c.in-Some.field-0-0, c.in-Some.resume)
+    (c.in-Some-offset_field.field-0-0, c.in-Some-offset_field.method) c.method_field.result
     c.in-Some.ensures.found c.in-Some-offset_field.ensures.found c.method_field.ensures.found c.method_field.ensures.within

@@ -5,4 +5,5 @@ use Rattle.rows_in_blobs.proofs.stepping.ResumeMethods.new.Goals as goal
 
 pub returns : goal.returns
 returns c =
-    ap (λ (at : ℕ). methods_left c.args.methods c.args.blob.now at) c.unwrap_or-at.ensures ∙ methods-all c.args.methods c.args.blob.now c.handler_end.result c.handler_end.ensures.handler
+    ap (λ (at : ℕ). methods_left c.args.methods c.args.blob.now at) c.unwrap_or-at.ensures
+    ∙ methods-all c.args.methods c.args.blob.now c.handler_end.result c.handler_end.ensures.handler
