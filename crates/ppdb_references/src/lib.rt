@@ -10,6 +10,3 @@ mod rows;
 
 pub use file::images;
 pub use imaged::{Imaged, ReferenceError};
-
-#[cfg(test)]
-mod tests;
