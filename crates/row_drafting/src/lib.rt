@@ -14,6 +14,3 @@ mod scopes;
 pub use draft::draft_of_file;
 pub use laws::files_pass_no_early_limit;
 pub use lists::list_limit;
-
-#[cfg(test)]
-mod tests;
