@@ -1,4 +1,4 @@
-ghost use Rattle.std.specs.Prelude.{◌≡◌, ◌≤◌, ◌<◌, ◌^◌, ◌+◌, length, take, IfOk, IfErr};
+ghost use Rattle.std.specs.Prelude.{◌≡◌, ◌≤◌, ◌<◌, ◌^◌, length, take, IfOk, IfErr};
 ghost use Rattle.blob_grammar.specs.Grammar.{octets, character, is_in as in_range, is_second as second_fits, is_character as is_well_formed};
 ghost use Rattle.blob_grammar.specs.Reader.{character_len as len_of_character, IsThere, IsMissing};
 

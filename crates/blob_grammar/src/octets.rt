@@ -1,4 +1,4 @@
-ghost use Rattle.std.specs.Prelude.{◌≡◌, ◌≤◌, ◌<◌, ◌^◌, ◌+◌, length, IfOk, IfErr};
+ghost use Rattle.std.specs.Prelude.{◌≤◌, ◌<◌, ◌^◌, length, IfOk, IfErr};
 ghost use Rattle.blob_grammar.specs.Grammar.{octets, fixed, rest};
 ghost use Rattle.blob_grammar.specs.Reader.{IsThere, IsMissing};
 

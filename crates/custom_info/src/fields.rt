@@ -1,5 +1,5 @@
 // Fields that hold a row or an IL offset.
-ghost use Rattle.std.specs.Prelude.{◌≡◌, ◌≤◌, ◌<◌, ◌^◌, ◌+◌, ◌++◌, length, drop, nat_lt, nat_le, if◌then◌else◌, Ok, Err, IfOk, OnOk, OnErr};
+ghost use Rattle.std.specs.Prelude.{◌≡◌, ◌≤◌, ◌<◌, ◌^◌, ◌+◌, ◌++◌, length, drop, if◌then◌else◌, Ok, Err, IfOk, OnOk, OnErr};
 ghost use Rattle.std.specs.Int.{w32, to_le_bytes};
 ghost use Rattle.blob_grammar.specs.Reader.{unsigned_at};
 ghost use Rattle.cli_ints.specs.Shortest.{short_unsigned};

@@ -1,5 +1,5 @@
 // State machine hoisted local scopes.
-ghost use Rattle.std.specs.Prelude.{◌≡◌, ◌≤◌, ◌<◌, ◌^◌, ◌+◌, length, drop, take, ◌++◌, All, OnOk, OnErr, IfOk, true};
+ghost use Rattle.std.specs.Prelude.{◌≡◌, ◌≤◌, ◌<◌, ◌^◌, ◌+◌, length, drop, ◌++◌, All, OnOk, OnErr, IfOk, true};
 ghost use Rattle.blob_grammar.specs.Reading.{Reading};
 ghost use Rattle.blob_grammar.specs.Reader.{Left, NextIs, answer, rest_of, placed, word_at};
 ghost use Rattle.custom_info.specs.Fields.{checked};

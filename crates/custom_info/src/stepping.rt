@@ -1,5 +1,5 @@
 // Async method stepping information.
-ghost use Rattle.std.specs.Prelude.{◌≡◌, ◌≤◌, ◌<◌, ◌^◌, ◌+◌, length, drop, take, ◌++◌, All, OnOk, OnErr, IfOk, IfErr, [], Some};
+ghost use Rattle.std.specs.Prelude.{◌≡◌, ◌≤◌, ◌<◌, ◌^◌, ◌+◌, length, ◌++◌, All, OnOk, OnErr, IfOk, IfErr, [], Some};
 ghost use Rattle.blob_grammar.specs.Reading.{Reading};
 ghost use Rattle.blob_grammar.specs.Reader.{NextIs, answer, rest_of, placed, word_at};
 ghost use Rattle.custom_info.specs.Fields.{checked};

@@ -1,22 +1,18 @@
 -- The file of a draft is the canonical file of its value, and as long as that in any case.
-use Rattle.std.proofs.Common.{◌≡◌, ℕ, zero, suc, ◌+◌, ◌*◌, ◌<◌, ◌≤◌, ◌^◌, Bool, true, false, List, [], ◌∷◌, ◌++◌, length, map, flat_map, min, sum_by, take, drop, replicate, refl, sym, ap, subst, ◌∙◌, arith, append_assoc, length-append, Option, Some, None}
-use Rattle.std.specs.Prelude.{All, slice_index}
+use Rattle.std.proofs.Common.{◌≡◌, ℕ, suc, ◌+◌, ◌*◌, ◌<◌, ◌≤◌, ◌^◌, Bool, true, false, List, [], ◌∷◌, ◌++◌, length, map, flat_map, take, drop, refl, sym, ap, subst, ◌∙◌, arith, length-append}
+use Rattle.std.specs.Prelude.{All}
 use Rattle.std.proofs.lemmas.List.{length-map, take_at, length-take, length-drop}
-use Rattle.std.proofs.lemmas.List.Concat.{length-flat_map}
 use Rattle.std.proofs.lemmas.List.Elements.{All-head, All-tail}
-use Rattle.std.proofs.lemmas.List.Sums.{sum_by-cons}
 use Rattle.ppdb_tables.specs.declared.rows.DocumentRow.{DocumentRow}
 use Rattle.ppdb_tables.specs.declared.rows.MethodDebugRow.{MethodDebugRow}
 use Rattle.ppdb_tables.specs.declared.rows.ScopeRow.{ScopeRow}
 use Rattle.ppdb_tables.specs.declared.rows.VariableRow.{VariableRow}
 use Rattle.ppdb_tables.specs.declared.rows.ConstantRow.{ConstantRow}
 use Rattle.ppdb_tables.specs.declared.rows.ImportRow.{ImportRow}
-use Rattle.ppdb_tables.specs.declared.rows.MachineRow.{MachineRow}
 use Rattle.ppdb_tables.specs.declared.rows.CustomRow.{CustomRow}
-use Rattle.ppdb_tables.specs.Layouts.{widths_of, document_columns, method_columns, scope_columns, variable_columns, constant_columns, import_columns, machine_columns, custom_columns}
+use Rattle.ppdb_tables.specs.Layouts.{widths_of, document_columns, method_columns, scope_columns, variable_columns, constant_columns, import_columns, custom_columns}
 use Rattle.ppdb_tables.specs.RawTables.{RawTables}
 use Rattle.ppdb_values.specs.declared.file.FileValue.{FileValue}
-use Rattle.ppdb_values.specs.RawFile.{RawFile}
 use Rattle.ppdb_values.specs.Types.{IsGuid}
 use Rattle.row_layout.specs.declared.column.Sizes.{Sizes}
 use Rattle.row_layout.specs.Columns.{index_width}
@@ -26,7 +22,7 @@ use Rattle.file_layout.specs.declared.rows.Rows.{Rows}
 use Rattle.file_layout.specs.declared.rows.HeapLens.{HeapLens}
 use Rattle.file_layout.specs.Bytes.{padding, padded, pdb_stream, tables_stream, front_bytes, file_bytes, rows_of, heaps_of, sizes_of}
 use Rattle.file_layout.specs.Laid.{AllRowsFit}
-use Rattle.file_layout.proofs.Lengths.{length-pdb, length-tables, length-front, rows_sum, tables_sum, pdb_sum}
+use Rattle.file_layout.proofs.Lengths.{length-pdb, length-tables, length-front, rows_sum}
 use Rattle.ppdb_canon.specs.Uses.{texts, guids, blobs}
 use Rattle.ppdb_canon.specs.Canonical.{counts, canonical_tables, canonical}
 use Rattle.noted_items.specs.Noted.{cell}

@@ -1,10 +1,7 @@
 // The bytes of a draft.
-ghost use Rattle.std.specs.Prelude.{◌≡◌, ◌≤◌, ◌++◌, length, take, drop, All, OnOk, IfOk};
-ghost use Rattle.file_layout.specs.Bytes.{file_bytes, sizes_of};
-ghost use Rattle.file_layout.specs.Laid.{AllRowsFit};
-ghost use Rattle.ppdb_values.specs.Types.{IsGuid};
+ghost use Rattle.std.specs.Prelude.{◌≡◌, ◌≤◌, ◌++◌, length, take, drop, IfOk};
+ghost use Rattle.file_layout.specs.Bytes.{file_bytes};
 ghost use Rattle.noted_items.specs.Noted.{cell};
-ghost use Rattle.file_drafting.specs.Heaps.{heap_lens_of};
 ghost use Rattle.draft_layout.specs.Drafts.{debug_counts_of, counts_in, file_from, id_in, CanBeLaid};
 
 use crate::identity::id_of;

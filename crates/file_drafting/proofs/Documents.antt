@@ -1,15 +1,14 @@
 -- The documents of a value, one after another.
-use Rattle.std.proofs.Common.{◌≡◌, ℕ, List, [], ◌∷◌, ◌++◌, map, fold, flat_map, refl, sym, ap, subst, ◌∙◌, append_assoc, Option, Some, None}
+use Rattle.std.proofs.Common.{◌≡◌, ℕ, List, [], ◌∷◌, ◌++◌, map, fold, flat_map, refl, sym, ap, ◌∙◌, append_assoc, Option, Some, None}
 use Rattle.std.specs.Prelude.{option_to_list}
 use Rattle.std.proofs.lemmas.List.{append-nil}
 use Rattle.std.proofs.lemmas.List.Sums.{fold-append}
 use Rattle.ppdb_tables.specs.declared.rows.DocumentRow.{DocumentRow}
 use Rattle.ppdb_values.specs.declared.file.DocumentValue.{DocumentValue}
 use Rattle.heap_items.specs.Items.{with_use}
-use Rattle.heap_items.specs.Uses.{Piece, plain}
-use Rattle.file_layout.specs.declared.rows.Rows.{Rows}
+use Rattle.heap_items.specs.Uses.{plain}
 use Rattle.ppdb_canon.specs.Uses.{name_pieces, document_blobs}
-use Rattle.noted_items.specs.Noted.{Noted, with_blob, with_guid, blob_place, guid_place, cell}
+use Rattle.noted_items.specs.Noted.{with_blob, with_guid, blob_place, guid_place, cell}
 use Rattle.file_drafting.specs.Draft.{Draft, with_document}
 use Rattle.file_drafting.proofs.Heaps.{Grows, grows_not, grows_then, grows_guid, grows_blob, blob_stays, guid_stays}
 

@@ -1,15 +1,14 @@
 -- The methods of a value that have points, one after another, and the rows of those that have none.
-use Rattle.std.proofs.Common.{◌≡◌, ◌≢◌, ℕ, zero, suc, ◌+◌, ◌-◌, ◌<◌, ◌≤◌, Bool, true, false, cond, List, [], ◌∷◌, ◌++◌, length, map, fold, replicate, refl, sym, ap, subst, ◌∙◌, append_assoc, arith, ◌==◌, Option, Some, None, length-append}
+use Rattle.std.proofs.Common.{◌≡◌, ◌≢◌, ℕ, zero, suc, ◌+◌, ◌-◌, ◌<◌, ◌≤◌, cond, List, [], ◌∷◌, ◌++◌, length, map, fold, replicate, refl, sym, ap, subst, ◌∙◌, append_assoc, arith, ◌==◌, Option, Some, None, length-append}
 use Rattle.std.specs.List.{find, range_with_len}
-use Rattle.std.proofs.lemmas.List.{append-nil, length-replicate, map-append}
+use Rattle.std.proofs.lemmas.List.{length-replicate, map-append}
 use Rattle.std.proofs.lemmas.Bool.{ne_eqb, eq-eqb}
 use Rattle.sequence_points.specs.Points.{common_document}
 use Rattle.ppdb_tables.specs.declared.rows.MethodDebugRow.{MethodDebugRow}
 use Rattle.ppdb_values.specs.declared.file.MethodValue.{MethodValue}
-use Rattle.file_layout.specs.declared.rows.Rows.{Rows}
 use Rattle.ppdb_canon.specs.Uses.{method_blob}
-use Rattle.noted_items.specs.Noted.{Noted, with_blob, blob_place, cell}
-use Rattle.file_drafting.specs.Draft.{Draft, with_method, with_all_methods, rows_to, all_methods}
+use Rattle.noted_items.specs.Noted.{with_blob, blob_place, cell}
+use Rattle.file_drafting.specs.Draft.{Draft, with_method, rows_to, all_methods}
 use Rattle.file_drafting.proofs.Heaps.{Grows, grows_not, grows_then, grows_blob, blob_stays}
 
 -- the row of a method where the heap has these items

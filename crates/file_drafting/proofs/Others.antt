@@ -8,9 +8,8 @@ use Rattle.ppdb_values.specs.declared.import.ImportScopeValue.{ImportScopeValue}
 use Rattle.ppdb_values.specs.declared.custom.CustomValue.{CustomValue}
 use Rattle.sound_values.specs.Customs.{coded_of}
 use Rattle.heap_items.specs.Items.{with_use}
-use Rattle.file_layout.specs.declared.rows.Rows.{Rows}
 use Rattle.ppdb_canon.specs.Uses.{import_blob, custom_blob}
-use Rattle.noted_items.specs.Noted.{Noted, with_blob, blob_place, guid_place, cell}
+use Rattle.noted_items.specs.Noted.{with_blob, blob_place, guid_place, cell}
 use Rattle.file_drafting.specs.Draft.{Draft, with_import, with_machine, with_custom}
 use Rattle.file_drafting.proofs.Heaps.{Grows, grows_not, grows_then, grows_use, grows_blob, blob_stays, guid_stays}
 

@@ -1,8 +1,7 @@
 -- The scopes of a value with their variables, and then the constants, one after another.
-use Rattle.std.proofs.Common.{◌≡◌, ℕ, suc, ◌+◌, ◌-◌, List, [], ◌∷◌, ◌++◌, length, min, map, fold, flat_map, take, sum_by, refl, sym, ap, subst, ◌∙◌, append_assoc, arith, length-append}
-use Rattle.std.specs.List.{enumerate_from}
-use Rattle.std.proofs.lemmas.List.{append-nil, map-append, length-map, take_at}
-use Rattle.std.proofs.lemmas.List.Sums.{fold-append, sum_by-append, sum_by-cons}
+use Rattle.std.proofs.Common.{◌≡◌, ℕ, ◌+◌, ◌-◌, List, [], ◌∷◌, ◌++◌, length, map, fold, flat_map, refl, sym, ap, ◌∙◌, append_assoc, arith, length-append}
+use Rattle.std.proofs.lemmas.List.{append-nil, map-append, length-map}
+use Rattle.std.proofs.lemmas.List.Sums.{fold-append}
 use Rattle.ppdb_tables.specs.declared.rows.ScopeRow.{ScopeRow}
 use Rattle.ppdb_tables.specs.declared.rows.VariableRow.{VariableRow}
 use Rattle.ppdb_tables.specs.declared.rows.ConstantRow.{ConstantRow}
@@ -10,7 +9,6 @@ use Rattle.ppdb_values.specs.declared.scope.ScopeValue.{ScopeValue}
 use Rattle.ppdb_values.specs.declared.scope.VariableValue.{VariableValue}
 use Rattle.ppdb_values.specs.declared.scope.ConstantValue.{ConstantValue}
 use Rattle.heap_items.specs.Told.{told}
-use Rattle.file_layout.specs.declared.rows.Rows.{Rows}
 use Rattle.ppdb_canon.specs.Uses.{constant_blob}
 use Rattle.noted_items.specs.Noted.{Noted, with_text, with_blob, text_place, blob_place, cell}
 use Rattle.file_drafting.specs.Draft.{Draft, with_variable, with_scope_row, with_scope, with_signature, with_constant, with_constants}

@@ -1,8 +1,8 @@
 -- All parts of a value, one after another, make the heaps and the rows of its file.
-use Rattle.std.proofs.Common.{◌≡◌, ℕ, zero, suc, ◌+◌, ◌-◌, ◌<◌, ◌≤◌, List, [], ◌∷◌, ◌++◌, length, min, map, fold, flat_map, take, sum_by, refl, sym, ap, subst, ◌∙◌, append_assoc, arith, Option, Some, None, get_or, ◌==◌}
+use Rattle.std.proofs.Common.{◌≡◌, ℕ, suc, ◌+◌, ◌-◌, ◌<◌, ◌≤◌, List, [], ◌∷◌, ◌++◌, length, map, fold, flat_map, take, sum_by, refl, sym, ap, subst, ◌∙◌, append_assoc, arith, Option, Some, None}
 use Rattle.std.specs.Prelude.{slice_index}
-use Rattle.std.specs.List.{enumerate_from, find, range_with_len}
-use Rattle.std.proofs.lemmas.List.{append-nil, map-append, length-map, take_at, get_or-map}
+use Rattle.std.specs.List.{enumerate_from, range_with_len}
+use Rattle.std.proofs.lemmas.List.{append-nil, length-map, take_at, get_or-map}
 use Rattle.std.proofs.lemmas.List.Sums.{fold-append, sum_by-append, sum_by-cons}
 use Rattle.std.proofs.lemmas.Option.{slice_get_within, get_or_from_slice_get}
 use native.Mathlib.Numerals.{one-add}
@@ -21,12 +21,12 @@ use Rattle.ppdb_values.specs.declared.file.DocumentValue.{DocumentValue}
 use Rattle.ppdb_values.specs.declared.file.MethodValue.{MethodValue}
 use Rattle.ppdb_values.specs.declared.scope.ScopeValue.{ScopeValue}
 use Rattle.ppdb_values.specs.declared.custom.CustomValue.{CustomValue}
-use Rattle.ppdb_values.specs.Ordered.{EachRow, Rises}
+use Rattle.ppdb_values.specs.Ordered.{Rises}
 use Rattle.ppdb_values.specs.Parts.{method_at, first_item}
 use Rattle.sound_values.specs.Sound.{IsSound}
 use Rattle.heap_items.specs.Told.{told}
 use Rattle.heap_items.specs.Items.{first_uses, with_use}
-use Rattle.heap_items.specs.Uses.{Piece, with_held, blob_bytes, blobs_after}
+use Rattle.heap_items.specs.Uses.{Piece, blob_bytes}
 use Rattle.file_layout.specs.declared.rows.Rows.{Rows}
 use Rattle.ppdb_canon.specs.Uses.{texts, guids, blobs, document_blobs, method_blob, constant_blob, import_blob, custom_blob, variables_of, constants_of, text_uses, guid_uses, cell_blobs, blob_uses}
 use Rattle.ppdb_canon.specs.Canonical.{guid_cell, document_row, method_row_of, method_rows, scope_row, variable_row, constant_row, import_row, custom_row, canonical_tables}
@@ -36,8 +36,8 @@ use Rattle.file_drafting.specs.Draft.{Draft, empty_draft, no_rows, with_document
 use Rattle.file_drafting.specs.Drafted.{drafted, held_document, held_method, held_scope, held_variable, held_constant, held_import, held_custom, held_rows, IsDraftOf, DraftsAreCanonical}
 use Rattle.file_drafting.proofs.Heaps.{Grows, grows_not, grows_then, texts_noted, blobs_noted, fold_first}
 use Rattle.file_drafting.proofs.Documents.{document_in, guids_on, DocumentsDrafted, documents_drafted}
-use Rattle.file_drafting.proofs.Methods.{method_in, no_points, next_method, MethodsDrafted, methods_drafted, RiseFrom, row_by, found, all_rows, methods_spread}
-use Rattle.file_drafting.proofs.Scopes.{variable_in, variables_in, variable_names, scope_rows_from, ScopesDrafted, scopes_drafted, constant_in, constants_in, ConstantsDrafted, all_constants, constants_drafted}
+use Rattle.file_drafting.proofs.Methods.{next_method, MethodsDrafted, methods_drafted, RiseFrom, row_by, found, all_rows, methods_spread}
+use Rattle.file_drafting.proofs.Scopes.{variable_in, variable_names, scope_rows_from, ScopesDrafted, scopes_drafted, constant_in, ConstantsDrafted, all_constants, constants_drafted}
 use Rattle.file_drafting.proofs.Others.{import_in, ImportsDrafted, imports_drafted, machines_drafted, custom_in, CustomsDrafted, customs_drafted}
 
 -- ---- lists that are made in one way or the other

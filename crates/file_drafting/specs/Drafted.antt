@@ -1,5 +1,5 @@
 -- The draft of a value, and what it holds: the heaps and rows of the value's file, whose cells have four bytes.
-use Rattle.std.specs.Prelude.{◌≡◌, ℕ, ◌+◌, ◌<◌, ◌≤◌, map, fold, length, slice_index}
+use Rattle.std.specs.Prelude.{◌≡◌, ◌+◌, map, fold, slice_index}
 use Rattle.ppdb_tables.specs.declared.rows.DocumentRow.{DocumentRow}
 use Rattle.ppdb_tables.specs.declared.rows.MethodDebugRow.{MethodDebugRow}
 use Rattle.ppdb_tables.specs.declared.rows.ScopeRow.{ScopeRow}

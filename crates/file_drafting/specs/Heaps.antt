@@ -1,5 +1,5 @@
 -- How many bytes the heaps of a draft take (ECMA-335 II.24.2.2).
-use Rattle.std.specs.Prelude.{ℕ, ◌*◌, length, flat_map}
+use Rattle.std.specs.Prelude.{◌*◌, length, flat_map}
 use Rattle.heap_items.specs.Items.{as_text, as_blob}
 use Rattle.file_layout.specs.declared.rows.HeapLens.{HeapLens}
 use Rattle.file_layout.specs.Bytes.{padded}

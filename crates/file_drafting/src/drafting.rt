@@ -37,7 +37,7 @@ impl Model for Drafting {
 }
 
 impl Drafting {
-    ghost use Rattle.std.specs.Prelude.{◌≡◌, ◌≤◌, [], ◌++◌, All, OnOk, IfOk, IfErr};
+    ghost use Rattle.std.specs.Prelude.{◌≡◌, ◌≤◌, [], All, OnOk, IfOk, IfErr};
     ghost use Rattle.type_blobs.specs.Types.{IsToken};
     ghost use Rattle.type_blobs.specs.ConstantReading.{shown};
     ghost use Rattle.type_blobs.specs.Spelling.{IsBody, constant_spelling};

@@ -1,5 +1,5 @@
 // The tables that have rows: their bits, and their row counts.
-ghost use Rattle.std.specs.Prelude.{◌≡◌, ◌+◌, ◌++◌, ◌<◌, ◌≤◌, ◌^◌, length, OnOk, OnErr};
+ghost use Rattle.std.specs.Prelude.{◌≡◌, ◌+◌, ◌++◌, ◌<◌, ◌≤◌, length, OnOk, OnErr};
 ghost use Rattle.std.specs.List.{range_with_len};
 ghost use Rattle.file_layout.specs.Begins.{Begins};
 ghost use Rattle.file_layout.specs.Bytes.{with_rows, bits_of, counts_of};

@@ -1,5 +1,5 @@
 // The stream `#~` (ECMA-335 II.24.2.6; Portable PDB v1.0, "#~ stream").
-ghost use Rattle.std.specs.Prelude.{◌≡◌, ◌≤◌, ◌+◌, ◌*◌, ◌++◌, ◌↔◌, ℕ, length, sum, IsTrue, OnOk, OnErr};
+ghost use Rattle.std.specs.Prelude.{◌≡◌, ◌+◌, ◌*◌, ◌++◌, ◌↔◌, length, IsTrue, OnOk, OnErr};
 ghost use Rattle.file_layout.specs.Begins.{Begins};
 ghost use Rattle.file_layout.specs.Bytes.{heap_bit, sizes_of, all_rows, tables_stream};
 ghost use Rattle.file_layout.specs.Laid.{AllRowsFit};

@@ -1,7 +1,6 @@
 //! Moves the points of a blob, from blob to blob.
 
 ghost use Rattle.std.specs.Prelude.{◌≡◌, ◌<◌, ◌≤◌, ◌^◌, ◌++◌, ℕ, false, cond, List, [], ◌∷◌, length, All, IfNone, IfOk, IfErr, OnOk, OnErr};
-ghost use Rattle.cli_ints.specs.Shortest.{short_unsigned};
 ghost use Rattle.ppdb_base.specs.Offsets.{old_size, moved};
 ghost use Rattle.sequence_points.specs.declared.point.Point.{Point};
 ghost use Rattle.sequence_points.specs.Points.{common_document};

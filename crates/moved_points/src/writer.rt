@@ -5,7 +5,7 @@ ghost use Rattle.cli_ints.specs.Shortest.{short_unsigned, short_signed};
 ghost use Rattle.sequence_points.specs.Places.{start_after};
 ghost use Rattle.sequence_points.specs.Written.{IsSpan, document_bytes, columns_bytes, start_bytes, span_bytes, bytes_after, if_large, large_step, BeginsWith};
 ghost use Rattle.sequence_points.specs.Following.{IsStart};
-ghost use Rattle.moved_points.specs.Writing.{seen, start_seen, HasWritten, MayCome, IsStepOf};
+ghost use Rattle.moved_points.specs.Writing.{start_seen, HasWritten, MayCome, IsStepOf};
 
 use cli_ints::{spell_signed, spell_unsigned};
 use ppdb_base::{Bytes, Memory};

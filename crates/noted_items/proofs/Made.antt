@@ -1,15 +1,15 @@
 -- A blob that is made piece by piece is the blob of its pieces, with what it holds before it.
-use Rattle.std.proofs.Common.{◌≡◌, ℕ, ◌+◌, List, [], ◌∷◌, ◌++◌, length, min, map, fold, flat_map, sum_by, refl, sym, ap, subst, ◌∙◌, append_assoc, arith}
+use Rattle.std.proofs.Common.{◌≡◌, ℕ, ◌+◌, List, [], ◌∷◌, ◌++◌, length, min, map, fold, sum_by, refl, sym, ap, subst, ◌∙◌, append_assoc, arith}
 use Rattle.std.proofs.lemmas.List.{append-nil, map_push}
-use Rattle.std.proofs.lemmas.List.Sums.{fold_push, fold-append, sum_by-append, sum_by-cons}
+use Rattle.std.proofs.lemmas.List.Sums.{fold_push, sum_by-append, sum_by-cons}
 use Rattle.std.proofs.lemmas.List.Concat.{flat_map-append}
 use Rattle.cli_ints.specs.Shortest.{short_unsigned}
 use Rattle.heap_items.specs.Told.{told}
 use Rattle.heap_items.specs.Items.{IsIn, with_use, index_of, as_blob, shortest}
 use Rattle.heap_items.specs.Uses.{Piece, octets, index, plain, held_by, held_in, piece_bytes, blob_bytes, with_held, blobs_after}
-use Rattle.heap_items.proofs.Items.{index-stable, with_use-adds, used-there, stays-there}
+use Rattle.heap_items.proofs.Items.{with_use-adds, used-there, stays-there}
 use Rattle.heap_items.proofs.Stable.{AreIn, spelled-stable}
-use Rattle.noted_items.specs.Noted.{Noted, with_blob, blob_place, cell}
+use Rattle.noted_items.specs.Noted.{with_blob, blob_place}
 use Rattle.noted_items.specs.Making.{Making, noted_of, begun, with_piece, made}
 
 -- so many pieces were put, and what they hold was noted

@@ -27,7 +27,7 @@ impl Model for BlobHeap {
 }
 
 impl BlobHeap {
-    ghost use Rattle.std.specs.Prelude.{◌≡◌, ◌<◌, ◌^◌, [], ◌∷◌, ◌++◌, flat_map, OnOk, IfOk};
+    ghost use Rattle.std.specs.Prelude.{◌≡◌, ◌<◌, ◌^◌, [], ◌++◌, flat_map, OnOk, IfOk};
     ghost use Rattle.cli_ints.specs.Shortest.{short_unsigned};
     ghost use Rattle.heap_items.specs.declared.heap.HeapKind.TheVariants.{Blobs};
     ghost use Rattle.heap_items.specs.Told.{told};

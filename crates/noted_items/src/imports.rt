@@ -1,5 +1,5 @@
 // What import scopes import, as blobs.
-ghost use Rattle.std.specs.Prelude.{◌≡◌, ◌<◌, ◌^◌, All, fold, OnOk};
+ghost use Rattle.std.specs.Prelude.{◌≡◌, ◌<◌, All, fold, OnOk};
 ghost use Rattle.type_blobs.specs.Types as types;
 ghost use Rattle.ppdb_canon.specs.Uses.{import_pieces, imports_pieces, type};
 ghost use Rattle.sound_values.specs.Writing.{HasSpelling};

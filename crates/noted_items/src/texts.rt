@@ -25,7 +25,7 @@ impl Model for TextHeap {
 }
 
 impl TextHeap {
-    ghost use Rattle.std.specs.Prelude.{◌≡◌, [], ◌∷◌, ◌++◌, flat_map, OnOk, IfOk};
+    ghost use Rattle.std.specs.Prelude.{◌≡◌, [], ◌++◌, flat_map, OnOk, IfOk};
     ghost use Rattle.heap_items.specs.declared.heap.HeapKind.TheVariants.{Texts};
     ghost use Rattle.heap_items.specs.Told.{told};
     ghost use Rattle.heap_items.specs.Interned.{length_of};

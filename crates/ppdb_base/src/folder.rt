@@ -1,5 +1,5 @@
 // The files that a program reads and writes.
-ghost use Rattle.std.specs.Prelude.{◌≡◌, ◌≤◌, [], ℕ, Option, None, is_ok, if◌then◌else◌, length, OnOk, OnErr, IfSome, IsErrOf};
+ghost use Rattle.std.specs.Prelude.{◌≡◌, ◌≤◌, [], ℕ, Option, None, is_ok, length, OnOk, OnErr, IfSome, IsErrOf};
 ghost use Rattle.ppdb_base.specs.declared.folder.ReadError.TheVariants as read_errors;
 ghost use Rattle.ppdb_base.specs.Causes.{Rose, counted_where};
 ghost use Rattle.ppdb_base.specs.Files.{Files, reading, Answers, with_file, LeavesFront};

@@ -1,15 +1,9 @@
 // The parts of a value, added to a draft table by table.
-ghost use Rattle.std.specs.Prelude.{◌≡◌, ◌≤◌, None, [], fold, All, OnOk, IfOk, IfErr};
+ghost use Rattle.std.specs.Prelude.{◌≡◌, None, fold, All, OnOk, IfOk, IfErr};
 ghost use Rattle.std.specs.List.{filter_map};
-ghost use Rattle.sequence_points.specs.Written.{CanBeWritten, first_of};
-ghost use Rattle.sequence_points.specs.Ranges.{IsOffset};
-ghost use Rattle.type_blobs.specs.Types.{IsToken};
-ghost use Rattle.type_blobs.specs.Spelling.{IsBody};
-ghost use Rattle.sound_values.specs.Scopes.{stored_body};
-ghost use Rattle.sound_values.specs.Sound.{IsSound};
-ghost use Rattle.sound_values.specs.Writing.{HasSpelling, IsWritable};
+ghost use Rattle.sequence_points.specs.Written.{first_of};
 ghost use Rattle.ppdb_canon.specs.Limits.{large_step_of};
-ghost use Rattle.file_drafting.specs.Draft.{with_document, with_method, with_all_methods, with_variable, with_scope, with_constant, with_constants};
+ghost use Rattle.file_drafting.specs.Draft.{with_document, with_method, with_variable, with_scope, with_constant, with_constants};
 ghost use Rattle.file_drafting.specs.Draft.{with_import, with_machine, with_custom};
 ghost use Rattle.file_drafting.specs.Drafted.{drafted, with_methods};
 ghost use Rattle.ppdb_build.specs.Building.{IsWritableMethod, IsWritableConstant, IsWritableScope, IsWritableImport, IsWritableCustom};

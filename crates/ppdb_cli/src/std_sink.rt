@@ -1,5 +1,5 @@
 // The standard output, or another writer, in large writes.
-ghost use Rattle.std.specs.Prelude.{◌≡◌, ◌≤◌, ◌+◌, ℕ, None, length, IfErr, OnErr};
+ghost use Rattle.std.specs.Prelude.{◌≡◌, ◌≤◌, ◌+◌, None, length, IfErr, OnErr};
 ghost use Rattle.ppdb_base.specs.Causes.{Rose};
 
 use crate::writing::write_all;

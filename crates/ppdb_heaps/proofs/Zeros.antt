@@ -1,8 +1,8 @@
 -- Behind the last zero of #Strings stands no text.
-use Rattle.std.proofs.Common.{◌≡◌, ◌≢◌, ℕ, zero, suc, ◌+◌, ◌-◌, ◌<◌, ◌≤◌, ◌==◌, ◌||◌, Bool, true, false, not, cond, List, [], ◌∷◌, length, drop, slice_index, Some, None, refl, sym, ap, subst, ◌∙◌, arith}
+use Rattle.std.proofs.Common.{◌≡◌, ◌≢◌, ℕ, zero, suc, ◌+◌, ◌-◌, ◌≤◌, ◌==◌, ◌||◌, Bool, true, false, not, List, [], ◌∷◌, length, drop, slice_index, None, refl, ap, subst, ◌∙◌, arith}
 use Rattle.std.specs.List.{list_any, prefix_len, position}
 use Rattle.std.proofs.lemmas.List.{at_drop_more, drop_all, drop-drop}
-use Rattle.ppdb_heaps.specs.Heaps.{text_at, until_zero}
+use Rattle.ppdb_heaps.specs.Heaps.{text_at}
 
 abbrev pub HasZero : List ℕ → Bool
 HasZero bytes = list_any (λ b. b == 0) bytes

@@ -1,5 +1,4 @@
 ghost use Rattle.std.specs.Prelude.{◌≡◌, ◌<◌, ◌^◌, ◌++◌, List, ℕ, length, OnErr, IfErr, OnOk};
-ghost use Rattle.ppdb_heaps.specs.Names.{IsName};
 ghost use Rattle.ppdb_heaps.specs.Joining.{IsRefusal, HasAppended};
 ghost use Rattle.ppdb_heaps.specs.Views.{blobs_of};
 

@@ -1,5 +1,4 @@
 // What a field holds, as text.
-ghost use Rattle.std.specs.Prelude.{◌≡◌, ◌≤◌, OnOk, OnErr, IsErrOf};
 ghost use Rattle.ppdb_base.specs.Written.{Puts};
 ghost use Rattle.ppdb_lines.specs.Lines.{content_text};
 ghost use Rattle.ppdb_lines.specs.Views.{content_of};

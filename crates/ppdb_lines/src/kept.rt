@@ -1,5 +1,5 @@
 // The start of a line on its way to a sink: bytes that are kept until the line ends, or until there are many.
-ghost use Rattle.std.specs.Prelude.{◌≡◌, ◌+◌, ◌<◌, ◌≤◌, ◌^◌, ◌++◌, [], ℕ, List, length, take};
+ghost use Rattle.std.specs.Prelude.{◌≡◌, ◌+◌, ◌<◌, ◌≤◌, ◌++◌, [], ℕ, List, length, take};
 ghost use Rattle.std.specs.Fmt.{decimal};
 ghost use Rattle.ppdb_lines.specs.Keeping.{Keeps};
 

@@ -1,5 +1,5 @@
 // A map text, read line by line.
-ghost use Rattle.std.specs.Prelude.{◌≡◌, ◌≤◌, length, IfOk, IfErr};
+ghost use Rattle.std.specs.Prelude.{◌≤◌, length, IfOk, IfErr};
 ghost use Rattle.std.specs.Str.Lines.{lines};
 ghost use Rattle.ppdb_maps.specs.Text.{IsMapOf};
 ghost use Rattle.ppdb_maps.specs.Loops.{IsAt, ReadWhole, RefusedIn, RefusedAs};

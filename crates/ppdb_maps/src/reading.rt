@@ -1,5 +1,5 @@
 // What one line of a map text says.
-ghost use Rattle.std.specs.Prelude.{◌≡◌, ℕ, ◌≤◌, IfSome, IfNone, MatchResult, IsTrue, ◌↔◌};
+ghost use Rattle.std.specs.Prelude.{◌≡◌, ℕ, IfSome, IfNone, IsTrue, ◌↔◌};
 ghost use Rattle.ppdb_maps.specs.Words.{IsSilent};
 ghost use Rattle.ppdb_maps.specs.Forms.{IsHead, words_in, since};
 ghost use Rattle.ppdb_maps.specs.Reading.{IsNamed, IsFormOf, IsLineOfForm, IsTold};

@@ -1,5 +1,5 @@
 // State machines: the methods that start them, and those that run them.
-ghost use Rattle.std.specs.Prelude.{◌≡◌, ◌+◌, ◌-◌, ◌<◌, ◌≤◌, ℕ, length, IfOk, OnOk, OnErr};
+ghost use Rattle.std.specs.Prelude.{◌≡◌, ◌+◌, ◌-◌, ◌<◌, ◌≤◌, length, IfOk, OnOk, OnErr};
 ghost use Rattle.ppdb_tables.specs.RawOf.{raw_of};
 ghost use Rattle.ppdb_values.specs.Links.{kickoff_of as kickoff_in, move_next_of as move_next_in};
 ghost use Rattle.ppdb_values.specs.Rules.{HasRow};

@@ -1,8 +1,7 @@
 // The scopes of a method that hold an offset.
-ghost use Rattle.std.specs.Prelude.{◌≡◌, ◌+◌, ◌-◌, ◌*◌, ◌<◌, ◌≤◌, ℕ, List, length, Some, IfOk, OnOk, OnErr};
+ghost use Rattle.std.specs.Prelude.{◌≡◌, ◌+◌, ◌-◌, ◌*◌, ◌<◌, ◌≤◌, length, Some, IfOk, OnOk, OnErr};
 ghost use Rattle.blob_grammar.specs.Reader.{tail};
 ghost use Rattle.ppdb_tables.specs.RawOf.{raw_of};
-ghost use Rattle.ppdb_tables.specs.RawTables.{row_at};
 ghost use Rattle.ppdb_values.specs.Parts.{holds as holds_offset};
 ghost use Rattle.ppdb_values.specs.Rules.{HasRow};
 ghost use Rattle.ppdb_values.specs.Value.{range_of as range_in};

@@ -1,5 +1,5 @@
 // The images that were found so far.
-ghost use Rattle.std.specs.Prelude.{◌≡◌, ◌∷◌, [], cond, nat_eq};
+ghost use Rattle.std.specs.Prelude.{◌≡◌, ◌∷◌, []};
 ghost use Rattle.ppdb_maps.specs.Map.{is_dropped, row_image};
 ghost use Rattle.ppdb_references.specs.Imaging.{Goes};
 ghost use Rattle.ppdb_references.specs.References.{names, names_some};

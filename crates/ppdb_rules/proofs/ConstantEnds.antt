@@ -1,5 +1,5 @@
 -- How the answers of a constant's cursor tell its fault.
-use Rattle.std.proofs.Common.{◌≡◌, List, [], ◌∷◌, Some, None, Ok, Err, refl}
+use Rattle.std.proofs.Common.{◌≡◌, Some, None, Ok, Err, refl}
 use Rattle.ppdb_base.specs.declared.fault.BlobFault.{BlobFault}
 use Rattle.type_blobs.specs.declared.constant.Constant.{Constant}
 use Rattle.type_blobs.specs.ConstantReading.{ConstantEnd, body, bad_body, bad_modifier, fault_of, modifier_fault, body_answer, shown_body}

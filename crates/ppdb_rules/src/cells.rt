@@ -1,7 +1,7 @@
 // Faults at cells, and the items that cells name.
-ghost use Rattle.std.specs.Prelude.{◌≡◌, ◌<◌, ◌≤◌, ◌^◌, ◌↔◌, ◌⊎◌, ◌≢◌, ℕ, None, IsTrue};
+ghost use Rattle.std.specs.Prelude.{◌≡◌, ◌<◌, ◌^◌, ◌↔◌, None, IsTrue};
 ghost use Rattle.ppdb_base.specs.Place.{cell};
-ghost use Rattle.ppdb_heaps.specs.Heaps.{text_at, blob_at, guid_at};
+ghost use Rattle.ppdb_heaps.specs.Heaps.{text_at, blob_at};
 ghost use Rattle.ppdb_tables.specs.RawTables.{count, HasShape};
 ghost use Rattle.ppdb_tables.specs.RawOf.{raw_of};
 ghost use Rattle.ppdb_rules.specs.Blobs.{NamesNoGuid, in_blob};

@@ -1,5 +1,5 @@
 // The rules of LocalConstant.
-ghost use Rattle.std.specs.Prelude.{◌≡◌, ◌<◌, ◌≤◌, ◌+◌, ◌-◌, ◌⊎◌, ℕ, Some, OnOk, IfOk, IfErr};
+ghost use Rattle.std.specs.Prelude.{◌≡◌, ◌<◌, ◌≤◌, ◌+◌, ◌-◌, Some, OnOk, IfOk, IfErr};
 ghost use Rattle.ppdb_tables.specs.RawTables.{row_at, count};
 ghost use Rattle.ppdb_tables.specs.RawOf.{raw_of};
 ghost use Rattle.ppdb_rules.specs.Errors.{FaultIs};

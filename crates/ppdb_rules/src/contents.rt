@@ -1,5 +1,5 @@
 // The contents of the blobs that cells name, each read to its end or its fault.
-ghost use Rattle.std.specs.Prelude.{◌≡◌, ◌<◌, ◌≤◌, ◌^◌, ℕ, length};
+ghost use Rattle.std.specs.Prelude.{◌≡◌, ◌<◌, ◌≤◌, ◌^◌, length};
 ghost use Rattle.custom_info.specs.AsyncStepping.{async_stepping};
 ghost use Rattle.custom_info.specs.HoistedScopes.{hoisted_scopes};
 ghost use Rattle.custom_info.specs.TypeDocuments.{type_documents};
@@ -9,7 +9,6 @@ ghost use Rattle.ppdb_tables.specs.RawTables.{count};
 ghost use Rattle.ppdb_tables.specs.RawOf.{raw_of};
 ghost use Rattle.sequence_points.specs.Records.{sequence_points};
 ghost use Rattle.type_blobs.specs.Constants.{constants};
-ghost use Rattle.type_blobs.specs.ImportReading.{heap_of};
 ghost use Rattle.type_blobs.specs.Imports.{imports};
 ghost use Rattle.ppdb_rules.specs.Blobs as words;
 ghost use Rattle.ppdb_rules.specs.Blobs.{Reads};

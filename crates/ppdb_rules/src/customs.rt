@@ -1,11 +1,10 @@
 // The rules of CustomDebugInformation.
-ghost use Rattle.std.specs.Prelude.{◌≡◌, ◌<◌, ◌≤◌, ◌+◌, ◌-◌, ◌%◌, ◌↔◌, ℕ, Some, None, IsTrue, OnOk, IfOk, IfErr, IfSome, IfNone};
+ghost use Rattle.std.specs.Prelude.{◌≡◌, ◌<◌, ◌≤◌, ◌+◌, ◌-◌, ◌%◌, ◌↔◌, Some, None, IsTrue, OnOk, IfOk, IfErr, IfSome, IfNone};
 ghost use Rattle.ppdb_tables.specs.declared.rows.CustomRow.{CustomRow};
 ghost use Rattle.custom_info.specs.declared.kinds.Kind.{Kind};
 ghost use Rattle.ppdb_heaps.specs.Heaps.{guid_at};
 ghost use Rattle.ppdb_tables.specs.RawTables.{row_at, count};
 ghost use Rattle.ppdb_tables.specs.RawOf.{raw_of};
-ghost use Rattle.ppdb_rules.specs.Errors.{FaultIs};
 ghost use Rattle.ppdb_rules.specs.Judged.{ToTable, ToRow, ToCell, IsFirstOf};
 ghost use Rattle.ppdb_rules.specs.Customs.{HasNoParent, HasOtherParent, IsOfKind, parent_table};
 ghost use Rattle.ppdb_rules.specs.Earlier.{HasEarlier};

@@ -1,6 +1,5 @@
 // The rules of Document.
-ghost use Rattle.std.specs.Prelude.{◌≡◌, ◌<◌, ◌≤◌, ◌+◌, ℕ, List, [], length, Some, IsTrue, OnOk, IfOk, IfErr};
-ghost use Rattle.ppdb_heaps.specs.Views.{blobs_of};
+ghost use Rattle.std.specs.Prelude.{◌≡◌, ◌<◌, ◌≤◌, ◌+◌, ℕ, List, length, Some, IsTrue, OnOk, IfOk, IfErr};
 ghost use Rattle.ppdb_tables.specs.RawTables.{row_at, count};
 ghost use Rattle.ppdb_tables.specs.RawOf.{raw_of};
 ghost use Rattle.ppdb_rules.specs.Errors.{FaultIs};

@@ -1,5 +1,5 @@
 // The rules of ImportScope.
-ghost use Rattle.std.specs.Prelude.{◌≡◌, ◌<◌, ◌≤◌, ◌+◌, ◌-◌, ◌↔◌, ℕ, length, Some, IsTrue, OnOk, IfErr};
+ghost use Rattle.std.specs.Prelude.{◌≡◌, ◌<◌, ◌≤◌, ◌+◌, ◌-◌, ◌↔◌, length, Some, IsTrue, OnOk, IfErr};
 ghost use Rattle.std.specs.Bool.{OnFalse};
 ghost use Rattle.ppdb_tables.specs.RawTables.{row_at, count};
 ghost use Rattle.ppdb_tables.specs.RawOf.{raw_of};

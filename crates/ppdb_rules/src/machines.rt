@@ -1,5 +1,5 @@
 // The rules of StateMachineMethod.
-ghost use Rattle.std.specs.Prelude.{◌≡◌, ◌<◌, ◌≤◌, ◌+◌, ◌-◌, ◌↔◌, ℕ, Some, IsTrue, OnOk, IfErr};
+ghost use Rattle.std.specs.Prelude.{◌≡◌, ◌<◌, ◌≤◌, ◌+◌, ◌-◌, ◌↔◌, Some, IsTrue, OnOk, IfErr};
 ghost use Rattle.ppdb_tables.specs.declared.rows.MachineRow.{MachineRow};
 ghost use Rattle.ppdb_tables.specs.RawTables.{row_at, count};
 ghost use Rattle.ppdb_tables.specs.RawOf.{raw_of};

@@ -1,5 +1,5 @@
 // The rules of the rows, table by table.
-ghost use Rattle.std.specs.Prelude.{◌≡◌, ◌+◌, ◌<◌, ◌≤◌, OnOk, IfErr};
+ghost use Rattle.std.specs.Prelude.{◌+◌, ◌<◌, ◌≤◌, OnOk, IfErr};
 ghost use Rattle.ppdb_base.specs.First.{IsAccepted};
 ghost use Rattle.ppdb_tables.specs.RawTables.{count};
 ghost use Rattle.ppdb_tables.specs.RawOf.{raw_of};

@@ -1,5 +1,5 @@
 // The rules of LocalScope.
-ghost use Rattle.std.specs.Prelude.{◌≡◌, ◌<◌, ◌≤◌, ◌+◌, ◌-◌, ◌↔◌, ◌⊎◌, ℕ, [], ◌∷◌, length, take, slice_index, vec_len, Some, IsTrue, OnOk, IfErr};
+ghost use Rattle.std.specs.Prelude.{◌≡◌, ◌<◌, ◌≤◌, ◌+◌, ◌-◌, ◌↔◌, ℕ, length, take, slice_index, vec_len, Some, IsTrue, OnOk, IfErr};
 ghost use Rattle.ppdb_tables.specs.declared.rows.ScopeRow.{ScopeRow};
 ghost use Rattle.ppdb_tables.specs.RawTables.{row_at, count};
 ghost use Rattle.ppdb_tables.specs.RawOf.{raw_of};

@@ -1,5 +1,5 @@
 // What the passes over the tables have seen: methods, slots and texts.
-ghost use Rattle.std.specs.Prelude.{◌≡◌, ◌≢◌, ◌↔◌, ℕ, ◌<◌, ◌≤◌, ◌/◌, ◌^◌, ◌⊎◌, List, length, IsTrue, slice_index, vec_len, OnOk, IfOk};
+ghost use Rattle.std.specs.Prelude.{◌≡◌, ◌≢◌, ◌↔◌, ℕ, ◌<◌, ◌/◌, ◌^◌, ◌⊎◌, List, length, IsTrue, slice_index, vec_len, OnOk, IfOk};
 ghost use Rattle.std.specs.Bool.{OnFalse, OnTrue};
 ghost use Rattle.ppdb_rules.specs.Seen.{Has, HasText, HasNoTexts};
 

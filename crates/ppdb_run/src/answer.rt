@@ -1,5 +1,5 @@
 // The answers to questions about one file: what is read and verified, and what is put.
-ghost use Rattle.std.specs.Prelude.{◌≡◌, ◌≤◌, ℕ, Some, None, OnOk, OnErr, IfErr, IfSome, IsErrOf};
+ghost use Rattle.std.specs.Prelude.{◌≡◌, ◌≤◌, Some, None, OnOk, IfErr, IfSome};
 ghost use Rattle.ppdb_base.specs.Causes.{Rose};
 ghost use Rattle.ppdb_base.specs.Written.{appended, AppendsFront, Puts};
 ghost use Rattle.ppdb_run.specs.Ends.{OnTask, IsWithinRows, IsWithinBound, ReadsNoRows};

@@ -1,5 +1,5 @@
 // The files that a command reads.
-ghost use Rattle.std.specs.Prelude.{◌≡◌, ◌≤◌, ℕ, is_ok, length, IfOk, IfErr, IfSome};
+ghost use Rattle.std.specs.Prelude.{◌≡◌, ◌≤◌, is_ok, length, IfOk, IfErr, IfSome};
 ghost use Rattle.ppdb_base.specs.Causes.{Rose, counted_where};
 ghost use Rattle.ppdb_base.specs.declared.limits.TheConstants.{MAX_FILE_BYTES};
 ghost use Rattle.ppdb_run.specs.Outcome.{file_at};

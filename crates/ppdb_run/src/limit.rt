@@ -1,5 +1,4 @@
 // The lines of limits.
-ghost use Rattle.std.specs.Prelude.{◌≡◌, ◌++◌};
 ghost use Rattle.ppdb_base.specs.Written.{Puts};
 ghost use Rattle.ppdb_lines.specs.Pieces.{line, numbered, signed};
 ghost use Rattle.ppdb_run.specs.Lines.{limit_text};

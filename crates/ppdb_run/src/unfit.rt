@@ -1,5 +1,4 @@
 // The lines of inputs that are not joined.
-ghost use Rattle.std.specs.Prelude.{◌≡◌};
 ghost use Rattle.ppdb_base.specs.declared.merge_error.MergeError.TheVariants as merge_errors;
 ghost use Rattle.ppdb_base.specs.Written.{Puts};
 ghost use Rattle.ppdb_lines.specs.Lines.{text_of};

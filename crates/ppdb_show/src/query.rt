@@ -1,16 +1,15 @@
 // What belongs to an offset of a method, as text.
-ghost use Rattle.std.specs.Prelude.{◌≡◌, ◌++◌, ◌+◌, ◌*◌, ◌≤◌, ◌↔◌, length, OnOk, OnErr, IsErrOf};
+ghost use Rattle.std.specs.Prelude.{◌≡◌, ◌+◌, ◌≤◌, ◌↔◌, OnOk, OnErr, IsErrOf};
 ghost use Rattle.ppdb_base.specs.Causes.{Rose};
 ghost use Rattle.ppdb_base.specs.Written.{appended, AppendsFront};
 ghost use Rattle.ppdb_tables.specs.RawOf.{raw_of};
 ghost use Rattle.ppdb_values.specs.Rules.{HasRow};
 ghost use Rattle.ppdb_verify.specs.Views.{tables_of, raw_file};
-ghost use Rattle.ppdb_queries.specs.Digits.{digits};
 ghost use Rattle.ppdb_queries.specs.Points.{PointIs};
 ghost use Rattle.ppdb_queries.specs.Runs.{IsNoMethod};
 ghost use Rattle.ppdb_show.specs.Bound.{query_rows};
 ghost use Rattle.ppdb_show.specs.Query.{query_lines, query_text_of};
-ghost use Rattle.ppdb_show.specs.QueryWalk.{Adds, customs_reads, scopes_reads};
+ghost use Rattle.ppdb_show.specs.QueryWalk.{Adds};
 
 mod customs;
 mod hoisted;

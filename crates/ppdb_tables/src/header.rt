@@ -1,4 +1,4 @@
-ghost use Rattle.std.specs.Prelude.{◌≡◌, ◌≢◌, ◌%◌, ◌^◌, ◌<◌, ◌≤◌, ◌↔◌, ℕ, length, map, slice_index, nat_lt, if◌then◌else◌, IfOk, OnOk, IfErr, IsTrue};
+ghost use Rattle.std.specs.Prelude.{◌≡◌, ◌≢◌, ◌%◌, ◌<◌, ◌≤◌, ◌↔◌, ℕ, length, map, slice_index, nat_lt, if◌then◌else◌, IfOk, OnOk, IfErr, IsTrue};
 ghost use Rattle.std.specs.List.{range_with_len};
 ghost use Rattle.ppdb_base.specs.First.{IsFirst, IsAccepted};
 ghost use Rattle.ppdb_tables.specs.Tables.{BadTableFields, IsForeign, heap_sizes, valid, table_rows, count_in, sizes_in, rows_start};

@@ -6,7 +6,7 @@ use Rattle.worked_files.specs.declared.TheConstants.{EMPTY, SMALL, PROGRAM}
 use Rattle.metadata_root.specs.declared.kind.StreamKind.TheVariants.{Pdb, Tables, Strings, UserStrings, Guids, Blobs}
 use Rattle.metadata_root.specs.Fields.{number_at}
 use Rattle.metadata_root.specs.Root.{name_at, fields_to}
-use Rattle.metadata_root.specs.Streams.{Stream, Streams, IsStream, IsListed, AreStreamsOf}
+use Rattle.metadata_root.specs.Streams.{Stream, Streams, IsListed, AreStreamsOf}
 use Rattle.ppdb_tables.specs.Counts.{counts_below}
 use Rattle.ppdb_values.specs.WorkedProgram.{program_file}
 use Rattle.ppdb_values.specs.WorkedSmall.{empty_file, small_file}

@@ -1,6 +1,5 @@
 // The running sum.
-ghost use Rattle.std.specs.Prelude.{◌≡◌, ◌≤◌, [], ◌∷◌, length, IfOk};
-ghost use Rattle.ppdb_heaps.specs.Heaps.{text_at, blob_at};
+ghost use Rattle.std.specs.Prelude.{◌≡◌, ◌≤◌, [], ◌∷◌, IfOk};
 ghost use Rattle.ppdb_tables.specs.RawOf.{raw_of};
 ghost use Rattle.ppdb_rules.specs.Blobs.{in_blob};
 ghost use Rattle.reference_total.specs.References.{blob_in, text_in};

@@ -1,5 +1,4 @@
-ghost use Rattle.std.specs.Prelude.{◌≡◌, ◌<◌, ℕ, slice_index, nat_le, if◌then◌else◌, ◌==◌};
-ghost use Rattle.std.specs.Int.{bit_at};
+ghost use Rattle.std.specs.Prelude.{◌≡◌, ◌<◌, ◌==◌};
 ghost use Rattle.row_layout.specs.Columns.{width_of, index_width, has_rows, parent_tables};
 ghost use Rattle.std.specs.List.{list_any};
 

@@ -1,4 +1,4 @@
-ghost use Rattle.std.specs.Prelude.{◌≡◌, ◌≤◌, ◌<◌, ◌+◌, ◌++◌, ◌↔◌, ℕ, ◌*◌, ◌^◌, sum, take, map, length, All, slice_index, IsTrue, OnOk, OnErr};
+ghost use Rattle.std.specs.Prelude.{◌≡◌, ◌≤◌, ◌<◌, ◌+◌, ◌++◌, ◌↔◌, ℕ, ◌*◌, ◌^◌, sum, map, length, All, slice_index, IsTrue, OnOk, OnErr};
 ghost use Rattle.std.specs.Prelude.{List as Seq};
 ghost use Rattle.row_layout.specs.Columns.{width_of};
 ghost use Rattle.row_layout.specs.Rows.{cell_place, cell_in, Fit, IsWidth, places_from, row_bytes};

@@ -1,6 +1,6 @@
 -- Where points move to (Portable PDB v1.0, "Sequence Points Blob": a point holds up to the next one).
 use Rattle.std.specs.Prelude.{◌≡◌, ℕ, ◌<◌, cond, List, [], ◌∷◌, All, AllPairs}
-use Rattle.ppdb_base.specs.Offsets.{Offsets, gone, lined, Rise, moved, is_kept_between, old_size}
+use Rattle.ppdb_base.specs.Offsets.{Offsets, gone, lined, moved, is_kept_between, old_size}
 use Rattle.sequence_points.specs.declared.point.Point.{Point}
 use Rattle.sequence_points.specs.declared.point.Span.TheVariants.{Hidden}
 

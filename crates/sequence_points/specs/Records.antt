@@ -1,5 +1,5 @@
 -- Sequence points (Portable PDB v1.0, "Sequence Points Blob"): which field may follow the fields before it.
-use Rattle.std.specs.Prelude.{ℕ, zero, suc, ◌+◌, List, [], ◌∷◌, Option, Some, None, Bool, true, false, not, ◌&&◌, nat_le, nat_lt, ◌==◌, if◌then◌else◌, ℤ, pos, negsuc, ◌+ℤ◌}
+use Rattle.std.specs.Prelude.{ℕ, zero, suc, ◌+◌, List, [], ◌∷◌, Option, Some, None, Bool, true, false, ◌&&◌, nat_le, if◌then◌else◌, ℤ, pos, ◌+ℤ◌}
 use Rattle.std.specs.List.{sum_by, list_any}
 use Rattle.blob_grammar.specs.Grammar.{Value, number, integer, Form, unsigned, signed, Grammar}
 use Rattle.blob_grammar.specs.Allowed.{is_row, is_number}

@@ -1,6 +1,6 @@
 -- Local scopes, with their variables and constants (Portable PDB v1.0, "LocalScope Table", "LocalVariable Table", "LocalConstant
 -- Table", "LocalConstantSig Blob").
-use Rattle.std.specs.Prelude.{◌≡◌, ◌≢◌, ℕ, ◌<◌, ◌≤◌, ◌⊎◌, map, List, All}
+use Rattle.std.specs.Prelude.{◌≡◌, ◌≢◌, ℕ, ◌<◌, map, List, All}
 use Rattle.type_blobs.specs.Constants.{ConstantBody as StoredBody, primitive, enumerated, general, object}
 use Rattle.type_blobs.specs.Spelling.{IsBody, IsBodyThere}
 use Rattle.ppdb_values.specs.declared.file.FileValue.{FileValue}

@@ -1,5 +1,4 @@
-ghost use Rattle.std.specs.Prelude.{◌≡◌, ◌∷◌, ◌++◌, All, OnOk, OnErr};
-ghost use Rattle.std.specs.List.{flat_map};
+ghost use Rattle.std.specs.Prelude.{◌≡◌, ◌++◌, All, OnOk, OnErr};
 ghost use Rattle.type_blobs.specs.Types.{IsToken};
 ghost use Rattle.type_blobs.specs.ConstantReading.{shown};
 ghost use Rattle.type_blobs.specs.Spelling.{BeginsWith, IsBody, modifier_spelling, body_spelling, constant_spelling};

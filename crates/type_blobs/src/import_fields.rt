@@ -1,5 +1,5 @@
 // A walk over the fields of imports.
-ghost use Rattle.std.specs.Prelude.{◌≡◌, ◌≢◌, ◌≤◌, ◌<◌, ◌^◌, ℕ, List, Option, Some, [], length};
+ghost use Rattle.std.specs.Prelude.{◌≡◌, ◌≤◌, ◌<◌, ◌^◌, ℕ, List, Option, Some, [], length};
 ghost use Rattle.blob_grammar.specs.Grammar.{number, with_value};
 ghost use Rattle.blob_grammar.specs.Places.{HasFields, HasEnd};
 ghost use Rattle.blob_grammar.specs.Reader.{Left, answer, rest_of};

@@ -1,7 +1,7 @@
 // Whether each chain of import scopes ends.
-ghost use Rattle.std.specs.Prelude.{◌≡◌, ◌↔◌, ◌≤◌, ◌+◌, ℕ, length, IsTrue, IfOk};
+ghost use Rattle.std.specs.Prelude.{◌↔◌, ◌≤◌, ◌+◌, ℕ, length, IsTrue, IfOk};
 ghost use Rattle.std.specs.Bool.{OnFalse};
-ghost use Rattle.ppdb_values.specs.Chains.{NeverEnds, parent_at};
+ghost use Rattle.ppdb_values.specs.Chains.{NeverEnds};
 ghost use Rattle.value_check.specs.Chains.{MarksEnd, parent_of};
 
 use ppdb_base::Memory;

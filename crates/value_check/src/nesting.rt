@@ -1,5 +1,5 @@
 // Whether the scopes of each method are nested or disjoint.
-ghost use Rattle.std.specs.Prelude.{◌≡◌, ◌↔◌, ◌<◌, ◌≤◌, ◌-◌, ◌+◌, ℕ, All, AllPairs, length, take, slice_index, vec_len, IsTrue, IfOk};
+ghost use Rattle.std.specs.Prelude.{◌≡◌, ◌↔◌, ◌<◌, ◌≤◌, ◌-◌, ℕ, All, AllPairs, length, take, slice_index, vec_len, IsTrue, IfOk};
 ghost use Rattle.value_check.specs.Scopes.{ComesBefore, IsNested, IsOpen, WasOpen};
 ghost use Rattle.value_check.specs.Pairs.{FrontStands};
 

@@ -1,5 +1,5 @@
 // The limits that the lengths of lists tell: L1 and L2.
-ghost use Rattle.std.specs.Prelude.{◌≡◌, ℕ, ◌+◌, ◌==◌, ◌&&◌, [], ◌∷◌, length, sum_by, slice_index};
+ghost use Rattle.std.specs.Prelude.{◌≡◌, ℕ, ◌==◌, ◌&&◌, [], ◌∷◌, length, sum_by};
 ghost use Rattle.sequence_points.specs.Written.{last_of, first_of};
 ghost use Rattle.std.specs.List.{filter_map};
 ghost use Rattle.heap_items.specs.Told.{told};

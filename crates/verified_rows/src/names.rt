@@ -1,5 +1,5 @@
 // The names of documents.
-ghost use Rattle.std.specs.Prelude.{◌≡◌, None, Some, IfOk};
+ghost use Rattle.std.specs.Prelude.{◌≡◌, Some, IfOk};
 ghost use Rattle.ppdb_tables.specs.RawTables.{row_at};
 ghost use Rattle.ppdb_values.specs.Documents.{document_of};
 ghost use Rattle.ppdb_verify.specs.Views.{raw_file};

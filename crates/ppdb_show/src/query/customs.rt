@@ -1,5 +1,5 @@
 // The lines of the custom records on a row.
-ghost use Rattle.std.specs.Prelude.{◌≡◌, ◌++◌, ◌+◌, ◌≤◌, [], ◌∷◌, OnOk, IsSome};
+ghost use Rattle.std.specs.Prelude.{◌+◌, ◌≤◌, [], ◌∷◌, OnOk, IsSome};
 ghost use Rattle.ppdb_tables.specs.Parents.{coded_in};
 ghost use Rattle.ppdb_tables.specs.RawOf.{raw_of};
 ghost use Rattle.ppdb_values.specs.Rules.{HasRow};

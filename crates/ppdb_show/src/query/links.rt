@@ -1,5 +1,5 @@
 // The lines of a method as a whole: whether the program starts there, and its state machines.
-ghost use Rattle.std.specs.Prelude.{◌≡◌, ◌++◌, ◌+◌, ◌≤◌, length, OnOk};
+ghost use Rattle.std.specs.Prelude.{◌+◌, ◌≤◌, length, OnOk};
 ghost use Rattle.ppdb_tables.specs.RawOf.{raw_of};
 ghost use Rattle.ppdb_values.specs.Rules.{HasRow};
 ghost use Rattle.ppdb_verify.specs.Views.{tables_of, raw_file};

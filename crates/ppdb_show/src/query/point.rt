@@ -1,5 +1,5 @@
 // The line of the sequence point of an offset.
-ghost use Rattle.std.specs.Prelude.{◌≡◌, ◌++◌, ◌+◌, ◌≤◌, ◌<◌, [], ◌∷◌, OnOk, IfOk, Some};
+ghost use Rattle.std.specs.Prelude.{◌≡◌, ◌+◌, ◌≤◌, ◌<◌, [], ◌∷◌, OnOk, IfOk, Some};
 ghost use Rattle.ppdb_tables.specs.RawOf.{raw_of};
 ghost use Rattle.ppdb_values.specs.Rules.{HasRow};
 ghost use Rattle.ppdb_verify.specs.Views.{tables_of};

@@ -1,10 +1,10 @@
 // The text of an answer, line by line.
-ghost use Rattle.std.specs.Prelude.{◌≡◌, ◌++◌, [], ◌∷◌, OnOk};
+ghost use Rattle.std.specs.Prelude.{[], ◌∷◌, OnOk};
 ghost use Rattle.type_blobs.specs.ImportReading.{shown};
 ghost use Rattle.ppdb_values.specs.Imports.{import_value};
 ghost use Rattle.ppdb_lines.specs.Uses.{use_line};
 ghost use Rattle.ppdb_lines.specs.Views.{line_of};
-ghost use Rattle.ppdb_show.specs.QueryWalk.{Adds, lines_text};
+ghost use Rattle.ppdb_show.specs.QueryWalk.{Adds};
 
 use ppdb_base::{Memory, SteadySink};
 use ppdb_lines::{Form, Part, Printer, put_text_line, put_use};

@@ -1,5 +1,5 @@
 // The lines of the identity, of the entry point, and of the tables of the type system.
-ghost use Rattle.std.specs.Prelude.{◌≡◌, ◌≤◌, ◌<◌, ◌^◌, [], ◌∷◌, OnOk, OnErr, IsErrOf};
+ghost use Rattle.std.specs.Prelude.{◌<◌};
 ghost use Rattle.ppdb_base.specs.Written.{Puts};
 ghost use Rattle.ppdb_tables.specs.RawOf.{raw_of};
 ghost use Rattle.ppdb_verify.specs.Views.{raw_file};

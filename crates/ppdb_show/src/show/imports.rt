@@ -1,9 +1,7 @@
 // The lines of an import scope.
-ghost use Rattle.std.specs.Prelude.{◌≡◌, ◌≤◌, [], ◌∷◌, map, None, Some, OnOk, OnErr, IsErrOf};
+ghost use Rattle.std.specs.Prelude.{◌≡◌, map, None, Some};
 ghost use Rattle.ppdb_base.specs.Written.{Puts};
-ghost use Rattle.ppdb_tables.specs.RawTables.{row_at};
-ghost use Rattle.ppdb_values.specs.RawFile.{blob, records_of, type_limits};
-ghost use Rattle.ppdb_values.specs.Imports.{heap_of, import_value, import_scope_of};
+ghost use Rattle.ppdb_values.specs.Imports.{import_value};
 ghost use Rattle.ppdb_verify.specs.Views.{raw_file};
 ghost use Rattle.ppdb_lines.specs.Forms.{lines_as};
 ghost use Rattle.ppdb_lines.specs.Uses.{use_line};

@@ -1,5 +1,5 @@
 // The lines of a method and of its points.
-ghost use Rattle.std.specs.Prelude.{◌≡◌, ◌≤◌, ◌<◌, ◌≢◌, [], ◌∷◌, map, None, Some, OnOk, OnErr, IsErrOf};
+ghost use Rattle.std.specs.Prelude.{◌≡◌, ◌<◌, ◌≢◌, [], ◌∷◌, map, None, Some};
 ghost use Rattle.ppdb_base.specs.Written.{Puts};
 ghost use Rattle.ppdb_tables.specs.RawTables.{row_at};
 ghost use Rattle.ppdb_values.specs.Documents.{points_in, signature_in};

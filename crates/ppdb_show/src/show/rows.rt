@@ -1,5 +1,5 @@
 // The lines of the rows of a table.
-ghost use Rattle.std.specs.Prelude.{◌≡◌, ◌≤◌, ◌<◌, ◌+◌, ◌^◌, Some, OnOk, OnErr, IsErrOf};
+ghost use Rattle.std.specs.Prelude.{◌≡◌, ◌<◌, ◌+◌, Some};
 ghost use Rattle.ppdb_base.specs.Written.{Puts};
 ghost use Rattle.ppdb_verify.specs.Views.{raw_file};
 ghost use Rattle.ppdb_lines.specs.Forms.{lines_as};

@@ -1,5 +1,4 @@
-use Rattle.std.proofs.Common.{◌≡◌, ℕ, List, length, refl, ap, ◌∙◌}
-use Rattle.file_layout.specs.declared.rows.HeapLens.{HeapLens}
+use Rattle.std.proofs.Common.{ℕ, refl, ap, ◌∙◌}
 use Rattle.file_layout.specs.Told.{told_lens}
 use Rattle.file_drafting.specs.Heaps.{heap_lens_of}
 use Rattle.draft_layout.specs.Drafts.{file_from}

@@ -1,6 +1,6 @@
-use Rattle.std.proofs.Common.{◌≡◌, ◌+◌, ◌++◌, ℕ, take, drop, length, ap, sym, ◌∙◌, arith, add-one, get_or}
+use Rattle.std.proofs.Common.{◌≡◌, ◌+◌, ◌++◌, take, drop, ap, sym, ◌∙◌, arith, add-one, get_or}
 use Rattle.std.specs.Prelude.{set}
-use Rattle.draft_layout.specs.Drafts.{debug_counts_of, counts_in}
+use Rattle.draft_layout.specs.Drafts.{debug_counts_of}
 use Rattle.draft_layout.proofs.Counts.{put_at, debug_long, counts_joined}
 use Rattle.draft_layout.proofs.layout.counts_of.Goals as goal
 

@@ -1,4 +1,4 @@
-use Rattle.std.proofs.Common.{◌≡◌, ◌≤◌, ◌++◌, ℕ, List, length, take, drop, replicate, sym, ap, subst, ◌∙◌, arith}
+use Rattle.std.proofs.Common.{◌≡◌, ◌≤◌, ◌++◌, length, take, drop, replicate, sym, ap, subst, ◌∙◌, arith}
 use Rattle.file_layout.specs.Bytes.{file_bytes}
 use Rattle.ppdb_canon.specs.Canon.{id_from}
 use Rattle.sha2.specs.Sha256.{sha256}

@@ -1,4 +1,4 @@
-use Rattle.std.proofs.Common.{◌≡◌, ◌≤◌, ◌+◌, ◌++◌, ℕ, List, length, sym, ap, subst, ◌∙◌, arith}
+use Rattle.std.proofs.Common.{◌≤◌, ◌+◌, ◌++◌, length, sym, ap, subst, ◌∙◌}
 use Rattle.file_layout.specs.declared.rows.Rows.{Rows}
 use Rattle.file_layout.specs.declared.rows.HeapLens.{HeapLens}
 use Rattle.file_layout.specs.Bytes.{front_bytes}

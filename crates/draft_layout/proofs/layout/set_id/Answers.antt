@@ -1,4 +1,4 @@
-use Rattle.std.proofs.Common.{ℕ, List, ◌++◌, take, drop, ap, sym, ◌∙◌}
+use Rattle.std.proofs.Common.{◌++◌, take, drop, ap, ◌∙◌}
 use Rattle.std.proofs.lemmas.List.{drop-drop}
 use Rattle.draft_layout.proofs.layout.set_id.Goals as goal
 

@@ -1,4 +1,4 @@
-use Rattle.std.proofs.Common.{◌≡◌, take, map, fold}
+use Rattle.std.proofs.Common.{◌≡◌, take, fold}
 use Rattle.ppdb_canon.specs.Uses.{imports_pieces}
 use Rattle.noted_items.specs.Making.{with_piece}
 use Rattle.noted_items.proofs.imports.put_imports.Given as goal

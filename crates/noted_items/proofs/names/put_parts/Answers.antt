@@ -1,7 +1,7 @@
-use Rattle.std.proofs.Common.{◌≡◌, ℕ, ◌+◌, List, [], ◌∷◌, ◌++◌, take, map, fold, length, get_or, Bor, sym, ap, ◌∙◌, arith}
+use Rattle.std.proofs.Common.{ℕ, List, [], take, map, fold, get_or, Bor, sym, ap, ◌∙◌, arith}
 use Rattle.std.proofs.lemmas.List.{map_push}
 use Rattle.std.proofs.lemmas.List.Sums.{fold_push}
-use Rattle.heap_items.specs.Uses.{Piece, index}
+use Rattle.heap_items.specs.Uses.{index}
 use Rattle.noted_items.specs.Making.{with_piece}
 use Rattle.noted_items.proofs.Parts.{part-next}
 use Rattle.noted_items.proofs.names.put_parts.Goals as goal

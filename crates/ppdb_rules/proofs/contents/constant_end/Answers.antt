@@ -1,4 +1,4 @@
-use Rattle.std.proofs.Common.{Option, sym, ap, subst, ◌∙◌}
+use Rattle.std.proofs.Common.{Option, ap, subst, ◌∙◌}
 use Rattle.ppdb_base.specs.declared.fault.BlobFault.{BlobFault}
 use Rattle.type_blobs.specs.Constants.{constants}
 use Rattle.type_blobs.specs.ConstantReading.{body_answer}

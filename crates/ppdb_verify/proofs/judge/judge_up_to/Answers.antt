@@ -1,4 +1,4 @@
-use Rattle.std.proofs.Common.{◌+◌, ◌≤◌, [], ◌∷◌, inl, inr, refl, arith}
+use Rattle.std.proofs.Common.{◌+◌, [], ◌∷◌, inl, inr, refl, arith}
 use Rattle.ppdb_base.specs.Place.{numbers}
 use Rattle.ppdb_base.proofs.Judging.{comes_before_trans}
 use Rattle.ppdb_tables.specs.RawOf.{raw_of}

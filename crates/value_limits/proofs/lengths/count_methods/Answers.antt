@@ -1,4 +1,4 @@
-use Rattle.std.proofs.Common.{◌≡◌, ap, sym, ◌∙◌, arith, true≢false}
+use Rattle.std.proofs.Common.{sym, ◌∙◌, arith, true≢false}
 use Rattle.value_limits.proofs.Firsts.{method_rows_counted}
 use Rattle.value_limits.proofs.lengths.count_methods.Goals as goal
 

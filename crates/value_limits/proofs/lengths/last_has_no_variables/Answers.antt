@@ -1,4 +1,4 @@
-use Rattle.std.proofs.Common.{ℕ, length, nat_eq, ap, sym, ◌∙◌}
+use Rattle.std.proofs.Common.{length, nat_eq, ap, sym, ◌∙◌}
 use Rattle.ppdb_values.specs.declared.scope.ScopeValue.{ScopeValue}
 use Rattle.ppdb_canon.specs.Limits.{owns_none}
 use Rattle.value_limits.proofs.Firsts.{last_is}

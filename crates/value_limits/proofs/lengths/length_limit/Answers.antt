@@ -1,4 +1,4 @@
-use Rattle.std.proofs.Common.{◌≡◌, ℕ, List, length, ap, sym, ◌∙◌, Option, Bool, sum_by}
+use Rattle.std.proofs.Common.{◌≡◌, List, length, ap, ◌∙◌, Option, Bool, sum_by}
 use Rattle.std.specs.Prelude.{◌==◌, ◌&&◌}
 use Rattle.std.specs.Option.{option_or}
 use Rattle.std.specs.List.{filter_map}

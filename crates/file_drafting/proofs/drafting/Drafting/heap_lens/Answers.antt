@@ -2,7 +2,6 @@ use Rattle.std.proofs.Common.{◌≡◌, ℕ, ap, ◌∙◌}
 use Rattle.heap_items.specs.declared.heap.HeapKind.TheVariants.{Texts, Blobs}
 use Rattle.heap_items.specs.Interned.{length_of}
 use Rattle.heap_items.specs.Items.{as_text, as_blob}
-use Rattle.file_layout.specs.declared.rows.HeapLens.{HeapLens}
 use Rattle.file_layout.specs.Told.{told_lens}
 use Rattle.noted_items.specs.Making.{noted_of}
 use Rattle.file_drafting.specs.Draft.{Draft}

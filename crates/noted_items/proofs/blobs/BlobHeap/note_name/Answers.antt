@@ -1,6 +1,6 @@
 use Rattle.std.proofs.Common.{◌≡◌, ℕ, List, [], ◌∷◌, Bor, map, fold, ap, ◌∙◌}
 use Rattle.heap_items.specs.Uses.{octets, index}
-use Rattle.ppdb_canon.specs.Uses.{name_pieces, parts_of, separator_of}
+use Rattle.ppdb_canon.specs.Uses.{name_pieces, parts_of}
 use Rattle.noted_items.specs.Making.{with_piece, begun}
 use Rattle.noted_items.specs.Noted.{cell}
 use Rattle.noted_items.proofs.Made.{noted-is}
