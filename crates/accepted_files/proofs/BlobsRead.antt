@@ -6,7 +6,8 @@ use Rattle.custom_info.specs.declared.kinds.Kind.{Kind}
 use Rattle.custom_info.specs.declared.kinds.Kind.TheVariants.{Async, Hoisted, TypeDocuments, Free, Unknown}
 use Rattle.custom_info.specs.HoistedScopes.{hoisted_scopes}
 use Rattle.custom_info.specs.TypeDocuments.{type_documents}
-use Rattle.custom_info.specs.Kinds.{async_stepping as async_guid, hoisted_scopes as hoisted_guid, is_one_of, kind_of, passed_on, type_documents as documents_guid}
+use Rattle.custom_info.specs.Kinds.{async_stepping as async_guid, hoisted_scopes as hoisted_guid, is_one_of, kind_of, passed_on}
+use Rattle.custom_info.specs.Kinds.{type_documents as documents_guid}
 use Rattle.ppdb_heaps.specs.Heaps.{blob_at, guid_at}
 use Rattle.ppdb_heaps.specs.Names.{names}
 use Rattle.ppdb_tables.specs.declared.rows.CustomRow.{CustomRow}
@@ -38,7 +39,8 @@ kind_unmarked marks guid kind not_free not_unknown is =
     unmarked (bytes_eq guid async_guid) (bytes_eq guid hoisted_guid) (bytes_eq guid documents_guid)
     (is_one_of passed_on guid || is_one_of [] guid) (is_one_of passed_on guid || is_one_of marks guid) kind not_free not_unknown is
 
-same_guid : (raw : RawTables) (x : CustomRow) (guid : List ℕ) → guid_at raw.guids x.kind ≡ Some (kind_in raw x) → guid_at raw.guids x.kind ≡ Some guid → guid ≡ kind_in raw x
+same_guid : (raw : RawTables) (x : CustomRow) (guid : List ℕ) → guid_at raw.guids x.kind ≡ Some (kind_in raw x) → guid_at raw.guids x.kind ≡ Some guid
+    → guid ≡ kind_in raw x
 same_guid raw x guid there named = cc
 
 module _ (file : RawFile) (keeps : KeepsRules file) where
@@ -47,7 +49,8 @@ module _ (file : RawFile) (keeps : KeepsRules file) where
   of_kind row x content kind not_free not_unknown here there has =
       let custom = keeps.customs.each row x here in
       let same = same_guid file.tables x has.guid custom.kind has.there in
-      let is : kind_of [] (kind_in file.tables x) ≡ kind = sym (ap (λ (guid : List ℕ). kind_of [] guid) same) ∙ kind_unmarked has.marks has.guid kind not_free not_unknown has.kind_is in
+      let is : kind_of [] (kind_in file.tables x) ≡ kind =
+      sym (ap (λ (guid : List ℕ). kind_of [] guid) same) ∙ kind_unmarked has.marks has.guid kind not_free not_unknown has.kind_is in
       named file.tables x.value content (λ bytes. IsWholeOfKind file.tables kind bytes) custom.value there
       (subst (λ (k : Kind). IsWholeOfKind file.tables k (blob file.tables x.value)) is custom.value_whole)
 
@@ -59,18 +62,21 @@ module _ (file : RawFile) (keeps : KeepsRules file) where
         (named file.tables x.name content (λ bytes. IsWhole (names file.tables.blobs) bytes) document.name there document.name_whole) may;
     points = λ row x content here there some made may.
         let method = keeps.methods.each row x here in
-        elim (named file.tables x.points content (λ bytes. (bytes ≡ []) ⊎ IsWhole (sequence_points x.document (point_limits file.tables)) bytes) method.points there method.points_whole) [
+        elim (named file.tables x.points content (λ bytes. (bytes ≡ []) ⊎ IsWhole (sequence_points x.document (point_limits file.tables)) bytes) method.points
+        there method.points_whole) [
           | inl nil ↦ absurd (some nil)
           | inr whole ↦ points_read_on x.document (point_limits file.tables) content made whole may
         ];
     constants = λ row x content here there made reads.
         let constant = keeps.constants.each row x here in
         constant_reads_on (type_limits file.tables) content made
-        (named file.tables x.signature content (λ bytes. IsWhole (constants (type_limits file.tables)) bytes) constant.signature there constant.signature_whole) reads;
+        (named file.tables x.signature content (λ bytes. IsWhole (constants (type_limits file.tables)) bytes) constant.signature there constant.signature_whole)
+        reads;
     imports = λ row x content here there made reads.
         let import = keeps.imports.each row x here in
         reads_on (imports (type_limits file.tables) (heap_of file.tables)) content made
-        (named file.tables x.imports content (λ bytes. IsWhole (imports (type_limits file.tables) (heap_of file.tables)) bytes) import.imports there import.imports_whole) reads;
+        (named file.tables x.imports content (λ bytes. IsWhole (imports (type_limits file.tables) (heap_of file.tables)) bytes) import.imports there
+        import.imports_whole) reads;
     stepping = λ row x content here there has made may.
         stepping_reads_on (count file.tables 0x06) content made (of_kind row x content Async (λ e. cc) (λ e. cc) here there has) may;
     slots = λ row x content here there has made reads.

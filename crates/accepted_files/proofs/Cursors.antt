@@ -14,7 +14,8 @@ use Rattle.sequence_points.specs.declared.point.PointLimits.{PointLimits}
 use Rattle.sequence_points.specs.Places.{Shown}
 use Rattle.sequence_points.specs.Records.{sequence_points}
 use Rattle.type_blobs.specs.declared.types.TypeLimits.{TypeLimits}
-use Rattle.type_blobs.specs.ConstantReading.{ConstantEnd, ConstantLeft, ConstantReading, body, bad_body, bad_modifier, fault_of, modifier_answer, body_answer, rest_of as constant_rest}
+use Rattle.type_blobs.specs.ConstantReading.{ConstantEnd, ConstantLeft, ConstantReading, body, bad_body, bad_modifier, fault_of}
+use Rattle.type_blobs.specs.ConstantReading.{modifier_answer, body_answer, rest_of as constant_rest}
 use Rattle.type_blobs.specs.Constants.{constants}
 use Rattle.custom_info.specs.AsyncStepping.{Stepping, async_stepping, entries_of}
 use Rattle.ppdb_tables.specs.RawTables.{RawTables}
@@ -23,11 +24,13 @@ use Rattle.ppdb_values.specs.Rules.{HasBlob, IsWhole}
 use Rattle.accepted_files.specs.Cursors.{ConstantNeverFaults, MayBeName, MayBePoints, MayBeStepping, NeverFaults}
 
 -- a whole blob is not read with a fault
-pub no_fault : {R : Type 0} (g : Grammar R) (content : List ℕ) (items : List R) (fault : Option BlobFault) → IsWhole g content → Reading g content items fault → fault ≡ None
+pub no_fault : {R : Type 0} (g : Grammar R) (content : List ℕ) (items : List R) (fault : Option BlobFault) → IsWhole g content → Reading g content items fault
+    → fault ≡ None
 no_fault g content items fault whole reading = (reading-unique g content items (records_of g content) fault None reading whole).1
 
 -- the blob that a cell names
-pub named : (raw : RawTables) (index : ℕ) (content : List ℕ) (P : List ℕ → Type 0) → HasBlob raw index → blob_at raw.blobs index ≡ Some content → P (blob raw index) → P content
+pub named : (raw : RawTables) (index : ℕ) (content : List ℕ) (P : List ℕ → Type 0) → HasBlob raw index → blob_at raw.blobs index ≡ Some content
+    → P (blob raw index) → P content
 named raw index content P has there holds = let same : blob raw index ≡ content = cc in subst P same holds
 
 -- ---- answers
@@ -66,20 +69,24 @@ reads_on g content made whole reading = never made (no_fault g content made.item
 refused : {R : Type 0} (g : Grammar R) (content : List ℕ) (fault : BlobFault) → IsWhole g content → Reading g content [] (Some fault) → ⊥
 refused g content fault whole reading = let same = no_fault g content [] (Some fault) whole reading in cc
 
-pub name_reads_on : (blobs content : List ℕ) (made : Result NameLeft BlobFault) → IsWhole (names blobs) content → MayBeName blobs content made → IsOkAnd made (λ c. NeverFaults c.left)
+pub name_reads_on : (blobs content : List ℕ) (made : Result NameLeft BlobFault) → IsWhole (names blobs) content → MayBeName blobs content made
+    → IsOkAnd made (λ c. NeverFaults c.left)
 name_reads_on blobs content (Ok c) whole may = never c.left (no_fault (names blobs) content _ c.left.fault whole may.begun.reading)
 name_reads_on blobs content (Err fault) whole may = refused (names blobs) content fault whole may.fault
 
 pub points_read_on : (column : ℕ) (limits : PointLimits) (content : List ℕ) (made : Result Shown BlobFault) → IsWhole (sequence_points column limits) content
     → MayBePoints column limits content made → IsOkAnd made (λ c. NeverFaults c.left)
-points_read_on column limits content (Ok c) whole may = never c.left (no_fault (sequence_points column limits) content may.ok.entries c.left.fault whole may.ok.reading)
+points_read_on column limits content (Ok c) whole may =
+    never c.left (no_fault (sequence_points column limits) content may.ok.entries c.left.fault whole may.ok.reading)
 points_read_on column limits content (Err fault) whole may = refused (sequence_points column limits) content fault whole may.err
 
 pub stepping_reads_on : (methods : ℕ) (content : List ℕ) (made : Result Stepping BlobFault) → IsWhole (async_stepping methods) content
     → MayBeStepping methods content made → IsOkAnd made (λ c. NeverFaults c.left)
-stepping_reads_on methods content (Ok c) whole may = never c.left (no_fault (async_stepping methods) content (entries_of c.handler c.left.items) c.left.fault whole may.ok)
+stepping_reads_on methods content (Ok c) whole may =
+    never c.left (no_fault (async_stepping methods) content (entries_of c.handler c.left.items) c.left.fault whole may.ok)
 stepping_reads_on methods content (Err fault) whole may = refused (async_stepping methods) content fault whole may.err
 
-pub constant_reads_on : (limits : TypeLimits) (content : List ℕ) (made : ConstantLeft) → IsWhole (constants limits) content → ConstantReading limits content made → ConstantNeverFaults made
+pub constant_reads_on : (limits : TypeLimits) (content : List ℕ) (made : ConstantLeft) → IsWhole (constants limits) content
+    → ConstantReading limits content made → ConstantNeverFaults made
 constant_reads_on limits content made whole reads =
     constant_never made (no_fault (constants limits) content made.modifiers (fault_of made.end) whole reads.reading)

@@ -65,7 +65,8 @@ no_guid guids number none = elim (cases_eq number 0) [
 module _ (raw : RawTables) (accepted : IsAccepted (BadRow raw)) where
   parent_up : (a b : ℕ) (x y : CustomRow) → row_at raw.customs a ≡ Some x → row_at raw.customs b ≡ Some y → a < b → x.parent ≤ y.parent
   parent_up a b x y hx hy less = elim (cases_lt y.parent x.parent) [
-    | inl falls ↦ absurd (accepted CustomOrder (cell 0x37 b 0) (custom_order hy (record { before = a; earlier = x; there = hx; sooner = less; forbidden = falls })))
+    | inl falls ↦ absurd (accepted CustomOrder (cell 0x37 b 0)
+        (custom_order hy (record { before = a; earlier = x; there = hx; sooner = less; forbidden = falls })))
     | inr up ↦ up
   ]
 
@@ -79,7 +80,8 @@ module _ (raw : RawTables) (accepted : IsAccepted (BadRow raw)) where
         (row_there raw accepted 0x37 row 0 (parent_of x.parent).table (x.parent / 32) (custom_parent here parent.table_is))
 
     kind_there : guid_at raw.guids x.kind ≡ Some (kind_in raw x)
-    kind_there = is_there (guid_at raw.guids x.kind) [] (λ none. accepted GuidIndex (cell 0x37 row 1) (guid_index (custom_kind here) (no_guid raw.guids x.kind none)))
+    kind_there =
+        is_there (guid_at raw.guids x.kind) [] (λ none. accepted GuidIndex (cell 0x37 row 1) (guid_index (custom_kind here) (no_guid raw.guids x.kind none)))
 
     of_kind : (kind : Kind) → kind_of [] (kind_in raw x) ≡ kind → IsOfKind raw.guids x.kind kind
     of_kind kind is = record { guid = kind_in raw x; there = kind_there; kind_is = is }
@@ -88,7 +90,13 @@ module _ (raw : RawTables) (accepted : IsAccepted (BadRow raw)) where
     on_table kind table is has = elim (cases_eq (parent_of x.parent).table table) [
       | inl same ↦ same
       | inr apart ↦ absurd (accepted KindParent (cell 0x37 row 1) (kind_parent here
-          (record { kind = kind; of_kind = of_kind kind is; table = table; has_table = has; other = λ named. apart (one_table (parent_of x.parent).table table (sym parent.table_is ∙ named)) })))
+          (record {
+            kind = kind;
+            of_kind = of_kind kind is;
+            table = table;
+            has_table = has;
+            other = λ named. apart (one_table (parent_of x.parent).table table (sym parent.table_is ∙ named));
+          })))
     ]
 
     stands_on : (kind : Kind) → kind_of [] (kind_in raw x) ≡ kind → StandsOn kind (parent_of x.parent).table
@@ -104,7 +112,13 @@ module _ (raw : RawTables) (accepted : IsAccepted (BadRow raw)) where
     no_fault : (kind : Kind) → kind_of [] (kind_in raw x) ≡ kind → (fault : BlobFault) → ReadsValue raw kind (blob raw x.value) (Some fault) → ⊥
     no_fault kind is fault reads =
         accepted fault.code (in_blob 0x37 row 2 fault.byte)
-        (custom_content {fault = fault} here (record { kind = kind; of_kind = of_kind kind is; content = blob raw x.value; there = value_there; reads = reads }))
+        (custom_content {fault = fault} here (record {
+          kind = kind;
+          of_kind = of_kind kind is;
+          content = blob raw x.value;
+          there = value_there;
+          reads = reads;
+        }))
 
     value_whole : (kind : Kind) → kind_of [] (kind_in raw x) ≡ kind → IsWholeOfKind raw kind (blob raw x.value)
     value_whole Async is = whole (async_stepping (count raw 0x06)) (blob raw x.value) (no_fault Async is)

@@ -22,7 +22,8 @@ use Rattle.ppdb_values.proofs.ChainEnds.{chains_end}
 use Rattle.accepted_files.proofs.Items.{blob_there, row_or_none, whole}
 
 -- both name one chain
-same_ancestor : (imports : List ImportRow) (row steps : ℕ) → ancestor_in imports row steps ≡ ancestor_of (parent_at (λ (scope : ImportRow). scope.parent) imports) row steps
+same_ancestor : (imports : List ImportRow) (row steps : ℕ)
+    → ancestor_in imports row steps ≡ ancestor_of (parent_at (λ (scope : ImportRow). scope.parent) imports) row steps
 same_ancestor imports row zero = refl
 same_ancestor imports row (suc steps) = same_ancestor imports (parent_at (λ (scope : ImportRow). scope.parent) imports row) steps
 
@@ -40,7 +41,8 @@ module _ (raw : RawTables) (accepted : IsAccepted (BadRow raw)) where
 
   ends : (row : ℕ) (o : Option ImportRow) → row_at raw.imports row ≡ o → NeverEnds (parent_at (λ (scope : ImportRow). scope.parent) raw.imports) row → ⊥
   ends row None here never = ends_past raw.imports row here never
-  ends row (Some x) here never = accepted ImportCycle (cell 0x35 row 0) (import_cycle here (λ steps ended. never steps (sym (same_ancestor raw.imports row steps) ∙ ended)))
+  ends row (Some x) here never =
+      accepted ImportCycle (cell 0x35 row 0) (import_cycle here (λ steps ended. never steps (sym (same_ancestor raw.imports row steps) ∙ ended)))
 
   imports_there : (row : ℕ) (x : ImportRow) → row_at raw.imports row ≡ Some x → HasBlob raw x.imports
   imports_there row x here = blob_there raw accepted 0x35 row 1 x.imports (import_list here)

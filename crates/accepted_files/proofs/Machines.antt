@@ -18,7 +18,8 @@ module _ (raw : RawTables) (accepted : IsAccepted (BadRow raw)) where
   move_next_up : (a b : ℕ) (x y : MachineRow) → row_at raw.machines a ≡ Some x → row_at raw.machines b ≡ Some y → a < b → x.move_next < y.move_next
   move_next_up a b x y hx hy less = elim (cases_lt x.move_next y.move_next) [
     | inl up ↦ up
-    | inr falls ↦ absurd (accepted MachineOrder (cell 0x36 b 0) (machine_order hy (record { before = a; earlier = x; there = hx; sooner = less; forbidden = falls })))
+    | inr falls ↦ absurd (accepted MachineOrder (cell 0x36 b 0)
+        (machine_order hy (record { before = a; earlier = x; there = hx; sooner = less; forbidden = falls })))
   ]
 
   pub machines_kept : KeepsMachines raw

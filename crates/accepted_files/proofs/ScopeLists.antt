@@ -53,7 +53,8 @@ within a b le = grind (arith, nat_tests)
 
 -- an item at or behind the first list has an owner
 has_owner : (list : ScopeRow → ℕ) (scope : ScopeRow) (scopes : List ScopeRow) (item : ℕ) → list scope ≤ item → owner_of list (scope ∷ scopes) item ≡ None → ⊥
-has_owner list scope scopes item le none = some_last (1, scope) (filter (λ (later : ℕ × ScopeRow). nat_le (list later.1) item) (enumerate_from 2 scopes)) (rw (within (list scope) item le) at none)
+has_owner list scope scopes item le none =
+    some_last (1, scope) (filter (λ (later : ℕ × ScopeRow). nat_le (list later.1) item) (enumerate_from 2 scopes)) (rw (within (list scope) item le) at none)
 
 begun_owner : (list : ScopeRow → ℕ) (scopes : List ScopeRow) (items item : ℕ) → KeepsLists list scopes items → 1 ≤ item → item ≤ items
     → owner_of list scopes item ≡ None → ⊥

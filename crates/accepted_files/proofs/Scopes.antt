@@ -24,7 +24,8 @@ not_before x y after = elim after [
 ]
 
 -- an earlier scope that ends in a later one
-crosses : (x y : ScopeRow) → ComesAfter (range_of x) (range_of y) → y.start < x.start + x.length → x.start + x.length < y.start + y.length → Crosses (extent_of x) (extent_of y)
+crosses : (x y : ScopeRow) → ComesAfter (range_of x) (range_of y) → y.start < x.start + x.length → x.start + x.length < y.start + y.length
+    → Crosses (extent_of x) (extent_of y)
 crosses x y after meets past =
     let up = not_before x y after in
     record {

@@ -1,5 +1,6 @@
 -- A UTF-8 character at the front of some bytes: what character_len finds is one, and each one is found.
-use Rattle.std.proofs.Common.{◌≡◌, ℕ, zero, suc, ◌<◌, ◌≤◌, Bool, true, false, List, [], ◌∷◌, ◌++◌, length, take, refl, sym, ap, subst, arith, if◌then◌else◌, Result, Ok}
+use Rattle.std.proofs.Common.{◌≡◌, ℕ, zero, suc, ◌<◌, ◌≤◌, Bool, true, false, List, [], ◌∷◌, ◌++◌, length, take, refl, sym, ap, subst}
+use Rattle.std.proofs.Common.{arith, if◌then◌else◌, Result, Ok}
 use Rattle.std.proofs.lemmas.List.{length-take}
 use Rattle.ppdb_base.specs.declared.Code.{Code}
 use Rattle.blob_grammar.specs.Grammar.{Value, octets, is_character}
@@ -56,7 +57,8 @@ character-all [] after h = absurd cc
 character-all (a ∷ []) after h = rw h refl
 character-all (a ∷ b ∷ []) after h = let low : 0xC2 ≤ a = grind arith in rw (not_one a (omega arith), h) refl
 character-all (a ∷ b ∷ c ∷ []) after h = let low : 0xE0 ≤ a = grind arith in rw (not_one a (omega arith), not_two a b low, h) refl
-character-all (a ∷ b ∷ c ∷ d ∷ []) after h = let low : 0xF0 ≤ a = grind arith in rw (not_one a (omega arith), not_two a b (omega arith), not_three a b c low, h) refl
+character-all (a ∷ b ∷ c ∷ d ∷ []) after h =
+    let low : 0xF0 ≤ a = grind arith in rw (not_one a (omega arith), not_two a b (omega arith), not_three a b c low, h) refl
 character-all (a ∷ b ∷ c ∷ d ∷ e ∷ es) after h = absurd cc
 
 pub character_len-within : (bytes : List ℕ) → character_len bytes ≤ length bytes
@@ -67,7 +69,10 @@ character_len-within bytes = within (character_len bytes) (character-at bytes)
     within (suc len) f = omega (arith, length-take (suc len) bytes, f.1)
 
 -- A character that was found is the field.
-pub character-there : (bytes : List ℕ) (len : ℕ) → len ≡ character_len bytes → 0 < len → character_of bytes (character_len bytes) ≡ Ok (octets (take len bytes), length (take len bytes))
+pub character-there : (bytes : List ℕ) (len : ℕ) → len ≡ character_len bytes → 0 < len → character_of bytes (character_len bytes) ≡ Ok (
+  octets (take len bytes),
+  length (take len bytes),
+)
 character-there bytes len e some = rw (← e) (there bytes len some (subst (λ n. CharacterAt bytes n) (sym e) (character-at bytes)))
   where
     there : (bytes : List ℕ) (len : ℕ) → 0 < len → CharacterAt bytes len → character_of bytes len ≡ Ok (octets (take len bytes), length (take len bytes))

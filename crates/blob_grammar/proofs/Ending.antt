@@ -1,5 +1,6 @@
 -- Where BlobEnd is told, the bytes end inside a field or before it.
-use Rattle.std.proofs.Common.{◌≡◌, ◌≢◌, ℕ, zero, suc, ◌+◌, ◌-◌, ◌*◌, ◌^◌, ◌<◌, ◌≤◌, List, [], ◌∷◌, ◌++◌, length, take, drop, replicate, append-nil, Some, None, refl, sym, arith, ◌⊎◌, inl, inr, length-append}
+use Rattle.std.proofs.Common.{◌≡◌, ◌≢◌, ℕ, zero, suc, ◌+◌, ◌-◌, ◌*◌, ◌^◌, ◌<◌, ◌≤◌, List, [], ◌∷◌, ◌++◌, length, take, drop, replicate}
+use Rattle.std.proofs.Common.{append-nil, Some, None, refl, sym, arith, ◌⊎◌, inl, inr, length-append}
 use Rattle.std.specs.Prelude.{All}
 use Rattle.std.specs.Int.{w32, from_le_bytes}
 use Rattle.std.proofs.lemmas.List.{length-replicate, length-take-le, take-append-drop}
@@ -26,17 +27,39 @@ pub record NumberBegun (after : List ℕ) : Type 0 where
 
 two-cases : (b : ℕ) (bs : List ℕ) → 0x80 ≤ b → b < 0xC0 → All (λ x. x < 256) (b ∷ bs) → NumberThere (b ∷ bs) ⊎ NumberBegun (b ∷ bs)
 two-cases b [] low high small = inr (record { more = 0 ∷ []; some_more = λ e. cc; value = (b - 0x80) * 256 + 0; spelled = (low, high, omega arith, refl) })
-two-cases b (c ∷ cs) low high small = inl (record { text = b ∷ c ∷ []; left = cs; parts = refl; value = (b - 0x80) * 256 + c; spelled = (low, high, small 1 0 (omega arith), refl) })
+two-cases b (c ∷ cs) low high small =
+    inl (record { text = b ∷ c ∷ []; left = cs; parts = refl; value = (b - 0x80) * 256 + c; spelled = (low, high, small 1 0 (omega arith), refl) })
 
 four-cases : (b : ℕ) (bs : List ℕ) → 0xC0 ≤ b → b < 0xE0 → All (λ x. x < 256) (b ∷ bs) → NumberThere (b ∷ bs) ⊎ NumberBegun (b ∷ bs)
 four-cases b [] low high small =
-    inr (record { more = 0 ∷ 0 ∷ 0 ∷ []; some_more = λ e. cc; value = (b - 0xC0) * 2 ^ 24 + 0 * 2 ^ 16 + 0 * 256 + 0; spelled = (low, high, omega arith, omega arith, omega arith, refl) })
+    inr (record {
+      more = 0 ∷ 0 ∷ 0 ∷ [];
+      some_more = λ e. cc;
+      value = (b - 0xC0) * 2 ^ 24 + 0 * 2 ^ 16 + 0 * 256 + 0;
+      spelled = (low, high, omega arith, omega arith, omega arith, refl);
+    })
 four-cases b (c ∷ []) low high small =
-    inr (record { more = 0 ∷ 0 ∷ []; some_more = λ e. cc; value = (b - 0xC0) * 2 ^ 24 + c * 2 ^ 16 + 0 * 256 + 0; spelled = (low, high, small 1 0 (omega arith), omega arith, omega arith, refl) })
+    inr (record {
+      more = 0 ∷ 0 ∷ [];
+      some_more = λ e. cc;
+      value = (b - 0xC0) * 2 ^ 24 + c * 2 ^ 16 + 0 * 256 + 0;
+      spelled = (low, high, small 1 0 (omega arith), omega arith, omega arith, refl);
+    })
 four-cases b (c ∷ d ∷ []) low high small =
-    inr (record { more = 0 ∷ []; some_more = λ e. cc; value = (b - 0xC0) * 2 ^ 24 + c * 2 ^ 16 + d * 256 + 0; spelled = (low, high, small 1 0 (omega arith), small 2 0 (omega arith), omega arith, refl) })
+    inr (record {
+      more = 0 ∷ [];
+      some_more = λ e. cc;
+      value = (b - 0xC0) * 2 ^ 24 + c * 2 ^ 16 + d * 256 + 0;
+      spelled = (low, high, small 1 0 (omega arith), small 2 0 (omega arith), omega arith, refl);
+    })
 four-cases b (c ∷ d ∷ e ∷ bs) low high small =
-    inl (record { text = b ∷ c ∷ d ∷ e ∷ []; left = bs; parts = refl; value = (b - 0xC0) * 2 ^ 24 + c * 2 ^ 16 + d * 256 + e; spelled = (low, high, small 1 0 (omega arith), small 2 0 (omega arith), small 3 0 (omega arith), refl) })
+    inl (record {
+      text = b ∷ c ∷ d ∷ e ∷ [];
+      left = bs;
+      parts = refl;
+      value = (b - 0xC0) * 2 ^ 24 + c * 2 ^ 16 + d * 256 + e;
+      spelled = (low, high, small 1 0 (omega arith), small 2 0 (omega arith), small 3 0 (omega arith), refl);
+    })
 
 number-cases : (b : ℕ) (bs : List ℕ) → All (λ x. x < 256) (b ∷ bs) → ¬ (0xE0 ≤ b) → NumberThere (b ∷ bs) ⊎ NumberBegun (b ∷ bs)
 number-cases b bs small begins =
@@ -57,9 +80,19 @@ unsigned-inside bytes none (inr t) = record { more = t.more; some_more = t.some_
 
 signed-inside : (bytes : List ℕ) → ¬ (IsFieldThere signed bytes) → NumberThere bytes ⊎ NumberBegun bytes → EndsInside signed bytes
 signed-inside bytes none (inl t) =
-    absurd (none (record { bytes = t.text; value = integer (unrotated (2 ^ (bits_of (length t.text) - 1)) t.value) }, t.left, t.parts, (t.value, t.spelled, refl)))
+    absurd (none (
+      record { bytes = t.text; value = integer (unrotated (2 ^ (bits_of (length t.text) - 1)) t.value) },
+      t.left,
+      t.parts,
+      (t.value, t.spelled, refl),
+    ))
 signed-inside bytes none (inr t) =
-    record { more = t.more; some_more = t.some_more; value = integer (unrotated (2 ^ (bits_of (length (bytes ++ t.more)) - 1)) t.value); spelled = (t.value, t.spelled, refl) }
+    record {
+      more = t.more;
+      some_more = t.some_more;
+      value = integer (unrotated (2 ^ (bits_of (length (bytes ++ t.more)) - 1)) t.value);
+      spelled = (t.value, t.spelled, refl);
+    }
 
 abbrev zeros : ℕ → List ℕ
 zeros n = replicate n 0
@@ -78,13 +111,18 @@ fixed-inside len bytes short =
     record { more = more; some_more = no_more (len - length bytes) (omega arith); value = octets (bytes ++ more); spelled = (refl, all, omega arith) }
 
 fixed-there : (len : ℕ) (bytes : List ℕ) → 1 ≤ len → len ≤ length bytes → IsFieldThere (fixed len) bytes
-fixed-there len bytes some there =
-    (record { bytes = take len bytes; value = octets (take len bytes) }, drop len bytes, sym (take-append-drop len bytes), (refl, length-take-le len bytes there, some))
+fixed-there len bytes some there = (
+  record { bytes = take len bytes; value = octets (take len bytes) },
+  drop len bytes,
+  sym (take-append-drop len bytes),
+  (refl, length-take-le len bytes there, some),
+)
 
 pub blob_end-inside : (form : Form) (bytes : List ℕ) → All (λ b. b < 256) bytes → form ≢ fixed 0 → IsFaultOf BlobEnd (Some form) bytes → EndsInside form bytes
 blob_end-inside unsigned [] small sane h = record { more = 0 ∷ []; some_more = λ e. cc; value = number 0; spelled = (omega arith, refl) }
 blob_end-inside unsigned (b ∷ bs) small sane h = unsigned-inside (b ∷ bs) (λ t. h.1 (inl t)) (number-cases b bs small h.0)
-blob_end-inside signed [] small sane h = record { more = 0 ∷ []; some_more = λ e. cc; value = integer (unrotated (2 ^ 6) 0); spelled = (0, (omega arith, refl), refl) }
+blob_end-inside signed [] small sane h =
+    record { more = 0 ∷ []; some_more = λ e. cc; value = integer (unrotated (2 ^ 6) 0); spelled = (0, (omega arith, refl), refl) }
 blob_end-inside signed (b ∷ bs) small sane h = signed-inside (b ∷ bs) (λ t. h.1 (inl t)) (number-cases b bs small h.0)
 blob_end-inside byte [] small sane h = record { more = 0 ∷ []; some_more = λ e. cc; value = number 0; spelled = refl }
 blob_end-inside byte (b ∷ bs) small sane h = absurd (h.1 (inl (record { bytes = b ∷ []; value = number b }, bs, refl, refl)))
@@ -101,7 +139,8 @@ blob_end-inside (fixed (suc len)) bytes small sane h =
       | inr there ↦ absurd (h.1 (inl (fixed-there (suc len) bytes (omega arith) there)))
     ]
 blob_end-inside rest [] small sane h = record { more = 0 ∷ []; some_more = λ e. cc; value = octets (0 ∷ []); spelled = (refl, omega arith, refl) }
-blob_end-inside rest (b ∷ bs) small sane h = absurd (h.1 (inl (record { bytes = b ∷ bs; value = octets (b ∷ bs) }, [], sym (append-nil (b ∷ bs)), (refl, omega arith, refl))))
+blob_end-inside rest (b ∷ bs) small sane h =
+    absurd (h.1 (inl (record { bytes = b ∷ bs; value = octets (b ∷ bs) }, [], sym (append-nil (b ∷ bs)), (refl, omega arith, refl))))
 blob_end-inside character [] small sane h = record { more = 0 ∷ []; some_more = λ e. cc; value = octets (0 ∷ []); spelled = (refl, refl) }
 blob_end-inside character (b ∷ bs) small sane h = absurd (h.1 (inr (refl, λ e. cc)))
 

@@ -1,5 +1,7 @@
 -- A field at the front of some bytes: what field_at finds is one, and each one is found.
-use Rattle.std.proofs.Common.{◌≡◌, ◌≢◌, ℕ, zero, suc, ◌+◌, ◌-◌, ◌*◌, ◌^◌, ◌<◌, ◌≤◌, Bool, true, false, ◌&&◌, ltb, if◌then◌else◌, List, [], ◌∷◌, ◌++◌, length, take, drop, Some, Result, Ok, Err, refl, sym, ap, subst, ◌∙◌, append-nil, arith, inl, inr, ℤ, length-append}
+use Rattle.std.proofs.Common.{◌≡◌, ◌≢◌, ℕ, zero, suc, ◌+◌, ◌-◌, ◌*◌, ◌^◌, ◌<◌, ◌≤◌, Bool, true, false, ◌&&◌, ltb, if◌then◌else◌, List}
+use Rattle.std.proofs.Common.{[], ◌∷◌, ◌++◌, length, take, drop, Some, Result, Ok, Err, refl, sym, ap, subst, ◌∙◌, append-nil, arith}
+use Rattle.std.proofs.Common.{inl, inr, ℤ, length-append}
 use Rattle.std.proofs.lemmas.List.{length-take, take-append-drop}
 use Rattle.std.proofs.Math.Seq.{drop-length, take-append_seam}
 use Rattle.std.specs.Int.{w32, from_le_bytes}
@@ -52,7 +54,8 @@ IntFound P bytes (Err NoForm) = BeginsNone bytes
 
 two-if : (b c : ℕ) (bs : List ℕ) → 0x80 ≤ b → b < 0xC0 → (t : Bool) → ltb c 256 ≡ t
     → IntFound SpellsUnsigned (b ∷ c ∷ bs) (if t then Ok ((b - 0x80) * 256 + c, 2) else Err End)
-two-if b c bs low high true t = record { text = b ∷ c ∷ []; parts = refl; spelled = (low, high, ltb-true c 256 t, refl); len_is = refl; positive = omega arith; within = omega arith }
+two-if b c bs low high true t =
+    record { text = b ∷ c ∷ []; parts = refl; spelled = (low, high, ltb-true c 256 t, refl); len_is = refl; positive = omega arith; within = omega arith }
 two-if b c bs low high false t = λ n. omega arith
 
 two-is : (b : ℕ) (bs : List ℕ) → 0x80 ≤ b → b < 0xC0 → IntFound SpellsUnsigned (b ∷ bs) (two_at b bs)
@@ -87,7 +90,14 @@ unfolding unsigned_at
 unsigned-is [] = λ n. n
 unsigned-is (b ∷ bs) =
     elim (cases_lt b 0x80) [
-      | inl small ↦ rw (lt-true b 0x80 small) (record { text = b ∷ []; parts = refl; spelled = (small, refl); len_is = refl; positive = omega arith; within = omega arith })
+      | inl small ↦ rw (lt-true b 0x80 small) (record {
+        text = b ∷ [];
+        parts = refl;
+        spelled = (small, refl);
+        len_is = refl;
+        positive = omega arith;
+        within = omega arith;
+      })
       | inr large ↦ rw (ge-false b 0x80 large)
           (elim (cases_lt b 0xC0) [
             | inl two ↦ rw (lt-true b 0xC0 two) (two-is b bs large two)
@@ -100,7 +110,14 @@ unsigned-is (b ∷ bs) =
     ]
 
 signed-from : (bytes : List ℕ) (r : Result (ℕ × ℕ) IntFault) → IntFound SpellsUnsigned bytes r → IntFound SpellsSigned bytes (signed_of r)
-signed-from bytes (Ok x) f = record { text = f.text; parts = f.parts; spelled = (x.0, f.spelled, ap (λ n. unrotated (2 ^ (bits_of n - 1)) x.0) (sym f.len_is)); len_is = f.len_is; positive = f.positive; within = f.within }
+signed-from bytes (Ok x) f = record {
+  text = f.text;
+  parts = f.parts;
+  spelled = (x.0, f.spelled, ap (λ n. unrotated (2 ^ (bits_of n - 1)) x.0) (sym f.len_is));
+  len_is = f.len_is;
+  positive = f.positive;
+  within = f.within;
+}
 signed-from bytes (Err End) f = f
 signed-from bytes (Err NoForm) f = f
 
@@ -127,7 +144,8 @@ word-is [] = (λ n. n, (λ n. n, λ e. absurd cc))
 word-is (a ∷ []) = (λ n. n, (λ n. n, λ e. absurd cc))
 word-is (a ∷ b ∷ []) = (λ n. n, (λ n. n, λ e. absurd cc))
 word-is (a ∷ b ∷ c ∷ []) = (λ n. n, (λ n. n, λ e. absurd cc))
-word-is (a ∷ b ∷ c ∷ d ∷ bs) = (λ n. n, record { text = a ∷ b ∷ c ∷ d ∷ []; parts = refl; spelled = (refl, refl); len_is = refl; positive = omega arith; within = omega arith })
+word-is (a ∷ b ∷ c ∷ d ∷ bs) =
+    (λ n. n, record { text = a ∷ b ∷ c ∷ d ∷ []; parts = refl; spelled = (refl, refl); len_is = refl; positive = omega arith; within = omega arith })
 
 word-all : (text : List ℕ) (v : ℕ) (after : List ℕ) → IsWord text v → word_at (text ++ after) ≡ Ok (v, length text)
 word-all [] v after h = absurd (omega arith)
@@ -151,7 +169,8 @@ integer-from (b ∷ bs) (Err End) f = (f, λ e. absurd cc)
 integer-from [] (Err NoForm) f = f
 integer-from (b ∷ bs) (Err NoForm) f = f
 
-no_begin : (form : Form) (bytes : List ℕ) → ¬ (BeginsNoNumber (Some form) []) → ((b : ℕ) (bs : List ℕ) → ¬ (BeginsNoNumber (Some form) (b ∷ bs))) → ¬ (BeginsNoNumber (Some form) bytes)
+no_begin : (form : Form) (bytes : List ℕ) → ¬ (BeginsNoNumber (Some form) []) → ((b : ℕ) (bs : List ℕ) → ¬ (BeginsNoNumber (Some form) (b ∷ bs)))
+    → ¬ (BeginsNoNumber (Some form) bytes)
 no_begin form [] p q = p
 no_begin form (b ∷ bs) p q = q b bs
 
@@ -163,7 +182,14 @@ character-is [] len f = (λ n. n, λ e. refl)
 character-is (b ∷ bs) zero f = (refl, λ e. cc, λ n. n)
 character-is (b ∷ bs) (suc len) f =
     let whole : length (take (suc len) (b ∷ bs)) ≡ suc len = f.1 in
-    record { text = take (suc len) (b ∷ bs); parts = sym (take-append-drop (suc len) (b ∷ bs)); spelled = (refl, f.0); len_is = whole; positive = omega arith; within = omega (arith, length-take (suc len) (b ∷ bs)) }
+    record {
+      text = take (suc len) (b ∷ bs);
+      parts = sym (take-append-drop (suc len) (b ∷ bs));
+      spelled = (refl, f.0);
+      len_is = whole;
+      positive = omega arith;
+      within = omega (arith, length-take (suc len) (b ∷ bs));
+    }
 
 -- what field_at finds stands there, and its code is the fault's
 pub field-is : (form : Form) (bytes : List ℕ) → FieldFound form bytes (field_at form bytes)
@@ -175,22 +201,39 @@ field-is word bytes = (word-is bytes).1
 field-is (fixed zero) bytes = (no_begin (fixed zero) bytes (λ n. n) (λ b bs n. n), λ e. absurd cc)
 field-is (fixed (suc len)) bytes =
     elim (cases_lt len (length bytes)) [
-      | inl there ↦ rw (lt-true len (length bytes) there) (record { text = take (suc len) bytes; parts = sym (take-append-drop (suc len) bytes); spelled = (refl, taken len bytes there, omega arith); len_is = taken len bytes there; positive = omega arith; within = omega arith })
+      | inl there ↦ rw (lt-true len (length bytes) there) (record {
+        text = take (suc len) bytes;
+        parts = sym (take-append-drop (suc len) bytes);
+        spelled = (refl, taken len bytes there, omega arith);
+        len_is = taken len bytes there;
+        positive = omega arith;
+        within = omega arith;
+      })
       | inr short ↦ rw (ge-false len (length bytes) short) (no_begin (fixed (suc len)) bytes (λ n. n) (λ b bs n. n), λ e. absurd cc)
     ]
 field-is rest [] = (λ n. n, λ e. absurd cc)
-field-is rest (b ∷ bytes) = record { text = b ∷ bytes; parts = sym (append-nil (b ∷ bytes)) ∙ ap (λ t. (b ∷ bytes) ++ t) (sym (drop-length (b ∷ bytes))); spelled = (refl, omega arith, drop-length (b ∷ bytes)); len_is = refl; positive = omega arith; within = omega arith }
+field-is rest (b ∷ bytes) = record {
+  text = b ∷ bytes;
+  parts = sym (append-nil (b ∷ bytes)) ∙ ap (λ t. (b ∷ bytes) ++ t) (sym (drop-length (b ∷ bytes)));
+  spelled = (refl, omega arith, drop-length (b ∷ bytes));
+  len_is = refl;
+  positive = omega arith;
+  within = omega arith;
+}
 field-is character bytes = character-is bytes (character_len bytes) (character-at bytes)
 
 character_of-some : (text after : List ℕ) → is_character text ≡ true → character_of (text ++ after) (length text) ≡ Ok (octets text, length text)
 character_of-some [] after h = absurd cc
-character_of-some (a ∷ text) after h = ap (λ (xs : List ℕ). let r : Result (Value × ℕ) Code = Ok (octets xs, length (a ∷ text)) in r) (take-append_seam (a ∷ text) after)
+character_of-some (a ∷ text) after h =
+    ap (λ (xs : List ℕ). let r : Result (Value × ℕ) Code = Ok (octets xs, length (a ∷ text)) in r) (take-append_seam (a ∷ text) after)
 
-character-found : (text xs after : List ℕ) → xs ≡ text → is_character text ≡ true → character_of (text ++ after) (character_len (text ++ after)) ≡ Ok (octets xs, length text)
+character-found : (text xs after : List ℕ) → xs ≡ text → is_character text ≡ true
+    → character_of (text ++ after) (character_len (text ++ after)) ≡ Ok (octets xs, length text)
 character-found text xs after e h = rw (character-all text after h, e) (character_of-some text after h)
 
 -- each field that stands there is found
-pub field-all : (form : Form) (text : List ℕ) (value : Value) (after : List ℕ) → Spells form text value after → field_at form (text ++ after) ≡ Ok (value, length text)
+pub field-all : (form : Form) (text : List ℕ) (value : Value) (after : List ℕ) → Spells form text value after
+    → field_at form (text ++ after) ≡ Ok (value, length text)
 field-all unsigned text (number n) after h = ap as_number (unsigned-all text n after h)
 field-all unsigned text (integer z) after h = absurd h
 field-all unsigned text (octets xs) after h = absurd h
@@ -209,7 +252,12 @@ field-all (fixed zero) text (octets xs) after h = absurd (omega (arith, h.2))
 field-all (fixed (suc len)) text (octets xs) after h =
     let n : length text ≡ suc len = h.1 in
     let there : len < length (text ++ after) = omega (arith, length-append text after) in
-    rw (lt-true len (length (text ++ after)) there) (ap (λ (p : List ℕ × ℕ). let r : Result (Value × ℕ) Code = Ok (octets p.0, p.1) in r) (let q : (take (suc len) (text ++ after), suc len) ≡ (xs, length text) = (let t : take (suc len) (text ++ after) ≡ text = subst (λ (k : ℕ). take k (text ++ after) ≡ text) n (take-append_seam text after) in let x : xs ≡ text = h.0 in let m : suc len ≡ length text = sym n in cc) in q))
+    rw (lt-true len (length (text ++ after)) there) (ap (λ (p : List ℕ × ℕ). let r : Result (Value × ℕ) Code = Ok (octets p.0, p.1) in r)
+    (let q : (take (suc len) (text ++ after), suc len) ≡ (
+      xs,
+      length text,
+    ) = (let t : take (suc len) (text ++ after) ≡ text = subst (λ (k : ℕ). take k (text ++ after) ≡ text) n (take-append_seam text after) in
+    let x : xs ≡ text = h.0 in let m : suc len ≡ length text = sym n in cc) in q))
 field-all character text (number n) after h = absurd h
 field-all character text (integer z) after h = absurd h
 field-all character text (octets xs) after h = character-found text xs after h.0 h.1
@@ -222,7 +270,8 @@ found : {A : Type 0} (x y : A) → let ok : A → Result A Code = λ a. Ok a in 
 found x y e = cc
 
 -- two fields of one form at one place are one
-pub field-unique : (form : Form) (a b : List ℕ) (v w : Value) (x y : List ℕ) → Spells form a v x → Spells form b w y → a ++ x ≡ b ++ y → (v ≡ w) × (length a ≡ length b)
+pub field-unique : (form : Form) (a b : List ℕ) (v w : Value) (x y : List ℕ) → Spells form a v x → Spells form b w y → a ++ x ≡ b ++ y
+    → (v ≡ w) × (length a ≡ length b)
 field-unique form a b v w x y p q e =
     let r : field_at form (a ++ x) ≡ Ok (w, length b) = rw e (field-all form b w y q) in
     let s : (v, length a) ≡ (w, length b) = found (v, length a) (w, length b) (sym (field-all form a v x p) ∙ r) in

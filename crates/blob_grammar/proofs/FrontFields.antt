@@ -1,5 +1,6 @@
 -- The fields that the plain reader takes are those of the longest valid front.
-use Rattle.std.proofs.Common.{◌≡◌, ℕ, zero, suc, ◌+◌, ◌<◌, Bool, true, false, ◌&&◌, List, [], ◌∷◌, ◌++◌, length, take, drop, Option, Some, Ok, Err, refl, sym, ap, subst, ◌∙◌, append_assoc, append-nil, arith, length-append}
+use Rattle.std.proofs.Common.{◌≡◌, ℕ, zero, suc, ◌+◌, ◌<◌, Bool, true, false, ◌&&◌, List, [], ◌∷◌, ◌++◌, length, take, drop, Option}
+use Rattle.std.proofs.Common.{Some, Ok, Err, refl, sym, ap, subst, ◌∙◌, append_assoc, append-nil, arith, length-append}
 use Rattle.std.specs.List.{flat_map}
 use Rattle.std.proofs.Math.Seq.{take-append_seam}
 use Rattle.std.proofs.lemmas.List.{length-drop}
@@ -7,7 +8,8 @@ use Rattle.ppdb_base.specs.declared.Code.{Code}
 use Rattle.blob_grammar.specs.Grammar.{Value, Form, Field, Grammar, Cut, with_value, cut, MayFollow, AtFront}
 use Rattle.blob_grammar.specs.Reading.{IsLongestFront}
 use Rattle.blob_grammar.specs.Places.{PlacedField, placed_of, HasFields}
-use Rattle.blob_grammar.specs.Reader.{field_at, is_empty, Step, field, stop, bad, stop_or, if_allowed, step_at, step_in, step, take_field, fields_for, fields_from, front_of}
+use Rattle.blob_grammar.specs.Reader.{field_at, is_empty, Step, field, stop, bad, stop_or, if_allowed, step_at, step_in, step}
+use Rattle.blob_grammar.specs.Reader.{take_field, fields_for, fields_from, front_of}
 use Rattle.blob_grammar.proofs.Fronts.{cut-push, front-push, longest_where_stuck, front-unique}
 use Rattle.blob_grammar.proofs.Readers.{whole_of, begun_of, StepIs, step-is}
 use Rattle.blob_grammar.proofs.Steps.{Takes, takes_in}
@@ -16,11 +18,14 @@ abbrev IsFront : {R : Type 0} → Grammar R → List ℕ → List Field → Type
 IsFront g blob fields = (after : List ℕ) × IsLongestFront g blob fields after
 
 step_fields : {R : Type 0} (g : Grammar R) (blob : List ℕ) (turns : ℕ) (fs : List Field) (bytes : List ℕ)
-    → ((gs : List Field) (rest : List ℕ) → length rest < turns → AtFront g blob gs rest → IsFront g blob (gs ++ fields_for turns g (whole_of g gs) (begun_of g gs) rest))
+    → ((gs : List Field) (rest : List ℕ) → length rest < turns → AtFront g blob gs rest
+    → IsFront g blob (gs ++ fields_for turns g (whole_of g gs) (begun_of g gs) rest))
     → length bytes < suc turns → AtFront g blob fs bytes → (s : Step) → StepIs g fs bytes (g.form (whole_of g fs) (begun_of g fs)) s
     → IsFront g blob (fs ++ take_field g (λ len w b. fields_for turns g w b (drop len bytes)) (cut g fs) bytes s)
-step_fields g blob turns fs bytes again few front stop h = subst (λ l. IsFront g blob l) (sym (append-nil fs)) (bytes, longest_where_stuck g blob fs bytes front h.1)
-step_fields g blob turns fs bytes again few front (bad code) h = subst (λ l. IsFront g blob l) (sym (append-nil fs)) (bytes, longest_where_stuck g blob fs bytes front h.2)
+step_fields g blob turns fs bytes again few front stop h =
+    subst (λ l. IsFront g blob l) (sym (append-nil fs)) (bytes, longest_where_stuck g blob fs bytes front h.1)
+step_fields g blob turns fs bytes again few front (bad code) h =
+    subst (λ l. IsFront g blob l) (sym (append-nil fs)) (bytes, longest_where_stuck g blob fs bytes front h.2)
 step_fields g blob turns fs bytes again few front (field value len) h =
     let f : Field = record { bytes = h.front.text; value = value } in
     let here : AtFront g blob fs (f.bytes ++ drop len bytes) = subst (λ b. AtFront g blob fs b) h.front.parts front in
@@ -33,18 +38,22 @@ step_fields g blob turns fs bytes again few front (field value len) h =
     let r' : IsFront g blob ((fs ++ f ∷ []) ++ fields_for turns g (with_value g (cut g fs) value).whole (with_value g (cut g fs) value).begun (drop len bytes))
     = subst (λ c. IsFront g blob ((fs ++ f ∷ []) ++ fields_for turns g c.whole c.begun (drop len bytes))) (cut-push g fs f) r in
     let taken : take len bytes ≡ h.front.text = seam h.front.text len bytes h.front.len_is h.front.parts in
-    subst (λ t. IsFront g blob (fs ++ (record { bytes = t; value = value } ∷ fields_for turns g (with_value g (cut g fs) value).whole (with_value g (cut g fs) value).begun (drop len bytes)))) (sym taken)
-    (subst (λ l. IsFront g blob l) (append_assoc fs (f ∷ []) (fields_for turns g (with_value g (cut g fs) value).whole (with_value g (cut g fs) value).begun (drop len bytes))) r')
+    subst (λ t. IsFront g blob (fs ++ (record { bytes = t; value = value } ∷ fields_for turns g (with_value g (cut g fs) value).whole
+    (with_value g (cut g fs) value).begun (drop len bytes)))) (sym taken)
+    (subst (λ l. IsFront g blob l) (append_assoc fs (f ∷ [])
+    (fields_for turns g (with_value g (cut g fs) value).whole (with_value g (cut g fs) value).begun (drop len bytes))) r')
   where
     seam : (text : List ℕ) (len : ℕ) (bytes : List ℕ) → length text ≡ len → bytes ≡ text ++ drop len bytes → take len bytes ≡ text
     seam text len bytes n e = ap (take len) e ∙ subst (λ (k : ℕ). take k (text ++ drop len bytes) ≡ text) n (take-append_seam text (drop len bytes))
 
-fields_for-longest : {R : Type 0} (g : Grammar R) (blob : List ℕ) (turns : ℕ) (fs : List Field) (bytes : List ℕ) → length bytes < turns → AtFront g blob fs bytes
+fields_for-longest : {R : Type 0} (g : Grammar R) (blob : List ℕ) (turns : ℕ) (fs : List Field) (bytes : List ℕ) → length bytes < turns
+    → AtFront g blob fs bytes
     → IsFront g blob (fs ++ fields_for turns g (whole_of g fs) (begun_of g fs) bytes)
 unfolding fields_for
 fields_for-longest g blob zero fs bytes few front = absurd (omega arith)
 fields_for-longest g blob (suc turns) fs bytes few front =
-    step_fields g blob turns fs bytes (λ gs rest l a. fields_for-longest g blob turns gs rest l a) few front (step g (whole_of g fs) (begun_of g fs) bytes) (step-is g fs bytes)
+    step_fields g blob turns fs bytes (λ gs rest l a. fields_for-longest g blob turns gs rest l a) few front (step g (whole_of g fs) (begun_of g fs) bytes)
+    (step-is g fs bytes)
 
 -- The plain reader takes the longest valid front.
 pub front_of-longest : {R : Type 0} (g : Grammar R) (blob : List ℕ) → (after : List ℕ) × IsLongestFront g blob (front_of g blob) after
@@ -52,53 +61,65 @@ unfolding fields_from
 front_of-longest g blob = fields_for-longest g blob (suc (length blob)) [] blob (omega arith) (record { bytes = refl; each = tt })
 
 -- Each longest valid front is the one that the plain reader takes.
-pub longest-front_of : {R : Type 0} (g : Grammar R) (blob : List ℕ) (fields : List Field) (after : List ℕ) → IsLongestFront g blob fields after → fields ≡ front_of g blob
+pub longest-front_of : {R : Type 0} (g : Grammar R) (blob : List ℕ) (fields : List Field) (after : List ℕ) → IsLongestFront g blob fields after
+    → fields ≡ front_of g blob
 longest-front_of g blob fields after h = let f = front_of-longest g blob in (front-unique g blob fields (front_of g blob) after f.0 h f.1).0
 
 -- What a walk tells of the fields that the plain reader takes.
-pub front_of-fields : {R X : Type 0} (g : Grammar R) (tell : PlacedField → List X) (blob : List ℕ) → HasFields g tell blob (flat_map tell (placed_of g (front_of g blob)))
+pub front_of-fields : {R X : Type 0} (g : Grammar R) (tell : PlacedField → List X) (blob : List ℕ)
+    → HasFields g tell blob (flat_map tell (placed_of g (front_of g blob)))
 front_of-fields g tell blob = let f = front_of-longest g blob in record { fields = front_of g blob; after = f.0; front = f.1; items_are = refl }
 
 -- There is one such list.
-pub fields-are : {R X : Type 0} (g : Grammar R) (tell : PlacedField → List X) (blob : List ℕ) (items : List X) → HasFields g tell blob items → items ≡ flat_map tell (placed_of g (front_of g blob))
+pub fields-are : {R X : Type 0} (g : Grammar R) (tell : PlacedField → List X) (blob : List ℕ) (items : List X) → HasFields g tell blob items
+    → items ≡ flat_map tell (placed_of g (front_of g blob))
 fields-are g tell blob items h = h.items_are ∙ ap (λ (fs : List Field). flat_map tell (placed_of g fs)) (longest-front_of g blob h.fields h.after h.front)
 
 -- ---- a step at a time
 
 same_take : {R : Type 0} (g : Grammar R) (h k : ℕ → List R → List Value → List Field) (place : Cut R) (bytes : List ℕ) (s : Step) → Takes bytes s
-    → ((len : ℕ) → length (drop len bytes) < length bytes → (w : List R) (b : List Value) → h len w b ≡ k len w b) → take_field g h place bytes s ≡ take_field g k place bytes s
-same_take g h k place bytes (field value len) less e = ap (λ (l : List Field). record { bytes = take len bytes; value = value } ∷ l) (e len (omega (arith, less.0, less.1, length-drop len bytes)) (with_value g place value).whole (with_value g place value).begun)
+    → ((len : ℕ) → length (drop len bytes) < length bytes → (w : List R) (b : List Value) → h len w b ≡ k len w b)
+    → take_field g h place bytes s ≡ take_field g k place bytes s
+same_take g h k place bytes (field value len) less e = ap (λ (l : List Field). record { bytes = take len bytes; value = value } ∷ l)
+    (e len (omega (arith, less.0, less.1, length-drop len bytes)) (with_value g place value).whole (with_value g place value).begun)
 same_take g h k place bytes stop less e = refl
 same_take g h k place bytes (bad code) less e = refl
 
-fields-enough : {R : Type 0} (g : Grammar R) (m n : ℕ) (whole : List R) (begun : List Value) (bytes : List ℕ) → length bytes < m → length bytes < n → fields_for m g whole begun bytes ≡ fields_for n g whole begun bytes
+fields-enough : {R : Type 0} (g : Grammar R) (m n : ℕ) (whole : List R) (begun : List Value) (bytes : List ℕ) → length bytes < m → length bytes < n
+    → fields_for m g whole begun bytes ≡ fields_for n g whole begun bytes
 unfolding fields_for
 fields-enough g zero n whole begun bytes p q = absurd (omega arith)
 fields-enough g (suc m) zero whole begun bytes p q = absurd (omega arith)
 fields-enough g (suc m) (suc n) whole begun bytes p q =
-    same_take g (λ len w b. fields_for m g w b (drop len bytes)) (λ len w b. fields_for n g w b (drop len bytes)) (record { whole = whole; begun = begun }) bytes (step g whole begun bytes) (takes_in g whole begun bytes (g.form whole begun))
+    same_take g (λ len w b. fields_for m g w b (drop len bytes)) (λ len w b. fields_for n g w b (drop len bytes))
+    (record { whole = whole; begun = begun }) bytes (step g whole begun bytes) (takes_in g whole begun bytes (g.form whole begun))
     (λ len less w b. fields-enough g m n w b (drop len bytes) (omega arith) (omega arith))
 
 -- The fields from a place on are what one step takes, and the fields from there on.
 pub fields_from-step : {R : Type 0} (g : Grammar R) (whole : List R) (begun : List Value) (bytes : List ℕ)
-    → fields_from g whole begun bytes ≡ take_field g (λ len w b. fields_from g w b (drop len bytes)) (record { whole = whole; begun = begun }) bytes (step g whole begun bytes)
+    → fields_from g whole begun bytes ≡ take_field g (λ len w b. fields_from g w b (drop len bytes))
+    (record { whole = whole; begun = begun }) bytes (step g whole begun bytes)
 unfolding fields_for fields_from
 fields_from-step g whole begun bytes =
-    same_take g (λ len w b. fields_for (length bytes) g w b (drop len bytes)) (λ len w b. fields_for (suc (length (drop len bytes))) g w b (drop len bytes)) (record { whole = whole; begun = begun }) bytes (step g whole begun bytes) (takes_in g whole begun bytes (g.form whole begun))
+    same_take g (λ len w b. fields_for (length bytes) g w b (drop len bytes)) (λ len w b. fields_for (suc (length (drop len bytes))) g w b (drop len bytes))
+    (record { whole = whole; begun = begun }) bytes (step g whole begun bytes) (takes_in g whole begun bytes (g.form whole begun))
     (λ len less w b. fields-enough g (length bytes) (suc (length (drop len bytes))) w b (drop len bytes) less (omega arith))
 
 abbrev place : {R : Type 0} → List R → List Value → Cut R
 place whole begun = record { whole = whole; begun = begun }
 
 fields_to : {R : Type 0} (g : Grammar R) (whole : List R) (begun : List Value) (bytes : List ℕ) (o : Option Form) (s : Step)
-    → g.form whole begun ≡ o → step_in g whole begun bytes o ≡ s → fields_from g whole begun bytes ≡ take_field g (λ len w b. fields_from g w b (drop len bytes)) (place whole begun) bytes s
+    → g.form whole begun ≡ o → step_in g whole begun bytes o ≡ s
+    → fields_from g whole begun bytes ≡ take_field g (λ len w b. fields_from g w b (drop len bytes)) (place whole begun) bytes s
 fields_to g whole begun bytes o s e f =
-    fields_from-step g whole begun bytes ∙ ap (take_field g (λ len w b. fields_from g w b (drop len bytes)) (place whole begun) bytes) (ap (step_in g whole begun bytes) e ∙ f)
+    fields_from-step g whole begun bytes ∙ ap (take_field g (λ len w b. fields_from g w b (drop len bytes)) (place whole begun) bytes)
+    (ap (step_in g whole begun bytes) e ∙ f)
 
 -- A field that is there and allowed is the first of them.
 pub fields-field : {R : Type 0} (g : Grammar R) (whole : List R) (begun : List Value) (bytes : List ℕ) (form : Form) (value : Value) (len : ℕ)
     → g.form whole begun ≡ Some form → field_at form bytes ≡ Ok (value, len) → g.allows whole begun value ≡ true
-    → fields_from g whole begun bytes ≡ record { bytes = take len bytes; value = value } ∷ fields_from g (with_value g (place whole begun) value).whole (with_value g (place whole begun) value).begun (drop len bytes)
+    → fields_from g whole begun bytes ≡ record { bytes = take len bytes; value = value } ∷ fields_from g (with_value g (place whole begun) value).whole
+    (with_value g (place whole begun) value).begun (drop len bytes)
 fields-field g whole begun bytes form value len expected found allowed =
     fields_to g whole begun bytes (Some form) (field value len) expected (ap (step_at g whole begun bytes) found ∙ ap (λ b. if_allowed b value len) allowed)
 
@@ -106,9 +127,11 @@ fields-field g whole begun bytes form value len expected found allowed =
 pub fields-out : {R : Type 0} (g : Grammar R) (whole : List R) (begun : List Value) (bytes : List ℕ) (form : Form) (value : Value) (len : ℕ)
     → g.form whole begun ≡ Some form → field_at form bytes ≡ Ok (value, len) → g.allows whole begun value ≡ false → fields_from g whole begun bytes ≡ []
 fields-out g whole begun bytes form value len expected found allowed =
-    fields_to g whole begun bytes (Some form) (step_at g whole begun bytes (Ok (value, len))) expected (ap (step_at g whole begun bytes) found) ∙ ap (λ b. take_field g (λ len w b. fields_from g w b (drop len bytes)) (place whole begun) bytes (if_allowed b value len)) allowed
+    fields_to g whole begun bytes (Some form) (step_at g whole begun bytes (Ok (value, len))) expected (ap (step_at g whole begun bytes) found)
+    ∙ ap (λ b. take_field g (λ len w b. fields_from g w b (drop len bytes)) (place whole begun) bytes (if_allowed b value len)) allowed
 
-no_step : {R : Type 0} (g : Grammar R) (goes_on : ℕ → List R → List Value → List Field) (c : Cut R) (bytes : List ℕ) (b : Bool) (code : Code) → take_field g goes_on c bytes (stop_or b code) ≡ []
+no_step : {R : Type 0} (g : Grammar R) (goes_on : ℕ → List R → List Value → List Field) (c : Cut R) (bytes : List ℕ) (b : Bool) (code : Code)
+    → take_field g goes_on c bytes (stop_or b code) ≡ []
 no_step g goes_on c bytes true code = refl
 no_step g goes_on c bytes false code = refl
 

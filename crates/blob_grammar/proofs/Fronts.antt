@@ -1,5 +1,6 @@
 -- Lists of fields at a blob's front: of two, one is a front of the other, so that the longest is one.
-use Rattle.std.proofs.Common.{◌≡◌, ℕ, ◌<◌, ◌≤◌, List, [], ◌∷◌, ◌++◌, length, Option, Some, refl, sym, ap, subst, ◌∙◌, append_assoc, append-nil, arith, inl, inr, length-append}
+use Rattle.std.proofs.Common.{◌≡◌, ℕ, ◌<◌, ◌≤◌, List, [], ◌∷◌, ◌++◌, length, Option, Some, refl, sym, ap, subst, ◌∙◌, append_assoc}
+use Rattle.std.proofs.Common.{append-nil, arith, inl, inr, length-append}
 use Rattle.std.proofs.lemmas.List.Sums.{fold-append}
 use Rattle.std.proofs.lemmas.Grind.{flat_map-append}
 use Rattle.std.proofs.lemmas.Bool.{cases_lt}
@@ -18,10 +19,13 @@ bytes-push fs f = flat_map-append (λ (x : Field). x.bytes) fs (f ∷ []) ∙ ap
 after-push : (fs : List Field) (f : Field) (left : List ℕ) → bytes_of fs ++ (f.bytes ++ left) ≡ bytes_of (fs ++ f ∷ []) ++ left
 after-push fs f left = sym (append_assoc (bytes_of fs) f.bytes left) ∙ ap (λ b. b ++ left) (sym (bytes-push fs f))
 
-pub follows-push : {R : Type 0} (g : Grammar R) (before fs : List Field) (f : Field) (left : List ℕ) → EachFollows g before fs (f.bytes ++ left) → MayFollow g (before ++ fs) f left → EachFollows g before (fs ++ f ∷ []) left
+pub follows-push : {R : Type 0} (g : Grammar R) (before fs : List Field) (f : Field) (left : List ℕ) → EachFollows g before fs (f.bytes ++ left)
+    → MayFollow g (before ++ fs) f left → EachFollows g before (fs ++ f ∷ []) left
 follows-push g before [] f left each one = (subst (λ b. MayFollow g b f left) (append-nil before) one, tt)
-follows-push g before (x ∷ fs) f left each one =
-    (subst (λ b. MayFollow g before x b) (after-push fs f left) each.0, follows-push g (before ++ x ∷ []) fs f left each.1 (subst (λ b. MayFollow g b f left) (sym (append_assoc before (x ∷ []) fs)) one))
+follows-push g before (x ∷ fs) f left each one = (
+  subst (λ b. MayFollow g before x b) (after-push fs f left) each.0,
+  follows-push g (before ++ x ∷ []) fs f left each.1 (subst (λ b. MayFollow g b f left) (sym (append_assoc before (x ∷ []) fs)) one),
+)
 
 pub front-push : {R : Type 0} (g : Grammar R) (blob : List ℕ) (fs : List Field) (f : Field) (left : List ℕ)
     → AtFront g blob fs (f.bytes ++ left) → MayFollow g fs f left → AtFront g blob (fs ++ f ∷ []) left
@@ -47,30 +51,38 @@ pub record IsFrontOf (fs gs : List Field) (x y : List ℕ) : Type 0 where
   pub longer : gs ≡ fs ++ more
   pub left : x ≡ bytes_of more ++ y
 
-same_form : {R : Type 0} (g : Grammar R) (before : List Field) (f h : Field) (x y : List ℕ) → MayFollow g before f x → MayFollow g before h y → f.bytes ++ x ≡ h.bytes ++ y → (f ≡ h) × (x ≡ y)
+same_form : {R : Type 0} (g : Grammar R) (before : List Field) (f h : Field) (x y : List ℕ) → MayFollow g before f x → MayFollow g before h y
+    → f.bytes ++ x ≡ h.bytes ++ y → (f ≡ h) × (x ≡ y)
 same_form g before f h x y p q e =
     let some_form : Form → Option Form = λ a. Some a in
     let s : some_form p.form ≡ some_form q.form = sym p.expected ∙ q.expected in
     let s' : p.form ≡ q.form = cc in
     let spelled : Spells p.form h.bytes h.value y = subst (λ a. Spells a h.bytes h.value y) (sym s') q.spelled in
     let u : (f.value ≡ h.value) × (length f.bytes ≡ length h.bytes) = field-unique p.form f.bytes h.bytes f.value h.value x y p.spelled spelled e in
-    let b : (f.bytes ≡ h.bytes) × (x ≡ y) = same_after f.bytes h.bytes x y u.1 e in
-    (let bytes : f.bytes ≡ h.bytes = b.0 in let value : f.value ≡ h.value = u.0 in ap (λ (t : List ℕ × Value). let r : Field = record { bytes = t.0; value = t.1 } in r) (let pair : (f.bytes, f.value) ≡ (h.bytes, h.value) = cc in pair), b.1)
+    let b : (f.bytes ≡ h.bytes) × (x ≡ y) = same_after f.bytes h.bytes x y u.1 e in (
+      let bytes : f.bytes ≡ h.bytes = b.0 in let value : f.value ≡ h.value = u.0 in
+          ap (λ (t : List ℕ × Value). let r : Field = record { bytes = t.0; value = t.1 } in r) (let pair : (f.bytes, f.value) ≡ (h.bytes, h.value) = cc in
+          pair),
+      b.1,
+    )
 
 pub compare : {R : Type 0} (g : Grammar R) (before fs gs : List Field) (x y : List ℕ) → EachFollows g before fs x → EachFollows g before gs y
     → bytes_of fs ++ x ≡ bytes_of gs ++ y → length fs ≤ length gs → IsFrontOf fs gs x y
 compare g before [] gs x y p q e l = record { more = gs; longer = refl; left = e }
 compare g before (f ∷ fs) [] x y p q e l = absurd (omega arith)
 compare g before (f ∷ fs) (h ∷ hs) x y p q e l =
-    let e' : f.bytes ++ (bytes_of fs ++ x) ≡ h.bytes ++ (bytes_of hs ++ y) = sym (append_assoc f.bytes (bytes_of fs) x) ∙ e ∙ append_assoc h.bytes (bytes_of hs) y in
+    let e' : f.bytes ++ (bytes_of fs ++ x) ≡ h.bytes ++ (bytes_of hs ++ y) =
+    sym (append_assoc f.bytes (bytes_of fs) x) ∙ e ∙ append_assoc h.bytes (bytes_of hs) y in
     let s : (f ≡ h) × (bytes_of fs ++ x ≡ bytes_of hs ++ y) = same_form g before f h (bytes_of fs ++ x) (bytes_of hs ++ y) p.0 q.0 e' in
     let q' : EachFollows g (before ++ f ∷ []) hs y = subst (λ (z : Field). EachFollows g (before ++ z ∷ []) hs y) (sym s.0) q.1 in
     let r : IsFrontOf fs hs x y = compare g (before ++ f ∷ []) fs hs x y p.1 q' s.1 (omega arith) in
     record { more = r.more; longer = (let a : f ≡ h = s.0 in let b : hs ≡ fs ++ r.more = r.longer in cc); left = r.left }
 
-follows-split : {R : Type 0} (g : Grammar R) (before fs gs : List Field) (left : List ℕ) → EachFollows g before (fs ++ gs) left → EachFollows g (before ++ fs) gs left
+follows-split : {R : Type 0} (g : Grammar R) (before fs gs : List Field) (left : List ℕ) → EachFollows g before (fs ++ gs) left
+    → EachFollows g (before ++ fs) gs left
 follows-split g before [] gs left h = subst (λ b. EachFollows g b gs left) (sym (append-nil before)) h
-follows-split g before (f ∷ fs) gs left h = subst (λ b. EachFollows g b gs left) (append_assoc before (f ∷ []) fs) (follows-split g (before ++ f ∷ []) fs gs left h.1)
+follows-split g before (f ∷ fs) gs left h =
+    subst (λ b. EachFollows g b gs left) (append_assoc before (f ∷ []) fs) (follows-split g (before ++ f ∷ []) fs gs left h.1)
 
 -- No field is allowed there.
 abbrev pub IsStuck : {R : Type 0} → Grammar R → List Field → List ℕ → Type 0
@@ -80,9 +92,11 @@ not_longer : {R : Type 0} (g : Grammar R) (fs more others : List Field) (after l
     → others ≡ fs ++ more → after ≡ bytes_of more ++ left → length fs < length others → ⊥
 not_longer g fs [] others after left stuck each longer e lt = omega (arith, ap length longer, length-append fs (let none : List Field = [] in none))
 not_longer g fs (f ∷ more) others after left stuck each longer e lt =
-    stuck f (bytes_of more ++ left) (e ∙ append_assoc f.bytes (bytes_of more) left) ((follows-split g [] fs (f ∷ more) left (subst (λ o. EachFollows g [] o left) longer each)).0)
+    stuck f (bytes_of more ++ left) (e ∙ append_assoc f.bytes (bytes_of more) left)
+    ((follows-split g [] fs (f ∷ more) left (subst (λ o. EachFollows g [] o left) longer each)).0)
 
-pub longest_where_stuck : {R : Type 0} (g : Grammar R) (blob : List ℕ) (fs : List Field) (after : List ℕ) → AtFront g blob fs after → IsStuck g fs after → IsLongestFront g blob fs after
+pub longest_where_stuck : {R : Type 0} (g : Grammar R) (blob : List ℕ) (fs : List Field) (after : List ℕ) → AtFront g blob fs after → IsStuck g fs after
+    → IsLongestFront g blob fs after
 longest_where_stuck g blob fs after front stuck = record {
   at_front = front;
   longest = λ others left at.
@@ -99,7 +113,8 @@ none_more fs gs [] x y l e left = (sym (e ∙ append-nil fs), left)
 none_more fs gs (f ∷ more) x y l e left = absurd (omega (arith, ap length e, length-append fs (f ∷ more)))
 
 -- There is one longest valid front.
-pub front-unique : {R : Type 0} (g : Grammar R) (blob : List ℕ) (fs gs : List Field) (x y : List ℕ) → IsLongestFront g blob fs x → IsLongestFront g blob gs y → (fs ≡ gs) × (x ≡ y)
+pub front-unique : {R : Type 0} (g : Grammar R) (blob : List ℕ) (fs gs : List Field) (x y : List ℕ) → IsLongestFront g blob fs x → IsLongestFront g blob gs y
+    → (fs ≡ gs) × (x ≡ y)
 front-unique g blob fs gs x y p q =
     let l : length gs ≤ length fs = p.longest gs y q.at_front in
     let k : length fs ≤ length gs = q.longest fs x p.at_front in

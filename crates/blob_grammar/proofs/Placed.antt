@@ -21,8 +21,10 @@ pub placed_err : {V : Type 0} (at : ℕ) (r : Result (V × ℕ) IntFault) (fault
 placed_err at (Ok y) fault e = absurd cc
 placed_err at (Err y) fault e = record { cause = y; was = refl; fault_is = sym (cc) }
 
-within : {V : Type 0} (P : List ℕ → V → Type 0) (bytes : List ℕ) (r : Result (V × ℕ) IntFault) (x : V × ℕ) → IntFound P bytes r → r ≡ Ok x → (1 ≤ x.1) × (x.1 ≤ length bytes)
-within {V = V} P bytes (Ok y) x f e = let s : y ≡ x = cc in let n : y.1 ≡ x.1 = ap (λ (p : V × ℕ). p.1) s in (omega (arith, f.positive), omega (arith, f.within))
+within : {V : Type 0} (P : List ℕ → V → Type 0) (bytes : List ℕ) (r : Result (V × ℕ) IntFault) (x : V × ℕ) → IntFound P bytes r → r ≡ Ok x
+    → (1 ≤ x.1) × (x.1 ≤ length bytes)
+within {V = V} P bytes (Ok y) x f e =
+    let s : y ≡ x = cc in let n : y.1 ≡ x.1 = ap (λ (p : V × ℕ). p.1) s in (omega (arith, f.positive), omega (arith, f.within))
 within P bytes (Err y) x f e = absurd cc
 
 -- a number lies within the bytes

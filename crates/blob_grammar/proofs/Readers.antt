@@ -1,10 +1,12 @@
 -- The plain reader gives the reading of a blob, and there is one.
-use Rattle.std.proofs.Common.{◌≡◌, ℕ, zero, suc, ◌+◌, ◌<◌, Bool, true, false, ◌&&◌, List, [], ◌∷◌, ◌++◌, length, drop, Option, Some, None, Result, Ok, Err, refl, sym, ap, subst, ◌∙◌, append_assoc, append-nil, arith, length-append, inl, inr}
+use Rattle.std.proofs.Common.{◌≡◌, ℕ, zero, suc, ◌+◌, ◌<◌, Bool, true, false, ◌&&◌, List, [], ◌∷◌, ◌++◌, length, drop, Option, Some}
+use Rattle.std.proofs.Common.{None, Result, Ok, Err, refl, sym, ap, subst, ◌∙◌, append_assoc, append-nil, arith, length-append, inl, inr}
 use Rattle.ppdb_base.specs.declared.Code.{Code}
 use Rattle.ppdb_base.specs.declared.Code.TheVariants.{BlobEnd, IntegerForm, ValueRange}
 use Rattle.blob_grammar.specs.Grammar.{Value, Form, character, Spells, Field, Grammar, Cut, closed, with_value, cut, bytes_of, MayFollow, AtFront}
 use Rattle.blob_grammar.specs.Reading.{IsFaultOf, IsOutOfRange, EndsWhole, Reading}
-use Rattle.blob_grammar.specs.Reader.{Left, field_at, is_empty, Step, field, stop, bad, stop_or, if_allowed, step_at, step_in, step, close_and, take_step, read_for, read_from}
+use Rattle.blob_grammar.specs.Reader.{Left, field_at, is_empty, Step, field, stop, bad, stop_or, if_allowed, step_at, step_in, step}
+use Rattle.blob_grammar.specs.Reader.{close_and, take_step, read_for, read_from}
 use Rattle.blob_grammar.proofs.Fields.{Front, FieldFound, field-is, field-all}
 use Rattle.blob_grammar.proofs.Fronts.{cut-push, bytes-push, front-push, IsStuck, longest_where_stuck}
 
@@ -27,7 +29,8 @@ StepIs g fs bytes o stop = EndsWhole g fs bytes × IsStuck g fs bytes
 StepIs g fs bytes o (bad code) = ¬ (EndsWhole g fs bytes) × IsFaultOf code o bytes × IsStuck g fs bytes
 
 -- where a form may come, only a field of that form is allowed
-form_of : {R : Type 0} (g : Grammar R) (fs : List Field) (form : Form) (f : Field) (left : List ℕ) → g.form (whole_of g fs) (begun_of g fs) ≡ Some form → MayFollow g fs f left → Spells form f.bytes f.value left
+form_of : {R : Type 0} (g : Grammar R) (fs : List Field) (form : Form) (f : Field) (left : List ℕ) → g.form (whole_of g fs) (begun_of g fs) ≡ Some form
+    → MayFollow g fs f left → Spells form f.bytes f.value left
 form_of g fs form f left e m =
     let some_form : Form → Option Form = λ a. Some a in
     let s : some_form m.form ≡ some_form form = sym m.expected ∙ e in
@@ -37,13 +40,16 @@ form_of g fs form f left e m =
 stuck_at_err : {R : Type 0} (g : Grammar R) (fs : List Field) (form : Form) (bytes : List ℕ) (code : Code)
     → g.form (whole_of g fs) (begun_of g fs) ≡ Some form → field_at form bytes ≡ Err code → IsStuck g fs bytes
 stuck_at_err g fs form bytes code e err f left parts m =
-    let there : field_at form bytes ≡ Ok (f.value, length f.bytes) = ap (field_at form) parts ∙ field-all form f.bytes f.value left (form_of g fs form f left e m) in
+    let there : field_at form bytes ≡ Ok (f.value, length f.bytes) =
+    ap (field_at form) parts ∙ field-all form f.bytes f.value left (form_of g fs form f left e m) in
     cc
 
 stuck_at_value : {R : Type 0} (g : Grammar R) (fs : List Field) (form : Form) (bytes : List ℕ) (x : Value × ℕ)
-    → g.form (whole_of g fs) (begun_of g fs) ≡ Some form → field_at form bytes ≡ Ok x → g.allows (whole_of g fs) (begun_of g fs) x.0 ≡ false → IsStuck g fs bytes
+    → g.form (whole_of g fs) (begun_of g fs) ≡ Some form → field_at form bytes ≡ Ok x → g.allows (whole_of g fs) (begun_of g fs) x.0 ≡ false
+    → IsStuck g fs bytes
 stuck_at_value g fs form bytes x e ok not f left parts m =
-    let there : field_at form bytes ≡ Ok (f.value, length f.bytes) = ap (field_at form) parts ∙ field-all form f.bytes f.value left (form_of g fs form f left e m) in
+    let there : field_at form bytes ≡ Ok (f.value, length f.bytes) =
+    ap (field_at form) parts ∙ field-all form f.bytes f.value left (form_of g fs form f left e m) in
     let same : x ≡ (f.value, length f.bytes) = cc in
     let value : x.0 ≡ f.value = ap (λ (p : Value × ℕ). p.0) same in
     let yes : g.allows (whole_of g fs) (begun_of g fs) f.value ≡ true = m.allowed in
@@ -72,7 +78,8 @@ not_whole [] m e w = let t : m ≡ true = w.1 in cc
 not_whole (b ∷ bs) m e w = let t : b ∷ bs ≡ [] = w.0 in cc
 
 ends_at : (form : Form) (bytes : List ℕ) → field_at form bytes ≡ Err BlobEnd → ((form ≡ character) → bytes ≡ []) → ¬ (IsOutOfRange (Some form) bytes)
-ends_at form bytes e empty (inl (f, left, parts, spelled)) = let there : field_at form bytes ≡ Ok (f.value, length f.bytes) = ap (field_at form) parts ∙ field-all form f.bytes f.value left spelled in cc
+ends_at form bytes e empty (inl (f, left, parts, spelled)) =
+    let there : field_at form bytes ≡ Ok (f.value, length f.bytes) = ap (field_at form) parts ∙ field-all form f.bytes f.value left spelled in cc
 ends_at form bytes e empty (inr r) = r.1 (empty r.0)
 
 fault_of : (form : Form) (bytes : List ℕ) (code : Code) → field_at form bytes ≡ Err code → FieldFound form bytes (Err code) → IsFaultOf code (Some form) bytes
@@ -91,14 +98,16 @@ err_step g fs form bytes code false e err found b =
     (not_whole bytes (g.may_stop (whole_of g fs) (begun_of g fs)) b, fault_of form bytes code err found, stuck_at_err g fs form bytes code e err)
 
 form_step : {R : Type 0} (g : Grammar R) (fs : List Field) (form : Form) (bytes : List ℕ) (r : Result (Value × ℕ) Code)
-    → g.form (whole_of g fs) (begun_of g fs) ≡ Some form → field_at form bytes ≡ r → FieldFound form bytes r → StepIs g fs bytes (Some form) (step_at g (whole_of g fs) (begun_of g fs) bytes r)
+    → g.form (whole_of g fs) (begun_of g fs) ≡ Some form → field_at form bytes ≡ r → FieldFound form bytes r
+    → StepIs g fs bytes (Some form) (step_at g (whole_of g fs) (begun_of g fs) bytes r)
 form_step g fs form bytes (Ok x) e is found = value_step g fs form bytes x (g.allows (whole_of g fs) (begun_of g fs) x.0) e is found refl
 form_step g fs form bytes (Err code) e is found = err_step g fs form bytes code (is_empty bytes && g.may_stop (whole_of g fs) (begun_of g fs)) e is found refl
 
 none_stuck : {R : Type 0} (g : Grammar R) (fs : List Field) (bytes : List ℕ) → g.form (whole_of g fs) (begun_of g fs) ≡ None → IsStuck g fs bytes
 none_stuck g fs bytes e f left parts m = let s : g.form (whole_of g fs) (begun_of g fs) ≡ Some m.form = m.expected in cc
 
-stop_step : {R : Type 0} (g : Grammar R) (fs : List Field) (b : Bool) → g.form (whole_of g fs) (begun_of g fs) ≡ None → g.may_stop (whole_of g fs) (begun_of g fs) ≡ b
+stop_step : {R : Type 0} (g : Grammar R) (fs : List Field) (b : Bool) → g.form (whole_of g fs) (begun_of g fs) ≡ None
+    → g.may_stop (whole_of g fs) (begun_of g fs) ≡ b
     → StepIs g fs [] None (stop_or b BlobEnd)
 stop_step g fs true e m = ((refl, m), none_stuck g fs [] e)
 stop_step g fs false e m = (λ w. let t : g.may_stop (whole_of g fs) (begun_of g fs) ≡ true = w.1 in cc, (λ n. n, λ n. n refl), none_stuck g fs [] e)
@@ -116,7 +125,8 @@ step-is g fs bytes = some_step g fs bytes (g.form (whole_of g fs) (begun_of g fs
 -- ---- the whole reader
 
 pub closed_reads : {R : Type 0} (g : Grammar R) (blob : List ℕ) (k : List R → List Value → Left R) (whole : List R) (begun : List Value) (o : Option R)
-    → Reading g blob ((closed o whole begun).whole ++ (k (closed o whole begun).whole (closed o whole begun).begun).items) (k (closed o whole begun).whole (closed o whole begun).begun).fault
+    → Reading g blob ((closed o whole begun).whole ++ (k (closed o whole begun).whole (closed o whole begun).begun).items)
+    (k (closed o whole begun).whole (closed o whole begun).begun).fault
     → Reading g blob (whole ++ (close_and k whole begun o).items) (close_and k whole begun o).fault
 closed_reads g blob k whole begun None h = h
 closed_reads g blob k whole begun (Some r) h =
@@ -127,11 +137,15 @@ abbrev Reads : {R : Type 0} → Grammar R → List ℕ → Cut R → Left R → 
 Reads g blob c left = Reading g blob (c.whole ++ left.items) left.fault
 
 step_reads : {R : Type 0} (g : Grammar R) (blob : List ℕ) (turns : ℕ) (fs : List Field) (bytes : List ℕ)
-    → ((gs : List Field) (rest : List ℕ) → length rest < turns → AtFront g blob gs rest → Reads g blob (cut g gs) (read_for turns g (whole_of g gs) (begun_of g gs) (length (bytes_of gs)) rest))
+    → ((gs : List Field) (rest : List ℕ) → length rest < turns → AtFront g blob gs rest
+    → Reads g blob (cut g gs) (read_for turns g (whole_of g gs) (begun_of g gs) (length (bytes_of gs)) rest))
     → length bytes < suc turns → AtFront g blob fs bytes → (s : Step) → StepIs g fs bytes (g.form (whole_of g fs) (begun_of g fs)) s
-    → Reads g blob (cut g fs) (take_step g (λ len w b. read_for turns g w b (length (bytes_of fs) + len) (drop len bytes)) (whole_of g fs) (begun_of g fs) (length (bytes_of fs)) s)
-step_reads g blob turns fs bytes again few front stop h = record { fields = fs; after = bytes; front = longest_where_stuck g blob fs bytes front h.1; made = append-nil (whole_of g fs); ends = h.0 }
-step_reads g blob turns fs bytes again few front (bad code) h = record { fields = fs; after = bytes; front = longest_where_stuck g blob fs bytes front h.2; made = append-nil (whole_of g fs); ends = (h.0, refl, h.1) }
+    → Reads g blob (cut g fs) (take_step g (λ len w b. read_for turns g w b (length (bytes_of fs) + len) (drop len bytes)) (whole_of g fs) (begun_of g fs)
+    (length (bytes_of fs)) s)
+step_reads g blob turns fs bytes again few front stop h =
+    record { fields = fs; after = bytes; front = longest_where_stuck g blob fs bytes front h.1; made = append-nil (whole_of g fs); ends = h.0 }
+step_reads g blob turns fs bytes again few front (bad code) h =
+    record { fields = fs; after = bytes; front = longest_where_stuck g blob fs bytes front h.2; made = append-nil (whole_of g fs); ends = (h.0, refl, h.1) }
 step_reads g blob turns fs bytes again few front (field value len) h =
     let f : Field = record { bytes = h.front.text; value = value } in
     let here : AtFront g blob fs (f.bytes ++ drop len bytes) = subst (λ b. AtFront g blob fs b) h.front.parts front in
@@ -140,20 +154,26 @@ step_reads g blob turns fs bytes again few front (field value len) h =
     let parts : length bytes ≡ length (f.bytes ++ drop len bytes) = ap length h.front.parts in
     let sum : length (f.bytes ++ drop len bytes) ≡ length f.bytes + length (drop len bytes) = length-append f.bytes (drop len bytes) in
     let fewer : length (drop len bytes) < turns = omega (arith, h.front.len_is, h.front.positive) in
-    let at : length (bytes_of (fs ++ f ∷ [])) ≡ length (bytes_of fs) + len = ap length (bytes-push fs f) ∙ length-append (bytes_of fs) f.bytes ∙ ap (λ n. length (bytes_of fs) + n) h.front.len_is in
+    let at : length (bytes_of (fs ++ f ∷ [])) ≡ length (bytes_of fs) + len =
+    ap length (bytes-push fs f) ∙ length-append (bytes_of fs) f.bytes ∙ ap (λ n. length (bytes_of fs) + n) h.front.len_is in
     let r = again (fs ++ f ∷ []) (drop len bytes) fewer next in
-    let r' : Reads g blob (cut g (fs ++ f ∷ [])) (read_for turns g (whole_of g (fs ++ f ∷ [])) (begun_of g (fs ++ f ∷ [])) (length (bytes_of fs) + len) (drop len bytes))
+    let r' : Reads g blob (cut g (fs ++ f ∷ [])) (read_for turns g (whole_of g (fs ++ f ∷ [])) (begun_of g (fs ++ f ∷ [])) (length (bytes_of fs) + len)
+    (drop len bytes))
     = subst (λ n. Reads g blob (cut g (fs ++ f ∷ [])) (read_for turns g (whole_of g (fs ++ f ∷ [])) (begun_of g (fs ++ f ∷ [])) n (drop len bytes))) at r in
-    let r'' : Reads g blob (with_value g (cut g fs) value) (read_for turns g (with_value g (cut g fs) value).whole (with_value g (cut g fs) value).begun (length (bytes_of fs) + len) (drop len bytes))
+    let r'' : Reads g blob (with_value g (cut g fs) value)
+    (read_for turns g (with_value g (cut g fs) value).whole (with_value g (cut g fs) value).begun (length (bytes_of fs) + len) (drop len bytes))
     = subst (λ c. Reads g blob c (read_for turns g c.whole c.begun (length (bytes_of fs) + len) (drop len bytes))) (cut-push g fs f) r' in
-    closed_reads g blob (λ w b. read_for turns g w b (length (bytes_of fs) + len) (drop len bytes)) (whole_of g fs) (begun_of g fs ++ value ∷ []) (g.record_of (whole_of g fs) (begun_of g fs ++ value ∷ [])) r''
+    closed_reads g blob (λ w b. read_for turns g w b (length (bytes_of fs) + len) (drop len bytes)) (whole_of g fs) (begun_of g fs ++ value ∷ [])
+    (g.record_of (whole_of g fs) (begun_of g fs ++ value ∷ [])) r''
 
-pub read_for-reads : {R : Type 0} (g : Grammar R) (blob : List ℕ) (turns : ℕ) (fs : List Field) (bytes : List ℕ) → length bytes < turns → AtFront g blob fs bytes
+pub read_for-reads : {R : Type 0} (g : Grammar R) (blob : List ℕ) (turns : ℕ) (fs : List Field) (bytes : List ℕ) → length bytes < turns
+    → AtFront g blob fs bytes
     → Reads g blob (cut g fs) (read_for turns g (whole_of g fs) (begun_of g fs) (length (bytes_of fs)) bytes)
 unfolding read_for
 read_for-reads g blob zero fs bytes few front = absurd (omega arith)
 read_for-reads g blob (suc turns) fs bytes few front =
-    step_reads g blob turns fs bytes (λ gs rest l a. read_for-reads g blob turns gs rest l a) few front (step g (whole_of g fs) (begun_of g fs) bytes) (step-is g fs bytes)
+    step_reads g blob turns fs bytes (λ gs rest l a. read_for-reads g blob turns gs rest l a) few front (step g (whole_of g fs) (begun_of g fs) bytes)
+    (step-is g fs bytes)
 
 -- What is left at the start is the blob's reading.
 pub read_from-reads : {R : Type 0} (g : Grammar R) (blob : List ℕ) → Reading g blob (read_from g [] [] 0 blob).items (read_from g [] [] 0 blob).fault

@@ -1,11 +1,13 @@
 -- The plain reader a step at a time, and the records before a place seen through what the grammar asks of them.
-use Rattle.std.proofs.Common.{◌≡◌, ℕ, zero, suc, ◌+◌, ◌<◌, ◌≤◌, Bool, true, false, ◌&&◌, List, [], ◌∷◌, ◌++◌, length, drop, Option, Some, None, Result, Ok, Err, ltb, refl, ap, ◌∙◌, arith}
+use Rattle.std.proofs.Common.{◌≡◌, ℕ, zero, suc, ◌+◌, ◌<◌, ◌≤◌, Bool, true, false, ◌&&◌, List, [], ◌∷◌, ◌++◌, length, drop, Option, Some}
+use Rattle.std.proofs.Common.{None, Result, Ok, Err, ltb, refl, ap, ◌∙◌, arith}
 use Rattle.ppdb_base.specs.declared.Code.{Code}
 use Rattle.ppdb_base.specs.declared.Code.TheVariants.{BlobEnd, ValueRange}
 use Rattle.std.proofs.lemmas.List.{length-drop, drop-drop, drop_all}
 use Rattle.ppdb_base.specs.declared.BlobFault.{BlobFault}
 use Rattle.blob_grammar.specs.Grammar.{Value, Form, unsigned, signed, byte, word, fixed, rest, character, Grammar}
-use Rattle.blob_grammar.specs.Reader.{Left, field_at, unsigned_at, signed_at, is_empty, Step, field, stop, bad, stop_or, if_allowed, step_at, step_in, step, push, close_and, take_step, read_for, read_from}
+use Rattle.blob_grammar.specs.Reader.{Left, field_at, unsigned_at, signed_at, is_empty, Step, field, stop, bad, stop_or, if_allowed}
+use Rattle.blob_grammar.specs.Reader.{step_at, step_in, step, push, close_and, take_step, read_for, read_from}
 use Rattle.blob_grammar.proofs.Fields.{Front, FieldFound, field-is}
 
 -- ---- the turns do not matter, if there are enough
@@ -24,32 +26,48 @@ takes_stop : (bytes : List ℕ) (b : Bool) (code : Code) → Takes bytes (stop_o
 takes_stop bytes true code = tt
 takes_stop bytes false code = tt
 
-takes_form : {R : Type 0} (g : Grammar R) (whole : List R) (begun : List Value) (bytes : List ℕ) (form : Form) (r : Result (Value × ℕ) Code) → FieldFound form bytes r → Takes bytes (step_at g whole begun bytes r)
-takes_form g whole begun bytes form (Ok x) f = takes_value bytes form x (g.allows whole begun x.0) (record { text = f.text; parts = f.parts; spelled = tt; len_is = f.len_is; positive = f.positive; within = f.within })
+takes_form : {R : Type 0} (g : Grammar R) (whole : List R) (begun : List Value) (bytes : List ℕ) (form : Form) (r : Result (Value × ℕ) Code)
+    → FieldFound form bytes r → Takes bytes (step_at g whole begun bytes r)
+takes_form g whole begun bytes form (Ok x) f =
+    takes_value bytes form x (g.allows whole begun x.0) (record {
+      text = f.text;
+      parts = f.parts;
+      spelled = tt;
+      len_is = f.len_is;
+      positive = f.positive;
+      within = f.within;
+    })
 takes_form g whole begun bytes form (Err code) f = takes_stop bytes (is_empty bytes && g.may_stop whole begun) code
 
-pub takes_in : {R : Type 0} (g : Grammar R) (whole : List R) (begun : List Value) (bytes : List ℕ) (o : Option Form) → Takes bytes (step_in g whole begun bytes o)
+pub takes_in : {R : Type 0} (g : Grammar R) (whole : List R) (begun : List Value) (bytes : List ℕ) (o : Option Form)
+    → Takes bytes (step_in g whole begun bytes o)
 takes_in g whole begun bytes (Some form) = takes_form g whole begun bytes form (field_at form bytes) (field-is form bytes)
 takes_in g whole begun [] None = takes_stop [] (g.may_stop whole begun) BlobEnd
 takes_in g whole begun (b ∷ bytes) None = tt
 
 -- the reader goes on alike by two continuations that agree after the field
-same_close : {R : Type 0} (h k : List R → List Value → Left R) (whole : List R) (begun : List Value) (o : Option R) → ((w : List R) (b : List Value) → h w b ≡ k w b) → close_and h whole begun o ≡ close_and k whole begun o
+same_close : {R : Type 0} (h k : List R → List Value → Left R) (whole : List R) (begun : List Value) (o : Option R)
+    → ((w : List R) (b : List Value) → h w b ≡ k w b) → close_and h whole begun o ≡ close_and k whole begun o
 same_close h k whole begun None e = e whole begun
 same_close h k whole begun (Some r) e = ap (λ left. push r left) (e (whole ++ r ∷ []) [])
 
-same_take : {R : Type 0} (g : Grammar R) (h k : ℕ → List R → List Value → Left R) (whole : List R) (begun : List Value) (at : ℕ) (bytes : List ℕ) (s : Step) → Takes bytes s
-    → ((len : ℕ) → length (drop len bytes) < length bytes → (w : List R) (b : List Value) → h len w b ≡ k len w b) → take_step g h whole begun at s ≡ take_step g k whole begun at s
-same_take g h k whole begun at bytes (field value len) less e = same_close (h len) (k len) whole (begun ++ value ∷ []) (g.record_of whole (begun ++ value ∷ [])) (e len (omega (arith, less.0, less.1, length-drop len bytes)))
+same_take : {R : Type 0} (g : Grammar R) (h k : ℕ → List R → List Value → Left R) (whole : List R) (begun : List Value) (at : ℕ) (bytes : List ℕ) (s : Step)
+    → Takes bytes s
+    → ((len : ℕ) → length (drop len bytes) < length bytes → (w : List R) (b : List Value) → h len w b ≡ k len w b)
+    → take_step g h whole begun at s ≡ take_step g k whole begun at s
+same_take g h k whole begun at bytes (field value len) less e = same_close (h len) (k len) whole (begun ++ value ∷ []) (g.record_of whole (begun ++ value ∷ []))
+    (e len (omega (arith, less.0, less.1, length-drop len bytes)))
 same_take g h k whole begun at bytes stop less e = refl
 same_take g h k whole begun at bytes (bad code) less e = refl
 
-pub enough : {R : Type 0} (g : Grammar R) (m n : ℕ) (whole : List R) (begun : List Value) (at : ℕ) (bytes : List ℕ) → length bytes < m → length bytes < n → read_for m g whole begun at bytes ≡ read_for n g whole begun at bytes
+pub enough : {R : Type 0} (g : Grammar R) (m n : ℕ) (whole : List R) (begun : List Value) (at : ℕ) (bytes : List ℕ) → length bytes < m → length bytes < n
+    → read_for m g whole begun at bytes ≡ read_for n g whole begun at bytes
 unfolding read_for
 enough g zero n whole begun at bytes p q = absurd (omega arith)
 enough g (suc m) zero whole begun at bytes p q = absurd (omega arith)
 enough g (suc m) (suc n) whole begun at bytes p q =
-    same_take g (λ len w b. read_for m g w b (at + len) (drop len bytes)) (λ len w b. read_for n g w b (at + len) (drop len bytes)) whole begun at bytes (step g whole begun bytes) (takes_in g whole begun bytes (g.form whole begun))
+    same_take g (λ len w b. read_for m g w b (at + len) (drop len bytes)) (λ len w b. read_for n g w b (at + len) (drop len bytes)) whole begun at bytes
+    (step g whole begun bytes) (takes_in g whole begun bytes (g.form whole begun))
     (λ len less w b. enough g m n w b (at + len) (drop len bytes) (omega arith) (omega arith))
 
 -- What is left is what one step takes, and what is left then.
@@ -57,7 +75,8 @@ pub read_from-step : {R : Type 0} (g : Grammar R) (whole : List R) (begun : List
     → read_from g whole begun at bytes ≡ take_step g (λ len w b. read_from g w b (at + len) (drop len bytes)) whole begun at (step g whole begun bytes)
 unfolding read_for read_from
 read_from-step g whole begun at bytes =
-    same_take g (λ len w b. read_for (length bytes) g w b (at + len) (drop len bytes)) (λ len w b. read_for (suc (length (drop len bytes))) g w b (at + len) (drop len bytes)) whole begun at bytes (step g whole begun bytes) (takes_in g whole begun bytes (g.form whole begun))
+    same_take g (λ len w b. read_for (length bytes) g w b (at + len) (drop len bytes)) (λ len w b. read_for (suc (length (drop len bytes))) g w b (at + len)
+    (drop len bytes)) whole begun at bytes (step g whole begun bytes) (takes_in g whole begun bytes (g.form whole begun))
     (λ len less w b. enough g (length bytes) (suc (length (drop len bytes))) w b (at + len) (drop len bytes) less (omega arith))
 
 -- ---- what came before, seen through what the grammar asks of it
@@ -70,16 +89,19 @@ pub record Alike {R : Type 0} (g h : Grammar R) (E : List R → List R → Type 
   pub may_stop : (a b : List R) (vs : List Value) → E a b → g.may_stop a vs ≡ h.may_stop b vs
   pub push : (a b : List R) (r : R) → E a b → E (a ++ r ∷ []) (b ++ r ∷ [])
 
-step_at-alike : {R : Type 0} (g h : Grammar R) (E : List R → List R → Type 0) → Alike g h E → (a b : List R) (vs : List Value) (bytes : List ℕ) (r : Result (Value × ℕ) Code) → E a b → step_at g a vs bytes r ≡ step_at h b vs bytes r
+step_at-alike : {R : Type 0} (g h : Grammar R) (E : List R → List R → Type 0) → Alike g h E → (a b : List R) (vs : List Value) (bytes : List ℕ)
+    (r : Result (Value × ℕ) Code) → E a b → step_at g a vs bytes r ≡ step_at h b vs bytes r
 step_at-alike g h E k a b vs bytes (Ok x) e = ap (λ t. if_allowed t x.0 x.1) (k.allows a b vs x.0 e)
 step_at-alike g h E k a b vs bytes (Err code) e = ap (λ t. stop_or (is_empty bytes && t) code) (k.may_stop a b vs e)
 
-step_in-alike : {R : Type 0} (g h : Grammar R) (E : List R → List R → Type 0) → Alike g h E → (a b : List R) (vs : List Value) (bytes : List ℕ) (o : Option Form) → E a b → step_in g a vs bytes o ≡ step_in h b vs bytes o
+step_in-alike : {R : Type 0} (g h : Grammar R) (E : List R → List R → Type 0) → Alike g h E → (a b : List R) (vs : List Value) (bytes : List ℕ)
+    (o : Option Form) → E a b → step_in g a vs bytes o ≡ step_in h b vs bytes o
 step_in-alike g h E k a b vs bytes (Some form) e = step_at-alike g h E k a b vs bytes (field_at form bytes) e
 step_in-alike g h E k a b vs [] None e = ap (λ t. stop_or t BlobEnd) (k.may_stop a b vs e)
 step_in-alike g h E k a b vs (x ∷ bytes) None e = refl
 
-take-alike : {R : Type 0} (g h : Grammar R) (E : List R → List R → Type 0) → Alike g h E → (on_g on_h : ℕ → List R → List Value → Left R) (a b : List R) (vs : List Value) (at : ℕ) (s : Step) → E a b
+take-alike : {R : Type 0} (g h : Grammar R) (E : List R → List R → Type 0) → Alike g h E → (on_g on_h : ℕ → List R → List Value → Left R) (a b : List R)
+    (vs : List Value) (at : ℕ) (s : Step) → E a b
     → ((len : ℕ) (c d : List R) (ws : List Value) → E c d → on_g len c ws ≡ on_h len d ws) → take_step g on_g a vs at s ≡ take_step h on_h b vs at s
 take-alike g h E k on_g on_h a b vs at stop e again = refl
 take-alike g h E k on_g on_h a b vs at (bad code) e again = refl
@@ -90,7 +112,8 @@ take-alike {R = R} g h E k on_g on_h a b vs at (field value len) e again =
     close-alike None = again len a b (vs ++ value ∷ []) e
     close-alike (Some r) = ap (push r) (again len (a ++ r ∷ []) (b ++ r ∷ []) [] (k.push a b r e))
 
-read_for-alike : {R : Type 0} (g h : Grammar R) (E : List R → List R → Type 0) → Alike g h E → (turns : ℕ) (a b : List R) (vs : List Value) (at : ℕ) (bytes : List ℕ) → E a b → read_for turns g a vs at bytes ≡ read_for turns h b vs at bytes
+read_for-alike : {R : Type 0} (g h : Grammar R) (E : List R → List R → Type 0) → Alike g h E → (turns : ℕ) (a b : List R) (vs : List Value) (at : ℕ)
+    (bytes : List ℕ) → E a b → read_for turns g a vs at bytes ≡ read_for turns h b vs at bytes
 unfolding read_for
 read_for-alike g h E k zero a b vs at bytes e = refl
 read_for-alike {R = R} g h E k (suc turns) a b vs at bytes e =
@@ -100,7 +123,8 @@ read_for-alike {R = R} g h E k (suc turns) a b vs at bytes e =
     ∙ take-alike g h E k on_g on_h a b vs at (step h b vs bytes) e (λ len c d ws f. read_for-alike g h E k turns c d ws (at + len) (drop len bytes) f)
 
 -- What is left depends on the records before it through E alone.
-pub read_from-alike : {R : Type 0} (g h : Grammar R) (E : List R → List R → Type 0) → Alike g h E → (a b : List R) (vs : List Value) (at : ℕ) (bytes : List ℕ) → E a b → read_from g a vs at bytes ≡ read_from h b vs at bytes
+pub read_from-alike : {R : Type 0} (g h : Grammar R) (E : List R → List R → Type 0) → Alike g h E → (a b : List R) (vs : List Value) (at : ℕ) (bytes : List ℕ)
+    → E a b → read_from g a vs at bytes ≡ read_from h b vs at bytes
 unfolding read_from
 read_from-alike g h E k a b vs at bytes e = read_for-alike g h E k (suc (length bytes)) a b vs at bytes e
 
@@ -126,10 +150,12 @@ pub left-field : {R : Type 0} (g : Grammar R) (whole : List R) (begun : List Val
     → g.form whole begun ≡ Some form → field_at form (drop at blob) ≡ Ok (value, len) → g.allows whole begun value ≡ true
     → left_at g whole begun blob at ≡ close_and (λ w b. left_at g w b blob (at + len)) whole (begun ++ value ∷ []) (g.record_of whole (begun ++ value ∷ []))
 left-field {R = R} g whole begun blob at form value len expected found allowed =
-    to_step g whole begun blob at (Some form) (field value len) expected (ap (step_at g whole begun (drop at blob)) found ∙ ap (λ b. if_allowed b value len) allowed)
+    to_step g whole begun blob at (Some form) (field value len) expected (ap (step_at g whole begun (drop at blob)) found
+    ∙ ap (λ b. if_allowed b value len) allowed)
     ∙ goes_on (g.record_of whole (begun ++ value ∷ []))
   where
-    goes_on : (o : Option R) → close_and (λ w b. read_from g w b (at + len) (drop len (drop at blob))) whole (begun ++ value ∷ []) o ≡ close_and (λ w b. left_at g w b blob (at + len)) whole (begun ++ value ∷ []) o
+    goes_on : (o : Option R) → close_and (λ w b. read_from g w b (at + len) (drop len (drop at blob))) whole (begun ++ value ∷ []) o
+        ≡ close_and (λ w b. left_at g w b blob (at + len)) whole (begun ++ value ∷ []) o
     goes_on None = ap (read_from g whole (begun ++ value ∷ []) (at + len)) (drop-drop len at blob)
     goes_on (Some r) = ap (λ bytes. push r (read_from g (whole ++ r ∷ []) [] (at + len) bytes)) (drop-drop len at blob)
 
@@ -138,7 +164,8 @@ pub left-out : {R : Type 0} (g : Grammar R) (whole : List R) (begun : List Value
     → g.form whole begun ≡ Some form → field_at form (drop at blob) ≡ Ok (value, len) → g.allows whole begun value ≡ false
     → left_at g whole begun blob at ≡ nothing_left (Some (record { code = ValueRange; byte = at }))
 left-out g whole begun blob at form value len expected found allowed =
-    to_step g whole begun blob at (Some form) (bad ValueRange) expected (ap (step_at g whole begun (drop at blob)) found ∙ ap (λ b. if_allowed b value len) allowed)
+    to_step g whole begun blob at (Some form) (bad ValueRange) expected (ap (step_at g whole begun (drop at blob)) found
+    ∙ ap (λ b. if_allowed b value len) allowed)
 
 pub not_empty : (blob : List ℕ) (at : ℕ) → at < length blob → is_empty (drop at blob) ≡ false
 not_empty blob at less = some (drop at blob) (omega (arith, length-drop at blob))
@@ -174,4 +201,5 @@ pub left-end : {R : Type 0} (g : Grammar R) (whole : List R) (begun : List Value
 left-end g whole begun blob at form expected ends stops =
     let none = no_field form in
     let bytes : drop at blob ≡ [] = drop_all at blob (omega arith) in
-    to_step g whole begun blob at (Some form) stop expected (ap (λ b. step_at g whole begun b (field_at form b)) bytes ∙ ap (step_at g whole begun []) none.1 ∙ ap (λ b. stop_or b none.0) stops)
+    to_step g whole begun blob at (Some form) stop expected (ap (λ b. step_at g whole begun b (field_at form b)) bytes ∙ ap (step_at g whole begun []) none.1
+    ∙ ap (λ b. stop_or b none.0) stops)

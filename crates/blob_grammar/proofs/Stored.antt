@@ -1,5 +1,6 @@
 -- What is known of a compressed number at a place of a blob, as what stands at the front of the bytes from there.
-use Rattle.std.proofs.Common.{◌≡◌, ℕ, suc, ◌+◌, ◌<◌, ◌≤◌, true, false, ltb, List, [], ◌∷◌, ◌++◌, length, take, drop, Result, Ok, Err, refl, sym, ap, ◌∙◌, arith, ℤ, inl, inr}
+use Rattle.std.proofs.Common.{◌≡◌, ℕ, suc, ◌+◌, ◌<◌, ◌≤◌, true, false, ltb, List, [], ◌∷◌, ◌++◌, length, take, drop, Result, Ok, Err}
+use Rattle.std.proofs.Common.{refl, sym, ap, ◌∙◌, arith, ℤ, inl, inr}
 use Rattle.std.specs.Prelude.{◌↔◌, slice_index}
 use Rattle.std.proofs.Math.Seq.{drop-cons}
 use Rattle.std.proofs.lemmas.List.{take-append-drop, length-take-le, length-drop, drop_all}
@@ -26,12 +27,14 @@ parts Spells bytes at v len h =
 pub unsigned-stands : (bytes : List ℕ) (at : ℕ) (v len : ℕ) → StandsAt SpellsUnsigned bytes at v len → unsigned_at (drop at bytes) ≡ Ok (v, len)
 unsigned-stands bytes at v len h =
     let p = parts SpellsUnsigned bytes at v len h in
-    ap unsigned_at p.0 ∙ unsigned-all (take len (drop at bytes)) v (drop len (drop at bytes)) h.spelled ∙ ap (λ (n : ℕ). let r : Result (ℕ × ℕ) IntFault = Ok (v, n) in r) p.1
+    ap unsigned_at p.0 ∙ unsigned-all (take len (drop at bytes)) v (drop len (drop at bytes)) h.spelled
+    ∙ ap (λ (n : ℕ). let r : Result (ℕ × ℕ) IntFault = Ok (v, n) in r) p.1
 
 pub signed-stands : (bytes : List ℕ) (at : ℕ) (v : ℤ) (len : ℕ) → StandsAt SpellsSigned bytes at v len → signed_at (drop at bytes) ≡ Ok (v, len)
 signed-stands bytes at v len h =
     let p = parts SpellsSigned bytes at v len h in
-    ap signed_at p.0 ∙ signed-all (take len (drop at bytes)) v (drop len (drop at bytes)) h.spelled ∙ ap (λ (n : ℕ). let r : Result (ℤ × ℕ) IntFault = Ok (v, n) in r) p.1
+    ap signed_at p.0 ∙ signed-all (take len (drop at bytes)) v (drop len (drop at bytes)) h.spelled
+    ∙ ap (λ (n : ℕ). let r : Result (ℤ × ℕ) IntFault = Ok (v, n) in r) p.1
 
 form-front : (b : ℕ) (bs : List ℕ) → 0xE0 ≤ b → unsigned_at (b ∷ bs) ≡ Err NoForm
 unfolding unsigned_at
@@ -68,7 +71,8 @@ none-front = refl
 unsigned-no_form : (bytes : List ℕ) (at : ℕ) → HasNoForm bytes at → unsigned_at (drop at bytes) ≡ Err NoForm
 unsigned-no_form bytes at h = ap unsigned_at (drop-cons bytes at 0 h.0) ∙ form-front (slice_index bytes at) (drop (suc at) bytes) h.1
 
-cut-left : (bytes : List ℕ) (at : ℕ) → at < length bytes → slice_index bytes at < 0xE0 → length bytes < at + len_named (slice_index bytes at) → unsigned_at (drop at bytes) ≡ Err End
+cut-left : (bytes : List ℕ) (at : ℕ) → at < length bytes → slice_index bytes at < 0xE0 → length bytes < at + len_named (slice_index bytes at)
+    → unsigned_at (drop at bytes) ≡ Err End
 cut-left bytes at there low short =
     let e : drop at bytes ≡ slice_index bytes at ∷ drop (suc at) bytes = drop-cons bytes at 0 there in
     let n : length (slice_index bytes at ∷ drop (suc at) bytes) < len_named (slice_index bytes at) = omega (arith, length-drop at bytes, ap length e) in

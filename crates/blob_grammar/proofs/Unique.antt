@@ -85,7 +85,8 @@ code-unique ValueRange _ o after p q = absurd q
 code-unique _ d o after p q = absurd p
 
 same_fault : (a b : BlobFault) → a.code ≡ b.code → a.byte ≡ b.byte → a ≡ b
-same_fault a b c d = ap (λ (p : Code × ℕ). let f : BlobFault = record { code = p.0; byte = p.1 } in f) (let pair : (a.code, a.byte) ≡ (b.code, b.byte) = cc in pair)
+same_fault a b c d =
+    ap (λ (p : Code × ℕ). let f : BlobFault = record { code = p.0; byte = p.1 } in f) (let pair : (a.code, a.byte) ≡ (b.code, b.byte) = cc in pair)
 
 ends-unique : {R : Type 0} (g : Grammar R) (fs : List Field) (after : List ℕ) (e d : Option BlobFault) → Ends g fs after e → Ends g fs after d → e ≡ d
 ends-unique g fs after None None p q = refl
@@ -97,12 +98,14 @@ ends-unique g fs after (Some a) (Some b) p q =
     ap (λ f. Some f) (same_fault a b code at)
 
 -- Two readings of one blob have the same records and the same end.
-pub reading-unique : {R : Type 0} (g : Grammar R) (blob : List ℕ) (a b : List R) (e d : Option BlobFault) → Reading g blob a e → Reading g blob b d → (a ≡ b) × (e ≡ d)
+pub reading-unique : {R : Type 0} (g : Grammar R) (blob : List ℕ) (a b : List R) (e d : Option BlobFault) → Reading g blob a e → Reading g blob b d
+    → (a ≡ b) × (e ≡ d)
 reading-unique g blob a b e d p q =
     let r : (p.fields ≡ q.fields) × (p.after ≡ q.after) = front-unique g blob p.fields q.fields p.after q.after p.front q.front in
     let f : p.fields ≡ q.fields = r.0 in
     let t : p.after ≡ q.after = r.1 in
-    let ends : Ends g p.fields p.after d = subst (λ (fs : List Field). Ends g fs p.after d) (sym f) (subst (λ (x : List ℕ). Ends g q.fields x d) (sym t) q.ends) in
+    let ends : Ends g p.fields p.after d =
+    subst (λ (fs : List Field). Ends g fs p.after d) (sym f) (subst (λ (x : List ℕ). Ends g q.fields x d) (sym t) q.ends) in
     (p.made ∙ ap (λ (fs : List Field). (cut g fs).whole) f ∙ sym q.made, ends-unique g p.fields p.after e d p.ends ends)
 
 -- So each blob is read in one way.

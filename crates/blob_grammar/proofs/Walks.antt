@@ -1,12 +1,14 @@
 -- A walk over the fields of a blob, a field at a time.
-use Rattle.std.proofs.Common.{◌≡◌, ℕ, zero, suc, ◌+◌, ◌<◌, Bool, true, false, ◌&&◌, List, [], ◌∷◌, ◌++◌, length, take, drop, Option, Some, None, Result, Ok, Err, refl, sym, ap, subst, ◌∙◌, arith}
+use Rattle.std.proofs.Common.{◌≡◌, ℕ, zero, suc, ◌+◌, ◌<◌, Bool, true, false, ◌&&◌, List, [], ◌∷◌, ◌++◌, length, take, drop, Option}
+use Rattle.std.proofs.Common.{Some, None, Result, Ok, Err, refl, sym, ap, subst, ◌∙◌, arith}
 use Rattle.std.specs.List.{flat_map}
 use Rattle.std.proofs.lemmas.List.{length-drop, length-take-le}
 use Rattle.ppdb_base.specs.declared.Code.{Code}
 use Rattle.ppdb_base.specs.declared.Code.TheVariants.{ValueRange, BlobEnd}
 use Rattle.blob_grammar.specs.Grammar.{Value, Form, Grammar, Cut, closed, with_value}
 use Rattle.blob_grammar.specs.Places.{PlacedField, placed_from, HasFields, HasEnd}
-use Rattle.blob_grammar.specs.Reader.{Left, field_at, is_empty, Step, field, stop, bad, stop_or, if_allowed, step_at, step_in, step, close_and, take_step, read_from, take_field, fields_from, fields_left}
+use Rattle.blob_grammar.specs.Reader.{Left, field_at, is_empty, Step, field, stop, bad, stop_or, if_allowed, step_at, step_in, step}
+use Rattle.blob_grammar.specs.Reader.{close_and, take_step, read_from, take_field, fields_from, fields_left}
 use Rattle.blob_grammar.proofs.FrontFields.{fields_from-step, front_of-fields}
 use Rattle.blob_grammar.proofs.Readers.{read_from-reads}
 use Rattle.blob_grammar.proofs.Steps.{Takes, takes_in, read_from-step, nothing_left, Alike}
@@ -51,7 +53,8 @@ module _ {R X : Type 0} (g : Grammar R) (tell : PlacedField → List X) where
       rw (taken, fault) refl
 
   -- What is left is what one step tells, and what is left then.
-  pub fields_left-step : (place : Cut R) (at : ℕ) (bytes : List ℕ) → fields_left g tell place at bytes ≡ after_step place at bytes (step g place.whole place.begun bytes)
+  pub fields_left-step : (place : Cut R) (at : ℕ) (bytes : List ℕ)
+      → fields_left g tell place at bytes ≡ after_step place at bytes (step g place.whole place.begun bytes)
   unfolding fields_left
   fields_left-step place at bytes =
       let s = step g place.whole place.begun bytes in
@@ -59,7 +62,8 @@ module _ {R X : Type 0} (g : Grammar R) (tell : PlacedField → List X) where
       let left = read_from-step g place.whole place.begun at bytes in
       rw (fields, left) (walked-is place at bytes s (takes_in g place.whole place.begun bytes (g.form place.whole place.begun)))
 
-  to_step : (place : Cut R) (at : ℕ) (bytes : List ℕ) (o : Option Form) (s : Step) → g.form place.whole place.begun ≡ o → step_in g place.whole place.begun bytes o ≡ s
+  to_step : (place : Cut R) (at : ℕ) (bytes : List ℕ) (o : Option Form) (s : Step) → g.form place.whole place.begun ≡ o
+      → step_in g place.whole place.begun bytes o ≡ s
       → fields_left g tell place at bytes ≡ after_step place at bytes s
   to_step place at bytes o s e f = fields_left-step place at bytes ∙ ap (after_step place at bytes) (ap (step_in g place.whole place.begun bytes) e ∙ f)
 
@@ -68,14 +72,16 @@ module _ {R X : Type 0} (g : Grammar R) (tell : PlacedField → List X) where
       → g.form place.whole place.begun ≡ Some form → field_at form bytes ≡ Ok (value, len) → g.allows place.whole place.begun value ≡ true
       → fields_left g tell place at bytes ≡ push_all (told place at value) (fields_left g tell (with_value g place value) (at + len) (drop len bytes))
   walk-field place at bytes form value len expected found allowed =
-      to_step place at bytes (Some form) (field value len) expected (ap (step_at g place.whole place.begun bytes) found ∙ ap (λ b. if_allowed b value len) allowed)
+      to_step place at bytes (Some form) (field value len) expected (ap (step_at g place.whole place.begun bytes) found
+      ∙ ap (λ b. if_allowed b value len) allowed)
 
   -- A field that is there and not allowed.
   pub walk-out : (place : Cut R) (at : ℕ) (bytes : List ℕ) (form : Form) (value : Value) (len : ℕ)
       → g.form place.whole place.begun ≡ Some form → field_at form bytes ≡ Ok (value, len) → g.allows place.whole place.begun value ≡ false
       → fields_left g tell place at bytes ≡ nothing_left (Some (record { code = ValueRange; byte = at }))
   walk-out place at bytes form value len expected found allowed =
-      to_step place at bytes (Some form) (bad ValueRange) expected (ap (step_at g place.whole place.begun bytes) found ∙ ap (λ b. if_allowed b value len) allowed)
+      to_step place at bytes (Some form) (bad ValueRange) expected (ap (step_at g place.whole place.begun bytes) found
+      ∙ ap (λ b. if_allowed b value len) allowed)
 
   -- No field is there, and the blob may not end there.
   pub walk-none : (place : Cut R) (at : ℕ) (bytes : List ℕ) (form : Form) (code : Code)
@@ -85,7 +91,8 @@ module _ {R X : Type 0} (g : Grammar R) (tell : PlacedField → List X) where
       to_step place at bytes (Some form) (bad code) expected (ap (step_at g place.whole place.begun bytes) none ∙ ap (λ b. stop_or b code) stays)
 
   -- The end of a whole blob.
-  pub walk-end : (place : Cut R) (at : ℕ) (form : Form) (code : Code) → g.form place.whole place.begun ≡ Some form → field_at form [] ≡ Err code → g.may_stop place.whole place.begun ≡ true
+  pub walk-end : (place : Cut R) (at : ℕ) (form : Form) (code : Code) → g.form place.whole place.begun ≡ Some form → field_at form [] ≡ Err code
+      → g.may_stop place.whole place.begun ≡ true
       → fields_left g tell place at [] ≡ nothing_left None
   walk-end place at form code expected none stops =
       to_step place at [] (Some form) stop expected (ap (step_at g place.whole place.begun []) none ∙ ap (λ b. stop_or b code) stops)
@@ -112,15 +119,18 @@ module _ {R X : Type 0} (g : Grammar R) (tell : PlacedField → List X) where
   abbrev pub SameBegun : (List R → List R → Type 0) → Cut R → Cut R → Type 0
   SameBegun Same a b = Same a.whole b.whole × (a.begun ≡ b.begun)
 
-  closed-same : (Same : List R → List R → Type 0) → Alike g g Same → (a b : List R) (begun : List Value) (o : Option R) → Same a b → SameBegun Same (closed o a begun) (closed o b begun)
+  closed-same : (Same : List R → List R → Type 0) → Alike g g Same → (a b : List R) (begun : List Value) (o : Option R) → Same a b
+      → SameBegun Same (closed o a begun) (closed o b begun)
   closed-same Same k a b begun None e = (e, refl)
   closed-same Same k a b begun (Some r) e = (k.push a b r e, refl)
 
   with-same : (Same : List R → List R → Type 0) → Alike g g Same → (a b : List R) (c d : List Value) (value : Value) → Same a b → c ≡ d
       → SameBegun Same (with_value g (record { whole = a; begun = c }) value) (with_value g (record { whole = b; begun = d }) value)
   with-same Same k a b c d value e same =
-      let o : closed (g.record_of a (c ++ value ∷ [])) b (c ++ value ∷ []) ≡ closed (g.record_of b (d ++ value ∷ [])) b (d ++ value ∷ []) = rw (same, k.record_of a b (d ++ value ∷ []) e) refl in
-      subst (λ (p : Cut R). SameBegun Same (closed (g.record_of a (c ++ value ∷ [])) a (c ++ value ∷ [])) p) o (closed-same Same k a b (c ++ value ∷ []) (g.record_of a (c ++ value ∷ [])) e)
+      let o : closed (g.record_of a (c ++ value ∷ [])) b (c ++ value ∷ []) ≡ closed (g.record_of b (d ++ value ∷ [])) b (d ++ value ∷ []) =
+      rw (same, k.record_of a b (d ++ value ∷ []) e) refl in
+      subst (λ (p : Cut R). SameBegun Same (closed (g.record_of a (c ++ value ∷ [])) a (c ++ value ∷ [])) p) o (closed-same Same k a b (c ++ value ∷ [])
+      (g.record_of a (c ++ value ∷ [])) e)
 
   pub alike-begun : (Same : List R → List R → Type 0) → Alike g g Same → AlikeAt (SameBegun Same)
   alike-begun Same k = record {
@@ -165,22 +175,26 @@ module _ {R X : Type 0} (g : Grammar R) (tell : PlacedField → List X) where
     allowed_in a (x ∷ bytes) None = tt
 
     same_after : (a b : Cut R) (at : ℕ) (bytes : List ℕ) → E a b
-        → ((c d : Cut R) (len : ℕ) → length (drop len bytes) < length bytes → E c d → fields_left g tell c (at + len) (drop len bytes) ≡ fields_left g tell d (at + len) (drop len bytes))
+        → ((c d : Cut R) (len : ℕ) → length (drop len bytes) < length bytes → E c d
+        → fields_left g tell c (at + len) (drop len bytes) ≡ fields_left g tell d (at + len) (drop len bytes))
         → (s : Step) → Takes bytes s → Allowed a s → after_step a at bytes s ≡ after_step b at bytes s
     same_after a b at bytes e again stop takes allowed = refl
     same_after a b at bytes e again (bad code) takes allowed = refl
     same_after a b at bytes e again (field value len) takes allowed =
-        let left = again (with_value g a value) (with_value g b value) len (omega (arith, takes.0, takes.1, length-drop len bytes)) (k.keeps a b value e allowed) in
+        let left =
+        again (with_value g a value) (with_value g b value) len (omega (arith, takes.0, takes.1, length-drop len bytes)) (k.keeps a b value e allowed) in
         rw (k.tells a b at value e, left) refl
 
-    same_for : (turns : ℕ) (a b : Cut R) (at : ℕ) (bytes : List ℕ) → length bytes < turns → E a b → fields_left g tell a at bytes ≡ fields_left g tell b at bytes
+    same_for : (turns : ℕ) (a b : Cut R) (at : ℕ) (bytes : List ℕ) → length bytes < turns → E a b
+        → fields_left g tell a at bytes ≡ fields_left g tell b at bytes
     same_for zero a b at bytes few e = absurd (omega arith)
     same_for (suc turns) a b at bytes few e =
         let s = step g a.whole a.begun bytes in
         let o = g.form a.whole a.begun in
         let same : s ≡ step g b.whole b.begun bytes = same_step a b bytes o e ∙ ap (step_in g b.whole b.begun bytes) (k.form a b e) in
         fields_left-step a at bytes
-        ∙ same_after a b at bytes e (λ c d len less f. same_for turns c d (at + len) (drop len bytes) (omega (arith, few, less)) f) s (takes_in g a.whole a.begun bytes o) (allowed_in a bytes o)
+        ∙ same_after a b at bytes e (λ c d len less f. same_for turns c d (at + len) (drop len bytes) (omega (arith, few, less)) f) s
+        (takes_in g a.whole a.begun bytes o) (allowed_in a bytes o)
         ∙ ap (after_step b at bytes) same ∙ sym (fields_left-step b at bytes)
 
     -- What is left depends on the place through E alone.

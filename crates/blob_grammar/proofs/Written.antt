@@ -1,5 +1,6 @@
 -- Records that are written one after the other, each allowed after those before it, are read again.
-use Rattle.std.proofs.Common.{◌≡◌, ℕ, ◌+◌, ◌^◌, ◌<◌, true, List, [], ◌∷◌, ◌++◌, length, length-append, Some, None, refl, sym, ap, subst, ◌∙◌, append_assoc, append-nil, arith}
+use Rattle.std.proofs.Common.{◌≡◌, ℕ, ◌+◌, ◌^◌, ◌<◌, true, List, [], ◌∷◌, ◌++◌, length, length-append, Some, None, refl, sym, ap, subst}
+use Rattle.std.proofs.Common.{◌∙◌, append_assoc, append-nil, arith}
 use Rattle.std.specs.List.{flat_map}
 use Rattle.std.proofs.lemmas.List.Sums.{fold-append}
 use Rattle.std.proofs.lemmas.Grind.{flat_map-append}
@@ -26,9 +27,11 @@ follow-each g before (f ∷ fs) left h = (h.0, follow-each g (before ++ f ∷ []
 bytes-append : (fs gs : List Field) (left : List ℕ) → bytes_of fs ++ (bytes_of gs ++ left) ≡ bytes_of (fs ++ gs) ++ left
 bytes-append fs gs left = sym (append_assoc (bytes_of fs) (bytes_of gs) left) ∙ ap (λ b. b ++ left) (sym (flat_map-append (λ (f : Field). f.bytes) fs gs))
 
-pub follow-append : {R : Type 0} (g : Grammar R) (c : Cut R) (fs gs : List Field) (left : List ℕ) → FollowFrom g c fs (bytes_of gs ++ left) → FollowFrom g (cut_from g c fs) gs left → FollowFrom g c (fs ++ gs) left
+pub follow-append : {R : Type 0} (g : Grammar R) (c : Cut R) (fs gs : List Field) (left : List ℕ) → FollowFrom g c fs (bytes_of gs ++ left)
+    → FollowFrom g (cut_from g c fs) gs left → FollowFrom g c (fs ++ gs) left
 follow-append g c [] gs left h k = k
-follow-append g c (f ∷ fs) gs left h k = (subst (λ b. IsAllowed g c f b) (bytes-append fs gs left) h.0, follow-append g (with_value g c f.value) fs gs left h.1 k)
+follow-append g c (f ∷ fs) gs left h k =
+    (subst (λ b. IsAllowed g c f b) (bytes-append fs gs left) h.0, follow-append g (with_value g c f.value) fs gs left h.1 k)
 
 pub cut_from-append : {R : Type 0} (g : Grammar R) (c : Cut R) (fs gs : List Field) → cut_from g c (fs ++ gs) ≡ cut_from g (cut_from g c fs) gs
 cut_from-append g c fs gs = fold-append (λ c f. with_value g c f.value) c fs gs
@@ -39,7 +42,11 @@ after whole = record { whole = whole; begun = [] }
 -- How a record is written after others: its fields are allowed after the records that it may follow, and make it.
 pub record Writes {R : Type 0} (g : Grammar R) (fields_of : List R → R → List Field) (MayAdd : List R → R → Type 0) : Type 0 where
   pub follow : (whole : List R) (r : R) (left : List ℕ) → MayAdd whole r → FollowFrom g (record { whole = whole; begun = [] }) (fields_of whole r) left
-  pub makes : (whole : List R) (r : R) → MayAdd whole r → cut_from g (record { whole = whole; begun = [] }) (fields_of whole r) ≡ record { whole = whole ++ r ∷ []; begun = [] }
+  pub makes : (whole : List R) (r : R) → MayAdd whole r → cut_from g (record { whole = whole; begun = [] }) (fields_of whole r) ≡ record {
+    whole = whole
+        ++ r ∷ [];
+    begun = [];
+  }
 
 -- Each record may follow those before it.
 abbrev pub EachMayAdd : {R : Type 0} → (List R → R → Type 0) → List R → List R → Type 0
@@ -51,7 +58,8 @@ abbrev pub fields_after : {R : Type 0} → (List R → R → List Field) → Lis
 fields_after fields_of whole [] = []
 fields_after fields_of whole (r ∷ rs) = fields_of whole r ++ fields_after fields_of (whole ++ r ∷ []) rs
 
-pub all_follow : {R : Type 0} (g : Grammar R) (fields_of : List R → R → List Field) (MayAdd : List R → R → Type 0) → Writes g fields_of MayAdd → (whole rs : List R) (left : List ℕ) → EachMayAdd MayAdd whole rs
+pub all_follow : {R : Type 0} (g : Grammar R) (fields_of : List R → R → List Field) (MayAdd : List R → R → Type 0) → Writes g fields_of MayAdd
+    → (whole rs : List R) (left : List ℕ) → EachMayAdd MayAdd whole rs
     → FollowFrom g (after whole) (fields_after fields_of whole rs) left × (cut_from g (after whole) (fields_after fields_of whole rs) ≡ after (whole ++ rs))
 all_follow g fields_of MayAdd w whole [] left h = (tt, ap after (sym (append-nil whole)))
 all_follow g fields_of MayAdd w whole (r ∷ rs) left h =
@@ -74,13 +82,16 @@ stuck_at_end g fs f left e m =
 
 -- Fields that are allowed one after the other are the longest valid front of what they spell.
 pub fields_longest : {R : Type 0} (g : Grammar R) (fs : List Field) → FollowFrom g (after []) fs [] → IsLongestFront g (bytes_of fs) fs []
-fields_longest g fs h = longest_where_stuck g (bytes_of fs) fs [] (record { bytes = sym (append-nil (bytes_of fs)); each = follow-each g [] fs [] h }) (stuck_at_end g fs)
+fields_longest g fs h =
+    longest_where_stuck g (bytes_of fs) fs [] (record { bytes = sym (append-nil (bytes_of fs)); each = follow-each g [] fs [] h }) (stuck_at_end g fs)
 
 -- So a walk tells of them, and of nothing else.
-pub written_fields : {R X : Type 0} (g : Grammar R) (tell : PlacedField → List X) (fs : List Field) → FollowFrom g (after []) fs [] → HasFields g tell (bytes_of fs) (flat_map tell (placed_of g fs))
+pub written_fields : {R X : Type 0} (g : Grammar R) (tell : PlacedField → List X) (fs : List Field) → FollowFrom g (after []) fs []
+    → HasFields g tell (bytes_of fs) (flat_map tell (placed_of g fs))
 written_fields g tell fs h = record { fields = fs; after = []; front = fields_longest g fs h; items_are = refl }
 
-pub placed_from-append : {R : Type 0} (g : Grammar R) (c : Cut R) (at : ℕ) (fs gs : List Field) → placed_from g c at (fs ++ gs) ≡ placed_from g c at fs ++ placed_from g (cut_from g c fs) (at + length (bytes_of fs)) gs
+pub placed_from-append : {R : Type 0} (g : Grammar R) (c : Cut R) (at : ℕ) (fs gs : List Field) → placed_from g c at (fs ++ gs) ≡ placed_from g c at fs
+    ++ placed_from g (cut_from g c fs) (at + length (bytes_of fs)) gs
 placed_from-append g c at [] gs = ap (λ n. placed_from g c n gs) (let e : at ≡ at + 0 = omega arith in e)
 placed_from-append g c at (f ∷ fs) gs =
     let next = with_value g c f.value in
@@ -96,11 +107,13 @@ number_field n = record { bytes = short_unsigned n; value = number n }
 pub number_spelled : (n : ℕ) → n < 2 ^ 29 → SpellsUnsigned (short_unsigned n) n
 number_spelled n small = (short_unsigned-shortest n small).spelled
 
-pub number_allowed : {R : Type 0} (g : Grammar R) (place : Cut R) (n : ℕ) (left : List ℕ) → g.form place.whole place.begun ≡ Some unsigned → n < 2 ^ 29 → g.allows place.whole place.begun (number n) ≡ true → IsAllowed g place (number_field n) left
+pub number_allowed : {R : Type 0} (g : Grammar R) (place : Cut R) (n : ℕ) (left : List ℕ) → g.form place.whole place.begun ≡ Some unsigned → n < 2 ^ 29
+    → g.allows place.whole place.begun (number n) ≡ true → IsAllowed g place (number_field n) left
 number_allowed g place n left form small h = record { form = unsigned; expected = form; spelled = number_spelled n small; allowed = h }
 
 -- What fields spell that are allowed one after the other, and after which the grammar may stop, is read so.
-pub fields_read : {R : Type 0} (g : Grammar R) (fs : List Field) → FollowFrom g (after []) fs [] → g.may_stop (cut g fs).whole (cut g fs).begun ≡ true → Reading g (bytes_of fs) (cut g fs).whole None
+pub fields_read : {R : Type 0} (g : Grammar R) (fs : List Field) → FollowFrom g (after []) fs [] → g.may_stop (cut g fs).whole (cut g fs).begun ≡ true
+    → Reading g (bytes_of fs) (cut g fs).whole None
 fields_read g fs h stops = record {
   fields = fs;
   after = [];
@@ -110,7 +123,8 @@ fields_read g fs h stops = record {
 }
 
 -- What is written is whole and has those records.
-pub records_read : {R : Type 0} (g : Grammar R) (fields_of : List R → R → List Field) (MayAdd : List R → R → Type 0) → Writes g fields_of MayAdd → (rs : List R) → EachMayAdd MayAdd [] rs → g.may_stop rs [] ≡ true
+pub records_read : {R : Type 0} (g : Grammar R) (fields_of : List R → R → List Field) (MayAdd : List R → R → Type 0) → Writes g fields_of MayAdd → (rs : List R)
+    → EachMayAdd MayAdd [] rs → g.may_stop rs [] ≡ true
     → Reading g (bytes_of (fields_after fields_of [] rs)) rs None
 records_read g fields_of MayAdd w rs h stops =
     let all = all_follow g fields_of MayAdd w [] rs [] h in

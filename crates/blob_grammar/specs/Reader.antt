@@ -1,5 +1,6 @@
 -- The plain reader: it takes one field after the other, and keeps the records made so far.
-use Rattle.std.specs.Prelude.{◌≡◌, ℕ, zero, suc, ◌+◌, ◌-◌, ◌*◌, ◌^◌, List, [], ◌∷◌, ◌++◌, length, take, drop, nat_lt, if◌then◌else◌, Option, Some, None, Bool, true, false, ◌&&◌, ℤ, Result, Ok, Err, ◌≤◌}
+use Rattle.std.specs.Prelude.{◌≡◌, ℕ, zero, suc, ◌+◌, ◌-◌, ◌*◌, ◌^◌, List, [], ◌∷◌, ◌++◌, length, take, drop, nat_lt, if◌then◌else◌}
+use Rattle.std.specs.Prelude.{Option, Some, None, Bool, true, false, ◌&&◌, ℤ, Result, Ok, Err, ◌≤◌}
 use Rattle.std.specs.List.{fold, flat_map}
 use Rattle.std.specs.Int.{w32, from_le_bytes}
 use Rattle.ppdb_base.specs.declared.Code.{Code}
@@ -8,7 +9,8 @@ use Rattle.ppdb_base.specs.declared.BlobFault.{BlobFault}
 use Rattle.cli_ints.specs.declared.IntFault.{IntFault}
 use Rattle.cli_ints.specs.declared.IntFault.TheVariants.{End, Form as NoForm}
 use Rattle.cli_ints.specs.Compressed.{bits_of, unrotated}
-use Rattle.blob_grammar.specs.Grammar.{Value, number, integer, octets, Form, unsigned, signed, byte, word, fixed, rest, character, Field, Grammar, Cut, with_value, is_character}
+use Rattle.blob_grammar.specs.Grammar.{Value, number, integer, octets, Form, unsigned, signed, byte, word, fixed, rest, character, Field}
+use Rattle.blob_grammar.specs.Grammar.{Grammar, Cut, with_value, is_character}
 use Rattle.blob_grammar.specs.Places.{PlacedField, placed_from}
 
 -- What is left of a blob: the items to come, and the fault after them, if the blob is not whole.
@@ -78,7 +80,8 @@ signed_at bytes = signed_of (unsigned_at bytes)
 -- how many bytes the character at the front has, by the rows of Unicode's table 3-7; 0 where none is there
 unfoldable pub character_len : List ℕ → ℕ
 character_len bytes =
-    if is_character (take 1 bytes) then 1 else (if is_character (take 2 bytes) then 2 else (if is_character (take 3 bytes) then 3 else (if is_character (take 4 bytes) then 4 else 0)))
+    if is_character (take 1 bytes) then 1 else
+    (if is_character (take 2 bytes) then 2 else (if is_character (take 3 bytes) then 3 else (if is_character (take 4 bytes) then 4 else 0)))
 
 abbrev pub character_of : List ℕ → ℕ → Result (Value × ℕ) Code
 character_of [] len = Err BlobEnd
@@ -171,7 +174,8 @@ read_from g whole begun at bytes = read_for (suc (length bytes)) g whole begun a
 -- ---- the fields themselves
 
 abbrev pub take_field : {R : Type 0} → Grammar R → (ℕ → List R → List Value → List Field) → Cut R → List ℕ → Step → List Field
-take_field g goes_on place bytes (field v len) = record { bytes = take len bytes; value = v } ∷ goes_on len (with_value g place v).whole (with_value g place v).begun
+take_field g goes_on place bytes (field v len) =
+    record { bytes = take len bytes; value = v } ∷ goes_on len (with_value g place v).whole (with_value g place v).begun
 take_field g goes_on place bytes stop = []
 take_field g goes_on place bytes (bad code) = []
 

@@ -34,7 +34,8 @@ module _ (value : FileValue) (small : length (canonical_tables value).blobs ≤ 
   place_of content = index_of as_blob (blobs value) content
 
   -- a blob that a cell names has its length
-  pub cell_len : (used : List Piece) → Contains (cell_blobs value) used → len_of (blob_at (canonical_tables value).blobs (blob_cell value used)) ≡ spelled_len used
+  pub cell_len : (used : List Piece) → Contains (cell_blobs value) used → len_of (blob_at (canonical_tables value).blobs (blob_cell value used))
+      ≡ spelled_len used
   cell_len used is = ap len_of (blob_stands value used (named_used value used is) small)
 
   module _ (pieces : List Piece) (is : Contains (cell_blobs value) pieces) (content : List ℕ) (held : Contains (held_in pieces) content) where

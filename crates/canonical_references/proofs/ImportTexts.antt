@@ -9,7 +9,8 @@ use Rattle.cli_ints.specs.Shortest.{short_unsigned}
 use Rattle.blob_grammar.specs.declared.places.PlacedIndex.{PlacedIndex}
 use Rattle.ppdb_heaps.specs.Heaps.{blob_at}
 use Rattle.type_blobs.specs.declared.import_part.ImportPart.{ImportPart}
-use Rattle.type_blobs.specs.declared.import_part.ImportPart.TheVariants.{Kind, Alias as AliasPart, Assembly as AssemblyPart, Namespace as NamespacePart, Target as TargetPart}
+use Rattle.type_blobs.specs.declared.import_part.ImportPart.TheVariants.{Kind, Alias as AliasPart, Assembly as AssemblyPart}
+use Rattle.type_blobs.specs.declared.import_part.ImportPart.TheVariants.{Namespace as NamespacePart, Target as TargetPart}
 use Rattle.type_blobs.specs.declared.import_writer.ImportNumbers.{ImportNumbers}
 use Rattle.type_blobs.specs.declared.types.TypeLimits.{TypeLimits}
 use Rattle.type_blobs.specs.Imports.{import_indexes, parts_of, text_index, text_of}
@@ -20,7 +21,8 @@ use Rattle.ppdb_rules.specs.Blobs.{in_blob, type_limits as raw_limits}
 use Rattle.ppdb_values.specs.declared.file.FileValue.{FileValue}
 use Rattle.ppdb_values.specs.declared.import.ImportScopeValue.{ImportScopeValue}
 use Rattle.ppdb_values.specs.declared.import.ImportValue.{ImportValue}
-use Rattle.ppdb_values.specs.declared.import.ImportValue.TheVariants.{Namespace, AssemblyNamespace, Target, Xml, Alias, AssemblyAlias, NamespaceAlias, AssemblyNamespaceAlias, TargetAlias}
+use Rattle.ppdb_values.specs.declared.import.ImportValue.TheVariants.{Namespace, AssemblyNamespace, Target, Xml, Alias, AssemblyAlias}
+use Rattle.ppdb_values.specs.declared.import.ImportValue.TheVariants.{NamespaceAlias, AssemblyNamespaceAlias, TargetAlias}
 use Rattle.ppdb_values.specs.WrittenImports.{alias_text, assembly_row, import_numbers, kind_of_import, namespace_text, stored_import, target_type}
 use Rattle.ppdb_values.proofs.StoredImports.{kind_from, kind_to, numbers_stand}
 use Rattle.sound_values.specs.Imports.{SoundImport}
@@ -87,7 +89,8 @@ module _ (value : FileValue) (small : length (canonical_tables value).blobs ≤ 
 
   spelled : (import : ImportValue) → AreTextsThere import → blob_bytes (blobs value) (import_pieces import) ≡ import_spelling (numbers_of import)
   spelled (Namespace namespace) are = ap (λ s. short_unsigned 1 ++ (s ++ [])) (spelled_short namespace are.namespace)
-  spelled (AssemblyNamespace assembly namespace) are = ap (λ s. short_unsigned 2 ++ (short_unsigned assembly ++ (s ++ []))) (spelled_short namespace are.namespace)
+  spelled (AssemblyNamespace assembly namespace) are =
+      ap (λ s. short_unsigned 2 ++ (short_unsigned assembly ++ (s ++ []))) (spelled_short namespace are.namespace)
   spelled (Target target) are = refl
   spelled (Xml alias namespace) are =
       ap (λ s. short_unsigned 4 ++ (s ++ (shortest (place_of value small namespace) ++ []))) (spelled_short alias are.alias)
@@ -99,7 +102,8 @@ module _ (value : FileValue) (small : length (canonical_tables value).blobs ≤ 
       ∙ ap (λ s. short_unsigned 7 ++ (short_unsigned (place_of value small alias) ++ (s ++ []))) (spelled_short namespace are.namespace)
   spelled (AssemblyNamespaceAlias alias assembly namespace) are =
       ap (λ s. short_unsigned 8 ++ (s ++ (short_unsigned assembly ++ (shortest (place_of value small namespace) ++ [])))) (spelled_short alias are.alias)
-      ∙ ap (λ s. short_unsigned 8 ++ (short_unsigned (place_of value small alias) ++ (short_unsigned assembly ++ (s ++ [])))) (spelled_short namespace are.namespace)
+      ∙ ap (λ s. short_unsigned 8 ++ (short_unsigned (place_of value small alias) ++ (short_unsigned assembly ++ (s ++ []))))
+      (spelled_short namespace are.namespace)
   spelled (TargetAlias alias target) are = ap (λ s. short_unsigned 9 ++ (s ++ (short_unsigned (number_of target) ++ []))) (spelled_short alias are.alias)
 
   token_of_none : IsToken (record { table = 0x02; row = 0 })
@@ -144,7 +148,8 @@ module _ (value : FileValue) (small : length (canonical_tables value).blobs ≤ 
   parts_there (Xml alias namespace) are sound =
       two_parts (numbers_of (Xml alias namespace)) AliasPart NamespacePart (is_there alias are.alias) (is_there namespace are.namespace)
   parts_there (Alias alias) are sound = one_part (numbers_of (Alias alias)) AliasPart (is_there alias are.alias)
-  parts_there (AssemblyAlias alias assembly) are sound = two_parts (numbers_of (AssemblyAlias alias assembly)) AliasPart AssemblyPart (is_there alias are.alias) sound
+  parts_there (AssemblyAlias alias assembly) are sound =
+      two_parts (numbers_of (AssemblyAlias alias assembly)) AliasPart AssemblyPart (is_there alias are.alias) sound
   parts_there (NamespaceAlias alias namespace) are sound =
       two_parts (numbers_of (NamespaceAlias alias namespace)) AliasPart NamespacePart (is_there alias are.alias) (is_there namespace are.namespace)
   parts_there (AssemblyNamespaceAlias alias assembly namespace) are sound =
@@ -158,7 +163,8 @@ module _ (value : FileValue) (small : length (canonical_tables value).blobs ≤ 
 
   -- what an import names
   texts_len : (import : ImportValue) (at : ℕ) → AreTextsThere import
-      → named_len (flat_map text_index (parts_at (numbers_of import) at (Kind ∷ parts_of (kind_of_import import)))) ≡ sum_by length (held_in (import_pieces import))
+      → named_len (flat_map text_index (parts_at (numbers_of import) at (Kind ∷ parts_of (kind_of_import import))))
+      ≡ sum_by length (held_in (import_pieces import))
   texts_len (Namespace namespace) at are = let n = text_len namespace are.namespace in omega (arith, n)
   texts_len (AssemblyNamespace assembly namespace) at are = let n = text_len namespace are.namespace in omega (arith, n)
   texts_len (Target target) at are = refl
@@ -166,7 +172,8 @@ module _ (value : FileValue) (small : length (canonical_tables value).blobs ≤ 
   texts_len (Alias alias) at are = let a = text_len alias are.alias in omega (arith, a)
   texts_len (AssemblyAlias alias assembly) at are = let a = text_len alias are.alias in omega (arith, a)
   texts_len (NamespaceAlias alias namespace) at are = let a = text_len alias are.alias in let n = text_len namespace are.namespace in omega (arith, a, n)
-  texts_len (AssemblyNamespaceAlias alias assembly namespace) at are = let a = text_len alias are.alias in let n = text_len namespace are.namespace in omega (arith, a, n)
+  texts_len (AssemblyNamespaceAlias alias assembly namespace) at are =
+      let a = text_len alias are.alias in let n = text_len namespace are.namespace in omega (arith, a, n)
   texts_len (TargetAlias alias target) at are = let a = text_len alias are.alias in omega (arith, a)
 
   -- ---- all imports of a scope
@@ -177,7 +184,8 @@ module _ (value : FileValue) (small : length (canonical_tables value).blobs ≤ 
   rest_sound : (import : ImportValue) (imports : List ImportValue) → AreSound (import ∷ imports) → AreSound imports
   rest_sound import imports all one is = all one (among_later import one imports is)
 
-  all_spelled : (imports : List ImportValue) → AreSound imports → blob_bytes (blobs value) (imports_pieces imports) ≡ flat_map import_spelling (map numbers_of imports)
+  all_spelled : (imports : List ImportValue) → AreSound imports
+      → blob_bytes (blobs value) (imports_pieces imports) ≡ flat_map import_spelling (map numbers_of imports)
   all_spelled [] all = refl
   all_spelled (import ∷ imports) all =
       flat_map-append (piece_bytes (blobs value)) (import_pieces import) (imports_pieces imports)
@@ -243,10 +251,12 @@ module _ (value : FileValue) (small : length (canonical_tables value).blobs ≤ 
     readable : (text : List ℕ) → Contains (held_in pieces) text → IsReadable text
     readable text held = record { there = held_there value small pieces named text held; below = held_small value small pieces named text held }
 
-    of_import_held : (imports : List ImportValue) (import : ImportValue) (text : List ℕ) → Contains imports import → Contains (held_in (import_pieces import)) text
+    of_import_held : (imports : List ImportValue) (import : ImportValue) (text : List ℕ) → Contains imports import
+        → Contains (held_in (import_pieces import)) text
         → Contains (held_in (imports_pieces imports)) text
     of_import_held imports import text among held =
-        subst (λ contents. Contains contents text) (sym (held_flat imports)) (among_flat_map (λ one. held_in (import_pieces one)) imports import text among held)
+        subst (λ contents. Contains contents text) (sym (held_flat imports))
+        (among_flat_map (λ one. held_in (import_pieces one)) imports import text among held)
       where
         held_flat : (all : List ImportValue) → held_in (imports_pieces all) ≡ flat_map (λ one. held_in (import_pieces one)) all
         held_flat [] = refl
@@ -258,13 +268,22 @@ module _ (value : FileValue) (small : length (canonical_tables value).blobs ≤ 
     texts_there (AssemblyNamespace assembly namespace) there = record { alias = readable_nothing; namespace = there namespace (among_first namespace []) }
     texts_there (Target target) there = record { alias = readable_nothing; namespace = readable_nothing }
     texts_there (Xml alias namespace) there =
-        record { alias = there alias (among_first alias (namespace ∷ [])); namespace = there namespace (among_later alias namespace (namespace ∷ []) (among_first namespace [])) }
+        record {
+          alias = there alias (among_first alias (namespace ∷ []));
+          namespace = there namespace (among_later alias namespace (namespace ∷ []) (among_first namespace []));
+        }
     texts_there (Alias alias) there = record { alias = there alias (among_first alias []); namespace = readable_nothing }
     texts_there (AssemblyAlias alias assembly) there = record { alias = there alias (among_first alias []); namespace = readable_nothing }
     texts_there (NamespaceAlias alias namespace) there =
-        record { alias = there alias (among_first alias (namespace ∷ [])); namespace = there namespace (among_later alias namespace (namespace ∷ []) (among_first namespace [])) }
+        record {
+          alias = there alias (among_first alias (namespace ∷ []));
+          namespace = there namespace (among_later alias namespace (namespace ∷ []) (among_first namespace []));
+        }
     texts_there (AssemblyNamespaceAlias alias assembly namespace) there =
-        record { alias = there alias (among_first alias (namespace ∷ [])); namespace = there namespace (among_later alias namespace (namespace ∷ []) (among_first namespace [])) }
+        record {
+          alias = there alias (among_first alias (namespace ∷ []));
+          namespace = there namespace (among_later alias namespace (namespace ∷ []) (among_first namespace []));
+        }
     texts_there (TargetAlias alias target) there = record { alias = there alias (among_first alias []); namespace = readable_nothing }
 
     all_sound : AreSound scope.imports
@@ -282,7 +301,8 @@ module _ (value : FileValue) (small : length (canonical_tables value).blobs ≤ 
     inside row all = named_inside heap 0x35 row 1 all
 
     inside_len : (row : ℕ) (all : List PlacedIndex) → sum_by (λ (r : Reference). r.len) (inside row all) ≡ named_len all
-    inside_len row all = sum_map (λ (r : Reference). r.len) (λ (x : PlacedIndex). record { at = in_blob 0x35 row 1 x.byte; len = len_of (blob_at heap x.index) }) all
+    inside_len row all =
+        sum_map (λ (r : Reference). r.len) (λ (x : PlacedIndex). record { at = in_blob 0x35 row 1 x.byte; len = len_of (blob_at heap x.index) }) all
 
     -- what an import scope's row names
     pub import_len : (row : ℕ) → sum_by (λ (r : Reference). r.len) (of_import (canonical_tables value) (row, import_row value scope))

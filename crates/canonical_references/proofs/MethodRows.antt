@@ -95,7 +95,8 @@ module _ {X : Type 0} (key : X → ℕ) (size : X → ℕ) where
       let up = rises 0 1 (omega arith) (omega arith) in
       subst (λ (w : X). key x + 1 ≤ key w) same (omega (arith, up))
 
-  ascending : (least top : ℕ) (xs : List X) → Rises (map key xs) → EachRow (λ x. key x < top) xs → ((y : X) → row_at xs 1 ≡ Some y → least ≤ key y) → Ascend least top xs
+  ascending : (least top : ℕ) (xs : List X) → Rises (map key xs) → EachRow (λ x. key x < top) xs → ((y : X) → row_at xs 1 ≡ Some y → least ≤ key y)
+      → Ascend least top xs
   ascending least top [] rises below from = tt
   ascending least top (x ∷ xs) rises below from =
       (from x refl, below 1 x refl, ascending (key x + 1) top xs later (λ row y here. below_later row y here) (next_row x xs rises))

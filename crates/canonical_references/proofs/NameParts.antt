@@ -1,5 +1,6 @@
 -- The references of a canonical document: its name, the parts of the name, and its hash.
-use Rattle.std.proofs.Common.{◌≡◌, ◌≢◌, ℕ, ◌+◌, ◌<◌, ◌≤◌, ◌^◌, Bool, true, false, List, [], ◌∷◌, ◌++◌, length, map, flat_map, refl, sym, ap, subst, ◌∙◌, arith, sum_by}
+use Rattle.std.proofs.Common.{◌≡◌, ◌≢◌, ℕ, ◌+◌, ◌<◌, ◌≤◌, ◌^◌, Bool, true, false, List, [], ◌∷◌, ◌++◌, length, map, flat_map, refl, sym}
+use Rattle.std.proofs.Common.{ap, subst, ◌∙◌, arith, sum_by}
 use Rattle.std.specs.Prelude.{All, Some, ◌==◌, if◌then◌else◌}
 use Rattle.std.specs.List.{Contains, list_any, slice_split, onto_first}
 use Rattle.std.proofs.lemmas.List.Elements.{All-cons, All-nil}
@@ -64,7 +65,8 @@ inside_len heap table row column at (n ∷ ns) =
     omega (
       arith,
       rest,
-      sum_by-cons (λ (r : Reference). r.len) (record { at = in_blob table row column at; len = len_of (blob_at heap n) }) (named_inside heap table row column (indexes_at (at + length (short_unsigned n)) ns)),
+      sum_by-cons (λ (r : Reference). r.len) (record { at = in_blob table row column at; len = len_of (blob_at heap n) })
+          (named_inside heap table row column (indexes_at (at + length (short_unsigned n)) ns)),
       sum_by-cons (λ n. len_of (blob_at heap n)) n ns,
     )
 
@@ -77,10 +79,12 @@ module _ (value : FileValue) (small : length (canonical_tables value).blobs ≤ 
   AreHeld pieces parts = (content : List ℕ) → Contains parts content → Contains (held_in pieces) content
 
   module _ (pieces : List Piece) (is : Contains (cell_blobs value) pieces) where
-    spelled : (parts : List (List ℕ)) → AreHeld pieces parts → flat_map (piece_bytes (blobs value)) (map index parts) ≡ flat_map short_unsigned (map (place_of value small) parts)
+    spelled : (parts : List (List ℕ)) → AreHeld pieces parts
+        → flat_map (piece_bytes (blobs value)) (map index parts) ≡ flat_map short_unsigned (map (place_of value small) parts)
     spelled [] held = refl
     spelled (part ∷ parts) held =
-        ap (λ bytes. bytes ++ flat_map (piece_bytes (blobs value)) (map index parts)) (held_spelled value small pieces is part (held part (among_first part parts)))
+        ap (λ bytes. bytes ++ flat_map (piece_bytes (blobs value)) (map index parts))
+        (held_spelled value small pieces is part (held part (among_first part parts)))
         ∙ ap (λ rest. short_unsigned (place_of value small part) ++ rest) (spelled parts (λ content one. held content (among_later part content parts one)))
 
     all_small : (parts : List (List ℕ)) → AreHeld pieces parts → All (λ n. n < 2 ^ 29) (map (place_of value small) parts)
@@ -100,7 +104,8 @@ module _ (value : FileValue) (small : length (canonical_tables value).blobs ≤ 
     all_len [] held = refl
     all_len (part ∷ parts) held =
         let rest = all_len parts (λ content one. held content (among_later part content parts one)) in
-        let here : len_of (blob_at heap (place_of value small part)) ≡ length part = ap len_of (held_there value small pieces is part (held part (among_first part parts))) in
+        let here : len_of (blob_at heap (place_of value small part)) ≡ length part =
+        ap len_of (held_there value small pieces is part (held part (among_first part parts))) in
         omega (
           arith,
           rest,
@@ -139,7 +144,8 @@ module _ (value : FileValue) (small : length (canonical_tables value).blobs ≤ 
         ∙ ap (name_indexes heap) written
         ∙ written_indexes heap (separator_of document.name) (map (place_of value small) parts) parts writable
 
-    parts_len : (row : ℕ) → sum_by (λ (r : Reference). r.len) (named_inside heap 0x30 row 0 (in_name (canonical_tables value) (blob_at heap (blob_cell value pieces)))) ≡ sum_by length parts
+    parts_len : (row : ℕ) → sum_by (λ (r : Reference). r.len)
+        (named_inside heap 0x30 row 0 (in_name (canonical_tables value) (blob_at heap (blob_cell value pieces)))) ≡ sum_by length parts
     parts_len row =
         ap (λ (all : List PlacedIndex). sum_by (λ (r : Reference). r.len) (named_inside heap 0x30 row 0 all)) indexes
         ∙ inside_len heap 0x30 row 0 1 (map (place_of value small) parts) ∙ all_len pieces named parts parts_held

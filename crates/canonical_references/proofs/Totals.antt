@@ -15,10 +15,12 @@ use Rattle.ppdb_values.specs.Types.{HasTypes}
 use Rattle.sound_values.specs.Imports.{SoundImport, SoundImportScope}
 use Rattle.sound_values.specs.Scopes.{HoldsNoZero, SoundConstant, SoundScope, SoundVariable}
 use Rattle.sound_values.specs.Sound.{IsSound}
-use Rattle.reference_total.specs.References.{Reference, blob_in, len_of, of_constant, of_custom, of_document, of_import, of_method, of_variable, references, text_in}
+use Rattle.reference_total.specs.References.{Reference, blob_in, len_of, of_constant, of_custom, of_document, of_import, of_method}
+use Rattle.reference_total.specs.References.{of_variable, references, text_in}
 use Rattle.heap_items.specs.Uses.{Piece, with_held}
 use Rattle.ppdb_canon.specs.Uses.{cell_blobs, constant_blob, constants_of, custom_blob, document_blobs, import_blob, method_blob, text_uses, variables_of}
-use Rattle.ppdb_canon.specs.Canonical.{blob_cell, canonical_tables, constant_row, custom_row, document_row, import_row, method_row_of, method_rows, text_cell, variable_row}
+use Rattle.ppdb_canon.specs.Canonical.{blob_cell, canonical_tables, constant_row, custom_row, document_row, import_row, method_row_of}
+use Rattle.ppdb_canon.specs.Canonical.{method_rows, text_cell, variable_row}
 use Rattle.ppdb_canon.specs.Limits.{span}
 use Rattle.ppdb_canon.proofs.Counts.{type_limits_are}
 use Rattle.ppdb_canon.proofs.Shape.{blobs_small}
@@ -49,17 +51,20 @@ module _ (value : FileValue) (sound : IsSound value) (types : HasTypes value) (s
       ≡ sum_by whole_len (flat_map document_blobs value.documents)
   unfolding canonical_tables
   documents_total =
-      rows_sum reference_len (λ document. sum_by whole_len (document_blobs document)) (document_row value) (of_document (canonical_tables value)) 1 value.documents
+      rows_sum reference_len (λ document. sum_by whole_len (document_blobs document)) (document_row value)
+      (of_document (canonical_tables value)) 1 value.documents
       (λ row document is. document_len value small document is row ∙ sum_flat (spelled_len value small) with_held (document_blobs document))
       ∙ sym (sum_flat whole_len document_blobs value.documents)
 
-  imports_total : total_of (flat_map (of_import (canonical_tables value)) (numbered (canonical_tables value).imports)) ≡ sum_by whole_len (map import_blob value.imports)
+  imports_total : total_of (flat_map (of_import (canonical_tables value)) (numbered (canonical_tables value).imports))
+      ≡ sum_by whole_len (map import_blob value.imports)
   unfolding canonical_tables
   imports_total =
       rows_sum reference_len (λ scope. whole_len (import_blob scope)) (import_row value) (of_import (canonical_tables value)) 1 value.imports
       (λ row scope is.
       import_len value small scope is sound.rows
-      (λ import among. each_among (SoundImport value) scope.imports import (each_among (SoundImportScope value) value.imports scope sound.imports.each is).imports among)
+      (λ import among. each_among (SoundImport value) scope.imports import (each_among (SoundImportScope value) value.imports scope sound.imports.each
+      is).imports among)
       (type_limits_are value types.rows) row)
       ∙ sym (sum_map whole_len import_blob value.imports)
 
@@ -70,7 +75,8 @@ module _ (value : FileValue) (sound : IsSound value) (types : HasTypes value) (s
   plain_len pieces alone is =
       cell_len value small pieces is ∙ sym (sum_one (spelled_len value small) pieces) ∙ sym (ap (sum_by (spelled_len value small)) alone)
 
-  customs_total : total_of (flat_map (of_custom (canonical_tables value)) (numbered (canonical_tables value).customs)) ≡ sum_by whole_len (map custom_blob value.customs)
+  customs_total : total_of (flat_map (of_custom (canonical_tables value)) (numbered (canonical_tables value).customs))
+      ≡ sum_by whole_len (map custom_blob value.customs)
   unfolding canonical_tables
   customs_total =
       rows_sum reference_len (λ custom. whole_len (custom_blob custom)) (custom_row value) (of_custom (canonical_tables value)) 1 value.customs
@@ -81,7 +87,8 @@ module _ (value : FileValue) (sound : IsSound value) (types : HasTypes value) (s
 
   -- ---- names of variables and constants
 
-  name_len : (name : List ℕ) → Contains (text_uses value) name → HoldsNoZero name → len_of (text_at (canonical_tables value).texts (text_cell value name)) ≡ length name
+  name_len : (name : List ℕ) → Contains (text_uses value) name → HoldsNoZero name → len_of (text_at (canonical_tables value).texts (text_cell value name))
+      ≡ length name
   name_len name is whole = ap len_of (text_stands value name is whole)
 
   scope_sound : (scope : ScopeValue) → Contains value.scopes scope → SoundScope value scope
@@ -109,7 +116,8 @@ module _ (value : FileValue) (sound : IsSound value) (types : HasTypes value) (s
       ≡ sum_by length (map (λ constant. constant.name) (constants_of value)) + sum_by whole_len (map constant_blob (constants_of value))
   unfolding canonical_tables
   constants_total =
-      rows_sum reference_len (λ constant. length constant.name + whole_len (constant_blob constant)) (constant_row value) (of_constant (canonical_tables value)) 1 (constants_of value)
+      rows_sum reference_len (λ constant. length constant.name + whole_len (constant_blob constant)) (constant_row value)
+      (of_constant (canonical_tables value)) 1 (constants_of value)
       (λ row constant is.
       let name = name_len constant.name (constant_name_used value constant is) (constant_sound constant is).name in
       let signature = plain_len (constant_blob constant) refl (constant_named value constant is) in
@@ -140,7 +148,8 @@ module _ (value : FileValue) (sound : IsSound value) (types : HasTypes value) (s
       sum_one reference_len (blob_in (canonical_tables value) 0x31 row 1 (blob_cell value (method_blob method)))
       ∙ plain_len (method_blob method) refl (method_named value method (is method refl))
 
-  methods_total : total_of (flat_map (of_method (canonical_tables value)) (numbered (canonical_tables value).methods)) ≡ sum_by whole_len (map method_blob value.methods)
+  methods_total : total_of (flat_map (of_method (canonical_tables value)) (numbered (canonical_tables value).methods))
+      ≡ sum_by whole_len (map method_blob value.methods)
   unfolding canonical_tables
   methods_total = by value.methods refl ∙ sym (sum_map whole_len method_blob value.methods)
     where
@@ -148,9 +157,11 @@ module _ (value : FileValue) (sound : IsSound value) (types : HasTypes value) (s
           → total_of (flat_map (of_method (canonical_tables value)) (numbered (method_rows value methods))) ≡ sum_by points_len methods
       by [] are = refl
       by (first ∷ others) are =
-          rows_sum reference_len (λ m. size_by key points_len (method_at value m)) (λ m. method_row_of value (method_at value m)) (of_method (canonical_tables value)) 1 (range_with_len 1 (slice_index value.rows 0x06))
+          rows_sum reference_len (λ m. size_by key points_len (method_at value m)) (λ m. method_row_of value (method_at value m))
+          (of_method (canonical_tables value)) 1 (range_with_len 1 (slice_index value.rows 0x06))
           (λ row m is. row_len row (method_at value m) (λ method there. found_among (λ one. one.method == m) value.methods method there))
-          ∙ rows_size_is key points_len (slice_index value.rows 0x06) value.methods sound.methods.by_row (λ row method here. (sound.methods.each row method here).row)
+          ∙ rows_size_is key points_len (slice_index value.rows 0x06) value.methods sound.methods.by_row (λ row method here.
+          (sound.methods.each row method here).row)
           ∙ ap (sum_by points_len) are
 
   -- ---- all

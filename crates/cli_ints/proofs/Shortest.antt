@@ -76,7 +76,8 @@ in_range-fits : (half : ℕ) (z : ℤ) → neg_ℤ (pos half) ≤ℤ z → z <�
 in_range-fits half (pos n) low high = grind (arith, ints)
 in_range-fits half (negsuc n) low high = grind (arith, ints)
 
-signed-of : (bytes : List ℕ) (len : ℕ) (z : ℤ) (half : ℕ) → length bytes ≡ len → SpellsUnsigned bytes (rotated half z) → z ≡ unrotated half (rotated half z) → half ≡ 2 ^ (bits_of len - 1) → SpellsSigned bytes z
+signed-of : (bytes : List ℕ) (len : ℕ) (z : ℤ) (half : ℕ) → length bytes ≡ len → SpellsUnsigned bytes (rotated half z) → z ≡ unrotated half (rotated half z)
+    → half ≡ 2 ^ (bits_of len - 1) → SpellsSigned bytes z
 signed-of bytes len z half l h back e = (rotated half z, h, rw l (rw (← e) back))
 
 -- A spelling with fewer bytes holds fewer bits.
@@ -88,7 +89,8 @@ signed-needs_two (b ∷ c ∷ bs) z not h = omega arith
 signed-needs_four : (other : List ℕ) (z : ℤ) → fits_half (2 ^ 6) z ≡ false → fits_half (2 ^ 13) z ≡ false → SpellsSigned other z → 4 ≤ length other
 signed-needs_four [] z few not h = absurd h.1
 signed-needs_four (b ∷ []) z few not h = let fits : fits_half (2 ^ 6) z ≡ true = rw h.2 (unrotated-fits (2 ^ 6) h.0 (omega (arith, h.1.0, h.1.1))) in cc
-signed-needs_four (b ∷ c ∷ []) z few not h = let fits : fits_half (2 ^ 13) z ≡ true = rw h.2 (unrotated-fits (2 ^ 13) h.0 (omega (arith, h.1.1, h.1.2, h.1.3))) in cc
+signed-needs_four (b ∷ c ∷ []) z few not h =
+    let fits : fits_half (2 ^ 13) z ≡ true = rw h.2 (unrotated-fits (2 ^ 13) h.0 (omega (arith, h.1.1, h.1.2, h.1.3))) in cc
 signed-needs_four (b ∷ c ∷ d ∷ []) z few not h = absurd h.1
 signed-needs_four (b ∷ c ∷ d ∷ e ∷ bs) z few not h = omega arith
 
@@ -103,12 +105,14 @@ short_signed-shortest z low high =
       | inr more ↦ rw more
           (elim (cases_Bool (fits_half (2 ^ 13) z)) [
             | inl two ↦ rw two (record {
-              spelled = signed-of (in_two_bytes (rotated (2 ^ 13) z)) 2 z (2 ^ 13) refl (two-spelled (rotated (2 ^ 13) z) (rotated-below (2 ^ 13) z two)) (rotated-back (2 ^ 13) z two) refl;
+              spelled = signed-of (in_two_bytes (rotated (2 ^ 13) z)) 2 z (2 ^ 13) refl (two-spelled (rotated (2 ^ 13) z) (rotated-below (2 ^ 13) z two))
+                  (rotated-back (2 ^ 13) z two) refl;
               least = λ other h. signed-needs_two other z more h;
             })
             | inr four ↦ rw four
                 (let fits : fits_half (2 ^ 28) z ≡ true = in_range-fits (2 ^ 28) z low high in record {
-                  spelled = signed-of (in_four_bytes (rotated (2 ^ 28) z)) 4 z (2 ^ 28) refl (four-spelled (rotated (2 ^ 28) z) (rotated-below (2 ^ 28) z fits)) (rotated-back (2 ^ 28) z fits) refl;
+                  spelled = signed-of (in_four_bytes (rotated (2 ^ 28) z)) 4 z (2 ^ 28) refl (four-spelled (rotated (2 ^ 28) z) (rotated-below (2 ^ 28) z fits))
+                      (rotated-back (2 ^ 28) z fits) refl;
                   least = λ other h. signed-needs_four other z more four h;
                 })
           ])
@@ -123,7 +127,8 @@ unsigned-one : (a b : List ℕ) (v : ℕ) → length a ≡ length b → SpellsUn
 unsigned-one a b v l p q = grind arith
 
 pub is-short_unsigned : (bytes : List ℕ) (n : ℕ) → n < 2 ^ 29 → IsShortest SpellsUnsigned bytes n → bytes ≡ short_unsigned n
-is-short_unsigned bytes n less h = let s = short_unsigned-shortest n less in unsigned-one bytes (short_unsigned n) n (one_length SpellsUnsigned bytes (short_unsigned n) n h s) h.spelled s.spelled
+is-short_unsigned bytes n less h = let s = short_unsigned-shortest n less in
+    unsigned-one bytes (short_unsigned n) n (one_length SpellsUnsigned bytes (short_unsigned n) n h s) h.spelled s.spelled
 
 signed-one : (a b : List ℕ) (v : ℤ) → IsShortest SpellsSigned a v → IsShortest SpellsSigned b v → a ≡ b
 signed-one a b v p q = grind (arith, common_steps)

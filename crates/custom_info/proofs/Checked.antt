@@ -18,18 +18,25 @@ refused true x fault other e = absurd cc
 refused false x fault other e = (refl, cc)
 
 -- A number that passes: the record goes on, or is whole.
-pub left-kept : {R : Type 0} (g : Grammar R) (whole : List R) (begun : List Value) (blob : List ℕ) (at : ℕ) (form : Form) (r : Result (ℕ × ℕ) IntFault) (v len : ℕ)
-    → g.form whole begun ≡ Some form → field_at form (drop at blob) ≡ as_number r → checked (λ n. g.allows whole begun (number n)) at (placed at r) ≡ Ok (v, len)
-    → left_at g whole begun blob at ≡ close_and (λ w b. left_at g w b blob (at + len)) whole (begun ++ number v ∷ []) (g.record_of whole (begun ++ number v ∷ []))
+pub left-kept : {R : Type 0} (g : Grammar R) (whole : List R) (begun : List Value) (blob : List ℕ) (at : ℕ) (form : Form) (r : Result (ℕ × ℕ) IntFault)
+    (v len : ℕ)
+    → g.form whole begun ≡ Some form → field_at form (drop at blob) ≡ as_number r → checked (λ n. g.allows whole begun (number n)) at (placed at r) ≡ Ok (
+      v,
+      len,
+    )
+    → left_at g whole begun blob at ≡ close_and (λ w b. left_at g w b blob (at + len)) whole (begun ++ number v ∷ [])
+    (g.record_of whole (begun ++ number v ∷ []))
 left-kept g whole begun blob at form (Err e) v len expected found is = absurd cc
 left-kept {R = R} g whole begun blob at form (Ok x) v len expected found is =
     let k = kept (g.allows whole begun (number x.0)) x (v, len) (record { code = ValueRange; byte = at }) is in
     subst
-    (λ (y : ℕ × ℕ). left_at g whole begun blob at ≡ close_and (λ w b. left_at g w b blob (at + y.1)) whole (begun ++ number y.0 ∷ []) (g.record_of whole (begun ++ number y.0 ∷ [])))
+    (λ (y : ℕ × ℕ). left_at g whole begun blob at ≡ close_and (λ w b. left_at g w b blob (at + y.1)) whole (begun ++ number y.0 ∷ [])
+    (g.record_of whole (begun ++ number y.0 ∷ [])))
     k.1 (left-field g whole begun blob at form (number x.0) x.1 expected found k.0)
 
 -- A fault: nothing is left but it.
-pub left-refused : {R : Type 0} (g : Grammar R) (whole : List R) (begun : List Value) (blob : List ℕ) (at : ℕ) (form : Form) (r : Result (ℕ × ℕ) IntFault) (fault : BlobFault)
+pub left-refused : {R : Type 0} (g : Grammar R) (whole : List R) (begun : List Value) (blob : List ℕ) (at : ℕ) (form : Form) (r : Result (ℕ × ℕ) IntFault)
+    (fault : BlobFault)
     → g.form whole begun ≡ Some form → field_at form (drop at blob) ≡ as_number r → (is_empty (drop at blob) && g.may_stop whole begun) ≡ false
     → checked (λ n. g.allows whole begun (number n)) at (placed at r) ≡ Err fault
     → left_at g whole begun blob at ≡ nothing_left (Some fault)

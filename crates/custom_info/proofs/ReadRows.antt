@@ -16,7 +16,8 @@ pub row-there : (rows row : ℕ) → is_row rows row ≡ true → (1 ≤ row) ×
 row-there rows row e = let p = and_parts (nat_le 1 row) (nat_le row rows) e in (leb-true 1 row p.0, leb-true row rows p.1)
 
 -- the bytes of an unsigned field spell its number
-pub unsigned-spelled : (form : Form) (bytes : List ℕ) (n : ℕ) (after : List ℕ) → Some unsigned ≡ Some form → Spells form bytes (number n) after → SpellsUnsigned bytes n
+pub unsigned-spelled : (form : Form) (bytes : List ℕ) (n : ℕ) (after : List ℕ) → Some unsigned ≡ Some form → Spells form bytes (number n) after
+    → SpellsUnsigned bytes n
 unsigned-spelled form bytes n after e s = let same : form ≡ unsigned = cc in subst (λ (f : Form). Spells f bytes (number n) after) same s
 
 abbrev IsRead : ℕ → ℕ → Type 0
@@ -40,9 +41,12 @@ one documents whole [] bytes (number n) after a h b =
     let there = row-there documents n a.allowed in
     (All-push (IsRead documents) whole n h ((there.0, unsigned-below bytes n (unsigned-spelled a.form bytes n after a.expected a.spelled)), there.1), tt)
 
-kept : (documents : ℕ) (c : Cut ℕ) (f : Field) (after : List ℕ) → IsAllowed (type_documents documents) c f after → Holds documents c → Holds documents (with_value (type_documents documents) c f.value)
+kept : (documents : ℕ) (c : Cut ℕ) (f : Field) (after : List ℕ) → IsAllowed (type_documents documents) c f after → Holds documents c
+    → Holds documents (with_value (type_documents documents) c f.value)
 kept documents c f after a h = one documents c.whole c.begun f.bytes f.value after a h.0 h.1
 
-pub read_rows : (documents : ℕ) (blob : List ℕ) (rows : List ℕ) (fault : Option BlobFault) → Reading (type_documents documents) blob rows fault → All (λ row. IsRowNumber row × (row ≤ documents)) rows
+pub read_rows : (documents : ℕ) (blob : List ℕ) (rows : List ℕ) (fault : Option BlobFault) → Reading (type_documents documents) blob rows fault
+    → All (λ row. IsRowNumber row × (row ≤ documents)) rows
 read_rows documents blob rows fault r =
-    subst (λ (xs : List ℕ). All (IsRead documents) xs) (sym r.made) (of_reading (type_documents documents) (Holds documents) (kept documents) (All-nil (IsRead documents), tt) blob rows fault r).0
+    subst (λ (xs : List ℕ). All (IsRead documents) xs) (sym r.made) (of_reading (type_documents documents) (Holds documents) (kept documents)
+    (All-nil (IsRead documents), tt) blob rows fault r).0

@@ -28,7 +28,8 @@ Begun _ = ⊥
 abbrev Holds : Cut Slot → Type 0
 Holds c = All IsSlot c.whole × Begun c.begun
 
-one : (whole : List Slot) (begun : List Value) (bytes : List ℕ) (value : Value) (after : List ℕ) → IsAllowed hoisted_scopes (record { whole = whole; begun = begun }) (record { bytes = bytes; value = value }) after
+one : (whole : List Slot) (begun : List Value) (bytes : List ℕ) (value : Value) (after : List ℕ)
+    → IsAllowed hoisted_scopes (record { whole = whole; begun = begun }) (record { bytes = bytes; value = value }) after
     → All IsSlot whole → Begun begun → Holds (with_value hoisted_scopes (record { whole = whole; begun = begun }) value)
 one whole [] bytes (number start) after a h b = (h, tt)
 one whole [] bytes (integer z) after a h b = let e : false ≡ true = a.allowed in absurd cc
@@ -44,4 +45,5 @@ kept : (c : Cut Slot) (f : Field) (after : List ℕ) → IsAllowed hoisted_scope
 kept c f after a h = one c.whole c.begun f.bytes f.value after a h.0 h.1
 
 pub read_slots : (blob : List ℕ) (slots : List Slot) (fault : Option BlobFault) → Reading hoisted_scopes blob slots fault → All IsSlot slots
-read_slots blob slots fault r = subst (λ (xs : List Slot). All IsSlot xs) (sym r.made) (of_reading hoisted_scopes Holds kept (All-nil IsSlot, tt) blob slots fault r).0
+read_slots blob slots fault r =
+    subst (λ (xs : List Slot). All IsSlot xs) (sym r.made) (of_reading hoisted_scopes Holds kept (All-nil IsSlot, tt) blob slots fault r).0

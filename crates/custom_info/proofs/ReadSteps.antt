@@ -60,18 +60,24 @@ one methods (x ∷ xs) (number pause ∷ octets o ∷ vs) bytes value after a h 
 one methods (x ∷ xs) (integer z ∷ vs) bytes value after a h b = absurd b
 one methods (x ∷ xs) (octets o ∷ vs) bytes value after a h b = absurd b
 
-kept : (methods : ℕ) (c : Cut Entry) (f : Field) (after : List ℕ) → IsAllowed (async_stepping methods) c f after → Holds methods c → Holds methods (with_value (async_stepping methods) c f.value)
+kept : (methods : ℕ) (c : Cut Entry) (f : Field) (after : List ℕ) → IsAllowed (async_stepping methods) c f after → Holds methods c
+    → Holds methods (with_value (async_stepping methods) c f.value)
 kept methods c f after a h = one methods c.whole c.begun f.bytes f.value after a h.0 h.1
 
 steps-of : (methods : ℕ) (steps : List AsyncStep) → All (IsRead methods) (map await_step steps) → All (λ step. IsStep step × (step.method ≤ methods)) steps
 steps-of methods [] h = All-nil (λ (step : AsyncStep). IsStep step × (step.method ≤ methods))
 steps-of methods (step ∷ steps) h =
-    All-cons (λ (s : AsyncStep). IsStep s × (s.method ≤ methods)) step steps (All-head (IsRead methods) (await_step step) (map await_step steps) h) (steps-of methods steps (All-tail (IsRead methods) (await_step step) (map await_step steps) h))
+    All-cons (λ (s : AsyncStep). IsStep s × (s.method ≤ methods)) step steps (All-head (IsRead methods) (await_step step) (map await_step steps) h)
+    (steps-of methods steps (All-tail (IsRead methods) (await_step step) (map await_step steps) h))
 
-pub read_steps : (methods : ℕ) (blob : List ℕ) (handler : Option ℕ) (steps : List AsyncStep) (fault : Option BlobFault) → Reading (async_stepping methods) blob (entries_of handler steps) fault
+pub read_steps : (methods : ℕ) (blob : List ℕ) (handler : Option ℕ) (steps : List AsyncStep) (fault : Option BlobFault)
+    → Reading (async_stepping methods) blob (entries_of handler steps) fault
     → IsHandler handler × All (λ step. IsStep step × (step.method ≤ methods)) steps
 read_steps methods blob handler steps fault r =
     let all : All (IsRead methods) (entries_of handler steps) =
-    subst (λ (xs : List Entry). All (IsRead methods) xs) (sym r.made) (of_reading (async_stepping methods) (Holds methods) (kept methods) (All-nil (IsRead methods), tt) blob (entries_of handler steps) fault r).0
-    in
-    (All-head (IsRead methods) (catch_handler handler) (map await_step steps) all, steps-of methods steps (All-tail (IsRead methods) (catch_handler handler) (map await_step steps) all))
+    subst (λ (xs : List Entry). All (IsRead methods) xs) (sym r.made) (of_reading (async_stepping methods) (Holds methods) (kept methods)
+    (All-nil (IsRead methods), tt) blob (entries_of handler steps) fault r).0
+    in (
+      All-head (IsRead methods) (catch_handler handler) (map await_step steps) all,
+      steps-of methods steps (All-tail (IsRead methods) (catch_handler handler) (map await_step steps) all),
+    )

@@ -25,13 +25,16 @@ pub at_end : (blob : List ℕ) (at : ℕ) → at ≡ length blob → slots_left 
 unfolding slots_left
 at_end blob at e = left-end hoisted_scopes [] [] blob at word refl e refl
 
-pub no_start : (blob : List ℕ) (at : ℕ) (fault : BlobFault) → at < length blob → placed at (word_at (drop at blob)) ≡ Err fault → slots_left blob at ≡ nothing_left (Some fault)
+pub no_start : (blob : List ℕ) (at : ℕ) (fault : BlobFault) → at < length blob → placed at (word_at (drop at blob)) ≡ Err fault
+    → slots_left blob at ≡ nothing_left (Some fault)
 unfolding slots_left
 no_start blob at fault less e =
     let n = word_not_there at (drop at blob) fault e in
-    left-none hoisted_scopes [] [] blob at word n.code refl n.none (ap (λ b. b && true) (not_empty blob at less)) ∙ ap (λ f. nothing_left (Some f)) (sym n.fault_is)
+    left-none hoisted_scopes [] [] blob at word n.code refl n.none (ap (λ b. b && true) (not_empty blob at less))
+    ∙ ap (λ f. nothing_left (Some f)) (sym n.fault_is)
 
-start_in : (blob : List ℕ) (at start len : ℕ) → placed at (word_at (drop at blob)) ≡ Ok (start, len) → slots_left blob at ≡ left_at hoisted_scopes [] (number start ∷ []) blob (at + len)
+start_in : (blob : List ℕ) (at start len : ℕ) → placed at (word_at (drop at blob)) ≡ Ok (start, len)
+    → slots_left blob at ≡ left_at hoisted_scopes [] (number start ∷ []) blob (at + len)
 unfolding slots_left
 start_in blob at start len e = left-field hoisted_scopes [] [] blob at word (number start) len refl (word_there at (drop at blob) start len e) refl
 
@@ -39,7 +42,8 @@ pub no_length : (blob : List ℕ) (at start len : ℕ) (fault : BlobFault) → p
     → checked (is_length start) (at + len) (placed (at + len) (word_at (drop (at + len) blob))) ≡ Err fault → slots_left blob at ≡ nothing_left (Some fault)
 no_length blob at start len fault s e =
     start_in blob at start len s
-    ∙ left-refused hoisted_scopes [] (number start ∷ []) blob (at + len) word (word_at (drop (at + len) blob)) fault refl refl (and-false (is_empty (drop (at + len) blob))) e
+    ∙ left-refused hoisted_scopes [] (number start ∷ []) blob (at + len) word (word_at (drop (at + len) blob)) fault refl refl
+    (and-false (is_empty (drop (at + len) blob))) e
 
 pub a_slot : (blob : List ℕ) (at start len size more : ℕ) → placed at (word_at (drop at blob)) ≡ Ok (start, len)
     → checked (is_length start) (at + len) (placed (at + len) (word_at (drop (at + len) blob))) ≡ Ok (size, more)
@@ -48,7 +52,8 @@ unfolding slots_left Any
 a_slot blob at start len size more s e =
     start_in blob at start len s
     ∙ left-kept hoisted_scopes [] (number start ∷ []) blob (at + len) word (word_at (drop (at + len) blob)) size more refl refl e
-    ∙ ap (push (slot_with start size)) (read_from-alike hoisted_scopes hoisted_scopes Any alike (slot_with start size ∷ []) [] [] (at + len + more) (drop (at + len + more) blob) tt)
+    ∙ ap (push (slot_with start size)) (read_from-alike hoisted_scopes hoisted_scopes Any alike (slot_with start size ∷ []) [] [] (at + len + more)
+    (drop (at + len + more) blob) tt)
 
 -- a slot whose length is not 0
 pub held : (start size : ℕ) → (size ≡ 0 → ⊥) → slot_with start size ≡ Held (record { start = start; end = start + size })

@@ -23,19 +23,32 @@ inside rows row a b = grind arith
 
 writes : (documents : ℕ) → Writes (type_documents documents) fields_of (MayAdd documents)
 writes documents = record {
-  follow = λ whole row left h. (record { form = unsigned; expected = refl; spelled = (short_unsigned-shortest row h.0.1).spelled; allowed = inside documents row h.0.0 h.1 }, tt);
+  follow = λ whole row left h. (
+    record {
+      form = unsigned;
+      expected = refl;
+      spelled = (short_unsigned-shortest row h.0.1).spelled;
+      allowed = inside documents row h.0.0 h.1;
+    },
+    tt,
+  );
   makes = λ whole row h. refl;
 }
 
 each : (documents : ℕ) (whole rows : List ℕ) → All IsRowNumber rows → All (λ row. row ≤ documents) rows → EachMayAdd (MayAdd documents) whole rows
 each documents whole [] a b = tt
-each documents whole (row ∷ rows) a b =
-    ((All-head IsRowNumber row rows a, All-head (λ r. r ≤ documents) row rows b), each documents (whole ++ row ∷ []) rows (All-tail IsRowNumber row rows a) (All-tail (λ r. r ≤ documents) row rows b))
+each documents whole (row ∷ rows) a b = (
+  (All-head IsRowNumber row rows a, All-head (λ r. r ≤ documents) row rows b),
+  each documents (whole ++ row ∷ []) rows (All-tail IsRowNumber row rows a)
+      (All-tail (λ r. r ≤ documents) row rows b),
+)
 
 spelled : (whole rows : List ℕ) → bytes_of (fields_after fields_of whole rows) ≡ rows_spelling rows
 spelled whole [] = refl
 spelled whole (row ∷ rows) = ap (λ bs. short_unsigned row ++ bs) (spelled (whole ++ row ∷ []) rows)
 
-pub written_rows : (documents : ℕ) (rows : List ℕ) → All IsRowNumber rows → All (λ row. row ≤ documents) rows → Reading (type_documents documents) (rows_spelling rows) rows None
+pub written_rows : (documents : ℕ) (rows : List ℕ) → All IsRowNumber rows → All (λ row. row ≤ documents) rows
+    → Reading (type_documents documents) (rows_spelling rows) rows None
 written_rows documents rows a b =
-    subst (λ blob. Reading (type_documents documents) blob rows None) (spelled [] rows) (records_read (type_documents documents) fields_of (MayAdd documents) (writes documents) rows (each documents [] rows a b) refl)
+    subst (λ blob. Reading (type_documents documents) blob rows None) (spelled [] rows) (records_read (type_documents documents) fields_of (MayAdd documents)
+    (writes documents) rows (each documents [] rows a b) refl)

@@ -57,7 +57,15 @@ writes : Writes hoisted_scopes fields_of MayAdd
 writes = record {
   follow = λ whole slot left h. (
     record { form = word; expected = refl; spelled = (refl, sym (from_le_bytes-to_le_bytes_4 (start_of slot) (start_fits slot h))); allowed = refl },
-    (record { form = word; expected = refl; spelled = (refl, sym (from_le_bytes-to_le_bytes_4 (length_of slot) (length_fits slot h))); allowed = length_allowed slot h }, tt),
+    (
+      record {
+        form = word;
+        expected = refl;
+        spelled = (refl, sym (from_le_bytes-to_le_bytes_4 (length_of slot) (length_fits slot h)));
+        allowed = length_allowed slot h;
+      },
+      tt,
+    ),
   );
   makes = λ whole slot h. ap (λ (s : Slot). record { whole = whole ++ s ∷ []; begun = [] }) (same_slot slot h);
 }
@@ -72,4 +80,5 @@ spelled whole (Empty ∷ slots) = ap (λ bs. slot_spelling Empty ++ bs) (spelled
 spelled whole (Held range ∷ slots) = ap (λ bs. slot_spelling (Held range) ++ bs) (spelled (whole ++ Held range ∷ []) slots)
 
 pub written_slots : (slots : List Slot) → All IsSlot slots → Reading hoisted_scopes (slots_spelling slots) slots None
-written_slots slots h = subst (λ blob. Reading hoisted_scopes blob slots None) (spelled [] slots) (records_read hoisted_scopes fields_of MayAdd writes slots (each [] slots h) refl)
+written_slots slots h =
+    subst (λ blob. Reading hoisted_scopes blob slots None) (spelled [] slots) (records_read hoisted_scopes fields_of MayAdd writes slots (each [] slots h) refl)

@@ -1,11 +1,13 @@
--- The kinds of custom debug information, each named by a GUID (Portable PDB v1.0, CustomDebugInformation Table, and the kinds that the C# and Visual Basic compilers add).
+-- The kinds of custom debug information, each named by a GUID (Portable PDB v1.0, CustomDebugInformation Table, and the kinds that the C#
+-- and Visual Basic compilers add).
 use Rattle.std.specs.Prelude.{ℕ, List, [], ◌∷◌, Bool, ◌||◌, if◌then◌else◌}
 use Rattle.std.specs.List.{list_any}
 use Rattle.std.specs.Str.{bytes_eq}
 use Rattle.custom_info.specs.declared.kinds.Kind.{Kind}
 use Rattle.custom_info.specs.declared.kinds.Kind.TheVariants.{Async, Hoisted, TypeDocuments, Free, Unknown}
 
--- The bytes of a GUID in the #GUID heap (ECMA-335 II.24.2.5), from those of its text: the first three fields are little-endian, the last eight bytes stand as they are written.
+-- The bytes of a GUID in the #GUID heap (ECMA-335 II.24.2.5), from those of its text: the first three fields are little-endian, the last
+-- eight bytes stand as they are written.
 abbrev pub in_file_order : List ℕ → List ℕ
 in_file_order (a ∷ b ∷ c ∷ d ∷ e ∷ f ∷ g ∷ h ∷ others) = d ∷ c ∷ b ∷ a ∷ f ∷ e ∷ h ∷ g ∷ others
 in_file_order bytes = bytes
@@ -68,7 +70,8 @@ metadata_references = in_file_order (0x7E ∷ 0x4D ∷ 0x47 ∷ 0x08 ∷ 0x09 �
 
 abbrev pub passed_on : List (List ℕ)
 passed_on =
-    source_link ∷ embedded_source ∷ dynamic_locals ∷ tuple_names ∷ default_namespace ∷ slot_map ∷ lambda_map ∷ state_map ∷ compilation_options ∷ metadata_references ∷ []
+    source_link ∷ embedded_source ∷ dynamic_locals ∷ tuple_names ∷ default_namespace ∷ slot_map ∷ lambda_map ∷ state_map ∷ compilation_options
+    ∷ metadata_references ∷ []
 
 -- ---- the kind of a record
 

@@ -3,7 +3,8 @@ ghost use Rattle.std.specs.Prelude.{◌≡◌, ◌≤◌, ◌<◌, ◌^◌, ◌+
 ghost use Rattle.blob_grammar.specs.Reading.{Reading};
 ghost use Rattle.blob_grammar.specs.Reader.{NextIs, answer, rest_of, placed, word_at};
 ghost use Rattle.custom_info.specs.Fields.{checked};
-ghost use Rattle.custom_info.specs.AsyncStepping.{async_stepping, steps_left, is_stored, handler_of as the_handler, stored_of, entries_of, IsHandler, IsStep, step_spelling, async_spelling};
+ghost use Rattle.custom_info.specs.AsyncStepping.{async_stepping, steps_left, is_stored, handler_of as the_handler, stored_of};
+ghost use Rattle.custom_info.specs.AsyncStepping.{entries_of, IsHandler, IsStep, step_spelling, async_spelling};
 
 use crate::fields::{OFFSET_LIMIT, field_where, number_into, offset_field, row_field, word_into};
 use crate::written::{Written, all_into};

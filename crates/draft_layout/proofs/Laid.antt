@@ -1,5 +1,6 @@
 -- The file of a draft is the canonical file of its value, and as long as that in any case.
-use Rattle.std.proofs.Common.{◌≡◌, ℕ, suc, ◌+◌, ◌*◌, ◌<◌, ◌≤◌, ◌^◌, Bool, true, false, List, [], ◌∷◌, ◌++◌, length, map, flat_map, take, drop, refl, sym, ap, subst, ◌∙◌, arith, length-append}
+use Rattle.std.proofs.Common.{◌≡◌, ℕ, suc, ◌+◌, ◌*◌, ◌<◌, ◌≤◌, ◌^◌, Bool, true, false, List, [], ◌∷◌, ◌++◌, length, map, flat_map, take}
+use Rattle.std.proofs.Common.{drop, refl, sym, ap, subst, ◌∙◌, arith, length-append}
 use Rattle.std.specs.Prelude.{All}
 use Rattle.std.proofs.lemmas.List.{length-map, take_at, length-take, length-drop}
 use Rattle.std.proofs.lemmas.List.Elements.{All-head, All-tail}
@@ -10,7 +11,8 @@ use Rattle.ppdb_tables.specs.declared.rows.VariableRow.{VariableRow}
 use Rattle.ppdb_tables.specs.declared.rows.ConstantRow.{ConstantRow}
 use Rattle.ppdb_tables.specs.declared.rows.ImportRow.{ImportRow}
 use Rattle.ppdb_tables.specs.declared.rows.CustomRow.{CustomRow}
-use Rattle.ppdb_tables.specs.Layouts.{widths_of, document_columns, method_columns, scope_columns, variable_columns, constant_columns, import_columns, custom_columns}
+use Rattle.ppdb_tables.specs.Layouts.{widths_of, document_columns, method_columns, scope_columns, variable_columns, constant_columns}
+use Rattle.ppdb_tables.specs.Layouts.{import_columns, custom_columns}
 use Rattle.ppdb_tables.specs.RawTables.{RawTables}
 use Rattle.ppdb_values.specs.declared.file.FileValue.{FileValue}
 use Rattle.ppdb_values.specs.Types.{IsGuid}
@@ -63,7 +65,8 @@ made_of counts texts guids blobs rows = record {
   customs = rows.customs;
 }
 
-pub held_tables : (value : FileValue) (draft : Draft) (all : List ℕ) → IsDraftOf value draft → all ≡ counts value → tables_from all draft ≡ with_rows (canonical_tables value) (held_rows (canonical_tables value))
+pub held_tables : (value : FileValue) (draft : Draft) (all : List ℕ) → IsDraftOf value draft → all ≡ counts value
+    → tables_from all draft ≡ with_rows (canonical_tables value) (held_rows (canonical_tables value))
 unfolding canonical_tables
 held_tables value draft all is counted =
     ap (λ now. made_of now draft.texts.items draft.guids draft.blobs.items draft.rows) counted
@@ -85,10 +88,13 @@ same_sum sizes raw =
     let g = length-map raw.customs held_custom in
     rw (a, b, c, d, e, f, g) refl
 
-same_tables : (all : List ℕ) (raw : RawTables) (heaps : HeapLens) → length (tables_stream all (held_rows raw) heaps) ≡ length (tables_stream all (rows_of raw) heaps)
+same_tables : (all : List ℕ) (raw : RawTables) (heaps : HeapLens)
+    → length (tables_stream all (held_rows raw) heaps) ≡ length (tables_stream all (rows_of raw) heaps)
 same_tables all raw heaps =
     length-tables all (held_rows raw) heaps
-    ∙ ap (λ n. n + (24 + 4 * length (Rattle.file_layout.specs.Bytes.with_rows all (Rattle.std.specs.List.range_with_len 0x30 8))) + padding (n + (24 + 4 * length (Rattle.file_layout.specs.Bytes.with_rows all (Rattle.std.specs.List.range_with_len 0x30 8))))) (same_sum (sizes_of all heaps) raw)
+    ∙ ap (λ n. n + (24 + 4 * length (Rattle.file_layout.specs.Bytes.with_rows all (Rattle.std.specs.List.range_with_len 0x30 8)))
+    + padding (n + (24 + 4 * length (Rattle.file_layout.specs.Bytes.with_rows all (Rattle.std.specs.List.range_with_len 0x30 8)))))
+    (same_sum (sizes_of all heaps) raw)
     ∙ sym (length-tables all (rows_of raw) heaps)
 
 same_front : (id other : List ℕ) (entry : ℕ) (all : List ℕ) (raw : RawTables) (heaps : HeapLens) → length id ≡ 20 → length other ≡ 20
@@ -100,7 +106,8 @@ same_front id other entry all raw heaps long also =
     ∙ sym (length-front other entry all (rows_of raw) heaps)
 
 same_file : (id other : List ℕ) (entry : ℕ) (raw : RawTables) → length id ≡ 20 → length other ≡ 20
-    → length (file_bytes (record { id = id; entry = entry; tables = with_rows raw (held_rows raw) })) ≡ length (file_bytes (record { id = other; entry = entry; tables = raw }))
+    → length (file_bytes (record { id = id; entry = entry; tables = with_rows raw (held_rows raw) }))
+    ≡ length (file_bytes (record { id = other; entry = entry; tables = raw }))
 unfolding file_bytes
 same_file id other entry raw long also =
     let one = front_bytes id entry raw.counts (held_rows raw) (heaps_of raw) in
@@ -134,10 +141,12 @@ short_same n h = let small : n < 65536 = h in omega arith
 
 map_same : {X : Type 0} (f : X → X) (P : X → Type 0) (xs : List X) → ((x : X) → P x → f x ≡ x) → All P xs → map f xs ≡ xs
 map_same f P [] same all = refl
-map_same {X} f P (x ∷ xs) same all = ap (λ (y : X). y ∷ map f xs) (same x (All-head P x xs all)) ∙ ap (λ rest. x ∷ rest) (map_same f P xs same (All-tail P x xs all))
+map_same {X} f P (x ∷ xs) same all =
+    ap (λ (y : X). y ∷ map f xs) (same x (All-head P x xs all)) ∙ ap (λ rest. x ∷ rest) (map_same f P xs same (All-tail P x xs all))
 
 module _ (sizes : Sizes) where
-  document_same : (row : DocumentRow) → Fit (widths_of sizes document_columns) (row.name ∷ row.algorithm ∷ row.hash ∷ row.language ∷ []) → held_document row ≡ row
+  document_same : (row : DocumentRow) → Fit (widths_of sizes document_columns) (row.name ∷ row.algorithm ∷ row.hash ∷ row.language ∷ [])
+      → held_document row ≡ row
   document_same row fit =
       ap (λ (n : ℕ). record { name = n; algorithm = cell row.algorithm; hash = cell row.hash; language = cell row.language }) (index_same _ row.name fit.0)
       ∙ ap (λ (n : ℕ). record { name = row.name; algorithm = n; hash = cell row.hash; language = cell row.language }) (index_same _ row.algorithm fit.1.0)
@@ -147,7 +156,8 @@ module _ (sizes : Sizes) where
   method_same : (row : MethodDebugRow) → Fit (widths_of sizes method_columns) (row.document ∷ row.points ∷ []) → held_method row ≡ row
   method_same row fit = ap (λ (n : ℕ). record row { points = n }) (index_same _ row.points fit.1.0)
 
-  scope_same : (row : ScopeRow) → Fit (widths_of sizes scope_columns) (row.method ∷ row.import ∷ row.variables ∷ row.constants ∷ row.start ∷ row.length ∷ []) → held_scope row ≡ row
+  scope_same : (row : ScopeRow) → Fit (widths_of sizes scope_columns) (row.method ∷ row.import ∷ row.variables ∷ row.constants ∷ row.start ∷ row.length ∷ [])
+      → held_scope row ≡ row
   scope_same row fit =
       ap (λ (n : ℕ). record row { variables = n; constants = cell row.constants }) (index_same _ row.variables fit.1.1.0)
       ∙ ap (λ (n : ℕ). record row { constants = n }) (index_same _ row.constants fit.1.1.1.0)
@@ -171,13 +181,20 @@ module _ (sizes : Sizes) where
 -- rows that fit their columns are held as they are
 rows_same : (sizes : Sizes) (raw : RawTables) → AllRowsFit sizes (rows_of raw) → held_rows raw ≡ rows_of raw
 rows_same sizes raw fit =
-    let documents = map_same held_document (λ row. Fit (widths_of sizes document_columns) (row.name ∷ row.algorithm ∷ row.hash ∷ row.language ∷ [])) raw.documents (document_same sizes) fit.documents in
-    let methods = map_same held_method (λ row. Fit (widths_of sizes method_columns) (row.document ∷ row.points ∷ [])) raw.methods (method_same sizes) fit.methods in
-    let scopes = map_same held_scope (λ row. Fit (widths_of sizes scope_columns) (row.method ∷ row.import ∷ row.variables ∷ row.constants ∷ row.start ∷ row.length ∷ [])) raw.scopes (scope_same sizes) fit.scopes in
-    let variables = map_same held_variable (λ row. Fit (widths_of sizes variable_columns) (row.attributes ∷ row.slot ∷ row.name ∷ [])) raw.variables (variable_same sizes) fit.variables in
-    let constants = map_same held_constant (λ row. Fit (widths_of sizes constant_columns) (row.name ∷ row.signature ∷ [])) raw.constants (constant_same sizes) fit.constants in
-    let imports = map_same held_import (λ row. Fit (widths_of sizes import_columns) (row.parent ∷ row.imports ∷ [])) raw.imports (import_same sizes) fit.imports in
-    let customs = map_same held_custom (λ row. Fit (widths_of sizes custom_columns) (row.parent ∷ row.kind ∷ row.value ∷ [])) raw.customs (custom_same sizes) fit.customs in
+    let documents = map_same held_document (λ row. Fit (widths_of sizes document_columns) (row.name ∷ row.algorithm ∷ row.hash ∷ row.language ∷ []))
+    raw.documents (document_same sizes) fit.documents in
+    let methods =
+    map_same held_method (λ row. Fit (widths_of sizes method_columns) (row.document ∷ row.points ∷ [])) raw.methods (method_same sizes) fit.methods in
+    let scopes = map_same held_scope (λ row. Fit (widths_of sizes scope_columns)
+    (row.method ∷ row.import ∷ row.variables ∷ row.constants ∷ row.start ∷ row.length ∷ [])) raw.scopes (scope_same sizes) fit.scopes in
+    let variables = map_same held_variable (λ row. Fit (widths_of sizes variable_columns) (row.attributes ∷ row.slot ∷ row.name ∷ [])) raw.variables
+    (variable_same sizes) fit.variables in
+    let constants = map_same held_constant (λ row. Fit (widths_of sizes constant_columns) (row.name ∷ row.signature ∷ [])) raw.constants (constant_same sizes)
+    fit.constants in
+    let imports =
+    map_same held_import (λ row. Fit (widths_of sizes import_columns) (row.parent ∷ row.imports ∷ [])) raw.imports (import_same sizes) fit.imports in
+    let customs = map_same held_custom (λ row. Fit (widths_of sizes custom_columns) (row.parent ∷ row.kind ∷ row.value ∷ [])) raw.customs (custom_same sizes)
+    fit.customs in
     rw (documents, methods, scopes, variables, constants, imports, customs) refl
 
 -- the file of a draft is the canonical file
@@ -187,7 +204,8 @@ pub draft_file : (value : FileValue) (draft : Draft) (all id : List ℕ) → IsD
 draft_file value draft all id is counted fit =
     ap (λ (tables : RawTables). record { id = id; entry = value.entry; tables = tables })
     (held_tables value draft all is counted
-    ∙ ap (with_rows (canonical_tables value)) (rows_same (sizes_of (canonical_tables value).counts (heaps_of (canonical_tables value))) (canonical_tables value) fit))
+    ∙ ap (with_rows (canonical_tables value)) (rows_same (sizes_of (canonical_tables value).counts (heaps_of (canonical_tables value)))
+    (canonical_tables value) fit))
 
 -- ---- GUIDs
 
@@ -220,7 +238,8 @@ draft_fit value draft all is counted long fit =
 
 pub record LayFacts (id : List ℕ) (entry : ℕ) (all : List ℕ) (draft : Draft) : Type 0 where
   pub lens : told_lens (heap_lens_of draft) ≡ heaps_of (tables_from all draft)
-  pub size : length (front_bytes id entry all draft.rows (told_lens (heap_lens_of draft))) + (told_lens (heap_lens_of draft)).texts + (told_lens (heap_lens_of draft)).guids
+  pub size : length (front_bytes id entry all draft.rows (told_lens (heap_lens_of draft))) + (told_lens (heap_lens_of draft)).texts
+      + (told_lens (heap_lens_of draft)).guids
       + (told_lens (heap_lens_of draft)).blobs ≤ 134217728
   pub fit : AllRowsFit (sizes_of all (told_lens (heap_lens_of draft))) draft.rows
 
@@ -239,23 +258,27 @@ lay_facts id entry all draft long can =
     let most = can.size id long in
     let exact : told_lens (heap_lens_of draft) ≡ heap_lens_of draft =
     ap (λ (n : ℕ). record { texts = n; guids = told (16 * length draft.guids); blobs = told heaps.blobs }) (told_same heaps.texts (omega (arith, whole, most)))
-    ∙ ap (λ (n : ℕ). record { texts = heaps.texts; guids = n; blobs = told heaps.blobs }) (told_same (16 * length draft.guids) (omega (arith, whole, most, guids)))
+    ∙ ap (λ (n : ℕ). record { texts = heaps.texts; guids = n; blobs = told heaps.blobs })
+    (told_same (16 * length draft.guids) (omega (arith, whole, most, guids)))
     ∙ ap (λ (n : ℕ). record { texts = heaps.texts; guids = 16 * length draft.guids; blobs = n }) (told_same heaps.blobs (omega (arith, whole, most))) in
     let lens : told_lens (heap_lens_of draft) ≡ heaps = exact ∙ ap (λ (n : ℕ). record { texts = heaps.texts; guids = n; blobs = heaps.blobs }) guids in
     record {
       lens = lens;
-      size = subst (λ (h : HeapLens). length (front_bytes id entry all draft.rows h) + h.texts + h.guids + h.blobs ≤ 134217728) (sym lens) (omega (arith, whole, most));
+      size = subst (λ (h : HeapLens). length (front_bytes id entry all draft.rows h) + h.texts + h.guids + h.blobs ≤ 134217728) (sym lens)
+          (omega (arith, whole, most));
       fit = subst (λ (h : HeapLens). AllRowsFit (sizes_of all h) draft.rows) (sym exact) can.fit;
     }
 
 -- what was put is the file
-pub all_put : (id : List ℕ) (entry : ℕ) (all : List ℕ) (draft : Draft) (none front whole : List ℕ) → told_lens (heap_lens_of draft) ≡ heaps_of (tables_from all draft)
+pub all_put : (id : List ℕ) (entry : ℕ) (all : List ℕ) (draft : Draft) (none front whole : List ℕ)
+    → told_lens (heap_lens_of draft) ≡ heaps_of (tables_from all draft)
     → none ≡ [] → front ≡ none ++ front_bytes id entry all draft.rows (told_lens (heap_lens_of draft))
     → whole ≡ front ++ padded (flat_map as_text draft.texts.items) ++ flat_map (λ guid. guid) draft.guids ++ padded (flat_map as_blob draft.blobs.items)
     → whole ≡ file_bytes (file_from id entry all draft)
 unfolding file_bytes
 all_put id entry all draft none front whole lens empty put is =
-    is ∙ ap (λ bytes. bytes ++ padded (flat_map as_text draft.texts.items) ++ flat_map (λ guid. guid) draft.guids ++ padded (flat_map as_blob draft.blobs.items))
+    is ∙ ap (λ bytes. bytes ++ padded (flat_map as_text draft.texts.items) ++ flat_map (λ guid. guid) draft.guids
+    ++ padded (flat_map as_blob draft.blobs.items))
     (put ∙ ap (λ bytes. bytes ++ front_bytes id entry all draft.rows (told_lens (heap_lens_of draft))) empty ∙ ap (front_bytes id entry all draft.rows) lens)
 
 -- ---- the identity
@@ -280,4 +303,5 @@ pub refilled : (new old : List ℕ) → length new ≡ length old → take (leng
 refilled new old same = take_at new (drop (length new) old) (length old) same
 
 pub placed : (old id : List ℕ) → 132 ≤ length old → length id ≡ 20 → length (take 112 old ++ (id ++ drop 132 old)) ≡ length old
-placed old id h long = omega (arith, length-append (take 112 old) (id ++ drop 132 old), length-append id (drop 132 old), length-take 112 old, length-drop 132 old)
+placed old id h long =
+    omega (arith, length-append (take 112 old) (id ++ drop 132 old), length-append id (drop 132 old), length-take 112 old, length-drop 132 old)

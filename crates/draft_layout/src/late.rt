@@ -49,7 +49,8 @@ pub fn draft_len(counts: &[u32; 64], draft: &Drafting) -> u64
 
 /// L5 and L6, from the length of the file and of all texts and blobs that are referred to.
 pub fn late_limit(bytes: u64, span: u64) -> Option<Limit>
-    ensures { (len total : ℕ) → bytes ≡ told len → span ≡ told total → result ≡ first_met (above 134217728 limits.FileSize len ∷ above 268435456 limits.SpanTotal total ∷ []) }
+    ensures { (len total : ℕ) → bytes ≡ told len → span ≡ told total
+        → result ≡ first_met (above 134217728 limits.FileSize len ∷ above 268435456 limits.SpanTotal total ∷ []) }
 {
     size_limit(bytes).or(span_limit(span))
 }

@@ -20,25 +20,45 @@ pub record IsDocumentNoted (draft : Draft) (document : DocumentValue) (named has
   pub algorithm_is : row.algorithm ≡ cell (guid_place first document.algorithm)
   pub language_is : row.language ≡ cell (guid_place second document.language)
 
-pub document_added : (draft : Draft) (document : DocumentValue) (named hashed : Noted) (first second : List (List ℕ)) (row : DocumentRow) → IsDocumentNoted draft document named hashed first second row
+pub document_added : (draft : Draft) (document : DocumentValue) (named hashed : Noted) (first second : List (List ℕ)) (row : DocumentRow)
+    → IsDocumentNoted draft document named hashed first second row
     → record draft { blobs = hashed; guids = second; rows = record draft.rows { documents = draft.rows.documents ++ row ∷ [] } } ≡ with_document draft document
 unfolding with_document
 document_added draft document named hashed first second row is =
     let named_now = with_blob draft.blobs (name_pieces document.name) in
     let first_now = with_guid draft.guids document.algorithm in
-    let hashed_now : hashed ≡ with_blob named_now (plain document.hash) = is.hashed_is ∙ ap (λ (noted : Noted). with_blob noted (plain document.hash)) is.named_is in
+    let hashed_now : hashed ≡ with_blob named_now (plain document.hash) =
+    is.hashed_is ∙ ap (λ (noted : Noted). with_blob noted (plain document.hash)) is.named_is in
     let second_now : second ≡ with_guid first_now document.language = is.second_is ∙ ap (λ guids. with_guid guids document.language) is.first_is in
     let name = is.name_is ∙ ap (λ (noted : Noted). cell (blob_place noted.items (name_pieces document.name))) is.named_is in
     let hash = is.hash_is ∙ ap (λ (noted : Noted). cell (blob_place noted.items (plain document.hash))) hashed_now in
     let algorithm = is.algorithm_is ∙ ap (λ guids. cell (guid_place guids document.algorithm)) is.first_is in
     let language = is.language_is ∙ ap (λ guids. cell (guid_place guids document.language)) second_now in
     ap (λ (noted : Noted). record draft { blobs = noted; guids = second; rows = record draft.rows { documents = draft.rows.documents ++ row ∷ [] } }) hashed_now
-    ∙ ap (λ (guids : List (List ℕ)). record draft { blobs = with_blob named_now (plain document.hash); guids = guids; rows = record draft.rows { documents = draft.rows.documents ++ row ∷ [] } }) second_now
-    ∙ ap (λ (r : DocumentRow). record draft { blobs = with_blob named_now (plain document.hash); guids = with_guid first_now document.language; rows = record draft.rows { documents = draft.rows.documents ++ r ∷ [] } })
+    ∙ ap (λ (guids : List (List ℕ)). record draft {
+      blobs = with_blob named_now (plain document.hash);
+      guids = guids;
+      rows = record draft.rows { documents = draft.rows.documents ++ row ∷ [] };
+    }) second_now
+    ∙ ap (λ (r : DocumentRow). record draft {
+      blobs = with_blob named_now (plain document.hash);
+      guids = with_guid first_now document.language;
+      rows = record draft.rows { documents = draft.rows.documents ++ r ∷ [] };
+    })
     (ap (λ (n : ℕ). record row { name = n }) name
     ∙ ap (λ (n : ℕ). record row { name = cell (blob_place named_now.items (name_pieces document.name)); algorithm = n }) algorithm
-    ∙ ap (λ (n : ℕ). record { name = cell (blob_place named_now.items (name_pieces document.name)); algorithm = cell (guid_place first_now document.algorithm); hash = n; language = row.language }) hash
-    ∙ ap (λ (n : ℕ). record { name = cell (blob_place named_now.items (name_pieces document.name)); algorithm = cell (guid_place first_now document.algorithm); hash = cell (blob_place (with_blob named_now (plain document.hash)).items (plain document.hash)); language = n }) language)
+    ∙ ap (λ (n : ℕ). record {
+      name = cell (blob_place named_now.items (name_pieces document.name));
+      algorithm = cell (guid_place first_now document.algorithm);
+      hash = n;
+      language = row.language;
+    }) hash
+    ∙ ap (λ (n : ℕ). record {
+      name = cell (blob_place named_now.items (name_pieces document.name));
+      algorithm = cell (guid_place first_now document.algorithm);
+      hash = cell (blob_place (with_blob named_now (plain document.hash)).items (plain document.hash));
+      language = n;
+    }) language)
 
 pub import_added : (draft : Draft) (scope : ImportScopeValue) (noted : Noted) (row : ImportRow) → noted ≡ with_blob draft.blobs (import_blob scope)
     → row ≡ record { parent = scope.parent; imports = cell (blob_place noted.items (import_blob scope)) }
@@ -46,4 +66,10 @@ pub import_added : (draft : Draft) (scope : ImportScopeValue) (noted : Noted) (r
 unfolding with_import
 import_added draft scope noted row is row_is =
     ap (λ (r : ImportRow). record draft { blobs = noted; rows = record draft.rows { imports = draft.rows.imports ++ r ∷ [] } }) row_is
-    ∙ ap (λ (n : Noted). record draft { blobs = n; rows = record draft.rows { imports = draft.rows.imports ++ record { parent = scope.parent; imports = cell (blob_place n.items (import_blob scope)) } ∷ [] } }) is
+    ∙ ap (λ (n : Noted). record draft {
+      blobs = n;
+      rows = record draft.rows {
+        imports = draft.rows.imports ++ record { parent = scope.parent; imports = cell (blob_place n.items (import_blob scope)) }
+            ∷ [];
+      };
+    }) is

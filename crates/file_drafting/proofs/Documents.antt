@@ -37,7 +37,8 @@ one_guid : (guids : List (List ℕ)) (guid : Option (List ℕ)) → with_guid gu
 one_guid guids None = refl
 one_guid guids (Some guid) = refl
 
-both_guids : (guids : List (List ℕ)) (document : DocumentValue) → with_guid (with_guid guids document.algorithm) document.language ≡ fold with_use guids (guids_on document)
+both_guids : (guids : List (List ℕ)) (document : DocumentValue) → with_guid (with_guid guids document.algorithm) document.language
+    ≡ fold with_use guids (guids_on document)
 both_guids guids document =
     one_guid (with_guid guids document.algorithm) document.language
     ∙ ap (λ now. fold with_use now (option_to_list document.language)) (one_guid guids document.algorithm)
@@ -64,21 +65,46 @@ documents_drafted before (document ∷ documents) =
       guids = rest.guids
           ∙ ap (λ now. fold with_use now (flat_map guids_on documents)) (both_guids before.guids document)
           ∙ sym (fold-append with_use before.guids (guids_on document) (flat_map guids_on documents));
-      guids_grow = grows_then before.guids next.guids after.guids (grows_then before.guids first next.guids (grows_guid before.guids document.algorithm) (grows_guid first document.language)) rest.guids_grow;
-      blobs_grow = grows_then before.blobs.items next.blobs.items after.blobs.items (grows_then before.blobs.items named.items next.blobs.items (grows_blob before.blobs (name_pieces document.name)) (grows_blob named (plain document.hash))) rest.blobs_grow;
+      guids_grow = grows_then before.guids next.guids after.guids (grows_then before.guids first next.guids (grows_guid before.guids document.algorithm)
+          (grows_guid first document.language)) rest.guids_grow;
+      blobs_grow = grows_then before.blobs.items next.blobs.items after.blobs.items
+          (grows_then before.blobs.items named.items next.blobs.items (grows_blob before.blobs (name_pieces document.name))
+          (grows_blob named (plain document.hash))) rest.blobs_grow;
       rows = λ guids blobs g b.
           let guids_later = grows_then next.guids after.guids guids rest.guids_grow g in
           let blobs_later = grows_then next.blobs.items after.blobs.items blobs rest.blobs_grow b in
-          let name = blob_stays before.blobs (name_pieces document.name) blobs (grows_then named.items next.blobs.items blobs (grows_blob named (plain document.hash)) blobs_later) in
+          let name = blob_stays before.blobs (name_pieces document.name) blobs
+          (grows_then named.items next.blobs.items blobs (grows_blob named (plain document.hash)) blobs_later) in
           let hash = blob_stays named (plain document.hash) blobs blobs_later in
-          let algorithm = guid_stays before.guids document.algorithm guids (grows_then first next.guids guids (grows_guid first document.language) guids_later) in
+          let algorithm =
+          guid_stays before.guids document.algorithm guids (grows_then first next.guids guids (grows_guid first document.language) guids_later) in
           let language = guid_stays first document.language guids guids_later in
           rest.rows guids blobs g b
           ∙ ap (λ (row : DocumentRow). (before.rows.documents ++ row ∷ []) ++ map (document_in guids blobs) documents)
-          (ap (λ (n : ℕ). record { name = cell n; algorithm = cell (guid_place first document.algorithm); hash = cell (blob_place next.blobs.items (plain document.hash)); language = cell (guid_place next.guids document.language) }) name
-          ∙ ap (λ (n : ℕ). record { name = cell (blob_place blobs (name_pieces document.name)); algorithm = cell n; hash = cell (blob_place next.blobs.items (plain document.hash)); language = cell (guid_place next.guids document.language) }) algorithm
-          ∙ ap (λ (n : ℕ). record { name = cell (blob_place blobs (name_pieces document.name)); algorithm = cell (guid_place guids document.algorithm); hash = cell n; language = cell (guid_place next.guids document.language) }) hash
-          ∙ ap (λ (n : ℕ). record { name = cell (blob_place blobs (name_pieces document.name)); algorithm = cell (guid_place guids document.algorithm); hash = cell (blob_place blobs (plain document.hash)); language = cell n }) language)
+          (ap (λ (n : ℕ). record {
+            name = cell n;
+            algorithm = cell (guid_place first document.algorithm);
+            hash = cell (blob_place next.blobs.items (plain document.hash));
+            language = cell (guid_place next.guids document.language);
+          }) name
+          ∙ ap (λ (n : ℕ). record {
+            name = cell (blob_place blobs (name_pieces document.name));
+            algorithm = cell n;
+            hash = cell (blob_place next.blobs.items (plain document.hash));
+            language = cell (guid_place next.guids document.language);
+          }) algorithm
+          ∙ ap (λ (n : ℕ). record {
+            name = cell (blob_place blobs (name_pieces document.name));
+            algorithm = cell (guid_place guids document.algorithm);
+            hash = cell n;
+            language = cell (guid_place next.guids document.language);
+          }) hash
+          ∙ ap (λ (n : ℕ). record {
+            name = cell (blob_place blobs (name_pieces document.name));
+            algorithm = cell (guid_place guids document.algorithm);
+            hash = cell (blob_place blobs (plain document.hash));
+            language = cell n;
+          }) language)
           ∙ append_assoc before.rows.documents (document_in guids blobs document ∷ []) (map (document_in guids blobs) documents);
       others = rest.others;
     }

@@ -1,5 +1,6 @@
 -- Items that are noted one after another, and the places that they keep.
-use Rattle.std.proofs.Common.{◌≡◌, ℕ, ◌+◌, List, [], ◌∷◌, ◌++◌, length, map, fold, flat_map, sum_by, bytes_eq, refl, sym, ap, subst, ◌∙◌, append_assoc, arith, Option, Some, None}
+use Rattle.std.proofs.Common.{◌≡◌, ℕ, ◌+◌, List, [], ◌∷◌, ◌++◌, length, map, fold, flat_map, sum_by, bytes_eq, refl, sym, ap, subst, ◌∙◌}
+use Rattle.std.proofs.Common.{append_assoc, arith, Option, Some, None}
 use Rattle.std.proofs.lemmas.List.{append-nil}
 use Rattle.std.proofs.lemmas.List.Sums.{fold-append, sum_by-append, sum_by-cons}
 use Rattle.std.specs.List.{position_or_len}
@@ -38,21 +39,25 @@ grows_blob noted pieces = let adds = after-adds noted.items (with_held pieces) i
 
 -- ---- places that stay
 
-pub text_stays : (items : List (List ℕ)) (text : List ℕ) (final : List (List ℕ)) → Grows (with_use items text) final → text_place (with_use items text) text ≡ text_place final text
+pub text_stays : (items : List (List ℕ)) (text : List ℕ) (final : List (List ℕ)) → Grows (with_use items text) final
+    → text_place (with_use items text) text ≡ text_place final text
 text_stays items text final grows =
     sym (index-stable as_text (with_use items text) grows.more text (used-there items text)) ∙ ap (λ now. text_place now text) (sym grows.is)
 
-pub guid_stays : (guids : List (List ℕ)) (guid : Option (List ℕ)) (final : List (List ℕ)) → Grows (with_guid guids guid) final → guid_place (with_guid guids guid) guid ≡ guid_place final guid
+pub guid_stays : (guids : List (List ℕ)) (guid : Option (List ℕ)) (final : List (List ℕ)) → Grows (with_guid guids guid) final
+    → guid_place (with_guid guids guid) guid ≡ guid_place final guid
 guid_stays guids None final grows = refl
 guid_stays guids (Some guid) final grows =
-    ap (λ n. 1 + n) (sym (items-stay.number (with_use guids guid) grows.more guid (used-there guids guid)) ∙ ap (position_or_len (bytes_eq guid)) (sym grows.is))
+    ap (λ n. 1 + n) (sym (items-stay.number (with_use guids guid) grows.more guid (used-there guids guid))
+    ∙ ap (position_or_len (bytes_eq guid)) (sym grows.is))
 
 -- a blob that was noted is there, and so is what it holds
 pub record IsThere (items : List (List ℕ)) (pieces : List Piece) : Type 0 where
   pub held : AreIn items (held_in pieces)
   pub blob : IsIn items (blob_bytes items pieces)
 
-plain_there : (items : List (List ℕ)) (contents : List (List ℕ)) (pieces : List Piece) → AreUsed items (map plain contents ++ pieces ∷ []) → AreIn items contents × IsIn items (blob_bytes items pieces)
+plain_there : (items : List (List ℕ)) (contents : List (List ℕ)) (pieces : List Piece) → AreUsed items (map plain contents ++ pieces ∷ [])
+    → AreIn items contents × IsIn items (blob_bytes items pieces)
 plain_there items [] pieces are = (tt, are.0)
 plain_there items (content ∷ contents) pieces are =
     let rest = plain_there items contents pieces are.1 in
@@ -62,20 +67,24 @@ pub blob_there : (noted : Noted) (pieces : List Piece) → IsThere (with_blob no
 unfolding with_blob
 blob_there noted pieces =
     let used : AreUsed (blobs_after noted.items (with_held pieces)) (with_held pieces) =
-    subst (λ uses. AreUsed (blobs_after noted.items uses) uses) (append-nil (with_held pieces)) (after-used noted.items (with_held pieces ++ []) (all-ready noted.items (pieces ∷ []))) in
+    subst (λ uses. AreUsed (blobs_after noted.items uses) uses) (append-nil (with_held pieces))
+    (after-used noted.items (with_held pieces ++ []) (all-ready noted.items (pieces ∷ []))) in
     let there = plain_there (blobs_after noted.items (with_held pieces)) (held_in pieces) pieces used in
     record { held = there.0; blob = there.1 }
 
-spelled_stays : (items : List (List ℕ)) (pieces : List Piece) (final : List (List ℕ)) → AreIn items (held_in pieces) → Grows items final → blob_bytes final pieces ≡ blob_bytes items pieces
+spelled_stays : (items : List (List ℕ)) (pieces : List Piece) (final : List (List ℕ)) → AreIn items (held_in pieces) → Grows items final
+    → blob_bytes final pieces ≡ blob_bytes items pieces
 spelled_stays items pieces final held grows = ap (λ now. blob_bytes now pieces) grows.is ∙ spelled-stable items grows.more pieces held
 
-place_stays : (items : List (List ℕ)) (pieces : List Piece) (final : List (List ℕ)) → IsThere items pieces → Grows items final → blob_place items pieces ≡ blob_place final pieces
+place_stays : (items : List (List ℕ)) (pieces : List Piece) (final : List (List ℕ)) → IsThere items pieces → Grows items final
+    → blob_place items pieces ≡ blob_place final pieces
 place_stays items pieces final there grows =
     sym (index-stable as_blob items grows.more (blob_bytes items pieces) there.blob)
     ∙ ap (λ now. index_of as_blob now (blob_bytes items pieces)) (sym grows.is)
     ∙ ap (index_of as_blob final) (sym (spelled_stays items pieces final there.held grows))
 
-pub blob_stays : (noted : Noted) (pieces : List Piece) (final : List (List ℕ)) → Grows (with_blob noted pieces).items final → blob_place (with_blob noted pieces).items pieces ≡ blob_place final pieces
+pub blob_stays : (noted : Noted) (pieces : List Piece) (final : List (List ℕ)) → Grows (with_blob noted pieces).items final
+    → blob_place (with_blob noted pieces).items pieces ≡ blob_place final pieces
 blob_stays noted pieces final grows = place_stays (with_blob noted pieces).items pieces final (blob_there noted pieces) grows
 
 -- ---- texts
@@ -120,7 +129,8 @@ blobs_noted noted (pieces ∷ blobs) =
     let there = blob_there noted pieces in
     let after = fold with_blob next blobs in
     record {
-      items = rest.items ∙ sym (fold-append (λ (items : List (List ℕ)) (used : List Piece). with_use items (blob_bytes items used)) noted.items (with_held pieces) (flat_map with_held blobs));
+      items = rest.items ∙ sym (fold-append (λ (items : List (List ℕ)) (used : List Piece). with_use items (blob_bytes items used)) noted.items
+          (with_held pieces) (flat_map with_held blobs));
       grows = grows_then noted.items next.items after.items (grows_blob noted pieces) rest.grows;
       total = λ final more grows.
           let all = grows_then next.items after.items final rest.grows grows in

@@ -7,6 +7,7 @@ use Rattle.file_layout.proofs.Lengths.{length-padded}
 
 -- the lengths of its items, as they are spelled, and the padding
 pub padded_len_is : (spelled : List ℕ → List ℕ) (items : List (List ℕ)) (n : ℕ)
-    → n ≡ told (sum_by (λ item. length (spelled item)) items + padding (sum_by (λ item. length (spelled item)) items)) → n ≡ told (length (padded (flat_map spelled items)))
+    → n ≡ told (sum_by (λ item. length (spelled item)) items + padding (sum_by (λ item. length (spelled item)) items))
+    → n ≡ told (length (padded (flat_map spelled items)))
 padded_len_is spelled items n is =
     is ∙ ap (λ len. told (len + padding len)) (sym (length-flat_map spelled items)) ∙ ap told (sym (length-padded (flat_map spelled items)))

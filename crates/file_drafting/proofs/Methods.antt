@@ -1,5 +1,6 @@
 -- The methods of a value that have points, one after another, and the rows of those that have none.
-use Rattle.std.proofs.Common.{◌≡◌, ◌≢◌, ℕ, zero, suc, ◌+◌, ◌-◌, ◌<◌, ◌≤◌, cond, List, [], ◌∷◌, ◌++◌, length, map, fold, replicate, refl, sym, ap, subst, ◌∙◌, append_assoc, arith, ◌==◌, Option, Some, None, length-append}
+use Rattle.std.proofs.Common.{◌≡◌, ◌≢◌, ℕ, zero, suc, ◌+◌, ◌-◌, ◌<◌, ◌≤◌, cond, List, [], ◌∷◌, ◌++◌, length, map, fold, replicate, refl}
+use Rattle.std.proofs.Common.{sym, ap, subst, ◌∙◌, append_assoc, arith, ◌==◌, Option, Some, None, length-append}
 use Rattle.std.specs.List.{find, range_with_len}
 use Rattle.std.proofs.lemmas.List.{length-replicate, map-append}
 use Rattle.std.proofs.lemmas.Bool.{ne_eqb, eq-eqb}
@@ -39,7 +40,10 @@ methods_drafted before (method ∷ methods) =
       blobs_grow = grows_then before.blobs.items next.blobs.items after.blobs.items (grows_blob before.blobs (method_blob method)) rest.blobs_grow;
       rows = λ blobs b.
           rest.rows blobs b
-          ∙ ap (λ (n : ℕ). fold (next_method blobs) (rows_to (method.method - 1) before.rows.methods ++ record { document = common_document method.points; points = cell n } ∷ []) methods)
+          ∙ ap (λ (n : ℕ). fold (next_method blobs) (rows_to (method.method - 1) before.rows.methods ++ record {
+            document = common_document method.points;
+            points = cell n;
+          } ∷ []) methods)
           (blob_stays before.blobs (method_blob method) blobs (grows_then next.blobs.items after.blobs.items blobs rest.blobs_grow b));
       others = rest.others;
     }
@@ -77,7 +81,8 @@ itself_found method methods = ap (λ b. cond b (Some method) (found methods meth
 -- ---- ranges
 
 range_more : (a x y : ℕ) → range_with_len a (x + y) ≡ range_with_len a x ++ range_with_len (a + x) y
-range_more a zero y = let none : zero + y ≡ y = omega arith in let here : a ≡ a + zero = omega arith in ap (range_with_len a) none ∙ ap (λ n. range_with_len n y) here
+range_more a zero y =
+    let none : zero + y ≡ y = omega arith in let here : a ≡ a + zero = omega arith in ap (range_with_len a) none ∙ ap (λ n. range_with_len n y) here
 range_more a (suc x) y =
     let one : suc x + y ≡ suc (x + y) = omega arith in
     let on : a + 1 + x ≡ a + suc x = omega arith in
@@ -97,7 +102,8 @@ all_same x a (suc n) = ap (λ rest. x ∷ rest) (all_same x (a + 1) n)
 -- ---- all rows
 
 spread_is : (blobs : List (List ℕ)) (count : ℕ) (rows : List MethodDebugRow) (methods : List MethodValue) → RiseFrom (length rows) methods count
-    → rows_to count (fold (next_method blobs) rows methods) ≡ rows ++ map (λ m. row_by blobs (found methods m)) (range_with_len (length rows + 1) (count - length rows))
+    → rows_to count (fold (next_method blobs) rows methods) ≡ rows ++ map (λ m. row_by blobs (found methods m))
+    (range_with_len (length rows + 1) (count - length rows))
 spread_is blobs count rows [] rise = ap (λ more. rows ++ more) (sym (all_same no_points (length rows + 1) (count - length rows)))
 spread_is blobs count rows (method ∷ methods) rise =
     let low = length rows in
@@ -107,16 +113,19 @@ spread_is blobs count rows (method ∷ methods) rise =
     let gap = m - 1 - low in
     let next = next_method blobs rows method in
     let size : length next ≡ m =
-    length-append (rows_to (m - 1) rows) (method_in blobs method ∷ []) ∙ omega (arith, length-append rows (replicate gap no_points), length-replicate gap no_points) in
+    length-append (rows_to (m - 1) rows) (method_in blobs method ∷ [])
+    ∙ omega (arith, length-append rows (replicate gap no_points), length-replicate gap no_points) in
     let all = λ (k : ℕ). row_by blobs (found (method ∷ methods) k) in
     let later = λ (k : ℕ). row_by blobs (found methods k) in
     let before : map all (range_with_len (low + 1) gap) ≡ replicate gap no_points =
-    same_over all (λ k. no_points) (low + 1) gap (λ k from to. ap (row_by blobs) (skipped method methods k (omega arith) ∙ none_below m methods count k rise.1 (omega arith)))
+    same_over all (λ k. no_points) (low + 1) gap (λ k from to. ap (row_by blobs) (skipped method methods k (omega arith)
+    ∙ none_below m methods count k rise.1 (omega arith)))
     ∙ all_same no_points (low + 1) gap in
     let here : all m ≡ method_in blobs method = ap (row_by blobs) (itself_found method methods) in
     let after : map all (range_with_len (m + 1) (count - m)) ≡ map later (range_with_len (m + 1) (count - m)) =
     same_over all later (m + 1) (count - m) (λ k from to. ap (row_by blobs) (skipped method methods k (omega arith))) in
-    let split : map all (range_with_len (low + 1) (count - low)) ≡ replicate gap no_points ++ (method_in blobs method ∷ map later (range_with_len (m + 1) (count - m))) =
+    let split : map all (range_with_len (low + 1) (count - low)) ≡ replicate gap no_points
+    ++ (method_in blobs method ∷ map later (range_with_len (m + 1) (count - m))) =
     ap (λ n. map all (range_with_len (low + 1) n)) (omega arith)
     ∙ ap (map all) (range_more (low + 1) gap (suc (count - m)))
     ∙ map-append all (range_with_len (low + 1) gap) (range_with_len (low + 1 + gap) (suc (count - m)))

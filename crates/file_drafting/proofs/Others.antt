@@ -26,7 +26,8 @@ pub record ImportsDrafted (before : Draft) (imports : List ImportScopeValue) (af
 
 pub imports_drafted : (before : Draft) (imports : List ImportScopeValue) → ImportsDrafted before imports (fold with_import before imports)
 unfolding with_import
-imports_drafted before [] = record { blobs = refl; blobs_grow = grows_not before.blobs.items; rows = λ blobs b. sym (append-nil before.rows.imports); others = refl }
+imports_drafted before [] =
+    record { blobs = refl; blobs_grow = grows_not before.blobs.items; rows = λ blobs b. sym (append-nil before.rows.imports); others = refl }
 imports_drafted before (scope ∷ imports) =
     let next = with_import before scope in
     let rest = imports_drafted next imports in
@@ -44,9 +45,11 @@ imports_drafted before (scope ∷ imports) =
 
 -- ---- state machines
 
-pub machines_drafted : (before : Draft) (machines : List MachineRow) → fold with_machine before machines ≡ record before { rows = record before.rows { machines = before.rows.machines ++ machines } }
+pub machines_drafted : (before : Draft) (machines : List MachineRow)
+    → fold with_machine before machines ≡ record before { rows = record before.rows { machines = before.rows.machines ++ machines } }
 unfolding with_machine
-machines_drafted before [] = ap (λ (machines : List MachineRow). record before { rows = record before.rows { machines = machines } }) (sym (append-nil before.rows.machines))
+machines_drafted before [] =
+    ap (λ (machines : List MachineRow). record before { rows = record before.rows { machines = machines } }) (sym (append-nil before.rows.machines))
 machines_drafted before (machine ∷ machines) =
     machines_drafted (with_machine before machine) machines
     ∙ ap (λ (all : List MachineRow). record before { rows = record before.rows { machines = all } }) (append_assoc before.rows.machines (machine ∷ []) machines)
@@ -54,7 +57,8 @@ machines_drafted before (machine ∷ machines) =
 -- ---- custom records
 
 abbrev pub custom_in : List (List ℕ) → List (List ℕ) → CustomValue → CustomRow
-custom_in guids blobs custom = record { parent = coded_of custom.parent; kind = cell (guid_place guids (Some custom.kind)); value = cell (blob_place blobs (custom_blob custom)) }
+custom_in guids blobs custom =
+    record { parent = coded_of custom.parent; kind = cell (guid_place guids (Some custom.kind)); value = cell (blob_place blobs (custom_blob custom)) }
 
 pub record CustomsDrafted (before : Draft) (customs : List CustomValue) (after : Draft) : Type 0 where
   pub blobs : after.blobs ≡ fold with_blob before.blobs (map custom_blob customs)

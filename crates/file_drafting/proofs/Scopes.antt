@@ -30,7 +30,8 @@ pub record VariablesDrafted (before : Draft) (variables : List VariableValue) (a
 
 pub variables_drafted : (before : Draft) (variables : List VariableValue) → VariablesDrafted before variables (fold with_variable before variables)
 unfolding with_variable
-variables_drafted before [] = record { texts = refl; texts_grow = grows_not before.texts.items; rows = λ texts t. sym (append-nil before.rows.variables); others = refl }
+variables_drafted before [] =
+    record { texts = refl; texts_grow = grows_not before.texts.items; rows = λ texts t. sym (append-nil before.rows.variables); others = refl }
 variables_drafted before (variable ∷ variables) =
     let next = with_variable before variable in
     let rest = variables_drafted next variables in
@@ -40,7 +41,8 @@ variables_drafted before (variable ∷ variables) =
       texts_grow = grows_then before.texts.items next.texts.items after.texts.items (grows_use before.texts.items variable.name) rest.texts_grow;
       rows = λ texts t.
           rest.rows texts t
-          ∙ ap (λ (n : ℕ). (before.rows.variables ++ record { attributes = variable.attributes; slot = variable.slot; name = cell n } ∷ []) ++ map (variable_in texts) variables)
+          ∙ ap (λ (n : ℕ). (before.rows.variables ++ record { attributes = variable.attributes; slot = variable.slot; name = cell n } ∷ [])
+          ++ map (variable_in texts) variables)
           (text_stays before.texts.items variable.name texts (grows_then next.texts.items after.texts.items texts rest.texts_grow t))
           ∙ append_assoc before.rows.variables (variable_in texts variable ∷ []) (map (variable_in texts) variables);
       others = rest.others;
@@ -67,9 +69,14 @@ variables_in scopes = flat_map (λ scope. scope.variables) scopes
 pub record ScopesDrafted (before : Draft) (scopes : List ScopeValue) (after : Draft) : Type 0 where
   pub texts : after.texts ≡ fold with_text before.texts (variable_names (variables_in scopes))
   pub texts_grow : Grows before.texts.items after.texts.items
-  pub variables : (texts : List (List ℕ)) → Grows after.texts.items texts → after.rows.variables ≡ before.rows.variables ++ map (variable_in texts) (variables_in scopes)
+  pub variables : (texts : List (List ℕ)) → Grows after.texts.items texts → after.rows.variables ≡ before.rows.variables ++ map (variable_in texts)
+      (variables_in scopes)
   pub rows : (owned : ℕ) → before.owned ≡ told owned → after.rows.scopes ≡ before.rows.scopes ++ scope_rows_from (length before.rows.variables) owned scopes
-  pub others : after ≡ record before { texts = after.texts; owned = after.owned; rows = record before.rows { scopes = after.rows.scopes; variables = after.rows.variables } }
+  pub others : after ≡ record before {
+    texts = after.texts;
+    owned = after.owned;
+    rows = record before.rows { scopes = after.rows.scopes; variables = after.rows.variables };
+  }
 
 same_cell : (n : ℕ) → cell (1 + told n) ≡ cell (1 + n)
 same_cell n = omega arith
@@ -100,7 +107,8 @@ scopes_drafted before (scope ∷ scopes) =
       texts_grow = grows_then before.texts.items next.texts.items after.texts.items one.texts_grow rest.texts_grow;
       variables = λ texts t.
           rest.variables texts t
-          ∙ ap (λ (rows : List VariableRow). rows ++ map (variable_in texts) (variables_in scopes)) (one.rows texts (grows_then next.texts.items after.texts.items texts rest.texts_grow t))
+          ∙ ap (λ (rows : List VariableRow). rows ++ map (variable_in texts) (variables_in scopes))
+          (one.rows texts (grows_then next.texts.items after.texts.items texts rest.texts_grow t))
           ∙ append_assoc before.rows.variables (map (variable_in texts) scope.variables) (map (variable_in texts) (variables_in scopes))
           ∙ ap (λ (rows : List VariableRow). before.rows.variables ++ rows) (sym (map-append (variable_in texts) scope.variables (variables_in scopes)));
       rows = λ owned is.
@@ -111,7 +119,8 @@ scopes_drafted before (scope ∷ scopes) =
           let more : next.owned ≡ told (owned + length scope.constants) =
           ap (λ (d : Draft). d.owned) one.others ∙ ap (λ n. told (n + length scope.constants)) is ∙ told_more owned (length scope.constants) in
           rest.rows (owned + length scope.constants) more
-          ∙ ap (λ (rows : List ScopeRow). rows ++ scope_rows_from (length next.rows.variables) (owned + length scope.constants) scopes) (ap (λ (d : Draft). d.rows.scopes) one.others)
+          ∙ ap (λ (rows : List ScopeRow). rows ++ scope_rows_from (length next.rows.variables) (owned + length scope.constants) scopes)
+          (ap (λ (d : Draft). d.rows.scopes) one.others)
           ∙ ap (λ n. row.rows.scopes ++ scope_rows_from n (owned + length scope.constants) scopes) count
           ∙ ap (λ (n : ℕ). (before.rows.scopes ++ record {
             method = scope.method;
@@ -131,7 +140,11 @@ scopes_drafted before (scope ∷ scopes) =
             length = scope.range.end - scope.range.start;
           } ∷ []) (scope_rows_from (length before.rows.variables + length scope.variables) (owned + length scope.constants) scopes);
       others = rest.others
-          ∙ ap (λ (d : Draft). record d { texts = after.texts; owned = after.owned; rows = record d.rows { scopes = after.rows.scopes; variables = after.rows.variables } }) one.others;
+          ∙ ap (λ (d : Draft). record d {
+            texts = after.texts;
+            owned = after.owned;
+            rows = record d.rows { scopes = after.rows.scopes; variables = after.rows.variables };
+          }) one.others;
     }
 
 -- ---- constants

@@ -1,5 +1,6 @@
 -- All parts of a value, one after another, make the heaps and the rows of its file.
-use Rattle.std.proofs.Common.{◌≡◌, ℕ, suc, ◌+◌, ◌-◌, ◌<◌, ◌≤◌, List, [], ◌∷◌, ◌++◌, length, map, fold, flat_map, take, sum_by, refl, sym, ap, subst, ◌∙◌, append_assoc, arith, Option, Some, None}
+use Rattle.std.proofs.Common.{◌≡◌, ℕ, suc, ◌+◌, ◌-◌, ◌<◌, ◌≤◌, List, [], ◌∷◌, ◌++◌, length, map, fold, flat_map, take, sum_by, refl, sym}
+use Rattle.std.proofs.Common.{ap, subst, ◌∙◌, append_assoc, arith, Option, Some, None}
 use Rattle.std.specs.Prelude.{slice_index}
 use Rattle.std.specs.List.{enumerate_from, range_with_len}
 use Rattle.std.proofs.lemmas.List.{append-nil, length-map, take_at, get_or-map}
@@ -28,16 +29,21 @@ use Rattle.heap_items.specs.Told.{told}
 use Rattle.heap_items.specs.Items.{first_uses, with_use}
 use Rattle.heap_items.specs.Uses.{Piece, blob_bytes}
 use Rattle.file_layout.specs.declared.rows.Rows.{Rows}
-use Rattle.ppdb_canon.specs.Uses.{texts, guids, blobs, document_blobs, method_blob, constant_blob, import_blob, custom_blob, variables_of, constants_of, text_uses, guid_uses, cell_blobs, blob_uses}
-use Rattle.ppdb_canon.specs.Canonical.{guid_cell, document_row, method_row_of, method_rows, scope_row, variable_row, constant_row, import_row, custom_row, canonical_tables}
+use Rattle.ppdb_canon.specs.Uses.{texts, guids, blobs, document_blobs, method_blob, constant_blob, import_blob, custom_blob}
+use Rattle.ppdb_canon.specs.Uses.{variables_of, constants_of, text_uses, guid_uses, cell_blobs, blob_uses}
+use Rattle.ppdb_canon.specs.Canonical.{guid_cell, document_row, method_row_of, method_rows, scope_row, variable_row, constant_row}
+use Rattle.ppdb_canon.specs.Canonical.{import_row, custom_row, canonical_tables}
 use Rattle.ppdb_canon.specs.Limits.{span}
 use Rattle.noted_items.specs.Noted.{Noted, none_noted, with_text, with_blob, guid_place, cell}
-use Rattle.file_drafting.specs.Draft.{Draft, empty_draft, no_rows, with_document, with_method, with_all_methods, all_methods, with_scope, with_constant, with_constants, with_import, with_machine}
-use Rattle.file_drafting.specs.Drafted.{drafted, held_document, held_method, held_scope, held_variable, held_constant, held_import, held_custom, held_rows, IsDraftOf, DraftsAreCanonical}
+use Rattle.file_drafting.specs.Draft.{Draft, empty_draft, no_rows, with_document, with_method, with_all_methods, all_methods, with_scope}
+use Rattle.file_drafting.specs.Draft.{with_constant, with_constants, with_import, with_machine}
+use Rattle.file_drafting.specs.Drafted.{drafted, held_document, held_method, held_scope, held_variable, held_constant, held_import}
+use Rattle.file_drafting.specs.Drafted.{held_custom, held_rows, IsDraftOf, DraftsAreCanonical}
 use Rattle.file_drafting.proofs.Heaps.{Grows, grows_not, grows_then, texts_noted, blobs_noted, fold_first}
 use Rattle.file_drafting.proofs.Documents.{document_in, guids_on, DocumentsDrafted, documents_drafted}
 use Rattle.file_drafting.proofs.Methods.{next_method, MethodsDrafted, methods_drafted, RiseFrom, row_by, found, all_rows, methods_spread}
-use Rattle.file_drafting.proofs.Scopes.{variable_in, variable_names, scope_rows_from, ScopesDrafted, scopes_drafted, constant_in, ConstantsDrafted, all_constants, constants_drafted}
+use Rattle.file_drafting.proofs.Scopes.{variable_in, variable_names, scope_rows_from, ScopesDrafted, scopes_drafted, constant_in}
+use Rattle.file_drafting.proofs.Scopes.{ConstantsDrafted, all_constants, constants_drafted}
 use Rattle.file_drafting.proofs.Others.{import_in, ImportsDrafted, imports_drafted, machines_drafted, custom_in, CustomsDrafted, customs_drafted}
 
 -- ---- lists that are made in one way or the other
@@ -49,7 +55,8 @@ map_map {X} {Y} {Z} f g h (x ∷ xs) same = ap (λ (z : Z). z ∷ map h xs) (sym
 grows_to : (items final : List (List ℕ)) → items ≡ final → Grows items final
 grows_to items final e = record { more = []; is = sym e ∙ sym (append-nil items) }
 
-same_rows : (r s : Rows) → r.documents ≡ s.documents → r.methods ≡ s.methods → r.scopes ≡ s.scopes → r.variables ≡ s.variables → r.constants ≡ s.constants → r.imports ≡ s.imports
+same_rows : (r s : Rows) → r.documents ≡ s.documents → r.methods ≡ s.methods → r.scopes ≡ s.scopes → r.variables ≡ s.variables → r.constants ≡ s.constants
+    → r.imports ≡ s.imports
     → r.machines ≡ s.machines → r.customs ≡ s.customs → r ≡ s
 same_rows r s a b c d e f g h =
     ap (λ (x : List DocumentRow). record r { documents = x }) a
@@ -57,19 +64,28 @@ same_rows r s a b c d e f g h =
     ∙ ap (λ (x : List ScopeRow). record r { documents = s.documents; methods = s.methods; scopes = x }) c
     ∙ ap (λ (x : List VariableRow). record r { documents = s.documents; methods = s.methods; scopes = s.scopes; variables = x }) d
     ∙ ap (λ (x : List ConstantRow). record r { documents = s.documents; methods = s.methods; scopes = s.scopes; variables = s.variables; constants = x }) e
-    ∙ ap (λ (x : List ImportRow). record r { documents = s.documents; methods = s.methods; scopes = s.scopes; variables = s.variables; constants = s.constants; imports = x }) f
+    ∙ ap (λ (x : List ImportRow). record r {
+      documents = s.documents;
+      methods = s.methods;
+      scopes = s.scopes;
+      variables = s.variables;
+      constants = s.constants;
+      imports = x;
+    }) f
     ∙ ap (λ (x : List MachineRow). record s { machines = x; customs = r.customs }) g
     ∙ ap (λ (x : List CustomRow). record s { customs = x }) h
 
 -- ---- methods
 
-key_of : (methods : List MethodValue) (k : ℕ) (x : MethodValue) → row_at methods (suc k) ≡ Some x → slice_index (map (λ method. method.method) methods) k ≡ x.method
+key_of : (methods : List MethodValue) (k : ℕ) (x : MethodValue) → row_at methods (suc k) ≡ Some x
+    → slice_index (map (λ method. method.method) methods) k ≡ x.method
 key_of methods k x is =
     get_or-map (λ (method : MethodValue). method.method) methods k x 0 (slice_get_within methods k x is)
     ∙ ap (λ (method : MethodValue). method.method) (get_or_from_slice_get methods k x x is)
 
 rise_from : (low count : ℕ) (methods : List MethodValue) → low ≤ count
-    → ((k : ℕ) → k < length methods → (low < slice_index (map (λ method. method.method) methods) k) × (slice_index (map (λ method. method.method) methods) k ≤ count))
+    → ((k : ℕ) → k < length methods → (low < slice_index (map (λ method. method.method) methods) k)
+    × (slice_index (map (λ method. method.method) methods) k ≤ count))
     → Rises (map (λ method. method.method) methods) → RiseFrom low methods count
 rise_from low count [] within each rise = within
 rise_from low count (method ∷ methods) within each rise =
@@ -77,7 +93,10 @@ rise_from low count (method ∷ methods) within each rise =
     let here = each 0 (omega arith) in (
       here.0,
       rise_from method.method count methods here.1
-          (λ k inside. (rise 0 (suc k) (omega arith) (omega (arith, inside, length-map methods (λ (m : MethodValue). m.method))), let later = each (suc k) (omega arith) in later.1))
+          (λ k inside. (
+            rise 0 (suc k) (omega arith) (omega (arith, inside, length-map methods (λ (m : MethodValue). m.method))),
+            let later = each (suc k) (omega arith) in later.1,
+          ))
           (λ i j before inside. rise (suc i) (suc j) (omega arith) (omega arith)),
     )
 
@@ -96,10 +115,12 @@ held_by_row : (value : FileValue) (method : Option MethodValue) → held_method 
 held_by_row value None = refl
 held_by_row value (Some method) = refl
 
-held_all : (value : FileValue) (methods : List MethodValue) → all_rows (blobs value) (slice_index value.rows 0x06) value.methods methods ≡ map held_method (method_rows value methods)
+held_all : (value : FileValue) (methods : List MethodValue) → all_rows (blobs value) (slice_index value.rows 0x06) value.methods methods
+    ≡ map held_method (method_rows value methods)
 held_all value [] = refl
 held_all value (first ∷ methods) =
-    map_map held_method (λ m. method_row_of value (method_at value m)) (λ m. row_by (blobs value) (found value.methods m)) (range_with_len 1 (slice_index value.rows 0x06))
+    map_map held_method (λ m. method_row_of value (method_at value m)) (λ m. row_by (blobs value) (found value.methods m))
+    (range_with_len 1 (slice_index value.rows 0x06))
     (λ m. held_by_row value (method_at value m))
 
 -- ---- scopes
@@ -115,16 +136,34 @@ scopes_held value front (scope ∷ back) is =
     let vars = λ (scope : ScopeValue). length scope.variables in
     let consts = λ (scope : ScopeValue). length scope.constants in
     let before : take (length front + 1 - 1) value.scopes ≡ front = ap (take (length front + 1 - 1)) (sym is) ∙ taken front (scope ∷ back) in
-    let v : 1 + sum_by vars front ≡ first_item vars value (length front + 1) = one-add (sum_by vars front) ∙ ap (λ scopes. suc (sum_by vars scopes)) (sym before) in
-    let c : 1 + sum_by consts front ≡ first_item consts value (length front + 1) = one-add (sum_by consts front) ∙ ap (λ scopes. suc (sum_by consts scopes)) (sym before) in
+    let v : 1 + sum_by vars front ≡ first_item vars value (length front + 1) =
+    one-add (sum_by vars front) ∙ ap (λ scopes. suc (sum_by vars scopes)) (sym before) in
+    let c : 1 + sum_by consts front ≡ first_item consts value (length front + 1) =
+    one-add (sum_by consts front) ∙ ap (λ scopes. suc (sum_by consts scopes)) (sym before) in
     let more : front ++ scope ∷ [] ++ back ≡ value.scopes = append_assoc front (scope ∷ []) back ∙ is in
     let size : length (front ++ scope ∷ []) ≡ length front + 1 = omega (arith, Rattle.std.proofs.Common.length-append front (scope ∷ [])) in
-    let vs : sum_by vars front + vars scope ≡ sum_by vars (front ++ scope ∷ []) = omega (arith, sum_by-append vars front (scope ∷ []), sum_by-cons vars scope []) in
-    let cs : sum_by consts front + consts scope ≡ sum_by consts (front ++ scope ∷ []) = omega (arith, sum_by-append consts front (scope ∷ []), sum_by-cons consts scope []) in
+    let vs : sum_by vars front + vars scope ≡ sum_by vars (front ++ scope ∷ []) =
+    omega (arith, sum_by-append vars front (scope ∷ []), sum_by-cons vars scope []) in
+    let cs : sum_by consts front + consts scope ≡ sum_by consts (front ++ scope ∷ []) =
+    omega (arith, sum_by-append consts front (scope ∷ []), sum_by-cons consts scope []) in
     let rest = scopes_held value (front ++ scope ∷ []) back more in
     ap (λ (row : ScopeRow). row ∷ scope_rows_from (sum_by vars front + vars scope) (sum_by consts front + consts scope) back)
-    (ap (λ (n : ℕ). record { method = scope.method; import = scope.import; variables = cell n; constants = cell (1 + sum_by consts front); start = scope.range.start; length = scope.range.end - scope.range.start }) v
-    ∙ ap (λ (n : ℕ). record { method = scope.method; import = scope.import; variables = cell (first_item vars value (length front + 1)); constants = cell n; start = scope.range.start; length = scope.range.end - scope.range.start }) c)
+    (ap (λ (n : ℕ). record {
+      method = scope.method;
+      import = scope.import;
+      variables = cell n;
+      constants = cell (1 + sum_by consts front);
+      start = scope.range.start;
+      length = scope.range.end - scope.range.start;
+    }) v
+    ∙ ap (λ (n : ℕ). record {
+      method = scope.method;
+      import = scope.import;
+      variables = cell (first_item vars value (length front + 1));
+      constants = cell n;
+      start = scope.range.start;
+      length = scope.range.end - scope.range.start;
+    }) c)
     ∙ ap (λ (rows : List ScopeRow). held_scope (scope_row value (length front + 1, scope)) ∷ rows)
     (ap (λ n. scope_rows_from n (sum_by consts front + consts scope) back) vs
     ∙ ap (λ n. scope_rows_from (sum_by vars (front ++ scope ∷ [])) n back) cs
@@ -141,7 +180,8 @@ document_held : (value : FileValue) (document : DocumentValue) → held_document
 document_held value document =
     let row = document_row value document in
     ap (λ (n : ℕ). record { name = cell row.name; algorithm = cell n; hash = cell row.hash; language = cell row.language }) (same_guid value document.algorithm)
-    ∙ ap (λ (n : ℕ). record { name = cell row.name; algorithm = cell (guid_place (guids value) document.algorithm); hash = cell row.hash; language = cell n }) (same_guid value document.language)
+    ∙ ap (λ (n : ℕ). record { name = cell row.name; algorithm = cell (guid_place (guids value) document.algorithm); hash = cell row.hash; language = cell n })
+    (same_guid value document.language)
 
 -- ---- the whole
 
@@ -169,7 +209,8 @@ module _ (value : FileValue) (d1 d2 d4 d5 d6 d8 : Draft) (chain : IsChain value 
   texts_all =
       let names = map (λ (c : Rattle.ppdb_values.specs.declared.scope.ConstantValue.ConstantValue). c.name) (constants_of value) in
       chain.constants.texts
-      ∙ ap (λ (noted : Noted). fold with_text noted names) (chain.scopes.texts ∙ ap (λ (noted : Noted). fold with_text noted (variable_names (variables_of value))) texts_before)
+      ∙ ap (λ (noted : Noted). fold with_text noted names)
+      (chain.scopes.texts ∙ ap (λ (noted : Noted). fold with_text noted (variable_names (variables_of value))) texts_before)
       ∙ sym (fold-append with_text none_noted (variable_names (variables_of value)) names)
 
   texts_are : d8.texts.items ≡ texts value
@@ -215,7 +256,8 @@ module _ (value : FileValue) (d1 d2 d4 d5 d6 d8 : Draft) (chain : IsChain value 
 
   blobs_all : d8.blobs ≡ fold with_blob none_noted (cell_blobs value)
   blobs_all = chain.customs.blobs ∙ ap (λ (noted : Noted). fold with_blob noted (map custom_blob value.customs)) blobs_6
-      ∙ sym (fold-append with_blob none_noted (early ++ map constant_blob (constants_of value) ++ map import_blob value.imports) (map custom_blob value.customs))
+      ∙ sym (fold-append with_blob none_noted (early ++ map constant_blob (constants_of value) ++ map import_blob value.imports)
+      (map custom_blob value.customs))
 
   blobs_are : d8.blobs.items ≡ blobs value
   blobs_are = ap (λ (noted : Noted). noted.items) blobs_all ∙ (blobs_noted none_noted (cell_blobs value)).items
@@ -226,7 +268,8 @@ module _ (value : FileValue) (d1 d2 d4 d5 d6 d8 : Draft) (chain : IsChain value 
       let t = texts_noted none_noted (text_uses value) in
       let b = blobs_noted none_noted (cell_blobs value) in
       let heap = (fold with_blob none_noted (cell_blobs value)).items in
-      let spelled : sum_by (λ used. length (blob_bytes heap used)) (blob_uses value) ≡ sum_by (λ used. length (blob_bytes (blobs value) used)) (blob_uses value) =
+      let spelled : sum_by (λ used. length (blob_bytes heap used)) (blob_uses value) ≡ sum_by (λ used. length (blob_bytes (blobs value) used))
+      (blob_uses value) =
       ap (λ items. sum_by (λ used. length (blob_bytes items used)) (blob_uses value)) b.items in
       ap (λ (noted : Noted). told (noted.total + d8.blobs.total)) (texts_left ∙ texts_all)
       ∙ ap (λ (noted : Noted). told ((fold with_text none_noted (text_uses value)).total + noted.total)) blobs_all
@@ -235,7 +278,8 @@ module _ (value : FileValue) (d1 d2 d4 d5 d6 d8 : Draft) (chain : IsChain value 
   -- ---- growth, from each table to the last
 
   guids_grow : Grows d1.guids (guids value)
-  guids_grow = grows_then d1.guids d8.guids (guids value) (subst (λ items. Grows items d8.guids) guids_between chain.customs.guids_grow) (grows_to d8.guids (guids value) guids_are)
+  guids_grow = grows_then d1.guids d8.guids (guids value) (subst (λ items. Grows items d8.guids) guids_between chain.customs.guids_grow)
+      (grows_to d8.guids (guids value) guids_are)
 
   grow_8 : Grows d8.blobs.items (blobs value)
   grow_8 = grows_to d8.blobs.items (blobs value) blobs_are
@@ -247,7 +291,8 @@ module _ (value : FileValue) (d1 d2 d4 d5 d6 d8 : Draft) (chain : IsChain value 
   grow_5 = grows_then d5.blobs.items d6.blobs.items (blobs value) chain.imports.blobs_grow grow_6
 
   grow_2 : Grows d2.blobs.items (blobs value)
-  grow_2 = grows_then d2.blobs.items d5.blobs.items (blobs value) (subst (λ (noted : Noted). Grows noted.items d5.blobs.items) blobs_4 chain.constants.blobs_grow) grow_5
+  grow_2 = grows_then d2.blobs.items d5.blobs.items (blobs value)
+      (subst (λ (noted : Noted). Grows noted.items d5.blobs.items) blobs_4 chain.constants.blobs_grow) grow_5
 
   grow_1 : Grows d1.blobs.items (blobs value)
   grow_1 = grows_then d1.blobs.items d2.blobs.items (blobs value) chain.methods.blobs_grow grow_2
@@ -274,12 +319,16 @@ module _ (value : FileValue) (d1 d2 d4 d5 d6 d8 : Draft) (chain : IsChain value 
       let of = λ (d : Draft). d.rows.methods in
       let count = slice_index value.rows 0x06 in
       ap of chain.customs.others ∙ ap of chain.imports.others ∙ ap of chain.constants.others ∙ ap of chain.scopes.others
-      ∙ ap (all_methods count) (chain.methods.rows (blobs value) grow_2 ∙ ap (λ (d : Draft). fold (next_method (blobs value)) d.rows.methods value.methods) chain.documents.others)
+      ∙ ap (all_methods count) (chain.methods.rows (blobs value) grow_2
+      ∙ ap (λ (d : Draft). fold (next_method (blobs value)) d.rows.methods value.methods) chain.documents.others)
       ∙ methods_spread (blobs value) count value.methods (methods_rise value sound)
       ∙ held_all value value.methods
 
   -- before the scopes there are no rows of the later tables
-  rows_before : (with_all_methods d2 (slice_index value.rows 0x06)).rows ≡ record no_rows { documents = d1.rows.documents; methods = all_methods (slice_index value.rows 0x06) d2.rows.methods }
+  rows_before : (with_all_methods d2 (slice_index value.rows 0x06)).rows ≡ record no_rows {
+    documents = d1.rows.documents;
+    methods = all_methods (slice_index value.rows 0x06) d2.rows.methods;
+  }
   unfolding with_all_methods
   rows_before =
       let all = all_methods (slice_index value.rows 0x06) d2.rows.methods in
@@ -348,7 +397,8 @@ module _ (value : FileValue) (d1 d2 d4 d5 d6 d8 : Draft) (chain : IsChain value 
     guids_are = guids_are;
     blobs_are = blobs_are;
     span_is = span_is;
-    rows_are = same_rows d8.rows (held_rows (canonical_tables value)) documents_are (methods_are sound) scopes_are variables_are constants_are imports_are machines_are customs_are;
+    rows_are = same_rows d8.rows (held_rows (canonical_tables value)) documents_are (methods_are sound) scopes_are variables_are constants_are imports_are
+        machines_are customs_are;
   }
 
 pub drafts_are_canonical : DraftsAreCanonical
@@ -368,5 +418,6 @@ drafts_are_canonical value sound =
       scopes = scopes_drafted d3 value.scopes;
       constants = subst (ConstantsDrafted d4 (constants_of value)) (sym same) (constants_drafted d4 (constants_of value));
       imports = imports_drafted d5 value.imports;
-      customs = subst (λ (d : Draft). CustomsDrafted d value.customs (drafted value)) machines (customs_drafted (fold with_machine d6 value.machines) value.customs);
+      customs =
+          subst (λ (d : Draft). CustomsDrafted d value.customs (drafted value)) machines (customs_drafted (fold with_machine d6 value.machines) value.customs);
     }) sound

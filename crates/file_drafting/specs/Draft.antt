@@ -85,7 +85,8 @@ with_variable draft variable =
     record draft {
       texts = noted;
       rows = record draft.rows {
-        variables = draft.rows.variables ++ record { attributes = variable.attributes; slot = variable.slot; name = cell (text_place noted.items variable.name) } ∷ [];
+        variables =
+            draft.rows.variables ++ record { attributes = variable.attributes; slot = variable.slot; name = cell (text_place noted.items variable.name) } ∷ [];
       };
     }
 
@@ -120,7 +121,8 @@ with_signature draft name signature =
       texts = named;
       blobs = noted;
       rows = record draft.rows {
-        constants = draft.rows.constants ++ record { name = cell (text_place named.items name); signature = cell (blob_place noted.items (plain signature)) } ∷ [];
+        constants =
+            draft.rows.constants ++ record { name = cell (text_place named.items name); signature = cell (blob_place noted.items (plain signature)) } ∷ [];
       };
     }
 
@@ -136,7 +138,10 @@ with_import draft scope =
     let noted = with_blob draft.blobs (import_blob scope) in
     record draft {
       blobs = noted;
-      rows = record draft.rows { imports = draft.rows.imports ++ record { parent = scope.parent; imports = cell (blob_place noted.items (import_blob scope)) } ∷ [] };
+      rows = record draft.rows {
+        imports = draft.rows.imports ++ record { parent = scope.parent; imports = cell (blob_place noted.items (import_blob scope)) }
+            ∷ [];
+      };
     }
 
 unfoldable pub with_machine : Draft → MachineRow → Draft

@@ -16,7 +16,8 @@ use Rattle.ppdb_canon.specs.Uses.{texts, guids, blobs}
 use Rattle.ppdb_canon.specs.Canonical.{canonical_tables}
 use Rattle.ppdb_canon.specs.Limits.{span}
 use Rattle.noted_items.specs.Noted.{cell}
-use Rattle.file_drafting.specs.Draft.{Draft, empty_draft, with_document, with_method, with_all_methods, with_scope, with_constants, with_import, with_machine, with_custom}
+use Rattle.file_drafting.specs.Draft.{Draft, empty_draft, with_document, with_method, with_all_methods, with_scope, with_constants}
+use Rattle.file_drafting.specs.Draft.{with_import, with_machine, with_custom}
 
 -- all parts, table by table; the names of all variables come before those of the constants
 abbrev pub with_documents : FileValue → Draft

@@ -43,7 +43,8 @@ impl Drafting {
     ghost use Rattle.type_blobs.specs.Spelling.{IsBody, constant_spelling};
     ghost use Rattle.sequence_points.specs.Written.{CanBeWritten, large_steps, IsRefused};
     ghost use Rattle.sound_values.specs.Writing.{HasSpelling, IsWritable};
-    ghost use Rattle.file_drafting.specs.Draft.{empty_draft, with_document, with_method, with_all_methods, with_variable, with_scope_row, with_signature, with_import, with_machine, with_custom};
+    ghost use Rattle.file_drafting.specs.Draft.{empty_draft, with_document, with_method, with_all_methods, with_variable, with_scope_row};
+    ghost use Rattle.file_drafting.specs.Draft.{with_signature, with_import, with_machine, with_custom};
 
     /// A draft without parts.
     pub fn new(alloc: Global) -> Result<Drafting, Memory>

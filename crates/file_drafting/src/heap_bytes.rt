@@ -74,7 +74,8 @@ impl Drafting {
 
     /// Appends the heaps: texts, GUIDs and blobs.
     pub fn put_heaps(&self, into: &mut Bytes) -> Result<(), Memory>
-        ensures { OnOk result (into.new ≡ into.old ++ padded (flat_map as_text self.now.texts.items) ++ flat_map (λ guid. guid) self.now.guids ++ padded (flat_map as_blob self.now.blobs.items)) }
+        ensures { OnOk result (into.new ≡ into.old ++ padded (flat_map as_text self.now.texts.items) ++ flat_map (λ guid. guid) self.now.guids
+            ++ padded (flat_map as_blob self.now.blobs.items)) }
     {
         self.put_texts(into)?;
         self.guids.put(into)?;

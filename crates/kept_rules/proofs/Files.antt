@@ -2,11 +2,16 @@
 use Rattle.ppdb_base.specs.declared.code.Code.{Code}
 use Rattle.ppdb_base.specs.declared.fault.Place.{Place}
 use Rattle.ppdb_rules.specs.Rows.{BadRow}
-use Rattle.ppdb_rules.specs.Rows.BadRow.{string_index, blob_index, guid_index, row_index, coded_tag, name_nil, document_repeated, scope_order, scope_range, scope_crossing, variable_list, constant_list, variables_alone, constants_alone, slot_repeated, variable_name_repeated, constant_name_repeated, import_cycle, machine_order, kickoff_repeated, custom_order, kind_parent, name_content, points_content, constant_content, imports_content, custom_content}
+use Rattle.ppdb_rules.specs.Rows.BadRow.{string_index, blob_index, guid_index, row_index, coded_tag, name_nil, document_repeated}
+use Rattle.ppdb_rules.specs.Rows.BadRow.{scope_order, scope_range, scope_crossing, variable_list, constant_list, variables_alone}
+use Rattle.ppdb_rules.specs.Rows.BadRow.{constants_alone, slot_repeated, variable_name_repeated, constant_name_repeated, import_cycle}
+use Rattle.ppdb_rules.specs.Rows.BadRow.{machine_order, kickoff_repeated, custom_order, kind_parent, name_content, points_content}
+use Rattle.ppdb_rules.specs.Rows.BadRow.{constant_content, imports_content, custom_content}
 use Rattle.ppdb_values.specs.RawFile.{RawFile}
 use Rattle.ppdb_values.specs.Rules.{KeepsRules}
 use Rattle.kept_rules.proofs.Cells.{blob_there, guid_there, row_there, tag_there, text_there}
-use Rattle.kept_rules.proofs.Constants.{no_constant_alone, no_constant_list, no_constant_repeated, no_signature_fault, no_slot_repeated, no_variable_alone, no_variable_list, no_variable_repeated}
+use Rattle.kept_rules.proofs.Constants.{no_constant_alone, no_constant_list, no_constant_repeated, no_signature_fault, no_slot_repeated}
+use Rattle.kept_rules.proofs.Constants.{no_variable_alone, no_variable_list, no_variable_repeated}
 use Rattle.kept_rules.proofs.Customs.{no_bad_value, no_other_parent, no_parent_above}
 use Rattle.kept_rules.proofs.Documents.{name_not_nil, no_document_repeated, no_name_fault}
 use Rattle.kept_rules.proofs.Imports.{no_import_cycle, no_imports_fault}

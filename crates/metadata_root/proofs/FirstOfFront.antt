@@ -1,10 +1,12 @@
 -- The first fault before the stream headers, and that of the streams.
-use Rattle.std.proofs.Common.{◌≡◌, ◌≢◌, ℕ, zero, suc, true, ◌+◌, ◌<◌, ◌≤◌, ◌⊎◌, inl, inr, List, [], ◌∷◌, ◌++◌, length, sum, Option, Some, None, refl, sym, ap, subst, ◌∙◌, append_assoc, arith, lit≤}
+use Rattle.std.proofs.Common.{◌≡◌, ◌≢◌, ℕ, zero, suc, true, ◌+◌, ◌<◌, ◌≤◌, ◌⊎◌, inl, inr, List, [], ◌∷◌, ◌++◌, length, sum, Option, Some}
+use Rattle.std.proofs.Common.{None, refl, sym, ap, subst, ◌∙◌, append_assoc, arith, lit≤}
 use Rattle.std.specs.Prelude.{codes, MatchOption}
 use Rattle.std.specs.Option.{is_some, option_map, ForSome}
 use Rattle.std.proofs.lemmas.Bool.{cases_lt}
 use Rattle.ppdb_base.specs.declared.code.Code.{Code}
-use Rattle.ppdb_base.specs.declared.code.Code.TheVariants.{RootTruncated, StreamName, StreamUnknown, StreamRepeated, NotMetadata, WindowsPdb, StreamMissing, StreamBounds}
+use Rattle.ppdb_base.specs.declared.code.Code.TheVariants.{RootTruncated, StreamName, StreamUnknown, StreamRepeated, NotMetadata}
+use Rattle.ppdb_base.specs.declared.code.Code.TheVariants.{WindowsPdb, StreamMissing, StreamBounds}
 use Rattle.ppdb_base.specs.declared.fault.Place.{Place}
 use Rattle.ppdb_base.specs.declared.fault.Fault.{Fault}
 use Rattle.ppdb_base.specs.Place.{ComesBefore, numbers, number_of, at_byte}
@@ -14,7 +16,9 @@ use Rattle.metadata_root.specs.declared.kind.StreamKind.{StreamKind}
 use Rattle.metadata_root.specs.declared.kind.StreamKind.TheVariants.{Pdb, Tables, Strings, UserStrings, Guids, Blobs}
 use Rattle.metadata_root.specs.declared.header.Listing.{Listing}
 use Rattle.metadata_root.specs.declared.header.Extent.{Extent}
-use Rattle.metadata_root.specs.Root.{BadRoot, not_metadata, windows_pdb, truncated, bad_name, unknown, repeated, BeginsWith, front_fields, fields_to, root_fields, header_place, name_place, name_at, name_of, stream_count, version_len}
+use Rattle.metadata_root.specs.Root.{BadRoot, not_metadata, windows_pdb, truncated, bad_name, unknown, repeated, BeginsWith}
+use Rattle.metadata_root.specs.Root.{front_fields, fields_to, root_fields, header_place, name_place, name_at, name_of, stream_count}
+use Rattle.metadata_root.specs.Root.{version_len}
 use Rattle.metadata_root.specs.Streams.{BadStreams, bounds, missing_pdb, missing_tables, IsListed, Stream, Streams, stream_of, AreStreamsOf, IsStream}
 use Rattle.metadata_root.specs.Reading.{listed, slice_of, IsListing, IsFirstOutside, IsInside, HasExtent}
 use Rattle.std.proofs.lemmas.List.{length-take}
@@ -54,28 +58,35 @@ least_of_all file _ _ (bad_name j at n bad) = lit≤ tt
 least_of_all file _ _ (unknown j at n none) = lit≤ tt
 least_of_all file _ _ (repeated j at n i before_j same) = lit≤ tt
 
-pub windows_is_first : (file : List ℕ) (fault : Fault) → fault ≡ record { code = WindowsPdb; place = at_byte 1 0 } → BeginsWith (codes "Microsoft C/C++ MSF ") file → IsFirst (BadRoot file) fault
+pub windows_is_first : (file : List ℕ) (fault : Fault) → fault ≡ record { code = WindowsPdb; place = at_byte 1 0 }
+    → BeginsWith (codes "Microsoft C/C++ MSF ") file → IsFirst (BadRoot file) fault
 windows_is_first file fault is m =
-    subst (IsFirst (BadRoot file)) (sym is) (first_at (BadRoot file) WindowsPdb (at_byte 1 0) (not_before_first file) (windows_pdb m) (λ other bad. least_windows file m other _ bad))
+    subst (IsFirst (BadRoot file)) (sym is) (first_at (BadRoot file) WindowsPdb (at_byte 1 0) (not_before_first file) (windows_pdb m)
+    (λ other bad. least_windows file m other _ bad))
 
-pub not_metadata_is_first : (file : List ℕ) (fault : Fault) → fault ≡ record { code = NotMetadata; place = at_byte 1 0 } → (BeginsWith (codes "BSJB") file → ⊥) → (BeginsWith (codes "Microsoft C/C++ MSF ") file → ⊥) → IsFirst (BadRoot file) fault
+pub not_metadata_is_first : (file : List ℕ) (fault : Fault) → fault ≡ record { code = NotMetadata; place = at_byte 1 0 } → (BeginsWith (codes "BSJB") file → ⊥)
+    → (BeginsWith (codes "Microsoft C/C++ MSF ") file → ⊥) → IsFirst (BadRoot file) fault
 not_metadata_is_first file fault is unsigned other_file =
-    subst (IsFirst (BadRoot file)) (sym is) (first_at (BadRoot file) NotMetadata (at_byte 1 0) (not_before_first file) (not_metadata unsigned other_file) (λ other bad. least_of_all file other _ bad))
+    subst (IsFirst (BadRoot file)) (sym is) (first_at (BadRoot file) NotMetadata (at_byte 1 0) (not_before_first file) (not_metadata unsigned other_file)
+    (λ other bad. least_of_all file other _ bad))
 
 first_place : (file : List ℕ) (j : ℕ) → header_place file 0 ≤ header_place file j
 first_place file zero = omega arith
 first_place file (suc j) = omega (arith, ends_by_place file 0 (suc j) (omega arith))
 
 -- a field before the headers that passes the end is the first fault
-pub front_is_first : (file : List ℕ) (fault : Fault) → BeginsWith (codes "BSJB") file → (at len : ℕ) (before after : List ℕ) → front_fields file ≡ before ++ len ∷ after → at ≡ sum before → at ≤ length file
+pub front_is_first : (file : List ℕ) (fault : Fault) → BeginsWith (codes "BSJB") file → (at len : ℕ) (before after : List ℕ) → front_fields file ≡ before
+    ++ len ∷ after → at ≡ sum before → at ≤ length file
     → (fault ≡ record { code = RootTruncated; place = at_byte 1 at }) × (length file < at + len) → IsFirst (BadRoot file) fault
 unfolding fields_to
 front_is_first file fault signed at len before after split is le past =
     let whole = fields_split file 0 (stream_count file) (omega arith) in
     let cut : root_fields file ≡ before ++ (len ∷ (after ++ whole.0)) = whole.1 ∙ ap (λ xs. xs ++ whole.0) split ∙ append_assoc before (len ∷ after) whole.0 in
-    let within : sum (front_fields file) ≡ sum before + (len + sum after) = ap sum split ∙ sum_append before (len ∷ after) ∙ ap (λ n. sum before + n) (sum_cons len after) in
+    let within : sum (front_fields file) ≡ sum before + (len + sum after) =
+    ap sum split ∙ sum_append before (len ∷ after) ∙ ap (λ n. sum before + n) (sum_cons len after) in
     subst (IsFirst (BadRoot file)) (sym past.0)
-    (cut_is_first file signed 0 at len before (after ++ whole.0) cut is le past.1 (good_to_none file) (λ j lt. absurd (omega (arith, is, lt, within, first_place file j))))
+    (cut_is_first file signed 0 at len before (after ++ whole.0) cut is le past.1 (good_to_none file)
+    (λ j lt. absurd (omega (arith, is, lt, within, first_place file j))))
 
 -- the signature lies in the file
 pub begins_len : (file : List ℕ) → BeginsWith (codes "BSJB") file → 4 ≤ length file
@@ -105,11 +116,15 @@ module _ (file : List ℕ) (listing : Listing) (l : IsListing file (stream_count
   least_missing _ _ (missing_pdb none) e = lit≤ tt
   least_missing _ _ (missing_tables none) e = lit≤ tt
 
-  pub missing_is_first : (fault : Fault) → fault ≡ record { code = StreamMissing; place = at_byte 2 0 } → (listed listing Pdb ≡ None) ⊎ (listed listing Tables ≡ None) → IsFirst (BadStreams file) fault
+  pub missing_is_first : (fault : Fault) → fault ≡ record { code = StreamMissing; place = at_byte 2 0 } → (listed listing Pdb ≡ None)
+      ⊎ (listed listing Tables ≡ None) → IsFirst (BadStreams file) fault
   missing_is_first fault is (inl none) =
-      subst (IsFirst (BadStreams file)) (sym is) (first_at (BadStreams file) StreamMissing (at_byte 2 0) not_before_streams (missing_pdb (not_listed Pdb none)) (λ other bad. least_missing other _ bad refl))
+      subst (IsFirst (BadStreams file)) (sym is) (first_at (BadStreams file) StreamMissing (at_byte 2 0) not_before_streams (missing_pdb (not_listed Pdb none))
+      (λ other bad. least_missing other _ bad refl))
   missing_is_first fault is (inr none) =
-      subst (IsFirst (BadStreams file)) (sym is) (first_at (BadStreams file) StreamMissing (at_byte 2 0) not_before_streams (missing_tables (not_listed Tables none)) (λ other bad. least_missing other _ bad refl))
+      subst (IsFirst (BadStreams file)) (sym is)
+      (first_at (BadStreams file) StreamMissing (at_byte 2 0) not_before_streams (missing_tables (not_listed Tables none))
+      (λ other bad. least_missing other _ bad refl))
 
   -- a stream that is in the listing is listed
   pub is_listed : (kind : StreamKind) → is_some (listed listing kind) ≡ true → IsListed file kind
@@ -118,7 +133,8 @@ module _ (file : List ℕ) (listing : Listing) (l : IsListing file (stream_count
       (found.1.0, record { counted = found.1.1; named = found.1.2.named })
 
   module _ (pdb : is_some listing.pdb ≡ true) (tables : is_some listing.tables ≡ true) where
-    not_before_outside : (header j : ℕ) → IsFirstOutside file header j → (code : Code) (at : Place) → BadStreams file code at → ComesBefore (numbers code at) (2 ∷ 0 ∷ 0 ∷ 0 ∷ header ∷ []) → ⊥
+    not_before_outside : (header j : ℕ) → IsFirstOutside file header j → (code : Code) (at : Place) → BadStreams file code at
+        → ComesBefore (numbers code at) (2 ∷ 0 ∷ 0 ∷ 0 ∷ header ∷ []) → ⊥
     not_before_outside header j first _ _ (bounds k lt over) past =
         let before = byte_before 2 StreamBounds (header_place file k) header past in
         elim (cases_lt k j) [
@@ -138,12 +154,14 @@ module _ (file : List ℕ) (listing : Listing) (l : IsListing file (stream_count
     least_outside _ _ (missing_pdb none) = lit≤ tt
     least_outside _ _ (missing_tables none) = lit≤ tt
 
-    pub outside_is_first : (header : ℕ) (fault : Fault) → fault ≡ record { code = StreamBounds; place = at_byte 2 header } → (j : ℕ) × (j < stream_count file) × IsFirstOutside file header j → IsFirst (BadStreams file) fault
+    pub outside_is_first : (header : ℕ) (fault : Fault) → fault ≡ record { code = StreamBounds; place = at_byte 2 header }
+        → (j : ℕ) × (j < stream_count file) × IsFirstOutside file header j → IsFirst (BadStreams file) fault
     outside_is_first header fault is first =
         let j = first.0 in
         let o = first.2 in
         let bad = subst (λ h. BadStreams file StreamBounds (at_byte 2 h)) (sym o.place) (bounds j first.1 o.outside) in
-        subst (IsFirst (BadStreams file)) (sym is) (first_at (BadStreams file) StreamBounds (at_byte 2 header) (not_before_outside header j o) bad (λ other b. least_outside other _ b))
+        subst (IsFirst (BadStreams file)) (sym is)
+        (first_at (BadStreams file) StreamBounds (at_byte 2 header) (not_before_outside header j o) bad (λ other b. least_outside other _ b))
 
     accepted_streams : ((j : ℕ) → j < stream_count file → IsInside file j) → (code : Code) (at : Place) → BadStreams file code at → ⊥
     accepted_streams inside _ _ (bounds k lt over) = absurd (omega (arith, over, inside k lt))
@@ -154,7 +172,8 @@ module _ (file : List ℕ) (listing : Listing) (l : IsListing file (stream_count
     streams_accepted none = accepted_streams (missing_where listing.outside _ _ l.outside none)
 
   -- where no stream passes the end, each that is listed lies in the file
-  inside_case : (kind : StreamKind) (o : Option Extent) → MatchOption o ((j : ℕ) → j < stream_count file → name_at file (name_place file j) ≢ name_of kind) (λ extent. (j : ℕ) × (j < stream_count file) × HasExtent file kind j extent)
+  inside_case : (kind : StreamKind) (o : Option Extent) → MatchOption o ((j : ℕ) → j < stream_count file → name_at file (name_place file j) ≢ name_of kind)
+      (λ extent. (j : ℕ) × (j < stream_count file) × HasExtent file kind j extent)
       → ((j : ℕ) → j < stream_count file → IsInside file j) → ForSome o (λ e. e.offset + e.size ≤ length file)
   inside_case kind None m inside = λ e is. absurd cc
   inside_case kind (Some extent) m inside = λ e is.
@@ -166,7 +185,8 @@ module _ (file : List ℕ) (listing : Listing) (l : IsListing file (stream_count
 
   -- the stream that a root shows
   stream_case : (kind : StreamKind) (o : Option Extent) (seen : Option Stream) → seen ≡ option_map (slice_of file) o
-      → MatchOption o ((j : ℕ) → j < stream_count file → name_at file (name_place file j) ≢ name_of kind) (λ extent. (j : ℕ) × (j < stream_count file) × HasExtent file kind j extent)
+      → MatchOption o ((j : ℕ) → j < stream_count file → name_at file (name_place file j) ≢ name_of kind)
+      (λ extent. (j : ℕ) × (j < stream_count file) × HasExtent file kind j extent)
       → ForSome o (λ e. e.offset + e.size ≤ length file) → MatchOption seen (IsListed file kind → ⊥) (IsStream file kind)
   stream_case kind None seen is m within = rw is (λ found. m found.0 found.1.counted found.1.named)
   stream_case kind (Some extent) seen is m within =
@@ -178,8 +198,10 @@ module _ (file : List ℕ) (listing : Listing) (l : IsListing file (stream_count
         within = omega (arith, m.2.offset, m.2.size, within extent refl);
       })
 
-  shown : (streams : Streams) → streams.pdb ≡ option_map (slice_of file) listing.pdb → streams.tables ≡ option_map (slice_of file) listing.tables → streams.strings ≡ option_map (slice_of file) listing.strings
-      → streams.user_strings ≡ option_map (slice_of file) listing.user_strings → streams.guids ≡ option_map (slice_of file) listing.guids → streams.blobs ≡ option_map (slice_of file) listing.blobs
+  shown : (streams : Streams) → streams.pdb ≡ option_map (slice_of file) listing.pdb → streams.tables ≡ option_map (slice_of file) listing.tables
+      → streams.strings ≡ option_map (slice_of file) listing.strings
+      → streams.user_strings ≡ option_map (slice_of file) listing.user_strings → streams.guids ≡ option_map (slice_of file) listing.guids
+      → streams.blobs ≡ option_map (slice_of file) listing.blobs
       → (kind : StreamKind) → stream_of streams kind ≡ option_map (slice_of file) (listed listing kind)
   shown streams p t s u g b Pdb = p
   shown streams p t s u g b Tables = t
@@ -189,7 +211,10 @@ module _ (file : List ℕ) (listing : Listing) (l : IsListing file (stream_count
   shown streams p t s u g b Blobs = b
 
   pub are_streams : (streams : Streams) → ((kind : StreamKind) → ForSome (listed listing kind) (λ e. e.offset + e.size ≤ length file))
-      → streams.pdb ≡ option_map (slice_of file) listing.pdb → streams.tables ≡ option_map (slice_of file) listing.tables → streams.strings ≡ option_map (slice_of file) listing.strings
-      → streams.user_strings ≡ option_map (slice_of file) listing.user_strings → streams.guids ≡ option_map (slice_of file) listing.guids → streams.blobs ≡ option_map (slice_of file) listing.blobs
+      → streams.pdb ≡ option_map (slice_of file) listing.pdb → streams.tables ≡ option_map (slice_of file) listing.tables
+      → streams.strings ≡ option_map (slice_of file) listing.strings
+      → streams.user_strings ≡ option_map (slice_of file) listing.user_strings → streams.guids ≡ option_map (slice_of file) listing.guids
+      → streams.blobs ≡ option_map (slice_of file) listing.blobs
       → AreStreamsOf file streams
-  are_streams streams within p t s u g b kind = stream_case kind (listed listing kind) (stream_of streams kind) (shown streams p t s u g b kind) (l.streams kind) (within kind)
+  are_streams streams within p t s u g b kind =
+      stream_case kind (listed listing kind) (stream_of streams kind) (shown streams p t s u g b kind) (l.streams kind) (within kind)

@@ -1,5 +1,6 @@
 -- The first fault of the root, from what its readers saw.
-use Rattle.std.proofs.Common.{◌≡◌, ◌≢◌, ℕ, suc, ◌+◌, ◌<◌, ◌≤◌, ◌⊎◌, inl, inr, true, List, [], ◌∷◌, ◌++◌, length, take, sum, Option, Some, None, refl, sym, ap, subst, ◌∙◌, append_assoc, arith, lit≤}
+use Rattle.std.proofs.Common.{◌≡◌, ◌≢◌, ℕ, suc, ◌+◌, ◌<◌, ◌≤◌, ◌⊎◌, inl, inr, true, List, [], ◌∷◌, ◌++◌, length, take, sum, Option, Some}
+use Rattle.std.proofs.Common.{None, refl, sym, ap, subst, ◌∙◌, append_assoc, arith, lit≤}
 use Rattle.std.specs.Prelude.{codes, MatchOption}
 use Rattle.std.specs.Option.{is_some}
 use Rattle.std.proofs.lemmas.Bool.{cases_lt, lt-ltb, le-ltb}
@@ -14,8 +15,11 @@ use Rattle.metadata_root.specs.declared.kind.StreamKind.{StreamKind}
 use Rattle.metadata_root.specs.declared.header.Listing.{Listing}
 use Rattle.metadata_root.specs.declared.header.Extent.{Extent}
 use Rattle.ppdb_base.specs.Fields.{IsField}
-use Rattle.metadata_root.specs.Root.{IsBadName, BadRoot, not_metadata, windows_pdb, truncated, bad_name, unknown, repeated, BeginsWith, IsName, fields_to, root_fields, header_fields, header_place, name_place, name_at, name_len, name_of, stream_count}
-use Rattle.metadata_root.specs.Reading.{IsGoodName, IsHeaderFault, cut, name, CutsHeader, BreaksNameRule, listed, IsListing, HasExtent, IsFirstOutside, IsInside, ReadsHeader, outside_after}
+use Rattle.metadata_root.specs.Root.{IsBadName, BadRoot, not_metadata, windows_pdb, truncated, bad_name, unknown, repeated, BeginsWith}
+use Rattle.metadata_root.specs.Root.{IsName, fields_to, root_fields, header_fields, header_place, name_place, name_at, name_len, name_of}
+use Rattle.metadata_root.specs.Root.{stream_count}
+use Rattle.metadata_root.specs.Reading.{IsGoodName, IsHeaderFault, cut, name, CutsHeader, BreaksNameRule, listed, IsListing, HasExtent}
+use Rattle.metadata_root.specs.Reading.{IsFirstOutside, IsInside, ReadsHeader, outside_after}
 use Rattle.metadata_root.specs.Streams.{offset_in, size_in}
 use Rattle.metadata_root.proofs.Listings.{same_kind, cases_kind}
 use Rattle.ppdb_base.proofs.Fields.{ends_by_cut, ends_within, sum_append}
@@ -50,7 +54,8 @@ no_windows_pdb file b m = absurd (omega (arith, first_byte _ _ _ _ file 3 19 b m
 
 module _ (file : List ℕ) (signed : BeginsWith (codes "BSJB") file) where
   -- nothing bad begins before a cut of the fields that lies in the file, where the names before it are good
-  judged_case : (k b : ℕ) (before after : List ℕ) → root_fields file ≡ before ++ after → b ≡ sum before → b ≤ length file → AreGoodTo file k → ((j : ℕ) → name_place file j < b → j < k)
+  judged_case : (k b : ℕ) (before after : List ℕ) → root_fields file ≡ before ++ after → b ≡ sum before → b ≤ length file → AreGoodTo file k
+      → ((j : ℕ) → name_place file j < b → j < k)
       → (code : Code) (at : Place) → BadRoot file code at → ComesBefore (numbers code at) (1 ∷ 0 ∷ 0 ∷ 0 ∷ b ∷ []) → ⊥
   judged_case k b before after split is le names earlier _ _ (not_metadata none _) past = none signed
   judged_case k b before after split is le names earlier _ _ (windows_pdb m) past = no_windows_pdb file signed m
@@ -71,7 +76,8 @@ module _ (file : List ℕ) (signed : BeginsWith (codes "BSJB") file) where
       let e = n.place in
       names.apart i j before_j (earlier j (omega (arith, e, lt))) (same ∙ ap (name_at file) e)
 
-  pub judged : (k b : ℕ) (before after : List ℕ) → root_fields file ≡ before ++ after → b ≡ sum before → b ≤ length file → AreGoodTo file k → ((j : ℕ) → name_place file j < b → j < k)
+  pub judged : (k b : ℕ) (before after : List ℕ) → root_fields file ≡ before ++ after → b ≡ sum before → b ≤ length file → AreGoodTo file k
+      → ((j : ℕ) → name_place file j < b → j < k)
       → IsJudgedTo (BadRoot file) (1 ∷ 0 ∷ 0 ∷ 0 ∷ b ∷ [])
   judged k b before after split is le names earlier = judged_case k b before after split is le names earlier
 
@@ -85,7 +91,8 @@ module _ (file : List ℕ) (signed : BeginsWith (codes "BSJB") file) where
   least_cut _ _ (repeated j at n i before_j same) = lit≤ tt
 
   -- a field of the root that passes the end is the first fault
-  pub cut_is_first : (k at len : ℕ) (before after : List ℕ) → root_fields file ≡ before ++ len ∷ after → at ≡ sum before → at ≤ length file → length file < at + len → AreGoodTo file k → ((j : ℕ) → name_place file j < at → j < k)
+  pub cut_is_first : (k at len : ℕ) (before after : List ℕ) → root_fields file ≡ before ++ len ∷ after → at ≡ sum before → at ≤ length file
+      → length file < at + len → AreGoodTo file k → ((j : ℕ) → name_place file j < at → j < k)
       → IsFirst (BadRoot file) (record { code = RootTruncated; place = at_byte 1 at })
   cut_is_first k at len before after split is le over names earlier =
       first_at (BadRoot file) RootTruncated (at_byte 1 at)
@@ -94,17 +101,20 @@ module _ (file : List ℕ) (signed : BeginsWith (codes "BSJB") file) where
       (λ other bad. least_cut other (at_byte 1 at) bad)
 
   -- the fields of the root, cut at header k
-  pub split_at_header : (k : ℕ) → k < stream_count file → (rest : List ℕ) × (root_fields file ≡ fields_to file k ++ (4 ∷ 4 ∷ name_len file (header_place file k + 8) ∷ rest))
+  pub split_at_header : (k : ℕ) → k < stream_count file
+      → (rest : List ℕ) × (root_fields file ≡ fields_to file k ++ (4 ∷ 4 ∷ name_len file (header_place file k + 8) ∷ rest))
   unfolding fields_to
   split_at_header k lt =
       let r = fields_split file (suc k) (stream_count file) (omega arith) in
       (r.0, r.1 ∙ append_assoc (fields_to file k) (header_fields file (sum (fields_to file k))) r.0)
 
   -- the same, cut after n more bytes of the header
-  cut_after : (k n : ℕ) (front back : List ℕ) (rest : List ℕ) → root_fields file ≡ fields_to file k ++ (front ++ back) → (root_fields file ≡ (fields_to file k ++ front) ++ back) × (sum (fields_to file k ++ front) ≡ header_place file k + sum front)
+  cut_after : (k n : ℕ) (front back : List ℕ) (rest : List ℕ) → root_fields file ≡ fields_to file k ++ (front ++ back)
+      → (root_fields file ≡ (fields_to file k ++ front) ++ back) × (sum (fields_to file k ++ front) ≡ header_place file k + sum front)
   cut_after k n front back rest e = (e ∙ sym (append_assoc (fields_to file k) front back), sum_append (fields_to file k) front)
 
-  header_cut : (k byte : ℕ) → k < stream_count file → AreGoodTo file k → byte ≤ length file → CutsHeader file (header_place file k) byte → IsFirst (BadRoot file) (record { code = RootTruncated; place = at_byte 1 byte })
+  header_cut : (k byte : ℕ) → k < stream_count file → AreGoodTo file k → byte ≤ length file → CutsHeader file (header_place file k) byte
+      → IsFirst (BadRoot file) (record { code = RootTruncated; place = at_byte 1 byte })
   header_cut k byte lt names le (inl at) =
       let s = split_at_header k lt in
       cut_is_first k byte 4 (fields_to file k) (4 ∷ name_len file (header_place file k + 8) ∷ s.0) s.1 at.0 le (omega (arith, at.0, at.1)) names
@@ -112,12 +122,14 @@ module _ (file : List ℕ) (signed : BeginsWith (codes "BSJB") file) where
   header_cut k byte lt names le (inr (inl at)) =
       let s = split_at_header k lt in
       let c = cut_after k 4 (4 ∷ []) (4 ∷ name_len file (header_place file k + 8) ∷ s.0) s.0 s.1 in
-      cut_is_first k byte 4 (fields_to file k ++ (4 ∷ [])) (name_len file (header_place file k + 8) ∷ s.0) c.0 (omega (arith, at.0, c.1)) le (omega (arith, at.0, at.1)) names
+      cut_is_first k byte 4 (fields_to file k ++ (4 ∷ [])) (name_len file (header_place file k + 8) ∷ s.0) c.0 (omega (arith, at.0, c.1)) le
+      (omega (arith, at.0, at.1)) names
       (λ j before. earlier_header file j k byte before (omega (arith, at.0)))
   header_cut k byte lt names le (inr (inr at)) =
       let s = split_at_header k lt in
       let c = cut_after k 8 (4 ∷ 4 ∷ []) (name_len file (header_place file k + 8) ∷ s.0) s.0 s.1 in
-      cut_is_first k byte (name_len file (header_place file k + 8)) (fields_to file k ++ (4 ∷ 4 ∷ [])) s.0 c.0 (omega (arith, at.0, c.1)) le (omega (arith, at.0, at.1)) names
+      cut_is_first k byte (name_len file (header_place file k + 8)) (fields_to file k ++ (4 ∷ 4 ∷ [])) s.0 c.0 (omega (arith, at.0, c.1)) le
+      (omega (arith, at.0, at.1)) names
       (λ j before. earlier_header file j k byte before (omega (arith, at.0)))
 
   same_byte : (a b : ℕ) → at_byte 1 a ≡ at_byte 1 b → a ≡ b
@@ -130,7 +142,8 @@ module _ (file : List ℕ) (signed : BeginsWith (codes "BSJB") file) where
         let front = 4 ∷ 4 ∷ name_len file (header_place file k + 8) ∷ [] in
         let c = cut_after k 8 (4 ∷ 4 ∷ name_len file (header_place file k + 8) ∷ []) s.0 s.0 s.1 in
         let pos = name_len_pos file (header_place file k + 8) in
-        let ends = ends_by_cut (root_fields file) (fields_to file k ++ (4 ∷ 4 ∷ name_len file (header_place file k + 8) ∷ [])) s.0 (name_place file k) len f c.0 (omega (arith, c.1, pos)) in
+        let ends = ends_by_cut (root_fields file) (fields_to file k ++ (4 ∷ 4 ∷ name_len file (header_place file k + 8) ∷ [])) s.0 (name_place file k) len f c.0
+        (omega (arith, c.1, pos)) in
         absurd (omega (arith, ends, c.1, over, fits))
 
     -- the rule that a code breaks at the name of header k
@@ -163,7 +176,8 @@ module _ (file : List ℕ) (signed : BeginsWith (codes "BSJB") file) where
     least_unknown good code (inr (inl new)) = rw new.0 (lit≤ tt)
     least_unknown good code (inr (inr again)) = rw again (lit≤ tt)
 
-    least_repeated : (kind : StreamKind) → name_at file (name_place file k) ≡ name_of kind → IsGoodName (name_at file (name_place file k)) → (code : Code) → Breaks code → 6 ≤ number_of code
+    least_repeated : (kind : StreamKind) → name_at file (name_place file k) ≡ name_of kind → IsGoodName (name_at file (name_place file k)) → (code : Code)
+        → Breaks code → 6 ≤ number_of code
     unfolding Breaks
     least_repeated kind is good code (inl bad) = absurd (good.good bad.1)
     least_repeated kind is good code (inr (inl new)) = absurd (new.1 kind is)
@@ -174,36 +188,44 @@ module _ (file : List ℕ) (signed : BeginsWith (codes "BSJB") file) where
     judged_name names =
         let s = split_at_header k lt in
         let c = cut_after k 8 (4 ∷ 4 ∷ []) (name_len file (header_place file k + 8) ∷ s.0) s.0 s.1 in
-        judged k (name_place file k) (fields_to file k ++ (4 ∷ 4 ∷ [])) (name_len file (header_place file k + 8) ∷ s.0) c.0 (omega (arith, c.1)) (omega (arith, fits)) names
+        judged k (name_place file k) (fields_to file k ++ (4 ∷ 4 ∷ [])) (name_len file (header_place file k + 8) ∷ s.0) c.0 (omega (arith, c.1))
+        (omega (arith, fits)) names
         (λ j before. earlier_header file j k (name_place file k) before (omega arith))
 
     is_name : IsName file k (name_place file k)
     is_name = record { counted = lt; place = refl; fields_fit = omega (arith, fits) }
 
     -- the rule that the name of header k breaks is the first fault
-    pub name_is_first : AreGoodTo file k → (listing : Listing) → IsListing file k listing → (code : Code) → BreaksNameRule (name_at file (name_place file k)) listing code
+    pub name_is_first : AreGoodTo file k → (listing : Listing) → IsListing file k listing → (code : Code)
+        → BreaksNameRule (name_at file (name_place file k)) listing code
         → IsFirst (BadRoot file) (record { code = code; place = at_byte 1 (name_place file k) })
     name_is_first names listing l code (inl bad) =
         subst (λ c. IsFirst (BadRoot file) (record { code = c; place = at_byte 1 (name_place file k) })) (sym bad.0)
-        (first_at (BadRoot file) StreamName (at_byte 1 (name_place file k)) (judged_name names) (bad_name k (name_place file k) is_name bad.1) (λ other b. least_bad other (at_name other _ b refl)))
+        (first_at (BadRoot file) StreamName (at_byte 1 (name_place file k)) (judged_name names) (bad_name k (name_place file k) is_name bad.1)
+        (λ other b. least_bad other (at_name other _ b refl)))
     name_is_first names listing l code (inr (inl new)) =
         subst (λ c. IsFirst (BadRoot file) (record { code = c; place = at_byte 1 (name_place file k) })) (sym new.0)
-        (first_at (BadRoot file) StreamUnknown (at_byte 1 (name_place file k)) (judged_name names) (unknown k (name_place file k) is_name new.2) (λ other b. least_unknown new.1 other (at_name other _ b refl)))
+        (first_at (BadRoot file) StreamUnknown (at_byte 1 (name_place file k)) (judged_name names) (unknown k (name_place file k) is_name new.2)
+        (λ other b. least_unknown new.1 other (at_name other _ b refl)))
     name_is_first names listing l code (inr (inr again)) =
         let kind = again.2.0 in
         let seen = found_where (listed listing kind) _ _ (l.streams kind) again.2.2 in
         let j = seen.1.0 in
         let named = seen.1.2.named in
         subst (λ c. IsFirst (BadRoot file) (record { code = c; place = at_byte 1 (name_place file k) })) (sym again.0)
-        (first_at (BadRoot file) StreamRepeated (at_byte 1 (name_place file k)) (judged_name names) (repeated k (name_place file k) is_name j seen.1.1 (named ∙ sym again.2.1)) (λ other b. least_repeated kind again.2.1 again.1 other (at_name other _ b refl)))
+        (first_at (BadRoot file) StreamRepeated (at_byte 1 (name_place file k)) (judged_name names)
+        (repeated k (name_place file k) is_name j seen.1.1 (named ∙ sym again.2.1))
+        (λ other b. least_repeated kind again.2.1 again.1 other (at_name other _ b refl)))
 
   -- the fault of header k, after good ones, is the first of the root
-  pub header_is_first : (k : ℕ) → k < stream_count file → AreGoodTo file k → (listing : Listing) → IsListing file k listing → (fault : Fault) → IsHeaderFault file (header_place file k) listing fault → IsFirst (BadRoot file) fault
+  pub header_is_first : (k : ℕ) → k < stream_count file → AreGoodTo file k → (listing : Listing) → IsListing file k listing → (fault : Fault)
+      → IsHeaderFault file (header_place file k) listing fault → IsFirst (BadRoot file) fault
   header_is_first k lt names listing l _ (cut byte le cuts) = header_cut k byte lt names le cuts
   header_is_first k lt names listing l _ (name code fits breaks) = name_is_first k lt fits names listing l code breaks
 
   -- all headers are good, and end within the file: nothing of the root is bad
-  accepted_case : header_place file (stream_count file) ≤ length file → AreGoodTo file (stream_count file) → (code : Code) (at : Place) → BadRoot file code at → ⊥
+  accepted_case : header_place file (stream_count file) ≤ length file → AreGoodTo file (stream_count file) → (code : Code) (at : Place) → BadRoot file code at
+      → ⊥
   accepted_case le names _ _ (not_metadata none _) = none signed
   accepted_case le names _ _ (windows_pdb m) = no_windows_pdb file signed m
   accepted_case le names _ _ (truncated at len f within over) = absurd (omega (arith, le, over, ends_within (root_fields file) at len f))
@@ -231,15 +253,18 @@ module _ (file : List ℕ) (k : ℕ) (old new : Listing) (l : IsListing file k o
     ];
     known = λ j lt. elim (cases_lt j k) [
       | inl before ↦ names.known j before
-      | inr ge ↦ let e : k ≡ j = omega (arith, lt, ge) in subst (λ i. (kind : StreamKind) × (name_at file (name_place file i) ≡ name_of kind)) e (read.kind, read.named)
+      | inr ge ↦ let e : k ≡ j =
+          omega (arith, lt, ge) in subst (λ i. (kind : StreamKind) × (name_at file (name_place file i) ≡ name_of kind)) e (read.kind, read.named)
     ];
     apart = λ i j before lt same. elim (cases_lt j k) [
       | inl earlier ↦ names.apart i j before earlier same
-      | inr ge ↦ let e : j ≡ k = omega (arith, lt, ge) in fresh_name i (omega (arith, before, e)) (same ∙ ap (λ n. name_at file (name_place file n)) e ∙ read.named)
+      | inr ge ↦ let e : j ≡ k =
+          omega (arith, lt, ge) in fresh_name i (omega (arith, before, e)) (same ∙ ap (λ n. name_at file (name_place file n)) e ∙ read.named)
     ];
   }
 
-  own_stream : MatchOption (listed new read.kind) ((j : ℕ) → j < suc k → name_at file (name_place file j) ≢ name_of read.kind) (λ extent. (j : ℕ) × (j < suc k) × HasExtent file read.kind j extent)
+  own_stream : MatchOption (listed new read.kind) ((j : ℕ) → j < suc k → name_at file (name_place file j) ≢ name_of read.kind)
+      (λ extent. (j : ℕ) × (j < suc k) × HasExtent file read.kind j extent)
   own_stream = rw read.extent (k, omega arith, record { named = read.named; offset = refl; size = refl })
 
   -- the new listing, at a stream that is not that of header k
@@ -257,7 +282,8 @@ module _ (file : List ℕ) (k : ℕ) (old new : Listing) (l : IsListing file k o
 
   outside_step : (o : Option ℕ)
       → MatchOption o ((j : ℕ) → j < k → IsInside file j) (λ header. (j : ℕ) × (j < k) × IsFirstOutside file header j)
-      → MatchOption (outside_after (length file) o (header_place file k) (offset_in file k + size_in file k)) ((j : ℕ) → j < suc k → IsInside file j) (λ header. (j : ℕ) × (j < suc k) × IsFirstOutside file header j)
+      → MatchOption (outside_after (length file) o (header_place file k) (offset_in file k + size_in file k)) ((j : ℕ) → j < suc k → IsInside file j)
+      (λ header. (j : ℕ) × (j < suc k) × IsFirstOutside file header j)
   outside_step (Some header) m = (m.0, omega (arith, m.1), m.2)
   outside_step None inside =
       elim (cases_lt (length file) (offset_in file k + size_in file k)) [
@@ -271,7 +297,8 @@ module _ (file : List ℕ) (k : ℕ) (old new : Listing) (l : IsListing file k o
   pub listing_step : IsListing file (suc k) new
   listing_step = record {
     streams = λ kind. elim (cases_kind kind read.kind) [
-      | inl e ↦ subst (λ own. MatchOption (listed new own) ((j : ℕ) → j < suc k → name_at file (name_place file j) ≢ name_of own) (λ extent. (j : ℕ) × (j < suc k) × HasExtent file own j extent)) (sym e) own_stream
+      | inl e ↦ subst (λ own. MatchOption (listed new own) ((j : ℕ) → j < suc k → name_at file (name_place file j) ≢ name_of own)
+          (λ extent. (j : ℕ) × (j < suc k) × HasExtent file own j extent)) (sym e) own_stream
       | inr other ↦ rw (read.others kind other) (other_stream kind other (listed old kind) (l.streams kind))
     ];
     outside = rw read.outside (outside_step old.outside l.outside);

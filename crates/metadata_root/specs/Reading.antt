@@ -1,5 +1,6 @@
 -- What the functions that read the root say to one another.
-use Rattle.std.specs.Prelude.{◌≡◌, ◌≢◌, ℕ, ◌+◌, ◌<◌, ◌≤◌, ◌⊎◌, List, length, take, drop, codes, option_map, Option, Some, None, IsSome, MatchOption, nat_lt, if◌then◌else◌}
+use Rattle.std.specs.Prelude.{◌≡◌, ◌≢◌, ℕ, ◌+◌, ◌<◌, ◌≤◌, ◌⊎◌, List, length, take, drop, codes, option_map, Option, Some, None, IsSome}
+use Rattle.std.specs.Prelude.{MatchOption, nat_lt, if◌then◌else◌}
 use Rattle.ppdb_base.specs.declared.code.Code.{Code}
 use Rattle.ppdb_base.specs.declared.code.Code.TheVariants.{RootTruncated, StreamName, StreamUnknown, StreamRepeated}
 use Rattle.ppdb_base.specs.declared.fault.Fault.{Fault}
@@ -49,7 +50,8 @@ CutsHeader file at cut =
 -- the fault of the header at a place, after the headers that are listed
 pub data IsHeaderFault (file : List ℕ) (at : ℕ) (listing : Listing) : Fault → Type 0 where
   cut : (byte : ℕ) → byte ≤ length file → CutsHeader file at byte → IsHeaderFault file at listing (record { code = RootTruncated; place = at_byte 1 byte })
-  name : (code : Code) → at + 8 + name_len file (at + 8) ≤ length file → BreaksNameRule (name_at file (at + 8)) listing code → IsHeaderFault file at listing (record { code = code; place = at_byte 1 (at + 8) })
+  name : (code : Code) → at + 8 + name_len file (at + 8) ≤ length file → BreaksNameRule (name_at file (at + 8)) listing code
+      → IsHeaderFault file at listing (record { code = code; place = at_byte 1 (at + 8) })
 
 -- the first header whose stream passes the end of the file, with one more whose stream ends at the place
 abbrev pub outside_after : ℕ → Option ℕ → ℕ → ℕ → Option ℕ

@@ -1,5 +1,6 @@
 -- The metadata root and its stream headers (ECMA-335 II.24.2.1 and II.24.2.2), and what is wrong with them.
-use Rattle.std.specs.Prelude.{◌≡◌, ◌≢◌, ℕ, zero, suc, ◌+◌, ◌*◌, ◌/◌, ◌<◌, ◌≤◌, ◌⊎◌, List, [], ◌∷◌, ◌++◌, length, take, drop, sum, nat_lt, ◌==◌, if◌then◌else◌, Any, codes}
+use Rattle.std.specs.Prelude.{◌≡◌, ◌≢◌, ℕ, zero, suc, ◌+◌, ◌*◌, ◌/◌, ◌<◌, ◌≤◌, ◌⊎◌, List, [], ◌∷◌, ◌++◌, length, take, drop, sum, nat_lt}
+use Rattle.std.specs.Prelude.{◌==◌, if◌then◌else◌, Any, codes}
 use Rattle.std.specs.List.{before_first}
 use Rattle.ppdb_base.specs.declared.code.Code.{Code}
 use Rattle.ppdb_base.specs.declared.code.Code.TheVariants.{NotMetadata, WindowsPdb, RootTruncated, StreamName, StreamUnknown, StreamRepeated}

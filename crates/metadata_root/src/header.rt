@@ -1,4 +1,5 @@
-ghost use Rattle.std.specs.Prelude.{◌≡◌, ◌≢◌, ◌+◌, ◌≤◌, ◌<◌, length, Option, None, Some, IfOk, IfErr, MatchOption, MatchBool, All, Any, position, ◌==◌, ◌-◌, min, IfSome, IfNone, IsTrue, ◌↔◌, OnOk};
+ghost use Rattle.std.specs.Prelude.{◌≡◌, ◌≢◌, ◌+◌, ◌≤◌, ◌<◌, length, Option, None, Some, IfOk, IfErr, MatchOption, MatchBool, All, Any};
+ghost use Rattle.std.specs.Prelude.{position, ◌==◌, ◌-◌, min, IfSome, IfNone, IsTrue, ◌↔◌, OnOk};
 ghost use Rattle.metadata_root.specs.declared.kind.StreamKind.{StreamKind};
 ghost use Rattle.metadata_root.specs.Root.{name_at, name_len, name_of};
 ghost use Rattle.metadata_root.specs.Reading.{IsNameFault, IsGoodName, listed, IsHeaderFault, ReadsHeader, outside_after};

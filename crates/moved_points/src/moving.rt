@@ -206,10 +206,14 @@ pub fn moved_points_into<G: OffsetImage>(
     requires size { old_size (G.offsets image.now) ≤ 4294967295 }
     requires below { EachPoint (λ p. p.offset < old_size (G.offsets image.now)) column limits blob.now }
     requires images { EachPoint (λ p. HasImage (G.offsets image.now) p.offset) column limits blob.now }
-    ensures moved { OnOk result ((old : ℕ) (points : List Point) → ReadsAs column limits blob.now old points → into.new ≡ into.old ++ moved_blob signature (moved_in (G.offsets image.now) documents.now points)) }
-    ensures column { IfOk result (λ row. (old : ℕ) (points : List Point) → ReadsAs column limits blob.now old points → row ≡ common_document (moved_in (G.offsets image.now) documents.now points)) }
-    ensures steps { OnOk result ((old : ℕ) (points : List Point) → ReadsAs column limits blob.now old points → large_steps [] (moved_in (G.offsets image.now) documents.now points) ≡ []) }
-    ensures step { IfErr result (λ e. (old : ℕ) (points : List Point) → ReadsAs column limits blob.now old points → IsFirstStep (moved_in (G.offsets image.now) documents.now points) e) }
+    ensures moved { OnOk result ((old : ℕ) (points : List Point) → ReadsAs column limits blob.now old points
+        → into.new ≡ into.old ++ moved_blob signature (moved_in (G.offsets image.now) documents.now points)) }
+    ensures column { IfOk result (λ row. (old : ℕ) (points : List Point) → ReadsAs column limits blob.now old points
+        → row ≡ common_document (moved_in (G.offsets image.now) documents.now points)) }
+    ensures steps { OnOk result ((old : ℕ) (points : List Point) → ReadsAs column limits blob.now old points
+        → large_steps [] (moved_in (G.offsets image.now) documents.now points) ≡ []) }
+    ensures step { IfErr result (λ e. (old : ℕ) (points : List Point) → ReadsAs column limits blob.now old points
+        → IsFirstStep (moved_in (G.offsets image.now) documents.now points) e) }
     ensures unchanged { OnErr result (into.new ≡ into.old) }
 {
     let points = points_of(blob, column, limits);

@@ -37,14 +37,17 @@ in-push items [] content are is = (is, tt)
 in-push items (first ∷ contents) content are is = (are.0, in-push items contents content are.1 is)
 
 -- more uses spell a blob in the same way, once what it holds is there
-spelled-with : (items : List (List ℕ)) (item : List ℕ) (pieces : List Piece) → AreIn items (held_in pieces) → blob_bytes (with_use items item) pieces ≡ blob_bytes items pieces
+spelled-with : (items : List (List ℕ)) (item : List ℕ) (pieces : List Piece) → AreIn items (held_in pieces)
+    → blob_bytes (with_use items item) pieces ≡ blob_bytes items pieces
 spelled-with items item pieces are = let adds = with_use-adds items item in ap (λ now. blob_bytes now pieces) adds.1 ∙ spelled-stable items adds.0 pieces are
 
 held-push : (pieces : List Piece) (piece : Piece) → held_in (pieces ++ piece ∷ []) ≡ held_in pieces ++ held_by piece
 held-push pieces piece = flat_map-append held_by pieces (piece ∷ []) ∙ ap (λ held. held_in pieces ++ held) (append-nil (held_by piece))
 
-bytes-push : (items : List (List ℕ)) (pieces : List Piece) (piece : Piece) → blob_bytes items (pieces ++ piece ∷ []) ≡ blob_bytes items pieces ++ piece_bytes items piece
-bytes-push items pieces piece = flat_map-append (piece_bytes items) pieces (piece ∷ []) ∙ ap (λ bytes. blob_bytes items pieces ++ bytes) (append-nil (piece_bytes items piece))
+bytes-push : (items : List (List ℕ)) (pieces : List Piece) (piece : Piece) → blob_bytes items (pieces ++ piece ∷ []) ≡ blob_bytes items pieces
+    ++ piece_bytes items piece
+bytes-push items pieces piece =
+    flat_map-append (piece_bytes items) pieces (piece ∷ []) ∙ ap (λ bytes. blob_bytes items pieces ++ bytes) (append-nil (piece_bytes items piece))
 
 sum-push : (contents : List (List ℕ)) (content : List ℕ) → sum_by length (contents ++ content ∷ []) ≡ sum_by length contents + length content
 sum-push contents content = sum_by-append length contents (content ∷ []) ∙ omega (arith, sum_by-cons length content [])
@@ -53,7 +56,8 @@ none-made : (before : Making) → IsMade before [] (begun before)
 unfolding blobs_after
 none-made before = record { items_are = refl; held = tt; blob_is = refl; total_is = λ more. omega arith }
 
-one-made : (before : Making) (pieces : List Piece) (now : Making) (piece : Piece) → IsMade before pieces now → IsMade before (pieces ++ piece ∷ []) (with_piece now piece)
+one-made : (before : Making) (pieces : List Piece) (now : Making) (piece : Piece) → IsMade before pieces now
+    → IsMade before (pieces ++ piece ∷ []) (with_piece now piece)
 unfolding blobs_after
 one-made before pieces now (octets bytes) is =
     let held : held_in (pieces ++ octets bytes ∷ []) ≡ held_in pieces = held-push pieces (octets bytes) ∙ append-nil (held_in pieces) in
@@ -71,20 +75,23 @@ one-made before pieces now (index content) is =
           ∙ ap (with_use (blobs_after before.items (map plain (held_in pieces)))) (sym (append-nil content))
           ∙ sym (fold_push (λ items used. with_use items (blob_bytes items used)) before.items (map plain (held_in pieces)) (plain content))
           ∙ ap (blobs_after before.items) (sym (map_push plain (held_in pieces) content) ∙ ap (map plain) (sym held));
-      held = subst (AreIn next) (sym held) (in-push next (held_in pieces) content (in-with now.items content (held_in pieces) is.held) (used-there now.items content));
+      held = subst (AreIn next) (sym held) (in-push next (held_in pieces) content (in-with now.items content (held_in pieces) is.held)
+          (used-there now.items content));
       blob_is = ap (λ blob. blob ++ shortest (index_of as_blob next content)) (is.blob_is ∙ sym (spelled-with now.items content pieces is.held))
           ∙ sym (bytes-push next pieces (index content));
       total_is = λ more. let was = is.total_is (length content + more) in
           omega (arith, was, sum-push (held_in pieces) content, ap (sum_by length) held);
     }
 
-all-made : (before : Making) (pieces : List Piece) (now : Making) (todo : List Piece) → IsMade before pieces now → IsMade before (pieces ++ todo) (fold with_piece now todo)
+all-made : (before : Making) (pieces : List Piece) (now : Making) (todo : List Piece) → IsMade before pieces now
+    → IsMade before (pieces ++ todo) (fold with_piece now todo)
 all-made before pieces now [] is = subst (λ all. IsMade before all now) (sym (append-nil pieces)) is
 all-made before pieces now (piece ∷ todo) is =
     subst (λ all. IsMade before all (fold with_piece (with_piece now piece) todo)) (append_assoc pieces (piece ∷ []) todo)
     (all-made before (pieces ++ piece ∷ []) (with_piece now piece) todo (one-made before pieces now piece is))
 
-pub sum-plain : (items contents : List (List ℕ)) (pieces : List Piece) → sum_by (λ used. length (blob_bytes items used)) (map plain contents ++ pieces ∷ []) ≡ sum_by length contents + length (blob_bytes items pieces)
+pub sum-plain : (items contents : List (List ℕ)) (pieces : List Piece) → sum_by (λ used. length (blob_bytes items used)) (map plain contents ++ pieces ∷ [])
+    ≡ sum_by length contents + length (blob_bytes items pieces)
 sum-plain items [] pieces = sum_by-cons (λ used. length (blob_bytes items used)) pieces [] ∙ omega arith
 sum-plain items (content ∷ contents) pieces =
     sum_by-cons (λ used. length (blob_bytes items used)) (plain content) (map plain contents ++ pieces ∷ [])
@@ -95,7 +102,8 @@ pub record IsNoted (before : Making) (pieces : List Piece) (now after : Making) 
   pub noted : noted_of after ≡ with_blob (noted_of before) pieces
   pub place : index_of as_blob after.items now.blob ≡ blob_place after.items pieces
 
-pub noted-is : (before : Making) (pieces : List Piece) (now after : Making) → now ≡ fold with_piece (begun before) pieces → after ≡ made now → IsNoted before pieces now after
+pub noted-is : (before : Making) (pieces : List Piece) (now after : Making) → now ≡ fold with_piece (begun before) pieces → after ≡ made now
+    → IsNoted before pieces now after
 unfolding with_blob blobs_after
 noted-is before pieces now after put is =
     let done : IsMade before pieces now = subst (IsMade before pieces) (sym put) (all-made before [] (begun before) pieces (none-made before)) in

@@ -1,5 +1,6 @@
 -- The parts of a name, one after another.
-use Rattle.std.proofs.Common.{◌≡◌, ◌≢◌, ℕ, ◌+◌, ◌<◌, Bool, true, false, List, [], ◌∷◌, ◌++◌, length, take, map, refl, ap, ◌∙◌, arith, ◌==◌, if◌then◌else◌, get_or}
+use Rattle.std.proofs.Common.{◌≡◌, ◌≢◌, ℕ, ◌+◌, ◌<◌, Bool, true, false, List, [], ◌∷◌, ◌++◌, length, take, map, refl, ap, ◌∙◌, arith}
+use Rattle.std.proofs.Common.{◌==◌, if◌then◌else◌, get_or}
 use Rattle.std.proofs.lemmas.List.{take_more, length-map, get_or-map}
 use Rattle.std.specs.List.{slice_split}
 use Rattle.ppdb_canon.specs.Uses.{parts_of, separator_of}
@@ -15,7 +16,8 @@ split-parts whole separator is some = by (separator == 0) refl ∙ ap (λ s. if 
 pub ruleset split_rules = split-parts
 
 -- one more of some parts
-pub part-next : {R : Type 0} (now : R → List ℕ) (parts : List R) (i : ℕ) (d : R) → i < length parts → take (i + 1) (map now parts) ≡ take i (map now parts) ++ now (get_or parts i d) ∷ []
+pub part-next : {R : Type 0} (now : R → List ℕ) (parts : List R) (i : ℕ) (d : R) → i < length parts → take (i + 1) (map now parts) ≡ take i (map now parts)
+    ++ now (get_or parts i d) ∷ []
 part-next now parts i d h =
     take_more (map now parts) i [] (omega (arith, h, length-map parts now))
     ∙ ap (λ last. take i (map now parts) ++ last ∷ []) (get_or-map now parts i d [] h)

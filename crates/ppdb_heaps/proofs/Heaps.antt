@@ -1,5 +1,6 @@
 -- A blob of the heap: what the look-up finds, and the bytes after a spelling of their number.
-use Rattle.std.proofs.Common.{◌≡◌, ℕ, zero, suc, ◌+◌, ◌-◌, ◌<◌, ◌≤◌, Bool, true, false, leb, List, [], ◌∷◌, ◌++◌, length, take, drop, Some, None, Result, Ok, Err, refl, sym, ap, subst, ◌∙◌, arith, length-append, if◌then◌else◌}
+use Rattle.std.proofs.Common.{◌≡◌, ℕ, zero, suc, ◌+◌, ◌-◌, ◌<◌, ◌≤◌, Bool, true, false, leb, List, [], ◌∷◌, ◌++◌, length, take, drop}
+use Rattle.std.proofs.Common.{Some, None, Result, Ok, Err, refl, sym, ap, subst, ◌∙◌, arith, length-append, if◌then◌else◌}
 use Rattle.std.specs.Prelude.{◌↔◌}
 use Rattle.std.proofs.Math.Seq.{take-append_seam}
 use Rattle.std.proofs.lemmas.List.{take-append-drop, length-take-le, length-drop, drop_all}
@@ -11,7 +12,8 @@ use Rattle.blob_grammar.proofs.Fields.{IntFound, unsigned-is, unsigned-all}
 use Rattle.blob_grammar.proofs.Stored.{unsigned-stands}
 use Rattle.ppdb_heaps.specs.Heaps.{counted, blob_at, BeginsWithBlob}
 
-pub counted-short : (bytes : List ℕ) (len width : ℕ) → StandsAt SpellsUnsigned bytes 0 len width → length bytes < width + len → counted bytes (unsigned_at bytes) ≡ None
+pub counted-short : (bytes : List ℕ) (len width : ℕ) → StandsAt SpellsUnsigned bytes 0 len width → length bytes < width + len
+    → counted bytes (unsigned_at bytes) ≡ None
 counted-short bytes len width h less = rw (unsigned-stands bytes 0 len width h, lt-leb (width + len) (length bytes) less) refl
 
 pub counted-there : (bytes : List ℕ) (len width : ℕ) → StandsAt SpellsUnsigned bytes 0 len width → width + len ≤ length bytes
@@ -44,7 +46,8 @@ begins-if bytes content x true f there e =
     }
 begins-if bytes content x false f there e = absurd cc
 
-begins-of : (bytes content : List ℕ) (r : Result (ℕ × ℕ) IntFault) → IntFound SpellsUnsigned bytes r → counted bytes r ≡ Some content → BeginsWithBlob bytes content
+begins-of : (bytes content : List ℕ) (r : Result (ℕ × ℕ) IntFault) → IntFound SpellsUnsigned bytes r → counted bytes r ≡ Some content
+    → BeginsWithBlob bytes content
 begins-of bytes content (Ok x) f e = begins-if bytes content x (leb (x.1 + x.0) (length bytes)) f refl e
 begins-of bytes content (Err fault) f e = absurd cc
 
@@ -52,10 +55,17 @@ drop-seam : (xs ys : List ℕ) → drop (length xs) (xs ++ ys) ≡ ys
 drop-seam [] ys = refl
 drop-seam (x ∷ xs) ys = drop-seam xs ys
 
-of-begins : (spelling content left : List ℕ) → SpellsUnsigned spelling (length content) → counted (spelling ++ (content ++ left)) (unsigned_at (spelling ++ (content ++ left))) ≡ Some content
+of-begins : (spelling content left : List ℕ) → SpellsUnsigned spelling (length content)
+    → counted (spelling ++ (content ++ left)) (unsigned_at (spelling ++ (content ++ left))) ≡ Some content
 of-begins spelling content left h =
-    let within : length spelling + length content ≤ length (spelling ++ (content ++ left)) = omega (arith, length-append spelling (content ++ left), length-append content left) in
-    rw (unsigned-all spelling (length content) (content ++ left) h, le-leb (length spelling + length content) (length (spelling ++ (content ++ left))) within, drop-seam spelling (content ++ left), take-append_seam content left) refl
+    let within : length spelling + length content ≤ length (spelling ++ (content ++ left)) =
+    omega (arith, length-append spelling (content ++ left), length-append content left) in
+    rw (
+      unsigned-all spelling (length content) (content ++ left) h,
+      le-leb (length spelling + length content) (length (spelling ++ (content ++ left))) within,
+      drop-seam spelling (content ++ left),
+      take-append_seam content left,
+    ) refl
 
 pub blob-begins : (blobs content : List ℕ) (i : ℕ) → (blob_at blobs (suc i) ≡ Some content) ↔ BeginsWithBlob (drop (suc i) blobs) content
 unfolding blob_at

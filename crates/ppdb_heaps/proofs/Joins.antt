@@ -29,7 +29,8 @@ pub record Joining (blobs blob old sep into : List ℕ) (left : Left (List ℕ))
   pub reading : NameReading blobs blob sep contents left.fault
   pub goes_on : into ++ after_separator sep left.items ≡ old ++ join_by (λ content. content) sep contents
 
-pub joining-first : (blobs blob old sep : List ℕ) (left : Left (List ℕ)) (x : List ℕ) → NameReading blobs blob sep left.items left.fault → Ok (Some x) ≡ answer left
+pub joining-first : (blobs blob old sep : List ℕ) (left : Left (List ℕ)) (x : List ℕ) → NameReading blobs blob sep left.items left.fault
+    → Ok (Some x) ≡ answer left
     → Joining blobs blob old sep (old ++ x) (rest_of left)
 joining-first blobs blob old sep left x h e =
     let items : left.items ≡ x ∷ tail left.items = some-of left.items left.fault x e in
@@ -39,15 +40,19 @@ joining-first blobs blob old sep left x h e =
       goes_on = append_assoc old x (after_separator sep (tail left.items)) ∙ ap (λ contents. old ++ join_by (λ content. content) sep contents) (sym items);
     }
 
-pub joining-fault : (blobs blob sep : List ℕ) (contents : List (List ℕ)) (left : Left (List ℕ)) (fault : BlobFault) → NameReading blobs blob sep contents left.fault → Err fault ≡ answer left → IsRefusal blobs blob (Blob fault)
-joining-fault blobs blob sep contents left fault h e = (separator h.bytes ∷ h.parts, subst (λ f. Reading (names blobs) blob (separator h.bytes ∷ h.parts) f) (err-of left.items left.fault fault e) h.reading)
+pub joining-fault : (blobs blob sep : List ℕ) (contents : List (List ℕ)) (left : Left (List ℕ)) (fault : BlobFault)
+    → NameReading blobs blob sep contents left.fault → Err fault ≡ answer left → IsRefusal blobs blob (Blob fault)
+joining-fault blobs blob sep contents left fault h e =
+    (separator h.bytes ∷ h.parts, subst (λ f. Reading (names blobs) blob (separator h.bytes ∷ h.parts) f) (err-of left.items left.fault fault e) h.reading)
 
 -- The same with equations for what the code has.
-pub joining-starts : (blobs blob old into sep own : List ℕ) (before left : Left (List ℕ)) (x : List ℕ) → NameReading blobs blob own before.items before.fault → sep ≡ own → Ok (Some x) ≡ answer before → left ≡ rest_of before → into ≡ old ++ x
+pub joining-starts : (blobs blob old into sep own : List ℕ) (before left : Left (List ℕ)) (x : List ℕ) → NameReading blobs blob own before.items before.fault
+    → sep ≡ own → Ok (Some x) ≡ answer before → left ≡ rest_of before → into ≡ old ++ x
     → Joining blobs blob old sep into left
 joining-starts blobs blob old into sep own before left x h s e l i =
     let h' : NameReading blobs blob sep before.items before.fault = subst (λ (t : List ℕ). NameReading blobs blob t before.items before.fault) (sym s) h in
-    subst (λ (t : List ℕ). Joining blobs blob old sep t left) (sym i) (subst (λ (t : Left (List ℕ)). Joining blobs blob old sep (old ++ x) t) (sym l) (joining-first blobs blob old sep before x h' e))
+    subst (λ (t : List ℕ). Joining blobs blob old sep t left) (sym i) (subst (λ (t : Left (List ℕ)). Joining blobs blob old sep (old ++ x) t) (sym l)
+    (joining-first blobs blob old sep before x h' e))
 
 -- An answer turned over, where its slice is known.
 pub answer-is : (left : Left (List ℕ)) (o p : Option (Bor (List ℕ))) → lent (Ok o) ≡ answer left → o ≡ p → lent (Ok p) ≡ answer left

@@ -1,5 +1,6 @@
 -- How a document name is read, a field at a time.
-use Rattle.std.proofs.Common.{◌≡◌, ℕ, zero, suc, ◌+◌, ◌≤◌, Bool, true, false, ◌&&◌, List, [], ◌∷◌, ◌++◌, length, take, drop, Option, Some, None, Result, Ok, Err, refl, sym, ap, subst, ◌∙◌, zero-add, arith, ◌⊎◌, inl, inr, if◌then◌else◌}
+use Rattle.std.proofs.Common.{◌≡◌, ℕ, zero, suc, ◌+◌, ◌≤◌, Bool, true, false, ◌&&◌, List, [], ◌∷◌, ◌++◌, length, take, drop, Option}
+use Rattle.std.proofs.Common.{Some, None, Result, Ok, Err, refl, sym, ap, subst, ◌∙◌, zero-add, arith, ◌⊎◌, inl, inr, if◌then◌else◌}
 use Rattle.std.specs.Prelude.{◌==◌, is_some, option_map}
 use Rattle.std.proofs.lemmas.Bool.{cases_lt, eq-eqb, ne_eqb, and_right, and_left}
 use Rattle.ppdb_base.specs.declared.Code.{Code}
@@ -11,7 +12,8 @@ use Rattle.blob_grammar.specs.Places.{HasFields, HasEnd}
 use Rattle.blob_grammar.proofs.Walks.{walk-field, walk-out, walk-none, walk-end, walk-fields, walk-end_is, fields_left-alike, alike-begun, SameBegun}
 use Rattle.std.proofs.lemmas.List.{drop_all, drop-drop}
 use Rattle.blob_grammar.specs.Reading.{Reading}
-use Rattle.blob_grammar.specs.Reader.{Left, push, placed, unsigned_at, character_of, character_len, IsThere, IsMissing, is_empty, read_from, close_and, fields_left}
+use Rattle.blob_grammar.specs.Reader.{Left, push, placed, unsigned_at, character_of, character_len, IsThere, IsMissing, is_empty}
+use Rattle.blob_grammar.specs.Reader.{read_from, close_and, fields_left}
 use Rattle.blob_grammar.proofs.Readers.{read_from-reads}
 use Rattle.blob_grammar.proofs.Placed.{unsigned_there, unsigned_not_there, placed_ok, unsigned_within}
 use Rattle.blob_grammar.proofs.Steps.{Alike, read_from-alike, nothing_left, left_at, left-field, left-out, left-none, left-end, not_empty}
@@ -122,23 +124,28 @@ before-first start at first = rw (eq-eqb at start first) refl
 pub part-end : (blobs blob : List ℕ) (start at : ℕ) → at ≡ length blob → (at ≡ start → ⊥) → parts_left blobs blob start at ≡ nothing_left None
 unfolding parts_left
 part-end blobs blob start at ends later =
-    ap contents_left (left-end (names blobs) (before_place start at) [] blob at unsigned (if-form (at == start)) ends (ap (λ b. may_stop b []) (before-later start at later)))
+    ap contents_left (left-end (names blobs) (before_place start at) [] blob at unsigned (if-form (at == start)) ends (ap (λ b. may_stop b [])
+    (before-later start at later)))
 
 -- A name does not end before its first part.
-stays : (blob : List ℕ) (start at : ℕ) → at ≤ length blob → (at ≡ length blob → at ≡ start) → (is_empty (drop at blob) && may_stop (before_place start at) []) ≡ false
+stays : (blob : List ℕ) (start at : ℕ) → at ≤ length blob → (at ≡ length blob → at ≡ start) → (is_empty (drop at blob) && may_stop (before_place start at) [])
+    ≡ false
 stays blob start at within goes_on =
     elim (cases_lt at (length blob)) [
       | inl less ↦ and_left (is_empty (drop at blob)) (may_stop (before_place start at) []) (not_empty blob at less)
-      | inr past ↦ and_right (is_empty (drop at blob)) (may_stop (before_place start at) []) (ap (λ b. may_stop b []) (before-first start at (goes_on (omega arith))))
+      | inr past ↦ and_right (is_empty (drop at blob)) (may_stop (before_place start at) [])
+          (ap (λ b. may_stop b []) (before-first start at (goes_on (omega arith))))
     ]
 
 -- No index stands there.
-pub part-missing : (blobs blob : List ℕ) (start at : ℕ) (fault : BlobFault) → at ≤ length blob → (at ≡ length blob → at ≡ start) → placed at (unsigned_at (drop at blob)) ≡ Err fault
+pub part-missing : (blobs blob : List ℕ) (start at : ℕ) (fault : BlobFault) → at ≤ length blob → (at ≡ length blob → at ≡ start)
+    → placed at (unsigned_at (drop at blob)) ≡ Err fault
     → parts_left blobs blob start at ≡ nothing_left (Some fault)
 unfolding parts_left
 part-missing blobs blob start at fault within goes_on e =
     let n = unsigned_not_there at (drop at blob) fault e in
-    ap contents_left (left-none (names blobs) (before_place start at) [] blob at unsigned n.code (if-form (at == start)) n.none (stays blob start at within goes_on)) ∙ ap (λ f. nothing_left (Some f)) (sym n.fault_is)
+    ap contents_left (left-none (names blobs) (before_place start at) [] blob at unsigned n.code (if-form (at == start)) n.none
+    (stays blob start at within goes_on)) ∙ ap (λ f. nothing_left (Some f)) (sym n.fault_is)
 
 -- The index of a part that is not there.
 pub part-absent : (blobs blob : List ℕ) (start at index len : ℕ) → placed at (unsigned_at (drop at blob)) ≡ Ok (index, len) → blob_at blobs index ≡ None
@@ -146,24 +153,29 @@ pub part-absent : (blobs blob : List ℕ) (start at index len : ℕ) → placed 
 unfolding parts_left
 part-absent blobs blob start at index len e absent =
     ap contents_left
-    (left-out (names blobs) (before_place start at) [] blob at unsigned (number index) len (if-form (at == start)) (unsigned_there at (drop at blob) index len e) (if-allows blobs (at == start) index ∙ ap is_some absent))
+    (left-out (names blobs) (before_place start at) [] blob at unsigned (number index) len (if-form (at == start))
+    (unsigned_there at (drop at blob) index len e) (if-allows blobs (at == start) index ∙ ap is_some absent))
 
 -- A part.
-pub part-there : (blobs blob : List ℕ) (start at index len : ℕ) (content : List ℕ) → start ≤ at → placed at (unsigned_at (drop at blob)) ≡ Ok (index, len) → blob_at blobs index ≡ Some content
+pub part-there : (blobs blob : List ℕ) (start at index len : ℕ) (content : List ℕ) → start ≤ at → placed at (unsigned_at (drop at blob)) ≡ Ok (index, len)
+    → blob_at blobs index ≡ Some content
     → parts_left blobs blob start at ≡ push content (parts_left blobs blob start (at + len))
 unfolding parts_left
 part-there blobs blob start at index len content begun e there =
     let g = names blobs in
     let before = before_place start at in
     let found = unsigned_there at (drop at blob) index len e in
-    let made : part_of blobs before (number index ∷ []) ≡ Some (part content) = if-part blobs (at == start) index ∙ ap (option_map (λ content. part content)) there in
+    let made : part_of blobs before (number index ∷ []) ≡ Some (part content) =
+    if-part blobs (at == start) index ∙ ap (option_map (λ content. part content)) there in
     let wide = unsigned_within (drop at blob) (index, len) (placed_ok at (unsigned_at (drop at blob)) (index, len) e) in
     let later : at + len ≡ start → ⊥ = λ q. omega (arith, wide.0) in
-    let same : kind (before ++ part content ∷ []) ≡ kind (before_place start (at + len)) = if-more (at == start) (part content) ∙ sym (ap kind (before-later start (at + len) later)) in
+    let same : kind (before ++ part content ∷ []) ≡ kind (before_place start (at + len)) =
+    if-more (at == start) (part content) ∙ sym (ap kind (before-later start (at + len) later)) in
     ap contents_left
     (left-field g before [] blob at unsigned (number index) len (if-form (at == start)) found (if-allows blobs (at == start) index ∙ ap is_some there)
     ∙ ap (close_and (λ w b. left_at g w b blob (at + len)) before (number index ∷ [])) made
-    ∙ ap (push (part content)) (read_from-alike g g SameKind (names-alike blobs) (before ++ part content ∷ []) (before_place start (at + len)) [] (at + len) (drop (at + len) blob) same))
+    ∙ ap (push (part content)) (read_from-alike g g SameKind (names-alike blobs) (before ++ part content ∷ []) (before_place start (at + len)) [] (at + len)
+    (drop (at + len) blob) same))
 
 -- ---- the next index
 
@@ -174,37 +186,47 @@ pub index-end : (blobs blob : List ℕ) (start at : ℕ) → at ≡ length blob 
 unfolding indexes_left unsigned_at
 index-end blobs blob start at ends later =
     ap (fields_left (names blobs) part_index (start_of start at) at) (drop_all at blob (omega arith))
-    ∙ walk-end (names blobs) part_index (start_of start at) at unsigned BlobEnd (if-form (at == start)) refl (ap (λ b. may_stop b []) (before-later start at later))
+    ∙ walk-end (names blobs) part_index (start_of start at) at unsigned BlobEnd (if-form (at == start)) refl (ap (λ b. may_stop b [])
+    (before-later start at later))
 
-pub index-missing : (blobs blob : List ℕ) (start at : ℕ) (fault : BlobFault) → at ≤ length blob → (at ≡ length blob → at ≡ start) → placed at (unsigned_at (drop at blob)) ≡ Err fault
+pub index-missing : (blobs blob : List ℕ) (start at : ℕ) (fault : BlobFault) → at ≤ length blob → (at ≡ length blob → at ≡ start)
+    → placed at (unsigned_at (drop at blob)) ≡ Err fault
     → indexes_left blobs blob start at ≡ nothing_left (Some fault)
 unfolding indexes_left
 index-missing blobs blob start at fault within goes_on e =
     let n = unsigned_not_there at (drop at blob) fault e in
-    walk-none (names blobs) part_index (start_of start at) at (drop at blob) unsigned n.code (if-form (at == start)) n.none (stays blob start at within goes_on) ∙ ap (λ f. nothing_left (Some f)) (sym n.fault_is)
+    walk-none (names blobs) part_index (start_of start at) at (drop at blob) unsigned n.code (if-form (at == start)) n.none (stays blob start at within goes_on)
+    ∙ ap (λ f. nothing_left (Some f)) (sym n.fault_is)
 
 pub index-absent : (blobs blob : List ℕ) (start at index len : ℕ) → placed at (unsigned_at (drop at blob)) ≡ Ok (index, len) → blob_at blobs index ≡ None
     → indexes_left blobs blob start at ≡ nothing_left (Some (record { code = ValueRange; byte = at }))
 unfolding indexes_left
 index-absent blobs blob start at index len e absent =
-    walk-out (names blobs) part_index (start_of start at) at (drop at blob) unsigned (number index) len (if-form (at == start)) (unsigned_there at (drop at blob) index len e) (if-allows blobs (at == start) index ∙ ap is_some absent)
+    walk-out (names blobs) part_index (start_of start at) at (drop at blob) unsigned (number index) len (if-form (at == start))
+    (unsigned_there at (drop at blob) index len e) (if-allows blobs (at == start) index ∙ ap is_some absent)
 
-pub index-there : (blobs blob : List ℕ) (start at index len : ℕ) (content : List ℕ) → start ≤ at → placed at (unsigned_at (drop at blob)) ≡ Ok (index, len) → blob_at blobs index ≡ Some content
+pub index-there : (blobs blob : List ℕ) (start at index len : ℕ) (content : List ℕ) → start ≤ at → placed at (unsigned_at (drop at blob)) ≡ Ok (index, len)
+    → blob_at blobs index ≡ Some content
     → indexes_left blobs blob start at ≡ push (record { byte = at; index = index }) (indexes_left blobs blob start (at + len))
 unfolding indexes_left
 index-there blobs blob start at index len content begun e there =
     let g = names blobs in
     let before = before_place start at in
     let found = unsigned_there at (drop at blob) index len e in
-    let made : part_of blobs before (number index ∷ []) ≡ Some (part content) = if-part blobs (at == start) index ∙ ap (option_map (λ content. part content)) there in
+    let made : part_of blobs before (number index ∷ []) ≡ Some (part content) =
+    if-part blobs (at == start) index ∙ ap (option_map (λ content. part content)) there in
     let wide = unsigned_within (drop at blob) (index, len) (placed_ok at (unsigned_at (drop at blob)) (index, len) e) in
     let later : at + len ≡ start → ⊥ = λ q. omega (arith, wide.0) in
-    let same : kind (before ++ part content ∷ []) ≡ kind (before_place start (at + len)) = if-more (at == start) (part content) ∙ sym (ap kind (before-later start (at + len) later)) in
+    let same : kind (before ++ part content ∷ []) ≡ kind (before_place start (at + len)) =
+    if-more (at == start) (part content) ∙ sym (ap kind (before-later start (at + len) later)) in
     let next : Cut NamePart = record { whole = before ++ part content ∷ []; begun = [] } in
-    walk-field g part_index (start_of start at) at (drop at blob) unsigned (number index) len (if-form (at == start)) found (if-allows blobs (at == start) index ∙ ap is_some there)
-    ∙ ap (λ (c : Cut NamePart). push (record { byte = at; index = index }) (fields_left g part_index c (at + len) (drop len (drop at blob)))) (ap (λ o. closed o before (number index ∷ [])) made)
+    walk-field g part_index (start_of start at) at (drop at blob) unsigned (number index) len (if-form (at == start)) found (if-allows blobs (at == start) index
+    ∙ ap is_some there)
+    ∙ ap (λ (c : Cut NamePart). push (record { byte = at; index = index }) (fields_left g part_index c (at + len) (drop len (drop at blob))))
+    (ap (λ o. closed o before (number index ∷ [])) made)
     ∙ ap (push (record { byte = at; index = index }))
-    (fields_left-alike g part_index (SameBegun g part_index SameKind) (alike-begun g part_index SameKind (names-alike blobs)) next (start_of start (at + len)) (at + len) (drop len (drop at blob)) (same, refl)
+    (fields_left-alike g part_index (SameBegun g part_index SameKind) (alike-begun g part_index SameKind (names-alike blobs)) next (start_of start (at + len))
+    (at + len) (drop len (drop at blob)) (same, refl)
     ∙ ap (fields_left g part_index (start_of start (at + len)) (at + len)) (drop-drop len at blob))
 
 pub stays_at : (at end start : ℕ) → ((at ≡ end) × (at ≡ start)) ⊎ (at ≡ end → ⊥) → at ≡ end → at ≡ start
@@ -247,11 +269,13 @@ separator-there blobs blob bytes len h =
     let e : read_from g [] [] 0 blob ≡ push (separator bytes) left =
     left-field g [] [] blob 0 character (octets bytes) len refl h.0 refl ∙ ap (λ n. push (separator bytes) (left_at g first [] blob n)) (zero-add len) in
     let same : kind first ≡ kind (before_place len len) = sym (ap kind (before-first len len refl)) in
-    let alike : left ≡ left_at g (before_place len len) [] blob len = read_from-alike g g SameKind (names-alike blobs) first (before_place len len) [] len (drop len blob) same in
+    let alike : left ≡ left_at g (before_place len len) [] blob len =
+    read_from-alike g g SameKind (names-alike blobs) first (before_place len len) [] len (drop len blob) same in
     record {
       bytes = bytes;
       parts = left.items;
-      reading = subst (λ f. Reading g blob (separator bytes ∷ left.items) f) (ap (λ l. l.fault) alike) (subst (λ (l : Left NamePart). Reading g blob l.items l.fault) e (read_from-reads g blob));
+      reading = subst (λ f. Reading g blob (separator bytes ∷ left.items) f) (ap (λ l. l.fault) alike)
+          (subst (λ (l : Left NamePart). Reading g blob l.items l.fault) e (read_from-reads g blob));
       separator_is = ap without_zero (sym (taken blob bytes (character_len blob) len h.0));
       contents_are = ap (λ l. contents_of l.items) (sym alike);
     }
@@ -266,20 +290,28 @@ indexes_begun blobs blob bytes len h =
     let same : kind (separator bytes ∷ []) ≡ kind (before_place len len) = sym (ap kind (before-first len len refl)) in
     walk-field g part_index (record { whole = []; begun = [] }) 0 blob character (octets bytes) len refl h.0 refl
     ∙ ap (λ n. fields_left g part_index first n (drop len blob)) (zero-add len)
-    ∙ fields_left-alike g part_index (SameBegun g part_index SameKind) (alike-begun g part_index SameKind (names-alike blobs)) first (start_of len len) len (drop len blob) (same, refl)
+    ∙ fields_left-alike g part_index (SameBegun g part_index SameKind) (alike-begun g part_index SameKind (names-alike blobs)) first (start_of len len) len
+    (drop len blob) (same, refl)
 
-pub indexes-there : (blobs blob bytes : List ℕ) (len : ℕ) → IsThere character blob 0 (octets bytes) len → HasFields (names blobs) part_index blob (indexes_left blobs blob len len).items
-indexes-there blobs blob bytes len h = subst (λ (l : Left PlacedIndex). HasFields (names blobs) part_index blob l.items) (indexes_begun blobs blob bytes len h) (walk-fields (names blobs) part_index blob)
+pub indexes-there : (blobs blob bytes : List ℕ) (len : ℕ) → IsThere character blob 0 (octets bytes) len
+    → HasFields (names blobs) part_index blob (indexes_left blobs blob len len).items
+indexes-there blobs blob bytes len h = subst (λ (l : Left PlacedIndex). HasFields (names blobs) part_index blob l.items) (indexes_begun blobs blob bytes len h)
+    (walk-fields (names blobs) part_index blob)
 
-pub indexes-end : (blobs blob bytes : List ℕ) (len : ℕ) → IsThere character blob 0 (octets bytes) len → HasEnd (names blobs) blob (indexes_left blobs blob len len).fault
-indexes-end blobs blob bytes len h = subst (λ (l : Left PlacedIndex). HasEnd (names blobs) blob l.fault) (indexes_begun blobs blob bytes len h) (walk-end_is (names blobs) part_index blob)
+pub indexes-end : (blobs blob bytes : List ℕ) (len : ℕ) → IsThere character blob 0 (octets bytes) len
+    → HasEnd (names blobs) blob (indexes_left blobs blob len len).fault
+indexes-end blobs blob bytes len h =
+    subst (λ (l : Left PlacedIndex). HasEnd (names blobs) blob l.fault) (indexes_begun blobs blob bytes len h) (walk-end_is (names blobs) part_index blob)
 
-no_index : (blobs blob : List ℕ) (fault : BlobFault) → IsMissing character blob 0 fault → fields_left (names blobs) part_index (record { whole = []; begun = [] }) 0 blob ≡ nothing_left (Some fault)
+no_index : (blobs blob : List ℕ) (fault : BlobFault) → IsMissing character blob 0 fault
+    → fields_left (names blobs) part_index (record { whole = []; begun = [] }) 0 blob ≡ nothing_left (Some fault)
 no_index blobs blob fault h =
-    walk-none (names blobs) part_index (record { whole = []; begun = [] }) 0 blob character h.code refl h.none (and_right (is_empty blob) false refl) ∙ ap (λ f. nothing_left (Some f)) (sym h.fault_is)
+    walk-none (names blobs) part_index (record { whole = []; begun = [] }) 0 blob character h.code refl h.none (and_right (is_empty blob) false refl)
+    ∙ ap (λ f. nothing_left (Some f)) (sym h.fault_is)
 
 pub indexes-none : (blobs blob : List ℕ) (fault : BlobFault) → IsMissing character blob 0 fault → HasFields (names blobs) part_index blob []
-indexes-none blobs blob fault h = subst (λ (l : Left PlacedIndex). HasFields (names blobs) part_index blob l.items) (no_index blobs blob fault h) (walk-fields (names blobs) part_index blob)
+indexes-none blobs blob fault h =
+    subst (λ (l : Left PlacedIndex). HasFields (names blobs) part_index blob l.items) (no_index blobs blob fault h) (walk-fields (names blobs) part_index blob)
 
 pub indexes-fault : (blobs blob : List ℕ) (fault : BlobFault) → IsMissing character blob 0 fault → HasEnd (names blobs) blob (Some fault)
 indexes-fault blobs blob fault h = ([], separator-missing blobs blob fault h)

@@ -25,7 +25,8 @@ name_of-whole blobs blob parts h =
     let n : IsName blobs blob (joined parts) = record { parts = parts; whole = h; text = refl } in
     subst (λ (t : List ℕ). IsName blobs blob t) (name_of-is blobs blob (joined parts) n) n
 
-pub name_indexes-are : (blobs blob : List ℕ) (indexes : List PlacedIndex) → (indexes ≡ name_indexes blobs blob) ↔ HasFields (names blobs) part_index blob indexes
+pub name_indexes-are : (blobs blob : List ℕ) (indexes : List PlacedIndex)
+    → (indexes ≡ name_indexes blobs blob) ↔ HasFields (names blobs) part_index blob indexes
 name_indexes-are blobs blob indexes = (
   λ e. subst (λ (l : List PlacedIndex). HasFields (names blobs) part_index blob l) (sym e) (front_of-fields (names blobs) part_index blob),
   fields-are (names blobs) part_index blob indexes,

@@ -11,7 +11,8 @@ use Rattle.blob_grammar.specs.Reader.{cut_from}
 use Rattle.blob_grammar.proofs.Written.{FollowFrom, fields_read, written_fields, number_field, number_allowed}
 use Rattle.blob_grammar.proofs.FrontFields.{fields-are}
 use Rattle.ppdb_heaps.specs.Heaps.{blob_at}
-use Rattle.ppdb_heaps.specs.Names.{NamePart, separator, part, part_of, names, without_zero, contents_of, IsName, part_index, name_indexes, name_spelling, indexes_at, IsWritable}
+use Rattle.ppdb_heaps.specs.Names.{NamePart, separator, part, part_of, names, without_zero, contents_of, IsName, part_index}
+use Rattle.ppdb_heaps.specs.Names.{name_indexes, name_spelling, indexes_at, IsWritable}
 
 abbrev after : List NamePart → Cut NamePart
 after whole = record { whole = whole; begun = [] }
@@ -36,7 +37,8 @@ module _ (blobs : List ℕ) where
       FollowFrom (names blobs) (after (first ∷ others)) (index_fields indexes) []
       × (cut_from (names blobs) (after (first ∷ others)) (index_fields indexes) ≡ after (first ∷ (others ++ map (λ content. part content) contents)))
 
-  follow : (first : NamePart) (others : List NamePart) (indexes : List ℕ) (contents : List (List ℕ)) → All (λ n. n < 2 ^ 29) indexes → AreThere blobs indexes contents → Follow first others indexes contents
+  follow : (first : NamePart) (others : List NamePart) (indexes : List ℕ) (contents : List (List ℕ)) → All (λ n. n < 2 ^ 29) indexes
+      → AreThere blobs indexes contents → Follow first others indexes contents
   follow first others [] [] small there = (tt, ap (λ l. after (first ∷ l)) (sym (append-nil others)))
   follow first others [] (c ∷ cs) small there = absurd cc
   follow first others (n ∷ ns) [] small there = absurd cc
@@ -45,17 +47,20 @@ module _ (blobs : List ℕ) where
       let is : blob_at blobs n ≡ Some c = cc in
       let rest : AreThere blobs ns cs = cc in
       let made : part_of blobs (first ∷ others) (number n ∷ []) ≡ Some (part c) = ap (option_map (λ content. part content)) is in
-      let next : with_value g (after (first ∷ others)) (number n) ≡ after (first ∷ (others ++ part c ∷ [])) = ap (λ o. closed o (first ∷ others) (number n ∷ [])) made in
+      let next : with_value g (after (first ∷ others)) (number n) ≡ after (first ∷ (others ++ part c ∷ [])) =
+      ap (λ o. closed o (first ∷ others) (number n ∷ [])) made in
       let again = follow first (others ++ part c ∷ []) ns cs (All-tail (λ (k : ℕ). k < 2 ^ 29) n ns small) rest in (
         (
           number_allowed g (after (first ∷ others)) n (bytes_of (index_fields ns) ++ []) refl (All-head (λ (k : ℕ). k < 2 ^ 29) n ns small) (ap is_some is),
           subst (λ (p : Cut NamePart). FollowFrom g p (index_fields ns) []) (sym next) again.0,
         ),
-        ap (λ (p : Cut NamePart). cut_from g p (index_fields ns)) next ∙ again.1 ∙ ap (λ l. after (first ∷ l)) (append_assoc others (part c ∷ []) (map (λ content. part content) cs)),
+        ap (λ (p : Cut NamePart). cut_from g p (index_fields ns)) next ∙ again.1
+            ∙ ap (λ l. after (first ∷ l)) (append_assoc others (part c ∷ []) (map (λ content. part content) cs)),
       )
 
   -- each index is told at its byte
-  told : (place : Cut NamePart) (at : ℕ) (indexes : List ℕ) → flat_map part_index (placed_from (names blobs) place at (index_fields indexes)) ≡ indexes_at at indexes
+  told : (place : Cut NamePart) (at : ℕ) (indexes : List ℕ) → flat_map part_index (placed_from (names blobs) place at (index_fields indexes))
+      ≡ indexes_at at indexes
   told place at [] = refl
   told place at (n ∷ ns) = ap (λ l. record { byte = at; index = n } ∷ l) (told (with_value (names blobs) place (number n)) (at + length (short_unsigned n)) ns)
 
@@ -88,7 +93,8 @@ module _ (blobs : List ℕ) where
         let g = names blobs in
         let fs = name_fields byte indexes in
         let made : cut g fs ≡ after (parts_of byte contents) = followed.1 in
-        let stops : g.may_stop (cut g fs).whole (cut g fs).begun ≡ true = ap (λ (c : Cut NamePart). g.may_stop c.whole c.begun) made ∙ some_part indexes contents h.some h.there in
+        let stops : g.may_stop (cut g fs).whole (cut g fs).begun ≡ true =
+        ap (λ (c : Cut NamePart). g.may_stop c.whole c.begun) made ∙ some_part indexes contents h.some h.there in
         subst (λ (blob : List ℕ). Reading g blob (parts_of byte contents) None) spelled
         (subst (λ (l : List NamePart). Reading g (bytes_of fs) l None) (ap (λ (c : Cut NamePart). c.whole) made) (fields_read g fs allowed stops))
 
@@ -97,10 +103,16 @@ module _ (blobs : List ℕ) where
     contents_are (c ∷ cs) = ap (λ l. c ∷ l) (contents_are cs)
 
     pub written_text : IsName blobs (name_spelling byte indexes) (join_by (λ content. content) (without_zero (byte ∷ [])) contents)
-    written_text = record { parts = parts_of byte contents; whole = written_name; text = ap (join_by (λ content. content) (without_zero (byte ∷ []))) (sym (contents_are contents)) }
+    written_text = record {
+      parts = parts_of byte contents;
+      whole = written_name;
+      text = ap (join_by (λ content. content) (without_zero (byte ∷ [])))
+          (sym (contents_are contents));
+    }
 
     pub written_indexes : name_indexes blobs (name_spelling byte indexes) ≡ indexes_at 1 indexes
     written_indexes =
         let g = names blobs in
         let fs = name_fields byte indexes in
-        ap (name_indexes blobs) (sym spelled) ∙ sym (fields-are g part_index (bytes_of fs) (flat_map part_index (placed_from g (after []) 0 fs)) (written_fields g part_index fs allowed)) ∙ told (with_value g (after []) (octets (byte ∷ []))) 1 indexes
+        ap (name_indexes blobs) (sym spelled) ∙ sym (fields-are g part_index (bytes_of fs) (flat_map part_index (placed_from g (after []) 0 fs))
+        (written_fields g part_index fs allowed)) ∙ told (with_value g (after []) (octets (byte ∷ []))) 1 indexes

@@ -1,5 +1,6 @@
 -- Behind the last zero of #Strings stands no text.
-use Rattle.std.proofs.Common.{◌≡◌, ◌≢◌, ℕ, zero, suc, ◌+◌, ◌-◌, ◌≤◌, ◌==◌, ◌||◌, Bool, true, false, not, List, [], ◌∷◌, length, drop, slice_index, None, refl, ap, subst, ◌∙◌, arith}
+use Rattle.std.proofs.Common.{◌≡◌, ◌≢◌, ℕ, zero, suc, ◌+◌, ◌-◌, ◌≤◌, ◌==◌, ◌||◌, Bool, true, false, not, List, [], ◌∷◌, length, drop}
+use Rattle.std.proofs.Common.{slice_index, None, refl, ap, subst, ◌∙◌, arith}
 use Rattle.std.specs.List.{list_any, prefix_len, position}
 use Rattle.std.proofs.lemmas.List.{at_drop_more, drop_all, drop-drop}
 use Rattle.ppdb_heaps.specs.Heaps.{text_at}

@@ -43,7 +43,8 @@ guided_ascii None = dash_ascii
 guided_ascii (Some g) = hyphenated_ascii lower (swap_fields g) (inl refl)
 
 coded_ascii : (byte : ℕ) → IsAscii (code_of byte)
-coded_ascii byte = IsAscii-cons 92 (120 ∷ encode_lower (byte ∷ [])) (omega arith) (IsAscii-cons 120 (encode_lower (byte ∷ [])) (omega arith) (hex_ascii (byte ∷ [])))
+coded_ascii byte =
+    IsAscii-cons 92 (120 ∷ encode_lower (byte ∷ [])) (omega arith) (IsAscii-cons 120 (encode_lower (byte ∷ [])) (omega arith) (hex_ascii (byte ∷ [])))
 
 byte_by : (byte : ℕ) (plain : Bool) → (plain ≡ true → byte < 128) → IsAscii (if plain then byte ∷ [] else code_of byte)
 byte_by byte true h = IsAscii-cons byte [] (h refl) IsAscii-nil

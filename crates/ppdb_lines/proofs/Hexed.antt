@@ -27,6 +27,7 @@ digits_nil [] h = refl
 digits_nil (b ∷ bs) h = absurd (grind (arith, h))
 
 -- the digits of the first few bytes, and of the others
-pub digits_parts : (bytes front back : List ℕ) (n : ℕ) → front ≡ take n bytes → back ≡ drop n bytes → encode_lower bytes ≡ encode_lower front ++ encode_lower back
+pub digits_parts : (bytes front back : List ℕ) (n : ℕ) → front ≡ take n bytes → back ≡ drop n bytes → encode_lower bytes ≡ encode_lower front
+    ++ encode_lower back
 digits_parts bytes front back n first rest =
     ap encode_lower (sym (take-append-drop n bytes)) ∙ digits_append (take n bytes) (drop n bytes) ∙ rw (first, rest) refl

@@ -19,7 +19,8 @@ keeps_text old kept left before text e = record {
 
 -- a piece came, and then another
 pub keeps_then : {T : Type 0} (r : Result T WriteError) (old mid new : Option (List ℕ)) (kept between left : List ℕ) (before middle after : ℕ) (s t : List ℕ)
-    → Keeps {T = Unit {0}} (Ok tt) old mid kept between before middle s → Keeps r mid new between left middle after t → Keeps r old new kept left before after (s ++ t)
+    → Keeps {T = Unit {0}} (Ok tt) old mid kept between before middle s → Keeps r mid new between left middle after t
+    → Keeps r old new kept left before after (s ++ t)
 keeps_then r old mid new kept between left before middle after s t h k = record {
   put = record {
     front = h.put.front ++ k.put.front;
@@ -35,7 +36,8 @@ keeps_then r old mid new kept between left before middle after s t h k = record 
 }
 
 -- a front of the first piece was put
-pub keeps_cut : {T U : Type 0} (e : WriteError) (r : Result T WriteError) (old new : Option (List ℕ)) (kept left later : List ℕ) (before after : ℕ) (s t : List ℕ)
+pub keeps_cut : {T U : Type 0} (e : WriteError) (r : Result T WriteError) (old new : Option (List ℕ)) (kept left later : List ℕ) (before after : ℕ)
+    (s t : List ℕ)
     → IsErrAnd r (λ d. d ≡ e) → Keeps {T = U} (Err e) old new kept left before after s → Keeps r old new kept later before after (s ++ t)
 keeps_cut e (Ok x) old new kept left later before after s t is h = absurd is
 keeps_cut e (Err d) old new kept left later before after s t is h = record {
@@ -46,7 +48,8 @@ keeps_cut e (Err d) old new kept left later before after s t is h = record {
 }
 
 -- all of it was put
-all_put : {T : Type 0} (r : Result T WriteError) (old new : Option (List ℕ)) (text rest : List ℕ) → (h : AppendsFront old new text) → OnOk r (h.rest ≡ []) → OnOk r (new ≡ appended old text)
+all_put : {T : Type 0} (r : Result T WriteError) (old new : Option (List ℕ)) (text rest : List ℕ) → (h : AppendsFront old new text) → OnOk r (h.rest ≡ [])
+    → OnOk r (new ≡ appended old text)
 all_put (Ok x) old new text rest h e = h.written ∙ ap (appended old) (sym (append-nil h.front) ∙ ap (λ (x : List ℕ). h.front ++ x) (sym e) ∙ sym h.is_front)
 all_put (Err x) old new text rest h e = tt
 

@@ -1,7 +1,8 @@
 -- The keys of the line of an import, in order.
 use Rattle.std.proofs.Common.{refl, [], ◌∷◌}
 use Rattle.ppdb_values.specs.declared.import.ImportValue.{ImportValue}
-use Rattle.ppdb_values.specs.declared.import.ImportValue.TheVariants.{Namespace, AssemblyNamespace, Target, Xml, Alias, AssemblyAlias, NamespaceAlias, AssemblyNamespaceAlias, TargetAlias}
+use Rattle.ppdb_values.specs.declared.import.ImportValue.TheVariants.{Namespace, AssemblyNamespace, Target, Xml, Alias, AssemblyAlias}
+use Rattle.ppdb_values.specs.declared.import.ImportValue.TheVariants.{NamespaceAlias, AssemblyNamespaceAlias, TargetAlias}
 use Rattle.ppdb_lines.specs.Tokens.{IsKeyOrder}
 use Rattle.ppdb_lines.specs.Uses.{use_line}
 

@@ -13,7 +13,8 @@ pub part_there : (word : List ℕ) (parts : List Part) (place : ℕ) (p : Part) 
 part_there word parts zero p some within is = absurd (some refl)
 part_there word parts (suc i) p some within is =
     let e : suc i - 1 ≡ i = omega arith in
-    ap field_tokens (slice_get-map field_of parts i ∙ ap (option_map field_of) (slice_get-get_or parts i p (omega arith) ∙ ap (λ (q : Part). Some q) (rw e at is)))
+    ap field_tokens (slice_get-map field_of parts i ∙ ap (option_map field_of) (slice_get-get_or parts i p (omega arith)
+    ∙ ap (λ (q : Part). Some q) (rw e at is)))
 
 pub part_past : (word : List ℕ) (parts : List Part) (place : ℕ) → (place ≡ 0 → ⊥) → length parts ≤ place - 1 → member_tokens (line_of word parts) place ≡ []
 part_past word parts zero some past = absurd (some refl)

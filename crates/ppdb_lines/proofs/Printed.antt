@@ -38,7 +38,8 @@ member_printed true k t rest e = rw e (ap (λ (x : List ℕ). 44 ∷ x) (append_
 member_printed false k t rest e = rw e (append_assoc (quoted k) (58 ∷ []) (token_text t ++ print_from true rest))
 
 field_printed : (later : Bool) (k : List ℕ) (c : Content) (rest : List Token) (behind : Members) → print_from true rest ≡ members_text true behind
-    → print_from later (tokens.key k ∷ content_token c ∷ rest) ≡ comma_if later ++ (quoted k ++ 58 ∷ (compact_text (content_data c) ++ members_text true behind))
+    → print_from later (tokens.key k ∷ content_token c ∷ rest) ≡ comma_if later
+    ++ (quoted k ++ 58 ∷ (compact_text (content_data c) ++ members_text true behind))
 field_printed later k c rest behind h = member_printed later k (content_token c) rest (content_ends c) ∙ rw (content_text_is c, h) refl
 
 end_printed : (later : Bool) → print_from later (tokens.end_object ∷ []) ≡ 125 ∷ []
@@ -47,8 +48,10 @@ end_printed true = refl
 end_printed false = refl
 
 place_printed : (o : Option Field) (places : List ℕ) (shown : Line)
-    → ((later : Bool) → print_from later (flat_map (member_tokens shown) places ++ tokens.end_object ∷ []) ≡ members_text later (listed places shown)) → (later : Bool)
-    → print_from later (field_tokens o ++ (flat_map (member_tokens shown) places ++ tokens.end_object ∷ [])) ≡ members_text later (with_member o (listed places shown))
+    → ((later : Bool) → print_from later (flat_map (member_tokens shown) places ++ tokens.end_object ∷ []) ≡ members_text later (listed places shown))
+    → (later : Bool)
+    → print_from later (field_tokens o ++ (flat_map (member_tokens shown) places ++ tokens.end_object ∷ []))
+    ≡ members_text later (with_member o (listed places shown))
 place_printed (Some (field words k c)) places shown h later = field_printed later k c _ (listed places shown) (h true)
 place_printed (Some (mark words)) places shown h later = h later
 place_printed None places shown h later = h later

@@ -21,7 +21,8 @@ puts_nothing old before = record { ok = sym (appended_nothing old); err = tt; fa
 pub puts_memory : {T : Type 0} (r : Result T WriteError) (old : Option (List ℕ)) (before : ℕ) (text : List ℕ)
     → IsErrAnd r (λ e. e ≡ Memory) → Puts r old old before before text
 puts_memory (Ok x) old before text is = absurd is
-puts_memory (Err e) old before text is = record { ok = tt; err = front_nothing old text; failed = λ f. absurd (let same : e ≡ Memory = is in cc); later = omega arith }
+puts_memory (Err e) old before text is =
+    record { ok = tt; err = front_nothing old text; failed = λ f. absurd (let same : e ≡ Memory = is in cc); later = omega arith }
 
 pub put_none : (old : Option (List ℕ)) (before : ℕ) (whole : List ℕ) → Putting old old before before whole whole
 put_none old before whole = record { done = []; put = puts_nothing old before; is_whole = refl }

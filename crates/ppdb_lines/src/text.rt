@@ -48,7 +48,8 @@ fn put_field<O: Sink>(
     words: &str,
     item: &Item<'_>,
 ) -> Result<(), WriteError>
-    ensures { Keeps result (O.written out.old) (O.written out.new) kept.old kept.new (O.faults out.old) (O.faults out.new) (words.now ++ content_text (content_of item.now)) }
+    ensures { Keeps result (O.written out.old) (O.written out.new) kept.old kept.new (O.faults out.old) (O.faults out.new)
+        (words.now ++ content_text (content_of item.now)) }
 {
     kept.put(out, words.as_bytes())?;
     match *item {

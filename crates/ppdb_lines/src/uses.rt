@@ -4,7 +4,8 @@ ghost use Rattle.ppdb_base.specs.Written.{Puts};
 ghost use Rattle.type_blobs.specs.ImportReading.{shown};
 ghost use Rattle.ppdb_values.specs.Imports.{import_value};
 ghost use Rattle.ppdb_lines.specs.Forms.{lines_as};
-ghost use Rattle.ppdb_lines.specs.Uses.{use_line, kind_of, alias_of, assembly_of, namespace_of, type_of, alias_or_none, assembly_or_none, namespace_or_none, table_or_none, row_or_none};
+ghost use Rattle.ppdb_lines.specs.Uses.{use_line, kind_of, alias_of, assembly_of, namespace_of, type_of, alias_or_none, assembly_or_none};
+ghost use Rattle.ppdb_lines.specs.Uses.{namespace_or_none, table_or_none, row_or_none};
 ghost use Rattle.ppdb_lines.specs.Views.{field_of};
 
 use crate::form::Printer;
@@ -20,7 +21,8 @@ pub fn put_use<O: Sink>(
     out: &mut O,
     import: &Import<'_>,
 ) -> Result<(), WriteError>
-    ensures { Puts result (O.written out.old) (O.written out.new) (O.faults out.old) (O.faults out.new) (lines_as printer.form (use_line (import_value (shown import.now)) ∷ [])) }
+    ensures { Puts result (O.written out.old) (O.written out.new) (O.faults out.old) (O.faults out.new)
+        (lines_as printer.form (use_line (import_value (shown import.now)) ∷ [])) }
 {
     let target = target_of(import);
     let parts = [

@@ -20,7 +20,8 @@ less : (x a : ℕ) → x < a → nat_cmp x a ≡ Less
 less x a h = sym (nat_cmp_is x a Less h)
 
 -- numbers after a number are greater
-rows_after : (n x a k : ℕ) → x < a → AllByRecursion (λ y. pair_cmp (6, x) y ≡ Less) (map (λ (r : RowImage). (r.table, r.old)) (map (sample_row n) (range_with_len a k)))
+rows_after : (n x a k : ℕ) → x < a → AllByRecursion (λ y. pair_cmp (6, x) y ≡ Less)
+    (map (λ (r : RowImage). (r.table, r.old)) (map (sample_row n) (range_with_len a k)))
 rows_after n x a zero h = tt
 rows_after n x a (suc k) h = (less x a h, rows_after n x (a + 1) k (omega arith))
 
@@ -78,10 +79,18 @@ sample_readable n few = record {
   slots = tt;
 }
 
-pub sample_of : (n : ℕ) (counts : List Count) (rows : List RowImage) (methods : List MethodLine) (drops slotted : List ℕ) (slots : List SlotImage) → counts ≡ record { table = 0x06; rows = n } ∷ []
+pub sample_of : (n : ℕ) (counts : List Count) (rows : List RowImage) (methods : List MethodLine) (drops slotted : List ℕ) (slots : List SlotImage)
+    → counts ≡ record { table = 0x06; rows = n } ∷ []
     → rows ≡ map (sample_row n) (range_with_len 1 n) → methods ≡ map sample_method (range_with_len 1 n) → drops ≡ [] → slotted ≡ [] → slots ≡ []
     → map_of counts rows methods drops slotted slots ≡ sample_map_of n
 sample_of n counts rows methods drops slotted slots c r m d s i =
     let one : Count = record { table = 0x06; rows = n } in
     ap (λ (v : List Count × List RowImage × List MethodLine × List ℕ × List ℕ × List SlotImage). map_of v.0 v.1 v.2 v.3 v.4 v.5)
-    (let e : (counts, rows, methods, drops, slotted, slots) ≡ (one ∷ [], map (sample_row n) (range_with_len 1 n), map sample_method (range_with_len 1 n), [], [], []) = cc in e)
+    (let e : (counts, rows, methods, drops, slotted, slots) ≡ (
+      one ∷ [],
+      map (sample_row n) (range_with_len 1 n),
+      map sample_method (range_with_len 1 n),
+      [],
+      [],
+      [],
+    ) = cc in e)

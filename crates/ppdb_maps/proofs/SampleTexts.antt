@@ -12,7 +12,8 @@ use Rattle.ppdb_maps.specs.Text.{Read, start, further, HoldsWhat}
 use Rattle.ppdb_maps.specs.SampleTexts.{SampleTexts}
 use Rattle.ppdb_maps.specs.declared.line.Line.TheVariants.{Rows, Row, Method, Kept}
 use Rattle.ppdb_maps.proofs.SampleMap.{sample_readable}
-use Rattle.ppdb_maps.proofs.TextSteps.{tells_rows, tells_row, tells_method, keeps_rows, keeps_row, keeps_method, with_runs, number_of_digit, row_of_digit, front_run, back_run}
+use Rattle.ppdb_maps.proofs.TextSteps.{tells_rows, tells_row, tells_method, keeps_rows, keeps_row, keeps_method, with_runs}
+use Rattle.ppdb_maps.proofs.TextSteps.{number_of_digit, row_of_digit, front_run, back_run}
 
 head_1 : IsHead (codes "ppdbmap 1") 1
 head_1 = record { from = omega arith; to = omega arith; spelled = refl }
@@ -27,13 +28,16 @@ rows_2 : Tells 1 (codes "rows 06 2") (Rows 6 2)
 rows_2 = tells_rows (codes "rows 06 2") (codes "2") 2 refl (λ e. omega (arith, e)) (number_of_digit 2 ROWS (omega arith) (omega arith))
 
 row_1_1 : Tells 1 (codes "row 06 1 1") (Row 6 1 1)
-row_1_1 = tells_row (codes "row 06 1 1") (codes "1") (codes "1") 1 1 refl (λ e. omega (arith, e)) (row_of_digit 1 ROWS (omega arith) (omega arith) (omega arith)) (row_of_digit 1 ROWS (omega arith) (omega arith) (omega arith))
+row_1_1 = tells_row (codes "row 06 1 1") (codes "1") (codes "1") 1 1 refl (λ e. omega (arith, e))
+    (row_of_digit 1 ROWS (omega arith) (omega arith) (omega arith)) (row_of_digit 1 ROWS (omega arith) (omega arith) (omega arith))
 
 row_1_2 : Tells 1 (codes "row 06 1 2") (Row 6 1 2)
-row_1_2 = tells_row (codes "row 06 1 2") (codes "1") (codes "2") 1 2 refl (λ e. omega (arith, e)) (row_of_digit 1 ROWS (omega arith) (omega arith) (omega arith)) (row_of_digit 2 ROWS (omega arith) (omega arith) (omega arith))
+row_1_2 = tells_row (codes "row 06 1 2") (codes "1") (codes "2") 1 2 refl (λ e. omega (arith, e))
+    (row_of_digit 1 ROWS (omega arith) (omega arith) (omega arith)) (row_of_digit 2 ROWS (omega arith) (omega arith) (omega arith))
 
 row_2_1 : Tells 1 (codes "row 06 2 1") (Row 6 2 1)
-row_2_1 = tells_row (codes "row 06 2 1") (codes "2") (codes "1") 2 1 refl (λ e. omega (arith, e)) (row_of_digit 2 ROWS (omega arith) (omega arith) (omega arith)) (row_of_digit 1 ROWS (omega arith) (omega arith) (omega arith))
+row_2_1 = tells_row (codes "row 06 2 1") (codes "2") (codes "1") 2 1 refl (λ e. omega (arith, e))
+    (row_of_digit 2 ROWS (omega arith) (omega arith) (omega arith)) (row_of_digit 1 ROWS (omega arith) (omega arith) (omega arith))
 
 method_1 : Tells 1 (codes "method 1 16 20") (Method 1 16 20)
 method_1 = tells_method (codes "method 1 16 20") (codes "1") 1 refl (λ e. omega (arith, e)) (row_of_digit 1 ROWS (omega arith) (omega arith) (omega arith))
@@ -71,11 +75,13 @@ read_rows_1 =
     further (further start rows_1 (keeps_rows [] (codes "rows 06 1") 6 1 rows_1 refl)) row_1_1
     (keeps_row (Rows 6 1 ∷ []) (codes "row 06 1 1") 6 1 1 1 row_1_1 refl refl refl)
 
-read_1 : Read 1 (codes "rows 06 1" ∷ codes "row 06 1 1" ∷ codes "method 1 16 20" ∷ codes "run 0 0 4" ∷ codes "run 8 10 8" ∷ []) (Kept back_run ∷ Kept front_run ∷ Method 1 16 20 ∷ Row 6 1 1 ∷ Rows 6 1 ∷ [])
+read_1 : Read 1 (codes "rows 06 1" ∷ codes "row 06 1 1" ∷ codes "method 1 16 20" ∷ codes "run 0 0 4" ∷ codes "run 8 10 8" ∷ [])
+    (Kept back_run ∷ Kept front_run ∷ Method 1 16 20 ∷ Row 6 1 1 ∷ Rows 6 1 ∷ [])
 read_1 = with_runs (codes "rows 06 1" ∷ codes "row 06 1 1" ∷ codes "method 1 16 20" ∷ []) (Row 6 1 1 ∷ Rows 6 1 ∷ []) 1
     (further read_rows_1 method_1 (keeps_method (Row 6 1 1 ∷ Rows 6 1 ∷ []) (codes "method 1 16 20") 1 16 20 method_1 refl refl))
 
-one_row : (b : Bool) (old new : ℕ) → let r : RowImage = record { table = 6; old = old; new = new } in option_map (λ (x : RowImage). x.new) (cond b (Some r) None) ≡ cond b (Some new) None
+one_row : (b : Bool) (old new : ℕ) → let r : RowImage =
+    record { table = 6; old = old; new = new } in option_map (λ (x : RowImage). x.new) (cond b (Some r) None) ≡ cond b (Some new) None
 one_row true old new = refl
 one_row false old new = refl
 
@@ -103,12 +109,15 @@ read_first : Read 1 (codes "rows 06 2" ∷ codes "row 06 1 2" ∷ codes "row 06 
 read_first = with_runs (codes "rows 06 2" ∷ codes "row 06 1 2" ∷ codes "row 06 2 1" ∷ codes "method 1 16 20" ∷ []) (Row 6 2 1 ∷ Row 6 1 2 ∷ Rows 6 2 ∷ []) 1
     (further read_rows_2 method_1 (keeps_method (Row 6 2 1 ∷ Row 6 1 2 ∷ Rows 6 2 ∷ []) (codes "method 1 16 20") 1 16 20 method_1 refl refl))
 
-read_2 : Read 1 (codes "rows 06 2" ∷ codes "row 06 1 2" ∷ codes "row 06 2 1" ∷ codes "method 1 16 20" ∷ codes "run 0 0 4" ∷ codes "run 8 10 8" ∷ codes "method 2 16 20" ∷ codes "run 0 0 4" ∷ codes "run 8 10 8" ∷ [])
+read_2 : Read 1 (codes "rows 06 2" ∷ codes "row 06 1 2" ∷ codes "row 06 2 1" ∷ codes "method 1 16 20" ∷ codes "run 0 0 4" ∷ codes "run 8 10 8"
+    ∷ codes "method 2 16 20" ∷ codes "run 0 0 4" ∷ codes "run 8 10 8" ∷ [])
     (Kept back_run ∷ Kept front_run ∷ Method 2 16 20 ∷ Kept back_run ∷ Kept front_run ∷ Method 1 16 20 ∷ Row 6 2 1 ∷ Row 6 1 2 ∷ Rows 6 2 ∷ [])
-read_2 = with_runs (codes "rows 06 2" ∷ codes "row 06 1 2" ∷ codes "row 06 2 1" ∷ codes "method 1 16 20" ∷ codes "run 0 0 4" ∷ codes "run 8 10 8" ∷ codes "method 2 16 20" ∷ [])
+read_2 = with_runs (codes "rows 06 2" ∷ codes "row 06 1 2" ∷ codes "row 06 2 1" ∷ codes "method 1 16 20" ∷ codes "run 0 0 4" ∷ codes "run 8 10 8"
+    ∷ codes "method 2 16 20" ∷ [])
     (Kept back_run ∷ Kept front_run ∷ Method 1 16 20 ∷ Row 6 2 1 ∷ Row 6 1 2 ∷ Rows 6 2 ∷ []) 2
     (further read_first method_2
-    (keeps_method (Kept back_run ∷ Kept front_run ∷ Method 1 16 20 ∷ Row 6 2 1 ∷ Row 6 1 2 ∷ Rows 6 2 ∷ []) (codes "method 2 16 20") 2 16 20 method_2 refl refl))
+    (keeps_method (Kept back_run ∷ Kept front_run ∷ Method 1 16 20 ∷ Row 6 2 1 ∷ Row 6 1 2 ∷ Rows 6 2 ∷ [])
+    (codes "method 2 16 20") 2 16 20 method_2 refl refl))
 
 -- a number is not both one and two
 apart : (n : ℕ) → nat_eq 1 n ≡ true → nat_eq 2 n ≡ true → ⊥
@@ -116,24 +125,28 @@ apart n a b = grind (arith, nat_tests)
 
 two_rows : (b first second : Bool) → (first ≡ true → second ≡ true → ⊥)
     → let r : RowImage = record { table = 6; old = 1; new = 2 } in let s : RowImage = record { table = 6; old = 2; new = 1 } in
-    option_map (λ (x : RowImage). x.new) (cond (b && first) (Some r) (cond (b && second) (Some s) None)) ≡ cond (b && second) (Some 1) (cond (b && first) (Some 2) None)
+    option_map (λ (x : RowImage). x.new) (cond (b && first) (Some r) (cond (b && second) (Some s) None)) ≡ cond (b && second) (Some 1)
+    (cond (b && first) (Some 2) None)
 two_rows true true true apart = absurd (apart refl refl)
 two_rows true true false apart = refl
 two_rows true false true apart = refl
 two_rows true false false apart = refl
 two_rows false first second apart = refl
 
-two_methods : (first second : Bool) (x y : MethodLine) → (first ≡ true → second ≡ true → ⊥) → cond first (Some x) (cond second (Some y) None) ≡ cond second (Some y) (cond first (Some x) None)
+two_methods : (first second : Bool) (x y : MethodLine) → (first ≡ true → second ≡ true → ⊥)
+    → cond first (Some x) (cond second (Some y) None) ≡ cond second (Some y) (cond first (Some x) None)
 two_methods true true x y apart = absurd (apart refl refl)
 two_methods true false x y apart = refl
 two_methods false true x y apart = refl
 two_methods false false x y apart = refl
 
-holds_2 : HoldsWhat (Kept back_run ∷ Kept front_run ∷ Method 2 16 20 ∷ Kept back_run ∷ Kept front_run ∷ Method 1 16 20 ∷ Row 6 2 1 ∷ Row 6 1 2 ∷ Rows 6 2 ∷ []) (sample_map_of 2)
+holds_2 : HoldsWhat (Kept back_run ∷ Kept front_run ∷ Method 2 16 20 ∷ Kept back_run ∷ Kept front_run ∷ Method 1 16 20 ∷ Row 6 2 1 ∷ Row 6 1 2 ∷ Rows 6 2 ∷ [])
+    (sample_map_of 2)
 holds_2 = record {
   counts = one_count 2;
   rows = λ t o. two_rows (nat_eq 6 t) (nat_eq 1 o) (nat_eq 2 o) (apart o);
-  methods = λ m. two_methods (nat_eq 1 m) (nat_eq 2 m) (record { method = 1; old_size = 16; new_size = 20; runs = front_run ∷ back_run ∷ [] }) (record { method = 2; old_size = 16; new_size = 20; runs = front_run ∷ back_run ∷ [] }) (apart m);
+  methods = λ m. two_methods (nat_eq 1 m) (nat_eq 2 m) (record { method = 1; old_size = 16; new_size = 20; runs = front_run ∷ back_run ∷ [] })
+      (record { method = 2; old_size = 16; new_size = 20; runs = front_run ∷ back_run ∷ [] }) (apart m);
   drops = λ m. refl;
   slotted = λ m. refl;
   slots = λ m o. refl;
@@ -142,7 +155,37 @@ holds_2 = record {
 
 pub sample_texts : SampleTexts
 sample_texts = record {
-  none = record { head = codes "ppdbmap 1"; rest = codes "rows 06 0" ∷ []; version = 1; said = Rows 6 0 ∷ []; lines = refl; begins = head_1; read = read_0; holds_what = holds_0 };
-  one = record { head = codes "ppdbmap 1"; rest = codes "rows 06 1" ∷ codes "row 06 1 1" ∷ codes "method 1 16 20" ∷ codes "run 0 0 4" ∷ codes "run 8 10 8" ∷ []; version = 1; said = Kept back_run ∷ Kept front_run ∷ Method 1 16 20 ∷ Row 6 1 1 ∷ Rows 6 1 ∷ []; lines = refl; begins = head_1; read = read_1; holds_what = holds_1 };
-  two = record { head = codes "ppdbmap 1"; rest = codes "rows 06 2" ∷ codes "row 06 1 2" ∷ codes "row 06 2 1" ∷ codes "method 1 16 20" ∷ codes "run 0 0 4" ∷ codes "run 8 10 8" ∷ codes "method 2 16 20" ∷ codes "run 0 0 4" ∷ codes "run 8 10 8" ∷ []; version = 1; said = Kept back_run ∷ Kept front_run ∷ Method 2 16 20 ∷ Kept back_run ∷ Kept front_run ∷ Method 1 16 20 ∷ Row 6 2 1 ∷ Row 6 1 2 ∷ Rows 6 2 ∷ []; lines = refl; begins = head_1; read = read_2; holds_what = holds_2 };
+  none = record {
+    head = codes "ppdbmap 1";
+    rest = codes "rows 06 0" ∷ [];
+    version = 1;
+    said = Rows 6 0 ∷ [];
+    lines = refl;
+    begins = head_1;
+    read = read_0;
+    holds_what = holds_0;
+  };
+  one = record {
+    head = codes "ppdbmap 1";
+    rest = codes "rows 06 1" ∷ codes "row 06 1 1" ∷ codes "method 1 16 20" ∷ codes "run 0 0 4" ∷ codes "run 8 10 8" ∷ [];
+    version = 1;
+    said = Kept back_run ∷ Kept front_run ∷ Method 1 16 20 ∷ Row 6 1 1 ∷ Rows 6 1 ∷ [];
+    lines = refl;
+    begins = head_1;
+    read = read_1;
+    holds_what = holds_1;
+  };
+  two = record {
+    head = codes "ppdbmap 1";
+    rest = codes "rows 06 2" ∷ codes "row 06 1 2" ∷ codes "row 06 2 1" ∷ codes "method 1 16 20" ∷ codes "run 0 0 4"
+        ∷ codes "run 8 10 8" ∷ codes "method 2 16 20" ∷ codes "run 0 0 4" ∷ codes "run 8 10 8" ∷ [];
+    version = 1;
+    said =
+        Kept back_run ∷ Kept front_run ∷ Method 2 16 20 ∷ Kept back_run ∷ Kept front_run ∷ Method 1 16 20 ∷ Row 6 2 1 ∷ Row 6 1 2 ∷ Rows 6 2 ∷ [];
+    lines =
+        refl;
+    begins = head_1;
+    read = read_2;
+    holds_what = holds_2;
+  };
 }

@@ -1,5 +1,6 @@
 -- Lines that tell something and break no rule.
-use Rattle.std.proofs.Common.{◌≡◌, ℕ, ◌+◌, ◌/◌, ◌%◌, ◌<◌, ◌≤◌, ◌++◌, Bool, true, false, List, [], ◌∷◌, length, Option, Some, None, refl, sym, ap, subst, ◌∙◌, arith, inl, inr}
+use Rattle.std.proofs.Common.{◌≡◌, ℕ, ◌+◌, ◌/◌, ◌%◌, ◌<◌, ◌≤◌, ◌++◌, Bool, true, false, List, [], ◌∷◌, length, Option, Some, None, refl}
+use Rattle.std.proofs.Common.{sym, ap, subst, ◌∙◌, arith, inl, inr}
 use Rattle.std.specs.Prelude.{codes, IsSome, IsTrue}
 use Rattle.std.specs.Fmt.{decimal}
 use Rattle.std.proofs.lemmas.Fmt.{decimal_digit, decimal_step}
@@ -8,7 +9,8 @@ use Rattle.ppdb_maps.specs.Map.{MethodLine}
 use Rattle.ppdb_maps.specs.Words.{IsSilent, line_words}
 use Rattle.ppdb_maps.specs.Forms.{IsNumber, IsTable, ROWS, OFFSETS, Tells, told, rows_line, row_line, method_line, run_line}
 use Rattle.ppdb_maps.specs.Before.{count_in, row_in, method_in, drop_in, methods_of, follows_method}
-use Rattle.ppdb_maps.specs.Rules.{Breaks, Keeps, BeginsEarly, EndsBeyond, second_rows, second_row, row_alone, dropped_row, second_method, dropped_method, run_alone, run_early, run_long}
+use Rattle.ppdb_maps.specs.Rules.{Breaks, Keeps, BeginsEarly, EndsBeyond, second_rows, second_row, row_alone, dropped_row, second_method}
+use Rattle.ppdb_maps.specs.Rules.{dropped_method, run_alone, run_early, run_long}
 use Rattle.ppdb_maps.specs.declared.line.Form.TheVariants.{TableRows, RowMove, MethodSizes, OffsetRun}
 use Rattle.ppdb_maps.specs.declared.line.Line.{Line}
 use Rattle.ppdb_maps.specs.declared.line.Line.TheVariants.{Rows, Row, Method, Kept}
@@ -38,29 +40,34 @@ ten : decimal 10 ≡ codes "10"
 ten = decimal_step 10 (omega arith) (omega arith) ∙ ap (λ ds. ds ++ 48 ∷ []) (decimal_digit 1 (omega arith))
 
 methods_table : IsTable (codes "06") 6
-methods_table = record { high = 0; low = 6; c = 48; d = 54; spelled = refl; digits = (inl (omega arith, refl), inl (omega arith, refl)); is = refl; known = omega arith }
+methods_table =
+    record { high = 0; low = 6; c = 48; d = 54; spelled = refl; digits = (inl (omega arith, refl), inl (omega arith, refl)); is = refl; known = omega arith }
 
 -- ---- what lines tell
 
-pub tells_rows : (text b : List ℕ) (n : ℕ) → line_words text ≡ codes "rows" ∷ codes "06" ∷ b ∷ [] → (IsSilent text → ⊥) → IsNumber b 0 ROWS n → Tells 1 text (Rows 6 n)
+pub tells_rows : (text b : List ℕ) (n : ℕ) → line_words text ≡ codes "rows" ∷ codes "06" ∷ b ∷ [] → (IsSilent text → ⊥) → IsNumber b 0 ROWS n
+    → Tells 1 text (Rows 6 n)
 tells_rows text b n words loud is_number = told loud (record {
   form = TableRows;
   has = record { values = codes "06" ∷ b ∷ []; named = words; counted = ap length words; there = omega arith };
   values = rows_line methods_table is_number;
 })
 
-pub tells_row : (text a b : List ℕ) (o n : ℕ) → line_words text ≡ codes "row" ∷ codes "06" ∷ a ∷ b ∷ [] → (IsSilent text → ⊥) → IsNumber a 1 ROWS o → IsNumber b 1 ROWS n → Tells 1 text (Row 6 o n)
+pub tells_row : (text a b : List ℕ) (o n : ℕ) → line_words text ≡ codes "row" ∷ codes "06" ∷ a ∷ b ∷ [] → (IsSilent text → ⊥) → IsNumber a 1 ROWS o
+    → IsNumber b 1 ROWS n → Tells 1 text (Row 6 o n)
 tells_row text a b o n words loud old new = told loud (record {
   form = RowMove;
   has = record { values = codes "06" ∷ a ∷ b ∷ []; named = words; counted = ap length words; there = omega arith };
   values = row_line methods_table old new;
 })
 
-pub tells_method : (text a : List ℕ) (m : ℕ) → line_words text ≡ codes "method" ∷ a ∷ codes "16" ∷ codes "20" ∷ [] → (IsSilent text → ⊥) → IsNumber a 1 ROWS m → Tells 1 text (Method m 16 20)
+pub tells_method : (text a : List ℕ) (m : ℕ) → line_words text ≡ codes "method" ∷ a ∷ codes "16" ∷ codes "20" ∷ [] → (IsSilent text → ⊥) → IsNumber a 1 ROWS m
+    → Tells 1 text (Method m 16 20)
 tells_method text a m words loud is_number = told loud (record {
   form = MethodSizes;
   has = record { values = a ∷ codes "16" ∷ codes "20" ∷ []; named = words; counted = ap length words; there = omega arith };
-  values = method_line is_number (record { spelled = sym sixteen; from = omega arith; to = omega arith }) (record { spelled = sym twenty; from = omega arith; to = omega arith });
+  values = method_line is_number (record { spelled = sym sixteen; from = omega arith; to = omega arith })
+      (record { spelled = sym twenty; from = omega arith; to = omega arith });
 })
 
 abbrev pub front_run : Run
@@ -73,14 +80,16 @@ pub tells_front : Tells 1 (codes "run 0 0 4") (Kept front_run)
 tells_front = told (λ e. omega (arith, e)) (record {
   form = OffsetRun;
   has = record { values = codes "0" ∷ codes "0" ∷ codes "4" ∷ []; named = refl; counted = refl; there = omega arith };
-  values = run_line (number_of_digit 0 OFFSETS (omega arith) (omega arith)) (number_of_digit 0 OFFSETS (omega arith) (omega arith)) (row_of_digit 4 OFFSETS (omega arith) (omega arith) (omega arith));
+  values = run_line (number_of_digit 0 OFFSETS (omega arith) (omega arith)) (number_of_digit 0 OFFSETS (omega arith) (omega arith))
+      (row_of_digit 4 OFFSETS (omega arith) (omega arith) (omega arith));
 })
 
 pub tells_back : Tells 1 (codes "run 8 10 8") (Kept back_run)
 tells_back = told (λ e. omega (arith, e)) (record {
   form = OffsetRun;
   has = record { values = codes "8" ∷ codes "10" ∷ codes "8" ∷ []; named = refl; counted = refl; there = omega arith };
-  values = run_line (number_of_digit 8 OFFSETS (omega arith) (omega arith)) (record { spelled = sym ten; from = omega arith; to = omega arith }) (row_of_digit 8 OFFSETS (omega arith) (omega arith) (omega arith));
+  values = run_line (number_of_digit 8 OFFSETS (omega arith) (omega arith)) (record { spelled = sym ten; from = omega arith; to = omega arith })
+      (row_of_digit 8 OFFSETS (omega arith) (omega arith) (omega arith));
 })
 
 -- ---- lines that break no rule
@@ -99,7 +108,8 @@ keeps_rows before text t n tells none rule b = of rule (breaks_said 1 before tex
     of : (r : Rule) → Breaks before r (Rows t n) → ⊥
     of r (second_rows some) = not_some (count_in before t) none some
 
-pub keeps_row : (before : List Line) (text : List ℕ) (t o n count : ℕ) → Tells 1 text (Row t o n) → count_in before t ≡ Some count → row_in before t o ≡ None → drop_in before o ≡ false → Keeps 1 before text
+pub keeps_row : (before : List Line) (text : List ℕ) (t o n count : ℕ) → Tells 1 text (Row t o n) → count_in before t ≡ Some count → row_in before t o ≡ None
+    → drop_in before o ≡ false → Keeps 1 before text
 keeps_row before text t o n count tells counted none live rule b = of rule (breaks_said 1 before text (Row t o n) rule tells b)
   where
     of : (r : Rule) → Breaks before r (Row t o n) → ⊥
@@ -107,14 +117,16 @@ keeps_row before text t o n count tells counted none live rule b = of rule (brea
     of r (row_alone alone) = let e : Some count ≡ None = sym counted ∙ alone in cc
     of r (dropped_row is dropped) = not_true (drop_in before o) live dropped
 
-pub keeps_method : (before : List Line) (text : List ℕ) (m o n : ℕ) → Tells 1 text (Method m o n) → method_in before m ≡ None → drop_in before m ≡ false → Keeps 1 before text
+pub keeps_method : (before : List Line) (text : List ℕ) (m o n : ℕ) → Tells 1 text (Method m o n) → method_in before m ≡ None → drop_in before m ≡ false
+    → Keeps 1 before text
 keeps_method before text m o n tells none live rule b = of rule (breaks_said 1 before text (Method m o n) rule tells b)
   where
     of : (r : Rule) → Breaks before r (Method m o n) → ⊥
     of r (second_method some) = not_some (method_in before m) none some
     of r (dropped_method dropped) = not_true (drop_in before m) live dropped
 
-pub keeps_run : (before : List Line) (text : List ℕ) (run : Run) (line : MethodLine) (others : List MethodLine) → Tells 1 text (Kept run) → follows_method before ≡ true → methods_of before ≡ line ∷ others
+pub keeps_run : (before : List Line) (text : List ℕ) (run : Run) (line : MethodLine) (others : List MethodLine) → Tells 1 text (Kept run)
+    → follows_method before ≡ true → methods_of before ≡ line ∷ others
     → (BeginsEarly run line.runs → ⊥) → (EndsBeyond run line → ⊥) → Keeps 1 before text
 keeps_run before text run line others tells follows last late short rule b = of rule (breaks_said 1 before text (Kept run) rule tells b)
   where
@@ -131,7 +143,17 @@ keeps_run before text run line others tells follows last late short rule b = of 
 pub with_runs : (texts : List (List ℕ)) (before : List Line) (m : ℕ) → Read 1 texts (Method m 16 20 ∷ before)
     → Read 1 ((texts ++ codes "run 0 0 4" ∷ []) ++ codes "run 8 10 8" ∷ []) (Kept back_run ∷ Kept front_run ∷ Method m 16 20 ∷ before)
 with_runs texts before m read =
-    further (further read tells_front (keeps_run (Method m 16 20 ∷ before) (codes "run 0 0 4") front_run (record { method = m; old_size = 16; new_size = 20; runs = [] }) (methods_of before) tells_front refl refl
+    further (further read tells_front (keeps_run (Method m 16 20 ∷ before) (codes "run 0 0 4") front_run (record {
+      method = m;
+      old_size = 16;
+      new_size = 20;
+      runs = [];
+    }) (methods_of before) tells_front refl refl
     (λ e. e) (λ e. elim e [ inl h ↦ omega (arith, h) | inr h ↦ omega (arith, h) ])))
-    tells_back (keeps_run (Kept front_run ∷ Method m 16 20 ∷ before) (codes "run 8 10 8") back_run (record { method = m; old_size = 16; new_size = 20; runs = front_run ∷ [] }) (methods_of before) tells_back refl refl
+    tells_back (keeps_run (Kept front_run ∷ Method m 16 20 ∷ before) (codes "run 8 10 8") back_run (record {
+      method = m;
+      old_size = 16;
+      new_size = 20;
+      runs = front_run ∷ [];
+    }) (methods_of before) tells_back refl refl
     (λ e. elim e [ inl h ↦ omega (arith, h) | inr h ↦ omega (arith, h) ]) (λ e. elim e [ inl h ↦ omega (arith, h) | inr h ↦ omega (arith, h) ]))

@@ -27,7 +27,17 @@ pub file_is : (value : FileValue) (rows : OnRows) (documents : List (Noted Docum
     → documents ≡ noted_by (in_lists rows.documents.items) 1 value.documents
     → scopes ≡ noted_scopes_by (in_lists rows.scopes.items) (in_lists rows.variables.items) (in_lists rows.constants.items) 1 1 1 value.scopes
     → imports ≡ noted_by (in_lists rows.imports.items) 1 value.imports → others ≡ rows.others
-    → let file : NotedFile = record { id = value.id; entry = value.entry; rows = value.rows; documents = documents; methods = value.methods; scopes = scopes; imports = imports; machines = value.machines; customs = others } in
+    → let file : NotedFile = record {
+      id = value.id;
+      entry = value.entry;
+      rows = value.rows;
+      documents = documents;
+      methods = value.methods;
+      scopes = scopes;
+      imports = imports;
+      machines = value.machines;
+      customs = others;
+    } in
     file ≡ noted_file value
 file_is value rows documents scopes imports others has d s i o =
     let d2 = d ∙ noted_same (in_lists rows.documents.items) (noted_on value 0x30) 1 value.documents
@@ -40,7 +50,17 @@ file_is value rows documents scopes imports others has d s i o =
     (rows_agree value.customs 0x34 (sum_by (λ (x : ScopeValue). length x.constants) value.scopes) rows.constants.items has.constants_are) in
     let o2 = o ∙ has.others_are in
     ap (λ (t : List (Noted DocumentValue) × List NotedScope × List (Noted ImportScopeValue) × List CustomValue).
-    let file : NotedFile = record { id = value.id; entry = value.entry; rows = value.rows; documents = t.0; methods = value.methods; scopes = t.1; imports = t.2; machines = value.machines; customs = t.3 } in file)
+    let file : NotedFile = record {
+      id = value.id;
+      entry = value.entry;
+      rows = value.rows;
+      documents = t.0;
+      methods = value.methods;
+      scopes = t.1;
+      imports = t.2;
+      machines = value.machines;
+      customs = t.3;
+    } in file)
     (let whole = noted_file value in let e : (documents, scopes, imports, others)
     ≡ (whole.documents, whole.scopes, whole.imports, whole.customs) = cc (d2, s2, i2, o2) in e)
 

@@ -115,7 +115,8 @@ impl OnRows {
 
     /// Puts all records to their rows.
     fn place_all(&mut self, customs: List<CustomValue>) -> Result<(), Memory>
-        ensures { OnOk result ((documents scopes variables constants imports : ℕ) → HasAll [] documents scopes variables constants imports self.old → HasAll customs documents scopes variables constants imports self.new) }
+        ensures { OnOk result ((documents scopes variables constants imports : ℕ) → HasAll [] documents scopes variables constants imports self.old
+            → HasAll customs documents scopes variables constants imports self.new) }
     {
         for custom in customs.into_vec() {
             self.place(custom)?;

@@ -45,13 +45,16 @@ customs_from : (raw : RawTables) (table row n : ℕ) (customs : List CustomRow)
 customs_from raw table row n [] = refl
 customs_from raw table row n (c ∷ cs) =
     let more = customs_from raw table row (n + 1) cs in
-    elim (is_at table row (parent_of c.parent)) as (λ b. cond b (custom_of raw c ∷ filter (λ custom. is_at table row custom.parent) (map (custom_of raw) cs)) (filter (λ custom. is_at table row custom.parent) (map (custom_of raw) cs))
-    ≡ map (λ row. custom_of raw row.1) (cond b ((n, c) ∷ filter (λ custom. is_at table row (parent_of custom.1.parent)) (enumerate_from (n + 1) cs)) (filter (λ custom. is_at table row (parent_of custom.1.parent)) (enumerate_from (n + 1) cs)))) [
+    elim (is_at table row (parent_of c.parent)) as (λ b. cond b (custom_of raw c ∷ filter (λ custom. is_at table row custom.parent) (map (custom_of raw) cs))
+    (filter (λ custom. is_at table row custom.parent) (map (custom_of raw) cs))
+    ≡ map (λ row. custom_of raw row.1) (cond b ((n, c) ∷ filter (λ custom. is_at table row (parent_of custom.1.parent)) (enumerate_from (n + 1) cs))
+    (filter (λ custom. is_at table row (parent_of custom.1.parent)) (enumerate_from (n + 1) cs)))) [
       | true ↦ ap (λ rest. custom_of raw c ∷ rest) more
       | false ↦ more
     ]
 
-pub customs_are : (raw : RawFile) (parent : Parent) → customs_on (value_of raw) parent.table parent.row ≡ map (λ row. custom_of raw.tables row.1) (customs_at raw.tables parent)
+pub customs_are : (raw : RawFile) (parent : Parent) → customs_on (value_of raw) parent.table parent.row ≡ map (λ row. custom_of raw.tables row.1)
+    (customs_at raw.tables parent)
 customs_are raw parent = customs_from raw.tables parent.table parent.row 1 raw.tables.customs
 
 pub scopes_are : (raw : RawFile) (m x : ℕ) → map of_scope (scopes_of_value (value_of raw) m x) ≡ map of_view (scopes_at raw.tables m x)
@@ -75,11 +78,13 @@ abbrev kept : RawTables → List (ℕ × CustomRow) → List (ℕ × CustomRow)
 kept raw rows = filter (λ row. is_some (slots_in (custom_of raw row.1).value)) rows
 
 -- those of other kinds hold nothing
-only_next : (raw : RawTables) (x : ℕ) (row : ℕ × CustomRow) (rows : List (ℕ × CustomRow)) (found : Option (List Slot)) → slots_in (custom_of raw row.1).value ≡ found
+only_next : (raw : RawTables) (x : ℕ) (row : ℕ × CustomRow) (rows : List (ℕ × CustomRow)) (found : Option (List Slot))
+    → slots_in (custom_of raw row.1).value ≡ found
     → hoisted_in raw x rows ≡ hoisted_in raw x (kept raw rows) → hoisted_in raw x (row ∷ rows) ≡ hoisted_in raw x (kept raw (row ∷ rows))
 only_next raw x row rows (Some slots) e more =
     let flag : is_some (slots_in (custom_of raw row.1).value) ≡ true = ap is_some e in
-    ap (λ rest. slots_from x row.0 0 (slots_of raw row.1) ++ rest) more ∙ sym (ap (λ (b : Bool). hoisted_in raw x (cond b (row ∷ kept raw rows) (kept raw rows))) flag)
+    ap (λ rest. slots_from x row.0 0 (slots_of raw row.1) ++ rest) more
+    ∙ sym (ap (λ (b : Bool). hoisted_in raw x (cond b (row ∷ kept raw rows) (kept raw rows))) flag)
 only_next raw x row rows None e more =
     let flag : is_some (slots_in (custom_of raw row.1).value) ≡ false = ap is_some e in
     ap (λ (slots : List Slot). slots_from x row.0 0 slots ++ hoisted_in raw x rows) (ap slots_by e)
@@ -105,7 +110,8 @@ map_cons : {X Y : Type 0} (f : X → Y) (o : Option X) (xs : List X) → cons_op
 map_cons f None xs = refl
 map_cons f (Some x) xs = refl
 
-positions_in : (x position row n : ℕ) (slots : List Slot) → filter_map (slot_at x position) (enumerate_from n slots) ≡ map (at_position position) (slots_from x row n slots)
+positions_in : (x position row n : ℕ) (slots : List Slot) → filter_map (slot_at x position) (enumerate_from n slots) ≡ map (at_position position)
+    (slots_from x row n slots)
 positions_in x position row n [] = refl
 positions_in x position row n (slot ∷ slots) =
     ap (λ o. cons_option o (filter_map (slot_at x position) (enumerate_from (n + 1) slots))) (one_slot x position row n slot)
@@ -120,10 +126,13 @@ abbrev by_position : ℕ → ℕ → List (List Slot) → List SlotMeaning
 by_position x position lists = flat_map (λ hoisted. filter_map (slot_at x hoisted.0) (enumerate_from 0 hoisted.1)) (enumerate_from position lists)
 
 abbrev by_row : RawTables → ℕ → ℕ → List (ℕ × CustomRow) → List SlotMeaning
-by_row raw x position rows = flat_map (λ record_at. map (at_position record_at.0) (slots_from x record_at.1.0 0 (slots_of raw record_at.1.1))) (enumerate_from position rows)
+by_row raw x position rows =
+    flat_map (λ record_at. map (at_position record_at.0) (slots_from x record_at.1.0 0 (slots_of raw record_at.1.1))) (enumerate_from position rows)
 
-position_next : (raw : RawTables) (x position : ℕ) (row : ℕ × CustomRow) (rows : List (ℕ × CustomRow)) (found : Option (List Slot)) → slots_in (custom_of raw row.1).value ≡ found
-    → ((n : ℕ) → by_position x n (lists_in raw rows) ≡ by_row raw x n (kept raw rows)) → by_position x position (lists_in raw (row ∷ rows)) ≡ by_row raw x position (kept raw (row ∷ rows))
+position_next : (raw : RawTables) (x position : ℕ) (row : ℕ × CustomRow) (rows : List (ℕ × CustomRow)) (found : Option (List Slot))
+    → slots_in (custom_of raw row.1).value ≡ found
+    → ((n : ℕ) → by_position x n (lists_in raw rows) ≡ by_row raw x n (kept raw rows))
+    → by_position x position (lists_in raw (row ∷ rows)) ≡ by_row raw x position (kept raw (row ∷ rows))
 position_next raw x position row rows (Some slots) e more =
     let flag : is_some (slots_in (custom_of raw row.1).value) ≡ true = ap is_some e in
     let owned : slots_of raw row.1 ≡ slots = ap slots_by e in
@@ -138,12 +147,15 @@ position_next raw x position row rows None e more =
     ∙ more position
     ∙ sym (ap (λ (b : Bool). by_row raw x position (cond b (row ∷ kept raw rows) (kept raw rows))) flag)
 
-positions_from : (raw : RawTables) (x position : ℕ) (rows : List (ℕ × CustomRow)) → by_position x position (lists_in raw rows) ≡ by_row raw x position (kept raw rows)
+positions_from : (raw : RawTables) (x position : ℕ) (rows : List (ℕ × CustomRow))
+    → by_position x position (lists_in raw rows) ≡ by_row raw x position (kept raw rows)
 positions_from raw x position [] = refl
-positions_from raw x position (row ∷ rows) = position_next raw x position row rows (slots_in (custom_of raw row.1).value) refl (λ n. positions_from raw x n rows)
+positions_from raw x position (row ∷ rows) =
+    position_next raw x position row rows (slots_in (custom_of raw row.1).value) refl (λ n. positions_from raw x n rows)
 
 pub positions_are : (raw : RawFile) (m x : ℕ) → slots_at (value_of raw) m x
-    ≡ flat_map (λ record_at. map (at_position record_at.0) (slots_from x record_at.1.0 0 (slots_of raw.tables record_at.1.1))) (enumerate_from 0 (hoisted_records raw.tables m))
+    ≡ flat_map (λ record_at. map (at_position record_at.0) (slots_from x record_at.1.0 0 (slots_of raw.tables record_at.1.1)))
+    (enumerate_from 0 (hoisted_records raw.tables m))
 positions_are raw m x =
     let on : Parent = record { table = 0x06; row = m } in
     ap (λ customs. by_position x 0 (filter_map (λ custom. slots_in custom.value) customs)) (customs_are raw on)

@@ -29,7 +29,8 @@ pub chain_zero : {X : Type 0} (parent : X → ℕ) (rows : List X) → chain_of 
 chain_zero parent rows = none_for parent rows (length rows)
 
 -- the links that are left at a row that was read
-pub links_next : (raw : RawTables) (row : ℕ) (scope : ImportRow) (left : Left ImportItem) → KeepsImports raw → row ≤ length raw.imports → row_at raw.imports row ≡ Some scope → left ≡ imports_in raw scope
+pub links_next : (raw : RawTables) (row : ℕ) (scope : ImportRow) (left : Left ImportItem) → KeepsImports raw → row ≤ length raw.imports
+    → row_at raw.imports row ≡ Some scope → left ≡ imports_in raw scope
     → links_from raw row ≡ record { row = row; imports = left } ∷ links_from raw scope.parent
 links_next raw row scope left keeps within e same =
     ap (map (link_of raw)) (chain_step (λ scope. scope.parent) raw.imports row scope (keeps.chains_end row within) e)

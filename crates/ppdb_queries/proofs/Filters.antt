@@ -1,5 +1,6 @@
 -- Rows with a key among rows that are sorted by it.
-use Rattle.std.proofs.Common.{◌≡◌, ℕ, zero, suc, ◌+◌, ◌-◌, ◌<◌, ◌≤◌, ◌≢◌, List, [], ◌∷◌, length, map, take, drop, refl, arith, sym, ap, ◌∙◌, slice_index, false, inl, inr, ◌⊎◌}
+use Rattle.std.proofs.Common.{◌≡◌, ℕ, zero, suc, ◌+◌, ◌-◌, ◌<◌, ◌≤◌, ◌≢◌, List, [], ◌∷◌, length, map, take, drop, refl, arith, sym, ap}
+use Rattle.std.proofs.Common.{◌∙◌, slice_index, false, inl, inr, ◌⊎◌}
 use Rattle.std.proofs.lemmas.List.{length-map}
 use Rattle.std.specs.Prelude.{Option, Some, None, slice_get, ◌==◌}
 use Rattle.std.specs.List.{filter, find, enumerate_from}
@@ -32,10 +33,12 @@ filter_from key wanted n [] (suc a) b below mid above ab bn = absurd (omega arit
 filter_from key wanted n (x ∷ xs) zero zero below mid above ab bn =
     let h : wanted < key x = above 0 (omega arith) (omega arith) in
     rw (differs (key x) wanted (λ e. omega (arith, e, h)))
-    (filter_from key wanted (n + 1) xs zero zero (λ i here. absurd (omega arith)) (λ i from to. absurd (omega arith)) (λ i from to. above (suc i) (omega arith) (omega arith)) (omega arith) (omega arith))
+    (filter_from key wanted (n + 1) xs zero zero (λ i here. absurd (omega arith)) (λ i from to. absurd (omega arith))
+    (λ i from to. above (suc i) (omega arith) (omega arith)) (omega arith) (omega arith))
 filter_from key wanted n (x ∷ xs) zero (suc b) below mid above ab bn =
     let h : key x ≡ wanted = mid 0 (omega arith) (omega arith) in
-    let more = filter_from key wanted (n + 1) xs zero b (λ i here. absurd (omega arith)) (λ i from to. mid (suc i) (omega arith) (omega arith)) (λ i from to. above (suc i) (omega arith) (omega arith)) (omega arith) (omega arith) in
+    let more = filter_from key wanted (n + 1) xs zero b (λ i here. absurd (omega arith)) (λ i from to. mid (suc i) (omega arith) (omega arith))
+    (λ i from to. above (suc i) (omega arith) (omega arith)) (omega arith) (omega arith) in
     let e : suc b - 0 ≡ suc b = omega arith in
     let d : b - 0 ≡ b = omega arith in
     rw (e, eq-eqb (key x) wanted h) (ap (λ rest. (n, x) ∷ rest) (rw d at more))
@@ -43,7 +46,8 @@ filter_from key wanted n (x ∷ xs) (suc a) zero below mid above ab bn = absurd 
 filter_from key wanted n (x ∷ xs) (suc a) (suc b) below mid above ab bn =
     let h : key x < wanted = below 0 (omega arith) in
     let e : suc b - suc a ≡ b - a = omega arith in
-    let more = filter_from key wanted (n + 1) xs a b (λ i here. below (suc i) (omega arith)) (λ i from to. mid (suc i) (omega arith) (omega arith)) (λ i from to. above (suc i) (omega arith) (omega arith)) (omega arith) (omega arith) in
+    let more = filter_from key wanted (n + 1) xs a b (λ i here. below (suc i) (omega arith)) (λ i from to. mid (suc i) (omega arith) (omega arith))
+    (λ i from to. above (suc i) (omega arith) (omega arith)) (omega arith) (omega arith) in
     rw (e, differs (key x) wanted (λ e. omega (arith, e, h))) more
 
 pub forward : (keys : List ℕ) (wanted first end : ℕ) → IsFirstNotBelow keys wanted first → IsFirstNotBelow keys (wanted + 1) end → first ≤ end
@@ -51,12 +55,14 @@ forward keys wanted first end f e = elim (le_or_lt first end) [
   | inl h ↦ h
   | inr h ↦
       let low : slice_index keys (end - 1) < wanted = f.below (end - 1) (let from = e.from in omega (arith, from)) in
-      let high : wanted + 1 ≤ slice_index keys (end - 1) = e.above (end - 1) (let from = e.from in omega (arith, from)) (let from = e.from in let to = f.to in omega (arith, from, to)) in
+      let high : wanted + 1 ≤ slice_index keys (end - 1) =
+      e.above (end - 1) (let from = e.from in omega (arith, from)) (let from = e.from in let to = f.to in omega (arith, from, to)) in
       absurd (omega (arith, low, high))
 ]
 
 -- the run that two searches find
-pub run_of : {X : Type 0} (key : X → ℕ) (wanted : ℕ) (rows : List X) (first end : ℕ) → IsFirstNotBelow (map key rows) wanted first → IsFirstNotBelow (map key rows) (wanted + 1) end
+pub run_of : {X : Type 0} (key : X → ℕ) (wanted : ℕ) (rows : List X) (first end : ℕ) → IsFirstNotBelow (map key rows) wanted first
+    → IsFirstNotBelow (map key rows) (wanted + 1) end
     → IsRunOf key wanted rows (record { first = first; end = end })
 run_of key wanted rows first end f e =
     let len = length-map rows key in
@@ -69,7 +75,8 @@ run_of key wanted rows first end f e =
       end = e;
       all = filter_from key wanted 1 rows (first - 1) (end - 1)
           (λ i here. f.below i (omega (arith, from)))
-          (λ i low high. let a = f.above i (omega (arith, from)) (omega (arith, to, begun, len)) in let b = e.below i (omega (arith, begun)) in omega (arith, a, b))
+          (λ i low high. let a = f.above i (omega (arith, from)) (omega (arith, to, begun, len)) in let b = e.below i (omega (arith, begun)) in
+          omega (arith, a, b))
           (λ i low inside. let a = e.above i (omega (arith, begun)) (omega (arith, len)) in omega (arith, a))
           (omega (arith, order, from))
           (omega (arith, to, begun, len));
@@ -121,7 +128,8 @@ kickoff_found machines method row machine rise from to there same =
 -- no machine has the MoveNext
 pub kickoff_none : (machines : List MachineRow) (method first end : ℕ) → end ≤ first
     → ((i : ℕ) → i + 1 < first → slice_index (map (λ machine. machine.move_next) machines) i < method)
-    → ((i : ℕ) → end ≤ i + 1 → i < length (map (λ machine. machine.move_next) machines) → method + 1 ≤ slice_index (map (λ machine. machine.move_next) machines) i)
+    → ((i : ℕ) → end ≤ i + 1 → i < length (map (λ machine. machine.move_next) machines)
+    → method + 1 ≤ slice_index (map (λ machine. machine.move_next) machines) i)
     → None ≡ kickoff_of machines method
 kickoff_none machines method first end met below above =
     let key : MachineRow → ℕ = λ m. m.move_next in

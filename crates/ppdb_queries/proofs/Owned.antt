@@ -27,7 +27,8 @@ use Rattle.ppdb_values.specs.Value.{range_of}
 -- ---- lists in order
 
 -- a later row has no lower list
-rises : (list : ScopeRow → ℕ) (scopes : List ScopeRow) (items a b : ℕ) (x y : ScopeRow) → KeepsLists list scopes items → row_at scopes a ≡ Some x → row_at scopes b ≡ Some y → a ≤ b → list x ≤ list y
+rises : (list : ScopeRow → ℕ) (scopes : List ScopeRow) (items a b : ℕ) (x y : ScopeRow) → KeepsLists list scopes items → row_at scopes a ≡ Some x
+    → row_at scopes b ≡ Some y → a ≤ b → list x ≤ list y
 rises list scopes items a b x y keeps hx hy le =
     let kx = key_at list scopes a x hx in
     let ky = key_at list scopes b y hy in
@@ -38,7 +39,8 @@ rises list scopes items a b x y keeps hx hy le =
     omega (arith, kx, ky, h)
 
 -- a list begins at an item, or right after the last
-begins : (list : ScopeRow → ℕ) (scopes : List ScopeRow) (items n : ℕ) (scope : ScopeRow) → KeepsLists list scopes items → row_at scopes n ≡ Some scope → (1 ≤ list scope) × (list scope ≤ items + 1)
+begins : (list : ScopeRow → ℕ) (scopes : List ScopeRow) (items n : ℕ) (scope : ScopeRow) → KeepsLists list scopes items → row_at scopes n ≡ Some scope
+    → (1 ≤ list scope) × (list scope ≤ items + 1)
 begins list scopes items n scope keeps there =
     let within = row_within scopes n scope there in
     let one = first_of scopes (omega (arith, within)) in
@@ -50,9 +52,11 @@ begins list scopes items n scope keeps there =
     first_of [] h = absurd (omega arith)
     first_of (x ∷ xs) h = (x, refl)
 
-end_by : (list : ScopeRow → ℕ) (scopes : List ScopeRow) (items n : ℕ) (scope : ScopeRow) (next : Option ScopeRow) → KeepsLists list scopes items → row_at scopes n ≡ Some scope → row_at scopes (suc n) ≡ next
+end_by : (list : ScopeRow → ℕ) (scopes : List ScopeRow) (items n : ℕ) (scope : ScopeRow) (next : Option ScopeRow) → KeepsLists list scopes items
+    → row_at scopes n ≡ Some scope → row_at scopes (suc n) ≡ next
     → (list scope ≤ unwrap_or (option_map list next) (items + 1)) × (unwrap_or (option_map list next) (items + 1) ≤ items + 1)
-end_by list scopes items n scope (Some later) keeps there e = (rises list scopes items n (suc n) scope later keeps there e (omega arith), keeps.within (suc n) later e)
+end_by list scopes items n scope (Some later) keeps there e =
+    (rises list scopes items n (suc n) scope later keeps there e (omega arith), keeps.within (suc n) later e)
 end_by list scopes items n scope None keeps there e = let b = begins list scopes items n scope keeps there in (b.1, omega arith)
 
 -- ---- how many items a scope has
@@ -61,7 +65,8 @@ count_range : {Y : Type 0} (ys : List Y) (a b : ℕ) → a ≤ b → b ≤ lengt
 count_range ys a b ab within = simp (length-take, length-drop) (omega arith)
 
 -- with those of the scopes before it, they reach to the end of its list
-owned_many : {X : Type 0} (list : ScopeRow → ℕ) (scopes : List ScopeRow) (items : List X) (n : ℕ) (scope : ScopeRow) → KeepsLists list scopes (length items) → row_at scopes n ≡ Some scope
+owned_many : {X : Type 0} (list : ScopeRow → ℕ) (scopes : List ScopeRow) (items : List X) (n : ℕ) (scope : ScopeRow) → KeepsLists list scopes (length items)
+    → row_at scopes n ≡ Some scope
     → length (owned_by list scopes n items) + list scope ≡ list_end list scopes n (length items)
 owned_many list scopes items n scope keeps there =
     let from = begins list scopes (length items) n scope keeps there in
@@ -78,7 +83,8 @@ take_next [] k x e = cc
 take_next (y ∷ ys) zero x e = let same : y ≡ x = cc in ap (λ z. z ∷ []) same
 take_next (y ∷ ys) (suc k) x e = ap (λ rest. y ∷ rest) (take_next ys k x e)
 
-get_made : {X Y : Type 0} (f : ℕ × X → Y) (n : ℕ) (rows : List X) (i : ℕ) (x : X) → slice_get rows i ≡ Some x → slice_get (map f (enumerate_from n rows)) i ≡ Some (f (n + i, x))
+get_made : {X Y : Type 0} (f : ℕ × X → Y) (n : ℕ) (rows : List X) (i : ℕ) (x : X) → slice_get rows i ≡ Some x
+    → slice_get (map f (enumerate_from n rows)) i ≡ Some (f (n + i, x))
 get_made f n [] i x e = cc
 get_made f n (y ∷ ys) zero x e = let k : n ≡ n + 0 = omega arith in let same : y ≡ x = cc in rw same (ap (λ m. Some (f (m, x))) k)
 get_made f n (y ∷ ys) (suc i) x e = let k : n + 1 + i ≡ n + suc i = omega arith in get_made f (n + 1) ys i x e ∙ ap (λ m. Some (f (m, x))) k
@@ -105,7 +111,8 @@ counted raw count list items keeps many (suc k) scope there =
     omega (arith, so_far, one, end, taken, added)
 
 first_is : (raw : RawFile) (count : ScopeValue → ℕ) (list : ScopeRow → ℕ) (items : ℕ) → KeepsLists list raw.tables.scopes items
-    → ((n : ℕ) (scope : ScopeRow) → row_at raw.tables.scopes n ≡ Some scope → count (scope_of raw.tables (n, scope)) + list scope ≡ list_end list raw.tables.scopes n items)
+    → ((n : ℕ) (scope : ScopeRow) → row_at raw.tables.scopes n ≡ Some scope
+    → count (scope_of raw.tables (n, scope)) + list scope ≡ list_end list raw.tables.scopes n items)
     → (n : ℕ) (scope : ScopeRow) → row_at raw.tables.scopes n ≡ Some scope → first_item count (value_of raw) n ≡ list scope
 first_is raw count list items keeps many zero scope there = cc
 first_is raw count list items keeps many (suc k) scope there =
@@ -114,7 +121,8 @@ first_is raw count list items keeps many (suc k) scope there =
 
 -- rows that follow one another have numbers that do
 numbers_on : {X Y : Type 0} (f : X → Y) (n a k : ℕ) (items : List X)
-    → map (λ item. (item.0, f item.1)) (take k (drop a (enumerate_from n items))) ≡ enumerate_from (n + a) (map (λ item. f item.1) (take k (drop a (enumerate_from n items))))
+    → map (λ item. (item.0, f item.1)) (take k (drop a (enumerate_from n items))) ≡ enumerate_from (n + a)
+    (map (λ item. f item.1) (take k (drop a (enumerate_from n items))))
 numbers_on f n zero zero items = refl
 numbers_on f n zero (suc k) [] = refl
 numbers_on f n zero (suc k) (x ∷ xs) =
@@ -125,7 +133,8 @@ numbers_on f n (suc a) zero [] = refl
 numbers_on f n (suc a) (suc k) [] = refl
 numbers_on f n (suc a) k (x ∷ xs) = let e : n + 1 + a ≡ n + suc a = omega arith in rw e at (numbers_on f (n + 1) a k xs)
 
-list_numbers : {X Y : Type 0} (f : X → Y) (list : ScopeRow → ℕ) (scopes : List ScopeRow) (items : List X) (n first : ℕ) (scope : ScopeRow) → KeepsLists list scopes (length items) → row_at scopes n ≡ Some scope
+list_numbers : {X Y : Type 0} (f : X → Y) (list : ScopeRow → ℕ) (scopes : List ScopeRow) (items : List X) (n first : ℕ) (scope : ScopeRow)
+    → KeepsLists list scopes (length items) → row_at scopes n ≡ Some scope
     → first ≡ list scope
     → map (λ item. (item.0, f item.1)) (list_of list scopes n scope items) ≡ enumerate_from first (map (λ item. f item.1) (owned_by list scopes n items))
 list_numbers {X} f list scopes items n first scope keeps there is =
@@ -141,30 +150,35 @@ lists_are raw keeps = record {
       let lists = keeps.variables.lists in
       list_numbers (variable_of raw.tables) (λ s. s.variables) raw.tables.scopes raw.tables.variables n _ scope lists there
       (first_is raw (λ s. length s.variables) (λ s. s.variables) (length raw.tables.variables) lists
-      (λ m other here. ap (λ (k : ℕ). k + other.variables) (length-map (owned_by (λ s. s.variables) raw.tables.scopes m raw.tables.variables) (λ item. variable_of raw.tables item.1))
+      (λ m other here. ap (λ (k : ℕ). k + other.variables) (length-map (owned_by (λ s. s.variables) raw.tables.scopes m raw.tables.variables)
+      (λ item. variable_of raw.tables item.1))
       ∙ owned_many (λ s. s.variables) raw.tables.scopes raw.tables.variables m other lists here)
       n scope there);
   constants = λ n scope there.
       let lists = keeps.constants.lists in
       list_numbers (constant_of raw.tables) (λ s. s.constants) raw.tables.scopes raw.tables.constants n _ scope lists there
       (first_is raw (λ s. length s.constants) (λ s. s.constants) (length raw.tables.constants) lists
-      (λ m other here. ap (λ (k : ℕ). k + other.constants) (length-map (owned_by (λ s. s.constants) raw.tables.scopes m raw.tables.constants) (λ item. constant_of raw.tables item.1))
+      (λ m other here. ap (λ (k : ℕ). k + other.constants) (length-map (owned_by (λ s. s.constants) raw.tables.scopes m raw.tables.constants)
+      (λ item. constant_of raw.tables item.1))
       ∙ owned_many (λ s. s.constants) raw.tables.scopes raw.tables.constants m other lists here)
       n scope there);
 }
 
 -- ---- rows that are there
 
-view_there : (raw : RawFile) → KeepsRules raw → (n : ℕ) (scope : ScopeRow) → row_at raw.tables.scopes n ≡ Some scope → ViewIsThere raw.tables (scope_view raw.tables (n, scope))
+view_there : (raw : RawFile) → KeepsRules raw → (n : ℕ) (scope : ScopeRow) → row_at raw.tables.scopes n ≡ Some scope
+    → ViewIsThere raw.tables (scope_view raw.tables (n, scope))
 view_there raw keeps n scope there =
     let within = row_within raw.tables.scopes n scope there in
     let scopes = keeps.shape.scopes in
     let variables = keeps.shape.variables in
     let constants = keeps.shape.constants in
     let v = begins (λ s. s.variables) raw.tables.scopes (length raw.tables.variables) n scope keeps.variables.lists there in
-    let w = end_by (λ s. s.variables) raw.tables.scopes (length raw.tables.variables) n scope (row_at raw.tables.scopes (suc n)) keeps.variables.lists there refl in
+    let w =
+    end_by (λ s. s.variables) raw.tables.scopes (length raw.tables.variables) n scope (row_at raw.tables.scopes (suc n)) keeps.variables.lists there refl in
     let c = begins (λ s. s.constants) raw.tables.scopes (length raw.tables.constants) n scope keeps.constants.lists there in
-    let d = end_by (λ s. s.constants) raw.tables.scopes (length raw.tables.constants) n scope (row_at raw.tables.scopes (suc n)) keeps.constants.lists there refl in
+    let d =
+    end_by (λ s. s.constants) raw.tables.scopes (length raw.tables.constants) n scope (row_at raw.tables.scopes (suc n)) keeps.constants.lists there refl in
     record {
       row = (within.0, omega (arith, within, scopes));
       import = (keeps.scopes.each n scope there).import;
@@ -172,7 +186,8 @@ view_there raw keeps n scope there =
       constants = (c.0, d.0, omega (arith, d, constants));
     }
 
-all_numbered : {X : Type 0} (P : ℕ × X → Type 0) (n : ℕ) (rows : List X) → ((i : ℕ) (x : X) → slice_get rows i ≡ Some x → P (n + i, x)) → All P (enumerate_from n rows)
+all_numbered : {X : Type 0} (P : ℕ × X → Type 0) (n : ℕ) (rows : List X) → ((i : ℕ) (x : X) → slice_get rows i ≡ Some x → P (n + i, x))
+    → All P (enumerate_from n rows)
 all_numbered P n [] each = All-nil P
 all_numbered {X} P n (x ∷ xs) each =
     All-cons P (n, x) (enumerate_from (n + 1) xs)
@@ -182,6 +197,8 @@ all_numbered {X} P n (x ∷ xs) each =
 pub views_there : (raw : RawFile) (m x : ℕ) → KeepsRules raw → All (ViewIsThere raw.tables) (scopes_at raw.tables m x)
 views_there raw m x keeps =
     let P : ℕ × ScopeRow → Type 0 = λ scope. ViewIsThere raw.tables (scope_view raw.tables scope) in
-    All-map (ViewIsThere raw.tables) (scope_view raw.tables) (filter (λ scope. (scope.1.method == m) && holds (range_of scope.1) x) (numbered raw.tables.scopes))
+    All-map (ViewIsThere raw.tables) (scope_view raw.tables) (filter (λ scope. (scope.1.method == m) && holds (range_of scope.1) x)
+    (numbered raw.tables.scopes))
     (All-filter (λ scope. (scope.1.method == m) && holds (range_of scope.1) x) P (numbered raw.tables.scopes)
-    (all_numbered P 1 raw.tables.scopes (λ i scope there. view_there raw keeps (1 + i) scope (let e : suc i ≡ 1 + i = omega arith in subst (λ (n : ℕ). row_at raw.tables.scopes n ≡ Some scope) e there))))
+    (all_numbered P 1 raw.tables.scopes (λ i scope there. view_there raw keeps (1 + i) scope (let e : suc i ≡ 1 + i = omega arith in
+    subst (λ (n : ℕ). row_at raw.tables.scopes n ≡ Some scope) e there))))

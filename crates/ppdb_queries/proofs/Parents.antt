@@ -39,7 +39,8 @@ codes : (laws : CodesAreParents) (wanted : Parent) (coded : ℕ) → parent_in c
 codes laws wanted coded e = subst (λ (o : Option Parent). IfSome o (λ parent. coded_in parent ≡ Some coded)) e (laws.parent coded)
 
 row_in : (n : ℕ) (o : Option ℕ) (parent : Parent) → option_map (λ table. record { table = table; row = n }) o ≡ Some parent → parent.row ≡ n
-row_in n (Some table) parent e = let there : Parent = record { table = table; row = n } in let same : there ≡ parent = cc in sym (ap (λ (p : Parent). p.row) same)
+row_in n (Some table) parent e =
+    let there : Parent = record { table = table; row = n } in let same : there ≡ parent = cc in sym (ap (λ (p : Parent). p.row) same)
 row_in n None parent e = cc
 
 -- the code of a row that is there has a form

@@ -25,11 +25,13 @@ last_all P None [] x h all is = cc
 last_all P found (y ∷ ys) x h all is = last_all P (Some y) ys x (all 0 y (omega arith)) (λ k d inside. all (suc k) d (omega arith)) is
 
 -- the last point names a document that is there
-pub last_there : (raw : RawTables) (items : List Point) (x : ℕ) (point : Point) → All (λ p. HasRow raw 0x30 p.document) items → last_point items x ≡ Some point → HasRow raw 0x30 point.document
+pub last_there : (raw : RawTables) (items : List Point) (x : ℕ) (point : Point) → All (λ p. HasRow raw 0x30 p.document) items → last_point items x ≡ Some point
+    → HasRow raw 0x30 point.document
 last_there raw items x point all is =
     let P : Point → Type 0 = λ p. HasRow raw 0x30 p.document in
     last_all P None (filter (λ p. nat_le p.offset x) items) point tt (All-filter (λ p. nat_le p.offset x) P items all) is
 
-pub last_is : (raw : RawFile) (m x : ℕ) (items : List Point) (found answer : Option Point) → items ≡ points_of (value_of raw) m → found ≡ last_point items x → found ≡ answer
+pub last_is : (raw : RawFile) (m x : ℕ) (items : List Point) (found answer : Option Point) → items ≡ points_of (value_of raw) m → found ≡ last_point items x
+    → found ≡ answer
     → last_point (points_of (value_of raw) m) x ≡ answer
 last_is raw m x items found answer same is e = ap (λ (points : List Point). last_point points x) (sym same) ∙ sym is ∙ e

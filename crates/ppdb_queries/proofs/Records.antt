@@ -57,13 +57,15 @@ slots_none raw row found there other =
     (not_hoisted (kind_in raw row) (ap (λ (g : List ℕ). bytes_eq g hoisted_guid) (sym there) ∙ other))
 
 -- a record with the GUID of hoisted locals is of their kind
-pub hoisted_kind : (raw : RawTables) (row : CustomRow) (found : List ℕ) → found ≡ kind_in raw row → bytes_eq found hoisted_guid ≡ true → kind_of [] (kind_in raw row) ≡ Hoisted
+pub hoisted_kind : (raw : RawTables) (row : CustomRow) (found : List ℕ) → found ≡ kind_in raw row → bytes_eq found hoisted_guid ≡ true
+    → kind_of [] (kind_in raw row) ≡ Hoisted
 hoisted_kind raw row found there same = is_hoisted (kind_in raw row) (ap (λ (g : List ℕ). bytes_eq g hoisted_guid) (sym there) ∙ same)
 
 -- a record of hoisted locals has the slots of its blob
 pub slots_are : (raw : RawTables) (row : CustomRow) (found : List ℕ) → found ≡ kind_in raw row → bytes_eq found hoisted_guid ≡ true
     → slots_of raw row ≡ records_of hoisted_scopes (blob raw row.value)
-slots_are raw row found there same = ap (λ (kind : Kind). slots_by (slots_in (custom_body raw kind (blob raw row.value)))) (hoisted_kind raw row found there same)
+slots_are raw row found there same =
+    ap (λ (kind : Kind). slots_by (slots_in (custom_body raw kind (blob raw row.value)))) (hoisted_kind raw row found there same)
 
 -- no bytes are no slots
 pub nothing_whole : IsWhole hoisted_scopes []

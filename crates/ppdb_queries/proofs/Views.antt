@@ -1,5 +1,6 @@
 -- Runs of rows, one row after the other.
-use Rattle.std.proofs.Common.{◌≡◌, ℕ, zero, suc, ◌+◌, ◌-◌, ◌<◌, List, [], ◌∷◌, length, map, take, drop, refl, arith, sym, ap, ◌∙◌, slice_range, Bool, true, false, cond}
+use Rattle.std.proofs.Common.{◌≡◌, ℕ, zero, suc, ◌+◌, ◌-◌, ◌<◌, List, [], ◌∷◌, length, map, take, drop, refl, arith, sym, ap, ◌∙◌}
+use Rattle.std.proofs.Common.{slice_range, Bool, true, false, cond}
 use Rattle.std.specs.Prelude.{Some, slice_get, ◌&&◌, ◌==◌}
 use Rattle.std.specs.List.{filter, enumerate_from}
 use Rattle.std.proofs.lemmas.List.{length-take, length-drop, length-map}
@@ -14,7 +15,8 @@ use Rattle.ppdb_queries.specs.Scopes.{scope_view, scopes_at, scopes_of, views_be
 use Rattle.ppdb_queries.proofs.Filters.{forward}
 
 -- the first of a range, and the rest
-range_step : {Y : Type 0} (ys : List Y) (a b : ℕ) (y : Y) → slice_get ys a ≡ Some y → a < b → take (b - a) (drop a ys) ≡ y ∷ take (b - (a + 1)) (drop (a + 1) ys)
+range_step : {Y : Type 0} (ys : List Y) (a b : ℕ) (y : Y) → slice_get ys a ≡ Some y → a < b → take (b - a) (drop a ys) ≡ y ∷ take (b - (a + 1))
+    (drop (a + 1) ys)
 range_step [] a b y e h = cc
 range_step (z ∷ zs) zero zero y e h = absurd (omega arith)
 range_step (z ∷ zs) zero (suc b) y e h =
@@ -54,19 +56,22 @@ view_passed raw x row end scope e h held = rw (run_step raw.scopes row end scope
 
 filter_both : {Y : Type 0} (p q : Y → Bool) (ys : List Y) → filter q (filter p ys) ≡ filter (λ y. p y && q y) ys
 filter_both p q [] = refl
-filter_both p q (y ∷ ys) = elim (p y) as (λ b. filter q (cond b (y ∷ filter p ys) (filter p ys)) ≡ cond (b && q y) (y ∷ filter (λ y. p y && q y) ys) (filter (λ y. p y && q y) ys)) [
-  | true ↦ ap (λ rest. cond (q y) (y ∷ rest) rest) (filter_both p q ys)
-  | false ↦ filter_both p q ys
-]
+filter_both p q (y ∷ ys) =
+    elim (p y) as (λ b. filter q (cond b (y ∷ filter p ys) (filter p ys)) ≡ cond (b && q y) (y ∷ filter (λ y. p y && q y) ys) (filter (λ y. p y && q y) ys)) [
+      | true ↦ ap (λ rest. cond (q y) (y ∷ rest) rest) (filter_both p q ys)
+      | false ↦ filter_both p q ys
+    ]
 
 -- the scopes of the method's run that hold the offset are those of the table
-pub all_views : (raw : RawTables) (m x : ℕ) (run : Run) → IsRunOf (λ scope. scope.method) m raw.scopes run → views_between raw x run.first run.end ≡ scopes_at raw m x
+pub all_views : (raw : RawTables) (m x : ℕ) (run : Run) → IsRunOf (λ scope. scope.method) m raw.scopes run
+    → views_between raw x run.first run.end ≡ scopes_at raw m x
 all_views raw m x run is =
     ap (λ (rows : List (ℕ × ScopeRow)). map (scope_view raw) (filter (λ scope. holds (range_of scope.1) x) rows)) is.all
     ∙ ap (map (scope_view raw)) (filter_both (λ scope. scope.1.method == m) (λ scope. holds (range_of scope.1) x) (numbered raw.scopes))
 
 -- how many rows a run has
-pub rows_many : {X : Type 0} (key : X → ℕ) (wanted : ℕ) (rows : List X) (run : Run) → IsRunOf key wanted rows run → run.end - run.first ≡ length (rows_in run rows)
+pub rows_many : {X : Type 0} (key : X → ℕ) (wanted : ℕ) (rows : List X) (run : Run) → IsRunOf key wanted rows run
+    → run.end - run.first ≡ length (rows_in run rows)
 rows_many key wanted rows run is =
     let from = is.first.from in
     let to = is.end.to in

@@ -50,4 +50,5 @@ hoisted_at raw m x = hoisted_in raw x (records_on raw m)
 
 -- what a cursor has left: the rest of the record that it is in, and the records from a row up to another
 abbrev pub hoisted_left : RawTables → ℕ → List Hoisted → ℕ → ℕ → Walk Hoisted
-hoisted_left raw x current first end = record { items = current ++ hoisted_in raw x (slice_range (numbered raw.customs) (first - 1) (end - 1)); rows = end - first }
+hoisted_left raw x current first end =
+    record { items = current ++ hoisted_in raw x (slice_range (numbered raw.customs) (first - 1) (end - 1)); rows = end - first }

@@ -54,7 +54,8 @@ pub record RowsAreValues : Type 0 where
   -- a document is that of its row
   pub document : (raw : RawFile) (n : ℕ) → row_at (value_of raw).documents n ≡ option_map (document_of raw.tables) (row_at raw.tables.documents n)
   -- the custom records on a row are those whose rows name it
-  pub customs : (raw : RawFile) (parent : Parent) → customs_on (value_of raw) parent.table parent.row ≡ map (λ row. custom_of raw.tables row.1) (customs_at raw.tables parent)
+  pub customs : (raw : RawFile) (parent : Parent) → customs_on (value_of raw) parent.table parent.row ≡ map (λ row. custom_of raw.tables row.1)
+      (customs_at raw.tables parent)
   -- the scopes that hold an offset are the same, in the same order
   pub scopes : (raw : RawFile) (m x : ℕ) → map of_scope (scopes_of_value (value_of raw) m x) ≡ map of_view (scopes_at raw.tables m x)
   -- the import scopes of a chain are the same, and what they import
@@ -62,7 +63,8 @@ pub record RowsAreValues : Type 0 where
   -- the hoisted locals that hold an offset are the same, a record's row standing for its position among those of the method
   pub hoisted : (raw : RawFile) (m x : ℕ) → hoisted_at raw.tables m x ≡ hoisted_in raw.tables x (hoisted_records raw.tables m)
   pub positions : (raw : RawFile) (m x : ℕ) → slots_at (value_of raw) m x
-      ≡ flat_map (λ record_at. map (at_position record_at.0) (slots_from x record_at.1.0 0 (slots_of raw.tables record_at.1.1))) (enumerate_from 0 (hoisted_records raw.tables m))
+      ≡ flat_map (λ record_at. map (at_position record_at.0) (slots_from x record_at.1.0 0 (slots_of raw.tables record_at.1.1)))
+      (enumerate_from 0 (hoisted_records raw.tables m))
 
 -- In a valid file the rows of a scope's variables and constants are what the scope has in the value, under the numbers that they
 -- have there.

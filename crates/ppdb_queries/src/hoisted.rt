@@ -119,7 +119,8 @@ fn record_slots<'a, L: Ledger>(
     steps: &mut Steps<L>,
 ) -> RecordSlots<'a>
     requires { HasRow (raw_of (tables_of file.now)) 0x37 row }
-    ensures slots { (cells : CustomRow) → row_at (raw_of (tables_of file.now)).customs row ≡ Some cells → result ≡ slots_from offset row 0 (slots_of (raw_of (tables_of file.now)) cells) }
+    ensures slots { (cells : CustomRow) → row_at (raw_of (tables_of file.now)).customs row ≡ Some cells
+        → result ≡ slots_from offset row 0 (slots_of (raw_of (tables_of file.now)) cells) }
     ensures step { steps.new ≡ steps.old + 1 }
 {
     let cells = custom(file, row, steps);

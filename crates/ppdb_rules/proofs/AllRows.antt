@@ -57,7 +57,8 @@ module _ (raw : RawTables) (shape : HasShape raw) where
       → (table ≡ 0x30) ⊎ ((table ≡ 0x31) ⊎ ((table ≡ 0x32) ⊎ ((table ≡ 0x33) ⊎ ((table ≡ 0x34) ⊎ ((table ≡ 0x35) ⊎ ((table ≡ 0x36) ⊎ (table ≡ 0x37)))))))
   one_of table from to = grind arith
 
-  past_of : (table : ℕ) → (table ≡ 0x30) ⊎ ((table ≡ 0x31) ⊎ ((table ≡ 0x32) ⊎ ((table ≡ 0x33) ⊎ ((table ≡ 0x34) ⊎ ((table ≡ 0x35) ⊎ ((table ≡ 0x36) ⊎ (table ≡ 0x37)))))))
+  past_of : (table : ℕ) → (table ≡ 0x30) ⊎ ((table ≡ 0x31)
+      ⊎ ((table ≡ 0x32) ⊎ ((table ≡ 0x33) ⊎ ((table ≡ 0x34) ⊎ ((table ≡ 0x35) ⊎ ((table ≡ 0x36) ⊎ (table ≡ 0x37)))))))
       → IsPast table
   past_of table (inl e) = subst IsPast (sym e) (past_documents raw (count raw 0x30 + 1) (omega (arith, shape.documents)))
   past_of table (inr (inl e)) = subst IsPast (sym e) (past_methods raw (count raw 0x31 + 1) (omega (arith, shape.methods)))

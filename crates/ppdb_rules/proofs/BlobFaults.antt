@@ -65,7 +65,8 @@ pub one_bad_value : {raw : RawTables} {custom : CustomRow} {a b : BlobFault} →
 one_bad_value {raw} {custom} {a} {b} h k =
     let same : k.content ≡ h.content = cc (h.there, k.there) in
     let kinds : k.kind ≡ h.kind = one_kind raw.guids custom.kind k.kind h.kind k.of_kind h.of_kind in
-    let e : Some b ≡ Some a = one_value raw h.kind h.content (Some b) (Some a) (subst (λ (n : Kind). ReadsValue raw n h.content (Some b)) kinds (subst (λ (c : List ℕ). ReadsValue raw k.kind c (Some b)) same k.reads)) h.reads in
+    let e : Some b ≡ Some a = one_value raw h.kind h.content (Some b) (Some a)
+    (subst (λ (n : Kind). ReadsValue raw n h.content (Some b)) kinds (subst (λ (c : List ℕ). ReadsValue raw k.kind c (Some b)) same k.reads)) h.reads in
     equal_faults a b cc
 
 pub no_bad_value : {raw : RawTables} {custom : CustomRow} (kind : Kind) (content : List ℕ) → IsOfKind raw.guids custom.kind kind
@@ -73,7 +74,8 @@ pub no_bad_value : {raw : RawTables} {custom : CustomRow} (kind : Kind) (content
 no_bad_value {raw} {custom} kind content of there whole fault h =
     let same : h.content ≡ content = cc (h.there, there) in
     let kinds : h.kind ≡ kind = one_kind raw.guids custom.kind h.kind kind h.of_kind of in
-    let e : None ≡ Some fault = one_value raw kind content None (Some fault) whole (subst (λ (n : Kind). ReadsValue raw n content (Some fault)) kinds (subst (λ (c : List ℕ). ReadsValue raw h.kind c (Some fault)) same h.reads)) in
+    let e : None ≡ Some fault = one_value raw kind content None (Some fault) whole (subst (λ (n : Kind). ReadsValue raw n content (Some fault)) kinds
+    (subst (λ (c : List ℕ). ReadsValue raw h.kind c (Some fault)) same h.reads)) in
     cc
 
 pub value_not_there : {raw : RawTables} {custom : CustomRow} {fault : BlobFault} → HasBadValue raw custom fault → blob_at raw.blobs custom.value ≡ None → ⊥

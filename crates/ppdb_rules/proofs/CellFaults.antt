@@ -25,7 +25,8 @@ none_earlier rows h = let w = row_within rows h.before h.earlier h.there in let 
 -- the rows before the next one are those before this one, and this one
 module _ {X : Type 0} (Forbidden : ℕ → X → Type 0) (rows : List X) (row : ℕ) where
   pub earlier_on : HasEarlier Forbidden rows row → HasEarlier Forbidden rows (row + 1)
-  earlier_on h = record { before = h.before; earlier = h.earlier; there = h.there; sooner = let s : h.before < row = h.sooner in omega arith; forbidden = h.forbidden }
+  earlier_on h =
+      record { before = h.before; earlier = h.earlier; there = h.there; sooner = let s : h.before < row = h.sooner in omega arith; forbidden = h.forbidden }
 
   pub earlier_here : (x : X) → row_at rows row ≡ Some x → Forbidden row x → HasEarlier Forbidden rows (row + 1)
   earlier_here x there w = record { before = row; earlier = x; there = there; sooner = omega arith; forbidden = w }
@@ -41,77 +42,78 @@ module _ {X : Type 0} (Forbidden : ℕ → X → Type 0) (rows : List X) (row : 
   ]
 
 module _ {X : Type 0} (raw : RawTables) (table : ℕ) (rows : List X) (At : ℕ → X → ℕ → ℕ → Code → Type 0)
-    (inside : (code : Code) (at : Place) → BadRow raw code at → at.table ≡ table → (x : X) × (row_at rows at.row ≡ Some x) × At at.row x at.column at.byte code) where
-  -- a fault of a cell is one of its row
-  in_row : (code : Code) (at : Place) (row : ℕ) (x : X) → BadRow raw code at → row_at rows row ≡ Some x → at.table ≡ table → at.row ≡ row
-      → At row x at.column at.byte code
-  in_row code at row x bad there t r =
-      let i = inside code at bad t in
-      let e : row_at rows row ≡ Some i.0 = subst (λ (n : ℕ). row_at rows n ≡ Some i.0) r i.1 in
-      subst (λ (n : ℕ). At n x at.column at.byte code) r (subst (λ (y : X). At at.row y at.column at.byte code) (same_row rows row i.0 x e there) i.2)
+    (inside : (code : Code) (at : Place) → BadRow raw code at → at.table ≡ table → (x : X) × (row_at rows at.row ≡ Some x) × At at.row x at.column at.byte code)
+  where
+    -- a fault of a cell is one of its row
+    in_row : (code : Code) (at : Place) (row : ℕ) (x : X) → BadRow raw code at → row_at rows row ≡ Some x → at.table ≡ table → at.row ≡ row
+        → At row x at.column at.byte code
+    in_row code at row x bad there t r =
+        let i = inside code at bad t in
+        let e : row_at rows row ≡ Some i.0 = subst (λ (n : ℕ). row_at rows n ≡ Some i.0) r i.1 in
+        subst (λ (n : ℕ). At n x at.column at.byte code) r (subst (λ (y : X). At at.row y at.column at.byte code) (same_row rows row i.0 x e there) i.2)
 
-  -- a cell without faults is passed
-  pub next_cell : (row column : ℕ) (x : X) → row_at rows row ≡ Some x → ToCell raw table row column
-      → ((byte : ℕ) (code : Code) → At row x column byte code → ⊥) → ToCell raw table row (suc column)
-  next_cell row column x there judged none = next_column (BadRow raw) 5 table row column judged
-      (λ code at bad p t r c. none at.byte code (subst (λ (n : ℕ). At row x n at.byte code) c (in_row code at row x bad there t r)))
+    -- a cell without faults is passed
+    pub next_cell : (row column : ℕ) (x : X) → row_at rows row ≡ Some x → ToCell raw table row column
+        → ((byte : ℕ) (code : Code) → At row x column byte code → ⊥) → ToCell raw table row (suc column)
+    next_cell row column x there judged none = next_column (BadRow raw) 5 table row column judged
+        (λ code at bad p t r c. none at.byte code (subst (λ (n : ℕ). At row x n at.byte code) c (in_row code at row x bad there t r)))
 
-  -- the last cells of a row without faults are passed
-  pub past_row : (row column : ℕ) (x : X) → row_at rows row ≡ Some x → ToCell raw table row column
-      → ((c byte : ℕ) (code : Code) → At row x c byte code → c < column) → ToRow raw table (row + 1)
-  past_row row column x there judged narrow = rw add-one (next_row (BadRow raw) 5 table row column judged
-      (λ code at bad p t r c. let below : at.column < column = narrow at.column at.byte code (in_row code at row x bad there t r) in omega (arith, c, below)))
+    -- the last cells of a row without faults are passed
+    pub past_row : (row column : ℕ) (x : X) → row_at rows row ≡ Some x → ToCell raw table row column
+        → ((c byte : ℕ) (code : Code) → At row x c byte code → c < column) → ToRow raw table (row + 1)
+    past_row row column x there judged narrow = rw add-one (next_row (BadRow raw) 5 table row column judged
+        (λ code at bad p t r c. let below : at.column < column = narrow at.column at.byte code (in_row code at row x bad there t r) in omega (arith, c, below)))
 
-  -- there is no row 0
-  pub first_row : ToTable raw table → ToRow raw table 1
-  first_row judged = λ code at bad before. elim (before_row code at before) [
-    | inl early ↦ judged code at bad early
-    | inr here ↦ let i = inside code at bad here.0 in let w = row_within rows at.row i.0 i.1 in omega (arith, w.0, here.1)
-  ]
-    where
-      before_row : (code : Code) (at : Place) → ComesBefore (numbers code at) (5 ∷ table ∷ 1 ∷ [])
-          → ComesBefore (numbers code at) (5 ∷ table ∷ []) ⊎ ((at.table ≡ table) × (at.row < 1))
-      before_row code at h = grind arith
+    -- there is no row 0
+    pub first_row : ToTable raw table → ToRow raw table 1
+    first_row judged = λ code at bad before. elim (before_row code at before) [
+      | inl early ↦ judged code at bad early
+      | inr here ↦ let i = inside code at bad here.0 in let w = row_within rows at.row i.0 i.1 in omega (arith, w.0, here.1)
+    ]
+      where
+        before_row : (code : Code) (at : Place) → ComesBefore (numbers code at) (5 ∷ table ∷ 1 ∷ [])
+            → ComesBefore (numbers code at) (5 ∷ table ∷ []) ⊎ ((at.table ≡ table) × (at.row < 1))
+        before_row code at h = grind arith
 
-  -- past the last row the table is judged
-  pub past_table : (row : ℕ) → length rows < row → ToRow raw table row → ToTable raw (suc table)
-  past_table row past judged = next_table (BadRow raw) 5 table row 0 (suc table) judged
-      (λ code at bad p which. elim which [
-        | inl here ↦ let i = inside code at bad here.0 in let w = row_within rows at.row i.0 i.1 in omega (arith, w.1, here.1)
-        | inr none ↦ omega (arith, none.0, none.1)
-      ])
+    -- past the last row the table is judged
+    pub past_table : (row : ℕ) → length rows < row → ToRow raw table row → ToTable raw (suc table)
+    past_table row past judged = next_table (BadRow raw) 5 table row 0 (suc table) judged
+        (λ code at bad p which. elim which [
+          | inl here ↦ let i = inside code at bad here.0 in let w = row_within rows at.row i.0 i.1 in omega (arith, w.1, here.1)
+          | inr none ↦ omega (arith, none.0, none.1)
+        ])
 
-  -- a fault of a cell is the first, where the cell has none at a lower byte, and none at the byte with a lower number
-  pub first_in : (row column byte : ℕ) (x : X) (code : Code) → row_at rows row ≡ Some x → ToCell raw table row column
-      → BadRow raw code (in_blob table row column byte)
-      → ((b : ℕ) (other : Code) → At row x column b other → (b < byte) ⊎ ((b ≡ byte) × (number_of other < number_of code)) → ⊥)
-      → IsFirstOf raw (record { code = code; place = in_blob table row column byte })
-  first_in row column byte x code there judged bad none = record {
-    bad = bad;
-    least = λ other at is_bad before. elim (before_fault other at before) [
-      | inl early ↦ judged other at is_bad early
-      | inr here ↦ none at.byte other (subst (λ (n : ℕ). At row x n at.byte other) here.2 (in_row other at row x is_bad there here.0 here.1)) here.3
-    ];
-  }
-    where
-      before_fault : (other : Code) (at : Place) → ComesBefore (numbers other at) (numbers code (in_blob table row column byte))
-          → ComesBefore (numbers other at) (5 ∷ table ∷ row ∷ column ∷ [])
-          ⊎ ((at.table ≡ table) × (at.row ≡ row) × (at.column ≡ column) × ((at.byte < byte) ⊎ ((at.byte ≡ byte) × (number_of other < number_of code))))
-      before_fault other at h = grind arith
+    -- a fault of a cell is the first, where the cell has none at a lower byte, and none at the byte with a lower number
+    pub first_in : (row column byte : ℕ) (x : X) (code : Code) → row_at rows row ≡ Some x → ToCell raw table row column
+        → BadRow raw code (in_blob table row column byte)
+        → ((b : ℕ) (other : Code) → At row x column b other → (b < byte) ⊎ ((b ≡ byte) × (number_of other < number_of code)) → ⊥)
+        → IsFirstOf raw (record { code = code; place = in_blob table row column byte })
+    first_in row column byte x code there judged bad none = record {
+      bad = bad;
+      least = λ other at is_bad before. elim (before_fault other at before) [
+        | inl early ↦ judged other at is_bad early
+        | inr here ↦ none at.byte other (subst (λ (n : ℕ). At row x n at.byte other) here.2 (in_row other at row x is_bad there here.0 here.1)) here.3
+      ];
+    }
+      where
+        before_fault : (other : Code) (at : Place) → ComesBefore (numbers other at) (numbers code (in_blob table row column byte))
+            → ComesBefore (numbers other at) (5 ∷ table ∷ row ∷ column ∷ [])
+            ⊎ ((at.table ≡ table) × (at.row ≡ row) × (at.column ≡ column) × ((at.byte < byte) ⊎ ((at.byte ≡ byte) × (number_of other < number_of code))))
+        before_fault other at h = grind arith
 
-  -- the same for the fault of a blob
-  pub first_within : (row column : ℕ) (x : X) (fault : Fault) (inner : BlobFault) → row_at rows row ≡ Some x → ToCell raw table row column
-      → BadRow raw inner.code (in_blob table row column inner.byte)
-      → ((b : ℕ) (other : Code) → At row x column b other → (b < inner.byte) ⊎ ((b ≡ inner.byte) × (number_of other < number_of inner.code)) → ⊥)
-      → fault ≡ record { code = inner.code; place = in_blob table row column inner.byte } → IsFirstOf raw fault
-  first_within row column x fault inner there judged bad none is =
-      subst (λ (f : Fault). IsFirstOf raw f) (sym is) (first_in row column inner.byte x inner.code there judged bad none)
+    -- the same for the fault of a blob
+    pub first_within : (row column : ℕ) (x : X) (fault : Fault) (inner : BlobFault) → row_at rows row ≡ Some x → ToCell raw table row column
+        → BadRow raw inner.code (in_blob table row column inner.byte)
+        → ((b : ℕ) (other : Code) → At row x column b other → (b < inner.byte) ⊎ ((b ≡ inner.byte) × (number_of other < number_of inner.code)) → ⊥)
+        → fault ≡ record { code = inner.code; place = in_blob table row column inner.byte } → IsFirstOf raw fault
+    first_within row column x fault inner there judged bad none is =
+        subst (λ (f : Fault). IsFirstOf raw f) (sym is) (first_in row column inner.byte x inner.code there judged bad none)
 
-  -- the fault of a cell is the first, where none of the cell has a lower number
-  pub first_at : (row column : ℕ) (x : X) (code : Code) (fault : Fault) → row_at rows row ≡ Some x → ToCell raw table row column
-      → BadRow raw code (in_blob table row column 0) → ((b : ℕ) (other : Code) → At row x column b other → number_of other < number_of code → ⊥)
-      → fault ≡ record { code = code; place = in_blob table row column 0 } → IsFirstOf raw fault
-  first_at row column x code fault there judged bad none is =
-      let first = first_in row column 0 x code there judged bad
-      (λ b other at lower. elim lower [ inl below ↦ omega (arith, below) | inr same ↦ none b other at same.1 ]) in
-      subst (λ (f : Fault). IsFirstOf raw f) (sym is) first
+    -- the fault of a cell is the first, where none of the cell has a lower number
+    pub first_at : (row column : ℕ) (x : X) (code : Code) (fault : Fault) → row_at rows row ≡ Some x → ToCell raw table row column
+        → BadRow raw code (in_blob table row column 0) → ((b : ℕ) (other : Code) → At row x column b other → number_of other < number_of code → ⊥)
+        → fault ≡ record { code = code; place = in_blob table row column 0 } → IsFirstOf raw fault
+    first_at row column x code fault there judged bad none is =
+        let first = first_in row column 0 x code there judged bad
+        (λ b other at lower. elim lower [ inl below ↦ omega (arith, below) | inr same ↦ none b other at same.1 ]) in
+        subst (λ (f : Fault). IsFirstOf raw f) (sym is) first

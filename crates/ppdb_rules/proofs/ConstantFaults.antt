@@ -27,9 +27,11 @@ use Rattle.ppdb_rules.proofs.CellFaults as cells
 pub data ConstantFault (raw : RawTables) (row : ℕ) (constant : ConstantRow) : ℕ → ℕ → Code → Type 0 where
   no_text : text_at raw.texts constant.name ≡ None → ConstantFault raw row constant 0 0 StringIndex
   alone : ((row ≡ 1) × (count raw 0x32 ≡ 0)) → ConstantFault raw row constant 0 0 ListRange
-  same_text : HasEarlier (λ before (e : ConstantRow). ShareOwner (λ s. s.constants) raw.scopes before row × AreSameText raw.texts e.name constant.name) raw.constants row → ConstantFault raw row constant 0 0 NameRepeated
+  same_text : HasEarlier (λ before (e : ConstantRow). ShareOwner (λ s. s.constants) raw.scopes before row × AreSameText raw.texts e.name constant.name)
+      raw.constants row → ConstantFault raw row constant 0 0 NameRepeated
   no_signature : blob_at raw.blobs constant.signature ≡ None → ConstantFault raw row constant 1 0 BlobIndex
-  bad_signature : {fault : BlobFault} → HasFault (constants (type_limits raw)) raw.blobs constant.signature fault → ConstantFault raw row constant 1 fault.byte fault.code
+  bad_signature : {fault : BlobFault} → HasFault (constants (type_limits raw)) raw.blobs constant.signature fault
+      → ConstantFault raw row constant 1 fault.byte fault.code
 
 inside : (raw : RawTables) (code : Code) (at : Place) → BadRow raw code at → at.table ≡ 0x34
     → (x : ConstantRow) × (row_at raw.constants at.row ≡ Some x) × ConstantFault raw at.row x at.column at.byte code
@@ -52,7 +54,8 @@ module _ (raw : RawTables) where
   past_table = cells.past_table raw 0x34 raw.constants (ConstantFault raw) (inside raw)
 
 module _ (raw : RawTables) (row : ℕ) (constant : ConstantRow) (there : row_at raw.constants row ≡ Some constant) where
-  next : (column : ℕ) → ToCell raw 0x34 row column → ((byte : ℕ) (code : Code) → ConstantFault raw row constant column byte code → ⊥) → ToCell raw 0x34 row (suc column)
+  next : (column : ℕ) → ToCell raw 0x34 row column → ((byte : ℕ) (code : Code) → ConstantFault raw row constant column byte code → ⊥)
+      → ToCell raw 0x34 row (suc column)
   next column = cells.next_cell raw 0x34 raw.constants (ConstantFault raw) (inside raw) row column constant there
 
   first : (column : ℕ) (code : Code) (fault : Fault) → ToCell raw 0x34 row column → BadRow raw code (in_blob 0x34 row column 0)
@@ -61,7 +64,8 @@ module _ (raw : RawTables) (row : ℕ) (constant : ConstantRow) (there : row_at 
   first column code fault = cells.first_at raw 0x34 raw.constants (ConstantFault raw) (inside raw) row column constant code fault there
 
   first_within : (column : ℕ) (fault : Fault) (inner : BlobFault) → ToCell raw 0x34 row column → BadRow raw inner.code (in_blob 0x34 row column inner.byte)
-      → ((b : ℕ) (other : Code) → ConstantFault raw row constant column b other → (b < inner.byte) ⊎ ((b ≡ inner.byte) × (number_of other < number_of inner.code)) → ⊥)
+      → ((b : ℕ) (other : Code) → ConstantFault raw row constant column b other
+      → (b < inner.byte) ⊎ ((b ≡ inner.byte) × (number_of other < number_of inner.code)) → ⊥)
       → fault ≡ record { code = inner.code; place = in_blob 0x34 row column inner.byte } → IsFirstOf raw fault
   first_within column fault inner = cells.first_within raw 0x34 raw.constants (ConstantFault raw) (inside raw) row column constant fault inner there
 
@@ -86,14 +90,17 @@ module _ (raw : RawTables) (row : ℕ) (constant : ConstantRow) (there : row_at 
 
   pub alone_first : (fault : Fault) → ToCell raw 0x34 row 0 → (text_at raw.texts constant.name ≡ None → ⊥) → (row ≡ 1) × (count raw 0x32 ≡ 0)
       → fault ≡ record { code = ListRange; place = in_blob 0x34 row 0 0 } → IsFirstOf raw fault
-  alone_first fault judged no0 wrong = first 0 ListRange fault judged (subst (λ (n : ℕ). BadRow raw ListRange (in_blob 0x34 n 0 0)) (sym wrong.0) (constants_alone (subst (λ (n : ℕ). row_at raw.constants n ≡ Some constant) wrong.0 there) wrong.1)) none
+  alone_first fault judged no0 wrong = first 0 ListRange fault judged (subst (λ (n : ℕ). BadRow raw ListRange (in_blob 0x34 n 0 0)) (sym wrong.0)
+      (constants_alone (subst (λ (n : ℕ). row_at raw.constants n ≡ Some constant) wrong.0 there) wrong.1)) none
     where
       none : (b : ℕ) (other : Code) → ConstantFault raw row constant 0 b other → number_of other < 29 → ⊥
       none _ _ (no_text w) lower = no0 w
       none _ _ (alone _) lower = omega (arith, lower)
       none _ _ (same_text _) lower = omega (arith, lower)
 
-  pub same_text_first : (fault : Fault) → ToCell raw 0x34 row 0 → (text_at raw.texts constant.name ≡ None → ⊥) → ((row ≡ 1) × (count raw 0x32 ≡ 0) → ⊥) → HasEarlier (λ before (e : ConstantRow). ShareOwner (λ s. s.constants) raw.scopes before row × AreSameText raw.texts e.name constant.name) raw.constants row
+  pub same_text_first : (fault : Fault) → ToCell raw 0x34 row 0 → (text_at raw.texts constant.name ≡ None → ⊥) → ((row ≡ 1) × (count raw 0x32 ≡ 0) → ⊥)
+      → HasEarlier (λ before (e : ConstantRow). ShareOwner (λ s. s.constants) raw.scopes before row × AreSameText raw.texts e.name constant.name) raw.constants
+      row
       → fault ≡ record { code = NameRepeated; place = in_blob 0x34 row 0 0 } → IsFirstOf raw fault
   same_text_first fault judged no0 no1 wrong = first 0 NameRepeated fault judged (constant_name_repeated there wrong) none
     where
@@ -102,7 +109,9 @@ module _ (raw : RawTables) (row : ℕ) (constant : ConstantRow) (there : row_at 
       none _ _ (alone w) lower = no1 w
       none _ _ (same_text _) lower = omega (arith, lower)
 
-  pub next_0 : ToCell raw 0x34 row 0 → (text_at raw.texts constant.name ≡ None → ⊥) → ((row ≡ 1) × (count raw 0x32 ≡ 0) → ⊥) → (HasEarlier (λ before (e : ConstantRow). ShareOwner (λ s. s.constants) raw.scopes before row × AreSameText raw.texts e.name constant.name) raw.constants row → ⊥) → ToCell raw 0x34 row 1
+  pub next_0 : ToCell raw 0x34 row 0 → (text_at raw.texts constant.name ≡ None → ⊥) → ((row ≡ 1) × (count raw 0x32 ≡ 0) → ⊥)
+      → (HasEarlier (λ before (e : ConstantRow). ShareOwner (λ s. s.constants) raw.scopes before row × AreSameText raw.texts e.name constant.name) raw.constants
+      row → ⊥) → ToCell raw 0x34 row 1
   next_0 judged no0 no1 no2 = next 0 judged none
     where
       none : (b : ℕ) (other : Code) → ConstantFault raw row constant 0 b other → ⊥
@@ -118,15 +127,18 @@ module _ (raw : RawTables) (row : ℕ) (constant : ConstantRow) (there : row_at 
       none _ _ (no_signature _) lower = omega (arith, lower)
       none _ _ (bad_signature w) lower = not_there w wrong
 
-  pub bad_signature_first : (fault : Fault) (inner : BlobFault) → ToCell raw 0x34 row 1 → HasFault (constants (type_limits raw)) raw.blobs constant.signature inner
+  pub bad_signature_first : (fault : Fault) (inner : BlobFault) → ToCell raw 0x34 row 1
+      → HasFault (constants (type_limits raw)) raw.blobs constant.signature inner
       → fault ≡ record { code = inner.code; place = in_blob 0x34 row 1 inner.byte } → IsFirstOf raw fault
   bad_signature_first fault inner judged wrong = first_within 1 fault inner judged (constant_content {fault = inner} there wrong) none
     where
-      none : (b : ℕ) (other : Code) → ConstantFault raw row constant 1 b other → (b < inner.byte) ⊎ ((b ≡ inner.byte) × (number_of other < number_of inner.code)) → ⊥
+      none : (b : ℕ) (other : Code) → ConstantFault raw row constant 1 b other
+          → (b < inner.byte) ⊎ ((b ≡ inner.byte) × (number_of other < number_of inner.code)) → ⊥
       none _ _ (no_signature w) lower = not_there wrong w
       none _ _ (bad_signature {fault = other} w) lower = one_fault wrong w lower
 
-  pub next_1 : ToCell raw 0x34 row 1 → (blob_at raw.blobs constant.signature ≡ None → ⊥) → ((fault : BlobFault) → HasFault (constants (type_limits raw)) raw.blobs constant.signature fault → ⊥) → ToCell raw 0x34 row 2
+  pub next_1 : ToCell raw 0x34 row 1 → (blob_at raw.blobs constant.signature ≡ None → ⊥)
+      → ((fault : BlobFault) → HasFault (constants (type_limits raw)) raw.blobs constant.signature fault → ⊥) → ToCell raw 0x34 row 2
   next_1 judged no0 no1 = next 1 judged none
     where
       none : (b : ℕ) (other : Code) → ConstantFault raw row constant 1 b other → ⊥

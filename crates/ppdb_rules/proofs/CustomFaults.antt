@@ -55,7 +55,8 @@ module _ (raw : RawTables) where
   past_table = cells.past_table raw 0x37 raw.customs (CustomFault raw) (inside raw)
 
 module _ (raw : RawTables) (row : ℕ) (custom : CustomRow) (there : row_at raw.customs row ≡ Some custom) where
-  next : (column : ℕ) → ToCell raw 0x37 row column → ((byte : ℕ) (code : Code) → CustomFault raw row custom column byte code → ⊥) → ToCell raw 0x37 row (suc column)
+  next : (column : ℕ) → ToCell raw 0x37 row column → ((byte : ℕ) (code : Code) → CustomFault raw row custom column byte code → ⊥)
+      → ToCell raw 0x37 row (suc column)
   next column = cells.next_cell raw 0x37 raw.customs (CustomFault raw) (inside raw) row column custom there
 
   first : (column : ℕ) (code : Code) (fault : Fault) → ToCell raw 0x37 row column → BadRow raw code (in_blob 0x37 row column 0)
@@ -64,7 +65,8 @@ module _ (raw : RawTables) (row : ℕ) (custom : CustomRow) (there : row_at raw.
   first column code fault = cells.first_at raw 0x37 raw.customs (CustomFault raw) (inside raw) row column custom code fault there
 
   first_within : (column : ℕ) (fault : Fault) (inner : BlobFault) → ToCell raw 0x37 row column → BadRow raw inner.code (in_blob 0x37 row column inner.byte)
-      → ((b : ℕ) (other : Code) → CustomFault raw row custom column b other → (b < inner.byte) ⊎ ((b ≡ inner.byte) × (number_of other < number_of inner.code)) → ⊥)
+      → ((b : ℕ) (other : Code) → CustomFault raw row custom column b other → (b < inner.byte) ⊎ ((b ≡ inner.byte) × (number_of other < number_of inner.code))
+      → ⊥)
       → fault ≡ record { code = inner.code; place = in_blob 0x37 row column inner.byte } → IsFirstOf raw fault
   first_within column fault inner = cells.first_within raw 0x37 raw.customs (CustomFault raw) (inside raw) row column custom fault inner there
 
@@ -98,7 +100,8 @@ module _ (raw : RawTables) (row : ℕ) (custom : CustomRow) (there : row_at raw.
       none _ _ (no_tag _) lower = omega (arith, lower)
       none _ _ (out_of_order _) lower = omega (arith, lower)
 
-  pub out_of_order_first : (fault : Fault) → ToCell raw 0x37 row 0 → (HasNoParent raw custom.parent → ⊥) → (26 < custom.parent % 32 → ⊥) → HasEarlier (λ _ (e : CustomRow). custom.parent < e.parent) raw.customs row
+  pub out_of_order_first : (fault : Fault) → ToCell raw 0x37 row 0 → (HasNoParent raw custom.parent → ⊥) → (26 < custom.parent % 32 → ⊥)
+      → HasEarlier (λ _ (e : CustomRow). custom.parent < e.parent) raw.customs row
       → fault ≡ record { code = CustomOrder; place = in_blob 0x37 row 0 0 } → IsFirstOf raw fault
   out_of_order_first fault judged no0 no1 wrong = first 0 CustomOrder fault judged (custom_order there wrong) none
     where
@@ -107,7 +110,8 @@ module _ (raw : RawTables) (row : ℕ) (custom : CustomRow) (there : row_at raw.
       none _ _ (no_tag w) lower = no1 w
       none _ _ (out_of_order _) lower = omega (arith, lower)
 
-  pub next_0 : ToCell raw 0x37 row 0 → (HasNoParent raw custom.parent → ⊥) → (26 < custom.parent % 32 → ⊥) → (HasEarlier (λ _ (e : CustomRow). custom.parent < e.parent) raw.customs row → ⊥) → ToCell raw 0x37 row 1
+  pub next_0 : ToCell raw 0x37 row 0 → (HasNoParent raw custom.parent → ⊥) → (26 < custom.parent % 32 → ⊥)
+      → (HasEarlier (λ _ (e : CustomRow). custom.parent < e.parent) raw.customs row → ⊥) → ToCell raw 0x37 row 1
   next_0 judged no0 no1 no2 = next 0 judged none
     where
       none : (b : ℕ) (other : Code) → CustomFault raw row custom 0 b other → ⊥
@@ -150,11 +154,13 @@ module _ (raw : RawTables) (row : ℕ) (custom : CustomRow) (there : row_at raw.
       → fault ≡ record { code = inner.code; place = in_blob 0x37 row 2 inner.byte } → IsFirstOf raw fault
   bad_value_first fault inner judged wrong = first_within 2 fault inner judged (custom_content {fault = inner} there wrong) none
     where
-      none : (b : ℕ) (other : Code) → CustomFault raw row custom 2 b other → (b < inner.byte) ⊎ ((b ≡ inner.byte) × (number_of other < number_of inner.code)) → ⊥
+      none : (b : ℕ) (other : Code) → CustomFault raw row custom 2 b other → (b < inner.byte) ⊎ ((b ≡ inner.byte) × (number_of other < number_of inner.code))
+          → ⊥
       none _ _ (no_value w) lower = value_not_there wrong w
       none _ _ (bad_value {fault = other} w) lower = one_bad_value wrong w lower
 
-  pub next_2 : ToCell raw 0x37 row 2 → (blob_at raw.blobs custom.value ≡ None → ⊥) → ((fault : BlobFault) → HasBadValue raw custom fault → ⊥) → ToCell raw 0x37 row 3
+  pub next_2 : ToCell raw 0x37 row 2 → (blob_at raw.blobs custom.value ≡ None → ⊥) → ((fault : BlobFault) → HasBadValue raw custom fault → ⊥)
+      → ToCell raw 0x37 row 3
   next_2 judged no0 no1 = next 2 judged none
     where
       none : (b : ℕ) (other : Code) → CustomFault raw row custom 2 b other → ⊥

@@ -27,8 +27,10 @@ use Rattle.ppdb_rules.proofs.CellFaults as cells
 pub data DocumentFault (raw : RawTables) (row : ℕ) (document : DocumentRow) : ℕ → ℕ → Code → Type 0 where
   no_name : blob_at raw.blobs document.name ≡ None → DocumentFault raw row document 0 0 BlobIndex
   nil_name : IsNil raw.blobs document.name → DocumentFault raw row document 0 0 NameNil
-  repeated : HasEarlier (λ _ (e : DocumentRow). AreSameName raw.blobs e.name document.name) raw.documents row → DocumentFault raw row document 0 0 DocumentRepeated
-  bad_name : {fault : BlobFault} → (IsNil raw.blobs document.name → ⊥) → HasFault (names raw.blobs) raw.blobs document.name fault → DocumentFault raw row document 0 fault.byte fault.code
+  repeated : HasEarlier (λ _ (e : DocumentRow). AreSameName raw.blobs e.name document.name) raw.documents row
+      → DocumentFault raw row document 0 0 DocumentRepeated
+  bad_name : {fault : BlobFault} → (IsNil raw.blobs document.name → ⊥) → HasFault (names raw.blobs) raw.blobs document.name fault
+      → DocumentFault raw row document 0 fault.byte fault.code
   no_algorithm : NamesNoGuid 0 raw.guids document.algorithm → DocumentFault raw row document 1 0 GuidIndex
   no_hash : blob_at raw.blobs document.hash ≡ None → DocumentFault raw row document 2 0 BlobIndex
   no_language : NamesNoGuid 0 raw.guids document.language → DocumentFault raw row document 3 0 GuidIndex
@@ -56,7 +58,8 @@ module _ (raw : RawTables) where
   past_table = cells.past_table raw 0x30 raw.documents (DocumentFault raw) (inside raw)
 
 module _ (raw : RawTables) (row : ℕ) (document : DocumentRow) (there : row_at raw.documents row ≡ Some document) where
-  next : (column : ℕ) → ToCell raw 0x30 row column → ((byte : ℕ) (code : Code) → DocumentFault raw row document column byte code → ⊥) → ToCell raw 0x30 row (suc column)
+  next : (column : ℕ) → ToCell raw 0x30 row column → ((byte : ℕ) (code : Code) → DocumentFault raw row document column byte code → ⊥)
+      → ToCell raw 0x30 row (suc column)
   next column = cells.next_cell raw 0x30 raw.documents (DocumentFault raw) (inside raw) row column document there
 
   first : (column : ℕ) (code : Code) (fault : Fault) → ToCell raw 0x30 row column → BadRow raw code (in_blob 0x30 row column 0)
@@ -65,7 +68,8 @@ module _ (raw : RawTables) (row : ℕ) (document : DocumentRow) (there : row_at 
   first column code fault = cells.first_at raw 0x30 raw.documents (DocumentFault raw) (inside raw) row column document code fault there
 
   first_within : (column : ℕ) (fault : Fault) (inner : BlobFault) → ToCell raw 0x30 row column → BadRow raw inner.code (in_blob 0x30 row column inner.byte)
-      → ((b : ℕ) (other : Code) → DocumentFault raw row document column b other → (b < inner.byte) ⊎ ((b ≡ inner.byte) × (number_of other < number_of inner.code)) → ⊥)
+      → ((b : ℕ) (other : Code) → DocumentFault raw row document column b other
+      → (b < inner.byte) ⊎ ((b ≡ inner.byte) × (number_of other < number_of inner.code)) → ⊥)
       → fault ≡ record { code = inner.code; place = in_blob 0x30 row column inner.byte } → IsFirstOf raw fault
   first_within column fault inner = cells.first_within raw 0x30 raw.documents (DocumentFault raw) (inside raw) row column document fault inner there
 
@@ -101,7 +105,8 @@ module _ (raw : RawTables) (row : ℕ) (document : DocumentRow) (there : row_at 
       none _ _ (repeated _) lower = omega (arith, lower)
       none _ _ (bad_name g w) lower = g wrong
 
-  pub repeated_first : (fault : Fault) → ToCell raw 0x30 row 0 → (blob_at raw.blobs document.name ≡ None → ⊥) → (IsNil raw.blobs document.name → ⊥) → HasEarlier (λ _ (e : DocumentRow). AreSameName raw.blobs e.name document.name) raw.documents row
+  pub repeated_first : (fault : Fault) → ToCell raw 0x30 row 0 → (blob_at raw.blobs document.name ≡ None → ⊥) → (IsNil raw.blobs document.name → ⊥)
+      → HasEarlier (λ _ (e : DocumentRow). AreSameName raw.blobs e.name document.name) raw.documents row
       → fault ≡ record { code = DocumentRepeated; place = in_blob 0x30 row 0 0 } → IsFirstOf raw fault
   repeated_first fault judged no0 no1 wrong = first 0 DocumentRepeated fault judged (document_repeated there wrong) none
     where
@@ -111,17 +116,21 @@ module _ (raw : RawTables) (row : ℕ) (document : DocumentRow) (there : row_at 
       none _ _ (repeated _) lower = omega (arith, lower)
       none _ _ (bad_name g w) lower = name_whole wrong.forbidden.second w
 
-  pub bad_name_first : (fault : Fault) (inner : BlobFault) → ToCell raw 0x30 row 0 → (IsNil raw.blobs document.name → ⊥) → HasFault (names raw.blobs) raw.blobs document.name inner
+  pub bad_name_first : (fault : Fault) (inner : BlobFault) → ToCell raw 0x30 row 0 → (IsNil raw.blobs document.name → ⊥)
+      → HasFault (names raw.blobs) raw.blobs document.name inner
       → fault ≡ record { code = inner.code; place = in_blob 0x30 row 0 inner.byte } → IsFirstOf raw fault
   bad_name_first fault inner judged some wrong = first_within 0 fault inner judged (name_content {fault = inner} there some wrong) none
     where
-      none : (b : ℕ) (other : Code) → DocumentFault raw row document 0 b other → (b < inner.byte) ⊎ ((b ≡ inner.byte) × (number_of other < number_of inner.code)) → ⊥
+      none : (b : ℕ) (other : Code) → DocumentFault raw row document 0 b other
+          → (b < inner.byte) ⊎ ((b ≡ inner.byte) × (number_of other < number_of inner.code)) → ⊥
       none _ _ (no_name w) lower = not_there wrong w
       none _ _ (nil_name w) lower = some w
       none _ _ (repeated w) lower = name_whole w.forbidden.second wrong
       none _ _ (bad_name {fault = other} g w) lower = one_fault wrong w lower
 
-  pub next_0 : ToCell raw 0x30 row 0 → (blob_at raw.blobs document.name ≡ None → ⊥) → (IsNil raw.blobs document.name → ⊥) → (HasEarlier (λ _ (e : DocumentRow). AreSameName raw.blobs e.name document.name) raw.documents row → ⊥) → ((fault : BlobFault) → (IsNil raw.blobs document.name → ⊥) → HasFault (names raw.blobs) raw.blobs document.name fault → ⊥) → ToCell raw 0x30 row 1
+  pub next_0 : ToCell raw 0x30 row 0 → (blob_at raw.blobs document.name ≡ None → ⊥) → (IsNil raw.blobs document.name → ⊥)
+      → (HasEarlier (λ _ (e : DocumentRow). AreSameName raw.blobs e.name document.name) raw.documents row → ⊥)
+      → ((fault : BlobFault) → (IsNil raw.blobs document.name → ⊥) → HasFault (names raw.blobs) raw.blobs document.name fault → ⊥) → ToCell raw 0x30 row 1
   next_0 judged no0 no1 no2 no3 = next 0 judged none
     where
       none : (b : ℕ) (other : Code) → DocumentFault raw row document 0 b other → ⊥

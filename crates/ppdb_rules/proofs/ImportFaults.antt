@@ -28,7 +28,8 @@ pub data ImportFault (raw : RawTables) (row : ℕ) (import : ImportRow) : ℕ �
   no_parent : NamesNoRow 0 (count raw 0x35) import.parent → ImportFault raw row import 0 0 RowIndex
   cycle : NeverEnds raw.imports row → ImportFault raw row import 0 0 ImportCycle
   no_list : blob_at raw.blobs import.imports ≡ None → ImportFault raw row import 1 0 BlobIndex
-  bad_list : {fault : BlobFault} → HasFault (imports (type_limits raw) (blob_at raw.blobs)) raw.blobs import.imports fault → ImportFault raw row import 1 fault.byte fault.code
+  bad_list : {fault : BlobFault} → HasFault (imports (type_limits raw) (blob_at raw.blobs)) raw.blobs import.imports fault
+      → ImportFault raw row import 1 fault.byte fault.code
 
 inside : (raw : RawTables) (code : Code) (at : Place) → BadRow raw code at → at.table ≡ 0x35
     → (x : ImportRow) × (row_at raw.imports at.row ≡ Some x) × ImportFault raw at.row x at.column at.byte code
@@ -50,7 +51,8 @@ module _ (raw : RawTables) where
   past_table = cells.past_table raw 0x35 raw.imports (ImportFault raw) (inside raw)
 
 module _ (raw : RawTables) (row : ℕ) (import : ImportRow) (there : row_at raw.imports row ≡ Some import) where
-  next : (column : ℕ) → ToCell raw 0x35 row column → ((byte : ℕ) (code : Code) → ImportFault raw row import column byte code → ⊥) → ToCell raw 0x35 row (suc column)
+  next : (column : ℕ) → ToCell raw 0x35 row column → ((byte : ℕ) (code : Code) → ImportFault raw row import column byte code → ⊥)
+      → ToCell raw 0x35 row (suc column)
   next column = cells.next_cell raw 0x35 raw.imports (ImportFault raw) (inside raw) row column import there
 
   first : (column : ℕ) (code : Code) (fault : Fault) → ToCell raw 0x35 row column → BadRow raw code (in_blob 0x35 row column 0)
@@ -59,7 +61,8 @@ module _ (raw : RawTables) (row : ℕ) (import : ImportRow) (there : row_at raw.
   first column code fault = cells.first_at raw 0x35 raw.imports (ImportFault raw) (inside raw) row column import code fault there
 
   first_within : (column : ℕ) (fault : Fault) (inner : BlobFault) → ToCell raw 0x35 row column → BadRow raw inner.code (in_blob 0x35 row column inner.byte)
-      → ((b : ℕ) (other : Code) → ImportFault raw row import column b other → (b < inner.byte) ⊎ ((b ≡ inner.byte) × (number_of other < number_of inner.code)) → ⊥)
+      → ((b : ℕ) (other : Code) → ImportFault raw row import column b other → (b < inner.byte) ⊎ ((b ≡ inner.byte) × (number_of other < number_of inner.code))
+      → ⊥)
       → fault ≡ record { code = inner.code; place = in_blob 0x35 row column inner.byte } → IsFirstOf raw fault
   first_within column fault inner = cells.first_within raw 0x35 raw.imports (ImportFault raw) (inside raw) row column import fault inner there
 
@@ -103,15 +106,18 @@ module _ (raw : RawTables) (row : ℕ) (import : ImportRow) (there : row_at raw.
       none _ _ (no_list _) lower = omega (arith, lower)
       none _ _ (bad_list w) lower = not_there w wrong
 
-  pub bad_list_first : (fault : Fault) (inner : BlobFault) → ToCell raw 0x35 row 1 → HasFault (imports (type_limits raw) (blob_at raw.blobs)) raw.blobs import.imports inner
+  pub bad_list_first : (fault : Fault) (inner : BlobFault) → ToCell raw 0x35 row 1
+      → HasFault (imports (type_limits raw) (blob_at raw.blobs)) raw.blobs import.imports inner
       → fault ≡ record { code = inner.code; place = in_blob 0x35 row 1 inner.byte } → IsFirstOf raw fault
   bad_list_first fault inner judged wrong = first_within 1 fault inner judged (imports_content {fault = inner} there wrong) none
     where
-      none : (b : ℕ) (other : Code) → ImportFault raw row import 1 b other → (b < inner.byte) ⊎ ((b ≡ inner.byte) × (number_of other < number_of inner.code)) → ⊥
+      none : (b : ℕ) (other : Code) → ImportFault raw row import 1 b other → (b < inner.byte) ⊎ ((b ≡ inner.byte) × (number_of other < number_of inner.code))
+          → ⊥
       none _ _ (no_list w) lower = not_there wrong w
       none _ _ (bad_list {fault = other} w) lower = one_fault wrong w lower
 
-  pub next_1 : ToCell raw 0x35 row 1 → (blob_at raw.blobs import.imports ≡ None → ⊥) → ((fault : BlobFault) → HasFault (imports (type_limits raw) (blob_at raw.blobs)) raw.blobs import.imports fault → ⊥) → ToCell raw 0x35 row 2
+  pub next_1 : ToCell raw 0x35 row 1 → (blob_at raw.blobs import.imports ≡ None → ⊥)
+      → ((fault : BlobFault) → HasFault (imports (type_limits raw) (blob_at raw.blobs)) raw.blobs import.imports fault → ⊥) → ToCell raw 0x35 row 2
   next_1 judged no0 no1 = next 1 judged none
     where
       none : (b : ℕ) (other : Code) → ImportFault raw row import 1 b other → ⊥

@@ -1,5 +1,6 @@
 -- Which scope owns an item, and what it has seen of its items.
-use Rattle.std.proofs.Common.{◌≡◌, ℕ, ◌+◌, ◌-◌, ◌<◌, ◌≤◌, ◌⊎◌, List, [], length, Some, None, refl, sym, subst, ◌∙◌, arith, inl, inr, zero, suc, ap, slice_index, ◌≢◌}
+use Rattle.std.proofs.Common.{◌≡◌, ℕ, ◌+◌, ◌-◌, ◌<◌, ◌≤◌, ◌⊎◌, List, [], length, Some, None, refl, sym, subst, ◌∙◌, arith, inl, inr}
+use Rattle.std.proofs.Common.{zero, suc, ap, slice_index, ◌≢◌}
 use Rattle.std.proofs.lemmas.Bool.{cases_lt, cases_eq}
 use Rattle.ppdb_base.specs.declared.code.Code.TheVariants.{ListRange}
 use Rattle.ppdb_base.specs.Place.{cell}
@@ -38,7 +39,8 @@ module _ (raw : RawTables) (list : ScopeList) (lists : HaveLists raw list) where
       let top = row_within raw.scopes (i + suc d) y b in
       let z = row_there raw.scopes (i + d) (omega (arith, p.0)) (omega (arith, top.1)) in
       let up : list_of list x ≤ list_of list z.0 = rises d i x z.0 a z.1 in
-      let before : row_at raw.scopes (i + suc d - 1) ≡ Some z.0 = subst (λ (n : ℕ). row_at raw.scopes n ≡ Some z.0) (let e : i + d ≡ i + suc d - 1 = omega arith in e) z.1 in
+      let before : row_at raw.scopes (i + suc d - 1) ≡ Some z.0 =
+      subst (λ (n : ℕ). row_at raw.scopes n ≡ Some z.0) (let e : i + d ≡ i + suc d - 1 = omega arith in e) z.1 in
       elim (cases_lt (list_of list y) (list_of list z.0)) [
         | inl falls ↦ absurd (lists (i + suc d) y b (inr (inr (z.0, before, falls))))
         | inr on ↦ omega (arith, up, on)
@@ -82,7 +84,8 @@ module _ (raw : RawTables) (list : ScopeList) (lists : HaveLists raw list) where
 -- the owner of the row before has a list that begins at or before the row
 pub before_begun : (list : ScopeRow → ℕ) (scopes : List ScopeRow) (row owner : ℕ) → OwnsBefore list scopes owner row
     → (owner ≤ length scopes) × ((s : ScopeRow) → row_at scopes owner ≡ Some s → list s ≤ row)
-before_begun list scopes row owner (inl none) = (omega (arith, none.0), λ s there. let p = row_within scopes owner s there in absurd (omega (arith, p.0, none.0)))
+before_begun list scopes row owner (inl none) =
+    (omega (arith, none.0), λ s there. let p = row_within scopes owner s there in absurd (omega (arith, p.0, none.0)))
 before_begun list scopes row owner (inr o) = (
   (row_within scopes owner o.scope o.there).1,
   λ s there.
@@ -214,8 +217,12 @@ slots_after scopes variables row owner variable old new seen there owns marked o
     | inr other ↦ rw (others n other) (seen.reached n)
   ];
   sound = λ n some mark. elim (cases_eq n variable.slot) [
-    | inl same ↦ earlier_here (λ before (v : VariableRow). Owns (λ s. s.variables) scopes owner before × (v.slot ≡ n)) variables row variable there (owns, sym same)
-    | inr other ↦ earlier_on (λ before (e : VariableRow). Owns (λ s. s.variables) scopes owner before × (e.slot ≡ n)) variables row (seen.sound n some (sym (others n other) ∙ mark))
+    | inl same ↦ earlier_here (λ before (v : VariableRow). Owns (λ s. s.variables) scopes owner before × (v.slot ≡ n)) variables row variable there (
+      owns,
+      sym same,
+    )
+    | inr other ↦ earlier_on (λ before (e : VariableRow). Owns (λ s. s.variables) scopes owner before × (e.slot ≡ n)) variables row
+        (seen.sound n some (sym (others n other) ∙ mark))
   ];
   complete = λ n h. elim (cases_eq n variable.slot) [
     | inl same ↦ rw same marked
@@ -226,7 +233,8 @@ slots_after scopes variables row owner variable old new seen there owns marked o
   ];
 }
 
-pub texts_after : {X : Type 0} (list : ScopeRow → ℕ) (scopes : List ScopeRow) (texts : List ℕ) (name_of : X → ℕ) (rows : List X) (row owner : ℕ) (x : X) (text : List ℕ)
+pub texts_after : {X : Type 0} (list : ScopeRow → ℕ) (scopes : List ScopeRow) (texts : List ℕ) (name_of : X → ℕ) (rows : List X) (row owner : ℕ) (x : X)
+    (text : List ℕ)
     (old new : Texts) → AreTexts list scopes texts name_of rows row owner old → row_at rows row ≡ Some x → Owns list scopes owner row
     → text_at texts (name_of x) ≡ Some text
     → ((t : List ℕ) → HasText old t → HasText new t) → HasText new text → ((t : List ℕ) → HasText new t → HasText old t ⊎ (t ≡ text))
@@ -234,7 +242,11 @@ pub texts_after : {X : Type 0} (list : ScopeRow → ℕ) (scopes : List ScopeRow
 texts_after {X} list scopes texts name_of rows row owner x text old new seen there owns named kept added only = record {
   sound = λ t has. elim (only t has) [
     | inl o ↦ earlier_on (λ before (e : X). Owns list scopes owner before × (text_at texts (name_of e) ≡ Some t)) rows row (seen.sound t o)
-    | inr e ↦ earlier_here (λ before (v : X). Owns list scopes owner before × (text_at texts (name_of v) ≡ Some t)) rows row x there (owns, named ∙ ap Some (sym e))
+    | inr e ↦ earlier_here (λ before (v : X). Owns list scopes owner before × (text_at texts (name_of v) ≡ Some t)) rows row x there (
+      owns,
+      named
+          ∙ ap Some (sym e),
+    )
   ];
   complete = λ t h. elim (earlier_next (λ before (e : X). Owns list scopes owner before × (text_at texts (name_of e) ≡ Some t)) rows row x there h) [
     | inl early ↦ kept t (seen.complete t early)
@@ -246,7 +258,8 @@ texts_after {X} list scopes texts name_of rows row owner x text old new seen the
 }
 
 -- items without scopes are a fault of row 1 alone
-pub variables_from_1 : (raw : RawTables) (row : ℕ) (variable : VariableRow) → row_at raw.variables row ≡ Some variable → ToCell raw 0x33 row 0 → count raw 0x32 ≡ 0 → row ≡ 1
+pub variables_from_1 : (raw : RawTables) (row : ℕ) (variable : VariableRow) → row_at raw.variables row ≡ Some variable → ToCell raw 0x33 row 0
+    → count raw 0x32 ≡ 0 → row ≡ 1
 variables_from_1 raw row variable there judged none = elim (cases_eq row 1) [
   | inl e ↦ e
   | inr other ↦
@@ -255,7 +268,8 @@ variables_from_1 raw row variable there judged none = elim (cases_eq row 1) [
       absurd (judged ListRange (cell 0x33 1 0) (variables_alone first.1 none) (inr (refl, inr (refl, inl (omega (arith, w.0, other))))))
 ]
 
-pub constants_from_1 : (raw : RawTables) (row : ℕ) (constant : ConstantRow) → row_at raw.constants row ≡ Some constant → ToCell raw 0x34 row 0 → count raw 0x32 ≡ 0 → row ≡ 1
+pub constants_from_1 : (raw : RawTables) (row : ℕ) (constant : ConstantRow) → row_at raw.constants row ≡ Some constant → ToCell raw 0x34 row 0
+    → count raw 0x32 ≡ 0 → row ≡ 1
 constants_from_1 raw row constant there judged none = elim (cases_eq row 1) [
   | inl e ↦ e
   | inr other ↦

@@ -45,7 +45,8 @@ module _ (raw : RawTables) where
   past_table = cells.past_table raw 0x36 raw.machines (MachineFault raw) (inside raw)
 
 module _ (raw : RawTables) (row : ℕ) (machine : MachineRow) (there : row_at raw.machines row ≡ Some machine) where
-  next : (column : ℕ) → ToCell raw 0x36 row column → ((byte : ℕ) (code : Code) → MachineFault raw row machine column byte code → ⊥) → ToCell raw 0x36 row (suc column)
+  next : (column : ℕ) → ToCell raw 0x36 row column → ((byte : ℕ) (code : Code) → MachineFault raw row machine column byte code → ⊥)
+      → ToCell raw 0x36 row (suc column)
   next column = cells.next_cell raw 0x36 raw.machines (MachineFault raw) (inside raw) row column machine there
 
   first : (column : ℕ) (code : Code) (fault : Fault) → ToCell raw 0x36 row column → BadRow raw code (in_blob 0x36 row column 0)
@@ -70,7 +71,8 @@ module _ (raw : RawTables) (row : ℕ) (machine : MachineRow) (there : row_at ra
       none _ _ (no_move_next _) lower = omega (arith, lower)
       none _ _ (out_of_order _) lower = omega (arith, lower)
 
-  pub out_of_order_first : (fault : Fault) → ToCell raw 0x36 row 0 → (NamesNoRow 1 (count raw 0x06) machine.move_next → ⊥) → HasEarlier (λ _ (e : MachineRow). machine.move_next ≤ e.move_next) raw.machines row
+  pub out_of_order_first : (fault : Fault) → ToCell raw 0x36 row 0 → (NamesNoRow 1 (count raw 0x06) machine.move_next → ⊥)
+      → HasEarlier (λ _ (e : MachineRow). machine.move_next ≤ e.move_next) raw.machines row
       → fault ≡ record { code = MachineOrder; place = in_blob 0x36 row 0 0 } → IsFirstOf raw fault
   out_of_order_first fault judged no0 wrong = first 0 MachineOrder fault judged (machine_order there wrong) none
     where
@@ -78,7 +80,8 @@ module _ (raw : RawTables) (row : ℕ) (machine : MachineRow) (there : row_at ra
       none _ _ (no_move_next w) lower = no0 w
       none _ _ (out_of_order _) lower = omega (arith, lower)
 
-  pub next_0 : ToCell raw 0x36 row 0 → (NamesNoRow 1 (count raw 0x06) machine.move_next → ⊥) → (HasEarlier (λ _ (e : MachineRow). machine.move_next ≤ e.move_next) raw.machines row → ⊥) → ToCell raw 0x36 row 1
+  pub next_0 : ToCell raw 0x36 row 0 → (NamesNoRow 1 (count raw 0x06) machine.move_next → ⊥)
+      → (HasEarlier (λ _ (e : MachineRow). machine.move_next ≤ e.move_next) raw.machines row → ⊥) → ToCell raw 0x36 row 1
   next_0 judged no0 no1 = next 0 judged none
     where
       none : (b : ℕ) (other : Code) → MachineFault raw row machine 0 b other → ⊥
@@ -93,7 +96,8 @@ module _ (raw : RawTables) (row : ℕ) (machine : MachineRow) (there : row_at ra
       none _ _ (no_kickoff _) lower = omega (arith, lower)
       none _ _ (same_kickoff _) lower = omega (arith, lower)
 
-  pub same_kickoff_first : (fault : Fault) → ToCell raw 0x36 row 1 → (NamesNoRow 1 (count raw 0x06) machine.kickoff → ⊥) → HasEarlier (λ _ (e : MachineRow). e.kickoff ≡ machine.kickoff) raw.machines row
+  pub same_kickoff_first : (fault : Fault) → ToCell raw 0x36 row 1 → (NamesNoRow 1 (count raw 0x06) machine.kickoff → ⊥)
+      → HasEarlier (λ _ (e : MachineRow). e.kickoff ≡ machine.kickoff) raw.machines row
       → fault ≡ record { code = KickoffRepeated; place = in_blob 0x36 row 1 0 } → IsFirstOf raw fault
   same_kickoff_first fault judged no0 wrong = first 1 KickoffRepeated fault judged (kickoff_repeated there wrong) none
     where
@@ -101,7 +105,8 @@ module _ (raw : RawTables) (row : ℕ) (machine : MachineRow) (there : row_at ra
       none _ _ (no_kickoff w) lower = no0 w
       none _ _ (same_kickoff _) lower = omega (arith, lower)
 
-  pub next_1 : ToCell raw 0x36 row 1 → (NamesNoRow 1 (count raw 0x06) machine.kickoff → ⊥) → (HasEarlier (λ _ (e : MachineRow). e.kickoff ≡ machine.kickoff) raw.machines row → ⊥) → ToCell raw 0x36 row 2
+  pub next_1 : ToCell raw 0x36 row 1 → (NamesNoRow 1 (count raw 0x06) machine.kickoff → ⊥)
+      → (HasEarlier (λ _ (e : MachineRow). e.kickoff ≡ machine.kickoff) raw.machines row → ⊥) → ToCell raw 0x36 row 2
   next_1 judged no0 no1 = next 1 judged none
     where
       none : (b : ℕ) (other : Code) → MachineFault raw row machine 1 b other → ⊥

@@ -26,7 +26,8 @@ use Rattle.ppdb_rules.proofs.CellFaults as cells
 pub data MethodDebugFault (raw : RawTables) (row : ℕ) (method : MethodDebugRow) : ℕ → ℕ → Code → Type 0 where
   no_document : NamesNoRow 0 (count raw 0x30) method.document → MethodDebugFault raw row method 0 0 RowIndex
   no_points : blob_at raw.blobs method.points ≡ None → MethodDebugFault raw row method 1 0 BlobIndex
-  bad_points : {fault : BlobFault} → (IsNil raw.blobs method.points → ⊥) → HasFault (sequence_points method.document (point_limits raw)) raw.blobs method.points fault → MethodDebugFault raw row method 1 fault.byte fault.code
+  bad_points : {fault : BlobFault} → (IsNil raw.blobs method.points → ⊥)
+      → HasFault (sequence_points method.document (point_limits raw)) raw.blobs method.points fault → MethodDebugFault raw row method 1 fault.byte fault.code
 
 inside : (raw : RawTables) (code : Code) (at : Place) → BadRow raw code at → at.table ≡ 0x31
     → (x : MethodDebugRow) × (row_at raw.methods at.row ≡ Some x) × MethodDebugFault raw at.row x at.column at.byte code
@@ -47,7 +48,8 @@ module _ (raw : RawTables) where
   past_table = cells.past_table raw 0x31 raw.methods (MethodDebugFault raw) (inside raw)
 
 module _ (raw : RawTables) (row : ℕ) (method : MethodDebugRow) (there : row_at raw.methods row ≡ Some method) where
-  next : (column : ℕ) → ToCell raw 0x31 row column → ((byte : ℕ) (code : Code) → MethodDebugFault raw row method column byte code → ⊥) → ToCell raw 0x31 row (suc column)
+  next : (column : ℕ) → ToCell raw 0x31 row column → ((byte : ℕ) (code : Code) → MethodDebugFault raw row method column byte code → ⊥)
+      → ToCell raw 0x31 row (suc column)
   next column = cells.next_cell raw 0x31 raw.methods (MethodDebugFault raw) (inside raw) row column method there
 
   first : (column : ℕ) (code : Code) (fault : Fault) → ToCell raw 0x31 row column → BadRow raw code (in_blob 0x31 row column 0)
@@ -56,7 +58,8 @@ module _ (raw : RawTables) (row : ℕ) (method : MethodDebugRow) (there : row_at
   first column code fault = cells.first_at raw 0x31 raw.methods (MethodDebugFault raw) (inside raw) row column method code fault there
 
   first_within : (column : ℕ) (fault : Fault) (inner : BlobFault) → ToCell raw 0x31 row column → BadRow raw inner.code (in_blob 0x31 row column inner.byte)
-      → ((b : ℕ) (other : Code) → MethodDebugFault raw row method column b other → (b < inner.byte) ⊎ ((b ≡ inner.byte) × (number_of other < number_of inner.code)) → ⊥)
+      → ((b : ℕ) (other : Code) → MethodDebugFault raw row method column b other
+      → (b < inner.byte) ⊎ ((b ≡ inner.byte) × (number_of other < number_of inner.code)) → ⊥)
       → fault ≡ record { code = inner.code; place = in_blob 0x31 row column inner.byte } → IsFirstOf raw fault
   first_within column fault inner = cells.first_within raw 0x31 raw.methods (MethodDebugFault raw) (inside raw) row column method fault inner there
 
@@ -89,15 +92,19 @@ module _ (raw : RawTables) (row : ℕ) (method : MethodDebugRow) (there : row_at
       none _ _ (no_points _) lower = omega (arith, lower)
       none _ _ (bad_points g w) lower = not_there w wrong
 
-  pub bad_points_first : (fault : Fault) (inner : BlobFault) → ToCell raw 0x31 row 1 → (IsNil raw.blobs method.points → ⊥) → HasFault (sequence_points method.document (point_limits raw)) raw.blobs method.points inner
+  pub bad_points_first : (fault : Fault) (inner : BlobFault) → ToCell raw 0x31 row 1 → (IsNil raw.blobs method.points → ⊥)
+      → HasFault (sequence_points method.document (point_limits raw)) raw.blobs method.points inner
       → fault ≡ record { code = inner.code; place = in_blob 0x31 row 1 inner.byte } → IsFirstOf raw fault
   bad_points_first fault inner judged some wrong = first_within 1 fault inner judged (points_content {fault = inner} there some wrong) none
     where
-      none : (b : ℕ) (other : Code) → MethodDebugFault raw row method 1 b other → (b < inner.byte) ⊎ ((b ≡ inner.byte) × (number_of other < number_of inner.code)) → ⊥
+      none : (b : ℕ) (other : Code) → MethodDebugFault raw row method 1 b other
+          → (b < inner.byte) ⊎ ((b ≡ inner.byte) × (number_of other < number_of inner.code)) → ⊥
       none _ _ (no_points w) lower = not_there wrong w
       none _ _ (bad_points {fault = other} g w) lower = one_fault wrong w lower
 
-  pub next_1 : ToCell raw 0x31 row 1 → (blob_at raw.blobs method.points ≡ None → ⊥) → ((fault : BlobFault) → (IsNil raw.blobs method.points → ⊥) → HasFault (sequence_points method.document (point_limits raw)) raw.blobs method.points fault → ⊥) → ToCell raw 0x31 row 2
+  pub next_1 : ToCell raw 0x31 row 1 → (blob_at raw.blobs method.points ≡ None → ⊥)
+      → ((fault : BlobFault) → (IsNil raw.blobs method.points → ⊥) → HasFault (sequence_points method.document (point_limits raw)) raw.blobs method.points fault
+      → ⊥) → ToCell raw 0x31 row 2
   next_1 judged no0 no1 = next 1 judged none
     where
       none : (b : ℕ) (other : Code) → MethodDebugFault raw row method 1 b other → ⊥

@@ -38,8 +38,10 @@ module _ (s n : BTreeSet (Vec ℕ Global)) (name v : Vec ℕ Global)
 pub one_name : (blobs : List ℕ) (index : ℕ) (a b : List ℕ) → SpellsName blobs index a → SpellsName blobs index b → a ≡ b
 one_name blobs index a b x y =
     let same : y.content ≡ x.content = cc (x.there, y.there) in
-    let whole : Reading (names blobs) x.content y.is_name.parts None = subst (λ (c : List ℕ). Reading (names blobs) c y.is_name.parts None) same y.is_name.whole in
-    let parts : x.is_name.parts ≡ y.is_name.parts = (reading-unique (names blobs) x.content x.is_name.parts y.is_name.parts None None x.is_name.whole whole).0 in
+    let whole : Reading (names blobs) x.content y.is_name.parts None =
+    subst (λ (c : List ℕ). Reading (names blobs) c y.is_name.parts None) same y.is_name.whole in
+    let parts : x.is_name.parts ≡ y.is_name.parts =
+    (reading-unique (names blobs) x.content x.is_name.parts y.is_name.parts None None x.is_name.whole whole).0 in
     x.is_name.text ∙ (ap joined parts ∙ sym y.is_name.text)
 
 module _ (blobs : List ℕ) (documents : List DocumentRow) where
@@ -62,7 +64,8 @@ module _ (blobs : List ℕ) (documents : List DocumentRow) where
     names_after name old new longest now seen spelled kept added only first second = record {
       sound = λ v has. elim (only v has) [
         | inl o ↦ earlier_on (λ _ (e : DocumentRow). SpellsName blobs e.name v.items) documents row (seen.sound v o)
-        | inr e ↦ earlier_here (λ _ (d : DocumentRow). SpellsName blobs d.name v.items) documents row document there (subst (λ (n : List ℕ). SpellsName blobs document.name n) (sym e) spelled)
+        | inr e ↦ earlier_here (λ _ (d : DocumentRow). SpellsName blobs d.name v.items) documents row document there
+            (subst (λ (n : List ℕ). SpellsName blobs document.name n) (sym e) spelled)
       ];
       complete = λ v h. elim (earlier_next (λ _ (e : DocumentRow). SpellsName blobs e.name v.items) documents row document there h) [
         | inl early ↦ kept v (seen.complete v early)

@@ -1,5 +1,6 @@
 -- The opened scopes decide whether a scope crosses an earlier one of its method.
-use Rattle.std.proofs.Common.{◌≡◌, ℕ, ◌+◌, ◌-◌, ◌<◌, ◌≤◌, List, [], ◌∷◌, ◌++◌, length, slice_get, take, get_or, Some, refl, subst, arith, inl, inr, length-append, IsTrue, ◌↔◌, nat_lt}
+use Rattle.std.proofs.Common.{◌≡◌, ℕ, ◌+◌, ◌-◌, ◌<◌, ◌≤◌, List, [], ◌∷◌, ◌++◌, length, slice_get, take, get_or, Some, refl, subst, arith}
+use Rattle.std.proofs.Common.{inl, inr, length-append, IsTrue, ◌↔◌, nat_lt}
 use Rattle.std.proofs.lemmas.List.{get_or-take, length-take}
 use Rattle.std.proofs.lemmas.Bool.{cases_lt}
 use Rattle.std.proofs.lemmas.Bool.Decides.{nat_tests}
@@ -32,12 +33,14 @@ not_below raw row i c x scope clear here there sooner above =
     (scope_order here (record { before = i; earlier = x; there = there; sooner = sooner; forbidden = above }))
     (inr (refl, inr (refl, inr (refl, inl (omega arith)))))
 
-cross : (a b : ScopeRow) → (IsAbove (extent_of a) (extent_of b) → ⊥) → a.method ≡ b.method → a.start ≤ b.start → b.start < end_of a → end_of a < end_of b → Crosses (extent_of a) (extent_of b)
+cross : (a b : ScopeRow) → (IsAbove (extent_of a) (extent_of b) → ⊥) → a.method ≡ b.method → a.start ≤ b.start → b.start < end_of a → end_of a < end_of b
+    → Crosses (extent_of a) (extent_of b)
 cross a b not_above same begun later longer = record {
   shared = b.start;
   in_both = ((begun, later), (omega arith, omega arith));
   first = λ all. let x : Covers (extent_of a) (end_of a) = all (end_of a) (omega arith, longer) in omega (arith, x.1);
-  second = λ all. let x : Covers (extent_of b) a.start = all a.start (omega arith, omega arith) in not_above (let from : b.start ≤ a.start = x.0 in grind arith);
+  second =
+      λ all. let x : Covers (extent_of b) a.start = all a.start (omega arith, omega arith) in not_above (let from : b.start ≤ a.start = x.0 in grind arith);
 }
 
 -- an opened scope that ends before this one does crosses it
@@ -66,7 +69,8 @@ pub none_crosses : (scopes : List ScopeRow) (row : ℕ) (scope : ScopeRow) (ends
     → CrossesEarlier scopes row scope → ⊥
 none_crosses scopes row scope ends opened longer crossing =
     let begun : crossing.earlier.start ≤ scope.start = opened.begun crossing.before crossing.earlier crossing.there crossing.sooner crossing.forbidden.0 in
-    let both : Covers (extent_of crossing.earlier) crossing.forbidden.1.shared × Covers (extent_of scope) crossing.forbidden.1.shared = crossing.forbidden.1.in_both in
+    let both : Covers (extent_of crossing.earlier) crossing.forbidden.1.shared × Covers (extent_of scope) crossing.forbidden.1.shared =
+    crossing.forbidden.1.in_both in
     elim (opened.others crossing.before crossing.earlier crossing.there crossing.sooner crossing.forbidden.0) [
       | inl over ↦ omega (arith, both.0.1, both.1.0)
       | inr k ↦
@@ -82,7 +86,10 @@ pub open_closed : (scopes : List ScopeRow) (row method start offset n : ℕ) (en
     → AreOpen scopes row method offset (take n ends)
 open_closed scopes row method start offset n ends opened late short closed last = record {
   each = λ k within. rw (get_or-take n ends k 0 (omega (arith, length-take n ends, within))) (opened.each k (omega (arith, length-take n ends, within)));
-  nested = λ j k le within. rw (get_or-take n ends k 0 (omega (arith, length-take n ends, within)), get_or-take n ends j 0 (omega (arith, length-take n ends, within)))
+  nested = λ j k le within. rw (
+    get_or-take n ends k 0 (omega (arith, length-take n ends, within)),
+    get_or-take n ends j 0 (omega (arith, length-take n ends, within)),
+  )
       (opened.nested j k le (omega (arith, length-take n ends, within)));
   later = λ k within.
       let lt : k < n = omega (arith, length-take n ends, within) in
@@ -123,7 +130,13 @@ open_pushed scopes row scope ends here opened longer some = record {
     | inl lt ↦ rw (get_or-append ends (end_of scope ∷ []) 0 k lt) (let e : EndsThere scopes row scope.method (get_or ends k 0) = opened.each k lt in
         record { before = e.before; earlier = e.earlier; there = e.there; sooner = let s : e.before < row = e.sooner in omega arith; forbidden = e.forbidden })
     | inr ge ↦ let same : k ≡ length ends = omega (arith, within, length-append ends (end_of scope ∷ [])) in
-        rw (same, get_or-append_seam ends (end_of scope) [] 0) (record { before = row; earlier = scope; there = here; sooner = omega arith; forbidden = (refl, refl) })
+        rw (same, get_or-append_seam ends (end_of scope) [] 0) (record {
+          before = row;
+          earlier = scope;
+          there = here;
+          sooner = omega arith;
+          forbidden = (refl, refl);
+        })
   ];
   nested = λ j k le within. elim (cases_lt k (length ends)) [
     | inl lt ↦ rw (get_or-append ends (end_of scope ∷ []) 0 k lt, get_or-append ends (end_of scope ∷ []) 0 j (omega arith)) (opened.nested j k le lt)
@@ -198,7 +211,8 @@ innermost_decides raw row scope ends top here clear opened last =
       (λ crossing. elim (cases_lt top (end_of scope)) [
         | inl lt ↦ grind (arith, nat_tests)
         | inr ge ↦ absurd (none_crosses raw.scopes row scope ends opened
-            (λ k short. let falls : get_or ends (length ends - 1) 0 ≤ get_or ends k 0 = opened.nested k (length ends - 1) (omega arith) within in omega (arith, is_top)) crossing)
+            (λ k short. let falls : get_or ends (length ends - 1) 0 ≤ get_or ends k 0 = opened.nested k (length ends - 1) (omega arith) within in
+            omega (arith, is_top)) crossing)
       ]),
     )
 

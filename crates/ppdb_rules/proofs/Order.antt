@@ -40,14 +40,16 @@ above_up a b c above not_above = grind arith
 pub scope_before : (raw : RawTables) (row column : ℕ) (scope before : ScopeRow) → ToCell raw 0x32 row column
     → row_at raw.scopes (row - 1) ≡ Some before → HasEarlier (λ _ (e : ScopeRow). IsAbove (extent_of e) (extent_of scope)) raw.scopes row
     → IsAbove (extent_of before) (extent_of scope)
-scope_before raw row column scope before judged there = row_before (λ (a : ScopeRow) (b : ScopeRow). IsAbove (extent_of a) (extent_of b)) raw.scopes row scope before there
+scope_before raw row column scope before judged there =
+    row_before (λ (a : ScopeRow) (b : ScopeRow). IsAbove (extent_of a) (extent_of b)) raw.scopes row scope before there
     (λ i j a b. scopes_in_order raw row column i j a b judged) (λ a b. above_up (extent_of a) (extent_of b) (extent_of scope))
 
 -- the earlier machines rise by their MoveNext methods
 pub machine_before : (raw : RawTables) (row : ℕ) (machine before : MachineRow) → ToCell raw 0x36 row 0
     → row_at raw.machines (row - 1) ≡ Some before → HasEarlier (λ _ (e : MachineRow). machine.move_next ≤ e.move_next) raw.machines row
     → machine.move_next ≤ before.move_next
-machine_before raw row machine before judged there = row_before (λ (a : MachineRow) (b : MachineRow). b.move_next ≤ a.move_next) raw.machines row machine before there
+machine_before raw row machine before judged there =
+    row_before (λ (a : MachineRow) (b : MachineRow). b.move_next ≤ a.move_next) raw.machines row machine before there
     (λ i j a b ia jb ij jr high. judged MachineOrder (cell 0x36 j 0)
     (machine_order jb (record { before = i; earlier = a; there = ia; sooner = ij; forbidden = high })) (inr (refl, inr (refl, inl jr))))
     (λ a b high low. elim (cases_lt a.move_next b.move_next) [ inl rises ↦ omega (arith, high, rises) | inr falls ↦ absurd (low falls) ])

@@ -16,7 +16,70 @@ AllSmall (t ∷ ts) = (t < 64) × AllSmall ts
 
 all_small : AllSmall parent_tables
 unfolding AllSmall
-all_small = (omega arith, (omega arith, (omega arith, (omega arith, (omega arith, (omega arith, (omega arith, (omega arith, (omega arith, (omega arith, (omega arith, (omega arith, (omega arith, (omega arith, (omega arith, (omega arith, (omega arith, (omega arith, (omega arith, (omega arith, (omega arith, (omega arith, (omega arith, (omega arith, (omega arith, (omega arith, (omega arith, tt)))))))))))))))))))))))))))
+all_small = (
+  omega arith,
+  (
+    omega arith,
+    (
+      omega arith,
+      (
+        omega arith,
+        (
+          omega arith,
+          (
+            omega arith,
+            (
+              omega arith,
+              (
+                omega arith,
+                (
+                  omega arith,
+                  (
+                    omega arith,
+                    (
+                      omega arith,
+                      (
+                        omega arith,
+                        (
+                          omega arith,
+                          (
+                            omega arith,
+                            (
+                              omega arith,
+                              (
+                                omega arith,
+                                (
+                                  omega arith,
+                                  (
+                                    omega arith,
+                                    (
+                                      omega arith,
+                                      (
+                                        omega arith,
+                                        (
+                                          omega arith,
+                                          (omega arith, (omega arith, (omega arith, (omega arith, (omega arith, (omega arith, tt)))))),
+                                        ),
+                                      ),
+                                    ),
+                                  ),
+                                ),
+                              ),
+                            ),
+                          ),
+                        ),
+                      ),
+                    ),
+                  ),
+                ),
+              ),
+            ),
+          ),
+        ),
+      ),
+    ),
+  ),
+)
 
 small_at : (tables : List ℕ) (i table : ℕ) → AllSmall tables → slice_get tables i ≡ Some table → table < 64
 unfolding AllSmall
@@ -29,11 +92,13 @@ small_table coded parent h = split (slice_get parent_tables (coded % 32)) (λ ta
   where
     split : (o : Option ℕ) → ((table : ℕ) → o ≡ Some table → table < 64)
         → option_map (λ (table : ℕ). record { table = table; row = coded / 32 }) o ≡ Some parent → parent.table < 64
-    split (Some table) small e = let same : record { table = table; row = coded / 32 } ≡ parent = cc in subst (λ (p : Parent). p.table < 64) same (small table refl)
+    split (Some table) small e =
+        let same : record { table = table; row = coded / 32 } ≡ parent = cc in subst (λ (p : Parent). p.table < 64) same (small table refl)
     split None small e = let wrong : None ≡ Some parent = e in cc
 
 -- a parent of another table, and one of the kind's table
-pub other_parent : (guids : List ℕ) (custom : CustomRow) (kind : Kind) (table : ℕ) (parent : Parent) → IsOfKind guids custom.kind kind → parent_table kind ≡ Some table
+pub other_parent : (guids : List ℕ) (custom : CustomRow) (kind : Kind) (table : ℕ) (parent : Parent) → IsOfKind guids custom.kind kind
+    → parent_table kind ≡ Some table
     → parent_in custom.parent ≡ Some parent → (parent.table ≡ table → ⊥) → HasOtherParent guids custom
 other_parent guids custom kind table parent of has coded unlike = record {
   kind = kind;
@@ -43,14 +108,16 @@ other_parent guids custom kind table parent of has coded unlike = record {
   other = λ same. unlike (tagged (slice_get parent_tables (custom.parent % 32)) same coded);
 }
   where
-    tagged : (o : Option ℕ) → o ≡ Some table → option_map (λ (table : ℕ). record { table = table; row = custom.parent / 32 }) o ≡ Some parent → parent.table ≡ table
+    tagged : (o : Option ℕ) → o ≡ Some table → option_map (λ (table : ℕ). record { table = table; row = custom.parent / 32 }) o ≡ Some parent
+        → parent.table ≡ table
     tagged (Some t) e c =
         let same : record { table = t; row = custom.parent / 32 } ≡ parent = cc in
         let tables : t ≡ parent.table = ap (λ (p : Parent). p.table) same in
         let u : t ≡ table = cc in sym tables ∙ u
     tagged None e c = absurd cc
 
-pub same_parent : (guids : List ℕ) (custom : CustomRow) (kind : Kind) (table : ℕ) (parent : Parent) → IsOfKind guids custom.kind kind → parent_table kind ≡ Some table
+pub same_parent : (guids : List ℕ) (custom : CustomRow) (kind : Kind) (table : ℕ) (parent : Parent) → IsOfKind guids custom.kind kind
+    → parent_table kind ≡ Some table
     → parent_in custom.parent ≡ Some parent → parent.table ≡ table → HasOtherParent guids custom → ⊥
 same_parent guids custom kind table parent of has coded same h =
     let kinds : h.kind ≡ kind = one_kind guids custom.kind h.kind kind h.of_kind of in
@@ -58,7 +125,8 @@ same_parent guids custom kind table parent of has coded same h =
     let tables : h.table ≡ table = cc (has, has2) in
     h.other (tagged (slice_get parent_tables (custom.parent % 32)) coded (same ∙ sym tables))
   where
-    tagged : (o : Option ℕ) → option_map (λ (table : ℕ). record { table = table; row = custom.parent / 32 }) o ≡ Some parent → parent.table ≡ h.table → o ≡ Some h.table
+    tagged : (o : Option ℕ) → option_map (λ (table : ℕ). record { table = table; row = custom.parent / 32 }) o ≡ Some parent → parent.table ≡ h.table
+        → o ≡ Some h.table
     tagged (Some t) c e =
         let is : record { table = t; row = custom.parent / 32 } ≡ parent = cc in
         let u : t ≡ parent.table = ap (λ (p : Parent). p.table) is in ap Some (u ∙ e)

@@ -18,7 +18,8 @@ use Rattle.ppdb_rules.specs.declared.lists.ScopeList.{ScopeList}
 use Rattle.ppdb_rules.specs.declared.lists.ScopeList.TheVariants.{Variables, Constants}
 use Rattle.ppdb_rules.specs.Lists.{list_of, table_of, column_of}
 use Rattle.ppdb_rules.specs.Rows.{BadRow}
-use Rattle.ppdb_rules.specs.Rows.BadRow.{string_index, blob_index, guid_index, row_index, scope_order, scope_range, scope_crossing, variable_list, constant_list}
+use Rattle.ppdb_rules.specs.Rows.BadRow.{string_index, blob_index, guid_index, row_index, scope_order, scope_range, scope_crossing}
+use Rattle.ppdb_rules.specs.Rows.BadRow.{variable_list, constant_list}
 use Rattle.ppdb_rules.specs.Scopes.{AreCrossed, HasNoRange, IsAbove, IsListOut, extent_of}
 use Rattle.ppdb_rules.proofs.CellFaults as cells
 
@@ -54,7 +55,8 @@ module _ (raw : RawTables) where
   past_table = cells.past_table raw 0x32 raw.scopes (ScopeFault raw) (inside raw)
 
 module _ (raw : RawTables) (row : ℕ) (scope : ScopeRow) (there : row_at raw.scopes row ≡ Some scope) where
-  next : (column : ℕ) → ToCell raw 0x32 row column → ((byte : ℕ) (code : Code) → ScopeFault raw row scope column byte code → ⊥) → ToCell raw 0x32 row (suc column)
+  next : (column : ℕ) → ToCell raw 0x32 row column → ((byte : ℕ) (code : Code) → ScopeFault raw row scope column byte code → ⊥)
+      → ToCell raw 0x32 row (suc column)
   next column = cells.next_cell raw 0x32 raw.scopes (ScopeFault raw) (inside raw) row column scope there
 
   first : (column : ℕ) (code : Code) (fault : Fault) → ToCell raw 0x32 row column → BadRow raw code (in_blob 0x32 row column 0)

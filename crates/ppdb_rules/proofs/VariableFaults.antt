@@ -23,9 +23,11 @@ use Rattle.ppdb_rules.proofs.CellFaults as cells
 -- the faults of a row, by column, byte and code
 pub data VariableFault (raw : RawTables) (row : ℕ) (variable : VariableRow) : ℕ → ℕ → Code → Type 0 where
   alone : ((row ≡ 1) × (count raw 0x32 ≡ 0)) → VariableFault raw row variable 0 0 ListRange
-  same_slot : HasEarlier (λ before (e : VariableRow). ShareOwner (λ s. s.variables) raw.scopes before row × (e.slot ≡ variable.slot)) raw.variables row → VariableFault raw row variable 1 0 SlotRepeated
+  same_slot : HasEarlier (λ before (e : VariableRow). ShareOwner (λ s. s.variables) raw.scopes before row × (e.slot ≡ variable.slot)) raw.variables row
+      → VariableFault raw row variable 1 0 SlotRepeated
   no_text : text_at raw.texts variable.name ≡ None → VariableFault raw row variable 2 0 StringIndex
-  same_text : HasEarlier (λ before (e : VariableRow). ShareOwner (λ s. s.variables) raw.scopes before row × AreSameText raw.texts e.name variable.name) raw.variables row → VariableFault raw row variable 2 0 NameRepeated
+  same_text : HasEarlier (λ before (e : VariableRow). ShareOwner (λ s. s.variables) raw.scopes before row × AreSameText raw.texts e.name variable.name)
+      raw.variables row → VariableFault raw row variable 2 0 NameRepeated
 
 inside : (raw : RawTables) (code : Code) (at : Place) → BadRow raw code at → at.table ≡ 0x33
     → (x : VariableRow) × (row_at raw.variables at.row ≡ Some x) × VariableFault raw at.row x at.column at.byte code
@@ -47,7 +49,8 @@ module _ (raw : RawTables) where
   past_table = cells.past_table raw 0x33 raw.variables (VariableFault raw) (inside raw)
 
 module _ (raw : RawTables) (row : ℕ) (variable : VariableRow) (there : row_at raw.variables row ≡ Some variable) where
-  next : (column : ℕ) → ToCell raw 0x33 row column → ((byte : ℕ) (code : Code) → VariableFault raw row variable column byte code → ⊥) → ToCell raw 0x33 row (suc column)
+  next : (column : ℕ) → ToCell raw 0x33 row column → ((byte : ℕ) (code : Code) → VariableFault raw row variable column byte code → ⊥)
+      → ToCell raw 0x33 row (suc column)
   next column = cells.next_cell raw 0x33 raw.variables (VariableFault raw) (inside raw) row column variable there
 
   first : (column : ℕ) (code : Code) (fault : Fault) → ToCell raw 0x33 row column → BadRow raw code (in_blob 0x33 row column 0)
@@ -66,7 +69,8 @@ module _ (raw : RawTables) (row : ℕ) (variable : VariableRow) (there : row_at 
 
   pub alone_first : (fault : Fault) → ToCell raw 0x33 row 0 → (row ≡ 1) × (count raw 0x32 ≡ 0)
       → fault ≡ record { code = ListRange; place = in_blob 0x33 row 0 0 } → IsFirstOf raw fault
-  alone_first fault judged wrong = first 0 ListRange fault judged (subst (λ (n : ℕ). BadRow raw ListRange (in_blob 0x33 n 0 0)) (sym wrong.0) (variables_alone (subst (λ (n : ℕ). row_at raw.variables n ≡ Some variable) wrong.0 there) wrong.1)) none
+  alone_first fault judged wrong = first 0 ListRange fault judged (subst (λ (n : ℕ). BadRow raw ListRange (in_blob 0x33 n 0 0)) (sym wrong.0)
+      (variables_alone (subst (λ (n : ℕ). row_at raw.variables n ≡ Some variable) wrong.0 there) wrong.1)) none
     where
       none : (b : ℕ) (other : Code) → VariableFault raw row variable 0 b other → number_of other < 29 → ⊥
       none _ _ (alone _) lower = omega (arith, lower)
@@ -77,14 +81,16 @@ module _ (raw : RawTables) (row : ℕ) (variable : VariableRow) (there : row_at 
       none : (b : ℕ) (other : Code) → VariableFault raw row variable 0 b other → ⊥
       none _ _ (alone w) = no0 w
 
-  pub same_slot_first : (fault : Fault) → ToCell raw 0x33 row 1 → HasEarlier (λ before (e : VariableRow). ShareOwner (λ s. s.variables) raw.scopes before row × (e.slot ≡ variable.slot)) raw.variables row
+  pub same_slot_first : (fault : Fault) → ToCell raw 0x33 row 1
+      → HasEarlier (λ before (e : VariableRow). ShareOwner (λ s. s.variables) raw.scopes before row × (e.slot ≡ variable.slot)) raw.variables row
       → fault ≡ record { code = SlotRepeated; place = in_blob 0x33 row 1 0 } → IsFirstOf raw fault
   same_slot_first fault judged wrong = first 1 SlotRepeated fault judged (slot_repeated there wrong) none
     where
       none : (b : ℕ) (other : Code) → VariableFault raw row variable 1 b other → number_of other < 30 → ⊥
       none _ _ (same_slot _) lower = omega (arith, lower)
 
-  pub next_1 : ToCell raw 0x33 row 1 → (HasEarlier (λ before (e : VariableRow). ShareOwner (λ s. s.variables) raw.scopes before row × (e.slot ≡ variable.slot)) raw.variables row → ⊥) → ToCell raw 0x33 row 2
+  pub next_1 : ToCell raw 0x33 row 1 → (HasEarlier (λ before (e : VariableRow). ShareOwner (λ s. s.variables) raw.scopes before row × (e.slot ≡ variable.slot))
+      raw.variables row → ⊥) → ToCell raw 0x33 row 2
   next_1 judged no0 = next 1 judged none
     where
       none : (b : ℕ) (other : Code) → VariableFault raw row variable 1 b other → ⊥
@@ -98,7 +104,9 @@ module _ (raw : RawTables) (row : ℕ) (variable : VariableRow) (there : row_at 
       none _ _ (no_text _) lower = omega (arith, lower)
       none _ _ (same_text _) lower = omega (arith, lower)
 
-  pub same_text_first : (fault : Fault) → ToCell raw 0x33 row 2 → (text_at raw.texts variable.name ≡ None → ⊥) → HasEarlier (λ before (e : VariableRow). ShareOwner (λ s. s.variables) raw.scopes before row × AreSameText raw.texts e.name variable.name) raw.variables row
+  pub same_text_first : (fault : Fault) → ToCell raw 0x33 row 2 → (text_at raw.texts variable.name ≡ None → ⊥)
+      → HasEarlier (λ before (e : VariableRow). ShareOwner (λ s. s.variables) raw.scopes before row × AreSameText raw.texts e.name variable.name) raw.variables
+      row
       → fault ≡ record { code = NameRepeated; place = in_blob 0x33 row 2 0 } → IsFirstOf raw fault
   same_text_first fault judged no0 wrong = first 2 NameRepeated fault judged (variable_name_repeated there wrong) none
     where
@@ -106,7 +114,9 @@ module _ (raw : RawTables) (row : ℕ) (variable : VariableRow) (there : row_at 
       none _ _ (no_text w) lower = no0 w
       none _ _ (same_text _) lower = omega (arith, lower)
 
-  pub next_2 : ToCell raw 0x33 row 2 → (text_at raw.texts variable.name ≡ None → ⊥) → (HasEarlier (λ before (e : VariableRow). ShareOwner (λ s. s.variables) raw.scopes before row × AreSameText raw.texts e.name variable.name) raw.variables row → ⊥) → ToCell raw 0x33 row 3
+  pub next_2 : ToCell raw 0x33 row 2 → (text_at raw.texts variable.name ≡ None → ⊥)
+      → (HasEarlier (λ before (e : VariableRow). ShareOwner (λ s. s.variables) raw.scopes before row × AreSameText raw.texts e.name variable.name) raw.variables
+      row → ⊥) → ToCell raw 0x33 row 3
   next_2 judged no0 no1 = next 2 judged none
     where
       none : (b : ℕ) (other : Code) → VariableFault raw row variable 2 b other → ⊥

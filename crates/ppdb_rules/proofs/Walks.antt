@@ -1,5 +1,6 @@
 -- Chains of parents: a chain that comes back to a row never ends.
-use Rattle.std.proofs.Common.{◌≡◌, ℕ, ◌+◌, ◌-◌, ◌<◌, ◌≤◌, ◌≢◌, List, length, slice_get, get_or, Some, None, refl, sym, subst, ap, ◌∙◌, arith, inl, inr, zero, suc}
+use Rattle.std.proofs.Common.{◌≡◌, ℕ, ◌+◌, ◌-◌, ◌<◌, ◌≤◌, ◌≢◌, List, length, slice_get, get_or, Some, None, refl, sym, subst, ap, ◌∙◌}
+use Rattle.std.proofs.Common.{arith, inl, inr, zero, suc}
 use Rattle.std.proofs.Common.{true, false, IsTrue, ◌↔◌, replicate}
 use Rattle.std.proofs.lemmas.Bool.{cases_lt, cases_eq}
 use Rattle.std.proofs.lemmas.List.{get_or-set_same, get_or-set_other, length-set, get_or-replicate, length-replicate}
@@ -28,21 +29,24 @@ module _ (imports : List ImportRow) where
 
   -- a chain that ends by some step is at 0 from then on
   stays : (x a b : ℕ) → ancestor_of imports x a ≡ 0 → a ≤ b → ancestor_of imports x b ≡ 0
-  stays x a b z le = ap (λ n. ancestor_of imports x n) (let e : b ≡ a + (b - a) = omega arith in e) ∙ (ancestor-+ x a (b - a) ∙ (ap (λ n. ancestor_of imports n (b - a)) z ∙ ancestor-zero (b - a)))
+  stays x a b z le = ap (λ n. ancestor_of imports x n) (let e : b ≡ a + (b - a) = omega arith in e)
+      ∙ (ancestor-+ x a (b - a) ∙ (ap (λ n. ancestor_of imports n (b - a)) z ∙ ancestor-zero (b - a)))
 
   cycle : (x d fuel : ℕ) → x ≢ 0 → ancestor_of imports x (suc d) ≡ x → (k : ℕ) → k < fuel → ancestor_of imports x k ≢ 0
   cycle x d zero nz back k lt z = omega (arith, lt)
   cycle x d (suc fuel) nz back k lt z = elim (cases_lt k (suc d)) [
     | inl before ↦ nz (sym back ∙ stays x k (suc d) z (omega arith))
     | inr past ↦ cycle x d fuel nz back (k - suc d) (omega (arith, lt, past))
-        (ap (λ n. ancestor_of imports n (k - suc d)) (sym back) ∙ (sym (ancestor-+ x (suc d) (k - suc d)) ∙ (ap (λ n. ancestor_of imports x n) (let e : suc d + (k - suc d) ≡ k = omega (arith, past) in e) ∙ z)))
+        (ap (λ n. ancestor_of imports n (k - suc d)) (sym back)
+        ∙ (sym (ancestor-+ x (suc d) (k - suc d)) ∙ (ap (λ n. ancestor_of imports x n) (let e : suc d + (k - suc d) ≡ k = omega (arith, past) in e) ∙ z)))
   ]
 
   -- a chain that leads to a row which leads back to itself never ends
   pub never_from : (r x d e : ℕ) → x ≢ 0 → ancestor_of imports r d ≡ x → ancestor_of imports x (suc e) ≡ x → NeverEnds imports r
   never_from r x d e nz to back steps z = elim (cases_lt d steps) [
     | inl lt ↦ cycle x e (suc (steps - d)) nz back (steps - d) (omega arith)
-        (ap (λ n. ancestor_of imports n (steps - d)) (sym to) ∙ (sym (ancestor-+ r d (steps - d)) ∙ (ap (λ n. ancestor_of imports r n) (let s : d + (steps - d) ≡ steps = omega (arith, lt) in s) ∙ z)))
+        (ap (λ n. ancestor_of imports n (steps - d)) (sym to)
+        ∙ (sym (ancestor-+ r d (steps - d)) ∙ (ap (λ n. ancestor_of imports r n) (let s : d + (steps - d) ≡ steps = omega (arith, lt) in s) ∙ z)))
     | inr ge ↦ nz (sym to ∙ stays r steps d z ge)
   ]
 
@@ -123,6 +127,8 @@ ends_decides imports row e = ((λ wrong. let w : false ≡ true = wrong in cc), 
 pub marks_at_first : (imports : List ImportRow) (marks : List ℕ) → marks ≡ replicate (length imports) 0 → MarksEnd imports 1 marks
 marks_at_first imports marks is = record {
   one_each = ap length is ∙ length-replicate {A = ℕ} (length imports) 0;
-  earlier = λ index within. rw is (rw (get_or-replicate {A = ℕ} (length imports) index 0 0 (omega (arith, within, ap length is, length-replicate {A = ℕ} (length imports) 0))) (omega arith));
-  ends = λ index within marked. absurd (marked (rw is (get_or-replicate {A = ℕ} (length imports) index 0 0 (omega (arith, within, ap length is, length-replicate {A = ℕ} (length imports) 0)))));
+  earlier = λ index within. rw is (rw (get_or-replicate {A = ℕ}
+      (length imports) index 0 0 (omega (arith, within, ap length is, length-replicate {A = ℕ} (length imports) 0))) (omega arith));
+  ends = λ index within marked. absurd (marked
+      (rw is (get_or-replicate {A = ℕ} (length imports) index 0 0 (omega (arith, within, ap length is, length-replicate {A = ℕ} (length imports) 0)))));
 }

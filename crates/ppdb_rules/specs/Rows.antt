@@ -1,7 +1,10 @@
 -- The rules of the rows of the tables 30 to 37, F19 to F39: where each is broken.
 use Rattle.std.specs.Prelude.{ℕ, ◌≡◌, ◌%◌, ◌<◌, ◌≤◌, None, Some}
 use Rattle.ppdb_base.specs.declared.code.Code.{Code}
-use Rattle.ppdb_base.specs.declared.code.Code.TheVariants.{StringIndex, BlobIndex, GuidIndex, RowIndex, CodedTag, NameNil, DocumentRepeated, ScopeOrder, ScopeRange, ScopeCrossing, ListRange, SlotRepeated, NameRepeated, ImportCycle, MachineOrder, KickoffRepeated, CustomOrder, KindParent}
+use Rattle.ppdb_base.specs.declared.code.Code.TheVariants.{StringIndex, BlobIndex, GuidIndex, RowIndex, CodedTag, NameNil}
+use Rattle.ppdb_base.specs.declared.code.Code.TheVariants.{DocumentRepeated, ScopeOrder, ScopeRange, ScopeCrossing, ListRange}
+use Rattle.ppdb_base.specs.declared.code.Code.TheVariants.{SlotRepeated, NameRepeated, ImportCycle, MachineOrder, KickoffRepeated}
+use Rattle.ppdb_base.specs.declared.code.Code.TheVariants.{CustomOrder, KindParent}
 use Rattle.ppdb_base.specs.declared.fault.BlobFault.{BlobFault}
 use Rattle.ppdb_base.specs.declared.fault.Place.{Place}
 use Rattle.ppdb_base.specs.Place.{cell}
@@ -69,10 +72,12 @@ pub data BadRow (raw : RawTables) : Code → Place → Type 0 where
       → BadRow raw SlotRepeated (cell 0x33 row 1)
   -- F31: an earlier variable or constant of the scope has the name
   variable_name_repeated : {row : ℕ} {variable : VariableRow} → row_at raw.variables row ≡ Some variable
-      → HasEarlier (λ before (e : VariableRow). ShareOwner (λ s. s.variables) raw.scopes before row × AreSameText raw.texts e.name variable.name) raw.variables row
+      → HasEarlier (λ before (e : VariableRow). ShareOwner (λ s. s.variables) raw.scopes before row × AreSameText raw.texts e.name variable.name) raw.variables
+      row
       → BadRow raw NameRepeated (cell 0x33 row 2)
   constant_name_repeated : {row : ℕ} {constant : ConstantRow} → row_at raw.constants row ≡ Some constant
-      → HasEarlier (λ before (e : ConstantRow). ShareOwner (λ s. s.constants) raw.scopes before row × AreSameText raw.texts e.name constant.name) raw.constants row
+      → HasEarlier (λ before (e : ConstantRow). ShareOwner (λ s. s.constants) raw.scopes before row × AreSameText raw.texts e.name constant.name) raw.constants
+      row
       → BadRow raw NameRepeated (cell 0x34 row 0)
   -- F32: the chain of parents from an import scope never ends
   import_cycle : {row : ℕ} {import : ImportRow} → row_at raw.imports row ≡ Some import → NeverEnds raw.imports row

@@ -57,7 +57,8 @@ pub record AreSlots (scopes : List ScopeRow) (variables : List VariableRow) (row
   pub complete : (n : ℕ) → HasEarlierOf (λ s. s.variables) scopes variables row owner (λ (e : VariableRow). e.slot ≡ n) → slice_index marks n ≡ owner
 
 -- the texts are the names of the owner's items before the row
-pub record AreTexts {X : Type 0} (list : ScopeRow → ℕ) (scopes : List ScopeRow) (texts : List ℕ) (name_of : X → ℕ) (rows : List X) (row owner : ℕ) (seen : Texts) : Type 0 where
+pub record AreTexts {X : Type 0} (list : ScopeRow → ℕ) (scopes : List ScopeRow) (texts : List ℕ) (name_of : X → ℕ) (rows : List X) (row owner : ℕ)
+    (seen : Texts) : Type 0 where
   pub sound : (t : List ℕ) → HasText seen t → HasEarlierOf list scopes rows row owner (λ e. text_at texts (name_of e) ≡ Some t)
   pub complete : (t : List ℕ) → HasEarlierOf list scopes rows row owner (λ e. text_at texts (name_of e) ≡ Some t) → HasText seen t
 

@@ -73,7 +73,8 @@ fn judge_name(
 
 /// Whether a name is whole and longer than those before it, so that it repeats none of them.
 fn is_longer(tables: &Tables<'_>, document: &DocumentRow, longest: usize) -> bool
-    ensures { IsTrue result → (IsNil (raw_of tables.now).blobs document.now.name → ⊥) × ((name : List ℕ) × SpellsName (raw_of tables.now).blobs document.now.name name × (longest < length name)) }
+    ensures { IsTrue result → (IsNil (raw_of tables.now).blobs document.now.name → ⊥) × ((name : List ℕ) × SpellsName (raw_of tables.now).blobs document.now.name name
+        × (longest < length name)) }
 {
     let Some(content) = tables.blobs().get(document.name) else {
         return false;

@@ -225,7 +225,8 @@ fn add_open(
     requires there { row_at (raw_of tables.now).scopes row ≡ Some scope.now }
     requires judged { ToCell (raw_of tables.now) 0x32 row 6 }
     requires opened { AreOpen (raw_of tables.now).scopes row scope.now.method scope.now.start ends.old.items }
-    ensures { OnOk result ((b : ScopeRow) → row_at (raw_of tables.now).scopes row ≡ Some b → AreOpen (raw_of tables.now).scopes (row + 1) b.method b.start ends.new.items) }
+    ensures { OnOk result ((b : ScopeRow) → row_at (raw_of tables.now).scopes row ≡ Some b
+        → AreOpen (raw_of tables.now).scopes (row + 1) b.method b.start ends.new.items) }
 {
     ends.push(end_of(scope))?;
     Ok(())
@@ -243,7 +244,8 @@ fn judge_scope<L: Ledger>(
     requires judged { ToCell (raw_of tables.now) 0x32 row 0 }
     requires opened { (b : ScopeRow) → row_at (raw_of tables.now).scopes (row - 1) ≡ Some b → AreOpen (raw_of tables.now).scopes row b.method b.start ends.old.items }
     ensures ok { OnOk result (ToRow (raw_of tables.now) 0x32 (row + 1)) }
-    ensures opened { OnOk result ((b : ScopeRow) → row_at (raw_of tables.now).scopes row ≡ Some b → AreOpen (raw_of tables.now).scopes (row + 1) b.method b.start ends.new.items) }
+    ensures opened { OnOk result ((b : ScopeRow) → row_at (raw_of tables.now).scopes row ≡ Some b
+        → AreOpen (raw_of tables.now).scopes (row + 1) b.method b.start ends.new.items) }
     ensures err { IfErr result (FaultIs (IsFirstOf (raw_of tables.now))) }
 {
     judge_method(tables, row, scope, steps)?;

@@ -47,7 +47,8 @@ pub fn answer<'a, F: Folder, O: Sink, K: Ledger, L: Ledger>(
         (Rose (F.write_faults folder.old) (F.write_faults folder.new))
         (Rose (O.faults out.old) (O.faults out.new))) }
     ensures silent { IfErr result (λ stop. OnUntold (cause_of stop) (O.written out.new ≡ O.written out.old)) }
-    ensures cut { OnTask (Ask (question_of question.entry) file.now) (F.files folder.old) (λ due. IfErr result (λ stop. OnCut (cause_of stop) (AppendsFront (O.written out.old) (O.written out.new) due.text))) }
+    ensures cut { OnTask (Ask (question_of question.entry) file.now) (F.files folder.old)
+        (λ due. IfErr result (λ stop. OnCut (cause_of stop) (AppendsFront (O.written out.old) (O.written out.new) due.text))) }
     ensures later { O.faults out.old ≤ O.faults out.new }
 {
     let mut bytes = List::new(alloc);
@@ -71,7 +72,8 @@ fn put_answer<'a, O: Sink, L: Ledger>(
     ensures text { OnOk result (O.written out.new ≡ appended (O.written out.old) (outcome_of (answer_of (question_of question.entry) name.now (raw_file file.now))).text) }
     ensures causes { IfErr result (λ stop. ComesFrom (cause_of stop) ⊥ no_file no_file None ⊥ ⊥ (Rose (O.faults out.old) (O.faults out.new))) }
     ensures silent { IfErr result (λ stop. OnUntold (cause_of stop) (O.written out.new ≡ O.written out.old)) }
-    ensures cut { IfErr result (λ stop. OnCut (cause_of stop) (AppendsFront (O.written out.old) (O.written out.new) (outcome_of (answer_of (question_of question.entry) name.now (raw_file file.now))).text)) }
+    ensures cut { IfErr result (λ stop. OnCut (cause_of stop)
+        (AppendsFront (O.written out.old) (O.written out.new) (outcome_of (answer_of (question_of question.entry) name.now (raw_file file.now))).text)) }
     ensures later { O.faults out.old ≤ O.faults out.new }
     ensures none { ReadsNoRows (question_of question.entry) → steps.new ≡ steps.old }
     ensures bound { IsWithinBound (question_of question.entry) (raw_file file.now) steps.old steps.new }

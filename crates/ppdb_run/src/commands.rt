@@ -33,18 +33,22 @@ pub fn run<F: Folder, O: Sink, K: Ledger, L: Ledger>(
     ensures status { OnOutcome (texts words.now) (F.files folder.old) (λ due. UnlessFault result (result ≡ due.status)) }
     ensures text { OnOutcome (texts words.now) (F.files folder.old) (λ due. UnlessFault result (O.written out.new ≡ appended (O.written out.old) due.text)) }
     ensures files { OnOutcome (texts words.now) (F.files folder.old) (λ due. LeavesFiles result due (F.files folder.old) (F.files folder.new)) }
-    ensures complete { OnOutcome (texts words.now) (F.files folder.old) (λ due. (result ≡ due.status) ⊎ (result ≡ Status.Memory) ⊎ HadFault (F.read_faults folder.old) (F.read_faults folder.new) (F.write_faults folder.old) (F.write_faults folder.new) (O.faults out.old) (O.faults out.new)) }
+    ensures complete { OnOutcome (texts words.now) (F.files folder.old) (λ due. (result ≡ due.status) ⊎ (result ≡ Status.Memory) ⊎ HadFault (F.read_faults folder.old)
+        (F.read_faults folder.new) (F.write_faults folder.old) (F.write_faults folder.new) (O.faults out.old) (O.faults out.new)) }
 
     // A failed read.
     ensures read_fault { result ≡ Status.ReadFault → Rose (F.read_faults folder.old) (F.read_faults folder.new) }
-    ensures unread { result ≡ Status.ReadFault → TellsUnread (texts words.now) (F.files folder.old) (F.reads folder.old) (F.reads folder.new) (O.written out.old) (O.written out.new) }
+    ensures unread { result ≡ Status.ReadFault → TellsUnread (texts words.now) (F.files folder.old) (F.reads folder.old) (F.reads folder.new) (O.written out.old)
+        (O.written out.new) }
 
     // A failed write, of the file or of the text.
     ensures write_fault { result ≡ Status.WriteFault → Rose (F.write_faults folder.old) (F.write_faults folder.new) ⊎ Rose (O.faults out.old) (O.faults out.new) }
     ensures unwritten { result ≡ Status.WriteFault → Rose (O.faults out.old) (O.faults out.new) ⊎ TellsUnwritten (texts words.now) (O.written out.old) (O.written out.new) }
 
     // Whatever comes, what was put is a front of a text that was due.
-    ensures front { OnOutcome (texts words.now) (F.files folder.old) (λ due. PutsFront (texts words.now) (F.files folder.old) due (F.reads folder.old) (F.reads folder.new) (Rose (F.read_faults folder.old) (F.read_faults folder.new)) (Rose (F.write_faults folder.old) (F.write_faults folder.new)) (O.written out.old) (O.written out.new)) }
+    ensures front { OnOutcome (texts words.now) (F.files folder.old) (λ due. PutsFront (texts words.now) (F.files folder.old) due (F.reads folder.old) (F.reads folder.new)
+        (Rose (F.read_faults folder.old) (F.read_faults folder.new)) (Rose (F.write_faults folder.old) (F.write_faults folder.new)) (O.written out.old)
+        (O.written out.new)) }
 
     // What a command writes is valid, and the same command over it writes it again.
     ensures accepted { result ≡ Status.Done → OnOutcome (texts words.now) (F.files folder.old) WritesValid }
@@ -107,7 +111,8 @@ fn carry_out<'a, F: Folder, O: Sink, K: Ledger, L: Ledger>(
         (Rose (O.faults out.old) (O.faults out.new))) }
     ensures no_task { NoTask (texts words.now) → IsErrOf result Stop.Usage }
     ensures silent { IfErr result (λ stop. OnUntold (cause_of stop) (O.written out.new ≡ O.written out.old)) }
-    ensures cut { OnOutcome (texts words.now) (F.files folder.old) (λ due. IfErr result (λ stop. OnCut (cause_of stop) (AppendsFront (O.written out.old) (O.written out.new) due.text))) }
+    ensures cut { OnOutcome (texts words.now) (F.files folder.old)
+        (λ due. IfErr result (λ stop. OnCut (cause_of stop) (AppendsFront (O.written out.old) (O.written out.new) due.text))) }
     ensures kept { IfErr result (λ stop. OnKept (cause_of stop) (F.files folder.new ≡ F.files folder.old)) }
     ensures read_only { KeepsFiles (texts words.now) (F.files folder.old) (F.files folder.new) }
     ensures later { O.faults out.old ≤ O.faults out.new }

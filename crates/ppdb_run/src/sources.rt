@@ -28,7 +28,8 @@ pub fn answer_links<'a, O: Sink, L: Ledger>(
     ensures text { OnOk result (O.written out.new ≡ appended (O.written out.old) (outcome_of (answer_of Links name.now (raw_file file.now))).text) }
     ensures causes { IfErr result (λ stop. ComesFrom (cause_of stop) ⊥ no_file no_file None ⊥ ⊥ (Rose (O.faults out.old) (O.faults out.new))) }
     ensures silent { IfErr result (λ stop. OnUntold (cause_of stop) (O.written out.new ≡ O.written out.old)) }
-    ensures cut { IfErr result (λ stop. OnCut (cause_of stop) (AppendsFront (O.written out.old) (O.written out.new) (outcome_of (answer_of Links name.now (raw_file file.now))).text)) }
+    ensures cut { IfErr result (λ stop. OnCut (cause_of stop)
+        (AppendsFront (O.written out.old) (O.written out.new) (outcome_of (answer_of Links name.now (raw_file file.now))).text)) }
     ensures later { O.faults out.old ≤ O.faults out.new }
     ensures bound { IsWithinBound Links (raw_file file.now) steps.old steps.new }
 {
@@ -53,7 +54,8 @@ pub fn answer_breaks<'a, O: Sink, L: Ledger>(
     ensures text { OnOk result (O.written out.new ≡ appended (O.written out.old) (outcome_of (answer_of (Breaks document.now line) [] (raw_file file.now))).text) }
     ensures causes { IfErr result (λ stop. ComesFrom (cause_of stop) ⊥ no_file no_file None ⊥ ⊥ (Rose (O.faults out.old) (O.faults out.new))) }
     ensures silent { IfErr result (λ stop. OnUntold (cause_of stop) (O.written out.new ≡ O.written out.old)) }
-    ensures cut { IfErr result (λ stop. OnCut (cause_of stop) (AppendsFront (O.written out.old) (O.written out.new) (outcome_of (answer_of (Breaks document.now line) [] (raw_file file.now))).text)) }
+    ensures cut { IfErr result (λ stop. OnCut (cause_of stop)
+        (AppendsFront (O.written out.old) (O.written out.new) (outcome_of (answer_of (Breaks document.now line) [] (raw_file file.now))).text)) }
     ensures later { O.faults out.old ≤ O.faults out.new }
     ensures bound { IsWithinBound (Breaks document.now line) (raw_file file.now) steps.old steps.new }
 {

@@ -70,7 +70,8 @@ fn put_unmapped<O: Sink>(
     row: u32,
     place: Place,
 ) -> Result<(), WriteError>
-    ensures { Puts result (O.written out.old) (O.written out.new) (O.faults out.old) (O.faults out.new) (text_of (unfit_line file.now (merge_errors.Unmapped table row place))) }
+    ensures { Puts result (O.written out.old) (O.written out.new) (O.faults out.old) (O.faults out.new)
+        (text_of (unfit_line file.now (merge_errors.Unmapped table row place))) }
 {
     let file = Field(" ", "", Name(file.as_bytes()));
     let table = Field(" M1 table ", "", Table(table));
@@ -109,7 +110,8 @@ fn put_image_twice<O: Sink>(
     second: u32,
     image: u32,
 ) -> Result<(), WriteError>
-    ensures { Puts result (O.written out.old) (O.written out.new) (O.faults out.old) (O.faults out.new) (text_of (unfit_line file.now (merge_errors.ImageTwice table first second image))) }
+    ensures { Puts result (O.written out.old) (O.written out.new) (O.faults out.old) (O.faults out.new)
+        (text_of (unfit_line file.now (merge_errors.ImageTwice table first second image))) }
 {
     let file = Field(" ", "", Name(file.as_bytes()));
     let table = Field(" M2 table ", "", Table(table));
@@ -128,7 +130,8 @@ fn put_method_taken<O: Sink>(
     second: u32,
     image: u32,
 ) -> Result<(), WriteError>
-    ensures { Puts result (O.written out.old) (O.written out.new) (O.faults out.old) (O.faults out.new) (text_of (unfit_line file.now (merge_errors.MethodTaken input first second image))) }
+    ensures { Puts result (O.written out.old) (O.written out.new) (O.faults out.old) (O.faults out.new)
+        (text_of (unfit_line file.now (merge_errors.MethodTaken input first second image))) }
 {
     let file = Field(" ", "", Name(file.as_bytes()));
     let input = Field(" M3 input ", "", Number(input));
@@ -146,7 +149,8 @@ fn put_offset_beyond<O: Sink>(
     offset: u32,
     size: u32,
 ) -> Result<(), WriteError>
-    ensures { Puts result (O.written out.old) (O.written out.new) (O.faults out.old) (O.faults out.new) (text_of (unfit_line file.now (merge_errors.OffsetBeyond method offset size))) }
+    ensures { Puts result (O.written out.old) (O.written out.new) (O.faults out.old) (O.faults out.new)
+        (text_of (unfit_line file.now (merge_errors.OffsetBeyond method offset size))) }
 {
     let file = Field(" ", "", Name(file.as_bytes()));
     let method = Field(" M4 method ", "", Number(method));
@@ -162,7 +166,8 @@ fn put_async_lost<O: Sink>(
     method: u32,
     offset: u32,
 ) -> Result<(), WriteError>
-    ensures { Puts result (O.written out.old) (O.written out.new) (O.faults out.old) (O.faults out.new) (text_of (unfit_line file.now (merge_errors.AsyncLost method offset))) }
+    ensures { Puts result (O.written out.old) (O.written out.new) (O.faults out.old) (O.faults out.new)
+        (text_of (unfit_line file.now (merge_errors.AsyncLost method offset))) }
 {
     let file = Field(" ", "", Name(file.as_bytes()));
     let method = Field(" M5 method ", "", Number(method));
@@ -177,7 +182,8 @@ fn put_kind_unknown<O: Sink>(
     row: u32,
     kind: [u8; 16],
 ) -> Result<(), WriteError>
-    ensures { Puts result (O.written out.old) (O.written out.new) (O.faults out.old) (O.faults out.new) (text_of (unfit_line file.now (merge_errors.KindUnknown row kind))) }
+    ensures { Puts result (O.written out.old) (O.written out.new) (O.faults out.old) (O.faults out.new)
+        (text_of (unfit_line file.now (merge_errors.KindUnknown row kind))) }
 {
     let file = Field(" ", "", Name(file.as_bytes()));
     let row = Field(" M6 row ", "", Number(row));
@@ -192,7 +198,8 @@ fn put_document_conflict<O: Sink>(
     row: u32,
     joined: u32,
 ) -> Result<(), WriteError>
-    ensures { Puts result (O.written out.old) (O.written out.new) (O.faults out.old) (O.faults out.new) (text_of (unfit_line file.now (merge_errors.DocumentConflict row joined))) }
+    ensures { Puts result (O.written out.old) (O.written out.new) (O.faults out.old) (O.faults out.new)
+        (text_of (unfit_line file.now (merge_errors.DocumentConflict row joined))) }
 {
     let file = Field(" ", "", Name(file.as_bytes()));
     let row = Field(" M7 document ", "", Number(row));
@@ -209,7 +216,8 @@ fn put_rows_differ<O: Sink>(
     first: u32,
     second: u32,
 ) -> Result<(), WriteError>
-    ensures { Puts result (O.written out.old) (O.written out.new) (O.faults out.old) (O.faults out.new) (text_of (unfit_line file.now (merge_errors.RowsDiffer input table first second))) }
+    ensures { Puts result (O.written out.old) (O.written out.new) (O.faults out.old) (O.faults out.new)
+        (text_of (unfit_line file.now (merge_errors.RowsDiffer input table first second))) }
 {
     let file = Field(" ", "", Name(file.as_bytes()));
     let table = Field(" M8 table ", "", Table(table));
@@ -228,7 +236,8 @@ fn put_image_range<O: Sink>(
     image: u32,
     rows: u32,
 ) -> Result<(), WriteError>
-    ensures { Puts result (O.written out.old) (O.written out.new) (O.faults out.old) (O.faults out.new) (text_of (unfit_line file.now (merge_errors.ImageRange input table row image rows))) }
+    ensures { Puts result (O.written out.old) (O.written out.new) (O.faults out.old) (O.faults out.new)
+        (text_of (unfit_line file.now (merge_errors.ImageRange input table row image rows))) }
 {
     let file = Field(" ", "", Name(file.as_bytes()));
     let table = Field(" M9 table ", "", Table(table));
@@ -245,7 +254,8 @@ fn put_slot_unmapped<O: Sink>(
     row: u32,
     slot: u16,
 ) -> Result<(), WriteError>
-    ensures { Puts result (O.written out.old) (O.written out.new) (O.faults out.old) (O.faults out.new) (text_of (unfit_line file.now (merge_errors.SlotUnmapped row slot))) }
+    ensures { Puts result (O.written out.old) (O.written out.new) (O.faults out.old) (O.faults out.new)
+        (text_of (unfit_line file.now (merge_errors.SlotUnmapped row slot))) }
 {
     let file = Field(" ", "", Name(file.as_bytes()));
     let row = Field(" M10 variable ", "", Number(row));
@@ -262,7 +272,8 @@ fn put_slot_twice<O: Sink>(
     second: u16,
     image: u16,
 ) -> Result<(), WriteError>
-    ensures { Puts result (O.written out.old) (O.written out.new) (O.faults out.old) (O.faults out.new) (text_of (unfit_line file.now (merge_errors.SlotTwice method first second image))) }
+    ensures { Puts result (O.written out.old) (O.written out.new) (O.faults out.old) (O.faults out.new)
+        (text_of (unfit_line file.now (merge_errors.SlotTwice method first second image))) }
 {
     let file = Field(" ", "", Name(file.as_bytes()));
     let method = Field(" M11 method ", "", Number(method));

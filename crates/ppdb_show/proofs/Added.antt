@@ -26,7 +26,8 @@ unfolding lines_text
 one_line shown = append-nil (text_of shown)
 
 -- what a sink in memory was given
-pub added : {T E : Type 0} (r : Result T E) (old new : List ℕ) (shown : Line) → is_err r ≡ false → OnOk r (Some new ≡ appended (Some old) (text_of shown)) → Adds old new (shown ∷ [])
+pub added : {T E : Type 0} (r : Result T E) (old new : List ℕ) (shown : Line) → is_err r ≡ false → OnOk r (Some new ≡ appended (Some old) (text_of shown))
+    → Adds old new (shown ∷ [])
 added (Ok x) old new shown h p = ap (λ (o : Option (List ℕ)). unwrap_or o []) p ∙ ap (λ (text : List ℕ). old ++ text) (sym (one_line shown))
 added (Err x) old new shown h p = absurd (grind (arith, h))
 
@@ -35,10 +36,12 @@ adds_none old = sym (append-nil old) ∙ ap (λ (text : List ℕ). old ++ text) 
 
 pub adds_both : (old mid new : List ℕ) (xs ys : List Line) → Adds old mid xs → Adds mid new ys → Adds old new (xs ++ ys)
 adds_both old mid new xs ys h k =
-    k ∙ ap (λ (text : List ℕ). text ++ lines_text ys) h ∙ append_assoc old (lines_text xs) (lines_text ys) ∙ ap (λ (text : List ℕ). old ++ text) (sym (more_lines xs ys))
+    k ∙ ap (λ (text : List ℕ). text ++ lines_text ys) h ∙ append_assoc old (lines_text xs) (lines_text ys)
+    ∙ ap (λ (text : List ℕ). old ++ text) (sym (more_lines xs ys))
 
 -- the last of several is put by the call that answers
-pub then_ok : {T E : Type 0} (r : Result T E) (old mid new : List ℕ) (xs ys : List Line) → Adds old mid xs → OnOk r (Adds mid new ys) → OnOk r (Adds old new (xs ++ ys))
+pub then_ok : {T E : Type 0} (r : Result T E) (old mid new : List ℕ) (xs ys : List Line) → Adds old mid xs → OnOk r (Adds mid new ys)
+    → OnOk r (Adds old new (xs ++ ys))
 then_ok (Ok x) old mid new xs ys h k = adds_both old mid new xs ys h k
 then_ok (Err x) old mid new xs ys h k = tt
 
@@ -47,13 +50,15 @@ then_ok (Err x) old mid new xs ys h k = tt
 pub sum_first : {X : Type 0} (reads : X → ℕ) (x : X) (rest : List X) → sum_by reads (x ∷ rest) ≡ reads x + sum_by reads rest
 sum_first reads x rest = sum_by-append reads (x ∷ []) rest ∙ ap (λ (n : ℕ). n + sum_by reads rest) (zero-add (reads x))
 
-pub walk_none : {X : Type 0} (lines : X → List Line) (reads : X → ℕ) (all left : List X) (old : List ℕ) (before after : ℕ) → left ≡ all → after ≤ before → Walked lines reads all left old old before after
+pub walk_none : {X : Type 0} (lines : X → List Line) (reads : X → ℕ) (all left : List X) (old : List ℕ) (before after : ℕ) → left ≡ all → after ≤ before
+    → Walked lines reads all left old old before after
 walk_none {X} lines reads all left old before after e cost =
     let same = ap (sum_by reads) e in
     record { put = ap (λ (xs : List X). old ++ lines_text (flat_map lines xs)) (sym e); read = omega (arith, same, cost) }
 
 pub walk_next : {X : Type 0} (lines : X → List Line) (reads : X → ℕ) (all left rest : List X) (x : X) (old mid new : List ℕ) (before between after : ℕ)
-    → Walked lines reads all left old mid before between → left ≡ x ∷ rest → Adds mid new (lines x) → after ≤ between + reads x → Walked lines reads all rest old new before after
+    → Walked lines reads all left old mid before between → left ≡ x ∷ rest → Adds mid new (lines x) → after ≤ between + reads x
+    → Walked lines reads all rest old new before after
 walk_next {X} lines reads all left rest x old mid new before between after h e a cost =
     let first = ap (sum_by reads) e ∙ sum_first reads x rest in
     let read = h.read in
@@ -111,7 +116,8 @@ uses_each [] = refl
 uses_each (item ∷ items) = ap (λ (rest : List Line). use_line (import_value item) ∷ rest) (uses_each items)
 
 -- the whole text of an answer
-pub whole_text : {T E : Type 0} (r : Result T E) (old new content : List ℕ) (lines : List Line) → is_err r ≡ false → old ≡ [] → OnOk r (Adds old new lines) → content ≡ new → content ≡ flat_map text_of lines
+pub whole_text : {T E : Type 0} (r : Result T E) (old new content : List ℕ) (lines : List Line) → is_err r ≡ false → old ≡ [] → OnOk r (Adds old new lines)
+    → content ≡ new → content ≡ flat_map text_of lines
 unfolding lines_text
 whole_text (Ok x) old new content lines h empty put same = same ∙ put ∙ ap (λ (text : List ℕ). text ++ lines_text lines) empty
 whole_text (Err x) old new content lines h empty put same = absurd (grind (arith, h))

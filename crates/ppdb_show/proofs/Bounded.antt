@@ -47,7 +47,8 @@ with_most d n =
     let h : 1 * n ≤ (2 * d + 2) * n = mul-le-mul_right n (omega arith) in
     omega (arith, e, h)
 
-items_most : {X : Type 0} (raw : RawTables) (table : ℕ) (items : List (ℕ × X)) → items_reads raw table items ≤ (2 * digits (length raw.customs) + 2) * all_with_customs raw table items
+items_most : {X : Type 0} (raw : RawTables) (table : ℕ) (items : List (ℕ × X))
+    → items_reads raw table items ≤ (2 * digits (length raw.customs) + 2) * all_with_customs raw table items
 items_most {X} raw table items =
     sum_most (2 * digits (length raw.customs) + 2) (item_reads raw table) (λ item. with_customs raw table item.0)
     (λ item. with_most (digits (length raw.customs)) (length (customs_on raw table item.0))) items
@@ -68,7 +69,8 @@ scope_most raw view =
     let vd = items_most raw 0x35 (imports_of raw view) in
     omega (arith, first, second, third, one, va, vb, vd)
 
-total : (a s b d n h r l : ℕ) → r ≤ (2 * d + 2) * h → l ≤ b → 3 + ((2 * a + 2 * s + r) + ((2 * d + n) + ((l + b) + (2 * d + n)))) ≤ 4 + 2 * a + 2 * s + 2 * b + (4 * d + 4) * (1 + (h + n))
+total : (a s b d n h r l : ℕ) → r ≤ (2 * d + 2) * h → l ≤ b → 3 + ((2 * a + 2 * s + r) + ((2 * d + n) + ((l + b) + (2 * d + n)))) ≤ 4 + 2 * a + 2 * s + 2 * b
+    + (4 * d + 4) * (1 + (h + n))
 total a s b d n h r l reads less =
     let first = mul-add (4 * d + 4) 1 (h + n) in
     let second = mul-add (4 * d + 4) h n in
@@ -78,10 +80,12 @@ total a s b d n h r l reads less =
 
 -- all that is read is within the bound
 pub reads_bounded : (raw : RawTables) (m x : ℕ)
-    → 3 + (scopes_reads raw m x + (customs_reads raw 0x06 m + ((digits (length raw.machines) + length raw.machines) + customs_reads raw 0x06 m))) ≤ query_rows raw m x
+    → 3 + (scopes_reads raw m x + (customs_reads raw 0x06 m + ((digits (length raw.machines) + length raw.machines) + customs_reads raw 0x06 m)))
+    ≤ query_rows raw m x
 unfolding query_rows
 reads_bounded raw m x =
-    total (digits (length raw.scopes)) (scopes_of raw m) (length raw.machines) (digits (length raw.customs)) (length (customs_on raw 0x06 m)) (sum_by (shown_of_scope raw) (scopes_at raw m x))
+    total (digits (length raw.scopes)) (scopes_of raw m) (length raw.machines) (digits (length raw.customs)) (length (customs_on raw 0x06 m))
+    (sum_by (shown_of_scope raw) (scopes_at raw m x))
     (sum_by (scope_reads raw) (scopes_at raw m x)) (digits (length raw.machines))
     (sum_most (2 * digits (length raw.customs) + 2) (scope_reads raw) (shown_of_scope raw) (scope_most raw) (scopes_at raw m x))
     (digits_most (length raw.machines))

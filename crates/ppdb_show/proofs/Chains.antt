@@ -22,7 +22,8 @@ IsLink raw link = HasRow raw 0x35 link.row × (link.imports.fault ≡ None)
 abbrev pub link_reads : RawTables → ImportLink → ℕ
 link_reads raw link = 1 + customs_reads raw 0x35 link.row
 
-link_there : (raw : RawTables) (n : ℕ) (row : ImportRow) → length raw.imports ≡ count raw 0x35 → row_at raw.imports n ≡ Some row → IsLink raw (link_of raw (n, row))
+link_there : (raw : RawTables) (n : ℕ) (row : ImportRow) → length raw.imports ≡ count raw 0x35 → row_at raw.imports n ≡ Some row
+    → IsLink raw (link_of raw (n, row))
 link_there raw n row many there = let within = row_within raw.imports n row there in ((within.0, omega (arith, within, many)), refl)
 
 links_by : (raw : RawTables) (most n : ℕ) (found : Option ImportRow) → length raw.imports ≡ count raw 0x35 → row_at raw.imports n ≡ found
@@ -31,7 +32,8 @@ links_by : (raw : RawTables) (most n : ℕ) (found : Option ImportRow) → lengt
 links_by raw most n None many e more = tt
 links_by raw most n (Some row) many e more = (link_there raw n row many e, more row.parent)
 
-links_for : (raw : RawTables) (most n : ℕ) → length raw.imports ≡ count raw 0x35 → Each (IsLink raw) (map (link_of raw) (chain_for (λ scope. scope.parent) raw.imports most n))
+links_for : (raw : RawTables) (most n : ℕ) → length raw.imports ≡ count raw 0x35
+    → Each (IsLink raw) (map (link_of raw) (chain_for (λ scope. scope.parent) raw.imports most n))
 unfolding chain_for
 links_for raw zero n many = tt
 links_for raw (suc most) n many = links_by raw most n (row_at raw.imports n) many refl (λ next. links_for raw most next many)

@@ -28,7 +28,8 @@ pub given_none : {X : Type 0} (items : List X) (next : Option X) → next ≡ ne
 given_none [] next e never = refl
 given_none (x ∷ xs) next e never = absurd (never x e)
 
-answer_first : {X : Type 0} (items rest : List X) (fault : Option BlobFault) (x : X) → answer_from items fault ≡ Ok (Some x) → rest ≡ tail items → items ≡ x ∷ rest
+answer_first : {X : Type 0} (items rest : List X) (fault : Option BlobFault) (x : X) → answer_from items fault ≡ Ok (Some x) → rest ≡ tail items
+    → items ≡ x ∷ rest
 answer_first [] rest None x e t = cc
 answer_first [] rest (Some f) x e t = cc
 answer_first {X} (y ∷ ys) rest fault x e t = let same : y ≡ x = cc in ap (λ (z : X). z ∷ ys) same ∙ ap (λ (zs : List X). x ∷ zs) (sym t)

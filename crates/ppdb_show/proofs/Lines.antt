@@ -17,7 +17,9 @@ use Rattle.ppdb_lines.proofs.Texts.{no_lines, more_lines}
 use Rattle.ppdb_lines.specs.Forms.{lines_as}
 use Rattle.ppdb_lines.specs.Heads.{id_line, entry_line}
 use Rattle.ppdb_lines.specs.Uses.{use_line}
-use Rattle.ppdb_show.specs.Show.{lines_of_method, method_line, point_line, import_line, count_lines, count_lines_of, head_lines, row_lines, document_lines, method_lines, scope_lines, variable_lines, constant_lines, import_lines, machine_lines, custom_lines}
+use Rattle.ppdb_show.specs.Show.{lines_of_method, method_line, point_line, import_line, count_lines, count_lines_of, head_lines}
+use Rattle.ppdb_show.specs.Show.{row_lines, document_lines, method_lines, scope_lines, variable_lines, constant_lines, import_lines}
+use Rattle.ppdb_show.specs.Show.{machine_lines, custom_lines}
 use Rattle.ppdb_show.specs.ShowWalk.{between, lines_of_method_row, lines_of_import_row}
 
 range_first : (row end : ℕ) → row < end → range_with_len row (end - row) ≡ row ∷ range_with_len (row + 1) (end - (row + 1))
@@ -42,7 +44,8 @@ pub mapped_done : {X : Type 0} (form : Form) (f : X → Line) (items : List X) �
 mapped_done form f items e = ap (λ (xs : List _). lines_as form (map f xs)) e ∙ no_lines form
 
 pub uses_step : (form : Form) (items : List ImportItem) (x : ImportItem) → items ≡ x ∷ tail items
-    → lines_as form (map use_line (map import_value items)) ≡ lines_as form (use_line (import_value x) ∷ []) ++ lines_as form (map use_line (map import_value (tail items)))
+    → lines_as form (map use_line (map import_value items)) ≡ lines_as form (use_line (import_value x) ∷ [])
+    ++ lines_as form (map use_line (map import_value (tail items)))
 uses_step form items x e =
     ap (λ (xs : List ImportItem). lines_as form (map use_line (map import_value xs))) e
     ∙ more_lines form (use_line (import_value x) ∷ []) (map use_line (map import_value (tail items)))
@@ -69,15 +72,18 @@ with_points : (raw : RawTables) (row column signature : ℕ) (content : List ℕ
 with_points raw row column signature [] some e = absurd (some refl)
 with_points raw row column signature (b ∷ bs) some e = rw e refl
 
-pub method_text : (form : Form) (raw : RawTables) (row : ℕ) (method : MethodDebugRow) (signature : ℕ) → row_at raw.methods row ≡ Some method → blob raw method.points ≢ []
+pub method_text : (form : Form) (raw : RawTables) (row : ℕ) (method : MethodDebugRow) (signature : ℕ) → row_at raw.methods row ≡ Some method
+    → blob raw method.points ≢ []
     → signature_in raw method.document (blob raw method.points) ≡ Some signature
-    → lines_as form (lines_of_method_row raw row) ≡ lines_as form (method_line row signature ∷ []) ++ lines_as form (map point_line (points_in raw method.document (blob raw method.points)))
+    → lines_as form (lines_of_method_row raw row) ≡ lines_as form (method_line row signature ∷ [])
+    ++ lines_as form (map point_line (points_in raw method.document (blob raw method.points)))
 method_text form raw row method signature e some signed =
     rw e (ap (lines_as form) (with_points raw row method.document signature (blob raw method.points) some signed)
     ∙ more_lines form (method_line row signature ∷ []) (map point_line (points_in raw method.document (blob raw method.points))))
 
 pub import_text : (form : Form) (raw : RawTables) (row : ℕ) (import : ImportRow) → row_at raw.imports row ≡ Some import
-    → lines_as form (lines_of_import_row raw row) ≡ lines_as form (import_line row import.parent ∷ []) ++ lines_as form (map use_line (import_scope_of raw import).imports)
+    → lines_as form (lines_of_import_row raw row) ≡ lines_as form (import_line row import.parent ∷ [])
+    ++ lines_as form (map use_line (import_scope_of raw import).imports)
 import_text form raw row import e = rw e (more_lines form (import_line row import.parent ∷ []) (map use_line (import_scope_of raw import).imports))
 
 -- ---- the whole file
@@ -96,7 +102,8 @@ head_text form raw =
     ∙ ap (λ (t : List ℕ). lines_as form (id_line raw.id ∷ []) ++ t) (more_lines form (entry_line raw.entry ∷ []) (count_lines raw.tables))
 
 rows_in : (form : Form) (a b c d e f g h : List Line) → lines_as form (a ++ (b ++ (c ++ (d ++ (e ++ (f ++ (g ++ h)))))))
-    ≡ lines_as form a ++ (lines_as form b ++ (lines_as form c ++ (lines_as form d ++ (lines_as form e ++ (lines_as form f ++ (lines_as form g ++ lines_as form h))))))
+    ≡ lines_as form a ++ (lines_as form b ++ (lines_as form c
+    ++ (lines_as form d ++ (lines_as form e ++ (lines_as form f ++ (lines_as form g ++ lines_as form h))))))
 rows_in form a b c d e f g h =
     rw (
       more_lines form a (b ++ (c ++ (d ++ (e ++ (f ++ (g ++ h)))))),
@@ -112,7 +119,8 @@ pub rows_text : (form : Form) (raw : RawTables) → lines_as form (row_lines raw
     ≡ lines_as form (document_lines raw) ++ (lines_as form (method_lines raw) ++ (lines_as form (scope_lines raw) ++ (lines_as form (variable_lines raw)
     ++ (lines_as form (constant_lines raw) ++ (lines_as form (import_lines raw) ++ (lines_as form (machine_lines raw) ++ lines_as form (custom_lines raw)))))))
 rows_text form raw =
-    rows_in form (document_lines raw) (method_lines raw) (scope_lines raw) (variable_lines raw) (constant_lines raw) (import_lines raw) (machine_lines raw) (custom_lines raw)
+    rows_in form (document_lines raw) (method_lines raw) (scope_lines raw) (variable_lines raw) (constant_lines raw) (import_lines raw) (machine_lines raw)
+    (custom_lines raw)
 
 pub as_text : (lines : List Line) → lines_as Text lines ≡ flat_map text_of lines
 unfolding lines_as

@@ -12,7 +12,8 @@ use Rattle.ppdb_show.specs.QueryWalk.{HasDocument, found_line}
 use Rattle.ppdb_show.proofs.Runs.{row_within}
 
 -- the line of the point that was found is that of the method's last point
-pub found_is : (raw : RawFile) (m x : ℕ) (found : Option PointAt) → PointIs raw m x found → found_line raw.tables found ≡ line_of_point raw m (last_point (points_of (value_of raw) m) x)
+pub found_is : (raw : RawFile) (m x : ℕ) (found : Option PointAt) → PointIs raw m x found
+    → found_line raw.tables found ≡ line_of_point raw m (last_point (points_of (value_of raw) m) x)
 found_is raw m x None is = sym (ap (line_of_point raw m) is)
 found_is raw m x (Some at) is =
     ap (λ (signature : ℕ). point_found at.point signature (document_name raw.tables at.point.document)) is.signature ∙ sym (ap (line_of_point raw m) is.point)

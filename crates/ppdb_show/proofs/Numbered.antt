@@ -1,5 +1,6 @@
 -- The lines of the rows of a table, by their numbers.
-use Rattle.std.proofs.Common.{ℕ, zero, suc, ◌+◌, ◌-◌, ◌≡◌, ◌<◌, ◌≤◌, List, [], ◌∷◌, ◌++◌, length, map, refl, sym, ◌∙◌, ap, arith, slice_get, append_assoc, inl, inr}
+use Rattle.std.proofs.Common.{ℕ, zero, suc, ◌+◌, ◌-◌, ◌≡◌, ◌<◌, ◌≤◌, List, [], ◌∷◌, ◌++◌, length, map, refl, sym, ◌∙◌, ap, arith}
+use Rattle.std.proofs.Common.{slice_get, append_assoc, inl, inr}
 use Rattle.std.specs.Prelude.{Option, Some, None}
 use Rattle.std.specs.List.{flat_map, range_with_len, enumerate_from}
 use Rattle.std.proofs.lemmas.Option.{slice_get_cases, slice_get_within}
@@ -14,7 +15,8 @@ use Rattle.ppdb_show.specs.declared.show.owned.Owned.TheVariants.{Variables, Con
 use Rattle.ppdb_lines.specs.Lines.{Line}
 use Rattle.ppdb_lines.specs.declared.form.Form.{Form}
 use Rattle.ppdb_lines.specs.Forms.{lines_as}
-use Rattle.ppdb_show.specs.Show.{document_line, lines_of_method, scope_line, variable_line, constant_line, lines_of_import, machine_line, custom_line, scope_of_item}
+use Rattle.ppdb_show.specs.Show.{document_line, lines_of_method, scope_line, variable_line, constant_line, lines_of_import, machine_line}
+use Rattle.ppdb_show.specs.Show.{custom_line, scope_of_item}
 use Rattle.ppdb_show.specs.ShowWalk.{made_of, between, number_of, lines_of_row, lines_of_table, items_of, item_table, lines_of_item, lines_of_items}
 use Rattle.ppdb_lines.proofs.Texts.{more_lines}
 
@@ -41,13 +43,18 @@ one_each : {X : Type 0} (f : X → Line) (xs : List X) → map f xs ≡ flat_map
 one_each f [] = refl
 one_each f (x ∷ xs) = ap (λ (rest : List Line). f x ∷ rest) (one_each f xs)
 
-pub table_between : (raw : RawTables) (rows : Rows) → HasShape raw → lines_of_table raw rows ≡ between (lines_of_row raw rows) 1 (count raw (number_of rows) + 1)
-table_between raw Documents shape = one_each (λ row. document_line row.0 (document_of raw row.1)) (numbered raw.documents) ∙ rows_between (λ row document. document_line row (document_of raw document) ∷ []) raw.documents _ shape.documents
+pub table_between : (raw : RawTables) (rows : Rows) → HasShape raw
+    → lines_of_table raw rows ≡ between (lines_of_row raw rows) 1 (count raw (number_of rows) + 1)
+table_between raw Documents shape = one_each (λ row. document_line row.0 (document_of raw row.1)) (numbered raw.documents)
+    ∙ rows_between (λ row document. document_line row (document_of raw document) ∷ []) raw.documents _ shape.documents
 table_between raw Methods shape = rows_between (λ row method. lines_of_method (method_of raw (row, method))) raw.methods _ shape.methods
-table_between raw Scopes shape = one_each (λ row. scope_line row.0 row.1) (numbered raw.scopes) ∙ rows_between (λ row scope. scope_line row scope ∷ []) raw.scopes _ shape.scopes
+table_between raw Scopes shape =
+    one_each (λ row. scope_line row.0 row.1) (numbered raw.scopes) ∙ rows_between (λ row scope. scope_line row scope ∷ []) raw.scopes _ shape.scopes
 table_between raw Imports shape = rows_between (λ row import. lines_of_import row (import_scope_of raw import)) raw.imports _ shape.imports
-table_between raw Machines shape = one_each (λ row. machine_line row.0 row.1) (numbered raw.machines) ∙ rows_between (λ row machine. machine_line row machine ∷ []) raw.machines _ shape.machines
-table_between raw Customs shape = one_each (λ row. custom_line raw row.0 row.1) (numbered raw.customs) ∙ rows_between (λ row custom. custom_line raw row custom ∷ []) raw.customs _ shape.customs
+table_between raw Machines shape = one_each (λ row. machine_line row.0 row.1) (numbered raw.machines)
+    ∙ rows_between (λ row machine. machine_line row machine ∷ []) raw.machines _ shape.machines
+table_between raw Customs shape = one_each (λ row. custom_line raw row.0 row.1) (numbered raw.customs)
+    ∙ rows_between (λ row custom. custom_line raw row custom ∷ []) raw.customs _ shape.customs
 
 pub items_between : (raw : RawTables) (owned : Owned) → lines_of_items raw owned ≡ between (lines_of_item raw owned) 1 (items_of raw owned + 1)
 items_between raw Variables =
@@ -70,7 +77,8 @@ numbers_split a (suc n) m =
 
 flat_split : (lines : ℕ → List Line) (xs ys : List ℕ) → flat_map lines (xs ++ ys) ≡ flat_map lines xs ++ flat_map lines ys
 flat_split lines [] ys = refl
-flat_split lines (x ∷ xs) ys = ap (λ (rest : List Line). lines x ++ rest) (flat_split lines xs ys) ∙ sym (append_assoc (lines x) (flat_map lines xs) (flat_map lines ys))
+flat_split lines (x ∷ xs) ys =
+    ap (λ (rest : List Line). lines x ++ rest) (flat_split lines xs ys) ∙ sym (append_assoc (lines x) (flat_map lines xs) (flat_map lines ys))
 
 pub between_split : (lines : ℕ → List Line) (a b c : ℕ) → a ≤ b → b ≤ c → between lines a c ≡ between lines a b ++ between lines b c
 between_split lines a b c h k =
@@ -95,7 +103,8 @@ row_past rows (suc i) h = elim (slice_get_cases rows i).1 [
 ]
 
 -- the lines of items in two parts
-pub split_lines : (form : Form) (lines : ℕ → List Line) (a b c : ℕ) → a ≤ b → b ≤ c → lines_as form (between lines a c) ≡ lines_as form (between lines a b) ++ lines_as form (between lines b c)
+pub split_lines : (form : Form) (lines : ℕ → List Line) (a b c : ℕ) → a ≤ b → b ≤ c → lines_as form (between lines a c) ≡ lines_as form (between lines a b)
+    ++ lines_as form (between lines b c)
 split_lines form lines a b c h k = ap (lines_as form) (between_split lines a b c h k) ∙ more_lines form (between lines a b) (between lines b c)
 
 pub items_counted : (raw : RawTables) (owned : Owned) → HasShape raw → items_of raw owned ≡ count raw (item_table owned)

@@ -15,21 +15,28 @@ use Rattle.ppdb_show.proofs.Added.{adds_none}
 
 -- ---- the lines of a record of a kind
 
-kind_lines : (raw : RawTables) (n : ℕ) (row : CustomRow) (kind : Kind) → kind_of [] (kind_in raw row) ≡ kind → lines_of_record raw (n, row) ≡ lines_of_body (custom_found raw row) (custom_body raw kind (blob raw row.value))
+kind_lines : (raw : RawTables) (n : ℕ) (row : CustomRow) (kind : Kind) → kind_of [] (kind_in raw row) ≡ kind
+    → lines_of_record raw (n, row) ≡ lines_of_body (custom_found raw row) (custom_body raw kind (blob raw row.value))
 kind_lines raw n row kind e = ap (λ (k : Kind). lines_of_body (custom_found raw row) (custom_body raw k (blob raw row.value))) e
 
-pub hoisted_put : (raw : RawTables) (n : ℕ) (row : CustomRow) (kind : Kind) (old : List ℕ) → kind ≡ kind_of [] (kind_in raw row) → kind ≡ HoistedKind → Adds old old (lines_of_record raw (n, row))
+pub hoisted_put : (raw : RawTables) (n : ℕ) (row : CustomRow) (kind : Kind) (old : List ℕ) → kind ≡ kind_of [] (kind_in raw row) → kind ≡ HoistedKind
+    → Adds old old (lines_of_record raw (n, row))
 hoisted_put raw n row kind old is hoisted =
     subst (λ (lines : List Line). Adds old old lines) (sym (kind_lines raw n row HoistedKind (sym is ∙ hoisted))) (adds_none old)
 
-pub documents_put : {T E : Type 0} (r : Result T E) (raw : RawTables) (n : ℕ) (row : CustomRow) (kind : Kind) (old new : List ℕ) → kind ≡ kind_of [] (kind_in raw row) → kind ≡ DocumentsKind
+pub documents_put : {T E : Type 0} (r : Result T E) (raw : RawTables) (n : ℕ) (row : CustomRow) (kind : Kind) (old new : List ℕ)
+    → kind ≡ kind_of [] (kind_in raw row) → kind ≡ DocumentsKind
     → OnOk r (Adds old new (custom_found raw row ∷ [])) → OnOk r (Adds old new (lines_of_record raw (n, row)))
-documents_put r raw n row kind old new is documents put = subst (λ (lines : List Line). OnOk r (Adds old new lines)) (sym (kind_lines raw n row DocumentsKind (sym is ∙ documents))) put
+documents_put r raw n row kind old new is documents put =
+    subst (λ (lines : List Line). OnOk r (Adds old new lines)) (sym (kind_lines raw n row DocumentsKind (sym is ∙ documents))) put
 
-pub free_put : {T E : Type 0} (r : Result T E) (raw : RawTables) (n : ℕ) (row : CustomRow) (kind : Kind) (old new : List ℕ) → kind ≡ kind_of [] (kind_in raw row) → kind ≡ Free
+pub free_put : {T E : Type 0} (r : Result T E) (raw : RawTables) (n : ℕ) (row : CustomRow) (kind : Kind) (old new : List ℕ)
+    → kind ≡ kind_of [] (kind_in raw row) → kind ≡ Free
     → OnOk r (Adds old new (custom_found raw row ∷ [])) → OnOk r (Adds old new (lines_of_record raw (n, row)))
 free_put r raw n row kind old new is free put = subst (λ (lines : List Line). OnOk r (Adds old new lines)) (sym (kind_lines raw n row Free (sym is ∙ free))) put
 
-pub unknown_put : {T E : Type 0} (r : Result T E) (raw : RawTables) (n : ℕ) (row : CustomRow) (kind : Kind) (old new : List ℕ) → kind ≡ kind_of [] (kind_in raw row) → kind ≡ Unknown
+pub unknown_put : {T E : Type 0} (r : Result T E) (raw : RawTables) (n : ℕ) (row : CustomRow) (kind : Kind) (old new : List ℕ)
+    → kind ≡ kind_of [] (kind_in raw row) → kind ≡ Unknown
     → OnOk r (Adds old new (custom_found raw row ∷ [])) → OnOk r (Adds old new (lines_of_record raw (n, row)))
-unknown_put r raw n row kind old new is unknown put = subst (λ (lines : List Line). OnOk r (Adds old new lines)) (sym (kind_lines raw n row Unknown (sym is ∙ unknown))) put
+unknown_put r raw n row kind old new is unknown put =
+    subst (λ (lines : List Line). OnOk r (Adds old new lines)) (sym (kind_lines raw n row Unknown (sym is ∙ unknown))) put

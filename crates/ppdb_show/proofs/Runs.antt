@@ -32,7 +32,8 @@ run_done ys row end h = let e : (end - 1) - (row - 1) ≡ 0 = omega arith in rw 
 
 -- ---- lists in order
 
-rises : (list : ScopeRow → ℕ) (scopes : List ScopeRow) (items a b : ℕ) (x y : ScopeRow) → KeepsLists list scopes items → row_at scopes a ≡ Some x → row_at scopes b ≡ Some y → a ≤ b → list x ≤ list y
+rises : (list : ScopeRow → ℕ) (scopes : List ScopeRow) (items a b : ℕ) (x y : ScopeRow) → KeepsLists list scopes items → row_at scopes a ≡ Some x
+    → row_at scopes b ≡ Some y → a ≤ b → list x ≤ list y
 rises list scopes items a b x y keeps hx hy le =
     let kx = key_at list scopes a x hx in
     let ky = key_at list scopes b y hy in
@@ -46,9 +47,11 @@ first_of : (rows : List ScopeRow) → 1 ≤ length rows → (x : ScopeRow) × (r
 first_of [] h = absurd (omega arith)
 first_of (x ∷ xs) h = (x, refl)
 
-end_by : (list : ScopeRow → ℕ) (scopes : List ScopeRow) (items n : ℕ) (scope : ScopeRow) (next : Option ScopeRow) → KeepsLists list scopes items → row_at scopes n ≡ Some scope → row_at scopes (suc n) ≡ next
+end_by : (list : ScopeRow → ℕ) (scopes : List ScopeRow) (items n : ℕ) (scope : ScopeRow) (next : Option ScopeRow) → KeepsLists list scopes items
+    → row_at scopes n ≡ Some scope → row_at scopes (suc n) ≡ next
     → (list scope ≤ unwrap_or (option_map list next) (items + 1)) × (unwrap_or (option_map list next) (items + 1) ≤ items + 1)
-end_by list scopes items n scope (Some later) keeps there e = (rises list scopes items n (suc n) scope later keeps there e (omega arith), keeps.within (suc n) later e)
+end_by list scopes items n scope (Some later) keeps there e =
+    (rises list scopes items n (suc n) scope later keeps there e (omega arith), keeps.within (suc n) later e)
 end_by list scopes items n scope None keeps there e = (keeps.within n scope there, omega arith)
 
 -- the list of a scope begins at an item or right after the last, and ends no earlier and within the items

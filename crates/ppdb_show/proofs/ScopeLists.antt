@@ -36,24 +36,28 @@ index_map f [] i x e = cc
 index_map f (y ∷ ys) zero x e = ap f (cc)
 index_map f (y ∷ ys) (suc i) x e = index_map f ys i x e
 
-rises : (list : ScopeRow → ℕ) (scopes : List ScopeRow) (items row : ℕ) (x y : ScopeRow) → KeepsLists list scopes items → row_at scopes row ≡ Some x → row_at scopes (suc row) ≡ Some y → list x ≤ list y
+rises : (list : ScopeRow → ℕ) (scopes : List ScopeRow) (items row : ℕ) (x y : ScopeRow) → KeepsLists list scopes items → row_at scopes row ≡ Some x
+    → row_at scopes (suc row) ≡ Some y → list x ≤ list y
 rises list scopes items zero x y keeps hx hy = cc
 rises list scopes items (suc i) x y keeps hx hy =
     let inside : suc i < length scopes = slice_get_within scopes (suc i) y hy in
     let up = keeps.sorted i (suc i) (omega arith) (rw (length-map scopes list) inside) in
     rw (index_map list scopes i x hx, index_map list scopes (suc i) y hy) at up
 
-forward_to : (list : ScopeRow → ℕ) (scopes : List ScopeRow) (items row : ℕ) (x : ScopeRow) (o : Option ScopeRow) → KeepsLists list scopes items → row_at scopes row ≡ Some x
+forward_to : (list : ScopeRow → ℕ) (scopes : List ScopeRow) (items row : ℕ) (x : ScopeRow) (o : Option ScopeRow) → KeepsLists list scopes items
+    → row_at scopes row ≡ Some x
     → row_at scopes (suc row) ≡ o → list x ≤ unwrap_or (option_map list o) (items + 1)
 forward_to list scopes items row x None keeps there e = keeps.within row x there
 forward_to list scopes items row x (Some y) keeps there e = rises list scopes items row x y keeps there e
 
-within_to : (list : ScopeRow → ℕ) (scopes : List ScopeRow) (items row : ℕ) (o : Option ScopeRow) → KeepsLists list scopes items → row_at scopes row ≡ o → unwrap_or (option_map list o) (items + 1) ≤ items + 1
+within_to : (list : ScopeRow → ℕ) (scopes : List ScopeRow) (items row : ℕ) (o : Option ScopeRow) → KeepsLists list scopes items → row_at scopes row ≡ o
+    → unwrap_or (option_map list o) (items + 1) ≤ items + 1
 within_to list scopes items row None keeps e = omega arith
 within_to list scopes items row (Some x) keeps e = keeps.within row x e
 
 -- a list ends where it begins or later, and not past the last item
-pub ends_after : (list : ScopeRow → ℕ) (scopes : List ScopeRow) (items row : ℕ) → KeepsLists list scopes items → 1 ≤ row → row ≤ length scopes → begin_of list scopes row items ≤ list_end list scopes row items
+pub ends_after : (list : ScopeRow → ℕ) (scopes : List ScopeRow) (items row : ℕ) → KeepsLists list scopes items → 1 ≤ row → row ≤ length scopes
+    → begin_of list scopes row items ≤ list_end list scopes row items
 ends_after list scopes items row keeps low high =
     let there = row_there scopes row low high in
     rw (there.1) (forward_to list scopes items row there.0 (row_at scopes (suc row)) keeps there.1 refl)
@@ -61,7 +65,8 @@ ends_after list scopes items row keeps low high =
 pub ends_within : (list : ScopeRow → ℕ) (scopes : List ScopeRow) (items row : ℕ) → KeepsLists list scopes items → list_end list scopes row items ≤ items + 1
 ends_within list scopes items row keeps = within_to list scopes items (suc row) (row_at scopes (suc row)) keeps refl
 
-pub ends_where_next_begins : (list : ScopeRow → ℕ) (scopes : List ScopeRow) (items row : ℕ) → list_end list scopes row items ≡ begin_of list scopes (row + 1) items
+pub ends_where_next_begins : (list : ScopeRow → ℕ) (scopes : List ScopeRow) (items row : ℕ)
+    → list_end list scopes row items ≡ begin_of list scopes (row + 1) items
 ends_where_next_begins list scopes items row = let e : row + 1 ≡ suc row = omega arith in rw e refl
 
 -- the scope owns the items between

@@ -14,7 +14,8 @@ use Rattle.ppdb_show.proofs.Added.{lines_each, one_each, adds_same}
 pub customs_all : (raw : RawTables) (parent : Parent) (run : Run) (old new : List ℕ) → rows_in run raw.customs ≡ customs_at raw parent
     → Adds old new (flat_map (λ custom. custom_found raw custom.1 ∷ []) (rows_in run raw.customs)) → Adds old new (customs_found raw parent.table parent.row)
 customs_all raw parent run old new all h =
-    adds_same old new _ _ (lines_each (λ (custom : ℕ × CustomRow). custom_found raw custom.1) (rows_in run raw.customs) ∙ ap (map (λ (custom : ℕ × CustomRow). custom_found raw custom.1)) all) h
+    adds_same old new _ _ (lines_each (λ (custom : ℕ × CustomRow). custom_found raw custom.1) (rows_in run raw.customs)
+    ∙ ap (map (λ (custom : ℕ × CustomRow). custom_found raw custom.1)) all) h
 
 pub customs_many : (raw : RawTables) (parent : Parent) (run : Run) → rows_in run raw.customs ≡ customs_at raw parent
     → sum_by (λ (custom : ℕ × CustomRow). 1) (rows_in run raw.customs) ≡ length (customs_on raw parent.table parent.row)

@@ -14,13 +14,15 @@ use Rattle.ppdb_show.specs.QueryWalk.{IsViewOf}
 use Rattle.ppdb_show.proofs.Given.{Each}
 use Rattle.ppdb_show.proofs.Runs.{list_bounds}
 
-views_from : (raw : RawTables) (p : ℕ × ScopeRow → Bool) (n : ℕ) (rows : List ScopeRow) → ((i : ℕ) (x : ScopeRow) → slice_get rows i ≡ Some x → row_at raw.scopes (n + i) ≡ Some x)
+views_from : (raw : RawTables) (p : ℕ × ScopeRow → Bool) (n : ℕ) (rows : List ScopeRow)
+    → ((i : ℕ) (x : ScopeRow) → slice_get rows i ≡ Some x → row_at raw.scopes (n + i) ≡ Some x)
     → Each (IsViewOf raw) (map (scope_view raw) (filter p (enumerate_from n rows)))
 views_from raw p n [] at = tt
 views_from raw p n (x ∷ xs) at =
     let more = views_from raw p (n + 1) xs (λ i y e. let k : n + 1 + i ≡ n + suc i = omega arith in rw k (at (suc i) y e)) in
     let here : row_at raw.scopes n ≡ Some x = let k : n + 0 ≡ n = omega arith in rw k at (at 0 x refl) in
-    elim (p (n, x)) as (λ b. Each (IsViewOf raw) (map (scope_view raw) (cond b ((n, x) ∷ filter p (enumerate_from (n + 1) xs)) (filter p (enumerate_from (n + 1) xs))))) [
+    elim (p (n, x)) as (λ b. Each (IsViewOf raw)
+    (map (scope_view raw) (cond b ((n, x) ∷ filter p (enumerate_from (n + 1) xs)) (filter p (enumerate_from (n + 1) xs))))) [
       | true ↦ (record { scope = x; there = here; is_view = refl }, more)
       | false ↦ more
     ]
@@ -49,12 +51,14 @@ constants_bounds raw view is keeps =
 pub variables_owned : (raw : RawTables) (view : ScopeView) → IsViewOf raw view → KeepsLists (λ scope. scope.variables) raw.scopes (length raw.variables)
     → rows_in view.variables raw.variables ≡ variables_of raw view
 variables_owned raw view is keeps =
-    ap (λ (v : ScopeView). rows_in v.variables raw.variables) is.is_view ∙ sym (owned_is_list (λ scope. scope.variables) raw.scopes view.row is.scope raw.variables keeps is.there)
+    ap (λ (v : ScopeView). rows_in v.variables raw.variables) is.is_view
+    ∙ sym (owned_is_list (λ scope. scope.variables) raw.scopes view.row is.scope raw.variables keeps is.there)
 
 pub constants_owned : (raw : RawTables) (view : ScopeView) → IsViewOf raw view → KeepsLists (λ scope. scope.constants) raw.scopes (length raw.constants)
     → rows_in view.constants raw.constants ≡ constants_of raw view
 constants_owned raw view is keeps =
-    ap (λ (v : ScopeView). rows_in v.constants raw.constants) is.is_view ∙ sym (owned_is_list (λ scope. scope.constants) raw.scopes view.row is.scope raw.constants keeps is.there)
+    ap (λ (v : ScopeView). rows_in v.constants raw.constants) is.is_view
+    ∙ sym (owned_is_list (λ scope. scope.constants) raw.scopes view.row is.scope raw.constants keeps is.there)
 
 pub import_there : (raw : RawTables) (view : ScopeView) → IsViewOf raw view → KeepsScopes raw → view.import ≤ count raw 0x35
 import_there raw view is keeps =

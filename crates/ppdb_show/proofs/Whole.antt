@@ -20,11 +20,13 @@ none_some : {X : Type 0} (x : X) → Some x ≡ None → ⊥
 none_some x e = grind (arith, e)
 
 -- a whole blob has no fault
-pub never_fails : {R : Type 0} (g : Grammar R) (content : List ℕ) (records : List R) (fault : BlobFault) → IsWhole g content → Reading g content records (Some fault) → ⊥
+pub never_fails : {R : Type 0} (g : Grammar R) (content : List ℕ) (records : List R) (fault : BlobFault) → IsWhole g content
+    → Reading g content records (Some fault) → ⊥
 never_fails g content records fault whole failing = none_some fault (reading-unique g content records (records_of g content) (Some fault) None failing whole).1
 
 -- and its records are those
-pub all_read : {R : Type 0} (g : Grammar R) (content : List ℕ) (records : List R) (fault : Option BlobFault) → IsWhole g content → Reading g content records fault → (records ≡ records_of g content) × (fault ≡ None)
+pub all_read : {R : Type 0} (g : Grammar R) (content : List ℕ) (records : List R) (fault : Option BlobFault) → IsWhole g content
+    → Reading g content records fault → (records ≡ records_of g content) × (fault ≡ None)
 all_read g content records fault whole read = reading-unique g content records (records_of g content) fault None read whole
 
 -- ---- points
@@ -36,7 +38,8 @@ points_whole raw row method keeps e some = elim ((keeps.each row method e).point
   | inr whole ↦ whole
 ]
 
-pub points_read : (raw : RawTables) (column signature : ℕ) (content : List ℕ) (points : List Point) (fault : Option BlobFault) → IsWhole (sequence_points column (point_limits raw)) content
+pub points_read : (raw : RawTables) (column signature : ℕ) (content : List ℕ) (points : List Point) (fault : Option BlobFault)
+    → IsWhole (sequence_points column (point_limits raw)) content
     → PointsReading column (point_limits raw) content signature points fault
     → (fault ≡ None) × ((points ≡ points_in raw column content) × (signature_in raw column content ≡ Some signature))
 points_read raw column signature content points fault whole read = (

@@ -55,7 +55,8 @@ abbrev pub point_found : Point → ℕ → List ℕ → Line
 point_found point signature document = record {
   word = codes "point";
   fields = field (codes " ") (codes "offset") (number point.offset) ∷ field (codes " ") (codes "document") (number point.document)
-      ∷ (span_fields point.span ++ field (codes " signature ") (codes "signature") (number signature) ∷ field (codes " name ") (codes "name") (name document) ∷ []);
+      ∷ (span_fields point.span ++ field (codes " signature ") (codes "signature") (number signature) ∷ field (codes " name ") (codes "name")
+      (name document) ∷ []);
 }
 
 -- the name of a document; in a valid file it is there

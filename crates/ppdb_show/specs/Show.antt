@@ -25,7 +25,8 @@ use Rattle.ppdb_lines.specs.Lines.{Line, Field, field, mark, number, table, guid
 -- ---- the head
 
 abbrev pub count_line : ℕ → ℕ → Line
-count_line tt rows = record { word = codes "rows"; fields = field (codes " ") (codes "table") (table tt) ∷ field (codes " ") (codes "count") (number rows) ∷ [] }
+count_line tt rows =
+    record { word = codes "rows"; fields = field (codes " ") (codes "table") (table tt) ∷ field (codes " ") (codes "count") (number rows) ∷ [] }
 
 -- a table of the type system, where it has rows
 abbrev pub count_lines_of : RawTables → ℕ → List Line

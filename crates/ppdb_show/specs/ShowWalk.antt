@@ -11,7 +11,9 @@ use Rattle.ppdb_show.specs.declared.show.rows.Rows.TheVariants.{Documents, Metho
 use Rattle.ppdb_show.specs.declared.show.owned.Owned.{Owned}
 use Rattle.ppdb_show.specs.declared.show.owned.Owned.TheVariants.{Variables, Constants}
 use Rattle.ppdb_lines.specs.Lines.{Line}
-use Rattle.ppdb_show.specs.Show.{document_line, lines_of_method, scope_line, variable_line, constant_line, lines_of_import, machine_line, custom_line, scope_of_item, document_lines, method_lines, scope_lines, variable_lines, constant_lines, import_lines, machine_lines, custom_lines}
+use Rattle.ppdb_show.specs.Show.{document_line, lines_of_method, scope_line, variable_line, constant_line, lines_of_import, machine_line}
+use Rattle.ppdb_show.specs.Show.{custom_line, scope_of_item, document_lines, method_lines, scope_lines, variable_lines, constant_lines}
+use Rattle.ppdb_show.specs.Show.{import_lines, machine_lines, custom_lines}
 
 -- the lines that are made of a row, where it is there
 abbrev pub made_of : {X : Type 0} → (X → List Line) → Option X → List Line
@@ -86,8 +88,10 @@ abbrev pub OwnsItem : RawTables → Owned → ℕ → ℕ → Type 0
 OwnsItem raw owned scope item = owner_of (list_by owned) raw.scopes item ≡ Some scope
 
 abbrev pub lines_of_item : RawTables → Owned → ℕ → List Line
-lines_of_item raw Variables row = made_of (λ variable. variable_line row (scope_of_item (λ scope. scope.variables) raw row) (variable_of raw variable) ∷ []) (row_at raw.variables row)
-lines_of_item raw Constants row = made_of (λ constant. constant_line raw row (scope_of_item (λ scope. scope.constants) raw row) constant ∷ []) (row_at raw.constants row)
+lines_of_item raw Variables row =
+    made_of (λ variable. variable_line row (scope_of_item (λ scope. scope.variables) raw row) (variable_of raw variable) ∷ []) (row_at raw.variables row)
+lines_of_item raw Constants row =
+    made_of (λ constant. constant_line raw row (scope_of_item (λ scope. scope.constants) raw row) constant ∷ []) (row_at raw.constants row)
 
 abbrev pub lines_of_items : RawTables → Owned → List Line
 lines_of_items raw Variables = variable_lines raw

@@ -1,5 +1,6 @@
 -- The first fault of the #Pdb stream, from what its readers saw.
-use Rattle.std.proofs.Common.{◌≡◌, ◌≢◌, ℕ, suc, ◌+◌, ◌-◌, ◌*◌, ◌^◌, ◌<◌, ◌≤◌, inl, inr, List, [], ◌∷◌, ◌++◌, length, sum, replicate, refl, sym, ap, subst, ◌∙◌, arith, lit≤}
+use Rattle.std.proofs.Common.{◌≡◌, ◌≢◌, ℕ, suc, ◌+◌, ◌-◌, ◌*◌, ◌^◌, ◌<◌, ◌≤◌, inl, inr, List, [], ◌∷◌, ◌++◌, length, sum, replicate}
+use Rattle.std.proofs.Common.{refl, sym, ap, subst, ◌∙◌, arith, lit≤}
 use Rattle.ppdb_base.specs.declared.code.Code.{Code}
 use Rattle.ppdb_base.specs.declared.code.Code.TheVariants.{PdbShort, PdbTables, PdbRows, EntryPoint}
 use Rattle.ppdb_base.specs.declared.fault.Place.{Place}
@@ -12,7 +13,8 @@ use Rattle.ppdb_base.specs.Fields.{IsField}
 use Rattle.ppdb_base.proofs.Fields.{ends_by_cut, ends_within}
 use Rattle.ppdb_tables.specs.declared.counts.Part.{Part}
 use Rattle.ppdb_tables.specs.Counts.{HasCount, counts_below, count_fields, IsShort, IsCountFault}
-use Rattle.ppdb_tables.specs.Head.{BadPdb, BadPdbFields, short, foreign, rows, BadEntry, entry, NamesMethod, entry_in, referenced, pdb_fields, pdb_count_place, pdb_rows}
+use Rattle.ppdb_tables.specs.Head.{BadPdb, BadPdbFields, short, foreign, rows, BadEntry, entry, NamesMethod, entry_in, referenced}
+use Rattle.ppdb_tables.specs.Head.{pdb_fields, pdb_count_place, pdb_rows}
 use Rattle.ppdb_tables.proofs.FieldLists.{field_within, starts_by, all_fit}
 use Rattle.ppdb_tables.proofs.RowCounts.{cut, sum-cut, sum-fields, fields_cut, count_cut, one_more, counts_mono, earlier_table, rows_in-set, has_count}
 
@@ -28,7 +30,8 @@ same_byte a b e = ap (λ p. p.byte) e
 
 module _ (stream : List ℕ) where
   -- nothing bad begins before a cut of the fields that lies in the stream, where the fields before it are good
-  judged_case : (b : ℕ) (before after : List ℕ) → pdb_fields stream ≡ before ++ after → b ≡ sum before → b ≤ length stream → (24 < b → referenced stream < 2 ^ 45)
+  judged_case : (b : ℕ) (before after : List ℕ) → pdb_fields stream ≡ before ++ after → b ≡ sum before → b ≤ length stream
+      → (24 < b → referenced stream < 2 ^ 45)
       → ((t : ℕ) → HasCount (referenced stream) t → pdb_count_place stream t < b → pdb_rows stream t ≤ 16777215)
       → (code : Code) (at : Place) → BadPdbFields stream code at → ComesBefore (numbers code at) (3 ∷ 0 ∷ 0 ∷ 0 ∷ b ∷ []) → ⊥
   judged_case b before after split is le known few _ _ (short at len f within over) past =
@@ -65,7 +68,8 @@ module _ (stream : List ℕ) where
       let starts = starts_by (20 ∷ 4 ∷ []) 8 at len s.2 (omega (arith, s.4, s.5)) in
       let here : 0 + at ≡ at = omega arith in
       let field = field_within [] front (count_fields (referenced stream)) at len s.2 in
-      let is : (fault ≡ record { code = PdbShort; place = at_byte 3 at }) × (length stream < at + len) = (s.3 ∙ ap (λ b. record { code = PdbShort; place = at_byte 3 b }) here, omega (arith, s.5)) in
+      let is : (fault ≡ record { code = PdbShort; place = at_byte 3 at }) × (length stream < at + len) =
+      (s.3 ∙ ap (λ b. record { code = PdbShort; place = at_byte 3 b }) here, omega (arith, s.5)) in
       short_is_first at len fault (subst (λ b. IsField (pdb_fields stream) b len) here field) (omega (arith, s.4))
       (λ lt. absurd (omega (arith, lt, starts))) (λ t set lt. no_count_before at t (omega (arith, starts)) set lt) is
 
@@ -77,11 +81,13 @@ module _ (stream : List ℕ) where
   least_foreign long _ _ (foreign within large) e = lit≤ tt
   least_foreign long _ _ (rows t small set within many) e = lit≤ tt
 
-  pub foreign_is_first : (fault : Fault) → fault ≡ record { code = PdbTables; place = at_byte 3 24 } → 32 ≤ length stream → 2 ^ 45 ≤ referenced stream → IsFirst (BadPdbFields stream) fault
+  pub foreign_is_first : (fault : Fault) → fault ≡ record { code = PdbTables; place = at_byte 3 24 } → 32 ≤ length stream → 2 ^ 45 ≤ referenced stream
+      → IsFirst (BadPdbFields stream) fault
   foreign_is_first fault is long large =
       subst (IsFirst (BadPdbFields stream)) (sym is)
       (first_at (BadPdbFields stream) PdbTables (at_byte 3 24)
-      (judged_case 24 (20 ∷ 4 ∷ []) (8 ∷ count_fields (referenced stream)) refl refl (omega (arith, long)) (λ lt. absurd (omega (arith, lt))) (λ t set lt. no_count_before 24 t (lit≤ tt) set lt))
+      (judged_case 24 (20 ∷ 4 ∷ []) (8 ∷ count_fields (referenced stream)) refl refl (omega (arith, long)) (λ lt. absurd (omega (arith, lt)))
+      (λ t set lt. no_count_before 24 t (lit≤ tt) set lt))
       (foreign (omega (arith, long)) large)
       (λ other bad. least_foreign long other (at_byte 3 24) bad refl))
 
@@ -92,39 +98,51 @@ module _ (stream : List ℕ) where
     few_before t set_t before = few t (earlier_table 32 (referenced stream) t table before)
 
     count_short : (fault : Fault) → pdb_count_place stream table ≤ length stream
-        → (fault ≡ record { code = PdbShort; place = at_byte 3 (pdb_count_place stream table) }) × (length stream < pdb_count_place stream table + 4) → IsFirst (BadPdbFields stream) fault
+        → (fault ≡ record { code = PdbShort; place = at_byte 3 (pdb_count_place stream table) }) × (length stream < pdb_count_place stream table + 4)
+        → IsFirst (BadPdbFields stream) fault
     count_short fault le past =
         let n = counts_below (referenced stream) table in
         short_is_first (pdb_count_place stream table) 4 fault
-        (record { before = cut front n; after = replicate (counts_below (referenced stream) 64 - suc n) 4; in_order = count_cut front (referenced stream) table lt set; place = omega (arith, sum-cut front n) })
+        (record {
+          before = cut front n;
+          after = replicate (counts_below (referenced stream) 64 - suc n) 4;
+          in_order = count_cut front (referenced stream) table lt set;
+          place = omega (arith, sum-cut front n);
+        })
         le (λ _. known) few_before past
 
-    least_rows : pdb_count_place stream table + 4 ≤ length stream → (code : Code) (at : Place) → BadPdbFields stream code at → at ≡ at_byte 3 (pdb_count_place stream table) → 11 ≤ number_of code
+    least_rows : pdb_count_place stream table + 4 ≤ length stream → (code : Code) (at : Place) → BadPdbFields stream code at
+        → at ≡ at_byte 3 (pdb_count_place stream table) → 11 ≤ number_of code
     least_rows fits _ _ (short at len f within over) e =
         let same = same_byte at (pdb_count_place stream table) e in
         let n = suc (counts_below (referenced stream) table) in
         let le = one_more (referenced stream) table lt set in
-        let ends = ends_by_cut (pdb_fields stream) (cut front n) (replicate (counts_below (referenced stream) 64 - n) 4) at len f (fields_cut front (referenced stream) n le) (omega (arith, same, sum-cut front n)) in
+        let ends = ends_by_cut (pdb_fields stream) (cut front n)
+        (replicate (counts_below (referenced stream) 64 - n) 4) at len f (fields_cut front (referenced stream) n le)
+        (omega (arith, same, sum-cut front n)) in
         absurd (omega (arith, ends, sum-cut front n, fits, over))
     least_rows fits _ _ (foreign within large) e =
         let same = same_byte 24 (pdb_count_place stream table) e in absurd (omega (arith, same))
     least_rows fits _ _ (rows t small is_set within many) e = lit≤ tt
 
-    count_many : (fault : Fault) → fault ≡ record { code = PdbRows; place = at_byte 3 (pdb_count_place stream table) } → pdb_count_place stream table + 4 ≤ length stream
+    count_many : (fault : Fault) → fault ≡ record { code = PdbRows; place = at_byte 3 (pdb_count_place stream table) }
+        → pdb_count_place stream table + 4 ≤ length stream
         → 16777215 < pdb_rows stream table → IsFirst (BadPdbFields stream) fault
     count_many fault is fits many =
         let n = counts_below (referenced stream) table in
         let le = one_more (referenced stream) table lt set in
         subst (IsFirst (BadPdbFields stream)) (sym is)
         (first_at (BadPdbFields stream) PdbRows (at_byte 3 (pdb_count_place stream table))
-        (judged_case (pdb_count_place stream table) (cut front n) (replicate (counts_below (referenced stream) 64 - n) 4) (fields_cut front (referenced stream) n (omega (arith, le)))
+        (judged_case (pdb_count_place stream table) (cut front n) (replicate (counts_below (referenced stream) 64 - n) 4)
+        (fields_cut front (referenced stream) n (omega (arith, le)))
         (omega (arith, sum-cut front n)) (omega (arith, fits)) (λ _. known) few_before)
         (rows table lt set (omega (arith, fits)) many)
         (λ other bad. least_rows fits other _ bad refl))
 
   -- the fault of a table's row count, after good ones, is the first
   pub count_is_first : (table at : ℕ) (fault : Fault) → table < 64 → at ≡ pdb_count_place stream table → at ≤ length stream → referenced stream < 2 ^ 45
-      → ((t : ℕ) → t < table → pdb_rows stream t ≤ 16777215) → IsCountFault pdb_part stream (referenced stream) table at fault → IsFirst (BadPdbFields stream) fault
+      → ((t : ℕ) → t < table → pdb_rows stream t ≤ 16777215) → IsCountFault pdb_part stream (referenced stream) table at fault
+      → IsFirst (BadPdbFields stream) fault
   count_is_first table at fault lt here le known few (set, inl past) =
       count_short table lt set known few fault (rw (← here) le) (rw (← here) past)
   count_is_first table at fault lt here le known few (set, inr many) =
@@ -152,9 +170,11 @@ module _ (stream : List ℕ) where
   least_entry : (code : Code) (at : Place) → BadEntry stream code at → 12 ≤ number_of code
   least_entry _ _ (entry some none) = lit≤ tt
 
-  pub entry_is_first : (fault : Fault) → fault ≡ record { code = EntryPoint; place = at_byte 3 20 } → entry_in stream ≢ 0 → (NamesMethod (pdb_rows stream 6) (entry_in stream) → ⊥) → IsFirst (BadEntry stream) fault
+  pub entry_is_first : (fault : Fault) → fault ≡ record { code = EntryPoint; place = at_byte 3 20 } → entry_in stream ≢ 0
+      → (NamesMethod (pdb_rows stream 6) (entry_in stream) → ⊥) → IsFirst (BadEntry stream) fault
   entry_is_first fault is some none =
-      subst (IsFirst (BadEntry stream)) (sym is) (first_at (BadEntry stream) EntryPoint (at_byte 3 20) not_before_entry (entry some none) (λ other bad. least_entry other _ bad))
+      subst (IsFirst (BadEntry stream)) (sym is) (first_at (BadEntry stream) EntryPoint (at_byte 3 20) not_before_entry (entry some none)
+      (λ other bad. least_entry other _ bad))
 
 -- where the stream is judged, each table has few rows
 pub few_rows : (stream : List ℕ) → IsAccepted (BadPdb stream) → (t : ℕ) → t < 64 → pdb_rows stream t ≤ 16777215
@@ -164,6 +184,7 @@ few_rows stream judged t lt =
       | inr le ↦ le
       | inl many ↦
           let set = has_count stream 32 (referenced stream) t (λ none. absurd (omega (arith, many, none))) in
-          let place : pdb_count_place stream t ≤ length stream = omega (arith, fields, sum-fields front (referenced stream), counts_mono (referenced stream) t 64 (omega (arith, lt))) in
+          let place : pdb_count_place stream t ≤ length stream =
+          omega (arith, fields, sum-fields front (referenced stream), counts_mono (referenced stream) t 64 (omega (arith, lt))) in
           absurd (judged PdbRows (at_byte 3 (pdb_count_place stream t)) (inl (rows t lt set place many)))
     ]

@@ -1,5 +1,6 @@
 -- The first row that passes the end of the #~ stream.
-use Rattle.std.proofs.Common.{◌≡◌, ℕ, suc, true, false, Bool, ◌+◌, ◌-◌, ◌*◌, ◌<◌, ◌≤◌, List, [], ◌∷◌, ◌++◌, length, sum, take, drop, get_or, replicate, map, refl, sym, ap, subst, ◌∙◌, append_assoc, arith, lit≤, lit<}
+use Rattle.std.proofs.Common.{◌≡◌, ℕ, suc, true, false, Bool, ◌+◌, ◌-◌, ◌*◌, ◌<◌, ◌≤◌, List, [], ◌∷◌, ◌++◌, length, sum, take, drop}
+use Rattle.std.proofs.Common.{get_or, replicate, map, refl, sym, ap, subst, ◌∙◌, append_assoc, arith, lit≤, lit<}
 use Rattle.std.specs.Prelude.{slice_index, nat_lt}
 use Rattle.std.specs.List.{list_any, list_all}
 use Rattle.std.specs.Int.{bit_at}
@@ -91,23 +92,27 @@ module _ (sizes : Sizes) where
   fields_of index lt = ap (λ number. replicate (slice_index sizes.rows number) (row_len sizes (table index))) (number_is index lt)
 
   -- the fields up to the next table
-  next_fields : (index : ℕ) → index < 8 → row_fields sizes (take (index + 1) debug_tables) ≡ row_fields sizes (take index debug_tables) ++ (row_fields_of sizes (table index) ++ [])
+  next_fields : (index : ℕ) → index < 8 → row_fields sizes (take (index + 1) debug_tables) ≡ row_fields sizes (take index debug_tables)
+      ++ (row_fields_of sizes (table index) ++ [])
   unfolding table
   next_fields index lt =
       ap (λ tables. row_fields sizes tables) (take_more debug_tables index no_table lt)
       ∙ flat_map-append (row_fields_of sizes) (take index debug_tables) (table index ∷ [])
       ∙ ap (λ xs. row_fields sizes (take index debug_tables) ++ xs) (flat_map-cons (row_fields_of sizes) (table index) [])
 
-  pub next_table : (index : ℕ) → index < 8 → sum (row_fields sizes (take (index + 1) debug_tables)) ≡ sum (row_fields sizes (take index debug_tables)) + slice_index sizes.rows (0x30 + index) * row_len sizes (table index)
+  pub next_table : (index : ℕ) → index < 8 → sum (row_fields sizes (take (index + 1) debug_tables)) ≡ sum (row_fields sizes (take index debug_tables))
+      + slice_index sizes.rows (0x30 + index) * row_len sizes (table index)
   next_table index lt =
       let fields = replicate (slice_index sizes.rows (0x30 + index)) (row_len sizes (table index)) in
       ap sum (next_fields index lt) ∙ sum_append (row_fields sizes (take index debug_tables)) (row_fields_of sizes (table index) ++ [])
       ∙ ap (λ xs. sum (row_fields sizes (take index debug_tables)) + sum (xs ++ [])) (fields_of index lt)
-      ∙ ap (λ n. sum (row_fields sizes (take index debug_tables)) + n) (sum_append fields [] ∙ omega (arith, sum-replicate (slice_index sizes.rows (0x30 + index)) (row_len sizes (table index))))
+      ∙ ap (λ n. sum (row_fields sizes (take index debug_tables)) + n)
+      (sum_append fields [] ∙ omega (arith, sum-replicate (slice_index sizes.rows (0x30 + index)) (row_len sizes (table index))))
 
   -- all rows, cut before a row of a table
   cut_at_row : (index row : ℕ) → index < 8 → row < slice_index sizes.rows (0x30 + index)
-      → (rest : List ℕ) × (row_fields sizes debug_tables ≡ (row_fields sizes (take index debug_tables) ++ replicate row (row_len sizes (table index))) ++ (row_len sizes (table index) ∷ rest))
+      → (rest : List ℕ) × (row_fields sizes debug_tables ≡ (row_fields sizes (take index debug_tables) ++ replicate row (row_len sizes (table index)))
+      ++ (row_len sizes (table index) ∷ rest))
   unfolding table
   cut_at_row index row lt below =
       let rows = slice_index sizes.rows (0x30 + index) in
@@ -116,7 +121,8 @@ module _ (sizes : Sizes) where
       let later = row_fields sizes (drop (suc index) debug_tables) in
       let split = ap (λ tables. row_fields sizes tables) (split_at debug_tables index no_table lt)
       ∙ flat_map-append (row_fields_of sizes) (take index debug_tables) (table index ∷ drop (suc index) debug_tables)
-      ∙ ap (λ xs. before ++ xs) (flat_map-cons (row_fields_of sizes) (table index) (drop (suc index) debug_tables) ∙ ap (λ xs. xs ++ later) (fields_of index lt)) in
+      ∙ ap (λ xs. before ++ xs) (flat_map-cons (row_fields_of sizes) (table index) (drop (suc index) debug_tables)
+      ∙ ap (λ xs. xs ++ later) (fields_of index lt)) in
       let count : row + suc (rows - suc row) ≡ rows = omega (arith, below) in
       let parts : replicate rows len ≡ replicate row len ++ (len ∷ replicate (rows - suc row) len) =
       ap (λ n. replicate n len) (sym count) ∙ sym (replicate-append-replicate row (suc (rows - suc row)) len) in
@@ -124,7 +130,8 @@ module _ (sizes : Sizes) where
 
   module _ (stream : List ℕ) where
     judged_case : (before after : List ℕ) → row_fields sizes debug_tables ≡ before ++ after → rows_start stream + sum before ≤ length stream
-        → (code : Code) (at : Place) → BadBounds sizes stream code at → ComesBefore (numbers code at) (4 ∷ 0 ∷ 0 ∷ 0 ∷ (rows_start stream + sum before) ∷ []) → ⊥
+        → (code : Code) (at : Place) → BadBounds sizes stream code at → ComesBefore (numbers code at) (4 ∷ 0 ∷ 0 ∷ 0 ∷ (rows_start stream + sum before) ∷ [])
+        → ⊥
     judged_case before after split le _ _ (bounds at len f over) past =
         let lt = byte_before 4 TablesBounds (rows_start stream + at) (rows_start stream + sum before) past in
         absurd (omega (arith, lt, le, over, ends_by_cut (row_fields sizes debug_tables) before after at len f split (omega (arith, lt))))
@@ -140,8 +147,10 @@ module _ (sizes : Sizes) where
         let len = row_len sizes (table index) in
         let cut = cut_at_row index row lt f.1 in
         let before = row_fields sizes (take index debug_tables) ++ replicate row len in
-        let place : first + row * len ≡ rows_start stream + sum before = omega (arith, here, sum_append (row_fields sizes (take index debug_tables)) (replicate row len), sum-replicate row len) in
-        let is : fault ≡ record { code = TablesBounds; place = at_byte 4 (rows_start stream + sum before) } = f.2 ∙ ap (λ b. record { code = TablesBounds; place = at_byte 4 b }) place in
+        let place : first + row * len ≡ rows_start stream + sum before =
+        omega (arith, here, sum_append (row_fields sizes (take index debug_tables)) (replicate row len), sum-replicate row len) in
+        let is : fault ≡ record { code = TablesBounds; place = at_byte 4 (rows_start stream + sum before) } =
+        f.2 ∙ ap (λ b. record { code = TablesBounds; place = at_byte 4 b }) place in
         let field : IsField (row_fields sizes debug_tables) (sum before) len = record { before = before; after = cut.0; in_order = cut.1; place = refl } in
         subst (IsFirst (BadBounds sizes stream)) (sym is)
         (first_at (BadBounds sizes stream) TablesBounds (at_byte 4 (rows_start stream + sum before))

@@ -1,5 +1,6 @@
 -- The first fault of the #~ stream before its rows, from what its readers saw.
-use Rattle.std.proofs.Common.{◌≡◌, ◌≢◌, ℕ, suc, ◌+◌, ◌-◌, ◌<◌, ◌≤◌, inl, inr, List, [], ◌∷◌, ◌++◌, length, sum, replicate, refl, sym, ap, subst, ◌∙◌, append_assoc, arith, lit≤, lit<}
+use Rattle.std.proofs.Common.{◌≡◌, ◌≢◌, ℕ, suc, ◌+◌, ◌-◌, ◌<◌, ◌≤◌, inl, inr, List, [], ◌∷◌, ◌++◌, length, sum, replicate, refl, sym, ap}
+use Rattle.std.proofs.Common.{subst, ◌∙◌, append_assoc, arith, lit≤, lit<}
 use Rattle.ppdb_base.specs.declared.code.Code.{Code}
 use Rattle.ppdb_base.specs.declared.code.Code.TheVariants.{TablesShort, HeapBits, TablesForeign, TableRows, MethodRows}
 use Rattle.ppdb_base.specs.declared.fault.Place.{Place}
@@ -14,7 +15,8 @@ use Rattle.std.proofs.lemmas.Bool.{cases_lt}
 use Rattle.ppdb_tables.specs.declared.head.PdbHead.{PdbHead}
 use Rattle.ppdb_tables.specs.declared.counts.Part.{Part}
 use Rattle.ppdb_tables.specs.Counts.{HasCount, counts_below, count_fields, IsShort, IsCountFault}
-use Rattle.ppdb_tables.specs.Tables.{BadTableFields, short, heap_bits, foreign, rows, method_rows, IsForeign, heap_sizes, valid, table_fields, table_count_place, table_rows, rows_start, count_in}
+use Rattle.ppdb_tables.specs.Tables.{BadTableFields, short, heap_bits, foreign, rows, method_rows, IsForeign, heap_sizes, valid}
+use Rattle.ppdb_tables.specs.Tables.{table_fields, table_count_place, table_rows, rows_start, count_in}
 use Rattle.ppdb_tables.proofs.FieldLists.{field_within, starts_by}
 use Rattle.ppdb_tables.proofs.RowCounts.{cut, sum-cut, sum-fields, fields_cut, count_cut, one_more, earlier_table, same_table, rows_in-set}
 
@@ -82,7 +84,8 @@ module _ (methods : ℕ) (stream : List ℕ) where
 
   -- so it is with some of the fields before the row counts, which begin at a place
   front_is_first : (first : ℕ) (before fields after : List ℕ) (fault : Fault) → front ≡ before ++ (fields ++ after) → first ≡ sum before
-      → ((at len : ℕ) → IsField fields at len → 0 < len → AreGoodTo (first + at)) → IsShort table_part stream fields first fault → IsFirst (BadTableFields methods stream) fault
+      → ((at len : ℕ) → IsField fields at len → 0 < len → AreGoodTo (first + at)) → IsShort table_part stream fields first fault
+      → IsFirst (BadTableFields methods stream) fault
   front_is_first first before fields after fault split is good s =
       let at = s.0 in
       let len = s.1 in
@@ -90,7 +93,8 @@ module _ (methods : ℕ) (stream : List ℕ) where
       subst (λ xs. IsField (xs ++ count_fields (valid stream)) (sum before + at) len) (sym split) (more before fields after at len s.2) in
       short_is_first (first + at) len fault (rw is within) s.4 (good at len s.2 (omega (arith, s.4, s.5))) (s.3, s.5)
     where
-      more : (before fields after : List ℕ) (at len : ℕ) → IsField fields at len → IsField ((before ++ (fields ++ after)) ++ count_fields (valid stream)) (sum before + at) len
+      more : (before fields after : List ℕ) (at len : ℕ) → IsField fields at len → IsField ((before ++ (fields ++ after)) ++ count_fields (valid stream))
+          (sum before + at) len
       more before fields after at len f =
           subst (λ xs. IsField xs (sum before + at) len) (simp append_assoc refl) (field_within before fields (after ++ count_fields (valid stream)) at len f)
 
@@ -108,7 +112,8 @@ module _ (methods : ℕ) (stream : List ℕ) where
       (λ at len f some. let le = starts_by (1 ∷ []) 8 at len f some in
       good_front (7 + at) (omega (arith, le)) (λ _. heap) (λ lt. absurd (omega (arith, le, lt)))) s
 
-  pub sorted_short : heap_sizes stream < 8 → (IsForeign (valid stream) → ⊥) → (fault : Fault) → IsShort table_part stream (8 ∷ []) 16 fault → IsFirst (BadTableFields methods stream) fault
+  pub sorted_short : heap_sizes stream < 8 → (IsForeign (valid stream) → ⊥) → (fault : Fault) → IsShort table_part stream (8 ∷ []) 16 fault
+      → IsFirst (BadTableFields methods stream) fault
   sorted_short heap known fault s =
       front_is_first 16 (4 ∷ 1 ∷ 1 ∷ 1 ∷ 1 ∷ 8 ∷ []) (8 ∷ []) [] fault refl refl
       (λ at len f some. let le = starts_by [] 8 at len f some in
@@ -128,11 +133,13 @@ module _ (methods : ℕ) (stream : List ℕ) where
   least_heap long _ _ (rows t small set within many) e = lit≤ tt
   least_heap long _ _ (method_rows set within some other) e = lit≤ tt
 
-  pub heap_is_first : (fault : Fault) → fault ≡ record { code = HeapBits; place = at_byte 4 6 } → 7 ≤ length stream → 8 ≤ heap_sizes stream → IsFirst (BadTableFields methods stream) fault
+  pub heap_is_first : (fault : Fault) → fault ≡ record { code = HeapBits; place = at_byte 4 6 } → 7 ≤ length stream → 8 ≤ heap_sizes stream
+      → IsFirst (BadTableFields methods stream) fault
   heap_is_first fault is long large =
       subst (IsFirst (BadTableFields methods stream)) (sym is)
       (first_at (BadTableFields methods stream) HeapBits (at_byte 4 6)
-      (judged_case 6 (4 ∷ 1 ∷ 1 ∷ []) (1 ∷ 1 ∷ 8 ∷ 8 ∷ count_fields (valid stream)) refl refl (omega (arith, long)) (good_front 6 (lit≤ tt) (λ lt. absurd (omega (arith, lt))) (λ lt. absurd (omega (arith, lt)))))
+      (judged_case 6 (4 ∷ 1 ∷ 1 ∷ []) (1 ∷ 1 ∷ 8 ∷ 8 ∷ count_fields (valid stream)) refl refl (omega (arith, long))
+      (good_front 6 (lit≤ tt) (λ lt. absurd (omega (arith, lt))) (λ lt. absurd (omega (arith, lt)))))
       (heap_bits (omega (arith, long)) large)
       (λ other bad. least_heap long other (at_byte 4 6) bad refl))
 
@@ -145,11 +152,13 @@ module _ (methods : ℕ) (stream : List ℕ) where
   least_foreign long _ _ (rows t small set within many) e = lit≤ tt
   least_foreign long _ _ (method_rows set within some other) e = lit≤ tt
 
-  pub foreign_is_first : (fault : Fault) → fault ≡ record { code = TablesForeign; place = at_byte 4 8 } → heap_sizes stream < 8 → 16 ≤ length stream → IsForeign (valid stream) → IsFirst (BadTableFields methods stream) fault
+  pub foreign_is_first : (fault : Fault) → fault ≡ record { code = TablesForeign; place = at_byte 4 8 } → heap_sizes stream < 8 → 16 ≤ length stream
+      → IsForeign (valid stream) → IsFirst (BadTableFields methods stream) fault
   foreign_is_first fault is heap long some =
       subst (IsFirst (BadTableFields methods stream)) (sym is)
       (first_at (BadTableFields methods stream) TablesForeign (at_byte 4 8)
-      (judged_case 8 (4 ∷ 1 ∷ 1 ∷ 1 ∷ 1 ∷ []) (8 ∷ 8 ∷ count_fields (valid stream)) refl refl (omega (arith, long)) (good_front 8 (lit≤ tt) (λ _. heap) (λ lt. absurd (omega (arith, lt)))))
+      (judged_case 8 (4 ∷ 1 ∷ 1 ∷ 1 ∷ 1 ∷ []) (8 ∷ 8 ∷ count_fields (valid stream)) refl refl (omega (arith, long))
+      (good_front 8 (lit≤ tt) (λ _. heap) (λ lt. absurd (omega (arith, lt)))))
       (foreign (omega (arith, long)) some)
       (λ other bad. least_foreign long other (at_byte 4 8) bad refl))
 
@@ -165,28 +174,39 @@ module _ (methods : ℕ) (stream : List ℕ) where
     }
 
     count_short : (fault : Fault) → table_count_place stream table ≤ length stream
-        → (fault ≡ record { code = TablesShort; place = at_byte 4 (table_count_place stream table) }) × (length stream < table_count_place stream table + 4) → IsFirst (BadTableFields methods stream) fault
+        → (fault ≡ record { code = TablesShort; place = at_byte 4 (table_count_place stream table) }) × (length stream < table_count_place stream table + 4)
+        → IsFirst (BadTableFields methods stream) fault
     count_short fault le past =
         let n = counts_below (valid stream) table in
         short_is_first (table_count_place stream table) 4 fault
-        (record { before = cut front n; after = replicate (counts_below (valid stream) 64 - suc n) 4; in_order = count_cut front (valid stream) table lt set; place = omega (arith, sum-cut front n) })
+        (record {
+          before = cut front n;
+          after = replicate (counts_below (valid stream) 64 - suc n) 4;
+          in_order = count_cut front (valid stream) table lt set;
+          place = omega (arith, sum-cut front n);
+        })
         le good_before past
 
-    judged_count : table_count_place stream table ≤ length stream → IsJudgedTo (BadTableFields methods stream) (4 ∷ 0 ∷ 0 ∷ 0 ∷ table_count_place stream table ∷ [])
+    judged_count : table_count_place stream table ≤ length stream → IsJudgedTo (BadTableFields methods stream)
+        (4 ∷ 0 ∷ 0 ∷ 0 ∷ table_count_place stream table ∷ [])
     judged_count le =
         let n = counts_below (valid stream) table in
         let more = one_more (valid stream) table lt set in
-        judged_case (table_count_place stream table) (cut front n) (replicate (counts_below (valid stream) 64 - n) 4) (fields_cut front (valid stream) n (omega (arith, more)))
+        judged_case (table_count_place stream table) (cut front n) (replicate (counts_below (valid stream) 64 - n) 4)
+        (fields_cut front (valid stream) n (omega (arith, more)))
         (omega (arith, sum-cut front n)) le good_before
 
-    not_short_here : table_count_place stream table + 4 ≤ length stream → (at len : ℕ) → IsField (table_fields stream) at len → at_byte 4 at ≡ at_byte 4 (table_count_place stream table) → length stream < at + len → ⊥
+    not_short_here : table_count_place stream table + 4 ≤ length stream → (at len : ℕ) → IsField (table_fields stream) at len
+        → at_byte 4 at ≡ at_byte 4 (table_count_place stream table) → length stream < at + len → ⊥
     not_short_here fits at len f e over =
         let n = suc (counts_below (valid stream) table) in
         let more = one_more (valid stream) table lt set in
-        not_short (cut front n) (replicate (counts_below (valid stream) 64 - n) 4) (table_count_place stream table) at len (fields_cut front (valid stream) n more)
+        not_short (cut front n) (replicate (counts_below (valid stream) 64 - n) 4)
+        (table_count_place stream table) at len (fields_cut front (valid stream) n more)
         (omega (arith, sum-cut front n)) (omega (arith, sum-cut front n, fits)) f (same_byte at (table_count_place stream table) e) over
 
-    least_rows : table_count_place stream table + 4 ≤ length stream → (code : Code) (at : Place) → BadTableFields methods stream code at → at ≡ at_byte 4 (table_count_place stream table) → 16 ≤ number_of code
+    least_rows : table_count_place stream table + 4 ≤ length stream → (code : Code) (at : Place) → BadTableFields methods stream code at
+        → at ≡ at_byte 4 (table_count_place stream table) → 16 ≤ number_of code
     least_rows fits _ _ (short at len f within over) e = absurd (not_short_here fits at len f e over)
     least_rows fits _ _ (heap_bits within large) e =
         let same = same_byte 6 (table_count_place stream table) e in absurd (omega (arith, same))
@@ -195,7 +215,8 @@ module _ (methods : ℕ) (stream : List ℕ) where
     least_rows fits _ _ (rows t small is_set within many) e = lit≤ tt
     least_rows fits _ _ (method_rows is_set within some other) e = lit≤ tt
 
-    count_many : (fault : Fault) → fault ≡ record { code = TableRows; place = at_byte 4 (table_count_place stream table) } → table_count_place stream table + 4 ≤ length stream
+    count_many : (fault : Fault) → fault ≡ record { code = TableRows; place = at_byte 4 (table_count_place stream table) }
+        → table_count_place stream table + 4 ≤ length stream
         → 16777215 < table_rows stream table → IsFirst (BadTableFields methods stream) fault
     count_many fault is fits many =
         subst (IsFirst (BadTableFields methods stream)) (sym is)
@@ -203,7 +224,8 @@ module _ (methods : ℕ) (stream : List ℕ) where
         (rows table lt set (omega (arith, fits)) many)
         (λ other bad. least_rows fits other _ bad refl))
 
-    least_methods : table_count_place stream table + 4 ≤ length stream → table_rows stream table ≤ 16777215 → (code : Code) (at : Place) → BadTableFields methods stream code at → at ≡ at_byte 4 (table_count_place stream table) → 18 ≤ number_of code
+    least_methods : table_count_place stream table + 4 ≤ length stream → table_rows stream table ≤ 16777215 → (code : Code) (at : Place)
+        → BadTableFields methods stream code at → at ≡ at_byte 4 (table_count_place stream table) → 18 ≤ number_of code
     least_methods fits small _ _ (short at len f within over) e = absurd (not_short_here fits at len f e over)
     least_methods fits small _ _ (heap_bits within large) e =
         let same = same_byte 6 (table_count_place stream table) e in absurd (omega (arith, same))
@@ -214,7 +236,8 @@ module _ (methods : ℕ) (stream : List ℕ) where
         absurd (omega (arith, many, small, ap (table_rows stream) same))
     least_methods fits small _ _ (method_rows is_set within some other) e = lit≤ tt
 
-    pub methods_are_first : (fault : Fault) → table ≡ 0x31 → fault ≡ record { code = MethodRows; place = at_byte 4 (table_count_place stream table) } → table_count_place stream table + 4 ≤ length stream
+    pub methods_are_first : (fault : Fault) → table ≡ 0x31 → fault ≡ record { code = MethodRows; place = at_byte 4 (table_count_place stream table) }
+        → table_count_place stream table + 4 ≤ length stream
         → table_rows stream table ≤ 16777215 → table_rows stream table ≢ 0 → table_rows stream table ≢ methods → IsFirst (BadTableFields methods stream) fault
     methods_are_first fault is_31 is fits small some other =
         subst (IsFirst (BadTableFields methods stream)) (sym is)
@@ -222,14 +245,17 @@ module _ (methods : ℕ) (stream : List ℕ) where
         (at_31 table is_31 set (omega (arith, fits)) some other)
         (λ code bad. least_methods fits small code _ bad refl))
       where
-        at_31 : (t : ℕ) → t ≡ 0x31 → HasCount (valid stream) t → table_count_place stream t ≤ length stream → table_rows stream t ≢ 0 → table_rows stream t ≢ methods
+        at_31 : (t : ℕ) → t ≡ 0x31 → HasCount (valid stream) t → table_count_place stream t ≤ length stream → table_rows stream t ≢ 0
+            → table_rows stream t ≢ methods
             → BadTableFields methods stream MethodRows (at_byte 4 (table_count_place stream t))
         at_31 t e = subst (λ u. HasCount (valid stream) u → table_count_place stream u ≤ length stream → table_rows stream u ≢ 0 → table_rows stream u ≢ methods
             → BadTableFields methods stream MethodRows (at_byte 4 (table_count_place stream u))) (sym e) method_rows
 
   -- the fault of a table's row count, after good ones, is the first
-  pub count_is_first : (table at : ℕ) (fault : Fault) → table < 64 → at ≡ table_count_place stream table → at ≤ length stream → heap_sizes stream < 8 → (IsForeign (valid stream) → ⊥)
-      → ((t : ℕ) → t < table → table_rows stream t ≤ 16777215) → (0x31 < table → FitMethods methods stream) → IsCountFault table_part stream (valid stream) table at fault → IsFirst (BadTableFields methods stream) fault
+  pub count_is_first : (table at : ℕ) (fault : Fault) → table < 64 → at ≡ table_count_place stream table → at ≤ length stream → heap_sizes stream < 8
+      → (IsForeign (valid stream) → ⊥)
+      → ((t : ℕ) → t < table → table_rows stream t ≤ 16777215) → (0x31 < table → FitMethods methods stream)
+      → IsCountFault table_part stream (valid stream) table at fault → IsFirst (BadTableFields methods stream) fault
   count_is_first table at fault lt here le heap known few fit (set, inl past) =
       count_short table lt set heap known few fit fault (rw (← here) le) (rw (← here) past)
   count_is_first table at fault lt here le heap known few fit (set, inr many) =
@@ -256,11 +282,14 @@ start_is stream = omega (arith, sum-fields front (valid stream))
 
 -- the rows that are kept for a table are those of #Pdb or of #~
 pub kept_is : (head : PdbHead) (stream : List ℕ) (table count kept : ℕ) → count ≡ table_rows stream table
-    → kept ≡ (if nat_lt table 0x2D then slice_index head.rows table else if nat_lt table 0x30 then 0 else if nat_lt table 0x38 then count else 0) → kept ≡ count_in head stream table
-kept_is head stream table count kept is e = subst (λ n. kept ≡ (if nat_lt table 0x2D then slice_index head.rows table else if nat_lt table 0x30 then 0 else if nat_lt table 0x38 then n else 0)) is e
+    → kept ≡ (if nat_lt table 0x2D then slice_index head.rows table else if nat_lt table 0x30 then 0 else if nat_lt table 0x38 then count else 0)
+    → kept ≡ count_in head stream table
+kept_is head stream table count kept is e =
+    subst (λ n. kept ≡ (if nat_lt table 0x2D then slice_index head.rows table else if nat_lt table 0x30 then 0 else if nat_lt table 0x38 then n else 0)) is e
 
 -- table 31 is passed
-pub fit_step : (methods : ℕ) (stream : List ℕ) (table count : ℕ) → count ≡ table_rows stream table → ((table ≡ 0x31) × (count ≢ 0) × (count ≢ methods) → ⊥) → (0x31 < table → FitMethods methods stream) → 0x31 < table + 1 → FitMethods methods stream
+pub fit_step : (methods : ℕ) (stream : List ℕ) (table count : ℕ) → count ≡ table_rows stream table → ((table ≡ 0x31) × (count ≢ 0) × (count ≢ methods) → ⊥)
+    → (0x31 < table → FitMethods methods stream) → 0x31 < table + 1 → FitMethods methods stream
 fit_step methods stream table count is good fit lt =
     elim (cases_lt 0x31 table) [
       | inl before ↦ fit before

@@ -12,7 +12,8 @@ use Rattle.row_layout.specs.Columns.{parent_tables}
 use Rattle.ppdb_tables.specs.declared.parent.Parent.{Parent}
 use Rattle.ppdb_tables.specs.Parents.{parent_in, coded_in}
 
-coded_case : (parent : Parent) (o : Option ℕ) → position (λ table. eqb table parent.table) parent_tables ≡ o → IfSome (option_map (λ tag. parent.row * 32 + tag) o) (λ coded. parent_in coded ≡ Some parent)
+coded_case : (parent : Parent) (o : Option ℕ) → position (λ table. eqb table parent.table) parent_tables ≡ o
+    → IfSome (option_map (λ tag. parent.row * 32 + tag) o) (λ coded. parent_in coded ≡ Some parent)
 coded_case parent None e = tt
 coded_case parent (Some tag) e =
     let found = position-Some (λ table. eqb table parent.table) parent_tables tag 0 e in
@@ -54,12 +55,14 @@ at_its_tag : (tag : ℕ) → tag < 27 → position (λ table. eqb table (get_or 
 unfolding stands_first
 at_its_tag tag lt = is_tag_some tag _ (first_case tag (stands_first tag) refl lt)
 
-parent_case : (coded : ℕ) (o : Option ℕ) → slice_get parent_tables (coded % 32) ≡ o → IfSome (option_map (λ table. record { table = table; row = coded / 32 }) o) (λ parent. coded_in parent ≡ Some coded)
+parent_case : (coded : ℕ) (o : Option ℕ) → slice_get parent_tables (coded % 32) ≡ o
+    → IfSome (option_map (λ table. record { table = table; row = coded / 32 }) o) (λ parent. coded_in parent ≡ Some coded)
 parent_case coded None e = tt
 parent_case coded (Some table) e =
     let lt : coded % 32 < 27 = slice_get_within parent_tables (coded % 32) table e in
     let is : get_or parent_tables (coded % 32) 0 ≡ table = get_or_from_slice_get parent_tables (coded % 32) table 0 e in
-    let tag : position (λ other. eqb other table) parent_tables ≡ Some (coded % 32) = subst (λ t. position (λ other. eqb other t) parent_tables ≡ Some (coded % 32)) is (at_its_tag (coded % 32) lt) in
+    let tag : position (λ other. eqb other table) parent_tables ≡ Some (coded % 32) =
+    subst (λ t. position (λ other. eqb other t) parent_tables ≡ Some (coded % 32)) is (at_its_tag (coded % 32) lt) in
     rw tag (ap Some (omega arith))
 
 pub parent_coded : (coded : ℕ) → IfSome (parent_in coded) (λ parent. coded_in parent ≡ Some coded)

@@ -1,5 +1,6 @@
 -- The places and values of row counts.
-use Rattle.std.proofs.Common.{◌≡◌, ◌≢◌, ℕ, zero, suc, ◌+◌, ◌-◌, ◌*◌, ◌<◌, ◌≤◌, inl, inr, List, ◌∷◌, ◌++◌, sum, replicate, refl, sym, ap, ◌∙◌, append_assoc, arith, add-one, if◌then◌else◌}
+use Rattle.std.proofs.Common.{◌≡◌, ◌≢◌, ℕ, zero, suc, ◌+◌, ◌-◌, ◌*◌, ◌<◌, ◌≤◌, inl, inr, List, ◌∷◌, ◌++◌, sum, replicate, refl, sym, ap}
+use Rattle.std.proofs.Common.{◌∙◌, append_assoc, arith, add-one, if◌then◌else◌}
 use Rattle.std.specs.Prelude.{◌==◌}
 use Rattle.std.specs.Int.{bit_at}
 use Rattle.std.proofs.lemmas.Bool.{cases_lt, cases_eq, eq-eqb, ne_eqb}
@@ -46,7 +47,8 @@ unfolding cut
 fields_cut front bits n le =
     let total = counts_below bits 64 in
     let e : n + (total - n) ≡ total = omega arith in
-    ap (λ xs. front ++ xs) (ap (λ m. replicate m 4) (sym e) ∙ sym (replicate-append-replicate n (total - n) 4)) ∙ sym (append_assoc front (replicate n 4) (replicate (total - n) 4))
+    ap (λ xs. front ++ xs) (ap (λ m. replicate m 4) (sym e) ∙ sym (replicate-append-replicate n (total - n) 4))
+    ∙ sym (append_assoc front (replicate n 4) (replicate (total - n) 4))
 
 -- the row count of a table is one of the fields
 pub one_more : (bits table : ℕ) → table < 64 → HasCount bits table → suc (counts_below bits table) ≤ counts_below bits 64

@@ -10,7 +10,8 @@ use Rattle.ppdb_tables.specs.Tables.{rows_start}
 -- the fault of the first of some rows, which stand one after another from a place on, that passes the end
 abbrev pub IsRowFault : List ℕ → ℕ → ℕ → ℕ → Fault → Type 0
 IsRowFault stream first rows len fault =
-    (row : ℕ) × (row < rows) × (fault ≡ record { code = TablesBounds; place = at_byte 4 (first + row * len) }) × (first + row * len ≤ length stream) × (length stream < first + row * len + len)
+    (row : ℕ) × (row < rows) × (fault ≡ record { code = TablesBounds; place = at_byte 4 (first + row * len) }) × (first + row * len ≤ length stream)
+    × (length stream < first + row * len + len)
 
 -- a debug table begins at the place, and ends in the stream; indexes are in file order
 pub record StandsAt (sizes : Sizes) (stream : List ℕ) (index place : ℕ) : Type 0 where

@@ -14,7 +14,9 @@ use Rattle.row_layout.specs.declared.column.Sizes.{Sizes}
 use Rattle.row_layout.specs.declared.column.Column.{Column}
 use Rattle.ppdb_tables.specs.declared.head.PdbHead.{PdbHead}
 use Rattle.ppdb_tables.specs.Counts.{HasCount, count_fields, count_place, rows_in}
-use Rattle.ppdb_tables.specs.Layouts.{debug_tables, widths_of, row_fields, rows_by, document_columns, method_columns, scope_columns, variable_columns, constant_columns, import_columns, machine_columns, custom_columns, document_row, method_row, scope_row, variable_row, constant_row, import_row, machine_row, custom_row}
+use Rattle.ppdb_tables.specs.Layouts.{debug_tables, widths_of, row_fields, rows_by, document_columns, method_columns, scope_columns}
+use Rattle.ppdb_tables.specs.Layouts.{variable_columns, constant_columns, import_columns, machine_columns, custom_columns, document_row}
+use Rattle.ppdb_tables.specs.Layouts.{method_row, scope_row, variable_row, constant_row, import_row, machine_row, custom_row}
 use Rattle.ppdb_tables.specs.RawTables.{RawTables}
 
 -- the bits of the heaps whose indexes have four bytes (HeapSizes)
@@ -43,7 +45,8 @@ IsForeign bits = (bits % 2 ^ 0x30 ≢ 0) ⊎ (2 ^ 0x38 ≤ bits)
 
 -- The rules of the fields, F13 to F16 and F18; methods are the rows of MethodDef. A field is judged where the fields before it fit.
 pub data BadTableFields (methods : ℕ) (stream : List ℕ) : Code → Place → Type 0 where
-  short : (at len : ℕ) → IsField (table_fields stream) at len → at ≤ length stream → length stream < at + len → BadTableFields methods stream TablesShort (at_byte 4 at)
+  short : (at len : ℕ) → IsField (table_fields stream) at len → at ≤ length stream → length stream < at + len
+      → BadTableFields methods stream TablesShort (at_byte 4 at)
   heap_bits : 6 ≤ length stream → 8 ≤ heap_sizes stream → BadTableFields methods stream HeapBits (at_byte 4 6)
   foreign : 8 ≤ length stream → IsForeign (valid stream) → BadTableFields methods stream TablesForeign (at_byte 4 8)
   rows : (table : ℕ) → table < 64 → HasCount (valid stream) table → table_count_place stream table ≤ length stream → 16777215 < table_rows stream table
@@ -57,7 +60,8 @@ rows_start stream = sum (table_fields stream)
 
 -- The rule of the rows, F17.
 pub data BadBounds (sizes : Sizes) (stream : List ℕ) : Code → Place → Type 0 where
-  bounds : (at len : ℕ) → IsField (row_fields sizes debug_tables) at len → length stream < rows_start stream + at + len → BadBounds sizes stream TablesBounds (at_byte 4 (rows_start stream + at))
+  bounds : (at len : ℕ) → IsField (row_fields sizes debug_tables) at len → length stream < rows_start stream + at + len
+      → BadBounds sizes stream TablesBounds (at_byte 4 (rows_start stream + at))
 
 -- how many rows a table has: 00 to 2c by #Pdb, 30 to 37 by #~, all others none
 abbrev pub count_in : PdbHead → List ℕ → ℕ → ℕ

@@ -48,7 +48,8 @@ impl Layouts {
 
     /// How many bytes a row of each table has, in file order.
     pub fn lens(&self) -> [usize; 8]
-        ensures { result ≡ sum self.now.documents ∷ sum self.now.methods ∷ sum self.now.scopes ∷ sum self.now.variables ∷ sum self.now.constants ∷ sum self.now.imports ∷ sum self.now.machines ∷ sum self.now.customs ∷ [] }
+        ensures { result ≡ sum self.now.documents ∷ sum self.now.methods ∷ sum self.now.scopes ∷ sum self.now.variables ∷ sum self.now.constants
+            ∷ sum self.now.imports ∷ sum self.now.machines ∷ sum self.now.customs ∷ [] }
     {
         [
             self.documents.len(),

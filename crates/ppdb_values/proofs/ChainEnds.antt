@@ -17,7 +17,8 @@ linked parent rows most row None h again = refl
 linked parent rows most row (Some x) h again = ap (λ rest. (row, x) ∷ rest) (again x h)
 
 -- one more step adds nothing, where the chain has ended
-chain_short : {X : Type 0} (parent : X → ℕ) (rows : List X) (k most row : ℕ) → ancestor_of (parent_at parent rows) row k ≡ 0 → k ≤ most → chain_for parent rows (suc most) row ≡ chain_for parent rows most row
+chain_short : {X : Type 0} (parent : X → ℕ) (rows : List X) (k most row : ℕ) → ancestor_of (parent_at parent rows) row k ≡ 0 → k ≤ most
+    → chain_for parent rows (suc most) row ≡ chain_for parent rows most row
 unfolding chain_for
 chain_short parent rows zero most row e le = rw e (none_for parent rows (suc most) ∙ sym (none_for parent rows most))
 chain_short parent rows (suc k) zero row e le = absurd (omega arith)

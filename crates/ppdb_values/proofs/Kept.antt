@@ -14,7 +14,9 @@ use Rattle.ppdb_tables.specs.RawTables.{row_at, HasShape}
 use Rattle.ppdb_values.specs.RawFile.{text, records_of, begun_of}
 use Rattle.ppdb_values.specs.Chains.{chain_for}
 use Rattle.ppdb_values.specs.Ordered.{EachRow, EachPair, IsSorted, Rises}
-use Rattle.ppdb_values.specs.Rules.{IsWhole, IsDocument, KeepsDocuments, IsMethod, KeepsMethods, IsScope, KeepsScopes, KeepsLists, KeepsVariables, IsConstant, KeepsConstants, IsImport, KeepsImports, KeepsMachines, IsCustom, KeepsCustoms, KeepsRules}
+use Rattle.ppdb_values.specs.Rules.{IsWhole, IsDocument, KeepsDocuments, IsMethod, KeepsMethods, IsScope, KeepsScopes, KeepsLists}
+use Rattle.ppdb_values.specs.Rules.{KeepsVariables, IsConstant, KeepsConstants, IsImport, KeepsImports, KeepsMachines, IsCustom}
+use Rattle.ppdb_values.specs.Rules.{KeepsCustoms, KeepsRules}
 use Rattle.ppdb_values.specs.WorkedProgram.{program_file}
 
 -- ---- rows that are listed
@@ -140,7 +142,8 @@ imports_kept : KeepsImports program_file.tables
 unfolding chain_for
 imports_kept = record { each = each_of _ program_file.tables.imports (first_import_kept, (second_import_kept, tt)); chains_end = ends }
   where
-    ends : (row : ℕ) → row ≤ 2 → chain_for (λ scope. scope.parent) program_file.tables.imports 3 row ≡ chain_for (λ scope. scope.parent) program_file.tables.imports 2 row
+    ends : (row : ℕ) → row ≤ 2 → chain_for (λ scope. scope.parent) program_file.tables.imports 3 row
+        ≡ chain_for (λ scope. scope.parent) program_file.tables.imports 2 row
     ends zero le = refl
     ends (suc zero) le = refl
     ends (suc (suc zero)) le = refl
@@ -172,7 +175,8 @@ stepping_kept = record { tag = refl; parent = (omega arith, omega arith); kind =
 customs_kept : KeepsCustoms program_file.tables
 customs_kept = record {
   each = each_of _ program_file.tables.customs (link_kept, (options_kept, (hoisted_kept, (stepping_kept, tt))));
-  by_parent = sorted_cons 39 39 (128 ∷ 128 ∷ []) (omega arith) (sorted_cons 39 128 (128 ∷ []) (omega arith) (sorted_cons 128 128 [] (omega arith) (sorted_one 128)));
+  by_parent =
+      sorted_cons 39 39 (128 ∷ 128 ∷ []) (omega arith) (sorted_cons 39 128 (128 ∷ []) (omega arith) (sorted_cons 128 128 [] (omega arith) (sorted_one 128)));
 }
 
 -- ---- the lists of the scope, and the file
@@ -186,7 +190,8 @@ variable_lists_kept = record {
 }
   where
     first_is : (scope : ScopeRow) → row_at program_file.tables.scopes 1 ≡ Some scope → scope.variables ≡ 1
-    first_is scope there = let e : record { method = 4; import = 2; variables = 1; constants = 1; start = 0; length = 175 } ≡ scope = cc in subst (λ (s : ScopeRow). s.variables ≡ 1) e refl
+    first_is scope there = let e : record { method = 4; import = 2; variables = 1; constants = 1; start = 0; length = 175 } ≡ scope = cc in
+        subst (λ (s : ScopeRow). s.variables ≡ 1) e refl
 
 constant_lists_kept : KeepsLists (λ scope. scope.constants) program_file.tables.scopes 1
 constant_lists_kept = record {
@@ -197,7 +202,8 @@ constant_lists_kept = record {
 }
   where
     first_is : (scope : ScopeRow) → row_at program_file.tables.scopes 1 ≡ Some scope → scope.constants ≡ 1
-    first_is scope there = let e : record { method = 4; import = 2; variables = 1; constants = 1; start = 0; length = 175 } ≡ scope = cc in subst (λ (s : ScopeRow). s.constants ≡ 1) e refl
+    first_is scope there = let e : record { method = 4; import = 2; variables = 1; constants = 1; start = 0; length = 175 } ≡ scope = cc in
+        subst (λ (s : ScopeRow). s.constants ≡ 1) e refl
 
 variables_kept : KeepsVariables program_file.tables
 variables_kept = record {
@@ -211,7 +217,8 @@ constants_kept : KeepsConstants program_file.tables
 constants_kept = record {
   lists = constant_lists_kept;
   each = each_one _ _ constant_kept;
-  names_differ = λ a b x y hx hy less owner. pairs_one (λ u v. text program_file.tables u.name ≢ text program_file.tables v.name) (record { name = 1; signature = 98 }) a b x y hx hy less;
+  names_differ = λ a b x y hx hy less owner. pairs_one (λ u v. text program_file.tables u.name ≢ text program_file.tables v.name)
+      (record { name = 1; signature = 98 }) a b x y hx hy less;
 }
 
 pub program_kept : KeepsRules program_file

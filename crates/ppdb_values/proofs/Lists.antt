@@ -1,5 +1,6 @@
 -- Where the lists of scopes are in order, a scope owns the items of its list.
-use Rattle.std.proofs.Common.{◌≡◌, ℕ, zero, suc, ◌+◌, ◌-◌, ◌≤◌, ◌<◌, ◌↔◌, List, [], ◌∷◌, length, map, take, drop, refl, ap, sym, arith, inl, inr, Bool, true, false, slice_get, slice_index}
+use Rattle.std.proofs.Common.{◌≡◌, ℕ, zero, suc, ◌+◌, ◌-◌, ◌≤◌, ◌<◌, ◌↔◌, List, [], ◌∷◌, length, map, take, drop, refl, ap, sym, arith}
+use Rattle.std.proofs.Common.{inl, inr, Bool, true, false, slice_get, slice_index}
 use Rattle.std.specs.Prelude.{Option, Some, None, unwrap_or}
 use Rattle.std.specs.List.{filter, enumerate_from}
 use Rattle.std.specs.Option.{option_map}
@@ -22,7 +23,8 @@ index_map f (y ∷ ys) zero x e = ap f (cc)
 index_map f (y ∷ ys) (suc i) x e = index_map f ys i x e
 
 -- a later row has no lower list
-rises : (list : ScopeRow → ℕ) (scopes : List ScopeRow) (items a b : ℕ) (x y : ScopeRow) → KeepsLists list scopes items → row_at scopes a ≡ Some x → row_at scopes b ≡ Some y → a ≤ b → list x ≤ list y
+rises : (list : ScopeRow → ℕ) (scopes : List ScopeRow) (items a b : ℕ) (x y : ScopeRow) → KeepsLists list scopes items → row_at scopes a ≡ Some x
+    → row_at scopes b ≡ Some y → a ≤ b → list x ≤ list y
 rises list scopes items zero b x y keeps hx hy le = cc
 rises list scopes items (suc i) zero x y keeps hx hy le = absurd (omega arith)
 rises list scopes items (suc i) (suc j) x y keeps hx hy le =
@@ -47,7 +49,8 @@ row_positive scopes (suc i) x h = omega arith
 
 -- ---- where a list ends
 
-end_above : (list : ScopeRow → ℕ) (scopes : List ScopeRow) (items owner item : ℕ) (o : Option ScopeRow) → row_at scopes (suc owner) ≡ o → IsOwner list scopes owner item → item ≤ items
+end_above : (list : ScopeRow → ℕ) (scopes : List ScopeRow) (items owner item : ℕ) (o : Option ScopeRow) → row_at scopes (suc owner) ≡ o
+    → IsOwner list scopes owner item → item ≤ items
     → item < unwrap_or (option_map list o) (items + 1)
 end_above list scopes items owner item None e h le = omega (arith, le)
 end_above list scopes items owner item (Some x) e h le = elim (cases_lt item (list x)) [
@@ -55,18 +58,21 @@ end_above list scopes items owner item (Some x) e h le = elim (cases_lt item (li
   | inr begun ↦ let later = h.last (suc owner) x e begun in absurd (omega (arith, later))
 ]
 
-end_within : (list : ScopeRow → ℕ) (scopes : List ScopeRow) (items owner : ℕ) (o : Option ScopeRow) → row_at scopes (suc owner) ≡ o → KeepsLists list scopes items
+end_within : (list : ScopeRow → ℕ) (scopes : List ScopeRow) (items owner : ℕ) (o : Option ScopeRow) → row_at scopes (suc owner) ≡ o
+    → KeepsLists list scopes items
     → unwrap_or (option_map list o) (items + 1) ≤ items + 1
 end_within list scopes items owner None e keeps = omega arith
 end_within list scopes items owner (Some x) e keeps = keeps.within (suc owner) x e
 
-end_after : (list : ScopeRow → ℕ) (scopes : List ScopeRow) (items owner : ℕ) (scope : ScopeRow) (o : Option ScopeRow) → row_at scopes (suc owner) ≡ o → KeepsLists list scopes items
+end_after : (list : ScopeRow → ℕ) (scopes : List ScopeRow) (items owner : ℕ) (scope : ScopeRow) (o : Option ScopeRow) → row_at scopes (suc owner) ≡ o
+    → KeepsLists list scopes items
     → row_at scopes owner ≡ Some scope → list scope ≤ unwrap_or (option_map list o) (items + 1)
 end_after list scopes items owner scope None e keeps there = keeps.within owner scope there
 end_after list scopes items owner scope (Some x) e keeps there = rises list scopes items owner (suc owner) scope x keeps there e (omega arith)
 
 -- the first list begins at 1, and so none begins before
-begins : (list : ScopeRow → ℕ) (scopes : List ScopeRow) (items owner : ℕ) (scope : ScopeRow) → KeepsLists list scopes items → row_at scopes owner ≡ Some scope → 1 ≤ list scope
+begins : (list : ScopeRow → ℕ) (scopes : List ScopeRow) (items owner : ℕ) (scope : ScopeRow) → KeepsLists list scopes items → row_at scopes owner ≡ Some scope
+    → 1 ≤ list scope
 begins list scopes items owner scope keeps there =
     let low = row_positive scopes owner scope there in
     let f = row_before scopes 1 owner scope there (omega arith) low in
@@ -76,8 +82,10 @@ begins list scopes items owner scope keeps there =
 
 -- ---- the owner of an item of the list
 
-no_later : (list : ScopeRow → ℕ) (scopes : List ScopeRow) (items owner item : ℕ) (o : Option ScopeRow) → row_at scopes (suc owner) ≡ o → KeepsLists list scopes items
-    → item < unwrap_or (option_map list o) (items + 1) → (later : ℕ) (other : ScopeRow) → row_at scopes later ≡ Some other → list other ≤ item → owner < later → ⊥
+no_later : (list : ScopeRow → ℕ) (scopes : List ScopeRow) (items owner item : ℕ) (o : Option ScopeRow) → row_at scopes (suc owner) ≡ o
+    → KeepsLists list scopes items
+    → item < unwrap_or (option_map list o) (items + 1) → (later : ℕ) (other : ScopeRow) → row_at scopes later ≡ Some other → list other ≤ item → owner < later
+    → ⊥
 no_later list scopes items owner item None e keeps below later other there begun past =
     let next = row_before scopes (suc owner) later other there (omega arith) (omega (arith, past)) in
     let some = next.1 in cc
@@ -85,7 +93,8 @@ no_later list scopes items owner item (Some x) e keeps below later other there b
     let up = rises list scopes items (suc owner) later x other keeps e there (omega (arith, past)) in
     omega (arith, below, begun, up)
 
-owns : (list : ScopeRow → ℕ) (scopes : List ScopeRow) (items owner item : ℕ) (scope : ScopeRow) → KeepsLists list scopes items → row_at scopes owner ≡ Some scope
+owns : (list : ScopeRow → ℕ) (scopes : List ScopeRow) (items owner item : ℕ) (scope : ScopeRow) → KeepsLists list scopes items
+    → row_at scopes owner ≡ Some scope
     → list scope ≤ item → item < list_end list scopes owner items → IsOwner list scopes owner item
 owns list scopes items owner item scope keeps there begun below = record { scope = scope; there = there; begun = begun; last = later_than }
   where
@@ -98,7 +107,8 @@ owns list scopes items owner item scope keeps there begun below = record { scope
 same_scope : (scopes : List ScopeRow) (row : ℕ) (x y : ScopeRow) → row_at scopes row ≡ Some x → row_at scopes row ≡ Some y → x ≡ y
 same_scope scopes row x y a b = cc
 
-pub owner_in_list : (list : ScopeRow → ℕ) (scopes : List ScopeRow) (items owner item : ℕ) (scope : ScopeRow) → KeepsLists list scopes items → row_at scopes owner ≡ Some scope → item ≤ items
+pub owner_in_list : (list : ScopeRow → ℕ) (scopes : List ScopeRow) (items owner item : ℕ) (scope : ScopeRow) → KeepsLists list scopes items
+    → row_at scopes owner ≡ Some scope → item ≤ items
     → (owner_of list scopes item ≡ Some owner) ↔ ((list scope ≤ item) × (item < list_end list scopes owner items))
 owner_in_list list scopes items owner item scope keeps there le = (
   λ h.
@@ -128,10 +138,12 @@ slice_filter p n [] zero (suc b) below mid above ab bn = absurd (omega arith)
 slice_filter p n [] (suc a) b below mid above ab bn = absurd (omega arith)
 slice_filter p n (x ∷ xs) zero zero below mid above ab bn =
     let h : p n ≡ false = rw (here n) at (above 0 (omega arith) (omega arith)) in
-    rw h (slice_filter p (n + 1) xs zero zero (λ i low. absurd (omega arith)) (λ i from to. absurd (omega arith)) (λ i from to. rw (next n i) (above (suc i) (omega arith) (omega arith))) (omega arith) (omega arith))
+    rw h (slice_filter p (n + 1) xs zero zero (λ i low. absurd (omega arith)) (λ i from to. absurd (omega arith))
+    (λ i from to. rw (next n i) (above (suc i) (omega arith) (omega arith))) (omega arith) (omega arith))
 slice_filter p n (x ∷ xs) zero (suc b) below mid above ab bn =
     let h : p n ≡ true = rw (here n) at (mid 0 (omega arith) (omega arith)) in
-    let more = slice_filter p (n + 1) xs zero b (λ i low. absurd (omega arith)) (λ i from to. rw (next n i) (mid (suc i) (omega arith) (omega arith))) (λ i from to. rw (next n i) (above (suc i) (omega arith) (omega arith))) (omega arith) (omega arith) in
+    let more = slice_filter p (n + 1) xs zero b (λ i low. absurd (omega arith)) (λ i from to. rw (next n i) (mid (suc i) (omega arith) (omega arith)))
+    (λ i from to. rw (next n i) (above (suc i) (omega arith) (omega arith))) (omega arith) (omega arith) in
     let e : suc b - 0 ≡ suc b = omega arith in
     let d : b - 0 ≡ b = omega arith in
     rw (e, h) (ap (λ rest. (n, x) ∷ rest) (rw d at more))
@@ -139,7 +151,9 @@ slice_filter p n (x ∷ xs) (suc a) zero below mid above ab bn = absurd (omega a
 slice_filter p n (x ∷ xs) (suc a) (suc b) below mid above ab bn =
     let h : p n ≡ false = rw (here n) at (below 0 (omega arith)) in
     let e : suc b - suc a ≡ b - a = omega arith in
-    let more = slice_filter p (n + 1) xs a b (λ i low. rw (next n i) (below (suc i) (omega arith))) (λ i from to. rw (next n i) (mid (suc i) (omega arith) (omega arith))) (λ i from to. rw (next n i) (above (suc i) (omega arith) (omega arith))) (omega arith) (omega arith) in
+    let more = slice_filter p (n + 1) xs a b (λ i low. rw (next n i) (below (suc i) (omega arith)))
+    (λ i from to. rw (next n i) (mid (suc i) (omega arith) (omega arith))) (λ i from to. rw (next n i) (above (suc i) (omega arith) (omega arith)))
+    (omega arith) (omega arith) in
     rw (e, h) more
 
 yes : (owner : ℕ) (o : Option ℕ) → o ≡ Some owner → is_number owner o ≡ true
@@ -153,7 +167,8 @@ no owner (Some m) h = elim (cases_eq owner m) [
   | inr apart ↦ grind (arith, nat_tests, apart)
 ]
 
-pub owned_is_list : {X : Type 0} (list : ScopeRow → ℕ) (scopes : List ScopeRow) (owner : ℕ) (scope : ScopeRow) (items : List X) → KeepsLists list scopes (length items) → row_at scopes owner ≡ Some scope
+pub owned_is_list : {X : Type 0} (list : ScopeRow → ℕ) (scopes : List ScopeRow) (owner : ℕ) (scope : ScopeRow) (items : List X)
+    → KeepsLists list scopes (length items) → row_at scopes owner ≡ Some scope
     → owned_by list scopes owner items ≡ list_of list scopes owner scope items
 owned_is_list list scopes owner scope items keeps there =
     let first = begins list scopes (length items) owner scope keeps there in
@@ -161,8 +176,15 @@ owned_is_list list scopes owner scope items keeps there =
     let inside = end_within list scopes (length items) owner (row_at scopes (suc owner)) refl keeps in
     let end = list_end list scopes owner (length items) in
     slice_filter (λ item. is_number owner (owner_of list scopes item)) 1 items (list scope - 1) (end - 1)
-    (λ i low. no owner (owner_of list scopes (1 + i)) (λ h. let o = ((owner_in_list list scopes (length items) owner (1 + i) scope keeps there (omega (arith, low, first, after, inside))).0 h).0 in omega (arith, o, low, first)))
-    (λ i from to. yes owner (owner_of list scopes (1 + i)) ((owner_in_list list scopes (length items) owner (1 + i) scope keeps there (omega (arith, to, inside))).1 (omega (arith, from, first), omega (arith, to))))
-    (λ i from to. no owner (owner_of list scopes (1 + i)) (λ h. let o = ((owner_in_list list scopes (length items) owner (1 + i) scope keeps there (omega (arith, to))).0 h).1 in omega (arith, o, from)))
+    (λ i low. no owner (owner_of list scopes (1 + i))
+    (λ h. let o = ((owner_in_list list scopes (length items) owner (1 + i) scope keeps there (omega (arith, low, first, after, inside))).0 h).0 in
+    omega (arith, o, low, first)))
+    (λ i from to. yes owner (owner_of list scopes (1 + i))
+    ((owner_in_list list scopes (length items) owner (1 + i) scope keeps there (omega (arith, to, inside))).1 (
+      omega (arith, from, first),
+      omega (arith, to),
+    )))
+    (λ i from to. no owner (owner_of list scopes (1 + i))
+    (λ h. let o = ((owner_in_list list scopes (length items) owner (1 + i) scope keeps there (omega (arith, to))).0 h).1 in omega (arith, o, from)))
     (omega (arith, after))
     (omega (arith, inside))

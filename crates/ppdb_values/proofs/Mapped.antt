@@ -11,16 +11,18 @@ use Rattle.ppdb_values.specs.Value.{value_of, scope_of, range_of}
 use Rattle.ppdb_values.specs.Chains.{chain_for, chain_of, link_and}
 use Rattle.ppdb_values.specs.Parts.{scopes_at, import_chain, holds}
 
-numbered_map : {X Y : Type 0} (f : ℕ × X → Y) (n : ℕ) (rows : List X) → enumerate_from n (map f (enumerate_from n rows)) ≡ map (λ row. (row.0, f row)) (enumerate_from n rows)
+numbered_map : {X Y : Type 0} (f : ℕ × X → Y) (n : ℕ) (rows : List X) → enumerate_from n (map f (enumerate_from n rows)) ≡ map (λ row. (row.0, f row))
+    (enumerate_from n rows)
 numbered_map f n [] = refl
 numbered_map f n (x ∷ xs) = ap (λ rest. (n, f (n, x)) ∷ rest) (numbered_map f (n + 1) xs)
 
 filter_map_both : {X Y : Type 0} (f : X → Y) (p : Y → Bool) (xs : List X) → filter p (map f xs) ≡ map f (filter (λ x. p (f x)) xs)
 filter_map_both f p [] = refl
-filter_map_both f p (x ∷ xs) = elim (p (f x)) as (λ b. cond b (f x ∷ filter p (map f xs)) (filter p (map f xs)) ≡ map f (cond b (x ∷ filter (λ x. p (f x)) xs) (filter (λ x. p (f x)) xs))) [
-  | true ↦ ap (λ rest. f x ∷ rest) (filter_map_both f p xs)
-  | false ↦ filter_map_both f p xs
-]
+filter_map_both f p (x ∷ xs) = elim (p (f x)) as (λ b. cond b (f x ∷ filter p (map f xs)) (filter p (map f xs)) ≡ map f (cond b (x ∷ filter (λ x. p (f x)) xs)
+    (filter (λ x. p (f x)) xs))) [
+      | true ↦ ap (λ rest. f x ∷ rest) (filter_map_both f p xs)
+      | false ↦ filter_map_both f p xs
+    ]
 
 pub scopes_are_rows : (raw : RawFile) (m x : ℕ) → scopes_at (value_of raw) m x
     ≡ map (λ row. (row.0, scope_of raw.tables row)) (filter (λ row. (row.1.method == m) && holds (range_of row.1) x) (numbered raw.tables.scopes))
@@ -43,7 +45,8 @@ pub chain_map : {X Y : Type 0} (f : X → Y) (parent : X → ℕ) (other : Y →
 unfolding chain_for
 chain_map f parent other same zero xs row = refl
 chain_map f parent other same (suc most) xs row =
-    rw (row_map f xs row) (elim (row_at xs row) as (λ o. link_and other (λ next. chain_for other (map f xs) most next) row (option_map f o) ≡ map (λ link. (link.0, f link.1)) (link_and parent (λ next. chain_for parent xs most next) row o)) [
+    rw (row_map f xs row) (elim (row_at xs row) as (λ o. link_and other (λ next. chain_for other (map f xs) most next) row (option_map f o)
+    ≡ map (λ link. (link.0, f link.1)) (link_and parent (λ next. chain_for parent xs most next) row o)) [
       | Some x ↦ ap (λ rest. (row, f x) ∷ rest) (ap (chain_for other (map f xs) most) (same x) ∙ chain_map f parent other same most xs (parent x))
       | None ↦ refl
     ])
@@ -51,5 +54,6 @@ chain_map f parent other same (suc most) xs row =
 pub chain_is_rows : (raw : RawFile) (import : ℕ) → import_chain (value_of raw) import
     ≡ map (λ link. (link.0, import_scope_of raw.tables link.1)) (chain_of (λ scope. scope.parent) raw.tables.imports import)
 chain_is_rows raw import =
-    ap (λ most. chain_for (λ scope. scope.parent) (map (import_scope_of raw.tables) raw.tables.imports) most import) (length-map raw.tables.imports (import_scope_of raw.tables))
+    ap (λ most. chain_for (λ scope. scope.parent) (map (import_scope_of raw.tables) raw.tables.imports) most import)
+    (length-map raw.tables.imports (import_scope_of raw.tables))
     ∙ chain_map (import_scope_of raw.tables) (λ scope. scope.parent) (λ scope. scope.parent) (λ x. refl) (length raw.tables.imports) raw.tables.imports import

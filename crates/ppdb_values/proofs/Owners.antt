@@ -23,7 +23,8 @@ NoneOf list scopes item = (index : ℕ) (other : ScopeRow) → slice_get scopes 
 
 -- the owner among some scopes that are numbered from a row on, where this was the last before them
 abbrev owner_from : (ScopeRow → ℕ) → Option (ℕ × ScopeRow) → ℕ → List ScopeRow → ℕ → Option ℕ
-owner_from list before first scopes item = option_map (λ scope. scope.0) (last_or before (filter (λ scope. nat_le (list scope.1) item) (enumerate_from first scopes)))
+owner_from list before first scopes item =
+    option_map (λ scope. scope.0) (last_or before (filter (λ scope. nat_le (list scope.1) item) (enumerate_from first scopes)))
 
 -- what it is
 abbrev Found : (ScopeRow → ℕ) → Option (ℕ × ScopeRow) → ℕ → List ScopeRow → ℕ → Type 0
@@ -44,14 +45,16 @@ none_more : (list : ScopeRow → ℕ) (item : ℕ) (x : ScopeRow) (scopes : List
 none_more list item x scopes h none zero other e = let same : x ≡ other = cc in rw (sym same) h
 none_more list item x scopes h none (suc index) other e = none index other e
 
-last_more : (list : ScopeRow → ℕ) (item index : ℕ) (x : ScopeRow) (scopes : List ScopeRow) → IsLastOf list scopes item index → IsLastOf list (x ∷ scopes) item (suc index)
+last_more : (list : ScopeRow → ℕ) (item index : ℕ) (x : ScopeRow) (scopes : List ScopeRow) → IsLastOf list scopes item index
+    → IsLastOf list (x ∷ scopes) item (suc index)
 last_more list item index x scopes h = record { scope = h.scope; there = h.there; begun = h.begun; last = later_than }
   where
     later_than : (later : ℕ) (other : ScopeRow) → slice_get (x ∷ scopes) later ≡ Some other → list other ≤ item → later ≤ suc index
     later_than zero other e le = omega arith
     later_than (suc later) other e le = let below = h.last later other e le in omega (arith, below)
 
-last_first : (list : ScopeRow → ℕ) (item : ℕ) (x : ScopeRow) (scopes : List ScopeRow) → list x ≤ item → NoneOf list scopes item → IsLastOf list (x ∷ scopes) item 0
+last_first : (list : ScopeRow → ℕ) (item : ℕ) (x : ScopeRow) (scopes : List ScopeRow) → list x ≤ item → NoneOf list scopes item
+    → IsLastOf list (x ∷ scopes) item 0
 last_first list item x scopes h none = record { scope = x; there = refl; begun = h; last = later_than }
   where
     later_than : (later : ℕ) (other : ScopeRow) → slice_get (x ∷ scopes) later ≡ Some other → list other ≤ item → later ≤ 0

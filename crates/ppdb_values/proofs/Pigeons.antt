@@ -86,11 +86,13 @@ ancestor_sum p row zero b = rw (zero-add b) refl
 ancestor_sum p row (suc a) b = let e : suc a + b ≡ suc (a + b) = omega arith in rw e (ancestor_sum p (p row) a b)
 
 -- a chain that comes to one row twice has only rows that it had before the second time
-loops : (p : ℕ → ℕ) (row first length : ℕ) → ancestor_of p row (first + length) ≡ ancestor_of p row first → (times : ℕ) → ancestor_of p row (first + times * length) ≡ ancestor_of p row first
+loops : (p : ℕ → ℕ) (row first length : ℕ) → ancestor_of p row (first + length) ≡ ancestor_of p row first → (times : ℕ)
+    → ancestor_of p row (first + times * length) ≡ ancestor_of p row first
 loops p row first length e zero = let k : first + 0 * length ≡ first = omega arith in rw k refl
 loops p row first length e (suc times) =
     let k : first + suc times * length ≡ (first + length) + times * length = omega arith in
-    rw k (ancestor_sum p row (first + length) (times * length) ∙ ap (λ (r : ℕ). ancestor_of p r (times * length)) e ∙ sym (ancestor_sum p row first (times * length)) ∙ loops p row first length e times)
+    rw k (ancestor_sum p row (first + length) (times * length) ∙ ap (λ (r : ℕ). ancestor_of p r (times * length)) e
+    ∙ sym (ancestor_sum p row first (times * length)) ∙ loops p row first length e times)
 
 zero_stays : (p : ℕ → ℕ) → p 0 ≡ 0 → (k : ℕ) → ancestor_of p 0 k ≡ 0
 zero_stays p e zero = refl
@@ -102,7 +104,8 @@ zero_from p e row k m h le =
     rw s (ancestor_sum p row k (m - k) ∙ ap (λ (r : ℕ). ancestor_of p r (m - k)) h ∙ zero_stays p e (m - k))
 
 -- a chain that comes to a row twice never ends
-pub never_zero : (p : ℕ → ℕ) → p 0 ≡ 0 → (row first len : ℕ) → 0 < len → ancestor_of p row (first + len) ≡ ancestor_of p row first → ancestor_of p row first ≢ 0 → (k : ℕ) → ancestor_of p row k ≢ 0
+pub never_zero : (p : ℕ → ℕ) → p 0 ≡ 0 → (row first len : ℕ) → 0 < len → ancestor_of p row (first + len) ≡ ancestor_of p row first → ancestor_of p row first ≢ 0
+    → (k : ℕ) → ancestor_of p row k ≢ 0
 never_zero p e row first len some same apart k h =
     let far : k * 1 ≤ k * len = mul-le-mul_left k some in
     let reached = zero_from p e row k (first + k * len) h (omega (arith, far)) in
@@ -124,10 +127,12 @@ pub ends_within : (p : ℕ → ℕ) (rows row : ℕ) → p 0 ≡ 0 → ((r : ℕ
 ends_within p rows row e inside here ends = elim (among (ancestor_of p row) 0 (suc rows)) [
   | inl x ↦ (x.0, (let below = x.1 in omega (arith, below)), x.2)
   | inr none ↦
-      let m = pigeons rows (λ k. ancestor_of p row k - 1) (λ k h. let in_table = stays_inside p rows row inside here k in positive (ancestor_of p row k) rows (none k h) in_table) in
+      let m = pigeons rows (λ k. ancestor_of p row k - 1) (λ k h. let in_table = stays_inside p rows row inside here k in
+      positive (ancestor_of p row k) rows (none k h) in_table) in
       let order = m.order in
       let within = m.within in
       let same = both (ancestor_of p row m.first) (ancestor_of p row m.second) (none m.first (omega (arith, order, within))) (none m.second within) m.same in
       let s : m.first + (m.second - m.first) ≡ m.second = omega (arith, order) in
-      absurd (ends (never_zero p e row m.first (m.second - m.first) (omega (arith, order)) (ap (ancestor_of p row) s ∙ sym same) (none m.first (omega (arith, order, within)))))
+      absurd (ends (never_zero p e row m.first (m.second - m.first) (omega (arith, order)) (ap (ancestor_of p row) s ∙ sym same)
+      (none m.first (omega (arith, order, within)))))
 ]

@@ -24,12 +24,15 @@ use Rattle.ppdb_values.specs.Documents.{points_in, signature_in}
 use Rattle.ppdb_values.specs.Customs.{step_of, async_body}
 
 -- the records of a reading
-pub records_are : {R : Type 0} (g : Grammar R) (blob : List ℕ) (records : List R) (fault : Option BlobFault) → Reading g blob records fault → records_of g blob ≡ records
+pub records_are : {R : Type 0} (g : Grammar R) (blob : List ℕ) (records : List R) (fault : Option BlobFault) → Reading g blob records fault
+    → records_of g blob ≡ records
 unfolding records_of
-records_are g blob records fault h = (reading-unique g blob (read_from g [] [] 0 blob).items records (read_from g [] [] 0 blob).fault fault (read_from-reads g blob) h).0
+records_are g blob records fault h =
+    (reading-unique g blob (read_from g [] [] 0 blob).items records (read_from g [] [] 0 blob).fault fault (read_from-reads g blob) h).0
 
 -- the values of the record that has begun where the longest valid front ends
-pub begun_is : {R : Type 0} (g : Grammar R) (blob : List ℕ) (fields : List Field) (after : List ℕ) → IsLongestFront g blob fields after → begun_of g blob ≡ (cut g fields).begun
+pub begun_is : {R : Type 0} (g : Grammar R) (blob : List ℕ) (fields : List Field) (after : List ℕ) → IsLongestFront g blob fields after
+    → begun_of g blob ≡ (cut g fields).begun
 unfolding begun_of begun_from
 begun_is g blob fields after front = sym (ap (λ (fs : List Field). (cut g fs).begun) (longest-front_of g blob fields after front))
 
@@ -40,12 +43,14 @@ name_is raw content name h = ap joined (records_are (names raw.blobs) content h.
 pub points_are : (raw : RawTables) (column signature : ℕ) (content : List ℕ) (points : List Point) (fault : Option BlobFault)
     → PointsReading column (point_limits raw) content signature points fault → points_in raw column content ≡ points
 points_are raw column signature content points fault h =
-    ap (λ (entries : List PointEntry). points_after [] entries) (records_are (sequence_points column (point_limits raw)) content h.entries fault h.reading) ∙ sym h.points_are
+    ap (λ (entries : List PointEntry). points_after [] entries) (records_are (sequence_points column (point_limits raw)) content h.entries fault h.reading)
+    ∙ sym h.points_are
 
 pub signature_is : (raw : RawTables) (column signature : ℕ) (content : List ℕ) (points : List Point) (fault : Option BlobFault)
     → PointsReading column (point_limits raw) content signature points fault → signature_in raw column content ≡ Some signature
 signature_is raw column signature content points fault h =
-    ap (λ (entries : List PointEntry). signature_of entries) (records_are (sequence_points column (point_limits raw)) content h.entries fault h.reading) ∙ h.signature_is
+    ap (λ (entries : List PointEntry). signature_of entries) (records_are (sequence_points column (point_limits raw)) content h.entries fault h.reading)
+    ∙ h.signature_is
 
 steps_are : (steps : List AsyncStep) → filter_map step_of (map await_step steps) ≡ steps
 steps_are [] = refl

@@ -18,7 +18,8 @@ use Rattle.ppdb_values.specs.Rows.{method_in}
 abbrev IsNumbered : ℕ → Option MethodValue → Type 0
 IsNumbered n o = (o ≡ None) ⊎ ((v : MethodValue) × (o ≡ Some v) × (v.method ≡ n))
 
-by_signature : (n : ℕ) (points : List Point) (o : Option ℕ) → IsNumbered n (option_map (λ signature. record { method = n; signature = signature; points = points }) o)
+by_signature : (n : ℕ) (points : List Point) (o : Option ℕ)
+    → IsNumbered n (option_map (λ signature. record { method = n; signature = signature; points = points }) o)
 by_signature n points None = inl refl
 by_signature n points (Some signature) = inr (record { method = n; signature = signature; points = points }, refl, refl)
 
@@ -36,7 +37,8 @@ is_other : (a b n : ℕ) → a ≡ n → b < n ⊎ n < b → (a == b) ≡ false
 is_other a b n h (inl less) = grind (arith, nat_tests, h, less)
 is_other a b n h (inr more) = grind (arith, nat_tests, h, more)
 
-none_after : (raw : RawTables) (m n : ℕ) (rows : List MethodDebugRow) → m < n → find (λ (v : MethodValue). v.method == m) (filter_map (method_of raw) (enumerate_from n rows)) ≡ None
+none_after : (raw : RawTables) (m n : ℕ) (rows : List MethodDebugRow) → m < n → find (λ (v : MethodValue). v.method == m)
+    (filter_map (method_of raw) (enumerate_from n rows)) ≡ None
 none_after raw m n [] below = refl
 none_after raw m n (x ∷ xs) below = elim (numbered_row raw n x) [
   | inl e ↦ rw e (none_after raw m (n + 1) xs (omega arith))
@@ -49,7 +51,8 @@ here n = omega arith
 next : (n d : ℕ) → n + 1 + d ≡ n + suc d
 next n d = omega arith
 
-found_at : (raw : RawTables) (n d : ℕ) (rows : List MethodDebugRow) → find (λ (v : MethodValue). v.method == n + d) (filter_map (method_of raw) (enumerate_from n rows)) ≡ method_in raw (n + d) (slice_get rows d)
+found_at : (raw : RawTables) (n d : ℕ) (rows : List MethodDebugRow) → find (λ (v : MethodValue). v.method == n + d)
+    (filter_map (method_of raw) (enumerate_from n rows)) ≡ method_in raw (n + d) (slice_get rows d)
 found_at raw n zero [] = refl
 found_at raw n (suc d) [] = refl
 found_at raw n zero (x ∷ xs) = rw (here n) (elim (numbered_row raw n x) [

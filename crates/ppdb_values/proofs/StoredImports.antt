@@ -2,12 +2,14 @@
 use Rattle.std.proofs.Common.{◌≡◌, ℕ, List, refl, ap, ◌∙◌, arith}
 use Rattle.std.specs.Prelude.{Option, Some, ◌≤◌}
 use Rattle.type_blobs.specs.declared.types.TypeToken.{TypeToken}
-use Rattle.type_blobs.specs.Imports.{ImportItem, namespace, assembly_namespace, target, xml, alias, assembly_alias, namespace_alias, assembly_namespace_alias, target_alias, text_of}
+use Rattle.type_blobs.specs.Imports.{ImportItem, namespace, assembly_namespace, target, xml, alias, assembly_alias, namespace_alias}
+use Rattle.type_blobs.specs.Imports.{assembly_namespace_alias, target_alias, text_of}
 use Rattle.type_blobs.specs.Spelling.{import_item}
 use Rattle.type_blobs.specs.Types.{IsToken, token_of, number_of}
 use Rattle.type_blobs.proofs.WrittenNumbers.{token-back}
 use Rattle.ppdb_values.specs.declared.import.ImportValue.{ImportValue}
-use Rattle.ppdb_values.specs.declared.import.ImportValue.TheVariants.{Namespace, AssemblyNamespace, Target, Xml, Alias, AssemblyAlias, NamespaceAlias, AssemblyNamespaceAlias, TargetAlias}
+use Rattle.ppdb_values.specs.declared.import.ImportValue.TheVariants.{Namespace, AssemblyNamespace, Target, Xml, Alias, AssemblyAlias}
+use Rattle.ppdb_values.specs.declared.import.ImportValue.TheVariants.{NamespaceAlias, AssemblyNamespaceAlias, TargetAlias}
 use Rattle.ppdb_values.specs.Imports.{import_value}
 use Rattle.ppdb_values.specs.WrittenImports.{stored_import, kind_of_import, import_numbers, target_type, AreTextsOf}
 
@@ -38,12 +40,15 @@ pub numbers_stand : (heap : ℕ → Option (List ℕ)) (import : ImportValue) (a
 numbers_stand heap (Namespace name) a n token texts = ap (λ (x : List ℕ). Some (namespace x)) texts.1
 numbers_stand heap (AssemblyNamespace assembly name) a n token texts = ap (λ (x : List ℕ). Some (assembly_namespace assembly x)) texts.1
 numbers_stand heap (Target type) a n token texts = ap (λ (x : TypeToken). Some (target x)) (token-back type token)
-numbers_stand heap (Xml prefix name) a n token texts = ap (λ (x : List ℕ). Some (xml x (text_of heap n))) texts.0 ∙ ap (λ (x : List ℕ). Some (xml prefix x)) texts.1
+numbers_stand heap (Xml prefix name) a n token texts =
+    ap (λ (x : List ℕ). Some (xml x (text_of heap n))) texts.0 ∙ ap (λ (x : List ℕ). Some (xml prefix x)) texts.1
 numbers_stand heap (Alias name) a n token texts = ap (λ (x : List ℕ). Some (alias x)) texts.0
 numbers_stand heap (AssemblyAlias name assembly) a n token texts = ap (λ (x : List ℕ). Some (assembly_alias x assembly)) texts.0
-numbers_stand heap (NamespaceAlias name other) a n token texts = ap (λ (x : List ℕ). Some (namespace_alias x (text_of heap n))) texts.0 ∙ ap (λ (x : List ℕ). Some (namespace_alias name x)) texts.1
+numbers_stand heap (NamespaceAlias name other) a n token texts =
+    ap (λ (x : List ℕ). Some (namespace_alias x (text_of heap n))) texts.0 ∙ ap (λ (x : List ℕ). Some (namespace_alias name x)) texts.1
 numbers_stand heap (AssemblyNamespaceAlias name assembly other) a n token texts =
-    ap (λ (x : List ℕ). Some (assembly_namespace_alias x assembly (text_of heap n))) texts.0 ∙ ap (λ (x : List ℕ). Some (assembly_namespace_alias name assembly x)) texts.1
+    ap (λ (x : List ℕ). Some (assembly_namespace_alias x assembly (text_of heap n))) texts.0
+    ∙ ap (λ (x : List ℕ). Some (assembly_namespace_alias name assembly x)) texts.1
 numbers_stand heap (TargetAlias name type) a n token texts =
     ap (λ (x : List ℕ). Some (target_alias x (token_of (number_of type)))) texts.0 ∙ ap (λ (x : TypeToken). Some (target_alias name x)) (token-back type token)
 

@@ -21,7 +21,8 @@ each_all P (x ∷ xs) each = All-cons P x xs (each 1 x refl) (each_all P xs (eac
 
 pub numbered_all : {X : Type 0} (P : X → Type 0) (n : ℕ) (xs : List X) → All P xs → All (λ item. P item.1) (enumerate_from n xs)
 numbered_all P n [] all = All-nil (λ item. P item.1)
-numbered_all P n (x ∷ xs) all = All-cons (λ item. P item.1) (n, x) (enumerate_from (n + 1) xs) (All-head P x xs all) (numbered_all P (n + 1) xs (All-tail P x xs all))
+numbered_all P n (x ∷ xs) all =
+    All-cons (λ item. P item.1) (n, x) (enumerate_from (n + 1) xs) (All-head P x xs all) (numbered_all P (n + 1) xs (All-tail P x xs all))
 
 pub any_all : {X : Type 0} (P : X → Type 0) (xs : List X) → ((x : X) → P x) → All P xs
 any_all P [] p = All-nil P

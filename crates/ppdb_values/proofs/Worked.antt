@@ -15,11 +15,13 @@ pub empty_is : value_of empty_file ≡ empty_value
 empty_is = refl
 
 pub small_is : value_of small_file ≡ small_value
-unfolding text_at blob_at guid_at name_of records_of begun_of read_from read_for begun_from fields_from fields_for unsigned_at two_at four_at signed_at character_len
+unfolding text_at blob_at guid_at name_of records_of begun_of read_from read_for begun_from fields_from fields_for unsigned_at two_at four_at signed_at
+    character_len
 small_is = refl
 
 pub program_is : value_of program_file ≡ program_value
-unfolding text_at blob_at guid_at name_of records_of begun_of read_from read_for begun_from fields_from fields_for unsigned_at two_at four_at signed_at character_len
+unfolding text_at blob_at guid_at name_of records_of begun_of read_from read_for begun_from fields_from fields_for unsigned_at two_at four_at signed_at
+    character_len
 program_is = refl
 
 pub small_means : meaning small_value 1 3 ≡ small_meaning

@@ -32,9 +32,12 @@ list_of list scopes owner scope items = slice_range (numbered items) (list scope
 
 -- Where the lists are in order, a scope owns the items of its list.
 pub record ListsAreOwned : Type 0 where
-  pub item : (list : ScopeRow → ℕ) (scopes : List ScopeRow) (items owner item : ℕ) (scope : ScopeRow) → KeepsLists list scopes items → row_at scopes owner ≡ Some scope → item ≤ items
+  pub item : (list : ScopeRow → ℕ) (scopes : List ScopeRow) (items owner item : ℕ) (scope : ScopeRow) → KeepsLists list scopes items
+      → row_at scopes owner ≡ Some scope → item ≤ items
       → (owner_of list scopes item ≡ Some owner) ↔ ((list scope ≤ item) × (item < list_end list scopes owner items))
-  pub variables : (list : ScopeRow → ℕ) (scopes : List ScopeRow) (owner : ℕ) (scope : ScopeRow) (items : List VariableRow) → KeepsLists list scopes (length items) → row_at scopes owner ≡ Some scope
+  pub variables : (list : ScopeRow → ℕ) (scopes : List ScopeRow) (owner : ℕ) (scope : ScopeRow) (items : List VariableRow)
+      → KeepsLists list scopes (length items) → row_at scopes owner ≡ Some scope
       → owned_by list scopes owner items ≡ list_of list scopes owner scope items
-  pub constants : (list : ScopeRow → ℕ) (scopes : List ScopeRow) (owner : ℕ) (scope : ScopeRow) (items : List ConstantRow) → KeepsLists list scopes (length items) → row_at scopes owner ≡ Some scope
+  pub constants : (list : ScopeRow → ℕ) (scopes : List ScopeRow) (owner : ℕ) (scope : ScopeRow) (items : List ConstantRow)
+      → KeepsLists list scopes (length items) → row_at scopes owner ≡ Some scope
       → owned_by list scopes owner items ≡ list_of list scopes owner scope items

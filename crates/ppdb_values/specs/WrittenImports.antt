@@ -2,11 +2,13 @@
 use Rattle.std.specs.Prelude.{◌≡◌, ℕ, ◌<◌, ◌^◌, List, [], Option, Some}
 use Rattle.type_blobs.specs.declared.types.TypeToken.{TypeToken}
 use Rattle.type_blobs.specs.declared.import_writer.ImportNumbers.{ImportNumbers}
-use Rattle.type_blobs.specs.Imports.{ImportItem, namespace, assembly_namespace, target, xml, alias, assembly_alias, namespace_alias, assembly_namespace_alias, target_alias, text_of}
+use Rattle.type_blobs.specs.Imports.{ImportItem, namespace, assembly_namespace, target, xml, alias, assembly_alias, namespace_alias}
+use Rattle.type_blobs.specs.Imports.{assembly_namespace_alias, target_alias, text_of}
 use Rattle.type_blobs.specs.Spelling.{IsImport, import_item}
 use Rattle.type_blobs.specs.Types.{IsToken}
 use Rattle.ppdb_values.specs.declared.import.ImportValue.{ImportValue}
-use Rattle.ppdb_values.specs.declared.import.ImportValue.TheVariants.{Namespace, AssemblyNamespace, Target, Xml, Alias, AssemblyAlias, NamespaceAlias, AssemblyNamespaceAlias, TargetAlias}
+use Rattle.ppdb_values.specs.declared.import.ImportValue.TheVariants.{Namespace, AssemblyNamespace, Target, Xml, Alias, AssemblyAlias}
+use Rattle.ppdb_values.specs.declared.import.ImportValue.TheVariants.{NamespaceAlias, AssemblyNamespaceAlias, TargetAlias}
 use Rattle.ppdb_values.specs.Imports.{import_value}
 
 -- the import as the records of its blob have it
@@ -87,4 +89,5 @@ pub record ImportsAreStored : Type 0 where
   pub numbers : (heap : ℕ → Option (List ℕ)) (import : ImportValue) (a n : ℕ) → IsToken (target_type import) → AreTextsOf heap import a n
       → import_item heap (import_numbers import a n) ≡ Some (stored_import import)
   -- and can be written, where they have a form
-  pub writable : (import : ImportValue) (a n : ℕ) → a < 2 ^ 29 → n < 2 ^ 29 → assembly_row import < 2 ^ 29 → IsToken (target_type import) → IsImport (import_numbers import a n)
+  pub writable : (import : ImportValue) (a n : ℕ) → a < 2 ^ 29 → n < 2 ^ 29 → assembly_row import < 2 ^ 29 → IsToken (target_type import)
+      → IsImport (import_numbers import a n)

@@ -59,6 +59,8 @@ pub methods_fit : (streams : Streams) (head : PdbHead) → IsAccepted (BadTables
     → count (tables_in streams head) 0x31 ≢ 0 → count (tables_in streams head) 0x31 ≡ count (tables_in streams head) 0x06
 methods_fit streams head accepted some =
     let stream = bytes_of streams Tables in
-    let counted : count (tables_in streams head) 0x31 ≡ table_rows stream 0x31 = get_or-map-range_with_len (count_in head stream) 0 64 0x31 0x31 0 (omega arith) (omega arith) in
-    let methods : slice_index head.rows 6 ≡ count (tables_in streams head) 0x06 = sym (get_or-map-range_with_len (count_in head stream) 0 64 6 6 0 (omega arith) (omega arith)) in
+    let counted : count (tables_in streams head) 0x31 ≡ table_rows stream 0x31 =
+    get_or-map-range_with_len (count_in head stream) 0 64 0x31 0x31 0 (omega arith) (omega arith) in
+    let methods : slice_index head.rows 6 ≡ count (tables_in streams head) 0x06 =
+    sym (get_or-map-range_with_len (count_in head stream) 0 64 6 6 0 (omega arith) (omega arith)) in
     counted ∙ method_rows_fit (slice_index head.rows 6) stream (λ code at bad. accepted code at (inl bad)) (λ none. some (counted ∙ none)) ∙ methods

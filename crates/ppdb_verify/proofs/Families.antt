@@ -52,16 +52,19 @@ module _ (raw : RawTables) where
   pub span_is_earlier : (over fault : Fault) → IsFirst (BadSpan raw) over → IsFirst (BadRow raw) fault
       → (ComesBefore (numbers fault.code fault.place) (numbers over.code over.place) → ⊥) → IsFirst (BadRows raw) over
   span_is_earlier over fault first row late =
-      span_is_first over first (λ code at bad early. late (passes (numbers code at) (numbers fault.code fault.place) (numbers over.code over.place) (row.least code at bad) early))
+      span_is_first over first (λ code at bad early. late (passes (numbers code at) (numbers fault.code fault.place) (numbers over.code over.place)
+      (row.least code at bad) early))
 
   -- it does
   pub row_is_earlier : (over fault : Fault) → IsFirst (BadSpan raw) over → IsFirst (BadRow raw) fault
       → ComesBefore (numbers fault.code fault.place) (numbers over.code over.place) → IsFirst (BadRows raw) fault
-  row_is_earlier over fault first row early = first_of_two (BadRows raw) (BadRow raw) (BadSpan raw) (λ code at bad. bad) fault over (inl row.bad) row first early
+  row_is_earlier over fault first row early =
+      first_of_two (BadRows raw) (BadRow raw) (BadSpan raw) (λ code at bad. bad) fault over (inl row.bad) row first early
 
   -- no sum passes its limit
   pub row_is_first : (fault : Fault) → IsAccepted (BadSpan raw) → IsFirst (BadRow raw) fault → IsFirst (BadRows raw) fault
-  row_is_first fault spans row = first_of_one (BadRows raw) (BadRow raw) (BadSpan raw) (λ code at bad. bad) fault (inl row.bad) row (λ code at bad early. spans code at bad)
+  row_is_first fault spans row =
+      first_of_one (BadRows raw) (BadRow raw) (BadSpan raw) (λ code at bad. bad) fault (inl row.bad) row (λ code at bad early. spans code at bad)
 
   pub both_accepted : IsAccepted (BadRow raw) → IsAccepted (BadSpan raw) → IsAccepted (BadRows raw)
   both_accepted rows spans code at bad = elim bad [

@@ -15,7 +15,9 @@ use Rattle.row_layout.specs.declared.column.Sizes.{Sizes}
 use Rattle.ppdb_tables.specs.declared.head.PdbHead.{PdbHead}
 use Rattle.ppdb_tables.specs.Head.{BadPdb, IsHeadOf, NamesMethod, entry_in, pdb_rows}
 use Rattle.ppdb_tables.specs.Head.BadEntry.{entry}
-use Rattle.ppdb_tables.specs.Layouts.{document_columns, method_columns, scope_columns, variable_columns, constant_columns, import_columns, machine_columns, custom_columns, document_row, method_row, scope_row, variable_row, constant_row, import_row, machine_row, custom_row}
+use Rattle.ppdb_tables.specs.Layouts.{document_columns, method_columns, scope_columns, variable_columns, constant_columns}
+use Rattle.ppdb_tables.specs.Layouts.{import_columns, machine_columns, custom_columns, document_row, method_row, scope_row, variable_row}
+use Rattle.ppdb_tables.specs.Layouts.{constant_row, import_row, machine_row, custom_row}
 use Rattle.ppdb_tables.specs.RawTables.{RawTables, count}
 use Rattle.ppdb_tables.specs.Tables.{BadBounds, BadTableFields, BadTables, count_in, heap_sizes, rows_at, sizes_in, table_rows, tables_in}
 use Rattle.ppdb_verify.specs.Files.{head_in}
@@ -59,7 +61,8 @@ module _ (pdb : List ℕ) (head : PdbHead) (is : IsHeadOf pdb head) where
       split false ge = refl
 
   sizes_alike : (stream : List ℕ) → sizes_in head stream ≡ sizes_in (head_in pdb) stream
-  sizes_alike stream = ap (λ rows. record { heap = heap_sizes stream; rows = rows }) (map_alike (count_in head stream) (count_in (head_in pdb) stream) (counts_alike stream) (range_with_len 0 64))
+  sizes_alike stream = ap (λ rows. record { heap = heap_sizes stream; rows = rows }) (map_alike (count_in head stream) (count_in (head_in pdb) stream)
+      (counts_alike stream) (range_with_len 0 64))
 
   pub tables_alike : (streams : Streams) → tables_in streams head ≡ tables_in streams (head_in pdb)
   unfolding tables_by
@@ -86,7 +89,8 @@ module _ (pdb : List ℕ) (head : PdbHead) (is : IsHeadOf pdb head) where
       let counted : slice_index head.rows 6 ≡ count (tables_in streams head) 6 = rows_are streams 6 (omega arith) in
       let at = is.entry in
       elim (cases_lt (pdb_rows pdb 6) (entry_in pdb % 2 ^ 24)) [
-        | inl over ↦ absurd (accepted EntryPoint (at_byte 3 20) (inr ((λ code at bad. accepted code at (inl bad)), entry (λ zero. not_zero zero over) (λ names. not_named names over))))
+        | inl over ↦ absurd (accepted EntryPoint (at_byte 3 20)
+            (inr ((λ code at bad. accepted code at (inl bad)), entry (λ zero. not_zero zero over) (λ names. not_named names over))))
         | inr within ↦ omega (arith, within, methods, counted, at)
       ]
     where

@@ -30,12 +30,14 @@ module _ (file : List ℕ) (root : Streams) (container : IsAccepted (BadContaine
 
   pub head_first : (f : Fault) → IsFirst (BadPdb (bytes_of root Pdb)) f → IsFirst (BadFile file) f
   head_first f first =
-      inside_first f (first_of_before (BadPdb (bytes_of root Pdb)) (Then (BadTables (head_in (bytes_of root Pdb)) (bytes_of root Tables)) (BadRows (raw_in root).tables)) f first)
+      inside_first f (first_of_before (BadPdb (bytes_of root Pdb)) (Then (BadTables (head_in (bytes_of root Pdb)) (bytes_of root Tables))
+      (BadRows (raw_in root).tables)) f first)
 
   module _ (head : PdbHead) (pdb : IsAccepted (BadPdb (bytes_of root Pdb))) (is : IsHeadOf (bytes_of root Pdb) head) where
     pub tables_first : (f : Fault) → IsFirst (BadTables head (bytes_of root Tables)) f → IsFirst (BadFile file) f
     tables_first f first =
-        inside_first f (first_of_after (BadPdb (bytes_of root Pdb)) (Then (BadTables (head_in (bytes_of root Pdb)) (bytes_of root Tables)) (BadRows (raw_in root).tables)) f pdb
+        inside_first f (first_of_after (BadPdb (bytes_of root Pdb)) (Then (BadTables (head_in (bytes_of root Pdb)) (bytes_of root Tables))
+        (BadRows (raw_in root).tables)) f pdb
         (first_of_before (BadTables (head_in (bytes_of root Pdb)) (bytes_of root Tables)) (BadRows (raw_in root).tables) f
         (bad_alike (bytes_of root Pdb) head is (λ bad. IsFirst bad f) (bytes_of root Tables) first)))
 
@@ -48,7 +50,8 @@ module _ (file : List ℕ) (root : Streams) (container : IsAccepted (BadContaine
 
       pub rows_first : (f : Fault) → IsFirst (BadRows raw) f → IsFirst (BadFile file) f
       rows_first f first =
-          inside_first f (first_of_after (BadPdb (bytes_of root Pdb)) (Then (BadTables (head_in (bytes_of root Pdb)) (bytes_of root Tables)) (BadRows (raw_in root).tables)) f pdb
+          inside_first f (first_of_after (BadPdb (bytes_of root Pdb)) (Then (BadTables (head_in (bytes_of root Pdb)) (bytes_of root Tables))
+          (BadRows (raw_in root).tables)) f pdb
           (first_of_after (BadTables (head_in (bytes_of root Pdb)) (bytes_of root Tables)) (BadRows (raw_in root).tables) f tables_accepted
           (subst (λ (r : RawTables). IsFirst (BadRows r) f) same_tables first)))
 
@@ -58,6 +61,7 @@ module _ (file : List ℕ) (root : Streams) (container : IsAccepted (BadContaine
         where
           contents : IsAccepted (BadContents root)
           contents =
-              accepted_then (BadPdb (bytes_of root Pdb)) (Then (BadTables (head_in (bytes_of root Pdb)) (bytes_of root Tables)) (BadRows (raw_in root).tables)) pdb
+              accepted_then (BadPdb (bytes_of root Pdb)) (Then (BadTables (head_in (bytes_of root Pdb)) (bytes_of root Tables)) (BadRows (raw_in root).tables))
+              pdb
               (accepted_then (BadTables (head_in (bytes_of root Pdb)) (bytes_of root Tables)) (BadRows (raw_in root).tables) tables_accepted
               (subst (λ (r : RawTables). IsAccepted (BadRows r)) same_tables rows))

@@ -55,7 +55,8 @@ module _ (file : List ℕ) (accepted : IsAccepted (BadRoot file)) where
       let bytes : a.bytes ≡ b.bytes = is_a.bytes ∙ (ap (λ k. take (size_in file k) (drop (offset_in file k) file)) e ∙ sym is_b.bytes) in
       ap (λ p. record { place = p; bytes = a.bytes }) place ∙ ap (λ x. record { place = b.place; bytes = x }) bytes
 
-  one_listed : (kind : StreamKind) (a b : Option Stream) → MatchOption a (IsListed file kind → ⊥) (IsStream file kind) → MatchOption b (IsListed file kind → ⊥) (IsStream file kind) → a ≡ b
+  one_listed : (kind : StreamKind) (a b : Option Stream) → MatchOption a (IsListed file kind → ⊥) (IsStream file kind)
+      → MatchOption b (IsListed file kind → ⊥) (IsStream file kind) → a ≡ b
   one_listed kind None None a b = refl
   one_listed kind None (Some y) a b = absurd (a (b.header, b.listed))
   one_listed kind (Some x) None a b = absurd (b (a.header, a.listed))
@@ -64,9 +65,15 @@ module _ (file : List ℕ) (accepted : IsAccepted (BadRoot file)) where
   -- two readings of the streams are one
   pub same_streams : (s t : Streams) → AreStreamsOf file s → AreStreamsOf file t → s ≡ t
   same_streams s t a b =
-      ap (λ x. record { pdb = x; tables = s.tables; strings = s.strings; user_strings = s.user_strings; guids = s.guids; blobs = s.blobs }) (one_listed Pdb s.pdb t.pdb (a Pdb) (b Pdb))
-      ∙ (ap (λ x. record { pdb = t.pdb; tables = x; strings = s.strings; user_strings = s.user_strings; guids = s.guids; blobs = s.blobs }) (one_listed Tables s.tables t.tables (a Tables) (b Tables))
-      ∙ (ap (λ x. record { pdb = t.pdb; tables = t.tables; strings = x; user_strings = s.user_strings; guids = s.guids; blobs = s.blobs }) (one_listed Strings s.strings t.strings (a Strings) (b Strings))
-      ∙ (ap (λ x. record { pdb = t.pdb; tables = t.tables; strings = t.strings; user_strings = x; guids = s.guids; blobs = s.blobs }) (one_listed UserStrings s.user_strings t.user_strings (a UserStrings) (b UserStrings))
-      ∙ (ap (λ x. record { pdb = t.pdb; tables = t.tables; strings = t.strings; user_strings = t.user_strings; guids = x; blobs = s.blobs }) (one_listed Guids s.guids t.guids (a Guids) (b Guids))
-      ∙ ap (λ x. record { pdb = t.pdb; tables = t.tables; strings = t.strings; user_strings = t.user_strings; guids = t.guids; blobs = x }) (one_listed Blobs s.blobs t.blobs (a Blobs) (b Blobs))))))
+      ap (λ x. record { pdb = x; tables = s.tables; strings = s.strings; user_strings = s.user_strings; guids = s.guids; blobs = s.blobs })
+      (one_listed Pdb s.pdb t.pdb (a Pdb) (b Pdb))
+      ∙ (ap (λ x. record { pdb = t.pdb; tables = x; strings = s.strings; user_strings = s.user_strings; guids = s.guids; blobs = s.blobs })
+      (one_listed Tables s.tables t.tables (a Tables) (b Tables))
+      ∙ (ap (λ x. record { pdb = t.pdb; tables = t.tables; strings = x; user_strings = s.user_strings; guids = s.guids; blobs = s.blobs })
+      (one_listed Strings s.strings t.strings (a Strings) (b Strings))
+      ∙ (ap (λ x. record { pdb = t.pdb; tables = t.tables; strings = t.strings; user_strings = x; guids = s.guids; blobs = s.blobs })
+      (one_listed UserStrings s.user_strings t.user_strings (a UserStrings) (b UserStrings))
+      ∙ (ap (λ x. record { pdb = t.pdb; tables = t.tables; strings = t.strings; user_strings = t.user_strings; guids = x; blobs = s.blobs })
+      (one_listed Guids s.guids t.guids (a Guids) (b Guids))
+      ∙ ap (λ x. record { pdb = t.pdb; tables = t.tables; strings = t.strings; user_strings = t.user_strings; guids = t.guids; blobs = x })
+      (one_listed Blobs s.blobs t.blobs (a Blobs) (b Blobs))))))

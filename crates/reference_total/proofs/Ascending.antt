@@ -23,8 +23,10 @@ parts_ascend : (blobs : List ℕ) (place : Cut NamePart) (at : ℕ) (fs : List F
 parts_ascend blobs place at [] = tt
 parts_ascend blobs place at (f ∷ fs) = one f.value (parts_ascend blobs (with_value (names blobs) place f.value) (at + length f.bytes) fs)
   where
-    one : (v : Value) → Ascends (at + length f.bytes) (flat_map part_index (placed_from (names blobs) (with_value (names blobs) place f.value) (at + length f.bytes) fs))
-        → Ascends at (part_index (record { byte = at; before = place.begun; value = v }) ++ flat_map part_index (placed_from (names blobs) (with_value (names blobs) place f.value) (at + length f.bytes) fs))
+    one : (v : Value) → Ascends (at + length f.bytes)
+        (flat_map part_index (placed_from (names blobs) (with_value (names blobs) place f.value) (at + length f.bytes) fs))
+        → Ascends at (part_index (record { byte = at; before = place.begun; value = v })
+        ++ flat_map part_index (placed_from (names blobs) (with_value (names blobs) place f.value) (at + length f.bytes) fs))
     one (number n) rest = (omega arith, from_later at (at + length f.bytes) _ (omega arith) rest)
     one (integer z) rest = from_later at (at + length f.bytes) _ (omega arith) rest
     one (octets xs) rest = from_later at (at + length f.bytes) _ (omega arith) rest
@@ -33,16 +35,21 @@ pub names_ascend : (blobs blob : List ℕ) → Ascends 0 (name_indexes blobs blo
 names_ascend blobs blob = parts_ascend blobs (record { whole = []; begun = [] }) 0 (front_of (names blobs) blob)
 
 module _ (limits : TypeLimits) (heap : ℕ → Option (List ℕ)) where
-  texts_ascend : (place : Cut ImportItem) (at : ℕ) (fs : List Field) → Ascends at (flat_map text_index (flat_map import_field (placed_from (imports limits heap) place at fs)))
+  texts_ascend : (place : Cut ImportItem) (at : ℕ) (fs : List Field)
+      → Ascends at (flat_map text_index (flat_map import_field (placed_from (imports limits heap) place at fs)))
   texts_ascend place at [] = tt
-  texts_ascend place at (f ∷ fs) = one (next_part place.begun) f.value (from_later at (at + length f.bytes) _ (omega arith) (texts_ascend (with_value (imports limits heap) place f.value) (at + length f.bytes) fs))
+  texts_ascend place at (f ∷ fs) = one (next_part place.begun) f.value (from_later at (at + length f.bytes) _ (omega arith)
+      (texts_ascend (with_value (imports limits heap) place f.value) (at + length f.bytes) fs))
     where
       text : (b : Bool) (n : ℕ) (rest : List PlacedIndex) → Ascends at rest → Ascends at ((if b then record { byte = at; index = n } ∷ [] else []) ++ rest)
       text true n rest h = (omega arith, h)
       text false n rest h = h
 
-      one : (o : Option ImportPart) (v : Value) → Ascends at (flat_map text_index (flat_map import_field (placed_from (imports limits heap) (with_value (imports limits heap) place f.value) (at + length f.bytes) fs)))
-          → Ascends at (flat_map text_index (field_of o at v ++ flat_map import_field (placed_from (imports limits heap) (with_value (imports limits heap) place f.value) (at + length f.bytes) fs)))
+      one : (o : Option ImportPart) (v : Value)
+          → Ascends at (flat_map text_index (flat_map import_field (placed_from (imports limits heap) (with_value (imports limits heap) place f.value)
+          (at + length f.bytes) fs)))
+          → Ascends at (flat_map text_index (field_of o at v
+          ++ flat_map import_field (placed_from (imports limits heap) (with_value (imports limits heap) place f.value) (at + length f.bytes) fs)))
       one (Some part) (number n) rest = text (names_text part) n _ rest
       one (Some part) (integer z) rest = rest
       one (Some part) (octets xs) rest = rest

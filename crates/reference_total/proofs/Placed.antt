@@ -12,7 +12,8 @@ use Rattle.ppdb_tables.specs.declared.rows.ConstantRow.{ConstantRow}
 use Rattle.ppdb_tables.specs.declared.rows.ImportRow.{ImportRow}
 use Rattle.ppdb_tables.specs.declared.rows.CustomRow.{CustomRow}
 use Rattle.ppdb_tables.specs.RawTables.{RawTables, HasShape, count}
-use Rattle.reference_total.specs.References.{Reference, text_in, blob_in, named_inside, in_name, in_imports, of_document, of_method, of_variable, of_constant, of_import, of_custom, references}
+use Rattle.reference_total.specs.References.{Reference, text_in, blob_in, named_inside, in_name, in_imports, of_document, of_method}
+use Rattle.reference_total.specs.References.{of_variable, of_constant, of_import, of_custom, references}
 use Rattle.reference_total.specs.Spans.{BadSpan}
 use Rattle.reference_total.specs.Spans.BadSpan.{span_total}
 use Rattle.reference_total.proofs.Rising.{Each, each-append}
@@ -77,11 +78,16 @@ module _ (raw : RawTables) (shape : HasShape raw) where
   each_reference : Each Stands (references raw)
   unfolding references
   each_reference =
-      each-append Stands (flat_map (of_document raw) (enumerate_from 1 raw.documents)) _ (each_row (of_document raw) 1 raw.documents (λ row x from to. each_document row x (omega (arith, to, shape.documents))))
-      (each-append Stands (flat_map (of_method raw) (enumerate_from 1 raw.methods)) _ (each_row (of_method raw) 1 raw.methods (λ row x from to. each_method row x (omega (arith, to, shape.methods))))
-      (each-append Stands (flat_map (of_variable raw) (enumerate_from 1 raw.variables)) _ (each_row (of_variable raw) 1 raw.variables (λ row x from to. each_variable row x (omega (arith, to, shape.variables))))
-      (each-append Stands (flat_map (of_constant raw) (enumerate_from 1 raw.constants)) _ (each_row (of_constant raw) 1 raw.constants (λ row x from to. each_constant row x (omega (arith, to, shape.constants))))
-      (each-append Stands (flat_map (of_import raw) (enumerate_from 1 raw.imports)) _ (each_row (of_import raw) 1 raw.imports (λ row x from to. each_import row x (omega (arith, to, shape.imports))))
+      each-append Stands (flat_map (of_document raw) (enumerate_from 1 raw.documents)) _
+      (each_row (of_document raw) 1 raw.documents (λ row x from to. each_document row x (omega (arith, to, shape.documents))))
+      (each-append Stands (flat_map (of_method raw) (enumerate_from 1 raw.methods)) _
+      (each_row (of_method raw) 1 raw.methods (λ row x from to. each_method row x (omega (arith, to, shape.methods))))
+      (each-append Stands (flat_map (of_variable raw) (enumerate_from 1 raw.variables)) _
+      (each_row (of_variable raw) 1 raw.variables (λ row x from to. each_variable row x (omega (arith, to, shape.variables))))
+      (each-append Stands (flat_map (of_constant raw) (enumerate_from 1 raw.constants)) _
+      (each_row (of_constant raw) 1 raw.constants (λ row x from to. each_constant row x (omega (arith, to, shape.constants))))
+      (each-append Stands (flat_map (of_import raw) (enumerate_from 1 raw.imports)) _
+      (each_row (of_import raw) 1 raw.imports (λ row x from to. each_import row x (omega (arith, to, shape.imports))))
       (each_row (of_custom raw) 1 raw.customs (λ row x from to. each_custom row x (omega (arith, to, shape.customs))))))))
 
   at_index : (rs : List Reference) (k : ℕ) (r : Reference) → Each Stands rs → slice_get rs k ≡ Some r → Stands r

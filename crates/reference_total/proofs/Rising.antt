@@ -14,7 +14,8 @@ use Rattle.ppdb_tables.specs.RawTables.{RawTables}
 use Rattle.type_blobs.specs.Imports.{import_indexes}
 use Rattle.reference_total.proofs.Ascending.{Ascends, names_ascend, imports_ascend}
 use Rattle.ppdb_rules.specs.Blobs.{type_limits}
-use Rattle.reference_total.specs.References.{Reference, blob_in, text_in, named_inside, in_name, in_imports, of_document, of_method, of_variable, of_constant, of_import, of_custom, references}
+use Rattle.reference_total.specs.References.{Reference, blob_in, text_in, named_inside, in_name, in_imports, of_document, of_method}
+use Rattle.reference_total.specs.References.{of_variable, of_constant, of_import, of_custom, references}
 use Rattle.reference_total.proofs.Sums.{Rises}
 
 abbrev key : Reference → List ℕ
@@ -43,7 +44,8 @@ ordered-append : (mid : List ℕ) (xs ys : List Reference) → Ordered xs → Or
 ordered-append mid [] ys a b before after = b
 ordered-append mid (x ∷ xs) ys a b before after = (
   each-append (λ s. ComesBefore (key s) (key x) → ⊥) xs ys a.0
-      (each-weaker (λ r. ComesBefore (key r) mid → ⊥) (λ s. ComesBefore (key s) (key x) → ⊥) ys (λ s not early. not (comes_before_trans (key s) (key x) mid early before.0)) after),
+      (each-weaker (λ r. ComesBefore (key r) mid → ⊥) (λ s. ComesBefore (key s) (key x)
+      → ⊥) ys (λ s not early. not (comes_before_trans (key s) (key x) mid early before.0)) after),
   ordered-append mid xs ys a.1 b before.1 after,
 )
 
@@ -53,7 +55,8 @@ record Between (low high : List ℕ) (rs : List Reference) : Type 0 where
   after : Each (λ r. ComesBefore (key r) low → ⊥) rs
   before : Each (λ r. ComesBefore (key r) high) rs
 
-between-append : (low mid high : List ℕ) (xs ys : List Reference) → ((k : List ℕ) → ComesBefore k low → ComesBefore k mid) → ((k : List ℕ) → ComesBefore k mid → ComesBefore k high)
+between-append : (low mid high : List ℕ) (xs ys : List Reference) → ((k : List ℕ) → ComesBefore k low → ComesBefore k mid)
+    → ((k : List ℕ) → ComesBefore k mid → ComesBefore k high)
     → Between low mid xs → Between mid high ys → Between low high (xs ++ ys)
 between-append low mid high xs ys down up a b = record {
   ordered = ordered-append mid xs ys a.ordered b.ordered a.before b.after;
@@ -123,7 +126,11 @@ module _ (raw : RawTables) (table row column : ℕ) where
   inside_ordered from (x ∷ xs) h =
       let inner = inside_ordered x.byte xs h.1 in
       let rest : List Reference = named_inside raw.blobs table row column xs in (
-        (each-weaker (IsInside table row column x.byte) (λ s. ComesBefore (key s) (5 ∷ table ∷ row ∷ column ∷ x.byte ∷ 40 ∷ []) → ⊥) rest (later x.byte) inner.1, inner.0),
+        (
+          each-weaker (IsInside table row column x.byte) (λ s. ComesBefore (key s) (5 ∷ table ∷ row ∷ column ∷ x.byte ∷ 40 ∷ [])
+              → ⊥) rest (later x.byte) inner.1,
+          inner.0,
+        ),
         (
           record { of = record { part = refl; in_table = refl; in_row = refl }; in_column = refl; from_byte = h.0 },
           each-weaker (IsInside table row column x.byte) (IsInside table row column from) rest (wider from x.byte h.0) inner.1,
@@ -136,19 +143,24 @@ module _ (raw : RawTables) (row : ℕ) where
   of_inside : (table column from : ℕ) (r : Reference) → IsInside table row column from r → IsOf table row r
   of_inside table column from r i = i.of
 
-  name_ordered : (d : DocumentRow) → Ordered (named_inside raw.blobs 0x30 row 0 (in_name raw (blob_at raw.blobs d.name))) × Each (IsInside 0x30 row 0 0) (named_inside raw.blobs 0x30 row 0 (in_name raw (blob_at raw.blobs d.name)))
+  name_ordered : (d : DocumentRow) → Ordered (named_inside raw.blobs 0x30 row 0 (in_name raw (blob_at raw.blobs d.name))) × Each (IsInside 0x30 row 0 0)
+      (named_inside raw.blobs 0x30 row 0 (in_name raw (blob_at raw.blobs d.name)))
   name_ordered d = split (blob_at raw.blobs d.name)
     where
-      split : (content : Option (List ℕ)) → Ordered (named_inside raw.blobs 0x30 row 0 (in_name raw content)) × Each (IsInside 0x30 row 0 0) (named_inside raw.blobs 0x30 row 0 (in_name raw content))
+      split : (content : Option (List ℕ)) → Ordered (named_inside raw.blobs 0x30 row 0 (in_name raw content)) × Each (IsInside 0x30 row 0 0)
+          (named_inside raw.blobs 0x30 row 0 (in_name raw content))
       split None = (tt, tt)
       split (Some bytes) = inside_ordered raw 0x30 row 0 0 (name_indexes raw.blobs bytes) (names_ascend raw.blobs bytes)
 
-  imports_ordered : (i : ImportRow) → Ordered (named_inside raw.blobs 0x35 row 1 (in_imports raw (blob_at raw.blobs i.imports))) × Each (IsInside 0x35 row 1 0) (named_inside raw.blobs 0x35 row 1 (in_imports raw (blob_at raw.blobs i.imports)))
+  imports_ordered : (i : ImportRow) → Ordered (named_inside raw.blobs 0x35 row 1 (in_imports raw (blob_at raw.blobs i.imports))) × Each (IsInside 0x35 row 1 0)
+      (named_inside raw.blobs 0x35 row 1 (in_imports raw (blob_at raw.blobs i.imports)))
   imports_ordered i = split (blob_at raw.blobs i.imports)
     where
-      split : (content : Option (List ℕ)) → Ordered (named_inside raw.blobs 0x35 row 1 (in_imports raw content)) × Each (IsInside 0x35 row 1 0) (named_inside raw.blobs 0x35 row 1 (in_imports raw content))
+      split : (content : Option (List ℕ)) → Ordered (named_inside raw.blobs 0x35 row 1 (in_imports raw content)) × Each (IsInside 0x35 row 1 0)
+          (named_inside raw.blobs 0x35 row 1 (in_imports raw content))
       split None = (tt, tt)
-      split (Some bytes) = inside_ordered raw 0x35 row 1 0 (import_indexes (type_limits raw) (blob_at raw.blobs) bytes) (imports_ascend (type_limits raw) (blob_at raw.blobs) bytes)
+      split (Some bytes) = inside_ordered raw 0x35 row 1 0 (import_indexes (type_limits raw) (blob_at raw.blobs) bytes)
+          (imports_ascend (type_limits raw) (blob_at raw.blobs) bytes)
 
   document_between : (d : DocumentRow) → Between (5 ∷ 0x30 ∷ row ∷ []) (5 ∷ 0x30 ∷ suc row ∷ []) (of_document raw (row, d))
   document_between d =
@@ -160,7 +172,8 @@ module _ (raw : RawTables) (row : ℕ) where
             (each-weaker (IsInside 0x30 row 0 0) (λ s. ComesBefore (key s) (5 ∷ 0x30 ∷ row ∷ 0 ∷ 0 ∷ 40 ∷ []) → ⊥) inner not_before inside.1)
             ((λ (early : ComesBefore (5 ∷ 0x30 ∷ row ∷ 2 ∷ 0 ∷ 40 ∷ []) (5 ∷ 0x30 ∷ row ∷ 0 ∷ 0 ∷ 40 ∷ [])). grind arith), tt),
         ordered-append (5 ∷ 0x30 ∷ row ∷ 1 ∷ []) inner hash inside.0 (tt, tt)
-            (each-weaker (IsInside 0x30 row 0 0) (λ s. ComesBefore (key s) (5 ∷ 0x30 ∷ row ∷ 1 ∷ [])) inner (λ s i. inr (i.of.part, inr (i.of.in_table, inr (i.of.in_row, inl (let c = i.in_column in omega (arith, c)))))) inside.1)
+            (each-weaker (IsInside 0x30 row 0 0) (λ s. ComesBefore (key s) (5 ∷ 0x30 ∷ row ∷ 1 ∷ [])) inner (λ s i.
+            inr (i.of.part, inr (i.of.in_table, inr (i.of.in_row, inl (let c = i.in_column in omega (arith, c)))))) inside.1)
             ((λ (early : ComesBefore (5 ∷ 0x30 ∷ row ∷ 2 ∷ 0 ∷ 40 ∷ []) (5 ∷ 0x30 ∷ row ∷ 1 ∷ [])). grind arith), tt),
       ) (
         record { part = refl; in_table = refl; in_row = refl },
@@ -191,10 +204,16 @@ constant_between raw row c = row_between 0x34 row (of_constant raw (row, c))
     (record { part = refl; in_table = refl; in_row = refl }, (record { part = refl; in_table = refl; in_row = refl }, tt))
 
 -- from table to table
-next_tables : (low mid high : ℕ) (xs ys : List Reference) → low ≤ mid → mid ≤ high → Between (5 ∷ low ∷ 1 ∷ []) (5 ∷ mid ∷ []) xs → Between (5 ∷ mid ∷ []) (5 ∷ high ∷ []) ys
+next_tables : (low mid high : ℕ) (xs ys : List Reference) → low ≤ mid → mid ≤ high → Between (5 ∷ low ∷ 1 ∷ []) (5 ∷ mid ∷ []) xs
+    → Between (5 ∷ mid ∷ []) (5 ∷ high ∷ []) ys
     → Between (5 ∷ low ∷ []) (5 ∷ high ∷ []) (xs ++ ys)
 next_tables low mid high xs ys a b one other = between-append (5 ∷ low ∷ []) (5 ∷ mid ∷ []) (5 ∷ high ∷ []) xs ys (down low mid a) (down mid high b)
-    (record { ordered = one.ordered; after = each-weaker (λ r. ComesBefore (key r) (5 ∷ low ∷ 1 ∷ []) → ⊥) (λ r. ComesBefore (key r) (5 ∷ low ∷ []) → ⊥) xs (λ r not early. not (further low (key r) early)) one.after; before = one.before }) other
+    (record {
+      ordered = one.ordered;
+      after = each-weaker (λ r. ComesBefore (key r) (5 ∷ low ∷ 1 ∷ []) → ⊥) (λ r. ComesBefore (key r) (5 ∷ low ∷ [])
+          → ⊥) xs (λ r not early. not (further low (key r) early)) one.after;
+      before = one.before;
+    }) other
   where
     down : (low mid : ℕ) → low ≤ mid → (k : List ℕ) → ComesBefore k (5 ∷ low ∷ []) → ComesBefore k (5 ∷ mid ∷ [])
     down low mid le [] h = tt
@@ -219,7 +238,8 @@ at_index (r ∷ rs) o zero (suc j) a b lt there at =
     let same : r ≡ a = cc in
     subst (λ (x : Reference). ComesBefore (key b) (key x) → ⊥) same (of_each rs j b o.0 at)
   where
-    of_each : (rs : List Reference) (j : ℕ) (b : Reference) → Each (λ s. ComesBefore (key s) (key r) → ⊥) rs → slice_get rs j ≡ Some b → ComesBefore (key b) (key r) → ⊥
+    of_each : (rs : List Reference) (j : ℕ) (b : Reference) → Each (λ s. ComesBefore (key s) (key r) → ⊥) rs → slice_get rs j ≡ Some b
+        → ComesBefore (key b) (key r) → ⊥
     of_each [] j b e at = let w : None ≡ Some b = at in cc
     of_each (x ∷ xs) zero b e at = let same : x ≡ b = cc in subst (λ (y : Reference). ComesBefore (key y) (key r) → ⊥) same e.0
     of_each (x ∷ xs) (suc j) b e at = of_each xs j b e.1 at
@@ -229,16 +249,30 @@ at_index (r ∷ rs) o (suc i) (suc j) a b lt there at = at_index rs o.1 i j a b 
 pub rising : (raw : RawTables) → Rises (references raw)
 unfolding references
 rising raw = at_index (references raw) (
-    next_tables 0x30 0x31 0x38 (flat_map (of_document raw) (enumerate_from 1 raw.documents)) _ (omega arith) (omega arith) (from_1 0x30 (of_document raw) (document_between raw) raw.documents)
-    (next_tables 0x31 0x33 0x38 (flat_map (of_method raw) (enumerate_from 1 raw.methods)) _ (omega arith) (omega arith) (wider 0x32 0x33 (flat_map (of_method raw) (enumerate_from 1 raw.methods)) (omega arith) (from_1 0x31 (of_method raw) (λ row x. one_between 0x31 row (blob_in raw 0x31 row 1 x.points) (record { part = refl; in_table = refl; in_row = refl })) raw.methods))
-    (next_tables 0x33 0x34 0x38 (flat_map (of_variable raw) (enumerate_from 1 raw.variables)) _ (omega arith) (omega arith) (from_1 0x33 (of_variable raw) (λ row x. one_between 0x33 row (text_in raw 0x33 row 2 x.name) (record { part = refl; in_table = refl; in_row = refl })) raw.variables)
-    (next_tables 0x34 0x35 0x38 (flat_map (of_constant raw) (enumerate_from 1 raw.constants)) _ (omega arith) (omega arith) (from_1 0x34 (of_constant raw) (constant_between raw) raw.constants)
-    (next_tables 0x35 0x37 0x38 (flat_map (of_import raw) (enumerate_from 1 raw.imports)) _ (omega arith) (omega arith) (wider 0x36 0x37 (flat_map (of_import raw) (enumerate_from 1 raw.imports)) (omega arith) (from_1 0x35 (of_import raw) (import_between raw) raw.imports))
-    (widest (flat_map (of_custom raw) (enumerate_from 1 raw.customs)) (from_1 0x37 (of_custom raw) (λ row x. one_between 0x37 row (blob_in raw 0x37 row 2 x.value) (record { part = refl; in_table = refl; in_row = refl })) raw.customs))))))
+    next_tables 0x30 0x31 0x38 (flat_map (of_document raw) (enumerate_from 1 raw.documents)) _ (omega arith) (omega arith)
+    (from_1 0x30 (of_document raw) (document_between raw) raw.documents)
+    (next_tables 0x31 0x33 0x38 (flat_map (of_method raw) (enumerate_from 1 raw.methods)) _ (omega arith) (omega arith)
+    (wider 0x32 0x33 (flat_map (of_method raw) (enumerate_from 1 raw.methods)) (omega arith)
+    (from_1 0x31 (of_method raw) (λ row x. one_between 0x31 row (blob_in raw 0x31 row 1 x.points) (record { part = refl; in_table = refl; in_row = refl }))
+    raw.methods))
+    (next_tables 0x33 0x34 0x38 (flat_map (of_variable raw) (enumerate_from 1 raw.variables)) _ (omega arith) (omega arith)
+    (from_1 0x33 (of_variable raw) (λ row x. one_between 0x33 row (text_in raw 0x33 row 2 x.name) (record { part = refl; in_table = refl; in_row = refl }))
+    raw.variables)
+    (next_tables 0x34 0x35 0x38 (flat_map (of_constant raw) (enumerate_from 1 raw.constants)) _ (omega arith) (omega arith)
+    (from_1 0x34 (of_constant raw) (constant_between raw) raw.constants)
+    (next_tables 0x35 0x37 0x38 (flat_map (of_import raw) (enumerate_from 1 raw.imports)) _ (omega arith) (omega arith)
+    (wider 0x36 0x37 (flat_map (of_import raw) (enumerate_from 1 raw.imports)) (omega arith) (from_1 0x35 (of_import raw) (import_between raw) raw.imports))
+    (widest (flat_map (of_custom raw) (enumerate_from 1 raw.customs))
+    (from_1 0x37 (of_custom raw) (λ row x. one_between 0x37 row (blob_in raw 0x37 row 2 x.value) (record { part = refl; in_table = refl; in_row = refl }))
+    raw.customs))))))
     ).ordered
   where
     wider : (table next : ℕ) (xs : List Reference) → table ≤ next → {low : List ℕ} → Between low (5 ∷ table ∷ []) xs → Between low (5 ∷ next ∷ []) xs
-    wider table next xs le b = record { ordered = b.ordered; after = b.after; before = each-weaker (λ r. ComesBefore (key r) (5 ∷ table ∷ [])) (λ r. ComesBefore (key r) (5 ∷ next ∷ [])) xs (λ r early. up (key r) early) b.before }
+    wider table next xs le b = record {
+      ordered = b.ordered;
+      after = b.after;
+      before = each-weaker (λ r. ComesBefore (key r) (5 ∷ table ∷ [])) (λ r. ComesBefore (key r) (5 ∷ next ∷ [])) xs (λ r early. up (key r) early) b.before;
+    }
       where
         up : (k : List ℕ) → ComesBefore k (5 ∷ table ∷ []) → ComesBefore k (5 ∷ next ∷ [])
         up [] h = tt
@@ -246,7 +280,12 @@ rising raw = at_index (references raw) (
         up (a ∷ c ∷ k) h = grind arith
 
     widest : (xs : List Reference) → Between (5 ∷ 0x37 ∷ 1 ∷ []) (5 ∷ 0x38 ∷ []) xs → Between (5 ∷ 0x37 ∷ []) (5 ∷ 0x38 ∷ []) xs
-    widest xs b = record { ordered = b.ordered; after = each-weaker (λ r. ComesBefore (key r) (5 ∷ 0x37 ∷ 1 ∷ []) → ⊥) (λ r. ComesBefore (key r) (5 ∷ 0x37 ∷ []) → ⊥) xs (λ r not early. not (further (key r) early)) b.after; before = b.before }
+    widest xs b = record {
+      ordered = b.ordered;
+      after = each-weaker (λ r. ComesBefore (key r) (5 ∷ 0x37 ∷ 1 ∷ []) → ⊥) (λ r. ComesBefore (key r) (5 ∷ 0x37 ∷ [])
+          → ⊥) xs (λ r not early. not (further (key r) early)) b.after;
+      before = b.before;
+    }
       where
         further : (k : List ℕ) → ComesBefore k (5 ∷ 0x37 ∷ []) → ComesBefore k (5 ∷ 0x37 ∷ 1 ∷ [])
         further [] h = tt

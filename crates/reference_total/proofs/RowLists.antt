@@ -13,7 +13,8 @@ use Rattle.reference_total.specs.declared.rows.Table.TheVariants.{Document, Meth
 abbrev pub from_row : ℕ → List (List Reference) → List Reference
 from_row row rows = flat_map (λ (names : List Reference). names) (drop (row - 1) rows)
 
-one_by_one : {X : Type 0} (f : ℕ × X → List Reference) (n : ℕ) (xs : List X) → flat_map f (enumerate_from n xs) ≡ flat_map (λ (names : List Reference). names) (map f (enumerate_from n xs))
+one_by_one : {X : Type 0} (f : ℕ × X → List Reference) (n : ℕ) (xs : List X) → flat_map f (enumerate_from n xs) ≡ flat_map (λ (names : List Reference). names)
+    (map f (enumerate_from n xs))
 one_by_one f n [] = refl
 one_by_one f n (x ∷ xs) = ap (λ rest. f (n, x) ++ rest) (one_by_one f (n + 1) xs)
 
@@ -42,7 +43,8 @@ drop_step zero (x ∷ rows) names there = let same : x ≡ names = cc in ap (λ 
 drop_step (suc i) [] names there = absurd cc
 drop_step (suc i) (x ∷ rows) names there = drop_step i rows names there
 
-pub row_and_rest : (row : ℕ) (rows : List (List Reference)) (names : List Reference) → row_at rows row ≡ Some names → from_row row rows ≡ names ++ from_row (row + 1) rows
+pub row_and_rest : (row : ℕ) (rows : List (List Reference)) (names : List Reference) → row_at rows row ≡ Some names → from_row row rows ≡ names
+    ++ from_row (row + 1) rows
 row_and_rest zero rows names there = absurd cc
 row_and_rest (suc i) rows names there =
     let e : suc i + 1 - 1 ≡ suc i = omega arith in
@@ -82,7 +84,8 @@ row_names f xs (suc i) names there =
     (h.0, h.1, ap (λ m. f (m, h.0)) e ∙ h.2)
 
 -- the names of a row are those of its record
-pub names_are : {X : Type 0} (f : ℕ × X → List Reference) (xs : List X) (row : ℕ) (names : List Reference) (x : X) → row_at (map f (numbered xs)) row ≡ Some names → row_at xs row ≡ Some x → f (row, x) ≡ names
+pub names_are : {X : Type 0} (f : ℕ × X → List Reference) (xs : List X) (row : ℕ) (names : List Reference) (x : X)
+    → row_at (map f (numbered xs)) row ≡ Some names → row_at xs row ≡ Some x → f (row, x) ≡ names
 names_are f xs row names x there is =
     let h = row_names f xs row names there in
     let both : Some h.0 ≡ Some x = sym h.1 ∙ is in
@@ -91,6 +94,7 @@ names_are f xs row names x there is =
 
 -- the tables one after the other
 pub tables_are : (raw : RawTables)
-    → references raw ≡ of_table raw Document ++ (of_table raw MethodDebug ++ (of_table raw LocalVariable ++ (of_table raw LocalConstant ++ (of_table raw ImportScope ++ of_table raw Custom))))
+    → references raw ≡ of_table raw Document
+    ++ (of_table raw MethodDebug ++ (of_table raw LocalVariable ++ (of_table raw LocalConstant ++ (of_table raw ImportScope ++ of_table raw Custom))))
 unfolding references
 tables_are raw = refl

@@ -1,5 +1,6 @@
 -- The running sum finds the first reference that passes the limit.
-use Rattle.std.proofs.Common.{◌≡◌, ℕ, zero, suc, ◌+◌, ◌<◌, ◌≤◌, inl, inr, List, [], ◌∷◌, ◌++◌, take, slice_get, Some, None, Result, Ok, Err, refl, sym, ap, subst, ◌∙◌, arith, Bool, true, false, nat_lt, cond}
+use Rattle.std.proofs.Common.{◌≡◌, ℕ, zero, suc, ◌+◌, ◌<◌, ◌≤◌, inl, inr, List, [], ◌∷◌, ◌++◌, take, slice_get, Some, None, Result, Ok}
+use Rattle.std.proofs.Common.{Err, refl, sym, ap, subst, ◌∙◌, arith, Bool, true, false, nat_lt, cond}
 use Rattle.std.specs.Prelude.{sum_by}
 use Rattle.std.proofs.lemmas.Bool.{cases_lt}
 use Rattle.std.proofs.lemmas.List.Sums.{sum_by-cons}
@@ -20,7 +21,8 @@ total_of rs = sum_by (λ (x : Reference). x.len) rs
 
 -- of two references in the list, the later does not come before the earlier
 abbrev pub Rises : List Reference → Type 0
-Rises rs = (i j : ℕ) (a b : Reference) → i < j → slice_get rs i ≡ Some a → slice_get rs j ≡ Some b → ComesBefore (numbers SpanTotal b.at) (numbers SpanTotal a.at) → ⊥
+Rises rs =
+    (i j : ℕ) (a b : Reference) → i < j → slice_get rs i ≡ Some a → slice_get rs j ≡ Some b → ComesBefore (numbers SpanTotal b.at) (numbers SpanTotal a.at) → ⊥
 
 -- the reference with which the sum passes the limit
 record Passing (total : ℕ) (rs : List Reference) (fault : Fault) : Type 0 where
@@ -36,11 +38,19 @@ unfolding spanned
 passing total [] fault small e = absurd cc
 passing total (r ∷ rs) fault small e = split (λ few h. passing (total + r.len) rs fault few h) (nat_lt most_bytes (total + r.len)) refl e
   where
-    split : (total + r.len ≤ most_bytes → spanned (total + r.len) rs ≡ Err fault → Passing (total + r.len) rs fault) → (b : Bool) → nat_lt most_bytes (total + r.len) ≡ b
+    split : (total + r.len ≤ most_bytes → spanned (total + r.len) rs ≡ Err fault → Passing (total + r.len) rs fault) → (b : Bool)
+        → nat_lt most_bytes (total + r.len) ≡ b
         → cond b (Err (record { code = SpanTotal; place = r.at })) (spanned (total + r.len) rs) ≡ Err fault → Passing total (r ∷ rs) fault
     split again true over e =
         let same : record { code = SpanTotal; place = r.at } ≡ fault = cc in
-        record { k = 0; r = r; there = refl; is = sym same; within = omega (arith, small); passes = let p : most_bytes < total + r.len = grind (arith, nat_tests, over) in omega (arith, p) }
+        record {
+          k = 0;
+          r = r;
+          there = refl;
+          is = sym same;
+          within = omega (arith, small);
+          passes = let p : most_bytes < total + r.len = grind (arith, nat_tests, over) in omega (arith, p);
+        }
     split again false under e =
         let few : total + r.len ≤ most_bytes = grind (arith, nat_tests, under) in
         let p = again few e in
@@ -49,8 +59,12 @@ passing total (r ∷ rs) fault small e = split (λ few h. passing (total + r.len
           r = p.r;
           there = p.there;
           is = p.is;
-          within = let w : total + r.len + total_of (take p.k rs) ≤ most_bytes = p.within in let sum : total_of (take (suc p.k) (r ∷ rs)) ≡ r.len + total_of (take p.k rs) = sum_by-cons (λ (y : Reference). y.len) r (take p.k rs) in omega (arith, w, sum);
-          passes = let w : most_bytes < total + r.len + total_of (take p.k rs) + p.r.len = p.passes in let sum : total_of (take (suc p.k) (r ∷ rs)) ≡ r.len + total_of (take p.k rs) = sum_by-cons (λ (y : Reference). y.len) r (take p.k rs) in omega (arith, w, sum);
+          within = let w : total + r.len + total_of (take p.k rs) ≤ most_bytes = p.within in
+              let sum : total_of (take (suc p.k) (r ∷ rs)) ≡ r.len + total_of (take p.k rs) =
+              sum_by-cons (λ (y : Reference). y.len) r (take p.k rs) in omega (arith, w, sum);
+          passes = let w : most_bytes < total + r.len + total_of (take p.k rs) + p.r.len = p.passes in
+              let sum : total_of (take (suc p.k) (r ∷ rs)) ≡ r.len + total_of (take p.k rs) =
+              sum_by-cons (λ (y : Reference). y.len) r (take p.k rs) in omega (arith, w, sum);
         }
 
 -- where the sum does not pass, none of the references does
@@ -58,7 +72,8 @@ none_passes : (total last : ℕ) (rs : List Reference) → spanned total rs ≡ 
     → most_bytes < total + total_of (take k rs) + r.len → ⊥
 unfolding spanned
 none_passes total last [] e k r there over = let w : None ≡ Some r = there in cc
-none_passes total last (x ∷ rs) e k r there over = split (λ h j at more. none_passes (total + x.len) last rs h j r at more) (nat_lt most_bytes (total + x.len)) refl e k there over
+none_passes total last (x ∷ rs) e k r there over =
+    split (λ h j at more. none_passes (total + x.len) last rs h j r at more) (nat_lt most_bytes (total + x.len)) refl e k there over
   where
     split : (spanned (total + x.len) rs ≡ Ok last → (j : ℕ) → slice_get rs j ≡ Some r → most_bytes < total + x.len + total_of (take j rs) + r.len → ⊥)
         → (b : Bool) → nat_lt most_bytes (total + x.len) ≡ b
@@ -85,7 +100,8 @@ fronts (x ∷ rs) zero (suc k) r lt there =
 fronts (x ∷ rs) (suc j) (suc k) r lt there =
     let h = fronts rs j k r (omega (arith, lt)) there in
     let one : total_of (take (suc j) (x ∷ rs)) ≡ x.len + total_of (take j rs) = sum_by-cons (λ (y : Reference). y.len) x (take j rs) in
-    let two : total_of (take (suc k) (x ∷ rs)) ≡ x.len + total_of (take k rs) = sum_by-cons (λ (y : Reference). y.len) x (take k rs) in omega (arith, h, one, two)
+    let two : total_of (take (suc k) (x ∷ rs)) ≡ x.len + total_of (take k rs) =
+    sum_by-cons (λ (y : Reference). y.len) x (take k rs) in omega (arith, h, one, two)
 
 irreflexive : (p : Place) → ComesBefore (numbers SpanTotal p) (numbers SpanTotal p) → ⊥
 irreflexive p h = grind arith
@@ -96,7 +112,8 @@ module _ (raw : RawTables) (rises : Rises (references raw)) where
       let p = passing 0 (references raw) fault (omega arith) e in
       subst (λ (f : Fault). IsFirst (BadSpan raw) f) (sym p.is) (record {
         bad = span_total p.k p.r p.there (let w : most_bytes < 0 + total_of (take p.k (references raw)) + p.r.len = p.passes in omega (arith, w));
-        least = λ code at bad before. least p.k p.r p.there (let w : 0 + total_of (take p.k (references raw)) ≤ most_bytes = p.within in omega (arith, w)) code at bad before;
+        least = λ code at bad before. least p.k p.r p.there (let w : 0 + total_of (take p.k (references raw)) ≤ most_bytes = p.within in
+            omega (arith, w)) code at bad before;
       })
     where
       least : (k : ℕ) (r : Reference) → slice_get (references raw) k ≡ Some r → total_of (take k (references raw)) ≤ most_bytes
@@ -141,11 +158,13 @@ module _ (start sum : ℕ) (all : List Reference) where
   sum-none rs e none = sym (e ∙ ap (spanned sum) none)
 
   -- a few more
-  pub sum-few : (few rs : List Reference) (after : ℕ) → spanned start all ≡ spanned sum (few ++ rs) → Ok after ≡ spanned sum few → spanned start all ≡ spanned after rs
+  pub sum-few : (few rs : List Reference) (after : ℕ) → spanned start all ≡ spanned sum (few ++ rs) → Ok after ≡ spanned sum few
+      → spanned start all ≡ spanned after rs
   sum-few few rs after e one = e ∙ (spanned-append sum few rs ∙ ap (λ (o : Result ℕ Fault). and_then o (λ t. spanned t rs)) (sym one))
 
   -- a few of which one is too many
-  pub sum-past : (few rs : List Reference) (fault : Fault) → spanned start all ≡ spanned sum (few ++ rs) → Err fault ≡ spanned sum few → Err fault ≡ spanned start all
+  pub sum-past : (few rs : List Reference) (fault : Fault) → spanned start all ≡ spanned sum (few ++ rs) → Err fault ≡ spanned sum few
+      → Err fault ≡ spanned start all
   sum-past few rs fault e one = sym (e ∙ (spanned-append sum few rs ∙ ap (λ (o : Result ℕ Fault). and_then o (λ t. spanned t rs)) (sym one)))
 
 -- one reference
@@ -162,8 +181,10 @@ unfolding spanned
 none-more total = refl
 
 -- one list after the other
-pub followed : (total sum : ℕ) (xs ys : List Reference) (result : Result ℕ Fault) → Ok sum ≡ spanned total xs → result ≡ spanned sum ys → result ≡ spanned total (xs ++ ys)
-followed total sum xs ys result first second = second ∙ sym (spanned-append total xs ys ∙ ap (λ (o : Result ℕ Fault). and_then o (λ t. spanned t ys)) (sym first))
+pub followed : (total sum : ℕ) (xs ys : List Reference) (result : Result ℕ Fault) → Ok sum ≡ spanned total xs → result ≡ spanned sum ys
+    → result ≡ spanned total (xs ++ ys)
+followed total sum xs ys result first second =
+    second ∙ sym (spanned-append total xs ys ∙ ap (λ (o : Result ℕ Fault). and_then o (λ t. spanned t ys)) (sym first))
 
 pub cut_short : (total : ℕ) (fault : Fault) (xs ys : List Reference) → Err fault ≡ spanned total xs → Err fault ≡ spanned total (xs ++ ys)
 cut_short total fault xs ys first = sym (spanned-append total xs ys ∙ ap (λ (o : Result ℕ Fault). and_then o (λ t. spanned t ys)) (sym first))

@@ -44,10 +44,15 @@ module _ {X : Type 0} (told : X → List PlacedIndex) (blobs : List ℕ) (table 
   cut_off : (x : X) → Ok (Some x) ≡ answer left → inside (flat_map told left.items) ≡ inside (told x) ++ inside (flat_map told (tail left.items))
   cut_off x next =
       ap (λ items. inside (flat_map told items)) (next_items left.items left.fault x next)
-      ∙ map-append (λ (i : PlacedIndex). record { at = in_blob table row column i.byte; len = len_of (blob_at blobs i.index) }) (told x) (flat_map told (tail left.items))
+      ∙ map-append (λ (i : PlacedIndex). record { at = in_blob table row column i.byte; len = len_of (blob_at blobs i.index) }) (told x)
+      (flat_map told (tail left.items))
 
-  pub walk-next : GoesOn → (x : X) → Ok (Some x) ≡ answer left → (after : ℕ) → Ok after ≡ spanned sum (inside (told x)) → spanned start (inside all) ≡ spanned after (inside (flat_map told (tail left.items)))
-  walk-next rest x next after one = sum-few start sum (inside all) (inside (told x)) (inside (flat_map told (tail left.items))) after (rest ∙ ap (spanned sum) (cut_off x next)) one
+  pub walk-next : GoesOn → (x : X) → Ok (Some x) ≡ answer left → (after : ℕ) → Ok after ≡ spanned sum (inside (told x))
+      → spanned start (inside all) ≡ spanned after (inside (flat_map told (tail left.items)))
+  walk-next rest x next after one =
+      sum-few start sum (inside all) (inside (told x)) (inside (flat_map told (tail left.items))) after (rest ∙ ap (spanned sum) (cut_off x next)) one
 
-  pub walk-over : GoesOn → (x : X) → Ok (Some x) ≡ answer left → (fault : Fault) → Err fault ≡ spanned sum (inside (told x)) → Err fault ≡ spanned start (inside all)
-  walk-over rest x next fault one = sum-past start sum (inside all) (inside (told x)) (inside (flat_map told (tail left.items))) fault (rest ∙ ap (spanned sum) (cut_off x next)) one
+  pub walk-over : GoesOn → (x : X) → Ok (Some x) ≡ answer left → (fault : Fault) → Err fault ≡ spanned sum (inside (told x))
+      → Err fault ≡ spanned start (inside all)
+  walk-over rest x next fault one =
+      sum-past start sum (inside all) (inside (told x)) (inside (flat_map told (tail left.items))) fault (rest ∙ ap (spanned sum) (cut_off x next)) one

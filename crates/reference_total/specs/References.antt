@@ -35,7 +35,8 @@ blob_in raw table row column index = record { at = cell table row column; len = 
 
 -- the blobs that are named inside a blob, each at its byte
 abbrev pub named_inside : List ℕ → ℕ → ℕ → ℕ → List PlacedIndex → List Reference
-named_inside blobs table row column indexes = map (λ (x : PlacedIndex). record { at = in_blob table row column x.byte; len = len_of (blob_at blobs x.index) }) indexes
+named_inside blobs table row column indexes =
+    map (λ (x : PlacedIndex). record { at = in_blob table row column x.byte; len = len_of (blob_at blobs x.index) }) indexes
 
 abbrev pub in_name : RawTables → Option (List ℕ) → List PlacedIndex
 in_name raw (Some content) = name_indexes raw.blobs content

@@ -55,7 +55,8 @@ fn type_limits(tables: &Tables<'_>) -> TypeLimits
 /// Adds a document's name and the parts in it.
 fn add_name(tables: &Tables<'_>, row: u32, index: u32, total: u64) -> Result<u64, Fault>
     requires within { total ≤ most_bytes }
-    ensures sum { result ≡ spanned total (blob_in (raw_of tables.now) 0x30 row 0 index ∷ named_inside (raw_of tables.now).blobs 0x30 row 0 (in_name (raw_of tables.now) (blob_at (raw_of tables.now).blobs index))) }
+    ensures sum { result ≡ spanned total (blob_in (raw_of tables.now) 0x30 row 0 index ∷ named_inside (raw_of tables.now).blobs 0x30 row 0 (in_name (raw_of tables.now)
+        (blob_at (raw_of tables.now).blobs index))) }
     ensures within { IfOk result (λ after. after ≤ most_bytes) }
 {
     let blobs = tables.blobs();
@@ -71,7 +72,8 @@ fn add_name(tables: &Tables<'_>, row: u32, index: u32, total: u64) -> Result<u64
 /// Adds the list of an import scope and the texts that are named in it.
 fn add_list(tables: &Tables<'_>, row: u32, index: u32, total: u64) -> Result<u64, Fault>
     requires within { total ≤ most_bytes }
-    ensures sum { result ≡ spanned total (blob_in (raw_of tables.now) 0x35 row 1 index ∷ named_inside (raw_of tables.now).blobs 0x35 row 1 (in_imports (raw_of tables.now) (blob_at (raw_of tables.now).blobs index))) }
+    ensures sum { result ≡ spanned total (blob_in (raw_of tables.now) 0x35 row 1 index ∷ named_inside (raw_of tables.now).blobs 0x35 row 1 (in_imports (raw_of tables.now)
+        (blob_at (raw_of tables.now).blobs index))) }
     ensures within { IfOk result (λ after. after ≤ most_bytes) }
 {
     let blobs = tables.blobs();

@@ -1,5 +1,6 @@
 -- Cells that are written are the cells that are read.
-use Rattle.std.proofs.Common.{◌≡◌, ℕ, zero, suc, ◌+◌, ◌<◌, ◌≤◌, ◌^◌, List, [], ◌∷◌, ◌++◌, take, drop, length, sum, inl, inr, get_or, All, refl, ap, ◌∙◌, sym, subst, append_assoc, length-append, add-one, arith}
+use Rattle.std.proofs.Common.{◌≡◌, ℕ, zero, suc, ◌+◌, ◌<◌, ◌≤◌, ◌^◌, List, [], ◌∷◌, ◌++◌, take, drop, length, sum, inl, inr, get_or, All}
+use Rattle.std.proofs.Common.{refl, ap, ◌∙◌, sym, subst, append_assoc, length-append, add-one, arith}
 use Rattle.std.proofs.lemmas.List.{take_more, drop_at, drop-drop, length-take-le, append-nil}
 use Rattle.std.proofs.lemmas.List.Elements.{AllZip-get_or}
 use Rattle.ppdb_base.proofs.Fields.{sum_append, sum_cons}
@@ -14,14 +15,16 @@ row_bytes_push [] [] width cell e = append-nil (little_bytes width cell)
 row_bytes_push [] (c ∷ cs) width cell e = absurd (omega (arith, e))
 row_bytes_push (w ∷ ws) [] width cell e = absurd (omega (arith, e))
 row_bytes_push (w ∷ ws) (c ∷ cs) width cell e =
-    ap (λ rest. little_bytes w c ++ rest) (row_bytes_push ws cs width cell (omega (arith, e))) ∙ sym (append_assoc (little_bytes w c) (row_bytes ws cs) (little_bytes width cell))
+    ap (λ rest. little_bytes w c ++ rest) (row_bytes_push ws cs width cell (omega (arith, e)))
+    ∙ sym (append_assoc (little_bytes w c) (row_bytes ws cs) (little_bytes width cell))
 
 pub row_bytes_more : (widths cells : List ℕ) (i : ℕ) → i < length widths → length widths ≡ length cells
     → row_bytes (take (i + 1) widths) (take (i + 1) cells) ≡ row_bytes (take i widths) (take i cells) ++ little_bytes (get_or widths i 0) (get_or cells i 0)
 row_bytes_more widths cells i h e =
     let there : i < length cells = omega arith in
     rw (take_more widths i 0 h, take_more cells i 0 there)
-    (row_bytes_push (take i widths) (take i cells) (get_or widths i 0) (get_or cells i 0) (length-take-le i widths (omega arith) ∙ sym (length-take-le i cells (omega arith))))
+    (row_bytes_push (take i widths) (take i cells) (get_or widths i 0) (get_or cells i 0) (length-take-le i widths (omega arith)
+    ∙ sym (length-take-le i cells (omega arith))))
 
 -- a row has the sum of the widths
 pub length-row_bytes : (widths cells : List ℕ) → length widths ≡ length cells → length (row_bytes widths cells) ≡ sum widths
@@ -35,24 +38,28 @@ length-row_bytes (w ∷ ws) (c ∷ cs) e =
     ∙ sym (sum_cons w ws)
 
 -- the cells of a row, whatever stands after it
-pub cell-row_bytes : (widths cells rest : List ℕ) → Fit widths cells → (k : ℕ) → k < length widths → cell_in widths (row_bytes widths cells ++ rest) k ≡ get_or cells k 0
+pub cell-row_bytes : (widths cells rest : List ℕ) → Fit widths cells → (k : ℕ) → k < length widths
+    → cell_in widths (row_bytes widths cells ++ rest) k ≡ get_or cells k 0
 cell-row_bytes [] cells rest fit k h = absurd (omega (arith, h))
 cell-row_bytes (w ∷ ws) [] rest fit k h = absurd fit
 cell-row_bytes (w ∷ ws) (c ∷ cs) rest fit zero h =
     rw (append_assoc (little_bytes w c) (row_bytes ws cs) rest) (little_number-reads_back w c (row_bytes ws cs ++ rest) fit.0)
 cell-row_bytes (w ∷ ws) (c ∷ cs) rest fit (suc k) h =
-    ap (λ bytes. little_number (get_or ws k 0) bytes) (moved (little_bytes w c) (row_bytes ws cs) rest w (sum (take k ws)) (sum (w ∷ take k ws)) (length-bytes_low_first 0 w c) (sum_cons w (take k ws)))
+    ap (λ bytes. little_number (get_or ws k 0) bytes) (moved (little_bytes w c) (row_bytes ws cs) rest w (sum (take k ws)) (sum (w ∷ take k ws))
+    (length-bytes_low_first 0 w c) (sum_cons w (take k ws)))
     ∙ cell-row_bytes ws cs rest fit.1 k (omega (arith, h))
   where
     moved : (front row rest : List ℕ) (w n m : ℕ) → length front ≡ w → m ≡ w + n → drop m ((front ++ row) ++ rest) ≡ drop n (row ++ rest)
     moved front row rest w n m e at = rw (at, append_assoc front row rest, ← drop-drop n w (front ++ (row ++ rest)), drop_at front (row ++ rest) w e) refl
 
 -- one more cell that fits, and one that does not
-pub fit_more : (widths cells : List ℕ) (i : ℕ) → i < length widths → length widths ≡ length cells → Fit (take i widths) (take i cells) → get_or cells i 0 < 256 ^ get_or widths i 0 → Fit (take (i + 1) widths) (take (i + 1) cells)
+pub fit_more : (widths cells : List ℕ) (i : ℕ) → i < length widths → length widths ≡ length cells → Fit (take i widths) (take i cells)
+    → get_or cells i 0 < 256 ^ get_or widths i 0 → Fit (take (i + 1) widths) (take (i + 1) cells)
 fit_more [] cells i h e fit below = absurd (omega (arith, h))
 fit_more (w ∷ ws) [] i h e fit below = absurd (omega (arith, e))
 fit_more (w ∷ ws) (c ∷ cs) zero h e fit below = (below, tt)
-fit_more (w ∷ ws) (c ∷ cs) (suc i) h e fit below = rw add-one (fit.0, subst (λ n. Fit (take n ws) (take n cs)) (add-one i) (fit_more ws cs i (omega (arith, h)) (omega (arith, e)) fit.1 below))
+fit_more (w ∷ ws) (c ∷ cs) (suc i) h e fit below =
+    rw add-one (fit.0, subst (λ n. Fit (take n ws) (take n cs)) (add-one i) (fit_more ws cs i (omega (arith, h)) (omega (arith, e)) fit.1 below))
 
 pub fit_at : (widths cells : List ℕ) (i : ℕ) → i < length widths → Fit widths cells → get_or cells i 0 < 256 ^ get_or widths i 0
 fit_at widths cells i h fit = AllZip-get_or (λ width cell. cell < 256 ^ width) widths cells i 0 0 fit h
@@ -90,5 +97,7 @@ width_below widths i h all =
     ]
 
 -- one more cell
-pub places_more : (widths : List ℕ) (i : ℕ) → i < length widths → places_from 0 (take (i + 1) widths) ≡ places_from 0 (take i widths) ++ sum (take i widths) ∷ []
-places_more widths i h = rw (take_more widths i 0 h) (places_push (take i widths) 0 (get_or widths i 0) ∙ ap (λ n. places_from 0 (take i widths) ++ n ∷ []) (omega arith))
+pub places_more : (widths : List ℕ) (i : ℕ) → i < length widths → places_from 0 (take (i + 1) widths) ≡ places_from 0 (take i widths)
+    ++ sum (take i widths) ∷ []
+places_more widths i h =
+    rw (take_more widths i 0 h) (places_push (take i widths) 0 (get_or widths i 0) ∙ ap (λ n. places_from 0 (take i widths) ++ n ∷ []) (omega arith))

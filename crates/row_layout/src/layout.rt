@@ -161,5 +161,6 @@ fn put_cell(width: u8, cell: u32, into: &mut Bytes) -> Result<(), Memory>
 
 /// The cells of a row that was written are the cells that are read, whatever stands after it.
 pub fn written_cells_are_read()
-    ensures { (widths cells rest : Seq ℕ) → Fit widths cells → (column : ℕ) → column < length widths → cell_in widths (row_bytes widths cells ++ rest) column ≡ slice_index cells column }
+    ensures { (widths cells rest : Seq ℕ) → Fit widths cells → (column : ℕ) → column < length widths
+        → cell_in widths (row_bytes widths cells ++ rest) column ≡ slice_index cells column }
 {}

@@ -16,8 +16,10 @@ pub nothing_made : {R : Type 0} (g : Grammar R) (whole : List R) → Makes g who
 nothing_made g whole = record { follow = λ left. tt; makes = ap (λ w. at_place w []) (sym (append-nil whole)) }
 
 -- a field in the midst of a record
-pub field_more : {R : Type 0} (g : Grammar R) (whole : List R) (begun : List Value) (form : Form) (bytes : List ℕ) (value : Value) (fields : List Field) (records : List R)
-    → g.form whole begun ≡ Some form → ((left : List ℕ) → Spells form bytes value left) → g.allows whole begun value ≡ true → g.record_of whole (begun ++ value ∷ []) ≡ None
+pub field_more : {R : Type 0} (g : Grammar R) (whole : List R) (begun : List Value) (form : Form) (bytes : List ℕ) (value : Value) (fields : List Field)
+    (records : List R)
+    → g.form whole begun ≡ Some form → ((left : List ℕ) → Spells form bytes value left) → g.allows whole begun value ≡ true
+    → g.record_of whole (begun ++ value ∷ []) ≡ None
     → Makes g whole (begun ++ value ∷ []) fields records → Makes g whole begun (record { bytes = bytes; value = value } ∷ fields) records
 field_more g whole begun form bytes value fields records expected spells allowed open_ rest = record {
   follow = λ left. (
@@ -28,8 +30,10 @@ field_more g whole begun form bytes value fields records expected spells allowed
 }
 
 -- the last field of a record
-pub field_last : {R : Type 0} (g : Grammar R) (whole : List R) (begun : List Value) (form : Form) (bytes : List ℕ) (value : Value) (fields : List Field) (r : R) (records : List R)
-    → g.form whole begun ≡ Some form → ((left : List ℕ) → Spells form bytes value left) → g.allows whole begun value ≡ true → g.record_of whole (begun ++ value ∷ []) ≡ Some r
+pub field_last : {R : Type 0} (g : Grammar R) (whole : List R) (begun : List Value) (form : Form) (bytes : List ℕ) (value : Value) (fields : List Field) (r : R)
+    (records : List R)
+    → g.form whole begun ≡ Some form → ((left : List ℕ) → Spells form bytes value left) → g.allows whole begun value ≡ true
+    → g.record_of whole (begun ++ value ∷ []) ≡ Some r
     → Makes g (whole ++ r ∷ []) [] fields records → Makes g whole begun (record { bytes = bytes; value = value } ∷ fields) (r ∷ records)
 field_last g whole begun form bytes value fields r records expected spells allowed made rest = record {
   follow = λ left. (
@@ -40,7 +44,9 @@ field_last g whole begun form bytes value fields r records expected spells allow
 }
 
 -- What fields spell that make records, and after which the grammar may stop, is read so.
-pub made_read : {R : Type 0} (g : Grammar R) (fields : List Field) (records : List R) → Makes g [] [] fields records → g.may_stop records [] ≡ true → Reading g (bytes_of fields) records None
+pub made_read : {R : Type 0} (g : Grammar R) (fields : List Field) (records : List R) → Makes g [] [] fields records → g.may_stop records [] ≡ true
+    → Reading g (bytes_of fields) records None
 made_read g fields records m stops =
     let made : cut g fields ≡ at_place records [] = m.makes in
-    subst (λ r. Reading g (bytes_of fields) r None) (ap (λ c. c.whole) made) (fields_read g fields (m.follow []) (ap (λ c. g.may_stop c.whole c.begun) made ∙ stops))
+    subst (λ r. Reading g (bytes_of fields) r None) (ap (λ c. c.whole) made)
+    (fields_read g fields (m.follow []) (ap (λ c. g.may_stop c.whole c.begun) made ∙ stops))

@@ -18,7 +18,8 @@ abbrev moved_point : Offsets → Point → Point
 moved_point o p = record p { offset = moved o p.offset }
 
 -- the image of a kept offset lies before the images of the points after it
-passed : (o : Offsets) → Rise o → (o ≢ gone) → (x y : ℕ) → Kept o x y → (ps : List Point) → All (λ p. x < p.offset) ps → Within o ps → All (λ q. y < q.offset) (moved_points o ps)
+passed : (o : Offsets) → Rise o → (o ≢ gone) → (x y : ℕ) → Kept o x y → (ps : List Point) → All (λ p. x < p.offset) ps → Within o ps
+    → All (λ q. y < q.offset) (moved_points o ps)
 passed o rise live x y kept [] after within = All-nil (λ (q : Point). y < q.offset)
 passed o rise live x y kept (p ∷ ps) after within =
     goes (is_kept_between o p.offset (first_offset (old_size o) ps))
@@ -30,7 +31,8 @@ passed o rise live x y kept (p ∷ ps) after within =
     goes : (b : Bool) → All (λ q. y < q.offset) (moved_points o ps) → All (λ q. y < q.offset) (cond b (moved_point o p ∷ moved_points o ps) (moved_points o ps))
     goes false h = h
     goes true h = All-cons (λ (q : Point). y < q.offset) (moved_point o p) (moved_points o ps)
-        (moved_passes o rise live x y p.offset kept (All-head (λ (q : Point). x < q.offset) p ps after) (below (All-head (λ (q : Point). q.offset < old_size o) p ps within))) h
+        (moved_passes o rise live x y p.offset kept (All-head (λ (q : Point). x < q.offset) p ps after)
+        (below (All-head (λ (q : Point). q.offset < old_size o) p ps within))) h
 
 -- what lies before the first of points that rise lies before them all
 before_all : (end x : ℕ) (ps : List Point) → PointsRise ps → x < first_offset end ps → All (λ p. x < p.offset) ps
@@ -42,13 +44,15 @@ before_all end x (p ∷ ps) rise less =
     next a b c h k = omega arith
 
 -- a point that stays lies before those after it
-stays : (o : Offsets) → Rise o → (o ≢ gone) → (p : Point) (ps : List Point) → PointsRise (p ∷ ps) → Within o (p ∷ ps) → KeepsBetween o p.offset (first_offset (old_size o) ps)
+stays : (o : Offsets) → Rise o → (o ≢ gone) → (p : Point) (ps : List Point) → PointsRise (p ∷ ps) → Within o (p ∷ ps)
+    → KeepsBetween o p.offset (first_offset (old_size o) ps)
     → All (λ q. moved o p.offset < q.offset) (moved_points o ps)
 stays o rise live p ps above within k =
     let at : k.offset ≤ old_size o = fits ps k.before (All-tail (λ (q : Point). q.offset < old_size o) p ps within) in
     let image : moved o k.offset ≡ k.image = moved_kept o rise k.offset k.image k.moves in
     let le : moved o p.offset ≤ moved o k.offset = moved_never_falls o rise live p.offset k.offset k.after at in
-    let less = passed o rise live k.offset k.image k.moves ps (before_all (old_size o) k.offset ps (pairs-tail p ps above) k.before) (All-tail (λ (q : Point). q.offset < old_size o) p ps within) in
+    let less = passed o rise live k.offset k.image k.moves ps (before_all (old_size o) k.offset ps (pairs-tail p ps above) k.before)
+    (All-tail (λ (q : Point). q.offset < old_size o) p ps within) in
     λ n d there. next (moved o p.offset) (moved o k.offset) k.image _ le image (less n d there)
   where
     next : (a b c d : ℕ) → a ≤ b → b ≡ c → c < d → a < d
@@ -63,7 +67,8 @@ rises_live o rise live [] above within = above
 rises_live o rise live (p ∷ ps) above within =
     let others = rises_live o rise live ps (pairs-tail p ps above) (All-tail (λ (q : Point). q.offset < old_size o) p ps within) in
     elim (cases_Bool (is_kept_between o p.offset (first_offset (old_size o) ps))) [
-      | inl kept ↦ rw kept (AllPairs-cons (λ (q r : Point). q.offset < r.offset) (moved_point o p) (moved_points o ps) (stays o rise live p ps above within (is_kept o rise p.offset (first_offset (old_size o) ps) kept)) others)
+      | inl kept ↦ rw kept (AllPairs-cons (λ (q r : Point). q.offset < r.offset) (moved_point o p) (moved_points o ps)
+          (stays o rise live p ps above within (is_kept o rise p.offset (first_offset (old_size o) ps) kept)) others)
       | inr left_out ↦ rw left_out others
     ]
 

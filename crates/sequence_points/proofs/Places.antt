@@ -1,5 +1,6 @@
 -- What is left of the points, a field at a time.
-use Rattle.std.proofs.Common.{◌≡◌, ℕ, ◌+◌, Bool, true, false, ◌&&◌, ◌||◌, List, [], ◌∷◌, ◌++◌, drop, Option, Some, None, Ok, Err, ℤ, pos, ◌+ℤ◌, refl, sym, ap, ◌∙◌, arith}
+use Rattle.std.proofs.Common.{◌≡◌, ℕ, ◌+◌, Bool, true, false, ◌&&◌, ◌||◌, List, [], ◌∷◌, ◌++◌, drop, Option, Some, None, Ok, Err, ℤ, pos}
+use Rattle.std.proofs.Common.{◌+ℤ◌, refl, sym, ap, ◌∙◌, arith}
 use Rattle.std.specs.Option.{option_to_list}
 use Rattle.std.proofs.lemmas.Int.{ints}
 use Rattle.ppdb_base.specs.declared.Code.{Code}
@@ -46,7 +47,8 @@ at-field limits blob place begun at form value len expected found allowed open_ 
     ap (as_points (entries_of place)) (left-field g (entries_of place) begun blob at form value len expected found allowed
     ∙ ap (close_and (λ w b. left_at g w b blob (at + len)) (entries_of place) (begun ++ value ∷ [])) open_)
 
-pub at-record : (limits : PointLimits) (blob : List ℕ) (place : Place) (begun : List Value) (at : ℕ) (form : Form) (value : Value) (len : ℕ) (e : Entry) (next : Place)
+pub at-record : (limits : PointLimits) (blob : List ℕ) (place : Place) (begun : List Value) (at : ℕ) (form : Form) (value : Value) (len : ℕ) (e : Entry)
+    (next : Place)
     → point_form (sums_at place) begun ≡ Some form → field_at form (drop at blob) ≡ Ok (value, len) → point_allows limits (sums_at place) begun value ≡ true
     → point_of_fields (sums_at place) (begun ++ value ∷ []) ≡ Some e → next.at ≡ at + len → SameSums (entries_of place ++ e ∷ []) (entries_of next)
     → points_at limits blob place begun at ≡ with_point (point_of (entries_of place) e) (points_left limits blob next)
@@ -59,7 +61,8 @@ at-record limits blob place begun at form value len e next expected found allowe
     ∙ ap (close_and (λ w b. left_at g w b blob (at + len)) before (begun ++ value ∷ [])) made
     ∙ ap (λ n. push e (left_at g (before ++ e ∷ []) [] blob n)) (sym at_is)
     ∙ ap (push e) (read_from-alike g g SameSums (alike 0 0 limits) (before ++ e ∷ []) (entries_of next) [] next.at (drop next.at blob) same))
-    ∙ ap (λ xs. let l : Left Point = record { items = option_to_list (point_of before e) ++ xs; fault = left.fault } in l) (points-alike (before ++ e ∷ []) (entries_of next) left.items same)
+    ∙ ap (λ xs. let l : Left Point = record { items = option_to_list (point_of before e) ++ xs; fault = left.fault } in l)
+    (points-alike (before ++ e ∷ []) (entries_of next) left.items same)
 
 pub at-out : (limits : PointLimits) (blob : List ℕ) (place : Place) (begun : List Value) (at : ℕ) (form : Form) (value : Value) (len : ℕ)
     → point_form (sums_at place) begun ≡ Some form → field_at form (drop at blob) ≡ Ok (value, len) → point_allows limits (sums_at place) begun value ≡ false
@@ -78,14 +81,16 @@ pub at-none : (limits : PointLimits) (blob : List ℕ) (place : Place) (first : 
     → points_at limits blob place (first ∷ begun) at ≡ no_points (Some (record { code = code; byte = at }))
 unfolding points_at
 at-none limits blob place first begun at form code expected none =
-    ap (as_points (entries_of place)) (left-none (sequence_points 0 limits) (entries_of place) (first ∷ begun) blob at form code expected none (and-false (is_empty (drop at blob))))
+    ap (as_points (entries_of place)) (left-none (sequence_points 0 limits) (entries_of place)
+    (first ∷ begun) blob at form code expected none (and-false (is_empty (drop at blob))))
 
 -- ---- places
 
 pub document-at : (place : Place) → document_after (entries_of place) ≡ place.document
 document-at place = by_last place.last
   where
-    by_start : (offset : ℕ) (start : Option Start) → document_after (header 0 place.document ∷ last_entries (Some (record { offset = offset; start = start }))) ≡ place.document
+    by_start : (offset : ℕ) (start : Option Start) → document_after (header 0 place.document ∷ last_entries (Some (record { offset = offset; start = start })))
+        ≡ place.document
     by_start offset None = refl
     by_start offset (Some start) = refl
 
@@ -100,11 +105,13 @@ or-true false = refl
 -- after a point that is not hidden
 pub same-visible : (place : Place) (at step lines : ℕ) (columns line column : ℤ) (offset start_line start_column : ℕ)
     → offset ≡ (sums_at place).offset + step → (sums_at place).line +ℤ line ≡ pos start_line → (sums_at place).column +ℤ column ≡ pos start_column
-    → SameSums (entries_of place ++ visible step lines columns line column ∷ []) (entries_of (place_after at place.document offset (Some (record { line = start_line; column = start_column }))))
+    → SameSums (entries_of place ++ visible step lines columns line column ∷ [])
+    (entries_of (place_after at place.document offset (Some (record { line = start_line; column = start_column }))))
 same-visible place at step lines columns line column offset start_line start_column o l c = record {
   started = tt;
   starts = tt;
   sums_are = sums-push (entries_of place) (visible step lines columns line column)
-      ∙ same_five _ _ _ _ _ _ _ _ _ _ (or-true (sums_at place).has_point) (or-true (sums_at place).has_visible) (omega arith) (omega (arith, ints)) (omega (arith, ints));
+      ∙ same_five _ _ _ _ _ _ _ _ _ _ (or-true (sums_at place).has_point) (or-true (sums_at place).has_visible) (omega arith) (omega (arith, ints))
+      (omega (arith, ints));
   document_is = document-push (entries_of place) (visible step lines columns line column) ∙ document-at place;
 }

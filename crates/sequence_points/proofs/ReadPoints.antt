@@ -1,5 +1,6 @@
 -- The points that a blob is read as can be written.
-use Rattle.std.proofs.Common.{◌≡◌, ℕ, zero, suc, ◌+◌, ◌<◌, ◌≤◌, Bool, true, false, List, [], ◌∷◌, ◌++◌, Option, Some, None, pos, ◌+ℤ◌, refl, sym, ap, subst, ◌∙◌, arith}
+use Rattle.std.proofs.Common.{◌≡◌, ℕ, zero, suc, ◌+◌, ◌<◌, ◌≤◌, Bool, true, false, List, [], ◌∷◌, ◌++◌, Option, Some, None, pos, ◌+ℤ◌}
+use Rattle.std.proofs.Common.{refl, sym, ap, subst, ◌∙◌, arith}
 use Rattle.std.specs.Prelude.{All, nat_le, ◌<ℤ◌, if◌then◌else◌}
 use Rattle.std.proofs.lemmas.Int.{ints}
 use Rattle.std.proofs.lemmas.Bool.{and_parts, ltb-true, leb-true}
@@ -76,7 +77,8 @@ begun_none limits column [] = tt
 begun_none limits column (e ∷ es) = tt
 
 abbrev Allowed : ℕ → PointLimits → List Entry → List Value → List ℕ → Value → List ℕ → Type 0
-Allowed column limits whole begun bytes value after = IsAllowed (sequence_points column limits) (record { whole = whole; begun = begun }) (record { bytes = bytes; value = value }) after
+Allowed column limits whole begun bytes value after =
+    IsAllowed (sequence_points column limits) (record { whole = whole; begun = begun }) (record { bytes = bytes; value = value }) after
 
 abbrev Goes : ℕ → PointLimits → List Entry → List Value → Value → Type 0
 Goes column limits whole begun value = Holds column limits (with_value (sequence_points column limits) (record { whole = whole; begun = begun }) value)
@@ -87,7 +89,8 @@ first_header : (column : ℕ) (limits : PointLimits) (n : ℕ) → column ≤ li
 first_header zero limits n there small = (tt, (small, refl))
 first_header (suc column) limits n there small = (well_header limits n (suc column) small (omega arith, there), tt)
 
-in_header : (column : ℕ) (limits : PointLimits) (begun : List Value) (bytes : List ℕ) (value : Value) (after : List ℕ) → column ≤ limits.documents → Allowed column limits [] begun bytes value after
+in_header : (column : ℕ) (limits : PointLimits) (begun : List Value) (bytes : List ℕ) (value : Value) (after : List ℕ) → column ≤ limits.documents
+    → Allowed column limits [] begun bytes value after
     → InHeader limits column begun → Goes column limits [] begun value
 in_header column limits [] bytes (number n) after there a b = first_header column limits n there (leb-true n limits.signatures a.allowed)
 in_header column limits [] bytes (integer z) after there a b = let e : false ≡ true = a.allowed in absurd cc
@@ -104,21 +107,27 @@ in_header column limits (octets xs ∷ vs) bytes value after there a b = absurd 
 abbrev GoesOn : PointLimits → ℕ → List Entry → List Value → Option Entry → Type 0
 GoesOn limits column es begun made = Holds column limits (closed made es begun)
 
-second : (column : ℕ) (limits : PointLimits) (x : Entry) (xs : List Entry) (step value : ℕ) (b : Bool) → let es = x ∷ xs in Well limits es → (sums es).offset + step < 536870912 → (sums es).has_point ≡ b
-    → second_allows limits (sums es) (number step) (number value) ≡ true → GoesOn limits column es (number step ∷ number value ∷ []) (document_record (sums es).has_point (number step) (number value))
+second : (column : ℕ) (limits : PointLimits) (x : Entry) (xs : List Entry) (step value : ℕ) (b : Bool) → let es =
+    x ∷ xs in Well limits es → (sums es).offset + step < 536870912 → (sums es).has_point ≡ b
+    → second_allows limits (sums es) (number step) (number value) ≡ true → GoesOn limits column es (number step ∷ number value ∷ [])
+    (document_record (sums es).has_point (number step) (number value))
 second column limits x xs zero value true w small has allowed =
     let es = x ∷ xs in
     let there = row_read limits value (sym (ap (λ b. if b then is_number (is_row limits.documents) (number value) else true) has) ∙ allowed) in
-    subst (λ (b : Bool). GoesOn limits column es (number 0 ∷ number value ∷ []) (document_record b (number 0) (number value))) (sym has) (well_document limits es value w there, tt)
+    subst (λ (b : Bool). GoesOn limits column es (number 0 ∷ number value ∷ []) (document_record b (number 0) (number value))) (sym has)
+    (well_document limits es value w there, tt)
 second column limits x xs zero value false w small has allowed =
     let es = x ∷ xs in
-    subst (λ (b : Bool). GoesOn limits column es (number 0 ∷ number value ∷ []) (document_record b (number 0) (number value))) (sym has) (w, (small, λ e. let no : false ≡ true = sym has ∙ e in absurd cc))
+    subst (λ (b : Bool). GoesOn limits column es (number 0 ∷ number value ∷ []) (document_record b (number 0) (number value))) (sym has)
+    (w, (small, λ e. let no : false ≡ true = sym has ∙ e in absurd cc))
 second column limits x xs (suc step) value true w small has allowed =
     let es = x ∷ xs in
-    subst (λ (b : Bool). GoesOn limits column es (number (suc step) ∷ number value ∷ []) (document_record b (number (suc step)) (number value))) (sym has) (w, (small, λ e. omega arith))
+    subst (λ (b : Bool). GoesOn limits column es (number (suc step) ∷ number value ∷ []) (document_record b (number (suc step)) (number value))) (sym has)
+    (w, (small, λ e. omega arith))
 second column limits x xs (suc step) value false w small has allowed =
     let es = x ∷ xs in
-    subst (λ (b : Bool). GoesOn limits column es (number (suc step) ∷ number value ∷ []) (document_record b (number (suc step)) (number value))) (sym has) (w, (small, λ e. omega arith))
+    subst (λ (b : Bool). GoesOn limits column es (number (suc step) ∷ number value ∷ []) (document_record b (number (suc step)) (number value))) (sym has)
+    (w, (small, λ e. omega arith))
 
 -- Columns of a point of one line
 columns_zero : (column : ℕ) (limits : PointLimits) (x : Entry) (xs : List Entry) (step n : ℕ) → let es = x ∷ xs in Well limits es → IsStep (sums es) step
@@ -126,16 +135,21 @@ columns_zero : (column : ℕ) (limits : PointLimits) (x : Entry) (xs : List Entr
 columns_zero column limits x xs step zero w s = (well_hidden limits (x ∷ xs) step w s.0 s.1, tt)
 columns_zero column limits x xs step (suc n) w s = (w, (s, λ e. omega (arith, ints)))
 
-columns : (column : ℕ) (limits : PointLimits) (x : Entry) (xs : List Entry) (step lines : ℕ) (form : Form) (bytes : List ℕ) (v : Value) (after : List ℕ) → let es = x ∷ xs in Well limits es → IsStep (sums es) step
-    → Some (columns_form (number lines)) ≡ Some form → Spells form bytes v after → GoesOn limits column es (number step ∷ number lines ∷ v ∷ []) (hidden_point (number step) (number lines) v)
+columns : (column : ℕ) (limits : PointLimits) (x : Entry) (xs : List Entry) (step lines : ℕ) (form : Form) (bytes : List ℕ) (v : Value) (after : List ℕ)
+    → let es = x ∷ xs in Well limits es → IsStep (sums es) step
+    → Some (columns_form (number lines)) ≡ Some form → Spells form bytes v after → GoesOn limits column es (number step ∷ number lines ∷ v ∷ [])
+    (hidden_point (number step) (number lines) v)
 columns column limits x xs step zero form bytes v after w s expected spelled =
     let n = unsigned_read form bytes v after expected spelled in
-    subst (λ (u : Value). GoesOn limits column (x ∷ xs) (number step ∷ number 0 ∷ u ∷ []) (hidden_point (number step) (number 0) u)) (sym n.1) (columns_zero column limits x xs step n.0 w s)
+    subst (λ (u : Value). GoesOn limits column (x ∷ xs) (number step ∷ number 0 ∷ u ∷ []) (hidden_point (number step) (number 0) u)) (sym n.1)
+    (columns_zero column limits x xs step n.0 w s)
 columns column limits x xs step (suc lines) form bytes v after w s expected spelled =
     let not_0 : suc lines ≡ 0 → ⊥ = λ e. omega arith in
-    subst (GoesOn limits column (x ∷ xs) (number step ∷ number (suc lines) ∷ v ∷ [])) (sym (not_hidden step (suc lines) v (int_of v) refl (λ e z. not_0 e))) (w, (s, λ e. absurd (not_0 e)))
+    subst (GoesOn limits column (x ∷ xs) (number step ∷ number (suc lines) ∷ v ∷ [])) (sym (not_hidden step (suc lines) v (int_of v) refl (λ e z. not_0 e)))
+    (w, (s, λ e. absurd (not_0 e)))
 
-in_point : (column : ℕ) (limits : PointLimits) (x : Entry) (xs : List Entry) (begun : List Value) (bytes : List ℕ) (value : Value) (after : List ℕ) → Allowed column limits (x ∷ xs) begun bytes value after
+in_point : (column : ℕ) (limits : PointLimits) (x : Entry) (xs : List Entry) (begun : List Value) (bytes : List ℕ) (value : Value) (after : List ℕ)
+    → Allowed column limits (x ∷ xs) begun bytes value after
     → Well limits (x ∷ xs) → InPoint (sums (x ∷ xs)) begun → Goes column limits (x ∷ xs) begun value
 in_point column limits x xs [] bytes (number step) after a w b = (w, ltb-true ((sums (x ∷ xs)).offset + step) 536870912 a.allowed)
 in_point column limits x xs [] bytes (integer z) after a w b = let e : false ≡ true = a.allowed in absurd cc
@@ -143,8 +157,10 @@ in_point column limits x xs [] bytes (octets o) after a w b = let e : false ≡ 
 in_point column limits x xs (number step ∷ []) bytes value after a w b =
     let n = unsigned_read a.form bytes value after a.expected a.spelled in
     subst (λ (v : Value). GoesOn limits column (x ∷ xs) (number step ∷ v ∷ []) (document_record (sums (x ∷ xs)).has_point (number step) v)) (sym n.1)
-    (second column limits x xs step n.0 (sums (x ∷ xs)).has_point w b refl (subst (λ (v : Value). second_allows limits (sums (x ∷ xs)) (number step) v ≡ true) n.1 a.allowed))
-in_point column limits x xs (number step ∷ number lines ∷ []) bytes value after a w b = columns column limits x xs step lines a.form bytes value after w b a.expected a.spelled
+    (second column limits x xs step n.0 (sums (x ∷ xs)).has_point w b refl (subst (λ (v : Value). second_allows limits (sums (x ∷ xs)) (number step) v ≡ true)
+    n.1 a.allowed))
+in_point column limits x xs (number step ∷ number lines ∷ []) bytes value after a w b =
+    columns column limits x xs step lines a.form bytes value after w b a.expected a.spelled
 in_point column limits x xs (number step ∷ number lines ∷ c ∷ []) bytes value after a w b =
     let s = sums (x ∷ xs) in
     (w, (b.0, b.1, and_parts (is_line (s.line +ℤ int_of value)) (is_line ((s.line +ℤ int_of value) +ℤ pos lines)) a.allowed))
@@ -155,7 +171,8 @@ in_point column limits x xs (number step ∷ number lines ∷ c ∷ line ∷ [])
     let lines_in = b.2 in
     let columns_in = and_parts (is_column (s.column +ℤ int_of value)) (is_column ((s.column +ℤ int_of value) +ℤ int_of c)) a.allowed in (
       well_visible limits (x ∷ xs) step lines (int_of c) (int_of line) (int_of value) w is_step.0 is_step.1
-          (span_read (s.line +ℤ int_of line) (s.column +ℤ int_of value) ((s.line +ℤ int_of line) +ℤ pos lines) ((s.column +ℤ int_of value) +ℤ int_of c) lines (int_of c) refl refl lines_in.0 columns_in.0 lines_in.1 columns_in.1 wide),
+          (span_read (s.line +ℤ int_of line) (s.column +ℤ int_of value) ((s.line +ℤ int_of line) +ℤ pos lines)
+          ((s.column +ℤ int_of value) +ℤ int_of c) lines (int_of c) refl refl lines_in.0 columns_in.0 lines_in.1 columns_in.1 wide),
       tt,
     )
 in_point column limits x xs (number step ∷ number lines ∷ c ∷ line ∷ v ∷ vs) bytes value after a w b = absurd b
@@ -164,12 +181,14 @@ in_point column limits x xs (number step ∷ octets o ∷ vs) bytes value after 
 in_point column limits x xs (integer z ∷ vs) bytes value after a w b = absurd b
 in_point column limits x xs (octets o ∷ vs) bytes value after a w b = absurd b
 
-one : (column : ℕ) (limits : PointLimits) (whole : List Entry) (begun : List Value) (bytes : List ℕ) (value : Value) (after : List ℕ) → column ≤ limits.documents → Allowed column limits whole begun bytes value after
+one : (column : ℕ) (limits : PointLimits) (whole : List Entry) (begun : List Value) (bytes : List ℕ) (value : Value) (after : List ℕ)
+    → column ≤ limits.documents → Allowed column limits whole begun bytes value after
     → WellOrNone limits whole → Begun limits column whole begun → Goes column limits whole begun value
 one column limits [] begun bytes value after there a w b = in_header column limits begun bytes value after there a b
 one column limits (x ∷ xs) begun bytes value after there a w b = in_point column limits x xs begun bytes value after a w b
 
-kept : (column : ℕ) (limits : PointLimits) → column ≤ limits.documents → (c : Cut Entry) (f : Field) (after : List ℕ) → IsAllowed (sequence_points column limits) c f after → Holds column limits c
+kept : (column : ℕ) (limits : PointLimits) → column ≤ limits.documents → (c : Cut Entry) (f : Field) (after : List ℕ)
+    → IsAllowed (sequence_points column limits) c f after → Holds column limits c
     → Holds column limits (with_value (sequence_points column limits) c f.value)
 kept column limits there c f after a h = one column limits c.whole c.begun f.bytes f.value after there a h.0 h.1
 
@@ -183,8 +202,10 @@ well_read : (limits : PointLimits) (es : List Entry) → WellOrNone limits es �
 well_read limits [] w e = let no : false ≡ true = e in absurd cc
 well_read limits (x ∷ xs) w e = w
 
-pub read_points : (column : ℕ) (limits : PointLimits) (blob : List ℕ) (signature : ℕ) (points : List Point) → column ≤ limits.documents → limits.documents < 0x20000000 → limits.signatures < 0x20000000
-    → PointsReading column limits blob signature points None → CanBeWritten signature points × (signature ≤ limits.signatures) × All (λ p. (1 ≤ p.document) × (p.document ≤ limits.documents)) points
+pub read_points : (column : ℕ) (limits : PointLimits) (blob : List ℕ) (signature : ℕ) (points : List Point) → column ≤ limits.documents
+    → limits.documents < 0x20000000 → limits.signatures < 0x20000000
+    → PointsReading column limits blob signature points None → CanBeWritten signature points × (signature ≤ limits.signatures)
+    × All (λ p. (1 ≤ p.document) × (p.document ≤ limits.documents)) points
 read_points column limits blob signature points there documents signatures r =
     let g = sequence_points column limits in
     let c = cut g r.reading.fields in
@@ -193,7 +214,8 @@ read_points column limits blob signature points there documents signatures r =
     let w : Well limits r.entries = subst (Well limits) (sym r.reading.made) (well_read limits c.whole h.0 some_point) in
     let some_read : (sums r.entries).has_point ≡ true = ap (λ (es : List Entry). (sums es).has_point) r.reading.made ∙ some_point in
     let small : signature ≤ limits.signatures = w.signature signature r.signature_is in
-    subst (λ (ps : List Point). CanBeWritten signature ps × (signature ≤ limits.signatures) × All (λ p. (1 ≤ p.document) × (p.document ≤ limits.documents)) ps) (sym r.points_are) (
+    subst (λ (ps : List Point). CanBeWritten signature ps × (signature ≤ limits.signatures) × All (λ p. (1 ≤ p.document) × (p.document ≤ limits.documents)) ps)
+    (sym r.points_are) (
       record {
         some = w.some some_read;
         rise = w.rise;

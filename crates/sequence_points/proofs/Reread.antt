@@ -35,16 +35,24 @@ some_point before (hidden o ∷ es) h = refl
 some_point before (visible o l c sl sc ∷ es) h = refl
 
 -- the whole blob, with the points after the header
-whole : (column : ℕ) (limits : PointLimits) (signature : ℕ) (p : Point) (ps : List Point) (bytes : List ℕ) → signature < 536870912 → signature ≤ limits.signatures → IsDocument p.document → p.document ≤ limits.documents
-    → Continued column limits (header signature (row_of column p) ∷ []) bytes (p ∷ ps) → PointsReading column limits ((short_unsigned signature ++ initial_document column (p ∷ ps)) ++ bytes) signature (p ∷ ps) None
+whole : (column : ℕ) (limits : PointLimits) (signature : ℕ) (p : Point) (ps : List Point) (bytes : List ℕ) → signature < 536870912
+    → signature ≤ limits.signatures → IsDocument p.document → p.document ≤ limits.documents
+    → Continued column limits (header signature (row_of column p) ∷ []) bytes (p ∷ ps)
+    → PointsReading column limits ((short_unsigned signature ++ initial_document column (p ∷ ps)) ++ bytes) signature (p ∷ ps) None
 whole zero limits signature p ps bytes small there document document_there rest = record {
   entries = header signature p.document ∷ rest.records;
   reading = subst (λ (bs : List ℕ). Reading (sequence_points 0 limits) bs (header signature p.document ∷ rest.records) None)
-      (ap (λ bs. short_unsigned signature ++ (short_unsigned p.document ++ bs)) rest.bytes_are ∙ sym (append_assoc (short_unsigned signature) (short_unsigned p.document) bytes))
-      (made_read (sequence_points 0 limits) (record { bytes = short_unsigned signature; value = number signature } ∷ record { bytes = short_unsigned p.document; value = number p.document } ∷ rest.fields) (header signature p.document ∷ rest.records)
-      (field_more (sequence_points 0 limits) [] [] unsigned (short_unsigned signature) (number signature) (record { bytes = short_unsigned p.document; value = number p.document } ∷ rest.fields) (header signature p.document ∷ rest.records)
+      (ap (λ bs. short_unsigned signature ++ (short_unsigned p.document ++ bs)) rest.bytes_are
+      ∙ sym (append_assoc (short_unsigned signature) (short_unsigned p.document) bytes))
+      (made_read (sequence_points 0 limits) (record { bytes = short_unsigned signature; value = number signature } ∷ record {
+        bytes = short_unsigned p.document;
+        value = number p.document;
+      } ∷ rest.fields) (header signature p.document ∷ rest.records)
+      (field_more (sequence_points 0 limits) [] [] unsigned (short_unsigned signature) (number signature)
+      (record { bytes = short_unsigned p.document; value = number p.document } ∷ rest.fields) (header signature p.document ∷ rest.records)
       refl (unsigned_spells signature small) (le-true signature limits.signatures there) refl
-      (field_last (sequence_points 0 limits) [] (number signature ∷ []) unsigned (short_unsigned p.document) (number p.document) rest.fields (header signature p.document) rest.records
+      (field_last (sequence_points 0 limits) [] (number signature ∷ []) unsigned (short_unsigned p.document)
+      (number p.document) rest.fields (header signature p.document) rest.records
       refl (unsigned_spells p.document document.1) (row-true limits.documents p.document document.0 document_there) refl rest.made))
       (some_point (header signature p.document ∷ []) rest.records (subst (λ (qs : List Point). qs ≢ []) (sym rest.points_are) (λ e. cc))));
   signature_is = refl;
@@ -54,8 +62,10 @@ whole (suc column) limits signature p ps bytes small there document document_the
   entries = header signature (suc column) ∷ rest.records;
   reading = subst (λ (bs : List ℕ). Reading (sequence_points (suc column) limits) bs (header signature (suc column) ∷ rest.records) None)
       (ap (λ bs. short_unsigned signature ++ bs) rest.bytes_are ∙ sym (append_assoc (short_unsigned signature) [] bytes))
-      (made_read (sequence_points (suc column) limits) (record { bytes = short_unsigned signature; value = number signature } ∷ rest.fields) (header signature (suc column) ∷ rest.records)
-      (field_last (sequence_points (suc column) limits) [] [] unsigned (short_unsigned signature) (number signature) rest.fields (header signature (suc column)) rest.records
+      (made_read (sequence_points (suc column) limits) (record { bytes = short_unsigned signature; value = number signature } ∷ rest.fields)
+      (header signature (suc column) ∷ rest.records)
+      (field_last (sequence_points (suc column) limits) [] [] unsigned (short_unsigned signature)
+      (number signature) rest.fields (header signature (suc column)) rest.records
       refl (unsigned_spells signature small) (le-true signature limits.signatures there) refl rest.made)
       (some_point (header signature (suc column) ∷ []) rest.records (subst (λ (qs : List Point). qs ≢ []) (sym rest.points_are) (λ e. cc))));
   signature_is = refl;
@@ -71,12 +81,14 @@ row_is (suc column) p ps e = by_test (list_all (λ (q : Point). q.document == p.
     by_test true e = sym e
     by_test false e = absurd (omega arith)
 
-pub written_points : (signature : ℕ) (points : List Point) (limits : PointLimits) → CanBeWritten signature points → large_steps [] points ≡ [] → signature ≤ limits.signatures → All (λ p. p.document ≤ limits.documents) points
+pub written_points : (signature : ℕ) (points : List Point) (limits : PointLimits) → CanBeWritten signature points → large_steps [] points ≡ []
+    → signature ≤ limits.signatures → All (λ p. p.document ≤ limits.documents) points
     → PointsReading (common_document points) limits (points_blob signature points) signature points None
 written_points signature [] limits can steps signature_there there = absurd (can.some refl)
 written_points signature (p ∷ ps) limits can steps signature_there there =
     let column = common_document (p ∷ ps) in
     let row = row_of column p in
     let follow = each_follows (p ∷ ps) can.offsets can.documents can.spans can.rise steps in
-    whole column limits signature p ps (points_bytes [] (p ∷ ps)) can.signature_is signature_there (All-head (λ (q : Point). IsDocument q.document) p ps can.documents) (All-head (λ (q : Point). q.document ≤ limits.documents) p ps there)
+    whole column limits signature p ps (points_bytes [] (p ∷ ps)) can.signature_is signature_there
+    (All-head (λ (q : Point). IsDocument q.document) p ps can.documents) (All-head (λ (q : Point). q.document ≤ limits.documents) p ps there)
     (write_points column limits [] (p ∷ ps) (header signature row ∷ []) row (stands_header signature row) (row_is column p ps refl) follow there)

@@ -21,7 +21,8 @@ and-parts false b e = absurd cc
 
 pub all-in_one : (row : ℕ) (points : List Point) → All (λ p. p.document ≡ row) points → in_one row points ≡ true
 all-in_one row [] h = refl
-all-in_one row (p ∷ ps) h = ap (λ b. b && in_one row ps) (eq-true p.document row (All-head (λ (q : Point). q.document ≡ row) p ps h)) ∙ all-in_one row ps (All-tail (λ (q : Point). q.document ≡ row) p ps h)
+all-in_one row (p ∷ ps) h = ap (λ b. b && in_one row ps) (eq-true p.document row (All-head (λ (q : Point). q.document ≡ row) p ps h))
+    ∙ all-in_one row ps (All-tail (λ (q : Point). q.document ≡ row) p ps h)
 
 pub in_one-all : (row : ℕ) (points : List Point) → in_one row points ≡ true → All (λ p. p.document ≡ row) points
 in_one-all row [] e = All-nil (λ (q : Point). q.document ≡ row)

@@ -31,7 +31,8 @@ pub record Stands (entries : List Entry) (last : Option Point) (start : Option S
 pub stands_header : (signature row : ℕ) → Stands (header signature row ∷ []) None None row
 stands_header signature row = record { started = tt; has_point = refl; has_visible = refl; offset = refl; line = refl; column = refl; document_is = refl }
 
-pub stands_document : (es : List Entry) (last : Option Point) (start : Option Start) (document row : ℕ) → Stands es last start document → Stands (es ++ in_document row ∷ []) last start row
+pub stands_document : (es : List Entry) (last : Option Point) (start : Option Start) (document row : ℕ) → Stands es last start document
+    → Stands (es ++ in_document row ∷ []) last start row
 stands_document es last start document row s =
     let push = sums-push es (in_document row) in
     record {
@@ -44,7 +45,8 @@ stands_document es last start document row s =
       document_is = document-push es (in_document row);
     }
 
-pub stands_hidden : (es : List Entry) (last : Option Point) (start : Option Start) (document step : ℕ) (p : Point) → Stands es last start document → last_offset last + step ≡ p.offset → Stands (es ++ hidden step ∷ []) (Some p) start document
+pub stands_hidden : (es : List Entry) (last : Option Point) (start : Option Start) (document step : ℕ) (p : Point) → Stands es last start document
+    → last_offset last + step ≡ p.offset → Stands (es ++ hidden step ∷ []) (Some p) start document
 stands_hidden es last start document step p s o =
     let push = sums-push es (hidden step) in
     record {
@@ -57,8 +59,10 @@ stands_hidden es last start document step p s o =
       document_is = document-push es (hidden step) ∙ s.document_is;
     }
 
-pub stands_visible : (es : List Entry) (last : Option Point) (start : Option Start) (document step lines : ℕ) (columns line column : ℤ) (p : Point) (at : Start) → Stands es last start document → last_offset last + step ≡ p.offset
-    → pos (line_of start) +ℤ line ≡ pos at.line → pos (column_of start) +ℤ column ≡ pos at.column → Stands (es ++ visible step lines columns line column ∷ []) (Some p) (Some at) document
+pub stands_visible : (es : List Entry) (last : Option Point) (start : Option Start) (document step lines : ℕ) (columns line column : ℤ) (p : Point) (at : Start)
+    → Stands es last start document → last_offset last + step ≡ p.offset
+    → pos (line_of start) +ℤ line ≡ pos at.line → pos (column_of start) +ℤ column ≡ pos at.column → Stands (es ++ visible step lines columns line column ∷ [])
+    (Some p) (Some at) document
 stands_visible es last start document step lines columns line column p at s o l k =
     let e = visible step lines columns line column in
     let push = sums-push es e in

@@ -8,7 +8,8 @@ use Rattle.std.proofs.lemmas.Int.{ints}
 use Rattle.blob_grammar.specs.Grammar.{Value}
 use Rattle.blob_grammar.proofs.Steps.{Alike}
 use Rattle.sequence_points.specs.declared.point.PointLimits.{PointLimits}
-use Rattle.sequence_points.specs.Records.{Entry, is_point, is_visible, offset_of, start_line_of, start_column_of, int_sum_by, Sums, sums, point_form, point_allows, point_of_fields, form, allows, record_of, may_stop, sequence_points}
+use Rattle.sequence_points.specs.Records.{Entry, is_point, is_visible, offset_of, start_line_of, start_column_of, int_sum_by, Sums, sums}
+use Rattle.sequence_points.specs.Records.{point_form, point_allows, point_of_fields, form, allows, record_of, may_stop, sequence_points}
 use Rattle.sequence_points.specs.Points.{named_document, last_or, document_after}
 
 -- records were read
@@ -39,17 +40,21 @@ add_sums s e = record {
 pub same_five : (a b c d : Bool) (m n : ℕ) (x y z w : ℤ) → a ≡ b → c ≡ d → m ≡ n → x ≡ y → z ≡ w
     → let one : Sums = record { has_point = a; has_visible = c; offset = m; line = x; column = z } in
     let two : Sums = record { has_point = b; has_visible = d; offset = n; line = y; column = w } in one ≡ two
-same_five a b c d m n x y z w p q r s t = ap (λ (v : Bool × Bool × ℕ × ℤ × ℤ). let one : Sums = record { has_point = v.0; has_visible = v.1; offset = v.2; line = v.3; column = v.4 } in one) (let e : (a, c, m, x, z) ≡ (b, d, n, y, w) = cc in e)
+same_five a b c d m n x y z w p q r s t =
+    ap (λ (v : Bool × Bool × ℕ × ℤ × ℤ). let one : Sums = record { has_point = v.0; has_visible = v.1; offset = v.2; line = v.3; column = v.4 } in one)
+    (let e : (a, c, m, x, z) ≡ (b, d, n, y, w) = cc in e)
 
 pub sums-push : (es : List Entry) (e : Entry) → sums (es ++ e ∷ []) ≡ add_sums (sums es) e
-sums-push es e = same_five _ _ _ _ _ _ _ _ _ _ (list_any-append is_point es (e ∷ [])) (list_any-append is_visible es (e ∷ [])) (sum_by-append offset_of es (e ∷ [])) (int_sum_by-push start_line_of es e) (int_sum_by-push start_column_of es e)
+sums-push es e = same_five _ _ _ _ _ _ _ _ _ _ (list_any-append is_point es (e ∷ [])) (list_any-append is_visible es (e ∷ []))
+    (sum_by-append offset_of es (e ∷ [])) (int_sum_by-push start_line_of es e) (int_sum_by-push start_column_of es e)
 
 pub last_or-append : (other : ℕ) (xs ys : List ℕ) → last_or other (xs ++ ys) ≡ last_or (last_or other xs) ys
 last_or-append other [] ys = refl
 last_or-append other (x ∷ xs) ys = last_or-append x xs ys
 
 pub document-push : (es : List Entry) (e : Entry) → document_after (es ++ e ∷ []) ≡ last_or (document_after es) (named_document e ++ [])
-document-push es e = ap (last_or 0) (flat_map-append named_document es (e ∷ [])) ∙ last_or-append 0 (flat_map named_document es) (flat_map named_document (e ∷ []))
+document-push es e =
+    ap (last_or 0) (flat_map-append named_document es (e ∷ [])) ∙ last_or-append 0 (flat_map named_document es) (flat_map named_document (e ∷ []))
 
 pub started-push : (es : List Entry) (e : Entry) → IsStarted (es ++ e ∷ [])
 started-push [] e = tt

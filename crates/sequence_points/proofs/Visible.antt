@@ -28,7 +28,11 @@ pub record IntThere (r : Result (Value × ℕ) Code) (z : ℤ) (len : ℕ) : Typ
 pub int_there : (at : ℕ) (r : Result (Value × ℕ) Code) (z : ℤ) (len : ℕ) → int_placed at r ≡ Ok (z, len) → IntThere r z len
 int_there at (Ok x) z len e =
     let p : (int_of x.0, x.1) ≡ (z, len) = cc in
-    record { value = x.0; found = ap (λ (n : ℕ). let o : Result (Value × ℕ) Code = Ok (x.0, n) in o) (ap (λ (q : ℤ × ℕ). q.1) p); is = ap (λ (q : ℤ × ℕ). q.0) p }
+    record {
+      value = x.0;
+      found = ap (λ (n : ℕ). let o : Result (Value × ℕ) Code = Ok (x.0, n) in o) (ap (λ (q : ℤ × ℕ). q.1) p);
+      is = ap (λ (q : ℤ × ℕ). q.0) p;
+    }
 int_there at (Err c) z len e = absurd cc
 
 pub record IntNotThere (at : ℕ) (r : Result (Value × ℕ) Code) (fault : BlobFault) : Type 0 where
@@ -46,7 +50,8 @@ start_by b = if b then signed else unsigned
 abbrev S : Place → Sums
 S place = sums (entries_of place)
 
-read_by : (place : Place) (blob : List ℕ) (at : ℕ) (b : Bool) (r : Result (ℤ × ℕ) BlobFault) → b ≡ (S place).has_visible → int_placed at (field_at (start_by b) (drop at blob)) ≡ r → int_placed at (field_at (start_form (S place)) (drop at blob)) ≡ r
+read_by : (place : Place) (blob : List ℕ) (at : ℕ) (b : Bool) (r : Result (ℤ × ℕ) BlobFault) → b ≡ (S place).has_visible
+    → int_placed at (field_at (start_by b) (drop at blob)) ≡ r → int_placed at (field_at (start_form (S place)) (drop at blob)) ≡ r
 read_by place blob at b r e h = ap (λ x. int_placed at (field_at (start_by x) (drop at blob))) (sym e) ∙ h
 
 -- ---- StartLine
@@ -58,7 +63,9 @@ no_line limits blob place s l c at b fault e h =
     at-none limits blob place s (l ∷ c ∷ []) at (start_form (S place)) n.code refl n.none ∙ ap (λ f. no_points (Some f)) (sym n.fault_is)
 
 -- a range of the sums
-passes : (fits : ℤ → Bool) (sum z more : ℤ) (base : ℕ) (v : Value) → sum ≡ pos base → int_of v ≡ z → (sum +ℤ int_of v ≡ pos base +ℤ z) × ((fits (sum +ℤ int_of v) && fits ((sum +ℤ int_of v) +ℤ more)) ≡ (fits (pos base +ℤ z) && fits ((pos base +ℤ z) +ℤ more)))
+passes : (fits : ℤ → Bool) (sum z more : ℤ) (base : ℕ) (v : Value) → sum ≡ pos base → int_of v ≡ z
+    → (sum +ℤ int_of v ≡ pos base +ℤ z) × ((fits (sum +ℤ int_of v) && fits ((sum +ℤ int_of v) +ℤ more)) ≡ (fits (pos base +ℤ z)
+    && fits ((pos base +ℤ z) +ℤ more)))
 passes fits sum z more base v p q =
     let t : sum +ℤ int_of v ≡ pos base +ℤ z = ap (λ a. a +ℤ int_of v) p ∙ ap (λ a. pos base +ℤ a) q in
     (t, ap (λ x. fits x && fits (x +ℤ more)) t)
@@ -68,7 +75,8 @@ pub line_out : (limits : PointLimits) (blob : List ℕ) (place : Place) (s c : V
     → points_at limits blob place (s ∷ number lines ∷ c ∷ []) at ≡ no_points (Some (record { code = ValueRange; byte = at }))
 line_out limits blob place s c lines at b z len base e h base_is out =
     let v = int_there at (field_at (start_form (S place)) (drop at blob)) z len (read_by place blob at b (Ok (z, len)) e h) in
-    at-out limits blob place (s ∷ number lines ∷ c ∷ []) at (start_form (S place)) v.value len refl v.found ((passes is_line (S place).line z (pos lines) base v.value base_is v.is).1 ∙ out)
+    at-out limits blob place (s ∷ number lines ∷ c ∷ []) at (start_form (S place)) v.value len refl v.found
+    ((passes is_line (S place).line z (pos lines) base v.value base_is v.is).1 ∙ out)
 
 pub record LineIs (limits : PointLimits) (blob : List ℕ) (place : Place) (s c : Value) (lines at len first last : ℕ) : Type 0 where
   pub value : Value
@@ -76,8 +84,10 @@ pub record LineIs (limits : PointLimits) (blob : List ℕ) (place : Place) (s c 
   pub first_is : (S place).line +ℤ int_of value ≡ pos first
   pub last_is : ((S place).line +ℤ int_of value) +ℤ pos lines ≡ pos last
 
-pub line_in : (limits : PointLimits) (blob : List ℕ) (place : Place) (s c : Value) (lines at : ℕ) (b : Bool) (z : ℤ) (len base first last : ℕ) → b ≡ (S place).has_visible
-    → int_placed at (field_at (start_by b) (drop at blob)) ≡ Ok (z, len) → (S place).line ≡ pos base → RangeIs is_line (pos base +ℤ z) (pos lines) (Some (first, last))
+pub line_in : (limits : PointLimits) (blob : List ℕ) (place : Place) (s c : Value) (lines at : ℕ) (b : Bool) (z : ℤ) (len base first last : ℕ)
+    → b ≡ (S place).has_visible
+    → int_placed at (field_at (start_by b) (drop at blob)) ≡ Ok (z, len) → (S place).line ≡ pos base → RangeIs is_line (pos base +ℤ z) (pos lines)
+    (Some (first, last))
     → LineIs limits blob place s c lines at len first last
 line_in limits blob place s c lines at b z len base first last e h base_is inside =
     let v = int_there at (field_at (start_form (S place)) (drop at blob)) z len (read_by place blob at b (Ok (z, len)) e h) in
@@ -97,34 +107,49 @@ no_column limits blob place s l c line at b fault e h =
     let n = int_not_there at (field_at (start_form (S place)) (drop at blob)) fault (read_by place blob at b (Err fault) e h) in
     at-none limits blob place s (l ∷ c ∷ line ∷ []) at (start_form (S place)) n.code refl n.none ∙ ap (λ f. no_points (Some f)) (sym n.fault_is)
 
-pub column_out : (limits : PointLimits) (blob : List ℕ) (place : Place) (s l c line : Value) (columns : ℤ) (at : ℕ) (b : Bool) (z : ℤ) (len base : ℕ) → b ≡ (S place).has_visible → int_of c ≡ columns
+pub column_out : (limits : PointLimits) (blob : List ℕ) (place : Place) (s l c line : Value) (columns : ℤ) (at : ℕ) (b : Bool) (z : ℤ) (len base : ℕ)
+    → b ≡ (S place).has_visible → int_of c ≡ columns
     → int_placed at (field_at (start_by b) (drop at blob)) ≡ Ok (z, len) → (S place).column ≡ pos base → RangeIs is_column (pos base +ℤ z) columns None
     → points_at limits blob place (s ∷ l ∷ c ∷ line ∷ []) at ≡ no_points (Some (record { code = ValueRange; byte = at }))
 column_out limits blob place s l c line columns at b z len base e k h base_is out =
     let v = int_there at (field_at (start_form (S place)) (drop at blob)) z len (read_by place blob at b (Ok (z, len)) e h) in
     at-out limits blob place (s ∷ l ∷ c ∷ line ∷ []) at (start_form (S place)) v.value len refl v.found
-    ((passes is_column (S place).column z (int_of c) base v.value base_is v.is).1 ∙ ap (λ x. is_column (pos base +ℤ z) && is_column ((pos base +ℤ z) +ℤ x)) k ∙ out)
+    ((passes is_column (S place).column z (int_of c) base v.value base_is v.is).1 ∙ ap (λ x. is_column (pos base +ℤ z) && is_column ((pos base +ℤ z) +ℤ x)) k
+    ∙ out)
 
 -- the point
-pub point_in : (limits : PointLimits) (blob : List ℕ) (place : Place) (step lines : ℕ) (c line : Value) (columns : ℤ) (at : ℕ) (b : Bool) (z : ℤ) (len base offset start_line end_line start_column end_column : ℕ)
+pub point_in : (limits : PointLimits) (blob : List ℕ) (place : Place) (step lines : ℕ) (c line : Value) (columns : ℤ) (at : ℕ) (b : Bool) (z : ℤ)
+    (len base offset start_line end_line start_column end_column : ℕ)
     → b ≡ (S place).has_visible → int_of c ≡ columns
-    → int_placed at (field_at (start_by b) (drop at blob)) ≡ Ok (z, len) → (S place).column ≡ pos base → RangeIs is_column (pos base +ℤ z) columns (Some (start_column, end_column))
+    → int_placed at (field_at (start_by b) (drop at blob)) ≡ Ok (z, len) → (S place).column ≡ pos base
+    → RangeIs is_column (pos base +ℤ z) columns (Some (start_column, end_column))
     → (S place).line +ℤ int_of line ≡ pos start_line → ((S place).line +ℤ int_of line) +ℤ pos lines ≡ pos end_line → offset ≡ (S place).offset + step
     → points_at limits blob place (number step ∷ number lines ∷ c ∷ line ∷ []) at
     ≡ push (record { offset = offset; document = place.document; span = Lines start_line start_column end_line end_column })
     (points_left limits blob (place_after (at + len) place.document offset (Some (record { line = start_line; column = start_column }))))
-point_in limits blob place step lines c line columns at b z len base offset start_line end_line start_column end_column e k h base_is inside first last offset_is =
+point_in limits blob place step lines c line columns at b z len base offset start_line end_line start_column end_column e k h base_is inside first last
+    offset_is =
     let v = int_there at (field_at (start_form (S place)) (drop at blob)) z len (read_by place blob at b (Ok (z, len)) e h) in
     let p = passes is_column (S place).column z (int_of c) base v.value base_is v.is in
     let first_column : (S place).column +ℤ int_of v.value ≡ pos start_column = p.0 ∙ inside.1 in
-    let last_column : ((S place).column +ℤ int_of v.value) +ℤ int_of c ≡ pos end_column = ap (λ x. x +ℤ int_of c) p.0 ∙ ap (λ x. (pos base +ℤ z) +ℤ x) k ∙ inside.2 in
+    let last_column : ((S place).column +ℤ int_of v.value) +ℤ int_of c ≡ pos end_column =
+    ap (λ x. x +ℤ int_of c) p.0 ∙ ap (λ x. (pos base +ℤ z) +ℤ x) k ∙ inside.2 in
     let entry = visible step lines (int_of c) (int_of line) (int_of v.value) in
     let next = place_after (at + len) place.document offset (Some (record { line = start_line; column = start_column })) in
     at-record limits blob place (number step ∷ number lines ∷ c ∷ line ∷ []) at (start_form (S place)) v.value len entry next refl v.found
     (p.1 ∙ ap (λ x. is_column (pos base +ℤ z) && is_column ((pos base +ℤ z) +ℤ x)) k ∙ inside.0) refl refl
     (same-visible place (at + len) step lines (int_of c) (int_of line) (int_of v.value) offset start_line start_column offset_is first first_column)
-    ∙ ap (λ (q : ℕ × ℕ × ℤ × ℤ × ℤ × ℤ). with_point (Some (record { offset = q.0; document = q.1; span = Lines (unsigned_abs q.2) (unsigned_abs q.3) (unsigned_abs q.4) (unsigned_abs q.5) })) (points_left limits blob next))
-    (let all : ((S place).offset + step, document_after (entries_of place), (S place).line +ℤ int_of line, (S place).column +ℤ int_of v.value, ((S place).line +ℤ int_of line) +ℤ pos lines, ((S place).column +ℤ int_of v.value) +ℤ int_of c)
+    ∙ ap (λ (q : ℕ × ℕ × ℤ × ℤ × ℤ × ℤ). with_point
+    (Some (record { offset = q.0; document = q.1; span = Lines (unsigned_abs q.2) (unsigned_abs q.3) (unsigned_abs q.4) (unsigned_abs q.5) }))
+    (points_left limits blob next))
+    (let all : (
+      (S place).offset + step,
+      document_after (entries_of place),
+      (S place).line +ℤ int_of line,
+      (S place).column +ℤ int_of v.value,
+      ((S place).line +ℤ int_of line) +ℤ pos lines,
+      ((S place).column +ℤ int_of v.value) +ℤ int_of c,
+    )
     ≡ (offset, place.document, pos start_line, pos start_column, pos end_line, pos end_column)
     = (let o : (S place).offset + step ≡ offset = sym offset_is in let d : document_after (entries_of place) ≡ place.document = document-at place in cc) in all)
 

@@ -1,5 +1,6 @@
 -- What holds of the records that were read, and of the points that they make; one more record keeps it.
-use Rattle.std.proofs.Common.{◌≡◌, ◌≢◌, ℕ, zero, suc, ◌+◌, ◌<◌, ◌≤◌, Bool, true, false, List, [], ◌∷◌, ◌++◌, Some, ℤ, pos, negsuc, ◌+ℤ◌, refl, sym, ap, subst, ◌∙◌, append_assoc, append-nil, arith, inl, inr}
+use Rattle.std.proofs.Common.{◌≡◌, ◌≢◌, ℕ, zero, suc, ◌+◌, ◌<◌, ◌≤◌, Bool, true, false, List, [], ◌∷◌, ◌++◌, Some, ℤ, pos, negsuc, ◌+ℤ◌}
+use Rattle.std.proofs.Common.{refl, sym, ap, subst, ◌∙◌, append_assoc, append-nil, arith, inl, inr}
 use Rattle.std.specs.Prelude.{All, AllPairs, unsigned_abs, ◌<ℤ◌, nat_lt, not, ◌==◌}
 use Rattle.std.specs.Option.{option_to_list}
 use Rattle.std.proofs.lemmas.Int.{ints}
@@ -36,10 +37,12 @@ pub record Well (limits : PointLimits) (es : List Entry) : Type 0 where
 
 -- ---- lists
 
-pub points-push : (before es : List Entry) (e : Entry) → points_after before (es ++ e ∷ []) ≡ points_after before es ++ option_to_list (point_of (before ++ es) e)
+pub points-push : (before es : List Entry) (e : Entry) → points_after before (es ++ e ∷ []) ≡ points_after before es
+    ++ option_to_list (point_of (before ++ es) e)
 points-push before [] e = append-nil (option_to_list (point_of before e)) ∙ ap (λ b. option_to_list (point_of b e)) (sym (append-nil before))
 points-push before (x ∷ es) e =
-    ap (λ ps. option_to_list (point_of before x) ++ ps) (points-push (before ++ x ∷ []) es e ∙ ap (λ b. points_after (before ++ x ∷ []) es ++ option_to_list (point_of b e)) (append_assoc before (x ∷ []) es))
+    ap (λ ps. option_to_list (point_of before x) ++ ps) (points-push (before ++ x ∷ []) es e
+    ∙ ap (λ b. points_after (before ++ x ∷ []) es ++ option_to_list (point_of b e)) (append_assoc before (x ∷ []) es))
     ∙ sym (append_assoc (option_to_list (point_of before x)) (points_after (before ++ x ∷ []) es) (option_to_list (point_of (before ++ x ∷ es) e)))
 
 AllPairs-push : {X : Type 0} (R : X → X → Type 0) (xs : List X) (x : X) → AllPairs R xs → All (λ y. R y x) xs → AllPairs R (xs ++ x ∷ [])
@@ -88,28 +91,34 @@ well_document limits es row w there =
       offsets = subst (All (λ (p : Point). IsOffset p.offset)) (sym same) w.offsets;
       documents = subst (All (λ (p : Point). IsThere limits p.document)) (sym same) w.documents;
       spans = subst (All (λ (p : Point). IsSpan p.span)) (sym same) w.spans;
-      above = subst (All (λ (p : Point). p.offset ≤ (sums (es ++ e ∷ [])).offset)) (sym same) (subst (λ (n : ℕ). All (λ (p : Point). p.offset ≤ n) (points_after [] es)) (sym offset) w.above);
+      above = subst (All (λ (p : Point). p.offset ≤ (sums (es ++ e ∷ [])).offset)) (sym same)
+          (subst (λ (n : ℕ). All (λ (p : Point). p.offset ≤ n) (points_after [] es)) (sym offset) w.above);
       none = λ h. same ∙ w.none (sym has ∙ h);
       some = λ h k. w.some (sym has ∙ h) (sym same ∙ k);
       document = subst (IsThere limits) (sym (document-push es e)) there;
       signature = λ n h. w.signature n (sym (signature-push es e w.started) ∙ h);
     }
 
-all_below : (limits : PointLimits) (es : List Entry) (offset : ℕ) (b : Bool) → Well limits es → (sums es).has_point ≡ b → ((sums es).has_point ≡ true → (sums es).offset < offset) → All (λ (q : Point). q.offset < offset) (points_after [] es)
+all_below : (limits : PointLimits) (es : List Entry) (offset : ℕ) (b : Bool) → Well limits es → (sums es).has_point ≡ b
+    → ((sums es).has_point ≡ true → (sums es).offset < offset) → All (λ (q : Point). q.offset < offset) (points_after [] es)
 all_below limits es offset true w has rises = λ k d within. let low = w.above k d within in let high = rises has in omega arith
 all_below limits es offset false w has rises = subst (All (λ (q : Point). q.offset < offset)) (sym (w.none has)) (All-nil (λ (q : Point). q.offset < offset))
 
 -- A record that makes a point.
-pub well_point : (limits : PointLimits) (es : List Entry) (e : Entry) (p : Point) → Well limits es → point_of es e ≡ Some p → (sums (es ++ e ∷ [])).has_point ≡ true → (sums (es ++ e ∷ [])).offset ≡ p.offset
-    → document_after (es ++ e ∷ []) ≡ document_after es → p.document ≡ document_after es → (sums es).offset ≤ p.offset → ((sums es).has_point ≡ true → (sums es).offset < p.offset) → IsOffset p.offset → IsSpan p.span → Well limits (es ++ e ∷ [])
+pub well_point : (limits : PointLimits) (es : List Entry) (e : Entry) (p : Point) → Well limits es → point_of es e ≡ Some p
+    → (sums (es ++ e ∷ [])).has_point ≡ true → (sums (es ++ e ∷ [])).offset ≡ p.offset
+    → document_after (es ++ e ∷ []) ≡ document_after es → p.document ≡ document_after es → (sums es).offset ≤ p.offset
+    → ((sums es).has_point ≡ true → (sums es).offset < p.offset) → IsOffset p.offset → IsSpan p.span → Well limits (es ++ e ∷ [])
 well_point limits es e p w is has offset document_same document at_least rises small span =
     let ps = points_after [] es in
     let same : points_after [] (es ++ e ∷ []) ≡ ps ++ p ∷ [] = points-push [] es e ∙ ap (λ o. ps ++ option_to_list o) is in
     record {
       started = started-push es e;
-      rise = subst (AllPairs (λ (q r : Point). q.offset < r.offset)) (sym same) (AllPairs-push (λ (q r : Point). q.offset < r.offset) ps p w.rise (all_below limits es p.offset (sums es).has_point w refl rises));
+      rise = subst (AllPairs (λ (q r : Point). q.offset < r.offset)) (sym same)
+          (AllPairs-push (λ (q r : Point). q.offset < r.offset) ps p w.rise (all_below limits es p.offset (sums es).has_point w refl rises));
       offsets = subst (All (λ (q : Point). IsOffset q.offset)) (sym same) (All-push (λ (q : Point). IsOffset q.offset) ps p w.offsets small);
-      documents = subst (All (λ (q : Point). IsThere limits q.document)) (sym same) (All-push (λ (q : Point). IsThere limits q.document) ps p w.documents (subst (IsThere limits) (sym document) w.document));
+      documents = subst (All (λ (q : Point). IsThere limits q.document)) (sym same)
+          (All-push (λ (q : Point). IsThere limits q.document) ps p w.documents (subst (IsThere limits) (sym document) w.document));
       spans = subst (All (λ (q : Point). IsSpan q.span)) (sym same) (All-push (λ (q : Point). IsSpan q.span) ps p w.spans span);
       above = subst (All (λ (q : Point). q.offset ≤ (sums (es ++ e ∷ [])).offset)) (sym same)
           (subst (λ (n : ℕ). All (λ (q : Point). q.offset ≤ n) (ps ++ p ∷ [])) (sym offset)
@@ -122,11 +131,13 @@ well_point limits es e p w is has offset document_same document at_least rises s
 
 -- ---- points
 
-pub well_hidden : (limits : PointLimits) (es : List Entry) (step : ℕ) → Well limits es → (sums es).offset + step < 536870912 → ((sums es).has_point ≡ true → 0 < step) → Well limits (es ++ hidden step ∷ [])
+pub well_hidden : (limits : PointLimits) (es : List Entry) (step : ℕ) → Well limits es → (sums es).offset + step < 536870912
+    → ((sums es).has_point ≡ true → 0 < step) → Well limits (es ++ hidden step ∷ [])
 well_hidden limits es step w small rises =
     let e = hidden step in
     let push = sums-push es e in
-    well_point limits es e (record { offset = (sums es).offset + step; document = document_after es; span = Hidden }) w refl (ap (λ (x : Sums). x.has_point) push ∙ or-true (sums es).has_point)
+    well_point limits es e (record { offset = (sums es).offset + step; document = document_after es; span = Hidden }) w refl
+    (ap (λ (x : Sums). x.has_point) push ∙ or-true (sums es).has_point)
     (ap (λ (x : Sums). x.offset) push ∙ omega arith) (document-push es e) refl (omega arith) (λ h. let more = rises h in omega arith) small tt
 
 line_read : (n : ℕ) → is_line (pos n) ≡ true → IsLine n
@@ -138,23 +149,33 @@ column_read : (n : ℕ) → is_column (pos n) ≡ true → IsColumn n
 column_read n h = ltb-true n 65536 h
 
 -- a span by the numbers of its start and its end
-pub span_read : (a b c d : ℤ) (lines : ℕ) (columns : ℤ) → a +ℤ pos lines ≡ c → b +ℤ columns ≡ d → is_line a ≡ true → is_column b ≡ true → is_line c ≡ true → is_column d ≡ true → (lines ≡ 0 → pos 0 <ℤ columns)
+pub span_read : (a b c d : ℤ) (lines : ℕ) (columns : ℤ) → a +ℤ pos lines ≡ c → b +ℤ columns ≡ d → is_line a ≡ true → is_column b ≡ true → is_line c ≡ true
+    → is_column d ≡ true → (lines ≡ 0 → pos 0 <ℤ columns)
     → IsSpan (Lines (unsigned_abs a) (unsigned_abs b) (unsigned_abs c) (unsigned_abs d))
 span_read (pos a) (pos b) (pos c) (pos d) zero columns la ld ha hb hc hd wide =
     (line_read a ha, column_read b hb, line_read c hc, column_read d hd, inr ((omega (arith, ints)), (let more = wide refl in omega (arith, ints))))
-span_read (pos a) (pos b) (pos c) (pos d) (suc lines) columns la ld ha hb hc hd wide = (line_read a ha, column_read b hb, line_read c hc, column_read d hd, inl (omega (arith, ints)))
+span_read (pos a) (pos b) (pos c) (pos d) (suc lines) columns la ld ha hb hc hd wide =
+    (line_read a ha, column_read b hb, line_read c hc, column_read d hd, inl (omega (arith, ints)))
 span_read (negsuc a) b c d lines columns la ld ha hb hc hd wide = absurd cc
 span_read (pos a) (negsuc b) c d lines columns la ld ha hb hc hd wide = absurd cc
 span_read (pos a) (pos b) (negsuc c) d lines columns la ld ha hb hc hd wide = absurd cc
 span_read (pos a) (pos b) (pos c) (negsuc d) lines columns la ld ha hb hc hd wide = absurd cc
 
-pub well_visible : (limits : PointLimits) (es : List Entry) (step lines : ℕ) (columns line column : ℤ) → Well limits es → (sums es).offset + step < 536870912 → ((sums es).has_point ≡ true → 0 < step)
-    → let s = sums es in IsSpan (Lines (unsigned_abs (s.line +ℤ line)) (unsigned_abs (s.column +ℤ column)) (unsigned_abs ((s.line +ℤ line) +ℤ pos lines)) (unsigned_abs ((s.column +ℤ column) +ℤ columns)))
+pub well_visible : (limits : PointLimits) (es : List Entry) (step lines : ℕ) (columns line column : ℤ) → Well limits es → (sums es).offset + step < 536870912
+    → ((sums es).has_point ≡ true → 0 < step)
+    → let s = sums es in IsSpan (Lines (unsigned_abs (s.line +ℤ line)) (unsigned_abs (s.column +ℤ column)) (unsigned_abs ((s.line +ℤ line) +ℤ pos lines))
+    (unsigned_abs ((s.column +ℤ column) +ℤ columns)))
     → Well limits (es ++ visible step lines columns line column ∷ [])
 well_visible limits es step lines columns line column w small rises span =
     let e = visible step lines columns line column in
     let push = sums-push es e in
     let s = sums es in
     well_point limits es e
-    (record { offset = s.offset + step; document = document_after es; span = Lines (unsigned_abs (s.line +ℤ line)) (unsigned_abs (s.column +ℤ column)) (unsigned_abs ((s.line +ℤ line) +ℤ pos lines)) (unsigned_abs ((s.column +ℤ column) +ℤ columns)) })
-    w refl (ap (λ (x : Sums). x.has_point) push ∙ or-true s.has_point) (ap (λ (x : Sums). x.offset) push ∙ omega arith) (document-push es e) refl (omega arith) (λ h. let more = rises h in omega arith) small span
+    (record {
+      offset = s.offset + step;
+      document = document_after es;
+      span = Lines (unsigned_abs (s.line +ℤ line)) (unsigned_abs (s.column +ℤ column))
+          (unsigned_abs ((s.line +ℤ line) +ℤ pos lines)) (unsigned_abs ((s.column +ℤ column) +ℤ columns));
+    })
+    w refl (ap (λ (x : Sums). x.has_point) push ∙ or-true s.has_point) (ap (λ (x : Sums). x.offset) push ∙ omega arith) (document-push es e) refl (omega arith)
+    (λ h. let more = rises h in omega arith) small span

@@ -15,9 +15,15 @@ pub record AreRanged (points : List Point) : Type 0 where
   pub spans : All (λ p. IsSpan p.span) points
 
 pub no_points : AreRanged []
-no_points = record { rise = λ i j d less within. absurd (omega arith); offsets = All-nil (λ (p : Point). IsOffset p.offset); documents = All-nil (λ (p : Point). IsDocument p.document); spans = All-nil (λ (p : Point). IsSpan p.span) }
+no_points = record {
+  rise = λ i j d less within. absurd (omega arith);
+  offsets = All-nil (λ (p : Point). IsOffset p.offset);
+  documents = All-nil (λ (p : Point). IsDocument p.document);
+  spans = All-nil (λ (p : Point). IsSpan p.span);
+}
 
-pub one_more : (p : Point) (ps : List Point) → IsOffset p.offset → IsDocument p.document → IsSpan p.span → All (λ q. p.offset < q.offset) ps → AreRanged ps → AreRanged (p ∷ ps)
+pub one_more : (p : Point) (ps : List Point) → IsOffset p.offset → IsDocument p.document → IsSpan p.span → All (λ q. p.offset < q.offset) ps → AreRanged ps
+    → AreRanged (p ∷ ps)
 one_more p ps offset document span above r = record {
   rise = AllPairs-cons (λ (p q : Point). p.offset < q.offset) p ps above r.rise;
   offsets = All-cons (λ (q : Point). IsOffset q.offset) p ps offset r.offsets;
@@ -53,22 +59,28 @@ pub two_points : CanBeWritten 0 (seen 0 1 10 70 10 74 ∷ seen 3 1 11 6 11 7 ∷
 two_points =
     let p = seen 0 1 10 70 10 74 in
     let q = seen 3 1 11 6 11 7 in
-    can_write 0 p (q ∷ []) (omega arith) (one_more p (q ∷ []) (omega arith) (omega arith, omega arith) (one_line 10 70 74 (omega arith) (λ e. omega arith) (omega arith) (omega arith)) (above_more p q [] (omega arith) (above_none p))
-    (one_more q [] (omega arith) (omega arith, omega arith) (one_line 11 6 7 (omega arith) (λ e. omega arith) (omega arith) (omega arith)) (above_none q) no_points))
+    can_write 0 p (q ∷ []) (omega arith) (one_more p (q ∷ []) (omega arith) (omega arith, omega arith)
+    (one_line 10 70 74 (omega arith) (λ e. omega arith) (omega arith) (omega arith)) (above_more p q [] (omega arith) (above_none p))
+    (one_more q [] (omega arith) (omega arith, omega arith) (one_line 11 6 7 (omega arith) (λ e. omega arith) (omega arith) (omega arith))
+    (above_none q) no_points))
 
 pub a_large_step : CanBeWritten 0 (seen 0 1 1 1 1 2 ∷ seen 2 1 0x1ffffff0 1 0x1ffffff0 2 ∷ [])
 a_large_step =
     let p = seen 0 1 1 1 1 2 in
     let q = seen 2 1 0x1ffffff0 1 0x1ffffff0 2 in
-    can_write 0 p (q ∷ []) (omega arith) (one_more p (q ∷ []) (omega arith) (omega arith, omega arith) (one_line 1 1 2 (omega arith) (λ e. omega arith) (omega arith) (omega arith)) (above_more p q [] (omega arith) (above_none p))
-    (one_more q [] (omega arith) (omega arith, omega arith) (one_line 0x1ffffff0 1 2 (omega arith) (λ e. omega arith) (omega arith) (omega arith)) (above_none q) no_points))
+    can_write 0 p (q ∷ []) (omega arith) (one_more p (q ∷ []) (omega arith) (omega arith, omega arith)
+    (one_line 1 1 2 (omega arith) (λ e. omega arith) (omega arith) (omega arith)) (above_more p q [] (omega arith) (above_none p))
+    (one_more q [] (omega arith) (omega arith, omega arith) (one_line 0x1ffffff0 1 2 (omega arith) (λ e. omega arith) (omega arith) (omega arith))
+    (above_none q) no_points))
 
 pub several_documents : CanBeWritten 2 (seen 0 1 5 1 5 2 ∷ unseen 1 3 ∷ seen 2 3 4 9 7 2 ∷ [])
 several_documents =
     let p = seen 0 1 5 1 5 2 in
     let h = unseen 1 3 in
     let q = seen 2 3 4 9 7 2 in
-    can_write 2 p (h ∷ q ∷ []) (omega arith) (one_more p (h ∷ q ∷ []) (omega arith) (omega arith, omega arith) (one_line 5 1 2 (omega arith) (λ e. omega arith) (omega arith) (omega arith))
+    can_write 2 p (h ∷ q ∷ []) (omega arith)
+    (one_more p (h ∷ q ∷ []) (omega arith) (omega arith, omega arith) (one_line 5 1 2 (omega arith) (λ e. omega arith) (omega arith) (omega arith))
     (above_more p h (q ∷ []) (omega arith) (above_more p q [] (omega arith) (above_none p)))
     (one_more h (q ∷ []) (omega arith) (omega arith, omega arith) tt (above_more h q [] (omega arith) (above_none h))
-    (one_more q [] (omega arith) (omega arith, omega arith) (small_span 4 9 7 2 (omega arith) (omega arith) (omega arith) (omega arith) (omega arith)) (above_none q) no_points)))
+    (one_more q [] (omega arith) (omega arith, omega arith) (small_span 4 9 7 2 (omega arith) (omega arith) (omega arith) (omega arith) (omega arith))
+    (above_none q) no_points)))

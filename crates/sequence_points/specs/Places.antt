@@ -84,7 +84,8 @@ OffsetIs limits blob start (Err fault) = points_left limits blob start ≡ no_po
 -- A reading of the row of a document record.
 abbrev pub DocumentIs : PointLimits → List ℕ → Place → ℕ → Result Place BlobFault → Type 0
 DocumentIs limits blob place at (Ok next) =
-    (points_at limits blob place (number 0 ∷ []) at ≡ points_left limits blob next) × (at ≤ next.at) × (next.at ≤ length blob) × (sums (entries_of next) ≡ sums (entries_of place))
+    (points_at limits blob place (number 0 ∷ []) at ≡ points_left limits blob next) × (at ≤ next.at) × (next.at ≤ length blob)
+    × (sums (entries_of next) ≡ sums (entries_of place))
 DocumentIs limits blob place at (Err fault) = points_at limits blob place (number 0 ∷ []) at ≡ no_points (Some fault)
 
 -- the place after a document record
@@ -94,13 +95,15 @@ in_document_at place at row = record { at = at; document = row; last = place.las
 -- what is left of the records after the LocalSignature of the header
 abbrev pub after_signature : ℕ → PointLimits → List ℕ → ℕ → ℕ → Left Entry
 after_signature column limits blob at signature =
-    close_and (λ whole begun. read_from (sequence_points column limits) whole begun at (drop at blob)) [] (number signature ∷ []) (header_of column (number signature ∷ []))
+    close_and (λ whole begun. read_from (sequence_points column limits) whole begun at (drop at blob)) [] (number signature ∷ [])
+    (header_of column (number signature ∷ []))
 
 -- A reading of the rest of the header: the place after it, or the fault.
 abbrev pub HeaderIs : ℕ → PointLimits → List ℕ → ℕ → Result Place BlobFault → Type 0
 HeaderIs column limits blob at (Ok place) =
     ((signature : ℕ) → after_signature column limits blob at signature
-    ≡ push (header signature place.document) (read_from (sequence_points column limits) (header signature place.document ∷ []) [] place.at (drop place.at blob)))
+    ≡ push (header signature place.document)
+    (read_from (sequence_points column limits) (header signature place.document ∷ []) [] place.at (drop place.at blob)))
     × (place.last ≡ None) × (place.at ≤ length blob)
 HeaderIs column limits blob at (Err fault) = (signature : ℕ) → after_signature column limits blob at signature ≡ record { items = []; fault = Some fault }
 

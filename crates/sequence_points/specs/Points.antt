@@ -30,7 +30,8 @@ point_by before row (visible offset lines columns line column) =
     Some (record {
       offset = before.offset + offset;
       document = row;
-      span = Lines (unsigned_abs (before.line +ℤ line)) (unsigned_abs (before.column +ℤ column)) (unsigned_abs ((before.line +ℤ line) +ℤ pos lines)) (unsigned_abs ((before.column +ℤ column) +ℤ columns));
+      span = Lines (unsigned_abs (before.line +ℤ line)) (unsigned_abs (before.column +ℤ column)) (unsigned_abs ((before.line +ℤ line) +ℤ pos lines))
+          (unsigned_abs ((before.column +ℤ column) +ℤ columns));
     })
 point_by before row _ = None
 

@@ -1,6 +1,7 @@
 -- The one canonical blob of some points (Portable PDB v1.0, "Sequence Points Blob"): each number has its shortest form
 -- (ECMA-335 II.23.2), and a document record stands exactly before each point whose document is not that of the point before.
-use Rattle.std.specs.Prelude.{◌≡◌, ◌≢◌, ℕ, ◌+◌, ◌-◌, ◌<◌, ◌^◌, ◌⊎◌, zero, suc, List, [], ◌∷◌, ◌++◌, length, Option, Some, None, ◌==◌, if◌then◌else◌, All, AllPairs, ℤ, pos, ◌-ℤ◌}
+use Rattle.std.specs.Prelude.{◌≡◌, ◌≢◌, ℕ, ◌+◌, ◌-◌, ◌<◌, ◌^◌, ◌⊎◌, zero, suc, List, [], ◌∷◌, ◌++◌, length, Option, Some, None, ◌==◌}
+use Rattle.std.specs.Prelude.{if◌then◌else◌, All, AllPairs, ℤ, pos, ◌-ℤ◌}
 use Rattle.std.specs.List.{filter_map}
 use Rattle.std.specs.Option.{option_map, option_to_list}
 use Rattle.cli_ints.specs.Shortest.{short_unsigned, short_signed, fits_half}

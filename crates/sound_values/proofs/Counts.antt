@@ -1,5 +1,6 @@
 -- A table has as many rows in the value of a file as in the file.
-use Rattle.std.proofs.Common.{◌≡◌, ℕ, zero, suc, ◌-◌, ◌<◌, ◌≤◌, List, [], ◌∷◌, length, take, refl, sym, ap, ◌∙◌, subst, arith, slice_index, inl, inr, Bool, true, false, slice_get}
+use Rattle.std.proofs.Common.{◌≡◌, ℕ, zero, suc, ◌-◌, ◌<◌, ◌≤◌, List, [], ◌∷◌, length, take, refl, sym, ap, ◌∙◌, subst, arith}
+use Rattle.std.proofs.Common.{slice_index, inl, inr, Bool, true, false, slice_get}
 use Rattle.std.specs.Prelude.{Some, nat_lt, ◌||◌, ◌==◌}
 use Rattle.std.specs.List.{repeat, list_all, sum_by}
 use Rattle.std.proofs.lemmas.Bool.{cases_lt, ltb-true, eqb-true, or_cases}
@@ -74,14 +75,16 @@ module _ (raw : RawFile) (keeps : KeepsRules raw) where
   pub variables_counted : value_count value 0x33 ≡ count raw.tables 0x33
   variables_counted =
       sum_of_map (scope_of raw.tables) (λ scope. length scope.variables) (numbered raw.tables.scopes)
-      ∙ (λ t. sum_by (λ row. length-map (owned_by (λ scope. scope.variables) raw.tables.scopes row.0 raw.tables.variables) (λ item. variable_of raw.tables item.1) t) (numbered raw.tables.scopes))
+      ∙ (λ t. sum_by (λ row. length-map (owned_by (λ scope. scope.variables) raw.tables.scopes row.0 raw.tables.variables)
+      (λ item. variable_of raw.tables item.1) t) (numbered raw.tables.scopes))
       ∙ owned_by_all (λ scope. scope.variables) raw.tables.scopes raw.tables.variables keeps.variables.lists
       ∙ keeps.shape.variables
 
   pub constants_counted : value_count value 0x34 ≡ count raw.tables 0x34
   constants_counted =
       sum_of_map (scope_of raw.tables) (λ scope. length scope.constants) (numbered raw.tables.scopes)
-      ∙ (λ t. sum_by (λ row. length-map (owned_by (λ scope. scope.constants) raw.tables.scopes row.0 raw.tables.constants) (λ item. constant_of raw.tables item.1) t) (numbered raw.tables.scopes))
+      ∙ (λ t. sum_by (λ row. length-map (owned_by (λ scope. scope.constants) raw.tables.scopes row.0 raw.tables.constants)
+      (λ item. constant_of raw.tables item.1) t) (numbered raw.tables.scopes))
       ∙ owned_by_all (λ scope. scope.constants) raw.tables.scopes raw.tables.constants keeps.constants.lists
       ∙ keeps.shape.constants
 

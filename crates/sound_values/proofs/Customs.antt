@@ -41,16 +41,19 @@ parent_codes : CodesAreParents → (coded : ℕ) (parent : Parent) → parent_in
 parent_codes codes coded parent is = subst (λ (o : Option Parent). IfSome o (λ p. coded_in p ≡ Some coded)) is (codes.parent coded)
 
 -- the table that its tag picks
-picked : (coded : ℕ) (o : Option ℕ) (parent : Parent) → slice_get parent_tables (coded % 32) ≡ o → option_map (λ table. record { table = table; row = coded / 32 }) o ≡ Some parent
+picked : (coded : ℕ) (o : Option ℕ) (parent : Parent) → slice_get parent_tables (coded % 32) ≡ o
+    → option_map (λ table. record { table = table; row = coded / 32 }) o ≡ Some parent
     → slice_get parent_tables (coded % 32) ≡ Some parent.table
 picked coded None parent there is = cc
 picked coded (Some table) parent there is =
     let same : record { table = table; row = coded / 32 } ≡ parent = cc in there ∙ ap (λ (p : Parent). Some p.table) same
 
 -- keys that each row keeps
-keys_are : {X Y : Type 0} (f : X → Y) (key : Y → ℕ) (other : X → ℕ) (rows : List X) → ((row : ℕ) (x : X) → row_at rows row ≡ Some x → key (f x) ≡ other x) → map key (map f rows) ≡ map other rows
+keys_are : {X Y : Type 0} (f : X → Y) (key : Y → ℕ) (other : X → ℕ) (rows : List X) → ((row : ℕ) (x : X) → row_at rows row ≡ Some x → key (f x) ≡ other x)
+    → map key (map f rows) ≡ map other rows
 keys_are f key other [] same = refl
-keys_are {X = X} {Y = Y} f key other (x ∷ xs) same = ap (λ k. k ∷ map key (map f xs)) (same 1 x refl) ∙ ap (λ ks. other x ∷ ks) (keys_are f key other xs (later same))
+keys_are {X = X} {Y = Y} f key other (x ∷ xs) same =
+    ap (λ k. k ∷ map key (map f xs)) (same 1 x refl) ∙ ap (λ ks. other x ∷ ks) (keys_are f key other xs (later same))
   where
     later : ((row : ℕ) (y : X) → row_at (x ∷ xs) row ≡ Some y → key (f y) ≡ other y) → (row : ℕ) (y : X) → row_at xs row ≡ Some y → key (f y) ≡ other y
     later each zero y here = cc
@@ -59,18 +62,23 @@ keys_are {X = X} {Y = Y} f key other (x ∷ xs) same = ap (λ k. k ∷ map key (
 -- ---- the records of a whole blob
 
 -- a handler, and steps
-stepping_whole : (methods : ℕ) (content : List ℕ) (records : List Entry) → Reading (async_stepping methods) content records None → (handler : Option ℕ) × (steps : List AsyncStep) × (records ≡ entries_of handler steps)
+stepping_whole : (methods : ℕ) (content : List ℕ) (records : List Entry) → Reading (async_stepping methods) content records None
+    → (handler : Option ℕ) × (steps : List AsyncStep) × (records ≡ entries_of handler steps)
 stepping_whole methods content records whole = by_handler (checked is_stored 0 (placed 0 (word_at content))) refl
   where
-    by_handler : (r : Result (ℕ × ℕ) BlobFault) → checked is_stored 0 (placed 0 (word_at content)) ≡ r → (handler : Option ℕ) × (steps : List AsyncStep) × (records ≡ entries_of handler steps)
-    by_handler (Err fault) e = let no = (reading-unique (async_stepping methods) content records [] None (Some fault) whole (no_handler methods content fault e)).1 in cc
+    by_handler : (r : Result (ℕ × ℕ) BlobFault) → checked is_stored 0 (placed 0 (word_at content)) ≡ r → (handler : Option ℕ) × (steps : List AsyncStep)
+        × (records ≡ entries_of handler steps)
+    by_handler (Err fault) e =
+        let no = (reading-unique (async_stepping methods) content records [] None (Some fault) whole (no_handler methods content fault e)).1 in cc
     by_handler (Ok found) e =
         let steps = steps_left methods content found.1 in
-        let same = reading-unique (async_stepping methods) content records (entries_of (handler_of found.0) steps.items) None steps.fault whole (a_handler methods content found.0 found.1 e) in
+        let same = reading-unique (async_stepping methods) content records (entries_of (handler_of found.0) steps.items) None steps.fault whole
+        (a_handler methods content found.0 found.1 e) in
         (handler_of found.0, steps.items, same.0)
 
 module _ (codes : CodesAreParents) (raw : RawFile) (keeps : KeepsRules raw) where
-  stepping_sound : (content : List ℕ) → IsWholeOfKind raw.tables AsyncKind content → IsBodyOfKind (value_of raw) AsyncKind (custom_body raw.tables AsyncKind content)
+  stepping_sound : (content : List ℕ) → IsWholeOfKind raw.tables AsyncKind content
+      → IsBodyOfKind (value_of raw) AsyncKind (custom_body raw.tables AsyncKind content)
   stepping_sound content whole =
       let methods = count raw.tables 0x06 in
       let w = stepping_whole methods content (records_of (async_stepping methods) content) whole in
@@ -86,7 +94,8 @@ module _ (codes : CodesAreParents) (raw : RawFile) (keeps : KeepsRules raw) wher
   body_sound DocumentsKind content whole =
       let documents = count raw.tables 0x30 in
       let counted = documents_counted raw keeps in
-      All-weaker (λ (row : ℕ). IsRowNumber row × (row ≤ documents)) (HasRow (value_of raw) 0x30) (λ row r. (r.0.0, rw counted r.1)) _ (read_rows documents content _ None whole)
+      All-weaker (λ (row : ℕ). IsRowNumber row × (row ≤ documents)) (HasRow (value_of raw) 0x30)
+      (λ row r. (r.0.0, rw counted r.1)) _ (read_rows documents content _ None whole)
   body_sound Free content whole = tt
   body_sound Unknown content whole = tt
 

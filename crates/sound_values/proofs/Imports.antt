@@ -3,7 +3,8 @@ use Rattle.std.proofs.Common.{◌≡◌, ℕ, zero, suc, List, [], ◌∷◌, le
 use Rattle.std.specs.Prelude.{Option, Some, None, unwrap_or}
 use Rattle.std.specs.Option.{option_map}
 use Rattle.type_blobs.specs.declared.types.TypeLimits.{TypeLimits}
-use Rattle.type_blobs.specs.Imports.{ImportItem, namespace, assembly_namespace, target, xml, alias, assembly_alias, namespace_alias, assembly_namespace_alias, target_alias}
+use Rattle.type_blobs.specs.Imports.{ImportItem, namespace, assembly_namespace, target, xml, alias, assembly_alias, namespace_alias}
+use Rattle.type_blobs.specs.Imports.{assembly_namespace_alias, target_alias}
 use Rattle.ppdb_tables.specs.declared.rows.ImportRow.{ImportRow}
 use Rattle.ppdb_tables.specs.RawTables.{row_at}
 use Rattle.ppdb_values.specs.declared.file.FileValue.{FileValue}
@@ -66,7 +67,8 @@ module _ {X : Type 0} (parent : X → ℕ) (rows : List X) where
   ends_past row past never = never_none row None past never refl
 
 -- a row of a list that is mapped has the parent that it had
-same_parent : {X Y : Type 0} (f : X → Y) (parent : X → ℕ) (other : Y → ℕ) → ((x : X) → other (f x) ≡ parent x) → (xs : List X) (row : ℕ) → parent_at other (map f xs) row ≡ parent_at parent xs row
+same_parent : {X Y : Type 0} (f : X → Y) (parent : X → ℕ) (other : Y → ℕ) → ((x : X) → other (f x) ≡ parent x) → (xs : List X) (row : ℕ)
+    → parent_at other (map f xs) row ≡ parent_at parent xs row
 same_parent f parent other same xs zero = refl
 same_parent f parent other same [] (suc i) = refl
 same_parent f parent other same (x ∷ xs) (suc zero) = same x
@@ -85,10 +87,12 @@ module _ (raw : RawFile) (keeps : KeepsRules raw) where
         parent = rw counted kept.parent;
         imports = λ number import here.
             let p = row_of_map import_value _ number import here in
-            subst (SoundImport (value_of raw)) p.2 (sound_item (value_of raw) p.0 (subst (λ (limits : TypeLimits). IsRead limits p.0) (limits_are raw keeps) (all_at (IsRead (raw_limits raw.tables)) _ number p.0 read p.1)));
+            subst (SoundImport (value_of raw)) p.2 (sound_item (value_of raw) p.0 (subst (λ (limits : TypeLimits). IsRead limits p.0) (limits_are raw keeps)
+            (all_at (IsRead (raw_limits raw.tables)) _ number p.0 read p.1)));
       }
 
-  ends_in : (row : ℕ) (o : Option ImportRow) → row_at raw.tables.imports row ≡ o → NeverEnds (parent_at (λ (scope : ImportRow). scope.parent) raw.tables.imports) row → ⊥
+  ends_in : (row : ℕ) (o : Option ImportRow) → row_at raw.tables.imports row ≡ o
+      → NeverEnds (parent_at (λ (scope : ImportRow). scope.parent) raw.tables.imports) row → ⊥
   ends_in row None here never = ends_past (λ (scope : ImportRow). scope.parent) raw.tables.imports row here never
   ends_in row (Some x) here never =
       chain_ends (λ (scope : ImportRow). scope.parent) raw.tables.imports row (keeps.imports.chains_end row (row_within raw.tables.imports row x here).1) never
@@ -99,6 +103,8 @@ module _ (raw : RawFile) (keeps : KeepsRules raw) where
         let p = row_of_map (import_scope_of raw.tables) raw.tables.imports row v here in
         subst (SoundImportScope (value_of raw)) p.2 (imports_sound_in p.0 (keeps.imports.each row p.0 p.1));
     chains_end = λ row never. ends_in row (row_at raw.tables.imports row) refl (λ steps ended. never steps
-        (same_ancestor (parent_at (λ (scope : ImportScopeValue). scope.parent) (value_of raw).imports) (parent_at (λ (scope : ImportRow). scope.parent) raw.tables.imports)
-        (same_parent (import_scope_of raw.tables) (λ (scope : ImportRow). scope.parent) (λ (scope : ImportScopeValue). scope.parent) (λ x. refl) raw.tables.imports) row steps ∙ ended));
+        (same_ancestor (parent_at (λ (scope : ImportScopeValue). scope.parent) (value_of raw).imports)
+        (parent_at (λ (scope : ImportRow). scope.parent) raw.tables.imports)
+        (same_parent (import_scope_of raw.tables) (λ (scope : ImportRow). scope.parent) (λ (scope : ImportScopeValue). scope.parent)
+        (λ x. refl) raw.tables.imports) row steps ∙ ended));
   }

@@ -1,5 +1,6 @@
 -- Lists that are made of the numbered rows of a table, and the rows that their items come from.
-use Rattle.std.proofs.Common.{◌≡◌, ℕ, zero, suc, ◌+◌, ◌<◌, Bool, true, false, cond, List, [], ◌∷◌, length, map, refl, sym, ap, ◌∙◌, subst, arith, inl, inr, slice_get, slice_index}
+use Rattle.std.proofs.Common.{◌≡◌, ℕ, zero, suc, ◌+◌, ◌<◌, Bool, true, false, cond, List, [], ◌∷◌, length, map, refl, sym, ap, ◌∙◌}
+use Rattle.std.proofs.Common.{subst, arith, inl, inr, slice_get, slice_index}
 use Rattle.std.specs.Prelude.{Option, Some, None, All}
 use Rattle.std.specs.List.{filter, filter_map, cons_option, enumerate_from, sum_by}
 use Rattle.std.specs.Option.{option_map}
@@ -34,7 +35,8 @@ row_of_map f [] (suc i) v h = cc
 row_of_map f (x ∷ xs) (suc zero) v h = (x, refl, cc)
 row_of_map f (x ∷ xs) (suc (suc i)) v h = row_of_map f xs (suc i) v h
 
-get_numbered : {X Y : Type 0} (f : ℕ × X → Y) (n : ℕ) (xs : List X) (i : ℕ) (v : Y) → slice_get (map f (enumerate_from n xs)) i ≡ Some v → (x : X) × (slice_get xs i ≡ Some x) × (f (n + i, x) ≡ v)
+get_numbered : {X Y : Type 0} (f : ℕ × X → Y) (n : ℕ) (xs : List X) (i : ℕ) (v : Y) → slice_get (map f (enumerate_from n xs)) i ≡ Some v
+    → (x : X) × (slice_get xs i ≡ Some x) × (f (n + i, x) ≡ v)
 get_numbered f n [] i v h = cc
 get_numbered f n (x ∷ xs) zero v h = let e : n + 0 ≡ n = omega arith in (x, refl, rw e (cc))
 get_numbered f n (x ∷ xs) (suc i) v h =
@@ -42,7 +44,8 @@ get_numbered f n (x ∷ xs) (suc i) v h =
     let e : n + suc i ≡ n + 1 + i = omega arith in
     (r.0, r.1, rw e r.2)
 
-pub row_of_numbered : {X Y : Type 0} (f : ℕ × X → Y) (xs : List X) (row : ℕ) (v : Y) → row_at (map f (numbered xs)) row ≡ Some v → (x : X) × (row_at xs row ≡ Some x) × (f (row, x) ≡ v)
+pub row_of_numbered : {X Y : Type 0} (f : ℕ × X → Y) (xs : List X) (row : ℕ) (v : Y) → row_at (map f (numbered xs)) row ≡ Some v
+    → (x : X) × (row_at xs row ≡ Some x) × (f (row, x) ≡ v)
 row_of_numbered f xs zero v h = cc
 row_of_numbered f xs (suc i) v h =
     let r = get_numbered f 1 xs i v h in
@@ -50,9 +53,11 @@ row_of_numbered f xs (suc i) v h =
     (r.0, r.1, rw e r.2)
 
 -- keys that a map keeps
-pub keys_numbered : {X Y K : Type 0} (f : ℕ × X → Y) (key : Y → K) (other : X → K) → ((row : ℕ × X) → key (f row) ≡ other row.1) → (n : ℕ) (xs : List X) → map key (map f (enumerate_from n xs)) ≡ map other xs
+pub keys_numbered : {X Y K : Type 0} (f : ℕ × X → Y) (key : Y → K) (other : X → K) → ((row : ℕ × X) → key (f row) ≡ other row.1) → (n : ℕ) (xs : List X)
+    → map key (map f (enumerate_from n xs)) ≡ map other xs
 keys_numbered f key other same n [] = refl
-keys_numbered f key other same n (x ∷ xs) = ap (λ k. k ∷ map key (map f (enumerate_from (n + 1) xs))) (same (n, x)) ∙ ap (λ ks. other x ∷ ks) (keys_numbered f key other same (n + 1) xs)
+keys_numbered f key other same n (x ∷ xs) =
+    ap (λ k. k ∷ map key (map f (enumerate_from (n + 1) xs))) (same (n, x)) ∙ ap (λ ks. other x ∷ ks) (keys_numbered f key other same (n + 1) xs)
 
 -- ---- items that some rows make
 
@@ -74,12 +79,14 @@ module _ {X Y : Type 0} (h : ℕ × X → Option Y) where
   by_first n x xs y e = let same : n + 0 ≡ n = omega arith in record { index = 0; row = x; there = refl; makes = rw same e }
 
   abbrev by_later : (n : ℕ) (x : X) (xs : List X) (y : Y) → IsMade h (n + 1) xs y → IsMade h n (x ∷ xs) y
-  by_later n x xs y m = let same : n + suc m.index ≡ n + 1 + m.index = omega arith in record { index = suc m.index; row = m.row; there = m.there; makes = rw same m.makes }
+  by_later n x xs y m =
+      let same : n + suc m.index ≡ n + 1 + m.index = omega arith in record { index = suc m.index; row = m.row; there = m.there; makes = rw same m.makes }
 
   both_later : (n : ℕ) (x : X) (xs : List X) (y z : Y) → AreMade h (n + 1) xs y z → AreMade h n (x ∷ xs) y z
   both_later n x xs y z m = let less = m.rises in record { first = by_later n x xs y m.first; second = by_later n x xs z m.second; rises = omega (arith, less) }
 
-  made_here : (n : ℕ) (x : X) (xs : List X) (y : Y) (o : Option Y) → h (n, x) ≡ o → ((k : ℕ) → slice_get (filter_map h (enumerate_from (n + 1) xs)) k ≡ Some y → IsMade h (n + 1) xs y)
+  made_here : (n : ℕ) (x : X) (xs : List X) (y : Y) (o : Option Y) → h (n, x) ≡ o → ((k : ℕ) → slice_get (filter_map h (enumerate_from (n + 1) xs)) k ≡ Some y
+      → IsMade h (n + 1) xs y)
       → (i : ℕ) → slice_get (cons_option o (filter_map h (enumerate_from (n + 1) xs))) i ≡ Some y → IsMade h n (x ∷ xs) y
   made_here n x xs y None e later i there = by_later n x xs y (later i there)
   made_here n x xs y (Some w) e later zero there = by_first n x xs y (e ∙ there)
@@ -90,8 +97,10 @@ module _ {X Y : Type 0} (h : ℕ × X → Option Y) where
   made_from n (x ∷ xs) i y there = made_here n x xs y (h (n, x)) refl (λ k t. made_from (n + 1) xs k y t) i there
 
   both_here : (n : ℕ) (x : X) (xs : List X) (y z : Y) (o : Option Y) → h (n, x) ≡ o
-      → ((k l : ℕ) → slice_get (filter_map h (enumerate_from (n + 1) xs)) k ≡ Some y → slice_get (filter_map h (enumerate_from (n + 1) xs)) l ≡ Some z → k < l → AreMade h (n + 1) xs y z)
-      → (i j : ℕ) → slice_get (cons_option o (filter_map h (enumerate_from (n + 1) xs))) i ≡ Some y → slice_get (cons_option o (filter_map h (enumerate_from (n + 1) xs))) j ≡ Some z → i < j
+      → ((k l : ℕ) → slice_get (filter_map h (enumerate_from (n + 1) xs)) k ≡ Some y → slice_get (filter_map h (enumerate_from (n + 1) xs)) l ≡ Some z → k < l
+      → AreMade h (n + 1) xs y z)
+      → (i j : ℕ) → slice_get (cons_option o (filter_map h (enumerate_from (n + 1) xs))) i ≡ Some y
+      → slice_get (cons_option o (filter_map h (enumerate_from (n + 1) xs))) j ≡ Some z → i < j
       → AreMade h n (x ∷ xs) y z
   both_here n x xs y z None e later i j hy hz less = both_later n x xs y z (later i j hy hz less)
   both_here n x xs y z (Some w) e later i zero hy hz less = absurd (omega arith)
@@ -99,7 +108,8 @@ module _ {X Y : Type 0} (h : ℕ × X → Option Y) where
       record { first = by_first n x xs y (e ∙ hy); second = by_later n x xs z (made_from (n + 1) xs j z hz); rises = omega arith }
   both_here n x xs y z (Some w) e later (suc i) (suc j) hy hz less = both_later n x xs y z (later i j hy hz (omega (arith, less)))
 
-  both_from : (n : ℕ) (xs : List X) (i j : ℕ) (y z : Y) → slice_get (filter_map h (enumerate_from n xs)) i ≡ Some y → slice_get (filter_map h (enumerate_from n xs)) j ≡ Some z → i < j → AreMade h n xs y z
+  both_from : (n : ℕ) (xs : List X) (i j : ℕ) (y z : Y) → slice_get (filter_map h (enumerate_from n xs)) i ≡ Some y
+      → slice_get (filter_map h (enumerate_from n xs)) j ≡ Some z → i < j → AreMade h n xs y z
   both_from n [] i j y z hy hz less = cc
   both_from n (x ∷ xs) i j y z hy hz less = both_here n x xs y z (h (n, x)) refl (λ k l a b. both_from (n + 1) xs k l y z a b) i j hy hz less
 
@@ -107,7 +117,8 @@ module _ {X Y : Type 0} (h : ℕ × X → Option Y) where
   made xs zero y there = cc
   made xs (suc i) y there = made_from 1 xs i y there
 
-  pub both_made : (xs : List X) (a b : ℕ) (y z : Y) → row_at (filter_map h (numbered xs)) a ≡ Some y → row_at (filter_map h (numbered xs)) b ≡ Some z → a < b → AreMade h 1 xs y z
+  pub both_made : (xs : List X) (a b : ℕ) (y z : Y) → row_at (filter_map h (numbered xs)) a ≡ Some y → row_at (filter_map h (numbered xs)) b ≡ Some z → a < b
+      → AreMade h 1 xs y z
   both_made xs zero b y z hy hz less = cc
   both_made xs (suc i) zero y z hy hz less = cc
   both_made xs (suc i) (suc j) y z hy hz less = both_from 1 xs i j y z hy hz (omega (arith, less))
@@ -115,10 +126,11 @@ module _ {X Y : Type 0} (h : ℕ × X → Option Y) where
 -- what passes a test, mapped
 pub map_filter : {X Y : Type 0} (f : X → Y) (p : X → Bool) (xs : List X) → map f (filter p xs) ≡ filter_map (λ x. cond (p x) (Some (f x)) None) xs
 map_filter f p [] = refl
-map_filter f p (x ∷ xs) = elim (p x) as (λ b. map f (cond b (x ∷ filter p xs) (filter p xs)) ≡ cons_option (cond b (Some (f x)) None) (filter_map (λ x. cond (p x) (Some (f x)) None) xs)) [
-  | true ↦ ap (λ ys. f x ∷ ys) (map_filter f p xs)
-  | false ↦ map_filter f p xs
-]
+map_filter f p (x ∷ xs) = elim (p x) as (λ b. map f (cond b (x ∷ filter p xs) (filter p xs)) ≡ cons_option (cond b (Some (f x)) None)
+    (filter_map (λ x. cond (p x) (Some (f x)) None) xs)) [
+      | true ↦ ap (λ ys. f x ∷ ys) (map_filter f p xs)
+      | false ↦ map_filter f p xs
+    ]
 
 -- ---- numbers that rise
 

@@ -34,14 +34,17 @@ module _ (raw : RawFile) (keeps : KeepsRules raw) where
       subst (λ (m : MethodValue). (m.method ≡ number) × PointsReading column (point_limits raw.tables) content m.signature m.points None) same
       (refl, record { entries = entries_of raw.tables column content; reading = whole; signature_is = found; points_are = refl })
 
-  by_content : (number column : ℕ) (content : List ℕ) (method : MethodValue) → (content ≡ []) ⊎ IsWhole (sequence_points column (point_limits raw.tables)) content
+  by_content : (number column : ℕ) (content : List ℕ) (method : MethodValue)
+      → (content ≡ []) ⊎ IsWhole (sequence_points column (point_limits raw.tables)) content
       → method_with raw.tables number column content ≡ Some method
       → (method.method ≡ number) × PointsReading column (point_limits raw.tables) content method.signature method.points None
   by_content number column [] method whole is = cc
   by_content number column (b ∷ bytes) method (inl nil) is = cc
-  by_content number column (b ∷ bytes) method (inr whole) is = by_signature number column (b ∷ bytes) (signature_in raw.tables column (b ∷ bytes)) method refl whole is
+  by_content number column (b ∷ bytes) method (inr whole) is =
+      by_signature number column (b ∷ bytes) (signature_in raw.tables column (b ∷ bytes)) method refl whole is
 
-  of_row : (m : MethodValue) (is : IsMade (method_of raw.tables) 1 raw.tables.methods m) → (m.method ≡ suc is.index) × PointsReading is.row.document (point_limits raw.tables) (blob raw.tables is.row.points) m.signature m.points None
+  of_row : (m : MethodValue) (is : IsMade (method_of raw.tables) 1 raw.tables.methods m)
+      → (m.method ≡ suc is.index) × PointsReading is.row.document (point_limits raw.tables) (blob raw.tables is.row.points) m.signature m.points None
   of_row m is =
       let kept = keeps.methods.each (suc is.index) is.row is.there in
       let r = by_content (1 + is.index) is.row.document (blob raw.tables is.row.points) m kept.points_whole is.makes in
@@ -70,7 +73,8 @@ module _ (raw : RawFile) (keeps : KeepsRules raw) where
       let kept = keeps.methods.each (suc is.index) is.row is.there in
       let documents = keeps.shape.small 0x30 in
       let signatures = keeps.shape.small 0x11 in
-      let points = read_points is.row.document (point_limits raw.tables) (blob raw.tables is.row.points) m.signature m.points kept.document (omega (arith, documents)) (omega (arith, signatures)) r.1 in
+      let points = read_points is.row.document (point_limits raw.tables) (blob raw.tables is.row.points) m.signature m.points kept.document
+      (omega (arith, documents)) (omega (arith, signatures)) r.1 in
       record {
         row = row_sound m is;
         signature = type_row_or_none raw keeps 0x11 m.signature (omega arith) points.1;

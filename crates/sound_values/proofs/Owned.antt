@@ -49,26 +49,38 @@ module _ {X : Type 0} (list : ScopeRow → ℕ) (scopes : List ScopeRow) (items 
   here_is : (n : ℕ) (scope : ScopeRow) (rest : List ScopeRow) → IsRest n (scope ∷ rest) → row_at scopes (suc n) ≡ Some scope
   here_is n scope rest is = let e : n + 0 ≡ n = omega arith in rw e at (is 0)
 
-  end_is : (n : ℕ) (scope : ScopeRow) (rest : List ScopeRow) → IsRest n (scope ∷ rest) → list_end list scopes (suc n) (length items) ≡ begin_of list (length items) rest
+  end_is : (n : ℕ) (scope : ScopeRow) (rest : List ScopeRow) → IsRest n (scope ∷ rest)
+      → list_end list scopes (suc n) (length items) ≡ begin_of list (length items) rest
   end_is n scope rest is =
       let e : n + 1 ≡ suc n = omega arith in
       let next : slice_get scopes (suc n) ≡ slice_get rest 0 = rw e at (is 1) in
       ap (λ o. unwrap_or (option_map list o) (length items + 1)) next ∙ first_end list (length items) rest
 
-  ends : (n : ℕ) (scope : ScopeRow) (rest : List ScopeRow) → IsRest n (scope ∷ rest) → (list scope ≤ begin_of list (length items) rest) × (begin_of list (length items) rest ≤ length items + 1)
+  ends : (n : ℕ) (scope : ScopeRow) (rest : List ScopeRow) → IsRest n (scope ∷ rest) → (list scope ≤ begin_of list (length items) rest)
+      × (begin_of list (length items) rest ≤ length items + 1)
   ends n scope [] is = (keeps.within (suc n) scope (here_is n scope [] is), omega arith)
   ends n scope (next ∷ rest) is =
       let following = here_is (suc n) next rest (rest_later n scope (next ∷ rest) is) in
       (up n (suc n) scope next (here_is n scope (next ∷ rest) is) following (omega arith), keeps.within (suc (suc n)) next following)
 
-  own : (n : ℕ) (scope : ScopeRow) (rest : List ScopeRow) → IsRest n (scope ∷ rest) → length (owned_by list scopes (suc n) items) + list scope ≡ begin_of list (length items) rest
+  own : (n : ℕ) (scope : ScopeRow) (rest : List ScopeRow) → IsRest n (scope ∷ rest)
+      → length (owned_by list scopes (suc n) items) + list scope ≡ begin_of list (length items) rest
   own n scope rest is =
       let there = here_is n scope rest is in
       let end : ℕ = list_end list scopes (suc n) (length items) in
       let all : ℕ = length items in
       let rows : List (ℕ × X) = numbered items in
       let count = ap length (owned_is_list list scopes (suc n) scope items keeps there) in
-      omega (arith, count, end_is n scope rest is, ends n scope rest is, least n scope there, length-take ((end - 1) - (list scope - 1)) (drop (list scope - 1) rows), length-drop (list scope - 1) rows, length-enumerate_from 1 items)
+      omega (
+        arith,
+        count,
+        end_is n scope rest is,
+        ends n scope rest is,
+        least n scope there,
+        length-take ((end - 1) - (list scope - 1)) (drop (list scope - 1) rows),
+        length-drop (list scope - 1) rows,
+        length-enumerate_from 1 items,
+      )
 
   abbrev owned : ℕ × ScopeRow → ℕ
   owned row = length (owned_by list scopes row.0 items)
@@ -81,7 +93,8 @@ module _ {X : Type 0} (list : ScopeRow → ℕ) (scopes : List ScopeRow) (items 
       let head = sum_by-cons owned (suc n, scope) (enumerate_from (suc (suc n)) rest) in
       rw e (omega (arith, more, head, own n scope rest is))
 
-  in_all : (all : List ScopeRow) → scopes ≡ all → sum_by owned (enumerate_from 1 all) + begin_of list (length items) all ≡ length items + 1 → sum_by owned (enumerate_from 1 all) ≡ length items
+  in_all : (all : List ScopeRow) → scopes ≡ all → sum_by owned (enumerate_from 1 all) + begin_of list (length items) all ≡ length items + 1
+      → sum_by owned (enumerate_from 1 all) ≡ length items
   in_all [] e sum = sym (keeps.none e)
   in_all (scope ∷ others) e sum = let one = keeps.first scope (ap (λ rows. row_at rows 1) e) in omega (arith, one, sum)
 

@@ -37,17 +37,25 @@ module _ {X Y : Type 0} (f : X → Y) (list : ScopeRow → ℕ) (scopes : List S
   of_made y m =
       let same : 1 + m.index ≡ suc m.index = omega arith in
       let both = cond_some (owns (1 + m.index, m.row)) (f m.row) y m.makes in
-      record { number = suc m.index; row = m.row; there = m.there; owned = rw same at (is_owner owner (owner_of list scopes (1 + m.index)) both.0); makes = both.1 }
+      record {
+        number = suc m.index;
+        row = m.row;
+        there = m.there;
+        owned = rw same at (is_owner owner (owner_of list scopes (1 + m.index)) both.0);
+        makes = both.1;
+      }
 
   abbrev all_of : List Y
   all_of = map (λ item. f item.1) (owned_by list scopes owner items)
 
   pub owned : (row : ℕ) (y : Y) → row_at all_of row ≡ Some y → IsOwned f list scopes owner items y
-  owned row y here = of_made y (made one items row y (subst (λ (ys : List Y). row_at ys row ≡ Some y) (map_filter (λ item. f item.1) owns (numbered items)) here))
+  owned row y here =
+      of_made y (made one items row y (subst (λ (ys : List Y). row_at ys row ≡ Some y) (map_filter (λ item. f item.1) owns (numbered items)) here))
 
   pub both_owned : (a b : ℕ) (y z : Y) → row_at all_of a ≡ Some y → row_at all_of b ≡ Some z → a < b → AreOwned f list scopes owner items y z
   both_owned a b y z hy hz less =
       let same = map_filter (λ (item : ℕ × X). f item.1) owns (numbered items) in
-      let both = both_made one items a b y z (subst (λ (ys : List Y). row_at ys a ≡ Some y) same hy) (subst (λ (ys : List Y). row_at ys b ≡ Some z) same hz) less in
+      let both =
+      both_made one items a b y z (subst (λ (ys : List Y). row_at ys a ≡ Some y) same hy) (subst (λ (ys : List Y). row_at ys b ≡ Some z) same hz) less in
       let up = both.rises in
       record { first = of_made y both.first; second = of_made z both.second; rises = omega (arith, up) }

@@ -10,7 +10,9 @@ use Rattle.blob_grammar.proofs.ReadRecords.{of_reading}
 use Rattle.type_blobs.specs.declared.types.TypeLimits.{TypeLimits}
 use Rattle.type_blobs.specs.declared.types.Modifier.{Modifier}
 use Rattle.type_blobs.specs.Types.{is_type, token_of, IsToken, IsThere}
-use Rattle.type_blobs.specs.Constants.{ConstantBody, primitive, enumerated, general, object, is_modifier, is_primitive, is_enumerable, is_general, is_string, is_object, is_code, size_of, after_code, after_two, second_allows, third_allows, body_of, constants}
+use Rattle.type_blobs.specs.Constants.{ConstantBody, primitive, enumerated, general, object, is_modifier, is_primitive, is_enumerable}
+use Rattle.type_blobs.specs.Constants.{is_general, is_string, is_object, is_code, size_of, after_code, after_two, second_allows}
+use Rattle.type_blobs.specs.Constants.{third_allows, body_of, constants}
 use Rattle.type_blobs.specs.Spelling.{IsPrimitive, IsBody, IsBodyThere}
 use Rattle.type_blobs.proofs.Codes.{eq-is, modifier_is, general_is, of_general, of_primitive, primitive_range, enumerable_range}
 use Rattle.ppdb_values.specs.RawFile.{begun_of}
@@ -39,7 +41,8 @@ abbrev Holds : TypeLimits → Cut Modifier → Type 0
 Holds limits c = All (IsModifier limits) c.whole × Begun limits c.begun
 
 abbrev Allowed : TypeLimits → List Modifier → List Value → List ℕ → Value → List ℕ → Type 0
-Allowed limits whole begun bytes value after = IsAllowed (constants limits) (record { whole = whole; begun = begun }) (record { bytes = bytes; value = value }) after
+Allowed limits whole begun bytes value after =
+    IsAllowed (constants limits) (record { whole = whole; begun = begun }) (record { bytes = bytes; value = value }) after
 
 abbrev Goes : TypeLimits → List Modifier → List Value → Value → Type 0
 Goes limits whole begun value = Holds limits (with_value (constants limits) (record { whole = whole; begun = begun }) value)
@@ -54,7 +57,8 @@ number_read form bytes v after e s = let same : form ≡ unsigned = cc in by_val
     by_value (integer z) t = absurd t
     by_value (octets xs) t = absurd t
 
-octets_read : (len : ℕ) (form : Form) (bytes : List ℕ) (v : Value) (after : List ℕ) → Some (fixed len) ≡ Some form → Spells form bytes v after → (xs : List ℕ) × (v ≡ octets xs) × (length xs ≡ len)
+octets_read : (len : ℕ) (form : Form) (bytes : List ℕ) (v : Value) (after : List ℕ) → Some (fixed len) ≡ Some form → Spells form bytes v after
+    → (xs : List ℕ) × (v ≡ octets xs) × (length xs ≡ len)
 octets_read len form bytes v after e s = let same : form ≡ fixed len = cc in by_value v (subst (λ (f : Form). Spells f bytes v after) same s)
   where
     by_value : (w : Value) → Spells (fixed len) bytes w after → (xs : List ℕ) × (w ≡ octets xs) × (length xs ≡ len)
@@ -82,19 +86,26 @@ module _ (limits : TypeLimits) (small : AreSmall limits) (whole : List Modifier)
   -- ---- behind a code
 
   abbrev Second : ℕ → Type 0
-  Second code = (form : Form) (bytes : List ℕ) (v : Value) (after : List ℕ) → after_code code ≡ Some form → Spells form bytes v after → second_allows limits code v ≡ true → Goes limits whole (number code ∷ []) v
+  Second code = (form : Form) (bytes : List ℕ) (v : Value) (after : List ℕ) → after_code code ≡ Some form → Spells form bytes v after
+      → second_allows limits code v ≡ true → Goes limits whole (number code ∷ []) v
 
   second_required : Second 0x1f
   second_required form bytes v after e s a =
       let n = number_read form bytes v after e s in
-      subst (λ (u : Value). Goes limits whole (number 0x1f ∷ []) u) (sym n.1)
-      (All-push (IsModifier limits) whole (record { required = true; target = token_of n.0 }) h (type_read limits small n.0 (subst (λ (u : Value). second_allows limits 0x1f u ≡ true) n.1 a)), tt)
+      subst (λ (u : Value). Goes limits whole (number 0x1f ∷ []) u) (sym n.1) (
+        All-push (IsModifier limits) whole (record { required = true; target = token_of n.0 }) h
+            (type_read limits small n.0 (subst (λ (u : Value). second_allows limits 0x1f u ≡ true) n.1 a)),
+        tt,
+      )
 
   second_optional : Second 0x20
   second_optional form bytes v after e s a =
       let n = number_read form bytes v after e s in
-      subst (λ (u : Value). Goes limits whole (number 0x20 ∷ []) u) (sym n.1)
-      (All-push (IsModifier limits) whole (record { required = false; target = token_of n.0 }) h (type_read limits small n.0 (subst (λ (u : Value). second_allows limits 0x20 u ≡ true) n.1 a)), tt)
+      subst (λ (u : Value). Goes limits whole (number 0x20 ∷ []) u) (sym n.1) (
+        All-push (IsModifier limits) whole (record { required = false; target = token_of n.0 }) h
+            (type_read limits small n.0 (subst (λ (u : Value). second_allows limits 0x20 u ≡ true) n.1 a)),
+        tt,
+      )
 
   second_class : Second 0x12
   second_class form bytes v after e s a =
@@ -139,7 +150,8 @@ module _ (limits : TypeLimits) (small : AreSmall limits) (whole : List Modifier)
 
   -- ---- behind a code and a value, or a type
 
-  third_general : (code target : ℕ) → is_general code ≡ true → is_type limits target ≡ true → (form : Form) (bytes : List ℕ) (v : Value) (after : List ℕ) → after_two code ≡ Some form → Spells form bytes v after
+  third_general : (code target : ℕ) → is_general code ≡ true → is_type limits target ≡ true → (form : Form) (bytes : List ℕ) (v : Value) (after : List ℕ)
+      → after_two code ≡ Some form → Spells form bytes v after
       → Goes limits whole (number code ∷ number target ∷ []) v
   third_general code target is there form bytes v after e s =
       let xs = rest_read form bytes v after (sym (of_general code is).after_type ∙ e) s in
@@ -147,12 +159,16 @@ module _ (limits : TypeLimits) (small : AreSmall limits) (whole : List Modifier)
 
   no_general_value : (code : ℕ) (value : List ℕ) → is_general code ≡ true → IsPrimitive (is_string code) code value → ⊥
   no_general_value code value is p = elim (general_is code is) [
-    | inl e ↦ let q : IsPrimitive (is_string 0x12) 0x12 value = subst (λ (c : ℕ). IsPrimitive (is_string c) c value) e p in let no : false ≡ true = q.primitive in cc
-    | inr e ↦ let q : IsPrimitive (is_string 0x11) 0x11 value = subst (λ (c : ℕ). IsPrimitive (is_string c) c value) e p in let no : false ≡ true = q.primitive in cc
+    | inl e ↦ let q : IsPrimitive (is_string 0x12) 0x12 value =
+        subst (λ (c : ℕ). IsPrimitive (is_string c) c value) e p in let no : false ≡ true = q.primitive in cc
+    | inr e ↦ let q : IsPrimitive (is_string 0x11) 0x11 value =
+        subst (λ (c : ℕ). IsPrimitive (is_string c) c value) e p in let no : false ≡ true = q.primitive in cc
   ]
 
-  third_enumerated : (code : ℕ) (value : List ℕ) (b c : Bool) → is_enumerable code ≡ b → is_general code ≡ c → IsPrimitive (is_string code) code value → (form : Form) (bytes : List ℕ) (v : Value) (after : List ℕ)
-      → (if b then Some unsigned else (if c then Some rest else None)) ≡ Some form → Spells form bytes v after → third_allows limits v ≡ true → Goes limits whole (number code ∷ octets value ∷ []) v
+  third_enumerated : (code : ℕ) (value : List ℕ) (b c : Bool) → is_enumerable code ≡ b → is_general code ≡ c → IsPrimitive (is_string code) code value
+      → (form : Form) (bytes : List ℕ) (v : Value) (after : List ℕ)
+      → (if b then Some unsigned else (if c then Some rest else None)) ≡ Some form → Spells form bytes v after → third_allows limits v ≡ true
+      → Goes limits whole (number code ∷ octets value ∷ []) v
   third_enumerated code value true c is g p form bytes v after e s a =
       let n = number_read form bytes v after e s in
       let range = enumerable_range code is in
@@ -164,14 +180,16 @@ module _ (limits : TypeLimits) (small : AreSmall limits) (whole : List Modifier)
   third_enumerated code value false false is g p form bytes v after e s a = cc
 
 module _ (limits : TypeLimits) (small : AreSmall limits) where
-  one : (whole : List Modifier) (begun : List Value) (bytes : List ℕ) (v : Value) (after : List ℕ) → Allowed limits whole begun bytes v after → All (IsModifier limits) whole → Begun limits begun → Goes limits whole begun v
+  one : (whole : List Modifier) (begun : List Value) (bytes : List ℕ) (v : Value) (after : List ℕ) → Allowed limits whole begun bytes v after
+      → All (IsModifier limits) whole → Begun limits begun → Goes limits whole begun v
   one whole [] bytes v after a h b =
       let n = code_read a.form bytes v after a.expected a.spelled in
       subst (λ (u : Value). Goes limits whole [] u) (sym n.1) (h, subst (λ (u : Value). (constants limits).allows whole [] u ≡ true) n.1 a.allowed)
   one whole (number code ∷ []) bytes v after a h b = second limits small whole h code b a.form bytes v after a.expected a.spelled a.allowed
   one whole (number code ∷ octets value ∷ []) bytes v after a h b =
       third_enumerated limits small whole h code value (is_enumerable code) (is_general code) refl refl b a.form bytes v after a.expected a.spelled a.allowed
-  one whole (number code ∷ number target ∷ []) bytes v after a h b = third_general limits small whole h code target b.0 b.1 a.form bytes v after a.expected a.spelled
+  one whole (number code ∷ number target ∷ []) bytes v after a h b =
+      third_general limits small whole h code target b.0 b.1 a.form bytes v after a.expected a.spelled
   one whole (number code ∷ integer z ∷ vs) bytes v after a h b = absurd b
   one whole (number code ∷ octets value ∷ number target ∷ []) bytes v after a h b = let e : None ≡ Some a.form = a.expected in cc
   one whole (number code ∷ number target ∷ octets more ∷ []) bytes v after a h b = let e : None ≡ Some a.form = a.expected in cc
@@ -184,18 +202,22 @@ module _ (limits : TypeLimits) (small : AreSmall limits) where
   one whole (integer z ∷ vs) bytes v after a h b = absurd b
   one whole (octets xs ∷ vs) bytes v after a h b = absurd b
 
-  kept : (c : Cut Modifier) (f : Field) (after : List ℕ) → IsAllowed (constants limits) c f after → Holds limits c → Holds limits (with_value (constants limits) c f.value)
+  kept : (c : Cut Modifier) (f : Field) (after : List ℕ) → IsAllowed (constants limits) c f after → Holds limits c
+      → Holds limits (with_value (constants limits) c f.value)
   kept c f after a h = one c.whole c.begun f.bytes f.value after a h.0 h.1
 
-  held : (blob : List ℕ) (records : List Modifier) (fault : Option BlobFault) (r : Reading (constants limits) blob records fault) → Holds limits (cut (constants limits) r.fields)
+  held : (blob : List ℕ) (records : List Modifier) (fault : Option BlobFault) (r : Reading (constants limits) blob records fault)
+      → Holds limits (cut (constants limits) r.fields)
   held blob records fault r = of_reading (constants limits) (Holds limits) kept (All-nil (IsModifier limits), tt) blob records fault r
 
-  pub modifiers_read : (blob : List ℕ) (records : List Modifier) (fault : Option BlobFault) → Reading (constants limits) blob records fault → All (IsModifier limits) records
+  pub modifiers_read : (blob : List ℕ) (records : List Modifier) (fault : Option BlobFault) → Reading (constants limits) blob records fault
+      → All (IsModifier limits) records
   modifiers_read blob records fault r = subst (λ (ms : List Modifier). All (IsModifier limits) ms) (sym r.made) (held blob records fault r).0
 
   -- ---- the body that has begun
 
-  code_alone : (code : ℕ) (b c : Bool) (body : ConstantBody) → is_object code ≡ b → is_string code ≡ c → (if b then Some object else (if c then Some (primitive code []) else None)) ≡ Some body → IsRead limits body
+  code_alone : (code : ℕ) (b c : Bool) (body : ConstantBody) → is_object code ≡ b → is_string code ≡ c
+      → (if b then Some object else (if c then Some (primitive code []) else None)) ≡ Some body → IsRead limits body
   code_alone code true c body is s e = let same : object ≡ body = cc in subst (IsRead limits) same (tt, tt)
   code_alone code false true body is s e =
       let same : primitive code [] ≡ body = cc in
@@ -225,7 +247,8 @@ module _ (limits : TypeLimits) (small : AreSmall limits) where
   body_begun (integer z ∷ vs) body b e = absurd b
   body_begun (octets xs ∷ vs) body b e = absurd b
 
-  pub body_read : (blob : List ℕ) (records : List Modifier) (fault : Option BlobFault) (body : ConstantBody) → Reading (constants limits) blob records fault → body_of (begun_of (constants limits) blob) ≡ Some body → IsRead limits body
+  pub body_read : (blob : List ℕ) (records : List Modifier) (fault : Option BlobFault) (body : ConstantBody) → Reading (constants limits) blob records fault
+      → body_of (begun_of (constants limits) blob) ≡ Some body → IsRead limits body
   body_read blob records fault body r e =
       let begun = (cut (constants limits) r.fields).begun in
       let is = begun_is (constants limits) blob r.fields r.after r.front in

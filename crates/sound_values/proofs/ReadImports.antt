@@ -1,5 +1,6 @@
 -- The assemblies and the types of imports that are read are there.
-use Rattle.std.proofs.Common.{◌≡◌, ℕ, zero, suc, ◌≤◌, Bool, true, false, ◌&&◌, List, [], ◌∷◌, ◌++◌, length, Option, Some, None, refl, sym, ap, subst, ◌∙◌, arith, slice_get}
+use Rattle.std.proofs.Common.{◌≡◌, ℕ, zero, suc, ◌≤◌, Bool, true, false, ◌&&◌, List, [], ◌∷◌, ◌++◌, length, Option, Some, None, refl}
+use Rattle.std.proofs.Common.{sym, ap, subst, ◌∙◌, arith, slice_get}
 use Rattle.std.specs.Prelude.{All, ◌==◌, nat_le, if◌then◌else◌}
 use Rattle.std.proofs.lemmas.Bool.{and_parts, leb-true, eqb-true}
 use Rattle.std.proofs.lemmas.List.Elements.{All-push, All-nil}
@@ -10,7 +11,8 @@ use Rattle.blob_grammar.proofs.ReadRecords.{of_reading}
 use Rattle.type_blobs.specs.declared.types.TypeToken.{TypeToken}
 use Rattle.type_blobs.specs.declared.types.TypeLimits.{TypeLimits}
 use Rattle.type_blobs.specs.Types.{IsToken, IsThere}
-use Rattle.type_blobs.specs.Imports.{parts_of, ImportItem, assembly_namespace, target, assembly_alias, assembly_namespace_alias, target_alias, item_of, part_allows, next_part, next_allows, numbers_of, imports}
+use Rattle.type_blobs.specs.Imports.{parts_of, ImportItem, assembly_namespace, target, assembly_alias, assembly_namespace_alias}
+use Rattle.type_blobs.specs.Imports.{target_alias, item_of, part_allows, next_part, next_allows, numbers_of, imports}
 use Rattle.type_blobs.specs.declared.import_part.ImportPart.{ImportPart}
 use Rattle.type_blobs.specs.declared.import_part.ImportPart.TheVariants.{Alias, Assembly, Namespace, Target}
 use Rattle.sound_values.proofs.ReadTypes.{AreSmall, row_there, type_read}
@@ -49,9 +51,11 @@ module _ (limits : TypeLimits) (heap : ℕ → Option (List ℕ)) where
   abbrev Holds : Cut ImportItem → Type 0
   Holds c = All (IsRead limits) c.whole × Begun c.begun
 
-  fit_more : (parts : List ImportPart) (fields : List Value) (part : ImportPart) (n : ℕ) → Fit parts fields → slice_get parts (length fields) ≡ Some part → part_allows limits heap part n ≡ true → Fit parts (fields ++ number n ∷ [])
+  fit_more : (parts : List ImportPart) (fields : List Value) (part : ImportPart) (n : ℕ) → Fit parts fields → slice_get parts (length fields) ≡ Some part
+      → part_allows limits heap part n ≡ true → Fit parts (fields ++ number n ∷ [])
   fit_more [] [] part n fit there allowed = cc
-  fit_more (p ∷ ps) [] part n fit there allowed = let same : p ≡ part = cc in (subst (λ (q : ImportPart). part_allows limits heap q n ≡ true) (sym same) allowed, tt)
+  fit_more (p ∷ ps) [] part n fit there allowed =
+      let same : p ≡ part = cc in (subst (λ (q : ImportPart). part_allows limits heap q n ≡ true) (sym same) allowed, tt)
   fit_more (p ∷ ps) (number m ∷ fields) part n fit there allowed = (fit.0, fit_more ps fields part n fit.1 there allowed)
   fit_more [] (number m ∷ fields) part n fit there allowed = absurd fit
   fit_more [] (integer z ∷ fields) part n fit there allowed = absurd fit
@@ -75,7 +79,8 @@ module _ (limits : TypeLimits) (heap : ℕ → Option (List ℕ)) where
   first_of_fields part parts (integer z ∷ fields) fit long = absurd fit
   first_of_fields part parts (octets xs ∷ fields) fit long = absurd fit
 
-  one_field : (a : ImportPart) (fields : List Value) → Fit (a ∷ []) fields → length fields ≡ 1 → (n : ℕ) × (fields ≡ number n ∷ []) × (part_allows limits heap a n ≡ true)
+  one_field : (a : ImportPart) (fields : List Value) → Fit (a ∷ []) fields → length fields ≡ 1
+      → (n : ℕ) × (fields ≡ number n ∷ []) × (part_allows limits heap a n ≡ true)
   one_field a fields fit long =
       let f = first_of_fields a [] fields fit long in
       (f.0, f.2 ∙ ap (λ rest. number f.0 ∷ rest) (no_more f.1 f.4), f.3)
@@ -110,12 +115,15 @@ module _ (limits : TypeLimits) (heap : ℕ → Option (List ℕ)) where
     made (suc (suc (suc zero))) fields k fit long =
         let f = one_field Target fields fit long in
         subst (Makes 3) (sym f.1) (λ item is. makes_it item is (type_read limits small f.0 f.2))
-    made (suc (suc (suc (suc zero)))) fields k fit long = let f = two_fields Alias Namespace fields fit long in subst (Makes 4) (sym f.2) (λ item is. makes_it item is tt)
-    made (suc (suc (suc (suc (suc zero))))) fields k fit long = let f = one_field Alias fields fit long in subst (Makes 5) (sym f.1) (λ item is. makes_it item is tt)
+    made (suc (suc (suc (suc zero)))) fields k fit long =
+        let f = two_fields Alias Namespace fields fit long in subst (Makes 4) (sym f.2) (λ item is. makes_it item is tt)
+    made (suc (suc (suc (suc (suc zero))))) fields k fit long =
+        let f = one_field Alias fields fit long in subst (Makes 5) (sym f.1) (λ item is. makes_it item is tt)
     made (suc (suc (suc (suc (suc (suc zero)))))) fields k fit long =
         let f = two_fields Alias Assembly fields fit long in
         subst (Makes 6) (sym f.2) (λ item is. makes_it item is (row_there limits.assembly_refs f.1 f.4))
-    made (suc (suc (suc (suc (suc (suc (suc zero))))))) fields k fit long = let f = two_fields Alias Namespace fields fit long in subst (Makes 7) (sym f.2) (λ item is. makes_it item is tt)
+    made (suc (suc (suc (suc (suc (suc (suc zero))))))) fields k fit long =
+        let f = two_fields Alias Namespace fields fit long in subst (Makes 7) (sym f.2) (λ item is. makes_it item is tt)
     made (suc (suc (suc (suc (suc (suc (suc (suc zero)))))))) fields k fit long =
         let f = three_fields Alias Assembly Namespace fields fit long in
         subst (Makes 8) (sym f.3) (λ item is. makes_it item is (row_there limits.assembly_refs f.1 f.4))
@@ -127,46 +135,60 @@ module _ (limits : TypeLimits) (heap : ℕ → Option (List ℕ)) where
     -- ---- the fields of a blob
 
     abbrev Allowed : List ImportItem → List Value → List ℕ → Value → List ℕ → Type 0
-    Allowed whole begun bytes value after = IsAllowed (imports limits heap) (record { whole = whole; begun = begun }) (record { bytes = bytes; value = value }) after
+    Allowed whole begun bytes value after =
+        IsAllowed (imports limits heap) (record { whole = whole; begun = begun }) (record { bytes = bytes; value = value }) after
 
     -- the import is made where all fields of its kind are there, and else goes on
-    closes : (whole : List ImportItem) (kind : ℕ) (fields : List Value) → All (IsRead limits) whole → IsKind kind → Fit (parts_of kind) fields → (b : Bool) → (length fields == length (parts_of kind)) ≡ b
+    closes : (whole : List ImportItem) (kind : ℕ) (fields : List Value) → All (IsRead limits) whole → IsKind kind → Fit (parts_of kind) fields → (b : Bool)
+        → (length fields == length (parts_of kind)) ≡ b
         → (o : Option ImportItem) → item_of heap kind (numbers_of fields) ≡ o → Holds (closed (if b then o else None) whole (number kind ∷ fields))
     closes whole kind fields h k fit false e o is = (h, (k, fit))
     closes whole kind fields h k fit true e None is = (h, (k, fit))
     closes whole kind fields h k fit true e (Some item) is =
         (All-push (IsRead limits) whole item h (made kind fields k fit (eqb-true (length fields) (length (parts_of kind)) e) item is), tt)
 
-    kind_read : (whole : List ImportItem) (n : ℕ) → All (IsRead limits) whole → (nat_le 1 n && nat_le n 9) ≡ true → Holds (with_value (imports limits heap) (record { whole = whole; begun = [] }) (number n))
+    kind_read : (whole : List ImportItem) (n : ℕ) → All (IsRead limits) whole → (nat_le 1 n && nat_le n 9) ≡ true
+        → Holds (with_value (imports limits heap) (record { whole = whole; begun = [] }) (number n))
     kind_read whole n h e =
         let p = and_parts (nat_le 1 n) (nat_le n 9) e in
         closes whole n [] h (leb-true 1 n p.0, leb-true n 9 p.1) tt (0 == length (parts_of n)) refl (item_of heap n []) refl
 
-    field_read : (whole : List ImportItem) (kind : ℕ) (fields : List Value) (n : ℕ) (o : Option ImportPart) → slice_get (parts_of kind) (length fields) ≡ o → next_allows limits heap o (number n) ≡ true
-        → All (IsRead limits) whole → IsKind kind → Fit (parts_of kind) fields → Holds (with_value (imports limits heap) (record { whole = whole; begun = number kind ∷ fields }) (number n))
+    field_read : (whole : List ImportItem) (kind : ℕ) (fields : List Value) (n : ℕ) (o : Option ImportPart) → slice_get (parts_of kind) (length fields) ≡ o
+        → next_allows limits heap o (number n) ≡ true
+        → All (IsRead limits) whole → IsKind kind → Fit (parts_of kind) fields
+        → Holds (with_value (imports limits heap) (record { whole = whole; begun = number kind ∷ fields }) (number n))
     field_read whole kind fields n None there allowed h k fit = let no : false ≡ true = allowed in absurd cc
     field_read whole kind fields n (Some part) there allowed h k fit =
         let more = fields ++ number n ∷ [] in
-        closes whole kind more h k (fit_more (parts_of kind) fields part n fit there allowed) (length more == length (parts_of kind)) refl (item_of heap kind (numbers_of more)) refl
+        closes whole kind more h k (fit_more (parts_of kind) fields part n fit there allowed)
+        (length more == length (parts_of kind)) refl (item_of heap kind (numbers_of more)) refl
 
-    no_number : (o : Option ImportPart) (z : Value) → ((part : ImportPart) → next_allows limits heap (Some part) z ≡ false) → (next_allows limits heap None z ≡ false) → next_allows limits heap o z ≡ true → ⊥
+    no_number : (o : Option ImportPart) (z : Value) → ((part : ImportPart) → next_allows limits heap (Some part) z ≡ false)
+        → (next_allows limits heap None z ≡ false) → next_allows limits heap o z ≡ true → ⊥
     no_number None z some none e = cc
     no_number (Some part) z some none e = let f = some part in cc
 
-    one : (whole : List ImportItem) (begun : List Value) (bytes : List ℕ) (v : Value) (after : List ℕ) → Allowed whole begun bytes v after → All (IsRead limits) whole → Begun begun
+    one : (whole : List ImportItem) (begun : List Value) (bytes : List ℕ) (v : Value) (after : List ℕ) → Allowed whole begun bytes v after
+        → All (IsRead limits) whole → Begun begun
         → Holds (with_value (imports limits heap) (record { whole = whole; begun = begun }) v)
     one whole [] bytes (number n) after a h b = kind_read whole n h a.allowed
     one whole [] bytes (integer z) after a h b = let e : false ≡ true = a.allowed in absurd cc
     one whole [] bytes (octets xs) after a h b = let e : false ≡ true = a.allowed in absurd cc
-    one whole (number kind ∷ fields) bytes (number n) after a h b = field_read whole kind fields n (slice_get (parts_of kind) (length fields)) refl a.allowed h b.0 b.1
-    one whole (number kind ∷ fields) bytes (integer z) after a h b = absurd (no_number (next_part (number kind ∷ fields)) (integer z) (λ part. refl) refl a.allowed)
-    one whole (number kind ∷ fields) bytes (octets xs) after a h b = absurd (no_number (next_part (number kind ∷ fields)) (octets xs) (λ part. refl) refl a.allowed)
+    one whole (number kind ∷ fields) bytes (number n) after a h b =
+        field_read whole kind fields n (slice_get (parts_of kind) (length fields)) refl a.allowed h b.0 b.1
+    one whole (number kind ∷ fields) bytes (integer z) after a h b =
+        absurd (no_number (next_part (number kind ∷ fields)) (integer z) (λ part. refl) refl a.allowed)
+    one whole (number kind ∷ fields) bytes (octets xs) after a h b =
+        absurd (no_number (next_part (number kind ∷ fields)) (octets xs) (λ part. refl) refl a.allowed)
     one whole (integer z ∷ fields) bytes v after a h b = absurd b
     one whole (octets xs ∷ fields) bytes v after a h b = absurd b
 
-    kept : (c : Cut ImportItem) (f : Field) (after : List ℕ) → IsAllowed (imports limits heap) c f after → Holds c → Holds (with_value (imports limits heap) c f.value)
+    kept : (c : Cut ImportItem) (f : Field) (after : List ℕ) → IsAllowed (imports limits heap) c f after → Holds c
+        → Holds (with_value (imports limits heap) c f.value)
     kept c f after a h = one c.whole c.begun f.bytes f.value after a h.0 h.1
 
-    pub imports_read : (blob : List ℕ) (items : List ImportItem) (fault : Option BlobFault) → Reading (imports limits heap) blob items fault → All (IsRead limits) items
+    pub imports_read : (blob : List ℕ) (items : List ImportItem) (fault : Option BlobFault) → Reading (imports limits heap) blob items fault
+        → All (IsRead limits) items
     imports_read blob items fault r =
-        subst (λ (xs : List ImportItem). All (IsRead limits) xs) (sym r.made) (of_reading (imports limits heap) Holds kept (All-nil (IsRead limits), tt) blob items fault r).0
+        subst (λ (xs : List ImportItem). All (IsRead limits) xs) (sym r.made)
+        (of_reading (imports limits heap) Holds kept (All-nil (IsRead limits), tt) blob items fault r).0

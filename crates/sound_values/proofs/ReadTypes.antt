@@ -17,10 +17,13 @@ pub row_there : (rows row : ℕ) → is_row rows row ≡ true → (1 ≤ row) ×
 row_there rows row e = let p = and_parts (nat_le 1 row) (nat_le row rows) e in (leb-true 1 row p.0, leb-true row rows p.1)
 
 module _ (limits : TypeLimits) (small : AreSmall limits) where
-  by_tag : (tag row : ℕ) → is_row (rows_of limits tag) row ≡ true → let token : TypeToken = record { table = table_of tag; row = row } in IsToken token × IsThere limits token
+  by_tag : (tag row : ℕ) → is_row (rows_of limits tag) row ≡ true → let token : TypeToken =
+      record { table = table_of tag; row = row } in IsToken token × IsThere limits token
   by_tag zero row e = let there = row_there limits.type_defs row e in let most = small.type_defs in ((inl refl, omega (arith, there.1, most)), there)
-  by_tag (suc zero) row e = let there = row_there limits.type_refs row e in let most = small.type_refs in ((inr (inl refl), omega (arith, there.1, most)), there)
-  by_tag (suc (suc zero)) row e = let there = row_there limits.type_specs row e in let most = small.type_specs in ((inr (inr refl), omega (arith, there.1, most)), there)
+  by_tag (suc zero) row e =
+      let there = row_there limits.type_refs row e in let most = small.type_refs in ((inr (inl refl), omega (arith, there.1, most)), there)
+  by_tag (suc (suc zero)) row e =
+      let there = row_there limits.type_specs row e in let most = small.type_specs in ((inr (inr refl), omega (arith, there.1, most)), there)
   by_tag (suc (suc (suc tag))) row e = let there = row_there 0 row e in absurd (omega (arith, there.0, there.1))
 
   pub type_read : (n : ℕ) → is_type limits n ≡ true → IsToken (token_of n) × IsThere limits (token_of n)

@@ -24,7 +24,8 @@ use Rattle.sound_values.proofs.ReadTypes.{AreSmall}
 use Rattle.sound_values.proofs.Texts.{no_zero}
 
 -- two rows that differ in a key make items that do
-pub differ : {X Y K : Type 0} (f : X → Y) (key : Y → K) (list : ScopeRow → ℕ) (scopes : List ScopeRow) (owner : ℕ) (items : List X) → DifferInScope (λ x. key (f x)) list scopes items
+pub differ : {X Y K : Type 0} (f : X → Y) (key : Y → K) (list : ScopeRow → ℕ) (scopes : List ScopeRow) (owner : ℕ) (items : List X)
+    → DifferInScope (λ x. key (f x)) list scopes items
     → (y z : Y) → AreOwned f list scopes owner items y z → key y ≢ key z
 differ f key list scopes owner items apart y z both same =
     apart both.first.number both.second.number both.first.row both.second.row both.first.there both.second.there both.rises
@@ -53,12 +54,14 @@ module _ (raw : RawFile) (keeps : KeepsRules raw) where
 
   -- ---- constants
 
-  body_sound : (row : ConstantRow) (o : Option StoredBody) → body_of (begun_of (constants (raw_limits raw.tables)) (blob raw.tables row.signature)) ≡ o → IsConstant raw.tables row → is_some o ≡ true
+  body_sound : (row : ConstantRow) (o : Option StoredBody) → body_of (begun_of (constants (raw_limits raw.tables)) (blob raw.tables row.signature)) ≡ o
+      → IsConstant raw.tables row → is_some o ≡ true
       → IsRead (type_limits (value_of raw)) (stored_body (body_by o))
   body_sound row None e kept there = cc
   body_sound row (Some body) e kept there =
       let read = body_read (raw_limits raw.tables) limits_small (blob raw.tables row.signature) _ None body kept.signature_whole e in
-      subst (λ (b : StoredBody). IsRead (type_limits (value_of raw)) b) (sym (stored_again body)) (subst (λ (limits : TypeLimits). IsRead limits body) limits_are read)
+      subst (λ (b : StoredBody). IsRead (type_limits (value_of raw)) b) (sym (stored_again body))
+      (subst (λ (limits : TypeLimits). IsRead limits body) limits_are read)
 
   constant_sound : (row : ConstantRow) → IsConstant raw.tables row → SoundConstant (value_of raw) (constant_of raw.tables row)
   constant_sound row kept =
@@ -66,7 +69,8 @@ module _ (raw : RawFile) (keeps : KeepsRules raw) where
       record {
         name = no_zero raw.tables.texts row.name (text raw.tables row.name) kept.name;
         modifiers = subst (λ (limits : TypeLimits). All (IsModifier limits) (constant_of raw.tables row).modifiers) limits_are
-            (modifiers_read (raw_limits raw.tables) limits_small (blob raw.tables row.signature) (constant_of raw.tables row).modifiers None kept.signature_whole);
+            (modifiers_read (raw_limits raw.tables) limits_small (blob raw.tables row.signature)
+            (constant_of raw.tables row).modifiers None kept.signature_whole);
         body = body.0;
         body_there = body.1;
       }
@@ -122,19 +126,24 @@ module _ (raw : RawFile) (keeps : KeepsRules raw) where
   -- ---- their order
 
   -- what holds of each two rows holds of the scopes that they make
-  pairs : (R : ScopeRow → ScopeRow → Type 0) (Q : ScopeValue → ScopeValue → Type 0) → ((a b : ℕ) (x y : ScopeRow) → R x y → Q (scope_of raw.tables (a, x)) (scope_of raw.tables (b, y)))
+  pairs : (R : ScopeRow → ScopeRow → Type 0) (Q : ScopeValue → ScopeValue → Type 0)
+      → ((a b : ℕ) (x y : ScopeRow) → R x y → Q (scope_of raw.tables (a, x)) (scope_of raw.tables (b, y)))
       → EachPair R raw.tables.scopes → EachPair Q (value_of raw).scopes
   pairs R Q means all a b v w hv hw less =
       let p = row_of_numbered (scope_of raw.tables) raw.tables.scopes a v hv in
       let q = row_of_numbered (scope_of raw.tables) raw.tables.scopes b w hw in
-      subst (λ (s : ScopeValue). Q s w) p.2 (subst (λ (s : ScopeValue). Q (scope_of raw.tables (a, p.0)) s) q.2 (means a b p.0 q.0 (all a b p.0 q.0 p.1 q.1 less)))
+      subst (λ (s : ScopeValue). Q s w) p.2 (subst (λ (s : ScopeValue). Q (scope_of raw.tables (a, p.0)) s) q.2
+      (means a b p.0 q.0 (all a b p.0 q.0 p.1 q.1 less)))
 
   pub scopes_sound : SoundScopes (value_of raw)
   scopes_sound = record {
     each = λ row v here.
         let p = row_of_numbered (scope_of raw.tables) raw.tables.scopes row v here in
         subst (SoundScope (value_of raw)) p.2 (scope_sound row p.0 p.1);
-    by_method = subst IsSorted (sym (keys_numbered (scope_of raw.tables) (λ s. s.method) (λ s. s.method) (λ row. refl) 1 raw.tables.scopes)) keeps.scopes.by_method;
-    by_start = pairs (λ a b. a.method ≡ b.method → ComesAfter (range_of a) (range_of b)) (λ a b. a.method ≡ b.method → ComesAfter a.range b.range) (λ a b x y after same. after same) keeps.scopes.by_start;
-    nested = pairs (λ a b. a.method ≡ b.method → IsInOrAfter (range_of a) (range_of b)) (λ a b. a.method ≡ b.method → IsInOrAfter a.range b.range) (λ a b x y after same. after same) keeps.scopes.nested;
+    by_method =
+        subst IsSorted (sym (keys_numbered (scope_of raw.tables) (λ s. s.method) (λ s. s.method) (λ row. refl) 1 raw.tables.scopes)) keeps.scopes.by_method;
+    by_start = pairs (λ a b. a.method ≡ b.method → ComesAfter (range_of a) (range_of b)) (λ a b. a.method ≡ b.method → ComesAfter a.range b.range)
+        (λ a b x y after same. after same) keeps.scopes.by_start;
+    nested = pairs (λ a b. a.method ≡ b.method → IsInOrAfter (range_of a) (range_of b)) (λ a b. a.method ≡ b.method → IsInOrAfter a.range b.range)
+        (λ a b x y after same. after same) keeps.scopes.nested;
   }

@@ -9,7 +9,8 @@ use Rattle.std.proofs.lemmas.List.Elements.{All-nil}
 use Rattle.ppdb_heaps.specs.Heaps.{text_at}
 use Rattle.sound_values.specs.Scopes.{HoldsNoZero}
 
-before_zero : (bytes : List ℕ) (o : Option ℕ) → position (λ b. b == 0) bytes ≡ o → (text : List ℕ) → option_map (λ len. take len bytes) o ≡ Some text → HoldsNoZero text
+before_zero : (bytes : List ℕ) (o : Option ℕ) → position (λ b. b == 0) bytes ≡ o → (text : List ℕ) → option_map (λ len. take len bytes) o ≡ Some text
+    → HoldsNoZero text
 before_zero bytes None e text is = cc
 before_zero bytes (Some len) e text is =
     let same : take len bytes ≡ text = cc in

@@ -1,5 +1,6 @@
 -- The values of three worked files are sound.
-use Rattle.std.proofs.Common.{◌≡◌, ◌≢◌, ℕ, zero, suc, ◌+◌, ◌-◌, ◌≤◌, ◌<◌, ◌⊎◌, true, List, [], ◌∷◌, length, drop, map, refl, sym, ◌∙◌, subst, arith, inl, inr, slice_index}
+use Rattle.std.proofs.Common.{◌≡◌, ◌≢◌, ℕ, zero, suc, ◌+◌, ◌-◌, ◌≤◌, ◌<◌, ◌⊎◌, true, List, [], ◌∷◌, length, drop, map, refl, sym, ◌∙◌}
+use Rattle.std.proofs.Common.{subst, arith, inl, inr, slice_index}
 use Rattle.std.specs.Prelude.{All, AllPairs, nat_le, ◌==◌}
 use Rattle.std.specs.List.{list_all}
 use Rattle.std.proofs.lemmas.Bool.Decides.{nat_tests}
@@ -152,7 +153,8 @@ two_rise a b ab = AllPairs-cons After a (b ∷ []) (All-cons (After a) b [] ab (
     (AllPairs-cons After b [] (All-nil (After b)) (λ i j d less within. absurd (omega (arith, within))))
 
 three_rise : (a b c : Point) → a.offset < b.offset → b.offset < c.offset → AllPairs After (a ∷ b ∷ c ∷ [])
-three_rise a b c ab bc = AllPairs-cons After a (b ∷ c ∷ []) (All-cons (After a) b (c ∷ []) ab (All-cons (After a) c [] (omega (arith, ab, bc)) (All-nil (After a)))) (two_rise b c bc)
+three_rise a b c ab bc = AllPairs-cons After a (b ∷ c ∷ [])
+    (All-cons (After a) b (c ∷ []) ab (All-cons (After a) c [] (omega (arith, ab, bc)) (All-nil (After a)))) (two_rise b c bc)
 
 module _ (value : FileValue) (has_document : 1 ≤ length value.documents) where
   point_sound : (offset : ℕ) (span : Span) → offset < 0x80000000 → IsSpan span → SoundPoint value (point offset span)
@@ -172,9 +174,11 @@ small_methods scopes = record {
     some = λ e. cc;
     rise = three_rise (point 0 (Lines 10 5 10 9)) (point 3 Hidden) (point 7 (Lines 12 1 13 2)) (omega arith) (omega arith);
     points = three_sound (with_scopes scopes) (omega arith) _ _ _
-        (point_sound (with_scopes scopes) (omega arith) 0 (Lines 10 5 10 9) (omega arith) (span_of 10 5 10 9 (omega arith) (omega arith) (omega arith) (omega arith) (inr (refl, omega arith))))
+        (point_sound (with_scopes scopes) (omega arith) 0 (Lines 10 5 10 9) (omega arith)
+        (span_of 10 5 10 9 (omega arith) (omega arith) (omega arith) (omega arith) (inr (refl, omega arith))))
         (point_sound (with_scopes scopes) (omega arith) 3 Hidden (omega arith) tt)
-        (point_sound (with_scopes scopes) (omega arith) 7 (Lines 12 1 13 2) (omega arith) (span_of 12 1 13 2 (omega arith) (omega arith) (omega arith) (omega arith) (inl (omega arith))));
+        (point_sound (with_scopes scopes) (omega arith) 7 (Lines 12 1 13 2) (omega arith)
+        (span_of 12 1 13 2 (omega arith) (omega arith) (omega arith) (omega arith) (inl (omega arith))));
   }) (each_nil (SoundMethod (with_scopes scopes)));
   by_row = one_rises 1;
 }
@@ -188,13 +192,15 @@ hidden_points first second rise small =
         signature = omega arith;
         some = λ e. cc;
         rise = two_rise (point first Hidden) (point second Hidden) rise;
-        points = two_sound value (omega arith) _ _ (point_sound value (omega arith) first Hidden (omega (arith, rise, small)) tt) (point_sound value (omega arith) second Hidden small tt);
+        points = two_sound value (omega arith) _ _ (point_sound value (omega arith) first Hidden (omega (arith, rise, small)) tt)
+            (point_sound value (omega arith) second Hidden small tt);
       }) (each_nil (SoundMethod value));
       by_row = one_rises 1;
     }
 
 module _ (value : FileValue) (has_method : 1 ≤ count value 0x06) where
-  scope_sound : (start end : ℕ) (variables : List VariableValue) → start < end → end < 0x80000000 → EachRow SoundVariable variables → EachPair (λ a b. a.slot ≢ b.slot) variables → EachPair (λ a b. a.name ≢ b.name) variables
+  scope_sound : (start end : ℕ) (variables : List VariableValue) → start < end → end < 0x80000000 → EachRow SoundVariable variables
+      → EachPair (λ a b. a.slot ≢ b.slot) variables → EachPair (λ a b. a.name ≢ b.name) variables
       → SoundScope value (record { method = 1; import = 0; range = record { start = start; end = end }; variables = variables; constants = [] })
   scope_sound start end variables some small are slots names = record {
     method = (omega arith, has_method);
@@ -210,7 +216,13 @@ module _ (value : FileValue) (has_method : 1 ≤ count value 0x06) where
 
   -- a scope of one variable, with a name of one byte
   one_variable : (start end slot name : ℕ) → start < end → end < 0x80000000 → name ≢ 0
-      → SoundScope value (record { method = 1; import = 0; range = record { start = start; end = end }; variables = record { attributes = 0; slot = slot; name = name ∷ [] } ∷ []; constants = [] })
+      → SoundScope value (record {
+        method = 1;
+        import = 0;
+        range = record { start = start; end = end };
+        variables = record { attributes = 0; slot = slot; name = name ∷ [] } ∷ [];
+        constants = [];
+      })
   one_variable start end slot name some small is =
       scope_sound start end (record { attributes = 0; slot = slot; name = name ∷ [] } ∷ []) some small
       (each_cons SoundVariable _ [] (All-cons (λ b. b ≢ 0) name [] is (All-nil (λ b. b ≢ 0))) (each_nil SoundVariable)) (pairs_one _ _) (pairs_one _ _)
@@ -222,8 +234,10 @@ small_scopes : (methods : List MethodValue) → SoundScopes (record small_value 
 small_scopes methods =
     let value : FileValue = record small_value { methods = methods } in
     record {
-      each = each_cons (SoundScope value) outer_scope (inner_scope ∷ []) (one_variable value (omega arith) 0 9 0 0x78 (omega arith) (omega arith) (λ e. omega (arith, e)))
-          (each_cons (SoundScope value) inner_scope [] (one_variable value (omega arith) 2 5 1 0x79 (omega arith) (omega arith) (λ e. omega (arith, e))) (each_nil (SoundScope value)));
+      each = each_cons (SoundScope value) outer_scope (inner_scope ∷ []) (one_variable value (omega arith) 0 9 0 0x78 (omega arith) (omega arith)
+          (λ e. omega (arith, e)))
+          (each_cons (SoundScope value) inner_scope [] (one_variable value (omega arith) 2 5 1 0x79 (omega arith) (omega arith) (λ e. omega (arith, e)))
+          (each_nil (SoundScope value)));
       by_method = same_sorted 1;
       by_start = pairs_cons _ outer_scope (inner_scope ∷ []) (each_cons _ inner_scope [] (λ same. inl (omega arith)) (each_nil _)) (pairs_one _ inner_scope);
       nested = pairs_cons _ outer_scope (inner_scope ∷ []) (each_cons _ inner_scope [] (λ same. inl (omega arith)) (each_nil _)) (pairs_one _ inner_scope);
@@ -239,12 +253,15 @@ equal_ranges =
       each = each_cons (SoundScope value) (scope_at 0 9) (scope_at 0 9 ∷ []) (no_variables value (omega arith) 0 9 (omega arith) (omega arith))
           (each_cons (SoundScope value) (scope_at 0 9) [] (no_variables value (omega arith) 0 9 (omega arith) (omega arith)) (each_nil (SoundScope value)));
       by_method = same_sorted 1;
-      by_start = pairs_cons _ (scope_at 0 9) (scope_at 0 9 ∷ []) (each_cons _ (scope_at 0 9) [] (λ same. inr (refl, omega arith)) (each_nil _)) (pairs_one _ (scope_at 0 9));
-      nested = pairs_cons _ (scope_at 0 9) (scope_at 0 9 ∷ []) (each_cons _ (scope_at 0 9) [] (λ same. inl (omega arith)) (each_nil _)) (pairs_one _ (scope_at 0 9));
+      by_start = pairs_cons _ (scope_at 0 9) (scope_at 0 9 ∷ []) (each_cons _ (scope_at 0 9) [] (λ same. inr (refl, omega arith)) (each_nil _))
+          (pairs_one _ (scope_at 0 9));
+      nested =
+          pairs_cons _ (scope_at 0 9) (scope_at 0 9 ∷ []) (each_cons _ (scope_at 0 9) [] (λ same. inl (omega arith)) (each_nil _)) (pairs_one _ (scope_at 0 9));
     }
 
 -- the small value with these methods and scopes
-with_both : (methods : List MethodValue) (scopes : List ScopeValue) → let value : FileValue = record small_value { methods = methods; scopes = scopes } in SoundMethods value → SoundScopes value → IsSound value
+with_both : (methods : List MethodValue) (scopes : List ScopeValue) → let value : FileValue =
+    record small_value { methods = methods; scopes = scopes } in SoundMethods value → SoundScopes value → IsSound value
 with_both methods scopes sound_methods sound_scopes =
     let value : FileValue = record small_value { methods = methods; scopes = scopes } in
     record {
@@ -272,6 +289,7 @@ sound codes = record {
   };
   small = with_both small_value.methods small_value.scopes (small_methods small_value.scopes) (small_scopes small_value.methods);
   program = subst IsSound program_is (value_sound codes program_file program_kept);
-  late_points = with_both (with_points 0x20000000 0x7fffffff Hidden).methods small_value.scopes (hidden_points 0x20000000 0x7fffffff (omega arith) (omega arith)) (small_scopes (with_points 0x20000000 0x7fffffff Hidden).methods);
+  late_points = with_both (with_points 0x20000000 0x7fffffff Hidden).methods small_value.scopes (hidden_points 0x20000000 0x7fffffff (omega arith)
+      (omega arith)) (small_scopes (with_points 0x20000000 0x7fffffff Hidden).methods);
   equal_ranges = with_both small_value.methods equal_scopes (small_methods equal_scopes) equal_ranges;
 }

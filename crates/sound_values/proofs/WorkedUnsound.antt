@@ -24,10 +24,15 @@ unsound = record {
   methods = λ s. let h = s.methods.by_row 0 1 (omega arith) (omega arith) in omega (arith, h);
   same_offset = λ s. let h = (s.methods.each 1 _ refl).rise 0 1 some_point (omega arith) (omega arith) in omega (arith, h);
   large_offset = λ s. let h = ((s.methods.each 1 _ refl).points 1 some_point (omega arith)).offset in omega (arith, h);
-  no_span = λ s. elim (((s.methods.each 1 _ refl).points 0 some_point (omega arith)).span).4 [ inl h ↦ omega (arith, h) | inr h ↦ let wider = h.1 in omega (arith, wider) ];
+  no_span = λ s. elim (((s.methods.each 1 _ refl).points 0 some_point (omega arith)).span).4 [
+    | inl h ↦ omega (arith, h)
+    | inr h ↦ let wider = h.1 in
+        omega (arith, wider)
+  ];
   no_range = λ s. let h = (s.scopes.each 1 _ refl).not_empty in omega (arith, h);
   crossing = λ s. elim (s.scopes.nested 1 2 _ _ refl refl (omega arith) refl) [ inl h ↦ omega (arith, h) | inr h ↦ omega (arith, h) ];
-  inner_first = λ s. elim (s.scopes.by_start 1 2 _ _ refl refl (omega arith) refl) [ inl h ↦ omega (arith, h) | inr h ↦ let longer = h.1 in omega (arith, longer) ];
+  inner_first =
+      λ s. elim (s.scopes.by_start 1 2 _ _ refl refl (omega arith) refl) [ inl h ↦ omega (arith, h) | inr h ↦ let longer = h.1 in omega (arith, longer) ];
   slots = λ s. (s.scopes.each 1 _ refl).slots_differ 1 2 _ _ refl refl (omega arith) refl;
   zero_byte = λ s. (s.scopes.each 1 _ refl).variables 1 _ refl 1 0 (omega arith) refl;
   constant = λ s. let h = ((s.scopes.each 1 _ refl).constants 1 _ refl).body.size in omega (arith, h);

@@ -17,7 +17,8 @@ use Rattle.ppdb_values.specs.declared.custom.CustomBody.TheVariants.{Async, Hois
 use Rattle.ppdb_values.specs.declared.file.FileValue.{FileValue}
 use Rattle.ppdb_values.specs.declared.file.MethodValue.{MethodValue}
 use Rattle.ppdb_values.specs.declared.import.ImportValue.{ImportValue}
-use Rattle.ppdb_values.specs.declared.import.ImportValue.TheVariants.{Namespace, AssemblyNamespace, Target, Xml, Alias, AssemblyAlias, NamespaceAlias, AssemblyNamespaceAlias, TargetAlias}
+use Rattle.ppdb_values.specs.declared.import.ImportValue.TheVariants.{Namespace, AssemblyNamespace, Target, Xml, Alias, AssemblyAlias}
+use Rattle.ppdb_values.specs.declared.import.ImportValue.TheVariants.{NamespaceAlias, AssemblyNamespaceAlias, TargetAlias}
 use Rattle.sound_values.specs.Imports.{SoundImport}
 use Rattle.sound_values.specs.Customs.{IsBodyOfKind}
 use Rattle.sound_values.specs.Methods.{SoundMethod}
@@ -40,7 +41,8 @@ module _ (value : FileValue) (s : IsSound value) (few : length value.documents �
       }
 
   body_writable : (kind : Kind) (body : CustomBody) → IsBodyOfKind value kind body → IsWritable body
-  body_writable AsyncKind (Async handler steps) b = (b.0, All-weaker (λ (step : AsyncStep). IsStep step × (step.method ≤ count value 0x06)) IsStep (λ step is. is.0) steps b.1)
+  body_writable AsyncKind (Async handler steps) b =
+      (b.0, All-weaker (λ (step : AsyncStep). IsStep step × (step.method ≤ count value 0x06)) IsStep (λ step is. is.0) steps b.1)
   body_writable HoistedKind (Hoisted slots) b = b
   body_writable DocumentsKind (TypeDocuments documents) b = All-weaker (HasRow value 0x30) IsRowNumber (λ row is. (is.0, omega (arith, is.1, few))) documents b
   body_writable Free (Unread content) b = tt
@@ -65,7 +67,8 @@ pub parts_writable : SoundPartsCanBeWritten
 parts_writable value s few = record {
   points = λ row method here. points_writable value s few method (s.methods.each row method here);
   modifiers = λ row scope here number constant there.
-      All-weaker (λ (m : Modifier). HasType value m.target) (λ m. IsToken m.target) (λ m is. is.0) constant.modifiers ((s.scopes.each row scope here).constants number constant there).modifiers;
+      All-weaker (λ (m : Modifier). HasType value m.target) (λ m. IsToken m.target)
+      (λ m is. is.0) constant.modifiers ((s.scopes.each row scope here).constants number constant there).modifiers;
   bodies = λ row scope here number constant there. ((s.scopes.each row scope here).constants number constant there).body;
   imports = λ row scope here number import there. import_spelled value s few import ((s.imports.each row scope here).imports number import there);
   customs = λ row custom here. body_writable value s few (kind_of [] custom.kind) custom.value (s.customs.each row custom here).body;

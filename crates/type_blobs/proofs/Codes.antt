@@ -2,7 +2,8 @@
 use Rattle.std.proofs.Common.{◌≡◌, ℕ, ◌<◌, ◌≤◌, Bool, true, false, ◌&&◌, ◌||◌, Some, None, [], ◌∷◌, refl, sym, subst, zero, suc, arith, ◌⊎◌, inl, inr}
 use Rattle.std.specs.Prelude.{◌==◌, nat_le}
 use Rattle.blob_grammar.specs.Grammar.{number, unsigned, fixed, rest}
-use Rattle.type_blobs.specs.Constants.{is_modifier, is_primitive, is_enumerable, is_general, is_string, is_object, is_code, size_of, after_code, after_two, body_of}
+use Rattle.type_blobs.specs.Constants.{is_modifier, is_primitive, is_enumerable, is_general, is_string, is_object, is_code, size_of}
+use Rattle.type_blobs.specs.Constants.{after_code, after_two, body_of}
 
 either : (a b : Bool) → (a || b) ≡ true → (a ≡ true) ⊎ (b ≡ true)
 either true b e = inl refl
@@ -47,18 +48,30 @@ pub record OfPrimitive (code : ℕ) : Type 0 where
 pub of_primitive : (code : ℕ) → 2 ≤ code → code ≤ 13 → OfPrimitive code
 of_primitive zero low high = absurd (omega arith)
 of_primitive (suc zero) low high = absurd (omega arith)
-of_primitive (suc (suc zero)) low high = record { code_known = refl; after = refl; alone = refl; no_modifier = refl; no_string = refl; no_general = refl; some_bytes = omega arith }
-of_primitive (suc (suc (suc zero))) low high = record { code_known = refl; after = refl; alone = refl; no_modifier = refl; no_string = refl; no_general = refl; some_bytes = omega arith }
-of_primitive (suc (suc (suc (suc zero)))) low high = record { code_known = refl; after = refl; alone = refl; no_modifier = refl; no_string = refl; no_general = refl; some_bytes = omega arith }
-of_primitive (suc (suc (suc (suc (suc zero))))) low high = record { code_known = refl; after = refl; alone = refl; no_modifier = refl; no_string = refl; no_general = refl; some_bytes = omega arith }
-of_primitive (suc (suc (suc (suc (suc (suc zero)))))) low high = record { code_known = refl; after = refl; alone = refl; no_modifier = refl; no_string = refl; no_general = refl; some_bytes = omega arith }
-of_primitive (suc (suc (suc (suc (suc (suc (suc zero))))))) low high = record { code_known = refl; after = refl; alone = refl; no_modifier = refl; no_string = refl; no_general = refl; some_bytes = omega arith }
-of_primitive (suc (suc (suc (suc (suc (suc (suc (suc zero)))))))) low high = record { code_known = refl; after = refl; alone = refl; no_modifier = refl; no_string = refl; no_general = refl; some_bytes = omega arith }
-of_primitive (suc (suc (suc (suc (suc (suc (suc (suc (suc zero))))))))) low high = record { code_known = refl; after = refl; alone = refl; no_modifier = refl; no_string = refl; no_general = refl; some_bytes = omega arith }
-of_primitive (suc (suc (suc (suc (suc (suc (suc (suc (suc (suc zero)))))))))) low high = record { code_known = refl; after = refl; alone = refl; no_modifier = refl; no_string = refl; no_general = refl; some_bytes = omega arith }
-of_primitive (suc (suc (suc (suc (suc (suc (suc (suc (suc (suc (suc zero))))))))))) low high = record { code_known = refl; after = refl; alone = refl; no_modifier = refl; no_string = refl; no_general = refl; some_bytes = omega arith }
-of_primitive (suc (suc (suc (suc (suc (suc (suc (suc (suc (suc (suc (suc zero)))))))))))) low high = record { code_known = refl; after = refl; alone = refl; no_modifier = refl; no_string = refl; no_general = refl; some_bytes = omega arith }
-of_primitive (suc (suc (suc (suc (suc (suc (suc (suc (suc (suc (suc (suc (suc zero))))))))))))) low high = record { code_known = refl; after = refl; alone = refl; no_modifier = refl; no_string = refl; no_general = refl; some_bytes = omega arith }
+of_primitive (suc (suc zero)) low high =
+    record { code_known = refl; after = refl; alone = refl; no_modifier = refl; no_string = refl; no_general = refl; some_bytes = omega arith }
+of_primitive (suc (suc (suc zero))) low high =
+    record { code_known = refl; after = refl; alone = refl; no_modifier = refl; no_string = refl; no_general = refl; some_bytes = omega arith }
+of_primitive (suc (suc (suc (suc zero)))) low high =
+    record { code_known = refl; after = refl; alone = refl; no_modifier = refl; no_string = refl; no_general = refl; some_bytes = omega arith }
+of_primitive (suc (suc (suc (suc (suc zero))))) low high =
+    record { code_known = refl; after = refl; alone = refl; no_modifier = refl; no_string = refl; no_general = refl; some_bytes = omega arith }
+of_primitive (suc (suc (suc (suc (suc (suc zero)))))) low high =
+    record { code_known = refl; after = refl; alone = refl; no_modifier = refl; no_string = refl; no_general = refl; some_bytes = omega arith }
+of_primitive (suc (suc (suc (suc (suc (suc (suc zero))))))) low high =
+    record { code_known = refl; after = refl; alone = refl; no_modifier = refl; no_string = refl; no_general = refl; some_bytes = omega arith }
+of_primitive (suc (suc (suc (suc (suc (suc (suc (suc zero)))))))) low high =
+    record { code_known = refl; after = refl; alone = refl; no_modifier = refl; no_string = refl; no_general = refl; some_bytes = omega arith }
+of_primitive (suc (suc (suc (suc (suc (suc (suc (suc (suc zero))))))))) low high =
+    record { code_known = refl; after = refl; alone = refl; no_modifier = refl; no_string = refl; no_general = refl; some_bytes = omega arith }
+of_primitive (suc (suc (suc (suc (suc (suc (suc (suc (suc (suc zero)))))))))) low high =
+    record { code_known = refl; after = refl; alone = refl; no_modifier = refl; no_string = refl; no_general = refl; some_bytes = omega arith }
+of_primitive (suc (suc (suc (suc (suc (suc (suc (suc (suc (suc (suc zero))))))))))) low high =
+    record { code_known = refl; after = refl; alone = refl; no_modifier = refl; no_string = refl; no_general = refl; some_bytes = omega arith }
+of_primitive (suc (suc (suc (suc (suc (suc (suc (suc (suc (suc (suc (suc zero)))))))))))) low high =
+    record { code_known = refl; after = refl; alone = refl; no_modifier = refl; no_string = refl; no_general = refl; some_bytes = omega arith }
+of_primitive (suc (suc (suc (suc (suc (suc (suc (suc (suc (suc (suc (suc (suc zero))))))))))))) low high =
+    record { code_known = refl; after = refl; alone = refl; no_modifier = refl; no_string = refl; no_general = refl; some_bytes = omega arith }
 of_primitive (suc (suc (suc (suc (suc (suc (suc (suc (suc (suc (suc (suc (suc (suc n)))))))))))))) low high = absurd (omega arith)
 
 pub general_between : (code : ℕ) → 17 ≤ code → code ≤ 18 → is_general code ≡ true
@@ -66,7 +79,8 @@ general_between code low high = grind arith
 
 -- ---- other codes
 
-none : (code : ℕ) → is_modifier code ≡ false → is_primitive code ≡ false → is_general code ≡ false → is_string code ≡ false → is_object code ≡ false → is_code code ≡ false
+none : (code : ℕ) → is_modifier code ≡ false → is_primitive code ≡ false → is_general code ≡ false → is_string code ≡ false → is_object code ≡ false
+    → is_code code ≡ false
 none code a b c d e = rw (a, b, c, d, e) refl
 
 not_primitive-below : (code : ℕ) → code < 2 → is_primitive code ≡ false

@@ -31,7 +31,8 @@ bad_is : (begun : List Value) (b : Bool) (fault : BlobFault) → begins_modifier
 bad_is begun true fault e = e
 bad_is begun false fault e = e
 
-end_is : (limits : TypeLimits) (fields : List Field) (after : List ℕ) (fault : Option BlobFault) → Ends (constants limits) fields after fault → let begun : List Value = (cut (constants limits) fields).begun in EndIs begun (end_of begun fault)
+end_is : (limits : TypeLimits) (fields : List Field) (after : List ℕ) (fault : Option BlobFault) → Ends (constants limits) fields after fault
+    → let begun : List Value = (cut (constants limits) fields).begun in EndIs begun (end_of begun fault)
 end_is limits fields after None h = whole_is (cut (constants limits) fields).begun (body_of (cut (constants limits) fields).begun) refl h.1
 end_is limits fields after (Some fault) h = bad_is (cut (constants limits) fields).begun (begins_modifier (cut (constants limits) fields).begun) fault refl
 
@@ -41,8 +42,15 @@ constant_left-reads limits blob =
     let r = read_from-reads (constants limits) blob in
     let fault = (read_from (constants limits) [] [] 0 blob).fault in
     let begun = (cut (constants limits) (front_of (constants limits) blob)).begun in
-    let same : (cut (constants limits) r.fields).begun ≡ begun = ap (λ (fs : List Field). (cut (constants limits) fs).begun) (longest-front_of (constants limits) blob r.fields r.after r.front) in
+    let same : (cut (constants limits) r.fields).begun ≡ begun =
+    ap (λ (fs : List Field). (cut (constants limits) fs).begun) (longest-front_of (constants limits) blob r.fields r.after r.front) in
     record {
-      reading = record { fields = r.fields; after = r.after; front = r.front; made = r.made; ends = subst (λ f. Ends (constants limits) r.fields r.after f) (sym (fault_is begun fault)) r.ends };
+      reading = record {
+        fields = r.fields;
+        after = r.after;
+        front = r.front;
+        made = r.made;
+        ends = subst (λ f. Ends (constants limits) r.fields r.after f) (sym (fault_is begun fault)) r.ends;
+      };
       end = subst (λ b. EndIs (cut (constants limits) r.fields).begun (end_of b fault)) same (end_is limits r.fields r.after fault r.ends);
     }

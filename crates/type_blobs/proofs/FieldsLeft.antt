@@ -1,5 +1,6 @@
 -- A walk over the fields of imports, a field at a time.
-use Rattle.std.proofs.Common.{◌≡◌, ℕ, zero, suc, ◌+◌, ◌<◌, ◌≤◌, Bool, true, false, ◌&&◌, List, [], ◌∷◌, ◌++◌, length, drop, Option, Some, None, Ok, Err, refl, sym, ap, ◌∙◌, arith, length-append, if◌then◌else◌, inl, inr, ◌⊎◌}
+use Rattle.std.proofs.Common.{◌≡◌, ℕ, zero, suc, ◌+◌, ◌<◌, ◌≤◌, Bool, true, false, ◌&&◌, List, [], ◌∷◌, ◌++◌, length, drop, Option, Some}
+use Rattle.std.proofs.Common.{None, Ok, Err, refl, sym, ap, ◌∙◌, arith, length-append, if◌then◌else◌, inl, inr, ◌⊎◌}
 use Rattle.std.specs.Option.{option_map}
 use Rattle.std.specs.Prelude.{◌≢◌, ◌==◌}
 use Rattle.std.proofs.lemmas.Bool.{ne_eqb}
@@ -16,7 +17,8 @@ use Rattle.type_blobs.specs.declared.import_part.ImportPart.{ImportPart}
 use Rattle.type_blobs.specs.declared.import_part.ImportField.{ImportField}
 use Rattle.type_blobs.specs.declared.import_fields.ImportPlace.{ImportPlace}
 use Rattle.blob_grammar.specs.Allowed.{is_between}
-use Rattle.type_blobs.specs.Imports.{ImportItem, imports, import_of, item_of, items_by_kind, of_kind, parts_of, numbers_of, next_part, next_allows, part_allows, allows, import_field, field_of}
+use Rattle.type_blobs.specs.Imports.{ImportItem, imports, import_of, item_of, items_by_kind, of_kind, parts_of, numbers_of, next_part}
+use Rattle.type_blobs.specs.Imports.{next_allows, part_allows, allows, import_field, field_of}
 use Rattle.type_blobs.specs.Numbers.{number_at}
 use Rattle.type_blobs.specs.ImportReading.{zeros, begun_of, SameShape, import_fields_left}
 use Rattle.type_blobs.proofs.NextStep.{found, step-number, step-no_number}
@@ -45,7 +47,8 @@ closed_as None w x vs ws e = e
 closed_as (Some item) w x vs ws e = tt
 
 closed_if : (b : Bool) (o : Option (List ℕ → ImportItem)) (w x : List ImportItem) (vs ws : List Value) (ns ms : List ℕ) → SameShape vs ws
-    → SameShape (closed (if b then option_map (λ make. make ns) o else None) w vs).begun (closed (if b then option_map (λ make. make ms) o else None) x ws).begun
+    → SameShape (closed (if b then option_map (λ make. make ns) o else None) w vs).begun
+    (closed (if b then option_map (λ make. make ms) o else None) x ws).begun
 closed_if false o w x vs ws ns ms e = e
 closed_if true None w x vs ws ns ms e = e
 closed_if true (Some make) w x vs ws ns ms e = tt
@@ -68,13 +71,15 @@ module _ (limits : TypeLimits) (heap : ℕ → Option (List ℕ)) where
   same_stop _ _ e = absurd e
 
   keeps_at : (w x : List ImportItem) (vs ws : List Value) (value : Value) → SameShape vs ws → allows limits heap vs value ≡ true
-      → SameShape (with_value (imports limits heap) (record { whole = w; begun = vs }) value).begun (with_value (imports limits heap) (record { whole = x; begun = ws }) value).begun
+      → SameShape (with_value (imports limits heap) (record { whole = w; begun = vs }) value).begun (with_value (imports limits heap)
+      (record { whole = x; begun = ws }) value).begun
   keeps_at w x [] [] (number n) e allowed = closed_as (import_of heap (number n ∷ [])) w x (number n ∷ []) (number n ∷ []) (refl, refl)
   keeps_at w x [] [] _ e allowed = absurd cc
   keeps_at w x (number k ∷ vs) (number l ∷ ws) value e allowed =
       let len : length (vs ++ value ∷ []) ≡ length (ws ++ value ∷ []) = same_len vs ws value e.1 in
       rw (sym e.0, sym len)
-      (closed_if (length (vs ++ value ∷ []) == length (parts_of k)) (of_kind (items_by_kind heap) k) w x (number k ∷ (vs ++ value ∷ [])) (number k ∷ (ws ++ value ∷ [])) (numbers_of (vs ++ value ∷ [])) (numbers_of (ws ++ value ∷ [])) (refl, len))
+      (closed_if (length (vs ++ value ∷ []) == length (parts_of k)) (of_kind (items_by_kind heap) k) w x (number k ∷ (vs ++ value ∷ []))
+      (number k ∷ (ws ++ value ∷ [])) (numbers_of (vs ++ value ∷ [])) (numbers_of (ws ++ value ∷ [])) (refl, len))
   keeps_at w x _ _ value e allowed = absurd e
 
   alike : AlikeAt (imports limits heap) import_field Shape
@@ -99,7 +104,8 @@ module _ (limits : TypeLimits) (heap : ℕ → Option (List ℕ)) where
   after_more kind (suc m) n some less =
       let len = more_len m n in
       let two : begun_of kind (suc m + 1) ≡ number kind ∷ zeros (suc m) = ap (begun_of kind) (let e : suc m + 1 ≡ suc (suc m) = omega arith in e) in
-      rw (goes_on heap kind (zeros m ++ number n ∷ []) (number kind ∷ (zeros m ++ number n ∷ [])) (λ e. omega (arith, e, len, less)), two) (refl, len ∙ sym (zeros_len (suc m)))
+      rw (goes_on heap kind (zeros m ++ number n ∷ []) (number kind ∷ (zeros m ++ number n ∷ [])) (λ e. omega (arith, e, len, less)), two)
+      (refl, len ∙ sym (zeros_len (suc m)))
 
   -- ---- the next field
 
@@ -115,7 +121,8 @@ module _ (limits : TypeLimits) (heap : ℕ → Option (List ℕ)) where
       ap (fields_left (imports limits heap) import_field (cut_at place) place.at) (drop_all place.at blob (omega (arith, ends)))
       ∙ walk-end (imports limits heap) import_field (cut_at place) place.at unsigned BlobEnd refl refl (ap (λ n. is_between (begun_of place.kind n)) none)
 
-  stays : (blob : List ℕ) (at kind fields : ℕ) → at ≤ length blob → ((at ≡ length blob → ⊥) ⊎ (fields ≢ 0)) → (is_empty (drop at blob) && is_between (begun_of kind fields)) ≡ false
+  stays : (blob : List ℕ) (at kind fields : ℕ) → at ≤ length blob → ((at ≡ length blob → ⊥) ⊎ (fields ≢ 0))
+      → (is_empty (drop at blob) && is_between (begun_of kind fields)) ≡ false
   stays blob at kind zero within (inl more) = rw (not_empty blob at (omega (arith, within, more))) refl
   stays blob at kind (suc m) within (inl more) = rw (not_empty blob at (omega (arith, within, more))) refl
   stays blob at kind zero within (inr some) = absurd (some refl)
@@ -125,20 +132,26 @@ module _ (limits : TypeLimits) (heap : ℕ → Option (List ℕ)) where
       and-false true = refl
       and-false false = refl
 
-  allows_it : (begun : List Value) (part : ImportPart) → next_part begun ≡ Some part → (n : ℕ) → allows limits heap begun (number n) ≡ part_allows limits heap part n
+  allows_it : (begun : List Value) (part : ImportPart) → next_part begun ≡ Some part → (n : ℕ)
+      → allows limits heap begun (number n) ≡ part_allows limits heap part n
   allows_it begun part e n = ap (λ p. next_allows limits heap p (number n)) e
 
-  pub fields-refused : (blob : List ℕ) (place : ImportPlace) (part : ImportPart) (fault : BlobFault) → place.at ≤ length blob → ((place.at ≡ length blob → ⊥) ⊎ (place.fields ≢ 0))
-      → next_part (begun_of place.kind place.fields) ≡ Some part → number_at (part_allows limits heap part) (λ n. n) blob place.at ≡ Err fault → left blob place ≡ nothing_left (Some fault)
+  pub fields-refused : (blob : List ℕ) (place : ImportPlace) (part : ImportPart) (fault : BlobFault) → place.at ≤ length blob
+      → ((place.at ≡ length blob → ⊥) ⊎ (place.fields ≢ 0))
+      → next_part (begun_of place.kind place.fields) ≡ Some part → number_at (part_allows limits heap part) (λ n. n) blob place.at ≡ Err fault
+      → left blob place ≡ nothing_left (Some fault)
   unfolding import_fields_left
   fields-refused blob place part fault within more is e =
       let g = imports limits heap in
       let begun = begun_of place.kind place.fields in
-      let b = step-no_number g [] begun blob place.at (part_allows limits heap part) (λ n. n) fault refl (allows_it begun part is) (stays blob place.at place.kind place.fields within more) e in
-      fields_left-step g import_field (cut_at place) place.at (drop place.at blob) ∙ ap (after_step g import_field (cut_at place) place.at (drop place.at blob)) b.is ∙ ap (λ f. nothing_left (Some f)) (sym b.fault_is)
+      let b = step-no_number g [] begun blob place.at (part_allows limits heap part) (λ n. n) fault refl (allows_it begun part is)
+      (stays blob place.at place.kind place.fields within more) e in
+      fields_left-step g import_field (cut_at place) place.at (drop place.at blob)
+      ∙ ap (after_step g import_field (cut_at place) place.at (drop place.at blob)) b.is ∙ ap (λ f. nothing_left (Some f)) (sym b.fault_is)
 
   pub fields-taken : (blob : List ℕ) (place next : ImportPlace) (part : ImportPart) (n : ℕ) → next_part (begun_of place.kind place.fields) ≡ Some part
-      → number_at (part_allows limits heap part) (λ n. n) blob place.at ≡ Ok (n, next.at) → SameShape (after place.kind place.fields n) (begun_of next.kind next.fields)
+      → number_at (part_allows limits heap part) (λ n. n) blob place.at ≡ Ok (n, next.at) → SameShape (after place.kind place.fields n)
+      (begun_of next.kind next.fields)
       → left blob place ≡ push (record { byte = place.at; part = part; number = n }) (left blob next)
   unfolding import_fields_left
   fields-taken blob place next part n is e shape =
@@ -150,7 +163,8 @@ module _ (limits : TypeLimits) (heap : ℕ → Option (List ℕ)) where
       let bytes : drop f.len (drop place.at blob) ≡ drop next.at blob = drop-drop f.len place.at blob ∙ ap (λ m. drop m blob) end in
       let told = ap (λ p. field_of p place.at (number n)) is in
       fields_left-step g import_field (cut_at place) place.at (drop place.at blob)
-      ∙ ap (after_step g import_field (cut_at place) place.at (drop place.at blob)) (step-number g [] begun blob place.at (part_allows limits heap part) (λ n. n) n next.at refl (allows_it begun part is) f)
+      ∙ ap (after_step g import_field (cut_at place) place.at (drop place.at blob)) (step-number g [] begun blob place.at (part_allows limits heap part)
+      (λ n. n) n next.at refl (allows_it begun part is) f)
       ∙ rw (same, end, bytes, is) (ap (push (record { byte = place.at; part = part; number = n }))
       (fields_left-alike g import_field Shape alike (with_value g (cut_at place) (number n)) (cut_at next) next.at (drop next.at blob) shape))
 

@@ -10,24 +10,31 @@ use Rattle.type_blobs.proofs.NextStep.{Found, step-number, step-no_number}
 
 module _ {R : Type 0} (g : Grammar R) (whole : List R) (begun : List Value) (blob : List ℕ) (at : ℕ) where
   closes : (value : Value) (len : ℕ) (o : Option R)
-      → close_and (λ w b. read_from g w b (at + len) (drop len (drop at blob))) whole (begun ++ value ∷ []) o ≡ close_and (λ w b. left_at g w b blob (at + len)) whole (begun ++ value ∷ []) o
+      → close_and (λ w b. read_from g w b (at + len) (drop len (drop at blob))) whole (begun ++ value ∷ []) o ≡ close_and (λ w b. left_at g w b blob (at + len))
+      whole (begun ++ value ∷ []) o
   closes value len None = ap (read_from g whole (begun ++ value ∷ []) (at + len)) (drop-drop len at blob)
   closes value len (Some r) = ap (λ bytes. push r (read_from g (whole ++ r ∷ []) [] (at + len) bytes)) (drop-drop len at blob)
 
   -- A number that is in range makes the record go on, or closes it.
-  pub takes : {X : Type 0} (allows : ℕ → Bool) (means : ℕ → X) (meaning : X) (next : ℕ) → g.form whole begun ≡ Some unsigned → ((n : ℕ) → g.allows whole begun (number n) ≡ allows n)
+  pub takes : {X : Type 0} (allows : ℕ → Bool) (means : ℕ → X) (meaning : X) (next : ℕ) → g.form whole begun ≡ Some unsigned
+      → ((n : ℕ) → g.allows whole begun (number n) ≡ allows n)
       → (f : Found allows means blob at meaning next)
-      → left_at g whole begun blob at ≡ close_and (λ w b. left_at g w b blob next) whole (begun ++ number f.n ∷ []) (g.record_of whole (begun ++ number f.n ∷ []))
+      → left_at g whole begun blob at ≡ close_and (λ w b. left_at g w b blob next) whole (begun ++ number f.n ∷ [])
+      (g.record_of whole (begun ++ number f.n ∷ []))
   takes allows means meaning next form same f =
       read_from-step g whole begun at (drop at blob)
-      ∙ ap (take_step g (λ len w b. read_from g w b (at + len) (drop len (drop at blob))) whole begun at) (step-number g whole begun blob at allows means meaning next form same f)
+      ∙ ap (take_step g (λ len w b. read_from g w b (at + len) (drop len (drop at blob))) whole begun at)
+      (step-number g whole begun blob at allows means meaning next form same f)
       ∙ closes (number f.n) f.len (g.record_of whole (begun ++ number f.n ∷ []))
       ∙ ap (λ m. close_and (λ w b. left_at g w b blob m) whole (begun ++ number f.n ∷ []) (g.record_of whole (begun ++ number f.n ∷ []))) f.next_is
 
   -- Nothing is left where none stands there, or one that is out of range.
-  pub refuses : {X : Type 0} (allows : ℕ → Bool) (means : ℕ → X) (fault : BlobFault) → g.form whole begun ≡ Some unsigned → ((n : ℕ) → g.allows whole begun (number n) ≡ allows n)
-      → (is_empty (drop at blob) && g.may_stop whole begun) ≡ false → number_at allows means blob at ≡ Err fault → left_at g whole begun blob at ≡ nothing_left (Some fault)
+  pub refuses : {X : Type 0} (allows : ℕ → Bool) (means : ℕ → X) (fault : BlobFault) → g.form whole begun ≡ Some unsigned
+      → ((n : ℕ) → g.allows whole begun (number n) ≡ allows n)
+      → (is_empty (drop at blob) && g.may_stop whole begun) ≡ false → number_at allows means blob at ≡ Err fault
+      → left_at g whole begun blob at ≡ nothing_left (Some fault)
   refuses allows means fault form same stop e =
       let b = step-no_number g whole begun blob at allows means fault form same stop e in
       read_from-step g whole begun at (drop at blob)
-      ∙ ap (take_step g (λ len w b. read_from g w b (at + len) (drop len (drop at blob))) whole begun at) b.is ∙ ap (λ f. nothing_left (Some f)) (sym b.fault_is)
+      ∙ ap (take_step g (λ len w b. read_from g w b (at + len) (drop len (drop at blob))) whole begun at) b.is
+      ∙ ap (λ f. nothing_left (Some f)) (sym b.fault_is)

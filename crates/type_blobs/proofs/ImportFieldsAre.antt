@@ -11,7 +11,8 @@ use Rattle.type_blobs.specs.Imports.{imports, import_field, import_fields, impor
 module _ (limits : TypeLimits) (heap : ℕ → Option (List ℕ)) (blob : List ℕ) (fields : List ImportField) where
   pub import_fields-are : (fields ≡ import_fields limits heap blob) ↔ HasFields (imports limits heap) import_field blob fields
   import_fields-are = (
-    λ e. subst (λ (l : List ImportField). HasFields (imports limits heap) import_field blob l) (sym e) (front_of-fields (imports limits heap) import_field blob),
+    λ e. subst (λ (l : List ImportField). HasFields (imports limits heap) import_field blob l) (sym e)
+        (front_of-fields (imports limits heap) import_field blob),
     fields-are (imports limits heap) import_field blob fields,
   )
 

@@ -1,5 +1,6 @@
 -- What a cursor of imports has left, a field at a time.
-use Rattle.std.proofs.Common.{◌≡◌, ℕ, zero, suc, ◌+◌, ◌<◌, ◌≤◌, Bool, true, false, ◌&&◌, List, [], ◌∷◌, ◌++◌, length, drop, Option, Some, None, Ok, Err, refl, sym, ap, ◌∙◌, arith}
+use Rattle.std.proofs.Common.{◌≡◌, ℕ, zero, suc, ◌+◌, ◌<◌, ◌≤◌, Bool, true, false, ◌&&◌, List, [], ◌∷◌, ◌++◌, length, drop, Option, Some}
+use Rattle.std.proofs.Common.{None, Ok, Err, refl, sym, ap, ◌∙◌, arith}
 use Rattle.std.specs.Prelude.{is_some, nat_le}
 use Rattle.ppdb_base.specs.declared.BlobFault.{BlobFault}
 use Rattle.ppdb_base.specs.declared.Code.TheVariants.{ValueRange}
@@ -14,7 +15,8 @@ use Rattle.type_blobs.specs.declared.types.TypeLimits.{TypeLimits}
 use Rattle.blob_grammar.specs.Allowed.{is_row}
 use Rattle.type_blobs.specs.Types.{is_type, token_of}
 use Rattle.type_blobs.specs.Numbers.{number_at}
-use Rattle.type_blobs.specs.Imports.{next_part, part_allows, text_of, import_of, imports, ImportItem, namespace, assembly_namespace, target, xml, alias, assembly_alias, namespace_alias, assembly_namespace_alias, target_alias}
+use Rattle.type_blobs.specs.Imports.{next_part, part_allows, text_of, import_of, imports, ImportItem, namespace, assembly_namespace}
+use Rattle.type_blobs.specs.Imports.{target, xml, alias, assembly_alias, namespace_alias, assembly_namespace_alias, target_alias}
 use Rattle.type_blobs.specs.declared.import_part.ImportPart.{ImportPart}
 use Rattle.type_blobs.specs.declared.import_part.ImportPart.TheVariants.{Alias, Assembly, Namespace, Target}
 use Rattle.type_blobs.specs.ImportReading.{imports_left, fields_left, text_at, assembly_at, target_at}
@@ -50,22 +52,26 @@ module _ (limits : TypeLimits) (heap : ℕ → Option (List ℕ)) (blob : List �
   abbrev IsPart : ImportPart → ℕ → List Value → Type 0
   IsPart part kind fields = next_part (number kind ∷ fields) ≡ Some part
 
-  allows_part : (part : ImportPart) (kind : ℕ) (fields : List Value) → IsPart part kind fields → (n : ℕ) → (imports limits heap).allows [] (number kind ∷ fields) (number n) ≡ part_allows limits heap part n
+  allows_part : (part : ImportPart) (kind : ℕ) (fields : List Value) → IsPart part kind fields → (n : ℕ)
+      → (imports limits heap).allows [] (number kind ∷ fields) (number n) ≡ part_allows limits heap part n
   allows_part part kind fields e n = rw e refl
 
   pub taken : {X : Type 0} (part : ImportPart) (kind : ℕ) (fields : List Value) (at : ℕ) (means : ℕ → X) (meaning : X) (next : ℕ) → IsPart part kind fields
-      → (f : Found (part_allows limits heap part) means blob at meaning next) → after (number kind ∷ fields) at ≡ goes_on ((number kind ∷ fields) ++ number f.n ∷ []) next
+      → (f : Found (part_allows limits heap part) means blob at meaning next)
+      → after (number kind ∷ fields) at ≡ goes_on ((number kind ∷ fields) ++ number f.n ∷ []) next
   taken part kind fields at means meaning next is f =
       takes (imports limits heap) [] (number kind ∷ fields) blob at (part_allows limits heap part) means meaning next refl (allows_part part kind fields is) f
 
   pub refused : {X : Type 0} (part : ImportPart) (kind : ℕ) (fields : List Value) (at : ℕ) (means : ℕ → X) (fault : BlobFault) → IsPart part kind fields
       → number_at (part_allows limits heap part) means blob at ≡ Err fault → after (number kind ∷ fields) at ≡ nothing_left (Some fault)
   refused part kind fields at means fault is e =
-      refuses (imports limits heap) [] (number kind ∷ fields) blob at (part_allows limits heap part) means fault refl (allows_part part kind fields is) (and-false (is_empty (drop at blob))) e
+      refuses (imports limits heap) [] (number kind ∷ fields) blob at (part_allows limits heap part) means fault refl (allows_part part kind fields is)
+      (and-false (is_empty (drop at blob))) e
 
   -- ---- the imports of each kind
 
-  closed : (begun : List Value) (item : ImportItem) (next : ℕ) → import_of heap begun ≡ Some item → goes_on begun next ≡ push item (imports_left limits heap blob next)
+  closed : (begun : List Value) (item : ImportItem) (next : ℕ) → import_of heap begun ≡ Some item
+      → goes_on begun next ≡ push item (imports_left limits heap blob next)
   closed begun item next e = ap (close_and (λ w b. left_at (imports limits heap) w b blob next) [] begun) e ∙ closes item next
 
   abbrev Text : ℕ → List ℕ → ℕ → Type 0
@@ -74,7 +80,8 @@ module _ (limits : TypeLimits) (heap : ℕ → Option (List ℕ)) (blob : List �
   text_found : (at : ℕ) (text : List ℕ) (next : ℕ) → Text at text next → Found (λ n. is_some (heap n)) (text_of heap) blob at text next
   text_found at text next e = found (λ n. is_some (heap n)) (text_of heap) blob at text next e
 
-  assembly_found : (at assembly next : ℕ) → assembly_at limits blob at ≡ Ok (assembly, next) → Found (is_row limits.assembly_refs) (λ n. n) blob at assembly next
+  assembly_found : (at assembly next : ℕ) → assembly_at limits blob at ≡ Ok (assembly, next)
+      → Found (is_row limits.assembly_refs) (λ n. n) blob at assembly next
   assembly_found at assembly next e = found (is_row limits.assembly_refs) (λ n. n) blob at assembly next e
 
   target_found : (at : ℕ) (token : TypeToken) (next : ℕ) → target_at limits blob at ≡ Ok (token, next) → Found (is_type limits) token_of blob at token next
@@ -90,9 +97,11 @@ module _ (limits : TypeLimits) (heap : ℕ → Option (List ℕ)) (blob : List �
   unfolding fields_left
   an_import_1 at text next e =
       let f = text_found at text next e in
-      taken Namespace 1 [] at (text_of heap) text next refl f ∙ closed (number 1 ∷ number f.n ∷ []) (namespace text) next (ap (λ t. Some (namespace t)) f.means_it)
+      taken Namespace 1 [] at (text_of heap) text next refl f
+      ∙ closed (number 1 ∷ number f.n ∷ []) (namespace text) next (ap (λ t. Some (namespace t)) f.means_it)
 
-  pub an_import_2 : (at assembly next : ℕ) (text : List ℕ) (end : ℕ) → assembly_at limits blob at ≡ Ok (assembly, next) → Text next text end → Left_after 2 at (then (assembly_namespace assembly text) end)
+  pub an_import_2 : (at assembly next : ℕ) (text : List ℕ) (end : ℕ) → assembly_at limits blob at ≡ Ok (assembly, next) → Text next text end
+      → Left_after 2 at (then (assembly_namespace assembly text) end)
   unfolding fields_left
   an_import_2 at assembly next text end d e =
       let a = assembly_found at assembly next d in
@@ -127,11 +136,13 @@ module _ (limits : TypeLimits) (heap : ℕ → Option (List ℕ)) (blob : List �
   unfolding fields_left
   no_alias kind at fault low high e = refused Alias kind [] at (text_of heap) fault (alias_first kind low high) e
 
-  alias_taken : (kind at : ℕ) (name : List ℕ) (next : ℕ) → IsPart Alias kind [] → (f : Found (λ n. is_some (heap n)) (text_of heap) blob at name next) → Left_after kind at (goes_on (number kind ∷ number f.n ∷ []) next)
+  alias_taken : (kind at : ℕ) (name : List ℕ) (next : ℕ) → IsPart Alias kind [] → (f : Found (λ n. is_some (heap n)) (text_of heap) blob at name next)
+      → Left_after kind at (goes_on (number kind ∷ number f.n ∷ []) next)
   unfolding fields_left
   alias_taken kind at name next is f = taken Alias kind [] at (text_of heap) name next is f
 
-  pub an_import_4 : (at : ℕ) (name : List ℕ) (next : ℕ) (text : List ℕ) (end : ℕ) → Text at name next → Text next text end → Left_after 4 at (then (xml name text) end)
+  pub an_import_4 : (at : ℕ) (name : List ℕ) (next : ℕ) (text : List ℕ) (end : ℕ) → Text at name next → Text next text end
+      → Left_after 4 at (then (xml name text) end)
   an_import_4 at name next text end d e =
       let a = text_found at name next d in
       let f = text_found next text end e in
@@ -145,7 +156,8 @@ module _ (limits : TypeLimits) (heap : ℕ → Option (List ℕ)) (blob : List �
       let a = text_found at name next d in
       alias_taken 5 at name next refl a ∙ closed (number 5 ∷ number a.n ∷ []) (alias name) next (ap (λ t. Some (alias t)) a.means_it)
 
-  pub an_import_6 : (at : ℕ) (name : List ℕ) (next assembly end : ℕ) → Text at name next → assembly_at limits blob next ≡ Ok (assembly, end) → Left_after 6 at (then (assembly_alias name assembly) end)
+  pub an_import_6 : (at : ℕ) (name : List ℕ) (next assembly end : ℕ) → Text at name next → assembly_at limits blob next ≡ Ok (assembly, end)
+      → Left_after 6 at (then (assembly_alias name assembly) end)
   an_import_6 at name next assembly end d e =
       let a = text_found at name next d in
       let f = assembly_found next assembly end e in
@@ -154,7 +166,8 @@ module _ (limits : TypeLimits) (heap : ℕ → Option (List ℕ)) (blob : List �
       alias_taken 6 at name next refl a ∙ taken Assembly 6 (number a.n ∷ []) next (λ n. n) assembly end refl f
       ∙ closed (number 6 ∷ number a.n ∷ number f.n ∷ []) (assembly_alias name assembly) end (rw (p, q) refl)
 
-  pub an_import_7 : (at : ℕ) (name : List ℕ) (next : ℕ) (text : List ℕ) (end : ℕ) → Text at name next → Text next text end → Left_after 7 at (then (namespace_alias name text) end)
+  pub an_import_7 : (at : ℕ) (name : List ℕ) (next : ℕ) (text : List ℕ) (end : ℕ) → Text at name next → Text next text end
+      → Left_after 7 at (then (namespace_alias name text) end)
   an_import_7 at name next text end d e =
       let a = text_found at name next d in
       let f = text_found next text end e in
@@ -163,7 +176,8 @@ module _ (limits : TypeLimits) (heap : ℕ → Option (List ℕ)) (blob : List �
       alias_taken 7 at name next refl a ∙ taken Namespace 7 (number a.n ∷ []) next (text_of heap) text end refl f
       ∙ closed (number 7 ∷ number a.n ∷ number f.n ∷ []) (namespace_alias name text) end (rw (p, q) refl)
 
-  pub an_import_8 : (at : ℕ) (name : List ℕ) (next assembly more : ℕ) (text : List ℕ) (end : ℕ) → Text at name next → assembly_at limits blob next ≡ Ok (assembly, more) → Text more text end
+  pub an_import_8 : (at : ℕ) (name : List ℕ) (next assembly more : ℕ) (text : List ℕ) (end : ℕ) → Text at name next
+      → assembly_at limits blob next ≡ Ok (assembly, more) → Text more text end
       → Left_after 8 at (then (assembly_namespace_alias name assembly text) end)
   an_import_8 at name next assembly more text end d h e =
       let a = text_found at name next d in
@@ -176,7 +190,8 @@ module _ (limits : TypeLimits) (heap : ℕ → Option (List ℕ)) (blob : List �
       ∙ taken Namespace 8 (number a.n ∷ number b.n ∷ []) more (text_of heap) text end refl f
       ∙ closed (number 8 ∷ number a.n ∷ number b.n ∷ number f.n ∷ []) (assembly_namespace_alias name assembly text) end (rw (p, q, r) refl)
 
-  pub an_import_9 : (at : ℕ) (name : List ℕ) (next : ℕ) (token : TypeToken) (end : ℕ) → Text at name next → target_at limits blob next ≡ Ok (token, end) → Left_after 9 at (then (target_alias name token) end)
+  pub an_import_9 : (at : ℕ) (name : List ℕ) (next : ℕ) (token : TypeToken) (end : ℕ) → Text at name next → target_at limits blob next ≡ Ok (token, end)
+      → Left_after 9 at (then (target_alias name token) end)
   an_import_9 at name next token end d e =
       let a = text_found at name next d in
       let f = target_found next token end e in
@@ -187,25 +202,29 @@ module _ (limits : TypeLimits) (heap : ℕ → Option (List ℕ)) (blob : List �
 
   -- ---- a later field that is missing
 
-  pub no_first : {X : Type 0} (part : ImportPart) (kind at : ℕ) (means : ℕ → X) (fault : BlobFault) → IsPart part kind [] → number_at (part_allows limits heap part) means blob at ≡ Err fault → Left_after kind at (nothing_left (Some fault))
+  pub no_first : {X : Type 0} (part : ImportPart) (kind at : ℕ) (means : ℕ → X) (fault : BlobFault) → IsPart part kind []
+      → number_at (part_allows limits heap part) means blob at ≡ Err fault → Left_after kind at (nothing_left (Some fault))
   unfolding fields_left
   no_first part kind at means fault is e = refused part kind [] at means fault is e
 
-  pub no_text_2 : (at assembly next : ℕ) (fault : BlobFault) → assembly_at limits blob at ≡ Ok (assembly, next) → text_at heap blob next ≡ Err fault → Left_after 2 at (nothing_left (Some fault))
+  pub no_text_2 : (at assembly next : ℕ) (fault : BlobFault) → assembly_at limits blob at ≡ Ok (assembly, next) → text_at heap blob next ≡ Err fault
+      → Left_after 2 at (nothing_left (Some fault))
   unfolding fields_left
   no_text_2 at assembly next fault d e =
       let a = assembly_found at assembly next d in
       taken Assembly 2 [] at (λ n. n) assembly next refl a ∙ refused Namespace 2 (number a.n ∷ []) next (text_of heap) fault refl e
 
   -- the import goes on after its alias, with this part
-  pub no_second : {X : Type 0} (part : ImportPart) (kind at : ℕ) (name : List ℕ) (next : ℕ) (means : ℕ → X) (fault : BlobFault) → IsPart Alias kind [] → ((n : ℕ) → IsPart part kind (number n ∷ []))
+  pub no_second : {X : Type 0} (part : ImportPart) (kind at : ℕ) (name : List ℕ) (next : ℕ) (means : ℕ → X) (fault : BlobFault) → IsPart Alias kind []
+      → ((n : ℕ) → IsPart part kind (number n ∷ []))
       → ((n : ℕ) → goes_on (number kind ∷ number n ∷ []) next ≡ after (number kind ∷ number n ∷ []) next)
       → Text at name next → number_at (part_allows limits heap part) means blob next ≡ Err fault → Left_after kind at (nothing_left (Some fault))
   no_second part kind at name next means fault first second goes d e =
       let a = text_found at name next d in
       alias_taken kind at name next first a ∙ goes a.n ∙ refused part kind (number a.n ∷ []) next means fault (second a.n) e
 
-  pub no_text_8 : (at : ℕ) (name : List ℕ) (next assembly more : ℕ) (fault : BlobFault) → Text at name next → assembly_at limits blob next ≡ Ok (assembly, more) → text_at heap blob more ≡ Err fault → Left_after 8 at (nothing_left (Some fault))
+  pub no_text_8 : (at : ℕ) (name : List ℕ) (next assembly more : ℕ) (fault : BlobFault) → Text at name next → assembly_at limits blob next ≡ Ok (assembly, more)
+      → text_at heap blob more ≡ Err fault → Left_after 8 at (nothing_left (Some fault))
   no_text_8 at name next assembly more fault d h e =
       let a = text_found at name next d in
       let b = assembly_found next assembly more h in
@@ -218,13 +237,16 @@ module _ (limits : TypeLimits) (heap : ℕ → Option (List ℕ)) (blob : List �
   unfolding imports_left
   at_end at e = left-end (imports limits heap) [] [] blob at unsigned refl e refl
 
-  pub no_kind : (at : ℕ) (fault : BlobFault) → at < length blob → placed at (unsigned_at (drop at blob)) ≡ Err fault → imports_left limits heap blob at ≡ nothing_left (Some fault)
+  pub no_kind : (at : ℕ) (fault : BlobFault) → at < length blob → placed at (unsigned_at (drop at blob)) ≡ Err fault
+      → imports_left limits heap blob at ≡ nothing_left (Some fault)
   unfolding imports_left
   no_kind at fault less e =
       let n = unsigned_not_there at (drop at blob) fault e in
-      left-none (imports limits heap) [] [] blob at unsigned n.code refl n.none (ap (λ b. b && true) (not_empty blob at less)) ∙ ap (λ f. nothing_left (Some f)) (sym n.fault_is)
+      left-none (imports limits heap) [] [] blob at unsigned n.code refl n.none (ap (λ b. b && true) (not_empty blob at less))
+      ∙ ap (λ f. nothing_left (Some f)) (sym n.fault_is)
 
-  pub other_kind : (at kind len : ℕ) → placed at (unsigned_at (drop at blob)) ≡ Ok (kind, len) → (nat_le 1 kind && nat_le kind 9) ≡ false → imports_left limits heap blob at ≡ nothing_left (Some (record { code = ValueRange; byte = at }))
+  pub other_kind : (at kind len : ℕ) → placed at (unsigned_at (drop at blob)) ≡ Ok (kind, len) → (nat_le 1 kind && nat_le kind 9) ≡ false
+      → imports_left limits heap blob at ≡ nothing_left (Some (record { code = ValueRange; byte = at }))
   unfolding imports_left
   other_kind at kind len e out = left-out (imports limits heap) [] [] blob at unsigned (number kind) len refl (unsigned_there at (drop at blob) kind len e) out
 
@@ -244,10 +266,12 @@ module _ (limits : TypeLimits) (heap : ℕ → Option (List ℕ)) (blob : List �
   inside : (kind : ℕ) → 1 ≤ kind → kind ≤ 9 → (nat_le 1 kind && nat_le kind 9) ≡ true
   inside kind low high = grind arith
 
-  pub a_kind : (at kind len : ℕ) → placed at (unsigned_at (drop at blob)) ≡ Ok (kind, len) → 1 ≤ kind → kind ≤ 9 → imports_left limits heap blob at ≡ fields_left limits heap blob kind (at + len)
+  pub a_kind : (at kind len : ℕ) → placed at (unsigned_at (drop at blob)) ≡ Ok (kind, len) → 1 ≤ kind → kind ≤ 9
+      → imports_left limits heap blob at ≡ fields_left limits heap blob kind (at + len)
   unfolding imports_left fields_left
   a_kind at kind len e low high =
-      left-field (imports limits heap) [] [] blob at unsigned (number kind) len refl (unsigned_there at (drop at blob) kind len e) (inside kind low high) ∙ opened kind (at + len) low high
+      left-field (imports limits heap) [] [] blob at unsigned (number kind) len refl (unsigned_there at (drop at blob) kind len e) (inside kind low high)
+      ∙ opened kind (at + len) low high
 
   pub imports_left-reads : Reading (imports limits heap) blob (imports_left limits heap blob 0).items (imports_left limits heap blob 0).fault
   unfolding imports_left

@@ -1,5 +1,6 @@
 -- What a cursor of a constant has left where a modifier comes, and where none does.
-use Rattle.std.proofs.Common.{◌≡◌, ℕ, ◌+◌, ◌≤◌, Bool, true, false, ◌&&◌, List, [], ◌∷◌, length, drop, Option, Some, None, Result, Ok, Err, refl, sym, ap, subst, ◌∙◌, inl, inr}
+use Rattle.std.proofs.Common.{◌≡◌, ℕ, ◌+◌, ◌≤◌, Bool, true, false, ◌&&◌, List, [], ◌∷◌, length, drop, Option, Some, None, Result, Ok}
+use Rattle.std.proofs.Common.{Err, refl, sym, ap, subst, ◌∙◌, inl, inr}
 use Rattle.std.specs.Prelude.{◌==◌, is_some}
 use Rattle.std.proofs.lemmas.List.{drop_all}
 use Rattle.ppdb_base.specs.declared.BlobFault.{BlobFault}
@@ -12,7 +13,8 @@ use Rattle.type_blobs.specs.declared.types.Modifier.{Modifier}
 use Rattle.type_blobs.specs.Types.{is_type, token_of}
 use Rattle.type_blobs.specs.Numbers.{number_at}
 use Rattle.type_blobs.specs.Constants.{constants, modifier_of, body_of, is_modifier, is_code, after_code}
-use Rattle.type_blobs.specs.ConstantReading.{Rest, ConstantLeft, ConstantEnd, bad_modifier, begins_modifier, modifier_fault, finished, end_of, left_of, constant_left, with_modifier}
+use Rattle.type_blobs.specs.ConstantReading.{Rest, ConstantLeft, ConstantEnd, bad_modifier, begins_modifier, modifier_fault, finished}
+use Rattle.type_blobs.specs.ConstantReading.{end_of, left_of, constant_left, with_modifier}
 use Rattle.type_blobs.proofs.NextStep.{found, step-field, step-out, step-none, step-number, step-no_number}
 use Rattle.type_blobs.proofs.Rests.{push_rest}
 use Rattle.type_blobs.proofs.Codes.{modifier_is}
@@ -58,16 +60,19 @@ module _ (limits : TypeLimits) (blob : List ℕ) where
       let q : at + 1 + f.len ≡ next = f.next_is in
       code_taken at code there (modifier_code code h)
       ∙ rest_closes limits blob (number code ∷ []) (at + 1) (number f.n) f.len m
-      (step-number (constants limits) [] (number code ∷ []) blob (at + 1) (is_type limits) token_of token next (form_modifier code h) (λ n. refl) f) (makes code f.n h)
+      (step-number (constants limits) [] (number code ∷ []) blob (at + 1) (is_type limits) token_of token next (form_modifier code h) (λ n. refl) f)
+      (makes code f.n h)
       ∙ rw (p, q) refl
 
   -- One whose type is missing or out of range.
-  pub modifier_refused : (at code : ℕ) (fault : BlobFault) → Byte_at at code → is_modifier code ≡ true → Type_at (at + 1) (Err fault) → rest limits blob [] at ≡ finished (number code ∷ []) (Some fault)
+  pub modifier_refused : (at code : ℕ) (fault : BlobFault) → Byte_at at code → is_modifier code ≡ true → Type_at (at + 1) (Err fault)
+      → rest limits blob [] at ≡ finished (number code ∷ []) (Some fault)
   modifier_refused at code fault there h e =
       let more : (is_empty (drop (at + 1) blob) && is_some (body_of (number code ∷ []))) ≡ false
       = ap (λ o. is_empty (drop (at + 1) blob) && is_some o) (no_body code h) ∙ and-false (is_empty (drop (at + 1) blob)) in
       let b = step-no_number (constants limits) [] (number code ∷ []) blob (at + 1) (is_type limits) token_of fault (form_modifier code h) (λ n. refl) more e in
-      code_taken at code there (modifier_code code h) ∙ rest_bad limits blob (number code ∷ []) (at + 1) b.code b.is ∙ ap (λ f. finished (number code ∷ []) (Some f)) (sym b.fault_is)
+      code_taken at code there (modifier_code code h) ∙ rest_bad limits blob (number code ∷ []) (at + 1) b.code b.is
+      ∙ ap (λ f. finished (number code ∷ []) (Some f)) (sym b.fault_is)
 
   -- ---- no modifier
 
@@ -77,7 +82,8 @@ module _ (limits : TypeLimits) (blob : List ℕ) where
   no_bad : (code : ℕ) (more : List Value) (fault : Option BlobFault) → is_modifier code ≡ false → NoModifier (finished (number code ∷ more) fault)
   no_bad code more fault h = (refl, h)
 
-  after_three : (code : ℕ) (x y : Value) (at : ℕ) (s : Step) → is_modifier code ≡ false → Steps limits blob (number code ∷ x ∷ y ∷ []) at s → NoModifier (rest limits blob (number code ∷ x ∷ y ∷ []) at)
+  after_three : (code : ℕ) (x y : Value) (at : ℕ) (s : Step) → is_modifier code ≡ false → Steps limits blob (number code ∷ x ∷ y ∷ []) at s
+      → NoModifier (rest limits blob (number code ∷ x ∷ y ∷ []) at)
   after_three code x y at (field v len) h s = absurd (no_field (drop at blob) s)
     where
       no_field : (bytes : List ℕ) → step (constants limits) [] (number code ∷ x ∷ y ∷ []) bytes ≡ field v len → ⊥
@@ -88,29 +94,36 @@ module _ (limits : TypeLimits) (blob : List ℕ) where
           stops false e = cc
       no_field (b ∷ bs) e = cc
   after_three code x y at stop h s = subst NoModifier (sym (rest_stop limits blob (number code ∷ x ∷ y ∷ []) at s)) (no_bad code (x ∷ y ∷ []) None h)
-  after_three code x y at (bad c) h s = subst NoModifier (sym (rest_bad limits blob (number code ∷ x ∷ y ∷ []) at c s)) (no_bad code (x ∷ y ∷ []) (Some (record { code = c; byte = at })) h)
+  after_three code x y at (bad c) h s =
+      subst NoModifier (sym (rest_bad limits blob (number code ∷ x ∷ y ∷ []) at c s)) (no_bad code (x ∷ y ∷ []) (Some (record { code = c; byte = at })) h)
 
-  after_two_values : (code : ℕ) (x : Value) (at : ℕ) (s : Step) → is_modifier code ≡ false → Steps limits blob (number code ∷ x ∷ []) at s → NoModifier (rest limits blob (number code ∷ x ∷ []) at)
+  after_two_values : (code : ℕ) (x : Value) (at : ℕ) (s : Step) → is_modifier code ≡ false → Steps limits blob (number code ∷ x ∷ []) at s
+      → NoModifier (rest limits blob (number code ∷ x ∷ []) at)
   after_two_values code x at (field v len) h s =
-      subst NoModifier (sym (rest_goes limits blob (number code ∷ x ∷ []) at v len s (none x))) (after_three code x v (at + len) (step (constants limits) [] (number code ∷ x ∷ v ∷ []) (drop (at + len) blob)) h refl)
+      subst NoModifier (sym (rest_goes limits blob (number code ∷ x ∷ []) at v len s (none x)))
+      (after_three code x v (at + len) (step (constants limits) [] (number code ∷ x ∷ v ∷ []) (drop (at + len) blob)) h refl)
     where
       none : (x : Value) → modifier_of (number code ∷ x ∷ v ∷ []) ≡ None
       none (number n) = refl
       none (integer z) = refl
       none (octets xs) = refl
   after_two_values code x at stop h s = subst NoModifier (sym (rest_stop limits blob (number code ∷ x ∷ []) at s)) (no_bad code (x ∷ []) None h)
-  after_two_values code x at (bad c) h s = subst NoModifier (sym (rest_bad limits blob (number code ∷ x ∷ []) at c s)) (no_bad code (x ∷ []) (Some (record { code = c; byte = at })) h)
+  after_two_values code x at (bad c) h s =
+      subst NoModifier (sym (rest_bad limits blob (number code ∷ x ∷ []) at c s)) (no_bad code (x ∷ []) (Some (record { code = c; byte = at })) h)
 
-  after_one : (code at : ℕ) (s : Step) → is_modifier code ≡ false → Steps limits blob (number code ∷ []) at s → NoModifier (rest limits blob (number code ∷ []) at)
+  after_one : (code at : ℕ) (s : Step) → is_modifier code ≡ false → Steps limits blob (number code ∷ []) at s
+      → NoModifier (rest limits blob (number code ∷ []) at)
   after_one code at (field v len) h s =
-      subst NoModifier (sym (rest_goes limits blob (number code ∷ []) at v len s (none v))) (after_two_values code v (at + len) (step (constants limits) [] (number code ∷ v ∷ []) (drop (at + len) blob)) h refl)
+      subst NoModifier (sym (rest_goes limits blob (number code ∷ []) at v len s (none v)))
+      (after_two_values code v (at + len) (step (constants limits) [] (number code ∷ v ∷ []) (drop (at + len) blob)) h refl)
     where
       none : (v : Value) → modifier_of (number code ∷ v ∷ []) ≡ None
       none (number n) = rw h refl
       none (integer z) = refl
       none (octets xs) = refl
   after_one code at stop h s = subst NoModifier (sym (rest_stop limits blob (number code ∷ []) at s)) (no_bad code [] None h)
-  after_one code at (bad c) h s = subst NoModifier (sym (rest_bad limits blob (number code ∷ []) at c s)) (no_bad code [] (Some (record { code = c; byte = at })) h)
+  after_one code at (bad c) h s =
+      subst NoModifier (sym (rest_bad limits blob (number code ∷ []) at c s)) (no_bad code [] (Some (record { code = c; byte = at })) h)
 
   code_known : (at code : ℕ) (b : Bool) → Byte_at at code → is_modifier code ≡ false → is_code code ≡ b → NoModifier (rest limits blob [] at)
   code_known at code true there h e =
@@ -147,14 +160,18 @@ module _ (limits : TypeLimits) (blob : List ℕ) where
   pub body_next : (at : ℕ) → NoModifier (rest limits blob [] at) → BodyNext (constant_left limits blob at)
   unfolding constant_left
   body_next at h =
-      let r = rest limits blob [] at in
-      (end_of r.begun r.left.fault, ap (λ ms. let l : ConstantLeft = record { modifiers = ms; end = end_of r.begun r.left.fault } in l) h.0, no_fault r.begun r.left.fault h.1)
+      let r = rest limits blob [] at in (
+        end_of r.begun r.left.fault,
+        ap (λ ms. let l : ConstantLeft = record { modifiers = ms; end = end_of r.begun r.left.fault } in l) h.0,
+        no_fault r.begun r.left.fault h.1,
+      )
 
   pub a_modifier : (at code : ℕ) (token : TypeToken) (next : ℕ) → Byte_at at code → is_modifier code ≡ true → Type_at (at + 1) (Ok (token, next))
       → constant_left limits blob at ≡ with_modifier (record { required = code == 0x1f; target = token }) (constant_left limits blob next)
   unfolding constant_left
   a_modifier at code token next there h e = ap left_of (modifier_taken at code token next there h e)
 
-  pub no_type : (at code : ℕ) (fault : BlobFault) → Byte_at at code → is_modifier code ≡ true → Type_at (at + 1) (Err fault) → constant_left limits blob at ≡ record { modifiers = []; end = bad_modifier fault }
+  pub no_type : (at code : ℕ) (fault : BlobFault) → Byte_at at code → is_modifier code ≡ true → Type_at (at + 1) (Err fault)
+      → constant_left limits blob at ≡ record { modifiers = []; end = bad_modifier fault }
   unfolding constant_left
   no_type at code fault there h e = ap left_of (modifier_refused at code fault there h e) ∙ rw h refl

@@ -18,7 +18,8 @@ pub record Found {X : Type 0} (allows : ℕ → Bool) (means : ℕ → X) (blob 
   pub means_it : means n ≡ meaning
   pub next_is : at + len ≡ next
 
-found_after : {X : Type 0} (allows : ℕ → Bool) (means : ℕ → X) (blob : List ℕ) (at : ℕ) (r : Result (ℕ × ℕ) BlobFault) (b : Bool) (meaning : X) (next : ℕ) → placed at (unsigned_at (drop at blob)) ≡ r
+found_after : {X : Type 0} (allows : ℕ → Bool) (means : ℕ → X) (blob : List ℕ) (at : ℕ) (r : Result (ℕ × ℕ) BlobFault) (b : Bool) (meaning : X) (next : ℕ)
+    → placed at (unsigned_at (drop at blob)) ≡ r
     → ((x : ℕ × ℕ) → r ≡ Ok x → allows x.0 ≡ b) → number_after allows means at r ≡ Ok (meaning, next) → Found allows means blob at meaning next
 found_after {X = X} allows means blob at (Ok x) true meaning next e f g =
     let t : allows x.0 ≡ true = f x refl in
@@ -35,29 +36,35 @@ allows_one : (allows : ℕ → Bool) (r : Result (ℕ × ℕ) BlobFault) → (b 
 allows_one allows (Ok y) = (allows y.0, λ x e. let s : y ≡ x = cc in ap (λ (p : ℕ × ℕ). allows p.0) (sym s))
 allows_one allows (Err fault) = (true, λ x e. absurd cc)
 
-pub found : {X : Type 0} (allows : ℕ → Bool) (means : ℕ → X) (blob : List ℕ) (at : ℕ) (meaning : X) (next : ℕ) → number_at allows means blob at ≡ Ok (meaning, next) → Found allows means blob at meaning next
+pub found : {X : Type 0} (allows : ℕ → Bool) (means : ℕ → X) (blob : List ℕ) (at : ℕ) (meaning : X) (next : ℕ)
+    → number_at allows means blob at ≡ Ok (meaning, next) → Found allows means blob at meaning next
 found allows means blob at meaning next e =
     let r = placed at (unsigned_at (drop at blob)) in
     let a = allows_one allows r in
     found_after allows means blob at r a.0 meaning next refl a.1 e
 
 module _ {R : Type 0} (g : Grammar R) (whole : List R) (begun : List Value) (blob : List ℕ) (at : ℕ) where
-  pub step-field : (form : Form) (value : Value) (len : ℕ) → g.form whole begun ≡ Some form → field_at form (drop at blob) ≡ Ok (value, len) → g.allows whole begun value ≡ true → step g whole begun (drop at blob) ≡ field value len
+  pub step-field : (form : Form) (value : Value) (len : ℕ) → g.form whole begun ≡ Some form → field_at form (drop at blob) ≡ Ok (value, len)
+      → g.allows whole begun value ≡ true → step g whole begun (drop at blob) ≡ field value len
   step-field form value len expected found allowed =
       ap (step_in g whole begun (drop at blob)) expected ∙ ap (step_at g whole begun (drop at blob)) found ∙ ap (λ b. if_allowed b value len) allowed
 
-  pub step-out : (form : Form) (value : Value) (len : ℕ) → g.form whole begun ≡ Some form → field_at form (drop at blob) ≡ Ok (value, len) → g.allows whole begun value ≡ false → step g whole begun (drop at blob) ≡ bad ValueRange
+  pub step-out : (form : Form) (value : Value) (len : ℕ) → g.form whole begun ≡ Some form → field_at form (drop at blob) ≡ Ok (value, len)
+      → g.allows whole begun value ≡ false → step g whole begun (drop at blob) ≡ bad ValueRange
   step-out form value len expected found allowed =
       ap (step_in g whole begun (drop at blob)) expected ∙ ap (step_at g whole begun (drop at blob)) found ∙ ap (λ b. if_allowed b value len) allowed
 
-  pub step-none : (form : Form) (code : Code) → g.form whole begun ≡ Some form → field_at form (drop at blob) ≡ Err code → (is_empty (drop at blob) && g.may_stop whole begun) ≡ false → step g whole begun (drop at blob) ≡ bad code
+  pub step-none : (form : Form) (code : Code) → g.form whole begun ≡ Some form → field_at form (drop at blob) ≡ Err code
+      → (is_empty (drop at blob) && g.may_stop whole begun) ≡ false → step g whole begun (drop at blob) ≡ bad code
   step-none form code expected none goes_on =
       ap (step_in g whole begun (drop at blob)) expected ∙ ap (step_at g whole begun (drop at blob)) none ∙ ap (λ b. stop_or b code) goes_on
 
-  pub step-end : (form : Form) (code : Code) → g.form whole begun ≡ Some form → at ≡ length blob → field_at form [] ≡ Err code → g.may_stop whole begun ≡ true → step g whole begun (drop at blob) ≡ stop
+  pub step-end : (form : Form) (code : Code) → g.form whole begun ≡ Some form → at ≡ length blob → field_at form [] ≡ Err code → g.may_stop whole begun ≡ true
+      → step g whole begun (drop at blob) ≡ stop
   step-end form code expected ends none stops =
       let bytes : drop at blob ≡ [] = drop_all at blob (omega arith) in
-      ap (step_in g whole begun (drop at blob)) expected ∙ ap (λ b. step_at g whole begun b (field_at form b)) bytes ∙ ap (step_at g whole begun []) none ∙ ap (λ b. stop_or b code) stops
+      ap (step_in g whole begun (drop at blob)) expected ∙ ap (λ b. step_at g whole begun b (field_at form b)) bytes ∙ ap (step_at g whole begun []) none
+      ∙ ap (λ b. stop_or b code) stops
 
   pub step-end_none : g.form whole begun ≡ None → at ≡ length blob → g.may_stop whole begun ≡ true → step g whole begun (drop at blob) ≡ stop
   step-end_none expected ends stops =
@@ -74,9 +81,11 @@ module _ {R : Type 0} (g : Grammar R) (whole : List R) (begun : List Value) (blo
   -- ---- a number
 
   -- One that is in range is a field.
-  pub step-number : {X : Type 0} (allows : ℕ → Bool) (means : ℕ → X) (meaning : X) (next : ℕ) → g.form whole begun ≡ Some unsigned → ((n : ℕ) → g.allows whole begun (number n) ≡ allows n)
+  pub step-number : {X : Type 0} (allows : ℕ → Bool) (means : ℕ → X) (meaning : X) (next : ℕ) → g.form whole begun ≡ Some unsigned
+      → ((n : ℕ) → g.allows whole begun (number n) ≡ allows n)
       → (f : Found allows means blob at meaning next) → step g whole begun (drop at blob) ≡ field (number f.n) f.len
-  step-number allows means meaning next form same f = step-field unsigned (number f.n) f.len form (unsigned_there at (drop at blob) f.n f.len f.there) (same f.n ∙ f.allowed)
+  step-number allows means meaning next form same f =
+      step-field unsigned (number f.n) f.len form (unsigned_there at (drop at blob) f.n f.len f.there) (same f.n ∙ f.allowed)
 
   -- The step is a fault.
   pub record IsBad (fault : BlobFault) : Type 0 where
@@ -84,7 +93,8 @@ module _ {R : Type 0} (g : Grammar R) (whole : List R) (begun : List Value) (blo
     pub is : step g whole begun (drop at blob) ≡ bad code
     pub fault_is : fault ≡ record { code = code; byte = at }
 
-  refused_after : {X : Type 0} (allows : ℕ → Bool) (means : ℕ → X) (fault : BlobFault) (r : Result (ℕ × ℕ) BlobFault) (b : Bool) → g.form whole begun ≡ Some unsigned → ((n : ℕ) → g.allows whole begun (number n) ≡ allows n)
+  refused_after : {X : Type 0} (allows : ℕ → Bool) (means : ℕ → X) (fault : BlobFault) (r : Result (ℕ × ℕ) BlobFault) (b : Bool)
+      → g.form whole begun ≡ Some unsigned → ((n : ℕ) → g.allows whole begun (number n) ≡ allows n)
       → (is_empty (drop at blob) && g.may_stop whole begun) ≡ false → placed at (unsigned_at (drop at blob)) ≡ r
       → ((x : ℕ × ℕ) → r ≡ Ok x → allows x.0 ≡ b) → number_after allows means at r ≡ Err fault → IsBad fault
   refused_after allows means fault (Ok x) true form same more e f h =
@@ -93,14 +103,19 @@ module _ {R : Type 0} (g : Grammar R) (whole : List R) (begun : List Value) (blo
       let out : BlobFault = record { code = ValueRange; byte = at } in
       let t : in_range at false (means x.0) x.1 ≡ Err fault = sym (ap (λ b. in_range at b (means x.0) x.1) (f x refl)) ∙ h in
       let s : out ≡ fault = cc in
-      record { code = ValueRange; is = step-out unsigned (number x.0) x.1 form (unsigned_there at (drop at blob) x.0 x.1 e) (same x.0 ∙ f x refl); fault_is = sym s }
+      record {
+        code = ValueRange;
+        is = step-out unsigned (number x.0) x.1 form (unsigned_there at (drop at blob) x.0 x.1 e) (same x.0 ∙ f x refl);
+        fault_is = sym s;
+      }
   refused_after allows means fault (Err other) b form same more e f h =
       let s : other ≡ fault = cc in
       let n = unsigned_not_there at (drop at blob) other e in
       record { code = n.code; is = step-none unsigned n.code form n.none more; fault_is = sym s ∙ n.fault_is }
 
   -- One that is missing or out of range is a fault.
-  pub step-no_number : {X : Type 0} (allows : ℕ → Bool) (means : ℕ → X) (fault : BlobFault) → g.form whole begun ≡ Some unsigned → ((n : ℕ) → g.allows whole begun (number n) ≡ allows n)
+  pub step-no_number : {X : Type 0} (allows : ℕ → Bool) (means : ℕ → X) (fault : BlobFault) → g.form whole begun ≡ Some unsigned
+      → ((n : ℕ) → g.allows whole begun (number n) ≡ allows n)
       → (is_empty (drop at blob) && g.may_stop whole begun) ≡ false → number_at allows means blob at ≡ Err fault → IsBad fault
   step-no_number allows means fault form same more e =
       let r = placed at (unsigned_at (drop at blob)) in

@@ -29,10 +29,15 @@ module _ {R : Type 0} (g : Grammar R) (whole : List R) (begun : List Value) (blo
   left_after s = take_step g (λ len w b. read_from g w b (at + len) (drop len (drop at blob))) whole begun at s
 
   abbrev begun_after : Step → List Value
-  begun_after s = (fold (λ (c : Cut R) f. with_value g c f.value) here (take_field g (λ len w b. fields_from g w b (drop len (drop at blob))) here (drop at blob) s)).begun
+  begun_after s =
+      (fold (λ (c : Cut R) f. with_value g c f.value) here (take_field g (λ len w b. fields_from g w b (drop len (drop at blob))) here (drop at blob) s)).begun
 
   stepped_close : (value : Value) (len : ℕ) (o : Option R)
-      → record { left = close_and (λ w b. read_from g w b (at + len) (drop len (drop at blob))) whole (begun ++ value ∷ []) o; begun = begun_from g (closed o whole (begun ++ value ∷ [])).whole (closed o whole (begun ++ value ∷ [])).begun (drop len (drop at blob)) } ≡ closed_rest value len o
+      → record {
+        left = close_and (λ w b. read_from g w b (at + len) (drop len (drop at blob))) whole (begun ++ value ∷ []) o;
+        begun = begun_from g (closed o whole (begun ++ value ∷ [])).whole (closed o whole (begun ++ value ∷ [])).begun (drop len (drop at blob));
+      }
+      ≡ closed_rest value len o
   stepped_close value len None = rw (drop-drop len at blob) refl
   stepped_close value len (Some r) = rw (drop-drop len at blob) refl
 

@@ -7,12 +7,14 @@ use Rattle.std.proofs.lemmas.Grind.{flat_map-append}
 use Rattle.cli_ints.specs.Shortest.{short_unsigned}
 use Rattle.blob_grammar.specs.Grammar.{Value, number, octets, unsigned, byte, fixed, rest, Field, Cut, bytes_of, IsAllowed, cut}
 use Rattle.blob_grammar.specs.Reader.{cut_from}
-use Rattle.blob_grammar.proofs.Written.{FollowFrom, follow-append, cut_from-append, Writes, EachMayAdd, fields_after, all_follow, number_field, number_allowed, fields_longest}
+use Rattle.blob_grammar.proofs.Written.{FollowFrom, follow-append, cut_from-append, Writes, EachMayAdd, fields_after, all_follow}
+use Rattle.blob_grammar.proofs.Written.{number_field, number_allowed, fields_longest}
 use Rattle.type_blobs.specs.declared.types.TypeLimits.{TypeLimits}
 use Rattle.type_blobs.specs.declared.types.TypeToken.{TypeToken}
 use Rattle.type_blobs.specs.declared.types.Modifier.{Modifier}
 use Rattle.type_blobs.specs.Types.{number_of, IsToken, IsThere}
-use Rattle.type_blobs.specs.Constants.{ConstantBody, primitive, enumerated, general, object, is_enumerable, is_general, is_string, is_text, is_code, size_of, body_of, modifier_of, after_two, constants}
+use Rattle.type_blobs.specs.Constants.{ConstantBody, primitive, enumerated, general, object, is_enumerable, is_general, is_string}
+use Rattle.type_blobs.specs.Constants.{is_text, is_code, size_of, body_of, modifier_of, after_two, constants}
 use Rattle.type_blobs.specs.ConstantReading.{ConstantLeft, body, ConstantReading}
 use Rattle.type_blobs.specs.Spelling.{code_of, modifier_spelling, body_spelling, constant_spelling, IsPrimitive, IsBody, IsBodyThere}
 use Rattle.type_blobs.proofs.Codes.{OfGeneral, of_general, OfPrimitive, of_primitive, primitive_range, enumerable_range, eq-is}
@@ -42,18 +44,23 @@ module _ (limits : TypeLimits) where
   code_allowed : (whole : List Modifier) (code : ℕ) (left : List ℕ) → is_code code ≡ true → IsAllowed (constants limits) (after whole []) (code_field code) left
   code_allowed whole code left h = record { form = byte; expected = refl; spelled = refl; allowed = h }
 
-  type_allowed : (whole : List Modifier) (begun : List Value) (token : TypeToken) (left : List ℕ) → (constants limits).form whole begun ≡ Some unsigned → ((n : ℕ) → (constants limits).allows whole begun (number n) ≡ Rattle.type_blobs.specs.Types.is_type limits n)
+  type_allowed : (whole : List Modifier) (begun : List Value) (token : TypeToken) (left : List ℕ) → (constants limits).form whole begun ≡ Some unsigned
+      → ((n : ℕ) → (constants limits).allows whole begun (number n) ≡ Rattle.type_blobs.specs.Types.is_type limits n)
       → IsToken token → IsThere limits token → IsAllowed (constants limits) (after whole begun) (type_field token) left
   type_allowed whole begun token left form same h there =
-      number_allowed (constants limits) (after whole begun) (number_of token) left form (number_small token h) (same (number_of token) ∙ type_is limits token h there)
+      number_allowed (constants limits) (after whole begun) (number_of token) left form (number_small token h) (same (number_of token)
+      ∙ type_is limits token h there)
 
   modifier_follows : (whole : List Modifier) (required : Bool) (token : TypeToken) (left : List ℕ) → IsToken token → IsThere limits token
       → FollowFrom (constants limits) (after whole []) (modifier_fields whole (record { required = required; target = token })) left
-  modifier_follows whole true token left h there = (code_allowed whole 0x1f _ refl, (type_allowed whole (number 0x1f ∷ []) token _ refl (λ n. refl) h there, tt))
-  modifier_follows whole false token left h there = (code_allowed whole 0x20 _ refl, (type_allowed whole (number 0x20 ∷ []) token _ refl (λ n. refl) h there, tt))
+  modifier_follows whole true token left h there =
+      (code_allowed whole 0x1f _ refl, (type_allowed whole (number 0x1f ∷ []) token _ refl (λ n. refl) h there, tt))
+  modifier_follows whole false token left h there =
+      (code_allowed whole 0x20 _ refl, (type_allowed whole (number 0x20 ∷ []) token _ refl (λ n. refl) h there, tt))
 
   modifier_makes : (whole : List Modifier) (required : Bool) (token : TypeToken) → IsToken token
-      → cut_from (constants limits) (after whole []) (modifier_fields whole (record { required = required; target = token })) ≡ after (whole ++ record { required = required; target = token } ∷ []) []
+      → cut_from (constants limits) (after whole []) (modifier_fields whole (record { required = required; target = token }))
+      ≡ after (whole ++ record { required = required; target = token } ∷ []) []
   modifier_makes whole true token h = ap (λ t. after (whole ++ record { required = true; target = t } ∷ []) []) (token-back token h)
   modifier_makes whole false token h = ap (λ t. after (whole ++ record { required = false; target = t } ∷ []) []) (token-back token h)
 
@@ -114,7 +121,8 @@ module _ (limits : TypeLimits) where
     is = refl;
   }
 
-  value_field_allowed : (whole : List Modifier) (code : ℕ) (value left : List ℕ) → OfPrimitive code → length value ≡ size_of code → IsAllowed (constants limits) (after whole (number code ∷ [])) (octets_field value) left
+  value_field_allowed : (whole : List Modifier) (code : ℕ) (value left : List ℕ) → OfPrimitive code → length value ≡ size_of code
+      → IsAllowed (constants limits) (after whole (number code ∷ [])) (octets_field value) left
   value_field_allowed whole code value left known size =
       let h : Rattle.std.specs.Prelude.◌==◌ code 14 ≡ false = known.no_string in
       record { form = fixed (size_of code); expected = known.after; spelled = (refl, size, known.some_bytes); allowed = rw h refl }
@@ -129,14 +137,24 @@ module _ (limits : TypeLimits) where
     is = refl;
   }
 
-  enumerated_made : (whole : List Modifier) (code : ℕ) (value : List ℕ) (target : TypeToken) → is_enumerable code ≡ true → length value ≡ size_of code → IsToken target → IsThere limits target → IsMade whole (enumerated code value target)
+  enumerated_made : (whole : List Modifier) (code : ℕ) (value : List ℕ) (target : TypeToken) → is_enumerable code ≡ true → length value ≡ size_of code
+      → IsToken target → IsThere limits target → IsMade whole (enumerated code value target)
   unfolding body_fields
   enumerated_made whole code value target h size token there =
       let range = enumerable_range code h in
       let known : OfPrimitive code = of_primitive code range.0 range.1 in
       let form : after_two code ≡ Some unsigned = rw h refl in
       record {
-        follow = (code_allowed whole code _ known.code_known, (value_field_allowed whole code value _ known size, (type_allowed whole (number code ∷ octets value ∷ []) target _ form (λ n. refl) token there, tt)));
+        follow = (
+          code_allowed whole code _ known.code_known,
+          (
+            value_field_allowed whole code value _ known size,
+            (
+              type_allowed whole (number code ∷ octets value ∷ []) target _ form (λ n. refl) token there,
+              tt,
+            ),
+          ),
+        );
         begun = number code ∷ octets value ∷ number (number_of target) ∷ [];
         makes = refl;
         is = ap (λ t. Some (enumerated code value t)) (token-back target token);
@@ -145,10 +163,12 @@ module _ (limits : TypeLimits) where
   no_modifier_two : (code n : ℕ) → OfGeneral code → modifier_of (number code ∷ number n ∷ []) ≡ None
   no_modifier_two code n known = let h = known.no_modifier in rw h refl
 
-  opens : (whole : List Modifier) (code n : ℕ) → OfGeneral code → cut_from (constants limits) (after whole []) (code_field code ∷ number_field n ∷ []) ≡ after whole (number code ∷ number n ∷ [])
+  opens : (whole : List Modifier) (code n : ℕ) → OfGeneral code → cut_from (constants limits) (after whole []) (code_field code ∷ number_field n ∷ [])
+      ≡ after whole (number code ∷ number n ∷ [])
   opens whole code n known = let h = no_modifier_two code n known in ap (λ o. Rattle.blob_grammar.specs.Grammar.closed o whole (number code ∷ number n ∷ [])) h
 
-  general_made : (whole : List Modifier) (code : ℕ) (target : TypeToken) (more : List ℕ) → is_general code ≡ true → IsToken target → IsThere limits target → IsMade whole (general code target more)
+  general_made : (whole : List Modifier) (code : ℕ) (target : TypeToken) (more : List ℕ) → is_general code ≡ true → IsToken target → IsThere limits target
+      → IsMade whole (general code target more)
   unfolding body_fields
   general_made whole code target [] h token there =
       let known : OfGeneral code = of_general code h in
@@ -162,17 +182,27 @@ module _ (limits : TypeLimits) where
       let known : OfGeneral code = of_general code h in
       let g = constants limits in
       let open_two = opens whole code (number_of target) known in
-      let tail : IsAllowed g (after whole (number code ∷ number (number_of target) ∷ [])) (octets_field (x ∷ xs)) [] = record { form = rest; expected = known.after_type; spelled = (refl, omega arith, refl); allowed = refl } in
+      let tail : IsAllowed g (after whole (number code ∷ number (number_of target) ∷ [])) (octets_field (x ∷ xs)) [] =
+      record { form = rest; expected = known.after_type; spelled = (refl, omega arith, refl); allowed = refl } in
       record {
-        follow = (code_allowed whole code _ known.code_known, (type_allowed whole (number code ∷ []) target _ known.after (λ n. refl) token there, (subst (λ c. IsAllowed g c (octets_field (x ∷ xs)) []) (sym open_two) tail, tt)));
+        follow = (
+          code_allowed whole code _ known.code_known,
+          (
+            type_allowed whole (number code ∷ []) target _ known.after (λ n. refl) token there,
+            (subst (λ c. IsAllowed g c (octets_field (x ∷ xs)) []) (sym open_two) tail, tt),
+          ),
+        );
         begun = number code ∷ number (number_of target) ∷ octets (x ∷ xs) ∷ [];
         makes = ap (λ c. cut_from g c (octets_field (x ∷ xs) ∷ [])) open_two;
         is = ap (λ t. Some (general code t (x ∷ xs))) (token-back target token);
       }
 
-  primitive_made : (whole : List Modifier) (code : ℕ) (value : List ℕ) (b : Bool) → is_string code ≡ b → IsPrimitive b code value → IsMade whole (primitive code value)
-  primitive_made whole code value true e h = let is : code ≡ 14 = eq-is code 14 e in subst (λ n. IsMade whole (primitive n value)) (sym is) (text_made whole value h)
-  primitive_made whole code value false e h = let range = primitive_range code h.primitive in value_made whole code value (of_primitive code range.0 range.1) h.size
+  primitive_made : (whole : List Modifier) (code : ℕ) (value : List ℕ) (b : Bool) → is_string code ≡ b → IsPrimitive b code value
+      → IsMade whole (primitive code value)
+  primitive_made whole code value true e h =
+      let is : code ≡ 14 = eq-is code 14 e in subst (λ n. IsMade whole (primitive n value)) (sym is) (text_made whole value h)
+  primitive_made whole code value false e h =
+      let range = primitive_range code h.primitive in value_made whole code value (of_primitive code range.0 range.1) h.size
 
   body_made : (whole : List Modifier) (b : ConstantBody) → IsBody b → IsBodyThere limits b → IsMade whole b
   body_made whole (primitive code value) h there = primitive_made whole code value (is_string code) refl h
@@ -182,17 +212,20 @@ module _ (limits : TypeLimits) where
 
   -- ---- the constant
 
-  pub written_constant : (modifiers : List Modifier) (b : ConstantBody) → All (IsModifierThere limits) modifiers → IsBody b → IsBodyThere limits b → ConstantReading limits (constant_spelling modifiers b) (record { modifiers = modifiers; end = body b })
+  pub written_constant : (modifiers : List Modifier) (b : ConstantBody) → All (IsModifierThere limits) modifiers → IsBody b → IsBodyThere limits b
+      → ConstantReading limits (constant_spelling modifiers b) (record { modifiers = modifiers; end = body b })
   written_constant modifiers b h k there =
       let g = constants limits in
       let fs = fields_after modifier_fields [] modifiers in
       let gs = body_fields b in
       let m = body_made modifiers b k there in
       let all = all_follow g modifier_fields MayAdd writes [] modifiers (bytes_of gs ++ []) (each [] modifiers h) in
-      let follow : FollowFrom g (after [] []) (fs ++ gs) [] = follow-append g (after [] []) fs gs [] all.0 (subst (λ c. FollowFrom g c gs []) (sym all.1) m.follow) in
+      let follow : FollowFrom g (after [] []) (fs ++ gs) [] =
+      follow-append g (after [] []) fs gs [] all.0 (subst (λ c. FollowFrom g c gs []) (sym all.1) m.follow) in
       let cut_is : cut g (fs ++ gs) ≡ after modifiers m.begun = cut_from-append g (after [] []) fs gs ∙ ap (λ c. cut_from g c gs) all.1 ∙ m.makes in
       let stops : g.may_stop (cut g (fs ++ gs)).whole (cut g (fs ++ gs)).begun ≡ true = ap (λ c. g.may_stop c.whole c.begun) cut_is ∙ ap is_some m.is in
-      let spelled : bytes_of (fs ++ gs) ≡ constant_spelling modifiers b = flat_map-append (λ (f : Field). f.bytes) fs gs ∙ ap (λ bs. bs ++ bytes_of gs) (modifiers_spelled [] modifiers) ∙ ap (λ bs. flat_map modifier_spelling modifiers ++ bs) (body_spelled b) in
+      let spelled : bytes_of (fs ++ gs) ≡ constant_spelling modifiers b = flat_map-append (λ (f : Field). f.bytes) fs gs
+      ∙ ap (λ bs. bs ++ bytes_of gs) (modifiers_spelled [] modifiers) ∙ ap (λ bs. flat_map modifier_spelling modifiers ++ bs) (body_spelled b) in
       let left : ConstantLeft = record { modifiers = modifiers; end = body b } in
       subst (λ blob. ConstantReading limits blob left) spelled (record {
         reading = record {

@@ -32,7 +32,8 @@ token-back token h =
     let a : number_of token % 4 ≡ tag_of token.table = tag-of token.row (tag_of token.table) small in
     let b : number_of token / 4 ≡ token.row = row-of token.row (tag_of token.table) small in
     let t : table_of (number_of token % 4) ≡ token.table = ap table_of a ∙ table_back token.table h.0 in
-    ap (λ (p : ℕ × ℕ). let k : TypeToken = record { table = p.0; row = p.1 } in k) (let q : (table_of (number_of token % 4), number_of token / 4) ≡ (token.table, token.row) = cc in q)
+    ap (λ (p : ℕ × ℕ). let k : TypeToken = record { table = p.0; row = p.1 } in k)
+    (let q : (table_of (number_of token % 4), number_of token / 4) ≡ (token.table, token.row) = cc in q)
 
 row_there : (rows row : ℕ) → 1 ≤ row → row ≤ rows → is_row rows row ≡ true
 row_there rows row low high = grind arith

@@ -108,14 +108,18 @@ finished begun fault = record { left = record { items = []; fault = fault }; beg
 
 -- The rest of a body was read at a place, after these values: no modifier is left there, and the blob ends so.
 abbrev pub BodyIs : TypeLimits → List Value → List ℕ → ℕ → Result Constant BlobFault → Type 0
-BodyIs limits begun blob at (Ok constant) = (all : List Value) × (rest_at (constants limits) [] begun blob at ≡ finished all None) × (body_of all ≡ Some (shown constant))
-BodyIs limits begun blob at (Err fault) = (all : List Value) × (rest_at (constants limits) [] begun blob at ≡ finished all (Some fault)) × (begins_modifier all ≡ false)
+BodyIs limits begun blob at (Ok constant) =
+    (all : List Value) × (rest_at (constants limits) [] begun blob at ≡ finished all None) × (body_of all ≡ Some (shown constant))
+BodyIs limits begun blob at (Err fault) =
+    (all : List Value) × (rest_at (constants limits) [] begun blob at ≡ finished all (Some fault)) × (begins_modifier all ≡ false)
 
 abbrev pub with_modifier : Modifier → ConstantLeft → ConstantLeft
 with_modifier modifier left = record { modifiers = modifier ∷ left.modifiers; end = left.end }
 
 -- The next modifier was read at a place; or none is left there, where the body comes or where one is at fault.
 abbrev pub NextModifierIs : TypeLimits → List ℕ → ℕ → Result (Option (Modifier × ℕ)) BlobFault → Type 0
-NextModifierIs limits blob at (Ok (Some found)) = (constant_left limits blob at ≡ with_modifier found.0 (constant_left limits blob found.1)) × (found.1 ≤ length blob)
-NextModifierIs limits blob at (Ok None) = (end : ConstantEnd) × (constant_left limits blob at ≡ record { modifiers = []; end = end }) × (modifier_fault end ≡ None)
+NextModifierIs limits blob at (Ok (Some found)) =
+    (constant_left limits blob at ≡ with_modifier found.0 (constant_left limits blob found.1)) × (found.1 ≤ length blob)
+NextModifierIs limits blob at (Ok None) =
+    (end : ConstantEnd) × (constant_left limits blob at ≡ record { modifiers = []; end = end }) × (modifier_fault end ≡ None)
 NextModifierIs limits blob at (Err fault) = constant_left limits blob at ≡ record { modifiers = []; end = bad_modifier fault }

@@ -9,11 +9,13 @@ use Rattle.blob_grammar.specs.Reader.{Left, read_from, push, fields_left as fiel
 use Rattle.type_blobs.specs.declared.types.TypeToken.{TypeToken}
 use Rattle.type_blobs.specs.declared.types.TypeLimits.{TypeLimits}
 use Rattle.type_blobs.specs.declared.import.Import.{Import}
-use Rattle.type_blobs.specs.declared.import.Import.TheVariants.{Namespace, AssemblyNamespace, Target, Xml, Alias, AssemblyAlias, NamespaceAlias, AssemblyNamespaceAlias, TargetAlias}
+use Rattle.type_blobs.specs.declared.import.Import.TheVariants.{Namespace, AssemblyNamespace, Target, Xml, Alias, AssemblyAlias}
+use Rattle.type_blobs.specs.declared.import.Import.TheVariants.{NamespaceAlias, AssemblyNamespaceAlias, TargetAlias}
 use Rattle.blob_grammar.specs.Allowed.{is_row}
 use Rattle.type_blobs.specs.Types.{is_type, token_of}
 use Rattle.type_blobs.specs.Numbers.{number_at}
-use Rattle.type_blobs.specs.Imports.{ImportItem, namespace, assembly_namespace, target, xml, alias, assembly_alias, namespace_alias, assembly_namespace_alias, target_alias, imports, text_of, parts_of, import_field}
+use Rattle.type_blobs.specs.Imports.{ImportItem, namespace, assembly_namespace, target, xml, alias, assembly_alias, namespace_alias}
+use Rattle.type_blobs.specs.Imports.{assembly_namespace_alias, target_alias, imports, text_of, parts_of, import_field}
 use Rattle.type_blobs.specs.declared.import_part.ImportField.{ImportField}
 use Rattle.type_blobs.specs.declared.import_fields.ImportPlace.{ImportPlace}
 

@@ -1,5 +1,6 @@
 -- The imports of an import scope (Portable PDB v1.0, "Imports Blob"): each is a kind, and the fields of that kind.
-use Rattle.std.specs.Prelude.{ℕ, zero, suc, List, [], ◌∷◌, length, Option, Some, None, Bool, true, false, is_some, ◌&&◌, nat_le, ◌==◌, slice_get, slice_index, if◌then◌else◌, unwrap_or}
+use Rattle.std.specs.Prelude.{ℕ, zero, suc, List, [], ◌∷◌, length, Option, Some, None, Bool, true, false, is_some, ◌&&◌, nat_le, ◌==◌}
+use Rattle.std.specs.Prelude.{slice_get, slice_index, if◌then◌else◌, unwrap_or}
 use Rattle.std.specs.Option.{option_map}
 use Rattle.blob_grammar.specs.Grammar.{Value, number, unsigned, Grammar}
 use Rattle.std.specs.List.{flat_map}

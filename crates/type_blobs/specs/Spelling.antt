@@ -7,7 +7,8 @@ use Rattle.type_blobs.specs.declared.types.TypeLimits.{TypeLimits}
 use Rattle.type_blobs.specs.declared.types.Modifier.{Modifier}
 use Rattle.type_blobs.specs.declared.import_writer.ImportNumbers.{ImportNumbers}
 use Rattle.type_blobs.specs.Types.{number_of, IsToken, IsThere}
-use Rattle.type_blobs.specs.Constants.{ConstantBody, primitive, enumerated, general, object, is_primitive, is_enumerable, is_general, is_string, is_text, size_of}
+use Rattle.type_blobs.specs.Constants.{ConstantBody, primitive, enumerated, general, object, is_primitive, is_enumerable, is_general}
+use Rattle.type_blobs.specs.Constants.{is_string, is_text, size_of}
 use Rattle.type_blobs.specs.Imports.{parts_of, ImportItem, item_of}
 use Rattle.type_blobs.specs.declared.import_part.ImportPart.{ImportPart}
 use Rattle.type_blobs.specs.declared.import_part.ImportPart.TheVariants.{Kind, Alias, Assembly, Namespace, Target}

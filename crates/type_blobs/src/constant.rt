@@ -1,7 +1,8 @@
 ghost use Rattle.std.specs.Prelude.{◌≡◌, ◌≤◌, ◌<◌, ◌^◌, length, true, [], ◌∷◌, Ok, None};
 ghost use Rattle.blob_grammar.specs.Grammar.{number};
 ghost use Rattle.type_blobs.specs.Constants.{is_modifier, is_enumerable, is_general, is_text, size_of};
-ghost use Rattle.type_blobs.specs.ConstantReading.{ConstantLeft, ConstantReading, constant_left, modifier_answer, body_answer, rest_of, shown_body, NextModifierIs, BodyIs};
+ghost use Rattle.type_blobs.specs.ConstantReading.{ConstantLeft, ConstantReading, constant_left, modifier_answer, body_answer, rest_of};
+ghost use Rattle.type_blobs.specs.ConstantReading.{shown_body, NextModifierIs, BodyIs};
 
 use crate::types::{Modifier, TypeLimits, TypeToken, out_of_range, type_at};
 use blob_grammar::{byte_field, fixed_field};

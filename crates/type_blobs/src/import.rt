@@ -132,7 +132,8 @@ impl<'a> Source<'a> {
         requires within { at ≤ length self.now.blob.now }
         requires from { 1 ≤ kind }
         requires to { kind ≤ 3 }
-        ensures { FieldsAre (imports_left self.now.limits (heap_of self.now.blobs) self.now.blob.now) (length self.now.blob.now) (fields_left self.now.limits (heap_of self.now.blobs) self.now.blob.now kind at) result }
+        ensures { FieldsAre (imports_left self.now.limits (heap_of self.now.blobs) self.now.blob.now) (length self.now.blob.now)
+            (fields_left self.now.limits (heap_of self.now.blobs) self.now.blob.now kind at) result }
     {
         match kind {
             1 => {
@@ -160,7 +161,8 @@ impl<'a> Source<'a> {
         requires within { at ≤ length self.now.blob.now }
         requires from { 4 ≤ kind }
         requires to { kind ≤ 9 }
-        ensures { FieldsAre (imports_left self.now.limits (heap_of self.now.blobs) self.now.blob.now) (length self.now.blob.now) (fields_left self.now.limits (heap_of self.now.blobs) self.now.blob.now kind at) result }
+        ensures { FieldsAre (imports_left self.now.limits (heap_of self.now.blobs) self.now.blob.now) (length self.now.blob.now)
+            (fields_left self.now.limits (heap_of self.now.blobs) self.now.blob.now kind at) result }
     {
         let (alias, next) = self.text(at)?;
         match kind {

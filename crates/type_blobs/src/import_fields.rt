@@ -40,7 +40,8 @@ fn begun_after(kind: u32, fields: usize, n: u32) -> (u32, usize)
     requires begun { IsBegun kind fields }
     requires kind { fields ≡ 0 → (1 ≤ n) × (n ≤ 9) }
     ensures begun { IsBegun result.0 result.1 }
-    ensures shape { (limits : TypeLimits) (heap : ℕ → Option (List ℕ)) → SameShape (with_value (imports limits heap) (record { whole = []; begun = begun_of kind fields }) (number n)).begun (begun_of result.0 result.1) }
+    ensures shape { (limits : TypeLimits) (heap : ℕ → Option (List ℕ))
+        → SameShape (with_value (imports limits heap) (record { whole = []; begun = begun_of kind fields }) (number n)).begun (begun_of result.0 result.1) }
 {
     if fields == 0 {
         (n, 1)

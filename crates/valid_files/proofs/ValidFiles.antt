@@ -57,7 +57,8 @@ module _ (stream : List ℕ) (accepted : IsAccepted (BadPdbFields stream)) where
 module _ (methods : ℕ) (stream : List ℕ) (accepted : IsAccepted (BadTableFields methods stream)) where
   tables_long : 24 + 4 * counts_below (valid stream) 64 ≤ length stream
   tables_long =
-      let fit = fields_fit (table_fields stream) (length stream) (λ at len is from past. accepted TablesShort (at_byte 4 at) (short_tables at len is from past)) in
+      let fit =
+      fields_fit (table_fields stream) (length stream) (λ at len is from past. accepted TablesShort (at_byte 4 at) (short_tables at len is from past)) in
       let all = sum-fields (4 ∷ 1 ∷ 1 ∷ 1 ∷ 1 ∷ 8 ∷ 8 ∷ []) (valid stream) in
       omega (arith, fit, all)
 
@@ -163,4 +164,5 @@ valid_id file raw accepted is = ap (λ (r : RawFile). length r.id) is.raw_is ∙
 pub valid_narrow : (file : List ℕ) (raw : RawFile) → All IsByte file → IsRawOf file raw → All IsNarrowRow raw.tables.variables
 valid_narrow file raw bytes is =
     subst (λ (r : RawFile). All IsNarrowRow r.tables.variables) (sym is.raw_is)
-    (narrow_rows (sizes_in (head_in (bytes_of is.streams Pdb)) (bytes_of is.streams Tables)) (bytes_of is.streams Tables) (stream_bytes file is.streams is.are bytes Tables))
+    (narrow_rows (sizes_in (head_in (bytes_of is.streams Pdb)) (bytes_of is.streams Tables)) (bytes_of is.streams Tables)
+    (stream_bytes file is.streams is.are bytes Tables))

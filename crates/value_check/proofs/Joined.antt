@@ -41,20 +41,26 @@ ok_answers {P = P} {Q = Q} r ok same = IfOk-weaker r (λ answer. IsTrue answer �
 pub ok_beside : {P Q S : Type 0} (r : Result Bool Memory) → P → IfOk r (λ answer. IsTrue answer ↔ Q) → (P × Q) ↔ S → IfOk r (λ answer. IsTrue answer ↔ S)
 ok_beside r holds ok same = ok_answers r ok ((λ q. same.0 (holds, q)), (λ s. (same.1 s).1))
 
-pub ok_last : {P Q R S : Type 0} (r : Result Bool Memory) → P → Q → IfOk r (λ answer. IsTrue answer ↔ R) → (P × (Q × R)) ↔ S → IfOk r (λ answer. IsTrue answer ↔ S)
+pub ok_last : {P Q R S : Type 0} (r : Result Bool Memory) → P → Q → IfOk r (λ answer. IsTrue answer ↔ R) → (P × (Q × R)) ↔ S
+    → IfOk r (λ answer. IsTrue answer ↔ S)
 ok_last r first second ok same = ok_answers r ok ((λ third. same.0 (first, (second, third))), (λ s. (same.1 s).1.1))
 
 -- the names and the slots of one scope
-pub items_joined : (scope : ScopeValue) (variables : List VariableValue) (constants : List ConstantValue) → variables ≡ scope.variables → constants ≡ scope.constants
+pub items_joined : (scope : ScopeValue) (variables : List VariableValue) (constants : List ConstantValue) → variables ≡ scope.variables
+    → constants ≡ scope.constants
     → (AllPairs (λ (a : VariableValue) (b : VariableValue). a.slot ≢ b.slot) variables
-    × (AllPairs (λ (a : VariableValue) (b : VariableValue). a.name ≢ b.name) variables × AllPairs (λ (a : ConstantValue) (b : ConstantValue). a.name ≢ b.name) constants))
+    × (AllPairs (λ (a : VariableValue) (b : VariableValue). a.name ≢ b.name) variables × AllPairs (λ (a : ConstantValue) (b : ConstantValue). a.name ≢ b.name)
+    constants))
     ↔ HasDistinctItems scope
 items_joined scope variables constants e f =
-    let slots = subst (λ (xs : List VariableValue). AllPairs (λ (a : VariableValue) (b : VariableValue). a.slot ≢ b.slot) xs ↔ EachPair (λ (a : VariableValue) (b : VariableValue). a.slot ≢ b.slot) scope.variables)
+    let slots = subst (λ (xs : List VariableValue). AllPairs (λ (a : VariableValue) (b : VariableValue). a.slot ≢ b.slot) xs ↔ EachPair
+    (λ (a : VariableValue) (b : VariableValue). a.slot ≢ b.slot) scope.variables)
     (sym e) (each_pair scope.variables (λ a b. a.slot ≢ b.slot)) in
-    let names = subst (λ (xs : List VariableValue). AllPairs (λ (a : VariableValue) (b : VariableValue). a.name ≢ b.name) xs ↔ EachPair (λ (a : VariableValue) (b : VariableValue). a.name ≢ b.name) scope.variables)
+    let names = subst (λ (xs : List VariableValue). AllPairs (λ (a : VariableValue) (b : VariableValue). a.name ≢ b.name) xs ↔ EachPair
+    (λ (a : VariableValue) (b : VariableValue). a.name ≢ b.name) scope.variables)
     (sym e) (each_pair scope.variables (λ a b. a.name ≢ b.name)) in
-    let others = subst (λ (xs : List ConstantValue). AllPairs (λ (a : ConstantValue) (b : ConstantValue). a.name ≢ b.name) xs ↔ EachPair (λ (a : ConstantValue) (b : ConstantValue). a.name ≢ b.name) scope.constants)
+    let others = subst (λ (xs : List ConstantValue). AllPairs (λ (a : ConstantValue) (b : ConstantValue). a.name ≢ b.name) xs ↔ EachPair
+    (λ (a : ConstantValue) (b : ConstantValue). a.name ≢ b.name) scope.constants)
     (sym f) (each_pair scope.constants (λ a b. a.name ≢ b.name)) in (
       (λ all. record { slots_differ = slots.0 all.0; variable_names_differ = names.0 all.1.0; constant_names_differ = others.0 all.1.1 }),
       (λ s. (slots.1 s.slots_differ, (names.1 s.variable_names_differ, others.1 s.constant_names_differ))),
@@ -70,9 +76,11 @@ module _ (value : FileValue) where
 
   pub documents_joined : (documents : List DocumentValue) → documents ≡ value.documents
       → AllPairs (λ (a : DocumentValue) (b : DocumentValue). a.name ≢ b.name) documents ↔ SoundDocuments value
-  documents_joined documents e = subst (λ (xs : List DocumentValue). AllPairs (λ (a : DocumentValue) (b : DocumentValue). a.name ≢ b.name) xs ↔ SoundDocuments value) (sym e) documents_at
+  documents_joined documents e =
+      subst (λ (xs : List DocumentValue). AllPairs (λ (a : DocumentValue) (b : DocumentValue). a.name ≢ b.name) xs ↔ SoundDocuments value) (sym e) documents_at
 
-  methods_at : (EachRow (SoundMethod value) value.methods × AllPairs (λ (a : MethodValue) (b : MethodValue). a.method < b.method) value.methods) ↔ SoundMethods value
+  methods_at : (EachRow (SoundMethod value) value.methods × AllPairs (λ (a : MethodValue) (b : MethodValue). a.method < b.method) value.methods) ↔ SoundMethods
+      value
   methods_at =
       let order = rises value.methods (λ method. method.method) in
       ((λ both. record { each = both.0; by_row = order.0 both.1 }), (λ s. (s.each, order.1 s.by_row)))
@@ -80,17 +88,21 @@ module _ (value : FileValue) where
   pub methods_joined : (methods : List MethodValue) → methods ≡ value.methods
       → (EachRow (SoundMethod value) methods × AllPairs (λ (a : MethodValue) (b : MethodValue). a.method < b.method) methods) ↔ SoundMethods value
   methods_joined methods e =
-      subst (λ (xs : List MethodValue). (EachRow (SoundMethod value) xs × AllPairs (λ (a : MethodValue) (b : MethodValue). a.method < b.method) xs) ↔ SoundMethods value) (sym e) methods_at
+      subst (λ (xs : List MethodValue). (EachRow (SoundMethod value) xs × AllPairs (λ (a : MethodValue) (b : MethodValue). a.method < b.method) xs) ↔
+      SoundMethods value) (sym e) methods_at
 
-  customs_at : (EachRow (SoundCustom value) value.customs × AllPairs (λ (a : CustomValue) (b : CustomValue). coded_of a.parent ≤ coded_of b.parent) value.customs) ↔ SoundCustoms value
+  customs_at : (EachRow (SoundCustom value) value.customs × AllPairs (λ (a : CustomValue) (b : CustomValue). coded_of a.parent ≤ coded_of b.parent)
+      value.customs) ↔ SoundCustoms value
   customs_at =
       let order = sorted value.customs (λ custom. coded_of custom.parent) in
       ((λ both. record { each = both.0; by_parent = order.0 both.1 }), (λ s. (s.each, order.1 s.by_parent)))
 
   pub customs_joined : (customs : List CustomValue) → customs ≡ value.customs
-      → (EachRow (SoundCustom value) customs × AllPairs (λ (a : CustomValue) (b : CustomValue). coded_of a.parent ≤ coded_of b.parent) customs) ↔ SoundCustoms value
+      → (EachRow (SoundCustom value) customs × AllPairs (λ (a : CustomValue) (b : CustomValue). coded_of a.parent ≤ coded_of b.parent) customs) ↔ SoundCustoms
+      value
   customs_joined customs e =
-      subst (λ (xs : List CustomValue). (EachRow (SoundCustom value) xs × AllPairs (λ (a : CustomValue) (b : CustomValue). coded_of a.parent ≤ coded_of b.parent) xs) ↔ SoundCustoms value) (sym e) customs_at
+      subst (λ (xs : List CustomValue). (EachRow (SoundCustom value) xs
+      × AllPairs (λ (a : CustomValue) (b : CustomValue). coded_of a.parent ≤ coded_of b.parent) xs) ↔ SoundCustoms value) (sym e) customs_at
 
   imports_at : (EachRow (SoundImportScope value) value.imports × ((row : ℕ) → ¬ (NeverEnds (parent_of value.imports) row))) ↔ SoundImports value
   imports_at = ((λ both. record { each = both.0; chains_end = both.1 }), (λ s. (s.each, s.chains_end)))
@@ -98,18 +110,22 @@ module _ (value : FileValue) where
   pub imports_joined : (imports : List ImportScopeValue) → imports ≡ value.imports
       → (EachRow (SoundImportScope value) imports × ((row : ℕ) → ¬ (NeverEnds (parent_of imports) row))) ↔ SoundImports value
   imports_joined imports e =
-      subst (λ (xs : List ImportScopeValue). (EachRow (SoundImportScope value) xs × ((row : ℕ) → ¬ (NeverEnds (parent_of xs) row))) ↔ SoundImports value) (sym e) imports_at
+      subst (λ (xs : List ImportScopeValue). (EachRow (SoundImportScope value) xs × ((row : ℕ) → ¬ (NeverEnds (parent_of xs) row))) ↔ SoundImports value)
+      (sym e) imports_at
 
   -- the machines have moves that rise, and kickoff methods that differ
   abbrev pub MachinesPass : List MachineRow → Type 0
   MachinesPass machines = EachRow (SoundMachine value) machines
-      × (AllPairs (λ (a : MachineRow) (b : MachineRow). a.move_next < b.move_next) machines × AllPairs (λ (a : MachineRow) (b : MachineRow). a.kickoff ≢ b.kickoff) machines)
+      × (AllPairs (λ (a : MachineRow) (b : MachineRow). a.move_next < b.move_next) machines
+      × AllPairs (λ (a : MachineRow) (b : MachineRow). a.kickoff ≢ b.kickoff) machines)
 
   machines_at : MachinesPass value.machines ↔ SoundMachines value
   machines_at =
       let order = rises value.machines (λ machine. machine.move_next) in
-      let pairs = each_pair value.machines (λ a b. a.kickoff ≢ b.kickoff) in
-      ((λ all. record { each = all.0; by_move_next = order.0 all.1.0; kickoffs_differ = pairs.0 all.1.1 }), (λ s. (s.each, (order.1 s.by_move_next, pairs.1 s.kickoffs_differ))))
+      let pairs = each_pair value.machines (λ a b. a.kickoff ≢ b.kickoff) in (
+        (λ all. record { each = all.0; by_move_next = order.0 all.1.0; kickoffs_differ = pairs.0 all.1.1 }),
+        (λ s. (s.each, (order.1 s.by_move_next, pairs.1 s.kickoffs_differ))),
+      )
 
   pub machines_joined : (machines : List MachineRow) → machines ≡ value.machines → MachinesPass machines ↔ SoundMachines value
   machines_joined machines e = subst (λ (xs : List MachineRow). MachinesPass xs ↔ SoundMachines value) (sym e) machines_at
@@ -135,7 +151,8 @@ module _ (value : FileValue) where
   plain_scope scope s = ((s.method, (s.import, (s.not_empty, s.end))), (s.variables, s.constants))
 
   distinct_scope : (scope : ScopeValue) → SoundScope value scope → HasDistinctItems scope
-  distinct_scope scope s = record { slots_differ = s.slots_differ; variable_names_differ = s.variable_names_differ; constant_names_differ = s.constant_names_differ }
+  distinct_scope scope s =
+      record { slots_differ = s.slots_differ; variable_names_differ = s.variable_names_differ; constant_names_differ = s.constant_names_differ }
 
   scopes_at : ScopesPass value.scopes ↔ SoundScopes value
   scopes_at =
@@ -152,7 +169,8 @@ module _ (value : FileValue) where
         (λ s. (
           (λ row scope here. plain_scope scope (s.each row scope here)),
           (
-            (λ i j d lt inside. comes_before (get_or value.scopes i d) (get_or value.scopes j d) (order.1 s.by_method i j d lt inside) (starts.1 s.by_start i j d lt inside)),
+            (λ i j d lt inside. comes_before (get_or value.scopes i d) (get_or value.scopes j d) (order.1 s.by_method i j d lt inside)
+                (starts.1 s.by_start i j d lt inside)),
             (nested.1 s.nested, distinct.1 (λ row scope here. distinct_scope scope (s.each row scope here))),
           ),
         )),
@@ -161,6 +179,8 @@ module _ (value : FileValue) where
   pub scopes_joined : (scopes : List ScopeValue) → scopes ≡ value.scopes → ScopesPass scopes ↔ SoundScopes value
   scopes_joined scopes e = subst (λ (xs : List ScopeValue). ScopesPass xs ↔ SoundScopes value) (sym e) scopes_at
 
-  pub ok_scopes : (scopes : List ScopeValue) (r : Result Bool Memory) → EachRow (IsPlainScope value) scopes → AllPairs ComesBefore scopes → AllPairs IsNested scopes
-      → IfOk r (λ answer. IsTrue answer ↔ All HasDistinctItems scopes) → ScopesPass scopes ↔ SoundScopes value → IfOk r (λ answer. IsTrue answer ↔ SoundScopes value)
+  pub ok_scopes : (scopes : List ScopeValue) (r : Result Bool Memory) → EachRow (IsPlainScope value) scopes → AllPairs ComesBefore scopes
+      → AllPairs IsNested scopes
+      → IfOk r (λ answer. IsTrue answer ↔ All HasDistinctItems scopes) → ScopesPass scopes ↔ SoundScopes value
+      → IfOk r (λ answer. IsTrue answer ↔ SoundScopes value)
   ok_scopes scopes r plain order nested ok same = ok_answers r ok ((λ distinct. same.0 (plain, (order, (nested, distinct)))), (λ s. (same.1 s).1.1.1))

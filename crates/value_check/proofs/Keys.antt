@@ -44,7 +44,8 @@ module _ {K : Type 0} (cmp : K → K → Ordering) (keys : List K) (i : ℕ) (ke
       (λ equal.
       let second : key ≡ get_or keys i d = get_or_read keys i key inside is d in
       let here : is_eq (cmp (get_or (take i keys) k d) key) ≡ true = rw (get_or-take i keys k d before, second) equal in
-      let has : list_any (λ k. is_eq (cmp k key)) (take i keys) ≡ true = list_any_at (λ k. is_eq (cmp k key)) (take i keys) k d (omega (arith, length-take i keys)) here in
+      let has : list_any (λ k. is_eq (cmp k key)) (take i keys) ≡ true =
+      list_any_at (λ k. is_eq (cmp k key)) (take i keys) k d (omega (arith, length-take i keys)) here in
       let none : list_any (λ k. is_eq (cmp k key)) (take i keys) ≡ false = sym (seen key) ∙ lacks in
       let wrong : true ≡ false = sym has ∙ none in
       cc)
@@ -65,7 +66,8 @@ module _ {K V T : Type 0} (cmp : K → K → Ordering) (view : K → V) (name : 
 
   stands_for : (i : ℕ) (k : K) (t : T) → i < length keys → view (get_or keys i k) ≡ name (get_or items i t)
   stands_for i k t inside =
-      sym (get_or-map view keys i k (view k) inside) ∙ (ap (λ vs. get_or vs i (view k)) same ∙ get_or-map name items i t (view k) (omega (arith, inside, as_many)))
+      sym (get_or-map view keys i k (view k) inside)
+      ∙ (ap (λ vs. get_or vs i (view k)) same ∙ get_or-map name items i t (view k) (omega (arith, inside, as_many)))
 
   some_at : {X : Type 0} (xs : List X) (i : ℕ) → i < length xs → X
   some_at xs i inside = elim (slice_get_cases xs i).1 [ inl x ↦ x.0 | inr past ↦ absurd (omega (arith, inside, past.0)) ]

@@ -45,9 +45,11 @@ module _ {X : Type 0} (xs : List X) where
     (λ all a b x y ax by lt.
         let p = item_of_row a x ax in
         let q = item_of_row b y by in
-        let y_there : get_or xs q.0 x ≡ y = get_or_from_slice_get xs q.0 y x (let r : row_at xs (suc q.0) ≡ Some y = subst (λ n. row_at xs n ≡ Some y) q.1 by in r) in
+        let y_there : get_or xs q.0 x ≡ y =
+        get_or_from_slice_get xs q.0 y x (let r : row_at xs (suc q.0) ≡ Some y = subst (λ n. row_at xs n ≡ Some y) q.1 by in r) in
         subst (λ v. R v y) p.3 (subst (λ v. R (get_or xs p.0 x) v) y_there (all p.0 q.0 x (let e = p.1 in let f = q.1 in omega (arith, e, f, lt)) q.2))),
-    (λ each i j d lt inside. each (suc i) (suc j) (get_or xs i d) (get_or xs j d) (slice_get-get_or xs i d (omega arith)) (slice_get-get_or xs j d inside) (omega arith)),
+    (λ each i j d lt inside. each (suc i) (suc j) (get_or xs i d) (get_or xs j d) (slice_get-get_or xs i d (omega arith)) (slice_get-get_or xs j d inside)
+        (omega arith)),
   )
 
   module _ (key : X → ℕ) where

@@ -1,5 +1,6 @@
 -- The open scopes of a method, from scope to scope.
-use Rattle.std.proofs.Common.{◌≡◌, ℕ, zero, suc, ◌+◌, ◌-◌, ◌<◌, ◌≤◌, List, [], ◌∷◌, ◌++◌, length, take, get_or, sym, subst, ap, ◌∙◌, arith, inl, inr, length-append}
+use Rattle.std.proofs.Common.{◌≡◌, ℕ, zero, suc, ◌+◌, ◌-◌, ◌<◌, ◌≤◌, List, [], ◌∷◌, ◌++◌, length, take, get_or, sym, subst, ap, ◌∙◌}
+use Rattle.std.proofs.Common.{arith, inl, inr, length-append}
 use Rattle.std.specs.Prelude.{AllPairs}
 use Rattle.std.proofs.lemmas.List.{get_or_read, get_or-take, length-take}
 use Rattle.std.proofs.lemmas.Bool.{cases_lt}
@@ -32,7 +33,8 @@ comes_before a b rises after = elim (cases_lt a.method b.method) [
 
 module _ (scopes : List ScopeValue) where
   -- where no earlier scope is of the method, none is open
-  pub none_open : (place method start : ℕ) → ((k : ℕ) (d : ScopeValue) → k < place → (get_or scopes k d).method ≡ method → ⊥) → AreOpen scopes place method start []
+  pub none_open : (place method start : ℕ) → ((k : ℕ) (d : ScopeValue) → k < place → (get_or scopes k d).method ≡ method → ⊥)
+      → AreOpen scopes place method start []
   none_open place method start none = record {
     each = λ k within. absurd (omega (arith, within));
     nested = λ j k le within. absurd (omega (arith, within));
@@ -48,7 +50,10 @@ module _ (scopes : List ScopeValue) where
       → AreOpen scopes place method offset (take n ends)
   open_closed place method start offset n ends opened late short closed last = record {
     each = λ k within. rw (get_or-take n ends k 0 (omega (arith, length-take n ends, within))) (opened.each k (omega (arith, length-take n ends, within)));
-    nested = λ j k le within. rw (get_or-take n ends k 0 (omega (arith, length-take n ends, within)), get_or-take n ends j 0 (omega (arith, length-take n ends, within)))
+    nested = λ j k le within. rw (
+      get_or-take n ends k 0 (omega (arith, length-take n ends, within)),
+      get_or-take n ends j 0 (omega (arith, length-take n ends, within)),
+    )
         (opened.nested j k le (omega (arith, length-take n ends, within)));
     later = λ k within.
         let lt : k < n = omega (arith, length-take n ends, within) in
@@ -81,18 +86,26 @@ module _ (scopes : List ScopeValue) where
         (let e : EndsThere scopes place scope.method (get_or ends k 0) = opened.each k within in
         let same = (e.2 scope).0 in
         let ends_so = (e.2 scope).1 in
-        let lies : IsInOrAfter (get_or scopes e.0 scope).range scope.range = subst (λ x. IsInOrAfter (get_or scopes e.0 scope).range x.range) (sym here) (nested e.0 scope e.1 (same ∙ ap (λ x. x.method) here)) in
+        let lies : IsInOrAfter (get_or scopes e.0 scope).range scope.range =
+        subst (λ x. IsInOrAfter (get_or scopes e.0 scope).range x.range) (sym here) (nested e.0 scope e.1 (same ∙ ap (λ x. x.method) here)) in
         let later = opened.later k within in
         elim lies [ inl within_it ↦ omega arith | inr after ↦ absurd (omega arith) ])
         in record {
           each = λ k within. elim (cases_lt k (length ends)) [
-            | inl lt ↦ rw (get_or-append ends (scope.range.end ∷ []) 0 k lt) (let e : EndsThere scopes place scope.method (get_or ends k 0) = opened.each k lt in
+            | inl lt ↦ rw (get_or-append ends (scope.range.end ∷ []) 0 k lt)
+                (let e : EndsThere scopes place scope.method (get_or ends k 0) = opened.each k lt in
                 let sooner = e.1 in (e.0, omega arith, e.2))
             | inr ge ↦ let same : k ≡ length ends = omega (arith, within, length-append ends (scope.range.end ∷ [])) in
-                rw (same, get_or-append_seam ends scope.range.end [] 0) (place, omega arith, λ d. let e = get_or_read scopes place scope inside here d in (ap (λ x. x.method) (sym e), ap (λ x. x.range.end) (sym e)))
+                rw (same, get_or-append_seam ends scope.range.end [] 0) (
+                  place,
+                  omega arith,
+                  λ d. let e = get_or_read scopes place scope inside here d in
+                      (ap (λ x. x.method) (sym e), ap (λ x. x.range.end) (sym e)),
+                )
           ];
           nested = λ j k le within. elim (cases_lt k (length ends)) [
-            | inl lt ↦ rw (get_or-append ends (scope.range.end ∷ []) 0 k lt, get_or-append ends (scope.range.end ∷ []) 0 j (omega arith)) (opened.nested j k le lt)
+            | inl lt ↦ rw (get_or-append ends (scope.range.end ∷ []) 0 k lt, get_or-append ends (scope.range.end ∷ []) 0 j (omega arith))
+                (opened.nested j k le lt)
             | inr ge ↦ let same : k ≡ length ends = omega (arith, within, length-append ends (scope.range.end ∷ [])) in
                 rw (same, get_or-append_seam ends scope.range.end [] 0) (elim (cases_lt j (length ends)) [
                   | inl lt ↦ rw (get_or-append ends (scope.range.end ∷ []) 0 j lt) (longer j lt)
@@ -111,7 +124,12 @@ module _ (scopes : List ScopeValue) where
             ]
             | inr ge ↦ let e : before ≡ place = omega arith in
                 let s : scope ≡ get_or scopes before d = rw e (get_or_read scopes place scope inside here d) in
-                inr (length ends, omega (arith, length-append ends (scope.range.end ∷ [])), get_or-append_seam ends scope.range.end [] 0 ∙ ap (λ x. x.range.end) s)
+                inr (
+                  length ends,
+                  omega (arith, length-append ends (scope.range.end ∷ [])),
+                  get_or-append_seam ends scope.range.end [] 0
+                      ∙ ap (λ x. x.range.end) s,
+                )
           ];
         }
 
@@ -122,7 +140,8 @@ module _ (scopes : List ScopeValue) where
       follows : ComesBefore last scope
       follows =
           let b : ComesBefore (get_or scopes (place - 1) last) (get_or scopes place last) = order (place - 1) place last (omega arith) inside in
-          subst (λ x. ComesBefore last x) (sym (get_or_read scopes place scope inside here last)) (subst (λ x. ComesBefore x (get_or scopes place last)) (sym before) b)
+          subst (λ x. ComesBefore last x) (sym (get_or_read scopes place scope inside here last))
+          (subst (λ x. ComesBefore x (get_or scopes place last)) (sym before) b)
 
       -- at the first scope of a method no earlier one of it is open
       pub at_new_method : (last.method ≡ scope.method → ⊥) → AreOpen scopes place scope.method scope.range.start []

@@ -25,7 +25,8 @@ module _ {X : Type 0} (R : X → X → Type 0) (xs : List X) where
   ]
 
   -- one item more, to which the one before it stands so, where the order goes on from item to item
-  pub next_in_order : ((a b c : X) → R a b → R b c → R a c) → (i : ℕ) → 1 ≤ i → PairsBelow R xs i → ((d : X) → R (get_or xs (i - 1) d) (get_or xs i d)) → PairsBelow R xs (i + 1)
+  pub next_in_order : ((a b c : X) → R a b → R b c → R a c) → (i : ℕ) → 1 ≤ i → PairsBelow R xs i → ((d : X) → R (get_or xs (i - 1) d) (get_or xs i d))
+      → PairsBelow R xs (i + 1)
   next_in_order goes_on i some pairs here = pairs_more i pairs
       (λ k d lt. elim (cases_lt k (i - 1)) [
         | inl early ↦ goes_on (get_or xs k d) (get_or xs (i - 1) d) (get_or xs i d) (pairs k (i - 1) d early (omega arith)) (here d)

@@ -27,21 +27,24 @@ module _ (parent : ℕ → ℕ) (top : parent 0 ≡ 0) where
 
   -- a chain that ends by some step is at 0 from then on
   stays : (x a b : ℕ) → ancestor_of parent x a ≡ 0 → a ≤ b → ancestor_of parent x b ≡ 0
-  stays x a b z le = ap (λ n. ancestor_of parent x n) (let e : b ≡ a + (b - a) = omega arith in e) ∙ (ancestor-+ x a (b - a) ∙ (ap (λ n. ancestor_of parent n (b - a)) z ∙ ancestor-zero (b - a)))
+  stays x a b z le = ap (λ n. ancestor_of parent x n) (let e : b ≡ a + (b - a) = omega arith in e)
+      ∙ (ancestor-+ x a (b - a) ∙ (ap (λ n. ancestor_of parent n (b - a)) z ∙ ancestor-zero (b - a)))
 
   cycle : (x d fuel : ℕ) → x ≢ 0 → ancestor_of parent x (suc d) ≡ x → (k : ℕ) → k < fuel → ancestor_of parent x k ≢ 0
   cycle x d zero nz back k lt z = omega (arith, lt)
   cycle x d (suc fuel) nz back k lt z = elim (cases_lt k (suc d)) [
     | inl before ↦ nz (sym back ∙ stays x k (suc d) z (omega arith))
     | inr past ↦ cycle x d fuel nz back (k - suc d) (omega (arith, lt, past))
-        (ap (λ n. ancestor_of parent n (k - suc d)) (sym back) ∙ (sym (ancestor-+ x (suc d) (k - suc d)) ∙ (ap (λ n. ancestor_of parent x n) (let e : suc d + (k - suc d) ≡ k = omega (arith, past) in e) ∙ z)))
+        (ap (λ n. ancestor_of parent n (k - suc d)) (sym back)
+        ∙ (sym (ancestor-+ x (suc d) (k - suc d)) ∙ (ap (λ n. ancestor_of parent x n) (let e : suc d + (k - suc d) ≡ k = omega (arith, past) in e) ∙ z)))
   ]
 
   -- a chain that leads to a row which leads back to itself never ends
   never_from : (r x d e : ℕ) → x ≢ 0 → ancestor_of parent r d ≡ x → ancestor_of parent x (suc e) ≡ x → NeverEnds parent r
   never_from r x d e nz to back steps z = elim (cases_lt d steps) [
     | inl lt ↦ cycle x e (suc (steps - d)) nz back (steps - d) (omega arith)
-        (ap (λ n. ancestor_of parent n (steps - d)) (sym to) ∙ (sym (ancestor-+ r d (steps - d)) ∙ (ap (λ n. ancestor_of parent r n) (let s : d + (steps - d) ≡ steps = omega (arith, lt) in s) ∙ z)))
+        (ap (λ n. ancestor_of parent n (steps - d)) (sym to)
+        ∙ (sym (ancestor-+ r d (steps - d)) ∙ (ap (λ n. ancestor_of parent r n) (let s : d + (steps - d) ≡ steps = omega (arith, lt) in s) ∙ z)))
     | inr ge ↦ nz (sym to ∙ stays r steps d z ge)
   ]
 
@@ -110,13 +113,16 @@ module _ (parent : ℕ → ℕ) (top : parent 0 ≡ 0) where
   pub marks_at_first : (rows : ℕ) (marks : List ℕ) → marks ≡ replicate rows 0 → MarksEnd parent rows 1 marks
   marks_at_first rows marks is = record {
     one_each = ap length is ∙ length-replicate {A = ℕ} rows 0;
-    earlier = λ index within. rw is (rw (get_or-replicate {A = ℕ} rows index 0 0 (omega (arith, within, ap length is, length-replicate {A = ℕ} rows 0))) (omega arith));
-    ends = λ index within marked. absurd (marked (rw is (get_or-replicate {A = ℕ} rows index 0 0 (omega (arith, within, ap length is, length-replicate {A = ℕ} rows 0)))));
+    earlier = λ index within. rw is (rw (get_or-replicate {A = ℕ} rows index 0 0 (omega (arith, within, ap length is, length-replicate {A = ℕ} rows 0)))
+        (omega arith));
+    ends = λ index within marked. absurd (marked
+        (rw is (get_or-replicate {A = ℕ} rows index 0 0 (omega (arith, within, ap length is, length-replicate {A = ℕ} rows 0)))));
   }
 
 module _ (imports : List ImportScopeValue) where
   -- the parent of a row that is there
-  pub parent_here : (place : ℕ) (scope : ImportScopeValue) → 0 < place → place ≤ length imports → scope ≡ get_or imports (place - 1) scope → parent_of imports place ≡ scope.parent
+  pub parent_here : (place : ℕ) (scope : ImportScopeValue) → 0 < place → place ≤ length imports → scope ≡ get_or imports (place - 1) scope
+      → parent_of imports place ≡ scope.parent
   parent_here zero scope some within here = absurd (omega (arith, some))
   parent_here (suc i) scope some within here =
       let e : suc i - 1 ≡ i = omega arith in

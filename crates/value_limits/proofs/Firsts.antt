@@ -1,5 +1,6 @@
 -- The first limit that is met, one part after another.
-use Rattle.std.proofs.Common.{◌≡◌, ℕ, zero, suc, ◌+◌, ◌-◌, ◌<◌, List, [], ◌∷◌, length, take, All, ◌≤◌, ◌≢◌, get_or, refl, sym, ap, ◌∙◌, subst, arith, Option, Some, None}
+use Rattle.std.proofs.Common.{◌≡◌, ℕ, zero, suc, ◌+◌, ◌-◌, ◌<◌, List, [], ◌∷◌, length, take, All, ◌≤◌, ◌≢◌, get_or, refl, sym, ap, ◌∙◌}
+use Rattle.std.proofs.Common.{subst, arith, Option, Some, None}
 use Rattle.std.specs.List.{filter_map, cons_option}
 use Rattle.std.specs.Option.{option_or}
 use Rattle.std.specs.Prelude.{slice_get, slice_index}
@@ -23,22 +24,27 @@ first_or {X} {Y} f x xs = by (f x)
     by (Some y) = refl
 
 -- where nothing was answered up to a place, the answer there is the first
-pub first_at : {X Y : Type 0} (f : X → Option Y) (xs : List X) (i : ℕ) (d : X) (y : Y) → i < length xs → filter_map f (take i xs) ≡ [] → f (get_or xs i d) ≡ Some y → first_of (filter_map f xs) ≡ Some y
+pub first_at : {X Y : Type 0} (f : X → Option Y) (xs : List X) (i : ℕ) (d : X) (y : Y) → i < length xs → filter_map f (take i xs) ≡ []
+    → f (get_or xs i d) ≡ Some y → first_of (filter_map f xs) ≡ Some y
 first_at f [] i d y h none is = absurd (omega (arith, h))
 first_at f (x ∷ xs) zero d y h none is = first_or f x xs ∙ ap (λ o. option_or o (first_of (filter_map f xs))) is
 first_at {X} {Y} f (x ∷ xs) (suc i) d y h none is = by (f x) refl none (λ rest. first_at f xs i d y (omega (arith, h)) rest is)
   where
-    by : (o : Option Y) → f x ≡ o → cons_option o (filter_map f (take i xs)) ≡ [] → (filter_map f (take i xs) ≡ [] → first_of (filter_map f xs) ≡ Some y) → first_of (filter_map f (x ∷ xs)) ≡ Some y
+    by : (o : Option Y) → f x ≡ o → cons_option o (filter_map f (take i xs)) ≡ [] → (filter_map f (take i xs) ≡ [] → first_of (filter_map f xs) ≡ Some y)
+        → first_of (filter_map f (x ∷ xs)) ≡ Some y
     by None e rest later = first_or f x xs ∙ ap (λ o. option_or o (first_of (filter_map f xs))) e ∙ later rest
     by (Some z) e rest later = cc
 
-pub none_more : {X Y : Type 0} (f : X → Option Y) (xs : List X) (i : ℕ) (d : X) → i < length xs → filter_map f (take i xs) ≡ [] → f (get_or xs i d) ≡ None → filter_map f (take (i + 1) xs) ≡ []
+pub none_more : {X Y : Type 0} (f : X → Option Y) (xs : List X) (i : ℕ) (d : X) → i < length xs → filter_map f (take i xs) ≡ [] → f (get_or xs i d) ≡ None
+    → filter_map f (take (i + 1) xs) ≡ []
 none_more f [] i d h none is = absurd (omega (arith, h))
 none_more f (x ∷ xs) zero d h none is = ap (λ o. cons_option o []) is
 none_more {X} {Y} f (x ∷ xs) (suc i) d h none is = by (f x) refl none (λ rest. none_more f xs i d (omega (arith, h)) rest is)
   where
-    by : (o : Option Y) → f x ≡ o → cons_option o (filter_map f (take i xs)) ≡ [] → (filter_map f (take i xs) ≡ [] → filter_map f (take (i + 1) xs) ≡ []) → filter_map f (take (suc i + 1) (x ∷ xs)) ≡ []
-    by None e rest later = let on : suc i + 1 ≡ suc (i + 1) = omega arith in ap (λ n. filter_map f (take n (x ∷ xs))) on ∙ ap (λ o. cons_option o (filter_map f (take (i + 1) xs))) e ∙ later rest
+    by : (o : Option Y) → f x ≡ o → cons_option o (filter_map f (take i xs)) ≡ [] → (filter_map f (take i xs) ≡ [] → filter_map f (take (i + 1) xs) ≡ [])
+        → filter_map f (take (suc i + 1) (x ∷ xs)) ≡ []
+    by None e rest later = let on : suc i + 1 ≡ suc (i + 1) = omega arith in ap (λ n. filter_map f (take n (x ∷ xs))) on
+        ∙ ap (λ o. cons_option o (filter_map f (take (i + 1) xs))) e ∙ later rest
     by (Some z) e rest later = cc
 
 -- the last element

@@ -108,7 +108,8 @@ fn too_many_rows(value: &FileValue, variables: u64, constants: u64) -> Option<Li
 /// L1 and L2, from the lengths of lists alone.
 pub fn length_limit(value: &FileValue) -> Option<Limit>
     requires { length value.now.rows ≡ 64 }
-    ensures { result ≡ first_met (first_of (filter_map (many_rows value.now) tables) ∷ list_past_end value.now 0x33 (λ scope. length scope.variables) ∷ list_past_end value.now 0x34 (λ scope. length scope.constants) ∷ []) }
+    ensures { result ≡ first_met (first_of (filter_map (many_rows value.now) tables) ∷ list_past_end value.now 0x33 (λ scope. length scope.variables)
+        ∷ list_past_end value.now 0x34 (λ scope. length scope.constants) ∷ []) }
 {
     let scopes = value.scopes.as_slice();
     let variables = count_variables(scopes);

@@ -13,7 +13,8 @@ closed_most None whole begun = omega arith
 closed_most (Some r) whole begun = simp length-append (omega arith)
 
 -- each field ends at most one record
-records_most : {R : Type 0} (g : Grammar R) (c : Cut R) (fields : List Field) → length (fold (λ c f. with_value g c f.value) c fields).whole ≤ length c.whole + length fields
+records_most : {R : Type 0} (g : Grammar R) (c : Cut R) (fields : List Field)
+    → length (fold (λ c f. with_value g c f.value) c fields).whole ≤ length c.whole + length fields
 records_most g c [] = omega arith
 records_most g c (f ∷ fields) =
     let more = records_most g (with_value g c f.value) fields in

@@ -42,7 +42,8 @@ module _ (rows : CanonicalRowsAreReread) (layout : LaidOutFilesAreRead) (forget 
 
     same_again : IdsStandAfterTheRoot → (again : RawFile) → IsRawOf (canon value choice) again → IsSameAgain value choice again
     same_again stand again is =
-        let once : value_of again ≡ with_id value (chosen_id value choice) = ap (λ (file : RawFile). value_of file) (read_once raw read again is) ∙ reread.value_is in
+        let once : value_of again ≡ with_id value (chosen_id value choice) =
+        ap (λ (file : RawFile). value_of file) (read_once raw read again is) ∙ reread.value_is in
         record {
           value_is = once;
           limit = ap (λ (v : FileValue). first_limit v) once ∙ limit_stays forget stand value (chosen_id value choice) types.id id_long ∙ none;

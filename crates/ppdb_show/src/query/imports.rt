@@ -70,7 +70,8 @@ pub(crate) fn put_imports<L: Ledger>(
     steps: &mut Steps<L>,
 ) -> Result<(), Memory>
     requires { HasRowOrNone (raw_of (tables_of file.now)) 0x35 import }
-    ensures ok { OnOk result (Adds text.old text.new (flat_map (import_answer (raw_of (tables_of file.now))) (chain_of (λ scope. scope.parent) (raw_of (tables_of file.now)).imports import))) }
+    ensures ok { OnOk result (Adds text.old text.new (flat_map (import_answer (raw_of (tables_of file.now)))
+        (chain_of (λ scope. scope.parent) (raw_of (tables_of file.now)).imports import))) }
     ensures later { steps.old ≤ steps.new }
     ensures cost { steps.new ≤ steps.old + items_reads (raw_of (tables_of file.now)) 0x35 (chain_of (λ scope. scope.parent) (raw_of (tables_of file.now)).imports import) }
 {

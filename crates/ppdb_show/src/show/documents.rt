@@ -29,7 +29,8 @@ pub(crate) fn put_document<O: Sink, L: Ledger>(
     steps: &mut Steps<L>,
 ) -> Result<(), WriteError>
     requires { HasRow (raw_file file.now).tables 0x30 row }
-    ensures { Puts result (O.written out.old) (O.written out.new) (O.faults out.old) (O.faults out.new) (lines_as printer.form (lines_of_document (raw_file file.now).tables row)) }
+    ensures { Puts result (O.written out.old) (O.written out.new) (O.faults out.old) (O.faults out.new)
+        (lines_as printer.form (lines_of_document (raw_file file.now).tables row)) }
 {
     let document = document(file, row, steps);
     let value = document_value(printer.alloc, file, row, &document)?;

@@ -51,7 +51,8 @@ fn put_count<O: Sink>(
     out: &mut O,
 ) -> Result<(), WriteError>
     requires { table < 64 }
-    ensures { Puts result (O.written out.old) (O.written out.new) (O.faults out.old) (O.faults out.new) (lines_as printer.form (count_lines_of (raw_of tables.now) table)) }
+    ensures { Puts result (O.written out.old) (O.written out.new) (O.faults out.old) (O.faults out.new)
+        (lines_as printer.form (count_lines_of (raw_of tables.now) table)) }
 {
     let count = tables.rows(table);
     if count == 0 {

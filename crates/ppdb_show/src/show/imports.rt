@@ -26,7 +26,8 @@ pub(crate) fn put_import<O: Sink, L: Ledger>(
     steps: &mut Steps<L>,
 ) -> Result<(), WriteError>
     requires { HasRow (raw_file file.now).tables 0x35 row }
-    ensures { Puts result (O.written out.old) (O.written out.new) (O.faults out.old) (O.faults out.new) (lines_as printer.form (lines_of_import_row (raw_file file.now).tables row)) }
+    ensures { Puts result (O.written out.old) (O.written out.new) (O.faults out.old) (O.faults out.new)
+        (lines_as printer.form (lines_of_import_row (raw_file file.now).tables row)) }
 {
     let import = import(file, row, steps);
     let parts = [
@@ -45,7 +46,8 @@ fn put_uses<O: Sink>(
     out: &mut O,
 ) -> Result<(), WriteError>
     requires { imports.old.fault ≡ None }
-    ensures { Puts result (O.written out.old) (O.written out.new) (O.faults out.old) (O.faults out.new) (lines_as printer.form (map use_line (map import_value imports.old.items))) }
+    ensures { Puts result (O.written out.old) (O.written out.new) (O.faults out.old) (O.faults out.new)
+        (lines_as printer.form (map use_line (map import_value imports.old.items))) }
 {
     'imports: loop {
         match imports.next() {

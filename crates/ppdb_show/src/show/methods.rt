@@ -29,7 +29,8 @@ pub(crate) fn put_method<O: Sink, L: Ledger>(
     steps: &mut Steps<L>,
 ) -> Result<(), WriteError>
     requires { HasRow (raw_file file.now).tables 0x31 row }
-    ensures { Puts result (O.written out.old) (O.written out.new) (O.faults out.old) (O.faults out.new) (lines_as printer.form (lines_of_method_row (raw_file file.now).tables row)) }
+    ensures { Puts result (O.written out.old) (O.written out.new) (O.faults out.old) (O.faults out.new)
+        (lines_as printer.form (lines_of_method_row (raw_file file.now).tables row)) }
 {
     let method = method_debug(file, row, steps);
     if blob(file, method.points).is_empty() {

@@ -75,7 +75,8 @@ pub(crate) fn put_owned<O: Sink, L: Ledger>(
     out: &mut O,
     steps: &mut Steps<L>,
 ) -> Result<(), WriteError>
-    ensures { Puts result (O.written out.old) (O.written out.new) (O.faults out.old) (O.faults out.new) (lines_as printer.form (lines_of_items (raw_file file.now).tables owned)) }
+    ensures { Puts result (O.written out.old) (O.written out.new) (O.faults out.old) (O.faults out.new)
+        (lines_as printer.form (lines_of_items (raw_file file.now).tables owned)) }
 {
     file.keeps();
     let tables = file.tables();
@@ -106,7 +107,8 @@ fn put_items<O: Sink, L: Ledger>(
     requires forward { items.first ≤ items.end }
     requires last { items.end ≤ items_of (raw_file file.now).tables owned + 1 }
     requires owner { (item : ℕ) → items.first ≤ item → item < items.end → OwnsItem (raw_file file.now).tables owned scope item }
-    ensures { Puts result (O.written out.old) (O.written out.new) (O.faults out.old) (O.faults out.new) (lines_as printer.form (lines_between (raw_file file.now).tables owned items.first items.end)) }
+    ensures { Puts result (O.written out.old) (O.written out.new) (O.faults out.old) (O.faults out.new)
+        (lines_as printer.form (lines_between (raw_file file.now).tables owned items.first items.end)) }
 {
     file.keeps();
     let mut item = items.first;
@@ -129,7 +131,8 @@ fn put_item<O: Sink, L: Ledger>(
 ) -> Result<(), WriteError>
     requires there { HasRow (raw_file file.now).tables (item_table owned) item }
     requires owner { OwnsItem (raw_file file.now).tables owned scope item }
-    ensures { Puts result (O.written out.old) (O.written out.new) (O.faults out.old) (O.faults out.new) (lines_as printer.form (lines_of_item (raw_file file.now).tables owned item)) }
+    ensures { Puts result (O.written out.old) (O.written out.new) (O.faults out.old) (O.faults out.new)
+        (lines_as printer.form (lines_of_item (raw_file file.now).tables owned item)) }
 {
     match owned {
         Owned::Variables => put_variable(printer, file, scope, item, out, steps),
@@ -148,7 +151,8 @@ fn put_variable<O: Sink, L: Ledger>(
 ) -> Result<(), WriteError>
     requires there { HasRow (raw_file file.now).tables 0x33 row }
     requires owner { OwnsItem (raw_file file.now).tables Owned.Variables scope row }
-    ensures { Puts result (O.written out.old) (O.written out.new) (O.faults out.old) (O.faults out.new) (lines_as printer.form (lines_of_item (raw_file file.now).tables Owned.Variables row)) }
+    ensures { Puts result (O.written out.old) (O.written out.new) (O.faults out.old) (O.faults out.new)
+        (lines_as printer.form (lines_of_item (raw_file file.now).tables Owned.Variables row)) }
 {
     let variable = variable(file, row, steps);
     let parts = [
@@ -176,7 +180,8 @@ fn put_constant<O: Sink, L: Ledger>(
 ) -> Result<(), WriteError>
     requires there { HasRow (raw_file file.now).tables 0x34 row }
     requires owner { OwnsItem (raw_file file.now).tables Owned.Constants scope row }
-    ensures { Puts result (O.written out.old) (O.written out.new) (O.faults out.old) (O.faults out.new) (lines_as printer.form (lines_of_item (raw_file file.now).tables Owned.Constants row)) }
+    ensures { Puts result (O.written out.old) (O.written out.new) (O.faults out.old) (O.faults out.new)
+        (lines_as printer.form (lines_of_item (raw_file file.now).tables Owned.Constants row)) }
 {
     let constant = constant(file, row, steps);
     let parts = [

@@ -57,7 +57,8 @@ pub(crate) fn put_rows<O: Sink, L: Ledger>(
     out: &mut O,
     steps: &mut Steps<L>,
 ) -> Result<(), WriteError>
-    ensures { Puts result (O.written out.old) (O.written out.new) (O.faults out.old) (O.faults out.new) (lines_as printer.form (lines_of_table (raw_file file.now).tables rows)) }
+    ensures { Puts result (O.written out.old) (O.written out.new) (O.faults out.old) (O.faults out.new)
+        (lines_as printer.form (lines_of_table (raw_file file.now).tables rows)) }
 {
     file.keeps();
     let count = count(file, table_of(rows));
@@ -79,7 +80,8 @@ fn put_row<O: Sink, L: Ledger>(
     steps: &mut Steps<L>,
 ) -> Result<(), WriteError>
     requires { HasRow (raw_file file.now).tables (number_of rows) row }
-    ensures { Puts result (O.written out.old) (O.written out.new) (O.faults out.old) (O.faults out.new) (lines_as printer.form (lines_of_row (raw_file file.now).tables rows row)) }
+    ensures { Puts result (O.written out.old) (O.written out.new) (O.faults out.old) (O.faults out.new)
+        (lines_as printer.form (lines_of_row (raw_file file.now).tables rows row)) }
 {
     match rows {
         Rows::Documents => put_document(printer, file, row, out, steps),
@@ -100,7 +102,8 @@ fn put_scope<O: Sink, L: Ledger>(
     steps: &mut Steps<L>,
 ) -> Result<(), WriteError>
     requires { HasRow (raw_file file.now).tables 0x32 row }
-    ensures { Puts result (O.written out.old) (O.written out.new) (O.faults out.old) (O.faults out.new) (lines_as printer.form (lines_of_scope (raw_file file.now).tables row)) }
+    ensures { Puts result (O.written out.old) (O.written out.new) (O.faults out.old) (O.faults out.new)
+        (lines_as printer.form (lines_of_scope (raw_file file.now).tables row)) }
 {
     file.keeps();
     let scope = scope(file, row, steps);
@@ -123,7 +126,8 @@ fn put_machine<O: Sink, L: Ledger>(
     steps: &mut Steps<L>,
 ) -> Result<(), WriteError>
     requires { HasRow (raw_file file.now).tables 0x36 row }
-    ensures { Puts result (O.written out.old) (O.written out.new) (O.faults out.old) (O.faults out.new) (lines_as printer.form (lines_of_machine (raw_file file.now).tables row)) }
+    ensures { Puts result (O.written out.old) (O.written out.new) (O.faults out.old) (O.faults out.new)
+        (lines_as printer.form (lines_of_machine (raw_file file.now).tables row)) }
 {
     let machine = machine(file, row, steps);
     let parts = [
@@ -143,7 +147,8 @@ fn put_custom<O: Sink, L: Ledger>(
     steps: &mut Steps<L>,
 ) -> Result<(), WriteError>
     requires { HasRow (raw_file file.now).tables 0x37 row }
-    ensures { Puts result (O.written out.old) (O.written out.new) (O.faults out.old) (O.faults out.new) (lines_as printer.form (lines_of_custom (raw_file file.now).tables row)) }
+    ensures { Puts result (O.written out.old) (O.written out.new) (O.faults out.old) (O.faults out.new)
+        (lines_as printer.form (lines_of_custom (raw_file file.now).tables row)) }
 {
     file.keeps();
     let custom = custom(file, row, steps);

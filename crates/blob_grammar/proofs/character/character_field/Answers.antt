@@ -17,4 +17,7 @@ returns-clause-found c =
     let is : c.character_len-len.result ≡ character_len left = c.character_len-len.ensures ∙ ap character_len e in
     let some : 0 < c.character_len-len.result = omega (arith, c.if-len-eq0.false) in
     let len : c.character_len-len.result ≤ length left = omega (arith, is, character_len-within left) in
-    rw e (character-there left c.character_len-len.result is some, omega (arith, length-take-le c.character_len-len.result left len, length-drop c.args.at c.args.blob.now))
+    rw e (
+      character-there left c.character_len-len.result is some,
+      omega (arith, length-take-le c.character_len-len.result left len, length-drop c.args.at c.args.blob.now),
+    )

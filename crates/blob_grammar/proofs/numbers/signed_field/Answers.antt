@@ -6,4 +6,7 @@ returns-in-Ok-clause-found c = rw (signed-stands c.args.blob.now c.args.at c.in-
 
 pub returns-in-Err-clause-found : goal.returns-in-Err-clause-found
 returns-in-Err-clause-found c =
-    rw (signed-refused c.args.blob.now c.args.at c.in-Err.fault (refusal c.args.blob.now c.args.at c.in-Err.fault c.in-Err.ensures.form c.in-Err.ensures.end), c.fault_at.ensures)
+    rw (
+      signed-refused c.args.blob.now c.args.at c.in-Err.fault (refusal c.args.blob.now c.args.at c.in-Err.fault c.in-Err.ensures.form c.in-Err.ensures.end),
+      c.fault_at.ensures,
+    )

@@ -6,4 +6,7 @@ returns-in-Ok-clause-found c = rw (unsigned-stands c.args.blob.now c.args.at c.i
 
 pub returns-in-Err-clause-found : goal.returns-in-Err-clause-found
 returns-in-Err-clause-found c =
-    rw (unsigned-refused c.args.blob.now c.args.at c.in-Err.fault (refusal c.args.blob.now c.args.at c.in-Err.fault c.in-Err.ensures.form c.in-Err.ensures.end), c.fault_at.ensures)
+    rw (
+      unsigned-refused c.args.blob.now c.args.at c.in-Err.fault (refusal c.args.blob.now c.args.at c.in-Err.fault c.in-Err.ensures.form c.in-Err.ensures.end),
+      c.fault_at.ensures,
+    )

@@ -14,16 +14,20 @@ returns-in_err-pause c =
 pub returns-in_err-resume : goal.returns-in_err-resume
 returns-in_err-resume c =
     let p = err_from_is_err_and c.from_residual-in_err-resume.result c.from_residual-in_err-resume.ensures.1 in
-    rw (p.1, p.2) (no_resume c.args.methods c.args.blob.now c.args.at c.in_ok-pause.pause c.in_ok-pause.pause_len c.in_err-resume.field-0.0 (sym c.in_ok-pause.ensures.found) (sym c.in_err-resume.ensures.found))
+    rw (p.1, p.2) (no_resume c.args.methods c.args.blob.now c.args.at c.in_ok-pause.pause c.in_ok-pause.pause_len c.in_err-resume.field-0.0
+    (sym c.in_ok-pause.ensures.found) (sym c.in_err-resume.ensures.found))
 
 pub returns-in_err-method : goal.returns-in_err-method
 returns-in_err-method c =
     let p = err_from_is_err_and c.from_residual-in_err-method.result c.from_residual-in_err-method.ensures.1 in
-    rw (p.1, p.2) (no_method c.args.methods c.args.blob.now c.args.at c.in_ok-pause.pause c.in_ok-pause.pause_len c.in_ok-resume.resume c.in_ok-resume.resume_len c.in_err-method.field-0.0 (sym c.in_ok-pause.ensures.found) (sym c.in_ok-resume.ensures.found) (sym c.in_err-method.ensures.found))
+    rw (p.1, p.2) (no_method c.args.methods c.args.blob.now c.args.at c.in_ok-pause.pause c.in_ok-pause.pause_len c.in_ok-resume.resume
+    c.in_ok-resume.resume_len c.in_err-method.field-0.0 (sym c.in_ok-pause.ensures.found) (sym c.in_ok-resume.ensures.found)
+    (sym c.in_err-method.ensures.found))
 
 pub returns : goal.returns
 returns c = (
-  a_step c.args.methods c.args.blob.now c.args.at c.in_ok-pause.pause c.in_ok-pause.pause_len c.in_ok-resume.resume c.in_ok-resume.resume_len c.in_ok-method.method c.in_ok-method.method_len
+  a_step c.args.methods c.args.blob.now c.args.at c.in_ok-pause.pause c.in_ok-pause.pause_len c.in_ok-resume.resume c.in_ok-resume.resume_len
+      c.in_ok-method.method c.in_ok-method.method_len
       (sym c.in_ok-pause.ensures.found) (sym c.in_ok-resume.ensures.found) (sym c.in_ok-method.ensures.found),
   c.in_ok-method.ensures.within,
 )

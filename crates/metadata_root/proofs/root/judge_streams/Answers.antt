@@ -15,7 +15,8 @@ returns-then-is_none-clause-first c =
 
 pub returns-in-Some-clause-first : goal.returns-in-Some-clause-first
 returns-in-Some-clause-first c =
-    outside_is_first c.args.bytes.now c.args.listing.now c.requires c.if-is_none.ensures c.if-is_none-2.ensures c.in-Some.header c.fault_at-in-Some.result c.fault_at-in-Some.ensures
+    outside_is_first c.args.bytes.now c.args.listing.now c.requires c.if-is_none.ensures c.if-is_none-2.ensures c.in-Some.header c.fault_at-in-Some.result
+    c.fault_at-in-Some.ensures
     (found_at c.args.listing.now.outside _ _ c.requires.outside c.in-Some.header c.in-Some.is)
 
 pub returns-clause-accepted : goal.returns-clause-accepted

@@ -19,14 +19,17 @@ pub returns-in_err-minor-clause-first : goal.returns-in_err-minor-clause-first
 returns-in_err-minor-clause-first c =
     let p = err_from_is_err_and c.from_residual.result c.from_residual.ensures.1 in
     let t = c.in_err-minor.ensures.truncated in
-    rw (p.1, p.2) (front_is_first c.args.bytes.now c.in_err-minor.field-0.0 (c.begins_with-2.ensures.0 c.if-not-begins_with.false) 4 (2) (4 ∷ []) (2 ∷ 4 ∷ 4 ∷ version_len c.args.bytes.now ∷ 2 ∷ 2 ∷ []) refl (omega (arith)) (begins_len c.args.bytes.now (c.begins_with-2.ensures.0 c.if-not-begins_with.false)) t)
+    rw (p.1, p.2) (front_is_first c.args.bytes.now c.in_err-minor.field-0.0 (c.begins_with-2.ensures.0 c.if-not-begins_with.false) 4 (2) (4 ∷ [])
+    (2 ∷ 4 ∷ 4 ∷ version_len c.args.bytes.now ∷ 2 ∷ 2 ∷ []) refl (omega (arith))
+    (begins_len c.args.bytes.now (c.begins_with-2.ensures.0 c.if-not-begins_with.false)) t)
 
 pub returns-in_err-reserved-clause-first : goal.returns-in_err-reserved-clause-first
 returns-in_err-reserved-clause-first c =
     let p = err_from_is_err_and c.from_residual-in_err-reserved.result c.from_residual-in_err-reserved.ensures.1 in
     let t = c.in_err-reserved.ensures.truncated in
     let minor = c.in_ok-minor.ensures.end in
-    rw (p.1, p.2) (front_is_first c.args.bytes.now c.in_err-reserved.field-0.0 (c.begins_with-2.ensures.0 c.if-not-begins_with.false) c.in_ok-minor.minor (2) (4 ∷ 2 ∷ []) (4 ∷ 4 ∷ version_len c.args.bytes.now ∷ 2 ∷ 2 ∷ []) refl (omega (arith, minor.0)) (minor.1) t)
+    rw (p.1, p.2) (front_is_first c.args.bytes.now c.in_err-reserved.field-0.0 (c.begins_with-2.ensures.0 c.if-not-begins_with.false) c.in_ok-minor.minor (2)
+    (4 ∷ 2 ∷ []) (4 ∷ 4 ∷ version_len c.args.bytes.now ∷ 2 ∷ 2 ∷ []) refl (omega (arith, minor.0)) (minor.1) t)
 
 pub returns-in_err-len-clause-first : goal.returns-in_err-len-clause-first
 returns-in_err-len-clause-first c =
@@ -34,7 +37,8 @@ returns-in_err-len-clause-first c =
     let t = c.in_err-len.ensures.truncated in
     let minor = c.in_ok-minor.ensures.end in
     let reserved = c.in_ok-reserved.ensures.end in
-    rw (p.1, p.2) (front_is_first c.args.bytes.now c.in_err-len.field-0.0 (c.begins_with-2.ensures.0 c.if-not-begins_with.false) c.in_ok-reserved.reserved (4) (4 ∷ 2 ∷ 2 ∷ []) (4 ∷ version_len c.args.bytes.now ∷ 2 ∷ 2 ∷ []) refl (omega (arith, minor.0, reserved.0)) (reserved.1) t)
+    rw (p.1, p.2) (front_is_first c.args.bytes.now c.in_err-len.field-0.0 (c.begins_with-2.ensures.0 c.if-not-begins_with.false) c.in_ok-reserved.reserved (4)
+    (4 ∷ 2 ∷ 2 ∷ []) (4 ∷ version_len c.args.bytes.now ∷ 2 ∷ 2 ∷ []) refl (omega (arith, minor.0, reserved.0)) (reserved.1) t)
 
 pub returns-in_err-version-clause-first : goal.returns-in_err-version-clause-first
 returns-in_err-version-clause-first c =
@@ -43,7 +47,8 @@ returns-in_err-version-clause-first c =
     let minor = c.in_ok-minor.ensures.end in
     let reserved = c.in_ok-reserved.ensures.end in
     let len = c.in_ok-len.ensures.end in
-    rw (p.1, p.2) (front_is_first c.args.bytes.now c.in_err-version.field-0.0 (c.begins_with-2.ensures.0 c.if-not-begins_with.false) c.in_ok-len.len (4) (4 ∷ 2 ∷ 2 ∷ 4 ∷ []) (version_len c.args.bytes.now ∷ 2 ∷ 2 ∷ []) refl (omega (arith, minor.0, reserved.0, len.0)) (len.1) t)
+    rw (p.1, p.2) (front_is_first c.args.bytes.now c.in_err-version.field-0.0 (c.begins_with-2.ensures.0 c.if-not-begins_with.false) c.in_ok-len.len (4)
+    (4 ∷ 2 ∷ 2 ∷ 4 ∷ []) (version_len c.args.bytes.now ∷ 2 ∷ 2 ∷ []) refl (omega (arith, minor.0, reserved.0, len.0)) (len.1) t)
 
 pub returns-in_err-flags-clause-first : goal.returns-in_err-flags-clause-first
 returns-in_err-flags-clause-first c =
@@ -53,8 +58,11 @@ returns-in_err-flags-clause-first c =
     let reserved = c.in_ok-reserved.ensures.end in
     let len = c.in_ok-len.ensures.end in
     let version = c.in_ok-version.ensures.end in
-    let version_is : c.u32_at.result ≡ version_len c.args.bytes.now = c.u32_at.ensures ∙ ap (λ p. number_at c.args.bytes.now p 4) (let p : c.in_ok-len.len ≡ 12 = omega (arith, minor.0, reserved.0, len.0) in p) in
-    rw (p.1, p.2) (front_is_first c.args.bytes.now c.in_err-flags.field-0.0 (c.begins_with-2.ensures.0 c.if-not-begins_with.false) c.in_ok-version.version (version_len c.args.bytes.now) (4 ∷ 2 ∷ 2 ∷ 4 ∷ 4 ∷ []) (2 ∷ 2 ∷ []) refl (omega (arith, minor.0, reserved.0, len.0, version.0)) (version.1) (t.0, omega (arith, t.1, version_is)))
+    let version_is : c.u32_at.result ≡ version_len c.args.bytes.now =
+    c.u32_at.ensures ∙ ap (λ p. number_at c.args.bytes.now p 4) (let p : c.in_ok-len.len ≡ 12 = omega (arith, minor.0, reserved.0, len.0) in p) in
+    rw (p.1, p.2) (front_is_first c.args.bytes.now c.in_err-flags.field-0.0 (c.begins_with-2.ensures.0 c.if-not-begins_with.false) c.in_ok-version.version
+    (version_len c.args.bytes.now) (4 ∷ 2 ∷ 2 ∷ 4 ∷ 4 ∷ []) (2 ∷ 2 ∷ []) refl (omega (arith, minor.0, reserved.0, len.0, version.0)) (version.1)
+    (t.0, omega (arith, t.1, version_is)))
 
 pub returns-in_err-streams-clause-first : goal.returns-in_err-streams-clause-first
 returns-in_err-streams-clause-first c =
@@ -65,8 +73,11 @@ returns-in_err-streams-clause-first c =
     let len = c.in_ok-len.ensures.end in
     let version = c.in_ok-version.ensures.end in
     let flags = c.in_ok-flags.ensures.end in
-    let version_is : c.u32_at.result ≡ version_len c.args.bytes.now = c.u32_at.ensures ∙ ap (λ p. number_at c.args.bytes.now p 4) (let p : c.in_ok-len.len ≡ 12 = omega (arith, minor.0, reserved.0, len.0) in p) in
-    rw (p.1, p.2) (front_is_first c.args.bytes.now c.in_err-streams.field-0.0 (c.begins_with-2.ensures.0 c.if-not-begins_with.false) c.in_ok-flags.flags (2) (4 ∷ 2 ∷ 2 ∷ 4 ∷ 4 ∷ version_len c.args.bytes.now ∷ []) (2 ∷ []) refl (omega (arith, minor.0, reserved.0, len.0, version.0, flags.0, version_is)) (flags.1) t)
+    let version_is : c.u32_at.result ≡ version_len c.args.bytes.now =
+    c.u32_at.ensures ∙ ap (λ p. number_at c.args.bytes.now p 4) (let p : c.in_ok-len.len ≡ 12 = omega (arith, minor.0, reserved.0, len.0) in p) in
+    rw (p.1, p.2) (front_is_first c.args.bytes.now c.in_err-streams.field-0.0 (c.begins_with-2.ensures.0 c.if-not-begins_with.false) c.in_ok-flags.flags (2)
+    (4 ∷ 2 ∷ 2 ∷ 4 ∷ 4 ∷ version_len c.args.bytes.now ∷ []) (2 ∷ []) refl (omega (arith, minor.0, reserved.0, len.0, version.0, flags.0, version_is))
+    (flags.1) t)
 
 pub returns-in_err-headers-clause-first : goal.returns-in_err-headers-clause-first
 returns-in_err-headers-clause-first c =
@@ -78,8 +89,11 @@ returns-in_err-headers-clause-first c =
     let version = c.in_ok-version.ensures.end in
     let flags = c.in_ok-flags.ensures.end in
     let streams = c.in_ok-streams.ensures.end in
-    let version_is : c.u32_at.result ≡ version_len c.args.bytes.now = c.u32_at.ensures ∙ ap (λ p. number_at c.args.bytes.now p 4) (let p : c.in_ok-len.len ≡ 12 = omega (arith, minor.0, reserved.0, len.0) in p) in
-    rw (p.1, p.2) (front_is_first c.args.bytes.now c.in_err-headers.field-0.0 (c.begins_with-2.ensures.0 c.if-not-begins_with.false) c.in_ok-streams.streams (2) (4 ∷ 2 ∷ 2 ∷ 4 ∷ 4 ∷ version_len c.args.bytes.now ∷ 2 ∷ []) ([]) refl (omega (arith, minor.0, reserved.0, len.0, version.0, flags.0, streams.0, version_is)) (streams.1) t)
+    let version_is : c.u32_at.result ≡ version_len c.args.bytes.now =
+    c.u32_at.ensures ∙ ap (λ p. number_at c.args.bytes.now p 4) (let p : c.in_ok-len.len ≡ 12 = omega (arith, minor.0, reserved.0, len.0) in p) in
+    rw (p.1, p.2) (front_is_first c.args.bytes.now c.in_err-headers.field-0.0 (c.begins_with-2.ensures.0 c.if-not-begins_with.false) c.in_ok-streams.streams (2)
+    (4 ∷ 2 ∷ 2 ∷ 4 ∷ 4 ∷ version_len c.args.bytes.now ∷ 2 ∷ [])
+    ([]) refl (omega (arith, minor.0, reserved.0, len.0, version.0, flags.0, streams.0, version_is)) (streams.1) t)
 
 pub returns-clause-front : goal.returns-clause-front
 returns-clause-front c =

@@ -14,4 +14,5 @@ loop-part-preserved c =
     c.in_ok-put_index.ensures
     ∙ ap (λ now. with_piece now (index part)) c.loop-part.invariant
     ∙ sym (fold_push with_piece c.args.blobs.now (map index parts) (index part))
-    ∙ ap (fold with_piece c.args.blobs.now) (sym (map_push index parts part) ∙ ap (map index) (sym (part-next (λ (part : Bor (List ℕ)). part.now) c.args.parts.now c.loop-part.part-index none (omega arith))))
+    ∙ ap (fold with_piece c.args.blobs.now) (sym (map_push index parts part)
+    ∙ ap (map index) (sym (part-next (λ (part : Bor (List ℕ)). part.now) c.args.parts.now c.loop-part.part-index none (omega arith))))

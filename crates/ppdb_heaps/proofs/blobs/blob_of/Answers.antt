@@ -12,4 +12,5 @@ returns-else-bytes-end-clause-blob c = sym (counted-there c.args.bytes.now c.in-
 pub returns-in-Err-clause-blob : goal.returns-in-Err-clause-blob
 returns-in-Err-clause-blob c =
     let fault = c.in-Err.field-0 in
-    sym (counted-none c.args.bytes.now fault (unsigned-refused c.args.bytes.now 0 fault (refusal c.args.bytes.now 0 fault c.in-Err.ensures.form c.in-Err.ensures.end)))
+    sym (counted-none c.args.bytes.now fault
+    (unsigned-refused c.args.bytes.now 0 fault (refusal c.args.bytes.now 0 fault c.in-Err.ensures.form c.in-Err.ensures.end)))

@@ -15,7 +15,8 @@ returns c =
     let all = take_all c.loop-place.place-index c.args.order.now (omega arith) in
     let put : c.end_object.new.self.tokens ≡ object_tokens c.args.order.now shown =
     c.in_ok-end_object.ensures.ok
-    ∙ ap (λ (ts : List Token). ts ++ end_object ∷ []) (c.loop-place.invariant.tokens ∙ ap (λ (places : List ℕ). begin_object ∷ flat_map (member_tokens shown) places) all) in
+    ∙ ap (λ (ts : List Token). ts ++ end_object ∷ []) (c.loop-place.invariant.tokens
+    ∙ ap (λ (places : List ℕ). begin_object ∷ flat_map (member_tokens shown) places) all) in
     let before : c.end_object.new.self.before ≡ [] = c.end_object.ensures.room.0 ∙ c.loop-place.invariant.before in
     c.in_ok-push.ensures.items
     ∙ ap (λ (text : List ℕ). text ++ 10 ∷ []) (c.into_inner-text.ensures.items ∙ rw (before, put) (object_printed c.args.order.now shown c.requires))

@@ -25,4 +25,5 @@ returns-in-Some-Mark-clause-ok c =
 
 pub returns-in-None-clause-ok : goal.returns-in-None-clause-ok
 returns-in-None-clause-ok c =
-    no_tokens _ _ (part_past c.args.word.now c.args.parts.now c.args.place c.if-place-eq0.false (ltb-false _ _ (sym (rw c.in-None.is at c.get.ensures.lookup.0))))
+    no_tokens _ _ (part_past c.args.word.now c.args.parts.now c.args.place c.if-place-eq0.false
+    (ltb-false _ _ (sym (rw c.in-None.is at c.get.ensures.lookup.0))))

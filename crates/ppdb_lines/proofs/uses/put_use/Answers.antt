@@ -5,5 +5,13 @@ use Rattle.ppdb_lines.proofs.uses.put_use.Goals as goal
 
 pub put_line-requires : goal.put_line-requires
 put_line-requires g c =
-    rw (c.kind_of.ensures, c.alias_part.ensures, c.assembly_part.ensures, c.namespace_part.ensures, c.table_part.ensures, c.row_part.ensures, c.target_of-target.ensures)
+    rw (
+      c.kind_of.ensures,
+      c.alias_part.ensures,
+      c.assembly_part.ensures,
+      c.namespace_part.ensures,
+      c.table_part.ensures,
+      c.row_part.ensures,
+      c.target_of-target.ensures,
+    )
     (use_ordered (import_value (shown c.args.import.now)))

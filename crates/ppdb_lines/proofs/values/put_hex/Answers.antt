@@ -12,11 +12,13 @@ runs-init g c = put_none _ _ _
 pub returns-in_err-put_run : goal.returns-in_err-put_run
 returns-in_err-put_run g c =
     rw (hex_some c.args.bytes.now (sym c.is_empty.ensures ∙ c.if-is_empty.false))
-    (put_front _ _ _ _ _ _ _ _ _ _ _ (rw (digits_parts c.runs.rest.now _ _ _ c.split_at.ensures.front c.split_at.ensures.back) at c.runs.invariant) c.from_residual.ensures.1 c.in_err-put_run.ensures)
+    (put_front _ _ _ _ _ _ _ _ _ _ _ (rw (digits_parts c.runs.rest.now _ _ _ c.split_at.ensures.front c.split_at.ensures.back) at c.runs.invariant)
+    c.from_residual.ensures.1 c.in_err-put_run.ensures)
 
 pub runs-preserved : goal.runs-preserved
 runs-preserved g c =
-    put_piece _ _ _ _ _ _ _ _ _ (rw (digits_parts c.runs.rest.now _ _ _ c.split_at.ensures.front c.split_at.ensures.back) at c.runs.invariant) c.in_ok-put_run.ensures
+    put_piece _ _ _ _ _ _ _ _ _ (rw (digits_parts c.runs.rest.now _ _ _ c.split_at.ensures.front c.split_at.ensures.back) at c.runs.invariant)
+    c.in_ok-put_run.ensures
 
 pub returns : goal.returns
 returns g c =

@@ -9,7 +9,8 @@ use Rattle.ppdb_queries.proofs.Records.{slots_none, slots_are, hoisted_kind, not
 use Rattle.ppdb_queries.proofs.hoisted.slots_at.Goals as goal
 
 pub slots_of-requires-clause-kind : goal.slots_of-requires-clause-kind
-slots_of-requires-clause-kind c = hoisted_kind (raw_file c.args.file.now).tables c.args.cells.now c.guid_of_kind.result c.guid_of_kind.ensures (sym c.eq.ensures ∙ c.if-eq.true)
+slots_of-requires-clause-kind c =
+    hoisted_kind (raw_file c.args.file.now).tables c.args.cells.now c.guid_of_kind.result c.guid_of_kind.ensures (sym c.eq.ensures ∙ c.if-eq.true)
 
 pub returns-then-eq-clause-slots : goal.returns-then-eq-clause-slots
 returns-then-eq-clause-slots c =
@@ -20,7 +21,8 @@ pub returns-else-eq-clause-slots : goal.returns-else-eq-clause-slots
 returns-else-eq-clause-slots c =
     let whole = whole_left hoisted_scopes [] c.new.result.items c.new.result.fault c.new.ensures nothing_whole in
     left_of c.new.result _
-    (whole.0 ∙ nothing_read ∙ sym (slots_none (raw_file c.args.file.now).tables c.args.cells.now c.guid_of_kind.result c.guid_of_kind.ensures (sym c.eq.ensures ∙ c.if-eq.false)))
+    (whole.0 ∙ nothing_read ∙ sym (slots_none (raw_file c.args.file.now).tables c.args.cells.now c.guid_of_kind.result c.guid_of_kind.ensures (sym c.eq.ensures
+    ∙ c.if-eq.false)))
     whole.1
 
 pub returns-else-eq-clause-few : goal.returns-else-eq-clause-few

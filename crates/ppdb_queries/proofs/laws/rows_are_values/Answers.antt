@@ -2,4 +2,5 @@ use Rattle.ppdb_queries.proofs.Agreeing.{document_is, customs_are, scopes_are, i
 use Rattle.ppdb_queries.proofs.laws.rows_are_values.Goals as goal
 
 pub returns : goal.returns
-returns c = record { document = document_is; customs = customs_are; scopes = scopes_are; imports = imports_are; hoisted = hoisted_is; positions = positions_are }
+returns c =
+    record { document = document_is; customs = customs_are; scopes = scopes_are; imports = imports_are; hoisted = hoisted_is; positions = positions_are }

@@ -47,7 +47,8 @@ halves-preserved-then-machine-method-2 g c =
       from = omega arith;
       forward = omega arith;
       to = c.halves.invariant.to;
-      below = all_below keys c.args.method middle c.machine-machine.result.move_next sorted (sym at) (omega arith) (omega (arith, len)) c.if-machine-method-2.true;
+      below =
+          all_below keys c.args.method middle c.machine-machine.result.move_next sorted (sym at) (omega arith) (omega (arith, len)) c.if-machine-method-2.true;
       above = c.halves.invariant.above;
       later = omega arith;
       halved = probed _ _ _ _ _ _ c.halves.invariant.halved c.machine-machine.ensures.step (omega arith) (omega arith) (omega arith);
@@ -66,13 +67,15 @@ halves-preserved g c =
       forward = omega arith;
       to = omega arith;
       below = c.halves.invariant.below;
-      above = all_above keys (c.args.method + 1) middle c.machine-machine.result.move_next sorted (sym at) (omega arith) (omega (arith, len)) (above_both c.if-machine-method.false c.if-machine-method-2.false);
+      above = all_above keys (c.args.method + 1) middle c.machine-machine.result.move_next sorted (sym at) (omega arith) (omega (arith, len))
+          (above_both c.if-machine-method.false c.if-machine-method-2.false);
       later = omega arith;
       halved = probed _ _ _ _ _ _ c.halves.invariant.halved c.machine-machine.ensures.step (omega arith) (omega arith) (omega arith);
     }
 
 pub returns-clause-found : goal.returns-clause-found
-returns-clause-found g c = kickoff_none (raw_of (tables_of c.args.file.now)).machines c.args.method c.halves.first c.halves.end c.halves-test.false c.halves.invariant.below c.halves.invariant.above
+returns-clause-found g c = kickoff_none (raw_of (tables_of c.args.file.now)).machines c.args.method c.halves.first c.halves.end c.halves-test.false
+    c.halves.invariant.below c.halves.invariant.above
 
 pub returns-clause-cost : goal.returns-clause-cost
 returns-clause-cost g c =

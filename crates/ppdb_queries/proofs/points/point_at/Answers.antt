@@ -15,7 +15,8 @@ pub returns-clause-point : goal.returns-clause-point
 returns-clause-point g c =
     let raw = raw_file c.args.file.now in
     record {
-      point = last_is raw c.args.method c.args.offset c.in-Some.points.left.items c.last_not_after.result _ (points_held raw c.args.method c.in-Some.points c.in-Some.ensures) c.last_not_after.ensures c.in-Some-last_not_after.is;
+      point = last_is raw c.args.method c.args.offset c.in-Some.points.left.items c.last_not_after.result _
+          (points_held raw c.args.method c.in-Some.points c.in-Some.ensures) c.last_not_after.ensures c.in-Some-last_not_after.is;
       signature = c.signature-signature.ensures ∙ signature_held raw c.args.method c.in-Some.points c.in-Some.ensures;
       document = c.document-document.result;
       document_there = c.document-document.ensures.row;

@@ -14,7 +14,8 @@ held range scope x b c e f g = ap (λ (r : Range). holds r x) (sym e) ∙ sym f 
 pub returns-then-holds-clause-next : goal.returns-then-holds-clause-next
 returns-then-holds-clause-next g c =
     let raw = raw_of (tables_of c.args.file.now) in
-    let e = view_held raw c.args.offset c.rows.row c.args.end c.scope-scope.result c.scope-scope.ensures.row c.rows-test.true (held c.range_of.result c.scope-scope.result c.args.offset c.holds.result _ c.range_of.ensures c.holds.ensures c.if-holds.true) in
+    let e = view_held raw c.args.offset c.rows.row c.args.end c.scope-scope.result c.scope-scope.ensures.row c.rows-test.true
+    (held c.range_of.result c.scope-scope.result c.args.offset c.holds.result _ c.range_of.ensures c.holds.ensures c.if-holds.true) in
     (rw c.view.ensures.view (c.rows.invariant.same ∙ e), omega arith, omega arith)
 
 pub rows-preserved : goal.rows-preserved
@@ -23,7 +24,8 @@ rows-preserved g c =
     record {
       from = omega arith;
       to = omega arith;
-      same = c.rows.invariant.same ∙ view_passed raw c.args.offset c.rows.row c.args.end c.scope-scope.result c.scope-scope.ensures.row c.rows-test.true (held c.range_of.result c.scope-scope.result c.args.offset c.holds.result _ c.range_of.ensures c.holds.ensures c.if-holds.false);
+      same = c.rows.invariant.same ∙ view_passed raw c.args.offset c.rows.row c.args.end c.scope-scope.result c.scope-scope.ensures.row c.rows-test.true
+          (held c.range_of.result c.scope-scope.result c.args.offset c.holds.result _ c.range_of.ensures c.holds.ensures c.if-holds.false);
       later = omega arith;
       cost = omega arith;
     }

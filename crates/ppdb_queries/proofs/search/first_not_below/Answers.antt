@@ -10,7 +10,8 @@ halves-preserved-then-key g c =
       from = omega arith;
       forward = omega arith;
       to = c.halves.invariant.to;
-      below = all_below keys c.args.key (c.halves.first + (c.halves.end - c.halves.first) / 2) c.key.result c.requires c.key.ensures.key (omega arith) (omega arith) c.if-key.true;
+      below = all_below keys c.args.key (c.halves.first + (c.halves.end - c.halves.first) / 2) c.key.result c.requires c.key.ensures.key (omega arith)
+          (omega arith) c.if-key.true;
       above = c.halves.invariant.above;
       later = omega arith;
       halved = probed _ _ _ _ _ _ c.halves.invariant.halved c.key.ensures.step (omega arith) (omega arith) (omega arith);
@@ -24,7 +25,8 @@ halves-preserved g c =
       forward = omega arith;
       to = omega arith;
       below = c.halves.invariant.below;
-      above = all_above keys c.args.key (c.halves.first + (c.halves.end - c.halves.first) / 2) c.key.result c.requires c.key.ensures.key (omega arith) (omega arith) c.if-key.false;
+      above = all_above keys c.args.key (c.halves.first + (c.halves.end - c.halves.first) / 2) c.key.result c.requires c.key.ensures.key (omega arith)
+          (omega arith) c.if-key.false;
       later = omega arith;
       halved = probed _ _ _ _ _ _ c.halves.invariant.halved c.key.ensures.step (omega arith) (omega arith) (omega arith);
     }

@@ -9,7 +9,8 @@ pub loop-row-init : goal.loop-row-init
 loop-row-init g c = record {
   judged = first_row (raw_of c.args.tables.now) c.requires.judged;
   before = inl (refl, refl);
-  names = texts_at_first (λ s. s.constants) (raw_of c.args.tables.now).scopes (raw_of c.args.tables.now).texts (λ (v : ConstantRow). v.name) (raw_of c.args.tables.now).constants 0 c.new-names.result c.new-names.ensures;
+  names = texts_at_first (λ s. s.constants) (raw_of c.args.tables.now).scopes (raw_of c.args.tables.now).texts (λ (v : ConstantRow). v.name)
+      (raw_of c.args.tables.now).constants 0 c.new-names.result c.new-names.ensures;
 }
 
 pub judge_constant-requires-clause-lists : goal.judge_constant-requires-clause-lists

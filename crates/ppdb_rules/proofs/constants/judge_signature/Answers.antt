@@ -13,13 +13,16 @@ returns-in_default-clause-err c = no_signature_first (raw_of c.args.tables.now) 
 
 pub returns-in-Some-constant_fault-clause-err : goal.returns-in-Some-constant_fault-clause-err
 returns-in-Some-constant_fault-clause-err c =
-    let there : blob_at (raw_of c.args.tables.now).blobs c.args.constant.now.signature ≡ Some c.in-Some.content.now = sym (rw c.blobs.ensures at c.in-Some.ensures.blob) in
-    bad_signature_first (raw_of c.args.tables.now) c.args.row c.args.constant.now c.requires.there c.fault_within.result c.in-Some-constant_fault.inside c.requires.judged
+    let there : blob_at (raw_of c.args.tables.now).blobs c.args.constant.now.signature ≡ Some c.in-Some.content.now =
+    sym (rw c.blobs.ensures at c.in-Some.ensures.blob) in
+    bad_signature_first (raw_of c.args.tables.now) c.args.row c.args.constant.now c.requires.there c.fault_within.result c.in-Some-constant_fault.inside
+    c.requires.judged
     (record { content = c.in-Some.content.now; there = there; reads = c.in-Some-constant_fault.ensures }) c.fault_within.ensures
 
 pub returns-in-None-clause-ok : goal.returns-in-None-clause-ok
 returns-in-None-clause-ok c =
-    let there : blob_at (raw_of c.args.tables.now).blobs c.args.constant.now.signature ≡ Some c.in-Some.content.now = sym (rw c.blobs.ensures at c.in-Some.ensures.blob) in
+    let there : blob_at (raw_of c.args.tables.now).blobs c.args.constant.now.signature ≡ Some c.in-Some.content.now =
+    sym (rw c.blobs.ensures at c.in-Some.ensures.blob) in
     next_1 (raw_of c.args.tables.now) c.args.row c.args.constant.now c.requires.there c.requires.judged
     (value_there (raw_of c.args.tables.now).blobs c.in-Some.content.now c.args.constant.now.signature there)
     (λ fault bad. not_whole {g = constants (type_limits (raw_of c.args.tables.now))} c.in-Some.content.now there c.in-None.ensures bad)

@@ -13,8 +13,11 @@ pub returns-then-row_count-eq0-clause-err : goal.returns-then-row_count-eq0-clau
 returns-then-row_count-eq0-clause-err c =
     let there : text_at (raw_of c.args.tables.now).texts c.args.constant.now.name ≡ Some c.in-Some.name.now = sym (rw c.strings.ensures at c.in-Some.ensures) in
     alone_first (raw_of c.args.tables.now) c.args.row c.args.constant.now c.requires.there c.fault-then-row_count-eq0.result c.requires.judged
-    (text_there (raw_of c.args.tables.now).texts c.args.constant.now.name c.in-Some.name.now there)
-    (constants_from_1 (raw_of c.args.tables.now) c.args.row c.args.constant.now c.requires.there c.requires.judged (rw c.row_count.ensures.count at c.if-row_count-eq0.true), rw c.row_count.ensures.count at c.if-row_count-eq0.true)
+    (text_there (raw_of c.args.tables.now).texts c.args.constant.now.name c.in-Some.name.now there) (
+      constants_from_1 (raw_of c.args.tables.now) c.args.row c.args.constant.now c.requires.there c.requires.judged
+          (rw c.row_count.ensures.count at c.if-row_count-eq0.true),
+      rw c.row_count.ensures.count at c.if-row_count-eq0.true,
+    )
     c.fault-then-row_count-eq0.ensures
 
 pub returns-clause-text : goal.returns-clause-text

@@ -12,8 +12,14 @@ returns-in-Some c = subst (λ (f : Option BlobFault). Reads (constants c.args.li
 
 pub returns-in-Ok : goal.returns-in-Ok
 returns-in-Ok c = subst (λ (f : Option BlobFault). Reads (constants c.args.limits) c.args.content.now f)
-    (ends_in_body c.in-Ok.field-0 c.new-cursor.result.end (c.in-Ok.ensures ∙ ap body_answer c.fault_after.ensures.kept)) (c.new-cursor.result.modifiers, c.new-cursor.ensures.reading)
+    (ends_in_body c.in-Ok.field-0 c.new-cursor.result.end (c.in-Ok.ensures ∙ ap body_answer c.fault_after.ensures.kept)) (
+      c.new-cursor.result.modifiers,
+      c.new-cursor.ensures.reading,
+    )
 
 pub returns-in-Err : goal.returns-in-Err
 returns-in-Err c = subst (λ (f : Option BlobFault). Reads (constants c.args.limits) c.args.content.now f)
-    (ends_in_fault c.in-Err.fault c.new-cursor.result.end (c.in-Err.ensures ∙ ap body_answer c.fault_after.ensures.kept)) (c.new-cursor.result.modifiers, c.new-cursor.ensures.reading)
+    (ends_in_fault c.in-Err.fault c.new-cursor.result.end (c.in-Err.ensures ∙ ap body_answer c.fault_after.ensures.kept)) (
+      c.new-cursor.result.modifiers,
+      c.new-cursor.ensures.reading,
+    )

@@ -7,5 +7,6 @@ use Rattle.ppdb_rules.specs.Blobs.{Reads}
 use Rattle.ppdb_rules.proofs.contents.imports_fault.Goals as goal
 
 pub returns : goal.returns
-returns c = subst (λ (l : TypeLimits). Reads (imports l (blob_at (raw_of c.args.tables.now).blobs)) c.args.content.now c.imports_end.result) c.type_limits.ensures
+returns c =
+    subst (λ (l : TypeLimits). Reads (imports l (blob_at (raw_of c.args.tables.now).blobs)) c.args.content.now c.imports_end.result) c.type_limits.ensures
     (subst (λ (b : List ℕ). Reads (imports c.type_limits.result (blob_at b)) c.args.content.now c.imports_end.result) c.blobs.ensures c.imports_end.ensures)

@@ -5,4 +5,5 @@ use Rattle.ppdb_rules.specs.Blobs.{Reads}
 use Rattle.ppdb_rules.proofs.contents.points_fault.Goals as goal
 
 pub returns : goal.returns
-returns c = subst (λ (l : PointLimits). Reads (sequence_points c.args.document l) c.args.content.now c.blob_fault.result) c.point_limits.ensures c.blob_fault.ensures
+returns c =
+    subst (λ (l : PointLimits). Reads (sequence_points c.args.document l) c.args.content.now c.blob_fault.result) c.point_limits.ensures c.blob_fault.ensures

@@ -8,4 +8,5 @@ pub returns-in-Async : goal.returns-in-Async
 returns-in-Async c = rw c.in-Async.is (subst (λ (n : ℕ). Reads (async_stepping n) c.args.content.now c.async_fault.result) c.rows.ensures c.async_fault.ensures)
 
 pub returns-in-TypeDocuments : goal.returns-in-TypeDocuments
-returns-in-TypeDocuments c = rw c.in-TypeDocuments.is (subst (λ (n : ℕ). Reads (type_documents n) c.args.content.now c.type_documents_fault.result) c.rows-in-TypeDocuments.ensures c.type_documents_fault.ensures)
+returns-in-TypeDocuments c = rw c.in-TypeDocuments.is (subst (λ (n : ℕ). Reads (type_documents n) c.args.content.now c.type_documents_fault.result)
+    c.rows-in-TypeDocuments.ensures c.type_documents_fault.ensures)

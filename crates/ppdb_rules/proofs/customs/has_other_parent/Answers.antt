@@ -19,5 +19,6 @@ returns-in-Some-Some c =
       (λ yes. other_parent (raw_of c.args.tables.now).guids c.args.custom.now c.args.kind c.in-Some-Some.table c.in-Some-Some.parent c.requires table parent
           (differs c.in-Some-Some.parent.table c.in-Some-Some.table yes)),
       (λ other. different c.in-Some-Some.parent.table c.in-Some-Some.table
-          (λ same. same_parent (raw_of c.args.tables.now).guids c.args.custom.now c.args.kind c.in-Some-Some.table c.in-Some-Some.parent c.requires table parent same other)),
+          (λ same. same_parent (raw_of c.args.tables.now).guids c.args.custom.now c.args.kind c.in-Some-Some.table c.in-Some-Some.parent c.requires table parent
+          same other)),
     )

@@ -9,7 +9,8 @@ returns-in_default-clause-err c = no_kind_first (raw_of c.args.tables.now) c.arg
     (no_guid (raw_of c.args.tables.now).guids c.args.custom.now.kind c.in_default.ensures.none) c.fault.ensures
 
 pub returns-then-has_other_parent-clause-err : goal.returns-then-has_other_parent-clause-err
-returns-then-has_other_parent-clause-err c = other_parent_first (raw_of c.args.tables.now) c.args.row c.args.custom.now c.requires.there c.fault-then-has_other_parent.result c.requires.judged
+returns-then-has_other_parent-clause-err c =
+    other_parent_first (raw_of c.args.tables.now) c.args.row c.args.custom.now c.requires.there c.fault-then-has_other_parent.result c.requires.judged
     (guid_there (raw_of c.args.tables.now).guids c.args.custom.now.kind c.in-Some.kind c.in-Some.ensures.some)
     (c.has_other_parent.ensures.0 c.if-has_other_parent.true) c.fault-then-has_other_parent.ensures
 

@@ -19,4 +19,5 @@ loop-row-init g c = record {
 pub judge_last-requires-clause-seen : goal.judge_last-requires-clause-seen
 judge_last-requires-clause-seen g c =
     let at_last : c.loop-row.row ≡ c.args.last = omega (arith, c.if-last-eq0.false) in
-    subst (λ (n : ℕ). AreNames (raw_of c.args.tables.now).blobs (raw_of c.args.tables.now).documents n c.loop-row.seen c.loop-row.longest) at_last c.loop-row.invariant.seen
+    subst (λ (n : ℕ). AreNames (raw_of c.args.tables.now).blobs (raw_of c.args.tables.now).documents n c.loop-row.seen c.loop-row.longest) at_last
+    c.loop-row.invariant.seen

@@ -12,14 +12,16 @@ returns-in_default-clause-err c = no_name_first (raw_of c.args.tables.now) c.arg
 
 pub returns-then-content-eq0-clause-err : goal.returns-then-content-eq0-clause-err
 returns-then-content-eq0-clause-err c =
-    let there : blob_at (raw_of c.args.tables.now).blobs c.args.document.now.name ≡ Some c.in-Some.content.now = sym (rw c.blobs.ensures at c.in-Some.ensures.blob) in
+    let there : blob_at (raw_of c.args.tables.now).blobs c.args.document.now.name ≡ Some c.in-Some.content.now =
+    sym (rw c.blobs.ensures at c.in-Some.ensures.blob) in
     nil_name_first (raw_of c.args.tables.now) c.args.row c.args.document.now c.requires.there c.fault-then-content-eq0.result c.requires.judged
     (value_there (raw_of c.args.tables.now).blobs c.in-Some.content.now c.args.document.now.name there)
     (there ∙ ap Some (no_length c.in-Some.content.now c.if-content-eq0.true)) c.fault-then-content-eq0.ensures
 
 pub returns-in-Err-Blob-clause-err : goal.returns-in-Err-Blob-clause-err
 returns-in-Err-Blob-clause-err c =
-    let there : blob_at (raw_of c.args.tables.now).blobs c.args.document.now.name ≡ Some c.in-Some.content.now = sym (rw c.blobs.ensures at c.in-Some.ensures.blob) in
+    let there : blob_at (raw_of c.args.tables.now).blobs c.args.document.now.name ≡ Some c.in-Some.content.now =
+    sym (rw c.blobs.ensures at c.in-Some.ensures.blob) in
     let refusal = rw c.in-Err-Blob.field-0-is at c.in-Err-Blob.ensures.fault in
     bad_name_first (raw_of c.args.tables.now) c.args.row c.args.document.now c.requires.there c.fault_within.result c.in-Err-Blob.inside c.requires.judged
     (not_nil (raw_of c.args.tables.now).blobs c.in-Some.content.now c.args.document.now.name there c.if-content-eq0.false)
@@ -27,7 +29,8 @@ returns-in-Err-Blob-clause-err c =
 
 pub returns-in-Ok-clause-some : goal.returns-in-Ok-clause-some
 returns-in-Ok-clause-some c =
-    let there : blob_at (raw_of c.args.tables.now).blobs c.args.document.now.name ≡ Some c.in-Some.content.now = sym (rw c.blobs.ensures at c.in-Some.ensures.blob) in
+    let there : blob_at (raw_of c.args.tables.now).blobs c.args.document.now.name ≡ Some c.in-Some.content.now =
+    sym (rw c.blobs.ensures at c.in-Some.ensures.blob) in
     not_nil (raw_of c.args.tables.now).blobs c.in-Some.content.now c.args.document.now.name there c.if-content-eq0.false
 
 pub returns-in-Ok-clause-name : goal.returns-in-Ok-clause-name

@@ -8,5 +8,6 @@ pub loop-row-init : goal.loop-row-init
 loop-row-init g c = record {
   judged = first_row (raw_of c.args.tables.now) c.requires.judged;
   marks = marks_at_first (raw_of c.args.tables.now).imports c.as_mut_slice-marks.result.now
-      (c.as_mut_slice-marks.ensures.value ∙ (c.in_ok-all.ensures.items_if_clones_equal (λ y h. cc) ∙ ap (λ (n : ℕ). replicate n 0) (c.row_count-count.ensures.count ∙ sym c.row_count-count.ensures.all.imports)));
+      (c.as_mut_slice-marks.ensures.value ∙ (c.in_ok-all.ensures.items_if_clones_equal (λ y h. cc)
+      ∙ ap (λ (n : ℕ). replicate n 0) (c.row_count-count.ensures.count ∙ sym c.row_count-count.ensures.all.imports)));
 }

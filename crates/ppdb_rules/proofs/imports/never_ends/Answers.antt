@@ -12,13 +12,17 @@ returns-then-mark-row-clause-value g c = (
 
 pub returns-then-mark-ne0-clause-value : goal.returns-then-mark-ne0-clause-value
 returns-then-mark-ne0-clause-value g c = ends_decides (raw_of c.args.tables.now).imports c.args.row
-    (row_ends (raw_of c.args.tables.now).imports c.args.row c.loop-at.at c.loop-at.marks c.loop-at.invariant (joins_end (raw_of c.args.tables.now).imports c.args.row c.loop-at.at c.loop-at.marks c.loop-at.invariant c.loop-at-test.true
-    (omega (arith, c.loop-at.invariant.one_each, c.row_count-count.ensures.count, c.row_count-count.ensures.all.imports)) c.if-mark-ne0.true c.if-mark-row.false))
+    (row_ends (raw_of c.args.tables.now).imports c.args.row c.loop-at.at c.loop-at.marks c.loop-at.invariant
+    (joins_end (raw_of c.args.tables.now).imports c.args.row c.loop-at.at c.loop-at.marks c.loop-at.invariant c.loop-at-test.true
+    (omega (arith, c.loop-at.invariant.one_each, c.row_count-count.ensures.count, c.row_count-count.ensures.all.imports)) c.if-mark-ne0.true
+    c.if-mark-row.false))
 
 pub returns-then-mark-ne0-clause-marks : goal.returns-then-mark-ne0-clause-marks
 returns-then-mark-ne0-clause-marks g c =
-    marks_end (raw_of c.args.tables.now).imports c.args.row c.loop-at.at c.loop-at.marks c.loop-at.invariant (joins_end (raw_of c.args.tables.now).imports c.args.row c.loop-at.at c.loop-at.marks c.loop-at.invariant c.loop-at-test.true
-    (omega (arith, c.loop-at.invariant.one_each, c.row_count-count.ensures.count, c.row_count-count.ensures.all.imports)) c.if-mark-ne0.true c.if-mark-row.false)
+    marks_end (raw_of c.args.tables.now).imports c.args.row c.loop-at.at c.loop-at.marks c.loop-at.invariant
+    (joins_end (raw_of c.args.tables.now).imports c.args.row c.loop-at.at c.loop-at.marks c.loop-at.invariant c.loop-at-test.true
+    (omega (arith, c.loop-at.invariant.one_each, c.row_count-count.ensures.count, c.row_count-count.ensures.all.imports)) c.if-mark-ne0.true
+    c.if-mark-row.false)
 
 pub loop-at-preserved : goal.loop-at-preserved
 loop-at-preserved g c =

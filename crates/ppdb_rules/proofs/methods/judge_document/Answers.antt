@@ -4,7 +4,8 @@ use Rattle.ppdb_rules.proofs.MethodDebugFaults.{no_document_first, next_0}
 use Rattle.ppdb_rules.proofs.methods.judge_document.Goals as goal
 
 pub returns-then-names_no_row-clause-err : goal.returns-then-names_no_row-clause-err
-returns-then-names_no_row-clause-err c = no_document_first (raw_of c.args.tables.now) c.args.row c.args.method.now c.requires.there c.fault.result c.requires.judged
+returns-then-names_no_row-clause-err c =
+    no_document_first (raw_of c.args.tables.now) c.args.row c.args.method.now c.requires.there c.fault.result c.requires.judged
     (c.names_no_row.ensures.0 c.if-names_no_row.true) c.fault.ensures
 
 pub returns-clause-ok : goal.returns-clause-ok

@@ -14,7 +14,8 @@ returns-in_default-clause-err c = no_points_first (raw_of c.args.tables.now) c.a
 
 pub returns-then-content-eq0-clause-ok : goal.returns-then-content-eq0-clause-ok
 returns-then-content-eq0-clause-ok c =
-    let there : blob_at (raw_of c.args.tables.now).blobs c.args.method.now.points ≡ Some c.in-Some.content.now = sym (rw c.blobs.ensures at c.in-Some.ensures.blob) in
+    let there : blob_at (raw_of c.args.tables.now).blobs c.args.method.now.points ≡ Some c.in-Some.content.now =
+    sym (rw c.blobs.ensures at c.in-Some.ensures.blob) in
     let nil : c.in-Some.content.now ≡ [] = no_length c.in-Some.content.now c.if-content-eq0.true in
     next_1 (raw_of c.args.tables.now) c.args.row c.args.method.now c.requires.there c.requires.judged
     (value_there (raw_of c.args.tables.now).blobs c.in-Some.content.now c.args.method.now.points there)
@@ -22,14 +23,18 @@ returns-then-content-eq0-clause-ok c =
 
 pub returns-in-Some-points_fault-clause-err : goal.returns-in-Some-points_fault-clause-err
 returns-in-Some-points_fault-clause-err c =
-    let there : blob_at (raw_of c.args.tables.now).blobs c.args.method.now.points ≡ Some c.in-Some.content.now = sym (rw c.blobs.ensures at c.in-Some.ensures.blob) in
-    bad_points_first (raw_of c.args.tables.now) c.args.row c.args.method.now c.requires.there c.fault_within.result c.in-Some-points_fault.inside c.requires.judged
+    let there : blob_at (raw_of c.args.tables.now).blobs c.args.method.now.points ≡ Some c.in-Some.content.now =
+    sym (rw c.blobs.ensures at c.in-Some.ensures.blob) in
+    bad_points_first (raw_of c.args.tables.now) c.args.row c.args.method.now c.requires.there c.fault_within.result c.in-Some-points_fault.inside
+    c.requires.judged
     (λ nil. c.if-content-eq0.false (let e : Some c.in-Some.content.now ≡ Some [] = sym there ∙ nil in let f : c.in-Some.content.now ≡ [] = cc in rw f refl))
     (record { content = c.in-Some.content.now; there = there; reads = c.in-Some-points_fault.ensures }) c.fault_within.ensures
 
 pub returns-in-None-clause-ok : goal.returns-in-None-clause-ok
 returns-in-None-clause-ok c =
-    let there : blob_at (raw_of c.args.tables.now).blobs c.args.method.now.points ≡ Some c.in-Some.content.now = sym (rw c.blobs.ensures at c.in-Some.ensures.blob) in
+    let there : blob_at (raw_of c.args.tables.now).blobs c.args.method.now.points ≡ Some c.in-Some.content.now =
+    sym (rw c.blobs.ensures at c.in-Some.ensures.blob) in
     next_1 (raw_of c.args.tables.now) c.args.row c.args.method.now c.requires.there c.requires.judged
     (value_there (raw_of c.args.tables.now).blobs c.in-Some.content.now c.args.method.now.points there)
-    (λ fault some bad. not_whole {g = sequence_points c.args.method.now.document (point_limits (raw_of c.args.tables.now))} c.in-Some.content.now there c.in-None.ensures bad)
+    (λ fault some bad. not_whole {g = sequence_points c.args.method.now.document (point_limits (raw_of c.args.tables.now))} c.in-Some.content.now there
+    c.in-None.ensures bad)

@@ -7,7 +7,8 @@ use Rattle.ppdb_rules.proofs.NameParts.{joining-end, joining-goes}
 use Rattle.ppdb_rules.proofs.names.exceeds.Goals as goal
 
 -- where there is no room, there are more bytes
-room_tells : (most : ℕ) (into name : List ℕ) (room : Option ℕ) (longer : Bool) → is_some room ≡ not longer → HasRoom most into room → into ≡ name → IsTrue longer ↔ (most < length name)
+room_tells : (most : ℕ) (into name : List ℕ) (room : Option ℕ) (longer : Bool) → is_some room ≡ not longer → HasRoom most into room → into ≡ name
+    → IsTrue longer ↔ (most < length name)
 room_tells most into name (Some room) true told has same = absurd cc
 room_tells most into name (Some room) false told has same = ((λ yes. absurd cc), (λ more. absurd (omega (arith, has, more, ap length same))))
 room_tells most into name None true told has same = ((λ yes. omega (arith, has, ap length same)), (λ more. refl))
@@ -17,7 +18,8 @@ pub loop-part-init : goal.loop-part-init
 loop-part-init c =
     let e = answer-is c.in_ok-cursor.cursor.left c.in_ok-first.field-0 (Some c.in-Some.first) c.in_ok-first.ensures.answer c.in-Some.is in (
       c.in-Some.first.now,
-      joining-starts (blobs_of c.args.blobs) c.args.content.now [] c.in-Some.first.now c.separator-separator.result.now c.in_ok-cursor.cursor.separator c.in_ok-cursor.cursor.left c.next.new.self.left c.in-Some.first.now
+      joining-starts (blobs_of c.args.blobs) c.args.content.now [] c.in-Some.first.now c.separator-separator.result.now c.in_ok-cursor.cursor.separator
+          c.in_ok-cursor.cursor.left c.next.new.self.left c.in-Some.first.now
           c.in_ok-cursor.ensures.begun (c.separator-separator.ensures ∙ c.next.ensures.separator) e c.next.ensures.left refl,
       c.less-room.ensures c.args.most [] (omega arith),
     )
@@ -27,7 +29,8 @@ loop-part-preserved c =
     let h = c.loop-part.invariant in
     let e = answer-is c.loop-part.cursor.left c.in_ok-part.field-0 (Some c.in-Some-2.part) c.in_ok-part.ensures.answer c.in-Some-2.is in (
       (h.0 ++ c.separator-separator.result.now) ++ c.in-Some-2.part.now,
-      joining-goes (blobs_of c.args.blobs) c.args.content.now [] c.separator-separator.result.now h.0 (h.0 ++ c.separator-separator.result.now) ((h.0 ++ c.separator-separator.result.now) ++ c.in-Some-2.part.now)
+      joining-goes (blobs_of c.args.blobs) c.args.content.now [] c.separator-separator.result.now h.0 (h.0 ++ c.separator-separator.result.now)
+          ((h.0 ++ c.separator-separator.result.now) ++ c.in-Some-2.part.now)
           c.loop-part.cursor.left c.next-in-loop-part.new.self.left c.in-Some-2.part.now h.1 e c.next-in-loop-part.ensures.left refl refl,
       c.less-room-in-Some-2.ensures c.args.most (h.0 ++ c.separator-separator.result.now) (c.less.ensures c.args.most h.0 h.2),
     )

@@ -15,7 +15,8 @@ pub loop-owner-preserved : goal.loop-owner-preserved
 loop-owner-preserved g c = record {
   on = let h : c.args.before ≤ c.loop-owner.owner = c.loop-owner.invariant.on in omega (arith, h);
   within = omega (arith, c.row_count-scopes.ensures.all.scopes, c.row_count-scopes.ensures.count, c.loop-owner-test.true);
-  begun = λ s there. subst (λ (x : ScopeRow). list_of c.args.list x ≤ c.args.row) (same_row (raw_of c.args.tables.now).scopes (c.loop-owner.owner + 1) c.scope-next.result s c.scope-next.ensures.row there)
+  begun = λ s there. subst (λ (x : ScopeRow). list_of c.args.list x ≤ c.args.row)
+      (same_row (raw_of c.args.tables.now).scopes (c.loop-owner.owner + 1) c.scope-next.result s c.scope-next.ensures.row there)
       (let h : list_of c.args.list c.scope-next.result ≤ c.args.row = rw c.of.ensures at c.if-row-of.false in h);
 }
 
@@ -30,5 +31,6 @@ pub returns-then-row-of-clause-owns : goal.returns-then-row-of-clause-owns
 returns-then-row-of-clause-owns g c = owner_found (raw_of c.args.tables.now) c.args.list c.requires.lists c.args.row c.loop-owner.owner
     (omega (arith, c.row_count-scopes.ensures.all.scopes, c.requires.some)) c.requires.first
     c.loop-owner.invariant.within c.loop-owner.invariant.begun
-    (λ s there. subst (λ (x : ScopeRow). c.args.row < list_of c.args.list x) (same_row (raw_of c.args.tables.now).scopes (c.loop-owner.owner + 1) c.scope-next.result s c.scope-next.ensures.row there)
+    (λ s there. subst (λ (x : ScopeRow). c.args.row < list_of c.args.list x)
+    (same_row (raw_of c.args.tables.now).scopes (c.loop-owner.owner + 1) c.scope-next.result s c.scope-next.ensures.row there)
     (rw c.of.ensures at c.if-row-of.true))

@@ -12,7 +12,8 @@ pub returns-else-scope : goal.returns-else-scope
 returns-else-scope g c = rw c.close.ensures.kept
     (at_same_method (raw_of c.args.tables.now) c.args.row (vec_len c.close.new.ends) c.args.scope.now c.scope.result c.args.ends.now.items
     c.requires.judged c.requires.there c.scope.ensures.row
-    (let w = row_within (raw_of c.args.tables.now).scopes c.args.row c.args.scope.now c.requires.there in omega (arith, w.0)) c.if-scope.false (c.requires.opened c.scope.result c.scope.ensures.row)
+    (let w = row_within (raw_of c.args.tables.now).scopes c.args.row c.args.scope.now c.requires.there in
+    omega (arith, w.0)) c.if-scope.false (c.requires.opened c.scope.result c.scope.ensures.row)
     c.close.ensures.shorter c.close.ensures.closed (rw c.close.ensures.kept at c.close.ensures.last))
 
 pub scope-requires : goal.scope-requires

@@ -6,8 +6,15 @@ use Rattle.ppdb_rules.proofs.scopes.is_below_earlier.Goals as goal
 
 pub returns-then-row-gt1 : goal.returns-then-row-gt1
 returns-then-row-gt1 g c = (
-  (λ yes. record { before = c.args.row - 1; earlier = c.scope.result; there = c.scope.ensures.row; sooner = omega arith; forbidden = c.is_above.ensures.0 yes }),
-  (λ below. c.is_above.ensures.1 (scope_before (raw_of c.args.tables.now) c.args.row 0 c.args.scope.now c.scope.result c.requires.judged c.scope.ensures.row below)),
+  (λ yes. record {
+    before = c.args.row - 1;
+    earlier = c.scope.result;
+    there = c.scope.ensures.row;
+    sooner = omega arith;
+    forbidden = c.is_above.ensures.0 yes;
+  }),
+  (λ below. c.is_above.ensures.1 (scope_before (raw_of c.args.tables.now) c.args.row 0 c.args.scope.now c.scope.result c.requires.judged c.scope.ensures.row
+      below)),
 )
 
 pub scope-requires : goal.scope-requires

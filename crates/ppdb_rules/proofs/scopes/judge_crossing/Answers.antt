@@ -4,7 +4,8 @@ use Rattle.ppdb_rules.proofs.ScopeFaults.{crossing_first, crossing_next}
 use Rattle.ppdb_rules.proofs.scopes.judge_crossing.Goals as goal
 
 pub returns-then-crosses_earlier-clause-err : goal.returns-then-crosses_earlier-clause-err
-returns-then-crosses_earlier-clause-err c = crossing_first (raw_of c.args.tables.now) c.args.row c.args.scope.now c.requires.there c.fault.result c.requires.judged
+returns-then-crosses_earlier-clause-err c =
+    crossing_first (raw_of c.args.tables.now) c.args.row c.args.scope.now c.requires.there c.fault.result c.requires.judged
     (c.crosses_earlier.ensures.0 c.if-crosses_earlier.true) c.fault.ensures
 
 pub returns-clause-ok : goal.returns-clause-ok

@@ -4,7 +4,8 @@ use Rattle.ppdb_rules.proofs.ScopeFaults.{list_first, list_next}
 use Rattle.ppdb_rules.proofs.scopes.judge_list.Goals as goal
 
 pub returns-then-is_list_out-clause-err : goal.returns-then-is_list_out-clause-err
-returns-then-is_list_out-clause-err g c = list_first (raw_of c.args.tables.now) c.args.row c.args.scope.now c.requires.there c.args.list c.fault.result c.requires.judged
+returns-then-is_list_out-clause-err g c =
+    list_first (raw_of c.args.tables.now) c.args.row c.args.scope.now c.requires.there c.args.list c.fault.result c.requires.judged
     (c.is_list_out.ensures.0 c.if-is_list_out.true) (rw c.column.ensures at c.fault.ensures)
 
 pub returns-clause-ok : goal.returns-clause-ok

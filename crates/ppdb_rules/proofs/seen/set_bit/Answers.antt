@@ -40,7 +40,8 @@ returns-clause-only c n has =
             | inr apart ↦
                 let now : bit_at new (n % 32) ≡ 1 =
                 sym (ap (λ w. bit_at w (n % 32)) (ap (λ k. get_or (set words at new) k 0) e ∙ get_or-set_same words at new 0 (omega arith))) ∙ has in
-                let old : bit_at (get_or words at 0) (n % 32) ≡ 1 = sym (bit_at_set_other w32 (get_or words at 0) (number % 32) (omega arith) (n % 32) apart) ∙ now in
+                let old : bit_at (get_or words at 0) (n % 32) ≡ 1 =
+                sym (bit_at_set_other w32 (get_or words at 0) (number % 32) (omega arith) (n % 32) apart) ∙ now in
                 inl (subst (λ k. bit_at (get_or words k 0) (n % 32) ≡ 1) (sym e) old)
           ]
       | inr other ↦ inl (sym (ap (λ w. bit_at w (n % 32)) (get_or-set_other words at (n / 32) new 0 other)) ∙ has)

@@ -4,8 +4,12 @@ use Rattle.ppdb_rules.proofs.VariableFaults.{alone_first, next_0}
 use Rattle.ppdb_rules.proofs.variables.judge_attributes.Goals as goal
 
 pub returns-then-row_count-eq0-clause-err : goal.returns-then-row_count-eq0-clause-err
-returns-then-row_count-eq0-clause-err c = alone_first (raw_of c.args.tables.now) c.args.row c.args.variable.now c.requires.there c.fault.result c.requires.judged
-    (variables_from_1 (raw_of c.args.tables.now) c.args.row c.args.variable.now c.requires.there c.requires.judged (rw c.row_count.ensures.count at c.if-row_count-eq0.true), rw c.row_count.ensures.count at c.if-row_count-eq0.true)
+returns-then-row_count-eq0-clause-err c =
+    alone_first (raw_of c.args.tables.now) c.args.row c.args.variable.now c.requires.there c.fault.result c.requires.judged (
+      variables_from_1 (raw_of c.args.tables.now) c.args.row c.args.variable.now c.requires.there c.requires.judged
+          (rw c.row_count.ensures.count at c.if-row_count-eq0.true),
+      rw c.row_count.ensures.count at c.if-row_count-eq0.true,
+    )
     c.fault.ensures
 
 pub returns-clause-ok : goal.returns-clause-ok

@@ -16,7 +16,8 @@ returns-then-not-is_new-clause-err c =
     let there : text_at (raw_of c.args.tables.now).texts c.args.variable.now.name ≡ Some c.in-Some.name.now = sym (rw c.strings.ensures at c.in-Some.ensures) in
     same_text_first (raw_of c.args.tables.now) c.args.row c.args.variable.now c.requires.there c.fault-then-not-is_new.result c.requires.judged
     (text_there (raw_of c.args.tables.now).texts c.args.variable.now.name c.in-Some.name.now there)
-    (repeated_text (λ s. s.variables) (raw_of c.args.tables.now).scopes (raw_of c.args.tables.now).texts (λ (v : VariableRow). v.name) (raw_of c.args.tables.now).variables c.args.row c.args.owner c.args.variable.now.name c.in-Some.name.now there c.requires.owns
+    (repeated_text (λ s. s.variables) (raw_of c.args.tables.now).scopes (raw_of c.args.tables.now).texts (λ (v : VariableRow). v.name)
+    (raw_of c.args.tables.now).variables c.args.row c.args.owner c.args.variable.now.name c.in-Some.name.now there c.requires.owns
     (c.requires.seen.sound c.in-Some.name.now (rw c.if-not-is_new.true at c.in_ok-is_new.ensures.old))) c.fault-then-not-is_new.ensures
 
 pub returns-clause-ok : goal.returns-clause-ok
@@ -25,10 +26,13 @@ returns-clause-ok c =
     let lacks : HasText c.args.names.now c.in-Some.name.now → ⊥ = rw c.if-not-is_new.false at c.in_ok-is_new.ensures.new in
     next_2 (raw_of c.args.tables.now) c.args.row c.args.variable.now c.requires.there c.requires.judged
     (text_there (raw_of c.args.tables.now).texts c.args.variable.now.name c.in-Some.name.now there)
-    (λ h. lacks (c.requires.seen.complete c.in-Some.name.now (noted_text (λ s. s.variables) (raw_of c.args.tables.now).scopes (raw_of c.args.tables.now).texts (λ (v : VariableRow). v.name) (raw_of c.args.tables.now).variables c.args.row c.args.owner c.args.variable.now.name c.in-Some.name.now there c.requires.owns h)))
+    (λ h. lacks (c.requires.seen.complete c.in-Some.name.now (noted_text (λ s. s.variables) (raw_of c.args.tables.now).scopes (raw_of c.args.tables.now).texts
+    (λ (v : VariableRow). v.name) (raw_of c.args.tables.now).variables c.args.row c.args.owner c.args.variable.now.name c.in-Some.name.now there
+    c.requires.owns h)))
 
 pub returns-clause-seen : goal.returns-clause-seen
 returns-clause-seen c =
     let there : text_at (raw_of c.args.tables.now).texts c.args.variable.now.name ≡ Some c.in-Some.name.now = sym (rw c.strings.ensures at c.in-Some.ensures) in
-    texts_after (λ s. s.variables) (raw_of c.args.tables.now).scopes (raw_of c.args.tables.now).texts (λ (v : VariableRow). v.name) (raw_of c.args.tables.now).variables c.args.row c.args.owner c.args.variable.now c.in-Some.name.now c.args.names.now c.note.new.self
+    texts_after (λ s. s.variables) (raw_of c.args.tables.now).scopes (raw_of c.args.tables.now).texts (λ (v : VariableRow). v.name)
+    (raw_of c.args.tables.now).variables c.args.row c.args.owner c.args.variable.now c.in-Some.name.now c.args.names.now c.note.new.self
     c.requires.seen c.requires.there c.requires.owns there c.in_ok-is_new.ensures.kept c.in_ok-is_new.ensures.added c.in_ok-is_new.ensures.only

@@ -10,7 +10,8 @@ loop-row-init g c = record {
   judged = first_row (raw_of c.args.tables.now) c.requires.judged;
   before = inl (refl, refl);
   slots = slots_at_first (raw_of c.args.tables.now).scopes (raw_of c.args.tables.now).variables 0 c.new-slots.result.items c.new-slots.ensures.items;
-  names = texts_at_first (λ s. s.variables) (raw_of c.args.tables.now).scopes (raw_of c.args.tables.now).texts (λ (v : VariableRow). v.name) (raw_of c.args.tables.now).variables 0 c.new-names.result c.new-names.ensures;
+  names = texts_at_first (λ s. s.variables) (raw_of c.args.tables.now).scopes (raw_of c.args.tables.now).texts (λ (v : VariableRow). v.name)
+      (raw_of c.args.tables.now).variables 0 c.new-names.result c.new-names.ensures;
 }
 
 pub judge_variable-requires-clause-lists : goal.judge_variable-requires-clause-lists

@@ -22,17 +22,20 @@ returns-then-is_err-clause-err g c = front_nothing (g.O.Sink.written c.args.out.
 pub returns-in-Ok-put-clause-ok : goal.returns-in-Ok-put-clause-ok
 unfolding query_text_of
 returns-in-Ok-put-clause-ok g c =
-    rw (whole_text c.put_answer.result c.new-text.result c.put_answer.new.text c.as_slice.result.now (query_lines (raw_file c.args.file.now) c.args.method c.args.offset)
+    rw (whole_text c.put_answer.result c.new-text.result c.put_answer.new.text c.as_slice.result.now
+    (query_lines (raw_file c.args.file.now) c.args.method c.args.offset)
     (sym c.is_err.ensures.value ∙ c.if-is_err.false) c.new-text.ensures c.put_answer.ensures.ok c.as_slice.ensures) at c.in-Ok-put.ensures.ok
 
 pub returns-in-Err-Failed-clause-err : goal.returns-in-Err-Failed-clause-err
 unfolding query_text_of
 returns-in-Err-Failed-clause-err g c =
-    rw (whole_text c.put_answer.result c.new-text.result c.put_answer.new.text c.as_slice.result.now (query_lines (raw_file c.args.file.now) c.args.method c.args.offset)
+    rw (whole_text c.put_answer.result c.new-text.result c.put_answer.new.text c.as_slice.result.now
+    (query_lines (raw_file c.args.file.now) c.args.method c.args.offset)
     (sym c.is_err.ensures.value ∙ c.if-is_err.false) c.new-text.ensures c.put_answer.ensures.ok c.as_slice.ensures) at c.in-Err-Failed.ensures.err
 
 pub returns-clause-err : goal.returns-clause-err
 unfolding query_text_of
 returns-clause-err g c =
-    rw (whole_text c.put_answer.result c.new-text.result c.put_answer.new.text c.as_slice.result.now (query_lines (raw_file c.args.file.now) c.args.method c.args.offset)
+    rw (whole_text c.put_answer.result c.new-text.result c.put_answer.new.text c.as_slice.result.now
+    (query_lines (raw_file c.args.file.now) c.args.method c.args.offset)
     (sym c.is_err.ensures.value ∙ c.if-is_err.false) c.new-text.ensures c.put_answer.ensures.ok c.as_slice.ensures) at c.in-Err-Memory.ensures.err

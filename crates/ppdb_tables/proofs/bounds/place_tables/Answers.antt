@@ -13,7 +13,8 @@ rows_end-requires-clause-inside c = c.loop-index.invariant.inside
 pub rows_end-requires-clause-some : goal.rows_end-requires-clause-some
 rows_end-requires-clause-some c =
     let index = c.loop-index.index in
-    let is : get_or c.args.lens.now index 0 ≡ row_len c.args.sizes.now (table index) = ap (λ lens. get_or lens index 0) c.requires.lens ∙ len_is c.args.sizes.now index c.loop-index-test.true in
+    let is : get_or c.args.lens.now index 0 ≡ row_len c.args.sizes.now (table index) =
+    ap (λ lens. get_or lens index 0) c.requires.lens ∙ len_is c.args.sizes.now index c.loop-index-test.true in
     omega (arith, is, row_some c.args.sizes.now index c.loop-index-test.true)
 
 pub loop-index-init : goal.loop-index-init
@@ -30,7 +31,8 @@ returns-in_err-end-clause-first c =
     let index = c.loop-index.index in
     let sizes = c.args.sizes.now in
     let i = c.loop-index.invariant in
-    let is : get_or c.args.lens.now index 0 ≡ row_len sizes (table index) = ap (λ lens. get_or lens index 0) c.requires.lens ∙ len_is sizes index c.loop-index-test.true in
+    let is : get_or c.args.lens.now index 0 ≡ row_len sizes (table index) =
+    ap (λ lens. get_or lens index 0) c.requires.lens ∙ len_is sizes index c.loop-index-test.true in
     rw (p.1, p.2) (row_is_first sizes c.args.bytes.now index c.loop-index.at c.in_err-end.field-0.0 c.loop-index-test.true i.place
     (subst (λ len. IsRowFault c.args.bytes.now c.loop-index.at (slice_index sizes.rows (48 + index)) len c.in_err-end.field-0.0) is c.in_err-end.ensures.fault))
 
@@ -51,7 +53,8 @@ loop-index-preserved c =
       inside = end.1;
       size = length-set old index at ∙ i.size;
       places = below_more (λ k. StandsAt sizes c.args.bytes.now k (slice_index (set old index at) k)) index
-          (λ k before. subst (StandsAt sizes c.args.bytes.now k) (sym (get_or-set_other old index k at 0 (λ e. absurd (omega (arith, before, e))))) (i.places k before))
+          (λ k before. subst (StandsAt sizes c.args.bytes.now k) (sym (get_or-set_other old index k at 0 (λ e. absurd (omega (arith, before, e)))))
+          (i.places k before))
           (subst (StandsAt sizes c.args.bytes.now index) (sym (get_or-set_same old index at 0 (omega (arith, i.size, lt))))
           (record { begins = i.place; ends = omega (arith, next, end.1) }));
     }
@@ -66,5 +69,6 @@ pub returns-clause-accepted : goal.returns-clause-accepted
 returns-clause-accepted c =
     let i = c.loop-index.invariant in
     let all : c.loop-index.index ≡ 8 = omega (arith, c.loop-index-test.false, c.loop-index.auto.index-end) in
-    let end : c.loop-index.at ≡ rows_start c.args.bytes.now + sum (row_fields c.args.sizes.now debug_tables) = i.place ∙ ap (λ k. rows_start c.args.bytes.now + sum (row_fields c.args.sizes.now (take k debug_tables))) all in
+    let end : c.loop-index.at ≡ rows_start c.args.bytes.now + sum (row_fields c.args.sizes.now debug_tables) =
+    i.place ∙ ap (λ k. rows_start c.args.bytes.now + sum (row_fields c.args.sizes.now (take k debug_tables))) all in
     rows_accepted c.args.sizes.now c.args.bytes.now (omega (arith, end, i.inside))

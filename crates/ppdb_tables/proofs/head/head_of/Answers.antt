@@ -11,4 +11,5 @@ returns-in_default-clause-first c =
     let methods = c.in_ok-rows.ensures.rows 6 (lit< tt) in
     first_of_after (BadPdbFields stream) (BadEntry stream) c.fault.result c.in_ok-rows.ensures.accepted
     (entry_is_first stream c.fault.result c.fault.ensures (λ e. none.0 (c.u32_at.ensures ∙ e))
-    (λ names. none.1 (subst (λ token. NamesMethod (slice_index c.in_ok-rows.rows 6) token) (sym c.u32_at.ensures) (subst (λ n. NamesMethod n (entry_in stream)) (sym methods) names))))
+    (λ names. none.1 (subst (λ token. NamesMethod (slice_index c.in_ok-rows.rows 6) token) (sym c.u32_at.ensures)
+    (subst (λ n. NamesMethod n (entry_in stream)) (sym methods) names))))

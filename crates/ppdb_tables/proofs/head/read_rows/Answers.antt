@@ -35,7 +35,8 @@ loop-table-preserved c =
     let old = c.loop-table.rows in
     let found = c.in_ok-count.ensures in
     let count = c.in_ok-count.count in
-    let is : count ≡ pdb_rows stream table = count_is stream 32 c.args.bits (referenced stream) table c.loop-table.at c.requires.bits i.place count found.count in
+    let is : count ≡ pdb_rows stream table =
+    count_is stream 32 c.args.bits (referenced stream) table c.loop-table.at c.requires.bits i.place count found.count in
     record {
       place = place_is stream 32 c.args.bits (referenced stream) table c.loop-table.at c.requires.bits i.place c.in_ok-count.end found.end.0;
       small = omega (arith, i.small, found.end.0);

@@ -30,7 +30,8 @@ returns-in_err-count-clause-first c =
     let table = c.loop-table.table in
     let i = c.loop-table.invariant in
     let fault = c.in_err-count.field-0.0 in
-    rw (p.1, p.2) (count_is_first (slice_index c.args.head.now.rows 6) stream table c.loop-table.at fault c.loop-table-test.true i.place i.inside c.requires.heap c.requires.known i.few i.methods
+    rw (p.1, p.2) (count_is_first (slice_index c.args.head.now.rows 6) stream table c.loop-table.at fault c.loop-table-test.true i.place i.inside
+    c.requires.heap c.requires.known i.few i.methods
     (subst (λ bits. IsCountFault table_part stream bits table c.loop-table.at fault) c.requires.bits c.in_err-count.ensures.fault))
 
 pub returns-then-differ_from_methods-clause-first : goal.returns-then-differ_from_methods-clause-first
@@ -43,9 +44,12 @@ returns-then-differ_from_methods-clause-first c =
     let is : count ≡ table_rows stream table = count_is stream 24 c.args.bits (valid stream) table c.loop-table.at c.requires.bits i.place count found.count in
     let differ = c.differ_from_methods.ensures.0 c.if-differ_from_methods.true in
     let set = has_count stream 24 (valid stream) table (λ none. differ.1 (is ∙ none)) in
-    let end : table_count_place stream table + 4 ≤ length stream = omega (arith, found.end.0, found.end.1, i.place, ap (λ bits. bit_at bits table) c.requires.bits, set) in
-    methods_are_first (slice_index c.args.head.now.rows 6) stream table c.loop-table-test.true set c.requires.heap c.requires.known i.few i.methods c.fault.result differ.0
-    (c.fault.ensures ∙ ap (λ b. record { code = MethodRows; place = at_byte 4 b }) i.place) end (omega (arith, is, found.few)) (λ none. differ.1 (is ∙ none)) (λ same. differ.2 (is ∙ same))
+    let end : table_count_place stream table + 4 ≤ length stream =
+    omega (arith, found.end.0, found.end.1, i.place, ap (λ bits. bit_at bits table) c.requires.bits, set) in
+    methods_are_first (slice_index c.args.head.now.rows 6) stream table c.loop-table-test.true set c.requires.heap c.requires.known i.few i.methods
+    c.fault.result differ.0
+    (c.fault.ensures ∙ ap (λ b. record { code = MethodRows; place = at_byte 4 b }) i.place) end (omega (arith, is, found.few)) (λ none. differ.1 (is ∙ none))
+    (λ same. differ.2 (is ∙ same))
 
 pub loop-table-preserved : goal.loop-table-preserved
 loop-table-preserved c =
@@ -63,10 +67,12 @@ loop-table-preserved c =
       inside = found.end.1;
       size = length-set old table kept ∙ i.size;
       few = below_more (λ t. table_rows stream t ≤ 16777215) table i.few (omega (arith, is, found.few));
-      methods = fit_step (slice_index c.args.head.now.rows 6) stream table count is (iff_false c.differ_from_methods.ensures c.if-differ_from_methods.false) i.methods;
+      methods = fit_step (slice_index c.args.head.now.rows 6) stream table count is (iff_false c.differ_from_methods.ensures c.if-differ_from_methods.false)
+          i.methods;
       rows = below_more (λ t. slice_index (set old table kept) t ≡ count_in c.args.head.now stream t) table
           (λ t lt. get_or-set_other old table t kept 0 (λ e. absurd (omega (arith, lt, e))) ∙ i.rows t lt)
-          (get_or-set_same old table kept 0 (omega (arith, i.size, c.loop-table-test.true)) ∙ kept_is c.args.head.now stream table count kept is c.rows_of.ensures);
+          (get_or-set_same old table kept 0 (omega (arith, i.size, c.loop-table-test.true))
+          ∙ kept_is c.args.head.now stream table count kept is c.rows_of.ensures);
     }
 
 pub returns-clause-start : goal.returns-clause-start
@@ -81,7 +87,8 @@ returns-clause-accepted c =
     let i = c.loop-table.invariant in
     let all : c.loop-table.table ≡ 64 = omega (arith, c.loop-table-test.false, c.loop-table.auto.table-end) in
     let end : c.loop-table.at ≡ table_count_place stream 64 = i.place ∙ ap (table_count_place stream) all in
-    fields_accepted (slice_index c.args.head.now.rows 6) stream (omega (arith, end, i.inside, start_is stream)) c.requires.heap c.requires.known (λ t lt. i.few t (omega (arith, all, lt))) (i.methods (omega (arith, all)))
+    fields_accepted (slice_index c.args.head.now.rows 6) stream (omega (arith, end, i.inside, start_is stream)) c.requires.heap c.requires.known (λ t lt.
+    i.few t (omega (arith, all, lt))) (i.methods (omega (arith, all)))
 
 pub returns-clause-rows : goal.returns-clause-rows
 returns-clause-rows c =

@@ -11,4 +11,5 @@ returns-in_err-fields_end-clause-first c =
 pub returns-then-heap-ge8-clause-first : goal.returns-then-heap-ge8-clause-first
 returns-then-heap-ge8-clause-first c =
     let end = c.in_ok-fields_end.ensures.end in
-    heap_is_first c.args.methods c.args.bytes.now c.fault.result c.fault.ensures (omega (arith, end.0, end.1)) (omega (arith, c.if-heap-ge8.true, c.u8_at-heap.ensures))
+    heap_is_first c.args.methods c.args.bytes.now c.fault.result c.fault.ensures (omega (arith, end.0, end.1))
+    (omega (arith, c.if-heap-ge8.true, c.u8_at-heap.ensures))

@@ -5,7 +5,9 @@ use Rattle.ppdb_base.specs.First.{IsAccepted, IsFirst}
 use Rattle.ppdb_base.proofs.Judging.{first_of_after, accepted_then}
 use Rattle.metadata_root.specs.declared.kind.StreamKind.TheVariants.{Pdb, Tables}
 use Rattle.metadata_root.specs.Streams.{bytes_of}
-use Rattle.ppdb_tables.specs.Layouts.{document_columns, method_columns, scope_columns, variable_columns, constant_columns, import_columns, machine_columns, custom_columns, document_row, method_row, scope_row, variable_row, constant_row, import_row, machine_row, custom_row}
+use Rattle.ppdb_tables.specs.Layouts.{document_columns, method_columns, scope_columns, variable_columns, constant_columns}
+use Rattle.ppdb_tables.specs.Layouts.{import_columns, machine_columns, custom_columns, document_row, method_row, scope_row, variable_row}
+use Rattle.ppdb_tables.specs.Layouts.{constant_row, import_row, machine_row, custom_row}
 use Rattle.ppdb_tables.specs.Tables.{BadTables, BadTableFields, BadBounds, count_in, sizes_in}
 use Rattle.ppdb_tables.proofs.TablesRead.{table_fits, table_read, same_tables, small_counts}
 use Rattle.ppdb_tables.proofs.reading.read_tables.Goals as goal
@@ -31,28 +33,109 @@ returns-clause-accepted c =
     (subst (λ sizes. IsAccepted (BadBounds sizes stream)) header.sizes c.in_ok-places.ensures.accepted))
 
 pub at-requires : goal.at-requires
-at-requires c = (lit< tt, (lit< tt, (c.stream_bytes-stream.ensures.short, table_fits c.in_ok-header.header.sizes c.stream_bytes-stream.result.now 0 48 document_columns c.of-layouts.result.documents (slice_index c.in_ok-places.places 0) refl (c.in_ok-places.ensures.places 0 (lit< tt)) c.of-layouts.ensures.documents)))
+at-requires c = (
+  lit< tt,
+  (
+    lit< tt,
+    (
+      c.stream_bytes-stream.ensures.short,
+      table_fits c.in_ok-header.header.sizes c.stream_bytes-stream.result.now 0 48 document_columns c.of-layouts.result.documents
+          (slice_index c.in_ok-places.places 0) refl (c.in_ok-places.ensures.places 0 (lit< tt)) c.of-layouts.ensures.documents,
+    ),
+  ),
+)
 
 pub at-requires-2 : goal.at-requires-2
-at-requires-2 c = (lit< tt, (lit< tt, (c.stream_bytes-stream.ensures.short, table_fits c.in_ok-header.header.sizes c.stream_bytes-stream.result.now 1 49 method_columns c.of-layouts.result.methods (slice_index c.in_ok-places.places 1) refl (c.in_ok-places.ensures.places 1 (lit< tt)) c.of-layouts.ensures.methods)))
+at-requires-2 c = (
+  lit< tt,
+  (
+    lit< tt,
+    (
+      c.stream_bytes-stream.ensures.short,
+      table_fits c.in_ok-header.header.sizes c.stream_bytes-stream.result.now 1 49 method_columns c.of-layouts.result.methods
+          (slice_index c.in_ok-places.places 1) refl (c.in_ok-places.ensures.places 1 (lit< tt)) c.of-layouts.ensures.methods,
+    ),
+  ),
+)
 
 pub at-requires-3 : goal.at-requires-3
-at-requires-3 c = (lit< tt, (lit< tt, (c.stream_bytes-stream.ensures.short, table_fits c.in_ok-header.header.sizes c.stream_bytes-stream.result.now 2 50 scope_columns c.of-layouts.result.scopes (slice_index c.in_ok-places.places 2) refl (c.in_ok-places.ensures.places 2 (lit< tt)) c.of-layouts.ensures.scopes)))
+at-requires-3 c = (
+  lit< tt,
+  (
+    lit< tt,
+    (
+      c.stream_bytes-stream.ensures.short,
+      table_fits c.in_ok-header.header.sizes c.stream_bytes-stream.result.now 2 50 scope_columns c.of-layouts.result.scopes
+          (slice_index c.in_ok-places.places 2)
+          refl (c.in_ok-places.ensures.places 2 (lit< tt)) c.of-layouts.ensures.scopes,
+    ),
+  ),
+)
 
 pub at-requires-4 : goal.at-requires-4
-at-requires-4 c = (lit< tt, (lit< tt, (c.stream_bytes-stream.ensures.short, table_fits c.in_ok-header.header.sizes c.stream_bytes-stream.result.now 3 51 variable_columns c.of-layouts.result.variables (slice_index c.in_ok-places.places 3) refl (c.in_ok-places.ensures.places 3 (lit< tt)) c.of-layouts.ensures.variables)))
+at-requires-4 c = (
+  lit< tt,
+  (
+    lit< tt,
+    (
+      c.stream_bytes-stream.ensures.short,
+      table_fits c.in_ok-header.header.sizes c.stream_bytes-stream.result.now 3 51 variable_columns c.of-layouts.result.variables
+          (slice_index c.in_ok-places.places 3) refl (c.in_ok-places.ensures.places 3 (lit< tt)) c.of-layouts.ensures.variables,
+    ),
+  ),
+)
 
 pub at-requires-5 : goal.at-requires-5
-at-requires-5 c = (lit< tt, (lit< tt, (c.stream_bytes-stream.ensures.short, table_fits c.in_ok-header.header.sizes c.stream_bytes-stream.result.now 4 52 constant_columns c.of-layouts.result.constants (slice_index c.in_ok-places.places 4) refl (c.in_ok-places.ensures.places 4 (lit< tt)) c.of-layouts.ensures.constants)))
+at-requires-5 c = (
+  lit< tt,
+  (
+    lit< tt,
+    (
+      c.stream_bytes-stream.ensures.short,
+      table_fits c.in_ok-header.header.sizes c.stream_bytes-stream.result.now 4 52 constant_columns c.of-layouts.result.constants
+          (slice_index c.in_ok-places.places 4) refl (c.in_ok-places.ensures.places 4 (lit< tt)) c.of-layouts.ensures.constants,
+    ),
+  ),
+)
 
 pub at-requires-6 : goal.at-requires-6
-at-requires-6 c = (lit< tt, (lit< tt, (c.stream_bytes-stream.ensures.short, table_fits c.in_ok-header.header.sizes c.stream_bytes-stream.result.now 5 53 import_columns c.of-layouts.result.imports (slice_index c.in_ok-places.places 5) refl (c.in_ok-places.ensures.places 5 (lit< tt)) c.of-layouts.ensures.imports)))
+at-requires-6 c = (
+  lit< tt,
+  (
+    lit< tt,
+    (
+      c.stream_bytes-stream.ensures.short,
+      table_fits c.in_ok-header.header.sizes c.stream_bytes-stream.result.now 5 53 import_columns c.of-layouts.result.imports
+          (slice_index c.in_ok-places.places 5) refl (c.in_ok-places.ensures.places 5 (lit< tt)) c.of-layouts.ensures.imports,
+    ),
+  ),
+)
 
 pub at-requires-7 : goal.at-requires-7
-at-requires-7 c = (lit< tt, (lit< tt, (c.stream_bytes-stream.ensures.short, table_fits c.in_ok-header.header.sizes c.stream_bytes-stream.result.now 6 54 machine_columns c.of-layouts.result.machines (slice_index c.in_ok-places.places 6) refl (c.in_ok-places.ensures.places 6 (lit< tt)) c.of-layouts.ensures.machines)))
+at-requires-7 c = (
+  lit< tt,
+  (
+    lit< tt,
+    (
+      c.stream_bytes-stream.ensures.short,
+      table_fits c.in_ok-header.header.sizes c.stream_bytes-stream.result.now 6 54 machine_columns c.of-layouts.result.machines
+          (slice_index c.in_ok-places.places 6) refl (c.in_ok-places.ensures.places 6 (lit< tt)) c.of-layouts.ensures.machines,
+    ),
+  ),
+)
 
 pub at-requires-8 : goal.at-requires-8
-at-requires-8 c = (lit< tt, (lit< tt, (c.stream_bytes-stream.ensures.short, table_fits c.in_ok-header.header.sizes c.stream_bytes-stream.result.now 7 55 custom_columns c.of-layouts.result.customs (slice_index c.in_ok-places.places 7) refl (c.in_ok-places.ensures.places 7 (lit< tt)) c.of-layouts.ensures.customs)))
+at-requires-8 c = (
+  lit< tt,
+  (
+    lit< tt,
+    (
+      c.stream_bytes-stream.ensures.short,
+      table_fits c.in_ok-header.header.sizes c.stream_bytes-stream.result.now 7 55 custom_columns c.of-layouts.result.customs
+          (slice_index c.in_ok-places.places 7) refl (c.in_ok-places.ensures.places 7 (lit< tt)) c.of-layouts.ensures.customs,
+    ),
+  ),
+)
 
 pub invariant_of-result : goal.invariant_of-result
 invariant_of-result c =
@@ -61,9 +144,14 @@ invariant_of-result c =
     let sized = c.in_ok-header.ensures.sizes in
     let variables = c.at-4.ensures.widths ∙ c.of-layouts.ensures.variables in
     record {
-      short_heaps = (omega (arith, ap length c.new.ensures, c.stream_bytes.ensures.short), omega (arith, ap length c.new-2.ensures, c.stream_bytes-2.ensures.short), omega (arith, ap length c.new-3.ensures, c.stream_bytes-3.ensures.short));
+      short_heaps = (
+        omega (arith, ap length c.new.ensures, c.stream_bytes.ensures.short),
+        omega (arith, ap length c.new-2.ensures, c.stream_bytes-2.ensures.short),
+        omega (arith, ap length c.new-3.ensures, c.stream_bytes-3.ensures.short),
+      );
       entries = ap (λ sizes. length sizes.rows) sized ∙ length-map-range_with_len (count_in head stream) 0 64;
-      small = λ table. subst (λ sizes. slice_index sizes.rows table ≤ 16777215) (sym sized) (small_counts head (bytes_of c.args.root.now Pdb) stream c.requires.judged c.requires.head c.in_ok-header.ensures.few table);
+      small = λ table. subst (λ sizes. slice_index sizes.rows table ≤ 16777215) (sym sized)
+          (small_counts head (bytes_of c.args.root.now Pdb) stream c.requires.judged c.requires.head c.in_ok-header.ensures.few table);
       document_count = c.at.ensures.rows;
       method_count = c.at-2.ensures.rows;
       scope_count = c.at-3.ensures.rows;
@@ -86,11 +174,27 @@ returns-clause-tables c =
     let places = c.in_ok-places.ensures.places in
     same_tables _ _ (ap (λ z. z.rows) (sized ∙ ap (sizes_in head) same))
     (c.new.ensures ∙ c.stream_bytes.ensures.bytes) (c.new-2.ensures ∙ c.stream_bytes-2.ensures.bytes) (c.new-3.ensures ∙ c.stream_bytes-3.ensures.bytes)
-    (table_read document_row head sizes stream whole 48 document_columns (slice_index c.in_ok-places.places 0) (slice_index sizes.rows 48) c.of-layouts.result.documents c.at.result sized same c.at.ensures refl c.of-layouts.ensures.documents (places 0 (lit< tt)).begins)
-    (table_read method_row head sizes stream whole 49 method_columns (slice_index c.in_ok-places.places 1) (slice_index sizes.rows 49) c.of-layouts.result.methods c.at-2.result sized same c.at-2.ensures refl c.of-layouts.ensures.methods (places 1 (lit< tt)).begins)
-    (table_read scope_row head sizes stream whole 50 scope_columns (slice_index c.in_ok-places.places 2) (slice_index sizes.rows 50) c.of-layouts.result.scopes c.at-3.result sized same c.at-3.ensures refl c.of-layouts.ensures.scopes (places 2 (lit< tt)).begins)
-    (table_read variable_row head sizes stream whole 51 variable_columns (slice_index c.in_ok-places.places 3) (slice_index sizes.rows 51) c.of-layouts.result.variables c.at-4.result sized same c.at-4.ensures refl c.of-layouts.ensures.variables (places 3 (lit< tt)).begins)
-    (table_read constant_row head sizes stream whole 52 constant_columns (slice_index c.in_ok-places.places 4) (slice_index sizes.rows 52) c.of-layouts.result.constants c.at-5.result sized same c.at-5.ensures refl c.of-layouts.ensures.constants (places 4 (lit< tt)).begins)
-    (table_read import_row head sizes stream whole 53 import_columns (slice_index c.in_ok-places.places 5) (slice_index sizes.rows 53) c.of-layouts.result.imports c.at-6.result sized same c.at-6.ensures refl c.of-layouts.ensures.imports (places 5 (lit< tt)).begins)
-    (table_read machine_row head sizes stream whole 54 machine_columns (slice_index c.in_ok-places.places 6) (slice_index sizes.rows 54) c.of-layouts.result.machines c.at-7.result sized same c.at-7.ensures refl c.of-layouts.ensures.machines (places 6 (lit< tt)).begins)
-    (table_read custom_row head sizes stream whole 55 custom_columns (slice_index c.in_ok-places.places 7) (slice_index sizes.rows 55) c.of-layouts.result.customs c.at-8.result sized same c.at-8.ensures refl c.of-layouts.ensures.customs (places 7 (lit< tt)).begins)
+    (table_read document_row head sizes stream whole 48 document_columns (slice_index c.in_ok-places.places 0)
+    (slice_index sizes.rows 48) c.of-layouts.result.documents c.at.result sized same c.at.ensures refl c.of-layouts.ensures.documents
+    (places 0 (lit< tt)).begins)
+    (table_read method_row head sizes stream whole 49 method_columns (slice_index c.in_ok-places.places 1)
+    (slice_index sizes.rows 49) c.of-layouts.result.methods c.at-2.result sized same c.at-2.ensures refl c.of-layouts.ensures.methods
+    (places 1 (lit< tt)).begins)
+    (table_read scope_row head sizes stream whole 50 scope_columns (slice_index c.in_ok-places.places 2)
+    (slice_index sizes.rows 50) c.of-layouts.result.scopes c.at-3.result sized same c.at-3.ensures refl c.of-layouts.ensures.scopes
+    (places 2 (lit< tt)).begins)
+    (table_read variable_row head sizes stream whole 51 variable_columns (slice_index c.in_ok-places.places 3)
+    (slice_index sizes.rows 51) c.of-layouts.result.variables c.at-4.result sized same c.at-4.ensures refl c.of-layouts.ensures.variables
+    (places 3 (lit< tt)).begins)
+    (table_read constant_row head sizes stream whole 52 constant_columns (slice_index c.in_ok-places.places 4)
+    (slice_index sizes.rows 52) c.of-layouts.result.constants c.at-5.result sized same c.at-5.ensures refl c.of-layouts.ensures.constants
+    (places 4 (lit< tt)).begins)
+    (table_read import_row head sizes stream whole 53 import_columns (slice_index c.in_ok-places.places 5)
+    (slice_index sizes.rows 53) c.of-layouts.result.imports c.at-6.result sized same c.at-6.ensures refl c.of-layouts.ensures.imports
+    (places 5 (lit< tt)).begins)
+    (table_read machine_row head sizes stream whole 54 machine_columns (slice_index c.in_ok-places.places 6)
+    (slice_index sizes.rows 54) c.of-layouts.result.machines c.at-7.result sized same c.at-7.ensures refl c.of-layouts.ensures.machines
+    (places 6 (lit< tt)).begins)
+    (table_read custom_row head sizes stream whole 55 custom_columns (slice_index c.in_ok-places.places 7)
+    (slice_index sizes.rows 55) c.of-layouts.result.customs c.at-8.result sized same c.at-8.ensures refl c.of-layouts.ensures.customs
+    (places 7 (lit< tt)).begins)

@@ -18,7 +18,8 @@ returns-in-Err-read_head-clause-first g c =
 
 pub returns-in-Err-read_tables-clause-first : goal.returns-in-Err-read_tables-clause-first
 returns-in-Err-read_tables-clause-first g c =
-    tables_first c.args.bytes.now c.in-Ok.root c.in-Ok.ensures.accepted c.in-Ok.ensures.streams c.in-Ok-read_head.head c.in-Ok-read_head.ensures.accepted c.in-Ok-read_head.ensures.head
+    tables_first c.args.bytes.now c.in-Ok.root c.in-Ok.ensures.accepted c.in-Ok.ensures.streams c.in-Ok-read_head.head c.in-Ok-read_head.ensures.accepted
+    c.in-Ok-read_head.ensures.head
     c.in-Err-read_tables.fault c.in-Err-read_tables.ensures.first
 
 pub invariant_of-result : goal.invariant_of-result
@@ -28,20 +29,25 @@ invariant_of-result g c =
     let raw_is = c.in-Ok-read_tables.ensures.tables in
     record {
       accepted = c.in-Ok-judge_all.ensures.accepted;
-      entry = subst (λ (r : RawTables). c.in-Ok-read_head.head.entry ≤ count r 0x06) (sym raw_is) (entry_within pdb c.in-Ok-read_head.head is c.in-Ok.root c.in-Ok-read_head.ensures.accepted);
-      methods = subst (λ (r : RawTables). count r 0x31 ≢ 0 → count r 0x31 ≡ count r 0x06) (sym raw_is) (methods_fit c.in-Ok.root c.in-Ok-read_head.head c.in-Ok-read_tables.ensures.accepted);
-      rows = λ table lt. subst (λ (r : RawTables). slice_index c.in-Ok-read_head.head.rows table ≡ count r table) (sym raw_is) (rows_are pdb c.in-Ok-read_head.head is c.in-Ok.root table lt);
+      entry = subst (λ (r : RawTables). c.in-Ok-read_head.head.entry ≤ count r 0x06) (sym raw_is)
+          (entry_within pdb c.in-Ok-read_head.head is c.in-Ok.root c.in-Ok-read_head.ensures.accepted);
+      methods = subst (λ (r : RawTables). count r 0x31 ≢ 0 → count r 0x31 ≡ count r 0x06) (sym raw_is)
+          (methods_fit c.in-Ok.root c.in-Ok-read_head.head c.in-Ok-read_tables.ensures.accepted);
+      rows = λ table lt. subst (λ (r : RawTables). slice_index c.in-Ok-read_head.head.rows table ≡ count r table) (sym raw_is)
+          (rows_are pdb c.in-Ok-read_head.head is c.in-Ok.root table lt);
     }
 
 pub returns-in-Ok-judge_all-clause-accepted : goal.returns-in-Ok-judge_all-clause-accepted
 returns-in-Ok-judge_all-clause-accepted g c =
-    all_accepted c.args.bytes.now c.in-Ok.root c.in-Ok.ensures.accepted c.in-Ok.ensures.streams c.in-Ok-read_head.head c.in-Ok-read_head.ensures.accepted c.in-Ok-read_head.ensures.head
+    all_accepted c.args.bytes.now c.in-Ok.root c.in-Ok.ensures.accepted c.in-Ok.ensures.streams c.in-Ok-read_head.head c.in-Ok-read_head.ensures.accepted
+    c.in-Ok-read_head.ensures.head
     (raw_of c.in-Ok-read_tables.tables) c.in-Ok-read_tables.ensures.accepted c.in-Ok-read_tables.ensures.tables c.in-Ok-judge_all.ensures.accepted
 
 pub returns-in-Ok-judge_all-clause-file : goal.returns-in-Ok-judge_all-clause-file
 returns-in-Ok-judge_all-clause-file g c =
     let is = c.in-Ok-read_head.ensures.head in
-    let same = same_tables c.args.bytes.now c.in-Ok.root c.in-Ok.ensures.accepted c.in-Ok.ensures.streams c.in-Ok-read_head.head c.in-Ok-read_head.ensures.accepted is
+    let same =
+    same_tables c.args.bytes.now c.in-Ok.root c.in-Ok.ensures.accepted c.in-Ok.ensures.streams c.in-Ok-read_head.head c.in-Ok-read_head.ensures.accepted is
     (raw_of c.in-Ok-read_tables.tables) c.in-Ok-read_tables.ensures.accepted c.in-Ok-read_tables.ensures.tables in
     record {
       streams = c.in-Ok.root;
@@ -54,6 +60,7 @@ returns-in-Ok-judge_all-clause-file g c =
 pub returns-in-Err-judge_all-clause-first : goal.returns-in-Err-judge_all-clause-first
 returns-in-Err-judge_all-clause-first g c =
     fault_is (IsFirst (BadRows (raw_of c.in-Ok-read_tables.tables))) (IsFirst (BadFile c.args.bytes.now))
-    (λ f first. rows_first c.args.bytes.now c.in-Ok.root c.in-Ok.ensures.accepted c.in-Ok.ensures.streams c.in-Ok-read_head.head c.in-Ok-read_head.ensures.accepted c.in-Ok-read_head.ensures.head
+    (λ f first. rows_first c.args.bytes.now c.in-Ok.root c.in-Ok.ensures.accepted c.in-Ok.ensures.streams c.in-Ok-read_head.head
+    c.in-Ok-read_head.ensures.accepted c.in-Ok-read_head.ensures.head
     (raw_of c.in-Ok-read_tables.tables) c.in-Ok-read_tables.ensures.accepted c.in-Ok-read_tables.ensures.tables f first)
     c.in-Err-judge_all.error c.in-Err-judge_all.ensures.first

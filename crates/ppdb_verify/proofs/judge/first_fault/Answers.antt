@@ -10,11 +10,15 @@ use Rattle.ppdb_verify.proofs.judge.first_fault.Goals as goal
 
 pub returns-then-comes_before : goal.returns-then-comes_before
 returns-then-comes_before g c =
-    row_is_earlier (raw_of c.args.tables.now) c.args.over c.in-Err-Fault.fault c.requires (subst (λ (e : VerifyError). FaultIs (IsFirst (BadRow (raw_of c.args.tables.now))) e) c.in-Err-Fault.field-0-is c.in-Err-Fault.ensures.err) (c.if-comes_before.ensures.0 refl)
+    row_is_earlier (raw_of c.args.tables.now) c.args.over c.in-Err-Fault.fault c.requires
+    (subst (λ (e : VerifyError). FaultIs (IsFirst (BadRow (raw_of c.args.tables.now))) e) c.in-Err-Fault.field-0-is c.in-Err-Fault.ensures.err)
+    (c.if-comes_before.ensures.0 refl)
 
 pub returns-in-Ok : goal.returns-in-Ok
 returns-in-Ok g c = span_is_first (raw_of c.args.tables.now) c.args.over c.requires c.in-Ok.ensures.ok
 
 pub returns-else-comes_before : goal.returns-else-comes_before
 returns-else-comes_before g c =
-    span_is_earlier (raw_of c.args.tables.now) c.args.over c.in-Err-Fault.fault c.requires (subst (λ (e : VerifyError). FaultIs (IsFirst (BadRow (raw_of c.args.tables.now))) e) c.in-Err-Fault.field-0-is c.in-Err-Fault.ensures.err) (λ early. false≢true (c.if-comes_before.ensures.1 early))
+    span_is_earlier (raw_of c.args.tables.now) c.args.over c.in-Err-Fault.fault c.requires
+    (subst (λ (e : VerifyError). FaultIs (IsFirst (BadRow (raw_of c.args.tables.now))) e) c.in-Err-Fault.field-0-is c.in-Err-Fault.ensures.err)
+    (λ early. false≢true (c.if-comes_before.ensures.1 early))

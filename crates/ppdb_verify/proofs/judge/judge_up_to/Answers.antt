@@ -17,5 +17,6 @@ pub returns-clause-ok : goal.returns-clause-ok
 returns-clause-ok g c code at bad early =
     let over = span_place (raw_of c.args.tables.now) c.shape.ensures c.args.over.now.code c.args.over.now.place c.requires.bad in
     c.in_ok-judge_rows_to.ensures.ok code at bad
-    (comes_before_trans (numbers code at) (numbers c.args.over.now.code c.args.over.now.place) (5 ∷ c.args.over.now.place.table ∷ (c.args.over.now.place.row + 1) ∷ []) early
+    (comes_before_trans (numbers code at) (numbers c.args.over.now.code c.args.over.now.place)
+    (5 ∷ c.args.over.now.place.table ∷ (c.args.over.now.place.row + 1) ∷ []) early
     (inr (over.part, inr (refl, inl (omega arith)))))

@@ -18,22 +18,26 @@ loop-next-init c = record {
 
 pub returns-in-Err-clause-sum : goal.returns-in-Err-clause-sum
 returns-in-Err-clause-sum c =
-    walk-over text_index (blobs_of c.args.blobs) 0x35 c.args.row 1 c.args.total c.loop-next.sum (import_indexes c.args.limits (blob_at (blobs_of c.args.blobs)) c.args.content.now) c.loop-next.fields c.loop-next.invariant.rest c.in-Some.field
+    walk-over text_index (blobs_of c.args.blobs) 0x35 c.args.row 1 c.args.total c.loop-next.sum
+    (import_indexes c.args.limits (blob_at (blobs_of c.args.blobs)) c.args.content.now) c.loop-next.fields c.loop-next.invariant.rest c.in-Some.field
     (rw c.in-Some.is at c.in-Ok.ensures.answer) c.in-Err.fault c.in-Err.ensures.sum
 
 pub loop-next-preserved : goal.loop-next-preserved
 loop-next-preserved c = record {
-  rest = rw c.in-Ok.ensures.left (walk-next text_index (blobs_of c.args.blobs) 0x35 c.args.row 1 c.args.total c.loop-next.sum (import_indexes c.args.limits (blob_at (blobs_of c.args.blobs)) c.args.content.now) c.loop-next.fields c.loop-next.invariant.rest c.in-Some.field
+  rest = rw c.in-Ok.ensures.left (walk-next text_index (blobs_of c.args.blobs) 0x35 c.args.row 1 c.args.total c.loop-next.sum
+      (import_indexes c.args.limits (blob_at (blobs_of c.args.blobs)) c.args.content.now) c.loop-next.fields c.loop-next.invariant.rest c.in-Some.field
       (rw c.in-Some.is at c.in-Ok.ensures.answer) c.in-Ok-add_field.after c.in-Ok-add_field.ensures.sum);
   within = c.in-Ok-add_field.ensures.within;
 }
 
 pub returns-in_default-next-clause-sum : goal.returns-in_default-next-clause-sum
 returns-in_default-next-clause-sum c =
-    walk-done text_index (blobs_of c.args.blobs) 0x35 c.args.row 1 c.args.total c.loop-next.sum (import_indexes c.args.limits (blob_at (blobs_of c.args.blobs)) c.args.content.now) c.loop-next.fields c.loop-next.invariant.rest
+    walk-done text_index (blobs_of c.args.blobs) 0x35 c.args.row 1 c.args.total c.loop-next.sum
+    (import_indexes c.args.limits (blob_at (blobs_of c.args.blobs)) c.args.content.now) c.loop-next.fields c.loop-next.invariant.rest
     (no_items c.loop-next.fields.items c.loop-next.fields.fault (rw c.in_default-next.is at c.in-Ok.ensures.answer))
 
 pub returns-clause-sum : goal.returns-clause-sum
 returns-clause-sum c =
-    walk-done text_index (blobs_of c.args.blobs) 0x35 c.args.row 1 c.args.total c.loop-next.sum (import_indexes c.args.limits (blob_at (blobs_of c.args.blobs)) c.args.content.now) c.loop-next.fields c.loop-next.invariant.rest
+    walk-done text_index (blobs_of c.args.blobs) 0x35 c.args.row 1 c.args.total c.loop-next.sum
+    (import_indexes c.args.limits (blob_at (blobs_of c.args.blobs)) c.args.content.now) c.loop-next.fields c.loop-next.invariant.rest
     (bad_items c.loop-next.fields.items c.loop-next.fields.fault c.in_default.field-0 c.in_default.ensures.answer)

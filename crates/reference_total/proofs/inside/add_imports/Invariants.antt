@@ -8,7 +8,8 @@ use Rattle.reference_total.proofs.inside.add_imports.Given as goal
 
 abbrev pub invariant-loop-next : goal.invariant-loop-next
 invariant-loop-next l = record {
-  rest : GoesOn text_index (blobs_of l.fn.blobs) 0x35 l.fn.row 1 l.fn.total l.sum (import_indexes l.fn.limits (blob_at (blobs_of l.fn.blobs)) l.fn.content) l.fields;
+  rest : GoesOn text_index (blobs_of l.fn.blobs) 0x35 l.fn.row 1 l.fn.total l.sum (import_indexes l.fn.limits (blob_at (blobs_of l.fn.blobs)) l.fn.content)
+      l.fields;
   within : l.sum ≤ most_bytes;
 }
 

@@ -16,27 +16,35 @@ add_row-requires-clause-within g c = c.loop-row.invariant.within
 
 pub returns-in-Err-clause-sum : goal.returns-in-Err-clause-sum
 returns-in-Err-clause-sum g c =
-    let len : length (rows_of (raw_of c.args.tables.now) c.args.table) ≡ c.rows-count.result = rows_are (raw_of c.args.tables.now) c.shape.ensures c.args.table ∙ sym (c.rows-count.ensures ∙ ap (count (raw_of c.args.tables.now)) c.number_of.ensures) in
-    let here = row_there (rows_of (raw_of c.args.tables.now) c.args.table) c.loop-row.row (omega (arith, c.loop-row.auto.row)) (omega (arith, len, c.loop-row-test.true)) in
+    let len : length (rows_of (raw_of c.args.tables.now) c.args.table) ≡ c.rows-count.result = rows_are (raw_of c.args.tables.now) c.shape.ensures c.args.table
+    ∙ sym (c.rows-count.ensures ∙ ap (count (raw_of c.args.tables.now)) c.number_of.ensures) in
+    let here = row_there (rows_of (raw_of c.args.tables.now) c.args.table) c.loop-row.row (omega (arith, c.loop-row.auto.row))
+    (omega (arith, len, c.loop-row-test.true)) in
     let more = row_and_rest c.loop-row.row (rows_of (raw_of c.args.tables.now) c.args.table) here.0 here.1 in
-    sum-past c.args.total c.loop-row.sum (of_table (raw_of c.args.tables.now) c.args.table) here.0 (from_row (c.loop-row.row + 1) (rows_of (raw_of c.args.tables.now) c.args.table)) c.in-Err.fault
+    sum-past c.args.total c.loop-row.sum (of_table (raw_of c.args.tables.now) c.args.table) here.0 (from_row (c.loop-row.row + 1)
+    (rows_of (raw_of c.args.tables.now) c.args.table)) c.in-Err.fault
     (c.loop-row.invariant.left ∙ ap (spanned c.loop-row.sum) more) (c.in-Err.ensures.sum here.0 here.1)
 
 pub loop-row-preserved : goal.loop-row-preserved
 loop-row-preserved g c =
-    let len : length (rows_of (raw_of c.args.tables.now) c.args.table) ≡ c.rows-count.result = rows_are (raw_of c.args.tables.now) c.shape.ensures c.args.table ∙ sym (c.rows-count.ensures ∙ ap (count (raw_of c.args.tables.now)) c.number_of.ensures) in
-    let here = row_there (rows_of (raw_of c.args.tables.now) c.args.table) c.loop-row.row (omega (arith, c.loop-row.auto.row)) (omega (arith, len, c.loop-row-test.true)) in
+    let len : length (rows_of (raw_of c.args.tables.now) c.args.table) ≡ c.rows-count.result = rows_are (raw_of c.args.tables.now) c.shape.ensures c.args.table
+    ∙ sym (c.rows-count.ensures ∙ ap (count (raw_of c.args.tables.now)) c.number_of.ensures) in
+    let here = row_there (rows_of (raw_of c.args.tables.now) c.args.table) c.loop-row.row (omega (arith, c.loop-row.auto.row))
+    (omega (arith, len, c.loop-row-test.true)) in
     let more = row_and_rest c.loop-row.row (rows_of (raw_of c.args.tables.now) c.args.table) here.0 here.1 in
     record {
-      left = sum-few c.args.total c.loop-row.sum (of_table (raw_of c.args.tables.now) c.args.table) here.0 (from_row (c.loop-row.row + 1) (rows_of (raw_of c.args.tables.now) c.args.table)) c.in-Ok.after
+      left = sum-few c.args.total c.loop-row.sum (of_table (raw_of c.args.tables.now) c.args.table) here.0 (from_row (c.loop-row.row + 1)
+          (rows_of (raw_of c.args.tables.now) c.args.table)) c.in-Ok.after
           (c.loop-row.invariant.left ∙ ap (spanned c.loop-row.sum) more) (c.in-Ok.ensures.sum here.0 here.1);
       within = c.in-Ok.ensures.within;
     }
 
 pub returns-clause-sum : goal.returns-clause-sum
 returns-clause-sum g c =
-    let len : length (rows_of (raw_of c.args.tables.now) c.args.table) ≡ c.rows-count.result = rows_are (raw_of c.args.tables.now) c.shape.ensures c.args.table ∙ sym (c.rows-count.ensures ∙ ap (count (raw_of c.args.tables.now)) c.number_of.ensures) in
-    sum-none c.args.total c.loop-row.sum (of_table (raw_of c.args.tables.now) c.args.table) (from_row c.loop-row.row (rows_of (raw_of c.args.tables.now) c.args.table)) c.loop-row.invariant.left
+    let len : length (rows_of (raw_of c.args.tables.now) c.args.table) ≡ c.rows-count.result = rows_are (raw_of c.args.tables.now) c.shape.ensures c.args.table
+    ∙ sym (c.rows-count.ensures ∙ ap (count (raw_of c.args.tables.now)) c.number_of.ensures) in
+    sum-none c.args.total c.loop-row.sum (of_table (raw_of c.args.tables.now) c.args.table)
+    (from_row c.loop-row.row (rows_of (raw_of c.args.tables.now) c.args.table)) c.loop-row.invariant.left
     (no_rest c.loop-row.row (rows_of (raw_of c.args.tables.now) c.args.table) (omega (arith, len, c.loop-row-test.false)))
 
 pub returns-clause-within : goal.returns-clause-within

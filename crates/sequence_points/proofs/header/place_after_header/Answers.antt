@@ -10,11 +10,18 @@ returns-then-column-ne0 c = (λ s. given_document c.args.column c.args.limits c.
 pub returns-in_err-row : goal.returns-in_err-row
 returns-in_err-row c =
     let p = err_from_is_err_and c.from_residual.result c.from_residual.ensures.1 in
-    rw (p.1, p.2) (λ s. row_none c.args.column c.args.limits c.args.blob.now c.args.at s c.in_err-row.field-0.0 c.if-column-ne0.false (sym c.in_err-row.ensures.found))
+    rw (p.1, p.2) (λ s. row_none c.args.column c.args.limits c.args.blob.now c.args.at s c.in_err-row.field-0.0 c.if-column-ne0.false
+    (sym c.in_err-row.ensures.found))
 
 pub returns-then-not-is_row : goal.returns-then-not-is_row
 returns-then-not-is_row c = λ s.
-    row_out c.args.column c.args.limits c.args.blob.now c.args.at s c.in_ok-row.row c.in_ok-row.len c.if-column-ne0.false (sym c.in_ok-row.ensures.found) (sym c.if-not-is_row.ensures) ∙ ap (λ f. nothing_left (Some f)) (sym c.out_of_range.ensures)
+    row_out c.args.column c.args.limits c.args.blob.now c.args.at s c.in_ok-row.row c.in_ok-row.len c.if-column-ne0.false (sym c.in_ok-row.ensures.found)
+    (sym c.if-not-is_row.ensures) ∙ ap (λ f. nothing_left (Some f)) (sym c.out_of_range.ensures)
 
 pub returns : goal.returns
-returns c = (λ s. row_in c.args.column c.args.limits c.args.blob.now c.args.at s c.in_ok-row.row c.in_ok-row.len c.if-column-ne0.false (sym c.in_ok-row.ensures.found) (sym c.if-not-is_row.ensures), refl, c.in_ok-row.ensures.within)
+returns c = (
+  λ s. row_in c.args.column c.args.limits c.args.blob.now c.args.at s c.in_ok-row.row c.in_ok-row.len c.if-column-ne0.false
+      (sym c.in_ok-row.ensures.found) (sym c.if-not-is_row.ensures),
+  refl,
+  c.in_ok-row.ensures.within,
+)

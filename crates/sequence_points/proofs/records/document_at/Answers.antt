@@ -12,11 +12,13 @@ returns-in_err-row c =
 
 pub returns-then-not-is_row : goal.returns-then-not-is_row
 returns-then-not-is_row c =
-    row_out c.args.limits c.args.blob.now c.args.place c.args.at c.in_ok-row.row c.in_ok-row.len c.requires.later (sym c.in_ok-row.ensures.found) (sym c.if-not-is_row.ensures) ∙ ap (λ f. no_points (Some f)) (sym c.out_of_range.ensures)
+    row_out c.args.limits c.args.blob.now c.args.place c.args.at c.in_ok-row.row c.in_ok-row.len c.requires.later (sym c.in_ok-row.ensures.found)
+    (sym c.if-not-is_row.ensures) ∙ ap (λ f. no_points (Some f)) (sym c.out_of_range.ensures)
 
 pub returns : goal.returns
 returns c = (
-  row_in c.args.limits c.args.blob.now c.args.place c.args.at c.in_ok-row.row c.in_ok-row.len c.requires.later (sym c.in_ok-row.ensures.found) (sym c.if-not-is_row.ensures),
+  row_in c.args.limits c.args.blob.now c.args.place c.args.at c.in_ok-row.row c.in_ok-row.len c.requires.later (sym c.in_ok-row.ensures.found)
+      (sym c.if-not-is_row.ensures),
   omega arith,
   c.in_ok-row.ensures.within,
   same_row c.in_ok-row.row c.args.place.document c.args.place.last,

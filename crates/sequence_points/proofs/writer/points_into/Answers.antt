@@ -8,4 +8,5 @@ first_large_step-requires c = few_points c.args.points.now c.requires.offsets c.
 
 pub blob_into-requires-clause-follow : goal.blob_into-requires-clause-follow
 blob_into-requires-clause-follow c =
-    each_follows c.args.points.now c.requires.offsets c.requires.documents c.requires.spans c.requires.rise (no_first (large_steps [] c.args.points.now) (sym c.first_large_step.ensures ∙ c.in_default.is))
+    each_follows c.args.points.now c.requires.offsets c.requires.documents c.requires.spans c.requires.rise (no_first (large_steps [] c.args.points.now)
+    (sym c.first_large_step.ensures ∙ c.in_default.is))

@@ -9,13 +9,21 @@ returns-in_default c = body_next c.args.limits c.args.blob.now c.args.at (nothin
 
 pub returns-then-not-is_modifier : goal.returns-then-not-is_modifier
 returns-then-not-is_modifier c =
-    body_next c.args.limits c.args.blob.now c.args.at (no_modifier c.args.limits c.args.blob.now c.args.at c.in-Some.code.now (byte_there c.args.limits c.args.blob.now c.args.at c.in-Some.code.now c.in-Some.ensures.lookup.3.0 (c.in-Some.ensures.lookup.3.1 0)) (sym c.if-not-is_modifier.ensures))
+    body_next c.args.limits c.args.blob.now c.args.at (no_modifier c.args.limits c.args.blob.now c.args.at c.in-Some.code.now
+    (byte_there c.args.limits c.args.blob.now c.args.at c.in-Some.code.now c.in-Some.ensures.lookup.3.0 (c.in-Some.ensures.lookup.3.1 0))
+    (sym c.if-not-is_modifier.ensures))
 
 pub returns-in_err-target : goal.returns-in_err-target
 returns-in_err-target c =
     let p = err_from_is_err_and c.from_residual.result c.from_residual.ensures.1 in
-    rw (p.1, p.2) (no_type c.args.limits c.args.blob.now c.args.at c.in-Some.code.now c.in_err-target.field-0.0 (byte_there c.args.limits c.args.blob.now c.args.at c.in-Some.code.now c.in-Some.ensures.lookup.3.0 (c.in-Some.ensures.lookup.3.1 0)) (sym c.if-not-is_modifier.ensures) (sym c.in_err-target.ensures.found))
+    rw (p.1, p.2) (no_type c.args.limits c.args.blob.now c.args.at c.in-Some.code.now c.in_err-target.field-0.0
+    (byte_there c.args.limits c.args.blob.now c.args.at c.in-Some.code.now c.in-Some.ensures.lookup.3.0 (c.in-Some.ensures.lookup.3.1 0))
+    (sym c.if-not-is_modifier.ensures) (sym c.in_err-target.ensures.found))
 
 pub returns : goal.returns
-returns c =
-    (a_modifier c.args.limits c.args.blob.now c.args.at c.in-Some.code.now c.in_ok-target.target c.in_ok-target.end (byte_there c.args.limits c.args.blob.now c.args.at c.in-Some.code.now c.in-Some.ensures.lookup.3.0 (c.in-Some.ensures.lookup.3.1 0)) (sym c.if-not-is_modifier.ensures) (sym c.in_ok-target.ensures.found), c.in_ok-target.ensures.within)
+returns c = (
+  a_modifier c.args.limits c.args.blob.now c.args.at c.in-Some.code.now c.in_ok-target.target c.in_ok-target.end
+      (byte_there c.args.limits c.args.blob.now c.args.at c.in-Some.code.now c.in-Some.ensures.lookup.3.0 (c.in-Some.ensures.lookup.3.1 0))
+      (sym c.if-not-is_modifier.ensures) (sym c.in_ok-target.ensures.found),
+  c.in_ok-target.ensures.within,
+)

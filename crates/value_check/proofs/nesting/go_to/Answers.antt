@@ -17,7 +17,8 @@ returns c =
     let opened = from_open c.args.scopes.now (c.args.place - 1) below c.index-scopes-place.result c.index-scopes-place.is c.args.ends.now.items c.args.place
     (was_open c.args.scopes.now c.args.place c.args.ends.now.items some c.requires.opened) in
     rw c.close.ensures.kept
-    (is_open c.args.scopes.now c.args.place c.requires.within c.index-scopes-place-2.result c.index-scopes-place-2.is (take (vec_len c.close.new.ends) c.args.ends.now.items) c.args.place
+    (is_open c.args.scopes.now c.args.place c.requires.within c.index-scopes-place-2.result c.index-scopes-place-2.is
+    (take (vec_len c.close.new.ends) c.args.ends.now.items) c.args.place
     (at_same_method c.args.scopes.now c.args.place c.requires.within c.index-scopes-place-2.result c.index-scopes-place-2.is c.requires.ordered some
     c.index-scopes-place.result c.index-scopes-place.is (vec_len c.close.new.ends) c.args.ends.now.items c.if-last-scope.false opened
     c.close.ensures.shorter c.close.ensures.closed (rw c.close.ensures.kept at c.close.ensures.last)))

@@ -4,7 +4,8 @@ use Rattle.value_check.proofs.part.all_sound.Goals as goal
 
 pub returns-then-not-is_sound-clause-rows : goal.returns-then-not-is_sound-clause-rows
 returns-then-not-is_sound-clause-rows g c =
-    answers (says_no (not_all (g.T.Part.sound c.args.counted.now) c.args.parts.now c.loop-part.part-index c.part-item.result c.loop-part-test.true c.part-item.is
+    answers (says_no (not_all (g.T.Part.sound c.args.counted.now) c.args.parts.now c.loop-part.part-index c.part-item.result c.loop-part-test.true
+    c.part-item.is
     (refuted c.is_sound.result c.is_sound.ensures c.if-not-is_sound.true))) (each_row c.args.parts.now (g.T.Part.sound c.args.counted.now))
 
 pub returns-clause-all : goal.returns-clause-all

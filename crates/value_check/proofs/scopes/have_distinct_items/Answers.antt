@@ -5,7 +5,8 @@ use Rattle.value_check.proofs.Listed.{all_taken, not_all, refuted, says_no}
 use Rattle.value_check.proofs.scopes.have_distinct_items.Goals as goal
 
 pub returns-then-not-branch : goal.returns-then-not-branch
-returns-then-not-branch c = says_no (not_all HasDistinctItems c.args.scopes.now c.loop-scope.scope-index c.scope-item.result c.loop-scope-test.true c.scope-item.is
+returns-then-not-branch c =
+    says_no (not_all HasDistinctItems c.args.scopes.now c.loop-scope.scope-index c.scope-item.result c.loop-scope-test.true c.scope-item.is
     (refuted c.in_ok-has_distinct_items.field-0 c.in_ok-has_distinct_items.ensures c.if-not-branch.true))
 
 pub loop-scope-preserved : goal.loop-scope-preserved

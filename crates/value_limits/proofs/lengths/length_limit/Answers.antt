@@ -20,11 +20,14 @@ returns c =
     let rows = first_of (filter_map (too_many_rows value) tables) in
     let variables : c.list_limit.result ≡ list_past_end value 0x33 vars =
     c.list_limit.ensures (sum_by vars value.scopes) (c.count_variables-variables.ensures ∙ ap (λ (s : List ScopeValue). told (sum_by vars s)) scopes)
-    ∙ ap (λ (b : Bool). met ((sum_by vars value.scopes == 65535) && b) (ListPastEnd 0x33 65535)) (c.last_has_no_variables.ensures ∙ ap (λ (s : List ScopeValue). owns_none vars (last_of s)) scopes) in
+    ∙ ap (λ (b : Bool). met ((sum_by vars value.scopes == 65535) && b) (ListPastEnd 0x33 65535)) (c.last_has_no_variables.ensures
+    ∙ ap (λ (s : List ScopeValue). owns_none vars (last_of s)) scopes) in
     let constants : c.list_limit-2.result ≡ list_past_end value 0x34 consts =
     c.list_limit-2.ensures (sum_by consts value.scopes) (c.count_constants-constants.ensures ∙ ap (λ (s : List ScopeValue). told (sum_by consts s)) scopes)
-    ∙ ap (λ (b : Bool). met ((sum_by consts value.scopes == 65535) && b) (ListPastEnd 0x34 65535)) (c.last_has_no_constants.ensures ∙ ap (λ (s : List ScopeValue). owns_none consts (last_of s)) scopes) in
+    ∙ ap (λ (b : Bool). met ((sum_by consts value.scopes == 65535) && b) (ListPastEnd 0x34 65535)) (c.last_has_no_constants.ensures
+    ∙ ap (λ (s : List ScopeValue). owns_none consts (last_of s)) scopes) in
     let one : c.or.result ≡ option_or rows (list_past_end value 0x33 vars) =
     c.or.ensures ∙ ap (λ (o : Option Limit). option_or o c.list_limit.result) c.too_many_rows.ensures ∙ ap (option_or rows) variables in
-    c.or-2.ensures ∙ ap (λ (o : Option Limit). option_or o c.list_limit-2.result) one ∙ ap (option_or (option_or rows (list_past_end value 0x33 vars))) constants
+    c.or-2.ensures ∙ ap (λ (o : Option Limit). option_or o c.list_limit-2.result) one
+    ∙ ap (option_or (option_or rows (list_past_end value 0x33 vars))) constants
     ∙ first_met_three rows (list_past_end value 0x33 vars) (list_past_end value 0x34 consts)

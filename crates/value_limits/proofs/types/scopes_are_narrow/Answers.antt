@@ -6,7 +6,8 @@ use Rattle.value_limits.proofs.types.scopes_are_narrow.Goals as goal
 
 pub loop-scope-preserved : goal.loop-scope-preserved
 loop-scope-preserved c =
-    all_more (λ (scope : ScopeValue). All IsNarrow scope.variables) c.args.scopes.now c.loop-scope.scope-index c.scope-item.result (omega arith) c.loop-scope.invariant
+    all_more (λ (scope : ScopeValue). All IsNarrow scope.variables) c.args.scopes.now c.loop-scope.scope-index c.scope-item.result (omega arith)
+    c.loop-scope.invariant
     (subst (λ (scope : ScopeValue). All IsNarrow scope.variables) c.scope-item.is (subst (All IsNarrow) c.as_slice.ensures c.variables_are_narrow.ensures))
 
 pub returns : goal.returns

@@ -6,7 +6,8 @@ use Rattle.verified_rows.proofs.customs.slots_of.Goals as goal
 
 pub returns-clause-slots : goal.returns-clause-slots
 returns-clause-slots c =
-    slots_begun (raw_file c.args.file.now).tables c.args.cells.now c.new.result (c.keeps.ensures.rules.customs.each c.args.row c.args.cells.now c.requires.there) c.requires.kind
+    slots_begun (raw_file c.args.file.now).tables c.args.cells.now c.new.result
+    (c.keeps.ensures.rules.customs.each c.args.row c.args.cells.now c.requires.there) c.requires.kind
     (rw c.blob.ensures.content at c.new.ensures)
 
 pub returns-clause-few : goal.returns-clause-few

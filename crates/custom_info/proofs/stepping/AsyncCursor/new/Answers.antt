@@ -9,4 +9,5 @@ returns-in_err-stored-clause-err c =
     rw (p.1, p.2) (no_handler c.args.methods c.args.blob.now c.in_err-stored.field-0.0 (sym c.in_err-stored.ensures.found))
 
 pub returns-clause-ok : goal.returns-clause-ok
-returns-clause-ok c = rw c.handler_of.ensures (a_handler c.args.methods c.args.blob.now c.in_ok-stored.stored c.in_ok-stored.at (sym c.in_ok-stored.ensures.found))
+returns-clause-ok c =
+    rw c.handler_of.ensures (a_handler c.args.methods c.args.blob.now c.in_ok-stored.stored c.in_ok-stored.at (sym c.in_ok-stored.ensures.found))

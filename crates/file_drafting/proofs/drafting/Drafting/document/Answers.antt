@@ -8,10 +8,21 @@ use Rattle.file_drafting.proofs.drafting.Drafting.document.Goals as goal
 
 pub returns : goal.returns
 returns c =
-    let before : Draft = record { texts = c.self.inside.texts; guids = c.self.inside.guids; blobs = noted_of c.self.inside.blobs; rows = c.self.inside.rows; owned = c.self.inside.owned } in
+    let before : Draft = record {
+      texts = c.self.inside.texts;
+      guids = c.self.inside.guids;
+      blobs = noted_of c.self.inside.blobs;
+      rows = c.self.inside.rows;
+      owned = c.self.inside.owned;
+    } in
     let document : DocumentValue = record { name = c.args.name.now; algorithm = c.args.algorithm; hash = c.args.hash.now; language = c.args.language } in
-    let row : DocumentRow = record { name = c.in_ok-name.name; algorithm = c.in_ok-algorithm.algorithm; hash = c.in_ok-hash.hash; language = c.in_ok-language.language } in
-    ap (λ (rows : List DocumentRow). record before { blobs = noted_of c.note.new.self; guids = c.note_guid-2.new.guids; rows = record before.rows { documents = rows } }) c.in_ok-push.ensures.ok
+    let row : DocumentRow =
+    record { name = c.in_ok-name.name; algorithm = c.in_ok-algorithm.algorithm; hash = c.in_ok-hash.hash; language = c.in_ok-language.language } in
+    ap (λ (rows : List DocumentRow). record before {
+      blobs = noted_of c.note.new.self;
+      guids = c.note_guid-2.new.guids;
+      rows = record before.rows { documents = rows };
+    }) c.in_ok-push.ensures.ok
     ∙ document_added before document (noted_of c.note_name.new.self) (noted_of c.note.new.self) c.note_guid.new.guids c.note_guid-2.new.guids row (record {
       named_is = c.in_ok-name.ensures.noted;
       hashed_is = c.in_ok-hash.ensures.noted;

@@ -11,10 +11,18 @@ use Rattle.file_drafting.proofs.drafting.Drafting.heap_lens.Goals as goal
 
 pub returns : goal.returns
 returns c =
-    let draft : Draft = record { texts = c.self.inside.texts; guids = c.self.inside.guids; blobs = noted_of c.self.inside.blobs; rows = c.self.inside.rows; owned = c.self.inside.owned } in
+    let draft : Draft = record {
+      texts = c.self.inside.texts;
+      guids = c.self.inside.guids;
+      blobs = noted_of c.self.inside.blobs;
+      rows = c.self.inside.rows;
+      owned = c.self.inside.owned;
+    } in
     let told = told_lens (heap_lens_of draft) in
-    let texts : c.padded_len.result ≡ told.texts = padded_len_is as_text draft.texts.items c.padded_len.result (c.padded_len.ensures (length_of Texts draft.texts.items) c.len.ensures) in
-    let blobs : c.padded_len-2.result ≡ told.blobs = padded_len_is as_blob draft.blobs.items c.padded_len-2.result (c.padded_len-2.ensures (length_of Blobs draft.blobs.items) c.len-3.ensures) in
+    let texts : c.padded_len.result ≡ told.texts =
+    padded_len_is as_text draft.texts.items c.padded_len.result (c.padded_len.ensures (length_of Texts draft.texts.items) c.len.ensures) in
+    let blobs : c.padded_len-2.result ≡ told.blobs =
+    padded_len_is as_blob draft.blobs.items c.padded_len-2.result (c.padded_len-2.ensures (length_of Blobs draft.blobs.items) c.len-3.ensures) in
     ap (λ (n : ℕ). record { texts = n; guids = c.len-2.result; blobs = c.padded_len-2.result }) texts
     ∙ ap (λ (n : ℕ). record { texts = told.texts; guids = n; blobs = c.padded_len-2.result }) c.len-2.ensures
     ∙ ap (λ (n : ℕ). record { texts = told.texts; guids = told.guids; blobs = n }) blobs

@@ -8,10 +8,17 @@ use Rattle.file_drafting.proofs.drafting.Drafting.import.Goals as goal
 
 pub returns : goal.returns
 returns c =
-    let before : Draft = record { texts = c.self.inside.texts; guids = c.self.inside.guids; blobs = noted_of c.self.inside.blobs; rows = c.self.inside.rows; owned = c.self.inside.owned } in
+    let before : Draft = record {
+      texts = c.self.inside.texts;
+      guids = c.self.inside.guids;
+      blobs = noted_of c.self.inside.blobs;
+      rows = c.self.inside.rows;
+      owned = c.self.inside.owned;
+    } in
     let scope : ImportScopeValue = record { parent = c.args.parent; imports = c.args.imports.now } in
     let row : ImportRow = record { parent = c.args.parent; imports = c.in_ok-imports.imports } in
-    ap (λ (rows : List ImportRow). record before { blobs = noted_of c.note_imports.new.self; rows = record before.rows { imports = rows } }) c.in_ok-push.ensures.ok
+    ap (λ (rows : List ImportRow). record before { blobs = noted_of c.note_imports.new.self; rows = record before.rows { imports = rows } })
+    c.in_ok-push.ensures.ok
     ∙ import_added before scope (noted_of c.note_imports.new.self) row c.in_ok-imports.ensures.noted
     (ap (λ (n : ℕ). record { parent = c.args.parent; imports = n }) c.in_ok-imports.ensures.index)
     ∙ ap (λ (draft : Draft). with_import draft scope) c.self.view_is

@@ -10,4 +10,5 @@ returns-in_err-start-clause-fault c =
     rw (p.1, p.2) (separator-missing (blobs_of c.args.blobs) c.args.blob.now c.in_err-start.field-0.0 c.in_err-start.ensures.missing)
 
 pub returns-clause-begun : goal.returns-clause-begun
-returns-clause-begun c = separator-there (blobs_of c.args.blobs) c.args.blob.now c.in_ok-start.field-0.now (length c.in_ok-start.field-0.now) c.in_ok-start.ensures.found
+returns-clause-begun c =
+    separator-there (blobs_of c.args.blobs) c.args.blob.now c.in_ok-start.field-0.now (length c.in_ok-start.field-0.now) c.in_ok-start.ensures.found

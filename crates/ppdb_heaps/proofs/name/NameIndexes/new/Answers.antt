@@ -15,7 +15,9 @@ returns-in_err-start-clause-fault c =
     rw (p.1, p.2) (indexes-fault (blobs_of c.args.blobs) c.args.blob.now c.in_err-start.field-0.0 c.in_err-start.ensures.missing)
 
 pub returns-clause-indexes : goal.returns-clause-indexes
-returns-clause-indexes c = indexes-there (blobs_of c.args.blobs) c.args.blob.now c.in_ok-start.field-0.now (length c.in_ok-start.field-0.now) c.in_ok-start.ensures.found
+returns-clause-indexes c =
+    indexes-there (blobs_of c.args.blobs) c.args.blob.now c.in_ok-start.field-0.now (length c.in_ok-start.field-0.now) c.in_ok-start.ensures.found
 
 pub returns-clause-end : goal.returns-clause-end
-returns-clause-end c = indexes-end (blobs_of c.args.blobs) c.args.blob.now c.in_ok-start.field-0.now (length c.in_ok-start.field-0.now) c.in_ok-start.ensures.found
+returns-clause-end c =
+    indexes-end (blobs_of c.args.blobs) c.args.blob.now c.in_ok-start.field-0.now (length c.in_ok-start.field-0.now) c.in_ok-start.ensures.found

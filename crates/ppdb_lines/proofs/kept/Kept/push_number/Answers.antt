@@ -25,4 +25,5 @@ returns c =
     let within = c.self.invariant in
     rw (← c.self.view_is)
     (digits_put c.self.inside.bytes c.write_digits.new.buf c.self.inside.len c.write_digits.result _ c.args.number
-    c.write_digits.ensures.start (ap (λ (n : ℕ). c.self.inside.len + n) c.count_digits.ensures) (omega (arith, within)) c.write_digits.ensures.written c.write_digits.ensures.before)
+    c.write_digits.ensures.start (ap (λ (n : ℕ). c.self.inside.len + n) c.count_digits.ensures)
+    (omega (arith, within)) c.write_digits.ensures.written c.write_digits.ensures.before)

@@ -5,4 +5,5 @@ use Rattle.ppdb_queries.proofs.Keys.{key_at}
 use Rattle.ppdb_queries.proofs.run.ByParentKeyedRows.key.Goals as goal
 
 pub returns-clause-key : goal.returns-clause-key
-returns-clause-key g c = sym (key_at (λ custom. custom.parent) (raw_of (tables_of c.args.self.now.file.now)).customs c.args.row c.custom.result c.custom.ensures.row)
+returns-clause-key g c =
+    sym (key_at (λ custom. custom.parent) (raw_of (tables_of c.args.self.now.file.now)).customs c.args.row c.custom.result c.custom.ensures.row)

@@ -22,7 +22,8 @@ customs-preserved g c =
       to = omega arith;
       last = c.customs.invariant.last;
       walk = walk_next _ _ _ _ _ (c.customs.row, c.custom-custom.result) _ _ _ _ _ _ c.customs.invariant.walk
-          (run_step raw.customs c.customs.row c.customs_of-run.result.end c.custom-custom.result c.custom-custom.ensures.row c.customs-test.true) c.in_ok-put_custom.ensures (omega arith);
+          (run_step raw.customs c.customs.row c.customs_of-run.result.end c.custom-custom.result c.custom-custom.ensures.row c.customs-test.true)
+          c.in_ok-put_custom.ensures (omega arith);
       later = omega arith;
     }
 

@@ -7,7 +7,8 @@ use Rattle.ppdb_show.proofs.Runs.{run_done}
 use Rattle.ppdb_show.proofs.query.items.put_constants.Goals as goal
 
 pub constants-init : goal.constants-init
-constants-init g c = record { from = c.requires.first; to = c.requires.forward; last = c.requires.last; walk = walk_none _ _ _ _ _ _ _ refl (omega arith); later = omega arith }
+constants-init g c =
+    record { from = c.requires.first; to = c.requires.forward; last = c.requires.last; walk = walk_none _ _ _ _ _ _ _ refl (omega arith); later = omega arith }
 
 pub constants-preserved : goal.constants-preserved
 constants-preserved g c =
@@ -17,7 +18,8 @@ constants-preserved g c =
       to = omega arith;
       last = c.constants.invariant.last;
       walk = walk_next _ _ _ _ _ (c.constants.row, c.constant-constant.result) _ _ _ _ _ _ c.constants.invariant.walk
-          (run_step raw.constants c.constants.row c.args.run.end c.constant-constant.result c.constant-constant.ensures.row c.constants-test.true) c.in_ok-put_constant.ensures.ok (omega arith);
+          (run_step raw.constants c.constants.row c.args.run.end c.constant-constant.result c.constant-constant.ensures.row c.constants-test.true)
+          c.in_ok-put_constant.ensures.ok (omega arith);
       later = omega arith;
     }
 

@@ -7,7 +7,8 @@ use Rattle.ppdb_show.proofs.Runs.{run_done}
 use Rattle.ppdb_show.proofs.query.items.put_variables.Goals as goal
 
 pub variables-init : goal.variables-init
-variables-init g c = record { from = c.requires.first; to = c.requires.forward; last = c.requires.last; walk = walk_none _ _ _ _ _ _ _ refl (omega arith); later = omega arith }
+variables-init g c =
+    record { from = c.requires.first; to = c.requires.forward; last = c.requires.last; walk = walk_none _ _ _ _ _ _ _ refl (omega arith); later = omega arith }
 
 pub variables-preserved : goal.variables-preserved
 variables-preserved g c =
@@ -17,7 +18,8 @@ variables-preserved g c =
       to = omega arith;
       last = c.variables.invariant.last;
       walk = walk_next _ _ _ _ _ (c.variables.row, c.variable-variable.result) _ _ _ _ _ _ c.variables.invariant.walk
-          (run_step raw.variables c.variables.row c.args.run.end c.variable-variable.result c.variable-variable.ensures.row c.variables-test.true) c.in_ok-put_variable.ensures.ok (omega arith);
+          (run_step raw.variables c.variables.row c.args.run.end c.variable-variable.result c.variable-variable.ensures.row c.variables-test.true)
+          c.in_ok-put_variable.ensures.ok (omega arith);
       later = omega arith;
     }
 

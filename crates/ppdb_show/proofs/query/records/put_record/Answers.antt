@@ -8,4 +8,5 @@ pub put_async-requires-clause-kind : goal.put_async-requires-clause-kind
 put_async-requires-clause-kind c = sym c.kind.ensures ∙ c.in-Async.is
 
 pub returns-in-Hoisted : goal.returns-in-Hoisted
-returns-in-Hoisted c = hoisted_put (raw_of (tables_of c.args.file.now)) c.args.row c.args.record.now c.kind.result c.args.text.now c.kind.ensures c.in-Hoisted.is
+returns-in-Hoisted c =
+    hoisted_put (raw_of (tables_of c.args.file.now)) c.args.row c.args.record.now c.kind.result c.args.text.now c.kind.ensures c.in-Hoisted.is

@@ -11,7 +11,8 @@ use Rattle.ppdb_tables.specs.Parents.{coded_in}
 pub records-init : goal.records-init
 records-init g c =
     let raw = raw_of (tables_of c.args.file.now) in
-    let b = bounds (coded_in (record { table = 0x06; row = c.args.method })) (λ custom. custom.parent) raw.customs c.customs_of-run.result refl c.customs_of-run.ensures.run in
+    let b = bounds (coded_in (record { table = 0x06; row = c.args.method })) (λ custom. custom.parent) raw.customs c.customs_of-run.result refl
+    c.customs_of-run.ensures.run in
     record { from = b.0; to = b.1; last = b.2; walk = walk_none _ _ _ _ _ _ _ refl (omega arith); later = omega arith }
 
 pub records-preserved : goal.records-preserved
@@ -22,7 +23,8 @@ records-preserved g c =
       to = omega arith;
       last = c.records.invariant.last;
       walk = walk_next _ _ _ _ _ (c.records.row, c.custom-record.result) _ _ _ _ _ _ c.records.invariant.walk
-          (run_step raw.customs c.records.row c.customs_of-run.result.end c.custom-record.result c.custom-record.ensures.row c.records-test.true) c.in_ok-put_record.ensures (omega arith);
+          (run_step raw.customs c.records.row c.customs_of-run.result.end c.custom-record.result c.custom-record.ensures.row c.records-test.true)
+          c.in_ok-put_record.ensures (omega arith);
       later = omega arith;
     }
 

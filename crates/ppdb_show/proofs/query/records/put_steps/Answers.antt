@@ -12,7 +12,8 @@ steps-preserved c = record {
   whole = ap (λ (s : Stepping). s.left.fault) c.next.ensures.left ∙ c.steps.invariant.whole;
   walk = walk_next _ _ _ _ _ c.in-Ok-Some.step _ _ _ _ _ _ c.steps.invariant.walk
       (answer_next c.steps.cursor.left c.next.new.self.left.items c.in-Ok-Some.step
-      (sym (c.in-Ok-Some.is ∙ ap (λ (o : Option AsyncStep). Ok o) c.in-Ok-Some.field-0-is) ∙ c.next.ensures.answer) (ap (λ (s : Stepping). s.left.items) c.next.ensures.left))
+      (sym (c.in-Ok-Some.is ∙ ap (λ (o : Option AsyncStep). Ok o) c.in-Ok-Some.field-0-is) ∙ c.next.ensures.answer)
+      (ap (λ (s : Stepping). s.left.items) c.next.ensures.left))
       c.in_ok-put_step-in-Ok-Some.ensures (omega arith);
 }
 
@@ -20,4 +21,5 @@ pub returns-in-Ok-None : goal.returns-in-Ok-None
 returns-in-Ok-None c =
     adds_same _ _ _ _ (lines_each step_line c.args.cursor.now.left.items)
     (walk_done _ _ _ _ _ _ _ _ c.steps.invariant.walk
-    (answer_end c.steps.cursor.left.items c.steps.cursor.left.fault (sym (c.in-Ok-None.is ∙ ap (λ (o : Option AsyncStep). Ok o) c.in-Ok-None.field-0-is) ∙ c.next.ensures.answer)))
+    (answer_end c.steps.cursor.left.items c.steps.cursor.left.fault (sym (c.in-Ok-None.is ∙ ap (λ (o : Option AsyncStep). Ok o) c.in-Ok-None.field-0-is)
+    ∙ c.next.ensures.answer)))

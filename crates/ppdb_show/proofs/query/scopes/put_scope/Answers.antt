@@ -17,19 +17,23 @@ put_customs-requires-clause-there g c =
     (within.0, omega (arith, within, many))
 
 pub put_variables-requires-clause-first : goal.put_variables-requires-clause-first
-put_variables-requires-clause-first g c = (variables_bounds (raw_of (tables_of c.args.file.now)) c.args.scope c.requires c.keeps.ensures.rules.variables.lists).0
+put_variables-requires-clause-first g c =
+    (variables_bounds (raw_of (tables_of c.args.file.now)) c.args.scope c.requires c.keeps.ensures.rules.variables.lists).0
 
 pub put_variables-requires-clause-forward : goal.put_variables-requires-clause-forward
-put_variables-requires-clause-forward g c = (variables_bounds (raw_of (tables_of c.args.file.now)) c.args.scope c.requires c.keeps.ensures.rules.variables.lists).1
+put_variables-requires-clause-forward g c =
+    (variables_bounds (raw_of (tables_of c.args.file.now)) c.args.scope c.requires c.keeps.ensures.rules.variables.lists).1
 
 pub put_variables-requires-clause-last : goal.put_variables-requires-clause-last
 put_variables-requires-clause-last g c = (variables_bounds (raw_of (tables_of c.args.file.now)) c.args.scope c.requires c.keeps.ensures.rules.variables.lists).2
 
 pub put_constants-requires-clause-first : goal.put_constants-requires-clause-first
-put_constants-requires-clause-first g c = (constants_bounds (raw_of (tables_of c.args.file.now)) c.args.scope c.requires c.keeps.ensures.rules.constants.lists).0
+put_constants-requires-clause-first g c =
+    (constants_bounds (raw_of (tables_of c.args.file.now)) c.args.scope c.requires c.keeps.ensures.rules.constants.lists).0
 
 pub put_constants-requires-clause-forward : goal.put_constants-requires-clause-forward
-put_constants-requires-clause-forward g c = (constants_bounds (raw_of (tables_of c.args.file.now)) c.args.scope c.requires c.keeps.ensures.rules.constants.lists).1
+put_constants-requires-clause-forward g c =
+    (constants_bounds (raw_of (tables_of c.args.file.now)) c.args.scope c.requires c.keeps.ensures.rules.constants.lists).1
 
 pub put_constants-requires-clause-last : goal.put_constants-requires-clause-last
 put_constants-requires-clause-last g c = (constants_bounds (raw_of (tables_of c.args.file.now)) c.args.scope c.requires c.keeps.ensures.rules.constants.lists).2
@@ -60,6 +64,9 @@ returns-clause-cost g c =
 pub returns-clause-ok : goal.returns-clause-ok
 returns-clause-ok g c =
     let raw = raw_of (tables_of c.args.file.now) in
-    let v = adds_same _ _ _ _ (ap (flat_map (variable_answer raw)) (variables_owned raw c.args.scope c.requires c.keeps.ensures.rules.variables.lists)) c.in_ok-put_variables.ensures.ok in
-    let k = adds_same _ _ _ _ (ap (flat_map (constant_answer raw)) (constants_owned raw c.args.scope c.requires c.keeps.ensures.rules.constants.lists)) c.in_ok-put_constants.ensures.ok in
-    then_ok _ _ _ _ _ _ c.in_ok-put_line.ensures (then_ok _ _ _ _ _ _ c.in_ok-put_customs.ensures.ok (then_ok _ _ _ _ _ _ v (then_ok _ _ _ _ _ _ k c.put_imports.ensures.ok)))
+    let v = adds_same _ _ _ _ (ap (flat_map (variable_answer raw)) (variables_owned raw c.args.scope c.requires c.keeps.ensures.rules.variables.lists))
+    c.in_ok-put_variables.ensures.ok in
+    let k = adds_same _ _ _ _ (ap (flat_map (constant_answer raw)) (constants_owned raw c.args.scope c.requires c.keeps.ensures.rules.constants.lists))
+    c.in_ok-put_constants.ensures.ok in
+    then_ok _ _ _ _ _ _ c.in_ok-put_line.ensures
+    (then_ok _ _ _ _ _ _ c.in_ok-put_customs.ensures.ok (then_ok _ _ _ _ _ _ v (then_ok _ _ _ _ _ _ k c.put_imports.ensures.ok)))

@@ -22,7 +22,8 @@ scopes-init g c =
 pub put_scope-requires : goal.put_scope-requires
 put_scope-requires g c =
     let raw = raw_of (tables_of c.args.file.now) in
-    each_first (IsViewOf raw) _ _ _ (given_next c.scopes.scopes.items c.next.new.self.items c.in-Some.scope c.next.result c.next.ensures.answer c.in-Some.is c.next.ensures.left) c.scopes.invariant.each
+    each_first (IsViewOf raw) _ _ _ (given_next c.scopes.scopes.items c.next.new.self.items c.in-Some.scope c.next.result c.next.ensures.answer c.in-Some.is
+    c.next.ensures.left) c.scopes.invariant.each
 
 pub scopes-preserved : goal.scopes-preserved
 scopes-preserved g c =
@@ -44,7 +45,8 @@ returns-in_err-put_scope-clause-cost g c =
     omega (arith, h)
 
 pub returns-clause-ok : goal.returns-clause-ok
-returns-clause-ok g c = walk_done _ _ _ _ _ _ _ _ c.scopes.invariant.walk (given_none c.scopes.scopes.items c.next.result c.next.ensures.answer c.in_default-next.not-Some)
+returns-clause-ok g c =
+    walk_done _ _ _ _ _ _ _ _ c.scopes.invariant.walk (given_none c.scopes.scopes.items c.next.result c.next.ensures.answer c.in_default-next.not-Some)
 
 pub returns-clause-cost : goal.returns-clause-cost
 returns-clause-cost g c =

@@ -10,4 +10,5 @@ use Rattle.ppdb_show.proofs.query.text.put_import_line.Goals as goal
 pub returns : goal.returns
 returns c =
     let line = use_line (import_value (shown c.args.import.now)) in
-    added c.put_use.result c.args.text.now c.put_use.new.out line (sym c.is_err.ensures.value ∙ c.if-is_err.false) (rw (one_line Text line) at c.put_use.ensures.ok)
+    added c.put_use.result c.args.text.now c.put_use.new.out line (sym c.is_err.ensures.value ∙ c.if-is_err.false)
+    (rw (one_line Text line) at c.put_use.ensures.ok)

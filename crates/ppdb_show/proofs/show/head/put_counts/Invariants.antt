@@ -11,7 +11,8 @@ invariant-counts g l =
     let sink = g.O.Sink in
     record {
       to : l.table ≤ 0x2d;
-      put : Putting (sink.written l.fn.out) (sink.written l.out) (sink.faults l.fn.out) (sink.faults l.out) (lines_as l.printer.form (between (count_lines_of (raw_of l.tables)) l.table 0x2d)) (lines_as l.printer.form (count_lines (raw_of l.tables)));
+      put : Putting (sink.written l.fn.out) (sink.written l.out) (sink.faults l.fn.out) (sink.faults l.out)
+          (lines_as l.printer.form (between (count_lines_of (raw_of l.tables)) l.table 0x2d)) (lines_as l.printer.form (count_lines (raw_of l.tables)));
     }
 
 abbrev pub decreases-counts : goal.decreases-counts

@@ -7,7 +7,8 @@ use Rattle.ppdb_show.proofs.show.imports.put_import.Goals as goal
 pub returns-in_err-put_line : goal.returns-in_err-put_line
 returns-in_err-put_line g c =
     let raw = (raw_file c.args.file.now).tables in
-    (rw (import_text c.args.printer.form raw c.args.row c.import-import.result c.import-import.ensures.row) (puts_cut _ _ _ _ _ _ _ _ c.from_residual.ensures.1 c.in_err-put_line.ensures))
+    (rw (import_text c.args.printer.form raw c.args.row c.import-import.result c.import-import.ensures.row)
+    (puts_cut _ _ _ _ _ _ _ _ c.from_residual.ensures.1 c.in_err-put_line.ensures))
 
 pub returns : goal.returns
 returns g c =

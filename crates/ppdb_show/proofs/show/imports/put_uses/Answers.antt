@@ -17,18 +17,23 @@ shown_none r o a b = ap shown_answer (a ∙ ap (λ (p : Option Import). Ok p) b)
 
 pub imports-preserved : goal.imports-preserved
 imports-preserved g c =
-    let e = answers_some c.imports.imports.items c.imports.imports.fault (shown c.in-Ok-Some.import) (sym c.next.ensures.answer ∙ shown_some c.next.result c.in-Ok-Some.field-0 c.in-Ok-Some.import c.in-Ok-Some.is c.in-Ok-Some.field-0-is) in
+    let e = answers_some c.imports.imports.items c.imports.imports.fault (shown c.in-Ok-Some.import) (sym c.next.ensures.answer
+    ∙ shown_some c.next.result c.in-Ok-Some.field-0 c.in-Ok-Some.import c.in-Ok-Some.is c.in-Ok-Some.field-0-is) in
     rw c.next.ensures.left (record {
       whole = c.imports.invariant.whole;
-      put = put_piece _ _ _ _ _ _ _ _ _ (rw (uses_step c.args.printer.form c.imports.imports.items (shown c.in-Ok-Some.import) e) at c.imports.invariant.put) c.in_ok-put_use-in-Ok-Some.ensures;
+      put = put_piece _ _ _ _ _ _ _ _ _ (rw (uses_step c.args.printer.form c.imports.imports.items (shown c.in-Ok-Some.import) e) at c.imports.invariant.put)
+          c.in_ok-put_use-in-Ok-Some.ensures;
     })
 
 pub returns-in_err-put_use-in-Ok-Some : goal.returns-in_err-put_use-in-Ok-Some
 returns-in_err-put_use-in-Ok-Some g c =
-    let e = answers_some c.imports.imports.items c.imports.imports.fault (shown c.in-Ok-Some.import) (sym c.next.ensures.answer ∙ shown_some c.next.result c.in-Ok-Some.field-0 c.in-Ok-Some.import c.in-Ok-Some.is c.in-Ok-Some.field-0-is) in
-    put_front _ _ _ _ _ _ _ _ _ _ _ (rw (uses_step c.args.printer.form c.imports.imports.items (shown c.in-Ok-Some.import) e) at c.imports.invariant.put) c.from_residual.ensures.1 c.in_err-put_use-in-Ok-Some.ensures
+    let e = answers_some c.imports.imports.items c.imports.imports.fault (shown c.in-Ok-Some.import) (sym c.next.ensures.answer
+    ∙ shown_some c.next.result c.in-Ok-Some.field-0 c.in-Ok-Some.import c.in-Ok-Some.is c.in-Ok-Some.field-0-is) in
+    put_front _ _ _ _ _ _ _ _ _ _ _ (rw (uses_step c.args.printer.form c.imports.imports.items (shown c.in-Ok-Some.import) e) at c.imports.invariant.put)
+    c.from_residual.ensures.1 c.in_err-put_use-in-Ok-Some.ensures
 
 pub returns-in-Ok-None : goal.returns-in-Ok-None
 returns-in-Ok-None g c =
-    let e = answers_none c.imports.imports.items c.imports.imports.fault (sym c.next.ensures.answer ∙ shown_none c.next.result c.in-Ok-None.field-0 c.in-Ok-None.is c.in-Ok-None.field-0-is) in
+    let e = answers_none c.imports.imports.items c.imports.imports.fault (sym c.next.ensures.answer
+    ∙ shown_none c.next.result c.in-Ok-None.field-0 c.in-Ok-None.is c.in-Ok-None.field-0-is) in
     put_whole _ _ _ _ _ (rw (uses_done c.args.printer.form c.imports.imports.items e) at c.imports.invariant.put)

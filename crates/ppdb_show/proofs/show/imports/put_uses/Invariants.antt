@@ -11,7 +11,9 @@ invariant-imports g l =
     let sink = g.O.Sink in
     record {
       whole : l.imports.fault ≡ None;
-      put : Putting (sink.written l.fn.out) (sink.written l.out) (sink.faults l.fn.out) (sink.faults l.out) (lines_as l.printer.form (map use_line (map import_value l.imports.items))) (lines_as l.printer.form (map use_line (map import_value l.fn.imports.items)));
+      put : Putting (sink.written l.fn.out) (sink.written l.out) (sink.faults l.fn.out) (sink.faults l.out)
+          (lines_as l.printer.form (map use_line (map import_value l.imports.items)))
+          (lines_as l.printer.form (map use_line (map import_value l.fn.imports.items)));
     }
 
 abbrev pub decreases-imports : goal.decreases-imports

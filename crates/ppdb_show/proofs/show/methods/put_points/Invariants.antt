@@ -10,7 +10,8 @@ invariant-points g l =
     let sink = g.O.Sink in
     record {
       whole : l.points.left.fault ≡ None;
-      put : Putting (sink.written l.fn.out) (sink.written l.out) (sink.faults l.fn.out) (sink.faults l.out) (lines_as l.printer.form (map point_line l.points.left.items)) (lines_as l.printer.form (map point_line l.fn.points.left.items));
+      put : Putting (sink.written l.fn.out) (sink.written l.out) (sink.faults l.fn.out) (sink.faults l.out)
+          (lines_as l.printer.form (map point_line l.points.left.items)) (lines_as l.printer.form (map point_line l.fn.points.left.items));
     }
 
 abbrev pub decreases-points : goal.decreases-points

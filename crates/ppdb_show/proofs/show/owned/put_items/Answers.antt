@@ -18,7 +18,8 @@ items-init g c = record { from = omega arith; to = omega arith; put = put_none (
 pub returns-in_err-put_item : goal.returns-in_err-put_item
 returns-in_err-put_item g c =
     let raw = (raw_file c.args.file.now).tables in
-    put_front _ _ _ _ _ _ _ _ _ _ _ (rw (next_row c.args.printer.form (lines_of_item raw c.args.owned) c.items.item c.args.items.end (omega arith)) at c.items.invariant.put) c.from_residual.ensures.1 c.in_err-put_item.ensures
+    put_front _ _ _ _ _ _ _ _ _ _ _ (rw (next_row c.args.printer.form (lines_of_item raw c.args.owned) c.items.item c.args.items.end (omega arith)) at
+    c.items.invariant.put) c.from_residual.ensures.1 c.in_err-put_item.ensures
 
 pub items-preserved : goal.items-preserved
 items-preserved g c =
@@ -26,9 +27,11 @@ items-preserved g c =
     record {
       from = omega arith;
       to = omega arith;
-      put = put_piece _ _ _ _ _ _ _ _ _ (rw (next_row c.args.printer.form (lines_of_item raw c.args.owned) c.items.item c.args.items.end (omega arith)) at c.items.invariant.put) c.in_ok-put_item.ensures;
+      put = put_piece _ _ _ _ _ _ _ _ _ (rw (next_row c.args.printer.form (lines_of_item raw c.args.owned) c.items.item c.args.items.end (omega arith)) at
+          c.items.invariant.put) c.in_ok-put_item.ensures;
     }
 
 pub returns : goal.returns
 returns g c =
-    put_whole _ _ _ _ _ (rw (last_row c.args.printer.form (lines_of_item (raw_file c.args.file.now).tables c.args.owned) c.items.item c.args.items.end (omega arith)) at c.items.invariant.put)
+    put_whole _ _ _ _ _ (rw (last_row c.args.printer.form (lines_of_item (raw_file c.args.file.now).tables c.args.owned) c.items.item c.args.items.end
+    (omega arith)) at c.items.invariant.put)

@@ -12,7 +12,9 @@ invariant-items g l =
     record {
       from : l.items.first ≤ l.item;
       to : l.item ≤ l.items.end;
-      put : Putting (sink.written l.fn.out) (sink.written l.out) (sink.faults l.fn.out) (sink.faults l.out) (lines_as l.printer.form (lines_between raw l.owned l.item l.items.end)) (lines_as l.printer.form (lines_between raw l.owned l.items.first l.items.end));
+      put : Putting (sink.written l.fn.out) (sink.written l.out) (sink.faults l.fn.out) (sink.faults l.out)
+          (lines_as l.printer.form (lines_between raw l.owned l.item l.items.end))
+          (lines_as l.printer.form (lines_between raw l.owned l.items.first l.items.end));
     }
 
 abbrev pub decreases-items : goal.decreases-items

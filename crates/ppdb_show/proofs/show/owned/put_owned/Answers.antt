@@ -15,53 +15,69 @@ lists-init g c =
       from = omega arith;
       to = omega arith;
       first = omega arith;
-      begins = sym (begins_first (list_by c.args.owned) raw.scopes (items_of raw c.args.owned) (keeps_lists (raw_file c.args.file.now) c.args.owned c.keeps.ensures.rules));
+      begins = sym (begins_first (list_by c.args.owned) raw.scopes (items_of raw c.args.owned)
+          (keeps_lists (raw_file c.args.file.now) c.args.owned c.keeps.ensures.rules));
       put = rw (items_between raw c.args.owned) (put_none (g.O.Sink.written c.args.out.now) _ _);
     }
 
 pub put_items-requires-clause-forward : goal.put_items-requires-clause-forward
 put_items-requires-clause-forward g c =
     let raw = (raw_file c.args.file.now).tables in
-    let many : length raw.scopes ≡ c.rows-scopes.result = c.keeps.ensures.rules.shape.scopes ∙ sym (rw c.tables-tables.ensures.tables at c.rows-scopes.ensures) in
+    let many : length raw.scopes ≡ c.rows-scopes.result =
+    c.keeps.ensures.rules.shape.scopes ∙ sym (rw c.tables-tables.ensures.tables at c.rows-scopes.ensures) in
     let within = c.lists-test.true in
     rw (c.lists.invariant.begins, rw c.tables-tables.ensures.tables at c.end_of_list-end.ensures)
-    (ends_after (list_by c.args.owned) raw.scopes (items_of raw c.args.owned) c.lists.scope (keeps_lists (raw_file c.args.file.now) c.args.owned c.keeps.ensures.rules) c.lists.invariant.from (omega (arith, many)))
+    (ends_after (list_by c.args.owned) raw.scopes (items_of raw c.args.owned) c.lists.scope
+    (keeps_lists (raw_file c.args.file.now) c.args.owned c.keeps.ensures.rules) c.lists.invariant.from (omega (arith, many)))
 
 pub put_items-requires-clause-last : goal.put_items-requires-clause-last
 put_items-requires-clause-last g c =
     let raw = (raw_file c.args.file.now).tables in
     rw (rw c.tables-tables.ensures.tables at c.end_of_list-end.ensures)
-    (ends_within (list_by c.args.owned) raw.scopes (items_of raw c.args.owned) c.lists.scope (keeps_lists (raw_file c.args.file.now) c.args.owned c.keeps.ensures.rules))
+    (ends_within (list_by c.args.owned) raw.scopes (items_of raw c.args.owned) c.lists.scope
+    (keeps_lists (raw_file c.args.file.now) c.args.owned c.keeps.ensures.rules))
 
 pub put_items-requires-clause-owner : goal.put_items-requires-clause-owner
 put_items-requires-clause-owner g c item from to =
     let raw = (raw_file c.args.file.now).tables in
-    let many : length raw.scopes ≡ c.rows-scopes.result = c.keeps.ensures.rules.shape.scopes ∙ sym (rw c.tables-tables.ensures.tables at c.rows-scopes.ensures) in
-    owns_between (list_by c.args.owned) raw.scopes (items_of raw c.args.owned) c.lists.scope item (keeps_lists (raw_file c.args.file.now) c.args.owned c.keeps.ensures.rules) c.lists.invariant.from (omega (arith, many))
+    let many : length raw.scopes ≡ c.rows-scopes.result =
+    c.keeps.ensures.rules.shape.scopes ∙ sym (rw c.tables-tables.ensures.tables at c.rows-scopes.ensures) in
+    owns_between (list_by c.args.owned) raw.scopes (items_of raw c.args.owned) c.lists.scope item
+    (keeps_lists (raw_file c.args.file.now) c.args.owned c.keeps.ensures.rules) c.lists.invariant.from (omega (arith, many))
     (rw c.lists.invariant.begins at from) (rw (rw c.tables-tables.ensures.tables at c.end_of_list-end.ensures) at to)
 
 pub returns-in_err-put_items : goal.returns-in_err-put_items
 returns-in_err-put_items g c =
     let raw = (raw_file c.args.file.now).tables in
     let keeps = keeps_lists (raw_file c.args.file.now) c.args.owned c.keeps.ensures.rules in
-    let many : length raw.scopes ≡ c.rows-scopes.result = c.keeps.ensures.rules.shape.scopes ∙ sym (rw c.tables-tables.ensures.tables at c.rows-scopes.ensures) in
-    let end_is : c.end_of_list-end.result ≡ list_end (list_by c.args.owned) raw.scopes c.lists.scope (items_of raw c.args.owned) = rw c.tables-tables.ensures.tables at c.end_of_list-end.ensures in
+    let many : length raw.scopes ≡ c.rows-scopes.result =
+    c.keeps.ensures.rules.shape.scopes ∙ sym (rw c.tables-tables.ensures.tables at c.rows-scopes.ensures) in
+    let end_is : c.end_of_list-end.result ≡ list_end (list_by c.args.owned) raw.scopes c.lists.scope (items_of raw c.args.owned) =
+    rw c.tables-tables.ensures.tables at c.end_of_list-end.ensures in
     let forward : c.lists.item ≤ c.end_of_list-end.result =
-    rw (c.lists.invariant.begins, end_is) (ends_after (list_by c.args.owned) raw.scopes (items_of raw c.args.owned) c.lists.scope keeps c.lists.invariant.from (omega (arith, many))) in
-    let last : c.end_of_list-end.result ≤ items_of raw c.args.owned + 1 = rw end_is (ends_within (list_by c.args.owned) raw.scopes (items_of raw c.args.owned) c.lists.scope keeps) in
-    let split = split_lines c.args.printer.form (lines_of_item raw c.args.owned) c.lists.item c.end_of_list-end.result (items_of raw c.args.owned + 1) forward last in
+    rw (c.lists.invariant.begins, end_is) (ends_after (list_by c.args.owned) raw.scopes (items_of raw c.args.owned) c.lists.scope keeps c.lists.invariant.from
+    (omega (arith, many))) in
+    let last : c.end_of_list-end.result ≤ items_of raw c.args.owned + 1 =
+    rw end_is (ends_within (list_by c.args.owned) raw.scopes (items_of raw c.args.owned) c.lists.scope keeps) in
+    let split =
+    split_lines c.args.printer.form (lines_of_item raw c.args.owned) c.lists.item c.end_of_list-end.result (items_of raw c.args.owned + 1) forward last in
     put_front _ _ _ _ _ _ _ _ _ _ _ (rw split at c.lists.invariant.put) c.from_residual.ensures.1 c.in_err-put_items.ensures
 
 pub lists-preserved : goal.lists-preserved
 lists-preserved g c =
     let raw = (raw_file c.args.file.now).tables in
     let keeps = keeps_lists (raw_file c.args.file.now) c.args.owned c.keeps.ensures.rules in
-    let many : length raw.scopes ≡ c.rows-scopes.result = c.keeps.ensures.rules.shape.scopes ∙ sym (rw c.tables-tables.ensures.tables at c.rows-scopes.ensures) in
-    let end_is : c.end_of_list-end.result ≡ list_end (list_by c.args.owned) raw.scopes c.lists.scope (items_of raw c.args.owned) = rw c.tables-tables.ensures.tables at c.end_of_list-end.ensures in
+    let many : length raw.scopes ≡ c.rows-scopes.result =
+    c.keeps.ensures.rules.shape.scopes ∙ sym (rw c.tables-tables.ensures.tables at c.rows-scopes.ensures) in
+    let end_is : c.end_of_list-end.result ≡ list_end (list_by c.args.owned) raw.scopes c.lists.scope (items_of raw c.args.owned) =
+    rw c.tables-tables.ensures.tables at c.end_of_list-end.ensures in
     let forward : c.lists.item ≤ c.end_of_list-end.result =
-    rw (c.lists.invariant.begins, end_is) (ends_after (list_by c.args.owned) raw.scopes (items_of raw c.args.owned) c.lists.scope keeps c.lists.invariant.from (omega (arith, many))) in
-    let last : c.end_of_list-end.result ≤ items_of raw c.args.owned + 1 = rw end_is (ends_within (list_by c.args.owned) raw.scopes (items_of raw c.args.owned) c.lists.scope keeps) in
-    let split = split_lines c.args.printer.form (lines_of_item raw c.args.owned) c.lists.item c.end_of_list-end.result (items_of raw c.args.owned + 1) forward last in
+    rw (c.lists.invariant.begins, end_is) (ends_after (list_by c.args.owned) raw.scopes (items_of raw c.args.owned) c.lists.scope keeps c.lists.invariant.from
+    (omega (arith, many))) in
+    let last : c.end_of_list-end.result ≤ items_of raw c.args.owned + 1 =
+    rw end_is (ends_within (list_by c.args.owned) raw.scopes (items_of raw c.args.owned) c.lists.scope keeps) in
+    let split =
+    split_lines c.args.printer.form (lines_of_item raw c.args.owned) c.lists.item c.end_of_list-end.result (items_of raw c.args.owned + 1) forward last in
     record {
       from = omega arith;
       to = omega arith;
@@ -73,6 +89,8 @@ lists-preserved g c =
 pub returns : goal.returns
 returns g c =
     let raw = (raw_file c.args.file.now).tables in
-    let many : length raw.scopes ≡ c.rows-scopes.result = c.keeps.ensures.rules.shape.scopes ∙ sym (rw c.tables-tables.ensures.tables at c.rows-scopes.ensures) in
+    let many : length raw.scopes ≡ c.rows-scopes.result =
+    c.keeps.ensures.rules.shape.scopes ∙ sym (rw c.tables-tables.ensures.tables at c.rows-scopes.ensures) in
     let end = c.lists.invariant.begins ∙ begins_last (list_by c.args.owned) raw.scopes (items_of raw c.args.owned) c.lists.scope (omega (arith, many)) in
-    put_whole _ _ _ _ _ (rw (last_row c.args.printer.form (lines_of_item raw c.args.owned) c.lists.item (items_of raw c.args.owned + 1) (omega (arith, end))) at c.lists.invariant.put)
+    put_whole _ _ _ _ _ (rw (last_row c.args.printer.form (lines_of_item raw c.args.owned) c.lists.item (items_of raw c.args.owned + 1) (omega (arith, end))) at
+    c.lists.invariant.put)

@@ -15,7 +15,8 @@ invariant-lists g l =
       to : l.scope ≤ l.scopes + 1;
       first : 1 ≤ l.item;
       begins : l.item ≡ begin_of (list_by l.owned) raw.scopes l.scope (items_of raw l.owned);
-      put : Putting (sink.written l.fn.out) (sink.written l.out) (sink.faults l.fn.out) (sink.faults l.out) (lines_as l.printer.form (lines_between raw l.owned l.item (items_of raw l.owned + 1))) (lines_as l.printer.form (lines_of_items raw l.owned));
+      put : Putting (sink.written l.fn.out) (sink.written l.out) (sink.faults l.fn.out) (sink.faults l.out)
+          (lines_as l.printer.form (lines_between raw l.owned l.item (items_of raw l.owned + 1))) (lines_as l.printer.form (lines_of_items raw l.owned));
     }
 
 abbrev pub decreases-lists : goal.decreases-lists

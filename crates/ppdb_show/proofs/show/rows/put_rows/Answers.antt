@@ -20,7 +20,8 @@ rows-init g c =
 pub returns-in_err-put_row : goal.returns-in_err-put_row
 returns-in_err-put_row g c =
     let raw = (raw_file c.args.file.now).tables in
-    put_front _ _ _ _ _ _ _ _ _ _ _ (rw (next_row c.args.printer.form (lines_of_row raw c.args.rows) c.rows.row (c.count-count.result + 1) (omega arith)) at c.rows.invariant.put) c.from_residual.ensures.1 c.in_err-put_row.ensures
+    put_front _ _ _ _ _ _ _ _ _ _ _ (rw (next_row c.args.printer.form (lines_of_row raw c.args.rows) c.rows.row (c.count-count.result + 1) (omega arith)) at
+    c.rows.invariant.put) c.from_residual.ensures.1 c.in_err-put_row.ensures
 
 pub rows-preserved : goal.rows-preserved
 rows-preserved g c =
@@ -28,9 +29,11 @@ rows-preserved g c =
     record {
       from = omega arith;
       to = omega arith;
-      put = put_piece _ _ _ _ _ _ _ _ _ (rw (next_row c.args.printer.form (lines_of_row raw c.args.rows) c.rows.row (c.count-count.result + 1) (omega arith)) at c.rows.invariant.put) c.in_ok-put_row.ensures;
+      put = put_piece _ _ _ _ _ _ _ _ _ (rw (next_row c.args.printer.form (lines_of_row raw c.args.rows) c.rows.row (c.count-count.result + 1) (omega arith)) at
+          c.rows.invariant.put) c.in_ok-put_row.ensures;
     }
 
 pub returns : goal.returns
 returns g c =
-    put_whole _ _ _ _ _ (rw (last_row c.args.printer.form (lines_of_row (raw_file c.args.file.now).tables c.args.rows) c.rows.row (c.count-count.result + 1) (omega arith)) at c.rows.invariant.put)
+    put_whole _ _ _ _ _ (rw (last_row c.args.printer.form (lines_of_row (raw_file c.args.file.now).tables c.args.rows) c.rows.row (c.count-count.result + 1)
+    (omega arith)) at c.rows.invariant.put)

@@ -12,7 +12,8 @@ invariant-rows g l =
     record {
       from : 1 ≤ l.row;
       to : l.row ≤ l.count + 1;
-      put : Putting (sink.written l.fn.out) (sink.written l.out) (sink.faults l.fn.out) (sink.faults l.out) (lines_as l.printer.form (between (lines_of_row raw l.rows) l.row (l.count + 1))) (lines_as l.printer.form (lines_of_table raw l.rows));
+      put : Putting (sink.written l.fn.out) (sink.written l.out) (sink.faults l.fn.out) (sink.faults l.out)
+          (lines_as l.printer.form (between (lines_of_row raw l.rows) l.row (l.count + 1))) (lines_as l.printer.form (lines_of_table raw l.rows));
     }
 
 abbrev pub decreases-rows : goal.decreases-rows

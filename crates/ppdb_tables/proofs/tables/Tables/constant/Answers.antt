@@ -8,4 +8,8 @@ returns-clause-row g c =
     let table = c.args.self.now.constants in
     let cell_0 = c.cell.ensures.number in
     let cell_1 = c.cell-2.ensures.number in
-    row_read constant_row table.layout table.bytes.now table.count c.args.row c.row-cells.result.now _ c.requires.there.0 (omega (arith, c.requires.there.1, c.args.self.now.constant_count)) c.row-cells.ensures.bytes cc
+    row_read constant_row table.layout table.bytes.now table.count c.args.row c.row-cells.result.now _ c.requires.there.0 (omega (
+      arith,
+      c.requires.there.1,
+      c.args.self.now.constant_count,
+    )) c.row-cells.ensures.bytes cc

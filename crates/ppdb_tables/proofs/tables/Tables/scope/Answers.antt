@@ -12,4 +12,8 @@ returns-clause-row g c =
     let cell_3 = c.cell-4.ensures.number in
     let cell_4 = c.cell-5.ensures.number in
     let cell_5 = c.cell-6.ensures.number in
-    row_read scope_row table.layout table.bytes.now table.count c.args.row c.row-cells.result.now _ c.requires.there.0 (omega (arith, c.requires.there.1, c.args.self.now.scope_count)) c.row-cells.ensures.bytes cc
+    row_read scope_row table.layout table.bytes.now table.count c.args.row c.row-cells.result.now _ c.requires.there.0 (omega (
+      arith,
+      c.requires.there.1,
+      c.args.self.now.scope_count,
+    )) c.row-cells.ensures.bytes cc
