@@ -115,69 +115,71 @@ fn record_says(
     links_are(alloc, said, status, text)
 }
 
+/// Records, the names of documents, and what is told.
+const ADDRESSES: [(&str, &[&str], &str); 14] = [
+    (
+        r#"{"documents":{"/src/*":"https://x.test/*","/SRC/app/*":"https://y.test/a/*?r=1"}}"#,
+        &["/src/app/Program.cs", r"/src/lib/a\b.cs"],
+        "link 1 https://y.test/a/Program.cs?r=1\nlink 2 https://x.test/lib/a/b.cs\n",
+    ),
+    (
+        r#"{"documents":{"/a/*":"x*y"}}"#,
+        &["/A/B.cs", "/a/", "/a", ""],
+        "link 1 xB.csy\nlink 2 xy\nlink 3 none\nlink 4 none\n",
+    ),
+    (
+        r#"{"documents":{"/a/b":"exact","/a/b*":"p*","/a/*":"q*","/A/B":"EXACT"}}"#,
+        &["/a/b", "/a/bc", "/A/b"],
+        "link 1 EXACT\nlink 2 pc\nlink 3 EXACT\n",
+    ),
+    (
+        r#"{"documents":{"*":"all/*"}}"#,
+        &["", r"a\b", r"c:\X\Y.cs"],
+        "link 1 all/\nlink 2 all/a/b\nlink 3 all/c:/X/Y.cs\n",
+    ),
+    (
+        r#"{"documents":{"":"empty"}}"#,
+        &["", "a"],
+        "link 1 empty\nlink 2 none\n",
+    ),
+    (
+        r#"{"documents":{"a":"one"},"documents":{"b":"two"}}"#,
+        &["a", "b"],
+        "link 1 none\nlink 2 two\n",
+    ),
+    (
+        r#"{"documents":{"a":"one","a":"two"}}"#,
+        &["a"],
+        "link 1 two\n",
+    ),
+    (r#"{"documents":{"a":"x**y*"}}"#, &["a"], "link 1 x**y*\n"),
+    (r#"{"documents":{"a":""}}"#, &["a"], "link 1 \\-\n"),
+    (r#"{"documents":{"\u0041*":"x*"}}"#, &["ab"], "link 1 xb\n"),
+    (
+        r#"{"documents":{"É*":"x*"}}"#,
+        &["é/a", "É/a"],
+        "link 1 none\nlink 2 x/a\n",
+    ),
+    (
+        r#"{"documents":{"K*":"k*","\u212a*":"kelvin*"}}"#,
+        &["kx", "Kx"],
+        "link 1 kx\nlink 2 kx\n",
+    ),
+    (
+        r#"{"documents":{"/s/*":"u/*"}}"#,
+        &[r"/S/A*B\c d"],
+        "link 1 u/A*B/c\\x20d\n",
+    ),
+    (
+        r#"{"other":[1,{"documents":3}]}"#,
+        &["a", "b"],
+        "link 1 none\nlink 2 none\n",
+    ),
+];
+
 #[test]
 fn addresses(rt: HostRuntime) -> Result<(), Fail> {
-    let rows: [(&str, &[&str], &str); 14] = [
-        (
-            r#"{"documents":{"/src/*":"https://x.test/*","/SRC/app/*":"https://y.test/a/*?r=1"}}"#,
-            &["/src/app/Program.cs", r"/src/lib/a\b.cs"],
-            "link 1 https://y.test/a/Program.cs?r=1\nlink 2 https://x.test/lib/a/b.cs\n",
-        ),
-        (
-            r#"{"documents":{"/a/*":"x*y"}}"#,
-            &["/A/B.cs", "/a/", "/a", ""],
-            "link 1 xB.csy\nlink 2 xy\nlink 3 none\nlink 4 none\n",
-        ),
-        (
-            r#"{"documents":{"/a/b":"exact","/a/b*":"p*","/a/*":"q*","/A/B":"EXACT"}}"#,
-            &["/a/b", "/a/bc", "/A/b"],
-            "link 1 EXACT\nlink 2 pc\nlink 3 EXACT\n",
-        ),
-        (
-            r#"{"documents":{"*":"all/*"}}"#,
-            &["", r"a\b", r"c:\X\Y.cs"],
-            "link 1 all/\nlink 2 all/a/b\nlink 3 all/c:/X/Y.cs\n",
-        ),
-        (
-            r#"{"documents":{"":"empty"}}"#,
-            &["", "a"],
-            "link 1 empty\nlink 2 none\n",
-        ),
-        (
-            r#"{"documents":{"a":"one"},"documents":{"b":"two"}}"#,
-            &["a", "b"],
-            "link 1 none\nlink 2 two\n",
-        ),
-        (
-            r#"{"documents":{"a":"one","a":"two"}}"#,
-            &["a"],
-            "link 1 two\n",
-        ),
-        (r#"{"documents":{"a":"x**y*"}}"#, &["a"], "link 1 x**y*\n"),
-        (r#"{"documents":{"a":""}}"#, &["a"], "link 1 \\-\n"),
-        (r#"{"documents":{"\u0041*":"x*"}}"#, &["ab"], "link 1 xb\n"),
-        (
-            r#"{"documents":{"É*":"x*"}}"#,
-            &["é/a", "É/a"],
-            "link 1 none\nlink 2 x/a\n",
-        ),
-        (
-            r#"{"documents":{"K*":"k*","\u212a*":"kelvin*"}}"#,
-            &["kx", "Kx"],
-            "link 1 kx\nlink 2 kx\n",
-        ),
-        (
-            r#"{"documents":{"/s/*":"u/*"}}"#,
-            &[r"/S/A*B\c d"],
-            "link 1 u/A*B/c\\x20d\n",
-        ),
-        (
-            r#"{"other":[1,{"documents":3}]}"#,
-            &["a", "b"],
-            "link 1 none\nlink 2 none\n",
-        ),
-    ];
-    for (record, names, text) in rows {
+    for (record, names, text) in ADDRESSES {
         assert!(rt;
             record_says(rt.alloc(), record.as_bytes(), names, 0, text)?,
             "{record}"

@@ -122,92 +122,94 @@ const HOISTED: [u8; 16] = [
     0x1e, 0xa6, 0xa9, 0x6d, 0xc7, 0xf8, 0x74, 0x48, 0xbe, 0x62, 0x68, 0xbc, 0x56, 0x30, 0xdf, 0x71,
 ];
 
+/// Parts of a file, and what is told of it.
+const BROKEN_ROWS: [(Parts<'static>, &str); 8] = [
+    // A document /a whose hash algorithm is GUID 1, of none.
+    (
+        Parts {
+            valid: 1 << 0x30,
+            rows: b"\x01\0\0\0\x03\0\x01\0\0\0\0\0",
+            blobs: b"\0\x01a\x02/\x01",
+            ..NOTHING
+        },
+        "refused B F21 table 30 row 1 column 1 byte 0\n",
+    ),
+    // A record on row 1 of tag 27.
+    (
+        Parts {
+            valid: 1 << 0x37,
+            rows: b"\x01\0\0\0\x3b\0\x01\0\0\0",
+            guids: &FREE_KIND,
+            ..NOTHING
+        },
+        "refused B F23 table 37 row 1 column 0 byte 0\n",
+    ),
+    // Two variables of one scope in slot 0; their names come after their slots.
+    (
+        Parts {
+            valid: 1 << 0x32 | 1 << 0x33,
+            rows: b"\x01\0\0\0\x02\0\0\0\x01\0\0\0\x01\0\x01\0\0\0\0\0\x01\0\0\0\0\0\0\0\0\0\0\0\0\0\0\0",
+            ..ONE_METHOD
+        },
+        "refused B F30 table 33 row 2 column 1 byte 0\n",
+    ),
+    // Two variables of one scope in slots 0 and 1, both with the empty name.
+    (
+        Parts {
+            valid: 1 << 0x32 | 1 << 0x33,
+            rows: b"\x01\0\0\0\x02\0\0\0\x01\0\0\0\x01\0\x01\0\0\0\0\0\x01\0\0\0\0\0\0\0\0\0\0\0\x01\0\0\0",
+            ..ONE_METHOD
+        },
+        "refused B F31 table 33 row 2 column 2 byte 0\n",
+    ),
+    // Two constants of one scope, each the I4 0 with the empty name.
+    (
+        Parts {
+            valid: 1 << 0x32 | 1 << 0x34,
+            rows: b"\x01\0\0\0\x02\0\0\0\x01\0\0\0\x01\0\x01\0\0\0\0\0\x01\0\0\0\0\0\x01\0\0\0\x01\0",
+            blobs: b"\0\x05\x08\0\0\0\0",
+            ..ONE_METHOD
+        },
+        "refused B F31 table 34 row 2 column 0 byte 0\n",
+    ),
+    // MoveNext methods 2 and 1.
+    (
+        Parts {
+            valid: 1 << 0x36,
+            rows: b"\x02\0\0\0\x02\0\x01\0\x01\0\x02\0",
+            referenced_rows: b"\x02\0\0\0",
+            ..ONE_METHOD
+        },
+        "refused B F33 table 36 row 2 column 0 byte 0\n",
+    ),
+    // Two machines that method 3 starts.
+    (
+        Parts {
+            valid: 1 << 0x36,
+            rows: b"\x02\0\0\0\x01\0\x03\0\x02\0\x03\0",
+            referenced_rows: b"\x03\0\0\0",
+            ..ONE_METHOD
+        },
+        "refused B F34 table 36 row 2 column 1 byte 0\n",
+    ),
+    // Hoisted locals on row 1 of Module, of tag 7.
+    (
+        Parts {
+            referenced: 0x01,
+            referenced_rows: b"\x01\0\0\0",
+            valid: 1 << 0x37,
+            rows: b"\x01\0\0\0\x27\0\x01\0\0\0",
+            guids: &HOISTED,
+            ..NOTHING
+        },
+        "refused B F36 table 37 row 1 column 1 byte 0\n",
+    ),
+];
+
 // Rows that break one rule each, the last in its table.
 #[test]
 fn each_row_breaks_its_rule(rt: HostRuntime) -> Result<(), Fail> {
-    let rows = [
-        // A document /a whose hash algorithm is GUID 1, of none.
-        (
-            Parts {
-                valid: 1 << 0x30,
-                rows: b"\x01\0\0\0\x03\0\x01\0\0\0\0\0",
-                blobs: b"\0\x01a\x02/\x01",
-                ..NOTHING
-            },
-            "refused B F21 table 30 row 1 column 1 byte 0\n",
-        ),
-        // A record on row 1 of tag 27.
-        (
-            Parts {
-                valid: 1 << 0x37,
-                rows: b"\x01\0\0\0\x3b\0\x01\0\0\0",
-                guids: &FREE_KIND,
-                ..NOTHING
-            },
-            "refused B F23 table 37 row 1 column 0 byte 0\n",
-        ),
-        // Two variables of one scope in slot 0; their names come after their slots.
-        (
-            Parts {
-                valid: 1 << 0x32 | 1 << 0x33,
-                rows: b"\x01\0\0\0\x02\0\0\0\x01\0\0\0\x01\0\x01\0\0\0\0\0\x01\0\0\0\0\0\0\0\0\0\0\0\0\0\0\0",
-                ..ONE_METHOD
-            },
-            "refused B F30 table 33 row 2 column 1 byte 0\n",
-        ),
-        // Two variables of one scope in slots 0 and 1, both with the empty name.
-        (
-            Parts {
-                valid: 1 << 0x32 | 1 << 0x33,
-                rows: b"\x01\0\0\0\x02\0\0\0\x01\0\0\0\x01\0\x01\0\0\0\0\0\x01\0\0\0\0\0\0\0\0\0\0\0\x01\0\0\0",
-                ..ONE_METHOD
-            },
-            "refused B F31 table 33 row 2 column 2 byte 0\n",
-        ),
-        // Two constants of one scope, each the I4 0 with the empty name.
-        (
-            Parts {
-                valid: 1 << 0x32 | 1 << 0x34,
-                rows: b"\x01\0\0\0\x02\0\0\0\x01\0\0\0\x01\0\x01\0\0\0\0\0\x01\0\0\0\0\0\x01\0\0\0\x01\0",
-                blobs: b"\0\x05\x08\0\0\0\0",
-                ..ONE_METHOD
-            },
-            "refused B F31 table 34 row 2 column 0 byte 0\n",
-        ),
-        // MoveNext methods 2 and 1.
-        (
-            Parts {
-                valid: 1 << 0x36,
-                rows: b"\x02\0\0\0\x02\0\x01\0\x01\0\x02\0",
-                referenced_rows: b"\x02\0\0\0",
-                ..ONE_METHOD
-            },
-            "refused B F33 table 36 row 2 column 0 byte 0\n",
-        ),
-        // Two machines that method 3 starts.
-        (
-            Parts {
-                valid: 1 << 0x36,
-                rows: b"\x02\0\0\0\x01\0\x03\0\x02\0\x03\0",
-                referenced_rows: b"\x03\0\0\0",
-                ..ONE_METHOD
-            },
-            "refused B F34 table 36 row 2 column 1 byte 0\n",
-        ),
-        // Hoisted locals on row 1 of Module, of tag 7.
-        (
-            Parts {
-                referenced: 0x01,
-                referenced_rows: b"\x01\0\0\0",
-                valid: 1 << 0x37,
-                rows: b"\x01\0\0\0\x27\0\x01\0\0\0",
-                guids: &HOISTED,
-                ..NOTHING
-            },
-            "refused B F36 table 37 row 1 column 1 byte 0\n",
-        ),
-    ];
-    for (parts, text) in rows {
+    for (parts, text) in BROKEN_ROWS {
         let file = file_of(rt.alloc(), parts)?;
         assert!(rt; verifies(rt.alloc(), &file, text)?, "{text}");
     }

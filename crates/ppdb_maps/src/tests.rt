@@ -180,13 +180,14 @@ fn moves_offsets(rt: HostRuntime) -> Result<(), Fail> {
     Ok(())
 }
 
+/// A map whose lines stand in no order.
+const UNORDERED: &[u8] =
+    b"ppdbmap 3\nmethod 7 9 12\nrun 0 0 1\nrows 06 2\nrow 06 3 1\nrow 06 1 2\nrows 02 0\n\
+      drop 2\nslots 7\nslot 7 1 0\nslot 7 0 1\nmethod 1 1 1\n";
+
 #[test]
 fn answers_what_lines_say(rt: HostRuntime) -> Result<(), Fail> {
-    let map = text_of(
-        &rt,
-        b"ppdbmap 3\nmethod 7 9 12\nrun 0 0 1\nrows 06 2\nrow 06 3 1\nrow 06 1 2\nrows 02 0\n\
-          drop 2\nslots 7\nslot 7 1 0\nslot 7 0 1\nmethod 1 1 1\n",
-    )?;
+    let map = text_of(&rt, UNORDERED)?;
     assert_eq!(rt;
         (map.rows(0x06), map.rows(0x02), map.rows(0x01)),
         (Some(2), Some(0), None)
@@ -201,6 +202,17 @@ fn answers_what_lines_say(rt: HostRuntime) -> Result<(), Fail> {
         (map.slot(7, 0), map.slot(7, 2), map.slot(1, 2)),
         (Some(1), None, Some(2))
     );
+    let empty = MapText::empty(rt.alloc());
+    assert_eq!(rt;
+        (empty.rows(0x06), empty.row(0x06, 5), empty.method_line(0)),
+        (None, Some(5), None)
+    );
+    Ok(())
+}
+
+#[test]
+fn lists_its_lines_in_order(rt: HostRuntime) -> Result<(), Fail> {
+    let map = text_of(&rt, UNORDERED)?;
     assert_eq!(rt;
         (map.method_line(0), map.method_line(1), map.method_line(2)),
         (Some(1), Some(7), None)
@@ -230,11 +242,6 @@ fn answers_what_lines_say(rt: HostRuntime) -> Result<(), Fail> {
     assert_eq!(rt;
         (map.method(7).run_line(0), map.method(7).run_line(1)),
         (Some((0, 0, 1)), None)
-    );
-    let empty = MapText::empty(rt.alloc());
-    assert_eq!(rt;
-        (empty.rows(0x06), empty.row(0x06, 5), empty.method_line(0)),
-        (None, Some(5), None)
     );
     Ok(())
 }

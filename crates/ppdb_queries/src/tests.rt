@@ -255,6 +255,10 @@ fn an_asynchronous_method(rt: HostRuntime) {
             move_next: None,
         })
     );
+}
+
+#[test]
+fn what_is_linked_to_methods(rt: HostRuntime) {
     let rows = [
         (1, 0, None, Some(4)),
         (4, 161, Some(1), None),

@@ -78,6 +78,33 @@ fn first_rows(tables: &Tables<'_>) -> Option<(DocumentRow, MethodDebugRow, Scope
     rows_of::<Brand>(tables, Blank::new(1))
 }
 
+/// The first document, method, scope and variable of the small file.
+const FIRST_ROWS: (DocumentRow, MethodDebugRow, ScopeRow, VariableRow) = (
+    DocumentRow {
+        name: 5,
+        algorithm: 0,
+        hash: 0,
+        language: 0,
+    },
+    MethodDebugRow {
+        document: 1,
+        points: 10,
+    },
+    ScopeRow {
+        method: 1,
+        import: 0,
+        variables: 2,
+        constants: 1,
+        start: 2,
+        length: 3,
+    },
+    VariableRow {
+        attributes: 0,
+        slot: 1,
+        name: 3,
+    },
+);
+
 #[test]
 fn reads_the_rows(rt: HostRuntime) {
     let tables = tables_of(&SMALL);
@@ -86,45 +113,7 @@ fn reads_the_rows(rt: HostRuntime) {
         assert_eq!(rt; tables.rows(0x06), 1);
         assert_eq!(rt; tables.rows(0x32), 2);
         assert_eq!(rt; tables.rows(0x34), 0);
-        let rows = first_rows(&tables);
-        assert!(rt; rows.is_some());
-        if let Some((document, method, scope, variable)) = rows {
-            assert_eq!(rt;
-                document,
-                DocumentRow {
-                    name: 5,
-                    algorithm: 0,
-                    hash: 0,
-                    language: 0
-                }
-            );
-            assert_eq!(rt;
-                method,
-                MethodDebugRow {
-                    document: 1,
-                    points: 10
-                }
-            );
-            assert_eq!(rt;
-                scope,
-                ScopeRow {
-                    method: 1,
-                    import: 0,
-                    variables: 2,
-                    constants: 1,
-                    start: 2,
-                    length: 3
-                }
-            );
-            assert_eq!(rt;
-                variable,
-                VariableRow {
-                    attributes: 0,
-                    slot: 1,
-                    name: 3
-                }
-            );
-        }
+        assert_eq!(rt; first_rows(&tables), Some(FIRST_ROWS));
     }
 }
 

@@ -115,9 +115,35 @@ fn check_read(rt: &impl Abort, read: &Read<'_>) {
 }
 
 #[test]
+fn reads_changed_bytes(rt: HostRuntime) {
+    let table = [
+        in_one(
+            b"\x01\0\0\x04\x0a\x05\x03\0\0\x04\x01\x02\x04\x79",
+            &[],
+            Some((Code::ValueRange, 0)),
+        ),
+        in_one(
+            b"\0\0\0\x04\x0a\x05\0\0\0\x04\x01\x02\x04\x79",
+            &[(0, 1, Some((10, 5, 10, 9)))],
+            Some((Code::ValueRange, 7)),
+        ),
+        in_one(
+            b"\0\0\0\x04\x0a\x05\x03\0\0\x04\x01\x02\x04\xe0",
+            &[(0, 1, Some((10, 5, 10, 9))), (3, 1, None)],
+            Some((Code::IntegerForm, 13)),
+        ),
+        // a header alone
+        in_one(b"\0", &[], Some((Code::BlobEnd, 1))),
+    ];
+    for row in &table {
+        check_read(&rt, row);
+    }
+}
+
+#[test]
 fn reads_one_document(rt: HostRuntime) {
     let table = [
-        // three points; the blob cut by a byte, and one byte longer; and bytes of it changed
+        // three points; the blob cut by a byte, and one byte longer
         in_one(
             b"\0\0\0\x04\x0a\x05\x03\0\0\x04\x01\x02\x04\x79",
             &[
@@ -141,23 +167,6 @@ fn reads_one_document(rt: HostRuntime) {
             ],
             Some((Code::BlobEnd, 15)),
         ),
-        in_one(
-            b"\x01\0\0\x04\x0a\x05\x03\0\0\x04\x01\x02\x04\x79",
-            &[],
-            Some((Code::ValueRange, 0)),
-        ),
-        in_one(
-            b"\0\0\0\x04\x0a\x05\0\0\0\x04\x01\x02\x04\x79",
-            &[(0, 1, Some((10, 5, 10, 9)))],
-            Some((Code::ValueRange, 7)),
-        ),
-        in_one(
-            b"\0\0\0\x04\x0a\x05\x03\0\0\x04\x01\x02\x04\xe0",
-            &[(0, 1, Some((10, 5, 10, 9))), (3, 1, None)],
-            Some((Code::IntegerForm, 13)),
-        ),
-        // a header alone
-        in_one(b"\0", &[], Some((Code::BlobEnd, 1))),
     ];
     for row in &table {
         check_read(&rt, row);
@@ -203,14 +212,8 @@ fn reads_starts(rt: HostRuntime) {
 }
 
 #[test]
-fn reads_ranges(rt: HostRuntime) {
+fn reads_lines_near_the_hidden_one(rt: HostRuntime) {
     let table = [
-        // an offset of 0x1fffffff, and one more
-        in_one(
-            b"\0\xdf\xff\xff\xff\0\0\x01\0\0",
-            &[(0x1fff_ffff, 1, None)],
-            Some((Code::ValueRange, 7)),
-        ),
         // line 0xfeefee as start and as end, and its neighbours
         in_one(
             b"\0\0\0\x01\xc0\xfe\xef\xed\x01",
@@ -231,6 +234,21 @@ fn reads_ranges(rt: HostRuntime) {
             b"\0\0\0\x01\xc0\xfe\xef\xef\x01",
             &[(0, 1, Some((0xfe_efef, 1, 0xfe_efef, 2)))],
             None,
+        ),
+    ];
+    for row in &table {
+        check_read(&rt, row);
+    }
+}
+
+#[test]
+fn reads_ranges(rt: HostRuntime) {
+    let table = [
+        // an offset of 0x1fffffff, and one more
+        in_one(
+            b"\0\xdf\xff\xff\xff\0\0\x01\0\0",
+            &[(0x1fff_ffff, 1, None)],
+            Some((Code::ValueRange, 7)),
         ),
         // column 0xffff, and one more as end
         in_one(
