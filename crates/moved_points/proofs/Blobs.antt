@@ -6,7 +6,8 @@ use Rattle.std.proofs.lemmas.List.{take_at}
 use Rattle.cli_ints.specs.Shortest.{short_unsigned}
 use Rattle.sequence_points.specs.declared.point.Point.{Point}
 use Rattle.sequence_points.specs.Points.{common_document}
-use Rattle.sequence_points.specs.Written.{initial_document, header_bytes, points_bytes, BeginsWith}
+use Rattle.sequence_points.specs.Written.{initial_document, header_bytes, points_bytes}
+use Rattle.ppdb_base.specs.Written.{BeginsWith}
 use Rattle.moved_points.specs.Writing.{IsWalked, IsBlobIn, header_in}
 use Rattle.moved_points.proofs.Documents.{common_first}
 

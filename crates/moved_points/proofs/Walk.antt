@@ -16,7 +16,7 @@ use Rattle.sequence_points.specs.Points.{common_document}
 use Rattle.sequence_points.specs.Ranges.{IsOffset, IsDocument}
 use Rattle.sequence_points.specs.Following.{IsStart, IsBehind}
 use Rattle.sequence_points.specs.Written.{CanBeWritten, IsSpan, last_of, last_start, large_step, large_steps, numbered, first_of, bytes_after, points_bytes}
-use Rattle.sequence_points.specs.Written.{BeginsWith}
+use Rattle.ppdb_base.specs.Written.{BeginsWith}
 use Rattle.sequence_points.proofs.Before.{last_of-push, last_start-push}
 use Rattle.sequence_points.proofs.Follows.{pairs-head, pairs-tail, few_points}
 use Rattle.moved_points.specs.declared.writer.Written.{Written}

@@ -3,7 +3,8 @@
 ghost use Rattle.std.specs.Prelude.{◌≡◌, ◌+◌, ◌-◌, ◌<◌, ◌≤◌, ◌++◌, ◌≤ℤ◌, ◌<ℤ◌, ◌-ℤ◌, neg_ℤ, pos, [], OnOk, OnErr, IfErr, IfSome, None, Some};
 ghost use Rattle.cli_ints.specs.Shortest.{short_unsigned, short_signed};
 ghost use Rattle.sequence_points.specs.Places.{start_after};
-ghost use Rattle.sequence_points.specs.Written.{IsSpan, document_bytes, columns_bytes, start_bytes, span_bytes, bytes_after, if_large, large_step, BeginsWith};
+ghost use Rattle.sequence_points.specs.Written.{IsSpan, document_bytes, columns_bytes, start_bytes, span_bytes, bytes_after, if_large, large_step};
+ghost use Rattle.ppdb_base.specs.Written.{BeginsWith};
 ghost use Rattle.sequence_points.specs.Following.{IsStart};
 ghost use Rattle.moved_points.specs.Writing.{start_seen, HasWritten, MayCome, IsStepOf};
 

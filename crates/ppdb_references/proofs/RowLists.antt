@@ -6,7 +6,7 @@ use Rattle.std.specs.List.{flat_map, enumerate_from}
 use Rattle.ppdb_maps.specs.Map.{Map}
 use Rattle.ppdb_tables.specs.RawTables.{RawTables, HasShape, count, numbered, row_at}
 use Rattle.ppdb_references.specs.References.{Reference, of_method, of_scope, of_import, of_machine, of_custom}
-use Rattle.ppdb_references.specs.TableRows.{number_of, rows_of, of_table}
+use Rattle.ppdb_references.specs.TableRows.{table_number, row_references, of_table}
 use Rattle.ppdb_references.specs.declared.rows.Table as table
 use Rattle.ppdb_references.specs.declared.rows.Table.TheVariants.{MethodDebug, LocalScope, ImportScope, StateMachine, Custom}
 
@@ -19,7 +19,7 @@ one_by_one : {X : Type 0} (f : ℕ × X → List Reference) (n : ℕ) (xs : List
 one_by_one f n [] = refl
 one_by_one f n (x ∷ xs) = ap (λ rest. f (n, x) ++ rest) (one_by_one f (n + 1) xs)
 
-pub table_is : (m : Map) (raw : RawTables) (t : table.Table) → of_table m raw t ≡ from_row 1 (rows_of m raw t)
+pub table_is : (m : Map) (raw : RawTables) (t : table.Table) → of_table m raw t ≡ from_row 1 (row_references m raw t)
 table_is m raw MethodDebug = one_by_one (of_method m raw) 1 raw.methods
 table_is m raw LocalScope = one_by_one (of_scope m) 1 raw.scopes
 table_is m raw ImportScope = one_by_one (of_import raw) 1 raw.imports
@@ -29,7 +29,7 @@ table_is m raw Custom = one_by_one (of_custom m raw) 1 raw.customs
 as_many : {X : Type 0} (f : ℕ × X → List Reference) (xs : List X) → length (map f (numbered xs)) ≡ length xs
 as_many f xs = length-map (numbered xs) f ∙ length-enumerate_from 1 xs
 
-pub rows_are : (m : Map) (raw : RawTables) → HasShape raw → (t : table.Table) → length (rows_of m raw t) ≡ count raw (number_of t)
+pub rows_are : (m : Map) (raw : RawTables) → HasShape raw → (t : table.Table) → length (row_references m raw t) ≡ count raw (table_number t)
 rows_are m raw shape MethodDebug = as_many (of_method m raw) raw.methods ∙ shape.methods
 rows_are m raw shape LocalScope = as_many (of_scope m) raw.scopes ∙ shape.scopes
 rows_are m raw shape ImportScope = as_many (of_import raw) raw.imports ∙ shape.imports

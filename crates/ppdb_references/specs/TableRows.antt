@@ -7,19 +7,19 @@ use Rattle.ppdb_references.specs.References.{Reference, of_method, of_scope, of_
 use Rattle.ppdb_references.specs.declared.rows.Table as table
 use Rattle.ppdb_references.specs.declared.rows.Table.TheVariants.{MethodDebug, LocalScope, ImportScope, StateMachine, Custom}
 
-abbrev pub number_of : table.Table → ℕ
-number_of MethodDebug = 0x31
-number_of LocalScope = 0x32
-number_of ImportScope = 0x35
-number_of StateMachine = 0x36
-number_of Custom = 0x37
+abbrev pub table_number : table.Table → ℕ
+table_number MethodDebug = 0x31
+table_number LocalScope = 0x32
+table_number ImportScope = 0x35
+table_number StateMachine = 0x36
+table_number Custom = 0x37
 
-abbrev pub rows_of : Map → RawTables → table.Table → List (List Reference)
-rows_of m raw MethodDebug = map (of_method m raw) (numbered raw.methods)
-rows_of m raw LocalScope = map (of_scope m) (numbered raw.scopes)
-rows_of m raw ImportScope = map (of_import raw) (numbered raw.imports)
-rows_of m raw StateMachine = map (of_machine m) (numbered raw.machines)
-rows_of m raw Custom = map (of_custom m raw) (numbered raw.customs)
+abbrev pub row_references : Map → RawTables → table.Table → List (List Reference)
+row_references m raw MethodDebug = map (of_method m raw) (numbered raw.methods)
+row_references m raw LocalScope = map (of_scope m) (numbered raw.scopes)
+row_references m raw ImportScope = map (of_import raw) (numbered raw.imports)
+row_references m raw StateMachine = map (of_machine m) (numbered raw.machines)
+row_references m raw Custom = map (of_custom m raw) (numbered raw.customs)
 
 abbrev pub of_table : Map → RawTables → table.Table → List Reference
 of_table m raw MethodDebug = flat_map (of_method m raw) (numbered raw.methods)

@@ -8,7 +8,7 @@ ghost use Rattle.ppdb_references.specs.TableRows.{of_table};
 use crate::constants::add_constants;
 use crate::imaged::{Imaged, ReferenceError};
 use crate::imager::Imager;
-use crate::rows::{Table, add_entry, add_row, number_of};
+use crate::rows::{Table, add_entry, add_row, table_number};
 use ppdb_base::{List, Steps};
 use ppdb_maps::MapText;
 use ppdb_verify::Verified;
@@ -27,7 +27,7 @@ fn add_table<L: Ledger>(
     ensures { Goes imager.old (of_table imager.old.map (raw_file file.now).tables table) imager.new result }
 {
     file.keeps();
-    let count = count(file, number_of(table));
+    let count = count(file, table_number(table));
     let mut row = 1;
     'rows: while row <= count {
         add_row(alloc, file, table, row, imager, steps)?;

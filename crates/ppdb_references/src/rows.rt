@@ -8,7 +8,7 @@ ghost use Rattle.ppdb_verify.specs.Views.{raw_file};
 ghost use Rattle.ppdb_references.specs.Imaging.{Goes};
 ghost use Rattle.ppdb_references.specs.References.{Reference, inside, of_entry, of_method, of_scope};
 ghost use Rattle.ppdb_references.specs.References.{of_import, of_machine, methods_of, of_parent, is_live_parent, of_custom};
-ghost use Rattle.ppdb_references.specs.TableRows.{number_of, rows_of};
+ghost use Rattle.ppdb_references.specs.TableRows.{table_number, row_references};
 
 use crate::imaged::ReferenceError;
 use crate::imager::Imager;
@@ -35,8 +35,8 @@ pub(crate) enum Table {
 }
 
 /// The number of a table.
-pub(crate) fn number_of(table: Table) -> u8
-    ensures { result ≡ number_of table }
+pub(crate) fn table_number(table: Table) -> u8
+    ensures { result ≡ table_number table }
 {
     match table {
         Table::MethodDebug => 0x31,
@@ -246,8 +246,8 @@ pub(crate) fn add_row<L: Ledger>(
     imager: &mut Imager<'_>,
     steps: &mut Steps<L>,
 ) -> Result<(), ReferenceError>
-    requires { HasRow (raw_file file.now).tables (number_of table) row }
-    ensures { (names : List Reference) → row_at (rows_of imager.old.map (raw_file file.now).tables table) row ≡ Some names → Goes imager.old names imager.new result }
+    requires { HasRow (raw_file file.now).tables (table_number table) row }
+    ensures { (names : List Reference) → row_at (row_references imager.old.map (raw_file file.now).tables table) row ≡ Some names → Goes imager.old names imager.new result }
 {
     match table {
         Table::MethodDebug => {

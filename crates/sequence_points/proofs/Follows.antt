@@ -11,7 +11,8 @@ use Rattle.sequence_points.specs.declared.point.Span.TheVariants.{Hidden, Lines}
 use Rattle.sequence_points.specs.declared.place.Start.{Start}
 use Rattle.sequence_points.specs.declared.step.LineStep.{LineStep}
 use Rattle.sequence_points.specs.Places.{start_after}
-use Rattle.sequence_points.specs.Written.{IsSpan, last_of, last_start, large_step, large_steps, numbered, first_of, bytes_after, points_bytes, BeginsWith}
+use Rattle.sequence_points.specs.Written.{IsSpan, last_of, last_start, large_step, large_steps, numbered, first_of, bytes_after, points_bytes}
+use Rattle.ppdb_base.specs.Written.{BeginsWith}
 use Rattle.sequence_points.specs.Ranges.{IsOffset, IsDocument}
 use Rattle.sequence_points.specs.Following.{IsStart, IsBehind, MayFollow, EachMayFollow}
 use Rattle.sequence_points.proofs.Before.{last_of-push, last_start-push}

@@ -124,7 +124,3 @@ first_of (x ∷ xs) = Some x
 abbrev pub IsRefused : List Point → PointError → Type 0
 IsRefused points (Step index step) = first_of (large_steps [] points) ≡ Some (numbered index step)
 IsRefused points Memory = large_steps [] points ≡ []
-
--- The list begins with what it held.
-abbrev pub BeginsWith : List ℕ → List ℕ → Type 0
-BeginsWith old new = (more : List ℕ) × (new ≡ old ++ more)

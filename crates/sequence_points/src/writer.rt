@@ -4,7 +4,7 @@ ghost use Rattle.std.specs.Prelude.{◌≡◌, ◌+◌, ◌-◌, ◌<◌, ◌≤
 ghost use Rattle.cli_ints.specs.Shortest.{short_unsigned, short_signed};
 ghost use Rattle.sequence_points.specs.Written.{IsSpan, CanBeWritten, document_bytes, columns_bytes, start_bytes, span_bytes};
 ghost use Rattle.sequence_points.specs.Written.{bytes_after, header_bytes, points_blob, if_large, large_step, large_steps, IsRefused};
-ghost use Rattle.sequence_points.specs.Written.{BeginsWith};
+ghost use Rattle.ppdb_base.specs.Written.{BeginsWith};
 ghost use Rattle.sequence_points.specs.Ranges.{IsDocument};
 ghost use Rattle.sequence_points.specs.Following.{IsStart, MayFollow, EachMayFollow};
 

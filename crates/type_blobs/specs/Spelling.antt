@@ -103,10 +103,6 @@ abbrev pub fields_at : ℕ → List ImportNumbers → List ImportField
 fields_at at [] = []
 fields_at at (numbers ∷ all) = parts_at numbers at (Kind ∷ parts_of numbers.kind) ++ fields_at (at + length (import_spelling numbers)) all
 
--- After a refusal the list begins with what it held.
-abbrev pub BeginsWith : List ℕ → List ℕ → Type 0
-BeginsWith front all = (more : List ℕ) × (all ≡ front ++ more)
-
 -- The items are the imports that the numbers stand for.
 abbrev pub StandFor : (ℕ → Option (List ℕ)) → List ImportNumbers → List ImportItem → Type 0
 StandFor heap all items = map (λ item. Some item) items ≡ map (import_item heap) all

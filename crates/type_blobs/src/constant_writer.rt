@@ -1,7 +1,8 @@
 ghost use Rattle.std.specs.Prelude.{◌≡◌, ◌++◌, All, OnOk, OnErr};
 ghost use Rattle.type_blobs.specs.Types.{IsToken};
 ghost use Rattle.type_blobs.specs.ConstantReading.{shown};
-ghost use Rattle.type_blobs.specs.Spelling.{BeginsWith, IsBody, modifier_spelling, body_spelling, constant_spelling};
+ghost use Rattle.type_blobs.specs.Spelling.{IsBody, modifier_spelling, body_spelling, constant_spelling};
+ghost use Rattle.ppdb_base.specs.Written.{BeginsWith};
 
 use crate::constant::Constant;
 use crate::numbers::{number_into, number_of};

@@ -1,7 +1,8 @@
 ghost use Rattle.std.specs.Prelude.{◌≡◌, ◌<◌, ◌^◌, ◌++◌, map, OnOk, OnErr};
 ghost use Rattle.std.specs.List.{flat_map};
 ghost use Rattle.cli_ints.specs.Shortest.{short_unsigned};
-ghost use Rattle.type_blobs.specs.Spelling.{IsImport, BeginsWith, part_number, import_spelling};
+ghost use Rattle.type_blobs.specs.Spelling.{IsImport, part_number, import_spelling};
+ghost use Rattle.ppdb_base.specs.Written.{BeginsWith};
 
 use crate::import_part::{ImportPart, parts_of};
 use crate::numbers::{number_into, number_of};

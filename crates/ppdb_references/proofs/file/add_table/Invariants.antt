@@ -1,6 +1,6 @@
 use Rattle.std.proofs.Common.{◌≡◌, ◌≤◌, ◌+◌, ◌-◌}
 use Rattle.ppdb_verify.specs.Views.{raw_file}
-use Rattle.ppdb_references.specs.TableRows.{of_table, rows_of}
+use Rattle.ppdb_references.specs.TableRows.{of_table, row_references}
 use Rattle.ppdb_references.proofs.Going.{Leads}
 use Rattle.ppdb_references.proofs.RowLists.{from_row}
 use Rattle.ppdb_references.proofs.file.add_table.Given as goal
@@ -11,7 +11,7 @@ invariant-rows g l =
     record {
       low : 1 ≤ l.row;
       same_map : l.imager.map ≡ l.fn.imager.map;
-      leads : Leads l.fn.imager (of_table l.fn.imager.map raw l.table) l.imager (from_row l.row (rows_of l.fn.imager.map raw l.table));
+      leads : Leads l.fn.imager (of_table l.fn.imager.map raw l.table) l.imager (from_row l.row (row_references l.fn.imager.map raw l.table));
     }
 
 abbrev pub decreases-rows : goal.decreases-rows
