@@ -1,5 +1,5 @@
 -- Inputs that fit can be joined, and what each says of a method is kept.
-use Rattle.std.proofs.Common.{◌≡◌, ◌≢◌, ℕ, ◌+◌, ◌++◌, Bool, List, [], ◌∷◌, Some, map}
+use Rattle.std.proofs.Common.{◌≡◌, ◌≢◌, ℕ, ◌++◌, Bool, List, [], ◌∷◌, Some, map}
 use Rattle.std.proofs.Common.{flat_map, refl, sym, ◌∙◌, ap}
 use Rattle.std.specs.Prelude.{nat_eq}
 use Rattle.std.specs.List.{filter}
