@@ -128,7 +128,8 @@ module _ (n : ℕ) where
           (each_method n (λ e. Each P (in_method e)) (λ i within. (inl (refl, within), (inr (refl, refl), tt)))))
 
       of_scopes : Each P scopes
-      of_scopes = Each-map (λ (s : NotedScope). names 0x06 s.method) P _ (live (λ (s : NotedScope). P (names 0x06 s.method)) (live_scope m) (sample_noted n).scopes
+      of_scopes = Each-map (λ (s : NotedScope). names 0x06 s.method) P _
+          (live (λ (s : NotedScope). P (names 0x06 s.method)) (live_scope m) (sample_noted n).scopes
           (each_scope n (λ (s : NotedScope). P (names 0x06 s.method)) (λ i within. (inl (refl, within), inl (refl, within)))))
 
       of_constants : Each P constants

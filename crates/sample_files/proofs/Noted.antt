@@ -44,7 +44,8 @@ pub each_counted : (P : ℕ → Type 0) (n : ℕ) → ((i : ℕ) → IsIn n i �
 each_counted P n holds = each_range P 1 n (λ i le less. holds i (le, omega (arith, less)))
 
 pub pairs_counted : (R : ℕ → ℕ → Type 0) (n : ℕ) → ((i j : ℕ) → IsIn n i → IsIn n j → i < j → R i j) → Pairs R (counted n)
-pairs_counted R n holds = pairs_range R 1 n (λ i j le less within. holds i j (le, omega (arith, less, within)) (omega (arith, le, less), omega (arith, within)) less)
+pairs_counted R n holds = pairs_range R 1 n
+    (λ i j le less within. holds i j (le, omega (arith, less, within)) (omega (arith, le, less), omega (arith, within)) less)
 
 pub pairs_left : {A : Type 0} (R : A → A → Type 0) (p : A → Bool) (xs : List A) → Pairs R xs → Pairs R (filter p xs)
 pairs_left R p [] pairs = tt

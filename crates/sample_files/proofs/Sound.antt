@@ -10,7 +10,9 @@ use Rattle.custom_info.specs.HoistedScopes.{IsSlot}
 use Rattle.custom_info.specs.declared.slots.Range.{Range}
 use Rattle.custom_info.specs.declared.slots.Slot.TheVariants.{Held}
 use Rattle.sequence_points.specs.declared.point.Point.{Point}
+use Rattle.sequence_points.specs.declared.point.Span.TheVariants.{Lines}
 use Rattle.sequence_points.specs.Ranges.{IsLine}
+use Rattle.sequence_points.specs.Written.{IsSpan}
 use Rattle.ppdb_values.specs.declared.custom.CustomValue.{CustomValue}
 use Rattle.ppdb_values.specs.declared.file.DocumentValue.{DocumentValue}
 use Rattle.ppdb_values.specs.declared.file.FileValue.{FileValue}
@@ -124,12 +126,12 @@ module _ (n : ℕ) (some : 1 ≤ n) (few : n ≤ 100000) where
     rise = all_pairs (λ (p q : Point). p.offset < q.offset) (sample_points i)
         ((omega arith, (omega arith, (omega arith, tt))), ((omega arith, (omega arith, tt)), ((omega arith, tt), (tt, tt))));
     points = all_each (SoundPoint v) (sample_points i) (
-      record { offset = omega arith; document = document_there i within; span = (line (4 * i) (omega arith), omega arith, line (4 * i) (omega arith), omega arith, inr (refl, omega arith)) },
+      record { offset = omega arith; document = document_there i within; span = first },
       (
         record { offset = omega arith; document = document_there i within; span = tt },
         (
-          record { offset = omega arith; document = document_there i within; span = (line (4 * i + 1) (omega arith), omega arith, line (4 * i + 2) (omega arith), omega arith, inl (omega arith)) },
-          (record { offset = omega arith; document = document_there i within; span = (line (4 * i + 2) (omega arith), omega arith, line (4 * i + 2) (omega arith), omega arith, inr (refl, omega arith)) }, tt),
+          record { offset = omega arith; document = document_there i within; span = third },
+          (record { offset = omega arith; document = document_there i within; span = last }, tt),
         ),
       ),
     );
@@ -137,6 +139,15 @@ module _ (n : ℕ) (some : 1 ≤ n) (few : n ≤ 100000) where
     where
       line : (l : ℕ) → l ≤ 4 * i + 2 → IsLine l
       line l small = (omega (arith, within.1, few, small), λ e. omega (arith, within.1, few, small, e))
+
+      first : IsSpan (Lines (4 * i) 1 (4 * i) 9)
+      first = (line (4 * i) (omega arith), omega arith, line (4 * i) (omega arith), omega arith, inr (refl, omega arith))
+
+      third : IsSpan (Lines (4 * i + 1) 5 (4 * i + 2) 3)
+      third = (line (4 * i + 1) (omega arith), omega arith, line (4 * i + 2) (omega arith), omega arith, inl (omega arith))
+
+      last : IsSpan (Lines (4 * i + 2) 1 (4 * i + 2) 2)
+      last = (line (4 * i + 2) (omega arith), omega arith, line (4 * i + 2) (omega arith), omega arith, inr (refl, omega arith))
 
   outer_sound : (i : ℕ) → IsIn n i → SoundNotedScope v (outer_noted i)
   outer_sound i within = record {

@@ -7,7 +7,9 @@ use Rattle.sample_files.specs.Worked.{WorkedSamples, sample_of_one}
 
 pub worked_samples : WorkedSamples
 worked_samples = record {
-  one = ap (λ digits. record sample_of_one { documents = record { name = codes "/s/" ++ digits ++ codes ".cs"; algorithm = None; hash = []; language = None } ∷ [] })
+  one = ap (λ digits. record sample_of_one {
+    documents = record { name = codes "/s/" ++ digits ++ codes ".cs"; algorithm = None; hash = []; language = None } ∷ [];
+  })
       (decimal_digit 1 (omega arith));
   hoisted = refl;
   documents = ap (λ digits. (codes "/s/" ++ digits ++ codes ".cs") ∷ (codes "/s/" ++ decimal 2 ++ codes ".cs") ∷ []) (decimal_digit 1 (omega arith))

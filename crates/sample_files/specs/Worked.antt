@@ -46,7 +46,11 @@ sample_of_one = record {
 }
 
 abbrev pub hoisted_at : ℕ → CustomValue
-hoisted_at method = record { parent = record { table = 0x06; row = method }; kind = hoisted_scopes; value = Hoisted (Held (record { start = 4; end = 12 }) ∷ []) }
+hoisted_at method = record {
+  parent = record { table = 0x06; row = method };
+  kind = hoisted_scopes;
+  value = Hoisted (Held (record { start = 4; end = 12 }) ∷ []);
+}
 
 pub record WorkedSamples : Type 0 where
   pub one : sample 1 ≡ sample_of_one

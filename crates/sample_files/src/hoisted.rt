@@ -1,5 +1,5 @@
 // The hoisted locals of the sample file.
-ghost use Rattle.std.specs.Prelude.{◌≡◌, ℕ, ◌≤◌, IfOk, map, filter};
+ghost use Rattle.std.specs.Prelude.{◌≡◌, ◌≤◌, IfOk, map, filter};
 ghost use Rattle.sample_files.specs.Sample.{counted, is_fourth, sample_custom};
 
 use custom_info::{HOISTED_SCOPES, Range, Slot, kinds_are_their_guids};

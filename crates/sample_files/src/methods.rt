@@ -1,5 +1,5 @@
 // The methods of the sample file, with their points.
-ghost use Rattle.std.specs.Prelude.{◌≡◌, ℕ, ◌≤◌, IfOk, map};
+ghost use Rattle.std.specs.Prelude.{◌≡◌, ◌≤◌, IfOk, map};
 ghost use Rattle.sequence_points.specs.declared.point.Span.TheVariants.{Lines};
 ghost use Rattle.sample_files.specs.Sample.{counted, sample_points, sample_method};
 

@@ -1,5 +1,5 @@
 // The documents and the import scope of the sample file.
-ghost use Rattle.std.specs.Prelude.{◌≡◌, ℕ, ◌≤◌, ◌<◌, [], ◌∷◌, IfOk, map};
+ghost use Rattle.std.specs.Prelude.{◌≡◌, ◌≤◌, [], ◌∷◌, IfOk, map};
 ghost use Rattle.sample_files.specs.Sample.{counted, sample_document, sample_import};
 
 use itoa::Buffer;

@@ -1,5 +1,5 @@
 // The scopes of the sample file.
-ghost use Rattle.std.specs.Prelude.{◌≡◌, ℕ, ◌≤◌, [], ◌∷◌, IfOk, flat_map};
+ghost use Rattle.std.specs.Prelude.{◌≡◌, ◌≤◌, [], ◌∷◌, IfOk, flat_map};
 ghost use Rattle.sample_files.specs.Sample.{counted, outer_scope, inner_scope, sample_constant};
 
 use crate::hoisted::INNER;
