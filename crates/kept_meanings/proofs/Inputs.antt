@@ -1,5 +1,5 @@
 -- Inputs that fit can be joined, and what each says of a method is kept.
-use Rattle.std.proofs.Common.{◌≡◌, ◌≢◌, ℕ, ◌+◌, ◌++◌, Bool, List, [], ◌∷◌, Some, map}
+use Rattle.std.proofs.Common.{◌≡◌, ◌≢◌, ℕ, ◌++◌, Bool, List, [], ◌∷◌, Some, map}
 use Rattle.std.proofs.Common.{flat_map, refl, sym, ◌∙◌, ap}
 use Rattle.std.specs.Prelude.{nat_eq}
 use Rattle.std.specs.List.{filter}
@@ -38,34 +38,39 @@ pub map_split : {A B : Type 0} (f : A → B) (before after : List A) (x : A) →
 map_split f [] after x = refl
 map_split f (b ∷ bs) after x = ap (λ l. f b ∷ l) (map_split f bs after x)
 
--- ---- the methods of a moved input
+-- ---- the methods of a file, part by part
 
-methods_named : (first : Bool) (m : Map) (w : NotedFile) → MovedNames first m w → Each (IsImageOfNamed first m w) (methods_of (moved_file m w))
-methods_named first m w named =
+-- P of each method of which a file says something
+pub record EachMethod (P : ℕ → Type 0) (file : NotedFile) : Type 0 where
+  pub methods : Each (λ e. P e.method) file.methods
+  pub scopes : Each (λ s. P s.method) file.scopes
+  pub machines : Each (λ r. P r.move_next × P r.kickoff) file.machines
+  pub customs : Each (λ c. c.parent.table ≡ 0x06 → P c.parent.row) file.customs
+
+pub each_method : (P : ℕ → Type 0) (file : NotedFile) → EachMethod P file → Each P (methods_of file)
+each_method P file parts =
     Each-append P (map (λ (e : MethodValue). e.method) file.methods ++ map (λ (s : NotedScope). s.method) file.scopes
     ++ flat_map sides file.machines) of_records
     (Each-append P (map (λ (e : MethodValue). e.method) file.methods ++ map (λ (s : NotedScope). s.method) file.scopes) (flat_map sides file.machines)
     (Each-append P (map (λ (e : MethodValue). e.method) file.methods) (map (λ (s : NotedScope). s.method) file.scopes)
-    (Each-map (λ (e : MethodValue). e.method) P file.methods named.methods) (Each-map (λ (s : NotedScope). s.method) P file.scopes named.scopes))
+    (Each-map (λ (e : MethodValue). e.method) P file.methods parts.methods) (Each-map (λ (s : NotedScope). s.method) P file.scopes parts.scopes))
     (Each-flat sides P file.machines
     (Each-weaker (λ (r : MachineRow). P r.move_next × P r.kickoff) (λ r. Each P (sides r))
-    (λ r both. (both.0, (both.1, tt))) file.machines named.machines)))
+    (λ r both. (both.0, (both.1, tt))) file.machines parts.machines)))
     (Each-map (λ (c : CustomValue). c.parent.row) P (filter (λ (c : CustomValue). nat_eq c.parent.table 0x06) file.customs)
     (Each-filter (λ (c : CustomValue). c.parent.table ≡ 0x06 → P c.parent.row) (λ (c : CustomValue). P c.parent.row)
     (λ (c : CustomValue). nat_eq c.parent.table 0x06)
-    (λ c is holds. holds (eqb-true c.parent.table 0x06 is)) file.customs named.customs))
+    (λ c is holds. holds (eqb-true c.parent.table 0x06 is)) file.customs parts.customs))
   where
-    P : ℕ → Type 0
-    P = IsImageOfNamed first m w
-
-    file : NotedFile
-    file = moved_file m w
-
     sides : MachineRow → List ℕ
     sides r = r.move_next ∷ r.kickoff ∷ []
 
     of_records : List ℕ
     of_records = map (λ (c : CustomValue). c.parent.row) (filter (λ (c : CustomValue). nat_eq c.parent.table 0x06) file.customs)
+
+methods_named : (first : Bool) (m : Map) (w : NotedFile) → MovedNames first m w → Each (IsImageOfNamed first m w) (methods_of (moved_file m w))
+methods_named first m w named = each_method (IsImageOfNamed first m w) (moved_file m w)
+    (record { methods = named.methods; scopes = named.scopes; machines = named.machines; customs = named.customs })
 
 -- ---- inputs that fit
 
@@ -76,9 +81,11 @@ module _ (noted : SoundnessIsNoted) where
   moved_is_sound : (i : Input) → FitsAlone i → SoundMoved (moved_input i)
   moved_is_sound i fits = moved_sound i.0 i.1.map (noted_file i.1.value) fits.ready (input_sound i fits) fits.fits
 
+  pub input_parts : (i : Input) → FitsAlone i → MovedNames i.0 i.1.map (noted_file i.1.value)
+  input_parts i fits = moved_names i.0 i.1.map (noted_file i.1.value) fits.ready (input_sound i fits) fits.fits
+
   pub input_names : (i : Input) → FitsAlone i → Each (IsImageOfNamed i.0 i.1.map (noted_file i.1.value)) (methods_of (moved_input i))
-  input_names i fits = methods_named i.0 i.1.map (noted_file i.1.value)
-      (moved_names i.0 i.1.map (noted_file i.1.value) fits.ready (input_sound i fits) fits.fits)
+  input_names i fits = methods_named i.0 i.1.map (noted_file i.1.value) (input_parts i fits)
 
   inputs_apart : (a b : Input) → FitsAlone a → FitsAlone b → MethodsApart a b → AreApart (methods_of (moved_input a)) (methods_of (moved_input b))
   inputs_apart a b fits also apart =

@@ -89,12 +89,12 @@ no_part method file says =
 
 -- ---- the parts of joined files
 
-joined_methods : (files : List NotedFile)
+pub joined_methods : (files : List NotedFile)
     → (joined files).methods ≡ in_order (λ m. m.method) (flat_map (λ (f : NotedFile). f.methods) (renumbered_all (joined_documents files) 0 files))
 joined_methods [] = refl
 joined_methods (f ∷ fs) = refl
 
-joined_scopes : (files : List NotedFile)
+pub joined_scopes : (files : List NotedFile)
     → (joined files).scopes ≡ in_order (λ s. s.method) (flat_map (λ (f : NotedFile). f.scopes) (renumbered_all (joined_documents files) 0 files))
 joined_scopes [] = refl
 joined_scopes (f ∷ fs) = refl
@@ -103,7 +103,7 @@ joined_imports : (files : List NotedFile) → (joined files).imports ≡ flat_ma
 joined_imports [] = refl
 joined_imports (f ∷ fs) = refl
 
-joined_machines : (files : List NotedFile)
+pub joined_machines : (files : List NotedFile)
     → (joined files).machines ≡ in_order (λ r. r.move_next) (flat_map (λ (f : NotedFile). f.machines) (renumbered_all (joined_documents files) 0 files))
 joined_machines [] = refl
 joined_machines (f ∷ fs) = refl

@@ -74,7 +74,7 @@ lists_low documents n (f ∷ fs) each = (
   lists_low documents (n + length f.imports) fs each.1,
 )
 
-joined_back : (files : List NotedFile) → AreJoinable files → noted_file (value_of_noted (joined files)) ≡ joined files
+pub joined_back : (files : List NotedFile) → AreJoinable files → noted_file (value_of_noted (joined files)) ≡ joined files
 joined_back files able = file_back (joined files)
     (subst (Each IsLow) (sym (joined_customs files))
     (in_order_each (λ (c : CustomValue). coded_of c.parent) IsLow _

@@ -5,3 +5,4 @@ pub mod Keeping
 pub mod LastPoints
 pub mod MoreRows
 pub mod Only
+pub mod Origins

@@ -1,6 +1,7 @@
-// What joined files say of a method.
+// What joined files say of a method, and where what they say comes from.
 ghost use Rattle.kept_meanings.specs.Kept.{InputsKeepMeaning};
 ghost use Rattle.kept_meanings.specs.Laws.{JoinedMeans};
+ghost use Rattle.kept_meanings.specs.Origins.{InputsKeepOrigins};
 
 use ppdb_noted::soundness_is_noted;
 
@@ -12,6 +13,13 @@ pub fn joined_means()
 /// Inputs that fit are joined to a file that keeps what each said of its methods at the offsets that its map keeps.
 pub fn inputs_keep_meaning()
     ensures { InputsKeepMeaning }
+{
+    soundness_is_noted();
+}
+
+/// Inputs that fit are joined to a file each of whose methods comes from one of them, and whose other custom records are theirs in order.
+pub fn inputs_keep_origins()
+    ensures { InputsKeepOrigins }
 {
     soundness_is_noted();
 }

@@ -1,0 +1,111 @@
+-- The sample file of n methods (docs/FORMAT.md, "Sample"): eight methods a document, and in each points, two scopes with variables and a
+-- constant, and in every fourth a hoisted local (Portable PDB v1.0, "Metadata Tables" and the formats of its blobs).
+use Rattle.std.specs.Prelude.{ℕ, zero, suc, ◌+◌, ◌*◌, ◌/◌, ◌%◌, List, [], ◌∷◌, ◌++◌, None, Bool, nat_eq, codes, map}
+use Rattle.std.specs.List.{filter, flat_map, range_with_len}
+use Rattle.std.specs.Fmt.{decimal}
+use Rattle.std.specs.Int.{w32, to_le_bytes}
+use Rattle.custom_info.specs.Kinds.{hoisted_scopes}
+use Rattle.custom_info.specs.declared.slots.Range.{Range}
+use Rattle.custom_info.specs.declared.slots.Slot.TheVariants.{Held}
+use Rattle.ppdb_values.specs.declared.custom.CustomBody.TheVariants.{Hoisted}
+use Rattle.ppdb_values.specs.declared.custom.CustomValue.{CustomValue}
+use Rattle.ppdb_values.specs.declared.file.DocumentValue.{DocumentValue}
+use Rattle.ppdb_values.specs.declared.file.FileValue.{FileValue}
+use Rattle.ppdb_values.specs.declared.file.MethodValue.{MethodValue}
+use Rattle.ppdb_values.specs.declared.import.ImportScopeValue.{ImportScopeValue}
+use Rattle.ppdb_values.specs.declared.import.ImportValue.TheVariants.{Namespace}
+use Rattle.ppdb_values.specs.declared.scope.ConstantBody.TheVariants.{Primitive}
+use Rattle.ppdb_values.specs.declared.scope.ConstantValue.{ConstantValue}
+use Rattle.ppdb_values.specs.declared.scope.ScopeValue.{ScopeValue}
+use Rattle.ppdb_values.specs.WorkedSmall.{zeros, empty_value}
+use Rattle.sequence_points.specs.declared.point.Point.{Point}
+use Rattle.sequence_points.specs.declared.point.Span.TheVariants.{Hidden, Lines}
+
+-- from 1 on
+abbrev pub counted : ℕ → List ℕ
+counted n = range_with_len 1 n
+
+-- ---- documents: /s/1.cs, /s/2.cs and so on
+
+abbrev pub document_of : ℕ → ℕ
+document_of method = (method + 7) / 8
+
+abbrev pub sample_document : ℕ → DocumentValue
+sample_document j = record { name = codes "/s/" ++ decimal j ++ codes ".cs"; algorithm = None; hash = []; language = None }
+
+-- ---- methods: four points, the second hidden
+
+abbrev pub sample_points : ℕ → List Point
+sample_points i =
+    record { offset = 0; document = document_of i; span = Lines (4 * i) 1 (4 * i) 9 }
+    ∷ record { offset = 4; document = document_of i; span = Hidden }
+    ∷ record { offset = 8; document = document_of i; span = Lines (4 * i + 1) 5 (4 * i + 2) 3 }
+    ∷ record { offset = 12; document = document_of i; span = Lines (4 * i + 2) 1 (4 * i + 2) 2 } ∷ []
+
+abbrev pub sample_method : ℕ → MethodValue
+sample_method i = record { method = i; signature = 1; points = sample_points i }
+
+-- ---- scopes: one of the whole method with a, and one in it with b and k
+
+abbrev pub inner_range : Range
+inner_range = record { start = 4; end = 12 }
+
+abbrev pub outer_scope : ℕ → ScopeValue
+outer_scope i = record {
+  method = i;
+  import = 1;
+  range = record { start = 0; end = 16 };
+  variables = record { attributes = 0; slot = 0; name = codes "a" } ∷ [];
+  constants = [];
+}
+
+-- the number of the method, as a constant of type int32 (ECMA-335 II.23.1.16: 08)
+abbrev pub sample_constant : ℕ → ConstantValue
+sample_constant i = record { name = codes "k"; modifiers = []; body = Primitive 0x08 (to_le_bytes w32 i) }
+
+abbrev pub inner_scope : ℕ → ScopeValue
+inner_scope i = record {
+  method = i;
+  import = 1;
+  range = inner_range;
+  variables = record { attributes = 0; slot = 1; name = codes "b" } ∷ [];
+  constants = sample_constant i ∷ [];
+}
+
+-- ---- one import scope: System
+
+abbrev pub sample_import : ImportScopeValue
+sample_import = record { parent = 0; imports = Namespace (codes "System") ∷ [] }
+
+-- ---- a hoisted local in each fourth method
+
+abbrev pub is_fourth : ℕ → Bool
+is_fourth i = nat_eq (i % 4) 0
+
+abbrev pub sample_custom : ℕ → CustomValue
+sample_custom i = record { parent = record { table = 0x06; row = i }; kind = hoisted_scopes; value = Hoisted (Held inner_range ∷ []) }
+
+-- ---- the file
+
+-- one row of TypeRef, n of MethodDef, one of StandAloneSig and one of AssemblyRef
+abbrev pub sample_rows : ℕ → List ℕ
+sample_rows n = 0 ∷ 1 ∷ 0 ∷ 0 ∷ 0 ∷ 0 ∷ n ∷ zeros 10 ++ (1 ∷ zeros 17 ++ (1 ∷ zeros 28))
+
+-- of some methods
+abbrev pub sample_of : ℕ → FileValue
+sample_of n = record {
+  id = zeros 20;
+  entry = 1;
+  rows = sample_rows n;
+  documents = map sample_document (counted (document_of n));
+  methods = map sample_method (counted n);
+  scopes = flat_map (λ i. outer_scope i ∷ inner_scope i ∷ []) (counted n);
+  imports = sample_import ∷ [];
+  machines = [];
+  customs = map sample_custom (filter is_fourth (counted n));
+}
+
+-- The sample of no method is empty.
+abbrev pub sample : ℕ → FileValue
+sample zero = empty_value
+sample (suc k) = sample_of (suc k)

@@ -1,0 +1,6 @@
+//! A law: the map without lines fits every sound file, which stays what it is when it is moved by that map and joined alone.
+#![tactic(auto)]
+
+mod laws;
+
+pub use laws::sound_files_stay;
