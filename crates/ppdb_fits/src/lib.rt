@@ -1,0 +1,7 @@
+//! Whether a map fits a debug file: what does not fit first, and where all fits, the rows that the file names with their images.
+#![tactic(auto)]
+
+mod laws;
+mod used;
+
+pub use laws::{worked_maps};
