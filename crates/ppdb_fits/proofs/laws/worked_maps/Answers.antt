@@ -1,7 +1,13 @@
 use Rattle.std.proofs.Common.{refl}
+use Rattle.blob_grammar.specs.Reader.{read_from, read_for, signed_at, unsigned_at}
+use Rattle.ppdb_heaps.specs.Heaps.{blob_at}
+use Rattle.ppdb_references.specs.References.{references}
+use Rattle.ppdb_values.specs.RawFile.{records_of}
+use Rattle.ppdb_fits.specs.Clashes.{first_clash}
 use Rattle.ppdb_fits.proofs.laws.worked_maps.Goals as goal
 
 pub returns : goal.returns
+unfolding first_clash references records_of blob_at read_from read_for signed_at unsigned_at
 returns c = record {
   nothing = refl;
   point = refl;
