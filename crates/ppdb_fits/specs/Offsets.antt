@@ -33,9 +33,12 @@ offset_in method offset = record { method = method; offset = offset }
 abbrev pub step_offsets : ℕ → AsyncStep → List MethodOffset
 step_offsets method step = offset_in method step.pause ∷ offset_in step.method step.resume ∷ []
 
+abbrev pub handler_offsets : ℕ → Option ℕ → List MethodOffset
+handler_offsets method handler = map (offset_in method) (option_to_list handler)
+
 -- in the order of their bytes
 abbrev pub async_offsets : ℕ → CustomBody → List MethodOffset
-async_offsets method (Async handler steps) = map (offset_in method) (option_to_list handler) ++ flat_map (step_offsets method) steps
+async_offsets method (Async handler steps) = handler_offsets method handler ++ flat_map (step_offsets method) steps
 async_offsets method body = []
 
 -- ---- what lies beyond the old size of a method that has a line

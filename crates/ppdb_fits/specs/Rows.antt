@@ -30,4 +30,4 @@ abbrev pub image_twice : Imaged → Imaged → MergeError
 image_twice a b = ImageTwice a.table a.row b.row a.image
 
 abbrev pub images_twice : Bool → Map → RawFile → List MergeError
-images_twice first m raw = twice (λ (i : Imaged). i.table) (λ i. i.image) image_twice (imaged_rows first m raw)
+images_twice first m raw = twice (λ (i : Imaged). i.table) (λ i. i.row) (λ i. i.image) image_twice (imaged_rows first m raw)

@@ -34,12 +34,15 @@ used m x =
     cond (is_dropped m x.method) None
     (option_map (λ image. record { method = x.method; slot = x.slot; image = image }) (slot_image m x.method x.slot))
 
-abbrev pub used_slots : Map → FileValue → List UsedSlot
-used_slots m value = each_once (λ (u : UsedSlot). u.method) (λ u. u.slot) (λ u. u.image) (filter_map (used m) (variable_slots value))
+abbrev pub used_slots : Map → List MethodSlot → List UsedSlot
+used_slots m slots = each_once (λ (u : UsedSlot). u.method) (λ u. u.slot) (λ u. u.image) (filter_map (used m) slots)
 
 -- two of them have one image
 abbrev pub slot_twice : UsedSlot → UsedSlot → MergeError
 slot_twice a b = SlotTwice a.method a.slot b.slot a.image
 
+abbrev pub twice_of : Map → List MethodSlot → List MergeError
+twice_of m slots = twice (λ (u : UsedSlot). u.method) (λ u. u.slot) (λ u. u.image) slot_twice (used_slots m slots)
+
 abbrev pub slots_twice : Map → FileValue → List MergeError
-slots_twice m value = twice (λ (u : UsedSlot). u.method) (λ u. u.image) slot_twice (used_slots m value)
+slots_twice m value = twice_of m (variable_slots value)

@@ -1,5 +1,5 @@
 -- Rows of a table, and slots of a method, that have one image.
-use Rattle.std.specs.Prelude.{ℕ, ◌&&◌, Bool, cond, nat_eq, List, [], ◌∷◌, ◌++◌}
+use Rattle.std.specs.Prelude.{ℕ, ◌&&◌, not, Bool, cond, nat_eq, List, [], ◌∷◌, ◌++◌}
 use Rattle.std.specs.List.{dedup}
 use Rattle.ppdb_noted.specs.Sorted.{in_order}
 
@@ -20,11 +20,13 @@ abbrev pub beside : {A B : Type 0} → (A → A → List B) → List A → List 
 beside told [] = []
 beside told (x ∷ xs) = beside_from told x xs
 
--- what is told of two items of one group that have one image
-abbrev pub if_one_image : {A B : Type 0} → (A → ℕ) → (A → ℕ) → (A → A → B) → A → A → List B
-if_one_image group image told a b = cond (nat_eq (group a) (group b) && nat_eq (image a) (image b)) (told a b ∷ []) []
+-- what is told of two items of one group that differ and have one image
+abbrev pub have_one_image : {A : Type 0} → (A → ℕ) → (A → ℕ) → (A → ℕ) → A → A → Bool
+have_one_image group number image a b = nat_eq (group a) (group b) && (nat_eq (image a) (image b) && not (nat_eq (number a) (number b)))
 
--- Items that differ, in the order of their groups, and in a group of their images: two with one image stand side by side, the first two
--- of them first.
-abbrev pub twice : {A B : Type 0} → (A → ℕ) → (A → ℕ) → (A → A → B) → List A → List B
-twice group image told items = beside (if_one_image group image told) (in_order group (in_order image items))
+abbrev pub if_one_image : {A B : Type 0} → (A → ℕ) → (A → ℕ) → (A → ℕ) → (A → A → B) → A → A → List B
+if_one_image group number image told a b = cond (have_one_image group number image a b) (told a b ∷ []) []
+
+-- Items in the order of their groups and, in a group, of their images: two with one image stand side by side, the first two first.
+abbrev pub twice : {A B : Type 0} → (A → ℕ) → (A → ℕ) → (A → ℕ) → (A → A → B) → List A → List B
+twice group number image told items = beside (if_one_image group number image told) (in_order group (in_order image items))

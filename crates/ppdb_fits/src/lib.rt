@@ -1,7 +1,12 @@
 //! Whether a map fits a debug file: what does not fit first, and where all fits, the rows that the file names with their images.
 #![tactic(auto)]
 
+mod judged;
+mod kinds;
 mod laws;
+mod offsets;
+mod slots;
+mod twice;
 mod used;
 
-pub use laws::{worked_maps};
+pub use laws::worked_maps;

@@ -1,0 +1,101 @@
+-- The first of what is told of items, one after the other.
+use Rattle.std.proofs.Common.{◌≡◌, ℕ, zero, suc, ◌+◌, ◌<◌, ◌≤◌, ◌++◌, List, [], ◌∷◌, Option, Some, None, length, take, flat_map, slice_get, get_or, refl, sym}
+use Rattle.std.specs.List.{enumerate_from}
+use Rattle.std.proofs.Common.{◌∙◌, ap, subst, arith}
+
+pub nil_parts : {A : Type 0} (xs ys : List A) → xs ++ ys ≡ [] → (xs ≡ []) × (ys ≡ [])
+nil_parts [] ys e = (refl, e)
+nil_parts (x ∷ xs) ys e = absurd cc
+
+-- a list without a first item is empty
+pub no_first : {A : Type 0} (xs : List A) → slice_get xs 0 ≡ None → xs ≡ []
+no_first [] none = refl
+no_first (x ∷ xs) none = absurd cc
+
+pub first_front : {A : Type 0} (xs ys : List A) (x : A) → slice_get xs 0 ≡ Some x → slice_get (xs ++ ys) 0 ≡ Some x
+first_front [] ys x is = absurd cc
+first_front (y ∷ xs) ys x is = is
+
+pub first_back : {A : Type 0} (xs ys : List A) → slice_get xs 0 ≡ None → slice_get (xs ++ ys) 0 ≡ slice_get ys 0
+first_back [] ys none = refl
+first_back (y ∷ xs) ys none = absurd cc
+
+pub append_is : {A : Type 0} (xs ys zs : List A) → xs ++ (ys ++ zs) ≡ (xs ++ ys) ++ zs
+append_is [] ys zs = refl
+append_is (x ∷ xs) ys zs = ap (λ l. x ∷ l) (append_is xs ys zs)
+
+-- within a list it does not matter which item would stand past its end
+pub there : {A : Type 0} (xs : List A) (i : ℕ) (d e : A) → i < length xs → get_or xs i d ≡ get_or xs i e
+there [] i d e less = absurd (omega (arith, less))
+there (x ∷ xs) zero d e less = refl
+there (x ∷ xs) (suc i) d e less = there xs i d e (omega (arith, less))
+
+-- the items up to and with one
+pub take_next : {A : Type 0} (xs : List A) (i : ℕ) (x : A) → i < length xs → x ≡ get_or xs i x → take (i + 1) xs ≡ take i xs ++ x ∷ []
+take_next xs i x less is = let e : i + 1 ≡ suc i = omega arith in ap (λ n. take n xs) e ∙ next xs i less is
+  where
+    next : (ys : List _) (k : ℕ) → k < length ys → x ≡ get_or ys k x → take (suc k) ys ≡ take k ys ++ x ∷ []
+    next [] k less is = absurd (omega (arith, less))
+    next (y ∷ ys) zero less is = ap (λ z. z ∷ []) (sym is)
+    next (y ∷ ys) (suc k) less is = ap (λ l. y ∷ l) (next ys k (omega (arith, less)) is)
+
+pub take_all : {A : Type 0} (xs : List A) (i : ℕ) → length xs ≤ i → take i xs ≡ xs
+take_all [] zero all = refl
+take_all [] (suc i) all = refl
+take_all (x ∷ xs) zero all = absurd (omega (arith, all))
+take_all (x ∷ xs) (suc i) all = ap (λ l. x ∷ l) (take_all xs i (omega (arith, all)))
+
+-- an item with its number
+pub numbered_at : {A : Type 0} (n : ℕ) (xs : List A) (i : ℕ) (x : A) (d : ℕ × A) → i < length xs → x ≡ get_or xs i x
+    → (n + i, x) ≡ get_or (enumerate_from n xs) i d
+numbered_at n [] i x d less is = absurd (omega (arith, less))
+numbered_at n (y ∷ ys) zero x d less is = let e : n + 0 ≡ n = omega arith in ap (λ k. (k, x)) e ∙ ap (λ z. (n, z)) is
+numbered_at n (y ∷ ys) (suc i) x d less is =
+    let e : n + suc i ≡ n + 1 + i = omega arith in ap (λ k. (k, x)) e ∙ numbered_at (n + 1) ys i x d (omega (arith, less)) is
+
+module _ {A B : Type 0} (f : A → List B) where
+  pub hit : (xs : List A) (i : ℕ) (x : A) (e : B) → flat_map f (take i xs) ≡ [] → i < length xs → x ≡ get_or xs i x → slice_get (f x) 0 ≡ Some e
+      → slice_get (flat_map f xs) 0 ≡ Some e
+  hit [] i x e none less is told = absurd (omega (arith, less))
+  hit (y ∷ ys) zero x e none less is told = first_front (f y) (flat_map f ys) e (subst (λ z. slice_get (f z) 0 ≡ Some e) is told)
+  hit (y ∷ ys) (suc i) x e none less is told =
+      let parts = nil_parts (f y) (flat_map f (take i ys)) none in
+      ap (λ l. slice_get (l ++ flat_map f ys) 0) parts.0 ∙ hit ys i x e parts.1 (omega (arith, less)) is told
+
+  after : (xs : List A) (i : ℕ) (x : A) → flat_map f (take i xs) ≡ [] → i < length xs → x ≡ get_or xs i x → f x ≡ [] → flat_map f (take (suc i) xs) ≡ []
+  after [] i x none less is told = absurd (omega (arith, less))
+  after (y ∷ ys) zero x none less is told = ap (λ l. l ++ []) (subst (λ z. f z ≡ []) is told)
+  after (y ∷ ys) (suc i) x none less is told =
+      let parts = nil_parts (f y) (flat_map f (take i ys)) none in
+      ap (λ l. l ++ flat_map f (take (suc i) ys)) parts.0 ∙ after ys i x parts.1 (omega (arith, less)) is told
+
+  pub miss : (xs : List A) (i : ℕ) (x : A) → flat_map f (take i xs) ≡ [] → i < length xs → x ≡ get_or xs i x → slice_get (f x) 0 ≡ None
+      → flat_map f (take (i + 1) xs) ≡ []
+  miss xs i x none less is told =
+      let e : i + 1 ≡ suc i = omega arith in
+      ap (λ n. flat_map f (take n xs)) e ∙ after xs i x none less is (no_first (f x) told)
+
+  pub none_left : (xs : List A) (i : ℕ) → flat_map f (take i xs) ≡ [] → length xs ≤ i → slice_get (flat_map f xs) 0 ≡ None
+  none_left [] i none all = refl
+  none_left (y ∷ ys) zero none all = absurd (omega (arith, all))
+  none_left (y ∷ ys) (suc i) none all =
+      let parts = nil_parts (f y) (flat_map f (take i ys)) none in
+      ap (λ l. slice_get (l ++ flat_map f ys) 0) parts.0 ∙ none_left ys i parts.1 (omega (arith, all))
+
+  pub flat_append : (xs ys : List A) → flat_map f (xs ++ ys) ≡ flat_map f xs ++ flat_map f ys
+  flat_append [] ys = refl
+  flat_append (x ∷ xs) ys = ap (λ l. f x ++ l) (flat_append xs ys) ∙ append_is (f x) (flat_map f xs) (flat_map f ys)
+
+  pub flat_nested : {C : Type 0} (g : C → List A) (cs : List C) → flat_map f (flat_map g cs) ≡ flat_map (λ c. flat_map f (g c)) cs
+  flat_nested g [] = refl
+  flat_nested g (c ∷ cs) = flat_append (g c) (flat_map g cs) ∙ ap (λ l. flat_map f (g c) ++ l) (flat_nested g cs)
+
+  -- of items, and then of the items that others give
+  pub first_then : {C : Type 0} (xs : List A) (g : C → List A) (cs : List C) → slice_get (flat_map f xs) 0 ≡ None
+      → slice_get (flat_map f (xs ++ flat_map g cs)) 0 ≡ slice_get (flat_map (λ c. flat_map f (g c)) cs) 0
+  first_then xs g cs none =
+      ap (λ l. slice_get l 0) (flat_append xs (flat_map g cs)) ∙ first_back (flat_map f xs) (flat_map f (flat_map g cs)) none
+      ∙ ap (λ l. slice_get l 0) (flat_nested g cs)
+
+  pub first_of_both : (xs ys : List A) (e : B) → slice_get (flat_map f xs) 0 ≡ Some e → slice_get (flat_map f (xs ++ ys)) 0 ≡ Some e
+  first_of_both xs ys e is = ap (λ l. slice_get l 0) (flat_append xs ys) ∙ first_front (flat_map f xs) (flat_map f ys) e is
