@@ -1,6 +1,9 @@
 -- The first of what is told of items, one after the other.
 use Rattle.std.proofs.Common.{◌≡◌, ℕ, zero, suc, ◌+◌, ◌<◌, ◌≤◌, ◌++◌, List, [], ◌∷◌, Option, Some, None, length, take, flat_map, slice_get, get_or, refl, sym}
-use Rattle.std.specs.List.{enumerate_from}
+use Rattle.std.proofs.Common.{Bool, true, false, ◌||◌, map, append-nil}
+use Rattle.std.specs.Option.{option_to_list}
+use Rattle.std.specs.List.{enumerate_from, filter_map, cons_option, list_any}
+use Rattle.std.proofs.lemmas.List.FromFn.{length-enumerate_from}
 use Rattle.std.proofs.Common.{◌∙◌, ap, subst, arith}
 
 pub nil_parts : {A : Type 0} (xs ys : List A) → xs ++ ys ≡ [] → (xs ≡ []) × (ys ≡ [])
@@ -99,3 +102,92 @@ module _ {A B : Type 0} (f : A → List B) where
 
   pub first_of_both : (xs ys : List A) (e : B) → slice_get (flat_map f xs) 0 ≡ Some e → slice_get (flat_map f (xs ++ ys)) 0 ≡ Some e
   first_of_both xs ys e is = ap (λ l. slice_get l 0) (flat_append xs ys) ∙ first_front (flat_map f xs) (flat_map f ys) e is
+
+module _ {A B : Type 0} (f : ℕ × A → List B) where
+  -- the same of items by their rows from 1
+  row_is : (xs : List A) (i row : ℕ) (x : A) → row ≡ i → i < length xs → x ≡ get_or xs i x → (row + 1, x) ≡ get_or (enumerate_from 1 xs) i (row + 1, x)
+  row_is xs i row x same less is =
+      let e : row + 1 ≡ 1 + i = omega (arith, same) in ap (λ n. (n, x)) e ∙ numbered_at 1 xs i x (row + 1, x) less is
+
+  inside : (xs : List A) (i : ℕ) → i < length xs → i < length (enumerate_from 1 xs)
+  inside xs i less = omega (arith, less, length-enumerate_from 1 xs)
+
+  pub hit_row : (xs : List A) (i row : ℕ) (x : A) (e : B) → row ≡ i → flat_map f (take i (enumerate_from 1 xs)) ≡ [] → i < length xs → x ≡ get_or xs i x
+      → slice_get (f (row + 1, x)) 0 ≡ Some e → slice_get (flat_map f (enumerate_from 1 xs)) 0 ≡ Some e
+  hit_row xs i row x e same none less is told =
+      hit f (enumerate_from 1 xs) i (row + 1, x) e none (inside xs i less) (row_is xs i row x same less is) told
+
+  pub miss_row : (xs : List A) (i row : ℕ) (x : A) → row ≡ i → flat_map f (take i (enumerate_from 1 xs)) ≡ [] → i < length xs → x ≡ get_or xs i x
+      → slice_get (f (row + 1, x)) 0 ≡ None → flat_map f (take (i + 1) (enumerate_from 1 xs)) ≡ []
+  miss_row xs i row x same none less is told = miss f (enumerate_from 1 xs) i (row + 1, x) none (inside xs i less) (row_is xs i row x same less is) told
+
+  pub none_of_rows : (xs : List A) (i : ℕ) → flat_map f (take i (enumerate_from 1 xs)) ≡ [] → length xs ≤ i
+      → slice_get (flat_map f (enumerate_from 1 xs)) 0 ≡ None
+  none_of_rows xs i none all = none_left f (enumerate_from 1 xs) i none (omega (arith, all, length-enumerate_from 1 xs))
+
+-- ---- other lists that are made item by item
+
+pub map_next : {A B : Type 0} (f : A → B) (xs : List A) (i : ℕ) (x : A) → i < length xs → x ≡ get_or xs i x
+    → map f (take (i + 1) xs) ≡ map f (take i xs) ++ f x ∷ []
+map_next f xs i x less is = ap (map f) (take_next xs i x less is) ∙ split (take i xs)
+  where
+    split : (ys : List _) → map f (ys ++ x ∷ []) ≡ map f ys ++ f x ∷ []
+    split [] = refl
+    split (y ∷ ys) = ap (λ l. f y ∷ l) (split ys)
+
+pub flat_next : {A B : Type 0} (f : A → List B) (xs : List A) (i : ℕ) (x : A) → i < length xs → x ≡ get_or xs i x
+    → flat_map f (take (i + 1) xs) ≡ flat_map f (take i xs) ++ f x
+flat_next f xs i x less is =
+    ap (flat_map f) (take_next xs i x less is) ∙ flat_append f (take i xs) (x ∷ []) ∙ ap (λ l. flat_map f (take i xs) ++ l) (append-nil (f x))
+
+one_option : {B : Type 0} (o : Option B) → cons_option o [] ≡ option_to_list o
+one_option None = refl
+one_option (Some b) = refl
+
+more_option : {B : Type 0} (o : Option B) (xs ys : List B) → cons_option o (xs ++ ys) ≡ cons_option o xs ++ ys
+more_option None xs ys = refl
+more_option (Some b) xs ys = refl
+
+pub filter_next : {A B : Type 0} (f : A → Option B) (xs : List A) (i : ℕ) (x : A) → i < length xs → x ≡ get_or xs i x
+    → filter_map f (take (i + 1) xs) ≡ filter_map f (take i xs) ++ option_to_list (f x)
+filter_next f xs i x less is = ap (filter_map f) (take_next xs i x less is) ∙ split (take i xs)
+  where
+    split : (ys : List _) → filter_map f (ys ++ x ∷ []) ≡ filter_map f ys ++ option_to_list (f x)
+    split [] = one_option (f x)
+    split (y ∷ ys) = ap (cons_option (f y)) (split ys) ∙ more_option (f y) (filter_map f ys) (option_to_list (f x))
+
+-- ---- whether some item passes a test
+
+or_false : (a b : Bool) → (a || b) ≡ false → (a ≡ false) × (b ≡ false)
+or_false true b e = absurd cc
+or_false false b e = (refl, e)
+
+module _ {A : Type 0} (p : A → Bool) where
+  pub any_hit : (xs : List A) (i : ℕ) (x : A) → i < length xs → x ≡ get_or xs i x → p x ≡ true → list_any p xs ≡ true
+  any_hit [] i x less is holds = absurd (omega (arith, less))
+  any_hit (y ∷ ys) zero x less is holds = ap (λ b. b || list_any p ys) (subst (λ z. p z ≡ true) is holds)
+  any_hit (y ∷ ys) (suc i) x less is holds = step (p y) (any_hit ys i x (omega (arith, less)) is holds)
+    where
+      step : (b : Bool) → list_any p ys ≡ true → (b || list_any p ys) ≡ true
+      step true rest = refl
+      step false rest = rest
+
+  pub any_miss : (xs : List A) (i : ℕ) (x : A) → list_any p (take i xs) ≡ false → i < length xs → x ≡ get_or xs i x → p x ≡ false
+      → list_any p (take (i + 1) xs) ≡ false
+  any_miss xs i x none less is fails = ap (list_any p) (take_next xs i x less is) ∙ split (take i xs) none
+    where
+      split : (ys : List A) → list_any p ys ≡ false → list_any p (ys ++ x ∷ []) ≡ false
+      split [] none = ap (λ b. b || false) fails
+      split (y ∷ ys) none =
+          let parts = or_false (p y) (list_any p ys) none in ap (λ b. b || list_any p (ys ++ x ∷ [])) parts.0 ∙ split ys parts.1
+
+  pub any_none : (xs : List A) (i : ℕ) → list_any p (take i xs) ≡ false → length xs ≤ i → list_any p xs ≡ false
+  any_none xs i none all = sym (ap (list_any p) (take_all xs i all)) ∙ none
+
+  -- where none passes, nothing is told of those that pass
+  pub none_told : {B : Type 0} (f : ℕ × A → List B) → ((x : ℕ × A) → p x.1 ≡ false → f x ≡ []) → (n : ℕ) (xs : List A) → list_any p xs ≡ false
+      → flat_map f (enumerate_from n xs) ≡ []
+  none_told f silent n [] none = refl
+  none_told f silent n (x ∷ xs) none =
+      let parts = or_false (p x) (list_any p xs) none in
+      ap (λ l. l ++ flat_map f (enumerate_from (n + 1) xs)) (silent (n, x) parts.0) ∙ none_told f silent (n + 1) xs parts.1

@@ -1,4 +1,6 @@
 pub mod Clashes
+pub mod FirstOf
+pub mod Laws
 pub mod Offsets
 pub mod Rows
 pub mod Slots

@@ -1,5 +1,5 @@
 // Custom records of unknown kinds.
-ghost use Rattle.std.specs.Prelude.{◌≡◌, ◌≤◌, ◌<◌, ◌^◌, ◌++◌, IfOk, OnOk, length, map, slice_get};
+ghost use Rattle.std.specs.Prelude.{◌≡◌, ◌≤◌, ◌++◌, IfOk, OnOk, length, map, slice_get};
 ghost use Rattle.std.specs.List.{flat_map, list_any};
 ghost use Rattle.custom_info.specs.Kinds.{kind_of as the_kind};
 ghost use Rattle.ppdb_tables.specs.RawTables.{numbered, row_at};
@@ -16,7 +16,6 @@ use std::marker::Model;
 
 /// Puts a method behind others, once for each item.
 fn put_for_each<T>(methods: &mut List<u32>, method: u32, items: &[T]) -> Result<(), Memory>
-    requires { length items.now < 2 ^ 63 }
     ensures { OnOk result (methods.new ≡ methods.old ++ map (λ item. method) items.now) }
 {
     for _ in items {

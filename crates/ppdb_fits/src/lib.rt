@@ -2,6 +2,7 @@
 #![tactic(auto)]
 
 mod judged;
+mod judging;
 mod kinds;
 mod laws;
 mod offsets;
@@ -9,4 +10,5 @@ mod slots;
 mod twice;
 mod used;
 
+pub use judging::judge;
 pub use laws::worked_maps;

@@ -1,5 +1,5 @@
 // Slots of variables that have no image, and slots of a method that have one image.
-ghost use Rattle.std.specs.Prelude.{◌≡◌, ◌≤◌, ◌++◌, IfOk, OnOk, length, slice_get};
+ghost use Rattle.std.specs.Prelude.{◌≡◌, ◌≤◌, ◌++◌, IfOk, OnOk, length, option_to_list, slice_get};
 ghost use Rattle.std.specs.List.{filter_map, flat_map};
 ghost use Rattle.ppdb_tables.specs.RawTables.{numbered};
 ghost use Rattle.ppdb_fits.specs.Slots.{scope_slots, variable_slots, if_slot_unmapped, slots_unmapped, used, twice_of, slots_twice};
@@ -77,6 +77,16 @@ fn used(map: &MapText, x: &MethodSlot) -> Option<UsedSlot>
     }
 }
 
+/// Adds a slot that a variable of a method uses.
+fn add_used(all: &mut Vec<UsedSlot>, map: &MapText, x: &MethodSlot) -> Result<(), Memory>
+    ensures { OnOk result (all.new.items ≡ all.old.items ++ option_to_list (used map.now x.now)) }
+{
+    if let Some(found) = used(map, x) {
+        all.push(found)?;
+    }
+    Ok(())
+}
+
 /// The slots that variables use, with their images.
 fn used_slots(
     alloc: Global,
@@ -87,9 +97,7 @@ fn used_slots(
 {
     let mut all = Vec::with_capacity(alloc, slots.len())?;
     for x in slots {
-        if let Some(found) = used(map, x) {
-            all.push(found)?;
-        }
+        add_used(&mut all, map, x)?;
     }
     Ok(all)
 }

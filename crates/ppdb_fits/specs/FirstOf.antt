@@ -1,0 +1,9 @@
+-- What is told, or that nothing is.
+use Rattle.std.specs.Prelude.{◌≡◌, ◌⊎◌, List, [], Some, Result, Ok, Err, slice_get}
+use Rattle.ppdb_base.specs.declared.merge_error.MergeError.{MergeError}
+use Rattle.ppdb_base.specs.declared.merge_error.MergeError.TheVariants.{Memory}
+
+-- An answer that is one where nothing is told; else it is the first that is told, or memory is refused.
+abbrev pub IsFirstOf : {A : Type 0} → List MergeError → Result A MergeError → Type 0
+IsFirstOf told (Ok answer) = told ≡ []
+IsFirstOf told (Err error) = (error ≡ Memory) ⊎ (slice_get told 0 ≡ Some error)
