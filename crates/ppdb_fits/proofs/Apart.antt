@@ -1,5 +1,5 @@
 -- Items of a group of which nothing is told have one image only where they have one number.
-use Rattle.std.proofs.Common.{◌≡◌, ℕ, ◌<◌, ◌≤◌, ◌×◌, ◌⊎◌, ◌&&◌, ◌++◌, Bool, true, false, cond, List, [], ◌∷◌, refl, sym, ◌∙◌, ap, subst, inl, inr, arith}
+use Rattle.std.proofs.Common.{◌≡◌, ℕ, ◌<◌, ◌≤◌, ◌⊎◌, ◌&&◌, ◌++◌, Bool, true, false, cond, List, [], ◌∷◌, refl, sym, ◌∙◌, ap, subst, inl, inr, arith}
 use Rattle.std.specs.Prelude.{nat_eq, nat_le, not}
 use Rattle.std.specs.List.{dedup, dedup_from}
 use Rattle.std.proofs.lemmas.Bool.{cases_lt, eq-eqb, eqb-true, and_parts, le-leb, lt-leb}
@@ -18,11 +18,11 @@ each_both P Q R holds (x ∷ xs) p q = (holds x p.0 q.0, each_both P Q R holds x
 
 unput : {A : Type 0} (key : A → ℕ) (P : A → Type 0) (x : A) (ys : List A) → Each P (put key x ys) → P x × Each P ys
 unput key P x [] each = each
-unput key P x (y ∷ ys) each = step (nat_le (key x) (key y)) each
+unput key P x (y ∷ ys) each = step (nat_le (key x) (key y)) each (λ later. unput key P x ys later)
   where
-    step : (b : Bool) → Each P (cond b (x ∷ y ∷ ys) (y ∷ put key x ys)) → P x × Each P (y ∷ ys)
-    step true each = (each.0, each.1)
-    step false each = let rest = unput key P x ys each.1 in (rest.0, (each.0, rest.1))
+    step : (b : Bool) → Each P (cond b (x ∷ y ∷ ys) (y ∷ put key x ys)) → (Each P (put key x ys) → P x × Each P ys) → P x × Each P (y ∷ ys)
+    step true each on = (each.0, each.1)
+    step false each on = let rest = on each.1 in (rest.0, (each.0, rest.1))
 
 unsorted : {A : Type 0} (key : A → ℕ) (P : A → Type 0) (xs : List A) → Each P (in_order key xs) → Each P xs
 unsorted key P [] each = tt
@@ -31,11 +31,12 @@ unsorted key P (x ∷ xs) each = let parts = unput key P x (in_order key xs) eac
 module _ {A : Type 0} (same : A → A → Bool) (equal : (x y : A) → same x y ≡ true → x ≡ y) (P : A → Type 0) where
   undedup_from : (k : A) (xs : List A) → Each P (dedup_from same k xs) → P k × Each P xs
   undedup_from k [] each = each
-  undedup_from k (x ∷ xs) each = step (same x k) refl each
+  undedup_from k (x ∷ xs) each = step (same x k) refl each (λ l. undedup_from k xs l) (λ l. undedup_from x xs l)
     where
-      step : (b : Bool) → same x k ≡ b → Each P (cond b (dedup_from same k xs) (k ∷ dedup_from same x xs)) → P k × Each P (x ∷ xs)
-      step true is each = let rest = undedup_from k xs each in (rest.0, (subst P (sym (equal x k is)) rest.0, rest.1))
-      step false is each = let rest = undedup_from x xs each.1 in (each.0, (rest.0, rest.1))
+      step : (b : Bool) → same x k ≡ b → Each P (cond b (dedup_from same k xs) (k ∷ dedup_from same x xs))
+          → (Each P (dedup_from same k xs) → P k × Each P xs) → (Each P (dedup_from same x xs) → P x × Each P xs) → P k × Each P (x ∷ xs)
+      step true is each on then = let rest = on each in (rest.0, (subst P (sym (equal x k is)) rest.0, rest.1))
+      step false is each on then = let rest = then each.1 in (each.0, (rest.0, rest.1))
 
   undedup : (xs : List A) → Each P (dedup same xs) → Each P xs
   undedup [] each = tt

@@ -4,5 +4,7 @@ pub mod Counted
 pub mod Far
 pub mod First
 pub mod Fitting
+pub mod FittingRows
 pub mod Images
+pub mod Nothing
 pub mod Told

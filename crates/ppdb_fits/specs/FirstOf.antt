@@ -3,7 +3,11 @@ use Rattle.std.specs.Prelude.{◌≡◌, ◌⊎◌, List, [], Some, Result, Ok, 
 use Rattle.ppdb_base.specs.declared.merge_error.MergeError.{MergeError}
 use Rattle.ppdb_base.specs.declared.merge_error.MergeError.TheVariants.{Memory}
 
--- An answer that is one where nothing is told; else it is the first that is told, or memory is refused.
+-- the first that is told, or that memory is refused
+abbrev pub IsTold : List MergeError → MergeError → Type 0
+IsTold told error = (error ≡ Memory) ⊎ (slice_get told 0 ≡ Some error)
+
+-- an answer where nothing is told, else the first that is
 abbrev pub IsFirstOf : {A : Type 0} → List MergeError → Result A MergeError → Type 0
 IsFirstOf told (Ok answer) = told ≡ []
-IsFirstOf told (Err error) = (error ≡ Memory) ⊎ (slice_get told 0 ≡ Some error)
+IsFirstOf told (Err error) = IsTold told error

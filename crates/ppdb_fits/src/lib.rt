@@ -7,8 +7,10 @@ mod kinds;
 mod laws;
 mod offsets;
 mod slots;
+#[cfg(test)]
+mod tests;
 mod twice;
 mod used;
 
 pub use judging::judge;
-pub use laws::worked_maps;
+pub use laws::{nothing_clashes, worked_maps};
