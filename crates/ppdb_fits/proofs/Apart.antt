@@ -28,19 +28,20 @@ unsorted : {A : Type 0} (key : A → ℕ) (P : A → Type 0) (xs : List A) → E
 unsorted key P [] each = tt
 unsorted key P (x ∷ xs) each = let parts = unput key P x (in_order key xs) each in (parts.0, unsorted key P xs parts.1)
 
-module _ {A : Type 0} (same : A → A → Bool) (equal : (x y : A) → same x y ≡ true → x ≡ y) (P : A → Type 0) where
-  undedup_from : (k : A) (xs : List A) → Each P (dedup_from same k xs) → P k × Each P xs
-  undedup_from k [] each = each
-  undedup_from k (x ∷ xs) each = step (same x k) refl each (λ l. undedup_from k xs l) (λ l. undedup_from x xs l)
+-- items that are the same are equal where each is its own
+module _ {A : Type 0} (same : A → A → Bool) (Own : A → Type 0) (equal : (x y : A) → Own x → Own y → same x y ≡ true → x ≡ y) (P : A → Type 0) where
+  undedup_from : (k : A) (xs : List A) → Own k → Each Own xs → Each P (dedup_from same k xs) → P k × Each P xs
+  undedup_from k [] own owns each = each
+  undedup_from k (x ∷ xs) own owns each = step (same x k) refl each (λ l. undedup_from k xs own owns.1 l) (λ l. undedup_from x xs owns.0 owns.1 l)
     where
       step : (b : Bool) → same x k ≡ b → Each P (cond b (dedup_from same k xs) (k ∷ dedup_from same x xs))
           → (Each P (dedup_from same k xs) → P k × Each P xs) → (Each P (dedup_from same x xs) → P x × Each P xs) → P k × Each P (x ∷ xs)
-      step true is each on then = let rest = on each in (rest.0, (subst P (sym (equal x k is)) rest.0, rest.1))
+      step true is each on then = let rest = on each in (rest.0, (subst P (sym (equal x k owns.0 own is)) rest.0, rest.1))
       step false is each on then = let rest = then each.1 in (each.0, (rest.0, rest.1))
 
-  undedup : (xs : List A) → Each P (dedup same xs) → Each P xs
-  undedup [] each = tt
-  undedup (x ∷ xs) each = let parts = undedup_from x xs each in (parts.0, parts.1)
+  undedup : (xs : List A) → Each Own xs → Each P (dedup same xs) → Each P xs
+  undedup [] owns each = tt
+  undedup (x ∷ xs) owns each = let parts = undedup_from x xs owns.0 owns.1 each in (parts.0, parts.1)
 
 -- ---- each two items
 
@@ -120,26 +121,31 @@ module _ {A : Type 0} (group number image : A → ℕ) where
     numbers [] pairs none = tt
     numbers (x ∷ xs) pairs none = one_numbers x xs pairs none
 
-    -- each two of the items have one number where they have one group and one image
-    pub apart : ((x y : A) → group x ≡ group y → number x ≡ number y → image x ≡ image y → x ≡ y) → (xs : List A)
-        → twice group number image told (each_once group number image xs) ≡ [] → Each (λ a. Each (OneNumber a) xs) xs
-    apart equal xs none =
-        back (λ a. Each (OneNumber a) xs) (Each-weaker (λ a. Each (OneNumber a) ys) (λ a. Each (OneNumber a) xs) (λ a each. back (OneNumber a) each) ys
-        (all_pairs OneNumber (λ x is also. refl) (λ x y one is also. sym (one (sym is) (sym also))) ys (numbers ys (sorted once) none)))
-      where
-        once : List A
-        once = each_once group number image xs
+    abbrev Own : (ℕ → ℕ → ℕ) → A → Type 0
+    Own of x = image x ≡ of (group x) (number x)
 
-        ys : List A
-        ys = in_order group (in_order image once)
+    abbrev at_once : List A → List A
+    at_once xs = in_order group (in_order image (each_once group number xs))
 
-        one : (x y : A) → is_same group number image x y ≡ true → x ≡ y
-        one x y is =
-            let p = and_parts (nat_eq (group x) (group y)) (nat_eq (number x) (number y) && nat_eq (image x) (image y)) is in
-            let q = and_parts (nat_eq (number x) (number y)) (nat_eq (image x) (image y)) p.1 in
-            equal x y (eqb-true (group x) (group y) p.0) (eqb-true (number x) (number y) q.0) (eqb-true (image x) (image y) q.1)
+    module _ (of : ℕ → ℕ → ℕ) (equal : (x y : A) → group x ≡ group y → number x ≡ number y → image x ≡ image y → x ≡ y) where
+      one : (x y : A) → Own of x → Own of y → is_same group number x y ≡ true → x ≡ y
+      one x y own also is =
+          let p = and_parts (nat_eq (group x) (group y)) (nat_eq (number x) (number y)) is in
+          let g = eqb-true (group x) (group y) p.0 in
+          let n = eqb-true (number x) (number y) p.1 in
+          equal x y g n (own ∙ ap (λ z. of z (number x)) g ∙ ap (of (group y)) n ∙ sym also)
 
-        back : (P : A → Type 0) → Each P ys → Each P xs
-        back P each =
-            unsorted number P xs (unsorted group P (in_order number xs) (undedup (is_same group number image) one P (in_order group (in_order number xs))
-            (unsorted image P once (unsorted group P (in_order image once) each))))
+      back : (P : A → Type 0) (xs : List A) → Each (Own of) xs → Each P (at_once xs) → Each P xs
+      back P xs owns each =
+          unsorted number P xs (unsorted group P (in_order number xs)
+          (undedup (is_same group number) (Own of) one P (in_order group (in_order number xs))
+          (in_order_each group (Own of) (in_order number xs) (in_order_each number (Own of) xs owns))
+          (unsorted image P (each_once group number xs) (unsorted group P (in_order image (each_once group number xs)) each))))
+
+      -- each two of the items, whose images go by their groups and numbers, have one number where they have one group and one image
+      pub apart : (xs : List A) → Each (Own of) xs → twice group number image told (each_once group number xs) ≡ [] → Each (λ a. Each (OneNumber a) xs) xs
+      apart xs owns none =
+          back (λ a. Each (OneNumber a) xs) xs owns
+          (Each-weaker (λ a. Each (OneNumber a) (at_once xs)) (λ a. Each (OneNumber a) xs) (λ a each. back (OneNumber a) xs owns each) (at_once xs)
+          (all_pairs OneNumber (λ x is also. refl) (λ x y one is also. sym (one (sym is) (sym also))) (at_once xs)
+          (numbers (at_once xs) (sorted (each_once group number xs)) none)))

@@ -35,7 +35,7 @@ used m x =
     (option_map (λ image. record { method = x.method; slot = x.slot; image = image }) (slot_image m x.method x.slot))
 
 abbrev pub used_slots : Map → List MethodSlot → List UsedSlot
-used_slots m slots = each_once (λ (u : UsedSlot). u.method) (λ u. u.slot) (λ u. u.image) (filter_map (used m) slots)
+used_slots m slots = each_once (λ (u : UsedSlot). u.method) (λ u. u.slot) (filter_map (used m) slots)
 
 -- two of them have one image
 abbrev pub slot_twice : UsedSlot → UsedSlot → MergeError

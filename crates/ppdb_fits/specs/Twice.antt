@@ -3,13 +3,13 @@ use Rattle.std.specs.Prelude.{ℕ, ◌&&◌, not, Bool, cond, nat_eq, List, [], 
 use Rattle.std.specs.List.{dedup}
 use Rattle.ppdb_noted.specs.Sorted.{in_order}
 
--- two items are one
-abbrev pub is_same : {A : Type 0} → (A → ℕ) → (A → ℕ) → (A → ℕ) → A → A → Bool
-is_same group number image a b = nat_eq (group a) (group b) && (nat_eq (number a) (number b) && nat_eq (image a) (image b))
+-- two items have one group and one number
+abbrev pub is_same : {A : Type 0} → (A → ℕ) → (A → ℕ) → A → A → Bool
+is_same group number a b = nat_eq (group a) (group b) && nat_eq (number a) (number b)
 
 -- items by their groups, and in a group by their numbers, each once
-abbrev pub each_once : {A : Type 0} → (A → ℕ) → (A → ℕ) → (A → ℕ) → List A → List A
-each_once group number image items = dedup (is_same group number image) (in_order group (in_order number items))
+abbrev pub each_once : {A : Type 0} → (A → ℕ) → (A → ℕ) → List A → List A
+each_once group number items = dedup (is_same group number) (in_order group (in_order number items))
 
 -- what is told of each two items that stand side by side
 abbrev pub beside_from : {A B : Type 0} → (A → A → List B) → A → List A → List B

@@ -116,16 +116,16 @@ fn by_group<T: HasImage>(items: &mut Vec<T>) -> Result<(), Memory>
     Ok(())
 }
 
-/// Whether two items are one.
+/// Whether two items have one group and one number.
 fn is_same<T: HasImage>(a: &T, b: &T) -> bool
-    ensures { result ≡ is_same T.group_of T.number_of T.image_of a.now b.now }
+    ensures { result ≡ is_same T.group_of T.number_of a.now b.now }
 {
-    a.group() == b.group() && a.number() == b.number() && a.image() == b.image()
+    a.group() == b.group() && a.number() == b.number()
 }
 
 /// Sets items in order by their groups, and in a group by their numbers, and leaves each once.
 pub(crate) fn leave_once<T: HasImage>(items: &mut Vec<T>) -> Result<(), Memory>
-    ensures { OnOk result (items.new.items ≡ each_once T.group_of T.number_of T.image_of items.old.items) }
+    ensures { OnOk result (items.new.items ≡ each_once T.group_of T.number_of items.old.items) }
 {
     by_number(items)?;
     by_group(items)?;

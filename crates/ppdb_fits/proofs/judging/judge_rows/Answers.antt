@@ -20,11 +20,11 @@ returns-in_err-refuse-clause-told g c =
     c.in_err-refuse.field-0.0 c.in_ok-rows.ensures.told
     (c.in_err-refuse.ensures (images_twice c.args.first c.args.map.now (raw_file c.args.file.now)) (c.in_ok-first_image_twice.ensures
     ∙ ap (λ l. slice_get (twice (λ (i : Imaged). i.table) (λ i. i.row) (λ i. i.image) image_twice l) 0) (c.as_slice.ensures.value
-    ∙ c.in_ok-leave_once.ensures ∙ ap (each_once (λ (i : Imaged). i.table) (λ i. i.row) (λ i. i.image)) c.in_ok-rows.ensures.rows))))
+    ∙ c.in_ok-leave_once.ensures ∙ ap (each_once (λ (i : Imaged). i.table) (λ i. i.row)) c.in_ok-rows.ensures.rows))))
 
 pub returns-clause-rows : goal.returns-clause-rows
 returns-clause-rows g c =
-    c.from_vec.ensures ∙ c.in_ok-leave_once.ensures ∙ ap (each_once (λ (i : Imaged). i.table) (λ i. i.row) (λ i. i.image)) c.in_ok-rows.ensures.rows
+    c.from_vec.ensures ∙ c.in_ok-leave_once.ensures ∙ ap (each_once (λ (i : Imaged). i.table) (λ i. i.row)) c.in_ok-rows.ensures.rows
 
 pub returns-clause-told : goal.returns-clause-told
 returns-clause-told g c =
@@ -32,4 +32,4 @@ returns-clause-told g c =
     c.in_ok-rows.ensures.told
     (c.in_ok-refuse.ensures (images_twice c.args.first c.args.map.now (raw_file c.args.file.now)) (c.in_ok-first_image_twice.ensures
     ∙ ap (λ l. slice_get (twice (λ (i : Imaged). i.table) (λ i. i.row) (λ i. i.image) image_twice l) 0) (c.as_slice.ensures.value
-    ∙ c.in_ok-leave_once.ensures ∙ ap (each_once (λ (i : Imaged). i.table) (λ i. i.row) (λ i. i.image)) c.in_ok-rows.ensures.rows)))
+    ∙ c.in_ok-leave_once.ensures ∙ ap (each_once (λ (i : Imaged). i.table) (λ i. i.row)) c.in_ok-rows.ensures.rows)))
