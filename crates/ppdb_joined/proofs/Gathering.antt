@@ -1,15 +1,11 @@
 -- Documents put together by their names, one document more.
 use Rattle.std.proofs.Common.{◌≡◌, ◌≢◌, ℕ, zero, suc, ◌≤◌, ◌++◌, Bool, true, false, cond, List, [], ◌∷◌, length, map, refl, sym, ◌∙◌, ap, subst, arith}
-use Rattle.std.proofs.Common.{append-nil, append_assoc, ◌+◌, ◌-◌, ◌<◌, get_or, set, take, drop}
+use Rattle.std.proofs.Common.{append-nil, append_assoc, ◌+◌, ◌-◌, ◌<◌, get_or, set}
 use Rattle.std.specs.declared.vec.Vec.{Vec}
 use Rattle.std.specs.declared.alloc.Global.{Global}
 use Rattle.std.specs.List.{refill}
-use Rattle.std.specs.Cmp.Lexicographic.{slice_cmp}
-use Rattle.std.specs.Ordering.{nat_cmp, is_eq}
-use Rattle.std.specs.BTreeMap.{BTreeMap}
 use Rattle.std.proofs.lemmas.Map.Text.{is_eq-slice_cmp}
-use Rattle.std.specs.Prelude.{◌||◌, Option, Some, None, position, unwrap_or, bytes_eq, filter, flat_map}
-use Rattle.std.specs.List.{list_any}
+use Rattle.std.specs.Prelude.{◌||◌, Option, Some, None, position, unwrap_or, bytes_eq, filter}
 use Rattle.std.specs.Option.{option_map}
 use Rattle.std.proofs.lemmas.List.{map-append, length-map}
 use Rattle.ppdb_values.specs.declared.file.DocumentValue.{DocumentValue}
@@ -274,7 +270,8 @@ entries_hit xs d (e ∷ es) differ i is =
     step false other (suc k) row (suc j) is rest =
         ap (λ notes. with_notes e notes ∷ noted_at (map (entry_of xs) es) j d.customs)
         (sym (notes_miss e.name xs d (bytes_turn e.name d.item.name false other)))
-        ∙ ap (λ l. entry_of (xs ++ d ∷ []) e ∷ l) (rest j (let both : suc (suc k) ≡ suc (suc j) = is in let k_is : suc k ≡ suc j = omega (arith, both) in row ∙ k_is))
+        ∙ ap (λ l. entry_of (xs ++ d ∷ []) e ∷ l)
+        (rest j (let both : suc (suc k) ≡ suc (suc j) = is in let k_is : suc k ≡ suc j = omega (arith, both) in row ∙ k_is))
 
 pub gathered_old : (before : List (Noted DocumentValue)) (d : Noted DocumentValue) (i : ℕ) → row_after before d.item.name ≡ suc i
     → gathered_of (before ++ d ∷ []) ≡ noted_at (gathered_of before) i d.customs

@@ -1,14 +1,13 @@
 -- Keys are equal where the records that they stand for are.
-use Rattle.std.proofs.Common.{◌≡◌, ℕ, Bool, true, false, cond, List, [], ◌∷◌, map, refl, sym, ◌∙◌, ap, arith}
-use Rattle.std.specs.Prelude.{◌&&◌, ◌||◌, not, nat_eq, Option, Some, None, bytes_eq}
+use Rattle.std.proofs.Common.{◌≡◌, ℕ, Bool, true, false, List, refl, sym, ◌∙◌, ap, arith}
+use Rattle.std.specs.Prelude.{◌&&◌, nat_eq, Option, Some, None, bytes_eq}
 use Rattle.std.specs.declared.cmp.Ordering.{Ordering}
 use Rattle.std.specs.declared.cmp.Ordering.TheVariants.{Less, Equal, Greater}
 use Rattle.std.specs.Cmp.Lexicographic.{slice_cmp}
 use Rattle.std.specs.Ordering.{is_eq, nat_cmp, ordering_then}
-use Rattle.std.proofs.lemmas.Bool.{eqb-true, eq-eqb, ne_eqb}
+use Rattle.std.proofs.lemmas.Bool.{eqb-true, eq-eqb}
 use Rattle.std.proofs.lemmas.Bool.Decides.{nat_tests}
 use Rattle.std.proofs.lemmas.Map.Text.{is_eq-slice_cmp}
-use lib.Pointwise.{pointwise}
 use Rattle.ppdb_values.specs.declared.custom.CustomBody.{CustomBody}
 use Rattle.ppdb_values.specs.declared.custom.CustomBody.TheVariants.{Async, Hoisted, TypeDocuments, Unread}
 use Rattle.ppdb_values.specs.declared.custom.CustomValue.{CustomValue}
@@ -19,7 +18,7 @@ use Rattle.ppdb_joined.specs.contracts.keys.ContentOrd.TheImpl as content_ord
 use Rattle.ppdb_joined.specs.contracts.keys.KeyOrd.TheImpl as key_ord
 use Rattle.ppdb_joined.specs.Keys.{body_of, record_of, plain, plain_as}
 use Rattle.ppdb_joined.specs.Same.{same_body, same_record}
-use Rattle.ppdb_joined.proofs.Names.{bytes_same, same_bytes, bytes_apart}
+use Rattle.ppdb_joined.proofs.Names.{bytes_same, same_bytes}
 
 eq_then : (o p : Ordering) → is_eq (ordering_then o p) ≡ (is_eq o && is_eq p)
 eq_then Less p = refl
@@ -38,7 +37,8 @@ content_same (Bytes bytes) (Documents others) = refl
 pub key_same : (a b : Key) → is_eq ((key_ord.ghosts).cmp a b) ≡ same_record (record_of a) (record_of b)
 key_same a b =
     let content = (content_ord.ghosts).cmp a.content b.content in
-    let kinds : is_eq (ordering_then (slice_cmp nat_cmp a.kind b.kind) content) ≡ (bytes_eq a.kind b.kind && same_body (body_of a.content) (body_of b.content)) =
+    let kinds : is_eq (ordering_then (slice_cmp nat_cmp a.kind b.kind) content)
+    ≡ (bytes_eq a.kind b.kind && same_body (body_of a.content) (body_of b.content)) =
     eq_then (slice_cmp nat_cmp a.kind b.kind) content ∙ ap (λ t. t && is_eq content) (is_eq-slice_cmp a.kind b.kind)
     ∙ ap (λ t. bytes_eq a.kind b.kind && t) (content_same a.content b.content) in
     let rows : is_eq (ordering_then (nat_cmp a.row b.row) (ordering_then (slice_cmp nat_cmp a.kind b.kind) content))

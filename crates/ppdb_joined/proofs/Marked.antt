@@ -1,11 +1,11 @@
 -- Marks of records that equal none of an earlier input.
-use Rattle.std.proofs.Common.{◌≡◌, ℕ, zero, suc, ◌++◌, Bool, true, false, cond, List, [], ◌∷◌, length, map, refl, sym, ◌∙◌, ap, get_or, take, ◌+◌, ◌<◌, arith, append-nil, append_assoc}
+use Rattle.std.proofs.Common.{◌≡◌, ℕ, ◌++◌, Bool, true, false, cond, List, [], ◌∷◌, length}
+use Rattle.std.proofs.Common.{map, refl, sym, ◌∙◌, ap, get_or, take, ◌+◌, ◌<◌, append-nil, append_assoc}
 use Rattle.std.specs.Prelude.{◌||◌, not, Option, Some, None, filter, flat_map}
 use Rattle.std.specs.BTreeSet.{BTreeSet, contains, Updates}
 use Rattle.std.specs.List.{list_any, filter_map, cons_option}
 use Rattle.std.specs.Option.{option_map}
-use Rattle.std.specs.Ordering.{is_eq}
-use Rattle.std.proofs.lemmas.List.{map-append, map_more, take_more}
+use Rattle.std.proofs.lemmas.List.{map_more, take_more}
 use Rattle.std.proofs.lemmas.List.Elements.{filter_map-append}
 use Rattle.std.proofs.lemmas.List.Folds.{list_any-append}
 use Rattle.ppdb_values.specs.declared.custom.CustomValue.{CustomValue}
@@ -117,7 +117,8 @@ module _ {A : Type 0} (as_record : A → CustomValue) where
           → list_any (λ k. same_record k r) (filter_map key_in es) ≡ list_any (λ e. same_record (as_record a) (as_record e)) es
           → list_any (λ k. same_record k r) (cons_option o (filter_map key_in es))
           ≡ (same_record (as_record a) (as_record e) || list_any (λ e. same_record (as_record a) (as_record e)) es)
-      step None none rest = rest ∙ ap (λ b. b || list_any (λ e. same_record (as_record a) (as_record e)) es) (sym (unlike (as_record a) (as_record e) r is none))
+      step None none rest =
+          rest ∙ ap (λ b. b || list_any (λ e. same_record (as_record a) (as_record e)) es) (sym (unlike (as_record a) (as_record e) r is none))
       step (Some k) some rest =
           let mine = plain_is (as_record e) k some in
           ap (λ b. same_record k r || b) rest
@@ -149,7 +150,8 @@ module _ {A : Type 0} (as_record : A → CustomValue) where
   unrepeated_is earlier [] apart = refl
   unrepeated_is earlier (items ∷ more) apart =
       ap (λ l. l ++ unrepeated as_record (filter_map key_in earlier ++ filter_map key_in items) more)
-      (filter_same (λ a. not (key_among (filter_map key_in earlier) (key_in a))) (λ a. not (list_any (λ e. same_record (as_record a) (as_record e)) earlier)) items
+      (filter_same (λ a. not (key_among (filter_map key_in earlier) (key_in a))) (λ a. not (list_any (λ e. same_record (as_record a) (as_record e)) earlier))
+      items
       (tests_same earlier items apart.0))
       ∙ ap (λ l. filter (λ a. not (list_any (λ e. same_record (as_record a) (as_record e)) earlier)) items ++ l)
       (ap (λ l. unrepeated as_record l more) (sym (filter_map-append key_in earlier items)) ∙ unrepeated_is (earlier ++ items) more apart.1)

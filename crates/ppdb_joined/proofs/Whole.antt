@@ -1,10 +1,11 @@
 -- Parts of all files, put in order and without repeats, are those of the joined file.
-use Rattle.std.proofs.Common.{◌≡◌, ◌≢◌, ℕ, zero, suc, ◌+◌, ◌≤◌, ◌<◌, ◌++◌, Bool, true, false, cond, List, [], ◌∷◌, length, map, refl, sym, ◌∙◌, ap, subst, arith}
-use Rattle.std.proofs.Common.{append-nil, append_assoc}
+use Rattle.std.proofs.Common.{◌≡◌, ◌≢◌, ℕ, zero, suc, ◌+◌, ◌≤◌, ◌<◌, ◌++◌, Bool, true, false}
+use Rattle.std.proofs.Common.{cond, List, [], ◌∷◌, length, map, refl, sym, ◌∙◌, ap, subst, arith}
+use Rattle.std.proofs.Common.{append-nil}
 use Rattle.std.specs.Prelude.{min, not, ◌&&◌, nat_eq, Option, Some, None, bytes_eq, filter, flat_map, sum_by}
-use Rattle.std.specs.List.{filter_map, list_any}
+use Rattle.std.specs.List.{list_any}
 use Rattle.std.proofs.lemmas.Bool.{ne_eqb}
-use Rattle.std.proofs.lemmas.List.{map-append, length-map}
+use Rattle.std.proofs.lemmas.List.{length-map}
 use Rattle.std.proofs.lemmas.List.Sums.{sum_by-cons}
 use Rattle.custom_info.specs.declared.kinds.Kind.{Kind}
 use Rattle.custom_info.specs.declared.kinds.Kind.TheVariants.{Async as AsyncKind, Hoisted as HoistedKind, TypeDocuments as DocumentsKind, Free, Unknown}
@@ -25,18 +26,17 @@ use Rattle.ppdb_noted.specs.Each.{Each, Pairs}
 use Rattle.ppdb_noted.specs.Noted.{items_of, with_item}
 use Rattle.ppdb_noted.specs.Sorted.{in_order}
 use Rattle.ppdb_noted.specs.SoundParts.{SoundMoved, SoundNote}
-use Rattle.ppdb_noted.specs.Unnoted.{value_of_noted}
 use Rattle.ppdb_noted.proofs.Lists.{Each-weaker, Pairs-weaker, Each-map, Each-append, each_of}
 use Rattle.ppdb_joined.specs.declared.joining.Parts.{Parts}
-use Rattle.ppdb_joined.specs.Gathered.{notes_named, gathered_of}
+use Rattle.ppdb_joined.specs.Gathered.{notes_named}
 use Rattle.ppdb_joined.specs.Joinable.{AreJoinable, AreApart, methods_of}
-use Rattle.ppdb_joined.specs.Joined.{firsts, joined_documents, joined_rows, row_in, shifted, with_documents, customs_named, renumbered_method, renumbered_scope}
-use Rattle.ppdb_joined.specs.Joined.{renumbered_import, renumbered_custom, renumbered, renumbered_all, joined_document, joined_parts, joined}
+use Rattle.ppdb_joined.specs.Joined.{joined_documents, joined_rows, row_in, shifted, with_documents, customs_named, renumbered_scope}
+use Rattle.ppdb_joined.specs.Joined.{renumbered_import, renumbered_custom, renumbered, renumbered_all, joined_document, joined}
 use Rattle.ppdb_joined.specs.Keys.{plain, plain_as}
 use Rattle.ppdb_joined.specs.Numbered.{shifted_within, put_scope, put_import, put_file, put_all}
 use Rattle.ppdb_joined.specs.Parts.{ArePut, finished, on_no_row}
 use Rattle.ppdb_joined.specs.Repeats.{unrepeated}
-use Rattle.ppdb_joined.specs.Same.{same_body, same_custom, same_record, fresh}
+use Rattle.ppdb_joined.specs.Same.{same_custom, same_record, fresh}
 use Rattle.ppdb_joined.specs.Small.{IsSmall, HaveRoom}
 use Rattle.ppdb_joined.proofs.Room.{joined_small}
 use Rattle.ppdb_tables.specs.declared.rows.MachineRow.{MachineRow}
@@ -66,7 +66,8 @@ scopes_numbered shift file sound room =
     map_as (put_scope shift) (renumbered_scope shift) file.scopes
     (Each-weaker _ (λ s. put_scope shift s ≡ renumbered_scope shift s)
     (λ s h. ap (λ row. record s { import = row })
-    (shift_same shift (length file.imports) s.import (let i : s.import ≤ length (items_of file.imports) = h.itself.import in omega (arith, many, i)) room)) file.scopes sound.scopes)
+    (shift_same shift (length file.imports) s.import
+    (let i : s.import ≤ length (items_of file.imports) = h.itself.import in omega (arith, many, i)) room)) file.scopes sound.scopes)
 
 imports_numbered : (shift : ℕ) (file : NotedFile) → SoundMoved file → shift + length file.imports < 0xffffffff
     → map (with_item (put_import shift)) file.imports ≡ map (with_item (renumbered_import shift)) file.imports
@@ -75,7 +76,8 @@ imports_numbered shift file sound room =
     map_as (with_item (put_import shift)) (with_item (renumbered_import shift)) file.imports
     (Each-weaker _ (λ n. with_item (put_import shift) n ≡ with_item (renumbered_import shift) n)
     (λ n h. ap (λ row. record n { item = record n.item { parent = row } })
-    (shift_same shift (length file.imports) n.item.parent (let i : n.item.parent ≤ length (items_of file.imports) = h.0.parent in omega (arith, many, i)) room)) file.imports sound.imports)
+    (shift_same shift (length file.imports) n.item.parent
+    (let i : n.item.parent ≤ length (items_of file.imports) = h.0.parent in omega (arith, many, i)) room)) file.imports sound.imports)
 
 file_numbered : (documents : List DocumentValue) (shift : ℕ) (file : NotedFile) → SoundMoved file → shift + length file.imports < 0xffffffff
     → put_file documents shift file ≡ renumbered documents shift file
@@ -144,7 +146,8 @@ docs_keyed (f ∷ fs) each =
 notes_one : (name : List ℕ) (ds : List (Noted DocumentValue)) → NamesDiffer ds → (earlier : List Custom) (more more_too : List (List Custom))
     → ((e : List Custom) → fresh same_custom e more ≡ fresh same_custom e more_too)
     → fresh same_custom earlier (notes_named name ds ++ more)
-    ≡ fresh same_custom earlier (flat_map (λ (d : Noted DocumentValue). d.customs) (filter (λ (d : Noted DocumentValue). bytes_eq d.item.name name) ds) ∷ more_too)
+    ≡ fresh same_custom earlier (flat_map (λ (d : Noted DocumentValue). d.customs)
+    (filter (λ (d : Noted DocumentValue). bytes_eq d.item.name name) ds) ∷ more_too)
 notes_one name [] differ earlier more more_too same = same earlier ∙ ap (λ e. fresh same_custom e more_too) (sym (append-nil earlier))
 notes_one name (d ∷ ds) differ earlier more more_too same = step (bytes_eq d.item.name name) refl (notes_one name ds differ.1 earlier more more_too same)
   where
@@ -164,11 +167,14 @@ notes_one name (d ∷ ds) differ earlier more more_too same = step (bytes_eq d.i
 
     step : (b : Bool) → bytes_eq d.item.name name ≡ b
         → fresh same_custom earlier (notes_named name ds ++ more)
-        ≡ fresh same_custom earlier (flat_map (λ (d : Noted DocumentValue). d.customs) (filter (λ (d : Noted DocumentValue). bytes_eq d.item.name name) ds) ∷ more_too)
-        → fresh same_custom earlier (map (λ (d : Noted DocumentValue). d.customs)
-        (cond b (d ∷ filter (λ (d : Noted DocumentValue). bytes_eq d.item.name name) ds) (filter (λ (d : Noted DocumentValue). bytes_eq d.item.name name) ds)) ++ more)
         ≡ fresh same_custom earlier (flat_map (λ (d : Noted DocumentValue). d.customs)
-        (cond b (d ∷ filter (λ (d : Noted DocumentValue). bytes_eq d.item.name name) ds) (filter (λ (d : Noted DocumentValue). bytes_eq d.item.name name) ds)) ∷ more_too)
+        (filter (λ (d : Noted DocumentValue). bytes_eq d.item.name name) ds) ∷ more_too)
+        → fresh same_custom earlier (map (λ (d : Noted DocumentValue). d.customs)
+        (cond b (d ∷ filter (λ (d : Noted DocumentValue). bytes_eq d.item.name name) ds)
+        (filter (λ (d : Noted DocumentValue). bytes_eq d.item.name name) ds)) ++ more)
+        ≡ fresh same_custom earlier (flat_map (λ (d : Noted DocumentValue). d.customs)
+        (cond b (d ∷ filter (λ (d : Noted DocumentValue). bytes_eq d.item.name name) ds)
+        (filter (λ (d : Noted DocumentValue). bytes_eq d.item.name name) ds)) ∷ more_too)
     step false is rest = rest
     step true is rest = after (filter (λ (d : Noted DocumentValue). bytes_eq d.item.name name) ds) (none ds differ.0 (same_bytes d.item.name name is))
 
@@ -201,7 +207,8 @@ document_is : (files : List NotedFile) → Each SoundMoved files → (d : Docume
     ≡ joined_document (renumbered_all (joined_documents files) 0 files) d
 document_is files each d =
     ap (noted_with d)
-    (unrepeated_is on_no_row [] (notes_named d.name (docs files)) (keys_unlike [] (notes_named d.name (docs files)) (notes_keyed d.name (docs files) (docs_keyed files each)))
+    (unrepeated_is on_no_row [] (notes_named d.name (docs files))
+    (keys_unlike [] (notes_named d.name (docs files)) (notes_keyed d.name (docs files) (docs_keyed files each)))
     ∙ notes_by_file d.name (joined_documents files) 0 files each [])
 
 documents_are : (files : List NotedFile) → Each SoundMoved files → (ds : List DocumentValue)
@@ -258,7 +265,8 @@ apart_records row (e ∷ es) each a table is =
   where
     other_table : nat_eq e.parent.table 0x06 ≡ false → same_record a e ≡ false
     other_table differs =
-        let apart : a.parent.table ≢ e.parent.table = (λ same. let wrong : ◌≡◌ {A = Bool} true false = sym (ap (λ t. nat_eq t 0x06) (sym same ∙ table)) ∙ differs in absurd (cc)) in
+        let apart : a.parent.table ≢ e.parent.table =
+        (λ same. let wrong : ◌≡◌ {A = Bool} true false = sym (ap (λ t. nat_eq t 0x06) (sym same ∙ table)) ∙ differs in absurd (cc)) in
         rw (ne_eqb a.parent.table e.parent.table apart) refl
 
     other_row : e.parent.row ≢ row → same_record a e ≡ false

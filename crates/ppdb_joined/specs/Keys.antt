@@ -1,13 +1,11 @@
 -- Custom records by which equal ones are looked up.
-use Rattle.std.specs.Prelude.{Bool, Option, Some, None, List, [], ◌∷◌, ◌++◌, map, not, false, filter}
-use Rattle.std.specs.List.{list_any, filter_map}
+use Rattle.std.specs.Prelude.{Option, Some, None}
 use Rattle.ppdb_values.specs.declared.custom.CustomBody.{CustomBody}
 use Rattle.ppdb_values.specs.declared.custom.CustomBody.TheVariants.{Async, Hoisted, TypeDocuments, Unread}
 use Rattle.ppdb_values.specs.declared.custom.CustomValue.{CustomValue}
 use Rattle.ppdb_joined.specs.declared.keys.Content.{Content}
 use Rattle.ppdb_joined.specs.declared.keys.Content.TheVariants.{Documents, Unread as Bytes}
 use Rattle.ppdb_joined.specs.declared.keys.Key.{Key}
-use Rattle.ppdb_joined.specs.Same.{same_record}
 
 -- what a key says
 abbrev pub body_of : Content → CustomBody

@@ -34,7 +34,12 @@ impl Documents {
     }
 
     /// Puts a document behind the others, as the first of its name.
-    fn push(&mut self, alloc: Global, name: Vec<u8>, document: Noted<DocumentValue>) -> Result<u32, Memory>
+    fn push(
+        &mut self,
+        alloc: Global,
+        name: Vec<u8>,
+        document: Noted<DocumentValue>,
+    ) -> Result<u32, Memory>
         requires { length self.old.gathered < 0xffffffff }
         ensures row { IfOk result (λ row. row ≡ length self.old.gathered + 1) }
         ensures gathered { OnOk result (self.new.gathered ≡ self.old.gathered ++ record { item = document.item; notes = document.customs ∷ [] } ∷ []) }
@@ -57,7 +62,9 @@ impl Documents {
         ensures gathered { OnOk result (self.new.gathered ≡ noted_at self.old.gathered (row - 1) customs) }
         ensures rows { self.new.rows ≡ self.old.rows }
     {
-        self.gathered.as_mut_slice()[row as usize - 1].notes.push(customs)?;
+        self.gathered.as_mut_slice()[row as usize - 1]
+            .notes
+            .push(customs)?;
         Ok(())
     }
 

@@ -125,7 +125,10 @@ fn ordered<T: Keyed>(items: List<T>) -> Result<List<T>, Memory>
 }
 
 /// The documents with their records, each that equals one of an earlier file left out.
-fn documents_of(alloc: Global, gathered: List<Gathered>) -> Result<List<Noted<DocumentValue>>, Memory>
+fn documents_of(
+    alloc: Global,
+    gathered: List<Gathered>,
+) -> Result<List<Noted<DocumentValue>>, Memory>
     ensures { IfOk result (λ documents. documents ≡ map finished gathered) }
 {
     let mut documents = List::with_capacity(alloc, gathered.len())?;

@@ -1,4 +1,4 @@
-use Rattle.std.proofs.Common.{◌<◌, ◌+◌, ◌++◌, ◌∷◌, [], length, take, subst, sym, ap, ◌∙◌, arith, append_assoc}
+use Rattle.std.proofs.Common.{◌<◌, ◌++◌, ◌∷◌, [], length, take, subst, sym, ap, ◌∙◌, arith, append_assoc}
 use Rattle.std.specs.List.{filter_map}
 use Rattle.ppdb_joined.specs.Keys.{plain}
 use Rattle.ppdb_joined.specs.Repeats.{IsSeen}

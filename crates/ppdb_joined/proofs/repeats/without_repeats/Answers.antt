@@ -1,5 +1,4 @@
-use Rattle.std.proofs.Common.{◌≡◌, List, [], ap, ◌∙◌}
-
+use Rattle.std.proofs.Common.{◌≡◌, [], ap, ◌∙◌}
 use Rattle.std.proofs.lemmas.Result.{IfOk-weaker}
 use Rattle.ppdb_joined.specs.Repeats.{kept_by, marks_after, unrepeated}
 use Rattle.ppdb_joined.proofs.Marked.{marks_keep}

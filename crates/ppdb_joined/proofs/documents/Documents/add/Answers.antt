@@ -2,7 +2,7 @@ use Rattle.std.proofs.Common.{◌≡◌, ◌+◌, ◌-◌, ◌∷◌, [], ◌++�
 use Rattle.std.proofs.lemmas.Result.{IfOk-weaker}
 use Rattle.ppdb_values.specs.declared.file.DocumentValue.{DocumentValue}
 use Rattle.ppdb_values.specs.declared.noted.Noted.{Noted}
-use Rattle.ppdb_joined.specs.Gathered.{Holds, HasRow, row_after}
+use Rattle.ppdb_joined.specs.Gathered.{Holds, row_after}
 use Rattle.ppdb_joined.proofs.Gathering.{add_row_new, add_holds_new, add_row_old, add_holds_old, row_inside, noted_length}
 use Rattle.ppdb_joined.proofs.OnOks.{on_ok_both}
 use Rattle.ppdb_joined.proofs.documents.Documents.add.Goals as goal
