@@ -1,0 +1,5 @@
+pub mod Clashes
+pub mod Offsets
+pub mod Rows
+pub mod Slots
+pub mod Twice

@@ -1,0 +1,49 @@
+-- The slots of variables whose images a map does not tell, or tells twice (docs/FORMAT.md, "Fitting").
+use Rattle.std.specs.Prelude.{ℕ, ◌||◌, cond, is_some, List, [], ◌∷◌, Option, None, map}
+use Rattle.std.specs.List.{filter_map, flat_map}
+use Rattle.std.specs.Option.{option_map}
+use Rattle.ppdb_base.specs.declared.merge_error.MergeError.{MergeError}
+use Rattle.ppdb_base.specs.declared.merge_error.MergeError.TheVariants.{SlotUnmapped, SlotTwice}
+use Rattle.ppdb_maps.specs.Map.{Map, slot_image, is_dropped}
+use Rattle.ppdb_tables.specs.RawTables.{numbered}
+use Rattle.ppdb_values.specs.declared.file.FileValue.{FileValue}
+use Rattle.ppdb_values.specs.declared.scope.ScopeValue.{ScopeValue}
+use Rattle.ppdb_values.specs.declared.scope.VariableValue.{VariableValue}
+use Rattle.ppdb_fits.specs.declared.used.UsedSlot.{UsedSlot}
+use Rattle.ppdb_fits.specs.Twice.{each_once, twice}
+
+-- a slot of a method
+pub record MethodSlot : Type 0 where
+  pub method : ℕ
+  pub slot : ℕ
+
+-- the slots of the variables of all scopes, by the rows of the variables from 1
+abbrev pub scope_slots : ScopeValue → List MethodSlot
+scope_slots s = map (λ (v : VariableValue). record { method = s.method; slot = v.slot }) s.variables
+
+abbrev pub variable_slots : FileValue → List MethodSlot
+variable_slots value = flat_map scope_slots value.scopes
+
+-- a variable that stands at no dropped method has a slot without image
+abbrev pub if_slot_unmapped : Map → ℕ × MethodSlot → List MergeError
+if_slot_unmapped m x =
+    cond (is_dropped m x.1.method || is_some (slot_image m x.1.method x.1.slot)) [] (SlotUnmapped x.0 x.1.slot ∷ [])
+
+abbrev pub slots_unmapped : Map → FileValue → List MergeError
+slots_unmapped m value = flat_map (if_slot_unmapped m) (numbered (variable_slots value))
+
+-- the slots that variables of methods use, but for dropped methods, with their images, each once, by method and slot
+abbrev pub used : Map → MethodSlot → Option UsedSlot
+used m x =
+    cond (is_dropped m x.method) None
+    (option_map (λ image. record { method = x.method; slot = x.slot; image = image }) (slot_image m x.method x.slot))
+
+abbrev pub used_slots : Map → FileValue → List UsedSlot
+used_slots m value = each_once (λ (u : UsedSlot). u.method) (λ u. u.slot) (filter_map (used m) (variable_slots value))
+
+-- two of them have one image
+abbrev pub slot_twice : UsedSlot → UsedSlot → MergeError
+slot_twice a b = SlotTwice a.method a.slot b.slot a.image
+
+abbrev pub slots_twice : Map → FileValue → List MergeError
+slots_twice m value = twice (λ (u : UsedSlot). u.method) (λ u. u.image) slot_twice (used_slots m value)

@@ -1,0 +1,4 @@
+pub mod Merged
+pub mod Refusals
+pub mod Together
+pub mod Worked

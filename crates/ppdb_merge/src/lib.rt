@@ -1,0 +1,9 @@
+//! Files moved by their maps and joined into one: what is kept of each input, what is told where inputs do not fit, and the value that
+//! they make.
+#![tactic(auto)]
+
+mod laws;
+mod trace;
+
+pub use laws::worked_merges;
+pub use trace::Trace;
