@@ -1,3 +1,4 @@
+pub mod Indexes
 pub mod Merged
 pub mod Refusals
 pub mod Together

@@ -2,7 +2,10 @@
 //! they make.
 #![tactic(auto)]
 
+mod documents;
+mod index;
 mod laws;
+mod methods;
 mod trace;
 
 pub use laws::worked_merges;
