@@ -83,7 +83,7 @@ scope_stays m s t eq = by_range (is_empty (scope_image m s).range) refl eq
 -- ---- images of what is named
 
 module _ (m : Map) (P Q : Named → Type 0) (moves : (table row : ℕ) → P (names table row) → Q (names table (moved_row m table row))) where
-  some_moves : (table row : ℕ) → Each P (names_some table row) → Each Q (names_some table (moved_row m table row))
+  pub some_moves : (table row : ℕ) → Each P (names_some table row) → Each Q (names_some table (moved_row m table row))
   some_moves table zero each = tt
   some_moves table (suc row) each = by_image (nat_eq (moved_row m table (suc row)) 0)
     where

@@ -1,5 +1,5 @@
 -- The first that is told of the items of a list, found one after the other.
-use Rattle.std.proofs.Common.{◌≡◌, ℕ, zero, suc, ◌+◌, ◌<◌, Bool, true, false, List, [], ◌∷◌, ◌++◌, Option, Some, None, length, take, refl, sym, ap, ◌∙◌, subst, arith}
+use Rattle.std.proofs.Common.{◌≡◌, ℕ, zero, suc, ◌+◌, ◌<◌, ◌≤◌, Bool, true, false, List, [], ◌∷◌, ◌++◌, Option, Some, None, length, take, refl, sym, ap, ◌∙◌, subst, arith}
 use Rattle.std.specs.Prelude.{is_some, slice_get, get_or, flat_map}
 use Rattle.std.specs.List.{filter_map, cons_option, enumerate_from, range_with_len}
 
@@ -7,7 +7,7 @@ none_left : {A : Type 0} (o : Option A) (xs : List A) → cons_option o xs ≡ [
 none_left None xs is = (refl, is)
 none_left (Some x) xs is = absurd cc
 
-empty_both : {A : Type 0} (xs ys : List A) → xs ++ ys ≡ [] → (xs ≡ []) × (ys ≡ [])
+pub empty_both : {A : Type 0} (xs ys : List A) → xs ++ ys ≡ [] → (xs ≡ []) × (ys ≡ [])
 empty_both [] ys is = (refl, is)
 empty_both (x ∷ xs) ys is = absurd cc
 
@@ -194,3 +194,30 @@ first_told o xs ys is some = let e = some_of o some in e.1 ∙ sym (get_first e.
 
 pub second_told : {A : Type 0} (o : Option A) (xs ys : List A) → o ≡ slice_get xs 0 → is_some o ≡ false → slice_get (xs ++ ys) 0 ≡ slice_get ys 0
 second_told o xs ys is none = get_second xs ys (sym is ∙ none_of o none)
+
+any_default : {A : Type 0} (xs : List A) (k : ℕ) (d e : A) → k < length xs → get_or xs k d ≡ get_or xs k e
+any_default [] k d e within = absurd (omega (arith, within))
+any_default (x ∷ xs) zero d e within = refl
+any_default (x ∷ xs) (suc k) d e within = any_default xs k d e (omega (arith, within))
+
+pub plain_told : {A B : Type 0} (f : A → Option B) (xs : List A) (k : ℕ) (d : A) (o : Option B) → k < length xs → filter_map f (take k xs) ≡ []
+    → f (get_or xs k d) ≡ o → is_some o ≡ true → o ≡ slice_get (filter_map f xs) 0
+plain_told f xs k d o within before is some =
+    let e = some_of o some in
+    e.1 ∙ sym (told_at f xs k (get_or xs k d) e.0 within (any_default xs k d (get_or xs k d) within) before (is ∙ e.1))
+
+pub plain_past : {A B : Type 0} (f : A → Option B) (xs : List A) (k : ℕ) (d : A) (o : Option B) → k < length xs → filter_map f (take k xs) ≡ []
+    → f (get_or xs k d) ≡ o → is_some o ≡ false → filter_map f (take (k + 1) xs) ≡ []
+plain_past f xs k d o within before is none =
+    none_told f xs k (get_or xs k d) within (any_default xs k d (get_or xs k d) within) before (is ∙ none_of o none)
+
+pub nothing_told : {A B : Type 0} (f : A → Option B) (items xs : List A) (k : ℕ) → items ≡ xs → length items ≤ k → filter_map f (take k items) ≡ []
+    → ◌≡◌ {A = Option B} None (slice_get (filter_map f xs) 0)
+nothing_told f items xs k same end none =
+    sym (ap (λ l. slice_get (filter_map f l) 0) (sym same ∙ sym (whole items k end)) ∙ ap (λ l. slice_get l 0) none)
+  where
+    whole : {A : Type 0} (ys : List A) (n : ℕ) → length ys ≤ n → take n ys ≡ ys
+    whole [] zero le = refl
+    whole [] (suc n) le = refl
+    whole (y ∷ ys) zero le = absurd (omega (arith, le))
+    whole (y ∷ ys) (suc n) le = ap (λ l. y ∷ l) (whole ys n (omega (arith, le)))

@@ -1,5 +1,8 @@
 pub mod Indexes
+pub mod Kept
 pub mod Merged
 pub mod Refusals
+pub mod Room
+pub mod Sound
 pub mod Together
 pub mod Worked

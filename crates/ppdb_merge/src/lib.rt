@@ -4,9 +4,15 @@
 
 mod documents;
 mod index;
+mod joining;
 mod laws;
+mod merger;
 mod methods;
+mod reading;
+mod stub;
+mod together;
 mod trace;
 
 pub use laws::worked_merges;
+pub use merger::Merger;
 pub use trace::Trace;

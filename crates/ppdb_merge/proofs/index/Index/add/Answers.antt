@@ -2,7 +2,7 @@ use Rattle.std.proofs.Common.{refl, subst, [], ◌+◌, ◌++◌}
 use Rattle.ppdb_joined.specs.Joined.{firsts}
 use Rattle.ppdb_noted.specs.Noted.{items_of}
 use Rattle.ppdb_merge.specs.Indexes.{HoldsMethods, HoldsDocuments, claims_of}
-use Rattle.ppdb_merge.proofs.Together.{index_more}
+use Rattle.ppdb_merge.proofs.Indexing.{index_more}
 use Rattle.ppdb_merge.proofs.index.Index.add.Goals as goal
 
 pub returns-clause-holds : goal.returns-clause-holds

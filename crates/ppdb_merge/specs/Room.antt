@@ -1,0 +1,25 @@
+-- stands in for ppdb_joined's Small until it has these
+use Rattle.std.specs.Prelude.{ℕ, ◌<◌, ◌≤◌, List, length, sum_by}
+use Rattle.ppdb_noted.specs.declared.file.NotedFile.{NotedFile}
+use Rattle.ppdb_noted.specs.Each.{Each}
+
+pub record HaveRoom (files : List NotedFile) : Type 0 where
+  pub documents : sum_by (λ file. length file.documents) files < 0xffffffff
+  pub scopes : sum_by (λ file. length file.scopes) files < 0xffffffff
+  pub variables : sum_by (λ file. sum_by (λ scope. length scope.variables) file.scopes) files < 0xffffffff
+  pub constants : sum_by (λ file. sum_by (λ scope. length scope.constants) file.scopes) files < 0xffffffff
+  pub imports : sum_by (λ file. length file.imports) files < 0xffffffff
+
+pub record HasFewRows (file : NotedFile) : Type 0 where
+  pub documents : length file.documents ≤ 16777215
+  pub scopes : length file.scopes ≤ 16777215
+  pub variables : sum_by (λ scope. length scope.variables) file.scopes ≤ 16777215
+  pub constants : sum_by (λ scope. length scope.constants) file.scopes ≤ 16777215
+  pub imports : length file.imports ≤ 16777215
+
+pub record AreFew (files : List NotedFile) : Type 0 where
+  pub many : length files ≤ 256
+  pub each : Each HasFewRows files
+
+abbrev pub FewHaveRoom : Type 0
+FewHaveRoom = (files : List NotedFile) → AreFew files → HaveRoom files
