@@ -1,0 +1,10 @@
+pub mod Apart
+pub mod Beside
+pub mod Counted
+pub mod Far
+pub mod First
+pub mod Fitting
+pub mod FittingRows
+pub mod Images
+pub mod Nothing
+pub mod Told

@@ -1,6 +1,6 @@
 -- Where a map does not fit a file, and what is told first (docs/FORMAT.md, "Fitting"). What stands at a dropped method is not judged.
-use Rattle.std.specs.Prelude.{ℕ, ◌&&◌, ◌==◌, not, Bool, true, false, cond, List, ◌++◌, Option, Some, None, map, option_to_list, slice_get}
-use Rattle.std.specs.List.{filter, flat_map, list_any}
+use Rattle.std.specs.Prelude.{ℕ, ◌&&◌, ◌==◌, not, Bool, true, false, cond, List, [], ◌∷◌, ◌++◌, Option, Some, None, map, option_to_list, slice_get}
+use Rattle.std.specs.List.{flat_map, list_any}
 use Rattle.custom_info.specs.Kinds.{kind_of}
 use Rattle.custom_info.specs.declared.kinds.Kind.{Kind}
 use Rattle.custom_info.specs.declared.kinds.Kind.TheVariants.{Unknown}
@@ -50,11 +50,11 @@ is_unknown kind = false
 abbrev pub has_unknown_kind : List (List ℕ) → Map → FileValue → CustomValue → Bool
 has_unknown_kind marks m value c = is_unknown (kind_of marks c.kind) && not (is_at_dropped m value c.parent)
 
-abbrev pub kind_unknown : ℕ × CustomValue → MergeError
-kind_unknown x = KindUnknown x.0 x.1.kind
+abbrev pub if_unknown : List (List ℕ) → Map → FileValue → ℕ × CustomValue → List MergeError
+if_unknown marks m value x = cond (has_unknown_kind marks m value x.1) (KindUnknown x.0 x.1.kind ∷ []) []
 
 abbrev pub unknown_kinds : List (List ℕ) → Map → FileValue → List MergeError
-unknown_kinds marks m value = map kind_unknown (filter (λ x. has_unknown_kind marks m value x.1) (numbered value.customs))
+unknown_kinds marks m value = flat_map (if_unknown marks m value) (numbered value.customs)
 
 -- ---- all together
 

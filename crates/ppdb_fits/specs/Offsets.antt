@@ -1,6 +1,6 @@
 -- IL offsets that a map does not know, and offsets of async records that it does not keep (docs/FORMAT.md, "Fitting").
 use Rattle.std.specs.Prelude.{ℕ, ◌+◌, Bool, cond, nat_le, nat_lt, List, [], ◌∷◌, ◌++◌, Option, Some, None, map, option_to_list}
-use Rattle.std.specs.List.{filter, flat_map}
+use Rattle.std.specs.List.{flat_map}
 use Rattle.ppdb_base.specs.declared.merge_error.MergeError.{MergeError}
 use Rattle.ppdb_base.specs.declared.merge_error.MergeError.TheVariants.{OffsetBeyond, AsyncLost}
 use Rattle.ppdb_base.specs.Offsets.{is_kept_between}
@@ -33,9 +33,12 @@ offset_in method offset = record { method = method; offset = offset }
 abbrev pub step_offsets : ℕ → AsyncStep → List MethodOffset
 step_offsets method step = offset_in method step.pause ∷ offset_in step.method step.resume ∷ []
 
+abbrev pub handler_offsets : ℕ → Option ℕ → List MethodOffset
+handler_offsets method handler = map (offset_in method) (option_to_list handler)
+
 -- in the order of their bytes
 abbrev pub async_offsets : ℕ → CustomBody → List MethodOffset
-async_offsets method (Async handler steps) = map (offset_in method) (option_to_list handler) ++ flat_map (step_offsets method) steps
+async_offsets method (Async handler steps) = handler_offsets method handler ++ flat_map (step_offsets method) steps
 async_offsets method body = []
 
 -- ---- what lies beyond the old size of a method that has a line
@@ -62,19 +65,20 @@ abbrev pub slot_beyond : Map → ℕ → Slot → List MergeError
 slot_beyond m method Empty = []
 slot_beyond m method (Held range) = end_beyond m method range
 
-abbrev pub hoisted_beyond : Map → ℕ → CustomBody → List MergeError
-hoisted_beyond m method (Hoisted slots) = flat_map (slot_beyond m method) slots
-hoisted_beyond m method body = []
+-- the offsets of an async record, and the ranges of hoisted locals
+abbrev pub body_beyond : Map → ℕ → CustomBody → List MergeError
+body_beyond m method (Hoisted slots) = flat_map (slot_beyond m method) slots
+body_beyond m method body = flat_map (offset_beyond m) (async_offsets method body)
 
 abbrev pub custom_beyond : Map → CustomValue → List MergeError
-custom_beyond m c = flat_map (offset_beyond m) (async_offsets c.parent.row c.value) ++ hoisted_beyond m c.parent.row c.value
+custom_beyond m c = cond (live_custom m c) (body_beyond m c.parent.row c.value) []
 
--- Points, scopes and custom records, in the order of their tables.
+-- points, scopes and custom records, in the order of their tables
 abbrev pub beyond : Map → FileValue → List MergeError
 beyond m value =
     flat_map (points_beyond m) value.methods
     ++ (flat_map (scope_beyond m) value.scopes
-    ++ flat_map (custom_beyond m) (filter (live_custom m) value.customs))
+    ++ flat_map (custom_beyond m) value.customs)
 
 -- ---- offsets of async records that are not kept
 
@@ -85,7 +89,7 @@ abbrev pub if_lost : Map → MethodOffset → List MergeError
 if_lost m x = cond (is_kept m x.method x.offset) [] (AsyncLost x.method x.offset ∷ [])
 
 abbrev pub custom_lost : Map → CustomValue → List MergeError
-custom_lost m c = flat_map (if_lost m) (async_offsets c.parent.row c.value)
+custom_lost m c = cond (live_custom m c) (flat_map (if_lost m) (async_offsets c.parent.row c.value)) []
 
 abbrev pub lost : Map → FileValue → List MergeError
-lost m value = flat_map (custom_lost m) (filter (live_custom m) value.customs)
+lost m value = flat_map (custom_lost m) value.customs

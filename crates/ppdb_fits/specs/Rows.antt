@@ -16,7 +16,7 @@ imaged m r = option_map (λ image. record { table = r.table; row = r.row; image 
 
 -- the rows that a file names with their images, each once, by table and row
 abbrev pub imaged_rows : Bool → Map → RawFile → List Imaged
-imaged_rows first m raw = each_once (λ (i : Imaged). i.table) (λ i. i.row) (filter_map (imaged m) (references first m raw))
+imaged_rows first m raw = each_once (λ (i : Imaged). i.table) (λ i. i.row) (λ i. i.image) (filter_map (imaged m) (references first m raw))
 
 -- a row is named that has no image
 abbrev pub if_unmapped : Map → Reference → List MergeError
@@ -30,4 +30,4 @@ abbrev pub image_twice : Imaged → Imaged → MergeError
 image_twice a b = ImageTwice a.table a.row b.row a.image
 
 abbrev pub images_twice : Bool → Map → RawFile → List MergeError
-images_twice first m raw = twice (λ (i : Imaged). i.table) (λ i. i.image) image_twice (imaged_rows first m raw)
+images_twice first m raw = twice (λ (i : Imaged). i.table) (λ i. i.row) (λ i. i.image) image_twice (imaged_rows first m raw)

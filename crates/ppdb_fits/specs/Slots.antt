@@ -9,13 +9,9 @@ use Rattle.ppdb_tables.specs.RawTables.{numbered}
 use Rattle.ppdb_values.specs.declared.file.FileValue.{FileValue}
 use Rattle.ppdb_values.specs.declared.scope.ScopeValue.{ScopeValue}
 use Rattle.ppdb_values.specs.declared.scope.VariableValue.{VariableValue}
+use Rattle.ppdb_fits.specs.declared.used.MethodSlot.{MethodSlot}
 use Rattle.ppdb_fits.specs.declared.used.UsedSlot.{UsedSlot}
 use Rattle.ppdb_fits.specs.Twice.{each_once, twice}
-
--- a slot of a method
-pub record MethodSlot : Type 0 where
-  pub method : ℕ
-  pub slot : ℕ
 
 -- the slots of the variables of all scopes, by the rows of the variables from 1
 abbrev pub scope_slots : ScopeValue → List MethodSlot
@@ -38,12 +34,15 @@ used m x =
     cond (is_dropped m x.method) None
     (option_map (λ image. record { method = x.method; slot = x.slot; image = image }) (slot_image m x.method x.slot))
 
-abbrev pub used_slots : Map → FileValue → List UsedSlot
-used_slots m value = each_once (λ (u : UsedSlot). u.method) (λ u. u.slot) (filter_map (used m) (variable_slots value))
+abbrev pub used_slots : Map → List MethodSlot → List UsedSlot
+used_slots m slots = each_once (λ (u : UsedSlot). u.method) (λ u. u.slot) (λ u. u.image) (filter_map (used m) slots)
 
 -- two of them have one image
 abbrev pub slot_twice : UsedSlot → UsedSlot → MergeError
 slot_twice a b = SlotTwice a.method a.slot b.slot a.image
 
+abbrev pub twice_of : Map → List MethodSlot → List MergeError
+twice_of m slots = twice (λ (u : UsedSlot). u.method) (λ u. u.slot) (λ u. u.image) slot_twice (used_slots m slots)
+
 abbrev pub slots_twice : Map → FileValue → List MergeError
-slots_twice m value = twice (λ (u : UsedSlot). u.method) (λ u. u.image) slot_twice (used_slots m value)
+slots_twice m value = twice_of m (variable_slots value)
