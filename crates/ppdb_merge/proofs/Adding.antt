@@ -41,7 +41,7 @@ use Rattle.ppdb_merge.specs.Indexes.{Indexes}
 use Rattle.ppdb_merge.specs.Kept.{AreInputs}
 use Rattle.ppdb_merge.specs.Merged.{trace_of, moved_files, is_first}
 use Rattle.ppdb_merge.specs.Refusals.{methods_taken, documents_differ, clashes_before, or_first, refusal_of, added, with_trace}
-use Rattle.ppdb_merge.specs.Room.{AreFew, HasFewRows}
+use Rattle.ppdb_joined.specs.Small.{AreFew, HasFewRows}
 use Rattle.ppdb_merge.specs.Sound.{SoundTrace, SoundTraces, IsImageIn, AreMethodsApart, HasEntry, documents_in}
 use Rattle.ppdb_merge.specs.Together.{misfit_of}
 use Rattle.ppdb_merge.proofs.Apart.{all_apart, one_by_name, Pairs-push}
@@ -124,7 +124,7 @@ module _ (noted : SoundnessIsNoted) (named : ReferencesAreNamed) (m : Map) (raw 
 
 pub have_few : (traces : List Trace) → SoundTraces traces → AreFew (moved_files traces)
 have_few traces sound = record {
-  many = let few = sound.few in let same = length_map traces in omega (arith, few, same);
+  count = let few = sound.few in let same = length_map traces in omega (arith, few, same);
   each = Each-map (λ (t : Trace). t.moved) HasFewRows traces (Each-weaker SoundTrace (λ (t : Trace). HasFewRows t.moved) (λ t s. s.few) traces sound.each);
 }
   where

@@ -22,7 +22,7 @@ use Rattle.ppdb_values.specs.Parts.{first_item}
 use Rattle.ppdb_noted.specs.declared.file.NotedScope.{NotedScope}
 use Rattle.ppdb_noted.specs.Noted.{noted_file, noted_scope}
 use Rattle.ppdb_moved.specs.Moved.{with_item, moved_variable, moved_constant, moved_scope, moved_import_scope, moved_file, scope_image, is_empty}
-use Rattle.ppdb_merge.specs.Room.{HasFewRows}
+use Rattle.ppdb_joined.specs.Small.{HasFewRows}
 
 -- ---- sums
 

@@ -2,7 +2,6 @@ pub mod Indexes
 pub mod Kept
 pub mod Merged
 pub mod Refusals
-pub mod Room
 pub mod Sound
 pub mod Together
 pub mod Worked

@@ -11,7 +11,7 @@ use Rattle.ppdb_references.specs.declared.imaged.Imaged.{Imaged}
 use Rattle.ppdb_merge.specs.declared.trace.Trace.{Trace}
 use Rattle.ppdb_merge.specs.Merged.{moved_files}
 use Rattle.ppdb_merge.specs.Refusals.{methods_in}
-use Rattle.ppdb_merge.specs.Room.{HasFewRows}
+use Rattle.ppdb_joined.specs.Small.{HasFewRows}
 
 -- the row is the image of one of the rows
 abbrev pub IsImageIn : List Imaged → Named → Type 0

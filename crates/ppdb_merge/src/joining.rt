@@ -9,11 +9,10 @@ ghost use Rattle.ppdb_merge.specs.Merged.{moved_files};
 ghost use Rattle.ppdb_merge.specs.Sound.{SoundTraces};
 ghost use Rattle.ppdb_merge.specs.Together.{misfit_of};
 
-use crate::stub::{few_files_have_room, joined_value};
 use crate::trace::Trace;
 use kept_meanings::inputs_keep_meaning;
 use ppdb_base::{List, Memory};
-use ppdb_joined::joined_is_sound;
+use ppdb_joined::{few_files_have_room, joined_is_sound, joined_value};
 use ppdb_noted::{NotedFile, soundness_is_noted};
 use ppdb_values::FileValue;
 use std::alloc::Global;

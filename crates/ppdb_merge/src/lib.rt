@@ -9,7 +9,8 @@ mod laws;
 mod merger;
 mod methods;
 mod reading;
-mod stub;
+#[cfg(test)]
+mod tests;
 mod together;
 mod trace;
 

@@ -12,7 +12,7 @@ use crate::trace::Trace;
 use custom_info::Marks;
 use named_references::references_are_named;
 use ppdb_base::{MergeError, Steps};
-use ppdb_fits::judge;
+use ppdb_fits::{judge, nothing_clashes};
 use ppdb_maps::MapText;
 use ppdb_moved::{moved_file, noted_file};
 use ppdb_noted::soundness_is_noted;
@@ -43,6 +43,7 @@ pub(crate) fn read_input<L: Ledger>(
     map.keeps();
     soundness_is_noted();
     references_are_named();
+    nothing_clashes();
     let first = traces.len() == 0;
     let value = value_of(alloc, file, steps)?;
     let rows = judge(alloc, file, &value, map, marks, first, steps)?;

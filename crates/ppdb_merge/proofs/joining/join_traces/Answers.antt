@@ -1,6 +1,6 @@
 use Rattle.std.proofs.Common.{sym, subst, ◌∙◌}
 use Rattle.ppdb_joined.specs.Joinable.{AreJoinable}
-use Rattle.ppdb_merge.specs.Room.{HaveRoom}
+use Rattle.ppdb_joined.specs.Small.{HaveRoom}
 use Rattle.ppdb_merge.proofs.Adding.{have_few, joined_sound, some_files, if_sound, if_kept}
 use Rattle.ppdb_merge.proofs.Counted.{can_be_joined}
 use Rattle.ppdb_merge.proofs.joining.join_traces.Goals as goal
