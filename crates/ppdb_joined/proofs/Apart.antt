@@ -69,7 +69,7 @@ module _ (documents : List DocumentValue) (rows : NotedFile → List ℕ)
   each_renumbered these shift [] each = tt
   each_renumbered these shift (f ∷ fs) each = (subst (AreApart these) (sym (same shift f)) each.0, each_renumbered these (shift + length f.imports) fs each.1)
 
-  pairs_renumbered : (shift : ℕ) (files : List NotedFile) → Pairs (λ a b. AreApart (rows a) (rows b)) files
+  pub pairs_renumbered : (shift : ℕ) (files : List NotedFile) → Pairs (λ a b. AreApart (rows a) (rows b)) files
       → Pairs (λ a b. AreApart (rows a) (rows b)) (renumbered_all documents shift files)
   pairs_renumbered shift [] pairs = tt
   pairs_renumbered shift (f ∷ fs) pairs = (

@@ -3,8 +3,15 @@ pub mod Apart
 pub mod Chains
 pub mod Counted
 pub mod Each
+pub mod Gathering
 pub mod Kept
+pub mod Keyed
+pub mod Marked
 pub mod Names
+pub mod OnOks
 pub mod One
 pub mod Placed
+pub mod PutFiles
+pub mod Room
 pub mod Sound
+pub mod Whole

@@ -62,7 +62,7 @@ flat_count f (x ∷ xs) =
     ∙ ap (λ n. n + length (flat_map (λ x. customs_of (f x)) xs)) (length-map (f x) (λ n. n.customs))
     ∙ ap (λ n. length (f x) + n) (flat_count f xs) ∙ sym (sum_by-cons (λ x. length (f x)) x xs)
 
-flat_append : {A B : Type 0} (f : A → List B) (xs : List A) (x : A) → flat_map f (xs ++ x ∷ []) ≡ flat_map f xs ++ f x
+pub flat_append : {A B : Type 0} (f : A → List B) (xs : List A) (x : A) → flat_map f (xs ++ x ∷ []) ≡ flat_map f xs ++ f x
 flat_append f [] x = append-nil (f x)
 flat_append f (y ∷ ys) x = ap (λ l. f y ++ l) (flat_append f ys x) ∙ sym (append_assoc (f y) (flat_map f ys) (f x))
 

@@ -1,6 +1,11 @@
+pub mod Gathered
 pub mod Joinable
 pub mod Joined
+pub mod Keys
 pub mod Laws
+pub mod Numbered
+pub mod Parts
+pub mod Repeats
 pub mod Same
 pub mod Small
 pub mod Worked

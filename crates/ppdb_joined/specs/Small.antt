@@ -1,6 +1,7 @@
 -- Files whose rows have numbers of four bytes.
-use Rattle.std.specs.Prelude.{◌<◌, length, sum_by}
+use Rattle.std.specs.Prelude.{◌<◌, ◌≤◌, List, length, sum_by}
 use Rattle.ppdb_noted.specs.declared.file.NotedFile.{NotedFile}
+use Rattle.ppdb_noted.specs.Each.{Each}
 
 pub record IsSmall (file : NotedFile) : Type 0 where
   pub documents : length file.documents < 0xffffffff
@@ -8,3 +9,28 @@ pub record IsSmall (file : NotedFile) : Type 0 where
   pub variables : sum_by (λ scope. length scope.variables) file.scopes < 0xffffffff
   pub constants : sum_by (λ scope. length scope.constants) file.scopes < 0xffffffff
   pub imports : length file.imports < 0xffffffff
+
+-- the rows of all files, table by table
+pub record HaveRoom (files : List NotedFile) : Type 0 where
+  pub documents : sum_by (λ file. length file.documents) files < 0xffffffff
+  pub scopes : sum_by (λ file. length file.scopes) files < 0xffffffff
+  pub variables : sum_by (λ file. sum_by (λ scope. length scope.variables) file.scopes) files < 0xffffffff
+  pub constants : sum_by (λ file. sum_by (λ scope. length scope.constants) file.scopes) files < 0xffffffff
+  pub imports : sum_by (λ file. length file.imports) files < 0xffffffff
+
+-- a file whose rows have numbers of three bytes, as those of each Portable PDB file have
+pub record HasFewRows (file : NotedFile) : Type 0 where
+  pub documents : length file.documents ≤ 16777215
+  pub scopes : length file.scopes ≤ 16777215
+  pub variables : sum_by (λ scope. length scope.variables) file.scopes ≤ 16777215
+  pub constants : sum_by (λ scope. length scope.constants) file.scopes ≤ 16777215
+  pub imports : length file.imports ≤ 16777215
+
+-- at most 256 such files
+pub record AreFew (files : List NotedFile) : Type 0 where
+  pub count : length files ≤ 256
+  pub each : Each HasFewRows files
+
+-- They have room together.
+abbrev pub FewHaveRoom : Type 0
+FewHaveRoom = (files : List NotedFile) → AreFew files → HaveRoom files

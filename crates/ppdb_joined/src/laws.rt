@@ -1,5 +1,6 @@
 // What is promised of files that are joined.
 ghost use Rattle.ppdb_joined.specs.Worked.{WorkedJoins};
+ghost use Rattle.ppdb_joined.specs.Small.{FewHaveRoom};
 ghost use Rattle.ppdb_joined.specs.Laws.{OneFileStays, JoinedIsSound};
 
 /// One file alone stays as it is, where its parts are sound.
@@ -15,4 +16,9 @@ pub fn joined_is_sound()
 /// Worked files that are joined.
 pub fn worked_joins()
     ensures { WorkedJoins }
+{}
+
+/// At most 256 files, whose rows have numbers of three bytes, have room together: rows of four bytes do for the joined file.
+pub fn few_files_have_room()
+    ensures { FewHaveRoom }
 {}

@@ -2,12 +2,18 @@
 //! such a file, in which rows have numbers again.
 #![tactic(auto)]
 
+mod documents;
+mod joining;
+mod keys;
 mod laws;
 mod placing;
+mod renumbering;
+mod repeats;
 mod sorting;
 #[cfg(test)]
 mod tests;
 mod unnoted;
 
-pub use laws::{joined_is_sound, one_file_stays, worked_joins};
+pub use joining::{join, joined_value};
+pub use laws::{few_files_have_room, joined_is_sound, one_file_stays, worked_joins};
 pub use unnoted::value_of;
