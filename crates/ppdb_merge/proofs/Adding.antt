@@ -1,0 +1,203 @@
+-- The inputs with a further one that is not refused, and what they come to.
+use Rattle.std.proofs.Common.{◌≡◌, ◌≢◌, ℕ, zero, suc, ◌+◌, ◌<◌, ◌≤◌, Bool, true, false, cond, List, [], ◌∷◌, ◌++◌, Option, Some, None, map, length, take}
+use Rattle.std.proofs.Common.{refl, sym, ◌∙◌, ap, subst, arith}
+use Rattle.std.specs.Prelude.{nat_eq, slice_get, Result, Ok, Err, IfOk}
+use Rattle.std.specs.List.{enumerate_from}
+use Rattle.ppdb_base.specs.declared.merge_error.MergeError.{MergeError}
+use Rattle.ppdb_base.specs.declared.list.Memory.{Memory}
+use Rattle.ppdb_maps.specs.Map.{Map}
+use Rattle.ppdb_maps.specs.Readable.{IsReadable}
+use Rattle.ppdb_tables.specs.declared.rows.DocumentRow.{DocumentRow}
+use Rattle.ppdb_tables.specs.RawTables.{HasShape}
+use Rattle.ppdb_values.specs.Documents.{document_of}
+use Rattle.ppdb_values.specs.declared.file.DocumentValue.{DocumentValue}
+use Rattle.ppdb_values.specs.declared.file.FileValue.{FileValue}
+use Rattle.ppdb_values.specs.declared.noted.Noted.{Noted}
+use Rattle.ppdb_values.specs.Meaning.{noted_on}
+use Rattle.ppdb_values.specs.RawFile.{RawFile}
+use Rattle.ppdb_values.specs.Rules.{KeepsRules}
+use Rattle.ppdb_values.specs.Value.{value_of}
+use Rattle.sound_values.specs.Sound.{IsSound}
+use Rattle.ppdb_noted.specs.declared.file.NotedFile.{NotedFile}
+use Rattle.ppdb_noted.specs.Each.{Each, Pairs}
+use Rattle.ppdb_noted.specs.Laws.{SoundnessIsNoted}
+use Rattle.ppdb_noted.specs.NamedRows.{names_some, in_entry, live_file}
+use Rattle.ppdb_noted.specs.Noted.{noted_file, items_of}
+use Rattle.ppdb_noted.specs.Unnoted.{value_of_noted}
+use Rattle.ppdb_noted.proofs.Lists.{Each-append, Each-map, Each-weaker, Pairs-map}
+use Rattle.named_references.specs.Laws.{ReferencesAreNamed}
+use Rattle.ppdb_joined.specs.Joined.{joined, joined_documents}
+use Rattle.ppdb_joined.specs.Laws.{JoinedIsSound}
+use Rattle.ppdb_moved.specs.Fits.{Fits}
+use Rattle.ppdb_moved.specs.Moved.{moved_file}
+use Rattle.ppdb_moved.proofs.SoundMoves.{moved_sound}
+use Rattle.kept_meanings.specs.Kept.{MovedBy, KeepsMeaning, InputsKeepMeaning}
+use Rattle.ppdb_references.specs.declared.imaged.Imaged.{Imaged}
+use Rattle.ppdb_fits.specs.Clashes.{first_clash}
+use Rattle.ppdb_fits.specs.Rows.{imaged_rows}
+use Rattle.ppdb_merge.specs.declared.index.Index.{Index}
+use Rattle.ppdb_merge.specs.declared.trace.Trace.{Trace}
+use Rattle.ppdb_merge.specs.Indexes.{Indexes}
+use Rattle.ppdb_merge.specs.Kept.{AreInputs}
+use Rattle.ppdb_merge.specs.Merged.{trace_of, moved_files, is_first}
+use Rattle.ppdb_merge.specs.Refusals.{methods_taken, documents_differ, clashes_before, or_first, refusal_of, added, with_trace}
+use Rattle.ppdb_joined.specs.Small.{AreFew, HasFewRows}
+use Rattle.ppdb_merge.specs.Sound.{SoundTrace, SoundTraces, IsImageIn, AreMethodsApart, HasEntry, documents_in}
+use Rattle.ppdb_merge.specs.Together.{misfit_of}
+use Rattle.ppdb_merge.proofs.Apart.{all_apart, one_by_name, Pairs-push}
+use Rattle.ppdb_merge.proofs.Counted.{can_be_joined, counts_rows}
+use Rattle.ppdb_merge.proofs.Few.{few_rows}
+use Rattle.ppdb_merge.proofs.Indexing.{documents_more}
+use Rattle.ppdb_merge.proofs.Told.{empty_of, empty_both}
+use Rattle.ppdb_merge.proofs.Traced.{file_sound, moved_images, moved_counts_sound, moved_entry}
+
+-- the documents of a file, with their records, are its documents
+items_are : (value : FileValue) (n : ℕ) (ds : List DocumentValue)
+    → items_of (map (λ (item : ℕ × DocumentValue). record { item = item.1; customs = noted_on value 0x30 item.0 }) (enumerate_from n ds)) ≡ ds
+items_are value n [] = refl
+items_are value n (d ∷ ds) = ap (λ l. d ∷ l) (items_are value (n + 1) ds)
+
+length_next : {A : Type 0} (xs : List A) (x : A) → length (xs ++ x ∷ []) ≡ length xs + 1
+length_next [] x = omega arith
+length_next (y ∷ ys) x = let rest = length_next ys x in omega (arith, rest)
+
+-- a file that is not refused does not clash
+pub none_before : (marks : List (List ℕ)) (traces : List Trace) (m : Map) (raw : RawFile) → refusal_of marks traces m raw ≡ None
+    → clashes_before traces (trace_of (is_first traces) m raw).rows (value_of raw).documents ≡ []
+none_before marks traces m raw is = empty_of _ (by (first_clash marks (is_first traces) m raw) is)
+  where
+    by : (o : Option MergeError)
+        → or_first o (clashes_before traces (trace_of (is_first traces) m raw).rows (value_of raw).documents) ≡ None
+        → slice_get (clashes_before traces (trace_of (is_first traces) m raw).rows (value_of raw).documents) 0 ≡ None
+    by None e = e
+    by (Some told) e = absurd cc
+
+pub refused_by : (marks : List (List ℕ)) (traces : List Trace) (m : Map) (raw : RawFile) (o : Option MergeError)
+    → first_clash marks (is_first traces) m raw ≡ None
+    → o ≡ slice_get (clashes_before traces (trace_of (is_first traces) m raw).rows (value_of raw).documents) 0 → refusal_of marks traces m raw ≡ o
+refused_by marks traces m raw o none is =
+    ap (λ first. or_first first (clashes_before traces (trace_of (is_first traces) m raw).rows (value_of raw).documents)) none ∙ sym is
+
+pub refused_first : (marks : List (List ℕ)) (traces : List Trace) (m : Map) (raw : RawFile) (e : MergeError)
+    → first_clash marks (is_first traces) m raw ≡ Some e → refusal_of marks traces m raw ≡ Some e
+refused_first marks traces m raw e is =
+    ap (λ first. or_first first (clashes_before traces (trace_of (is_first traces) m raw).rows (value_of raw).documents)) is
+
+module _ (noted : SoundnessIsNoted) (named : ReferencesAreNamed) (m : Map) (raw : RawFile) (keeps : KeepsRules raw) (sound : IsSound (value_of raw))
+    (ready : IsReadable m) where
+  trace_sound : (first : Bool) → Fits first m (noted_file (value_of raw)) → SoundTrace (trace_of first m raw)
+  trace_sound first fits = record {
+    sound = moved_sound first m (noted_file (value_of raw)) ready (file_sound noted named first m raw keeps sound ready fits) fits;
+    counts = moved_counts_sound m ready (value_of raw).rows sound.rows;
+    few = few_rows m raw keeps.shape;
+    images = moved_images noted named first m raw keeps sound ready fits;
+  }
+
+  names_differ : (first : Bool) → Fits first m (noted_file (value_of raw)) → Pairs (λ (a b : DocumentValue). a.name ≢ b.name) (value_of raw).documents
+  names_differ first fits =
+      subst (Pairs (λ (a b : DocumentValue). a.name ≢ b.name)) (items_are (value_of raw) 1 (value_of raw).documents)
+      (Pairs-map (λ (n : Noted DocumentValue). n.item) (λ (a b : DocumentValue). a.name ≢ b.name) (noted_file (value_of raw)).documents
+      (file_sound noted named first m raw keeps sound ready fits).names_differ)
+
+  -- the inputs with one more
+  pub added_sound : (marks : List (List ℕ)) (traces : List Trace) → SoundTraces traces → length traces < 256
+      → Fits (is_first traces) m (noted_file (value_of raw)) → refusal_of marks traces m raw ≡ None
+      → SoundTraces (traces ++ trace_of (is_first traces) m raw ∷ [])
+  added_sound marks traces all few fits is =
+      let t : Trace = trace_of (is_first traces) m raw in
+      let none = empty_both (methods_taken traces t.rows) (documents_differ traces (value_of raw).documents) (none_before marks traces m raw is) in
+      record {
+        few = let more = length_next traces t in omega (arith, few, more);
+        each = Each-append SoundTrace traces (t ∷ []) all.each (trace_sound (is_first traces) fits, tt);
+        methods_apart = Pairs-push AreMethodsApart traces t all.methods_apart (all_apart traces t none.0);
+        documents_agree = subst (Pairs (λ (d e : DocumentValue). d.name ≡ e.name → d ≡ e))
+            (sym (documents_more traces t ∙ ap (λ l. documents_in traces ++ l) (items_are (value_of raw) 1 (value_of raw).documents)))
+            (one_by_name (documents_in traces) (value_of raw).documents all.documents_agree (names_differ (is_first traces) fits) none.1);
+        entry = entry_of traces all.entry fits;
+      }
+    where
+      entry_of : (ts : List Trace) → HasEntry ts → Fits (is_first ts) m (noted_file (value_of raw)) → HasEntry (ts ++ trace_of (is_first ts) m raw ∷ [])
+      entry_of [] has fits = moved_entry noted named true m raw keeps sound ready fits refl
+      entry_of (first ∷ others) has fits = has
+
+-- ---- all inputs together
+
+pub have_few : (traces : List Trace) → SoundTraces traces → AreFew (moved_files traces)
+have_few traces sound = record {
+  count = let few = sound.few in let same = length_map traces in omega (arith, few, same);
+  each = Each-map (λ (t : Trace). t.moved) HasFewRows traces (Each-weaker SoundTrace (λ (t : Trace). HasFewRows t.moved) (λ t s. s.few) traces sound.each);
+}
+  where
+    length_map : (ts : List Trace) → length (moved_files ts) ≡ length ts
+    length_map [] = refl
+    length_map (t ∷ ts) = ap suc (length_map ts)
+
+pub joined_sound : SoundnessIsNoted → JoinedIsSound → (traces : List Trace) → traces ≢ [] → SoundTraces traces → misfit_of traces ≡ None
+    → IsSound (value_of_noted (joined (moved_files traces)))
+joined_sound noted law [] some sound fit = absurd (some refl)
+joined_sound noted law (first ∷ others) some sound fit =
+    noted.value (joined (moved_files (first ∷ others)))
+    (law first.moved (moved_files others) (can_be_joined (first ∷ others) sound) (counts_rows first others sound fit))
+
+pub some_files : (traces : List Trace) → traces ≢ [] → moved_files traces ≢ []
+some_files [] some is = some refl
+some_files (t ∷ ts) some is = cc
+
+pub if_sound : (r : Result FileValue Memory) (files : List NotedFile) (traces : List Trace) → IfOk r (λ value. value ≡ value_of_noted (joined files))
+    → files ≡ moved_files traces → IsSound (value_of_noted (joined (moved_files traces))) → IfOk r IsSound
+if_sound (Err e) files traces is same sound = tt
+if_sound (Ok value) files traces is same sound =
+    subst IsSound (sym (is ∙ ap (λ l. value_of_noted (joined l)) same)) sound
+
+-- ---- a file that is read
+
+pub few_documents : (raw : RawFile) (documents : List DocumentValue) → HasShape raw.tables → documents ≡ (value_of raw).documents
+    → length documents < 4294967295
+few_documents raw documents shape is =
+    let many = length_all raw.tables.documents in
+    let same = ap (λ (l : List DocumentValue). length l) is in
+    let counted = shape.documents in let small = shape.small 0x30 in omega (arith, many, same, counted, small)
+  where
+    length_all : (ds : List DocumentRow) → length (map (document_of raw.tables) ds) ≡ length ds
+    length_all [] = refl
+    length_all (d ∷ ds) = ap suc (length_all ds)
+
+pub refused_as : (marks : List (List ℕ)) (traces : List Trace) (m : Map) (raw : RawFile) (o : Option MergeError) (rows : List Imaged)
+    (documents : List DocumentValue) → first_clash marks (is_first traces) m raw ≡ None → rows ≡ imaged_rows (is_first traces) m raw
+    → documents ≡ (value_of raw).documents → o ≡ slice_get (clashes_before traces rows documents) 0 → refusal_of marks traces m raw ≡ o
+refused_as marks traces m raw o rows documents none same also is =
+    refused_by marks traces m raw o none
+    (is ∙ ap (λ l. slice_get (clashes_before traces l documents) 0) same
+    ∙ ap (λ l. slice_get (clashes_before traces (imaged_rows (is_first traces) m raw) l) 0) also)
+
+pub is_sound : (traces : List Trace) (m : Map) (raw : RawFile) (moved noted : NotedFile) (rows : List Imaged) → moved ≡ moved_file m noted
+    → noted ≡ noted_file (value_of raw) → rows ≡ imaged_rows (is_first traces) m raw → SoundTraces (traces ++ trace_of (is_first traces) m raw ∷ [])
+    → SoundTraces (traces ++ record { moved = moved; rows = rows } ∷ [])
+is_sound traces m raw moved noted rows is from same sound =
+    subst (λ file. SoundTraces (traces ++ record { moved = file; rows = rows } ∷ [])) (sym (is ∙ ap (moved_file m) from))
+    (subst (λ l. SoundTraces (traces ++ record { moved = moved_file m (noted_file (value_of raw)); rows = l } ∷ [])) (sym same) sound)
+
+pub added_as : (marks : List (List ℕ)) (traces : List Trace) (m : Map) (raw : RawFile) (t : Trace) → t ≡ trace_of (is_first traces) m raw
+    → refusal_of marks traces m raw ≡ None → added marks traces m raw ≡ Ok (traces ++ t ∷ [])
+added_as marks traces m raw t is none =
+    ap (with_trace traces (trace_of (is_first traces) m raw)) none ∙ ap (λ x. Ok (traces ++ x ∷ [])) (sym is)
+
+-- the inputs with one more, of which the index holds all but the last
+pub grown : (traces new : List Trace) (t : Trace) (index : Index) → new ≡ traces ++ t ∷ [] → Indexes traces index → SoundTraces (traces ++ t ∷ [])
+    → SoundTraces new × (index.inputs ≤ length new) × Indexes (take index.inputs new) index
+grown traces new t index is holds sound = (
+  subst SoundTraces (sym is) sound,
+  (let counted = holds.inputs in let more = length_next traces t in let same = ap (λ (l : List Trace). length l) is in omega (arith, counted, more, same)),
+  subst (λ l. Indexes l index) (sym (ap (take index.inputs) is ∙ ap (λ n. take n (traces ++ t ∷ [])) holds.inputs ∙ front traces)) holds,
+)
+  where
+    front : (ts : List Trace) → take (length ts) (ts ++ t ∷ []) ≡ ts
+    front [] = refl
+    front (x ∷ ts) = ap (λ l. x ∷ l) (front ts)
+
+pub if_kept : (r : Result FileValue Memory) (files : List NotedFile) (traces : List Trace) → IfOk r (λ value. value ≡ value_of_noted (joined files))
+    → files ≡ moved_files traces → InputsKeepMeaning
+    → IfOk r (λ value. (inputs : List MovedBy) → AreInputs traces inputs → KeepsMeaning inputs value)
+if_kept (Err e) files traces is same law = tt
+if_kept (Ok value) files traces is same law = λ inputs are.
+    subst (KeepsMeaning inputs) (sym (is ∙ ap (λ l. value_of_noted (joined l)) (same ∙ are.moved))) (law inputs are.fit)

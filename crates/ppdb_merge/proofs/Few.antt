@@ -1,0 +1,206 @@
+-- A moved file has no more rows than the file, and the rows of a file have numbers of three bytes.
+use Rattle.std.proofs.Common.{◌≡◌, ℕ, zero, suc, ◌+◌, ◌<◌, ◌≤◌, Bool, true, false, cond, List, [], ◌∷◌, Option, Some, None, length, map, filter}
+use Rattle.std.proofs.Common.{refl, sym, ◌∙◌, ap, subst, arith}
+use Rattle.std.specs.Prelude.{◌==◌, sum_by}
+use Rattle.std.specs.List.{filter_map, cons_option, enumerate_from}
+use Rattle.std.proofs.lemmas.Bool.{eqb-true}
+use Rattle.std.proofs.lemmas.List.Sums.{sum_by-cons}
+use Rattle.ppdb_maps.specs.Map.{Map}
+use Rattle.ppdb_tables.specs.RawTables.{HasShape, numbered}
+use Rattle.ppdb_tables.specs.declared.rows.VariableRow.{VariableRow}
+use Rattle.ppdb_tables.specs.declared.rows.ConstantRow.{ConstantRow}
+use Rattle.ppdb_values.specs.declared.noted.Noted.{Noted}
+use Rattle.ppdb_values.specs.declared.scope.ScopeValue.{ScopeValue}
+use Rattle.ppdb_values.specs.declared.file.FileValue.{FileValue}
+use Rattle.ppdb_values.specs.Meaning.{noted_from}
+use Rattle.ppdb_values.specs.RawFile.{RawFile}
+use Rattle.ppdb_values.specs.Value.{value_of, scope_of, variable_of, owned_by, owner_of, is_number}
+use Rattle.ppdb_values.specs.Constants.{constant_of}
+use Rattle.ppdb_values.specs.Documents.{document_of}
+use Rattle.ppdb_values.specs.Imports.{import_scope_of}
+use Rattle.ppdb_values.specs.Parts.{first_item}
+use Rattle.ppdb_noted.specs.declared.file.NotedScope.{NotedScope}
+use Rattle.ppdb_noted.specs.Noted.{noted_file, noted_scope}
+use Rattle.ppdb_moved.specs.Moved.{with_item, moved_variable, moved_constant, moved_scope, moved_import_scope, moved_file, scope_image, is_empty}
+use Rattle.ppdb_joined.specs.Small.{HasFewRows}
+
+-- ---- sums
+
+total : {A : Type 0} → (A → ℕ) → List A → ℕ
+total f [] = 0
+total f (x ∷ xs) = f x + total f xs
+
+sum_is : {A : Type 0} (f : A → ℕ) (xs : List A) → sum_by f xs ≡ total f xs
+unfolding total
+sum_is f [] = refl
+sum_is f (x ∷ xs) = sum_by-cons f x xs ∙ ap (λ n. f x + n) (sum_is f xs)
+
+total_same : {A : Type 0} (f g : A → ℕ) → ((x : A) → f x ≡ g x) → (xs : List A) → total f xs ≡ total g xs
+unfolding total
+total_same f g same [] = refl
+total_same f g same (x ∷ xs) = ap (λ n. n + total f xs) (same x) ∙ ap (λ n. g x + n) (total_same f g same xs)
+
+total_map : {A B : Type 0} (f : B → ℕ) (g : A → B) (xs : List A) → total f (map g xs) ≡ total (λ x. f (g x)) xs
+unfolding total
+total_map f g [] = refl
+total_map f g (x ∷ xs) = ap (λ n. f (g x) + n) (total_map f g xs)
+
+total_both : {A : Type 0} (f g : A → ℕ) (xs : List A) → total (λ x. f x + g x) xs ≡ total f xs + total g xs
+unfolding total
+total_both f g [] = refl
+total_both f g (x ∷ xs) = let rest = total_both f g xs in omega (arith, rest)
+
+total_none : {A : Type 0} (xs : List A) → total (λ x. 0) xs ≡ 0
+unfolding total
+total_none [] = refl
+total_none (x ∷ xs) = let rest = total_none xs in omega (arith, rest)
+
+-- ---- what is owned is owned once
+
+hit : Option ℕ → ℕ → ℕ
+hit o n = cond (is_number n o) 1 0
+
+hits_after : {A : Type 0} (k from : ℕ) (xs : List A) → k < from → total (λ (x : ℕ × A). hit (Some k) x.0) (enumerate_from from xs) ≡ 0
+unfolding total hit
+hits_after k from [] above = refl
+hits_after k from (x ∷ xs) above = step (from == k) refl (hits_after k (from + 1) xs (omega (arith, above)))
+  where
+    step : (b : Bool) → (from == k) ≡ b → total (λ (x : ℕ × _). cond (is_number x.0 (Some k)) 1 0) (enumerate_from (from + 1) xs) ≡ 0
+        → cond b 1 0 + total (λ (x : ℕ × _). cond (is_number x.0 (Some k)) 1 0) (enumerate_from (from + 1) xs) ≡ 0
+    step true is rest = let same = eqb-true from k is in absurd (omega (arith, same, above))
+    step false is rest = omega (arith, rest)
+
+hits_once : {A : Type 0} (k from : ℕ) (xs : List A) → total (λ (x : ℕ × A). hit (Some k) x.0) (enumerate_from from xs) ≤ 1
+unfolding total hit
+hits_once k from [] = omega arith
+hits_once k from (x ∷ xs) = step (from == k) refl (hits_once k (from + 1) xs) (λ above. hits_after k (from + 1) xs above)
+  where
+    step : (b : Bool) → (from == k) ≡ b → total (λ (x : ℕ × _). cond (is_number x.0 (Some k)) 1 0) (enumerate_from (from + 1) xs) ≤ 1
+        → (k < from + 1 → total (λ (x : ℕ × _). cond (is_number x.0 (Some k)) 1 0) (enumerate_from (from + 1) xs) ≡ 0)
+        → cond b 1 0 + total (λ (x : ℕ × _). cond (is_number x.0 (Some k)) 1 0) (enumerate_from (from + 1) xs) ≤ 1
+    step true is rest after = let same = eqb-true from k is in let none = after (omega (arith, same)) in omega (arith, none)
+    step false is rest after = omega (arith, rest)
+
+hits_few : {A : Type 0} (o : Option ℕ) (from : ℕ) (xs : List A) → total (λ (x : ℕ × A). hit o x.0) (enumerate_from from xs) ≤ 1
+unfolding hit
+hits_few None from xs = let none = total_none (enumerate_from from xs) in omega (arith, none)
+hits_few (Some k) from xs = hits_once k from xs
+
+owned_few : {A I : Type 0} (owner : I → Option ℕ) (from : ℕ) (xs : List A) (items : List I)
+    → total (λ (x : ℕ × A). length (filter (λ item. is_number x.0 (owner item)) items)) (enumerate_from from xs) ≤ length items
+unfolding hit
+owned_few owner from xs [] = let none = total_none (enumerate_from from xs) in omega (arith, none)
+owned_few {A} {I} owner from xs (i ∷ items) =
+    let split = total_same (λ (x : ℕ × A). length (filter (λ item. is_number x.0 (owner item)) (i ∷ items)))
+        (λ (x : ℕ × A). hit (owner i) x.0 + length (filter (λ item. is_number x.0 (owner item)) items)) (λ x. one x) (enumerate_from from xs) in
+    let sums = total_both (λ (x : ℕ × A). hit (owner i) x.0) (λ (x : ℕ × A). length (filter (λ item. is_number x.0 (owner item)) items))
+        (enumerate_from from xs) in
+    let once = hits_few (owner i) from xs in
+    let rest = owned_few owner from xs items in
+    omega (arith, split, sums, once, rest)
+  where
+    one : (x : ℕ × A) → length (filter (λ item. is_number x.0 (owner item)) (i ∷ items))
+        ≡ hit (owner i) x.0 + length (filter (λ item. is_number x.0 (owner item)) items)
+    one x = step (is_number x.0 (owner i))
+      where
+        step : (b : Bool) → length (cond b (i ∷ filter (λ item. is_number x.0 (owner item)) items) (filter (λ item. is_number x.0 (owner item)) items))
+            ≡ cond b 1 0 + length (filter (λ item. is_number x.0 (owner item)) items)
+        step true = omega arith
+        step false = omega arith
+
+-- ---- what stays is no more
+
+length_map : {A B : Type 0} (f : A → B) (xs : List A) → length (map f xs) ≡ length xs
+length_map f [] = refl
+length_map f (x ∷ xs) = ap suc (length_map f xs)
+
+length_numbered : {A : Type 0} (from : ℕ) (xs : List A) → length (enumerate_from from xs) ≡ length xs
+length_numbered from [] = refl
+length_numbered from (x ∷ xs) = ap suc (length_numbered (from + 1) xs)
+
+fewer : {A B : Type 0} (f : A → Option B) (xs : List A) → length (filter_map f xs) ≤ length xs
+fewer f [] = omega arith
+fewer {A} {B} f (x ∷ xs) = step (f x) (fewer f xs)
+  where
+    step : (o : Option B) → length (filter_map f xs) ≤ length xs → length (cons_option o (filter_map f xs)) ≤ suc (length xs)
+    step None rest = omega (arith, rest)
+    step (Some y) rest = omega (arith, rest)
+
+total_fewer : {A B : Type 0} (f : A → Option B) (count : A → ℕ) (after : B → ℕ) → ((x : A) (y : B) → f x ≡ Some y → after y ≡ count x) → (xs : List A)
+    → total after (filter_map f xs) ≤ total count xs
+unfolding total
+total_fewer f count after same [] = omega arith
+total_fewer {A} {B} f count after same (x ∷ xs) = step (f x) refl (total_fewer f count after same xs)
+  where
+    step : (o : Option B) → f x ≡ o → total after (filter_map f xs) ≤ total count xs → total after (cons_option o (filter_map f xs)) ≤ count x + total count xs
+    step None is rest = omega (arith, rest)
+    step (Some y) is rest = let one = same x y is in omega (arith, rest, one)
+
+-- a scope that stays has its variables and constants
+scope_is : (m : Map) (s t : NotedScope) → moved_scope m s ≡ Some t → scope_image m s ≡ t
+scope_is m s t eq = by (is_empty (scope_image m s).range) eq
+  where
+    by : (b : Bool) → cond b None (Some (scope_image m s)) ≡ Some t → scope_image m s ≡ t
+    by true e = absurd cc
+    by false e = cc
+
+length_noted : {X : Type 0} (value : FileValue) (table first : ℕ) (items : List X) → length (noted_from value table first items) ≡ length items
+length_noted value table first items = length_map _ (enumerate_from first items) ∙ length_numbered first items
+
+unnumbered : {A : Type 0} (f : A → ℕ) (from : ℕ) (xs : List A) → total (λ (x : ℕ × A). f x.1) (enumerate_from from xs) ≡ total f xs
+unfolding total
+unnumbered f from [] = refl
+unnumbered f from (x ∷ xs) = ap (λ n. f x + n) (unnumbered f (from + 1) xs)
+
+-- what the moved scopes own is no more than the file's items
+owned_moved : {I : Type 0} (m : Map) (raw : RawFile) (of_noted : NotedScope → ℕ) (of_value : ScopeValue → ℕ) (owner : ℕ × I → Option ℕ) (items : List I)
+    → ((s : NotedScope) → of_noted (scope_image m s) ≡ of_noted s)
+    → ((x : ℕ × ScopeValue) → of_noted (noted_scope (value_of raw) x) ≡ of_value x.1)
+    → ((x : ℕ × _) → of_value (scope_of raw.tables x) ≡ length (filter (λ item. is_number x.0 (owner item)) (numbered items)))
+    → sum_by of_noted (moved_file m (noted_file (value_of raw))).scopes ≤ length items
+owned_moved m raw of_noted of_value owner items kept noted owned =
+    let is = sum_is of_noted (moved_file m (noted_file (value_of raw))).scopes in
+    let moved = total_fewer (moved_scope m) of_noted of_noted (λ s t eq. ap of_noted (sym (scope_is m s t eq)) ∙ kept s) (noted_file (value_of raw)).scopes in
+    let of_file = total_map of_noted (noted_scope (value_of raw)) (numbered (value_of raw).scopes) in
+    let of_values = total_same (λ x. of_noted (noted_scope (value_of raw) x)) (λ (x : ℕ × ScopeValue). of_value x.1) noted (numbered (value_of raw).scopes) in
+    let plain = unnumbered of_value 1 (value_of raw).scopes in
+    let of_rows = total_map of_value (scope_of raw.tables) (numbered raw.tables.scopes) in
+    let of_owned = total_same (λ x. of_value (scope_of raw.tables x)) (λ x. length (filter (λ item. is_number x.0 (owner item)) (numbered items))) owned
+        (numbered raw.tables.scopes) in
+    let few = owned_few owner 1 raw.tables.scopes (numbered items) in
+    let many = length_numbered 1 items in
+    omega (arith, is, moved, of_file, of_values, plain, of_rows, of_owned, few, many)
+
+pub few_rows : (m : Map) (raw : RawFile) → HasShape raw.tables → HasFewRows (moved_file m (noted_file (value_of raw)))
+few_rows m raw shape = record {
+  documents =
+      let noted = length_noted (value_of raw) 0x30 1 (value_of raw).documents in
+      let made = length_map (document_of raw.tables) raw.tables.documents in
+      let counted = shape.documents in let small = shape.small 0x30 in omega (arith, noted, made, counted, small);
+  scopes =
+      let moved = fewer (moved_scope m) (noted_file (value_of raw)).scopes in
+      let noted = length_map (noted_scope (value_of raw)) (numbered (value_of raw).scopes) in
+      let numbers = length_numbered 1 (value_of raw).scopes in
+      let made = length_map (scope_of raw.tables) (numbered raw.tables.scopes) in
+      let rows = length_numbered 1 raw.tables.scopes in
+      let counted = shape.scopes in let small = shape.small 0x32 in omega (arith, moved, noted, numbers, made, rows, counted, small);
+  variables =
+      let owned = owned_moved m raw (λ s. length s.variables) (λ s. length s.variables)
+          (λ item. owner_of (λ scope. scope.variables) raw.tables.scopes item.0) raw.tables.variables
+          (λ s. length_map (with_item (moved_variable m s.method)) s.variables)
+          (λ x. length_noted (value_of raw) 0x33 (first_item (λ before. length before.variables) (value_of raw) x.0) x.1.variables)
+          (λ x. length_map (λ (item : ℕ × VariableRow). variable_of raw.tables item.1) (owned_by (λ scope. scope.variables) raw.tables.scopes x.0 raw.tables.variables)) in
+      let counted = shape.variables in let small = shape.small 0x33 in omega (arith, owned, counted, small);
+  constants =
+      let owned = owned_moved m raw (λ s. length s.constants) (λ s. length s.constants)
+          (λ item. owner_of (λ scope. scope.constants) raw.tables.scopes item.0) raw.tables.constants
+          (λ s. length_map (with_item (moved_constant m)) s.constants)
+          (λ x. length_noted (value_of raw) 0x34 (first_item (λ before. length before.constants) (value_of raw) x.0) x.1.constants)
+          (λ x. length_map (λ (item : ℕ × ConstantRow). constant_of raw.tables item.1) (owned_by (λ scope. scope.constants) raw.tables.scopes x.0 raw.tables.constants)) in
+      let counted = shape.constants in let small = shape.small 0x34 in omega (arith, owned, counted, small);
+  imports =
+      let moved = length_map (with_item (moved_import_scope m)) (noted_file (value_of raw)).imports in
+      let noted = length_noted (value_of raw) 0x35 1 (value_of raw).imports in
+      let made = length_map (import_scope_of raw.tables) raw.tables.imports in
+      let counted = shape.imports in let small = shape.small 0x35 in omega (arith, moved, noted, made, counted, small);
+}

@@ -1,0 +1,12 @@
+pub mod Adding
+pub mod Apart
+pub mod Counted
+pub mod Few
+pub mod Imaged
+pub mod Indexing
+pub mod Looking
+pub mod MovedRows
+pub mod Names
+pub mod Taken
+pub mod Told
+pub mod Traced

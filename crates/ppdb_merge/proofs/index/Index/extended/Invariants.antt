@@ -1,0 +1,13 @@
+use Rattle.std.proofs.Common.{◌≡◌, ◌-◌, ◌≤◌, length, take}
+use Rattle.ppdb_merge.specs.Indexes.{Indexes}
+use Rattle.ppdb_merge.proofs.index.Index.extended.Given as goal
+
+abbrev pub invariant-inputs : goal.invariant-inputs
+invariant-inputs l = record {
+  place : l.place ≡ l.index.inputs;
+  within : l.place ≤ length l.traces;
+  holds : Indexes (take l.fn.self.inputs l.traces) l.fn.self → Indexes (take l.place l.traces) l.index;
+}
+
+abbrev pub decreases-inputs : goal.decreases-inputs
+decreases-inputs l = length l.traces - l.place

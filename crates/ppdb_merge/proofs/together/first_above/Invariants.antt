@@ -1,0 +1,7 @@
+use Rattle.std.proofs.Common.{◌≡◌, [], take}
+use Rattle.std.specs.List.{filter_map}
+use Rattle.ppdb_merge.specs.Together.{above}
+use Rattle.ppdb_merge.proofs.together.first_above.Given as goal
+
+abbrev pub invariant-loop-imaged : goal.invariant-loop-imaged
+invariant-loop-imaged l = filter_map (above (l.input, l.trace)) (take l.imaged-index l.imaged-items) ≡ []

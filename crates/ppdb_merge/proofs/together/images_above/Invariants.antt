@@ -1,0 +1,11 @@
+use Rattle.std.proofs.Common.{◌≡◌, ◌+◌, [], take, flat_map}
+use Rattle.std.specs.List.{filter_map}
+use Rattle.ppdb_tables.specs.RawTables.{numbered}
+use Rattle.ppdb_merge.specs.Together.{images_above}
+use Rattle.ppdb_merge.proofs.together.images_above.Given as goal
+
+abbrev pub invariant-loop-trace : goal.invariant-loop-trace
+invariant-loop-trace l = record {
+  input : l.input ≡ 1 + l.trace-index;
+  none : images_above (take l.trace-index l.traces) ≡ [];
+}

@@ -1,0 +1,19 @@
+use Rattle.std.proofs.Common.{sym, ap, ◌∙◌, ◌++◌, ◌∷◌}
+use Rattle.std.specs.Prelude.{slice_get}
+use Rattle.ppdb_merge.specs.Together.{rows_differ, images_above, misfit_of}
+use Rattle.ppdb_merge.proofs.Told.{first_told, second_told}
+use Rattle.ppdb_merge.proofs.together.misfit.Goals as goal
+
+pub returns-then-is_some : goal.returns-then-is_some
+returns-then-is_some c =
+    first_told c.rows_differ-told.result (rows_differ (c.in-Some.first.now ∷ c.in-Some.others.now))
+    (images_above (c.in-Some.first.now ∷ c.in-Some.others.now)) c.rows_differ-told.ensures (sym c.is_some.ensures ∙ c.if-is_some.true)
+    ∙ ap misfit_of (sym c.in-Some.ensures.cases.0)
+
+pub returns : goal.returns
+returns c =
+    c.images_above.ensures
+    ∙ ap (λ l. slice_get (images_above l) 0) c.in-Some.ensures.cases.0
+    ∙ sym (second_told c.rows_differ-told.result (rows_differ (c.in-Some.first.now ∷ c.in-Some.others.now))
+    (images_above (c.in-Some.first.now ∷ c.in-Some.others.now)) c.rows_differ-told.ensures (sym c.is_some.ensures ∙ c.if-is_some.false))
+    ∙ ap misfit_of (sym c.in-Some.ensures.cases.0)

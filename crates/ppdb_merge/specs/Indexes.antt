@@ -1,0 +1,62 @@
+-- What is looked up of the inputs before a further one.
+use Rattle.std.specs.Prelude.{◌≡◌, ℕ, ◌&&◌, Bool, cond, List, [], Option, Some, None, is_some, ◌∷◌, length, map, find, option_map, nat_eq, nat_lt, bytes_eq}
+use Rattle.std.specs.BTreeMap as tree
+use Rattle.std.specs.Cmp.Lexicographic.{slice_cmp}
+use Rattle.std.specs.Ordering.{nat_cmp}
+use Rattle.ppdb_tables.specs.RawTables.{numbered}
+use Rattle.ppdb_values.specs.declared.file.DocumentValue.{DocumentValue}
+use Rattle.ppdb_references.specs.declared.imaged.Imaged.{Imaged}
+use Rattle.ppdb_joined.specs.Joined.{joined_documents}
+use Rattle.ppdb_merge.specs.declared.documents.Documents.{Documents}
+use Rattle.ppdb_merge.specs.declared.documents.Standing.{Standing}
+use Rattle.ppdb_merge.specs.declared.index.Index.{Index}
+use Rattle.ppdb_merge.specs.declared.methods.Claim.{Claim}
+use Rattle.ppdb_merge.specs.declared.methods.Methods.{Methods}
+use Rattle.ppdb_merge.specs.declared.trace.Trace.{Trace}
+use Rattle.ppdb_merge.specs.Merged.{moved_files}
+use Rattle.ppdb_merge.specs.Refusals.{methods_in, claims}
+
+-- the methods of one input
+abbrev pub claims_of : ℕ → List Imaged → List (ℕ × Imaged)
+claims_of input rows = map (λ i. (input, i)) (methods_in rows)
+
+abbrev pub claim_of : ℕ × Imaged → Claim
+claim_of c = record { input = c.0; row = c.1.row }
+
+-- each image leads to the first method that has it
+abbrev pub HoldsMethods : List (ℕ × Imaged) → Methods → Type 0
+HoldsMethods claimed methods =
+    (image : ℕ) → tree.get nat_cmp methods.by_image image ≡ option_map claim_of (find (λ (c : ℕ × Imaged). nat_eq c.1.image image) claimed)
+
+abbrev pub standing : ℕ × DocumentValue → Standing
+standing d = record { row = d.0; document = d.1 }
+
+-- each name leads to the row and the document of the name
+pub record HoldsDocuments (joined : List DocumentValue) (documents : Documents) : Type 0 where
+  pub rows : documents.rows ≡ length joined
+  pub found : (name : List ℕ) → tree.get_by (λ key. slice_cmp nat_cmp name key.items) documents.by_name
+      ≡ option_map standing (find (λ (d : ℕ × DocumentValue). bytes_eq d.1.name name) (numbered joined))
+
+-- all of some inputs
+pub record Indexes (traces : List Trace) (index : Index) : Type 0 where
+  pub inputs : index.inputs ≡ length traces
+  pub methods : HoldsMethods (claims traces) index.methods
+  pub documents : HoldsDocuments (joined_documents (moved_files traces)) index.documents
+
+-- ---- what is told first of the methods of a further input
+
+abbrev pub is_taken : List (ℕ × Imaged) → Imaged → Bool
+is_taken claimed i = nat_eq i.table 0x06 && is_some (find (λ (c : ℕ × Imaged). nat_eq c.1.image i.image) claimed)
+
+-- the one with the lesser image, or the first of two with one
+abbrev pub before : Imaged → Option Imaged → Option Imaged
+before i None = Some i
+before i (Some j) = cond (nat_lt j.image i.image) (Some j) (Some i)
+
+abbrev pub lesser : List (ℕ × Imaged) → Imaged → Option Imaged → Option Imaged
+lesser claimed i found = cond (is_taken claimed i) (before i found) found
+
+-- the one that is told first
+abbrev pub least_taken : List (ℕ × Imaged) → List Imaged → Option Imaged
+least_taken claimed [] = None
+least_taken claimed (i ∷ is) = lesser claimed i (least_taken claimed is)

@@ -1,0 +1,52 @@
+-- What the inputs of a merge come to together, and why they do not (docs/FORMAT.md, "Joining").
+use Rattle.std.specs.Prelude.{ℕ, cond, nat_eq, nat_lt, List, [], ◌∷◌, ◌++◌, Option, Some, None, Result, Ok, Err, slice_get, slice_index, flat_map}
+use Rattle.std.specs.List.{filter_map, enumerate_from, range_with_len}
+use Rattle.ppdb_base.specs.declared.merge_error.MergeError.{MergeError}
+use Rattle.ppdb_base.specs.declared.merge_error.MergeError.TheVariants.{RowsDiffer, ImageRange}
+use Rattle.ppdb_tables.specs.RawTables.{numbered}
+use Rattle.ppdb_values.specs.declared.file.FileValue.{FileValue}
+use Rattle.ppdb_noted.specs.Unnoted.{value_of_noted}
+use Rattle.ppdb_references.specs.declared.imaged.Imaged.{Imaged}
+use Rattle.ppdb_joined.specs.Joined.{joined}
+use Rattle.ppdb_merge.specs.declared.trace.Trace.{Trace}
+use Rattle.ppdb_merge.specs.Merged.{moved_files}
+
+-- the rows of a table in the output, as the input has it
+abbrev pub count_in : Trace → ℕ → ℕ
+count_in t table = slice_index t.moved.rows table
+
+-- ---- M8: an input counts other rows of a table of the type system than the first
+
+abbrev pub differs : Trace → ℕ → ℕ × Trace → Option MergeError
+differs first table other =
+    cond (nat_eq (count_in first table) (count_in other.1 table)) None
+    (Some (RowsDiffer other.0 table (count_in first table) (count_in other.1 table)))
+
+-- by table, and then by input; inputs are counted from 1
+abbrev pub rows_differ : List Trace → List MergeError
+rows_differ [] = []
+rows_differ (first ∷ others) = flat_map (λ table. filter_map (differs first table) (enumerate_from 2 others)) (range_with_len 0 0x2d)
+
+-- ---- M9: a row's image is above the rows of its table
+
+abbrev pub above : ℕ × Trace → Imaged → Option MergeError
+above t i =
+    cond (nat_lt (count_in t.1 i.table) i.image) (Some (ImageRange t.0 i.table i.row i.image (count_in t.1 i.table))) None
+
+-- by input, table and row
+abbrev pub images_above : List Trace → List MergeError
+images_above traces = flat_map (λ (t : ℕ × Trace). filter_map (above t) t.1.rows) (numbered traces)
+
+-- ---- together
+
+-- what is told of the inputs together
+abbrev pub misfit_of : List Trace → Option MergeError
+misfit_of traces = slice_get (rows_differ traces ++ images_above traces) 0
+
+abbrev pub value_unless : List Trace → Option MergeError → Result FileValue MergeError
+value_unless traces (Some e) = Err e
+value_unless traces None = Ok (value_of_noted (joined (moved_files traces)))
+
+-- The value that inputs are joined to, or what is told of them.
+abbrev pub joined_of : List Trace → Result FileValue MergeError
+joined_of traces = value_unless traces (misfit_of traces)

@@ -1,0 +1,19 @@
+//! Files moved by their maps and joined into one: what is kept of each input, what is told where inputs do not fit, and the value that
+//! they make.
+#![tactic(auto)]
+
+mod documents;
+mod index;
+mod joining;
+mod laws;
+mod merger;
+mod methods;
+mod reading;
+#[cfg(test)]
+mod tests;
+mod together;
+mod trace;
+
+pub use laws::worked_merges;
+pub use merger::Merger;
+pub use trace::Trace;

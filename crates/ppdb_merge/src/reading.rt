@@ -1,0 +1,56 @@
+// What is kept of a further input.
+ghost use Rattle.std.specs.Prelude.{◌≡◌, ◌⊎◌, ◌<◌, ◌∷◌, ◌++◌, [], Some, None, IfOk, IfErr, length};
+ghost use Rattle.ppdb_base.specs.declared.merge_error.MergeError.TheVariants as merge_errors;
+ghost use Rattle.ppdb_verify.specs.Views.{raw_file};
+ghost use Rattle.ppdb_merge.specs.Indexes.{Indexes};
+ghost use Rattle.ppdb_merge.specs.Merged.{trace_of, is_first};
+ghost use Rattle.ppdb_merge.specs.Refusals.{refusal_of};
+ghost use Rattle.ppdb_merge.specs.Sound.{SoundTraces};
+
+use crate::index::Index;
+use crate::trace::Trace;
+use custom_info::Marks;
+use named_references::references_are_named;
+use ppdb_base::{MergeError, Steps};
+use ppdb_fits::{judge, nothing_clashes};
+use ppdb_maps::MapText;
+use ppdb_moved::{moved_file, noted_file};
+use ppdb_noted::soundness_is_noted;
+use ppdb_verify::Verified;
+use std::alloc::Global;
+use std::sync::ledger::Ledger;
+use value_reading::value_of;
+
+/// Reads a file, and judges whether its map fits it and whether it fits the inputs before it, of which this is the index.
+pub(crate) fn read_input<L: Ledger>(
+    alloc: Global,
+    file: &Verified<'_>,
+    map: &MapText,
+    marks: &Marks,
+    traces: &[Trace],
+    index: &Index,
+    steps: &mut Steps<L>,
+) -> Result<Trace, MergeError>
+    requires few { length traces.now < 256 }
+    requires sound { SoundTraces traces.now }
+    requires indexes { Indexes traces.now index.now }
+    ensures trace { IfOk result (λ trace. trace ≡ trace_of (is_first traces.now) map.now (raw_file file.now)) }
+    ensures fits { IfOk result (λ trace. refusal_of marks.now traces.now map.now (raw_file file.now) ≡ None) }
+    ensures sound { IfOk result (λ trace. SoundTraces (traces.now ++ trace ∷ [])) }
+    ensures refused { IfErr result (λ e. (e ≡ merge_errors.Memory) ⊎ (refusal_of marks.now traces.now map.now (raw_file file.now) ≡ Some e)) }
+{
+    file.keeps();
+    map.keeps();
+    soundness_is_noted();
+    references_are_named();
+    nothing_clashes();
+    let first = traces.len() == 0;
+    let value = value_of(alloc, file, steps)?;
+    let rows = judge(alloc, file, &value, map, marks, first, steps)?;
+    match index.clash(rows.as_slice(), value.documents.as_slice()) {
+        Some(told) => return Err(told),
+        None => {}
+    }
+    let moved = moved_file(alloc, noted_file(alloc, value)?, map)?;
+    Ok(Trace { moved, rows })
+}

@@ -1,0 +1,126 @@
+// Why the inputs do not fit each other as a whole.
+ghost use Rattle.std.specs.Prelude.{◌≡◌, ◌∷◌, ◌-◌, ◌<◌, ◌≤◌, ◌^◌, length, slice_get};
+ghost use Rattle.std.specs.List.{enumerate_from, filter_map};
+ghost use Rattle.ppdb_merge.specs.Together.{above, count_in, differs, images_above, misfit_of, rows_differ};
+
+use crate::trace::Trace;
+use ppdb_base::MergeError;
+use ppdb_references::Imaged;
+
+/// The rows of a table in the output, as an input has it.
+fn count(trace: &Trace, table: u8) -> u32
+    requires { table < 64 }
+    ensures { result ≡ count_in trace.now table }
+{
+    trace.moved.rows[table as usize]
+}
+
+/// What is told of a table that an input counts otherwise than the first.
+fn differs(first: &Trace, table: u8, input: u32, other: &Trace) -> Option<MergeError>
+    requires { table < 64 }
+    ensures { result ≡ differs first.now table (input, other.now) }
+{
+    let (first, second) = (count(first, table), count(other, table));
+    if first == second {
+        return None;
+    }
+    Some(MergeError::RowsDiffer {
+        input,
+        table,
+        first,
+        second,
+    })
+}
+
+/// What is told first of a table of the inputs after the first.
+fn first_differing(first: &Trace, others: &[Trace], table: u8) -> Option<MergeError>
+    requires low { table < 64 }
+    requires few { length others.now < 2 ^ 32 - 2 }
+    ensures { result ≡ slice_get (filter_map (differs first.now table) (enumerate_from 2 others.now)) 0 }
+{
+    let mut input = 2;
+    for other in others {
+        let told = differs(first, table, input, other);
+        if told.is_some() {
+            return told;
+        }
+        input += 1;
+    }
+    None
+}
+
+/// What is told first of the inputs' row counts.
+fn rows_differ(first: &Trace, others: &[Trace]) -> Option<MergeError>
+    requires { length others.now < 2 ^ 32 - 2 }
+    ensures { result ≡ slice_get (rows_differ (first.now ∷ others.now)) 0 }
+{
+    for table in 0..0x2d {
+        let told = first_differing(first, others, table);
+        if told.is_some() {
+            return told;
+        }
+    }
+    None
+}
+
+/// What is told of a row whose image is above the rows of its table.
+fn above(input: u32, trace: &Trace, imaged: &Imaged) -> Option<MergeError>
+    ensures { result ≡ above (input, trace.now) imaged.now }
+{
+    let Imaged { table, row, image } = *imaged;
+    let rows = *trace.moved.rows.get(table as usize).unwrap_or(&0);
+    if image <= rows {
+        return None;
+    }
+    Some(MergeError::ImageRange {
+        input,
+        table,
+        row,
+        image,
+        rows,
+    })
+}
+
+/// What is told first of an input's images.
+fn first_above(input: u32, trace: &Trace) -> Option<MergeError>
+    ensures { result ≡ slice_get (filter_map (above (input, trace.now)) trace.now.rows) 0 }
+{
+    for imaged in trace.rows.as_slice() {
+        let told = above(input, trace, imaged);
+        if told.is_some() {
+            return told;
+        }
+    }
+    None
+}
+
+/// What is told first of the images of all inputs.
+fn images_above(traces: &[Trace]) -> Option<MergeError>
+    requires { length traces.now < 2 ^ 32 - 1 }
+    ensures { result ≡ slice_get (images_above traces.now) 0 }
+{
+    let mut input = 1;
+    for trace in traces {
+        let told = first_above(input, trace);
+        if told.is_some() {
+            return told;
+        }
+        input += 1;
+    }
+    None
+}
+
+/// What is told of inputs together: M8, or else M9.
+pub(crate) fn misfit(traces: &[Trace]) -> Option<MergeError>
+    requires { length traces.now < 2 ^ 32 - 1 }
+    ensures { result ≡ misfit_of traces.now }
+{
+    let Some((first, others)) = traces.split_first() else {
+        return None;
+    };
+    let told = rows_differ(first, others);
+    if told.is_some() {
+        return told;
+    }
+    images_above(traces)
+}
