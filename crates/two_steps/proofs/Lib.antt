@@ -1,0 +1,5 @@
+pub mod Fitting
+pub mod Images
+pub mod Links
+pub mod Rows
+pub mod Steps
