@@ -73,7 +73,7 @@ module _ (f s : Map) (composes : IsComposition f s (composed f s)) (keeps : Keep
   constant_on : (k : ConstantValue) → moved_constant s (moved_constant f k) ≡ moved_constant c k
   constant_on k =
       ap (λ l. record { name = k.name; modifiers = l; body = moved_constant_body s (moved_constant_body f k.body) })
-          (map_map_is (moved_modifier s) (moved_modifier f) (moved_modifier c) modifier_on k.modifiers)
+      (map_map_is (moved_modifier s) (moved_modifier f) (moved_modifier c) modifier_on k.modifiers)
       ∙ ap (λ b. record { name = k.name; modifiers = map (moved_modifier c) k.modifiers; body = b }) (body_on k.body)
 
   import_on : (i : ImportValue) → moved_import s (moved_import f i) ≡ moved_import c i
@@ -111,20 +111,37 @@ module _ (f s : Map) (composes : IsComposition f s (composed f s)) (keeps : Keep
     scope_on : (range : Range) (x : ScopeMeaning) → VariablesStay x
         → ranged range (scope_image s image (scope_image f method x)) ≡ ranged range (scope_image c method x)
     scope_on range x stays =
-        ap (λ l. record { range = range; customs = x.customs; variables = l; constants = map (with_item (moved_constant s))
-            (map (with_item (moved_constant f)) x.constants); imports = map (with_item (map (moved_import s)))
-            (map (with_item (map (moved_import f))) x.imports) })
+        ap (λ l. record {
+          range = range;
+          customs = x.customs;
+          variables = l;
+          constants = map (with_item (moved_constant s))
+              (map (with_item (moved_constant f)) x.constants);
+          imports = map (with_item (map (moved_import s)))
+              (map (with_item (map (moved_import f))) x.imports);
+        })
         (map_map_each (with_item (moved_variable s image)) (with_item (moved_variable f method)) (with_item (moved_variable c method)) _ variable_on
-            x.variables stays)
-        ∙ ap (λ l. record { range = range; customs = x.customs; variables = map (with_item (moved_variable c method)) x.variables; constants = l;
-            imports = map (with_item (map (moved_import s))) (map (with_item (map (moved_import f))) x.imports) })
+        x.variables stays)
+        ∙ ap (λ l. record {
+          range = range;
+          customs = x.customs;
+          variables = map (with_item (moved_variable c method)) x.variables;
+          constants = l;
+          imports = map (with_item (map (moved_import s))) (map (with_item (map (moved_import f))) x.imports);
+        })
         (map_map_is (with_item (moved_constant s)) (with_item (moved_constant f)) (with_item (moved_constant c))
-            (item_is (moved_constant s) (moved_constant f) (moved_constant c) constant_on) x.constants)
-        ∙ ap (λ l. record { range = range; customs = x.customs; variables = map (with_item (moved_variable c method)) x.variables; constants = map
-            (with_item (moved_constant c)) x.constants; imports = l })
+        (item_is (moved_constant s) (moved_constant f) (moved_constant c) constant_on) x.constants)
+        ∙ ap (λ l. record {
+          range = range;
+          customs = x.customs;
+          variables = map (with_item (moved_variable c method)) x.variables;
+          constants = map
+              (with_item (moved_constant c)) x.constants;
+          imports = l;
+        })
         (map_map_is (with_item (map (moved_import s))) (with_item (map (moved_import f))) (with_item (map (moved_import c)))
         (item_is (map (moved_import s)) (map (moved_import f)) (map (moved_import c))
-            (map_map_is (moved_import s) (moved_import f) (moved_import c) import_on)) x.imports)
+        (map_map_is (moved_import s) (moved_import f) (moved_import c) import_on)) x.imports)
 
     range_on : (range : Range) → RangeComposes f s method image range
         → moved_range (offsets_in s image) (moved_range (offsets_in f method) range) ≡ moved_range (offsets_in c method) range
@@ -161,19 +178,31 @@ module _ (f s : Map) (composes : IsComposition f s (composed f s)) (keeps : Keep
 
     point_edgeless : (p : Option PointMeaning)
         → option_map edgeless_point (option_map (point_image s image) (option_map (point_image f method) p)) ≡ option_map edgeless_point
-            (option_map (point_image c method) p)
+        (option_map (point_image c method) p)
     point_edgeless None = refl
     point_edgeless (Some p) = ap (λ n. Some (record { offset = 0; span = p.span; document = p.document; signature = n })) (row_on 0x11 p.signature)
 
     pub but_for_edges : (a : Meaning) → SlotsStay f method a
         → without_edges (meaning_image s image (meaning_image f method a)) ≡ without_edges (meaning_image c method a)
     but_for_edges a stays =
-        ap (λ p. record { point = p; scopes = map edgeless_scope (map (scope_image s image) (map (scope_image f method) a.scopes)); slots = map
-            edgeless_slot (map (slot_meaning_image s image) (map (slot_meaning_image f method) a.slots)) }) (point_edgeless a.point)
-        ∙ ap (λ l. record { point = option_map edgeless_point (option_map (point_image c method) a.point); scopes = l; slots = map edgeless_slot
-            (map (slot_meaning_image s image) (map (slot_meaning_image f method) a.slots)) }) (scopes_edgeless a.scopes stays)
-        ∙ ap (λ l. record { point = option_map edgeless_point (option_map (point_image c method) a.point); scopes = map edgeless_scope
-            (map (scope_image c method) a.scopes); slots = l }) (slots_edgeless a.slots)
+        ap (λ p. record {
+          point = p;
+          scopes = map edgeless_scope (map (scope_image s image) (map (scope_image f method) a.scopes));
+          slots = map
+              edgeless_slot (map (slot_meaning_image s image) (map (slot_meaning_image f method) a.slots));
+        }) (point_edgeless a.point)
+        ∙ ap (λ l. record {
+          point = option_map edgeless_point (option_map (point_image c method) a.point);
+          scopes = l;
+          slots = map edgeless_slot
+              (map (slot_meaning_image s image) (map (slot_meaning_image f method) a.slots));
+        }) (scopes_edgeless a.scopes stays)
+        ∙ ap (λ l. record {
+          point = option_map edgeless_point (option_map (point_image c method) a.point);
+          scopes = map edgeless_scope
+              (map (scope_image c method) a.scopes);
+          slots = l;
+        }) (slots_edgeless a.slots)
 
     point_exactly : (p : Option PointMeaning) → PointComposes f s method image p
         → option_map (point_image s image) (option_map (point_image f method) p) ≡ option_map (point_image c method) p
@@ -181,7 +210,7 @@ module _ (f s : Map) (composes : IsComposition f s (composed f s)) (keeps : Keep
     point_exactly (Some p) edge =
         ap (λ n. Some (record { offset = n; span = p.span; document = p.document; signature = moved_row s 0x11 (moved_row f 0x11 p.signature) })) edge
         ∙ ap (λ n. Some (record { offset = moved (offsets_in c method) p.offset; span = p.span; document = p.document; signature = n }))
-            (row_on 0x11 p.signature)
+        (row_on 0x11 p.signature)
 
     both_each : {A : Type 0} (P Q : A → Type 0) (xs : List A) → Each P xs → Each Q xs → Each (λ x. P x × Q x) xs
     both_each P Q [] ps qs = tt
@@ -194,10 +223,18 @@ module _ (f s : Map) (composes : IsComposition f s (composed f s)) (keeps : Keep
     pub exactly : (a : Meaning) → SlotsStay f method a → EdgesCompose f s method image a
         → meaning_image s image (meaning_image f method a) ≡ meaning_image c method a
     exactly a stays edges =
-        ap (λ p. record { point = p; scopes = map (scope_image s image) (map (scope_image f method) a.scopes); slots = map (slot_meaning_image s image)
-            (map (slot_meaning_image f method) a.slots) }) (point_exactly a.point edges.point)
-        ∙ ap (λ l. record { point = option_map (point_image c method) a.point; scopes = l; slots = map (slot_meaning_image s image)
-            (map (slot_meaning_image f method) a.slots) })
+        ap (λ p. record {
+          point = p;
+          scopes = map (scope_image s image) (map (scope_image f method) a.scopes);
+          slots = map (slot_meaning_image s image)
+              (map (slot_meaning_image f method) a.slots);
+        }) (point_exactly a.point edges.point)
+        ∙ ap (λ l. record {
+          point = option_map (point_image c method) a.point;
+          scopes = l;
+          slots = map (slot_meaning_image s image)
+              (map (slot_meaning_image f method) a.slots);
+        })
         (map_map_each (scope_image s image) (scope_image f method) (scope_image c method) _ scope_exactly a.scopes (both_each _ _ a.scopes stays edges.scopes))
         ∙ ap (λ l. record { point = option_map (point_image c method) a.point; scopes = map (scope_image c method) a.scopes; slots = l })
         (map_map_each (slot_meaning_image s image) (slot_meaning_image f method) (slot_meaning_image c method) _ slot_exactly a.slots edges.slots)

@@ -1,3 +1,4 @@
+pub mod Edges
 pub mod Fitting
 pub mod Images
 pub mod Links

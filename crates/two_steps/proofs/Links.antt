@@ -41,7 +41,7 @@ module _ (f s : Map) (composes : IsComposition f s (composed f s)) (keeps : Keep
       of false is =
           ap (λ b. option_and_then (partner_image s) (cond b None (Some (moved_row f 0x06 (suc n))))) is
           ∙ ap (λ b. cond b None (Some (moved_row s 0x06 (moved_row f 0x06 (suc n)))))
-              (ap (is_dropped s) (row_there f 0x06 n) ∙ image_drops (row_image f 0x06 (suc n)) refl)
+          (ap (is_dropped s) (row_there f 0x06 n) ∙ image_drops (row_image f 0x06 (suc n)) refl)
           ∙ ap (λ r. cond (of_image false (is_dropped s) (row_image f 0x06 (suc n))) None (Some r)) (row_on f s composes keeps 0x06 (suc n))
           ∙ sym (ap (λ b. cond (b || of_image false (is_dropped s) (row_image f 0x06 (suc n))) None (Some (moved_row c 0x06 (suc n)))) is)
 
@@ -52,12 +52,15 @@ module _ (f s : Map) (composes : IsComposition f s (composed f s)) (keeps : Keep
   step_on : (method image : ℕ) (step : AsyncStep) → StepComposes f s method image step
       → moved_step s image (moved_step f method step) ≡ moved_step c method step
   step_on method image step composed =
-      ap (λ p. record { pause = p; resume = moved (offsets_in s (moved_row f 0x06 step.method)) (moved (offsets_in f step.method) step.resume);
-          method = moved_row s 0x06 (moved_row f 0x06 step.method) }) composed.pause
+      ap (λ p. record {
+        pause = p;
+        resume = moved (offsets_in s (moved_row f 0x06 step.method)) (moved (offsets_in f step.method) step.resume);
+        method = moved_row s 0x06 (moved_row f 0x06 step.method);
+      }) composed.pause
       ∙ ap (λ r. record { pause = moved (offsets_in c method) step.pause; resume = r; method = moved_row s 0x06 (moved_row f 0x06 step.method) })
-          composed.resume
+      composed.resume
       ∙ ap (λ m. record { pause = moved (offsets_in c method) step.pause; resume = moved (offsets_in c step.method) step.resume; method = m })
-          (row_on f s composes keeps 0x06 step.method)
+      (row_on f s composes keeps 0x06 step.method)
 
   handler_on : (method image : ℕ) (o : Option ℕ) → HandlerComposes f s method image o
       → option_map (moved (offsets_in s image)) (option_map (moved (offsets_in f method)) o) ≡ option_map (moved (offsets_in c method)) o
@@ -68,7 +71,7 @@ module _ (f s : Map) (composes : IsComposition f s (composed f s)) (keeps : Keep
   record_on method image (Async handler steps) composed =
       ap (λ h. Async h (map (moved_step s image) (map (moved_step f method) steps))) (handler_on method image handler composed.0)
       ∙ ap (Async (option_map (moved (offsets_in c method)) handler))
-          (map_map_each (moved_step s image) (moved_step f method) (moved_step c method) _ (step_on method image) steps composed.1)
+      (map_map_each (moved_step s image) (moved_step f method) (moved_step c method) _ (step_on method image) steps composed.1)
   record_on method image (Hoisted slots) none = absurd none
   record_on method image (TypeDocuments rows) composed = refl
   record_on method image (Unread bytes) composed = refl
@@ -83,17 +86,34 @@ module _ (f s : Map) (composes : IsComposition f s (composed f s)) (keeps : Keep
   pub links_on : (method image : ℕ) (l : Links) → LinksMay f s method image l
       → links_image true s image (links_image true f method l) ≡ links_image true c method l
   links_on method image l may =
-      ap (λ k. record { kickoff = k; move_next = option_and_then (partner_image s) (option_and_then (partner_image f) l.move_next);
-          is_entry = (l.is_entry && true) && true; customs = map (with_body s image) (map (with_body f method) l.customs) })
-          (partners_on l.kickoff may.kickoff)
-      ∙ ap (λ k. record { kickoff = option_and_then (partner_image c) l.kickoff; move_next = k; is_entry = (l.is_entry && true) && true; customs = map
-          (with_body s image) (map (with_body f method) l.customs) }) (partners_on l.move_next may.move_next)
-      ∙ ap (λ b. record { kickoff = option_and_then (partner_image c) l.kickoff; move_next = option_and_then (partner_image c) l.move_next; is_entry = b;
-          customs = map (with_body s image) (map (with_body f method) l.customs) }) (and_true l.is_entry)
-      ∙ ap (λ x. record { kickoff = option_and_then (partner_image c) l.kickoff; move_next = option_and_then (partner_image c) l.move_next;
-          is_entry = l.is_entry && true; customs = x })
+      ap (λ k. record {
+        kickoff = k;
+        move_next = option_and_then (partner_image s) (option_and_then (partner_image f) l.move_next);
+        is_entry = (l.is_entry && true) && true;
+        customs = map (with_body s image) (map (with_body f method) l.customs);
+      })
+      (partners_on l.kickoff may.kickoff)
+      ∙ ap (λ k. record {
+        kickoff = option_and_then (partner_image c) l.kickoff;
+        move_next = k;
+        is_entry = (l.is_entry && true) && true;
+        customs = map
+            (with_body s image) (map (with_body f method) l.customs);
+      }) (partners_on l.move_next may.move_next)
+      ∙ ap (λ b. record {
+        kickoff = option_and_then (partner_image c) l.kickoff;
+        move_next = option_and_then (partner_image c) l.move_next;
+        is_entry = b;
+        customs = map (with_body s image) (map (with_body f method) l.customs);
+      }) (and_true l.is_entry)
+      ∙ ap (λ x. record {
+        kickoff = option_and_then (partner_image c) l.kickoff;
+        move_next = option_and_then (partner_image c) l.move_next;
+        is_entry = l.is_entry && true;
+        customs = x;
+      })
       (map_map_each (with_body s image) (with_body f method) (with_body c method) _
-          (λ x composed. ap (λ v. record { kind = x.kind; value = v }) (record_on method image x.value composed)) l.customs may.customs)
+      (λ x composed. ap (λ v. record { kind = x.kind; value = v }) (record_on method image x.value composed)) l.customs may.customs)
 
 pub links_compose : LinksCompose
 links_compose = λ f s method image l first second may.

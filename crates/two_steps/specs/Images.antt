@@ -1,12 +1,13 @@
 -- What a method means after two maps, one after the other, and after the map of both.
-use Rattle.std.specs.Prelude.{◌≡◌, ℕ, Option, Some, None, map}
+use Rattle.std.specs.Prelude.{◌≡◌, ℕ, ◌≤◌, Option, Some, None, map}
 use Rattle.std.specs.Option.{option_map}
 use Rattle.custom_info.specs.declared.slots.Range.{Range}
-use Rattle.ppdb_base.specs.Offsets.{moved}
+use Rattle.ppdb_base.specs.Offsets.{Kept, moved, old_size}
 use Rattle.ppdb_maps.specs.Map.{Map, offsets_in, slot_image}
 use Rattle.ppdb_maps.specs.Readable.{IsReadable}
 use Rattle.map_compose.specs.Composed.{composed}
 use Rattle.map_compose.specs.Composition.{Follows}
+use Rattle.map_compose.specs.Sizes.{SizesAgree}
 use Rattle.ppdb_values.specs.declared.noted.Noted.{Noted}
 use Rattle.ppdb_values.specs.declared.scope.VariableValue.{VariableValue}
 use Rattle.ppdb_values.specs.Meaning.{PointMeaning, ScopeMeaning, SlotMeaning, Meaning}
@@ -57,3 +58,14 @@ pub record ImagesCompose : Type 0 where
   pub exactly : (f s : Map) (method image : ℕ) (a : Meaning) → IsReadable f → IsReadable s → Follows f s method image → SlotsStay f method a
       → EdgesCompose f s method image a
       → meaning_image s image (meaning_image f method a) ≡ meaning_image (composed f s) method a
+
+-- ---- where edges compose
+
+-- each offset that the second map keeps in the method that a method became is an image that the first gives
+abbrev pub KeepsImages : Map → Map → ℕ → ℕ → Type 0
+KeepsImages f s method image = (y z : ℕ) → Kept (offsets_in s image) y z → (x : ℕ) × Kept (offsets_in f method) x y
+
+-- there each offset up to the old size is taken on as the map of both takes it
+abbrev pub EdgesAreComposed : Type 0
+EdgesAreComposed = (f s : Map) (method image x : ℕ) → IsReadable f → IsReadable s → SizesAgree f s → Follows f s method image → KeepsImages f s method image
+    → x ≤ old_size (offsets_in (composed f s) method) → EdgeComposes f s method image x

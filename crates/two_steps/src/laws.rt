@@ -1,5 +1,5 @@
 // Two rewritings of a module, one after the other, and one by the map of both.
-ghost use Rattle.two_steps.specs.Images.{ImagesCompose};
+ghost use Rattle.two_steps.specs.Images.{EdgesAreComposed, ImagesCompose};
 ghost use Rattle.two_steps.specs.Links.{LinksCompose};
 ghost use Rattle.two_steps.specs.Steps.{StepsMean};
 
@@ -9,6 +9,11 @@ use ppdb_noted::meanings_are_noted;
 /// The image of the image of a meaning is its image by the map of both, but for the edges of ranges.
 pub fn images_compose()
     ensures { ImagesCompose }
+{}
+
+/// Where the second map keeps nothing but images of the first, each offset is taken on as the map of both takes it.
+pub fn edges_compose()
+    ensures { EdgesAreComposed }
 {}
 
 /// The image of the image of what is linked to a method is its image by the map of both.

@@ -3,4 +3,4 @@
 
 mod laws;
 
-pub use laws::{images_compose, links_compose, steps_mean};
+pub use laws::{edges_compose, images_compose, links_compose, steps_mean};
