@@ -94,7 +94,8 @@ is_live m method image is = of (is_dropped m method) refl
         let none : row_image m 0x06 method ≡ None = rw at refl in
         absurd (let e : None ≡ Some image = sym none ∙ is in cc)
 
-each_shown : {A B : Type 0} (P : A → Type 0) (Q : B → Type 0) (test : A → Bool) (view : A → B) → ((x : A) → test x ≡ true → P x → Q (view x)) → (xs : List A)
+pub each_shown : {A B : Type 0} (P : A → Type 0) (Q : B → Type 0) (test : A → Bool) (view : A → B) → ((x : A) → test x ≡ true → P x → Q (view x))
+    → (xs : List A)
     → Each P xs → Each Q (map view (filter test xs))
 each_shown P Q test view shows [] all = tt
 each_shown {A} P Q test view shows (x ∷ xs) all = of (test x) refl (each_shown P Q test view shows xs all.1)

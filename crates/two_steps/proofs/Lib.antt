@@ -4,3 +4,4 @@ pub mod Images
 pub mod Links
 pub mod Rows
 pub mod Steps
+pub mod Within

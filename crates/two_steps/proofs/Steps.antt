@@ -11,6 +11,8 @@ use Rattle.kept_meanings.specs.Kept.{FitsAlone, InputsFit, InputsKeepMeaning, Ke
 use Rattle.two_steps.specs.Images.{without_edges}
 use Rattle.two_steps.specs.Steps.{moved_by, rewritten, IsNamed, StepsMean}
 use Rattle.ppdb_noted.specs.Laws.{MeaningsAreNoted}
+use Rattle.two_steps.proofs.Edges.{edge}
+use Rattle.two_steps.proofs.Within.{edges_on}
 use Rattle.two_steps.proofs.Fitting.{there_after, is_live, slots_stay}
 use Rattle.two_steps.proofs.Images.{images_compose, row_on}
 use Rattle.two_steps.proofs.Rows.{keeps_rows}
@@ -54,10 +56,12 @@ steps_mean law noted = record {
       ∙ images_compose.but_for_edges f s method (moved_row f 0x06 method) (meaning value method x) one.ready two.ready follows
       (slots_stay noted f value one method x (is_live f method (moved_row f 0x06 method) follows.first))
       ∙ sym (ap without_edges (after_one law f s value one at_once two method x z named kept));
-  exactly = λ f s value one at_once two method x z named kept edges.
+  exactly = λ f s value agree one at_once two method x z named kept tight.
       let follows = there_after f s value one.ready two.ready at_once method named.at_once in
       after_two law f s value one at_once two method x z named kept
       ∙ images_compose.exactly f s method (moved_row f 0x06 method) (meaning value method x) one.ready two.ready follows
-      (slots_stay noted f value one method x (is_live f method (moved_row f 0x06 method) follows.first)) edges
+      (slots_stay noted f value one method x (is_live f method (moved_row f 0x06 method) follows.first))
+      (edges_on f s value noted at_once method (moved_row f 0x06 method) x z kept
+      (edge f s method (moved_row f 0x06 method) one.ready two.ready agree follows tight))
       ∙ sym (after_one law f s value one at_once two method x z named kept);
 }
