@@ -1,5 +1,5 @@
 -- The map that lines say, whichever they are.
-use Rattle.std.proofs.Common.{ℕ, ◌≡◌, ◌++◌, Bool, true, false, cond, List, [], ◌∷◌, Option, Some, None, map, refl, sym, ap, ◌∙◌, subst}
+use Rattle.std.proofs.Common.{ℕ, ◌≡◌, ◌++◌, Bool, true, false, cond, List, [], ◌∷◌, Option, Some, map, refl, sym, ap, ◌∙◌, subst}
 use Rattle.std.specs.Prelude.{nat_eq, is_some, option_map}
 use Rattle.std.specs.List.{find, list_any}
 use Rattle.std.specs.List.Sorted.{IsStrictlySortedBy}
@@ -14,7 +14,7 @@ use Rattle.ppdb_maps.specs.declared.line.Line.{Line}
 use Rattle.ppdb_maps.specs.declared.line.Line.TheVariants.{Silent, Rows, Row, Method, Kept, Dropped, Slots, Slot}
 use Rattle.ppdb_maps.specs.Before.{methods_of}
 use Rattle.ppdb_maps.specs.Gathered.{same_pair}
-use Rattle.ppdb_maps.specs.Map.{Map, MethodLine, map_of, pair_cmp, count_of, row_line, method_line, is_dropped, has_slots, slot_line}
+use Rattle.ppdb_maps.specs.Map.{Map, MethodLine, map_of, pair_cmp, method_line}
 use Rattle.ppdb_maps.specs.Text.{HoldsWhat}
 use Rattle.ppdb_maps.proofs.OneMap.{same_number, pair_is, pair_total, pair_exact}
 use Rattle.map_text.proofs.Entries.{put, put_found, put_rises, any_found}
@@ -57,7 +57,8 @@ said_found : {X V : Type 0} (val : X → V) (b : Bool) (x : X) (found : Option X
 said_found val true x found before is = refl
 said_found val false x found before is = is
 
-number_found : (n x : ℕ) (xs : List ℕ) (before : Bool) → list_any (nat_eq n) xs ≡ before → list_any (nat_eq n) (with_number x xs) ≡ cond (nat_eq x n) true before
+number_found : (n x : ℕ) (xs : List ℕ) (before : Bool) → list_any (nat_eq n) xs ≡ before
+    → list_any (nat_eq n) (with_number x xs) ≡ cond (nat_eq x n) true before
 number_found n x xs before is =
     any_found n (with_number x xs)
     ∙ (ap is_some (put_found itself nat_eq nat_cmp same_number nat_cmp_total exact_unsigned n x xs)
