@@ -6,3 +6,6 @@ mod Told
 mod Got
 mod Methods
 mod Reading
+pub mod Entries
+pub mod Held
+pub mod Judged

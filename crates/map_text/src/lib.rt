@@ -8,4 +8,4 @@ mod lines;
 mod tests;
 
 pub use counted::Counted;
-pub use laws::texts_are_read;
+pub use laws::{texts_are_judged, texts_are_read};

@@ -13,6 +13,7 @@ ppdb query FILE METHOD OFFSET  prints what belongs to an IL offset of a method, 
 ppdb links FILE                prints for each document the address of its source, by Source Link
 ppdb breaks FILE DOCUMENT LINE prints where a debugger may stop for a line of a document
 ppdb rebuild IN OUT            writes the one canonical file that says what a file says
+ppdb compose FIRST SECOND OUT  writes the one map that says what two maps say, one after the other
 ppdb help COMMAND              prints more of a command; so does COMMAND --help
 ppdb --help                    prints this text; so do -h and help
 ppdb --version                 prints the version; so does -V
@@ -30,10 +31,12 @@ The status, and the line that is printed with it:
 6   there is no such file: absent FILE
 7   the file is longer than 134217728 bytes: too long FILE
 8   a custom record has an unknown kind: unfit FILE M6 row ROW kind GUID
+    the text is no map's: map FILE line LINE kind RULE
 9   what is to be written passes a limit of the format: limit LIMIT
 10  the file has no such method: no method METHOD
 11  the Source Link record cannot be read: links FILE not json, links FILE shape
 12  the file has no such document: no document DOCUMENT
+13  the maps do not follow one another: sizes differ method METHOD SIZE SIZE
 ";
 
 const ID: &str = "ppdb id FILE
@@ -95,6 +98,16 @@ same bytes. It prints nothing. IN is read before OUT is written, so both may be 
 --free GUID   passes on a kind of custom debug information that is unknown, else status 8
 ";
 
+const COMPOSE: &str = "ppdb compose FIRST SECOND OUT
+
+Writes to OUT the map of two maps, where SECOND is for what FIRST made of a module: the image of the
+image of each row, offset and slot, in the one canonical text. It prints nothing. Both maps are read
+before OUT is written, which may be one of them.
+The size of a method after FIRST and before SECOND must be the same, else the line is `sizes differ
+method M A B`, with the least such method, and the status 13: SECOND was made for another body. A
+text that is no map's is told by its first bad line and the rule that this breaks, with status 8.
+";
+
 /// A command, of which the program can say more.
 #[derive(Clone, Copy)]
 enum Topic {
@@ -105,6 +118,7 @@ enum Topic {
     Links,
     Breaks,
     Rebuild,
+    Compose,
 }
 
 impl Topic {
@@ -118,6 +132,7 @@ impl Topic {
             "links" => Some(Topic::Links),
             "breaks" => Some(Topic::Breaks),
             "rebuild" => Some(Topic::Rebuild),
+            "compose" => Some(Topic::Compose),
             _ => None,
         }
     }
@@ -132,6 +147,7 @@ impl Topic {
             Topic::Links => LINKS,
             Topic::Breaks => BREAKS,
             Topic::Rebuild => REBUILD,
+            Topic::Compose => COMPOSE,
         }
     }
 
@@ -148,6 +164,8 @@ impl Topic {
                 "ppdb: the words are: ppdb breaks FILE DOCUMENT LINE, a name and a decimal number; more: ppdb help breaks",
             Topic::Rebuild =>
                 "ppdb: the words are: ppdb rebuild IN OUT [--keep-id] [--free GUID]..; more: ppdb help rebuild",
+            Topic::Compose =>
+                "ppdb: the words are: ppdb compose FIRST SECOND OUT; more: ppdb help compose",
         }
     }
 }

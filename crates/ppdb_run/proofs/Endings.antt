@@ -20,7 +20,7 @@ use Rattle.ppdb_run.proofs.Causes.{IsRefusal, Refuses, refuses, at_refusal}
 rose_on : (a b c : ℕ) → a ≤ b → Rose a b → b ≤ c → Rose a c
 rose_on a b c l h k = grind arith
 
-rose_before : (a b c : ℕ) → a ≤ b → Rose b c → Rose a c
+pub rose_before : (a b c : ℕ) → a ≤ b → Rose b c → Rose a c
 rose_before a b c h k = grind arith
 
 -- the files are as before, so the one that is written is

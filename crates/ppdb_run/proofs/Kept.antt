@@ -1,13 +1,17 @@
 -- What a question is asked of: one file, which it reads and does not write.
-use Rattle.std.proofs.Common.{ℕ, ◌≡◌, ◌-◌, inl, inr, List, Bool, true, false, Option, Some, None, Result, Ok, Err, refl, sym, ◌∙◌, ap, subst, arith}
-use Rattle.std.specs.Prelude.{IfSome, if◌then◌else◌}
+use Rattle.std.proofs.Common.{ℕ, ◌≡◌, ◌<◌, ◌+◌, ◌-◌, ◌==◌, inl, inr, List, Bool, true, false, Option, Some, None, Result, Ok, Err, refl, sym, ◌∙◌, ap}
+use Rattle.std.proofs.Common.{subst, arith}
+use Rattle.std.specs.Prelude.{IfSome, Contains, slice_get, if◌then◌else◌}
+use Rattle.std.proofs.lemmas.Bool.{eqb-true}
+use Rattle.ppdb_base.specs.Causes.{counted}
 use Rattle.ppdb_base.specs.Files.{Files, Reading, Missing, Longer, Contents, reading}
 use Rattle.ppdb_base.specs.declared.limits.TheConstants.{MAX_FILE_BYTES}
 use Rattle.ppdb_run.specs.declared.stop.Stop.{Stop}
-use Rattle.ppdb_run.specs.Ends.{OnTask, IsUnread, IsUnwritten}
-use Rattle.ppdb_run.specs.Outcome.{Outcome, IsOutcome, absent, answer_of, breaks_answer, done, input_of, links_answer, no_method, too_long, verified}
+use Rattle.ppdb_maps.specs.Map.{Map}
+use Rattle.ppdb_run.specs.Ends.{ComesToRead, OnTask, IsUnread, IsUnreadOf, IsUnwritten}
+use Rattle.ppdb_run.specs.Outcome.{Outcome, IsOutcome, absent, answer_of, breaks_answer, done, input_of, links_answer, map_at, no_method, too_long, verified}
 use Rattle.ppdb_run.specs.Stops.{Cause, Refusal, Unread, Unwritten, Unput, OutOfMemory, cause_of, Leaves, LeavesAt}
-use Rattle.ppdb_run.specs.Words.{Question, Id, Verify, Show, Query, Links, Breaks, Options, Ask, Rebuild, Words}
+use Rattle.ppdb_run.specs.Words.{Question, Id, Verify, Show, Query, Links, Breaks, Options, Task, Ask, Rebuild, Compose, Words, read_files, written_file}
 use Rattle.ppdb_base.specs.declared.link_error.LinkError.{LinkError}
 use Rattle.source_link.specs.declared.pair.Pair.{Pair}
 use Rattle.source_lines.specs.Links.{file_links}
@@ -107,27 +111,62 @@ on_told : {P : Files → Type 0} (files : Option Files) → ((all : Files) → P
 on_told None h = tt
 on_told (Some all) h = h all
 
+-- the file that was to be read first
+first_unread : (task : Task) (file : List ℕ) (files : Option Files) (before after : ℕ) (name : List ℕ) → Contains (read_files task) file
+    → slice_get (read_files task) 0 ≡ Some file → ((all : Files) → ComesToRead task all file) → name ≡ file → after ≡ before
+    → IsUnreadOf task files before after name
+first_unread task file files before after name there first comes e same = record {
+  named = subst (Contains (read_files task)) (sym e) there;
+  next = λ below. let none : after - before ≡ 0 = omega (arith, same) in rw (none, first) (ap Some (sym e));
+  comes = on_told files (λ all. subst (ComesToRead task all) (sym e) (comes all));
+}
+
 pub is_unread : (words : List (List ℕ)) (question : Question) (file : List ℕ) (files : Option Files) (before after : ℕ) (name : List ℕ)
     → Words (Ask question file) words → name ≡ file → after ≡ before → IsUnread words files before after name
 is_unread words question file files before after name asked e same = record {
   task = Ask question file;
   asked = asked;
-  named = (0, omega arith, sym e);
-  next = λ below. let none : after - before ≡ 0 = omega (arith, same) in rw none (ap Some (sym e));
-  comes = on_told files (λ all. e);
+  unread = first_unread (Ask question file) file files before after name (0, omega arith, refl) refl (λ all. refl) e same;
 }
 
--- so it is where a file is rebuilt, and the other file is the one that is written
+-- so it is where a file is rebuilt
 pub is_input : (words : List (List ℕ)) (input output : List ℕ) (options : Options) (files : Option Files) (before after : ℕ) (name : List ℕ)
     → Words (Rebuild input output options) words → name ≡ input → after ≡ before → IsUnread words files before after name
 is_input words input output options files before after name asked e same = record {
   task = Rebuild input output options;
   asked = asked;
-  named = (0, omega arith, sym e);
-  next = λ below. let none : after - before ≡ 0 = omega (arith, same) in rw none (ap Some (sym e));
-  comes = on_told files (λ all. e);
+  unread = first_unread (Rebuild input output options) input files before after name (0, omega arith, refl) refl (λ all. refl) e same;
 }
 
-pub is_output : (words : List (List ℕ)) (input output : List ℕ) (options : Options) (name : List ℕ)
-    → Words (Rebuild input output options) words → name ≡ output → IsUnwritten words name
-is_output words input output options name asked e = record { task = Rebuild input output options; asked = asked; named = ap Some (sym e) }
+-- of two maps the first is read first, and the second where the first is a map
+pub is_first_map : (first second output : List ℕ) (files : Option Files) (before after : ℕ) (name : List ℕ) → name ≡ first → after ≡ before
+    → IsUnreadOf (Compose first second output) files before after name
+is_first_map first second output files before after name e same =
+    first_unread (Compose first second output) first files before after name (0, omega arith, refl) refl (λ all. inl refl) e same
+
+one_more : (before after : ℕ) → after ≡ counted before → after < 18446744073709551615 → after - before ≡ 1
+one_more before after is below = of (before == 18446744073709551615) refl
+  where
+    of : (b : Bool) → (before == 18446744073709551615) ≡ b → after - before ≡ 1
+    of true last =
+        let same : before ≡ 18446744073709551615 = eqb-true before 18446744073709551615 last in
+        let all : after ≡ before = is ∙ (rw last refl) in
+        absurd (omega (arith, same, all, below))
+    of false more = let next : after ≡ before + 1 = is ∙ (rw more refl) in omega (arith, next)
+
+pub is_second_map : (first second output : List ℕ) (files : Option Files) (before after : ℕ) (name : List ℕ) (m : Map) → name ≡ second → after ≡ counted before
+    → IfSome files (λ all. map_at all first (Ok m)) → IsUnreadOf (Compose first second output) files before after name
+is_second_map first second output files before after name m e more read = record {
+  named = (1, omega arith, sym e);
+  next = λ below. let one : after - before ≡ 1 = one_more before after more below in rw one (ap Some (sym e));
+  comes = by_files files read;
+}
+  where
+    by_files : (files : Option Files) → IfSome files (λ all. map_at all first (Ok m)) → IfSome files (λ all. ComesToRead (Compose first second output) all name)
+    by_files None read = tt
+    by_files (Some all) read = inr (e, (m, read))
+
+-- the file that a task writes
+pub is_output : (words : List (List ℕ)) (task : Task) (output name : List ℕ) → written_file task ≡ Some output → Words task words → name ≡ output
+    → IsUnwritten words name
+is_output words task output name writes asked e = record { task = task; asked = asked; named = writes ∙ ap Some (sym e) }

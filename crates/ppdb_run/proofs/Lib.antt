@@ -12,3 +12,7 @@ pub mod BreakTexts
 pub mod Total
 pub mod Unknowns
 pub mod WordList
+pub mod Composing
+pub mod MapSteps
+pub mod Steps
+pub mod Writing

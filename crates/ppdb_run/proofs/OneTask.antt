@@ -6,7 +6,8 @@ use Rattle.std.proofs.lemmas.Str.Parse.{IsNumeralModel, numerals_by_value, tells
 use Rattle.std.proofs.lemmas.Fmt.{digits_value-decimal}
 use Rattle.ppdb_base.specs.declared.limits.TheConstants.{MAX_ROWS, MAX_OFFSET}
 use Rattle.ppdb_run.specs.declared.words.TheConstants.{MAX_LINE}
-use Rattle.ppdb_run.specs.Words.{Question, Id, Verify, Show, Query, Links, Breaks, Options, AreOptions, no_option, keep_id, free, Task, Ask, Rebuild, Words}
+use Rattle.ppdb_run.specs.Words.{Question, Id, Verify, Show, Query, Links, Breaks, Options, AreOptions, no_option, keep_id, free, Task, Ask, Rebuild}
+use Rattle.ppdb_run.specs.Words.{Compose, Words}
 
 numerals : IsNumeralModel (AllDigits 10) (digits_value 10)
 numerals = numerals_by_value (AllDigits 10) tells_digits
@@ -18,7 +19,8 @@ task_of letter file [] =
     else Some (Ask (Show false) file)
 task_of letter file (one ∷ []) = Some (Ask (Show true) file)
 task_of letter file (one ∷ two ∷ rest) =
-    if letter == 98 then Some (Ask (Breaks one (digits_value 10 two)) file) else Some (Ask (Query (digits_value 10 one) (digits_value 10 two)) file)
+    if letter == 98 then Some (Ask (Breaks one (digits_value 10 two)) file) else if letter == 99 then Some (Compose file one two)
+    else Some (Ask (Query (digits_value 10 one) (digits_value 10 two)) file)
 
 task_in : List (List ℕ) → Option Task
 task_in ((letter ∷ letters) ∷ file ∷ rest) = if letter == 114 then None else task_of letter file rest
@@ -49,6 +51,11 @@ rebuilds : (words : List (List ℕ)) (input output : List ℕ) (options : Option
 unfolding task_in task_of
 rebuilds words input output options h = ap task_in h.1
 
+composes : (words : List (List ℕ)) (first second output : List ℕ) → Words (Compose first second output) words
+    → task_in words ≡ Some (Compose first second output)
+unfolding task_in task_of
+composes words first second output h = ap task_in h.0
+
 -- words have one list of options at most
 pub one_choice : (words : List (List ℕ)) (one other : Options) → AreOptions words one → AreOptions words other → one ≡ other
 one_choice _ _ _ no_option no_option = refl
@@ -74,4 +81,24 @@ one_task words (Rebuild i o options) (Ask q f) h k =
 one_task words (Rebuild i o options) (Rebuild i' o' options') h k =
     let same : (i ≡ i') × (o ≡ o') × (h.0 ≡ k.0) = let whole = sym h.1 ∙ k.1 in (cc, cc, cc) in
     let choice : options ≡ options' = one_choice k.0 options options' (subst (λ w. AreOptions w options) same.2 h.4) k.4 in
+    cc
+one_task words (Ask q f) (Compose i s o) h k =
+    let a = read_back words q f h in
+    let b = composes words i s o k in
+    absurd cc
+one_task words (Compose i s o) (Ask q f) h k =
+    let a = composes words i s o h in
+    let b = read_back words q f k in
+    absurd cc
+one_task words (Rebuild i o options) (Compose i' s' o') h k =
+    let a = rebuilds words i o options h in
+    let b = composes words i' s' o' k in
+    absurd cc
+one_task words (Compose i s o) (Rebuild i' o' options) h k =
+    let a = composes words i s o h in
+    let b = rebuilds words i' o' options k in
+    absurd cc
+one_task words (Compose i s o) (Compose i' s' o') h k =
+    let a = composes words i s o h in
+    let b = composes words i' s' o' k in
     cc

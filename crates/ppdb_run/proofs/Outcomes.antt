@@ -12,62 +12,16 @@ use Rattle.ppdb_run.specs.Ends.{Asks, AreSeen, OnDue, OnOutcome, OnTask, OnRead,
 use Rattle.ppdb_run.specs.Outcome.{Outcome, Step, ◌>>=◌, gives, judged, refused, file_at, input_of, verified, answer_of, rebuilt, outcome_of}
 use Rattle.ppdb_run.specs.Outcome.{steps_of, IsOutcome}
 use Rattle.ppdb_run.specs.Stops.{cause_of, Gives, Settles, Finds, refusal_of}
-use Rattle.ppdb_run.specs.Words.{Question, Id, Verify, Show, Query, Links, Breaks, Task, Ask, Rebuild, Words}
+use Rattle.ppdb_run.specs.Words.{Question, Id, Verify, Show, Query, Links, Breaks, Task, Ask, Rebuild, Compose, Words}
 use Rattle.ppdb_values.specs.RawFile.{RawFile}
 use Rattle.ppdb_values.specs.Value.{value_of}
 use Rattle.ppdb_verify.specs.Files.{BadFile, IsRawOf, raw_in}
 use Rattle.ppdb_verify.proofs.Streamed.{same_streams}
+use Rattle.ppdb_run.proofs.MapSteps.{one_composed}
 use Rattle.ppdb_run.proofs.OneTask.{one_task}
+use Rattle.ppdb_run.proofs.Steps.{GivesOne, gives_stop, one_next, one_given, one_then}
 
--- ---- what a step gives
-
--- a step that stops ends the whole
-pub gives_stop : {U X Y Z : Type 0} (view : X → Y) (other : U → Z) (stop : Stop) (first : Step Y) (next : Y → Step Z)
-    → Gives view (Err stop) first → Gives other (Err stop) (first >>= next)
-gives_stop view other stop first next h = at_refusal (refusal_of (cause_of stop)) h
-  where
-    at_refusal : (o : Option Outcome) → IfSome o (λ refusal. first (Err refusal)) → IfSome o (λ refusal. (first >>= next) (Err refusal))
-    at_refusal None h = tt
-    at_refusal (Some refusal) h = inr (refusal, h, refl)
-
--- a step that gives a value goes on with it
-pub gives_next : {U Y Z : Type 0} (other : U → Z) (result : Result U Stop) (first : Step Y) (next : Y → Step Z) (x : Y)
-    → first (Ok x) → Gives other result (next x) → Gives other result (first >>= next)
-gives_next other (Ok u) first next x h k = inl (x, h, k)
-gives_next other (Err stop) first next x h k = at_refusal (refusal_of (cause_of stop)) k
-  where
-    at_refusal : (o : Option Outcome) → IfSome o (λ refusal. next x (Err refusal)) → IfSome o (λ refusal. (first >>= next) (Err refusal))
-    at_refusal None k = tt
-    at_refusal (Some refusal) k = inl (x, h, k)
-
--- ---- a step gives one thing
-
--- two results are one, where values may differ in what does not matter
-abbrev Agree : {A : Type 0} → (A → A → Type 0) → Result A Outcome → Result A Outcome → Type 0
-Agree same (Ok x) (Ok y) = same x y
-Agree same (Ok x) (Err b) = ⊥
-Agree same (Err a) (Ok y) = ⊥
-Agree same (Err a) (Err b) = a ≡ b
-
-abbrev GivesOne : {A : Type 0} → (A → A → Type 0) → Step A → Type 0
-GivesOne same step = (r t : Result _ Outcome) → step r → step t → Agree same r t
-
--- two steps that each give one thing give one thing
-one_next : {A B : Type 0} (same : A → A → Type 0) (first : Step A) (next : A → Step B) → GivesOne same first
-    → ((x y : A) → same x y → (r t : Result B Outcome) → next x r → next y t → r ≡ t)
-    → (r t : Result B Outcome) → (first >>= next) r → (first >>= next) t → r ≡ t
-one_next same first next one then r t (inl (x, h, k)) (inl (y, h', k')) = then x y (one (Ok x) (Ok y) h h') r t k k'
-one_next same first next one then r t (inl (x, h, k)) (inr (b, h', e')) = absurd (one (Ok x) (Err b) h h')
-one_next same first next one then r t (inr (a, h, e)) (inl (y, h', k')) = absurd (one (Err a) (Ok y) h h')
-one_next same first next one then r t (inr (a, h, e)) (inr (b, h', e')) = e ∙ ap Err (one (Err a) (Err b) h h') ∙ sym e'
-
-agree_refl : {A : Type 0} (r : Result A Outcome) → Agree (λ x y. x ≡ y) r r
-agree_refl (Ok x) = refl
-agree_refl (Err a) = refl
-
--- what is told is one thing
-one_given : {A : Type 0} (told : Result A Outcome) → GivesOne (λ x y. x ≡ y) (gives told)
-one_given told r t h k = subst (λ x. Agree (λ x y. x ≡ y) x t) (sym h) (subst (λ x. Agree (λ x y. x ≡ y) told x) (sym k) (agree_refl told))
+-- ---- a file that is verified is one thing
 
 -- what a file says is one thing, or its first fault
 one_judged : {A : Type 0} (name : List ℕ) (Bad : Code → Place → Type 0) (Says : A → Type 0) (same : A → A → Type 0)
@@ -87,19 +41,9 @@ abbrev judged_file : List ℕ → List ℕ → Step RawFile
 judged_file file bytes = judged file (BadFile bytes) (IsRawOf bytes)
 
 one_verified : (files : Files) (file : List ℕ) → GivesOne (λ x y. x ≡ y) (verified files file)
-one_verified files file r t h k =
-    agrees r t (one_next (λ x y. x ≡ y) (file_at files file) (judged_file file) (one_given (input_of file (reading files file MAX_FILE_BYTES)))
-    (λ x y e. subst (λ z. (r t : Result RawFile Outcome) → judged_file file x r → judged_file file z t → r ≡ t) e
-    (λ r t h k. is_one x r t (one_judged file (BadFile x) (IsRawOf x) (λ a b. a ≡ b) (one_raw x) r t h k))) r t h k)
-  where
-    agrees : (r t : Result RawFile Outcome) → r ≡ t → Agree (λ x y. x ≡ y) r t
-    agrees r t e = subst (λ z. Agree (λ x y. x ≡ y) r z) e (agree_refl r)
-
-    is_one : (bytes : List ℕ) (r t : Result RawFile Outcome) → Agree (λ x y. x ≡ y) r t → r ≡ t
-    is_one bytes (Ok x) (Ok y) e = ap Ok e
-    is_one bytes (Ok x) (Err b) e = absurd e
-    is_one bytes (Err a) (Ok y) e = absurd e
-    is_one bytes (Err a) (Err b) e = ap Err e
+one_verified files file =
+    one_then (file_at files file) (judged_file file) (one_given (input_of file (reading files file MAX_FILE_BYTES)))
+    (λ x. one_judged file (BadFile x) (IsRawOf x) (λ a b. a ≡ b) (one_raw x))
 
 -- a file that was read and keeps all rules
 pub read_accepted : (files : Option Files) (file bytes : List ℕ) (raw : RawFile) → IfSome files (λ all. file_at all file (Ok bytes))
@@ -119,6 +63,7 @@ one_over answer file files =
 one_end : (task : Task) (files : Files) (r t : Result Outcome Outcome) → steps_of task files r → steps_of task files t → r ≡ t
 one_end (Ask question file) files = one_over (answer_of question file) file files
 one_end (Rebuild input output options) files = one_over (λ raw. rebuilt input output options (value_of raw)) input files
+one_end (Compose first second output) files = one_composed first second output files
 
 -- where the file is not verified, there is no answer
 pub no_answer : {V : Type 0} (view : V → RawFile) (question : Question) (file : List ℕ) (files : Option Files) (stop : Stop)
@@ -152,6 +97,7 @@ pub of_told : (P : Option Task → Files → Type 0) (words : List (List ℕ)) (
 of_told P words task files k h None none all seen = absurd (none task h)
 of_told P words task None k h (Some (Ask question file)) asks all seen = absurd seen
 of_told P words task None k h (Some (Rebuild input output options)) asks all seen = absurd seen
+of_told P words task None k h (Some (Compose first second output)) asks all seen = absurd seen
 of_told P words task (Some told) k h (Some other) asks all seen =
     subst (λ (t : Task). P (Some t) all) (one_task words task other h asks) (subst (λ (fs : Files). P (Some task) fs) seen k)
 

@@ -1,10 +1,8 @@
 -- What is known of a file that is rebuilt.
-use Rattle.std.proofs.Common.{ℕ, ◌≡◌, inl, List, [], refl, sym, ◌∙◌, ap, subst}
-use Rattle.std.specs.Prelude.{Option, Some, None, option_map, Result, Ok, Err, IfSome, IfErr, OnOk}
+use Rattle.std.proofs.Common.{ℕ, ◌≡◌, inl, List, sym, ◌∙◌, ap}
+use Rattle.std.specs.Prelude.{Option, Some, None, option_map, Result, Ok, Err, IfSome}
 use Rattle.ppdb_base.specs.Files.{Files}
 use Rattle.ppdb_base.specs.First.{IsAccepted}
-use Rattle.ppdb_base.specs.Written.{appended}
-use Rattle.ppdb_base.proofs.Written.{appended_nothing}
 use Rattle.ppdb_canon.specs.Canon.{canon, chosen_id, with_id}
 use Rattle.ppdb_canon.specs.Limits.{first_limit}
 use Rattle.ppdb_values.specs.declared.file.FileValue.{FileValue}
@@ -13,13 +11,11 @@ use Rattle.ppdb_values.specs.Value.{value_of}
 use Rattle.ppdb_verify.specs.Files.{BadFile, IsRawOf}
 use Rattle.written_files.specs.Written.{Says, IsSameAgain}
 use Rattle.ppdb_run.specs.declared.stop.Stop.{Stop}
-use Rattle.ppdb_run.specs.Ends.{KeepsFiles, OnTask, OnAsked, RebuildsToItself, WritesAgain, WritesNoFile, WritesValid}
-use Rattle.ppdb_run.specs.Outcome.{Outcome, IsOutcome, choice_of, gives, input_of, limited, rebuilt, steps_of, unfit, unknown_kind, unless, verified, written}
-use Rattle.ppdb_run.specs.Stops.{cause_of, refusal_of, Gives, Leaves, LeavesAt, Finds, Settles}
-use Rattle.ppdb_run.specs.Words.{Options, Task, Rebuild, Words}
-use Rattle.ppdb_run.proofs.Kept.{leaves_unchanged}
-use Rattle.ppdb_run.proofs.OneTask.{one_task}
-use Rattle.ppdb_run.proofs.Outcomes.{gives_next, gives_stop, of_told, on_due}
+use Rattle.ppdb_run.specs.Ends.{RebuildsToItself}
+use Rattle.ppdb_run.specs.Outcome.{choice_of, gives, input_of, limited, rebuilt, steps_of, unfit, unknown_kind, unless, verified, written}
+use Rattle.ppdb_run.specs.Stops.{Gives}
+use Rattle.ppdb_run.specs.Words.{Options, Task, Rebuild}
+use Rattle.ppdb_run.proofs.Steps.{gives_next, gives_stop}
 
 -- ---- what it comes to
 
@@ -47,107 +43,6 @@ module _ (input output : List ℕ) (options : Options) (files : Option Files) wh
           → IfSome files (λ all. Gives (written output) result (steps_of task all))
       by_files None h = tt
       by_files (Some all) h = gives_next (written output) result (verified all input) (λ raw. gives (rebuilt input output options (value_of raw))) raw h k
-
-  -- what holds of the file that is written holds of the outcome
-  pub on_written : (P : Outcome → Type 0) (bytes : List ℕ) → IfSome files (λ all. steps_of task all (Ok (written output bytes))) → P (written output bytes)
-      → OnTask task files P
-  on_written P bytes h p = record { holds = by_files files h }
-    where
-      by_files : (files : Option Files) → IfSome files (λ all. steps_of task all (Ok (written output bytes)))
-          → IfSome files (λ all. (due : Outcome) → IsOutcome (Some task) all due → P due)
-      by_files None h = tt
-      by_files (Some all) h = on_due P (Some task) all (written output bytes) (inl h) p
-
-  -- a run that wrote it, or could not, has an outcome, which is this
-  module _ {T : Type 0} (result : Result T Stop) (bytes : List ℕ) (refuses : IfErr result (λ stop. refusal_of (cause_of stop) ≡ None))
-      (h : IfSome files (λ all. steps_of task all (Ok (written output bytes)))) where
-    finds : (result : Result T Stop) → IfErr result (λ stop. refusal_of (cause_of stop) ≡ None) → (Due : Outcome → Type 0) → Due (written output bytes)
-        → Finds result Due
-    finds (Ok x) none Due due = (written output bytes, due)
-    finds (Err stop) none Due due = subst (λ o. IfSome o Due) (sym none) tt
-
-    settles : (result : Result T Stop) → IfErr result (λ stop. refusal_of (cause_of stop) ≡ None) → Settles result (written output bytes)
-    settles (Ok x) none = refl
-    settles (Err stop) none = subst (λ o. IfSome o (λ refusal. written output bytes ≡ refusal)) (sym none) tt
-
-    silent : (result : Result T Stop) → OnOk result ((written output bytes).text ≡ [])
-    silent (Ok x) = refl
-    silent (Err stop) = tt
-
-    pub written_found : IfSome files (λ all. Finds result (IsOutcome (Some task) all))
-    written_found = by_files files h
-      where
-        by_files : (files : Option Files) → IfSome files (λ all. steps_of task all (Ok (written output bytes)))
-            → IfSome files (λ all. Finds result (IsOutcome (Some task) all))
-        by_files None h = tt
-        by_files (Some all) h = finds result refuses (IsOutcome (Some task) all) (inl h)
-
-    pub written_settles : OnTask task files (Settles result)
-    written_settles = on_written (Settles result) bytes h (settles result refuses)
-
-    pub written_silent : OnTask task files (λ due. OnOk result (due.text ≡ []))
-    written_silent = on_written (λ due. OnOk result (due.text ≡ [])) bytes h (silent result)
-
-    pub written_leaves : (old mid new : Option Files) → mid ≡ old → Leaves result (Some (output, bytes)) mid new
-        → OnTask task files (λ due. Leaves result due.writes old new)
-    written_leaves old mid new e leaves = on_written (λ due. Leaves result due.writes old new) bytes h
-        (subst (λ m. Leaves result (Some (output, bytes)) m new) e leaves)
-
-    done : {P : Type 0} (result : Result T Stop) → P → OnOk result P
-    done (Ok x) p = p
-    done (Err stop) p = tt
-
-    pub written_valid : IsAccepted (BadFile bytes) → OnOk result (OnTask task files WritesValid)
-    written_valid accepted = done result (on_written WritesValid bytes h accepted)
-
-    pub written_again : RebuildsToItself options bytes → OnOk result (OnTask task files (WritesAgain (Some task)))
-    written_again again = done result (on_written (WritesAgain (Some task)) bytes h again)
-
-  -- where nothing was written the files are as before
-  pub nothing_written : (stop : Stop) (old new : Option Files) → new ≡ old → OnTask task files (λ due. LeavesAt (cause_of stop) due.writes old new)
-  nothing_written stop old new e = record { holds = by_files files }
-    where
-      by_files : (files : Option Files) → IfSome files (λ all. (due : Outcome) → IsOutcome (Some task) all due → LeavesAt (cause_of stop) due.writes old new)
-      by_files None = tt
-      by_files (Some all) = λ due is. leaves_unchanged (cause_of stop) due.writes old new e
-
-  -- nothing is put
-  pub nothing_put : {T : Type 0} (result : Result T Stop) (text : Option (List ℕ)) → OnTask task files (λ due. OnOk result (due.text ≡ []))
-      → OnTask task files (λ due. OnOk result (text ≡ appended text due.text))
-  nothing_put result text h = record { holds = by_files files h.holds }
-    where
-      by_result : {T : Type 0} (result : Result T Stop) (due : Outcome) → OnOk result (due.text ≡ []) → OnOk result (text ≡ appended text due.text)
-      by_result (Ok x) due e = sym (ap (λ put. appended text put) e ∙ appended_nothing text)
-      by_result (Err stop) due e = tt
-
-      by_files : (files : Option Files) → IfSome files (λ all. (due : Outcome) → IsOutcome (Some task) all due → OnOk result (due.text ≡ []))
-          → IfSome files (λ all. (due : Outcome) → IsOutcome (Some task) all due → OnOk result (text ≡ appended text due.text))
-      by_files None h = tt
-      by_files (Some all) h = λ due is. by_result result due (h due is)
-
--- ---- over the words
-
-pub writes_file : (words : List (List ℕ)) (input output : List ℕ) (options : Options) (old new : Option Files) → Words (Rebuild input output options) words
-    → KeepsFiles words old new
-writes_file words input output options old new h None none keeps = absurd (none (Rebuild input output options) h)
-writes_file words input output options old new h (Some other) asks keeps =
-    absurd (let same = subst (λ (t : Task). WritesNoFile (Some t)) (one_task words other (Rebuild input output options) asks h) keeps in cc)
-
--- what holds of a task and its outcome over told files holds of what the words ask for
-pub on_asked : (P : Option Task → Outcome → Type 0) (words : List (List ℕ)) (asked : Task) (files : Option Files) → OnTask asked files (P (Some asked))
-    → Words asked words
-    → OnAsked words files P
-on_asked P words asked files k h =
-    of_told (λ asked all. (due : Outcome) → IsOutcome asked all due → P asked due) words asked files k.holds h
-
--- what holds in any case holds of a run that was done
-pub on_done : {T P : Type 0} (result : Result T Stop) → P → OnOk result P
-on_done (Ok x) p = p
-on_done (Err stop) p = tt
-
-pub on_then : {T P Q : Type 0} (result : Result T Stop) → (P → Q) → OnOk result P → OnOk result Q
-on_then (Ok x) f p = f p
-on_then (Err stop) f p = tt
 
 -- ---- what is written is rebuilt to itself
 

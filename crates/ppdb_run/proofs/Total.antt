@@ -18,7 +18,8 @@ use Rattle.ppdb_values.specs.RawFile.{RawFile}
 use Rattle.ppdb_values.specs.Value.{value_of}
 use Rattle.ppdb_run.specs.Outcome.{Outcome, ◌>>=◌, IsOutcome, HasDue, absent, too_long, refused, usage, gives, input_of, answer_of, rebuilt}
 use Rattle.ppdb_run.specs.Outcome.{outcome_of, steps_of, verified}
-use Rattle.ppdb_run.specs.Words.{Task, Ask, Rebuild}
+use Rattle.ppdb_run.specs.Words.{Task, Ask, Rebuild, Compose}
+use Rattle.ppdb_run.proofs.MapSteps.{some_composed}
 
 -- what a stream of a kind is: that it is not listed, or the slice that is
 abbrev Found : List ℕ → StreamKind → Option Stream → Type 0
@@ -88,3 +89,4 @@ has_due (Some (Ask question file)) files none =
 has_due (Some (Rebuild input output options)) files none =
     over_file (λ raw. rebuilt input output options (value_of raw)) input files (IsOutcome (Some (Rebuild input output options)) files)
     (ends (Rebuild input output options) files) none
+has_due (Some (Compose first second output)) files none = some_composed first second output files none

@@ -8,10 +8,12 @@ use Rattle.ppdb_base.specs.Written.{appended, AppendsFront}
 use Rattle.ppdb_run.specs.declared.status.Status.{Status}
 use Rattle.ppdb_run.specs.declared.status.Status.TheVariants.{Done, WriteFault, Memory}
 use Rattle.ppdb_run.specs.Lines.{read_fault_line, write_fault_line}
-use Rattle.ppdb_run.specs.Outcome.{Outcome, IsOutcome, verified, written}
+use Rattle.ppdb_run.specs.Outcome.{Outcome, IsOutcome, map_at, verified, written}
 use Rattle.ppdb_run.specs.Status.{UnlessFault}
-use Rattle.ppdb_run.specs.Words.{Question, Id, Verify, Query, Links, Breaks, Options, Task, Ask, Rebuild, Words, NoTask, read_files, written_file}
+use Rattle.ppdb_run.specs.Words.{Question, Id, Verify, Query, Links, Breaks, Options, Task, Ask, Rebuild, Compose, Words, NoTask, read_files, written_file}
 use Rattle.ppdb_run.specs.Writes.{WritesAll, WritesFront}
+use Rattle.ppdb_maps.specs.Map.{Map}
+use Rattle.ppdb_maps.specs.Text.{IsMapOf}
 use Rattle.ppdb_show.specs.Bound.{query_rows}
 use Rattle.ppdb_queries.specs.Digits.{digits}
 use Rattle.ppdb_queries.specs.Runs.{customs_at}
@@ -30,6 +32,7 @@ abbrev pub IsApart : Option Task → Type 0
 IsApart None = Unit {0}
 IsApart (Some (Ask question file)) = ⊥
 IsApart (Some (Rebuild input output options)) = ⊥
+IsApart (Some (Compose first second output)) = ⊥
 
 -- the files that an outcome is over: those that the folder tells; where it tells none, any, if the task has to do with no file
 abbrev pub AreSeen : Option Task → Option Files → Files → Type 0
@@ -61,15 +64,20 @@ HasOutcome words files status = (asked : Option Task) → Asks words asked → (
 abbrev pub ComesToRead : Task → Files → List ℕ → Type 0
 ComesToRead (Ask question file) files name = name ≡ file
 ComesToRead (Rebuild input output options) files name = name ≡ input
+ComesToRead (Compose first second output) files name = (name ≡ first) ⊎ ((name ≡ second) × ((m : Map) × map_at files first (Ok m)))
 
 -- this file of the task was to be read, after so many reads that gave a file
-pub record IsUnread (words : List (List ℕ)) (files : Option Files) (before after : ℕ) (name : List ℕ) : Type 0 where
-  pub task : Task
-  pub asked : Words task words
+pub record IsUnreadOf (task : Task) (files : Option Files) (before after : ℕ) (name : List ℕ) : Type 0 where
   pub named : Contains (read_files task) name
   -- at the counter's last value it says no longer how many reads there were
   pub next : after < 18446744073709551615 → slice_get (read_files task) (after - before) ≡ Some name
   pub comes : IfSome files (λ all. ComesToRead task all name)
+
+-- so it was of the words' task
+pub record IsUnread (words : List (List ℕ)) (files : Option Files) (before after : ℕ) (name : List ℕ) : Type 0 where
+  pub task : Task
+  pub asked : Words task words
+  pub unread : IsUnreadOf task files before after name
 
 -- this is the file that the words have written
 pub record IsUnwritten (words : List (List ℕ)) (name : List ℕ) : Type 0 where
@@ -132,9 +140,14 @@ HadFault reads reads_after writes writes_after puts puts_after = Rose reads read
 
 -- ---- a file that is written
 
--- no rule is broken in what is written
-abbrev pub WritesValid : Outcome → Type 0
-WritesValid due = IfSome due.writes (λ file. IsAccepted (BadFile file.1))
+-- no rule is broken in what a task writes: a map's text has a map, and a debug file is accepted
+abbrev pub IsValid : Task → List ℕ → Type 0
+IsValid (Compose first second output) text = (m : Map) × IsMapOf text m
+IsValid task bytes = IsAccepted (BadFile bytes)
+
+abbrev pub WritesValid : Option Task → Outcome → Type 0
+WritesValid None due = Unit {0}
+WritesValid (Some task) due = IfSome due.writes (λ file. IsValid task file.1)
 
 -- where a file holds these bytes, it is rebuilt to them
 abbrev pub RebuildsToItself : Options → List ℕ → Type 0
@@ -159,6 +172,7 @@ ReadsNoRows question = ⊥
 abbrev pub NeedsNoRows : Task → Type 0
 NeedsNoRows (Ask question file) = ReadsNoRows question
 NeedsNoRows (Rebuild input output options) = ⊥
+NeedsNoRows (Compose first second output) = Unit {0}
 
 -- so many rows were counted before the answer and after it: to a query, of links and of breaks no more than its bound
 abbrev pub IsWithinBound : Question → RawFile → ℕ → ℕ → Type 0
@@ -172,6 +186,7 @@ IsWithinBound question raw before after = Unit {0}
 abbrev pub OnRead : Task → Option Files → (Question → RawFile → Type 0) → Type 0
 OnRead (Ask question file) files P = IfSome files (λ all. (raw : RawFile) → verified all file (Ok raw) → P question raw)
 OnRead (Rebuild input output options) files P = Unit {0}
+OnRead (Compose first second output) files P = Unit {0}
 
 -- so many rows were counted before the task and after it: it reads none that it has no need of, and no more than its bound
 pub record IsWithinRows (task : Task) (files : Option Files) (before after : ℕ) : Type 0 where

@@ -1,6 +1,6 @@
 -- What a command comes to over the files: a status, a text, and at most one file that is written.
-use Rattle.std.specs.Prelude.{ℕ, ◌≡◌, ◌⊎◌, List, [], ◌∷◌, Bool, true, false, ◌&&◌, if◌then◌else◌, nat_le, find, Option, Some, None, option_map}
-use Rattle.std.specs.Prelude.{Result, Ok, Err, codes}
+use Rattle.std.specs.Prelude.{ℕ, ◌≡◌, ◌<◌, ◌≤◌, ◌⊎◌, List, [], ◌∷◌, Bool, true, false, ◌&&◌, if◌then◌else◌, nat_le, find, Option, Some, None, option_map}
+use Rattle.std.specs.Prelude.{Result, Ok, Err, codes, length}
 use Rattle.custom_info.specs.declared.kinds.Kind.{Kind}
 use Rattle.custom_info.specs.declared.kinds.Kind.TheVariants.{Unknown}
 use Rattle.custom_info.specs.Kinds.{kind_of}
@@ -23,7 +23,12 @@ use Rattle.ppdb_lines.specs.Lines.{Line, text_of}
 use Rattle.ppdb_lines.specs.Pieces.{line}
 use Rattle.ppdb_run.specs.Lines.{about, usage_line, refused_line, map_line, unfit_line, limit_text, map_limit_text}
 use Rattle.ppdb_run.specs.Lines.{no_method_line, links_line, sizes_line}
-use Rattle.ppdb_run.specs.Words.{Question, Id, Verify, Show, Query, Links, Breaks, Options, Task, Ask, Rebuild}
+use Rattle.ppdb_run.specs.Words.{Question, Id, Verify, Show, Query, Links, Breaks, Options, Task, Ask, Rebuild, Compose}
+use Rattle.map_compose.specs.Composed.{composed}
+use Rattle.map_compose.specs.Sizes.{SizesAgree, IsFirstDiffering}
+use Rattle.map_text.specs.MapTexts.{map_text}
+use Rattle.ppdb_maps.specs.Map.{Map}
+use Rattle.ppdb_maps.specs.Text.{IsMapOf, Refused}
 use Rattle.ppdb_show.specs.Query.{query_text_of}
 use Rattle.source_link.specs.declared.pair.Pair.{Pair}
 use Rattle.source_lines.specs.Links.{file_links, link_text}
@@ -128,6 +133,17 @@ verified files file = do
   bytes ← file_at files file
   judged file (BadFile bytes) (IsRawOf bytes)
 
+-- the map that a text has; else its refused line, and the least number of a rule that this breaks
+abbrev pub map_in : List ℕ → List ℕ → Step Map
+map_in name text (Ok m) = IsMapOf text m
+map_in name text (Err refusal) = (n kind : ℕ) × Refused text n kind × (refusal ≡ no_map name n kind)
+
+-- the map of a file that is read
+abbrev pub map_at : Files → List ℕ → Step Map
+map_at files name = do
+  text ← file_at files name
+  map_in name text
+
 -- ---- the commands
 
 abbrev pub id_text : RawFile → List ℕ
@@ -190,6 +206,15 @@ rebuilt input output options value =
     unless (option_map (unfit input) (unknown_kind options.marks value))
     (unless (option_map limited (first_limit value)) (Ok (written output (canon value (choice_of options.keep_id)))))
 
+-- ---- a map that is written
+
+-- the text of the map of two maps; else the least method whose sizes differ, or the length of a text that is longer than any map's
+abbrev pub composed_text : Map → Map → Step (List ℕ)
+composed_text f s (Ok text) = SizesAgree f s × (text ≡ map_text (composed f s)) × (length text ≤ MAX_FILE_BYTES)
+composed_text f s (Err refusal) =
+    ((method first second : ℕ) × IsFirstDiffering f s method first second × (refusal ≡ sizes_differ method first second))
+    ⊎ (SizesAgree f s × (MAX_FILE_BYTES < length (map_text (composed f s))) × (refusal ≡ map_limited (length (map_text (composed f s)))))
+
 -- what a command ends with
 abbrev pub outcome_of : Result Outcome Outcome → Outcome
 outcome_of (Ok answer) = answer
@@ -203,6 +228,11 @@ steps_of (Ask question file) files = do
 steps_of (Rebuild input output options) files = do
   raw ← verified files input
   gives (rebuilt input output options (value_of raw))
+steps_of (Compose first second output) files = do
+  f ← map_at files first
+  s ← map_at files second
+  text ← composed_text f s
+  gives (Ok (written output text))
 
 -- the outcome of a task, or of words that are no task's
 abbrev pub IsOutcome : Option Task → Files → Outcome → Type 0

@@ -10,7 +10,7 @@ use Rattle.ppdb_run.specs.declared.words.Asked.{Asked as Wanted}
 use Rattle.ppdb_run.specs.declared.words.Asked.TheVariants as wanted
 use Rattle.ppdb_run.specs.declared.words.Command.{Command}
 use Rattle.ppdb_run.specs.declared.words.Command.TheVariants as commands
-use Rattle.ppdb_run.specs.Words.{Question, Id, Verify, Show, Query, Links, Breaks, Options, Task, Ask, Rebuild, texts}
+use Rattle.ppdb_run.specs.Words.{Question, Id, Verify, Show, Query, Links, Breaks, Options, Task, Ask, Rebuild, Compose, texts}
 
 abbrev pub question_of : Asked → Question
 question_of asked.Id = Id
@@ -43,6 +43,7 @@ options_of given = record { keep_id = given.keep_id; marks = marks_in (texts giv
 abbrev pub asked_task : Wanted → Task
 asked_task (wanted.Ask question file) = Ask (question_of question) file.now
 asked_task (wanted.Rebuild input output options) = Rebuild input.now output.now (options_of options)
+asked_task (wanted.Compose first second output) = Compose first.now second.now output.now
 
 -- a command without where its words lie in memory
 abbrev pub task_of : Command → Task
@@ -53,3 +54,4 @@ task_of (commands.Query file method offset) = Ask (Query method offset) file.now
 task_of (commands.Links file) = Ask Links file.now
 task_of (commands.Breaks file document line) = Ask (Breaks document.now line) file.now
 task_of (commands.Rebuild input output options) = Rebuild input.now output.now (options_of options)
+task_of (commands.Compose first second output) = Compose first.now second.now output.now

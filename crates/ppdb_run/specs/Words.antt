@@ -45,16 +45,20 @@ pub data Task : Type 0 where
   Ask : (question : Question) → (file : List ℕ) → Task
   -- the canonical file of a file
   Rebuild : (input output : List ℕ) → (options : Options) → Task
+  -- the map of two maps
+  Compose : (first second output : List ℕ) → Task
 
 -- the files that a task reads, in the order of its words and as often as they are named
 abbrev pub read_files : Task → List (List ℕ)
 read_files (Ask question file) = file ∷ []
 read_files (Rebuild input output options) = input ∷ []
+read_files (Compose first second output) = first ∷ second ∷ []
 
 -- the file that a task writes, if any
 abbrev pub written_file : Task → Option (List ℕ)
 written_file (Ask question file) = None
 written_file (Rebuild input output options) = Some output
+written_file (Compose first second output) = Some output
 
 -- the words are one that names a file
 abbrev pub IsFileAlone : List ℕ → List (List ℕ) → Type 0
@@ -82,6 +86,9 @@ Words (Ask (Breaks document line) file) words =
 Words (Rebuild input output options) words =
     (rest : List (List ℕ)) × (words ≡ codes "rebuild" ∷ input ∷ output ∷ rest) × IsTrue (is_file_word input) × IsTrue (is_file_word output)
     × AreOptions rest options
+Words (Compose first second output) words =
+    (words ≡ codes "compose" ∷ first ∷ second ∷ output ∷ []) × IsTrue (is_file_word first) × IsTrue (is_file_word second)
+    × IsTrue (is_file_word output)
 
 -- no task has these words
 abbrev pub NoTask : List (List ℕ) → Type 0

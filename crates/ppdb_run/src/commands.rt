@@ -10,6 +10,7 @@ ghost use Rattle.ppdb_run.specs.Stops.{cause_of, Tells, Settles, FindsOutcome, C
 ghost use Rattle.ppdb_run.specs.Words.{Task, Words, NoTask, texts};
 
 use crate::answer::answer;
+use crate::compose::compose;
 use crate::rebuild::rebuild;
 use crate::status::Status;
 use crate::stop::Stop;
@@ -51,7 +52,7 @@ pub fn run<F: Folder, O: Sink, K: Ledger, L: Ledger>(
         (O.written out.new)) }
 
     // What a command writes is valid, and the same command over it writes it again.
-    ensures accepted { result ≡ Status.Done → OnOutcome (texts words.now) (F.files folder.old) WritesValid }
+    ensures accepted { result ≡ Status.Done → OnAsked (texts words.now) (F.files folder.old) WritesValid }
     ensures again { result ≡ Status.Done → OnAsked (texts words.now) (F.files folder.old) WritesAgain }
 
     // Whether or not the words have an outcome.
@@ -96,7 +97,7 @@ fn carry_out<'a, F: Folder, O: Sink, K: Ledger, L: Ledger>(
     ensures told { OnOutcome (texts words.now) (F.files folder.old) (Settles result) }
     ensures text { OnOutcome (texts words.now) (F.files folder.old) (λ due. OnOk result (O.written out.new ≡ appended (O.written out.old) due.text)) }
     ensures files { OnOutcome (texts words.now) (F.files folder.old) (λ due. Leaves result due.writes (F.files folder.old) (F.files folder.new)) }
-    ensures accepted { OnOk result (OnOutcome (texts words.now) (F.files folder.old) WritesValid) }
+    ensures accepted { OnOk result (OnAsked (texts words.now) (F.files folder.old) WritesValid) }
     ensures again { OnOk result (OnAsked (texts words.now) (F.files folder.old) WritesAgain) }
     ensures rows { (task : Task) → Words task (texts words.now) → IsWithinRows task (F.files folder.old) steps.old steps.new }
 
@@ -124,6 +125,9 @@ fn carry_out<'a, F: Folder, O: Sink, K: Ledger, L: Ledger>(
             }
             Asked::Rebuild(input, output, options) => {
                 rebuild(alloc, input, output, options, folder, checks, steps)
+            }
+            Asked::Compose(first, second, output) => {
+                compose(alloc, first, second, output, folder)
             }
         },
         Err(Usage) => Err(Stop::Usage),

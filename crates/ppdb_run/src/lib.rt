@@ -3,12 +3,15 @@
 
 mod answer;
 mod commands;
+mod compose;
 mod fault;
 mod input;
 pub mod laws;
 mod limit;
+mod map;
 mod number;
 mod options;
+mod output;
 mod question;
 mod rebuild;
 mod sources;

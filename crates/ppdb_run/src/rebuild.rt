@@ -4,7 +4,7 @@ ghost use Rattle.ppdb_base.specs.Causes.{Rose};
 ghost use Rattle.ppdb_base.specs.First.{IsAccepted};
 ghost use Rattle.ppdb_run.specs.Ends.{OnTask, RebuildsToItself, WritesAgain, WritesValid};
 ghost use Rattle.ppdb_run.specs.Outcome.{IsOutcome, choice_of, is_unknown as neither_read_nor_free, gives, rebuilt, steps_of, unknown_kind, written};
-ghost use Rattle.ppdb_run.specs.Stops.{cause_of, refusal_of, Settles, Finds, Gives, Leaves, ComesFrom, OnKept, no_file};
+ghost use Rattle.ppdb_run.specs.Stops.{cause_of, Settles, Finds, Gives, Leaves, ComesFrom, OnKept, no_file};
 ghost use Rattle.ppdb_run.specs.Task.{options_of};
 ghost use Rattle.ppdb_run.specs.Words.{Rebuild};
 ghost use Rattle.ppdb_values.specs.Value.{value_of};
@@ -12,10 +12,11 @@ ghost use Rattle.ppdb_verify.specs.Files.{BadFile};
 ghost use Rattle.ppdb_verify.specs.Views.{raw_file};
 
 use crate::options::Options;
+use crate::output::write_output;
 use crate::stop::Stop;
 use crate::verified::read_verified;
 use custom_info::{Kind, Marks, kind_of};
-use ppdb_base::{Bytes, Folder, List, MergeError, Steps, WriteError};
+use ppdb_base::{Bytes, Folder, List, MergeError, Steps};
 use ppdb_build::{BuildError, IdChoice};
 use ppdb_verify::Verified;
 use std::alloc::Global;
@@ -39,7 +40,8 @@ pub fn rebuild<'a, F: Folder, K: Ledger, L: Ledger>(
     ensures files { OnTask (Rebuild input.now output.now (options_of options.entry)) (F.files folder.old)
         (λ due. Leaves result due.writes (F.files folder.old) (F.files folder.new)) }
 
-    ensures accepted { OnOk result (OnTask (Rebuild input.now output.now (options_of options.entry)) (F.files folder.old) WritesValid) }
+    ensures accepted { OnOk result (OnTask (Rebuild input.now output.now (options_of options.entry)) (F.files folder.old)
+        (WritesValid (Some (Rebuild input.now output.now (options_of options.entry))))) }
     ensures again { OnOk result (OnTask (Rebuild input.now output.now (options_of options.entry)) (F.files folder.old)
         (WritesAgain (Some (Rebuild input.now output.now (options_of options.entry))))) }
 
@@ -59,29 +61,6 @@ pub fn rebuild<'a, F: Folder, K: Ledger, L: Ledger>(
         Err(stop) => return Err(stop),
     };
     write_output(folder, output, bytes.as_slice())
-}
-
-/// Writes a file of a command.
-fn write_output<'a, F: Folder>(folder: &mut F, name: &'a str, bytes: &[u8]) -> Result<(), Stop<'a>>
-    ensures files { Leaves result (Some (name.now, bytes.now)) (F.files folder.old) (F.files folder.new) }
-    ensures causes { IfErr result (λ stop. ComesFrom (cause_of stop)
-        ⊥
-        no_file
-        (λ failed. failed ≡ name.now)
-        (F.files folder.old)
-        ⊥
-        (Rose (F.write_faults folder.old) (F.write_faults folder.new))
-        ⊥) }
-    ensures no_refusal { IfErr result (λ stop. refusal_of (cause_of stop) ≡ None) }
-    ensures kept { IfErr result (λ stop. OnKept (cause_of stop) (F.files folder.new ≡ F.files folder.old)) }
-    ensures reads { F.reads folder.new ≡ F.reads folder.old }
-    ensures read_faults { F.read_faults folder.new ≡ F.read_faults folder.old }
-{
-    match folder.write(name, bytes) {
-        Ok(()) => Ok(()),
-        Err(WriteError::Failed) => Err(Stop::WriteFault(name)),
-        Err(WriteError::Memory) => Err(Stop::Memory),
-    }
 }
 
 /// Reads and verifies a file, and makes its canonical file.

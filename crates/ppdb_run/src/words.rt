@@ -49,6 +49,12 @@ pub enum Command<'a> {
         output: &'a str,
         options: Options<'a>,
     },
+    /// The map of two maps, written to a file.
+    Compose {
+        first: &'a str,
+        second: &'a str,
+        output: &'a str,
+    },
 }
 
 /// What a command asks for.
@@ -58,6 +64,8 @@ pub(crate) enum Asked<'a> {
     Ask(Question<'a>, &'a str),
     /// The canonical file of a file, the file that is written, and how.
     Rebuild(&'a str, &'a str, Options<'a>),
+    /// The map of two maps, and the file that is written.
+    Compose(&'a str, &'a str, &'a str),
 }
 
 impl<'a> Command<'a> {
@@ -85,6 +93,11 @@ impl<'a> Command<'a> {
                 output,
                 options,
             } => Asked::Rebuild(input, output, options),
+            Command::Compose {
+                first,
+                second,
+                output,
+            } => Asked::Compose(first, second, output),
         }
     }
 }
@@ -109,6 +122,7 @@ pub fn read_words(words: &[String]) -> Result<Command<'_>, Usage>
         "links" => one_file(args).map(|file| Command::Links { file }),
         "breaks" => breaks(args),
         "rebuild" => rebuild(args),
+        "compose" => compose(args),
         _ => Err(Usage),
     }
 }
@@ -192,6 +206,24 @@ fn rebuild(args: &[String]) -> Result<Command<'_>, Usage>
                 options,
             })
         }
+        _ => Err(Usage),
+    }
+}
+
+/// The command `compose` of the words after its name.
+fn compose(args: &[String]) -> Result<Command<'_>, Usage>
+    ensures command { IfOk result (λ command. Words (task_of command) (codes "compose" ∷ texts args.now)) }
+    ensures usage { OnErr result (NoTask (codes "compose" ∷ texts args.now)) }
+{
+    match args {
+        [first, second, output] if names_file(first) && names_file(second) && names_file(output) =>
+            {
+                Ok(Command::Compose {
+                    first: first.as_str(),
+                    second: second.as_str(),
+                    output: output.as_str(),
+                })
+            }
         _ => Err(Usage),
     }
 }

@@ -1,16 +1,14 @@
-use Rattle.std.proofs.Common.{subst, sym, Some}
+use Rattle.std.proofs.Common.{refl, subst, sym, Some}
 use Rattle.ppdb_run.specs.Outcome.{IsOutcome}
 use Rattle.ppdb_run.specs.Stops.{Finds}
 use Rattle.std.specs.Prelude.{IfSome}
-use Rattle.ppdb_base.specs.First.{IsAccepted}
-use Rattle.ppdb_verify.specs.Files.{BadFile}
-use Rattle.ppdb_run.specs.Ends.{WritesAgain, WritesValid}
+use Rattle.ppdb_run.specs.Ends.{IsValid, WritesAgain, WritesValid}
 use Rattle.ppdb_run.specs.Task.{options_of, question_of}
-use Rattle.ppdb_run.specs.Words.{Ask, Rebuild, Words, texts}
+use Rattle.ppdb_run.specs.Words.{Ask, Rebuild, Compose, Words, texts}
 use Rattle.ppdb_run.proofs.Causes.{widened_stop}
 use Rattle.ppdb_run.proofs.Kept.{is_unread, is_input, is_output, leaves_all, nothing_to_judge}
 use Rattle.ppdb_run.proofs.Outcomes.{of_told, of_task, of_rows}
-use Rattle.ppdb_run.proofs.Rebuilds.{nothing_put, on_asked, on_done, on_then, writes_file}
+use Rattle.ppdb_run.proofs.Writing.{nothing_put, nothing_due, on_asked, on_done, on_then, writes_file}
 use Rattle.ppdb_run.proofs.commands.carry_out.Goals as goal
 
 pub returns-in-Ask-clause-found : goal.returns-in-Ask-clause-found
@@ -57,9 +55,10 @@ returns-in-Ask-clause-causes g c =
 pub returns-in-Ask-clause-accepted : goal.returns-in-Ask-clause-accepted
 returns-in-Ask-clause-accepted g c =
     let words = subst (λ task. Words task (texts c.args.words.now)) (sym c.in-Ask.ensures) c.in-Ok.ensures.command in
-    on_done c.answer.result (of_task _ _ _ (nothing_to_judge WritesValid
-    (λ due none. subst (λ w. IfSome w (λ file. IsAccepted (BadFile file.1))) (sym none) tt) (question_of c.in-Ask.question) c.in-Ask.file.now
-    (g.F.Folder.files c.args.folder.now)) words)
+    on_done c.answer.result (on_asked WritesValid _ (Ask (question_of c.in-Ask.question) c.in-Ask.file.now) (g.F.Folder.files c.args.folder.now)
+    (nothing_to_judge (WritesValid (Some (Ask (question_of c.in-Ask.question) c.in-Ask.file.now)))
+    (λ due none. subst (λ w. IfSome w (λ file. IsValid (Ask (question_of c.in-Ask.question) c.in-Ask.file.now) file.1)) (sym none) tt)
+    (question_of c.in-Ask.question) c.in-Ask.file.now (g.F.Folder.files c.args.folder.now)) words)
 
 pub returns-in-Ask-clause-again : goal.returns-in-Ask-clause-again
 returns-in-Ask-clause-again g c =
@@ -84,8 +83,8 @@ returns-in-Rebuild-clause-told g c =
 pub returns-in-Rebuild-clause-text : goal.returns-in-Rebuild-clause-text
 returns-in-Rebuild-clause-text g c =
     let words = subst (λ task. Words task (texts c.args.words.now)) (sym c.in-Rebuild.ensures) c.in-Ok.ensures.command in
-    of_task _ _ _ (nothing_put c.in-Rebuild.input.now c.in-Rebuild.output.now (options_of c.in-Rebuild.options) (g.F.Folder.files c.args.folder.now)
-    c.rebuild.result
+    of_task _ _ _ (nothing_put (Rebuild c.in-Rebuild.input.now c.in-Rebuild.output.now (options_of c.in-Rebuild.options)) c.in-Rebuild.output.now
+    (g.F.Folder.files c.args.folder.now) c.rebuild.result
     (g.O.Sink.written c.args.out.now) c.rebuild.ensures.silent) words
 
 pub returns-in-Rebuild-clause-files : goal.returns-in-Rebuild-clause-files
@@ -96,7 +95,9 @@ returns-in-Rebuild-clause-files g c =
 pub returns-in-Rebuild-clause-accepted : goal.returns-in-Rebuild-clause-accepted
 returns-in-Rebuild-clause-accepted g c =
     let words = subst (λ task. Words task (texts c.args.words.now)) (sym c.in-Rebuild.ensures) c.in-Ok.ensures.command in
-    on_then c.rebuild.result (λ h. of_task _ _ _ h words) c.rebuild.ensures.accepted
+    on_then c.rebuild.result (λ h. on_asked WritesValid _ (Rebuild c.in-Rebuild.input.now c.in-Rebuild.output.now (options_of c.in-Rebuild.options))
+    (g.F.Folder.files c.args.folder.now) h words)
+    c.rebuild.ensures.accepted
 
 pub returns-in-Rebuild-clause-again : goal.returns-in-Rebuild-clause-again
 returns-in-Rebuild-clause-again g c =
@@ -118,10 +119,67 @@ returns-in-Rebuild-clause-causes g c =
     (λ name r. is_input (texts c.args.words.now) c.in-Rebuild.input.now c.in-Rebuild.output.now (options_of c.in-Rebuild.options)
     (g.F.Folder.files c.args.folder.now)
     _ _ name words r.0 r.1)
-    (λ name w. is_output (texts c.args.words.now) c.in-Rebuild.input.now c.in-Rebuild.output.now (options_of c.in-Rebuild.options) name words w)
+    (λ name w. is_output (texts c.args.words.now) (Rebuild c.in-Rebuild.input.now c.in-Rebuild.output.now (options_of c.in-Rebuild.options))
+    c.in-Rebuild.output.now name refl words w)
     (λ e. e) (λ a. a) (λ b. b) (λ p. absurd p) c.rebuild.ensures.causes
 
 pub returns-in-Rebuild-clause-read_only : goal.returns-in-Rebuild-clause-read_only
 returns-in-Rebuild-clause-read_only g c =
     let words = subst (λ task. Words task (texts c.args.words.now)) (sym c.in-Rebuild.ensures) c.in-Ok.ensures.command in
-    writes_file (texts c.args.words.now) c.in-Rebuild.input.now c.in-Rebuild.output.now (options_of c.in-Rebuild.options) _ _ words
+    writes_file (texts c.args.words.now) (Rebuild c.in-Rebuild.input.now c.in-Rebuild.output.now (options_of c.in-Rebuild.options))
+    c.in-Rebuild.output.now _ _ refl words
+
+pub returns-in-Compose-clause-found : goal.returns-in-Compose-clause-found
+returns-in-Compose-clause-found g c =
+    let words = subst (λ task. Words task (texts c.args.words.now)) (sym c.in-Compose.ensures) c.in-Ok.ensures.command in
+    of_told (λ asked all. Finds c.compose.result (IsOutcome asked all)) (texts c.args.words.now)
+    (Compose c.in-Compose.first.now c.in-Compose.second.now c.in-Compose.output.now) (g.F.Folder.files c.args.folder.now) c.compose.ensures.found words
+
+pub returns-in-Compose-clause-told : goal.returns-in-Compose-clause-told
+returns-in-Compose-clause-told g c =
+    let words = subst (λ task. Words task (texts c.args.words.now)) (sym c.in-Compose.ensures) c.in-Ok.ensures.command in
+    of_task _ _ _ c.compose.ensures.told words
+
+pub returns-in-Compose-clause-text : goal.returns-in-Compose-clause-text
+returns-in-Compose-clause-text g c =
+    let words = subst (λ task. Words task (texts c.args.words.now)) (sym c.in-Compose.ensures) c.in-Ok.ensures.command in
+    of_task _ _ _ (nothing_put (Compose c.in-Compose.first.now c.in-Compose.second.now c.in-Compose.output.now) c.in-Compose.output.now
+    (g.F.Folder.files c.args.folder.now) c.compose.result (g.O.Sink.written c.args.out.now) c.compose.ensures.silent) words
+
+pub returns-in-Compose-clause-files : goal.returns-in-Compose-clause-files
+returns-in-Compose-clause-files g c =
+    let words = subst (λ task. Words task (texts c.args.words.now)) (sym c.in-Compose.ensures) c.in-Ok.ensures.command in
+    of_task _ _ _ c.compose.ensures.files words
+
+pub returns-in-Compose-clause-accepted : goal.returns-in-Compose-clause-accepted
+returns-in-Compose-clause-accepted g c =
+    let words = subst (λ task. Words task (texts c.args.words.now)) (sym c.in-Compose.ensures) c.in-Ok.ensures.command in
+    on_then c.compose.result (λ h. on_asked WritesValid _ (Compose c.in-Compose.first.now c.in-Compose.second.now c.in-Compose.output.now)
+    (g.F.Folder.files c.args.folder.now) h words)
+    c.compose.ensures.accepted
+
+pub returns-in-Compose-clause-again : goal.returns-in-Compose-clause-again
+returns-in-Compose-clause-again g c =
+    let words = subst (λ task. Words task (texts c.args.words.now)) (sym c.in-Compose.ensures) c.in-Ok.ensures.command in
+    on_done c.compose.result (on_asked WritesAgain _ (Compose c.in-Compose.first.now c.in-Compose.second.now c.in-Compose.output.now)
+    (g.F.Folder.files c.args.folder.now) (nothing_due _ _) words)
+
+pub returns-in-Compose-clause-rows : goal.returns-in-Compose-clause-rows
+returns-in-Compose-clause-rows g c =
+    let words = subst (λ task. Words task (texts c.args.words.now)) (sym c.in-Compose.ensures) c.in-Ok.ensures.command in
+    of_rows _ (Compose c.in-Compose.first.now c.in-Compose.second.now c.in-Compose.output.now) (g.F.Folder.files c.args.folder.now) _ _
+    (record { none = λ no. refl; bound = tt }) words
+
+pub returns-in-Compose-clause-causes : goal.returns-in-Compose-clause-causes
+returns-in-Compose-clause-causes g c =
+    let words = subst (λ task. Words task (texts c.args.words.now)) (sym c.in-Compose.ensures) c.in-Ok.ensures.command in
+    widened_stop c.compose.result (λ m. absurd m)
+    (λ name r. record { task = (Compose c.in-Compose.first.now c.in-Compose.second.now c.in-Compose.output.now); asked = words; unread = r })
+    (λ name w. is_output (texts c.args.words.now) (Compose c.in-Compose.first.now c.in-Compose.second.now c.in-Compose.output.now) c.in-Compose.output.now
+    name refl words w)
+    (λ e. e) (λ a. a) (λ b. b) (λ p. absurd p) c.compose.ensures.causes
+
+pub returns-in-Compose-clause-read_only : goal.returns-in-Compose-clause-read_only
+returns-in-Compose-clause-read_only g c =
+    let words = subst (λ task. Words task (texts c.args.words.now)) (sym c.in-Compose.ensures) c.in-Ok.ensures.command in
+    writes_file (texts c.args.words.now) (Compose c.in-Compose.first.now c.in-Compose.second.now c.in-Compose.output.now) c.in-Compose.output.now _ _ refl words

@@ -5,7 +5,7 @@ use Rattle.ppdb_run.specs.Task.{options_of}
 use Rattle.ppdb_run.specs.Words.{Rebuild}
 use Rattle.ppdb_run.proofs.Causes.{widened_stop}
 use Rattle.ppdb_run.proofs.Outcomes.{stop_found, stop_settles}
-use Rattle.ppdb_run.proofs.Rebuilds.{nothing_written, written_found, written_settles, written_silent, written_leaves, written_valid, written_again}
+use Rattle.ppdb_run.proofs.Writing.{nothing_written, written_found, written_settles, written_silent, written_leaves, written_valid, written_again}
 use Rattle.ppdb_run.proofs.rebuild.rebuild.Goals as goal
 
 pub returns-in-Err-clause-found : goal.returns-in-Err-clause-found
@@ -22,37 +22,44 @@ returns-in-Err-clause-told g c =
 
 pub returns-in-Err-clause-files : goal.returns-in-Err-clause-files
 returns-in-Err-clause-files g c =
-    nothing_written c.args.input.now c.args.output.now (options_of c.args.options) (g.F.Folder.files c.args.folder.now) c.in-Err.stop _ _ c.in-Err.ensures.files
+    nothing_written (Rebuild c.args.input.now c.args.output.now (options_of c.args.options)) c.args.output.now (g.F.Folder.files c.args.folder.now)
+    c.in-Err.stop _ _ c.in-Err.ensures.files
 
 pub returns-clause-found : goal.returns-clause-found
 returns-clause-found g c =
-    written_found c.args.input.now c.args.output.now (options_of c.args.options) (g.F.Folder.files c.args.folder.now) c.write_output.result _
+    written_found (Rebuild c.args.input.now c.args.output.now (options_of c.args.options)) c.args.output.now (g.F.Folder.files c.args.folder.now)
+    c.write_output.result _
     c.write_output.ensures.no_refusal (c.in-Ok.ensures.told c.args.output.now)
 
 pub returns-clause-told : goal.returns-clause-told
 returns-clause-told g c =
-    written_settles c.args.input.now c.args.output.now (options_of c.args.options) (g.F.Folder.files c.args.folder.now) c.write_output.result _
+    written_settles (Rebuild c.args.input.now c.args.output.now (options_of c.args.options)) c.args.output.now (g.F.Folder.files c.args.folder.now)
+    c.write_output.result _
     c.write_output.ensures.no_refusal (c.in-Ok.ensures.told c.args.output.now)
 
 pub returns-clause-silent : goal.returns-clause-silent
 returns-clause-silent g c =
-    written_silent c.args.input.now c.args.output.now (options_of c.args.options) (g.F.Folder.files c.args.folder.now) c.write_output.result _
+    written_silent (Rebuild c.args.input.now c.args.output.now (options_of c.args.options)) c.args.output.now (g.F.Folder.files c.args.folder.now)
+    c.write_output.result _
     c.write_output.ensures.no_refusal (c.in-Ok.ensures.told c.args.output.now)
 
 pub returns-clause-files : goal.returns-clause-files
 returns-clause-files g c =
-    written_leaves c.args.input.now c.args.output.now (options_of c.args.options) (g.F.Folder.files c.args.folder.now) c.write_output.result _
+    written_leaves (Rebuild c.args.input.now c.args.output.now (options_of c.args.options)) c.args.output.now (g.F.Folder.files c.args.folder.now)
+    c.write_output.result _
     c.write_output.ensures.no_refusal (c.in-Ok.ensures.told c.args.output.now) _ _ _ c.in-Ok.ensures.files
     (rw c.as_slice.ensures at c.write_output.ensures.files)
 
 pub returns-clause-accepted : goal.returns-clause-accepted
 returns-clause-accepted g c =
-    written_valid c.args.input.now c.args.output.now (options_of c.args.options) (g.F.Folder.files c.args.folder.now) c.write_output.result _
+    written_valid (Rebuild c.args.input.now c.args.output.now (options_of c.args.options)) c.args.output.now (g.F.Folder.files c.args.folder.now)
+    c.write_output.result _
     c.write_output.ensures.no_refusal (c.in-Ok.ensures.told c.args.output.now) c.in-Ok.ensures.accepted
 
 pub returns-clause-again : goal.returns-clause-again
 returns-clause-again g c =
-    written_again c.args.input.now c.args.output.now (options_of c.args.options) (g.F.Folder.files c.args.folder.now) c.write_output.result _
+    written_again (Rebuild c.args.input.now c.args.output.now (options_of c.args.options)) c.args.output.now (g.F.Folder.files c.args.folder.now)
+    c.write_output.result _
     c.write_output.ensures.no_refusal (c.in-Ok.ensures.told c.args.output.now) c.in-Ok.ensures.again
 
 pub returns-clause-causes : goal.returns-clause-causes

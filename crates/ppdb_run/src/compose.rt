@@ -1,0 +1,109 @@
+// The command `compose`: the map of two maps.
+ghost use Rattle.std.specs.Prelude.{◌≡◌, ◌≤◌, ℕ, List, [], Some, None, IfOk, OnOk, IfErr, IfSome};
+ghost use Rattle.ppdb_base.specs.Causes.{Rose};
+ghost use Rattle.ppdb_maps.specs.Map.{Map};
+ghost use Rattle.ppdb_maps.specs.Text.{IsMapOf};
+ghost use Rattle.ppdb_run.specs.Ends.{OnTask, WritesValid, IsUnreadOf};
+ghost use Rattle.ppdb_run.specs.Outcome.{IsOutcome, composed_text, steps_of, written};
+ghost use Rattle.ppdb_run.specs.Stops.{cause_of, Settles, Finds, Gives, Leaves, ComesFrom, OnKept, no_file};
+ghost use Rattle.ppdb_run.specs.Words.{Compose};
+
+use crate::map::read_map_file;
+use crate::output::write_output;
+use crate::stop::Stop;
+use map_compose::{ComposeError, compose_maps};
+use ppdb_base::{Bytes, Folder};
+use ppdb_maps::MapText;
+use std::alloc::Global;
+
+/// Writes the text of the map of two maps.
+pub fn compose<'a, F: Folder>(
+    alloc: Global,
+    first: &'a str,
+    second: &'a str,
+    output: &'a str,
+    folder: &mut F,
+) -> Result<(), Stop<'a>>
+    // What it comes to over told files.
+    ensures found { IfSome (F.files folder.old) (λ all. Finds result (IsOutcome (Some (Compose first.now second.now output.now)) all)) }
+    ensures told { OnTask (Compose first.now second.now output.now) (F.files folder.old) (Settles result) }
+    ensures silent { OnTask (Compose first.now second.now output.now) (F.files folder.old) (λ due. OnOk result (due.text ≡ [])) }
+    ensures files { OnTask (Compose first.now second.now output.now) (F.files folder.old)
+        (λ due. Leaves result due.writes (F.files folder.old) (F.files folder.new)) }
+
+    ensures accepted { OnOk result (OnTask (Compose first.now second.now output.now) (F.files folder.old)
+        (WritesValid (Some (Compose first.now second.now output.now)))) }
+
+    // What a stop comes from, and what it leaves.
+    ensures causes { IfErr result (λ stop. ComesFrom (cause_of stop)
+        ⊥
+        (IsUnreadOf (Compose first.now second.now output.now) (F.files folder.old) (F.reads folder.old) (F.reads folder.new))
+        (λ failed. failed ≡ output.now)
+        (F.files folder.old)
+        (Rose (F.read_faults folder.old) (F.read_faults folder.new))
+        (Rose (F.write_faults folder.old) (F.write_faults folder.new))
+        ⊥) }
+    ensures kept { IfErr result (λ stop. OnKept (cause_of stop) (F.files folder.new ≡ F.files folder.old)) }
+{
+    let text = match composed_bytes(alloc, first, second, folder) {
+        Ok(text) => text,
+        Err(stop) => return Err(stop),
+    };
+    write_output(folder, output, text.as_slice())
+}
+
+/// Reads two maps, the second where the first is one, and makes the text of the map of both.
+fn composed_bytes<'a, F: Folder>(
+    alloc: Global,
+    first: &'a str,
+    second: &'a str,
+    folder: &mut F,
+) -> Result<Bytes, Stop<'a>>
+    ensures told { (output : List ℕ) → IfSome (F.files folder.old) (λ all. Gives (written output) result (steps_of (Compose first.now second.now output) all)) }
+    ensures read { IfOk result (λ text. (m : Map) × IsMapOf text m) }
+    ensures files { F.files folder.new ≡ F.files folder.old }
+    ensures write_faults { F.write_faults folder.new ≡ F.write_faults folder.old }
+    ensures later { F.read_faults folder.old ≤ F.read_faults folder.new }
+    ensures causes { (output : List ℕ) → IfErr result (λ stop. ComesFrom (cause_of stop)
+        ⊥
+        (IsUnreadOf (Compose first.now second.now output) (F.files folder.old) (F.reads folder.old) (F.reads folder.new))
+        no_file
+        (F.files folder.old)
+        (Rose (F.read_faults folder.old) (F.read_faults folder.new))
+        ⊥
+        ⊥) }
+{
+    let before = match read_map_file(alloc, first, folder) {
+        Ok(map) => map,
+        Err(stop) => return Err(stop),
+    };
+    let after = match read_map_file(alloc, second, folder) {
+        Ok(map) => map,
+        Err(stop) => return Err(stop),
+    };
+    text_of_both(alloc, &before, &after)
+}
+
+/// The text of the map of two maps.
+fn text_of_both<'a>(alloc: Global, first: &MapText, second: &MapText) -> Result<Bytes, Stop<'a>>
+    ensures told { Gives (λ text. text) result (composed_text first.now second.now) }
+    ensures read { IfOk result (λ text. (m : Map) × IsMapOf text m) }
+    ensures causes { IfErr result (λ stop. ComesFrom (cause_of stop) ⊥ no_file no_file None ⊥ ⊥ ⊥) }
+{
+    match compose_maps(alloc, first, second) {
+        Ok(text) => Ok(text),
+        Err(
+            ComposeError::SizesDiffer {
+                method,
+                first,
+                second,
+            },
+        ) => Err(Stop::SizesDiffer {
+            method,
+            first,
+            second,
+        }),
+        Err(ComposeError::TooLong { bytes }) => Err(Stop::MapLimit(bytes)),
+        Err(ComposeError::Memory) => Err(Stop::Memory),
+    }
+}

@@ -1,0 +1,51 @@
+// The maps that a command reads.
+ghost use Rattle.std.specs.Prelude.{◌≡◌, ◌≤◌, None, length, IfOk, IfErr, IfSome};
+ghost use Rattle.ppdb_base.specs.Causes.{Rose, counted};
+ghost use Rattle.ppdb_run.specs.Outcome.{map_at, map_in};
+ghost use Rattle.ppdb_run.specs.Stops.{cause_of, Gives, ComesFrom, no_file};
+
+use crate::input::read_input;
+use crate::stop::Stop;
+use ppdb_base::Folder;
+use ppdb_maps::{MapError, MapText, read_map};
+use std::alloc::Global;
+
+/// Reads a file of a command, and the map that its text has.
+pub fn read_map_file<'a, F: Folder>(
+    alloc: Global,
+    name: &'a str,
+    folder: &mut F,
+) -> Result<MapText, Stop<'a>>
+    ensures told { IfSome (F.files folder.old) (λ files. Gives (λ read. read) result (map_at files name.now)) }
+    ensures causes { IfErr result (λ stop. ComesFrom (cause_of stop)
+        ⊥
+        (λ failed. (failed ≡ name.now) × (F.reads folder.new ≡ F.reads folder.old))
+        no_file
+        (F.files folder.old)
+        (Rose (F.read_faults folder.old) (F.read_faults folder.new))
+        ⊥
+        ⊥) }
+    ensures reads { IfOk result (λ _. F.reads folder.new ≡ counted (F.reads folder.old)) }
+    ensures later { F.read_faults folder.old ≤ F.read_faults folder.new }
+    ensures files { F.files folder.new ≡ F.files folder.old }
+    ensures write_faults { F.write_faults folder.new ≡ F.write_faults folder.old }
+{
+    let text = match read_input(alloc, folder, name) {
+        Ok(text) => text,
+        Err(stop) => return Err(stop),
+    };
+    map_of(alloc, name, text.as_slice())
+}
+
+/// The map that a text has.
+pub fn map_of<'a>(alloc: Global, name: &'a str, text: &[u8]) -> Result<MapText, Stop<'a>>
+    requires { length text.now ≤ 134217728 }
+    ensures told { Gives (λ read. read) result (map_in name.now text.now) }
+    ensures causes { IfErr result (λ stop. ComesFrom (cause_of stop) ⊥ no_file no_file None ⊥ ⊥ ⊥) }
+{
+    match read_map(alloc, text) {
+        Ok(map) => Ok(map),
+        Err(MapError::Line { line, kind }) => Err(Stop::Map { name, line, kind }),
+        Err(MapError::Memory) => Err(Stop::Memory),
+    }
+}
