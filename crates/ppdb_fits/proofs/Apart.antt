@@ -1,13 +1,13 @@
 -- Items of a group of which nothing is told have one image only where they have one number.
-use Rattle.std.proofs.Common.{◌≡◌, ℕ, ◌<◌, ◌≤◌, ◌⊎◌, ◌&&◌, ◌++◌, Bool, true, false, cond, List, [], ◌∷◌, refl, sym, ◌∙◌, ap, subst, inl, inr, arith}
-use Rattle.std.specs.Prelude.{nat_eq, nat_le, not}
+use Rattle.std.proofs.Common.{◌≡◌, ℕ, ◌<◌, ◌≤◌, ◌⊎◌, Bool, true, false, cond, List, [], ◌∷◌, refl, sym, ◌∙◌, ap, subst, inl, inr, arith}
+use Rattle.std.specs.Prelude.{nat_eq, nat_le}
 use Rattle.std.specs.List.{dedup, dedup_from}
 use Rattle.std.proofs.lemmas.Bool.{cases_lt, eq-eqb, eqb-true, and_parts, le-leb, lt-leb}
 use Rattle.ppdb_noted.specs.Each.{Each, Pairs}
 use Rattle.ppdb_noted.specs.Sorted.{put, in_order}
 use Rattle.ppdb_noted.proofs.Orders.{in_order_each, in_order_rises, pairs_of, put_each}
 use Rattle.ppdb_noted.proofs.Lists.{Each-weaker}
-use Rattle.ppdb_fits.specs.Twice.{beside, beside_from, each_once, is_same, have_one_image, if_one_image, twice}
+use Rattle.ppdb_fits.specs.Twice.{beside, beside_from, each_once, is_same, if_one_image, twice}
 use Rattle.ppdb_fits.proofs.First.{nil_parts}
 
 pub each_both : {A : Type 0} (P Q R : A → Type 0) → ((x : A) → P x → Q x → R x) → (xs : List A) → Each P xs → Each Q xs → Each R xs
@@ -75,8 +75,9 @@ module _ {A : Type 0} (group number image : A → ℕ) where
   put_sorted x [] above pairs = (tt, tt)
   put_sorted x (y ∷ ys) above pairs = elim (cases_lt (group y) (group x)) [
     | inr le ↦ rw (le-leb (group x) (group y) le) (
-          (direct x y le above.0, each_both (λ z. image x ≤ image z) (Le y) (Le x) (λ z a b. after x y z le a b) ys above.1 pairs.0),
-          pairs)
+      (direct x y le above.0, each_both (λ z. image x ≤ image z) (Le y) (Le x) (λ z a b. after x y z le a b) ys above.1 pairs.0),
+      pairs,
+    )
     | inl less ↦ rw (lt-leb (group x) (group y) less) (put_each group (Le y) x ys (inl less) pairs.0, put_sorted x ys above.1 pairs.1)
   ]
 

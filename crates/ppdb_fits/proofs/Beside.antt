@@ -1,5 +1,5 @@
 -- What is told of items that stand side by side.
-use Rattle.std.proofs.Common.{◌≡◌, ℕ, zero, suc, ◌+◌, ◌-◌, ◌<◌, ◌≤◌, ◌++◌, List, [], ◌∷◌, Some, length, drop, slice_get, get_or, refl, sym, ◌∙◌, ap, subst, arith}
+use Rattle.std.proofs.Common.{◌≡◌, ℕ, zero, suc, ◌+◌, ◌-◌, ◌<◌, ◌≤◌, ◌++◌, List, [], ◌∷◌, Some, length, drop, slice_get, get_or, refl, sym, ◌∙◌, ap, arith}
 use Rattle.ppdb_fits.specs.Twice.{beside, beside_from}
 use Rattle.ppdb_fits.proofs.First.{first_front}
 

@@ -1,9 +1,8 @@
 -- The last offset that is a number of 32 bits is kept where all are.
-use Rattle.std.proofs.Common.{◌≡◌, ℕ, ◌<◌, ◌≤◌, ◌&&◌, Bool, true, false, cond, List, Option, Some, None, refl, arith}
+use Rattle.std.proofs.Common.{◌≡◌, ℕ, ◌≤◌, ◌&&◌, Bool, true, false, cond, List, Option, Some, None, refl, arith}
 use Rattle.std.specs.Prelude.{is_some, not, IfSome, nat_eq}
-use Rattle.std.specs.List.{find}
 use Rattle.ppdb_base.specs.declared.offsets.Run.{Run}
-use Rattle.ppdb_base.specs.Offsets.{Offsets, Rise, every, gone, lined, is_kept_between, KeepsBetween}
+use Rattle.ppdb_base.specs.Offsets.{Rise, gone, lined, is_kept_between, KeepsBetween}
 use Rattle.ppdb_base.proofs.Moved.{is_kept, kept_below}
 use Rattle.ppdb_maps.specs.Map.{Map, MethodLine, offsets_in, line_offsets, method_line, is_dropped}
 use Rattle.ppdb_maps.specs.Readable.{IsReadable, IsLineOf}

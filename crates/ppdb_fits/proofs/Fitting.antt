@@ -1,11 +1,9 @@
 -- A map that does not clash with a file fits it.
-use Rattle.std.proofs.Common.{◌≡◌, ◌≢◌, ℕ, ◌+◌, ◌<◌, ◌≤◌, ◌&&◌, ◌||◌, ◌++◌, Bool, true, false, cond, List, [], ◌∷◌, Option, Some, None, flat_map, map}
+use Rattle.std.proofs.Common.{◌≡◌, ℕ, ◌+◌, ◌<◌, ◌≤◌, ◌&&◌, ◌++◌, Bool, true, false, cond, List, [], ◌∷◌, Option, Some, None, flat_map}
 use Rattle.std.proofs.Common.{refl, sym, ◌∙◌, ap, subst, arith}
-use Rattle.std.specs.Prelude.{is_some, IfSome, nat_le, nat_lt, nat_eq, not}
-use Rattle.std.specs.List.{filter, filter_map, cons_option, enumerate_from, Contains}
-use Rattle.std.specs.Option.{option_map, option_to_list}
-use Rattle.std.proofs.lemmas.Bool.{leb-false, ltb-false, and_parts}
-use Rattle.ppdb_base.specs.declared.merge_error.MergeError.{MergeError}
+use Rattle.std.specs.Prelude.{IfSome, nat_le, nat_lt, nat_eq, not}
+use Rattle.std.specs.List.{enumerate_from}
+use Rattle.std.proofs.lemmas.Bool.{leb-false, ltb-false}
 use Rattle.ppdb_base.specs.Offsets.{Offsets, Kept, KeepsBetween, every, gone, lined, old_size}
 use Rattle.ppdb_base.proofs.Moved.{is_kept as kept_between}
 use Rattle.custom_info.specs.HoistedScopes.{IsSlot}
@@ -30,15 +28,14 @@ use Rattle.ppdb_values.specs.declared.scope.ScopeValue.{ScopeValue}
 use Rattle.ppdb_noted.specs.Each.{Each}
 use Rattle.ppdb_noted.specs.NamedRows.{live_custom}
 use Rattle.ppdb_noted.specs.Noted.{noted_file, noted_scope}
-use Rattle.ppdb_noted.specs.SoundParts.{SoundParts, SoundNotedScope}
-use Rattle.ppdb_noted.specs.Unnoted.{value_of_noted}
+use Rattle.ppdb_noted.specs.SoundParts.{SoundNotedScope}
 use Rattle.ppdb_noted.specs.declared.file.NotedScope.{NotedScope}
 use Rattle.ppdb_noted.proofs.Lists.{Each-weaker, Each-map, Each-filter, Each-enumerate}
 use Rattle.ppdb_moved.specs.Fits.{IsKept, KeepsStep, KeepsAsync, EndsWithin, AreWithin}
 use Rattle.ppdb_moved.proofs.Fitting.{offsets_rise}
 use Rattle.ppdb_moved.proofs.SoundItems.{each_all}
 use Rattle.ppdb_fits.specs.Offsets.{offset_in, step_offsets, handler_offsets, async_offsets, if_past, offset_beyond, end_beyond, points_beyond}
-use Rattle.ppdb_fits.specs.Offsets.{scope_beyond, slot_beyond, body_beyond, custom_beyond, beyond, is_kept, if_lost, custom_lost, lost}
+use Rattle.ppdb_fits.specs.Offsets.{scope_beyond, slot_beyond, body_beyond, custom_beyond, is_kept, if_lost, custom_lost, lost}
 use Rattle.ppdb_fits.proofs.Apart.{each_both}
 use Rattle.ppdb_fits.proofs.First.{nil_parts, flat_append, flat_nested}
 

@@ -1,7 +1,7 @@
 -- A map that does not clash with a file gives each row and each slot its own image.
-use Rattle.std.proofs.Common.{◌≡◌, ℕ, ◌+◌, ◌||◌, Bool, true, false, cond, List, [], ◌∷◌, Option, Some, None, flat_map, map, refl, sym, ◌∙◌, ap, subst}
+use Rattle.std.proofs.Common.{◌≡◌, ℕ, ◌+◌, ◌||◌, Bool, true, false, cond, List, [], ◌∷◌, Option, Some, None, map, refl, sym, ◌∙◌, ap, subst}
 use Rattle.std.specs.Prelude.{is_some, IfSome, not, unwrap_or}
-use Rattle.std.specs.List.{filter_map, cons_option, enumerate_from, Contains}
+use Rattle.std.specs.List.{filter_map, cons_option, enumerate_from}
 use Rattle.std.specs.Option.{option_map}
 use Rattle.ppdb_maps.specs.Map.{Map, row_image, slot_image, is_dropped}
 use Rattle.ppdb_references.specs.declared.imaged.Imaged.{Imaged}
@@ -14,7 +14,7 @@ use Rattle.ppdb_values.specs.declared.scope.ScopeValue.{ScopeValue}
 use Rattle.ppdb_values.specs.declared.scope.VariableValue.{VariableValue}
 use Rattle.ppdb_values.specs.declared.noted.Noted.{Noted}
 use Rattle.ppdb_noted.specs.Each.{Each}
-use Rattle.ppdb_noted.specs.NamedRows.{Named, live_scope}
+use Rattle.ppdb_noted.specs.NamedRows.{live_scope}
 use Rattle.ppdb_noted.specs.Noted.{noted_file, noted_scope}
 use Rattle.ppdb_noted.specs.declared.file.NotedScope.{NotedScope}
 use Rattle.ppdb_noted.proofs.Lists.{Each-weaker, Each-map, Each-unmap, Each-enumerate}

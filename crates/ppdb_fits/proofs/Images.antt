@@ -1,9 +1,8 @@
 -- The images of the rows that are named.
-use Rattle.std.proofs.Common.{◌≡◌, ℕ, zero, suc, ◌<◌, ◌++◌, Bool, cond, List, [], ◌∷◌, Option, Some, None, slice_get, flat_map, refl, sym, ◌∙◌, ap, arith}
+use Rattle.std.proofs.Common.{◌≡◌, ℕ, zero, suc, ◌<◌, ◌++◌, cond, List, [], ◌∷◌, Option, Some, None, slice_get, flat_map, refl, sym, ◌∙◌, ap, arith}
 use Rattle.std.specs.Prelude.{is_some}
 use Rattle.std.specs.List.{filter_map, cons_option}
 use Rattle.std.specs.Option.{option_map}
-use Rattle.ppdb_base.specs.declared.merge_error.MergeError.{MergeError}
 use Rattle.ppdb_base.specs.declared.merge_error.MergeError.TheVariants.{Unmapped}
 use Rattle.ppdb_maps.specs.Map.{Map}
 use Rattle.ppdb_references.specs.declared.imaged.Imaged.{Imaged}

@@ -5,9 +5,7 @@ use Rattle.std.specs.List.{enumerate_from}
 use Rattle.custom_info.specs.Kinds.{kind_of}
 use Rattle.custom_info.specs.declared.kinds.Kind.TheVariants.{Unknown}
 use Rattle.named_references.proofs.Whole.{all-named}
-use Rattle.named_references.specs.Laws.{named_by}
 use Rattle.ppdb_maps.specs.Map.{Map}
-use Rattle.ppdb_references.specs.References.{references}
 use Rattle.ppdb_tables.specs.Parents.{CodesAreParents}
 use Rattle.ppdb_values.specs.Owners.{ListsAreOwned}
 use Rattle.ppdb_values.specs.RawFile.{RawFile}
@@ -16,7 +14,7 @@ use Rattle.ppdb_values.specs.declared.custom.CustomValue.{CustomValue}
 use Rattle.ppdb_values.specs.declared.file.FileValue.{FileValue}
 use Rattle.sound_values.proofs.Values.{value_sound}
 use Rattle.ppdb_noted.specs.Each.{Each}
-use Rattle.ppdb_noted.specs.NamedRows.{Named, named_rows}
+use Rattle.ppdb_noted.specs.NamedRows.{named_rows}
 use Rattle.ppdb_noted.specs.Noted.{noted_file}
 use Rattle.ppdb_noted.specs.SoundParts.{SoundParts}
 use Rattle.ppdb_noted.proofs.Soundness.{parts_sound}

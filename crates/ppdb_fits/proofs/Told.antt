@@ -1,5 +1,5 @@
 -- The parts of what is told, one after the other.
-use Rattle.std.proofs.Common.{◌≡◌, ℕ, ◌⊎◌, ◌++◌, Bool, List, [], Some, None, slice_get, refl, sym, ◌∙◌, ap, subst, inl, inr}
+use Rattle.std.proofs.Common.{◌≡◌, ℕ, ◌⊎◌, ◌++◌, Bool, List, [], Some, None, slice_get, sym, ◌∙◌, ap, subst, inl, inr}
 use Rattle.ppdb_base.specs.declared.merge_error.MergeError.{MergeError}
 use Rattle.ppdb_base.specs.declared.merge_error.MergeError.TheVariants.{Memory}
 use Rattle.ppdb_maps.specs.Map.{Map}

@@ -1,5 +1,5 @@
 -- The rows of the type system that a file names, with their images (docs/FORMAT.md, "Fitting").
-use Rattle.std.specs.Prelude.{ℕ, Bool, cond, is_some, List, [], ◌∷◌, Option}
+use Rattle.std.specs.Prelude.{Bool, cond, is_some, List, [], ◌∷◌, Option}
 use Rattle.std.specs.List.{filter_map, flat_map}
 use Rattle.std.specs.Option.{option_map}
 use Rattle.ppdb_base.specs.declared.merge_error.MergeError.{MergeError}

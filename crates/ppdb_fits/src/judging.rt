@@ -64,8 +64,11 @@ fn placed_images<L: Ledger>(
 {
     match images(alloc, file, map, first, steps) {
         Ok(rows) => Ok(rows.into_vec()),
-        Err(ReferenceError::Unmapped { table, row, place }) =>
-            Err(MergeError::Unmapped { table, row, place }),
+        Err(ReferenceError::Unmapped { table, row, place }) => Err(MergeError::Unmapped {
+            table,
+            row,
+            place,
+        }),
         Err(ReferenceError::Memory) => Err(MergeError::Memory),
     }
 }

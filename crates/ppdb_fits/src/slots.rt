@@ -88,11 +88,7 @@ fn add_used(all: &mut Vec<UsedSlot>, map: &MapText, x: &MethodSlot) -> Result<()
 }
 
 /// The slots that variables use, with their images.
-fn used_slots(
-    alloc: Global,
-    map: &MapText,
-    slots: &[MethodSlot],
-) -> Result<Vec<UsedSlot>, Memory>
+fn used_slots(alloc: Global, map: &MapText, slots: &[MethodSlot]) -> Result<Vec<UsedSlot>, Memory>
     ensures { IfOk result (λ all. all.items ≡ filter_map (used map.now) slots.now) }
 {
     let mut all = Vec::with_capacity(alloc, slots.len())?;

@@ -49,7 +49,11 @@ fn judged_in<L: Ledger>(
     Ok(judge(rt.alloc(), &file, &value, &map, &marks, true, &mut steps))
 }
 
-fn judged(rt: &HostRuntime, bytes: &[u8], lines: &str) -> Result<Result<List<Imaged>, MergeError>, Fail> {
+fn judged(
+    rt: &HostRuntime,
+    bytes: &[u8],
+    lines: &str,
+) -> Result<Result<List<Imaged>, MergeError>, Fail> {
     judged_in::<Brand>(rt, bytes, lines, Blank::new(1))
 }
 
@@ -146,7 +150,7 @@ fn rows_stand_in_order(rt: HostRuntime) -> Result<(), Fail> {
             methods.push((row.row, row.image))?;
         }
     }
-    assert!(rt; methods.as_slice() == [(1, 6), (2, 2), (4, 9)]);
+    assert!(rt; methods.as_slice() == [(1, 6), (2, 2), (4, 9)].as_slice());
     Ok(())
 }
 
@@ -155,7 +159,12 @@ fn rows_stand_in_order(rt: HostRuntime) -> Result<(), Fail> {
 fn lost_offsets_are_told(rt: HostRuntime) -> Result<(), Fail> {
     let lines = "ppdbmap 1/method 4 200 200/run 0 0 61/run 62 62 138";
     match judged(&rt, &PROGRAM, lines)? {
-        Err(MergeError::AsyncLost { method: 4, offset: 61 }) => Ok(()),
+        Err(
+            MergeError::AsyncLost {
+                method: 4,
+                offset: 61,
+            },
+        ) => Ok(()),
         _ => Err(Fail::from("another answer")),
     }
 }

@@ -13,7 +13,9 @@ pub(crate) trait HasImage: Copy + Drop {
     ghost use Rattle.ppdb_base.specs.declared.merge_error.MergeError.{MergeError};
 
     ghost group_of: { Self → ℕ };
+
     ghost number_of: { Self → ℕ };
+
     ghost image_of: { Self → ℕ };
     /// What is told of two items of a group that have one image.
     ghost told: { Self → Self → MergeError };
@@ -36,8 +38,11 @@ impl HasImage for Imaged {
     ghost use Rattle.ppdb_fits.specs.Rows.{image_twice};
 
     ghost group_of = { λ i. i.table };
+
     ghost number_of = { λ i. i.row };
+
     ghost image_of = { λ i. i.image };
+
     ghost told = { image_twice };
 
     fn group(&self) -> u32 {
@@ -66,8 +71,11 @@ impl HasImage for UsedSlot {
     ghost use Rattle.ppdb_fits.specs.Slots.{slot_twice};
 
     ghost group_of = { λ u. u.method };
+
     ghost number_of = { λ u. u.slot };
+
     ghost image_of = { λ u. u.image };
+
     ghost told = { slot_twice };
 
     fn group(&self) -> u32 {

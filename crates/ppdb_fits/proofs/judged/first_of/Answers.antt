@@ -1,5 +1,5 @@
 use Rattle.std.proofs.Common.{sym, ◌∙◌}
-use Rattle.ppdb_fits.proofs.First.{hit, miss, none_left}
+use Rattle.ppdb_fits.proofs.First.{hit, miss}
 use Rattle.ppdb_fits.proofs.judged.first_of.Goals as goal
 
 pub returns-in-Some : goal.returns-in-Some

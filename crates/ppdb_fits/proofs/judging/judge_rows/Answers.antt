@@ -1,8 +1,8 @@
-use Rattle.std.proofs.Common.{◌≡◌, sym, ◌∙◌, ap, slice_get}
+use Rattle.std.proofs.Common.{◌∙◌, ap, slice_get}
 use Rattle.std.proofs.lemmas.Result.{err_from_is_err_and}
 use Rattle.ppdb_verify.specs.Views.{raw_file}
 use Rattle.ppdb_references.specs.declared.imaged.Imaged.{Imaged}
-use Rattle.ppdb_fits.specs.Rows.{image_twice, imaged_rows, unmapped, images_twice}
+use Rattle.ppdb_fits.specs.Rows.{image_twice, unmapped, images_twice}
 use Rattle.ppdb_fits.specs.Twice.{each_once, twice}
 use Rattle.ppdb_fits.proofs.Told.{then_fine, refused, both_fine}
 use Rattle.ppdb_fits.proofs.judging.judge_rows.Goals as goal

@@ -1,4 +1,4 @@
-use Rattle.std.proofs.Common.{◌≡◌, ◌-◌, ◌≤◌, [], drop, length, slice_get}
+use Rattle.std.proofs.Common.{◌≡◌, ◌-◌, ◌≤◌, drop, length, slice_get}
 use Rattle.ppdb_fits.specs.Twice.{beside, if_one_image}
 use Rattle.ppdb_fits.proofs.twice.first_beside.Given as goal
 
