@@ -141,7 +141,8 @@ live_is false is = refl
 module _ (m : Map) (value : FileValue) where
   -- what holds of the slots of all variables holds of those of each scope
   by_scope : (P : MethodSlot → Type 0) → Each P (variable_slots value)
-      → Each (λ (s : NotedScope). Each (λ (v : Noted VariableValue). P (record { method = s.method; slot = v.item.slot })) s.variables) (noted_file value).scopes
+      → Each (λ (s : NotedScope). Each (λ (v : Noted VariableValue). P (record { method = s.method; slot = v.item.slot })) s.variables)
+      (noted_file value).scopes
   by_scope P each =
       Each-map (noted_scope value) _ (enumerate_from 1 value.scopes)
       (Each-weaker _ _ (λ (s : ℕ × ScopeValue) here.
@@ -191,12 +192,15 @@ module _ (m : Map) (value : FileValue) where
       let here : Each (OneSlot (record { method = s.method; slot = v.item.slot; image = image })) all =
       of_used (λ a. Each (OneSlot a) all) (record { method = s.method; slot = v.item.slot }) image
       (in_each (λ (v : Noted VariableValue). IfSome (used m (record { method = s.method; slot = v.item.slot })) (λ a. Each (OneSlot a) all)) s.variables v
-      (in_each (λ (s : NotedScope). Each (λ (v : Noted VariableValue). IfSome (used m (record { method = s.method; slot = v.item.slot })) (λ a. Each (OneSlot a) all)) s.variables)
+      (in_each (λ (s : NotedScope). Each (λ (v : Noted VariableValue). IfSome (used m (record { method = s.method; slot = v.item.slot }))
+      (λ a. Each (OneSlot a) all)) s.variables)
       (noted_file value).scopes s (by_scope (λ x. IfSome (used m x) (λ a. Each (OneSlot a) all))
       (each_made_option (used m) (λ a. Each (OneSlot a) all) (variable_slots value) (pairs none))) in_s) in_v) gone_not vi in
       of_used (OneSlot (record { method = s.method; slot = v.item.slot; image = image })) (record { method = t.method; slot = w.item.slot }) image
-      (in_each (λ (w : Noted VariableValue). IfSome (used m (record { method = t.method; slot = w.item.slot })) (OneSlot (record { method = s.method; slot = v.item.slot; image = image }))) t.variables w
-      (in_each (λ (t : NotedScope). Each (λ (w : Noted VariableValue). IfSome (used m (record { method = t.method; slot = w.item.slot })) (OneSlot (record { method = s.method; slot = v.item.slot; image = image }))) t.variables)
+      (in_each (λ (w : Noted VariableValue). IfSome (used m (record { method = t.method; slot = w.item.slot }))
+      (OneSlot (record { method = s.method; slot = v.item.slot; image = image }))) t.variables w
+      (in_each (λ (t : NotedScope). Each (λ (w : Noted VariableValue). IfSome (used m (record { method = t.method; slot = w.item.slot }))
+      (OneSlot (record { method = s.method; slot = v.item.slot; image = image }))) t.variables)
       (noted_file value).scopes t
       (by_scope (λ x. IfSome (used m x) (OneSlot (record { method = s.method; slot = v.item.slot; image = image })))
       (each_made_option (used m) (OneSlot (record { method = s.method; slot = v.item.slot; image = image })) (variable_slots value) here)) in_t) in_w)

@@ -41,7 +41,8 @@ kinds_known marks m value n [] each = tt
 kinds_known marks m value n (c ∷ cs) each = (
   (λ stays is.
       let e : is_unknown (kind_of marks c.kind) ≡ false =
-      known_kind (is_unknown (kind_of marks c.kind)) (is_at_dropped m value c.parent) (fails (is_unknown (kind_of marks c.kind) && not (is_at_dropped m value c.parent)) _ each.0) stays in
+      known_kind (is_unknown (kind_of marks c.kind)) (is_at_dropped m value c.parent)
+      (fails (is_unknown (kind_of marks c.kind) && not (is_at_dropped m value c.parent)) _ each.0) stays in
       let f : is_unknown (kind_of marks c.kind) ≡ true = ap is_unknown is in
       let g : true ≡ false = sym f ∙ e in absurd cc),
   kinds_known marks m value (n + 1) cs each.1,

@@ -83,7 +83,8 @@ with_step handler method = with_records (on_method 1 async_stepping (Async handl
 
 -- hoisted locals from 2 to 5, none, and from 0 to 9
 abbrev pub with_hoisted : FileValue
-with_hoisted = with_records (on_method 1 hoisted_scopes (Hoisted (Held (record { start = 2; end = 5 }) ∷ Empty ∷ Held (record { start = 0; end = 9 }) ∷ [])) ∷ [])
+with_hoisted =
+    with_records (on_method 1 hoisted_scopes (Hoisted (Held (record { start = 2; end = 5 }) ∷ Empty ∷ Held (record { start = 0; end = 9 }) ∷ [])) ∷ [])
 
 -- 00112233-4455-6677-8899-aabbccddeeff
 abbrev pub strange : List ℕ

@@ -1,7 +1,7 @@
 -- The inputs with a further one that is not refused, and what they come to.
-use Rattle.std.proofs.Common.{◌≡◌, ◌≢◌, ℕ, zero, suc, ◌+◌, ◌<◌, ◌≤◌, Bool, true, false, cond, List, [], ◌∷◌, ◌++◌, Option, Some, None, map, length, take}
+use Rattle.std.proofs.Common.{◌≡◌, ◌≢◌, ℕ, suc, ◌+◌, ◌<◌, ◌≤◌, Bool, true, List, [], ◌∷◌, ◌++◌, Option, Some, None, map, length, take}
 use Rattle.std.proofs.Common.{refl, sym, ◌∙◌, ap, subst, arith}
-use Rattle.std.specs.Prelude.{nat_eq, slice_get, Result, Ok, Err, IfOk}
+use Rattle.std.specs.Prelude.{slice_get, Result, Ok, Err, IfOk}
 use Rattle.std.specs.List.{enumerate_from}
 use Rattle.ppdb_base.specs.declared.merge_error.MergeError.{MergeError}
 use Rattle.ppdb_base.specs.declared.list.Memory.{Memory}
@@ -19,14 +19,13 @@ use Rattle.ppdb_values.specs.Rules.{KeepsRules}
 use Rattle.ppdb_values.specs.Value.{value_of}
 use Rattle.sound_values.specs.Sound.{IsSound}
 use Rattle.ppdb_noted.specs.declared.file.NotedFile.{NotedFile}
-use Rattle.ppdb_noted.specs.Each.{Each, Pairs}
+use Rattle.ppdb_noted.specs.Each.{Pairs}
 use Rattle.ppdb_noted.specs.Laws.{SoundnessIsNoted}
-use Rattle.ppdb_noted.specs.NamedRows.{names_some, in_entry, live_file}
 use Rattle.ppdb_noted.specs.Noted.{noted_file, items_of}
 use Rattle.ppdb_noted.specs.Unnoted.{value_of_noted}
 use Rattle.ppdb_noted.proofs.Lists.{Each-append, Each-map, Each-weaker, Pairs-map}
 use Rattle.named_references.specs.Laws.{ReferencesAreNamed}
-use Rattle.ppdb_joined.specs.Joined.{joined, joined_documents}
+use Rattle.ppdb_joined.specs.Joined.{joined}
 use Rattle.ppdb_joined.specs.Laws.{JoinedIsSound}
 use Rattle.ppdb_moved.specs.Fits.{Fits}
 use Rattle.ppdb_moved.specs.Moved.{moved_file}
@@ -42,7 +41,7 @@ use Rattle.ppdb_merge.specs.Kept.{AreInputs}
 use Rattle.ppdb_merge.specs.Merged.{trace_of, moved_files, is_first}
 use Rattle.ppdb_merge.specs.Refusals.{methods_taken, documents_differ, clashes_before, or_first, refusal_of, added, with_trace}
 use Rattle.ppdb_joined.specs.Small.{AreFew, HasFewRows}
-use Rattle.ppdb_merge.specs.Sound.{SoundTrace, SoundTraces, IsImageIn, AreMethodsApart, HasEntry, documents_in}
+use Rattle.ppdb_merge.specs.Sound.{SoundTrace, SoundTraces, AreMethodsApart, HasEntry, documents_in}
 use Rattle.ppdb_merge.specs.Together.{misfit_of}
 use Rattle.ppdb_merge.proofs.Apart.{all_apart, one_by_name, Pairs-push}
 use Rattle.ppdb_merge.proofs.Counted.{can_be_joined, counts_rows}

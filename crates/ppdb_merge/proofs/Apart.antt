@@ -1,10 +1,9 @@
 -- A further input that does not clash with those before it: what holds of all of them together.
-use Rattle.std.proofs.Common.{◌≡◌, ◌≢◌, ℕ, ◌+◌, ◌||◌, Bool, true, false, cond, List, [], ◌∷◌, ◌++◌, Option, Some, None, map, flat_map, filter, refl, sym, ◌∙◌, ap, subst}
-use Rattle.std.specs.Prelude.{nat_eq, find, bytes_eq, is_some}
+use Rattle.std.proofs.Common.{◌≡◌, ◌≢◌, ℕ, ◌+◌, ◌||◌, Bool, true, false, cond, List, [], ◌∷◌, ◌++◌, Option, Some, None, map, refl, sym, ◌∙◌, ap, subst}
+use Rattle.std.specs.Prelude.{nat_eq, find, bytes_eq}
 use Rattle.std.specs.List.{filter_map, cons_option, enumerate_from, list_any}
 use Rattle.std.specs.Option.{option_map, option_and_then}
 use Rattle.std.proofs.lemmas.Bool.{both_ways, eq-eqb, and_parts}
-use Rattle.ppdb_base.specs.declared.merge_error.MergeError.{MergeError}
 use Rattle.ppdb_base.specs.declared.merge_error.MergeError.TheVariants.{MethodTaken, DocumentConflict}
 use Rattle.ppdb_tables.specs.RawTables.{numbered}
 use Rattle.ppdb_values.specs.declared.file.DocumentValue.{DocumentValue}
@@ -12,7 +11,7 @@ use Rattle.ppdb_noted.specs.Each.{Each, Pairs}
 use Rattle.ppdb_noted.specs.Sorted.{in_order}
 use Rattle.ppdb_noted.proofs.Lists.{Each-weaker, Each-unmap, Each-append, Pairs-weaker}
 use Rattle.ppdb_joined.specs.Joined.{firsts}
-use Rattle.ppdb_joined.proofs.Names.{same_bytes, bytes_same, bytes_apart}
+use Rattle.ppdb_joined.proofs.Names.{same_bytes, bytes_same}
 use Rattle.ppdb_moved.proofs.Elements.{each_made}
 use Rattle.ppdb_references.specs.declared.imaged.Imaged.{Imaged}
 use Rattle.ppdb_merge.specs.declared.trace.Trace.{Trace}
@@ -183,12 +182,15 @@ all_one (d ∷ ds) e pairs first = step (bytes_eq d.name e.name) refl (λ other.
     step : (b : Bool) → bytes_eq d.name e.name ≡ b → (((f : DocumentValue) → find (has_name e.name) ds ≡ Some f → f ≡ e) → Each (λ f. OneByName f e) ds)
         → OneByName d e × Each (λ f. OneByName f e) ds
     step true is rest =
-        let same : d ≡ e = first d (ap (λ b. cond b (Some d) (find (has_name e.name) ds)) is) in
-        ((λ name. same), Each-weaker (OneByName d) (λ f. OneByName f e)
-        (λ f one name. sym (one (ap (λ (x : DocumentValue). x.name) same ∙ sym name)) ∙ same) ds pairs.0)
-    step false is rest =
-        ((λ name. absurd (both_ways (bytes_eq d.name e.name) is (subst (λ n. bytes_eq d.name n ≡ true) name (bytes_same d.name)))),
-        rest (λ f found. first f (ap (λ b. cond b (Some d) (find (has_name e.name) ds)) is ∙ found)))
+        let same : d ≡ e = first d (ap (λ b. cond b (Some d) (find (has_name e.name) ds)) is) in (
+          (λ name. same),
+          Each-weaker (OneByName d) (λ f. OneByName f e)
+              (λ f one name. sym (one (ap (λ (x : DocumentValue). x.name) same ∙ sym name)) ∙ same) ds pairs.0,
+        )
+    step false is rest = (
+      (λ name. absurd (both_ways (bytes_eq d.name e.name) is (subst (λ n. bytes_eq d.name n ≡ true) name (bytes_same d.name)))),
+      rest (λ f found. first f (ap (λ b. cond b (Some d) (find (has_name e.name) ds)) is ∙ found)),
+    )
 
 Pairs-append : {A : Type 0} (R : A → A → Type 0) (xs ys : List A) → Pairs R xs → Pairs R ys → Each (λ x. Each (R x) ys) xs → Pairs R (xs ++ ys)
 Pairs-append R [] ys pairs also across = also

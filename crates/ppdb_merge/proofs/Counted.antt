@@ -1,9 +1,9 @@
 -- Inputs that fit each other can be joined, and the first counts all rows that they name.
 use Rattle.std.proofs.Common.{◌≡◌, ◌≢◌, ℕ, zero, suc, ◌+◌, ◌<◌, ◌≤◌, Bool, true, false, cond, List, [], ◌∷◌, ◌++◌, Option, Some, None, map, flat_map, filter}
-use Rattle.std.proofs.Common.{length, refl, sym, ◌∙◌, ap, subst, arith, inl, inr}
-use Rattle.std.specs.Prelude.{nat_eq, nat_lt, slice_get, slice_index, Contains}
+use Rattle.std.proofs.Common.{refl, sym, ◌∙◌, ap, subst, arith, inl, inr}
+use Rattle.std.specs.Prelude.{nat_eq, slice_index, Contains}
 use Rattle.std.specs.List.{filter_map, enumerate_from, range_with_len}
-use Rattle.std.proofs.lemmas.Bool.{eqb-true, eq-eqb, cases_lt, lt-ltb, both_ways}
+use Rattle.std.proofs.lemmas.Bool.{eqb-true, eq-eqb, cases_lt, lt-ltb}
 use Rattle.ppdb_base.specs.declared.merge_error.MergeError.{MergeError}
 use Rattle.ppdb_base.specs.declared.merge_error.MergeError.TheVariants.{RowsDiffer, ImageRange}
 use Rattle.ppdb_tables.specs.declared.rows.MachineRow.{MachineRow}
@@ -13,7 +13,6 @@ use Rattle.ppdb_values.specs.declared.file.DocumentValue.{DocumentValue}
 use Rattle.ppdb_values.specs.declared.file.MethodValue.{MethodValue}
 use Rattle.ppdb_values.specs.declared.import.ImportScopeValue.{ImportScopeValue}
 use Rattle.ppdb_values.specs.declared.noted.Noted.{Noted}
-use Rattle.sound_values.specs.Sound.{SoundRows}
 use Rattle.ppdb_noted.specs.declared.file.NotedFile.{NotedFile}
 use Rattle.ppdb_noted.specs.declared.file.NotedScope.{NotedScope}
 use Rattle.ppdb_noted.specs.Each.{Each, Pairs}
@@ -24,12 +23,11 @@ use Rattle.ppdb_noted.proofs.Lists.{Each-weaker, Each-map, Each-unmap, Each-appe
 use Rattle.ppdb_joined.specs.Joinable.{AreJoinable, CountsRows, AreApart, AgreeOnDocuments, methods_of}
 use Rattle.ppdb_joined.proofs.Each.{Each-flat}
 use Rattle.ppdb_moved.proofs.Elements.{each_parts, each_made, each_left, in_each}
-use Rattle.ppdb_moved.proofs.Lists.{Each-both}
 use Rattle.ppdb_references.specs.declared.imaged.Imaged.{Imaged}
 use Rattle.ppdb_merge.specs.declared.trace.Trace.{Trace}
 use Rattle.ppdb_merge.specs.Merged.{moved_files}
 use Rattle.ppdb_merge.specs.Refusals.{methods_in}
-use Rattle.ppdb_merge.specs.Sound.{SoundTrace, SoundTraces, IsImageIn, AreMethodsApart, HasEntry, documents_in}
+use Rattle.ppdb_merge.specs.Sound.{SoundTrace, SoundTraces, IsImageIn, AreMethodsApart}
 use Rattle.ppdb_merge.specs.Together.{count_in, differs, rows_differ, above, images_above, misfit_of}
 use Rattle.ppdb_merge.proofs.Apart.{none_made, Each-unnumbered}
 use Rattle.ppdb_merge.proofs.Told.{empty_of, empty_both}
@@ -256,12 +254,14 @@ counts_rows first others sound none =
       rows = sound.each.0.counts;
       entry = entry_there first images.0 sound.entry;
       named = Each-map (λ (t : Trace). t.moved) (λ file. Each (λ named. named.row ≤ slice_index first.moved.rows named.table) (all_named file)) (first ∷ others)
-          (Each-weaker (λ t. SoundTrace t × Each (λ (i : Imaged). i.image ≤ count_in t i.table) t.rows × ((table : ℕ) → count_in t table ≡ count_in first table))
+          (Each-weaker (λ t. SoundTrace t × Each (λ (i : Imaged). i.image ≤ count_in t i.table) t.rows
+          × ((table : ℕ) → count_in t table ≡ count_in first table))
           (λ (t : Trace). Each (λ named. named.row ≤ slice_index first.moved.rows named.table) (all_named t.moved)) all_there (first ∷ others)
           (three (first ∷ others) sound.each images ((λ table. refl), counts)));
     }
   where
-    all_there : (t : Trace) → SoundTrace t × Each (λ (i : Imaged). i.image ≤ count_in t i.table) t.rows × ((table : ℕ) → count_in t table ≡ count_in first table)
+    all_there : (t : Trace) → SoundTrace t × Each (λ (i : Imaged). i.image ≤ count_in t i.table) t.rows
+        × ((table : ℕ) → count_in t table ≡ count_in first table)
         → Each (λ named. named.row ≤ slice_index first.moved.rows named.table) (all_named t.moved)
     all_there t holds =
         Each-weaker (IsImageIn t.rows) (λ named. named.row ≤ slice_index first.moved.rows named.table)

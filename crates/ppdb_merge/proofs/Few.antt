@@ -1,6 +1,6 @@
 -- A moved file has no more rows than the file, and the rows of a file have numbers of three bytes.
-use Rattle.std.proofs.Common.{◌≡◌, ℕ, zero, suc, ◌+◌, ◌<◌, ◌≤◌, Bool, true, false, cond, List, [], ◌∷◌, Option, Some, None, length, map, filter}
-use Rattle.std.proofs.Common.{refl, sym, ◌∙◌, ap, subst, arith}
+use Rattle.std.proofs.Common.{◌≡◌, ℕ, suc, ◌+◌, ◌<◌, ◌≤◌, Bool, true, false, cond, List, [], ◌∷◌, Option, Some, None, length, map, filter}
+use Rattle.std.proofs.Common.{refl, sym, ◌∙◌, ap, arith}
 use Rattle.std.specs.Prelude.{◌==◌, sum_by}
 use Rattle.std.specs.List.{filter_map, cons_option, enumerate_from}
 use Rattle.std.proofs.lemmas.Bool.{eqb-true}
@@ -9,7 +9,6 @@ use Rattle.ppdb_maps.specs.Map.{Map}
 use Rattle.ppdb_tables.specs.RawTables.{HasShape, numbered}
 use Rattle.ppdb_tables.specs.declared.rows.VariableRow.{VariableRow}
 use Rattle.ppdb_tables.specs.declared.rows.ConstantRow.{ConstantRow}
-use Rattle.ppdb_values.specs.declared.noted.Noted.{Noted}
 use Rattle.ppdb_values.specs.declared.scope.ScopeValue.{ScopeValue}
 use Rattle.ppdb_values.specs.declared.file.FileValue.{FileValue}
 use Rattle.ppdb_values.specs.Meaning.{noted_from}
@@ -92,9 +91,9 @@ unfolding hit
 owned_few owner from xs [] = let none = total_none (enumerate_from from xs) in omega (arith, none)
 owned_few {A} {I} owner from xs (i ∷ items) =
     let split = total_same (λ (x : ℕ × A). length (filter (λ item. is_number x.0 (owner item)) (i ∷ items)))
-        (λ (x : ℕ × A). hit (owner i) x.0 + length (filter (λ item. is_number x.0 (owner item)) items)) (λ x. one x) (enumerate_from from xs) in
+    (λ (x : ℕ × A). hit (owner i) x.0 + length (filter (λ item. is_number x.0 (owner item)) items)) (λ x. one x) (enumerate_from from xs) in
     let sums = total_both (λ (x : ℕ × A). hit (owner i) x.0) (λ (x : ℕ × A). length (filter (λ item. is_number x.0 (owner item)) items))
-        (enumerate_from from xs) in
+    (enumerate_from from xs) in
     let once = hits_few (owner i) from xs in
     let rest = owned_few owner from xs items in
     omega (arith, split, sums, once, rest)
@@ -166,7 +165,7 @@ owned_moved m raw of_noted of_value owner items kept noted owned =
     let plain = unnumbered of_value 1 (value_of raw).scopes in
     let of_rows = total_map of_value (scope_of raw.tables) (numbered raw.tables.scopes) in
     let of_owned = total_same (λ x. of_value (scope_of raw.tables x)) (λ x. length (filter (λ item. is_number x.0 (owner item)) (numbered items))) owned
-        (numbered raw.tables.scopes) in
+    (numbered raw.tables.scopes) in
     let few = owned_few owner 1 raw.tables.scopes (numbered items) in
     let many = length_numbered 1 items in
     omega (arith, is, moved, of_file, of_values, plain, of_rows, of_owned, few, many)
@@ -186,17 +185,19 @@ few_rows m raw shape = record {
       let counted = shape.scopes in let small = shape.small 0x32 in omega (arith, moved, noted, numbers, made, rows, counted, small);
   variables =
       let owned = owned_moved m raw (λ s. length s.variables) (λ s. length s.variables)
-          (λ item. owner_of (λ scope. scope.variables) raw.tables.scopes item.0) raw.tables.variables
-          (λ s. length_map (with_item (moved_variable m s.method)) s.variables)
-          (λ x. length_noted (value_of raw) 0x33 (first_item (λ before. length before.variables) (value_of raw) x.0) x.1.variables)
-          (λ x. length_map (λ (item : ℕ × VariableRow). variable_of raw.tables item.1) (owned_by (λ scope. scope.variables) raw.tables.scopes x.0 raw.tables.variables)) in
+      (λ item. owner_of (λ scope. scope.variables) raw.tables.scopes item.0) raw.tables.variables
+      (λ s. length_map (with_item (moved_variable m s.method)) s.variables)
+      (λ x. length_noted (value_of raw) 0x33 (first_item (λ before. length before.variables) (value_of raw) x.0) x.1.variables)
+      (λ x. length_map (λ (item : ℕ × VariableRow). variable_of raw.tables item.1)
+      (owned_by (λ scope. scope.variables) raw.tables.scopes x.0 raw.tables.variables)) in
       let counted = shape.variables in let small = shape.small 0x33 in omega (arith, owned, counted, small);
   constants =
       let owned = owned_moved m raw (λ s. length s.constants) (λ s. length s.constants)
-          (λ item. owner_of (λ scope. scope.constants) raw.tables.scopes item.0) raw.tables.constants
-          (λ s. length_map (with_item (moved_constant m)) s.constants)
-          (λ x. length_noted (value_of raw) 0x34 (first_item (λ before. length before.constants) (value_of raw) x.0) x.1.constants)
-          (λ x. length_map (λ (item : ℕ × ConstantRow). constant_of raw.tables item.1) (owned_by (λ scope. scope.constants) raw.tables.scopes x.0 raw.tables.constants)) in
+      (λ item. owner_of (λ scope. scope.constants) raw.tables.scopes item.0) raw.tables.constants
+      (λ s. length_map (with_item (moved_constant m)) s.constants)
+      (λ x. length_noted (value_of raw) 0x34 (first_item (λ before. length before.constants) (value_of raw) x.0) x.1.constants)
+      (λ x. length_map (λ (item : ℕ × ConstantRow). constant_of raw.tables item.1)
+      (owned_by (λ scope. scope.constants) raw.tables.scopes x.0 raw.tables.constants)) in
       let counted = shape.constants in let small = shape.small 0x34 in omega (arith, owned, counted, small);
   imports =
       let moved = length_map (with_item (moved_import_scope m)) (noted_file (value_of raw)).imports in

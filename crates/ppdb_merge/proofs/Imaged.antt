@@ -1,5 +1,5 @@
 -- The rows that a file names stand among its rows with images.
-use Rattle.std.proofs.Common.{◌≡◌, ℕ, ◌⊎◌, ◌&&◌, Bool, true, false, cond, List, [], ◌∷◌, Option, Some, None, map, refl, sym, ◌∙◌, ap, subst, inl, inr}
+use Rattle.std.proofs.Common.{◌≡◌, ℕ, ◌⊎◌, ◌&&◌, Bool, true, false, cond, List, [], ◌∷◌, Option, Some, None, refl, sym, ◌∙◌, ap, subst, inl, inr}
 use Rattle.std.specs.Prelude.{nat_eq, nat_le, Contains}
 use Rattle.std.specs.List.{filter_map, cons_option, dedup, dedup_from}
 use Rattle.std.specs.Option.{option_map}

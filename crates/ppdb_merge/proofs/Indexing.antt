@@ -1,13 +1,12 @@
 -- The index of inputs, with one further input.
-use Rattle.std.proofs.Common.{◌≡◌, ℕ, suc, ◌+◌, List, [], ◌∷◌, ◌++◌, length, map, flat_map, refl, sym, ◌∙◌, ap, subst, arith}
+use Rattle.std.proofs.Common.{◌≡◌, ℕ, suc, ◌+◌, List, [], ◌∷◌, ◌++◌, length, map, flat_map, sym, ◌∙◌, ap, subst, arith}
 use Rattle.std.specs.List.{enumerate_from}
 use Rattle.std.proofs.lemmas.List.{append-nil, append_assoc}
-use Rattle.ppdb_tables.specs.RawTables.{numbered}
 use Rattle.ppdb_values.specs.declared.file.DocumentValue.{DocumentValue}
 use Rattle.ppdb_noted.specs.declared.file.NotedFile.{NotedFile}
 use Rattle.ppdb_noted.specs.Noted.{items_of}
 use Rattle.ppdb_references.specs.declared.imaged.Imaged.{Imaged}
-use Rattle.ppdb_joined.specs.Joined.{firsts, joined_documents}
+use Rattle.ppdb_joined.specs.Joined.{firsts}
 use Rattle.ppdb_merge.specs.declared.index.Index.{Index}
 use Rattle.ppdb_merge.specs.declared.trace.Trace.{Trace}
 use Rattle.ppdb_merge.specs.Indexes.{Indexes, HoldsMethods, HoldsDocuments, claims_of}

@@ -1,10 +1,10 @@
 -- What holds of the rows of the type system that a moved file names, where it holds of the images of those that the file names.
-use Rattle.std.proofs.Common.{◌≡◌, ℕ, zero, suc, ◌&&◌, ◌||◌, not, Bool, true, false, cond, List, [], ◌∷◌, ◌++◌, Option, Some, None, map, flat_map}
+use Rattle.std.proofs.Common.{◌≡◌, ℕ, zero, suc, ◌&&◌, ◌||◌, not, Bool, true, false, cond, List, [], ◌∷◌, Option, Some, None, map, flat_map}
 use Rattle.std.proofs.Common.{refl, sym, ◌∙◌, ap, subst, arith}
 use Rattle.std.specs.Prelude.{nat_eq, nat_lt}
 use Rattle.std.specs.List.{filter_map}
 use Rattle.std.proofs.lemmas.Bool.{both_ways, ne_eqb}
-use Rattle.ppdb_base.specs.Offsets.{gone, old_size, is_kept_between}
+use Rattle.ppdb_base.specs.Offsets.{gone, old_size}
 use Rattle.sequence_points.specs.declared.point.Point.{Point}
 use Rattle.sequence_points.specs.MovedPoints.{moved_points, first_offset}
 use Rattle.type_blobs.specs.declared.types.TypeToken.{TypeToken}
@@ -34,7 +34,7 @@ use Rattle.ppdb_moved.specs.Moved.{moved_range, is_empty, with_item, moved_token
 use Rattle.ppdb_moved.specs.Moved.{moved_import_scope, with_points, moved_method, scope_image, moved_scope, moved_machine, moved_step, moved_body, moved_custom}
 use Rattle.ppdb_moved.specs.Moved.{moved_file}
 use Rattle.ppdb_moved.proofs.Elements.{each_parts}
-use Rattle.ppdb_moved.proofs.Lists.{Each-filter_map, Each-both}
+use Rattle.ppdb_moved.proofs.Lists.{Each-filter_map}
 use Rattle.ppdb_moved.proofs.NamedParts.{NamedParts}
 
 some_of : {A : Type 0} (a b : A) → Some a ≡ Some b → a ≡ b

@@ -27,7 +27,7 @@ use Rattle.ppdb_merge.specs.declared.documents.Documents.{Documents}
 use Rattle.ppdb_merge.specs.declared.documents.Standing.{Standing}
 use Rattle.ppdb_merge.specs.Indexes.{HoldsDocuments, standing}
 use Rattle.ppdb_merge.specs.Refusals.{conflict, same_contents}
-use Rattle.ppdb_merge.proofs.Looking.{present, absent, some_mapped}
+use Rattle.ppdb_merge.proofs.Looking.{absent, some_mapped}
 
 -- ---- a map with names as keys
 
@@ -167,7 +167,8 @@ added_document all documents after d holds none counted updates =
         ≡ option_map standing (find (λ (e : ℕ × DocumentValue). bytes_eq e.1.name name) (numbered (firsts [] all) ++ (1 + length (firsts [] all), d) ∷ []))
     grown = absent bytes_eq same_bytes (λ (e : ℕ × DocumentValue). e.1.name) standing (λ q. tree.get_by (λ key. names q key.items) documents.by_name)
         (λ q. tree.get_by (λ key. names q key.items) after.by_name) (numbered (firsts [] all)) (1 + length (firsts [] all), d) holds.found none
-        (λ q. updates q ∙ ap (λ n. cond (bytes_eq d.name q) (Some (record { row = n; document = d })) (tree.get_by (λ key. names q key.items) documents.by_name))
+        (λ q. updates q ∙ ap (λ n. cond (bytes_eq d.name q) (Some (record { row = n; document = d }))
+        (tree.get_by (λ key. names q key.items) documents.by_name))
         (sym place))
 
 pub inserted_document : (documents after : Documents) (k : Name) (s : Standing)
@@ -216,7 +217,8 @@ told_of all documents row d holds =
     by (find (λ (e : ℕ × DocumentValue). bytes_eq e.1.name d.name) (numbered all)) ∙ sym (ap (told_by row d) (holds.found d.name))
   where
     by : (o : Option (ℕ × DocumentValue))
-        → option_and_then (λ (e : ℕ × DocumentValue). cond (same_contents e.1 d) None (Some (DocumentConflict row e.0))) o ≡ told_by row d (option_map standing o)
+        → option_and_then (λ (e : ℕ × DocumentValue). cond (same_contents e.1 d) None (Some (DocumentConflict row e.0))) o
+        ≡ told_by row d (option_map standing o)
     by None = refl
     by (Some e) = refl
 

@@ -1,21 +1,19 @@
 -- The methods that inputs name by their images, one further row after the other, and which row is told first.
-use Rattle.std.proofs.Common.{◌≡◌, ◌≢◌, ℕ, zero, suc, ◌+◌, ◌-◌, ◌<◌, ◌≤◌, ◌&&◌, Bool, true, false, cond, List, [], ◌∷◌, ◌++◌, Option, Some, None}
+use Rattle.std.proofs.Common.{◌≡◌, ℕ, zero, suc, ◌+◌, ◌-◌, ◌<◌, ◌≤◌, ◌&&◌, Bool, true, false, cond, List, [], ◌∷◌, ◌++◌, Option, Some, None}
 use Rattle.std.proofs.Common.{map, take, drop, length, refl, sym, ◌∙◌, ap, subst, arith, inl, inr}
-use Rattle.std.specs.Prelude.{nat_eq, nat_lt, nat_le, find, is_some, filter, slice_get, get_or}
+use Rattle.std.specs.Prelude.{nat_eq, find, is_some, filter, slice_get, get_or}
 use Rattle.std.specs.List.{filter_map, cons_option}
-use Rattle.std.specs.Option.{option_map, option_and_then}
+use Rattle.std.specs.Option.{option_and_then}
 use Rattle.std.specs.Ordering.{nat_cmp}
 use Rattle.std.specs.BTreeMap as tree
-use Rattle.std.proofs.lemmas.Bool.{eqb-true, eq-eqb, cases_lt, lt-ltb, le-ltb, le-leb, lt-leb}
+use Rattle.std.proofs.lemmas.Bool.{eqb-true, cases_lt, lt-ltb, le-ltb, le-leb, lt-leb}
 use Rattle.std.proofs.lemmas.List.{append-nil, append_assoc, take_more}
-use Rattle.ppdb_base.specs.declared.merge_error.MergeError.{MergeError}
 use Rattle.ppdb_maps.proofs.Refusing.{at_number}
 use Rattle.ppdb_noted.specs.Sorted.{put, in_order}
 use Rattle.ppdb_noted.proofs.Orders.{in_order_filter}
 use Rattle.ppdb_references.specs.declared.imaged.Imaged.{Imaged}
-use Rattle.ppdb_merge.specs.declared.methods.Claim.{Claim}
 use Rattle.ppdb_merge.specs.declared.methods.Methods.{Methods}
-use Rattle.ppdb_merge.specs.Indexes.{HoldsMethods, claims_of, claim_of, is_taken, before, lesser, least_taken}
+use Rattle.ppdb_merge.specs.Indexes.{HoldsMethods, claims_of, claim_of, before, lesser, least_taken}
 use Rattle.ppdb_merge.specs.Refusals.{methods_in, taken}
 use Rattle.ppdb_merge.proofs.Looking.{present, absent, some_mapped}
 

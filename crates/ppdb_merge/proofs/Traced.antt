@@ -1,21 +1,17 @@
 -- What is kept of an input whose map fits it is sound.
-use Rattle.std.proofs.Common.{◌≡◌, ℕ, zero, suc, ◌+◌, ◌<◌, ◌≤◌, ◌&&◌, Bool, true, false, cond, List, [], ◌∷◌, Option, Some, None, length, map, filter}
+use Rattle.std.proofs.Common.{◌≡◌, ℕ, zero, suc, ◌+◌, ◌≤◌, Bool, true, false, cond, List, [], ◌∷◌, Option, Some, None}
 use Rattle.std.proofs.Common.{refl, sym, ◌∙◌, ap, subst, arith}
-use Rattle.std.specs.Prelude.{nat_eq, IfSome, Contains, slice_index, get_or, unwrap_or, sum_by}
-use Rattle.std.specs.List.{find, filter_map, cons_option, enumerate_from, AllByRecursion}
+use Rattle.std.specs.Prelude.{nat_eq, IfSome, Contains, get_or, unwrap_or}
+use Rattle.std.specs.List.{find, AllByRecursion}
 use Rattle.std.specs.Option.{option_map}
 use Rattle.std.proofs.lemmas.Bool.{eqb-true}
-use Rattle.std.proofs.lemmas.List.Sums.{sum_by-cons}
 use Rattle.ppdb_maps.specs.Map.{Map, row_image, moved_row, is_dropped, count_of, output_count, row_line}
 use Rattle.ppdb_maps.specs.Readable.{IsReadable, IsCount}
 use Rattle.ppdb_maps.specs.declared.entries.Count.{Count}
-use Rattle.ppdb_tables.specs.RawTables.{numbered}
-use Rattle.ppdb_values.specs.declared.file.FileValue.{FileValue}
 use Rattle.ppdb_values.specs.RawFile.{RawFile}
 use Rattle.ppdb_values.specs.Rules.{KeepsRules}
-use Rattle.ppdb_values.specs.Value.{value_of, scope_of}
+use Rattle.ppdb_values.specs.Value.{value_of}
 use Rattle.sound_values.specs.Sound.{IsSound, SoundRows}
-use Rattle.ppdb_noted.specs.declared.file.NotedScope.{NotedScope}
 use Rattle.ppdb_noted.specs.declared.file.NotedFile.{NotedFile}
 use Rattle.ppdb_noted.specs.Each.{Each}
 use Rattle.ppdb_noted.specs.Laws.{SoundnessIsNoted}
@@ -30,11 +26,9 @@ use Rattle.ppdb_moved.proofs.Lists.{each_of_three}
 use Rattle.ppdb_moved.proofs.NamedParts.{NamedParts, named_parts}
 use Rattle.ppdb_moved.proofs.NamedRows.{named_rows_are_rows}
 use Rattle.ppdb_moved.proofs.RowImages.{moved_is_image}
-use Rattle.ppdb_moved.proofs.SoundMoves.{moved_sound}
 use Rattle.kept_meanings.proofs.MoreRows.{sound_moved}
 use Rattle.ppdb_fits.specs.Rows.{imaged_rows}
-use Rattle.ppdb_merge.specs.Merged.{trace_of}
-use Rattle.ppdb_merge.specs.Sound.{SoundTrace, IsImageIn, HasEntry}
+use Rattle.ppdb_merge.specs.Sound.{IsImageIn}
 use Rattle.ppdb_merge.proofs.Imaged.{named_in_rows}
 use Rattle.ppdb_merge.proofs.MovedRows.{some_moves, all_move}
 

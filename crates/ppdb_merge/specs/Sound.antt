@@ -1,5 +1,5 @@
 -- What holds of what is kept of the inputs of a merge.
-use Rattle.std.specs.Prelude.{◌≡◌, ◌≢◌, ℕ, ◌≤◌, List, [], ◌∷◌, Contains, length, flat_map}
+use Rattle.std.specs.Prelude.{◌≡◌, ◌≢◌, ◌≤◌, List, [], ◌∷◌, Contains, length, flat_map}
 use Rattle.ppdb_values.specs.declared.file.DocumentValue.{DocumentValue}
 use Rattle.sound_values.specs.Sound.{SoundRows}
 use Rattle.ppdb_noted.specs.declared.file.NotedFile.{NotedFile}

@@ -1,5 +1,5 @@
 // The methods that inputs name, by their images.
-ghost use Rattle.std.specs.Prelude.{◌≡◌, ℕ, List, [], ◌∷◌, ◌++◌, slice_get, OnOk, option_map};
+ghost use Rattle.std.specs.Prelude.{◌≡◌, ℕ, List, [], ◌∷◌, ◌++◌, slice_get, OnOk};
 ghost use Rattle.std.specs.List.{filter_map};
 ghost use Rattle.ppdb_noted.specs.Sorted.{in_order};
 ghost use Rattle.ppdb_references.specs.declared.imaged.Imaged.{Imaged as image_entry};

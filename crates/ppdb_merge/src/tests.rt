@@ -1,5 +1,5 @@
 // Small files joined by their maps.
-ghost use Rattle.std.specs.Prelude.{◌≡◌, ◌<◌, ◌≤◌, ◌+◌, ◌++◌, length, OnOk, IfOk};
+ghost use Rattle.std.specs.Prelude.{◌≡◌, ◌<◌, ◌+◌, length, OnOk, IfOk};
 
 use crate::Merger;
 use custom_info::Marks;
@@ -51,7 +51,11 @@ fn add(rt: &HostRuntime, merger: &mut Merger, lines: &str) -> Result<Result<(), 
 }
 
 /// What the file of one method comes to, moved by one map and by another.
-fn merged(rt: &HostRuntime, first: &str, second: &str) -> Result<Result<FileValue, MergeError>, Fail> {
+fn merged(
+    rt: &HostRuntime,
+    first: &str,
+    second: &str,
+) -> Result<Result<FileValue, MergeError>, Fail> {
     let mut merger = Merger::new(rt.alloc(), Marks::new(rt.alloc()));
     if let Err(told) = add(rt, &mut merger, first)? {
         return Ok(Err(told));
@@ -111,7 +115,12 @@ fn refusals_are_told(rt: HostRuntime) -> Result<(), Fail> {
 /// The document is one, and the methods stand by their images.
 #[test]
 fn inputs_are_joined(rt: HostRuntime) -> Result<(), Fail> {
-    let Ok(value) = merged(&rt, "ppdbmap 1/rows 06 2/row 06 1 1", "ppdbmap 1/rows 06 2/row 06 1 2")? else {
+    let Ok(value) = merged(
+        &rt,
+        "ppdbmap 1/rows 06 2/row 06 1 1",
+        "ppdbmap 1/rows 06 2/row 06 1 2",
+    )?
+    else {
         return Err(Fail::from("refused"));
     };
     assert_eq!(rt; value.rows[6], 2);

@@ -1,5 +1,5 @@
 // Why the inputs do not fit each other as a whole.
-ghost use Rattle.std.specs.Prelude.{◌≡◌, ◌∷◌, ◌-◌, ◌<◌, ◌≤◌, ◌^◌, length, slice_get};
+ghost use Rattle.std.specs.Prelude.{◌≡◌, ◌∷◌, ◌-◌, ◌<◌, ◌^◌, length, slice_get};
 ghost use Rattle.std.specs.List.{enumerate_from, filter_map};
 ghost use Rattle.ppdb_merge.specs.Together.{above, count_in, differs, images_above, misfit_of, rows_differ};
 

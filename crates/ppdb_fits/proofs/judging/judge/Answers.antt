@@ -9,7 +9,8 @@ use Rattle.ppdb_fits.proofs.judging.judge.Goals as goal
 pub returns-in_err-judge_value-clause-refused : goal.returns-in_err-judge_value-clause-refused
 returns-in_err-judge_value-clause-refused g c =
     let p = err_from_is_err_and c.from_residual.result c.from_residual.ensures.1 in
-    rw (p.1, p.2) (clash_of_value c.args.marks.now c.args.first c.args.map.now (raw_file c.args.file.now) c.args.value.now c.in_err-judge_value.field-0.0 c.requires
+    rw (p.1, p.2) (clash_of_value c.args.marks.now c.args.first c.args.map.now (raw_file c.args.file.now) c.args.value.now c.in_err-judge_value.field-0.0
+    c.requires
     c.in_err-judge_value.ensures)
 
 pub returns-in_err-rows-clause-refused : goal.returns-in_err-rows-clause-refused
@@ -25,7 +26,8 @@ judge_slots-requires g c =
 pub returns-in_err-judge_slots-clause-refused : goal.returns-in_err-judge_slots-clause-refused
 returns-in_err-judge_slots-clause-refused g c =
     let p = err_from_is_err_and c.from_residual-in_err-judge_slots.result c.from_residual-in_err-judge_slots.ensures.1 in
-    rw (p.1, p.2) (clash_of_slots c.args.marks.now c.args.first c.args.map.now (raw_file c.args.file.now) c.args.value.now c.in_err-judge_slots.field-0.0 c.requires
+    rw (p.1, p.2) (clash_of_slots c.args.marks.now c.args.first c.args.map.now (raw_file c.args.file.now) c.args.value.now c.in_err-judge_slots.field-0.0
+    c.requires
     c.in_ok-judge_value.ensures c.in_ok-rows.ensures.told c.in_err-judge_slots.ensures)
 
 pub returns-clause-fits : goal.returns-clause-fits

@@ -7,5 +7,6 @@ pub loop-scope-preserved : goal.loop-scope-preserved
 loop-scope-preserved c =
     c.in_ok-put_for_each.ensures ∙ ap (λ l. c.loop-scope.methods ++ map (λ item. c.scope-item.result.method) l) c.as_slice.ensures
     ∙ ap (λ l. l ++ map (λ item. c.scope-item.result.method) c.scope-item.result.constants) c.loop-scope.invariant
-    ∙ sym (flat_next (λ (s : ScopeValue). map (λ item. s.method) s.constants) c.args.scopes.now c.loop-scope.scope-index c.scope-item.result c.loop-scope-test.true
+    ∙ sym (flat_next (λ (s : ScopeValue). map (λ item. s.method) s.constants) c.args.scopes.now c.loop-scope.scope-index c.scope-item.result
+    c.loop-scope-test.true
     c.scope-item.is)

@@ -1,6 +1,4 @@
-use Rattle.std.proofs.Common.{◌≡◌, ◌+◌, [], take, flat_map}
-use Rattle.std.specs.List.{filter_map}
-use Rattle.ppdb_tables.specs.RawTables.{numbered}
+use Rattle.std.proofs.Common.{◌≡◌, ◌+◌, [], take}
 use Rattle.ppdb_merge.specs.Together.{images_above}
 use Rattle.ppdb_merge.proofs.together.images_above.Given as goal
 

@@ -1,4 +1,4 @@
-use Rattle.std.proofs.Common.{sym, ap, ◌∙◌, ◌++◌, ◌∷◌}
+use Rattle.std.proofs.Common.{sym, ap, ◌∙◌, ◌∷◌}
 use Rattle.std.specs.Prelude.{slice_get}
 use Rattle.ppdb_merge.specs.Together.{rows_differ, images_above, misfit_of}
 use Rattle.ppdb_merge.proofs.Told.{first_told, second_told}

@@ -1,4 +1,4 @@
-use Rattle.std.proofs.Common.{sym, ap, subst, ◌∙◌, ◌+◌, ◌≡◌, cond, Some, true, false}
+use Rattle.std.proofs.Common.{sym, ap, subst, ◌∙◌, ◌≡◌, cond, Some, true, false}
 use Rattle.std.specs.Prelude.{is_some, bytes_eq}
 use Rattle.std.specs.BTreeMap as tree
 use Rattle.std.specs.Cmp.Lexicographic.{slice_cmp}

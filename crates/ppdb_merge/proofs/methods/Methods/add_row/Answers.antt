@@ -1,6 +1,6 @@
 use Rattle.std.proofs.Common.{sym, ◌∙◌}
-use Rattle.std.proofs.lemmas.Bool.{eq-eqb, ne_eqb}
-use Rattle.ppdb_merge.proofs.Taken.{other_row, kept_method, added_method}
+use Rattle.std.proofs.lemmas.Bool.{eq-eqb}
+use Rattle.ppdb_merge.proofs.Taken.{kept_method, added_method}
 use Rattle.ppdb_merge.proofs.methods.Methods.add_row.Goals as goal
 
 pub returns-then-contains_key : goal.returns-then-contains_key

@@ -1,4 +1,4 @@
-use Rattle.std.proofs.Common.{sym, ap, ◌∙◌, ◌≡◌, drop, arith}
+use Rattle.std.proofs.Common.{sym, ap, ◌∙◌, ◌≡◌, arith}
 use Rattle.std.specs.Option.{option_and_then}
 use Rattle.ppdb_merge.specs.Indexes.{lesser}
 use Rattle.ppdb_merge.specs.Refusals.{taken}
