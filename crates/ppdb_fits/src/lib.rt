@@ -7,8 +7,6 @@ mod kinds;
 mod laws;
 mod offsets;
 mod slots;
-#[cfg(test)]
-mod tests;
 mod twice;
 mod used;
 

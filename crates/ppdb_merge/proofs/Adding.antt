@@ -30,7 +30,7 @@ use Rattle.ppdb_joined.specs.Laws.{JoinedIsSound}
 use Rattle.ppdb_moved.specs.Fits.{Fits}
 use Rattle.ppdb_moved.specs.Moved.{moved_file}
 use Rattle.ppdb_moved.proofs.SoundMoves.{moved_sound}
-use Rattle.kept_meanings.specs.Kept.{MovedBy, KeepsMeaning, InputsKeepMeaning}
+use Rattle.kept_meanings.specs.Kept.{MovedBy, InputsFit, joined_inputs}
 use Rattle.ppdb_references.specs.declared.imaged.Imaged.{Imaged}
 use Rattle.ppdb_fits.specs.Clashes.{first_clash}
 use Rattle.ppdb_fits.specs.Rows.{imaged_rows}
@@ -194,9 +194,10 @@ grown traces new t index is holds sound = (
     front [] = refl
     front (x ∷ ts) = ap (λ l. x ∷ l) (front ts)
 
-pub if_kept : (r : Result FileValue Memory) (files : List NotedFile) (traces : List Trace) → IfOk r (λ value. value ≡ value_of_noted (joined files))
-    → files ≡ moved_files traces → InputsKeepMeaning
-    → IfOk r (λ value. (inputs : List MovedBy) → AreInputs traces inputs → KeepsMeaning inputs value)
-if_kept (Err e) files traces is same law = tt
-if_kept (Ok value) files traces is same law = λ inputs are.
-    subst (KeepsMeaning inputs) (sym (is ∙ ap (λ l. value_of_noted (joined l)) (same ∙ are.moved))) (law inputs are.fit)
+pub if_kept : (K : List MovedBy → FileValue → Type 0) (r : Result FileValue Memory) (files : List NotedFile) (traces : List Trace)
+    → IfOk r (λ value. value ≡ value_of_noted (joined files)) → files ≡ moved_files traces
+    → ((inputs : List MovedBy) → InputsFit inputs → K inputs (joined_inputs inputs))
+    → IfOk r (λ value. (inputs : List MovedBy) → AreInputs traces inputs → K inputs value)
+if_kept K (Err e) files traces is same law = tt
+if_kept K (Ok value) files traces is same law = λ inputs are.
+    subst (K inputs) (sym (is ∙ ap (λ l. value_of_noted (joined l)) (same ∙ are.moved))) (law inputs are.fit)

@@ -81,7 +81,7 @@ module _ {A : Type 0} (same : A → A → Bool) where
 -- ---- the rows with their images
 
 abbrev same_row : Imaged → Imaged → Bool
-same_row a b = nat_eq a.table b.table && (nat_eq a.row b.row && nat_eq a.image b.image)
+same_row a b = nat_eq a.table b.table && nat_eq a.row b.row
 
 module _ (first : Bool) (m : Map) (raw : RawFile) where
   abbrev rows : List Imaged
@@ -128,11 +128,12 @@ module _ (first : Bool) (m : Map) (raw : RawFile) where
     where
       other : same_row i stands.0 ≡ true → Contains rows i
       other same =
-          let both = and_parts (nat_eq i.table stands.0.table) (nat_eq i.row stands.0.row && nat_eq i.image stands.0.image) same in
-          let others = and_parts (nat_eq i.row stands.0.row) (nat_eq i.image stands.0.image) both.1 in
+          let both = and_parts (nat_eq i.table stands.0.table) (nat_eq i.row stands.0.row) same in
           let table : i.table ≡ stands.0.table = eqb-true i.table stands.0.table both.0 in
-          let row : i.row ≡ stands.0.row = eqb-true i.row stands.0.row others.0 in
-          let image : stands.0.image ≡ i.image = sym (eqb-true i.image stands.0.image others.1) in
+          let row : i.row ≡ stands.0.row = eqb-true i.row stands.0.row both.1 in
+          let there : row_image m stands.0.table stands.0.row ≡ Some i.image = subst (λ t. row_image m t stands.0.row ≡ Some i.image) table
+              (subst (λ r. row_image m i.table r ≡ Some i.image) row has) in
+          let image : stands.0.image ≡ i.image = some_of stands.0.image i.image (sym stands.1.1 ∙ there) in
           subst (λ t. Contains rows (record { table = t; row = i.row; image = i.image })) (sym table)
           (subst (λ r. Contains rows (record { table = stands.0.table; row = r; image = i.image })) (sym row)
           (subst (λ n. Contains rows (record { table = stands.0.table; row = stands.0.row; image = n })) image stands.1.0))

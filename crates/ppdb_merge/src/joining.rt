@@ -1,6 +1,7 @@
 // The inputs joined.
 ghost use Rattle.std.specs.Prelude.{◌≡◌, ◌≢◌, [], None, List, IfOk};
 ghost use Rattle.kept_meanings.specs.Kept.{MovedBy, KeepsMeaning};
+ghost use Rattle.kept_meanings.specs.Origins.{KeepsOrigins};
 ghost use Rattle.ppdb_noted.specs.Unnoted.{value_of_noted};
 ghost use Rattle.ppdb_joined.specs.Joined.{joined};
 ghost use Rattle.sound_values.specs.Sound.{IsSound};
@@ -10,7 +11,7 @@ ghost use Rattle.ppdb_merge.specs.Sound.{SoundTraces};
 ghost use Rattle.ppdb_merge.specs.Together.{misfit_of};
 
 use crate::trace::Trace;
-use kept_meanings::inputs_keep_meaning;
+use kept_meanings::{inputs_keep_meaning, inputs_keep_origins};
 use ppdb_base::{List, Memory};
 use ppdb_joined::{few_files_have_room, joined_is_sound, joined_value};
 use ppdb_noted::{NotedFile, soundness_is_noted};
@@ -36,10 +37,12 @@ pub(crate) fn join_traces(alloc: Global, traces: List<Trace>) -> Result<FileValu
     ensures joined { IfOk result (λ value. value ≡ value_of_noted (joined (moved_files traces))) }
     ensures sound { IfOk result IsSound }
     ensures kept { IfOk result (λ value. (inputs : List MovedBy) → AreInputs traces inputs → KeepsMeaning inputs value) }
+    ensures origins { IfOk result (λ value. (inputs : List MovedBy) → AreInputs traces inputs → KeepsOrigins inputs value) }
 {
     few_files_have_room();
     joined_is_sound();
     soundness_is_noted();
     inputs_keep_meaning();
+    inputs_keep_origins();
     joined_value(alloc, moved_files(alloc, traces)?)
 }

@@ -9,8 +9,6 @@ mod laws;
 mod merger;
 mod methods;
 mod reading;
-#[cfg(test)]
-mod tests;
 mod together;
 mod trace;
 

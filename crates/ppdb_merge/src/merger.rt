@@ -1,6 +1,7 @@
 // Inputs that are moved by their maps and joined, one after the other.
 ghost use Rattle.std.specs.Prelude.{◌≡◌, ◌≤◌, ◌<◌, ◌⊎◌, [], Some, None, Ok, Err, OnOk, OnErr, IfOk, IfErr, List, length};
 ghost use Rattle.kept_meanings.specs.Kept.{MovedBy, KeepsMeaning};
+ghost use Rattle.kept_meanings.specs.Origins.{KeepsOrigins};
 ghost use Rattle.ppdb_base.specs.declared.merge_error.MergeError.TheVariants as merge_errors;
 ghost use Rattle.ppdb_verify.specs.Views.{raw_file};
 ghost use Rattle.sound_values.specs.Sound.{IsSound};
@@ -95,6 +96,7 @@ impl Merger {
         ensures joined { IfOk result (λ value. joined_of self.traces ≡ Ok value) }
         ensures sound { IfOk result IsSound }
         ensures kept { IfOk result (λ value. (inputs : List MovedBy) → AreInputs self.traces inputs → KeepsMeaning inputs value) }
+        ensures origins { IfOk result (λ value. (inputs : List MovedBy) → AreInputs self.traces inputs → KeepsOrigins inputs value) }
         ensures fits { OnOk result (misfit_of self.traces ≡ None) }
         ensures refused { IfErr result (λ e. (e ≡ merge_errors.Memory) ⊎ (misfit_of self.traces ≡ Some e)) }
     {

@@ -1,4 +1,6 @@
 use Rattle.std.proofs.Common.{sym, subst, ◌∙◌}
+use Rattle.kept_meanings.specs.Kept.{KeepsMeaning}
+use Rattle.kept_meanings.specs.Origins.{KeepsOrigins}
 use Rattle.ppdb_joined.specs.Joinable.{AreJoinable}
 use Rattle.ppdb_joined.specs.Small.{HaveRoom}
 use Rattle.ppdb_merge.proofs.Adding.{have_few, joined_sound, some_files, if_sound, if_kept}
@@ -22,4 +24,10 @@ returns-clause-sound c =
 
 pub returns-clause-kept : goal.returns-clause-kept
 returns-clause-kept c =
-    if_kept c.joined_value.result c.in_ok-moved_files.field-0 c.args.traces c.joined_value.ensures c.in_ok-moved_files.ensures c.inputs_keep_meaning.ensures
+    if_kept KeepsMeaning c.joined_value.result c.in_ok-moved_files.field-0 c.args.traces c.joined_value.ensures c.in_ok-moved_files.ensures
+    c.inputs_keep_meaning.ensures
+
+pub returns-clause-origins : goal.returns-clause-origins
+returns-clause-origins c =
+    if_kept KeepsOrigins c.joined_value.result c.in_ok-moved_files.field-0 c.args.traces c.joined_value.ensures c.in_ok-moved_files.ensures
+    c.inputs_keep_origins.ensures
