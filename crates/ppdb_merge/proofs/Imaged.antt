@@ -132,7 +132,7 @@ module _ (first : Bool) (m : Map) (raw : RawFile) where
           let table : i.table ≡ stands.0.table = eqb-true i.table stands.0.table both.0 in
           let row : i.row ≡ stands.0.row = eqb-true i.row stands.0.row both.1 in
           let there : row_image m stands.0.table stands.0.row ≡ Some i.image = subst (λ t. row_image m t stands.0.row ≡ Some i.image) table
-              (subst (λ r. row_image m i.table r ≡ Some i.image) row has) in
+          (subst (λ r. row_image m i.table r ≡ Some i.image) row has) in
           let image : stands.0.image ≡ i.image = some_of stands.0.image i.image (sym stands.1.1 ∙ there) in
           subst (λ t. Contains rows (record { table = t; row = i.row; image = i.image })) (sym table)
           (subst (λ r. Contains rows (record { table = stands.0.table; row = r; image = i.image })) (sym row)
