@@ -1,0 +1,3 @@
+pub mod Merged
+pub mod Refusals
+pub mod Together
