@@ -3,3 +3,5 @@ pub mod Limits
 pub mod Counted
 pub mod Writable
 pub mod Written
+pub mod Finished
+pub mod Told

@@ -31,6 +31,16 @@ one_more None None (Some x) d = refl
 one_more None None None (Some x) = refl
 one_more None None None None = refl
 
+-- where neither the first nor the last is met
+pub lists_alone : (a b c d : Option Limit) → a ≡ None → d ≡ None → first_met (a ∷ b ∷ c ∷ d ∷ []) ≡ option_or b c
+lists_alone a b c d first last =
+    ap (λ o. first_met (o ∷ b ∷ c ∷ d ∷ [])) first ∙ ap (λ o. first_met (None ∷ b ∷ c ∷ o ∷ [])) last ∙ by b c
+  where
+    by : (b c : Option Limit) → first_met (None ∷ b ∷ c ∷ None ∷ []) ≡ option_or b c
+    by (Some x) c = refl
+    by None (Some x) = refl
+    by None None = refl
+
 -- L4, and L5 and L6 behind it
 abbrev pub step_of : FileValue → Option Limit
 step_of value = first_of (filter_map large_step_of value.methods)

@@ -1,10 +1,11 @@
 -- Why a file is not written, and what of a value can be.
-use Rattle.std.specs.Prelude.{◌≡◌, ◌≤◌, [], ◌∷◌, fold, length, Option, Some, All}
+use Rattle.std.specs.Prelude.{◌≡◌, ◌≤◌, [], ◌∷◌, fold, length, take, Option, Some, None, All}
 use Rattle.std.specs.List.{filter_map}
 use Rattle.sequence_points.specs.Written.{CanBeWritten, first_of}
 use Rattle.type_blobs.specs.Types.{IsToken}
 use Rattle.type_blobs.specs.Spelling.{IsBody}
 use Rattle.ppdb_base.specs.declared.limits.Limit.{Limit}
+use Rattle.ppdb_tables.specs.declared.head.PdbHead.{PdbHead}
 use Rattle.ppdb_values.specs.declared.file.FileValue.{FileValue}
 use Rattle.ppdb_values.specs.declared.file.MethodValue.{MethodValue}
 use Rattle.ppdb_values.specs.declared.scope.ScopeValue.{ScopeValue}
@@ -12,9 +13,12 @@ use Rattle.ppdb_values.specs.declared.scope.ConstantValue.{ConstantValue}
 use Rattle.ppdb_values.specs.declared.import.ImportScopeValue.{ImportScopeValue}
 use Rattle.ppdb_values.specs.declared.custom.CustomValue.{CustomValue}
 use Rattle.sound_values.specs.Scopes.{stored_body}
+use Rattle.ppdb_values.specs.Types.{HasTypes}
+use Rattle.sound_values.specs.Sound.{IsSound}
 use Rattle.sound_values.specs.Writing.{HasSpelling, IsWritable}
-use Rattle.ppdb_canon.specs.Limits.{first_met, too_many_rows, tables, list_past_end, large_offset, first_limit}
+use Rattle.ppdb_canon.specs.Limits.{first_met, too_many_rows, tables, list_past_end, large_offset, large_step_of, first_limit}
 use Rattle.file_drafting.specs.Draft.{Draft, with_scope, with_constants, with_import, with_machine, with_custom}
+use Rattle.file_drafting.specs.Drafted.{IsDraftOf}
 use Rattle.ppdb_build.specs.declared.error.BuildError.{BuildError}
 use Rattle.ppdb_build.specs.declared.error.BuildError.TheVariants.{Limit as Passed, Memory}
 
@@ -62,3 +66,21 @@ abbrev pub after_methods : Draft → FileValue → Draft
 after_methods draft value =
     fold with_custom (fold with_machine (fold with_import (fold with_constants (fold with_scope draft value.scopes) value.scopes) value.imports)
     value.machines) value.customs
+
+-- ---- what a file is laid out from
+
+-- The head and the draft of a sound value that passes none of L1 to L4.
+pub record IsDraftedFrom (value : FileValue) (head : PdbHead) (draft : Draft) : Type 0 where
+  pub sound : IsSound value
+  pub types : HasTypes value
+  pub early : early_limit_of value ≡ None
+  pub steps : first_of (filter_map large_step_of value.methods) ≡ None
+  pub id : head.id ≡ value.id
+  pub entry : head.entry ≡ value.entry
+  pub rows : take 0x2d head.rows ≡ take 0x2d value.rows
+  pub is_draft : IsDraftOf value draft
+
+-- they are those of some value
+pub record HasValue (head : PdbHead) (draft : Draft) : Type 0 where
+  pub value : FileValue
+  pub is : IsDraftedFrom value head draft

@@ -2,6 +2,7 @@
 #![tactic(auto)]
 
 mod error;
+mod finish;
 mod parts;
 mod rebuilding;
 #[cfg(test)]

@@ -1,25 +1,61 @@
 // A verified file as the one file that says the same.
-ghost use Rattle.std.specs.Prelude.{◌≡◌, None, OnOk, IfOk, IfErr};
+ghost use Rattle.std.specs.Prelude.{◌≡◌, None, OnOk, IfOk, IfErr, length};
 ghost use Rattle.ppdb_base.specs.First.{IsAccepted};
 ghost use Rattle.ppdb_values.specs.Value.{value_of as value_in};
 ghost use Rattle.ppdb_verify.specs.Files.{BadFile, IsRawOf};
 ghost use Rattle.ppdb_values.specs.RawFile.{RawFile};
-ghost use Rattle.ppdb_verify.specs.Views.{raw_file};
+ghost use Rattle.ppdb_verify.specs.Views.{head_of, raw_file};
 ghost use Rattle.ppdb_canon.specs.Canon.{canon, chosen_id, with_id};
 ghost use Rattle.ppdb_canon.specs.Limits.{first_limit};
 ghost use Rattle.written_files.specs.Written.{IsSameAgain, Says};
-ghost use Rattle.ppdb_build.specs.Building.{IsLimitOf};
+ghost use Rattle.file_drafting.specs.Drafted.{IsDraftOf};
+ghost use Rattle.ppdb_values.specs.Types.{HasTypes};
+ghost use Rattle.ppdb_build.specs.Building.{IsLimitOf, IsDraftedFrom, early_limit_of};
 
 use crate::error::BuildError;
-use crate::write::write_file;
-use ppdb_base::{Bytes, Steps};
+use crate::finish::file_of_draft;
+use file_drafting::Drafting;
+use ppdb_base::{Bytes, Limit, Steps};
 use ppdb_canon::IdChoice;
+use ppdb_tables::PdbHead;
 use ppdb_verify::Verified;
+use row_drafting::{draft_of_file, files_pass_no_early_limit, list_limit};
 use std::alloc::Global;
 use std::sync::ledger::Ledger;
-use value_reading::value_of;
 
-/// The one file that says what a verified file says, with the identity that is chosen.
+/// A head has 64 row counts.
+fn rows_are_long(head: &PdbHead)
+    ensures { length head.now.rows ≡ 64 }
+{
+    let _rows: &[u32] = &head.rows;
+}
+
+/// The head and the draft of a file whose lists pass no limit are those of its value.
+fn is_drafted(file: &Verified<'_>, head: &PdbHead, draft: &Drafting)
+    requires head { head.now ≡ head_of file.now }
+    requires draft { IsDraftOf (value_in (raw_file file.now)) draft.now }
+    requires types { HasTypes (value_in (raw_file file.now)) }
+    requires early { early_limit_of (value_in (raw_file file.now)) ≡ None }
+    ensures { IsDraftedFrom (value_in (raw_file file.now)) head.now draft.now }
+{
+    file.keeps();
+    files_pass_no_early_limit();
+    file.head();
+    rows_are_long(head);
+}
+
+/// L1 to L3, of which a file can only pass L2.
+fn early_limit_in(file: &Verified<'_>, draft: &Drafting) -> Option<Limit>
+    requires { IsDraftOf (value_in (raw_file file.now)) draft.now }
+    ensures { result ≡ early_limit_of (value_in (raw_file file.now)) }
+{
+    file.keeps();
+    files_pass_no_early_limit();
+    list_limit(draft)
+}
+
+/// The one file that says what a verified file says, with the identity that is chosen. Its rows are read once each, and no value of it
+/// is made.
 ///
 /// # Errors
 ///
@@ -37,8 +73,14 @@ pub fn rebuild<L: Ledger>(
     ensures reread { IfOk result (λ bytes. Says bytes (with_id (value_in (raw_file file.now)) (chosen_id (value_in (raw_file file.now)) id))) }
     ensures again { IfOk result (λ bytes. (again : RawFile) → IsRawOf bytes again → IsSameAgain (value_in (raw_file file.now)) id again) }
 {
-    let value = value_of(alloc, file, steps)?;
-    match write_file(alloc, &value, id) {
+    let draft = draft_of_file(alloc, file, steps)?;
+    match early_limit_in(file, &draft) {
+        Some(limit) => return Err(BuildError::Limit(limit)),
+        None => {}
+    }
+    let head = file.head();
+    is_drafted(file, head, &draft);
+    match file_of_draft(alloc, head, &draft, id) {
         Ok(bytes) => Ok(bytes),
         Err(error) => Err(error),
     }

@@ -1,10 +1,26 @@
-use Rattle.std.proofs.Common.{subst}
-use Rattle.ppdb_values.specs.RawFile.{RawFile}
-use Rattle.ppdb_verify.specs.Files.{IsRawOf}
-use Rattle.written_files.specs.Written.{IsSameAgain}
+use Rattle.std.proofs.Common.{sym}
+use Rattle.ppdb_values.specs.Value.{value_of}
+use Rattle.ppdb_verify.specs.Views.{raw_file}
+use Rattle.ppdb_build.proofs.Limits.{early_first}
 use Rattle.ppdb_build.proofs.rebuilding.rebuild.Goals as goal
 
+pub returns-in-Some-clause-limit : goal.returns-in-Some-clause-limit
+returns-in-Some-clause-limit g c = early_first (value_of (raw_file c.args.file.now)) c.in-Some.limit (sym c.in-Some.ensures)
+
+pub file_of_draft-requires : goal.file_of_draft-requires
+file_of_draft-requires g c = record { value = value_of (raw_file c.args.file.now); is = c.is_drafted.ensures }
+
+pub returns-clause-limit : goal.returns-clause-limit
+returns-clause-limit g c = c.in-Err.ensures.limit (value_of (raw_file c.args.file.now)) c.is_drafted.ensures
+
+pub returns-in-Ok-clause-written : goal.returns-in-Ok-clause-written
+returns-in-Ok-clause-written g c = c.in-Ok.ensures.written (value_of (raw_file c.args.file.now)) c.is_drafted.ensures
+
+pub returns-in-Ok-clause-within : goal.returns-in-Ok-clause-within
+returns-in-Ok-clause-within g c = c.in-Ok.ensures.within (value_of (raw_file c.args.file.now)) c.is_drafted.ensures
+
+pub returns-in-Ok-clause-reread : goal.returns-in-Ok-clause-reread
+returns-in-Ok-clause-reread g c = c.in-Ok.ensures.reread (value_of (raw_file c.args.file.now)) c.is_drafted.ensures
+
 pub returns-in-Ok-clause-again : goal.returns-in-Ok-clause-again
-returns-in-Ok-clause-again g c =
-    subst (λ value. (again : RawFile) → IsRawOf c.in-Ok.bytes again → IsSameAgain value c.args.id again)
-    c.in_ok-value.ensures.value c.in-Ok.ensures.again
+returns-in-Ok-clause-again g c = c.in-Ok.ensures.again (value_of (raw_file c.args.file.now)) c.is_drafted.ensures
