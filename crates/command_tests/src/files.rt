@@ -29,6 +29,11 @@ pub const NOTHING: Parts<'static> = Parts {
     blobs: b"\0",
 };
 
+/// A GUID that is no known kind of custom debug information, as its bytes stand in a file.
+pub const FREE_KIND: [u8; 16] = [
+    0x33, 0x22, 0x11, 0x00, 0x55, 0x44, 0x77, 0x66, 0x88, 0x99, 0xaa, 0xbb, 0xcc, 0xdd, 0xee, 0xff,
+];
+
 /// The file of these parts.
 pub fn file_of(alloc: Global, parts: Parts<'_>) -> Result<Vec<u8>, AllocError> {
     let pdb = pdb_stream(alloc, parts)?;

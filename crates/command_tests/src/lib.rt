@@ -14,6 +14,8 @@ mod links;
 #[cfg(test)]
 mod query;
 #[cfg(test)]
+mod rebuild;
+#[cfg(test)]
 mod rules;
 #[cfg(test)]
 mod running;

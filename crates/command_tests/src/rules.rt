@@ -1,5 +1,5 @@
 // Rules of the rows, over files of a few rows.
-use crate::files::{NOTHING, Parts, count_of, file_of};
+use crate::files::{FREE_KIND, NOTHING, Parts, count_of, file_of};
 use crate::running::verifies;
 use std::alloc::{AllocError, Global};
 use std::test::Fail;
@@ -10,11 +10,6 @@ const ONE_METHOD: Parts<'static> = Parts {
     referenced_rows: b"\x01\0\0\0",
     ..NOTHING
 };
-
-/// A GUID that is no known kind of custom debug information, as its bytes stand in a file.
-const FREE_KIND: [u8; 16] = [
-    0x33, 0x22, 0x11, 0x00, 0x55, 0x44, 0x77, 0x66, 0x88, 0x99, 0xaa, 0xbb, 0xcc, 0xdd, 0xee, 0xff,
-];
 
 // Two documents of one name: in parts at each slash, and as one part.
 #[test]
