@@ -11,6 +11,7 @@ ghost use Rattle.ppdb_run.specs.Words.{Task, Words, NoTask, texts};
 
 use crate::answer::answer;
 use crate::compose::compose;
+use crate::merge::merge;
 use crate::rebuild::rebuild;
 use crate::status::Status;
 use crate::stop::Stop;
@@ -128,6 +129,9 @@ fn carry_out<'a, F: Folder, O: Sink, K: Ledger, L: Ledger>(
             }
             Asked::Compose(first, second, output) => {
                 compose(alloc, first, second, output, folder)
+            }
+            Asked::Merge(inputs, output, options) => {
+                merge(alloc, inputs, output, options, folder, checks, steps)
             }
         },
         Err(Usage) => Err(Stop::Usage),
