@@ -249,10 +249,12 @@ next_is files names after i before mid reads input name e m (inl (n, r)) =
     let at = at_front names i input.file input.map_file after e in
     (named_at names i name (rw n at.0), λ small. let k : reads - before ≡ i = omega (arith, r, small, m (omega (arith, r, small))) in rw (k, n) at.0)
 next_is files names after i before mid reads input name e m (inr (n, r, read)) =
-    let at = at_front names i input.file input.map_file after e in
-    (named_at names (suc i) name (rw n at.1), λ small.
-    let s = below_last mid reads r small in
-    let k : reads - before ≡ suc i = omega (arith, s, small, m (omega (arith, s, small))) in rw (k, n) at.1)
+    let at = at_front names i input.file input.map_file after e in (
+      named_at names (suc i) name (rw n at.1),
+      λ small.
+          let s = below_last mid reads r small in
+          let k : reads - before ≡ suc i = omega (arith, s, small, m (omega (arith, s, small))) in rw (k, n) at.1,
+    )
 
 -- ---- the file that was to be read
 
