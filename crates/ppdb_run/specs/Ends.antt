@@ -11,7 +11,7 @@ use Rattle.ppdb_run.specs.Lines.{read_fault_line, write_fault_line}
 use Rattle.ppdb_run.specs.Outcome.{Outcome, IsOutcome, file_at, map_at, unknown_kind, verified, with_input, written}
 use Rattle.ppdb_merge.specs.declared.trace.Trace.{Trace}
 use Rattle.ppdb_run.specs.Status.{UnlessFault}
-use Rattle.ppdb_run.specs.Words.{Question, Id, Verify, Query, Links, Breaks, Options, Task, Ask, Rebuild, Compose, Merge, Input, Words, NoTask, read_files, written_file}
+use Rattle.ppdb_run.specs.Words.{Question, Id, Verify, Query, Links, Breaks, Options, Task, Ask, Rebuild, Compose, Merge, Sample, Input, Words, NoTask, read_files, written_file}
 use Rattle.ppdb_run.specs.Writes.{WritesAll, WritesFront}
 use Rattle.ppdb_maps.specs.Map.{Map}
 use Rattle.ppdb_maps.specs.Text.{IsMapOf}
@@ -29,13 +29,14 @@ abbrev pub Asks : List (List ℕ) → Option Task → Type 0
 Asks words (Some task) = Words task words
 Asks words None = NoTask words
 
--- what is asked for has to do with no file, so that its outcome is the same over all files: each task reads one
+-- what is asked for has to do with no file, so that its outcome is the same over all files
 abbrev pub IsApart : Option Task → Type 0
 IsApart None = Unit {0}
 IsApart (Some (Ask question file)) = ⊥
 IsApart (Some (Rebuild input output options)) = ⊥
 IsApart (Some (Compose first second output)) = ⊥
 IsApart (Some (Merge inputs output options)) = ⊥
+IsApart (Some (Sample n)) = Unit {0}
 
 -- the files that an outcome is over: those that the folder tells; where it tells none, any, if the task has to do with no file
 abbrev pub AreSeen : Option Task → Option Files → Files → Type 0
@@ -77,6 +78,7 @@ ComesToRead (Ask question file) files read = read ≡ 0
 ComesToRead (Rebuild input output options) files read = read ≡ 0
 ComesToRead (Compose first second output) files read = (read ≡ 0) ⊎ ((read ≡ 1) × ((m : Map) × map_at files first (Ok m)))
 ComesToRead (Merge inputs output options) files read = ComesToInput files options.marks [] inputs read
+ComesToRead (Sample n) files read = ⊥
 
 -- this file of the task was to be read, after so many reads that gave a file
 pub record IsUnreadOf (task : Task) (files : Option Files) (before after : ℕ) (name : List ℕ) : Type 0 where
@@ -200,6 +202,7 @@ NeedsNoRows (Ask question file) = ReadsNoRows question
 NeedsNoRows (Rebuild input output options) = ⊥
 NeedsNoRows (Compose first second output) = Unit {0}
 NeedsNoRows (Merge inputs output options) = ⊥
+NeedsNoRows (Sample n) = ⊥
 
 -- so many rows were counted before the answer and after it: to a query, of links and of breaks no more than its bound
 abbrev pub IsWithinBound : Question → RawFile → ℕ → ℕ → Type 0
@@ -215,6 +218,7 @@ OnRead (Ask question file) files P = IfSome files (λ all. (raw : RawFile) → v
 OnRead (Rebuild input output options) files P = Unit {0}
 OnRead (Compose first second output) files P = Unit {0}
 OnRead (Merge inputs output options) files P = Unit {0}
+OnRead (Sample n) files P = Unit {0}
 
 -- so many rows were counted before the task and after it: it reads none that it has no need of, and no more than its bound
 pub record IsWithinRows (task : Task) (files : Option Files) (before after : ℕ) : Type 0 where
