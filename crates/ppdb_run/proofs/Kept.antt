@@ -144,7 +144,7 @@ pub is_first_map : (first second output : List ℕ) (files : Option Files) (befo
 is_first_map first second output files before after name e same =
     first_unread (Compose first second output) first files before after name (0, omega arith, refl) refl (λ all. inl refl) e same
 
-one_more : (before after : ℕ) → after ≡ counted before → after < 18446744073709551615 → after - before ≡ 1
+pub one_more : (before after : ℕ) → after ≡ counted before → after < 18446744073709551615 → after - before ≡ 1
 one_more before after is below = of (before == 18446744073709551615) refl
   where
     of : (b : Bool) → (before == 18446744073709551615) ≡ b → after - before ≡ 1

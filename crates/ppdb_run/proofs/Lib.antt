@@ -7,6 +7,9 @@ pub mod Kept
 pub mod Numbers
 pub mod OneTask
 pub mod Outcomes
+pub mod Merges
+pub mod Merging
+pub mod PairWords
 pub mod Rebuilds
 pub mod BreakTexts
 pub mod Total

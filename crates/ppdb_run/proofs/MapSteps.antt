@@ -21,7 +21,7 @@ use Rattle.ppdb_run.proofs.Steps.{GivesOne, is_one, one_given, one_then}
 -- ---- one thing
 
 -- a text has one map or one refused line
-one_text : (name text : List ℕ) → GivesOne (λ x y. x ≡ y) (map_in name text)
+pub one_text : (name text : List ℕ) → GivesOne (λ x y. x ≡ y) (map_in name text)
 one_text name text (Ok f) (Ok g) h k = texts_have_one_map text f g h k
 one_text name text (Ok f) (Err b) h k = refusals_are_one.apart text f k.0 k.1 h k.2
 one_text name text (Err a) (Ok g) h k = refusals_are_one.apart text g h.0 h.1 k h.2

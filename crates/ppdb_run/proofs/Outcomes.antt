@@ -1,5 +1,5 @@
 -- A task has one outcome over the files.
-use Rattle.std.proofs.Common.{ℕ, ◌≡◌, inl, inr, List, refl, sym, ◌∙◌, ap, subst, arith}
+use Rattle.std.proofs.Common.{ℕ, ◌≡◌, inl, inr, List, [], ◌∷◌, refl, sym, ◌∙◌, ap, subst, arith}
 use Rattle.std.specs.Prelude.{Option, Some, None, Result, Ok, Err, IfSome}
 use Rattle.ppdb_base.specs.declared.code.Code.{Code}
 use Rattle.ppdb_base.specs.declared.fault.Place.{Place}
@@ -10,16 +10,20 @@ use Rattle.ppdb_base.proofs.Judging.{one_first, first_not_accepted}
 use Rattle.ppdb_run.specs.declared.stop.Stop.{Stop}
 use Rattle.ppdb_run.specs.Ends.{Asks, AreSeen, OnDue, OnOutcome, OnTask, OnRead, IsWithinBound, IsWithinRows}
 use Rattle.ppdb_run.specs.Outcome.{Outcome, Step, ◌>>=◌, gives, judged, refused, file_at, input_of, verified, answer_of, rebuilt, outcome_of}
+use Rattle.ppdb_run.specs.Outcome.{all_joined, fitting, in_limits, map_in, with_input, with_inputs, with_texts}
+use Rattle.ppdb_merge.specs.declared.trace.Trace.{Trace}
+use Rattle.ppdb_merge.specs.Refusals.{added}
+use Rattle.ppdb_merge.specs.Together.{joined_of}
 use Rattle.ppdb_run.specs.Outcome.{steps_of, IsOutcome}
 use Rattle.ppdb_run.specs.Stops.{cause_of, Gives, Settles, Finds, refusal_of}
-use Rattle.ppdb_run.specs.Words.{Question, Id, Verify, Show, Query, Links, Breaks, Task, Ask, Rebuild, Compose, Words}
+use Rattle.ppdb_run.specs.Words.{Question, Id, Verify, Show, Query, Links, Breaks, Options, Task, Ask, Rebuild, Compose, Merge, Input, Words}
 use Rattle.ppdb_values.specs.RawFile.{RawFile}
 use Rattle.ppdb_values.specs.Value.{value_of}
 use Rattle.ppdb_verify.specs.Files.{BadFile, IsRawOf, raw_in}
 use Rattle.ppdb_verify.proofs.Streamed.{same_streams}
-use Rattle.ppdb_run.proofs.MapSteps.{one_composed}
+use Rattle.ppdb_run.proofs.MapSteps.{one_composed, one_text}
 use Rattle.ppdb_run.proofs.OneTask.{one_task}
-use Rattle.ppdb_run.proofs.Steps.{GivesOne, gives_stop, one_next, one_given, one_then}
+use Rattle.ppdb_run.proofs.Steps.{GivesOne, gives_stop, is_one, one_next, one_given, one_then}
 
 -- ---- a file that is verified is one thing
 
@@ -45,6 +49,38 @@ one_verified files file =
     one_then (file_at files file) (judged_file file) (one_given (input_of file (reading files file MAX_FILE_BYTES)))
     (λ x. one_judged file (BadFile x) (IsRawOf x) (λ a b. a ≡ b) (one_raw x))
 
+-- ---- so are inputs
+
+one_texts : (marks : List (List ℕ)) (traces : List Trace) (input : Input) (bytes text : List ℕ)
+    → GivesOne (λ x y. x ≡ y) (with_texts marks traces input bytes text)
+one_texts marks traces input bytes text =
+    one_then (judged_file input.file bytes) (λ raw. map_in input.map_file text >>= λ m. gives (fitting input.file (added marks traces m raw)))
+    (one_judged input.file (BadFile bytes) (IsRawOf bytes) (λ a b. a ≡ b) (one_raw bytes))
+    (λ raw. one_then (map_in input.map_file text) (λ m. gives (fitting input.file (added marks traces m raw))) (one_text input.map_file text)
+    (λ m. one_given (fitting input.file (added marks traces m raw))))
+
+one_input : (files : Files) (marks : List (List ℕ)) (traces : List Trace) (input : Input) → GivesOne (λ x y. x ≡ y) (with_input files marks traces input)
+one_input files marks traces input =
+    one_then (file_at files input.file) (λ bytes. file_at files input.map_file >>= λ text. with_texts marks traces input bytes text)
+    (one_given (input_of input.file (reading files input.file MAX_FILE_BYTES)))
+    (λ bytes. one_then (file_at files input.map_file) (with_texts marks traces input bytes)
+    (one_given (input_of input.map_file (reading files input.map_file MAX_FILE_BYTES))) (one_texts marks traces input bytes))
+
+one_inputs : (files : Files) (marks : List (List ℕ)) (traces : List Trace) (inputs : List Input) → GivesOne (λ x y. x ≡ y) (with_inputs files marks traces inputs)
+one_inputs files marks traces [] = one_given (Ok traces)
+one_inputs files marks traces (input ∷ inputs) =
+    one_then (with_input files marks traces input) (λ more. with_inputs files marks more inputs) (one_input files marks traces input)
+    (λ more. one_inputs files marks more inputs)
+
+one_merged : (inputs : List Input) (output : List ℕ) (options : Options) (files : Files) (r t : Result Outcome Outcome)
+    → steps_of (Merge inputs output options) files r → steps_of (Merge inputs output options) files t → r ≡ t
+one_merged inputs output options files r t h k =
+    is_one r t (one_then (with_inputs files options.marks [] inputs)
+    (λ traces. gives (all_joined inputs (joined_of traces)) >>= λ value. gives (in_limits output options value))
+    (one_inputs files options.marks [] inputs)
+    (λ traces. one_then (gives (all_joined inputs (joined_of traces))) (λ value. gives (in_limits output options value))
+    (one_given (all_joined inputs (joined_of traces))) (λ value. one_given (in_limits output options value))) r t h k)
+
 -- a file that was read and keeps all rules
 pub read_accepted : (files : Option Files) (file bytes : List ℕ) (raw : RawFile) → IfSome files (λ all. file_at all file (Ok bytes))
     → IsAccepted (BadFile bytes) → IsRawOf bytes raw
@@ -64,6 +100,7 @@ one_end : (task : Task) (files : Files) (r t : Result Outcome Outcome) → steps
 one_end (Ask question file) files = one_over (answer_of question file) file files
 one_end (Rebuild input output options) files = one_over (λ raw. rebuilt input output options (value_of raw)) input files
 one_end (Compose first second output) files = one_composed first second output files
+one_end (Merge inputs output options) files = one_merged inputs output options files
 
 -- where the file is not verified, there is no answer
 pub no_answer : {V : Type 0} (view : V → RawFile) (question : Question) (file : List ℕ) (files : Option Files) (stop : Stop)
@@ -98,6 +135,7 @@ of_told P words task files k h None none all seen = absurd (none task h)
 of_told P words task None k h (Some (Ask question file)) asks all seen = absurd seen
 of_told P words task None k h (Some (Rebuild input output options)) asks all seen = absurd seen
 of_told P words task None k h (Some (Compose first second output)) asks all seen = absurd seen
+of_told P words task None k h (Some (Merge inputs output options)) asks all seen = absurd seen
 of_told P words task (Some told) k h (Some other) asks all seen =
     subst (λ (t : Task). P (Some t) all) (one_task words task other h asks) (subst (λ (fs : Files). P (Some task) fs) seen k)
 

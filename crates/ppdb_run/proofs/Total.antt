@@ -1,5 +1,5 @@
 -- What is asked for has an outcome.
-use Rattle.std.proofs.Common.{ℕ, ◌≡◌, ◌+◌, ◌≤◌, inl, inr, List, length, take, drop, Option, Some, None, Result, Ok, Err, refl, sym, ap}
+use Rattle.std.proofs.Common.{ℕ, ◌≡◌, ◌+◌, ◌≤◌, inl, inr, List, [], ◌∷◌, length, take, drop, Option, Some, None, Result, Ok, Err, refl, sym, ap}
 use Rattle.std.specs.Prelude.{MatchOption}
 use Rattle.std.proofs.lemmas.Bool.{cases_lt}
 use Rattle.ppdb_base.specs.declared.code.Code.TheVariants.{StreamBounds}
@@ -18,7 +18,13 @@ use Rattle.ppdb_values.specs.RawFile.{RawFile}
 use Rattle.ppdb_values.specs.Value.{value_of}
 use Rattle.ppdb_run.specs.Outcome.{Outcome, ◌>>=◌, IsOutcome, HasDue, absent, too_long, refused, usage, gives, input_of, answer_of, rebuilt}
 use Rattle.ppdb_run.specs.Outcome.{outcome_of, steps_of, verified}
-use Rattle.ppdb_run.specs.Words.{Task, Ask, Rebuild, Compose}
+use Rattle.map_text.proofs.Judged.{texts_are_judged}
+use Rattle.ppdb_verify.specs.Files.{IsRawOf}
+use Rattle.ppdb_merge.specs.declared.trace.Trace.{Trace}
+use Rattle.ppdb_merge.specs.Refusals.{added}
+use Rattle.ppdb_merge.specs.Together.{joined_of}
+use Rattle.ppdb_run.specs.Outcome.{Step, all_joined, file_at, fitting, in_limits, judged, map_in, no_map, with_input, with_inputs, with_texts}
+use Rattle.ppdb_run.specs.Words.{Input, Options, Task, Ask, Rebuild, Compose, Merge}
 use Rattle.ppdb_run.proofs.MapSteps.{some_composed}
 
 -- what a stream of a kind is: that it is not listed, or the slice that is
@@ -78,6 +84,61 @@ over_file answer file files Due is none =
     (λ refusal h. none refusal (is (Err refusal) (inr (refusal, h, refl))))
     (reading files file MAX_FILE_BYTES) refl
 
+-- ---- steps that give something
+
+abbrev GivesSome : {A : Type 0} → Step A → Type 0
+GivesSome step = ((r : Result _ Outcome) → step r → ⊥) → ⊥
+
+some_given : {A : Type 0} (told : Result A Outcome) → GivesSome (gives told)
+some_given told none = none told refl
+
+some_then : {A B : Type 0} (first : Step A) (next : A → Step B) → GivesSome first → ((x : A) → GivesSome (next x)) → GivesSome (first >>= next)
+some_then {A = A} first next some then none = some by_first
+  where
+    by_first : (r : Result A Outcome) → first r → ⊥
+    by_first (Ok x) h = then x (λ r k. none r (inl (x, h, k)))
+    by_first (Err refusal) h = none (Err refusal) (inr (refusal, h, refl))
+
+some_judged : (name bytes : List ℕ) → GivesSome (judged name (BadFile bytes) (IsRawOf bytes))
+some_judged name bytes none =
+    let accepted : IsAccepted (BadFile bytes) = accepted_without_first (BadFile bytes) (λ fault first.
+    none (Err (refused name fault)) (fault, first, refl)) in
+    some_streams bytes (λ code at bad. accepted code at (inl bad)) (λ streams are.
+    none (Ok (raw_in streams)) (accepted, record { streams = streams; are = are; raw_is = refl }))
+
+some_text : (name text : List ℕ) → GivesSome (map_in name text)
+some_text name text none =
+    texts_are_judged text (λ m has. none (Ok m) has) (λ n kind bad. none (Err (no_map name n kind)) (n, kind, bad, refl))
+
+some_texts : (marks : List (List ℕ)) (traces : List Trace) (input : Input) (bytes text : List ℕ) → GivesSome (with_texts marks traces input bytes text)
+some_texts marks traces input bytes text =
+    some_then (judged input.file (BadFile bytes) (IsRawOf bytes))
+    (λ raw. map_in input.map_file text >>= λ m. gives (fitting input.file (added marks traces m raw)))
+    (some_judged input.file bytes)
+    (λ raw. some_then (map_in input.map_file text) (λ m. gives (fitting input.file (added marks traces m raw))) (some_text input.map_file text)
+    (λ m. some_given (fitting input.file (added marks traces m raw))))
+
+some_input : (files : Files) (marks : List (List ℕ)) (traces : List Trace) (input : Input) → GivesSome (with_input files marks traces input)
+some_input files marks traces input =
+    some_then (file_at files input.file) (λ bytes. file_at files input.map_file >>= λ text. with_texts marks traces input bytes text)
+    (some_given (input_of input.file (reading files input.file MAX_FILE_BYTES)))
+    (λ bytes. some_then (file_at files input.map_file) (with_texts marks traces input bytes)
+    (some_given (input_of input.map_file (reading files input.map_file MAX_FILE_BYTES))) (some_texts marks traces input bytes))
+
+some_inputs : (files : Files) (marks : List (List ℕ)) (traces : List Trace) (inputs : List Input) → GivesSome (with_inputs files marks traces inputs)
+some_inputs files marks traces [] = some_given (Ok traces)
+some_inputs files marks traces (input ∷ inputs) =
+    some_then (with_input files marks traces input) (λ more. with_inputs files marks more inputs) (some_input files marks traces input)
+    (λ more. some_inputs files marks more inputs)
+
+some_merged : (inputs : List Input) (output : List ℕ) (options : Options) (files : Files) → GivesSome (steps_of (Merge inputs output options) files)
+some_merged inputs output options files =
+    some_then (with_inputs files options.marks [] inputs)
+    (λ traces. gives (all_joined inputs (joined_of traces)) >>= λ value. gives (in_limits output options value))
+    (some_inputs files options.marks [] inputs)
+    (λ traces. some_then (gives (all_joined inputs (joined_of traces))) (λ value. gives (in_limits output options value))
+    (some_given (all_joined inputs (joined_of traces))) (λ value. some_given (in_limits output options value)))
+
 ends : (task : Task) (files : Files) (r : Result Outcome Outcome) → steps_of task files r → IsOutcome (Some task) files (outcome_of r)
 ends task files (Ok answer) h = inl h
 ends task files (Err refusal) h = inr h
@@ -90,3 +151,5 @@ has_due (Some (Rebuild input output options)) files none =
     over_file (λ raw. rebuilt input output options (value_of raw)) input files (IsOutcome (Some (Rebuild input output options)) files)
     (ends (Rebuild input output options) files) none
 has_due (Some (Compose first second output)) files none = some_composed first second output files none
+has_due (Some (Merge inputs output options)) files none =
+    some_merged inputs output options files (λ r h. none (outcome_of r) (ends (Merge inputs output options) files r h))

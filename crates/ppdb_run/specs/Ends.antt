@@ -1,6 +1,6 @@
 -- How a run ends: what its status, its text and the files afterwards have to do with the outcome of its words.
-use Rattle.std.specs.Prelude.{ℕ, ◌≡◌, ◌<◌, ◌≤◌, ◌+◌, ◌-◌, ◌*◌, ◌⊎◌, List, length, Option, Some, None, Ok, IfSome, slice_get, Contains}
-use Rattle.ppdb_base.specs.Causes.{Rose}
+use Rattle.std.specs.Prelude.{ℕ, ◌≡◌, ◌<◌, ◌≤◌, ◌+◌, ◌-◌, ◌*◌, ◌⊎◌, List, [], ◌∷◌, length, Option, Some, None, Ok, IfSome, slice_get, Contains}
+use Rattle.ppdb_base.specs.Causes.{Rose, counted}
 use Rattle.ppdb_base.specs.declared.limits.TheConstants.{MAX_FILE_BYTES}
 use Rattle.ppdb_base.specs.Files.{Files, Contents, reading}
 use Rattle.ppdb_base.specs.First.{IsAccepted}
@@ -8,9 +8,10 @@ use Rattle.ppdb_base.specs.Written.{appended, AppendsFront}
 use Rattle.ppdb_run.specs.declared.status.Status.{Status}
 use Rattle.ppdb_run.specs.declared.status.Status.TheVariants.{Done, WriteFault, Memory}
 use Rattle.ppdb_run.specs.Lines.{read_fault_line, write_fault_line}
-use Rattle.ppdb_run.specs.Outcome.{Outcome, IsOutcome, map_at, verified, written}
+use Rattle.ppdb_run.specs.Outcome.{Outcome, IsOutcome, file_at, map_at, unknown_kind, verified, with_input, written}
+use Rattle.ppdb_merge.specs.declared.trace.Trace.{Trace}
 use Rattle.ppdb_run.specs.Status.{UnlessFault}
-use Rattle.ppdb_run.specs.Words.{Question, Id, Verify, Query, Links, Breaks, Options, Task, Ask, Rebuild, Compose, Words, NoTask, read_files, written_file}
+use Rattle.ppdb_run.specs.Words.{Question, Id, Verify, Query, Links, Breaks, Options, Task, Ask, Rebuild, Compose, Merge, Sample, Input, Words, NoTask, read_files, written_file}
 use Rattle.ppdb_run.specs.Writes.{WritesAll, WritesFront}
 use Rattle.ppdb_maps.specs.Map.{Map}
 use Rattle.ppdb_maps.specs.Text.{IsMapOf}
@@ -20,19 +21,22 @@ use Rattle.ppdb_queries.specs.Runs.{customs_at}
 use Rattle.ppdb_tables.specs.RawTables.{count}
 use Rattle.source_link.specs.FileLinks.{module_row}
 use Rattle.ppdb_values.specs.RawFile.{RawFile}
-use Rattle.ppdb_verify.specs.Files.{BadFile}
+use Rattle.ppdb_values.specs.Value.{value_of}
+use Rattle.ppdb_verify.specs.Files.{BadFile, IsRawOf}
 
 -- what the words ask for: a task, or nothing where no task has them
 abbrev pub Asks : List (List ℕ) → Option Task → Type 0
 Asks words (Some task) = Words task words
 Asks words None = NoTask words
 
--- what is asked for has to do with no file, so that its outcome is the same over all files: each task reads one
+-- what is asked for has to do with no file, so that its outcome is the same over all files
 abbrev pub IsApart : Option Task → Type 0
 IsApart None = Unit {0}
 IsApart (Some (Ask question file)) = ⊥
 IsApart (Some (Rebuild input output options)) = ⊥
 IsApart (Some (Compose first second output)) = ⊥
+IsApart (Some (Merge inputs output options)) = ⊥
+IsApart (Some (Sample n)) = Unit {0}
 
 -- the files that an outcome is over: those that the folder tells; where it tells none, any, if the task has to do with no file
 abbrev pub AreSeen : Option Task → Option Files → Files → Type 0
@@ -60,11 +64,21 @@ abbrev pub HasOutcome : List (List ℕ) → Option Files → Status → Type 0
 HasOutcome words files status = (asked : Option Task) → Asks words asked → (all : Files) → AreSeen asked files all
     → UnlessFault status ((due : Outcome) × IsOutcome asked all due)
 
+-- inputs come to be read where those before them fit; a map, where its file was there and not too long
+abbrev pub ComesToInput : Files → List (List ℕ) → List Trace → List Input → List ℕ → Type 0
+ComesToInput files marks traces [] name = ⊥
+ComesToInput files marks traces (input ∷ inputs) name =
+    (name ≡ input.file)
+    ⊎ ((name ≡ input.map_file) × ((bytes : List ℕ) × file_at files input.file (Ok bytes)))
+    ⊎ ((more : List Trace) × with_input files marks traces input (Ok more) × ComesToInput files marks more inputs name)
+
 -- the task comes to read the file: nothing that comes before is refused
 abbrev pub ComesToRead : Task → Files → List ℕ → Type 0
 ComesToRead (Ask question file) files name = name ≡ file
 ComesToRead (Rebuild input output options) files name = name ≡ input
 ComesToRead (Compose first second output) files name = (name ≡ first) ⊎ ((name ≡ second) × ((m : Map) × map_at files first (Ok m)))
+ComesToRead (Merge inputs output options) files name = ComesToInput files options.marks [] inputs name
+ComesToRead (Sample n) files name = ⊥
 
 -- this file of the task was to be read, after so many reads that gave a file
 pub record IsUnreadOf (task : Task) (files : Option Files) (before after : ℕ) (name : List ℕ) : Type 0 where
@@ -72,6 +86,12 @@ pub record IsUnreadOf (task : Task) (files : Option Files) (before after : ℕ) 
   -- at the counter's last value it says no longer how many reads there were
   pub next : after < 18446744073709551615 → slice_get (read_files task) (after - before) ≡ Some name
   pub comes : IfSome files (λ all. ComesToRead task all name)
+
+-- this file of an input was to be read, after as many reads as before it: the file, or the map behind it
+abbrev pub IsInputUnread : Option Files → Input → ℕ → ℕ → List ℕ → Type 0
+IsInputUnread files input before after name =
+    ((name ≡ input.file) × (after ≡ before))
+    ⊎ ((name ≡ input.map_file) × (after ≡ counted before) × IfSome files (λ all. (bytes : List ℕ) × file_at all input.file (Ok bytes)))
 
 -- so it was of the words' task
 pub record IsUnread (words : List (List ℕ)) (files : Option Files) (before after : ℕ) (name : List ℕ) : Type 0 where
@@ -155,9 +175,15 @@ RebuildsToItself options bytes =
     (files : Files) (name other : List ℕ) → reading files name MAX_FILE_BYTES ≡ Contents bytes
     → IsOutcome (Some (Rebuild name other options)) files (written other bytes)
 
+-- so it is where each of its custom records is of a kind that is read or passed on
+abbrev pub RebuildsWhereKnown : Options → List ℕ × List ℕ → Type 0
+RebuildsWhereKnown options file =
+    ((raw : RawFile) → IsRawOf file.1 raw → unknown_kind options.marks (value_of raw) ≡ None) → RebuildsToItself options file.1
+
 -- the same task over what was written writes the same bytes again
 abbrev pub WritesAgain : Option Task → Outcome → Type 0
 WritesAgain (Some (Rebuild input output options)) due = IfSome due.writes (λ file. RebuildsToItself options file.1)
+WritesAgain (Some (Merge inputs output options)) due = IfSome due.writes (RebuildsWhereKnown options)
 WritesAgain asked due = Unit {0}
 
 -- ---- the rows that are read beside those that the verifier reads
@@ -173,6 +199,8 @@ abbrev pub NeedsNoRows : Task → Type 0
 NeedsNoRows (Ask question file) = ReadsNoRows question
 NeedsNoRows (Rebuild input output options) = ⊥
 NeedsNoRows (Compose first second output) = Unit {0}
+NeedsNoRows (Merge inputs output options) = ⊥
+NeedsNoRows (Sample n) = ⊥
 
 -- so many rows were counted before the answer and after it: to a query, of links and of breaks no more than its bound
 abbrev pub IsWithinBound : Question → RawFile → ℕ → ℕ → Type 0
@@ -187,6 +215,8 @@ abbrev pub OnRead : Task → Option Files → (Question → RawFile → Type 0) 
 OnRead (Ask question file) files P = IfSome files (λ all. (raw : RawFile) → verified all file (Ok raw) → P question raw)
 OnRead (Rebuild input output options) files P = Unit {0}
 OnRead (Compose first second output) files P = Unit {0}
+OnRead (Merge inputs output options) files P = Unit {0}
+OnRead (Sample n) files P = Unit {0}
 
 -- so many rows were counted before the task and after it: it reads none that it has no need of, and no more than its bound
 pub record IsWithinRows (task : Task) (files : Option Files) (before after : ℕ) : Type 0 where

@@ -22,14 +22,21 @@ use Rattle.ppdb_lines.specs.Heads.{id_line, entry_line}
 use Rattle.ppdb_lines.specs.Lines.{Line, text_of}
 use Rattle.ppdb_lines.specs.Pieces.{line}
 use Rattle.ppdb_run.specs.Lines.{about, usage_line, refused_line, map_line, unfit_line, limit_text, map_limit_text}
-use Rattle.ppdb_run.specs.Lines.{no_method_line, links_line, sizes_line}
-use Rattle.ppdb_run.specs.Words.{Question, Id, Verify, Show, Query, Links, Breaks, Options, Task, Ask, Rebuild, Compose}
+use Rattle.ppdb_run.specs.Lines.{no_method_line, links_line, sizes_line, sample_lines}
+use Rattle.ppdb_run.specs.Sampled.{remapped_file, remapped_sample, sample_file}
+use Rattle.ppdb_run.specs.Words.{Question, Id, Verify, Show, Query, Links, Breaks, Options, Input, Task, Ask, Rebuild, Compose, Merge, Sample}
+use Rattle.ppdb_merge.specs.declared.trace.Trace.{Trace}
+use Rattle.ppdb_merge.specs.Refusals.{added}
+use Rattle.ppdb_merge.specs.Together.{joined_of}
+use Rattle.ppdb_base.specs.declared.merge_error.MergeError.TheVariants.{RowsDiffer, ImageRange}
+use Rattle.std.specs.Option.{unwrap_or}
 use Rattle.map_compose.specs.Composed.{composed}
 use Rattle.map_compose.specs.Sizes.{SizesAgree, IsFirstDiffering}
 use Rattle.map_text.specs.MapTexts.{map_text}
 use Rattle.ppdb_maps.specs.Map.{Map}
 use Rattle.ppdb_maps.specs.Text.{IsMapOf, Refused}
 use Rattle.ppdb_show.specs.Query.{query_text_of}
+use Rattle.sample_files.specs.Sample.{sample}
 use Rattle.source_link.specs.declared.pair.Pair.{Pair}
 use Rattle.source_lines.specs.Links.{file_links, link_text}
 use Rattle.source_lines.specs.Breaks.{break_text}
@@ -39,7 +46,7 @@ use Rattle.ppdb_canon.specs.declared.choice.IdChoice.{IdChoice}
 use Rattle.ppdb_canon.specs.declared.choice.IdChoice.TheVariants.{Hash, Keep}
 use Rattle.ppdb_canon.specs.Canon.{canon}
 use Rattle.ppdb_canon.specs.Limits.{first_limit}
-use Rattle.ppdb_tables.specs.RawTables.{count, numbered}
+use Rattle.ppdb_tables.specs.RawTables.{count, numbered, row_at}
 use Rattle.ppdb_values.specs.declared.file.FileValue.{FileValue}
 use Rattle.ppdb_values.specs.Value.{value_of}
 use Rattle.ppdb_values.specs.RawFile.{RawFile}
@@ -206,6 +213,54 @@ rebuilt input output options value =
     unless (option_map (unfit input) (unknown_kind options.marks value))
     (unless (option_map limited (first_limit value)) (Ok (written output (canon value (choice_of options.keep_id)))))
 
+-- ---- inputs that are moved and joined
+
+-- what an input is added to, where it fits; else why it does not
+abbrev pub fitting : {A : Type 0} → List ℕ → Result A MergeError → Result A Outcome
+fitting name (Ok traces) = Ok traces
+fitting name (Err error) = Err (unfit name error)
+
+-- an input by what was read of it: the file is verified, the map's text has a map, and the input fits those before it
+abbrev pub with_texts : List (List ℕ) → List Trace → Input → List ℕ → List ℕ → Step (List Trace)
+with_texts marks traces input bytes text = do
+  raw ← judged input.file (BadFile bytes) (IsRawOf bytes)
+  m ← map_in input.map_file text
+  gives (fitting input.file (added marks traces m raw))
+
+-- one more input: its file and its map are read
+abbrev pub with_input : Files → List (List ℕ) → List Trace → Input → Step (List Trace)
+with_input files marks traces input = do
+  bytes ← file_at files input.file
+  text ← file_at files input.map_file
+  with_texts marks traces input bytes text
+
+-- inputs in order
+abbrev pub with_inputs : Files → List (List ℕ) → List Trace → List Input → Step (List Trace)
+with_inputs files marks traces [] = gives (Ok traces)
+with_inputs files marks traces (input ∷ inputs) = do
+  more ← with_input files marks traces input
+  with_inputs files marks more inputs
+
+-- the number of the input that is not joined, counted from 1: it counts other rows than the first, or an image is above its count
+abbrev pub input_in : MergeError → ℕ
+input_in (RowsDiffer input table first second) = input
+input_in (ImageRange input table row image rows) = input
+input_in error = 0
+
+-- the file of the input of a number
+abbrev pub file_of : List Input → ℕ → List ℕ
+file_of inputs n = unwrap_or (option_map (λ (input : Input). input.file) (row_at inputs n)) []
+
+-- the value of all inputs, where they can be joined; else the file of the one that cannot, and why
+abbrev pub all_joined : List Input → Result FileValue MergeError → Result FileValue Outcome
+all_joined inputs (Ok value) = Ok value
+all_joined inputs (Err error) = Err (unfit (file_of inputs (input_in error)) error)
+
+-- the canonical file of a value, where it meets no limit
+abbrev pub in_limits : List ℕ → Options → FileValue → Result Outcome Outcome
+in_limits output options value =
+    unless (option_map limited (first_limit value)) (Ok (written output (canon value (choice_of options.keep_id))))
+
 -- ---- a map that is written
 
 -- the text of the map of two maps; else the least method whose sizes differ, or the length of a text that is longer than any map's
@@ -214,6 +269,14 @@ composed_text f s (Ok text) = SizesAgree f s × (text ≡ map_text (composed f s
 composed_text f s (Err refusal) =
     ((method first second : ℕ) × IsFirstDiffering f s method first second × (refusal ≡ sizes_differ method first second))
     ⊎ (SizesAgree f s × (MAX_FILE_BYTES < length (map_text (composed f s))) × (refusal ≡ map_limited (length (map_text (composed f s)))))
+
+-- ---- the sample
+
+-- what is told of the two files of the sample of n methods, or the limit that the first or else the second meets
+abbrev pub sampled : ℕ → Result Outcome Outcome
+sampled n =
+    unless (option_map limited (first_limit (sample n)))
+    (unless (option_map limited (first_limit (remapped_sample n))) (done (lines_as Text (sample_lines n (sample_file n) (remapped_file n)))))
 
 -- what a command ends with
 abbrev pub outcome_of : Result Outcome Outcome → Outcome
@@ -233,6 +296,11 @@ steps_of (Compose first second output) files = do
   s ← map_at files second
   text ← composed_text f s
   gives (Ok (written output text))
+steps_of (Merge inputs output options) files = do
+  traces ← with_inputs files options.marks [] inputs
+  value ← gives (all_joined inputs (joined_of traces))
+  gives (in_limits output options value)
+steps_of (Sample n) files = gives (sampled n)
 
 -- the outcome of a task, or of words that are no task's
 abbrev pub IsOutcome : Option Task → Files → Outcome → Type 0

@@ -1,16 +1,19 @@
 -- A command as it is asked for.
-use Rattle.std.specs.Prelude.{ℕ, ◌≡◌, List, [], ◌∷◌, ◌++◌, Option, Some, None, codes, if◌then◌else◌}
+use Rattle.std.specs.Prelude.{ℕ, ◌≡◌, ◌&&◌, false, List, [], ◌∷◌, ◌++◌, Option, Some, None, codes, if◌then◌else◌}
 use Rattle.std.specs.Str.{bytes_eq}
 use Rattle.uuid.specs.Text.{parsed}
 use Rattle.uuid.specs.Parts.{swap_fields}
 use Rattle.ppdb_run.specs.declared.question.Question.{Question as Asked}
 use Rattle.ppdb_run.specs.declared.question.Question.TheVariants as asked
 use Rattle.ppdb_run.specs.declared.options.Options.{Options as Given}
+use Rattle.ppdb_run.specs.declared.inputs.Inputs.{Inputs}
+use Rattle.ppdb_run.specs.declared.inputs.Pair.{Pair}
+use Rattle.ppdb_run.specs.declared.inputs.Inputs.TheVariants as inputs
 use Rattle.ppdb_run.specs.declared.words.Asked.{Asked as Wanted}
 use Rattle.ppdb_run.specs.declared.words.Asked.TheVariants as wanted
 use Rattle.ppdb_run.specs.declared.words.Command.{Command}
 use Rattle.ppdb_run.specs.declared.words.Command.TheVariants as commands
-use Rattle.ppdb_run.specs.Words.{Question, Id, Verify, Show, Query, Links, Breaks, Options, Task, Ask, Rebuild, Compose, texts}
+use Rattle.ppdb_run.specs.Words.{Question, Id, Verify, Show, Query, Links, Breaks, Options, Input, Task, Ask, Rebuild, Compose, Merge, Sample, is_file_word, texts}
 
 abbrev pub question_of : Asked → Question
 question_of asked.Id = Id
@@ -39,11 +42,34 @@ marks_in (word ∷ next ∷ words) = if bytes_eq word (codes "--free") then mark
 abbrev pub options_of : Given → Options
 options_of given = record { keep_id = given.keep_id; marks = marks_in (texts given.words.now) }
 
+-- the words two by two
+abbrev pub pairs_of : List (List ℕ) → List Input
+pairs_of [] = []
+pairs_of (file ∷ []) = []
+pairs_of (file ∷ map_file ∷ words) = record { file = file; map_file = map_file } ∷ pairs_of words
+
+-- the first two words are not both words that name files
+abbrev pub NoPair : List (List ℕ) → Type 0
+NoPair [] = Unit {0}
+NoPair (file ∷ []) = Unit {0}
+NoPair (file ∷ map_file ∷ words) = (is_file_word file && is_file_word map_file) ≡ false
+
+-- an input without where its words lie in memory
+abbrev pub input_of : Pair → Input
+input_of given = record { file = given.file.now; map_file = given.map_file.now }
+
+-- inputs without where their words lie in memory
+abbrev pub inputs_of : Inputs → List Input
+inputs_of (inputs.One input) = input_of input ∷ []
+inputs_of (inputs.Pairs words) = pairs_of (texts words.now)
+
 -- what a command asks for, without where its words lie in memory
 abbrev pub asked_task : Wanted → Task
 asked_task (wanted.Ask question file) = Ask (question_of question) file.now
 asked_task (wanted.Rebuild input output options) = Rebuild input.now output.now (options_of options)
 asked_task (wanted.Compose first second output) = Compose first.now second.now output.now
+asked_task (wanted.Merge inputs output options) = Merge (inputs_of inputs) output.now (options_of options)
+asked_task (wanted.Sample n) = Sample n
 
 -- a command without where its words lie in memory
 abbrev pub task_of : Command → Task
@@ -55,3 +81,6 @@ task_of (commands.Links file) = Ask Links file.now
 task_of (commands.Breaks file document line) = Ask (Breaks document.now line) file.now
 task_of (commands.Rebuild input output options) = Rebuild input.now output.now (options_of options)
 task_of (commands.Compose first second output) = Compose first.now second.now output.now
+task_of (commands.Remap input map_file output options) = Merge (record { file = input.now; map_file = map_file.now } ∷ []) output.now (options_of options)
+task_of (commands.Merge output pairs options) = Merge (pairs_of (texts pairs.now)) output.now (options_of options)
+task_of (commands.Sample n) = Sample n

@@ -1,5 +1,6 @@
 -- The command line: which words ask for what.
-use Rattle.std.specs.Prelude.{ℕ, ◌≡◌, ◌≤◌, List, [], ◌∷◌, map, Bool, true, false, not, ◌&&◌, ◌==◌, Option, Some, None, codes, IsTrue, String}
+use Rattle.std.specs.Prelude.{ℕ, ◌≡◌, ◌≤◌, ◌⊎◌, List, [], ◌∷◌, ◌++◌, length, map, Bool, true, false, not, ◌&&◌, ◌==◌, Option, Some, None, codes, IsTrue, String}
+use Rattle.std.specs.List.{list_all}
 use Rattle.std.specs.Fmt.{decimal}
 use Rattle.std.specs.String.{string_bytes}
 use Rattle.std.specs.declared.alloc.Global.{Global}
@@ -39,6 +40,16 @@ pub record Options : Type 0 where
   -- kinds of custom debug information that are passed on unread although they are on no list, as they lie in a file
   pub marks : List (List ℕ)
 
+-- a file that is read, and the map by which it is moved
+pub record Input : Type 0 where
+  pub file : List ℕ
+  pub map_file : List ℕ
+
+-- the names of inputs, two by two
+abbrev pub input_words : List Input → List (List ℕ)
+input_words [] = []
+input_words (input ∷ inputs) = input.file ∷ input.map_file ∷ input_words inputs
+
 -- what is asked for
 pub data Task : Type 0 where
   -- a question about a file
@@ -47,18 +58,26 @@ pub data Task : Type 0 where
   Rebuild : (input output : List ℕ) → (options : Options) → Task
   -- the map of two maps
   Compose : (first second output : List ℕ) → Task
+  -- the canonical file of inputs, each moved by its map, joined
+  Merge : (inputs : List Input) → (output : List ℕ) → (options : Options) → Task
+  -- the lengths of the sample of n methods, as it is and after it has moved
+  Sample : (n : ℕ) → Task
 
 -- the files that a task reads, in the order of its words and as often as they are named
 abbrev pub read_files : Task → List (List ℕ)
 read_files (Ask question file) = file ∷ []
 read_files (Rebuild input output options) = input ∷ []
 read_files (Compose first second output) = first ∷ second ∷ []
+read_files (Merge inputs output options) = input_words inputs
+read_files (Sample n) = []
 
 -- the file that a task writes, if any
 abbrev pub written_file : Task → Option (List ℕ)
 written_file (Ask question file) = None
 written_file (Rebuild input output options) = Some output
 written_file (Compose first second output) = Some output
+written_file (Merge inputs output options) = Some output
+written_file (Sample n) = None
 
 -- the words are one that names a file
 abbrev pub IsFileAlone : List ℕ → List (List ℕ) → Type 0
@@ -71,6 +90,24 @@ pub data AreOptions : List (List ℕ) → Options → Type 0 where
       → AreOptions (codes "--keep-id" ∷ words) (record { keep_id = true; marks = options.marks })
   free : {words : List (List ℕ)} {options : Options} (word guid : List ℕ) → parsed word ≡ Some guid → AreOptions words options
       → AreOptions (codes "--free" ∷ word ∷ words) (record { keep_id = options.keep_id; marks = swap_fields guid ∷ options.marks })
+
+-- the words that move one input
+pub record IsRemap (inputs : List Input) (output : List ℕ) (options : Options) (words : List (List ℕ)) : Type 0 where
+  pub input : Input
+  pub rest : List (List ℕ)
+  pub alone : inputs ≡ input ∷ []
+  pub is : words ≡ codes "remap" ∷ input.file ∷ input.map_file ∷ output ∷ rest
+  pub files : IsTrue (list_all is_file_word (input.file ∷ input.map_file ∷ output ∷ []))
+  pub options_are : AreOptions rest options
+
+-- the words that move inputs, 1 to 256, and join them
+pub record IsMerge (inputs : List Input) (output : List ℕ) (options : Options) (words : List (List ℕ)) : Type 0 where
+  pub rest : List (List ℕ)
+  pub some : 1 ≤ length inputs
+  pub most : length inputs ≤ 256
+  pub is : words ≡ codes "merge" ∷ output ∷ (input_words inputs ++ rest)
+  pub files : IsTrue (list_all is_file_word (output ∷ input_words inputs))
+  pub options_are : AreOptions rest options
 
 -- the words of a task, one case for each form
 abbrev pub Words : Task → List (List ℕ) → Type 0
@@ -89,6 +126,8 @@ Words (Rebuild input output options) words =
 Words (Compose first second output) words =
     (words ≡ codes "compose" ∷ first ∷ second ∷ output ∷ []) × IsTrue (is_file_word first) × IsTrue (is_file_word second)
     × IsTrue (is_file_word output)
+Words (Merge inputs output options) words = IsRemap inputs output options words ⊎ IsMerge inputs output options words
+Words (Sample n) words = (words ≡ codes "sample" ∷ decimal n ∷ []) × (n ≤ 100000)
 
 -- no task has these words
 abbrev pub NoTask : List (List ℕ) → Type 0

@@ -11,7 +11,9 @@ ghost use Rattle.ppdb_run.specs.Words.{Task, Words, NoTask, texts};
 
 use crate::answer::answer;
 use crate::compose::compose;
+use crate::merge::merge;
 use crate::rebuild::rebuild;
+use crate::sample::sample;
 use crate::status::Status;
 use crate::stop::Stop;
 use crate::words::{Asked, Usage, read_words};
@@ -129,6 +131,10 @@ fn carry_out<'a, F: Folder, O: Sink, K: Ledger, L: Ledger>(
             Asked::Compose(first, second, output) => {
                 compose(alloc, first, second, output, folder)
             }
+            Asked::Merge(inputs, output, options) => {
+                merge(alloc, inputs, output, options, folder, checks, steps)
+            }
+            Asked::Sample(n) => sample(alloc, n, out, checks, steps),
         },
         Err(Usage) => Err(Stop::Usage),
     }

@@ -124,7 +124,7 @@ fn file_bytes<'a, L: Ledger>(
 }
 
 /// Which identity is written.
-fn choice(keep_id: bool) -> IdChoice
+pub fn choice(keep_id: bool) -> IdChoice
     ensures { result ≡ choice_of keep_id }
 {
     if keep_id {

@@ -3,13 +3,21 @@ ghost use Rattle.std.specs.Prelude.{◌≡◌, ℕ, List, ◌∷◌, codes, IfOk
 ghost use Rattle.ppdb_run.specs.Words.{Words, NoTask, IsFileAlone, is_file_word, is_name_word, texts};
 ghost use Rattle.ppdb_run.specs.Task.{asked_task, task_of};
 
+use crate::inputs::{Inputs, Pair};
 use crate::number::number;
 use crate::options::{Options, read_options};
+use crate::pairs::split_pairs;
 use crate::question::Question;
 use ppdb_base::{MAX_OFFSET, MAX_ROWS};
 
 /// The largest line of a sequence point.
 pub(crate) const MAX_LINE: u32 = 0x1fff_ffff;
+
+/// How many inputs are joined at most.
+const MAX_INPUTS: usize = 256;
+
+/// How many methods a sample has at most.
+const MAX_METHODS: u32 = 100_000;
 
 /// What the words ask for.
 #[derive(Clone, Copy, Debug, PartialEq, Eq)]
@@ -55,6 +63,23 @@ pub enum Command<'a> {
         second: &'a str,
         output: &'a str,
     },
+    /// The canonical file of an input that is moved by its map, written to a file.
+    Remap {
+        input: &'a str,
+        map: &'a str,
+        output: &'a str,
+        options: Options<'a>,
+    },
+    /// The canonical file of inputs that are moved by their maps and joined. Their words name files and maps, two by two.
+    Merge {
+        output: &'a str,
+        pairs: &'a [String],
+        options: Options<'a>,
+    },
+    /// The lengths of the sample of `n` methods, to 100000, as it is and after it has moved.
+    Sample {
+        n: u32,
+    },
 }
 
 /// What a command asks for.
@@ -66,6 +91,10 @@ pub(crate) enum Asked<'a> {
     Rebuild(&'a str, &'a str, Options<'a>),
     /// The map of two maps, and the file that is written.
     Compose(&'a str, &'a str, &'a str),
+    /// The canonical file of inputs that are moved and joined, the file that is written, and how.
+    Merge(Inputs<'a>, &'a str, Options<'a>),
+    /// The lengths of the sample of so many methods.
+    Sample(u32),
 }
 
 impl<'a> Command<'a> {
@@ -98,6 +127,24 @@ impl<'a> Command<'a> {
                 second,
                 output,
             } => Asked::Compose(first, second, output),
+            Command::Remap {
+                input,
+                map,
+                output,
+                options,
+            } => {
+                let input = Pair {
+                    file: input,
+                    map_file: map,
+                };
+                Asked::Merge(Inputs::One(input), output, options)
+            }
+            Command::Merge {
+                output,
+                pairs,
+                options,
+            } => Asked::Merge(Inputs::Pairs(pairs), output, options),
+            Command::Sample { n } => Asked::Sample(n),
         }
     }
 }
@@ -123,6 +170,9 @@ pub fn read_words(words: &[String]) -> Result<Command<'_>, Usage>
         "breaks" => breaks(args),
         "rebuild" => rebuild(args),
         "compose" => compose(args),
+        "remap" => remap(args),
+        "merge" => merge(args),
+        "sample" => sample(args),
         _ => Err(Usage),
     }
 }
@@ -228,6 +278,62 @@ fn compose(args: &[String]) -> Result<Command<'_>, Usage>
     }
 }
 
+/// The command `remap` of the words after its name.
+fn remap(args: &[String]) -> Result<Command<'_>, Usage>
+    ensures command { IfOk result (λ command. Words (task_of command) (codes "remap" ∷ texts args.now)) }
+    ensures usage { OnErr result (NoTask (codes "remap" ∷ texts args.now)) }
+{
+    match args {
+        [input, map, output, words @ ..]
+            if names_file(input) && names_file(map) && names_file(output) => {
+            let options = read_options(words)?;
+            Ok(Command::Remap {
+                input: input.as_str(),
+                map: map.as_str(),
+                output: output.as_str(),
+                options,
+            })
+        }
+        _ => Err(Usage),
+    }
+}
+
+/// The command `merge` of the words after its name.
+fn merge(args: &[String]) -> Result<Command<'_>, Usage>
+    ensures command { IfOk result (λ command. Words (task_of command) (codes "merge" ∷ texts args.now)) }
+    ensures usage { OnErr result (NoTask (codes "merge" ∷ texts args.now)) }
+{
+    match args {
+        [output, words @ ..] if names_file(output) => {
+            let (pairs, words) = split_pairs(words);
+            if pairs.is_empty() || pairs.len() > 2 * MAX_INPUTS {
+                return Err(Usage);
+            }
+            let options = read_options(words)?;
+            Ok(Command::Merge {
+                output: output.as_str(),
+                pairs,
+                options,
+            })
+        }
+        _ => Err(Usage),
+    }
+}
+
+/// The command `sample` of the words after its name.
+fn sample(args: &[String]) -> Result<Command<'_>, Usage>
+    ensures command { IfOk result (λ command. Words (task_of command) (codes "sample" ∷ texts args.now)) }
+    ensures usage { OnErr result (NoTask (codes "sample" ∷ texts args.now)) }
+{
+    let [methods] = args else {
+        return Err(Usage);
+    };
+    match number(methods, MAX_METHODS) {
+        Some(n) => Ok(Command::Sample { n }),
+        None => Err(Usage),
+    }
+}
+
 /// Whether a word can be a document's name: it is not empty.
 fn names_document(word: &str) -> bool
     ensures { result ≡ is_name_word word.now }
@@ -236,7 +342,7 @@ fn names_document(word: &str) -> bool
 }
 
 /// Whether a word can be a file's name: it is not empty and does not begin with two dashes.
-fn names_file(word: &str) -> bool
+pub fn names_file(word: &str) -> bool
     ensures { result ≡ is_file_word word.now }
 {
     !word.is_empty() && !word.starts_with("--")

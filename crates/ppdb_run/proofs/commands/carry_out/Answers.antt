@@ -3,8 +3,9 @@ use Rattle.ppdb_run.specs.Outcome.{IsOutcome}
 use Rattle.ppdb_run.specs.Stops.{Finds}
 use Rattle.std.specs.Prelude.{IfSome}
 use Rattle.ppdb_run.specs.Ends.{IsValid, WritesAgain, WritesValid}
-use Rattle.ppdb_run.specs.Task.{options_of, question_of}
-use Rattle.ppdb_run.specs.Words.{Ask, Rebuild, Compose, Words, texts}
+use Rattle.ppdb_run.specs.Task.{inputs_of, options_of, question_of}
+use Rattle.ppdb_run.proofs.PairWords.{merge_counts}
+use Rattle.ppdb_run.specs.Words.{Ask, Rebuild, Compose, Merge, Words, texts}
 use Rattle.ppdb_run.proofs.Causes.{widened_stop}
 use Rattle.ppdb_run.proofs.Kept.{is_unread, is_input, is_output, leaves_all, nothing_to_judge}
 use Rattle.ppdb_run.proofs.Outcomes.{of_told, of_task, of_rows}
@@ -183,3 +184,68 @@ pub returns-in-Compose-clause-read_only : goal.returns-in-Compose-clause-read_on
 returns-in-Compose-clause-read_only g c =
     let words = subst (λ task. Words task (texts c.args.words.now)) (sym c.in-Compose.ensures) c.in-Ok.ensures.command in
     writes_file (texts c.args.words.now) (Compose c.in-Compose.first.now c.in-Compose.second.now c.in-Compose.output.now) c.in-Compose.output.now _ _ refl words
+
+pub returns-in-Merge-clause-found : goal.returns-in-Merge-clause-found
+returns-in-Merge-clause-found g c =
+    let words = subst (λ task. Words task (texts c.args.words.now)) (sym c.in-Merge.ensures) c.in-Ok.ensures.command in
+    of_told (λ asked all. Finds c.merge.result (IsOutcome asked all)) (texts c.args.words.now)
+    (Merge (inputs_of c.in-Merge.inputs) c.in-Merge.output.now (options_of c.in-Merge.options)) (g.F.Folder.files c.args.folder.now) c.merge.ensures.found words
+
+pub returns-in-Merge-clause-told : goal.returns-in-Merge-clause-told
+returns-in-Merge-clause-told g c =
+    let words = subst (λ task. Words task (texts c.args.words.now)) (sym c.in-Merge.ensures) c.in-Ok.ensures.command in
+    of_task _ _ _ c.merge.ensures.told words
+
+pub returns-in-Merge-clause-text : goal.returns-in-Merge-clause-text
+returns-in-Merge-clause-text g c =
+    let words = subst (λ task. Words task (texts c.args.words.now)) (sym c.in-Merge.ensures) c.in-Ok.ensures.command in
+    of_task _ _ _ (nothing_put (Merge (inputs_of c.in-Merge.inputs) c.in-Merge.output.now (options_of c.in-Merge.options)) c.in-Merge.output.now
+    (g.F.Folder.files c.args.folder.now) c.merge.result (g.O.Sink.written c.args.out.now) c.merge.ensures.silent) words
+
+pub returns-in-Merge-clause-files : goal.returns-in-Merge-clause-files
+returns-in-Merge-clause-files g c =
+    let words = subst (λ task. Words task (texts c.args.words.now)) (sym c.in-Merge.ensures) c.in-Ok.ensures.command in
+    of_task _ _ _ c.merge.ensures.files words
+
+pub returns-in-Merge-clause-accepted : goal.returns-in-Merge-clause-accepted
+returns-in-Merge-clause-accepted g c =
+    let words = subst (λ task. Words task (texts c.args.words.now)) (sym c.in-Merge.ensures) c.in-Ok.ensures.command in
+    on_then c.merge.result (λ h. on_asked WritesValid _ (Merge (inputs_of c.in-Merge.inputs) c.in-Merge.output.now (options_of c.in-Merge.options))
+    (g.F.Folder.files c.args.folder.now) h words)
+    c.merge.ensures.accepted
+
+pub returns-in-Merge-clause-again : goal.returns-in-Merge-clause-again
+returns-in-Merge-clause-again g c =
+    let words = subst (λ task. Words task (texts c.args.words.now)) (sym c.in-Merge.ensures) c.in-Ok.ensures.command in
+    on_then c.merge.result (λ h. on_asked WritesAgain _ (Merge (inputs_of c.in-Merge.inputs) c.in-Merge.output.now (options_of c.in-Merge.options))
+    (g.F.Folder.files c.args.folder.now) h words)
+    c.merge.ensures.again
+
+pub returns-in-Merge-clause-rows : goal.returns-in-Merge-clause-rows
+returns-in-Merge-clause-rows g c =
+    let words = subst (λ task. Words task (texts c.args.words.now)) (sym c.in-Merge.ensures) c.in-Ok.ensures.command in
+    of_rows _ (Merge (inputs_of c.in-Merge.inputs) c.in-Merge.output.now (options_of c.in-Merge.options)) (g.F.Folder.files c.args.folder.now) _ _
+    (record { none = λ no. absurd no; bound = tt }) words
+
+pub returns-in-Merge-clause-causes : goal.returns-in-Merge-clause-causes
+returns-in-Merge-clause-causes g c =
+    let words = subst (λ task. Words task (texts c.args.words.now)) (sym c.in-Merge.ensures) c.in-Ok.ensures.command in
+    widened_stop c.merge.result (λ m. absurd m)
+    (λ name r. record { task = (Merge (inputs_of c.in-Merge.inputs) c.in-Merge.output.now (options_of c.in-Merge.options)); asked = words; unread = r })
+    (λ name w. is_output (texts c.args.words.now) (Merge (inputs_of c.in-Merge.inputs) c.in-Merge.output.now (options_of c.in-Merge.options)) c.in-Merge.output.now name refl words w)
+    (λ e. e) (λ a. a) (λ b. b) (λ p. absurd p) c.merge.ensures.causes
+
+pub returns-in-Merge-clause-read_only : goal.returns-in-Merge-clause-read_only
+returns-in-Merge-clause-read_only g c =
+    let words = subst (λ task. Words task (texts c.args.words.now)) (sym c.in-Merge.ensures) c.in-Ok.ensures.command in
+    writes_file (texts c.args.words.now) (Merge (inputs_of c.in-Merge.inputs) c.in-Merge.output.now (options_of c.in-Merge.options)) c.in-Merge.output.now _ _ refl words
+
+pub merge-requires-some : goal.merge-requires-some
+merge-requires-some g c =
+    let words = subst (λ task. Words task (texts c.args.words.now)) (sym c.in-Merge.ensures) c.in-Ok.ensures.command in
+    (merge_counts (inputs_of c.in-Merge.inputs) c.in-Merge.output.now (options_of c.in-Merge.options) (texts c.args.words.now) words).0
+
+pub merge-requires-most : goal.merge-requires-most
+merge-requires-most g c =
+    let words = subst (λ task. Words task (texts c.args.words.now)) (sym c.in-Merge.ensures) c.in-Ok.ensures.command in
+    (merge_counts (inputs_of c.in-Merge.inputs) c.in-Merge.output.now (options_of c.in-Merge.options) (texts c.args.words.now) words).1

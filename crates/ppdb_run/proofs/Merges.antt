@@ -1,0 +1,270 @@
+-- What is known of inputs that are moved and joined.
+use Rattle.std.proofs.Common.{ℕ, zero, suc, ◌≡◌, ◌≤◌, ◌<◌, ◌+◌, ◌-◌, ◌⊎◌, inl, inr, List, [], ◌∷◌, ◌++◌, length, drop, Bool, refl, sym, ◌∙◌, ap, subst, arith}
+use Rattle.std.specs.Prelude.{Option, Some, None, Result, Ok, Err, IfSome, Contains, slice_get}
+use Rattle.ppdb_base.specs.Causes.{counted}
+use Rattle.ppdb_base.specs.Files.{Files}
+use Rattle.ppdb_base.specs.First.{IsAccepted}
+use Rattle.ppdb_base.specs.declared.merge_error.MergeError.{MergeError}
+use Rattle.ppdb_base.specs.declared.merge_error.MergeError.TheVariants as merge_errors
+use Rattle.ppdb_maps.specs.Map.{Map}
+use Rattle.ppdb_maps.specs.Text.{IsMapOf}
+use Rattle.ppdb_merge.specs.declared.trace.Trace.{Trace}
+use Rattle.ppdb_merge.specs.Merged.{is_first, trace_of}
+use Rattle.ppdb_merge.specs.Refusals.{added, refusal_of, with_trace}
+use Rattle.ppdb_values.specs.RawFile.{RawFile}
+use Rattle.ppdb_verify.specs.Files.{BadFile, IsRawOf}
+use Rattle.ppdb_run.specs.declared.stop.Stop.{Stop}
+use Rattle.ppdb_run.specs.declared.stop.Stop.TheVariants as stops
+use Rattle.ppdb_run.specs.Ends.{ComesToInput, IsInputUnread, IsUnreadOf}
+use Rattle.ppdb_run.specs.Outcome.{Outcome, Step, ◌>>=◌, file_at, fitting, gives, judged, map_in, unfit, with_input, with_inputs, with_texts}
+use Rattle.ppdb_run.specs.Stops.{cause_of, refusal_of as told_by, Gives}
+use Rattle.ppdb_run.specs.Words.{Input, Merge, input_words}
+use Rattle.ppdb_run.proofs.Kept.{one_more}
+use Rattle.ppdb_run.proofs.Steps.{gives_next, gives_stop}
+
+-- ---- steps over the files that are told
+
+pub on_told : {P : Files → Type 0} (files : Option Files) → ((all : Files) → P all) → IfSome files P
+on_told None h = tt
+on_told (Some all) h = h all
+
+pub stop_over : {U X Y Z : Type 0} (view : X → Y) (other : U → Z) (stop : Stop) (files : Option Files) (first : Files → Step Y) (next : Files → Y → Step Z)
+    → IfSome files (λ all. Gives view (Err stop) (first all)) → IfSome files (λ all. Gives other (Err stop) (first all >>= next all))
+stop_over view other stop None first next h = tt
+stop_over view other stop (Some all) first next h = gives_stop view other stop (first all) (next all) h
+
+pub next_over : {U Y Z : Type 0} (other : U → Z) (result : Result U Stop) (files : Option Files) (first : Files → Step Y) (next : Files → Y → Step Z) (x : Y)
+    → IfSome files (λ all. first all (Ok x)) → IfSome files (λ all. Gives other result (next all x))
+    → IfSome files (λ all. Gives other result (first all >>= next all))
+next_over other result None first next x h k = tt
+next_over other result (Some all) first next x h k = gives_next other result (first all) (next all) x h k
+
+-- ---- one input
+
+-- the line of an input that does not fit, or no memory
+abbrev TellsUnfit : Stop → Type 0
+TellsUnfit (stops.Unfit name error) =
+    IfSome (told_by (cause_of (stops.Unfit name error))) (λ o. (o ≡ unfit name.now error) × (error ≡ merge_errors.Memory → ⊥))
+TellsUnfit stop = Unit {0}
+
+pub tells_unfit : (stop : Stop) → TellsUnfit stop
+tells_unfit stops.Usage = tt
+tells_unfit (stops.ReadFault name) = tt
+tells_unfit (stops.WriteFault name) = tt
+tells_unfit (stops.Absent name) = tt
+tells_unfit (stops.TooLong name) = tt
+tells_unfit (stops.Refused name fault) = tt
+tells_unfit (stops.Map name line kind) = tt
+tells_unfit (stops.Unfit name error) = of_merge error
+  where
+    of_merge : (error : MergeError) → TellsUnfit (stops.Unfit name error)
+    of_merge merge_errors.Memory = tt
+    of_merge (merge_errors.Unmapped table row place) = (refl, λ e. absurd cc)
+    of_merge (merge_errors.ImageTwice table first second image) = (refl, λ e. absurd cc)
+    of_merge (merge_errors.MethodTaken input first second image) = (refl, λ e. absurd cc)
+    of_merge (merge_errors.OffsetBeyond method offset size) = (refl, λ e. absurd cc)
+    of_merge (merge_errors.AsyncLost method offset) = (refl, λ e. absurd cc)
+    of_merge (merge_errors.KindUnknown row kind) = (refl, λ e. absurd cc)
+    of_merge (merge_errors.DocumentConflict row joined) = (refl, λ e. absurd cc)
+    of_merge (merge_errors.RowsDiffer input table first second) = (refl, λ e. absurd cc)
+    of_merge (merge_errors.ImageRange input table row image rows) = (refl, λ e. absurd cc)
+    of_merge (merge_errors.SlotUnmapped row slot) = (refl, λ e. absurd cc)
+    of_merge (merge_errors.SlotTwice method first second image) = (refl, λ e. absurd cc)
+tells_unfit (stops.Limit limit) = tt
+tells_unfit (stops.MapLimit bytes) = tt
+tells_unfit (stops.NoMethod method) = tt
+tells_unfit (stops.Unlinked name error) = tt
+tells_unfit (stops.NoDocument name) = tt
+tells_unfit (stops.SizesDiffer method first second) = tt
+tells_unfit stops.Sink = tt
+tells_unfit stops.Memory = tt
+
+-- an error that is told, or want of memory
+pub unfit_given : {U A : Type 0} (view : U → A) (stop : Stop) (name : List ℕ) (error : MergeError) (told : Result A MergeError)
+    → IfSome (told_by (cause_of stop)) (λ o. (o ≡ unfit name error) × (error ≡ merge_errors.Memory → ⊥))
+    → (error ≡ merge_errors.Memory) ⊎ (told ≡ Err error) → Gives view (Err stop) (gives (fitting name told))
+unfit_given view stop name error told h either = by_refusal (told_by (cause_of stop)) h
+  where
+    by_refusal : (o : Option Outcome) → IfSome o (λ o. (o ≡ unfit name error) × (error ≡ merge_errors.Memory → ⊥))
+        → IfSome o (λ refusal. Err refusal ≡ fitting name told)
+    by_refusal None h = tt
+    by_refusal (Some o) h = elim either [
+      | inl memory ↦ absurd (h.1 memory)
+      | inr is ↦ ap Err h.0 ∙ sym (ap (fitting name) is)
+    ]
+
+module _ (marks : List (List ℕ)) (traces more : List Trace) (input : Input) (bytes text : List ℕ) where
+  abbrev judged_input : Step RawFile
+  judged_input = judged input.file (BadFile bytes) (IsRawOf bytes)
+
+  abbrev fitted : RawFile → Map → Step (List Trace)
+  fitted raw m = gives (fitting input.file (added marks traces m raw))
+
+  abbrev moved_with : RawFile → Step (List Trace)
+  moved_with raw = map_in input.map_file text >>= fitted raw
+
+  module _ (raw : RawFile) (accepted : IsAccepted (BadFile bytes)) (is : IsRawOf bytes raw) where
+    -- the map's text has no map
+    pub no_map_told : (stop : Stop) → Gives (λ (m : Map). m) (Err stop) (map_in input.map_file text)
+        → Gives (λ (_ : Unit {0}). more) (Err stop) (with_texts marks traces input bytes text)
+    no_map_told stop h =
+        gives_next {U = Unit {0}} (λ _. more) (Err stop) judged_input moved_with raw (accepted, is)
+        (gives_stop {U = Unit {0}} (λ (m : Map). m) (λ _. more) stop (map_in input.map_file text) (fitted raw) h)
+
+    module _ (m : Map) (has : IsMapOf text m) where
+      further : (result : Result (Unit {0}) Stop) → Gives (λ _. more) result (fitted raw m)
+          → Gives (λ _. more) result (with_texts marks traces input bytes text)
+      further result h =
+          gives_next (λ _. more) result judged_input moved_with raw (accepted, is)
+          (gives_next (λ _. more) result (map_in input.map_file text) (fitted raw) m has h)
+
+      -- it is added
+      pub input_told : (x : Unit {0}) → added marks traces m raw ≡ Ok more → Gives (λ _. more) (Ok x) (with_texts marks traces input bytes text)
+      input_told x e = further (Ok x) (sym (ap (fitting input.file) e))
+
+      -- there is one more
+      pub one_added : added marks traces m raw ≡ Ok more → refusal_of marks traces m raw ≡ None → length more ≡ length traces + 1
+      one_added e none =
+          let whole : Ok (traces ++ trace_of (is_first traces) m raw ∷ []) ≡ Ok more =
+          sym (ap (with_trace traces (trace_of (is_first traces) m raw)) none) ∙ e in
+          let same : traces ++ trace_of (is_first traces) m raw ∷ [] ≡ more = cc in
+          sym (ap length same) ∙ longer traces (trace_of (is_first traces) m raw)
+        where
+          longer : (xs : List Trace) (x : Trace) → length (xs ++ x ∷ []) ≡ length xs + 1
+          longer [] x = omega arith
+          longer (y ∷ xs) x = let more = longer xs x in omega (arith, more)
+
+      -- it does not fit
+      pub misfit_told : (stop : Stop) (error : MergeError)
+          → IfSome (told_by (cause_of stop)) (λ o. (o ≡ unfit input.file error) × (error ≡ merge_errors.Memory → ⊥))
+          → (error ≡ merge_errors.Memory) ⊎ (refusal_of marks traces m raw ≡ Some error)
+          → Gives (λ (_ : Unit {0}). more) (Err stop) (with_texts marks traces input bytes text)
+      misfit_told stop error tells either =
+          further (Err stop) (unfit_given {U = Unit {0}} (λ _. more) stop input.file error (added marks traces m raw) tells (whole either))
+        where
+          whole : (error ≡ merge_errors.Memory) ⊎ (refusal_of marks traces m raw ≡ Some error)
+              → (error ≡ merge_errors.Memory) ⊎ (added marks traces m raw ≡ Err error)
+          whole (inl memory) = inl memory
+          whole (inr is) = inr (ap (with_trace traces (trace_of (is_first traces) m raw)) is)
+
+module _ (files : Option Files) (marks : List (List ℕ)) (traces more : List Trace) (input : Input) where
+  abbrev behind_file : Files → List ℕ → Step (List Trace)
+  behind_file all bytes = file_at all input.map_file >>= with_texts marks traces input bytes
+
+  -- its file is not read
+  pub file_told : (stop : Stop) → IfSome files (λ all. Gives (λ (b : List ℕ). b) (Err stop) (file_at all input.file))
+      → IfSome files (λ all. Gives (λ (_ : Unit {0}). more) (Err stop) (with_input all marks traces input))
+  file_told stop h = stop_over {U = Unit {0}} (λ (b : List ℕ). b) (λ _. more) stop files (λ all. file_at all input.file) behind_file h
+
+  module _ (bytes : List ℕ) (read : IfSome files (λ all. file_at all input.file (Ok bytes))) where
+    -- its map is not read
+    pub map_told : (stop : Stop) → IfSome files (λ all. Gives (λ (b : List ℕ). b) (Err stop) (file_at all input.map_file))
+        → IfSome files (λ all. Gives (λ (_ : Unit {0}). more) (Err stop) (with_input all marks traces input))
+    map_told stop h =
+        next_over {U = Unit {0}} (λ _. more) (Err stop) files (λ all. file_at all input.file) behind_file bytes read
+        (stop_over {U = Unit {0}} (λ (b : List ℕ). b) (λ _. more) stop files (λ all. file_at all input.map_file)
+        (λ all. with_texts marks traces input bytes) h)
+
+    -- both are read
+    pub texts_told : (result : Result (Unit {0}) Stop) (text : List ℕ) → IfSome files (λ all. file_at all input.map_file (Ok text))
+        → Gives (λ _. more) result (with_texts marks traces input bytes text)
+        → IfSome files (λ all. Gives (λ _. more) result (with_input all marks traces input))
+    texts_told result text h k =
+        next_over (λ _. more) result files (λ all. file_at all input.file) behind_file bytes read
+        (next_over (λ _. more) result files (λ all. file_at all input.map_file) (λ all. with_texts marks traces input bytes) text h
+        (on_told files (λ all. k)))
+
+-- ---- inputs in order
+
+-- what was read of the inputs: what is to come decides as all of them
+pub record Goes (files : Option Files) (marks : List (List ℕ)) (traces : List Trace) (rest whole : List Input) : Type 0 where
+  pub told : IfSome files (λ all. (r : Result (List Trace) Outcome) → with_inputs all marks traces rest r → with_inputs all marks [] whole r)
+  pub comes : IfSome files (λ all. (name : List ℕ) → ComesToInput all marks traces rest name → ComesToInput all marks [] whole name)
+
+pub goes_all : (files : Option Files) (marks : List (List ℕ)) (traces : List Trace) (whole : List Input) → traces ≡ [] → Goes files marks traces whole whole
+goes_all files marks traces whole e = record {
+  told = on_told files (λ all r h. subst (λ t. with_inputs all marks t whole r) e h);
+  comes = on_told files (λ all name h. subst (λ t. ComesToInput all marks t whole name) e h);
+}
+
+pub goes_on : (files : Option Files) (marks : List (List ℕ)) (traces more : List Trace) (input : Input) (rest whole : List Input)
+    → IfSome files (λ all. with_input all marks traces input (Ok more)) → Goes files marks traces (input ∷ rest) whole → Goes files marks more rest whole
+goes_on None marks traces more input rest whole h g = record { told = tt; comes = tt }
+goes_on (Some all) marks traces more input rest whole h g = record {
+  told = λ r k. g.told r (inl (more, h, k));
+  comes = λ name k. g.comes name (inr (inr (more, h, k)));
+}
+
+-- an input that stops ends all
+pub goes_stop : {U V : Type 0} (view : U → List Trace) (other : V → List Trace) (files : Option Files) (marks : List (List ℕ)) (traces : List Trace)
+    (input : Input) (rest whole : List Input) (stop : Stop) → IfSome files (λ all. Gives view (Err stop) (with_input all marks traces input))
+    → Goes files marks traces (input ∷ rest) whole → IfSome files (λ all. Gives other (Err stop) (with_inputs all marks [] whole))
+goes_stop view other None marks traces input rest whole stop h g = tt
+goes_stop view other (Some all) marks traces input rest whole stop h g = by_refusal (told_by (cause_of stop)) h
+  where
+    by_refusal : (o : Option Outcome) → IfSome o (λ refusal. with_input all marks traces input (Err refusal))
+        → IfSome o (λ refusal. with_inputs all marks [] whole (Err refusal))
+    by_refusal None h = tt
+    by_refusal (Some refusal) h = g.told (Err refusal) (inr (refusal, h, refl))
+
+-- where none is left, these are the traces of all
+pub goes_end : (files : Option Files) (marks : List (List ℕ)) (traces : List Trace) (rest whole : List Input) → rest ≡ []
+    → Goes files marks traces rest whole → IfSome files (λ all. with_inputs all marks [] whole (Ok traces))
+goes_end None marks traces rest whole e g = tt
+goes_end (Some all) marks traces rest whole e g = g.told (Ok traces) (subst (λ inputs. with_inputs all marks traces inputs (Ok traces)) (sym e) refl)
+
+-- an input that is next comes to be read
+pub goes_unread : (files : Option Files) (marks : List (List ℕ)) (traces : List Trace) (input : Input) (rest whole : List Input) (before after : ℕ) (name : List ℕ)
+    → Goes files marks traces (input ∷ rest) whole → IsInputUnread files input before after name → IfSome files (λ all. ComesToInput all marks [] whole name)
+goes_unread None marks traces input rest whole before after name g u = tt
+goes_unread (Some all) marks traces input rest whole before after name g (inl (e, same)) = g.comes name (inl e)
+goes_unread (Some all) marks traces input rest whole before after name g (inr (e, more, read)) = g.comes name (inr (inl (e, read)))
+
+-- ---- how many files were read
+
+second : (names : List (List ℕ)) (b : List ℕ) (after : List (List ℕ)) → names ≡ b ∷ after → slice_get names 0 ≡ Some b
+second [] b after e = absurd cc
+second (x ∷ names) b after e = cc
+
+at_front : (names : List (List ℕ)) (i : ℕ) (a b : List ℕ) (after : List (List ℕ)) → drop i names ≡ a ∷ b ∷ after
+    → (slice_get names i ≡ Some a) × (slice_get names (suc i) ≡ Some b)
+at_front [] zero a b after e = absurd cc
+at_front [] (suc i) a b after e = absurd cc
+at_front (x ∷ names) zero a b after e = (cc, second names b after cc)
+at_front (x ∷ names) (suc i) a b after e = at_front names i a b after e
+
+pub named_at : (names : List (List ℕ)) (i : ℕ) (name : List ℕ) → slice_get names i ≡ Some name → Contains names name
+named_at [] i name e = absurd cc
+named_at (x ∷ names) zero name e = (0, omega arith, cc)
+named_at (x ∷ names) (suc i) name e = let h = named_at names i name e in (suc h.0, omega arith, h.2)
+
+below_last : (mid after : ℕ) → after ≡ counted mid → after < 18446744073709551615 → after ≡ mid + 1
+below_last mid after more below = let one = one_more mid after more below in omega (arith, one)
+
+-- the name that is next after so many words were read
+pub next_is : (files : Option Files) (names after : List (List ℕ)) (i before mid reads : ℕ) (input : Input) (name : List ℕ)
+    → drop i names ≡ input.file ∷ input.map_file ∷ after → (mid < 18446744073709551615 → mid ≡ before + i) → IsInputUnread files input mid reads name
+    → Contains names name × (reads < 18446744073709551615 → slice_get names (reads - before) ≡ Some name)
+next_is files names after i before mid reads input name e m (inl (n, r)) =
+    let at = at_front names i input.file input.map_file after e in
+    (named_at names i name (rw n at.0), λ small. let k : reads - before ≡ i = omega (arith, r, small, m (omega (arith, r, small))) in rw (k, n) at.0)
+next_is files names after i before mid reads input name e m (inr (n, r, read)) =
+    let at = at_front names i input.file input.map_file after e in (
+      named_at names (suc i) name (rw n at.1),
+      λ small.
+          let s = below_last mid reads r small in
+          let k : reads - before ≡ suc i = omega (arith, s, small, m (omega (arith, s, small))) in rw (k, n) at.1,
+    )
+
+-- ---- the file that was to be read
+
+pub one_unread : (files : Option Files) (marks : List (List ℕ)) (input : Input) (output : List ℕ) (keep : Bool) (before after : ℕ) (name : List ℕ)
+    → IsInputUnread files input before after name
+    → IsUnreadOf (Merge (input ∷ []) output (record { keep_id = keep; marks = marks })) files before after name
+one_unread files marks input output keep before after name u =
+    let known = next_is files (input.file ∷ input.map_file ∷ []) [] 0 before before after input name refl (λ small. omega arith) u in
+    record {
+      named = known.0;
+      next = known.1;
+      comes = goes_unread files marks [] input [] (input ∷ []) before after name (goes_all files marks [] (input ∷ []) refl) u;
+    }

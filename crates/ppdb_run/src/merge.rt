@@ -1,0 +1,146 @@
+// The commands `remap` and `merge`: the canonical file of inputs that are moved and joined.
+ghost use Rattle.std.specs.Prelude.{◌≡◌, ◌≤◌, ℕ, List, [], length, Some, None, IfOk, OnOk, IfErr, IfSome};
+ghost use Rattle.ppdb_base.specs.Causes.{Rose};
+ghost use Rattle.ppdb_base.specs.First.{IsAccepted};
+ghost use Rattle.ppdb_merge.specs.Together.{joined_of};
+ghost use Rattle.ppdb_run.specs.Ends.{IsUnreadOf, OnTask, RebuildsWhereKnown, WritesAgain, WritesValid};
+ghost use Rattle.ppdb_run.specs.Outcome.{IsOutcome, all_joined, gives, in_limits, input_in, steps_of, written};
+ghost use Rattle.ppdb_run.specs.Stops.{cause_of, Settles, Finds, Gives, Leaves, ComesFrom, OnKept, no_file};
+ghost use Rattle.ppdb_run.specs.Task.{inputs_of, options_of};
+ghost use Rattle.ppdb_run.specs.Words.{Merge};
+ghost use Rattle.ppdb_verify.specs.Files.{BadFile};
+ghost use Rattle.sound_values.specs.Sound.{IsSound};
+
+use crate::inputs::Inputs;
+use crate::merged::merged;
+use crate::options::Options;
+use crate::output::write_output;
+use crate::rebuild::choice;
+use crate::stop::Stop;
+use ppdb_base::{Bytes, Folder, MergeError, Steps};
+use ppdb_build::{BuildError, FileValue, write_file};
+use ppdb_merge::Merger;
+use std::alloc::Global;
+use std::sync::ledger::Ledger;
+
+/// Writes the canonical file of inputs, each moved by its map, joined.
+pub fn merge<'a, F: Folder, K: Ledger, L: Ledger>(
+    alloc: Global,
+    inputs: Inputs<'a>,
+    output: &'a str,
+    options: Options<'a>,
+    folder: &mut F,
+    checks: &mut Steps<K>,
+    steps: &mut Steps<L>,
+) -> Result<(), Stop<'a>>
+    requires some { 1 ≤ length (inputs_of inputs) }
+    requires most { length (inputs_of inputs) ≤ 256 }
+
+    // What it comes to over told files.
+    ensures found { IfSome (F.files folder.old) (λ all. Finds result (IsOutcome (Some (Merge (inputs_of inputs.entry) output.now (options_of options.entry))) all)) }
+    ensures told { OnTask (Merge (inputs_of inputs.entry) output.now (options_of options.entry)) (F.files folder.old) (Settles result) }
+    ensures silent { OnTask (Merge (inputs_of inputs.entry) output.now (options_of options.entry)) (F.files folder.old) (λ due. OnOk result (due.text ≡ [])) }
+    ensures files { OnTask (Merge (inputs_of inputs.entry) output.now (options_of options.entry)) (F.files folder.old)
+        (λ due. Leaves result due.writes (F.files folder.old) (F.files folder.new)) }
+
+    ensures accepted { OnOk result (OnTask (Merge (inputs_of inputs.entry) output.now (options_of options.entry)) (F.files folder.old)
+        (WritesValid (Some (Merge (inputs_of inputs.entry) output.now (options_of options.entry))))) }
+    ensures again { OnOk result (OnTask (Merge (inputs_of inputs.entry) output.now (options_of options.entry)) (F.files folder.old)
+        (WritesAgain (Some (Merge (inputs_of inputs.entry) output.now (options_of options.entry))))) }
+
+    // What a stop comes from, and what it leaves.
+    ensures causes { IfErr result (λ stop. ComesFrom (cause_of stop)
+        ⊥
+        (IsUnreadOf (Merge (inputs_of inputs.entry) output.now (options_of options.entry)) (F.files folder.old) (F.reads folder.old) (F.reads folder.new))
+        (λ failed. failed ≡ output.now)
+        (F.files folder.old)
+        (Rose (F.read_faults folder.old) (F.read_faults folder.new))
+        (Rose (F.write_faults folder.old) (F.write_faults folder.new))
+        ⊥) }
+    ensures kept { IfErr result (λ stop. OnKept (cause_of stop) (F.files folder.new ≡ F.files folder.old)) }
+{
+    let bytes = match merged_bytes(alloc, inputs, options, folder, checks, steps) {
+        Ok(bytes) => bytes,
+        Err(stop) => return Err(stop),
+    };
+    write_output(folder, output, bytes.as_slice())
+}
+
+/// Moves and joins inputs, and makes the canonical file.
+fn merged_bytes<'a, F: Folder, K: Ledger, L: Ledger>(
+    alloc: Global,
+    inputs: Inputs<'a>,
+    options: Options<'a>,
+    folder: &mut F,
+    checks: &mut Steps<K>,
+    steps: &mut Steps<L>,
+) -> Result<Bytes, Stop<'a>>
+    requires some { 1 ≤ length (inputs_of inputs) }
+    requires most { length (inputs_of inputs) ≤ 256 }
+    ensures told { (output : List ℕ) → IfSome (F.files folder.old)
+        (λ all. Gives (written output) result (steps_of (Merge (inputs_of inputs.entry) output (options_of options.entry)) all)) }
+    ensures accepted { IfOk result (λ bytes. IsAccepted (BadFile bytes)) }
+    ensures again { (output : List ℕ) → IfOk result (λ bytes. RebuildsWhereKnown (options_of options.entry) (output, bytes)) }
+    ensures files { F.files folder.new ≡ F.files folder.old }
+    ensures write_faults { F.write_faults folder.new ≡ F.write_faults folder.old }
+    ensures later { F.read_faults folder.old ≤ F.read_faults folder.new }
+    ensures causes { (output : List ℕ) → IfErr result (λ stop. ComesFrom (cause_of stop)
+        ⊥
+        (IsUnreadOf (Merge (inputs_of inputs.entry) output (options_of options.entry)) (F.files folder.old) (F.reads folder.old) (F.reads folder.new))
+        no_file
+        (F.files folder.old)
+        (Rose (F.read_faults folder.old) (F.read_faults folder.new))
+        ⊥
+        ⊥) }
+{
+    let marks = options.marks(alloc)?;
+    let merger = match merged(alloc, inputs, marks, folder, checks, steps) {
+        Ok(merger) => merger,
+        Err(stop) => return Err(stop),
+    };
+    let value = match joined(inputs, merger) {
+        Ok(value) => value,
+        Err(stop) => return Err(stop),
+    };
+    value_bytes(alloc, &value, options.keep_id)
+}
+
+/// The value that inputs are joined to, where they fit together.
+fn joined<'a>(inputs: Inputs<'a>, merger: Merger) -> Result<FileValue, Stop<'a>>
+    requires { 1 ≤ length merger.traces }
+    ensures told { Gives (λ value. value) result (gives (all_joined (inputs_of inputs.entry) (joined_of merger.traces))) }
+    ensures sound { IfOk result IsSound }
+    ensures causes { IfErr result (λ stop. ComesFrom (cause_of stop) ⊥ no_file no_file None ⊥ ⊥ ⊥) }
+{
+    match merger.finish() {
+        Ok(value) => Ok(value),
+        Err(error) => Err(Stop::Unfit(inputs.file(input_of(error)), error)),
+    }
+}
+
+/// The number of the input that is told, from 1, and else 0.
+fn input_of(error: MergeError) -> u32
+    ensures { result ≡ input_in error }
+{
+    match error {
+        MergeError::RowsDiffer { input, .. } | MergeError::ImageRange { input, .. } => input,
+        _ => 0,
+    }
+}
+
+/// The canonical file of a value.
+fn value_bytes<'a>(alloc: Global, value: &FileValue, keep_id: bool) -> Result<Bytes, Stop<'a>>
+    requires { IsSound value.now }
+    ensures told { (output : List ℕ) (marks : List (List ℕ)) →
+        Gives (written output) result (gives (in_limits output (record { keep_id = keep_id; marks = marks }) value.now)) }
+    ensures accepted { IfOk result (λ bytes. IsAccepted (BadFile bytes)) }
+    ensures again { (output : List ℕ) (marks : List (List ℕ)) →
+        IfOk result (λ bytes. RebuildsWhereKnown (record { keep_id = keep_id; marks = marks }) (output, bytes)) }
+    ensures causes { IfErr result (λ stop. ComesFrom (cause_of stop) ⊥ no_file no_file None ⊥ ⊥ ⊥) }
+{
+    match write_file(alloc, value, choice(keep_id)) {
+        Ok(bytes) => Ok(bytes),
+        Err(BuildError::Limit(limit)) => Err(Stop::Limit(limit)),
+        Err(BuildError::Memory) => Err(Stop::Memory),
+    }
+}
