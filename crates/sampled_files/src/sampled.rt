@@ -28,9 +28,9 @@ use value_limits::value_has_types;
 #[derive(Clone, Copy, Debug, PartialEq, Eq)]
 pub struct SampleReport {
     /// The length of its file, which has its zero identity.
-    pub bytes: u64,
+    pub bytes: u32,
     /// The length of the file of what its map makes of it, with an identity from its hash.
-    pub remapped_bytes: u64,
+    pub remapped_bytes: u32,
     /// That identity.
     pub remapped_id: [u8; 20],
 }
@@ -69,7 +69,7 @@ fn remapped_len_and_id(
     alloc: Global,
     value: &FileValue,
     methods: u32,
-) -> Result<(usize, [u8; 20]), BuildError>
+) -> Result<(u32, [u8; 20]), BuildError>
     requires value { value.now ≡ remapped_sample methods }
     requires sound { IsSound value.now }
     requires within { first_limit (sample methods) ≡ None }
@@ -82,7 +82,7 @@ fn remapped_len_and_id(
     canonical_files_forget_ids();
     ids_stand_after_the_root();
     match write_file(alloc, value, IdChoice::Hash) {
-        Ok(file) => Ok((file.len(), id_in(file.as_slice()))),
+        Ok(file) => Ok((file.len() as u32, id_in(file.as_slice()))),
         Err(error) => Err(error),
     }
 }
@@ -107,12 +107,12 @@ pub fn sampled<K: Ledger, L: Ledger>(
         Ok(file) => file,
         Err(error) => return Err(error),
     };
-    let bytes = file.len() as u64;
+    let bytes = file.len() as u32;
     let value = remapped_value(alloc, methods, file, checks, steps)?;
     match remapped_len_and_id(alloc, &value, methods) {
-        Ok((len, remapped_id)) => Ok(SampleReport {
+        Ok((remapped_bytes, remapped_id)) => Ok(SampleReport {
             bytes,
-            remapped_bytes: len as u64,
+            remapped_bytes,
             remapped_id,
         }),
         Err(error) => Err(error),
