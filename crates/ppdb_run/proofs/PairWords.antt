@@ -2,7 +2,8 @@
 use Rattle.std.proofs.Common.{ℕ, zero, suc, ◌≡◌, ◌≤◌, ◌<◌, ◌+◌, ◌-◌, ◌*◌, ◌⊎◌, List, [], ◌∷◌, ◌++◌, length, take, drop, get_or, String, string_bytes, inl, inr, Bool, true, false, refl, sym, ◌∙◌, ap, subst, arith}
 use Rattle.std.specs.Prelude.{◌&&◌, ◌==◌, IsTrue, OnErr, Result, Ok, Err, codes}
 use Rattle.std.specs.declared.alloc.Global.{Global}
-use Rattle.std.proofs.lemmas.List.{drop-map, drop-drop, length-drop}
+use Rattle.std.proofs.lemmas.Bool.{eqb-true}
+use Rattle.std.proofs.lemmas.List.{drop-map, drop-drop, length-drop, take_all}
 use Rattle.std.specs.List.{list_all}
 use Rattle.ppdb_run.specs.Task.{NoPair, pairs_of}
 use Rattle.ppdb_run.specs.Outcome.{file_of}
@@ -173,13 +174,13 @@ module _ (args : List (List ℕ)) (first : List ℕ) (words front back : List (L
       let some = parts.0 in
       let most = parts.1 in
       elim count [
-      | inl no ↦ absurd (omega (arith, no, same, long, two, some))
+      | inl nothing ↦ absurd (omega (arith, nothing, same, long, two, some))
       | inr many ↦ absurd (omega (arith, many, same, long, two, most))
       ])
 
   -- what is behind the pairs are no options
   pub no_merge_options : ((options : Options) → AreOptions back options → ⊥) → NoTask (codes "merge" ∷ args)
-  no_merge_options no = only_merge args (λ inputs output options h. no options (merge_parts inputs output options h).3)
+  no_merge_options refused = only_merge args (λ inputs output options h. refused options (merge_parts inputs output options h).3)
 
   -- they are, and there are as many pairs as there can be
   pub merge_words : (output : List ℕ) (options : Options) → output ≡ first → IsTrue (is_file_word first) → 1 ≤ length front → length front ≤ 512
@@ -243,9 +244,9 @@ two_of (x ∷ y ∷ rest) a b l e f = λ i. string_bytes (sym e i) ∷ string_by
 
 -- its first word, and the words behind it
 pub one_of : (words : List (String Global)) (a : String Global) → 1 ≤ length words → a ≡ get_or words 0 a
-    → texts words ≡ string_bytes a ∷ texts (drop 1 words)
+    → texts words ≡ string_bytes a ∷ texts (take (length words - 1) (drop 1 words))
 one_of [] a l e = absurd (omega arith)
-one_of (x ∷ words) a l e = λ i. string_bytes (sym e i) ∷ texts words
+one_of (x ∷ words) a l e = λ i. string_bytes (sym e i) ∷ texts (sym (take_all (length (x ∷ words) - 1) words (omega arith)) i)
 
 -- its first word, and one more
 pub first_two : (rest : List (String Global)) (a : String Global) → 2 ≤ length rest → a ≡ get_or rest 0 a
@@ -255,11 +256,10 @@ first_two (x ∷ []) a l e = absurd (omega arith)
 first_two (x ∷ y ∷ rest) a l e = λ i. string_bytes (sym e i) ∷ string_bytes y ∷ texts rest
 
 pub is_empty : (words : List (String Global)) → (length words == 0) ≡ true → length words ≡ 0
-is_empty [] e = refl
-is_empty (x ∷ words) e = absurd (let no : false ≡ true = e in cc)
+is_empty words e = eqb-true (length words) 0 e
 
 pub not_empty : (words : List (String Global)) → (length words == 0) ≡ false → 1 ≤ length words
-not_empty [] e = absurd (let no : true ≡ false = e in cc)
+not_empty [] e = absurd (let same : true ≡ false = e in cc)
 not_empty (x ∷ words) e = omega arith
 
 pub rest_texts : (words rest : List (String Global)) (i : ℕ) → rest ≡ drop i words → drop i (texts words) ≡ texts rest
