@@ -1,5 +1,5 @@
 -- Words that name files and maps, two by two, and options behind them.
-use Rattle.std.proofs.Common.{ℕ, zero, suc, ◌≡◌, ◌≤◌, ◌<◌, ◌+◌, ◌-◌, ◌*◌, ◌⊎◌, List, [], ◌∷◌, ◌++◌, length, take, drop, get_or, String, string_bytes, inl, inr, Bool, true, false, refl, sym, ◌∙◌, ap, subst, arith}
+use Rattle.std.proofs.Common.{ℕ, zero, suc, ◌≡◌, ◌≤◌, ◌<◌, ◌+◌, ◌-◌, ◌⊎◌, List, [], ◌∷◌, ◌++◌, length, take, drop, get_or, String, string_bytes, inl, inr, Bool, true, false, refl, sym, ◌∙◌, ap, subst, arith}
 use Rattle.std.specs.Prelude.{◌&&◌, ◌==◌, IsTrue, OnErr, Result, Ok, Err, codes}
 use Rattle.std.specs.declared.alloc.Global.{Global}
 use Rattle.std.proofs.lemmas.Bool.{eqb-true}
@@ -8,7 +8,7 @@ use Rattle.std.specs.List.{list_all}
 use Rattle.ppdb_run.specs.Task.{NoPair, pairs_of}
 use Rattle.ppdb_run.specs.Outcome.{file_of}
 use Rattle.ppdb_run.specs.Words.{Options, AreOptions, no_option, keep_id, free, Input, input_words, is_file_word, texts, NoTask, Words, IsMerge, IsRemap}
-use Rattle.ppdb_run.specs.Words.{Question, Id, Verify, Show, Query, Links, Breaks, Task, Ask, Rebuild, Compose, Merge, Sample}
+use Rattle.ppdb_run.specs.Words.{Id, Verify, Show, Query, Links, Breaks, Ask, Rebuild, Compose, Merge, Sample}
 
 -- what holds of two
 pub both : (a b : Bool) → IsTrue (a && b) → IsTrue a × IsTrue b

@@ -1,4 +1,4 @@
-use Rattle.std.proofs.Common.{◌≡◌, ◌<◌, length, drop, string_bytes, get_or, ◌∙◌, ap, arith}
+use Rattle.std.proofs.Common.{◌<◌, length, drop, string_bytes, ◌∙◌, ap, arith}
 use Rattle.std.proofs.lemmas.List.{length-map}
 use Rattle.ppdb_run.specs.Outcome.{file_of}
 use Rattle.ppdb_run.specs.Task.{pairs_of}
