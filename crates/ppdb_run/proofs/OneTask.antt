@@ -94,8 +94,8 @@ one_merge words inputs others o p a b h k =
     let output : o ≡ p = cc in
     let split : input_words inputs ++ h.rest ≡ input_words others ++ k.rest = cc in
     let same = same_inputs inputs others h.rest k.rest (behind_first is_file_word o (input_words inputs) h.files)
-        (behind_first is_file_word p (input_words others) k.files) (no_options_pair h.rest a h.options_are)
-        (no_options_pair k.rest b k.options_are) split in
+    (behind_first is_file_word p (input_words others) k.files) (no_options_pair h.rest a h.options_are)
+    (no_options_pair k.rest b k.options_are) split in
     (same.0, output, one_choice k.rest a b (subst (λ w. AreOptions w a) same.1 h.options_are) k.options_are)
 
 pub one_task : (words : List (List ℕ)) (one other : Task) → Words one words → Words other words → one ≡ other

@@ -46,8 +46,8 @@ same_inputs (i ∷ is) (j ∷ js) rest more f g n m e =
     let map_file : i.map_file ≡ j.map_file = cc in
     let behind : input_words is ++ rest ≡ input_words js ++ more = cc in
     let same = same_inputs is js rest more
-        (behind_first is_file_word i.map_file (input_words is) (behind_first is_file_word i.file (i.map_file ∷ input_words is) f))
-        (behind_first is_file_word j.map_file (input_words js) (behind_first is_file_word j.file (j.map_file ∷ input_words js) g)) n m behind in
+    (behind_first is_file_word i.map_file (input_words is) (behind_first is_file_word i.file (i.map_file ∷ input_words is) f))
+    (behind_first is_file_word j.map_file (input_words js) (behind_first is_file_word j.file (j.map_file ∷ input_words js) g)) n m behind in
     ((λ k. record { file = file k; map_file = map_file k } ∷ same.0 k), same.1)
 
 -- the words of pairs, and the pairs of words
@@ -132,9 +132,9 @@ merge_is inputs output first options words front back e even files none h =
     let is = h.is in
     let same : output ≡ first = cc in
     let split : input_words inputs ++ h.rest ≡ input_words (pairs_of front) ++ back =
-        (let both : words ≡ input_words inputs ++ h.rest = cc in sym both) ∙ (e ∙ ap (λ (w : List (List ℕ)). w ++ back) even) in
+    (let both : words ≡ input_words inputs ++ h.rest = cc in sym both) ∙ (e ∙ ap (λ (w : List (List ℕ)). w ++ back) even) in
     let one = same_inputs inputs (pairs_of front) h.rest back (behind_first is_file_word output (input_words inputs) h.files)
-        (subst (λ w. IsTrue (list_all is_file_word w)) even files) (no_options_pair h.rest options h.options_are) none split in
+    (subst (λ w. IsTrue (list_all is_file_word w)) even files) (no_options_pair h.rest options h.options_are) none split in
     (same, one.0, one.1)
 
 -- words that begin as those of a merge are no other task's

@@ -1,5 +1,5 @@
 -- The lines that say why a run stopped.
-use Rattle.std.specs.Prelude.{ℕ, List, [], ◌∷◌, ◌++◌, Some, codes}
+use Rattle.std.specs.Prelude.{ℕ, List, [], ◌∷◌, ◌++◌, length, take, drop, Some, codes}
 use Rattle.ppdb_base.specs.declared.fault.Fault.{Fault}
 use Rattle.ppdb_base.specs.declared.limits.Limit.{Limit}
 use Rattle.ppdb_base.specs.declared.link_error.LinkError.{LinkError}
@@ -8,7 +8,7 @@ use Rattle.ppdb_base.specs.declared.limits.Limit.TheVariants.{TableRows, ListPas
 use Rattle.ppdb_base.specs.declared.link_error.LinkError.TheVariants as links
 use Rattle.ppdb_base.specs.declared.merge_error.MergeError.TheVariants.{Unmapped, ImageTwice, MethodTaken, OffsetBeyond, AsyncLost, KindUnknown}
 use Rattle.ppdb_base.specs.declared.merge_error.MergeError.TheVariants.{DocumentConflict, RowsDiffer, ImageRange, SlotUnmapped, SlotTwice, Memory}
-use Rattle.ppdb_lines.specs.Lines.{Field, Line, mark, number, table, guid, text_of}
+use Rattle.ppdb_lines.specs.Lines.{Field, Line, mark, number, octets, table, guid, text_of}
 use Rattle.ppdb_lines.specs.Lines.{name as named_bytes}
 use Rattle.ppdb_lines.specs.Pieces.{line, numbered, signed, tabled}
 use Rattle.ppdb_run.specs.Faults.{said, place_fields, fault_fields}
@@ -84,6 +84,20 @@ sizes_line method first second =
       fields = said (codes " method ") (number method) ∷ said (codes " ") (number first)
           ∷ said (codes " ") (number second) ∷ [];
     }
+
+-- ---- the sample
+
+-- the 20 bytes of the identity, with which a written file begins behind its root
+abbrev pub id_in : List ℕ → List ℕ
+id_in bytes = take 20 (drop 112 bytes)
+
+-- the sample of n methods, the length of its file, and the length and the identity of that of the remapped sample
+abbrev pub sample_lines : ℕ → List ℕ → List ℕ → List Line
+sample_lines n bytes remapped =
+    record { word = codes "sample"; fields = said (codes " ") (number n) ∷ [] }
+    ∷ record { word = codes "bytes"; fields = said (codes " ") (number (length bytes)) ∷ [] }
+    ∷ record { word = codes "remapped bytes"; fields = said (codes " ") (number (length remapped)) ∷ [] }
+    ∷ record { word = codes "remapped id"; fields = said (codes " ") (octets (id_in remapped)) ∷ [] } ∷ []
 
 -- ---- questions about a file
 

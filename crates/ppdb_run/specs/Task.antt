@@ -13,7 +13,7 @@ use Rattle.ppdb_run.specs.declared.words.Asked.{Asked as Wanted}
 use Rattle.ppdb_run.specs.declared.words.Asked.TheVariants as wanted
 use Rattle.ppdb_run.specs.declared.words.Command.{Command}
 use Rattle.ppdb_run.specs.declared.words.Command.TheVariants as commands
-use Rattle.ppdb_run.specs.Words.{Question, Id, Verify, Show, Query, Links, Breaks, Options, Input, Task, Ask, Rebuild, Compose, Merge, is_file_word, texts}
+use Rattle.ppdb_run.specs.Words.{Question, Id, Verify, Show, Query, Links, Breaks, Options, Input, Task, Ask, Rebuild, Compose, Merge, Sample, is_file_word, texts}
 
 abbrev pub question_of : Asked → Question
 question_of asked.Id = Id
@@ -69,6 +69,7 @@ asked_task (wanted.Ask question file) = Ask (question_of question) file.now
 asked_task (wanted.Rebuild input output options) = Rebuild input.now output.now (options_of options)
 asked_task (wanted.Compose first second output) = Compose first.now second.now output.now
 asked_task (wanted.Merge inputs output options) = Merge (inputs_of inputs) output.now (options_of options)
+asked_task (wanted.Sample n) = Sample n
 
 -- a command without where its words lie in memory
 abbrev pub task_of : Command → Task
@@ -82,3 +83,4 @@ task_of (commands.Rebuild input output options) = Rebuild input.now output.now (
 task_of (commands.Compose first second output) = Compose first.now second.now output.now
 task_of (commands.Remap input map_file output options) = Merge (record { file = input.now; map_file = map_file.now } ∷ []) output.now (options_of options)
 task_of (commands.Merge output pairs options) = Merge (pairs_of (texts pairs.now)) output.now (options_of options)
+task_of (commands.Sample n) = Sample n

@@ -60,6 +60,8 @@ pub data Task : Type 0 where
   Compose : (first second output : List ℕ) → Task
   -- the canonical file of inputs, each moved by its map, joined
   Merge : (inputs : List Input) → (output : List ℕ) → (options : Options) → Task
+  -- the lengths of the sample of n methods, as it is and after it has moved
+  Sample : (n : ℕ) → Task
 
 -- the files that a task reads, in the order of its words and as often as they are named
 abbrev pub read_files : Task → List (List ℕ)
@@ -67,6 +69,7 @@ read_files (Ask question file) = file ∷ []
 read_files (Rebuild input output options) = input ∷ []
 read_files (Compose first second output) = first ∷ second ∷ []
 read_files (Merge inputs output options) = input_words inputs
+read_files (Sample n) = []
 
 -- the file that a task writes, if any
 abbrev pub written_file : Task → Option (List ℕ)
@@ -74,6 +77,7 @@ written_file (Ask question file) = None
 written_file (Rebuild input output options) = Some output
 written_file (Compose first second output) = Some output
 written_file (Merge inputs output options) = Some output
+written_file (Sample n) = None
 
 -- the words are one that names a file
 abbrev pub IsFileAlone : List ℕ → List (List ℕ) → Type 0
@@ -123,6 +127,7 @@ Words (Compose first second output) words =
     (words ≡ codes "compose" ∷ first ∷ second ∷ output ∷ []) × IsTrue (is_file_word first) × IsTrue (is_file_word second)
     × IsTrue (is_file_word output)
 Words (Merge inputs output options) words = IsRemap inputs output options words ⊎ IsMerge inputs output options words
+Words (Sample n) words = (words ≡ codes "sample" ∷ decimal n ∷ []) × (n ≤ 100000)
 
 -- no task has these words
 abbrev pub NoTask : List (List ℕ) → Type 0

@@ -13,6 +13,7 @@ use crate::answer::answer;
 use crate::compose::compose;
 use crate::merge::merge;
 use crate::rebuild::rebuild;
+use crate::sample::sample;
 use crate::status::Status;
 use crate::stop::Stop;
 use crate::words::{Asked, Usage, read_words};
@@ -133,6 +134,7 @@ fn carry_out<'a, F: Folder, O: Sink, K: Ledger, L: Ledger>(
             Asked::Merge(inputs, output, options) => {
                 merge(alloc, inputs, output, options, folder, checks, steps)
             }
+            Asked::Sample(n) => sample(alloc, n, out, checks, steps),
         },
         Err(Usage) => Err(Stop::Usage),
     }

@@ -26,13 +26,7 @@ impl<'a> Inputs<'a> {
         ensures { result.now ≡ file_of (inputs_of self.entry) number }
     {
         match self {
-            Inputs::One(input) => {
-                if number == 1 {
-                    input.file
-                } else {
-                    ""
-                }
-            }
+            Inputs::One(input) => { if number == 1 { input.file } else { "" } }
             Inputs::Pairs(words) => file_in(words, number),
         }
     }

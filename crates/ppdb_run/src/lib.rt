@@ -18,6 +18,7 @@ mod output;
 mod pairs;
 mod question;
 mod rebuild;
+mod sample;
 mod sources;
 mod status;
 mod stop;

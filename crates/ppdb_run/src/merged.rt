@@ -158,7 +158,15 @@ fn add_input<'a, F: Folder, K: Ledger, L: Ledger>(
         Ok(text) => text,
         Err(stop) => return Err(stop),
     };
-    add_texts(alloc, input, bytes.as_slice(), text.as_slice(), merger, checks, steps)
+    add_texts(
+        alloc,
+        input,
+        bytes.as_slice(),
+        text.as_slice(),
+        merger,
+        checks,
+        steps,
+    )
 }
 
 /// Verifies an input, reads its map and moves it.

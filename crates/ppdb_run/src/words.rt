@@ -5,8 +5,8 @@ ghost use Rattle.ppdb_run.specs.Task.{asked_task, task_of};
 
 use crate::inputs::{Inputs, Pair};
 use crate::number::number;
-use crate::pairs::split_pairs;
 use crate::options::{Options, read_options};
+use crate::pairs::split_pairs;
 use crate::question::Question;
 use ppdb_base::{MAX_OFFSET, MAX_ROWS};
 
@@ -15,6 +15,9 @@ pub(crate) const MAX_LINE: u32 = 0x1fff_ffff;
 
 /// How many inputs are joined at most.
 const MAX_INPUTS: usize = 256;
+
+/// How many methods a sample has at most.
+const MAX_METHODS: u32 = 100_000;
 
 /// What the words ask for.
 #[derive(Clone, Copy, Debug, PartialEq, Eq)]
@@ -73,6 +76,10 @@ pub enum Command<'a> {
         pairs: &'a [String],
         options: Options<'a>,
     },
+    /// The lengths of the sample of `n` methods, to 100000, as it is and after it has moved.
+    Sample {
+        n: u32,
+    },
 }
 
 /// What a command asks for.
@@ -86,6 +93,8 @@ pub(crate) enum Asked<'a> {
     Compose(&'a str, &'a str, &'a str),
     /// The canonical file of inputs that are moved and joined, the file that is written, and how.
     Merge(Inputs<'a>, &'a str, Options<'a>),
+    /// The lengths of the sample of so many methods.
+    Sample(u32),
 }
 
 impl<'a> Command<'a> {
@@ -135,6 +144,7 @@ impl<'a> Command<'a> {
                 pairs,
                 options,
             } => Asked::Merge(Inputs::Pairs(pairs), output, options),
+            Command::Sample { n } => Asked::Sample(n),
         }
     }
 }
@@ -162,6 +172,7 @@ pub fn read_words(words: &[String]) -> Result<Command<'_>, Usage>
         "compose" => compose(args),
         "remap" => remap(args),
         "merge" => merge(args),
+        "sample" => sample(args),
         _ => Err(Usage),
     }
 }
@@ -274,8 +285,7 @@ fn remap(args: &[String]) -> Result<Command<'_>, Usage>
 {
     match args {
         [input, map, output, words @ ..]
-            if names_file(input) && names_file(map) && names_file(output) =>
-        {
+            if names_file(input) && names_file(map) && names_file(output) => {
             let options = read_options(words)?;
             Ok(Command::Remap {
                 input: input.as_str(),
@@ -307,6 +317,20 @@ fn merge(args: &[String]) -> Result<Command<'_>, Usage>
             })
         }
         _ => Err(Usage),
+    }
+}
+
+/// The command `sample` of the words after its name.
+fn sample(args: &[String]) -> Result<Command<'_>, Usage>
+    ensures command { IfOk result (λ command. Words (task_of command) (codes "sample" ∷ texts args.now)) }
+    ensures usage { OnErr result (NoTask (codes "sample" ∷ texts args.now)) }
+{
+    let [methods] = args else {
+        return Err(Usage);
+    };
+    match number(methods, MAX_METHODS) {
+        Some(n) => Ok(Command::Sample { n }),
+        None => Err(Usage),
     }
 }
 
