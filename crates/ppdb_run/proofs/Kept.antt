@@ -80,7 +80,7 @@ leaves_at (Unwritten name) old new e = e
 leaves_at Unput old new e = e
 leaves_at OutOfMemory old new e = e
 
-leaves : (T : Type 0) (result : Result T Stop) (old new : Option Files) → new ≡ old → Leaves result None old new
+pub leaves : (T : Type 0) (result : Result T Stop) (old new : Option Files) → new ≡ old → Leaves result None old new
 leaves T (Ok x) old new e = e
 leaves T (Err stop) old new e = leaves_at (cause_of stop) old new e
 

@@ -7,7 +7,7 @@ use Rattle.std.specs.List.{list_all}
 use Rattle.ppdb_run.specs.Task.{NoPair, pairs_of}
 use Rattle.ppdb_run.specs.Outcome.{file_of}
 use Rattle.ppdb_run.specs.Words.{Options, AreOptions, no_option, keep_id, free, Input, input_words, is_file_word, texts, NoTask, Words, IsMerge, IsRemap}
-use Rattle.ppdb_run.specs.Words.{Question, Id, Verify, Show, Query, Links, Breaks, Task, Ask, Rebuild, Compose, Merge}
+use Rattle.ppdb_run.specs.Words.{Question, Id, Verify, Show, Query, Links, Breaks, Task, Ask, Rebuild, Compose, Merge, Sample}
 
 -- what holds of two
 pub both : (a b : Bool) → IsTrue (a && b) → IsTrue a × IsTrue b
@@ -149,6 +149,7 @@ only_merge words none (Ask Links file) h = let e : 109 ≡ 108 = ap first_letter
 only_merge words none (Ask (Breaks document line) file) h = let e : 109 ≡ 98 = ap first_letter h.0 in absurd (omega (arith, e))
 only_merge words none (Rebuild input output options) h = let e : 109 ≡ 114 = ap first_letter h.1 in absurd (omega (arith, e))
 only_merge words none (Compose first second output) h = let e : 109 ≡ 99 = ap first_letter h.0 in absurd (omega (arith, e))
+only_merge words none (Sample n) h = let e : 109 ≡ 115 = ap first_letter h.0 in absurd (omega (arith, e))
 only_merge words none (Merge inputs output options) (inl h) = let e : 109 ≡ 114 = ap first_letter h.is in absurd (omega (arith, e))
 only_merge words none (Merge inputs output options) (inr h) = none inputs output options h
 
@@ -163,6 +164,7 @@ only_remap words none (Ask Links file) h = let e : 114 ≡ 108 = ap first_letter
 only_remap words none (Ask (Breaks document line) file) h = let e : 114 ≡ 98 = ap first_letter h.0 in absurd (omega (arith, e))
 only_remap words none (Rebuild input output options) h = let e : 109 ≡ 98 = ap third_letter h.1 in absurd (omega (arith, e))
 only_remap words none (Compose first second output) h = let e : 114 ≡ 99 = ap first_letter h.0 in absurd (omega (arith, e))
+only_remap words none (Sample n) h = let e : 114 ≡ 115 = ap first_letter h.0 in absurd (omega (arith, e))
 only_remap words none (Merge inputs output options) (inl h) = none inputs output options h
 only_remap words none (Merge inputs output options) (inr h) = let e : 114 ≡ 109 = ap first_letter h.is in absurd (omega (arith, e))
 
