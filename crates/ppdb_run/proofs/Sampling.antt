@@ -3,12 +3,10 @@ use Rattle.std.proofs.Common.{ℕ, ◌≡◌, inl, inr, List, refl, sym, ap, sub
 use Rattle.std.specs.Prelude.{Option, Some, None, option_map, Result, Ok, Err, IfSome}
 use Rattle.ppdb_base.specs.Files.{Files}
 use Rattle.ppdb_base.specs.declared.limits.Limit.{Limit}
-use Rattle.ppdb_canon.specs.Limits.{first_limit}
-use Rattle.sample_files.specs.Sample.{sample}
+use Rattle.sampled_files.specs.Sampled.{limit_of_sample}
 use Rattle.ppdb_run.specs.declared.stop.Stop.{Stop}
 use Rattle.ppdb_run.specs.Ends.{Asks, AreSeen, IsValid, OnAsked, OnDue, OnOutcome, WritesAgain, WritesValid}
 use Rattle.ppdb_run.specs.Outcome.{Outcome, IsOutcome, done, limited, outcome_of, sampled, unless}
-use Rattle.ppdb_run.specs.Sampled.{remapped_sample}
 use Rattle.ppdb_run.specs.Stops.{cause_of, refusal_of, Finds, FindsOutcome, Leaves, Settles}
 use Rattle.ppdb_run.specs.Words.{Task, Sample, Words}
 use Rattle.ppdb_run.proofs.Kept.{leaves}
@@ -30,14 +28,12 @@ is_due : (n : ℕ) (files : Files) (r : Result Outcome Outcome) → r ≡ sample
 is_due n files (Ok answer) e = inl e
 is_due n files (Err refusal) e = inr e
 
-limits_write : (first second : Option Limit) (text : List ℕ)
-    → (outcome_of (unless (option_map limited first) (unless (option_map limited second) (done text)))).writes ≡ None
-limits_write (Some limit) second text = refl
-limits_write None (Some limit) text = refl
-limits_write None None text = refl
+limit_writes : (limit : Option Limit) (text : List ℕ) → (outcome_of (unless (option_map limited limit) (done text))).writes ≡ None
+limit_writes (Some limit) text = refl
+limit_writes None text = refl
 
 sample_writes : (n : ℕ) → (outcome_of (sampled n)).writes ≡ None
-sample_writes n = limits_write (first_limit (sample n)) (first_limit (remapped_sample n)) _
+sample_writes n = limit_writes (limit_of_sample n) _
 
 -- ---- what the words come to
 

@@ -2,7 +2,6 @@ pub mod Ends
 pub mod Faults
 pub mod Lines
 pub mod Outcome
-pub mod Sampled
 pub mod Status
 pub mod Stops
 pub mod Task

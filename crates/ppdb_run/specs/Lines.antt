@@ -1,5 +1,5 @@
 -- The lines that say why a run stopped.
-use Rattle.std.specs.Prelude.{ℕ, List, [], ◌∷◌, ◌++◌, length, take, drop, Some, codes}
+use Rattle.std.specs.Prelude.{ℕ, List, [], ◌∷◌, ◌++◌, Some, codes}
 use Rattle.ppdb_base.specs.declared.fault.Fault.{Fault}
 use Rattle.ppdb_base.specs.declared.limits.Limit.{Limit}
 use Rattle.ppdb_base.specs.declared.link_error.LinkError.{LinkError}
@@ -12,6 +12,7 @@ use Rattle.ppdb_lines.specs.Lines.{Field, Line, mark, number, octets, table, gui
 use Rattle.ppdb_lines.specs.Lines.{name as named_bytes}
 use Rattle.ppdb_lines.specs.Pieces.{line, numbered, signed, tabled}
 use Rattle.ppdb_run.specs.Faults.{said, place_fields, fault_fields}
+use Rattle.sampled_files.specs.declared.sampled.SampleReport.{SampleReport}
 
 -- words, a name and more about it
 abbrev pub about : List ℕ → List ℕ → List Field → Line
@@ -87,17 +88,13 @@ sizes_line method first second =
 
 -- ---- the sample
 
--- the 20 bytes of the identity, with which a written file begins behind its root
-abbrev pub id_in : List ℕ → List ℕ
-id_in bytes = take 20 (drop 112 bytes)
-
--- the sample of n methods, the length of its file, and the length and the identity of that of the remapped sample
-abbrev pub sample_lines : ℕ → List ℕ → List ℕ → List Line
-sample_lines n bytes remapped =
-    record { word = codes "sample"; fields = said (codes " ") (number n) ∷ [] }
-    ∷ record { word = codes "bytes"; fields = said (codes " ") (number (length bytes)) ∷ [] }
-    ∷ record { word = codes "remapped bytes"; fields = said (codes " ") (number (length remapped)) ∷ [] }
-    ∷ record { word = codes "remapped id"; fields = said (codes " ") (octets (id_in remapped)) ∷ [] } ∷ []
+-- the sample of n methods: the length of its file, and the length and the identity of the file of what its map makes of it
+abbrev pub sample_text : ℕ → SampleReport → List ℕ
+sample_text n report =
+    text_of (record { word = codes "sample"; fields = said (codes " ") (number n) ∷ [] })
+    ++ text_of (record { word = codes "bytes"; fields = said (codes " ") (number report.bytes) ∷ [] })
+    ++ text_of (record { word = codes "remapped bytes"; fields = said (codes " ") (number report.remapped_bytes) ∷ [] })
+    ++ text_of (record { word = codes "remapped id"; fields = said (codes " ") (octets report.remapped_id) ∷ [] })
 
 -- ---- questions about a file
 

@@ -22,8 +22,7 @@ use Rattle.ppdb_lines.specs.Heads.{id_line, entry_line}
 use Rattle.ppdb_lines.specs.Lines.{Line, text_of}
 use Rattle.ppdb_lines.specs.Pieces.{line}
 use Rattle.ppdb_run.specs.Lines.{about, usage_line, refused_line, map_line, unfit_line, limit_text, map_limit_text}
-use Rattle.ppdb_run.specs.Lines.{no_method_line, links_line, sizes_line, sample_lines}
-use Rattle.ppdb_run.specs.Sampled.{remapped_file, remapped_sample, sample_file}
+use Rattle.ppdb_run.specs.Lines.{no_method_line, links_line, sizes_line, sample_text}
 use Rattle.ppdb_run.specs.Words.{Question, Id, Verify, Show, Query, Links, Breaks, Options, Input, Task, Ask, Rebuild, Compose, Merge, Sample}
 use Rattle.ppdb_merge.specs.declared.trace.Trace.{Trace}
 use Rattle.ppdb_merge.specs.Refusals.{added}
@@ -36,7 +35,7 @@ use Rattle.map_text.specs.MapTexts.{map_text}
 use Rattle.ppdb_maps.specs.Map.{Map}
 use Rattle.ppdb_maps.specs.Text.{IsMapOf, Refused}
 use Rattle.ppdb_show.specs.Query.{query_text_of}
-use Rattle.sample_files.specs.Sample.{sample}
+use Rattle.sampled_files.specs.Sampled.{limit_of_sample, report_of}
 use Rattle.source_link.specs.declared.pair.Pair.{Pair}
 use Rattle.source_lines.specs.Links.{file_links, link_text}
 use Rattle.source_lines.specs.Breaks.{break_text}
@@ -272,11 +271,9 @@ composed_text f s (Err refusal) =
 
 -- ---- the sample
 
--- what is told of the two files of the sample of n methods, or the limit that the first or else the second meets
+-- what the sample of n methods comes to, or the first limit that one of its two files meets
 abbrev pub sampled : ℕ → Result Outcome Outcome
-sampled n =
-    unless (option_map limited (first_limit (sample n)))
-    (unless (option_map limited (first_limit (remapped_sample n))) (done (lines_as Text (sample_lines n (sample_file n) (remapped_file n)))))
+sampled n = unless (option_map limited (limit_of_sample n)) (done (sample_text n (report_of n)))
 
 -- what a command ends with
 abbrev pub outcome_of : Result Outcome Outcome → Outcome

@@ -1,0 +1,4 @@
+pub mod Alone
+pub mod NoClash
+pub mod Silent
+pub mod SilentRows

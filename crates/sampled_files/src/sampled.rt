@@ -1,0 +1,120 @@
+// What the sample file of n methods comes to.
+ghost use Rattle.std.specs.Prelude.{◌≡◌, ◌≤◌, None, OnOk, IfOk, IfErr, length, take, drop};
+ghost use Rattle.ppdb_base.specs.First.{IsAccepted};
+ghost use Rattle.ppdb_build.specs.Building.{IsLimit};
+ghost use Rattle.ppdb_canon.specs.Canon.{chosen_id};
+ghost use Rattle.ppdb_canon.specs.Limits.{first_limit};
+ghost use Rattle.ppdb_canon.specs.declared.choice.IdChoice.TheVariants as choices;
+ghost use Rattle.ppdb_values.specs.RawFile.{RawFile};
+ghost use Rattle.ppdb_values.specs.Value.{value_of};
+ghost use Rattle.ppdb_verify.specs.Files.{BadFile, IsRawOf};
+ghost use Rattle.sample_files.specs.Sample.{sample};
+ghost use Rattle.sound_values.specs.Sound.{IsSound};
+ghost use Rattle.sampled_files.specs.Sampled.{limit_of_sample, sample_file, remapped_sample, remapped_file, report_of};
+
+use crate::remapped::remapped_value;
+use ppdb_base::{Bytes, Steps};
+use ppdb_build::{BuildError, write_file};
+use ppdb_canon::{
+    IdChoice, canonical_files_forget_ids, ids_stand_after_the_root, values_without_limits_are_small,
+};
+use ppdb_values::FileValue;
+use sample_files::{sample_value, samples_fit};
+use std::alloc::Global;
+use std::sync::ledger::Ledger;
+use value_limits::value_has_types;
+
+/// What the sample comes to.
+#[derive(Clone, Copy, Debug, PartialEq, Eq)]
+pub struct SampleReport {
+    /// The length of its file, which has its zero identity.
+    pub bytes: u32,
+    /// The length of the file of what its map makes of it, with an identity from its hash.
+    pub remapped_bytes: u32,
+    /// That identity.
+    pub remapped_id: [u8; 20],
+}
+
+/// The file of the sample, which is read as the sample.
+fn sample_file(alloc: Global, methods: u32) -> Result<Bytes, BuildError>
+    requires { methods ≤ 100000 }
+    ensures written { IfOk result (λ file. file ≡ sample_file methods) }
+    ensures within { OnOk result (first_limit (sample methods) ≡ None) }
+    ensures limit { IfErr result (IsLimit (limit_of_sample methods)) }
+    ensures short { IfOk result (λ file. length file ≤ 134217728) }
+    ensures accepted { IfOk result (λ file. IsAccepted (BadFile file)) }
+    ensures says { IfOk result (λ file. (raw : RawFile) → IsRawOf file raw → value_of raw ≡ sample methods) }
+{
+    samples_fit();
+    values_without_limits_are_small();
+    let value = sample_value(alloc, methods)?;
+    match write_file(alloc, &value, IdChoice::Keep) {
+        Ok(file) => Ok(file),
+        Err(error) => Err(error),
+    }
+}
+
+/// The identity that a file has behind its root.
+fn id_in(file: &[u8]) -> [u8; 20]
+    requires { 132 ≤ length file.now }
+    ensures { result ≡ take 20 (drop 112 file.now) }
+{
+    let mut id = [0; 20];
+    id.copy_from_slice(&file[112..132]);
+    id
+}
+
+/// The length of the file of the remapped sample, and its identity.
+fn remapped_len_and_id(
+    alloc: Global,
+    value: &FileValue,
+    methods: u32,
+) -> Result<(u32, [u8; 20]), BuildError>
+    requires value { value.now ≡ remapped_sample methods }
+    requires sound { IsSound value.now }
+    requires within { first_limit (sample methods) ≡ None }
+    ensures len { IfOk result (λ told. told.0 ≡ length (remapped_file methods)) }
+    ensures id { IfOk result (λ told. told.1 ≡ chosen_id (remapped_sample methods) choices.Hash) }
+    ensures limit { IfErr result (IsLimit (limit_of_sample methods)) }
+    ensures none { OnOk result (limit_of_sample methods ≡ None) }
+{
+    value_has_types(value);
+    canonical_files_forget_ids();
+    ids_stand_after_the_root();
+    match write_file(alloc, value, IdChoice::Hash) {
+        Ok(file) => Ok((file.len() as u32, id_in(file.as_slice()))),
+        Err(error) => Err(error),
+    }
+}
+
+/// Writes the sample file of `methods` methods, verifies it, moves what it says by the sample's map, and writes that.
+///
+/// # Errors
+///
+/// The first limit that the sample passes, or else the first that the moved one passes; or that there was no memory left.
+pub fn sampled<K: Ledger, L: Ledger>(
+    alloc: Global,
+    methods: u32,
+    checks: &mut Steps<K>,
+    steps: &mut Steps<L>,
+) -> Result<SampleReport, BuildError>
+    requires { methods ≤ 100000 }
+    ensures told { IfOk result (λ told. told ≡ report_of methods) }
+    ensures within { OnOk result (limit_of_sample methods ≡ None) }
+    ensures limit { IfErr result (IsLimit (limit_of_sample methods)) }
+{
+    let file = match sample_file(alloc, methods) {
+        Ok(file) => file,
+        Err(error) => return Err(error),
+    };
+    let bytes = file.len() as u32;
+    let value = remapped_value(alloc, methods, file, checks, steps)?;
+    match remapped_len_and_id(alloc, &value, methods) {
+        Ok((remapped_bytes, remapped_id)) => Ok(SampleReport {
+            bytes,
+            remapped_bytes,
+            remapped_id,
+        }),
+        Err(error) => Err(error),
+    }
+}
