@@ -1,4 +1,5 @@
 pub mod Alone
+pub mod Identity
 pub mod NoClash
 pub mod Silent
 pub mod SilentRows
