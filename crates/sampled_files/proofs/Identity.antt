@@ -34,3 +34,7 @@ module _ (forget : CanonicalFilesForgetIds) (stands : IdsStandAfterTheRoot) (val
     where
       front : length (take 112 (canon value choice)) ≡ 112
       front = omega (arith, behind_root, length-take 112 (canon value choice))
+
+  -- another identity does not change the length
+  pub same_length : length (canon value choice) ≡ length (file_bytes (canonical value value.id))
+  same_length = stands.len (canonical value value.id) (chosen_id value choice) long has_length
