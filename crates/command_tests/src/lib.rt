@@ -14,6 +14,10 @@ mod large;
 #[cfg(test)]
 mod links;
 #[cfg(test)]
+mod moving;
+#[cfg(test)]
+mod moving_files;
+#[cfg(test)]
 mod query;
 #[cfg(test)]
 mod rules;

@@ -80,7 +80,7 @@ leaves_at (Unwritten name) old new e = e
 leaves_at Unput old new e = e
 leaves_at OutOfMemory old new e = e
 
-leaves : (T : Type 0) (result : Result T Stop) (old new : Option Files) → new ≡ old → Leaves result None old new
+pub leaves : (T : Type 0) (result : Result T Stop) (old new : Option Files) → new ≡ old → Leaves result None old new
 leaves T (Ok x) old new e = e
 leaves T (Err stop) old new e = leaves_at (cause_of stop) old new e
 
@@ -112,13 +112,13 @@ on_told None h = tt
 on_told (Some all) h = h all
 
 -- the file that was to be read first
-first_unread : (task : Task) (file : List ℕ) (files : Option Files) (before after : ℕ) (name : List ℕ) → Contains (read_files task) file
-    → slice_get (read_files task) 0 ≡ Some file → ((all : Files) → ComesToRead task all file) → name ≡ file → after ≡ before
-    → IsUnreadOf task files before after name
-first_unread task file files before after name there first comes e same = record {
-  named = subst (Contains (read_files task)) (sym e) there;
-  next = λ below. let none : after - before ≡ 0 = omega (arith, same) in rw (none, first) (ap Some (sym e));
-  comes = on_told files (λ all. subst (ComesToRead task all) (sym e) (comes all));
+first_unread : (task : Task) (file : List ℕ) (files : Option Files) (before after : ℕ) (name : List ℕ) → slice_get (read_files task) 0 ≡ Some file
+    → ((all : Files) → ComesToRead task all 0) → name ≡ file → after ≡ before → IsUnreadOf task files before after name
+first_unread task file files before after name first comes e same = record {
+  read = 0;
+  named = first ∙ ap Some (sym e);
+  next = λ below. omega (arith, same);
+  comes = on_told files comes;
 }
 
 pub is_unread : (words : List (List ℕ)) (question : Question) (file : List ℕ) (files : Option Files) (before after : ℕ) (name : List ℕ)
@@ -126,7 +126,7 @@ pub is_unread : (words : List (List ℕ)) (question : Question) (file : List ℕ
 is_unread words question file files before after name asked e same = record {
   task = Ask question file;
   asked = asked;
-  unread = first_unread (Ask question file) file files before after name (0, omega arith, refl) refl (λ all. refl) e same;
+  unread = first_unread (Ask question file) file files before after name refl (λ all. refl) e same;
 }
 
 -- so it is where a file is rebuilt
@@ -135,36 +135,37 @@ pub is_input : (words : List (List ℕ)) (input output : List ℕ) (options : Op
 is_input words input output options files before after name asked e same = record {
   task = Rebuild input output options;
   asked = asked;
-  unread = first_unread (Rebuild input output options) input files before after name (0, omega arith, refl) refl (λ all. refl) e same;
+  unread = first_unread (Rebuild input output options) input files before after name refl (λ all. refl) e same;
 }
 
 -- of two maps the first is read first, and the second where the first is a map
 pub is_first_map : (first second output : List ℕ) (files : Option Files) (before after : ℕ) (name : List ℕ) → name ≡ first → after ≡ before
     → IsUnreadOf (Compose first second output) files before after name
 is_first_map first second output files before after name e same =
-    first_unread (Compose first second output) first files before after name (0, omega arith, refl) refl (λ all. inl refl) e same
+    first_unread (Compose first second output) first files before after name refl (λ all. inl refl) e same
 
-pub one_more : (before after : ℕ) → after ≡ counted before → after < 18446744073709551615 → after - before ≡ 1
+pub one_more : (before after : ℕ) → after ≡ counted before → after < 18446744073709551615 → after ≡ before + 1
 one_more before after is below = of (before == 18446744073709551615) refl
   where
-    of : (b : Bool) → (before == 18446744073709551615) ≡ b → after - before ≡ 1
+    of : (b : Bool) → (before == 18446744073709551615) ≡ b → after ≡ before + 1
     of true last =
         let same : before ≡ 18446744073709551615 = eqb-true before 18446744073709551615 last in
         let all : after ≡ before = is ∙ (rw last refl) in
         absurd (omega (arith, same, all, below))
-    of false more = let next : after ≡ before + 1 = is ∙ (rw more refl) in omega (arith, next)
+    of false more = is ∙ (rw more refl)
 
 pub is_second_map : (first second output : List ℕ) (files : Option Files) (before after : ℕ) (name : List ℕ) (m : Map) → name ≡ second → after ≡ counted before
     → IfSome files (λ all. map_at all first (Ok m)) → IsUnreadOf (Compose first second output) files before after name
 is_second_map first second output files before after name m e more read = record {
-  named = (1, omega arith, sym e);
-  next = λ below. let one : after - before ≡ 1 = one_more before after more below in rw one (ap Some (sym e));
+  read = 1;
+  named = ap Some (sym e);
+  next = λ below. one_more before after more below;
   comes = by_files files read;
 }
   where
-    by_files : (files : Option Files) → IfSome files (λ all. map_at all first (Ok m)) → IfSome files (λ all. ComesToRead (Compose first second output) all name)
+    by_files : (files : Option Files) → IfSome files (λ all. map_at all first (Ok m)) → IfSome files (λ all. ComesToRead (Compose first second output) all 1)
     by_files None read = tt
-    by_files (Some all) read = inr (e, (m, read))
+    by_files (Some all) read = inr (refl, (m, read))
 
 -- the file that a task writes
 pub is_output : (words : List (List ℕ)) (task : Task) (output name : List ℕ) → written_file task ≡ Some output → Words task words → name ≡ output

@@ -11,6 +11,7 @@ pub mod Merges
 pub mod Merging
 pub mod PairWords
 pub mod Rebuilds
+pub mod Sampling
 pub mod BreakTexts
 pub mod Total
 pub mod Unknowns

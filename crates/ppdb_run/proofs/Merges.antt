@@ -176,24 +176,60 @@ module _ (files : Option Files) (marks : List (List ℕ)) (traces more : List Tr
 
 -- ---- inputs in order
 
--- what was read of the inputs: what is to come decides as all of them
+abbrev pub reads_of : List Trace → ℕ
+reads_of traces = 2 * length traces
+
+-- what was read of the inputs: what is to come decides as all of them, and is read behind two reads for each
 pub record Goes (files : Option Files) (marks : List (List ℕ)) (traces : List Trace) (rest whole : List Input) : Type 0 where
   pub told : IfSome files (λ all. (r : Result (List Trace) Outcome) → with_inputs all marks traces rest r → with_inputs all marks [] whole r)
-  pub comes : IfSome files (λ all. (name : List ℕ) → ComesToInput all marks traces rest name → ComesToInput all marks [] whole name)
+  pub comes : IfSome files (λ all. (read : ℕ) → ComesToInput all marks traces rest read → ComesToInput all marks [] whole (reads_of traces + read))
+  pub names : drop (reads_of traces) (input_words whole) ≡ input_words rest
+  pub count : length traces + length rest ≡ length whole
 
-pub goes_all : (files : Option Files) (marks : List (List ℕ)) (traces : List Trace) (whole : List Input) → traces ≡ [] → Goes files marks traces whole whole
-goes_all files marks traces whole e = record {
-  told = on_told files (λ all r h. subst (λ t. with_inputs all marks t whole r) e h);
-  comes = on_told files (λ all name h. subst (λ t. ComesToInput all marks t whole name) e h);
+pub goes_all : (files : Option Files) (marks : List (List ℕ)) (whole : List Input) → Goes files marks [] whole whole
+goes_all files marks whole = record {
+  told = on_told files (λ all r h. h);
+  comes = on_told files (λ all read h. h);
+  names = refl;
+  count = omega arith;
 }
+
+pub goes_from : (files : Option Files) (marks : List (List ℕ)) (traces : List Trace) (whole : List Input) → traces ≡ [] → Goes files marks traces whole whole
+goes_from files marks traces whole e = subst (λ t. Goes files marks t whole whole) (sym e) (goes_all files marks whole)
+
+behind : (names : List (List ℕ)) (n : ℕ) (a b : List ℕ) (rest : List (List ℕ)) → drop n names ≡ a ∷ b ∷ rest → drop (n + 2) names ≡ rest
+behind [] zero a b rest e = absurd cc
+behind [] (suc n) a b rest e = absurd cc
+behind (x ∷ []) zero a b rest e = absurd cc
+behind (x ∷ y ∷ names) zero a b rest e = cc
+behind (x ∷ names) (suc n) a b rest e = behind names n a b rest e
 
 pub goes_on : (files : Option Files) (marks : List (List ℕ)) (traces more : List Trace) (input : Input) (rest whole : List Input)
-    → IfSome files (λ all. with_input all marks traces input (Ok more)) → Goes files marks traces (input ∷ rest) whole → Goes files marks more rest whole
-goes_on None marks traces more input rest whole h g = record { told = tt; comes = tt }
-goes_on (Some all) marks traces more input rest whole h g = record {
-  told = λ r k. g.told r (inl (more, h, k));
-  comes = λ name k. g.comes name (inr (inr (more, h, k)));
+    → IfSome files (λ all. with_input all marks traces input (Ok more)) → length more ≡ length traces + 1 → Goes files marks traces (input ∷ rest) whole
+    → Goes files marks more rest whole
+goes_on files marks traces more input rest whole h one g = record {
+  told = of_told files h g.told;
+  comes = of_comes files h g.comes;
+  names = let two : reads_of more ≡ reads_of traces + 2 = omega (arith, one) in
+      ap (λ n. drop n (input_words whole)) two ∙ behind (input_words whole) (reads_of traces) input.file input.map_file (input_words rest) g.names;
+  count = let all = g.count in omega (arith, one, all);
 }
+  where
+    of_told : (files : Option Files) → IfSome files (λ all. with_input all marks traces input (Ok more))
+        → IfSome files (λ all. (r : Result (List Trace) Outcome) → with_inputs all marks traces (input ∷ rest) r → with_inputs all marks [] whole r)
+        → IfSome files (λ all. (r : Result (List Trace) Outcome) → with_inputs all marks more rest r → with_inputs all marks [] whole r)
+    of_told None h k = tt
+    of_told (Some all) h k = λ r told. k r (inl (more, h, told))
+
+    of_comes : (files : Option Files) → IfSome files (λ all. with_input all marks traces input (Ok more))
+        → IfSome files (λ all. (read : ℕ) → ComesToInput all marks traces (input ∷ rest) read → ComesToInput all marks [] whole (reads_of traces + read))
+        → IfSome files (λ all. (read : ℕ) → ComesToInput all marks more rest read → ComesToInput all marks [] whole (reads_of more + read))
+    of_comes None h k = tt
+    of_comes (Some all) h k = λ read c.
+        let back : read ≡ read + 2 - 2 = omega arith in
+        let there : reads_of traces + (read + 2) ≡ reads_of more + read = omega (arith, one) in
+        subst (λ n. ComesToInput all marks [] whole n) there
+        (k (read + 2) (inr (inr (omega arith, (more, h, subst (λ n. ComesToInput all marks more rest n) back c)))))
 
 -- an input that stops ends all
 pub goes_stop : {U V : Type 0} (view : U → List Trace) (other : V → List Trace) (files : Option Files) (marks : List (List ℕ)) (traces : List Trace)
@@ -213,58 +249,61 @@ pub goes_end : (files : Option Files) (marks : List (List ℕ)) (traces : List T
 goes_end None marks traces rest whole e g = tt
 goes_end (Some all) marks traces rest whole e g = g.told (Ok traces) (subst (λ inputs. with_inputs all marks traces inputs (Ok traces)) (sym e) refl)
 
--- an input that is next comes to be read
-pub goes_unread : (files : Option Files) (marks : List (List ℕ)) (traces : List Trace) (input : Input) (rest whole : List Input) (before after : ℕ) (name : List ℕ)
-    → Goes files marks traces (input ∷ rest) whole → IsInputUnread files input before after name → IfSome files (λ all. ComesToInput all marks [] whole name)
-goes_unread None marks traces input rest whole before after name g u = tt
-goes_unread (Some all) marks traces input rest whole before after name g (inl (e, same)) = g.comes name (inl e)
-goes_unread (Some all) marks traces input rest whole before after name g (inr (e, more, read)) = g.comes name (inr (inl (e, read)))
+pub goes_count : (files : Option Files) (marks : List (List ℕ)) (traces : List Trace) (rest whole : List Input) → rest ≡ []
+    → Goes files marks traces rest whole → length traces ≡ length whole
+goes_count files marks traces rest whole e g =
+    let none : length rest ≡ 0 = ap length e in
+    let all = g.count in
+    omega (arith, none, all)
 
--- ---- how many files were read
+-- ---- the file that was to be read
 
 second : (names : List (List ℕ)) (b : List ℕ) (after : List (List ℕ)) → names ≡ b ∷ after → slice_get names 0 ≡ Some b
 second [] b after e = absurd cc
 second (x ∷ names) b after e = cc
 
 at_front : (names : List (List ℕ)) (i : ℕ) (a b : List ℕ) (after : List (List ℕ)) → drop i names ≡ a ∷ b ∷ after
-    → (slice_get names i ≡ Some a) × (slice_get names (suc i) ≡ Some b)
+    → (slice_get names i ≡ Some a) × (slice_get names (i + 1) ≡ Some b)
 at_front [] zero a b after e = absurd cc
 at_front [] (suc i) a b after e = absurd cc
 at_front (x ∷ names) zero a b after e = (cc, second names b after cc)
 at_front (x ∷ names) (suc i) a b after e = at_front names i a b after e
 
-pub named_at : (names : List (List ℕ)) (i : ℕ) (name : List ℕ) → slice_get names i ≡ Some name → Contains names name
-named_at [] i name e = absurd cc
-named_at (x ∷ names) zero name e = (0, omega arith, cc)
-named_at (x ∷ names) (suc i) name e = let h = named_at names i name e in (suc h.0, omega arith, h.2)
+module _ (files : Option Files) (marks : List (List ℕ)) (traces : List Trace) (input : Input) (rest whole : List Input)
+    (goes : Goes files marks traces (input ∷ rest) whole) where
+  comes_to_file : (files : Option Files)
+      → IfSome files (λ all. (read : ℕ) → ComesToInput all marks traces (input ∷ rest) read → ComesToInput all marks [] whole (reads_of traces + read))
+      → IfSome files (λ all. ComesToInput all marks [] whole (reads_of traces))
+  comes_to_file None k = tt
+  comes_to_file (Some all) k =
+      let same : reads_of traces + 0 ≡ reads_of traces = omega arith in subst (λ n. ComesToInput all marks [] whole n) same (k 0 (inl refl))
 
-below_last : (mid after : ℕ) → after ≡ counted mid → after < 18446744073709551615 → after ≡ mid + 1
-below_last mid after more below = let one = one_more mid after more below in omega (arith, one)
+  comes_to_map : (files : Option Files)
+      → IfSome files (λ all. (read : ℕ) → ComesToInput all marks traces (input ∷ rest) read → ComesToInput all marks [] whole (reads_of traces + read))
+      → IfSome files (λ all. (bytes : List ℕ) × file_at all input.file (Ok bytes))
+      → IfSome files (λ all. ComesToInput all marks [] whole (reads_of traces + 1))
+  comes_to_map None k h = tt
+  comes_to_map (Some all) k h = k 1 (inr (inl (refl, h)))
 
--- the name that is next after so many words were read
-pub next_is : (files : Option Files) (names after : List (List ℕ)) (i before mid reads : ℕ) (input : Input) (name : List ℕ)
-    → drop i names ≡ input.file ∷ input.map_file ∷ after → (mid < 18446744073709551615 → mid ≡ before + i) → IsInputUnread files input mid reads name
-    → Contains names name × (reads < 18446744073709551615 → slice_get names (reads - before) ≡ Some name)
-next_is files names after i before mid reads input name e m (inl (n, r)) =
-    let at = at_front names i input.file input.map_file after e in
-    (named_at names i name (rw n at.0), λ small. let k : reads - before ≡ i = omega (arith, r, small, m (omega (arith, r, small))) in rw (k, n) at.0)
-next_is files names after i before mid reads input name e m (inr (n, r, read)) =
-    let at = at_front names i input.file input.map_file after e in (
-      named_at names (suc i) name (rw n at.1),
-      λ small.
-          let s = below_last mid reads r small in
-          let k : reads - before ≡ suc i = omega (arith, s, small, m (omega (arith, s, small))) in rw (k, n) at.1,
-    )
-
--- ---- the file that was to be read
-
-pub one_unread : (files : Option Files) (marks : List (List ℕ)) (input : Input) (output : List ℕ) (keep : Bool) (before after : ℕ) (name : List ℕ)
-    → IsInputUnread files input before after name
-    → IsUnreadOf (Merge (input ∷ []) output (record { keep_id = keep; marks = marks })) files before after name
-one_unread files marks input output keep before after name u =
-    let known = next_is files (input.file ∷ input.map_file ∷ []) [] 0 before before after input name refl (λ small. omega arith) u in
-    record {
-      named = known.0;
-      next = known.1;
-      comes = goes_unread files marks [] input [] (input ∷ []) before after name (goes_all files marks [] (input ∷ []) refl) u;
-    }
+  -- the file or the map of the input that is next
+  pub next_unread : (output : List ℕ) (keep : Bool) (before mid after : ℕ) (name : List ℕ) → (mid < 18446744073709551615 → mid ≡ before + reads_of traces)
+      → IsInputUnread files input mid after name → IsUnreadOf (Merge whole output (record { keep_id = keep; marks = marks })) files before after name
+  next_unread output keep before mid after name m (inl (n, r)) =
+      let at = at_front (input_words whole) (reads_of traces) input.file input.map_file (input_words rest) goes.names in
+      record {
+        read = reads_of traces;
+        named = at.0 ∙ ap Some (sym n);
+        next = λ small. r ∙ m (omega (arith, r, small));
+        comes = comes_to_file files goes.comes;
+      }
+  next_unread output keep before mid after name m (inr (n, r, h)) =
+      let at = at_front (input_words whole) (reads_of traces) input.file input.map_file (input_words rest) goes.names in
+      record {
+        read = reads_of traces + 1;
+        named = at.1 ∙ ap Some (sym n);
+        next = λ small.
+            let one = one_more mid after r small in
+            let there = m (omega (arith, one, small)) in
+            omega (arith, one, there);
+        comes = comes_to_map files goes.comes h;
+      }

@@ -7,7 +7,7 @@ use Rattle.std.proofs.lemmas.Fmt.{digits_value-decimal}
 use Rattle.ppdb_base.specs.declared.limits.TheConstants.{MAX_ROWS, MAX_OFFSET}
 use Rattle.ppdb_run.specs.declared.words.TheConstants.{MAX_LINE}
 use Rattle.ppdb_run.specs.Words.{Question, Id, Verify, Show, Query, Links, Breaks, Options, AreOptions, no_option, keep_id, free, Task, Ask, Rebuild}
-use Rattle.ppdb_run.specs.Words.{Compose, Input, IsMerge, IsRemap, Merge, Words, input_words, is_file_word}
+use Rattle.ppdb_run.specs.Words.{Compose, Input, IsMerge, IsRemap, Merge, Sample, Words, input_words, is_file_word}
 use Rattle.ppdb_run.proofs.PairWords.{behind_first, first_letter, no_options_pair, same_inputs, third_letter}
 
 numerals : IsNumeralModel (AllDigits 10) (digits_value 10)
@@ -23,9 +23,19 @@ task_of letter file (one ∷ two ∷ rest) =
     if letter == 98 then Some (Ask (Breaks one (digits_value 10 two)) file) else if letter == 99 then Some (Compose file one two)
     else Some (Ask (Query (digits_value 10 one) (digits_value 10 two)) file)
 
+-- that of words; those of rebuild, remap and merge are read in another way
 task_in : List (List ℕ) → Option Task
-task_in ((letter ∷ letters) ∷ file ∷ rest) = if letter == 114 then None else if letter == 109 then None else task_of letter file rest
+task_in ((letter ∷ second ∷ letters) ∷ word ∷ rest) =
+    if letter == 114 then None else if letter == 109 then None else if second == 97 then Some (Sample (digits_value 10 word)) else task_of letter word rest
 task_in words = None
+
+-- what it is of the words of a task
+abbrev told : Task → Option Task
+told (Ask question file) = Some (Ask question file)
+told (Rebuild input output options) = None
+told (Compose first second output) = Some (Compose first second output)
+told (Merge inputs output options) = None
+told (Sample n) = Some (Sample n)
 
 value : (n most : ℕ) → most < 2 ^ 32 → n ≤ most → digits_value 10 (decimal n) ≡ n
 value n most below a = digits_value-decimal numerals n (omega arith)
@@ -47,15 +57,28 @@ read_back words (Breaks document n) f h =
     let same : task_in words ≡ Some (Ask (Breaks document (digits_value 10 (decimal n))) f) = ap task_in h.0 in
     cc
 
--- the words of a rebuild begin with a letter of their own
-rebuilds : (words : List (List ℕ)) (input output : List ℕ) (options : Options) → Words (Rebuild input output options) words → task_in words ≡ None
+reads : (words : List (List ℕ)) (task : Task) → Words task words → task_in words ≡ told task
 unfolding task_in task_of
-rebuilds words input output options h = ap task_in h.1
+reads words (Ask question file) h = read_back words question file h
+reads words (Rebuild input output options) h = ap task_in h.1
+reads words (Compose first second output) h = ap task_in h.0
+reads words (Merge inputs output options) (inl h) = ap task_in h.is
+reads words (Merge inputs output options) (inr h) = ap task_in h.is
+reads words (Sample n) h =
+    let methods = value n 100000 (omega arith) h.1 in
+    let same : task_in words ≡ Some (Sample (digits_value 10 (decimal n))) = ap task_in h.0 in
+    cc
 
-composes : (words : List (List ℕ)) (first second output : List ℕ) → Words (Compose first second output) words
-    → task_in words ≡ Some (Compose first second output)
-unfolding task_in task_of
-composes words first second output h = ap task_in h.0
+-- a task that is read back is the only one
+only : (one other : Task) → told one ≡ Some one → told one ≡ told other → one ≡ other
+only one (Ask question file) e same = let both : Some one ≡ Some (Ask question file) = sym e ∙ same in cc
+only one (Rebuild input output options) e same = absurd (let both : Some one ≡ None = sym e ∙ same in cc)
+only one (Compose first second output) e same = let both : Some one ≡ Some (Compose first second output) = sym e ∙ same in cc
+only one (Merge inputs output options) e same = absurd (let both : Some one ≡ None = sym e ∙ same in cc)
+only one (Sample n) e same = let both : Some one ≡ Some (Sample n) = sym e ∙ same in cc
+
+read_is : (words : List (List ℕ)) (one other : Task) → told one ≡ Some one → Words one words → Words other words → one ≡ other
+read_is words one other e h k = only one other e (sym (reads words one h) ∙ reads words other k)
 
 -- words have one list of options at most
 pub one_choice : (words : List (List ℕ)) (one other : Options) → AreOptions words one → AreOptions words other → one ≡ other
@@ -65,13 +88,6 @@ one_choice _ _ _ (free word guid e h) (free again other e' k) =
     let same : guid ≡ other = let both : Some guid ≡ Some other = sym e ∙ e' in cc in
     let rest = one_choice _ _ _ h k in
     cc
-
--- so do those of a merge
-merges : (words : List (List ℕ)) (inputs : List Input) (output : List ℕ) (options : Options) → Words (Merge inputs output options) words
-    → task_in words ≡ None
-unfolding task_in task_of
-merges words inputs output options (inl h) = ap task_in h.is
-merges words inputs output options (inr h) = ap task_in h.is
 
 -- words that move one input are not those that join inputs
 not_both : (words : List (List ℕ)) (inputs others : List Input) (o p : List ℕ) (a b : Options) → IsRemap inputs o a words → IsMerge others p b words → ⊥
@@ -98,68 +114,38 @@ one_merge words inputs others o p a b h k =
     (no_options_pair k.rest b k.options_are) split in
     (same.0, output, one_choice k.rest a b (subst (λ w. AreOptions w a) same.1 h.options_are) k.options_are)
 
-pub one_task : (words : List (List ℕ)) (one other : Task) → Words one words → Words other words → one ≡ other
-one_task words (Ask q f) (Ask r g) h k =
-    let a = read_back words q f h in
-    let b = read_back words r g k in
-    cc
-one_task words (Ask q f) (Rebuild i o options) h k =
-    let a = read_back words q f h in
-    let b = rebuilds words i o options k in
-    absurd cc
-one_task words (Rebuild i o options) (Ask q f) h k =
-    let a = rebuilds words i o options h in
-    let b = read_back words q f k in
-    absurd cc
-one_task words (Rebuild i o options) (Rebuild i' o' options') h k =
+one_rebuild : (words : List (List ℕ)) (i o i' o' : List ℕ) (options options' : Options) → Words (Rebuild i o options) words
+    → Words (Rebuild i' o' options') words → Rebuild i o options ≡ Rebuild i' o' options'
+one_rebuild words i o i' o' options options' h k =
     let same : (i ≡ i') × (o ≡ o') × (h.0 ≡ k.0) = let whole = sym h.1 ∙ k.1 in (cc, cc, cc) in
     let choice : options ≡ options' = one_choice k.0 options options' (subst (λ w. AreOptions w options) same.2 h.4) k.4 in
     cc
-one_task words (Ask q f) (Compose i s o) h k =
-    let a = read_back words q f h in
-    let b = composes words i s o k in
-    absurd cc
-one_task words (Compose i s o) (Ask q f) h k =
-    let a = composes words i s o h in
-    let b = read_back words q f k in
-    absurd cc
-one_task words (Rebuild i o options) (Compose i' s' o') h k =
-    let a = rebuilds words i o options h in
-    let b = composes words i' s' o' k in
-    absurd cc
-one_task words (Compose i s o) (Rebuild i' o' options) h k =
-    let a = composes words i s o h in
-    let b = rebuilds words i' o' options k in
-    absurd cc
-one_task words (Compose i s o) (Compose i' s' o') h k =
-    let a = composes words i s o h in
-    let b = composes words i' s' o' k in
-    cc
-one_task words (Ask q f) (Merge i o options) h k =
-    let a = read_back words q f h in
-    let b = merges words i o options k in
-    absurd cc
-one_task words (Merge i o options) (Ask q f) h k =
-    let a = merges words i o options h in
-    let b = read_back words q f k in
-    absurd cc
-one_task words (Compose i s o) (Merge i' o' options) h k =
-    let a = composes words i s o h in
-    let b = merges words i' o' options k in
-    absurd cc
-one_task words (Merge i o options) (Compose i' s' o') h k =
-    let a = merges words i o options h in
-    let b = composes words i' s' o' k in
-    absurd cc
-one_task words (Rebuild i o options) (Merge i' o' options') h (inl k) = let e : 98 ≡ 109 = ap third_letter (sym h.1 ∙ k.is) in absurd (omega (arith, e))
-one_task words (Rebuild i o options) (Merge i' o' options') h (inr k) = let e : 114 ≡ 109 = ap first_letter (sym h.1 ∙ k.is) in absurd (omega (arith, e))
-one_task words (Merge i o options) (Rebuild i' o' options') (inl h) k = let e : 98 ≡ 109 = ap third_letter (sym k.1 ∙ h.is) in absurd (omega (arith, e))
-one_task words (Merge i o options) (Rebuild i' o' options') (inr h) k = let e : 114 ≡ 109 = ap first_letter (sym k.1 ∙ h.is) in absurd (omega (arith, e))
-one_task words (Merge i o options) (Merge i' o' options') (inl h) (inl k) =
-    let same = one_remap words i i' o o' options options' h k in
-    λ j. Merge (same.0 j) (same.1 j) (same.2 j)
-one_task words (Merge i o options) (Merge i' o' options') (inr h) (inr k) =
-    let same = one_merge words i i' o o' options options' h k in
-    λ j. Merge (same.0 j) (same.1 j) (same.2 j)
-one_task words (Merge i o options) (Merge i' o' options') (inl h) (inr k) = absurd (not_both words i i' o o' options options' h k)
-one_task words (Merge i o options) (Merge i' o' options') (inr h) (inl k) = absurd (not_both words i' i o' o options' options k h)
+
+-- the third letter tells rebuild from remap, and the first from merge
+apart : (words : List (List ℕ)) (i o o' : List ℕ) (inputs : List Input) (options options' : Options) → Words (Rebuild i o options) words
+    → Words (Merge inputs o' options') words → ⊥
+apart words i o o' inputs options options' h (inl k) = let e : 98 ≡ 109 = ap third_letter (sym h.1 ∙ k.is) in absurd (omega (arith, e))
+apart words i o o' inputs options options' h (inr k) = let e : 114 ≡ 109 = ap first_letter (sym h.1 ∙ k.is) in absurd (omega (arith, e))
+
+same_merge : (inputs others : List Input) (o p : List ℕ) (a b : Options) → (inputs ≡ others) × (o ≡ p) × (a ≡ b) → Merge inputs o a ≡ Merge others p b
+same_merge inputs others o p a b h = λ i. Merge (h.0 i) (h.1 i) (h.2 i)
+
+pub one_task : (words : List (List ℕ)) (one other : Task) → Words one words → Words other words → one ≡ other
+one_task words (Ask question file) other h k = read_is words (Ask question file) other refl h k
+one_task words (Compose first second output) other h k = read_is words (Compose first second output) other refl h k
+one_task words (Sample n) other h k = read_is words (Sample n) other refl h k
+one_task words (Rebuild i o p) (Ask question file) h k = sym (read_is words (Ask question file) (Rebuild i o p) refl k h)
+one_task words (Rebuild i o p) (Compose first second output) h k = sym (read_is words (Compose first second output) (Rebuild i o p) refl k h)
+one_task words (Rebuild i o p) (Sample n) h k = sym (read_is words (Sample n) (Rebuild i o p) refl k h)
+one_task words (Rebuild i o p) (Rebuild i' o' p') h k = one_rebuild words i o i' o' p p' h k
+one_task words (Rebuild i o p) (Merge inputs o' p') h k = absurd (apart words i o o' inputs p p' h k)
+one_task words (Merge inputs o p) (Ask question file) h k = sym (read_is words (Ask question file) (Merge inputs o p) refl k h)
+one_task words (Merge inputs o p) (Compose first second output) h k = sym (read_is words (Compose first second output) (Merge inputs o p) refl k h)
+one_task words (Merge inputs o p) (Sample n) h k = sym (read_is words (Sample n) (Merge inputs o p) refl k h)
+one_task words (Merge inputs o p) (Rebuild i o' p') h k = absurd (apart words i o' o inputs p' p k h)
+one_task words (Merge inputs o p) (Merge others o' p') (inl h) (inl k) =
+    same_merge inputs others o o' p p' (one_remap words inputs others o o' p p' h k)
+one_task words (Merge inputs o p) (Merge others o' p') (inl h) (inr k) = absurd (not_both words inputs others o o' p p' h k)
+one_task words (Merge inputs o p) (Merge others o' p') (inr h) (inl k) = absurd (not_both words others inputs o' o p' p k h)
+one_task words (Merge inputs o p) (Merge others o' p') (inr h) (inr k) =
+    same_merge inputs others o o' p p' (one_merge words inputs others o o' p p' h k)

@@ -8,7 +8,7 @@ use Rattle.ppdb_base.specs.Files.{Files, reading}
 use Rattle.ppdb_base.specs.declared.limits.TheConstants.{MAX_FILE_BYTES}
 use Rattle.ppdb_base.proofs.Judging.{one_first, first_not_accepted}
 use Rattle.ppdb_run.specs.declared.stop.Stop.{Stop}
-use Rattle.ppdb_run.specs.Ends.{Asks, AreSeen, OnDue, OnOutcome, OnTask, OnRead, IsWithinBound, IsWithinRows}
+use Rattle.ppdb_run.specs.Ends.{Asks, AreSeen, IsApart, OnDue, OnOutcome, OnTask, OnRead, IsWithinBound, IsWithinRows}
 use Rattle.ppdb_run.specs.Outcome.{Outcome, Step, ◌>>=◌, gives, judged, refused, file_at, input_of, verified, answer_of, rebuilt, outcome_of}
 use Rattle.ppdb_run.specs.Outcome.{all_joined, fitting, in_limits, map_in, with_input, with_inputs, with_texts}
 use Rattle.ppdb_merge.specs.declared.trace.Trace.{Trace}
@@ -16,7 +16,7 @@ use Rattle.ppdb_merge.specs.Refusals.{added}
 use Rattle.ppdb_merge.specs.Together.{joined_of}
 use Rattle.ppdb_run.specs.Outcome.{steps_of, IsOutcome}
 use Rattle.ppdb_run.specs.Stops.{cause_of, Gives, Settles, Finds, refusal_of}
-use Rattle.ppdb_run.specs.Words.{Question, Id, Verify, Show, Query, Links, Breaks, Options, Task, Ask, Rebuild, Compose, Merge, Input, Words}
+use Rattle.ppdb_run.specs.Words.{Question, Id, Verify, Show, Query, Links, Breaks, Options, Task, Ask, Rebuild, Compose, Merge, Sample, Input, Words}
 use Rattle.ppdb_values.specs.RawFile.{RawFile}
 use Rattle.ppdb_values.specs.Value.{value_of}
 use Rattle.ppdb_verify.specs.Files.{BadFile, IsRawOf, raw_in}
@@ -101,6 +101,7 @@ one_end (Ask question file) files = one_over (answer_of question file) file file
 one_end (Rebuild input output options) files = one_over (λ raw. rebuilt input output options (value_of raw)) input files
 one_end (Compose first second output) files = one_composed first second output files
 one_end (Merge inputs output options) files = one_merged inputs output options files
+one_end (Sample n) files = λ r t h k. h ∙ sym k
 
 -- where the file is not verified, there is no answer
 pub no_answer : {V : Type 0} (view : V → RawFile) (question : Question) (file : List ℕ) (files : Option Files) (stop : Stop)
@@ -127,22 +128,20 @@ one_outcome (Some task) files a b (inr h) (inr k) = err_inj a b (one_end task fi
 
 -- ---- what a command knows of its outcome
 
--- what holds of a task over the files that are told holds of what the words ask for
+-- what holds of a task that reads files over those that are told holds of what the words ask for
 pub of_told : (P : Option Task → Files → Type 0) (words : List (List ℕ)) (task : Task) (files : Option Files) → IfSome files (λ all. P (Some task) all)
-    → Words task words
+    → Words task words → (IsApart (Some task) → ⊥)
     → (asked : Option Task) → Asks words asked → (all : Files) → AreSeen asked files all → P asked all
-of_told P words task files k h None none all seen = absurd (none task h)
-of_told P words task None k h (Some (Ask question file)) asks all seen = absurd seen
-of_told P words task None k h (Some (Rebuild input output options)) asks all seen = absurd seen
-of_told P words task None k h (Some (Compose first second output)) asks all seen = absurd seen
-of_told P words task None k h (Some (Merge inputs output options)) asks all seen = absurd seen
-of_told P words task (Some told) k h (Some other) asks all seen =
+of_told P words task files k h reads None none all seen = absurd (none task h)
+of_told P words task None k h reads (Some other) asks all seen =
+    absurd (reads (subst (λ (t : Task). IsApart (Some t)) (one_task words other task asks h) seen))
+of_told P words task (Some told) k h reads (Some other) asks all seen =
     subst (λ (t : Task). P (Some t) all) (one_task words task other h asks) (subst (λ (fs : Files). P (Some task) fs) seen k)
 
 -- what holds of the outcome of a task holds of that of its words
 pub of_task : {P : Outcome → Type 0} (words : List (List ℕ)) (task : Task) (files : Option Files) → OnTask task files P → Words task words
-    → OnOutcome words files P
-of_task {P = P} words task files k h = of_told (λ asked all. OnDue asked all P) words task files k.holds h
+    → (IsApart (Some task) → ⊥) → OnOutcome words files P
+of_task {P = P} words task files k h reads = of_told (λ asked all. OnDue asked all P) words task files k.holds h reads
 
 -- so do the rows that it reads
 pub of_rows : (words : List (List ℕ)) (task : Task) (files : Option Files) (before after : ℕ) → IsWithinRows task files before after → Words task words

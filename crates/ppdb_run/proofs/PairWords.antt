@@ -1,13 +1,14 @@
 -- Words that name files and maps, two by two, and options behind them.
-use Rattle.std.proofs.Common.{ℕ, zero, suc, ◌≡◌, ◌≤◌, ◌<◌, ◌+◌, ◌-◌, ◌*◌, List, [], ◌∷◌, ◌++◌, length, take, drop, get_or, String, string_bytes, inl, inr, Bool, true, false, refl, sym, ◌∙◌, ap, subst, arith}
-use Rattle.std.specs.Prelude.{◌&&◌, IsTrue, codes}
+use Rattle.std.proofs.Common.{ℕ, zero, suc, ◌≡◌, ◌≤◌, ◌<◌, ◌+◌, ◌-◌, ◌⊎◌, List, [], ◌∷◌, ◌++◌, length, take, drop, get_or, String, string_bytes, inl, inr, Bool, true, false, refl, sym, ◌∙◌, ap, subst, arith}
+use Rattle.std.specs.Prelude.{◌&&◌, ◌==◌, IsTrue, OnErr, Result, Ok, Err, codes}
 use Rattle.std.specs.declared.alloc.Global.{Global}
-use Rattle.std.proofs.lemmas.List.{drop-map, drop-drop, length-drop}
+use Rattle.std.proofs.lemmas.Bool.{eqb-true}
+use Rattle.std.proofs.lemmas.List.{drop-map, drop-drop, length-drop, take_all}
 use Rattle.std.specs.List.{list_all}
 use Rattle.ppdb_run.specs.Task.{NoPair, pairs_of}
 use Rattle.ppdb_run.specs.Outcome.{file_of}
 use Rattle.ppdb_run.specs.Words.{Options, AreOptions, no_option, keep_id, free, Input, input_words, is_file_word, texts, NoTask, Words, IsMerge, IsRemap}
-use Rattle.ppdb_run.specs.Words.{Question, Id, Verify, Show, Query, Links, Breaks, Task, Ask, Rebuild, Compose, Merge}
+use Rattle.ppdb_run.specs.Words.{Id, Verify, Show, Query, Links, Breaks, Ask, Rebuild, Compose, Merge, Sample}
 
 -- what holds of two
 pub both : (a b : Bool) → IsTrue (a && b) → IsTrue a × IsTrue b
@@ -149,8 +150,53 @@ only_merge words none (Ask Links file) h = let e : 109 ≡ 108 = ap first_letter
 only_merge words none (Ask (Breaks document line) file) h = let e : 109 ≡ 98 = ap first_letter h.0 in absurd (omega (arith, e))
 only_merge words none (Rebuild input output options) h = let e : 109 ≡ 114 = ap first_letter h.1 in absurd (omega (arith, e))
 only_merge words none (Compose first second output) h = let e : 109 ≡ 99 = ap first_letter h.0 in absurd (omega (arith, e))
+only_merge words none (Sample n) h = let e : 109 ≡ 115 = ap first_letter h.0 in absurd (omega (arith, e))
 only_merge words none (Merge inputs output options) (inl h) = let e : 109 ≡ 114 = ap first_letter h.is in absurd (omega (arith, e))
 only_merge words none (Merge inputs output options) (inr h) = none inputs output options h
+
+module _ (args : List (List ℕ)) (first : List ℕ) (words front back : List (List ℕ)) (is : args ≡ first ∷ words) (split : words ≡ front ++ back)
+    (even : front ≡ input_words (pairs_of front)) (files : IsTrue (list_all is_file_word front)) (none : NoPair back) where
+  merge_parts : (inputs : List Input) (output : List ℕ) (options : Options) → IsMerge inputs output options (codes "merge" ∷ args)
+      → (1 ≤ length inputs) × (length inputs ≤ 256) × (inputs ≡ pairs_of front) × AreOptions back options
+  merge_parts inputs output options h =
+      let k : IsMerge inputs output options (codes "merge" ∷ first ∷ words) =
+      subst (λ w. IsMerge inputs output options (codes "merge" ∷ w)) is h in
+      let one = merge_is inputs output first options words front back split even files none k in
+      (k.some, k.most, one.1, subst (λ w. AreOptions w options) one.2 k.options_are)
+
+  -- there is no pair, or there are too many
+  pub no_merge_count : (length front ≡ 0) ⊎ (512 < length front) → NoTask (codes "merge" ∷ args)
+  no_merge_count count = only_merge args (λ inputs output options h.
+      let parts = merge_parts inputs output options h in
+      let same = ap length parts.2 in
+      let long = ap length even in
+      let two = two_each (pairs_of front) in
+      let some = parts.0 in
+      let most = parts.1 in
+      elim count [
+      | inl nothing ↦ absurd (omega (arith, nothing, same, long, two, some))
+      | inr many ↦ absurd (omega (arith, many, same, long, two, most))
+      ])
+
+  -- what is behind the pairs are no options
+  pub no_merge_options : ((options : Options) → AreOptions back options → ⊥) → NoTask (codes "merge" ∷ args)
+  no_merge_options refused = only_merge args (λ inputs output options h. refused options (merge_parts inputs output options h).3)
+
+  -- they are, and there are as many pairs as there can be
+  pub merge_words : (output : List ℕ) (options : Options) → output ≡ first → IsTrue (is_file_word first) → 1 ≤ length front → length front ≤ 512
+      → AreOptions back options → Words (Merge (pairs_of front) output options) (codes "merge" ∷ args)
+  merge_words output options same file some most options_are =
+      let long = ap length even in
+      let two = two_each (pairs_of front) in
+      inr (record {
+        rest = back;
+        some = omega (arith, some, long, two);
+        most = omega (arith, most, long, two);
+        is = ap (λ (w : List (List ℕ)). codes "merge" ∷ w) (is ∙ (ap (λ (w : List (List ℕ)). first ∷ w) (split ∙ ap (λ (w : List (List ℕ)). w ++ back) even)
+            ∙ ap (λ (w : List ℕ). w ∷ input_words (pairs_of front) ++ back) (sym same)));
+        files = rw (ap is_file_word same ∙ file) (subst (λ w. IsTrue (list_all is_file_word w)) even files);
+        options_are = options_are;
+      })
 
 pub only_remap : (words : List (List ℕ)) → ((inputs : List Input) (output : List ℕ) (options : Options) → IsRemap inputs output options (codes "remap" ∷ words) → ⊥)
     → NoTask (codes "remap" ∷ words)
@@ -163,6 +209,7 @@ only_remap words none (Ask Links file) h = let e : 114 ≡ 108 = ap first_letter
 only_remap words none (Ask (Breaks document line) file) h = let e : 114 ≡ 98 = ap first_letter h.0 in absurd (omega (arith, e))
 only_remap words none (Rebuild input output options) h = let e : 109 ≡ 98 = ap third_letter h.1 in absurd (omega (arith, e))
 only_remap words none (Compose first second output) h = let e : 114 ≡ 99 = ap first_letter h.0 in absurd (omega (arith, e))
+only_remap words none (Sample n) h = let e : 114 ≡ 115 = ap first_letter h.0 in absurd (omega (arith, e))
 only_remap words none (Merge inputs output options) (inl h) = none inputs output options h
 only_remap words none (Merge inputs output options) (inr h) = let e : 114 ≡ 109 = ap first_letter h.is in absurd (omega (arith, e))
 
@@ -195,6 +242,26 @@ two_of [] a b l e f = absurd (omega arith)
 two_of (x ∷ []) a b l e f = absurd (omega arith)
 two_of (x ∷ y ∷ rest) a b l e f = λ i. string_bytes (sym e i) ∷ string_bytes (sym f i) ∷ texts rest
 
+-- its first word, and the words behind it
+pub one_of : (words : List (String Global)) (a : String Global) → 1 ≤ length words → a ≡ get_or words 0 a
+    → texts words ≡ string_bytes a ∷ texts (take (length words - 1) (drop 1 words))
+one_of [] a l e = absurd (omega arith)
+one_of (x ∷ words) a l e = λ i. string_bytes (sym e i) ∷ texts (sym (take_all (length (x ∷ words) - 1) words (omega arith)) i)
+
+-- its first word, and one more
+pub first_two : (rest : List (String Global)) (a : String Global) → 2 ≤ length rest → a ≡ get_or rest 0 a
+    → texts rest ≡ string_bytes a ∷ string_bytes (get_or rest 1 a) ∷ texts (drop 2 rest)
+first_two [] a l e = absurd (omega arith)
+first_two (x ∷ []) a l e = absurd (omega arith)
+first_two (x ∷ y ∷ rest) a l e = λ i. string_bytes (sym e i) ∷ string_bytes y ∷ texts rest
+
+pub is_empty : (words : List (String Global)) → (length words == 0) ≡ true → length words ≡ 0
+is_empty words e = eqb-true (length words) 0 e
+
+pub not_empty : (words : List (String Global)) → (length words == 0) ≡ false → 1 ≤ length words
+not_empty [] e = absurd (let same : true ≡ false = e in cc)
+not_empty (x ∷ words) e = omega arith
+
 pub rest_texts : (words rest : List (String Global)) (i : ℕ) → rest ≡ drop i words → drop i (texts words) ≡ texts rest
 rest_texts words rest i e = drop-map string_bytes i words ∙ ap texts (sym e)
 
@@ -210,3 +277,8 @@ pub merge_counts : (inputs : List Input) (output : List ℕ) (options : Options)
     → (1 ≤ length inputs) × (length inputs ≤ 256)
 merge_counts inputs output options words (inl h) = let one : length inputs ≡ 1 = ap length h.alone in (omega (arith, one), omega (arith, one))
 merge_counts inputs output options words (inr h) = (h.some, h.most)
+
+-- what holds in any case holds of words that are refused
+pub on_err : {T E P : Type 0} (result : Result T E) → P → OnErr result P
+on_err (Ok x) p = tt
+on_err (Err e) p = p

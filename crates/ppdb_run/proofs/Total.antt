@@ -17,14 +17,14 @@ use Rattle.ppdb_verify.specs.Files.{BadFile, raw_in}
 use Rattle.ppdb_values.specs.RawFile.{RawFile}
 use Rattle.ppdb_values.specs.Value.{value_of}
 use Rattle.ppdb_run.specs.Outcome.{Outcome, ◌>>=◌, IsOutcome, HasDue, absent, too_long, refused, usage, gives, input_of, answer_of, rebuilt}
-use Rattle.ppdb_run.specs.Outcome.{outcome_of, steps_of, verified}
+use Rattle.ppdb_run.specs.Outcome.{outcome_of, sampled, steps_of, verified}
 use Rattle.map_text.proofs.Judged.{texts_are_judged}
 use Rattle.ppdb_verify.specs.Files.{IsRawOf}
 use Rattle.ppdb_merge.specs.declared.trace.Trace.{Trace}
 use Rattle.ppdb_merge.specs.Refusals.{added}
 use Rattle.ppdb_merge.specs.Together.{joined_of}
 use Rattle.ppdb_run.specs.Outcome.{Step, all_joined, file_at, fitting, in_limits, judged, map_in, no_map, with_input, with_inputs, with_texts}
-use Rattle.ppdb_run.specs.Words.{Input, Options, Task, Ask, Rebuild, Compose, Merge}
+use Rattle.ppdb_run.specs.Words.{Input, Options, Task, Ask, Rebuild, Compose, Merge, Sample}
 use Rattle.ppdb_run.proofs.MapSteps.{some_composed}
 
 -- what a stream of a kind is: that it is not listed, or the slice that is
@@ -153,3 +153,4 @@ has_due (Some (Rebuild input output options)) files none =
 has_due (Some (Compose first second output)) files none = some_composed first second output files none
 has_due (Some (Merge inputs output options)) files none =
     some_merged inputs output options files (λ r h. none (outcome_of r) (ends (Merge inputs output options) files r h))
+has_due (Some (Sample n)) files none = none (outcome_of (sampled n)) (ends (Sample n) files (sampled n) refl)

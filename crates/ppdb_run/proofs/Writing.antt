@@ -5,7 +5,7 @@ use Rattle.ppdb_base.specs.Files.{Files}
 use Rattle.ppdb_base.specs.Written.{appended}
 use Rattle.ppdb_base.proofs.Written.{appended_nothing}
 use Rattle.ppdb_run.specs.declared.stop.Stop.{Stop}
-use Rattle.ppdb_run.specs.Ends.{IsValid, KeepsFiles, OnTask, OnAsked, WritesAgain, WritesValid}
+use Rattle.ppdb_run.specs.Ends.{IsApart, IsValid, KeepsFiles, OnTask, OnAsked, WritesAgain, WritesValid}
 use Rattle.ppdb_run.specs.Outcome.{Outcome, IsOutcome, steps_of, written}
 use Rattle.ppdb_run.specs.Stops.{cause_of, refusal_of, Leaves, LeavesAt, Finds, Settles}
 use Rattle.ppdb_run.specs.Words.{Task, Words, written_file}
@@ -103,10 +103,9 @@ writes_file words task output old new writes h (Some other) asks keeps =
 
 -- what holds of a task and its outcome over told files holds of what the words ask for
 pub on_asked : (P : Option Task → Outcome → Type 0) (words : List (List ℕ)) (asked : Task) (files : Option Files) → OnTask asked files (P (Some asked))
-    → Words asked words
-    → OnAsked words files P
-on_asked P words asked files k h =
-    of_told (λ asked all. (due : Outcome) → IsOutcome asked all due → P asked due) words asked files k.holds h
+    → Words asked words → (IsApart (Some asked) → ⊥) → OnAsked words files P
+on_asked P words asked files k h reads =
+    of_told (λ asked all. (due : Outcome) → IsOutcome asked all due → P asked due) words asked files k.holds h reads
 
 -- nothing is said of an outcome
 pub nothing_due : (task : Task) (files : Option Files) → OnTask task files (λ due. Unit {0})

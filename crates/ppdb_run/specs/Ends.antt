@@ -64,28 +64,30 @@ abbrev pub HasOutcome : List (List ℕ) → Option Files → Status → Type 0
 HasOutcome words files status = (asked : Option Task) → Asks words asked → (all : Files) → AreSeen asked files all
     → UnlessFault status ((due : Outcome) × IsOutcome asked all due)
 
--- inputs come to be read where those before them fit; a map, where its file was there and not too long
-abbrev pub ComesToInput : Files → List (List ℕ) → List Trace → List Input → List ℕ → Type 0
-ComesToInput files marks traces [] name = ⊥
-ComesToInput files marks traces (input ∷ inputs) name =
-    (name ≡ input.file)
-    ⊎ ((name ≡ input.map_file) × ((bytes : List ℕ) × file_at files input.file (Ok bytes)))
-    ⊎ ((more : List Trace) × with_input files marks traces input (Ok more) × ComesToInput files marks more inputs name)
+-- inputs come to a read, by its number from 0 and two for each: those before it fit, and a map is read where its file was there and not too long
+abbrev pub ComesToInput : Files → List (List ℕ) → List Trace → List Input → ℕ → Type 0
+ComesToInput files marks traces [] read = ⊥
+ComesToInput files marks traces (input ∷ inputs) read =
+    (read ≡ 0)
+    ⊎ ((read ≡ 1) × ((bytes : List ℕ) × file_at files input.file (Ok bytes)))
+    ⊎ ((2 ≤ read) × ((more : List Trace) × with_input files marks traces input (Ok more) × ComesToInput files marks more inputs (read - 2)))
 
--- the task comes to read the file: nothing that comes before is refused
-abbrev pub ComesToRead : Task → Files → List ℕ → Type 0
-ComesToRead (Ask question file) files name = name ≡ file
-ComesToRead (Rebuild input output options) files name = name ≡ input
-ComesToRead (Compose first second output) files name = (name ≡ first) ⊎ ((name ≡ second) × ((m : Map) × map_at files first (Ok m)))
-ComesToRead (Merge inputs output options) files name = ComesToInput files options.marks [] inputs name
-ComesToRead (Sample n) files name = ⊥
+-- the task comes to its read of this number, from 0: nothing that comes before is refused
+abbrev pub ComesToRead : Task → Files → ℕ → Type 0
+ComesToRead (Ask question file) files read = read ≡ 0
+ComesToRead (Rebuild input output options) files read = read ≡ 0
+ComesToRead (Compose first second output) files read = (read ≡ 0) ⊎ ((read ≡ 1) × ((m : Map) × map_at files first (Ok m)))
+ComesToRead (Merge inputs output options) files read = ComesToInput files options.marks [] inputs read
+ComesToRead (Sample n) files read = ⊥
 
 -- this file of the task was to be read, after so many reads that gave a file
 pub record IsUnreadOf (task : Task) (files : Option Files) (before after : ℕ) (name : List ℕ) : Type 0 where
-  pub named : Contains (read_files task) name
+  -- which read of the task it was
+  pub read : ℕ
+  pub named : slice_get (read_files task) read ≡ Some name
   -- at the counter's last value it says no longer how many reads there were
-  pub next : after < 18446744073709551615 → slice_get (read_files task) (after - before) ≡ Some name
-  pub comes : IfSome files (λ all. ComesToRead task all name)
+  pub next : after < 18446744073709551615 → after ≡ before + read
+  pub comes : IfSome files (λ all. ComesToRead task all read)
 
 -- this file of an input was to be read, after as many reads as before it: the file, or the map behind it
 abbrev pub IsInputUnread : Option Files → Input → ℕ → ℕ → List ℕ → Type 0

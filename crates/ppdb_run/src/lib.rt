@@ -33,3 +33,5 @@ pub use words::{Command, Usage, read_words};
 
 #[cfg(test)]
 mod tests;
+#[cfg(test)]
+mod word_tests;

@@ -1,14 +1,16 @@
 use Rattle.std.proofs.Common.{refl, subst, sym, Some}
 use Rattle.ppdb_run.specs.Outcome.{IsOutcome}
-use Rattle.ppdb_run.specs.Stops.{Finds}
-use Rattle.std.specs.Prelude.{IfSome}
+use Rattle.ppdb_run.specs.Stops.{cause_of, Finds, OnCut, Settles}
+use Rattle.std.specs.Prelude.{IfErr, IfSome, OnOk}
+use Rattle.ppdb_base.specs.Written.{appended, AppendsFront}
 use Rattle.ppdb_run.specs.Ends.{IsValid, WritesAgain, WritesValid}
 use Rattle.ppdb_run.specs.Task.{inputs_of, options_of, question_of}
 use Rattle.ppdb_run.proofs.PairWords.{merge_counts}
-use Rattle.ppdb_run.specs.Words.{Ask, Rebuild, Compose, Merge, Words, texts}
+use Rattle.ppdb_run.specs.Words.{Ask, Rebuild, Compose, Merge, Sample, Words, texts}
 use Rattle.ppdb_run.proofs.Causes.{widened_stop}
 use Rattle.ppdb_run.proofs.Kept.{is_unread, is_input, is_output, leaves_all, nothing_to_judge}
 use Rattle.ppdb_run.proofs.Outcomes.{of_told, of_task, of_rows}
+use Rattle.ppdb_run.proofs.Sampling.{of_sampled, sampled_again, sampled_found, sampled_leaves, sampled_valid}
 use Rattle.ppdb_run.proofs.Writing.{nothing_put, nothing_due, on_asked, on_done, on_then, writes_file}
 use Rattle.ppdb_run.proofs.commands.carry_out.Goals as goal
 
@@ -16,29 +18,29 @@ pub returns-in-Ask-clause-found : goal.returns-in-Ask-clause-found
 returns-in-Ask-clause-found g c =
     let words = subst (λ task. Words task (texts c.args.words.now)) (sym c.in-Ask.ensures) c.in-Ok.ensures.command in
     of_told (λ asked all. Finds c.answer.result (IsOutcome asked all)) (texts c.args.words.now)
-    (Ask (question_of c.in-Ask.question) c.in-Ask.file.now) (g.F.Folder.files c.args.folder.now) c.answer.ensures.found words
+    (Ask (question_of c.in-Ask.question) c.in-Ask.file.now) (g.F.Folder.files c.args.folder.now) c.answer.ensures.found words (λ a. a)
 
 pub returns-in-Ask-clause-told : goal.returns-in-Ask-clause-told
 returns-in-Ask-clause-told g c =
     let words = subst (λ task. Words task (texts c.args.words.now)) (sym c.in-Ask.ensures) c.in-Ok.ensures.command in
-    of_task _ _ _ c.answer.ensures.told words
+    of_task _ _ _ c.answer.ensures.told words (λ a. a)
 
 pub returns-in-Ask-clause-text : goal.returns-in-Ask-clause-text
 returns-in-Ask-clause-text g c =
     let words = subst (λ task. Words task (texts c.args.words.now)) (sym c.in-Ask.ensures) c.in-Ok.ensures.command in
-    of_task _ _ _ c.answer.ensures.text words
+    of_task _ _ _ c.answer.ensures.text words (λ a. a)
 
 pub returns-in-Ask-clause-files : goal.returns-in-Ask-clause-files
 returns-in-Ask-clause-files g c =
     let words = subst (λ task. Words task (texts c.args.words.now)) (sym c.in-Ask.ensures) c.in-Ok.ensures.command in
     let left = leaves_all (question_of c.in-Ask.question) c.in-Ask.file.now (g.F.Folder.files c.args.folder.now) c.answer.result _ _
     c.answer.ensures.files in
-    of_task _ _ _ left words
+    of_task _ _ _ left words (λ a. a)
 
 pub returns-in-Ask-clause-cut : goal.returns-in-Ask-clause-cut
 returns-in-Ask-clause-cut g c =
     let words = subst (λ task. Words task (texts c.args.words.now)) (sym c.in-Ask.ensures) c.in-Ok.ensures.command in
-    of_task _ _ _ c.answer.ensures.cut words
+    of_task _ _ _ c.answer.ensures.cut words (λ a. a)
 
 pub returns-in-Ask-clause-rows : goal.returns-in-Ask-clause-rows
 returns-in-Ask-clause-rows g c =
@@ -59,7 +61,7 @@ returns-in-Ask-clause-accepted g c =
     on_done c.answer.result (on_asked WritesValid _ (Ask (question_of c.in-Ask.question) c.in-Ask.file.now) (g.F.Folder.files c.args.folder.now)
     (nothing_to_judge (WritesValid (Some (Ask (question_of c.in-Ask.question) c.in-Ask.file.now)))
     (λ due none. subst (λ w. IfSome w (λ file. IsValid (Ask (question_of c.in-Ask.question) c.in-Ask.file.now) file.1)) (sym none) tt)
-    (question_of c.in-Ask.question) c.in-Ask.file.now (g.F.Folder.files c.args.folder.now)) words)
+    (question_of c.in-Ask.question) c.in-Ask.file.now (g.F.Folder.files c.args.folder.now)) words (λ a. a))
 
 pub returns-in-Ask-clause-again : goal.returns-in-Ask-clause-again
 returns-in-Ask-clause-again g c =
@@ -67,44 +69,44 @@ returns-in-Ask-clause-again g c =
     on_done c.answer.result (on_asked WritesAgain _ (Ask (question_of c.in-Ask.question) c.in-Ask.file.now) (g.F.Folder.files c.args.folder.now)
     (nothing_to_judge (WritesAgain (Some (Ask (question_of c.in-Ask.question) c.in-Ask.file.now))) (λ due none. tt) (question_of c.in-Ask.question)
     c.in-Ask.file.now
-    (g.F.Folder.files c.args.folder.now)) words)
+    (g.F.Folder.files c.args.folder.now)) words (λ a. a))
 
 pub returns-in-Rebuild-clause-found : goal.returns-in-Rebuild-clause-found
 returns-in-Rebuild-clause-found g c =
     let words = subst (λ task. Words task (texts c.args.words.now)) (sym c.in-Rebuild.ensures) c.in-Ok.ensures.command in
     of_told (λ asked all. Finds c.rebuild.result (IsOutcome asked all)) (texts c.args.words.now)
     (Rebuild c.in-Rebuild.input.now c.in-Rebuild.output.now (options_of c.in-Rebuild.options))
-    (g.F.Folder.files c.args.folder.now) c.rebuild.ensures.found words
+    (g.F.Folder.files c.args.folder.now) c.rebuild.ensures.found words (λ a. a)
 
 pub returns-in-Rebuild-clause-told : goal.returns-in-Rebuild-clause-told
 returns-in-Rebuild-clause-told g c =
     let words = subst (λ task. Words task (texts c.args.words.now)) (sym c.in-Rebuild.ensures) c.in-Ok.ensures.command in
-    of_task _ _ _ c.rebuild.ensures.told words
+    of_task _ _ _ c.rebuild.ensures.told words (λ a. a)
 
 pub returns-in-Rebuild-clause-text : goal.returns-in-Rebuild-clause-text
 returns-in-Rebuild-clause-text g c =
     let words = subst (λ task. Words task (texts c.args.words.now)) (sym c.in-Rebuild.ensures) c.in-Ok.ensures.command in
     of_task _ _ _ (nothing_put (Rebuild c.in-Rebuild.input.now c.in-Rebuild.output.now (options_of c.in-Rebuild.options)) c.in-Rebuild.output.now
     (g.F.Folder.files c.args.folder.now) c.rebuild.result
-    (g.O.Sink.written c.args.out.now) c.rebuild.ensures.silent) words
+    (g.O.Sink.written c.args.out.now) c.rebuild.ensures.silent) words (λ a. a)
 
 pub returns-in-Rebuild-clause-files : goal.returns-in-Rebuild-clause-files
 returns-in-Rebuild-clause-files g c =
     let words = subst (λ task. Words task (texts c.args.words.now)) (sym c.in-Rebuild.ensures) c.in-Ok.ensures.command in
-    of_task _ _ _ c.rebuild.ensures.files words
+    of_task _ _ _ c.rebuild.ensures.files words (λ a. a)
 
 pub returns-in-Rebuild-clause-accepted : goal.returns-in-Rebuild-clause-accepted
 returns-in-Rebuild-clause-accepted g c =
     let words = subst (λ task. Words task (texts c.args.words.now)) (sym c.in-Rebuild.ensures) c.in-Ok.ensures.command in
     on_then c.rebuild.result (λ h. on_asked WritesValid _ (Rebuild c.in-Rebuild.input.now c.in-Rebuild.output.now (options_of c.in-Rebuild.options))
-    (g.F.Folder.files c.args.folder.now) h words)
+    (g.F.Folder.files c.args.folder.now) h words (λ a. a))
     c.rebuild.ensures.accepted
 
 pub returns-in-Rebuild-clause-again : goal.returns-in-Rebuild-clause-again
 returns-in-Rebuild-clause-again g c =
     let words = subst (λ task. Words task (texts c.args.words.now)) (sym c.in-Rebuild.ensures) c.in-Ok.ensures.command in
     on_then c.rebuild.result (λ h. on_asked WritesAgain _ (Rebuild c.in-Rebuild.input.now c.in-Rebuild.output.now (options_of c.in-Rebuild.options))
-    (g.F.Folder.files c.args.folder.now) h words)
+    (g.F.Folder.files c.args.folder.now) h words (λ a. a))
     c.rebuild.ensures.again
 
 pub returns-in-Rebuild-clause-rows : goal.returns-in-Rebuild-clause-rows
@@ -134,36 +136,36 @@ pub returns-in-Compose-clause-found : goal.returns-in-Compose-clause-found
 returns-in-Compose-clause-found g c =
     let words = subst (λ task. Words task (texts c.args.words.now)) (sym c.in-Compose.ensures) c.in-Ok.ensures.command in
     of_told (λ asked all. Finds c.compose.result (IsOutcome asked all)) (texts c.args.words.now)
-    (Compose c.in-Compose.first.now c.in-Compose.second.now c.in-Compose.output.now) (g.F.Folder.files c.args.folder.now) c.compose.ensures.found words
+    (Compose c.in-Compose.first.now c.in-Compose.second.now c.in-Compose.output.now) (g.F.Folder.files c.args.folder.now) c.compose.ensures.found words (λ a. a)
 
 pub returns-in-Compose-clause-told : goal.returns-in-Compose-clause-told
 returns-in-Compose-clause-told g c =
     let words = subst (λ task. Words task (texts c.args.words.now)) (sym c.in-Compose.ensures) c.in-Ok.ensures.command in
-    of_task _ _ _ c.compose.ensures.told words
+    of_task _ _ _ c.compose.ensures.told words (λ a. a)
 
 pub returns-in-Compose-clause-text : goal.returns-in-Compose-clause-text
 returns-in-Compose-clause-text g c =
     let words = subst (λ task. Words task (texts c.args.words.now)) (sym c.in-Compose.ensures) c.in-Ok.ensures.command in
     of_task _ _ _ (nothing_put (Compose c.in-Compose.first.now c.in-Compose.second.now c.in-Compose.output.now) c.in-Compose.output.now
-    (g.F.Folder.files c.args.folder.now) c.compose.result (g.O.Sink.written c.args.out.now) c.compose.ensures.silent) words
+    (g.F.Folder.files c.args.folder.now) c.compose.result (g.O.Sink.written c.args.out.now) c.compose.ensures.silent) words (λ a. a)
 
 pub returns-in-Compose-clause-files : goal.returns-in-Compose-clause-files
 returns-in-Compose-clause-files g c =
     let words = subst (λ task. Words task (texts c.args.words.now)) (sym c.in-Compose.ensures) c.in-Ok.ensures.command in
-    of_task _ _ _ c.compose.ensures.files words
+    of_task _ _ _ c.compose.ensures.files words (λ a. a)
 
 pub returns-in-Compose-clause-accepted : goal.returns-in-Compose-clause-accepted
 returns-in-Compose-clause-accepted g c =
     let words = subst (λ task. Words task (texts c.args.words.now)) (sym c.in-Compose.ensures) c.in-Ok.ensures.command in
     on_then c.compose.result (λ h. on_asked WritesValid _ (Compose c.in-Compose.first.now c.in-Compose.second.now c.in-Compose.output.now)
-    (g.F.Folder.files c.args.folder.now) h words)
+    (g.F.Folder.files c.args.folder.now) h words (λ a. a))
     c.compose.ensures.accepted
 
 pub returns-in-Compose-clause-again : goal.returns-in-Compose-clause-again
 returns-in-Compose-clause-again g c =
     let words = subst (λ task. Words task (texts c.args.words.now)) (sym c.in-Compose.ensures) c.in-Ok.ensures.command in
     on_done c.compose.result (on_asked WritesAgain _ (Compose c.in-Compose.first.now c.in-Compose.second.now c.in-Compose.output.now)
-    (g.F.Folder.files c.args.folder.now) (nothing_due _ _) words)
+    (g.F.Folder.files c.args.folder.now) (nothing_due _ _) words (λ a. a))
 
 pub returns-in-Compose-clause-rows : goal.returns-in-Compose-clause-rows
 returns-in-Compose-clause-rows g c =
@@ -189,36 +191,36 @@ pub returns-in-Merge-clause-found : goal.returns-in-Merge-clause-found
 returns-in-Merge-clause-found g c =
     let words = subst (λ task. Words task (texts c.args.words.now)) (sym c.in-Merge.ensures) c.in-Ok.ensures.command in
     of_told (λ asked all. Finds c.merge.result (IsOutcome asked all)) (texts c.args.words.now)
-    (Merge (inputs_of c.in-Merge.inputs) c.in-Merge.output.now (options_of c.in-Merge.options)) (g.F.Folder.files c.args.folder.now) c.merge.ensures.found words
+    (Merge (inputs_of c.in-Merge.inputs) c.in-Merge.output.now (options_of c.in-Merge.options)) (g.F.Folder.files c.args.folder.now) c.merge.ensures.found words (λ a. a)
 
 pub returns-in-Merge-clause-told : goal.returns-in-Merge-clause-told
 returns-in-Merge-clause-told g c =
     let words = subst (λ task. Words task (texts c.args.words.now)) (sym c.in-Merge.ensures) c.in-Ok.ensures.command in
-    of_task _ _ _ c.merge.ensures.told words
+    of_task _ _ _ c.merge.ensures.told words (λ a. a)
 
 pub returns-in-Merge-clause-text : goal.returns-in-Merge-clause-text
 returns-in-Merge-clause-text g c =
     let words = subst (λ task. Words task (texts c.args.words.now)) (sym c.in-Merge.ensures) c.in-Ok.ensures.command in
     of_task _ _ _ (nothing_put (Merge (inputs_of c.in-Merge.inputs) c.in-Merge.output.now (options_of c.in-Merge.options)) c.in-Merge.output.now
-    (g.F.Folder.files c.args.folder.now) c.merge.result (g.O.Sink.written c.args.out.now) c.merge.ensures.silent) words
+    (g.F.Folder.files c.args.folder.now) c.merge.result (g.O.Sink.written c.args.out.now) c.merge.ensures.silent) words (λ a. a)
 
 pub returns-in-Merge-clause-files : goal.returns-in-Merge-clause-files
 returns-in-Merge-clause-files g c =
     let words = subst (λ task. Words task (texts c.args.words.now)) (sym c.in-Merge.ensures) c.in-Ok.ensures.command in
-    of_task _ _ _ c.merge.ensures.files words
+    of_task _ _ _ c.merge.ensures.files words (λ a. a)
 
 pub returns-in-Merge-clause-accepted : goal.returns-in-Merge-clause-accepted
 returns-in-Merge-clause-accepted g c =
     let words = subst (λ task. Words task (texts c.args.words.now)) (sym c.in-Merge.ensures) c.in-Ok.ensures.command in
     on_then c.merge.result (λ h. on_asked WritesValid _ (Merge (inputs_of c.in-Merge.inputs) c.in-Merge.output.now (options_of c.in-Merge.options))
-    (g.F.Folder.files c.args.folder.now) h words)
+    (g.F.Folder.files c.args.folder.now) h words (λ a. a))
     c.merge.ensures.accepted
 
 pub returns-in-Merge-clause-again : goal.returns-in-Merge-clause-again
 returns-in-Merge-clause-again g c =
     let words = subst (λ task. Words task (texts c.args.words.now)) (sym c.in-Merge.ensures) c.in-Ok.ensures.command in
     on_then c.merge.result (λ h. on_asked WritesAgain _ (Merge (inputs_of c.in-Merge.inputs) c.in-Merge.output.now (options_of c.in-Merge.options))
-    (g.F.Folder.files c.args.folder.now) h words)
+    (g.F.Folder.files c.args.folder.now) h words (λ a. a))
     c.merge.ensures.again
 
 pub returns-in-Merge-clause-rows : goal.returns-in-Merge-clause-rows
@@ -249,3 +251,55 @@ pub merge-requires-most : goal.merge-requires-most
 merge-requires-most g c =
     let words = subst (λ task. Words task (texts c.args.words.now)) (sym c.in-Merge.ensures) c.in-Ok.ensures.command in
     (merge_counts (inputs_of c.in-Merge.inputs) c.in-Merge.output.now (options_of c.in-Merge.options) (texts c.args.words.now) words).1
+
+pub returns-in-Sample-clause-found : goal.returns-in-Sample-clause-found
+returns-in-Sample-clause-found g c =
+    let words = subst (λ task. Words task (texts c.args.words.now)) (sym c.in-Sample.ensures) c.in-Ok.ensures.command in
+    sampled_found (texts c.args.words.now) c.in-Sample.n words (g.F.Folder.files c.args.folder.now) c.sample.result c.sample.ensures.told
+
+pub returns-in-Sample-clause-told : goal.returns-in-Sample-clause-told
+returns-in-Sample-clause-told g c =
+    let words = subst (λ task. Words task (texts c.args.words.now)) (sym c.in-Sample.ensures) c.in-Ok.ensures.command in
+    of_sampled (texts c.args.words.now) c.in-Sample.n words (g.F.Folder.files c.args.folder.now) (Settles c.sample.result) c.sample.ensures.told
+
+pub returns-in-Sample-clause-text : goal.returns-in-Sample-clause-text
+returns-in-Sample-clause-text g c =
+    let words = subst (λ task. Words task (texts c.args.words.now)) (sym c.in-Sample.ensures) c.in-Ok.ensures.command in
+    of_sampled (texts c.args.words.now) c.in-Sample.n words (g.F.Folder.files c.args.folder.now) (λ due. OnOk c.sample.result (g.O.Sink.written c.sample.out ≡ appended (g.O.Sink.written c.args.out.now) due.text)) c.sample.ensures.text
+
+pub returns-in-Sample-clause-files : goal.returns-in-Sample-clause-files
+returns-in-Sample-clause-files g c =
+    let words = subst (λ task. Words task (texts c.args.words.now)) (sym c.in-Sample.ensures) c.in-Ok.ensures.command in
+    sampled_leaves (texts c.args.words.now) c.in-Sample.n words (g.F.Folder.files c.args.folder.now) c.sample.result (g.F.Folder.files c.args.folder.now)
+
+pub returns-in-Sample-clause-accepted : goal.returns-in-Sample-clause-accepted
+returns-in-Sample-clause-accepted g c =
+    let words = subst (λ task. Words task (texts c.args.words.now)) (sym c.in-Sample.ensures) c.in-Ok.ensures.command in
+    on_done c.sample.result (sampled_valid (texts c.args.words.now) c.in-Sample.n words (g.F.Folder.files c.args.folder.now))
+
+pub returns-in-Sample-clause-again : goal.returns-in-Sample-clause-again
+returns-in-Sample-clause-again g c =
+    let words = subst (λ task. Words task (texts c.args.words.now)) (sym c.in-Sample.ensures) c.in-Ok.ensures.command in
+    on_done c.sample.result (sampled_again (texts c.args.words.now) c.in-Sample.n words (g.F.Folder.files c.args.folder.now))
+
+pub returns-in-Sample-clause-rows : goal.returns-in-Sample-clause-rows
+returns-in-Sample-clause-rows g c =
+    let words = subst (λ task. Words task (texts c.args.words.now)) (sym c.in-Sample.ensures) c.in-Ok.ensures.command in
+    of_rows _ (Sample c.in-Sample.n) (g.F.Folder.files c.args.folder.now) _ _ (record { none = λ no. absurd no; bound = tt }) words
+
+pub returns-in-Sample-clause-causes : goal.returns-in-Sample-clause-causes
+returns-in-Sample-clause-causes g c =
+    let words = subst (λ task. Words task (texts c.args.words.now)) (sym c.in-Sample.ensures) c.in-Ok.ensures.command in
+    widened_stop c.sample.result (λ m. absurd m) (λ name r. absurd r) (λ name w. absurd w) (λ e. refl) (λ a. absurd a) (λ b. absurd b) (λ p. p)
+    c.sample.ensures.causes
+
+pub returns-in-Sample-clause-cut : goal.returns-in-Sample-clause-cut
+returns-in-Sample-clause-cut g c =
+    let words = subst (λ task. Words task (texts c.args.words.now)) (sym c.in-Sample.ensures) c.in-Ok.ensures.command in
+    of_sampled (texts c.args.words.now) c.in-Sample.n words (g.F.Folder.files c.args.folder.now) (λ due. IfErr c.sample.result (λ stop. OnCut (cause_of stop) (AppendsFront (g.O.Sink.written c.args.out.now) (g.O.Sink.written c.sample.out) due.text)))
+    c.sample.ensures.cut
+
+pub sample-requires : goal.sample-requires
+sample-requires g c =
+    let words = subst (λ task. Words task (texts c.args.words.now)) (sym c.in-Sample.ensures) c.in-Ok.ensures.command in
+    words.1

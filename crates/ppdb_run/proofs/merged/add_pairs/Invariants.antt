@@ -1,20 +1,17 @@
-use Rattle.std.proofs.Common.{◌≡◌, ◌≤◌, ◌<◌, ◌+◌, ◌-◌, length, drop}
+use Rattle.std.proofs.Common.{◌≡◌, ◌≤◌, ◌<◌, ◌+◌, length}
 use Rattle.ppdb_run.specs.Task.{pairs_of}
 use Rattle.ppdb_run.specs.Words.{texts}
-use Rattle.ppdb_run.proofs.Merges.{Goes}
+use Rattle.ppdb_run.proofs.Merges.{Goes, reads_of}
 use Rattle.ppdb_run.proofs.merged.add_pairs.Given as goal
 
--- what was read so far decides with the rest; the reads are those of the words before the rest
+-- what was read so far decides with the rest, behind two reads for each input
 abbrev pub invariant-loop-rest : goal.invariant-loop-rest
 invariant-loop-rest g l =
     let folder = g.F.Folder in
     record {
       goes : Goes (folder.files l.fn.folder) l.fn.merger.marks l.merger.traces (pairs_of (texts l.rest)) (pairs_of (texts l.words));
       marks : l.merger.marks ≡ l.fn.merger.marks;
-      count : length l.merger.traces + length (pairs_of (texts l.rest)) ≡ length (pairs_of (texts l.words));
-      fits : length l.rest ≤ length l.words;
-      place : l.rest ≡ drop (length l.words - length l.rest) l.words;
-      reads : folder.reads l.folder < 18446744073709551615 → folder.reads l.folder ≡ folder.reads l.fn.folder + (length l.words - length l.rest);
+      reads : folder.reads l.folder < 18446744073709551615 → folder.reads l.folder ≡ folder.reads l.fn.folder + reads_of l.merger.traces;
       later : folder.read_faults l.fn.folder ≤ folder.read_faults l.folder;
       files : folder.files l.folder ≡ folder.files l.fn.folder;
       write_faults : folder.write_faults l.folder ≡ folder.write_faults l.fn.folder;

@@ -1,4 +1,4 @@
-use Rattle.std.proofs.Common.{◌≡◌, ◌≤◌, ◌-◌, length, drop}
+use Rattle.std.proofs.Common.{◌≤◌, length}
 use Rattle.ppdb_run.specs.Words.{texts}
 use Rattle.ppdb_run.proofs.PairWords.{Front}
 use Rattle.ppdb_run.proofs.pairs.pairs_in_front.Given as goal

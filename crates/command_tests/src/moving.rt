@@ -1,0 +1,298 @@
+// Files that are moved by maps and joined.
+use crate::files::{NOTHING, Parts, count_of, file_of};
+use crate::moving_files::worked;
+use crate::running::ran;
+use ppdb_base::{Folder, MemoryFolder, MemorySink};
+use std::alloc::{AllocError, Global};
+use std::test::Fail;
+
+/// Runs the command of these words, which stand apart by spaces, and says whether it ended so and printed this; of what `show`
+/// prints this is the end.
+fn ends<F: Folder>(
+    alloc: Global,
+    line: &str,
+    folder: &mut F,
+    status: u8,
+    text: &str,
+) -> Result<bool, Fail> {
+    let words: Vec<&str> = line.split_whitespace().collect(alloc)?;
+    let mut out = MemorySink::new(alloc);
+    let ended = ran(alloc, words.as_slice(), folder, &mut out)?;
+    let put = out.as_slice();
+    let whole = put.len() == text.len() || line.starts_with("show");
+    Ok(ended.number() == status && whole && put.ends_with(text.as_bytes()))
+}
+
+/// Commands in turn, and what each comes to.
+const MOVED: [(&str, u8, &str); 20] = [
+    ("remap B m O --keep-id", 0, ""),
+    (
+        "query O 1 6",
+        0,
+        "point 6 1 hidden signature 0 name /a/b\nscope 0 12\nvariable 0 0 x\nentry\n",
+    ),
+    ("remap X change O", 0, ""),
+    (
+        "show O",
+        0,
+        "scope 1 method 1 import 0 range 0 6\n\
+        scope 2 method 2 import 0 range 0 4\n\
+        variable 1 scope 1 slot 0 attributes 0 name q\n\
+        variable 2 scope 2 slot 0 attributes 0 name p\n\
+        machine 1 move 1 kickoff 2\n\
+        custom 1 parent 33 2 kind 83c563c4-b4f3-47d5-b824-ba5441477ea8 value 01\n",
+    ),
+    ("remap B drop O --keep-id", 0, ""),
+    (
+        "show O",
+        0,
+        "id 0000000000000000000000000000000000000000\n\
+        entry 00000000\n\
+        rows 06 1\n\
+        document 1 algorithm - hash - language - name /a/b\n",
+    ),
+    ("remap X one O", 0, ""),
+    (
+        "show O",
+        0,
+        "rows 06 1\n\
+        scope 1 method 1 import 0 range 0 4\n\
+        variable 1 scope 1 slot 0 attributes 0 name p\n\
+        custom 1 parent 33 1 kind 83c563c4-b4f3-47d5-b824-ba5441477ea8 value 01\n",
+    ),
+    ("remap A2 drop O", 0, ""),
+    ("show O", 0, "entry 00000000\nrows 06 2\n"),
+    ("remap B slots O", 0, ""),
+    (
+        "show O",
+        0,
+        "variable 1 scope 1 slot 5 attributes 0 name x\n\
+        variable 2 scope 2 slot 6 attributes 0 name y\n",
+    ),
+    ("remap B swap O", 0, ""),
+    (
+        "show O",
+        0,
+        "variable 1 scope 1 slot 1 attributes 0 name x\n\
+        variable 2 scope 2 slot 0 attributes 0 name y\n",
+    ),
+    ("remap B gone O --keep-id", 0, ""),
+    (
+        "show O",
+        0,
+        "entry 06000001\nrows 06 1\ndocument 1 algorithm - hash - language - name /a/b\n",
+    ),
+    ("remap B last O --keep-id", 0, ""),
+    (
+        "show O",
+        0,
+        "method 1 signature 0\n\
+        point 10 1 12:1 13:2\n\
+        scope 1 method 1 import 0 range 10 20\n\
+        variable 1 scope 1 slot 0 attributes 0 name x\n",
+    ),
+    ("remap H m O", 0, ""),
+    (
+        "show O",
+        0,
+        "custom 1 parent 06 1 kind 6da9a61e-f8c7-4874-be62-68bc5630df71 value \
+        00000000000000000000000000000000000000000c000000\n",
+    ),
+];
+
+/// Merges in turn, and what each comes to.
+const JOINED: [(&str, u8, &str); 9] = [
+    ("merge O B a B b", 0, ""),
+    (
+        "show O",
+        0,
+        "entry 06000001\n\
+        rows 06 2\n\
+        document 1 algorithm - hash - language - name /a/b\n\
+        method 1 signature 0\n\
+        point 0 1 10:5 10:9\n\
+        point 3 1 hidden\n\
+        point 7 1 12:1 13:2\n\
+        method 2 signature 0\n\
+        point 0 1 10:5 10:9\n\
+        point 3 1 hidden\n\
+        point 7 1 12:1 13:2\n\
+        scope 1 method 1 import 0 range 0 9\n\
+        scope 2 method 1 import 0 range 2 5\n\
+        scope 3 method 2 import 0 range 0 9\n\
+        scope 4 method 2 import 0 range 2 5\n\
+        variable 1 scope 1 slot 0 attributes 0 name x\n\
+        variable 2 scope 2 slot 1 attributes 0 name y\n\
+        variable 3 scope 3 slot 0 attributes 0 name x\n\
+        variable 4 scope 4 slot 1 attributes 0 name y\n",
+    ),
+    (
+        "query O 2 3",
+        0,
+        "point 3 1 hidden signature 0 name /a/b\nscope 0 9\nvariable 0 0 x\nscope 2 5\nvariable 1 0 y\n",
+    ),
+    ("merge O T3 n V w", 0, ""),
+    (
+        "show O",
+        0,
+        "document 1 algorithm - hash - language - name c\n\
+        document 2 algorithm - hash - language - name b\n\
+        document 3 algorithm - hash - language - name a\n\
+        method 2 signature 0\n\
+        point 0 3 1:1 1:2\n\
+        point 2 2 2:1 2:2\n\
+        point 4 3 3:1 3:2\n\
+        scope 1 method 1 import 0 range 0 1\n",
+    ),
+    ("merge O I u I v", 0, ""),
+    (
+        "show O",
+        0,
+        "scope 1 method 1 import 1 range 0 6\n\
+        scope 2 method 2 import 4 range 0 4\n\
+        scope 3 method 3 import 3 range 0 6\n\
+        scope 4 method 4 import 2 range 0 4\n\
+        variable 1 scope 1 slot 0 attributes 0 name q\n\
+        variable 2 scope 2 slot 0 attributes 0 name p\n\
+        variable 3 scope 3 slot 0 attributes 0 name q\n\
+        variable 4 scope 4 slot 0 attributes 0 name p\n\
+        import 1 parent 0\n\
+        use 2 assembly 3 namespace N\n\
+        import 2 parent 1\n\
+        import 3 parent 0\n\
+        use 2 assembly 2 namespace N\n\
+        import 4 parent 3\n\
+        custom 1 parent 35 2 kind cc110556-a091-4d38-9fec-25ab9a351a6a value 69\n\
+        custom 2 parent 35 4 kind cc110556-a091-4d38-9fec-25ab9a351a6a value 69\n",
+    ),
+    ("merge O P p P2 q", 0, ""),
+    (
+        "show O",
+        0,
+        "machine 1 move 4 kickoff 1\n\
+        machine 2 move 9 kickoff 6\n\
+        custom 1 parent 00 1 kind cc110556-a091-4d38-9fec-25ab9a351a6a value 7b7d\n\
+        custom 2 parent 00 1 kind b5feec05-8cd0-4a83-96da-466284bb4bd8 value 61006200\n\
+        custom 3 parent 00 1 kind b5feec05-8cd0-4a83-96da-466284bb4bd8 value 61006300\n\
+        custom 4 parent 06 4 kind 6da9a61e-f8c7-4874-be62-68bc5630df71 value 0e000000930000000000000000000000\n\
+        custom 5 parent 06 4 kind 54fd2ac5-e925-401a-9c2a-f94f171072f8 value 000000003d0000005200000004\n\
+        custom 6 parent 06 9 kind 6da9a61e-f8c7-4874-be62-68bc5630df71 value 0e000000930000000000000000000000\n\
+        custom 7 parent 06 9 kind 54fd2ac5-e925-401a-9c2a-f94f171072f8 value 000000003d0000005200000009\n",
+    ),
+];
+
+/// What is not moved or not joined, and why.
+const REFUSED: [(&str, u8, &str); 19] = [
+    ("remap L middle O", 9, "limit L4 method 1 step 536870895\n"),
+    ("merge O B a C b", 8, "unfit C M7 document 1 joined 1\n"),
+    (
+        "merge O B c B c",
+        8,
+        "unfit B M3 input 1 row 1 row 1 image 3\n",
+    ),
+    ("remap A steps O", 8, "unfit A M5 method 1 offset 20\n"),
+    ("remap B k O", 8, "map k line 4 kind 7\n"),
+    ("remap B none O", 8, "map none line 1 kind 1\n"),
+    (
+        "remap B d O",
+        8,
+        "unfit B M1 table 06 row 1 at pdb byte 20\n",
+    ),
+    (
+        "remap B above O",
+        8,
+        "unfit B M9 table 06 row 1 image 2 rows 1\n",
+    ),
+    (
+        "remap B small O",
+        8,
+        "unfit B M4 method 1 offset 7 size 7\n",
+    ),
+    (
+        "remap X e O",
+        8,
+        "unfit X M2 table 06 rows 1 2 image 1\n",
+    ),
+    ("merge O B n B b", 8, "unfit B M8 table 06 rows 1 2\n"),
+    ("remap B drop1 O", 8, "map drop1 line 2 kind 2\n"),
+    ("remap B drop9 O", 8, "map drop9 line 3 kind 9\n"),
+    ("remap A2 drop2 O", 8, "unfit A2 M5 method 2 offset 25\n"),
+    ("remap B slot O", 8, "unfit B M10 variable 2 slot 1\n"),
+    (
+        "remap B twice O",
+        8,
+        "unfit B M11 method 1 slots 0 1 image 5\n",
+    ),
+    (
+        "remap B seven O",
+        8,
+        "unfit B M11 method 1 slots 0 1 image 7\n",
+    ),
+    ("remap B early O", 8, "map early line 2 kind 5\n"),
+    ("remap B slots2 O", 8, "map slots2 line 2 kind 2\n"),
+];
+
+/// Runs these commands in turn over the worked files, and says which one does not come to what is told, by its number.
+fn first_other(alloc: Global, rows: &[(&str, u8, &str)]) -> Result<Option<usize>, Fail> {
+    let mut folder = worked(alloc)?;
+    for (number, &(line, status, text)) in rows.iter().enumerate() {
+        if !ends(alloc, line, &mut folder, status, text)? {
+            return Ok(Some(number));
+        }
+    }
+    Ok(None)
+}
+
+#[test]
+fn what_is_moved(rt: HostRuntime) -> Result<(), Fail> {
+    assert_eq!(rt; first_other(rt.alloc(), &MOVED)?, None);
+    Ok(())
+}
+
+#[test]
+fn what_is_joined(rt: HostRuntime) -> Result<(), Fail> {
+    assert_eq!(rt; first_other(rt.alloc(), &JOINED)?, None);
+    Ok(())
+}
+
+#[test]
+fn what_is_refused(rt: HostRuntime) -> Result<(), Fail> {
+    assert_eq!(rt; first_other(rt.alloc(), &REFUSED)?, None);
+    Ok(())
+}
+
+/// The file that a line of words has written.
+fn written<'a>(line: &'a str) -> &'a str {
+    if line.ends_with("remap B m B --keep-id") {
+        "B"
+    } else {
+        "O"
+    }
+}
+
+/// Commands, and how many bytes the file has that they write, and what some of them are.
+const WRITTEN: [(&str, usize, usize, &[u8]); 5] = [
+    (
+        "remap B m O --keep-id",
+        256,
+        238,
+        b"\x0e\0\0\0\x04\x0a\x05\x06\0\0\x02\x01\x02\x04\x79",
+    ),
+    ("remap B drop O --keep-id", 200, 132, b"\0\0\0\0"),
+    ("remap B gone O --keep-id", 200, 132, b"\x01\0\0\x06"),
+    ("merge O B a B b", 328, 132, b"\x01\0\0\x06"),
+    // Both points are in the one document.
+    ("remap V ends O --keep-id", 228, 196, b"\x01\0"),
+];
+
+#[test]
+fn bytes_that_are_written(rt: HostRuntime) -> Result<(), Fail> {
+    let mut folder = worked(rt.alloc())?;
+    for (line, size, place, bytes) in WRITTEN {
+        assert!(rt; ends(rt.alloc(), line, &mut folder, 0, "")?, "{line}");
+        let file = folder.get("O").unwrap_or(b"");
+        assert_eq!(rt; file.len(), size);
+        assert!(rt; file[place..].starts_with(bytes), "{line}");
+    }
+    Ok(())
+}

@@ -1,0 +1,171 @@
+use crate::{Command, Options, Usage, read_words};
+use std::alloc::{AllocError, Global};
+
+const GUID: &str = "00112233-4455-6677-8899-aabbccddeeff";
+
+/// Words, and whether a command has them.
+const ROWS: [(&[&str], bool); 33] = [
+    (&["remap", "a", "m", "o"], true),
+    (&["remap", "a", "b"], false),
+    (&["remap", "a", "m", "--o"], false),
+    (&["remap", "a", "", "o"], false),
+    (&["remap", "a", "m", "o", "--keep-id", "--keep-id"], true),
+    (&["remap", "a", "m", "o", "b"], false),
+    (&["remap", "a", "m", "o", ""], false),
+    (&["merge", "o"], false),
+    (&["merge", "o", "--keep-id"], false),
+    (&["merge", "o", "a"], false),
+    (&["merge", "o", "a", "m"], true),
+    (&["merge", "--o", "a", "m"], false),
+    (&["merge", "", "a", "m"], false),
+    (&["merge", "o", "a", "m", "b"], false),
+    (&["merge", "o", "a", "m", "b", "--keep-id"], false),
+    (&["merge", "o", "a", "m", "--keep-id", "b", "n"], false),
+    (&["merge", "o", "a", "m", "", "n"], false),
+    (&["merge", "o", "a", "m", "--free"], false),
+    (
+        &["merge", "o", "a", "m", "--free", GUID, "--free", GUID],
+        true,
+    ),
+    (
+        &[
+            "merge",
+            "o",
+            "a",
+            "m",
+            "--free",
+            "00112233445566778899AABBCCDDEEFF",
+        ],
+        true,
+    ),
+    (
+        &[
+            "merge",
+            "o",
+            "a",
+            "m",
+            "--free",
+            "{00112233-4455-6677-8899-aabbccddeeff}",
+        ],
+        true,
+    ),
+    (
+        &[
+            "merge",
+            "o",
+            "a",
+            "m",
+            "--free",
+            "urn:uuid:00112233-4455-6677-8899-aabbccddeeff",
+        ],
+        true,
+    ),
+    (
+        &[
+            "merge",
+            "o",
+            "a",
+            "m",
+            "--free",
+            "{00112233445566778899aabbccddeeff}",
+        ],
+        false,
+    ),
+    (
+        &[
+            "merge",
+            "o",
+            "a",
+            "m",
+            "--free",
+            "00112233-4455-6677-8899-aabbccddeefg",
+        ],
+        false,
+    ),
+    (&["sample", "0"], true),
+    (&["sample", "100000"], true),
+    (&["sample", "100001"], false),
+    (&["sample", "01"], false),
+    (&["sample", "-1"], false),
+    (&["sample", ""], false),
+    (&["sample"], false),
+    (&["sample", "1", "1"], false),
+    (&["sample", "4294967296"], false),
+];
+
+/// The words as they are told to the program.
+fn told(alloc: Global, words: &[&str]) -> Result<Vec<String>, AllocError> {
+    let mut texts = Vec::new(alloc);
+    for &word in words {
+        texts.push(String::from_str(alloc, word)?)?;
+    }
+    Ok(texts)
+}
+
+/// The words of a merge of so many pairs.
+fn merge_of(alloc: Global, pairs: usize) -> Result<Vec<String>, AllocError> {
+    let mut words = told(alloc, &["merge", "o"])?;
+    for _ in 0..pairs {
+        words.push(String::from_str(alloc, "a")?)?;
+        words.push(String::from_str(alloc, "m")?)?;
+    }
+    Ok(words)
+}
+
+#[test]
+fn words_of_commands(rt: HostRuntime) -> Result<(), AllocError> {
+    for (words, is) in &ROWS {
+        assert_eq!(rt; read_words(&told(rt.alloc(), words)?).is_ok(), *is);
+    }
+    Ok(())
+}
+
+#[test]
+fn as_many_pairs_as_there_can_be(rt: HostRuntime) -> Result<(), AllocError> {
+    let most = merge_of(rt.alloc(), 256)?;
+    let merge = Command::Merge {
+        output: "o",
+        pairs: &most[2..],
+        options: Options {
+            keep_id: false,
+            words: &[],
+        },
+    };
+    assert!(rt; read_words(&most) == Ok(merge));
+    assert!(rt; read_words(&merge_of(rt.alloc(), 257)?) == Err(Usage));
+    Ok(())
+}
+
+#[test]
+fn words_are_lent(rt: HostRuntime) -> Result<(), AllocError> {
+    let words = told(
+        rt.alloc(),
+        &["remap", "a", "m", "o", "--free", GUID, "--keep-id"],
+    )?;
+    let remap = Command::Remap {
+        input: "a",
+        map: "m",
+        output: "o",
+        options: Options {
+            keep_id: true,
+            words: &words[4..],
+        },
+    };
+    assert!(rt; read_words(&words) == Ok(remap));
+    let words = told(
+        rt.alloc(),
+        &["merge", "o", "a", "m", "b", "n", "--free", GUID],
+    )?;
+    let merge = Command::Merge {
+        output: "o",
+        pairs: &words[2..6],
+        options: Options {
+            keep_id: false,
+            words: &words[6..],
+        },
+    };
+    assert!(rt; read_words(&words) == Ok(merge));
+    let words = told(rt.alloc(), &["sample", "12"])?;
+    assert!(rt; read_words(&words) == Ok(Command::Sample { n: 12 }));
+    Ok(())
+}
