@@ -81,6 +81,7 @@ fn remapped_len_and_id(
     value_has_types(value);
     canonical_files_forget_ids();
     ids_stand_after_the_root();
+    values_without_limits_are_small();
     match write_file(alloc, value, IdChoice::Hash) {
         Ok(file) => Ok((file.len() as u32, id_in(file.as_slice()))),
         Err(error) => Err(error),
