@@ -1,14 +1,16 @@
 -- The sample as the one input of a merger.
 use Rattle.std.proofs.Common.{◌≡◌, ◌≢◌, ℕ, ◌≤◌, ◌++◌, Bool, true, false, cond, List, [], ◌∷◌, Option, Some, None, Ok, Err, map, flat_map, refl, sym, ◌∙◌, ap}
-use Rattle.std.proofs.Common.{subst, arith, slice_get, slice_index}
+use Rattle.std.proofs.Common.{subst, inl, inr, slice_get, slice_index, ◌⊎◌}
 use Rattle.std.specs.Prelude.{nat_lt, find}
 use Rattle.std.specs.List.{filter_map, cons_option, enumerate_from, range_with_len}
 use Rattle.std.specs.Option.{option_map, option_and_then}
 use Rattle.std.proofs.lemmas.Bool.{le-ltb}
+use Rattle.std.proofs.lemmas.Option.{none-some}
 use Rattle.custom_info.specs.Kinds.{kind_of}
 use Rattle.custom_info.specs.declared.kinds.Kind.TheVariants.{Unknown}
 use Rattle.named_references.specs.Laws.{ReferencesAreNamed, named_by}
 use Rattle.ppdb_base.specs.declared.merge_error.MergeError.{MergeError}
+use Rattle.ppdb_base.specs.declared.merge_error.MergeError.TheVariants.{Memory}
 use Rattle.ppdb_maps.specs.Map.{Map, row_image}
 use Rattle.ppdb_maps.specs.Readable.{IsReadable}
 use Rattle.ppdb_maps.specs.Sample.{sample_map_of}
@@ -24,17 +26,19 @@ use Rattle.ppdb_values.specs.declared.file.FileValue.{FileValue}
 use Rattle.ppdb_noted.specs.Each.{Each}
 use Rattle.ppdb_noted.specs.NamedRows.{Named, named_rows}
 use Rattle.ppdb_noted.specs.Noted.{noted_file}
+use Rattle.ppdb_noted.specs.Sorted.{in_order}
 use Rattle.ppdb_noted.specs.Unnoted.{value_of_noted}
 use Rattle.ppdb_noted.proofs.Lists.{Each-weaker, Each-unmap, each_of}
 use Rattle.ppdb_joined.specs.Joined.{joined}
+use Rattle.ppdb_moved.specs.Fits.{Fits}
 use Rattle.ppdb_moved.specs.Moved.{moved_file}
 use Rattle.ppdb_moved.proofs.Lists.{Each-filter_map}
 use Rattle.ppdb_fits.specs.Clashes.{first_clash, is_at_dropped}
 use Rattle.ppdb_fits.specs.Laws.{NoClash}
 use Rattle.ppdb_fits.specs.Rows.{imaged, imaged_rows}
 use Rattle.ppdb_merge.specs.declared.trace.Trace.{Trace}
-use Rattle.ppdb_merge.specs.Merged.{trace_of, moved_files}
-use Rattle.ppdb_merge.specs.Refusals.{added, refusal_of, taken, conflict, clashes_before, or_first, with_trace, claims, methods_taken, documents_differ}
+use Rattle.ppdb_merge.specs.Merged.{Merged, trace_of, moved_files}
+use Rattle.ppdb_merge.specs.Refusals.{added, refusal_of, taken, conflict, clashes_before, or_first, with_trace, claims, methods_in, documents_differ}
 use Rattle.ppdb_merge.specs.Together.{above, count_in, differs, images_above, joined_of, misfit_of, rows_differ, value_unless}
 use Rattle.kept_meanings.specs.Kept.{moved_input}
 use Rattle.sample_files.specs.Laws.{SampleFits, sample_input}
@@ -49,12 +53,18 @@ filter_nil : {A B : Type 0} (f : A → Option B) (xs : List A) → Each (λ x. f
 filter_nil f [] each = refl
 filter_nil f (x ∷ xs) each = ap (λ o. cons_option o (filter_map f xs)) each.0 ∙ filter_nil f xs each.1
 
+not_above : (told : Option MergeError) (b : Bool) → b ≡ false → cond b told None ≡ None
+not_above told b is = ap (λ c. cond c told None) is
+
 -- ---- the first input
 
 nothing_before : (rows : List Imaged) (documents : List DocumentValue) → clashes_before [] rows documents ≡ []
 nothing_before rows documents =
-    ap (λ l. l ++ documents_differ [] documents) (filter_nil (taken (claims [])) _ (each_of (λ i. taken (claims []) i ≡ None) (λ i. refl) _))
+    ap (λ l. l ++ documents_differ [] documents) (filter_nil (taken (claims [])) methods (each_of (λ i. taken (claims []) i ≡ None) (λ i. refl) methods))
     ∙ filter_nil (conflict []) (numbered documents) (each_of (λ d. conflict [] d ≡ None) (λ d. refl) (numbered documents))
+  where
+    methods : List Imaged
+    methods = in_order (λ i. i.image) (methods_in rows)
 
 -- an input that nothing is told of alone is not refused as the first
 not_refused : (marks : List (List ℕ)) (m : Map) (raw : RawFile) → first_clash marks true m raw ≡ None → refusal_of marks [] m raw ≡ None
@@ -68,10 +78,13 @@ module _ (n : ℕ) (raw : RawFile) (fits : SampleFits n) (says : value_of raw �
 
   no_clash : (marks : List (List ℕ)) → NoClash marks true m raw
   no_clash marks = record {
-    fits = rw says fits.fits.each.0.fits;
-    known = rw says (Each-weaker (λ (c : CustomValue). kind_of marks c.kind ≢ Unknown)
+    fits = subst (λ v. Fits true m (noted_file v)) (sym says) fits.fits.each.0.fits;
+    known = subst IsKnown (sym says) (Each-weaker (λ (c : CustomValue). kind_of marks c.kind ≢ Unknown)
         (λ c. is_at_dropped m (sample n) c.parent ≡ false → kind_of marks c.kind ≢ Unknown) (λ c known stays. known) (sample n).customs (fits.known marks));
   }
+    where
+      IsKnown : FileValue → Type 0
+      IsKnown v = Each (λ (c : CustomValue). is_at_dropped m v c.parent ≡ false → kind_of marks c.kind ≢ Unknown) v.customs
 
   pub sample_not_refused : (marks : List (List ℕ)) → FittingMapsDoNotClash → IsReadable m → refusal_of marks [] m raw ≡ None
   sample_not_refused marks silent ready = not_refused marks m raw (silent marks true m raw keeps ready (no_clash marks))
@@ -116,7 +129,7 @@ module _ (n : ℕ) (raw : RawFile) (fits : SampleFits n) (says : value_of raw �
   none_above named =
       ap (λ l. l ++ []) (filter_nil (above (1, trace)) trace.rows
       (Each-weaker IsBelow (λ i. above (1, trace) i ≡ None)
-      (λ i le. ap (λ b. cond b _ None) (le-ltb (count_in trace i.table) i.image le)) trace.rows (below named)))
+      (λ i le. not_above _ (nat_lt (count_in trace i.table) i.image) (le-ltb (count_in trace i.table) i.image le)) trace.rows (below named)))
 
   no_misfit : ReferencesAreNamed → misfit_of (trace ∷ []) ≡ None
   no_misfit named = ap (λ l. slice_get l 0) (ap (λ l. l ++ images_above (trace ∷ [])) none_differ ∙ none_above named)
@@ -128,9 +141,29 @@ module _ (n : ℕ) (raw : RawFile) (fits : SampleFits n) (says : value_of raw �
       let same : traces ≡ trace ∷ [] = cc in
       rw same (record { moved = ap (λ file. file ∷ []) moved_is; fits = no_misfit named })
 
+  -- the same of a merger that has no input yet, and of the sample's map
+  module _ (marks : List (List ℕ)) (before : Merged) (map : Map) (silent : FittingMapsDoNotClash) (ready : IsReadable map)
+      (none : before ≡ record { marks = marks; traces = [] }) (is : map ≡ sample_map_of n) where
+    readable : IsReadable m
+    readable = subst IsReadable is ready
+
+    pub holds_after : (traces : List Trace) → ReferencesAreNamed → added before.marks before.traces map raw ≡ Ok traces → HoldsSample n traces
+    holds_after traces named after =
+        holds_sample marks traces silent readable named
+        (subst (λ (b : Merged). added b.marks b.traces m raw ≡ Ok traces) none
+        (subst (λ k. added before.marks before.traces k raw ≡ Ok traces) is after))
+
+    pub for_memory : (e : MergeError) → (e ≡ Memory) ⊎ (refusal_of before.marks before.traces map raw ≡ Some e) → e ≡ Memory
+    for_memory e (inl memory) = memory
+    for_memory e (inr told) =
+        let here : refusal_of marks [] m raw ≡ Some e =
+        subst (λ (b : Merged). refusal_of b.marks b.traces m raw ≡ Some e) none (subst (λ k. refusal_of before.marks before.traces k raw ≡ Some e) is told) in
+        absurd (none-some e (sym (sample_not_refused marks silent readable) ∙ here))
+
 -- what is told is not told of the sample
-pub not_told : (n : ℕ) (traces : List Trace) (e : MergeError) → HoldsSample n traces → misfit_of traces ≡ Some e → ⊥
-not_told n traces e holds is = let no : ◌≡◌ {A = Option MergeError} None (Some e) = sym holds.fits ∙ is in absurd cc
+pub finishes : (n : ℕ) (traces : List Trace) (e : MergeError) → HoldsSample n traces → (e ≡ Memory) ⊎ (misfit_of traces ≡ Some e) → e ≡ Memory
+finishes n traces e holds (inl memory) = memory
+finishes n traces e holds (inr told) = absurd (none-some e (sym holds.fits ∙ told))
 
 pub is_remapped : (n : ℕ) (traces : List Trace) (value : FileValue) → HoldsSample n traces → joined_of traces ≡ Ok value → value ≡ remapped_sample n
 is_remapped n traces value holds is =

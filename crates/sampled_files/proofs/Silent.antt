@@ -48,6 +48,13 @@ pub unnumbered : {A : Type 0} (P : A → Type 0) (n : ℕ) (xs : List A) → Eac
 unnumbered P n [] each = tt
 unnumbered P n (x ∷ xs) each = (each.0, unnumbered P (n + 1) xs each.1)
 
+-- what is told where a test holds, and where it fails
+pub if_fails : {B : Type 0} (told : List B) (b : Bool) → b ≡ false → cond b told [] ≡ []
+if_fails told b is = ap (λ c. cond c told []) is
+
+pub if_holds : {B : Type 0} (told : List B) (b : Bool) → b ≡ true → cond b [] told ≡ []
+if_holds told b is = ap (λ c. cond c [] told) is
+
 both_nil : {A : Type 0} (xs ys : List A) → xs ≡ [] → ys ≡ [] → xs ++ ys ≡ []
 both_nil xs ys none also = ap (λ l. l ++ ys) none ∙ also
 
@@ -67,7 +74,8 @@ pub kinds_silent : (marks : List (List ℕ)) (m : Map) (value : FileValue) (n : 
 kinds_silent marks m value n [] each = refl
 kinds_silent marks m value n (c ∷ cs) each =
     both_nil (if_unknown marks m value (n, c)) _
-    (ap (λ b. cond b (_ ∷ []) []) (not_unknown (kind_of marks c.kind) (is_at_dropped m value c.parent) each.0))
+    (if_fails _ (is_unknown (kind_of marks c.kind) && not (is_at_dropped m value c.parent))
+    (not_unknown (kind_of marks c.kind) (is_at_dropped m value c.parent) each.0))
     (kinds_silent marks m value (n + 1) cs each.1)
 
 -- ---- offsets below the old size
@@ -75,12 +83,12 @@ kinds_silent marks m value n (c ∷ cs) each =
 below : (o : Offsets) (method x : ℕ) → x < old_size o → if_past (λ size. nat_le size x) method x (sizes_of o) ≡ []
 below every method x less = refl
 below gone method x less = refl
-below (lined runs old new) method x less = ap (λ b. cond b (_ ∷ []) []) (lt-leb old x less)
+below (lined runs old new) method x less = if_fails _ (nat_le old x) (lt-leb old x less)
 
 within : (o : Offsets) (method end : ℕ) → end ≤ old_size o → if_past (λ size. nat_lt size end) method end (sizes_of o) ≡ []
 within every method end le = refl
 within gone method end le = refl
-within (lined runs old new) method end le = ap (λ b. cond b (_ ∷ []) []) (le-ltb old end le)
+within (lined runs old new) method end le = if_fails _ (nat_lt old end) (le-ltb old end le)
 
 pub points_silent : (m : Map) (es : List MethodValue) → Each (λ e. Each (λ p. p.offset < old_size (offsets_in m e.method)) e.points) es
     → flat_map (points_beyond m) es ≡ []
@@ -138,7 +146,7 @@ not_beyond m ready method x kept = kept_below_size (offsets_in m method) (offset
 
 not_lost : (m : Map) → IsReadable m → (method x : ℕ) → IsKept m method x → if_lost m (offset_in method x) ≡ []
 not_lost m ready method x kept =
-    ap (λ b. cond b [] (_ ∷ []))
+    if_holds _ (is_kept m method x)
     (keeps_between (offsets_in m method) (offsets_rise m ready method) x (x + 1) x kept.0 kept.1 (omega arith) (omega arith))
 
 -- a record that is read as one of a method is one
@@ -184,7 +192,7 @@ module _ (m : Map) (ready : IsReadable m) (value : FileValue) where
       of : (c : CustomValue) → SoundCustom value c → (b : Bool) → nat_lt c.parent.table 0x2d ≡ b → (nat_lt c.parent.table 0x2d ≡ true → IsKeeping c)
           → IsKeeping c
       of c s true is holds = holds is
-      of c s false is holds live = (on_method value (kind_of [] c.kind) c.parent.table c.value s.stands_on s.body is m c.parent.row).1
+      of c s false is holds = λ live. (on_method value (kind_of [] c.kind) c.parent.table c.value s.stands_on s.body is m c.parent.row).1
 
   body_silent : (method : ℕ) (body : CustomBody) → AreWithin (old_size (offsets_in m method)) body → KeepsAsync m method body → body_beyond m method body ≡ []
   body_silent method (Hoisted slots) ends keeps =

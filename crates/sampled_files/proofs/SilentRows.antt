@@ -25,13 +25,11 @@ use Rattle.ppdb_joined.proofs.Each.{Each-flat}
 use Rattle.ppdb_moved.specs.Fits.{IsImaged, AreApart, HasSlot, SlotsAreApart}
 use Rattle.ppdb_moved.proofs.Elements.{each_in}
 use Rattle.ppdb_moved.proofs.Lists.{Each-filter_map}
-use Rattle.ppdb_fits.specs.declared.used.MethodSlot.{MethodSlot}
-use Rattle.ppdb_fits.specs.declared.used.UsedSlot.{UsedSlot}
 use Rattle.ppdb_fits.specs.Rows.{imaged, if_unmapped, image_twice, images_twice, unmapped}
 use Rattle.ppdb_fits.specs.Slots.{scope_slots, variable_slots, if_slot_unmapped, slots_unmapped, used, slot_twice, slots_twice}
 use Rattle.ppdb_fits.specs.Twice.{beside, beside_from, each_once, is_same, if_one_image, twice}
 use Rattle.ppdb_fits.proofs.Apart.{OneNumber}
-use Rattle.sampled_files.proofs.Silent.{flat_nil, unnumbered}
+use Rattle.sampled_files.proofs.Silent.{flat_nil, unnumbered, if_holds}
 
 -- ---- lists in order, each item once
 
@@ -105,7 +103,7 @@ pub rows_silent : (first : Bool) (m : Map) (raw : RawFile) → Each (IsImaged m)
 rows_silent first m raw each =
     flat_nil (if_unmapped m) (references first m raw)
     (Each-weaker (λ r. IsImaged m (named_by r)) (λ r. if_unmapped m r ≡ [])
-    (λ r there. ap (λ (o : Option ℕ). cond (is_some o) [] (_ ∷ [])) there.1) (references first m raw)
+    (λ r there. if_holds _ (is_some (row_image m r.table r.row)) (ap is_some there.1)) (references first m raw)
     (Each-unmap named_by (IsImaged m) (references first m raw) each))
 
 abbrev with_image : Reference → ℕ → Imaged
@@ -154,7 +152,21 @@ rows_apart_silent first m raw each =
 live_is : (b : Bool) → b ≡ false → not b ≡ true
 live_is b is = ap not is
 
+-- the items of a list, and what a test takes
+abbrev Item : {A : Type 0} → List A → Type 0
+Item {A} xs = A
+
+abbrev Made : {A B : Type 0} → (A → Option B) → Type 0
+Made {A} {B} f = B
+
 module _ (m : Map) (value : FileValue) where
+  -- a slot of a method, and one with its image
+  abbrev MethodSlot : Type 0
+  MethodSlot = Item (variable_slots value)
+
+  abbrev UsedSlot : Type 0
+  UsedSlot = Made (used m)
+
   abbrev slot_of : ℕ → Noted VariableValue → MethodSlot
   slot_of method v = record { method = method; slot = v.item.slot }
 
@@ -190,12 +202,11 @@ module _ (m : Map) (value : FileValue) where
           Each-weaker (HasSlot m s.method) (λ v. Has (slot_of s.method v)) (λ v has stays. has) s.variables (there (live_is (is_dropped m s.method) is))
 
   has_image : (n : ℕ) (x : MethodSlot) → Has x → if_slot_unmapped m (n, x) ≡ []
-  has_image n x has = of (is_dropped m x.method) has
+  has_image n x has = if_holds _ (is_dropped m x.method || is_some (slot_image m x.method x.slot)) (of (is_dropped m x.method) has)
     where
-      of : (b : Bool) → (b ≡ false → (image : ℕ) × (slot_image m x.method x.slot ≡ Some image))
-          → cond (b || is_some (slot_image m x.method x.slot)) [] (_ ∷ []) ≡ []
+      of : (b : Bool) → (b ≡ false → (image : ℕ) × (slot_image m x.method x.slot ≡ Some image)) → (b || is_some (slot_image m x.method x.slot)) ≡ true
       of true has = refl
-      of false has = ap (λ (o : Option ℕ). cond (is_some o) [] (_ ∷ [])) (has refl).1
+      of false has = ap is_some (has refl).1
 
   have_images : (n : ℕ) (xs : List MethodSlot) → Each Has xs → flat_map (if_slot_unmapped m) (enumerate_from n xs) ≡ []
   have_images n [] each = refl

@@ -1,7 +1,7 @@
 // The sample, read from its file and moved by its map.
-ghost use Rattle.std.specs.Prelude.{◌≡◌, ◌≤◌, None, IfOk, length};
+ghost use Rattle.std.specs.Prelude.{◌≡◌, ◌≤◌, IfOk, length};
 ghost use Rattle.ppdb_base.specs.First.{IsAccepted};
-ghost use Rattle.ppdb_canon.specs.Limits.{first_limit};
+ghost use Rattle.ppdb_base.specs.declared.merge_error.MergeError.TheVariants as merge_errors;
 ghost use Rattle.ppdb_values.specs.Value.{value_of};
 ghost use Rattle.ppdb_values.specs.RawFile.{RawFile};
 ghost use Rattle.ppdb_verify.specs.Files.{BadFile, IsRawOf};
@@ -40,6 +40,13 @@ fn accepted<'a, K: Ledger>(
     }
 }
 
+/// The refusal of an input that can be refused for want of memory alone.
+fn memory_alone(_refusal: MergeError) -> Memory
+    requires { _refusal ≡ merge_errors.Memory }
+{
+    Memory
+}
+
 /// A merger of a file that says the sample, moved by the sample's map.
 fn moved<L: Ledger>(
     alloc: Global,
@@ -60,8 +67,7 @@ fn moved<L: Ledger>(
     let mut merger = Merger::new(alloc, Marks::new(alloc));
     match merger.add(file, &map, steps) {
         Ok(()) => Ok(merger),
-        Err(MergeError::Memory) => Err(Memory),
-        Err(_) => unreachable!(),
+        Err(refusal) => Err(memory_alone(refusal)),
     }
 }
 
@@ -79,8 +85,10 @@ fn merged<K: Ledger, L: Ledger>(
     requires says { (raw : RawFile) → IsRawOf file raw → value_of raw ≡ sample methods }
     ensures { IfOk result (λ merger. HoldsSample methods merger.traces) }
 {
-    let verified = accepted(alloc, file.as_slice(), checks)?;
-    moved(alloc, methods, &verified, steps)
+    match accepted(alloc, file.as_slice(), checks) {
+        Ok(verified) => moved(alloc, methods, &verified, steps),
+        Err(memory) => Err(memory),
+    }
 }
 
 /// The value of the sample that was moved.
@@ -91,8 +99,7 @@ fn finished(merger: Merger, methods: u32) -> Result<FileValue, Memory>
 {
     match merger.finish() {
         Ok(value) => Ok(value),
-        Err(MergeError::Memory) => Err(Memory),
-        Err(_) => unreachable!(),
+        Err(refusal) => Err(memory_alone(refusal)),
     }
 }
 
