@@ -12,7 +12,7 @@ use Rattle.ppdb_lines.specs.Lines.{Field, Line, mark, number, octets, table, gui
 use Rattle.ppdb_lines.specs.Lines.{name as named_bytes}
 use Rattle.ppdb_lines.specs.Pieces.{line, numbered, signed, tabled}
 use Rattle.ppdb_run.specs.Faults.{said, place_fields, fault_fields}
-use Rattle.sampled_files.specs.declared.sampled.SampleReport.{SampleReport}
+use Rattle.sampled_files.specs.declared.report.SampleReport.{SampleReport}
 
 -- words, a name and more about it
 abbrev pub about : List ℕ → List ℕ → List Field → Line

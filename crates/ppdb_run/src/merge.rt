@@ -85,7 +85,6 @@ fn merged_bytes<'a, F: Folder, K: Ledger, L: Ledger>(
     ensures told { (output : List ℕ) → IfSome (F.files folder.old)
         (λ all. Gives (written output) result (steps_of (Merge (inputs_of inputs.entry) output (options_of options.entry)) all)) }
     ensures accepted { IfOk result (λ bytes. IsAccepted (BadFile bytes)) }
-    ensures again { (output : List ℕ) → IfOk result (λ bytes. RebuildsWhereKnown (options_of options.entry) (output, bytes)) }
     ensures means { (output : List ℕ) → IfOk result (λ bytes. IfSome (F.files folder.old)
         (λ all. ExactlyMeans (Merge (inputs_of inputs.entry) output (options_of options.entry)) (options_of options.entry) all bytes)) }
     ensures files { F.files folder.new ≡ F.files folder.old }

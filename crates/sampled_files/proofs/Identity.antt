@@ -10,7 +10,6 @@ use Rattle.ppdb_canon.specs.declared.choice.IdChoice.{IdChoice}
 use Rattle.ppdb_values.specs.declared.file.FileValue.{FileValue}
 
 module _ (forget : CanonicalFilesForgetIds) (stands : IdsStandAfterTheRoot) (value : FileValue) (choice : IdChoice) (long : length value.id ≡ 20) where
-
   has_length : length (chosen_id value choice) ≡ 20
   has_length = forget.long value choice long
 

@@ -12,7 +12,7 @@ use Rattle.ppdb_canon.specs.Limits.{ValuesWithoutLimits, first_limit}
 use Rattle.ppdb_canon.specs.declared.choice.IdChoice.TheVariants.{Hash, Keep}
 use Rattle.ppdb_values.specs.declared.file.FileValue.{FileValue}
 use Rattle.sample_files.specs.Sample.{sample}
-use Rattle.sampled_files.specs.declared.sampled.SampleReport.{SampleReport}
+use Rattle.sampled_files.specs.declared.report.SampleReport.{SampleReport}
 use Rattle.sampled_files.specs.Sampled.{limit_of_sample, remapped_file, remapped_sample, report_of, sample_file}
 use Rattle.sampled_files.proofs.Identity.{behind_root, identity_is, same_length}
 

@@ -9,7 +9,7 @@ use Rattle.ppdb_canon.specs.Limits.{first_limit}
 use Rattle.kept_meanings.specs.Kept.{joined_inputs}
 use Rattle.sample_files.specs.Laws.{sample_input}
 use Rattle.sample_files.specs.Sample.{sample}
-use Rattle.sampled_files.specs.declared.sampled.SampleReport.{SampleReport}
+use Rattle.sampled_files.specs.declared.report.SampleReport.{SampleReport}
 
 -- the sample, moved by its map and joined to nothing else
 abbrev pub remapped_sample : ℕ → FileValue

@@ -3,10 +3,10 @@
 
 mod laws;
 mod remapped;
-mod sampled;
+mod report;
 #[cfg(test)]
 mod tests;
 
 pub use laws::fitting_maps_do_not_clash;
 pub use ppdb_build::BuildError;
-pub use sampled::{SampleReport, sampled};
+pub use report::{SampleReport, sampled};

@@ -2,15 +2,13 @@
 ghost use Rattle.std.specs.Prelude.{◌≡◌, ◌≤◌, None, OnOk, IfOk, IfErr, length, take, drop};
 ghost use Rattle.ppdb_base.specs.First.{IsAccepted};
 ghost use Rattle.ppdb_build.specs.Building.{IsLimit};
-ghost use Rattle.ppdb_canon.specs.Canon.{chosen_id};
 ghost use Rattle.ppdb_canon.specs.Limits.{first_limit};
-ghost use Rattle.ppdb_canon.specs.declared.choice.IdChoice.TheVariants as choices;
 ghost use Rattle.ppdb_values.specs.RawFile.{RawFile};
 ghost use Rattle.ppdb_values.specs.Value.{value_of};
 ghost use Rattle.ppdb_verify.specs.Files.{BadFile, IsRawOf};
 ghost use Rattle.sample_files.specs.Sample.{sample};
 ghost use Rattle.sound_values.specs.Sound.{IsSound};
-ghost use Rattle.sampled_files.specs.Sampled.{limit_of_sample, sample_file, remapped_sample, remapped_file, report_of};
+ghost use Rattle.sampled_files.specs.Sampled.{limit_of_sample, remapped_sample, report_of, sample_file};
 
 use crate::remapped::remapped_value;
 use ppdb_base::{Bytes, Steps};
@@ -64,26 +62,35 @@ fn id_in(file: &[u8]) -> [u8; 20]
     id
 }
 
-/// The length of the file of the remapped sample, and its identity.
-fn remapped_len_and_id(
+/// The report of a sample whose file has so many bytes: writes what its map makes of it.
+fn report(
     alloc: Global,
-    value: &FileValue,
     methods: u32,
-) -> Result<(u32, [u8; 20]), BuildError>
+    bytes: u32,
+    value: &FileValue,
+) -> Result<SampleReport, BuildError>
+    requires bytes { bytes ≡ length (sample_file methods) }
+    requires within { first_limit (sample methods) ≡ None }
     requires value { value.now ≡ remapped_sample methods }
     requires sound { IsSound value.now }
-    requires within { first_limit (sample methods) ≡ None }
-    ensures len { IfOk result (λ told. told.0 ≡ length (remapped_file methods)) }
-    ensures id { IfOk result (λ told. told.1 ≡ chosen_id (remapped_sample methods) choices.Hash) }
+    ensures told { IfOk result (λ told. told ≡ report_of methods) }
+    ensures within { OnOk result (limit_of_sample methods ≡ None) }
     ensures limit { IfErr result (IsLimit (limit_of_sample methods)) }
-    ensures none { OnOk result (limit_of_sample methods ≡ None) }
 {
     value_has_types(value);
     canonical_files_forget_ids();
     ids_stand_after_the_root();
     values_without_limits_are_small();
     match write_file(alloc, value, IdChoice::Hash) {
-        Ok(file) => Ok((file.len() as u32, id_in(file.as_slice()))),
+        Ok(file) => {
+            let remapped_bytes = file.len() as u32;
+            let remapped_id = id_in(file.as_slice());
+            Ok(SampleReport {
+                bytes,
+                remapped_bytes,
+                remapped_id,
+            })
+        }
         Err(error) => Err(error),
     }
 }
@@ -110,12 +117,5 @@ pub fn sampled<K: Ledger, L: Ledger>(
     };
     let bytes = file.len() as u32;
     let value = remapped_value(alloc, methods, file, checks, steps)?;
-    match remapped_len_and_id(alloc, &value, methods) {
-        Ok((remapped_bytes, remapped_id)) => Ok(SampleReport {
-            bytes,
-            remapped_bytes,
-            remapped_id,
-        }),
-        Err(error) => Err(error),
-    }
+    report(alloc, methods, bytes, &value)
 }
