@@ -13,6 +13,8 @@ use Rattle.ppdb_run.proofs.Kept.{is_unread, is_input, is_output, leaves_all, not
 use Rattle.ppdb_run.proofs.Outcomes.{of_told, of_task, of_rows}
 use Rattle.ppdb_run.proofs.Sampling.{of_sampled, sampled_again, sampled_found, sampled_leaves, sampled_valid}
 use Rattle.ppdb_run.proofs.Writing.{nothing_put, nothing_due, on_asked, on_done, on_then, writes_file}
+use Rattle.ppdb_run.specs.Means.{WritesMeaning}
+use Rattle.ppdb_run.proofs.Means.{nothing_means}
 use Rattle.ppdb_run.proofs.commands.carry_out.Goals as goal
 
 pub returns-in-Ask-clause-found : goal.returns-in-Ask-clause-found
@@ -307,3 +309,34 @@ pub sample-requires : goal.sample-requires
 sample-requires g c =
     let words = subst (λ task. Words task (texts c.args.words.now)) (sym c.in-Sample.ensures) c.in-Ok.ensures.command in
     words.1
+
+pub returns-in-Ask-clause-means : goal.returns-in-Ask-clause-means
+returns-in-Ask-clause-means g c =
+    let words = subst (λ task. Words task (texts c.args.words.now)) (sym c.in-Ask.ensures) c.in-Ok.ensures.command in
+    on_done c.answer.result (nothing_means (texts c.args.words.now) (Ask (question_of c.in-Ask.question) c.in-Ask.file.now)
+    (g.F.Folder.files c.args.folder.now) (λ due. tt) words)
+
+pub returns-in-Rebuild-clause-means : goal.returns-in-Rebuild-clause-means
+returns-in-Rebuild-clause-means g c =
+    let words = subst (λ task. Words task (texts c.args.words.now)) (sym c.in-Rebuild.ensures) c.in-Ok.ensures.command in
+    on_then c.rebuild.result (λ h. on_asked (WritesMeaning (g.F.Folder.files c.args.folder.now)) _
+    (Rebuild c.in-Rebuild.input.now c.in-Rebuild.output.now (options_of c.in-Rebuild.options)) (g.F.Folder.files c.args.folder.now) h words (λ a. a))
+    c.rebuild.ensures.means
+
+pub returns-in-Compose-clause-means : goal.returns-in-Compose-clause-means
+returns-in-Compose-clause-means g c =
+    let words = subst (λ task. Words task (texts c.args.words.now)) (sym c.in-Compose.ensures) c.in-Ok.ensures.command in
+    on_done c.compose.result (nothing_means (texts c.args.words.now)
+    (Compose c.in-Compose.first.now c.in-Compose.second.now c.in-Compose.output.now) (g.F.Folder.files c.args.folder.now) (λ due. tt) words)
+
+pub returns-in-Merge-clause-means : goal.returns-in-Merge-clause-means
+returns-in-Merge-clause-means g c =
+    let words = subst (λ task. Words task (texts c.args.words.now)) (sym c.in-Merge.ensures) c.in-Ok.ensures.command in
+    on_then c.merge.result (λ h. on_asked (WritesMeaning (g.F.Folder.files c.args.folder.now)) _
+    (Merge (inputs_of c.in-Merge.inputs) c.in-Merge.output.now (options_of c.in-Merge.options)) (g.F.Folder.files c.args.folder.now) h words (λ a. a))
+    c.merge.ensures.means
+
+pub returns-in-Sample-clause-means : goal.returns-in-Sample-clause-means
+returns-in-Sample-clause-means g c =
+    let words = subst (λ task. Words task (texts c.args.words.now)) (sym c.in-Sample.ensures) c.in-Ok.ensures.command in
+    on_done c.sample.result (nothing_means (texts c.args.words.now) (Sample c.in-Sample.n) (g.F.Folder.files c.args.folder.now) (λ due. tt) words)

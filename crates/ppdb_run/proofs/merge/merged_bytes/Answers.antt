@@ -1,6 +1,7 @@
 use Rattle.std.proofs.Common.{List}
 use Rattle.ppdb_merge.specs.declared.trace.Trace.{Trace}
 use Rattle.ppdb_run.specs.Task.{inputs_of, options_of}
+use Rattle.ppdb_run.proofs.Means.{merged_all}
 use Rattle.ppdb_run.proofs.Merging.{not_merged, not_joined, all_written}
 use Rattle.ppdb_run.proofs.merge.merged_bytes.Goals as goal
 
@@ -20,5 +21,9 @@ returns-clause-told g c = λ output.
     (rw c.in_ok-marks.ensures at c.in-Ok.ensures.told) c.in-Ok-joined.value c.value_bytes.result c.in-Ok-joined.ensures.told
     (c.value_bytes.ensures.told output (options_of c.args.options).marks)
 
-pub returns-clause-again : goal.returns-clause-again
-returns-clause-again g c = λ output. c.value_bytes.ensures.again output (options_of c.args.options).marks
+pub returns-clause-means : goal.returns-clause-means
+returns-clause-means g c = λ output.
+    merged_all (g.F.Folder.files c.args.folder.now) (inputs_of c.args.inputs) output (options_of c.args.options) c.in-Ok.merger.traces c.in-Ok-joined.value
+    c.requires.most (rw c.in_ok-marks.ensures at c.in-Ok.ensures.told) c.in-Ok-joined.ensures.told c.read_inputs_are_valid.ensures
+    c.joined_files_keep_inputs.ensures c.joined_kinds_are_known.ensures c.value_bytes.result c.value_bytes.ensures.says c.value_bytes.ensures.accepted
+    (c.value_bytes.ensures.again output (options_of c.args.options).marks)
