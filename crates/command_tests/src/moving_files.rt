@@ -179,10 +179,7 @@ const MAPS: [(&str, &str); 34] = [
         "v",
         "ppdbmap 1/rows 06 4/row 06 1 2/row 06 2 3/rows 23 3/row 23 1 2",
     ),
-    (
-        "p",
-        "ppdbmap 1/rows 06 10/row 06 1 1/row 06 2 2/row 06 4 4",
-    ),
+    ("p", "ppdbmap 1/rows 06 10/row 06 1 1/row 06 2 2/row 06 4 4"),
     ("q", "ppdbmap 1/rows 06 10/row 06 1 6/row 06 4 9"),
 ];
 

@@ -1,5 +1,5 @@
 -- Where a map fits a file, nothing is told of the two.
-use Rattle.std.proofs.Common.{◌≡◌, ℕ, ◌++◌, Bool, List, [], None, flat_map, map, sym, ◌∙◌, ap, subst, slice_get}
+use Rattle.std.proofs.Common.{◌≡◌, ℕ, Bool, List, [], None, map, sym, ap, subst, slice_get}
 use Rattle.named_references.proofs.Whole.{all-named}
 use Rattle.ppdb_maps.specs.Map.{Map}
 use Rattle.ppdb_maps.specs.Readable.{IsReadable}
@@ -13,14 +13,14 @@ use Rattle.sound_values.proofs.Values.{value_sound}
 use Rattle.named_references.specs.Laws.{named_by}
 use Rattle.ppdb_references.specs.References.{references}
 use Rattle.ppdb_noted.specs.Each.{Each}
-use Rattle.ppdb_noted.specs.NamedRows.{Named, named_rows}
+use Rattle.ppdb_noted.specs.NamedRows.{named_rows}
 use Rattle.ppdb_noted.specs.Noted.{noted_file}
 use Rattle.ppdb_noted.proofs.Lists.{each_row}
 use Rattle.ppdb_moved.specs.Fits.{IsImaged, AreApart}
 use Rattle.ppdb_moved.proofs.Elements.{each_in}
 use Rattle.ppdb_fits.specs.Clashes.{first_clash, clashes}
 use Rattle.ppdb_fits.specs.Laws.{NoClash}
-use Rattle.ppdb_fits.specs.Offsets.{beyond, lost}
+use Rattle.ppdb_fits.specs.Offsets.{beyond}
 use Rattle.ppdb_fits.proofs.Told.{both_fine}
 use Rattle.sampled_files.specs.Laws.{FittingMapsDoNotClash}
 use Rattle.sampled_files.proofs.Silent.{kinds_silent, points_silent, ranges_silent, customs_silent, lost_silent}

@@ -1,18 +1,15 @@
 -- What the sample comes to, part by part.
-use Rattle.std.proofs.Common.{◌≡◌, ℕ, ◌≤◌, List, None, Some, length, take, drop, refl, sym, ◌∙◌, ap, subst}
+use Rattle.std.proofs.Common.{◌≡◌, ℕ, ◌≤◌, List, None, length, take, drop, sym, ◌∙◌, ap, subst}
 use Rattle.std.specs.Option.{option_or}
-use Rattle.file_layout.specs.Bytes.{file_bytes}
 use Rattle.ppdb_build.specs.declared.error.BuildError.{BuildError}
 use Rattle.ppdb_build.specs.declared.error.BuildError.TheVariants.{Limit as Passed, Memory}
 use Rattle.ppdb_build.specs.Building.{IsLimit}
 use Rattle.ppdb_canon.specs.Canon.{canon, chosen_id}
-use Rattle.ppdb_canon.specs.Canonical.{canonical}
 use Rattle.ppdb_canon.specs.Laws.{CanonicalFilesForgetIds, IdsStandAfterTheRoot}
 use Rattle.ppdb_canon.specs.Limits.{ValuesWithoutLimits, first_limit}
 use Rattle.ppdb_canon.specs.declared.choice.IdChoice.TheVariants.{Hash, Keep}
 use Rattle.ppdb_values.specs.declared.file.FileValue.{FileValue}
 use Rattle.sample_files.specs.Sample.{sample}
-use Rattle.sampled_files.specs.declared.report.SampleReport.{SampleReport}
 use Rattle.sampled_files.specs.Sampled.{limit_of_sample, remapped_file, remapped_sample, report_of, sample_file}
 use Rattle.sampled_files.proofs.Identity.{behind_root, identity_is, same_length}
 

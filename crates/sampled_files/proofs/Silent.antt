@@ -1,6 +1,6 @@
 -- Where a map fits a file, nothing is told of kinds and offsets.
 use Rattle.std.proofs.Common.{◌≡◌, ◌≢◌, ℕ, ◌+◌, ◌<◌, ◌≤◌, ◌&&◌, ◌++◌, Bool, true, false, cond, List, [], ◌∷◌, Option, Some, None, flat_map}
-use Rattle.std.proofs.Common.{refl, sym, ◌∙◌, ap, subst, arith}
+use Rattle.std.proofs.Common.{refl, ◌∙◌, ap, subst, arith}
 use Rattle.std.specs.Prelude.{IfSome, nat_le, nat_lt, not}
 use Rattle.std.specs.List.{enumerate_from}
 use Rattle.std.proofs.lemmas.Bool.{lt-leb, le-ltb}
@@ -34,7 +34,7 @@ use Rattle.ppdb_moved.specs.Fits.{IsKept, KeepsStep, KeepsAsync, EndsWithin, Are
 use Rattle.ppdb_moved.proofs.Elements.{each_left}
 use Rattle.ppdb_moved.proofs.Fitting.{offsets_rise}
 use Rattle.ppdb_fits.specs.Clashes.{if_unknown, is_unknown, is_at_dropped}
-use Rattle.ppdb_fits.specs.Offsets.{MethodOffset, offset_in, step_offsets, handler_offsets, async_offsets, if_past, offset_beyond, end_beyond}
+use Rattle.ppdb_fits.specs.Offsets.{MethodOffset, offset_in, step_offsets, handler_offsets, async_offsets, if_past, offset_beyond}
 use Rattle.ppdb_fits.specs.Offsets.{points_beyond, scope_beyond, slot_beyond, body_beyond, custom_beyond, is_kept, if_lost, custom_lost}
 use Rattle.ppdb_fits.proofs.Apart.{each_both}
 use Rattle.ppdb_fits.proofs.First.{flat_append, flat_nested}

@@ -1,6 +1,6 @@
 -- Where a map fits a file, nothing is told of images of rows and slots.
 use Rattle.std.proofs.Common.{◌≡◌, ℕ, ◌+◌, ◌&&◌, ◌||◌, ◌++◌, Bool, true, false, cond, List, [], ◌∷◌, Option, Some, None, map, flat_map, refl, sym, ◌∙◌, ap, subst}
-use Rattle.std.specs.Prelude.{Contains, nat_eq, is_some, not}
+use Rattle.std.specs.Prelude.{nat_eq, is_some, not}
 use Rattle.std.specs.List.{dedup, dedup_from, filter_map, enumerate_from}
 use Rattle.std.specs.Option.{option_map}
 use Rattle.std.proofs.lemmas.Bool.{both_ways, eq-eqb, eqb-true}
@@ -8,7 +8,6 @@ use Rattle.ppdb_maps.specs.Map.{Map, row_image, slot_image, is_dropped}
 use Rattle.ppdb_references.specs.declared.imaged.Imaged.{Imaged}
 use Rattle.ppdb_references.specs.References.{Reference, references}
 use Rattle.named_references.specs.Laws.{named_by}
-use Rattle.ppdb_tables.specs.RawTables.{numbered}
 use Rattle.ppdb_values.specs.RawFile.{RawFile}
 use Rattle.ppdb_values.specs.declared.file.FileValue.{FileValue}
 use Rattle.ppdb_values.specs.declared.scope.ScopeValue.{ScopeValue}
