@@ -81,10 +81,11 @@ fn pdb_stream(alloc: Global, parts: Parts<'_>) -> Result<Vec<u8>, AllocError> {
 }
 
 fn tables_stream(alloc: Global, parts: Parts<'_>) -> Result<Vec<u8>, AllocError> {
-    // Indexes of blobs have four bytes where the heap is large.
-    let heap_sizes = if parts.blobs.len() < 65536 { 0 } else { 4 };
+    // Indexes have four bytes where the heap is large.
+    let text_sizes = if parts.texts.len() < 65536 { 0 } else { 1 };
+    let blob_sizes = if parts.blobs.len() < 65536 { 0 } else { 4 };
     let mut stream = Vec::new(alloc);
-    stream.extend_from_slice(&[0, 0, 0, 0, 2, 0, heap_sizes, 1])?;
+    stream.extend_from_slice(&[0, 0, 0, 0, 2, 0, text_sizes | blob_sizes, 1])?;
     stream.extend_from_slice(&parts.valid.to_le_bytes())?;
     stream.extend_from_slice(&[0; 8])?;
     stream.extend_from_slice(parts.rows)?;

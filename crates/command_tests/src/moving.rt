@@ -5,6 +5,7 @@ use crate::running::ran;
 use ppdb_base::{Folder, MemoryFolder, MemorySink};
 use std::alloc::{AllocError, Global};
 use std::test::Fail;
+use worked_files::SMALL;
 
 /// Runs the command of these words, which stand apart by spaces, and says whether it ended so and printed this; of what `show`
 /// prints this is the end.
@@ -261,15 +262,6 @@ fn what_is_refused(rt: HostRuntime) -> Result<(), Fail> {
     Ok(())
 }
 
-/// The file that a line of words has written.
-fn written<'a>(line: &'a str) -> &'a str {
-    if line.ends_with("remap B m B --keep-id") {
-        "B"
-    } else {
-        "O"
-    }
-}
-
 /// Commands, and how many bytes the file has that they write, and what some of them are.
 const WRITTEN: [(&str, usize, usize, &[u8]); 5] = [
     (
@@ -293,6 +285,101 @@ fn bytes_that_are_written(rt: HostRuntime) -> Result<(), Fail> {
         let file = folder.get("O").unwrap_or(b"");
         assert_eq!(rt; file.len(), size);
         assert!(rt; file[place..].starts_with(bytes), "{line}");
+    }
+    Ok(())
+}
+
+/// Commands over a folder whose call of this number fails, and what each comes to.
+const FAILING: [(&str, u32, u8, &str); 10] = [
+    ("remap B m O --keep-id", 1, 3, "read fault B\n"),
+    ("remap B m O --keep-id", 2, 3, "read fault m\n"),
+    ("remap B m O --keep-id", 3, 4, "write fault O\n"),
+    ("remap B m O --keep-id", 4, 0, ""),
+    ("remap B m B --keep-id", 3, 4, "write fault B\n"),
+    ("merge O B a B b", 3, 3, "read fault B\n"),
+    ("merge O B a B b", 4, 3, "read fault b\n"),
+    ("merge O B a B b", 5, 4, "write fault O\n"),
+    // The third call is never made.
+    ("merge O B k B b", 3, 8, "map k line 4 kind 7\n"),
+    ("merge O G m B m", 3, 1, "refused G F1 root byte 0\n"),
+];
+
+/// Whether a file of a folder has these bytes.
+fn has(folder: &MemoryFolder, name: &str, bytes: &[u8]) -> bool {
+    folder.get(name) == Some(bytes)
+}
+
+/// What a command writes to a file.
+fn written(alloc: Global, line: &str, name: &str) -> Result<Vec<u8>, Fail> {
+    let mut folder = worked(alloc)?;
+    ends(alloc, line, &mut folder, 0, "")?;
+    Ok(Vec::from_slice(alloc, folder.get(name).unwrap_or(b""))?)
+}
+
+#[test]
+fn reads_and_writes_that_fail(rt: HostRuntime) -> Result<(), Fail> {
+    for (line, call, status, text) in FAILING {
+        let mut folder = worked(rt.alloc())?;
+        folder.fail(call)?;
+        assert!(rt; ends(rt.alloc(), line, &mut folder, status, text)?, "{line} {call}");
+        let name = if line.starts_with("remap B m B") { "B" } else { "O" };
+        let whole = written(rt.alloc(), line, name)?;
+        let left = folder.get(name).unwrap_or(b"");
+        let front = whole.starts_with(left) && (left.len() == whole.len()) == (status == 0);
+        let before = has(&folder, "B", &SMALL) && (name == "B" || left.is_empty());
+        assert!(rt; before || status != 3, "{line} {call}");
+        assert!(rt; before || front, "{line} {call}");
+    }
+    Ok(())
+}
+
+/// A file of two methods with a scope each, that of the second with so many variables.
+fn of_variables(alloc: Global, variables: usize) -> Result<Vec<u8>, AllocError> {
+    let (mut rows, mut texts) = (Vec::new(alloc), Vec::new(alloc));
+    rows.extend_from_slice(&2u32.to_le_bytes())?;
+    rows.extend_from_slice(&count_of(variables).to_le_bytes())?;
+    for method in 1..3u8 {
+        rows.extend_from_slice(&[method, 0, 0, 0, 1, 0])?;
+        // Numbers of many variables have four bytes.
+        rows.extend_from_slice(if variables < 65536 { &[] } else { &[0, 0] })?;
+        rows.extend_from_slice(&[1, 0, 0, 0, 0, 0, 2, 0, 0, 0])?;
+    }
+    texts.push(0)?;
+    for number in 0..variables {
+        let number = count_of(number);
+        let slot = number.to_le_bytes();
+        rows.extend_from_slice(&[0, 0, slot[0], slot[1]])?;
+        rows.extend_from_slice(&count_of(texts.len()).to_le_bytes())?;
+        let letters = number.wrapping_add(0x1000_0000).to_be_bytes();
+        for letter in letters {
+            texts.push(0x40 | letter >> 4)?;
+            texts.push(0x40 | letter & 15)?;
+        }
+        texts.push(0)?;
+    }
+    let parts = Parts {
+        referenced: 0x40,
+        referenced_rows: b"\x02\0\0\0",
+        valid: 1 << 0x32 | 1 << 0x33,
+        rows: &rows,
+        texts: &texts,
+        ..NOTHING
+    };
+    file_of(alloc, parts)
+}
+
+// The methods are exchanged, so that the scope without variables is the last.
+#[test]
+fn variables_before_an_empty_scope(rt: HostRuntime) -> Result<(), Fail> {
+    let rows = [
+        (65534, 0, ""),
+        (65535, 9, "limit L2 table 33 rows 65535\n"),
+        (65536, 0, ""),
+    ];
+    for (variables, status, text) in rows {
+        let mut folder = worked(rt.alloc())?;
+        folder.set("F", &of_variables(rt.alloc(), variables)?)?;
+        assert!(rt; ends(rt.alloc(), "remap F change O", &mut folder, status, text)?, "{variables}");
     }
     Ok(())
 }

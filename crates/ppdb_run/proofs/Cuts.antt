@@ -1,6 +1,6 @@
 -- What holds in any case holds where a text may be cut off.
 use Rattle.std.proofs.Common.{ℕ, List}
-use Rattle.std.specs.Prelude.{Option, Some, None, Result, Err, IfErr}
+use Rattle.std.specs.Prelude.{Option, Some, None, Result, Ok, Err, IfErr}
 use Rattle.ppdb_base.specs.Files.{Files}
 use Rattle.ppdb_base.specs.Written.{AppendsFront}
 use Rattle.ppdb_base.proofs.Written.{front_nothing}
@@ -24,3 +24,8 @@ pub cut_nothing : (T : Type 0) (task : Task) (files : Option Files) (stop : Stop
     → OnTask task files (λ due. IfErr (at_stop T stop) (λ s. OnCut (cause_of s) (AppendsFront written written due.text)))
 cut_nothing T task None stop written = record { holds = tt }
 cut_nothing T task (Some all) stop written = record { holds = λ due is. on_cut (cause_of stop) (front_nothing written due.text) }
+
+pub nothing_cut : {T : Type 0} (result : Result T Stop) (written : Option (List ℕ)) (text : List ℕ)
+    → IfErr result (λ s. OnCut (cause_of s) (AppendsFront written written text))
+nothing_cut (Ok x) written text = tt
+nothing_cut (Err stop) written text = on_cut (cause_of stop) (front_nothing written text)

@@ -7,6 +7,7 @@ pub mod Kept
 pub mod Numbers
 pub mod OneTask
 pub mod Outcomes
+pub mod Means
 pub mod Merges
 pub mod Merging
 pub mod PairWords

@@ -29,7 +29,7 @@ one_text name text (Err a) (Err b) h k =
     let one = refusals_are_one.refusal text h.0 h.1 k.0 k.1 h.2 k.2 in
     h.3 ∙ (ap (λ n. no_map name n h.1) one.0 ∙ ap (no_map name k.0) one.1) ∙ sym k.3
 
-one_map : (files : Files) (name : List ℕ) → GivesOne (λ x y. x ≡ y) (map_at files name)
+pub one_map : (files : Files) (name : List ℕ) → GivesOne (λ x y. x ≡ y) (map_at files name)
 one_map files name = one_then (file_at files name) (map_in name) (one_given (input_of name (reading files name MAX_FILE_BYTES))) (one_text name)
 
 within : (f s : Map) (text : List ℕ) → text ≡ map_text (composed f s) → length text ≤ MAX_FILE_BYTES → MAX_FILE_BYTES < length (map_text (composed f s)) → ⊥

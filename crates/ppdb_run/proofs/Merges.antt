@@ -1,6 +1,8 @@
 -- What is known of inputs that are moved and joined.
-use Rattle.std.proofs.Common.{ℕ, zero, suc, ◌≡◌, ◌≤◌, ◌<◌, ◌+◌, ◌-◌, ◌⊎◌, inl, inr, List, [], ◌∷◌, ◌++◌, length, drop, Bool, refl, sym, ◌∙◌, ap, subst, arith}
-use Rattle.std.specs.Prelude.{Option, Some, None, Result, Ok, Err, IfSome, Contains, slice_get}
+use Rattle.std.proofs.Common.{ℕ, zero, suc, ◌≡◌, ◌≤◌, ◌<◌, ◌+◌, ◌-◌, ◌*◌, ◌⊎◌, inl, inr, List, [], ◌∷◌, ◌++◌, length, drop, Bool, refl, sym, ◌∙◌, ap, subst, arith}
+use Rattle.std.specs.Prelude.{Option, Some, None, Result, Ok, Err, IfSome, slice_get, slice_index_or, String}
+use Rattle.std.specs.String.{string_bytes}
+use Rattle.std.specs.declared.alloc.Global.{Global}
 use Rattle.ppdb_base.specs.Causes.{counted}
 use Rattle.ppdb_base.specs.Files.{Files}
 use Rattle.ppdb_base.specs.First.{IsAccepted}
@@ -18,7 +20,8 @@ use Rattle.ppdb_run.specs.declared.stop.Stop.TheVariants as stops
 use Rattle.ppdb_run.specs.Ends.{ComesToInput, IsInputUnread, IsUnreadOf}
 use Rattle.ppdb_run.specs.Outcome.{Outcome, Step, ◌>>=◌, file_at, fitting, gives, judged, map_in, unfit, with_input, with_inputs, with_texts}
 use Rattle.ppdb_run.specs.Stops.{cause_of, refusal_of as told_by, Gives}
-use Rattle.ppdb_run.specs.Words.{Input, Merge, input_words}
+use Rattle.ppdb_run.specs.Task.{pairs_of}
+use Rattle.ppdb_run.specs.Words.{Input, Merge, input_words, texts}
 use Rattle.ppdb_run.proofs.Kept.{one_more}
 use Rattle.ppdb_run.proofs.Steps.{gives_next, gives_stop}
 
@@ -189,7 +192,7 @@ pub record Goes (files : Option Files) (marks : List (List ℕ)) (traces : List 
 pub goes_all : (files : Option Files) (marks : List (List ℕ)) (whole : List Input) → Goes files marks [] whole whole
 goes_all files marks whole = record {
   told = on_told files (λ all r h. h);
-  comes = on_told files (λ all read h. h);
+  comes = on_told files (λ all read h. let same : read ≡ reads_of [] + read = omega arith in subst (λ n. ComesToInput all marks [] whole n) same h);
   names = refl;
   count = omega arith;
 }
@@ -202,7 +205,8 @@ behind [] zero a b rest e = absurd cc
 behind [] (suc n) a b rest e = absurd cc
 behind (x ∷ []) zero a b rest e = absurd cc
 behind (x ∷ y ∷ names) zero a b rest e = cc
-behind (x ∷ names) (suc n) a b rest e = behind names n a b rest e
+behind (x ∷ names) (suc n) a b rest e =
+    let next : suc n + 2 ≡ suc (n + 2) = omega arith in ap (λ k. drop k (x ∷ names)) next ∙ behind names n a b rest e
 
 pub goes_on : (files : Option Files) (marks : List (List ℕ)) (traces more : List Trace) (input : Input) (rest whole : List Input)
     → IfSome files (λ all. with_input all marks traces input (Ok more)) → length more ≡ length traces + 1 → Goes files marks traces (input ∷ rest) whole
@@ -231,6 +235,30 @@ goes_on files marks traces more input rest whole h one g = record {
         subst (λ n. ComesToInput all marks [] whole n) there
         (k (read + 2) (inr (inr (omega arith, (more, h, subst (λ n. ComesToInput all marks more rest n) back c)))))
 
+-- the words that are left begin with a pair, or hold none
+first_pair : (words behind : List (String Global)) (file map_file : String Global) (f m : List ℕ) → 2 ≤ length words
+    → file ≡ slice_index_or words 0 file → map_file ≡ slice_index_or words 1 map_file → behind ≡ drop 2 words
+    → f ≡ string_bytes file → m ≡ string_bytes map_file → pairs_of (texts words) ≡ record { file = f; map_file = m } ∷ pairs_of (texts behind)
+first_pair [] behind file map_file f m two e h b k l = absurd (omega (arith, two))
+first_pair (x ∷ []) behind file map_file f m two e h b k l = absurd (omega (arith, two))
+first_pair (x ∷ y ∷ words) behind file map_file f m two e h b k l =
+    let file_is : string_bytes x ≡ f = sym (k ∙ ap string_bytes e) in
+    let map_is : string_bytes y ≡ m = sym (l ∙ ap string_bytes h) in
+    let rest_is : words ≡ behind = sym b in
+    (λ i. record { file = file_is i; map_file = map_is i } ∷ pairs_of (texts (rest_is i)))
+
+pub no_pair : (words : List (String Global)) → length words < 2 → pairs_of (texts words) ≡ []
+no_pair [] few = refl
+no_pair (x ∷ []) few = refl
+no_pair (x ∷ y ∷ words) few = absurd (omega (arith, few))
+
+pub goes_pair : (files : Option Files) (marks : List (List ℕ)) (traces : List Trace) (whole : List Input) (words behind : List (String Global))
+    (file map_file : String Global) (f m : List ℕ) → 2 ≤ length words → file ≡ slice_index_or words 0 file → map_file ≡ slice_index_or words 1 map_file
+    → behind ≡ drop 2 words → f ≡ string_bytes file → m ≡ string_bytes map_file → Goes files marks traces (pairs_of (texts words)) whole
+    → Goes files marks traces (record { file = f; map_file = m } ∷ pairs_of (texts behind)) whole
+goes_pair files marks traces whole words behind file map_file f m two e h b k l g =
+    subst (λ rest. Goes files marks traces rest whole) (first_pair words behind file map_file f m two e h b k l) g
+
 -- an input that stops ends all
 pub goes_stop : {U V : Type 0} (view : U → List Trace) (other : V → List Trace) (files : Option Files) (marks : List (List ℕ)) (traces : List Trace)
     (input : Input) (rest whole : List Input) (stop : Stop) → IfSome files (λ all. Gives view (Err stop) (with_input all marks traces input))
@@ -258,12 +286,21 @@ goes_count files marks traces rest whole e g =
 
 -- ---- the file that was to be read
 
+-- an input is two reads
+pub two_more : (first mid last : ℕ) (traces more : List Trace) → last ≡ counted (counted mid) → length more ≡ length traces + 1
+    → (mid < 18446744073709551615 → mid ≡ first + reads_of traces) → last < 18446744073709551615 → last ≡ first + reads_of more
+two_more first mid last traces more e one h small =
+    let b = one_more (counted mid) last e small in
+    let a = one_more mid (counted mid) refl (omega (arith, b, small)) in
+    let there = h (omega (arith, a, b, small)) in
+    omega (arith, a, b, there, one)
+
 second : (names : List (List ℕ)) (b : List ℕ) (after : List (List ℕ)) → names ≡ b ∷ after → slice_get names 0 ≡ Some b
 second [] b after e = absurd cc
 second (x ∷ names) b after e = cc
 
 at_front : (names : List (List ℕ)) (i : ℕ) (a b : List ℕ) (after : List (List ℕ)) → drop i names ≡ a ∷ b ∷ after
-    → (slice_get names i ≡ Some a) × (slice_get names (i + 1) ≡ Some b)
+    → (slice_get names i ≡ Some a) × (slice_get names (suc i) ≡ Some b)
 at_front [] zero a b after e = absurd cc
 at_front [] (suc i) a b after e = absurd cc
 at_front (x ∷ names) zero a b after e = (cc, second names b after cc)
@@ -281,9 +318,10 @@ module _ (files : Option Files) (marks : List (List ℕ)) (traces : List Trace) 
   comes_to_map : (files : Option Files)
       → IfSome files (λ all. (read : ℕ) → ComesToInput all marks traces (input ∷ rest) read → ComesToInput all marks [] whole (reads_of traces + read))
       → IfSome files (λ all. (bytes : List ℕ) × file_at all input.file (Ok bytes))
-      → IfSome files (λ all. ComesToInput all marks [] whole (reads_of traces + 1))
+      → IfSome files (λ all. ComesToInput all marks [] whole (suc (reads_of traces)))
   comes_to_map None k h = tt
-  comes_to_map (Some all) k h = k 1 (inr (inl (refl, h)))
+  comes_to_map (Some all) k h =
+      let same : reads_of traces + 1 ≡ suc (reads_of traces) = omega arith in subst (λ n. ComesToInput all marks [] whole n) same (k 1 (inr (inl (refl, h))))
 
   -- the file or the map of the input that is next
   pub next_unread : (output : List ℕ) (keep : Bool) (before mid after : ℕ) (name : List ℕ) → (mid < 18446744073709551615 → mid ≡ before + reads_of traces)
@@ -299,7 +337,7 @@ module _ (files : Option Files) (marks : List (List ℕ)) (traces : List Trace) 
   next_unread output keep before mid after name m (inr (n, r, h)) =
       let at = at_front (input_words whole) (reads_of traces) input.file input.map_file (input_words rest) goes.names in
       record {
-        read = reads_of traces + 1;
+        read = suc (reads_of traces);
         named = at.1 ∙ ap Some (sym n);
         next = λ small.
             let one = one_more mid after r small in

@@ -44,7 +44,7 @@ one_raw bytes x y accepted one other =
 abbrev judged_file : List ℕ → List ℕ → Step RawFile
 judged_file file bytes = judged file (BadFile bytes) (IsRawOf bytes)
 
-one_verified : (files : Files) (file : List ℕ) → GivesOne (λ x y. x ≡ y) (verified files file)
+pub one_verified : (files : Files) (file : List ℕ) → GivesOne (λ x y. x ≡ y) (verified files file)
 one_verified files file =
     one_then (file_at files file) (judged_file file) (one_given (input_of file (reading files file MAX_FILE_BYTES)))
     (λ x. one_judged file (BadFile x) (IsRawOf x) (λ a b. a ≡ b) (one_raw x))

@@ -174,8 +174,8 @@ module _ (args : List (List ℕ)) (first : List ℕ) (words front back : List (L
       let some = parts.0 in
       let most = parts.1 in
       elim count [
-      | inl nothing ↦ absurd (omega (arith, nothing, same, long, two, some))
-      | inr many ↦ absurd (omega (arith, many, same, long, two, most))
+        | inl nothing ↦ absurd (omega (arith, nothing, same, long, two, some))
+        | inr many ↦ absurd (omega (arith, many, same, long, two, most))
       ])
 
   -- what is behind the pairs are no options

@@ -185,7 +185,7 @@ RebuildsWhereKnown options file =
 -- the same task over what was written writes the same bytes again
 abbrev pub WritesAgain : Option Task → Outcome → Type 0
 WritesAgain (Some (Rebuild input output options)) due = IfSome due.writes (λ file. RebuildsToItself options file.1)
-WritesAgain (Some (Merge inputs output options)) due = IfSome due.writes (RebuildsWhereKnown options)
+WritesAgain (Some (Merge inputs output options)) due = IfSome due.writes (λ file. RebuildsToItself options file.1)
 WritesAgain asked due = Unit {0}
 
 -- ---- the rows that are read beside those that the verifier reads

@@ -1,6 +1,7 @@
 pub mod Ends
 pub mod Faults
 pub mod Lines
+pub mod Means
 pub mod Outcome
 pub mod Status
 pub mod Stops

@@ -8,7 +8,7 @@ use Rattle.ppdb_base.specs.declared.limits.Limit.TheVariants.{TableRows, ListPas
 use Rattle.ppdb_base.specs.declared.link_error.LinkError.TheVariants as links
 use Rattle.ppdb_base.specs.declared.merge_error.MergeError.TheVariants.{Unmapped, ImageTwice, MethodTaken, OffsetBeyond, AsyncLost, KindUnknown}
 use Rattle.ppdb_base.specs.declared.merge_error.MergeError.TheVariants.{DocumentConflict, RowsDiffer, ImageRange, SlotUnmapped, SlotTwice, Memory}
-use Rattle.ppdb_lines.specs.Lines.{Field, Line, mark, number, octets, table, guid, text_of}
+use Rattle.ppdb_lines.specs.Lines.{Content, Field, Line, mark, number, octets, table, guid, text_of}
 use Rattle.ppdb_lines.specs.Lines.{name as named_bytes}
 use Rattle.ppdb_lines.specs.Pieces.{line, numbered, signed, tabled}
 use Rattle.ppdb_run.specs.Faults.{said, place_fields, fault_fields}
@@ -88,13 +88,17 @@ sizes_line method first second =
 
 -- ---- the sample
 
+-- words and what stands behind them
+abbrev pub told_line : List ℕ → Content → Line
+told_line words content = record { word = words; fields = said (codes " ") content ∷ [] }
+
 -- the sample of n methods: the length of its file, and the length and the identity of the file of what its map makes of it
 abbrev pub sample_text : ℕ → SampleReport → List ℕ
 sample_text n report =
-    text_of (record { word = codes "sample"; fields = said (codes " ") (number n) ∷ [] })
-    ++ text_of (record { word = codes "bytes"; fields = said (codes " ") (number report.bytes) ∷ [] })
-    ++ text_of (record { word = codes "remapped bytes"; fields = said (codes " ") (number report.remapped_bytes) ∷ [] })
-    ++ text_of (record { word = codes "remapped id"; fields = said (codes " ") (octets report.remapped_id) ∷ [] })
+    text_of (told_line (codes "sample") (number n))
+    ++ text_of (told_line (codes "bytes") (number report.bytes))
+    ++ text_of (told_line (codes "remapped bytes") (number report.remapped_bytes))
+    ++ text_of (told_line (codes "remapped id") (octets report.remapped_id))
 
 -- ---- questions about a file
 

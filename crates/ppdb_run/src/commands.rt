@@ -5,6 +5,7 @@ ghost use Rattle.ppdb_base.specs.Written.{appended, AppendsFront};
 ghost use Rattle.ppdb_run.specs.Ends.{OnOutcome, HasOutcome, IsWithinRows, LeavesFiles, KeepsFiles, HadFault, PutsFront, IsUnread, IsUnwritten};
 ghost use Rattle.ppdb_run.specs.Ends.{TellsUnread, TellsUnwritten, UnlessWritten};
 ghost use Rattle.ppdb_run.specs.Ends.{OnAsked, WritesValid, WritesAgain};
+ghost use Rattle.ppdb_run.specs.Means.{WritesMeaning};
 ghost use Rattle.ppdb_run.specs.Status.{UnlessFault};
 ghost use Rattle.ppdb_run.specs.Stops.{cause_of, Tells, Settles, FindsOutcome, ComesFrom, Leaves, OnKept, OnCut, OnUntold};
 ghost use Rattle.ppdb_run.specs.Words.{Task, Words, NoTask, texts};
@@ -57,6 +58,9 @@ pub fn run<F: Folder, O: Sink, K: Ledger, L: Ledger>(
     ensures accepted { result ≡ Status.Done → OnAsked (texts words.now) (F.files folder.old) WritesValid }
     ensures again { result ≡ Status.Done → OnAsked (texts words.now) (F.files folder.old) WritesAgain }
 
+    // A debug file that it writes means what its inputs meant.
+    ensures means { result ≡ Status.Done → OnAsked (texts words.now) (F.files folder.old) (WritesMeaning (F.files folder.old)) }
+
     // Whether or not the words have an outcome.
     ensures kept { UnlessWritten result (F.files folder.new ≡ F.files folder.old) }
     ensures read_only { KeepsFiles (texts words.now) (F.files folder.old) (F.files folder.new) }
@@ -101,6 +105,7 @@ fn carry_out<'a, F: Folder, O: Sink, K: Ledger, L: Ledger>(
     ensures files { OnOutcome (texts words.now) (F.files folder.old) (λ due. Leaves result due.writes (F.files folder.old) (F.files folder.new)) }
     ensures accepted { OnOk result (OnAsked (texts words.now) (F.files folder.old) WritesValid) }
     ensures again { OnOk result (OnAsked (texts words.now) (F.files folder.old) WritesAgain) }
+    ensures means { OnOk result (OnAsked (texts words.now) (F.files folder.old) (WritesMeaning (F.files folder.old))) }
     ensures rows { (task : Task) → Words task (texts words.now) → IsWithinRows task (F.files folder.old) steps.old steps.new }
 
     // What a stop comes from, and what it leaves.

@@ -4,12 +4,14 @@ ghost use Rattle.ppdb_base.specs.Causes.{Rose};
 ghost use Rattle.ppdb_base.specs.First.{IsAccepted};
 ghost use Rattle.ppdb_merge.specs.Together.{joined_of};
 ghost use Rattle.ppdb_run.specs.Ends.{IsUnreadOf, OnTask, RebuildsWhereKnown, WritesAgain, WritesValid};
+ghost use Rattle.ppdb_run.specs.Means.{ExactlyMeans, WritesMeaning};
 ghost use Rattle.ppdb_run.specs.Outcome.{IsOutcome, all_joined, gives, in_limits, input_in, steps_of, written};
 ghost use Rattle.ppdb_run.specs.Stops.{cause_of, Settles, Finds, Gives, Leaves, ComesFrom, OnKept, no_file};
 ghost use Rattle.ppdb_run.specs.Task.{inputs_of, options_of};
 ghost use Rattle.ppdb_run.specs.Words.{Merge};
 ghost use Rattle.ppdb_verify.specs.Files.{BadFile};
 ghost use Rattle.sound_values.specs.Sound.{IsSound};
+ghost use Rattle.written_meanings.specs.Laws.{SaysButForId};
 
 use crate::inputs::Inputs;
 use crate::merged::merged;
@@ -22,6 +24,7 @@ use ppdb_build::{BuildError, FileValue, write_file};
 use ppdb_merge::Merger;
 use std::alloc::Global;
 use std::sync::ledger::Ledger;
+use written_meanings::{joined_files_keep_inputs, joined_kinds_are_known, read_inputs_are_valid};
 
 /// Writes the canonical file of inputs, each moved by its map, joined.
 pub fn merge<'a, F: Folder, K: Ledger, L: Ledger>(
@@ -47,6 +50,8 @@ pub fn merge<'a, F: Folder, K: Ledger, L: Ledger>(
         (WritesValid (Some (Merge (inputs_of inputs.entry) output.now (options_of options.entry))))) }
     ensures again { OnOk result (OnTask (Merge (inputs_of inputs.entry) output.now (options_of options.entry)) (F.files folder.old)
         (WritesAgain (Some (Merge (inputs_of inputs.entry) output.now (options_of options.entry))))) }
+    ensures means { OnOk result (OnTask (Merge (inputs_of inputs.entry) output.now (options_of options.entry)) (F.files folder.old)
+        (WritesMeaning (F.files folder.old) (Some (Merge (inputs_of inputs.entry) output.now (options_of options.entry))))) }
 
     // What a stop comes from, and what it leaves.
     ensures causes { IfErr result (λ stop. ComesFrom (cause_of stop)
@@ -80,7 +85,8 @@ fn merged_bytes<'a, F: Folder, K: Ledger, L: Ledger>(
     ensures told { (output : List ℕ) → IfSome (F.files folder.old)
         (λ all. Gives (written output) result (steps_of (Merge (inputs_of inputs.entry) output (options_of options.entry)) all)) }
     ensures accepted { IfOk result (λ bytes. IsAccepted (BadFile bytes)) }
-    ensures again { (output : List ℕ) → IfOk result (λ bytes. RebuildsWhereKnown (options_of options.entry) (output, bytes)) }
+    ensures means { (output : List ℕ) → IfOk result (λ bytes. IfSome (F.files folder.old)
+        (λ all. ExactlyMeans (Merge (inputs_of inputs.entry) output (options_of options.entry)) (options_of options.entry) all bytes)) }
     ensures files { F.files folder.new ≡ F.files folder.old }
     ensures write_faults { F.write_faults folder.new ≡ F.write_faults folder.old }
     ensures later { F.read_faults folder.old ≤ F.read_faults folder.new }
@@ -93,6 +99,9 @@ fn merged_bytes<'a, F: Folder, K: Ledger, L: Ledger>(
         ⊥
         ⊥) }
 {
+    read_inputs_are_valid();
+    joined_kinds_are_known();
+    joined_files_keep_inputs();
     let marks = options.marks(alloc)?;
     let merger = match merged(alloc, inputs, marks, folder, checks, steps) {
         Ok(merger) => merger,
@@ -134,6 +143,7 @@ fn value_bytes<'a>(alloc: Global, value: &FileValue, keep_id: bool) -> Result<By
     ensures told { (output : List ℕ) (marks : List (List ℕ)) →
         Gives (written output) result (gives (in_limits output (record { keep_id = keep_id; marks = marks }) value.now)) }
     ensures accepted { IfOk result (λ bytes. IsAccepted (BadFile bytes)) }
+    ensures says { IfOk result (λ bytes. SaysButForId bytes value.now) }
     ensures again { (output : List ℕ) (marks : List (List ℕ)) →
         IfOk result (λ bytes. RebuildsWhereKnown (record { keep_id = keep_id; marks = marks }) (output, bytes)) }
     ensures causes { IfErr result (λ stop. ComesFrom (cause_of stop) ⊥ no_file no_file None ⊥ ⊥ ⊥) }

@@ -3,6 +3,7 @@ ghost use Rattle.std.specs.Prelude.{◌≡◌, ◌≤◌, ℕ, List, [], Some, N
 ghost use Rattle.ppdb_base.specs.Causes.{Rose};
 ghost use Rattle.ppdb_base.specs.First.{IsAccepted};
 ghost use Rattle.ppdb_run.specs.Ends.{OnTask, RebuildsToItself, WritesAgain, WritesValid};
+ghost use Rattle.ppdb_run.specs.Means.{ExactlyMeans, WritesMeaning};
 ghost use Rattle.ppdb_run.specs.Outcome.{IsOutcome, choice_of, is_unknown as neither_read_nor_free, gives, rebuilt, steps_of, unknown_kind, written};
 ghost use Rattle.ppdb_run.specs.Stops.{cause_of, Settles, Finds, Gives, Leaves, ComesFrom, OnKept, no_file};
 ghost use Rattle.ppdb_run.specs.Task.{options_of};
@@ -10,6 +11,7 @@ ghost use Rattle.ppdb_run.specs.Words.{Rebuild};
 ghost use Rattle.ppdb_values.specs.Value.{value_of};
 ghost use Rattle.ppdb_verify.specs.Files.{BadFile};
 ghost use Rattle.ppdb_verify.specs.Views.{raw_file};
+ghost use Rattle.written_meanings.specs.Laws.{SaysButForId};
 
 use crate::options::Options;
 use crate::output::write_output;
@@ -22,6 +24,7 @@ use ppdb_verify::Verified;
 use std::alloc::Global;
 use std::sync::ledger::Ledger;
 use verified_rows::{count, custom, guid_of_kind};
+use written_meanings::rebuilt_files_keep_themselves;
 
 /// Writes the canonical file of a file.
 pub fn rebuild<'a, F: Folder, K: Ledger, L: Ledger>(
@@ -44,6 +47,8 @@ pub fn rebuild<'a, F: Folder, K: Ledger, L: Ledger>(
         (WritesValid (Some (Rebuild input.now output.now (options_of options.entry))))) }
     ensures again { OnOk result (OnTask (Rebuild input.now output.now (options_of options.entry)) (F.files folder.old)
         (WritesAgain (Some (Rebuild input.now output.now (options_of options.entry))))) }
+    ensures means { OnOk result (OnTask (Rebuild input.now output.now (options_of options.entry)) (F.files folder.old)
+        (WritesMeaning (F.files folder.old) (Some (Rebuild input.now output.now (options_of options.entry))))) }
 
     // What a stop comes from, and what it leaves.
     ensures causes { IfErr result (λ stop. ComesFrom (cause_of stop)
@@ -76,6 +81,8 @@ fn rebuilt_bytes<'a, F: Folder, K: Ledger, L: Ledger>(
         (λ all. Gives (written output) result (steps_of (Rebuild input.now output (options_of options.entry)) all)) }
     ensures accepted { IfOk result (λ bytes. IsAccepted (BadFile bytes)) }
     ensures again { IfOk result (RebuildsToItself (options_of options.entry)) }
+    ensures means { (output : List ℕ) → IfOk result (λ bytes. IfSome (F.files folder.old)
+        (λ all. ExactlyMeans (Rebuild input.now output (options_of options.entry)) (options_of options.entry) all bytes)) }
     ensures files { F.files folder.new ≡ F.files folder.old }
     ensures write_faults { F.write_faults folder.new ≡ F.write_faults folder.old }
     ensures later { F.read_faults folder.old ≤ F.read_faults folder.new }
@@ -88,6 +95,7 @@ fn rebuilt_bytes<'a, F: Folder, K: Ledger, L: Ledger>(
         ⊥
         ⊥) }
 {
+    rebuilt_files_keep_themselves();
     let marks = options.marks(alloc)?;
     let mut bytes = List::new(alloc);
     let file = match read_verified(alloc, input, folder, &mut bytes, checks) {
@@ -109,6 +117,7 @@ fn file_bytes<'a, L: Ledger>(
     ensures told { (output : List ℕ) → Gives (written output) result
         (gives (rebuilt name.now output (record { keep_id = keep_id; marks = marks.now }) (value_of (raw_file file.now)))) }
     ensures accepted { IfOk result (λ bytes. IsAccepted (BadFile bytes)) }
+    ensures says { IfOk result (λ bytes. SaysButForId bytes (value_of (raw_file file.now))) }
     ensures again { IfOk result (RebuildsToItself (record { keep_id = keep_id; marks = marks.now })) }
     ensures causes { IfErr result (λ stop. ComesFrom (cause_of stop) ⊥ no_file no_file None ⊥ ⊥ ⊥) }
 {

@@ -2,7 +2,9 @@
 ghost use Rattle.std.specs.Prelude.{◌≡◌, ◌≤◌, None, OnOk, IfErr};
 ghost use Rattle.ppdb_base.specs.Causes.{Rose};
 ghost use Rattle.ppdb_base.specs.Written.{appended, AppendsFront, Puts};
-ghost use Rattle.ppdb_run.specs.Lines.{sample_text};
+ghost use Rattle.ppdb_lines.specs.Lines.{text_of};
+ghost use Rattle.ppdb_lines.specs.Views.{content_of};
+ghost use Rattle.ppdb_run.specs.Lines.{sample_text, told_line};
 ghost use Rattle.ppdb_run.specs.Outcome.{outcome_of, sampled};
 ghost use Rattle.ppdb_run.specs.Stops.{cause_of, Settles, ComesFrom, no_file, OnCut, OnUntold};
 
@@ -10,7 +12,7 @@ use crate::stop::Stop;
 use ppdb_base::{Sink, Steps, WriteError};
 use ppdb_lines::Item::{Number, Octets};
 use ppdb_lines::Part::Field;
-use ppdb_lines::put_text_line;
+use ppdb_lines::{Item, put_text_line};
 use sampled_files::{BuildError, SampleReport, sampled};
 use std::alloc::Global;
 use std::sync::ledger::Ledger;
@@ -48,16 +50,15 @@ pub fn sample<'a, O: Sink, K: Ledger, L: Ledger>(
 fn put_report<O: Sink>(out: &mut O, methods: u32, report: &SampleReport) -> Result<(), WriteError>
     ensures { Puts result (O.written out.old) (O.written out.new) (O.faults out.old) (O.faults out.new) (sample_text methods report.now) }
 {
-    put_text_line(out, "sample", &[Field(" ", "", Number(methods))])?;
-    put_text_line(out, "bytes", &[Field(" ", "", Number(report.bytes))])?;
-    put_text_line(
-        out,
-        "remapped bytes",
-        &[Field(" ", "", Number(report.remapped_bytes))],
-    )?;
-    put_text_line(
-        out,
-        "remapped id",
-        &[Field(" ", "", Octets(&report.remapped_id))],
-    )
+    put_told(out, "sample", Number(methods))?;
+    put_told(out, "bytes", Number(report.bytes))?;
+    put_told(out, "remapped bytes", Number(report.remapped_bytes))?;
+    put_told(out, "remapped id", Octets(&report.remapped_id))
+}
+
+/// Puts a line of words and of what stands behind them.
+fn put_told<O: Sink>(out: &mut O, words: &str, item: Item<'_>) -> Result<(), WriteError>
+    ensures { Puts result (O.written out.old) (O.written out.new) (O.faults out.old) (O.faults out.new) (text_of (told_line words.now (content_of item.entry))) }
+{
+    put_text_line(out, words, &[Field(" ", "", item)])
 }

@@ -1,4 +1,4 @@
-use Rattle.std.proofs.Common.{refl, subst, sym, Some}
+use Rattle.std.proofs.Common.{◌≡◌, refl, subst, sym, Some}
 use Rattle.ppdb_run.specs.Outcome.{IsOutcome}
 use Rattle.ppdb_run.specs.Stops.{cause_of, Finds, OnCut, Settles}
 use Rattle.std.specs.Prelude.{IfErr, IfSome, OnOk}
@@ -8,10 +8,13 @@ use Rattle.ppdb_run.specs.Task.{inputs_of, options_of, question_of}
 use Rattle.ppdb_run.proofs.PairWords.{merge_counts}
 use Rattle.ppdb_run.specs.Words.{Ask, Rebuild, Compose, Merge, Sample, Words, texts}
 use Rattle.ppdb_run.proofs.Causes.{widened_stop}
+use Rattle.ppdb_run.proofs.Cuts.{nothing_cut}
 use Rattle.ppdb_run.proofs.Kept.{is_unread, is_input, is_output, leaves_all, nothing_to_judge}
 use Rattle.ppdb_run.proofs.Outcomes.{of_told, of_task, of_rows}
 use Rattle.ppdb_run.proofs.Sampling.{of_sampled, sampled_again, sampled_found, sampled_leaves, sampled_valid}
 use Rattle.ppdb_run.proofs.Writing.{nothing_put, nothing_due, on_asked, on_done, on_then, writes_file}
+use Rattle.ppdb_run.specs.Means.{WritesMeaning}
+use Rattle.ppdb_run.proofs.Means.{nothing_means}
 use Rattle.ppdb_run.proofs.commands.carry_out.Goals as goal
 
 pub returns-in-Ask-clause-found : goal.returns-in-Ask-clause-found
@@ -229,6 +232,9 @@ returns-in-Merge-clause-rows g c =
     of_rows _ (Merge (inputs_of c.in-Merge.inputs) c.in-Merge.output.now (options_of c.in-Merge.options)) (g.F.Folder.files c.args.folder.now) _ _
     (record { none = λ no. absurd no; bound = tt }) words
 
+pub returns-in-Merge-clause-cut : goal.returns-in-Merge-clause-cut
+returns-in-Merge-clause-cut g c = λ asked asks all seen due is. nothing_cut c.merge.result (g.O.Sink.written c.args.out.now) due.text
+
 pub returns-in-Merge-clause-causes : goal.returns-in-Merge-clause-causes
 returns-in-Merge-clause-causes g c =
     let words = subst (λ task. Words task (texts c.args.words.now)) (sym c.in-Merge.ensures) c.in-Ok.ensures.command in
@@ -242,13 +248,13 @@ returns-in-Merge-clause-read_only g c =
     let words = subst (λ task. Words task (texts c.args.words.now)) (sym c.in-Merge.ensures) c.in-Ok.ensures.command in
     writes_file (texts c.args.words.now) (Merge (inputs_of c.in-Merge.inputs) c.in-Merge.output.now (options_of c.in-Merge.options)) c.in-Merge.output.now _ _ refl words
 
-pub merge-requires-some : goal.merge-requires-some
-merge-requires-some g c =
+pub merge-requires-clause-some : goal.merge-requires-clause-some
+merge-requires-clause-some g c =
     let words = subst (λ task. Words task (texts c.args.words.now)) (sym c.in-Merge.ensures) c.in-Ok.ensures.command in
     (merge_counts (inputs_of c.in-Merge.inputs) c.in-Merge.output.now (options_of c.in-Merge.options) (texts c.args.words.now) words).0
 
-pub merge-requires-most : goal.merge-requires-most
-merge-requires-most g c =
+pub merge-requires-clause-most : goal.merge-requires-clause-most
+merge-requires-clause-most g c =
     let words = subst (λ task. Words task (texts c.args.words.now)) (sym c.in-Merge.ensures) c.in-Ok.ensures.command in
     (merge_counts (inputs_of c.in-Merge.inputs) c.in-Merge.output.now (options_of c.in-Merge.options) (texts c.args.words.now) words).1
 
@@ -265,7 +271,7 @@ returns-in-Sample-clause-told g c =
 pub returns-in-Sample-clause-text : goal.returns-in-Sample-clause-text
 returns-in-Sample-clause-text g c =
     let words = subst (λ task. Words task (texts c.args.words.now)) (sym c.in-Sample.ensures) c.in-Ok.ensures.command in
-    of_sampled (texts c.args.words.now) c.in-Sample.n words (g.F.Folder.files c.args.folder.now) (λ due. OnOk c.sample.result (g.O.Sink.written c.sample.out ≡ appended (g.O.Sink.written c.args.out.now) due.text)) c.sample.ensures.text
+    of_sampled (texts c.args.words.now) c.in-Sample.n words (g.F.Folder.files c.args.folder.now) (λ due. OnOk c.sample.result (g.O.Sink.written c.sample.new.out ≡ appended (g.O.Sink.written c.args.out.now) due.text)) c.sample.ensures.text
 
 pub returns-in-Sample-clause-files : goal.returns-in-Sample-clause-files
 returns-in-Sample-clause-files g c =
@@ -296,10 +302,41 @@ returns-in-Sample-clause-causes g c =
 pub returns-in-Sample-clause-cut : goal.returns-in-Sample-clause-cut
 returns-in-Sample-clause-cut g c =
     let words = subst (λ task. Words task (texts c.args.words.now)) (sym c.in-Sample.ensures) c.in-Ok.ensures.command in
-    of_sampled (texts c.args.words.now) c.in-Sample.n words (g.F.Folder.files c.args.folder.now) (λ due. IfErr c.sample.result (λ stop. OnCut (cause_of stop) (AppendsFront (g.O.Sink.written c.args.out.now) (g.O.Sink.written c.sample.out) due.text)))
+    of_sampled (texts c.args.words.now) c.in-Sample.n words (g.F.Folder.files c.args.folder.now) (λ due. IfErr c.sample.result (λ stop. OnCut (cause_of stop) (AppendsFront (g.O.Sink.written c.args.out.now) (g.O.Sink.written c.sample.new.out) due.text)))
     c.sample.ensures.cut
 
 pub sample-requires : goal.sample-requires
 sample-requires g c =
     let words = subst (λ task. Words task (texts c.args.words.now)) (sym c.in-Sample.ensures) c.in-Ok.ensures.command in
     words.1
+
+pub returns-in-Ask-clause-means : goal.returns-in-Ask-clause-means
+returns-in-Ask-clause-means g c =
+    let words = subst (λ task. Words task (texts c.args.words.now)) (sym c.in-Ask.ensures) c.in-Ok.ensures.command in
+    on_done c.answer.result (nothing_means (texts c.args.words.now) (Ask (question_of c.in-Ask.question) c.in-Ask.file.now)
+    (g.F.Folder.files c.args.folder.now) (λ due. tt) words)
+
+pub returns-in-Rebuild-clause-means : goal.returns-in-Rebuild-clause-means
+returns-in-Rebuild-clause-means g c =
+    let words = subst (λ task. Words task (texts c.args.words.now)) (sym c.in-Rebuild.ensures) c.in-Ok.ensures.command in
+    on_then c.rebuild.result (λ h. on_asked (WritesMeaning (g.F.Folder.files c.args.folder.now)) _
+    (Rebuild c.in-Rebuild.input.now c.in-Rebuild.output.now (options_of c.in-Rebuild.options)) (g.F.Folder.files c.args.folder.now) h words (λ a. a))
+    c.rebuild.ensures.means
+
+pub returns-in-Compose-clause-means : goal.returns-in-Compose-clause-means
+returns-in-Compose-clause-means g c =
+    let words = subst (λ task. Words task (texts c.args.words.now)) (sym c.in-Compose.ensures) c.in-Ok.ensures.command in
+    on_done c.compose.result (nothing_means (texts c.args.words.now)
+    (Compose c.in-Compose.first.now c.in-Compose.second.now c.in-Compose.output.now) (g.F.Folder.files c.args.folder.now) (λ due. tt) words)
+
+pub returns-in-Merge-clause-means : goal.returns-in-Merge-clause-means
+returns-in-Merge-clause-means g c =
+    let words = subst (λ task. Words task (texts c.args.words.now)) (sym c.in-Merge.ensures) c.in-Ok.ensures.command in
+    on_then c.merge.result (λ h. on_asked (WritesMeaning (g.F.Folder.files c.args.folder.now)) _
+    (Merge (inputs_of c.in-Merge.inputs) c.in-Merge.output.now (options_of c.in-Merge.options)) (g.F.Folder.files c.args.folder.now) h words (λ a. a))
+    c.merge.ensures.means
+
+pub returns-in-Sample-clause-means : goal.returns-in-Sample-clause-means
+returns-in-Sample-clause-means g c =
+    let words = subst (λ task. Words task (texts c.args.words.now)) (sym c.in-Sample.ensures) c.in-Ok.ensures.command in
+    on_done c.sample.result (nothing_means (texts c.args.words.now) (Sample c.in-Sample.n) (g.F.Folder.files c.args.folder.now) (λ due. tt) words)

@@ -67,3 +67,6 @@ returns-in-Err-clause-accepted g c = λ is. absurd (stopped_not_done (cause_of c
 
 pub returns-in-Err-clause-again : goal.returns-in-Err-clause-again
 returns-in-Err-clause-again g c = λ is. absurd (stopped_not_done (cause_of c.in-Err.stop) _ _ _ _ _ (refuses c.in-Err.stop) c.tell.ensures is)
+
+pub returns-in-Err-clause-means : goal.returns-in-Err-clause-means
+returns-in-Err-clause-means g c = λ is. absurd (stopped_not_done (cause_of c.in-Err.stop) _ _ _ _ _ (refuses c.in-Err.stop) c.tell.ensures is)

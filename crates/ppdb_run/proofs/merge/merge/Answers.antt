@@ -6,7 +6,8 @@ use Rattle.ppdb_run.specs.Task.{inputs_of, options_of}
 use Rattle.ppdb_run.specs.Words.{Merge}
 use Rattle.ppdb_run.proofs.Causes.{widened, widened_stop}
 use Rattle.ppdb_run.proofs.Outcomes.{stop_found, stop_settles}
-use Rattle.ppdb_run.proofs.Writing.{nothing_written, written_found, written_settles, written_silent, written_leaves, written_valid, written_again}
+use Rattle.ppdb_run.proofs.Writing.{nothing_written, written_found, written_settles, written_silent, written_leaves, written_valid, on_done}
+use Rattle.ppdb_run.proofs.Means.{means_again, means_written}
 use Rattle.ppdb_run.proofs.merge.merge.Goals as goal
 
 pub returns-in-Err-clause-found : goal.returns-in-Err-clause-found
@@ -61,5 +62,10 @@ returns-clause-causes g c =
 
 pub returns-clause-again : goal.returns-clause-again
 returns-clause-again g c =
-    written_again (Merge (inputs_of c.args.inputs) c.args.output.now (options_of c.args.options)) c.args.output.now (g.F.Folder.files c.args.folder.now) c.write_output.result _
-    c.write_output.ensures.no_refusal (c.in-Ok.ensures.told c.args.output.now) (c.in-Ok.ensures.again c.args.output.now)
+    on_done c.write_output.result (means_again (g.F.Folder.files c.args.folder.now) (inputs_of c.args.inputs) c.args.output.now (options_of c.args.options) _
+    (c.in-Ok.ensures.told c.args.output.now) (c.in-Ok.ensures.means c.args.output.now))
+
+pub returns-clause-means : goal.returns-clause-means
+returns-clause-means g c =
+    on_done c.write_output.result (means_written (Merge (inputs_of c.args.inputs) c.args.output.now (options_of c.args.options)) c.args.output.now
+    (options_of c.args.options) (g.F.Folder.files c.args.folder.now) _ (c.in-Ok.ensures.told c.args.output.now) (c.in-Ok.ensures.means c.args.output.now))

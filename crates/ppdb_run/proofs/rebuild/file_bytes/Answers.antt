@@ -10,3 +10,6 @@ returns-in-Ok-clause-again g c =
     (sym c.unknown.ensures ∙ c.in-None.is) (rw c.choice.ensures at c.in-Ok.ensures.written) c.in-Ok.ensures.accepted
     (rw c.choice.ensures at c.in-Ok.ensures.reread)
     (rw c.choice.ensures at c.in-Ok.ensures.again)
+
+pub returns-in-Ok-clause-says : goal.returns-in-Ok-clause-says
+returns-in-Ok-clause-says g c = λ raw is. (_, (c.in-Ok.ensures.again raw is).value_is)

@@ -5,7 +5,8 @@ use Rattle.ppdb_run.specs.Task.{options_of}
 use Rattle.ppdb_run.specs.Words.{Rebuild}
 use Rattle.ppdb_run.proofs.Causes.{widened_stop}
 use Rattle.ppdb_run.proofs.Outcomes.{stop_found, stop_settles}
-use Rattle.ppdb_run.proofs.Writing.{nothing_written, written_found, written_settles, written_silent, written_leaves, written_valid, written_again}
+use Rattle.ppdb_run.proofs.Writing.{nothing_written, written_found, written_settles, written_silent, written_leaves, written_valid, written_again, on_done}
+use Rattle.ppdb_run.proofs.Means.{means_written}
 use Rattle.ppdb_run.proofs.rebuild.rebuild.Goals as goal
 
 pub returns-in-Err-clause-found : goal.returns-in-Err-clause-found
@@ -66,3 +67,8 @@ pub returns-clause-causes : goal.returns-clause-causes
 returns-clause-causes g c =
     widened_stop c.write_output.result (λ m. m) (λ name r. absurd r) (λ name w. w) (λ e. c.in-Ok.ensures.files ∙ e) (λ a. absurd a)
     (λ b. subst (λ n. Rose n (g.F.Folder.write_faults c.write_output.new.folder)) c.in-Ok.ensures.write_faults b) (λ p. p) c.write_output.ensures.causes
+
+pub returns-clause-means : goal.returns-clause-means
+returns-clause-means g c =
+    on_done c.write_output.result (means_written (Rebuild c.args.input.now c.args.output.now (options_of c.args.options)) c.args.output.now
+    (options_of c.args.options) (g.F.Folder.files c.args.folder.now) _ (c.in-Ok.ensures.told c.args.output.now) (c.in-Ok.ensures.means c.args.output.now))

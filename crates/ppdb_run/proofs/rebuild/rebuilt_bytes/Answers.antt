@@ -5,6 +5,8 @@ use Rattle.ppdb_run.specs.Outcome.{gives, rebuilt, written}
 use Rattle.ppdb_run.specs.Stops.{Gives}
 use Rattle.ppdb_run.specs.Task.{options_of}
 use Rattle.ppdb_run.proofs.Rebuilds.{not_read, is_rebuilt}
+use Rattle.ppdb_run.specs.Ends.{RebuildsToItself}
+use Rattle.ppdb_run.proofs.Means.{rebuilt_all}
 use Rattle.ppdb_run.proofs.rebuild.rebuilt_bytes.Goals as goal
 
 pub returns-in-Err-clause-told : goal.returns-in-Err-clause-told
@@ -18,3 +20,10 @@ returns-clause-told g c = λ output.
     (subst (λ marks. Gives (written output) c.file_bytes.result
     (gives (rebuilt c.args.input.now output (record { keep_id = c.args.options.keep_id; marks = marks }) (value_of (raw_file c.in-Ok.file)))))
     c.in_ok-marks.ensures (c.file_bytes.ensures.told output))
+
+pub returns-clause-means : goal.returns-clause-means
+returns-clause-means g c = λ output.
+    rebuilt_all (g.F.Folder.files c.args.folder.now) c.args.input.now output (options_of c.args.options) (raw_file c.in-Ok.file) c.in-Ok.ensures.told
+    c.rebuilt_files_keep_themselves.ensures c.file_bytes.result c.file_bytes.ensures.says c.file_bytes.ensures.accepted
+    (subst (λ marks. IfOk c.file_bytes.result (RebuildsToItself (record { keep_id = c.args.options.keep_id; marks = marks }))) c.in_ok-marks.ensures
+    c.file_bytes.ensures.again)

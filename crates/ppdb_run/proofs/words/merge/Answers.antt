@@ -13,7 +13,7 @@ returns-then-is_empty-clause-usage c =
     no_merge_count _ _ _ _ _ whole c.split_pairs.ensures.whole c.split_pairs.ensures.even c.split_pairs.ensures.files c.split_pairs.ensures.behind
     (elim c.then-is_empty.branch [
       | then-is_empty-via-then-is_empty w ↦
-        let none = is_empty c.split_pairs.result.0.now (sym c.is_empty.ensures ∙ w.if-is_empty.true) in inl (omega (arith, same, none))
+          let none = is_empty c.split_pairs.result.0.now (sym c.is_empty.ensures ∙ w.if-is_empty.true) in inl (omega (arith, same, none))
       | then-is_empty-via-else-is_empty+then-pairs w ↦ let many = w.if-pairs.true in inr (omega (arith, same, many))
     ])
 

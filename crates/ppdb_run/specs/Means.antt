@@ -1,0 +1,50 @@
+-- What a debug file that is written means, by what its inputs meant.
+use Rattle.std.specs.Prelude.{◌≡◌, ℕ, List, [], ◌∷◌, Option, Some, Ok, IfSome, map}
+use Rattle.ppdb_base.specs.Files.{Files}
+use Rattle.ppdb_base.specs.First.{IsAccepted}
+use Rattle.kept_meanings.specs.Kept.{MovedBy, KeepsMeaning}
+use Rattle.kept_meanings.specs.Origins.{KeepsOrigins}
+use Rattle.ppdb_values.specs.RawFile.{RawFile}
+use Rattle.ppdb_values.specs.Value.{value_of}
+use Rattle.ppdb_verify.specs.Files.{BadFile, IsRawOf}
+use Rattle.unmoved_files.specs.NoLines.{left_alone}
+use Rattle.written_meanings.specs.Inputs.{ReadInput, moved_by}
+use Rattle.ppdb_run.specs.Ends.{RebuildsToItself}
+use Rattle.ppdb_run.specs.Outcome.{Outcome, map_at, verified}
+use Rattle.ppdb_run.specs.Words.{Input, Options, Task, Rebuild, Merge}
+
+-- each input is read so: its file breaks no rule, and its map's text has the map
+abbrev pub AreReadAs : Files → List Input → List ReadInput → Type 0
+AreReadAs files [] [] = Unit {0}
+AreReadAs files (input ∷ inputs) (read ∷ others) =
+    verified files input.file (Ok read.raw) × map_at files input.map_file (Ok read.map) × AreReadAs files inputs others
+AreReadAs files inputs others = ⊥
+
+-- this is what the inputs of a task say, each with its map; that of a rebuild has the map without lines
+abbrev pub AreInputsOf : Task → Files → List MovedBy → Type 0
+AreInputsOf (Rebuild input output options) files inputs = (raw : RawFile) × verified files input (Ok raw) × (inputs ≡ left_alone (value_of raw) ∷ [])
+AreInputsOf (Merge pairs output options) files inputs = (read : List ReadInput) × AreReadAs files pairs read × (inputs ≡ map moved_by read)
+AreInputsOf task files inputs = ⊥
+
+-- A debug file that a task writes.
+pub record ExactlyMeans (task : Task) (options : Options) (files : Files) (bytes : List ℕ) : Type 0 where
+  -- Each input is accepted.
+  pub read : (inputs : List MovedBy) × AreInputsOf task files inputs
+  -- The written file is accepted.
+  pub accepted : IsAccepted (BadFile bytes)
+  -- It means at each kept offset's image what its input meant, by name and up to the map.
+  pub meaning : (inputs : List MovedBy) → AreInputsOf task files inputs → (raw : RawFile) → IsRawOf bytes raw → KeepsMeaning inputs (value_of raw)
+  -- All that it says comes from its inputs.
+  pub origins : (inputs : List MovedBy) → AreInputsOf task files inputs → (raw : RawFile) → IsRawOf bytes raw → KeepsOrigins inputs (value_of raw)
+  -- Rebuilding it gives itself.
+  pub again : RebuildsToItself options bytes
+
+-- The task writes such a file.
+abbrev pub WritesExactly : Task → List ℕ → Options → Files → Outcome → Type 0
+WritesExactly task output options files due = (bytes : List ℕ) × (due.writes ≡ Some (output, bytes)) × ExactlyMeans task options files bytes
+
+-- where files are told, a task that writes a debug file writes what its inputs meant
+abbrev pub WritesMeaning : Option Files → Option Task → Outcome → Type 0
+WritesMeaning files (Some (Rebuild input output options)) due = IfSome files (λ all. WritesExactly (Rebuild input output options) output options all due)
+WritesMeaning files (Some (Merge inputs output options)) due = IfSome files (λ all. WritesExactly (Merge inputs output options) output options all due)
+WritesMeaning files asked due = Unit {0}

@@ -1,0 +1,4 @@
+pub mod Keeping
+pub mod KnownKinds
+pub mod MovedKinds
+pub mod Turns
