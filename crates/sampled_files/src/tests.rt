@@ -1,5 +1,5 @@
 // The lengths and the identities of small samples, worked out apart from this program.
-ghost use Rattle.std.specs.Prelude.{◌≡◌, ◌≤◌, ◌<◌};
+ghost use Rattle.std.specs.Prelude.{◌≡◌, ◌<◌};
 
 use crate::{BuildError, SampleReport, sampled};
 use ppdb_base::Steps;
@@ -13,13 +13,12 @@ fn counted<K: Ledger, L: Ledger>(
     checks: Blank,
     steps: Blank,
 ) -> Result<SampleReport, BuildError>
-    requires few { methods ≤ 100000 }
     requires checks { (checks.name ≡ K.name) × (checks.parts ≡ K.parts) × (0 < K.parts) }
     requires steps { (steps.name ≡ L.name) × (steps.parts ≡ L.parts) × (0 < L.parts) }
 {
     let mut checks = Steps::<K>::new(checks);
     let mut steps = Steps::<L>::new(steps);
-    sampled(alloc, methods, &mut checks, &mut steps)
+    sampled(alloc, methods.min(100_000), &mut checks, &mut steps)
 }
 
 #[test]
