@@ -1,8 +1,8 @@
 -- What a moved file names and a second map does not drop is an image of what the file names by the map of both.
-use Rattle.std.proofs.Common.{◌≡◌, ℕ, ◌≤◌, ◌<◌, ◌++◌, ◌&&◌, ◌||◌, not, Bool, true, false, cond, List, [], ◌∷◌, Option, Some, None, refl, sym, ◌∙◌, ap, subst}
+use Rattle.std.proofs.Common.{◌≡◌, ℕ, ◌≤◌, ◌&&◌, ◌||◌, not, Bool, true, false, cond, List, [], ◌∷◌, Option, Some, None, refl, sym, ◌∙◌, ap, subst}
 use Rattle.std.proofs.Common.{arith, map}
-use Rattle.std.specs.Prelude.{nat_eq, nat_lt, Contains}
-use Rattle.std.proofs.lemmas.Bool.{and_from, eqb-false, eqb-true, ne_eqb, not-true, not_from_false, or_from, or_parts}
+use Rattle.std.specs.Prelude.{nat_eq}
+use Rattle.std.proofs.lemmas.Bool.{eqb-true, not-true, not_from_false, or_from, or_parts}
 use Rattle.custom_info.specs.declared.stepping.AsyncStep.{AsyncStep}
 use Rattle.sequence_points.specs.declared.point.Point.{Point}
 use Rattle.sequence_points.specs.MovedPoints.{moved_points}
@@ -27,7 +27,7 @@ use Rattle.ppdb_values.specs.declared.scope.ConstantValue.{ConstantValue}
 use Rattle.ppdb_noted.specs.declared.file.NotedScope.{NotedScope}
 use Rattle.ppdb_noted.specs.declared.file.NotedFile.{NotedFile}
 use Rattle.ppdb_noted.specs.Each.{Each}
-use Rattle.ppdb_noted.specs.NamedRows.{Named, names, names_some, in_token, in_body, in_constant, in_import, in_steps, named_rows, live_machine, live_custom}
+use Rattle.ppdb_noted.specs.NamedRows.{Named, names, names_some, in_token, in_body, in_constant, in_import, in_steps, live_machine, live_custom}
 use Rattle.ppdb_noted.specs.SoundParts.{SoundMoved}
 use Rattle.ppdb_noted.proofs.Lists.{Each-append, Each-map, Each-weaker}
 use Rattle.ppdb_joined.proofs.Each.{Each-split, Each-with}

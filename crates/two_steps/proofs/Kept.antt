@@ -1,5 +1,5 @@
 -- The offsets of async records that the map of both keeps compose; so links do.
-use Rattle.std.proofs.Common.{◌≡◌, ℕ, ◌≤◌, ◌&&◌, not, Bool, true, false, cond, List, [], ◌∷◌, Option, Some, None, refl, sym, ◌∙◌, ap, subst, map}
+use Rattle.std.proofs.Common.{◌≡◌, ℕ, ◌≤◌, ◌&&◌, Bool, true, false, cond, List, [], ◌∷◌, Option, Some, None, sym, ◌∙◌, ap, subst, map}
 use Rattle.std.specs.Prelude.{nat_eq, is_none, Contains, IfSome}
 use Rattle.std.specs.List.{find}
 use Rattle.std.specs.Option.{option_map}
@@ -23,7 +23,7 @@ use Rattle.ppdb_values.specs.Parts.{slots_in}
 use Rattle.ppdb_noted.specs.declared.file.NotedFile.{NotedFile}
 use Rattle.ppdb_noted.specs.Each.{Each}
 use Rattle.ppdb_noted.specs.Laws.{SoundnessIsNoted}
-use Rattle.ppdb_noted.specs.NamedRows.{Named, names, named_rows, in_steps, live_custom}
+use Rattle.ppdb_noted.specs.NamedRows.{names, named_rows, in_steps, live_custom}
 use Rattle.ppdb_noted.specs.Noted.{noted_file}
 use Rattle.ppdb_noted.specs.NotedMeaning.{on_method}
 use Rattle.ppdb_noted.specs.SoundParts.{SoundMoved}
@@ -34,7 +34,6 @@ use Rattle.ppdb_moved.specs.Fits.{IsImaged, IsKept, KeepsAsync, KeepsStep}
 use Rattle.ppdb_moved.proofs.Elements.{each_in, in_each}
 use Rattle.ppdb_moved.proofs.Fitting.{offsets_rise}
 use Rattle.ppdb_moved.proofs.NamedParts.{NamedParts, named_parts}
-use Rattle.kept_meanings.specs.Kept.{FitsAlone, NamesMethod}
 use Rattle.kept_meanings.proofs.Inputs.{input_sound}
 use Rattle.two_steps.specs.Images.{EdgeComposes}
 use Rattle.two_steps.specs.Links.{StepComposes, HandlerComposes, BodyComposes, IsPartner, LinksMay}

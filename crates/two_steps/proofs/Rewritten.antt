@@ -1,10 +1,9 @@
 -- Which rows a file names that is joined from one: those that the one names.
-use Rattle.std.proofs.Common.{◌≡◌, ℕ, ◌++◌, Bool, true, false, List, [], ◌∷◌, map, refl, sym, ap, subst}
+use Rattle.std.proofs.Common.{◌≡◌, ℕ, ◌++◌, true, false, [], ◌∷◌, map, refl, sym, subst}
 use Rattle.ppdb_maps.specs.Map.{Map, is_dropped}
 use Rattle.ppdb_values.specs.declared.custom.CustomBody.{CustomBody}
 use Rattle.ppdb_values.specs.declared.custom.CustomBody.TheVariants.{Async, Hoisted, TypeDocuments, Unread}
 use Rattle.ppdb_values.specs.declared.custom.CustomValue.{CustomValue}
-use Rattle.ppdb_values.specs.declared.file.DocumentValue.{DocumentValue}
 use Rattle.ppdb_values.specs.declared.file.MethodValue.{MethodValue}
 use Rattle.ppdb_values.specs.declared.import.ImportScopeValue.{ImportScopeValue}
 use Rattle.ppdb_values.specs.declared.noted.Noted.{Noted}
@@ -17,7 +16,7 @@ use Rattle.ppdb_noted.specs.NamedRows.{Named, names, names_some, in_constant, in
 use Rattle.ppdb_noted.specs.Noted.{with_item}
 use Rattle.ppdb_noted.proofs.Lists.{Each-append, Each-map, Each-weaker}
 use Rattle.ppdb_noted.proofs.Orders.{in_order_each}
-use Rattle.ppdb_joined.specs.Joined.{joined, joined_documents, joined_rows, row_in, with_documents, renumbered, renumbered_method, renumbered_scope}
+use Rattle.ppdb_joined.specs.Joined.{joined, joined_documents, joined_rows, row_in, with_documents, renumbered_method, renumbered_scope}
 use Rattle.ppdb_joined.specs.Joined.{renumbered_import, renumbered_custom}
 use Rattle.ppdb_joined.specs.Same.{same_record}
 use Rattle.ppdb_joined.proofs.Kept.{fresh_each}

@@ -1,5 +1,5 @@
 -- What a file says of a method that it does not name: nothing, but for state machines whose other method is dropped.
-use Rattle.std.proofs.Common.{◌≡◌, ◌≢◌, ℕ, ◌≤◌, ◌++◌, ◌&&◌, ◌||◌, not, Bool, true, false, cond, List, [], ◌∷◌, Option, Some, None, refl, sym, ◌∙◌, ap, subst}
+use Rattle.std.proofs.Common.{◌≡◌, ◌≢◌, ℕ, ◌≤◌, ◌++◌, ◌&&◌, ◌||◌, Bool, true, false, cond, List, [], ◌∷◌, Some, None, refl, ◌∙◌, ap, subst}
 use Rattle.std.proofs.Common.{arith, flat_map, map}
 use Rattle.std.specs.Prelude.{nat_eq, is_none}
 use Rattle.std.specs.List.{filter, find}
@@ -17,9 +17,8 @@ use Rattle.ppdb_noted.specs.declared.file.NotedScope.{NotedScope}
 use Rattle.ppdb_noted.specs.declared.file.NotedFile.{NotedFile}
 use Rattle.ppdb_noted.specs.Each.{Each}
 use Rattle.ppdb_noted.specs.NamedRows.{Named, names, names_some, in_steps, live_machine, live_custom}
-use Rattle.ppdb_noted.specs.NotedMeaning.{held, method_of, noted_links, noted_meaning, on_method, point_meaning, scope_meaning, scopes_at, slots_among, slots_at}
+use Rattle.ppdb_noted.specs.NotedMeaning.{held, noted_links, noted_meaning, on_method, point_meaning, scope_meaning, scopes_at, slots_among, slots_at}
 use Rattle.ppdb_noted.proofs.Lists.{Each-unmap, Each-weaker}
-use Rattle.ppdb_joined.specs.Joinable.{methods_of}
 use Rattle.ppdb_joined.proofs.Each.{Each-split, Each-unflat}
 use Rattle.ppdb_moved.specs.Images.{links_image, partner_image}
 use Rattle.ppdb_moved.specs.Moved.{moved_body}

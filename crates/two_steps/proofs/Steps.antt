@@ -7,7 +7,6 @@ use Rattle.ppdb_base.specs.Offsets.{Kept}
 use Rattle.ppdb_maps.specs.Map.{Map, is_dropped, moved_row, offsets_in, row_image}
 use Rattle.map_compose.specs.Composed.{composed, of_image}
 use Rattle.map_compose.specs.Composition.{Follows, IsComposition}
-use Rattle.map_compose.specs.Sizes.{SizesAgree}
 use Rattle.map_compose.proofs.Equations.{composed_composes}
 use Rattle.ppdb_values.specs.declared.file.FileValue.{FileValue}
 use Rattle.ppdb_values.specs.Links.{links}
@@ -23,14 +22,14 @@ use Rattle.ppdb_moved.specs.Fits.{IsImaged}
 use Rattle.ppdb_moved.specs.Images.{meaning_image, links_image}
 use Rattle.ppdb_moved.specs.Moved.{moved_file}
 use Rattle.ppdb_moved.proofs.Elements.{each_in, in_each}
-use Rattle.ppdb_moved.proofs.NamedParts.{NamedParts, named_parts}
+use Rattle.ppdb_moved.proofs.NamedParts.{named_parts}
 use Rattle.ppdb_moved.proofs.NamedRows.{named_rows_are_rows}
 use Rattle.ppdb_moved.proofs.RowImages.{row_moved}
 use Rattle.ppdb_moved.proofs.SoundMoves.{moved_sound}
 use Rattle.kept_meanings.specs.Kept.{InputsKeepMeaning, NamesMethod, named_by}
 use Rattle.kept_meanings.specs.Origins.{InputsKeepOrigins}
 use Rattle.kept_meanings.proofs.Inputs.{input_sound}
-use Rattle.two_steps.specs.Images.{without_edges, KeepsImages}
+use Rattle.two_steps.specs.Images.{without_edges}
 use Rattle.two_steps.specs.Steps.{moved_by, rewritten, IsNamed, StepsFit, TwoStepsMean}
 use Rattle.two_steps.proofs.Edges.{edge}
 use Rattle.two_steps.proofs.Fitting.{there_after, image_is, is_live, slots_stay}

@@ -1,27 +1,25 @@
 -- A file moved by a map and joined alone says of a method's image the image of what the file says of the method, where no other method that
 -- the file names has that image; whether the file names the method or not.
-use Rattle.std.proofs.Common.{◌≡◌, ◌≢◌, ℕ, zero, suc, ◌≤◌, ◌++◌, ◌&&◌, ◌⊎◌, inl, inr, Bool, true, false, cond, List, [], ◌∷◌, Option, Some, None, refl, sym}
+use Rattle.std.proofs.Common.{◌≡◌, ◌≢◌, ℕ, zero, suc, ◌≤◌, ◌++◌, inl, inr, Bool, true, false, cond, [], ◌∷◌, Some, None, refl, sym}
 use Rattle.std.proofs.Common.{◌∙◌, ap, subst, arith}
 use Rattle.std.specs.Prelude.{nat_eq, Contains}
 use Rattle.std.proofs.lemmas.Bool.{ne_eqb}
 use Rattle.ppdb_base.specs.Offsets.{Kept}
 use Rattle.ppdb_maps.specs.Map.{Map, is_dropped, moved_row, offsets_in, row_image}
 use Rattle.ppdb_values.specs.declared.file.FileValue.{FileValue}
-use Rattle.ppdb_values.specs.Links.{Links, links, kickoff_of, move_next_of}
-use Rattle.ppdb_values.specs.Meaning.{Meaning, meaning}
+use Rattle.ppdb_values.specs.Links.{links, move_next_of}
+use Rattle.ppdb_values.specs.Meaning.{meaning}
 use Rattle.ppdb_noted.specs.declared.file.NotedFile.{NotedFile}
 use Rattle.ppdb_noted.specs.Each.{Each}
 use Rattle.ppdb_noted.specs.Laws.{SoundnessIsNoted}
 use Rattle.ppdb_noted.specs.NamedRows.{names, names_some, named_rows, all_named, live_file}
 use Rattle.ppdb_noted.specs.Noted.{noted_file}
-use Rattle.ppdb_noted.specs.NotedMeaning.{noted_links, noted_meaning}
-use Rattle.ppdb_noted.specs.SoundParts.{SoundMoved}
+use Rattle.ppdb_noted.specs.NotedMeaning.{noted_links}
 use Rattle.ppdb_noted.proofs.NotedMeanings.{meaning_is, links_are}
-use Rattle.ppdb_joined.specs.Joinable.{AreJoinable, methods_of}
+use Rattle.ppdb_joined.specs.Joinable.{methods_of}
 use Rattle.ppdb_joined.specs.Joined.{joined}
 use Rattle.ppdb_moved.specs.Fits.{IsImaged}
 use Rattle.ppdb_moved.specs.Images.{meaning_image, links_image}
-use Rattle.ppdb_moved.specs.Laws.{IsImageOfNamed}
 use Rattle.ppdb_moved.specs.Moved.{moved_file}
 use Rattle.ppdb_moved.proofs.Elements.{each_in, in_each}
 use Rattle.ppdb_moved.proofs.Fitting.{moved_dropped}
@@ -35,7 +33,7 @@ use Rattle.kept_meanings.proofs.Keeping.{joined_back}
 use Rattle.two_steps.specs.Steps.{moved_by, rewritten}
 use Rattle.two_steps.proofs.Fitting.{is_live}
 use Rattle.two_steps.proofs.Named.{named_or_not}
-use Rattle.two_steps.proofs.Silent.{no_meaning, no_links, Silent, says_nothing, no_records, unsaid_silent, no_kickoff, no_move_next, unnamed_silent, links_nothing}
+use Rattle.two_steps.proofs.Silent.{says_nothing, no_records, unsaid_silent, no_kickoff, no_move_next, unnamed_silent, links_nothing}
 
 -- a file that fits its map fits alone
 alone : (m : Map) (value : FileValue) → FitsAlone (true, moved_by value m) → InputsFit (moved_by value m ∷ [])
