@@ -222,7 +222,11 @@ module _ (f s : Map) (composes : IsComposition f s (composed f s)) (first : IsRe
   -- ---- custom records
 
   custom_is : (x q : CustomValue) → moved_custom f x ≡ Some q
-      → record { parent = record { table = x.parent.table; row = moved_row f x.parent.table x.parent.row }; kind = x.kind; value = moved_body f x.parent.row x.value } ≡ q
+      → record {
+        parent = record { table = x.parent.table; row = moved_row f x.parent.table x.parent.row };
+        kind = x.kind;
+        value = moved_body f x.parent.row x.value;
+      } ≡ q
   custom_is x q is = by_drop (nat_eq x.parent.table 0x06 && is_dropped f x.parent.row) is
     where
       image : CustomValue

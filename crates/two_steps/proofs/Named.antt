@@ -99,8 +99,12 @@ same_named a b = by_test (nat_eq a.table b.table && nat_eq a.row b.row) refl
 
 pub named_or_not : (a : Named) (xs : List Named) → Contains xs a ⊎ Each (λ x. x ≢ a) xs
 named_or_not a [] = inr tt
-named_or_not a (x ∷ xs) = elim (same_named x a) [ inl same ↦ inl (subst (Contains (x ∷ xs)) same (0, omega arith, refl)) | inr apart ↦ by_rest apart (named_or_not a xs) ]
+named_or_not a (x ∷ xs) = by_first (same_named x a) (named_or_not a xs)
   where
     by_rest : x ≢ a → Contains xs a ⊎ Each (λ x. x ≢ a) xs → Contains (x ∷ xs) a ⊎ Each (λ x. x ≢ a) (x ∷ xs)
     by_rest apart (inl is) = let inside = is.1 in inl (suc is.0, omega (arith, inside), is.2)
     by_rest apart (inr none) = inr (apart, none)
+
+    by_first : (x ≡ a) ⊎ (x ≢ a) → Contains xs a ⊎ Each (λ x. x ≢ a) xs → Contains (x ∷ xs) a ⊎ Each (λ x. x ≢ a) (x ∷ xs)
+    by_first (inl same) rest = inl (subst (Contains (x ∷ xs)) same (0, omega arith, refl))
+    by_first (inr apart) rest = by_rest apart rest

@@ -92,10 +92,10 @@ module _ (method : ℕ) (w : NotedFile) (none : SaysNothingOf method w) where
   unsaid_silent =
       let both = Each-split Other of_methods of_scopes before.0 in
       record {
-        methods = Each-weaker (λ (e : MethodValue). Other e.method) (λ (e : MethodValue). nat_eq e.method method ≡ false) (λ e apart. ne_eqb e.method method apart)
-            w.methods (Each-unmap (λ (e : MethodValue). e.method) Other w.methods both.0);
-        scopes = Each-weaker (λ (s : NotedScope). Other s.method) (λ (s : NotedScope). nat_eq s.method method ≡ false) (λ s apart. ne_eqb s.method method apart)
-            w.scopes (Each-unmap (λ (s : NotedScope). s.method) Other w.scopes both.1);
+        methods = Each-weaker (λ (e : MethodValue). Other e.method) (λ (e : MethodValue). nat_eq e.method method ≡ false)
+            (λ e apart. ne_eqb e.method method apart) w.methods (Each-unmap (λ (e : MethodValue). e.method) Other w.methods both.0);
+        scopes = Each-weaker (λ (s : NotedScope). Other s.method) (λ (s : NotedScope). nat_eq s.method method ≡ false)
+            (λ s apart. ne_eqb s.method method apart) w.scopes (Each-unmap (λ (s : NotedScope). s.method) Other w.scopes both.1);
         customs = Each-weaker (λ (c : CustomValue). nat_eq c.parent.table 0x06 ≡ true → Other c.parent.row)
             (λ (c : CustomValue). (nat_eq c.parent.table 0x06 && nat_eq c.parent.row method) ≡ false)
             (λ c apart. by_table c (nat_eq c.parent.table 0x06) apart) w.customs

@@ -42,8 +42,8 @@ use Rattle.two_steps.proofs.Rewritten.{joined_parts}
 use Rattle.two_steps.proofs.Unnamed.{keeps, rewritten_back, any_means, any_links}
 use Rattle.two_steps.proofs.Within.{edges_on}
 
-module _ (sound : SoundnessIsNoted) (law : InputsKeepMeaning) (origins : InputsKeepOrigins) (f s : Map) (value : FileValue) (fit : StepsFit f s value) (method : ℕ)
-    (named : IsNamed f s value method) where
+module _ (sound : SoundnessIsNoted) (law : InputsKeepMeaning) (origins : InputsKeepOrigins) (f s : Map) (value : FileValue) (fit : StepsFit f s value)
+    (method : ℕ) (named : IsNamed f s value method) where
   abbrev c : Map
   c = composed f s
 
@@ -132,7 +132,8 @@ module _ (sound : SoundnessIsNoted) (law : InputsKeepMeaning) (origins : InputsK
   after_two x z kept =
       let step = (composes.kept method image x z (follows method named)).0 kept in
       any_means sound law origins s (rewritten f value) fit.second image last image_there last_there on own step.y z step.second
-      ∙ ap (meaning_image s image) ((keeps law f value fit.first).meanings (true, moved_by value f) method x step.y (0, omega arith, refl) first_named step.first)
+      ∙ ap (meaning_image s image)
+      ((keeps law f value fit.first).meanings (true, moved_by value f) method x step.y (0, omega arith, refl) first_named step.first)
 
   pub after_one : (x z : ℕ) → Kept (offsets_in c method) x z → meaning (rewritten c value) last z ≡ meaning_image c method (meaning value method x)
   after_one x z kept = (keeps law c value fit.at_once).meanings (true, moved_by value c) method x z (0, omega arith, refl) named kept

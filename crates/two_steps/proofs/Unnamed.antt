@@ -45,7 +45,8 @@ keeps law m value fits = law (moved_by value m ∷ []) (alone m value fits)
 -- what it says where its records stand at their items
 pub rewritten_back : SoundnessIsNoted → (m : Map) (value : FileValue) → FitsAlone (true, moved_by value m)
     → noted_file (rewritten m value) ≡ joined (moved_file m (noted_file value) ∷ [])
-rewritten_back sound m value fits = joined_back (moved_file m (noted_file value) ∷ []) (can_be_joined sound ((true, moved_by value m) ∷ []) (fits, tt) (tt, tt) (tt, tt))
+rewritten_back sound m value fits = joined_back (moved_file m (noted_file value) ∷ [])
+    (can_be_joined sound ((true, moved_by value m) ∷ []) (fits, tt) (tt, tt) (tt, tt))
 
 module _ (sound : SoundnessIsNoted) (law : InputsKeepMeaning) (origins : InputsKeepOrigins) (m : Map) (value : FileValue)
     (fits : FitsAlone (true, moved_by value m)) (method image : ℕ) (above : 1 ≤ method) (there : 1 ≤ image) (is : row_image m 0x06 method ≡ Some image)
