@@ -11,3 +11,4 @@ pub mod Silent
 pub mod Steps
 pub mod Unnamed
 pub mod Within
+pub mod Worked

@@ -6,6 +6,7 @@ ghost use Rattle.two_steps.specs.Worked.{WorkedEdges};
 
 use kept_meanings::{inputs_keep_meaning, inputs_keep_origins};
 use ppdb_noted::{meanings_are_noted, soundness_is_noted};
+use sound_values::worked_values_are_sound;
 
 /// The image of the image of a meaning is its image by the map of both, but for the edges of ranges.
 pub fn images_compose()
@@ -35,4 +36,6 @@ pub fn two_steps_mean()
 /// A file of which the edges differ, since the second map keeps an offset that the first does not give.
 pub fn worked_edges()
     ensures { WorkedEdges }
-{}
+{
+    worked_values_are_sound();
+}

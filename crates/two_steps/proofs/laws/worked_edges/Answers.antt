@@ -1,7 +1,5 @@
-use Rattle.std.proofs.Common.{refl}
-use Rattle.ppdb_values.specs.Chains.{chain_for}
+use Rattle.two_steps.proofs.Worked.{worked_edges}
 use Rattle.two_steps.proofs.laws.worked_edges.Goals as goal
 
 pub returns : goal.returns
-unfolding chain_for
-returns c = record { both = refl; after_two = refl; after_one = refl }
+returns c = worked_edges c.worked_values_are_sound.ensures.small
