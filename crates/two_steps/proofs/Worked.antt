@@ -147,6 +147,9 @@ module _ (old new : ℕ) (runs : List Run) where
 
 -- ---- two steps and one
 
+abbrev first_runs : List Run
+first_runs = one_kept 0 0 ∷ one_kept 5 6 ∷ one_kept 8 9 ∷ []
+
 line_is : (old new : ℕ) (runs : List Run) (method : ℕ) (a : MethodLine) → method_line (map_with old new runs) method ≡ Some a
     → (a.old_size ≡ old) × (a.new_size ≡ new)
 line_is old new runs method a is = by_method (nat_eq 1 method) is
@@ -161,10 +164,11 @@ line_is old new runs method a is = by_method (nat_eq 1 method) is
 sizes_agree : SizesAgree first_step second_step
 sizes_agree method first second differ =
     let before = line_is 9 12 _ method differ.a differ.before in
-    let after = line_is 12 12 _ method differ.b (sym (ap (of_image None (method_line second_step)) (image_is 9 12 (one_kept 0 0 ∷ one_kept 5 6 ∷ one_kept 8 9 ∷ []) 0x06 method)) ∙ differ.after) in
+    let image = image_is 9 12 first_runs 0x06 method in
+    let after = line_is 12 12 _ method differ.b (sym (ap (of_image None (method_line second_step)) image) ∙ differ.after) in
     differ.sizes.2 (sym differ.sizes.0 ∙ before.1 ∙ sym after.0 ∙ differ.sizes.1)
 
-first_rises : Rise (lined (one_kept 0 0 ∷ one_kept 5 6 ∷ one_kept 8 9 ∷ []) 9 12)
+first_rises : Rise (lined first_runs 9 12)
 first_rises = (
   omega arith,
   omega arith,
