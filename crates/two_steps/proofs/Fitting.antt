@@ -56,7 +56,7 @@ zero_stays m readable image is = by_drop (nat_eq 0x06 0x06 && is_dropped m 0) is
     by_drop true is = absurd cc
     by_drop false is = by_count (count_of m 0x06) is
 
-image_is : (m : Map) → IsReadable m → (method image : ℕ) → row_image m 0x06 method ≡ Some image → row_image m 0x06 method ≡ Some (moved_row m 0x06 method)
+pub image_is : (m : Map) → IsReadable m → (method image : ℕ) → row_image m 0x06 method ≡ Some image → row_image m 0x06 method ≡ Some (moved_row m 0x06 method)
 image_is m readable zero image is = is ∙ ap Some (zero_stays m readable image is)
 image_is m readable (suc n) image is = by_image (row_image m 0x06 (suc n)) is ∙ ap Some (sym (row_there m 0x06 n))
   where

@@ -1,7 +1,14 @@
 pub mod Edges
 pub mod Fitting
+pub mod Follows
 pub mod Images
+pub mod Kept
 pub mod Links
+pub mod Named
+pub mod Rewritten
 pub mod Rows
+pub mod Silent
 pub mod Steps
+pub mod Unnamed
 pub mod Within
+pub mod Worked

@@ -1,3 +1,4 @@
 pub mod Images
 pub mod Links
 pub mod Steps
+pub mod Worked

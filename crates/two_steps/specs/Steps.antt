@@ -5,6 +5,7 @@ use Rattle.ppdb_maps.specs.Map.{Map, moved_row, offsets_in}
 use Rattle.map_compose.specs.Composed.{composed}
 use Rattle.map_compose.specs.Sizes.{SizesAgree}
 use Rattle.ppdb_values.specs.declared.file.FileValue.{FileValue}
+use Rattle.ppdb_values.specs.Links.{links}
 use Rattle.ppdb_values.specs.Meaning.{meaning}
 use Rattle.kept_meanings.specs.Kept.{MovedBy, FitsAlone, NamesMethod, joined_inputs}
 use Rattle.two_steps.specs.Images.{without_edges, KeepsImages}
@@ -16,22 +17,28 @@ moved_by value m = record { value = value; map = m }
 abbrev pub rewritten : Map → FileValue → FileValue
 rewritten m value = joined_inputs (moved_by value m ∷ [])
 
--- each step names the method, and so does the one by the map of both
-pub record IsNamed (f s : Map) (value : FileValue) (method : ℕ) : Type 0 where
-  pub first : NamesMethod (true, moved_by value f) method
-  pub second : NamesMethod (true, moved_by (rewritten f value) s) (moved_row f 0x06 method)
-  pub at_once : NamesMethod (true, moved_by value (composed f s)) method
+-- a file that the first map and the map of both fit, and of which the first makes one that the second fits
+pub record StepsFit (f s : Map) (value : FileValue) : Type 0 where
+  pub first : FitsAlone (true, moved_by value f)
+  pub second : FitsAlone (true, moved_by (rewritten f value) s)
+  pub at_once : FitsAlone (true, moved_by value (composed f s))
 
--- Of a value that fits the first map and the map of both, and what the first makes of it the second: at each offset that both keep in
--- a method that each step names, the two results say the same, but for the point's offset and the edges of ranges; and wholly where
--- each offset that the second keeps in the method's image is one that the first gives.
-pub record StepsMean : Type 0 where
-  pub but_for_edges : (f s : Map) (value : FileValue) → FitsAlone (true, moved_by value f) → FitsAlone (true, moved_by value (composed f s))
-      → FitsAlone (true, moved_by (rewritten f value) s) → (method x z : ℕ) → IsNamed f s value method → Kept (offsets_in (composed f s) method) x z
+-- the file names the method, where it is moved by the map of both
+abbrev pub IsNamed : Map → Map → FileValue → ℕ → Type 0
+IsNamed f s value method = NamesMethod (true, moved_by value (composed f s)) method
+
+-- Of each method that the file names, where it is moved by the map of both, the file after two steps and the one after one say the same: at
+-- each offset that the map of both keeps, but for the point's offset and the edges of ranges; wholly where sizes agree and each offset
+-- that the second map keeps in the method's image is one that the first gives; and so of what is linked to the method.
+pub record TwoStepsMean : Type 0 where
+  pub but_for_edges : (f s : Map) (value : FileValue) → StepsFit f s value → (method x z : ℕ) → IsNamed f s value method
+      → Kept (offsets_in (composed f s) method) x z
       → without_edges (meaning (rewritten s (rewritten f value)) (moved_row (composed f s) 0x06 method) z)
       ≡ without_edges (meaning (rewritten (composed f s) value) (moved_row (composed f s) 0x06 method) z)
-  pub exactly : (f s : Map) (value : FileValue) → SizesAgree f s → FitsAlone (true, moved_by value f) → FitsAlone (true, moved_by value (composed f s))
-      → FitsAlone (true, moved_by (rewritten f value) s) → (method x z : ℕ) → IsNamed f s value method → Kept (offsets_in (composed f s) method) x z
-      → KeepsImages f s method (moved_row f 0x06 method)
+  pub exactly : (f s : Map) (value : FileValue) → StepsFit f s value → SizesAgree f s → (method x z : ℕ) → IsNamed f s value method
+      → Kept (offsets_in (composed f s) method) x z → KeepsImages f s method (moved_row f 0x06 method)
       → meaning (rewritten s (rewritten f value)) (moved_row (composed f s) 0x06 method) z
       ≡ meaning (rewritten (composed f s) value) (moved_row (composed f s) 0x06 method) z
+  pub all_links : (f s : Map) (value : FileValue) → StepsFit f s value → (method : ℕ) → IsNamed f s value method
+      → links (rewritten s (rewritten f value)) (moved_row (composed f s) 0x06 method)
+      ≡ links (rewritten (composed f s) value) (moved_row (composed f s) 0x06 method)

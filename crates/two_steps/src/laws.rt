@@ -1,10 +1,12 @@
 // Two rewritings of a module, one after the other, and one by the map of both.
 ghost use Rattle.two_steps.specs.Images.{EdgesAreComposed, ImagesCompose};
 ghost use Rattle.two_steps.specs.Links.{LinksCompose};
-ghost use Rattle.two_steps.specs.Steps.{StepsMean};
+ghost use Rattle.two_steps.specs.Steps.{TwoStepsMean};
+ghost use Rattle.two_steps.specs.Worked.{WorkedEdges};
 
-use kept_meanings::inputs_keep_meaning;
-use ppdb_noted::meanings_are_noted;
+use kept_meanings::{inputs_keep_meaning, inputs_keep_origins};
+use ppdb_noted::{meanings_are_noted, soundness_is_noted};
+use sound_values::worked_values_are_sound;
 
 /// The image of the image of a meaning is its image by the map of both, but for the edges of ranges.
 pub fn images_compose()
@@ -21,10 +23,19 @@ pub fn links_compose()
     ensures { LinksCompose }
 {}
 
-/// Two steps and one mean the same of a method that each step names, but for the edges of ranges.
-pub fn steps_mean()
-    ensures { StepsMean }
+/// Two steps and one mean the same of each method that the file names by the map of both, but for the edges of ranges, and link the same to it.
+pub fn two_steps_mean()
+    ensures { TwoStepsMean }
 {
-    inputs_keep_meaning();
+    soundness_is_noted();
     meanings_are_noted();
+    inputs_keep_meaning();
+    inputs_keep_origins();
+}
+
+/// A file of which the edges differ, since the second map keeps an offset that the first does not give.
+pub fn worked_edges()
+    ensures { WorkedEdges }
+{
+    worked_values_are_sound();
 }

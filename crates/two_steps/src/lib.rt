@@ -3,4 +3,4 @@
 
 mod laws;
 
-pub use laws::{edges_compose, images_compose, links_compose, steps_mean};
+pub use laws::{edges_compose, images_compose, links_compose, two_steps_mean, worked_edges};
