@@ -2,7 +2,7 @@
 _ppdb() {
   local current=${COMP_WORDS[COMP_CWORD]} command=${COMP_WORDS[1]}
   local IFS=$'\n'
-  local commands=$'id\nverify\nshow\nquery\nlinks\nbreaks\nrebuild\nremap\nmerge\ncompose'
+  local commands=$'id\nverify\nshow\nquery\nlinks\nbreaks\nrebuild\nremap\nmerge\ncompose\nsample'
   COMPREPLY=()
   case $COMP_CWORD:$command in
     1:*) COMPREPLY=($(compgen -W "$commands"$'\nhelp\n--help\n--version' -- "$current")) ;;
