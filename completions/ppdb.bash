@@ -2,28 +2,28 @@
 _ppdb() {
   local current=${COMP_WORDS[COMP_CWORD]} command=${COMP_WORDS[1]}
   local IFS=$'\n'
+  local commands=$'id\nverify\nshow\nquery\nlinks\nbreaks\nrebuild\nremap\nmerge\ncompose\nsample'
   COMPREPLY=()
-  if [ "$COMP_CWORD" = 1 ]; then
-    COMPREPLY=($(compgen -W $'id\nverify\nshow\nquery\nlinks\nbreaks\nrebuild\ncompose\nhelp\n--help\n--version' -- "$current"))
-  elif [ "$COMP_CWORD" = 2 ]; then
-    case $command in
-      id | verify | show | query | links | breaks | rebuild)
+  case $COMP_CWORD:$command in
+    1:*) COMPREPLY=($(compgen -W "$commands"$'\nhelp\n--help\n--version' -- "$current")) ;;
+    2:help) COMPREPLY=($(compgen -W "$commands" -- "$current")) ;;
+    2:id | 2:verify | 2:show | 2:query | 2:links | 2:breaks | 2:rebuild | 2:remap)
+      compopt -o filenames 2>/dev/null
+      COMPREPLY=($(compgen -f -X '!*.pdb' -- "$current") $(compgen -d -- "$current"))
+      ;;
+    3:show) COMPREPLY=($(compgen -W '--json' -- "$current")) ;;
+    3:rebuild | [34]:remap | [234]:compose | [234]:merge)
+      compopt -o filenames 2>/dev/null
+      COMPREPLY=($(compgen -f -- "$current"))
+      ;;
+    *:rebuild | *:remap | *:merge)
+      [ "${COMP_WORDS[COMP_CWORD - 1]}" = --free ] && return
+      COMPREPLY=($(compgen -W $'--keep-id\n--free' -- "$current"))
+      if [ "$command" = merge ] && [[ $current != -* ]]; then
         compopt -o filenames 2>/dev/null
-        COMPREPLY=($(compgen -f -X '!*.pdb' -- "$current") $(compgen -d -- "$current"))
-        ;;
-      compose)
-        compopt -o filenames 2>/dev/null
-        COMPREPLY=($(compgen -f -- "$current"))
-        ;;
-      help) COMPREPLY=($(compgen -W $'id\nverify\nshow\nquery\nlinks\nbreaks\nrebuild\ncompose' -- "$current")) ;;
-    esac
-  elif [ "$COMP_CWORD" = 3 ] && [ "$command" = show ]; then
-    COMPREPLY=($(compgen -W '--json' -- "$current"))
-  elif [ "$COMP_CWORD" = 3 ] && [ "$command" = rebuild ] || [ "$COMP_CWORD" -le 4 ] && [ "$command" = compose ]; then
-    compopt -o filenames 2>/dev/null
-    COMPREPLY=($(compgen -f -- "$current"))
-  elif [ "$command" = rebuild ] && [ "${COMP_WORDS[COMP_CWORD - 1]}" != --free ]; then
-    COMPREPLY=($(compgen -W $'--keep-id\n--free' -- "$current"))
-  fi
+        COMPREPLY+=($(compgen -f -- "$current"))
+      fi
+      ;;
+  esac
 }
 complete -F _ppdb ppdb

@@ -13,7 +13,10 @@ ppdb query FILE METHOD OFFSET  prints what belongs to an IL offset of a method, 
 ppdb links FILE                prints for each document the address of its source, by Source Link
 ppdb breaks FILE DOCUMENT LINE prints where a debugger may stop for a line of a document
 ppdb rebuild IN OUT            writes the one canonical file that says what a file says
+ppdb remap IN MAP OUT          writes that of a file whose module was rewritten, as a map says
+ppdb merge OUT IN MAP ..       writes that of up to 256 files, each moved by its map, joined to one
 ppdb compose FIRST SECOND OUT  writes the one map that says what two maps say, one after the other
+ppdb sample N                  prints how long a made file of N methods is, before and after it moves
 ppdb help COMMAND              prints more of a command; so does COMMAND --help
 ppdb --help                    prints this text; so do -h and help
 ppdb --version                 prints the version; so does -V
@@ -30,13 +33,16 @@ The status, and the line that is printed with it:
 5   there was no memory left
 6   there is no such file: absent FILE
 7   the file is longer than 134217728 bytes: too long FILE
-8   a custom record has an unknown kind: unfit FILE M6 row ROW kind GUID
+8   the file does not fit its map, or the files before it: unfit FILE REASON, M1 to M11
     the text is no map's: map FILE line LINE kind RULE
 9   what is to be written passes a limit of the format: limit LIMIT
 10  the file has no such method: no method METHOD
 11  the Source Link record cannot be read: links FILE not json, links FILE shape
 12  the file has no such document: no document DOCUMENT
 13  the maps do not follow one another: sizes differ method METHOD SIZE SIZE
+
+The manual page says of each F, M and L what it means and what to do. FORMAT.md, beside it in
+/usr/share/doc/ppdb, has the form of map texts (5), and how files fit a map, move and join (10 to 12).
 ";
 
 const ID: &str = "ppdb id FILE
@@ -98,6 +104,35 @@ same bytes. It prints nothing. IN is read before OUT is written, so both may be 
 --free GUID   passes on a kind of custom debug information that is unknown, else status 8
 ";
 
+const REMAP: &str = "ppdb remap IN MAP OUT [--keep-id] [--free GUID]..
+
+Verifies IN, the debug file of a module before it was rewritten, moves it as the text in MAP says
+where rows, IL offsets and local slots went, and writes the canonical file to OUT. What was said at
+an offset that is kept is said at its image. It prints nothing. Both are read before OUT is written,
+which may be one of them. A file that does not fit its map is told in a line, with status 8:
+    unfit IN M1 table 06 row 3 at table 31 row 3 column 1 byte 0
+A map of a method of 9 bytes, of which the offsets 0 and 5 to 8 are kept in 12 bytes:
+    ppdbmap 1
+    method 1 9 12
+    run 0 0 1
+    run 5 6 4
+--keep-id     the identity is that of IN, and not made from the bytes of the new file
+--free GUID   passes on a kind of custom debug information that is unknown, else status 8
+";
+
+const MERGE: &str = "ppdb merge OUT IN MAP [IN MAP].. [--keep-id] [--free GUID]..
+
+Verifies each IN, moves it by its MAP as `remap` does, and writes to OUT the canonical file of all:
+one to 256 inputs, of which no two name one method of the new module. Documents of one name become
+one; entry point and identity are those of the first IN. It prints nothing. All are read before OUT
+is written, which may be one of them. Each map gives the rows of the new module, the same in all:
+    ppdbmap 1
+    rows 06 10
+    row 06 1 6
+--keep-id     the identity is that of the first IN, and not made from the bytes of the new file
+--free GUID   passes on a kind of custom debug information that is unknown, else status 8
+";
+
 const COMPOSE: &str = "ppdb compose FIRST SECOND OUT
 
 Writes to OUT the map of two maps, where SECOND is for what FIRST made of a module: the image of the
@@ -106,6 +141,18 @@ before OUT is written, which may be one of them.
 The size of a method after FIRST and before SECOND must be the same, else the line is `sizes differ
 method M A B`, with the least such method, and the status 13: SECOND was made for another body. A
 text that is no map's is told by its first bad line and the rule that this breaks, with status 8.
+";
+
+const SAMPLE: &str = "ppdb sample N
+
+Makes the file of N methods that FORMAT.md describes, N to 100000, verifies it, moves it by the map
+that turns its methods round, all in memory, and prints the lengths of both files and the identity
+of the second. It reads and writes no file; other tools that rebuild and move such files can compare
+themselves with it:
+    sample 1
+    bytes 332
+    remapped bytes 328
+    remapped id bffe13bb4dd86b4ba11e593671b42ea9eacb05b2
 ";
 
 /// A command, of which the program can say more.
@@ -118,7 +165,10 @@ enum Topic {
     Links,
     Breaks,
     Rebuild,
+    Remap,
+    Merge,
     Compose,
+    Sample,
 }
 
 impl Topic {
@@ -132,7 +182,10 @@ impl Topic {
             "links" => Some(Topic::Links),
             "breaks" => Some(Topic::Breaks),
             "rebuild" => Some(Topic::Rebuild),
+            "remap" => Some(Topic::Remap),
+            "merge" => Some(Topic::Merge),
             "compose" => Some(Topic::Compose),
+            "sample" => Some(Topic::Sample),
             _ => None,
         }
     }
@@ -147,7 +200,10 @@ impl Topic {
             Topic::Links => LINKS,
             Topic::Breaks => BREAKS,
             Topic::Rebuild => REBUILD,
+            Topic::Remap => REMAP,
+            Topic::Merge => MERGE,
             Topic::Compose => COMPOSE,
+            Topic::Sample => SAMPLE,
         }
     }
 
@@ -164,8 +220,14 @@ impl Topic {
                 "ppdb: the words are: ppdb breaks FILE DOCUMENT LINE, a name and a decimal number; more: ppdb help breaks",
             Topic::Rebuild =>
                 "ppdb: the words are: ppdb rebuild IN OUT [--keep-id] [--free GUID]..; more: ppdb help rebuild",
+            Topic::Remap =>
+                "ppdb: the words are: ppdb remap IN MAP OUT [--keep-id] [--free GUID]..; more: ppdb help remap",
+            Topic::Merge =>
+                "ppdb: the words are: ppdb merge OUT IN MAP [IN MAP].. [--keep-id] [--free GUID]..; more: ppdb help merge",
             Topic::Compose =>
                 "ppdb: the words are: ppdb compose FIRST SECOND OUT; more: ppdb help compose",
+            Topic::Sample =>
+                "ppdb: the words are: ppdb sample N, a decimal number to 100000; more: ppdb help sample",
         }
     }
 }
