@@ -96,9 +96,9 @@ told_line words content = record { word = words; fields = said (codes " ") conte
 abbrev pub sample_text : ℕ → SampleReport → List ℕ
 sample_text n report =
     text_of (told_line (codes "sample") (number n))
-    ++ text_of (told_line (codes "bytes") (number report.bytes))
-    ++ text_of (told_line (codes "remapped bytes") (number report.remapped_bytes))
-    ++ text_of (told_line (codes "remapped id") (octets report.remapped_id))
+    ++ (text_of (told_line (codes "bytes") (number report.bytes))
+    ++ (text_of (told_line (codes "remapped bytes") (number report.remapped_bytes))
+    ++ text_of (told_line (codes "remapped id") (octets report.remapped_id))))
 
 -- ---- questions about a file
 
