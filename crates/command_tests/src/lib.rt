@@ -24,6 +24,8 @@ mod rules;
 #[cfg(test)]
 mod running;
 #[cfg(test)]
+mod sample;
+#[cfg(test)]
 mod show;
 #[cfg(test)]
 mod words;

@@ -97,8 +97,7 @@ abbrev pub sample_text : ℕ → SampleReport → List ℕ
 sample_text n report =
     text_of (told_line (codes "sample") (number n))
     ++ (text_of (told_line (codes "bytes") (number report.bytes))
-    ++ (text_of (told_line (codes "remapped bytes") (number report.remapped_bytes))
-    ++ text_of (told_line (codes "remapped id") (octets report.remapped_id))))
+    ++ (text_of (told_line (codes "remapped bytes") (number report.remapped_bytes)) ++ text_of (told_line (codes "remapped id") (octets report.remapped_id))))
 
 -- ---- questions about a file
 

@@ -4,8 +4,6 @@
 mod laws;
 mod remapped;
 mod report;
-#[cfg(test)]
-mod tests;
 
 pub use laws::fitting_maps_do_not_clash;
 pub use ppdb_build::BuildError;
