@@ -132,7 +132,7 @@ const JOINED: [(&str, u8, &str); 9] = [
         0,
         "point 3 1 hidden signature 0 name /a/b\nscope 0 9\nvariable 0 0 x\nscope 2 5\nvariable 1 0 y\n",
     ),
-    ("merge O T3 n V w", 0, ""),
+    ("merge O Three n V w", 0, ""),
     (
         "show O",
         0,

@@ -111,7 +111,7 @@ const FILES: [(&str, Parts<'static>); 8] = [
     ),
     // Documents c and b, and a scope of the first of three methods.
     (
-        "T3",
+        "Three",
         Parts {
             referenced_rows: b"\x03\0\0\0",
             valid: 1 << 0x30 | 1 << 0x32,

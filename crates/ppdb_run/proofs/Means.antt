@@ -1,6 +1,7 @@
 -- What is known of the meaning of a debug file that is written.
-use Rattle.std.proofs.Common.{ℕ, suc, ◌≡◌, ◌≢◌, ◌+◌, ◌≤◌, ◌⊎◌, inl, inr, List, [], ◌∷◌, Bool, true, false, Option, Some, None, map, length, refl, sym, ◌∙◌, ap, subst, arith}
-use Rattle.std.specs.Prelude.{Result, Ok, Err, IfOk, IfSome, OnOk, find, nat_lt, option_map, if◌then◌else◌}
+use Rattle.std.proofs.Common.{ℕ, suc, ◌≡◌, ◌≢◌, ◌+◌, ◌≤◌, inl, inr, List, [], ◌∷◌, Bool, true, false, Option, Some, None, map, length, refl, sym}
+use Rattle.std.proofs.Common.{◌∙◌, ap, subst, arith}
+use Rattle.std.specs.Prelude.{Result, Ok, Err, IfOk, IfSome, find, nat_lt, option_map, if◌then◌else◌}
 use Rattle.std.specs.List.{enumerate_from}
 use Rattle.std.proofs.lemmas.Bool.{both_ways, cases_lt, lt-ltb}
 use Rattle.std.specs.FinMap.{get}
@@ -33,7 +34,8 @@ use Rattle.written_meanings.specs.Laws.{RebuiltFilesKeepThemselves, SaysButForId
 use Rattle.ppdb_run.specs.declared.stop.Stop.{Stop}
 use Rattle.ppdb_run.specs.Ends.{OnAsked, OnTask, RebuildsToItself, RebuildsWhereKnown, WritesAgain}
 use Rattle.ppdb_run.specs.Means.{AreInputsOf, AreReadAs, ExactlyMeans, WritesExactly, WritesMeaning}
-use Rattle.ppdb_run.specs.Outcome.{Outcome, all_joined, file_at, fitting, input_of, is_unknown, map_at, steps_of, unknown_kind, verified, with_input, with_inputs}
+use Rattle.ppdb_run.specs.Outcome.{Outcome, all_joined, file_at, fitting, input_of, is_unknown, map_at, steps_of, unknown_kind, verified, with_input}
+use Rattle.ppdb_run.specs.Outcome.{with_inputs}
 use Rattle.ppdb_run.specs.Outcome.{written}
 use Rattle.ppdb_run.specs.Words.{Input, Options, Task, Rebuild, Merge, Words}
 use Rattle.ppdb_run.proofs.MapSteps.{one_map}

@@ -1,6 +1,6 @@
 -- What is known of inputs that are joined and written.
-use Rattle.std.proofs.Common.{ℕ, ◌≡◌, ◌⊎◌, inl, inr, List, [], refl, sym, ◌∙◌, ap, subst}
-use Rattle.std.specs.Prelude.{Option, Some, None, option_map, Result, Ok, Err, IfSome}
+use Rattle.std.proofs.Common.{ℕ, ◌≡◌, ◌⊎◌, inl, inr, List, [], sym, ◌∙◌, ap}
+use Rattle.std.specs.Prelude.{Option, Some, None, Result, Ok, Err, IfSome}
 use Rattle.ppdb_base.specs.Files.{Files}
 use Rattle.ppdb_base.specs.First.{IsAccepted}
 use Rattle.ppdb_base.specs.declared.merge_error.MergeError.{MergeError}
@@ -10,7 +10,6 @@ use Rattle.ppdb_merge.specs.declared.trace.Trace.{Trace}
 use Rattle.ppdb_merge.specs.Together.{joined_of}
 use Rattle.ppdb_values.specs.declared.file.FileValue.{FileValue}
 use Rattle.ppdb_values.specs.RawFile.{RawFile}
-use Rattle.ppdb_values.specs.Value.{value_of}
 use Rattle.ppdb_verify.specs.Files.{BadFile, IsRawOf}
 use Rattle.written_files.specs.Written.{Says, IsSameAgain}
 use Rattle.ppdb_run.specs.declared.stop.Stop.{Stop}

@@ -66,7 +66,8 @@ one_input files marks traces input =
     (λ bytes. one_then (file_at files input.map_file) (with_texts marks traces input bytes)
     (one_given (input_of input.map_file (reading files input.map_file MAX_FILE_BYTES))) (one_texts marks traces input bytes))
 
-one_inputs : (files : Files) (marks : List (List ℕ)) (traces : List Trace) (inputs : List Input) → GivesOne (λ x y. x ≡ y) (with_inputs files marks traces inputs)
+one_inputs : (files : Files) (marks : List (List ℕ)) (traces : List Trace) (inputs : List Input) → GivesOne (λ x y. x ≡ y)
+    (with_inputs files marks traces inputs)
 one_inputs files marks traces [] = one_given (Ok traces)
 one_inputs files marks traces (input ∷ inputs) =
     one_then (with_input files marks traces input) (λ more. with_inputs files marks more inputs) (one_input files marks traces input)

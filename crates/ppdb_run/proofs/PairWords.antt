@@ -1,5 +1,6 @@
 -- Words that name files and maps, two by two, and options behind them.
-use Rattle.std.proofs.Common.{ℕ, zero, suc, ◌≡◌, ◌≤◌, ◌<◌, ◌+◌, ◌-◌, ◌⊎◌, List, [], ◌∷◌, ◌++◌, length, take, drop, get_or, String, string_bytes, inl, inr, Bool, true, false, refl, sym, ◌∙◌, ap, subst, arith}
+use Rattle.std.proofs.Common.{ℕ, zero, suc, ◌≡◌, ◌≤◌, ◌<◌, ◌+◌, ◌-◌, ◌⊎◌, List, [], ◌∷◌, ◌++◌, length, take, drop, get_or, String, string_bytes, inl}
+use Rattle.std.proofs.Common.{inr, Bool, true, false, refl, sym, ◌∙◌, ap, subst, arith}
 use Rattle.std.specs.Prelude.{◌&&◌, ◌==◌, IsTrue, OnErr, Result, Ok, Err, codes}
 use Rattle.std.specs.declared.alloc.Global.{Global}
 use Rattle.std.proofs.lemmas.Bool.{eqb-true}
@@ -139,7 +140,8 @@ merge_is inputs output first options words front back e even files none h =
     (same, one.0, one.1)
 
 -- words that begin as those of a merge are no other task's
-pub only_merge : (words : List (List ℕ)) → ((inputs : List Input) (output : List ℕ) (options : Options) → IsMerge inputs output options (codes "merge" ∷ words) → ⊥)
+pub only_merge : (words : List (List ℕ)) → ((inputs : List Input) (output : List ℕ) (options : Options) → IsMerge inputs output options
+    (codes "merge" ∷ words) → ⊥)
     → NoTask (codes "merge" ∷ words)
 only_merge words none (Ask Id file) h = let e : 109 ≡ 105 = ap first_letter h.0 in absurd (omega (arith, e))
 only_merge words none (Ask Verify file) h = let e : 109 ≡ 118 = ap first_letter h.0 in absurd (omega (arith, e))
@@ -198,7 +200,8 @@ module _ (args : List (List ℕ)) (first : List ℕ) (words front back : List (L
         options_are = options_are;
       })
 
-pub only_remap : (words : List (List ℕ)) → ((inputs : List Input) (output : List ℕ) (options : Options) → IsRemap inputs output options (codes "remap" ∷ words) → ⊥)
+pub only_remap : (words : List (List ℕ)) → ((inputs : List Input) (output : List ℕ) (options : Options) → IsRemap inputs output options
+    (codes "remap" ∷ words) → ⊥)
     → NoTask (codes "remap" ∷ words)
 only_remap words none (Ask Id file) h = let e : 114 ≡ 105 = ap first_letter h.0 in absurd (omega (arith, e))
 only_remap words none (Ask Verify file) h = let e : 114 ≡ 118 = ap first_letter h.0 in absurd (omega (arith, e))

@@ -5,7 +5,7 @@ use Rattle.ppdb_base.specs.Files.{Files}
 use Rattle.ppdb_base.specs.declared.limits.Limit.{Limit}
 use Rattle.sampled_files.specs.Sampled.{limit_of_sample}
 use Rattle.ppdb_run.specs.declared.stop.Stop.{Stop}
-use Rattle.ppdb_run.specs.Ends.{Asks, AreSeen, IsValid, OnAsked, OnDue, OnOutcome, WritesAgain, WritesValid}
+use Rattle.ppdb_run.specs.Ends.{Asks, IsValid, OnAsked, OnDue, OnOutcome, WritesAgain, WritesValid}
 use Rattle.ppdb_run.specs.Outcome.{Outcome, IsOutcome, done, limited, outcome_of, sampled, unless}
 use Rattle.ppdb_run.specs.Stops.{cause_of, refusal_of, Finds, FindsOutcome, Leaves, Settles}
 use Rattle.ppdb_run.specs.Words.{Task, Sample, Words}

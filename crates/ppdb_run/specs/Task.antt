@@ -13,7 +13,8 @@ use Rattle.ppdb_run.specs.declared.words.Asked.{Asked as Wanted}
 use Rattle.ppdb_run.specs.declared.words.Asked.TheVariants as wanted
 use Rattle.ppdb_run.specs.declared.words.Command.{Command}
 use Rattle.ppdb_run.specs.declared.words.Command.TheVariants as commands
-use Rattle.ppdb_run.specs.Words.{Question, Id, Verify, Show, Query, Links, Breaks, Options, Input, Task, Ask, Rebuild, Compose, Merge, Sample, is_file_word, texts}
+use Rattle.ppdb_run.specs.Words.{Question, Id, Verify, Show, Query, Links, Breaks, Options, Input, Task, Ask, Rebuild, Compose, Merge, Sample}
+use Rattle.ppdb_run.specs.Words.{is_file_word, texts}
 
 abbrev pub question_of : Asked → Question
 question_of asked.Id = Id

@@ -36,7 +36,8 @@ pub fn merged<'a, F: Folder, K: Ledger, L: Ledger>(
     ensures later { F.read_faults folder.old ≤ F.read_faults folder.new }
     ensures causes { (output : List ℕ) (keep_id : Bool) → IfErr result (λ stop. ComesFrom (cause_of stop)
         ⊥
-        (IsUnreadOf (Merge (inputs_of inputs.entry) output (record { keep_id = keep_id; marks = marks })) (F.files folder.old) (F.reads folder.old) (F.reads folder.new))
+        (IsUnreadOf (Merge (inputs_of inputs.entry) output (record { keep_id = keep_id; marks = marks })) (F.files folder.old) (F.reads folder.old)
+        (F.reads folder.new))
         no_file
         (F.files folder.old)
         (Rose (F.read_faults folder.old) (F.read_faults folder.new))

@@ -152,9 +152,12 @@ not_lost m ready method x kept =
 -- a record that is read as one of a method is one
 on_method : (value : FileValue) (kind : Kind) (table : ℕ) (body : CustomBody) → StandsOn kind table → IsBodyOfKind value kind body → nat_lt table 0x2d ≡ false
     → (m : Map) (method : ℕ) → (AreWithin (old_size (offsets_in m method)) body) × KeepsAsync m method body
-on_method value kinds.Async table body stands sound past m method = let e : nat_lt 0x06 0x2d ≡ false = subst (λ t. nat_lt t 0x2d ≡ false) stands past in absurd cc
-on_method value kinds.Hoisted table body stands sound past m method = let e : nat_lt 0x06 0x2d ≡ false = subst (λ t. nat_lt t 0x2d ≡ false) stands past in absurd cc
-on_method value kinds.TypeDocuments table body stands sound past m method = let e : nat_lt 0x02 0x2d ≡ false = subst (λ t. nat_lt t 0x2d ≡ false) stands past in absurd cc
+on_method value kinds.Async table body stands sound past m method = let e : nat_lt 0x06 0x2d ≡ false = subst (λ t. nat_lt t 0x2d ≡ false) stands past
+    in absurd cc
+on_method value kinds.Hoisted table body stands sound past m method = let e : nat_lt 0x06 0x2d ≡ false = subst (λ t. nat_lt t 0x2d ≡ false) stands past
+    in absurd cc
+on_method value kinds.TypeDocuments table body stands sound past m method = let e : nat_lt 0x02 0x2d ≡ false = subst (λ t. nat_lt t 0x2d ≡ false)
+    stands past in absurd cc
 on_method value kinds.Free table (Unread bytes) stands sound past m method = (tt, tt)
 on_method value kinds.Free table (Async handler steps) stands sound past m method = absurd sound
 on_method value kinds.Free table (Hoisted slots) stands sound past m method = absurd sound

@@ -1,5 +1,6 @@
 -- Where a map fits a file, nothing is told of images of rows and slots.
-use Rattle.std.proofs.Common.{◌≡◌, ℕ, ◌+◌, ◌&&◌, ◌||◌, ◌++◌, Bool, true, false, cond, List, [], ◌∷◌, Option, Some, None, map, flat_map, refl, sym, ◌∙◌, ap, subst}
+use Rattle.std.proofs.Common.{◌≡◌, ℕ, ◌+◌, ◌&&◌, ◌||◌, ◌++◌, Bool, true, false, cond, List, [], ◌∷◌, Option, Some, None, map, flat_map, refl, sym}
+use Rattle.std.proofs.Common.{◌∙◌, ap, subst}
 use Rattle.std.specs.Prelude.{nat_eq, is_some, not}
 use Rattle.std.specs.List.{dedup, dedup_from, filter_map, enumerate_from}
 use Rattle.std.specs.Option.{option_map}
@@ -188,7 +189,8 @@ module _ (m : Map) (value : FileValue) where
   abbrev Has : MethodSlot → Type 0
   Has x = is_dropped m x.method ≡ false → (image : ℕ) × (slot_image m x.method x.slot ≡ Some image)
 
-  all_have : Each (λ (s : NotedScope). live_scope m s ≡ true → Each (HasSlot m s.method) s.variables) (noted_file value).scopes → Each Has (variable_slots value)
+  all_have : Each (λ (s : NotedScope). live_scope m s ≡ true → Each (HasSlot m s.method) s.variables) (noted_file value).scopes → Each Has
+      (variable_slots value)
   all_have each =
       by_scope Has
       (Each-weaker (λ (s : NotedScope). live_scope m s ≡ true → Each (HasSlot m s.method) s.variables)

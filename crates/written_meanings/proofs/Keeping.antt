@@ -62,7 +62,8 @@ keeps_inputs inputs value file meaning origins says = record {
 pub joined_keep : AddedInputsFit → InputsKeepMeaning → InputsKeepOrigins → JoinedFilesKeepInputs
 joined_keep law meaning origins marks inputs value file are says =
     let fit = law marks inputs are.traces are.few are.valid are.added in
-    let same : joined_inputs (map moved_by inputs) ≡ value = sym (ap (λ files. value_of_noted (joined files)) fit.moved) ∙ value_is are.traces value are.joined in
+    let same : joined_inputs (map moved_by inputs) ≡ value = sym (ap (λ files. value_of_noted (joined files)) fit.moved) ∙ value_is are.traces value
+    are.joined in
     keeps_inputs (map moved_by inputs) value file
     (subst (KeepsMeaning (map moved_by inputs)) same (meaning (map moved_by inputs) fit.fit))
     (subst (KeepsOrigins (map moved_by inputs)) same (origins (map moved_by inputs) fit.fit)) says

@@ -63,7 +63,8 @@ turns_more : (inputs : List ReadInput) (input : ReadInput) → turns (inputs ++ 
 turns_more [] input = refl
 turns_more (first ∷ others) input =
     ap (λ l. (true, first) ∷ l) (map_next (λ i. (false, i)) others input)
-    ∙ ap (λ b. (true, first) ∷ (map (λ i. (false, i)) others ++ (b, input) ∷ [])) (sym (is_later (trace_by (true, first)) (map trace_by (map (λ i. (false, i)) others))))
+    ∙ ap (λ b. (true, first) ∷ (map (λ i. (false, i)) others ++ (b, input) ∷ []))
+    (sym (is_later (trace_by (true, first)) (map trace_by (map (λ i. (false, i)) others))))
 
 traces_more : (inputs : List ReadInput) (input : ReadInput)
     → traces_of (inputs ++ input ∷ []) ≡ traces_of inputs ++ trace_of (is_first (traces_of inputs)) input.map input.raw ∷ []

@@ -194,7 +194,8 @@ pub returns-in-Merge-clause-found : goal.returns-in-Merge-clause-found
 returns-in-Merge-clause-found g c =
     let words = subst (λ task. Words task (texts c.args.words.now)) (sym c.in-Merge.ensures) c.in-Ok.ensures.command in
     of_told (λ asked all. Finds c.merge.result (IsOutcome asked all)) (texts c.args.words.now)
-    (Merge (inputs_of c.in-Merge.inputs) c.in-Merge.output.now (options_of c.in-Merge.options)) (g.F.Folder.files c.args.folder.now) c.merge.ensures.found words (λ a. a)
+    (Merge (inputs_of c.in-Merge.inputs) c.in-Merge.output.now (options_of c.in-Merge.options)) (g.F.Folder.files c.args.folder.now)
+    c.merge.ensures.found words (λ a. a)
 
 pub returns-in-Merge-clause-told : goal.returns-in-Merge-clause-told
 returns-in-Merge-clause-told g c =
@@ -240,13 +241,15 @@ returns-in-Merge-clause-causes g c =
     let words = subst (λ task. Words task (texts c.args.words.now)) (sym c.in-Merge.ensures) c.in-Ok.ensures.command in
     widened_stop c.merge.result (λ m. absurd m)
     (λ name r. record { task = (Merge (inputs_of c.in-Merge.inputs) c.in-Merge.output.now (options_of c.in-Merge.options)); asked = words; unread = r })
-    (λ name w. is_output (texts c.args.words.now) (Merge (inputs_of c.in-Merge.inputs) c.in-Merge.output.now (options_of c.in-Merge.options)) c.in-Merge.output.now name refl words w)
+    (λ name w. is_output (texts c.args.words.now) (Merge (inputs_of c.in-Merge.inputs) c.in-Merge.output.now (options_of c.in-Merge.options))
+    c.in-Merge.output.now name refl words w)
     (λ e. e) (λ a. a) (λ b. b) (λ p. absurd p) c.merge.ensures.causes
 
 pub returns-in-Merge-clause-read_only : goal.returns-in-Merge-clause-read_only
 returns-in-Merge-clause-read_only g c =
     let words = subst (λ task. Words task (texts c.args.words.now)) (sym c.in-Merge.ensures) c.in-Ok.ensures.command in
-    writes_file (texts c.args.words.now) (Merge (inputs_of c.in-Merge.inputs) c.in-Merge.output.now (options_of c.in-Merge.options)) c.in-Merge.output.now _ _ refl words
+    writes_file (texts c.args.words.now) (Merge (inputs_of c.in-Merge.inputs) c.in-Merge.output.now (options_of c.in-Merge.options))
+    c.in-Merge.output.now _ _ refl words
 
 pub merge-requires-clause-some : goal.merge-requires-clause-some
 merge-requires-clause-some g c =
@@ -271,7 +274,8 @@ returns-in-Sample-clause-told g c =
 pub returns-in-Sample-clause-text : goal.returns-in-Sample-clause-text
 returns-in-Sample-clause-text g c =
     let words = subst (λ task. Words task (texts c.args.words.now)) (sym c.in-Sample.ensures) c.in-Ok.ensures.command in
-    of_sampled (texts c.args.words.now) c.in-Sample.n words (g.F.Folder.files c.args.folder.now) (λ due. OnOk c.sample.result (g.O.Sink.written c.sample.new.out ≡ appended (g.O.Sink.written c.args.out.now) due.text)) c.sample.ensures.text
+    of_sampled (texts c.args.words.now) c.in-Sample.n words (g.F.Folder.files c.args.folder.now)
+    (λ due. OnOk c.sample.result (g.O.Sink.written c.sample.new.out ≡ appended (g.O.Sink.written c.args.out.now) due.text)) c.sample.ensures.text
 
 pub returns-in-Sample-clause-files : goal.returns-in-Sample-clause-files
 returns-in-Sample-clause-files g c =
@@ -302,7 +306,9 @@ returns-in-Sample-clause-causes g c =
 pub returns-in-Sample-clause-cut : goal.returns-in-Sample-clause-cut
 returns-in-Sample-clause-cut g c =
     let words = subst (λ task. Words task (texts c.args.words.now)) (sym c.in-Sample.ensures) c.in-Ok.ensures.command in
-    of_sampled (texts c.args.words.now) c.in-Sample.n words (g.F.Folder.files c.args.folder.now) (λ due. IfErr c.sample.result (λ stop. OnCut (cause_of stop) (AppendsFront (g.O.Sink.written c.args.out.now) (g.O.Sink.written c.sample.new.out) due.text)))
+    of_sampled (texts c.args.words.now) c.in-Sample.n words (g.F.Folder.files c.args.folder.now)
+    (λ due. IfErr c.sample.result (λ stop. OnCut (cause_of stop) (AppendsFront (g.O.Sink.written c.args.out.now) (g.O.Sink.written c.sample.new.out)
+    due.text)))
     c.sample.ensures.cut
 
 pub sample-requires : goal.sample-requires

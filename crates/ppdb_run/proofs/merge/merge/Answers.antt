@@ -12,17 +12,20 @@ use Rattle.ppdb_run.proofs.merge.merge.Goals as goal
 
 pub returns-in-Err-clause-found : goal.returns-in-Err-clause-found
 returns-in-Err-clause-found g c =
-    stop_found (Unit {0}) (Merge (inputs_of c.args.inputs) c.args.output.now (options_of c.args.options)) (g.F.Folder.files c.args.folder.now) (written c.args.output.now)
+    stop_found (Unit {0}) (Merge (inputs_of c.args.inputs) c.args.output.now (options_of c.args.options)) (g.F.Folder.files c.args.folder.now)
+    (written c.args.output.now)
     c.in-Err.stop (c.in-Err.ensures.told c.args.output.now)
 
 pub returns-in-Err-clause-told : goal.returns-in-Err-clause-told
 returns-in-Err-clause-told g c =
-    stop_settles (Unit {0}) (Merge (inputs_of c.args.inputs) c.args.output.now (options_of c.args.options)) (g.F.Folder.files c.args.folder.now) (written c.args.output.now)
+    stop_settles (Unit {0}) (Merge (inputs_of c.args.inputs) c.args.output.now (options_of c.args.options)) (g.F.Folder.files c.args.folder.now)
+    (written c.args.output.now)
     c.in-Err.stop (c.in-Err.ensures.told c.args.output.now)
 
 pub returns-in-Err-clause-files : goal.returns-in-Err-clause-files
 returns-in-Err-clause-files g c =
-    nothing_written (Merge (inputs_of c.args.inputs) c.args.output.now (options_of c.args.options)) c.args.output.now (g.F.Folder.files c.args.folder.now) c.in-Err.stop _ _ c.in-Err.ensures.files
+    nothing_written (Merge (inputs_of c.args.inputs) c.args.output.now (options_of c.args.options)) c.args.output.now
+    (g.F.Folder.files c.args.folder.now) c.in-Err.stop _ _ c.in-Err.ensures.files
 
 pub returns-in-Err-clause-causes : goal.returns-in-Err-clause-causes
 returns-in-Err-clause-causes g c =
@@ -31,28 +34,33 @@ returns-in-Err-clause-causes g c =
 
 pub returns-clause-found : goal.returns-clause-found
 returns-clause-found g c =
-    written_found (Merge (inputs_of c.args.inputs) c.args.output.now (options_of c.args.options)) c.args.output.now (g.F.Folder.files c.args.folder.now) c.write_output.result _
+    written_found (Merge (inputs_of c.args.inputs) c.args.output.now (options_of c.args.options)) c.args.output.now
+    (g.F.Folder.files c.args.folder.now) c.write_output.result _
     c.write_output.ensures.no_refusal (c.in-Ok.ensures.told c.args.output.now)
 
 pub returns-clause-told : goal.returns-clause-told
 returns-clause-told g c =
-    written_settles (Merge (inputs_of c.args.inputs) c.args.output.now (options_of c.args.options)) c.args.output.now (g.F.Folder.files c.args.folder.now) c.write_output.result _
+    written_settles (Merge (inputs_of c.args.inputs) c.args.output.now (options_of c.args.options)) c.args.output.now
+    (g.F.Folder.files c.args.folder.now) c.write_output.result _
     c.write_output.ensures.no_refusal (c.in-Ok.ensures.told c.args.output.now)
 
 pub returns-clause-silent : goal.returns-clause-silent
 returns-clause-silent g c =
-    written_silent (Merge (inputs_of c.args.inputs) c.args.output.now (options_of c.args.options)) c.args.output.now (g.F.Folder.files c.args.folder.now) c.write_output.result _
+    written_silent (Merge (inputs_of c.args.inputs) c.args.output.now (options_of c.args.options)) c.args.output.now
+    (g.F.Folder.files c.args.folder.now) c.write_output.result _
     c.write_output.ensures.no_refusal (c.in-Ok.ensures.told c.args.output.now)
 
 pub returns-clause-files : goal.returns-clause-files
 returns-clause-files g c =
-    written_leaves (Merge (inputs_of c.args.inputs) c.args.output.now (options_of c.args.options)) c.args.output.now (g.F.Folder.files c.args.folder.now) c.write_output.result _
+    written_leaves (Merge (inputs_of c.args.inputs) c.args.output.now (options_of c.args.options)) c.args.output.now
+    (g.F.Folder.files c.args.folder.now) c.write_output.result _
     c.write_output.ensures.no_refusal (c.in-Ok.ensures.told c.args.output.now) _ _ _ c.in-Ok.ensures.files
     (rw c.as_slice.ensures at c.write_output.ensures.files)
 
 pub returns-clause-accepted : goal.returns-clause-accepted
 returns-clause-accepted g c =
-    written_valid (Merge (inputs_of c.args.inputs) c.args.output.now (options_of c.args.options)) c.args.output.now (g.F.Folder.files c.args.folder.now) c.write_output.result _
+    written_valid (Merge (inputs_of c.args.inputs) c.args.output.now (options_of c.args.options)) c.args.output.now
+    (g.F.Folder.files c.args.folder.now) c.write_output.result _
     c.write_output.ensures.no_refusal (c.in-Ok.ensures.told c.args.output.now) c.in-Ok.ensures.accepted
 
 pub returns-clause-causes : goal.returns-clause-causes

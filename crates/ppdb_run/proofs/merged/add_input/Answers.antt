@@ -4,7 +4,8 @@ use Rattle.ppdb_run.proofs.merged.add_input.Goals as goal
 
 pub returns-in-Err-read_input-clause-told : goal.returns-in-Err-read_input-clause-told
 returns-in-Err-read_input-clause-told g c =
-    map_told (g.F.Folder.files c.args.folder.now) c.args.merger.now.marks c.args.merger.now.traces c.args.merger.now.traces (input_of c.args.input) c.in-Ok.bytes
+    map_told (g.F.Folder.files c.args.folder.now) c.args.merger.now.marks c.args.merger.now.traces c.args.merger.now.traces (input_of c.args.input)
+    c.in-Ok.bytes
     c.in-Ok.ensures.told c.in-Err-read_input.stop (rw c.in-Ok.ensures.files at c.in-Err-read_input.ensures.told)
 
 pub returns-clause-told : goal.returns-clause-told

@@ -1,4 +1,4 @@
-use Rattle.std.proofs.Common.{◌∙◌, ℕ, List, drop, refl, subst, arith}
+use Rattle.std.proofs.Common.{◌∙◌, List, drop, refl, subst, arith}
 use Rattle.ppdb_merge.specs.declared.trace.Trace.{Trace}
 use Rattle.ppdb_run.specs.Ends.{IsInputUnread}
 use Rattle.ppdb_run.specs.Stops.{cause_of}
