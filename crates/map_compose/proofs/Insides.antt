@@ -1,5 +1,5 @@
 -- Runs that lie inside the images of one run, and what is counted of them.
-use Rattle.std.proofs.Common.{ℕ, zero, suc, ◌≡◌, ◌+◌, ◌-◌, ◌<◌, ◌≤◌, ◌++◌, ◌&&◌, Bool, true, false, cond, List, [], ◌∷◌, length, take, drop, map, refl, sym, ap}
+use Rattle.std.proofs.Common.{ℕ, zero, suc, ◌≡◌, ◌+◌, ◌-◌, ◌^◌, ◌<◌, ◌≤◌, ◌++◌, ◌&&◌, Bool, true, false, cond, List, [], ◌∷◌, length, take, drop, map, refl, sym, ap}
 use Rattle.std.proofs.Common.{◌∙◌, arith, subst, Option, Some, None, min, max, slice_index_or}
 use Rattle.std.specs.Prelude.{nat_eq, nat_lt, option_to_list}
 use Rattle.std.specs.List.{filter_map, cons_option, AllByRecursion}
@@ -80,6 +80,15 @@ inside_small run (other ∷ others) short all =
     let begins = all.0.begins in
     let ends = all.0.ends in
     (omega (arith, short.1, begins, ends), inside_small run others short all.1)
+
+pub inside_ends : (run : Run) (others : List Run) (k : ℕ) (d q : Run) → IsShort run → AllByRecursion (Inside run) others → k < length others
+    → q ≡ taken_on run (slice_index_or others k d) → end_of q < 2 ^ 32
+inside_ends run others k d q short all within is =
+    let inside = each_at (Inside run) others k d all within in
+    let begins = inside.begins in
+    let ends = inside.ends in
+    let same = ap end_of is in
+    omega (arith, begins, ends, same, short.1)
 
 olds_from : (a b : ℕ) (rs : List Run) (j : ℕ) (d : Run) → RiseFrom a b rs → j < length rs → a ≤ (slice_index_or rs j d).old
 olds_from a b [] j d rise inside = absurd (omega (arith, inside))

@@ -70,19 +70,21 @@ sums_more sum [] run = ap (λ k. k ∷ []) (let e : sum ≡ sum + 0 = omega arit
 sums_more sum (r ∷ runs) run = ap (λ l. sum ∷ l) (sums_more (sum + weight r) runs run
     ∙ ap (λ k. sums_from (sum + weight r) runs ++ k ∷ []) (let e : sum + weight r + new_digits runs ≡ sum + (weight r + new_digits runs) = omega arith in e))
 
-pub sums_next : (runs : List Run) (i : ℕ) (d : Run) (old new : List ℕ) (sum : ℕ) → i < length runs → old ≡ sums_from 0 (take i runs)
+pub sums_next : (runs : List Run) (i : ℕ) (old new : List ℕ) (sum : ℕ) → i < length runs → old ≡ sums_from 0 (take i runs)
     → sum ≡ new_digits (take i runs) → new ≡ old ++ sum ∷ [] → new ≡ sums_from 0 (take (i + 1) runs)
-sums_next runs i d old new sum inside were is are =
+sums_next runs i old new sum inside were is are =
+    let d : Run = record { old = 0; new = 0; length = 0 } in
     are ∙ ap (λ l. l ++ sum ∷ []) were
     ∙ ap (λ k. sums_from 0 (take i runs) ++ k ∷ []) (let e : sum ≡ 0 + new_digits (take i runs) = omega (arith, is) in e)
     ∙ sym (ap (sums_from 0) (take_at runs i d inside) ∙ sums_more 0 (take i runs) (slice_index_or runs i d))
 
-pub digits_next : (runs : List Run) (i : ℕ) (d : Run) (sum : ℕ) → i < length runs → sum ≡ new_digits (take i runs)
-    → sum + weight (slice_index_or runs i d) ≡ new_digits (take (i + 1) runs)
-digits_next runs i d sum inside is =
+pub digits_next : (runs : List Run) (i : ℕ) (d : Run) (sum a b : ℕ) → i < length runs → sum ≡ new_digits (take i runs)
+    → a ≡ length (decimal (slice_index_or runs i d).new) → b ≡ length (decimal (slice_index_or runs i d).length)
+    → sum + (a + b) ≡ new_digits (take (i + 1) runs)
+digits_next runs i d sum a b inside is one two =
     let more = ap new_digits (take_at runs i d inside) in
     let join = digits_join (take i runs) (slice_index_or runs i d ∷ []) in
-    omega (arith, is, more, join)
+    omega (arith, is, more, join, one, two)
 
 -- the digits between two places
 digits_none : (n : ℕ) → new_digits (take n []) ≡ 0
@@ -105,6 +107,30 @@ pub digits_between : (runs : List Run) (from to : ℕ) → from ≤ to
     → new_digits (take to runs) ≡ new_digits (take from runs) + new_digits (take (to - from) (drop from runs))
 digits_between runs from to le =
     ap (λ n. new_digits (take n runs)) (let e : to ≡ from + (to - from) = omega (arith, le) in e) ∙ digits_more runs from (to - from)
+
+-- by the sums
+pub sums_ordered : (sums : List ℕ) (runs : List Run) (from to d e : ℕ) → AreSums sums runs → from ≤ to → to < length runs
+    → slice_index_or sums from d ≤ slice_index_or sums to e
+sums_ordered sums runs from to d e are le inside =
+    let first = sum_at sums runs from d are (omega (arith, le, inside)) in
+    let last = sum_at sums runs to e are inside in
+    let between = digits_between runs from to le in
+    omega (arith, first, last, between)
+
+pub sums_between : (sums : List ℕ) (runs : List Run) (from to d e : ℕ) → AreSums sums runs → from ≤ to → to < length runs
+    → slice_index_or sums to e - slice_index_or sums from d ≡ new_digits (take (to - from) (drop from runs))
+sums_between sums runs from to d e are le inside =
+    let first = sum_at sums runs from d are (omega (arith, le, inside)) in
+    let last = sum_at sums runs to e are inside in
+    let between = digits_between runs from to le in
+    omega (arith, first, last, between)
+
+pub sums_before : (sums : List ℕ) (runs : List Run) (to d e : ℕ) → AreSums sums runs → to < length runs
+    → slice_index_or sums to e - slice_index_or sums 0 d ≡ new_digits (take to runs)
+sums_before sums runs to d e are inside =
+    let first = sum_at sums runs 0 d are (omega (arith, inside)) in
+    let last = sum_at sums runs to e are inside in
+    omega (arith, first, last)
 
 -- ---- the length of lines
 

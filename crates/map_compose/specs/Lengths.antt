@@ -1,5 +1,5 @@
 -- How long the lines of many runs are, told by a few numbers.
-use Rattle.std.specs.Prelude.{◌≡◌, ℕ, ◌+◌, ◌-◌, ◌<◌, ◌≤◌, cond, nat_lt, List, [], ◌∷◌, Option, Some, None, map, length}
+use Rattle.std.specs.Prelude.{◌≡◌, ℕ, ◌+◌, ◌-◌, ◌<◌, ◌≤◌, cond, nat_lt, List, [], ◌∷◌, Option, Some, None, map, length, slice_index_or}
 use Rattle.std.specs.Fmt.{decimal}
 use Rattle.ppdb_base.specs.declared.offsets.Run.{Run}
 use Rattle.ppdb_base.specs.Offsets.{end_of, new_end_of}
@@ -17,6 +17,12 @@ pub record IsPast (text : Counted) : Type 0 where
 pub record Inside (run other : Run) : Type 0 where
   pub begins : run.new ≤ other.old
   pub ends : end_of other ≤ new_end_of run
+
+-- so many of the runs end by an offset, and those after them do not
+pub record EndBy (runs : List Run) (offset many : ℕ) : Type 0 where
+  pub bound : many ≤ length runs
+  pub ended : (k : ℕ) (d : Run) → k < many → k < length runs → end_of (slice_index_or runs k d) ≤ offset
+  pub after : (k : ℕ) (d : Run) → many ≤ k → k < length runs → offset < end_of (slice_index_or runs k d)
 
 -- the first of them ends after an offset
 abbrev pub EndsAfter : ℕ → List Run → Type 0

@@ -8,7 +8,7 @@ ghost use Rattle.map_compose.specs.Says.{PutsLines};
 ghost use Rattle.map_compose.specs.Runs.{longest, met, meet};
 ghost use Rattle.map_compose.specs.Joining.{IsShort, AreRuns, Joins, runs_of, lent, runs_after};
 ghost use Rattle.map_compose.specs.Laws.{Apart};
-ghost use Rattle.map_compose.specs.Lengths.{AreSums, SumsOf, EndsAfter};
+ghost use Rattle.map_compose.specs.Lengths.{AreSums, SumsOf, EndBy, EndsAfter};
 
 use crate::blocks::{count_inside, count_plain};
 use crate::joined::run_at;
@@ -22,6 +22,14 @@ fn ends_by(run: &Run, offset: u32) -> bool
     ensures { IsTrue result ↔ (end_of run.now ≤ offset) }
 {
     run.old <= offset && run.length <= offset - run.old
+}
+
+/// How many of the runs end before or at the offset.
+fn count_ended(runs: &[Run], offset: u32) -> usize
+    requires { AreRuns runs.now }
+    ensures { EndBy runs.now offset result }
+{
+    runs.partition_point(|run| ends_by(run, offset))
 }
 
 /// The offsets that the first run gives and the second takes on.
@@ -101,7 +109,7 @@ fn put_wide(
         return put_front(run, others, held, text);
     }
     let end = run.new + run.length;
-    let inside = others.partition_point(|other| ends_by(other, end));
+    let inside = count_ended(others, end);
     if inside < 3 {
         return put_front(run, others, held, text);
     }
@@ -125,7 +133,7 @@ fn put_met(
     requires sums { SumsOf (option_copied sums) others.now }
     ensures { OnOk result (Joins held.old held.new text.old text.new (filter_map (meet run) others.now)) }
 {
-    let from = others.partition_point(|other| ends_by(other, run.new));
+    let from = count_ended(others, run.new);
     match sums {
         None => put_front(run, &others[from..], held, text),
         Some(sums) => put_wide(run, &others[from..], &sums[from..], held, text),

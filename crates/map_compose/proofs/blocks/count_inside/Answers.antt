@@ -1,9 +1,8 @@
-use Rattle.std.proofs.Common.{arith, sym, ap, subst, ◌∙◌, ◌≡◌, ◌≤◌, ◌<◌, ◌+◌, ◌-◌, length, take, drop}
-use Rattle.ppdb_base.specs.Offsets.{end_of}
-use Rattle.map_compose.specs.Lengths.{Inside, new_digits}
+use Rattle.std.proofs.Common.{arith, ◌-◌, length, drop}
+use Rattle.map_compose.specs.Lengths.{Inside}
 use Rattle.map_compose.proofs.Fronts.{all_drop}
-use Rattle.map_compose.proofs.Insides.{each_at, all_take, piece_runs, past_kept, counted_joins}
-use Rattle.map_compose.proofs.Sums.{same_long, sum_at, digits_between}
+use Rattle.map_compose.proofs.Insides.{each_at, inside_ends, all_take, piece_runs, past_kept, counted_joins}
+use Rattle.map_compose.proofs.Sums.{same_long, sums_ordered, sums_between}
 use Rattle.map_compose.proofs.blocks.count_inside.Goals as goal
 
 pub bounds-sums-last : goal.bounds-sums-last
@@ -21,10 +20,7 @@ bounds-sums-1 c =
 pub overflow_sub-digits : goal.overflow_sub-digits
 overflow_sub-digits c =
     let two = c.requires.two in
-    let last = sum_at c.args.sums.now c.args.others.now (length c.args.others.now - 1) _ c.requires.sums (omega (arith, two)) in
-    let one = sum_at c.args.sums.now c.args.others.now 1 _ c.requires.sums (omega (arith, two)) in
-    let between = digits_between c.args.others.now 1 (length c.args.others.now - 1) (omega (arith, two)) in
-    omega (arith, last, one, between)
+    sums_ordered c.args.sums.now c.args.others.now 1 (length c.args.others.now - 1) _ _ c.requires.sums (omega (arith, two)) (omega (arith, two))
 
 pub counted_runs-bytes-requires-clause-rise : goal.counted_runs-bytes-requires-clause-rise
 counted_runs-bytes-requires-clause-rise c = piece_runs c.args.others.now 1 _ c.requires.rise
@@ -36,10 +32,7 @@ counted_runs-bytes-requires-clause-inside c = all_take (Inside c.args.run) (drop
 pub counted_runs-bytes-requires-clause-digits : goal.counted_runs-bytes-requires-clause-digits
 counted_runs-bytes-requires-clause-digits c =
     let two = c.requires.two in
-    let last = sum_at c.args.sums.now c.args.others.now (length c.args.others.now - 1) _ c.requires.sums (omega (arith, two)) in
-    let one = sum_at c.args.sums.now c.args.others.now 1 _ c.requires.sums (omega (arith, two)) in
-    let between = digits_between c.args.others.now 1 (length c.args.others.now - 1) (omega (arith, two)) in
-    omega (arith, last, one, between)
+    sums_between c.args.sums.now c.args.others.now 1 (length c.args.others.now - 1) _ _ c.requires.sums (omega (arith, two)) (omega (arith, two))
 
 pub taken_on-first-requires-clause-inside : goal.taken_on-first-requires-clause-inside
 taken_on-first-requires-clause-inside c = let two = c.requires.two in each_at (Inside c.args.run) c.args.others.now 0 _ c.requires.inside (omega (arith, two))
@@ -47,11 +40,7 @@ taken_on-first-requires-clause-inside c = let two = c.requires.two in each_at (I
 pub put_joined-requires : goal.put_joined-requires
 put_joined-requires c =
     let two = c.requires.two in
-    let inside = each_at (Inside c.args.run) c.args.others.now 0 _ c.requires.inside (omega (arith, two)) in
-    let begins = inside.begins in
-    let ends = inside.ends in
-    let is = ap end_of c.taken_on-first.ensures in
-    omega (arith, begins, ends, is, c.requires.run.1)
+    inside_ends c.args.run c.args.others.now 0 _ c.taken_on-first.result c.requires.run c.requires.inside (omega (arith, two)) c.taken_on-first.ensures
 
 pub count_on-requires : goal.count_on-requires
 count_on-requires c = (past_kept _ _ _ (past_kept _ _ _ c.requires.past c.in_ok-put_joined.ensures.joins.puts) c.in_ok-put_held.ensures).long

@@ -20,11 +20,10 @@ runs-preserved c =
     let one = c.digits_of.ensures in
     let two = c.digits_of-in-runs.ensures in
     let sum = c.runs.invariant.few in
-    let next = digits_next c.args.runs.now c.runs.run-index _ c.runs.sum (omega arith) c.runs.invariant.sum in
     record {
-      sums = sums_next c.args.runs.now c.runs.run-index _ c.runs.sums.items _ c.runs.sum (omega arith) c.runs.invariant.sums c.runs.invariant.sum
+      sums = sums_next c.args.runs.now c.runs.run-index c.runs.sums.items _ c.runs.sum (omega arith) c.runs.invariant.sums c.runs.invariant.sum
           c.in_ok-push.ensures.items;
-      sum = omega (arith, one.digits, two.digits, next);
+      sum = digits_next c.args.runs.now c.runs.run-index _ c.runs.sum _ _ (omega arith) c.runs.invariant.sum one.digits two.digits;
       few = omega (arith, one.few, two.few, sum);
     }
 

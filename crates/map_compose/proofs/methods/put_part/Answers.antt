@@ -26,7 +26,7 @@ pub returns-clause-puts : goal.returns-clause-puts
 returns-clause-puts c = some_all _ _ _ _ (ap (flat_map (part_says c.args.part c.args.first.now c.args.second.now)) c.in_default.ensures) c.methods.invariant.puts
 
 pub sum_up-requires : goal.sum_up-requires
-sum_up-requires c = few_joined c.methods.joined c.args.second.now c.keeps.ensures c.methods.invariant.joined
+sum_up-requires c = record { few = few_joined c.methods.joined c.args.second.now c.keeps.ensures c.methods.invariant.joined }
 
 pub put_method-requires-clause-joined : goal.put_method-requires-clause-joined
 put_method-requires-clause-joined c = c.in_ok-sum_up.ensures c.args.second.now c.methods.invariant.joined

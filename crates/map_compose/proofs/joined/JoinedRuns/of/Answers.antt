@@ -51,5 +51,5 @@ pub returns : goal.returns
 returns c = record {
   runs = c.lines.invariant.runs ∙ ap (flat_map long) (lines_past c.args.map.now.methods c.lines.index (sym c.in_default.ensures));
   lines = c.lines.invariant.lines ∙ ap (places 0) (lines_past c.args.map.now.methods c.lines.index (sym c.in_default.ensures));
-  sums = inl c.new-sums.ensures;
+  sums = inl c.new-sums.ensures.items;
 }
