@@ -1,5 +1,5 @@
 -- How many digits numbers have, by the powers of ten that they reach.
-use Rattle.std.proofs.Common.{ℕ, zero, suc, ◌≡◌, ◌+◌, ◌-◌, ◌*◌, ◌/◌, ◌%◌, ◌^◌, ◌<◌, ◌≤◌, Bool, true, false, cond, List, [], ◌∷◌, length, refl, sym, ap, ◌∙◌, arith}
+use Rattle.std.proofs.Common.{ℕ, zero, suc, ◌≡◌, ◌+◌, ◌-◌, ◌*◌, ◌/◌, ◌%◌, ◌^◌, ◌<◌, ◌≤◌, Bool, true, false, cond, List, [], ◌∷◌, length, refl, ap, arith}
 use Rattle.std.proofs.Common.{min, length-append, slice_index_or}
 use Rattle.std.specs.Prelude.{nat_lt}
 use Rattle.std.specs.Fmt.{decimal}
@@ -8,7 +8,7 @@ use Rattle.std.proofs.Math.Nat.{le-div_iff_mul-le, one-le-pow, pow-suc}
 use Rattle.std.proofs.lemmas.Bool.{ltb-true, ltb-false}
 use Rattle.std.proofs.lemmas.Fmt.{decimal_step, decimal_nonempty, length-decimal-le}
 use Rattle.ppdb_base.specs.declared.offsets.Run.{Run}
-use Rattle.map_compose.specs.Lengths.{taken_on, old_digits, new_digits, not_less}
+use Rattle.map_compose.specs.Lengths.{taken_on, old_digits, not_less}
 
 -- a number that reaches a power of ten has a digit more
 reaches : (k x : ℕ) → 10 ^ k ≤ x → x < 2 ^ 32 → k < length (decimal x)

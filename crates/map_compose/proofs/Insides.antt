@@ -1,5 +1,6 @@
 -- Runs that lie inside the images of one run, and what is counted of them.
-use Rattle.std.proofs.Common.{ℕ, zero, suc, ◌≡◌, ◌+◌, ◌-◌, ◌^◌, ◌<◌, ◌≤◌, ◌++◌, ◌&&◌, Bool, true, false, cond, List, [], ◌∷◌, length, take, drop, map, refl, sym, ap}
+use Rattle.std.proofs.Common.{ℕ, zero, suc, ◌≡◌, ◌+◌, ◌-◌, ◌^◌, ◌<◌, ◌≤◌, ◌++◌, ◌&&◌, Bool}
+use Rattle.std.proofs.Common.{true, false, cond, List, [], ◌∷◌, length, take, drop, map, refl, sym, ap}
 use Rattle.std.proofs.Common.{◌∙◌, arith, subst, Option, Some, None, min, max, slice_index_or}
 use Rattle.std.specs.Prelude.{nat_eq, nat_lt, option_to_list}
 use Rattle.std.specs.List.{filter_map, cons_option, AllByRecursion}
@@ -109,7 +110,8 @@ olds_rise more a b (r ∷ rs) rise (suc i) (suc j) d le within =
 
 -- those before the place are less
 pub count_less : (run : Run) (least : ℕ) (others : List Run) (n : ℕ) → AllByRecursion (Inside run) others
-    → IsPartitionPoint (λ (o : Run). nat_lt (run.old + o.old) (least + run.new) ≡ true) (λ (o : Run). nat_lt (run.old + o.old) (least + run.new) ≡ false) others n
+    → IsPartitionPoint (λ (o : Run). nat_lt (run.old + o.old) (least + run.new) ≡ true)
+    (λ (o : Run). nat_lt (run.old + o.old) (least + run.new) ≡ false) others n
     → length others - n ≡ not_less run least others
 count_less run least others n all point =
     sym (parted_count run least others n

@@ -255,7 +255,8 @@ sums_lent joined m k place None are is got = tt
 sums_lent joined m k place (Some b) are is got =
     subst (λ o. SumsOf (Some b.now) (runs_of (option_map long o))) (sym at.found) (elim are.sums [
       | inl none ↦ nothing none
-      | inr sums ↦ subst (AreSums b.now) is_long (subst (λ l. AreSums l (piece place joined.runs.items)) (sym got.0.2) (sums_range joined.sums.items joined.runs.items
+      | inr sums ↦ subst (AreSums b.now) is_long (subst (λ l. AreSums l (piece place joined.runs.items)) (sym got.0.2)
+          (sums_range joined.sums.items joined.runs.items
           place.start (place.end - place.start) (record { first = 0; are = sums })))
     ])
   where

@@ -1,11 +1,10 @@
 -- The digits of runs before each, and the length of the lines of runs.
-use Rattle.std.proofs.Common.{ℕ, zero, suc, ◌≡◌, ◌+◌, ◌-◌, ◌*◌, ◌<◌, ◌≤◌, ◌++◌, List, [], ◌∷◌, length, take, drop, map, refl, sym, ap, ◌∙◌, arith, subst}
+use Rattle.std.proofs.Common.{ℕ, zero, suc, ◌≡◌, ◌+◌, ◌-◌, ◌*◌, ◌<◌, ◌≤◌, ◌++◌, List, [], ◌∷◌, length, take, drop, map, refl, sym, ap, ◌∙◌, arith}
 use Rattle.std.proofs.Common.{length-append, slice_index_or}
 use Rattle.std.specs.Fmt.{decimal}
-use Rattle.std.specs.List.{AllByRecursion, flat_map}
+use Rattle.std.specs.List.{AllByRecursion}
 use Rattle.std.proofs.lemmas.Fmt.{length-decimal-le}
 use Rattle.ppdb_base.specs.declared.offsets.Run.{Run}
-use Rattle.ppdb_base.specs.Offsets.{end_of, new_end_of}
 use Rattle.ppdb_maps.specs.declared.line.Line.TheVariants.{Kept}
 use Rattle.map_text.specs.MapTexts.{ended, line_text}
 use Rattle.map_compose.specs.Joining.{IsShort}
@@ -43,7 +42,8 @@ sums_drop sum [] zero = refl
 sums_drop sum [] (suc n) = refl
 sums_drop sum (run ∷ runs) zero = ap (λ k. sums_from k (run ∷ runs)) (let e : sum ≡ sum + 0 = omega arith in e)
 sums_drop sum (run ∷ runs) (suc n) = sums_drop (sum + weight run) runs n
-    ∙ ap (λ k. sums_from k (drop n runs)) (let e : sum + weight run + new_digits (take n runs) ≡ sum + (weight run + new_digits (take n runs)) = omega arith in e)
+    ∙ ap (λ k. sums_from k (drop n runs))
+    (let e : sum + weight run + new_digits (take n runs) ≡ sum + (weight run + new_digits (take n runs)) = omega arith in e)
 
 pub sums_take : (sum : ℕ) (runs : List Run) (n : ℕ) → take n (sums_from sum runs) ≡ sums_from sum (take n runs)
 sums_take sum [] zero = refl
@@ -61,7 +61,8 @@ sums_range sums runs from many are = record {
 pub same_long : (sums : List ℕ) (runs : List Run) → AreSums sums runs → length sums ≡ length runs
 same_long sums runs are = ap length are.are ∙ sums_long are.first runs
 
-pub sum_at : (sums : List ℕ) (runs : List Run) (k d : ℕ) (are : AreSums sums runs) → k < length runs → slice_index_or sums k d ≡ are.first + new_digits (take k runs)
+pub sum_at : (sums : List ℕ) (runs : List Run) (k d : ℕ) (are : AreSums sums runs) → k < length runs
+    → slice_index_or sums k d ≡ are.first + new_digits (take k runs)
 sum_at sums runs k d are inside = ap (λ l. slice_index_or l k d) are.are ∙ sums_at are.first runs k d inside
 
 -- one run more

@@ -4,7 +4,8 @@ ghost use Rattle.std.specs.List.{AllByRecursion, filter_map};
 ghost use Rattle.ppdb_maps.specs.declared.line.Line.TheVariants.{Kept};
 ghost use Rattle.map_compose.specs.Joining.{IsShort, AreRuns, Joins};
 ghost use Rattle.map_compose.specs.Laws.{Apart};
-ghost use Rattle.map_compose.specs.Lengths.{IsPast, Inside, AreSums, taken_on as taken, old_digits as digits_of_old, new_digits, not_less as count_from, runs_length};
+ghost use Rattle.map_compose.specs.Lengths.{IsPast, Inside, AreSums, new_digits, runs_length};
+ghost use Rattle.map_compose.specs.Lengths.{taken_on as taken, old_digits as digits_of_old, not_less as count_from};
 ghost use Rattle.map_compose.specs.Runs.{meet};
 ghost use Rattle.map_compose.specs.Says.{PutsLines};
 

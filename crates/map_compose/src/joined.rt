@@ -1,8 +1,6 @@
 // The runs of each method of a map, in their longest form.
-ghost use Rattle.std.specs.Prelude.{◌≡◌, ◌^◌, ◌≤◌, ◌++◌, IfOk, OnOk, [], length, nat_eq, slice_get, option_to_list, option_copied};
-ghost use Rattle.std.specs.List.{find};
+ghost use Rattle.std.specs.Prelude.{◌≡◌, ◌^◌, ◌≤◌, ◌++◌, IfOk, OnOk, [], length, slice_get, option_to_list, option_copied};
 ghost use Rattle.ppdb_maps.specs.Map.{Map};
-ghost use Rattle.ppdb_maps.specs.Readable.{IsReadable};
 ghost use Rattle.ppdb_maps.specs.Says.{offsets_of, lined_runs};
 ghost use Rattle.map_compose.specs.Runs.{longest};
 ghost use Rattle.map_compose.specs.Joining.{AreRuns, AreJoinedOf, LendsJoined, LendsSums, PlacedAt};

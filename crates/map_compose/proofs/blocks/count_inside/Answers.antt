@@ -53,6 +53,7 @@ taken_on-requires-clause-inside c =
 pub returns : goal.returns
 returns c =
     let two = c.requires.two in
-    counted_joins c.args.run c.args.others.now (length c.args.others.now - 1) _ _ c.taken_on-first.result c.taken_on.result _ _ _ _ _ _ c.counted_runs-bytes.result two
+    counted_joins c.args.run c.args.others.now (length c.args.others.now - 1) _ _ c.taken_on-first.result c.taken_on.result _ _ _ _ _ _
+    c.counted_runs-bytes.result two
     (omega (arith, two)) c.requires.rise c.requires.apart c.requires.inside c.taken_on-first.ensures c.taken_on.ensures c.in_ok-put_joined.ensures.joins
     c.in_ok-put_joined.ensures.ends c.in_ok-put_held.ensures c.counted_runs-bytes.ensures c.count_on.ensures

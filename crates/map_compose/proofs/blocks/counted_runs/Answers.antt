@@ -1,4 +1,4 @@
-use Rattle.std.proofs.Common.{arith, sym, ap, ◌∙◌, ◌≡◌, ◌≤◌, length}
+use Rattle.std.proofs.Common.{arith}
 use Rattle.map_compose.proofs.Gathering.{few_runs}
 use Rattle.map_compose.proofs.Digits.{few_old}
 use Rattle.map_compose.proofs.Insides.{inside_small}

@@ -1,4 +1,4 @@
-use Rattle.std.proofs.Common.{arith, refl, sym, ap, ◌∙◌, ◌≡◌, ◌^◌, ◌≤◌, ◌+◌, ◌*◌, add-one, length, zero, suc}
+use Rattle.std.proofs.Common.{arith, refl, sym, ap, ◌∙◌, ◌≡◌, ◌^◌, ◌*◌, add-one}
 use Rattle.std.proofs.Math.Nat.{pow-le-pow_right, pow-suc}
 use Rattle.map_compose.proofs.Gathering.{few_runs}
 use Rattle.map_compose.specs.Lengths.{not_less}

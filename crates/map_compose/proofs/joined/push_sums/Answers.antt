@@ -1,6 +1,6 @@
-use Rattle.std.proofs.Common.{arith, refl, sym, ap, ◌∙◌, ◌≡◌, ◌+◌, length}
-use Rattle.map_compose.specs.Lengths.{sums_from, new_digits}
-use Rattle.map_compose.proofs.Sums.{weight, sums_next, digits_next}
+use Rattle.std.proofs.Common.{arith, refl, ap, ◌∙◌}
+use Rattle.map_compose.specs.Lengths.{sums_from}
+use Rattle.map_compose.proofs.Sums.{sums_next, digits_next}
 use Rattle.map_compose.proofs.Putting.{take_over}
 use Rattle.map_compose.proofs.joined.push_sums.Goals as goal
 

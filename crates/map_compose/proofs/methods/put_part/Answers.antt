@@ -23,7 +23,8 @@ pub methods-smaller : goal.methods-smaller
 methods-smaller c = let e = ap length c.in-Some.ensures in omega (arith, e)
 
 pub returns-clause-puts : goal.returns-clause-puts
-returns-clause-puts c = some_all _ _ _ _ (ap (flat_map (part_says c.args.part c.args.first.now c.args.second.now)) c.in_default.ensures) c.methods.invariant.puts
+returns-clause-puts c = some_all _ _ _ _ (ap (flat_map (part_says c.args.part c.args.first.now c.args.second.now)) c.in_default.ensures)
+    c.methods.invariant.puts
 
 pub sum_up-requires : goal.sum_up-requires
 sum_up-requires c = record { few = few_joined c.methods.joined c.args.second.now c.keeps.ensures c.methods.invariant.joined }

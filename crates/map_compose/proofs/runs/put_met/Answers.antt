@@ -1,4 +1,4 @@
-use Rattle.std.proofs.Common.{arith, sym, subst, length, take, drop, ◌-◌, ◌≡◌}
+use Rattle.std.proofs.Common.{arith, sym, subst, length, take, drop, ◌-◌}
 use Rattle.std.specs.Option.{option_copied}
 use Rattle.map_compose.specs.Lengths.{AreSums, SumsOf}
 use Rattle.map_compose.proofs.Fronts.{begins_there, short_rest, rise_rest}

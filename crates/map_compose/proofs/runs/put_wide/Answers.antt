@@ -1,4 +1,4 @@
-use Rattle.std.proofs.Common.{arith, length, drop, ◌-◌}
+use Rattle.std.proofs.Common.{arith, drop, ◌-◌}
 use Rattle.std.proofs.lemmas.List.{length-take-le, length-drop}
 use Rattle.map_compose.proofs.Fronts.{short_at, short_rest, rise_rest}
 use Rattle.map_compose.proofs.Insides.{piece_runs, piece_apart, all_inside, past_kept, wide_joins}

@@ -20,7 +20,8 @@ returns-in_err-line c = λ m readable are.
     let item : IsItemAt c.args.self.now.lines.items c.partition_point-at.result c.get.result =
     subst (λ xs. IsItemAt xs c.partition_point-at.result c.get.result) c.deref-2.ensures.value c.get.ensures.lookup in
     let found = lent_place c.args.self.now m c.args.method c.partition_point-at.result c.get.result readable are item point in
-    c.from_residual.ensures ∙ sym (found ∙ ap (λ (r : Option (Bor JoinedLine)). if_passes (λ (j : JoinedLine). nat_eq j.method c.args.method) (option_copied r)) c.in_err-line.was)
+    c.from_residual.ensures
+    ∙ sym (found ∙ ap (λ (r : Option (Bor JoinedLine)). if_passes (λ (j : JoinedLine). nat_eq j.method c.args.method) (option_copied r)) c.in_err-line.was)
 
 pub returns-then-line-method : goal.returns-then-line-method
 returns-then-line-method c = λ m readable are.

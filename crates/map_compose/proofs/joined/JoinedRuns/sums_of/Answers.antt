@@ -1,7 +1,5 @@
-use Rattle.std.proofs.Common.{sym, ap, subst, ◌∙◌, ◌≡◌}
-use Rattle.std.specs.Option.{option_copied}
+use Rattle.std.proofs.Common.{sym, subst, ◌∙◌}
 use Rattle.std.specs.Slice.{IsGetRangeResult}
-use Rattle.map_compose.specs.Lengths.{SumsOf}
 use Rattle.map_compose.proofs.Places.{sums_lent}
 use Rattle.map_compose.proofs.joined.JoinedRuns.sums_of.Goals as goal
 
