@@ -50,19 +50,19 @@ one_more r xs i d inside =
     of None = refl
     of (Some p) = refl
 
-all_drop : (P : Run → Type 0) (xs : List Run) (n : ℕ) → AllByRecursion P xs → AllByRecursion P (drop n xs)
+pub all_drop : (P : Run → Type 0) (xs : List Run) (n : ℕ) → AllByRecursion P xs → AllByRecursion P (drop n xs)
 all_drop P [] zero all = tt
 all_drop P [] (suc n) all = tt
 all_drop P (x ∷ xs) zero all = all
 all_drop P (x ∷ xs) (suc n) all = all_drop P xs n all.1
 
-rise_drop : (a b : ℕ) (xs : List Run) (n : ℕ) → RiseFrom a b xs → RiseFrom 0 0 (drop n xs)
+pub rise_drop : (a b : ℕ) (xs : List Run) (n : ℕ) → RiseFrom a b xs → RiseFrom 0 0 (drop n xs)
 rise_drop a b [] zero rise = tt
 rise_drop a b [] (suc n) rise = tt
 rise_drop a b (x ∷ xs) zero rise = weaker 0 0 a b (x ∷ xs) (omega arith) (omega arith) rise
 rise_drop a b (x ∷ xs) (suc n) rise = rise_drop (end_of x) (new_end_of x) xs n rise.3
 
-rest_is : (xs : List Run) (n : ℕ) → take (length xs - n) (drop n xs) ≡ drop n xs
+pub rest_is : (xs : List Run) (n : ℕ) → take (length xs - n) (drop n xs) ≡ drop n xs
 rest_is xs n = take_over (drop n xs) (length xs - n) (let e = length-drop n xs in omega (arith, e))
 
 pub short_rest : (xs : List Run) (n : ℕ) → AllByRecursion IsShort xs → AllByRecursion IsShort (take (length xs - n) (drop n xs))

@@ -8,7 +8,7 @@ use Rattle.ppdb_base.specs.Offsets.{end_of, new_end_of}
 use Rattle.ppdb_maps.specs.declared.line.Line.TheVariants.{Kept}
 use Rattle.map_text.specs.declared.counted.Counted.{Counted}
 use Rattle.map_compose.specs.Runs.{goes_on, before, longest}
-use Rattle.map_compose.specs.Joining.{Holding, JoinsOne, Joins}
+use Rattle.map_compose.specs.Joining.{Holding, JoinsRuns, JoinsOne, Joins, EndsAlike}
 use Rattle.map_compose.specs.Says.{PutsLines}
 use Rattle.map_compose.proofs.Putting.{says_then, says_none, says_same, map_join}
 use Rattle.map_compose.proofs.Rising.{run_same}
@@ -96,12 +96,25 @@ joins_apart h r off = λ came front hold. record {
   none = some_held (Some r) r (came ++ r ∷ []) refl;
 }
 
+-- two that are joined end as the second does
+pub ends_on : (h r : Run) → goes_on h r ≡ true → EndsAlike (both h r) r
+ends_on h r on =
+    let ends = and_parts _ _ on in
+    let old : end_of h ≡ r.old = eqb-true (end_of h) r.old ends.0 in
+    let new : new_end_of h ≡ r.new = eqb-true (new_end_of h) r.new ends.1 in
+    record { old = omega (arith, old); new = omega (arith, new) }
+
 -- ---- more runs
 
 pub holding_same : (came came' front front' : List Run) (held : Option Run) → came ≡ came' → front ≡ front' → Holding came front held
     → Holding came' front' held
 holding_same came came' front front' held a b hold =
     subst (λ l. Holding l front' held) a (subst (λ l. Holding came l held) b hold)
+
+pub runs_then : (a b c : Option Run) (given more rs qs : List Run) → JoinsRuns a b given rs → JoinsRuns b c more qs → JoinsRuns a c (given ++ more) (rs ++ qs)
+runs_then a b c given more rs qs h k = λ came front hold.
+    holding_same ((came ++ rs) ++ qs) (came ++ (rs ++ qs)) ((front ++ given) ++ more) (front ++ (given ++ more)) c
+    (append_assoc came rs qs) (append_assoc front given more) (k (came ++ rs) (front ++ given) (h came front hold))
 
 pub joins_none : (held : Option Run) (text : Counted) → Joins held held text text []
 joins_none held text = record {
@@ -113,10 +126,7 @@ joins_none held text = record {
 pub joins_then : (a b c : Option Run) (s t u : Counted) (rs qs : List Run) → Joins a b s t rs → Joins b c t u qs → Joins a c s u (rs ++ qs)
 joins_then a b c s t u rs qs h k = record {
   given = h.given ++ k.given;
-  joins = λ came front hold.
-      holding_same ((came ++ rs) ++ qs) (came ++ (rs ++ qs)) ((front ++ h.given) ++ k.given) (front ++ (h.given ++ k.given)) c
-      (append_assoc came rs qs) (append_assoc front h.given k.given)
-      (k.joins (came ++ rs) (front ++ h.given) (h.joins came front hold));
+  joins = runs_then a b c h.given k.given rs qs h.joins k.joins;
   puts = says_same s u (map (λ r. Kept r) h.given ++ map (λ r. Kept r) k.given) (map (λ r. Kept r) (h.given ++ k.given))
       (sym (map_join (λ r. Kept r) h.given k.given))
       (says_then s t u (map (λ r. Kept r) h.given) (map (λ r. Kept r) k.given) h.puts k.puts);

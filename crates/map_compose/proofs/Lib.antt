@@ -20,3 +20,6 @@ pub mod Lengths
 pub mod Counting
 pub mod Bounds
 pub mod Worked
+pub mod Digits
+pub mod Sums
+pub mod Insides

@@ -1,5 +1,8 @@
 -- The line of a method that is there after both maps.
-use Rattle.std.proofs.Common.{ℕ, ◌≡◌, cond, List, [], ◌∷◌, Option, Some, None, refl, sym, ap, ◌∙◌, arith, subst, map, inl, inr}
+use Rattle.std.proofs.Common.{ℕ, ◌≡◌, ◌*◌, ◌^◌, ◌≤◌, cond, List, [], ◌∷◌, Option, Some, None, refl, sym, ap, ◌∙◌}
+use Rattle.std.proofs.Common.{arith, subst, map, length, length-append, inl, inr}
+use Rattle.std.proofs.lemmas.List.{length-map}
+use Rattle.std.specs.List.{AllByRecursion, flat_map}
 use Rattle.std.specs.Prelude.{nat_eq}
 use Rattle.std.specs.Option.{option_map}
 use Rattle.ppdb_base.specs.declared.offsets.Run.{Run}
@@ -12,12 +15,17 @@ use Rattle.ppdb_maps.specs.Says.{sizes_of}
 use Rattle.map_compose.specs.Runs.{met, longest}
 use Rattle.map_compose.specs.Composed.{composed_line, composed_runs, second_line, sized, of_image}
 use Rattle.map_compose.specs.Composition.{Follows, sizes_then}
-use Rattle.map_compose.specs.Joining.{AreRuns, runs_of, runs_after}
+use Rattle.map_compose.specs.declared.joined.JoinedRuns.{JoinedRuns}
+use Rattle.map_compose.specs.declared.part.Part.TheVariants.{Methods}
+use Rattle.map_compose.specs.Joining.{AreRuns, AreJoinedOf, runs_of, runs_after}
+use Rattle.map_compose.specs.Laws.{Apart}
 use Rattle.map_compose.specs.Says.{lined_says, line_of_both}
 use Rattle.map_compose.specs.Sizes.{SizesAgree}
 use Rattle.map_compose.proofs.Equations.{there, first_offsets, second_are, runs_are}
 use Rattle.map_compose.proofs.Found.{either}
+use Rattle.map_compose.proofs.Gathering.{few_runs}
 use Rattle.map_compose.proofs.Meeting.{runs_compose}
+use Rattle.map_compose.proofs.Merging.{few_own}
 use Rattle.map_compose.proofs.Places.{long, line_short, no_runs}
 use Rattle.map_compose.proofs.Readable.{found_holds, met_all, all_met}
 use Rattle.map_compose.proofs.Rising.{met_rises, longest_rises, longest_apart, one_longest, size_run}
@@ -39,6 +47,29 @@ others_run m method readable = of (method_line m method) refl
     of : (o : Option MethodLine) → method_line m method ≡ o → AreRuns (runs_of (option_map long o))
     of None is = no_runs
     of (Some line) is = long_runs m line (found_holds (IsLineOf m) (λ (l : MethodLine). nat_eq l.method method) m.methods line readable.methods is)
+
+pub others_apart : (m : Map) (method : ℕ) → Apart (runs_of (option_map long (method_line m method)))
+others_apart m method = of (method_line m method)
+  where
+    of : (o : Option MethodLine) → Apart (runs_of (option_map long o))
+    of None = tt
+    of (Some line) = longest_apart line.runs
+
+many_runs : (m : Map) (lines : List MethodLine) → AllByRecursion (IsLineOf m) lines → length (flat_map long lines) ≤ length lines * 2147483647
+many_runs m [] all = omega arith
+many_runs m (line ∷ lines) all =
+    let few = few_runs (long line) (long_runs m line all.0) in
+    let join = length-append (long line) (flat_map long lines) in
+    let rest = many_runs m lines all.1 in
+    omega (arith, few, join, rest)
+
+pub few_joined : (joined : JoinedRuns) (m : Map) → IsReadable m → AreJoinedOf joined m → length joined.runs.items ≤ 2 ^ 56
+few_joined joined m readable are =
+    let all = many_runs m m.methods readable.methods in
+    let few = few_own Methods m readable in
+    let same = length-map m.methods (λ (l : MethodLine). l.method) in
+    let is = ap length are.runs in
+    omega (arith, all, few, same, is)
 
 -- what meets the longest runs is as long as what meets the runs
 pub longest_met : (rs qs : List Run) (old middle new : ℕ) → Rise (lined rs old middle) → Rise (lined qs middle new)

@@ -24,10 +24,12 @@ use Rattle.std.specs.Slice.{IsItemAt, IsGetRangeResult}
 use Rattle.map_compose.specs.declared.joined.JoinedLine.{JoinedLine}
 use Rattle.map_compose.specs.declared.joined.JoinedRuns.{JoinedRuns}
 use Rattle.map_compose.specs.Runs.{longest}
-use Rattle.map_compose.specs.Joining.{IsShort, AreRuns, AreJoinedOf, places}
+use Rattle.map_compose.specs.Joining.{IsShort, AreRuns, AreJoinedOf, places, runs_of}
+use Rattle.map_compose.specs.Lengths.{AreSums, SumsOf, sums_from}
 use Rattle.map_compose.proofs.Gathering.{all_get}
 use Rattle.map_compose.proofs.Putting.{take_more, take_past, flat_join}
 use Rattle.map_compose.proofs.Readable.{found_holds}
+use Rattle.map_compose.proofs.Sums.{sums_range}
 
 abbrev pub long : MethodLine → List Run
 long line = longest line.runs
@@ -240,3 +242,35 @@ range_lent joined m k place r are is got = of r got
     of None got = elim got.0 [ inl before ↦ absurd (let h = at.order in omega (arith, before, h)) | inr past ↦ absurd (omega (arith, past, inside)) ]
     of (Some b) got = ap Some (got.0.2 ∙ ap (λ xs. take (place.end - place.start) (drop place.start xs)) are.runs ∙ at.runs)
         ∙ sym (ap (option_map long) at.found)
+
+-- ---- the sums of a place
+
+abbrev piece : {X : Type 0} → JoinedLine → List X → List X
+piece place xs = take (place.end - place.start) (drop place.start xs)
+
+pub sums_lent : (joined : JoinedRuns) (m : Map) (k : ℕ) (place : JoinedLine) (r : Option (Bor (List ℕ))) → AreJoinedOf joined m
+    → find (λ (j : JoinedLine). nat_eq j.method k) (places 0 m.methods) ≡ Some place → IsGetRangeResult joined.sums.items place.start place.end r
+    → SumsOf (option_copied r) (runs_of (option_map long (method_line m k)))
+sums_lent joined m k place None are is got = tt
+sums_lent joined m k place (Some b) are is got =
+    subst (λ o. SumsOf (Some b.now) (runs_of (option_map long o))) (sym at.found) (elim are.sums [
+      | inl none ↦ nothing none
+      | inr sums ↦ subst (AreSums b.now) is_long (subst (λ l. AreSums l (piece place joined.runs.items)) (sym got.0.2)
+          (sums_range joined.sums.items joined.runs.items
+          place.start (place.end - place.start) (record { first = 0; are = sums })))
+    ])
+  where
+    at : Placed k [] m.methods place
+    at = placed k [] m.methods place is
+
+    is_long : piece place joined.runs.items ≡ long at.line
+    is_long = ap (piece place) are.runs ∙ at.runs
+
+    nothing : joined.sums.items ≡ [] → AreSums b.now (long at.line)
+    nothing none =
+        let few = ap length none in
+        let past : place.end ≤ length joined.sums.items = got.0.1 in
+        let no : place.end - place.start ≡ 0 = omega (arith, few, past) in
+        let empty : long at.line ≡ [] = sym is_long ∙ ap (λ n. take n (drop place.start joined.runs.items)) no in
+        let also : b.now ≡ [] = got.0.2 ∙ ap (λ n. take n (drop place.start joined.sums.items)) no in
+        record { first = 0; are = also ∙ sym (ap (sums_from 0) empty) }

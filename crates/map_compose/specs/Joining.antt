@@ -1,7 +1,7 @@
 -- What is put of runs of which each is held back until it is known that none goes on with it.
-use Rattle.std.specs.Prelude.{◌≡◌, ℕ, ◌+◌, ◌<◌, ◌≤◌, ◌++◌, List, [], ◌∷◌, Option, Some, None, option_to_list, option_copied, map, length}
+use Rattle.std.specs.Prelude.{◌≡◌, ◌⊎◌, ℕ, ◌+◌, ◌<◌, ◌≤◌, ◌++◌, nat_eq, List, [], ◌∷◌, Option, Some, None, option_to_list, option_copied, map, length}
 use Rattle.std.specs.Borrow.{Bor}
-use Rattle.std.specs.List.{flat_map, AllByRecursion}
+use Rattle.std.specs.List.{flat_map, find, AllByRecursion}
 use Rattle.std.specs.Option.{option_map}
 use Rattle.ppdb_base.specs.declared.offsets.Run.{Run}
 use Rattle.ppdb_base.specs.Offsets.{Offsets, every, gone, lined, RiseFrom, end_of, new_end_of}
@@ -13,6 +13,7 @@ use Rattle.map_text.specs.declared.counted.Counted.{Counted}
 use Rattle.map_compose.specs.declared.joined.JoinedRuns.{JoinedRuns}
 use Rattle.map_compose.specs.declared.joined.JoinedLine.{JoinedLine}
 use Rattle.map_compose.specs.Runs.{met, longest}
+use Rattle.map_compose.specs.Lengths.{SumsOf, sums_from}
 use Rattle.map_compose.specs.Says.{PutsLines}
 
 -- a run of a map that a text has
@@ -43,6 +44,16 @@ pub record Joins (old new : Option Run) (before after : Counted) (runs : List Ru
   pub joins : JoinsRuns old new given runs
   pub puts : PutsLines before after (map Kept given)
 
+-- two runs end at one place, on both sides
+pub record EndsAlike (run other : Run) : Type 0 where
+  pub old : end_of run ≡ end_of other
+  pub new : new_end_of run ≡ new_end_of other
+
+-- a run is held, and ends so
+abbrev pub HoldsEnd : Option Run → Run → Type 0
+HoldsEnd None other = ⊥
+HoldsEnd (Some run) other = EndsAlike run other
+
 -- ---- the runs of all methods in their longest form
 
 -- where the runs of lines stand, one after the other, from a place on
@@ -54,20 +65,32 @@ places from (line ∷ lines) =
 pub record AreJoinedOf (joined : JoinedRuns) (m : Map) : Type 0 where
   pub runs : joined.runs.items ≡ flat_map (λ (line : MethodLine). longest line.runs) m.methods
   pub lines : joined.lines.items ≡ places 0 m.methods
+  -- they are summed up, or not
+  pub sums : (joined.sums.items ≡ []) ⊎ (joined.sums.items ≡ sums_from 0 joined.runs.items)
+
+-- the place of one method, where it has a line
+abbrev pub PlacedAt : JoinedRuns → ℕ → Option JoinedLine → Type 0
+PlacedAt joined method result = (m : Map) → IsReadable m → AreJoinedOf joined m
+    → result ≡ find (λ (line : JoinedLine). nat_eq line.method method) (places 0 m.methods)
 
 -- those of one method, where it has a line
 abbrev pub LendsJoined : JoinedRuns → ℕ → Option (List Run) → Type 0
 LendsJoined joined method result = (m : Map) → IsReadable m → AreJoinedOf joined m
     → result ≡ option_map (λ (line : MethodLine). longest line.runs) (method_line m method)
 
+abbrev pub runs_of : Option (List Run) → List Run
+runs_of None = []
+runs_of (Some runs) = runs
+
+-- the sums of these, where they are summed up
+abbrev pub LendsSums : JoinedRuns → ℕ → Option (List ℕ) → Type 0
+LendsSums joined method result = (m : Map) → IsReadable m → AreJoinedOf joined m
+    → SumsOf result (runs_of (option_map (λ (line : MethodLine). longest line.runs) (method_line m method)))
+
 -- ---- the runs that a line keeps, and after it those of another
 
 abbrev pub lent : Option (Bor (List Run)) → Option (List Run)
 lent runs = option_copied runs
-
-abbrev pub runs_of : Option (List Run) → List Run
-runs_of None = []
-runs_of (Some runs) = runs
 
 abbrev pub lined_after : List Run → Option (List Run) → List Run
 lined_after runs None = longest runs

@@ -9,3 +9,4 @@ pub mod Says
 pub mod Parts
 pub mod Joining
 pub mod Refused
+pub mod Lengths

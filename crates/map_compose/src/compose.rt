@@ -24,13 +24,13 @@ fn counted_map(alloc: Global, first: &MapText, second: &MapText) -> Result<Count
 {
     first.keeps();
     second.keeps();
-    let joined = JoinedRuns::of(alloc, second)?;
+    let mut joined = JoinedRuns::of(alloc, second)?;
     let mut text = Counted::new(alloc);
     text.put_head()?;
     put_tables(first, second, &mut text)?;
-    put_part(Part::Drops, first, second, &joined, &mut text)?;
-    put_part(Part::Slots, first, second, &joined, &mut text)?;
-    put_part(Part::Methods, first, second, &joined, &mut text)?;
+    put_part(Part::Drops, first, second, &mut joined, &mut text)?;
+    put_part(Part::Slots, first, second, &mut joined, &mut text)?;
+    put_part(Part::Methods, first, second, &mut joined, &mut text)?;
     Ok(text)
 }
 

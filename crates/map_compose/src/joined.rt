@@ -1,10 +1,13 @@
 // The runs of each method of a map, in their longest form.
-ghost use Rattle.std.specs.Prelude.{◌≡◌, ◌++◌, IfOk, OnOk, slice_get, option_to_list, option_copied};
+ghost use Rattle.std.specs.Prelude.{◌≡◌, ◌^◌, ◌≤◌, ◌++◌, IfOk, OnOk, [], length, slice_get, option_to_list, option_copied};
+ghost use Rattle.ppdb_maps.specs.Map.{Map};
 ghost use Rattle.ppdb_maps.specs.Says.{offsets_of, lined_runs};
 ghost use Rattle.map_compose.specs.Runs.{longest};
-ghost use Rattle.map_compose.specs.Joining.{AreRuns, AreJoinedOf, LendsJoined};
+ghost use Rattle.map_compose.specs.Joining.{AreRuns, AreJoinedOf, LendsJoined, LendsSums, PlacedAt};
+ghost use Rattle.map_compose.specs.Lengths.{sums_from};
 
 use crate::joining::join;
+use map_text::{Counted, digits_of};
 use ppdb_base::{Memory, Run};
 use ppdb_maps::{MapText, MethodMap};
 use std::alloc::Global;
@@ -17,11 +20,13 @@ struct JoinedLine {
     end: usize,
 }
 
-/// The runs of each method of a map in their longest form.
+/// The runs of each method of a map in their longest form. Once they are summed up, it is known of
+/// each run how many digits NEW and LENGTH have in the lines of all runs before it.
 #[derive(Drop)]
 pub struct JoinedRuns {
     runs: Vec<Run>,
     lines: Vec<JoinedLine>,
+    sums: Vec<u64>,
 }
 
 /// The run with this index.
@@ -58,6 +63,20 @@ fn push_joined(line: &MethodMap<'_>, runs: &mut Vec<Run>) -> Result<(), Memory>
     push_held(held, runs)
 }
 
+/// Adds the sums of runs, from the first on.
+fn push_sums(runs: &[Run], sums: &mut Vec<u64>) -> Result<(), Memory>
+    requires few { length runs.now ≤ 2 ^ 56 }
+    requires empty { sums.now.items ≡ [] }
+    ensures { OnOk result (sums.new.items ≡ sums_from 0 runs.now) }
+{
+    let mut sum = 0;
+    'runs: for run in runs {
+        sums.push(sum)?;
+        sum += digits_of(run.new) + digits_of(run.length);
+    }
+    Ok(())
+}
+
 impl JoinedRuns {
     /// The runs of all methods of a map in their longest form.
     pub fn of(alloc: Global, map: &MapText) -> Result<JoinedRuns, Memory>
@@ -74,19 +93,51 @@ impl JoinedRuns {
             lines.push(JoinedLine { method, start, end })?;
             index += 1;
         }
-        Ok(JoinedRuns { runs, lines })
+        let sums = Vec::new(alloc);
+        Ok(JoinedRuns { runs, lines, sums })
+    }
+
+    /// Sums up the digits of the runs, once the text is too long to be kept.
+    pub fn sum_up(&mut self, text: &Counted) -> Result<(), Memory>
+        requires few { length self.now.runs.items ≤ 2 ^ 56 }
+        ensures { OnOk result ((m : Map) → AreJoinedOf self.old m → AreJoinedOf self.new m) }
+    {
+        if text.is_past() && self.sums.is_empty() {
+            push_sums(&self.runs, &mut self.sums)
+        } else {
+            Ok(())
+        }
+    }
+
+    /// Where the runs of a method stand that has a line.
+    fn line_of(&self, method: u32) -> Option<JoinedLine>
+        ensures { PlacedAt self.now method result }
+    {
+        let at = self.lines.partition_point(|line| line.method < method);
+        let line = self.lines.get(at)?;
+        if line.method == method {
+            Some(*line)
+        } else {
+            None
+        }
     }
 
     /// The runs of a method that has a line.
     pub fn of_method(&self, method: u32) -> Option<&[Run]>
         ensures { LendsJoined self.now method (option_copied result) }
     {
-        let at = self.lines.partition_point(|line| line.method < method);
-        let line = self.lines.get(at)?;
-        if line.method == method {
-            self.runs.get(line.start..line.end)
-        } else {
-            None
+        let line = self.line_of(method)?;
+        self.runs.get(line.start..line.end)
+    }
+
+    /// The sums of the runs of a method, where they are summed up.
+    pub fn sums_of(&self, method: u32) -> Option<&[u64]>
+        ensures { LendsSums self.now method (option_copied result) }
+    {
+        if self.sums.is_empty() {
+            return None;
         }
+        let line = self.line_of(method)?;
+        self.sums.get(line.start..line.end)
     }
 }

@@ -4,7 +4,7 @@ ghost use Rattle.ppdb_base.specs.Offsets.{end_of};
 ghost use Rattle.ppdb_maps.specs.declared.line.Line.TheVariants.{Kept};
 ghost use Rattle.map_compose.specs.Runs.{goes_on as continues};
 ghost use Rattle.map_compose.specs.Says.{PutsLines};
-ghost use Rattle.map_compose.specs.Joining.{Joins, JoinsOne};
+ghost use Rattle.map_compose.specs.Joining.{Joins, JoinsOne, EndsAlike, HoldsEnd};
 
 use map_text::Counted;
 use ppdb_base::{Memory, Run};
@@ -28,7 +28,8 @@ fn goes_on(run: Run, next: Run) -> bool
 /// Takes one more run.
 pub fn join(held: Option<Run>, run: Run) -> Step
     requires { end_of run < 2 ^ 32 }
-    ensures { JoinsOne held result.held result.given run }
+    ensures joins { JoinsOne held result.held result.given run }
+    ensures ends { EndsAlike result.held run }
 {
     match held {
         None => Step {
@@ -63,7 +64,8 @@ pub fn put_held(held: Option<Run>, text: &mut Counted) -> Result<(), Memory>
 /// Takes one more run, and puts the line of a run that is given up.
 pub fn put_joined(held: &mut Option<Run>, run: Run, text: &mut Counted) -> Result<(), Memory>
     requires { end_of run < 2 ^ 32 }
-    ensures { OnOk result (Joins held.old held.new text.old text.new (run ∷ [])) }
+    ensures joins { OnOk result (Joins held.old held.new text.old text.new (run ∷ [])) }
+    ensures ends { OnOk result (HoldsEnd held.new run) }
 {
     let step = join(*held, run);
     put_held(step.given, text)?;

@@ -1,6 +1,7 @@
 //! Two maps made into one: what a second rewriting of a module makes of what a first one makes of it.
 #![tactic(auto)]
 
+mod blocks;
 mod compose;
 mod error;
 mod image;

@@ -65,7 +65,8 @@ fn put_line(
         None => Ok(()),
         Some((old_size, new_size)) => {
             text.put_method(method, old_size, new_size)?;
-            put_runs(&before, joined.of_method(image), text)
+            let others = joined.of_method(image);
+            put_runs(&before, others, joined.sums_of(image), text)
         }
     }
 }
@@ -95,15 +96,18 @@ pub fn put_part(
     part: Part,
     first: &MapText,
     second: &MapText,
-    joined: &JoinedRuns,
+    joined: &mut JoinedRuns,
     text: &mut Counted,
 ) -> Result<(), Memory>
     requires joined { AreJoinedOf joined.now second.now }
     requires agree { SizesAgree first.now second.now }
-    ensures { OnOk result (PutsLines text.old text.new (flat_map (part_says part first.now second.now) (all_numbers part first.now second.now))) }
+    ensures joined { OnOk result (AreJoinedOf joined.new second.now) }
+    ensures puts { OnOk result (PutsLines text.old text.new (flat_map (part_says part first.now second.now) (all_numbers part first.now second.now))) }
 {
+    second.keeps();
     let mut passed = Passed { own: 0, other: 0 };
     'methods: while let Some(method) = part.next(first, second, &mut passed) {
+        joined.sum_up(text)?;
         put_method(part, first, second, joined, method, text)?;
     }
     Ok(())

@@ -1,6 +1,11 @@
 // Worked pairs of maps.
 use crate::compose::compose_maps;
 use crate::error::ComposeError;
+use crate::joined::JoinedRuns;
+use crate::methods::put_part;
+use crate::part::Part;
+use crate::sizes::first_differing;
+use map_text::Counted;
 use ppdb_maps::{MapText, read_map};
 use std::test::Fail;
 
@@ -98,4 +103,77 @@ fn sizes_differ(rt: HostRuntime) -> Result<(), Fail> {
         }
         _ => Err(Fail::from("composed")),
     }
+}
+
+/// The map of a text.
+fn read(rt: &HostRuntime, text: &[u8]) -> Result<MapText, Fail> {
+    if text.len() > 134_217_728 {
+        return Err(Fail::from("too long"));
+    }
+    match read_map(rt.alloc(), text) {
+        Ok(map) => Ok(map),
+        Err(_) => Err(Fail::from("refused")),
+    }
+}
+
+/// A text that is too long to be kept.
+fn long_text(rt: &HostRuntime) -> Result<Counted, Fail> {
+    let mut text = Counted::new(rt.alloc());
+    let piece = [120; 4096];
+    for _ in 0..32769 {
+        if text.put(&piece).is_err() {
+            return Err(Fail::from("no memory"));
+        }
+    }
+    Ok(text)
+}
+
+/// How many bytes the lines of methods and runs have, counted past the longest text.
+fn count_methods(rt: &HostRuntime, first: &[u8], second: &[u8]) -> Result<u64, Fail> {
+    let (first, second) = (read(rt, first)?, read(rt, second)?);
+    if let Some(_) = first_differing(&first, &second) {
+        return Err(Fail::from("sizes differ"));
+    }
+    let Ok(mut joined) = JoinedRuns::of(rt.alloc(), &second) else {
+        return Err(Fail::from("no memory"));
+    };
+    let mut text = long_text(rt)?;
+    let before = text.len();
+    match put_part(Part::Methods, &first, &second, &mut joined, &mut text) {
+        Ok(()) => Ok(text.len().wrapping_sub(before)),
+        Err(_) => Err(Fail::from("no memory")),
+    }
+}
+
+// Forty methods of one image, which has a line of 3000 runs. The lengths are those of the texts that
+// another program makes, offset by offset.
+#[test]
+fn many_lines_are_counted(rt: HostRuntime) -> Result<(), Fail> {
+    let mut second = Vec::new(rt.alloc());
+    second.extend_from_slice(b"ppdbmap 1\nmethod 1 9000 15009\n")?;
+    for run in 0..3000u32 {
+        let line = format!(in rt.alloc(); "run {} {} {}\n", 3 * run, 5 * run + 7, 1 + run % 2)?;
+        second.extend_from_slice(line.as_bytes())?;
+    }
+    let mut rows = Vec::new(rt.alloc());
+    rows.extend_from_slice(b"ppdbmap 1\nrows 06 1\n")?;
+    for method in 1..41u32 {
+        let line = format!(in rt.alloc(); "row 06 {method} 1\n")?;
+        rows.extend_from_slice(line.as_bytes())?;
+    }
+    assert_eq!(rt; count_methods(&rt, &rows, &second)?, 1_937_231);
+    for method in 1..41u32 {
+        let line = if method % 2 == 0 {
+            format!(in rt.alloc();
+                "method {method} 1000010000 9000\nrun 999999500 0 4001\nrun 1000004600 4100 4900\n"
+            )?
+        } else {
+            format!(in rt.alloc();
+                "method {method} 9000 9000\nrun 0 20 2500\nrun 2600 2700 6300\n"
+            )?
+        };
+        rows.extend_from_slice(line.as_bytes())?;
+    }
+    assert_eq!(rt; count_methods(&rt, &rows, &second)?, 2_265_851);
+    Ok(())
 }

@@ -1,7 +1,7 @@
 // A text that is counted on beyond the longest one that is kept.
-ghost use Rattle.std.specs.Prelude.{◌≡◌, [], ◌∷◌, OnOk};
+ghost use Rattle.std.specs.Prelude.{◌≡◌, ℕ, ◌<◌, ◌≤◌, ◌↔◌, List, [], ◌∷◌, length, IsTrue, OnOk};
 ghost use Rattle.std.specs.Fmt.{decimal};
-ghost use Rattle.map_text.specs.Putting.{Puts};
+ghost use Rattle.map_text.specs.Putting.{LONGEST, Puts};
 
 use itoa::Buffer;
 use ppdb_base::{Bytes, MAX_FILE_BYTES, Memory};
@@ -35,6 +35,14 @@ impl Counted {
         self.length
     }
 
+    /// Whether the text is too long to be kept.
+    pub fn is_past(&self) -> bool
+        ensures past { IsTrue result ↔ (LONGEST < self.now.length) }
+        ensures fits { self.now.length ≤ 0xffffffffffffffff }
+    {
+        self.length > MAX_FILE_BYTES as u64
+    }
+
     /// The text, where it is not too long.
     pub fn into_text(self) -> Bytes
         ensures { result ≡ self.text }
@@ -54,6 +62,14 @@ impl Counted {
         self.text.append(bytes)
     }
 
+    /// Counts so many bytes more of a text that is too long to be kept.
+    pub fn count_on(&mut self, bytes: u64)
+        requires { LONGEST < self.now.length }
+        ensures { (text : List ℕ) → length text ≡ bytes → Puts self.old self.new text }
+    {
+        self.length = self.length.saturating_add(bytes);
+    }
+
     /// Puts a space and a decimal number.
     pub fn put_number(&mut self, number: u32) -> Result<(), Memory>
         ensures { OnOk result (Puts self.old self.new (32 ∷ decimal number)) }
@@ -61,4 +77,12 @@ impl Counted {
         self.put(b" ")?;
         self.put(Buffer::new().format(number).as_bytes())
     }
+}
+
+/// How many digits a decimal number has.
+pub fn digits_of(number: u32) -> u64
+    ensures digits { result ≡ length (decimal number) }
+    ensures few { result ≤ 10 }
+{
+    Buffer::new().format(number).len() as u64
 }

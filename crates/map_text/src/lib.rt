@@ -7,5 +7,5 @@ mod lines;
 #[cfg(test)]
 mod tests;
 
-pub use counted::Counted;
+pub use counted::{Counted, digits_of};
 pub use laws::{texts_are_judged, texts_are_read};

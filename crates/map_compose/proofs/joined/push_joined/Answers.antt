@@ -29,7 +29,7 @@ runs-preserved c =
       within = omega arith;
       gathers = gathers_next _ _ _ _ _ c.join-step.result.given (lined_runs (offsets_of c.args.line.now.says)) c.runs.index c.in-Some.run'
           (sym c.in-Some.ensures)
-          c.runs.invariant.gathers c.join-step.ensures c.in_ok-push_held.ensures;
+          c.runs.invariant.gathers c.join-step.ensures.joins c.in_ok-push_held.ensures;
     }
 
 pub returns : goal.returns

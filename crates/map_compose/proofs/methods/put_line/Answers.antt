@@ -1,12 +1,14 @@
 use Rattle.std.proofs.Common.{sym, ap, subst, ◌∙◌, ◌≡◌, ◌∷◌, map, Some}
-use Rattle.std.specs.Option.{option_map}
+use Rattle.std.specs.Option.{option_map, option_copied}
 use Rattle.ppdb_maps.specs.declared.line.Line.TheVariants.{Method, Kept}
 use Rattle.ppdb_maps.specs.Map.{method_line, offsets_in}
 use Rattle.ppdb_maps.specs.Says.{lined_runs, sizes_of, offsets_of}
 use Rattle.map_compose.specs.Composition.{sizes_then}
 use Rattle.map_compose.specs.Joining.{AreRuns, runs_of, runs_after, lent}
 use Rattle.map_compose.proofs.Following.{follows_image}
-use Rattle.map_compose.proofs.Lined.{others_run, line_is}
+use Rattle.map_compose.specs.Laws.{Apart}
+use Rattle.map_compose.specs.Lengths.{SumsOf}
+use Rattle.map_compose.proofs.Lined.{others_run, others_apart, line_is}
 use Rattle.map_compose.proofs.Places.{long, offset_runs}
 use Rattle.map_compose.proofs.Putting.{ok_then, says_first, says_same}
 use Rattle.map_compose.proofs.methods.put_line.Goals as goal
@@ -15,13 +17,22 @@ pub put_runs-requires-clause-line : goal.put_runs-requires-clause-line
 put_runs-requires-clause-line c = subst (λ o. AreRuns (lined_runs o)) (sym c.method-before.ensures) (offset_runs c.args.first.now c.args.method c.keeps.ensures)
 
 pub put_runs-requires-clause-others : goal.put_runs-requires-clause-others
-put_runs-requires-clause-others c = subst (λ o. AreRuns (runs_of o)) (sym (c.of_method.ensures c.args.second.now c.keeps-2.ensures c.requires.joined))
+put_runs-requires-clause-others c = subst (λ o. AreRuns (runs_of o)) (sym (c.of_method-others.ensures c.args.second.now c.keeps-2.ensures c.requires.joined))
     (others_run c.args.second.now c.in-Some.image c.keeps-2.ensures)
+
+pub put_runs-requires-clause-apart : goal.put_runs-requires-clause-apart
+put_runs-requires-clause-apart c = subst (λ o. Apart (runs_of o)) (sym (c.of_method-others.ensures c.args.second.now c.keeps-2.ensures c.requires.joined))
+    (others_apart c.args.second.now c.in-Some.image)
+
+pub put_runs-requires-clause-sums : goal.put_runs-requires-clause-sums
+put_runs-requires-clause-sums c = subst (λ o. SumsOf (option_copied c.sums_of.result) (runs_of o))
+    (sym (c.of_method-others.ensures c.args.second.now c.keeps-2.ensures c.requires.joined))
+    (c.sums_of.ensures c.args.second.now c.keeps-2.ensures c.requires.joined)
 
 pub returns-in_ok-put_method-in-Some-sizes_by_both : goal.returns-in_ok-put_method-in-Some-sizes_by_both
 returns-in_ok-put_method-in-Some-sizes_by_both c =
     let follows = follows_image c.args.first.now c.args.second.now c.args.method c.in-Some.image (sym c.in-Some.ensures) in
-    let lends = c.of_method.ensures c.args.second.now c.keeps-2.ensures c.requires.joined in
+    let lends = c.of_method-others.ensures c.args.second.now c.keeps-2.ensures c.requires.joined in
     let sizes : sizes_then (sizes_of (offsets_in c.args.first.now c.args.method)) (sizes_of (offsets_in c.args.second.now c.in-Some.image))
     ≡ Some (c.in-Some-sizes_by_both.old_size, c.in-Some-sizes_by_both.new_size) =
     ap (λ o. sizes_then (sizes_of o) (sizes_of (offsets_in c.args.second.now c.in-Some.image))) (sym c.method-before.ensures)
@@ -38,4 +49,4 @@ returns-in_ok-put_method-in-Some-sizes_by_both c =
     (runs_after (offsets_of c.method-before.result.says) o)) (sym lends)))
     (says_first c.args.text.now _ c.put_runs.new.text (Method c.args.method c.in-Some-sizes_by_both.old_size c.in-Some-sizes_by_both.new_size)
     (map (λ r. Kept r) (runs_after (offsets_of c.method-before.result.says)
-    (lent c.of_method.result))) c.in_ok-put_method-in-Some-sizes_by_both.ensures h)) c.put_runs.ensures
+    (lent c.of_method-others.result))) c.in_ok-put_method-in-Some-sizes_by_both.ensures h)) c.put_runs.ensures

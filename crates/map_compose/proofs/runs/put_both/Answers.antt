@@ -13,6 +13,8 @@ pub put_met-requires : goal.put_met-requires
 put_met-requires c = record {
   run = run_short (lined_runs (offsets_of c.args.line.now.says)) c.runs.index c.in-Some.run' c.requires.line (sym c.in-Some.ensures);
   others = c.requires.others;
+  apart = c.requires.apart;
+  sums = c.requires.sums;
 }
 
 pub overflow_add-index : goal.overflow_add-index

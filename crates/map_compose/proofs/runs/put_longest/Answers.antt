@@ -29,7 +29,7 @@ runs-preserved c =
     record {
       within = omega arith;
       joins = joins_next _ _ _ _ _ _ (lined_runs (offsets_of c.args.line.now.says)) c.runs.index c.in-Some.run'
-          (sym c.in-Some.ensures) c.runs.invariant.joins c.in_ok-put_joined.ensures;
+          (sym c.in-Some.ensures) c.runs.invariant.joins c.in_ok-put_joined.ensures.joins;
     }
 
 pub returns : goal.returns

@@ -1,4 +1,4 @@
-use Rattle.std.proofs.Common.{arith, sym, ap, ◌∙◌, ◌≡◌, ◌++◌, ◌∷◌, [], length, subst, ◌<◌}
+use Rattle.std.proofs.Common.{arith, sym, ap, ◌∙◌, ◌≡◌, ◌++◌, ◌∷◌, [], length, subst, ◌<◌, inl}
 use Rattle.std.proofs.lemmas.List.{length-map}
 use Rattle.std.specs.List.{flat_map}
 use Rattle.ppdb_maps.specs.Map.{MethodLine}
@@ -51,4 +51,5 @@ pub returns : goal.returns
 returns c = record {
   runs = c.lines.invariant.runs ∙ ap (flat_map long) (lines_past c.args.map.now.methods c.lines.index (sym c.in_default.ensures));
   lines = c.lines.invariant.lines ∙ ap (places 0) (lines_past c.args.map.now.methods c.lines.index (sym c.in_default.ensures));
+  sums = inl c.new-sums.ensures.items;
 }
