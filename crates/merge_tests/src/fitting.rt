@@ -1,0 +1,181 @@
+// Whether maps fit files that come first.
+ghost use Rattle.std.specs.Prelude.{◌≡◌, ◌<◌};
+
+use crate::files::{HALVES, HANDLED, RESUMED, UNKNOWN};
+use crate::maps::map_of;
+use custom_info::Marks;
+use ppdb_base::{List, MergeError, Place, Steps};
+use ppdb_fits::judge;
+use ppdb_maps::MapText;
+use ppdb_references::Imaged;
+use ppdb_verify::verify;
+use std::alloc::Global;
+use std::marker::Brand;
+use std::sync::ledger::{Blank, Ledger};
+use std::test::Fail;
+use value_reading::value_of;
+use worked_files::{PROGRAM, SMALL};
+
+fn judged_in<L: Ledger>(
+    alloc: Global,
+    bytes: &[u8],
+    map: &MapText,
+    blank: Blank,
+) -> Result<Result<List<Imaged>, MergeError>, Fail>
+    requires { (blank.name ≡ L.name) × (blank.parts ≡ L.parts) × (0 < L.parts) }
+{
+    if bytes.len() > 0x0800_0000 {
+        return Err(Fail::from("too long"));
+    }
+    let marks = Marks::new(alloc);
+    let mut steps = Steps::<L>::new(blank);
+    let Ok(file) = verify(alloc, bytes, &mut steps) else {
+        return Err(Fail::from("not valid"));
+    };
+    let Ok(value) = value_of(alloc, &file, &mut steps) else {
+        return Err(Fail::from("no memory"));
+    };
+    Ok(judge(alloc, &file, &value, map, &marks, true, &mut steps))
+}
+
+/// How a map is judged for a file that comes first: the rows that the file names with their images, or what does not fit.
+fn judged(
+    alloc: Global,
+    bytes: &[u8],
+    lines: &str,
+) -> Result<Result<List<Imaged>, MergeError>, Fail> {
+    let map = map_of(alloc, lines)?;
+    judged_in::<Brand>(alloc, bytes, &map, Blank::new(1))
+}
+
+/// The entry point is named, and has no image.
+const ENTRY_UNMAPPED: MergeError = MergeError::Unmapped {
+    table: 6,
+    row: 1,
+    place: Place {
+        part: 3,
+        table: 0,
+        row: 0,
+        column: 0,
+        byte: 20,
+    },
+};
+
+const KIND_UNKNOWN: MergeError = MergeError::KindUnknown {
+    row: 1,
+    kind: [
+        0x33, 0x22, 0x11, 0x00, 0x55, 0x44, 0x77, 0x66, 0x88, 0x99, 0xaa, 0xbb, 0xcc, 0xdd, 0xee,
+        0xff,
+    ],
+};
+
+fn beyond(offset: u32, size: u32) -> MergeError {
+    MergeError::OffsetBeyond {
+        method: 1,
+        offset,
+        size,
+    }
+}
+
+fn lost(method: u32, offset: u32) -> MergeError {
+    MergeError::AsyncLost { method, offset }
+}
+
+#[test]
+fn what_does_not_fit_is_told(rt: HostRuntime) -> Result<(), Fail> {
+    let slot_unmapped = MergeError::SlotUnmapped { row: 2, slot: 1 };
+    let slot_twice = MergeError::SlotTwice {
+        method: 1,
+        first: 0,
+        second: 1,
+        image: 5,
+    };
+    let image_twice = MergeError::ImageTwice {
+        table: 6,
+        first: 2,
+        second: 3,
+        image: 1,
+    };
+    let rows: [(&[u8], &str, MergeError); 14] = [
+        (&SMALL, "ppdbmap 1/rows 06 1", ENTRY_UNMAPPED),
+        (&SMALL, "ppdbmap 1/method 1 7 7/run 0 0 7", beyond(7, 7)),
+        (&SMALL, "ppdbmap 1/method 1 8 8/run 0 0 8", beyond(9, 8)),
+        (
+            &SMALL,
+            "ppdbmap 1/rows 06 1/method 1 5 5/run 0 0 5",
+            beyond(7, 5),
+        ),
+        (&SMALL, "ppdbmap 3/slots 1/slot 1 0 5", slot_unmapped),
+        (
+            &SMALL,
+            "ppdbmap 3/slots 1/slot 1 0 5/slot 1 1 5",
+            slot_twice,
+        ),
+        (
+            &SMALL,
+            "ppdbmap 3/rows 06 1/slots 1/slot 1 0 5/slot 1 1 5",
+            ENTRY_UNMAPPED,
+        ),
+        (
+            &HALVES,
+            "ppdbmap 1/rows 06 2/row 06 2 1/row 06 3 1",
+            image_twice,
+        ),
+        (
+            &HANDLED,
+            "ppdbmap 1/method 1 30 30/run 0 0 7/run 8 8 22",
+            lost(1, 7),
+        ),
+        (
+            &HANDLED,
+            "ppdbmap 1/method 1 30 30/run 0 0 20/run 21 21 9",
+            lost(1, 20),
+        ),
+        (&HANDLED, "ppdbmap 1/method 1 6 6/run 0 0 6", beyond(7, 6)),
+        (
+            &HANDLED,
+            "ppdbmap 1/method 1 25 30/run 0 0 25",
+            beyond(25, 25),
+        ),
+        (&RESUMED, "ppdbmap 2/drop 2", lost(2, 25)),
+        (&UNKNOWN, "ppdbmap 2/drop 1", KIND_UNKNOWN),
+    ];
+    for (bytes, lines, error) in rows {
+        match judged(rt.alloc(), bytes, lines)? {
+            Err(told) if told == error => {}
+            _ => return Err(Fail::from(lines)),
+        }
+    }
+    Ok(())
+}
+
+#[test]
+fn what_fits_has_images(rt: HostRuntime) -> Result<(), Fail> {
+    let rows: [(&[u8], &str, &[(u32, u32)]); 4] = [
+        (
+            &PROGRAM,
+            "ppdbmap 1/rows 06 10/row 06 1 6/row 06 2 2/row 06 4 9",
+            &[(1, 6), (2, 2), (4, 9)],
+        ),
+        (
+            &HALVES,
+            "ppdbmap 1/rows 06 9/row 06 2 5/row 06 3 4",
+            &[(2, 5), (3, 4)],
+        ),
+        (&RESUMED, "ppdbmap 2/drop 1", &[]),
+        (&UNKNOWN, "ppdbmap 2/drop 2", &[]),
+    ];
+    for (bytes, lines, methods) in rows {
+        let Ok(found) = judged(rt.alloc(), bytes, lines)? else {
+            return Err(Fail::from(lines));
+        };
+        let mut images = Vec::new(rt.alloc());
+        for row in found.as_slice() {
+            if row.table == 6 {
+                images.push((row.row, row.image))?;
+            }
+        }
+        assert!(rt; images.as_slice() == methods);
+    }
+    Ok(())
+}

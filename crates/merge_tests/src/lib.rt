@@ -1,0 +1,11 @@
+//! Rows over several crates: files whose maps fit or do not fit, and files that are merged.
+#![tactic(auto)]
+
+#[cfg(test)]
+mod files;
+#[cfg(test)]
+mod fitting;
+#[cfg(test)]
+mod maps;
+#[cfg(test)]
+mod merging;

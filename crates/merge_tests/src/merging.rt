@@ -1,0 +1,179 @@
+// Files that are merged.
+ghost use Rattle.std.specs.Prelude.{◌≡◌, ◌<◌, ◌+◌, length, IfOk, OnOk};
+
+use crate::files::{HALVES, MORE_RECORDS, OTHER_HALF, RECORDS};
+use crate::maps::map_of;
+use custom_info::{Marks, SOURCE_LINK, TYPE_DOCUMENTS};
+use ppdb_base::{MergeError, Steps};
+use ppdb_maps::MapText;
+use ppdb_merge::Merger;
+use ppdb_values::{CustomBody, FileValue};
+use ppdb_verify::verify;
+use std::alloc::Global;
+use std::marker::Brand;
+use std::sync::ledger::{Blank, Ledger};
+use std::test::Fail;
+use worked_files::SMALL;
+
+/// A file with the lines of its map.
+#[derive(Clone, Copy)]
+struct Input<'a>(&'a [u8], &'a str);
+
+fn add_in<L: Ledger>(
+    alloc: Global,
+    merger: &mut Merger,
+    bytes: &[u8],
+    map: &MapText,
+    blank: Blank,
+) -> Result<Result<(), MergeError>, Fail>
+    requires ledger { (blank.name ≡ L.name) × (blank.parts ≡ L.parts) × (0 < L.parts) }
+    requires few { length merger.now.traces < 256 }
+    ensures { IfOk result (λ answer. OnOk answer (length merger.new.traces ≡ length merger.old.traces + 1)) }
+{
+    if bytes.len() > 0x0800_0000 {
+        return Err(Fail::from("too long"));
+    }
+    let mut steps = Steps::<L>::new(blank);
+    let Ok(file) = verify(alloc, bytes, &mut steps) else {
+        return Err(Fail::from("not valid"));
+    };
+    Ok(merger.add(&file, map, &mut steps))
+}
+
+fn add(alloc: Global, merger: &mut Merger, input: Input<'_>) -> Result<Result<(), MergeError>, Fail>
+    requires { length merger.now.traces < 256 }
+    ensures { IfOk result (λ answer. OnOk answer (length merger.new.traces ≡ length merger.old.traces + 1)) }
+{
+    let Input(bytes, lines) = input;
+    let map = map_of(alloc, lines)?;
+    add_in::<Brand>(alloc, merger, bytes, &map, Blank::new(1))
+}
+
+/// What two files are merged to.
+fn merged(
+    alloc: Global,
+    first: Input<'_>,
+    second: Input<'_>,
+) -> Result<Result<FileValue, MergeError>, Fail> {
+    let mut merger = Merger::new(alloc, Marks::new(alloc));
+    if let Err(told) = add(alloc, &mut merger, first)? {
+        return Ok(Err(told));
+    }
+    if let Err(told) = add(alloc, &mut merger, second)? {
+        return Ok(Err(told));
+    }
+    Ok(merger.finish())
+}
+
+#[test]
+fn what_does_not_fit_is_told(rt: HostRuntime) -> Result<(), Fail> {
+    let half = Input(&HALVES, "ppdbmap 1/rows 06 9/row 06 2 5/row 06 3 4");
+    let taken = MergeError::MethodTaken {
+        input: 1,
+        first: 3,
+        second: 1,
+        image: 4,
+    };
+    let conflict = MergeError::DocumentConflict { row: 2, joined: 2 };
+    let differ = MergeError::RowsDiffer {
+        input: 2,
+        table: 2,
+        first: 0,
+        second: 1,
+    };
+    let above = MergeError::ImageRange {
+        input: 1,
+        table: 6,
+        row: 1,
+        image: 2,
+        rows: 1,
+    };
+    let rows = [
+        (
+            half,
+            Input(&OTHER_HALF, "ppdbmap 1/rows 06 9/row 06 1 4"),
+            taken,
+        ),
+        (
+            half,
+            Input(&OTHER_HALF, "ppdbmap 1/rows 06 9/row 06 1 6"),
+            conflict,
+        ),
+        (
+            Input(&HALVES, "ppdbmap 1/rows 06 9/row 06 2 12/row 06 3 4"),
+            Input(&SMALL, "ppdbmap 1/rows 06 9/row 06 1 6/rows 02 1"),
+            differ,
+        ),
+        (
+            Input(&SMALL, "ppdbmap 1/rows 06 1/row 06 1 2"),
+            Input(&SMALL, "ppdbmap 1/rows 06 1/row 06 1 1"),
+            above,
+        ),
+    ];
+    for (first, second, error) in rows {
+        match merged(rt.alloc(), first, second)? {
+            Err(told) if told == error => {}
+            _ => return Err(Fail::from(second.1)),
+        }
+    }
+    Ok(())
+}
+
+/// The document is one, and the methods stand by their images.
+#[test]
+fn one_file_is_merged_with_itself(rt: HostRuntime) -> Result<(), Fail> {
+    let first = Input(&SMALL, "ppdbmap 1/rows 06 2/row 06 1 1");
+    let second = Input(&SMALL, "ppdbmap 1/rows 06 2/row 06 1 2");
+    let Ok(value) = merged(rt.alloc(), first, second)? else {
+        return Err(Fail::from("refused"));
+    };
+    assert_eq!(rt; value.rows[6], 2);
+    assert_eq!(rt; value.entry, 1);
+    assert_eq!(rt; value.documents.len(), 1);
+    assert_eq!(rt; value.scopes.len(), 4);
+    let methods = value.methods.as_slice();
+    assert_eq!(rt; methods.len(), 2);
+    assert!(rt; methods[0].method == 1 && methods[1].method == 2);
+    Ok(())
+}
+
+/// A record goes where an earlier file has it, and stays where its own file has it twice; its documents are compared as rows of the
+/// joined file.
+#[test]
+fn records_of_earlier_files_are_left_out(rt: HostRuntime) -> Result<(), Fail> {
+    let Ok(value) = merged(
+        rt.alloc(),
+        Input(&RECORDS, "ppdbmap 1"),
+        Input(&MORE_RECORDS, "ppdbmap 1"),
+    )?
+    else {
+        return Err(Fail::from("refused"));
+    };
+    let documents = value.documents.as_slice();
+    assert_eq!(rt; documents.len(), 2);
+    assert!(rt;
+        documents[0].name.as_slice() == b"d".as_slice()
+            && documents[1].name.as_slice() == b"e".as_slice()
+    );
+    let rows: [(u8, &[u8]); 5] = [
+        (0x02, b"\x01"),
+        (0x00, b"x"),
+        (0x00, b"x"),
+        (0x00, b"z"),
+        (0x30, b"y"),
+    ];
+    let records = value.customs.as_slice();
+    assert_eq!(rt; records.len(), rows.len());
+    for (record, (table, said)) in records.iter().zip(rows) {
+        assert!(rt; record.parent.table == table && record.parent.row == 1);
+        let same = match &record.value {
+            CustomBody::TypeDocuments(rows) => record.kind == TYPE_DOCUMENTS
+                && rows.as_slice() == [1].as_slice()
+                && said == b"\x01".as_slice(),
+            CustomBody::Unread(bytes) => record.kind == SOURCE_LINK && bytes.as_slice() == said,
+            _ => false,
+        };
+        assert!(rt; same);
+    }
+    Ok(())
+}
