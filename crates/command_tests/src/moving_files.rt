@@ -214,8 +214,15 @@ pub fn worked(alloc: Global) -> Result<MemoryFolder, Fail> {
     for (name, parts) in FILES {
         folder.set(name, &file_of(alloc, parts)?)?;
     }
-    for (name, lines) in MAPS {
-        folder.set(name, lines.replace(alloc, "/", "\n")?.as_bytes())?;
-    }
+    put_texts(alloc, &mut folder, &MAPS)?;
     Ok(folder)
+}
+
+/// Makes files hold texts, in which a slash stands for the end of a line.
+fn put_texts(alloc: Global, folder: &mut MemoryFolder, texts: &[(&str, &str)]) -> Result<(), Fail> {
+    for &(name, lines) in texts {
+        let text = lines.replace(alloc, "/", "\n")?;
+        folder.set(name, text.as_bytes())?;
+    }
+    Ok(())
 }
