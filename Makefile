@@ -36,7 +36,7 @@ install: all
 uninstall:
 	rm -f "$(DESTDIR)$(bindir)/ppdb" "$(DESTDIR)$(mandir)/man1/ppdb.1" "$(DESTDIR)$(bashdir)/ppdb" "$(DESTDIR)$(zshdir)/_ppdb"
 	rm -f $(foreach file,$(notdir $(documents)),"$(DESTDIR)$(docdir)/$(file)")
-	-rmdir "$(DESTDIR)$(docdir)" 2>/dev/null
+	rmdir "$(DESTDIR)$(docdir)" 2>/dev/null || true
 
 release: all
 	scripts/release build/release

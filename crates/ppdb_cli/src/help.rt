@@ -109,15 +109,27 @@ const REMAP: &str = "ppdb remap IN MAP OUT [--keep-id] [--free GUID]..
 Verifies IN, the debug file of a module before it was rewritten, moves it as the text in MAP says
 where rows, IL offsets and local slots went, and writes the canonical file to OUT. What was said at
 an offset that is kept is said at its image. It prints nothing. Both are read before OUT is written,
-which may be one of them. A file that does not fit its map is told in a line, with status 8:
-    unfit IN M1 table 06 row 3 at table 31 row 3 column 1 byte 0
-A map of a method of 9 bytes, of which the offsets 0 and 5 to 8 are kept in 12 bytes:
+which may be one of them. A map of a method of 9 bytes, of which the offsets 0 and 5 to 8 are kept in 12 bytes:
     ppdbmap 1
     method 1 9 12
     run 0 0 1
     run 5 6 4
 --keep-id     the identity is that of IN, and not made from the bytes of the new file
 --free GUID   passes on a kind of custom debug information that is unknown, else status 8
+
+A file that does not fit its map is told in a line, with status 8:
+    unfit IN M1 table 06 row 3 at table 31 row 3 column 1 byte 0
+M6   a record has an unknown kind: mark it by --free, where it names no row, offset or slot
+M4   an offset is above the old size: give the size before the rewriting
+M5   an async method stops at an offset that is not kept: a run line must hold it
+M1   a row has no image: a row line is missing, or the drop line of a removed method
+M2   two rows became one: a row line is wrong, or a method must be dropped
+M10  a slot has no image: a slot line is missing
+M11  two slots became one: a slot line is wrong
+What passes a limit of the format, with status 9:
+L3   a point at 536870912 or further: the map moves it too far
+L4   two lines are too far apart, since the point between them went: keep it by a run line
+L5   more than 134217728 bytes; L6 more than 268435456 bytes of texts and blobs: the file is too large
 ";
 
 const MERGE: &str = "ppdb merge OUT IN MAP [IN MAP].. [--keep-id] [--free GUID]..
@@ -131,6 +143,15 @@ is written, which may be one of them. Each map gives the rows of the new module,
     row 06 1 6
 --keep-id     the identity is that of the first IN, and not made from the bytes of the new file
 --free GUID   passes on a kind of custom debug information that is unknown, else status 8
+
+What does not fit is told as by `remap` (ppdb help remap), and beside that, with status 8:
+M3   two inputs name one method of the new module: a map is wrong, or an input was named twice
+M7   documents of one name differ: compile from the same sources, or under other names
+M8   the maps count different rows: give each the same rows line
+M9   an image is above the rows of its table: a row line or the rows line is wrong
+What passes a limit of the format, with status 9, beside L3 to L6:
+L1   more than 16777215 rows of a table: join fewer inputs
+L2   65535 variables or constants, of which the last scope owns none: join another input too
 ";
 
 const COMPOSE: &str = "ppdb compose FIRST SECOND OUT
