@@ -46,7 +46,7 @@ fn push_blocks(map: &MapText, blocks: &mut Vec<SlotBlock>) -> Result<(), Memory>
 {
     map.keeps();
     let mut index = 0;
-    'blocks: while let Some(method) = map.slots_line(index) {
+    'methods: while let Some(method) = map.slots_line(index) {
         blocks.push(block_of(map, method))?;
         index += 1;
     }

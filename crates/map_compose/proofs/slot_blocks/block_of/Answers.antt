@@ -1,7 +1,7 @@
 use Rattle.std.proofs.Common.{arith, refl, sym, length, ◌<◌}
 use Rattle.ppdb_maps.specs.Map.{slots_of}
 use Rattle.map_compose.proofs.Bounds.{few_slots_of}
-use Rattle.map_compose.proofs.Slots.{slot_inside, digits_next, block_is}
+use Rattle.map_compose.proofs.SlotLines.{slot_inside, digits_next, block_is}
 use Rattle.map_compose.proofs.slot_blocks.block_of.Goals as goal
 
 pub slots-init : goal.slots-init
@@ -10,7 +10,7 @@ slots-init c = record { within = omega arith; digits = refl; few = omega arith }
 pub overflow_add-digits : goal.overflow_add-digits
 overflow_add-digits c =
     let one = c.digits_of.ensures.few in
-    let two = c.digits_of-in-slots.ensures.few in
+    let two = c.digits_of-in-Some.ensures.few in
     let digits = c.slots.invariant.few in
     let within = c.slots.invariant.within in
     let few = few_slots_of c.args.map.now c.args.method c.keeps.ensures in
@@ -32,7 +32,7 @@ slots-preserved c =
     let inside : c.slots.slots < length (slots_of c.args.map.now c.args.method) = slot_inside _ c.slots.slots c.in-Some.old c.in-Some.new (sym c.in-Some.ensures) in
     let next = digits_next (slots_of c.args.map.now c.args.method) c.slots.slots c.in-Some.old c.in-Some.new (sym c.in-Some.ensures) in
     let one = c.digits_of.ensures in
-    let two = c.digits_of-in-slots.ensures in
+    let two = c.digits_of-in-Some.ensures in
     let digits = c.slots.invariant.digits in
     let few = c.slots.invariant.few in
     record {

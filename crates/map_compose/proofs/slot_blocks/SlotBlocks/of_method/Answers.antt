@@ -7,7 +7,7 @@ use Rattle.std.proofs.lemmas.Bool.{eq-eqb, ne_eqb}
 use Rattle.std.proofs.lemmas.Fn.{always_returns_same}
 use Rattle.ppdb_maps.proofs.Halving.{if_passes}
 use Rattle.map_compose.specs.declared.slot_blocks.SlotBlock.{SlotBlock}
-use Rattle.map_compose.proofs.Slots.{lent_block}
+use Rattle.map_compose.proofs.SlotLines.{lent_block}
 use Rattle.map_compose.proofs.slot_blocks.SlotBlocks.of_method.Goals as goal
 
 pub returns-in_err-block : goal.returns-in_err-block

@@ -1,5 +1,5 @@
 -- How long the lines of a method's slots are, and what is counted of them.
-use Rattle.std.proofs.Common.{ℕ, zero, suc, ◌≡◌, ◌⊎◌, ◌+◌, ◌*◌, ◌<◌, ◌≤◌, ◌++◌, ◌×◌, Bool, true, false, cond, List, [], ◌∷◌, length, take, map, refl, sym, ap, ◌∙◌}
+use Rattle.std.proofs.Common.{ℕ, zero, suc, ◌≡◌, ◌⊎◌, ◌+◌, ◌*◌, ◌<◌, ◌≤◌, ◌++◌, ◌||◌, Bool, true, false, cond, List, [], ◌∷◌, length, take, map, refl, sym, ap, ◌∙◌}
 use Rattle.std.proofs.Common.{arith, subst, inl, inr, length-append, Option, Some, None, Bor}
 use Rattle.std.specs.Prelude.{nat_eq, nat_lt}
 use Rattle.std.specs.Fmt.{decimal}
@@ -15,7 +15,7 @@ use Rattle.std.proofs.lemmas.List.{append-nil, append_assoc}
 use Rattle.ppdb_maps.specs.declared.entries.SlotImage.{SlotImage}
 use Rattle.ppdb_maps.specs.declared.line.Line.TheVariants.{Slot}
 use Rattle.ppdb_maps.specs.Forms.{SLOTS}
-use Rattle.ppdb_maps.specs.Map.{Map, has_slots, slot_line, slot_image, slots_of}
+use Rattle.ppdb_maps.specs.Map.{Map, row_image, has_slots, slot_line, slot_image, slots_of}
 use Rattle.ppdb_maps.specs.Readable.{IsReadable, IsSlotOf}
 use Rattle.ppdb_maps.proofs.Halving.{found_lent, by_number, if_passes}
 use Rattle.ppdb_maps.proofs.OneList.{each_found}
@@ -43,7 +43,7 @@ slot_length method x =
     omega (arith, a, b, e, f)
 
 pub slots_long : (method : ℕ) (xs : List SlotImage) → slots_length method xs ≡ length xs * (8 + length (decimal method)) + slot_digits xs
-slots_long method [] = refl
+slots_long method [] = omega arith
 slots_long method (x ∷ xs) =
     let one = slot_length method x in
     let rest = slots_long method xs in
@@ -51,7 +51,7 @@ slots_long method (x ∷ xs) =
     omega (arith, one, rest, both)
 
 digits_join : (xs ys : List SlotImage) → slot_digits (xs ++ ys) ≡ slot_digits xs + slot_digits ys
-digits_join [] ys = refl
+digits_join [] ys = omega arith
 digits_join (x ∷ xs) ys = omega (arith, digits_join xs ys)
 
 -- ---- bounds
@@ -72,10 +72,10 @@ digits_small m method readable =
 
 -- ---- one slot more, and one block more
 
-abbrev numbers : SlotImage → ℕ × ℕ
+abbrev pub numbers : SlotImage → ℕ × ℕ
 numbers x = (x.old, x.new)
 
-slot_at : (xs : List SlotImage) (i old new : ℕ) → option_map (λ (x : SlotImage). (x.old, x.new)) (slice_get xs i) ≡ Some (old, new)
+slot_at : (xs : List SlotImage) (i old new : ℕ) → option_map numbers (slice_get xs i) ≡ Some (old, new)
     → (x : SlotImage) × ((slice_get xs i ≡ Some x) × (x.old ≡ old) × (x.new ≡ new))
 slot_at xs i old new is = of (slice_get xs i) refl is
   where
@@ -85,10 +85,10 @@ slot_at xs i old new is = of (slice_get xs i) refl is
     of (Some x) at is =
         let e : ◌≡◌ {A = ℕ × ℕ} (x.old, x.new) (old, new) = cc in (x, (at, ap (λ (p : ℕ × ℕ). p.0) e, ap (λ (p : ℕ × ℕ). p.1) e))
 
-pub slot_inside : (xs : List SlotImage) (i old new : ℕ) → option_map (λ (x : SlotImage). (x.old, x.new)) (slice_get xs i) ≡ Some (old, new) → i < length xs
+pub slot_inside : (xs : List SlotImage) (i old new : ℕ) → option_map numbers (slice_get xs i) ≡ Some (old, new) → i < length xs
 slot_inside xs i old new is = let x = slot_at xs i old new is in within xs i x.0 x.1.0
 
-pub digits_next : (xs : List SlotImage) (i old new : ℕ) → option_map (λ (x : SlotImage). (x.old, x.new)) (slice_get xs i) ≡ Some (old, new)
+pub digits_next : (xs : List SlotImage) (i old new : ℕ) → option_map numbers (slice_get xs i) ≡ Some (old, new)
     → slot_digits (take (i + 1) xs) ≡ slot_digits (take i xs) + (length (decimal old) + length (decimal new))
 digits_next xs i old new is =
     let x = slot_at xs i old new is in
@@ -98,7 +98,7 @@ digits_next xs i old new is =
     let two = ap (λ n. length (decimal n)) x.1.2 in
     omega (arith, more, join, one, two)
 
-slots_past : (xs : List SlotImage) (i : ℕ) → option_map (λ (x : SlotImage). (x.old, x.new)) (slice_get xs i) ≡ None → take i xs ≡ xs
+slots_past : (xs : List SlotImage) (i : ℕ) → option_map numbers (slice_get xs i) ≡ None → take i xs ≡ xs
 slots_past xs i is = take_past xs i (of (slice_get xs i) is)
   where
     of : (o : Option SlotImage) → option_map numbers o ≡ None → o ≡ None
@@ -110,7 +110,7 @@ long_past [] i is = omega arith
 long_past (x ∷ xs) zero is = absurd (cc)
 long_past (x ∷ xs) (suc i) is = omega (arith, long_past xs i is)
 
-pub block_is : (m : Map) (method i digits : ℕ) → option_map (λ (x : SlotImage). (x.old, x.new)) (slice_get (slots_of m method) i) ≡ None
+pub block_is : (m : Map) (method i digits : ℕ) → option_map numbers (slice_get (slots_of m method) i) ≡ None
     → i ≤ length (slots_of m method) → digits ≡ slot_digits (take i (slots_of m method))
     → record { method = method; slots = i; digits = digits } ≡ block_of m method
 block_is m method i digits is most are =
@@ -163,7 +163,7 @@ block_found : (m : Map) (k : ℕ) (ns : List ℕ) (block : SlotBlock) → find (
 block_found m k [] block is = absurd (cc)
 block_found m k (n ∷ ns) block is = of (nat_eq n k) refl is (λ rest. block_found m k ns block rest)
   where
-    or_true : (b : Bool) → cond b true true ≡ true
+    or_true : (b : Bool) → (b || true) ≡ true
     or_true true = refl
     or_true false = refl
 
@@ -215,7 +215,8 @@ images_taken f s method image readable follows none lines =
     sym (ap (λ xs. map slot_says (filter_map (slot_entry f s method) xs)) sources ∙ of (slots_of s image) (own_slots s image readable lines))
   where
     sources : slot_sources f s method ≡ slots_of s image
-    sources = ap (λ b. cond b _ (of_image [] _ _)) none ∙ ap (of_image [] _) (follows_image f s method image follows).first
+    sources = ap (λ b. cond b (slots_of f method) (of_image [] (slots_of s) (row_image f 0x06 method))) none
+        ∙ ap (of_image [] (slots_of s)) (follows_image f s method image follows).first
 
     after : (old : ℕ) → composed_slot f s method old ≡ slot_image s image old
     after old = slot_follows f s method image old follows ∙ ap (λ b. option_and_then (slot_image s image) (cond b (slot_line f method old) (Some old))) none
