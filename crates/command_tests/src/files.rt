@@ -2,9 +2,11 @@
 use std::alloc::{AllocError, Global};
 use worked_files::EMPTY;
 
-/// What differs from the file without rows in a file without an identity and an entry point. A bit of a mask is a table by its number.
+/// What differs from the file without rows in a file without an identity. A bit of a mask is a table by its number.
 #[derive(Clone, Copy)]
 pub struct Parts<'a> {
+    /// The token of the entry point.
+    pub entry: u32,
     /// The tables of the type system that have rows.
     pub referenced: u64,
     /// How many rows they have, each in four bytes, by ascending table.
@@ -18,8 +20,9 @@ pub struct Parts<'a> {
     pub blobs: &'a [u8],
 }
 
-/// No rows and empty heaps.
+/// No entry point, no rows and empty heaps.
 pub const NOTHING: Parts<'static> = Parts {
+    entry: 0,
     referenced: 0,
     referenced_rows: b"",
     valid: 0,
@@ -74,7 +77,8 @@ pub fn count_of(items: usize) -> u32 {
 
 fn pdb_stream(alloc: Global, parts: Parts<'_>) -> Result<Vec<u8>, AllocError> {
     let mut stream = Vec::new(alloc);
-    stream.extend_from_slice(&[0; 24])?;
+    stream.extend_from_slice(&[0; 20])?;
+    stream.extend_from_slice(&parts.entry.to_le_bytes())?;
     stream.extend_from_slice(&parts.referenced.to_le_bytes())?;
     stream.extend_from_slice(parts.referenced_rows)?;
     Ok(stream)

@@ -28,4 +28,6 @@ mod sample;
 #[cfg(test)]
 mod show;
 #[cfg(test)]
+mod two_steps;
+#[cfg(test)]
 mod words;

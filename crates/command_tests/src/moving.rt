@@ -9,7 +9,7 @@ use worked_files::SMALL;
 
 /// Runs the command of these words, which stand apart by spaces, and says whether it ended so and printed this; of what `show`
 /// prints this is the end.
-fn ends<F: Folder>(
+pub fn ends<F: Folder>(
     alloc: Global,
     line: &str,
     folder: &mut F,

@@ -26,14 +26,14 @@ const SOURCE_LINK: [u8; 16] = [
 ];
 
 /// No rows but one method.
-const ONE_METHOD: Parts<'static> = Parts {
+pub const ONE_METHOD: Parts<'static> = Parts {
     referenced: 0x40,
     referenced_rows: b"\x01\0\0\0",
     ..NOTHING
 };
 
 /// No rows but two methods.
-const TWO_METHODS: Parts<'static> = Parts {
+pub const TWO_METHODS: Parts<'static> = Parts {
     referenced_rows: b"\x02\0\0\0",
     ..ONE_METHOD
 };
@@ -135,6 +135,7 @@ const FILES: [(&str, Parts<'static>); 8] = [
             texts: b"\0p\0q\0",
             guids: &SOURCE_LINK,
             blobs: b"\0\x01N\x03\x02\x01\x01\x01i",
+            ..NOTHING
         },
     ),
 ];
@@ -219,7 +220,11 @@ pub fn worked(alloc: Global) -> Result<MemoryFolder, Fail> {
 }
 
 /// Makes files hold texts, in which a slash stands for the end of a line.
-fn put_texts(alloc: Global, folder: &mut MemoryFolder, texts: &[(&str, &str)]) -> Result<(), Fail> {
+pub fn put_texts(
+    alloc: Global,
+    folder: &mut MemoryFolder,
+    texts: &[(&str, &str)],
+) -> Result<(), Fail> {
     for &(name, lines) in texts {
         let text = lines.replace(alloc, "/", "\n")?;
         folder.set(name, text.as_bytes())?;

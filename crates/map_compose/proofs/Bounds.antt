@@ -9,12 +9,12 @@ use Rattle.ppdb_base.specs.Offsets.{RiseFrom, end_of, new_end_of}
 use Rattle.ppdb_maps.specs.declared.entries.RowImage.{RowImage}
 use Rattle.ppdb_maps.specs.declared.entries.SlotImage.{SlotImage}
 use Rattle.ppdb_maps.specs.Forms.{ROWS, SLOTS}
-use Rattle.ppdb_maps.specs.Map.{Map}
+use Rattle.ppdb_maps.specs.Map.{Map, slots_of}
 use Rattle.ppdb_maps.specs.Readable.{IsReadable, IsRow}
 use Rattle.map_compose.specs.Composed.{composed_count, slot_sources}
 use Rattle.map_compose.specs.Says.{sources_of}
 use Rattle.map_compose.proofs.Orders.{Up, Above, less}
-use Rattle.map_compose.proofs.Readable.{source_rows, sources_up, slot_source_fits, slot_sources_up}
+use Rattle.map_compose.proofs.Readable.{source_rows, sources_up, slot_source_fits, slot_sources_up, slots_up, slots_hold}
 
 above_few : (n most : ℕ) (ns : List ℕ) → n ≤ most → Above n ns → Up ns → AllByRecursion (λ k. k ≤ most) ns → n + length ns ≤ most
 unfolding IsStrictlySortedBy
@@ -46,6 +46,12 @@ pub few_slots : (f s : Map) (method : ℕ) → IsReadable f → IsReadable s →
 few_slots f s method f_readable s_readable =
     let most = few SLOTS _ (slot_sources_up f s f_readable s_readable method) (slots_least _ (slot_source_fits f s f_readable s_readable method)) in
     let same = length-map (slot_sources f s method) (λ (x : SlotImage). x.old) in
+    omega (arith, most, same)
+
+pub few_slots_of : (m : Map) (method : ℕ) → IsReadable m → length (slots_of m method) ≤ 65536
+few_slots_of m method readable =
+    let most = few SLOTS _ (slots_up m readable method) (slots_least _ (slots_hold m readable method)) in
+    let same = length-map (slots_of m method) (λ (x : SlotImage). x.old) in
     omega (arith, most, same)
 
 -- runs that rise are no more than the offsets before the size

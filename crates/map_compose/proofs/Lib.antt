@@ -23,3 +23,4 @@ pub mod Worked
 pub mod Digits
 pub mod Sums
 pub mod Insides
+pub mod SlotLines

@@ -10,3 +10,5 @@ pub mod Parts
 pub mod Joining
 pub mod Refused
 pub mod Lengths
+pub mod Slots
+pub mod Gathered

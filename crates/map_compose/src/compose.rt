@@ -7,7 +7,7 @@ ghost use Rattle.map_compose.specs.Refused.{Counts, RefusesFor};
 ghost use Rattle.map_compose.specs.Sizes.{SizesAgree};
 
 use crate::error::ComposeError;
-use crate::joined::JoinedRuns;
+use crate::gathered::Gathered;
 use crate::methods::put_part;
 use crate::part::Part;
 use crate::sizes::first_differing;
@@ -24,13 +24,13 @@ fn counted_map(alloc: Global, first: &MapText, second: &MapText) -> Result<Count
 {
     first.keeps();
     second.keeps();
-    let mut joined = JoinedRuns::of(alloc, second)?;
+    let mut gathered = Gathered::of(alloc, second)?;
     let mut text = Counted::new(alloc);
     text.put_head()?;
     put_tables(first, second, &mut text)?;
-    put_part(Part::Drops, first, second, &mut joined, &mut text)?;
-    put_part(Part::Slots, first, second, &mut joined, &mut text)?;
-    put_part(Part::Methods, first, second, &mut joined, &mut text)?;
+    put_part(Part::Drops, first, second, &mut gathered, &mut text)?;
+    put_part(Part::Slots, first, second, &mut gathered, &mut text)?;
+    put_part(Part::Methods, first, second, &mut gathered, &mut text)?;
     Ok(text)
 }
 

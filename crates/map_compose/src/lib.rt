@@ -4,6 +4,7 @@
 mod blocks;
 mod compose;
 mod error;
+mod gathered;
 mod image;
 mod joined;
 mod joining;
@@ -12,6 +13,7 @@ mod methods;
 mod part;
 mod runs;
 mod sizes;
+mod slot_blocks;
 mod slots;
 mod tables;
 #[cfg(test)]

@@ -1,12 +1,14 @@
 // The lines of methods, part by part.
 ghost use Rattle.std.specs.Prelude.{◌≡◌, OnOk};
 ghost use Rattle.std.specs.List.{flat_map};
+ghost use Rattle.map_compose.specs.Gathered.{IsGatheredOf};
 ghost use Rattle.map_compose.specs.Joining.{AreJoinedOf};
 ghost use Rattle.map_compose.specs.Composition.{sizes_then};
 ghost use Rattle.map_compose.specs.Sizes.{SizesAgree};
 ghost use Rattle.map_compose.specs.Says.{PutsLines, line_of_both, drop_of_both};
 ghost use Rattle.map_compose.specs.Parts.{part_says, all_numbers};
 
+use crate::gathered::Gathered;
 use crate::image::{drops, image_of};
 use crate::joined::JoinedRuns;
 use crate::part::{Part, Passed};
@@ -76,18 +78,18 @@ fn put_method(
     part: Part,
     first: &MapText,
     second: &MapText,
-    joined: &JoinedRuns,
+    gathered: &Gathered,
     method: u32,
     text: &mut Counted,
 ) -> Result<(), Memory>
-    requires joined { AreJoinedOf joined.now second.now }
+    requires gathered { IsGatheredOf gathered.now second.now }
     requires agree { SizesAgree first.now second.now }
     ensures { OnOk result (PutsLines text.old text.new (part_says part first.now second.now method)) }
 {
     match part {
         Part::Drops => put_drop(first, second, method, text),
-        Part::Slots => put_slots(first, second, method, text),
-        Part::Methods => put_line(first, second, joined, method, text),
+        Part::Slots => put_slots(first, second, &gathered.slots, method, text),
+        Part::Methods => put_line(first, second, &gathered.runs, method, text),
     }
 }
 
@@ -96,19 +98,19 @@ pub fn put_part(
     part: Part,
     first: &MapText,
     second: &MapText,
-    joined: &mut JoinedRuns,
+    gathered: &mut Gathered,
     text: &mut Counted,
 ) -> Result<(), Memory>
-    requires joined { AreJoinedOf joined.now second.now }
+    requires gathered { IsGatheredOf gathered.now second.now }
     requires agree { SizesAgree first.now second.now }
-    ensures joined { OnOk result (AreJoinedOf joined.new second.now) }
+    ensures gathered { OnOk result (IsGatheredOf gathered.new second.now) }
     ensures puts { OnOk result (PutsLines text.old text.new (flat_map (part_says part first.now second.now) (all_numbers part first.now second.now))) }
 {
     second.keeps();
     let mut passed = Passed { own: 0, other: 0 };
     'methods: while let Some(method) = part.next(first, second, &mut passed) {
-        joined.sum_up(text)?;
-        put_method(part, first, second, joined, method, text)?;
+        gathered.sum_up(part, second, text)?;
+        put_method(part, first, second, gathered, method, text)?;
     }
     Ok(())
 }

@@ -3,8 +3,10 @@ ghost use Rattle.std.specs.Prelude.{◌≡◌, OnOk, Some, slice_get, option_map
 ghost use Rattle.ppdb_maps.specs.declared.entries.SlotImage.{SlotImage};
 ghost use Rattle.map_compose.specs.Composed.{slot_sources};
 ghost use Rattle.map_compose.specs.Says.{PutsLines, slot_image_says, slot_after, followed, slots_of_both, slot_images};
+ghost use Rattle.map_compose.specs.Slots.{AreBlocksOf};
 
 use crate::image::{image_of, slot_by_both};
+use crate::slot_blocks::SlotBlocks;
 use map_text::Counted;
 use ppdb_base::Memory;
 use ppdb_maps::MapText;
@@ -66,13 +68,41 @@ fn put_images(
     Ok(())
 }
 
+/// Puts the lines of the images of a method's slots. Past the longest text those of a method that
+/// takes on all slots of its image are counted together.
+fn put_block(
+    first: &MapText,
+    second: &MapText,
+    blocks: &SlotBlocks,
+    method: u32,
+    image: u32,
+    text: &mut Counted,
+) -> Result<(), Memory>
+    requires image { followed first.now second.now method ≡ Some image }
+    requires blocks { AreBlocksOf blocks.now second.now }
+    ensures { OnOk result (PutsLines text.old text.new (slot_images first.now second.now method)) }
+{
+    if first.has_slots(method) || !text.is_past() {
+        return put_images(first, second, method, image, text);
+    }
+    match blocks.of_method(image) {
+        None => put_images(first, second, method, image, text),
+        Some(block) => {
+            text.count_on(block.bytes(method));
+            Ok(())
+        }
+    }
+}
+
 /// Puts the lines of a method's slots, where it has any.
 pub fn put_slots(
     first: &MapText,
     second: &MapText,
+    blocks: &SlotBlocks,
     method: u32,
     text: &mut Counted,
 ) -> Result<(), Memory>
+    requires { AreBlocksOf blocks.now second.now }
     ensures { OnOk result (PutsLines text.old text.new (slots_of_both first.now second.now method)) }
 {
     let Some(image) = image_of(first, second, method) else {
@@ -80,7 +110,7 @@ pub fn put_slots(
     };
     if first.has_slots(method) || second.has_slots(image) {
         text.put_slots(method)?;
-        put_images(first, second, method, image, text)
+        put_block(first, second, blocks, method, image, text)
     } else {
         Ok(())
     }

@@ -1,7 +1,7 @@
 // Worked pairs of maps.
 use crate::compose::compose_maps;
 use crate::error::ComposeError;
-use crate::joined::JoinedRuns;
+use crate::gathered::Gathered;
 use crate::methods::put_part;
 use crate::part::Part;
 use crate::sizes::first_differing;
@@ -128,18 +128,18 @@ fn long_text(rt: &HostRuntime) -> Result<Counted, Fail> {
     Ok(text)
 }
 
-/// How many bytes the lines of methods and runs have, counted past the longest text.
-fn count_methods(rt: &HostRuntime, first: &[u8], second: &[u8]) -> Result<u64, Fail> {
+/// How many bytes the lines of a part have, counted past the longest text.
+fn count_part(rt: &HostRuntime, part: Part, first: &[u8], second: &[u8]) -> Result<u64, Fail> {
     let (first, second) = (read(rt, first)?, read(rt, second)?);
     if let Some(_) = first_differing(&first, &second) {
         return Err(Fail::from("sizes differ"));
     }
-    let Ok(mut joined) = JoinedRuns::of(rt.alloc(), &second) else {
+    let Ok(mut gathered) = Gathered::of(rt.alloc(), &second) else {
         return Err(Fail::from("no memory"));
     };
     let mut text = long_text(rt)?;
     let before = text.len();
-    match put_part(Part::Methods, &first, &second, &mut joined, &mut text) {
+    match put_part(part, &first, &second, &mut gathered, &mut text) {
         Ok(()) => Ok(text.len().wrapping_sub(before)),
         Err(_) => Err(Fail::from("no memory")),
     }
@@ -161,7 +161,7 @@ fn many_lines_are_counted(rt: HostRuntime) -> Result<(), Fail> {
         let line = format!(in rt.alloc(); "row 06 {method} 1\n")?;
         rows.extend_from_slice(line.as_bytes())?;
     }
-    assert_eq!(rt; count_methods(&rt, &rows, &second)?, 1_937_231);
+    assert_eq!(rt; count_part(&rt, Part::Methods, &rows, &second)?, 1_937_231);
     for method in 1..41u32 {
         let line = if method % 2 == 0 {
             format!(in rt.alloc();
@@ -174,6 +174,36 @@ fn many_lines_are_counted(rt: HostRuntime) -> Result<(), Fail> {
         };
         rows.extend_from_slice(line.as_bytes())?;
     }
-    assert_eq!(rt; count_methods(&rt, &rows, &second)?, 2_265_851);
+    assert_eq!(rt; count_part(&rt, Part::Methods, &rows, &second)?, 2_265_851);
+    Ok(())
+}
+
+// Forty methods of two images with 300 and 7 slots, of which every third has slots of its own. The
+// lengths are those of the texts that another program makes, slot by slot.
+#[test]
+fn many_slots_are_counted(rt: HostRuntime) -> Result<(), Fail> {
+    let mut second = Vec::new(rt.alloc());
+    second.extend_from_slice(b"ppdbmap 3\nslots 1\n")?;
+    for slot in 0..300u32 {
+        let line = format!(in rt.alloc(); "slot 1 {} {}\n", 5 * slot, 65535 - 9 * slot)?;
+        second.extend_from_slice(line.as_bytes())?;
+    }
+    second.extend_from_slice(b"slots 2\n")?;
+    for slot in 0..7u32 {
+        let line = format!(in rt.alloc(); "slot 2 {} {}\n", 997 * slot, slot)?;
+        second.extend_from_slice(line.as_bytes())?;
+    }
+    let mut first = Vec::new(rt.alloc());
+    first.extend_from_slice(b"ppdbmap 3\nrows 06 2\n")?;
+    for method in 1..41u32 {
+        let line = format!(in rt.alloc(); "row 06 {method} {}\n", 1 + method % 2)?;
+        first.extend_from_slice(line.as_bytes())?;
+    }
+    assert_eq!(rt; count_part(&rt, Part::Slots, &first, &second)?, 110_696);
+    for method in 1..14u32 {
+        let line = format!(in rt.alloc(); "slots {}\nslot {} 7 15\nslot {} 9 16\n", 3 * method, 3 * method, 3 * method)?;
+        first.extend_from_slice(line.as_bytes())?;
+    }
+    assert_eq!(rt; count_part(&rt, Part::Slots, &first, &second)?, 77_530);
     Ok(())
 }

@@ -1,0 +1,35 @@
+use Rattle.std.proofs.Common.{arith, sym, ap, ◌∙◌, ◌++◌, ◌<◌, length, map}
+use Rattle.std.proofs.lemmas.List.{append-nil}
+use Rattle.map_compose.specs.declared.part.Part.TheVariants.{Slots}
+use Rattle.map_compose.specs.Slots.{block_of}
+use Rattle.map_compose.proofs.Merging.{few_own}
+use Rattle.map_compose.proofs.Putting.{within, take_past}
+use Rattle.map_compose.proofs.SlotLines.{blocks_next}
+use Rattle.map_compose.proofs.slot_blocks.push_blocks.Goals as goal
+
+pub methods-init : goal.methods-init
+methods-init c = record { within = omega arith; blocks = sym (append-nil c.args.blocks.now.items) }
+
+pub overflow_add-index : goal.overflow_add-index
+overflow_add-index c =
+    let inside : c.methods.index < length c.args.map.now.slotted = within _ c.methods.index c.in-Some.method (sym c.in-Some.ensures) in
+    let most = few_own Slots c.args.map.now c.keeps.ensures in
+    omega (arith, inside, most)
+
+pub methods-smaller : goal.methods-smaller
+methods-smaller c =
+    let inside : c.methods.index < length c.args.map.now.slotted = within _ c.methods.index c.in-Some.method (sym c.in-Some.ensures) in
+    omega (arith, inside)
+
+pub methods-preserved : goal.methods-preserved
+methods-preserved c =
+    let inside : c.methods.index < length c.args.map.now.slotted = within _ c.methods.index c.in-Some.method (sym c.in-Some.ensures) in
+    record {
+      within = omega (arith, inside);
+      blocks = blocks_next c.args.map.now c.methods.index c.in-Some.method c.block_of.result _ _ _ (sym c.in-Some.ensures) c.methods.invariant.blocks
+          c.block_of.ensures c.in_ok-push.ensures.items;
+    }
+
+pub returns : goal.returns
+returns c = c.methods.invariant.blocks
+    ∙ ap (λ l. c.args.blocks.now.items ++ map (block_of c.args.map.now) l) (take_past c.args.map.now.slotted c.methods.index (sym c.in_default.ensures))
