@@ -36,8 +36,8 @@ use Rattle.ppdb_joined.specs.Same.{fresh, same_custom, same_record}
 use Rattle.ppdb_joined.proofs.Kept.{fresh_each}
 use Rattle.ppdb_joined.proofs.One.{map_same}
 use Rattle.ppdb_moved.proofs.Elements.{each_in, in_each}
-use Rattle.kept_meanings.specs.Kept.{MovedBy, Input, FitsAlone, MethodsApart, in_turn, moved_input}
-use Rattle.kept_meanings.specs.Origins.{OfOne, IsImageFrom, records_from, InputsKeepOrigins}
+use Rattle.kept_meanings.specs.Kept.{MovedBy, Input, FitsAlone, MethodsApart, in_turn, joined_inputs, moved_input}
+use Rattle.kept_meanings.specs.Origins.{OfOne, IsImageFrom, entry_of, records_from, InputsKeepOrigins}
 use Rattle.kept_meanings.proofs.Inputs.{EachMethod, each_method, input_parts, can_be_joined}
 use Rattle.kept_meanings.proofs.Joins.{joined_methods, joined_scopes, joined_machines, joined_customs}
 use Rattle.kept_meanings.proofs.Keeping.{joined_back}
@@ -334,8 +334,13 @@ all_documents : (inputs : List MovedBy) → flat_map (λ (i : Input). i.1.value.
 all_documents [] = refl
 all_documents (f ∷ fs) = ap (λ l. f.value.documents ++ l) (later_documents fs)
 
+entry_origin : (inputs : List MovedBy) → (joined_inputs inputs).entry ≡ entry_of inputs
+entry_origin [] = refl
+entry_origin (first ∷ others) = refl
+
 pub inputs_keep_origins : SoundnessIsNoted → InputsKeepOrigins
 inputs_keep_origins noted inputs fit = record {
+  entry = entry_origin inputs;
   methods = method_origins noted (in_turn inputs) fit.each fit.methods_apart fit.documents_agree;
   documents = documents_first noted (in_turn inputs) fit.each fit.methods_apart fit.documents_agree
       ∙ ap (firsts []) (turn_documents (in_turn inputs) ∙ all_documents inputs);

@@ -1,5 +1,6 @@
 -- Where what joined files say comes from: of each method from one input, and on any other row from all that have records on it.
 use Rattle.std.specs.Prelude.{◌≡◌, ℕ, ◌<◌, ◌⊎◌, List, [], ◌∷◌, Some, Contains, map, filter, flat_map}
+use Rattle.ppdb_maps.specs.Map.{moved_row}
 use Rattle.ppdb_tables.specs.RawTables.{row_at}
 use Rattle.ppdb_values.specs.declared.file.DocumentValue.{DocumentValue}
 use Rattle.ppdb_values.specs.declared.file.FileValue.{FileValue}
@@ -24,16 +25,23 @@ OfOne P (x ∷ xs) = (P x × Each (λ other. ¬ (P other)) xs) ⊎ (¬ (P x) × 
 abbrev pub IsImageFrom : ℕ → Input → Type 0
 IsImageFrom row input = IsImageOfNamed input.0 input.1.map (noted_file input.1.value) row
 
+-- the entry point that the first input's has become, and 0 for none where there is no input
+abbrev pub entry_of : List MovedBy → ℕ
+entry_of [] = 0
+entry_of (first ∷ others) = moved_row first.map 0x06 first.value.entry
+
 -- the records of a moved input on a row; the documents in them are given by the rows that they have among the joined ones
 abbrev pub records_from : List DocumentValue → ℕ → ℕ → Input → List Custom
 records_from documents table row input =
     map (λ (c : CustomValue). without_parent (renumbered_custom (row_in (joined_rows documents (moved_input input))) c))
     (filter (λ (c : CustomValue). is_at table row c.parent) (moved_input input).customs)
 
+-- The entry point is the first input's, moved (Portable PDB v1.0, "#Pdb stream": EntryPoint).
 -- Each method that has points, scopes, state machines or custom records is the image of a method of one input alone. The documents are
 -- those of the inputs, the first of each name. The records on a row of the tables 00 to 2c, and on a document, are the moved records of
 -- the inputs in order, without those that equal one of an earlier input (Portable PDB v1.0, "CustomDebugInformation Table").
 pub record KeepsOrigins (inputs : List MovedBy) (value : FileValue) : Type 0 where
+  pub entry : value.entry ≡ entry_of inputs
   pub methods : (row : ℕ) → Contains (methods_of (noted_file value)) row → OfOne (IsImageFrom row) (in_turn inputs)
   pub documents : value.documents ≡ firsts [] (flat_map (λ (input : MovedBy). input.value.documents) inputs)
   pub customs : (table row : ℕ) → table < 0x2d

@@ -17,7 +17,8 @@ pub fn inputs_keep_meaning()
     soundness_is_noted();
 }
 
-/// Inputs that fit are joined to a file each of whose methods comes from one of them, and whose other custom records are theirs in order.
+/// Inputs that fit are joined to a file each of whose methods comes from one of them, whose entry point is the first's, and whose other
+/// custom records are theirs in order.
 pub fn inputs_keep_origins()
     ensures { InputsKeepOrigins }
 {

@@ -17,6 +17,7 @@ use Rattle.kept_meanings.specs.Kept.{MovedBy}
 use Rattle.ppdb_maps.specs.Map.{Map}
 use Rattle.ppdb_maps.specs.Text.{IsMapOf}
 use Rattle.ppdb_merge.specs.declared.trace.Trace.{Trace}
+use Rattle.ppdb_fits.specs.Clashes.{is_unknown}
 use Rattle.ppdb_merge.specs.Refusals.{added}
 use Rattle.ppdb_merge.specs.Together.{joined_of}
 use Rattle.ppdb_noted.specs.Each.{Each}
@@ -34,7 +35,7 @@ use Rattle.written_meanings.specs.Laws.{RebuiltFilesKeepThemselves, SaysButForId
 use Rattle.ppdb_run.specs.declared.stop.Stop.{Stop}
 use Rattle.ppdb_run.specs.Ends.{OnAsked, OnTask, RebuildsToItself, RebuildsWhereKnown, WritesAgain}
 use Rattle.ppdb_run.specs.Means.{AreInputsOf, AreReadAs, ExactlyMeans, WritesExactly, WritesMeaning}
-use Rattle.ppdb_run.specs.Outcome.{Outcome, all_joined, file_at, fitting, input_of, is_unknown, map_at, steps_of, unknown_kind, verified, with_input}
+use Rattle.ppdb_run.specs.Outcome.{Outcome, all_joined, file_at, fitting, input_of, map_at, steps_of, unknown_kind, verified, with_input}
 use Rattle.ppdb_run.specs.Outcome.{with_inputs}
 use Rattle.ppdb_run.specs.Outcome.{written}
 use Rattle.ppdb_run.specs.Words.{Input, Options, Task, Rebuild, Merge, Words}

@@ -183,7 +183,7 @@ abbrev pub RebuildsWhereKnown : Options → List ℕ × List ℕ → Type 0
 RebuildsWhereKnown options file =
     ((raw : RawFile) → IsRawOf file.1 raw → unknown_kind options.marks (value_of raw) ≡ None) → RebuildsToItself options file.1
 
--- the same task over what was written writes the same bytes again
+-- the debug file that a task writes is rebuilt to itself with the same options
 abbrev pub WritesAgain : Option Task → Outcome → Type 0
 WritesAgain (Some (Rebuild input output options)) due = IfSome due.writes (λ file. RebuildsToItself options file.1)
 WritesAgain (Some (Merge inputs output options)) due = IfSome due.writes (λ file. RebuildsToItself options file.1)

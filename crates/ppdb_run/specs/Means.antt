@@ -28,13 +28,13 @@ AreInputsOf task files inputs = ⊥
 
 -- A debug file that a task writes.
 pub record ExactlyMeans (task : Task) (options : Options) (files : Files) (bytes : List ℕ) : Type 0 where
-  -- Each input is accepted.
+  -- Each input is accepted, and each map's text has a map.
   pub read : (inputs : List MovedBy) × AreInputsOf task files inputs
   -- The written file is accepted.
   pub accepted : IsAccepted (BadFile bytes)
   -- It means at each kept offset's image what its input meant, by name and up to the map.
   pub meaning : (inputs : List MovedBy) → AreInputsOf task files inputs → (raw : RawFile) → IsRawOf bytes raw → KeepsMeaning inputs (value_of raw)
-  -- All that it says comes from its inputs.
+  -- Its methods, its documents, its entry point and the records on rows and documents come from its inputs.
   pub origins : (inputs : List MovedBy) → AreInputsOf task files inputs → (raw : RawFile) → IsRawOf bytes raw → KeepsOrigins inputs (value_of raw)
   -- Rebuilding it gives itself.
   pub again : RebuildsToItself options bytes

@@ -1,8 +1,6 @@
 -- What a command comes to over the files: a status, a text, and at most one file that is written.
 use Rattle.std.specs.Prelude.{ℕ, ◌≡◌, ◌<◌, ◌≤◌, ◌⊎◌, List, [], ◌∷◌, Bool, true, false, ◌&&◌, if◌then◌else◌, nat_le, find, Option, Some, None, option_map}
 use Rattle.std.specs.Prelude.{Result, Ok, Err, codes, length}
-use Rattle.custom_info.specs.declared.kinds.Kind.{Kind}
-use Rattle.custom_info.specs.declared.kinds.Kind.TheVariants.{Unknown}
 use Rattle.custom_info.specs.Kinds.{kind_of}
 use Rattle.ppdb_base.specs.declared.code.Code.{Code}
 use Rattle.ppdb_base.specs.declared.fault.Place.{Place}
@@ -24,6 +22,7 @@ use Rattle.ppdb_lines.specs.Pieces.{line}
 use Rattle.ppdb_run.specs.Lines.{about, usage_line, refused_line, map_line, unfit_line, limit_text, map_limit_text}
 use Rattle.ppdb_run.specs.Lines.{no_method_line, links_line, sizes_line, sample_text}
 use Rattle.ppdb_run.specs.Words.{Question, Id, Verify, Show, Query, Links, Breaks, Options, Input, Task, Ask, Rebuild, Compose, Merge, Sample}
+use Rattle.ppdb_fits.specs.Clashes.{is_unknown}
 use Rattle.ppdb_merge.specs.declared.trace.Trace.{Trace}
 use Rattle.ppdb_merge.specs.Refusals.{added}
 use Rattle.ppdb_merge.specs.Together.{joined_of}
@@ -190,11 +189,6 @@ written name bytes = record { status = statuses.Done; text = []; writes = Some (
 abbrev pub unless : Option Outcome → Result Outcome Outcome → Result Outcome Outcome
 unless (Some refusal) result = Err refusal
 unless None result = result
-
--- neither read nor passed on
-abbrev pub is_unknown : Kind → Bool
-is_unknown Unknown = true
-is_unknown kind = false
 
 -- the first custom record whose kind is neither read nor passed on
 abbrev pub unknown_kind : List (List ℕ) → FileValue → Option MergeError

@@ -54,7 +54,7 @@ pub fn run<F: Folder, O: Sink, K: Ledger, L: Ledger>(
         (Rose (F.read_faults folder.old) (F.read_faults folder.new)) (Rose (F.write_faults folder.old) (F.write_faults folder.new)) (O.written out.old)
         (O.written out.new)) }
 
-    // What a command writes is valid, and the same command over it writes it again.
+    // What a command writes is valid, and a debug file that it writes is rebuilt to itself with the same marks and choice of the identity.
     ensures accepted { result ≡ Status.Done → OnAsked (texts words.now) (F.files folder.old) WritesValid }
     ensures again { result ≡ Status.Done → OnAsked (texts words.now) (F.files folder.old) WritesAgain }
 

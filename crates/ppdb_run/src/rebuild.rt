@@ -2,9 +2,10 @@
 ghost use Rattle.std.specs.Prelude.{◌≡◌, ◌≤◌, ℕ, List, [], Some, None, IfOk, OnOk, IfErr, IfSome};
 ghost use Rattle.ppdb_base.specs.Causes.{Rose};
 ghost use Rattle.ppdb_base.specs.First.{IsAccepted};
+ghost use Rattle.ppdb_fits.specs.Clashes.{is_unknown as neither_read_nor_free};
 ghost use Rattle.ppdb_run.specs.Ends.{OnTask, RebuildsToItself, WritesAgain, WritesValid};
 ghost use Rattle.ppdb_run.specs.Means.{ExactlyMeans, WritesMeaning};
-ghost use Rattle.ppdb_run.specs.Outcome.{IsOutcome, choice_of, is_unknown as neither_read_nor_free, gives, rebuilt, steps_of, unknown_kind, written};
+ghost use Rattle.ppdb_run.specs.Outcome.{IsOutcome, choice_of, gives, rebuilt, steps_of, unknown_kind, written};
 ghost use Rattle.ppdb_run.specs.Stops.{cause_of, Settles, Finds, Gives, Leaves, ComesFrom, OnKept, no_file};
 ghost use Rattle.ppdb_run.specs.Task.{options_of};
 ghost use Rattle.ppdb_run.specs.Words.{Rebuild};

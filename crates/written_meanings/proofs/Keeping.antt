@@ -48,7 +48,13 @@ module _ (inputs : List MovedBy) (value : FileValue) (id : List ℕ) where
   meaning_kept keeps = record { meanings = keeps.meanings; all_links = keeps.all_links; points = keeps.points }
 
   origins_kept : KeepsOrigins inputs value → KeepsOrigins inputs (with_id value id)
-  origins_kept keeps = record { methods = keeps.methods; documents = keeps.documents; customs = keeps.customs; on_documents = keeps.on_documents }
+  origins_kept keeps = record {
+    entry = keeps.entry;
+    methods = keeps.methods;
+    documents = keeps.documents;
+    customs = keeps.customs;
+    on_documents = keeps.on_documents;
+  }
 
 pub keeps_inputs : (inputs : List MovedBy) (value : FileValue) (file : List ℕ) → KeepsMeaning inputs value → KeepsOrigins inputs value
     → SaysButForId file value → KeepsInputs inputs file

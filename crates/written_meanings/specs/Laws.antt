@@ -28,7 +28,8 @@ use Rattle.written_meanings.specs.Inputs.{ReadInput, IsValidInput, AreAdded, Are
 abbrev pub SaysButForId : List ℕ → FileValue → Type 0
 SaysButForId file value = (raw : RawFile) → IsRawOf file raw → (id : List ℕ) × (value_of raw ≡ with_id value id)
 
--- However the bytes are read, they keep what the inputs say, and all that they say comes from the inputs.
+-- However the bytes are read, they keep what the inputs say; and the methods, the documents, the entry point and the records on rows
+-- and documents that they say come from the inputs.
 pub record KeepsInputs (inputs : List MovedBy) (file : List ℕ) : Type 0 where
   pub meaning : (raw : RawFile) → IsRawOf file raw → KeepsMeaning inputs (value_of raw)
   pub origins : (raw : RawFile) → IsRawOf file raw → KeepsOrigins inputs (value_of raw)
