@@ -201,7 +201,12 @@ fn many_slots_are_counted(rt: HostRuntime) -> Result<(), Fail> {
     }
     assert_eq!(rt; count_part(&rt, Part::Slots, &first, &second)?, 110_696);
     for method in 1..14u32 {
-        let line = format!(in rt.alloc(); "slots {}\nslot {} 7 15\nslot {} 9 16\n", 3 * method, 3 * method, 3 * method)?;
+        let line = format!(in rt.alloc();
+            "slots {}\nslot {} 7 15\nslot {} 9 16\n",
+            3 * method,
+            3 * method,
+            3 * method
+        )?;
         first.extend_from_slice(line.as_bytes())?;
     }
     assert_eq!(rt; count_part(&rt, Part::Slots, &first, &second)?, 77_530);
