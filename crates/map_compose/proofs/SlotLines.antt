@@ -11,7 +11,6 @@ use Rattle.std.specs.Slice.{IsItemAt}
 use Rattle.std.proofs.lemmas.Bool.{eqb-true, eq-eqb}
 use Rattle.std.proofs.lemmas.Cmp.{nat_cmp_total}
 use Rattle.std.proofs.lemmas.Fmt.{length-decimal-le}
-use Rattle.std.proofs.lemmas.List.{append-nil, append_assoc}
 use Rattle.ppdb_maps.specs.declared.entries.SlotImage.{SlotImage}
 use Rattle.ppdb_maps.specs.declared.line.Line.TheVariants.{Slot}
 use Rattle.ppdb_maps.specs.Forms.{SLOTS}
@@ -110,28 +109,26 @@ long_past [] i is = omega arith
 long_past (x ∷ xs) zero is = absurd (cc)
 long_past (x ∷ xs) (suc i) is = omega (arith, long_past xs i is)
 
+abbrev pub block : ℕ → ℕ → ℕ → SlotBlock
+block method slots digits = record { method = method; slots = slots; digits = digits }
+
 pub block_is : (m : Map) (method i digits : ℕ) → option_map numbers (slice_get (slots_of m method) i) ≡ None
     → i ≤ length (slots_of m method) → digits ≡ slot_digits (take i (slots_of m method))
-    → record { method = method; slots = i; digits = digits } ≡ block_of m method
+    → block method i digits ≡ block_of m method
 block_is m method i digits is most are =
-    ap (λ n. record { method = method; slots = i; digits = n }) (are ∙ ap slot_digits (slots_past (slots_of m method) i is))
-    ∙ ap (λ n. record { method = method; slots = n; digits = slot_digits (slots_of m method) })
+    ap (block method i) (are ∙ ap slot_digits (slots_past (slots_of m method) i is))
+    ∙ ap (λ n. block method n (slot_digits (slots_of m method)))
     (let past = long_past (slots_of m method) i (of (slice_get (slots_of m method) i) is) in omega (arith, past, most))
   where
     of : (o : Option SlotImage) → option_map numbers o ≡ None → o ≡ None
     of None is = refl
     of (Some x) is = absurd (cc)
 
-pub blocks_next : (m : Map) (i method : ℕ) (block : SlotBlock) (old mid new : List SlotBlock) → slice_get m.slotted i ≡ Some method
-    → mid ≡ old ++ map (block_of m) (take i m.slotted) → block ≡ block_of m method → new ≡ mid ++ block ∷ []
-    → new ≡ old ++ map (block_of m) (take (i + 1) m.slotted)
-blocks_next m i method block old mid new is was one are =
-    are ∙ ap (λ l. l ++ block ∷ []) was ∙ ap (λ b. (old ++ map (block_of m) (take i m.slotted)) ++ b ∷ []) one
-    ∙ append_assoc old (map (block_of m) (take i m.slotted)) (block_of m method ∷ [])
-    ∙ ap (λ l. old ++ l) (sym (ap (map (block_of m)) (take_more m.slotted i method is) ∙ map_join (block_of m) (take i m.slotted) (method ∷ [])))
-
-pub blocks_are : (m : Map) (blocks : SlotBlocks) (old : List SlotBlock) → old ≡ [] → blocks.blocks.items ≡ old ++ map (block_of m) m.slotted → AreBlocksOf blocks m
-blocks_are m blocks old none are = record { are = inr (are ∙ ap (λ l. l ++ map (block_of m) m.slotted) none) }
+pub blocks_next : (m : Map) (i method : ℕ) (one : SlotBlock) (old new : List SlotBlock) → slice_get m.slotted i ≡ Some method
+    → old ≡ map (block_of m) (take i m.slotted) → one ≡ block_of m method → new ≡ old ++ one ∷ [] → new ≡ map (block_of m) (take (i + 1) m.slotted)
+blocks_next m i method one old new is was made are =
+    are ∙ ap (λ l. l ++ one ∷ []) was ∙ ap (λ b. map (block_of m) (take i m.slotted) ++ b ∷ []) made
+    ∙ sym (ap (map (block_of m)) (take_more m.slotted i method is) ∙ map_join (block_of m) (take i m.slotted) (method ∷ []))
 
 -- ---- finding a block
 

@@ -1,5 +1,5 @@
 // How long the lines of a method's slots are, which are not put one by one.
-ghost use Rattle.std.specs.Prelude.{◌≡◌, ◌≤◌, ◌++◌, [], List, OnOk, length, map as mapped};
+ghost use Rattle.std.specs.Prelude.{◌≡◌, ◌≤◌, [], List, OnOk, length, map as mapped};
 ghost use Rattle.ppdb_maps.specs.declared.entries.SlotImage.{SlotImage};
 ghost use Rattle.map_compose.specs.Slots.{slot_digits, slots_length, block_of as block_in, AreBlocksOf, FindsBlock};
 
@@ -42,7 +42,8 @@ fn block_of(map: &MapText, method: u32) -> SlotBlock
 
 /// Adds the slots of all methods of a map.
 fn push_blocks(map: &MapText, blocks: &mut Vec<SlotBlock>) -> Result<(), Memory>
-    ensures { OnOk result (blocks.new.items ≡ blocks.old.items ++ mapped (block_in map.now) map.now.slotted) }
+    requires { blocks.now.items ≡ [] }
+    ensures { OnOk result (blocks.new.items ≡ mapped (block_in map.now) map.now.slotted) }
 {
     map.keeps();
     let mut index = 0;

@@ -82,15 +82,16 @@ fn put_block(
     requires blocks { AreBlocksOf blocks.now second.now }
     ensures { OnOk result (PutsLines text.old text.new (slot_images first.now second.now method)) }
 {
-    if first.has_slots(method) || !text.is_past() {
+    second.keeps();
+    if first.has_slots(method) {
         return put_images(first, second, method, image, text);
     }
     match blocks.of_method(image) {
-        None => put_images(first, second, method, image, text),
-        Some(block) => {
+        Some(block) if text.is_past() => {
             text.count_on(block.bytes(method));
             Ok(())
         }
+        _ => put_images(first, second, method, image, text),
     }
 }
 

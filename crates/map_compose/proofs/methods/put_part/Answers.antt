@@ -1,20 +1,19 @@
 use Rattle.std.proofs.Common.{arith, ap, length}
 use Rattle.std.specs.List.{flat_map}
 use Rattle.map_compose.specs.Parts.{part_says, all_numbers}
-use Rattle.map_compose.proofs.Lined.{few_joined}
 use Rattle.map_compose.proofs.Putting.{some_none, some_next, some_all}
 use Rattle.map_compose.proofs.methods.put_part.Goals as goal
 
 pub methods-init : goal.methods-init
 methods-init c = record {
-  joined = c.requires.joined;
+  gathered = c.requires.gathered;
   puts = some_none c.args.text.now (flat_map (part_says c.args.part c.args.first.now c.args.second.now)
       (all_numbers c.args.part c.args.first.now c.args.second.now));
 }
 
 pub methods-preserved : goal.methods-preserved
 methods-preserved c = record {
-  joined = c.in_ok-sum_up.ensures c.args.second.now c.methods.invariant.joined;
+  gathered = c.in_ok-sum_up.ensures;
   puts = some_next _ _ _ _ _ _ (part_says c.args.part c.args.first.now c.args.second.now c.in-Some.method)
       (ap (flat_map (part_says c.args.part c.args.first.now c.args.second.now)) c.in-Some.ensures) c.methods.invariant.puts c.in_ok-put_method.ensures;
 }
@@ -27,7 +26,7 @@ returns-clause-puts c = some_all _ _ _ _ (ap (flat_map (part_says c.args.part c.
     c.methods.invariant.puts
 
 pub sum_up-requires : goal.sum_up-requires
-sum_up-requires c = record { few = few_joined c.methods.joined c.args.second.now c.keeps.ensures c.methods.invariant.joined }
+sum_up-requires c = c.methods.invariant.gathered
 
-pub put_method-requires-clause-joined : goal.put_method-requires-clause-joined
-put_method-requires-clause-joined c = c.in_ok-sum_up.ensures c.args.second.now c.methods.invariant.joined
+pub put_method-requires-clause-gathered : goal.put_method-requires-clause-gathered
+put_method-requires-clause-gathered c = c.in_ok-sum_up.ensures

@@ -1,13 +1,13 @@
 use Rattle.std.proofs.Common.{length}
 use Rattle.std.specs.List.{flat_map}
-use Rattle.map_compose.specs.Joining.{AreJoinedOf}
+use Rattle.map_compose.specs.Gathered.{IsGatheredOf}
 use Rattle.map_compose.specs.Parts.{part_says, all_numbers, numbers_left}
 use Rattle.map_compose.proofs.Putting.{PutSome}
 use Rattle.map_compose.proofs.methods.put_part.Given as goal
 
 abbrev pub invariant-methods : goal.invariant-methods
 invariant-methods l = record {
-  joined : AreJoinedOf l.joined l.second;
+  gathered : IsGatheredOf l.gathered l.second;
   puts : PutSome l.fn.text l.text (flat_map (part_says l.part l.first l.second) (all_numbers l.part l.first l.second))
       (flat_map (part_says l.part l.first l.second) (numbers_left l.part l.first l.second l.passed));
 }

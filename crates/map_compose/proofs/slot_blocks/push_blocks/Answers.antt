@@ -1,5 +1,4 @@
-use Rattle.std.proofs.Common.{arith, sym, ap, ◌∙◌, ◌++◌, ◌<◌, length, map}
-use Rattle.std.proofs.lemmas.List.{append-nil}
+use Rattle.std.proofs.Common.{arith, sym, ap, ◌∙◌, ◌<◌, length, map}
 use Rattle.map_compose.specs.declared.part.Part.TheVariants.{Slots}
 use Rattle.map_compose.specs.Slots.{block_of}
 use Rattle.map_compose.proofs.Merging.{few_own}
@@ -8,7 +7,7 @@ use Rattle.map_compose.proofs.SlotLines.{blocks_next}
 use Rattle.map_compose.proofs.slot_blocks.push_blocks.Goals as goal
 
 pub methods-init : goal.methods-init
-methods-init c = record { within = omega arith; blocks = sym (append-nil c.args.blocks.now.items) }
+methods-init c = record { within = omega arith; blocks = c.requires }
 
 pub overflow_add-index : goal.overflow_add-index
 overflow_add-index c =
@@ -26,10 +25,10 @@ methods-preserved c =
     let inside : c.methods.index < length c.args.map.now.slotted = within _ c.methods.index c.in-Some.method (sym c.in-Some.ensures) in
     record {
       within = omega (arith, inside);
-      blocks = blocks_next c.args.map.now c.methods.index c.in-Some.method c.block_of.result _ _ _ (sym c.in-Some.ensures) c.methods.invariant.blocks
+      blocks = blocks_next c.args.map.now c.methods.index c.in-Some.method c.block_of.result _ _ (sym c.in-Some.ensures) c.methods.invariant.blocks
           c.block_of.ensures c.in_ok-push.ensures.items;
     }
 
 pub returns : goal.returns
 returns c = c.methods.invariant.blocks
-    ∙ ap (λ l. c.args.blocks.now.items ++ map (block_of c.args.map.now) l) (take_past c.args.map.now.slotted c.methods.index (sym c.in_default.ensures))
+    ∙ ap (map (block_of c.args.map.now)) (take_past c.args.map.now.slotted c.methods.index (sym c.in_default.ensures))
