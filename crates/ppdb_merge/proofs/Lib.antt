@@ -10,3 +10,4 @@ pub mod Names
 pub mod Taken
 pub mod Told
 pub mod Traced
+pub mod Writable

@@ -5,6 +5,7 @@
 mod documents;
 mod index;
 mod joining;
+mod kept;
 mod laws;
 mod merger;
 mod methods;
@@ -12,6 +13,7 @@ mod reading;
 mod together;
 mod trace;
 
+pub use kept::KeptFile;
 pub use laws::worked_merges;
 pub use merger::Merger;
 pub use trace::Trace;

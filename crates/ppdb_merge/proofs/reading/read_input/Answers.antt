@@ -3,6 +3,7 @@ use Rattle.ppdb_values.specs.declared.file.FileValue.{FileValue}
 use Rattle.ppdb_verify.specs.Views.{raw_file}
 use Rattle.ppdb_noted.specs.Noted.{noted_file}
 use Rattle.ppdb_merge.specs.Merged.{is_first}
+use Rattle.ppdb_merge.proofs.Writable.{may_be_written}
 use Rattle.ppdb_merge.proofs.Adding.{few_documents, refused_as, added_sound, is_sound}
 use Rattle.ppdb_merge.proofs.reading.read_input.Goals as goal
 
@@ -18,6 +19,13 @@ returns-in-Some-clause-refused g c =
     (c.as_slice-2.ensures ∙ ap (λ (v : FileValue). v.documents) c.in_ok-value.ensures.value)
     (sym c.in-Some.is ∙ c.clash.ensures c.args.traces.now c.requires.indexes))
 
+pub moved-requires : goal.moved-requires
+moved-requires g c =
+    may_be_written c.soundness_is_noted.ensures c.references_are_named.ensures c.args.map.now (raw_file c.args.file.now) c.keeps.ensures.rules
+    c.keeps.ensures.sound c.keeps-2.ensures (is_first c.args.traces.now)
+    (c.nothing_clashes.ensures c.args.marks.now (is_first c.args.traces.now) c.args.map.now (raw_file c.args.file.now) c.keeps.ensures.rules c.keeps-2.ensures
+    c.in_ok-rows.ensures.fits).fits c.in_ok-value.value c.in_ok-value.ensures.value
+
 pub returns-clause-fits : goal.returns-clause-fits
 returns-clause-fits g c =
     refused_as c.args.marks.now c.args.traces.now c.args.map.now (raw_file c.args.file.now) None c.as_slice.result.now
@@ -27,8 +35,8 @@ returns-clause-fits g c =
 
 pub returns-clause-sound : goal.returns-clause-sound
 returns-clause-sound g c =
-    is_sound c.args.traces.now c.args.map.now (raw_file c.args.file.now) c.in_ok-moved.moved c.in_ok-noted_file.field-0 c.in_ok-rows.rows
-    c.in_ok-moved.ensures (c.in_ok-noted_file.ensures ∙ ap noted_file c.in_ok-value.ensures.value) c.in_ok-rows.ensures.rows
+    is_sound c.args.traces.now c.args.map.now (raw_file c.args.file.now) c.in_ok-moved.moved (noted_file c.in_ok-value.value) c.in_ok-rows.rows
+    c.in_ok-moved.ensures (ap noted_file c.in_ok-value.ensures.value) c.in_ok-rows.ensures.rows
     (added_sound c.soundness_is_noted.ensures c.references_are_named.ensures c.args.map.now (raw_file c.args.file.now) c.keeps.ensures.rules
     c.keeps.ensures.sound c.keeps-2.ensures c.args.marks.now c.args.traces.now c.requires.sound c.requires.few
     (c.nothing_clashes.ensures c.args.marks.now (is_first c.args.traces.now) c.args.map.now (raw_file c.args.file.now) c.keeps.ensures.rules c.keeps-2.ensures
