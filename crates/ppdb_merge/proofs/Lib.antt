@@ -10,4 +10,3 @@ pub mod Names
 pub mod Taken
 pub mod Told
 pub mod Traced
-pub mod Writable

@@ -5,7 +5,6 @@
 mod documents;
 mod index;
 mod joining;
-mod kept;
 mod laws;
 mod merger;
 mod methods;
@@ -13,7 +12,6 @@ mod reading;
 mod together;
 mod trace;
 
-pub use kept::KeptFile;
 pub use laws::worked_merges;
 pub use merger::Merger;
 pub use trace::Trace;

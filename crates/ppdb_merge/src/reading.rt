@@ -8,9 +8,9 @@ ghost use Rattle.ppdb_merge.specs.Refusals.{refusal_of};
 ghost use Rattle.ppdb_merge.specs.Sound.{SoundTraces};
 
 use crate::index::Index;
-use crate::kept::KeptFile;
 use crate::trace::Trace;
 use custom_info::Marks;
+use kept_files::KeptFile;
 use named_references::references_are_named;
 use ppdb_base::{MergeError, Steps};
 use ppdb_fits::{judge, nothing_clashes};

@@ -1,5 +1,5 @@
 // What is kept of an input.
-use crate::kept::KeptFile;
+use kept_files::KeptFile;
 use ppdb_base::List;
 use ppdb_references::Imaged;
 
