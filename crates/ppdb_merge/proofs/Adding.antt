@@ -27,6 +27,7 @@ use Rattle.ppdb_noted.proofs.Lists.{Each-append, Each-map, Each-weaker, Pairs-ma
 use Rattle.named_references.specs.Laws.{ReferencesAreNamed}
 use Rattle.ppdb_joined.specs.Joined.{joined}
 use Rattle.ppdb_joined.specs.Laws.{JoinedIsSound}
+use Rattle.ppdb_noted.specs.SoundParts.{SoundMoved}
 use Rattle.ppdb_moved.specs.Fits.{Fits}
 use Rattle.ppdb_moved.specs.Moved.{moved_file}
 use Rattle.ppdb_moved.proofs.SoundMoves.{moved_sound}
@@ -82,11 +83,18 @@ pub refused_first : (marks : List (List ℕ)) (traces : List Trace) (m : Map) (r
 refused_first marks traces m raw e is =
     ap (λ first. or_first first (clashes_before traces (trace_of (is_first traces) m raw).rows (value_of raw).documents)) is
 
+-- a moved file has few documents
+pub few_moved : (m : Map) (raw : RawFile) → HasShape raw.tables → length (moved_file m (noted_file (value_of raw))).documents < 0x20000000
+few_moved m raw shape = let few = (few_rows m raw shape).documents in omega (arith, few)
+
 module _ (noted : SoundnessIsNoted) (named : ReferencesAreNamed) (m : Map) (raw : RawFile) (keeps : KeepsRules raw) (sound : IsSound (value_of raw))
     (ready : IsReadable m) where
+  pub moved_is_sound : (first : Bool) → Fits first m (noted_file (value_of raw)) → SoundMoved (moved_file m (noted_file (value_of raw)))
+  moved_is_sound first fits = moved_sound first m (noted_file (value_of raw)) ready (file_sound noted named first m raw keeps sound ready fits) fits
+
   trace_sound : (first : Bool) → Fits first m (noted_file (value_of raw)) → SoundTrace (trace_of first m raw)
   trace_sound first fits = record {
-    sound = moved_sound first m (noted_file (value_of raw)) ready (file_sound noted named first m raw keeps sound ready fits) fits;
+    sound = moved_is_sound first fits;
     counts = moved_counts_sound m ready (value_of raw).rows sound.rows;
     few = few_rows m raw keeps.shape;
     images = moved_images noted named first m raw keeps sound ready fits;

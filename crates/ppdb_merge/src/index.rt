@@ -41,7 +41,7 @@ impl Index {
     {
         let input = self.inputs + 1;
         self.methods.add(input, trace.rows.as_slice())?;
-        self.documents.add(trace.moved.documents.as_slice())?;
+        self.documents.add(trace.moved.documents())?;
         self.inputs = input;
         Ok(())
     }

@@ -18,13 +18,13 @@ use ppdb_noted::{NotedFile, soundness_is_noted};
 use ppdb_values::FileValue;
 use std::alloc::Global;
 
-/// What the inputs became.
+/// What the inputs became, with their points in lists.
 fn moved_files(alloc: Global, traces: List<Trace>) -> Result<List<NotedFile>, Memory>
     ensures { IfOk result (λ files. files ≡ moved_files traces) }
 {
     let mut files = List::with_capacity(alloc, traces.len())?;
     for trace in traces.into_vec() {
-        files.push(trace.moved)?;
+        files.push(trace.moved.unpack(alloc)?)?;
     }
     Ok(files)
 }

@@ -10,11 +10,11 @@ ghost use Rattle.ppdb_merge.specs.Sound.{SoundTraces};
 use crate::index::Index;
 use crate::trace::Trace;
 use custom_info::Marks;
+use kept_files::KeptFile;
 use named_references::references_are_named;
 use ppdb_base::{MergeError, Steps};
 use ppdb_fits::{judge, nothing_clashes};
 use ppdb_maps::MapText;
-use ppdb_moved::{moved_file, noted_file};
 use ppdb_noted::soundness_is_noted;
 use ppdb_verify::Verified;
 use std::alloc::Global;
@@ -51,6 +51,6 @@ pub(crate) fn read_input<L: Ledger>(
         Some(told) => return Err(told),
         None => {}
     }
-    let moved = moved_file(alloc, noted_file(alloc, value)?, map)?;
+    let moved = KeptFile::moved(alloc, value, map)?;
     Ok(Trace { moved, rows })
 }

@@ -12,7 +12,7 @@ fn count(trace: &Trace, table: u8) -> u32
     requires { table < 64 }
     ensures { result ≡ count_in trace.now table }
 {
-    trace.moved.rows[table as usize]
+    trace.moved.rows()[table as usize]
 }
 
 /// What is told of a table that an input counts otherwise than the first.
@@ -68,7 +68,7 @@ fn above(input: u32, trace: &Trace, imaged: &Imaged) -> Option<MergeError>
     ensures { result ≡ above (input, trace.now) imaged.now }
 {
     let Imaged { table, row, image } = *imaged;
-    let rows = *trace.moved.rows.get(table as usize).unwrap_or(&0);
+    let rows = *trace.moved.rows().get(table as usize).unwrap_or(&0);
     if image <= rows {
         return None;
     }

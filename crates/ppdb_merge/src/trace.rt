@@ -1,13 +1,13 @@
 // What is kept of an input.
+use kept_files::KeptFile;
 use ppdb_base::List;
-use ppdb_noted::NotedFile;
 use ppdb_references::Imaged;
 
 /// What is kept of an input between its reading and the joining.
 #[derive(Drop)]
 pub struct Trace {
-    /// What the input says, moved by its map, with the output's row counts.
-    pub moved: NotedFile,
+    /// What the input says, moved by its map, with the output's row counts. Its points are packed.
+    pub moved: KeptFile,
     /// The rows of the type system that the input names, with their images: each once, by table and row.
     pub rows: List<Imaged>,
 }
