@@ -1,0 +1,5 @@
+pub mod Concrete
+pub mod Found
+pub mod Keyed
+pub mod Least
+pub mod Sources
