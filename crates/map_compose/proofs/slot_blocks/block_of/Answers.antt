@@ -1,4 +1,5 @@
-use Rattle.std.proofs.Common.{arith, refl, sym, length, ◌<◌}
+use Rattle.std.proofs.Common.{arith, refl, sym, ap, length, ◌<◌}
+use Rattle.std.specs.Fmt.{decimal}
 use Rattle.ppdb_maps.specs.Map.{slots_of}
 use Rattle.map_compose.proofs.Bounds.{few_slots_of}
 use Rattle.map_compose.proofs.SlotLines.{slot_inside, digits_next, block_is}
@@ -35,9 +36,11 @@ slots-preserved c =
     let two = c.digits_of-in-Some.ensures in
     let digits = c.slots.invariant.digits in
     let few = c.slots.invariant.few in
+    let old = ap (λ n. length (decimal n)) c.from.ensures in
+    let new = ap (λ n. length (decimal n)) c.from-in-Some.ensures in
     record {
       within = omega (arith, inside);
-      digits = omega (arith, next, one.digits, two.digits, digits);
+      digits = omega (arith, next, one.digits, two.digits, digits, old, new);
       few = omega (arith, few, one.few, two.few);
     }
 
