@@ -10,5 +10,5 @@ returns-clause-holds c = λ traces holds.
     index_more traces c.args.trace.now c.args.self.now _ holds refl
     (λ claimed before. subst (λ rows. HoldsMethods (claimed ++ claims_of (c.args.self.now.inputs + 1) rows) c.add.new.self) c.as_slice.ensures
     (c.in_ok-add.ensures claimed before))
-    (λ all before. subst (λ documents. HoldsDocuments (firsts [] (all ++ items_of documents)) c.add-2.new.self) c.as_slice-2.ensures
+    (λ all before. subst (λ documents. HoldsDocuments (firsts [] (all ++ items_of documents)) c.add-2.new.self) c.documents.ensures
     (c.in_ok-add-2.ensures all before))
