@@ -1,10 +1,9 @@
 // Files that are moved by two maps one after the other, and by the map of both.
-use crate::files::{NOTHING, Parts, file_of};
-use crate::moving::ends;
 use crate::moving_files::{ONE_METHOD, TWO_METHODS, put_texts, worked};
 use ppdb_base::MemoryFolder;
 use std::alloc::Global;
 use std::test::Fail;
+use worked_runs::{NOTHING, Parts, ends, file_of};
 
 /// Files by their names.
 const FILES: [(&str, Parts<'static>); 3] = [
@@ -184,10 +183,18 @@ fn stepped(alloc: Global, case: &Case) -> Result<MemoryFolder, Fail> {
     put_texts(
         alloc,
         &mut folder,
-        &[("first", case.first), ("second", case.second), ("want", case.both)],
+        &[
+            ("first", case.first),
+            ("second", case.second),
+            ("want", case.both),
+        ],
     )?;
     let first = format!(in alloc; "remap {} first half --keep-id", case.file)?;
-    let steps = [first.as_str(), "remap half second two --keep-id", "compose first second both"];
+    let steps = [
+        first.as_str(),
+        "remap half second two --keep-id",
+        "compose first second both",
+    ];
     for line in steps {
         if !ends(alloc, line, &mut folder, 0, "")? {
             return Err(Fail::from(line));
@@ -204,7 +211,10 @@ fn two_steps_and_one(rt: HostRuntime) -> Result<(), Fail> {
     for case in &CASES {
         let mut folder = stepped(rt.alloc(), case)?;
         for &(line, status, text) in case.told {
-            assert!(rt; ends(rt.alloc(), line, &mut folder, status, text)?, "{line}");
+            assert!(rt;
+                ends(rt.alloc(), line, &mut folder, status, text)?,
+                "{line}"
+            );
         }
         let same = folder.get("one") == folder.get("two");
         assert!(rt; same == case.same, "{}", case.both);
