@@ -1,10 +1,9 @@
 // Files that are moved by two maps one after the other, and by the map of both.
-use crate::files::{NOTHING, Parts, file_of};
-use crate::moving::ends;
 use crate::moving_files::{ONE_METHOD, TWO_METHODS, put_texts, worked};
 use ppdb_base::MemoryFolder;
 use std::alloc::Global;
 use std::test::Fail;
+use worked_runs::{NOTHING, Parts, ends, file_of};
 
 /// Files by their names.
 const FILES: [(&str, Parts<'static>); 3] = [
