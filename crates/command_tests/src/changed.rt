@@ -1,6 +1,6 @@
-use crate::running::{answers, verifies};
 use std::test::Fail;
 use worked_files::SMALL;
+use worked_runs::{answers, verifies};
 
 // B cut to fewer bytes than `end`, down to the `end` of the row before.
 #[test]

@@ -1,8 +1,8 @@
 // Two maps made into one, as files.
-use crate::running::prints;
 use ppdb_base::{MemoryFolder, SteadyFolder};
 use std::alloc::{AllocError, Global};
 use std::test::Fail;
+use worked_runs::prints;
 
 /// The bytes of a text whose lines stand apart by `/`.
 fn text_of(alloc: Global, lines: &str) -> Result<String, AllocError> {

@@ -1,8 +1,7 @@
 // Files that would cost much if they were read the simple way.
-use crate::files::{NOTHING, Parts, count_of, file_of};
-use crate::running::verifies;
 use std::alloc::{AllocError, Global};
 use std::test::Fail;
+use worked_runs::{NOTHING, Parts, count_of, file_of, verifies};
 
 /// A file of one document, whose name has so many parts, each the same text of 1000000 bytes.
 fn long_name(alloc: Global, parts: u16) -> Result<Vec<u8>, AllocError> {

@@ -8,8 +8,6 @@ mod compose;
 #[cfg(test)]
 mod copies;
 #[cfg(test)]
-mod files;
-#[cfg(test)]
 mod large;
 #[cfg(test)]
 mod links;
@@ -21,8 +19,6 @@ mod moving_files;
 mod query;
 #[cfg(test)]
 mod rules;
-#[cfg(test)]
-mod running;
 #[cfg(test)]
 mod sample;
 #[cfg(test)]

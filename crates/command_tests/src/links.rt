@@ -1,11 +1,10 @@
 // The addresses of documents, and the places where a debugger may stop for a line.
-use crate::files::{NOTHING, Parts, count_of, file_of};
-use crate::running::{prints, ran};
 use ppdb_base::{MemorySink, SteadyFolder};
 use ppdb_run::Status;
 use std::alloc::{AllocError, Global};
 use std::test::Fail;
 use worked_files::{PROGRAM, SMALL};
+use worked_runs::{NOTHING, Parts, count_of, file_of, prints, ran};
 
 /// The GUIDs of Source Link and of compilation options, as their bytes stand in a file.
 const KINDS: [u8; 32] = [

@@ -1,28 +1,10 @@
 // Files that are moved by maps and joined.
-use crate::files::{NOTHING, Parts, count_of, file_of};
 use crate::moving_files::worked;
-use crate::running::ran;
-use ppdb_base::{Folder, MemoryFolder, MemorySink};
+use ppdb_base::MemoryFolder;
 use std::alloc::{AllocError, Global};
 use std::test::Fail;
 use worked_files::SMALL;
-
-/// Runs the command of these words, which stand apart by spaces, and says whether it ended so and printed this; of what `show`
-/// prints this is the end.
-pub fn ends<F: Folder>(
-    alloc: Global,
-    line: &str,
-    folder: &mut F,
-    status: u8,
-    text: &str,
-) -> Result<bool, Fail> {
-    let words: Vec<&str> = line.split_whitespace().collect(alloc)?;
-    let mut out = MemorySink::new(alloc);
-    let ended = ran(alloc, words.as_slice(), folder, &mut out)?;
-    let put = out.as_slice();
-    let whole = put.len() == text.len() || line.starts_with("show");
-    Ok(ended.number() == status && whole && put.ends_with(text.as_bytes()))
-}
+use worked_runs::{NOTHING, Parts, count_of, ends, file_of, first_other};
 
 /// Commands in turn, and what each comes to.
 const MOVED: [(&str, u8, &str); 20] = [
@@ -229,32 +211,24 @@ const REFUSED: [(&str, u8, &str); 19] = [
     ("remap B slots2 O", 8, "map slots2 line 2 kind 2\n"),
 ];
 
-/// Runs these commands in turn over the worked files, and says which one does not come to what is told, by its number.
-fn first_other(alloc: Global, rows: &[(&str, u8, &str)]) -> Result<Option<usize>, Fail> {
-    let mut folder = worked(alloc)?;
-    for (number, &(line, status, text)) in rows.iter().enumerate() {
-        if !ends(alloc, line, &mut folder, status, text)? {
-            return Ok(Some(number));
-        }
-    }
-    Ok(None)
-}
-
 #[test]
 fn what_is_moved(rt: HostRuntime) -> Result<(), Fail> {
-    assert_eq!(rt; first_other(rt.alloc(), &MOVED)?, None);
+    let mut folder = worked(rt.alloc())?;
+    assert_eq!(rt; first_other(rt.alloc(), &mut folder, &MOVED)?, None);
     Ok(())
 }
 
 #[test]
 fn what_is_joined(rt: HostRuntime) -> Result<(), Fail> {
-    assert_eq!(rt; first_other(rt.alloc(), &JOINED)?, None);
+    let mut folder = worked(rt.alloc())?;
+    assert_eq!(rt; first_other(rt.alloc(), &mut folder, &JOINED)?, None);
     Ok(())
 }
 
 #[test]
 fn what_is_refused(rt: HostRuntime) -> Result<(), Fail> {
-    assert_eq!(rt; first_other(rt.alloc(), &REFUSED)?, None);
+    let mut folder = worked(rt.alloc())?;
+    assert_eq!(rt; first_other(rt.alloc(), &mut folder, &REFUSED)?, None);
     Ok(())
 }
 

@@ -1,8 +1,8 @@
 // What belongs to an offset of a method.
-use crate::running::prints;
 use ppdb_base::SteadyFolder;
 use std::test::Fail;
 use worked_files::SMALL;
+use worked_runs::prints;
 
 /// What `query B 1 3` prints.
 const B_AT_3: &str = "\

@@ -1,7 +1,7 @@
 // What the samples of few methods come to, worked out apart from this program.
-use crate::running::prints;
 use ppdb_base::SteadyFolder;
 use std::alloc::AllocError;
+use worked_runs::prints;
 
 #[test]
 fn samples_of_few_methods(rt: HostRuntime) -> Result<(), AllocError> {

@@ -1,9 +1,9 @@
 // All rows of a file, as text and as JSON.
-use crate::running::{prints, ran};
 use ppdb_base::{MemorySink, SteadyFolder};
 use ppdb_run::Status;
 use std::test::Fail;
 use worked_files::{EMPTY, SMALL};
+use worked_runs::{prints, ran};
 
 /// What `show B` prints.
 const B_AS_TEXT: &str = "\

@@ -1,10 +1,9 @@
 // Files that are moved by two maps one after the other, and by the map of both.
-use crate::files::{NOTHING, Parts, file_of};
-use crate::moving::ends;
 use crate::moving_files::{ONE_METHOD, TWO_METHODS, put_texts, worked};
 use ppdb_base::MemoryFolder;
 use std::alloc::Global;
 use std::test::Fail;
+use worked_runs::{NOTHING, Parts, ends, file_of};
 
 /// Files by their names.
 const FILES: [(&str, Parts<'static>); 3] = [
@@ -169,7 +168,13 @@ const CASES: [Case; 8] = [
         both: "ppdbmap 3/rows 06 9/row 06 1 1/row 06 2 3/row 06 4 7/",
         told: &[
             ("remap P both one --keep-id", 0, ""),
-            ("query one 7 110", 0, "kickoff 1\nasync -\nstep 61 82 7\n"),
+            (
+                "query one 7 110",
+                0,
+                "point 107 1 9:9 9:38 signature 1 name /src/app/Program.cs\nscope 0 175\nconstant 0803000000 Limit\n\
+                import 2\nuse 1 namespace System\nuse 1 namespace System.Threading.Tasks\nimport 1\n\
+                hoisted 0 14 161\nkickoff 1\nasync -\nstep 61 82 7\n",
+            ),
         ],
         same: true,
     },

@@ -1,8 +1,8 @@
-use crate::running::{prints, ran};
 use ppdb_base::{MemoryFolder, MemorySink, SteadyFolder};
 use ppdb_run::Status;
 use std::test::Fail;
 use worked_files::{EMPTY, SMALL};
+use worked_runs::{prints, ran};
 
 /// What `id B` prints.
 const ID_B: &str = "id 0000000000000000000000000000000000000000\nentry 06000001\n";

@@ -52,6 +52,37 @@ pub fn prints<F: Folder>(
     Ok(ended.number() == status && out.as_slice() == text.as_bytes())
 }
 
+/// Runs the command of these words, which stand apart by spaces, and says whether it ended so and printed this; of what `show`
+/// prints this is the end.
+pub fn ends<F: Folder>(
+    alloc: Global,
+    line: &str,
+    folder: &mut F,
+    status: u8,
+    text: &str,
+) -> Result<bool, Fail> {
+    let words: Vec<&str> = line.split_whitespace().collect(alloc)?;
+    let mut out = MemorySink::new(alloc);
+    let ended = ran(alloc, words.as_slice(), folder, &mut out)?;
+    let put = out.as_slice();
+    let whole = put.len() == text.len() || line.starts_with("show");
+    Ok(ended.number() == status && whole && put.ends_with(text.as_bytes()))
+}
+
+/// Runs these commands in turn, and says which one does not end so and print this, by its number.
+pub fn first_other<F: Folder>(
+    alloc: Global,
+    folder: &mut F,
+    rows: &[(&str, u8, &str)],
+) -> Result<Option<usize>, Fail> {
+    for (number, &(line, status, text)) in rows.iter().enumerate() {
+        if !ends(alloc, line, folder, status, text)? {
+            return Ok(Some(number));
+        }
+    }
+    Ok(None)
+}
+
 /// Verifies these bytes as the file B, and says whether that printed this and ended as it says.
 pub fn verifies(alloc: Global, bytes: &[u8], text: &str) -> Result<bool, Fail> {
     let mut folder = SteadyFolder::new(alloc);

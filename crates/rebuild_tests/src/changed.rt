@@ -1,0 +1,42 @@
+// The small worked file with one byte changed, rebuilt.
+use ppdb_base::{MemorySink, SteadyFolder};
+use ppdb_run::Status;
+use std::alloc::Global;
+use std::test::Fail;
+use worked_files::SMALL;
+use worked_runs::{first_other, ran};
+
+/// Commands over a valid file B, and what they come to.
+const OF_A_VALID_FILE: [(&str, u8, &str); 4] = [
+    ("rebuild B O", 0, ""),
+    ("verify O", 0, "accepted\n"),
+    ("rebuild O A", 0, ""),
+    ("verify A", 0, "accepted\n"),
+];
+
+/// Whether a file that is accepted is rebuilt to one that is accepted and rebuilt to itself, and any other is refused as `verify`
+/// refuses it, and nothing is written.
+fn is_rebuilt_or_refused(alloc: Global, bytes: &[u8]) -> Result<bool, Fail> {
+    let mut folder = SteadyFolder::new(alloc);
+    folder.set("B", bytes)?;
+    let (mut told, mut said) = (MemorySink::new(alloc), MemorySink::new(alloc));
+    let judged = ran(alloc, &["verify", "B"], &mut folder, &mut told)?;
+    if judged == Status::Done {
+        let other = first_other(alloc, &mut folder, &OF_A_VALID_FILE)?;
+        return Ok(other.is_none() && folder.get("O") == folder.get("A"));
+    }
+    let ended = ran(alloc, &["rebuild", "B", "O"], &mut folder, &mut said)?;
+    Ok(ended == judged && said.as_slice() == told.as_slice() && folder.get("O").is_none())
+}
+
+#[test]
+fn every_byte_with_every_value(rt: HostRuntime) -> Result<(), Fail> {
+    for at in 0..SMALL.len() {
+        for value in 0..=255u8 {
+            let mut file = SMALL;
+            file[at] = value;
+            assert!(rt; is_rebuilt_or_refused(rt.alloc(), &file)?, "{at} {value}");
+        }
+    }
+    Ok(())
+}

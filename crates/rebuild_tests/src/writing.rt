@@ -1,0 +1,197 @@
+// Values that are written as files, and read again.
+ghost use Rattle.std.specs.Prelude.{◌≡◌, ◌<◌};
+
+use crate::every_kind::{SHOWN, with_every_kind};
+use crate::identity::{BY_HASH, with_id};
+use custom_info::SOURCE_LINK;
+use ppdb_base::{Bytes, List, SteadyFolder, Steps};
+use ppdb_build::{
+    CustomBody, CustomValue, DocumentValue, FileValue, IdChoice, sound, value_of, write_file,
+};
+use ppdb_tables::Parent;
+use ppdb_verify::verify;
+use sample_files::sample_value;
+use std::alloc::Global;
+use std::marker::Brand;
+use std::sync::ledger::{Blank, Ledger};
+use std::test::Fail;
+use worked_files::{EMPTY, PROGRAM};
+use worked_runs::first_other;
+
+fn read_in<L: Ledger>(alloc: Global, bytes: &[u8], blank: Blank) -> Result<FileValue, Fail>
+    requires { (blank.name ≡ L.name) × (blank.parts ≡ L.parts) × (0 < L.parts) }
+{
+    if bytes.len() > 0x0800_0000 {
+        return Err(Fail::from("too long"));
+    }
+    let mut steps = Steps::<L>::new(blank);
+    let Ok(file) = verify(alloc, bytes, &mut steps) else {
+        return Err(Fail::from("not valid"));
+    };
+    Ok(value_of(alloc, &file, &mut steps)?)
+}
+
+/// The value of a valid file.
+fn read(alloc: Global, bytes: &[u8]) -> Result<FileValue, Fail> {
+    read_in::<Brand>(alloc, bytes, Blank::new(1))
+}
+
+/// The file of a sound value.
+fn written(alloc: Global, value: &FileValue, id: IdChoice) -> Result<Bytes, Fail> {
+    let is_sound = sound(alloc, value)?;
+    if !is_sound {
+        return Err(Fail::from("not sound"));
+    }
+    match write_file(alloc, value, id) {
+        Ok(bytes) => Ok(bytes),
+        Err(_) => Err(Fail::from("not written")),
+    }
+}
+
+/// The file of a sound value with the value's own identity, as O, where the file's value is written as the same file.
+fn kept(alloc: Global, value: &FileValue) -> Result<SteadyFolder, Fail> {
+    let file = written(alloc, value, IdChoice::Keep)?;
+    let again = written(alloc, &read(alloc, file.as_slice())?, IdChoice::Keep)?;
+    if again.as_slice() != file.as_slice() {
+        return Err(Fail::from("another file"));
+    }
+    let mut folder = SteadyFolder::new(alloc);
+    folder.set("O", file.as_slice())?;
+    Ok(folder)
+}
+
+#[test]
+fn worked_values_are_written(rt: HostRuntime) -> Result<(), Fail> {
+    for (file, id) in BY_HASH {
+        let value = read(rt.alloc(), file)?;
+        let bytes = written(rt.alloc(), &value, IdChoice::Keep)?;
+        assert!(rt; bytes.as_slice() == file, "{id:?}");
+        let bytes = written(rt.alloc(), &value, IdChoice::Hash)?;
+        let told = with_id(rt.alloc(), file, id)?;
+        assert!(rt; bytes.as_slice() == told.as_slice(), "{id:?}");
+    }
+    Ok(())
+}
+
+/// Whether a file has these bytes at this place.
+fn has_at(file: &[u8], place: usize, bytes: &[u8]) -> bool {
+    file.get(place..).unwrap_or(b"").starts_with(bytes)
+}
+
+// At 150 the header of `#~` says which heaps are large; at 100 stands the length of `#Blob`.
+#[test]
+fn a_heap_becomes_large(rt: HostRuntime) -> Result<(), Fail> {
+    let rows: [(usize, u8, &[u8]); 3] = [
+        (65522, 0, b"\xfc\xff\0\0"),
+        (65523, 4, b"\0\0\x01\0"),
+        (65527, 4, b"\x04\0\x01\0"),
+    ];
+    for (zeros, large, len) in rows {
+        let mut value = read(rt.alloc(), &EMPTY)?;
+        value.documents.push(DocumentValue {
+            name: List::copied(rt.alloc(), b"a")?,
+            algorithm: None,
+            hash: List::from_vec(vec![in rt.alloc(); 0u8; zeros]?),
+            language: None,
+        })?;
+        let file = written(rt.alloc(), &value, IdChoice::Keep)?;
+        assert!(rt; has_at(file.as_slice(), 150, &[large]), "{zeros}");
+        assert!(rt; has_at(file.as_slice(), 100, len), "{zeros}");
+    }
+    Ok(())
+}
+
+// The one row stands at 176, and is padded to a multiple of four bytes.
+#[test]
+fn a_parent_becomes_large(rt: HostRuntime) -> Result<(), Fail> {
+    let rows: [(u32, &[u8]); 2] = [
+        (2047, b"\xe1\xff\x01\0\0\0\0\0"),
+        (2048, b"\x01\0\x01\0\x01\0\0\0"),
+    ];
+    for (fields, row) in rows {
+        let mut value = read(rt.alloc(), &EMPTY)?;
+        value.rows[0x04] = fields;
+        value.customs.push(CustomValue {
+            parent: Parent {
+                table: 0x04,
+                row: fields,
+            },
+            kind: SOURCE_LINK,
+            value: CustomBody::Unread(List::new(rt.alloc())),
+        })?;
+        let file = written(rt.alloc(), &value, IdChoice::Keep)?;
+        assert!(rt; has_at(file.as_slice(), 176, row), "{fields}");
+        assert_eq!(rt; file.len(), 208);
+    }
+    Ok(())
+}
+
+/// What is asked of the program's file.
+const OF_THE_PROGRAM: [(&str, u8, &str); 2] = [
+    ("verify O", 0, "accepted\n"),
+    (
+        "query O 4 110",
+        0,
+        "point 107 1 9:9 9:38 signature 1 name /src/app/Program.cs\n\
+        scope 0 175\n\
+        constant 0803000000 Limit\n\
+        import 2\n\
+        use 1 namespace System\n\
+        use 1 namespace System.Threading.Tasks\n\
+        import 1\n\
+        hoisted 0 14 161\n\
+        kickoff 1\n\
+        async -\n\
+        step 61 82 4\n",
+    ),
+];
+
+#[test]
+fn the_program_answers(rt: HostRuntime) -> Result<(), Fail> {
+    let value = read(rt.alloc(), &PROGRAM)?;
+    let mut folder = kept(rt.alloc(), &value)?;
+    assert_eq!(rt;
+        first_other(rt.alloc(), &mut folder, &OF_THE_PROGRAM)?,
+        None
+    );
+    Ok(())
+}
+
+/// What is asked of the file with every kind.
+const OF_EVERY_KIND: [(&str, u8, &str); 2] = [("verify O", 0, "accepted\n"), ("show O", 0, SHOWN)];
+
+#[test]
+fn every_kind_is_read_again(rt: HostRuntime) -> Result<(), Fail> {
+    let mut folder = kept(rt.alloc(), &with_every_kind(rt.alloc())?)?;
+    assert_eq!(rt; first_other(rt.alloc(), &mut folder, &OF_EVERY_KIND)?, None);
+    Ok(())
+}
+
+/// What is asked of the sample of 20000 methods.
+const OF_THE_SAMPLE: [(&str, u8, &str); 3] = [
+    ("verify O", 0, "accepted\n"),
+    (
+        "query O 20000 9",
+        0,
+        "point 8 2500 80001:5 80002:3 signature 1 name /s/2500.cs\n\
+        scope 0 16\n\
+        variable 0 0 a\n\
+        import 1\n\
+        use 1 namespace System\n\
+        scope 4 12\n\
+        variable 1 0 b\n\
+        constant 08204e0000 k\n\
+        import 1\n\
+        use 1 namespace System\n\
+        hoisted 0 4 12\n",
+    ),
+    ("rebuild O A --keep-id", 0, ""),
+];
+
+#[test]
+fn a_large_sample_answers(rt: HostRuntime) -> Result<(), Fail> {
+    let mut folder = kept(rt.alloc(), &sample_value(rt.alloc(), 20000)?)?;
+    assert_eq!(rt; first_other(rt.alloc(), &mut folder, &OF_THE_SAMPLE)?, None);
+    assert!(rt; folder.get("O") == folder.get("A"));
+    Ok(())
+}
