@@ -52,19 +52,21 @@ fn answer(rt: &HostRuntime, words: &[String]) -> Status {
         Some(text) => put_text(&mut out, text),
         None => run_outside(rt.alloc(), words, &mut folder, &mut out),
     };
-    let ended = match out.flush() {
+    match out.flush() {
         Err(_) if status != Status::Memory => Status::WriteFault,
-        _ => status,
-    };
-    tell_more(rt, words, ended, folder.reason());
-    ended
+        _ => {
+            tell_more(rt, words, status, folder.reason());
+            status
+        }
+    }
 }
 
-/// Says on the standard error what the line of a run that ended so does not say: whose words they are, or why a read failed.
+/// Says on the standard error what the line of a run that ended so does not say: whose words they are, or why a file was not read or
+/// written.
 fn tell_more(rt: &HostRuntime, words: &[String], status: Status, reason: Option<ErrorKind>) {
     let _ = match (status, reason) {
         (Status::Usage, _) => rt.eprintln(help::hint(words)),
-        (Status::ReadFault, Some(reason)) => eprintln!(rt; "ppdb: {reason}"),
+        (Status::ReadFault | Status::WriteFault, Some(reason)) => eprintln!(rt; "ppdb: {reason}"),
         _ => Ok(()),
     };
 }

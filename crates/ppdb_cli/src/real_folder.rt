@@ -1,5 +1,5 @@
 // The current folder of the system. No contract knows what it holds.
-ghost use Rattle.std.specs.Prelude.{◌≡◌, ◌≤◌, [], None, length, IfErr, OnOk};
+ghost use Rattle.std.specs.Prelude.{◌≡◌, ◌≤◌, [], None, length, OnOk};
 
 use crate::writing::write_all;
 use ppdb_base::{Bytes, Folder, Memory, ReadError, WriteError};
@@ -14,7 +14,7 @@ pub struct RealFolder<'a, R: Files> {
     reads: u64,
     read_faults: u64,
     write_faults: u64,
-    /// The system's reason for the last failed read, where it had one.
+    /// The system's reason for the last failed read or write, where it had one.
     reason: Option<ErrorKind>,
 }
 
@@ -65,7 +65,7 @@ impl<'a, R: Files> RealFolder<'a, R> {
         }
     }
 
-    /// The system's reason for the last failed read, where it had one.
+    /// The system's reason for the last failed read or write, where it had one.
     pub fn reason(&self) -> Option<ErrorKind> {
         self.reason
     }
@@ -99,11 +99,14 @@ impl<R: Files> Folder for RealFolder<'_, R> {
     }
 
     fn write(&mut self, name: &str, bytes: &[u8]) -> Result<(), WriteError> {
-        let written = write_file(self.files, name, bytes);
-        if written.is_err() {
-            self.write_faults = self.write_faults.saturating_add(1);
+        match write_file(self.files, name, bytes) {
+            Ok(()) => Ok(()),
+            Err(reason) => {
+                self.reason = Some(reason);
+                self.write_faults = self.write_faults.saturating_add(1);
+                Err(WriteError::Failed)
+            }
         }
-        written
     }
 }
 
@@ -135,12 +138,10 @@ fn read_to_end<R: Read>(file: &mut R, max: usize, into: &mut Bytes) -> Result<()
     Err(NotRead::from(ReadError::TooLong))
 }
 
-fn write_file<R: Files>(files: &R, name: &str, bytes: &[u8]) -> Result<(), WriteError>
-    ensures { IfErr result (λ error. error ≡ WriteError.Failed) }
-{
+fn write_file<R: Files>(files: &R, name: &str, bytes: &[u8]) -> Result<(), ErrorKind> {
     match File::create(files, name) {
         Ok(mut file) => write_all(&mut file, bytes),
-        Err(_) => Err(WriteError::Failed),
+        Err(error) => Err(error.kind()),
     }
 }
 

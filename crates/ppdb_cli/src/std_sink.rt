@@ -2,7 +2,7 @@
 ghost use Rattle.std.specs.Prelude.{◌≡◌, ◌≤◌, ◌+◌, None, length, IfErr, OnErr};
 ghost use Rattle.ppdb_base.specs.Causes.{Rose};
 
-use crate::writing::write_all;
+use crate::writing::put_all;
 use ppdb_base::{Sink, WriteError};
 use std::io::Write;
 
@@ -64,7 +64,7 @@ impl<W: Write> StdSink<W> {
         ensures faults { self.new.faults ≡ self.old.faults }
         ensures failed { IfErr result (λ error. error ≡ WriteError.Failed) }
     {
-        let written = write_all(&mut self.writer, &self.buffer[..self.kept]);
+        let written = put_all(&mut self.writer, &self.buffer[..self.kept]);
         self.kept = 0;
         written
     }
@@ -95,7 +95,7 @@ impl<W: Write> StdSink<W> {
             self.keep(bytes);
             return Ok(());
         }
-        write_all(&mut self.writer, bytes)
+        put_all(&mut self.writer, bytes)
     }
 }
 

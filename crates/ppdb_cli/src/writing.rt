@@ -2,18 +2,27 @@
 ghost use Rattle.std.specs.Prelude.{◌≡◌, IfErr};
 
 use ppdb_base::WriteError;
-use std::io::Write;
+use std::io::{ErrorKind, Write};
 
-/// Writes all bytes. A write that takes none has failed.
-pub fn write_all<W: Write>(writer: &mut W, bytes: &[u8]) -> Result<(), WriteError>
-    ensures { IfErr result (λ error. error ≡ WriteError.Failed) }
-{
+/// Writes all bytes, or gives the system's reason why it did not. A write that takes none has failed.
+pub fn write_all<W: Write>(writer: &mut W, bytes: &[u8]) -> Result<(), ErrorKind> {
     let mut rest = bytes;
     while !rest.is_empty() {
         match writer.write(rest) {
-            Ok(0) | Err(_) => return Err(WriteError::Failed),
+            Ok(0) => return Err(ErrorKind::WriteZero),
             Ok(count) => rest = &rest[count..],
+            Err(error) => return Err(error.kind()),
         }
     }
     Ok(())
+}
+
+/// Writes all bytes, and passes over the reason why it did not.
+pub fn put_all<W: Write>(writer: &mut W, bytes: &[u8]) -> Result<(), WriteError>
+    ensures { IfErr result (λ error. error ≡ WriteError.Failed) }
+{
+    match write_all(writer, bytes) {
+        Ok(()) => Ok(()),
+        Err(_) => Err(WriteError::Failed),
+    }
 }
