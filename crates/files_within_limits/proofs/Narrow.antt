@@ -51,7 +51,8 @@ narrow_column sizes stream list column is two all =
     cell : (row : ℕ) → list (scope_row widths (row_in widths bytes row)) < 65536
     cell row =
         let here = All-take IsByte (sum widths) (drop (row * sum widths) bytes) (All-drop IsByte (row * sum widths) bytes in_bytes) in
-        let low = narrow (drop (cell_place widths column) (row_in widths bytes row)) (All-drop IsByte (cell_place widths column) (row_in widths bytes row) here) in
+        let low = narrow (drop (cell_place widths column) (row_in widths bytes row))
+        (All-drop IsByte (cell_place widths column) (row_in widths bytes row) here) in
         let reads = is widths (row_in widths bytes row) in
         let width = ap (λ n. little_number n (drop (cell_place widths column) (row_in widths bytes row))) two in
         omega (arith, low, reads, width)

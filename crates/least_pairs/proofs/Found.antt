@@ -139,7 +139,8 @@ module _ {A : Type 0} (group number image : A → ℕ) where
               (itself y, pairs.1.0) f.least.0,
         ),
         each_both (InOrder x) (λ c. Each (NotBehind f.a f.b c) (y ∷ ys)) (λ c. Each (NotBehind f.a f.b c) (x ∷ y ∷ ys))
-            (λ c order rest. ((λ cd. let less = cd.numbers in let le = order.numbers (sym cd.groups) (sym cd.images) in absurd (omega (arith, less, le))), rest))
+            (λ c order rest.
+            ((λ cd. let less = cd.numbers in let le = order.numbers (sym cd.groups) (sym cd.images) in absurd (omega (arith, less, le))), rest))
             (y ∷ ys) pairs.0 f.least,
       );
       tells = f.tells;

@@ -1,5 +1,5 @@
 -- How long the lines of a method's slots are, and what is counted of them.
-use Rattle.std.proofs.Common.{ℕ, zero, suc, ◌≡◌, ◌⊎◌, ◌+◌, ◌*◌, ◌<◌, ◌≤◌, ◌++◌, ◌||◌, Bool, true, false, cond, List, [], ◌∷◌, length, take, map, refl, sym, ap, ◌∙◌}
+use Rattle.std.proofs.Common.{ℕ, zero, suc, ◌≡◌, ◌+◌, ◌*◌, ◌<◌, ◌≤◌, ◌++◌, ◌||◌, Bool, true, false, cond, List, [], ◌∷◌, length, take, map, refl, sym, ap, ◌∙◌}
 use Rattle.std.proofs.Common.{arith, subst, inl, inr, length-append, Option, Some, None, Bor}
 use Rattle.std.specs.Prelude.{nat_eq, nat_lt}
 use Rattle.std.specs.Fmt.{decimal}
@@ -204,7 +204,8 @@ own_slots s image readable lines =
     (λ (x : SlotImage). slot_image s image x.old ≡ Some x.new) (slots_of s image) (slots_up s readable image)
     (λ x found.
     ap (λ b. cond b (slot_line s image x.old) (Some x.old)) lines
-    ∙ ap (option_map (λ (y : SlotImage). y.new)) (sym (find_filter (λ (y : SlotImage). nat_eq y.method image) (λ (y : SlotImage). nat_eq y.old x.old) s.slots) ∙ found))
+    ∙ ap (option_map (λ (y : SlotImage). y.new)) (sym (find_filter (λ (y : SlotImage). nat_eq y.method image) (λ (y : SlotImage). nat_eq y.old x.old)
+    s.slots) ∙ found))
 
 pub images_taken : (f s : Map) (method image : ℕ) → IsReadable s → followed f s method ≡ Some image → has_slots f method ≡ false → has_slots s image ≡ true
     → map (λ (x : SlotImage). Slot method x.old x.new) (slots_of s image) ≡ slot_images f s method

@@ -2,11 +2,10 @@
 use Rattle.std.proofs.Common.{◌≡◌, ℕ, ◌<◌, ◌≤◌, Bool, true, false, List, [], ◌∷◌, ◌++◌, sym, ap, subst, arith, None}
 use Rattle.std.specs.Prelude.{◌^◌, All, length, ◌==◌, if◌then◌else◌}
 use Rattle.std.specs.List.{list_all}
-use Rattle.std.proofs.lemmas.List.Elements.{All-head, All-weaker}
+use Rattle.std.proofs.lemmas.List.Elements.{All-head}
 use Rattle.cli_ints.specs.Shortest.{short_unsigned}
 use Rattle.sequence_points.specs.declared.point.Point.{Point}
 use Rattle.sequence_points.specs.Points.{PointsReading, common_document}
-use Rattle.sequence_points.specs.Ranges.{IsDocument}
 use Rattle.sequence_points.specs.Written.{CanBeWritten, large_steps, points_blob, initial_document, points_bytes}
 use Rattle.sequence_points.proofs.Follows.{few_points}
 use Rattle.sequence_points.proofs.Reread.{written_points}

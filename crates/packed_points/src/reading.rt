@@ -1,6 +1,6 @@
 //! The points of a packed blob.
 
-ghost use Rattle.std.specs.Prelude.{◌≡◌, ◌++◌, IfOk, length};
+ghost use Rattle.std.specs.Prelude.{◌≡◌, IfOk};
 ghost use Rattle.packed_points.specs.Packed.{IsPacked, points_in};
 
 use ppdb_base::{List, Memory};

@@ -25,12 +25,14 @@ overflow_add-slots c =
 
 pub slots-smaller : goal.slots-smaller
 slots-smaller c =
-    let inside : c.slots.slots < length (slots_of c.args.map.now c.args.method) = slot_inside _ c.slots.slots c.in-Some.old c.in-Some.new (sym c.in-Some.ensures) in
+    let inside : c.slots.slots < length (slots_of c.args.map.now c.args.method) =
+    slot_inside _ c.slots.slots c.in-Some.old c.in-Some.new (sym c.in-Some.ensures) in
     omega (arith, inside)
 
 pub slots-preserved : goal.slots-preserved
 slots-preserved c =
-    let inside : c.slots.slots < length (slots_of c.args.map.now c.args.method) = slot_inside _ c.slots.slots c.in-Some.old c.in-Some.new (sym c.in-Some.ensures) in
+    let inside : c.slots.slots < length (slots_of c.args.map.now c.args.method) =
+    slot_inside _ c.slots.slots c.in-Some.old c.in-Some.new (sym c.in-Some.ensures) in
     let next = digits_next (slots_of c.args.map.now c.args.method) c.slots.slots c.in-Some.old c.in-Some.new (sym c.in-Some.ensures) in
     let one = c.digits_of.ensures in
     let two = c.digits_of-in-Some.ensures in
