@@ -6,7 +6,7 @@ ghost use Rattle.ppdb_run.specs.Stops.{cause_of, Gives, ComesFrom, no_file};
 
 use crate::input::read_input;
 use crate::stop::Stop;
-use ppdb_base::Folder;
+use ppdb_base::{Bytes, Folder};
 use ppdb_maps::{MapError, MapText, read_map};
 use std::alloc::Global;
 
@@ -34,16 +34,16 @@ pub fn read_map_file<'a, F: Folder>(
         Ok(text) => text,
         Err(stop) => return Err(stop),
     };
-    map_of(alloc, name, text.as_slice())
+    map_of(alloc, name, text)
 }
 
-/// The map that a text has.
-pub fn map_of<'a>(alloc: Global, name: &'a str, text: &[u8]) -> Result<MapText, Stop<'a>>
-    requires { length text.now ≤ 134217728 }
-    ensures told { Gives (λ read. read) result (map_in name.now text.now) }
+/// The map that a text has. The text is given up.
+pub fn map_of<'a>(alloc: Global, name: &'a str, text: Bytes) -> Result<MapText, Stop<'a>>
+    requires { length text ≤ 134217728 }
+    ensures told { Gives (λ read. read) result (map_in name.now text) }
     ensures causes { IfErr result (λ stop. ComesFrom (cause_of stop) ⊥ no_file no_file None ⊥ ⊥ ⊥) }
 {
-    match read_map(alloc, text) {
+    match read_map(alloc, text.as_slice()) {
         Ok(map) => Ok(map),
         Err(MapError::Line { line, kind }) => Err(Stop::Map { name, line, kind }),
         Err(MapError::Memory) => Err(Stop::Memory),

@@ -13,7 +13,7 @@ use crate::inputs::{Inputs, Pair};
 use crate::map::map_of;
 use crate::stop::Stop;
 use custom_info::Marks;
-use ppdb_base::{Folder, Steps};
+use ppdb_base::{Bytes, Folder, Steps};
 use ppdb_merge::Merger;
 use ppdb_verify::{VerifyError, verify};
 use std::alloc::Global;
@@ -159,31 +159,23 @@ fn add_input<'a, F: Folder, K: Ledger, L: Ledger>(
         Ok(text) => text,
         Err(stop) => return Err(stop),
     };
-    add_texts(
-        alloc,
-        input,
-        bytes.as_slice(),
-        text.as_slice(),
-        merger,
-        checks,
-        steps,
-    )
+    add_texts(alloc, input, bytes.as_slice(), text, merger, checks, steps)
 }
 
-/// Verifies an input, reads its map and moves it.
+/// Verifies an input, reads its map, whose text is given up then, and moves it.
 fn add_texts<'a, K: Ledger, L: Ledger>(
     alloc: Global,
     input: Pair<'a>,
     bytes: &[u8],
-    text: &[u8],
+    text: Bytes,
     merger: &mut Merger,
     checks: &mut Steps<K>,
     steps: &mut Steps<L>,
 ) -> Result<(), Stop<'a>>
     requires bytes { length bytes.now ≤ MAX_FILE_BYTES }
-    requires text { length text.now ≤ MAX_FILE_BYTES }
+    requires text { length text ≤ MAX_FILE_BYTES }
     requires fewer { length merger.now.traces < 256 }
-    ensures told { Gives (λ _. merger.new.traces) result (with_texts merger.old.marks merger.old.traces (input_of input.entry) bytes.now text.now) }
+    ensures told { Gives (λ _. merger.new.traces) result (with_texts merger.old.marks merger.old.traces (input_of input.entry) bytes.now text) }
     ensures marks { merger.new.marks ≡ merger.old.marks }
     ensures one { OnOk result (length merger.new.traces ≡ length merger.old.traces + 1) }
     ensures causes { IfErr result (λ stop. ComesFrom (cause_of stop) ⊥ no_file no_file None ⊥ ⊥ ⊥) }

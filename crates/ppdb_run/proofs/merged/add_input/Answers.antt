@@ -12,4 +12,4 @@ pub returns-clause-told : goal.returns-clause-told
 returns-clause-told g c =
     texts_told (g.F.Folder.files c.args.folder.now) c.args.merger.now.marks c.args.merger.now.traces c.add_texts.new.merger.traces
     (input_of c.args.input) c.in-Ok.bytes c.in-Ok.ensures.told c.add_texts.result c.in-Ok-read_input.text
-    (rw c.in-Ok.ensures.files at c.in-Ok-read_input.ensures.told) (rw (c.as_slice.ensures, c.as_slice-2.ensures) at c.add_texts.ensures.told)
+    (rw c.in-Ok.ensures.files at c.in-Ok-read_input.ensures.told) (rw c.as_slice.ensures at c.add_texts.ensures.told)
