@@ -18,13 +18,11 @@ pub const BY_HASH: [(&[u8], &[u8; 20]); 3] = [
     ),
 ];
 
-/// A file with another identity, where it is so long that it has one.
+/// A file with another identity, which its bytes 112 to 131 are.
 pub fn with_id(alloc: Global, file: &[u8], id: &[u8; 20]) -> Result<Vec<u8>, AllocError> {
     let mut bytes = Vec::new(alloc);
-    if file.len() >= 132 {
-        bytes.extend_from_slice(&file[..112])?;
-        bytes.extend_from_slice(id)?;
-        bytes.extend_from_slice(&file[132..])?;
-    }
+    bytes.extend_from_slice(file.get(..112).unwrap_or(b""))?;
+    bytes.extend_from_slice(id)?;
+    bytes.extend_from_slice(file.get(132..).unwrap_or(b""))?;
     Ok(bytes)
 }
