@@ -11,14 +11,13 @@ use crate::line::{Item, Part};
 use json::Writer;
 use ppdb_base::{Memory, Sink, SteadySink, WriteError};
 use std::alloc::Global;
-
-/// Room for a line that has no long name.
-const ROOM: usize = 256;
+use std::cell::Cell;
 
 /// Puts a line as an object of JSON. The order is that of the keys: 0 is the word, and 1 the first part.
 #[tactic(auto, unfolding(crate::specs::Lines::json_of))]
 pub(crate) fn put_json_line<O: Sink>(
     alloc: Global,
+    room: &Cell<Vec<u8>>,
     out: &mut O,
     word: &str,
     order: &[usize],
@@ -27,14 +26,17 @@ pub(crate) fn put_json_line<O: Sink>(
     requires { IsKeyOrder order.now (line_of word.now parts.now) }
     ensures { Puts result (O.written out.old) (O.written out.new) (O.faults out.old) (O.faults out.new) (json_of (line_of word.now parts.now)) }
 {
-    let text = object_line(alloc, word, order, parts)?;
-    out.put(text.as_slice())
+    let text = object_line(alloc, room.replace(Vec::new(alloc)), word, order, parts)?;
+    let put = out.put(text.as_slice());
+    room.set(text);
+    put
 }
 
-/// The text of a line's object, and the end of its line.
+/// The text of a line's object and the end of its line, in place of what is there.
 #[tactic(auto, unfolding(crate::specs::Lines::json_of))]
 fn object_line(
     alloc: Global,
+    mut room: Vec<u8>,
     word: &str,
     order: &[usize],
     parts: &[Part<'_>],
@@ -42,7 +44,8 @@ fn object_line(
     requires { IsKeyOrder order.now (line_of word.now parts.now) }
     ensures { IfOk result (λ text. text.items ≡ json_of (line_of word.now parts.now)) }
 {
-    let mut writer = Writer::new(Vec::with_capacity(alloc, ROOM)?);
+    room.clear();
+    let mut writer = Writer::new(room);
     writer.begin_object()?;
     for place in order {
         put_member(alloc, &mut writer, word, parts, *place)?;
