@@ -5,8 +5,6 @@ mod error;
 mod finish;
 mod parts;
 mod rebuilding;
-#[cfg(test)]
-mod tests;
 mod write;
 
 pub use error::BuildError;

@@ -10,8 +10,6 @@ mod placing;
 mod renumbering;
 mod repeats;
 mod sorting;
-#[cfg(test)]
-mod tests;
 mod unnoted;
 
 pub use joining::{join, joined_value};

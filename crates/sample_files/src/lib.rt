@@ -6,8 +6,6 @@ mod laws;
 mod methods;
 mod parts;
 mod scopes;
-#[cfg(test)]
-mod tests;
 mod value;
 
 pub use laws::{samples_fit, worked_samples};

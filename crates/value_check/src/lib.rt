@@ -18,8 +18,6 @@ mod part;
 mod ranges;
 mod rows;
 mod scopes;
-#[cfg(test)]
-mod tests;
 mod value;
 
 pub use value::sound;

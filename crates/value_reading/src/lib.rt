@@ -26,6 +26,3 @@ pub use scopes::{ListRange, Scope, ScopeCursor, scope_value};
 pub use scratch::Scratch;
 pub use value::value_of;
 pub use variables::{LentVariable, read_variable, variable_value};
-
-#[cfg(test)]
-mod tests;

@@ -1,28 +1,13 @@
 // What is written of values at the limits of the format and of its widths.
-use crate::{
-    BuildError, CustomBody, CustomValue, DocumentValue, FileValue, IdChoice, Limit, MethodValue,
-    ScopeValue, VariableValue, sound, write_file,
-};
-use custom_info::{Range, SOURCE_LINK};
+use crate::parts::{custom, empty, lines, point, scope, variable};
+use custom_info::SOURCE_LINK;
 use ppdb_base::{Bytes, List, Memory};
-use ppdb_tables::{MachineRow, Parent};
-use sequence_points::{Point, Span};
+use ppdb_build::{
+    BuildError, CustomBody, DocumentValue, FileValue, IdChoice, Limit, MethodValue, sound,
+    write_file,
+};
+use ppdb_tables::MachineRow;
 use std::alloc::Global;
-
-/// The value of a file without rows.
-fn empty(alloc: Global) -> FileValue {
-    FileValue {
-        id: [0; 20],
-        entry: 0,
-        rows: [0; 64],
-        documents: List::new(alloc),
-        methods: List::new(alloc),
-        scopes: List::new(alloc),
-        imports: List::new(alloc),
-        machines: List::new(alloc),
-        customs: List::new(alloc),
-    }
-}
 
 /// The file of a sound value, or the limit that the value passes; of another value nothing.
 fn written(alloc: Global, value: &FileValue) -> Result<Option<Result<Bytes, Limit>>, Memory> {
@@ -68,23 +53,13 @@ fn document(alloc: Global, zeros: usize) -> Result<DocumentValue, Memory> {
 }
 
 /// A method with points at these offsets, of one line each.
-fn lines(alloc: Global, points: &[(u32, u32)]) -> Result<FileValue, Memory> {
+fn with_points(alloc: Global, points: &[(u32, u32)]) -> Result<FileValue, Memory> {
     let mut value = empty(alloc);
     value.rows[0x06] = 1;
     value.documents.push(document(alloc, 0)?)?;
     let mut list = List::new(alloc);
-    for (offset, line) in points {
-        let span = Span::Lines {
-            start_line: *line,
-            start_column: 1,
-            end_line: *line,
-            end_column: 2,
-        };
-        list.push(Point {
-            offset: *offset,
-            document: 1,
-            span,
-        })?;
+    for &(offset, line) in points {
+        list.push(point(offset, lines(line, 1, line, 2)))?;
     }
     value.methods.push(MethodValue {
         method: 1,
@@ -103,23 +78,15 @@ fn letter(bits: u32) -> u8 {
 fn crowded(alloc: Global, variables: u32) -> Result<FileValue, Memory> {
     let mut value = empty(alloc);
     value.rows[0x06] = 1;
-    let mut crowd = List::new(alloc);
+    let mut crowd = scope(alloc, 1, 0, 2);
     for i in 0..variables {
         let name = [letter(i >> 12), letter(i >> 8), letter(i >> 4), letter(i)];
-        crowd.push(VariableValue {
-            attributes: 0,
-            slot: (i & 65535) as u16,
-            name: List::copied(alloc, &name)?,
-        })?;
+        crowd
+            .variables
+            .push(variable(alloc, (i & 65535) as u16, &name)?)?;
     }
-    for (end, variables) in [(2, crowd), (1, List::new(alloc))] {
-        value.scopes.push(ScopeValue {
-            method: 1,
-            import: 0,
-            range: Range { start: 0, end },
-            variables,
-            constants: List::new(alloc),
-        })?;
+    for scope in [crowd, scope(alloc, 1, 0, 1)] {
+        value.scopes.push(scope)?;
     }
     Ok(value)
 }
@@ -136,8 +103,8 @@ fn points_that_have_no_form(rt: HostRuntime) -> Result<(), Memory> {
         offset: 0x20000000,
     };
     let points = [(0, 1), (2, 0x1ffffff0), (0x20000000, 1)];
-    assert!(rt; passes(alloc, &lines(alloc, &points[..2])?, step)?);
-    assert!(rt; passes(alloc, &lines(alloc, &points)?, offset)?);
+    assert!(rt; passes(alloc, &with_points(alloc, &points[..2])?, step)?);
+    assert!(rt; passes(alloc, &with_points(alloc, &points)?, offset)?);
     Ok(())
 }
 
@@ -154,37 +121,57 @@ fn a_list_past_its_table(rt: HostRuntime) -> Result<(), Memory> {
     Ok(())
 }
 
+/// A file with a document whose hash has so many zeros.
+fn with_hash(alloc: Global, zeros: usize) -> Result<FileValue, Memory> {
+    let mut value = empty(alloc);
+    value.documents.push(document(alloc, zeros)?)?;
+    Ok(value)
+}
+
+/// A file of so many methods with a state machine.
+fn with_methods(alloc: Global, methods: u32) -> Result<FileValue, Memory> {
+    let mut value = empty(alloc);
+    value.rows[0x06] = methods;
+    value.machines.push(MachineRow {
+        move_next: 1,
+        kickoff: 1,
+    })?;
+    Ok(value)
+}
+
+/// A file of so many fields, the last of which has a record.
+fn with_fields(alloc: Global, fields: u32) -> Result<FileValue, Memory> {
+    let mut value = empty(alloc);
+    value.rows[0x04] = fields;
+    let nothing = CustomBody::Unread(List::new(alloc));
+    value
+        .customs
+        .push(custom(0x04, fields, SOURCE_LINK, nothing))?;
+    Ok(value)
+}
+
 // Indexes of blobs have four bytes where the padded heap has 65536, rows of methods where there are so many, and coded parents from
 // 2048 rows on.
 #[test]
 fn widths(rt: HostRuntime) -> Result<(), Memory> {
     let alloc = rt.alloc();
     for (zeros, len) in [(65522, 65716), (65523, 65724), (65527, 65728)] {
-        let mut value = empty(alloc);
-        value.documents.push(document(alloc, zeros)?)?;
-        assert!(rt; has_bytes(alloc, &value, len)?, "{zeros}");
+        assert!(rt;
+            has_bytes(alloc, &with_hash(alloc, zeros)?, len)?,
+            "{zeros}"
+        );
     }
     for (methods, len) in [(65535, 188), (65536, 192)] {
-        let mut value = empty(alloc);
-        value.rows[0x06] = methods;
-        value.machines.push(MachineRow {
-            move_next: 1,
-            kickoff: 1,
-        })?;
-        assert!(rt; has_bytes(alloc, &value, len)?, "{methods}");
+        assert!(rt;
+            has_bytes(alloc, &with_methods(alloc, methods)?, len)?,
+            "{methods}"
+        );
     }
     for fields in [2047, 2048] {
-        let mut value = empty(alloc);
-        value.rows[0x04] = fields;
-        value.customs.push(CustomValue {
-            parent: Parent {
-                table: 0x04,
-                row: fields,
-            },
-            kind: SOURCE_LINK,
-            value: CustomBody::Unread(List::new(alloc)),
-        })?;
-        assert!(rt; has_bytes(alloc, &value, 208)?, "{fields}");
+        assert!(rt;
+            has_bytes(alloc, &with_fields(alloc, fields)?, 208)?,
+            "{fields}"
+        );
     }
     Ok(())
 }

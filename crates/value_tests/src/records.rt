@@ -1,9 +1,10 @@
+// Records that stand at their items, as rows.
 ghost use Rattle.std.specs.Prelude.{◌≡◌, [], IfOk};
 ghost use Rattle.ppdb_joined.specs.Small.{IsSmall};
 
-use crate::value_of;
 use custom_info::{Range, SOURCE_LINK};
 use ppdb_base::{List, Memory};
+use ppdb_joined::value_of;
 use ppdb_noted::{NotedFile, NotedScope};
 use ppdb_tables::Parent;
 use ppdb_values::{Custom, CustomBody, CustomValue, DocumentValue, FileValue, Noted};

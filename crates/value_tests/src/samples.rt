@@ -1,5 +1,6 @@
-use crate::sample_value;
+// The values of samples.
 use ppdb_base::Memory;
+use sample_files::sample_value;
 
 #[test]
 fn samples_have_their_parts(rt: HostRuntime) -> Result<(), Memory> {

@@ -1,19 +1,20 @@
 // What is read of worked files, and of two whose scopes own nothing.
 ghost use Rattle.std.specs.Prelude.{◌≡◌, ◌<◌};
 
-use crate::value_of;
-use custom_info::{AsyncStep, Range, Slot};
+use crate::worked::{PROGRAM_SLOTS, PROGRAM_STEPS, program_points, small_points};
+use custom_info::Range;
 use ppdb_base::{Memory, Steps};
 use ppdb_tables::{MachineRow, Parent};
 use ppdb_values::{
-    ConstantBody, ConstantValue, CustomBody, CustomValue, DocumentValue, FileValue, ImportValue,
-    MethodValue, ScopeValue,
+    ConstantBody, ConstantValue, CustomBody, CustomValue, DocumentValue, FileValue,
+    ImportScopeValue, ImportValue, MethodValue, ScopeValue,
 };
 use ppdb_verify::verify;
-use sequence_points::{Point, Span};
+use sequence_points::Point;
 use std::alloc::Global;
 use std::marker::Brand;
 use std::sync::ledger::{Blank, Ledger};
+use value_reading::value_of;
 use worked_files::{EMPTY, PROGRAM, SMALL};
 
 /// The file of one method with an outer scope that owns `x`, a scope that owns nothing, and one that owns `y`.
@@ -68,35 +69,33 @@ fn counts(value: &FileValue, tables: &[(usize, u32)]) -> bool {
     value.rows == rows
 }
 
-/// A scope's range, and whether it owns the variables of these slots and names and no constants.
-fn owns(scope: &ScopeValue, start: u32, end: u32, variables: &[(u16, &[u8])]) -> bool {
+/// Variables by their slots and names.
+type Variables<'a> = &'a [(u16, &'a [u8])];
+
+const X: [(u16, &[u8]); 1] = [(0, b"x")];
+
+const Y: [(u16, &[u8]); 1] = [(1, b"y")];
+
+const X_AND_Y: [(u16, &[u8]); 2] = [(0, b"x"), (1, b"y")];
+
+/// Whether a scope owns these variables and no constants.
+fn owns(scope: &ScopeValue, variables: Variables<'_>) -> bool {
     let own = scope.variables.as_slice();
-    if own.len() != variables.len() || !scope.constants.is_empty() {
-        return false;
-    }
-    for i in 0..own.len() {
-        if own[i].slot != variables[i].0 || own[i].name.as_slice() != variables[i].1 {
-            return false;
-        }
-    }
-    scope.range == Range { start, end } && scope.method == 1 && scope.import == 0
+    own.len() == variables.len()
+        && scope.constants.is_empty()
+        && own.iter().zip(variables).all(|(own, (slot, name))| own.slot == *slot
+            && own.name.as_slice() == *name)
 }
 
-fn lines(start_line: u32, start_column: u32, end_line: u32, end_column: u32) -> Span {
-    Span::Lines {
-        start_line,
-        start_column,
-        end_line,
-        end_column,
-    }
-}
-
-fn point(offset: u32, span: Span) -> Point {
-    Point {
-        offset,
-        document: 1,
-        span,
-    }
+/// Whether the scopes of method 1 have these starts and ends, and own these variables.
+fn own(scopes: &[ScopeValue], rows: &[(u32, u32, Variables<'_>)]) -> bool {
+    scopes.len() == rows.len()
+        && scopes.iter().zip(rows).all(|(scope, &(start, end, variables))| {
+            scope.range == Range { start, end }
+                && scope.method == 1
+                && scope.import == 0
+                && owns(scope, variables)
+        })
 }
 
 #[test]
@@ -127,17 +126,12 @@ fn is_small_document(documents: &[DocumentValue]) -> bool {
         && document.language.is_none()
 }
 
-/// Method 1 with three points.
-fn is_small_method(methods: &[MethodValue]) -> bool {
+/// This method alone, with these points.
+fn is_method(methods: &[MethodValue], number: u32, signature: u32, points: &[Point]) -> bool {
     let [method] = methods else {
         return false;
     };
-    let points = [
-        point(0, lines(10, 5, 10, 9)),
-        point(3, Span::Hidden),
-        point(7, lines(12, 1, 13, 2)),
-    ];
-    method.method == 1 && method.signature == 0 && method.points.as_slice() == points.as_slice()
+    method.method == number && method.signature == signature && method.points.as_slice() == points
 }
 
 #[test]
@@ -148,13 +142,8 @@ fn a_small_file_has_its_value(rt: HostRuntime) {
         assert_eq!(rt; value.entry, 1);
         assert!(rt; counts(&value, &[(0x06, 1)]));
         assert!(rt; is_small_document(value.documents.as_slice()));
-        assert!(rt; is_small_method(value.methods.as_slice()));
-        if let [outer, inner] = value.scopes.as_slice() {
-            assert!(rt; owns(outer, 0, 9, &[(0, b"x")]));
-            assert!(rt; owns(inner, 2, 5, &[(1, b"y")]));
-        } else {
-            assert!(rt; false);
-        }
+        assert!(rt; is_method(value.methods.as_slice(), 1, 0, &small_points()));
+        assert!(rt; own(value.scopes.as_slice(), &[(0, 9, &X), (2, 5, &Y)]));
     }
 }
 
@@ -165,12 +154,7 @@ fn the_last_of_equal_lists_owns_the_variables(rt: HostRuntime) {
     let found = value(rt.alloc(), &equal);
     assert!(rt; found.is_ok());
     if let Ok(value) = found {
-        if let [outer, inner] = value.scopes.as_slice() {
-            assert!(rt; owns(outer, 0, 9, &[]));
-            assert!(rt; owns(inner, 2, 5, &[(0, b"x"), (1, b"y")]));
-        } else {
-            assert!(rt; false);
-        }
+        assert!(rt; own(value.scopes.as_slice(), &[(0, 9, &[]), (2, 5, &X_AND_Y)]));
     }
 }
 
@@ -179,13 +163,12 @@ fn a_scope_between_two_may_own_nothing(rt: HostRuntime) {
     let found = value(rt.alloc(), &THREE_SCOPES);
     assert!(rt; found.is_ok());
     if let Ok(value) = found {
-        if let [first, second, third] = value.scopes.as_slice() {
-            assert!(rt; owns(first, 0, 9, &[(0, b"x")]));
-            assert!(rt; owns(second, 2, 4, &[]));
-            assert!(rt; owns(third, 5, 8, &[(1, b"y")]));
-        } else {
-            assert!(rt; false);
-        }
+        assert!(rt;
+            own(
+                value.scopes.as_slice(),
+                &[(0, 9, &X), (2, 4, &[]), (5, 8, &Y)]
+            )
+        );
     }
 }
 
@@ -198,25 +181,6 @@ fn is_program_document(documents: &[DocumentValue]) -> bool {
         && document.hash.as_slice() == [0x5a; 32].as_slice()
         && document.algorithm.is_some()
         && document.language.is_some()
-}
-
-/// Method 4, whose nine points alone are there: the blobs of all others are nil.
-fn is_program_method(methods: &[MethodValue]) -> bool {
-    let [method] = methods else {
-        return false;
-    };
-    let points = [
-        point(0, Span::Hidden),
-        point(14, lines(6, 5, 6, 6)),
-        point(15, lines(7, 9, 7, 34)),
-        point(22, lines(8, 9, 8, 31)),
-        point(35, Span::Hidden),
-        point(107, lines(9, 9, 9, 38)),
-        point(132, Span::Hidden),
-        point(152, lines(10, 5, 10, 6)),
-        point(160, Span::Hidden),
-    ];
-    method.method == 4 && method.signature == 1 && method.points.as_slice() == points.as_slice()
 }
 
 /// The constant `Limit`, which is 3.
@@ -255,18 +219,6 @@ fn are_program_customs(customs: &[CustomValue]) -> bool {
         table: 0x06,
         row: 4,
     };
-    let slots = [
-        Slot::Held(Range {
-            start: 14,
-            end: 161,
-        }),
-        Slot::Empty,
-    ];
-    let steps = [AsyncStep {
-        pause: 61,
-        resume: 82,
-        method: 4,
-    }];
     let parents = link.parent == module
         && options.parent == module
         && hoisted.parent == method
@@ -280,14 +232,44 @@ fn are_program_customs(customs: &[CustomValue]) -> bool {
         }
         && match (&hoisted.value, &stepping.value) {
             (
-                CustomBody::Hoisted(own),
+                CustomBody::Hoisted(slots),
                 CustomBody::Async {
                     handler: None,
-                    steps: found,
+                    steps,
                 },
-            ) => { own.as_slice() == slots.as_slice() && found.as_slice() == steps.as_slice() }
+            ) => {
+                slots.as_slice() == PROGRAM_SLOTS.as_slice()
+                    && steps.as_slice() == PROGRAM_STEPS.as_slice()
+            }
             _ => false,
         }
+}
+
+/// The scope of method 4, which owns the constant alone.
+fn is_program_scope(scopes: &[ScopeValue]) -> bool {
+    let [scope] = scopes else {
+        return false;
+    };
+    scope.method == 4
+        && scope.import == 2
+        && scope.range == Range { start: 0, end: 175 }
+        && scope.variables.is_empty()
+        && is_limit(scope.constants.as_slice())
+}
+
+/// A scope of no imports, and in it one of two namespaces.
+fn are_program_imports(scopes: &[ImportScopeValue]) -> bool {
+    let [all, own] = scopes else {
+        return false;
+    };
+    let [system, tasks] = own.imports.as_slice() else {
+        return false;
+    };
+    all.parent == 0
+        && all.imports.is_empty()
+        && own.parent == 1
+        && is_namespace(system, b"System")
+        && is_namespace(tasks, b"System.Threading.Tasks")
 }
 
 #[test]
@@ -297,30 +279,14 @@ fn a_program_has_its_value(rt: HostRuntime) {
     if let Ok(value) = found {
         assert_eq!(rt; value.entry, 2);
         assert!(rt; is_program_document(value.documents.as_slice()));
-        assert!(rt; is_program_method(value.methods.as_slice()));
+        assert!(rt; is_method(value.methods.as_slice(), 4, 1, &program_points()));
         let machine = MachineRow {
             move_next: 4,
             kickoff: 1,
         };
         assert!(rt; value.machines.as_slice() == [machine].as_slice());
         assert!(rt; are_program_customs(value.customs.as_slice()));
-        if let [scope] = value.scopes.as_slice() {
-            assert!(rt; scope.method == 4 && scope.import == 2 && scope.variables.is_empty());
-            assert!(rt; scope.range == Range { start: 0, end: 175 });
-            assert!(rt; is_limit(scope.constants.as_slice()));
-        } else {
-            assert!(rt; false);
-        }
-        if let [all, own] = value.imports.as_slice() {
-            assert!(rt; all.parent == 0 && all.imports.is_empty() && own.parent == 1);
-            if let [system, tasks] = own.imports.as_slice() {
-                assert!(rt; is_namespace(system, b"System"));
-                assert!(rt; is_namespace(tasks, b"System.Threading.Tasks"));
-            } else {
-                assert!(rt; false);
-            }
-        } else {
-            assert!(rt; false);
-        }
+        assert!(rt; is_program_scope(value.scopes.as_slice()));
+        assert!(rt; are_program_imports(value.imports.as_slice()));
     }
 }

@@ -1,0 +1,113 @@
+// Parts of values.
+use custom_info::Range;
+use ppdb_base::{Bytes, List, Memory};
+use ppdb_tables::Parent;
+use ppdb_values::{
+    ConstantBody, ConstantValue, CustomBody, CustomValue, DocumentValue, FileValue,
+    ImportScopeValue, ScopeValue, VariableValue,
+};
+use sequence_points::{Point, Span};
+use std::alloc::Global;
+
+/// A list of these bytes.
+pub fn bytes(alloc: Global, bytes: &[u8]) -> Result<Bytes, Memory> {
+    List::copied(alloc, bytes)
+}
+
+/// The value of a file without rows.
+pub fn empty(alloc: Global) -> FileValue {
+    FileValue {
+        id: [0; 20],
+        entry: 0,
+        rows: [0; 64],
+        documents: List::new(alloc),
+        methods: List::new(alloc),
+        scopes: List::new(alloc),
+        imports: List::new(alloc),
+        machines: List::new(alloc),
+        customs: List::new(alloc),
+    }
+}
+
+/// The document `/a/b`.
+pub fn document(alloc: Global) -> Result<DocumentValue, Memory> {
+    Ok(DocumentValue {
+        name: bytes(alloc, b"/a/b")?,
+        algorithm: None,
+        hash: List::new(alloc),
+        language: None,
+    })
+}
+
+/// A point in document 1.
+pub fn point(offset: u32, span: Span) -> Point {
+    Point {
+        offset,
+        document: 1,
+        span,
+    }
+}
+
+/// From the first line and column to the second.
+pub fn lines(start_line: u32, start_column: u32, end_line: u32, end_column: u32) -> Span {
+    Span::Lines {
+        start_line,
+        start_column,
+        end_line,
+        end_column,
+    }
+}
+
+/// A variable with this slot and this name.
+pub fn variable(alloc: Global, slot: u16, name: &[u8]) -> Result<VariableValue, Memory> {
+    Ok(VariableValue {
+        attributes: 0,
+        slot,
+        name: bytes(alloc, name)?,
+    })
+}
+
+/// A scope that owns nothing.
+pub fn scope(alloc: Global, method: u32, start: u32, end: u32) -> ScopeValue {
+    ScopeValue {
+        method,
+        import: 0,
+        range: Range { start, end },
+        variables: List::new(alloc),
+        constants: List::new(alloc),
+    }
+}
+
+/// A record of this kind on a row.
+pub fn custom(table: u8, row: u32, kind: [u8; 16], value: CustomBody) -> CustomValue {
+    CustomValue {
+        parent: Parent { table, row },
+        kind,
+        value,
+    }
+}
+
+/// A constant of a primitive type, whose value has these bytes.
+pub fn constant(
+    alloc: Global,
+    name: &[u8],
+    code: u8,
+    value: &[u8],
+) -> Result<ConstantValue, Memory> {
+    Ok(ConstantValue {
+        name: bytes(alloc, name)?,
+        modifiers: List::new(alloc),
+        body: ConstantBody::Primitive {
+            code,
+            value: bytes(alloc, value)?,
+        },
+    })
+}
+
+/// A scope of no imports.
+pub fn imports(alloc: Global, parent: u32) -> ImportScopeValue {
+    ImportScopeValue {
+        parent,
+        imports: List::new(alloc),
+    }
+}
