@@ -4,14 +4,10 @@
 
 mod copied;
 mod cursor;
-#[cfg(test)]
-mod files;
 mod item;
 mod laws;
 mod method;
 mod name;
-#[cfg(test)]
-mod tests;
 
 pub use cursor::{BreakCursor, NoDocument, breaks_at};
 pub use item::Break;

@@ -4,8 +4,6 @@
 #![tactic(auto)]
 
 mod copied;
-#[cfg(test)]
-mod files;
 mod hoisted;
 mod imports;
 mod laws;
@@ -15,8 +13,6 @@ mod points;
 mod run;
 mod scopes;
 mod search;
-#[cfg(test)]
-mod tests;
 
 pub use hoisted::{Hoisted, HoistedCursor, hoisted_at};
 pub use imports::{ImportChain, ImportLink, imports_of};

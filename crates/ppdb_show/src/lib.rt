@@ -6,8 +6,3 @@ mod show;
 
 pub use query::{QueryError, query_text};
 pub use show::{show_json, show_text};
-
-#[cfg(test)]
-mod files;
-#[cfg(test)]
-mod tests;

@@ -10,8 +10,6 @@ mod links;
 mod pair;
 mod record;
 mod search;
-#[cfg(test)]
-mod tests;
 
 pub use find::find_link;
 pub use laws::{choice_is_best, order_is_free};

@@ -1,4 +1,4 @@
-use Rattle.ppdb_show.proofs.tests.compared.Given as goal
+use Rattle.query_tests.proofs.texts.compared.Given as goal
 
 abbrev pub ghosts-compared_in : goal.ghosts-compared_in
 ghosts-compared_in a = record { name = a.blank.name; parts = a.blank.parts }

@@ -1,8 +1,9 @@
+// The Source Link records of files, and the addresses that they have for names.
 ghost use Rattle.std.specs.Prelude.{◌≡◌, ◌<◌};
 
-use crate::{Links, find_link, read_links};
+use crate::opening::open;
 use ppdb_base::{Bytes, LinkError, List, Steps};
-use ppdb_verify::{Verified, verify};
+use source_link::{Links, find_link, read_links};
 use std::alloc::Global;
 use std::marker::Brand;
 use std::sync::ledger::{Blank, Ledger};
@@ -202,13 +203,7 @@ fn is_record_in<L: Ledger>(
     requires { (blank.name ≡ L.name) × (blank.parts ≡ L.parts) × (0 < L.parts) }
 {
     let mut steps = Steps::<L>::new(blank);
-    if bytes.len() > 0x0800_0000 {
-        return Err(Fail::from("too long"));
-    }
-    let file: Verified<'_> = match verify(alloc, bytes, &mut steps) {
-        Ok(file) => file,
-        Err(_) => return Err(Fail::from("not valid")),
-    };
+    let file = open(alloc, bytes, &mut steps)?;
     Ok(find_link(&file, &mut steps) == record)
 }
 

@@ -1,9 +1,11 @@
+// Where a debugger may stop for a line of a document.
 ghost use Rattle.std.specs.Prelude.{◌≡◌, ◌<◌};
 
 use crate::files::{COLUMN, NAMES, SPANNING};
-use crate::{Break, NoDocument, breaks_at, document_named};
+use crate::opening::open;
+use break_lines::{Break, NoDocument, breaks_at, document_named};
 use ppdb_base::Steps;
-use ppdb_verify::{Verified, verify};
+use ppdb_verify::Verified;
 use std::alloc::Global;
 use std::marker::Brand;
 use std::sync::ledger::{Blank, Ledger};
@@ -43,13 +45,7 @@ fn find_in<L: Ledger>(
     requires { (blank.name ≡ L.name) × (blank.parts ≡ L.parts) × (0 < L.parts) }
 {
     let mut steps = Steps::<L>::new(blank);
-    if bytes.len() > 0x0800_0000 {
-        return Err(Fail::from("too long"));
-    }
-    let file = match verify(alloc, bytes, &mut steps) {
-        Ok(file) => file,
-        Err(_) => return Err(Fail::from("not valid")),
-    };
+    let file = open(alloc, bytes, &mut steps)?;
     let document = document_named(&file, name, &mut steps);
     let breaks = match document {
         Some(document) => breaks_of(&file, document, line, &mut steps),
@@ -138,13 +134,7 @@ fn is_refused_in<L: Ledger>(
     requires { (blank.name ≡ L.name) × (blank.parts ≡ L.parts) × (0 < L.parts) }
 {
     let mut steps = Steps::<L>::new(blank);
-    if bytes.len() > 0x0800_0000 {
-        return Err(Fail::from("too long"));
-    }
-    let file = match verify(alloc, bytes, &mut steps) {
-        Ok(file) => file,
-        Err(_) => return Err(Fail::from("not valid")),
-    };
+    let file = open(alloc, bytes, &mut steps)?;
     match breaks_at(&file, document, 1) {
         Ok(_) => Ok(false),
         Err(NoDocument) => Ok(true),

@@ -1,12 +1,13 @@
+// The texts that answer a query of an offset of a method.
 ghost use Rattle.std.specs.Prelude.{◌≡◌, ◌<◌};
 
-use crate::files::{PROGRAM, SMALL};
-use crate::{QueryError, query_text};
+use crate::opening::open;
 use ppdb_base::{SteadySink, Steps};
-use ppdb_verify::verify;
+use ppdb_show::{QueryError, query_text};
 use std::alloc::Global;
 use std::marker::Brand;
 use std::sync::ledger::{Blank, Ledger};
+use worked_files::{PROGRAM, SMALL};
 
 /// What a query of a file comes to.
 #[derive(Clone, Copy, Debug, PartialEq, Eq)]
@@ -32,11 +33,8 @@ fn compared_in<L: Ledger>(
 ) -> Answer
     requires { (blank.name ≡ L.name) × (blank.parts ≡ L.parts) × (0 < L.parts) }
 {
-    if bytes.len() > 134_217_728 {
-        return Answer::Stopped;
-    }
     let mut steps = Steps::<L>::new(blank);
-    let Ok(file) = verify(alloc, bytes, &mut steps) else {
+    let Ok(file) = open(alloc, bytes, &mut steps) else {
         return Answer::Stopped;
     };
     let mut out = SteadySink::new(alloc);
