@@ -16,8 +16,6 @@ mod sizes;
 mod slot_blocks;
 mod slots;
 mod tables;
-#[cfg(test)]
-mod tests;
 
 pub use compose::compose_maps;
 pub use error::ComposeError;

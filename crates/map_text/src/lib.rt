@@ -4,8 +4,6 @@
 mod counted;
 mod laws;
 mod lines;
-#[cfg(test)]
-mod tests;
 
 pub use counted::{Counted, digits_of};
 pub use laws::{texts_are_judged, texts_are_read};

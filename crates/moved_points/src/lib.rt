@@ -5,8 +5,6 @@
 mod ahead;
 mod laws;
 mod moving;
-#[cfg(test)]
-mod tests;
 mod writer;
 
 pub use laws::kept_to_the_end;

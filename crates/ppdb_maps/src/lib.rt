@@ -19,8 +19,6 @@ mod runs;
 mod sample;
 mod says;
 mod search;
-#[cfg(test)]
-mod tests;
 mod words;
 
 pub use laws::{

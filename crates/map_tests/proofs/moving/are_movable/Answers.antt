@@ -7,7 +7,7 @@ use Rattle.blob_grammar.specs.Reader.{answer}
 use Rattle.moved_points.proofs.Readings.{same_points}
 use Rattle.moved_points.proofs.SeenPoints.{seen_next, seen_all}
 use Rattle.std.proofs.Common.{None}
-use Rattle.moved_points.proofs.tests.are_movable.Goals as goal
+use Rattle.map_tests.proofs.moving.are_movable.Goals as goal
 
 pub points-preserved : goal.points-preserved
 points-preserved c = record {

@@ -1,7 +1,7 @@
 // Lines of each kind, and a text that is read again.
-use crate::counted::Counted;
+use crate::maps::read;
+use map_text::Counted;
 use ppdb_base::{Memory, OffsetImage, Run};
-use ppdb_maps::read_map;
 use std::test::Fail;
 
 /// Puts lines of each kind, with numbers at their bounds.
@@ -57,18 +57,11 @@ fn lines_are_spelled(rt: HostRuntime) -> Result<(), Fail> {
     assert!(rt; text.len() == LINES.len() as u64);
     let bytes = text.into_text();
     assert!(rt; bytes.as_slice() == LINES.as_bytes());
-    if bytes.len() > 134_217_728 {
-        return Err(Fail::from("too long"));
-    }
-    match read_map(rt.alloc(), bytes.as_slice()) {
-        Err(_) => Err(Fail::from("refused")),
-        Ok(map) => {
-            assert!(rt; map.row(0x06, 16777215) == Some(1));
-            assert!(rt; map.slot(1, 0) == Some(65535));
-            assert!(rt; map.method(1).image(2147483646) == Some(11));
-            Ok(())
-        }
-    }
+    let map = read(rt.alloc(), bytes.as_slice())?;
+    assert!(rt; map.row(0x06, 16777215) == Some(1));
+    assert!(rt; map.slot(1, 0) == Some(65535));
+    assert!(rt; map.method(1).image(2147483646) == Some(11));
+    Ok(())
 }
 
 #[test]

@@ -1,5 +1,7 @@
-use crate::{MapError, MapText, read_map};
+// What maps say that are read of their texts, and at which line a text is refused.
+use crate::maps::read;
 use ppdb_base::OffsetImage;
+use ppdb_maps::{MapError, MapText, read_map};
 use std::alloc::Global;
 use std::process::Abort;
 use std::test::Fail;
@@ -137,17 +139,10 @@ fn expect_offsets(
     }
 }
 
-fn text_of(rt: &HostRuntime, text: &[u8]) -> Result<MapText, Fail> {
-    if text.len() > 134_217_728 {
-        return Err(Fail::from("too long"));
-    }
-    Ok(read_map(rt.alloc(), text)?)
-}
-
 #[test]
 fn moves_offsets(rt: HostRuntime) -> Result<(), Fail> {
-    let map = text_of(
-        &rt,
+    let map = read(
+        rt.alloc(),
         b"ppdbmap 2\nmethod 1 9 12\nrun 0 0 1\nrun 5 6 4\nmethod 3 9 12\ndrop 2\n",
     )?;
     let none = [None; 14];
@@ -187,7 +182,7 @@ const UNORDERED: &[u8] =
 
 #[test]
 fn answers_what_lines_say(rt: HostRuntime) -> Result<(), Fail> {
-    let map = text_of(&rt, UNORDERED)?;
+    let map = read(rt.alloc(), UNORDERED)?;
     assert_eq!(rt;
         (map.rows(0x06), map.rows(0x02), map.rows(0x01)),
         (Some(2), Some(0), None)
@@ -212,7 +207,7 @@ fn answers_what_lines_say(rt: HostRuntime) -> Result<(), Fail> {
 
 #[test]
 fn lists_its_lines_in_order(rt: HostRuntime) -> Result<(), Fail> {
-    let map = text_of(&rt, UNORDERED)?;
+    let map = read(rt.alloc(), UNORDERED)?;
     assert_eq!(rt;
         (map.method_line(0), map.method_line(1), map.method_line(2)),
         (Some(1), Some(7), None)
@@ -256,7 +251,7 @@ fn reads_a_long_text(rt: HostRuntime) -> Result<(), Fail> {
         text.extend_from_slice(line.as_bytes())?;
     }
     assert!(rt; text.len() >= 67_108_864);
-    let map = text_of(&rt, &text)?;
+    let map = read(rt.alloc(), &text)?;
     assert_eq!(rt;
         map.method(1).run_line(2_485_513),
         Some((1_002_485_513, 1_002_485_513, 1))

@@ -1,11 +1,11 @@
-//! Points moved by map texts: worked rows, by hand from the format.
+// Points moved by map texts: worked rows, by hand from the format.
 ghost use Rattle.std.specs.Prelude.{◌≡◌, ◌<◌, ◌≤◌, ◌^◌, length, All, IsTrue};
 ghost use Rattle.ppdb_base.specs.Offsets.{old_size};
 ghost use Rattle.sequence_points.specs.Ranges.{IsDocument};
 ghost use Rattle.ppdb_maps.specs.Says.{offsets_of};
 ghost use Rattle.moved_points.specs.Conditions.{IsMovable, IsWhole, EachPoint};
 
-use crate::moved_points_into;
+use moved_points::moved_points_into;
 use ppdb_base::{Bytes, Memory, OffsetImage};
 use ppdb_maps::{MapError, MethodMap, read_map};
 use sequence_points::{Point, PointCursor, PointError, PointLimits};

@@ -1,7 +1,7 @@
 use Rattle.std.proofs.Common.{◌≡◌, length}
 use Rattle.ppdb_maps.specs.Says.{offsets_of}
 use Rattle.moved_points.specs.Conditions.{IsMovable, Seen}
-use Rattle.moved_points.proofs.tests.are_movable.Given as goal
+use Rattle.map_tests.proofs.moving.are_movable.Given as goal
 
 abbrev pub invariant-points : goal.invariant-points
 invariant-points l = record {

@@ -1,5 +1,5 @@
 use Rattle.std.proofs.Common.{refl}
-use Rattle.moved_points.proofs.tests.moved_by.Goals as goal
+use Rattle.map_tests.proofs.moving.moved_by.Goals as goal
 
 pub moved_points_into-answer-requires-clause-below : goal.moved_points_into-answer-requires-clause-below
 moved_points_into-answer-requires-clause-below c = λ signature points reads i d less.

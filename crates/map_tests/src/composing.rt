@@ -1,0 +1,88 @@
+// Worked pairs of maps.
+use crate::maps::map_of;
+use map_compose::{ComposeError, compose_maps};
+use std::test::Fail;
+
+/// Compares the text of two maps made into one.
+fn compare(rt: &HostRuntime, first: &str, second: &str, want: &str) -> Result<(), Fail> {
+    let (first, second) = (map_of(rt.alloc(), first)?, map_of(rt.alloc(), second)?);
+    let want = want.replace(rt.alloc(), "/", "\n")?;
+    match compose_maps(rt.alloc(), &first, &second) {
+        Ok(text) if text.as_slice() == want.as_bytes() => Ok(()),
+        Ok(_) => Err(Fail::from("another text")),
+        Err(_) => Err(Fail::from("refused")),
+    }
+}
+
+const WORKED: [(&str, &str, &str); 8] = [
+    (
+        "ppdbmap 1/method 1 9 12/run 0 0 1/run 5 6 4",
+        "ppdbmap 1/method 1 12 12/run 0 0 8",
+        "ppdbmap 3/method 1 9 12/run 0 0 1/run 5 6 2/",
+    ),
+    (
+        "ppdbmap 2/drop 1",
+        "ppdbmap 1/rows 06 2/row 06 1 2",
+        "ppdbmap 3/rows 06 2/drop 1/",
+    ),
+    (
+        "ppdbmap 1/rows 06 2/row 06 1 1/row 06 2 1",
+        "ppdbmap 3/slots 1/slot 1 3 4/method 1 8 8/run 0 0 4/run 4 4 4",
+        "ppdbmap 3/rows 06 2/row 06 1 1/row 06 2 1/slots 1/slot 1 3 4/slots 2/slot 2 3 4/method 1 8 8/run 0 0 8/method 2 8 8/run 0 0 8/",
+    ),
+    (
+        "ppdbmap 1/method 1 10 12/run 0 2 4/run 4 8 4",
+        "ppdbmap 1/method 1 12 9/run 2 0 4/run 8 4 4",
+        "ppdbmap 3/method 1 10 9/run 0 0 8/",
+    ),
+    (
+        "ppdbmap 1/method 1 10 12/run 0 0 10",
+        "ppdbmap 1/method 1 12 20/run 2 3 2/run 4 5 3/run 9 15 3",
+        "ppdbmap 3/method 1 10 20/run 2 3 5/run 9 15 1/",
+    ),
+    (
+        "ppdbmap 1/rows 06 2/row 06 1 2/row 06 2 1/method 1 5 6/run 0 1 5",
+        "ppdbmap 1/method 1 7 7/run 0 0 7/method 2 6 6/run 1 1 5",
+        "ppdbmap 3/rows 06 2/row 06 1 2/row 06 2 1/method 1 5 6/run 0 1 5/method 2 7 7/run 0 0 7/",
+    ),
+    (
+        "ppdbmap 2/drop 2/drop 7",
+        "ppdbmap 2/drop 2/drop 3",
+        "ppdbmap 3/drop 2/drop 3/drop 7/",
+    ),
+    (
+        "ppdbmap 2/drop 2",
+        "ppdbmap 1/rows 06 4/row 06 1 4/row 06 2 3",
+        "ppdbmap 3/rows 06 4/row 06 1 4/drop 2/",
+    ),
+];
+
+#[test]
+fn worked_maps_compose(rt: HostRuntime) -> Result<(), Fail> {
+    for (first, second, want) in &WORKED {
+        compare(&rt, first, second, want)?;
+    }
+    Ok(())
+}
+
+#[test]
+fn sizes_differ(rt: HostRuntime) -> Result<(), Fail> {
+    let first = map_of(
+        rt.alloc(),
+        "ppdbmap 1/rows 06 2/row 06 1 2/row 06 2 1/method 1 5 6/method 2 5 7",
+    )?;
+    let second = map_of(rt.alloc(), "ppdbmap 1/method 1 8 8/method 2 9 9")?;
+    match compose_maps(rt.alloc(), &first, &second) {
+        Err(
+            ComposeError::SizesDiffer {
+                method,
+                first,
+                second,
+            },
+        ) => {
+            assert!(rt; method == 1 && first == 6 && second == 9);
+            Ok(())
+        }
+        _ => Err(Fail::from("composed")),
+    }
+}
