@@ -9,6 +9,7 @@ mod compose;
 mod copies;
 #[cfg(test)]
 mod large;
+mod lines;
 #[cfg(test)]
 mod links;
 #[cfg(test)]
@@ -27,3 +28,7 @@ mod show;
 mod two_steps;
 #[cfg(test)]
 mod words;
+#[cfg(test)]
+mod words_of_commands;
+
+pub use lines::worked_lines;

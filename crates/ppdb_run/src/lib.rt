@@ -30,8 +30,3 @@ pub use commands::run;
 pub use options::Options;
 pub use status::Status;
 pub use words::{Command, Usage, read_words};
-
-#[cfg(test)]
-mod tests;
-#[cfg(test)]
-mod word_tests;

@@ -1,4 +1,5 @@
-use crate::read_words;
+// Which words a command has.
+use ppdb_run::read_words;
 use std::alloc::{AllocError, Global};
 
 const GUID: &str = "00112233-4455-6677-8899-aabbccddeeff";
