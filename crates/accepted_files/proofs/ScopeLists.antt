@@ -7,8 +7,7 @@ use Rattle.std.proofs.lemmas.Bool.{cases_eq, cases_lt}
 use Rattle.std.proofs.lemmas.Bool.Decides.{nat_tests}
 use Rattle.ppdb_tables.specs.declared.rows.ScopeRow.{ScopeRow}
 use Rattle.ppdb_tables.specs.RawTables.{row_at}
-use Rattle.ppdb_rules.specs.Scopes.{IsListOut, Owns, ShareOwner}
-use Rattle.ppdb_values.specs.Owners.{IsOwner}
+use Rattle.ppdb_rules.specs.Scopes.{IsListOut, ShareOwner}
 use Rattle.ppdb_values.specs.Rules.{DifferInScope, KeepsLists}
 use Rattle.ppdb_values.specs.Value.{owner_of}
 use Rattle.ppdb_values.proofs.Owners.{owner_is_last}
@@ -41,9 +40,6 @@ module _ (list : ScopeRow → ℕ) (scopes : List ScopeRow) (items : ℕ)
 
 -- ---- items of one scope
 
-owned : (list : ScopeRow → ℕ) (scopes : List ScopeRow) (owner item : ℕ) → IsOwner list scopes owner item → Owns list scopes owner item
-owned list scopes owner item is = record { scope = is.scope; there = is.there; begun = is.begun; last = is.last }
-
 some_last : (x : ℕ × ScopeRow) (xs : List (ℕ × ScopeRow)) → option_map (λ scope. scope.0) (last_or (Some x) xs) ≡ None → ⊥
 some_last x [] none = cc
 some_last x (y ∷ ys) none = some_last y ys none
@@ -67,8 +63,8 @@ shared : (list : ScopeRow → ℕ) (scopes : List ScopeRow) (a b : ℕ) (o : Opt
 shared list scopes a b None ha hb some = absurd (some refl)
 shared list scopes a b (Some owner) ha hb some = record {
   owner = owner;
-  first = owned list scopes owner a (owner_is_last list scopes owner a ha);
-  second = owned list scopes owner b (owner_is_last list scopes owner b hb);
+  first = owner_is_last list scopes owner a ha;
+  second = owner_is_last list scopes owner b hb;
 }
 
 pub differ : {X K : Type 0} (key : X → K) (list : ScopeRow → ℕ) (scopes : List ScopeRow) (items : List X) → KeepsLists list scopes (length items)

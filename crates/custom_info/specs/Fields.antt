@@ -1,4 +1,4 @@
--- Fields of custom debug information that hold a row or an IL offset.
+-- Fields of custom debug information: IL offsets, and numbers that must pass a test.
 use Rattle.std.specs.Prelude.{ℕ, Bool, nat_lt, if◌then◌else◌, Result, Ok, Err}
 use Rattle.ppdb_base.specs.declared.Code.TheVariants.{ValueRange}
 use Rattle.ppdb_base.specs.declared.BlobFault.{BlobFault}

@@ -31,7 +31,8 @@ use Rattle.noted_items.specs.Noted.{cell}
 use Rattle.file_drafting.specs.Draft.{Draft}
 use Rattle.file_drafting.specs.Drafted.{held_document, held_method, held_scope, held_variable, held_constant, held_import, held_custom, held_rows, IsDraftOf}
 use Rattle.file_drafting.specs.Heaps.{heap_lens_of}
-use Rattle.file_layout.specs.Told.{told, told_lens}
+use Rattle.ppdb_base.specs.Told.{told}
+use Rattle.file_layout.specs.Told.{told_lens}
 use Rattle.draft_layout.specs.Drafts.{tables_from, file_from, CanBeLaid}
 
 -- ---- the same heaps and counts, and rows as they are held

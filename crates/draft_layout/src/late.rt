@@ -1,6 +1,6 @@
 // The limits that a whole draft tells: L5 and L6.
 ghost use Rattle.std.specs.Prelude.{◌≡◌, ℕ, ◌∷◌, [], length, All, List as Seq};
-ghost use Rattle.heap_items.specs.Told.{told};
+ghost use Rattle.ppdb_base.specs.Told.{told};
 ghost use Rattle.file_layout.specs.Bytes.{file_bytes};
 ghost use Rattle.ppdb_values.specs.Types.{IsGuid};
 ghost use Rattle.ppdb_base.specs.declared.limits.Limit.TheVariants as limits;

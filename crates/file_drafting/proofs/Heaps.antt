@@ -4,7 +4,7 @@ use Rattle.std.proofs.Common.{append_assoc, arith, Option, Some, None}
 use Rattle.std.proofs.lemmas.List.{append-nil}
 use Rattle.std.proofs.lemmas.List.Sums.{fold-append, sum_by-append, sum_by-cons}
 use Rattle.std.specs.List.{position_or_len}
-use Rattle.heap_items.specs.Told.{told}
+use Rattle.ppdb_base.specs.Told.{told}
 use Rattle.heap_items.specs.Items.{IsIn, first_uses, with_use, index_of, as_text, as_blob}
 use Rattle.heap_items.specs.Uses.{Piece, plain, held_in, with_held, blob_bytes, blobs_after}
 use Rattle.heap_items.proofs.Items.{index-stable, with_use-adds, used-there}

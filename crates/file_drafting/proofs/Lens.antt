@@ -1,7 +1,7 @@
 -- How long a heap is, with its padding.
 use Rattle.std.proofs.Common.{◌≡◌, ℕ, ◌+◌, List, length, flat_map, sum_by, sym, ap, ◌∙◌}
 use Rattle.std.proofs.lemmas.List.Concat.{length-flat_map}
-use Rattle.heap_items.specs.Told.{told}
+use Rattle.ppdb_base.specs.Told.{told}
 use Rattle.file_layout.specs.Bytes.{padding, padded}
 use Rattle.file_layout.proofs.Lengths.{length-padded}
 

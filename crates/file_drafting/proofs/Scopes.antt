@@ -8,7 +8,7 @@ use Rattle.ppdb_tables.specs.declared.rows.ConstantRow.{ConstantRow}
 use Rattle.ppdb_values.specs.declared.scope.ScopeValue.{ScopeValue}
 use Rattle.ppdb_values.specs.declared.scope.VariableValue.{VariableValue}
 use Rattle.ppdb_values.specs.declared.scope.ConstantValue.{ConstantValue}
-use Rattle.heap_items.specs.Told.{told}
+use Rattle.ppdb_base.specs.Told.{told}
 use Rattle.ppdb_canon.specs.Uses.{constant_blob}
 use Rattle.noted_items.specs.Noted.{Noted, with_text, with_blob, text_place, blob_place, cell}
 use Rattle.file_drafting.specs.Draft.{Draft, with_variable, with_scope_row, with_scope, with_signature, with_constant, with_constants}

@@ -25,7 +25,7 @@ use Rattle.ppdb_values.specs.declared.custom.CustomValue.{CustomValue}
 use Rattle.ppdb_values.specs.Ordered.{Rises}
 use Rattle.ppdb_values.specs.Parts.{method_at, first_item}
 use Rattle.sound_values.specs.Sound.{IsSound}
-use Rattle.heap_items.specs.Told.{told}
+use Rattle.ppdb_base.specs.Told.{told}
 use Rattle.heap_items.specs.Items.{first_uses, with_use}
 use Rattle.heap_items.specs.Uses.{Piece, blob_bytes}
 use Rattle.file_layout.specs.declared.rows.Rows.{Rows}

@@ -13,7 +13,7 @@ use Rattle.ppdb_values.specs.declared.scope.ConstantValue.{ConstantValue}
 use Rattle.ppdb_values.specs.declared.import.ImportScopeValue.{ImportScopeValue}
 use Rattle.ppdb_values.specs.declared.custom.CustomValue.{CustomValue}
 use Rattle.sound_values.specs.Customs.{coded_of}
-use Rattle.heap_items.specs.Told.{told}
+use Rattle.ppdb_base.specs.Told.{told}
 use Rattle.heap_items.specs.Uses.{plain}
 use Rattle.file_layout.specs.declared.rows.Rows.{Rows}
 use Rattle.ppdb_canon.specs.Uses.{name_pieces, method_blob, signature_of, import_blob, custom_blob}

@@ -10,7 +10,7 @@ use Rattle.ppdb_tables.specs.declared.rows.CustomRow.{CustomRow}
 use Rattle.ppdb_tables.specs.RawTables.{RawTables}
 use Rattle.ppdb_values.specs.declared.file.FileValue.{FileValue}
 use Rattle.sound_values.specs.Sound.{IsSound}
-use Rattle.heap_items.specs.Told.{told}
+use Rattle.ppdb_base.specs.Told.{told}
 use Rattle.file_layout.specs.declared.rows.Rows.{Rows}
 use Rattle.ppdb_canon.specs.Uses.{texts, guids, blobs}
 use Rattle.ppdb_canon.specs.Canonical.{canonical_tables}

@@ -1,6 +1,6 @@
 // The heaps of a draft, as the file has them.
 ghost use Rattle.std.specs.Prelude.{◌≡◌, ℕ, ◌+◌, ◌++◌, replicate, OnOk};
-ghost use Rattle.heap_items.specs.Told.{told};
+ghost use Rattle.ppdb_base.specs.Told.{told};
 ghost use Rattle.file_layout.specs.Bytes.{padding};
 
 use crate::drafting::Drafting;
@@ -28,7 +28,7 @@ fn put_padding(len: usize, into: &mut Bytes) -> Result<(), Memory>
 
 impl Drafting {
     ghost use Rattle.std.specs.Prelude.{◌≡◌, ◌+◌, ◌++◌, flat_map, OnOk};
-    ghost use Rattle.heap_items.specs.Told.{told};
+    ghost use Rattle.ppdb_base.specs.Told.{told};
     ghost use Rattle.heap_items.specs.Items.{as_text, as_blob};
     ghost use Rattle.file_layout.specs.Bytes.{padded};
     ghost use Rattle.file_layout.specs.Told.{told_lens};

@@ -13,7 +13,7 @@ use Rattle.ppdb_tables.specs.Layouts.{widths_of, document_columns, method_column
 use Rattle.ppdb_tables.specs.Layouts.{machine_columns, custom_columns}
 use Rattle.file_layout.specs.declared.rows.Rows.{Rows}
 use Rattle.file_layout.specs.declared.rows.HeapLens.{HeapLens}
-use Rattle.file_layout.specs.Told.{told}
+use Rattle.ppdb_base.specs.Told.{told}
 use Rattle.file_layout.specs.Bytes.{padding, padded, with_rows, bits_of, counts_of, token_of, pdb_stream, heap_bits, sizes_of, rows_bytes, all_rows}
 use Rattle.file_layout.specs.Bytes.{tables_stream, front_bytes, root_front, headers, stream_headers, document_cells, method_cells, scope_cells}
 use Rattle.file_layout.specs.Bytes.{variable_cells, constant_cells, import_cells, machine_cells, custom_cells}

@@ -1,19 +1,16 @@
 -- Which files can be laid out, and what is promised of one that is: read again, it is the same file.
-use Rattle.std.specs.Prelude.{◌≡◌, ℕ, ◌+◌, ◌%◌, ◌^◌, ◌<◌, ◌≤◌, ◌⊎◌, List, map, take, length, All, Some, None}
-use Rattle.std.specs.List.{range_with_len}
+use Rattle.std.specs.Prelude.{◌≡◌, ℕ, ◌+◌, ◌<◌, ◌≤◌, ◌⊎◌, List, length, All, Some, None}
 use Rattle.ppdb_base.specs.First.{IsAccepted}
-use Rattle.metadata_root.specs.declared.kind.StreamKind.TheVariants.{Pdb}
-use Rattle.metadata_root.specs.Streams.{Streams, AreStreamsOf, BadContainer, bytes_of}
+use Rattle.metadata_root.specs.Streams.{Streams, AreStreamsOf, BadContainer}
 use Rattle.row_layout.specs.declared.column.Column.{Column}
 use Rattle.row_layout.specs.declared.column.Sizes.{Sizes}
 use Rattle.row_layout.specs.Rows.{Fit}
-use Rattle.ppdb_tables.specs.declared.head.PdbHead.{PdbHead}
-use Rattle.ppdb_tables.specs.Head.{BadPdb, entry_in, pdb_rows}
+use Rattle.ppdb_tables.specs.Head.{BadPdb, head_in}
 use Rattle.ppdb_tables.specs.Layouts.{widths_of, document_columns, method_columns, scope_columns, variable_columns, constant_columns, import_columns}
 use Rattle.ppdb_tables.specs.Layouts.{machine_columns, custom_columns}
 use Rattle.ppdb_tables.specs.RawTables.{count, HasShape}
-use Rattle.ppdb_tables.specs.Tables.{BadTables, tables_in}
-use Rattle.ppdb_values.specs.RawFile.{RawFile}
+use Rattle.ppdb_tables.specs.Tables.{BadTables}
+use Rattle.ppdb_values.specs.RawFile.{RawFile, raw_in}
 use Rattle.file_layout.specs.declared.rows.Rows.{Rows}
 use Rattle.file_layout.specs.Bytes.{file_bytes, pdb_stream, tables_stream, sizes_of, rows_of, heaps_of, document_cells, method_cells, scope_cells}
 use Rattle.file_layout.specs.Bytes.{variable_cells, constant_cells, import_cells, machine_cells, custom_cells}
@@ -63,24 +60,14 @@ laid_streams raw =
       blobs = Some (record { place = 112 + length pdb + length tables + heaps.texts + heaps.guids; bytes = raw.tables.blobs });
     }
 
--- what the bytes of #Pdb say
-abbrev pub head_read : List ℕ → PdbHead
-head_read stream = record { id = take 20 stream; entry = entry_in stream % 2 ^ 24; rows = map (pdb_rows stream) (range_with_len 0 64) }
-
--- the file that the streams hold
-abbrev pub raw_read : Streams → RawFile
-raw_read streams =
-    let head = head_read (bytes_of streams Pdb) in
-    record { id = head.id; entry = head.entry; tables = tables_in streams head }
-
 -- The bytes of the file keep the rules of the root, of the streams, of #Pdb and of #~, and say the file.
 pub record IsReadBack (raw : RawFile) : Type 0 where
   pub container : IsAccepted (BadContainer (file_bytes raw))
   pub streams : AreStreamsOf (file_bytes raw) (laid_streams raw)
   pub head : IsAccepted (BadPdb (pdb_stream raw.id raw.entry raw.tables.counts))
-  pub tables : IsAccepted (BadTables (head_read (pdb_stream raw.id raw.entry raw.tables.counts)) (tables_stream raw.tables.counts (rows_of raw.tables)
+  pub tables : IsAccepted (BadTables (head_in (pdb_stream raw.id raw.entry raw.tables.counts)) (tables_stream raw.tables.counts (rows_of raw.tables)
       (heaps_of raw.tables)))
-  pub raw_is : raw_read (laid_streams raw) ≡ raw
+  pub raw_is : raw_in (laid_streams raw) ≡ raw
 
 -- the law
 abbrev pub LaidOutFilesAreRead : Type 0

@@ -2,4 +2,3 @@ pub mod Told
 pub mod Bytes
 pub mod Laid
 pub mod Worked
-pub mod Begins

@@ -1,10 +1,7 @@
--- Numbers that are told.
-use Rattle.std.specs.Prelude.{ℕ, min}
+-- Lengths of heaps that are told.
+use Rattle.ppdb_base.specs.Told.{told}
 use Rattle.file_layout.specs.declared.rows.HeapLens.{HeapLens}
 
--- a number as it is told: one of 2 ^ 64 or more is told as the greatest below
-abbrev pub told : ℕ → ℕ
-told number = min number 0xffffffffffffffff
-
+-- each length as it is told
 abbrev pub told_lens : HeapLens → HeapLens
 told_lens heaps = record { texts = told heaps.texts; guids = told heaps.guids; blobs = told heaps.blobs }

@@ -2,7 +2,7 @@
 ghost use Rattle.std.specs.Prelude.{◌≡◌, ◌≤◌, ◌↔◌, ◌++◌, IsTrue, flat_map, All, OnOk, OnErr};
 ghost use Rattle.std.specs.Prelude.{List as Seq, ℕ};
 ghost use Rattle.row_layout.specs.Rows.{Fit, row_bytes};
-ghost use Rattle.file_layout.specs.Begins.{Begins};
+ghost use Rattle.ppdb_base.specs.Written.{BeginsWith};
 ghost use Rattle.file_layout.specs.Bytes.{document_cells, method_cells, scope_cells, variable_cells, constant_cells, import_cells, machine_cells, custom_cells};
 
 use ppdb_base::{Bytes, Memory};
@@ -113,7 +113,7 @@ pub fn put_rows<R: Cells<N>, const N: usize>(
     requires few { N ≤ 64 }
     requires fit { All (λ row. Fit layout.now (R.cells_of row)) rows.now }
     ensures ok { OnOk result (into.new ≡ into.old ++ flat_map (λ row. row_bytes layout.now (R.cells_of row)) rows.now) }
-    ensures err { OnErr result (Begins into.old into.new) }
+    ensures err { OnErr result (BeginsWith into.old into.new) }
 {
     for row in rows {
         layout.put_cells(&row.cells(), into)?;

@@ -1,7 +1,7 @@
 // The tables that have rows: their bits, and their row counts.
 ghost use Rattle.std.specs.Prelude.{◌≡◌, ◌+◌, ◌++◌, ◌<◌, ◌≤◌, length, OnOk, OnErr};
 ghost use Rattle.std.specs.List.{range_with_len};
-ghost use Rattle.file_layout.specs.Begins.{Begins};
+ghost use Rattle.ppdb_base.specs.Written.{BeginsWith};
 ghost use Rattle.file_layout.specs.Bytes.{with_rows, bits_of, counts_of};
 
 use crate::numbers::put_u32;
@@ -45,7 +45,7 @@ pub fn put_counts(
 ) -> Result<(), Memory>
     requires { first + tables ≤ 64 }
     ensures ok { OnOk result (into.new ≡ into.old ++ counts_of counts.now (with_rows counts.now (range_with_len first tables))) }
-    ensures err { OnErr result (Begins into.old into.new) }
+    ensures err { OnErr result (BeginsWith into.old into.new) }
 {
     for i in 0..tables {
         let rows = counts[first + i];

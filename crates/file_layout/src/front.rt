@@ -1,10 +1,11 @@
 // All bytes of a file before its heaps, and how many bytes it has.
 ghost use Rattle.std.specs.Prelude.{◌≡◌, ◌≤◌, ◌+◌, ◌++◌, ℕ, length, OnOk, OnErr};
 ghost use Rattle.std.specs.Prelude.{List as Seq};
-ghost use Rattle.file_layout.specs.Begins.{Begins};
+ghost use Rattle.ppdb_base.specs.Written.{BeginsWith};
 ghost use Rattle.file_layout.specs.Bytes.{front_bytes, file_bytes, sizes_of, rows_of, heaps_of};
 ghost use Rattle.file_layout.specs.Laid.{AllRowsFit};
-ghost use Rattle.file_layout.specs.Told.{told, told_lens};
+ghost use Rattle.ppdb_base.specs.Told.{told};
+ghost use Rattle.file_layout.specs.Told.{told_lens};
 ghost use Rattle.ppdb_values.specs.RawFile.{RawFile};
 
 use crate::pdb::{pdb_len, put_pdb};
@@ -47,7 +48,7 @@ pub fn put_front(
     requires fit { AllRowsFit (sizes_of counts.now heaps) rows.now }
     requires size { length (front_bytes id.now entry counts.now rows.now heaps) + heaps.texts + heaps.guids + heaps.blobs ≤ 134217728 }
     ensures ok { OnOk result (into.new ≡ into.old ++ front_bytes id.now entry counts.now rows.now heaps) }
-    ensures err { OnErr result (Begins into.old into.new) }
+    ensures err { OnErr result (BeginsWith into.old into.new) }
 {
     let pdb = pdb_len(counts);
     let tables = tables_len(counts, rows, heaps);

@@ -1,7 +1,7 @@
 // Numbers and zeros that are put behind bytes.
 ghost use Rattle.std.specs.Prelude.{◌≡◌, ◌++◌, ◌<◌, replicate, OnOk, OnErr};
 ghost use Rattle.byteorder.specs.Endian.{little_bytes};
-ghost use Rattle.file_layout.specs.Begins.{Begins};
+ghost use Rattle.ppdb_base.specs.Written.{BeginsWith};
 ghost use Rattle.file_layout.specs.Bytes as bytes;
 
 use byteorder::{ByteOrder, LittleEndian};
@@ -10,7 +10,7 @@ use ppdb_base::{Bytes, Memory};
 /// Appends a number in four bytes, the lowest first.
 pub fn put_u32(number: u32, into: &mut Bytes) -> Result<(), Memory>
     ensures ok { OnOk result (into.new ≡ into.old ++ little_bytes 4 number) }
-    ensures err { OnErr result (Begins into.old into.new) }
+    ensures err { OnErr result (BeginsWith into.old into.new) }
 {
     let mut spelled = [0; 4];
     LittleEndian::write_u32(&mut spelled, number);
@@ -20,7 +20,7 @@ pub fn put_u32(number: u32, into: &mut Bytes) -> Result<(), Memory>
 /// Appends a number in eight bytes, the lowest first.
 pub fn put_u64(number: u64, into: &mut Bytes) -> Result<(), Memory>
     ensures ok { OnOk result (into.new ≡ into.old ++ little_bytes 8 number) }
-    ensures err { OnErr result (Begins into.old into.new) }
+    ensures err { OnErr result (BeginsWith into.old into.new) }
 {
     let mut spelled = [0; 8];
     LittleEndian::write_u64(&mut spelled, number);
@@ -38,7 +38,7 @@ pub fn padding(len: u64) -> u64
 /// Appends the zeros that stand behind a stream of so many bytes.
 pub fn put_padding(len: usize, into: &mut Bytes) -> Result<(), Memory>
     ensures ok { OnOk result (into.new ≡ into.old ++ replicate (bytes.padding len) 0) }
-    ensures err { OnErr result (Begins into.old into.new) }
+    ensures err { OnErr result (BeginsWith into.old into.new) }
 {
     match padding(len as u64) {
         0 => Ok(()),

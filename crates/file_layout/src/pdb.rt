@@ -1,6 +1,6 @@
 // The stream `#Pdb` (Portable PDB v1.0, "#Pdb stream").
 ghost use Rattle.std.specs.Prelude.{◌≡◌, ◌≤◌, ◌++◌, length, OnOk, OnErr};
-ghost use Rattle.file_layout.specs.Begins.{Begins};
+ghost use Rattle.ppdb_base.specs.Written.{BeginsWith};
 ghost use Rattle.file_layout.specs.Bytes.{token_of, pdb_stream};
 ghost use Rattle.std.specs.Prelude.{List as Seq, ℕ};
 
@@ -37,7 +37,7 @@ pub fn put_pdb(
 ) -> Result<(), Memory>
     requires { entry ≤ 0xffffff }
     ensures ok { OnOk result (into.new ≡ into.old ++ pdb_stream id.now entry counts.now) }
-    ensures err { OnErr result (Begins into.old into.new) }
+    ensures err { OnErr result (BeginsWith into.old into.new) }
 {
     let start = into.len();
     into.append(id)?;

@@ -1,7 +1,7 @@
 // The metadata root and its stream headers (ECMA-335 II.24.2.1 and II.24.2.2).
 ghost use Rattle.std.specs.Prelude.{◌≡◌, ◌≤◌, ◌+◌, ◌++◌, OnOk, OnErr};
 ghost use Rattle.byteorder.specs.Endian.{little_bytes};
-ghost use Rattle.file_layout.specs.Begins.{Begins};
+ghost use Rattle.ppdb_base.specs.Written.{BeginsWith};
 ghost use Rattle.file_layout.specs.Bytes.{root_front, headers, stream_headers};
 
 use crate::numbers::put_u32;
@@ -16,7 +16,7 @@ fn put_header(at: u64, len: u64, name: &[u8], into: &mut Bytes) -> Result<(), Me
     requires place { at ≤ 134217728 }
     requires small { len ≤ 134217728 }
     ensures ok { OnOk result (into.new ≡ into.old ++ (little_bytes 4 at ++ little_bytes 4 len ++ name.now)) }
-    ensures err { OnErr result (Begins into.old into.new) }
+    ensures err { OnErr result (BeginsWith into.old into.new) }
 {
     put_u32(at as u32, into)?;
     put_u32(len as u32, into)?;
@@ -28,7 +28,7 @@ fn put_header(at: u64, len: u64, name: &[u8], into: &mut Bytes) -> Result<(), Me
 pub fn put_root(pdb: u64, tables: u64, heaps: HeapLens, into: &mut Bytes) -> Result<(), Memory>
     requires { pdb + tables + heaps.texts + heaps.guids + heaps.blobs ≤ 134217616 }
     ensures ok { OnOk result (into.new ≡ into.old ++ (root_front ++ headers 112 (stream_headers pdb tables heaps))) }
-    ensures err { OnErr result (Begins into.old into.new) }
+    ensures err { OnErr result (BeginsWith into.old into.new) }
 {
     let texts_at = 112 + pdb + tables;
     let guids_at = texts_at + heaps.texts;

@@ -1,9 +1,9 @@
 // The stream `#~` (ECMA-335 II.24.2.6; Portable PDB v1.0, "#~ stream").
 ghost use Rattle.std.specs.Prelude.{◌≡◌, ◌+◌, ◌*◌, ◌++◌, ◌↔◌, length, IsTrue, OnOk, OnErr};
-ghost use Rattle.file_layout.specs.Begins.{Begins};
+ghost use Rattle.ppdb_base.specs.Written.{BeginsWith};
 ghost use Rattle.file_layout.specs.Bytes.{heap_bit, sizes_of, all_rows, tables_stream};
 ghost use Rattle.file_layout.specs.Laid.{AllRowsFit};
-ghost use Rattle.file_layout.specs.Told.{told};
+ghost use Rattle.ppdb_base.specs.Told.{told};
 
 use crate::cells::{put_rows, rows_fit};
 use crate::counts::{bits, count, put_counts};
@@ -61,7 +61,7 @@ pub fn all_rows_fit(counts: &[u32; 64], rows: &Rows, heaps: HeapLens) -> bool
 fn put_all_rows(sizes: &Sizes, rows: &Rows, into: &mut Bytes) -> Result<(), Memory>
     requires { AllRowsFit sizes.now rows.now }
     ensures ok { OnOk result (into.new ≡ into.old ++ all_rows sizes.now rows.now) }
-    ensures err { OnErr result (Begins into.old into.new) }
+    ensures err { OnErr result (BeginsWith into.old into.new) }
 {
     put_rows(&layouts::documents(sizes), rows.documents.as_slice(), into)?;
     put_rows(&layouts::methods(sizes), rows.methods.as_slice(), into)?;
@@ -113,7 +113,7 @@ pub fn put_tables(
 ) -> Result<(), Memory>
     requires { AllRowsFit (sizes_of counts.now heaps) rows.now }
     ensures ok { OnOk result (into.new ≡ into.old ++ tables_stream counts.now rows.now heaps) }
-    ensures err { OnErr result (Begins into.old into.new) }
+    ensures err { OnErr result (BeginsWith into.old into.new) }
 {
     let start = into.len();
     let sizes = sizes(counts, heaps);

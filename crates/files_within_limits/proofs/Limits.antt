@@ -12,7 +12,8 @@ use Rattle.ppdb_values.specs.RawFile.{RawFile}
 use Rattle.ppdb_values.specs.Value.{owned_by, value_of, variable_of}
 use Rattle.sound_values.proofs.Counts.{constants_counted, variables_counted}
 use Rattle.sound_values.proofs.Listed.{all_at}
-use Rattle.ppdb_verify.specs.Files.{IsRawOf, head_in}
+use Rattle.ppdb_tables.specs.Head.{head_in}
+use Rattle.ppdb_verify.specs.Files.{IsRawOf}
 use Rattle.row_drafting.specs.Unlimited.{FilesPassNoEarlyLimit}
 use Rattle.valid_files.specs.Valid.{ValidFilesAreSound}
 use Rattle.valid_files.proofs.StreamBytes.{IsByte, stream_bytes}

@@ -8,7 +8,7 @@ use Rattle.std.specs.Map.{lookup}
 use Rattle.indexmap.specs.IndexMap.{insert_entry}
 use Rattle.heap_items.specs.declared.heap.HeapKind.{HeapKind}
 use Rattle.heap_items.specs.Kinds.{spelled}
-use Rattle.heap_items.specs.Told.{told}
+use Rattle.ppdb_base.specs.Told.{told}
 use Rattle.heap_items.specs.Items.{with_use, index_of}
 use Rattle.heap_items.specs.Interned.{Contents, items_of, length_of, AreIndexes}
 use Rattle.heap_items.proofs.Items.{before-yes, before-no, index-new}

@@ -1,7 +1,7 @@
 // Blobs that hold the indexes of other blobs.
 ghost use Rattle.std.specs.Prelude.{◌≡◌, [], ◌∷◌, ◌++◌, map, List, ℕ, OnOk, IfOk};
 ghost use Rattle.heap_items.specs.declared.heap.HeapKind.TheVariants.{Blobs};
-ghost use Rattle.heap_items.specs.Told.{told};
+ghost use Rattle.ppdb_base.specs.Told.{told};
 ghost use Rattle.heap_items.specs.Items.{with_use, index_of, as_blob, shortest};
 ghost use Rattle.heap_items.specs.Uses.{Piece, with_held, blobs_after, blob_bytes};
 ghost use Rattle.heap_items.specs.Drafts.{IsDraft, piece_of};

@@ -21,7 +21,7 @@ impl Model for GuidHeap {
 impl GuidHeap {
     ghost use Rattle.std.specs.Prelude.{◌≡◌, ◌+◌, ◌*◌, [], ◌++◌, length, flat_map, bytes_eq, min, OnOk, OnErr, IfOk};
     ghost use Rattle.std.specs.List.{position_or_len};
-    ghost use Rattle.heap_items.specs.Told.{told};
+    ghost use Rattle.ppdb_base.specs.Told.{told};
     ghost use Rattle.heap_items.specs.Items.{with_use};
 
     /// A heap without GUIDs.

@@ -15,7 +15,7 @@ use Rattle.ppdb_tables.specs.declared.rows.ConstantRow.{ConstantRow}
 use Rattle.ppdb_tables.specs.declared.rows.ImportRow.{ImportRow}
 use Rattle.ppdb_tables.specs.declared.rows.MachineRow.{MachineRow}
 use Rattle.ppdb_tables.specs.declared.rows.CustomRow.{CustomRow}
-use Rattle.ppdb_tables.specs.Head.{pdb_rows}
+use Rattle.ppdb_tables.specs.Head.{head_in, pdb_rows}
 use Rattle.ppdb_tables.specs.Layouts.{document_row, document_columns, method_row, method_columns, scope_row, scope_columns, variable_row, variable_columns}
 use Rattle.ppdb_tables.specs.Layouts.{constant_row, constant_columns, import_row, import_columns, machine_row, machine_columns, custom_row, custom_columns}
 use Rattle.ppdb_tables.specs.RawTables.{RawTables}
@@ -24,7 +24,7 @@ use Rattle.ppdb_values.specs.RawFile.{RawFile}
 use Rattle.file_layout.specs.declared.rows.Rows.{Rows}
 use Rattle.file_layout.specs.declared.rows.HeapLens.{HeapLens}
 use Rattle.file_layout.specs.Bytes.{file_bytes, front_bytes, pdb_stream, tables_stream, rows_of, heaps_of}
-use Rattle.file_layout.specs.Laid.{CanBeLaidOut, IsReadBack, LaidOutFilesAreRead, laid_streams, head_read}
+use Rattle.file_layout.specs.Laid.{CanBeLaidOut, IsReadBack, LaidOutFilesAreRead, laid_streams}
 use Rattle.laid_out_files.proofs.Container.{whole, pdb_is, tables_are, texts_are, guids_are, blobs_are}
 use Rattle.laid_out_files.proofs.Counts.{among}
 use Rattle.laid_out_files.proofs.Head.{head_good, id_back, entry_back, pdb_rows_back}
@@ -109,7 +109,7 @@ module _ (raw : RawFile) (can : CanBeLaidOut raw) where
   }
 
   abbrev head : PdbHead
-  head = head_read pdb
+  head = head_in pdb
 
   heads : (t : ℕ) → t < 64 → slice_index head.rows t ≡ among counts 0 0x2d t
   heads t h = get_or-map-range_with_len (pdb_rows pdb) 0 64 t t 0 h (zero-add t) ∙ pdb_rows_back raw.id raw.entry counts can.id few can.entry t h

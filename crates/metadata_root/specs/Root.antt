@@ -31,7 +31,7 @@ stream_count file = number_at file (18 + version_len file) 2
 unfoldable pub name_at : List ℕ → ℕ → List ℕ
 name_at file at = before_first (λ b. b == 0) (take 33 (drop at file))
 
--- the bytes that the name takes: itself and its zero, padded to a multiple of 4 (II.24.2.2, Name); 33 where none of the first 33 is zero
+-- how many bytes the name takes: itself and its zero, padded to a multiple of 4 (II.24.2.2, Name); 33 where none of the first 33 is zero
 abbrev pub name_len : List ℕ → ℕ → ℕ
 name_len file at =
     if nat_lt (length (name_at file at)) 33 then (length (name_at file at) + 4) / 4 * 4 else 33

@@ -8,7 +8,7 @@ use Rattle.std.proofs.lemmas.List.Elements.{All-nil, All-head, All-tail, All-pus
 use Rattle.sequence_points.specs.declared.point.Point.{Point}
 use Rattle.sequence_points.specs.declared.point.Span.{Span}
 use Rattle.sequence_points.specs.declared.point.Span.TheVariants.{Hidden, Lines}
-use Rattle.sequence_points.specs.declared.place.Start.{Start as Seen}
+use Rattle.sequence_points.specs.declared.place.Start.{Start}
 use Rattle.sequence_points.specs.declared.writer.PointError.{PointError}
 use Rattle.sequence_points.specs.declared.writer.PointError.TheVariants.{Step, Memory}
 use Rattle.sequence_points.specs.Places.{start_after}
@@ -21,7 +21,7 @@ use Rattle.sequence_points.proofs.Before.{last_of-push, last_start-push}
 use Rattle.sequence_points.proofs.Follows.{pairs-head, pairs-tail, few_points}
 use Rattle.moved_points.specs.declared.writer.Written.{Written}
 use Rattle.moved_points.specs.MovedBlob.{IsFirstStep}
-use Rattle.moved_points.specs.Writing.{start_seen, HasWritten, MayCome, IsStepOf, IsWalked}
+use Rattle.moved_points.specs.Writing.{HasWritten, MayCome, IsStepOf, IsWalked}
 use Rattle.moved_points.proofs.Joins.{steps-append, bytes-append, at_cut}
 use Rattle.moved_points.proofs.Documents.{common_one, common_several}
 
@@ -38,7 +38,7 @@ pub record Progress (in_one : Bool) (first : Point) (all left : List Point) (w :
   pub documents : All (λ p. IsDocument p.document) left
   pub spans : All (λ p. IsSpan p.span) left
   pub behind : All (IsBehind w.last) left
-  pub start : IsStart (start_seen w.start)
+  pub start : IsStart w.start
 
 nothing_before : (points : List Point) → All (IsBehind None) points
 nothing_before points = λ k d h. tt
@@ -60,7 +60,7 @@ begin in_one first all w old can has = record {
   start = subst IsStart (sym has.start) tt;
 }
 
-start_kept : (start : Option Seen) (span : Span) → IsStart start → IsSpan span → IsStart (start_after start span)
+start_kept : (start : Option Start) (span : Span) → IsStart start → IsSpan span → IsStart (start_after start span)
 start_kept start Hidden h s = h
 start_kept start (Lines a b c d) h s = (s.0, s.1)
 
@@ -84,8 +84,8 @@ no_step before p none = ap (λ o. option_to_list (option_map (numbered (length b
 -- one more point
 pub onward : (in_one : Bool) (first : Point) (all : List Point) (p : Point) (ps : List Point) (w next : Written) (old into more : List ℕ)
     → Progress in_one first all (p ∷ ps) w old into
-    → (in_one ≡ true → p.document ≡ first.document) → more ≡ into ++ bytes_after w.last (start_seen w.start) p → large_step (start_seen w.start) p.span ≡ None
-    → next.count ≡ w.count + 1 → next.last ≡ Some p → start_seen next.start ≡ start_after (start_seen w.start) p.span
+    → (in_one ≡ true → p.document ≡ first.document) → more ≡ into ++ bytes_after w.last w.start p → large_step w.start p.span ≡ None
+    → next.count ≡ w.count + 1 → next.last ≡ Some p → next.start ≡ start_after w.start p.span
     → Progress in_one first all ps next old more
 onward in_one first all p ps w next old into more now one bytes small count last start =
     let before = now.before in
@@ -99,9 +99,9 @@ onward in_one first all p ps w next old into more now one bytes small count last
         last = last ∙ sym (last_of-push before p);
         start = start ∙ ap (λ o. start_after o p.span) now.written.start ∙ sym (last_start-push before p);
       };
-      bytes = bytes ∙ ap (λ xs. xs ++ bytes_after w.last (start_seen w.start) p) now.bytes
-          ∙ append_assoc old (points_bytes [] before) (bytes_after w.last (start_seen w.start) p)
-          ∙ ap (λ o. old ++ (points_bytes [] before ++ bytes_after o (start_seen w.start) p)) now.written.last
+      bytes = bytes ∙ ap (λ xs. xs ++ bytes_after w.last w.start p) now.bytes
+          ∙ append_assoc old (points_bytes [] before) (bytes_after w.last w.start p)
+          ∙ ap (λ o. old ++ (points_bytes [] before ++ bytes_after o w.start p)) now.written.last
           ∙ ap (λ o. old ++ (points_bytes [] before ++ bytes_after (last_of before) o p)) now.written.start
           ∙ ap (λ xs. old ++ (points_bytes [] before ++ xs)) (sym (append-nil (bytes_after (last_of before) (last_start before) p)))
           ∙ ap (λ xs. old ++ xs) (sym (bytes-append [] before (p ∷ [])));
@@ -112,7 +112,7 @@ onward in_one first all p ps w next old into more now one bytes small count last
       documents = All-tail (λ (q : Point). IsDocument q.document) p ps now.documents;
       spans = All-tail (λ (q : Point). IsSpan q.span) p ps now.spans;
       behind = subst (λ (o : Option Point). All (IsBehind o) ps) (sym last) (pairs-head p ps now.rise);
-      start = subst IsStart (sym start) (start_kept (start_seen w.start) p.span now.start (All-head (λ (q : Point). IsSpan q.span) p ps now.spans));
+      start = subst IsStart (sym start) (start_kept w.start p.span now.start (All-head (λ (q : Point). IsSpan q.span) p ps now.spans));
     }
 
 pub begins : (in_one : Bool) (first : Point) (all left : List Point) (w : Written) (old into : List ℕ) → Progress in_one first all left w old into

@@ -1,8 +1,6 @@
 -- What the writer has come to: the points that it wrote, and what is asked of the next one.
 use Rattle.std.specs.Prelude.{◌≡◌, ◌≢◌, ℕ, ◌+◌, ◌<◌, ◌≤◌, ◌++◌, List, [], ◌∷◌, length, Option, Some, None, Bool, true, false}
-use Rattle.std.specs.Option.{option_map}
 use Rattle.sequence_points.specs.declared.point.Point.{Point}
-use Rattle.sequence_points.specs.declared.place.Start.{Start as Seen}
 use Rattle.sequence_points.specs.declared.writer.PointError.{PointError}
 use Rattle.sequence_points.specs.declared.writer.PointError.TheVariants.{Step, Memory}
 use Rattle.sequence_points.specs.Points.{common_document}
@@ -11,23 +9,15 @@ use Rattle.sequence_points.specs.Following.{IsStart, IsBehind}
 use Rattle.cli_ints.specs.Shortest.{short_unsigned}
 use Rattle.moved_points.specs.MovedBlob.{moved_blob}
 use Rattle.sequence_points.specs.Written.{CanBeWritten, IsSpan, last_of, last_start, large_step, large_steps, points_bytes}
-use Rattle.moved_points.specs.declared.writer.Start.{Start}
 use Rattle.moved_points.specs.declared.writer.Written.{Written}
 use Rattle.ppdb_base.specs.Offsets.{Offsets}
 use Rattle.moved_points.specs.Conditions.{HasImage}
-
--- the start of a point, as the words on what is written have it
-abbrev pub seen : Start → Seen
-seen start = record { line = start.line; column = start.column }
-
-abbrev pub start_seen : Option Start → Option Seen
-start_seen start = option_map seen start
 
 -- The writer has written these points.
 pub record HasWritten (before : List Point) (w : Written) : Type 0 where
   pub count : w.count ≡ length before
   pub last : w.last ≡ last_of before
-  pub start : start_seen w.start ≡ last_start before
+  pub start : w.start ≡ last_start before
 
 -- The point may follow: it lies behind the last one, and its numbers are in their ranges.
 pub record MayCome (w : Written) (p : Point) : Type 0 where
@@ -36,11 +26,11 @@ pub record MayCome (w : Written) (p : Point) : Type 0 where
   pub document : IsDocument p.document
   pub span : IsSpan p.span
   pub behind : IsBehind w.last p
-  pub start : IsStart (start_seen w.start)
+  pub start : IsStart w.start
 
 -- A Step is this point's, from the start before it.
 abbrev pub IsStepOf : Written → Point → PointError → Type 0
-IsStepOf w p (Step index step) = (index ≡ w.count + 1) × (large_step (start_seen w.start) p.span ≡ Some step)
+IsStepOf w p (Step index step) = (index ≡ w.count + 1) × (large_step w.start p.span ≡ Some step)
 IsStepOf w p Memory = Unit {0}
 
 -- The points that are left can be moved.

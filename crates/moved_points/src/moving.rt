@@ -12,9 +12,9 @@ ghost use Rattle.moved_points.specs.Conditions.{ReadsAs, IsWhole, EachPoint, Has
 ghost use Rattle.moved_points.specs.Writing.{CanMove, IsWalked, IsBlobIn, IsWritable, coming, header_in};
 
 use crate::ahead::Ahead;
-use crate::writer::{Written, unsigned_into};
+use crate::writer::Written;
 use ppdb_base::{Bytes, Memory, OffsetImage};
-use sequence_points::{Point, PointCursor, PointError, PointLimits};
+use sequence_points::{Point, PointCursor, PointError, PointLimits, unsigned_into};
 
 /// The point at its image and in its new document.
 fn moved_point<G: OffsetImage>(point: Point, documents: &[u32], image: &G) -> Point

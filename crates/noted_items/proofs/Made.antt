@@ -4,7 +4,7 @@ use Rattle.std.proofs.lemmas.List.{append-nil, map_push}
 use Rattle.std.proofs.lemmas.List.Sums.{fold_push, sum_by-append, sum_by-cons}
 use Rattle.std.proofs.lemmas.List.Concat.{flat_map-append}
 use Rattle.cli_ints.specs.Shortest.{short_unsigned}
-use Rattle.heap_items.specs.Told.{told}
+use Rattle.ppdb_base.specs.Told.{told}
 use Rattle.heap_items.specs.Items.{IsIn, with_use, index_of, as_blob, shortest}
 use Rattle.heap_items.specs.Uses.{Piece, octets, index, plain, held_by, held_in, piece_bytes, blob_bytes, with_held, blobs_after}
 use Rattle.heap_items.proofs.Items.{with_use-adds, used-there, stays-there}

@@ -1,6 +1,6 @@
 -- A blob that is made piece by piece: bytes, and the indexes of blobs that are noted on the way.
 use Rattle.std.specs.Prelude.{ℕ, ◌+◌, List, [], ◌++◌, length}
-use Rattle.heap_items.specs.Told.{told}
+use Rattle.ppdb_base.specs.Told.{told}
 use Rattle.heap_items.specs.Items.{with_use, index_of, as_blob, shortest}
 use Rattle.heap_items.specs.Uses.{Piece, octets, index}
 use Rattle.noted_items.specs.Noted.{Noted}

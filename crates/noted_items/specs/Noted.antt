@@ -1,7 +1,7 @@
 -- Items that were noted, and the places that they got (ECMA-335 II.24.2.3 to II.24.2.5).
 use Rattle.std.specs.Prelude.{ℕ, ◌+◌, List, [], ◌∷◌, length, min, sum_by, bytes_eq, Option, Some, None}
 use Rattle.std.specs.List.{position_or_len}
-use Rattle.heap_items.specs.Told.{told}
+use Rattle.ppdb_base.specs.Told.{told}
 use Rattle.heap_items.specs.Items.{with_use, index_of, as_text, as_blob}
 use Rattle.heap_items.specs.Uses.{Piece, with_held, blob_bytes, blobs_after}
 

@@ -30,7 +30,7 @@ impl BlobHeap {
     ghost use Rattle.std.specs.Prelude.{◌≡◌, ◌<◌, ◌^◌, [], ◌++◌, flat_map, OnOk, IfOk};
     ghost use Rattle.cli_ints.specs.Shortest.{short_unsigned};
     ghost use Rattle.heap_items.specs.declared.heap.HeapKind.TheVariants.{Blobs};
-    ghost use Rattle.heap_items.specs.Told.{told};
+    ghost use Rattle.ppdb_base.specs.Told.{told};
     ghost use Rattle.heap_items.specs.Interned.{length_of};
     ghost use Rattle.heap_items.specs.Items.{as_blob, index_of};
     ghost use Rattle.heap_items.specs.Uses.{plain, octets, index};

@@ -1,6 +1,6 @@
 // Indexes as cells.
 ghost use Rattle.std.specs.Prelude.{◌≡◌, ℕ};
-ghost use Rattle.heap_items.specs.Told.{told};
+ghost use Rattle.ppdb_base.specs.Told.{told};
 ghost use Rattle.noted_items.specs.Noted.{cell};
 
 /// An index as a cell of four bytes holds it.

@@ -27,7 +27,7 @@ impl Model for TextHeap {
 impl TextHeap {
     ghost use Rattle.std.specs.Prelude.{◌≡◌, [], ◌++◌, flat_map, OnOk, IfOk};
     ghost use Rattle.heap_items.specs.declared.heap.HeapKind.TheVariants.{Texts};
-    ghost use Rattle.heap_items.specs.Told.{told};
+    ghost use Rattle.ppdb_base.specs.Told.{told};
     ghost use Rattle.heap_items.specs.Interned.{length_of};
     ghost use Rattle.heap_items.specs.Items.{as_text};
     ghost use Rattle.noted_items.specs.Noted.{none_noted, with_text, text_place, cell};

@@ -8,4 +8,5 @@ pub mod Place
 pub mod Plan
 pub mod Prelude
 pub mod Steady
+pub mod Told
 pub mod Written

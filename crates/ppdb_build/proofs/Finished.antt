@@ -6,7 +6,7 @@ use Rattle.sequence_points.specs.Written.{first_of}
 use Rattle.ppdb_base.specs.declared.limits.Limit.{Limit}
 use Rattle.ppdb_base.specs.declared.limits.Limit.TheVariants.{FileSize, SpanTotal}
 use Rattle.ppdb_tables.specs.declared.head.PdbHead.{PdbHead}
-use Rattle.heap_items.specs.Told.{told}
+use Rattle.ppdb_base.specs.Told.{told}
 use Rattle.file_layout.specs.Bytes.{file_bytes}
 use Rattle.ppdb_values.specs.declared.file.FileValue.{FileValue}
 use Rattle.ppdb_canon.specs.declared.choice.IdChoice.{IdChoice}

@@ -13,7 +13,7 @@ use Rattle.ppdb_base.specs.declared.limits.Limit.TheVariants.{TableRows, ListPas
 use Rattle.ppdb_values.specs.declared.file.FileValue.{FileValue}
 use Rattle.ppdb_values.specs.declared.file.MethodValue.{MethodValue}
 use Rattle.ppdb_values.specs.declared.scope.ScopeValue.{ScopeValue}
-use Rattle.heap_items.specs.Told.{told}
+use Rattle.ppdb_base.specs.Told.{told}
 use Rattle.ppdb_canon.specs.Canonical.{counts}
 use Rattle.ppdb_canon.specs.Limits.{above, met, too_many_rows, tables, owns_none, list_past_end, large_offset, large_step_of, ValuesWithoutLimits}
 

@@ -11,7 +11,7 @@ use Rattle.ppdb_base.specs.declared.limits.Limit.{Limit}
 use Rattle.ppdb_base.specs.declared.limits.Limit.TheVariants.{ListPastEnd, TableRows}
 use Rattle.heap_items.specs.Uses.{blobs_after}
 use Rattle.heap_items.specs.Items.{first_uses}
-use Rattle.heap_items.specs.Told.{told}
+use Rattle.ppdb_base.specs.Told.{told}
 use Rattle.ppdb_values.specs.declared.file.FileValue.{FileValue}
 use Rattle.ppdb_values.specs.WorkedSmall.{variable_x}
 use Rattle.ppdb_canon.specs.Canonical.{canonical_tables, counts}

@@ -10,7 +10,7 @@ use Rattle.ppdb_values.specs.declared.scope.ScopeValue.{ScopeValue}
 use Rattle.file_layout.specs.Bytes.{file_bytes}
 use Rattle.ppdb_base.specs.declared.limits.Limit.{Limit}
 use Rattle.ppdb_base.specs.declared.limits.Limit.TheVariants.{TableRows, ListPastEnd, PointOffset, LineStep, FileSize, SpanTotal}
-use Rattle.heap_items.specs.Told.{told}
+use Rattle.ppdb_base.specs.Told.{told}
 use Rattle.heap_items.specs.Uses.{blob_bytes}
 use Rattle.ppdb_canon.specs.Uses.{blobs, blob_uses, text_uses}
 use Rattle.ppdb_canon.specs.Canonical.{canonical, counts}

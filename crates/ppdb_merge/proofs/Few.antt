@@ -19,8 +19,8 @@ use Rattle.ppdb_values.specs.Documents.{document_of}
 use Rattle.ppdb_values.specs.Imports.{import_scope_of}
 use Rattle.ppdb_values.specs.Parts.{first_item}
 use Rattle.ppdb_noted.specs.declared.file.NotedScope.{NotedScope}
-use Rattle.ppdb_noted.specs.Noted.{noted_file, noted_scope}
-use Rattle.ppdb_moved.specs.Moved.{with_item, moved_variable, moved_constant, moved_scope, moved_import_scope, moved_file, scope_image, is_empty}
+use Rattle.ppdb_noted.specs.Noted.{noted_file, noted_scope, with_item}
+use Rattle.ppdb_moved.specs.Moved.{moved_variable, moved_constant, moved_scope, moved_import_scope, moved_file, scope_image, is_empty}
 use Rattle.ppdb_joined.specs.Small.{HasFewRows}
 
 -- ---- sums

@@ -30,7 +30,8 @@ use Rattle.ppdb_noted.specs.Each.{Each}
 use Rattle.ppdb_noted.specs.NamedRows.{Named, names, names_some, all_named, in_token, in_body, in_constant, in_import, in_steps, live_machine, live_custom}
 use Rattle.ppdb_noted.proofs.Lists.{Each-append, Each-map}
 use Rattle.ppdb_joined.proofs.Each.{Each-flat}
-use Rattle.ppdb_moved.specs.Moved.{moved_range, is_empty, with_item, moved_token, moved_modifier, moved_constant, moved_constant_body, moved_import}
+use Rattle.ppdb_noted.specs.Noted.{with_item}
+use Rattle.ppdb_moved.specs.Moved.{moved_range, is_empty, moved_token, moved_modifier, moved_constant, moved_constant_body, moved_import}
 use Rattle.ppdb_moved.specs.Moved.{moved_import_scope, with_points, moved_method, scope_image, moved_scope, moved_machine, moved_step, moved_body, moved_custom}
 use Rattle.ppdb_moved.specs.Moved.{moved_file}
 use Rattle.ppdb_moved.proofs.Elements.{each_parts}

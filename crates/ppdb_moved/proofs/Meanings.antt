@@ -7,7 +7,8 @@ use Rattle.ppdb_values.specs.declared.import.ImportScopeValue.{ImportScopeValue}
 use Rattle.ppdb_values.specs.declared.noted.Noted.{Noted}
 use Rattle.ppdb_noted.specs.declared.file.NotedScope.{NotedScope}
 use Rattle.ppdb_noted.specs.declared.file.NotedFile.{NotedFile}
-use Rattle.ppdb_moved.specs.Moved.{with_item, moved_import, moved_import_scope, scope_image, moved_file}
+use Rattle.ppdb_noted.specs.Noted.{with_item}
+use Rattle.ppdb_moved.specs.Moved.{moved_import, moved_import_scope, scope_image, moved_file}
 use Rattle.ppdb_moved.specs.Images.{scope_image as scope_image_meaning}
 use Rattle.ppdb_noted.specs.NotedMeaning.{chain, imported, scope_meaning, scopes_at, held as holds}
 use Rattle.ppdb_moved.specs.FitsMethod.{FitsScope}

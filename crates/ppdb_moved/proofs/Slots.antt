@@ -15,7 +15,7 @@ use Rattle.ppdb_values.specs.Parts.{holds, slots_in}
 use Rattle.ppdb_noted.specs.Each.{Each}
 use Rattle.ppdb_noted.specs.declared.file.NotedFile.{NotedFile}
 use Rattle.ppdb_moved.specs.Moved.{moved_range, is_empty, moved_slot, moved_body, moved_file}
-use Rattle.ppdb_moved.specs.Images.{slot_image}
+use Rattle.ppdb_moved.specs.Images.{slot_meaning_image}
 use Rattle.ppdb_noted.specs.NotedMeaning.{slots_among, slots_at}
 use Rattle.ppdb_moved.specs.FitsMethod.{FitsSlot, FitsSlots, FitsCustom}
 use Rattle.ppdb_noted.proofs.Lists.{Each-filter}
@@ -27,8 +27,8 @@ use Rattle.ppdb_moved.proofs.Scopes.{holds_kept, empty_holds}
 slot_kept : (m : Map) (method : ℕ) → Rise (offsets_in m method) → (offsets_in m method ≢ gone) → (x y : ℕ) → Kept (offsets_in m method) x y
     → x ≤ old_size (offsets_in m method)
     → (p k : ℕ) (slot : Slot) → FitsSlot (offsets_in m method) slot → (rest : List SlotMeaning)
-    → cons_option (slot_at y p (k, moved_slot (offsets_in m method) slot)) (map (slot_image m method) rest)
-    ≡ map (slot_image m method) (cons_option (slot_at x p (k, slot)) rest)
+    → cons_option (slot_at y p (k, moved_slot (offsets_in m method) slot)) (map (slot_meaning_image m method) rest)
+    ≡ map (slot_meaning_image m method) (cons_option (slot_at x p (k, slot)) rest)
 slot_kept m method rise live x y kept at p k Empty fits rest = refl
 slot_kept m method rise live x y kept at p k (Held range) fits rest =
     by_range (is_empty (moved_range (offsets_in m method) range)) refl (holds range x) refl
@@ -37,8 +37,8 @@ slot_kept m method rise live x y kept at p k (Held range) fits rest =
     same = holds_kept (offsets_in m method) rise live x y kept at range (omega (arith, fits.0)) fits.1
 
     by_range : (b : Bool) → is_empty (moved_range (offsets_in m method) range) ≡ b → (c : Bool) → holds range x ≡ c
-        → cons_option (slot_at y p (k, cond b Empty (Held (moved_range (offsets_in m method) range)))) (map (slot_image m method) rest)
-        ≡ map (slot_image m method) (cons_option (cond c (Some (record { position = p; slot = k; range = range })) None) rest)
+        → cons_option (slot_at y p (k, cond b Empty (Held (moved_range (offsets_in m method) range)))) (map (slot_meaning_image m method) rest)
+        ≡ map (slot_meaning_image m method) (cons_option (cond c (Some (record { position = p; slot = k; range = range })) None) rest)
     by_range true empty false is = refl
     by_range true empty true is = absurd (both_ways (holds range x) (sym same ∙ empty_holds y (moved_range (offsets_in m method) range) empty) is)
     by_range false filled true is = rw (same ∙ is) refl
@@ -48,7 +48,7 @@ record_kept : (m : Map) (method : ℕ) → Rise (offsets_in m method) → (offse
     → x ≤ old_size (offsets_in m method)
     → (p k : ℕ) (slots : List Slot) → Each (FitsSlot (offsets_in m method)) slots
     → filter_map (slot_at y p) (enumerate_from k (map (moved_slot (offsets_in m method)) slots))
-    ≡ map (slot_image m method) (filter_map (slot_at x p) (enumerate_from k slots))
+    ≡ map (slot_meaning_image m method) (filter_map (slot_at x p) (enumerate_from k slots))
 record_kept m method rise live x y kept at p k [] fits = refl
 record_kept m method rise live x y kept at p k (s ∷ ss) fits =
     ap (λ l. cons_option (slot_at y p (k, moved_slot (offsets_in m method) s)) l) (record_kept m method rise live x y kept at p (k + 1) ss fits.1)
@@ -63,14 +63,15 @@ records_kept : (m : Map) (method : ℕ) → Rise (offsets_in m method) → (offs
     → (p : ℕ) (lists : List (List Slot)) → Each (Each (FitsSlot (offsets_in m method))) lists
     → flat_map (λ hoisted. filter_map (slot_at y hoisted.0) (enumerate_from 0 hoisted.1))
     (enumerate_from p (map (map (moved_slot (offsets_in m method))) lists))
-    ≡ map (slot_image m method) (flat_map (λ hoisted. filter_map (slot_at x hoisted.0) (enumerate_from 0 hoisted.1)) (enumerate_from p lists))
+    ≡ map (slot_meaning_image m method) (flat_map (λ hoisted. filter_map (slot_at x hoisted.0) (enumerate_from 0 hoisted.1)) (enumerate_from p lists))
 records_kept m method rise live x y kept at p [] fits = refl
 records_kept m method rise live x y kept at p (l ∷ ls) fits =
     ap (λ h. h ++ flat_map (λ hoisted. filter_map (slot_at y hoisted.0) (enumerate_from 0 hoisted.1))
     (enumerate_from (p + 1) (map (map (moved_slot (offsets_in m method))) ls)))
     (record_kept m method rise live x y kept at p 0 l fits.0)
-    ∙ ap (λ t. map (slot_image m method) (filter_map (slot_at x p) (enumerate_from 0 l)) ++ t) (records_kept m method rise live x y kept at (p + 1) ls fits.1)
-    ∙ sym (map_append (slot_image m method) (filter_map (slot_at x p) (enumerate_from 0 l))
+    ∙ ap (λ t. map (slot_meaning_image m method) (filter_map (slot_at x p) (enumerate_from 0 l)) ++ t)
+    (records_kept m method rise live x y kept at (p + 1) ls fits.1)
+    ∙ sym (map_append (slot_meaning_image m method) (filter_map (slot_at x p) (enumerate_from 0 l))
     (flat_map (λ hoisted. filter_map (slot_at x hoisted.0) (enumerate_from 0 hoisted.1)) (enumerate_from (p + 1) ls)))
 
 -- ---- the records of a method
@@ -117,7 +118,7 @@ lists_fit m method (d ∷ ds) each = step d.value each.0.1 (lists_fit m method d
 pub slots_mean : (m : Map) (w : NotedFile) (method : ℕ) → Rise (offsets_in m method) → (offsets_in m method ≢ gone) → (x y : ℕ)
     → Kept (offsets_in m method) x y → x ≤ old_size (offsets_in m method)
     → Each (FitsCustom m method) w.customs
-    → slots_at (moved_file m w) (moved_row m 0x06 method) y ≡ map (slot_image m method) (slots_at w method x)
+    → slots_at (moved_file m w) (moved_row m 0x06 method) y ≡ map (slot_meaning_image m method) (slots_at w method x)
 slots_mean m w method rise live x y kept at fits =
     ap (λ customs. slots_among customs y) (records_moved m w method live fits)
     ∙ ap (λ lists. flat_map (λ hoisted. filter_map (slot_at y hoisted.0) (enumerate_from 0 hoisted.1)) (enumerate_from 0 lists))

@@ -35,14 +35,14 @@ use Rattle.ppdb_noted.specs.Each.{Each, Pairs}
 use Rattle.ppdb_noted.specs.NamedRows.{names, names_some, named_rows, live_machine, live_custom, live_scope, in_constant, in_import, in_steps}
 use Rattle.ppdb_noted.specs.SoundParts.{SoundMoved, SoundNote, SoundNotedScope}
 use Rattle.ppdb_noted.specs.Unnoted.{value_of_noted}
-use Rattle.ppdb_noted.specs.Noted.{items_of}
+use Rattle.ppdb_noted.specs.Noted.{items_of, with_item}
 use Rattle.sound_values.specs.Scopes.{SoundVariable, SoundConstant}
 use Rattle.sound_values.specs.Imports.{SoundImport, SoundImportScope}
 use Rattle.ppdb_noted.proofs.Mapped.{row_map}
 use Rattle.ppdb_noted.proofs.Lists.{Each-weaker, Pairs-weaker, each_row, row_each, pairs_row, row_pairs}
 use Rattle.ppdb_moved.specs.Fits.{Fits, IsImaged, HasSlot, KeepsAsync, AreWithin}
 use Rattle.ppdb_moved.specs.Laws.{IsImageOfNamed, MovedNames}
-use Rattle.ppdb_moved.specs.Moved.{moved_range, is_empty, with_item, moved_variable, moved_constant, moved_import, moved_import_scope, with_points}
+use Rattle.ppdb_moved.specs.Moved.{moved_range, is_empty, moved_variable, moved_constant, moved_import, moved_import_scope, with_points}
 use Rattle.ppdb_moved.specs.Moved.{moved_method, scope_image, moved_scope, moved_machine, moved_body, moved_custom, moved_file}
 use Rattle.ppdb_moved.proofs.Fitting.{offsets_rise}
 use Rattle.ppdb_moved.proofs.Elements.{each_in}

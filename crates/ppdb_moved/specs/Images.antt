@@ -6,7 +6,8 @@ use Rattle.ppdb_maps.specs.Map.{Map, moved_row, offsets_in, is_dropped}
 use Rattle.ppdb_values.specs.declared.noted.Custom.{Custom}
 use Rattle.ppdb_values.specs.Meaning.{PointMeaning, ScopeMeaning, SlotMeaning, Meaning}
 use Rattle.ppdb_values.specs.Links.{Links}
-use Rattle.ppdb_moved.specs.Moved.{with_item, moved_range, moved_variable, moved_constant, moved_import, moved_body}
+use Rattle.ppdb_noted.specs.Noted.{with_item}
+use Rattle.ppdb_moved.specs.Moved.{moved_range, moved_variable, moved_constant, moved_import, moved_body}
 
 abbrev pub point_image : Map → ℕ → PointMeaning → PointMeaning
 point_image m method p = record p { offset = moved (offsets_in m method) p.offset; signature = moved_row m 0x11 p.signature }
@@ -19,14 +20,14 @@ scope_image m method s = record s {
   imports = map (with_item (map (moved_import m))) s.imports;
 }
 
-abbrev pub slot_image : Map → ℕ → SlotMeaning → SlotMeaning
-slot_image m method h = record h { range = moved_range (offsets_in m method) h.range }
+abbrev pub slot_meaning_image : Map → ℕ → SlotMeaning → SlotMeaning
+slot_meaning_image m method h = record h { range = moved_range (offsets_in m method) h.range }
 
 abbrev pub meaning_image : Map → ℕ → Meaning → Meaning
 meaning_image m method a = record {
   point = option_map (point_image m method) a.point;
   scopes = map (scope_image m method) a.scopes;
-  slots = map (slot_image m method) a.slots;
+  slots = map (slot_meaning_image m method) a.slots;
 }
 
 -- a partner that is dropped is none

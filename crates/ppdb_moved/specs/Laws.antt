@@ -11,7 +11,7 @@ use Rattle.ppdb_tables.specs.declared.rows.MachineRow.{MachineRow}
 use Rattle.ppdb_values.specs.declared.noted.Custom.{Custom}
 use Rattle.ppdb_values.specs.Links.{kickoff_of, move_next_of}
 use Rattle.ppdb_moved.specs.Moved.{moved_file, moved_method, moved_body}
-use Rattle.ppdb_moved.specs.Images.{scope_image, point_image, slot_image, meaning_image, partner_image}
+use Rattle.ppdb_moved.specs.Images.{scope_image, point_image, slot_meaning_image, meaning_image, partner_image}
 use Rattle.ppdb_noted.specs.NotedMeaning.{noted_links, noted_meaning, slots_at, scope_meaning, scopes_at, point_meaning}
 use Rattle.ppdb_maps.specs.Readable.{IsReadable}
 use Rattle.ppdb_noted.specs.NamedRows.{names, named_rows}
@@ -39,7 +39,7 @@ abbrev pub SlotsMean : Type 0
 SlotsMean = (m : Map) (w : NotedFile) (method : ℕ) → Rise (offsets_in m method) → (offsets_in m method ≢ gone) → (x y : ℕ) → Kept (offsets_in m method) x y
     → x ≤ old_size (offsets_in m method)
     → Each (FitsCustom m method) w.customs
-    → slots_at (moved_file m w) (moved_row m 0x06 method) y ≡ map (slot_image m method) (slots_at w method x)
+    → slots_at (moved_file m w) (moved_row m 0x06 method) y ≡ map (slot_meaning_image m method) (slots_at w method x)
 
 -- What is linked to a method is moved: a partner that is dropped is none.
 pub record LinksMean (m : Map) (w : NotedFile) (method : ℕ) : Type 0 where

@@ -23,9 +23,9 @@ use Rattle.ppdb_values.specs.declared.import.ImportScopeValue.{ImportScopeValue}
 use Rattle.ppdb_values.specs.declared.custom.CustomBody.{CustomBody}
 use Rattle.ppdb_values.specs.declared.custom.CustomBody.TheVariants.{Async, Hoisted}
 use Rattle.ppdb_values.specs.declared.custom.CustomValue.{CustomValue}
-use Rattle.ppdb_values.specs.declared.noted.Noted.{Noted}
 use Rattle.ppdb_noted.specs.declared.file.NotedScope.{NotedScope}
 use Rattle.ppdb_noted.specs.declared.file.NotedFile.{NotedFile}
+use Rattle.ppdb_noted.specs.Noted.{with_item}
 use Rattle.sequence_points.specs.MovedPoints.{moved_points}
 
 -- ---- offsets
@@ -78,9 +78,6 @@ moved_import m (TargetAlias alias target) = TargetAlias alias (moved_token m tar
 moved_import m import = import
 
 -- ---- items; each keeps the records on it
-
-abbrev pub with_item : {A : Type 0} → (A → A) → Noted A → Noted A
-with_item f n = record { item = f n.item; customs = n.customs }
 
 abbrev pub moved_variable : Map → ℕ → VariableValue → VariableValue
 moved_variable m method v = record v { slot = unwrap_or (slot_image m method v.slot) 0 }

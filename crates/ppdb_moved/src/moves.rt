@@ -36,7 +36,7 @@ pub struct InMethod<'a> {
 
 /// An item moves, and keeps the custom records on it.
 impl<C, T: Moves<C>> Moves<C> for Noted<T> {
-    ghost use Rattle.ppdb_moved.specs.Moved.{with_item};
+    ghost use Rattle.ppdb_noted.specs.Noted.{with_item};
 
     ghost moved = { λ by. with_item (T.moved by) };
 

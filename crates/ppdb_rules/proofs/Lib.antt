@@ -2,7 +2,6 @@ pub mod BlobFaults
 pub mod ConstantEnds
 pub mod CellFaults
 pub mod SeenSets
-pub mod Walks
 pub mod ListOwners
 pub mod ScopeFaults
 pub mod Order

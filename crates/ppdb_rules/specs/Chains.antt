@@ -1,18 +1,25 @@
 -- Chains of import scopes (Portable PDB v1.0, "ImportScope Table", Parent).
-use Rattle.std.specs.Prelude.{ℕ, zero, suc, ◌≢◌, List, unwrap_or}
-use Rattle.std.specs.Option.{option_map}
+use Rattle.std.specs.Prelude.{ℕ, List, length}
 use Rattle.ppdb_tables.specs.declared.rows.ImportRow.{ImportRow}
-use Rattle.ppdb_tables.specs.RawTables.{row_at}
+use Rattle.ppdb_tables.specs.Chains as chains
+use Rattle.ppdb_tables.specs.Marks as marks
 
 -- the parent of an import scope, and 0 for 0 and for a row that is not there
 abbrev pub parent_in : List ImportRow → ℕ → ℕ
-parent_in imports row = unwrap_or (option_map (λ (i : ImportRow). i.parent) (row_at imports row)) 0
+parent_in imports = chains.parent_at (λ (i : ImportRow). i.parent) imports
 
 -- the import scope that is so many parents away, 0 past the end of the chain
 abbrev pub ancestor_of : List ImportRow → ℕ → ℕ → ℕ
-ancestor_of imports row zero = row
-ancestor_of imports row (suc steps) = ancestor_of imports (parent_in imports row) steps
+ancestor_of imports row steps = chains.ancestor_of (parent_in imports) row steps
 
 -- the chain of parents never ends
 abbrev pub NeverEnds : List ImportRow → ℕ → Type 0
-NeverEnds imports row = (steps : ℕ) → ancestor_of imports row steps ≢ 0
+NeverEnds imports row = chains.NeverEnds (parent_in imports) row
+
+-- the chains of the import scopes that are marked end, and their marks are earlier rows than this one
+abbrev pub MarksEnd : List ImportRow → ℕ → List ℕ → Type 0
+MarksEnd imports row found = marks.MarksEnd (parent_in imports) (length imports) row found
+
+-- how far the walk from an import scope has come
+abbrev pub WalksTo : List ImportRow → ℕ → ℕ → List ℕ → Type 0
+WalksTo imports row place found = marks.WalksTo (parent_in imports) (length imports) row place found

@@ -11,5 +11,4 @@ pub mod Errors
 pub mod Judged
 pub mod Open
 pub mod Seen
-pub mod Marks
 pub mod SeenNames

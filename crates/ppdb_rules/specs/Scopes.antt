@@ -3,6 +3,7 @@ use Rattle.std.specs.Prelude.{ℕ, ◌≡◌, ◌≢◌, ◌+◌, ◌-◌, ◌<�
 use Rattle.ppdb_heaps.specs.Heaps.{text_at}
 use Rattle.ppdb_tables.specs.declared.rows.ScopeRow.{ScopeRow}
 use Rattle.ppdb_tables.specs.RawTables.{row_at}
+pub use Rattle.ppdb_tables.specs.Owners.{Owns}
 use Rattle.ppdb_rules.specs.Earlier.{NamesNoRow}
 
 -- a method and a range of its IL offsets: from the start, up to and without the end
@@ -44,13 +45,6 @@ IsListOut list rows scopes row scope =
     NamesNoRow 1 (rows + 1) (list scope)
     ⊎ (((row ≡ 1) × (list scope ≢ 1))
     ⊎ ((before : ScopeRow) × (row_at scopes (row - 1) ≡ Some before) × (list scope < list before)))
-
--- the scope whose list holds an item: the last whose list begins at or before it
-pub record Owns (list : ScopeRow → ℕ) (scopes : List ScopeRow) (owner item : ℕ) : Type 0 where
-  pub scope : ScopeRow
-  pub there : row_at scopes owner ≡ Some scope
-  pub begun : list scope ≤ item
-  pub last : (later : ℕ) (other : ScopeRow) → row_at scopes later ≡ Some other → list other ≤ item → later ≤ owner
 
 -- two items are in the list of one scope
 pub record ShareOwner (list : ScopeRow → ℕ) (scopes : List ScopeRow) (a b : ℕ) : Type 0 where

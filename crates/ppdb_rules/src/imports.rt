@@ -5,8 +5,7 @@ ghost use Rattle.ppdb_tables.specs.RawTables.{row_at, count};
 ghost use Rattle.ppdb_tables.specs.RawOf.{raw_of};
 ghost use Rattle.ppdb_rules.specs.Errors.{FaultIs};
 ghost use Rattle.ppdb_rules.specs.Judged.{ToTable, ToRow, ToCell, IsFirstOf};
-ghost use Rattle.ppdb_rules.specs.Chains.{NeverEnds};
-ghost use Rattle.ppdb_rules.specs.Marks.{MarksEnd};
+ghost use Rattle.ppdb_rules.specs.Chains.{MarksEnd, NeverEnds};
 
 use crate::cells::{fault, fault_within, names_no_row, row_count};
 use crate::contents::imports_fault;

@@ -17,9 +17,9 @@ use Rattle.ppdb_merge.specs.Together.{joined_of}
 use Rattle.ppdb_run.specs.Outcome.{steps_of, IsOutcome}
 use Rattle.ppdb_run.specs.Stops.{cause_of, Gives, Settles, Finds, refusal_of}
 use Rattle.ppdb_run.specs.Words.{Question, Id, Verify, Show, Query, Links, Breaks, Options, Task, Ask, Rebuild, Compose, Merge, Sample, Input, Words}
-use Rattle.ppdb_values.specs.RawFile.{RawFile}
+use Rattle.ppdb_values.specs.RawFile.{RawFile, raw_in}
 use Rattle.ppdb_values.specs.Value.{value_of}
-use Rattle.ppdb_verify.specs.Files.{BadFile, IsRawOf, raw_in}
+use Rattle.ppdb_verify.specs.Files.{BadFile, IsRawOf}
 use Rattle.ppdb_verify.proofs.Streamed.{same_streams}
 use Rattle.ppdb_run.proofs.MapSteps.{one_composed, one_text}
 use Rattle.ppdb_run.proofs.OneTask.{one_task}

@@ -13,8 +13,8 @@ use Rattle.metadata_root.specs.declared.kind.StreamKind.TheVariants.{Pdb, Tables
 use Rattle.metadata_root.specs.Root.{header_place}
 use Rattle.metadata_root.specs.Streams.{AreStreamsOf, BadContainer, IsListed, IsStream, Stream, Streams, offset_in, size_in}
 use Rattle.metadata_root.specs.Streams.BadStreams.{bounds}
-use Rattle.ppdb_verify.specs.Files.{BadFile, raw_in}
-use Rattle.ppdb_values.specs.RawFile.{RawFile}
+use Rattle.ppdb_values.specs.RawFile.{raw_in, RawFile}
+use Rattle.ppdb_verify.specs.Files.{BadFile}
 use Rattle.ppdb_values.specs.Value.{value_of}
 use Rattle.ppdb_run.specs.Outcome.{Outcome, ◌>>=◌, IsOutcome, HasDue, absent, too_long, refused, usage, gives, input_of, answer_of, rebuilt}
 use Rattle.ppdb_run.specs.Outcome.{outcome_of, sampled, steps_of, verified}

@@ -7,3 +7,4 @@ mod FirstOfRows
 pub mod RowsRead
 mod TablesRead
 pub mod NumberedRows
+pub mod Walks

@@ -1,5 +1,6 @@
 -- The #Pdb stream, and what is wrong with it (Portable PDB v1.0, "Standalone debugging metadata", #Pdb).
-use Rattle.std.specs.Prelude.{◌≡◌, ◌≢◌, ℕ, ◌+◌, ◌*◌, ◌%◌, ◌^◌, ◌<◌, ◌≤◌, List, ◌∷◌, length, take, slice_index}
+use Rattle.std.specs.Prelude.{◌≡◌, ◌≢◌, ℕ, ◌+◌, ◌*◌, ◌%◌, ◌^◌, ◌<◌, ◌≤◌, List, ◌∷◌, length, map, take, slice_index}
+use Rattle.std.specs.List.{range_with_len}
 use Rattle.ppdb_base.specs.declared.code.Code.{Code}
 use Rattle.ppdb_base.specs.declared.code.Code.TheVariants.{PdbShort, PdbTables, PdbRows, EntryPoint}
 use Rattle.ppdb_base.specs.declared.fault.Place.{Place}
@@ -55,3 +56,7 @@ pub record IsHeadOf (stream : List ℕ) (head : PdbHead) : Type 0 where
   pub id : head.id ≡ take 20 stream
   pub entry : head.entry ≡ entry_in stream % 2 ^ 24
   pub rows : (table : ℕ) → table < 64 → slice_index head.rows table ≡ pdb_rows stream table
+
+-- that, as the stream's bytes have it
+abbrev pub head_in : List ℕ → PdbHead
+head_in stream = record { id = take 20 stream; entry = entry_in stream % 2 ^ 24; rows = map (pdb_rows stream) (range_with_len 0 64) }

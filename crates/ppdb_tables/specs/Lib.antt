@@ -1,8 +1,11 @@
 pub mod Bounds
+pub mod Chains
 pub mod Counts
 pub mod Head
 pub mod Layouts
 pub mod LayoutsOf
+pub mod Marks
+pub mod Owners
 pub mod Parents
 pub mod RawOf
 pub mod RawTables

@@ -12,7 +12,8 @@ use Rattle.ppdb_tables.specs.declared.rows.ScopeRow.{ScopeRow}
 use Rattle.ppdb_tables.specs.RawTables.{row_at}
 use Rattle.ppdb_values.specs.Value.{owner_of, is_number, owned_by}
 use Rattle.ppdb_values.specs.Rules.{KeepsLists}
-use Rattle.ppdb_values.specs.Owners.{IsOwner, list_end, list_of}
+use Rattle.ppdb_tables.specs.Owners.{Owns}
+use Rattle.ppdb_values.specs.Owners.{list_end, list_of}
 use Rattle.ppdb_values.proofs.Owners.{owner_is_last, owner_is_found}
 
 -- ---- keys of rows
@@ -50,7 +51,7 @@ row_positive scopes (suc i) x h = omega arith
 -- ---- where a list ends
 
 end_above : (list : ScopeRow → ℕ) (scopes : List ScopeRow) (items owner item : ℕ) (o : Option ScopeRow) → row_at scopes (suc owner) ≡ o
-    → IsOwner list scopes owner item → item ≤ items
+    → Owns list scopes owner item → item ≤ items
     → item < unwrap_or (option_map list o) (items + 1)
 end_above list scopes items owner item None e h le = omega (arith, le)
 end_above list scopes items owner item (Some x) e h le = elim (cases_lt item (list x)) [
@@ -95,7 +96,7 @@ no_later list scopes items owner item (Some x) e keeps below later other there b
 
 owns : (list : ScopeRow → ℕ) (scopes : List ScopeRow) (items owner item : ℕ) (scope : ScopeRow) → KeepsLists list scopes items
     → row_at scopes owner ≡ Some scope
-    → list scope ≤ item → item < list_end list scopes owner items → IsOwner list scopes owner item
+    → list scope ≤ item → item < list_end list scopes owner items → Owns list scopes owner item
 owns list scopes items owner item scope keeps there begun below = record { scope = scope; there = there; begun = begun; last = later_than }
   where
     later_than : (later : ℕ) (other : ScopeRow) → row_at scopes later ≡ Some other → list other ≤ item → later ≤ owner

@@ -8,7 +8,7 @@ use Rattle.std.proofs.lemmas.Bool.Decides.{nat_tests}
 use Rattle.ppdb_tables.specs.declared.rows.ScopeRow.{ScopeRow}
 use Rattle.ppdb_tables.specs.RawTables.{row_at}
 use Rattle.ppdb_values.specs.Value.{owner_of}
-use Rattle.ppdb_values.specs.Owners.{IsOwner}
+use Rattle.ppdb_tables.specs.Owners.{Owns}
 
 -- the last of some scopes whose list begins at or before an item
 record IsLastOf (list : ScopeRow → ℕ) (scopes : List ScopeRow) (item index : ℕ) : Type 0 where
@@ -84,14 +84,14 @@ one_more : (index : ℕ) → 1 + index ≡ suc index
 one_more index = omega arith
 
 -- the last scope, by its row
-by_row : (list : ScopeRow → ℕ) (scopes : List ScopeRow) (item index : ℕ) → IsLastOf list scopes item index → IsOwner list scopes (suc index) item
+by_row : (list : ScopeRow → ℕ) (scopes : List ScopeRow) (item index : ℕ) → IsLastOf list scopes item index → Owns list scopes (suc index) item
 by_row list scopes item index h = record { scope = h.scope; there = h.there; begun = h.begun; last = later_than }
   where
     later_than : (later : ℕ) (other : ScopeRow) → row_at scopes later ≡ Some other → list other ≤ item → later ≤ suc index
     later_than zero other e le = omega arith
     later_than (suc later) other e le = let below = h.last later other e le in omega (arith, below)
 
-pub owner_is_last : (list : ScopeRow → ℕ) (scopes : List ScopeRow) (owner item : ℕ) → owner_of list scopes item ≡ Some owner → IsOwner list scopes owner item
+pub owner_is_last : (list : ScopeRow → ℕ) (scopes : List ScopeRow) (owner item : ℕ) → owner_of list scopes item ≡ Some owner → Owns list scopes owner item
 owner_is_last list scopes owner item h = elim (found list None 1 scopes item) [
   | inl f ↦
       let same : suc f.0 ≡ owner = let e = f.2 in let m = one_more f.0 in cc in
@@ -100,17 +100,17 @@ owner_is_last list scopes owner item h = elim (found list None 1 scopes item) [
 ]
 
 -- two owners are one
-same_owner : (list : ScopeRow → ℕ) (scopes : List ScopeRow) (a b item : ℕ) → IsOwner list scopes a item → IsOwner list scopes b item → a ≡ b
+same_owner : (list : ScopeRow → ℕ) (scopes : List ScopeRow) (a b item : ℕ) → Owns list scopes a item → Owns list scopes b item → a ≡ b
 same_owner list scopes a b item x y =
     let up = x.last b y.scope y.there y.begun in
     let down = y.last a x.scope x.there x.begun in
     omega (arith, up, down)
 
-none_owns : (list : ScopeRow → ℕ) (scopes : List ScopeRow) (owner item : ℕ) → NoneOf list scopes item → IsOwner list scopes owner item → ⊥
+none_owns : (list : ScopeRow → ℕ) (scopes : List ScopeRow) (owner item : ℕ) → NoneOf list scopes item → Owns list scopes owner item → ⊥
 none_owns list scopes zero item none h = let e = h.there in cc
 none_owns list scopes (suc index) item none h = let above = none index h.scope h.there in let begun = h.begun in omega (arith, above, begun)
 
-pub owner_is_found : (list : ScopeRow → ℕ) (scopes : List ScopeRow) (owner item : ℕ) → IsOwner list scopes owner item → owner_of list scopes item ≡ Some owner
+pub owner_is_found : (list : ScopeRow → ℕ) (scopes : List ScopeRow) (owner item : ℕ) → Owns list scopes owner item → owner_of list scopes item ≡ Some owner
 owner_is_found list scopes owner item h = elim (found list None 1 scopes item) [
   | inl f ↦
       let same : suc f.0 ≡ owner = same_owner list scopes (suc f.0) owner item (by_row list scopes item f.0 f.1) h in

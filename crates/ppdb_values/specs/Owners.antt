@@ -5,20 +5,14 @@ use Rattle.ppdb_tables.specs.declared.rows.ScopeRow.{ScopeRow}
 use Rattle.ppdb_tables.specs.RawTables.{numbered, row_at}
 use Rattle.ppdb_tables.specs.declared.rows.VariableRow.{VariableRow}
 use Rattle.ppdb_tables.specs.declared.rows.ConstantRow.{ConstantRow}
+use Rattle.ppdb_tables.specs.Owners.{Owns}
 use Rattle.ppdb_values.specs.Value.{owner_of, owned_by}
 use Rattle.ppdb_values.specs.Rules.{KeepsLists}
 
--- The list of the scope begins at or before the item, and no later scope's list does.
-pub record IsOwner (list : ScopeRow → ℕ) (scopes : List ScopeRow) (owner item : ℕ) : Type 0 where
-  pub scope : ScopeRow
-  pub there : row_at scopes owner ≡ Some scope
-  pub begun : list scope ≤ item
-  pub last : (later : ℕ) (other : ScopeRow) → row_at scopes later ≡ Some other → list other ≤ item → later ≤ owner
-
 -- The owner that the value of a file goes by is that scope.
 pub record OwnersAreLast : Type 0 where
-  pub is_last : (list : ScopeRow → ℕ) (scopes : List ScopeRow) (owner item : ℕ) → owner_of list scopes item ≡ Some owner → IsOwner list scopes owner item
-  pub is_found : (list : ScopeRow → ℕ) (scopes : List ScopeRow) (owner item : ℕ) → IsOwner list scopes owner item → owner_of list scopes item ≡ Some owner
+  pub is_last : (list : ScopeRow → ℕ) (scopes : List ScopeRow) (owner item : ℕ) → owner_of list scopes item ≡ Some owner → Owns list scopes owner item
+  pub is_found : (list : ScopeRow → ℕ) (scopes : List ScopeRow) (owner item : ℕ) → Owns list scopes owner item → owner_of list scopes item ≡ Some owner
 
 -- ---- lists in order
 

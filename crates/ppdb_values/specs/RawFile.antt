@@ -6,12 +6,22 @@ use Rattle.blob_grammar.specs.Reader.{read_from, begun_from}
 use Rattle.ppdb_heaps.specs.Heaps.{text_at, blob_at, guid_at}
 use Rattle.sequence_points.specs.declared.point.PointLimits.{PointLimits}
 use Rattle.type_blobs.specs.declared.types.TypeLimits.{TypeLimits}
+use Rattle.metadata_root.specs.declared.kind.StreamKind.TheVariants.{Pdb}
+use Rattle.metadata_root.specs.Streams.{Streams, bytes_of}
+use Rattle.ppdb_tables.specs.Head.{head_in}
 use Rattle.ppdb_tables.specs.RawTables.{RawTables, count}
+use Rattle.ppdb_tables.specs.Tables.{tables_in}
 
 pub record RawFile : Type 0 where
   pub id : List ℕ
   pub entry : ℕ
   pub tables : RawTables
+
+-- the file that the streams hold
+abbrev pub raw_in : Streams → RawFile
+raw_in streams =
+    let head = head_in (bytes_of streams Pdb) in
+    record { id = head.id; entry = head.entry; tables = tables_in streams head }
 
 -- ---- items by their indexes; in a valid file each item is there
 

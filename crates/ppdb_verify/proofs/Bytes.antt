@@ -10,7 +10,8 @@ use Rattle.metadata_root.specs.Streams.{Stream, Streams, IsListed, AreStreamsOf}
 use Rattle.ppdb_tables.specs.Counts.{counts_below}
 use Rattle.ppdb_values.specs.WorkedProgram.{program_file}
 use Rattle.ppdb_values.specs.WorkedSmall.{empty_file, small_file}
-use Rattle.ppdb_verify.specs.Files.{IsRawOf, raw_in}
+use Rattle.ppdb_values.specs.RawFile.{raw_in}
+use Rattle.ppdb_verify.specs.Files.{IsRawOf}
 
 -- a slice of a file
 abbrev part : List ℕ → ℕ → ℕ → Stream

@@ -13,14 +13,13 @@ use Rattle.metadata_root.specs.declared.kind.StreamKind.TheVariants.{Tables, Str
 use Rattle.metadata_root.specs.Streams.{Streams, bytes_of}
 use Rattle.row_layout.specs.declared.column.Sizes.{Sizes}
 use Rattle.ppdb_tables.specs.declared.head.PdbHead.{PdbHead}
-use Rattle.ppdb_tables.specs.Head.{BadPdb, IsHeadOf, NamesMethod, entry_in, pdb_rows}
+use Rattle.ppdb_tables.specs.Head.{BadPdb, IsHeadOf, NamesMethod, entry_in, pdb_rows, head_in}
 use Rattle.ppdb_tables.specs.Head.BadEntry.{entry}
 use Rattle.ppdb_tables.specs.Layouts.{document_columns, method_columns, scope_columns, variable_columns, constant_columns}
 use Rattle.ppdb_tables.specs.Layouts.{import_columns, machine_columns, custom_columns, document_row, method_row, scope_row, variable_row}
 use Rattle.ppdb_tables.specs.Layouts.{constant_row, import_row, machine_row, custom_row}
 use Rattle.ppdb_tables.specs.RawTables.{RawTables, count}
 use Rattle.ppdb_tables.specs.Tables.{BadBounds, BadTableFields, BadTables, count_in, heap_sizes, rows_at, sizes_in, table_rows, tables_in}
-use Rattle.ppdb_verify.specs.Files.{head_in}
 
 -- one function makes one list of another
 map_alike : {X : Type 0} (f g : ℕ → X) → ((n : ℕ) → f n ≡ g n) → (ns : List ℕ) → map f ns ≡ map g ns

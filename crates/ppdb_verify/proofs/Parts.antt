@@ -8,10 +8,11 @@ use Rattle.ppdb_base.proofs.Judging.{accepted_then, first_of_after, first_of_bef
 use Rattle.metadata_root.specs.declared.kind.StreamKind.TheVariants.{Pdb, Tables}
 use Rattle.metadata_root.specs.Streams.{AreStreamsOf, BadContainer, Streams, bytes_of}
 use Rattle.ppdb_tables.specs.declared.head.PdbHead.{PdbHead}
-use Rattle.ppdb_tables.specs.Head.{BadPdb, IsHeadOf}
+use Rattle.ppdb_tables.specs.Head.{BadPdb, IsHeadOf, head_in}
 use Rattle.ppdb_tables.specs.RawTables.{RawTables}
 use Rattle.ppdb_tables.specs.Tables.{BadTables, tables_in}
-use Rattle.ppdb_verify.specs.Files.{BadContents, BadFile, BadRows, head_in, raw_in}
+use Rattle.ppdb_values.specs.RawFile.{raw_in}
+use Rattle.ppdb_verify.specs.Files.{BadContents, BadFile, BadRows}
 use Rattle.ppdb_verify.proofs.Headed.{bad_alike, tables_alike}
 use Rattle.ppdb_verify.proofs.Streamed.{same_streams}
 

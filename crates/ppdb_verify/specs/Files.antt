@@ -1,28 +1,16 @@
 -- The rules of a whole file, F1 to F40, and what a file is read as.
-use Rattle.std.specs.Prelude.{◌≡◌, ℕ, ◌%◌, ◌^◌, ◌⊎◌, List, map, take}
-use Rattle.std.specs.List.{range_with_len}
+use Rattle.std.specs.Prelude.{◌≡◌, ℕ, ◌⊎◌, List}
 use Rattle.ppdb_base.specs.declared.code.Code.{Code}
 use Rattle.ppdb_base.specs.declared.fault.Place.{Place}
 use Rattle.ppdb_base.specs.First.{Then}
 use Rattle.metadata_root.specs.declared.kind.StreamKind.TheVariants.{Pdb, Tables}
 use Rattle.metadata_root.specs.Streams.{Streams, AreStreamsOf, BadContainer, bytes_of}
-use Rattle.ppdb_tables.specs.declared.head.PdbHead.{PdbHead}
-use Rattle.ppdb_tables.specs.Head.{BadPdb, entry_in, pdb_rows}
+use Rattle.ppdb_tables.specs.Head.{BadPdb, head_in}
 use Rattle.ppdb_tables.specs.RawTables.{RawTables}
-use Rattle.ppdb_tables.specs.Tables.{BadTables, tables_in}
+use Rattle.ppdb_tables.specs.Tables.{BadTables}
 use Rattle.ppdb_rules.specs.Rows.{BadRow}
 use Rattle.reference_total.specs.Spans.{BadSpan}
-use Rattle.ppdb_values.specs.RawFile.{RawFile}
-
--- what the bytes of #Pdb say
-abbrev pub head_in : List ℕ → PdbHead
-head_in stream = record { id = take 20 stream; entry = entry_in stream % 2 ^ 24; rows = map (pdb_rows stream) (range_with_len 0 64) }
-
--- the file that the streams hold
-abbrev pub raw_in : Streams → RawFile
-raw_in streams =
-    let head = head_in (bytes_of streams Pdb) in
-    record { id = head.id; entry = head.entry; tables = tables_in streams head }
+use Rattle.ppdb_values.specs.RawFile.{RawFile, raw_in}
 
 -- the rules of the rows, F19 to F40
 abbrev pub BadRows : RawTables → Code → Place → Type 0

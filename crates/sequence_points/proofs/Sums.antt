@@ -10,7 +10,7 @@ use Rattle.blob_grammar.proofs.Steps.{Alike}
 use Rattle.sequence_points.specs.declared.point.PointLimits.{PointLimits}
 use Rattle.sequence_points.specs.Records.{Entry, is_point, is_visible, offset_of, start_line_of, start_column_of, int_sum_by, Sums, sums}
 use Rattle.sequence_points.specs.Records.{point_form, point_allows, point_of_fields, form, allows, record_of, may_stop, sequence_points}
-use Rattle.sequence_points.specs.Points.{named_document, last_or, document_after}
+use Rattle.sequence_points.specs.Points.{named_document, last_row, document_after}
 
 -- records were read
 abbrev pub IsStarted : List Entry → Type 0
@@ -48,13 +48,13 @@ pub sums-push : (es : List Entry) (e : Entry) → sums (es ++ e ∷ []) ≡ add_
 sums-push es e = same_five _ _ _ _ _ _ _ _ _ _ (list_any-append is_point es (e ∷ [])) (list_any-append is_visible es (e ∷ []))
     (sum_by-append offset_of es (e ∷ [])) (int_sum_by-push start_line_of es e) (int_sum_by-push start_column_of es e)
 
-pub last_or-append : (other : ℕ) (xs ys : List ℕ) → last_or other (xs ++ ys) ≡ last_or (last_or other xs) ys
-last_or-append other [] ys = refl
-last_or-append other (x ∷ xs) ys = last_or-append x xs ys
+pub last_row-append : (other : ℕ) (xs ys : List ℕ) → last_row other (xs ++ ys) ≡ last_row (last_row other xs) ys
+last_row-append other [] ys = refl
+last_row-append other (x ∷ xs) ys = last_row-append x xs ys
 
-pub document-push : (es : List Entry) (e : Entry) → document_after (es ++ e ∷ []) ≡ last_or (document_after es) (named_document e ++ [])
+pub document-push : (es : List Entry) (e : Entry) → document_after (es ++ e ∷ []) ≡ last_row (document_after es) (named_document e ++ [])
 document-push es e =
-    ap (last_or 0) (flat_map-append named_document es (e ∷ [])) ∙ last_or-append 0 (flat_map named_document es) (flat_map named_document (e ∷ []))
+    ap (last_row 0) (flat_map-append named_document es (e ∷ [])) ∙ last_row-append 0 (flat_map named_document es) (flat_map named_document (e ∷ []))
 
 pub started-push : (es : List Entry) (e : Entry) → IsStarted (es ++ e ∷ [])
 started-push [] e = tt
@@ -65,7 +65,7 @@ same-push a b e s = record {
   started = started-push a e;
   starts = started-push b e;
   sums_are = sums-push a e ∙ ap (λ x. add_sums x e) s.sums_are ∙ sym (sums-push b e);
-  document_is = document-push a e ∙ ap (λ n. last_or n (named_document e ++ [])) s.document_is ∙ sym (document-push b e);
+  document_is = document-push a e ∙ ap (λ n. last_row n (named_document e ++ [])) s.document_is ∙ sym (document-push b e);
 }
 
 pub form_is : (a : List Entry) (vs : List Value) → IsStarted a → form a vs ≡ point_form (sums a) vs

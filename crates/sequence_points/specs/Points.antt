@@ -15,13 +15,14 @@ named_document (header signature row) = row ∷ []
 named_document (in_document row) = row ∷ []
 named_document _ = []
 
-abbrev pub last_or : ℕ → List ℕ → ℕ
-last_or other [] = other
-last_or other (n ∷ ns) = last_or n ns
+-- the last of some rows, another where there are none
+abbrev pub last_row : ℕ → List ℕ → ℕ
+last_row other [] = other
+last_row other (n ∷ ns) = last_row n ns
 
 -- the last row that was named
 abbrev pub document_after : List Entry → ℕ
-document_after entries = last_or 0 (flat_map named_document entries)
+document_after entries = last_row 0 (flat_map named_document entries)
 
 -- The point that a record makes, by the sums and the document of the records before it. Each number is the sum of those stored.
 abbrev pub point_by : Sums → ℕ → Entry → Option Point

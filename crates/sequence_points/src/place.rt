@@ -6,9 +6,11 @@ ghost use Rattle.sequence_points.specs.Places.{entries_of, start_of, place_after
 
 /// The start of the last point that is not hidden.
 #[derive(Clone, Copy)]
-pub(crate) struct Start {
-    pub(crate) line: u32,
-    pub(crate) column: u32,
+pub struct Start {
+    /// Its line.
+    pub line: u32,
+    /// Its column.
+    pub column: u32,
 }
 
 /// The last point.

@@ -17,7 +17,7 @@ pub(crate) struct LineStep {
 }
 
 /// The start of the last point that is not hidden, after a point.
-pub(crate) fn start_after(start: Option<Start>, span: Span) -> Option<Start>
+pub fn start_after(start: Option<Start>, span: Span) -> Option<Start>
     ensures { result ≡ start_after start span }
 {
     match span {
@@ -33,9 +33,9 @@ pub(crate) fn start_after(start: Option<Start>, span: Span) -> Option<Start>
     }
 }
 
-/// The step to the point with this number, where no signed number says it.
-fn large_step(index: u32, start: Option<Start>, span: Span) -> Option<LineStep>
-    ensures { result ≡ option_map (numbered index) (large_step start span) }
+/// The difference of a start line to that of the last point that is not hidden, where no signed number says it.
+pub fn large_step(start: Option<Start>, span: Span) -> Option<i64>
+    ensures { result ≡ large_step start span }
 {
     let Some(last) = start else {
         return None;
@@ -47,8 +47,16 @@ fn large_step(index: u32, start: Option<Start>, span: Span) -> Option<LineStep>
     if -0x1000_0000 <= step && step < 0x1000_0000 {
         None
     } else {
-        Some(LineStep { index, step })
+        Some(step)
     }
+}
+
+/// The step to the point with this number, where no signed number says it.
+fn step_at(index: u32, start: Option<Start>, span: Span) -> Option<LineStep>
+    ensures { result ≡ option_map (numbered index) (large_step start span) }
+{
+    let step = large_step(start, span)?;
+    Some(LineStep { index, step })
 }
 
 /// The first step that no signed number says.
@@ -58,7 +66,7 @@ pub(crate) fn first_large_step(points: &[Point]) -> Option<LineStep>
 {
     let mut start = None;
     for (i, point) in points.iter().enumerate() {
-        if let Some(step) = large_step(i as u32 + 1, start, point.span) {
+        if let Some(step) = step_at(i as u32 + 1, start, point.span) {
             return Some(step);
         }
         start = start_after(start, point.span);

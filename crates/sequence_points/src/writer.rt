@@ -24,7 +24,8 @@ pub enum PointError {
     Memory,
 }
 
-fn unsigned_into(number: u32, into: &mut Bytes) -> Result<(), Memory>
+/// Appends a number in its shortest form.
+pub fn unsigned_into(number: u32, into: &mut Bytes) -> Result<(), Memory>
     requires { number < 536870912 }
     ensures ok { OnOk result (into.new ≡ into.old ++ short_unsigned number) }
     ensures err { OnErr result (into.new ≡ into.old) }
@@ -118,8 +119,9 @@ fn span_into(start: Option<Start>, span: Span, into: &mut Bytes) -> Result<(), M
     start_into(start, start_line, start_column, into)
 }
 
-/// Appends a point, and a document record before it where one is needed.
-fn point_into(
+/// Appends a point, and a document record before it where one is needed. `last` is the point before it, and `start` the start of the
+/// last one before it that is not hidden.
+pub fn point_into(
     last: Option<Point>,
     start: Option<Start>,
     point: Point,

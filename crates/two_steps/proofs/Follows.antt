@@ -31,8 +31,9 @@ use Rattle.ppdb_noted.specs.NamedRows.{Named, names, names_some, in_token, in_bo
 use Rattle.ppdb_noted.specs.SoundParts.{SoundMoved}
 use Rattle.ppdb_noted.proofs.Lists.{Each-append, Each-map, Each-weaker}
 use Rattle.ppdb_joined.proofs.Each.{Each-split, Each-with}
+use Rattle.ppdb_noted.specs.Noted.{with_item}
 use Rattle.ppdb_moved.specs.Moved.{is_empty, moved_body, moved_constant, moved_constant_body, moved_custom, moved_file, moved_import, moved_import_scope}
-use Rattle.ppdb_moved.specs.Moved.{moved_machine, moved_method, moved_modifier, moved_scope, moved_step, scope_image, with_item, with_points}
+use Rattle.ppdb_moved.specs.Moved.{moved_machine, moved_method, moved_modifier, moved_scope, moved_step, scope_image, with_points}
 use Rattle.ppdb_moved.proofs.Fitting.{moved_dropped}
 use Rattle.ppdb_moved.proofs.Lists.{Each-filter_map}
 use Rattle.ppdb_moved.proofs.NamedParts.{NamedParts}

@@ -18,8 +18,9 @@ use Rattle.ppdb_values.specs.declared.import.ImportValue.TheVariants.{AssemblyNa
 use Rattle.ppdb_values.specs.declared.noted.Noted.{Noted}
 use Rattle.ppdb_values.specs.Meaning.{ScopeMeaning, SlotMeaning, PointMeaning, Meaning}
 use Rattle.ppdb_noted.specs.Each.{Each}
-use Rattle.ppdb_moved.specs.Images.{point_image, scope_image, slot_image as slot_meaning_image, meaning_image}
-use Rattle.ppdb_moved.specs.Moved.{moved_token, moved_modifier, moved_constant_body, moved_constant, moved_import, moved_variable, moved_range, with_item}
+use Rattle.ppdb_noted.specs.Noted.{with_item}
+use Rattle.ppdb_moved.specs.Images.{point_image, scope_image, slot_meaning_image, meaning_image}
+use Rattle.ppdb_moved.specs.Moved.{moved_token, moved_modifier, moved_constant_body, moved_constant, moved_import, moved_variable, moved_range}
 use Rattle.map_compose.specs.Composed.{composed}
 use Rattle.map_compose.specs.Composition.{Follows, IsComposition}
 use Rattle.map_compose.proofs.Equations.{composed_composes}

@@ -4,7 +4,7 @@ use Rattle.blob_grammar.specs.Allowed.{is_row}
 use Rattle.type_blobs.specs.declared.types.TypeToken.{TypeToken}
 use Rattle.type_blobs.specs.declared.types.TypeLimits.{TypeLimits}
 
--- The tables by their tags: 0 TypeDef, 1 TypeRef, 2 TypeSpec.
+-- The table of a tag: 0 TypeDef, 1 TypeRef, 2 TypeSpec. No type has the tag 3 (`is_type`), and what stands for it is never read.
 abbrev pub table_of : ℕ → ℕ
 table_of zero = 0x02
 table_of (suc zero) = 0x01

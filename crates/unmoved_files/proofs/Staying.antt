@@ -43,9 +43,10 @@ use Rattle.ppdb_noted.specs.SoundParts.{SoundIn, SoundNotedScope}
 use Rattle.ppdb_noted.proofs.Lists.{Each-weaker, each_of}
 use Rattle.ppdb_joined.proofs.Each.{each_all, pairs_all}
 use Rattle.ppdb_joined.proofs.One.{map_same}
+use Rattle.ppdb_noted.specs.Noted.{with_item}
 use Rattle.ppdb_moved.specs.Moved.{moved_body, moved_constant, moved_constant_body, moved_counts, moved_custom, moved_file, moved_import}
 use Rattle.ppdb_moved.specs.Moved.{moved_import_scope, moved_machine, moved_method, moved_modifier, moved_range, moved_scope, moved_slot, moved_step}
-use Rattle.ppdb_moved.specs.Moved.{moved_token, moved_variable, scope_image, with_item, with_points}
+use Rattle.ppdb_moved.specs.Moved.{moved_token, moved_variable, scope_image, with_points}
 use Rattle.ppdb_moved.proofs.RisingPoints.{itself_moved}
 use Rattle.unmoved_files.specs.NoLines.{no_lines}
 

@@ -11,17 +11,17 @@ use Rattle.metadata_root.specs.declared.kind.StreamKind.TheVariants.{Blobs, Guid
 use Rattle.metadata_root.specs.Streams.{AreStreamsOf, BadContainer, Streams, bytes_of}
 use Rattle.ppdb_tables.specs.Counts.{counts_below}
 use Rattle.ppdb_tables.specs.declared.head.PdbHead.{PdbHead}
-use Rattle.ppdb_tables.specs.Head.{BadPdb, BadPdbFields, IsHeadOf, pdb_count_place, pdb_fields, pdb_rows, referenced}
+use Rattle.ppdb_tables.specs.Head.{BadPdb, BadPdbFields, IsHeadOf, pdb_count_place, pdb_fields, pdb_rows, referenced, head_in}
 use Rattle.ppdb_tables.specs.Head.BadPdbFields.{rows as many_pdb_rows, short as short_pdb}
 use Rattle.ppdb_tables.specs.RawTables.{HasShape, count}
 use Rattle.ppdb_tables.specs.Tables.{BadTableFields, BadTables, count_in, sizes_in, table_count_place, table_fields, table_rows, valid}
 use Rattle.ppdb_tables.specs.Tables.BadTableFields.{rows as many_table_rows, short as short_tables}
 use Rattle.ppdb_tables.proofs.RowCounts.{counts_mono, has_count, sum-fields}
 use Rattle.accepted_files.proofs.Files.{rules_kept}
-use Rattle.ppdb_values.specs.RawFile.{RawFile}
+use Rattle.ppdb_values.specs.RawFile.{RawFile, raw_in}
 use Rattle.ppdb_values.specs.Rules.{KeepsRules}
 use Rattle.ppdb_values.specs.Types.{IsNarrowRow}
-use Rattle.ppdb_verify.specs.Files.{BadContents, BadFile, BadRows, IsRawOf, head_in, raw_in}
+use Rattle.ppdb_verify.specs.Files.{BadContents, BadFile, BadRows, IsRawOf}
 use Rattle.ppdb_verify.proofs.Counted.{methods_fit}
 use Rattle.ppdb_verify.proofs.Fitting.{fields_fit}
 use Rattle.ppdb_verify.proofs.Headed.{entry_within}

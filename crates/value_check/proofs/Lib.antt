@@ -1,6 +1,6 @@
+pub mod Chains
 pub mod Joined
 pub mod Keys
 pub mod Listed
 pub mod Open
 pub mod Pairs
-pub mod Walks

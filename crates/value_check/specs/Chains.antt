@@ -1,28 +1,8 @@
--- Which chains of parents are known to end (Portable PDB v1.0, "ImportScope Table": Parent).
-use Rattle.std.specs.Prelude.{◌≡◌, ◌≢◌, ℕ, suc, ◌<◌, ◌≤◌, List, length, slice_index}
+-- Chains of import scopes (Portable PDB v1.0, "ImportScope Table": Parent).
+use Rattle.std.specs.Prelude.{ℕ, List}
 use Rattle.ppdb_values.specs.declared.import.ImportScopeValue.{ImportScopeValue}
-use Rattle.ppdb_values.specs.Chains.{ancestor_of, parent_at}
+use Rattle.ppdb_tables.specs.Chains.{parent_at}
 
 -- the parent of an import scope, 0 where there is none
 abbrev pub parent_of : List ImportScopeValue → ℕ → ℕ
 parent_of imports = parent_at (λ scope. scope.parent) imports
-
--- the chain of parents ends
-abbrev pub Ends : (ℕ → ℕ) → ℕ → Type 0
-Ends parent row = (steps : ℕ) × (ancestor_of parent row steps ≡ 0)
-
--- each row that is marked has a chain that ends, and its mark is an earlier row than this one
-pub record MarksEnd (parent : ℕ → ℕ) (rows row : ℕ) (marks : List ℕ) : Type 0 where
-  pub one_each : length marks ≡ rows
-  pub earlier : (index : ℕ) → index < length marks → slice_index marks index < row
-  pub ends : (index : ℕ) → index < length marks → slice_index marks index ≢ 0 → Ends parent (suc index)
-
--- how far the walk from a row has come: each row marked with it leads on to the place, and each other marked row's chain ends
-pub record WalksTo (parent : ℕ → ℕ) (rows row place : ℕ) (marks : List ℕ) : Type 0 where
-  pub one_each : length marks ≡ rows
-  pub up_to : (index : ℕ) → index < length marks → slice_index marks index ≤ row
-  pub reached : (steps : ℕ) × (ancestor_of parent row steps ≡ place)
-  pub passed : (index : ℕ) → index < length marks → slice_index marks index ≡ row
-      → (steps : ℕ) × (ancestor_of parent (suc index) (suc steps) ≡ place)
-  pub ends : (index : ℕ) → index < length marks → slice_index marks index ≢ 0 → slice_index marks index ≢ row
-      → Ends parent (suc index)

@@ -1,8 +1,9 @@
 // Whether each chain of import scopes ends.
 ghost use Rattle.std.specs.Prelude.{◌↔◌, ◌≤◌, ◌+◌, ℕ, length, IsTrue, IfOk};
 ghost use Rattle.std.specs.Bool.{OnFalse};
-ghost use Rattle.ppdb_values.specs.Chains.{NeverEnds};
-ghost use Rattle.value_check.specs.Chains.{MarksEnd, parent_of};
+ghost use Rattle.ppdb_tables.specs.Chains.{NeverEnds};
+ghost use Rattle.ppdb_tables.specs.Marks.{MarksEnd};
+ghost use Rattle.value_check.specs.Chains.{parent_of};
 
 use ppdb_base::Memory;
 use ppdb_values::ImportScopeValue;

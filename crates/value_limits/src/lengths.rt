@@ -2,7 +2,7 @@
 ghost use Rattle.std.specs.Prelude.{◌≡◌, ℕ, ◌==◌, ◌&&◌, [], ◌∷◌, length, sum_by};
 ghost use Rattle.sequence_points.specs.Written.{last_of, first_of};
 ghost use Rattle.std.specs.List.{filter_map};
-ghost use Rattle.heap_items.specs.Told.{told};
+ghost use Rattle.ppdb_base.specs.Told.{told};
 ghost use Rattle.ppdb_base.specs.declared.limits.Limit.TheVariants as limits;
 ghost use Rattle.ppdb_canon.specs.Canonical.{method_rows};
 ghost use Rattle.ppdb_canon.specs.Limits.{above, met, owns_none, too_many_rows as many_rows, list_past_end, tables, first_met};

@@ -5,10 +5,11 @@ use Rattle.metadata_root.specs.declared.kind.StreamKind.TheVariants.{Pdb}
 use Rattle.metadata_root.specs.Streams.{Streams, bytes_of}
 use Rattle.ppdb_rules.specs.Rows.{BadRow}
 use Rattle.reference_total.specs.Spans.{BadSpan}
-use Rattle.ppdb_values.specs.RawFile.{RawFile}
+use Rattle.ppdb_values.specs.RawFile.{RawFile, raw_in}
 use Rattle.file_layout.specs.Bytes.{file_bytes}
 use Rattle.file_layout.specs.Laid.{IsReadBack, laid_streams}
-use Rattle.ppdb_verify.specs.Files.{BadFile, IsRawOf, head_in, raw_in}
+use Rattle.ppdb_tables.specs.Head.{head_in}
+use Rattle.ppdb_verify.specs.Files.{BadFile, IsRawOf}
 use Rattle.ppdb_verify.proofs.Families.{both_accepted}
 use Rattle.ppdb_verify.proofs.Parts.{all_accepted}
 use Rattle.valid_files.proofs.ValidFiles.{head_is}

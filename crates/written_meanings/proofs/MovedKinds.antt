@@ -21,10 +21,10 @@ use Rattle.ppdb_values.specs.Meaning.{noted_on, noted_from, without_parent}
 use Rattle.ppdb_values.specs.Parts.{is_at}
 use Rattle.ppdb_noted.specs.declared.file.NotedScope.{NotedScope}
 use Rattle.ppdb_noted.specs.Each.{Each}
-use Rattle.ppdb_noted.specs.Noted.{noted_file}
+use Rattle.ppdb_noted.specs.Noted.{noted_file, with_item}
 use Rattle.ppdb_noted.proofs.Lists.{Each-filter, Each-map}
 use Rattle.ppdb_moved.specs.Moved.{is_empty, moved_constant, moved_custom, moved_file, moved_import_scope, moved_range, moved_scope, moved_variable}
-use Rattle.ppdb_moved.specs.Moved.{scope_image, with_item}
+use Rattle.ppdb_moved.specs.Moved.{scope_image}
 use Rattle.ppdb_moved.specs.OnRows.{noted_by, noted_scopes_by}
 use Rattle.ppdb_moved.proofs.Customs.{image_of}
 use Rattle.ppdb_moved.proofs.Lists.{Each-filter_map}

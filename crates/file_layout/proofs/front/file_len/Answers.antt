@@ -6,7 +6,8 @@ use Rattle.row_layout.specs.declared.column.Sizes.{Sizes}
 use Rattle.file_layout.specs.declared.rows.Rows.{Rows}
 use Rattle.file_layout.specs.declared.rows.HeapLens.{HeapLens}
 use Rattle.file_layout.specs.Bytes.{file_bytes, front_bytes, heap_bit, heap_bits, rows_of, heaps_of, pdb_stream, padding, with_rows}
-use Rattle.file_layout.specs.Told.{told, told_lens}
+use Rattle.ppdb_base.specs.Told.{told}
+use Rattle.file_layout.specs.Told.{told_lens}
 use Rattle.file_layout.proofs.Lengths.{length-front, length-tables, rows_sum, add-told}
 use Rattle.file_layout.proofs.front.file_len.Goals as goal
 

@@ -1,6 +1,6 @@
 use Rattle.std.proofs.Common.{◌≡◌, ℕ, ◌≤◌, List, ◌++◌, length, refl, ap, ◌∙◌, arith, append_assoc}
 use Rattle.file_layout.specs.Bytes.{front_bytes, pdb_stream, tables_stream, root_front, headers, stream_headers}
-use Rattle.file_layout.specs.Told.{told}
+use Rattle.ppdb_base.specs.Told.{told}
 use Rattle.file_layout.proofs.Lengths.{length-front}
 use Rattle.file_layout.proofs.front.put_front.Goals as goal
 

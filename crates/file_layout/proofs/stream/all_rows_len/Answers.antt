@@ -1,5 +1,5 @@
 use Rattle.std.proofs.Common.{sym, ap, ◌∙◌}
-use Rattle.file_layout.specs.Told.{told}
+use Rattle.ppdb_base.specs.Told.{told}
 use Rattle.file_layout.proofs.Lengths.{length-all, add-told, rows-told}
 use Rattle.file_layout.proofs.stream.all_rows_len.Goals as goal
 

@@ -1,7 +1,7 @@
 use Rattle.std.proofs.Common.{◌≡◌, ℕ, ◌+◌, ◌*◌, ◌≤◌, length, min, sym, ap, ◌∙◌, arith}
 use Rattle.std.specs.List.{range_with_len}
 use Rattle.file_layout.specs.Bytes.{with_rows}
-use Rattle.file_layout.specs.Told.{told}
+use Rattle.ppdb_base.specs.Told.{told}
 use Rattle.file_layout.proofs.Lengths.{length-all, length-tables, tables_sum, rows_sum, add-told, pad-told}
 use Rattle.file_layout.proofs.stream.tables_len.Goals as goal
 

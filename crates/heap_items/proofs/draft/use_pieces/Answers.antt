@@ -3,7 +3,7 @@ use Rattle.std.proofs.lemmas.List.{take_all, length-map}
 use Rattle.heap_items.specs.declared.draft.BlobPiece.{BlobPiece}
 use Rattle.heap_items.specs.declared.draft.BlobPiece.TheVariants.{Octets}
 use Rattle.heap_items.specs.Kinds.{spelled}
-use Rattle.heap_items.specs.Told.{told}
+use Rattle.ppdb_base.specs.Told.{told}
 use Rattle.heap_items.specs.Items.{with_use, index_of, as_blob}
 use Rattle.heap_items.specs.Uses.{blob_bytes}
 use Rattle.heap_items.specs.Drafts.{IsDraft, piece_of}

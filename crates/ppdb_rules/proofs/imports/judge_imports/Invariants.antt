@@ -1,6 +1,6 @@
 use Rattle.ppdb_tables.specs.RawOf.{raw_of}
 use Rattle.ppdb_rules.specs.Judged.{ToRow}
-use Rattle.ppdb_rules.specs.Marks.{MarksEnd}
+use Rattle.ppdb_rules.specs.Chains.{MarksEnd}
 use Rattle.ppdb_rules.proofs.imports.judge_imports.Given as goal
 
 abbrev pub invariant-loop-row : goal.invariant-loop-row

@@ -1,7 +1,7 @@
 use Rattle.std.proofs.Common.{◌==◌}
 use Rattle.std.specs.List.{count_by}
 use Rattle.ppdb_tables.specs.RawOf.{raw_of}
-use Rattle.ppdb_rules.specs.Marks.{WalksTo}
+use Rattle.ppdb_rules.specs.Chains.{WalksTo}
 use Rattle.ppdb_rules.proofs.imports.never_ends.Given as goal
 
 abbrev pub invariant-loop-at : goal.invariant-loop-at

@@ -5,7 +5,8 @@ use Rattle.metadata_root.specs.declared.kind.StreamKind.TheVariants.{Pdb}
 use Rattle.metadata_root.specs.Streams.{bytes_of}
 use Rattle.ppdb_tables.specs.RawTables.{RawTables, count}
 use Rattle.ppdb_tables.specs.RawOf.{raw_of}
-use Rattle.ppdb_verify.specs.Files.{BadFile, BadRows, raw_in}
+use Rattle.ppdb_values.specs.RawFile.{raw_in}
+use Rattle.ppdb_verify.specs.Files.{BadFile, BadRows}
 use Rattle.ppdb_verify.proofs.Counted.{methods_fit}
 use Rattle.ppdb_verify.proofs.Families.{fault_is}
 use Rattle.ppdb_verify.proofs.Headed.{entry_within, rows_are}

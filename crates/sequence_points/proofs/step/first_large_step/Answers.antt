@@ -10,14 +10,14 @@ loop-i-init c = record { start = refl; left = refl }
 pub loop-i-preserved : goal.loop-i-preserved
 loop-i-preserved c = record {
   start = c.start_after-start.ensures ∙ start_next c.args.points.now c.loop-i.i _ c.loop-i.start c.loop-i-test.true c.loop-i.invariant.start;
-  left = c.loop-i.invariant.left ∙ step_none c.args.points.now c.loop-i.i _ c.loop-i.start c.loop-i-test.true c.loop-i.invariant.start (sym c.large_step.ensures
+  left = c.loop-i.invariant.left ∙ step_none c.args.points.now c.loop-i.i _ c.loop-i.start c.loop-i-test.true c.loop-i.invariant.start (sym c.step_at.ensures
       ∙ c.in_default.is);
 }
 
 pub returns-in-Some : goal.returns-in-Some
 returns-in-Some c =
     sym (ap first_of c.loop-i.invariant.left
-    ∙ step_some c.args.points.now c.loop-i.i _ c.loop-i.start c.in-Some.step c.loop-i-test.true c.loop-i.invariant.start (sym c.large_step.ensures
+    ∙ step_some c.args.points.now c.loop-i.i _ c.loop-i.start c.in-Some.step c.loop-i-test.true c.loop-i.invariant.start (sym c.step_at.ensures
     ∙ c.in-Some.is))
 
 pub returns : goal.returns

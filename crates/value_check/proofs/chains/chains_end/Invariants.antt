@@ -1,6 +1,7 @@
 use Rattle.std.proofs.Common.{ℕ, ◌+◌, ◌<◌, length}
-use Rattle.ppdb_values.specs.Chains.{NeverEnds}
-use Rattle.value_check.specs.Chains.{MarksEnd, parent_of}
+use Rattle.ppdb_tables.specs.Chains.{NeverEnds}
+use Rattle.ppdb_tables.specs.Marks.{MarksEnd}
+use Rattle.value_check.specs.Chains.{parent_of}
 use Rattle.value_check.proofs.chains.chains_end.Given as goal
 
 abbrev pub invariant-loop-i : goal.invariant-loop-i

@@ -1,5 +1,7 @@
 use Rattle.std.proofs.Common.{◌<◌, ◌-◌, length, get_or, ap, ◌∙◌, arith, refl}
-use Rattle.value_check.proofs.Walks.{row_ends, marks_end, walk_cycles, joins_end, walk_on, ends_decides, parent_here, past_end}
+use Rattle.ppdb_tables.proofs.Walks.{row_ends, marks_end, walk_cycles, joins_end, walk_on, ends_decides, past_end}
+use Rattle.value_check.proofs.Chains.{parent_here}
+use Rattle.ppdb_values.specs.declared.import.ImportScopeValue.{ImportScopeValue}
 use Rattle.value_check.specs.Chains.{parent_of}
 use Rattle.value_check.proofs.chains.never_ends.Goals as goal
 
@@ -39,12 +41,12 @@ pub returns-else-at-imports-clause-value : goal.returns-else-at-imports-clause-v
 returns-else-at-imports-clause-value c =
     ends_decides (parent_of c.args.imports.now) refl c.args.row
     (row_ends (parent_of c.args.imports.now) refl (length c.args.imports.now) c.args.row c.loop-at.at c.loop-at.marks c.loop-at.invariant
-    (past_end c.args.imports.now c.loop-at.at c.if-at-imports.false))
+    (past_end (λ (scope : ImportScopeValue). scope.parent) c.args.imports.now c.loop-at.at c.if-at-imports.false))
 
 pub returns-else-at-imports-clause-marks : goal.returns-else-at-imports-clause-marks
 returns-else-at-imports-clause-marks c =
     marks_end (parent_of c.args.imports.now) refl (length c.args.imports.now) c.args.row c.loop-at.at c.loop-at.marks c.loop-at.invariant
-    (past_end c.args.imports.now c.loop-at.at c.if-at-imports.false)
+    (past_end (λ (scope : ImportScopeValue). scope.parent) c.args.imports.now c.loop-at.at c.if-at-imports.false)
 
 pub returns-after-loop-at-clause-marks : goal.returns-after-loop-at-clause-marks
 returns-after-loop-at-clause-marks c =

@@ -1,6 +1,7 @@
 use Rattle.std.proofs.Common.{◌==◌, length}
 use Rattle.std.specs.List.{count_by}
-use Rattle.value_check.specs.Chains.{WalksTo, parent_of}
+use Rattle.ppdb_tables.specs.Marks.{WalksTo}
+use Rattle.value_check.specs.Chains.{parent_of}
 use Rattle.value_check.proofs.chains.never_ends.Given as goal
 
 abbrev pub invariant-loop-at : goal.invariant-loop-at

@@ -1,5 +1,5 @@
 use Rattle.std.proofs.Common.{◌≡◌, take, length, sum_by}
-use Rattle.heap_items.specs.Told.{told}
+use Rattle.ppdb_base.specs.Told.{told}
 use Rattle.value_limits.proofs.lengths.count_constants.Given as goal
 
 abbrev pub invariant-loop-scope : goal.invariant-loop-scope

@@ -5,7 +5,7 @@ use Rattle.std.specs.List.{filter_map}
 use Rattle.sequence_points.specs.Written.{first_of, last_of}
 use Rattle.ppdb_base.specs.declared.limits.Limit.{Limit}
 use Rattle.ppdb_base.specs.declared.limits.Limit.TheVariants.{ListPastEnd}
-use Rattle.heap_items.specs.Told.{told}
+use Rattle.ppdb_base.specs.Told.{told}
 use Rattle.ppdb_values.specs.declared.scope.ScopeValue.{ScopeValue}
 use Rattle.ppdb_canon.specs.Limits.{too_many_rows, list_past_end, met, owns_none, tables}
 use Rattle.value_limits.proofs.Firsts.{first_met_three}

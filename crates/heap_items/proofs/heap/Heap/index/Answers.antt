@@ -1,6 +1,6 @@
 use Rattle.std.proofs.Common.{◌≡◌, sym, ap, subst, ◌∙◌, arith, true≢false}
 use Rattle.heap_items.specs.Kinds.{spelled}
-use Rattle.heap_items.specs.Told.{told}
+use Rattle.ppdb_base.specs.Told.{told}
 use Rattle.heap_items.specs.Items.{index_of, IsIn}
 use Rattle.heap_items.specs.Interned.{Contents}
 use Rattle.heap_items.proofs.Interned.{found, absent}

@@ -3,7 +3,7 @@ use Rattle.std.proofs.lemmas.List.{map_push}
 use Rattle.std.specs.List.{list_any}
 use Rattle.std.specs.Map.{lookup}
 use Rattle.heap_items.specs.Kinds.{spelled}
-use Rattle.heap_items.specs.Told.{told}
+use Rattle.ppdb_base.specs.Told.{told}
 use Rattle.heap_items.specs.Interned.{length_of, Contents, items_of, AreIndexes}
 use Rattle.heap_items.specs.Items.{with_use, index_of}
 use Rattle.heap_items.proofs.Interned.{found, absent, same_contents, more_contents, index_there, index_new, inserted, indexes_push, length_push_item}

@@ -3,12 +3,12 @@ use Rattle.std.proofs.Common.{◌≡◌, ℕ, ◌+◌, ◌-◌, ◌<◌, ◌≤�
 use Rattle.std.proofs.Common.{true, false, IsTrue, ◌↔◌, replicate}
 use Rattle.std.proofs.lemmas.Bool.{cases_lt, cases_eq}
 use Rattle.std.proofs.lemmas.List.{get_or-set_same, get_or-set_other, length-set, get_or-replicate, length-replicate}
-use Rattle.std.proofs.lemmas.Option.{slice_get_past, slice_get-get_or}
+use Rattle.std.proofs.lemmas.Option.{slice_get_past}
 use Rattle.std.proofs.Math.ListN.{set}
 use Rattle.std.specs.Prelude.{Some, slice_get}
-use Rattle.ppdb_values.specs.declared.import.ImportScopeValue.{ImportScopeValue}
-use Rattle.ppdb_values.specs.Chains.{NeverEnds, ancestor_of}
-use Rattle.value_check.specs.Chains.{Ends, MarksEnd, WalksTo, parent_of}
+use Rattle.ppdb_tables.specs.RawTables.{row_at}
+use Rattle.ppdb_tables.specs.Chains.{NeverEnds, ancestor_of, parent_at}
+use Rattle.ppdb_tables.specs.Marks.{Ends, MarksEnd, WalksTo}
 
 module _ (parent : ℕ → ℕ) (top : parent 0 ≡ 0) where
   -- a walk of two parts
@@ -119,26 +119,20 @@ module _ (parent : ℕ → ℕ) (top : parent 0 ≡ 0) where
         (rw is (get_or-replicate {A = ℕ} rows index 0 0 (omega (arith, within, ap length is, length-replicate {A = ℕ} rows 0)))));
   }
 
-module _ (imports : List ImportScopeValue) where
+module _ {X : Type 0} (parent : X → ℕ) (rows : List X) where
   -- the parent of a row that is there
-  pub parent_here : (place : ℕ) (scope : ImportScopeValue) → 0 < place → place ≤ length imports → scope ≡ get_or imports (place - 1) scope
-      → parent_of imports place ≡ scope.parent
-  parent_here zero scope some within here = absurd (omega (arith, some))
-  parent_here (suc i) scope some within here =
-      let e : suc i - 1 ≡ i = omega arith in
-      let there : scope ≡ get_or imports i scope = rw e at here in
-      let found : slice_get imports i ≡ Some (get_or imports i scope) = slice_get-get_or imports i scope (omega (arith, within)) in
-      rw found (ap (λ s. s.parent) (sym there))
+  pub parent_is : (row : ℕ) (x : X) → row_at rows row ≡ Some x → parent_at parent rows row ≡ parent x
+  parent_is row x here = rw here refl
 
   -- a row that is not there has no parent
-  pub past_end : (n : ℕ) → length imports < n → Ends (parent_of imports) n
+  pub past_end : (row : ℕ) → length rows < row → Ends (parent_at parent rows) row
   past_end zero lt = absurd (omega (arith, lt))
-  past_end (suc k) lt = (1, let e : slice_get imports k ≡ None = slice_get_past imports k (omega arith) in rw e refl)
+  past_end (suc k) lt = (1, let e : slice_get rows k ≡ None = slice_get_past rows k (omega arith) in rw e refl)
 
   -- where the chains from all rows end, each chain does
-  pub all_end : ((k : ℕ) → k < length imports → NeverEnds (parent_of imports) (k + 1) → ⊥) → (row : ℕ) → NeverEnds (parent_of imports) row → ⊥
+  pub all_end : ((k : ℕ) → k < length rows → NeverEnds (parent_at parent rows) (k + 1) → ⊥) → (row : ℕ) → NeverEnds (parent_at parent rows) row → ⊥
   all_end ended zero never = never 0 refl
-  all_end ended (suc k) never = elim (cases_lt k (length imports)) [
+  all_end ended (suc k) never = elim (cases_lt k (length rows)) [
     | inl lt ↦ let e : k + 1 ≡ suc k = omega arith in ended k lt (rw e never)
     | inr ge ↦ let past = past_end (suc k) (omega arith) in never past.0 past.1
   ]
