@@ -24,8 +24,3 @@ pub use marks::Marks;
 pub use rows::{RowCursor, rows_into};
 pub use slots::{Range, Slot, SlotCursor, slots_into};
 pub use stepping::{AsyncCursor, AsyncStep, async_into};
-
-#[cfg(test)]
-mod records;
-#[cfg(test)]
-mod tests;

@@ -16,6 +16,3 @@ pub use front::{file_len, front_len, put_front};
 pub use laws::worked_files_are_laid_out;
 pub use rows::{HeapLens, Rows};
 pub use stream::all_rows_fit;
-
-#[cfg(test)]
-mod tests;

@@ -16,6 +16,3 @@ pub use laws::{
     written_items_are_read,
 };
 pub use number::put_shortest;
-
-#[cfg(test)]
-mod tests;

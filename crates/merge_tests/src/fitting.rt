@@ -2,8 +2,8 @@
 ghost use Rattle.std.specs.Prelude.{◌≡◌, ◌<◌};
 
 use crate::files::{HALVES, HANDLED, RESUMED, UNKNOWN};
-use crate::maps::map_of;
 use custom_info::Marks;
+use map_tests::map_of;
 use ppdb_base::{List, MergeError, Place, Steps};
 use ppdb_fits::judge;
 use ppdb_maps::MapText;

@@ -6,6 +6,4 @@ mod files;
 #[cfg(test)]
 mod fitting;
 #[cfg(test)]
-mod maps;
-#[cfg(test)]
 mod merging;

@@ -2,8 +2,8 @@
 ghost use Rattle.std.specs.Prelude.{◌≡◌, ◌<◌, ◌+◌, length, IfOk, OnOk};
 
 use crate::files::{HALVES, MORE_RECORDS, OTHER_HALF, RECORDS};
-use crate::maps::map_of;
 use custom_info::{Marks, SOURCE_LINK, TYPE_DOCUMENTS};
+use map_tests::map_of;
 use ppdb_base::{MergeError, Steps};
 use ppdb_maps::MapText;
 use ppdb_merge::Merger;

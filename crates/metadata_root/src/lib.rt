@@ -10,6 +10,3 @@ mod stream;
 pub use fields::{fault_at, u8_at, u32_at, u64_at};
 pub use kind::StreamKind;
 pub use root::{Root, read_root};
-
-#[cfg(test)]
-mod tests;

@@ -15,6 +15,3 @@ pub use join::{NameError, name_into};
 pub use laws::{blob_law, name_indexes_are, names_are_read_once, written_names_are_read};
 pub use name::{NameCursor, NameIndexes};
 pub use strings::Strings;
-
-#[cfg(test)]
-mod tests;

@@ -26,6 +26,3 @@ pub use rows::{
     VariableRow,
 };
 pub use tables::Tables;
-
-#[cfg(test)]
-mod tests;

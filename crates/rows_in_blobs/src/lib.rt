@@ -14,6 +14,3 @@ pub use import::ImportRows;
 pub use row::PlacedRow;
 pub use stepping::ResumeMethods;
 pub use walk::RowWalk;
-
-#[cfg(test)]
-mod tests;

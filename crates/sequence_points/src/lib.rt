@@ -10,8 +10,6 @@ mod point;
 mod ranges;
 mod records;
 mod step;
-#[cfg(test)]
-mod tests;
 mod writer;
 
 pub use cursor::{PointCursor, blob_fault};

@@ -24,6 +24,3 @@ pub use laws::{
     written_imports_are_read,
 };
 pub use types::{Modifier, TypeLimits, TypeToken};
-
-#[cfg(test)]
-mod tests;

@@ -1,15 +1,36 @@
+// The streams `#Pdb` and `#~` of the small file.
 ghost use Rattle.std.specs.Prelude.{◌≡◌, ◌<◌};
 
-use crate::{
-    DocumentRow, MethodDebugRow, Parent, ScopeRow, Tables, VariableRow, coded_parent, parent_of,
-    read_head, read_tables,
-};
 use metadata_root::read_root;
-use ppdb_base::{Code, Fault, Steps};
+use ppdb_base::{Code, Fault, Place, Steps};
+use ppdb_tables::{
+    DocumentRow, MethodDebugRow, Parent, PdbHead, ScopeRow, Tables, VariableRow, coded_parent,
+    parent_of, read_head, read_tables,
+};
 use std::marker::Brand;
 use std::sync::ledger::{Blank, Ledger};
 use worked_files::SMALL;
 
+/// The small file with some bytes changed.
+fn changed(changes: &[(usize, u8)]) -> [u8; 280] {
+    let mut bytes = SMALL;
+    for &(at, byte) in changes {
+        if at < 280 {
+            bytes[at] = byte;
+        }
+    }
+    bytes
+}
+
+/// What `#Pdb` says, where the root has no fault.
+fn head_of(bytes: &[u8; 280]) -> Option<Result<PdbHead, Fault>> {
+    let Ok(root) = read_root(bytes) else {
+        return None;
+    };
+    Some(read_head(&root))
+}
+
+/// What `#~` says, where nothing before it has a fault.
 fn tables_of(bytes: &[u8; 280]) -> Option<Result<Tables<'_>, Fault>> {
     let Ok(root) = read_root(bytes) else {
         return None;
@@ -20,34 +41,70 @@ fn tables_of(bytes: &[u8; 280]) -> Option<Result<Tables<'_>, Fault>> {
     Some(read_tables(&root, &head))
 }
 
-/// The code and the byte of the fault of the small file with some bytes changed.
-fn fault_with(changes: &[(usize, u8)]) -> Option<(Code, u32)> {
-    let mut bytes = SMALL;
-    for change in changes {
-        if change.0 < 280 {
-            bytes[change.0] = change.1;
-        }
-    }
-    match tables_of(&bytes) {
+/// The fault of `#Pdb` in the small file with some bytes changed.
+fn head_fault(changes: &[(usize, u8)]) -> Option<Fault> {
+    head_of(&changed(changes))?.err()
+}
+
+/// The code and the byte of the fault of `#~` in the small file with some bytes changed.
+fn tables_fault(changes: &[(usize, u8)]) -> Option<(Code, u32)> {
+    match tables_of(&changed(changes)) {
         Some(Err(fault)) => Some((fault.code, fault.place.byte)),
         _ => None,
     }
 }
 
 #[test]
-fn names_the_first_fault(rt: HostRuntime) {
-    assert_eq!(rt; fault_with(&[(52, 0x22)]), Some((Code::TablesShort, 32)));
-    assert_eq!(rt; fault_with(&[(154, 0x08)]), Some((Code::HeapBits, 6)));
-    assert_eq!(rt; fault_with(&[(156, 0x01)]), Some((Code::TablesForeign, 8)));
-    assert_eq!(rt; fault_with(&[(175, 0x01)]), Some((Code::TableRows, 24)));
-    assert_eq!(rt; fault_with(&[(176, 0x02)]), Some((Code::MethodRows, 28)));
-    assert_eq!(rt;
-        fault_with(&[(176, 0x02), (183, 0x01)]),
-        Some((Code::MethodRows, 28))
-    );
-    assert_eq!(rt; fault_with(&[(184, 0x03)]), Some((Code::TablesBounds, 96)));
-    assert_eq!(rt; fault_with(&[(162, 0xff)]), Some((Code::TablesBounds, 84)));
-    assert_eq!(rt; fault_with(&[]), None);
+fn reads_the_head(rt: HostRuntime) {
+    let head = head_of(&changed(&[(131, 9)]));
+    assert!(rt; matches!(&head, Some(Ok(_))));
+    if let Some(Ok(head)) = head {
+        assert_eq!(rt; head.id[19], 9);
+        assert_eq!(rt; head.entry, 1);
+        assert_eq!(rt; head.rows[6], 1);
+        assert_eq!(rt; head.rows[7], 0);
+    }
+}
+
+// `#Pdb` begins at 112, and its length stands at 36.
+#[test]
+fn names_the_first_fault_of_the_head(rt: HostRuntime) {
+    let rows = [
+        ((36, 35), Code::PdbShort, 32),
+        ((36, 3), Code::PdbShort, 0),
+        ((141, 0x20), Code::PdbTables, 24),
+        ((147, 1), Code::PdbRows, 32),
+        ((132, 2), Code::EntryPoint, 20),
+        ((132, 0), Code::EntryPoint, 20),
+    ];
+    for (change, code, byte) in rows {
+        let place = Place {
+            part: 3,
+            table: 0,
+            row: 0,
+            column: 0,
+            byte,
+        };
+        assert_eq!(rt; head_fault(&[change]), Some(Fault { code, place }));
+    }
+}
+
+#[test]
+fn names_the_first_fault_of_the_tables(rt: HostRuntime) {
+    let rows: [(&[(usize, u8)], Code, u32); 8] = [
+        (&[(52, 0x22)], Code::TablesShort, 32),
+        (&[(154, 0x08)], Code::HeapBits, 6),
+        (&[(156, 0x01)], Code::TablesForeign, 8),
+        (&[(175, 0x01)], Code::TableRows, 24),
+        (&[(176, 0x02)], Code::MethodRows, 28),
+        (&[(176, 0x02), (183, 0x01)], Code::MethodRows, 28),
+        (&[(184, 0x03)], Code::TablesBounds, 96),
+        (&[(162, 0xff)], Code::TablesBounds, 84),
+    ];
+    for (changes, code, byte) in rows {
+        assert_eq!(rt; tables_fault(changes), Some((code, byte)));
+    }
+    assert_eq!(rt; tables_fault(&[]), None);
 }
 
 /// A row of each table, and how many rows were read.

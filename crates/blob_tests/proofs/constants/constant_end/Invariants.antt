@@ -1,5 +1,5 @@
 use Rattle.std.proofs.Common.{length}
-use Rattle.type_blobs.proofs.tests.constant_end.Given as goal
+use Rattle.blob_tests.proofs.constants.constant_end.Given as goal
 
 abbrev pub decreases-reads : goal.decreases-reads
 decreases-reads l = length l.cursor.modifiers

@@ -1,5 +1,9 @@
 // Records of files that the C# compiler wrote, with their values, and the kinds.
-use crate::*;
+use custom_info::{
+    ASYNC_STEPPING, COMPILATION_OPTIONS, DEFAULT_NAMESPACE, DYNAMIC_LOCALS, EMBEDDED_SOURCE,
+    HOISTED_SCOPES, Kind, LAMBDA_MAP, METADATA_REFERENCES, SLOT_MAP, SOURCE_LINK, STATE_MAP,
+    TUPLE_NAMES, TYPE_DOCUMENTS,
+};
 
 /// Async method stepping information: its bytes, its handler, and its steps as pause, resume and method.
 pub const ASYNC_RECORDS: [(&[u8], Option<u32>, &[(u32, u32, u32)]); 20] = [

@@ -1,7 +1,11 @@
+// Custom debug information: its kinds, and the records that are read, both ways.
 ghost use Rattle.std.specs.Prelude.{◌≡◌};
 
 use crate::records::{ASYNC_RECORDS, HOISTED_RECORDS, KINDS};
-use crate::*;
+use custom_info::{
+    ASYNC_STEPPING, AsyncCursor, AsyncStep, Kind, Marks, Range, RowCursor, Slot, SlotCursor,
+    async_into, kind_of, rows_into, slots_into,
+};
 use ppdb_base::{BlobFault, Bytes, Code};
 use std::process::Abort;
 use uuid::Uuid;

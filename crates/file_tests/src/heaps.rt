@@ -1,7 +1,8 @@
+// Heaps that are read, and the names of documents.
 ghost use Rattle.std.specs.Prelude.{◌<◌, ◌^◌, length};
 
-use crate::{Blobs, Guids, NameError, Strings, name_into};
 use ppdb_base::{BlobFault, Bytes, Code, List};
+use ppdb_heaps::{Blobs, Guids, NameError, Strings, name_into};
 use std::alloc::Global;
 use std::process::Abort;
 

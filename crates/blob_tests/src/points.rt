@@ -1,9 +1,10 @@
+// The sequence points of methods, read and written.
 ghost use Rattle.std.specs.Prelude.{◌≡◌};
 
-use crate::{
+use ppdb_base::{BlobFault, Bytes, Code};
+use sequence_points::{
     Point, PointCursor, PointError, PointLimits, Span, blob_fault, points_into, single_document,
 };
-use ppdb_base::{BlobFault, Bytes, Code};
 use std::process::Abort;
 
 /// A point that is not hidden, its start and its end each with line and column.

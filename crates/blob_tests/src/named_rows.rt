@@ -1,6 +1,6 @@
 // The rows that written-out blobs name.
-use crate::{ConstantTypes, ImportRows, PlacedRow, ResumeMethods, RowWalk};
 use ppdb_heaps::Blobs;
+use rows_in_blobs::{ConstantTypes, ImportRows, PlacedRow, ResumeMethods, RowWalk};
 use type_blobs::TypeLimits;
 
 /// The row counts of a file.

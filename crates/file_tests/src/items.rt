@@ -1,4 +1,5 @@
-use crate::{BlobPiece, GuidHeap, Heap, HeapKind, use_pieces};
+// Heaps that are written.
+use heap_items::{BlobPiece, GuidHeap, Heap, HeapKind, use_pieces};
 use ppdb_base::{Bytes, Memory};
 use std::alloc::Global;
 

@@ -1,4 +1,5 @@
-use crate::{HeapLens, Rows, all_rows_fit, file_len, put_front};
+// Files that are laid out.
+use file_layout::{HeapLens, Rows, all_rows_fit, file_len, put_front};
 use ppdb_base::{Bytes, List, Memory};
 use ppdb_tables::{DocumentRow, MachineRow, MethodDebugRow, ScopeRow, VariableRow};
 use std::alloc::Global;
