@@ -69,7 +69,8 @@ records_kept m method rise live x y kept at p (l ∷ ls) fits =
     ap (λ h. h ++ flat_map (λ hoisted. filter_map (slot_at y hoisted.0) (enumerate_from 0 hoisted.1))
     (enumerate_from (p + 1) (map (map (moved_slot (offsets_in m method))) ls)))
     (record_kept m method rise live x y kept at p 0 l fits.0)
-    ∙ ap (λ t. map (slot_meaning_image m method) (filter_map (slot_at x p) (enumerate_from 0 l)) ++ t) (records_kept m method rise live x y kept at (p + 1) ls fits.1)
+    ∙ ap (λ t. map (slot_meaning_image m method) (filter_map (slot_at x p) (enumerate_from 0 l)) ++ t)
+    (records_kept m method rise live x y kept at (p + 1) ls fits.1)
     ∙ sym (map_append (slot_meaning_image m method) (filter_map (slot_at x p) (enumerate_from 0 l))
     (flat_map (λ hoisted. filter_map (slot_at x hoisted.0) (enumerate_from 0 hoisted.1)) (enumerate_from (p + 1) ls)))
 
