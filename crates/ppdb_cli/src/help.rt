@@ -1,7 +1,7 @@
 // What the program says of itself: its help, its version, and where the help is when words are no command.
 
 /// The version of the program, of its manual page and of its packages.
-const VERSION: &str = "ppdb 0.1.0\n";
+const VERSION: &str = "ppdb 1.0.0\n";
 
 const HELP: &str = "ppdb: Portable PDB debug files
 
