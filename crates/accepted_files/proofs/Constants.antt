@@ -11,7 +11,6 @@ use Rattle.ppdb_tables.specs.declared.rows.ConstantRow.{ConstantRow}
 use Rattle.ppdb_tables.specs.RawTables.{RawTables, HasShape, row_at}
 use Rattle.type_blobs.specs.declared.types.TypeLimits.{TypeLimits}
 use Rattle.type_blobs.specs.Constants.{constants, body_of}
-use Rattle.ppdb_rules.specs.Blobs.{in_blob}
 use Rattle.ppdb_rules.specs.Rows.{BadRow, ConstantFault}
 use Rattle.ppdb_rules.specs.Rows.BadRow.{in_constant}
 use Rattle.ppdb_rules.specs.Rows.ConstantFault.{no_text, alone, same_text, no_signature, bad_signature}
@@ -35,7 +34,7 @@ body_there limits content is =
 module _ (raw : RawTables) (accepted : IsAccepted (BadRow raw)) where
   module _ (row : ℕ) (x : ConstantRow) (here : row_at raw.constants row ≡ Some x) where
     no_fault : {column byte : ℕ} {code : Code} → ConstantFault raw row x column byte code → ⊥
-    no_fault {column} {byte} {code} fault = accepted code (in_blob 0x34 row column byte) (in_constant here fault)
+    no_fault fault = accepted _ _ (in_constant here fault)
 
     name_there : HasText raw x.name
     name_there = text_there raw x.name (λ none. no_fault (no_text none))

@@ -18,7 +18,7 @@ use Rattle.ppdb_tables.specs.declared.parent.Parent.{Parent}
 use Rattle.ppdb_tables.specs.declared.rows.CustomRow.{CustomRow}
 use Rattle.ppdb_tables.specs.RawTables.{RawTables, count, row_at}
 use Rattle.row_layout.specs.Columns.{parent_tables}
-use Rattle.ppdb_rules.specs.Blobs.{NamesNoGuid, in_blob}
+use Rattle.ppdb_rules.specs.Blobs.{NamesNoGuid}
 use Rattle.ppdb_rules.specs.Customs.{IsOfKind, ReadsValue, parent_table}
 use Rattle.ppdb_rules.specs.Rows.{BadRow, CustomFault}
 use Rattle.ppdb_rules.specs.Rows.BadRow.{in_custom}
@@ -62,7 +62,7 @@ no_guid guids number none = elim (cases_eq number 0) [
 module _ (raw : RawTables) (accepted : IsAccepted (BadRow raw)) where
   module _ (row : ℕ) (x : CustomRow) (here : row_at raw.customs row ≡ Some x) where
     no_fault : {column byte : ℕ} {code : Code} → CustomFault raw row x column byte code → ⊥
-    no_fault {column} {byte} {code} fault = accepted code (in_blob 0x37 row column byte) (in_custom here fault)
+    no_fault fault = accepted _ _ (in_custom here fault)
 
     parent : IsParent (slice_get parent_tables (x.parent % 32)) (x.parent / 32)
     parent = parent_is (slice_get parent_tables (x.parent % 32)) (x.parent / 32) (tag_there (x.parent % 32) (λ high. no_fault (no_tag high)))

@@ -6,7 +6,6 @@ use Rattle.ppdb_base.specs.First.{IsAccepted}
 use Rattle.ppdb_heaps.specs.Names.{names, name_of}
 use Rattle.ppdb_tables.specs.declared.rows.DocumentRow.{DocumentRow}
 use Rattle.ppdb_tables.specs.RawTables.{RawTables, row_at}
-use Rattle.ppdb_rules.specs.Blobs.{in_blob}
 use Rattle.ppdb_rules.specs.Names.{SpellsName}
 use Rattle.ppdb_rules.specs.Rows.{BadRow, DocumentFault}
 use Rattle.ppdb_rules.specs.Rows.BadRow.{in_document}
@@ -19,7 +18,7 @@ use Rattle.accepted_files.proofs.Items.{blob_there, guid_or_none, whole_there}
 module _ (raw : RawTables) (accepted : IsAccepted (BadRow raw)) where
   module _ (row : ℕ) (x : DocumentRow) (here : row_at raw.documents row ≡ Some x) where
     no_fault : {column byte : ℕ} {code : Code} → DocumentFault raw row x column byte code → ⊥
-    no_fault {column} {byte} {code} fault = accepted code (in_blob 0x30 row column byte) (in_document here fault)
+    no_fault fault = accepted _ _ (in_document here fault)
 
     name_there : HasBlob raw x.name
     name_there = blob_there raw x.name (λ none. no_fault (no_name none))

@@ -7,7 +7,6 @@ use Rattle.ppdb_base.specs.First.{IsAccepted}
 use Rattle.ppdb_tables.specs.declared.rows.ImportRow.{ImportRow}
 use Rattle.ppdb_tables.specs.RawTables.{RawTables, HasShape, count, row_at}
 use Rattle.type_blobs.specs.Imports.{imports as import_grammar}
-use Rattle.ppdb_rules.specs.Blobs.{in_blob}
 use Rattle.ppdb_rules.specs.Chains.{ancestor_of as ancestor_in}
 use Rattle.ppdb_rules.specs.Rows.{BadRow, ImportFault}
 use Rattle.ppdb_rules.specs.Rows.BadRow.{in_import}
@@ -32,7 +31,7 @@ ends_past imports row past never = never 1 (ap (λ (o : Option ImportRow). unwra
 module _ (raw : RawTables) (accepted : IsAccepted (BadRow raw)) where
   module _ (row : ℕ) (x : ImportRow) (here : row_at raw.imports row ≡ Some x) where
     no_fault : {column byte : ℕ} {code : Code} → ImportFault raw row x column byte code → ⊥
-    no_fault {column} {byte} {code} fault = accepted code (in_blob 0x35 row column byte) (in_import here fault)
+    no_fault fault = accepted _ _ (in_import here fault)
 
     parent_within : HasRowOrNone raw 0x35 x.parent
     parent_within = (row_named 0 (count raw 0x35) x.parent (λ none. no_fault (no_parent none))).1

@@ -1,5 +1,5 @@
 -- What a cell names is there where it is not at fault, and what blobs hold is whole.
-use Rattle.std.proofs.Common.{◌≡◌, ℕ, ◌≤◌, List, [], ◌∷◌, length, refl, inl, inr, true}
+use Rattle.std.proofs.Common.{◌≡◌, ℕ, ◌≤◌, List, [], refl, inl, inr, true}
 use Rattle.std.specs.Prelude.{Option, Some, None, unwrap_or, is_some}
 use Rattle.std.proofs.lemmas.Bool.{cases_eq, cases_lt}
 use Rattle.ppdb_base.specs.declared.fault.BlobFault.{BlobFault}

@@ -6,7 +6,6 @@ use Rattle.ppdb_base.specs.declared.code.Code.{Code}
 use Rattle.ppdb_base.specs.First.{IsAccepted}
 use Rattle.ppdb_tables.specs.declared.rows.MachineRow.{MachineRow}
 use Rattle.ppdb_tables.specs.RawTables.{RawTables, count, row_at}
-use Rattle.ppdb_rules.specs.Blobs.{in_blob}
 use Rattle.ppdb_rules.specs.Rows.{BadRow, MachineFault}
 use Rattle.ppdb_rules.specs.Rows.BadRow.{in_machine}
 use Rattle.ppdb_rules.specs.Rows.MachineFault.{no_move_next, out_of_order, no_kickoff, same_kickoff}
@@ -16,7 +15,7 @@ use Rattle.accepted_files.proofs.Orders.{rises_by}
 
 module _ (raw : RawTables) (accepted : IsAccepted (BadRow raw)) where
   no_fault : (row : ℕ) (x : MachineRow) → row_at raw.machines row ≡ Some x → {column byte : ℕ} {code : Code} → MachineFault raw row x column byte code → ⊥
-  no_fault row x here {column} {byte} {code} fault = accepted code (in_blob 0x36 row column byte) (in_machine here fault)
+  no_fault row x here fault = accepted _ _ (in_machine here fault)
 
   move_next_up : (a b : ℕ) (x y : MachineRow) → row_at raw.machines a ≡ Some x → row_at raw.machines b ≡ Some y → a < b → x.move_next < y.move_next
   move_next_up a b x y hx hy less = elim (cases_lt x.move_next y.move_next) [

@@ -8,7 +8,7 @@ use Rattle.ppdb_heaps.specs.Heaps.{blob_at}
 use Rattle.ppdb_tables.specs.declared.rows.MethodDebugRow.{MethodDebugRow}
 use Rattle.ppdb_tables.specs.RawTables.{RawTables, HasShape, count, row_at}
 use Rattle.sequence_points.specs.Records.{sequence_points}
-use Rattle.ppdb_rules.specs.Blobs.{IsNil, in_blob}
+use Rattle.ppdb_rules.specs.Blobs.{IsNil}
 use Rattle.ppdb_rules.specs.Rows.{BadRow, MethodDebugFault}
 use Rattle.ppdb_rules.specs.Rows.BadRow.{in_method}
 use Rattle.ppdb_rules.specs.Rows.MethodDebugFault.{no_document, no_points, bad_points}
@@ -26,7 +26,7 @@ not_nil raw index b bytes there nil = cc
 module _ (raw : RawTables) (accepted : IsAccepted (BadRow raw)) where
   module _ (row : ℕ) (x : MethodDebugRow) (here : row_at raw.methods row ≡ Some x) where
     no_fault : {column byte : ℕ} {code : Code} → MethodDebugFault raw row x column byte code → ⊥
-    no_fault {column} {byte} {code} fault = accepted code (in_blob 0x31 row column byte) (in_method here fault)
+    no_fault fault = accepted _ _ (in_method here fault)
 
     points_whole : (content : List ℕ) → blob_at raw.blobs x.points ≡ Some content
         → (content ≡ []) ⊎ IsWhole (sequence_points x.document (point_limits raw)) content

@@ -6,7 +6,6 @@ use Rattle.ppdb_base.specs.declared.code.Code.{Code}
 use Rattle.ppdb_base.specs.First.{IsAccepted}
 use Rattle.ppdb_tables.specs.declared.rows.ScopeRow.{ScopeRow}
 use Rattle.ppdb_tables.specs.RawTables.{RawTables, count, row_at}
-use Rattle.ppdb_rules.specs.Blobs.{in_blob}
 use Rattle.ppdb_rules.specs.Rows.{BadRow, ScopeFault}
 use Rattle.ppdb_rules.specs.Rows.BadRow.{in_scope}
 use Rattle.ppdb_rules.specs.Rows.ScopeFault.{no_method, out_of_order, no_import, crossing, no_range}
@@ -43,26 +42,14 @@ crosses x y after meets past =
 module _ (raw : RawTables) (accepted : IsAccepted (BadRow raw)) where
   module _ (row : ℕ) (x : ScopeRow) (here : row_at raw.scopes row ≡ Some x) where
     pub no_fault : {column byte : ℕ} {code : Code} → ScopeFault raw row x column byte code → ⊥
-    no_fault {column} {byte} {code} fault = accepted code (in_blob 0x32 row column byte) (in_scope here fault)
-
-    not_empty : 0 < x.length
-    not_empty = elim (cases_lt 0 x.length) [
-      | inl some ↦ some
-      | inr none ↦ absurd (no_fault (no_range (inl (omega (arith, none)))))
-    ]
-
-    ends : x.start + x.length < 0x80000000
-    ends = elim (cases_lt (x.start + x.length) 0x80000000) [
-      | inl within ↦ within
-      | inr late ↦ absurd (no_fault (no_range (inr late)))
-    ]
+    no_fault fault = accepted _ _ (in_scope here fault)
 
     kept : IsScope raw x
     kept = record {
       method = row_named 1 (count raw 0x06) x.method (λ none. no_fault (no_method none));
       import = (row_named 0 (count raw 0x35) x.import (λ none. no_fault (no_import none))).1;
-      not_empty = not_empty;
-      end = ends;
+      not_empty = elim (cases_lt 0 x.length) [ inl some ↦ some | inr none ↦ absurd (no_fault (no_range (inl (omega (arith, none))))) ];
+      end = elim (cases_lt (x.start + x.length) 0x80000000) [ inl within ↦ within | inr late ↦ absurd (no_fault (no_range (inr late))) ];
     }
 
   module _ (a b : ℕ) (x y : ScopeRow) (hx : row_at raw.scopes a ≡ Some x) (hy : row_at raw.scopes b ≡ Some y) (less : a < b) where

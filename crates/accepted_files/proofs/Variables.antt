@@ -6,7 +6,6 @@ use Rattle.ppdb_base.specs.First.{IsAccepted}
 use Rattle.ppdb_tables.specs.declared.rows.ScopeRow.{ScopeRow}
 use Rattle.ppdb_tables.specs.declared.rows.VariableRow.{VariableRow}
 use Rattle.ppdb_tables.specs.RawTables.{RawTables, HasShape, row_at}
-use Rattle.ppdb_rules.specs.Blobs.{in_blob}
 use Rattle.ppdb_rules.specs.Rows.{BadRow, VariableFault}
 use Rattle.ppdb_rules.specs.Rows.BadRow.{in_variable}
 use Rattle.ppdb_rules.specs.Rows.ScopeFault.{no_variables}
@@ -25,7 +24,7 @@ are_same_text raw a b first second same = record { text = text raw b; first = fi
 module _ (raw : RawTables) (accepted : IsAccepted (BadRow raw)) (shape : HasShape raw) where
   no_fault : (row : ℕ) (x : VariableRow) → row_at raw.variables row ≡ Some x → {column byte : ℕ} {code : Code}
       → VariableFault raw row x column byte code → ⊥
-  no_fault row x here {column} {byte} {code} fault = accepted code (in_blob 0x33 row column byte) (in_variable here fault)
+  no_fault row x here fault = accepted _ _ (in_variable here fault)
 
   good_lists : (row : ℕ) (scope : ScopeRow) → row_at raw.scopes row ≡ Some scope → IsListOut (λ s. s.variables) (length raw.variables) raw.scopes row scope → ⊥
   good_lists row scope here out =

@@ -1,5 +1,5 @@
 -- The scopes of a file that keeps the rules are not at fault.
-use Rattle.std.proofs.Common.{◌≡◌, ℕ, ◌+◌, ◌<◌, ◌≤◌, sym, arith, inl, inr}
+use Rattle.std.proofs.Common.{◌≡◌, ℕ, ◌+◌, ◌<◌, ◌≤◌, sym, subst, arith, inl, inr}
 use Rattle.std.specs.Prelude.{Some}
 use Rattle.ppdb_base.specs.declared.code.Code.{Code}
 use Rattle.ppdb_tables.specs.declared.rows.ScopeRow.{ScopeRow}
@@ -7,13 +7,13 @@ use Rattle.ppdb_tables.specs.RawTables.{RawTables, HasShape, count, row_at}
 use Rattle.ppdb_rules.specs.Earlier.{HasEarlier}
 use Rattle.ppdb_rules.specs.Rows.{ScopeFault}
 use Rattle.ppdb_rules.specs.Rows.ScopeFault.{no_method, out_of_order, no_import, no_variables, no_constants, crossing, no_range}
-use Rattle.ppdb_rules.specs.Scopes.{AreCrossed, Crosses, HasNoRange, IsAbove, extent_of}
+use Rattle.ppdb_rules.specs.Scopes.{AreCrossed, Crosses, HasNoRange, IsAbove, IsListOut, extent_of}
 use Rattle.ppdb_values.specs.Ranges.{ComesAfter, IsInOrAfter}
 use Rattle.ppdb_values.specs.Rules.{IsScope, KeepsConstants, KeepsScopes, KeepsVariables}
 use Rattle.ppdb_values.specs.Value.{range_of}
-use Rattle.kept_rules.proofs.Constants.{no_constant_list, no_variable_list}
 use Rattle.kept_rules.proofs.Items.{row_named}
 use Rattle.kept_rules.proofs.Orders.{up_to}
+use Rattle.kept_rules.proofs.ScopeLists.{no_list_out}
 
 -- a scope that comes after another one of its method is not below it
 not_above : (x y : ScopeRow) → ComesAfter (range_of x) (range_of y)
@@ -72,7 +72,11 @@ module _ (raw : RawTables) (keeps : KeepsScopes raw) (row : ℕ) (x : ScopeRow) 
   no_scope_fault _ _ _ _ _ _ (no_method none) = row_named 1 (count raw 0x06) x.method is.method none
   no_scope_fault _ _ _ _ _ _ (out_of_order earlier) = none_above earlier
   no_scope_fault _ _ _ _ _ _ (no_import none) = row_named 0 (count raw 0x35) x.import (omega arith, is.import) none
-  no_scope_fault shape variables _ _ _ _ (no_variables out) = no_variable_list raw shape variables row x here out
-  no_scope_fault shape _ constants _ _ _ (no_constants out) = no_constant_list raw shape constants row x here out
+  no_scope_fault shape variables _ _ _ _ (no_variables out) =
+      no_list_out (λ s. s.variables) raw.scopes _ variables.lists row x here
+      (subst (λ (items : ℕ). IsListOut (λ s. s.variables) items raw.scopes row x) (sym shape.variables) out)
+  no_scope_fault shape _ constants _ _ _ (no_constants out) =
+      no_list_out (λ s. s.constants) raw.scopes _ constants.lists row x here
+      (subst (λ (items : ℕ). IsListOut (λ s. s.constants) items raw.scopes row x) (sym shape.constants) out)
   no_scope_fault _ _ _ _ _ _ (crossing earlier) = none_crossed earlier
   no_scope_fault _ _ _ _ _ _ (no_range none) = ranged raw x is none
