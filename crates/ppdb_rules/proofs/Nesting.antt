@@ -15,7 +15,7 @@ use Rattle.ppdb_rules.specs.Earlier.{HasEarlier}
 use Rattle.ppdb_rules.specs.Judged.{ToCell}
 use Rattle.ppdb_rules.specs.Open.{AreOpen, EndsThere}
 use Rattle.ppdb_rules.specs.Rows.BadRow.{in_scope}
-use Rattle.ppdb_rules.specs.Rows.ScopeFault.{out_of_order, crossing, no_range}
+use Rattle.ppdb_rules.specs.Rows.ScopeFault.{out_of_order, crossing as scope_crossing, no_range}
 use Rattle.ppdb_rules.specs.Scopes.{AreCrossed, Covers, Crosses, IsAbove, extent_of}
 use Rattle.ppdb_tables.proofs.NumberedRows.{same_row}
 use Rattle.ppdb_rules.proofs.Order.{scopes_in_order}
@@ -229,7 +229,7 @@ after_row raw row scope b ends here clear opened again =
     (open_pushed raw.scopes row scope ends here opened
     (λ k within. elim (cases_lt (get_or ends k 0) (end_of scope)) [
       | inl lt ↦ absurd (clear ScopeCrossing (cell 0x32 row 4)
-          (in_scope here (crossing (crossing_at raw row scope ends k here before opened within lt)))
+          (in_scope here (scope_crossing (crossing_at raw row scope ends k here before opened within lt)))
           (inr (refl, inr (refl, inr (refl, inl (omega arith))))))
       | inr ge ↦ ge
     ])

@@ -1,5 +1,5 @@
 -- The faults of Variable.
-use Rattle.std.proofs.Common.{◌≡◌, subst, ℕ, suc, ◌+◌, ◌<◌, length, Some, None, refl, sym, arith}
+use Rattle.std.proofs.Common.{◌≡◌, ℕ, suc, ◌+◌, ◌<◌, length, Some, None, arith}
 use Rattle.ppdb_base.specs.declared.code.Code.{Code}
 use Rattle.ppdb_base.specs.declared.code.Code.TheVariants.{StringIndex, ListRange, SlotRepeated, NameRepeated}
 use Rattle.ppdb_base.specs.declared.fault.Place.{Place}
