@@ -1,24 +1,28 @@
-//! A check of the blobs of a debug file: it reads every one that has points, imports, a constant, async steps or hoisted
-//! slots, prints the points and the imports, and says how many of them it has read and written again.
+//! A check of a debug file: it reads every blob that has points, imports, a constant, async steps or hoisted slots, prints the
+//! points and the imports, and says how many of them it has read and written again; and it lays the file out again with its own
+//! rows and heaps, and says whether that is read as the same.
 #![tactic(auto)]
 
-ghost use Rattle.std.specs.Prelude.{◌≡◌, ◌≤◌, ◌<◌, length};
+ghost use Rattle.std.specs.Prelude.{◌≡◌, ◌<◌};
 
+mod again;
 mod constants;
 mod counts;
 mod customs;
 mod file;
 mod imports;
 mod methods;
+mod opened;
 mod points;
+mod rows;
 mod stop;
 mod text;
 
+use again::is_read_again;
 use counts::{Counts, put_counts};
 use file::read_file;
-use metadata_root::read_root;
-use ppdb_base::{Bytes, Fault, Steps};
-use ppdb_tables::{Tables, read_head, read_tables};
+use opened::{Opened, open};
+use ppdb_base::{Bytes, Sink, Steps};
 use std::alloc::Global;
 use std::io::Write;
 use std::marker::Brand;
@@ -62,41 +66,37 @@ fn check(rt: &HostRuntime, text: &mut Text) -> Result<(), Stop> {
     let name = file_name(rt)?;
     let mut bytes = Bytes::new(rt.alloc());
     read_file(rt, name.as_str(), &mut bytes)?;
-    match tables_of(bytes.as_slice()) {
-        Ok(tables) => put_counted::<Brand>(rt.alloc(), &tables, text, Blank::new(1)),
+    match open(bytes.as_slice()) {
+        Ok(file) => put_counted::<Brand>(rt.alloc(), &file, text, Blank::new(1)),
         Err(fault) => Err(Stop::Fault(fault)),
     }
-}
-
-/// The tables of a file.
-fn tables_of(bytes: &[u8]) -> Result<Tables<'_>, Fault>
-    requires { length bytes.now ≤ 134217728 }
-{
-    let root = read_root(bytes)?;
-    let head = read_head(&root)?;
-    read_tables(&root, &head)
 }
 
 /// Puts what the blobs hold, over a counter of the rows that are read.
 fn put_counted<L: Ledger>(
     alloc: Global,
-    tables: &Tables<'_>,
+    file: &Opened<'_>,
     text: &mut Text,
     rows: Blank,
 ) -> Result<(), Stop>
     requires { (rows.name ≡ L.name) × (rows.parts ≡ L.parts) × (0 < L.parts) }
 {
     let mut steps = Steps::<L>::new(rows);
-    put_blobs(alloc, tables, text, &mut steps)
+    put_blobs(alloc, file, text, &mut steps)?;
+    if !is_read_again(alloc, file, &mut steps)? {
+        return Err(Stop::Differs);
+    }
+    Ok(text.put(b"laid out again to the same rows\n")?)
 }
 
 /// Puts what the blobs of all rows hold, and the counts.
 fn put_blobs<L: Ledger>(
     alloc: Global,
-    tables: &Tables<'_>,
+    file: &Opened<'_>,
     text: &mut Text,
     steps: &mut Steps<L>,
 ) -> Result<(), Stop> {
+    let tables = &file.tables;
     let mut counts = Counts::default();
     methods::put_methods(alloc, tables, text, &mut counts, steps)?;
     imports::put_imports(tables, text, steps)?;

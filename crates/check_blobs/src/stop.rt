@@ -26,6 +26,8 @@ pub enum Stop {
     Absent(Cell),
     /// The row's blob is at fault.
     Blob(Cell, BlobFault),
+    /// The file is laid out again as another.
+    Differs,
 }
 
 impl From<Memory> for Stop {
@@ -55,6 +57,7 @@ pub fn put_stop<O: Sink>(out: &mut O, stop: &Stop) -> Result<(), WriteError> {
         Stop::Fault(fault) => put_fault(out, fault)?,
         Stop::Absent(cell) => put_cell(out, b"nothing is there that is named by", cell)?,
         Stop::Blob(cell, fault) => put_blob_fault(out, cell, fault)?,
+        Stop::Differs => out.put(b"the file that is laid out again is read as another")?,
     }
     out.put(b"\n")
 }
