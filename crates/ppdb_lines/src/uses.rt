@@ -18,12 +18,12 @@ use type_blobs::{Import, TypeToken};
 
 /// Puts the line of an import: its kind, and what the kind has of an alias, an assembly, a namespace and a type.
 pub fn put_use<O: Sink>(
-    printer: Printer,
+    printer: Printer<'_>,
     out: &mut O,
     import: &Import<'_>,
 ) -> Result<(), WriteError>
     ensures { Puts result (O.written out.old) (O.written out.new) (O.faults out.old) (O.faults out.new)
-        (lines_as printer.form (use_line (import_value (shown import.now)) ∷ [])) }
+        (lines_as printer.entry.form (use_line (import_value (shown import.now)) ∷ [])) }
 {
     let target = target_of(import);
     let parts = [
