@@ -1,4 +1,4 @@
-pub mod Chains
+pub mod Parents
 pub mod Joined
 pub mod Keys
 pub mod Listed

@@ -1,6 +1,6 @@
 use Rattle.std.proofs.Common.{◌<◌, ◌-◌, length, get_or, ap, ◌∙◌, arith, refl}
 use Rattle.ppdb_tables.proofs.Walks.{row_ends, marks_end, walk_cycles, joins_end, walk_on, ends_decides, past_end}
-use Rattle.value_check.proofs.Chains.{parent_here}
+use Rattle.value_check.proofs.Parents.{parent_here}
 use Rattle.ppdb_values.specs.declared.import.ImportScopeValue.{ImportScopeValue}
 use Rattle.value_check.specs.Chains.{parent_of}
 use Rattle.value_check.proofs.chains.never_ends.Goals as goal
