@@ -4,10 +4,9 @@ use Rattle.std.specs.Prelude.{Option, Some, None, unwrap_or}
 use Rattle.std.specs.Option.{option_map}
 use Rattle.std.proofs.lemmas.Bool.{cases_eq, cases_lt}
 use Rattle.std.proofs.lemmas.Option.{slice_get_cases}
-use Rattle.ppdb_base.specs.declared.code.Code.TheVariants.{GuidIndex, CodedTag, CustomOrder, KindParent}
+use Rattle.ppdb_base.specs.declared.code.Code.{Code}
 use Rattle.ppdb_base.specs.declared.fault.BlobFault.{BlobFault}
 use Rattle.ppdb_base.specs.First.{IsAccepted}
-use Rattle.ppdb_base.specs.Place.{cell}
 use Rattle.custom_info.specs.declared.kinds.Kind.{Kind}
 use Rattle.custom_info.specs.declared.kinds.Kind.TheVariants.{Async, Hoisted, TypeDocuments, Free, Unknown}
 use Rattle.custom_info.specs.AsyncStepping.{async_stepping}
@@ -19,17 +18,15 @@ use Rattle.ppdb_tables.specs.declared.parent.Parent.{Parent}
 use Rattle.ppdb_tables.specs.declared.rows.CustomRow.{CustomRow}
 use Rattle.ppdb_tables.specs.RawTables.{RawTables, count, row_at}
 use Rattle.row_layout.specs.Columns.{parent_tables}
-use Rattle.ppdb_rules.specs.Blobs.{NamesNoGuid, in_blob}
-use Rattle.ppdb_rules.specs.Cells.BlobCell.{custom_value}
-use Rattle.ppdb_rules.specs.Cells.GuidCell.{custom_kind}
-use Rattle.ppdb_rules.specs.Cells.RowCell.{custom_parent}
+use Rattle.ppdb_rules.specs.Blobs.{NamesNoGuid}
 use Rattle.ppdb_rules.specs.Customs.{IsOfKind, ReadsValue, parent_table}
-use Rattle.ppdb_rules.specs.Rows.{BadRow}
-use Rattle.ppdb_rules.specs.Rows.BadRow.{coded_tag, custom_content, custom_order, guid_index, kind_parent}
-use Rattle.ppdb_values.specs.Customs.{kind_in, no_parent, parent_of}
+use Rattle.ppdb_rules.specs.Rows.{BadRow, CustomFault}
+use Rattle.ppdb_rules.specs.Rows.BadRow.{in_custom}
+use Rattle.ppdb_rules.specs.Rows.CustomFault.{no_parent, no_tag, out_of_order, no_kind, other_parent, no_value, bad_value}
+use Rattle.ppdb_values.specs.Customs.{kind_in, no_parent as nothing, parent_of}
 use Rattle.ppdb_values.specs.RawFile.{blob}
-use Rattle.ppdb_values.specs.Rules.{HasBlob, HasRow, IsWholeOfKind, KeepsCustoms, StandsOn}
-use Rattle.accepted_files.proofs.Items.{blob_there, is_there, row_there, whole}
+use Rattle.ppdb_values.specs.Rules.{HasBlob, HasRow, IsCustom, IsWholeOfKind, KeepsCustoms, StandsOn}
+use Rattle.accepted_files.proofs.Items.{blob_there, is_there, row_named, whole}
 use Rattle.accepted_files.proofs.Orders.{sorted_by}
 
 -- ---- the parent that a coded index names
@@ -39,9 +36,9 @@ with_row row o = option_map (λ (table : ℕ). record { table = table; row = row
 
 -- a tag has a table, and the parent is the row of that table
 record IsParent (o : Option ℕ) (row : ℕ) : Type 0 where
-  there : with_row row o ≡ Some (unwrap_or (with_row row o) no_parent)
-  table_is : o ≡ Some (unwrap_or (with_row row o) no_parent).table
-  row_is : (unwrap_or (with_row row o) no_parent).row ≡ row
+  there : with_row row o ≡ Some (unwrap_or (with_row row o) nothing)
+  table_is : o ≡ Some (unwrap_or (with_row row o) nothing).table
+  row_is : (unwrap_or (with_row row o) nothing).row ≡ row
 
 parent_is : (o : Option ℕ) (row : ℕ) → (o ≡ None → ⊥) → IsParent o row
 parent_is None row none = absurd (none refl)
@@ -63,25 +60,20 @@ no_guid guids number none = elim (cases_eq number 0) [
 ]
 
 module _ (raw : RawTables) (accepted : IsAccepted (BadRow raw)) where
-  parent_up : (a b : ℕ) (x y : CustomRow) → row_at raw.customs a ≡ Some x → row_at raw.customs b ≡ Some y → a < b → x.parent ≤ y.parent
-  parent_up a b x y hx hy less = elim (cases_lt y.parent x.parent) [
-    | inl falls ↦ absurd (accepted CustomOrder (cell 0x37 b 0)
-        (custom_order hy (record { before = a; earlier = x; there = hx; sooner = less; forbidden = falls })))
-    | inr up ↦ up
-  ]
-
   module _ (row : ℕ) (x : CustomRow) (here : row_at raw.customs row ≡ Some x) where
+    no_fault : {column byte : ℕ} {code : Code} → CustomFault raw row x column byte code → ⊥
+    no_fault fault = accepted _ _ (in_custom here fault)
+
     parent : IsParent (slice_get parent_tables (x.parent % 32)) (x.parent / 32)
-    parent = parent_is (slice_get parent_tables (x.parent % 32)) (x.parent / 32)
-        (tag_there (x.parent % 32) (λ high. accepted CodedTag (cell 0x37 row 0) (coded_tag here high)))
+    parent = parent_is (slice_get parent_tables (x.parent % 32)) (x.parent / 32) (tag_there (x.parent % 32) (λ high. no_fault (no_tag high)))
 
     parent_there : HasRow raw (parent_of x.parent).table (parent_of x.parent).row
     parent_there = subst (λ (number : ℕ). HasRow raw (parent_of x.parent).table number) (sym parent.row_is)
-        (row_there raw accepted 0x37 row 0 (parent_of x.parent).table (x.parent / 32) (custom_parent here parent.table_is))
+        (row_named 1 (count raw (parent_of x.parent).table) (x.parent / 32)
+        (λ none. no_fault (no_parent (record { table = (parent_of x.parent).table; tagged = parent.table_is; no_row = none }))))
 
     kind_there : guid_at raw.guids x.kind ≡ Some (kind_in raw x)
-    kind_there =
-        is_there (guid_at raw.guids x.kind) [] (λ none. accepted GuidIndex (cell 0x37 row 1) (guid_index (custom_kind here) (no_guid raw.guids x.kind none)))
+    kind_there = is_there (guid_at raw.guids x.kind) [] (λ none. no_fault (no_kind (no_guid raw.guids x.kind none)))
 
     of_kind : (kind : Kind) → kind_of [] (kind_in raw x) ≡ kind → IsOfKind raw.guids x.kind kind
     of_kind kind is = record { guid = kind_in raw x; there = kind_there; kind_is = is }
@@ -89,14 +81,13 @@ module _ (raw : RawTables) (accepted : IsAccepted (BadRow raw)) where
     on_table : (kind : Kind) (table : ℕ) → kind_of [] (kind_in raw x) ≡ kind → parent_table kind ≡ Some table → (parent_of x.parent).table ≡ table
     on_table kind table is has = elim (cases_eq (parent_of x.parent).table table) [
       | inl same ↦ same
-      | inr apart ↦ absurd (accepted KindParent (cell 0x37 row 1) (kind_parent here
-          (record {
-            kind = kind;
-            of_kind = of_kind kind is;
-            table = table;
-            has_table = has;
-            other = λ named. apart (one_table (parent_of x.parent).table table (sym parent.table_is ∙ named));
-          })))
+      | inr apart ↦ absurd (no_fault (other_parent (record {
+        kind = kind;
+        of_kind = of_kind kind is;
+        table = table;
+        has_table = has;
+        other = λ named. apart (one_table (parent_of x.parent).table table (sym parent.table_is ∙ named));
+      })))
     ]
 
     stands_on : (kind : Kind) → kind_of [] (kind_in raw x) ≡ kind → StandsOn kind (parent_of x.parent).table
@@ -107,35 +98,39 @@ module _ (raw : RawTables) (accepted : IsAccepted (BadRow raw)) where
     stands_on Unknown is = tt
 
     value_there : HasBlob raw x.value
-    value_there = blob_there raw accepted 0x37 row 2 x.value (custom_value here)
+    value_there = blob_there raw x.value (λ none. no_fault (no_value none))
 
-    no_fault : (kind : Kind) → kind_of [] (kind_in raw x) ≡ kind → (fault : BlobFault) → ReadsValue raw kind (blob raw x.value) (Some fault) → ⊥
-    no_fault kind is fault reads =
-        accepted fault.code (in_blob 0x37 row 2 fault.byte)
-        (custom_content {fault = fault} here (record {
-          kind = kind;
-          of_kind = of_kind kind is;
-          content = blob raw x.value;
-          there = value_there;
-          reads = reads;
-        }))
+    value_good : (kind : Kind) → kind_of [] (kind_in raw x) ≡ kind → (fault : BlobFault) → ReadsValue raw kind (blob raw x.value) (Some fault) → ⊥
+    value_good kind is fault reads = no_fault (bad_value {fault = fault} (record {
+      kind = kind;
+      of_kind = of_kind kind is;
+      content = blob raw x.value;
+      there = value_there;
+      reads = reads;
+    }))
 
     value_whole : (kind : Kind) → kind_of [] (kind_in raw x) ≡ kind → IsWholeOfKind raw kind (blob raw x.value)
-    value_whole Async is = whole (async_stepping (count raw 0x06)) (blob raw x.value) (no_fault Async is)
-    value_whole Hoisted is = whole hoisted_scopes (blob raw x.value) (no_fault Hoisted is)
-    value_whole TypeDocuments is = whole (type_documents (count raw 0x30)) (blob raw x.value) (no_fault TypeDocuments is)
+    value_whole Async is = whole (async_stepping (count raw 0x06)) (blob raw x.value) (value_good Async is)
+    value_whole Hoisted is = whole hoisted_scopes (blob raw x.value) (value_good Hoisted is)
+    value_whole TypeDocuments is = whole (type_documents (count raw 0x30)) (blob raw x.value) (value_good TypeDocuments is)
     value_whole Free is = tt
     value_whole Unknown is = tt
 
+    kept : IsCustom raw x
+    kept = record {
+      tag = parent.there;
+      parent = parent_there;
+      kind = kind_there;
+      stands_on = stands_on (kind_of [] (kind_in raw x)) refl;
+      value = value_there;
+      value_whole = value_whole (kind_of [] (kind_in raw x)) refl;
+    }
+
+  parent_up : (a b : ℕ) (x y : CustomRow) → row_at raw.customs a ≡ Some x → row_at raw.customs b ≡ Some y → a < b → x.parent ≤ y.parent
+  parent_up a b x y hx hy less = elim (cases_lt y.parent x.parent) [
+    | inl falls ↦ absurd (no_fault b y hy (out_of_order (record { before = a; earlier = x; there = hx; sooner = less; forbidden = falls })))
+    | inr up ↦ up
+  ]
+
   pub customs_kept : KeepsCustoms raw
-  customs_kept = record {
-    each = λ row x here. record {
-      tag = (parent row x here).there;
-      parent = parent_there row x here;
-      kind = kind_there row x here;
-      stands_on = stands_on row x here (kind_of [] (kind_in raw x)) refl;
-      value = value_there row x here;
-      value_whole = value_whole row x here (kind_of [] (kind_in raw x)) refl;
-    };
-    by_parent = sorted_by (λ custom. custom.parent) raw.customs parent_up;
-  }
+  customs_kept = record { each = kept; by_parent = sorted_by (λ custom. custom.parent) raw.customs parent_up }

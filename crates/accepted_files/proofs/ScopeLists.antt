@@ -38,6 +38,11 @@ module _ (list : ScopeRow → ℕ) (scopes : List ScopeRow) (items : ℕ)
   pub lists_kept : (scopes ≡ [] → items ≡ 0) → KeepsLists list scopes items
   lists_kept none = record { first = first_is; sorted = sorted_next list scopes next_up; within = list_within; none = none }
 
+-- where no item is the first, there is none
+pub none_alone : {X : Type 0} (items : List X) → ((first : X) → row_at items 1 ≡ Some first → ⊥) → length items ≡ 0
+none_alone [] none = refl
+none_alone (first ∷ others) none = absurd (none first refl)
+
 -- ---- items of one scope
 
 some_last : (x : ℕ × ScopeRow) (xs : List (ℕ × ScopeRow)) → option_map (λ scope. scope.0) (last_or (Some x) xs) ≡ None → ⊥

@@ -2,19 +2,18 @@
 use Rattle.std.proofs.Common.{◌≡◌, ℕ, ◌+◌, ◌<◌, ◌≤◌, sym, arith, inl, inr}
 use Rattle.std.specs.Prelude.{Some}
 use Rattle.std.proofs.lemmas.Bool.{cases_lt}
-use Rattle.ppdb_base.specs.declared.code.Code.TheVariants.{ScopeOrder, ScopeRange, ScopeCrossing}
+use Rattle.ppdb_base.specs.declared.code.Code.{Code}
 use Rattle.ppdb_base.specs.First.{IsAccepted}
-use Rattle.ppdb_base.specs.Place.{cell}
 use Rattle.ppdb_tables.specs.declared.rows.ScopeRow.{ScopeRow}
-use Rattle.ppdb_tables.specs.RawTables.{RawTables, row_at}
-use Rattle.ppdb_rules.specs.Cells.RowCell.{scope_method, scope_import}
-use Rattle.ppdb_rules.specs.Rows.{BadRow}
-use Rattle.ppdb_rules.specs.Rows.BadRow.{scope_order, scope_range, scope_crossing}
+use Rattle.ppdb_tables.specs.RawTables.{RawTables, count, row_at}
+use Rattle.ppdb_rules.specs.Rows.{BadRow, ScopeFault}
+use Rattle.ppdb_rules.specs.Rows.BadRow.{in_scope}
+use Rattle.ppdb_rules.specs.Rows.ScopeFault.{no_method, out_of_order, no_import, crossing, no_range}
 use Rattle.ppdb_rules.specs.Scopes.{Crosses, IsAbove, extent_of}
 use Rattle.ppdb_values.specs.Ranges.{ComesAfter, IsInOrAfter}
-use Rattle.ppdb_values.specs.Rules.{KeepsScopes}
+use Rattle.ppdb_values.specs.Rules.{IsScope, KeepsScopes}
 use Rattle.ppdb_values.specs.Value.{range_of}
-use Rattle.accepted_files.proofs.Items.{row_or_none, row_there}
+use Rattle.accepted_files.proofs.Items.{row_named}
 use Rattle.accepted_files.proofs.Orders.{sorted_by}
 
 not_before : (x y : ScopeRow) → ComesAfter (range_of x) (range_of y) → x.start ≤ y.start
@@ -41,9 +40,21 @@ crosses x y after meets past =
     }
 
 module _ (raw : RawTables) (accepted : IsAccepted (BadRow raw)) where
+  module _ (row : ℕ) (x : ScopeRow) (here : row_at raw.scopes row ≡ Some x) where
+    pub no_fault : {column byte : ℕ} {code : Code} → ScopeFault raw row x column byte code → ⊥
+    no_fault fault = accepted _ _ (in_scope here fault)
+
+    kept : IsScope raw x
+    kept = record {
+      method = row_named 1 (count raw 0x06) x.method (λ none. no_fault (no_method none));
+      import = (row_named 0 (count raw 0x35) x.import (λ none. no_fault (no_import none))).1;
+      not_empty = elim (cases_lt 0 x.length) [ inl some ↦ some | inr none ↦ absurd (no_fault (no_range (inl (omega (arith, none))))) ];
+      end = elim (cases_lt (x.start + x.length) 0x80000000) [ inl within ↦ within | inr late ↦ absurd (no_fault (no_range (inr late))) ];
+    }
+
   module _ (a b : ℕ) (x y : ScopeRow) (hx : row_at raw.scopes a ≡ Some x) (hy : row_at raw.scopes b ≡ Some y) (less : a < b) where
     not_above : IsAbove (extent_of x) (extent_of y) → ⊥
-    not_above above = accepted ScopeOrder (cell 0x32 b 0) (scope_order hy (record { before = a; earlier = x; there = hx; sooner = less; forbidden = above }))
+    not_above above = no_fault b y hy (out_of_order (record { before = a; earlier = x; there = hx; sooner = less; forbidden = above }))
 
     method_up : x.method ≤ y.method
     method_up = elim (cases_lt y.method x.method) [
@@ -71,33 +82,16 @@ module _ (raw : RawTables) (accepted : IsAccepted (BadRow raw)) where
     in_or_after : x.method ≡ y.method → IsInOrAfter (range_of x) (range_of y)
     in_or_after same = elim (cases_lt (x.start + x.length) (y.start + y.length)) [
       | inl past ↦ elim (cases_lt y.start (x.start + x.length)) [
-        | inl meets ↦ absurd (accepted ScopeCrossing (cell 0x32 b 4) (scope_crossing hy
+        | inl meets ↦ absurd (no_fault b y hy (crossing
             (record { before = a; earlier = x; there = hx; sooner = less; forbidden = (same, crosses x y (comes_after same) meets past) })))
         | inr after ↦ inr after
       ]
       | inr within ↦ inl within
     ]
 
-  not_empty : (row : ℕ) (x : ScopeRow) → row_at raw.scopes row ≡ Some x → 0 < x.length
-  not_empty row x here = elim (cases_lt 0 x.length) [
-    | inl some ↦ some
-    | inr none ↦ absurd (accepted ScopeRange (cell 0x32 row 5) (scope_range here (inl (omega (arith, none)))))
-  ]
-
-  ends : (row : ℕ) (x : ScopeRow) → row_at raw.scopes row ≡ Some x → x.start + x.length < 0x80000000
-  ends row x here = elim (cases_lt (x.start + x.length) 0x80000000) [
-    | inl within ↦ within
-    | inr late ↦ absurd (accepted ScopeRange (cell 0x32 row 5) (scope_range here (inr late)))
-  ]
-
   pub scopes_kept : KeepsScopes raw
   scopes_kept = record {
-    each = λ row x here. record {
-      method = row_there raw accepted 0x32 row 0 0x06 x.method (scope_method here);
-      import = row_or_none raw accepted 0x32 row 1 0x35 x.import (scope_import here);
-      not_empty = not_empty row x here;
-      end = ends row x here;
-    };
+    each = kept;
     by_method = sorted_by (λ scope. scope.method) raw.scopes method_up;
     by_start = comes_after;
     nested = in_or_after;

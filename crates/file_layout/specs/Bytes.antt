@@ -102,7 +102,7 @@ all_rows sizes rows =
     ++ rows_bytes sizes machine_columns machine_cells rows.machines
     ++ rows_bytes sizes custom_columns custom_cells rows.customs
 
--- reserved, version 2.0, heap sizes, reserved, the tables that have rows, the sorted tables, the counts, the rows
+-- reserved, version 2.0, HeapSizes, reserved; Valid: the debug tables that have rows; Sorted: always the tables 32, 36 and 37; the counts, the rows
 unfoldable pub tables_stream : List ℕ → Rows → HeapLens → List ℕ
 tables_stream counts rows heaps =
     let tables = with_rows counts (range_with_len 0x30 8) in

@@ -1,7 +1,8 @@
--- The custom records of a file that keeps the rules are in order, stand on their tables and are whole.
+-- The custom records of a file that keeps the rules are not at fault.
 use Rattle.std.proofs.Common.{◌≡◌, ℕ, ◌/◌, ◌%◌, ◌<◌, List, [], refl, ap, ◌∙◌, subst, arith, slice_get}
 use Rattle.std.specs.Prelude.{Option, Some, None, unwrap_or}
 use Rattle.std.specs.Option.{option_map}
+use Rattle.ppdb_base.specs.declared.code.Code.{Code}
 use Rattle.ppdb_base.specs.declared.fault.BlobFault.{BlobFault}
 use Rattle.custom_info.specs.declared.kinds.Kind.{Kind}
 use Rattle.custom_info.specs.declared.kinds.Kind.TheVariants.{Async, Hoisted, TypeDocuments, Free, Unknown}
@@ -13,11 +14,14 @@ use Rattle.ppdb_tables.specs.declared.parent.Parent.{Parent}
 use Rattle.ppdb_tables.specs.declared.rows.CustomRow.{CustomRow}
 use Rattle.ppdb_tables.specs.RawTables.{RawTables, count, row_at}
 use Rattle.row_layout.specs.Columns.{parent_tables}
-use Rattle.ppdb_rules.specs.Customs.{HasBadValue, HasOtherParent, IsOfKind, ReadsValue, parent_table}
+use Rattle.ppdb_rules.specs.Customs.{HasBadValue, HasNoParent, HasOtherParent, IsOfKind, ReadsValue, parent_table}
 use Rattle.ppdb_rules.specs.Earlier.{HasEarlier}
-use Rattle.ppdb_values.specs.Customs.{kind_in, no_parent, parent_of}
+use Rattle.ppdb_rules.specs.Rows.{CustomFault}
+use Rattle.ppdb_rules.specs.Rows.CustomFault.{no_parent, no_tag, out_of_order, no_kind, other_parent, no_value, bad_value}
+use Rattle.ppdb_values.specs.Customs.{kind_in, no_parent as nothing, parent_of}
 use Rattle.ppdb_values.specs.RawFile.{blob}
-use Rattle.ppdb_values.specs.Rules.{IsCustom, IsWholeOfKind, KeepsCustoms, StandsOn}
+use Rattle.ppdb_values.specs.Rules.{HasRow, IsCustom, IsWholeOfKind, KeepsCustoms, StandsOn}
+use Rattle.kept_rules.proofs.Items.{parent_named, row_named, tag_there, there_itself}
 use Rattle.kept_rules.proofs.Orders.{up_to}
 use Rattle.kept_rules.proofs.Whole.{no_fault}
 
@@ -26,7 +30,7 @@ use Rattle.kept_rules.proofs.Whole.{no_fault}
 abbrev with_row : ℕ → Option ℕ → Option Parent
 with_row row o = option_map (λ (table : ℕ). record { table = table; row = row }) o
 
-table_named : (o : Option ℕ) (row : ℕ) → with_row row o ≡ Some (unwrap_or (with_row row o) no_parent) → o ≡ Some (unwrap_or (with_row row o) no_parent).table
+table_named : (o : Option ℕ) (row : ℕ) → with_row row o ≡ Some (unwrap_or (with_row row o) nothing) → o ≡ Some (unwrap_or (with_row row o) nothing).table
 table_named None row is = cc
 table_named (Some table) row is = refl
 
@@ -69,16 +73,27 @@ module _ (raw : RawTables) (x : CustomRow) (is : IsCustom raw x) where
       let whole = subst (λ (kind : Kind). IsWholeOfKind raw kind (blob raw x.value)) (kind_is bad.kind bad.of_kind) is.value_whole in
       no_value_fault raw bad.kind bad.content fault (subst (λ (content : List ℕ). IsWholeOfKind raw bad.kind content) same whole) bad.reads
 
-module _ (raw : RawTables) (keeps : KeepsCustoms raw) where
-  pub no_parent_above : (row : ℕ) (x : CustomRow) → row_at raw.customs row ≡ Some x → HasEarlier (λ _ (e : CustomRow). x.parent < e.parent) raw.customs row → ⊥
-  no_parent_above row x here h =
+module _ (raw : RawTables) (keeps : KeepsCustoms raw) (row : ℕ) (x : CustomRow) (here : row_at raw.customs row ≡ Some x) where
+  is : IsCustom raw x
+  is = keeps.each row x here
+
+  in_order : HasEarlier (λ _ (e : CustomRow). x.parent < e.parent) raw.customs row → ⊥
+  in_order h =
       let sooner = h.sooner in
       let up = up_to (λ custom. custom.parent) raw.customs h.before row h.earlier x keeps.by_parent h.there here (omega (arith, sooner)) in
       let falls = h.forbidden in
       omega (arith, up, falls)
 
-  pub no_other_parent : (row : ℕ) (x : CustomRow) → row_at raw.customs row ≡ Some x → HasOtherParent raw.guids x → ⊥
-  no_other_parent row x here bad = on_its_table raw x (keeps.each row x here) bad
+  parent_there : HasNoParent raw x.parent → ⊥
+  parent_there none =
+      row_named 1 (count raw none.table) (x.parent / 32)
+      (subst (λ (p : Parent). HasRow raw p.table p.row) (parent_named x.parent none.table none.tagged) is.parent) none.no_row
 
-  pub no_bad_value : (row : ℕ) (x : CustomRow) (fault : BlobFault) → row_at raw.customs row ≡ Some x → HasBadValue raw x fault → ⊥
-  no_bad_value row x fault here bad = whole_value raw x (keeps.each row x here) fault bad
+  pub no_custom_fault : (column byte : ℕ) (code : Code) → CustomFault raw row x column byte code → ⊥
+  no_custom_fault _ _ _ (no_parent none) = parent_there none
+  no_custom_fault _ _ _ (no_tag high) = tag_there x.parent is.tag high
+  no_custom_fault _ _ _ (out_of_order h) = in_order h
+  no_custom_fault _ _ _ (no_kind none) = there_itself raw.guids x.kind _ is.kind none
+  no_custom_fault _ _ _ (other_parent other) = on_its_table raw x is other
+  no_custom_fault _ _ _ (no_value none) = let some = is.value in cc
+  no_custom_fault _ _ _ (bad_value {fault} bad) = whole_value raw x is fault bad

@@ -1,7 +1,7 @@
 -- The documents of a file that keeps the rules are not at fault.
 use Rattle.std.proofs.Common.{◌≡◌, ℕ, List, [], subst, sym, ◌∙◌}
 use Rattle.std.specs.Prelude.{Some, None}
-use Rattle.ppdb_base.specs.declared.fault.BlobFault.{BlobFault}
+use Rattle.ppdb_base.specs.declared.code.Code.{Code}
 use Rattle.blob_grammar.specs.Reader.{read_from, read_for, character_len, unsigned_at, two_at, four_at}
 use Rattle.blob_grammar.specs.Reading.{Reading}
 use Rattle.blob_grammar.proofs.Readers.{read_from-reads}
@@ -9,12 +9,15 @@ use Rattle.blob_grammar.proofs.Unique.{reading-unique}
 use Rattle.ppdb_heaps.specs.Names.{NamePart, names, name_of}
 use Rattle.ppdb_tables.specs.declared.rows.DocumentRow.{DocumentRow}
 use Rattle.ppdb_tables.specs.RawTables.{RawTables, row_at}
-use Rattle.ppdb_rules.specs.Blobs.{HasFault, IsNil}
+use Rattle.ppdb_rules.specs.Blobs.{IsNil}
 use Rattle.ppdb_rules.specs.Earlier.{HasEarlier}
 use Rattle.ppdb_rules.specs.Names.{AreSameName, SpellsName}
+use Rattle.ppdb_rules.specs.Rows.{DocumentFault}
+use Rattle.ppdb_rules.specs.Rows.DocumentFault.{no_name, nil_name, repeated, bad_name, no_algorithm, no_hash, no_language}
 use Rattle.ppdb_values.specs.RawFile.{blob}
-use Rattle.ppdb_values.specs.Rules.{HasBlob, IsWhole, KeepsDocuments}
+use Rattle.ppdb_values.specs.Rules.{HasBlob, IsDocument, IsWhole, KeepsDocuments}
 use Rattle.ppdb_values.proofs.Readings.{name_is}
+use Rattle.kept_rules.proofs.Items.{none_or_there}
 use Rattle.kept_rules.proofs.Whole.{no_fault_there}
 
 -- a name has a separator, and so is not empty
@@ -37,19 +40,23 @@ name_there raw index name there spells =
     let same : spells.content ≡ blob raw index = cc in
     subst (λ (content : List ℕ). name_of raw.blobs content ≡ name) same (name_is raw spells.content name spells.is_name)
 
-module _ (raw : RawTables) (keeps : KeepsDocuments raw) where
-  pub name_not_nil : (row : ℕ) (x : DocumentRow) → row_at raw.documents row ≡ Some x → IsNil raw.blobs x.name → ⊥
-  name_not_nil row x here nil = not_nil raw x.name (keeps.each row x here).name (keeps.each row x here).name_whole nil
+module _ (raw : RawTables) (keeps : KeepsDocuments raw) (row : ℕ) (x : DocumentRow) (here : row_at raw.documents row ≡ Some x) where
+  is : IsDocument raw x
+  is = keeps.each row x here
 
-  pub no_document_repeated : (row : ℕ) (x : DocumentRow) → row_at raw.documents row ≡ Some x
-      → HasEarlier (λ _ (e : DocumentRow). AreSameName raw.blobs e.name x.name) raw.documents row → ⊥
-  no_document_repeated row x here repeated =
-      let e = repeated.earlier in
-      let same = repeated.forbidden in
-      keeps.names_differ repeated.before row e x repeated.there here repeated.sooner
-      (name_there raw e.name same.name (keeps.each repeated.before e repeated.there).name same.first
-      ∙ sym (name_there raw x.name same.name (keeps.each row x here).name same.second))
+  not_repeated : HasEarlier (λ _ (e : DocumentRow). AreSameName raw.blobs e.name x.name) raw.documents row → ⊥
+  not_repeated earlier =
+      let e = earlier.earlier in
+      let same = earlier.forbidden in
+      keeps.names_differ earlier.before row e x earlier.there here earlier.sooner
+      (name_there raw e.name same.name (keeps.each earlier.before e earlier.there).name same.first
+      ∙ sym (name_there raw x.name same.name is.name same.second))
 
-  pub no_name_fault : (row : ℕ) (x : DocumentRow) (fault : BlobFault) → row_at raw.documents row ≡ Some x
-      → HasFault (names raw.blobs) raw.blobs x.name fault → ⊥
-  no_name_fault row x fault here bad = no_fault_there raw (names raw.blobs) x.name fault (keeps.each row x here).name (keeps.each row x here).name_whole bad
+  pub no_document_fault : (column byte : ℕ) (code : Code) → DocumentFault raw row x column byte code → ⊥
+  no_document_fault _ _ _ (no_name none) = let some = is.name in cc
+  no_document_fault _ _ _ (nil_name nil) = not_nil raw x.name is.name is.name_whole nil
+  no_document_fault _ _ _ (repeated earlier) = not_repeated earlier
+  no_document_fault _ _ _ (bad_name {fault} some bad) = no_fault_there raw (names raw.blobs) x.name fault is.name is.name_whole bad
+  no_document_fault _ _ _ (no_algorithm none) = none_or_there raw x.algorithm is.algorithm none
+  no_document_fault _ _ _ (no_hash none) = let some = is.hash in cc
+  no_document_fault _ _ _ (no_language none) = none_or_there raw x.language is.language none

@@ -1,19 +1,20 @@
--- The chains of import scopes of a file that keeps the rules end, and their imports are whole.
+-- The import scopes of a file that keeps the rules are not at fault.
 use Rattle.std.proofs.Common.{◌≡◌, ℕ, zero, suc, List, length, refl, ap, ◌∙◌, subst, arith}
 use Rattle.std.specs.Prelude.{Option, Some, None, unwrap_or}
 use Rattle.std.specs.Option.{option_map}
-use Rattle.ppdb_base.specs.declared.fault.BlobFault.{BlobFault}
-use Rattle.ppdb_heaps.specs.Heaps.{blob_at}
+use Rattle.ppdb_base.specs.declared.code.Code.{Code}
 use Rattle.ppdb_tables.specs.declared.rows.ImportRow.{ImportRow}
-use Rattle.ppdb_tables.specs.RawTables.{RawTables, row_at}
+use Rattle.ppdb_tables.specs.RawTables.{RawTables, count, row_at}
 use Rattle.ppdb_tables.proofs.NumberedRows.{row_within}
 use Rattle.type_blobs.specs.Imports.{imports as import_grammar}
-use Rattle.ppdb_rules.specs.Blobs.{HasFault}
-use Rattle.ppdb_rules.specs.Chains.{NeverEnds, ancestor_of as ancestor_in}
+use Rattle.ppdb_rules.specs.Chains.{ancestor_of as ancestor_in}
+use Rattle.ppdb_rules.specs.Rows.{ImportFault}
+use Rattle.ppdb_rules.specs.Rows.ImportFault.{no_parent, cycle, no_list, bad_list}
 use Rattle.ppdb_values.specs.Chains.{NeverEnds as GoesOn, ancestor_of, chain_for, link_and, parent_at}
 use Rattle.ppdb_values.specs.Imports.{heap_of}
 use Rattle.ppdb_values.specs.RawFile.{type_limits}
-use Rattle.ppdb_values.specs.Rules.{KeepsImports}
+use Rattle.ppdb_values.specs.Rules.{IsImport, KeepsImports}
+use Rattle.kept_rules.proofs.Items.{row_named}
 use Rattle.kept_rules.proofs.Whole.{no_fault_there}
 
 -- ---- a chain that never ends has as many links as one likes
@@ -49,14 +50,15 @@ same_ancestor : (imports : List ImportRow) (row steps : ℕ)
 same_ancestor imports row zero = refl
 same_ancestor imports row (suc steps) = same_ancestor imports (parent_at (λ (scope : ImportRow). scope.parent) imports row) steps
 
-module _ (raw : RawTables) (keeps : KeepsImports raw) where
-  pub no_import_cycle : (row : ℕ) (x : ImportRow) → row_at raw.imports row ≡ Some x → NeverEnds raw.imports row → ⊥
-  no_import_cycle row x here never =
+module _ (raw : RawTables) (keeps : KeepsImports raw) (row : ℕ) (x : ImportRow) (here : row_at raw.imports row ≡ Some x) where
+  is : IsImport raw x
+  is = keeps.each row x here
+
+  pub no_import_fault : (column byte : ℕ) (code : Code) → ImportFault raw row x column byte code → ⊥
+  no_import_fault _ _ _ (no_parent none) = row_named 0 (count raw 0x35) x.parent (omega arith, is.parent) none
+  no_import_fault _ _ _ (cycle never) =
       no_cycle (λ scope. scope.parent) raw.imports row (keeps.chains_end row (row_within raw.imports row x here).1)
       (λ steps ended. never steps (same_ancestor raw.imports row steps ∙ ended))
-
-  pub no_imports_fault : (row : ℕ) (x : ImportRow) (fault : BlobFault) → row_at raw.imports row ≡ Some x
-      → HasFault (import_grammar (type_limits raw) (blob_at raw.blobs)) raw.blobs x.imports fault → ⊥
-  no_imports_fault row x fault here bad =
-      let is = keeps.each row x here in
+  no_import_fault _ _ _ (no_list none) = let some = is.imports in cc
+  no_import_fault _ _ _ (bad_list {fault} bad) =
       no_fault_there raw (import_grammar (type_limits raw) (heap_of raw)) x.imports fault is.imports is.imports_whole bad

@@ -1,6 +1,6 @@
 pub mod Whole
 pub mod Orders
-pub mod Cells
+pub mod Items
 pub mod Documents
 pub mod Methods
 pub mod Scopes

@@ -1,13 +1,17 @@
--- The sequence points of a file that keeps the rules are not at fault.
-use Rattle.std.proofs.Common.{◌≡◌, ℕ, ◌⊎◌, [], ap, ◌∙◌, inl, inr}
+-- The debug information of methods of a file that keeps the rules is not at fault.
+use Rattle.std.proofs.Common.{◌≡◌, ℕ, ◌⊎◌, [], ap, ◌∙◌, arith, inl, inr}
 use Rattle.std.specs.Prelude.{Some}
+use Rattle.ppdb_base.specs.declared.code.Code.{Code}
 use Rattle.ppdb_base.specs.declared.fault.BlobFault.{BlobFault}
 use Rattle.ppdb_tables.specs.declared.rows.MethodDebugRow.{MethodDebugRow}
-use Rattle.ppdb_tables.specs.RawTables.{RawTables, row_at}
+use Rattle.ppdb_tables.specs.RawTables.{RawTables, count, row_at}
 use Rattle.sequence_points.specs.Records.{sequence_points}
 use Rattle.ppdb_rules.specs.Blobs.{HasFault, IsNil}
+use Rattle.ppdb_rules.specs.Rows.{MethodDebugFault}
+use Rattle.ppdb_rules.specs.Rows.MethodDebugFault.{no_document, no_points, bad_points}
 use Rattle.ppdb_values.specs.RawFile.{blob, point_limits}
-use Rattle.ppdb_values.specs.Rules.{HasBlob, IsWhole, KeepsMethods}
+use Rattle.ppdb_values.specs.Rules.{HasBlob, IsMethod, IsWhole, KeepsMethods}
+use Rattle.kept_rules.proofs.Items.{row_named}
 use Rattle.kept_rules.proofs.Whole.{no_fault_there}
 
 -- points that are not nil are whole
@@ -17,6 +21,11 @@ not_at_fault : (raw : RawTables) (x : MethodDebugRow) (fault : BlobFault) → Ha
 not_at_fault raw x fault there (inl none) some bad = some (there ∙ ap (λ content. Some content) none)
 not_at_fault raw x fault there (inr whole) some bad = no_fault_there raw (sequence_points x.document (point_limits raw)) x.points fault there whole bad
 
-pub no_points_fault : (raw : RawTables) → KeepsMethods raw → (row : ℕ) (x : MethodDebugRow) (fault : BlobFault) → row_at raw.methods row ≡ Some x
-    → (IsNil raw.blobs x.points → ⊥) → HasFault (sequence_points x.document (point_limits raw)) raw.blobs x.points fault → ⊥
-no_points_fault raw keeps row x fault here some bad = not_at_fault raw x fault (keeps.each row x here).points (keeps.each row x here).points_whole some bad
+module _ (raw : RawTables) (keeps : KeepsMethods raw) (row : ℕ) (x : MethodDebugRow) (here : row_at raw.methods row ≡ Some x) where
+  is : IsMethod raw x
+  is = keeps.each row x here
+
+  pub no_method_fault : (column byte : ℕ) (code : Code) → MethodDebugFault raw row x column byte code → ⊥
+  no_method_fault _ _ _ (no_document none) = row_named 0 (count raw 0x30) x.document (omega arith, is.document) none
+  no_method_fault _ _ _ (no_points none) = let some = is.points in cc
+  no_method_fault _ _ _ (bad_points {fault} some bad) = not_at_fault raw x fault is.points is.points_whole some bad

@@ -36,11 +36,11 @@ module _ (list : ScopeRow → ℕ) (scopes : List ScopeRow) (items : ℕ) (keeps
       let up = up_to list scopes (row - 1) row before scope keeps.sorted there here (omega arith) in omega (arith, falls, up)
 
 -- where there are no scopes, there is no item
-pub no_item_alone : {X : Type 0} (list : ScopeRow → ℕ) (scopes : List ScopeRow) (items : List X) (first : X) → KeepsLists list scopes (length items)
-    → row_at items 1 ≡ Some first → length scopes ≡ 0 → ⊥
-no_item_alone list [] items first keeps here none =
-    let empty : length items ≡ 0 = keeps.none refl in let some = (row_within items 1 first here).1 in omega (arith, empty, some)
-no_item_alone list (scope ∷ scopes) items first keeps here none = cc
+pub no_item_alone : {X : Type 0} (list : ScopeRow → ℕ) (scopes : List ScopeRow) (items : List X) (row : ℕ) (x : X)
+    → KeepsLists list scopes (length items) → row_at items row ≡ Some x → length scopes ≡ 0 → ⊥
+no_item_alone list [] items row x keeps here none =
+    let empty : length items ≡ 0 = keeps.none refl in let within = row_within items row x here in omega (arith, empty, within.0, within.1)
+no_item_alone list (scope ∷ scopes) items row x keeps here none = cc
 
 -- ---- items of one scope
 

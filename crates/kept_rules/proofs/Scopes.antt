@@ -1,14 +1,19 @@
--- The scopes of a file that keeps the rules are in order, have ranges, and do not cross.
-use Rattle.std.proofs.Common.{◌≡◌, ℕ, ◌+◌, ◌<◌, ◌≤◌, sym, arith, inl, inr}
+-- The scopes of a file that keeps the rules are not at fault.
+use Rattle.std.proofs.Common.{◌≡◌, ℕ, ◌+◌, ◌<◌, ◌≤◌, sym, subst, arith, inl, inr}
 use Rattle.std.specs.Prelude.{Some}
+use Rattle.ppdb_base.specs.declared.code.Code.{Code}
 use Rattle.ppdb_tables.specs.declared.rows.ScopeRow.{ScopeRow}
-use Rattle.ppdb_tables.specs.RawTables.{RawTables, row_at}
+use Rattle.ppdb_tables.specs.RawTables.{RawTables, HasShape, count, row_at}
 use Rattle.ppdb_rules.specs.Earlier.{HasEarlier}
-use Rattle.ppdb_rules.specs.Scopes.{AreCrossed, Crosses, HasNoRange, IsAbove, extent_of}
+use Rattle.ppdb_rules.specs.Rows.{ScopeFault}
+use Rattle.ppdb_rules.specs.Rows.ScopeFault.{no_method, out_of_order, no_import, no_variables, no_constants, crossing, no_range}
+use Rattle.ppdb_rules.specs.Scopes.{AreCrossed, Crosses, HasNoRange, IsAbove, IsListOut, extent_of}
 use Rattle.ppdb_values.specs.Ranges.{ComesAfter, IsInOrAfter}
-use Rattle.ppdb_values.specs.Rules.{IsScope, KeepsScopes}
+use Rattle.ppdb_values.specs.Rules.{IsScope, KeepsConstants, KeepsScopes, KeepsVariables}
 use Rattle.ppdb_values.specs.Value.{range_of}
+use Rattle.kept_rules.proofs.Items.{row_named}
 use Rattle.kept_rules.proofs.Orders.{up_to}
+use Rattle.kept_rules.proofs.ScopeLists.{no_list_out}
 
 -- a scope that comes after another one of its method is not below it
 not_above : (x y : ScopeRow) → ComesAfter (range_of x) (range_of y)
@@ -41,10 +46,12 @@ ranged : (raw : RawTables) (x : ScopeRow) → IsScope raw x → HasNoRange (exte
 ranged raw x is (inl none) = let some = is.not_empty in omega (arith, some, none)
 ranged raw x is (inr late) = let end = is.end in omega (arith, end, late)
 
-module _ (raw : RawTables) (keeps : KeepsScopes raw) where
-  pub no_scope_above : (row : ℕ) (x : ScopeRow) → row_at raw.scopes row ≡ Some x
-      → HasEarlier (λ _ (e : ScopeRow). IsAbove (extent_of e) (extent_of x)) raw.scopes row → ⊥
-  no_scope_above row x here earlier =
+module _ (raw : RawTables) (keeps : KeepsScopes raw) (row : ℕ) (x : ScopeRow) (here : row_at raw.scopes row ≡ Some x) where
+  is : IsScope raw x
+  is = keeps.each row x here
+
+  none_above : HasEarlier (λ _ (e : ScopeRow). IsAbove (extent_of e) (extent_of x)) raw.scopes row → ⊥
+  none_above earlier =
       let e = earlier.earlier in
       let sooner = earlier.sooner in
       in_order e x
@@ -52,9 +59,8 @@ module _ (raw : RawTables) (keeps : KeepsScopes raw) where
       (keeps.by_start earlier.before row e x earlier.there here sooner)
       earlier.forbidden
 
-  pub no_scope_crossed : (row : ℕ) (x : ScopeRow) → row_at raw.scopes row ≡ Some x
-      → HasEarlier (λ _ (e : ScopeRow). AreCrossed (extent_of e) (extent_of x)) raw.scopes row → ⊥
-  no_scope_crossed row x here earlier =
+  none_crossed : HasEarlier (λ _ (e : ScopeRow). AreCrossed (extent_of e) (extent_of x)) raw.scopes row → ⊥
+  none_crossed earlier =
       let e = earlier.earlier in
       let crossed = earlier.forbidden in
       apart e x
@@ -62,5 +68,15 @@ module _ (raw : RawTables) (keeps : KeepsScopes raw) where
       (keeps.nested earlier.before row e x earlier.there here earlier.sooner crossed.0)
       crossed.1
 
-  pub no_range_missing : (row : ℕ) (x : ScopeRow) → row_at raw.scopes row ≡ Some x → HasNoRange (extent_of x) → ⊥
-  no_range_missing row x here none = ranged raw x (keeps.each row x here) none
+  pub no_scope_fault : HasShape raw → KeepsVariables raw → KeepsConstants raw → (column byte : ℕ) (code : Code) → ScopeFault raw row x column byte code → ⊥
+  no_scope_fault _ _ _ _ _ _ (no_method none) = row_named 1 (count raw 0x06) x.method is.method none
+  no_scope_fault _ _ _ _ _ _ (out_of_order earlier) = none_above earlier
+  no_scope_fault _ _ _ _ _ _ (no_import none) = row_named 0 (count raw 0x35) x.import (omega arith, is.import) none
+  no_scope_fault shape variables _ _ _ _ (no_variables out) =
+      no_list_out (λ s. s.variables) raw.scopes _ variables.lists row x here
+      (subst (λ (items : ℕ). IsListOut (λ s. s.variables) items raw.scopes row x) (sym shape.variables) out)
+  no_scope_fault shape _ constants _ _ _ (no_constants out) =
+      no_list_out (λ s. s.constants) raw.scopes _ constants.lists row x here
+      (subst (λ (items : ℕ). IsListOut (λ s. s.constants) items raw.scopes row x) (sym shape.constants) out)
+  no_scope_fault _ _ _ _ _ _ (crossing earlier) = none_crossed earlier
+  no_scope_fault _ _ _ _ _ _ (no_range none) = ranged raw x is none

@@ -81,8 +81,21 @@ fn lost(method: u32, offset: u32) -> MergeError {
     MergeError::AsyncLost { method, offset }
 }
 
+/// A map that does not fit its file is refused with this error.
+fn is_told(
+    alloc: Global,
+    bytes: &[u8],
+    lines: &'static str,
+    error: MergeError,
+) -> Result<(), Fail> {
+    match judged(alloc, bytes, lines)? {
+        Err(told) if told == error => Ok(()),
+        _ => Err(Fail::from(lines)),
+    }
+}
+
 #[test]
-fn what_does_not_fit_is_told(rt: HostRuntime) -> Result<(), Fail> {
+fn rows_slots_and_kinds_that_do_not_fit_are_told(rt: HostRuntime) -> Result<(), Fail> {
     let slot_unmapped = MergeError::SlotUnmapped { row: 2, slot: 1 };
     let slot_twice = MergeError::SlotTwice {
         method: 1,
@@ -96,55 +109,42 @@ fn what_does_not_fit_is_told(rt: HostRuntime) -> Result<(), Fail> {
         second: 3,
         image: 1,
     };
-    let rows: [(&[u8], &str, MergeError); 14] = [
+    let one_slot = "ppdbmap 3/slots 1/slot 1 0 5";
+    let two_slots = "ppdbmap 3/slots 1/slot 1 0 5/slot 1 1 5";
+    let no_entry = "ppdbmap 3/rows 06 1/slots 1/slot 1 0 5/slot 1 1 5";
+    let one_image = "ppdbmap 1/rows 06 2/row 06 2 1/row 06 3 1";
+    let rows: [(&[u8], &'static str, MergeError); 6] = [
         (&SMALL, "ppdbmap 1/rows 06 1", ENTRY_UNMAPPED),
-        (&SMALL, "ppdbmap 1/method 1 7 7/run 0 0 7", beyond(7, 7)),
-        (&SMALL, "ppdbmap 1/method 1 8 8/run 0 0 8", beyond(9, 8)),
-        (
-            &SMALL,
-            "ppdbmap 1/rows 06 1/method 1 5 5/run 0 0 5",
-            beyond(7, 5),
-        ),
-        (&SMALL, "ppdbmap 3/slots 1/slot 1 0 5", slot_unmapped),
-        (
-            &SMALL,
-            "ppdbmap 3/slots 1/slot 1 0 5/slot 1 1 5",
-            slot_twice,
-        ),
-        (
-            &SMALL,
-            "ppdbmap 3/rows 06 1/slots 1/slot 1 0 5/slot 1 1 5",
-            ENTRY_UNMAPPED,
-        ),
-        (
-            &HALVES,
-            "ppdbmap 1/rows 06 2/row 06 2 1/row 06 3 1",
-            image_twice,
-        ),
-        (
-            &HANDLED,
-            "ppdbmap 1/method 1 30 30/run 0 0 7/run 8 8 22",
-            lost(1, 7),
-        ),
-        (
-            &HANDLED,
-            "ppdbmap 1/method 1 30 30/run 0 0 20/run 21 21 9",
-            lost(1, 20),
-        ),
-        (&HANDLED, "ppdbmap 1/method 1 6 6/run 0 0 6", beyond(7, 6)),
-        (
-            &HANDLED,
-            "ppdbmap 1/method 1 25 30/run 0 0 25",
-            beyond(25, 25),
-        ),
-        (&RESUMED, "ppdbmap 2/drop 2", lost(2, 25)),
+        (&SMALL, one_slot, slot_unmapped),
+        (&SMALL, two_slots, slot_twice),
+        (&SMALL, no_entry, ENTRY_UNMAPPED),
+        (&HALVES, one_image, image_twice),
         (&UNKNOWN, "ppdbmap 2/drop 1", KIND_UNKNOWN),
     ];
     for (bytes, lines, error) in rows {
-        match judged(rt.alloc(), bytes, lines)? {
-            Err(told) if told == error => {}
-            _ => return Err(Fail::from(lines)),
-        }
+        is_told(rt.alloc(), bytes, lines, error)?;
+    }
+    Ok(())
+}
+
+#[test]
+fn offsets_that_do_not_fit_are_told(rt: HostRuntime) -> Result<(), Fail> {
+    let no_entry = "ppdbmap 1/rows 06 1/method 1 5 5/run 0 0 5";
+    let seven_goes = "ppdbmap 1/method 1 30 30/run 0 0 7/run 8 8 22";
+    let twenty_goes = "ppdbmap 1/method 1 30 30/run 0 0 20/run 21 21 9";
+    let short = "ppdbmap 1/method 1 25 30/run 0 0 25";
+    let rows: [(&[u8], &'static str, MergeError); 8] = [
+        (&SMALL, "ppdbmap 1/method 1 7 7/run 0 0 7", beyond(7, 7)),
+        (&SMALL, "ppdbmap 1/method 1 8 8/run 0 0 8", beyond(9, 8)),
+        (&SMALL, no_entry, beyond(7, 5)),
+        (&HANDLED, seven_goes, lost(1, 7)),
+        (&HANDLED, twenty_goes, lost(1, 20)),
+        (&HANDLED, "ppdbmap 1/method 1 6 6/run 0 0 6", beyond(7, 6)),
+        (&HANDLED, short, beyond(25, 25)),
+        (&RESUMED, "ppdbmap 2/drop 2", lost(2, 25)),
+    ];
+    for (bytes, lines, error) in rows {
+        is_told(rt.alloc(), bytes, lines, error)?;
     }
     Ok(())
 }

@@ -65,9 +65,24 @@ fn merged(
     Ok(merger.finish())
 }
 
+/// Two files are not merged, for this reason.
+fn is_told(
+    alloc: Global,
+    first: Input<'static>,
+    second: Input<'static>,
+    error: MergeError,
+) -> Result<(), Fail> {
+    match merged(alloc, first, second)? {
+        Err(told) if told == error => Ok(()),
+        _ => Err(Fail::from(second.1)),
+    }
+}
+
 #[test]
-fn what_does_not_fit_is_told(rt: HostRuntime) -> Result<(), Fail> {
+fn methods_and_documents_that_do_not_fit_are_told(rt: HostRuntime) -> Result<(), Fail> {
     let half = Input(&HALVES, "ppdbmap 1/rows 06 9/row 06 2 5/row 06 3 4");
+    let on_four = Input(&OTHER_HALF, "ppdbmap 1/rows 06 9/row 06 1 4");
+    let on_six = Input(&OTHER_HALF, "ppdbmap 1/rows 06 9/row 06 1 6");
     let taken = MergeError::MethodTaken {
         input: 1,
         first: 3,
@@ -75,6 +90,12 @@ fn what_does_not_fit_is_told(rt: HostRuntime) -> Result<(), Fail> {
         image: 4,
     };
     let conflict = MergeError::DocumentConflict { row: 2, joined: 2 };
+    is_told(rt.alloc(), half, on_four, taken)?;
+    is_told(rt.alloc(), half, on_six, conflict)
+}
+
+#[test]
+fn row_counts_that_do_not_fit_are_told(rt: HostRuntime) -> Result<(), Fail> {
     let differ = MergeError::RowsDiffer {
         input: 2,
         table: 2,
@@ -88,35 +109,12 @@ fn what_does_not_fit_is_told(rt: HostRuntime) -> Result<(), Fail> {
         image: 2,
         rows: 1,
     };
-    let rows = [
-        (
-            half,
-            Input(&OTHER_HALF, "ppdbmap 1/rows 06 9/row 06 1 4"),
-            taken,
-        ),
-        (
-            half,
-            Input(&OTHER_HALF, "ppdbmap 1/rows 06 9/row 06 1 6"),
-            conflict,
-        ),
-        (
-            Input(&HALVES, "ppdbmap 1/rows 06 9/row 06 2 12/row 06 3 4"),
-            Input(&SMALL, "ppdbmap 1/rows 06 9/row 06 1 6/rows 02 1"),
-            differ,
-        ),
-        (
-            Input(&SMALL, "ppdbmap 1/rows 06 1/row 06 1 2"),
-            Input(&SMALL, "ppdbmap 1/rows 06 1/row 06 1 1"),
-            above,
-        ),
-    ];
-    for (first, second, error) in rows {
-        match merged(rt.alloc(), first, second)? {
-            Err(told) if told == error => {}
-            _ => return Err(Fail::from(second.1)),
-        }
-    }
-    Ok(())
+    let halves = Input(&HALVES, "ppdbmap 1/rows 06 9/row 06 2 12/row 06 3 4");
+    let more_types = Input(&SMALL, "ppdbmap 1/rows 06 9/row 06 1 6/rows 02 1");
+    let past_one = Input(&SMALL, "ppdbmap 1/rows 06 1/row 06 1 2");
+    let one = Input(&SMALL, "ppdbmap 1/rows 06 1/row 06 1 1");
+    is_told(rt.alloc(), halves, more_types, differ)?;
+    is_told(rt.alloc(), past_one, one, above)
 }
 
 /// The document is one, and the methods stand by their images.

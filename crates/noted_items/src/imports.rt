@@ -1,7 +1,8 @@
 // What import scopes import, as blobs.
-ghost use Rattle.std.specs.Prelude.{◌≡◌, ◌<◌, All, fold, OnOk};
+ghost use Rattle.std.specs.Prelude.{◌≡◌, ◌<◌, ◌^◌, ◌∷◌, [], All, fold, OnOk};
+ghost use Rattle.heap_items.specs.Uses.{index};
 ghost use Rattle.type_blobs.specs.Types as types;
-ghost use Rattle.ppdb_canon.specs.Uses.{import_pieces, imports_pieces, type};
+ghost use Rattle.ppdb_canon.specs.Uses.{import_pieces, imports_pieces, number, type};
 ghost use Rattle.sound_values.specs.Writing.{HasSpelling};
 ghost use Rattle.noted_items.specs.Making.{with_piece};
 
@@ -30,45 +31,53 @@ fn put_type(blobs: &mut BlobHeap, target: &TypeToken) -> Result<(), Memory>
     blobs.put_number(4 * target.row + tag_of(target.table))
 }
 
+/// Puts the kind of an import behind it, and a text, which is noted as a blob of its own.
+fn put_named(blobs: &mut BlobHeap, kind: u32, name: &[u8]) -> Result<(), Memory>
+    requires { kind < 2 ^ 29 }
+    ensures { OnOk result (blobs.new ≡ fold with_piece blobs.old (number kind ∷ index name.now ∷ [])) }
+{
+    blobs.put_number(kind)?;
+    blobs.put_index(name)
+}
+
+/// Puts an assembly and a text behind it.
+fn put_assembly(blobs: &mut BlobHeap, assembly: u32, name: &[u8]) -> Result<(), Memory>
+    requires { assembly < 2 ^ 29 }
+    ensures { OnOk result (blobs.new ≡ fold with_piece blobs.old (number assembly ∷ index name.now ∷ [])) }
+{
+    blobs.put_number(assembly)?;
+    blobs.put_index(name)
+}
+
 /// Puts an import behind it; the texts are noted as blobs of their own.
 fn put_import(blobs: &mut BlobHeap, import: &ImportValue) -> Result<(), Memory>
     requires { HasSpelling import.now }
     ensures { OnOk result (blobs.new ≡ fold with_piece blobs.old (import_pieces import.now)) }
 {
     match import {
-        ImportValue::Namespace { namespace } => {
-            blobs.put_number(1)?;
-            blobs.put_index(namespace.as_slice())
-        }
+        ImportValue::Namespace { namespace } => put_named(blobs, 1, namespace.as_slice()),
         ImportValue::AssemblyNamespace {
             assembly,
             namespace,
         } => {
             blobs.put_number(2)?;
-            blobs.put_number(*assembly)?;
-            blobs.put_index(namespace.as_slice())
+            put_assembly(blobs, *assembly, namespace.as_slice())
         }
         ImportValue::Target { target } => {
             blobs.put_number(3)?;
             put_type(blobs, target)
         }
         ImportValue::Xml { alias, namespace } => {
-            blobs.put_number(4)?;
-            blobs.put_index(alias.as_slice())?;
+            put_named(blobs, 4, alias.as_slice())?;
             blobs.put_index(namespace.as_slice())
         }
-        ImportValue::Alias { alias } => {
-            blobs.put_number(5)?;
-            blobs.put_index(alias.as_slice())
-        }
+        ImportValue::Alias { alias } => put_named(blobs, 5, alias.as_slice()),
         ImportValue::AssemblyAlias { alias, assembly } => {
-            blobs.put_number(6)?;
-            blobs.put_index(alias.as_slice())?;
+            put_named(blobs, 6, alias.as_slice())?;
             blobs.put_number(*assembly)
         }
         ImportValue::NamespaceAlias { alias, namespace } => {
-            blobs.put_number(7)?;
-            blobs.put_index(alias.as_slice())?;
+            put_named(blobs, 7, alias.as_slice())?;
             blobs.put_index(namespace.as_slice())
         }
         ImportValue::AssemblyNamespaceAlias {
@@ -76,14 +85,11 @@ fn put_import(blobs: &mut BlobHeap, import: &ImportValue) -> Result<(), Memory>
             assembly,
             namespace,
         } => {
-            blobs.put_number(8)?;
-            blobs.put_index(alias.as_slice())?;
-            blobs.put_number(*assembly)?;
-            blobs.put_index(namespace.as_slice())
+            put_named(blobs, 8, alias.as_slice())?;
+            put_assembly(blobs, *assembly, namespace.as_slice())
         }
         ImportValue::TargetAlias { alias, target } => {
-            blobs.put_number(9)?;
-            blobs.put_index(alias.as_slice())?;
+            put_named(blobs, 9, alias.as_slice())?;
             put_type(blobs, target)
         }
     }

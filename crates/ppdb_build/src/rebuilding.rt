@@ -1,10 +1,11 @@
 // A verified file as the one file that says the same.
-ghost use Rattle.std.specs.Prelude.{◌≡◌, None, OnOk, IfOk, IfErr, length};
+ghost use Rattle.std.specs.Prelude.{◌≡◌, ◌+◌, None, OnOk, IfOk, IfErr, length};
 ghost use Rattle.ppdb_base.specs.First.{IsAccepted};
 ghost use Rattle.ppdb_values.specs.Value.{value_of as value_in};
 ghost use Rattle.ppdb_verify.specs.Files.{BadFile, IsRawOf};
 ghost use Rattle.ppdb_values.specs.RawFile.{RawFile};
 ghost use Rattle.ppdb_verify.specs.Views.{head_of, raw_file};
+ghost use Rattle.value_reading.specs.Totals.{row_total};
 ghost use Rattle.ppdb_canon.specs.Canon.{canon, chosen_id, with_id};
 ghost use Rattle.ppdb_canon.specs.Limits.{first_limit};
 ghost use Rattle.written_files.specs.Written.{IsSameAgain, Says};
@@ -44,7 +45,7 @@ fn is_drafted(file: &Verified<'_>, head: &PdbHead, draft: &Drafting)
     rows_are_long(head);
 }
 
-/// L1 to L3, of which a file can only pass L2.
+/// L1 to L3. The rules show that a file passes neither L1 nor L3; the draft tells L2.
 fn early_limit_in(file: &Verified<'_>, draft: &Drafting) -> Option<Limit>
     requires { IsDraftOf (value_in (raw_file file.now)) draft.now }
     ensures { result ≡ early_limit_of (value_in (raw_file file.now)) }
@@ -68,6 +69,7 @@ pub fn rebuild<L: Ledger>(
 ) -> Result<Bytes, BuildError>
     ensures written { IfOk result (λ bytes. bytes ≡ canon (value_in (raw_file file.now)) id) }
     ensures within { OnOk result (first_limit (value_in (raw_file file.now)) ≡ None) }
+    ensures rows { OnOk result (steps.new ≡ steps.old + row_total (raw_file file.now).tables) }
     ensures limit { IfErr result (IsLimitOf (value_in (raw_file file.now))) }
     ensures accepted { IfOk result (λ bytes. IsAccepted (BadFile bytes)) }
     ensures reread { IfOk result (λ bytes. Says bytes (with_id (value_in (raw_file file.now)) (chosen_id (value_in (raw_file file.now)) id))) }

@@ -7,7 +7,8 @@ use Rattle.ppdb_canon.specs.declared.choice.IdChoice.{IdChoice}
 use Rattle.ppdb_canon.specs.declared.choice.IdChoice.TheVariants.{Hash, Keep}
 use Rattle.ppdb_canon.specs.Canonical.{canonical}
 
--- an identity of 20 bytes from a digest, marked as a random GUID and a stamp
+-- An identity from a digest: its first 20 bytes. In the GUID of the first 16, the high half of byte 7 is 4 and the two high bits of byte 8 are 10,
+-- as in a random one (version 4); the high bit of byte 19, the last of the stamp, is set.
 abbrev pub id_from : List ℕ → List ℕ
 id_from digest =
     let id = take 20 digest in
@@ -18,6 +19,7 @@ abbrev pub chosen_id : FileValue → IdChoice → List ℕ
 chosen_id value Keep = value.id
 chosen_id value Hash = id_from (sha256 (file_bytes (canonical value (replicate 20 0))))
 
+-- the file of a value, with the identity that is chosen
 abbrev pub canon : FileValue → IdChoice → List ℕ
 canon value choice = file_bytes (canonical value (chosen_id value choice))
 

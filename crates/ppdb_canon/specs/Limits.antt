@@ -54,7 +54,7 @@ abbrev pub first_met : List (Option Limit) → Option Limit
 first_met [] = None
 first_met (limit ∷ limits) = option_or limit (first_met limits)
 
--- the first limit that the value meets
+-- the first limit that the value meets, in the order L1 to L6; L5 is that of the bytes of its file, as many with any identity
 abbrev pub first_limit : FileValue → Option Limit
 first_limit value =
     first_met (first_of (filter_map (too_many_rows value) tables)

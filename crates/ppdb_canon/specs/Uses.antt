@@ -39,13 +39,15 @@ parts_of name =
 
 -- ---- imports ("Imports Blob")
 
--- an import: its kind, and its fields, of which texts are the indexes of blobs
+-- a number of an import, in its shortest form
 abbrev pub number : ℕ → Piece
 number n = octets (short_unsigned n)
 
+-- a type, by its number
 abbrev pub type : TypeToken → Piece
 type target = number (number_of target)
 
+-- an import: its kind, and its fields, of which texts are the indexes of blobs
 abbrev pub import_pieces : ImportValue → List Piece
 import_pieces (Namespace namespace) = number 1 ∷ index namespace ∷ []
 import_pieces (AssemblyNamespace assembly namespace) = number 2 ∷ number assembly ∷ index namespace ∷ []

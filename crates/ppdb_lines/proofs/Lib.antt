@@ -2,6 +2,7 @@ pub mod Ascii
 pub mod Counted
 pub mod Hexed
 pub mod Keeping
+pub mod Names
 pub mod Ordered
 pub mod Parts
 pub mod Places

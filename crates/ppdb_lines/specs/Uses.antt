@@ -5,18 +5,8 @@ use Rattle.type_blobs.specs.declared.types.TypeToken.{TypeToken}
 use Rattle.ppdb_values.specs.declared.import.ImportValue.{ImportValue}
 use Rattle.ppdb_values.specs.declared.import.ImportValue.TheVariants.{Namespace, AssemblyNamespace, Target, Xml, Alias, AssemblyAlias}
 use Rattle.ppdb_values.specs.declared.import.ImportValue.TheVariants.{NamespaceAlias, AssemblyNamespaceAlias, TargetAlias}
+use Rattle.ppdb_values.specs.WrittenImports.{kind_of_import}
 use Rattle.ppdb_lines.specs.Lines.{Line, Field, field, mark, number, table, name}
-
-abbrev pub kind_of : ImportValue → ℕ
-kind_of (Namespace namespace) = 1
-kind_of (AssemblyNamespace assembly namespace) = 2
-kind_of (Target target) = 3
-kind_of (Xml alias namespace) = 4
-kind_of (Alias alias) = 5
-kind_of (AssemblyAlias alias assembly) = 6
-kind_of (NamespaceAlias alias namespace) = 7
-kind_of (AssemblyNamespaceAlias alias assembly namespace) = 8
-kind_of (TargetAlias alias target) = 9
 
 abbrev pub alias_of : ImportValue → Option (List ℕ)
 alias_of (Xml alias namespace) = Some alias
@@ -70,7 +60,7 @@ row_or_none None = mark []
 abbrev pub use_line : ImportValue → Line
 use_line import = record {
   word = codes "use";
-  fields = field (codes " ") (codes "kind") (number (kind_of import))
+  fields = field (codes " ") (codes "kind") (number (kind_of_import import))
       ∷ alias_or_none (alias_of import)
       ∷ assembly_or_none (assembly_of import)
       ∷ namespace_or_none (namespace_of import)

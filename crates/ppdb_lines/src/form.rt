@@ -10,6 +10,7 @@ use crate::object::put_json_line;
 use crate::text::put_text_line;
 use ppdb_base::{Sink, WriteError};
 use std::alloc::Global;
+use std::cell::Cell;
 
 /// What lines are put as.
 #[derive(Clone, Copy)]
@@ -22,12 +23,14 @@ pub enum Form {
 
 /// Puts lines in a form.
 #[derive(Clone, Copy)]
-pub struct Printer {
+pub struct Printer<'a> {
     pub alloc: Global,
     pub form: Form,
+    /// Room that one line of JSON leaves to the next.
+    pub room: &'a Cell<Vec<u8>>,
 }
 
-impl Printer {
+impl Printer<'_> {
     /// Puts a line. The order is that of its keys in JSON: 0 is the word's, and 1 that of the first part.
     pub fn put_line<O: Sink>(
         self,
@@ -37,11 +40,11 @@ impl Printer {
         parts: &[Part<'_>],
     ) -> Result<(), WriteError>
         requires { IsKeyOrder order.now (line_of word.now parts.now) }
-        ensures { Puts result (O.written out.old) (O.written out.new) (O.faults out.old) (O.faults out.new) (lines_as self.form (line_of word.now parts.now ∷ [])) }
+        ensures { Puts result (O.written out.old) (O.written out.new) (O.faults out.old) (O.faults out.new) (lines_as self.entry.form (line_of word.now parts.now ∷ [])) }
     {
         match self.form {
             Form::Text => put_text_line(out, word, parts),
-            Form::Json => put_json_line(self.alloc, out, word, order, parts),
+            Form::Json => put_json_line(self.alloc, self.room, out, word, order, parts),
         }
     }
 }

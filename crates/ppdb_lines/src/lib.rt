@@ -9,6 +9,7 @@ mod kept;
 mod line;
 mod object;
 mod pieces;
+mod plain;
 mod text;
 mod uses;
 mod values;

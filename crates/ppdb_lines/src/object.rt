@@ -8,17 +8,17 @@ ghost use Rattle.ppdb_lines.specs.Views.{content_of, line_of, IsText};
 
 use crate::item::put_item;
 use crate::line::{Item, Part};
+use crate::plain::plain_text;
 use json::Writer;
 use ppdb_base::{Memory, Sink, SteadySink, WriteError};
 use std::alloc::Global;
-
-/// Room for a line that has no long name.
-const ROOM: usize = 256;
+use std::cell::Cell;
 
 /// Puts a line as an object of JSON. The order is that of the keys: 0 is the word, and 1 the first part.
 #[tactic(auto, unfolding(crate::specs::Lines::json_of))]
 pub(crate) fn put_json_line<O: Sink>(
     alloc: Global,
+    room: &Cell<Vec<u8>>,
     out: &mut O,
     word: &str,
     order: &[usize],
@@ -27,14 +27,17 @@ pub(crate) fn put_json_line<O: Sink>(
     requires { IsKeyOrder order.now (line_of word.now parts.now) }
     ensures { Puts result (O.written out.old) (O.written out.new) (O.faults out.old) (O.faults out.new) (json_of (line_of word.now parts.now)) }
 {
-    let text = object_line(alloc, word, order, parts)?;
-    out.put(text.as_slice())
+    let text = object_line(alloc, room.replace(Vec::new(alloc)), word, order, parts)?;
+    let put = out.put(text.as_slice());
+    room.set(text);
+    put
 }
 
-/// The text of a line's object, and the end of its line.
+/// The text of a line's object and the end of its line, in place of what is there.
 #[tactic(auto, unfolding(crate::specs::Lines::json_of))]
 fn object_line(
     alloc: Global,
+    mut room: Vec<u8>,
     word: &str,
     order: &[usize],
     parts: &[Part<'_>],
@@ -42,7 +45,8 @@ fn object_line(
     requires { IsKeyOrder order.now (line_of word.now parts.now) }
     ensures { IfOk result (λ text. text.items ≡ json_of (line_of word.now parts.now)) }
 {
-    let mut writer = Writer::new(Vec::with_capacity(alloc, ROOM)?);
+    room.clear();
+    let mut writer = Writer::new(room);
     writer.begin_object()?;
     for place in order {
         put_member(alloc, &mut writer, word, parts, *place)?;
@@ -102,6 +106,11 @@ fn put_string(alloc: Global, writer: &mut Writer, item: &Item<'_>) -> Result<(),
     ensures ok { OnOk result (writer.new.tokens ≡ writer.old.tokens ++ tokens.string (content_text (content_of item.now)) ∷ []) }
     ensures before { writer.new.before ≡ writer.old.before }
 {
+    if let Item::Name(name) = item {
+        if let Some(text) = plain_text(name) {
+            return Ok(writer.string(text)?);
+        }
+    }
     let mut sink = SteadySink::new(alloc);
     if put_item(&mut sink, item).is_err() {
         return Err(Memory);

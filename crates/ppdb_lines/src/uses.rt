@@ -3,8 +3,9 @@ ghost use Rattle.std.specs.Prelude.{◌≡◌, [], ◌∷◌};
 ghost use Rattle.ppdb_base.specs.Written.{Puts};
 ghost use Rattle.type_blobs.specs.ImportReading.{shown};
 ghost use Rattle.ppdb_values.specs.Imports.{import_value};
+ghost use Rattle.ppdb_values.specs.WrittenImports.{kind_of_import};
 ghost use Rattle.ppdb_lines.specs.Forms.{lines_as};
-ghost use Rattle.ppdb_lines.specs.Uses.{use_line, kind_of, alias_of, assembly_of, namespace_of, type_of, alias_or_none, assembly_or_none};
+ghost use Rattle.ppdb_lines.specs.Uses.{use_line, alias_of, assembly_of, namespace_of, type_of, alias_or_none, assembly_or_none};
 ghost use Rattle.ppdb_lines.specs.Uses.{namespace_or_none, table_or_none, row_or_none};
 ghost use Rattle.ppdb_lines.specs.Views.{field_of};
 
@@ -17,12 +18,12 @@ use type_blobs::{Import, TypeToken};
 
 /// Puts the line of an import: its kind, and what the kind has of an alias, an assembly, a namespace and a type.
 pub fn put_use<O: Sink>(
-    printer: Printer,
+    printer: Printer<'_>,
     out: &mut O,
     import: &Import<'_>,
 ) -> Result<(), WriteError>
     ensures { Puts result (O.written out.old) (O.written out.new) (O.faults out.old) (O.faults out.new)
-        (lines_as printer.form (use_line (import_value (shown import.now)) ∷ [])) }
+        (lines_as printer.entry.form (use_line (import_value (shown import.now)) ∷ [])) }
 {
     let target = target_of(import);
     let parts = [
@@ -38,7 +39,7 @@ pub fn put_use<O: Sink>(
 
 /// The number of an import's kind.
 fn kind_of(import: &Import<'_>) -> u32
-    ensures { result ≡ kind_of (import_value (shown import.now)) }
+    ensures { result ≡ kind_of_import (import_value (shown import.now)) }
 {
     match import {
         Import::Namespace { .. } => 1,

@@ -5,13 +5,9 @@ use Rattle.ppdb_base.specs.declared.fault.Place.{Place}
 use Rattle.ppdb_base.specs.Place.{ComesBefore, numbers}
 use Rattle.ppdb_base.specs.First.{IsAccepted}
 use Rattle.ppdb_tables.specs.RawTables.{RawTables, HasShape, count}
-use Rattle.ppdb_rules.specs.Cells.TextCell.{variable_name, constant_name}
-use Rattle.ppdb_rules.specs.Cells.BlobCell.{document_name}
-use Rattle.ppdb_rules.specs.Cells.GuidCell.{custom_kind}
-use Rattle.ppdb_rules.specs.Cells.RowCell.{scope_method}
 use Rattle.ppdb_rules.specs.Judged.{ToTable, ToRow}
 use Rattle.ppdb_rules.specs.Rows.{BadRow}
-use Rattle.ppdb_rules.specs.Rows.BadRow.{string_index, blob_index, guid_index, row_index}
+use Rattle.ppdb_rules.specs.Rows.BadRow.{in_document}
 use Rattle.ppdb_rules.proofs.DocumentFaults.{past_table as past_documents}
 use Rattle.ppdb_rules.proofs.MethodDebugFaults.{past_table as past_methods}
 use Rattle.ppdb_rules.proofs.ScopeFaults.{past_table as past_scopes}
@@ -28,11 +24,7 @@ record IsRowPlace (at : Place) : Type 0 where
   to : at.table ≤ 0x37
 
 row_place : (raw : RawTables) (code : Code) (at : Place) → BadRow raw code at → IsRowPlace at
-row_place raw _ _ (string_index (variable_name _) _) = record { part = refl; from = omega arith; to = omega arith }
-row_place raw _ _ (string_index (constant_name _) _) = record { part = refl; from = omega arith; to = omega arith }
-row_place raw _ _ (blob_index (document_name _) _) = record { part = refl; from = omega arith; to = omega arith }
-row_place raw _ _ (guid_index (custom_kind _) _) = record { part = refl; from = omega arith; to = omega arith }
-row_place raw _ _ (row_index (scope_method _) _) = record { part = refl; from = omega arith; to = omega arith }
+row_place raw _ _ (in_document _ _) = record { part = refl; from = omega arith; to = omega arith }
 row_place raw _ _ _ = record { part = refl; from = omega arith; to = omega arith }
 
 -- before the first table nothing is bad

@@ -1,5 +1,5 @@
 -- The faults of Constant.
-use Rattle.std.proofs.Common.{◌≡◌, subst, ℕ, suc, ◌+◌, ◌<◌, ◌⊎◌, length, Some, None, refl, sym, arith}
+use Rattle.std.proofs.Common.{◌≡◌, ℕ, suc, ◌+◌, ◌<◌, ◌⊎◌, length, Some, None, arith}
 use Rattle.ppdb_base.specs.declared.code.Code.{Code}
 use Rattle.ppdb_base.specs.declared.code.Code.TheVariants.{StringIndex, BlobIndex, ListRange, NameRepeated}
 use Rattle.ppdb_base.specs.declared.fault.BlobFault.{BlobFault}
@@ -11,39 +11,18 @@ use Rattle.ppdb_tables.specs.declared.rows.ConstantRow.{ConstantRow}
 use Rattle.ppdb_tables.specs.RawTables.{RawTables, row_at, count}
 use Rattle.type_blobs.specs.Constants.{constants}
 use Rattle.ppdb_rules.specs.Blobs.{HasFault, in_blob, type_limits}
-use Rattle.ppdb_rules.specs.Cells.TextCell.{constant_name, variable_name}
-use Rattle.ppdb_rules.specs.Cells.BlobCell.{constant_signature, document_name}
-use Rattle.ppdb_rules.specs.Cells.GuidCell.{custom_kind}
-use Rattle.ppdb_rules.specs.Cells.RowCell.{scope_method}
 use Rattle.ppdb_rules.specs.Earlier.{HasEarlier}
 use Rattle.ppdb_rules.specs.Judged.{ToTable, ToRow, ToCell, IsFirstOf}
-use Rattle.ppdb_rules.specs.Rows.{BadRow}
-use Rattle.ppdb_rules.specs.Rows.BadRow.{blob_index, constant_content, constant_name_repeated, constants_alone, guid_index, row_index, string_index}
+use Rattle.ppdb_rules.specs.Rows.{BadRow, ConstantFault}
+use Rattle.ppdb_rules.specs.Rows.BadRow.{in_constant}
+use Rattle.ppdb_rules.specs.Rows.ConstantFault.{no_text, alone, same_text, no_signature, bad_signature}
 use Rattle.ppdb_rules.specs.Scopes.{AreSameText, ShareOwner}
 use Rattle.ppdb_rules.proofs.BlobFaults.{one_fault, not_there}
 use Rattle.ppdb_rules.proofs.CellFaults as cells
 
--- the faults of a row, by column, byte and code
-pub data ConstantFault (raw : RawTables) (row : ℕ) (constant : ConstantRow) : ℕ → ℕ → Code → Type 0 where
-  no_text : text_at raw.texts constant.name ≡ None → ConstantFault raw row constant 0 0 StringIndex
-  alone : ((row ≡ 1) × (count raw 0x32 ≡ 0)) → ConstantFault raw row constant 0 0 ListRange
-  same_text : HasEarlier (λ before (e : ConstantRow). ShareOwner (λ s. s.constants) raw.scopes before row × AreSameText raw.texts e.name constant.name)
-      raw.constants row → ConstantFault raw row constant 0 0 NameRepeated
-  no_signature : blob_at raw.blobs constant.signature ≡ None → ConstantFault raw row constant 1 0 BlobIndex
-  bad_signature : {fault : BlobFault} → HasFault (constants (type_limits raw)) raw.blobs constant.signature fault
-      → ConstantFault raw row constant 1 fault.byte fault.code
-
 inside : (raw : RawTables) (code : Code) (at : Place) → BadRow raw code at → at.table ≡ 0x34
     → (x : ConstantRow) × (row_at raw.constants at.row ≡ Some x) × ConstantFault raw at.row x at.column at.byte code
-inside raw _ _ (string_index (constant_name {row} {x} h) w) t = (x, h, no_text w)
-inside raw _ _ (constants_alone {first} h w) t = (first, h, alone (refl, w))
-inside raw _ _ (constant_name_repeated {row} {constant} h w) t = (constant, h, same_text w)
-inside raw _ _ (blob_index (constant_signature {row} {x} h) w) t = (x, h, no_signature w)
-inside raw _ _ (constant_content {row} {x} {fault} h w) t = (x, h, bad_signature {fault = fault} w)
-inside raw _ _ (row_index (scope_method h) w) t = absurd (omega (arith, t))
-inside raw _ _ (string_index (variable_name h) w) t = absurd (omega (arith, t))
-inside raw _ _ (blob_index (document_name h) w) t = absurd (omega (arith, t))
-inside raw _ _ (guid_index (custom_kind h) w) t = absurd (omega (arith, t))
+inside raw _ _ (in_constant {row} {column} {byte} {code} {x} there fault) t = (x, there, fault)
 inside raw _ _ _ t = absurd (omega (arith, t))
 
 module _ (raw : RawTables) where
@@ -58,16 +37,18 @@ module _ (raw : RawTables) (row : ℕ) (constant : ConstantRow) (there : row_at 
       → ToCell raw 0x34 row (suc column)
   next column = cells.next_cell raw 0x34 raw.constants (ConstantFault raw) (inside raw) row column constant there
 
-  first : (column : ℕ) (code : Code) (fault : Fault) → ToCell raw 0x34 row column → BadRow raw code (in_blob 0x34 row column 0)
+  first : (column : ℕ) (code : Code) (fault : Fault) → ToCell raw 0x34 row column → ConstantFault raw row constant column 0 code
       → ((b : ℕ) (other : Code) → ConstantFault raw row constant column b other → number_of other < number_of code → ⊥)
       → fault ≡ record { code = code; place = in_blob 0x34 row column 0 } → IsFirstOf raw fault
-  first column code fault = cells.first_at raw 0x34 raw.constants (ConstantFault raw) (inside raw) row column constant code fault there
+  first column code fault judged wrong =
+      cells.first_at raw 0x34 raw.constants (ConstantFault raw) (inside raw) row column constant code fault there judged (in_constant there wrong)
 
-  first_within : (column : ℕ) (fault : Fault) (inner : BlobFault) → ToCell raw 0x34 row column → BadRow raw inner.code (in_blob 0x34 row column inner.byte)
+  first_within : (column : ℕ) (fault : Fault) (inner : BlobFault) → ToCell raw 0x34 row column → ConstantFault raw row constant column inner.byte inner.code
       → ((b : ℕ) (other : Code) → ConstantFault raw row constant column b other
       → (b < inner.byte) ⊎ ((b ≡ inner.byte) × (number_of other < number_of inner.code)) → ⊥)
       → fault ≡ record { code = inner.code; place = in_blob 0x34 row column inner.byte } → IsFirstOf raw fault
-  first_within column fault inner = cells.first_within raw 0x34 raw.constants (ConstantFault raw) (inside raw) row column constant fault inner there
+  first_within column fault inner judged wrong =
+      cells.first_within raw 0x34 raw.constants (ConstantFault raw) (inside raw) row column constant fault inner there judged (in_constant there wrong)
 
   pub past_row : ToCell raw 0x34 row 2 → ToRow raw 0x34 (row + 1)
   past_row judged = cells.past_row raw 0x34 raw.constants (ConstantFault raw) (inside raw) row 2 constant there judged narrow
@@ -81,7 +62,7 @@ module _ (raw : RawTables) (row : ℕ) (constant : ConstantRow) (there : row_at 
 
   pub no_text_first : (fault : Fault) → ToCell raw 0x34 row 0 → text_at raw.texts constant.name ≡ None
       → fault ≡ record { code = StringIndex; place = in_blob 0x34 row 0 0 } → IsFirstOf raw fault
-  no_text_first fault judged wrong = first 0 StringIndex fault judged (string_index (constant_name there) wrong) none
+  no_text_first fault judged wrong = first 0 StringIndex fault judged (no_text wrong) none
     where
       none : (b : ℕ) (other : Code) → ConstantFault raw row constant 0 b other → number_of other < 19 → ⊥
       none _ _ (no_text _) lower = omega (arith, lower)
@@ -90,8 +71,7 @@ module _ (raw : RawTables) (row : ℕ) (constant : ConstantRow) (there : row_at 
 
   pub alone_first : (fault : Fault) → ToCell raw 0x34 row 0 → (text_at raw.texts constant.name ≡ None → ⊥) → (row ≡ 1) × (count raw 0x32 ≡ 0)
       → fault ≡ record { code = ListRange; place = in_blob 0x34 row 0 0 } → IsFirstOf raw fault
-  alone_first fault judged no0 wrong = first 0 ListRange fault judged (subst (λ (n : ℕ). BadRow raw ListRange (in_blob 0x34 n 0 0)) (sym wrong.0)
-      (constants_alone (subst (λ (n : ℕ). row_at raw.constants n ≡ Some constant) wrong.0 there) wrong.1)) none
+  alone_first fault judged no0 wrong = first 0 ListRange fault judged (alone wrong) none
     where
       none : (b : ℕ) (other : Code) → ConstantFault raw row constant 0 b other → number_of other < 29 → ⊥
       none _ _ (no_text w) lower = no0 w
@@ -102,7 +82,7 @@ module _ (raw : RawTables) (row : ℕ) (constant : ConstantRow) (there : row_at 
       → HasEarlier (λ before (e : ConstantRow). ShareOwner (λ s. s.constants) raw.scopes before row × AreSameText raw.texts e.name constant.name) raw.constants
       row
       → fault ≡ record { code = NameRepeated; place = in_blob 0x34 row 0 0 } → IsFirstOf raw fault
-  same_text_first fault judged no0 no1 wrong = first 0 NameRepeated fault judged (constant_name_repeated there wrong) none
+  same_text_first fault judged no0 no1 wrong = first 0 NameRepeated fault judged (same_text wrong) none
     where
       none : (b : ℕ) (other : Code) → ConstantFault raw row constant 0 b other → number_of other < 31 → ⊥
       none _ _ (no_text w) lower = no0 w
@@ -121,7 +101,7 @@ module _ (raw : RawTables) (row : ℕ) (constant : ConstantRow) (there : row_at 
 
   pub no_signature_first : (fault : Fault) → ToCell raw 0x34 row 1 → blob_at raw.blobs constant.signature ≡ None
       → fault ≡ record { code = BlobIndex; place = in_blob 0x34 row 1 0 } → IsFirstOf raw fault
-  no_signature_first fault judged wrong = first 1 BlobIndex fault judged (blob_index (constant_signature there) wrong) none
+  no_signature_first fault judged wrong = first 1 BlobIndex fault judged (no_signature wrong) none
     where
       none : (b : ℕ) (other : Code) → ConstantFault raw row constant 1 b other → number_of other < 20 → ⊥
       none _ _ (no_signature _) lower = omega (arith, lower)
@@ -130,7 +110,7 @@ module _ (raw : RawTables) (row : ℕ) (constant : ConstantRow) (there : row_at 
   pub bad_signature_first : (fault : Fault) (inner : BlobFault) → ToCell raw 0x34 row 1
       → HasFault (constants (type_limits raw)) raw.blobs constant.signature inner
       → fault ≡ record { code = inner.code; place = in_blob 0x34 row 1 inner.byte } → IsFirstOf raw fault
-  bad_signature_first fault inner judged wrong = first_within 1 fault inner judged (constant_content {fault = inner} there wrong) none
+  bad_signature_first fault inner judged wrong = first_within 1 fault inner judged (bad_signature {fault = inner} wrong) none
     where
       none : (b : ℕ) (other : Code) → ConstantFault raw row constant 1 b other
           → (b < inner.byte) ⊎ ((b ≡ inner.byte) × (number_of other < number_of inner.code)) → ⊥

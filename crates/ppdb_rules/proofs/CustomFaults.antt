@@ -10,41 +10,18 @@ use Rattle.ppdb_heaps.specs.Heaps.{blob_at}
 use Rattle.ppdb_tables.specs.declared.rows.CustomRow.{CustomRow}
 use Rattle.ppdb_tables.specs.RawTables.{RawTables, row_at}
 use Rattle.ppdb_rules.specs.Blobs.{NamesNoGuid, in_blob}
-use Rattle.ppdb_rules.specs.Cells.TextCell.{variable_name}
-use Rattle.ppdb_rules.specs.Cells.BlobCell.{custom_value, document_name}
-use Rattle.ppdb_rules.specs.Cells.GuidCell.{custom_kind, document_algorithm}
-use Rattle.ppdb_rules.specs.Cells.RowCell.{custom_parent, scope_method}
 use Rattle.ppdb_rules.specs.Earlier.{HasEarlier}
 use Rattle.ppdb_rules.specs.Judged.{ToTable, ToRow, ToCell, IsFirstOf}
-use Rattle.ppdb_rules.specs.Rows.{BadRow}
-use Rattle.ppdb_rules.specs.Rows.BadRow.{blob_index, coded_tag, custom_content, custom_order, guid_index, kind_parent, row_index, string_index}
+use Rattle.ppdb_rules.specs.Rows.{BadRow, CustomFault}
+use Rattle.ppdb_rules.specs.Rows.BadRow.{in_custom}
+use Rattle.ppdb_rules.specs.Rows.CustomFault.{no_parent, no_tag, out_of_order, no_kind, other_parent, no_value, bad_value}
 use Rattle.ppdb_rules.specs.Customs.{HasBadValue, HasNoParent, HasOtherParent}
 use Rattle.ppdb_rules.proofs.BlobFaults.{one_bad_value, value_not_there}
 use Rattle.ppdb_rules.proofs.CellFaults as cells
 
--- the faults of a row, by column, byte and code
-pub data CustomFault (raw : RawTables) (row : ℕ) (custom : CustomRow) : ℕ → ℕ → Code → Type 0 where
-  no_parent : HasNoParent raw custom.parent → CustomFault raw row custom 0 0 RowIndex
-  no_tag : 26 < custom.parent % 32 → CustomFault raw row custom 0 0 CodedTag
-  out_of_order : HasEarlier (λ _ (e : CustomRow). custom.parent < e.parent) raw.customs row → CustomFault raw row custom 0 0 CustomOrder
-  no_kind : NamesNoGuid 1 raw.guids custom.kind → CustomFault raw row custom 1 0 GuidIndex
-  other_parent : HasOtherParent raw.guids custom → CustomFault raw row custom 1 0 KindParent
-  no_value : blob_at raw.blobs custom.value ≡ None → CustomFault raw row custom 2 0 BlobIndex
-  bad_value : {fault : BlobFault} → HasBadValue raw custom fault → CustomFault raw row custom 2 fault.byte fault.code
-
 inside : (raw : RawTables) (code : Code) (at : Place) → BadRow raw code at → at.table ≡ 0x37
     → (x : CustomRow) × (row_at raw.customs at.row ≡ Some x) × CustomFault raw at.row x at.column at.byte code
-inside raw _ _ (row_index (custom_parent {row} {table} {x} h tag) w) t = (x, h, no_parent (record { table = table; tagged = tag; no_row = w }))
-inside raw _ _ (coded_tag {row} {custom} h w) t = (custom, h, no_tag w)
-inside raw _ _ (custom_order {row} {custom} h w) t = (custom, h, out_of_order w)
-inside raw _ _ (guid_index (custom_kind {row} {x} h) w) t = (x, h, no_kind w)
-inside raw _ _ (kind_parent {row} {custom} h w) t = (custom, h, other_parent w)
-inside raw _ _ (blob_index (custom_value {row} {x} h) w) t = (x, h, no_value w)
-inside raw _ _ (custom_content {row} {x} {fault} h w) t = (x, h, bad_value {fault = fault} w)
-inside raw _ _ (row_index (scope_method h) w) t = absurd (omega (arith, t))
-inside raw _ _ (string_index (variable_name h) w) t = absurd (omega (arith, t))
-inside raw _ _ (blob_index (document_name h) w) t = absurd (omega (arith, t))
-inside raw _ _ (guid_index (document_algorithm h) w) t = absurd (omega (arith, t))
+inside raw _ _ (in_custom {row} {column} {byte} {code} {x} there fault) t = (x, there, fault)
 inside raw _ _ _ t = absurd (omega (arith, t))
 
 module _ (raw : RawTables) where
@@ -59,16 +36,18 @@ module _ (raw : RawTables) (row : ℕ) (custom : CustomRow) (there : row_at raw.
       → ToCell raw 0x37 row (suc column)
   next column = cells.next_cell raw 0x37 raw.customs (CustomFault raw) (inside raw) row column custom there
 
-  first : (column : ℕ) (code : Code) (fault : Fault) → ToCell raw 0x37 row column → BadRow raw code (in_blob 0x37 row column 0)
+  first : (column : ℕ) (code : Code) (fault : Fault) → ToCell raw 0x37 row column → CustomFault raw row custom column 0 code
       → ((b : ℕ) (other : Code) → CustomFault raw row custom column b other → number_of other < number_of code → ⊥)
       → fault ≡ record { code = code; place = in_blob 0x37 row column 0 } → IsFirstOf raw fault
-  first column code fault = cells.first_at raw 0x37 raw.customs (CustomFault raw) (inside raw) row column custom code fault there
+  first column code fault judged wrong =
+      cells.first_at raw 0x37 raw.customs (CustomFault raw) (inside raw) row column custom code fault there judged (in_custom there wrong)
 
-  first_within : (column : ℕ) (fault : Fault) (inner : BlobFault) → ToCell raw 0x37 row column → BadRow raw inner.code (in_blob 0x37 row column inner.byte)
+  first_within : (column : ℕ) (fault : Fault) (inner : BlobFault) → ToCell raw 0x37 row column → CustomFault raw row custom column inner.byte inner.code
       → ((b : ℕ) (other : Code) → CustomFault raw row custom column b other → (b < inner.byte) ⊎ ((b ≡ inner.byte) × (number_of other < number_of inner.code))
       → ⊥)
       → fault ≡ record { code = inner.code; place = in_blob 0x37 row column inner.byte } → IsFirstOf raw fault
-  first_within column fault inner = cells.first_within raw 0x37 raw.customs (CustomFault raw) (inside raw) row column custom fault inner there
+  first_within column fault inner judged wrong =
+      cells.first_within raw 0x37 raw.customs (CustomFault raw) (inside raw) row column custom fault inner there judged (in_custom there wrong)
 
   pub past_row : ToCell raw 0x37 row 3 → ToRow raw 0x37 (row + 1)
   past_row judged = cells.past_row raw 0x37 raw.customs (CustomFault raw) (inside raw) row 3 custom there judged narrow
@@ -84,7 +63,7 @@ module _ (raw : RawTables) (row : ℕ) (custom : CustomRow) (there : row_at raw.
 
   pub no_parent_first : (fault : Fault) → ToCell raw 0x37 row 0 → HasNoParent raw custom.parent
       → fault ≡ record { code = RowIndex; place = in_blob 0x37 row 0 0 } → IsFirstOf raw fault
-  no_parent_first fault judged wrong = first 0 RowIndex fault judged (row_index (custom_parent there wrong.tagged) wrong.no_row) none
+  no_parent_first fault judged wrong = first 0 RowIndex fault judged (no_parent wrong) none
     where
       none : (b : ℕ) (other : Code) → CustomFault raw row custom 0 b other → number_of other < 22 → ⊥
       none _ _ (no_parent _) lower = omega (arith, lower)
@@ -93,7 +72,7 @@ module _ (raw : RawTables) (row : ℕ) (custom : CustomRow) (there : row_at raw.
 
   pub no_tag_first : (fault : Fault) → ToCell raw 0x37 row 0 → (HasNoParent raw custom.parent → ⊥) → 26 < custom.parent % 32
       → fault ≡ record { code = CodedTag; place = in_blob 0x37 row 0 0 } → IsFirstOf raw fault
-  no_tag_first fault judged no0 wrong = first 0 CodedTag fault judged (coded_tag there wrong) none
+  no_tag_first fault judged no0 wrong = first 0 CodedTag fault judged (no_tag wrong) none
     where
       none : (b : ℕ) (other : Code) → CustomFault raw row custom 0 b other → number_of other < 23 → ⊥
       none _ _ (no_parent w) lower = no0 w
@@ -103,7 +82,7 @@ module _ (raw : RawTables) (row : ℕ) (custom : CustomRow) (there : row_at raw.
   pub out_of_order_first : (fault : Fault) → ToCell raw 0x37 row 0 → (HasNoParent raw custom.parent → ⊥) → (26 < custom.parent % 32 → ⊥)
       → HasEarlier (λ _ (e : CustomRow). custom.parent < e.parent) raw.customs row
       → fault ≡ record { code = CustomOrder; place = in_blob 0x37 row 0 0 } → IsFirstOf raw fault
-  out_of_order_first fault judged no0 no1 wrong = first 0 CustomOrder fault judged (custom_order there wrong) none
+  out_of_order_first fault judged no0 no1 wrong = first 0 CustomOrder fault judged (out_of_order wrong) none
     where
       none : (b : ℕ) (other : Code) → CustomFault raw row custom 0 b other → number_of other < 35 → ⊥
       none _ _ (no_parent w) lower = no0 w
@@ -121,7 +100,7 @@ module _ (raw : RawTables) (row : ℕ) (custom : CustomRow) (there : row_at raw.
 
   pub no_kind_first : (fault : Fault) → ToCell raw 0x37 row 1 → NamesNoGuid 1 raw.guids custom.kind
       → fault ≡ record { code = GuidIndex; place = in_blob 0x37 row 1 0 } → IsFirstOf raw fault
-  no_kind_first fault judged wrong = first 1 GuidIndex fault judged (guid_index (custom_kind there) wrong) none
+  no_kind_first fault judged wrong = first 1 GuidIndex fault judged (no_kind wrong) none
     where
       none : (b : ℕ) (other : Code) → CustomFault raw row custom 1 b other → number_of other < 21 → ⊥
       none _ _ (no_kind _) lower = omega (arith, lower)
@@ -129,7 +108,7 @@ module _ (raw : RawTables) (row : ℕ) (custom : CustomRow) (there : row_at raw.
 
   pub other_parent_first : (fault : Fault) → ToCell raw 0x37 row 1 → (NamesNoGuid 1 raw.guids custom.kind → ⊥) → HasOtherParent raw.guids custom
       → fault ≡ record { code = KindParent; place = in_blob 0x37 row 1 0 } → IsFirstOf raw fault
-  other_parent_first fault judged no0 wrong = first 1 KindParent fault judged (kind_parent there wrong) none
+  other_parent_first fault judged no0 wrong = first 1 KindParent fault judged (other_parent wrong) none
     where
       none : (b : ℕ) (other : Code) → CustomFault raw row custom 1 b other → number_of other < 36 → ⊥
       none _ _ (no_kind w) lower = no0 w
@@ -144,7 +123,7 @@ module _ (raw : RawTables) (row : ℕ) (custom : CustomRow) (there : row_at raw.
 
   pub no_value_first : (fault : Fault) → ToCell raw 0x37 row 2 → blob_at raw.blobs custom.value ≡ None
       → fault ≡ record { code = BlobIndex; place = in_blob 0x37 row 2 0 } → IsFirstOf raw fault
-  no_value_first fault judged wrong = first 2 BlobIndex fault judged (blob_index (custom_value there) wrong) none
+  no_value_first fault judged wrong = first 2 BlobIndex fault judged (no_value wrong) none
     where
       none : (b : ℕ) (other : Code) → CustomFault raw row custom 2 b other → number_of other < 20 → ⊥
       none _ _ (no_value _) lower = omega (arith, lower)
@@ -152,7 +131,7 @@ module _ (raw : RawTables) (row : ℕ) (custom : CustomRow) (there : row_at raw.
 
   pub bad_value_first : (fault : Fault) (inner : BlobFault) → ToCell raw 0x37 row 2 → HasBadValue raw custom inner
       → fault ≡ record { code = inner.code; place = in_blob 0x37 row 2 inner.byte } → IsFirstOf raw fault
-  bad_value_first fault inner judged wrong = first_within 2 fault inner judged (custom_content {fault = inner} there wrong) none
+  bad_value_first fault inner judged wrong = first_within 2 fault inner judged (bad_value {fault = inner} wrong) none
     where
       none : (b : ℕ) (other : Code) → CustomFault raw row custom 2 b other → (b < inner.byte) ⊎ ((b ≡ inner.byte) × (number_of other < number_of inner.code))
           → ⊥

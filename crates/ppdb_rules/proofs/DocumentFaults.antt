@@ -11,43 +11,18 @@ use Rattle.ppdb_heaps.specs.Names.{names}
 use Rattle.ppdb_tables.specs.declared.rows.DocumentRow.{DocumentRow}
 use Rattle.ppdb_tables.specs.RawTables.{RawTables, row_at}
 use Rattle.ppdb_rules.specs.Blobs.{HasFault, IsNil, NamesNoGuid, in_blob}
-use Rattle.ppdb_rules.specs.Cells.TextCell.{variable_name}
-use Rattle.ppdb_rules.specs.Cells.BlobCell.{custom_value, document_hash, document_name}
-use Rattle.ppdb_rules.specs.Cells.GuidCell.{custom_kind, document_algorithm, document_language}
-use Rattle.ppdb_rules.specs.Cells.RowCell.{scope_method}
 use Rattle.ppdb_rules.specs.Earlier.{HasEarlier}
 use Rattle.ppdb_rules.specs.Judged.{ToTable, ToRow, ToCell, IsFirstOf}
 use Rattle.ppdb_rules.specs.Names.{AreSameName}
-use Rattle.ppdb_rules.specs.Rows.{BadRow}
-use Rattle.ppdb_rules.specs.Rows.BadRow.{blob_index, document_repeated, guid_index, name_content, name_nil, row_index, string_index}
+use Rattle.ppdb_rules.specs.Rows.{BadRow, DocumentFault}
+use Rattle.ppdb_rules.specs.Rows.BadRow.{in_document}
+use Rattle.ppdb_rules.specs.Rows.DocumentFault.{no_name, nil_name, repeated, bad_name, no_algorithm, no_hash, no_language}
 use Rattle.ppdb_rules.proofs.BlobFaults.{one_fault, not_there, name_whole}
 use Rattle.ppdb_rules.proofs.CellFaults as cells
 
--- the faults of a row, by column, byte and code
-pub data DocumentFault (raw : RawTables) (row : ℕ) (document : DocumentRow) : ℕ → ℕ → Code → Type 0 where
-  no_name : blob_at raw.blobs document.name ≡ None → DocumentFault raw row document 0 0 BlobIndex
-  nil_name : IsNil raw.blobs document.name → DocumentFault raw row document 0 0 NameNil
-  repeated : HasEarlier (λ _ (e : DocumentRow). AreSameName raw.blobs e.name document.name) raw.documents row
-      → DocumentFault raw row document 0 0 DocumentRepeated
-  bad_name : {fault : BlobFault} → (IsNil raw.blobs document.name → ⊥) → HasFault (names raw.blobs) raw.blobs document.name fault
-      → DocumentFault raw row document 0 fault.byte fault.code
-  no_algorithm : NamesNoGuid 0 raw.guids document.algorithm → DocumentFault raw row document 1 0 GuidIndex
-  no_hash : blob_at raw.blobs document.hash ≡ None → DocumentFault raw row document 2 0 BlobIndex
-  no_language : NamesNoGuid 0 raw.guids document.language → DocumentFault raw row document 3 0 GuidIndex
-
 inside : (raw : RawTables) (code : Code) (at : Place) → BadRow raw code at → at.table ≡ 0x30
     → (x : DocumentRow) × (row_at raw.documents at.row ≡ Some x) × DocumentFault raw at.row x at.column at.byte code
-inside raw _ _ (blob_index (document_name {row} {x} h) w) t = (x, h, no_name w)
-inside raw _ _ (name_nil {row} {document} h w) t = (document, h, nil_name w)
-inside raw _ _ (document_repeated {row} {document} h w) t = (document, h, repeated w)
-inside raw _ _ (name_content {row} {x} {fault} h g w) t = (x, h, bad_name {fault = fault} g w)
-inside raw _ _ (guid_index (document_algorithm {row} {x} h) w) t = (x, h, no_algorithm w)
-inside raw _ _ (blob_index (document_hash {row} {x} h) w) t = (x, h, no_hash w)
-inside raw _ _ (guid_index (document_language {row} {x} h) w) t = (x, h, no_language w)
-inside raw _ _ (row_index (scope_method h) w) t = absurd (omega (arith, t))
-inside raw _ _ (string_index (variable_name h) w) t = absurd (omega (arith, t))
-inside raw _ _ (blob_index (custom_value h) w) t = absurd (omega (arith, t))
-inside raw _ _ (guid_index (custom_kind h) w) t = absurd (omega (arith, t))
+inside raw _ _ (in_document {row} {column} {byte} {code} {x} there fault) t = (x, there, fault)
 inside raw _ _ _ t = absurd (omega (arith, t))
 
 module _ (raw : RawTables) where
@@ -62,16 +37,18 @@ module _ (raw : RawTables) (row : ℕ) (document : DocumentRow) (there : row_at 
       → ToCell raw 0x30 row (suc column)
   next column = cells.next_cell raw 0x30 raw.documents (DocumentFault raw) (inside raw) row column document there
 
-  first : (column : ℕ) (code : Code) (fault : Fault) → ToCell raw 0x30 row column → BadRow raw code (in_blob 0x30 row column 0)
+  first : (column : ℕ) (code : Code) (fault : Fault) → ToCell raw 0x30 row column → DocumentFault raw row document column 0 code
       → ((b : ℕ) (other : Code) → DocumentFault raw row document column b other → number_of other < number_of code → ⊥)
       → fault ≡ record { code = code; place = in_blob 0x30 row column 0 } → IsFirstOf raw fault
-  first column code fault = cells.first_at raw 0x30 raw.documents (DocumentFault raw) (inside raw) row column document code fault there
+  first column code fault judged wrong =
+      cells.first_at raw 0x30 raw.documents (DocumentFault raw) (inside raw) row column document code fault there judged (in_document there wrong)
 
-  first_within : (column : ℕ) (fault : Fault) (inner : BlobFault) → ToCell raw 0x30 row column → BadRow raw inner.code (in_blob 0x30 row column inner.byte)
+  first_within : (column : ℕ) (fault : Fault) (inner : BlobFault) → ToCell raw 0x30 row column → DocumentFault raw row document column inner.byte inner.code
       → ((b : ℕ) (other : Code) → DocumentFault raw row document column b other
       → (b < inner.byte) ⊎ ((b ≡ inner.byte) × (number_of other < number_of inner.code)) → ⊥)
       → fault ≡ record { code = inner.code; place = in_blob 0x30 row column inner.byte } → IsFirstOf raw fault
-  first_within column fault inner = cells.first_within raw 0x30 raw.documents (DocumentFault raw) (inside raw) row column document fault inner there
+  first_within column fault inner judged wrong =
+      cells.first_within raw 0x30 raw.documents (DocumentFault raw) (inside raw) row column document fault inner there judged (in_document there wrong)
 
   pub past_row : ToCell raw 0x30 row 4 → ToRow raw 0x30 (row + 1)
   past_row judged = cells.past_row raw 0x30 raw.documents (DocumentFault raw) (inside raw) row 4 document there judged narrow
@@ -87,7 +64,7 @@ module _ (raw : RawTables) (row : ℕ) (document : DocumentRow) (there : row_at 
 
   pub no_name_first : (fault : Fault) → ToCell raw 0x30 row 0 → blob_at raw.blobs document.name ≡ None
       → fault ≡ record { code = BlobIndex; place = in_blob 0x30 row 0 0 } → IsFirstOf raw fault
-  no_name_first fault judged wrong = first 0 BlobIndex fault judged (blob_index (document_name there) wrong) none
+  no_name_first fault judged wrong = first 0 BlobIndex fault judged (no_name wrong) none
     where
       none : (b : ℕ) (other : Code) → DocumentFault raw row document 0 b other → number_of other < 20 → ⊥
       none _ _ (no_name _) lower = omega (arith, lower)
@@ -97,7 +74,7 @@ module _ (raw : RawTables) (row : ℕ) (document : DocumentRow) (there : row_at 
 
   pub nil_name_first : (fault : Fault) → ToCell raw 0x30 row 0 → (blob_at raw.blobs document.name ≡ None → ⊥) → IsNil raw.blobs document.name
       → fault ≡ record { code = NameNil; place = in_blob 0x30 row 0 0 } → IsFirstOf raw fault
-  nil_name_first fault judged no0 wrong = first 0 NameNil fault judged (name_nil there wrong) none
+  nil_name_first fault judged no0 wrong = first 0 NameNil fault judged (nil_name wrong) none
     where
       none : (b : ℕ) (other : Code) → DocumentFault raw row document 0 b other → number_of other < 24 → ⊥
       none _ _ (no_name w) lower = no0 w
@@ -108,7 +85,7 @@ module _ (raw : RawTables) (row : ℕ) (document : DocumentRow) (there : row_at 
   pub repeated_first : (fault : Fault) → ToCell raw 0x30 row 0 → (blob_at raw.blobs document.name ≡ None → ⊥) → (IsNil raw.blobs document.name → ⊥)
       → HasEarlier (λ _ (e : DocumentRow). AreSameName raw.blobs e.name document.name) raw.documents row
       → fault ≡ record { code = DocumentRepeated; place = in_blob 0x30 row 0 0 } → IsFirstOf raw fault
-  repeated_first fault judged no0 no1 wrong = first 0 DocumentRepeated fault judged (document_repeated there wrong) none
+  repeated_first fault judged no0 no1 wrong = first 0 DocumentRepeated fault judged (repeated wrong) none
     where
       none : (b : ℕ) (other : Code) → DocumentFault raw row document 0 b other → number_of other < 25 → ⊥
       none _ _ (no_name w) lower = no0 w
@@ -119,7 +96,7 @@ module _ (raw : RawTables) (row : ℕ) (document : DocumentRow) (there : row_at 
   pub bad_name_first : (fault : Fault) (inner : BlobFault) → ToCell raw 0x30 row 0 → (IsNil raw.blobs document.name → ⊥)
       → HasFault (names raw.blobs) raw.blobs document.name inner
       → fault ≡ record { code = inner.code; place = in_blob 0x30 row 0 inner.byte } → IsFirstOf raw fault
-  bad_name_first fault inner judged some wrong = first_within 0 fault inner judged (name_content {fault = inner} there some wrong) none
+  bad_name_first fault inner judged some wrong = first_within 0 fault inner judged (bad_name {fault = inner} some wrong) none
     where
       none : (b : ℕ) (other : Code) → DocumentFault raw row document 0 b other
           → (b < inner.byte) ⊎ ((b ≡ inner.byte) × (number_of other < number_of inner.code)) → ⊥
@@ -141,7 +118,7 @@ module _ (raw : RawTables) (row : ℕ) (document : DocumentRow) (there : row_at 
 
   pub no_algorithm_first : (fault : Fault) → ToCell raw 0x30 row 1 → NamesNoGuid 0 raw.guids document.algorithm
       → fault ≡ record { code = GuidIndex; place = in_blob 0x30 row 1 0 } → IsFirstOf raw fault
-  no_algorithm_first fault judged wrong = first 1 GuidIndex fault judged (guid_index (document_algorithm there) wrong) none
+  no_algorithm_first fault judged wrong = first 1 GuidIndex fault judged (no_algorithm wrong) none
     where
       none : (b : ℕ) (other : Code) → DocumentFault raw row document 1 b other → number_of other < 21 → ⊥
       none _ _ (no_algorithm _) lower = omega (arith, lower)
@@ -154,7 +131,7 @@ module _ (raw : RawTables) (row : ℕ) (document : DocumentRow) (there : row_at 
 
   pub no_hash_first : (fault : Fault) → ToCell raw 0x30 row 2 → blob_at raw.blobs document.hash ≡ None
       → fault ≡ record { code = BlobIndex; place = in_blob 0x30 row 2 0 } → IsFirstOf raw fault
-  no_hash_first fault judged wrong = first 2 BlobIndex fault judged (blob_index (document_hash there) wrong) none
+  no_hash_first fault judged wrong = first 2 BlobIndex fault judged (no_hash wrong) none
     where
       none : (b : ℕ) (other : Code) → DocumentFault raw row document 2 b other → number_of other < 20 → ⊥
       none _ _ (no_hash _) lower = omega (arith, lower)
@@ -167,7 +144,7 @@ module _ (raw : RawTables) (row : ℕ) (document : DocumentRow) (there : row_at 
 
   pub no_language_first : (fault : Fault) → ToCell raw 0x30 row 3 → NamesNoGuid 0 raw.guids document.language
       → fault ≡ record { code = GuidIndex; place = in_blob 0x30 row 3 0 } → IsFirstOf raw fault
-  no_language_first fault judged wrong = first 3 GuidIndex fault judged (guid_index (document_language there) wrong) none
+  no_language_first fault judged wrong = first 3 GuidIndex fault judged (no_language wrong) none
     where
       none : (b : ℕ) (other : Code) → DocumentFault raw row document 3 b other → number_of other < 21 → ⊥
       none _ _ (no_language _) lower = omega (arith, lower)

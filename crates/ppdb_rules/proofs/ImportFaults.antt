@@ -11,36 +11,18 @@ use Rattle.ppdb_tables.specs.declared.rows.ImportRow.{ImportRow}
 use Rattle.ppdb_tables.specs.RawTables.{RawTables, row_at, count}
 use Rattle.type_blobs.specs.Imports.{imports}
 use Rattle.ppdb_rules.specs.Blobs.{HasFault, in_blob, type_limits}
-use Rattle.ppdb_rules.specs.Cells.TextCell.{variable_name}
-use Rattle.ppdb_rules.specs.Cells.BlobCell.{document_name, import_list}
-use Rattle.ppdb_rules.specs.Cells.GuidCell.{custom_kind}
-use Rattle.ppdb_rules.specs.Cells.RowCell.{import_parent, scope_method}
 use Rattle.ppdb_rules.specs.Chains.{NeverEnds}
 use Rattle.ppdb_rules.specs.Earlier.{NamesNoRow}
 use Rattle.ppdb_rules.specs.Judged.{ToTable, ToRow, ToCell, IsFirstOf}
-use Rattle.ppdb_rules.specs.Rows.{BadRow}
-use Rattle.ppdb_rules.specs.Rows.BadRow.{blob_index, guid_index, import_cycle, imports_content, row_index, string_index}
+use Rattle.ppdb_rules.specs.Rows.{BadRow, ImportFault}
+use Rattle.ppdb_rules.specs.Rows.BadRow.{in_import}
+use Rattle.ppdb_rules.specs.Rows.ImportFault.{no_parent, cycle, no_list, bad_list}
 use Rattle.ppdb_rules.proofs.BlobFaults.{one_fault, not_there}
 use Rattle.ppdb_rules.proofs.CellFaults as cells
 
--- the faults of a row, by column, byte and code
-pub data ImportFault (raw : RawTables) (row : ℕ) (import : ImportRow) : ℕ → ℕ → Code → Type 0 where
-  no_parent : NamesNoRow 0 (count raw 0x35) import.parent → ImportFault raw row import 0 0 RowIndex
-  cycle : NeverEnds raw.imports row → ImportFault raw row import 0 0 ImportCycle
-  no_list : blob_at raw.blobs import.imports ≡ None → ImportFault raw row import 1 0 BlobIndex
-  bad_list : {fault : BlobFault} → HasFault (imports (type_limits raw) (blob_at raw.blobs)) raw.blobs import.imports fault
-      → ImportFault raw row import 1 fault.byte fault.code
-
 inside : (raw : RawTables) (code : Code) (at : Place) → BadRow raw code at → at.table ≡ 0x35
     → (x : ImportRow) × (row_at raw.imports at.row ≡ Some x) × ImportFault raw at.row x at.column at.byte code
-inside raw _ _ (row_index (import_parent {row} {x} h) w) t = (x, h, no_parent w)
-inside raw _ _ (import_cycle {row} {import} h w) t = (import, h, cycle w)
-inside raw _ _ (blob_index (import_list {row} {x} h) w) t = (x, h, no_list w)
-inside raw _ _ (imports_content {row} {x} {fault} h w) t = (x, h, bad_list {fault = fault} w)
-inside raw _ _ (row_index (scope_method h) w) t = absurd (omega (arith, t))
-inside raw _ _ (string_index (variable_name h) w) t = absurd (omega (arith, t))
-inside raw _ _ (blob_index (document_name h) w) t = absurd (omega (arith, t))
-inside raw _ _ (guid_index (custom_kind h) w) t = absurd (omega (arith, t))
+inside raw _ _ (in_import {row} {column} {byte} {code} {x} there fault) t = (x, there, fault)
 inside raw _ _ _ t = absurd (omega (arith, t))
 
 module _ (raw : RawTables) where
@@ -55,16 +37,18 @@ module _ (raw : RawTables) (row : ℕ) (import : ImportRow) (there : row_at raw.
       → ToCell raw 0x35 row (suc column)
   next column = cells.next_cell raw 0x35 raw.imports (ImportFault raw) (inside raw) row column import there
 
-  first : (column : ℕ) (code : Code) (fault : Fault) → ToCell raw 0x35 row column → BadRow raw code (in_blob 0x35 row column 0)
+  first : (column : ℕ) (code : Code) (fault : Fault) → ToCell raw 0x35 row column → ImportFault raw row import column 0 code
       → ((b : ℕ) (other : Code) → ImportFault raw row import column b other → number_of other < number_of code → ⊥)
       → fault ≡ record { code = code; place = in_blob 0x35 row column 0 } → IsFirstOf raw fault
-  first column code fault = cells.first_at raw 0x35 raw.imports (ImportFault raw) (inside raw) row column import code fault there
+  first column code fault judged wrong =
+      cells.first_at raw 0x35 raw.imports (ImportFault raw) (inside raw) row column import code fault there judged (in_import there wrong)
 
-  first_within : (column : ℕ) (fault : Fault) (inner : BlobFault) → ToCell raw 0x35 row column → BadRow raw inner.code (in_blob 0x35 row column inner.byte)
+  first_within : (column : ℕ) (fault : Fault) (inner : BlobFault) → ToCell raw 0x35 row column → ImportFault raw row import column inner.byte inner.code
       → ((b : ℕ) (other : Code) → ImportFault raw row import column b other → (b < inner.byte) ⊎ ((b ≡ inner.byte) × (number_of other < number_of inner.code))
       → ⊥)
       → fault ≡ record { code = inner.code; place = in_blob 0x35 row column inner.byte } → IsFirstOf raw fault
-  first_within column fault inner = cells.first_within raw 0x35 raw.imports (ImportFault raw) (inside raw) row column import fault inner there
+  first_within column fault inner judged wrong =
+      cells.first_within raw 0x35 raw.imports (ImportFault raw) (inside raw) row column import fault inner there judged (in_import there wrong)
 
   pub past_row : ToCell raw 0x35 row 2 → ToRow raw 0x35 (row + 1)
   past_row judged = cells.past_row raw 0x35 raw.imports (ImportFault raw) (inside raw) row 2 import there judged narrow
@@ -77,7 +61,7 @@ module _ (raw : RawTables) (row : ℕ) (import : ImportRow) (there : row_at raw.
 
   pub no_parent_first : (fault : Fault) → ToCell raw 0x35 row 0 → NamesNoRow 0 (count raw 0x35) import.parent
       → fault ≡ record { code = RowIndex; place = in_blob 0x35 row 0 0 } → IsFirstOf raw fault
-  no_parent_first fault judged wrong = first 0 RowIndex fault judged (row_index (import_parent there) wrong) none
+  no_parent_first fault judged wrong = first 0 RowIndex fault judged (no_parent wrong) none
     where
       none : (b : ℕ) (other : Code) → ImportFault raw row import 0 b other → number_of other < 22 → ⊥
       none _ _ (no_parent _) lower = omega (arith, lower)
@@ -85,7 +69,7 @@ module _ (raw : RawTables) (row : ℕ) (import : ImportRow) (there : row_at raw.
 
   pub cycle_first : (fault : Fault) → ToCell raw 0x35 row 0 → (NamesNoRow 0 (count raw 0x35) import.parent → ⊥) → NeverEnds raw.imports row
       → fault ≡ record { code = ImportCycle; place = in_blob 0x35 row 0 0 } → IsFirstOf raw fault
-  cycle_first fault judged no0 wrong = first 0 ImportCycle fault judged (import_cycle there wrong) none
+  cycle_first fault judged no0 wrong = first 0 ImportCycle fault judged (cycle wrong) none
     where
       none : (b : ℕ) (other : Code) → ImportFault raw row import 0 b other → number_of other < 32 → ⊥
       none _ _ (no_parent w) lower = no0 w
@@ -100,7 +84,7 @@ module _ (raw : RawTables) (row : ℕ) (import : ImportRow) (there : row_at raw.
 
   pub no_list_first : (fault : Fault) → ToCell raw 0x35 row 1 → blob_at raw.blobs import.imports ≡ None
       → fault ≡ record { code = BlobIndex; place = in_blob 0x35 row 1 0 } → IsFirstOf raw fault
-  no_list_first fault judged wrong = first 1 BlobIndex fault judged (blob_index (import_list there) wrong) none
+  no_list_first fault judged wrong = first 1 BlobIndex fault judged (no_list wrong) none
     where
       none : (b : ℕ) (other : Code) → ImportFault raw row import 1 b other → number_of other < 20 → ⊥
       none _ _ (no_list _) lower = omega (arith, lower)
@@ -109,7 +93,7 @@ module _ (raw : RawTables) (row : ℕ) (import : ImportRow) (there : row_at raw.
   pub bad_list_first : (fault : Fault) (inner : BlobFault) → ToCell raw 0x35 row 1
       → HasFault (imports (type_limits raw) (blob_at raw.blobs)) raw.blobs import.imports inner
       → fault ≡ record { code = inner.code; place = in_blob 0x35 row 1 inner.byte } → IsFirstOf raw fault
-  bad_list_first fault inner judged wrong = first_within 1 fault inner judged (imports_content {fault = inner} there wrong) none
+  bad_list_first fault inner judged wrong = first_within 1 fault inner judged (bad_list {fault = inner} wrong) none
     where
       none : (b : ℕ) (other : Code) → ImportFault raw row import 1 b other → (b < inner.byte) ⊎ ((b ≡ inner.byte) × (number_of other < number_of inner.code))
           → ⊥

@@ -14,7 +14,10 @@ use Rattle.ppdb_rules.specs.declared.lists.ScopeList.TheVariants.{Variables, Con
 use Rattle.ppdb_rules.specs.Earlier.{HasEarlier}
 use Rattle.ppdb_rules.specs.Judged.{ToCell, ToTable}
 use Rattle.ppdb_rules.specs.Lists.{list_of}
-use Rattle.ppdb_rules.specs.Rows.BadRow.{variable_list, constant_list, variables_alone, constants_alone}
+use Rattle.ppdb_rules.specs.Rows.BadRow.{in_scope, in_variable, in_constant}
+use Rattle.ppdb_rules.specs.Rows.ScopeFault.{no_variables, no_constants}
+use Rattle.ppdb_rules.specs.Rows.VariableFault.{alone as variables_alone}
+use Rattle.ppdb_rules.specs.Rows.ConstantFault.{alone as constants_alone}
 use Rattle.ppdb_rules.specs.Scopes.{AreSameText, Owns, ShareOwner}
 use Rattle.ppdb_rules.specs.Seen.{AreSlots, AreTexts, HasText, HasNoTexts, HasEarlierOf, HaveLists, OwnsBefore}
 use Rattle.ppdb_rules.specs.declared.seen.Texts.{Texts}
@@ -24,10 +27,10 @@ use Rattle.ppdb_rules.proofs.SeenSets.{has_no_text}
 
 -- past LocalScope, no list is out of range
 pub lists_of_variables : (raw : RawTables) → ToTable raw 0x33 → HaveLists raw Variables
-lists_of_variables raw judged n x there out = judged ListRange (cell 0x32 n 2) (variable_list there out) (inr (refl, inl (omega arith)))
+lists_of_variables raw judged n x there out = judged ListRange (cell 0x32 n 2) (in_scope there (no_variables out)) (inr (refl, inl (omega arith)))
 
 pub lists_of_constants : (raw : RawTables) → ToTable raw 0x34 → HaveLists raw Constants
-lists_of_constants raw judged n x there out = judged ListRange (cell 0x32 n 3) (constant_list there out) (inr (refl, inl (omega arith)))
+lists_of_constants raw judged n x there out = judged ListRange (cell 0x32 n 3) (in_scope there (no_constants out)) (inr (refl, inl (omega arith)))
 
 module _ (raw : RawTables) (list : ScopeList) (lists : HaveLists raw list) where
   rises : (d i : ℕ) (x y : ScopeRow) → row_at raw.scopes i ≡ Some x → row_at raw.scopes (i + d) ≡ Some y → list_of list x ≤ list_of list y
@@ -265,7 +268,7 @@ variables_from_1 raw row variable there judged none = elim (cases_eq row 1) [
   | inr other ↦
       let w = row_within raw.variables row variable there in
       let first = row_there raw.variables 1 (omega arith) (omega (arith, w.0, w.1)) in
-      absurd (judged ListRange (cell 0x33 1 0) (variables_alone first.1 none) (inr (refl, inr (refl, inl (omega (arith, w.0, other))))))
+      absurd (judged ListRange (cell 0x33 1 0) (in_variable first.1 (variables_alone (refl, none))) (inr (refl, inr (refl, inl (omega (arith, w.0, other))))))
 ]
 
 pub constants_from_1 : (raw : RawTables) (row : ℕ) (constant : ConstantRow) → row_at raw.constants row ≡ Some constant → ToCell raw 0x34 row 0
@@ -275,7 +278,7 @@ constants_from_1 raw row constant there judged none = elim (cases_eq row 1) [
   | inr other ↦
       let w = row_within raw.constants row constant there in
       let first = row_there raw.constants 1 (omega arith) (omega (arith, w.0, w.1)) in
-      absurd (judged ListRange (cell 0x34 1 0) (constants_alone first.1 none) (inr (refl, inr (refl, inl (omega (arith, w.0, other))))))
+      absurd (judged ListRange (cell 0x34 1 0) (in_constant first.1 (constants_alone (refl, none))) (inr (refl, inr (refl, inl (omega (arith, w.0, other))))))
 ]
 
 -- a text that is there

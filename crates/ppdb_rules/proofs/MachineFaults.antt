@@ -8,33 +8,16 @@ use Rattle.ppdb_base.specs.Place.{number_of}
 use Rattle.ppdb_tables.specs.declared.rows.MachineRow.{MachineRow}
 use Rattle.ppdb_tables.specs.RawTables.{RawTables, row_at, count}
 use Rattle.ppdb_rules.specs.Blobs.{in_blob}
-use Rattle.ppdb_rules.specs.Cells.TextCell.{variable_name}
-use Rattle.ppdb_rules.specs.Cells.BlobCell.{document_name}
-use Rattle.ppdb_rules.specs.Cells.GuidCell.{custom_kind}
-use Rattle.ppdb_rules.specs.Cells.RowCell.{machine_kickoff, machine_move_next, scope_method}
 use Rattle.ppdb_rules.specs.Earlier.{HasEarlier, NamesNoRow}
 use Rattle.ppdb_rules.specs.Judged.{ToTable, ToRow, ToCell, IsFirstOf}
-use Rattle.ppdb_rules.specs.Rows.{BadRow}
-use Rattle.ppdb_rules.specs.Rows.BadRow.{blob_index, guid_index, kickoff_repeated, machine_order, row_index, string_index}
+use Rattle.ppdb_rules.specs.Rows.{BadRow, MachineFault}
+use Rattle.ppdb_rules.specs.Rows.BadRow.{in_machine}
+use Rattle.ppdb_rules.specs.Rows.MachineFault.{no_move_next, out_of_order, no_kickoff, same_kickoff}
 use Rattle.ppdb_rules.proofs.CellFaults as cells
-
--- the faults of a row, by column, byte and code
-pub data MachineFault (raw : RawTables) (row : ℕ) (machine : MachineRow) : ℕ → ℕ → Code → Type 0 where
-  no_move_next : NamesNoRow 1 (count raw 0x06) machine.move_next → MachineFault raw row machine 0 0 RowIndex
-  out_of_order : HasEarlier (λ _ (e : MachineRow). machine.move_next ≤ e.move_next) raw.machines row → MachineFault raw row machine 0 0 MachineOrder
-  no_kickoff : NamesNoRow 1 (count raw 0x06) machine.kickoff → MachineFault raw row machine 1 0 RowIndex
-  same_kickoff : HasEarlier (λ _ (e : MachineRow). e.kickoff ≡ machine.kickoff) raw.machines row → MachineFault raw row machine 1 0 KickoffRepeated
 
 inside : (raw : RawTables) (code : Code) (at : Place) → BadRow raw code at → at.table ≡ 0x36
     → (x : MachineRow) × (row_at raw.machines at.row ≡ Some x) × MachineFault raw at.row x at.column at.byte code
-inside raw _ _ (row_index (machine_move_next {row} {x} h) w) t = (x, h, no_move_next w)
-inside raw _ _ (machine_order {row} {machine} h w) t = (machine, h, out_of_order w)
-inside raw _ _ (row_index (machine_kickoff {row} {x} h) w) t = (x, h, no_kickoff w)
-inside raw _ _ (kickoff_repeated {row} {machine} h w) t = (machine, h, same_kickoff w)
-inside raw _ _ (row_index (scope_method h) w) t = absurd (omega (arith, t))
-inside raw _ _ (string_index (variable_name h) w) t = absurd (omega (arith, t))
-inside raw _ _ (blob_index (document_name h) w) t = absurd (omega (arith, t))
-inside raw _ _ (guid_index (custom_kind h) w) t = absurd (omega (arith, t))
+inside raw _ _ (in_machine {row} {column} {byte} {code} {x} there fault) t = (x, there, fault)
 inside raw _ _ _ t = absurd (omega (arith, t))
 
 module _ (raw : RawTables) where
@@ -49,10 +32,11 @@ module _ (raw : RawTables) (row : ℕ) (machine : MachineRow) (there : row_at ra
       → ToCell raw 0x36 row (suc column)
   next column = cells.next_cell raw 0x36 raw.machines (MachineFault raw) (inside raw) row column machine there
 
-  first : (column : ℕ) (code : Code) (fault : Fault) → ToCell raw 0x36 row column → BadRow raw code (in_blob 0x36 row column 0)
+  first : (column : ℕ) (code : Code) (fault : Fault) → ToCell raw 0x36 row column → MachineFault raw row machine column 0 code
       → ((b : ℕ) (other : Code) → MachineFault raw row machine column b other → number_of other < number_of code → ⊥)
       → fault ≡ record { code = code; place = in_blob 0x36 row column 0 } → IsFirstOf raw fault
-  first column code fault = cells.first_at raw 0x36 raw.machines (MachineFault raw) (inside raw) row column machine code fault there
+  first column code fault judged wrong =
+      cells.first_at raw 0x36 raw.machines (MachineFault raw) (inside raw) row column machine code fault there judged (in_machine there wrong)
 
   pub past_row : ToCell raw 0x36 row 2 → ToRow raw 0x36 (row + 1)
   past_row judged = cells.past_row raw 0x36 raw.machines (MachineFault raw) (inside raw) row 2 machine there judged narrow
@@ -65,7 +49,7 @@ module _ (raw : RawTables) (row : ℕ) (machine : MachineRow) (there : row_at ra
 
   pub no_move_next_first : (fault : Fault) → ToCell raw 0x36 row 0 → NamesNoRow 1 (count raw 0x06) machine.move_next
       → fault ≡ record { code = RowIndex; place = in_blob 0x36 row 0 0 } → IsFirstOf raw fault
-  no_move_next_first fault judged wrong = first 0 RowIndex fault judged (row_index (machine_move_next there) wrong) none
+  no_move_next_first fault judged wrong = first 0 RowIndex fault judged (no_move_next wrong) none
     where
       none : (b : ℕ) (other : Code) → MachineFault raw row machine 0 b other → number_of other < 22 → ⊥
       none _ _ (no_move_next _) lower = omega (arith, lower)
@@ -74,7 +58,7 @@ module _ (raw : RawTables) (row : ℕ) (machine : MachineRow) (there : row_at ra
   pub out_of_order_first : (fault : Fault) → ToCell raw 0x36 row 0 → (NamesNoRow 1 (count raw 0x06) machine.move_next → ⊥)
       → HasEarlier (λ _ (e : MachineRow). machine.move_next ≤ e.move_next) raw.machines row
       → fault ≡ record { code = MachineOrder; place = in_blob 0x36 row 0 0 } → IsFirstOf raw fault
-  out_of_order_first fault judged no0 wrong = first 0 MachineOrder fault judged (machine_order there wrong) none
+  out_of_order_first fault judged no0 wrong = first 0 MachineOrder fault judged (out_of_order wrong) none
     where
       none : (b : ℕ) (other : Code) → MachineFault raw row machine 0 b other → number_of other < 33 → ⊥
       none _ _ (no_move_next w) lower = no0 w
@@ -90,7 +74,7 @@ module _ (raw : RawTables) (row : ℕ) (machine : MachineRow) (there : row_at ra
 
   pub no_kickoff_first : (fault : Fault) → ToCell raw 0x36 row 1 → NamesNoRow 1 (count raw 0x06) machine.kickoff
       → fault ≡ record { code = RowIndex; place = in_blob 0x36 row 1 0 } → IsFirstOf raw fault
-  no_kickoff_first fault judged wrong = first 1 RowIndex fault judged (row_index (machine_kickoff there) wrong) none
+  no_kickoff_first fault judged wrong = first 1 RowIndex fault judged (no_kickoff wrong) none
     where
       none : (b : ℕ) (other : Code) → MachineFault raw row machine 1 b other → number_of other < 22 → ⊥
       none _ _ (no_kickoff _) lower = omega (arith, lower)
@@ -99,7 +83,7 @@ module _ (raw : RawTables) (row : ℕ) (machine : MachineRow) (there : row_at ra
   pub same_kickoff_first : (fault : Fault) → ToCell raw 0x36 row 1 → (NamesNoRow 1 (count raw 0x06) machine.kickoff → ⊥)
       → HasEarlier (λ _ (e : MachineRow). e.kickoff ≡ machine.kickoff) raw.machines row
       → fault ≡ record { code = KickoffRepeated; place = in_blob 0x36 row 1 0 } → IsFirstOf raw fault
-  same_kickoff_first fault judged no0 wrong = first 1 KickoffRepeated fault judged (kickoff_repeated there wrong) none
+  same_kickoff_first fault judged no0 wrong = first 1 KickoffRepeated fault judged (same_kickoff wrong) none
     where
       none : (b : ℕ) (other : Code) → MachineFault raw row machine 1 b other → number_of other < 34 → ⊥
       none _ _ (no_kickoff w) lower = no0 w

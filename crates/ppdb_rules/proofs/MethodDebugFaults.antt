@@ -11,33 +11,17 @@ use Rattle.ppdb_tables.specs.declared.rows.MethodDebugRow.{MethodDebugRow}
 use Rattle.ppdb_tables.specs.RawTables.{RawTables, row_at, count}
 use Rattle.sequence_points.specs.Records.{sequence_points}
 use Rattle.ppdb_rules.specs.Blobs.{HasFault, IsNil, in_blob, point_limits}
-use Rattle.ppdb_rules.specs.Cells.TextCell.{variable_name}
-use Rattle.ppdb_rules.specs.Cells.BlobCell.{document_name, method_points}
-use Rattle.ppdb_rules.specs.Cells.GuidCell.{custom_kind}
-use Rattle.ppdb_rules.specs.Cells.RowCell.{method_document, scope_method}
 use Rattle.ppdb_rules.specs.Earlier.{NamesNoRow}
 use Rattle.ppdb_rules.specs.Judged.{ToTable, ToRow, ToCell, IsFirstOf}
-use Rattle.ppdb_rules.specs.Rows.{BadRow}
-use Rattle.ppdb_rules.specs.Rows.BadRow.{blob_index, guid_index, points_content, row_index, string_index}
+use Rattle.ppdb_rules.specs.Rows.{BadRow, MethodDebugFault}
+use Rattle.ppdb_rules.specs.Rows.BadRow.{in_method}
+use Rattle.ppdb_rules.specs.Rows.MethodDebugFault.{no_document, no_points, bad_points}
 use Rattle.ppdb_rules.proofs.BlobFaults.{one_fault, not_there}
 use Rattle.ppdb_rules.proofs.CellFaults as cells
 
--- the faults of a row, by column, byte and code
-pub data MethodDebugFault (raw : RawTables) (row : ℕ) (method : MethodDebugRow) : ℕ → ℕ → Code → Type 0 where
-  no_document : NamesNoRow 0 (count raw 0x30) method.document → MethodDebugFault raw row method 0 0 RowIndex
-  no_points : blob_at raw.blobs method.points ≡ None → MethodDebugFault raw row method 1 0 BlobIndex
-  bad_points : {fault : BlobFault} → (IsNil raw.blobs method.points → ⊥)
-      → HasFault (sequence_points method.document (point_limits raw)) raw.blobs method.points fault → MethodDebugFault raw row method 1 fault.byte fault.code
-
 inside : (raw : RawTables) (code : Code) (at : Place) → BadRow raw code at → at.table ≡ 0x31
     → (x : MethodDebugRow) × (row_at raw.methods at.row ≡ Some x) × MethodDebugFault raw at.row x at.column at.byte code
-inside raw _ _ (row_index (method_document {row} {x} h) w) t = (x, h, no_document w)
-inside raw _ _ (blob_index (method_points {row} {x} h) w) t = (x, h, no_points w)
-inside raw _ _ (points_content {row} {x} {fault} h g w) t = (x, h, bad_points {fault = fault} g w)
-inside raw _ _ (row_index (scope_method h) w) t = absurd (omega (arith, t))
-inside raw _ _ (string_index (variable_name h) w) t = absurd (omega (arith, t))
-inside raw _ _ (blob_index (document_name h) w) t = absurd (omega (arith, t))
-inside raw _ _ (guid_index (custom_kind h) w) t = absurd (omega (arith, t))
+inside raw _ _ (in_method {row} {column} {byte} {code} {x} there fault) t = (x, there, fault)
 inside raw _ _ _ t = absurd (omega (arith, t))
 
 module _ (raw : RawTables) where
@@ -52,16 +36,18 @@ module _ (raw : RawTables) (row : ℕ) (method : MethodDebugRow) (there : row_at
       → ToCell raw 0x31 row (suc column)
   next column = cells.next_cell raw 0x31 raw.methods (MethodDebugFault raw) (inside raw) row column method there
 
-  first : (column : ℕ) (code : Code) (fault : Fault) → ToCell raw 0x31 row column → BadRow raw code (in_blob 0x31 row column 0)
+  first : (column : ℕ) (code : Code) (fault : Fault) → ToCell raw 0x31 row column → MethodDebugFault raw row method column 0 code
       → ((b : ℕ) (other : Code) → MethodDebugFault raw row method column b other → number_of other < number_of code → ⊥)
       → fault ≡ record { code = code; place = in_blob 0x31 row column 0 } → IsFirstOf raw fault
-  first column code fault = cells.first_at raw 0x31 raw.methods (MethodDebugFault raw) (inside raw) row column method code fault there
+  first column code fault judged wrong =
+      cells.first_at raw 0x31 raw.methods (MethodDebugFault raw) (inside raw) row column method code fault there judged (in_method there wrong)
 
-  first_within : (column : ℕ) (fault : Fault) (inner : BlobFault) → ToCell raw 0x31 row column → BadRow raw inner.code (in_blob 0x31 row column inner.byte)
+  first_within : (column : ℕ) (fault : Fault) (inner : BlobFault) → ToCell raw 0x31 row column → MethodDebugFault raw row method column inner.byte inner.code
       → ((b : ℕ) (other : Code) → MethodDebugFault raw row method column b other
       → (b < inner.byte) ⊎ ((b ≡ inner.byte) × (number_of other < number_of inner.code)) → ⊥)
       → fault ≡ record { code = inner.code; place = in_blob 0x31 row column inner.byte } → IsFirstOf raw fault
-  first_within column fault inner = cells.first_within raw 0x31 raw.methods (MethodDebugFault raw) (inside raw) row column method fault inner there
+  first_within column fault inner judged wrong =
+      cells.first_within raw 0x31 raw.methods (MethodDebugFault raw) (inside raw) row column method fault inner there judged (in_method there wrong)
 
   pub past_row : ToCell raw 0x31 row 2 → ToRow raw 0x31 (row + 1)
   past_row judged = cells.past_row raw 0x31 raw.methods (MethodDebugFault raw) (inside raw) row 2 method there judged narrow
@@ -73,7 +59,7 @@ module _ (raw : RawTables) (row : ℕ) (method : MethodDebugRow) (there : row_at
 
   pub no_document_first : (fault : Fault) → ToCell raw 0x31 row 0 → NamesNoRow 0 (count raw 0x30) method.document
       → fault ≡ record { code = RowIndex; place = in_blob 0x31 row 0 0 } → IsFirstOf raw fault
-  no_document_first fault judged wrong = first 0 RowIndex fault judged (row_index (method_document there) wrong) none
+  no_document_first fault judged wrong = first 0 RowIndex fault judged (no_document wrong) none
     where
       none : (b : ℕ) (other : Code) → MethodDebugFault raw row method 0 b other → number_of other < 22 → ⊥
       none _ _ (no_document _) lower = omega (arith, lower)
@@ -86,7 +72,7 @@ module _ (raw : RawTables) (row : ℕ) (method : MethodDebugRow) (there : row_at
 
   pub no_points_first : (fault : Fault) → ToCell raw 0x31 row 1 → blob_at raw.blobs method.points ≡ None
       → fault ≡ record { code = BlobIndex; place = in_blob 0x31 row 1 0 } → IsFirstOf raw fault
-  no_points_first fault judged wrong = first 1 BlobIndex fault judged (blob_index (method_points there) wrong) none
+  no_points_first fault judged wrong = first 1 BlobIndex fault judged (no_points wrong) none
     where
       none : (b : ℕ) (other : Code) → MethodDebugFault raw row method 1 b other → number_of other < 20 → ⊥
       none _ _ (no_points _) lower = omega (arith, lower)
@@ -95,7 +81,7 @@ module _ (raw : RawTables) (row : ℕ) (method : MethodDebugRow) (there : row_at
   pub bad_points_first : (fault : Fault) (inner : BlobFault) → ToCell raw 0x31 row 1 → (IsNil raw.blobs method.points → ⊥)
       → HasFault (sequence_points method.document (point_limits raw)) raw.blobs method.points inner
       → fault ≡ record { code = inner.code; place = in_blob 0x31 row 1 inner.byte } → IsFirstOf raw fault
-  bad_points_first fault inner judged some wrong = first_within 1 fault inner judged (points_content {fault = inner} there some wrong) none
+  bad_points_first fault inner judged some wrong = first_within 1 fault inner judged (bad_points {fault = inner} some wrong) none
     where
       none : (b : ℕ) (other : Code) → MethodDebugFault raw row method 1 b other
           → (b < inner.byte) ⊎ ((b ≡ inner.byte) × (number_of other < number_of inner.code)) → ⊥

@@ -14,7 +14,8 @@ use Rattle.ppdb_tables.specs.RawTables.{RawTables, row_at}
 use Rattle.ppdb_rules.specs.Earlier.{HasEarlier}
 use Rattle.ppdb_rules.specs.Judged.{ToCell}
 use Rattle.ppdb_rules.specs.Open.{AreOpen, EndsThere}
-use Rattle.ppdb_rules.specs.Rows.BadRow.{scope_order, scope_crossing, scope_range}
+use Rattle.ppdb_rules.specs.Rows.BadRow.{in_scope}
+use Rattle.ppdb_rules.specs.Rows.ScopeFault.{out_of_order, crossing as scope_crossing, no_range}
 use Rattle.ppdb_rules.specs.Scopes.{AreCrossed, Covers, Crosses, IsAbove, extent_of}
 use Rattle.ppdb_tables.proofs.NumberedRows.{same_row}
 use Rattle.ppdb_rules.proofs.Order.{scopes_in_order}
@@ -30,7 +31,7 @@ pub not_below : (raw : RawTables) (row i c : ℕ) (x scope : ScopeRow) → ToCel
     → row_at raw.scopes row ≡ Some scope → row_at raw.scopes i ≡ Some x → i < row → IsAbove (extent_of x) (extent_of scope) → ⊥
 not_below raw row i c x scope clear here there sooner above =
     clear ScopeOrder (cell 0x32 row 0)
-    (scope_order here (record { before = i; earlier = x; there = there; sooner = sooner; forbidden = above }))
+    (in_scope here (out_of_order (record { before = i; earlier = x; there = there; sooner = sooner; forbidden = above })))
     (inr (refl, inr (refl, inr (refl, inl (omega arith)))))
 
 cross : (a b : ScopeRow) → (IsAbove (extent_of a) (extent_of b) → ⊥) → a.method ≡ b.method → a.start ≤ b.start → b.start < end_of a → end_of a < end_of b
@@ -228,12 +229,12 @@ after_row raw row scope b ends here clear opened again =
     (open_pushed raw.scopes row scope ends here opened
     (λ k within. elim (cases_lt (get_or ends k 0) (end_of scope)) [
       | inl lt ↦ absurd (clear ScopeCrossing (cell 0x32 row 4)
-          (scope_crossing here (crossing_at raw row scope ends k here before opened within lt))
+          (in_scope here (scope_crossing (crossing_at raw row scope ends k here before opened within lt)))
           (inr (refl, inr (refl, inr (refl, inl (omega arith))))))
       | inr ge ↦ ge
     ])
     (elim (cases_lt 0 scope.length) [
       | inl lt ↦ lt
-      | inr none ↦ absurd (clear ScopeRange (cell 0x32 row 5) (scope_range here (inl (omega arith)))
+      | inr none ↦ absurd (clear ScopeRange (cell 0x32 row 5) (in_scope here (no_range (inl (omega arith))))
           (inr (refl, inr (refl, inr (refl, inl (omega arith))))))
     ]))

@@ -9,7 +9,10 @@ use Rattle.ppdb_tables.specs.declared.rows.CustomRow.{CustomRow}
 use Rattle.ppdb_tables.specs.RawTables.{RawTables, row_at}
 use Rattle.ppdb_rules.specs.Earlier.{HasEarlier}
 use Rattle.ppdb_rules.specs.Judged.{ToCell}
-use Rattle.ppdb_rules.specs.Rows.BadRow.{scope_order, machine_order, custom_order}
+use Rattle.ppdb_rules.specs.Rows.BadRow.{in_scope, in_machine, in_custom}
+use Rattle.ppdb_rules.specs.Rows.ScopeFault.{out_of_order as scope_order}
+use Rattle.ppdb_rules.specs.Rows.MachineFault.{out_of_order as machine_order}
+use Rattle.ppdb_rules.specs.Rows.CustomFault.{out_of_order as custom_order}
 use Rattle.ppdb_rules.specs.Scopes.{Extent, IsAbove, extent_of}
 use Rattle.ppdb_tables.proofs.NumberedRows.{same_row}
 
@@ -31,7 +34,7 @@ row_before Forbids rows row x before there in_order up h =
 pub scopes_in_order : (raw : RawTables) (row column i j : ℕ) (x y : ScopeRow) → ToCell raw 0x32 row column
     → row_at raw.scopes i ≡ Some x → row_at raw.scopes j ≡ Some y → i < j → j < row → IsAbove (extent_of x) (extent_of y) → ⊥
 scopes_in_order raw row column i j x y judged ix jy ij jr above =
-    judged ScopeOrder (cell 0x32 j 0) (scope_order jy (record { before = i; earlier = x; there = ix; sooner = ij; forbidden = above }))
+    judged ScopeOrder (cell 0x32 j 0) (in_scope jy (scope_order (record { before = i; earlier = x; there = ix; sooner = ij; forbidden = above })))
     (inr (refl, inr (refl, inl jr)))
 
 above_up : (a b c : Extent) → IsAbove a c → (IsAbove a b → ⊥) → IsAbove b c
@@ -51,7 +54,7 @@ pub machine_before : (raw : RawTables) (row : ℕ) (machine before : MachineRow)
 machine_before raw row machine before judged there =
     row_before (λ (a : MachineRow) (b : MachineRow). b.move_next ≤ a.move_next) raw.machines row machine before there
     (λ i j a b ia jb ij jr high. judged MachineOrder (cell 0x36 j 0)
-    (machine_order jb (record { before = i; earlier = a; there = ia; sooner = ij; forbidden = high })) (inr (refl, inr (refl, inl jr))))
+    (in_machine jb (machine_order (record { before = i; earlier = a; there = ia; sooner = ij; forbidden = high }))) (inr (refl, inr (refl, inl jr))))
     (λ a b high low. elim (cases_lt a.move_next b.move_next) [ inl rises ↦ omega (arith, high, rises) | inr falls ↦ absurd (low falls) ])
 
 -- the earlier custom records do not fall by their coded parents
@@ -60,5 +63,5 @@ pub custom_before : (raw : RawTables) (row : ℕ) (custom before : CustomRow) �
     → custom.parent < before.parent
 custom_before raw row custom before judged there = row_before (λ (a : CustomRow) (b : CustomRow). b.parent < a.parent) raw.customs row custom before there
     (λ i j a b ia jb ij jr high. judged CustomOrder (cell 0x37 j 0)
-    (custom_order jb (record { before = i; earlier = a; there = ia; sooner = ij; forbidden = high })) (inr (refl, inr (refl, inl jr))))
+    (in_custom jb (custom_order (record { before = i; earlier = a; there = ia; sooner = ij; forbidden = high }))) (inr (refl, inr (refl, inl jr))))
     (λ a b high low. elim (cases_lt b.parent a.parent) [ inl falls ↦ absurd (low falls) | inr rises ↦ omega (arith, high, rises) ])

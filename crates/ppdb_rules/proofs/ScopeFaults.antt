@@ -8,43 +8,20 @@ use Rattle.ppdb_base.specs.Place.{number_of}
 use Rattle.ppdb_tables.specs.declared.rows.ScopeRow.{ScopeRow}
 use Rattle.ppdb_tables.specs.RawTables.{RawTables, row_at, count}
 use Rattle.ppdb_rules.specs.Blobs.{in_blob}
-use Rattle.ppdb_rules.specs.Cells.TextCell.{variable_name}
-use Rattle.ppdb_rules.specs.Cells.BlobCell.{document_name}
-use Rattle.ppdb_rules.specs.Cells.GuidCell.{custom_kind}
-use Rattle.ppdb_rules.specs.Cells.RowCell.{scope_method, scope_import}
 use Rattle.ppdb_rules.specs.Earlier.{HasEarlier, NamesNoRow}
 use Rattle.ppdb_rules.specs.Judged.{ToTable, ToRow, ToCell, IsFirstOf}
 use Rattle.ppdb_rules.specs.declared.lists.ScopeList.{ScopeList}
 use Rattle.ppdb_rules.specs.declared.lists.ScopeList.TheVariants.{Variables, Constants}
 use Rattle.ppdb_rules.specs.Lists.{list_of, table_of, column_of}
-use Rattle.ppdb_rules.specs.Rows.{BadRow}
-use Rattle.ppdb_rules.specs.Rows.BadRow.{string_index, blob_index, guid_index, row_index, scope_order, scope_range, scope_crossing}
-use Rattle.ppdb_rules.specs.Rows.BadRow.{variable_list, constant_list}
+use Rattle.ppdb_rules.specs.Rows.{BadRow, ScopeFault}
+use Rattle.ppdb_rules.specs.Rows.BadRow.{in_scope}
+use Rattle.ppdb_rules.specs.Rows.ScopeFault.{no_method, out_of_order, no_import, no_variables, no_constants, crossing, no_range}
 use Rattle.ppdb_rules.specs.Scopes.{AreCrossed, HasNoRange, IsAbove, IsListOut, extent_of}
 use Rattle.ppdb_rules.proofs.CellFaults as cells
 
--- the faults of a row, by column, byte and code
-pub data ScopeFault (raw : RawTables) (row : ℕ) (scope : ScopeRow) : ℕ → ℕ → Code → Type 0 where
-  no_method : NamesNoRow 1 (count raw 0x06) scope.method → ScopeFault raw row scope 0 0 RowIndex
-  out_of_order : HasEarlier (λ _ (e : ScopeRow). IsAbove (extent_of e) (extent_of scope)) raw.scopes row → ScopeFault raw row scope 0 0 ScopeOrder
-  no_import : NamesNoRow 0 (count raw 0x35) scope.import → ScopeFault raw row scope 1 0 RowIndex
-  no_variables : IsListOut (λ s. s.variables) (count raw 0x33) raw.scopes row scope → ScopeFault raw row scope 2 0 ListRange
-  no_constants : IsListOut (λ s. s.constants) (count raw 0x34) raw.scopes row scope → ScopeFault raw row scope 3 0 ListRange
-  crossing : HasEarlier (λ _ (e : ScopeRow). AreCrossed (extent_of e) (extent_of scope)) raw.scopes row → ScopeFault raw row scope 4 0 ScopeCrossing
-  no_range : HasNoRange (extent_of scope) → ScopeFault raw row scope 5 0 ScopeRange
-
 inside : (raw : RawTables) (code : Code) (at : Place) → BadRow raw code at → at.table ≡ 0x32
     → (x : ScopeRow) × (row_at raw.scopes at.row ≡ Some x) × ScopeFault raw at.row x at.column at.byte code
-inside raw _ _ (row_index (scope_method {row} {x} h) w) t = (x, h, no_method w)
-inside raw _ _ (row_index (scope_import {row} {x} h) w) t = (x, h, no_import w)
-inside raw _ _ (scope_order {row} {scope} h w) t = (scope, h, out_of_order w)
-inside raw _ _ (scope_range {row} {scope} h w) t = (scope, h, no_range w)
-inside raw _ _ (scope_crossing {row} {scope} h w) t = (scope, h, crossing w)
-inside raw _ _ (variable_list {row} {scope} h w) t = (scope, h, no_variables w)
-inside raw _ _ (constant_list {row} {scope} h w) t = (scope, h, no_constants w)
-inside raw _ _ (string_index (variable_name h) w) t = absurd (omega (arith, t))
-inside raw _ _ (blob_index (document_name h) w) t = absurd (omega (arith, t))
-inside raw _ _ (guid_index (custom_kind h) w) t = absurd (omega (arith, t))
+inside raw _ _ (in_scope {row} {column} {byte} {code} {x} there fault) t = (x, there, fault)
 inside raw _ _ _ t = absurd (omega (arith, t))
 
 module _ (raw : RawTables) where
@@ -59,10 +36,11 @@ module _ (raw : RawTables) (row : ℕ) (scope : ScopeRow) (there : row_at raw.sc
       → ToCell raw 0x32 row (suc column)
   next column = cells.next_cell raw 0x32 raw.scopes (ScopeFault raw) (inside raw) row column scope there
 
-  first : (column : ℕ) (code : Code) (fault : Fault) → ToCell raw 0x32 row column → BadRow raw code (in_blob 0x32 row column 0)
+  first : (column : ℕ) (code : Code) (fault : Fault) → ToCell raw 0x32 row column → ScopeFault raw row scope column 0 code
       → ((b : ℕ) (other : Code) → ScopeFault raw row scope column b other → number_of other < number_of code → ⊥)
       → fault ≡ record { code = code; place = in_blob 0x32 row column 0 } → IsFirstOf raw fault
-  first column code fault = cells.first_at raw 0x32 raw.scopes (ScopeFault raw) (inside raw) row column scope code fault there
+  first column code fault judged wrong =
+      cells.first_at raw 0x32 raw.scopes (ScopeFault raw) (inside raw) row column scope code fault there judged (in_scope there wrong)
 
   pub past_row : ToCell raw 0x32 row 6 → ToRow raw 0x32 (row + 1)
   past_row judged = cells.past_row raw 0x32 raw.scopes (ScopeFault raw) (inside raw) row 6 scope there judged narrow
@@ -79,7 +57,7 @@ module _ (raw : RawTables) (row : ℕ) (scope : ScopeRow) (there : row_at raw.sc
   -- the method
   pub method_first : (fault : Fault) → ToCell raw 0x32 row 0 → NamesNoRow 1 (count raw 0x06) scope.method
       → fault ≡ record { code = RowIndex; place = in_blob 0x32 row 0 0 } → IsFirstOf raw fault
-  method_first fault judged wrong = first 0 RowIndex fault judged (row_index (scope_method there) wrong) none
+  method_first fault judged wrong = first 0 RowIndex fault judged (no_method wrong) none
     where
       none : (b : ℕ) (other : Code) → ScopeFault raw row scope 0 b other → number_of other < 22 → ⊥
       none _ _ (no_method _) lower = omega (arith, lower)
@@ -88,7 +66,7 @@ module _ (raw : RawTables) (row : ℕ) (scope : ScopeRow) (there : row_at raw.sc
   pub order_first : (fault : Fault) → ToCell raw 0x32 row 0 → (NamesNoRow 1 (count raw 0x06) scope.method → ⊥)
       → HasEarlier (λ _ (e : ScopeRow). IsAbove (extent_of e) (extent_of scope)) raw.scopes row
       → fault ≡ record { code = ScopeOrder; place = in_blob 0x32 row 0 0 } → IsFirstOf raw fault
-  order_first fault judged right wrong = first 0 ScopeOrder fault judged (scope_order there wrong) none
+  order_first fault judged right wrong = first 0 ScopeOrder fault judged (out_of_order wrong) none
     where
       none : (b : ℕ) (other : Code) → ScopeFault raw row scope 0 b other → number_of other < 26 → ⊥
       none _ _ (no_method w) lower = right w
@@ -105,7 +83,7 @@ module _ (raw : RawTables) (row : ℕ) (scope : ScopeRow) (there : row_at raw.sc
   -- the import scope
   pub import_first : (fault : Fault) → ToCell raw 0x32 row 1 → NamesNoRow 0 (count raw 0x35) scope.import
       → fault ≡ record { code = RowIndex; place = in_blob 0x32 row 1 0 } → IsFirstOf raw fault
-  import_first fault judged wrong = first 1 RowIndex fault judged (row_index (scope_import there) wrong) none
+  import_first fault judged wrong = first 1 RowIndex fault judged (no_import wrong) none
     where
       none : (b : ℕ) (other : Code) → ScopeFault raw row scope 1 b other → number_of other < 22 → ⊥
       none _ _ (no_import _) lower = omega (arith, lower)
@@ -120,11 +98,11 @@ module _ (raw : RawTables) (row : ℕ) (scope : ScopeRow) (there : row_at raw.sc
   pub list_first : (list : ScopeList) (fault : Fault) → ToCell raw 0x32 row (column_of list)
       → IsListOut (list_of list) (count raw (table_of list)) raw.scopes row scope
       → fault ≡ record { code = ListRange; place = in_blob 0x32 row (column_of list) 0 } → IsFirstOf raw fault
-  list_first Variables fault judged wrong = first 2 ListRange fault judged (variable_list there wrong) none
+  list_first Variables fault judged wrong = first 2 ListRange fault judged (no_variables wrong) none
     where
       none : (b : ℕ) (other : Code) → ScopeFault raw row scope 2 b other → number_of other < 29 → ⊥
       none _ _ (no_variables _) lower = omega (arith, lower)
-  list_first Constants fault judged wrong = first 3 ListRange fault judged (constant_list there wrong) none
+  list_first Constants fault judged wrong = first 3 ListRange fault judged (no_constants wrong) none
     where
       none : (b : ℕ) (other : Code) → ScopeFault raw row scope 3 b other → number_of other < 29 → ⊥
       none _ _ (no_constants _) lower = omega (arith, lower)
@@ -144,7 +122,7 @@ module _ (raw : RawTables) (row : ℕ) (scope : ScopeRow) (there : row_at raw.sc
   pub crossing_first : (fault : Fault) → ToCell raw 0x32 row 4
       → HasEarlier (λ _ (e : ScopeRow). AreCrossed (extent_of e) (extent_of scope)) raw.scopes row
       → fault ≡ record { code = ScopeCrossing; place = in_blob 0x32 row 4 0 } → IsFirstOf raw fault
-  crossing_first fault judged wrong = first 4 ScopeCrossing fault judged (scope_crossing there wrong) none
+  crossing_first fault judged wrong = first 4 ScopeCrossing fault judged (crossing wrong) none
     where
       none : (b : ℕ) (other : Code) → ScopeFault raw row scope 4 b other → number_of other < 28 → ⊥
       none _ _ (crossing _) lower = omega (arith, lower)
@@ -159,7 +137,7 @@ module _ (raw : RawTables) (row : ℕ) (scope : ScopeRow) (there : row_at raw.sc
   -- the length
   pub range_first : (fault : Fault) → ToCell raw 0x32 row 5 → HasNoRange (extent_of scope)
       → fault ≡ record { code = ScopeRange; place = in_blob 0x32 row 5 0 } → IsFirstOf raw fault
-  range_first fault judged wrong = first 5 ScopeRange fault judged (scope_range there wrong) none
+  range_first fault judged wrong = first 5 ScopeRange fault judged (no_range wrong) none
     where
       none : (b : ℕ) (other : Code) → ScopeFault raw row scope 5 b other → number_of other < 27 → ⊥
       none _ _ (no_range _) lower = omega (arith, lower)

@@ -1,4 +1,3 @@
-pub mod Cells
 pub mod Earlier
 pub mod Scopes
 pub mod Names

@@ -25,7 +25,7 @@ use sequence_points::{PointLimits, blob_fault};
 use type_blobs::{ConstantCursor, ImportCursor, TypeLimits};
 
 /// The rows that sequence points name.
-fn point_limits(tables: &Tables<'_>) -> PointLimits
+pub fn point_limits(tables: &Tables<'_>) -> PointLimits
     ensures { result ≡ words.point_limits (raw_of tables.now) }
 {
     PointLimits {
@@ -35,7 +35,7 @@ fn point_limits(tables: &Tables<'_>) -> PointLimits
 }
 
 /// The rows that type references and imports name.
-fn type_limits(tables: &Tables<'_>) -> TypeLimits
+pub fn type_limits(tables: &Tables<'_>) -> TypeLimits
     ensures { result ≡ words.type_limits (raw_of tables.now) }
 {
     TypeLimits {

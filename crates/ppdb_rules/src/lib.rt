@@ -18,5 +18,6 @@ mod scopes;
 mod seen;
 mod variables;
 
+pub use contents::{point_limits, type_limits};
 pub use errors::VerifyError;
 pub use rows::{judge_rows, judge_rows_to};

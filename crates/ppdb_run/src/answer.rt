@@ -18,6 +18,7 @@ use ppdb_lines::{Form, Printer, put_entry_line, put_id_line};
 use ppdb_show::{QueryError, query_text, show_json, show_text};
 use ppdb_verify::Verified;
 use std::alloc::Global;
+use std::cell::Cell;
 use std::sync::ledger::Ledger;
 
 /// Reads and verifies a file, and puts the answer to a question about it.
@@ -103,9 +104,11 @@ fn put_answer<'a, O: Sink, L: Ledger>(
 fn put_id<O: Sink>(alloc: Global, out: &mut O, file: &Verified<'_>) -> Result<(), WriteError>
     ensures { Puts result (O.written out.old) (O.written out.new) (O.faults out.old) (O.faults out.new) (id_text (raw_file file.now)) }
 {
+    let room = Cell::new(Vec::new(alloc));
     let printer = Printer {
         alloc,
         form: Form::Text,
+        room: &room,
     };
     file.keeps();
     let head = file.head();

@@ -43,9 +43,19 @@ pub fn map_of<'a>(alloc: Global, name: &'a str, text: Bytes) -> Result<MapText, 
     ensures told { Gives (λ read. read) result (map_in name.now text) }
     ensures causes { IfErr result (λ stop. ComesFrom (cause_of stop) ⊥ no_file no_file None ⊥ ⊥ ⊥) }
 {
-    match read_map(alloc, text.as_slice()) {
+    let read = read_map(alloc, text.as_slice());
+    give_up(text);
+    match read {
         Ok(map) => Ok(map),
         Err(MapError::Line { line, kind }) => Err(Stop::Map { name, line, kind }),
         Err(MapError::Memory) => Err(Stop::Memory),
     }
+}
+
+/// Gives a text up, which is shrunk before. Of the largest block that was freed as one, glibc takes the size up to which it keeps what is
+/// freed later.
+fn give_up(text: Bytes) {
+    let mut bytes = text.into_vec();
+    bytes.truncate(1);
+    bytes.shrink_to_fit();
 }

@@ -18,6 +18,7 @@ use ppdb_base::{Sink, Steps, WriteError};
 use ppdb_lines::{Form, Printer};
 use ppdb_verify::Verified;
 use std::alloc::Global;
+use std::cell::Cell;
 use std::sync::ledger::Ledger;
 
 /// Puts all rows of a file, a line each.
@@ -33,9 +34,11 @@ pub fn show_text<O: Sink, L: Ledger>(
 ) -> Result<(), WriteError>
     ensures { Puts result (O.written out.old) (O.written out.new) (O.faults out.old) (O.faults out.new) (show_text_of (raw_file file.now)) }
 {
+    let room = Cell::new(Vec::new(alloc));
     let printer = Printer {
         alloc,
         form: Form::Text,
+        room: &room,
     };
     put_file(printer, file, out, steps)
 }
@@ -53,21 +56,23 @@ pub fn show_json<O: Sink, L: Ledger>(
 ) -> Result<(), WriteError>
     ensures { Puts result (O.written out.old) (O.written out.new) (O.faults out.old) (O.faults out.new) (show_json_of (raw_file file.now)) }
 {
+    let room = Cell::new(Vec::new(alloc));
     let printer = Printer {
         alloc,
         form: Form::Json,
+        room: &room,
     };
     put_file(printer, file, out, steps)
 }
 
 /// Puts all lines of a file.
 fn put_file<O: Sink, L: Ledger>(
-    printer: Printer,
+    printer: Printer<'_>,
     file: &Verified<'_>,
     out: &mut O,
     steps: &mut Steps<L>,
 ) -> Result<(), WriteError>
-    ensures { Puts result (O.written out.old) (O.written out.new) (O.faults out.old) (O.faults out.new) (lines_as printer.form (show_lines (raw_file file.now))) }
+    ensures { Puts result (O.written out.old) (O.written out.new) (O.faults out.old) (O.faults out.new) (lines_as printer.entry.form (show_lines (raw_file file.now))) }
 {
     put_head(printer, file, out)?;
     put_tables(printer, file, out, steps)
@@ -75,12 +80,12 @@ fn put_file<O: Sink, L: Ledger>(
 
 /// Puts the lines of the rows of all tables.
 fn put_tables<O: Sink, L: Ledger>(
-    printer: Printer,
+    printer: Printer<'_>,
     file: &Verified<'_>,
     out: &mut O,
     steps: &mut Steps<L>,
 ) -> Result<(), WriteError>
-    ensures { Puts result (O.written out.old) (O.written out.new) (O.faults out.old) (O.faults out.new) (lines_as printer.form (row_lines (raw_file file.now).tables)) }
+    ensures { Puts result (O.written out.old) (O.written out.new) (O.faults out.old) (O.faults out.new) (lines_as printer.entry.form (row_lines (raw_file file.now).tables)) }
 {
     put_rows(printer, Rows::Documents, file, out, steps)?;
     put_rows(printer, Rows::Methods, file, out, steps)?;

@@ -25,6 +25,7 @@ stored_import (TargetAlias name type) = target_alias name type
 
 -- ---- its fields; one that it has not is empty, 0 or no row
 
+-- the kind by which a blob says it
 abbrev pub kind_of_import : ImportValue → ℕ
 kind_of_import (Namespace name) = 1
 kind_of_import (AssemblyNamespace assembly name) = 2

@@ -3,7 +3,6 @@ ghost use Rattle.std.specs.Prelude.{◌≡◌, ◌≤◌, ◌∷◌, Some, List,
 ghost use Rattle.ppdb_heaps.specs.Heaps.{blob_at};
 ghost use Rattle.ppdb_tables.specs.RawTables.{count, row_at};
 ghost use Rattle.ppdb_tables.specs.RawOf.{raw_of};
-ghost use Rattle.ppdb_rules.specs.Blobs as words;
 ghost use Rattle.reference_total.specs.References.{Reference, blob_in, named_inside, in_name, in_imports};
 ghost use Rattle.reference_total.specs.Spans.{most_bytes, spanned};
 ghost use Rattle.reference_total.specs.TableRows.{number_of, rows_of};
@@ -11,9 +10,9 @@ ghost use Rattle.reference_total.specs.TableRows.{number_of, rows_of};
 use crate::inside::{add_imports, add_parts};
 use crate::sum::{add, add_blob, add_text};
 use ppdb_base::{Fault, Steps};
+use ppdb_rules::type_limits;
 use ppdb_tables::Tables;
 use std::sync::ledger::Ledger;
-use type_blobs::TypeLimits;
 
 /// A table whose rows name texts or blobs.
 #[derive(Clone, Copy)]
@@ -37,18 +36,6 @@ pub(crate) fn number_of(table: Table) -> u8
         Table::LocalConstant => 0x34,
         Table::ImportScope => 0x35,
         Table::Custom => 0x37,
-    }
-}
-
-/// The rows that imports name.
-fn type_limits(tables: &Tables<'_>) -> TypeLimits
-    ensures { result ≡ words.type_limits (raw_of tables.now) }
-{
-    TypeLimits {
-        type_refs: tables.rows(0x01),
-        type_defs: tables.rows(0x02),
-        type_specs: tables.rows(0x1b),
-        assembly_refs: tables.rows(0x23),
     }
 }
 

@@ -1,4 +1,4 @@
--- When a value is sound: a Portable PDB file can say it (Portable PDB v1.0, "#Pdb stream" and "Metadata Tables"; ECMA-335 II.22).
+-- When a value is sound: a Portable PDB file can say it, but for the limits L1 to L6 (Portable PDB v1.0, "#Pdb stream" and "Metadata Tables"; ECMA-335 II.22).
 use Rattle.std.specs.Prelude.{◌≡◌, ◌≢◌, ℕ, ◌≤◌, map, List, slice_index}
 use Rattle.ppdb_tables.specs.declared.rows.MachineRow.{MachineRow}
 use Rattle.ppdb_values.specs.declared.file.FileValue.{FileValue}

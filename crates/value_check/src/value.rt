@@ -15,7 +15,7 @@ use ppdb_tables::METHOD_DEF;
 use ppdb_values::FileValue;
 use std::alloc::Global;
 
-/// Whether a value is sound: whether a Portable PDB file can say it.
+/// Whether a value is sound: whether a Portable PDB file can say it, but for the limits L1 to L6.
 pub fn sound(alloc: Global, value: &FileValue) -> Result<bool, Memory>
     ensures { IfOk result (λ answer. IsTrue answer ↔ IsSound value.now) }
 {

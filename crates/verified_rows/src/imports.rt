@@ -6,7 +6,6 @@ ghost use Rattle.ppdb_verify.specs.Views.{raw_file};
 ghost use Rattle.verified_rows.specs.Imports.{imports_in};
 
 use crate::heaps::{blob, blobs};
-use crate::rows::count;
 use ppdb_tables::ImportRow;
 use ppdb_verify::Verified;
 use type_blobs::{ImportCursor, TypeLimits};
@@ -15,12 +14,7 @@ use type_blobs::{ImportCursor, TypeLimits};
 pub fn type_limits(file: &Verified<'_>) -> TypeLimits
     ensures { result ≡ limits_of (raw_file file.now).tables }
 {
-    TypeLimits {
-        type_refs: count(file, 0x01),
-        type_defs: count(file, 0x02),
-        type_specs: count(file, 0x1b),
-        assembly_refs: count(file, 0x23),
-    }
+    ppdb_rules::type_limits(file.tables())
 }
 
 /// What an import scope imports, from the first. It has no fault.

@@ -6,7 +6,6 @@ ghost use Rattle.ppdb_verify.specs.Views.{raw_file};
 ghost use Rattle.verified_rows.specs.Points.{PointsAre};
 
 use crate::heaps::blob;
-use crate::rows::count;
 use ppdb_tables::MethodDebugRow;
 use ppdb_verify::Verified;
 use sequence_points::{PointCursor, PointLimits, read_points_can_be_written};
@@ -15,10 +14,7 @@ use sequence_points::{PointCursor, PointLimits, read_points_can_be_written};
 pub fn point_limits(file: &Verified<'_>) -> PointLimits
     ensures { result ≡ limits_of (raw_file file.now).tables }
 {
-    PointLimits {
-        documents: count(file, 0x30),
-        signatures: count(file, 0x11),
-    }
+    ppdb_rules::point_limits(file.tables())
 }
 
 /// The points of a method, from the first; None where its blob is nil. They have no fault.

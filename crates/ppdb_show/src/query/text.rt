@@ -9,6 +9,7 @@ ghost use Rattle.ppdb_show.specs.QueryWalk.{Adds};
 use ppdb_base::{Memory, SteadySink};
 use ppdb_lines::{Form, Part, Printer, put_text_line, put_use};
 use std::alloc::Global;
+use std::cell::Cell;
 use type_blobs::Import;
 
 /// Puts a line behind the text.
@@ -29,9 +30,11 @@ pub(crate) fn put_import_line(
 ) -> Result<(), Memory>
     ensures { OnOk result (Adds text.old text.new (use_line (import_value (shown import.now)) ∷ [])) }
 {
+    let room = Cell::new(Vec::new(alloc));
     let printer = Printer {
         alloc,
         form: Form::Text,
+        room: &room,
     };
     if put_use(printer, text, import).is_err() {
         return Err(Memory);

@@ -22,7 +22,7 @@ use verified_rows::{blob, document, guid, joined_name};
 
 /// Puts the line of a document.
 pub(crate) fn put_document<O: Sink, L: Ledger>(
-    printer: Printer,
+    printer: Printer<'_>,
     file: &Verified<'_>,
     row: u32,
     out: &mut O,
@@ -30,7 +30,7 @@ pub(crate) fn put_document<O: Sink, L: Ledger>(
 ) -> Result<(), WriteError>
     requires { HasRow (raw_file file.now).tables 0x30 row }
     ensures { Puts result (O.written out.old) (O.written out.new) (O.faults out.old) (O.faults out.new)
-        (lines_as printer.form (lines_of_document (raw_file file.now).tables row)) }
+        (lines_as printer.entry.form (lines_of_document (raw_file file.now).tables row)) }
 {
     let document = document(file, row, steps);
     let value = document_value(printer.alloc, file, row, &document)?;
@@ -39,12 +39,12 @@ pub(crate) fn put_document<O: Sink, L: Ledger>(
 
 /// Puts the line of the value of a document.
 fn put_value<O: Sink>(
-    printer: Printer,
+    printer: Printer<'_>,
     row: u32,
     document: &DocumentValue,
     out: &mut O,
 ) -> Result<(), WriteError>
-    ensures { Puts result (O.written out.old) (O.written out.new) (O.faults out.old) (O.faults out.new) (lines_as printer.form (document_line row document.now ∷ [])) }
+    ensures { Puts result (O.written out.old) (O.written out.new) (O.faults out.old) (O.faults out.new) (lines_as printer.entry.form (document_line row document.now ∷ [])) }
 {
     let parts = [
         Field(" ", "row", Number(row)),

@@ -18,11 +18,11 @@ const TYPE_SYSTEM: u8 = 0x2d;
 
 /// Puts the lines of the identity, of the entry point, and of the tables of the type system that have rows.
 pub(crate) fn put_head<O: Sink>(
-    printer: Printer,
+    printer: Printer<'_>,
     file: &Verified<'_>,
     out: &mut O,
 ) -> Result<(), WriteError>
-    ensures { Puts result (O.written out.old) (O.written out.new) (O.faults out.old) (O.faults out.new) (lines_as printer.form (head_lines (raw_file file.now))) }
+    ensures { Puts result (O.written out.old) (O.written out.new) (O.faults out.old) (O.faults out.new) (lines_as printer.entry.form (head_lines (raw_file file.now))) }
 {
     file.keeps();
     let head = file.head();
@@ -32,8 +32,12 @@ pub(crate) fn put_head<O: Sink>(
 }
 
 /// Puts the lines of the tables of the type system that have rows.
-fn put_counts<O: Sink>(printer: Printer, tables: &Tables<'_>, out: &mut O) -> Result<(), WriteError>
-    ensures { Puts result (O.written out.old) (O.written out.new) (O.faults out.old) (O.faults out.new) (lines_as printer.form (count_lines (raw_of tables.now))) }
+fn put_counts<O: Sink>(
+    printer: Printer<'_>,
+    tables: &Tables<'_>,
+    out: &mut O,
+) -> Result<(), WriteError>
+    ensures { Puts result (O.written out.old) (O.written out.new) (O.faults out.old) (O.faults out.new) (lines_as printer.entry.form (count_lines (raw_of tables.now))) }
 {
     let mut table = 0;
     'counts: while table < TYPE_SYSTEM {
@@ -45,14 +49,14 @@ fn put_counts<O: Sink>(printer: Printer, tables: &Tables<'_>, out: &mut O) -> Re
 
 /// Puts the line of a table of the type system, where it has rows.
 fn put_count<O: Sink>(
-    printer: Printer,
+    printer: Printer<'_>,
     tables: &Tables<'_>,
     table: u8,
     out: &mut O,
 ) -> Result<(), WriteError>
     requires { table < 64 }
     ensures { Puts result (O.written out.old) (O.written out.new) (O.faults out.old) (O.faults out.new)
-        (lines_as printer.form (count_lines_of (raw_of tables.now) table)) }
+        (lines_as printer.entry.form (count_lines_of (raw_of tables.now) table)) }
 {
     let count = tables.rows(table);
     if count == 0 {

@@ -19,7 +19,7 @@ use verified_rows::{import, imports_of};
 
 /// Puts the line of an import scope, and the lines of what it imports.
 pub(crate) fn put_import<O: Sink, L: Ledger>(
-    printer: Printer,
+    printer: Printer<'_>,
     file: &Verified<'_>,
     row: u32,
     out: &mut O,
@@ -27,7 +27,7 @@ pub(crate) fn put_import<O: Sink, L: Ledger>(
 ) -> Result<(), WriteError>
     requires { HasRow (raw_file file.now).tables 0x35 row }
     ensures { Puts result (O.written out.old) (O.written out.new) (O.faults out.old) (O.faults out.new)
-        (lines_as printer.form (lines_of_import_row (raw_file file.now).tables row)) }
+        (lines_as printer.entry.form (lines_of_import_row (raw_file file.now).tables row)) }
 {
     let import = import(file, row, steps);
     let parts = [
@@ -41,13 +41,13 @@ pub(crate) fn put_import<O: Sink, L: Ledger>(
 
 /// Puts the lines of the imports that are left.
 fn put_uses<O: Sink>(
-    printer: Printer,
+    printer: Printer<'_>,
     imports: &mut ImportCursor<'_>,
     out: &mut O,
 ) -> Result<(), WriteError>
     requires { imports.old.fault ≡ None }
     ensures { Puts result (O.written out.old) (O.written out.new) (O.faults out.old) (O.faults out.new)
-        (lines_as printer.form (map use_line (map import_value imports.old.items))) }
+        (lines_as printer.entry.form (map use_line (map import_value imports.old.items))) }
 {
     'imports: loop {
         match imports.next() {

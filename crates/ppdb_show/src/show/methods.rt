@@ -22,7 +22,7 @@ use verified_rows::{blob, method_debug, point_limits};
 
 /// Puts the line of a method that has points, and the lines of these.
 pub(crate) fn put_method<O: Sink, L: Ledger>(
-    printer: Printer,
+    printer: Printer<'_>,
     file: &Verified<'_>,
     row: u32,
     out: &mut O,
@@ -30,7 +30,7 @@ pub(crate) fn put_method<O: Sink, L: Ledger>(
 ) -> Result<(), WriteError>
     requires { HasRow (raw_file file.now).tables 0x31 row }
     ensures { Puts result (O.written out.old) (O.written out.new) (O.faults out.old) (O.faults out.new)
-        (lines_as printer.form (lines_of_method_row (raw_file file.now).tables row)) }
+        (lines_as printer.entry.form (lines_of_method_row (raw_file file.now).tables row)) }
 {
     let method = method_debug(file, row, steps);
     if blob(file, method.points).is_empty() {
@@ -66,12 +66,12 @@ fn points_of<'a>(file: &Verified<'a>, row: u32, method: &MethodDebugRow) -> Poin
 
 /// Puts the lines of the points that are left.
 fn put_points<O: Sink>(
-    printer: Printer,
+    printer: Printer<'_>,
     points: &mut PointCursor<'_>,
     out: &mut O,
 ) -> Result<(), WriteError>
     requires { points.old.left.fault ≡ None }
-    ensures { Puts result (O.written out.old) (O.written out.new) (O.faults out.old) (O.faults out.new) (lines_as printer.form (map point_line points.old.left.items)) }
+    ensures { Puts result (O.written out.old) (O.written out.new) (O.faults out.old) (O.faults out.new) (lines_as printer.entry.form (map point_line points.old.left.items)) }
 {
     'points: loop {
         match points.next() {
@@ -83,8 +83,8 @@ fn put_points<O: Sink>(
 }
 
 /// Puts the line of a point.
-fn put_point<O: Sink>(printer: Printer, point: Point, out: &mut O) -> Result<(), WriteError>
-    ensures { Puts result (O.written out.old) (O.written out.new) (O.faults out.old) (O.faults out.new) (lines_as printer.form (point_line point ∷ [])) }
+fn put_point<O: Sink>(printer: Printer<'_>, point: Point, out: &mut O) -> Result<(), WriteError>
+    ensures { Puts result (O.written out.old) (O.written out.new) (O.faults out.old) (O.faults out.new) (lines_as printer.entry.form (point_line point ∷ [])) }
 {
     let offset = Field(" ", "offset", Number(point.offset));
     let document = Field(" ", "document", Number(point.document));

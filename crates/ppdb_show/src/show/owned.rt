@@ -69,14 +69,14 @@ fn end_of_list<L: Ledger>(
 
 /// Puts the lines of the variables, or of the constants.
 pub(crate) fn put_owned<O: Sink, L: Ledger>(
-    printer: Printer,
+    printer: Printer<'_>,
     owned: Owned,
     file: &Verified<'_>,
     out: &mut O,
     steps: &mut Steps<L>,
 ) -> Result<(), WriteError>
     ensures { Puts result (O.written out.old) (O.written out.new) (O.faults out.old) (O.faults out.new)
-        (lines_as printer.form (lines_of_items (raw_file file.now).tables owned)) }
+        (lines_as printer.entry.form (lines_of_items (raw_file file.now).tables owned)) }
 {
     file.keeps();
     let tables = file.tables();
@@ -95,7 +95,7 @@ pub(crate) fn put_owned<O: Sink, L: Ledger>(
 
 /// Puts the lines of the items of a scope from one up to and without another.
 fn put_items<O: Sink, L: Ledger>(
-    printer: Printer,
+    printer: Printer<'_>,
     owned: Owned,
     file: &Verified<'_>,
     scope: u32,
@@ -108,7 +108,7 @@ fn put_items<O: Sink, L: Ledger>(
     requires last { items.end ≤ items_of (raw_file file.now).tables owned + 1 }
     requires owner { (item : ℕ) → items.first ≤ item → item < items.end → OwnsItem (raw_file file.now).tables owned scope item }
     ensures { Puts result (O.written out.old) (O.written out.new) (O.faults out.old) (O.faults out.new)
-        (lines_as printer.form (lines_between (raw_file file.now).tables owned items.first items.end)) }
+        (lines_as printer.entry.form (lines_between (raw_file file.now).tables owned items.first items.end)) }
 {
     file.keeps();
     let mut item = items.first;
@@ -121,7 +121,7 @@ fn put_items<O: Sink, L: Ledger>(
 
 /// Puts the line of an item of a scope.
 fn put_item<O: Sink, L: Ledger>(
-    printer: Printer,
+    printer: Printer<'_>,
     owned: Owned,
     file: &Verified<'_>,
     scope: u32,
@@ -132,7 +132,7 @@ fn put_item<O: Sink, L: Ledger>(
     requires there { HasRow (raw_file file.now).tables (item_table owned) item }
     requires owner { OwnsItem (raw_file file.now).tables owned scope item }
     ensures { Puts result (O.written out.old) (O.written out.new) (O.faults out.old) (O.faults out.new)
-        (lines_as printer.form (lines_of_item (raw_file file.now).tables owned item)) }
+        (lines_as printer.entry.form (lines_of_item (raw_file file.now).tables owned item)) }
 {
     match owned {
         Owned::Variables => put_variable(printer, file, scope, item, out, steps),
@@ -142,7 +142,7 @@ fn put_item<O: Sink, L: Ledger>(
 
 /// Puts the line of a variable.
 fn put_variable<O: Sink, L: Ledger>(
-    printer: Printer,
+    printer: Printer<'_>,
     file: &Verified<'_>,
     scope: u32,
     row: u32,
@@ -152,7 +152,7 @@ fn put_variable<O: Sink, L: Ledger>(
     requires there { HasRow (raw_file file.now).tables 0x33 row }
     requires owner { OwnsItem (raw_file file.now).tables Owned.Variables scope row }
     ensures { Puts result (O.written out.old) (O.written out.new) (O.faults out.old) (O.faults out.new)
-        (lines_as printer.form (lines_of_item (raw_file file.now).tables Owned.Variables row)) }
+        (lines_as printer.entry.form (lines_of_item (raw_file file.now).tables Owned.Variables row)) }
 {
     let variable = variable(file, row, steps);
     let parts = [
@@ -171,7 +171,7 @@ fn put_variable<O: Sink, L: Ledger>(
 
 /// Puts the line of a constant.
 fn put_constant<O: Sink, L: Ledger>(
-    printer: Printer,
+    printer: Printer<'_>,
     file: &Verified<'_>,
     scope: u32,
     row: u32,
@@ -181,7 +181,7 @@ fn put_constant<O: Sink, L: Ledger>(
     requires there { HasRow (raw_file file.now).tables 0x34 row }
     requires owner { OwnsItem (raw_file file.now).tables Owned.Constants scope row }
     ensures { Puts result (O.written out.old) (O.written out.new) (O.faults out.old) (O.faults out.new)
-        (lines_as printer.form (lines_of_item (raw_file file.now).tables Owned.Constants row)) }
+        (lines_as printer.entry.form (lines_of_item (raw_file file.now).tables Owned.Constants row)) }
 {
     let constant = constant(file, row, steps);
     let parts = [

@@ -51,14 +51,14 @@ fn table_of(rows: Rows) -> u8
 
 /// Puts the lines of the rows of a table.
 pub(crate) fn put_rows<O: Sink, L: Ledger>(
-    printer: Printer,
+    printer: Printer<'_>,
     rows: Rows,
     file: &Verified<'_>,
     out: &mut O,
     steps: &mut Steps<L>,
 ) -> Result<(), WriteError>
     ensures { Puts result (O.written out.old) (O.written out.new) (O.faults out.old) (O.faults out.new)
-        (lines_as printer.form (lines_of_table (raw_file file.now).tables rows)) }
+        (lines_as printer.entry.form (lines_of_table (raw_file file.now).tables rows)) }
 {
     file.keeps();
     let count = count(file, table_of(rows));
@@ -72,7 +72,7 @@ pub(crate) fn put_rows<O: Sink, L: Ledger>(
 
 /// Puts the lines of a row of a table.
 fn put_row<O: Sink, L: Ledger>(
-    printer: Printer,
+    printer: Printer<'_>,
     rows: Rows,
     file: &Verified<'_>,
     row: u32,
@@ -81,7 +81,7 @@ fn put_row<O: Sink, L: Ledger>(
 ) -> Result<(), WriteError>
     requires { HasRow (raw_file file.now).tables (number_of rows) row }
     ensures { Puts result (O.written out.old) (O.written out.new) (O.faults out.old) (O.faults out.new)
-        (lines_as printer.form (lines_of_row (raw_file file.now).tables rows row)) }
+        (lines_as printer.entry.form (lines_of_row (raw_file file.now).tables rows row)) }
 {
     match rows {
         Rows::Documents => put_document(printer, file, row, out, steps),
@@ -95,7 +95,7 @@ fn put_row<O: Sink, L: Ledger>(
 
 /// Puts the line of a scope.
 fn put_scope<O: Sink, L: Ledger>(
-    printer: Printer,
+    printer: Printer<'_>,
     file: &Verified<'_>,
     row: u32,
     out: &mut O,
@@ -103,7 +103,7 @@ fn put_scope<O: Sink, L: Ledger>(
 ) -> Result<(), WriteError>
     requires { HasRow (raw_file file.now).tables 0x32 row }
     ensures { Puts result (O.written out.old) (O.written out.new) (O.faults out.old) (O.faults out.new)
-        (lines_as printer.form (lines_of_scope (raw_file file.now).tables row)) }
+        (lines_as printer.entry.form (lines_of_scope (raw_file file.now).tables row)) }
 {
     file.keeps();
     let scope = scope(file, row, steps);
@@ -119,7 +119,7 @@ fn put_scope<O: Sink, L: Ledger>(
 
 /// Puts the line of a state machine.
 fn put_machine<O: Sink, L: Ledger>(
-    printer: Printer,
+    printer: Printer<'_>,
     file: &Verified<'_>,
     row: u32,
     out: &mut O,
@@ -127,7 +127,7 @@ fn put_machine<O: Sink, L: Ledger>(
 ) -> Result<(), WriteError>
     requires { HasRow (raw_file file.now).tables 0x36 row }
     ensures { Puts result (O.written out.old) (O.written out.new) (O.faults out.old) (O.faults out.new)
-        (lines_as printer.form (lines_of_machine (raw_file file.now).tables row)) }
+        (lines_as printer.entry.form (lines_of_machine (raw_file file.now).tables row)) }
 {
     let machine = machine(file, row, steps);
     let parts = [
@@ -140,7 +140,7 @@ fn put_machine<O: Sink, L: Ledger>(
 
 /// Puts the line of a custom record.
 fn put_custom<O: Sink, L: Ledger>(
-    printer: Printer,
+    printer: Printer<'_>,
     file: &Verified<'_>,
     row: u32,
     out: &mut O,
@@ -148,7 +148,7 @@ fn put_custom<O: Sink, L: Ledger>(
 ) -> Result<(), WriteError>
     requires { HasRow (raw_file file.now).tables 0x37 row }
     ensures { Puts result (O.written out.old) (O.written out.new) (O.faults out.old) (O.faults out.new)
-        (lines_as printer.form (lines_of_custom (raw_file file.now).tables row)) }
+        (lines_as printer.entry.form (lines_of_custom (raw_file file.now).tables row)) }
 {
     file.keeps();
     let custom = custom(file, row, steps);

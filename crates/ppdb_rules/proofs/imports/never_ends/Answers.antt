@@ -8,8 +8,7 @@ use Rattle.ppdb_rules.proofs.imports.never_ends.Goals as goal
 
 pub returns-then-mark-row-clause-value : goal.returns-then-mark-row-clause-value
 returns-then-mark-row-clause-value g c =
-    let imports = (raw_of c.args.tables.now).imports in
-    (
+    let imports = (raw_of c.args.tables.now).imports in (
       (λ _. walk_cycles (parent_in imports) refl (length imports) c.args.row c.loop-at.at c.loop-at.marks c.loop-at.invariant c.loop-at-test.true
           (omega (arith, c.loop-at.invariant.one_each, c.row_count-count.ensures.count, c.row_count-count.ensures.all.imports)) c.if-mark-row.true),
       (λ _. refl),
