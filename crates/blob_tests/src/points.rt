@@ -303,7 +303,15 @@ fn reads_several_documents(rt: HostRuntime) {
             &[(0, 1, Some((5, 1, 5, 2))), (1, 2, None)],
             None,
         ),
-        // rows that are not there
+    ];
+    for row in &table {
+        check_read(&rt, row);
+    }
+}
+
+#[test]
+fn reads_documents_that_are_not_there(rt: HostRuntime) {
+    let table = [
         in_several(0, b"\0\0\0\0\x01\x05\x01", &[], Some((Code::ValueRange, 1))),
         in_several(1, b"\x03\0\0\x01\x05\x01", &[], Some((Code::ValueRange, 0))),
         in_several(

@@ -61,6 +61,26 @@ fn chain<L: Ledger>(
     links
 }
 
+/// The first three scopes of an offset.
+fn scopes_of<L: Ledger>(
+    file: &Verified<'_>,
+    method: u32,
+    offset: u32,
+    steps: &mut Steps<L>,
+) -> Result<[Option<ScopeView>; 3], NoMethod> {
+    let mut scopes = [None; 3];
+    match scopes_at(file, method, offset, steps) {
+        Ok(cursor) => {
+            let mut cursor = cursor;
+            for scope in &mut scopes {
+                *scope = cursor.next(steps);
+            }
+            Ok(scopes)
+        }
+        Err(NoMethod) => Err(NoMethod),
+    }
+}
+
 fn find<L: Ledger>(
     file: &Verified<'_>,
     method: u32,
@@ -72,16 +92,7 @@ fn find<L: Ledger>(
         Ok(None) => None,
         Err(NoMethod) => return Err(NoMethod),
     };
-    let mut scopes = [None; 3];
-    match scopes_at(file, method, offset, steps) {
-        Ok(cursor) => {
-            let mut cursor = cursor;
-            for scope in &mut scopes {
-                *scope = cursor.next(steps);
-            }
-        }
-        Err(NoMethod) => return Err(NoMethod),
-    }
+    let scopes = scopes_of(file, method, offset, steps)?;
     let links = match scopes[0] {
         Some(scope) => chain(file, scope.import, steps),
         None => [None; 3],

@@ -63,18 +63,18 @@ fn method(alloc: Global) -> Result<MethodValue, Memory> {
     })
 }
 
+/// The value of a constant of a primitive type.
+fn primitive(alloc: Global, code: u8, value: &[u8]) -> Result<ConstantBody, Memory> {
+    let value = bytes(alloc, value)?;
+    Ok(ConstantBody::Primitive { code, value })
+}
+
 /// A number whose type has two modifiers, a value of an enumeration, a text, the null text, an object of a class, and the null
 /// reference.
 fn constants(alloc: Global) -> Result<List<ConstantValue>, Memory> {
     let mut constants = List::new(alloc);
     for (name, body) in [
-        (
-            b"a",
-            ConstantBody::Primitive {
-                code: 0x08,
-                value: bytes(alloc, &[5, 0, 0, 0])?,
-            },
-        ),
+        (b"a", primitive(alloc, 0x08, &[5, 0, 0, 0])?),
         (
             b"b",
             ConstantBody::Enumerated {
@@ -83,20 +83,8 @@ fn constants(alloc: Global) -> Result<List<ConstantValue>, Memory> {
                 target: token(0x02, 1),
             },
         ),
-        (
-            b"c",
-            ConstantBody::Primitive {
-                code: 0x0e,
-                value: bytes(alloc, b"a\0")?,
-            },
-        ),
-        (
-            b"d",
-            ConstantBody::Primitive {
-                code: 0x0e,
-                value: bytes(alloc, &[0xff])?,
-            },
-        ),
+        (b"c", primitive(alloc, 0x0e, b"a\0")?),
+        (b"d", primitive(alloc, 0x0e, &[0xff])?),
         (
             b"e",
             ConstantBody::General {
@@ -139,6 +127,18 @@ fn imports(alloc: Global) -> Result<List<ImportValue>, Memory> {
             alias: bytes(alloc, b"x")?,
             namespace: bytes(alloc, b"urn")?,
         },
+    ] {
+        imports.push(import)?;
+    }
+    for import in aliases(alloc)? {
+        imports.push(import)?;
+    }
+    Ok(imports)
+}
+
+/// An import of each of the five kinds that give a name.
+fn aliases(alloc: Global) -> Result<[ImportValue; 5], Memory> {
+    Ok([
         ImportValue::Alias {
             alias: bytes(alloc, b"x")?,
         },
@@ -159,10 +159,7 @@ fn imports(alloc: Global) -> Result<List<ImportValue>, Memory> {
             alias: bytes(alloc, b"t")?,
             target: token(0x02, 2),
         },
-    ] {
-        imports.push(import)?;
-    }
-    Ok(imports)
+    ])
 }
 
 fn record(table: u8, row: u32, kind: [u8; 16], value: CustomBody) -> CustomValue {
@@ -203,8 +200,8 @@ fn customs(alloc: Global) -> Result<List<CustomValue>, Memory> {
     Ok(customs)
 }
 
-/// The value: three types that are referred to, two that are defined, one specified, two methods, a signature and two assemblies.
-pub fn with_every_kind(alloc: Global) -> Result<FileValue, Memory> {
+/// The row counts of the type system.
+fn type_rows() -> [u32; 64] {
     let mut rows = [0; 64];
     for (table, count) in [
         (0x01, 3),
@@ -216,10 +213,15 @@ pub fn with_every_kind(alloc: Global) -> Result<FileValue, Memory> {
     ] {
         rows[table] = count;
     }
+    rows
+}
+
+/// The value: three types that are referred to, two that are defined, one specified, two methods, a signature and two assemblies.
+pub fn with_every_kind(alloc: Global) -> Result<FileValue, Memory> {
     let mut value = FileValue {
         id: [0; 20],
         entry: 0,
-        rows,
+        rows: type_rows(),
         documents: documents(alloc, 300)?,
         methods: List::new(alloc),
         scopes: List::new(alloc),

@@ -1,40 +1,16 @@
 // Values that are written as files, and read again.
-ghost use Rattle.std.specs.Prelude.{◌≡◌, ◌<◌};
-
 use crate::every_kind::{SHOWN, with_every_kind};
 use crate::identity::{BY_HASH, with_id};
 use custom_info::SOURCE_LINK;
-use ppdb_base::{Bytes, List, SteadyFolder, Steps};
-use ppdb_build::{
-    CustomBody, CustomValue, DocumentValue, FileValue, IdChoice, sound, value_of, write_file,
-};
+use ppdb_base::{Bytes, List, SteadyFolder};
+use ppdb_build::{CustomBody, CustomValue, DocumentValue, FileValue, IdChoice, sound, write_file};
 use ppdb_tables::Parent;
-use ppdb_verify::verify;
 use sample_files::sample_value;
 use std::alloc::Global;
-use std::marker::Brand;
-use std::sync::ledger::{Blank, Ledger};
 use std::test::Fail;
+use value_tests::value as read;
 use worked_files::{EMPTY, PROGRAM};
 use worked_runs::first_other;
-
-fn read_in<L: Ledger>(alloc: Global, bytes: &[u8], blank: Blank) -> Result<FileValue, Fail>
-    requires { (blank.name ≡ L.name) × (blank.parts ≡ L.parts) × (0 < L.parts) }
-{
-    if bytes.len() > 0x0800_0000 {
-        return Err(Fail::from("too long"));
-    }
-    let mut steps = Steps::<L>::new(blank);
-    let Ok(file) = verify(alloc, bytes, &mut steps) else {
-        return Err(Fail::from("not valid"));
-    };
-    Ok(value_of(alloc, &file, &mut steps)?)
-}
-
-/// The value of a valid file.
-fn read(alloc: Global, bytes: &[u8]) -> Result<FileValue, Fail> {
-    read_in::<Brand>(alloc, bytes, Blank::new(1))
-}
 
 /// The file of a sound value.
 fn written(alloc: Global, value: &FileValue, id: IdChoice) -> Result<Bytes, Fail> {

@@ -1,6 +1,7 @@
 //! Rows over several crates: values that are sound or not, what is read of files as a value, and what values are written as.
 #![tactic(auto)]
 
+mod files;
 #[cfg(test)]
 mod limits;
 #[cfg(test)]
@@ -15,3 +16,5 @@ mod samples;
 mod soundness;
 #[cfg(test)]
 mod worked;
+
+pub use files::value;

@@ -1,20 +1,14 @@
 // What is read of worked files, and of two whose scopes own nothing.
-ghost use Rattle.std.specs.Prelude.{◌≡◌, ◌<◌};
-
+use crate::files::value;
 use crate::worked::{PROGRAM_SLOTS, PROGRAM_STEPS, program_points, small_points};
 use custom_info::Range;
-use ppdb_base::{Memory, Steps};
 use ppdb_tables::{MachineRow, Parent};
 use ppdb_values::{
     ConstantBody, ConstantValue, CustomBody, CustomValue, DocumentValue, FileValue,
     ImportScopeValue, ImportValue, MethodValue, ScopeValue,
 };
-use ppdb_verify::verify;
 use sequence_points::Point;
-use std::alloc::Global;
-use std::marker::Brand;
-use std::sync::ledger::{Blank, Ledger};
-use value_reading::value_of;
+use std::test::Fail;
 use worked_files::{EMPTY, PROGRAM, SMALL};
 
 /// The file of one method with an outer scope that owns `x`, a scope that owns nothing, and one that owns `y`.
@@ -39,24 +33,6 @@ const THREE_SCOPES: [u8; 296] = [
     0x62, 0x04, 0x2f, 0x00, 0x01, 0x03, 0x0e, 0x00, 0x00, 0x00, 0x04, 0x0a, 0x05, 0x03, 0x00, 0x00,
     0x04, 0x01, 0x02, 0x04, 0x79, 0x00, 0x00, 0x00,
 ];
-
-fn value_in<L: Ledger>(alloc: Global, bytes: &[u8], blank: Blank) -> Result<FileValue, Memory>
-    requires { (blank.name ≡ L.name) × (blank.parts ≡ L.parts) × (0 < L.parts) }
-{
-    if bytes.len() > 0x0800_0000 {
-        return Err(Memory);
-    }
-    let mut steps = Steps::<L>::new(blank);
-    match verify(alloc, bytes, &mut steps) {
-        Ok(file) => value_of(alloc, &file, &mut steps),
-        Err(_) => Err(Memory),
-    }
-}
-
-/// The value of a file; none of one that is not valid.
-fn value(alloc: Global, bytes: &[u8]) -> Result<FileValue, Memory> {
-    value_in::<Brand>(alloc, bytes, Blank::new(1))
-}
 
 /// How many rows a table of the type system has, all other row counts being 0.
 fn counts(value: &FileValue, tables: &[(usize, u32)]) -> bool {
@@ -99,20 +75,14 @@ fn own(scopes: &[ScopeValue], rows: &[(u32, u32, Variables<'_>)]) -> bool {
 }
 
 #[test]
-fn a_file_without_rows_has_no_parts(rt: HostRuntime) {
-    let found = value(rt.alloc(), &EMPTY);
-    assert!(rt; found.is_ok());
-    if let Ok(value) = found {
-        assert_eq!(rt; value.id, [0; 20]);
-        assert_eq!(rt; value.entry, 0);
-        assert!(rt; counts(&value, &[]));
-        assert!(rt;
-            value.documents.is_empty() && value.methods.is_empty() && value.scopes.is_empty()
-        );
-        assert!(rt;
-            value.imports.is_empty() && value.machines.is_empty() && value.customs.is_empty()
-        );
-    }
+fn a_file_without_rows_has_no_parts(rt: HostRuntime) -> Result<(), Fail> {
+    let value = value(rt.alloc(), &EMPTY)?;
+    assert_eq!(rt; value.id, [0; 20]);
+    assert_eq!(rt; value.entry, 0);
+    assert!(rt; counts(&value, &[]));
+    assert!(rt; value.documents.is_empty() && value.methods.is_empty() && value.scopes.is_empty());
+    assert!(rt; value.imports.is_empty() && value.machines.is_empty() && value.customs.is_empty());
+    Ok(())
 }
 
 /// The document `/a/b`, without GUIDs and hash.
@@ -135,41 +105,35 @@ fn is_method(methods: &[MethodValue], number: u32, signature: u32, points: &[Poi
 }
 
 #[test]
-fn a_small_file_has_its_value(rt: HostRuntime) {
-    let found = value(rt.alloc(), &SMALL);
-    assert!(rt; found.is_ok());
-    if let Ok(value) = found {
-        assert_eq!(rt; value.entry, 1);
-        assert!(rt; counts(&value, &[(0x06, 1)]));
-        assert!(rt; is_small_document(value.documents.as_slice()));
-        assert!(rt; is_method(value.methods.as_slice(), 1, 0, &small_points()));
-        assert!(rt; own(value.scopes.as_slice(), &[(0, 9, &X), (2, 5, &Y)]));
-    }
+fn a_small_file_has_its_value(rt: HostRuntime) -> Result<(), Fail> {
+    let value = value(rt.alloc(), &SMALL)?;
+    assert_eq!(rt; value.entry, 1);
+    assert!(rt; counts(&value, &[(0x06, 1)]));
+    assert!(rt; is_small_document(value.documents.as_slice()));
+    assert!(rt; is_method(value.methods.as_slice(), 1, 0, &small_points()));
+    assert!(rt; own(value.scopes.as_slice(), &[(0, 9, &X), (2, 5, &Y)]));
+    Ok(())
 }
 
 #[test]
-fn the_last_of_equal_lists_owns_the_variables(rt: HostRuntime) {
+fn the_last_of_equal_lists_owns_the_variables(rt: HostRuntime) -> Result<(), Fail> {
     let mut equal = SMALL;
     equal[220] = 1;
-    let found = value(rt.alloc(), &equal);
-    assert!(rt; found.is_ok());
-    if let Ok(value) = found {
-        assert!(rt; own(value.scopes.as_slice(), &[(0, 9, &[]), (2, 5, &X_AND_Y)]));
-    }
+    let value = value(rt.alloc(), &equal)?;
+    assert!(rt; own(value.scopes.as_slice(), &[(0, 9, &[]), (2, 5, &X_AND_Y)]));
+    Ok(())
 }
 
 #[test]
-fn a_scope_between_two_may_own_nothing(rt: HostRuntime) {
-    let found = value(rt.alloc(), &THREE_SCOPES);
-    assert!(rt; found.is_ok());
-    if let Ok(value) = found {
-        assert!(rt;
-            own(
-                value.scopes.as_slice(),
-                &[(0, 9, &X), (2, 4, &[]), (5, 8, &Y)]
-            )
-        );
-    }
+fn a_scope_between_two_may_own_nothing(rt: HostRuntime) -> Result<(), Fail> {
+    let value = value(rt.alloc(), &THREE_SCOPES)?;
+    assert!(rt;
+        own(
+            value.scopes.as_slice(),
+            &[(0, 9, &X), (2, 4, &[]), (5, 8, &Y)]
+        )
+    );
+    Ok(())
 }
 
 /// The program's document, with a hash of 32 bytes 5a.
@@ -273,20 +237,18 @@ fn are_program_imports(scopes: &[ImportScopeValue]) -> bool {
 }
 
 #[test]
-fn a_program_has_its_value(rt: HostRuntime) {
-    let found = value(rt.alloc(), &PROGRAM);
-    assert!(rt; found.is_ok());
-    if let Ok(value) = found {
-        assert_eq!(rt; value.entry, 2);
-        assert!(rt; is_program_document(value.documents.as_slice()));
-        assert!(rt; is_method(value.methods.as_slice(), 4, 1, &program_points()));
-        let machine = MachineRow {
-            move_next: 4,
-            kickoff: 1,
-        };
-        assert!(rt; value.machines.as_slice() == [machine].as_slice());
-        assert!(rt; are_program_customs(value.customs.as_slice()));
-        assert!(rt; is_program_scope(value.scopes.as_slice()));
-        assert!(rt; are_program_imports(value.imports.as_slice()));
-    }
+fn a_program_has_its_value(rt: HostRuntime) -> Result<(), Fail> {
+    let value = value(rt.alloc(), &PROGRAM)?;
+    assert_eq!(rt; value.entry, 2);
+    assert!(rt; is_program_document(value.documents.as_slice()));
+    assert!(rt; is_method(value.methods.as_slice(), 4, 1, &program_points()));
+    let machine = MachineRow {
+        move_next: 4,
+        kickoff: 1,
+    };
+    assert!(rt; value.machines.as_slice() == [machine].as_slice());
+    assert!(rt; are_program_customs(value.customs.as_slice()));
+    assert!(rt; is_program_scope(value.scopes.as_slice()));
+    assert!(rt; are_program_imports(value.imports.as_slice()));
+    Ok(())
 }
