@@ -10,14 +10,22 @@ use crate::line::Part::Field;
 use ppdb_base::{Sink, WriteError};
 
 /// Puts the line of an identity.
-pub fn put_id_line<O: Sink>(printer: Printer<'_>, out: &mut O, id: &[u8; 20]) -> Result<(), WriteError>
+pub fn put_id_line<O: Sink>(
+    printer: Printer<'_>,
+    out: &mut O,
+    id: &[u8; 20],
+) -> Result<(), WriteError>
     ensures { Puts result (O.written out.old) (O.written out.new) (O.faults out.old) (O.faults out.new) (lines_as printer.entry.form (id_line id.now ∷ [])) }
 {
     printer.put_line(out, "id", &[1, 0], &[Field(" ", "id", Octets(id))])
 }
 
 /// Puts the line of an entry point, a row of MethodDef or 0, as its token.
-pub fn put_entry_line<O: Sink>(printer: Printer<'_>, out: &mut O, row: u32) -> Result<(), WriteError>
+pub fn put_entry_line<O: Sink>(
+    printer: Printer<'_>,
+    out: &mut O,
+    row: u32,
+) -> Result<(), WriteError>
     requires { row < 2 ^ 24 }
     ensures { Puts result (O.written out.old) (O.written out.new) (O.faults out.old) (O.faults out.new) (lines_as printer.entry.form (entry_line row ∷ [])) }
 {
