@@ -32,7 +32,11 @@ pub(crate) fn put_head<O: Sink>(
 }
 
 /// Puts the lines of the tables of the type system that have rows.
-fn put_counts<O: Sink>(printer: Printer<'_>, tables: &Tables<'_>, out: &mut O) -> Result<(), WriteError>
+fn put_counts<O: Sink>(
+    printer: Printer<'_>,
+    tables: &Tables<'_>,
+    out: &mut O,
+) -> Result<(), WriteError>
     ensures { Puts result (O.written out.old) (O.written out.new) (O.faults out.old) (O.faults out.new) (lines_as printer.entry.form (count_lines (raw_of tables.now))) }
 {
     let mut table = 0;
