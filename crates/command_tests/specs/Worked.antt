@@ -13,9 +13,9 @@ use Rattle.ppdb_run.specs.Outcome.{Outcome, refused, no_map, unfit, limited, map
 use Rattle.ppdb_run.specs.Status.{status_number}
 
 -- a run that stops so ends with this status, and has printed this
-pub record Says (outcome : Outcome) (status : ℕ) (text : List ℕ) : Type 0 where
-  pub status : status_number outcome.status ≡ status
-  pub text : outcome.text ≡ text
+pub record Says (outcome : Outcome) (number : ℕ) (words : List ℕ) : Type 0 where
+  pub status : status_number outcome.status ≡ number
+  pub text : outcome.text ≡ words
 
 -- of the file B
 abbrev pub SaysUnfit : MergeError → List ℕ → Type 0
