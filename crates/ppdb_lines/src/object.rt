@@ -1,7 +1,6 @@
 // A line as an object of JSON.
 ghost use Rattle.std.specs.Prelude.{◌≡◌, ◌++◌, ◌∷◌, [], OnOk, IfOk};
 ghost use Rattle.json.specs.Token as tokens;
-ghost use Rattle.json.specs.Written.{Writes};
 ghost use Rattle.ppdb_base.specs.Written.{Puts};
 ghost use Rattle.ppdb_lines.specs.Lines.{content_text, json_of};
 ghost use Rattle.ppdb_lines.specs.Tokens.{IsKeyOrder, content_token, member_tokens};
@@ -12,7 +11,7 @@ use crate::line::{Item, Part};
 use crate::plain::plain_text;
 use json::Writer;
 use ppdb_base::{Memory, Sink, SteadySink, WriteError};
-use std::alloc::{AllocError, Global};
+use std::alloc::Global;
 use std::cell::Cell;
 
 /// Puts a line as an object of JSON. The order is that of the keys: 0 is the word, and 1 the first part.
@@ -77,36 +76,11 @@ fn put_member(
     }
     match parts.get(place - 1) {
         Some(Part::Field(_, key, item)) => {
-            put_key(writer, key)?;
+            writer.key(key)?;
             put_value(alloc, writer, item)
         }
         Some(Part::Mark(_)) => Ok(()),
         None => Ok(()),
-    }
-}
-
-/// Puts a key. Those of points, scopes and variables, which most lines are of, are constants: so the compiler, and not each line,
-/// finds that nothing in them is escaped.
-fn put_key(writer: &mut Writer, key: &str) -> Result<(), AllocError>
-    ensures { Writes result writer.old writer.new (tokens.key key.now) }
-{
-    match key {
-        "document" => writer.key("document"),
-        "end_column" => writer.key("end_column"),
-        "end_line" => writer.key("end_line"),
-        "offset" => writer.key("offset"),
-        "start_column" => writer.key("start_column"),
-        "start_line" => writer.key("start_line"),
-        "row" => writer.key("row"),
-        "scope" => writer.key("scope"),
-        "name" => writer.key("name"),
-        "slot" => writer.key("slot"),
-        "attributes" => writer.key("attributes"),
-        "method" => writer.key("method"),
-        "start" => writer.key("start"),
-        "end" => writer.key("end"),
-        "import" => writer.key("import"),
-        _ => writer.key(key),
     }
 }
 
