@@ -134,7 +134,7 @@ fn query(alloc: Global, bytes: &[u8], method: u32, offset: u32) -> Result<Option
 }
 
 /// What a file says of an offset of a method that it has.
-fn found(alloc: Global, bytes: &[u8], method: u32, offset: u32) -> Result<Found, Fail> {
+fn asked(alloc: Global, bytes: &[u8], method: u32, offset: u32) -> Result<Found, Fail> {
     match query(alloc, bytes, method, offset)? {
         Some(found) => Ok(found),
         None => Err(Fail::from("no method")),
@@ -170,7 +170,7 @@ fn scopes_hold_their_starts_and_not_their_ends(rt: HostRuntime) -> Result<(), Fa
         (9, Some(7), [None, None]),
     ];
     for (offset, point, scopes) in rows {
-        let found = found(rt.alloc(), &SMALL, 1, offset)?;
+        let found = asked(rt.alloc(), &SMALL, 1, offset)?;
         assert_eq!(rt; found.point.map(|point| point.offset), point, "{offset}");
         assert_eq!(rt; [found.scopes[0], found.scopes[1]], scopes, "{offset}");
         assert_eq!(rt; found.scopes[2], None);
@@ -191,7 +191,7 @@ fn methods_have_points_or_none(rt: HostRuntime) -> Result<(), Fail> {
         (&PARENTS, 1, 0, None),
     ];
     for (bytes, method, offset, point) in rows {
-        let found = found(rt.alloc(), bytes, method, offset)?;
+        let found = asked(rt.alloc(), bytes, method, offset)?;
         assert_eq!(rt; found.point.map(|point| point.offset), point);
     }
     for method in [0, 2] {
@@ -238,7 +238,7 @@ const AT_A_LINE: Found = Found {
 
 #[test]
 fn an_asynchronous_method(rt: HostRuntime) -> Result<(), Fail> {
-    assert_eq!(rt; found(rt.alloc(), &PROGRAM, 4, 110)?, AT_A_LINE);
+    assert_eq!(rt; asked(rt.alloc(), &PROGRAM, 4, 110)?, AT_A_LINE);
     Ok(())
 }
 
@@ -250,7 +250,7 @@ fn what_is_linked_to_methods(rt: HostRuntime) -> Result<(), Fail> {
         (5, 0, None, None),
     ];
     for (method, offset, kickoff, move_next) in rows {
-        let found = found(rt.alloc(), &PROGRAM, method, offset)?;
+        let found = asked(rt.alloc(), &PROGRAM, method, offset)?;
         assert_eq!(rt; found.hoisted, None);
         assert_eq!(rt; found.kickoff, kickoff);
         assert_eq!(rt; found.move_next, move_next);
