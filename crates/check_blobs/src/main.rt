@@ -3,16 +3,16 @@
 //! rows and heaps, and says whether that is read as the same.
 #![tactic(auto)]
 
-ghost use Rattle.std.specs.Prelude.{◌≡◌, ◌<◌};
+ghost use Rattle.std.specs.Prelude.{◌≡◌, ◌≤◌, ◌<◌, length};
 
 mod again;
 mod constants;
 mod counts;
 mod customs;
 mod file;
+mod heaps;
 mod imports;
 mod methods;
-mod opened;
 mod points;
 mod rows;
 mod stop;
@@ -21,8 +21,9 @@ mod text;
 use again::is_read_again;
 use counts::{Counts, put_counts};
 use file::read_file;
-use opened::{Opened, open};
-use ppdb_base::{Bytes, Sink, Steps};
+use metadata_root::read_root;
+use ppdb_base::{Bytes, Fault, Sink, Steps};
+use ppdb_tables::{Tables, read_head, read_tables};
 use std::alloc::Global;
 use std::io::Write;
 use std::marker::Brand;
@@ -66,23 +67,33 @@ fn check(rt: &HostRuntime, text: &mut Text) -> Result<(), Stop> {
     let name = file_name(rt)?;
     let mut bytes = Bytes::new(rt.alloc());
     read_file(rt, name.as_str(), &mut bytes)?;
-    match open(bytes.as_slice()) {
-        Ok(file) => put_counted::<Brand>(rt.alloc(), &file, text, Blank::new(1)),
-        Err(fault) => Err(Stop::Fault(fault)),
-    }
+    put_counted::<Brand>(rt.alloc(), bytes.as_slice(), text, Blank::new(1))
+}
+
+/// The tables of a file.
+fn tables_of(bytes: &[u8]) -> Result<Tables<'_>, Fault>
+    requires { length bytes.now ≤ 134217728 }
+{
+    let root = read_root(bytes)?;
+    let head = read_head(&root)?;
+    read_tables(&root, &head)
 }
 
 /// Puts what the blobs hold, over a counter of the rows that are read.
 fn put_counted<L: Ledger>(
     alloc: Global,
-    file: &Opened<'_>,
+    file: &[u8],
     text: &mut Text,
     rows: Blank,
 ) -> Result<(), Stop>
-    requires { (rows.name ≡ L.name) × (rows.parts ≡ L.parts) × (0 < L.parts) }
+    requires short { length file.now ≤ 134217728 }
+    requires ledger { (rows.name ≡ L.name) × (rows.parts ≡ L.parts) × (0 < L.parts) }
 {
     let mut steps = Steps::<L>::new(rows);
-    put_blobs(alloc, file, text, &mut steps)?;
+    match tables_of(file) {
+        Ok(tables) => put_blobs(alloc, &tables, text, &mut steps)?,
+        Err(fault) => return Err(Stop::Fault(fault)),
+    }
     if !is_read_again(alloc, file, &mut steps)? {
         return Err(Stop::Differs);
     }
@@ -92,11 +103,10 @@ fn put_counted<L: Ledger>(
 /// Puts what the blobs of all rows hold, and the counts.
 fn put_blobs<L: Ledger>(
     alloc: Global,
-    file: &Opened<'_>,
+    tables: &Tables<'_>,
     text: &mut Text,
     steps: &mut Steps<L>,
 ) -> Result<(), Stop> {
-    let tables = &file.tables;
     let mut counts = Counts::default();
     methods::put_methods(alloc, tables, text, &mut counts, steps)?;
     imports::put_imports(tables, text, steps)?;

@@ -8,6 +8,15 @@ use ppdb_tables::{
 use std::alloc::Global;
 use std::sync::ledger::Ledger;
 
+/// How many rows each table has.
+pub fn counts_of(tables: &Tables<'_>) -> [u32; 64] {
+    let mut counts = [0; 64];
+    for table in 0..64u8 {
+        counts[usize::from(table)] = tables.rows(table);
+    }
+    counts
+}
+
 /// Reads the rows of a table into a list.
 macro_rules! read_all {
     ($tables:expr, $table:expr, $read:ident, $into:expr, $steps:expr) => {

@@ -124,7 +124,9 @@ fn query_in<L: Ledger>(
     requires { (blank.name ≡ L.name) × (blank.parts ≡ L.parts) × (0 < L.parts) }
 {
     let mut steps = Steps::<L>::new(blank);
-    let file = open(alloc, bytes, &mut steps)?;
+    let Some(file) = open(alloc, bytes, &mut steps) else {
+        return Err(Fail::from("not valid"));
+    };
     Ok(find(&file, method, offset, &mut steps).ok())
 }
 
@@ -283,7 +285,9 @@ fn is_named_in<L: Ledger>(
     requires { (blank.name ≡ L.name) × (blank.parts ≡ L.parts) × (0 < L.parts) }
 {
     let mut steps = Steps::<L>::new(blank);
-    let file = open(alloc, bytes, &mut steps)?;
+    let Some(file) = open(alloc, bytes, &mut steps) else {
+        return Err(Fail::from("not valid"));
+    };
     match point_at(&file, method, 0, &mut steps) {
         Ok(Some(found)) => Ok(is_name(alloc, found.name, name)?),
         Ok(None) => Ok(false),

@@ -45,7 +45,9 @@ fn find_in<L: Ledger>(
     requires { (blank.name ≡ L.name) × (blank.parts ≡ L.parts) × (0 < L.parts) }
 {
     let mut steps = Steps::<L>::new(blank);
-    let file = open(alloc, bytes, &mut steps)?;
+    let Some(file) = open(alloc, bytes, &mut steps) else {
+        return Err(Fail::from("not valid"));
+    };
     let document = document_named(&file, name, &mut steps);
     let breaks = match document {
         Some(document) => breaks_of(&file, document, line, &mut steps),
@@ -134,7 +136,9 @@ fn is_refused_in<L: Ledger>(
     requires { (blank.name ≡ L.name) × (blank.parts ≡ L.parts) × (0 < L.parts) }
 {
     let mut steps = Steps::<L>::new(blank);
-    let file = open(alloc, bytes, &mut steps)?;
+    let Some(file) = open(alloc, bytes, &mut steps) else {
+        return Err(Fail::from("not valid"));
+    };
     match breaks_at(&file, document, 1) {
         Ok(_) => Ok(false),
         Err(NoDocument) => Ok(true),

@@ -203,7 +203,9 @@ fn is_record_in<L: Ledger>(
     requires { (blank.name ≡ L.name) × (blank.parts ≡ L.parts) × (0 < L.parts) }
 {
     let mut steps = Steps::<L>::new(blank);
-    let file = open(alloc, bytes, &mut steps)?;
+    let Some(file) = open(alloc, bytes, &mut steps) else {
+        return Err(Fail::from("not valid"));
+    };
     Ok(find_link(&file, &mut steps) == record)
 }
 

@@ -38,7 +38,9 @@ fn runs_are_in<L: Ledger>(
     requires { (blank.name ≡ L.name) × (blank.parts ≡ L.parts) × (0 < L.parts) }
 {
     let mut steps = Steps::<L>::new(blank);
-    let file = open(alloc, bytes, &mut steps)?;
+    let Some(file) = open(alloc, bytes, &mut steps) else {
+        return Err(Fail::from("not valid"));
+    };
     for (table, row, run) in rows {
         if run_on(&file, *table, *row, &mut steps) != *run {
             return Ok(false);

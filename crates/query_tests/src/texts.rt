@@ -35,7 +35,9 @@ fn compared_in<L: Ledger>(
     requires { (blank.name ≡ L.name) × (blank.parts ≡ L.parts) × (0 < L.parts) }
 {
     let mut steps = Steps::<L>::new(blank);
-    let file = open(alloc, bytes, &mut steps)?;
+    let Some(file) = open(alloc, bytes, &mut steps) else {
+        return Err(Fail::from("not valid"));
+    };
     let mut out = SteadySink::new(alloc);
     let answer = match query_text(alloc, &file, method, offset, &mut out, &mut steps) {
         Ok(()) if out.as_slice() == text => Answer::Put,
