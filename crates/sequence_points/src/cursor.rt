@@ -98,6 +98,7 @@ impl<'a> BlobCursor for PointCursor<'a> {
 
     ghost kept = { λ c. c.signature };
 
+    #[inline(always)]
     fn next_item(&mut self) -> Result<Option<Point>, BlobFault> {
         self.next()
     }
