@@ -18,12 +18,6 @@ use Rattle.ppdb_values.specs.Rules.{HasBlob, HasRowOrNone, IsImport, KeepsImport
 use Rattle.ppdb_values.proofs.ChainEnds.{chains_end}
 use Rattle.accepted_files.proofs.Items.{blob_there, row_named, whole_there}
 
--- both name one chain
-same_ancestor : (imports : List ImportRow) (row steps : ℕ)
-    → ancestor_in imports row steps ≡ ancestor_of (parent_at (λ (scope : ImportRow). scope.parent) imports) row steps
-same_ancestor imports row zero = refl
-same_ancestor imports row (suc steps) = same_ancestor imports (parent_at (λ (scope : ImportRow). scope.parent) imports row) steps
-
 -- a chain from a row that is not there ends
 ends_past : (imports : List ImportRow) (row : ℕ) → row_at imports row ≡ None → NeverEnds (parent_at (λ (scope : ImportRow). scope.parent) imports) row → ⊥
 ends_past imports row past never = never 1 (ap (λ (o : Option ImportRow). unwrap_or (option_map (λ scope. scope.parent) o) 0) past)
@@ -53,7 +47,7 @@ module _ (raw : RawTables) (accepted : IsAccepted (BadRow raw)) where
 
   ends : (row : ℕ) (o : Option ImportRow) → row_at raw.imports row ≡ o → NeverEnds (parent_at (λ (scope : ImportRow). scope.parent) raw.imports) row → ⊥
   ends row None here never = ends_past raw.imports row here never
-  ends row (Some x) here never = no_fault row x here (cycle (λ steps ended. never steps (sym (same_ancestor raw.imports row steps) ∙ ended)))
+  ends row (Some x) here never = no_fault row x here (cycle never)
 
   pub imports_kept : HasShape raw → KeepsImports raw
   imports_kept shape = record {

@@ -44,12 +44,6 @@ module _ {X : Type 0} (parent : X → ℕ) (rows : List X) where
       let even : length (chain_for parent rows (suc (length rows)) row) ≡ length (chain_for parent rows (length rows) row) = ap length same in
       omega (arith, more, most, even)
 
--- both name one chain
-same_ancestor : (imports : List ImportRow) (row steps : ℕ)
-    → ancestor_in imports row steps ≡ ancestor_of (parent_at (λ (scope : ImportRow). scope.parent) imports) row steps
-same_ancestor imports row zero = refl
-same_ancestor imports row (suc steps) = same_ancestor imports (parent_at (λ (scope : ImportRow). scope.parent) imports row) steps
-
 module _ (raw : RawTables) (keeps : KeepsImports raw) (row : ℕ) (x : ImportRow) (here : row_at raw.imports row ≡ Some x) where
   is : IsImport raw x
   is = keeps.each row x here
@@ -57,8 +51,7 @@ module _ (raw : RawTables) (keeps : KeepsImports raw) (row : ℕ) (x : ImportRow
   pub no_import_fault : (column byte : ℕ) (code : Code) → ImportFault raw row x column byte code → ⊥
   no_import_fault _ _ _ (no_parent none) = row_named 0 (count raw 0x35) x.parent (omega arith, is.parent) none
   no_import_fault _ _ _ (cycle never) =
-      no_cycle (λ scope. scope.parent) raw.imports row (keeps.chains_end row (row_within raw.imports row x here).1)
-      (λ steps ended. never steps (same_ancestor raw.imports row steps ∙ ended))
+      no_cycle (λ scope. scope.parent) raw.imports row (keeps.chains_end row (row_within raw.imports row x here).1) never
   no_import_fault _ _ _ (no_list none) = let some = is.imports in cc
   no_import_fault _ _ _ (bad_list {fault} bad) =
       no_fault_there raw (import_grammar (type_limits raw) (heap_of raw)) x.imports fault is.imports is.imports_whole bad

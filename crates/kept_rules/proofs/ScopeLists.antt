@@ -44,15 +44,11 @@ no_item_alone list (scope ∷ scopes) items row x keeps here none = cc
 
 -- ---- items of one scope
 
-owner_is : (list : ScopeRow → ℕ) (scopes : List ScopeRow) (owner item : ℕ) → Owns list scopes owner item → owner_of list scopes item ≡ Some owner
-owner_is list scopes owner item owns =
-    owner_is_found list scopes owner item (record { scope = owns.scope; there = owns.there; begun = owns.begun; last = owns.last })
-
 -- items that differ in a scope differ from those before them
 pub no_repeat : {X K : Type 0} (key : X → K) (list : ScopeRow → ℕ) (scopes : List ScopeRow) (items : List X) → DifferInScope key list scopes items
     → (a b : ℕ) (x y : X) → row_at items a ≡ Some x → row_at items b ≡ Some y → a < b → ShareOwner list scopes a b → key x ≡ key y → ⊥
 no_repeat key list scopes items differ a b x y hx hy less share same =
-    differ a b x y hx hy less (owner_is list scopes share.owner a share.first ∙ sym (owner_is list scopes share.owner b share.second)) same
+    differ a b x y hx hy less (owner_is_found list scopes share.owner a share.first ∙ sym (owner_is_found list scopes share.owner b share.second)) same
 
 -- two cells that name one text
 pub same_text : (raw : RawTables) (a b : ℕ) → HasText raw a → HasText raw b → AreSameText raw.texts a b → text raw a ≡ text raw b

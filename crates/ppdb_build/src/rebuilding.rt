@@ -55,8 +55,8 @@ fn early_limit_in(file: &Verified<'_>, draft: &Drafting) -> Option<Limit>
     list_limit(draft)
 }
 
-/// The one file that says what a verified file says, with the identity that is chosen. Its rows are read once each, and no value of it
-/// is made.
+/// The one file that says what a verified file says, with the identity that is chosen. As many rows are read as its tables have, and no
+/// value of it is made.
 ///
 /// # Errors
 ///

@@ -41,8 +41,8 @@ The status, and the line that is printed with it:
 12  the file has no such document: no document DOCUMENT
 13  the maps do not follow one another: sizes differ method METHOD SIZE SIZE
 
-The manual page says of each F, M and L what it means and what to do. FORMAT.md, beside it in
-/usr/share/doc/ppdb, has the form of map texts (5), and how files fit a map, move and join (10 to 12).
+The manual page says of each F, M and L what it means and what to do. FORMAT.md, installed in
+share/doc/ppdb, has the form of map texts (5), and how files fit a map, move and join (10 to 12).
 ";
 
 const ID: &str = "ppdb id FILE
@@ -109,7 +109,8 @@ const REMAP: &str = "ppdb remap IN MAP OUT [--keep-id] [--free GUID]..
 Verifies IN, the debug file of a module before it was rewritten, moves it as the text in MAP says
 where rows, IL offsets and local slots went, and writes the canonical file to OUT. What was said at
 an offset that is kept is said at its image. It prints nothing. Both are read before OUT is written,
-which may be one of them. A map of a method of 9 bytes, of which the offsets 0 and 5 to 8 are kept in 12 bytes:
+which may be one of them.
+A map of a method of 9 bytes, of which the offsets 0 and 5 to 8 are kept in 12 bytes:
     ppdbmap 1
     method 1 9 12
     run 0 0 1

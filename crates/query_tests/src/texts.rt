@@ -71,7 +71,9 @@ fn a_point_scopes_and_the_entry_are_put(rt: HostRuntime) -> Result<(), Fail> {
 #[test]
 fn a_constant_imports_and_a_state_machine_are_put(rt: HostRuntime) -> Result<(), Fail> {
     let text =
-        b"point 107 1 9:9 9:38 signature 1 name /src/app/Program.cs\nscope 0 175\nconstant 0803000000 Limit\nimport 2\nuse 1 namespace System\nuse 1 namespace System.Threading.Tasks\nimport 1\nhoisted 0 14 161\nkickoff 1\nasync -\nstep 61 82 4\n";
+        b"point 107 1 9:9 9:38 signature 1 name /src/app/Program.cs\nscope 0 175\nconstant 0803000000 Limit\n\
+          import 2\nuse 1 namespace System\nuse 1 namespace System.Threading.Tasks\nimport 1\n\
+          hoisted 0 14 161\nkickoff 1\nasync -\nstep 61 82 4\n";
     let found = compared(rt.alloc(), &PROGRAM, 4, 110, text)?;
     assert_eq!(rt; found, Answer::Put);
     Ok(())

@@ -83,7 +83,7 @@ fn id_is_long(file: &Verified<'_>)
     let _id: &[u8] = &file.head().id;
 }
 
-/// The draft of a file's value, made from its rows, each of which is read once: a part at a time, and never the whole value.
+/// The draft of a file's value, made from its rows, of which as many are read as there are: a part at a time, and never the whole value.
 pub fn draft_of_file<L: Ledger>(
     alloc: Global,
     file: &Verified<'_>,

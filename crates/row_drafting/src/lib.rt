@@ -1,4 +1,4 @@
-//! The draft of a verified file, made from its rows: each row is read once, and no value of the file is made. The limits of the format
+//! The draft of a verified file, made from its rows: as many are read as there are, and no value of the file is made. The limits of the format
 //! that a valid file says nothing past.
 #![tactic(auto)]
 
