@@ -22,7 +22,7 @@ use Rattle.file_drafting.specs.Drafted.{held_document, held_method, held_scope, 
 use Rattle.draft_layout.specs.Drafts.{counts_in}
 use Rattle.canonical_rows.proofs.Documents.{all_guids}
 use Rattle.ppdb_build.specs.Building.{early_limit_of}
-use Rattle.ppdb_build.proofs.Firsts.{first_or}
+use Rattle.value_limits.proofs.Firsts.{first_or}
 use Rattle.ppdb_build.proofs.Limits.{neither, not_above}
 
 -- ---- GUIDs

@@ -1,11 +1,10 @@
 -- The parts of a sound value that passes no early limit can be written.
-use Rattle.std.proofs.Common.{◌≡◌, ℕ, zero, suc, ◌<◌, ◌≤◌, Bool, true, false, cond, List, [], ◌∷◌, length, take, get_or, refl, sym, ap, ◌∙◌, arith}
+use Rattle.std.proofs.Common.{◌≡◌, ℕ, zero, suc, ◌<◌, ◌≤◌, Bool, true, false, List, [], ◌∷◌, length, take, get_or, refl, ap, ◌∙◌, arith}
 use Rattle.std.proofs.Common.{Option, Some, None, All}
 use Rattle.std.specs.Prelude.{nat_le, ◌==◌, if◌then◌else◌}
 use Rattle.std.specs.Option.{option_map}
-use Rattle.std.specs.List.{filter_map, cons_option, find}
+use Rattle.std.specs.List.{filter_map, find}
 use Rattle.std.proofs.lemmas.Bool.{leb-false}
-use Rattle.std.proofs.lemmas.Option.{none-some}
 use Rattle.std.proofs.lemmas.List.Elements.{All-nil, All-cons, All-weaker, All-contains}
 use Rattle.std.proofs.lemmas.List.Concat.{length-flat_map}
 use Rattle.sequence_points.specs.declared.point.Point.{Point}
@@ -23,11 +22,12 @@ use Rattle.sound_values.specs.Sound.{IsSound}
 use Rattle.sound_values.specs.Writing.{HasSpelling, SoundPartsCanBeWritten}
 use Rattle.ppdb_canon.specs.Limits.{too_many_rows, tables, list_past_end, large_offset, large_step_of}
 use Rattle.ppdb_canon.proofs.Among.{among_rows}
+use Rattle.ppdb_canon.proofs.Limits.{nothing_mapped, no_first, none_made, none_found}
+use Rattle.value_limits.proofs.Firsts.{first_at}
 use Rattle.ppdb_build.specs.declared.error.BuildError.{BuildError}
 use Rattle.ppdb_build.specs.declared.error.BuildError.TheVariants.{Limit as Passed, Memory}
 use Rattle.ppdb_build.specs.Building.{IsLimit, early_limit_of, IsWritableMethod, IsWritableConstant, IsWritableScope, IsWritableImport}
 use Rattle.ppdb_build.specs.Building.{IsWritableCustom, ArePartsWritable}
-use Rattle.ppdb_build.proofs.Firsts.{first_at}
 use Rattle.ppdb_build.proofs.Limits.{neither}
 use Rattle.ppdb_build.proofs.Counted.{AreFew, are_few}
 
@@ -48,30 +48,6 @@ step_at methods i method inside none is (Passed limit) here = first_at large_ste
 step_at methods i method inside none is Memory here = tt
 
 -- ---- no offset is too large
-
-nothing_mapped : {X Y : Type 0} (f : X → Y) (o : Option X) → option_map f o ≡ None → o ≡ None
-nothing_mapped f None e = refl
-nothing_mapped f (Some x) e = absurd (none-some (f x) (sym e))
-
-no_first : {X : Type 0} (xs : List X) → first_of xs ≡ None → xs ≡ []
-no_first [] e = refl
-no_first (x ∷ xs) e = absurd (none-some x (sym e))
-
-none_kept : {Y : Type 0} (o : Option Y) (ys : List Y) → cons_option o ys ≡ [] → (o ≡ None) × (ys ≡ [])
-none_kept None ys e = (refl, e)
-none_kept (Some y) ys e = cc
-
-none_made : {X Y : Type 0} (h : X → Option Y) (xs : List X) → filter_map h xs ≡ [] → All (λ x. h x ≡ None) xs
-none_made h [] e = All-nil (λ x. h x ≡ None)
-none_made h (x ∷ xs) e = let parts = none_kept (h x) (filter_map h xs) e in All-cons (λ x. h x ≡ None) x xs parts.0 (none_made h xs parts.1)
-
-none_found : {X : Type 0} (p : X → Bool) (xs : List X) → find p xs ≡ None → All (λ x. p x ≡ false) xs
-none_found p [] e = All-nil (λ x. p x ≡ false)
-none_found {X} p (x ∷ xs) e = by (p x) refl (none_found p xs)
-  where
-    by : (b : Bool) → p x ≡ b → (find p xs ≡ None → All (λ x. p x ≡ false) xs) → All (λ x. p x ≡ false) (x ∷ xs)
-    by true is rest = absurd (none-some x (sym (sym (ap (λ b. cond b (Some x) (find p xs)) is) ∙ e)))
-    by false is rest = All-cons (λ x. p x ≡ false) x xs is (rest (sym (ap (λ b. cond b (Some x) (find p xs)) is) ∙ e))
 
 small_offsets : (method : MethodValue) → large_offset method ≡ None → All (λ (point : Point). IsOffset point.offset) method.points
 small_offsets method e =

@@ -23,11 +23,11 @@ neither : {X : Type 0} (a b : Option X) → option_or a b ≡ None → (a ≡ No
 neither None b e = (refl, e)
 neither (Some x) b e = absurd (none-some x (sym e))
 
-nothing_mapped : {X Y : Type 0} (f : X → Y) (o : Option X) → option_map f o ≡ None → o ≡ None
+pub nothing_mapped : {X Y : Type 0} (f : X → Y) (o : Option X) → option_map f o ≡ None → o ≡ None
 nothing_mapped f None e = refl
 nothing_mapped f (Some x) e = absurd (none-some (f x) (sym e))
 
-no_first : {X : Type 0} (xs : List X) → first_of xs ≡ None → xs ≡ []
+pub no_first : {X : Type 0} (xs : List X) → first_of xs ≡ None → xs ≡ []
 no_first [] e = refl
 no_first (x ∷ xs) e = absurd (none-some x (sym e))
 
@@ -35,14 +35,14 @@ none_kept : {Y : Type 0} (o : Option Y) (ys : List Y) → cons_option o ys ≡ [
 none_kept None ys e = (refl, e)
 none_kept (Some y) ys e = cc
 
-none_made : {X Y : Type 0} (h : X → Option Y) (xs : List X) → filter_map h xs ≡ [] → All (λ x. h x ≡ None) xs
+pub none_made : {X Y : Type 0} (h : X → Option Y) (xs : List X) → filter_map h xs ≡ [] → All (λ x. h x ≡ None) xs
 none_made h [] e = All-nil (λ x. h x ≡ None)
 none_made h (x ∷ xs) e = let parts = none_kept (h x) (filter_map h xs) e in All-cons (λ x. h x ≡ None) x xs parts.0 (none_made h xs parts.1)
 
 none_first : {X Y : Type 0} (h : X → Option Y) (xs : List X) → first_of (filter_map h xs) ≡ None → All (λ x. h x ≡ None) xs
 none_first h xs e = none_made h xs (no_first (filter_map h xs) e)
 
-none_found : {X : Type 0} (p : X → Bool) (xs : List X) → find p xs ≡ None → All (λ x. p x ≡ false) xs
+pub none_found : {X : Type 0} (p : X → Bool) (xs : List X) → find p xs ≡ None → All (λ x. p x ≡ false) xs
 none_found p [] e = All-nil (λ x. p x ≡ false)
 none_found p (x ∷ xs) e = by (p x) refl (none_found p xs)
   where

@@ -6,7 +6,7 @@ use Rattle.sequence_points.specs.Written.{first_of}
 use Rattle.ppdb_canon.specs.Limits.{large_step_of}
 use Rattle.ppdb_values.specs.declared.file.MethodValue.{MethodValue}
 use Rattle.file_drafting.specs.Draft.{with_method}
-use Rattle.ppdb_build.proofs.Firsts.{none_more}
+use Rattle.value_limits.proofs.Firsts.{none_more}
 use Rattle.ppdb_build.proofs.Writable.{step_at}
 use Rattle.ppdb_build.proofs.parts.add_methods.Goals as goal
 

@@ -6,7 +6,8 @@ use Rattle.ppdb_tables.proofs.NumberedRows.{row_there}
 use Rattle.ppdb_verify.specs.Views.{raw_file}
 use Rattle.ppdb_references.specs.Imaging.{imaged_on}
 use Rattle.ppdb_references.specs.TableRows.{of_table, row_references}
-use Rattle.ppdb_references.proofs.RowLists.{from_row, no_rest, row_and_rest, rows_are, table_is}
+use Rattle.reference_total.proofs.RowLists.{from_row, no_rest, row_and_rest}
+use Rattle.ppdb_references.proofs.TableLists.{rows_are, table_is}
 use Rattle.ppdb_references.proofs.Going.{leads-few, leads-end, goes-stop, map-stays}
 use Rattle.ppdb_references.proofs.file.add_table.Goals as goal
 

@@ -2,7 +2,7 @@ use Rattle.std.proofs.Common.{◌≡◌, ◌≤◌, ◌+◌, ◌-◌}
 use Rattle.ppdb_verify.specs.Views.{raw_file}
 use Rattle.ppdb_references.specs.TableRows.{of_table, row_references}
 use Rattle.ppdb_references.proofs.Going.{Leads}
-use Rattle.ppdb_references.proofs.RowLists.{from_row}
+use Rattle.reference_total.proofs.RowLists.{from_row}
 use Rattle.ppdb_references.proofs.file.add_table.Given as goal
 
 abbrev pub invariant-rows : goal.invariant-rows

@@ -5,7 +5,7 @@ use Rattle.ppdb_references.specs.References.{of_method, of_scope, of_import, of_
 use Rattle.ppdb_references.specs.TableRows.{row_references}
 use Rattle.ppdb_references.specs.declared.rows.Table as table
 use Rattle.ppdb_references.proofs.Going.{goes-as}
-use Rattle.ppdb_references.proofs.RowLists.{names_are}
+use Rattle.reference_total.proofs.RowLists.{names_are}
 use Rattle.ppdb_references.proofs.rows.add_row.Goals as goal
 
 pub returns-in-MethodDebug : goal.returns-in-MethodDebug

@@ -4,7 +4,8 @@ use Rattle.ppdb_tables.specs.RawOf.{raw_of}
 use Rattle.ppdb_tables.proofs.NumberedRows.{row_there}
 use Rattle.reference_total.specs.Spans.{spanned}
 use Rattle.reference_total.specs.TableRows.{of_table, rows_of}
-use Rattle.reference_total.proofs.RowLists.{from_row, no_rest, row_and_rest, rows_are, table_is}
+use Rattle.reference_total.proofs.RowLists.{from_row, no_rest, row_and_rest}
+use Rattle.reference_total.proofs.TableLists.{rows_are, table_is}
 use Rattle.reference_total.proofs.Sums.{sum-few, sum-none, sum-past}
 use Rattle.reference_total.proofs.tables.add_table.Goals as goal
 

@@ -4,7 +4,7 @@ use Rattle.reference_total.specs.References.{references}
 use Rattle.reference_total.specs.Spans.{spanned}
 use Rattle.reference_total.specs.TableRows.{of_table}
 use Rattle.reference_total.specs.declared.rows.Table.TheVariants.{Document, MethodDebug, LocalVariable, LocalConstant, ImportScope, Custom}
-use Rattle.reference_total.proofs.RowLists.{tables_are}
+use Rattle.reference_total.proofs.TableLists.{tables_are}
 use Rattle.reference_total.proofs.Sums.{sum-few, sum-past}
 use Rattle.reference_total.proofs.tables.add_tables.Goals as goal
 
