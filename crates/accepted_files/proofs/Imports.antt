@@ -1,5 +1,5 @@
 -- The import scopes keep their rules.
-use Rattle.std.proofs.Common.{◌≡◌, ℕ, zero, suc, ◌≤◌, List, refl, sym, ap, ◌∙◌, arith}
+use Rattle.std.proofs.Common.{◌≡◌, ℕ, ◌≤◌, List, refl, ap, arith}
 use Rattle.std.specs.Prelude.{Option, Some, None, unwrap_or}
 use Rattle.std.specs.Option.{option_map}
 use Rattle.ppdb_base.specs.declared.code.Code.{Code}
@@ -7,11 +7,10 @@ use Rattle.ppdb_base.specs.First.{IsAccepted}
 use Rattle.ppdb_tables.specs.declared.rows.ImportRow.{ImportRow}
 use Rattle.ppdb_tables.specs.RawTables.{RawTables, HasShape, count, row_at}
 use Rattle.type_blobs.specs.Imports.{imports as import_grammar}
-use Rattle.ppdb_rules.specs.Chains.{ancestor_of as ancestor_in}
 use Rattle.ppdb_rules.specs.Rows.{BadRow, ImportFault}
 use Rattle.ppdb_rules.specs.Rows.BadRow.{in_import}
 use Rattle.ppdb_rules.specs.Rows.ImportFault.{no_parent, cycle, no_list, bad_list}
-use Rattle.ppdb_values.specs.Chains.{NeverEnds, ancestor_of, parent_at}
+use Rattle.ppdb_values.specs.Chains.{NeverEnds, parent_at}
 use Rattle.ppdb_values.specs.Imports.{heap_of}
 use Rattle.ppdb_values.specs.RawFile.{type_limits}
 use Rattle.ppdb_values.specs.Rules.{HasBlob, HasRowOrNone, IsImport, KeepsImports}

@@ -1,5 +1,5 @@
 -- The import scopes of a file that keeps the rules are not at fault.
-use Rattle.std.proofs.Common.{◌≡◌, ℕ, zero, suc, List, length, refl, ap, ◌∙◌, subst, arith}
+use Rattle.std.proofs.Common.{◌≡◌, ℕ, zero, suc, List, length, refl, ap, subst, arith}
 use Rattle.std.specs.Prelude.{Option, Some, None, unwrap_or}
 use Rattle.std.specs.Option.{option_map}
 use Rattle.ppdb_base.specs.declared.code.Code.{Code}
@@ -7,7 +7,6 @@ use Rattle.ppdb_tables.specs.declared.rows.ImportRow.{ImportRow}
 use Rattle.ppdb_tables.specs.RawTables.{RawTables, count, row_at}
 use Rattle.ppdb_tables.proofs.NumberedRows.{row_within}
 use Rattle.type_blobs.specs.Imports.{imports as import_grammar}
-use Rattle.ppdb_rules.specs.Chains.{ancestor_of as ancestor_in}
 use Rattle.ppdb_rules.specs.Rows.{ImportFault}
 use Rattle.ppdb_rules.specs.Rows.ImportFault.{no_parent, cycle, no_list, bad_list}
 use Rattle.ppdb_values.specs.Chains.{NeverEnds as GoesOn, ancestor_of, chain_for, link_and, parent_at}

@@ -4,10 +4,9 @@ use Rattle.std.specs.Prelude.{Some}
 use Rattle.ppdb_tables.specs.declared.rows.ScopeRow.{ScopeRow}
 use Rattle.ppdb_tables.specs.RawTables.{RawTables, row_at}
 use Rattle.ppdb_tables.proofs.NumberedRows.{row_there, row_within}
-use Rattle.ppdb_rules.specs.Scopes.{AreSameText, IsListOut, Owns, ShareOwner}
+use Rattle.ppdb_rules.specs.Scopes.{AreSameText, IsListOut, ShareOwner}
 use Rattle.ppdb_values.specs.RawFile.{text}
 use Rattle.ppdb_values.specs.Rules.{DifferInScope, HasText, KeepsLists}
-use Rattle.ppdb_values.specs.Value.{owner_of}
 use Rattle.ppdb_values.proofs.Owners.{owner_is_found}
 use Rattle.kept_rules.proofs.Orders.{up_to}
 

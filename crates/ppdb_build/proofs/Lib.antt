@@ -1,4 +1,3 @@
-pub mod Firsts
 pub mod Limits
 pub mod Counted
 pub mod Writable

@@ -1,5 +1,5 @@
 pub mod Going
 pub mod Walked
-pub mod RowLists
+pub mod TableLists
 pub mod RowNames
 pub mod ConstantLists

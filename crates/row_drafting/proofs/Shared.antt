@@ -1,9 +1,8 @@
 -- The scopes of a file one after the other: their ranges, the rows of their variables, and all constants, in the order of their rows.
 use Rattle.std.proofs.Common.{◌≡◌, ℕ, zero, suc, ◌+◌, ◌-◌, ◌≤◌, List, [], ◌∷◌, ◌++◌, length, map, take, drop, fold, flat_map, refl, sym, ap, subst, ◌∙◌}
 use Rattle.std.proofs.Common.{arith, slice_get, zero-add, All}
-use Rattle.std.specs.Prelude.{Some, unwrap_or, slice_range}
+use Rattle.std.specs.Prelude.{slice_range}
 use Rattle.std.specs.List.{enumerate_from, sum_by}
-use Rattle.std.specs.Option.{option_map}
 use Rattle.std.proofs.lemmas.List.{length-map}
 use Rattle.std.proofs.lemmas.List.Elements.{All-nil, All-cons, All-head, All-tail, All-append}
 use Rattle.std.proofs.lemmas.List.Sums.{fold-append, sum_by-cons}
@@ -19,6 +18,7 @@ use Rattle.ppdb_values.specs.Types.{IsNarrow, IsNarrowRow}
 use Rattle.ppdb_values.specs.Value.{value_of, variable_of}
 use Rattle.sound_values.proofs.Counts.{variables_counted}
 use Rattle.sound_values.proofs.Listed.{sum_of_map}
+use Rattle.sound_values.proofs.Rests.{IsRest, begin_of, end_is, here_is, rest_later}
 use Rattle.value_reading.specs.declared.scopes.Scope.{Scope}
 use Rattle.value_reading.specs.Lent.{variables_of, constants_of}
 use Rattle.value_reading.specs.Scopes.{list_range, scope_in, scopes_in, items_in, scope_with, rows_in, HasLists, OwnTheirLists}
@@ -68,14 +68,6 @@ module _ (raw : RawFile) where
 
 -- ---- the lists of all scopes are the rows of the table
 
-abbrev begin_of : (ScopeRow → ℕ) → ℕ → List ScopeRow → ℕ
-begin_of list items [] = items + 1
-begin_of list items (scope ∷ others) = list scope
-
-first_end : (list : ScopeRow → ℕ) (items : ℕ) (rest : List ScopeRow) → unwrap_or (option_map list (slice_get rest 0)) (items + 1) ≡ begin_of list items rest
-first_end list items [] = refl
-first_end list items (scope ∷ others) = refl
-
 drop_none : {X : Type 0} (n : ℕ) → ◌≡◌ {A = List X} (drop n []) []
 drop_none zero = refl
 drop_none (suc n) = refl
@@ -104,32 +96,17 @@ module _ {X : Type 0} (list : ScopeRow → ℕ) (scopes : List ScopeRow) (items 
   abbrev own : ℕ × ScopeRow → List X
   own row = items_in (list_range list scopes (length items) row) items
 
-  abbrev IsRest : ℕ → List ScopeRow → Type 0
-  IsRest n rest = (i : ℕ) → slice_get scopes (n + i) ≡ slice_get rest i
-
-  rest_later : (n : ℕ) (scope : ScopeRow) (rest : List ScopeRow) → IsRest n (scope ∷ rest) → IsRest (suc n) rest
-  rest_later n scope rest is i = let e : suc n + i ≡ n + suc i = omega arith in rw e (is (suc i))
-
-  here_is : (n : ℕ) (scope : ScopeRow) (rest : List ScopeRow) → IsRest n (scope ∷ rest) → row_at scopes (suc n) ≡ Some scope
-  here_is n scope rest is = let e : n + 0 ≡ n = omega arith in rw e at (is 0)
-
-  end_is : (n : ℕ) (scope : ScopeRow) (rest : List ScopeRow) → IsRest n (scope ∷ rest)
-      → list_end list scopes (suc n) (length items) ≡ begin_of list (length items) rest
-  end_is n scope rest is =
-      let e : n + 1 ≡ suc n = omega arith in
-      let next : slice_get scopes (suc n) ≡ slice_get rest 0 = rw e at (is 1) in
-      ap (λ o. unwrap_or (option_map list o) (length items + 1)) next ∙ first_end list (length items) rest
-
-  joined_from : (n : ℕ) (rest : List ScopeRow) → IsRest n rest → flat_map own (enumerate_from (suc n) rest) ≡ drop (begin_of list (length items) rest - 1) items
+  joined_from : (n : ℕ) (rest : List ScopeRow) → IsRest scopes n rest
+      → flat_map own (enumerate_from (suc n) rest) ≡ drop (begin_of list (length items) rest - 1) items
   joined_from n [] is = let e : length items + 1 - 1 ≡ length items = omega arith in rw e (sym (drop_all items))
   joined_from n (scope ∷ rest) is =
       let e : suc n + 1 ≡ suc (suc n) = omega arith in
-      let within = list_within list scopes (length items) keeps (suc n) scope (here_is n scope rest is) in
-      let end = end_is n scope rest is in
+      let within = list_within list scopes (length items) keeps (suc n) scope (here_is scopes n scope rest is) in
+      let end = end_is list scopes (length items) n scope rest is in
       let low = within.first in
       let forward = within.forward in
       let later : flat_map own (enumerate_from (suc n + 1) rest) ≡ drop (begin_of list (length items) rest - 1) items = rw e
-      (joined_from (suc n) rest (rest_later n scope rest is)) in
+      (joined_from (suc n) rest (rest_later scopes n scope rest is)) in
       ap (λ ys. own (suc n, scope) ++ ys) later
       ∙ ap (λ m. own (suc n, scope) ++ drop (m - 1) items) (sym end)
       ∙ slice_rest items (list scope - 1) (list_end list scopes (suc n) (length items) - 1) (omega (arith, low, forward))

@@ -1,4 +1,5 @@
 pub mod Listed
+pub mod Rests
 pub mod Counts
 pub mod Owned
 pub mod Documents

@@ -1,8 +1,7 @@
 -- The scopes share out the items of a table: together they own as many as there are.
-use Rattle.std.proofs.Common.{◌≡◌, ℕ, suc, ◌+◌, ◌-◌, ◌≤◌, List, [], ◌∷◌, length, drop, refl, sym, ap, ◌∙◌, arith, slice_get, zero-add}
-use Rattle.std.specs.Prelude.{Some, unwrap_or}
+use Rattle.std.proofs.Common.{◌≡◌, ℕ, suc, ◌+◌, ◌-◌, ◌≤◌, List, [], ◌∷◌, length, drop, refl, sym, ap, arith, slice_get, zero-add}
+use Rattle.std.specs.Prelude.{Some}
 use Rattle.std.specs.List.{enumerate_from, sum_by}
-use Rattle.std.specs.Option.{option_map}
 use Rattle.std.proofs.lemmas.List.{length-take, length-drop, length-map}
 use Rattle.std.proofs.lemmas.List.FromFn.{length-enumerate_from}
 use Rattle.std.proofs.lemmas.List.Sums.{sum_by-cons}
@@ -14,15 +13,7 @@ use Rattle.ppdb_values.specs.Owners.{list_end}
 use Rattle.ppdb_values.specs.Rules.{KeepsLists}
 use Rattle.ppdb_values.proofs.Lists.{owned_is_list}
 use Rattle.sound_values.proofs.Listed.{row_of, key_at}
-
--- where the list of the first of some scopes begins, or right after the last item
-abbrev begin_of : (ScopeRow → ℕ) → ℕ → List ScopeRow → ℕ
-begin_of list items [] = items + 1
-begin_of list items (scope ∷ others) = list scope
-
-first_end : (list : ScopeRow → ℕ) (items : ℕ) (rest : List ScopeRow) → unwrap_or (option_map list (slice_get rest 0)) (items + 1) ≡ begin_of list items rest
-first_end list items [] = refl
-first_end list items (scope ∷ others) = refl
+use Rattle.sound_values.proofs.Rests.{IsRest, begin_of, end_is, here_is, rest_later}
 
 module _ {X : Type 0} (list : ScopeRow → ℕ) (scopes : List ScopeRow) (items : List X) (keeps : KeepsLists list scopes (length items)) where
   up : (i j : ℕ) (x y : ScopeRow) → row_at scopes (suc i) ≡ Some x → row_at scopes (suc j) ≡ Some y → i ≤ j → list x ≤ list y
@@ -39,34 +30,17 @@ module _ {X : Type 0} (list : ScopeRow → ℕ) (scopes : List ScopeRow) (items 
       let rises = up 0 n f.0 scope f.1 here (omega arith) in
       omega (arith, one, rises)
 
-  -- the scopes from a row on
-  abbrev IsRest : ℕ → List ScopeRow → Type 0
-  IsRest n rest = (i : ℕ) → slice_get scopes (n + i) ≡ slice_get rest i
-
-  rest_later : (n : ℕ) (scope : ScopeRow) (rest : List ScopeRow) → IsRest n (scope ∷ rest) → IsRest (suc n) rest
-  rest_later n scope rest is i = let e : suc n + i ≡ n + suc i = omega arith in rw e (is (suc i))
-
-  here_is : (n : ℕ) (scope : ScopeRow) (rest : List ScopeRow) → IsRest n (scope ∷ rest) → row_at scopes (suc n) ≡ Some scope
-  here_is n scope rest is = let e : n + 0 ≡ n = omega arith in rw e at (is 0)
-
-  end_is : (n : ℕ) (scope : ScopeRow) (rest : List ScopeRow) → IsRest n (scope ∷ rest)
-      → list_end list scopes (suc n) (length items) ≡ begin_of list (length items) rest
-  end_is n scope rest is =
-      let e : n + 1 ≡ suc n = omega arith in
-      let next : slice_get scopes (suc n) ≡ slice_get rest 0 = rw e at (is 1) in
-      ap (λ o. unwrap_or (option_map list o) (length items + 1)) next ∙ first_end list (length items) rest
-
-  ends : (n : ℕ) (scope : ScopeRow) (rest : List ScopeRow) → IsRest n (scope ∷ rest) → (list scope ≤ begin_of list (length items) rest)
+  ends : (n : ℕ) (scope : ScopeRow) (rest : List ScopeRow) → IsRest scopes n (scope ∷ rest) → (list scope ≤ begin_of list (length items) rest)
       × (begin_of list (length items) rest ≤ length items + 1)
-  ends n scope [] is = (keeps.within (suc n) scope (here_is n scope [] is), omega arith)
+  ends n scope [] is = (keeps.within (suc n) scope (here_is scopes n scope [] is), omega arith)
   ends n scope (next ∷ rest) is =
-      let following = here_is (suc n) next rest (rest_later n scope (next ∷ rest) is) in
-      (up n (suc n) scope next (here_is n scope (next ∷ rest) is) following (omega arith), keeps.within (suc (suc n)) next following)
+      let following = here_is scopes (suc n) next rest (rest_later scopes n scope (next ∷ rest) is) in
+      (up n (suc n) scope next (here_is scopes n scope (next ∷ rest) is) following (omega arith), keeps.within (suc (suc n)) next following)
 
-  own : (n : ℕ) (scope : ScopeRow) (rest : List ScopeRow) → IsRest n (scope ∷ rest)
+  own : (n : ℕ) (scope : ScopeRow) (rest : List ScopeRow) → IsRest scopes n (scope ∷ rest)
       → length (owned_by list scopes (suc n) items) + list scope ≡ begin_of list (length items) rest
   own n scope rest is =
-      let there = here_is n scope rest is in
+      let there = here_is scopes n scope rest is in
       let end : ℕ = list_end list scopes (suc n) (length items) in
       let all : ℕ = length items in
       let rows : List (ℕ × X) = numbered items in
@@ -74,7 +48,7 @@ module _ {X : Type 0} (list : ScopeRow → ℕ) (scopes : List ScopeRow) (items 
       omega (
         arith,
         count,
-        end_is n scope rest is,
+        end_is list scopes (length items) n scope rest is,
         ends n scope rest is,
         least n scope there,
         length-take ((end - 1) - (list scope - 1)) (drop (list scope - 1) rows),
@@ -85,11 +59,12 @@ module _ {X : Type 0} (list : ScopeRow → ℕ) (scopes : List ScopeRow) (items 
   abbrev owned : ℕ × ScopeRow → ℕ
   owned row = length (owned_by list scopes row.0 items)
 
-  sum_is : (n : ℕ) (rest : List ScopeRow) → IsRest n rest → sum_by owned (enumerate_from (suc n) rest) + begin_of list (length items) rest ≡ length items + 1
+  sum_is : (n : ℕ) (rest : List ScopeRow) → IsRest scopes n rest
+      → sum_by owned (enumerate_from (suc n) rest) + begin_of list (length items) rest ≡ length items + 1
   sum_is n [] is = omega arith
   sum_is n (scope ∷ rest) is =
       let e : suc n + 1 ≡ suc (suc n) = omega arith in
-      let more = sum_is (suc n) rest (rest_later n scope rest is) in
+      let more = sum_is (suc n) rest (rest_later scopes n scope rest is) in
       let head = sum_by-cons owned (suc n, scope) (enumerate_from (suc (suc n)) rest) in
       rw e (omega (arith, more, head, own n scope rest is))
 
