@@ -1,5 +1,5 @@
 // A line as an object of JSON.
-ghost use Rattle.std.specs.Prelude.{◌≡◌, ◌++◌, ◌∷◌, [], OnOk, IfOk};
+ghost use Rattle.std.specs.Prelude.{◌≡◌, ◌++◌, ◌∷◌, [], decimal, OnOk, IfOk};
 ghost use Rattle.json.specs.Token as tokens;
 ghost use Rattle.ppdb_base.specs.Written.{Puts};
 ghost use Rattle.ppdb_lines.specs.Lines.{content_text, json_of};
@@ -9,6 +9,7 @@ ghost use Rattle.ppdb_lines.specs.Views.{content_of, line_of, IsText};
 use crate::item::put_item;
 use crate::line::{Item, Part};
 use crate::plain::plain_text;
+use itoa::Buffer;
 use json::Writer;
 use ppdb_base::{Memory, Sink, SteadySink, WriteError};
 use std::alloc::Global;
@@ -91,12 +92,37 @@ fn put_value(alloc: Global, writer: &mut Writer, item: &Item<'_>) -> Result<(), 
     ensures before { writer.new.before ≡ writer.old.before }
 {
     match item {
-        Item::Number(number) => Ok(writer.u64(*number as u64)?),
+        Item::Number(number) => put_number(writer, *number),
         Item::Guid(None) | Item::Octets([]) => Ok(writer.null()?),
         Item::Table(_) | Item::Token(_) | Item::Guid(_) | Item::Octets(_) | Item::Name(_) => {
             put_string(alloc, writer, item)
         }
     }
+}
+
+/// Puts a number. A few digits are put where their count is known, so that they are copied at once.
+#[inline(always)]
+fn put_number(writer: &mut Writer, number: u32) -> Result<(), Memory>
+    ensures ok { OnOk result (writer.new.tokens ≡ writer.old.tokens ++ tokens.number (decimal number) ∷ []) }
+    ensures before { writer.new.before ≡ writer.old.before }
+{
+    match number {
+        0..=9 => put_digits(writer, number),
+        10..=99 => put_digits(writer, number),
+        100..=999 => put_digits(writer, number),
+        1000..=9999 => put_digits(writer, number),
+        _ => Ok(writer.u64(number as u64)?),
+    }
+}
+
+/// Puts a number by its digits.
+#[inline(always)]
+fn put_digits(writer: &mut Writer, number: u32) -> Result<(), Memory>
+    ensures ok { OnOk result (writer.new.tokens ≡ writer.old.tokens ++ tokens.number (decimal number) ∷ []) }
+    ensures before { writer.new.before ≡ writer.old.before }
+{
+    let mut buffer = Buffer::new();
+    Ok(writer.number(buffer.format(number))?)
 }
 
 /// Puts the text of what a field holds that is no number.
