@@ -1,6 +1,7 @@
 pub mod Forms
 pub mod Heads
 pub mod Keeping
+pub mod Keys
 pub mod Lines
 pub mod Pieces
 pub mod Tokens

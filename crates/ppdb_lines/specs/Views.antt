@@ -5,6 +5,7 @@ use Rattle.ppdb_lines.specs.declared.line.Item.{Item}
 use Rattle.ppdb_lines.specs.declared.line.Item.TheVariants.{Number, Table, Token, Guid, Octets, Name}
 use Rattle.ppdb_lines.specs.declared.line.Part.{Part}
 use Rattle.ppdb_lines.specs.declared.line.Part.TheVariants.{Field as FieldPart, Mark}
+use Rattle.ppdb_lines.specs.Keys.{key_text}
 use Rattle.ppdb_lines.specs.Lines.{Content, number, table, token, guid, octets, name, Field, field, mark, Line, field_text}
 
 abbrev pub content_of : Item → Content
@@ -21,7 +22,7 @@ IsText (number n) = ⊥
 IsText content = Unit {0}
 
 abbrev pub field_of : Part → Field
-field_of (FieldPart words key item) = field words.now key.now (content_of item)
+field_of (FieldPart words key item) = field words.now (key_text key) (content_of item)
 field_of (Mark words) = mark words.now
 
 abbrev pub line_of : List ℕ → List Part → Line

@@ -5,6 +5,7 @@ ghost use Rattle.ppdb_lines.specs.Forms.{lines_as};
 ghost use Rattle.ppdb_lines.specs.Heads.{id_line, entry_line, token_of};
 
 use crate::form::Printer;
+use crate::key::Key;
 use crate::line::Item::{Octets, Token};
 use crate::line::Part::Field;
 use ppdb_base::{Sink, WriteError};
@@ -17,7 +18,12 @@ pub fn put_id_line<O: Sink>(
 ) -> Result<(), WriteError>
     ensures { Puts result (O.written out.old) (O.written out.new) (O.faults out.old) (O.faults out.new) (lines_as printer.entry.form (id_line id.now ∷ [])) }
 {
-    printer.put_line(out, "id", &[1, 0], &[Field(" ", "id", Octets(id))])
+    printer.put_line(
+        out,
+        "id",
+        &[1, 0],
+        &[Field(" ", Key::Other("id"), Octets(id))],
+    )
 }
 
 /// Puts the line of an entry point, a row of MethodDef or 0, as its token.
@@ -30,7 +36,12 @@ pub fn put_entry_line<O: Sink>(
     ensures { Puts result (O.written out.old) (O.written out.new) (O.faults out.old) (O.faults out.new) (lines_as printer.entry.form (entry_line row ∷ [])) }
 {
     let token = Token(method_token(row));
-    printer.put_line(out, "entry", &[1, 0], &[Field(" ", "entry", token)])
+    printer.put_line(
+        out,
+        "entry",
+        &[1, 0],
+        &[Field(" ", Key::Other("entry"), token)],
+    )
 }
 
 /// The token of a MethodDef row, or of no method, which is 0 (ECMA-335 II.22).

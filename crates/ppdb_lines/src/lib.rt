@@ -6,6 +6,7 @@ mod form;
 mod head;
 mod item;
 mod kept;
+mod key;
 mod line;
 mod object;
 mod pieces;
@@ -16,6 +17,7 @@ mod values;
 
 pub use form::{Form, Printer};
 pub use head::{put_entry_line, put_id_line};
+pub use key::Key;
 pub use line::{Item, Part};
 pub use pieces::{
     put_named, put_named_line, put_numbered, put_numbered64, put_pair, put_signed, put_tabled,

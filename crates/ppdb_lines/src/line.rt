@@ -1,4 +1,5 @@
 // What a line is made of.
+use crate::key::Key;
 
 /// What a field of a line holds.
 #[derive(Clone, Copy)]
@@ -21,7 +22,7 @@ pub enum Item<'a> {
 #[derive(Clone, Copy)]
 pub enum Part<'a> {
     /// A field: the words before it in the text, its key in JSON, and what it holds.
-    Field(&'static str, &'static str, Item<'a>),
+    Field(&'static str, Key, Item<'a>),
     /// Words that stand in the text alone.
     Mark(&'static str),
 }

@@ -7,6 +7,7 @@ ghost use Rattle.ppdb_lines.specs.Tokens.{IsKeyOrder, content_token, member_toke
 ghost use Rattle.ppdb_lines.specs.Views.{content_of, line_of, IsText};
 
 use crate::item::put_item;
+use crate::key::put_key;
 use crate::line::{Item, Part};
 use crate::plain::plain_text;
 use itoa::Buffer;
@@ -77,7 +78,7 @@ fn put_member(
     }
     match parts.get(place - 1) {
         Some(Part::Field(_, key, item)) => {
-            writer.key(key)?;
+            put_key(writer, *key)?;
             put_value(alloc, writer, item)
         }
         Some(Part::Mark(_)) => Ok(()),

@@ -10,6 +10,7 @@ ghost use Rattle.ppdb_lines.specs.Uses.{namespace_or_none, table_or_none, row_or
 ghost use Rattle.ppdb_lines.specs.Views.{field_of};
 
 use crate::form::Printer;
+use crate::key::Key;
 use crate::line::Item::{Name, Number, Table};
 use crate::line::Part;
 use crate::line::Part::{Field, Mark};
@@ -27,7 +28,7 @@ pub fn put_use<O: Sink>(
 {
     let target = target_of(import);
     let parts = [
-        Field(" ", "kind", Number(kind_of(import))),
+        Field(" ", Key::Kind, Number(kind_of(import))),
         alias_part(import),
         assembly_part(import),
         namespace_part(import),
@@ -64,7 +65,7 @@ fn alias_part<'a>(import: &Import<'a>) -> Part<'a>
         | Import::AssemblyAlias { alias, .. }
         | Import::NamespaceAlias { alias, .. }
         | Import::AssemblyNamespaceAlias { alias, .. }
-        | Import::TargetAlias { alias, .. } => Field(" alias ", "alias", Name(alias)),
+        | Import::TargetAlias { alias, .. } => Field(" alias ", Key::Other("alias"), Name(alias)),
         _ => Mark(""),
     }
 }
@@ -77,7 +78,7 @@ fn assembly_part<'a>(import: &Import<'a>) -> Part<'a>
         Import::AssemblyNamespace { assembly, .. }
         | Import::AssemblyAlias { assembly, .. }
         | Import::AssemblyNamespaceAlias { assembly, .. } => {
-            Field(" assembly ", "assembly", Number(assembly))
+            Field(" assembly ", Key::Other("assembly"), Number(assembly))
         }
         _ => Mark(""),
     }
@@ -93,7 +94,7 @@ fn namespace_part<'a>(import: &Import<'a>) -> Part<'a>
         | Import::Xml { namespace, .. }
         | Import::NamespaceAlias { namespace, .. }
         | Import::AssemblyNamespaceAlias { namespace, .. } => {
-            Field(" namespace ", "namespace", Name(namespace))
+            Field(" namespace ", Key::Other("namespace"), Name(namespace))
         }
         _ => Mark(""),
     }
@@ -114,7 +115,7 @@ fn table_part(target: Option<TypeToken>) -> Part<'static>
     ensures { field_of result ≡ table_or_none target }
 {
     match target {
-        Some(target) => Field(" type ", "type_table", Table(target.table)),
+        Some(target) => Field(" type ", Key::Other("type_table"), Table(target.table)),
         None => Mark(""),
     }
 }
@@ -124,7 +125,7 @@ fn row_part(target: Option<TypeToken>) -> Part<'static>
     ensures { field_of result ≡ row_or_none target }
 {
     match target {
-        Some(target) => Field(" ", "type_row", Number(target.row)),
+        Some(target) => Field(" ", Key::Other("type_row"), Number(target.row)),
         None => Mark(""),
     }
 }

@@ -12,7 +12,7 @@ use crate::stop::Stop;
 use ppdb_base::{Sink, Steps, WriteError};
 use ppdb_lines::Item::{Number, Octets};
 use ppdb_lines::Part::Field;
-use ppdb_lines::{Item, put_text_line};
+use ppdb_lines::{Item, Key, put_text_line};
 use sampled_files::{BuildError, SampleReport, sampled};
 use std::alloc::Global;
 use std::sync::ledger::Ledger;
@@ -60,5 +60,5 @@ fn put_report<O: Sink>(out: &mut O, methods: u32, report: &SampleReport) -> Resu
 fn put_told<O: Sink>(out: &mut O, words: &str, item: Item<'_>) -> Result<(), WriteError>
     ensures { Puts result (O.written out.old) (O.written out.new) (O.faults out.old) (O.faults out.new) (text_of (told_line words.now (content_of item.entry))) }
 {
-    put_text_line(out, words, &[Field(" ", "", item)])
+    put_text_line(out, words, &[Field(" ", Key::Other(""), item)])
 }

@@ -13,7 +13,7 @@ use crate::unfit::put_unfit;
 use ppdb_base::{Fault, Limit, LinkError, Memory, MergeError, Sink, WriteError};
 use ppdb_lines::Item::{Name, Number};
 use ppdb_lines::Part::{Field, Mark};
-use ppdb_lines::put_text_line;
+use ppdb_lines::{Key, put_text_line};
 
 /// What ends a run before its answer. A name is that of the file that it comes from.
 #[derive(Clone, Copy)]
@@ -130,16 +130,20 @@ impl Stop<'_> {
 fn put_name<O: Sink>(out: &mut O, words: &str, name: &str) -> Result<(), WriteError>
     ensures { Puts result (O.written out.old) (O.written out.new) (O.faults out.old) (O.faults out.new) (text_of (about words.now name.now [])) }
 {
-    put_text_line(out, words, &[Field(" ", "", Name(name.as_bytes()))])
+    put_text_line(
+        out,
+        words,
+        &[Field(" ", Key::Other(""), Name(name.as_bytes()))],
+    )
 }
 
 /// Puts the line of a map's text that has no reading.
 fn put_map<O: Sink>(out: &mut O, name: &str, line: u32, kind: u8) -> Result<(), WriteError>
     ensures { Puts result (O.written out.old) (O.written out.new) (O.faults out.old) (O.faults out.new) (text_of (map_line name.now line kind)) }
 {
-    let name = Field(" ", "", Name(name.as_bytes()));
-    let line = Field(" line ", "", Number(line));
-    let kind = Field(" kind ", "", Number(u32::from(kind)));
+    let name = Field(" ", Key::Other(""), Name(name.as_bytes()));
+    let line = Field(" line ", Key::Other(""), Number(line));
+    let kind = Field(" kind ", Key::Other(""), Number(u32::from(kind)));
     put_text_line(out, "map", &[name, line, kind])
 }
 
@@ -147,14 +151,18 @@ fn put_map<O: Sink>(out: &mut O, name: &str, line: u32, kind: u8) -> Result<(), 
 fn put_no_method<O: Sink>(out: &mut O, method: u32) -> Result<(), WriteError>
     ensures { Puts result (O.written out.old) (O.written out.new) (O.faults out.old) (O.faults out.new) (text_of (no_method_line method)) }
 {
-    put_text_line(out, "no method", &[Field(" ", "", Number(method))])
+    put_text_line(
+        out,
+        "no method",
+        &[Field(" ", Key::Other(""), Number(method))],
+    )
 }
 
 /// Puts the line of a Source Link record that gives no addresses.
 fn put_unlinked<O: Sink>(out: &mut O, name: &str, error: LinkError) -> Result<(), WriteError>
     ensures { Puts result (O.written out.old) (O.written out.new) (O.faults out.old) (O.faults out.new) (text_of (links_line name.now error)) }
 {
-    let name = Field(" ", "", Name(name.as_bytes()));
+    let name = Field(" ", Key::Other(""), Name(name.as_bytes()));
     match error {
         LinkError::NotJson => put_text_line(out, "links", &[name, Mark(" not json")]),
         LinkError::Shape => put_text_line(out, "links", &[name, Mark(" shape")]),
@@ -166,8 +174,8 @@ fn put_unlinked<O: Sink>(out: &mut O, name: &str, error: LinkError) -> Result<()
 fn put_sizes<O: Sink>(out: &mut O, method: u32, first: u32, second: u32) -> Result<(), WriteError>
     ensures { Puts result (O.written out.old) (O.written out.new) (O.faults out.old) (O.faults out.new) (text_of (sizes_line method first second)) }
 {
-    let method = Field(" method ", "", Number(method));
-    let first = Field(" ", "", Number(first));
-    let second = Field(" ", "", Number(second));
+    let method = Field(" method ", Key::Other(""), Number(method));
+    let first = Field(" ", Key::Other(""), Number(first));
+    let second = Field(" ", Key::Other(""), Number(second));
     put_text_line(out, "sizes differ", &[method, first, second])
 }

@@ -8,7 +8,7 @@ use crate::fault::{ROWS, part_name};
 use ppdb_base::{MergeError, Place, Sink, WriteError};
 use ppdb_lines::Item::{Guid, Name, Number, Table};
 use ppdb_lines::Part::{Field, Mark};
-use ppdb_lines::put_text_line;
+use ppdb_lines::{Key, put_text_line};
 
 /// Puts the line of an input that is not joined.
 pub fn put_unfit<O: Sink>(out: &mut O, file: &str, error: MergeError) -> Result<(), WriteError>
@@ -58,7 +58,11 @@ pub fn put_unfit<O: Sink>(out: &mut O, file: &str, error: MergeError) -> Result<
             second,
             image,
         } => put_slot_twice(out, file, method, first, second, image),
-        E::Memory => put_text_line(out, "unfit", &[Field(" ", "", Name(file.as_bytes()))]),
+        E::Memory => put_text_line(
+            out,
+            "unfit",
+            &[Field(" ", Key::Other(""), Name(file.as_bytes()))],
+        ),
     }
 }
 
@@ -73,14 +77,14 @@ fn put_unmapped<O: Sink>(
     ensures { Puts result (O.written out.old) (O.written out.new) (O.faults out.old) (O.faults out.new)
         (text_of (unfit_line file.now (merge_errors.Unmapped table row place))) }
 {
-    let file = Field(" ", "", Name(file.as_bytes()));
-    let table = Field(" M1 table ", "", Table(table));
-    let row = Field(" row ", "", Number(row));
-    let byte = Field(" byte ", "", Number(place.byte));
+    let file = Field(" ", Key::Other(""), Name(file.as_bytes()));
+    let table = Field(" M1 table ", Key::Other(""), Table(table));
+    let row = Field(" row ", Key::Other(""), Number(row));
+    let byte = Field(" byte ", Key::Other(""), Number(place.byte));
     if place.part == ROWS {
-        let in_table = Field(" table ", "", Table(place.table));
-        let in_row = Field(" row ", "", Number(place.row));
-        let column = Field(" column ", "", Number(u32::from(place.column)));
+        let in_table = Field(" table ", Key::Other(""), Table(place.table));
+        let in_row = Field(" row ", Key::Other(""), Number(place.row));
+        let column = Field(" column ", Key::Other(""), Number(u32::from(place.column)));
         put_text_line(
             out,
             "unfit",
@@ -113,11 +117,11 @@ fn put_image_twice<O: Sink>(
     ensures { Puts result (O.written out.old) (O.written out.new) (O.faults out.old) (O.faults out.new)
         (text_of (unfit_line file.now (merge_errors.ImageTwice table first second image))) }
 {
-    let file = Field(" ", "", Name(file.as_bytes()));
-    let table = Field(" M2 table ", "", Table(table));
-    let first = Field(" rows ", "", Number(first));
-    let second = Field(" ", "", Number(second));
-    let image = Field(" image ", "", Number(image));
+    let file = Field(" ", Key::Other(""), Name(file.as_bytes()));
+    let table = Field(" M2 table ", Key::Other(""), Table(table));
+    let first = Field(" rows ", Key::Other(""), Number(first));
+    let second = Field(" ", Key::Other(""), Number(second));
+    let image = Field(" image ", Key::Other(""), Number(image));
     put_text_line(out, "unfit", &[file, table, first, second, image])
 }
 
@@ -133,11 +137,11 @@ fn put_method_taken<O: Sink>(
     ensures { Puts result (O.written out.old) (O.written out.new) (O.faults out.old) (O.faults out.new)
         (text_of (unfit_line file.now (merge_errors.MethodTaken input first second image))) }
 {
-    let file = Field(" ", "", Name(file.as_bytes()));
-    let input = Field(" M3 input ", "", Number(input));
-    let first = Field(" row ", "", Number(first));
-    let second = Field(" row ", "", Number(second));
-    let image = Field(" image ", "", Number(image));
+    let file = Field(" ", Key::Other(""), Name(file.as_bytes()));
+    let input = Field(" M3 input ", Key::Other(""), Number(input));
+    let first = Field(" row ", Key::Other(""), Number(first));
+    let second = Field(" row ", Key::Other(""), Number(second));
+    let image = Field(" image ", Key::Other(""), Number(image));
     put_text_line(out, "unfit", &[file, input, first, second, image])
 }
 
@@ -152,10 +156,10 @@ fn put_offset_beyond<O: Sink>(
     ensures { Puts result (O.written out.old) (O.written out.new) (O.faults out.old) (O.faults out.new)
         (text_of (unfit_line file.now (merge_errors.OffsetBeyond method offset size))) }
 {
-    let file = Field(" ", "", Name(file.as_bytes()));
-    let method = Field(" M4 method ", "", Number(method));
-    let offset = Field(" offset ", "", Number(offset));
-    let size = Field(" size ", "", Number(size));
+    let file = Field(" ", Key::Other(""), Name(file.as_bytes()));
+    let method = Field(" M4 method ", Key::Other(""), Number(method));
+    let offset = Field(" offset ", Key::Other(""), Number(offset));
+    let size = Field(" size ", Key::Other(""), Number(size));
     put_text_line(out, "unfit", &[file, method, offset, size])
 }
 
@@ -169,9 +173,9 @@ fn put_async_lost<O: Sink>(
     ensures { Puts result (O.written out.old) (O.written out.new) (O.faults out.old) (O.faults out.new)
         (text_of (unfit_line file.now (merge_errors.AsyncLost method offset))) }
 {
-    let file = Field(" ", "", Name(file.as_bytes()));
-    let method = Field(" M5 method ", "", Number(method));
-    let offset = Field(" offset ", "", Number(offset));
+    let file = Field(" ", Key::Other(""), Name(file.as_bytes()));
+    let method = Field(" M5 method ", Key::Other(""), Number(method));
+    let offset = Field(" offset ", Key::Other(""), Number(offset));
     put_text_line(out, "unfit", &[file, method, offset])
 }
 
@@ -185,9 +189,9 @@ fn put_kind_unknown<O: Sink>(
     ensures { Puts result (O.written out.old) (O.written out.new) (O.faults out.old) (O.faults out.new)
         (text_of (unfit_line file.now (merge_errors.KindUnknown row kind))) }
 {
-    let file = Field(" ", "", Name(file.as_bytes()));
-    let row = Field(" M6 row ", "", Number(row));
-    let kind = Field(" kind ", "", Guid(Some(kind)));
+    let file = Field(" ", Key::Other(""), Name(file.as_bytes()));
+    let row = Field(" M6 row ", Key::Other(""), Number(row));
+    let kind = Field(" kind ", Key::Other(""), Guid(Some(kind)));
     put_text_line(out, "unfit", &[file, row, kind])
 }
 
@@ -201,9 +205,9 @@ fn put_document_conflict<O: Sink>(
     ensures { Puts result (O.written out.old) (O.written out.new) (O.faults out.old) (O.faults out.new)
         (text_of (unfit_line file.now (merge_errors.DocumentConflict row joined))) }
 {
-    let file = Field(" ", "", Name(file.as_bytes()));
-    let row = Field(" M7 document ", "", Number(row));
-    let joined = Field(" joined ", "", Number(joined));
+    let file = Field(" ", Key::Other(""), Name(file.as_bytes()));
+    let row = Field(" M7 document ", Key::Other(""), Number(row));
+    let joined = Field(" joined ", Key::Other(""), Number(joined));
     put_text_line(out, "unfit", &[file, row, joined])
 }
 
@@ -219,10 +223,10 @@ fn put_rows_differ<O: Sink>(
     ensures { Puts result (O.written out.old) (O.written out.new) (O.faults out.old) (O.faults out.new)
         (text_of (unfit_line file.now (merge_errors.RowsDiffer input table first second))) }
 {
-    let file = Field(" ", "", Name(file.as_bytes()));
-    let table = Field(" M8 table ", "", Table(table));
-    let first = Field(" rows ", "", Number(first));
-    let second = Field(" ", "", Number(second));
+    let file = Field(" ", Key::Other(""), Name(file.as_bytes()));
+    let table = Field(" M8 table ", Key::Other(""), Table(table));
+    let first = Field(" rows ", Key::Other(""), Number(first));
+    let second = Field(" ", Key::Other(""), Number(second));
     put_text_line(out, "unfit", &[file, table, first, second])
 }
 
@@ -239,11 +243,11 @@ fn put_image_range<O: Sink>(
     ensures { Puts result (O.written out.old) (O.written out.new) (O.faults out.old) (O.faults out.new)
         (text_of (unfit_line file.now (merge_errors.ImageRange input table row image rows))) }
 {
-    let file = Field(" ", "", Name(file.as_bytes()));
-    let table = Field(" M9 table ", "", Table(table));
-    let row = Field(" row ", "", Number(row));
-    let image = Field(" image ", "", Number(image));
-    let rows = Field(" rows ", "", Number(rows));
+    let file = Field(" ", Key::Other(""), Name(file.as_bytes()));
+    let table = Field(" M9 table ", Key::Other(""), Table(table));
+    let row = Field(" row ", Key::Other(""), Number(row));
+    let image = Field(" image ", Key::Other(""), Number(image));
+    let rows = Field(" rows ", Key::Other(""), Number(rows));
     put_text_line(out, "unfit", &[file, table, row, image, rows])
 }
 
@@ -257,9 +261,9 @@ fn put_slot_unmapped<O: Sink>(
     ensures { Puts result (O.written out.old) (O.written out.new) (O.faults out.old) (O.faults out.new)
         (text_of (unfit_line file.now (merge_errors.SlotUnmapped row slot))) }
 {
-    let file = Field(" ", "", Name(file.as_bytes()));
-    let row = Field(" M10 variable ", "", Number(row));
-    let slot = Field(" slot ", "", Number(u32::from(slot)));
+    let file = Field(" ", Key::Other(""), Name(file.as_bytes()));
+    let row = Field(" M10 variable ", Key::Other(""), Number(row));
+    let slot = Field(" slot ", Key::Other(""), Number(u32::from(slot)));
     put_text_line(out, "unfit", &[file, row, slot])
 }
 
@@ -275,10 +279,10 @@ fn put_slot_twice<O: Sink>(
     ensures { Puts result (O.written out.old) (O.written out.new) (O.faults out.old) (O.faults out.new)
         (text_of (unfit_line file.now (merge_errors.SlotTwice method first second image))) }
 {
-    let file = Field(" ", "", Name(file.as_bytes()));
-    let method = Field(" M11 method ", "", Number(method));
-    let first = Field(" slots ", "", Number(u32::from(first)));
-    let second = Field(" ", "", Number(u32::from(second)));
-    let image = Field(" image ", "", Number(u32::from(image)));
+    let file = Field(" ", Key::Other(""), Name(file.as_bytes()));
+    let method = Field(" M11 method ", Key::Other(""), Number(method));
+    let first = Field(" slots ", Key::Other(""), Number(u32::from(first)));
+    let second = Field(" ", Key::Other(""), Number(u32::from(second)));
+    let image = Field(" image ", Key::Other(""), Number(u32::from(image)));
     put_text_line(out, "unfit", &[file, method, first, second, image])
 }

@@ -8,7 +8,7 @@ use break_lines::{Break, BreakCursor};
 use ppdb_base::{Sink, Steps, WriteError};
 use ppdb_lines::Item::Number;
 use ppdb_lines::Part::Field;
-use ppdb_lines::put_text_line;
+use ppdb_lines::{Key, put_text_line};
 use std::sync::ledger::Ledger;
 
 /// Puts the line of a break.
@@ -16,12 +16,12 @@ fn put_break<O: Sink>(out: &mut O, found: &Break) -> Result<(), WriteError>
     ensures { Puts result (O.written out.old) (O.written out.new) (O.faults out.old) (O.faults out.new) (text_of (break_line found.now)) }
 {
     let parts = [
-        Field(" ", "method", Number(found.method)),
-        Field(" ", "offset", Number(found.offset)),
-        Field(" ", "startLine", Number(found.start_line)),
-        Field(":", "startColumn", Number(found.start_column)),
-        Field(" ", "endLine", Number(found.end_line)),
-        Field(":", "endColumn", Number(found.end_column)),
+        Field(" ", Key::Method, Number(found.method)),
+        Field(" ", Key::Offset, Number(found.offset)),
+        Field(" ", Key::Other("startLine"), Number(found.start_line)),
+        Field(":", Key::Other("startColumn"), Number(found.start_column)),
+        Field(" ", Key::Other("endLine"), Number(found.end_line)),
+        Field(":", Key::Other("endColumn"), Number(found.end_column)),
     ];
     put_text_line(out, "break", &parts)
 }

@@ -18,7 +18,7 @@ ghost use Rattle.source_lines.specs.Links.{file_links as links_said, link_of, li
 use ppdb_base::{Bytes, LinkError, List, Sink, Steps, WriteError};
 use ppdb_lines::Item::{Name, Number};
 use ppdb_lines::Part::{Field, Mark};
-use ppdb_lines::put_text_line;
+use ppdb_lines::{Key, put_text_line};
 use ppdb_verify::Verified;
 use source_link::{Links, find_link, read_links};
 use std::alloc::Global;
@@ -67,12 +67,15 @@ fn put_link<O: Sink, L: Ledger>(
     let cells = document(file, row, steps);
     let name = joined_name(alloc, file, row, &cells)?;
     address.clear();
-    let number = Field(" ", "row", Number(row));
+    let number = Field(" ", Key::Row, Number(row));
     if links.address(name.as_slice(), address)? {
         put_text_line(
             out,
             "link",
-            &[number, Field(" ", "address", Name(address.as_slice()))],
+            &[
+                number,
+                Field(" ", Key::Other("address"), Name(address.as_slice())),
+            ],
         )
     } else {
         put_text_line(out, "link", &[number, Mark(" none")])

@@ -10,6 +10,7 @@ ghost use Rattle.ppdb_show.specs.QueryWalk.{Adds, customs_reads};
 use crate::query::text::put_line;
 use ppdb_base::{Memory, SteadySink, Steps};
 use ppdb_lines::Item::{Guid, Octets};
+use ppdb_lines::Key;
 use ppdb_lines::Part::Field;
 use ppdb_queries::customs_of;
 use ppdb_tables::{CustomRow, Parent};
@@ -26,8 +27,8 @@ pub(crate) fn put_custom(
     ensures { OnOk result (Adds text.old text.new (custom_found (raw_of (tables_of file.now)) custom.now ∷ [])) }
 {
     let parts = [
-        Field(" ", "kind", Guid(guid(file, custom.kind))),
-        Field(" ", "value", Octets(blob(file, custom.value))),
+        Field(" ", Key::Kind, Guid(guid(file, custom.kind))),
+        Field(" ", Key::Value, Octets(blob(file, custom.value))),
     ];
     put_line(text, "custom", &parts)
 }

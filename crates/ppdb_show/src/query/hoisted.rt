@@ -9,6 +9,7 @@ ghost use Rattle.ppdb_show.specs.QueryWalk.{Adds, customs_reads};
 use crate::query::text::put_line;
 use ppdb_base::{Memory, SteadySink, Steps};
 use ppdb_lines::Item::Number;
+use ppdb_lines::Key;
 use ppdb_lines::Part::Field;
 use ppdb_queries::hoisted_at;
 use ppdb_verify::Verified;
@@ -31,9 +32,9 @@ pub(crate) fn put_hoisted<L: Ledger>(
     };
     'locals: while let Some(local) = locals.next(steps) {
         let parts = [
-            Field(" ", "slot", Number(local.slot)),
-            Field(" ", "start", Number(local.range.start)),
-            Field(" ", "end", Number(local.range.end)),
+            Field(" ", Key::Slot, Number(local.slot)),
+            Field(" ", Key::Start, Number(local.range.start)),
+            Field(" ", Key::End, Number(local.range.end)),
         ];
         put_line(text, "hoisted", &parts)?;
     }

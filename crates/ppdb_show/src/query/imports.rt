@@ -14,6 +14,7 @@ use crate::query::customs::put_customs;
 use crate::query::text::{put_import_line, put_line};
 use ppdb_base::{Memory, SteadySink, Steps};
 use ppdb_lines::Item::Number;
+use ppdb_lines::Key;
 use ppdb_lines::Part::Field;
 use ppdb_queries::{ImportLink, imports_of};
 use ppdb_tables::Parent;
@@ -55,7 +56,7 @@ fn put_import<L: Ledger>(
     ensures cost { steps.new ≤ steps.old + customs_reads (raw_of (tables_of file.now)) 0x35 link.entry.row }
 {
     let row = link.row;
-    put_line(text, "import", &[Field(" ", "row", Number(row))])?;
+    put_line(text, "import", &[Field(" ", Key::Row, Number(row))])?;
     put_uses(alloc, text, &mut link.imports)?;
     let parent = Parent { table: 0x35, row };
     put_customs(text, file, parent, steps)

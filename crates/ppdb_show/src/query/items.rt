@@ -13,6 +13,7 @@ use crate::query::customs::put_customs;
 use crate::query::text::put_line;
 use ppdb_base::{Memory, SteadySink, Steps};
 use ppdb_lines::Item::{Name, Number, Octets};
+use ppdb_lines::Key;
 use ppdb_lines::Part::Field;
 use ppdb_queries::Run;
 use ppdb_tables::{ConstantRow, Parent, VariableRow};
@@ -29,9 +30,9 @@ fn put_variable_line(
     ensures { OnOk result (Adds text.old text.new (variable_found (variable_of (raw_of (tables_of file.now)) variable.now) ∷ [])) }
 {
     let parts = [
-        Field(" ", "slot", Number(variable.slot as u32)),
-        Field(" ", "attributes", Number(variable.attributes as u32)),
-        Field(" ", "name", Name(text_of(file, variable.name))),
+        Field(" ", Key::Slot, Number(variable.slot as u32)),
+        Field(" ", Key::Attributes, Number(variable.attributes as u32)),
+        Field(" ", Key::Name, Name(text_of(file, variable.name))),
     ];
     put_line(text, "variable", &parts)
 }
@@ -88,8 +89,8 @@ fn put_constant_line(
     ensures { OnOk result (Adds text.old text.new (constant_found (raw_of (tables_of file.now)) constant.now ∷ [])) }
 {
     let parts = [
-        Field(" ", "signature", Octets(blob(file, constant.signature))),
-        Field(" ", "name", Name(text_of(file, constant.name))),
+        Field(" ", Key::Signature, Octets(blob(file, constant.signature))),
+        Field(" ", Key::Name, Name(text_of(file, constant.name))),
     ];
     put_line(text, "constant", &parts)
 }

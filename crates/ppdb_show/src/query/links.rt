@@ -10,6 +10,7 @@ ghost use Rattle.ppdb_show.specs.QueryWalk.{Adds};
 use crate::query::text::put_line;
 use ppdb_base::{Memory, SteadySink, Steps};
 use ppdb_lines::Item::Number;
+use ppdb_lines::Key;
 use ppdb_lines::Part::Field;
 use ppdb_queries::{kickoff_of, move_next_of};
 use ppdb_verify::Verified;
@@ -30,7 +31,7 @@ fn put_method(text: &mut SteadySink, word: &str, method: Option<u32>) -> Result<
     ensures { OnOk result (Adds text.old text.new (links_to word.now method)) }
 {
     match method {
-        Some(row) => put_line(text, word, &[Field(" ", "method", Number(row))]),
+        Some(row) => put_line(text, word, &[Field(" ", Key::Method, Number(row))]),
         None => Ok(()),
     }
 }

@@ -9,6 +9,7 @@ ghost use Rattle.ppdb_show.specs.QueryWalk.{Adds, HasDocument, found_line};
 use crate::query::text::put_line;
 use ppdb_base::{Bytes, Memory, SteadySink, Steps};
 use ppdb_lines::Item::{Name, Number};
+use ppdb_lines::Key;
 use ppdb_lines::Part::{Field, Mark};
 use ppdb_queries::PointAt;
 use ppdb_verify::Verified;
@@ -41,10 +42,10 @@ fn put_point_line(
 ) -> Result<(), Memory>
     ensures { OnOk result (Adds text.old text.new (point_found point signature document.now ∷ [])) }
 {
-    let offset = Field(" ", "offset", Number(point.offset));
-    let row = Field(" ", "document", Number(point.document));
-    let signature = Field(" signature ", "signature", Number(signature));
-    let name = Field(" name ", "name", Name(document));
+    let offset = Field(" ", Key::Offset, Number(point.offset));
+    let row = Field(" ", Key::Document, Number(point.document));
+    let signature = Field(" signature ", Key::Signature, Number(signature));
+    let name = Field(" name ", Key::Name, Name(document));
     match point.span {
         Span::Hidden => put_line(
             text,
@@ -62,10 +63,10 @@ fn put_point_line(
             &[
                 offset,
                 row,
-                Field(" ", "start_line", Number(start_line)),
-                Field(":", "start_column", Number(start_column)),
-                Field(" ", "end_line", Number(end_line)),
-                Field(":", "end_column", Number(end_column)),
+                Field(" ", Key::StartLine, Number(start_line)),
+                Field(":", Key::StartColumn, Number(start_column)),
+                Field(" ", Key::EndLine, Number(end_line)),
+                Field(":", Key::EndColumn, Number(end_column)),
                 signature,
                 name,
             ],

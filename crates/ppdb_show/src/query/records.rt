@@ -13,6 +13,7 @@ use crate::query::text::put_line;
 use custom_info::{AsyncCursor, AsyncStep, Kind};
 use ppdb_base::{Memory, SteadySink, Steps};
 use ppdb_lines::Item::Number;
+use ppdb_lines::Key;
 use ppdb_lines::Part::{Field, Mark};
 use ppdb_queries::customs_of;
 use ppdb_tables::{CustomRow, Parent};
@@ -26,7 +27,11 @@ fn put_handler(text: &mut SteadySink, handler: Option<u32>) -> Result<(), Memory
     ensures { OnOk result (Adds text.old text.new (async_line handler ∷ [])) }
 {
     match handler {
-        Some(offset) => put_line(text, "async", &[Field(" ", "handler", Number(offset))]),
+        Some(offset) => put_line(
+            text,
+            "async",
+            &[Field(" ", Key::Other("handler"), Number(offset))],
+        ),
         None => put_line(text, "async", &[Mark(" -")]),
     }
 }
@@ -36,9 +41,9 @@ fn put_step(text: &mut SteadySink, step: AsyncStep) -> Result<(), Memory>
     ensures { OnOk result (Adds text.old text.new (step_line step ∷ [])) }
 {
     let parts = [
-        Field(" ", "pause", Number(step.pause)),
-        Field(" ", "resume", Number(step.resume)),
-        Field(" ", "method", Number(step.method)),
+        Field(" ", Key::Other("pause"), Number(step.pause)),
+        Field(" ", Key::Other("resume"), Number(step.resume)),
+        Field(" ", Key::Method, Number(step.method)),
     ];
     put_line(text, "step", &parts)
 }

@@ -12,6 +12,7 @@ use crate::query::items::{put_constants, put_variables};
 use crate::query::text::put_line;
 use ppdb_base::{Memory, SteadySink, Steps};
 use ppdb_lines::Item::Number;
+use ppdb_lines::Key;
 use ppdb_lines::Part::Field;
 use ppdb_queries::{ScopeView, scopes_at};
 use ppdb_tables::Parent;
@@ -33,8 +34,8 @@ fn put_scope<L: Ledger>(
     ensures cost { steps.new ≤ steps.old + scope_reads (raw_of (tables_of file.now)) scope }
 {
     let parts = [
-        Field(" ", "start", Number(scope.range.start)),
-        Field(" ", "end", Number(scope.range.end)),
+        Field(" ", Key::Start, Number(scope.range.start)),
+        Field(" ", Key::End, Number(scope.range.end)),
     ];
     put_line(text, "scope", &parts)?;
     file.keeps();

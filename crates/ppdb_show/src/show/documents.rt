@@ -12,7 +12,7 @@ ghost use Rattle.ppdb_values.specs.Rules.{HasRow};
 use ppdb_base::{List, Memory, Sink, Steps, WriteError};
 use ppdb_lines::Item::{Guid, Name, Number, Octets};
 use ppdb_lines::Part::Field;
-use ppdb_lines::Printer;
+use ppdb_lines::{Key, Printer};
 use ppdb_tables::DocumentRow;
 use ppdb_values::DocumentValue;
 use ppdb_verify::Verified;
@@ -47,11 +47,23 @@ fn put_value<O: Sink>(
     ensures { Puts result (O.written out.old) (O.written out.new) (O.faults out.old) (O.faults out.new) (lines_as printer.entry.form (document_line row document.now ∷ [])) }
 {
     let parts = [
-        Field(" ", "row", Number(row)),
-        Field(" algorithm ", "algorithm", Guid(document.algorithm)),
-        Field(" hash ", "hash", Octets(document.hash.as_slice())),
-        Field(" language ", "language", Guid(document.language)),
-        Field(" name ", "name", Name(document.name.as_slice())),
+        Field(" ", Key::Row, Number(row)),
+        Field(
+            " algorithm ",
+            Key::Other("algorithm"),
+            Guid(document.algorithm),
+        ),
+        Field(
+            " hash ",
+            Key::Other("hash"),
+            Octets(document.hash.as_slice()),
+        ),
+        Field(
+            " language ",
+            Key::Other("language"),
+            Guid(document.language),
+        ),
+        Field(" name ", Key::Name, Name(document.name.as_slice())),
     ];
     printer.put_line(out, "document", &[2, 3, 4, 0, 5, 1], &parts)
 }

@@ -9,7 +9,7 @@ ghost use Rattle.ppdb_show.specs.Show.{head_lines, count_lines, count_lines_of};
 use ppdb_base::{Sink, WriteError};
 use ppdb_lines::Item::{Number, Table};
 use ppdb_lines::Part::Field;
-use ppdb_lines::{Printer, put_entry_line, put_id_line};
+use ppdb_lines::{Key, Printer, put_entry_line, put_id_line};
 use ppdb_tables::Tables;
 use ppdb_verify::Verified;
 
@@ -63,8 +63,8 @@ fn put_count<O: Sink>(
         return Ok(());
     }
     let parts = [
-        Field(" ", "table", Table(table)),
-        Field(" ", "count", Number(count)),
+        Field(" ", Key::Other("table"), Table(table)),
+        Field(" ", Key::Other("count"), Number(count)),
     ];
     printer.put_line(out, "rows", &[2, 0, 1], &parts)
 }

@@ -11,7 +11,7 @@ ghost use Rattle.ppdb_values.specs.Rules.{HasRow};
 use ppdb_base::{Sink, Steps, WriteError};
 use ppdb_lines::Item::Number;
 use ppdb_lines::Part::Field;
-use ppdb_lines::{Printer, put_use};
+use ppdb_lines::{Key, Printer, put_use};
 use ppdb_verify::Verified;
 use std::sync::ledger::Ledger;
 use type_blobs::ImportCursor;
@@ -31,8 +31,8 @@ pub(crate) fn put_import<O: Sink, L: Ledger>(
 {
     let import = import(file, row, steps);
     let parts = [
-        Field(" ", "row", Number(row)),
-        Field(" parent ", "parent", Number(import.parent)),
+        Field(" ", Key::Row, Number(row)),
+        Field(" parent ", Key::Other("parent"), Number(import.parent)),
     ];
     printer.put_line(out, "import", &[0, 2, 1], &parts)?;
     let mut imports = imports_of(file, row, &import);

@@ -13,7 +13,7 @@ ghost use Rattle.ppdb_values.specs.Rules.{HasRow};
 use ppdb_base::{Sink, Steps, WriteError};
 use ppdb_lines::Item::Number;
 use ppdb_lines::Part::{Field, Mark};
-use ppdb_lines::Printer;
+use ppdb_lines::{Key, Printer};
 use ppdb_tables::MethodDebugRow;
 use ppdb_verify::Verified;
 use sequence_points::{Point, PointCursor, Span};
@@ -38,8 +38,8 @@ pub(crate) fn put_method<O: Sink, L: Ledger>(
     }
     let mut points = points_of(file, row, &method);
     let parts = [
-        Field(" ", "method", Number(row)),
-        Field(" signature ", "signature", Number(points.signature())),
+        Field(" ", Key::Method, Number(row)),
+        Field(" signature ", Key::Signature, Number(points.signature())),
     ];
     printer.put_line(out, "method", &[0, 1, 2], &parts)?;
     put_points(printer, &mut points, out)
@@ -86,8 +86,8 @@ fn put_points<O: Sink>(
 fn put_point<O: Sink>(printer: Printer<'_>, point: Point, out: &mut O) -> Result<(), WriteError>
     ensures { Puts result (O.written out.old) (O.written out.new) (O.faults out.old) (O.faults out.new) (lines_as printer.entry.form (point_line point ∷ [])) }
 {
-    let offset = Field(" ", "offset", Number(point.offset));
-    let document = Field(" ", "document", Number(point.document));
+    let offset = Field(" ", Key::Offset, Number(point.offset));
+    let document = Field(" ", Key::Document, Number(point.document));
     match point.span {
         Span::Hidden => {
             let parts = [offset, document, Mark(" hidden")];
@@ -102,10 +102,10 @@ fn put_point<O: Sink>(printer: Printer<'_>, point: Point, out: &mut O) -> Result
             let parts = [
                 offset,
                 document,
-                Field(" ", "start_line", Number(start_line)),
-                Field(":", "start_column", Number(start_column)),
-                Field(" ", "end_line", Number(end_line)),
-                Field(":", "end_column", Number(end_column)),
+                Field(" ", Key::StartLine, Number(start_line)),
+                Field(":", Key::StartColumn, Number(start_column)),
+                Field(" ", Key::EndLine, Number(end_line)),
+                Field(":", Key::EndColumn, Number(end_column)),
             ];
             printer.put_line(out, "point", &[2, 6, 5, 0, 1, 4, 3], &parts)
         }

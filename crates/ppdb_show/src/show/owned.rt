@@ -11,7 +11,7 @@ ghost use Rattle.ppdb_values.specs.Rules.{HasRow};
 use ppdb_base::{Sink, Steps, WriteError};
 use ppdb_lines::Item::{Name, Number, Octets};
 use ppdb_lines::Part::Field;
-use ppdb_lines::Printer;
+use ppdb_lines::{Key, Printer};
 use ppdb_queries::Run;
 use ppdb_tables::{ScopeRow, Tables};
 use ppdb_verify::Verified;
@@ -156,15 +156,15 @@ fn put_variable<O: Sink, L: Ledger>(
 {
     let variable = variable(file, row, steps);
     let parts = [
-        Field(" ", "row", Number(row)),
-        Field(" scope ", "scope", Number(scope)),
-        Field(" slot ", "slot", Number(variable.slot as u32)),
+        Field(" ", Key::Row, Number(row)),
+        Field(" scope ", Key::Scope, Number(scope)),
+        Field(" slot ", Key::Slot, Number(variable.slot as u32)),
         Field(
             " attributes ",
-            "attributes",
+            Key::Attributes,
             Number(variable.attributes as u32),
         ),
-        Field(" name ", "name", Name(text(file, variable.name))),
+        Field(" name ", Key::Name, Name(text(file, variable.name))),
     ];
     printer.put_line(out, "variable", &[4, 0, 5, 1, 2, 3], &parts)
 }
@@ -185,14 +185,14 @@ fn put_constant<O: Sink, L: Ledger>(
 {
     let constant = constant(file, row, steps);
     let parts = [
-        Field(" ", "row", Number(row)),
-        Field(" scope ", "scope", Number(scope)),
+        Field(" ", Key::Row, Number(row)),
+        Field(" scope ", Key::Scope, Number(scope)),
         Field(
             " signature ",
-            "signature",
+            Key::Signature,
             Octets(blob(file, constant.signature)),
         ),
-        Field(" name ", "name", Name(text(file, constant.name))),
+        Field(" name ", Key::Name, Name(text(file, constant.name))),
     ];
     printer.put_line(out, "constant", &[0, 4, 1, 2, 3], &parts)
 }

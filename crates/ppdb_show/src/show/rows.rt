@@ -12,7 +12,7 @@ use crate::show::methods::put_method;
 use ppdb_base::{Sink, Steps, WriteError};
 use ppdb_lines::Item::{Guid, Number, Octets, Table};
 use ppdb_lines::Part::Field;
-use ppdb_lines::Printer;
+use ppdb_lines::{Key, Printer};
 use ppdb_tables::parent_of;
 use ppdb_verify::Verified;
 use std::sync::ledger::Ledger;
@@ -108,11 +108,11 @@ fn put_scope<O: Sink, L: Ledger>(
     file.keeps();
     let scope = scope(file, row, steps);
     let parts = [
-        Field(" ", "row", Number(row)),
-        Field(" method ", "method", Number(scope.method)),
-        Field(" import ", "import", Number(scope.import)),
-        Field(" range ", "start", Number(scope.start)),
-        Field(" ", "end", Number(scope.start + scope.length)),
+        Field(" ", Key::Row, Number(row)),
+        Field(" method ", Key::Method, Number(scope.method)),
+        Field(" import ", Key::Import, Number(scope.import)),
+        Field(" range ", Key::Start, Number(scope.start)),
+        Field(" ", Key::End, Number(scope.start + scope.length)),
     ];
     printer.put_line(out, "scope", &[5, 3, 0, 2, 1, 4], &parts)
 }
@@ -131,9 +131,9 @@ fn put_machine<O: Sink, L: Ledger>(
 {
     let machine = machine(file, row, steps);
     let parts = [
-        Field(" ", "row", Number(row)),
-        Field(" move ", "move", Number(machine.move_next)),
-        Field(" kickoff ", "kickoff", Number(machine.kickoff)),
+        Field(" ", Key::Row, Number(row)),
+        Field(" move ", Key::Other("move"), Number(machine.move_next)),
+        Field(" kickoff ", Key::Other("kickoff"), Number(machine.kickoff)),
     ];
     printer.put_line(out, "machine", &[3, 0, 2, 1], &parts)
 }
@@ -156,11 +156,11 @@ fn put_custom<O: Sink, L: Ledger>(
         unreachable!()
     };
     let parts = [
-        Field(" ", "row", Number(row)),
-        Field(" parent ", "parent_table", Table(parent.table)),
-        Field(" ", "parent_row", Number(parent.row)),
-        Field(" kind ", "kind", Guid(guid(file, custom.kind))),
-        Field(" value ", "value", Octets(blob(file, custom.value))),
+        Field(" ", Key::Row, Number(row)),
+        Field(" parent ", Key::ParentTable, Table(parent.table)),
+        Field(" ", Key::ParentRow, Number(parent.row)),
+        Field(" kind ", Key::Kind, Guid(guid(file, custom.kind))),
+        Field(" value ", Key::Value, Octets(blob(file, custom.value))),
     ];
     printer.put_line(out, "custom", &[4, 0, 3, 2, 1, 5], &parts)
 }

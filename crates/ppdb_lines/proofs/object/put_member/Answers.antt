@@ -7,11 +7,11 @@ use Rattle.ppdb_lines.specs.Views.{field_of}
 use Rattle.ppdb_lines.proofs.Places.{part_there, part_past, two_tokens, no_tokens}
 use Rattle.ppdb_lines.proofs.object.put_member.Goals as goal
 
-pub returns-in_ok-key-in-Some-Field-clause-ok : goal.returns-in_ok-key-in-Some-Field-clause-ok
-returns-in_ok-key-in-Some-Field-clause-ok c =
+pub returns-in_ok-put_key-in-Some-Field-clause-ok : goal.returns-in_ok-put_key-in-Some-Field-clause-ok
+returns-in_ok-put_key-in-Some-Field-clause-ok c =
     let here = rw c.in-Some-Field.is at c.get.ensures.lookup.1 in
     let there = rw c.in-Some-Field.is at c.get.ensures.lookup.0 in
-    two_tokens c.put_value.result _ _ _ _ _ _ c.in_ok-key-in-Some-Field.ensures.ok c.put_value.ensures.ok
+    two_tokens c.put_value.result _ _ _ _ _ _ c.in_ok-put_key-in-Some-Field.ensures.ok c.put_value.ensures.ok
     (part_there c.args.word.now c.args.parts.now c.args.place c.in-Some-Field.field-0.now c.if-place-eq0.false (ltb-true _ _ (sym there)) (sym here)
     ∙ ap (λ (part : Part). field_tokens (Some (field_of part))) c.in-Some-Field.field-0-is)
 
