@@ -25,3 +25,4 @@ key_text keys.StartColumn = codes "start_column"
 key_text keys.StartLine = codes "start_line"
 key_text keys.Value = codes "value"
 key_text (keys.Other text) = text.now
+key_text keys.None = codes ""

@@ -32,6 +32,8 @@ pub enum Key {
     Value,
     /// Another key.
     Other(&'static str),
+    /// None: the line of the field is put as text alone.
+    None,
 }
 
 /// Puts a key. What has a name is a constant where it is put, which is not looked through for what has to be escaped.
@@ -60,5 +62,6 @@ pub(crate) fn put_key(writer: &mut Writer, key: Key) -> Result<(), AllocError>
         Key::StartLine => writer.key("start_line"),
         Key::Value => writer.key("value"),
         Key::Other(text) => writer.key(text),
+        Key::None => writer.key(""),
     }
 }

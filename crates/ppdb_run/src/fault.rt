@@ -17,14 +17,14 @@ pub const ROWS: u8 = 5;
 pub fn put_refused<O: Sink>(out: &mut O, name: &str, fault: Fault) -> Result<(), WriteError>
     ensures { Puts result (O.written out.old) (O.written out.new) (O.faults out.old) (O.faults out.new) (text_of (refused_line name.now fault)) }
 {
-    let name = Field(" ", Key::Other(""), Name(name.as_bytes()));
-    let code = Field(" F", Key::Other(""), Number(u32::from(fault.code.number())));
+    let name = Field(" ", Key::None, Name(name.as_bytes()));
+    let code = Field(" F", Key::None, Number(u32::from(fault.code.number())));
     let place = fault.place;
-    let byte = Field(" byte ", Key::Other(""), Number(place.byte));
+    let byte = Field(" byte ", Key::None, Number(place.byte));
     if place.part == ROWS {
-        let table = Field(" table ", Key::Other(""), Table(place.table));
-        let row = Field(" row ", Key::Other(""), Number(place.row));
-        let column = Field(" column ", Key::Other(""), Number(u32::from(place.column)));
+        let table = Field(" table ", Key::None, Table(place.table));
+        let row = Field(" row ", Key::None, Number(place.row));
+        let column = Field(" column ", Key::None, Number(u32::from(place.column)));
         put_text_line(out, "refused", &[name, code, table, row, column, byte])
     } else {
         let part = Mark(part_name(place.part));

@@ -60,5 +60,5 @@ fn put_report<O: Sink>(out: &mut O, methods: u32, report: &SampleReport) -> Resu
 fn put_told<O: Sink>(out: &mut O, words: &str, item: Item<'_>) -> Result<(), WriteError>
     ensures { Puts result (O.written out.old) (O.written out.new) (O.faults out.old) (O.faults out.new) (text_of (told_line words.now (content_of item.entry))) }
 {
-    put_text_line(out, words, &[Field(" ", Key::Other(""), item)])
+    put_text_line(out, words, &[Field(" ", Key::None, item)])
 }

@@ -130,20 +130,16 @@ impl Stop<'_> {
 fn put_name<O: Sink>(out: &mut O, words: &str, name: &str) -> Result<(), WriteError>
     ensures { Puts result (O.written out.old) (O.written out.new) (O.faults out.old) (O.faults out.new) (text_of (about words.now name.now [])) }
 {
-    put_text_line(
-        out,
-        words,
-        &[Field(" ", Key::Other(""), Name(name.as_bytes()))],
-    )
+    put_text_line(out, words, &[Field(" ", Key::None, Name(name.as_bytes()))])
 }
 
 /// Puts the line of a map's text that has no reading.
 fn put_map<O: Sink>(out: &mut O, name: &str, line: u32, kind: u8) -> Result<(), WriteError>
     ensures { Puts result (O.written out.old) (O.written out.new) (O.faults out.old) (O.faults out.new) (text_of (map_line name.now line kind)) }
 {
-    let name = Field(" ", Key::Other(""), Name(name.as_bytes()));
-    let line = Field(" line ", Key::Other(""), Number(line));
-    let kind = Field(" kind ", Key::Other(""), Number(u32::from(kind)));
+    let name = Field(" ", Key::None, Name(name.as_bytes()));
+    let line = Field(" line ", Key::None, Number(line));
+    let kind = Field(" kind ", Key::None, Number(u32::from(kind)));
     put_text_line(out, "map", &[name, line, kind])
 }
 
@@ -151,18 +147,14 @@ fn put_map<O: Sink>(out: &mut O, name: &str, line: u32, kind: u8) -> Result<(), 
 fn put_no_method<O: Sink>(out: &mut O, method: u32) -> Result<(), WriteError>
     ensures { Puts result (O.written out.old) (O.written out.new) (O.faults out.old) (O.faults out.new) (text_of (no_method_line method)) }
 {
-    put_text_line(
-        out,
-        "no method",
-        &[Field(" ", Key::Other(""), Number(method))],
-    )
+    put_text_line(out, "no method", &[Field(" ", Key::None, Number(method))])
 }
 
 /// Puts the line of a Source Link record that gives no addresses.
 fn put_unlinked<O: Sink>(out: &mut O, name: &str, error: LinkError) -> Result<(), WriteError>
     ensures { Puts result (O.written out.old) (O.written out.new) (O.faults out.old) (O.faults out.new) (text_of (links_line name.now error)) }
 {
-    let name = Field(" ", Key::Other(""), Name(name.as_bytes()));
+    let name = Field(" ", Key::None, Name(name.as_bytes()));
     match error {
         LinkError::NotJson => put_text_line(out, "links", &[name, Mark(" not json")]),
         LinkError::Shape => put_text_line(out, "links", &[name, Mark(" shape")]),
@@ -174,8 +166,8 @@ fn put_unlinked<O: Sink>(out: &mut O, name: &str, error: LinkError) -> Result<()
 fn put_sizes<O: Sink>(out: &mut O, method: u32, first: u32, second: u32) -> Result<(), WriteError>
     ensures { Puts result (O.written out.old) (O.written out.new) (O.faults out.old) (O.faults out.new) (text_of (sizes_line method first second)) }
 {
-    let method = Field(" method ", Key::Other(""), Number(method));
-    let first = Field(" ", Key::Other(""), Number(first));
-    let second = Field(" ", Key::Other(""), Number(second));
+    let method = Field(" method ", Key::None, Number(method));
+    let first = Field(" ", Key::None, Number(first));
+    let second = Field(" ", Key::None, Number(second));
     put_text_line(out, "sizes differ", &[method, first, second])
 }

@@ -61,7 +61,7 @@ pub fn put_unfit<O: Sink>(out: &mut O, file: &str, error: MergeError) -> Result<
         E::Memory => put_text_line(
             out,
             "unfit",
-            &[Field(" ", Key::Other(""), Name(file.as_bytes()))],
+            &[Field(" ", Key::None, Name(file.as_bytes()))],
         ),
     }
 }
@@ -77,14 +77,14 @@ fn put_unmapped<O: Sink>(
     ensures { Puts result (O.written out.old) (O.written out.new) (O.faults out.old) (O.faults out.new)
         (text_of (unfit_line file.now (merge_errors.Unmapped table row place))) }
 {
-    let file = Field(" ", Key::Other(""), Name(file.as_bytes()));
-    let table = Field(" M1 table ", Key::Other(""), Table(table));
-    let row = Field(" row ", Key::Other(""), Number(row));
-    let byte = Field(" byte ", Key::Other(""), Number(place.byte));
+    let file = Field(" ", Key::None, Name(file.as_bytes()));
+    let table = Field(" M1 table ", Key::None, Table(table));
+    let row = Field(" row ", Key::None, Number(row));
+    let byte = Field(" byte ", Key::None, Number(place.byte));
     if place.part == ROWS {
-        let in_table = Field(" table ", Key::Other(""), Table(place.table));
-        let in_row = Field(" row ", Key::Other(""), Number(place.row));
-        let column = Field(" column ", Key::Other(""), Number(u32::from(place.column)));
+        let in_table = Field(" table ", Key::None, Table(place.table));
+        let in_row = Field(" row ", Key::None, Number(place.row));
+        let column = Field(" column ", Key::None, Number(u32::from(place.column)));
         put_text_line(
             out,
             "unfit",
@@ -117,11 +117,11 @@ fn put_image_twice<O: Sink>(
     ensures { Puts result (O.written out.old) (O.written out.new) (O.faults out.old) (O.faults out.new)
         (text_of (unfit_line file.now (merge_errors.ImageTwice table first second image))) }
 {
-    let file = Field(" ", Key::Other(""), Name(file.as_bytes()));
-    let table = Field(" M2 table ", Key::Other(""), Table(table));
-    let first = Field(" rows ", Key::Other(""), Number(first));
-    let second = Field(" ", Key::Other(""), Number(second));
-    let image = Field(" image ", Key::Other(""), Number(image));
+    let file = Field(" ", Key::None, Name(file.as_bytes()));
+    let table = Field(" M2 table ", Key::None, Table(table));
+    let first = Field(" rows ", Key::None, Number(first));
+    let second = Field(" ", Key::None, Number(second));
+    let image = Field(" image ", Key::None, Number(image));
     put_text_line(out, "unfit", &[file, table, first, second, image])
 }
 
@@ -137,11 +137,11 @@ fn put_method_taken<O: Sink>(
     ensures { Puts result (O.written out.old) (O.written out.new) (O.faults out.old) (O.faults out.new)
         (text_of (unfit_line file.now (merge_errors.MethodTaken input first second image))) }
 {
-    let file = Field(" ", Key::Other(""), Name(file.as_bytes()));
-    let input = Field(" M3 input ", Key::Other(""), Number(input));
-    let first = Field(" row ", Key::Other(""), Number(first));
-    let second = Field(" row ", Key::Other(""), Number(second));
-    let image = Field(" image ", Key::Other(""), Number(image));
+    let file = Field(" ", Key::None, Name(file.as_bytes()));
+    let input = Field(" M3 input ", Key::None, Number(input));
+    let first = Field(" row ", Key::None, Number(first));
+    let second = Field(" row ", Key::None, Number(second));
+    let image = Field(" image ", Key::None, Number(image));
     put_text_line(out, "unfit", &[file, input, first, second, image])
 }
 
@@ -156,10 +156,10 @@ fn put_offset_beyond<O: Sink>(
     ensures { Puts result (O.written out.old) (O.written out.new) (O.faults out.old) (O.faults out.new)
         (text_of (unfit_line file.now (merge_errors.OffsetBeyond method offset size))) }
 {
-    let file = Field(" ", Key::Other(""), Name(file.as_bytes()));
-    let method = Field(" M4 method ", Key::Other(""), Number(method));
-    let offset = Field(" offset ", Key::Other(""), Number(offset));
-    let size = Field(" size ", Key::Other(""), Number(size));
+    let file = Field(" ", Key::None, Name(file.as_bytes()));
+    let method = Field(" M4 method ", Key::None, Number(method));
+    let offset = Field(" offset ", Key::None, Number(offset));
+    let size = Field(" size ", Key::None, Number(size));
     put_text_line(out, "unfit", &[file, method, offset, size])
 }
 
@@ -173,9 +173,9 @@ fn put_async_lost<O: Sink>(
     ensures { Puts result (O.written out.old) (O.written out.new) (O.faults out.old) (O.faults out.new)
         (text_of (unfit_line file.now (merge_errors.AsyncLost method offset))) }
 {
-    let file = Field(" ", Key::Other(""), Name(file.as_bytes()));
-    let method = Field(" M5 method ", Key::Other(""), Number(method));
-    let offset = Field(" offset ", Key::Other(""), Number(offset));
+    let file = Field(" ", Key::None, Name(file.as_bytes()));
+    let method = Field(" M5 method ", Key::None, Number(method));
+    let offset = Field(" offset ", Key::None, Number(offset));
     put_text_line(out, "unfit", &[file, method, offset])
 }
 
@@ -189,9 +189,9 @@ fn put_kind_unknown<O: Sink>(
     ensures { Puts result (O.written out.old) (O.written out.new) (O.faults out.old) (O.faults out.new)
         (text_of (unfit_line file.now (merge_errors.KindUnknown row kind))) }
 {
-    let file = Field(" ", Key::Other(""), Name(file.as_bytes()));
-    let row = Field(" M6 row ", Key::Other(""), Number(row));
-    let kind = Field(" kind ", Key::Other(""), Guid(Some(kind)));
+    let file = Field(" ", Key::None, Name(file.as_bytes()));
+    let row = Field(" M6 row ", Key::None, Number(row));
+    let kind = Field(" kind ", Key::None, Guid(Some(kind)));
     put_text_line(out, "unfit", &[file, row, kind])
 }
 
@@ -205,9 +205,9 @@ fn put_document_conflict<O: Sink>(
     ensures { Puts result (O.written out.old) (O.written out.new) (O.faults out.old) (O.faults out.new)
         (text_of (unfit_line file.now (merge_errors.DocumentConflict row joined))) }
 {
-    let file = Field(" ", Key::Other(""), Name(file.as_bytes()));
-    let row = Field(" M7 document ", Key::Other(""), Number(row));
-    let joined = Field(" joined ", Key::Other(""), Number(joined));
+    let file = Field(" ", Key::None, Name(file.as_bytes()));
+    let row = Field(" M7 document ", Key::None, Number(row));
+    let joined = Field(" joined ", Key::None, Number(joined));
     put_text_line(out, "unfit", &[file, row, joined])
 }
 
@@ -223,10 +223,10 @@ fn put_rows_differ<O: Sink>(
     ensures { Puts result (O.written out.old) (O.written out.new) (O.faults out.old) (O.faults out.new)
         (text_of (unfit_line file.now (merge_errors.RowsDiffer input table first second))) }
 {
-    let file = Field(" ", Key::Other(""), Name(file.as_bytes()));
-    let table = Field(" M8 table ", Key::Other(""), Table(table));
-    let first = Field(" rows ", Key::Other(""), Number(first));
-    let second = Field(" ", Key::Other(""), Number(second));
+    let file = Field(" ", Key::None, Name(file.as_bytes()));
+    let table = Field(" M8 table ", Key::None, Table(table));
+    let first = Field(" rows ", Key::None, Number(first));
+    let second = Field(" ", Key::None, Number(second));
     put_text_line(out, "unfit", &[file, table, first, second])
 }
 
@@ -243,11 +243,11 @@ fn put_image_range<O: Sink>(
     ensures { Puts result (O.written out.old) (O.written out.new) (O.faults out.old) (O.faults out.new)
         (text_of (unfit_line file.now (merge_errors.ImageRange input table row image rows))) }
 {
-    let file = Field(" ", Key::Other(""), Name(file.as_bytes()));
-    let table = Field(" M9 table ", Key::Other(""), Table(table));
-    let row = Field(" row ", Key::Other(""), Number(row));
-    let image = Field(" image ", Key::Other(""), Number(image));
-    let rows = Field(" rows ", Key::Other(""), Number(rows));
+    let file = Field(" ", Key::None, Name(file.as_bytes()));
+    let table = Field(" M9 table ", Key::None, Table(table));
+    let row = Field(" row ", Key::None, Number(row));
+    let image = Field(" image ", Key::None, Number(image));
+    let rows = Field(" rows ", Key::None, Number(rows));
     put_text_line(out, "unfit", &[file, table, row, image, rows])
 }
 
@@ -261,9 +261,9 @@ fn put_slot_unmapped<O: Sink>(
     ensures { Puts result (O.written out.old) (O.written out.new) (O.faults out.old) (O.faults out.new)
         (text_of (unfit_line file.now (merge_errors.SlotUnmapped row slot))) }
 {
-    let file = Field(" ", Key::Other(""), Name(file.as_bytes()));
-    let row = Field(" M10 variable ", Key::Other(""), Number(row));
-    let slot = Field(" slot ", Key::Other(""), Number(u32::from(slot)));
+    let file = Field(" ", Key::None, Name(file.as_bytes()));
+    let row = Field(" M10 variable ", Key::None, Number(row));
+    let slot = Field(" slot ", Key::None, Number(u32::from(slot)));
     put_text_line(out, "unfit", &[file, row, slot])
 }
 
@@ -279,10 +279,10 @@ fn put_slot_twice<O: Sink>(
     ensures { Puts result (O.written out.old) (O.written out.new) (O.faults out.old) (O.faults out.new)
         (text_of (unfit_line file.now (merge_errors.SlotTwice method first second image))) }
 {
-    let file = Field(" ", Key::Other(""), Name(file.as_bytes()));
-    let method = Field(" M11 method ", Key::Other(""), Number(method));
-    let first = Field(" slots ", Key::Other(""), Number(u32::from(first)));
-    let second = Field(" ", Key::Other(""), Number(u32::from(second)));
-    let image = Field(" image ", Key::Other(""), Number(u32::from(image)));
+    let file = Field(" ", Key::None, Name(file.as_bytes()));
+    let method = Field(" M11 method ", Key::None, Number(method));
+    let first = Field(" slots ", Key::None, Number(u32::from(first)));
+    let second = Field(" ", Key::None, Number(u32::from(second)));
+    let image = Field(" image ", Key::None, Number(u32::from(image)));
     put_text_line(out, "unfit", &[file, method, first, second, image])
 }
