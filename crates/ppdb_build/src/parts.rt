@@ -1,11 +1,11 @@
 // The parts of a value, added to a draft table by table.
-ghost use Rattle.std.specs.Prelude.{◌≡◌, None, fold, All, OnOk, IfOk, IfErr};
+ghost use Rattle.std.specs.Prelude.{◌≡◌, None, fold, slice_index, All, OnOk, IfOk, IfErr};
 ghost use Rattle.std.specs.List.{filter_map};
 ghost use Rattle.sequence_points.specs.Written.{first_of};
 ghost use Rattle.ppdb_canon.specs.Limits.{large_step_of};
-ghost use Rattle.file_drafting.specs.Draft.{with_document, with_method, with_variable, with_scope, with_constant, with_constants};
-ghost use Rattle.file_drafting.specs.Draft.{with_import, with_machine, with_custom};
-ghost use Rattle.file_drafting.specs.Drafted.{drafted, with_methods};
+ghost use Rattle.file_drafting.specs.Draft.{empty_draft, with_document, with_method, with_all_methods, with_variable, with_scope};
+ghost use Rattle.file_drafting.specs.Draft.{with_constant, with_constants, with_import, with_machine, with_custom};
+ghost use Rattle.file_drafting.specs.Drafted.{drafted};
 ghost use Rattle.ppdb_build.specs.Building.{IsWritableMethod, IsWritableConstant, IsWritableScope, IsWritableImport, IsWritableCustom};
 ghost use Rattle.ppdb_build.specs.Building.{ArePartsWritable, IsLimit, after_methods};
 
@@ -146,26 +146,21 @@ fn add_customs(draft: &mut Drafting, customs: &[CustomValue]) -> Result<(), Memo
     Ok(())
 }
 
-/// Drafts the documents and the methods, up to the first step from line to line that has no form, L4.
-fn draft_methods(alloc: Global, value: &FileValue) -> Result<Drafting, BuildError>
+/// Adds the documents and the methods, up to the first step from line to line that has no form, L4.
+fn add_documents_and_methods(draft: &mut Drafting, value: &FileValue) -> Result<(), BuildError>
     requires { All IsWritableMethod value.now.methods }
-    ensures draft { IfOk result (λ draft. draft ≡ with_methods value.now) }
+    ensures added { OnOk result (draft.new ≡ with_all_methods (fold with_method (fold with_document draft.old value.now.documents) value.now.methods)
+        (slice_index value.now.rows 0x06)) }
     ensures none { OnOk result (first_of (filter_map large_step_of value.now.methods) ≡ None) }
     ensures limit { IfErr result (IsLimit (first_of (filter_map large_step_of value.now.methods))) }
 {
-    let mut draft = Drafting::new(alloc)?;
-    match add_documents(&mut draft, value.documents.as_slice()) {
-        Ok(()) => {}
-        Err(Memory) => return Err(BuildError::Memory),
-    }
-    match add_methods(&mut draft, value.methods.as_slice()) {
+    add_documents(draft, value.documents.as_slice())?;
+    match add_methods(draft, value.methods.as_slice()) {
         Ok(()) => {}
         Err(error) => return Err(error),
     }
-    match draft.end_methods(value.rows[0x06]) {
-        Ok(()) => Ok(draft),
-        Err(Memory) => Err(BuildError::Memory),
-    }
+    draft.end_methods(value.rows[0x06])?;
+    Ok(())
 }
 
 /// Adds the parts behind the methods.
@@ -181,18 +176,36 @@ fn add_rest(draft: &mut Drafting, value: &FileValue) -> Result<(), Memory>
     Ok(())
 }
 
-/// Drafts the file of a value, or answers the first step from line to line that has no form, L4.
+/// Adds all parts, table by table, up to the first step from line to line that has no form, L4.
 #[tactic(auto, unfolding(file_drafting::specs::Drafted::drafted))]
+fn add_parts(draft: &mut Drafting, value: &FileValue) -> Result<(), BuildError>
+    requires writable { ArePartsWritable value.now }
+    requires empty { draft.old ≡ empty_draft }
+    ensures drafted { OnOk result (draft.new ≡ drafted value.now) }
+    ensures none { OnOk result (first_of (filter_map large_step_of value.now.methods) ≡ None) }
+    ensures limit { IfErr result (IsLimit (first_of (filter_map large_step_of value.now.methods))) }
+{
+    match add_documents_and_methods(draft, value) {
+        Ok(()) => {}
+        Err(error) => return Err(error),
+    }
+    add_rest(draft, value)?;
+    Ok(())
+}
+
+/// Drafts the file of a value, or answers the first step from line to line that has no form, L4.
 pub(crate) fn draft_of(alloc: Global, value: &FileValue) -> Result<Drafting, BuildError>
     requires { ArePartsWritable value.now }
     ensures draft { IfOk result (λ draft. draft ≡ drafted value.now) }
     ensures none { OnOk result (first_of (filter_map large_step_of value.now.methods) ≡ None) }
     ensures limit { IfErr result (IsLimit (first_of (filter_map large_step_of value.now.methods))) }
 {
-    let mut draft = match draft_methods(alloc, value) {
+    let mut draft = match Drafting::new(alloc) {
         Ok(draft) => draft,
-        Err(error) => return Err(error),
+        Err(Memory) => return Err(BuildError::Memory),
     };
-    add_rest(&mut draft, value)?;
-    Ok(draft)
+    match add_parts(&mut draft, value) {
+        Ok(()) => Ok(draft),
+        Err(error) => Err(error),
+    }
 }

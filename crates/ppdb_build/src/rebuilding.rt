@@ -16,7 +16,7 @@ ghost use Rattle.ppdb_build.specs.Building.{IsLimitOf, IsDraftedFrom, early_limi
 use crate::error::BuildError;
 use crate::finish::file_of_draft;
 use file_drafting::Drafting;
-use ppdb_base::{Bytes, Limit, Steps};
+use ppdb_base::{Bytes, Limit, Memory, Steps};
 use ppdb_canon::IdChoice;
 use ppdb_tables::PdbHead;
 use ppdb_verify::Verified;
@@ -55,6 +55,34 @@ fn early_limit_in(file: &Verified<'_>, draft: &Drafting) -> Option<Limit>
     list_limit(draft)
 }
 
+/// The file of the draft of a verified file, or the first limit that it passes.
+fn bytes_of(
+    alloc: Global,
+    file: &Verified<'_>,
+    draft: &Drafting,
+    id: IdChoice,
+) -> Result<Bytes, BuildError>
+    requires draft { IsDraftOf (value_in (raw_file file.now)) draft.now }
+    requires types { HasTypes (value_in (raw_file file.now)) }
+    ensures written { IfOk result (λ bytes. bytes ≡ canon (value_in (raw_file file.now)) id) }
+    ensures within { OnOk result (first_limit (value_in (raw_file file.now)) ≡ None) }
+    ensures limit { IfErr result (IsLimitOf (value_in (raw_file file.now))) }
+    ensures accepted { IfOk result (λ bytes. IsAccepted (BadFile bytes)) }
+    ensures reread { IfOk result (λ bytes. Says bytes (with_id (value_in (raw_file file.now)) (chosen_id (value_in (raw_file file.now)) id))) }
+    ensures again { IfOk result (λ bytes. (again : RawFile) → IsRawOf bytes again → IsSameAgain (value_in (raw_file file.now)) id again) }
+{
+    match early_limit_in(file, draft) {
+        Some(limit) => return Err(BuildError::Limit(limit)),
+        None => {}
+    }
+    let head = file.head();
+    is_drafted(file, head, draft);
+    match file_of_draft(alloc, head, draft, id) {
+        Ok(bytes) => Ok(bytes),
+        Err(error) => Err(error),
+    }
+}
+
 /// The one file that says what a verified file says, with the identity that is chosen. As many rows are read as its tables have, and no
 /// value of it is made.
 ///
@@ -75,15 +103,9 @@ pub fn rebuild<L: Ledger>(
     ensures reread { IfOk result (λ bytes. Says bytes (with_id (value_in (raw_file file.now)) (chosen_id (value_in (raw_file file.now)) id))) }
     ensures again { IfOk result (λ bytes. (again : RawFile) → IsRawOf bytes again → IsSameAgain (value_in (raw_file file.now)) id again) }
 {
-    let draft = draft_of_file(alloc, file, steps)?;
-    match early_limit_in(file, &draft) {
-        Some(limit) => return Err(BuildError::Limit(limit)),
-        None => {}
-    }
-    let head = file.head();
-    is_drafted(file, head, &draft);
-    match file_of_draft(alloc, head, &draft, id) {
-        Ok(bytes) => Ok(bytes),
-        Err(error) => Err(error),
-    }
+    let draft = match draft_of_file(alloc, file, steps) {
+        Ok(draft) => draft,
+        Err(Memory) => return Err(BuildError::Memory),
+    };
+    bytes_of(alloc, file, &draft, id)
 }

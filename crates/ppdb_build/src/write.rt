@@ -7,13 +7,16 @@ ghost use Rattle.ppdb_base.specs.First.{IsAccepted};
 ghost use Rattle.ppdb_values.specs.RawFile.{RawFile};
 ghost use Rattle.ppdb_verify.specs.Files.{BadFile, IsRawOf};
 ghost use Rattle.written_files.specs.Written.{IsSameAgain, Says};
-ghost use Rattle.ppdb_canon.specs.Limits.{first_limit};
+ghost use Rattle.std.specs.List.{filter_map};
+ghost use Rattle.sequence_points.specs.Written.{first_of};
+ghost use Rattle.ppdb_canon.specs.Limits.{first_limit, large_step_of};
+ghost use Rattle.file_drafting.specs.Drafted.{drafted};
 ghost use Rattle.ppdb_build.specs.Building.{IsLimitOf, ArePartsWritable, early_limit_of};
 
 use crate::error::BuildError;
 use crate::finish::file_of_draft;
 use crate::parts::draft_of;
-use file_drafting::drafts_are_canonical;
+use file_drafting::{Drafting, drafts_are_canonical};
 use ppdb_base::{Bytes, Limit};
 use ppdb_canon::IdChoice;
 use ppdb_tables::PdbHead;
@@ -40,6 +43,37 @@ fn parts_are_writable(value: &FileValue)
     sound_parts_can_be_written();
 }
 
+/// The file of a value that passes no limit up to L4, from its draft.
+fn bytes_of(
+    alloc: Global,
+    value: &FileValue,
+    draft: &Drafting,
+    id: IdChoice,
+) -> Result<Bytes, BuildError>
+    requires sound { IsSound value.now }
+    requires types { HasTypes value.now }
+    requires early { early_limit_of value.now ≡ None }
+    requires steps { first_of (filter_map large_step_of value.now.methods) ≡ None }
+    requires draft { draft.now ≡ drafted value.now }
+    ensures written { IfOk result (λ bytes. bytes ≡ canon value.now id) }
+    ensures within { OnOk result (first_limit value.now ≡ None) }
+    ensures limit { IfErr result (IsLimitOf value.now) }
+    ensures accepted { IfOk result (λ bytes. IsAccepted (BadFile bytes)) }
+    ensures reread { IfOk result (λ bytes. Says bytes (with_id value.now (chosen_id value.now id))) }
+    ensures again { IfOk result (λ bytes. (again : RawFile) → IsRawOf bytes again → IsSameAgain value.now id again) }
+{
+    drafts_are_canonical();
+    let head = PdbHead {
+        id: value.id,
+        entry: value.entry,
+        rows: value.rows,
+    };
+    match file_of_draft(alloc, &head, draft, id) {
+        Ok(file) => Ok(file),
+        Err(error) => Err(error),
+    }
+}
+
 /// The one file of a sound value, with the identity that is chosen.
 ///
 /// # Errors
@@ -64,14 +98,5 @@ pub fn write_file(alloc: Global, value: &FileValue, id: IdChoice) -> Result<Byte
         Ok(draft) => draft,
         Err(error) => return Err(error),
     };
-    drafts_are_canonical();
-    let head = PdbHead {
-        id: value.id,
-        entry: value.entry,
-        rows: value.rows,
-    };
-    match file_of_draft(alloc, &head, &draft, id) {
-        Ok(file) => Ok(file),
-        Err(error) => Err(error),
-    }
+    bytes_of(alloc, value, &draft, id)
 }

@@ -1,11 +1,12 @@
 // The draft of a verified file.
-ghost use Rattle.std.specs.Prelude.{◌≡◌, ◌+◌, fold, length, All, IfOk, OnOk};
+ghost use Rattle.std.specs.Prelude.{◌≡◌, ◌+◌, fold, length, slice_index, All, IfOk, OnOk};
 ghost use Rattle.ppdb_values.specs.Types.{IsNarrow, HasTypes};
 ghost use Rattle.ppdb_values.specs.Value.{value_of};
 ghost use Rattle.ppdb_verify.specs.Views.{raw_file};
 ghost use Rattle.value_reading.specs.Totals.{row_total};
+ghost use Rattle.file_drafting.specs.Draft.{empty_draft, with_document, with_method, with_all_methods};
 ghost use Rattle.file_drafting.specs.Draft.{with_scope, with_constants, with_import, with_machine, with_custom};
-ghost use Rattle.file_drafting.specs.Drafted.{with_methods, IsDraftOf};
+ghost use Rattle.file_drafting.specs.Drafted.{drafted, IsDraftOf};
 
 use crate::constants::add_constants;
 use crate::documents::add_documents;
@@ -21,21 +22,22 @@ use std::sync::ledger::Ledger;
 use value_reading::scopes_own_their_lists;
 use verified_rows::count;
 
-/// Drafts the documents and the methods.
-fn draft_methods<L: Ledger>(
+/// Adds the documents and the methods.
+fn add_documents_and_methods<L: Ledger>(
     alloc: Global,
     file: &Verified<'_>,
+    draft: &mut Drafting,
     steps: &mut Steps<L>,
-) -> Result<Drafting, Memory>
-    ensures draft { IfOk result (λ draft. draft ≡ with_methods (value_of (raw_file file.now))) }
+) -> Result<(), Memory>
+    ensures added { OnOk result (draft.new ≡ with_all_methods (fold with_method (fold with_document draft.old (value_of (raw_file file.now)).documents)
+        (value_of (raw_file file.now)).methods) (slice_index (value_of (raw_file file.now)).rows 0x06)) }
     ensures cost { OnOk result (steps.new ≡ steps.old + (length (raw_file file.now).tables.documents + length (raw_file file.now).tables.methods)) }
 {
     file.keeps();
-    let mut draft = Drafting::new(alloc)?;
-    add_documents(alloc, file, &mut draft, steps)?;
-    add_methods(alloc, file, &mut draft, steps)?;
+    add_documents(alloc, file, draft, steps)?;
+    add_methods(alloc, file, draft, steps)?;
     draft.end_methods(count(file, 0x06))?;
-    Ok(draft)
+    Ok(())
 }
 
 /// Adds the scopes and what they own.
@@ -83,6 +85,25 @@ fn id_is_long(file: &Verified<'_>)
     let _id: &[u8] = &file.head().id;
 }
 
+/// Adds all parts, table by table.
+fn add_parts<L: Ledger>(
+    alloc: Global,
+    file: &Verified<'_>,
+    draft: &mut Drafting,
+    steps: &mut Steps<L>,
+) -> Result<(), Memory>
+    requires { draft.old ≡ empty_draft }
+    ensures drafted { OnOk result (draft.new ≡ drafted (value_of (raw_file file.now))) }
+    ensures narrow { OnOk result (All (λ scope. All IsNarrow scope.variables) (value_of (raw_file file.now)).scopes) }
+    ensures rows { OnOk result (steps.new ≡ steps.old + row_total (raw_file file.now).tables) }
+{
+    file.keeps();
+    add_documents_and_methods(alloc, file, draft, steps)?;
+    add_lists(alloc, file, draft, steps)?;
+    add_others(alloc, file, draft, steps)?;
+    Ok(())
+}
+
 /// The draft of a file's value, made from its rows, of which as many are read as there are: a part at a time, and never the whole value.
 pub fn draft_of_file<L: Ledger>(
     alloc: Global,
@@ -98,8 +119,12 @@ pub fn draft_of_file<L: Ledger>(
     values_have_types();
     scopes_own_their_lists();
     id_is_long(file);
-    let mut draft = draft_methods(alloc, file, steps)?;
-    add_lists(alloc, file, &mut draft, steps)?;
-    add_others(alloc, file, &mut draft, steps)?;
-    Ok(draft)
+    let mut draft = match Drafting::new(alloc) {
+        Ok(draft) => draft,
+        Err(error) => return Err(error),
+    };
+    match add_parts(alloc, file, &mut draft, steps) {
+        Ok(()) => Ok(draft),
+        Err(error) => Err(error),
+    }
 }
