@@ -7,7 +7,7 @@ use crate::stop::Stop;
 use file_layout::{HeapLens, Rows, all_rows_fit, file_len, put_front};
 use metadata_root::read_root;
 use ppdb_base::{Bytes, Memory, Steps};
-use ppdb_tables::{read_head, read_tables};
+use ppdb_tables::{PdbHead, Tables, read_head, read_tables};
 use std::alloc::Global;
 use std::sync::ledger::Ledger;
 
@@ -28,6 +28,47 @@ fn front(
     Ok(bytes)
 }
 
+/// Whether the tables have these rows.
+fn have_rows<L: Ledger>(
+    alloc: Global,
+    tables: &Tables<'_>,
+    rows: &Rows,
+    steps: &mut Steps<L>,
+) -> Result<bool, Memory> {
+    let again = match rows_of(alloc, tables, steps) {
+        Ok(again) => again,
+        Err(error) => return Err(error),
+    };
+    Ok(are_same(&again, rows))
+}
+
+/// Whether a file that is laid out from the head, the rows and the heaps of a root is read as these.
+fn is_same_again<L: Ledger>(
+    alloc: Global,
+    head: &PdbHead,
+    counts: &[u32; 64],
+    rows: &Rows,
+    heaps: [&[u8]; 3],
+    steps: &mut Steps<L>,
+) -> Result<bool, Stop> {
+    let mut bytes = front(alloc, head.id, head.entry, counts, rows, lens_of(heaps))?;
+    for heap in heaps {
+        bytes.append(heap)?;
+    }
+    if bytes.len() > 134_217_728 {
+        return Ok(false);
+    }
+    let root = read_root(bytes.as_slice())?;
+    let again = read_head(&root)?;
+    let tables = match read_tables(&root, &again) {
+        Ok(tables) => tables,
+        Err(fault) => return Err(Stop::Fault(fault)),
+    };
+    let same_rows = have_rows(alloc, &tables, rows, steps)?;
+    let same_head = again.id == head.id && again.entry == head.entry;
+    Ok(same_rows && same_head && heaps_of(&root) == heaps && counts_of(&tables) == *counts)
+}
+
 /// Whether the file, laid out again with its own rows and heaps, is read as the same head, rows and heaps.
 pub fn is_read_again<L: Ledger>(
     alloc: Global,
@@ -43,21 +84,9 @@ pub fn is_read_again<L: Ledger>(
         Err(fault) => return Err(Stop::Fault(fault)),
     };
     let (counts, heaps) = (counts_of(&tables), heaps_of(&root));
-    let rows = rows_of(alloc, &tables, steps)?;
-    let mut bytes = front(alloc, head.id, head.entry, &counts, &rows, lens_of(heaps))?;
-    for heap in heaps {
-        bytes.append(heap)?;
-    }
-    if bytes.len() > 134_217_728 {
-        return Ok(false);
-    }
-    let root = read_root(bytes.as_slice())?;
-    let again = read_head(&root)?;
-    let tables = match read_tables(&root, &again) {
-        Ok(tables) => tables,
-        Err(fault) => return Err(Stop::Fault(fault)),
+    let rows = match rows_of(alloc, &tables, steps) {
+        Ok(rows) => rows,
+        Err(Memory) => return Err(Stop::Memory),
     };
-    let same_rows = are_same(&rows_of(alloc, &tables, steps)?, &rows);
-    let same_head = again.id == head.id && again.entry == head.entry;
-    Ok(same_rows && same_head && heaps_of(&root) == heaps && counts_of(&tables) == counts)
+    is_same_again(alloc, &head, &counts, &rows, heaps, steps)
 }

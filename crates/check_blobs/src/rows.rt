@@ -26,13 +26,9 @@ macro_rules! read_all {
     };
 }
 
-/// The rows of each table.
-pub fn rows_of<L: Ledger>(
-    alloc: Global,
-    tables: &Tables<'_>,
-    steps: &mut Steps<L>,
-) -> Result<Rows, Memory> {
-    let mut rows = Rows {
+/// No rows.
+fn no_rows(alloc: Global) -> Rows {
+    Rows {
         documents: List::new(alloc),
         methods: List::new(alloc),
         scopes: List::new(alloc),
@@ -41,7 +37,15 @@ pub fn rows_of<L: Ledger>(
         imports: List::new(alloc),
         machines: List::new(alloc),
         customs: List::new(alloc),
-    };
+    }
+}
+
+/// Adds the rows of each table.
+fn add_rows<L: Ledger>(
+    tables: &Tables<'_>,
+    rows: &mut Rows,
+    steps: &mut Steps<L>,
+) -> Result<(), Memory> {
     read_all!(tables, DOCUMENT, document, rows.documents, steps);
     read_all!(tables, METHOD_DEBUG, method_debug, rows.methods, steps);
     read_all!(tables, LOCAL_SCOPE, scope, rows.scopes, steps);
@@ -50,7 +54,20 @@ pub fn rows_of<L: Ledger>(
     read_all!(tables, IMPORT_SCOPE, import, rows.imports, steps);
     read_all!(tables, STATE_MACHINE, machine, rows.machines, steps);
     read_all!(tables, CUSTOM, custom, rows.customs, steps);
-    Ok(rows)
+    Ok(())
+}
+
+/// The rows of each table.
+pub fn rows_of<L: Ledger>(
+    alloc: Global,
+    tables: &Tables<'_>,
+    steps: &mut Steps<L>,
+) -> Result<Rows, Memory> {
+    let mut rows = no_rows(alloc);
+    match add_rows(tables, &mut rows, steps) {
+        Ok(()) => Ok(rows),
+        Err(error) => Err(error),
+    }
 }
 
 /// Whether two files have the same rows.
