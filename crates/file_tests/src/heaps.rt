@@ -9,10 +9,9 @@ use std::process::Abort;
 #[test]
 fn texts_end_at_their_zero(rt: HostRuntime) {
     let strings = Strings::new(b"\0xy\0z");
-    assert_eq!(rt; strings.get(0).unwrap_or(b"none"), b"".as_slice());
-    assert_eq!(rt; strings.get(1).unwrap_or(b"none"), b"xy".as_slice());
-    assert_eq!(rt; strings.get(2).unwrap_or(b"none"), b"y".as_slice());
-    assert_eq!(rt; strings.get(3).unwrap_or(b"none"), b"".as_slice());
+    for (index, text) in [(0, b"".as_slice()), (1, b"xy"), (2, b"y"), (3, b"")] {
+        assert_eq!(rt; strings.get(index), Some(text));
+    }
     assert!(rt; strings.get(4).is_none());
     assert!(rt; strings.get(9).is_none());
 }
@@ -20,12 +19,12 @@ fn texts_end_at_their_zero(rt: HostRuntime) {
 #[test]
 fn blobs_follow_their_length(rt: HostRuntime) {
     let blobs = Blobs::new(&[0, 1, 0x61, 0x80, 1, 0x62, 2, 0x63]);
-    assert_eq!(rt; blobs.get(0).unwrap_or(b"none"), b"".as_slice());
-    assert_eq!(rt; blobs.get(1).unwrap_or(b"none"), b"a".as_slice());
-    assert_eq!(rt; blobs.get(3).unwrap_or(b"none"), b"b".as_slice());
-    assert!(rt; blobs.get(2).is_none());
-    assert!(rt; blobs.get(6).is_none());
-    assert!(rt; blobs.get(8).is_none());
+    for (index, blob) in [(0, b"".as_slice()), (1, b"a"), (3, b"b")] {
+        assert_eq!(rt; blobs.get(index), Some(blob));
+    }
+    for index in [2, 6, 8] {
+        assert!(rt; blobs.get(index).is_none());
+    }
     assert!(rt; Blobs::new(&[0, 0xdf, 0xff, 0xff, 0xff, 0]).get(1).is_none());
 }
 

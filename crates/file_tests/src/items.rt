@@ -49,19 +49,25 @@ fn a_hash_that_equals_a_part_is_one_item(rt: HostRuntime) {
     assert!(rt; bytes.is_ok_and(|bytes| bytes.as_slice() == expected));
 }
 
-/// The indexes of blobs of so many zeros, one after another behind the empty one, and how long their heap is.
-fn indexes(alloc: Global) -> Result<([u64; 5], u64), Memory> {
-    let mut heap = Heap::new(alloc, HeapKind::Blobs);
+/// The indexes of blobs of so many zeros, one after another behind the empty one.
+fn use_zeros(heap: &mut Heap) -> Result<[u64; 5], Memory> {
     heap.use_item(&[])?;
     let zeros = [0; 16384];
-    let indexes = [
-        heap.use_item(&zeros[..127])?,
-        heap.use_item(&zeros[..128])?,
-        heap.use_item(&zeros[..16383])?,
-        heap.use_item(&zeros)?,
-        heap.use_item(&zeros[..128])?,
-    ];
-    Ok((indexes, heap.len()))
+    let first = heap.use_item(&zeros[..127])?;
+    let second = heap.use_item(&zeros[..128])?;
+    let third = heap.use_item(&zeros[..16383])?;
+    let fourth = heap.use_item(&zeros)?;
+    let again = heap.use_item(&zeros[..128])?;
+    Ok([first, second, third, fourth, again])
+}
+
+/// The same in a heap of its own, and how long that is.
+fn indexes(alloc: Global) -> Result<([u64; 5], u64), Memory> {
+    let mut heap = Heap::new(alloc, HeapKind::Blobs);
+    match use_zeros(&mut heap) {
+        Ok(indexes) => Ok((indexes, heap.len())),
+        Err(error) => Err(error),
+    }
 }
 
 #[test]
@@ -70,39 +76,40 @@ fn lengths_have_one_two_and_four_bytes(rt: HostRuntime) {
     assert!(rt; indexes(rt.alloc()).is_ok_and(|got| got == expected));
 }
 
-/// The numbers of some GUIDs, two of which are one, and their bytes.
-fn numbers(alloc: Global) -> Result<([u32; 3], Bytes, u64), Memory> {
-    let mut heap = GuidHeap::new(alloc);
-    let numbers = [
-        heap.use_guid(&[1; 16])?,
-        heap.use_guid(&[2; 16])?,
-        heap.use_guid(&[1; 16])?,
-    ];
-    let mut bytes = Bytes::new(alloc);
-    heap.put(&mut bytes)?;
-    Ok((numbers, bytes, heap.len()))
+/// The numbers of some GUIDs, two of which are one, whose bytes are put.
+fn use_guids(heap: &mut GuidHeap, bytes: &mut Bytes) -> Result<[u32; 3], Memory> {
+    let first = heap.use_guid(&[1; 16])?;
+    let second = heap.use_guid(&[2; 16])?;
+    let third = heap.use_guid(&[1; 16])?;
+    heap.put(bytes)?;
+    Ok([first, second, third])
 }
 
 #[test]
 fn guids_are_numbered_from_one(rt: HostRuntime) {
     let mut expected = [1; 32];
     expected[16..].fill(2);
-    let got = numbers(rt.alloc());
-    assert!(rt;
-        got.is_ok_and(|(numbers, bytes, len)| numbers == [1, 2, 1]
-            && bytes.as_slice() == expected.as_slice()
-            && len == 32)
-    );
+    let mut heap = GuidHeap::new(rt.alloc());
+    let mut bytes = Bytes::new(rt.alloc());
+    assert_eq!(rt; use_guids(&mut heap, &mut bytes), Ok([1, 2, 1]));
+    assert_eq!(rt; bytes.as_slice(), expected.as_slice());
+    assert_eq!(rt; heap.len(), 32);
+}
+
+/// The indexes of some texts, whose bytes are put.
+fn use_texts(heap: &mut Heap, bytes: &mut Bytes) -> Result<[u64; 3], Memory> {
+    let none = heap.use_item(b"")?;
+    let long = heap.use_item(b"xy")?;
+    let short = heap.use_item(b"y")?;
+    heap.put(bytes)?;
+    Ok([none, long, short])
 }
 
 #[test]
 fn texts_end_with_a_zero(rt: HostRuntime) {
     let mut heap = Heap::new(rt.alloc(), HeapKind::Texts);
     let mut bytes = Bytes::new(rt.alloc());
-    assert!(rt; heap.use_item(b"").is_ok_and(|index| index == 0));
-    assert!(rt; heap.use_item(b"xy").is_ok_and(|index| index == 1));
-    assert!(rt; heap.use_item(b"y").is_ok_and(|index| index == 4));
-    assert!(rt; heap.put(&mut bytes).is_ok());
+    assert_eq!(rt; use_texts(&mut heap, &mut bytes), Ok([0, 1, 4]));
     assert_eq!(rt; bytes.as_slice(), b"\x00xy\x00y\x00".as_slice());
     assert_eq!(rt; heap.len(), 6);
 }

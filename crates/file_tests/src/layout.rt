@@ -3,6 +3,7 @@ use file_layout::{HeapLens, Rows, all_rows_fit, file_len, put_front};
 use ppdb_base::{Bytes, List, Memory};
 use ppdb_tables::{DocumentRow, MachineRow, MethodDebugRow, ScopeRow, VariableRow};
 use std::alloc::Global;
+use std::process::Abort;
 use worked_files::{EMPTY, SMALL};
 
 fn no_rows(alloc: Global) -> Rows {
@@ -18,9 +19,8 @@ fn no_rows(alloc: Global) -> Rows {
     }
 }
 
-/// The rows of the small worked file.
-fn small_rows(alloc: Global) -> Result<Rows, Memory> {
-    let mut rows = no_rows(alloc);
+/// Adds the rows of the small worked file.
+fn add_small_rows(rows: &mut Rows) -> Result<(), Memory> {
     rows.documents.push(DocumentRow {
         name: 5,
         algorithm: 0,
@@ -48,7 +48,7 @@ fn small_rows(alloc: Global) -> Result<Rows, Memory> {
             name,
         })?;
     }
-    Ok(rows)
+    Ok(())
 }
 
 /// All bytes before the heaps, where the rows fit and the file is not too large.
@@ -67,6 +67,22 @@ fn front(
     Ok(bytes)
 }
 
+/// Fails where a file has not this length and not these bytes before its heaps.
+fn is_laid_out(
+    rt: &impl Abort,
+    alloc: Global,
+    entry: u32,
+    counts: &[u32; 64],
+    rows: &Rows,
+    heaps: HeapLens,
+    want: (u64, &[u8]),
+) {
+    let (len, bytes) = want;
+    assert_eq!(rt; file_len(counts, rows, heaps), len);
+    let got = front(alloc, entry, counts, rows, heaps);
+    assert!(rt; got.is_ok_and(|got| got.as_slice() == bytes));
+}
+
 #[test]
 fn worked_files_are_laid_out(rt: HostRuntime) {
     let heaps = HeapLens {
@@ -74,10 +90,9 @@ fn worked_files_are_laid_out(rt: HostRuntime) {
         guids: 0,
         blobs: 4,
     };
-    let rows = no_rows(rt.alloc());
-    assert_eq!(rt; file_len(&[0; 64], &rows, heaps), 176);
-    let empty = front(rt.alloc(), 0, &[0; 64], &rows, heaps);
-    assert!(rt; empty.is_ok_and(|bytes| bytes.as_slice() == &EMPTY[..168]));
+    let mut rows = no_rows(rt.alloc());
+    let want = (176, &EMPTY[..168]);
+    is_laid_out(&rt, rt.alloc(), 0, &[0; 64], &rows, heaps, want);
 
     let heaps = HeapLens {
         texts: 8,
@@ -88,10 +103,37 @@ fn worked_files_are_laid_out(rt: HostRuntime) {
     for (table, count) in [(0x06, 1), (0x30, 1), (0x31, 1), (0x32, 2), (0x33, 2)] {
         counts[table] = count;
     }
-    if let Ok(rows) = small_rows(rt.alloc()) {
-        assert_eq!(rt; file_len(&counts, &rows, heaps), 280);
-        let small = front(rt.alloc(), 1, &counts, &rows, heaps);
-        assert!(rt; small.is_ok_and(|bytes| bytes.as_slice() == &SMALL[..244]));
+    assert!(rt; add_small_rows(&mut rows).is_ok());
+    let want = (280, &SMALL[..244]);
+    is_laid_out(&rt, rt.alloc(), 1, &counts, &rows, heaps, want);
+}
+
+/// Fails where a file of this state machine has another length.
+fn machine_has_width(rt: &impl Abort, rows: &Rows) {
+    for (methods, len) in [(65535, 188), (65536, 192)] {
+        let mut counts = [0; 64];
+        counts[0x06] = methods;
+        counts[0x36] = 1;
+        let heaps = HeapLens {
+            texts: 4,
+            guids: 0,
+            blobs: 4,
+        };
+        assert_eq!(rt; file_len(&counts, rows, heaps), len);
+    }
+}
+
+/// Fails where a file of this document has another length.
+fn document_has_width(rt: &impl Abort, rows: &Rows) {
+    for (blobs, len) in [(65532, 65716), (65536, 65724), (65540, 65728)] {
+        let mut counts = [0; 64];
+        counts[0x30] = 1;
+        let heaps = HeapLens {
+            texts: 4,
+            guids: 0,
+            blobs,
+        };
+        assert_eq!(rt; file_len(&counts, rows, heaps), len);
     }
 }
 
@@ -103,17 +145,8 @@ fn widths_go_by_rows_and_heaps(rt: HostRuntime) {
         kickoff: 1,
     };
     assert!(rt; rows.machines.push(machine).is_ok());
-    for (methods, len) in [(65535, 188), (65536, 192)] {
-        let mut counts = [0; 64];
-        counts[0x06] = methods;
-        counts[0x36] = 1;
-        let heaps = HeapLens {
-            texts: 4,
-            guids: 0,
-            blobs: 4,
-        };
-        assert_eq!(rt; file_len(&counts, &rows, heaps), len);
-    }
+    machine_has_width(&rt, &rows);
+
     let mut rows = no_rows(rt.alloc());
     let document = DocumentRow {
         name: 3,
@@ -122,14 +155,5 @@ fn widths_go_by_rows_and_heaps(rt: HostRuntime) {
         language: 0,
     };
     assert!(rt; rows.documents.push(document).is_ok());
-    for (blobs, len) in [(65532, 65716), (65536, 65724), (65540, 65728)] {
-        let mut counts = [0; 64];
-        counts[0x30] = 1;
-        let heaps = HeapLens {
-            texts: 4,
-            guids: 0,
-            blobs,
-        };
-        assert_eq!(rt; file_len(&counts, &rows, heaps), len);
-    }
+    document_has_width(&rt, &rows);
 }

@@ -1,72 +1,111 @@
 // What is written of values at the limits of the format and of its widths.
-use crate::parts::{custom, empty, lines, point, scope, variable};
+use crate::parts::{add_variable, bytes, custom, empty, lines, point, scope};
 use custom_info::SOURCE_LINK;
 use ppdb_base::{Bytes, List, Memory};
 use ppdb_build::{
-    BuildError, CustomBody, DocumentValue, FileValue, IdChoice, Limit, MethodValue, sound,
-    write_file,
+    BuildError, CustomBody, DocumentValue, FileValue, IdChoice, Limit, MethodValue, VariableValue,
+    sound, write_file,
 };
 use ppdb_tables::MachineRow;
+use sequence_points::Point;
 use std::alloc::Global;
 
-/// The file of a sound value, or the limit that the value passes; of another value nothing.
-fn written(alloc: Global, value: &FileValue) -> Result<Option<Result<Bytes, Limit>>, Memory> {
+/// How long the file of a sound value is, or the limit that the value passes; of another value nothing.
+fn written(alloc: Global, value: &FileValue) -> Result<Option<Result<usize, Limit>>, Memory> {
     let is_sound = sound(alloc, value)?;
     if !is_sound {
         return Ok(None);
     }
     match write_file(alloc, value, IdChoice::Keep) {
-        Ok(bytes) => Ok(Some(Ok(bytes))),
+        Ok(bytes) => Ok(Some(Ok(bytes.len()))),
         Err(BuildError::Limit(limit)) => Ok(Some(Err(limit))),
         Err(BuildError::Memory) => Err(Memory),
     }
 }
 
-/// Whether the file of a sound value has so many bytes.
-fn has_bytes(alloc: Global, value: &FileValue, len: usize) -> Result<bool, Memory> {
+/// Whether the file of a sound value, once it was filled, has so many bytes.
+fn has_bytes(
+    alloc: Global,
+    value: &FileValue,
+    filled: Result<(), Memory>,
+    len: usize,
+) -> Result<bool, Memory> {
+    filled?;
     Ok(match written(alloc, value)? {
-        Some(Ok(bytes)) => bytes.as_slice().len() == len,
+        Some(Ok(bytes)) => bytes == len,
         _ => false,
     })
 }
 
-/// Whether a sound value passes this limit first.
-fn passes(alloc: Global, value: &FileValue, limit: Limit) -> Result<bool, Memory> {
+/// Whether a sound value, once it was filled, passes this limit first.
+fn passes(
+    alloc: Global,
+    value: &FileValue,
+    filled: Result<(), Memory>,
+    limit: Limit,
+) -> Result<bool, Memory> {
+    filled?;
     Ok(match written(alloc, value)? {
         Some(Err(passed)) => passed == limit,
         _ => false,
     })
 }
 
-/// A document `a` with a hash of so many zeros.
-fn document(alloc: Global, zeros: usize) -> Result<DocumentValue, Memory> {
-    let mut hash = List::with_capacity(alloc, zeros)?;
+/// Adds so many zeros.
+fn add_zeros(hash: &mut Bytes, zeros: usize) -> Result<(), Memory> {
     for _ in 0..zeros {
         hash.push(0u8)?;
     }
-    Ok(DocumentValue {
-        name: List::copied(alloc, b"a")?,
-        algorithm: None,
-        hash,
-        language: None,
-    })
+    Ok(())
 }
 
-/// A method with points at these offsets, of one line each.
-fn with_points(alloc: Global, points: &[(u32, u32)]) -> Result<FileValue, Memory> {
-    let mut value = empty(alloc);
-    value.rows[0x06] = 1;
-    value.documents.push(document(alloc, 0)?)?;
-    let mut list = List::new(alloc);
-    for &(offset, line) in points {
-        list.push(point(offset, lines(line, 1, line, 2)))?;
+/// Adds a document `a` with a hash of so many zeros.
+fn add_document(
+    alloc: Global,
+    documents: &mut List<DocumentValue>,
+    zeros: usize,
+) -> Result<(), Memory> {
+    let name = bytes(alloc, b"a")?;
+    let mut hash = List::new(alloc);
+    match add_zeros(&mut hash, zeros) {
+        Ok(()) => documents.push(DocumentValue {
+            name,
+            algorithm: None,
+            hash,
+            language: None,
+        }),
+        Err(error) => Err(error),
     }
-    value.methods.push(MethodValue {
-        method: 1,
-        signature: 0,
-        points: list,
-    })?;
-    Ok(value)
+}
+
+/// Adds points at these offsets, of one line each.
+fn add_points(points: &mut List<Point>, places: &[(u32, u32)]) -> Result<(), Memory> {
+    for &(offset, line) in places {
+        points.push(point(offset, lines(line, 1, line, 2)))?;
+    }
+    Ok(())
+}
+
+/// Adds a method with points at these offsets.
+fn add_method(alloc: Global, value: &mut FileValue, places: &[(u32, u32)]) -> Result<(), Memory> {
+    value.rows[0x06] = 1;
+    add_document(alloc, &mut value.documents, 0)?;
+    let mut points = List::new(alloc);
+    match add_points(&mut points, places) {
+        Ok(()) => value.methods.push(MethodValue {
+            method: 1,
+            signature: 0,
+            points,
+        }),
+        Err(error) => Err(error),
+    }
+}
+
+/// Whether a method with points at these offsets passes this limit first.
+fn points_pass(alloc: Global, places: &[(u32, u32)], limit: Limit) -> Result<bool, Memory> {
+    let mut value = empty(alloc);
+    let filled = add_method(alloc, &mut value, places);
+    passes(alloc, &value, filled, limit)
 }
 
 /// The letter of the lowest four bits.
@@ -74,21 +113,41 @@ fn letter(bits: u32) -> u8 {
     b'a' + (bits & 15) as u8
 }
 
-/// A scope of so many variables, to 65536, and in it one without.
-fn crowded(alloc: Global, variables: u32) -> Result<FileValue, Memory> {
-    let mut value = empty(alloc);
+/// Adds so many variables, to 65536.
+fn add_variables(
+    alloc: Global,
+    variables: &mut List<VariableValue>,
+    count: u32,
+) -> Result<(), Memory> {
+    for i in 0..count {
+        let name = [letter(i >> 12), letter(i >> 8), letter(i >> 4), letter(i)];
+        add_variable(alloc, variables, (i & 65535) as u16, &name)?;
+    }
+    Ok(())
+}
+
+/// Adds a scope of so many variables, to 65536, and in it one without.
+fn add_crowd(alloc: Global, value: &mut FileValue, variables: u32) -> Result<(), Memory> {
     value.rows[0x06] = 1;
     let mut crowd = scope(alloc, 1, 0, 2);
-    for i in 0..variables {
-        let name = [letter(i >> 12), letter(i >> 8), letter(i >> 4), letter(i)];
-        crowd
-            .variables
-            .push(variable(alloc, (i & 65535) as u16, &name)?)?;
-    }
-    for scope in [crowd, scope(alloc, 1, 0, 1)] {
-        value.scopes.push(scope)?;
-    }
-    Ok(value)
+    let added = add_variables(alloc, &mut crowd.variables, variables);
+    value.scopes.push(crowd)?;
+    value.scopes.push(scope(alloc, 1, 0, 1))?;
+    added
+}
+
+/// Whether the file of a scope of so many variables has so many bytes.
+fn crowd_has_bytes(alloc: Global, variables: u32, len: usize) -> Result<bool, Memory> {
+    let mut value = empty(alloc);
+    let filled = add_crowd(alloc, &mut value, variables);
+    has_bytes(alloc, &value, filled, len)
+}
+
+/// Whether a scope of so many variables passes this limit first.
+fn crowd_passes(alloc: Global, variables: u32, limit: Limit) -> Result<bool, Memory> {
+    let mut value = empty(alloc);
+    let filled = add_crowd(alloc, &mut value, variables);
+    passes(alloc, &value, filled, limit)
 }
 
 #[test]
@@ -103,8 +162,8 @@ fn points_that_have_no_form(rt: HostRuntime) -> Result<(), Memory> {
         offset: 0x20000000,
     };
     let points = [(0, 1), (2, 0x1ffffff0), (0x20000000, 1)];
-    assert!(rt; passes(alloc, &with_points(alloc, &points[..2])?, step)?);
-    assert!(rt; passes(alloc, &with_points(alloc, &points)?, offset)?);
+    assert!(rt; points_pass(alloc, &points[..2], step)?);
+    assert!(rt; points_pass(alloc, &points, offset)?);
     Ok(())
 }
 
@@ -115,39 +174,39 @@ fn a_list_past_its_table(rt: HostRuntime) -> Result<(), Memory> {
         table: 0x33,
         rows: 65535,
     };
-    assert!(rt; passes(alloc, &crowded(alloc, 65535)?, past)?);
-    assert!(rt; has_bytes(alloc, &crowded(alloc, 65534)?, 852160)?);
-    assert!(rt; has_bytes(alloc, &crowded(alloc, 65536)?, 852192)?);
+    assert!(rt; crowd_passes(alloc, 65535, past)?);
+    assert!(rt; crowd_has_bytes(alloc, 65534, 852160)?);
+    assert!(rt; crowd_has_bytes(alloc, 65536, 852192)?);
     Ok(())
 }
 
-/// A file with a document whose hash has so many zeros.
-fn with_hash(alloc: Global, zeros: usize) -> Result<FileValue, Memory> {
+/// Whether the file of a document whose hash has so many zeros has so many bytes.
+fn hash_has_bytes(alloc: Global, zeros: usize, len: usize) -> Result<bool, Memory> {
     let mut value = empty(alloc);
-    value.documents.push(document(alloc, zeros)?)?;
-    Ok(value)
+    let filled = add_document(alloc, &mut value.documents, zeros);
+    has_bytes(alloc, &value, filled, len)
 }
 
-/// A file of so many methods with a state machine.
-fn with_methods(alloc: Global, methods: u32) -> Result<FileValue, Memory> {
+/// Whether the file of so many methods with a state machine has so many bytes.
+fn methods_have_bytes(alloc: Global, methods: u32, len: usize) -> Result<bool, Memory> {
     let mut value = empty(alloc);
     value.rows[0x06] = methods;
-    value.machines.push(MachineRow {
+    let filled = value.machines.push(MachineRow {
         move_next: 1,
         kickoff: 1,
-    })?;
-    Ok(value)
+    });
+    has_bytes(alloc, &value, filled, len)
 }
 
-/// A file of so many fields, the last of which has a record.
-fn with_fields(alloc: Global, fields: u32) -> Result<FileValue, Memory> {
+/// Whether the file of so many fields, the last of which has a record, has so many bytes.
+fn fields_have_bytes(alloc: Global, fields: u32, len: usize) -> Result<bool, Memory> {
     let mut value = empty(alloc);
     value.rows[0x04] = fields;
     let nothing = CustomBody::Unread(List::new(alloc));
-    value
+    let filled = value
         .customs
-        .push(custom(0x04, fields, SOURCE_LINK, nothing))?;
-    Ok(value)
+        .push(custom(0x04, fields, SOURCE_LINK, nothing));
+    has_bytes(alloc, &value, filled, len)
 }
 
 // Indexes of blobs have four bytes where the padded heap has 65536, rows of methods where there are so many, and coded parents from
@@ -156,22 +215,13 @@ fn with_fields(alloc: Global, fields: u32) -> Result<FileValue, Memory> {
 fn widths(rt: HostRuntime) -> Result<(), Memory> {
     let alloc = rt.alloc();
     for (zeros, len) in [(65522, 65716), (65523, 65724), (65527, 65728)] {
-        assert!(rt;
-            has_bytes(alloc, &with_hash(alloc, zeros)?, len)?,
-            "{zeros}"
-        );
+        assert!(rt; hash_has_bytes(alloc, zeros, len)?, "{zeros}");
     }
     for (methods, len) in [(65535, 188), (65536, 192)] {
-        assert!(rt;
-            has_bytes(alloc, &with_methods(alloc, methods)?, len)?,
-            "{methods}"
-        );
+        assert!(rt; methods_have_bytes(alloc, methods, len)?, "{methods}");
     }
     for fields in [2047, 2048] {
-        assert!(rt;
-            has_bytes(alloc, &with_fields(alloc, fields)?, 208)?,
-            "{fields}"
-        );
+        assert!(rt; fields_have_bytes(alloc, fields, 208)?, "{fields}");
     }
     Ok(())
 }

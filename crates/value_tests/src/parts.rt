@@ -29,10 +29,11 @@ pub fn empty(alloc: Global) -> FileValue {
     }
 }
 
-/// The document `/a/b`.
-pub fn document(alloc: Global) -> Result<DocumentValue, Memory> {
-    Ok(DocumentValue {
-        name: bytes(alloc, b"/a/b")?,
+/// Adds the document `/a/b`.
+pub fn add_document(alloc: Global, documents: &mut List<DocumentValue>) -> Result<(), Memory> {
+    let name = bytes(alloc, b"/a/b")?;
+    documents.push(DocumentValue {
+        name,
         algorithm: None,
         hash: List::new(alloc),
         language: None,
@@ -58,12 +59,18 @@ pub fn lines(start_line: u32, start_column: u32, end_line: u32, end_column: u32)
     }
 }
 
-/// A variable with this slot and this name.
-pub fn variable(alloc: Global, slot: u16, name: &[u8]) -> Result<VariableValue, Memory> {
-    Ok(VariableValue {
+/// Adds a variable with this slot and this name.
+pub fn add_variable(
+    alloc: Global,
+    variables: &mut List<VariableValue>,
+    slot: u16,
+    name: &[u8],
+) -> Result<(), Memory> {
+    let name = bytes(alloc, name)?;
+    variables.push(VariableValue {
         attributes: 0,
         slot,
-        name: bytes(alloc, name)?,
+        name,
     })
 }
 
@@ -87,20 +94,20 @@ pub fn custom(table: u8, row: u32, kind: [u8; 16], value: CustomBody) -> CustomV
     }
 }
 
-/// A constant of a primitive type, whose value has these bytes.
-pub fn constant(
+/// Adds a constant of a primitive type, whose value has these bytes.
+pub fn add_constant(
     alloc: Global,
+    constants: &mut List<ConstantValue>,
     name: &[u8],
     code: u8,
     value: &[u8],
-) -> Result<ConstantValue, Memory> {
-    Ok(ConstantValue {
-        name: bytes(alloc, name)?,
+) -> Result<(), Memory> {
+    let value = bytes(alloc, value)?;
+    let name = bytes(alloc, name)?;
+    constants.push(ConstantValue {
+        name,
         modifiers: List::new(alloc),
-        body: ConstantBody::Primitive {
-            code,
-            value: bytes(alloc, value)?,
-        },
+        body: ConstantBody::Primitive { code, value },
     })
 }
 

@@ -8,6 +8,8 @@ use ppdb_values::{
     ImportScopeValue, ImportValue, MethodValue, ScopeValue,
 };
 use sequence_points::Point;
+use std::alloc::Global;
+use std::process::Abort;
 use std::test::Fail;
 use worked_files::{EMPTY, PROGRAM, SMALL};
 
@@ -74,14 +76,21 @@ fn own(scopes: &[ScopeValue], rows: &[(u32, u32, Variables<'_>)]) -> bool {
         })
 }
 
-#[test]
-fn a_file_without_rows_has_no_parts(rt: HostRuntime) -> Result<(), Fail> {
-    let value = value(rt.alloc(), &EMPTY)?;
+/// Fails where a value has a part.
+fn has_no_parts(rt: &impl Abort, value: &FileValue) {
     assert_eq!(rt; value.id, [0; 20]);
     assert_eq!(rt; value.entry, 0);
-    assert!(rt; counts(&value, &[]));
+    assert!(rt; counts(value, &[]));
     assert!(rt; value.documents.is_empty() && value.methods.is_empty() && value.scopes.is_empty());
     assert!(rt; value.imports.is_empty() && value.machines.is_empty() && value.customs.is_empty());
+}
+
+#[test]
+fn a_file_without_rows_has_no_parts(rt: HostRuntime) -> Result<(), Fail> {
+    match value(rt.alloc(), &EMPTY) {
+        Ok(value) => has_no_parts(&rt, &value),
+        Err(fail) => return Err(fail),
+    }
     Ok(())
 }
 
@@ -104,35 +113,49 @@ fn is_method(methods: &[MethodValue], number: u32, signature: u32, points: &[Poi
     method.method == number && method.signature == signature && method.points.as_slice() == points
 }
 
-#[test]
-fn a_small_file_has_its_value(rt: HostRuntime) -> Result<(), Fail> {
-    let value = value(rt.alloc(), &SMALL)?;
+/// Fails where a value is not that of the small file.
+fn is_small(rt: &impl Abort, value: &FileValue) {
     assert_eq!(rt; value.entry, 1);
-    assert!(rt; counts(&value, &[(0x06, 1)]));
+    assert!(rt; counts(value, &[(0x06, 1)]));
     assert!(rt; is_small_document(value.documents.as_slice()));
     assert!(rt; is_method(value.methods.as_slice(), 1, 0, &small_points()));
     assert!(rt; own(value.scopes.as_slice(), &[(0, 9, &X), (2, 5, &Y)]));
+}
+
+#[test]
+fn a_small_file_has_its_value(rt: HostRuntime) -> Result<(), Fail> {
+    match value(rt.alloc(), &SMALL) {
+        Ok(value) => is_small(&rt, &value),
+        Err(fail) => return Err(fail),
+    }
     Ok(())
+}
+
+/// Whether the scopes of a file have these starts and ends, and own these variables.
+fn file_owns(
+    alloc: Global,
+    bytes: &[u8],
+    rows: &[(u32, u32, Variables<'_>)],
+) -> Result<bool, Fail> {
+    match value(alloc, bytes) {
+        Ok(value) => Ok(own(value.scopes.as_slice(), rows)),
+        Err(fail) => Err(fail),
+    }
 }
 
 #[test]
 fn the_last_of_equal_lists_owns_the_variables(rt: HostRuntime) -> Result<(), Fail> {
     let mut equal = SMALL;
     equal[220] = 1;
-    let value = value(rt.alloc(), &equal)?;
-    assert!(rt; own(value.scopes.as_slice(), &[(0, 9, &[]), (2, 5, &X_AND_Y)]));
+    let rows: [(u32, u32, Variables<'_>); 2] = [(0, 9, &[]), (2, 5, &X_AND_Y)];
+    assert!(rt; file_owns(rt.alloc(), &equal, &rows)?);
     Ok(())
 }
 
 #[test]
 fn a_scope_between_two_may_own_nothing(rt: HostRuntime) -> Result<(), Fail> {
-    let value = value(rt.alloc(), &THREE_SCOPES)?;
-    assert!(rt;
-        own(
-            value.scopes.as_slice(),
-            &[(0, 9, &X), (2, 4, &[]), (5, 8, &Y)]
-        )
-    );
+    let rows: [(u32, u32, Variables<'_>); 3] = [(0, 9, &X), (2, 4, &[]), (5, 8, &Y)];
+    assert!(rt; file_owns(rt.alloc(), &THREE_SCOPES, &rows)?);
     Ok(())
 }
 
@@ -236,9 +259,8 @@ fn are_program_imports(scopes: &[ImportScopeValue]) -> bool {
         && is_namespace(tasks, b"System.Threading.Tasks")
 }
 
-#[test]
-fn a_program_has_its_value(rt: HostRuntime) -> Result<(), Fail> {
-    let value = value(rt.alloc(), &PROGRAM)?;
+/// Fails where a value is not that of the program.
+fn is_program(rt: &impl Abort, value: &FileValue) {
     assert_eq!(rt; value.entry, 2);
     assert!(rt; is_program_document(value.documents.as_slice()));
     assert!(rt; is_method(value.methods.as_slice(), 4, 1, &program_points()));
@@ -250,5 +272,13 @@ fn a_program_has_its_value(rt: HostRuntime) -> Result<(), Fail> {
     assert!(rt; are_program_customs(value.customs.as_slice()));
     assert!(rt; is_program_scope(value.scopes.as_slice()));
     assert!(rt; are_program_imports(value.imports.as_slice()));
+}
+
+#[test]
+fn a_program_has_its_value(rt: HostRuntime) -> Result<(), Fail> {
+    match value(rt.alloc(), &PROGRAM) {
+        Ok(value) => is_program(&rt, &value),
+        Err(fail) => return Err(fail),
+    }
     Ok(())
 }

@@ -9,6 +9,7 @@ use ppdb_noted::{NotedFile, NotedScope};
 use ppdb_tables::Parent;
 use ppdb_values::{Custom, CustomBody, CustomValue, DocumentValue, FileValue, Noted};
 use std::alloc::Global;
+use std::process::Abort;
 
 /// One record, without bytes.
 fn notes(alloc: Global) -> Result<List<Custom>, Memory> {
@@ -75,19 +76,26 @@ fn file(alloc: Global) -> Result<NotedFile, Memory>
 }
 
 fn value(alloc: Global) -> Result<FileValue, Memory> {
-    value_of(alloc, file(alloc)?)
+    match file(alloc) {
+        Ok(file) => value_of(alloc, file),
+        Err(error) => Err(error),
+    }
 }
 
 /// Records stand by row and then by the tag of their table.
-#[test]
-fn numbers_the_rows_of_records(rt: HostRuntime) {
+fn stand_by_row(rt: &impl Abort, customs: &[CustomValue]) {
     let parents = [(0x00, 1), (0x30, 1), (0x32, 1), (0x30, 2)];
-    let mut customs = List::new(rt.alloc());
-    if let Ok(value) = value(rt.alloc()) {
-        customs = value.customs;
-    }
     assert_eq!(rt; customs.len(), parents.len());
-    for (custom, (table, row)) in customs.as_slice().iter().zip(parents) {
+    for (custom, (table, row)) in customs.iter().zip(parents) {
         assert_eq!(rt; custom.parent, Parent { table, row });
     }
+}
+
+#[test]
+fn numbers_the_rows_of_records(rt: HostRuntime) -> Result<(), Memory> {
+    match value(rt.alloc()) {
+        Ok(value) => stand_by_row(&rt, value.customs.as_slice()),
+        Err(error) => return Err(error),
+    }
+    Ok(())
 }

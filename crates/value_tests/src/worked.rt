@@ -1,6 +1,6 @@
 // The values of two worked files.
 use crate::parts::{
-    bytes, constant, custom, document, empty, imports, lines, point, scope, variable,
+    add_constant, add_document, add_variable, bytes, custom, imports, lines, point, scope,
 };
 use custom_info::{
     ASYNC_STEPPING, AsyncStep, COMPILATION_OPTIONS, HOISTED_SCOPES, Range, SOURCE_LINK, Slot,
@@ -9,6 +9,7 @@ use ppdb_base::{List, Memory};
 use ppdb_tables::MachineRow;
 use ppdb_values::{
     CustomBody, CustomValue, DocumentValue, FileValue, ImportScopeValue, ImportValue, MethodValue,
+    ScopeValue,
 };
 use sequence_points::{Point, Span};
 use std::alloc::Global;
@@ -64,87 +65,130 @@ const PROGRAM_ROWS: [(usize, u32); 7] = [
     (0x23, 2),
 ];
 
-/// The value of a file of one method.
-pub fn small(alloc: Global) -> Result<FileValue, Memory> {
-    let mut value = empty(alloc);
-    value.entry = 1;
-    value.rows[6] = 1;
-    value.documents.push(document(alloc)?)?;
-    value.methods.push(MethodValue {
+/// Adds method 1 with these points.
+pub fn add_method(
+    alloc: Global,
+    methods: &mut List<MethodValue>,
+    points: &[Point],
+) -> Result<(), Memory> {
+    let points = List::copied(alloc, points)?;
+    methods.push(MethodValue {
         method: 1,
         signature: 0,
-        points: List::copied(alloc, &small_points())?,
-    })?;
-    for (slot, name, start, end) in [(0, b"x", 0, 9), (1, b"y", 2, 5)] {
-        let mut own = scope(alloc, 1, start, end);
-        own.variables.push(variable(alloc, slot, name)?)?;
-        value.scopes.push(own)?;
-    }
-    Ok(value)
+        points,
+    })
 }
 
-/// The custom records of an asynchronous Main.
-fn program_customs(alloc: Global) -> Result<List<CustomValue>, Memory> {
-    let link = CustomBody::Unread(bytes(alloc, b"{}")?);
-    let options = CustomBody::Unread(bytes(alloc, b"a\0b\0")?);
-    let hoisted = CustomBody::Hoisted(List::copied(alloc, &PROGRAM_SLOTS)?);
+/// Adds a scope of method 1 that owns this variable.
+fn add_scope(
+    alloc: Global,
+    scopes: &mut List<ScopeValue>,
+    slot: u16,
+    name: &[u8],
+    range: (u32, u32),
+) -> Result<(), Memory> {
+    let mut own = scope(alloc, 1, range.0, range.1);
+    match add_variable(alloc, &mut own.variables, slot, name) {
+        Ok(()) => scopes.push(own),
+        Err(error) => Err(error),
+    }
+}
+
+/// Makes of an empty value that of a file of one method.
+pub fn add_small(alloc: Global, value: &mut FileValue) -> Result<(), Memory> {
+    value.entry = 1;
+    value.rows[6] = 1;
+    add_document(alloc, &mut value.documents)?;
+    add_method(alloc, &mut value.methods, &small_points())?;
+    add_scope(alloc, &mut value.scopes, 0, b"x", (0, 9))?;
+    add_scope(alloc, &mut value.scopes, 1, b"y", (2, 5))
+}
+
+/// Adds a record whose bytes are not read.
+fn add_unread(
+    alloc: Global,
+    customs: &mut List<CustomValue>,
+    kind: [u8; 16],
+    content: &[u8],
+) -> Result<(), Memory> {
+    let content = bytes(alloc, content)?;
+    customs.push(custom(0x00, 1, kind, CustomBody::Unread(content)))
+}
+
+/// Adds the custom records of an asynchronous Main.
+fn add_program_customs(alloc: Global, customs: &mut List<CustomValue>) -> Result<(), Memory> {
+    add_unread(alloc, customs, SOURCE_LINK, b"{}")?;
+    add_unread(alloc, customs, COMPILATION_OPTIONS, b"a\0b\0")?;
+    let slots = List::copied(alloc, &PROGRAM_SLOTS)?;
+    customs.push(custom(0x06, 4, HOISTED_SCOPES, CustomBody::Hoisted(slots)))?;
+    let steps = List::copied(alloc, &PROGRAM_STEPS)?;
     let stepping = CustomBody::Async {
         handler: None,
-        steps: List::copied(alloc, &PROGRAM_STEPS)?,
+        steps,
     };
-    let mut customs = List::new(alloc);
-    for record in [
-        custom(0x00, 1, SOURCE_LINK, link),
-        custom(0x00, 1, COMPILATION_OPTIONS, options),
-        custom(0x06, 4, HOISTED_SCOPES, hoisted),
-        custom(0x06, 4, ASYNC_STEPPING, stepping),
-    ] {
-        customs.push(record)?;
-    }
-    Ok(customs)
+    customs.push(custom(0x06, 4, ASYNC_STEPPING, stepping))
 }
 
-/// The import scopes of the program: one of all its files, and in it one of the names that Main uses.
-fn program_imports(alloc: Global) -> Result<List<ImportScopeValue>, Memory> {
+/// Adds an import of this namespace.
+fn add_namespace(
+    alloc: Global,
+    targets: &mut List<ImportValue>,
+    name: &[u8],
+) -> Result<(), Memory> {
+    let namespace = bytes(alloc, name)?;
+    targets.push(ImportValue::Namespace { namespace })
+}
+
+/// Adds the import scopes of the program: one of all its files, and in it one of the names that Main uses.
+fn add_program_imports(alloc: Global, scopes: &mut List<ImportScopeValue>) -> Result<(), Memory> {
+    scopes.push(imports(alloc, 0))?;
     let mut usings = imports(alloc, 1);
-    usings.imports.push(ImportValue::Namespace {
-        namespace: bytes(alloc, b"System")?,
-    })?;
-    let mut scopes = List::new(alloc);
-    for scope in [imports(alloc, 0), usings] {
-        scopes.push(scope)?;
+    match add_namespace(alloc, &mut usings.imports, b"System") {
+        Ok(()) => scopes.push(usings),
+        Err(error) => Err(error),
     }
-    Ok(scopes)
 }
 
-/// The value of the file of a program whose Main is asynchronous.
-pub fn program(alloc: Global) -> Result<FileValue, Memory> {
-    let mut value = empty(alloc);
+/// Adds the document of the program.
+fn add_program_document(alloc: Global, documents: &mut List<DocumentValue>) -> Result<(), Memory> {
+    let name = bytes(alloc, b"/src/app/Program.cs")?;
+    let hash = bytes(alloc, &[0x5a; 32])?;
+    documents.push(DocumentValue {
+        name,
+        algorithm: Some([0x29; 16]),
+        hash,
+        language: Some([0x51; 16]),
+    })
+}
+
+/// Adds the scope of an asynchronous Main.
+fn add_program_scope(alloc: Global, scopes: &mut List<ScopeValue>) -> Result<(), Memory> {
+    let mut body = scope(alloc, 4, 0, 175);
+    body.import = 2;
+    match add_constant(alloc, &mut body.constants, b"Limit", 0x08, &[3, 0, 0, 0]) {
+        Ok(()) => scopes.push(body),
+        Err(error) => Err(error),
+    }
+}
+
+/// Makes of an empty value that of the file of a program whose Main is asynchronous.
+pub fn add_program(alloc: Global, value: &mut FileValue) -> Result<(), Memory> {
     value.entry = 2;
     for (table, rows) in PROGRAM_ROWS {
         value.rows[table] = rows;
     }
-    value.documents.push(DocumentValue {
-        name: bytes(alloc, b"/src/app/Program.cs")?,
-        algorithm: Some([0x29; 16]),
-        hash: bytes(alloc, &[0x5a; 32])?,
-        language: Some([0x51; 16]),
-    })?;
+    add_program_document(alloc, &mut value.documents)?;
+    let points = List::copied(alloc, &program_points())?;
     value.methods.push(MethodValue {
         method: 4,
         signature: 1,
-        points: List::copied(alloc, &program_points())?,
+        points,
     })?;
-    let mut body = scope(alloc, 4, 0, 175);
-    body.import = 2;
-    body.constants
-        .push(constant(alloc, b"Limit", 0x08, &[3, 0, 0, 0])?)?;
-    value.scopes.push(body)?;
-    value.imports = program_imports(alloc)?;
+    add_program_scope(alloc, &mut value.scopes)?;
+    add_program_imports(alloc, &mut value.imports)?;
     value.machines.push(MachineRow {
         move_next: 4,
         kickoff: 1,
     })?;
-    value.customs = program_customs(alloc)?;
-    Ok(value)
+    add_program_customs(alloc, &mut value.customs)
 }
