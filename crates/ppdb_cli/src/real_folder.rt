@@ -1,5 +1,6 @@
 // The current folder of the system. No contract knows what it holds.
-ghost use Rattle.std.specs.Prelude.{◌≡◌, ◌≤◌, [], None, length, OnOk};
+ghost use Rattle.std.specs.Prelude.{◌≡◌, ◌≤◌, ◌<◌, [], None, length, OnOk, IfErr, IfSome};
+ghost use Rattle.ppdb_base.specs.declared.folder.ReadError.TheVariants as read_errors;
 
 use crate::writing::write_all;
 use ppdb_base::{Bytes, Folder, Memory, ReadError, WriteError};
@@ -26,7 +27,9 @@ struct NotRead {
 
 impl NotRead {
     /// What stands of an error of the system.
-    fn failed(reason: ErrorKind) -> NotRead {
+    fn failed(reason: ErrorKind) -> NotRead
+        ensures { result.error ≡ ReadError.Failed }
+    {
         NotRead {
             error: ReadError::Failed,
             reason: Some(reason),
@@ -35,6 +38,8 @@ impl NotRead {
 }
 
 impl From<ReadError> for NotRead {
+    ghost from_gives = { λ error e. e.error ≡ error };
+
     fn from(error: ReadError) -> NotRead {
         NotRead {
             error,
@@ -44,6 +49,8 @@ impl From<ReadError> for NotRead {
 }
 
 impl From<Memory> for NotRead {
+    ghost from_gives = { λ _ e. e.error ≡ read_errors.Memory };
+
     fn from(_: Memory) -> NotRead {
         NotRead::from(ReadError::Memory)
     }
@@ -125,6 +132,8 @@ fn read_file<R: Files>(files: &R, name: &str, max: usize, into: &mut Bytes) -> R
 fn read_to_end<R: Read>(file: &mut R, max: usize, into: &mut Bytes) -> Result<(), NotRead>
     requires { into.old ≡ [] }
     ensures within { OnOk result (length into.new ≤ max) }
+    ensures bytes { OnOk result (IfSome (R.remaining file.old) (λ xs. into.new ≡ xs)) }
+    ensures too_long { IfErr result (λ e. e.error ≡ ReadError.TooLong → IfSome (R.remaining file.old) (λ xs. max < length xs)) }
 {
     let mut buffer = [0; 65536];
     while into.len() <= max {

@@ -1,6 +1,9 @@
 // The standard output, or another writer, in large writes.
-ghost use Rattle.std.specs.Prelude.{◌≡◌, ◌≤◌, ◌+◌, None, length, IfErr, OnErr};
+ghost use Rattle.std.specs.Prelude.{◌≡◌, ◌≤◌, ◌+◌, None, length, IfErr, OnErr, OnOk};
+ghost use Rattle.std.specs.Io.KnownBytes.{Appends, Keeps};
+ghost use Rattle.ppdb_cli.specs.Kept.{kept_after};
 ghost use Rattle.ppdb_base.specs.Causes.{Rose};
+ghost use Rattle.ppdb_base.specs.Written.{Puts};
 
 use crate::writing::put_all;
 use ppdb_base::{Sink, WriteError};
@@ -38,6 +41,7 @@ impl<W: Write> StdSink<W> {
     pub fn flush(&mut self) -> Result<(), WriteError>
         ensures kept { self.new.kept ≡ 0 }
         ensures failed { OnErr result (Rose self.old.faults self.new.faults) }
+        ensures bytes { OnOk result (Keeps (kept_after (W.contents self.old.writer) self.old.buffer self.old.kept) (W.contents self.new.writer)) }
     {
         let written = self.write_out();
         self.counted(written)
@@ -47,6 +51,8 @@ impl<W: Write> StdSink<W> {
     #[inline(always)]
     fn counted(&mut self, written: Result<(), WriteError>) -> Result<(), WriteError>
         ensures result { result ≡ written }
+        ensures writer { self.new.writer ≡ self.old.writer }
+        ensures buffer { self.new.buffer ≡ self.old.buffer }
         ensures kept { self.new.kept ≡ self.old.kept }
         ensures failed { OnErr result (Rose self.old.faults self.new.faults) }
         ensures later { self.old.faults ≤ self.new.faults }
@@ -63,6 +69,7 @@ impl<W: Write> StdSink<W> {
         ensures kept { self.new.kept ≡ 0 }
         ensures faults { self.new.faults ≡ self.old.faults }
         ensures failed { IfErr result (λ error. error ≡ WriteError.Failed) }
+        ensures bytes { OnOk result (Keeps (kept_after (W.contents self.old.writer) self.old.buffer self.old.kept) (W.contents self.new.writer)) }
     {
         let written = put_all(&mut self.writer, &self.buffer[..self.kept]);
         self.kept = 0;
@@ -74,6 +81,8 @@ impl<W: Write> StdSink<W> {
     fn keep(&mut self, bytes: &[u8])
         requires { self.old.kept + length bytes.now ≤ 65536 }
         ensures faults { self.new.faults ≡ self.old.faults }
+        ensures bytes { Appends (kept_after (W.contents self.old.writer) self.old.buffer self.old.kept)
+            (kept_after (W.contents self.new.writer) self.new.buffer self.new.kept) bytes.now }
     {
         let end = self.kept + bytes.len();
         self.buffer[self.kept..end].copy_from_slice(bytes);
@@ -85,6 +94,8 @@ impl<W: Write> StdSink<W> {
     fn take(&mut self, bytes: &[u8]) -> Result<(), WriteError>
         ensures faults { self.new.faults ≡ self.old.faults }
         ensures failed { IfErr result (λ error. error ≡ WriteError.Failed) }
+        ensures bytes { OnOk result (Appends (kept_after (W.contents self.old.writer) self.old.buffer self.old.kept)
+            (kept_after (W.contents self.new.writer) self.new.buffer self.new.kept) bytes.now) }
     {
         if bytes.len() <= BUFFER - self.kept {
             self.keep(bytes);
@@ -105,7 +116,11 @@ impl<W: Write> Sink for StdSink<W> {
     ghost faults = { λ s. s.faults };
 
     #[inline(always)]
-    fn put(&mut self, bytes: &[u8]) -> Result<(), WriteError> {
+    fn put(&mut self, bytes: &[u8]) -> Result<(), WriteError>
+        ensures puts { Puts result None None self.old.faults self.new.faults bytes.now }
+        ensures bytes { OnOk result (Appends (kept_after (W.contents self.old.writer) self.old.buffer self.old.kept)
+            (kept_after (W.contents self.new.writer) self.new.buffer self.new.kept) bytes.now) }
+    {
         let taken = self.take(bytes);
         self.counted(taken)
     }

@@ -1,11 +1,14 @@
 // Bytes to a writer of the system.
-ghost use Rattle.std.specs.Prelude.{◌≡◌, IfErr};
+ghost use Rattle.std.specs.Prelude.{◌≡◌, IfErr, OnOk};
+ghost use Rattle.std.specs.Io.KnownBytes.{Appends};
 
 use ppdb_base::WriteError;
 use std::io::{ErrorKind, Write};
 
 /// Writes all bytes, or gives the system's reason why it did not. A write that takes none has failed.
-pub fn write_all<W: Write>(writer: &mut W, bytes: &[u8]) -> Result<(), ErrorKind> {
+pub fn write_all<W: Write>(writer: &mut W, bytes: &[u8]) -> Result<(), ErrorKind>
+    ensures bytes { OnOk result (Appends (W.contents writer.old) (W.contents writer.new) bytes.now) }
+{
     let mut rest = bytes;
     while !rest.is_empty() {
         match writer.write(rest) {
@@ -19,7 +22,8 @@ pub fn write_all<W: Write>(writer: &mut W, bytes: &[u8]) -> Result<(), ErrorKind
 
 /// Writes all bytes, and passes over the reason why it did not.
 pub fn put_all<W: Write>(writer: &mut W, bytes: &[u8]) -> Result<(), WriteError>
-    ensures { IfErr result (λ error. error ≡ WriteError.Failed) }
+    ensures failed { IfErr result (λ error. error ≡ WriteError.Failed) }
+    ensures bytes { OnOk result (Appends (W.contents writer.old) (W.contents writer.new) bytes.now) }
 {
     match write_all(writer, bytes) {
         Ok(()) => Ok(()),
