@@ -40,7 +40,7 @@ fn constants_are_whole(rt: HostRuntime) {
         (b"\x1f\x34\x1c", 1),
     ];
     for (blob, modifiers) in rows {
-        assert_eq!(rt; constant_end(blob), (modifiers, None));
+        assert!(rt; constant_end(blob) == (modifiers, None));
     }
 }
 
@@ -67,7 +67,7 @@ fn constants_are_at_fault(rt: HostRuntime) {
         (b"\x1f\x05", 1, fault(Code::BlobEnd, 2)),
     ];
     for (blob, modifiers, want) in rows {
-        assert_eq!(rt; constant_end(blob), (modifiers, want));
+        assert!(rt; constant_end(blob) == (modifiers, want));
     }
 }
 
@@ -89,9 +89,6 @@ fn shows_what_is_written(rt: HostRuntime) {
         value: b"\xc8",
         target: TOKEN,
     };
-    assert_eq!(rt; constant_into(&modifiers, &body, &mut bytes), Ok(()));
-    assert_eq!(rt;
-        bytes.as_slice(),
-        b"\x1f\x05\x20\x84\xb0\x05\xc8\x2e".as_slice()
-    );
+    assert!(rt; constant_into(&modifiers, &body, &mut bytes) == Ok(()));
+    assert!(rt; bytes.as_slice() == b"\x1f\x05\x20\x84\xb0\x05\xc8\x2e".as_slice());
 }

@@ -32,9 +32,9 @@ fn names_kinds(rt: &impl Abort, marks: &Marks, kinds: &[(Kind, [u8; 16], &str)])
         let read = Uuid::parse_str(text);
         assert!(rt; read.is_ok(), "{text}");
         if let Ok(id) = read {
-            assert_eq!(rt; id.to_bytes_le(), *guid, "{text}");
+            assert!(rt; id.to_bytes_le() == *guid, "{text}");
         }
-        assert_eq!(rt; kind_of(guid, marks), *kind, "{text}");
+        assert!(rt; kind_of(guid, marks) == *kind, "{text}");
     }
 }
 
@@ -43,12 +43,12 @@ fn tells_kinds(rt: HostRuntime) {
     let mut marks = Marks::new(rt.alloc());
     names_kinds(&rt, &marks, &KINDS);
     let other = [7; 16];
-    assert_eq!(rt; kind_of(&other, &marks), Kind::Unknown);
-    assert_eq!(rt; marks.add(other), Ok(()));
-    assert_eq!(rt; marks.add(other), Ok(()));
-    assert_eq!(rt; marks.add(ASYNC_STEPPING), Ok(()));
-    assert_eq!(rt; kind_of(&other, &marks), Kind::Free);
-    assert_eq!(rt; kind_of(&ASYNC_STEPPING, &marks), Kind::Async);
+    assert!(rt; kind_of(&other, &marks) == Kind::Unknown);
+    assert!(rt; marks.add(other) == Ok(()));
+    assert!(rt; marks.add(other) == Ok(()));
+    assert!(rt; marks.add(ASYNC_STEPPING) == Ok(()));
+    assert!(rt; kind_of(&other, &marks) == Kind::Free);
+    assert!(rt; kind_of(&ASYNC_STEPPING, &marks) == Kind::Async);
 }
 
 /// Whole records, in a file with 70 methods: the bytes, the handler, and each step's pause, resume and method.
@@ -58,11 +58,11 @@ fn reads_steps(rt: &impl Abort, records: &[(&[u8], Option<u32>, &[(u32, u32, u32
         let cursor = AsyncCursor::new(blob, 70);
         assert!(rt; cursor.is_ok());
         if let Ok(mut cursor) = cursor {
-            assert_eq!(rt; cursor.handler(), *handler);
+            assert!(rt; cursor.handler() == *handler);
             for (pause, resume, method) in *steps {
-                assert_eq!(rt; cursor.next(), Ok(Some(step(*pause, *resume, *method))));
+                assert!(rt; cursor.next() == Ok(Some(step(*pause, *resume, *method))));
             }
-            assert_eq!(rt; cursor.next(), Ok(None));
+            assert!(rt; cursor.next() == Ok(None));
         }
     }
 }
@@ -76,8 +76,8 @@ fn refuses_steps(rt: &impl Abort, records: &[(&[u8], Code, u32)]) {
             byte: *byte,
         };
         match AsyncCursor::new(blob, 70) {
-            Ok(mut cursor) => assert_eq!(rt; cursor.next(), Err(fault)),
-            Err(first) => assert_eq!(rt; first, fault),
+            Ok(mut cursor) => assert!(rt; cursor.next() == Err(fault)),
+            Err(first) => assert!(rt; first == fault),
         }
     }
 }
@@ -127,9 +127,9 @@ fn reads_slots(rt: &impl Abort, records: &[(&[u8], &[(u32, u32)])]) {
             } else {
                 held(*start, *end)
             };
-            assert_eq!(rt; cursor.next(), Ok(Some(slot)));
+            assert!(rt; cursor.next() == Ok(Some(slot)));
         }
-        assert_eq!(rt; cursor.next(), Ok(None));
+        assert!(rt; cursor.next() == Ok(None));
     }
 }
 
@@ -142,7 +142,7 @@ fn refuses_slots(rt: &impl Abort, records: &[(&[u8], Code, u32)]) {
             byte: *byte,
         };
         let mut cursor = SlotCursor::new(blob);
-        assert_eq!(rt; cursor.next(), Err(fault));
+        assert!(rt; cursor.next() == Err(fault));
     }
 }
 
@@ -171,43 +171,31 @@ fn reads_hoisted_scopes(rt: HostRuntime) {
 #[test]
 fn reads_and_writes_rows(rt: HostRuntime) {
     let mut bytes = Bytes::new(rt.alloc());
-    assert_eq!(rt; rows_into(&[1, 300], &mut bytes), Ok(()));
-    assert_eq!(rt; bytes.as_slice(), b"\x01\x81\x2c".as_slice());
+    assert!(rt; rows_into(&[1, 300], &mut bytes) == Ok(()));
+    assert!(rt; bytes.as_slice() == b"\x01\x81\x2c".as_slice());
     assert!(rt; bytes.len() == 3);
 
     let mut cursor = RowCursor::new(bytes.as_slice(), 300);
-    assert_eq!(rt; cursor.next(), Ok(Some(1)));
-    assert_eq!(rt; cursor.next(), Ok(Some(300)));
-    assert_eq!(rt; cursor.next(), Ok(None));
+    assert!(rt; cursor.next() == Ok(Some(1)));
+    assert!(rt; cursor.next() == Ok(Some(300)));
+    assert!(rt; cursor.next() == Ok(None));
 
     let mut cursor = RowCursor::new(bytes.as_slice(), 299);
-    assert_eq!(rt; cursor.next(), Ok(Some(1)));
+    assert!(rt; cursor.next() == Ok(Some(1)));
     let absent = BlobFault {
         code: Code::ValueRange,
         byte: 1,
     };
-    assert_eq!(rt; cursor.next(), Err(absent));
+    assert!(rt; cursor.next() == Err(absent));
 }
 
 #[test]
 fn writes_slots_and_steps(rt: HostRuntime) {
     let mut bytes = Bytes::new(rt.alloc());
-    assert_eq!(rt;
-        slots_into(&[Slot::Empty, held(0, 270)], &mut bytes),
-        Ok(())
-    );
-    assert_eq!(rt;
-        bytes.as_slice(),
-        b"\0\0\0\0\0\0\0\0\0\0\0\0\x0e\x01\0\0".as_slice()
-    );
+    assert!(rt; slots_into(&[Slot::Empty, held(0, 270)], &mut bytes) == Ok(()));
+    assert!(rt; bytes.as_slice() == b"\0\0\0\0\0\0\0\0\0\0\0\0\x0e\x01\0\0".as_slice());
 
     bytes.clear();
-    assert_eq!(rt;
-        async_into(Some(101), &[step(40, 63, 24)], &mut bytes),
-        Ok(())
-    );
-    assert_eq!(rt;
-        bytes.as_slice(),
-        b"\x66\0\0\0\x28\0\0\0\x3f\0\0\0\x18".as_slice()
-    );
+    assert!(rt; async_into(Some(101), &[step(40, 63, 24)], &mut bytes) == Ok(()));
+    assert!(rt; bytes.as_slice() == b"\x66\0\0\0\x28\0\0\0\x3f\0\0\0\x18".as_slice());
 }

@@ -44,7 +44,7 @@ fn imports_end_whole_or_at_fault(rt: HostRuntime) {
         (b"\x09\x01\x07", 0, fault(Code::ValueRange, 2)),
     ];
     for (blob, imports, want) in rows {
-        assert_eq!(rt; imports_end(blob), (imports, want));
+        assert!(rt; imports_end(blob) == (imports, want));
     }
 }
 
@@ -70,8 +70,8 @@ fn writes_the_fields_of_each_kind(rt: HostRuntime) {
             target: TOKEN,
         };
         let mut bytes: Bytes = List::new(rt.alloc());
-        assert_eq!(rt; import_into(&numbers, &mut bytes), Ok(()));
-        assert_eq!(rt; bytes.as_slice(), want);
+        assert!(rt; import_into(&numbers, &mut bytes) == Ok(()));
+        assert!(rt; bytes.as_slice() == want);
     }
 }
 
@@ -92,5 +92,5 @@ fn lends_the_texts_of_an_import(rt: HostRuntime) {
         assembly: 1,
         namespace: b"Ns",
     };
-    assert_eq!(rt; first_import(b"\x08\x01\x01\x03"), Some(want));
+    assert!(rt; first_import(b"\x08\x01\x01\x03") == Some(want));
 }

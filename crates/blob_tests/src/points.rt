@@ -98,19 +98,19 @@ fn check_read(rt: &impl Abort, read: &Read<'_>) {
     let (blob, column, limits) = (read.blob, read.column, read.limits);
     assert!(rt; blob.len() != 0 && blob.len() < 100 && column <= limits.documents);
     let fault = read.fault.map(|(code, byte)| BlobFault { code, byte });
-    assert_eq!(rt; blob_fault(blob, column, limits), fault);
+    assert!(rt; blob_fault(blob, column, limits) == fault);
     match PointCursor::new(blob, column, limits) {
-        Err(found) => assert_eq!(rt; Some(found), fault),
+        Err(found) => assert!(rt; Some(found) == fault),
         Ok(mut cursor) => {
             for expected in read.points {
-                assert_eq!(rt; cursor.next(), Ok(Some(point_of(expected))));
+                assert!(rt; cursor.next() == Ok(Some(point_of(expected))));
             }
             let end = match fault {
                 None => Ok(None),
                 Some(fault) => Err(fault),
             };
-            assert_eq!(rt; cursor.next(), end);
-            assert_eq!(rt; cursor.next(), end);
+            assert!(rt; cursor.next() == end);
+            assert!(rt; cursor.next() == end);
         }
     }
 }
@@ -330,12 +330,9 @@ fn reads_documents_that_are_not_there(rt: HostRuntime) {
 fn writes_two_points(rt: HostRuntime) {
     let points = [seen(0, 1, (10, 70), (10, 74)), seen(3, 1, (11, 6), (11, 7))];
     let mut blob = Bytes::new(rt.alloc());
-    assert_eq!(rt; single_document(&points), 1);
-    assert_eq!(rt; points_into(0, &points, &mut blob), Ok(()));
-    assert_eq!(rt;
-        blob.as_slice(),
-        b"\0\0\0\x04\x0a\x46\x03\0\x01\x02\x01".as_slice()
-    );
+    assert!(rt; single_document(&points) == 1);
+    assert!(rt; points_into(0, &points, &mut blob) == Ok(()));
+    assert!(rt; blob.as_slice() == b"\0\0\0\x04\x0a\x46\x03\0\x01\x02\x01".as_slice());
 }
 
 #[test]
@@ -346,12 +343,12 @@ fn writes_several_documents(rt: HostRuntime) {
         seen(2, 3, (4, 9), (7, 2)),
     ];
     let mut blob = Bytes::new(rt.alloc());
-    assert_eq!(rt; single_document(&points), 0);
-    assert_eq!(rt; blob.append(b"ab"), Ok(()));
-    assert_eq!(rt; points_into(2, &points, &mut blob), Ok(()));
+    assert!(rt; single_document(&points) == 0);
+    assert!(rt; blob.append(b"ab") == Ok(()));
+    assert!(rt; points_into(2, &points, &mut blob) == Ok(()));
     // the header 2 and 1; a point; the record 0 and 3; a hidden point; 3 lines, columns 2 - 9, line 4 - 5, column 9 - 1
     let want = b"ab\x02\x01\0\0\x01\x05\x01\0\x03\x01\0\0\x01\x03\x73\x7f\x10";
-    assert_eq!(rt; blob.as_slice(), want.as_slice());
+    assert!(rt; blob.as_slice() == want.as_slice());
 }
 
 #[test]
@@ -361,11 +358,11 @@ fn refuses_a_large_step(rt: HostRuntime) {
         seen(2, 1, (0x1fff_fff0, 1), (0x1fff_fff0, 2)),
     ];
     let mut blob = Bytes::new(rt.alloc());
-    assert_eq!(rt; blob.append(b"ab"), Ok(()));
+    assert!(rt; blob.append(b"ab") == Ok(()));
     let refusal = PointError::Step {
         index: 2,
         step: 536_870_895,
     };
-    assert_eq!(rt; points_into(0, &points, &mut blob), Err(refusal));
-    assert_eq!(rt; blob.as_slice(), b"ab".as_slice());
+    assert!(rt; points_into(0, &points, &mut blob) == Err(refusal));
+    assert!(rt; blob.as_slice() == b"ab".as_slice());
 }

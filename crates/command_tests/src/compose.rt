@@ -1,8 +1,8 @@
 // Two maps made into one, as files.
-use ppdb_base::{MemoryFolder, SteadyFolder};
+use ppdb_base::MemoryFolder;
 use std::alloc::{AllocError, Global};
 use std::test::Fail;
-use worked_runs::prints;
+use worked_runs::{first_other_words, folder_of, prints};
 
 /// The bytes of a text whose lines stand apart by `/`.
 fn text_of(alloc: Global, lines: &str) -> Result<String, AllocError> {
@@ -11,11 +11,12 @@ fn text_of(alloc: Global, lines: &str) -> Result<String, AllocError> {
 
 /// Whether `compose F S O` of these maps is done, prints nothing, and writes this map.
 fn composes(alloc: Global, first: &str, second: &str, want: &str) -> Result<bool, Fail> {
-    let mut folder = SteadyFolder::new(alloc);
-    folder.set("F", text_of(alloc, first)?.as_bytes())?;
-    folder.set("S", text_of(alloc, second)?.as_bytes())?;
+    let (first, second) = (text_of(alloc, first)?, text_of(alloc, second)?);
+    let want = text_of(alloc, want)?;
+    let files = [("F", first.as_bytes()), ("S", second.as_bytes())];
+    let mut folder = folder_of(alloc, &files)?;
     let done = prints(alloc, &["compose", "F", "S", "O"], &mut folder, 0, "")?;
-    Ok(done && folder.get("O") == Some(text_of(alloc, want)?.as_bytes()))
+    Ok(done && folder.get("O") == Some(want.as_bytes()))
 }
 
 const COMPOSED: [(&str, &str, &str); 16] = [
@@ -101,89 +102,88 @@ const COMPOSED: [(&str, &str, &str); 16] = [
     ),
 ];
 
+/// Which of these maps are not made into the one that is wanted, by its number.
+fn first_other_map(alloc: Global, rows: &[(&str, &str, &str)]) -> Result<Option<usize>, Fail> {
+    for (number, &(first, second, want)) in rows.iter().enumerate() {
+        if !composes(alloc, first, second, want)? {
+            return Ok(Some(number));
+        }
+    }
+    Ok(None)
+}
+
 #[test]
 fn maps_are_composed(rt: HostRuntime) -> Result<(), Fail> {
-    for (first, second, want) in &COMPOSED {
-        assert!(rt; composes(rt.alloc(), first, second, want)?, "{want}");
-    }
+    assert_eq!(rt; first_other_map(rt.alloc(), &COMPOSED)?, None);
     Ok(())
 }
 
-/// A folder with maps, and with a file OUT that is there.
-fn folder_of_maps(alloc: Global) -> Result<SteadyFolder, Fail> {
-    let mut folder = SteadyFolder::new(alloc);
-    folder.set("f", b"ppdbmap 1")?;
-    folder.set("x", b"ppdbmap 1\nx")?;
-    folder.set("y", b"ppdbmap 4")?;
-    let sizes = "ppdbmap 1/rows 06 2/row 06 1 2/row 06 2 1/method 1 5 6/method 2 5 7";
-    folder.set("a", text_of(alloc, sizes)?.as_bytes())?;
-    folder.set(
-        "b",
-        text_of(alloc, "ppdbmap 1/method 1 8 8/method 2 9 9")?.as_bytes(),
-    )?;
-    folder.set("OUT", b"as before")?;
-    Ok(folder)
-}
+/// Maps of two methods, whose sizes differ.
+const SIZED: &[u8] = b"ppdbmap 1\nrows 06 2\nrow 06 1 2\nrow 06 2 1\nmethod 1 5 6\nmethod 2 5 7";
 
+const OTHER_SIZES: &[u8] = b"ppdbmap 1\nmethod 1 8 8\nmethod 2 9 9";
+
+/// Maps, and a file OUT that is there.
+const MAPS: [(&str, &[u8]); 6] = [
+    ("f", b"ppdbmap 1"),
+    ("x", b"ppdbmap 1\nx"),
+    ("y", b"ppdbmap 4"),
+    ("a", SIZED),
+    ("b", OTHER_SIZES),
+    ("OUT", b"as before"),
+];
+
+/// Commands that write nothing.
+const REFUSED: [(&[&str], u8, &str); 11] = [
+    (
+        &["compose", "a", "b", "OUT"],
+        13,
+        "sizes differ method 1 6 9\n",
+    ),
+    (&["compose", "x", "Z", "OUT"], 8, "map x line 2 kind 2\n"),
+    (&["compose", "Z", "x", "OUT"], 6, "absent Z\n"),
+    (&["compose", "f", "Z", "OUT"], 6, "absent Z\n"),
+    (&["compose", "f", "y", "OUT"], 8, "map y line 1 kind 1\n"),
+    (&["compose", "f", "f"], 2, "usage\n"),
+    (&["compose", "f", "f", "--o"], 2, "usage\n"),
+    (&["compose", "f", "--f", "OUT"], 2, "usage\n"),
+    (&["compose", "", "f", "OUT"], 2, "usage\n"),
+    (&["compose", "f", "f", "OUT", "--keep-id"], 2, "usage\n"),
+    (&["compose"], 2, "usage\n"),
+];
+
+// No command puts back what one before it wrote, so one look at the end tells of all.
 #[test]
 fn refused_maps(rt: HostRuntime) -> Result<(), Fail> {
-    let mut folder = folder_of_maps(rt.alloc())?;
-    let rows: [(&[&str], u8, &str); 11] = [
-        (
-            &["compose", "a", "b", "OUT"],
-            13,
-            "sizes differ method 1 6 9\n",
-        ),
-        (&["compose", "x", "Z", "OUT"], 8, "map x line 2 kind 2\n"),
-        (&["compose", "Z", "x", "OUT"], 6, "absent Z\n"),
-        (&["compose", "f", "Z", "OUT"], 6, "absent Z\n"),
-        (&["compose", "f", "y", "OUT"], 8, "map y line 1 kind 1\n"),
-        (&["compose", "f", "f"], 2, "usage\n"),
-        (&["compose", "f", "f", "--o"], 2, "usage\n"),
-        (&["compose", "f", "--f", "OUT"], 2, "usage\n"),
-        (&["compose", "", "f", "OUT"], 2, "usage\n"),
-        (&["compose", "f", "f", "OUT", "--keep-id"], 2, "usage\n"),
-        (&["compose"], 2, "usage\n"),
-    ];
-    for (words, status, text) in rows {
-        assert!(rt;
-            prints(rt.alloc(), words, &mut folder, status, text)?,
-            "{text}"
-        );
-        assert!(rt;
-            folder.get("OUT") == Some(b"as before".as_slice()),
-            "{text}"
-        );
-    }
+    let mut folder = folder_of(rt.alloc(), &MAPS)?;
+    assert_eq!(rt; first_other_words(rt.alloc(), &mut folder, &REFUSED)?, None);
+    assert!(rt; folder.get("OUT") == Some(b"as before".as_slice()));
     Ok(())
 }
 
 #[test]
 fn one_file_is_read_and_written(rt: HostRuntime) -> Result<(), Fail> {
-    let mut folder = folder_of_maps(rt.alloc())?;
+    let mut folder = folder_of(rt.alloc(), &MAPS)?;
     assert!(rt; prints(rt.alloc(), &["compose", "f", "f", "f"], &mut folder, 0, "")?);
     assert!(rt; folder.get("f") == Some(b"ppdbmap 3\n".as_slice()));
     Ok(())
 }
 
+/// Whether a command ends so whose call of this number fails, and the same command is done then.
+fn fails_once(alloc: Global, call: u32, status: u8, text: &str) -> Result<bool, Fail> {
+    let mut folder = MemoryFolder::new(alloc);
+    folder.set("f", b"ppdbmap 1")?;
+    folder.set("s", b"ppdbmap 2")?;
+    folder.fail(call)?;
+    let words: &[&str] = &["compose", "f", "s", "o"];
+    let other = first_other_words(alloc, &mut folder, &[(words, status, text), (words, 0, "")])?;
+    Ok(other.is_none() && folder.get("o") == Some(b"ppdbmap 3\n".as_slice()))
+}
+
 #[test]
 fn reads_and_writes_that_fail(rt: HostRuntime) -> Result<(), Fail> {
-    for (call, status, text) in [
-        (1, 3, "read fault f\n"),
-        (2, 3, "read fault s\n"),
-        (3, 4, "write fault o\n"),
-    ] {
-        let mut folder = MemoryFolder::new(rt.alloc());
-        folder.set("f", b"ppdbmap 1")?;
-        folder.set("s", b"ppdbmap 2")?;
-        folder.fail(call)?;
-        let words = ["compose", "f", "s", "o"];
-        assert!(rt;
-            prints(rt.alloc(), &words, &mut folder, status, text)?,
-            "{text}"
-        );
-        assert!(rt; prints(rt.alloc(), &words, &mut folder, 0, "")?);
-        assert!(rt; folder.get("o") == Some(b"ppdbmap 3\n".as_slice()));
-    }
+    assert!(rt; fails_once(rt.alloc(), 1, 3, "read fault f\n")?);
+    assert!(rt; fails_once(rt.alloc(), 2, 3, "read fault s\n")?);
+    assert!(rt; fails_once(rt.alloc(), 3, 4, "write fault o\n")?);
     Ok(())
 }

@@ -1,5 +1,5 @@
 // Debug files and maps by which they are moved and joined.
-use ppdb_base::MemoryFolder;
+use ppdb_base::{Memory, MemoryFolder};
 use std::alloc::{AllocError, Global};
 use std::test::Fail;
 use worked_files::{EMPTY, PROGRAM, SMALL};
@@ -195,10 +195,8 @@ fn other_program() -> [u8; 592] {
     file
 }
 
-/// A folder with these files, and with the worked ones: E has no rows, B is small, P is a program, C is B with another hash, and G
-/// is no debug file.
-pub fn worked(alloc: Global) -> Result<MemoryFolder, Fail> {
-    let mut folder = MemoryFolder::new(alloc);
+/// Puts the worked files: E has no rows, B is small, P is a program, C is B with another hash, and G is no debug file.
+fn put_worked(folder: &mut MemoryFolder) -> Result<(), Memory> {
     let mut other = SMALL;
     other[192] = 1;
     let whole: [(&str, &[u8]); 6] = [
@@ -212,9 +210,26 @@ pub fn worked(alloc: Global) -> Result<MemoryFolder, Fail> {
     for (name, bytes) in whole {
         folder.set(name, bytes)?;
     }
-    for (name, parts) in FILES {
+    Ok(())
+}
+
+/// Puts files of these parts.
+pub fn put_parts(
+    alloc: Global,
+    folder: &mut MemoryFolder,
+    files: &[(&str, Parts<'_>)],
+) -> Result<(), Fail> {
+    for &(name, parts) in files {
         folder.set(name, &file_of(alloc, parts)?)?;
     }
+    Ok(())
+}
+
+/// A folder with these files and maps, and with the worked ones.
+pub fn worked(alloc: Global) -> Result<MemoryFolder, Fail> {
+    let mut folder = MemoryFolder::new(alloc);
+    put_worked(&mut folder)?;
+    put_parts(alloc, &mut folder, &FILES)?;
     put_texts(alloc, &mut folder, &MAPS)?;
     Ok(folder)
 }

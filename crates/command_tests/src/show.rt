@@ -1,9 +1,10 @@
 // All rows of a file, as text and as JSON.
-use ppdb_base::{MemorySink, SteadyFolder};
+use ppdb_base::MemorySink;
 use ppdb_run::Status;
+use std::alloc::Global;
 use std::test::Fail;
 use worked_files::{EMPTY, SMALL};
-use worked_runs::{prints, ran};
+use worked_runs::{first_other_over, folder_of, ran};
 
 /// What `show B` prints.
 const B_AS_TEXT: &str = "\
@@ -21,17 +22,6 @@ variable 1 scope 1 slot 0 attributes 0 name x
 variable 2 scope 2 slot 1 attributes 0 name y
 ";
 
-#[test]
-fn rows_as_text(rt: HostRuntime) -> Result<(), Fail> {
-    let mut folder = SteadyFolder::new(rt.alloc());
-    folder.set("B", &SMALL)?;
-    folder.set("E", &EMPTY)?;
-    assert!(rt; prints(rt.alloc(), &["show", "B"], &mut folder, 0, B_AS_TEXT)?);
-    let head = "id 0000000000000000000000000000000000000000\nentry 00000000\n";
-    assert!(rt; prints(rt.alloc(), &["show", "E"], &mut folder, 0, head)?);
-    Ok(())
-}
-
 /// What `show B --json` prints.
 const B_AS_JSON: &str = r#"{"id":"0000000000000000000000000000000000000000","line":"id"}
 {"entry":"06000001","line":"entry"}
@@ -47,37 +37,43 @@ const B_AS_JSON: &str = r#"{"id":"0000000000000000000000000000000000000000","lin
 {"attributes":0,"line":"variable","name":"y","row":2,"scope":2,"slot":1}
 "#;
 
+/// What `show E` prints.
+const E_AS_TEXT: &str = "id 0000000000000000000000000000000000000000\nentry 00000000\n";
+
 #[test]
-fn rows_as_json(rt: HostRuntime) -> Result<(), Fail> {
-    let mut folder = SteadyFolder::new(rt.alloc());
-    folder.set("B", &SMALL)?;
-    assert!(rt;
-        prints(
-            rt.alloc(),
-            &["show", "B", "--json"],
-            &mut folder,
-            0,
-            B_AS_JSON
-        )?
-    );
+fn rows_as_text_and_as_json(rt: HostRuntime) -> Result<(), Fail> {
+    let files: [(&str, &[u8]); 2] = [("B", &SMALL), ("E", &EMPTY)];
+    let rows: [(&[&str], u8, &str); 3] = [
+        (&["show", "B"], 0, B_AS_TEXT),
+        (&["show", "E"], 0, E_AS_TEXT),
+        (&["show", "B", "--json"], 0, B_AS_JSON),
+    ];
+    assert_eq!(rt; first_other_over(rt.alloc(), &files, &rows)?, None);
     Ok(())
+}
+
+/// How `show B` ends whose put of this number fails, where what it puts is a front of its text.
+fn ended(alloc: Global, call: u32) -> Result<Status, Fail> {
+    let mut folder = folder_of(alloc, &[("B", &SMALL)])?;
+    let mut out = MemorySink::new(alloc);
+    out.fail(call)?;
+    let status = ran(alloc, &["show", "B"], &mut folder, &mut out)?;
+    if B_AS_TEXT.as_bytes().starts_with(out.as_slice()) {
+        Ok(status)
+    } else {
+        Err(Fail::from("no front"))
+    }
 }
 
 // Each put fails in turn, up to the first run in which none does.
 #[test]
 fn puts_that_fail(rt: HostRuntime) -> Result<(), Fail> {
-    let mut folder = SteadyFolder::new(rt.alloc());
-    folder.set("B", &SMALL)?;
     for call in 1..1000 {
-        let mut out = MemorySink::new(rt.alloc());
-        out.fail(call)?;
-        let status = ran(rt.alloc(), &["show", "B"], &mut folder, &mut out)?;
-        assert!(rt; B_AS_TEXT.as_bytes().starts_with(out.as_slice()), "{call}");
+        let status = ended(rt.alloc(), call)?;
         if status == Status::Done {
             return Ok(());
         }
         assert_eq!(rt; status, Status::WriteFault);
     }
-    assert!(rt; false, "each run failed");
-    Ok(())
+    Err(Fail::from("each run failed"))
 }

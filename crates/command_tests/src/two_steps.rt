@@ -1,9 +1,9 @@
 // Files that are moved by two maps one after the other, and by the map of both.
-use crate::moving_files::{ONE_METHOD, TWO_METHODS, put_texts, worked};
+use crate::moving_files::{ONE_METHOD, TWO_METHODS, put_parts, put_texts, worked};
 use ppdb_base::MemoryFolder;
 use std::alloc::Global;
 use std::test::Fail;
-use worked_runs::{NOTHING, Parts, ends, file_of};
+use worked_runs::{NOTHING, Parts, first_other};
 
 /// Files by their names.
 const FILES: [(&str, Parts<'static>); 3] = [
@@ -180,50 +180,41 @@ const CASES: [Case; 8] = [
     },
 ];
 
-/// The worked files, and those of a case after its two steps, with the map of both.
-fn stepped(alloc: Global, case: &Case) -> Result<MemoryFolder, Fail> {
-    let mut folder = worked(alloc)?;
-    for (name, parts) in FILES {
-        folder.set(name, &file_of(alloc, parts)?)?;
-    }
-    put_texts(
-        alloc,
-        &mut folder,
-        &[
-            ("first", case.first),
-            ("second", case.second),
-            ("want", case.both),
-        ],
-    )?;
+/// Puts the files of a case, and what its two steps and the map of both write.
+fn put_steps(alloc: Global, case: &Case, folder: &mut MemoryFolder) -> Result<(), Fail> {
+    put_parts(alloc, folder, &FILES)?;
+    let texts = [
+        ("first", case.first),
+        ("second", case.second),
+        ("want", case.both),
+    ];
+    put_texts(alloc, folder, &texts)?;
     let first = format!(in alloc; "remap {} first half --keep-id", case.file)?;
     let steps = [
-        first.as_str(),
-        "remap half second two --keep-id",
-        "compose first second both",
+        (first.as_str(), 0, ""),
+        ("remap half second two --keep-id", 0, ""),
+        ("compose first second both", 0, ""),
     ];
-    for line in steps {
-        if !ends(alloc, line, &mut folder, 0, "")? {
-            return Err(Fail::from(line));
-        }
+    match first_other(alloc, folder, &steps)? {
+        None => Ok(()),
+        Some(_) => Err(Fail::from(case.both)),
     }
-    if folder.get("both") != folder.get("want") {
-        return Err(Fail::from(case.both));
-    }
-    Ok(folder)
+}
+
+/// Whether a case comes to what it tells.
+fn comes_true(alloc: Global, case: &Case) -> Result<bool, Fail> {
+    let mut folder = worked(alloc)?;
+    put_steps(alloc, case, &mut folder)?;
+    let told = first_other(alloc, &mut folder, case.told)?.is_none();
+    let composed = folder.get("both") == folder.get("want");
+    let same = folder.get("one") == folder.get("two");
+    Ok(told && composed && same == case.same)
 }
 
 #[test]
 fn two_steps_and_one(rt: HostRuntime) -> Result<(), Fail> {
     for case in &CASES {
-        let mut folder = stepped(rt.alloc(), case)?;
-        for &(line, status, text) in case.told {
-            assert!(rt;
-                ends(rt.alloc(), line, &mut folder, status, text)?,
-                "{line}"
-            );
-        }
-        let same = folder.get("one") == folder.get("two");
-        assert!(rt; same == case.same, "{}", case.both);
+        assert!(rt; comes_true(rt.alloc(), case)?, "{}", case.both);
     }
     Ok(())
 }

@@ -1,8 +1,8 @@
-use ppdb_base::{MemoryFolder, MemorySink, SteadyFolder};
+use ppdb_base::{MemoryFolder, MemorySink};
 use ppdb_run::Status;
 use std::test::Fail;
 use worked_files::{EMPTY, SMALL};
-use worked_runs::{prints, ran};
+use worked_runs::{first_other_over, first_other_words, folder_of, ran};
 
 /// What `id B` prints.
 const ID_B: &str = "id 0000000000000000000000000000000000000000\nentry 06000001\n";
@@ -46,56 +46,54 @@ const FILES_AND_WORDS: [(&[&str], u8, &str); 21] = [
 
 #[test]
 fn files_and_words(rt: HostRuntime) -> Result<(), Fail> {
-    let mut folder = SteadyFolder::new(rt.alloc());
-    let mut foreign = SMALL;
+    let (mut foreign, mut crossing) = (SMALL, SMALL);
     foreign[57] = 0x2d;
-    let mut crossing = SMALL;
     crossing[228] = 10;
-    folder.set("E", &EMPTY)?;
-    folder.set("B", &SMALL)?;
-    folder.set("W", b"Microsoft C/C++ MSF 7.00")?;
-    folder.set("a b\\", b"BSJ")?;
-    folder.set("C", &foreign)?;
-    folder.set("D", &crossing)?;
-    for (words, status, text) in FILES_AND_WORDS {
-        assert!(rt;
-            prints(rt.alloc(), words, &mut folder, status, text)?,
-            "{text}"
-        );
-    }
+    let files: [(&str, &[u8]); 6] = [
+        ("E", &EMPTY),
+        ("B", &SMALL),
+        ("W", b"Microsoft C/C++ MSF 7.00"),
+        ("a b\\", b"BSJ"),
+        ("C", &foreign),
+        ("D", &crossing),
+    ];
+    assert_eq!(rt;
+        first_other_over(rt.alloc(), &files, &FILES_AND_WORDS)?,
+        None
+    );
     Ok(())
 }
 
 #[test]
 fn a_long_file(rt: HostRuntime) -> Result<(), Fail> {
-    let mut folder = SteadyFolder::new(rt.alloc());
     let zeros = vec![in rt.alloc(); 0u8; 134_217_729]?;
-    folder.set("Z", &zeros)?;
-    assert!(rt; prints(rt.alloc(), &["verify", "Z"], &mut folder, 7, "too long Z\n")?);
+    let rows: [(&[&str], u8, &str); 1] = [(&["verify", "Z"], 7, "too long Z\n")];
+    assert_eq!(rt;
+        first_other_over(rt.alloc(), &[("Z", &zeros)], &rows)?,
+        None
+    );
     Ok(())
 }
 
 #[test]
-fn calls_that_fail(rt: HostRuntime) -> Result<(), Fail> {
+fn a_read_that_fails(rt: HostRuntime) -> Result<(), Fail> {
     let mut folder = MemoryFolder::new(rt.alloc());
     folder.set("B", &SMALL)?;
     folder.fail(1)?;
-    assert!(rt;
-        prints(
-            rt.alloc(),
-            &["verify", "B"],
-            &mut folder,
-            3,
-            "read fault B\n"
-        )?
-    );
-    assert!(rt; prints(rt.alloc(), &["id", "B"], &mut folder, 0, ID_B)?);
+    let rows: [(&[&str], u8, &str); 2] = [
+        (&["verify", "B"], 3, "read fault B\n"),
+        (&["id", "B"], 0, ID_B),
+    ];
+    assert_eq!(rt; first_other_words(rt.alloc(), &mut folder, &rows)?, None);
+    Ok(())
+}
+
+#[test]
+fn a_put_that_fails(rt: HostRuntime) -> Result<(), Fail> {
+    let mut folder = folder_of(rt.alloc(), &[("B", &SMALL)])?;
     let mut out = MemorySink::new(rt.alloc());
     out.fail(1)?;
-    assert_eq!(rt;
-        ran(rt.alloc(), &["verify", "B"], &mut folder, &mut out)?,
-        Status::WriteFault
-    );
-    assert_eq!(rt; out.as_slice(), b"".as_slice());
+    let status = ran(rt.alloc(), &["verify", "B"], &mut folder, &mut out)?;
+    assert!(rt; status == Status::WriteFault && out.as_slice().is_empty());
     Ok(())
 }

@@ -10,7 +10,7 @@ use std::process::Abort;
 fn texts_end_at_their_zero(rt: HostRuntime) {
     let strings = Strings::new(b"\0xy\0z");
     for (index, text) in [(0, b"".as_slice()), (1, b"xy"), (2, b"y"), (3, b"")] {
-        assert_eq!(rt; strings.get(index), Some(text));
+        assert!(rt; strings.get(index) == Some(text));
     }
     assert!(rt; strings.get(4).is_none());
     assert!(rt; strings.get(9).is_none());
@@ -20,7 +20,7 @@ fn texts_end_at_their_zero(rt: HostRuntime) {
 fn blobs_follow_their_length(rt: HostRuntime) {
     let blobs = Blobs::new(&[0, 1, 0x61, 0x80, 1, 0x62, 2, 0x63]);
     for (index, blob) in [(0, b"".as_slice()), (1, b"a"), (3, b"b")] {
-        assert_eq!(rt; blobs.get(index), Some(blob));
+        assert!(rt; blobs.get(index) == Some(blob));
     }
     for index in [2, 6, 8] {
         assert!(rt; blobs.get(index).is_none());
@@ -33,13 +33,10 @@ fn guids_are_counted_from_one(rt: HostRuntime) {
     let mut bytes = [0; 39];
     bytes[16] = 7;
     let guids = Guids::new(&bytes);
-    assert_eq!(rt; guids.get(0), None);
-    assert_eq!(rt; guids.get(1), Some([0; 16]));
-    assert_eq!(rt;
-        guids.get(2),
-        Some([7, 0, 0, 0, 0, 0, 0, 0, 0, 0, 0, 0, 0, 0, 0, 0])
-    );
-    assert_eq!(rt; guids.get(3), None);
+    assert!(rt; guids.get(0) == None);
+    assert!(rt; guids.get(1) == Some([0; 16]));
+    assert!(rt; guids.get(2) == Some([7, 0, 0, 0, 0, 0, 0, 0, 0, 0, 0, 0, 0, 0, 0, 0]));
+    assert!(rt; guids.get(3) == None);
 }
 
 /// A heap with the parts `a` at 1 and `b` at 3.
@@ -49,8 +46,8 @@ fn joins(alloc: Global, rt: &impl Abort, blob: &[u8], name: &[u8])
     requires { length blob.now < 2 ^ 32 }
 {
     let mut into: Bytes = List::new(alloc);
-    assert_eq!(rt; name_into(blob, Blobs::new(&HEAP), &mut into), Ok(()));
-    assert_eq!(rt; into.as_slice(), name);
+    assert!(rt; name_into(blob, Blobs::new(&HEAP), &mut into) == Ok(()));
+    assert!(rt; into.as_slice() == name);
 }
 
 #[test]
@@ -73,13 +70,10 @@ fn refuses(alloc: Global, rt: &impl Abort, blob: &[u8], code: Code, byte: u32)
     requires { length blob.now < 2 ^ 32 }
 {
     let mut into: Bytes = List::new(alloc);
-    assert_eq!(rt; into.append(b"as it was"), Ok(()));
+    assert!(rt; into.append(b"as it was") == Ok(()));
     let fault = BlobFault { code, byte };
-    assert_eq!(rt;
-        name_into(blob, Blobs::new(&HEAP), &mut into),
-        Err(NameError::Blob(fault))
-    );
-    assert_eq!(rt; into.as_slice(), b"as it was".as_slice());
+    assert!(rt; name_into(blob, Blobs::new(&HEAP), &mut into) == Err(NameError::Blob(fault)));
+    assert!(rt; into.as_slice() == b"as it was".as_slice());
 }
 
 #[test]

@@ -91,9 +91,9 @@ fn guids_are_numbered_from_one(rt: HostRuntime) {
     expected[16..].fill(2);
     let mut heap = GuidHeap::new(rt.alloc());
     let mut bytes = Bytes::new(rt.alloc());
-    assert_eq!(rt; use_guids(&mut heap, &mut bytes), Ok([1, 2, 1]));
-    assert_eq!(rt; bytes.as_slice(), expected.as_slice());
-    assert_eq!(rt; heap.len(), 32);
+    assert!(rt; use_guids(&mut heap, &mut bytes) == Ok([1, 2, 1]));
+    assert!(rt; bytes.as_slice() == expected.as_slice());
+    assert!(rt; heap.len() == 32);
 }
 
 /// The indexes of some texts, whose bytes are put.
@@ -109,7 +109,7 @@ fn use_texts(heap: &mut Heap, bytes: &mut Bytes) -> Result<[u64; 3], Memory> {
 fn texts_end_with_a_zero(rt: HostRuntime) {
     let mut heap = Heap::new(rt.alloc(), HeapKind::Texts);
     let mut bytes = Bytes::new(rt.alloc());
-    assert_eq!(rt; use_texts(&mut heap, &mut bytes), Ok([0, 1, 4]));
-    assert_eq!(rt; bytes.as_slice(), b"\x00xy\x00y\x00".as_slice());
-    assert_eq!(rt; heap.len(), 6);
+    assert!(rt; use_texts(&mut heap, &mut bytes) == Ok([0, 1, 4]));
+    assert!(rt; bytes.as_slice() == b"\x00xy\x00y\x00".as_slice());
+    assert!(rt; heap.len() == 6);
 }

@@ -78,7 +78,7 @@ fn is_laid_out(
     want: (u64, &[u8]),
 ) {
     let (len, bytes) = want;
-    assert_eq!(rt; file_len(counts, rows, heaps), len);
+    assert!(rt; file_len(counts, rows, heaps) == len);
     let got = front(alloc, entry, counts, rows, heaps);
     assert!(rt; got.is_ok_and(|got| got.as_slice() == bytes));
 }
@@ -119,7 +119,7 @@ fn machine_has_width(rt: &impl Abort, rows: &Rows) {
             guids: 0,
             blobs: 4,
         };
-        assert_eq!(rt; file_len(&counts, rows, heaps), len);
+        assert!(rt; file_len(&counts, rows, heaps) == len);
     }
 }
 
@@ -133,7 +133,7 @@ fn document_has_width(rt: &impl Abort, rows: &Rows) {
             guids: 0,
             blobs,
         };
-        assert_eq!(rt; file_len(&counts, rows, heaps), len);
+        assert!(rt; file_len(&counts, rows, heaps) == len);
     }
 }
 

@@ -59,10 +59,10 @@ fn reads_the_head(rt: HostRuntime) {
     let head = head_of(&changed(&[(131, 9)]));
     assert!(rt; matches!(&head, Some(Ok(_))));
     if let Some(Ok(head)) = head {
-        assert_eq!(rt; head.id[19], 9);
-        assert_eq!(rt; head.entry, 1);
-        assert_eq!(rt; head.rows[6], 1);
-        assert_eq!(rt; head.rows[7], 0);
+        assert!(rt; head.id[19] == 9);
+        assert!(rt; head.entry == 1);
+        assert!(rt; head.rows[6] == 1);
+        assert!(rt; head.rows[7] == 0);
     }
 }
 
@@ -85,7 +85,7 @@ fn names_the_first_fault_of_the_head(rt: HostRuntime) {
             column: 0,
             byte,
         };
-        assert_eq!(rt; head_fault(&[change]), Some(Fault { code, place }));
+        assert!(rt; head_fault(&[change]) == Some(Fault { code, place }));
     }
 }
 
@@ -102,9 +102,9 @@ fn names_the_first_fault_of_the_tables(rt: HostRuntime) {
         (&[(162, 0xff)], Code::TablesBounds, 84),
     ];
     for (changes, code, byte) in rows {
-        assert_eq!(rt; tables_fault(changes), Some((code, byte)));
+        assert!(rt; tables_fault(changes) == Some((code, byte)));
     }
-    assert_eq!(rt; tables_fault(&[]), None);
+    assert!(rt; tables_fault(&[]) == None);
 }
 
 /// A row of each table, and how many rows were read.
@@ -167,10 +167,10 @@ fn reads_the_rows(rt: HostRuntime) {
     let tables = tables_of(&SMALL);
     assert!(rt; matches!(&tables, Some(Ok(_))));
     if let Some(Ok(tables)) = tables {
-        assert_eq!(rt; tables.rows(0x06), 1);
-        assert_eq!(rt; tables.rows(0x32), 2);
-        assert_eq!(rt; tables.rows(0x34), 0);
-        assert_eq!(rt; first_rows(&tables), Some(FIRST_ROWS));
+        assert!(rt; tables.rows(0x06) == 1);
+        assert!(rt; tables.rows(0x32) == 2);
+        assert!(rt; tables.rows(0x34) == 0);
+        assert!(rt; first_rows(&tables) == Some(FIRST_ROWS));
     }
 }
 
@@ -188,16 +188,15 @@ fn tags_pick_tables(rt: HostRuntime) {
             table: *table,
             row: 7,
         };
-        assert_eq!(rt; parent_of(coded), Some(parent));
-        assert_eq!(rt; coded_parent(parent), Some(coded));
+        assert!(rt; parent_of(coded) == Some(parent));
+        assert!(rt; coded_parent(parent) == Some(coded));
     }
-    assert_eq!(rt; parent_of(27), None);
-    assert_eq!(rt; parent_of(7 * 32 + 31), None);
-    assert_eq!(rt;
+    assert!(rt; parent_of(27) == None);
+    assert!(rt; parent_of(7 * 32 + 31) == None);
+    assert!(rt;
         coded_parent(Parent {
             table: 0x31,
             row: 1
-        }),
-        None
+        }) == None
     );
 }

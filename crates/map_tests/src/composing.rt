@@ -72,17 +72,16 @@ fn sizes_differ(rt: HostRuntime) -> Result<(), Fail> {
         "ppdbmap 1/rows 06 2/row 06 1 2/row 06 2 1/method 1 5 6/method 2 5 7",
     )?;
     let second = map_of(rt.alloc(), "ppdbmap 1/method 1 8 8/method 2 9 9")?;
-    match compose_maps(rt.alloc(), &first, &second) {
+    let differ = match compose_maps(rt.alloc(), &first, &second) {
         Err(
             ComposeError::SizesDiffer {
                 method,
                 first,
                 second,
             },
-        ) => {
-            assert!(rt; method == 1 && first == 6 && second == 9);
-            Ok(())
-        }
-        _ => Err(Fail::from("composed")),
-    }
+        ) => method == 1 && first == 6 && second == 9,
+        _ => false,
+    };
+    assert!(rt; differ);
+    Ok(())
 }

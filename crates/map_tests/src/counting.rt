@@ -14,21 +14,14 @@ fn too_long(alloc: Global, first: &[u8], second: &[u8]) -> Result<u64, Fail> {
     }
 }
 
-/// Lines that move so many methods to method 1.
-fn moved_to_one(alloc: Global, methods: u32) -> Result<Vec<u8>, AllocError> {
-    let mut text = Vec::from_slice(alloc, b"ppdbmap 3\nrows 06 1\n")?;
-    for number in 0..methods {
-        let line = format!(in alloc; "row 06 {} 1\n", u64::from(number) + 1)?;
-        text.extend_from_slice(line.as_bytes())?;
-    }
-    Ok(text)
-}
-
-/// Lines that move so many methods to the methods 1 and 2, by turns.
-fn moved_to_two(alloc: Global, methods: u32) -> Result<Vec<u8>, AllocError> {
-    let mut text = Vec::from_slice(alloc, b"ppdbmap 3\nrows 06 2\n")?;
-    for number in 0..methods {
-        let line = format!(in alloc; "row 06 {} {}\n", u64::from(number) + 1, 2 - number % 2)?;
+/// Lines that move so many methods to method 1, or to the methods 1 and 2 by turns.
+fn moved_to(alloc: Global, images: u32, methods: u32) -> Result<Vec<u8>, AllocError> {
+    let head = format!(in alloc; "ppdbmap 3\nrows 06 {images}\n")?;
+    let mut text = Vec::from_slice(alloc, head.as_bytes())?;
+    for before in 0..methods {
+        let method = before.saturating_add(1);
+        let image = if images == 1 { 1 } else { 2 - before % 2 };
+        let line = format!(in alloc; "row 06 {method} {image}\n")?;
         text.extend_from_slice(line.as_bytes())?;
     }
     Ok(text)
@@ -47,7 +40,7 @@ fn with_runs(alloc: Global) -> Result<Vec<u8>, AllocError> {
 // The last forty methods have lines of their own in the first map the second time.
 #[test]
 fn many_lines_are_counted(rt: HostRuntime) -> Result<(), Fail> {
-    let mut first = moved_to_one(rt.alloc(), 3000)?;
+    let mut first = moved_to(rt.alloc(), 1, 3000)?;
     let second = with_runs(rt.alloc())?;
     assert_eq!(rt; too_long(rt.alloc(), &first, &second)?, 145_338_806);
     for method in 2961..3001u32 {
@@ -84,7 +77,7 @@ fn with_slots(alloc: Global) -> Result<Vec<u8>, AllocError> {
 // Every third of the last forty methods has slots of its own in the first map the second time.
 #[test]
 fn many_slots_are_counted(rt: HostRuntime) -> Result<(), Fail> {
-    let mut first = moved_to_two(rt.alloc(), 4400)?;
+    let mut first = moved_to(rt.alloc(), 2, 4400)?;
     let second = with_slots(rt.alloc())?;
     assert_eq!(rt; too_long(rt.alloc(), &first, &second)?, 139_012_521);
     for number in 0..13u32 {

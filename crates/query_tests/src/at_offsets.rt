@@ -20,7 +20,7 @@ use worked_files::{PROGRAM, SMALL};
 
 /// What a file says of an offset of a method: the point, the scopes by row, the import scopes of the first with how many imports
 /// they have, the first slot, and the state machine.
-#[derive(Clone, Copy, Debug, PartialEq)]
+#[derive(Clone, Copy, PartialEq)]
 struct Found {
     point: Option<Point>,
     scopes: [Option<ScopeView>; 3],
@@ -159,6 +159,22 @@ const SECOND: ScopeView = ScopeView {
     constants: Run { first: 1, end: 1 },
 };
 
+/// The offset of the point that covers an offset of a method.
+fn point_in(alloc: Global, bytes: &[u8], method: u32, offset: u32) -> Result<Option<u32>, Fail> {
+    let found = asked(alloc, bytes, method, offset)?;
+    match found.point {
+        Some(point) => Ok(Some(point.offset)),
+        None => Ok(None),
+    }
+}
+
+/// Whether these are the two scopes of an offset of method 1 of B.
+fn scopes_are(alloc: Global, offset: u32, scopes: [Option<ScopeView>; 2]) -> Result<bool, Fail> {
+    let found = asked(alloc, &SMALL, 1, offset)?;
+    let [first, second, third] = found.scopes;
+    Ok(first == scopes[0] && second == scopes[1] && third.is_none())
+}
+
 #[test]
 fn scopes_hold_their_starts_and_not_their_ends(rt: HostRuntime) -> Result<(), Fail> {
     let rows = [
@@ -172,10 +188,8 @@ fn scopes_hold_their_starts_and_not_their_ends(rt: HostRuntime) -> Result<(), Fa
         (9, Some(7), [None, None]),
     ];
     for (offset, point, scopes) in rows {
-        let found = asked(rt.alloc(), &SMALL, 1, offset)?;
-        assert_eq!(rt; found.point.map(|point| point.offset), point, "{offset}");
-        assert_eq!(rt; [found.scopes[0], found.scopes[1]], scopes, "{offset}");
-        assert_eq!(rt; found.scopes[2], None);
+        assert_eq!(rt; point_in(rt.alloc(), &SMALL, 1, offset)?, point, "{offset}");
+        assert!(rt; scopes_are(rt.alloc(), offset, scopes)?, "{offset}");
     }
     Ok(())
 }
@@ -193,12 +207,15 @@ fn methods_have_points_or_none(rt: HostRuntime) -> Result<(), Fail> {
         (&PARENTS, 1, 0, None),
     ];
     for (bytes, method, offset, point) in rows {
-        let found = asked(rt.alloc(), bytes, method, offset)?;
-        assert_eq!(rt; found.point.map(|point| point.offset), point);
+        assert_eq!(rt; point_in(rt.alloc(), bytes, method, offset)?, point);
     }
-    for method in [0, 2] {
-        assert_eq!(rt; query(rt.alloc(), &SMALL, method, 0)?, None);
-    }
+    Ok(())
+}
+
+#[test]
+fn methods_that_are_not_there(rt: HostRuntime) -> Result<(), Fail> {
+    assert!(rt; query(rt.alloc(), &SMALL, 0, 0)?.is_none());
+    assert!(rt; query(rt.alloc(), &SMALL, 2, 0)?.is_none());
     Ok(())
 }
 
@@ -240,23 +257,24 @@ const AT_A_LINE: Found = Found {
 
 #[test]
 fn an_asynchronous_method(rt: HostRuntime) -> Result<(), Fail> {
-    assert_eq!(rt; asked(rt.alloc(), &PROGRAM, 4, 110)?, AT_A_LINE);
+    assert!(rt; asked(rt.alloc(), &PROGRAM, 4, 110)? == AT_A_LINE);
     Ok(())
+}
+
+/// The kickoff and the MoveNext method that a method of the program is linked to, of which no hoisted local is at the offset.
+fn linked(alloc: Global, method: u32, offset: u32) -> Result<(Option<u32>, Option<u32>), Fail> {
+    let found = asked(alloc, &PROGRAM, method, offset)?;
+    match found.hoisted {
+        Some(_) => Err(Fail::from("a hoisted local")),
+        None => Ok((found.kickoff, found.move_next)),
+    }
 }
 
 #[test]
 fn what_is_linked_to_methods(rt: HostRuntime) -> Result<(), Fail> {
-    let rows = [
-        (1, 0, None, Some(4)),
-        (4, 161, Some(1), None),
-        (5, 0, None, None),
-    ];
-    for (method, offset, kickoff, move_next) in rows {
-        let found = asked(rt.alloc(), &PROGRAM, method, offset)?;
-        assert_eq!(rt; found.hoisted, None);
-        assert_eq!(rt; found.kickoff, kickoff);
-        assert_eq!(rt; found.move_next, move_next);
-    }
+    assert!(rt; linked(rt.alloc(), 1, 0)? == (None, Some(4)));
+    assert!(rt; linked(rt.alloc(), 4, 161)? == (Some(1), None));
+    assert!(rt; linked(rt.alloc(), 5, 0)? == (None, None));
     Ok(())
 }
 

@@ -13,7 +13,7 @@ use std::test::Fail;
 use worked_files::SMALL;
 
 /// What a file says of a line of a document: the document, its first three breaks, and whether there are no more.
-#[derive(Clone, Copy, Debug, PartialEq)]
+#[derive(Clone, Copy)]
 struct Found {
     document: Option<u32>,
     breaks: [Option<Break>; 3],
@@ -72,6 +72,20 @@ fn at(method: u32, offset: u32, start: (u32, u32), end: (u32, u32)) -> Option<Br
     })
 }
 
+/// Whether a file has a document of this name, and these are the breaks of a line of it.
+fn breaks_are(
+    alloc: Global,
+    bytes: &[u8],
+    name: &[u8],
+    line: u32,
+    breaks: [Option<Break>; 2],
+) -> Result<bool, Fail> {
+    let found = find(alloc, bytes, name, line)?;
+    let [first, second, third] = found.breaks;
+    let same = first == breaks[0] && second == breaks[1] && third.is_none();
+    Ok(found.document.is_some() && same)
+}
+
 #[test]
 fn lines_have_breaks(rt: HostRuntime) -> Result<(), Fail> {
     let whole = at(1, 2, (7, 1), (9, 2));
@@ -91,10 +105,10 @@ fn lines_have_breaks(rt: HostRuntime) -> Result<(), Fail> {
         (&SMALL, b"/a/b", 11, [None, None]),
     ];
     for (bytes, name, line, breaks) in rows {
-        let found = find(rt.alloc(), bytes, name, line)?;
-        assert!(rt; found.document.is_some());
-        assert_eq!(rt; [found.breaks[0], found.breaks[1]], breaks, "{line}");
-        assert_eq!(rt; found.breaks[2], None);
+        assert!(rt;
+            breaks_are(rt.alloc(), bytes, name, line, breaks)?,
+            "{line}"
+        );
     }
     Ok(())
 }

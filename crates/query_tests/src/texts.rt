@@ -11,7 +11,7 @@ use std::test::Fail;
 use worked_files::{PROGRAM, SMALL};
 
 /// What a query of a file comes to.
-#[derive(Clone, Copy, Debug, PartialEq, Eq)]
+#[derive(Clone, Copy, PartialEq, Eq)]
 enum Answer {
     /// This text was put.
     Put,
@@ -64,7 +64,7 @@ fn a_point_scopes_and_the_entry_are_put(rt: HostRuntime) -> Result<(), Fail> {
     let text =
         b"point 3 1 hidden signature 0 name /a/b\nscope 0 9\nvariable 0 0 x\nscope 2 5\nvariable 1 0 y\nentry\n";
     let found = compared(rt.alloc(), &SMALL, 1, 3, text)?;
-    assert_eq!(rt; found, Answer::Put);
+    assert!(rt; found == Answer::Put);
     Ok(())
 }
 
@@ -75,20 +75,20 @@ fn a_constant_imports_and_a_state_machine_are_put(rt: HostRuntime) -> Result<(),
           import 2\nuse 1 namespace System\nuse 1 namespace System.Threading.Tasks\nimport 1\n\
           hoisted 0 14 161\nkickoff 1\nasync -\nstep 61 82 4\n";
     let found = compared(rt.alloc(), &PROGRAM, 4, 110, text)?;
-    assert_eq!(rt; found, Answer::Put);
+    assert!(rt; found == Answer::Put);
     Ok(())
 }
 
 #[test]
 fn a_method_above_the_methods_is_refused(rt: HostRuntime) -> Result<(), Fail> {
     let found = compared(rt.alloc(), &SMALL, 2, 0, b"")?;
-    assert_eq!(rt; found, Answer::NoMethod);
+    assert!(rt; found == Answer::NoMethod);
     Ok(())
 }
 
 #[test]
 fn method_0_is_refused(rt: HostRuntime) -> Result<(), Fail> {
     let found = compared(rt.alloc(), &SMALL, 0, 0, b"")?;
-    assert_eq!(rt; found, Answer::NoMethod);
+    assert!(rt; found == Answer::NoMethod);
     Ok(())
 }

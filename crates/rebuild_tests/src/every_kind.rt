@@ -23,9 +23,12 @@ fn letter(bits: u32) -> u8 {
     b'a' + (bits & 15) as u8
 }
 
-/// So many documents, to 4096, whose names have three letters.
-fn documents(alloc: Global, count: u32) -> Result<List<DocumentValue>, Memory> {
-    let mut documents = List::new(alloc);
+/// Puts so many documents, to 4096, whose names have three letters.
+fn put_documents(
+    alloc: Global,
+    count: u32,
+    documents: &mut List<DocumentValue>,
+) -> Result<(), Memory> {
     for number in 0..count {
         let name = [letter(number >> 8), letter(number >> 4), letter(number)];
         documents.push(DocumentValue {
@@ -35,32 +38,28 @@ fn documents(alloc: Global, count: u32) -> Result<List<DocumentValue>, Memory> {
             language: None,
         })?;
     }
-    Ok(documents)
+    Ok(())
 }
 
-/// A method with a point in document 300 and a hidden one in document 1.
-fn method(alloc: Global) -> Result<MethodValue, Memory> {
-    let mut points = List::new(alloc);
-    points.push(Point {
+/// A point in document 300 and a hidden one in document 1.
+fn points(alloc: Global) -> Result<List<Point>, Memory> {
+    let span = Span::Lines {
+        start_line: 1,
+        start_column: 1,
+        end_line: 1,
+        end_column: 2,
+    };
+    let shown = Point {
         offset: 0,
         document: 300,
-        span: Span::Lines {
-            start_line: 1,
-            start_column: 1,
-            end_line: 1,
-            end_column: 2,
-        },
-    })?;
-    points.push(Point {
+        span,
+    };
+    let hidden = Point {
         offset: 4,
         document: 1,
         span: Span::Hidden,
-    })?;
-    Ok(MethodValue {
-        method: 1,
-        signature: 1,
-        points,
-    })
+    };
+    List::copied(alloc, &[shown, hidden])
 }
 
 /// The value of a constant of a primitive type.
@@ -69,135 +68,138 @@ fn primitive(alloc: Global, code: u8, value: &[u8]) -> Result<ConstantBody, Memo
     Ok(ConstantBody::Primitive { code, value })
 }
 
-/// A number whose type has two modifiers, a value of an enumeration, a text, the null text, an object of a class, and the null
+/// Puts a constant of this name.
+fn put_constant(
+    alloc: Global,
+    name: &[u8],
+    modifiers: &[Modifier],
+    body: ConstantBody,
+    constants: &mut List<ConstantValue>,
+) -> Result<(), Memory> {
+    constants.push(ConstantValue {
+        name: bytes(alloc, name)?,
+        modifiers: List::copied(alloc, modifiers)?,
+        body,
+    })
+}
+
+/// Puts a number whose type has two modifiers, a value of an enumeration, a text, the null text, an object of a class, and the null
 /// reference.
-fn constants(alloc: Global) -> Result<List<ConstantValue>, Memory> {
-    let mut constants = List::new(alloc);
-    for (name, body) in [
-        (b"a", primitive(alloc, 0x08, &[5, 0, 0, 0])?),
-        (
-            b"b",
-            ConstantBody::Enumerated {
-                code: 0x06,
-                value: bytes(alloc, &[0xff, 0xff])?,
-                target: token(0x02, 1),
-            },
-        ),
-        (b"c", primitive(alloc, 0x0e, b"a\0")?),
-        (b"d", primitive(alloc, 0x0e, &[0xff])?),
-        (
-            b"e",
-            ConstantBody::General {
-                code: 0x12,
-                target: token(0x1b, 1),
-                rest: bytes(alloc, &[1, 2])?,
-            },
-        ),
-        (b"f", ConstantBody::Object),
-    ] {
-        constants.push(ConstantValue {
-            name: bytes(alloc, name)?,
-            modifiers: List::new(alloc),
-            body,
-        })?;
-    }
-    if let [first, ..] = constants.as_mut_slice() {
-        for (required, target) in [(true, token(0x01, 1)), (false, token(0x02, 2))] {
-            first.modifiers.push(Modifier { required, target })?;
-        }
-    }
-    Ok(constants)
-}
-
-/// An import of each of the nine kinds, in their order.
-fn imports(alloc: Global) -> Result<List<ImportValue>, Memory> {
-    let mut imports = List::new(alloc);
-    for import in [
-        ImportValue::Namespace {
-            namespace: bytes(alloc, b"N")?,
+fn put_constants(alloc: Global, constants: &mut List<ConstantValue>) -> Result<(), Memory> {
+    let modifiers = [
+        Modifier {
+            required: true,
+            target: token(0x01, 1),
         },
-        ImportValue::AssemblyNamespace {
-            assembly: 2,
-            namespace: bytes(alloc, b"M")?,
-        },
-        ImportValue::Target {
-            target: token(0x01, 3),
-        },
-        ImportValue::Xml {
-            alias: bytes(alloc, b"x")?,
-            namespace: bytes(alloc, b"urn")?,
-        },
-    ] {
-        imports.push(import)?;
-    }
-    for import in aliases(alloc)? {
-        imports.push(import)?;
-    }
-    Ok(imports)
-}
-
-/// An import of each of the five kinds that give a name.
-fn aliases(alloc: Global) -> Result<[ImportValue; 5], Memory> {
-    Ok([
-        ImportValue::Alias {
-            alias: bytes(alloc, b"x")?,
-        },
-        ImportValue::AssemblyAlias {
-            alias: bytes(alloc, b"y")?,
-            assembly: 1,
-        },
-        ImportValue::NamespaceAlias {
-            alias: bytes(alloc, b"z")?,
-            namespace: bytes(alloc, b"N")?,
-        },
-        ImportValue::AssemblyNamespaceAlias {
-            alias: bytes(alloc, b"w")?,
-            assembly: 1,
-            namespace: bytes(alloc, b"N")?,
-        },
-        ImportValue::TargetAlias {
-            alias: bytes(alloc, b"t")?,
+        Modifier {
+            required: false,
             target: token(0x02, 2),
         },
-    ])
+    ];
+    let number = primitive(alloc, 0x08, &[5, 0, 0, 0])?;
+    put_constant(alloc, b"a", &modifiers, number, constants)?;
+    let value = ConstantBody::Enumerated {
+        code: 0x06,
+        value: bytes(alloc, &[0xff, 0xff])?,
+        target: token(0x02, 1),
+    };
+    put_constant(alloc, b"b", &[], value, constants)?;
+    let text = primitive(alloc, 0x0e, b"a\0")?;
+    put_constant(alloc, b"c", &[], text, constants)?;
+    let null = primitive(alloc, 0x0e, &[0xff])?;
+    put_constant(alloc, b"d", &[], null, constants)?;
+    let object = ConstantBody::General {
+        code: 0x12,
+        target: token(0x1b, 1),
+        rest: bytes(alloc, &[1, 2])?,
+    };
+    put_constant(alloc, b"e", &[], object, constants)?;
+    put_constant(alloc, b"f", &[], ConstantBody::Object, constants)
 }
 
-fn record(table: u8, row: u32, kind: [u8; 16], value: CustomBody) -> CustomValue {
-    CustomValue {
-        parent: Parent { table, row },
+/// Puts an import of each of the four kinds that bring in what they name, in their order.
+fn put_imports(alloc: Global, imports: &mut List<ImportValue>) -> Result<(), Memory> {
+    imports.push(ImportValue::Namespace {
+        namespace: bytes(alloc, b"N")?,
+    })?;
+    imports.push(ImportValue::AssemblyNamespace {
+        assembly: 2,
+        namespace: bytes(alloc, b"M")?,
+    })?;
+    imports.push(ImportValue::Target {
+        target: token(0x01, 3),
+    })?;
+    let alias = bytes(alloc, b"x")?;
+    let namespace = bytes(alloc, b"urn")?;
+    imports.push(ImportValue::Xml { alias, namespace })
+}
+
+/// Puts an import of each of the five kinds that give a name, in their order.
+fn put_aliases(alloc: Global, imports: &mut List<ImportValue>) -> Result<(), Memory> {
+    imports.push(ImportValue::Alias {
+        alias: bytes(alloc, b"x")?,
+    })?;
+    imports.push(ImportValue::AssemblyAlias {
+        alias: bytes(alloc, b"y")?,
+        assembly: 1,
+    })?;
+    let alias = bytes(alloc, b"z")?;
+    let namespace = bytes(alloc, b"N")?;
+    imports.push(ImportValue::NamespaceAlias { alias, namespace })?;
+    let alias = bytes(alloc, b"w")?;
+    let namespace = bytes(alloc, b"N")?;
+    imports.push(ImportValue::AssemblyNamespaceAlias {
+        alias,
+        assembly: 1,
+        namespace,
+    })?;
+    imports.push(ImportValue::TargetAlias {
+        alias: bytes(alloc, b"t")?,
+        target: token(0x02, 2),
+    })
+}
+
+/// Puts a record on a row.
+fn put_record(
+    table: u8,
+    row: u32,
+    kind: [u8; 16],
+    value: CustomBody,
+    customs: &mut List<CustomValue>,
+) -> Result<(), Memory> {
+    let parent = Parent { table, row };
+    customs.push(CustomValue {
+        parent,
         kind,
         value,
-    }
+    })
 }
 
-/// Async steps with and without a handler, hoisted locals of which one is nowhere, and the documents 1 and 300 of a type.
-fn customs(alloc: Global) -> Result<List<CustomValue>, Memory> {
-    let (mut steps, mut slots) = (List::new(alloc), List::new(alloc));
-    steps.push(AsyncStep {
+/// Puts async steps with and without a handler, hoisted locals of which one is nowhere, and the documents 1 and 300 of a type.
+fn put_customs(alloc: Global, customs: &mut List<CustomValue>) -> Result<(), Memory> {
+    let step = AsyncStep {
         pause: 61,
         resume: 82,
         method: 1,
-    })?;
-    slots.push(Slot::Held(Range {
-        start: 14,
-        end: 161,
-    }))?;
-    slots.push(Slot::Empty)?;
+    };
     let unhandled = CustomBody::Async {
         handler: None,
-        steps,
+        steps: List::copied(alloc, &[step])?,
     };
+    put_record(0x06, 1, ASYNC_STEPPING, unhandled, customs)?;
+    let held = Slot::Held(Range {
+        start: 14,
+        end: 161,
+    });
+    let slots = CustomBody::Hoisted(List::copied(alloc, &[held, Slot::Empty])?);
+    put_record(0x06, 1, HOISTED_SCOPES, slots, customs)?;
+    let rows = CustomBody::TypeDocuments(List::copied(alloc, &[1, 300])?);
+    put_record(0x02, 1, TYPE_DOCUMENTS, rows, customs)?;
     let handled = CustomBody::Async {
         handler: Some(7),
         steps: List::new(alloc),
     };
-    let rows = CustomBody::TypeDocuments(List::copied(alloc, &[1, 300])?);
-    let mut customs = List::new(alloc);
-    customs.push(record(0x06, 1, ASYNC_STEPPING, unhandled))?;
-    customs.push(record(0x06, 1, HOISTED_SCOPES, CustomBody::Hoisted(slots)))?;
-    customs.push(record(0x02, 1, TYPE_DOCUMENTS, rows))?;
-    customs.push(record(0x06, 2, ASYNC_STEPPING, handled))?;
-    Ok(customs)
+    put_record(0x06, 2, ASYNC_STEPPING, handled, customs)
 }
 
 /// The row counts of the type system.
@@ -216,41 +218,73 @@ fn type_rows() -> [u32; 64] {
     rows
 }
 
+/// Puts the scope of the method, with a variable and the constants.
+fn put_scope(alloc: Global, scopes: &mut List<ScopeValue>) -> Result<(), Memory> {
+    scopes.push(ScopeValue {
+        method: 1,
+        import: 2,
+        range: Range { start: 0, end: 200 },
+        variables: List::new(alloc),
+        constants: List::new(alloc),
+    })?;
+    let [.., scope] = scopes.as_mut_slice() else {
+        return Ok(());
+    };
+    scope.variables.push(VariableValue {
+        attributes: 1,
+        slot: 3,
+        name: bytes(alloc, b"v")?,
+    })?;
+    put_constants(alloc, &mut scope.constants)
+}
+
+/// Puts a scope of all imports, and an empty one in it.
+fn put_import_scopes(alloc: Global, scopes: &mut List<ImportScopeValue>) -> Result<(), Memory> {
+    for parent in 0..2 {
+        let imports = List::new(alloc);
+        scopes.push(ImportScopeValue { parent, imports })?;
+    }
+    let [first, ..] = scopes.as_mut_slice() else {
+        return Ok(());
+    };
+    put_imports(alloc, &mut first.imports)?;
+    put_aliases(alloc, &mut first.imports)
+}
+
+/// Puts all parts into a value that has none.
+fn fill(alloc: Global, value: &mut FileValue) -> Result<(), Memory> {
+    put_documents(alloc, 300, &mut value.documents)?;
+    value.methods.push(MethodValue {
+        method: 1,
+        signature: 1,
+        points: points(alloc)?,
+    })?;
+    put_scope(alloc, &mut value.scopes)?;
+    put_import_scopes(alloc, &mut value.imports)?;
+    value.machines.push(MachineRow {
+        move_next: 2,
+        kickoff: 1,
+    })?;
+    put_customs(alloc, &mut value.customs)
+}
+
 /// The value: three types that are referred to, two that are defined, one specified, two methods, a signature and two assemblies.
 pub fn with_every_kind(alloc: Global) -> Result<FileValue, Memory> {
     let mut value = FileValue {
         id: [0; 20],
         entry: 0,
         rows: type_rows(),
-        documents: documents(alloc, 300)?,
+        documents: List::new(alloc),
         methods: List::new(alloc),
         scopes: List::new(alloc),
         imports: List::new(alloc),
         machines: List::new(alloc),
-        customs: customs(alloc)?,
+        customs: List::new(alloc),
     };
-    value.methods.push(method(alloc)?)?;
-    let mut variables = List::new(alloc);
-    variables.push(VariableValue {
-        attributes: 1,
-        slot: 3,
-        name: bytes(alloc, b"v")?,
-    })?;
-    value.scopes.push(ScopeValue {
-        method: 1,
-        import: 2,
-        range: Range { start: 0, end: 200 },
-        variables,
-        constants: constants(alloc)?,
-    })?;
-    for (parent, imports) in [(0, imports(alloc)?), (1, List::new(alloc))] {
-        value.imports.push(ImportScopeValue { parent, imports })?;
+    match fill(alloc, &mut value) {
+        Ok(()) => Ok(value),
+        Err(memory) => Err(memory),
     }
-    value.machines.push(MachineRow {
-        move_next: 2,
-        kickoff: 1,
-    })?;
-    Ok(value)
 }
 
 /// The end of what `show` prints of its file.

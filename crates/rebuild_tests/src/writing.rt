@@ -14,8 +14,7 @@ use worked_runs::first_other;
 
 /// The file of a sound value.
 fn written(alloc: Global, value: &FileValue, id: IdChoice) -> Result<Bytes, Fail> {
-    let is_sound = sound(alloc, value)?;
-    if !is_sound {
+    if !sound(alloc, value)? {
         return Err(Fail::from("not sound"));
     }
     match write_file(alloc, value, id) {
@@ -24,11 +23,18 @@ fn written(alloc: Global, value: &FileValue, id: IdChoice) -> Result<Bytes, Fail
     }
 }
 
+/// The file of what a file says.
+fn again(alloc: Global, file: &[u8], id: IdChoice) -> Result<Bytes, Fail> {
+    match read(alloc, file) {
+        Ok(value) => written(alloc, &value, id),
+        Err(fail) => Err(fail),
+    }
+}
+
 /// The file of a sound value with the value's own identity, as O, where the file's value is written as the same file.
 fn kept(alloc: Global, value: &FileValue) -> Result<SteadyFolder, Fail> {
     let file = written(alloc, value, IdChoice::Keep)?;
-    let again = written(alloc, &read(alloc, file.as_slice())?, IdChoice::Keep)?;
-    if again.as_slice() != file.as_slice() {
+    if again(alloc, file.as_slice(), IdChoice::Keep)?.as_slice() != file.as_slice() {
         return Err(Fail::from("another file"));
     }
     let mut folder = SteadyFolder::new(alloc);
@@ -36,13 +42,23 @@ fn kept(alloc: Global, value: &FileValue) -> Result<SteadyFolder, Fail> {
     Ok(folder)
 }
 
+/// The same of a value that was made.
+fn folder_of<E>(alloc: Global, made: Result<FileValue, E>) -> Result<SteadyFolder, Fail>
+where
+    Fail: From<E>,
+{
+    match made {
+        Ok(value) => kept(alloc, &value),
+        Err(error) => Err(Fail::from(error)),
+    }
+}
+
 #[test]
 fn worked_values_are_written(rt: HostRuntime) -> Result<(), Fail> {
     for (file, id) in BY_HASH {
-        let value = read(rt.alloc(), file)?;
-        let bytes = written(rt.alloc(), &value, IdChoice::Keep)?;
+        let bytes = again(rt.alloc(), file, IdChoice::Keep)?;
         assert!(rt; bytes.as_slice() == file, "{id:?}");
-        let bytes = written(rt.alloc(), &value, IdChoice::Hash)?;
+        let bytes = again(rt.alloc(), file, IdChoice::Hash)?;
         let told = with_id(rt.alloc(), file, id)?;
         assert!(rt; bytes.as_slice() == told.as_slice(), "{id:?}");
     }
@@ -54,6 +70,32 @@ fn has_at(file: &[u8], place: usize, bytes: &[u8]) -> bool {
     file.get(place..).unwrap_or(b"").starts_with(bytes)
 }
 
+/// Puts a document whose hash is so many zeros.
+fn put_document(
+    alloc: Global,
+    zeros: usize,
+    documents: &mut List<DocumentValue>,
+) -> Result<(), Fail> {
+    let hash = vec![in alloc; 0u8; zeros]?;
+    Ok(documents.push(DocumentValue {
+        name: List::copied(alloc, b"a")?,
+        algorithm: None,
+        hash: List::from_vec(hash),
+        language: None,
+    })?)
+}
+
+/// The file without rows, and a document whose hash is so many zeros.
+fn with_document(alloc: Global, zeros: usize) -> Result<Bytes, Fail> {
+    match read(alloc, &EMPTY) {
+        Ok(mut value) => match put_document(alloc, zeros, &mut value.documents) {
+            Ok(()) => written(alloc, &value, IdChoice::Keep),
+            Err(fail) => Err(fail),
+        },
+        Err(fail) => Err(fail),
+    }
+}
+
 // At 150 the header of `#~` says which heaps are large; at 100 stands the length of `#Blob`.
 #[test]
 fn a_heap_becomes_large(rt: HostRuntime) -> Result<(), Fail> {
@@ -63,18 +105,34 @@ fn a_heap_becomes_large(rt: HostRuntime) -> Result<(), Fail> {
         (65527, 4, b"\x04\0\x01\0"),
     ];
     for (zeros, large, len) in rows {
-        let mut value = read(rt.alloc(), &EMPTY)?;
-        value.documents.push(DocumentValue {
-            name: List::copied(rt.alloc(), b"a")?,
-            algorithm: None,
-            hash: List::from_vec(vec![in rt.alloc(); 0u8; zeros]?),
-            language: None,
-        })?;
-        let file = written(rt.alloc(), &value, IdChoice::Keep)?;
+        let file = with_document(rt.alloc(), zeros)?;
         assert!(rt; has_at(file.as_slice(), 150, &[large]), "{zeros}");
         assert!(rt; has_at(file.as_slice(), 100, len), "{zeros}");
     }
     Ok(())
+}
+
+/// The file without rows of a module that counts so many fields, and a record on the last of them.
+fn with_record(alloc: Global, fields: u32) -> Result<Bytes, Fail> {
+    match read(alloc, &EMPTY) {
+        Ok(mut value) => {
+            value.rows[0x04] = fields;
+            let parent = Parent {
+                table: 0x04,
+                row: fields,
+            };
+            let record = CustomValue {
+                parent,
+                kind: SOURCE_LINK,
+                value: CustomBody::Unread(List::new(alloc)),
+            };
+            match value.customs.push(record) {
+                Ok(()) => written(alloc, &value, IdChoice::Keep),
+                Err(memory) => Err(Fail::from(memory)),
+            }
+        }
+        Err(fail) => Err(fail),
+    }
 }
 
 // The one row stands at 176, and is padded to a multiple of four bytes.
@@ -85,17 +143,7 @@ fn a_parent_becomes_large(rt: HostRuntime) -> Result<(), Fail> {
         (2048, b"\x01\0\x01\0\x01\0\0\0"),
     ];
     for (fields, row) in rows {
-        let mut value = read(rt.alloc(), &EMPTY)?;
-        value.rows[0x04] = fields;
-        value.customs.push(CustomValue {
-            parent: Parent {
-                table: 0x04,
-                row: fields,
-            },
-            kind: SOURCE_LINK,
-            value: CustomBody::Unread(List::new(rt.alloc())),
-        })?;
-        let file = written(rt.alloc(), &value, IdChoice::Keep)?;
+        let file = with_record(rt.alloc(), fields)?;
         assert!(rt; has_at(file.as_slice(), 176, row), "{fields}");
         assert_eq!(rt; file.len(), 208);
     }
@@ -124,8 +172,7 @@ const OF_THE_PROGRAM: [(&str, u8, &str); 2] = [
 
 #[test]
 fn the_program_answers(rt: HostRuntime) -> Result<(), Fail> {
-    let value = read(rt.alloc(), &PROGRAM)?;
-    let mut folder = kept(rt.alloc(), &value)?;
+    let mut folder = folder_of(rt.alloc(), read(rt.alloc(), &PROGRAM))?;
     assert_eq!(rt;
         first_other(rt.alloc(), &mut folder, &OF_THE_PROGRAM)?,
         None
@@ -138,7 +185,7 @@ const OF_EVERY_KIND: [(&str, u8, &str); 2] = [("verify O", 0, "accepted\n"), ("s
 
 #[test]
 fn every_kind_is_read_again(rt: HostRuntime) -> Result<(), Fail> {
-    let mut folder = kept(rt.alloc(), &with_every_kind(rt.alloc())?)?;
+    let mut folder = folder_of(rt.alloc(), with_every_kind(rt.alloc()))?;
     assert_eq!(rt; first_other(rt.alloc(), &mut folder, &OF_EVERY_KIND)?, None);
     Ok(())
 }
@@ -166,7 +213,7 @@ const OF_THE_SAMPLE: [(&str, u8, &str); 3] = [
 
 #[test]
 fn a_large_sample_answers(rt: HostRuntime) -> Result<(), Fail> {
-    let mut folder = kept(rt.alloc(), &sample_value(rt.alloc(), 20000)?)?;
+    let mut folder = folder_of(rt.alloc(), sample_value(rt.alloc(), 20000))?;
     assert_eq!(rt; first_other(rt.alloc(), &mut folder, &OF_THE_SAMPLE)?, None);
     assert!(rt; folder.get("O") == folder.get("A"));
     Ok(())

@@ -5,4 +5,7 @@ mod files;
 mod running;
 
 pub use files::{FREE_KIND, NOTHING, Parts, count_of, file_of};
-pub use running::{answers, ends, first_other, prints, ran, verifies};
+pub use running::{
+    answers, ends, first_other, first_other_over, first_other_words, folder_of, prints, ran,
+    verifies,
+};

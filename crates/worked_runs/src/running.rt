@@ -83,18 +83,59 @@ pub fn first_other<F: Folder>(
     Ok(None)
 }
 
+/// A folder of these files.
+pub fn folder_of(alloc: Global, files: &[(&str, &[u8])]) -> Result<SteadyFolder, Fail> {
+    let mut folder = SteadyFolder::new(alloc);
+    match put_files(&mut folder, files) {
+        Ok(()) => Ok(folder),
+        Err(fail) => Err(fail),
+    }
+}
+
+fn put_files(folder: &mut SteadyFolder, files: &[(&str, &[u8])]) -> Result<(), Fail> {
+    for &(name, bytes) in files {
+        folder.set(name, bytes)?;
+    }
+    Ok(())
+}
+
+/// Runs the commands of these words in turn over a folder of these files, and says which one does not end so and print this, by its
+/// number.
+pub fn first_other_over(
+    alloc: Global,
+    files: &[(&str, &[u8])],
+    rows: &[(&[&str], u8, &str)],
+) -> Result<Option<usize>, Fail> {
+    match folder_of(alloc, files) {
+        Ok(mut folder) => Ok(first_other_words(alloc, &mut folder, rows)?),
+        Err(fail) => Err(fail),
+    }
+}
+
+/// The same over a folder that is there.
+pub fn first_other_words<F: Folder>(
+    alloc: Global,
+    folder: &mut F,
+    rows: &[(&[&str], u8, &str)],
+) -> Result<Option<usize>, AllocError> {
+    for (number, &(words, status, text)) in rows.iter().enumerate() {
+        if !prints(alloc, words, folder, status, text)? {
+            return Ok(Some(number));
+        }
+    }
+    Ok(None)
+}
+
 /// Verifies these bytes as the file B, and says whether that printed this and ended as it says.
 pub fn verifies(alloc: Global, bytes: &[u8], text: &str) -> Result<bool, Fail> {
-    let mut folder = SteadyFolder::new(alloc);
-    folder.set("B", bytes)?;
     let status = if text == "accepted\n" { 0 } else { 1 };
-    Ok(prints(alloc, &["verify", "B"], &mut folder, status, text)?)
+    let rows: [(&[&str], u8, &str); 1] = [(&["verify", "B"], status, text)];
+    Ok(first_other_over(alloc, &[("B", bytes)], &rows)?.is_none())
 }
 
 /// Verifies these bytes as the file B, and says whether that ended as accepted or refused, with the line of it.
 pub fn answers(alloc: Global, bytes: &[u8]) -> Result<bool, Fail> {
-    let mut folder = SteadyFolder::new(alloc);
-    folder.set("B", bytes)?;
+    let mut folder = folder_of(alloc, &[("B", bytes)])?;
     let mut out = MemorySink::new(alloc);
     let status = ran(alloc, &["verify", "B"], &mut folder, &mut out)?;
     let text = out.as_slice();
