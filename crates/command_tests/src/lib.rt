@@ -17,6 +17,8 @@ mod moving;
 #[cfg(test)]
 mod moving_files;
 #[cfg(test)]
+mod puts;
+#[cfg(test)]
 mod query;
 #[cfg(test)]
 mod rules;

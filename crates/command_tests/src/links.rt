@@ -1,10 +1,9 @@
 // The addresses of documents, and the places where a debugger may stop for a line.
-use ppdb_base::MemorySink;
-use ppdb_run::Status;
+use crate::puts::puts_fronts;
 use std::alloc::{AllocError, Global};
 use std::test::Fail;
 use worked_files::{PROGRAM, SMALL};
-use worked_runs::{NOTHING, Parts, count_of, file_of, first_other_over, folder_of, ran};
+use worked_runs::{NOTHING, Parts, count_of, file_of, first_other_over};
 
 /// The GUIDs of Source Link and of compilation options, as their bytes stand in a file.
 const KINDS: [u8; 32] = [
@@ -428,29 +427,9 @@ fn words_that_are_neither(rt: HostRuntime) -> Result<(), Fail> {
     Ok(())
 }
 
-/// How `breaks` ends whose put of this number fails, where what it puts is a front of its text.
-fn ended(alloc: Global, call: u32) -> Result<Status, Fail> {
-    let mut folder = folder_of(alloc, &[("B", &SMALL)])?;
-    let mut out = MemorySink::new(alloc);
-    out.fail(call)?;
-    let words = ["breaks", "B", "/a/b", "10"];
-    let status = ran(alloc, &words, &mut folder, &mut out)?;
-    if b"break 1 0 10:5 10:9\n".starts_with(out.as_slice()) {
-        Ok(status)
-    } else {
-        Err(Fail::from("no front"))
-    }
-}
-
-// Each put fails in turn, up to the first run in which none does.
 #[test]
 fn puts_that_fail(rt: HostRuntime) -> Result<(), Fail> {
-    for call in 1..100 {
-        let status = ended(rt.alloc(), call)?;
-        if status == Status::Done {
-            return Ok(());
-        }
-        assert_eq!(rt; status, Status::WriteFault);
-    }
-    Err(Fail::from("each run failed"))
+    let words = ["breaks", "B", "/a/b", "10"];
+    assert!(rt; puts_fronts(rt.alloc(), &words, "break 1 0 10:5 10:9\n")?);
+    Ok(())
 }

@@ -1,10 +1,8 @@
 // All rows of a file, as text and as JSON.
-use ppdb_base::MemorySink;
-use ppdb_run::Status;
-use std::alloc::Global;
+use crate::puts::puts_fronts;
 use std::test::Fail;
 use worked_files::{EMPTY, SMALL};
-use worked_runs::{first_other_over, folder_of, ran};
+use worked_runs::first_other_over;
 
 /// What `show B` prints.
 const B_AS_TEXT: &str = "\
@@ -52,28 +50,8 @@ fn rows_as_text_and_as_json(rt: HostRuntime) -> Result<(), Fail> {
     Ok(())
 }
 
-/// How `show B` ends whose put of this number fails, where what it puts is a front of its text.
-fn ended(alloc: Global, call: u32) -> Result<Status, Fail> {
-    let mut folder = folder_of(alloc, &[("B", &SMALL)])?;
-    let mut out = MemorySink::new(alloc);
-    out.fail(call)?;
-    let status = ran(alloc, &["show", "B"], &mut folder, &mut out)?;
-    if B_AS_TEXT.as_bytes().starts_with(out.as_slice()) {
-        Ok(status)
-    } else {
-        Err(Fail::from("no front"))
-    }
-}
-
-// Each put fails in turn, up to the first run in which none does.
 #[test]
 fn puts_that_fail(rt: HostRuntime) -> Result<(), Fail> {
-    for call in 1..1000 {
-        let status = ended(rt.alloc(), call)?;
-        if status == Status::Done {
-            return Ok(());
-        }
-        assert_eq!(rt; status, Status::WriteFault);
-    }
-    Err(Fail::from("each run failed"))
+    assert!(rt; puts_fronts(rt.alloc(), &["show", "B"], B_AS_TEXT)?);
+    Ok(())
 }
