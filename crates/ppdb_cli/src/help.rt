@@ -33,8 +33,8 @@ The status, and the line that is printed with it:
 5   there was no memory left
 6   there is no such file: absent FILE
 7   the file is longer than 134217728 bytes: too long FILE
-8   the file does not fit its map, or the files before it: unfit FILE REASON, M1 to M11
-    the text is no map's: map FILE line LINE kind RULE
+8   a file does not fit its map or the files before it, or has a record of an unknown kind: unfit
+    FILE REASON, M1 to M11; a text is no map's: map FILE line LINE kind RULE
 9   what is to be written passes a limit of the format: limit LIMIT
 10  the file has no such method: no method METHOD
 11  the Source Link record cannot be read: links FILE not json, links FILE shape
@@ -121,7 +121,7 @@ A map of a method of 9 bytes, of which the offsets 0 and 5 to 8 are kept in 12 b
 A file that does not fit its map is told in a line, with status 8:
     unfit IN M1 table 06 row 3 at table 31 row 3 column 1 byte 0
 M6   a record has an unknown kind: mark it by --free, where it names no row, offset or slot
-M4   an offset is above the old size: give the size before the rewriting
+M4   an offset is not below the old size, or a range ends above it: give the size before rewriting
 M5   an async method stops at an offset that is not kept: a run line must hold it
 M1   a row has no image: a row line is missing, or the drop line of a removed method
 M2   two rows became one: a row line is wrong, or a method must be dropped
@@ -137,8 +137,8 @@ const MERGE: &str = "ppdb merge OUT IN MAP [IN MAP].. [--keep-id] [--free GUID].
 
 Verifies each IN, moves it by its MAP as `remap` does, and writes to OUT the canonical file of all:
 one to 256 inputs, of which no two name one method of the new module. Documents of one name become
-one; entry point and identity are those of the first IN. It prints nothing. All are read before OUT
-is written, which may be one of them. Each map gives the rows of the new module, the same in all:
+one; the entry point is that of the first IN. It prints nothing. All are read before OUT is written,
+which may be one of them. Each map gives the rows of the new module, the same in all:
     ppdbmap 1
     rows 06 10
     row 06 1 6
