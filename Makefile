@@ -42,7 +42,7 @@ uninstall:
 	rmdir "$(DESTDIR)$(docdir)/examples" "$(DESTDIR)$(docdir)" 2>/dev/null || true
 
 release: all
-	scripts/release build/release
+	scripts/release
 
 clean:
 	rm -rf build crates/ppdb_cli/out/ppdb_cli crates/check_blobs/out/check_blobs

@@ -198,7 +198,7 @@ def made(methods):
     texts, blobs = Heap(), Heap()
     pdb.counts[0x00] = pdb.counts[0x01] = pdb.counts[0x11] = pdb.counts[0x23] = 1
     pdb.counts[0x06] = methods
-    pdb.entry = 1
+    pdb.entry = min(methods, 1)
     pdb.guids = HOISTED
     pdb.tables[0x35] = [(0, blobs.blob(b'\x01' + unsigned(blobs.blob(b'System'))))]
     for number in range(1, (methods + 7) // 8 + 1):

@@ -1,7 +1,9 @@
 # Completion of the command ppdb in bash.
 _ppdb() {
   local current=${COMP_WORDS[COMP_CWORD]} command=${COMP_WORDS[1]}
-  local IFS=$'\n'
+  # A name is taken as it is, also where it has blanks or looks like a pattern.
+  local - IFS=$'\n'
+  set -f
   local commands=$'id\nverify\nshow\nquery\nlinks\nbreaks\nrebuild\nremap\nmerge\ncompose\nsample'
   COMPREPLY=()
   case $COMP_CWORD:$command in
