@@ -9,7 +9,8 @@ use Rattle.blob_grammar.specs.Reading.{Reading}
 use Rattle.blob_grammar.proofs.Readers.{read_from-reads}
 use Rattle.ppdb_heaps.specs.Heaps.{text_at, blob_at, guid_at}
 use Rattle.ppdb_tables.specs.RawTables.{RawTables}
-use Rattle.ppdb_rules.specs.Blobs.{HasFault, NamesNoGuid, Reads}
+use Rattle.blob_grammar.specs.Places.{HasEnd}
+use Rattle.ppdb_rules.specs.Blobs.{HasFault, NamesNoGuid}
 use Rattle.ppdb_rules.specs.Earlier.{NamesNoRow}
 use Rattle.ppdb_values.specs.RawFile.{blob, records_of}
 use Rattle.ppdb_values.specs.Rules.{HasText, HasBlob, HasGuidOrNone, IsWhole}
@@ -46,12 +47,12 @@ row_named least rows number some = (
 -- ---- blobs
 
 by_fault : {R : Type 0} (g : Grammar R) (content : List ℕ) (o : Option BlobFault) → Reading g content (records_of g content) o
-    → ((fault : BlobFault) → Reads g content (Some fault) → ⊥) → IsWhole g content
+    → ((fault : BlobFault) → HasEnd g content (Some fault) → ⊥) → IsWhole g content
 by_fault g content None reading none = reading
 by_fault g content (Some fault) reading none = absurd (none fault (records_of g content, reading))
 
 -- a blob that has no fault is whole
-pub whole : {R : Type 0} (g : Grammar R) (content : List ℕ) → ((fault : BlobFault) → Reads g content (Some fault) → ⊥) → IsWhole g content
+pub whole : {R : Type 0} (g : Grammar R) (content : List ℕ) → ((fault : BlobFault) → HasEnd g content (Some fault) → ⊥) → IsWhole g content
 unfolding records_of
 whole g content none = by_fault g content (read_from g [] [] 0 content).fault (read_from-reads g content) none
 

@@ -1,6 +1,7 @@
 -- The fields that the plain reader takes are those of the longest valid front.
 use Rattle.std.proofs.Common.{◌≡◌, ℕ, zero, suc, ◌+◌, ◌<◌, Bool, true, false, ◌&&◌, List, [], ◌∷◌, ◌++◌, length, take, drop, Option}
 use Rattle.std.proofs.Common.{Some, Ok, Err, refl, sym, ap, subst, ◌∙◌, append_assoc, append-nil, arith, length-append}
+use Rattle.std.specs.Prelude.{◌↔◌}
 use Rattle.std.specs.List.{flat_map}
 use Rattle.std.proofs.Math.Seq.{take-append_seam}
 use Rattle.std.proofs.lemmas.List.{length-drop}
@@ -74,6 +75,14 @@ front_of-fields g tell blob = let f = front_of-longest g blob in record { fields
 pub fields-are : {R X : Type 0} (g : Grammar R) (tell : PlacedField → List X) (blob : List ℕ) (items : List X) → HasFields g tell blob items
     → items ≡ flat_map tell (placed_of g (front_of g blob))
 fields-are g tell blob items h = h.items_are ∙ ap (λ (fs : List Field). flat_map tell (placed_of g fs)) (longest-front_of g blob h.fields h.after h.front)
+
+-- A list is what a walk tells of them exactly where it is this one.
+pub are-fields : {R X : Type 0} (g : Grammar R) (tell : PlacedField → List X) (blob : List ℕ) (items : List X)
+    → (items ≡ flat_map tell (placed_of g (front_of g blob))) ↔ HasFields g tell blob items
+are-fields {X = X} g tell blob items = (
+  λ e. subst (λ (l : List X). HasFields g tell blob l) (sym e) (front_of-fields g tell blob),
+  fields-are g tell blob items,
+)
 
 -- ---- a step at a time
 

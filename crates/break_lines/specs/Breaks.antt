@@ -24,8 +24,7 @@ break_at line method offset (Lines start_line start_column end_line end_column) 
       start_line = start_line;
       start_column = start_column;
       end_line = end_line;
-      end_column =
-          end_column;
+      end_column = end_column;
     })
     else None
 

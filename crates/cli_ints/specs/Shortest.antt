@@ -1,4 +1,4 @@
--- The shortest spelling of a number, as a function (ECMA-335 II.23.2, "the most compact form").
+-- The shortest spelling of a number, as a function (ECMA-335 II.23.2: the case by the range of the value).
 use Rattle.std.specs.Prelude.{ℕ, ◌+◌, ◌-◌, ◌*◌, ◌/◌, ◌%◌, ◌^◌, List, [], ◌∷◌, ℤ, pos, negsuc, Bool, nat_lt, if◌then◌else◌}
 
 -- Two bytes hold 14 bits, big-endian, above them the bits 10.

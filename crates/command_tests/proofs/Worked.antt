@@ -30,10 +30,14 @@ worked_lines = record {
   file_size = record { status = refl; text = refl };
   span_total = record { status = refl; text = refl };
   map_size = record { status = refl; text = refl };
+  no_words = record { status = refl; text = refl };
+  no_file = record { status = refl; text = refl };
+  long_file = record { status = refl; text = refl };
   name_escaped = record { status = refl; text = refl };
   read_fault = refl;
   write_fault = refl;
   map = record { status = refl; text = refl };
+  method = record { status = refl; text = refl };
   shape = record { status = refl; text = refl };
   not_json = record { status = refl; text = refl };
   document = record { status = refl; text = refl };

@@ -9,7 +9,8 @@ use Rattle.ppdb_base.specs.declared.merge_error.MergeError.{MergeError}
 use Rattle.ppdb_base.specs.declared.merge_error.MergeError.TheVariants.{Unmapped, ImageTwice, MethodTaken, OffsetBeyond, AsyncLost, KindUnknown}
 use Rattle.ppdb_base.specs.declared.merge_error.MergeError.TheVariants.{DocumentConflict, RowsDiffer, ImageRange, SlotUnmapped, SlotTwice}
 use Rattle.ppdb_run.specs.Lines.{read_fault_line, write_fault_line}
-use Rattle.ppdb_run.specs.Outcome.{Outcome, refused, no_map, unfit, limited, map_limited, unlinked, no_document, sizes_differ}
+use Rattle.ppdb_run.specs.Outcome.{Outcome, usage, absent, too_long, refused, no_map, unfit, limited, map_limited, unlinked, no_method, no_document}
+use Rattle.ppdb_run.specs.Outcome.{sizes_differ}
 use Rattle.ppdb_run.specs.Status.{status_number}
 
 -- a run that stops so ends with this status, and has printed this
@@ -59,11 +60,15 @@ pub record WorkedLines : Type 0 where
   pub span_total : SaysLimit (SpanTotal 18446744073709551615) (codes "limit L6 total 18446744073709551615\n")
   pub map_size : Says (map_limited 134217729) 9 (codes "limit map bytes 134217729\n")
   -- all else
+  pub no_words : Says usage 2 (codes "usage\n")
+  pub no_file : Says (absent (codes "f")) 6 (codes "absent f\n")
+  pub long_file : Says (too_long (codes "f")) 7 (codes "too long f\n")
   pub name_escaped : Says (refused (codes "a b") (record { code = ScopeCrossing; place = cell })) 1
       (codes "refused a\\x20b F28 table 32 row 2 column 4 byte 0\n")
   pub read_fault : read_fault_line (codes "f") ≡ codes "read fault f\n"
   pub write_fault : write_fault_line (codes "f") ≡ codes "write fault f\n"
   pub map : Says (no_map (codes "m") 2 5) 8 (codes "map m line 2 kind 5\n")
+  pub method : Says (no_method 7) 10 (codes "no method 7\n")
   pub shape : Says (unlinked (codes "Q") Shape) 11 (codes "links Q shape\n")
   pub not_json : Says (unlinked (codes "Q") NotJson) 11 (codes "links Q not json\n")
   pub document : Says (no_document (codes "/a/c")) 12 (codes "no document /a/c\n")

@@ -71,7 +71,7 @@ joined_inputs inputs = value_of_noted (joined (map moved_input (in_turn inputs))
 
 -- For each input, each method that it names and each offset that its map keeps, the value says at the offset's image, of the method's
 -- image, the image of what the input says; and what is linked to the method's image is the image of what is linked to the method. A
--- point that stands at a kept offset stands at that offset's image.
+-- point that stands at a kept offset stands at that offset's image, with its span.
 pub record KeepsMeaning (inputs : List MovedBy) (value : FileValue) : Type 0 where
   pub meanings : (input : Input) (method x y : ℕ) → Contains (in_turn inputs) input → NamesMethod input method → Kept (offsets_in input.1.map method) x y
       → meaning value (moved_row input.1.map 0x06 method) y ≡ meaning_image input.1.map method (meaning input.1.value method x)

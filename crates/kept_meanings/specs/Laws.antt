@@ -18,7 +18,7 @@ pub record SaysTheSame (file other : NotedFile) (method : ℕ) : Type 0 where
   pub move_next : move_next_of file.machines method ≡ move_next_of other.machines method
   pub customs : (noted_links file method).customs ≡ (noted_links other method).customs
 
--- Joined files say of a method what the file says that alone says something of it.
+-- Joined files say of a method what the file says that alone says something of it, but for the entry mark.
 abbrev pub JoinedMeans : Type 0
 JoinedMeans = (before after : List NotedFile) (file : NotedFile) (method : ℕ) → AreJoinable (before ++ file ∷ after)
     → Each (SaysNothingOf method) before → Each (SaysNothingOf method) after → SaysTheSame (joined (before ++ file ∷ after)) file method

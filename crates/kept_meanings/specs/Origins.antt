@@ -37,7 +37,7 @@ records_from documents table row input =
     (filter (λ (c : CustomValue). is_at table row c.parent) (moved_input input).customs)
 
 -- The entry point is the first input's, moved (Portable PDB v1.0, "#Pdb stream": EntryPoint).
--- Each method that has points, scopes, state machines or custom records is the image of a method of one input alone. The documents are
+-- Each method that has points, scopes, state machines or custom records is the image of a method that one input alone names. The documents are
 -- those of the inputs, the first of each name. The records on a row of the tables 00 to 2c, and on a document, are the moved records of
 -- the inputs in order, without those that equal one of an earlier input (Portable PDB v1.0, "CustomDebugInformation Table").
 pub record KeepsOrigins (inputs : List MovedBy) (value : FileValue) : Type 0 where

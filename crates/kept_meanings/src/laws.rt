@@ -5,7 +5,7 @@ ghost use Rattle.kept_meanings.specs.Origins.{InputsKeepOrigins};
 
 use ppdb_noted::soundness_is_noted;
 
-/// What joined files say of a method of which one file alone says something is what that file says.
+/// What joined files say of a method of which one file alone says something is what that file says, but for the entry mark.
 pub fn joined_means()
     ensures { JoinedMeans }
 {}
@@ -17,8 +17,8 @@ pub fn inputs_keep_meaning()
     soundness_is_noted();
 }
 
-/// Inputs that fit are joined to a file each of whose methods comes from one of them, whose entry point is the first's, and whose other
-/// custom records are theirs in order.
+/// Inputs that fit are joined to a file each of whose methods comes from one of them, whose entry point is the first's, whose documents
+/// are theirs, and whose other custom records are theirs in order.
 pub fn inputs_keep_origins()
     ensures { InputsKeepOrigins }
 {

@@ -5,11 +5,12 @@ use Rattle.ppdb_base.specs.declared.fault.BlobFault.{BlobFault}
 use Rattle.blob_grammar.specs.Grammar.{Grammar}
 use Rattle.blob_grammar.proofs.Unique.{reading-unique}
 use Rattle.ppdb_tables.specs.RawTables.{RawTables}
-use Rattle.ppdb_rules.specs.Blobs.{HasFault, Reads}
+use Rattle.blob_grammar.specs.Places.{HasEnd}
+use Rattle.ppdb_rules.specs.Blobs.{HasFault}
 use Rattle.ppdb_values.specs.RawFile.{blob, records_of}
 use Rattle.ppdb_values.specs.Rules.{HasBlob, IsWhole}
 
-pub no_fault : {R : Type 0} (g : Grammar R) (content : List ℕ) (fault : BlobFault) → IsWhole g content → Reads g content (Some fault) → ⊥
+pub no_fault : {R : Type 0} (g : Grammar R) (content : List ℕ) (fault : BlobFault) → IsWhole g content → HasEnd g content (Some fault) → ⊥
 no_fault g content fault whole reads = let same = (reading-unique g content reads.0 (records_of g content) (Some fault) None reads.1 whole).1 in cc
 
 -- the same of the blob that a cell names
@@ -18,4 +19,4 @@ pub no_fault_there : {R : Type 0} (raw : RawTables) (g : Grammar R) (index : ℕ
 no_fault_there raw g index fault there whole bad =
     let named = bad.there in
     let same : bad.content ≡ blob raw index = cc in
-    no_fault g (blob raw index) fault whole (subst (λ (content : List ℕ). Reads g content (Some fault)) same bad.reads)
+    no_fault g (blob raw index) fault whole (subst (λ (content : List ℕ). HasEnd g content (Some fault)) same bad.reads)

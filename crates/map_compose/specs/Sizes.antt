@@ -4,7 +4,7 @@ use Rattle.ppdb_maps.specs.Map.{Map, MethodLine, method_line}
 use Rattle.ppdb_maps.specs.Readable.{IsReadable}
 use Rattle.map_compose.specs.Composed.{has_image, second_line}
 
--- the method is there after both, and its sizes are these
+-- the method is there after both, both maps have a line for it, and its size after the first and before the second are these two and differ
 pub record SizesDiffer (f s : Map) (method first second : ℕ) : Type 0 where
   pub a : MethodLine
   pub b : MethodLine

@@ -1,4 +1,4 @@
--- Where the offsets of a method go (docs/FORMAT.md, "Map texts"): what the search over the runs finds is what the relations say.
+-- Where the offsets of a method go (docs/FORMAT.md, "Images"): what the search over the runs finds is what the relations say.
 use Rattle.std.specs.Prelude.{◌≡◌, ◌↔◌, ℕ, Some, true}
 use Rattle.ppdb_base.specs.Offsets.{Offsets, Rise, Kept, IsNextImage, KeepsBetween, next_image, moved, is_kept_between}
 

@@ -56,7 +56,7 @@ pub enum Code {
     DocumentRepeated = 25,
     /// The scopes are out of order.
     ScopeOrder = 26,
-    /// A scope's range is empty or too long.
+    /// A scope's range is empty or ends too late.
     ScopeRange = 27,
     /// Two scopes meet, and neither holds the other.
     ScopeCrossing = 28,

@@ -34,7 +34,7 @@ owns_none items None = false
 abbrev pub list_past_end : FileValue → ℕ → (ScopeValue → ℕ) → Option Limit
 list_past_end value table items = met ((sum_by items value.scopes == 65535) && owns_none items (last_of value.scopes)) (ListPastEnd table 65535)
 
--- L3: the first point with an offset that has no form
+-- L3: the first point with an offset that no points blob can hold
 abbrev pub large_offset : MethodValue → Option Limit
 large_offset method = option_map (λ point. PointOffset method.method point.offset) (find (λ point. nat_le 0x20000000 point.offset) method.points)
 

@@ -28,9 +28,9 @@ pub record WorkedFiles : Type 0 where
   pub empty_bytes : canon empty_value Keep ≡ EMPTY
   pub small_bytes : canon small_value Keep ≡ SMALL
   pub program_bytes : canon program_value Keep ≡ PROGRAM
-  -- none meets a limit
+  -- these two meet no limit
   pub small_limit : first_limit small_value ≡ None
   pub program_limit : first_limit program_value ≡ None
-  -- an offset, and a step from line to line, that have no form; the offset is told first
+  -- an offset that no points blob can hold, and a step from line to line that has no form; the offset is told first
   pub offset_limit : first_limit (with_points (point_at 0 1 ∷ point_at 2 0x1ffffff0 ∷ point_at 0x20000000 0x1ffffff1 ∷ [])) ≡ Some (PointOffset 1 0x20000000)
   pub step_limit : first_limit (with_points (point_at 0 1 ∷ point_at 2 0x1ffffff0 ∷ [])) ≡ Some (LineStep 1 (pos 536870895))

@@ -13,10 +13,11 @@ use Rattle.ppdb_fits.specs.declared.used.MethodSlot.{MethodSlot}
 use Rattle.ppdb_fits.specs.declared.used.UsedSlot.{UsedSlot}
 use Rattle.ppdb_fits.specs.Twice.{each_once, twice}
 
--- the slots of the variables of all scopes, by the rows of the variables from 1
+-- the slots of the variables of a scope
 abbrev pub scope_slots : ScopeValue → List MethodSlot
 scope_slots s = map (λ (v : VariableValue). record { method = s.method; slot = v.slot }) s.variables
 
+-- those of all scopes, by the rows of the variables from 1
 abbrev pub variable_slots : FileValue → List MethodSlot
 variable_slots value = flat_map scope_slots value.scopes
 

@@ -20,10 +20,11 @@ abbrev pub beside : {A B : Type 0} → (A → A → List B) → List A → List 
 beside told [] = []
 beside told (x ∷ xs) = beside_from told x xs
 
--- what is told of two items of one group that differ and have one image
+-- two items of one group differ and have one image
 abbrev pub have_one_image : {A : Type 0} → (A → ℕ) → (A → ℕ) → (A → ℕ) → A → A → Bool
 have_one_image group number image a b = nat_eq (group a) (group b) && (nat_eq (image a) (image b) && not (nat_eq (number a) (number b)))
 
+-- what is told of two such items
 abbrev pub if_one_image : {A B : Type 0} → (A → ℕ) → (A → ℕ) → (A → ℕ) → (A → A → B) → A → A → List B
 if_one_image group number image told a b = cond (have_one_image group number image a b) (told a b ∷ []) []
 

@@ -7,7 +7,7 @@ use Rattle.blob_grammar.specs.Places.{HasFields}
 use Rattle.blob_grammar.specs.Reader.{read_from}
 use Rattle.blob_grammar.proofs.Readers.{read_from-reads}
 use Rattle.blob_grammar.proofs.Unique.{reading-unique}
-use Rattle.blob_grammar.proofs.FrontFields.{front_of-fields, fields-are}
+use Rattle.blob_grammar.proofs.FrontFields.{are-fields}
 use Rattle.ppdb_heaps.specs.Names.{NamePart, names, part_index, joined, IsName, name_of, name_indexes}
 
 -- A blob that is a whole name has one text, and it is name_of.
@@ -27,7 +27,4 @@ name_of-whole blobs blob parts h =
 
 pub name_indexes-are : (blobs blob : List ℕ) (indexes : List PlacedIndex)
     → (indexes ≡ name_indexes blobs blob) ↔ HasFields (names blobs) part_index blob indexes
-name_indexes-are blobs blob indexes = (
-  λ e. subst (λ (l : List PlacedIndex). HasFields (names blobs) part_index blob l) (sym e) (front_of-fields (names blobs) part_index blob),
-  fields-are (names blobs) part_index blob indexes,
-)
+name_indexes-are blobs blob indexes = are-fields (names blobs) part_index blob indexes

@@ -1,16 +1,11 @@
 -- Pieces of lines of text. A piece that has a name of its own is put by a function of its own.
 use Rattle.std.specs.Prelude.{ℕ, ℤ, List, [], ◌∷◌, ◌++◌}
 use Rattle.std.specs.Fmt.{decimal, signed_decimal}
-use Rattle.ppdb_base.specs.Escaped.{escaped}
 use Rattle.ppdb_lines.specs.Values.{table_text}
 
 -- a line of words
 abbrev pub line : List ℕ → List ℕ
 line text = text ++ 10 ∷ []
-
--- words and a name, whose bytes are escaped
-unfoldable pub named : List ℕ → List ℕ → List ℕ
-named words name = words ++ escaped name
 
 -- words and a decimal number
 unfoldable pub numbered : List ℕ → ℕ → List ℕ

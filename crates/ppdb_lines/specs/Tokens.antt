@@ -26,12 +26,13 @@ member_tokens shown (suc place) = field_tokens (slice_get shown.fields place)
 abbrev pub object_tokens : List ℕ → Line → List Token
 object_tokens order shown = tokens.begin_object ∷ (flat_map (member_tokens shown) order ++ tokens.end_object ∷ [])
 
--- the members at these places, in this order
+-- a member for a field, and none for a mark
 abbrev pub with_member : Option Field → Members → Members
 with_member (Some (field words key content)) later = member key (content_data content) later
 with_member (Some (mark words)) later = later
 with_member None later = later
 
+-- the members at these places, in this order
 abbrev pub listed : List ℕ → Line → Members
 listed [] shown = no_members
 listed (zero ∷ places) shown = member (codes "line") (string shown.word) (listed places shown)

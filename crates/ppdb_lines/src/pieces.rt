@@ -1,11 +1,11 @@
 // Pieces of lines of text.
 ghost use Rattle.std.specs.Prelude.{◌++◌};
 ghost use Rattle.ppdb_base.specs.Written.{Puts};
-ghost use Rattle.ppdb_lines.specs.Pieces.{line, named, numbered, signed, tabled};
+ghost use Rattle.ppdb_lines.specs.Pieces.{numbered, signed, tabled};
 
 use crate::values::put_table;
 use itoa::Buffer;
-use ppdb_base::{Sink, WriteError, put_escaped};
+use ppdb_base::{Sink, WriteError};
 
 /// Puts words, and more behind them.
 pub fn put_pair<O: Sink>(out: &mut O, words: &[u8], value: &[u8]) -> Result<(), WriteError>
@@ -13,15 +13,6 @@ pub fn put_pair<O: Sink>(out: &mut O, words: &[u8], value: &[u8]) -> Result<(), 
 {
     out.put(words)?;
     out.put(value)
-}
-
-/// Puts words and a name, whose bytes are escaped.
-#[tactic(auto, unfolding(crate::specs::Pieces::named))]
-pub fn put_named<O: Sink>(out: &mut O, words: &[u8], name: &[u8]) -> Result<(), WriteError>
-    ensures { Puts result (O.written out.old) (O.written out.new) (O.faults out.old) (O.faults out.new) (named words.now name.now) }
-{
-    out.put(words)?;
-    put_escaped(out, name)
 }
 
 /// Puts words and a decimal number.
@@ -55,12 +46,4 @@ pub fn put_tabled<O: Sink>(out: &mut O, words: &[u8], table: u8) -> Result<(), W
 {
     out.put(words)?;
     put_table(out, table)
-}
-
-/// Puts a line of words and a name.
-pub fn put_named_line<O: Sink>(out: &mut O, words: &[u8], name: &[u8]) -> Result<(), WriteError>
-    ensures { Puts result (O.written out.old) (O.written out.new) (O.faults out.old) (O.faults out.new) (line (named words.now name.now)) }
-{
-    put_named(out, words, name)?;
-    out.put(b"\n")
 }

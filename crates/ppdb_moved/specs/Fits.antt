@@ -16,7 +16,7 @@ use Rattle.ppdb_noted.specs.NamedRows.{Named, named_rows, live_scope, live_custo
 
 -- ---- rows
 
--- the row is one of the output
+-- the row has an image
 abbrev pub IsImaged : Map → Named → Type 0
 IsImaged m n = (image : ℕ) × (row_image m n.table n.row ≡ Some image)
 

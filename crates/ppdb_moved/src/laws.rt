@@ -32,7 +32,7 @@ pub fn files_mean()
     ensures { FilesMean }
 {}
 
-/// A sound file that a map fits is sound after it has moved.
+/// A sound file that a map fits is sound after it has moved, but for its order, its entry point and its row counts.
 pub fn moved_is_sound()
     ensures { MovedIsSound }
 {}

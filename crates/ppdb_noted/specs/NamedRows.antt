@@ -69,7 +69,7 @@ live_machine m machine = not (is_dropped m machine.move_next || is_dropped m mac
 abbrev pub live_custom : Map → CustomValue → Bool
 live_custom m custom = not (nat_eq custom.parent.table 0x06 && is_dropped m custom.parent.row)
 
--- Its scopes with what they own, state machines, custom records and points go with it, and so does an entry point there.
+-- What stands at a dropped method goes: points, scopes with what they own, state machines, custom records, and an entry point.
 abbrev pub live_file : Map → NotedFile → NotedFile
 live_file m file = record file {
   entry = cond (is_dropped m file.entry) 0 file.entry;

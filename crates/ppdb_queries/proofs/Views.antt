@@ -11,7 +11,7 @@ use Rattle.ppdb_queries.specs.declared.run.Run.{Run}
 use Rattle.ppdb_queries.specs.Runs.{IsRunOf, rows_in}
 use Rattle.ppdb_values.specs.Parts.{holds}
 use Rattle.ppdb_values.specs.Value.{range_of}
-use Rattle.ppdb_queries.specs.Scopes.{scope_view, scopes_at, scopes_of, views_between}
+use Rattle.ppdb_queries.specs.Scopes.{scope_view, scopes_at, scope_count, views_between}
 use Rattle.ppdb_queries.proofs.Filters.{forward}
 
 -- the first of a range, and the rest
@@ -83,5 +83,5 @@ rows_many key wanted rows run is =
     sym taken
 
 -- the rows of the method's run are as many as its scopes
-pub all_rows : (raw : RawTables) (m : ℕ) (run : Run) → IsRunOf (λ scope. scope.method) m raw.scopes run → run.end - run.first ≡ scopes_of raw m
+pub all_rows : (raw : RawTables) (m : ℕ) (run : Run) → IsRunOf (λ scope. scope.method) m raw.scopes run → run.end - run.first ≡ scope_count raw m
 all_rows raw m run is = rows_many (λ scope. scope.method) m raw.scopes run is ∙ ap length is.all

@@ -28,8 +28,8 @@ abbrev pub scopes_at : RawTables → ℕ → ℕ → List ScopeView
 scopes_at raw m x = map (scope_view raw) (filter (λ scope. (scope.1.method == m) && holds (range_of scope.1) x) (numbered raw.scopes))
 
 -- how many scopes a method has
-abbrev pub scopes_of : RawTables → ℕ → ℕ
-scopes_of raw m = length (filter (λ scope. scope.1.method == m) (numbered raw.scopes))
+abbrev pub scope_count : RawTables → ℕ → ℕ
+scope_count raw m = length (filter (λ scope. scope.1.method == m) (numbered raw.scopes))
 
 -- ---- a walk over some rows
 

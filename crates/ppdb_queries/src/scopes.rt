@@ -9,7 +9,7 @@ ghost use Rattle.ppdb_verify.specs.Views.{tables_of};
 ghost use Rattle.ppdb_queries.specs.Cursors.{next_of};
 ghost use Rattle.ppdb_queries.specs.Digits.{digits};
 ghost use Rattle.ppdb_queries.specs.Runs.{IsNoMethod};
-ghost use Rattle.ppdb_queries.specs.Scopes.{scope_view, scopes_at as scopes_in, scopes_of, NextScope, rows_passed, ends_after};
+ghost use Rattle.ppdb_queries.specs.Scopes.{scope_view, scopes_at as scopes_in, scope_count, NextScope, rows_passed, ends_after};
 
 use crate::copied::copy_of;
 use crate::method::NoMethod;
@@ -186,7 +186,7 @@ pub fn scopes_at<'a, L: Ledger>(
     ensures none { OnErr result (IsNoMethod (raw_of (tables_of file.now)) method) }
     ensures there { OnOk result (HasRow (raw_of (tables_of file.now)) 0x06 method) }
     ensures scopes { IfOk result (λ scopes. scopes.items ≡ scopes_in (raw_of (tables_of file.now)) method offset) }
-    ensures rows { IfOk result (λ scopes. scopes.rows ≡ scopes_of (raw_of (tables_of file.now)) method) }
+    ensures rows { IfOk result (λ scopes. scopes.rows ≡ scope_count (raw_of (tables_of file.now)) method) }
     ensures later { steps.old ≤ steps.new }
     ensures cost { steps.new ≤ steps.old + 2 * digits (length (raw_of (tables_of file.now)).scopes) }
 {

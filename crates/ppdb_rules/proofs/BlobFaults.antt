@@ -14,12 +14,13 @@ use Rattle.custom_info.specs.AsyncStepping.{async_stepping}
 use Rattle.custom_info.specs.HoistedScopes.{hoisted_scopes}
 use Rattle.custom_info.specs.TypeDocuments.{type_documents}
 use Rattle.custom_info.specs.Kinds.{kind_of}
-use Rattle.ppdb_rules.specs.Blobs.{HasFault, IsNil, NamesNoGuid, Reads}
+use Rattle.blob_grammar.specs.Places.{HasEnd}
+use Rattle.ppdb_rules.specs.Blobs.{HasFault, IsNil, NamesNoGuid}
 use Rattle.ppdb_rules.specs.Customs.{HasBadValue, IsOfKind, ReadsValue}
 use Rattle.ppdb_rules.specs.Names.{SpellsName}
 
 -- two readings of one content have one end
-pub one_reading : {R : Type 0} {g : Grammar R} {content : List ℕ} {a b : Option BlobFault} → Reads g content a → Reads g content b → a ≡ b
+pub one_reading : {R : Type 0} {g : Grammar R} {content : List ℕ} {a b : Option BlobFault} → HasEnd g content a → HasEnd g content b → a ≡ b
 one_reading {g} {content} {a} {b} x y = (reading-unique g content x.0 y.0 a b x.1 y.1).1
 
 -- two equal faults: neither comes before the other
@@ -33,15 +34,15 @@ pub one_fault : {R : Type 0} {g : Grammar R} {blobs : List ℕ} {index : ℕ} {a
     → (b.byte < a.byte) ⊎ ((b.byte ≡ a.byte) × (number_of b.code < number_of a.code)) → ⊥
 one_fault {g} {a} {b} h k =
     let same : k.content ≡ h.content = cc (h.there, k.there) in
-    let e : Some b ≡ Some a = one_reading {g = g} {content = h.content} (subst (λ (c : List ℕ). Reads g c (Some b)) same k.reads) h.reads in
+    let e : Some b ≡ Some a = one_reading {g = g} {content = h.content} (subst (λ (c : List ℕ). HasEnd g c (Some b)) same k.reads) h.reads in
     equal_faults a b cc
 
 -- a blob that reads whole has no fault
 pub not_whole : {R : Type 0} {g : Grammar R} {blobs : List ℕ} {index : ℕ} {fault : BlobFault} (content : List ℕ) → blob_at blobs index ≡ Some content
-    → Reads g content None → HasFault g blobs index fault → ⊥
+    → HasEnd g content None → HasFault g blobs index fault → ⊥
 not_whole {g} {fault} content there whole h =
     let same : h.content ≡ content = cc (h.there, there) in
-    let e : None ≡ Some fault = one_reading {g = g} {content = content} whole (subst (λ (c : List ℕ). Reads g c (Some fault)) same h.reads) in
+    let e : None ≡ Some fault = one_reading {g = g} {content = content} whole (subst (λ (c : List ℕ). HasEnd g c (Some fault)) same h.reads) in
     cc
 
 pub not_there : {R : Type 0} {g : Grammar R} {blobs : List ℕ} {index : ℕ} {fault : BlobFault} → HasFault g blobs index fault → blob_at blobs index ≡ None → ⊥

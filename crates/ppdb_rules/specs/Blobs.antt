@@ -1,27 +1,23 @@
 -- The contents of the blobs that cells name.
-use Rattle.std.specs.Prelude.{ℕ, ◌≡◌, ◌≢◌, ◌⊎◌, ◌<◌, List, [], Option, Some, None}
+use Rattle.std.specs.Prelude.{ℕ, ◌≡◌, ◌≢◌, ◌⊎◌, ◌<◌, List, [], Some, None}
 use Rattle.ppdb_base.specs.declared.fault.BlobFault.{BlobFault}
 use Rattle.ppdb_base.specs.declared.fault.Place.{Place}
 use Rattle.blob_grammar.specs.Grammar.{Grammar}
-use Rattle.blob_grammar.specs.Reading.{Reading}
+use Rattle.blob_grammar.specs.Places.{HasEnd}
 use Rattle.ppdb_heaps.specs.Heaps.{blob_at, guid_at}
 use Rattle.ppdb_tables.specs.RawTables.{RawTables, count}
 use Rattle.sequence_points.specs.declared.point.PointLimits.{PointLimits}
 use Rattle.type_blobs.specs.declared.types.TypeLimits.{TypeLimits}
 
--- a byte of the blob that a cell names
+-- a cell, and a byte of the blob that it names, 0 where it names none
 abbrev pub in_blob : ℕ → ℕ → ℕ → ℕ → Place
 in_blob table row column byte = record { part = 5; table = table; row = row; column = column; byte = byte }
-
--- read by the grammar, the content has this fault, or none
-abbrev pub Reads : {R : Type 0} → Grammar R → List ℕ → Option BlobFault → Type 0
-Reads {R} g content fault = (records : List R) × Reading g content records fault
 
 -- the blob at the index is there, and has this fault by the grammar
 pub record HasFault {R : Type 0} (g : Grammar R) (blobs : List ℕ) (index : ℕ) (fault : BlobFault) : Type 0 where
   pub content : List ℕ
   pub there : blob_at blobs index ≡ Some content
-  pub reads : Reads g content (Some fault)
+  pub reads : HasEnd g content (Some fault)
 
 -- the blob at the index is there, and has no bytes
 abbrev pub IsNil : List ℕ → ℕ → Type 0

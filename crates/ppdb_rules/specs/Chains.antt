@@ -8,10 +8,6 @@ use Rattle.ppdb_tables.specs.Marks as marks
 abbrev pub parent_in : List ImportRow → ℕ → ℕ
 parent_in imports = chains.parent_at (λ (i : ImportRow). i.parent) imports
 
--- the import scope that is so many parents away, 0 past the end of the chain
-abbrev pub ancestor_of : List ImportRow → ℕ → ℕ → ℕ
-ancestor_of imports row steps = chains.ancestor_of (parent_in imports) row steps
-
 -- the chain of parents never ends
 abbrev pub NeverEnds : List ImportRow → ℕ → Type 0
 NeverEnds imports row = chains.NeverEnds (parent_in imports) row

@@ -11,7 +11,7 @@ use Rattle.ppdb_heaps.specs.Heaps.{blob_at, guid_at}
 use Rattle.ppdb_tables.specs.declared.rows.CustomRow.{CustomRow}
 use Rattle.ppdb_tables.specs.RawTables.{RawTables, count}
 use Rattle.row_layout.specs.Columns.{parent_tables}
-use Rattle.ppdb_rules.specs.Blobs.{Reads}
+use Rattle.blob_grammar.specs.Places.{HasEnd}
 use Rattle.ppdb_rules.specs.Earlier.{NamesNoRow}
 
 -- the coded parent names a table, and no row of it
@@ -44,9 +44,9 @@ pub record HasOtherParent (guids : List ℕ) (custom : CustomRow) : Type 0 where
 
 -- the value of a read kind has this fault by its grammar, or none; other values are not read
 abbrev pub ReadsValue : RawTables → Kind → List ℕ → Option BlobFault → Type 0
-ReadsValue raw Async content fault = Reads (async_stepping (count raw 0x06)) content fault
-ReadsValue raw Hoisted content fault = Reads hoisted_scopes content fault
-ReadsValue raw TypeDocuments content fault = Reads (type_documents (count raw 0x30)) content fault
+ReadsValue raw Async content fault = HasEnd (async_stepping (count raw 0x06)) content fault
+ReadsValue raw Hoisted content fault = HasEnd hoisted_scopes content fault
+ReadsValue raw TypeDocuments content fault = HasEnd (type_documents (count raw 0x30)) content fault
 ReadsValue raw Free content fault = fault ≡ None
 ReadsValue raw Unknown content fault = fault ≡ None
 

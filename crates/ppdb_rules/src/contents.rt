@@ -11,7 +11,7 @@ ghost use Rattle.sequence_points.specs.Records.{sequence_points};
 ghost use Rattle.type_blobs.specs.Constants.{constants};
 ghost use Rattle.type_blobs.specs.Imports.{imports};
 ghost use Rattle.ppdb_rules.specs.Blobs as words;
-ghost use Rattle.ppdb_rules.specs.Blobs.{Reads};
+ghost use Rattle.blob_grammar.specs.Places.{HasEnd};
 ghost use Rattle.ppdb_rules.specs.Customs.{ReadsValue};
 
 use blob_grammar::fault_after;
@@ -51,7 +51,7 @@ pub(crate) fn points_fault(tables: &Tables<'_>, content: &[u8], document: u32) -
     requires some { 0 < length content.now }
     requires short { length content.now < 2 ^ 32 }
     requires document { document ≤ count (raw_of tables.now) 0x30 }
-    ensures { Reads (sequence_points document (words.point_limits (raw_of tables.now))) content.now result }
+    ensures { HasEnd (sequence_points document (words.point_limits (raw_of tables.now))) content.now result }
 {
     blob_fault(content, document, point_limits(tables))
 }
@@ -59,7 +59,7 @@ pub(crate) fn points_fault(tables: &Tables<'_>, content: &[u8], document: u32) -
 /// The fault of a constant, None where it is whole.
 fn constant_end(content: &[u8], limits: TypeLimits) -> Option<BlobFault>
     requires { length content.now < 2 ^ 32 }
-    ensures { Reads (constants limits) content.now result }
+    ensures { HasEnd (constants limits) content.now result }
 {
     let mut cursor = ConstantCursor::new(content, limits);
     if let Some(fault) = fault_after(&mut cursor) {
@@ -74,7 +74,7 @@ fn constant_end(content: &[u8], limits: TypeLimits) -> Option<BlobFault>
 /// The fault of a constant's signature, None where it is whole.
 pub(crate) fn constant_fault(tables: &Tables<'_>, content: &[u8]) -> Option<BlobFault>
     requires { length content.now < 2 ^ 32 }
-    ensures { Reads (constants (words.type_limits (raw_of tables.now))) content.now result }
+    ensures { HasEnd (constants (words.type_limits (raw_of tables.now))) content.now result }
 {
     constant_end(content, type_limits(tables))
 }
@@ -82,7 +82,7 @@ pub(crate) fn constant_fault(tables: &Tables<'_>, content: &[u8]) -> Option<Blob
 /// The fault of imports, None where they are whole.
 fn imports_end(content: &[u8], blobs: Blobs<'_>, limits: TypeLimits) -> Option<BlobFault>
     requires { length content.now < 2 ^ 32 }
-    ensures { Reads (imports limits (blob_at (blobs_of blobs.entry))) content.now result }
+    ensures { HasEnd (imports limits (blob_at (blobs_of blobs.entry))) content.now result }
 {
     fault_after(&mut ImportCursor::new(content, blobs, limits))
 }
@@ -90,7 +90,7 @@ fn imports_end(content: &[u8], blobs: Blobs<'_>, limits: TypeLimits) -> Option<B
 /// The fault of a list of imports, None where it is whole.
 pub(crate) fn imports_fault(tables: &Tables<'_>, content: &[u8]) -> Option<BlobFault>
     requires { length content.now < 2 ^ 32 }
-    ensures { Reads (imports (words.type_limits (raw_of tables.now)) (blob_at (raw_of tables.now).blobs)) content.now result }
+    ensures { HasEnd (imports (words.type_limits (raw_of tables.now)) (blob_at (raw_of tables.now).blobs)) content.now result }
 {
     imports_end(content, tables.blobs(), type_limits(tables))
 }
@@ -98,7 +98,7 @@ pub(crate) fn imports_fault(tables: &Tables<'_>, content: &[u8]) -> Option<BlobF
 /// The fault of stepping information, None where it is whole.
 fn async_fault(content: &[u8], methods: u32) -> Option<BlobFault>
     requires { length content.now < 2 ^ 32 }
-    ensures { Reads (async_stepping methods) content.now result }
+    ensures { HasEnd (async_stepping methods) content.now result }
 {
     match AsyncCursor::new(content, methods) {
         Ok(mut cursor) => fault_after(&mut cursor),
@@ -109,7 +109,7 @@ fn async_fault(content: &[u8], methods: u32) -> Option<BlobFault>
 /// The fault of a list of hoisted scopes, None where it is whole.
 fn hoisted_fault(content: &[u8]) -> Option<BlobFault>
     requires { length content.now < 2 ^ 32 }
-    ensures { Reads hoisted_scopes content.now result }
+    ensures { HasEnd hoisted_scopes content.now result }
 {
     fault_after(&mut SlotCursor::new(content))
 }
@@ -117,7 +117,7 @@ fn hoisted_fault(content: &[u8]) -> Option<BlobFault>
 /// The fault of a list of a type's documents, None where it is whole.
 fn type_documents_fault(content: &[u8], documents: u32) -> Option<BlobFault>
     requires { length content.now < 2 ^ 32 }
-    ensures { Reads (type_documents documents) content.now result }
+    ensures { HasEnd (type_documents documents) content.now result }
 {
     fault_after(&mut RowCursor::new(content, documents))
 }

@@ -6,7 +6,7 @@ ghost use Rattle.std.specs.declared.alloc.Global.{Global};
 ghost use Rattle.ppdb_heaps.specs.Joining.{IsRefusal};
 ghost use Rattle.ppdb_heaps.specs.Names.{names, IsName};
 ghost use Rattle.ppdb_heaps.specs.Views.{blobs_of};
-ghost use Rattle.ppdb_rules.specs.Blobs.{Reads};
+ghost use Rattle.blob_grammar.specs.Places.{HasEnd};
 ghost use Rattle.ppdb_rules.specs.SeenNames.{HasBytes, HasRoom};
 
 use ppdb_base::{BlobFault, Bytes};
@@ -59,7 +59,7 @@ fn less(room: Option<usize>, bytes: &[u8]) -> Option<usize>
 pub(crate) fn exceeds(content: &[u8], blobs: Blobs<'_>, most: usize) -> Result<bool, BlobFault>
     requires { length content.now < 2 ^ 32 }
     ensures ok { IfOk result (λ longer. (name : List ℕ) × IsName (blobs_of blobs.entry) content.now name × (IsTrue longer ↔ (most < length name))) }
-    ensures fault { IfErr result (λ fault. Reads (names (blobs_of blobs.entry)) content.now (Some fault)) }
+    ensures fault { IfErr result (λ fault. HasEnd (names (blobs_of blobs.entry)) content.now (Some fault)) }
 {
     let mut cursor = NameCursor::new(content, blobs)?;
     let Some(first) = cursor.next()? else {

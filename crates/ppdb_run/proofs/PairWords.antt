@@ -285,3 +285,9 @@ merge_counts inputs output options words (inr h) = (h.some, h.most)
 pub on_err : {T E P : Type 0} (result : Result T E) → P → OnErr result P
 on_err (Ok x) p = tt
 on_err (Err e) p = p
+
+-- the words of a merge, by its parts
+pub merge_spelled : (args : List (List ℕ)) (first output : List ℕ) (rest : List (List ℕ)) (front back given : List (String Global))
+    → args ≡ first ∷ rest → rest ≡ texts front ++ texts back → output ≡ first → given ≡ back
+    → codes "merge" ∷ args ≡ codes "merge" ∷ output ∷ (texts front ++ texts given)
+merge_spelled args first output rest front back given whole split same words = rw (whole, split, same, words)

@@ -60,7 +60,7 @@ OnOutcome words files P = (asked : Option Task) → Asks words asked → (all : 
 abbrev pub OnAsked : List (List ℕ) → Option Files → (Option Task → Outcome → Type 0) → Type 0
 OnAsked words files P = (asked : Option Task) → Asks words asked → (all : Files) → AreSeen asked files all → OnDue asked all (P asked)
 
--- the words have an outcome over the files that they see, unless something outside failed first
+-- the words have an outcome over the files that they see, unless something outside failed or memory lacked first
 abbrev pub HasOutcome : List (List ℕ) → Option Files → Status → Type 0
 HasOutcome words files status = (asked : Option Task) → Asks words asked → (all : Files) → AreSeen asked files all
     → UnlessFault status ((due : Outcome) × IsOutcome asked all due)

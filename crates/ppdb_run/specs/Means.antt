@@ -32,7 +32,7 @@ pub record ExactlyMeans (task : Task) (options : Options) (files : Files) (bytes
   pub read : (inputs : List MovedBy) × AreInputsOf task files inputs
   -- The written file is accepted.
   pub accepted : IsAccepted (BadFile bytes)
-  -- It means at each kept offset's image what its input meant, by name and up to the map.
+  -- It means at each kept offset's image what its input meant, by name and up to the map, and so does what is linked to a method.
   pub meaning : (inputs : List MovedBy) → AreInputsOf task files inputs → (raw : RawFile) → IsRawOf bytes raw → KeepsMeaning inputs (value_of raw)
   -- Its methods, its documents, its entry point and the records on rows and documents come from its inputs.
   pub origins : (inputs : List MovedBy) → AreInputsOf task files inputs → (raw : RawFile) → IsRawOf bytes raw → KeepsOrigins inputs (value_of raw)

@@ -200,15 +200,18 @@ abbrev pub choice_of : Bool → IdChoice
 choice_of true = Keep
 choice_of false = Hash
 
+-- the canonical file of a value, where it meets no limit
+abbrev pub in_limits : List ℕ → Options → FileValue → Result Outcome Outcome
+in_limits output options value =
+    unless (option_map limited (first_limit value)) (Ok (written output (canon value (choice_of options.keep_id))))
+
 -- the canonical file of what a file says, where it can be written
 abbrev pub rebuilt : List ℕ → List ℕ → Options → FileValue → Result Outcome Outcome
-rebuilt input output options value =
-    unless (option_map (unfit input) (unknown_kind options.marks value))
-    (unless (option_map limited (first_limit value)) (Ok (written output (canon value (choice_of options.keep_id)))))
+rebuilt input output options value = unless (option_map (unfit input) (unknown_kind options.marks value)) (in_limits output options value)
 
 -- ---- inputs that are moved and joined
 
--- what an input is added to, where it fits; else why it does not
+-- the traces with an input added, where it fits; else why it does not
 abbrev pub fitting : {A : Type 0} → List ℕ → Result A MergeError → Result A Outcome
 fitting name (Ok traces) = Ok traces
 fitting name (Err error) = Err (unfit name error)
@@ -248,11 +251,6 @@ file_of inputs n = unwrap_or (option_map (λ (input : Input). input.file) (row_a
 abbrev pub all_joined : List Input → Result FileValue MergeError → Result FileValue Outcome
 all_joined inputs (Ok value) = Ok value
 all_joined inputs (Err error) = Err (unfit (file_of inputs (input_in error)) error)
-
--- the canonical file of a value, where it meets no limit
-abbrev pub in_limits : List ℕ → Options → FileValue → Result Outcome Outcome
-in_limits output options value =
-    unless (option_map limited (first_limit value)) (Ok (written output (canon value (choice_of options.keep_id))))
 
 -- ---- a map that is written
 

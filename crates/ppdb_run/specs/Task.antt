@@ -1,28 +1,29 @@
 -- A command as it is asked for.
-use Rattle.std.specs.Prelude.{ℕ, ◌≡◌, ◌&&◌, false, List, [], ◌∷◌, ◌++◌, Option, Some, None, codes, if◌then◌else◌}
+use Rattle.std.specs.Prelude.{ℕ, ◌≡◌, ◌&&◌, true, false, List, [], ◌∷◌, ◌++◌, Option, Some, None, codes, if◌then◌else◌}
+use Rattle.std.specs.Fmt.{decimal}
 use Rattle.std.specs.Str.{bytes_eq}
 use Rattle.uuid.specs.Text.{parsed}
 use Rattle.uuid.specs.Parts.{swap_fields}
-use Rattle.ppdb_run.specs.declared.question.Question.{Question as Asked}
-use Rattle.ppdb_run.specs.declared.question.Question.TheVariants as asked
+use Rattle.ppdb_run.specs.declared.question.Question.{Question as GivenQuestion}
+use Rattle.ppdb_run.specs.declared.question.Question.TheVariants as questions
 use Rattle.ppdb_run.specs.declared.options.Options.{Options as Given}
 use Rattle.ppdb_run.specs.declared.inputs.Inputs.{Inputs}
 use Rattle.ppdb_run.specs.declared.inputs.Pair.{Pair}
 use Rattle.ppdb_run.specs.declared.inputs.Inputs.TheVariants as inputs
-use Rattle.ppdb_run.specs.declared.words.Asked.{Asked as Wanted}
-use Rattle.ppdb_run.specs.declared.words.Asked.TheVariants as wanted
+use Rattle.ppdb_run.specs.declared.words.Asked.{Asked}
+use Rattle.ppdb_run.specs.declared.words.Asked.TheVariants as asked
 use Rattle.ppdb_run.specs.declared.words.Command.{Command}
 use Rattle.ppdb_run.specs.declared.words.Command.TheVariants as commands
 use Rattle.ppdb_run.specs.Words.{Question, Id, Verify, Show, Query, Links, Breaks, Options, Input, Task, Ask, Rebuild, Compose, Merge, Sample}
 use Rattle.ppdb_run.specs.Words.{is_file_word, texts}
 
-abbrev pub question_of : Asked → Question
-question_of asked.Id = Id
-question_of asked.Verify = Verify
-question_of (asked.Show json) = Show json
-question_of (asked.Query method offset) = Query method offset
-question_of asked.Links = Links
-question_of (asked.Breaks document line) = Breaks document.now line
+abbrev pub question_of : GivenQuestion → Question
+question_of questions.Id = Id
+question_of questions.Verify = Verify
+question_of (questions.Show json) = Show json
+question_of (questions.Query method offset) = Query method offset
+question_of questions.Links = Links
+question_of (questions.Breaks document line) = Breaks document.now line
 
 -- the words behind the first one, which is a GUID
 abbrev pub IsBehindGuid : List (List ℕ) → List (List ℕ) → Type 0
@@ -65,12 +66,12 @@ inputs_of (inputs.One input) = input_of input ∷ []
 inputs_of (inputs.Pairs words) = pairs_of (texts words.now)
 
 -- what a command asks for, without where its words lie in memory
-abbrev pub asked_task : Wanted → Task
-asked_task (wanted.Ask question file) = Ask (question_of question) file.now
-asked_task (wanted.Rebuild input output options) = Rebuild input.now output.now (options_of options)
-asked_task (wanted.Compose first second output) = Compose first.now second.now output.now
-asked_task (wanted.Merge inputs output options) = Merge (inputs_of inputs) output.now (options_of options)
-asked_task (wanted.Sample n) = Sample n
+abbrev pub asked_task : Asked → Task
+asked_task (asked.Ask question file) = Ask (question_of question) file.now
+asked_task (asked.Rebuild input output options) = Rebuild input.now output.now (options_of options)
+asked_task (asked.Compose first second output) = Compose first.now second.now output.now
+asked_task (asked.Merge inputs output options) = Merge (inputs_of inputs) output.now (options_of options)
+asked_task (asked.Sample n) = Sample n
 
 -- a command without where its words lie in memory
 abbrev pub task_of : Command → Task
@@ -85,3 +86,18 @@ task_of (commands.Compose first second output) = Compose first.now second.now ou
 task_of (commands.Remap input map_file output options) = Merge (record { file = input.now; map_file = map_file.now } ∷ []) output.now (options_of options)
 task_of (commands.Merge output pairs options) = Merge (pairs_of (texts pairs.now)) output.now (options_of options)
 task_of (commands.Sample n) = Sample n
+
+-- the words of a command
+abbrev pub words_of : Command → List (List ℕ)
+words_of (commands.Id file) = codes "id" ∷ file.now ∷ []
+words_of (commands.Verify file) = codes "verify" ∷ file.now ∷ []
+words_of (commands.Show file false) = codes "show" ∷ file.now ∷ []
+words_of (commands.Show file true) = codes "show" ∷ file.now ∷ codes "--json" ∷ []
+words_of (commands.Query file method offset) = codes "query" ∷ file.now ∷ decimal method ∷ decimal offset ∷ []
+words_of (commands.Links file) = codes "links" ∷ file.now ∷ []
+words_of (commands.Breaks file document line) = codes "breaks" ∷ file.now ∷ document.now ∷ decimal line ∷ []
+words_of (commands.Rebuild input output options) = codes "rebuild" ∷ input.now ∷ output.now ∷ texts options.words.now
+words_of (commands.Compose first second output) = codes "compose" ∷ first.now ∷ second.now ∷ output.now ∷ []
+words_of (commands.Remap input map_file output options) = codes "remap" ∷ input.now ∷ map_file.now ∷ output.now ∷ texts options.words.now
+words_of (commands.Merge output pairs options) = codes "merge" ∷ output.now ∷ (texts pairs.now ++ texts options.words.now)
+words_of (commands.Sample n) = codes "sample" ∷ decimal n ∷ []

@@ -31,7 +31,7 @@ pub fn run<F: Folder, O: Sink, K: Ledger, L: Ledger>(
     checks: &mut Steps<K>,
     steps: &mut Steps<L>,
 ) -> Status
-    // Where nothing outside failed, it ends with the outcome of the words over the files that the folder tells.
+    // Where nothing outside failed and memory was found, it ends with the outcome of the words over the files that the folder tells.
     // Words that have to do with no file have an outcome also where none are told.
     ensures outcome { HasOutcome (texts words.now) (F.files folder.old) result }
     ensures status { OnOutcome (texts words.now) (F.files folder.old) (λ due. UnlessFault result (result ≡ due.status)) }

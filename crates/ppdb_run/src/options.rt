@@ -52,6 +52,7 @@ fn add_mark(marks: &mut Marks, word: &str) -> Result<(), Memory>
 /// The options of the words.
 pub(crate) fn read_options(words: &[String]) -> Result<Options<'_>, Usage>
     ensures options { IfOk result (λ options. AreOptions (texts words.now) (options_of options)) }
+    ensures spelled { IfOk result (λ options. options.words.now ≡ words.now) }
     ensures usage { OnErr result ((options : Choices) → AreOptions (texts words.now) options → ⊥) }
 {
     let mut keep_id = false;

@@ -1,7 +1,7 @@
 // The words of the command line.
 ghost use Rattle.std.specs.Prelude.{◌≡◌, ℕ, List, ◌∷◌, codes, IfOk, OnErr};
 ghost use Rattle.ppdb_run.specs.Words.{Words, NoTask, IsFileAlone, is_file_word, is_name_word, texts};
-ghost use Rattle.ppdb_run.specs.Task.{asked_task, task_of};
+ghost use Rattle.ppdb_run.specs.Task.{asked_task, task_of, words_of};
 
 use crate::inputs::{Inputs, Pair};
 use crate::number::number;
@@ -156,6 +156,7 @@ pub struct Usage;
 /// The command of the words.
 pub fn read_words(words: &[String]) -> Result<Command<'_>, Usage>
     ensures command { IfOk result (λ command. Words (task_of command) (texts words.now)) }
+    ensures spelled { IfOk result (λ command. texts words.now ≡ words_of command) }
     ensures usage { OnErr result (NoTask (texts words.now)) }
 {
     let [name, args @ ..] = words else {
@@ -191,6 +192,7 @@ fn one_file(args: &[String]) -> Result<&str, Usage>
 /// The command `show` of the words after its name.
 fn show(args: &[String]) -> Result<Command<'_>, Usage>
     ensures command { IfOk result (λ command. Words (task_of command) (codes "show" ∷ texts args.now)) }
+    ensures spelled { IfOk result (λ command. codes "show" ∷ texts args.now ≡ words_of command) }
     ensures usage { OnErr result (NoTask (codes "show" ∷ texts args.now)) }
 {
     match args {
@@ -209,6 +211,7 @@ fn show(args: &[String]) -> Result<Command<'_>, Usage>
 /// The command `query` of the words after its name.
 fn query(args: &[String]) -> Result<Command<'_>, Usage>
     ensures command { IfOk result (λ command. Words (task_of command) (codes "query" ∷ texts args.now)) }
+    ensures spelled { IfOk result (λ command. codes "query" ∷ texts args.now ≡ words_of command) }
     ensures usage { OnErr result (NoTask (codes "query" ∷ texts args.now)) }
 {
     let [file, method, offset] = args else {
@@ -227,6 +230,7 @@ fn query(args: &[String]) -> Result<Command<'_>, Usage>
 /// The command `breaks` of the words after its name.
 fn breaks(args: &[String]) -> Result<Command<'_>, Usage>
     ensures command { IfOk result (λ command. Words (task_of command) (codes "breaks" ∷ texts args.now)) }
+    ensures spelled { IfOk result (λ command. codes "breaks" ∷ texts args.now ≡ words_of command) }
     ensures usage { OnErr result (NoTask (codes "breaks" ∷ texts args.now)) }
 {
     let [file, document, line] = args else {
@@ -245,6 +249,7 @@ fn breaks(args: &[String]) -> Result<Command<'_>, Usage>
 /// The command `rebuild` of the words after its name.
 fn rebuild(args: &[String]) -> Result<Command<'_>, Usage>
     ensures command { IfOk result (λ command. Words (task_of command) (codes "rebuild" ∷ texts args.now)) }
+    ensures spelled { IfOk result (λ command. codes "rebuild" ∷ texts args.now ≡ words_of command) }
     ensures usage { OnErr result (NoTask (codes "rebuild" ∷ texts args.now)) }
 {
     match args {
@@ -263,6 +268,7 @@ fn rebuild(args: &[String]) -> Result<Command<'_>, Usage>
 /// The command `compose` of the words after its name.
 fn compose(args: &[String]) -> Result<Command<'_>, Usage>
     ensures command { IfOk result (λ command. Words (task_of command) (codes "compose" ∷ texts args.now)) }
+    ensures spelled { IfOk result (λ command. codes "compose" ∷ texts args.now ≡ words_of command) }
     ensures usage { OnErr result (NoTask (codes "compose" ∷ texts args.now)) }
 {
     match args {
@@ -281,6 +287,7 @@ fn compose(args: &[String]) -> Result<Command<'_>, Usage>
 /// The command `remap` of the words after its name.
 fn remap(args: &[String]) -> Result<Command<'_>, Usage>
     ensures command { IfOk result (λ command. Words (task_of command) (codes "remap" ∷ texts args.now)) }
+    ensures spelled { IfOk result (λ command. codes "remap" ∷ texts args.now ≡ words_of command) }
     ensures usage { OnErr result (NoTask (codes "remap" ∷ texts args.now)) }
 {
     match args {
@@ -301,6 +308,7 @@ fn remap(args: &[String]) -> Result<Command<'_>, Usage>
 /// The command `merge` of the words after its name.
 fn merge(args: &[String]) -> Result<Command<'_>, Usage>
     ensures command { IfOk result (λ command. Words (task_of command) (codes "merge" ∷ texts args.now)) }
+    ensures spelled { IfOk result (λ command. codes "merge" ∷ texts args.now ≡ words_of command) }
     ensures usage { OnErr result (NoTask (codes "merge" ∷ texts args.now)) }
 {
     match args {
@@ -323,6 +331,7 @@ fn merge(args: &[String]) -> Result<Command<'_>, Usage>
 /// The command `sample` of the words after its name.
 fn sample(args: &[String]) -> Result<Command<'_>, Usage>
     ensures command { IfOk result (λ command. Words (task_of command) (codes "sample" ∷ texts args.now)) }
+    ensures spelled { IfOk result (λ command. codes "sample" ∷ texts args.now ≡ words_of command) }
     ensures usage { OnErr result (NoTask (codes "sample" ∷ texts args.now)) }
 {
     let [methods] = args else {

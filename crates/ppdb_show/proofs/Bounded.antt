@@ -7,7 +7,7 @@ use Rattle.std.proofs.lemmas.List.FromFn.{length-range_with_len}
 use Rattle.ppdb_tables.specs.RawTables.{RawTables}
 use Rattle.ppdb_queries.specs.declared.scopes.ScopeView.{ScopeView}
 use Rattle.ppdb_queries.specs.Digits.{digits}
-use Rattle.ppdb_queries.specs.Scopes.{scopes_at, scopes_of}
+use Rattle.ppdb_queries.specs.Scopes.{scopes_at, scope_count}
 use Rattle.ppdb_show.specs.Bound.{with_customs, all_with_customs, shown_of_scope, query_rows}
 use Rattle.ppdb_show.specs.Query.{customs_on, variables_of, constants_of, imports_of}
 use Rattle.ppdb_show.specs.QueryWalk.{customs_reads, item_reads, items_reads, scope_reads, scopes_reads}
@@ -84,7 +84,7 @@ pub reads_bounded : (raw : RawTables) (m x : ℕ)
     ≤ query_rows raw m x
 unfolding query_rows
 reads_bounded raw m x =
-    total (digits (length raw.scopes)) (scopes_of raw m) (length raw.machines) (digits (length raw.customs)) (length (customs_on raw 0x06 m))
+    total (digits (length raw.scopes)) (scope_count raw m) (length raw.machines) (digits (length raw.customs)) (length (customs_on raw 0x06 m))
     (sum_by (shown_of_scope raw) (scopes_at raw m x))
     (sum_by (scope_reads raw) (scopes_at raw m x)) (digits (length raw.machines))
     (sum_most (2 * digits (length raw.customs) + 2) (scope_reads raw) (shown_of_scope raw) (scope_most raw) (scopes_at raw m x))

@@ -4,7 +4,7 @@ use Rattle.std.specs.List.{sum_by}
 use Rattle.ppdb_tables.specs.RawTables.{RawTables}
 use Rattle.ppdb_queries.specs.declared.scopes.ScopeView.{ScopeView}
 use Rattle.ppdb_queries.specs.Digits.{digits}
-use Rattle.ppdb_queries.specs.Scopes.{scopes_at, scopes_of}
+use Rattle.ppdb_queries.specs.Scopes.{scopes_at, scope_count}
 use Rattle.ppdb_show.specs.Query.{customs_on, variables_of, constants_of, imports_of}
 
 -- a row that is shown, and the custom records on it
@@ -28,5 +28,5 @@ abbrev pub shown : RawTables → ℕ → ℕ → ℕ
 shown raw m x = sum_by (shown_of_scope raw) (scopes_at raw m x) + length (customs_on raw 0x06 m)
 
 unfoldable pub query_rows : RawTables → ℕ → ℕ → ℕ
-query_rows raw m x = 4 + 2 * digits (length raw.scopes) + 2 * scopes_of raw m + 2 * length raw.machines
+query_rows raw m x = 4 + 2 * digits (length raw.scopes) + 2 * scope_count raw m + 2 * length raw.machines
     + (4 * digits (length raw.customs) + 4) * (1 + shown raw m x)

@@ -9,7 +9,7 @@ use Rattle.ppdb_queries.specs.declared.imports.ImportLink.{ImportLink}
 use Rattle.ppdb_queries.specs.declared.points.PointAt.{PointAt}
 use Rattle.ppdb_queries.specs.declared.scopes.ScopeView.{ScopeView}
 use Rattle.ppdb_queries.specs.Digits.{digits}
-use Rattle.ppdb_queries.specs.Scopes.{scope_view, scopes_at, scopes_of}
+use Rattle.ppdb_queries.specs.Scopes.{scope_view, scopes_at, scope_count}
 use Rattle.ppdb_lines.specs.Lines.{Line, text_of}
 use Rattle.ppdb_lines.specs.Uses.{use_line}
 use Rattle.ppdb_show.specs.Query.{customs_on, customs_found, import_found, point_found, no_point_line, document_name, variables_of, constants_of, imports_of}
@@ -45,7 +45,7 @@ scope_reads raw scope = customs_reads raw 0x32 scope.row
     + (items_reads raw 0x33 (variables_of raw scope) + (items_reads raw 0x34 (constants_of raw scope) + items_reads raw 0x35 (imports_of raw scope)))
 
 abbrev pub scopes_reads : RawTables → ℕ → ℕ → ℕ
-scopes_reads raw m x = 2 * digits (length raw.scopes) + 2 * scopes_of raw m + sum_by (scope_reads raw) (scopes_at raw m x)
+scopes_reads raw m x = 2 * digits (length raw.scopes) + 2 * scope_count raw m + sum_by (scope_reads raw) (scopes_at raw m x)
 
 -- ---- what cursors give
 

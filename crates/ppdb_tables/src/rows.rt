@@ -14,7 +14,7 @@ pub struct DocumentRow {
 /// A row of MethodDebugInformation, table 31 (Portable PDB v1.0, "MethodDebugInformation Table").
 #[derive(Clone, Copy, Debug, PartialEq, Eq)]
 pub struct MethodDebugRow {
-    /// The row of Document that all points have, or 0.
+    /// The row of Document that the first points have, or 0 where the blob of the points says it.
     pub document: u32,
     /// The index of the sequence points' blob.
     pub points: u32,

@@ -1,4 +1,4 @@
--- What of a value belongs to a method, to a row and to an offset, each as a filter over all of it (Portable PDB v1.0).
+-- What of a value belongs to a method, to a row and to an offset (Portable PDB v1.0).
 use Rattle.std.specs.Prelude.{ℕ, suc, ◌-◌, ◌==◌, ◌&&◌, nat_le, nat_lt, List, [], Option, Some, None, Bool, take}
 use Rattle.std.specs.List.{filter, filter_map, find, last_or, sum_by}
 use Rattle.sequence_points.specs.declared.point.Point.{Point}

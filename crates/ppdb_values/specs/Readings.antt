@@ -22,7 +22,7 @@ use Rattle.ppdb_values.specs.Documents.{points_in, signature_in}
 use Rattle.ppdb_values.specs.Imports.{heap_of}
 use Rattle.ppdb_values.specs.Customs.{async_body}
 
--- The text of a whole name, the points and the signature, the imports, the slots and the rows are those of the reading.
+-- The text of a whole name, the points and the signature, the imports, the async steps, the slots and the rows are those of the reading.
 pub record ValuesAreRead : Type 0 where
   pub name : (raw : RawTables) (content name : List ℕ) → IsName raw.blobs content name → name_of raw.blobs content ≡ name
   pub points : (raw : RawTables) (column signature : ℕ) (content : List ℕ) (points : List Point) (fault : Option BlobFault)

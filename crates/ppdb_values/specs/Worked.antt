@@ -1,4 +1,4 @@
--- Three worked files: their values, and what these say of a method and of an offset.
+-- Three worked files: their values, and what two of these say of a method and of an offset.
 use Rattle.std.specs.Prelude.{◌≡◌}
 use Rattle.ppdb_values.specs.Value.{value_of}
 use Rattle.ppdb_values.specs.Meaning.{meaning}

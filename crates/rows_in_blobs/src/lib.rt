@@ -4,6 +4,7 @@
 
 mod constant;
 mod import;
+mod laws;
 mod row;
 mod stepping;
 mod types;
@@ -11,6 +12,7 @@ mod walk;
 
 pub use constant::ConstantTypes;
 pub use import::ImportRows;
+pub use laws::named_rows_are;
 pub use row::PlacedRow;
 pub use stepping::ResumeMethods;
 pub use walk::RowWalk;

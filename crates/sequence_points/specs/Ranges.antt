@@ -1,7 +1,8 @@
--- The ranges of a point's numbers (Portable PDB v1.0, "Sequence Points Blob"), each as a statement and as the test of the grammar.
+-- The ranges of a point's numbers (Portable PDB v1.0, "Sequence Points Blob"), each as a statement and, but for documents, as the test of
+-- the grammar, which asks for a row that is there.
 use Rattle.std.specs.Prelude.{◌≢◌, ℕ, ◌<◌, ◌≤◌, ℤ, pos, negsuc, Bool, false, not, ◌&&◌, nat_lt, ◌==◌}
 
--- the first number that is no offset, no line and no row
+-- the first number that is no offset and no line, and that no compressed number says (ECMA-335 II.23.2)
 abbrev pub number_limit : ℕ
 number_limit = 0x2000_0000
 

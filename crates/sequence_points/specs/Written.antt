@@ -120,7 +120,7 @@ abbrev pub first_of : {X : Type 0} → List X → Option X
 first_of [] = None
 first_of (x ∷ xs) = Some x
 
--- Why points are refused: a Step is the first large one, and memory is asked for only where there is none.
+-- Why points are refused: a Step is the first large step, and memory can lack only where no step is large.
 abbrev pub IsRefused : List Point → PointError → Type 0
 IsRefused points (Step index step) = first_of (large_steps [] points) ≡ Some (numbered index step)
 IsRefused points Memory = large_steps [] points ≡ []

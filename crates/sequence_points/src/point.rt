@@ -6,7 +6,7 @@ ghost use Rattle.sequence_points.specs.Points.{IsSingleDocument, common_document
 /// A sequence point: from this IL offset on, the code comes from these lines (Portable PDB v1.0, "Sequence Points Blob").
 #[derive(Clone, Copy, Debug, PartialEq, Eq)]
 pub struct Point {
-    /// The IL offset, below 0x20000000.
+    /// The IL offset; in a blob it is below 0x20000000.
     pub offset: u32,
     /// A row of the Document table.
     pub document: u32,

@@ -1,4 +1,5 @@
--- When a value is sound: a Portable PDB file can say it, but for the limits L1 to L6 (Portable PDB v1.0, "#Pdb stream" and "Metadata Tables"; ECMA-335 II.22).
+-- When a value is sound: a Portable PDB file can say it, where it has what its types carry (`HasTypes`), but for the limits L1 to L6
+-- (Portable PDB v1.0, "#Pdb stream" and "Metadata Tables"; ECMA-335 II.22).
 use Rattle.std.specs.Prelude.{◌≡◌, ◌≢◌, ℕ, ◌≤◌, map, List, slice_index}
 use Rattle.ppdb_tables.specs.declared.rows.MachineRow.{MachineRow}
 use Rattle.ppdb_values.specs.declared.file.FileValue.{FileValue}
@@ -22,7 +23,7 @@ pub record SoundMachine (value : FileValue) (machine : MachineRow) : Type 0 wher
   pub move_next : HasRow value 0x06 machine.move_next
   pub kickoff : HasRow value 0x06 machine.kickoff
 
--- No method moves, and none starts, two state machines ("StateMachineMethod Table").
+-- They stand in the order of MoveNext; no method is the MoveNext, and none the kickoff, of two state machines ("StateMachineMethod Table").
 pub record SoundMachines (value : FileValue) : Type 0 where
   pub each : EachRow (SoundMachine value) value.machines
   pub by_move_next : Rises (map (λ machine. machine.move_next) value.machines)

@@ -10,8 +10,8 @@ abbrev pub break_line : Break → Line
 break_line found = record {
   word = codes "break";
   fields = field (codes " ") (codes "method") (number found.method) ∷ field (codes " ") (codes "offset") (number found.offset)
-      ∷ field (codes " ") (codes "startLine") (number found.start_line) ∷ field (codes ":") (codes "startColumn") (number found.start_column)
-      ∷ field (codes " ") (codes "endLine") (number found.end_line) ∷ field (codes ":") (codes "endColumn") (number found.end_column) ∷ [];
+      ∷ field (codes " ") (codes "start_line") (number found.start_line) ∷ field (codes ":") (codes "start_column") (number found.start_column)
+      ∷ field (codes " ") (codes "end_line") (number found.end_line) ∷ field (codes ":") (codes "end_column") (number found.end_column) ∷ [];
 }
 
 abbrev pub text_of_breaks : List Break → List ℕ

@@ -1,4 +1,4 @@
--- What is told of the sources of a file, line by line (this project's format; Source Link JSON schema).
+-- What is told of the sources of a file, line by line (this project's format).
 use Rattle.std.specs.Prelude.{ℕ, List, [], ◌∷◌, Option, Some, None, Result, Ok, codes}
 use Rattle.std.specs.List.{flat_map}
 use Rattle.ppdb_base.specs.declared.link_error.LinkError.{LinkError}

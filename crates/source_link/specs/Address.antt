@@ -1,4 +1,5 @@
--- The address of a document name: that of the pair with the longest key among those that match (Source Link: "Source Link File Specification").
+-- The address of a document name: that of the pair with the longest key among those that match (this project's
+-- rule, docs/FORMAT.md, "Blobs"; debuggers do so).
 use Rattle.std.specs.Prelude.{ℕ, Bool, cond, nat_eq, List, [], ◌∷◌, Option, length, drop, map}
 use Rattle.std.specs.Char.{to_ascii_lowercase}
 use Rattle.std.specs.List.{filter, find, flat_map, list_all, starts_with}

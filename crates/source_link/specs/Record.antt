@@ -1,4 +1,4 @@
--- The pairs that a Source Link record says, or why it says none (Source Link JSON schema; RFC 8259).
+-- The pairs that a Source Link record says, or why it says none (this project's rules, docs/FORMAT.md, "Blobs"; RFC 8259).
 use Rattle.std.specs.Prelude.{◌≡◌, ℕ, ◌⊎◌, cond, List, [], ◌∷◌, Option, Some, None, Result, Ok, Err, IfErr, codes}
 use Rattle.std.specs.Option.{option_map, option_and_then}
 use Rattle.std.specs.Str.{is_utf8}

@@ -50,8 +50,8 @@ pub record EdgesCompose (f s : Map) (method image : ℕ) (a : Meaning) : Type 0 
   pub scopes : Each (λ (x : ScopeMeaning). RangeComposes f s method image x.range) a.scopes
   pub slots : Each (λ (x : SlotMeaning). RangeComposes f s method image x.range) a.slots
 
--- Of a method that is there after both: the image of the image of a meaning is its image by the map of both, but for edges; and
--- wholly where its edges compose.
+-- Of a method that is there after both, where the first map has an image for each slot in a meaning: the image of the meaning's image
+-- is its image by the map of both, but for the point's offset and the edges of ranges; and wholly where these compose.
 pub record ImagesCompose : Type 0 where
   pub but_for_edges : (f s : Map) (method image : ℕ) (a : Meaning) → IsReadable f → IsReadable s → Follows f s method image → SlotsStay f method a
       → without_edges (meaning_image s image (meaning_image f method a)) ≡ without_edges (meaning_image (composed f s) method a)
@@ -65,7 +65,7 @@ pub record ImagesCompose : Type 0 where
 abbrev pub KeepsImages : Map → Map → ℕ → ℕ → Type 0
 KeepsImages f s method image = (y z : ℕ) → Kept (offsets_in s image) y z → (x : ℕ) × Kept (offsets_in f method) x y
 
--- there each offset up to the old size is taken on as the map of both takes it
+-- there, where sizes agree and the method is there after both, each offset up to the old size is taken on as the map of both takes it
 abbrev pub EdgesAreComposed : Type 0
 EdgesAreComposed = (f s : Map) (method image x : ℕ) → IsReadable f → IsReadable s → SizesAgree f s → Follows f s method image → KeepsImages f s method image
     → x ≤ old_size (offsets_in (composed f s) method) → EdgeComposes f s method image x

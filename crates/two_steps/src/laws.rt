@@ -8,12 +8,13 @@ use kept_meanings::{inputs_keep_meaning, inputs_keep_origins};
 use ppdb_noted::{meanings_are_noted, soundness_is_noted};
 use sound_values::worked_values_are_sound;
 
-/// The image of the image of a meaning is its image by the map of both, but for the edges of ranges.
+/// Where the first map has an image for each slot, the image of the image of a meaning is its image by the map of both, but for the
+/// point's offset and the edges of ranges.
 pub fn images_compose()
     ensures { ImagesCompose }
 {}
 
-/// Where the second map keeps nothing but images of the first, each offset is taken on as the map of both takes it.
+/// Where sizes agree and the second map keeps nothing but images of the first, each offset is taken on as the map of both takes it.
 pub fn edges_compose()
     ensures { EdgesAreComposed }
 {}

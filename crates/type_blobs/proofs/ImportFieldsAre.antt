@@ -1,20 +1,16 @@
 -- The fields of imports, as a function of the blob.
-use Rattle.std.proofs.Common.{◌≡◌, ℕ, List, Option, sym, ap, subst}
+use Rattle.std.proofs.Common.{◌≡◌, ℕ, List, Option, sym, ap}
 use Rattle.std.specs.Prelude.{◌↔◌}
 use Rattle.std.specs.List.{flat_map}
 use Rattle.blob_grammar.specs.Places.{HasFields}
-use Rattle.blob_grammar.proofs.FrontFields.{front_of-fields, fields-are}
+use Rattle.blob_grammar.proofs.FrontFields.{are-fields, fields-are}
 use Rattle.type_blobs.specs.declared.types.TypeLimits.{TypeLimits}
 use Rattle.type_blobs.specs.declared.import_part.ImportField.{ImportField}
 use Rattle.type_blobs.specs.Imports.{imports, import_field, import_fields, import_indexes, text_index}
 
 module _ (limits : TypeLimits) (heap : ℕ → Option (List ℕ)) (blob : List ℕ) (fields : List ImportField) where
   pub import_fields-are : (fields ≡ import_fields limits heap blob) ↔ HasFields (imports limits heap) import_field blob fields
-  import_fields-are = (
-    λ e. subst (λ (l : List ImportField). HasFields (imports limits heap) import_field blob l) (sym e)
-        (front_of-fields (imports limits heap) import_field blob),
-    fields-are (imports limits heap) import_field blob fields,
-  )
+  import_fields-are = are-fields (imports limits heap) import_field blob fields
 
   pub import_indexes-are : HasFields (imports limits heap) import_field blob fields → import_indexes limits heap blob ≡ flat_map text_index fields
   unfolding import_indexes

@@ -39,7 +39,8 @@ pub fn joined_kinds_are_known()
     nothing_clashes();
 }
 
-/// A file that says what valid inputs are joined to keeps what each of them says of its methods, and says nothing else.
+/// A file that says what valid inputs are joined to keeps what each of them says of its methods; its entry point, its methods, its
+/// documents and its records on rows and documents come from them.
 pub fn joined_files_keep_inputs()
     ensures { JoinedFilesKeepInputs }
 {

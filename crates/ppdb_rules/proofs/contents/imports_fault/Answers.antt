@@ -3,10 +3,10 @@ use Rattle.ppdb_tables.specs.RawOf.{raw_of}
 use Rattle.ppdb_heaps.specs.Heaps.{blob_at}
 use Rattle.type_blobs.specs.Imports.{imports}
 use Rattle.type_blobs.specs.declared.types.TypeLimits.{TypeLimits}
-use Rattle.ppdb_rules.specs.Blobs.{Reads}
+use Rattle.blob_grammar.specs.Places.{HasEnd}
 use Rattle.ppdb_rules.proofs.contents.imports_fault.Goals as goal
 
 pub returns : goal.returns
 returns c =
-    subst (λ (l : TypeLimits). Reads (imports l (blob_at (raw_of c.args.tables.now).blobs)) c.args.content.now c.imports_end.result) c.type_limits.ensures
-    (subst (λ (b : List ℕ). Reads (imports c.type_limits.result (blob_at b)) c.args.content.now c.imports_end.result) c.blobs.ensures c.imports_end.ensures)
+    subst (λ (l : TypeLimits). HasEnd (imports l (blob_at (raw_of c.args.tables.now).blobs)) c.args.content.now c.imports_end.result) c.type_limits.ensures
+    (subst (λ (b : List ℕ). HasEnd (imports c.type_limits.result (blob_at b)) c.args.content.now c.imports_end.result) c.blobs.ensures c.imports_end.ensures)

@@ -2,7 +2,7 @@ use Rattle.std.proofs.Common.{string_bytes, inl, inr, sym, ◌∙◌, subst, ari
 use Rattle.std.specs.Prelude.{IsTrue}
 use Rattle.std.proofs.lemmas.List.{length-map}
 use Rattle.ppdb_run.specs.Words.{is_file_word}
-use Rattle.ppdb_run.proofs.PairWords.{is_empty, merge_words, no_merge_count, no_merge_options, not_empty, on_err, one_of}
+use Rattle.ppdb_run.proofs.PairWords.{is_empty, merge_spelled, merge_words, no_merge_count, no_merge_options, not_empty, on_err, one_of}
 use Rattle.ppdb_run.proofs.words.merge.Goals as goal
 use Rattle.ppdb_run.proofs.words.merge.Goals.{then-is_empty-via-then-is_empty, then-is_empty-via-else-is_empty+then-pairs}
 
@@ -34,3 +34,8 @@ returns-in_ok-options-in-len1-up-clause-command c =
     subst (λ w. IsTrue (is_file_word w)) c.deref.ensures (sym c.names_file.ensures ∙ c.if-names_file.true) in
     merge_words _ _ _ _ _ whole c.split_pairs.ensures.whole c.split_pairs.ensures.even c.split_pairs.ensures.files c.split_pairs.ensures.behind
     _ _ c.as_str.ensures.value file (omega (arith, same, some)) (omega (arith, same, few)) c.in_ok-options-in-len1-up.ensures.options
+
+pub returns-in_ok-options-in-len1-up-clause-spelled : goal.returns-in_ok-options-in-len1-up-clause-spelled
+returns-in_ok-options-in-len1-up-clause-spelled c =
+    let whole = one_of c.args.args.now c.output-item.result c.in-len1-up.len_at_least c.output-item.is in
+    merge_spelled _ _ _ _ _ _ _ whole c.split_pairs.ensures.whole c.as_str.ensures.value c.in_ok-options-in-len1-up.ensures.spelled

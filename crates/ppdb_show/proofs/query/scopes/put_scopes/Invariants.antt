@@ -2,7 +2,7 @@ use Rattle.std.proofs.Common.{◌+◌, ◌*◌, ◌≤◌, length}
 use Rattle.ppdb_tables.specs.RawOf.{raw_of}
 use Rattle.ppdb_verify.specs.Views.{tables_of}
 use Rattle.ppdb_queries.specs.Digits.{digits}
-use Rattle.ppdb_queries.specs.Scopes.{scopes_at, scopes_of}
+use Rattle.ppdb_queries.specs.Scopes.{scopes_at, scope_count}
 use Rattle.ppdb_show.specs.Query.{scope_answer}
 use Rattle.ppdb_show.specs.QueryWalk.{IsViewOf, Walked, scope_reads}
 use Rattle.ppdb_show.proofs.Given.{Each}
@@ -14,7 +14,7 @@ invariant-scopes g l =
     record {
       each : Each (IsViewOf raw) l.scopes.items;
       walk : Walked (scope_answer raw) (scope_reads raw) (scopes_at raw l.method l.offset) l.scopes.items l.fn.text l.text
-          (l.fn.steps + (2 * digits (length raw.scopes) + 2 * scopes_of raw l.method)) (l.steps + 2 * l.scopes.rows);
+          (l.fn.steps + (2 * digits (length raw.scopes) + 2 * scope_count raw l.method)) (l.steps + 2 * l.scopes.rows);
       later : l.fn.steps ≤ l.steps;
     }
 
