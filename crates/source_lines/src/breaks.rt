@@ -18,10 +18,10 @@ fn put_break<O: Sink>(out: &mut O, found: &Break) -> Result<(), WriteError>
     let parts = [
         Field(" ", Key::Method, Number(found.method)),
         Field(" ", Key::Offset, Number(found.offset)),
-        Field(" ", Key::Other("startLine"), Number(found.start_line)),
-        Field(":", Key::Other("startColumn"), Number(found.start_column)),
-        Field(" ", Key::Other("endLine"), Number(found.end_line)),
-        Field(":", Key::Other("endColumn"), Number(found.end_column)),
+        Field(" ", Key::StartLine, Number(found.start_line)),
+        Field(":", Key::StartColumn, Number(found.start_column)),
+        Field(" ", Key::EndLine, Number(found.end_line)),
+        Field(":", Key::EndColumn, Number(found.end_column)),
     ];
     put_text_line(out, "break", &parts)
 }
