@@ -22,7 +22,7 @@ use again::is_read_again;
 use counts::{Counts, put_counts};
 use file::read_file;
 use metadata_root::read_root;
-use ppdb_base::{Bytes, Fault, Sink, Steps};
+use ppdb_base::{Bytes, CounterPermit, Fault, Sink, Steps};
 use ppdb_tables::{Tables, read_head, read_tables};
 use std::alloc::Global;
 use std::io::Write;
@@ -67,7 +67,7 @@ fn check(rt: &HostRuntime, text: &mut Text) -> Result<(), Stop> {
     let name = file_name(rt)?;
     let mut bytes = Bytes::new(rt.alloc());
     read_file(rt, name.as_str(), &mut bytes)?;
-    put_counted::<Brand>(rt.alloc(), bytes.as_slice(), text, Blank::new(1))
+    put_counted::<Brand>(rt, bytes.as_slice(), text, Blank::new(1))
 }
 
 /// The tables of a file.
@@ -81,7 +81,7 @@ fn tables_of(bytes: &[u8]) -> Result<Tables<'_>, Fault>
 
 /// Puts what the blobs hold, over a counter of the rows that are read.
 fn put_counted<L: Ledger>(
-    alloc: Global,
+    rt: &HostRuntime,
     file: &[u8],
     text: &mut Text,
     rows: Blank,
@@ -89,12 +89,12 @@ fn put_counted<L: Ledger>(
     requires short { length file.now ≤ 134217728 }
     requires ledger { (rows.name ≡ L.name) × (rows.parts ≡ L.parts) × (0 < L.parts) }
 {
-    let mut steps = Steps::<L>::new(rows);
+    let mut steps = Steps::<L>::new(CounterPermit::new(rt), rows);
     match tables_of(file) {
-        Ok(tables) => put_blobs(alloc, &tables, text, &mut steps)?,
+        Ok(tables) => put_blobs(rt.alloc(), &tables, text, &mut steps)?,
         Err(fault) => return Err(Stop::Fault(fault)),
     }
-    if !is_read_again(alloc, file, &mut steps)? {
+    if !is_read_again(rt.alloc(), file, &mut steps)? {
         return Err(Stop::Differs);
     }
     Ok(text.put(b"laid out again to the same rows\n")?)

@@ -1,4 +1,3 @@
-use std::alloc::Global;
 use std::test::Fail;
 use worked_files::SMALL;
 use worked_runs::{answers, verifies};
@@ -36,14 +35,14 @@ const CUT: [(usize, &str); 27] = [
 
 /// Which of these cuts of a file, and at how many bytes, is not told so.
 fn first_other_cut(
-    alloc: Global,
+    rt: &HostRuntime,
     file: &[u8],
     rows: &[(usize, &str)],
 ) -> Result<Option<usize>, Fail> {
     let mut next = 0;
     for &(end, text) in rows {
         for len in next..end {
-            if !verifies(alloc, file.get(..len).unwrap_or(b""), text)? {
+            if !verifies(rt, file.get(..len).unwrap_or(b""), text)? {
                 return Ok(Some(len));
             }
         }
@@ -55,7 +54,7 @@ fn first_other_cut(
 #[test]
 fn cut_files(rt: HostRuntime) -> Result<(), Fail> {
     assert_eq!(rt; CUT[26].0, SMALL.len());
-    assert_eq!(rt; first_other_cut(rt.alloc(), &SMALL, &CUT)?, None);
+    assert_eq!(rt; first_other_cut(&rt, &SMALL, &CUT)?, None);
     Ok(())
 }
 
@@ -83,36 +82,36 @@ const CHANGED: [(usize, u8, &str); 19] = [
 ];
 
 /// Whether B with this byte in place of its own is told so.
-fn tells(alloc: Global, at: usize, value: u8, text: &str) -> Result<bool, Fail> {
+fn tells(rt: &HostRuntime, at: usize, value: u8, text: &str) -> Result<bool, Fail> {
     let mut file = SMALL;
     if let Some(byte) = file.get_mut(at) {
         *byte = value;
     }
-    verifies(alloc, &file, text)
+    verifies(rt, &file, text)
 }
 
 #[test]
 fn changed_bytes(rt: HostRuntime) -> Result<(), Fail> {
     for (at, value, text) in CHANGED {
-        assert!(rt; tells(rt.alloc(), at, value, text)?, "{text}");
+        assert!(rt; tells(&rt, at, value, text)?, "{text}");
     }
     Ok(())
 }
 
 /// Whether B with this byte in place of its own is accepted or refused by one line.
-fn is_answered(alloc: Global, at: usize, value: u8) -> Result<bool, Fail> {
+fn is_answered(rt: &HostRuntime, at: usize, value: u8) -> Result<bool, Fail> {
     let mut file = SMALL;
     if let Some(byte) = file.get_mut(at) {
         *byte = value;
     }
-    answers(alloc, &file)
+    answers(rt, &file)
 }
 
 #[test]
 fn every_byte_with_every_value(rt: HostRuntime) -> Result<(), Fail> {
     for at in 0..SMALL.len() {
         for value in 0..=255u8 {
-            assert!(rt; is_answered(rt.alloc(), at, value)?, "{at} {value}");
+            assert!(rt; is_answered(&rt, at, value)?, "{at} {value}");
         }
     }
     Ok(())

@@ -10,12 +10,12 @@ fn text_of(alloc: Global, lines: &str) -> Result<String, AllocError> {
 }
 
 /// Whether `compose F S O` of these maps is done, prints nothing, and writes this map.
-fn composes(alloc: Global, first: &str, second: &str, want: &str) -> Result<bool, Fail> {
-    let (first, second) = (text_of(alloc, first)?, text_of(alloc, second)?);
-    let want = text_of(alloc, want)?;
+fn composes(rt: &HostRuntime, first: &str, second: &str, want: &str) -> Result<bool, Fail> {
+    let (first, second) = (text_of(rt.alloc(), first)?, text_of(rt.alloc(), second)?);
+    let want = text_of(rt.alloc(), want)?;
     let files = [("F", first.as_bytes()), ("S", second.as_bytes())];
-    let mut folder = folder_of(alloc, &files)?;
-    let done = prints(alloc, &["compose", "F", "S", "O"], &mut folder, 0, "")?;
+    let mut folder = folder_of(rt.alloc(), &files)?;
+    let done = prints(rt, &["compose", "F", "S", "O"], &mut folder, 0, "")?;
     Ok(done && folder.get("O") == Some(want.as_bytes()))
 }
 
@@ -103,9 +103,9 @@ const COMPOSED: [(&str, &str, &str); 16] = [
 ];
 
 /// Which of these maps are not made into the one that is wanted, by its number.
-fn first_other_map(alloc: Global, rows: &[(&str, &str, &str)]) -> Result<Option<usize>, Fail> {
+fn first_other_map(rt: &HostRuntime, rows: &[(&str, &str, &str)]) -> Result<Option<usize>, Fail> {
     for (number, &(first, second, want)) in rows.iter().enumerate() {
-        if !composes(alloc, first, second, want)? {
+        if !composes(rt, first, second, want)? {
             return Ok(Some(number));
         }
     }
@@ -114,7 +114,7 @@ fn first_other_map(alloc: Global, rows: &[(&str, &str, &str)]) -> Result<Option<
 
 #[test]
 fn maps_are_composed(rt: HostRuntime) -> Result<(), Fail> {
-    assert_eq!(rt; first_other_map(rt.alloc(), &COMPOSED)?, None);
+    assert_eq!(rt; first_other_map(&rt, &COMPOSED)?, None);
     Ok(())
 }
 
@@ -156,7 +156,7 @@ const REFUSED: [(&[&str], u8, &str); 11] = [
 #[test]
 fn refused_maps(rt: HostRuntime) -> Result<(), Fail> {
     let mut folder = folder_of(rt.alloc(), &MAPS)?;
-    assert_eq!(rt; first_other_words(rt.alloc(), &mut folder, &REFUSED)?, None);
+    assert_eq!(rt; first_other_words(&rt, &mut folder, &REFUSED)?, None);
     assert!(rt; folder.get("OUT") == Some(b"as before".as_slice()));
     Ok(())
 }
@@ -164,26 +164,26 @@ fn refused_maps(rt: HostRuntime) -> Result<(), Fail> {
 #[test]
 fn one_file_is_read_and_written(rt: HostRuntime) -> Result<(), Fail> {
     let mut folder = folder_of(rt.alloc(), &MAPS)?;
-    assert!(rt; prints(rt.alloc(), &["compose", "f", "f", "f"], &mut folder, 0, "")?);
+    assert!(rt; prints(&rt, &["compose", "f", "f", "f"], &mut folder, 0, "")?);
     assert!(rt; folder.get("f") == Some(b"ppdbmap 3\n".as_slice()));
     Ok(())
 }
 
 /// Whether a command ends so whose call of this number fails, and the same command is done then.
-fn fails_once(alloc: Global, call: u32, status: u8, text: &str) -> Result<bool, Fail> {
-    let mut folder = MemoryFolder::new(alloc);
+fn fails_once(rt: &HostRuntime, call: u32, status: u8, text: &str) -> Result<bool, Fail> {
+    let mut folder = MemoryFolder::new(rt.alloc());
     folder.set("f", b"ppdbmap 1")?;
     folder.set("s", b"ppdbmap 2")?;
     folder.fail(call)?;
     let words: &[&str] = &["compose", "f", "s", "o"];
-    let other = first_other_words(alloc, &mut folder, &[(words, status, text), (words, 0, "")])?;
+    let other = first_other_words(rt, &mut folder, &[(words, status, text), (words, 0, "")])?;
     Ok(other.is_none() && folder.get("o") == Some(b"ppdbmap 3\n".as_slice()))
 }
 
 #[test]
 fn reads_and_writes_that_fail(rt: HostRuntime) -> Result<(), Fail> {
-    assert!(rt; fails_once(rt.alloc(), 1, 3, "read fault f\n")?);
-    assert!(rt; fails_once(rt.alloc(), 2, 3, "read fault s\n")?);
-    assert!(rt; fails_once(rt.alloc(), 3, 4, "write fault o\n")?);
+    assert!(rt; fails_once(&rt, 1, 3, "read fault f\n")?);
+    assert!(rt; fails_once(&rt, 2, 3, "read fault s\n")?);
+    assert!(rt; fails_once(&rt, 3, 4, "write fault o\n")?);
     Ok(())
 }

@@ -26,10 +26,10 @@ fn long_name(alloc: Global, parts: u16) -> Result<Vec<u8>, AllocError> {
 #[test]
 fn a_name_of_many_long_parts(rt: HostRuntime) -> Result<(), Fail> {
     let file = long_name(rt.alloc(), 268)?;
-    assert!(rt; verifies(rt.alloc(), &file, "accepted\n")?);
+    assert!(rt; verifies(&rt, &file, "accepted\n")?);
     let file = long_name(rt.alloc(), 300)?;
     let text = "refused B F40 table 30 row 1 column 0 byte 269\n";
-    assert!(rt; verifies(rt.alloc(), &file, text)?);
+    assert!(rt; verifies(&rt, &file, text)?);
     Ok(())
 }
 
@@ -53,9 +53,9 @@ fn imports(alloc: Global, parents: &[u16]) -> Result<Vec<u8>, AllocError> {
 fn chains_of_imports(rt: HostRuntime) -> Result<(), Fail> {
     let text = "refused B F32 table 35 row 1 column 0 byte 0\n";
     let file = imports(rt.alloc(), &[1])?;
-    assert!(rt; verifies(rt.alloc(), &file, text)?);
+    assert!(rt; verifies(&rt, &file, text)?);
     let file = imports(rt.alloc(), &[2, 1, 1])?;
-    assert!(rt; verifies(rt.alloc(), &file, text)?);
+    assert!(rt; verifies(&rt, &file, text)?);
     Ok(())
 }
 
@@ -67,6 +67,6 @@ fn a_long_chain_of_imports(rt: HostRuntime) -> Result<(), Fail> {
     }
     parents.push(0)?;
     let file = imports(rt.alloc(), &parents)?;
-    assert!(rt; verifies(rt.alloc(), &file, "accepted\n")?);
+    assert!(rt; verifies(&rt, &file, "accepted\n")?);
     Ok(())
 }

@@ -92,15 +92,15 @@ fn made(alloc: Global, said: Said<'_>) -> Result<Vec<u8>, AllocError> {
 }
 
 /// Whether `links` of the file D that says this ends so and prints this.
-fn links_are(alloc: Global, said: Said<'_>, status: u8, text: &str) -> Result<bool, Fail> {
-    let file = made(alloc, said)?;
+fn links_are(rt: &HostRuntime, said: Said<'_>, status: u8, text: &str) -> Result<bool, Fail> {
+    let file = made(rt.alloc(), said)?;
     let rows: [(&[&str], u8, &str); 1] = [(&["links", "D"], status, text)];
-    Ok(first_other_over(alloc, &[("D", &file)], &rows)?.is_none())
+    Ok(first_other_over(rt, &[("D", &file)], &rows)?.is_none())
 }
 
 /// Whether `links` of the file D, of documents with these names and this Source Link record, ends so and prints this.
 fn record_says(
-    alloc: Global,
+    rt: &HostRuntime,
     record: &[u8],
     names: &[&str],
     status: u8,
@@ -111,13 +111,17 @@ fn record_says(
         methods: &[],
         customs: &[(MODULE, SOURCE_LINK, record)],
     };
-    links_are(alloc, said, status, text)
+    links_are(rt, said, status, text)
 }
 
 /// Which of these records, of one document `a`, is not told so, by its number.
-fn first_other_record(alloc: Global, records: &[&[u8]], text: &str) -> Result<Option<usize>, Fail> {
+fn first_other_record(
+    rt: &HostRuntime,
+    records: &[&[u8]],
+    text: &str,
+) -> Result<Option<usize>, Fail> {
     for (number, record) in records.iter().enumerate() {
-        if !record_says(alloc, record, &["a"], 11, text)? {
+        if !record_says(rt, record, &["a"], 11, text)? {
             return Ok(Some(number));
         }
     }
@@ -190,7 +194,7 @@ const ADDRESSES: [(&str, &[&str], &str); 14] = [
 fn addresses(rt: HostRuntime) -> Result<(), Fail> {
     for (record, names, text) in ADDRESSES {
         assert!(rt;
-            record_says(rt.alloc(), record.as_bytes(), names, 0, text)?,
+            record_says(&rt, record.as_bytes(), names, 0, text)?,
             "{record}"
         );
     }
@@ -212,7 +216,7 @@ const SHAPELESS: [&[u8]; 9] = [
 #[test]
 fn records_without_a_shape(rt: HostRuntime) -> Result<(), Fail> {
     assert_eq!(rt;
-        first_other_record(rt.alloc(), &SHAPELESS, "links D shape\n")?,
+        first_other_record(&rt, &SHAPELESS, "links D shape\n")?,
         None
     );
     Ok(())
@@ -229,7 +233,7 @@ const NO_JSON: [&[u8]; 5] = [
 #[test]
 fn records_that_are_no_json(rt: HostRuntime) -> Result<(), Fail> {
     assert_eq!(rt;
-        first_other_record(rt.alloc(), &NO_JSON, "links D not json\n")?,
+        first_other_record(&rt, &NO_JSON, "links D not json\n")?,
         None
     );
     Ok(())
@@ -248,9 +252,9 @@ fn nested(alloc: Global, arrays: usize) -> Result<Vec<u8>, AllocError> {
 #[test]
 fn levels_of_a_record(rt: HostRuntime) -> Result<(), Fail> {
     let deep = nested(rt.alloc(), 126)?;
-    assert!(rt; record_says(rt.alloc(), &deep, &["a"], 0, "link 1 none\n")?);
+    assert!(rt; record_says(&rt, &deep, &["a"], 0, "link 1 none\n")?);
     let deeper = nested(rt.alloc(), 127)?;
-    assert!(rt; record_says(rt.alloc(), &deeper, &["a"], 11, "links D not json\n")?);
+    assert!(rt; record_says(&rt, &deeper, &["a"], 11, "links D not json\n")?);
     Ok(())
 }
 
@@ -286,33 +290,33 @@ fn the_record_that_counts(rt: HostRuntime) -> Result<(), Fail> {
             methods: &[],
             customs,
         };
-        assert!(rt; links_are(rt.alloc(), said, status, text)?, "{text}");
+        assert!(rt; links_are(&rt, said, status, text)?, "{text}");
     }
     Ok(())
 }
 
 #[test]
 fn no_documents(rt: HostRuntime) -> Result<(), Fail> {
-    assert!(rt; record_says(rt.alloc(), b"{", &[], 11, "links D not json\n")?);
-    assert!(rt; record_says(rt.alloc(), b"{}", &[], 0, "")?);
+    assert!(rt; record_says(&rt, b"{", &[], 11, "links D not json\n")?);
+    assert!(rt; record_says(&rt, b"{}", &[], 0, "")?);
     Ok(())
 }
 
 /// Whether `links` of the program, with these bytes around its record, ends so and prints this.
-fn program_says(alloc: Global, ends: [u8; 2], status: u8, text: &str) -> Result<bool, Fail> {
+fn program_says(rt: &HostRuntime, ends: [u8; 2], status: u8, text: &str) -> Result<bool, Fail> {
     let mut file = PROGRAM;
     file[552] = ends[0];
     file[553] = ends[1];
     let rows: [(&[&str], u8, &str); 1] = [(&["links", "P"], status, text)];
-    Ok(first_other_over(alloc, &[("P", &file)], &rows)?.is_none())
+    Ok(first_other_over(rt, &[("P", &file)], &rows)?.is_none())
 }
 
 // The program with its record, and with two others of as many bytes.
 #[test]
 fn records_of_the_program(rt: HostRuntime) -> Result<(), Fail> {
-    assert!(rt; program_says(rt.alloc(), *b"{}", 0, "link 1 none\n")?);
-    assert!(rt; program_says(rt.alloc(), *b"[]", 11, "links P shape\n")?);
-    assert!(rt; program_says(rt.alloc(), *b"{ ", 11, "links P not json\n")?);
+    assert!(rt; program_says(&rt, *b"{}", 0, "link 1 none\n")?);
+    assert!(rt; program_says(&rt, *b"[]", 11, "links P shape\n")?);
+    assert!(rt; program_says(&rt, *b"{ ", 11, "links P not json\n")?);
     Ok(())
 }
 
@@ -367,7 +371,7 @@ fn breaks_of_lines(rt: HostRuntime) -> Result<(), Fail> {
     let two = made(rt.alloc(), TWO_METHODS)?;
     let other = made(rt.alloc(), OTHER_DOCUMENT)?;
     let files: [(&str, &[u8]); 3] = [("B", &SMALL), ("V", &two), ("W", &other)];
-    assert_eq!(rt; first_other_over(rt.alloc(), &files, &BREAKS)?, None);
+    assert_eq!(rt; first_other_over(&rt, &files, &BREAKS)?, None);
     Ok(())
 }
 
@@ -400,7 +404,7 @@ const NO_ANSWERS: [(&[&str], u8, &str); 6] = [
 fn files_that_give_no_answer(rt: HostRuntime) -> Result<(), Fail> {
     let twice = made(rt.alloc(), TWICE)?;
     let files: [(&str, &[u8]); 2] = [("T", &twice), ("W", b"Microsoft C/C++ MSF 7.00")];
-    assert_eq!(rt; first_other_over(rt.alloc(), &files, &NO_ANSWERS)?, None);
+    assert_eq!(rt; first_other_over(&rt, &files, &NO_ANSWERS)?, None);
     Ok(())
 }
 
@@ -420,16 +424,13 @@ const NEITHER: [(&[&str], u8, &str); 11] = [
 
 #[test]
 fn words_that_are_neither(rt: HostRuntime) -> Result<(), Fail> {
-    assert_eq!(rt;
-        first_other_over(rt.alloc(), &[("B", &SMALL)], &NEITHER)?,
-        None
-    );
+    assert_eq!(rt; first_other_over(&rt, &[("B", &SMALL)], &NEITHER)?, None);
     Ok(())
 }
 
 #[test]
 fn puts_that_fail(rt: HostRuntime) -> Result<(), Fail> {
     let words = ["breaks", "B", "/a/b", "10"];
-    assert!(rt; puts_fronts(rt.alloc(), &words, "break 1 0 10:5 10:9\n")?);
+    assert!(rt; puts_fronts(&rt, &words, "break 1 0 10:5 10:9\n")?);
     Ok(())
 }

@@ -214,21 +214,21 @@ const REFUSED: [(&str, u8, &str); 19] = [
 #[test]
 fn what_is_moved(rt: HostRuntime) -> Result<(), Fail> {
     let mut folder = worked(rt.alloc())?;
-    assert_eq!(rt; first_other(rt.alloc(), &mut folder, &MOVED)?, None);
+    assert_eq!(rt; first_other(&rt, &mut folder, &MOVED)?, None);
     Ok(())
 }
 
 #[test]
 fn what_is_joined(rt: HostRuntime) -> Result<(), Fail> {
     let mut folder = worked(rt.alloc())?;
-    assert_eq!(rt; first_other(rt.alloc(), &mut folder, &JOINED)?, None);
+    assert_eq!(rt; first_other(&rt, &mut folder, &JOINED)?, None);
     Ok(())
 }
 
 #[test]
 fn what_is_refused(rt: HostRuntime) -> Result<(), Fail> {
     let mut folder = worked(rt.alloc())?;
-    assert_eq!(rt; first_other(rt.alloc(), &mut folder, &REFUSED)?, None);
+    assert_eq!(rt; first_other(&rt, &mut folder, &REFUSED)?, None);
     Ok(())
 }
 
@@ -248,10 +248,10 @@ const WRITTEN: [(&str, usize, usize, &[u8]); 5] = [
 ];
 
 /// Which of these commands does not write such a file, by its number.
-fn first_other_file(alloc: Global) -> Result<Option<usize>, Fail> {
-    let mut folder = worked(alloc)?;
+fn first_other_file(rt: &HostRuntime) -> Result<Option<usize>, Fail> {
+    let mut folder = worked(rt.alloc())?;
     for (number, &(line, size, place, bytes)) in WRITTEN.iter().enumerate() {
-        let done = ends(alloc, line, &mut folder, 0, "")?;
+        let done = ends(rt, line, &mut folder, 0, "")?;
         let file = folder.get("O").unwrap_or(b"");
         let there = file.get(place..).unwrap_or(b"");
         if !done || file.len() != size || !there.starts_with(bytes) {
@@ -263,7 +263,7 @@ fn first_other_file(alloc: Global) -> Result<Option<usize>, Fail> {
 
 #[test]
 fn bytes_that_are_written(rt: HostRuntime) -> Result<(), Fail> {
-    assert_eq!(rt; first_other_file(rt.alloc())?, None);
+    assert_eq!(rt; first_other_file(&rt)?, None);
     Ok(())
 }
 
@@ -288,24 +288,24 @@ fn has(folder: &MemoryFolder, name: &str, bytes: &[u8]) -> bool {
 }
 
 /// What a command writes to a file.
-fn written(alloc: Global, line: &str, name: &str) -> Result<Vec<u8>, Fail> {
-    let mut folder = worked(alloc)?;
-    ends(alloc, line, &mut folder, 0, "")?;
-    Ok(Vec::from_slice(alloc, folder.get(name).unwrap_or(b""))?)
+fn written(rt: &HostRuntime, line: &str, name: &str) -> Result<Vec<u8>, Fail> {
+    let mut folder = worked(rt.alloc())?;
+    ends(rt, line, &mut folder, 0, "")?;
+    Ok(Vec::from_slice(rt.alloc(), folder.get(name).unwrap_or(b""))?)
 }
 
 /// Whether a command whose call of this number fails ends so, and leaves what it may: all as before where a read fails, and else that,
 /// or a front of what it writes.
-fn fails_so(alloc: Global, line: &str, call: u32, status: u8, text: &str) -> Result<bool, Fail> {
+fn fails_so(rt: &HostRuntime, line: &str, call: u32, status: u8, text: &str) -> Result<bool, Fail> {
     let name = if line.starts_with("remap B m B") {
         "B"
     } else {
         "O"
     };
-    let whole = written(alloc, line, name)?;
-    let mut folder = worked(alloc)?;
+    let whole = written(rt, line, name)?;
+    let mut folder = worked(rt.alloc())?;
     folder.fail(call)?;
-    let ended = ends(alloc, line, &mut folder, status, text)?;
+    let ended = ends(rt, line, &mut folder, status, text)?;
     let left = folder.get(name).unwrap_or(b"");
     let front = whole.starts_with(left) && (left.len() == whole.len()) == (status == 0);
     let before = has(&folder, "B", &SMALL) && (name == "B" || left.is_empty());
@@ -315,7 +315,7 @@ fn fails_so(alloc: Global, line: &str, call: u32, status: u8, text: &str) -> Res
 #[test]
 fn reads_and_writes_that_fail(rt: HostRuntime) -> Result<(), Fail> {
     for (line, call, status, text) in FAILING {
-        let told = fails_so(rt.alloc(), line, call, status, text)?;
+        let told = fails_so(&rt, line, call, status, text)?;
         assert!(rt; told, "{line} {call}");
     }
     Ok(())
@@ -367,19 +367,19 @@ fn of_variables(alloc: Global, variables: usize) -> Result<Vec<u8>, AllocError> 
 }
 
 /// Whether the file of so many variables is moved so by the map that exchanges its methods.
-fn is_exchanged(alloc: Global, variables: usize, status: u8, text: &str) -> Result<bool, Fail> {
-    let file = of_variables(alloc, variables)?;
+fn is_exchanged(rt: &HostRuntime, variables: usize, status: u8, text: &str) -> Result<bool, Fail> {
+    let file = of_variables(rt.alloc(), variables)?;
     let map = b"ppdbmap 1\nrows 06 2\nrow 06 1 2\nrow 06 2 1";
     let rows: [(&[&str], u8, &str); 1] = [(&["remap", "F", "change", "O"], status, text)];
-    Ok(first_other_over(alloc, &[("F", &file), ("change", map)], &rows)?.is_none())
+    Ok(first_other_over(rt, &[("F", &file), ("change", map)], &rows)?.is_none())
 }
 
 // The methods are exchanged, so that the scope without variables is the last.
 #[test]
 fn variables_before_an_empty_scope(rt: HostRuntime) -> Result<(), Fail> {
     let text = "limit L2 table 33 rows 65535\n";
-    assert!(rt; is_exchanged(rt.alloc(), 65534, 0, "")?);
-    assert!(rt; is_exchanged(rt.alloc(), 65535, 9, text)?);
-    assert!(rt; is_exchanged(rt.alloc(), 65536, 0, "")?);
+    assert!(rt; is_exchanged(&rt, 65534, 0, "")?);
+    assert!(rt; is_exchanged(&rt, 65535, 9, text)?);
+    assert!(rt; is_exchanged(&rt, 65536, 0, "")?);
     Ok(())
 }

@@ -40,6 +40,6 @@ const ROWS: [(&[&str], u8, &str); 16] = [
 #[test]
 fn offsets_of_methods(rt: HostRuntime) -> Result<(), Fail> {
     let files: [(&str, &[u8]); 2] = [("B", &SMALL), ("W", b"Microsoft C/C++ MSF 7.00")];
-    assert_eq!(rt; first_other_over(rt.alloc(), &files, &ROWS)?, None);
+    assert_eq!(rt; first_other_over(&rt, &files, &ROWS)?, None);
     Ok(())
 }

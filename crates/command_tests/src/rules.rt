@@ -21,7 +21,7 @@ fn a_name_in_parts_is_the_name_as_one(rt: HostRuntime) -> Result<(), Fail> {
     };
     let file = file_of(rt.alloc(), parts)?;
     let text = "refused B F25 table 30 row 2 column 0 byte 0\n";
-    assert!(rt; verifies(rt.alloc(), &file, text)?);
+    assert!(rt; verifies(&rt, &file, text)?);
     Ok(())
 }
 
@@ -43,11 +43,11 @@ fn two_records(alloc: Global, rows: &[u8]) -> Result<Vec<u8>, AllocError> {
 fn records_in_order_of_their_parents(rt: HostRuntime) -> Result<(), Fail> {
     let in_order = b"\x01\0\0\0\x02\0\0\0\x03\0\0\0\0\0\0\0\x36\0\x01\0\0\0\xa0\0\x01\0\0\0";
     let file = two_records(rt.alloc(), in_order)?;
-    assert!(rt; verifies(rt.alloc(), &file, "accepted\n")?);
+    assert!(rt; verifies(&rt, &file, "accepted\n")?);
     let exchanged = b"\x01\0\0\0\x02\0\0\0\x03\0\0\0\0\0\0\0\xa0\0\x01\0\0\0\x36\0\x01\0\0\0";
     let file = two_records(rt.alloc(), exchanged)?;
     let text = "refused B F35 table 37 row 2 column 0 byte 0\n";
-    assert!(rt; verifies(rt.alloc(), &file, text)?);
+    assert!(rt; verifies(&rt, &file, text)?);
     Ok(())
 }
 
@@ -63,7 +63,7 @@ fn a_record_of_an_unknown_kind(rt: HostRuntime) -> Result<(), Fail> {
         ..NOTHING
     };
     let file = file_of(rt.alloc(), parts)?;
-    assert!(rt; verifies(rt.alloc(), &file, "accepted\n")?);
+    assert!(rt; verifies(&rt, &file, "accepted\n")?);
     Ok(())
 }
 
@@ -106,7 +106,7 @@ fn scopes_are_nested_or_apart(rt: HostRuntime) -> Result<(), Fail> {
     ];
     for (ranges, text) in rows {
         let file = scopes(rt.alloc(), ranges)?;
-        assert!(rt; verifies(rt.alloc(), &file, text)?, "{text}");
+        assert!(rt; verifies(&rt, &file, text)?, "{text}");
     }
     Ok(())
 }
@@ -205,7 +205,7 @@ const BROKEN_ROWS: [(Parts<'static>, &str); 8] = [
 fn each_row_breaks_its_rule(rt: HostRuntime) -> Result<(), Fail> {
     for (parts, text) in BROKEN_ROWS {
         let file = file_of(rt.alloc(), parts)?;
-        assert!(rt; verifies(rt.alloc(), &file, text)?, "{text}");
+        assert!(rt; verifies(&rt, &file, text)?, "{text}");
     }
     Ok(())
 }
@@ -247,7 +247,7 @@ fn many_variables_of_a_scope(rt: HostRuntime) -> Result<(), Fail> {
         }
         items.push((slot, name))?;
         let file = variables(rt.alloc(), &items)?;
-        assert!(rt; verifies(rt.alloc(), &file, text)?, "{slot} {name} {text}");
+        assert!(rt; verifies(&rt, &file, text)?, "{slot} {name} {text}");
     }
     Ok(())
 }

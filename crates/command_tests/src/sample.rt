@@ -27,6 +27,6 @@ const ROWS: [(&[&str], u8, &str); 4] = [
 
 #[test]
 fn samples_of_few_methods(rt: HostRuntime) -> Result<(), Fail> {
-    assert_eq!(rt; first_other_over(rt.alloc(), &[], &ROWS)?, None);
+    assert_eq!(rt; first_other_over(&rt, &[], &ROWS)?, None);
     Ok(())
 }

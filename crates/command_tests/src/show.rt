@@ -46,12 +46,12 @@ fn rows_as_text_and_as_json(rt: HostRuntime) -> Result<(), Fail> {
         (&["show", "E"], 0, E_AS_TEXT),
         (&["show", "B", "--json"], 0, B_AS_JSON),
     ];
-    assert_eq!(rt; first_other_over(rt.alloc(), &files, &rows)?, None);
+    assert_eq!(rt; first_other_over(&rt, &files, &rows)?, None);
     Ok(())
 }
 
 #[test]
 fn puts_that_fail(rt: HostRuntime) -> Result<(), Fail> {
-    assert!(rt; puts_fronts(rt.alloc(), &["show", "B"], B_AS_TEXT)?);
+    assert!(rt; puts_fronts(&rt, &["show", "B"], B_AS_TEXT)?);
     Ok(())
 }

@@ -1,7 +1,6 @@
 // Files that are moved by two maps one after the other, and by the map of both.
 use crate::moving_files::{ONE_METHOD, TWO_METHODS, put_parts, put_texts, worked};
 use ppdb_base::MemoryFolder;
-use std::alloc::Global;
 use std::test::Fail;
 use worked_runs::{NOTHING, Parts, first_other};
 
@@ -181,31 +180,31 @@ const CASES: [Case; 8] = [
 ];
 
 /// Puts the files of a case, and what its two steps and the map of both write.
-fn put_steps(alloc: Global, case: &Case, folder: &mut MemoryFolder) -> Result<(), Fail> {
-    put_parts(alloc, folder, &FILES)?;
+fn put_steps(rt: &HostRuntime, case: &Case, folder: &mut MemoryFolder) -> Result<(), Fail> {
+    put_parts(rt.alloc(), folder, &FILES)?;
     let texts = [
         ("first", case.first),
         ("second", case.second),
         ("want", case.both),
     ];
-    put_texts(alloc, folder, &texts)?;
-    let first = format!(in alloc; "remap {} first half --keep-id", case.file)?;
+    put_texts(rt.alloc(), folder, &texts)?;
+    let first = format!(in rt.alloc(); "remap {} first half --keep-id", case.file)?;
     let steps = [
         (first.as_str(), 0, ""),
         ("remap half second two --keep-id", 0, ""),
         ("compose first second both", 0, ""),
     ];
-    match first_other(alloc, folder, &steps)? {
+    match first_other(rt, folder, &steps)? {
         None => Ok(()),
         Some(_) => Err(Fail::from(case.both)),
     }
 }
 
 /// Whether a case comes to what it tells.
-fn comes_true(alloc: Global, case: &Case) -> Result<bool, Fail> {
-    let mut folder = worked(alloc)?;
-    put_steps(alloc, case, &mut folder)?;
-    let told = first_other(alloc, &mut folder, case.told)?.is_none();
+fn comes_true(rt: &HostRuntime, case: &Case) -> Result<bool, Fail> {
+    let mut folder = worked(rt.alloc())?;
+    put_steps(rt, case, &mut folder)?;
+    let told = first_other(rt, &mut folder, case.told)?.is_none();
     let composed = folder.get("both") == folder.get("want");
     let same = folder.get("one") == folder.get("two");
     Ok(told && composed && same == case.same)
@@ -214,7 +213,7 @@ fn comes_true(alloc: Global, case: &Case) -> Result<bool, Fail> {
 #[test]
 fn two_steps_and_one(rt: HostRuntime) -> Result<(), Fail> {
     for case in &CASES {
-        assert!(rt; comes_true(rt.alloc(), case)?, "{}", case.both);
+        assert!(rt; comes_true(&rt, case)?, "{}", case.both);
     }
     Ok(())
 }

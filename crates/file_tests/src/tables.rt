@@ -2,7 +2,7 @@
 ghost use Rattle.std.specs.Prelude.{◌≡◌, ◌<◌};
 
 use metadata_root::read_root;
-use ppdb_base::{Code, Fault, Place, Steps};
+use ppdb_base::{Code, CounterPermit, Fault, Place, Steps};
 use ppdb_tables::{
     DocumentRow, MethodDebugRow, Parent, PdbHead, ScopeRow, Tables, VariableRow, coded_parent,
     parent_of, read_head, read_tables,
@@ -109,12 +109,13 @@ fn names_the_first_fault_of_the_tables(rt: HostRuntime) {
 
 /// A row of each table, and how many rows were read.
 fn rows_of<L: Ledger>(
+    rt: &HostRuntime,
     tables: &Tables<'_>,
     blank: Blank,
 ) -> Option<(DocumentRow, MethodDebugRow, ScopeRow, VariableRow)>
     requires { (blank.name ≡ L.name) × (blank.parts ≡ L.parts) × (0 < L.parts) }
 {
-    let mut steps = Steps::<L>::new(blank);
+    let mut steps = Steps::<L>::new(CounterPermit::new(rt), blank);
     if tables.rows(0x30) < 1
         || tables.rows(0x31) < 1
         || tables.rows(0x32) < 2
@@ -131,8 +132,11 @@ fn rows_of<L: Ledger>(
 }
 
 /// The same, with a counter of its own.
-fn first_rows(tables: &Tables<'_>) -> Option<(DocumentRow, MethodDebugRow, ScopeRow, VariableRow)> {
-    rows_of::<Brand>(tables, Blank::new(1))
+fn first_rows(
+    rt: &HostRuntime,
+    tables: &Tables<'_>,
+) -> Option<(DocumentRow, MethodDebugRow, ScopeRow, VariableRow)> {
+    rows_of::<Brand>(rt, tables, Blank::new(1))
 }
 
 /// The first document, method, scope and variable of the small file.
@@ -170,7 +174,7 @@ fn reads_the_rows(rt: HostRuntime) {
         assert!(rt; tables.rows(0x06) == 1);
         assert!(rt; tables.rows(0x32) == 2);
         assert!(rt; tables.rows(0x34) == 0);
-        assert!(rt; first_rows(&tables) == Some(FIRST_ROWS));
+        assert!(rt; first_rows(&rt, &tables) == Some(FIRST_ROWS));
     }
 }
 

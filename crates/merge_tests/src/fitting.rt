@@ -4,12 +4,11 @@ ghost use Rattle.std.specs.Prelude.{◌≡◌, ◌<◌};
 use crate::files::{HALVES, HANDLED, RESUMED, UNKNOWN};
 use custom_info::Marks;
 use map_tests::map_of;
-use ppdb_base::{List, MergeError, Place, Steps};
+use ppdb_base::{CounterPermit, List, MergeError, Place, Steps};
 use ppdb_fits::judge;
 use ppdb_maps::MapText;
 use ppdb_references::Imaged;
 use ppdb_verify::verify;
-use std::alloc::Global;
 use std::marker::Brand;
 use std::sync::ledger::{Blank, Ledger};
 use std::test::Fail;
@@ -17,7 +16,7 @@ use value_reading::value_of;
 use worked_files::{PROGRAM, SMALL};
 
 fn judged_in<L: Ledger>(
-    alloc: Global,
+    rt: &HostRuntime,
     bytes: &[u8],
     map: &MapText,
     blank: Blank,
@@ -27,25 +26,25 @@ fn judged_in<L: Ledger>(
     if bytes.len() > 0x0800_0000 {
         return Err(Fail::from("too long"));
     }
-    let marks = Marks::new(alloc);
-    let mut steps = Steps::<L>::new(blank);
-    let Ok(file) = verify(alloc, bytes, &mut steps) else {
+    let marks = Marks::new(rt.alloc());
+    let mut steps = Steps::<L>::new(CounterPermit::new(rt), blank);
+    let Ok(file) = verify(rt.alloc(), bytes, &mut steps) else {
         return Err(Fail::from("not valid"));
     };
-    let Ok(value) = value_of(alloc, &file, &mut steps) else {
+    let Ok(value) = value_of(rt.alloc(), &file, &mut steps) else {
         return Err(Fail::from("no memory"));
     };
-    Ok(judge(alloc, &file, &value, map, &marks, true, &mut steps))
+    Ok(judge(rt.alloc(), &file, &value, map, &marks, true, &mut steps))
 }
 
 /// How a map is judged for a file that comes first: the rows that the file names with their images, or what does not fit.
 fn judged(
-    alloc: Global,
+    rt: &HostRuntime,
     bytes: &[u8],
     lines: &str,
 ) -> Result<Result<List<Imaged>, MergeError>, Fail> {
-    let map = map_of(alloc, lines)?;
-    judged_in::<Brand>(alloc, bytes, &map, Blank::new(1))
+    let map = map_of(rt.alloc(), lines)?;
+    judged_in::<Brand>(rt, bytes, &map, Blank::new(1))
 }
 
 /// The entry point is named, and has no image.
@@ -83,12 +82,12 @@ fn lost(method: u32, offset: u32) -> MergeError {
 
 /// A map that does not fit its file is refused with this error.
 fn is_told(
-    alloc: Global,
+    rt: &HostRuntime,
     bytes: &[u8],
     lines: &'static str,
     error: MergeError,
 ) -> Result<(), Fail> {
-    match judged(alloc, bytes, lines)? {
+    match judged(rt, bytes, lines)? {
         Err(told) if told == error => Ok(()),
         _ => Err(Fail::from(lines)),
     }
@@ -122,7 +121,7 @@ fn rows_slots_and_kinds_that_do_not_fit_are_told(rt: HostRuntime) -> Result<(), 
         (&UNKNOWN, "ppdbmap 2/drop 1", KIND_UNKNOWN),
     ];
     for (bytes, lines, error) in rows {
-        is_told(rt.alloc(), bytes, lines, error)?;
+        is_told(&rt, bytes, lines, error)?;
     }
     Ok(())
 }
@@ -144,7 +143,7 @@ fn offsets_that_do_not_fit_are_told(rt: HostRuntime) -> Result<(), Fail> {
         (&RESUMED, "ppdbmap 2/drop 2", lost(2, 25)),
     ];
     for (bytes, lines, error) in rows {
-        is_told(rt.alloc(), bytes, lines, error)?;
+        is_told(&rt, bytes, lines, error)?;
     }
     Ok(())
 }
@@ -166,7 +165,7 @@ fn what_fits_has_images(rt: HostRuntime) -> Result<(), Fail> {
         (&UNKNOWN, "ppdbmap 2/drop 2", &[]),
     ];
     for (bytes, lines, methods) in rows {
-        let Ok(found) = judged(rt.alloc(), bytes, lines)? else {
+        let Ok(found) = judged(&rt, bytes, lines)? else {
             return Err(Fail::from(lines));
         };
         let mut images = Vec::new(rt.alloc());

@@ -4,12 +4,11 @@ ghost use Rattle.std.specs.Prelude.{◌≡◌, ◌<◌, ◌+◌, length, IfOk, O
 use crate::files::{HALVES, MORE_RECORDS, OTHER_HALF, RECORDS};
 use custom_info::{Marks, SOURCE_LINK, TYPE_DOCUMENTS};
 use map_tests::map_of;
-use ppdb_base::{MergeError, Steps};
+use ppdb_base::{CounterPermit, MergeError, Steps};
 use ppdb_maps::MapText;
 use ppdb_merge::Merger;
 use ppdb_values::{CustomBody, FileValue};
 use ppdb_verify::verify;
-use std::alloc::Global;
 use std::marker::Brand;
 use std::process::Abort;
 use std::sync::ledger::{Blank, Ledger};
@@ -21,7 +20,7 @@ use worked_files::SMALL;
 struct Input<'a>(&'a [u8], &'a str);
 
 fn add_in<L: Ledger>(
-    alloc: Global,
+    rt: &HostRuntime,
     merger: &mut Merger,
     bytes: &[u8],
     map: &MapText,
@@ -34,25 +33,29 @@ fn add_in<L: Ledger>(
     if bytes.len() > 0x0800_0000 {
         return Err(Fail::from("too long"));
     }
-    let mut steps = Steps::<L>::new(blank);
-    let Ok(file) = verify(alloc, bytes, &mut steps) else {
+    let mut steps = Steps::<L>::new(CounterPermit::new(rt), blank);
+    let Ok(file) = verify(rt.alloc(), bytes, &mut steps) else {
         return Err(Fail::from("not valid"));
     };
     Ok(merger.add(&file, map, &mut steps))
 }
 
-fn add(alloc: Global, merger: &mut Merger, input: Input<'_>) -> Result<Result<(), MergeError>, Fail>
+fn add(
+    rt: &HostRuntime,
+    merger: &mut Merger,
+    input: Input<'_>,
+) -> Result<Result<(), MergeError>, Fail>
     requires { length merger.now.traces < 256 }
     ensures { IfOk result (λ answer. OnOk answer (length merger.new.traces ≡ length merger.old.traces + 1)) }
 {
     let Input(bytes, lines) = input;
-    let map = map_of(alloc, lines)?;
-    add_in::<Brand>(alloc, merger, bytes, &map, Blank::new(1))
+    let map = map_of(rt.alloc(), lines)?;
+    add_in::<Brand>(rt, merger, bytes, &map, Blank::new(1))
 }
 
 /// Adds two files.
 fn add_both(
-    alloc: Global,
+    rt: &HostRuntime,
     merger: &mut Merger,
     first: Input<'_>,
     second: Input<'_>,
@@ -60,20 +63,20 @@ fn add_both(
     requires { length merger.now.traces < 255 }
     ensures { IfOk result (λ answer. OnOk answer (length merger.new.traces ≡ length merger.old.traces + 2)) }
 {
-    if let Err(told) = add(alloc, merger, first)? {
+    if let Err(told) = add(rt, merger, first)? {
         return Ok(Err(told));
     }
-    add(alloc, merger, second)
+    add(rt, merger, second)
 }
 
 /// What two files are merged to.
 fn merged(
-    alloc: Global,
+    rt: &HostRuntime,
     first: Input<'_>,
     second: Input<'_>,
 ) -> Result<Result<FileValue, MergeError>, Fail> {
-    let mut merger = Merger::new(alloc, Marks::new(alloc));
-    match add_both(alloc, &mut merger, first, second) {
+    let mut merger = Merger::new(rt.alloc(), Marks::new(rt.alloc()));
+    match add_both(rt, &mut merger, first, second) {
         Ok(Ok(())) => Ok(merger.finish()),
         Ok(Err(told)) => Ok(Err(told)),
         Err(fail) => Err(fail),
@@ -82,12 +85,12 @@ fn merged(
 
 /// Two files are not merged, for this reason.
 fn is_told(
-    alloc: Global,
+    rt: &HostRuntime,
     first: Input<'static>,
     second: Input<'static>,
     error: MergeError,
 ) -> Result<(), Fail> {
-    let told = match merged(alloc, first, second) {
+    let told = match merged(rt, first, second) {
         Ok(answer) => answer.err(),
         Err(fail) => return Err(fail),
     };
@@ -109,8 +112,8 @@ fn methods_and_documents_that_do_not_fit_are_told(rt: HostRuntime) -> Result<(),
         image: 4,
     };
     let conflict = MergeError::DocumentConflict { row: 2, joined: 2 };
-    is_told(rt.alloc(), half, on_four, taken)?;
-    is_told(rt.alloc(), half, on_six, conflict)
+    is_told(&rt, half, on_four, taken)?;
+    is_told(&rt, half, on_six, conflict)
 }
 
 #[test]
@@ -132,8 +135,8 @@ fn row_counts_that_do_not_fit_are_told(rt: HostRuntime) -> Result<(), Fail> {
     let more_types = Input(&SMALL, "ppdbmap 1/rows 06 9/row 06 1 6/rows 02 1");
     let past_one = Input(&SMALL, "ppdbmap 1/rows 06 1/row 06 1 2");
     let one = Input(&SMALL, "ppdbmap 1/rows 06 1/row 06 1 1");
-    is_told(rt.alloc(), halves, more_types, differ)?;
-    is_told(rt.alloc(), past_one, one, above)
+    is_told(&rt, halves, more_types, differ)?;
+    is_told(&rt, past_one, one, above)
 }
 
 /// The document is one, and the methods stand by their images.
@@ -151,7 +154,7 @@ fn is_joined(rt: &impl Abort, value: &FileValue) {
 fn one_file_is_merged_with_itself(rt: HostRuntime) -> Result<(), Fail> {
     let first = Input(&SMALL, "ppdbmap 1/rows 06 2/row 06 1 1");
     let second = Input(&SMALL, "ppdbmap 1/rows 06 2/row 06 1 2");
-    match merged(rt.alloc(), first, second) {
+    match merged(&rt, first, second) {
         Ok(Ok(value)) => is_joined(&rt, &value),
         Ok(Err(_)) => return Err(Fail::from("refused")),
         Err(fail) => return Err(fail),
@@ -194,7 +197,7 @@ fn has_records(rt: &impl Abort, value: &FileValue) {
 fn records_of_earlier_files_are_left_out(rt: HostRuntime) -> Result<(), Fail> {
     let first = Input(&RECORDS, "ppdbmap 1");
     let second = Input(&MORE_RECORDS, "ppdbmap 1");
-    match merged(rt.alloc(), first, second) {
+    match merged(&rt, first, second) {
         Ok(Ok(value)) => has_records(&rt, &value),
         Ok(Err(_)) => return Err(Fail::from("refused")),
         Err(fail) => return Err(fail),

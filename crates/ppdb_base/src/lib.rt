@@ -30,7 +30,7 @@ pub use merge_error::MergeError;
 pub use offsets::{OffsetImage, Run};
 pub use sink::{Sink, WriteError};
 pub use steady::{SteadyFolder, SteadySink};
-pub use steps::Steps;
+pub use steps::{CounterPermit, Steps};
 
 #[cfg(test)]
 mod tests;

@@ -8,10 +8,9 @@ mod real_folder;
 mod std_sink;
 mod writing;
 
-use ppdb_base::{Folder, Sink, Steps};
+use ppdb_base::{CounterPermit, Folder, Sink, Steps};
 use ppdb_run::{Status, read_words, run};
 use real_folder::RealFolder;
-use std::alloc::Global;
 use std::io::ErrorKind;
 use std::marker::Brand;
 use std::process::ExitCode;
@@ -50,7 +49,7 @@ fn answer(rt: &HostRuntime, words: &[String]) -> Status {
     let mut folder = RealFolder::new(rt);
     let status = match asked_text(words) {
         Some(text) => put_text(&mut out, text),
-        None => run_outside(rt.alloc(), words, &mut folder, &mut out),
+        None => run_outside(rt, words, &mut folder, &mut out),
     };
     match out.flush() {
         Err(_) if status != Status::Memory => Status::WriteFault,
@@ -88,17 +87,17 @@ fn put_text<O: Sink>(out: &mut O, text: &str) -> Status {
 
 /// Runs the command over a folder.
 fn run_outside<F: Folder, O: Sink>(
-    alloc: Global,
+    rt: &HostRuntime,
     words: &[String],
     folder: &mut F,
     out: &mut O,
 ) -> Status {
-    run_counted::<_, _, Brand, Brand>(alloc, words, folder, out, Blank::new(1), Blank::new(1))
+    run_counted::<_, _, Brand, Brand>(rt, words, folder, out, Blank::new(1), Blank::new(1))
 }
 
 /// Runs the command over counters of its own.
 fn run_counted<F: Folder, O: Sink, K: Ledger, L: Ledger>(
-    alloc: Global,
+    rt: &HostRuntime,
     words: &[String],
     folder: &mut F,
     out: &mut O,
@@ -108,7 +107,7 @@ fn run_counted<F: Folder, O: Sink, K: Ledger, L: Ledger>(
     requires checks { (checks.name ≡ K.name) × (checks.parts ≡ K.parts) × (0 < K.parts) }
     requires steps { (steps.name ≡ L.name) × (steps.parts ≡ L.parts) × (0 < L.parts) }
 {
-    let mut checks = Steps::<K>::new(checks);
-    let mut steps = Steps::<L>::new(steps);
-    run(alloc, words, folder, out, &mut checks, &mut steps)
+    let mut checks = Steps::<K>::new(CounterPermit::new(rt), checks);
+    let mut steps = Steps::<L>::new(CounterPermit::new(rt), steps);
+    run(rt.alloc(), words, folder, out, &mut checks, &mut steps)
 }

@@ -4,7 +4,7 @@ ghost use Rattle.std.specs.Prelude.{◌≡◌, ◌<◌};
 use crate::files::PARENTS;
 use crate::opening::open;
 use custom_info::Range;
-use ppdb_base::{Bytes, Memory, Steps};
+use ppdb_base::{Bytes, CounterPermit, Memory, Steps};
 use ppdb_heaps::NameCursor;
 use ppdb_queries::{
     Hoisted, ImportLink, NoMethod, Run, ScopeView, hoisted_at, imports_of, kickoff_of,
@@ -115,7 +115,7 @@ fn find<L: Ledger>(
 }
 
 fn query_in<L: Ledger>(
-    alloc: Global,
+    rt: &HostRuntime,
     bytes: &[u8],
     method: u32,
     offset: u32,
@@ -123,21 +123,21 @@ fn query_in<L: Ledger>(
 ) -> Result<Option<Found>, Fail>
     requires { (blank.name ≡ L.name) × (blank.parts ≡ L.parts) × (0 < L.parts) }
 {
-    let mut steps = Steps::<L>::new(blank);
-    let Some(file) = open(alloc, bytes, &mut steps) else {
+    let mut steps = Steps::<L>::new(CounterPermit::new(rt), blank);
+    let Some(file) = open(rt.alloc(), bytes, &mut steps) else {
         return Err(Fail::from("not valid"));
     };
     Ok(find(&file, method, offset, &mut steps).ok())
 }
 
 /// What a file says of an offset of a method; None where it has no such method.
-fn query(alloc: Global, bytes: &[u8], method: u32, offset: u32) -> Result<Option<Found>, Fail> {
-    query_in::<Brand>(alloc, bytes, method, offset, Blank::new(1))
+fn query(rt: &HostRuntime, bytes: &[u8], method: u32, offset: u32) -> Result<Option<Found>, Fail> {
+    query_in::<Brand>(rt, bytes, method, offset, Blank::new(1))
 }
 
 /// What a file says of an offset of a method that it has.
-fn asked(alloc: Global, bytes: &[u8], method: u32, offset: u32) -> Result<Found, Fail> {
-    match query(alloc, bytes, method, offset)? {
+fn asked(rt: &HostRuntime, bytes: &[u8], method: u32, offset: u32) -> Result<Found, Fail> {
+    match query(rt, bytes, method, offset)? {
         Some(found) => Ok(found),
         None => Err(Fail::from("no method")),
     }
@@ -160,8 +160,8 @@ const SECOND: ScopeView = ScopeView {
 };
 
 /// The offset of the point that covers an offset of a method.
-fn point_in(alloc: Global, bytes: &[u8], method: u32, offset: u32) -> Result<Option<u32>, Fail> {
-    let found = asked(alloc, bytes, method, offset)?;
+fn point_in(rt: &HostRuntime, bytes: &[u8], method: u32, offset: u32) -> Result<Option<u32>, Fail> {
+    let found = asked(rt, bytes, method, offset)?;
     match found.point {
         Some(point) => Ok(Some(point.offset)),
         None => Ok(None),
@@ -169,8 +169,8 @@ fn point_in(alloc: Global, bytes: &[u8], method: u32, offset: u32) -> Result<Opt
 }
 
 /// Whether these are the two scopes of an offset of method 1 of B.
-fn scopes_are(alloc: Global, offset: u32, scopes: [Option<ScopeView>; 2]) -> Result<bool, Fail> {
-    let found = asked(alloc, &SMALL, 1, offset)?;
+fn scopes_are(rt: &HostRuntime, offset: u32, scopes: [Option<ScopeView>; 2]) -> Result<bool, Fail> {
+    let found = asked(rt, &SMALL, 1, offset)?;
     let [first, second, third] = found.scopes;
     Ok(first == scopes[0] && second == scopes[1] && third.is_none())
 }
@@ -188,8 +188,8 @@ fn scopes_hold_their_starts_and_not_their_ends(rt: HostRuntime) -> Result<(), Fa
         (9, Some(7), [None, None]),
     ];
     for (offset, point, scopes) in rows {
-        assert_eq!(rt; point_in(rt.alloc(), &SMALL, 1, offset)?, point, "{offset}");
-        assert!(rt; scopes_are(rt.alloc(), offset, scopes)?, "{offset}");
+        assert_eq!(rt; point_in(&rt, &SMALL, 1, offset)?, point, "{offset}");
+        assert!(rt; scopes_are(&rt, offset, scopes)?, "{offset}");
     }
     Ok(())
 }
@@ -207,15 +207,15 @@ fn methods_have_points_or_none(rt: HostRuntime) -> Result<(), Fail> {
         (&PARENTS, 1, 0, None),
     ];
     for (bytes, method, offset, point) in rows {
-        assert_eq!(rt; point_in(rt.alloc(), bytes, method, offset)?, point);
+        assert_eq!(rt; point_in(&rt, bytes, method, offset)?, point);
     }
     Ok(())
 }
 
 #[test]
 fn methods_that_are_not_there(rt: HostRuntime) -> Result<(), Fail> {
-    assert!(rt; query(rt.alloc(), &SMALL, 0, 0)?.is_none());
-    assert!(rt; query(rt.alloc(), &SMALL, 2, 0)?.is_none());
+    assert!(rt; query(&rt, &SMALL, 0, 0)?.is_none());
+    assert!(rt; query(&rt, &SMALL, 2, 0)?.is_none());
     Ok(())
 }
 
@@ -257,13 +257,13 @@ const AT_A_LINE: Found = Found {
 
 #[test]
 fn an_asynchronous_method(rt: HostRuntime) -> Result<(), Fail> {
-    assert!(rt; asked(rt.alloc(), &PROGRAM, 4, 110)? == AT_A_LINE);
+    assert!(rt; asked(&rt, &PROGRAM, 4, 110)? == AT_A_LINE);
     Ok(())
 }
 
 /// The kickoff and the MoveNext method that a method of the program is linked to, of which no hoisted local is at the offset.
-fn linked(alloc: Global, method: u32, offset: u32) -> Result<(Option<u32>, Option<u32>), Fail> {
-    let found = asked(alloc, &PROGRAM, method, offset)?;
+fn linked(rt: &HostRuntime, method: u32, offset: u32) -> Result<(Option<u32>, Option<u32>), Fail> {
+    let found = asked(rt, &PROGRAM, method, offset)?;
     match found.hoisted {
         Some(_) => Err(Fail::from("a hoisted local")),
         None => Ok((found.kickoff, found.move_next)),
@@ -272,9 +272,9 @@ fn linked(alloc: Global, method: u32, offset: u32) -> Result<(Option<u32>, Optio
 
 #[test]
 fn what_is_linked_to_methods(rt: HostRuntime) -> Result<(), Fail> {
-    assert!(rt; linked(rt.alloc(), 1, 0)? == (None, Some(4)));
-    assert!(rt; linked(rt.alloc(), 4, 161)? == (Some(1), None));
-    assert!(rt; linked(rt.alloc(), 5, 0)? == (None, None));
+    assert!(rt; linked(&rt, 1, 0)? == (None, Some(4)));
+    assert!(rt; linked(&rt, 4, 161)? == (Some(1), None));
+    assert!(rt; linked(&rt, 5, 0)? == (None, None));
     Ok(())
 }
 
@@ -294,7 +294,7 @@ fn is_name(alloc: Global, cursor: NameCursor<'_>, name: &[u8]) -> Result<bool, M
 }
 
 fn is_named_in<L: Ledger>(
-    alloc: Global,
+    rt: &HostRuntime,
     bytes: &[u8],
     method: u32,
     name: &[u8],
@@ -302,20 +302,20 @@ fn is_named_in<L: Ledger>(
 ) -> Result<bool, Fail>
     requires { (blank.name ≡ L.name) × (blank.parts ≡ L.parts) × (0 < L.parts) }
 {
-    let mut steps = Steps::<L>::new(blank);
-    let Some(file) = open(alloc, bytes, &mut steps) else {
+    let mut steps = Steps::<L>::new(CounterPermit::new(rt), blank);
+    let Some(file) = open(rt.alloc(), bytes, &mut steps) else {
         return Err(Fail::from("not valid"));
     };
     match point_at(&file, method, 0, &mut steps) {
-        Ok(Some(found)) => Ok(is_name(alloc, found.name, name)?),
+        Ok(Some(found)) => Ok(is_name(rt.alloc(), found.name, name)?),
         Ok(None) => Ok(false),
         Err(NoMethod) => Err(Fail::from("no method")),
     }
 }
 
 /// Whether the document of a method's first point has the name.
-fn is_named(alloc: Global, bytes: &[u8], method: u32, name: &[u8]) -> Result<bool, Fail> {
-    is_named_in::<Brand>(alloc, bytes, method, name, Blank::new(1))
+fn is_named(rt: &HostRuntime, bytes: &[u8], method: u32, name: &[u8]) -> Result<bool, Fail> {
+    is_named_in::<Brand>(rt, bytes, method, name, Blank::new(1))
 }
 
 #[test]
@@ -325,7 +325,7 @@ fn points_have_names(rt: HostRuntime) -> Result<(), Fail> {
         (&PROGRAM, 4, b"/src/app/Program.cs"),
     ];
     for (bytes, method, name) in rows {
-        assert!(rt; is_named(rt.alloc(), bytes, method, name)?);
+        assert!(rt; is_named(&rt, bytes, method, name)?);
     }
     Ok(())
 }

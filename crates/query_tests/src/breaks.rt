@@ -4,9 +4,8 @@ ghost use Rattle.std.specs.Prelude.{◌≡◌, ◌<◌};
 use crate::files::{COLUMN, NAMES, SPANNING};
 use crate::opening::open;
 use break_lines::{Break, NoDocument, breaks_at, document_named};
-use ppdb_base::Steps;
+use ppdb_base::{CounterPermit, Steps};
 use ppdb_verify::Verified;
-use std::alloc::Global;
 use std::marker::Brand;
 use std::sync::ledger::{Blank, Ledger};
 use std::test::Fail;
@@ -36,7 +35,7 @@ fn breaks_of<L: Ledger>(
 }
 
 fn find_in<L: Ledger>(
-    alloc: Global,
+    rt: &HostRuntime,
     bytes: &[u8],
     name: &[u8],
     line: u32,
@@ -44,8 +43,8 @@ fn find_in<L: Ledger>(
 ) -> Result<Found, Fail>
     requires { (blank.name ≡ L.name) × (blank.parts ≡ L.parts) × (0 < L.parts) }
 {
-    let mut steps = Steps::<L>::new(blank);
-    let Some(file) = open(alloc, bytes, &mut steps) else {
+    let mut steps = Steps::<L>::new(CounterPermit::new(rt), blank);
+    let Some(file) = open(rt.alloc(), bytes, &mut steps) else {
         return Err(Fail::from("not valid"));
     };
     let document = document_named(&file, name, &mut steps);
@@ -57,8 +56,8 @@ fn find_in<L: Ledger>(
 }
 
 /// What a file says of a line of the document with a name.
-fn find(alloc: Global, bytes: &[u8], name: &[u8], line: u32) -> Result<Found, Fail> {
-    find_in::<Brand>(alloc, bytes, name, line, Blank::new(1))
+fn find(rt: &HostRuntime, bytes: &[u8], name: &[u8], line: u32) -> Result<Found, Fail> {
+    find_in::<Brand>(rt, bytes, name, line, Blank::new(1))
 }
 
 fn at(method: u32, offset: u32, start: (u32, u32), end: (u32, u32)) -> Option<Break> {
@@ -74,13 +73,13 @@ fn at(method: u32, offset: u32, start: (u32, u32), end: (u32, u32)) -> Option<Br
 
 /// Whether a file has a document of this name, and these are the breaks of a line of it.
 fn breaks_are(
-    alloc: Global,
+    rt: &HostRuntime,
     bytes: &[u8],
     name: &[u8],
     line: u32,
     breaks: [Option<Break>; 2],
 ) -> Result<bool, Fail> {
-    let found = find(alloc, bytes, name, line)?;
+    let found = find(rt, bytes, name, line)?;
     let [first, second, third] = found.breaks;
     let same = first == breaks[0] && second == breaks[1] && third.is_none();
     Ok(found.document.is_some() && same)
@@ -105,10 +104,7 @@ fn lines_have_breaks(rt: HostRuntime) -> Result<(), Fail> {
         (&SMALL, b"/a/b", 11, [None, None]),
     ];
     for (bytes, name, line, breaks) in rows {
-        assert!(rt;
-            breaks_are(rt.alloc(), bytes, name, line, breaks)?,
-            "{line}"
-        );
+        assert!(rt; breaks_are(&rt, bytes, name, line, breaks)?, "{line}");
     }
     Ok(())
 }
@@ -135,22 +131,22 @@ fn documents_have_names(rt: HostRuntime) -> Result<(), Fail> {
         (&SMALL, b"/a/c", None),
     ];
     for (bytes, name, document) in rows {
-        assert_eq!(rt; find(rt.alloc(), bytes, name, 1)?.document, document);
+        assert_eq!(rt; find(&rt, bytes, name, 1)?.document, document);
     }
     Ok(())
 }
 
 /// Whether a file has no such document.
 fn is_refused_in<L: Ledger>(
-    alloc: Global,
+    rt: &HostRuntime,
     bytes: &[u8],
     document: u32,
     blank: Blank,
 ) -> Result<bool, Fail>
     requires { (blank.name ≡ L.name) × (blank.parts ≡ L.parts) × (0 < L.parts) }
 {
-    let mut steps = Steps::<L>::new(blank);
-    let Some(file) = open(alloc, bytes, &mut steps) else {
+    let mut steps = Steps::<L>::new(CounterPermit::new(rt), blank);
+    let Some(file) = open(rt.alloc(), bytes, &mut steps) else {
         return Err(Fail::from("not valid"));
     };
     match breaks_at(&file, document, 1) {
@@ -160,14 +156,14 @@ fn is_refused_in<L: Ledger>(
 }
 
 /// Whether a file has no such document.
-fn is_refused(alloc: Global, bytes: &[u8], document: u32) -> Result<bool, Fail> {
-    is_refused_in::<Brand>(alloc, bytes, document, Blank::new(1))
+fn is_refused(rt: &HostRuntime, bytes: &[u8], document: u32) -> Result<bool, Fail> {
+    is_refused_in::<Brand>(rt, bytes, document, Blank::new(1))
 }
 
 #[test]
 fn documents_that_are_not_there(rt: HostRuntime) -> Result<(), Fail> {
     for (document, refused) in [(0, true), (1, false), (3, false), (4, true)] {
-        assert_eq!(rt; is_refused(rt.alloc(), &SPANNING, document)?, refused);
+        assert_eq!(rt; is_refused(&rt, &SPANNING, document)?, refused);
     }
     Ok(())
 }

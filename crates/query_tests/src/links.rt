@@ -2,7 +2,7 @@
 ghost use Rattle.std.specs.Prelude.{◌≡◌, ◌<◌};
 
 use crate::opening::open;
-use ppdb_base::{Bytes, LinkError, List, Steps};
+use ppdb_base::{Bytes, CounterPermit, LinkError, List, Steps};
 use source_link::{Links, find_link, read_links};
 use std::alloc::Global;
 use std::marker::Brand;
@@ -199,28 +199,28 @@ fn records_are_refused(rt: HostRuntime) {
 
 /// Whether the record of a file is this.
 fn is_record_in<L: Ledger>(
-    alloc: Global,
+    rt: &HostRuntime,
     bytes: &[u8],
     record: Option<&[u8]>,
     blank: Blank,
 ) -> Result<bool, Fail>
     requires { (blank.name ≡ L.name) × (blank.parts ≡ L.parts) × (0 < L.parts) }
 {
-    let mut steps = Steps::<L>::new(blank);
-    let Some(file) = open(alloc, bytes, &mut steps) else {
+    let mut steps = Steps::<L>::new(CounterPermit::new(rt), blank);
+    let Some(file) = open(rt.alloc(), bytes, &mut steps) else {
         return Err(Fail::from("not valid"));
     };
     Ok(find_link(&file, &mut steps) == record)
 }
 
 /// Whether the record of a file is this.
-fn is_record(alloc: Global, bytes: &[u8], record: Option<&[u8]>) -> Result<bool, Fail> {
-    is_record_in::<Brand>(alloc, bytes, record, Blank::new(1))
+fn is_record(rt: &HostRuntime, bytes: &[u8], record: Option<&[u8]>) -> Result<bool, Fail> {
+    is_record_in::<Brand>(rt, bytes, record, Blank::new(1))
 }
 
 #[test]
 fn files_have_records(rt: HostRuntime) -> Result<(), Fail> {
-    assert!(rt; is_record(rt.alloc(), &PROGRAM, Some(b"{}"))?);
-    assert!(rt; is_record(rt.alloc(), &SMALL, None)?);
+    assert!(rt; is_record(&rt, &PROGRAM, Some(b"{}"))?);
+    assert!(rt; is_record(&rt, &SMALL, None)?);
     Ok(())
 }

@@ -3,11 +3,10 @@ ghost use Rattle.std.specs.Prelude.{◌≡◌, ◌<◌};
 
 use crate::files::PARENTS;
 use crate::opening::open;
-use ppdb_base::Steps;
+use ppdb_base::{CounterPermit, Steps};
 use ppdb_queries::{Run, customs_of};
 use ppdb_tables::{Parent, coded_parent};
 use ppdb_verify::Verified;
-use std::alloc::Global;
 use std::marker::Brand;
 use std::sync::ledger::{Blank, Ledger};
 use std::test::Fail;
@@ -30,15 +29,15 @@ fn run_on<L: Ledger>(
 }
 
 fn runs_are_in<L: Ledger>(
-    alloc: Global,
+    rt: &HostRuntime,
     bytes: &[u8],
     rows: &[(u8, u32, Option<Run>)],
     blank: Blank,
 ) -> Result<bool, Fail>
     requires { (blank.name ≡ L.name) × (blank.parts ≡ L.parts) × (0 < L.parts) }
 {
-    let mut steps = Steps::<L>::new(blank);
-    let Some(file) = open(alloc, bytes, &mut steps) else {
+    let mut steps = Steps::<L>::new(CounterPermit::new(rt), blank);
+    let Some(file) = open(rt.alloc(), bytes, &mut steps) else {
         return Err(Fail::from("not valid"));
     };
     for (table, row, run) in rows {
@@ -50,8 +49,8 @@ fn runs_are_in<L: Ledger>(
 }
 
 /// Whether each of some rows has its run.
-fn runs_are(alloc: Global, bytes: &[u8], rows: &[(u8, u32, Option<Run>)]) -> Result<bool, Fail> {
-    runs_are_in::<Brand>(alloc, bytes, rows, Blank::new(1))
+fn runs_are(rt: &HostRuntime, bytes: &[u8], rows: &[(u8, u32, Option<Run>)]) -> Result<bool, Fail> {
+    runs_are_in::<Brand>(rt, bytes, rows, Blank::new(1))
 }
 
 const fn run(first: u32, end: u32) -> Option<Run> {
@@ -70,7 +69,7 @@ fn records_stand_on_their_parents(rt: HostRuntime) -> Result<(), Fail> {
     for (tag, table) in TAGS.iter().enumerate() {
         rows[tag] = (*table, 1, run(tag as u32 + 1, tag as u32 + 2));
     }
-    assert!(rt; runs_are(rt.alloc(), &PARENTS, &rows)?);
+    assert!(rt; runs_are(&rt, &PARENTS, &rows)?);
     let rows = [
         (0x00, 1, run(1, 3)),
         (0x06, 4, run(3, 5)),
@@ -78,6 +77,6 @@ fn records_stand_on_their_parents(rt: HostRuntime) -> Result<(), Fail> {
         (0x06, 5, run(5, 5)),
         (0x37, 1, None),
     ];
-    assert!(rt; runs_are(rt.alloc(), &PROGRAM, &rows)?);
+    assert!(rt; runs_are(&rt, &PROGRAM, &rows)?);
     Ok(())
 }

@@ -1,7 +1,6 @@
 // The small worked file with one byte changed, rebuilt.
 use ppdb_base::{MemorySink, SteadyFolder};
 use ppdb_run::Status;
-use std::alloc::Global;
 use std::test::Fail;
 use worked_files::SMALL;
 use worked_runs::{first_other, ran};
@@ -16,16 +15,16 @@ const OF_A_VALID_FILE: [(&str, u8, &str); 4] = [
 
 /// Whether a file that is accepted is rebuilt to one that is accepted and rebuilt to itself, and any other is refused as `verify`
 /// refuses it, and nothing is written.
-fn is_rebuilt_or_refused(alloc: Global, bytes: &[u8]) -> Result<bool, Fail> {
-    let mut folder = SteadyFolder::new(alloc);
+fn is_rebuilt_or_refused(rt: &HostRuntime, bytes: &[u8]) -> Result<bool, Fail> {
+    let mut folder = SteadyFolder::new(rt.alloc());
     folder.set("B", bytes)?;
-    let (mut told, mut said) = (MemorySink::new(alloc), MemorySink::new(alloc));
-    let judged = ran(alloc, &["verify", "B"], &mut folder, &mut told)?;
+    let (mut told, mut said) = (MemorySink::new(rt.alloc()), MemorySink::new(rt.alloc()));
+    let judged = ran(rt, &["verify", "B"], &mut folder, &mut told)?;
     if judged == Status::Done {
-        let other = first_other(alloc, &mut folder, &OF_A_VALID_FILE)?;
+        let other = first_other(rt, &mut folder, &OF_A_VALID_FILE)?;
         return Ok(other.is_none() && folder.get("O") == folder.get("A"));
     }
-    let ended = ran(alloc, &["rebuild", "B", "O"], &mut folder, &mut said)?;
+    let ended = ran(rt, &["rebuild", "B", "O"], &mut folder, &mut said)?;
     Ok(ended == judged && said.as_slice() == told.as_slice() && folder.get("O").is_none())
 }
 
@@ -35,7 +34,7 @@ fn every_byte_with_some_values(rt: HostRuntime) -> Result<(), Fail> {
         for value in [0x00, 0x01, 0x7f, 0x80, 0xff] {
             let mut file = SMALL;
             file[at] = value;
-            assert!(rt; is_rebuilt_or_refused(rt.alloc(), &file)?, "{at} {value}");
+            assert!(rt; is_rebuilt_or_refused(&rt, &file)?, "{at} {value}");
         }
     }
     Ok(())

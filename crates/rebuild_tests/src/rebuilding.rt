@@ -68,7 +68,7 @@ const KEPT: [(&str, &str, &[u8]); 7] = [
 fn canonical_files_are_kept(rt: HostRuntime) -> Result<(), Fail> {
     let mut folder = worked(rt.alloc())?;
     for (line, name, bytes) in KEPT {
-        assert!(rt; ends(rt.alloc(), line, &mut folder, 0, "")?, "{line}");
+        assert!(rt; ends(&rt, line, &mut folder, 0, "")?, "{line}");
         assert!(rt; has(&folder, name, bytes), "{line}");
     }
     assert!(rt; has(&folder, "B", &SMALL));
@@ -77,18 +77,18 @@ fn canonical_files_are_kept(rt: HostRuntime) -> Result<(), Fail> {
 
 /// Whether a canonical file is rebuilt to itself with this identity, also with another one in place, from what was written, and over
 /// itself.
-fn has_id(alloc: Global, file: &[u8], id: &[u8; 20]) -> Result<bool, Fail> {
-    let told = with_id(alloc, file, id)?;
-    let mut folder = SteadyFolder::new(alloc);
+fn has_id(rt: &HostRuntime, file: &[u8], id: &[u8; 20]) -> Result<bool, Fail> {
+    let told = with_id(rt.alloc(), file, id)?;
+    let mut folder = SteadyFolder::new(rt.alloc());
     folder.set("I", file)?;
-    folder.set("J", &with_id(alloc, file, b"another identity....")?)?;
+    folder.set("J", &with_id(rt.alloc(), file, b"another identity....")?)?;
     for (line, name) in [
         ("rebuild I O", "O"),
         ("rebuild J A", "A"),
         ("rebuild O A", "A"),
         ("rebuild I I", "I"),
     ] {
-        if !ends(alloc, line, &mut folder, 0, "")? || !has(&folder, name, &told) {
+        if !ends(rt, line, &mut folder, 0, "")? || !has(&folder, name, &told) {
             return Ok(false);
         }
     }
@@ -98,7 +98,7 @@ fn has_id(alloc: Global, file: &[u8], id: &[u8; 20]) -> Result<bool, Fail> {
 #[test]
 fn an_identity_by_hash(rt: HostRuntime) -> Result<(), Fail> {
     for (file, id) in BY_HASH {
-        assert!(rt; has_id(rt.alloc(), file, id)?, "{id:?}");
+        assert!(rt; has_id(&rt, file, id)?, "{id:?}");
     }
     Ok(())
 }
@@ -106,7 +106,7 @@ fn an_identity_by_hash(rt: HostRuntime) -> Result<(), Fail> {
 #[test]
 fn numbers_are_shortened(rt: HostRuntime) -> Result<(), Fail> {
     let mut folder = worked(rt.alloc())?;
-    assert!(rt; ends(rt.alloc(), "rebuild F O", &mut folder, 0, "")?);
+    assert!(rt; ends(&rt, "rebuild F O", &mut folder, 0, "")?);
     let heap = b"\0\x01a\x02\0\x01\x0b\0\0\0\x04\x0a\x46\x03\0\x01\x02\x01\0\0";
     let file = folder.get("O").unwrap_or(b"");
     assert!(rt; file.len() == 216 && file.ends_with(heap));
@@ -131,7 +131,7 @@ fn a_method_without_points_is_left_out(rt: HostRuntime) -> Result<(), Fail> {
         ("rebuild N O --keep-id", 0, ""),
         ("show O", 0, WITHOUT_POINTS),
     ];
-    assert_eq!(rt; first_other(rt.alloc(), &mut folder, &rows)?, None);
+    assert_eq!(rt; first_other(&rt, &mut folder, &rows)?, None);
     Ok(())
 }
 
@@ -174,12 +174,12 @@ const UNWRITTEN: [(&str, u8, &str); 16] = [
 #[test]
 fn what_is_not_written(rt: HostRuntime) -> Result<(), Fail> {
     let mut folder = worked(rt.alloc())?;
-    assert_eq!(rt; first_other(rt.alloc(), &mut folder, &UNWRITTEN)?, None);
+    assert_eq!(rt; first_other(&rt, &mut folder, &UNWRITTEN)?, None);
     let words = ["rebuild", "B", "", "--keep-id"];
-    assert!(rt; prints(rt.alloc(), &words, &mut folder, 2, "usage\n")?);
+    assert!(rt; prints(&rt, &words, &mut folder, 2, "usage\n")?);
     let zeros = vec![in rt.alloc(); 0u8; 134_217_729]?;
     folder.set("Z", &zeros)?;
-    assert!(rt; ends(rt.alloc(), "rebuild Z O", &mut folder, 7, "too long Z\n")?);
+    assert!(rt; ends(&rt, "rebuild Z O", &mut folder, 7, "too long Z\n")?);
     assert!(rt; folder.get("O").is_none());
     Ok(())
 }
@@ -220,7 +220,7 @@ const PASSED_ON: [(&str, u8, &str); 8] = [
 #[test]
 fn a_kind_that_is_passed_on(rt: HostRuntime) -> Result<(), Fail> {
     let mut folder = worked(rt.alloc())?;
-    assert_eq!(rt; first_other(rt.alloc(), &mut folder, &PASSED_ON)?, None);
+    assert_eq!(rt; first_other(&rt, &mut folder, &PASSED_ON)?, None);
     Ok(())
 }
 
@@ -236,10 +236,7 @@ fn a_read_and_a_write_that_fail(rt: HostRuntime) -> Result<(), Fail> {
         folder.set("B", &SMALL)?;
         folder.fail(call)?;
         let line = "rebuild B O --keep-id";
-        assert!(rt;
-            ends(rt.alloc(), line, &mut folder, status, text)?,
-            "{text}"
-        );
+        assert!(rt; ends(&rt, line, &mut folder, status, text)?, "{text}");
         assert!(rt; folder.get("B") == Some(SMALL.as_slice()), "{text}");
         let left = folder.get("O").unwrap_or(b"");
         assert!(rt; SMALL.starts_with(left), "{text}");

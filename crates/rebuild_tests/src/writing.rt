@@ -24,31 +24,31 @@ fn written(alloc: Global, value: &FileValue, id: IdChoice) -> Result<Bytes, Fail
 }
 
 /// The file of what a file says.
-fn again(alloc: Global, file: &[u8], id: IdChoice) -> Result<Bytes, Fail> {
-    match read(alloc, file) {
-        Ok(value) => written(alloc, &value, id),
+fn again(rt: &HostRuntime, file: &[u8], id: IdChoice) -> Result<Bytes, Fail> {
+    match read(rt, file) {
+        Ok(value) => written(rt.alloc(), &value, id),
         Err(fail) => Err(fail),
     }
 }
 
 /// The file of a sound value with the value's own identity, as O, where the file's value is written as the same file.
-fn kept(alloc: Global, value: &FileValue) -> Result<SteadyFolder, Fail> {
-    let file = written(alloc, value, IdChoice::Keep)?;
-    if again(alloc, file.as_slice(), IdChoice::Keep)?.as_slice() != file.as_slice() {
+fn kept(rt: &HostRuntime, value: &FileValue) -> Result<SteadyFolder, Fail> {
+    let file = written(rt.alloc(), value, IdChoice::Keep)?;
+    if again(rt, file.as_slice(), IdChoice::Keep)?.as_slice() != file.as_slice() {
         return Err(Fail::from("another file"));
     }
-    let mut folder = SteadyFolder::new(alloc);
+    let mut folder = SteadyFolder::new(rt.alloc());
     folder.set("O", file.as_slice())?;
     Ok(folder)
 }
 
 /// The same of a value that was made.
-fn folder_of<E>(alloc: Global, made: Result<FileValue, E>) -> Result<SteadyFolder, Fail>
+fn folder_of<E>(rt: &HostRuntime, made: Result<FileValue, E>) -> Result<SteadyFolder, Fail>
 where
     Fail: From<E>,
 {
     match made {
-        Ok(value) => kept(alloc, &value),
+        Ok(value) => kept(rt, &value),
         Err(error) => Err(Fail::from(error)),
     }
 }
@@ -56,9 +56,9 @@ where
 #[test]
 fn worked_values_are_written(rt: HostRuntime) -> Result<(), Fail> {
     for (file, id) in BY_HASH {
-        let bytes = again(rt.alloc(), file, IdChoice::Keep)?;
+        let bytes = again(&rt, file, IdChoice::Keep)?;
         assert!(rt; bytes.as_slice() == file, "{id:?}");
-        let bytes = again(rt.alloc(), file, IdChoice::Hash)?;
+        let bytes = again(&rt, file, IdChoice::Hash)?;
         let told = with_id(rt.alloc(), file, id)?;
         assert!(rt; bytes.as_slice() == told.as_slice(), "{id:?}");
     }
@@ -86,10 +86,10 @@ fn put_document(
 }
 
 /// The file without rows, and a document whose hash is so many zeros.
-fn with_document(alloc: Global, zeros: usize) -> Result<Bytes, Fail> {
-    match read(alloc, &EMPTY) {
-        Ok(mut value) => match put_document(alloc, zeros, &mut value.documents) {
-            Ok(()) => written(alloc, &value, IdChoice::Keep),
+fn with_document(rt: &HostRuntime, zeros: usize) -> Result<Bytes, Fail> {
+    match read(rt, &EMPTY) {
+        Ok(mut value) => match put_document(rt.alloc(), zeros, &mut value.documents) {
+            Ok(()) => written(rt.alloc(), &value, IdChoice::Keep),
             Err(fail) => Err(fail),
         },
         Err(fail) => Err(fail),
@@ -105,7 +105,7 @@ fn a_heap_becomes_large(rt: HostRuntime) -> Result<(), Fail> {
         (65527, 4, b"\x04\0\x01\0"),
     ];
     for (zeros, large, len) in rows {
-        let file = with_document(rt.alloc(), zeros)?;
+        let file = with_document(&rt, zeros)?;
         assert!(rt; has_at(file.as_slice(), 150, &[large]), "{zeros}");
         assert!(rt; has_at(file.as_slice(), 100, len), "{zeros}");
     }
@@ -113,8 +113,8 @@ fn a_heap_becomes_large(rt: HostRuntime) -> Result<(), Fail> {
 }
 
 /// The file without rows of a module that counts so many fields, and a record on the last of them.
-fn with_record(alloc: Global, fields: u32) -> Result<Bytes, Fail> {
-    match read(alloc, &EMPTY) {
+fn with_record(rt: &HostRuntime, fields: u32) -> Result<Bytes, Fail> {
+    match read(rt, &EMPTY) {
         Ok(mut value) => {
             value.rows[0x04] = fields;
             let parent = Parent {
@@ -124,10 +124,10 @@ fn with_record(alloc: Global, fields: u32) -> Result<Bytes, Fail> {
             let record = CustomValue {
                 parent,
                 kind: SOURCE_LINK,
-                value: CustomBody::Unread(List::new(alloc)),
+                value: CustomBody::Unread(List::new(rt.alloc())),
             };
             match value.customs.push(record) {
-                Ok(()) => written(alloc, &value, IdChoice::Keep),
+                Ok(()) => written(rt.alloc(), &value, IdChoice::Keep),
                 Err(memory) => Err(Fail::from(memory)),
             }
         }
@@ -143,7 +143,7 @@ fn a_parent_becomes_large(rt: HostRuntime) -> Result<(), Fail> {
         (2048, b"\x01\0\x01\0\x01\0\0\0"),
     ];
     for (fields, row) in rows {
-        let file = with_record(rt.alloc(), fields)?;
+        let file = with_record(&rt, fields)?;
         assert!(rt; has_at(file.as_slice(), 176, row), "{fields}");
         assert_eq!(rt; file.len(), 208);
     }
@@ -172,11 +172,8 @@ const OF_THE_PROGRAM: [(&str, u8, &str); 2] = [
 
 #[test]
 fn the_program_answers(rt: HostRuntime) -> Result<(), Fail> {
-    let mut folder = folder_of(rt.alloc(), read(rt.alloc(), &PROGRAM))?;
-    assert_eq!(rt;
-        first_other(rt.alloc(), &mut folder, &OF_THE_PROGRAM)?,
-        None
-    );
+    let mut folder = folder_of(&rt, read(&rt, &PROGRAM))?;
+    assert_eq!(rt; first_other(&rt, &mut folder, &OF_THE_PROGRAM)?, None);
     Ok(())
 }
 
@@ -185,8 +182,8 @@ const OF_EVERY_KIND: [(&str, u8, &str); 2] = [("verify O", 0, "accepted\n"), ("s
 
 #[test]
 fn every_kind_is_read_again(rt: HostRuntime) -> Result<(), Fail> {
-    let mut folder = folder_of(rt.alloc(), with_every_kind(rt.alloc()))?;
-    assert_eq!(rt; first_other(rt.alloc(), &mut folder, &OF_EVERY_KIND)?, None);
+    let mut folder = folder_of(&rt, with_every_kind(rt.alloc()))?;
+    assert_eq!(rt; first_other(&rt, &mut folder, &OF_EVERY_KIND)?, None);
     Ok(())
 }
 
@@ -213,8 +210,8 @@ const OF_THE_SAMPLE: [(&str, u8, &str); 3] = [
 
 #[test]
 fn a_large_sample_answers(rt: HostRuntime) -> Result<(), Fail> {
-    let mut folder = folder_of(rt.alloc(), sample_value(rt.alloc(), 20000))?;
-    assert_eq!(rt; first_other(rt.alloc(), &mut folder, &OF_THE_SAMPLE)?, None);
+    let mut folder = folder_of(&rt, sample_value(rt.alloc(), 20000))?;
+    assert_eq!(rt; first_other(&rt, &mut folder, &OF_THE_SAMPLE)?, None);
     assert!(rt; folder.get("O") == folder.get("A"));
     Ok(())
 }

@@ -8,7 +8,6 @@ use ppdb_values::{
     ImportScopeValue, ImportValue, MethodValue, ScopeValue,
 };
 use sequence_points::Point;
-use std::alloc::Global;
 use std::process::Abort;
 use std::test::Fail;
 use worked_files::{EMPTY, PROGRAM, SMALL};
@@ -87,7 +86,7 @@ fn has_no_parts(rt: &impl Abort, value: &FileValue) {
 
 #[test]
 fn a_file_without_rows_has_no_parts(rt: HostRuntime) -> Result<(), Fail> {
-    match value(rt.alloc(), &EMPTY) {
+    match value(&rt, &EMPTY) {
         Ok(value) => has_no_parts(&rt, &value),
         Err(fail) => return Err(fail),
     }
@@ -124,7 +123,7 @@ fn is_small(rt: &impl Abort, value: &FileValue) {
 
 #[test]
 fn a_small_file_has_its_value(rt: HostRuntime) -> Result<(), Fail> {
-    match value(rt.alloc(), &SMALL) {
+    match value(&rt, &SMALL) {
         Ok(value) => is_small(&rt, &value),
         Err(fail) => return Err(fail),
     }
@@ -133,11 +132,11 @@ fn a_small_file_has_its_value(rt: HostRuntime) -> Result<(), Fail> {
 
 /// Whether the scopes of a file have these starts and ends, and own these variables.
 fn file_owns(
-    alloc: Global,
+    rt: &HostRuntime,
     bytes: &[u8],
     rows: &[(u32, u32, Variables<'_>)],
 ) -> Result<bool, Fail> {
-    match value(alloc, bytes) {
+    match value(rt, bytes) {
         Ok(value) => Ok(own(value.scopes.as_slice(), rows)),
         Err(fail) => Err(fail),
     }
@@ -148,14 +147,14 @@ fn the_last_of_equal_lists_owns_the_variables(rt: HostRuntime) -> Result<(), Fai
     let mut equal = SMALL;
     equal[220] = 1;
     let rows: [(u32, u32, Variables<'_>); 2] = [(0, 9, &[]), (2, 5, &X_AND_Y)];
-    assert!(rt; file_owns(rt.alloc(), &equal, &rows)?);
+    assert!(rt; file_owns(&rt, &equal, &rows)?);
     Ok(())
 }
 
 #[test]
 fn a_scope_between_two_may_own_nothing(rt: HostRuntime) -> Result<(), Fail> {
     let rows: [(u32, u32, Variables<'_>); 3] = [(0, 9, &X), (2, 4, &[]), (5, 8, &Y)];
-    assert!(rt; file_owns(rt.alloc(), &THREE_SCOPES, &rows)?);
+    assert!(rt; file_owns(&rt, &THREE_SCOPES, &rows)?);
     Ok(())
 }
 
@@ -276,7 +275,7 @@ fn is_program(rt: &impl Abort, value: &FileValue) {
 
 #[test]
 fn a_program_has_its_value(rt: HostRuntime) -> Result<(), Fail> {
-    match value(rt.alloc(), &PROGRAM) {
+    match value(&rt, &PROGRAM) {
         Ok(value) => is_program(&rt, &value),
         Err(fail) => return Err(fail),
     }

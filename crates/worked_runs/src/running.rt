@@ -1,7 +1,7 @@
 // Runs of a command over files in memory.
 ghost use Rattle.std.specs.Prelude.{◌≡◌, ◌<◌};
 
-use ppdb_base::{Folder, MemorySink, Sink, SteadyFolder, Steps};
+use ppdb_base::{CounterPermit, Folder, MemorySink, Sink, SteadyFolder, Steps};
 use ppdb_run::{Status, run};
 use std::alloc::{AllocError, Global};
 use std::marker::Brand;
@@ -10,21 +10,21 @@ use std::test::Fail;
 
 /// Runs the command of these words.
 pub fn ran<F: Folder, O: Sink>(
-    alloc: Global,
+    rt: &HostRuntime,
     words: &[&str],
     folder: &mut F,
     out: &mut O,
 ) -> Result<Status, AllocError> {
-    let mut texts = Vec::new(alloc);
+    let mut texts = Vec::new(rt.alloc());
     for &word in words {
-        texts.push(String::from_str(alloc, word)?)?;
+        texts.push(String::from_str(rt.alloc(), word)?)?;
     }
-    Ok(counted::<_, _, Brand, Brand>(alloc, &texts, folder, out, Blank::new(1), Blank::new(1)))
+    Ok(counted::<_, _, Brand, Brand>(rt, &texts, folder, out, Blank::new(1), Blank::new(1)))
 }
 
 /// Runs the command of the words over counters of its own.
 fn counted<F: Folder, O: Sink, K: Ledger, L: Ledger>(
-    alloc: Global,
+    rt: &HostRuntime,
     words: &[String],
     folder: &mut F,
     out: &mut O,
@@ -34,36 +34,36 @@ fn counted<F: Folder, O: Sink, K: Ledger, L: Ledger>(
     requires checks { (checks.name ≡ K.name) × (checks.parts ≡ K.parts) × (0 < K.parts) }
     requires steps { (steps.name ≡ L.name) × (steps.parts ≡ L.parts) × (0 < L.parts) }
 {
-    let mut checks = Steps::<K>::new(checks);
-    let mut steps = Steps::<L>::new(steps);
-    run(alloc, words, folder, out, &mut checks, &mut steps)
+    let mut checks = Steps::<K>::new(CounterPermit::new(rt), checks);
+    let mut steps = Steps::<L>::new(CounterPermit::new(rt), steps);
+    run(rt.alloc(), words, folder, out, &mut checks, &mut steps)
 }
 
 /// Runs the command of these words, and says whether it ended so and printed this.
 pub fn prints<F: Folder>(
-    alloc: Global,
+    rt: &HostRuntime,
     words: &[&str],
     folder: &mut F,
     status: u8,
     text: &str,
 ) -> Result<bool, AllocError> {
-    let mut out = MemorySink::new(alloc);
-    let ended = ran(alloc, words, folder, &mut out)?;
+    let mut out = MemorySink::new(rt.alloc());
+    let ended = ran(rt, words, folder, &mut out)?;
     Ok(ended.number() == status && out.as_slice() == text.as_bytes())
 }
 
 /// Runs the command of these words, which stand apart by spaces, and says whether it ended so and printed this; of what `show`
 /// prints this is the end.
 pub fn ends<F: Folder>(
-    alloc: Global,
+    rt: &HostRuntime,
     line: &str,
     folder: &mut F,
     status: u8,
     text: &str,
 ) -> Result<bool, Fail> {
-    let words: Vec<&str> = line.split_whitespace().collect(alloc)?;
-    let mut out = MemorySink::new(alloc);
-    let ended = ran(alloc, words.as_slice(), folder, &mut out)?;
+    let words: Vec<&str> = line.split_whitespace().collect(rt.alloc())?;
+    let mut out = MemorySink::new(rt.alloc());
+    let ended = ran(rt, words.as_slice(), folder, &mut out)?;
     let put = out.as_slice();
     let whole = put.len() == text.len() || line.starts_with("show");
     Ok(ended.number() == status && whole && put.ends_with(text.as_bytes()))
@@ -71,12 +71,12 @@ pub fn ends<F: Folder>(
 
 /// Runs these commands in turn, and says which one does not end so and print this, by its number.
 pub fn first_other<F: Folder>(
-    alloc: Global,
+    rt: &HostRuntime,
     folder: &mut F,
     rows: &[(&str, u8, &str)],
 ) -> Result<Option<usize>, Fail> {
     for (number, &(line, status, text)) in rows.iter().enumerate() {
-        if !ends(alloc, line, folder, status, text)? {
+        if !ends(rt, line, folder, status, text)? {
             return Ok(Some(number));
         }
     }
@@ -102,24 +102,24 @@ fn put_files(folder: &mut SteadyFolder, files: &[(&str, &[u8])]) -> Result<(), F
 /// Runs the commands of these words in turn over a folder of these files, and says which one does not end so and print this, by its
 /// number.
 pub fn first_other_over(
-    alloc: Global,
+    rt: &HostRuntime,
     files: &[(&str, &[u8])],
     rows: &[(&[&str], u8, &str)],
 ) -> Result<Option<usize>, Fail> {
-    match folder_of(alloc, files) {
-        Ok(mut folder) => Ok(first_other_words(alloc, &mut folder, rows)?),
+    match folder_of(rt.alloc(), files) {
+        Ok(mut folder) => Ok(first_other_words(rt, &mut folder, rows)?),
         Err(fail) => Err(fail),
     }
 }
 
 /// The same over a folder that is there.
 pub fn first_other_words<F: Folder>(
-    alloc: Global,
+    rt: &HostRuntime,
     folder: &mut F,
     rows: &[(&[&str], u8, &str)],
 ) -> Result<Option<usize>, AllocError> {
     for (number, &(words, status, text)) in rows.iter().enumerate() {
-        if !prints(alloc, words, folder, status, text)? {
+        if !prints(rt, words, folder, status, text)? {
             return Ok(Some(number));
         }
     }
@@ -127,17 +127,17 @@ pub fn first_other_words<F: Folder>(
 }
 
 /// Verifies these bytes as the file B, and says whether that printed this and ended as it says.
-pub fn verifies(alloc: Global, bytes: &[u8], text: &str) -> Result<bool, Fail> {
+pub fn verifies(rt: &HostRuntime, bytes: &[u8], text: &str) -> Result<bool, Fail> {
     let status = if text == "accepted\n" { 0 } else { 1 };
     let rows: [(&[&str], u8, &str); 1] = [(&["verify", "B"], status, text)];
-    Ok(first_other_over(alloc, &[("B", bytes)], &rows)?.is_none())
+    Ok(first_other_over(rt, &[("B", bytes)], &rows)?.is_none())
 }
 
 /// Verifies these bytes as the file B, and says whether that ended as accepted or refused, with the line of it.
-pub fn answers(alloc: Global, bytes: &[u8]) -> Result<bool, Fail> {
-    let mut folder = folder_of(alloc, &[("B", bytes)])?;
-    let mut out = MemorySink::new(alloc);
-    let status = ran(alloc, &["verify", "B"], &mut folder, &mut out)?;
+pub fn answers(rt: &HostRuntime, bytes: &[u8]) -> Result<bool, Fail> {
+    let mut folder = folder_of(rt.alloc(), &[("B", bytes)])?;
+    let mut out = MemorySink::new(rt.alloc());
+    let status = ran(rt, &["verify", "B"], &mut folder, &mut out)?;
     let text = out.as_slice();
     Ok(match status {
         Status::Done => text == b"accepted\n".as_slice(),
