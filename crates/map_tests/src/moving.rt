@@ -177,7 +177,7 @@ fn moved_by(
     }
     let limits = PointLimits {
         documents: row.documents.len() as u32,
-        signatures: 0,
+        signatures: u32::MAX,
     };
     if row.column > limits.documents
         || !are_documents(row.documents)
@@ -187,7 +187,6 @@ fn moved_by(
     }
     let mut into = Bytes::new(alloc);
     into.append(b"ab")?;
-    old_size_of(map);
     let answer = moved_points_into(blob, row.column, limits, row.documents, 2, map, &mut into);
     Ok(Some((answer, into)))
 }

@@ -8,10 +8,10 @@ use Rattle.sequence_points.specs.declared.point.Point.{Point}
 use Rattle.sequence_points.specs.declared.point.PointLimits.{PointLimits}
 use Rattle.sequence_points.specs.MovedPoints.{first_offset, moved_points}
 use Rattle.sequence_points.specs.Ranges.{IsOffset, IsDocument}
-use Rattle.sequence_points.specs.Written.{CanBeWritten, IsSpan}
+use Rattle.sequence_points.specs.Written.{AreInRange, CanBeWritten, IsSpan}
 use Rattle.sequence_points.proofs.Follows.{pairs-head, pairs-tail}
 use Rattle.sequence_points.proofs.MovedPoints.{moved-rise}
-use Rattle.sequence_points.proofs.ReadPoints.{read_points}
+use Rattle.sequence_points.proofs.ReadPoints.{points_in_range}
 use Rattle.moved_points.specs.MovedBlob.{in_new_document, moved_in}
 use Rattle.moved_points.specs.Conditions.{ReadsAs, IsWhole, EachPoint, HasImage}
 use Rattle.moved_points.specs.Writing.{CanMove, IsWritable}
@@ -48,16 +48,16 @@ new_document documents row rows first there = All-get_or IsDocument documents (r
 both : (P Q : Point → Type 0) (ps : List Point) → All P ps → All Q ps → All (λ p. P p × Q p) ps
 both P Q ps h k = λ i d less. (h i d less, k i d less)
 
-pub writable : (o : Offsets) → Rise o → (documents : List ℕ) → All IsDocument documents → (signature : ℕ) (points : List Point)
-    → CanBeWritten signature points → All (λ p. p.offset < old_size o) points
+pub writable : (o : Offsets) → Rise o → (documents : List ℕ) → All IsDocument documents → (points : List Point)
+    → AreInRange points → All (λ p. p.offset < old_size o) points
     → All (CanMove o documents) points → IsWritable (moved_in o documents points)
-writable o rise documents rows signature points can below each some = record {
+writable o rise documents rows points read below each some = record {
   some = some;
-  rise = rise_map documents (moved_points o points) (moved-rise o points rise can.rise below);
+  rise = rise_map documents (moved_points o points) (moved-rise o points rise read.rise below);
   offsets = moved_all o documents (CanMove o documents) (λ (p : Point). IsOffset p.offset) (λ p h. image_small o rise p.offset h.image) points each;
   documents = moved_all o documents (CanMove o documents) (λ (p : Point). IsDocument p.document)
       (λ p h. new_document documents p.document rows h.first h.there) points each;
-  spans = moved_all o documents (λ (p : Point). IsSpan p.span) (λ (p : Point). IsSpan p.span) (λ p h. h) points can.spans;
+  spans = moved_all o documents (λ (p : Point). IsSpan p.span) (λ (p : Point). IsSpan p.span) (λ p h. h) points read.spans;
   signature_is = omega arith;
 }
 
@@ -68,17 +68,17 @@ pub record Ready (o : Offsets) (documents : List ℕ) (points : List Point) : Ty
 
 pub ready : (o : Offsets) → Rise o → (column : ℕ) (limits : PointLimits) (blob documents : List ℕ) (points : List Point) → column ≤ limits.documents
     → IsWhole column limits blob
-    → limits.documents < 0x20000000 → limits.signatures < 0x20000000 → length documents ≡ limits.documents → All IsDocument documents
+    → length documents ≡ limits.documents → All IsDocument documents
     → EachPoint (λ p. p.offset < old_size o) column limits blob → EachPoint (λ p. HasImage o p.offset) column limits blob
     → ((signature : ℕ) (others : List Point) → ReadsAs column limits blob signature others → points ≡ others) → Ready o documents points
-ready o rise column limits blob documents points there whole few_documents few_signatures len rows below images same =
+ready o rise column limits blob documents points there whole len rows below images same =
     let at = same whole.0 whole.1 whole.2 in
-    let can = read_points column limits blob whole.0 whole.1 there few_documents few_signatures whole.2 in
+    let read = points_in_range column limits blob whole.0 whole.1 there whole.2 in
     let image = images whole.0 whole.1 whole.2 in
-    let each : All (CanMove o documents) whole.1 = λ i d less. let row = can.2 i d less in record {
+    let each : All (CanMove o documents) whole.1 = λ i d less. let row = read.2 i d less in record {
       image = image i d less;
       first = row.0;
       there = omega (arith, row.1, len);
     } in
     subst (Ready o documents) (sym at)
-    (record { each = each; writable = writable o rise documents rows whole.0 whole.1 can.0 (below whole.0 whole.1 whole.2) each })
+    (record { each = each; writable = writable o rise documents rows whole.1 read.0 (below whole.0 whole.1 whole.2) each })

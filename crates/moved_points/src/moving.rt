@@ -35,7 +35,6 @@ fn moved_point<G: OffsetImage>(point: Point, documents: &[u32], image: &G) -> Po
 /// The next point that stays, at its image and in its new document.
 fn next_moved<G: OffsetImage>(points: &mut Ahead<'_>, documents: &[u32], image: &G) -> Option<Point>
     requires points { All (CanMove (G.offsets image.now) documents.now) points.old }
-    requires size { old_size (G.offsets image.now) ≤ 4294967295 }
     ensures next { moved_in (G.offsets image.now) documents.now points.old ≡ coming result (moved_in (G.offsets image.now) documents.now points.new) }
     ensures points { All (CanMove (G.offsets image.now) documents.now) points.new }
 {
@@ -58,7 +57,6 @@ fn points_into<G: OffsetImage>(
     into: &mut Bytes,
 ) -> Result<bool, PointError>
     requires points { All (CanMove (G.offsets image.now) documents.now) points }
-    requires size { old_size (G.offsets image.now) ≤ 4294967295 }
     requires written { CanBeWritten 0 (first ∷ moved_in (G.offsets image.now) documents.now points) }
     ensures walked { IfOk result (IsWalked in_one (first ∷ moved_in (G.offsets image.now) documents.now points.entry) into.old into.new) }
     ensures step { IfErr result (IsFirstStep (first ∷ moved_in (G.offsets image.now) documents.now points.entry)) }
@@ -109,7 +107,6 @@ fn begin_blob<G: OffsetImage>(
     into: &mut Bytes,
 ) -> Result<Option<u32>, PointError>
     requires points { All (CanMove (G.offsets image.now) documents.now) points }
-    requires size { old_size (G.offsets image.now) ≤ 4294967295 }
     requires written { IsWritable (moved_in (G.offsets image.now) documents.now points) }
     requires signature { signature < 536870912 }
     requires several { in_one ≡ false → common_document (moved_in (G.offsets image.now) documents.now points) ≡ 0 }
@@ -142,7 +139,6 @@ fn blob_into<G: OffsetImage>(
     into: &mut Bytes,
 ) -> Result<Option<u32>, PointError>
     requires points { All (CanMove (G.offsets image.now) documents.now) points }
-    requires size { old_size (G.offsets image.now) ≤ 4294967295 }
     requires written { IsWritable (moved_in (G.offsets image.now) documents.now points) }
     requires signature { signature < 536870912 }
     requires several { in_one ≡ false → common_document (moved_in (G.offsets image.now) documents.now points) ≡ 0 }
@@ -199,12 +195,9 @@ pub fn moved_points_into<G: OffsetImage>(
     requires short { length blob.now < 2 ^ 32 }
     requires column { column ≤ limits.documents }
     requires whole { IsWhole column limits blob.now }
-    requires document_rows { limits.documents < 0x20000000 }
-    requires signature_rows { limits.signatures < 0x20000000 }
     requires documents { length documents.now ≡ limits.documents }
     requires rows { All IsDocument documents.now }
     requires signature { signature < 0x20000000 }
-    requires size { old_size (G.offsets image.now) ≤ 4294967295 }
     requires below { EachPoint (λ p. p.offset < old_size (G.offsets image.now)) column limits blob.now }
     requires images { EachPoint (λ p. HasImage (G.offsets image.now) p.offset) column limits blob.now }
     ensures moved { OnOk result ((old : ℕ) (points : List Point) → ReadsAs column limits blob.now old points

@@ -1,6 +1,6 @@
 // How a map moves the offsets of one method.
-ghost use Rattle.std.specs.Prelude.{◌≡◌, slice_get, option_map};
-ghost use Rattle.ppdb_base.specs.Offsets.{Rise, RiseFrom-prop, stop_runs, every, gone, lined};
+ghost use Rattle.std.specs.Prelude.{◌≡◌, ◌≤◌, slice_get, option_map};
+ghost use Rattle.ppdb_base.specs.Offsets.{Rise, RiseFrom-prop, stop_runs, old_size, every, gone, lined};
 ghost use Rattle.ppdb_maps.specs.Says.{offsets_of, sizes_of, lined_runs, run_numbers};
 
 use crate::runs::{image_in, is_kept_in, next_image_in};
@@ -12,6 +12,7 @@ use ppdb_base::{OffsetImage, Run};
 pub struct MethodMap<'a> {
     says: Says<'a>,
     ghost rises: { Rise (offsets_of says) } by { RiseFrom-prop 0 0 (stop_runs (offsets_of says)) },
+    ghost short: { old_size (offsets_of says) ≤ 4294967295 },
 }
 
 impl OffsetImage for MethodMap<'_> {
@@ -50,6 +51,8 @@ impl OffsetImage for MethodMap<'_> {
     }
 
     ghost rise = { λ m. m.rises };
+
+    ghost size = { λ m. m.short };
 }
 
 impl<'a> MethodMap<'a> {

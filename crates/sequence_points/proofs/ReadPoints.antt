@@ -11,7 +11,7 @@ use Rattle.sequence_points.specs.declared.point.PointLimits.{PointLimits}
 use Rattle.sequence_points.specs.Records.{Entry, Sums, sums, int_of, second_allows, document_record, hidden_point, columns_form, may_stop, sequence_points}
 use Rattle.sequence_points.specs.Ranges.{is_line, is_column}
 use Rattle.sequence_points.specs.Points.{PointsReading}
-use Rattle.sequence_points.specs.Written.{CanBeWritten}
+use Rattle.sequence_points.specs.Written.{AreInRange, CanBeWritten}
 use Rattle.sequence_points.proofs.Offsets.{not_hidden}
 use Rattle.blob_grammar.proofs.ReadRecords.{of_reading}
 use Rattle.sequence_points.proofs.WellRead.{IsThere, Well, well_header, well_document, well_hidden, well_visible, span_read}
@@ -202,11 +202,11 @@ well_read : (limits : PointLimits) (es : List Entry) → WellOrNone limits es �
 well_read limits [] w e = let no : false ≡ true = e in absurd cc
 well_read limits (x ∷ xs) w e = w
 
-pub read_points : (column : ℕ) (limits : PointLimits) (blob : List ℕ) (signature : ℕ) (points : List Point) → column ≤ limits.documents
-    → limits.documents < 0x20000000 → limits.signatures < 0x20000000
-    → PointsReading column limits blob signature points None → CanBeWritten signature points × (signature ≤ limits.signatures)
+-- the points, whatever the limits
+pub points_in_range : (column : ℕ) (limits : PointLimits) (blob : List ℕ) (signature : ℕ) (points : List Point) → column ≤ limits.documents
+    → PointsReading column limits blob signature points None → AreInRange points × (signature ≤ limits.signatures)
     × All (λ p. (1 ≤ p.document) × (p.document ≤ limits.documents)) points
-read_points column limits blob signature points there documents signatures r =
+points_in_range column limits blob signature points there r =
     let g = sequence_points column limits in
     let c = cut g r.reading.fields in
     let h = of_reading g (Holds column limits) (kept column limits there) (tt, tt) blob r.entries None r.reading in
@@ -214,16 +214,24 @@ read_points column limits blob signature points there documents signatures r =
     let w : Well limits r.entries = subst (Well limits) (sym r.reading.made) (well_read limits c.whole h.0 some_point) in
     let some_read : (sums r.entries).has_point ≡ true = ap (λ (es : List Entry). (sums es).has_point) r.reading.made ∙ some_point in
     let small : signature ≤ limits.signatures = w.signature signature r.signature_is in
-    subst (λ (ps : List Point). CanBeWritten signature ps × (signature ≤ limits.signatures) × All (λ p. (1 ≤ p.document) × (p.document ≤ limits.documents)) ps)
-    (sym r.points_are) (
+    subst (λ (ps : List Point). AreInRange ps × (signature ≤ limits.signatures) × All (λ p. (1 ≤ p.document) × (p.document ≤ limits.documents)) ps)
+    (sym r.points_are) (record { some = w.some some_read; rise = w.rise; offsets = w.offsets; spans = w.spans }, small, w.documents)
+
+pub read_points : (column : ℕ) (limits : PointLimits) (blob : List ℕ) (signature : ℕ) (points : List Point) → column ≤ limits.documents
+    → limits.documents < 0x20000000 → limits.signatures < 0x20000000
+    → PointsReading column limits blob signature points None → CanBeWritten signature points × (signature ≤ limits.signatures)
+    × All (λ p. (1 ≤ p.document) × (p.document ≤ limits.documents)) points
+read_points column limits blob signature points there documents signatures r =
+    let read = points_in_range column limits blob signature points there r in
+    let small : signature ≤ limits.signatures = read.1 in (
       record {
-        some = w.some some_read;
-        rise = w.rise;
-        offsets = w.offsets;
-        documents = λ k d within. let there = w.documents k d within in (there.0, omega (arith, there.1));
-        spans = w.spans;
+        some = read.0.some;
+        rise = read.0.rise;
+        offsets = read.0.offsets;
+        documents = λ k d within. let row = read.2 k d within in (row.0, omega (arith, row.1));
+        spans = read.0.spans;
         signature_is = omega arith;
       },
       small,
-      w.documents,
+      read.2,
     )

@@ -24,6 +24,13 @@ IsSpan (Lines start_line start_column end_line end_column) =
     IsLine start_line × IsColumn start_column × IsLine end_line × IsColumn end_column
     × ((start_line < end_line) ⊎ ((start_line ≡ end_line) × (start_column < end_column)))
 
+-- Points of a blob: there is one, their offsets rise, and each number but the document lies in its range.
+pub record AreInRange (points : List Point) : Type 0 where
+  pub some : points ≢ []
+  pub rise : AllPairs (λ p q. p.offset < q.offset) points
+  pub offsets : All (λ p. IsOffset p.offset) points
+  pub spans : All (λ p. IsSpan p.span) points
+
 -- Points that can be written: there is one, their offsets rise, and each number lies in its range.
 pub record CanBeWritten (signature : ℕ) (points : List Point) : Type 0 where
   pub some : points ≢ []

@@ -14,7 +14,7 @@ pub returns-then-kept_between-clause-next : goal.returns-then-kept_between-claus
 returns-then-kept_between-clause-next g c =
     c.points.invariant.same
     ∙ stays (g.G.OffsetImage.offsets c.args.image.now)
-    (g.met.G.OffsetImage.rise c.args.image.now) c.requires.size c.args.documents.now c.points.points c.in-Some.point c.pop.new.self c.in-Some.end
+    (g.met.G.OffsetImage.rise c.args.image.now) (g.met.G.OffsetImage.size c.args.image.now) c.args.documents.now c.points.points c.in-Some.point c.pop.new.self c.in-Some.end
     c.kept_between.result
     c.moved_point.result c.in-Some.ensures.0 c.in-Some.ensures.1 c.kept_between.ensures c.if-kept_between.true c.moved_point.ensures
 
@@ -27,7 +27,7 @@ pub points-preserved : goal.points-preserved
 points-preserved g c = record {
   same = c.points.invariant.same
       ∙ goes (g.G.OffsetImage.offsets c.args.image.now)
-      (g.met.G.OffsetImage.rise c.args.image.now) c.requires.size c.args.documents.now c.points.points c.in-Some.point c.pop.new.self c.in-Some.end
+      (g.met.G.OffsetImage.rise c.args.image.now) (g.met.G.OffsetImage.size c.args.image.now) c.args.documents.now c.points.points c.in-Some.point c.pop.new.self c.in-Some.end
       c.kept_between.result
       c.in-Some.ensures.0 c.in-Some.ensures.1 c.kept_between.ensures c.if-kept_between.false;
   can = All-rest (CanMove
