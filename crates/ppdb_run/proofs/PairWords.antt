@@ -1,12 +1,12 @@
 -- Words that name files and maps, two by two, and options behind them.
 use Rattle.std.proofs.Common.{ℕ, zero, suc, ◌≡◌, ◌≤◌, ◌<◌, ◌+◌, ◌-◌, ◌⊎◌, List, [], ◌∷◌, ◌++◌, length, take, drop, get_or, String, string_bytes, inl}
-use Rattle.std.proofs.Common.{inr, Bool, true, false, refl, sym, ◌∙◌, ap, subst, arith}
+use Rattle.std.proofs.Common.{inr, Bool, true, false, cond, refl, sym, ◌∙◌, ap, subst, arith}
 use Rattle.std.specs.Prelude.{◌&&◌, ◌==◌, IsTrue, OnErr, Result, Ok, Err, codes}
 use Rattle.std.specs.declared.alloc.Global.{Global}
 use Rattle.std.proofs.lemmas.Bool.{eqb-true}
 use Rattle.std.proofs.lemmas.List.{drop-map, drop-drop, length-drop, take_all}
-use Rattle.std.specs.List.{list_all}
-use Rattle.ppdb_run.specs.Task.{NoPair, pairs_of}
+use Rattle.std.specs.List.{list_all, prefix_len}
+use Rattle.ppdb_run.specs.Task.{NoPair, before_options, from_options, pairs_of, words_after_output}
 use Rattle.ppdb_run.specs.Outcome.{file_of}
 use Rattle.ppdb_run.specs.Words.{Options, AreOptions, no_option, keep_id, free, Input, input_words, is_file_word, texts, NoTask, Words, IsMerge, IsRemap}
 use Rattle.ppdb_run.specs.Words.{Id, Verify, Show, Query, Links, Breaks, Ask, Rebuild, Compose, Merge, Sample}
@@ -273,6 +273,38 @@ pub place_next : (words rest : List (String Global)) → length rest ≤ length 
 place_next words rest fits two e =
     let n : length words - length (drop 2 rest) ≡ (length words - length rest) + 2 = omega (arith, length-drop 2 rest) in
     rw n (ap (λ (r : List (String Global)). drop 2 r) e ∙ drop-drop 2 (length words - length rest) words)
+
+-- ---- where the options begin
+
+-- so many words come before the options
+before_count : (front back : List (List ℕ)) (options : Options) → IsTrue (list_all is_file_word front) → AreOptions back options
+    → prefix_len is_file_word (front ++ back) ≡ length front
+before_count [] _ _ files no_option = refl
+before_count [] _ _ files (keep_id h) = refl
+before_count [] _ _ files (free word guid e h) = refl
+before_count (w ∷ front) back options files h =
+    let parts = both (is_file_word w) (list_all is_file_word front) files in
+    let more = before_count front back options parts.1 h in
+    let one_more : 1 + prefix_len is_file_word (front ++ back) ≡ length (w ∷ front) = omega (arith, more) in
+    ap (λ b. cond b (1 + prefix_len is_file_word (front ++ back)) 0) parts.0 ∙ one_more
+
+-- those in front are the words before the options
+pub options_begin : (args : List (List ℕ)) (first : List ℕ) (words front back : List (List ℕ)) (options : Options) → args ≡ first ∷ words → words ≡ front ++ back
+    → IsTrue (list_all is_file_word front) → AreOptions back options
+    → (front ≡ before_options (words_after_output (codes "merge" ∷ args))) × (back ≡ from_options (words_after_output (codes "merge" ∷ args)))
+options_begin args first words front back options is split files h =
+    let cut = taken front back in
+    let count = before_count front back options files h in
+    let after : words_after_output (codes "merge" ∷ args) ≡ front ++ back = ap (λ w. words_after_output (codes "merge" ∷ w)) is ∙ split in (
+      sym (ap before_options after ∙ ap (λ n. take n (front ++ back)) count ∙ cut.0),
+      sym (ap from_options after ∙ ap (λ n. drop n (front ++ back)) count ∙ cut.1),
+    )
+
+pub options_pairs : (args : List (List ℕ)) (first : List ℕ) (rest : List (List ℕ)) (front back given : List (String Global)) (options : Options)
+    → args ≡ first ∷ rest → rest ≡ texts front ++ texts back → IsTrue (list_all is_file_word (texts front)) → AreOptions (texts back) options → given ≡ back
+    → (texts front ≡ before_options (words_after_output (codes "merge" ∷ args))) × (texts given ≡ from_options (words_after_output (codes "merge" ∷ args)))
+options_pairs args first rest front back given options is split files h same =
+    let begin = options_begin args first rest (texts front) (texts back) options is split files h in (begin.0, ap texts same ∙ begin.1)
 
 -- ---- how many inputs words name
 

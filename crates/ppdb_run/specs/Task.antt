@@ -1,6 +1,7 @@
 -- A command as it is asked for.
-use Rattle.std.specs.Prelude.{ℕ, ◌≡◌, ◌&&◌, true, false, List, [], ◌∷◌, ◌++◌, Option, Some, None, codes, if◌then◌else◌}
+use Rattle.std.specs.Prelude.{ℕ, ◌≡◌, ◌&&◌, true, false, List, [], ◌∷◌, ◌++◌, drop, Option, Some, None, codes, if◌then◌else◌}
 use Rattle.std.specs.Fmt.{decimal}
+use Rattle.std.specs.List.{prefix_len, take_while}
 use Rattle.std.specs.Str.{bytes_eq}
 use Rattle.uuid.specs.Text.{parsed}
 use Rattle.uuid.specs.Parts.{swap_fields}
@@ -101,3 +102,21 @@ words_of (commands.Compose first second output) = codes "compose" ∷ first.now 
 words_of (commands.Remap input map_file output options) = codes "remap" ∷ input.now ∷ map_file.now ∷ output.now ∷ texts options.words.now
 words_of (commands.Merge output pairs options) = codes "merge" ∷ output.now ∷ (texts pairs.now ++ texts options.words.now)
 words_of (commands.Sample n) = codes "sample" ∷ decimal n ∷ []
+
+-- the words of merge after OUT
+abbrev pub words_after_output : List (List ℕ) → List (List ℕ)
+words_after_output (name ∷ output ∷ words) = words
+words_after_output words = []
+
+-- the words before the first option, which are all that can name files, and the words from there on
+abbrev pub before_options : List (List ℕ) → List (List ℕ)
+before_options words = take_while is_file_word words
+
+abbrev pub from_options : List (List ℕ) → List (List ℕ)
+from_options words = drop (prefix_len is_file_word words) words
+
+-- the pairs of a merge are exactly the words between OUT and the first option, and the words of its options exactly those from there on
+abbrev pub PairsEndAtOptions : List (List ℕ) → Command → Type 0
+PairsEndAtOptions words (commands.Merge output pairs options) =
+    (texts pairs.now ≡ before_options (words_after_output words)) × (texts options.words.now ≡ from_options (words_after_output words))
+PairsEndAtOptions words command = Unit {0}

@@ -1,7 +1,7 @@
 // The words of the command line.
 ghost use Rattle.std.specs.Prelude.{◌≡◌, ℕ, List, ◌∷◌, codes, IfOk, OnErr};
 ghost use Rattle.ppdb_run.specs.Words.{Words, NoTask, IsFileAlone, is_file_word, is_name_word, texts};
-ghost use Rattle.ppdb_run.specs.Task.{asked_task, task_of, words_of};
+ghost use Rattle.ppdb_run.specs.Task.{PairsEndAtOptions, asked_task, task_of, words_of};
 
 use crate::inputs::{Inputs, Pair};
 use crate::number::number;
@@ -157,6 +157,7 @@ pub struct Usage;
 pub fn read_words(words: &[String]) -> Result<Command<'_>, Usage>
     ensures command { IfOk result (λ command. Words (task_of command) (texts words.now)) }
     ensures spelled { IfOk result (λ command. texts words.now ≡ words_of command) }
+    ensures pairs { IfOk result (PairsEndAtOptions (texts words.now)) }
     ensures usage { OnErr result (NoTask (texts words.now)) }
 {
     let [name, args @ ..] = words else {
@@ -193,6 +194,7 @@ fn one_file(args: &[String]) -> Result<&str, Usage>
 fn show(args: &[String]) -> Result<Command<'_>, Usage>
     ensures command { IfOk result (λ command. Words (task_of command) (codes "show" ∷ texts args.now)) }
     ensures spelled { IfOk result (λ command. codes "show" ∷ texts args.now ≡ words_of command) }
+    ensures pairs { IfOk result (PairsEndAtOptions (codes "show" ∷ texts args.now)) }
     ensures usage { OnErr result (NoTask (codes "show" ∷ texts args.now)) }
 {
     match args {
@@ -212,6 +214,7 @@ fn show(args: &[String]) -> Result<Command<'_>, Usage>
 fn query(args: &[String]) -> Result<Command<'_>, Usage>
     ensures command { IfOk result (λ command. Words (task_of command) (codes "query" ∷ texts args.now)) }
     ensures spelled { IfOk result (λ command. codes "query" ∷ texts args.now ≡ words_of command) }
+    ensures pairs { IfOk result (PairsEndAtOptions (codes "query" ∷ texts args.now)) }
     ensures usage { OnErr result (NoTask (codes "query" ∷ texts args.now)) }
 {
     let [file, method, offset] = args else {
@@ -231,6 +234,7 @@ fn query(args: &[String]) -> Result<Command<'_>, Usage>
 fn breaks(args: &[String]) -> Result<Command<'_>, Usage>
     ensures command { IfOk result (λ command. Words (task_of command) (codes "breaks" ∷ texts args.now)) }
     ensures spelled { IfOk result (λ command. codes "breaks" ∷ texts args.now ≡ words_of command) }
+    ensures pairs { IfOk result (PairsEndAtOptions (codes "breaks" ∷ texts args.now)) }
     ensures usage { OnErr result (NoTask (codes "breaks" ∷ texts args.now)) }
 {
     let [file, document, line] = args else {
@@ -250,6 +254,7 @@ fn breaks(args: &[String]) -> Result<Command<'_>, Usage>
 fn rebuild(args: &[String]) -> Result<Command<'_>, Usage>
     ensures command { IfOk result (λ command. Words (task_of command) (codes "rebuild" ∷ texts args.now)) }
     ensures spelled { IfOk result (λ command. codes "rebuild" ∷ texts args.now ≡ words_of command) }
+    ensures pairs { IfOk result (PairsEndAtOptions (codes "rebuild" ∷ texts args.now)) }
     ensures usage { OnErr result (NoTask (codes "rebuild" ∷ texts args.now)) }
 {
     match args {
@@ -269,6 +274,7 @@ fn rebuild(args: &[String]) -> Result<Command<'_>, Usage>
 fn compose(args: &[String]) -> Result<Command<'_>, Usage>
     ensures command { IfOk result (λ command. Words (task_of command) (codes "compose" ∷ texts args.now)) }
     ensures spelled { IfOk result (λ command. codes "compose" ∷ texts args.now ≡ words_of command) }
+    ensures pairs { IfOk result (PairsEndAtOptions (codes "compose" ∷ texts args.now)) }
     ensures usage { OnErr result (NoTask (codes "compose" ∷ texts args.now)) }
 {
     match args {
@@ -288,6 +294,7 @@ fn compose(args: &[String]) -> Result<Command<'_>, Usage>
 fn remap(args: &[String]) -> Result<Command<'_>, Usage>
     ensures command { IfOk result (λ command. Words (task_of command) (codes "remap" ∷ texts args.now)) }
     ensures spelled { IfOk result (λ command. codes "remap" ∷ texts args.now ≡ words_of command) }
+    ensures pairs { IfOk result (PairsEndAtOptions (codes "remap" ∷ texts args.now)) }
     ensures usage { OnErr result (NoTask (codes "remap" ∷ texts args.now)) }
 {
     match args {
@@ -309,6 +316,7 @@ fn remap(args: &[String]) -> Result<Command<'_>, Usage>
 fn merge(args: &[String]) -> Result<Command<'_>, Usage>
     ensures command { IfOk result (λ command. Words (task_of command) (codes "merge" ∷ texts args.now)) }
     ensures spelled { IfOk result (λ command. codes "merge" ∷ texts args.now ≡ words_of command) }
+    ensures pairs { IfOk result (PairsEndAtOptions (codes "merge" ∷ texts args.now)) }
     ensures usage { OnErr result (NoTask (codes "merge" ∷ texts args.now)) }
 {
     match args {
@@ -332,6 +340,7 @@ fn merge(args: &[String]) -> Result<Command<'_>, Usage>
 fn sample(args: &[String]) -> Result<Command<'_>, Usage>
     ensures command { IfOk result (λ command. Words (task_of command) (codes "sample" ∷ texts args.now)) }
     ensures spelled { IfOk result (λ command. codes "sample" ∷ texts args.now ≡ words_of command) }
+    ensures pairs { IfOk result (PairsEndAtOptions (codes "sample" ∷ texts args.now)) }
     ensures usage { OnErr result (NoTask (codes "sample" ∷ texts args.now)) }
 {
     let [methods] = args else {

@@ -2,7 +2,7 @@ use Rattle.std.proofs.Common.{string_bytes, inl, inr, sym, ◌∙◌, subst, ari
 use Rattle.std.specs.Prelude.{IsTrue}
 use Rattle.std.proofs.lemmas.List.{length-map}
 use Rattle.ppdb_run.specs.Words.{is_file_word}
-use Rattle.ppdb_run.proofs.PairWords.{is_empty, merge_spelled, merge_words, no_merge_count, no_merge_options, not_empty, on_err, one_of}
+use Rattle.ppdb_run.proofs.PairWords.{is_empty, merge_spelled, merge_words, no_merge_count, no_merge_options, not_empty, on_err, one_of, options_pairs}
 use Rattle.ppdb_run.proofs.words.merge.Goals as goal
 use Rattle.ppdb_run.proofs.words.merge.Goals.{then-is_empty-via-then-is_empty, then-is_empty-via-else-is_empty+then-pairs}
 
@@ -39,3 +39,9 @@ pub returns-in_ok-options-in-len1-up-clause-spelled : goal.returns-in_ok-options
 returns-in_ok-options-in-len1-up-clause-spelled c =
     let whole = one_of c.args.args.now c.output-item.result c.in-len1-up.len_at_least c.output-item.is in
     merge_spelled _ _ _ _ _ _ _ whole c.split_pairs.ensures.whole c.as_str.ensures.value c.in_ok-options-in-len1-up.ensures.spelled
+
+pub returns-in_ok-options-in-len1-up-clause-pairs : goal.returns-in_ok-options-in-len1-up-clause-pairs
+returns-in_ok-options-in-len1-up-clause-pairs c =
+    let whole = one_of c.args.args.now c.output-item.result c.in-len1-up.len_at_least c.output-item.is in
+    options_pairs _ _ _ _ _ _ _ whole c.split_pairs.ensures.whole c.split_pairs.ensures.files c.in_ok-options-in-len1-up.ensures.options
+    c.in_ok-options-in-len1-up.ensures.spelled
