@@ -15,11 +15,11 @@ use Rattle.std.specs.List.{AllByRecursion}
 use Rattle.map_compose.specs.Runs.{met, longest}
 use Rattle.map_compose.specs.Composed.{tables, composed_count, count_entry, composed_row, sources, row_entry, row_entries, spoken_of, of_image, drops_one}
 use Rattle.map_compose.specs.Composed.{has_image, second_line, composed_runs, sized, composed_line, has_slot_lines, composed_slot, slot_sources, slot_entry}
-use Rattle.map_compose.specs.Composed.{slot_entries, slotted_methods, composed}
+use Rattle.map_compose.specs.Composed.{slot_entries, slotted_methods, second_offsets, composed}
 use Rattle.ppdb_maps.specs.Readable.{IsReadable, IsCount}
 use Rattle.ppdb_maps.specs.Says.{sizes_of}
 use Rattle.map_compose.specs.Composition.{Follows, ComposedComposes, sizes_then}
-use Rattle.map_compose.specs.Laws.{MovesOn}
+use Rattle.map_compose.specs.Laws.{Apart, MovesOn}
 use Rattle.map_compose.proofs.Found.{either, has, given, made_found, filter_map_map, flat_found, has_append, has_filter, has_ascending, has_key, find_filter}
 use Rattle.map_compose.proofs.Meeting.{runs_compose}
 
@@ -555,6 +555,34 @@ module _ (f s : Map) (m image : ℕ) (follows : Follows f s m image) where
       of false false is also = sym (ap (λ c. option_and_then (slot_image s image) (cond c (slot_line f m old) (Some old))) is
           ∙ ap (λ c. cond c (slot_line s image old) (Some old)) also)
 
+-- ---- lines
+
+-- a method that is not there after both has none
+without_image : (f s : Map) (m : ℕ) → has_image f s m ≡ false → (method_line (composed f s) m ≡ None) × (has_slots (composed f s) m ≡ false)
+without_image f s m away =
+    let none : has_slot_lines f s m ≡ false = ap (λ b. b && (has_slots f m || of_image false (has_slots s) (row_image f 0x06 m))) away in (
+      lines_are f s m ∙ ap (λ b. cond b (sized m (composed_runs f s m) (method_line f m) (second_line f s m)) None) away,
+      has_filter (has_slot_lines f s) m (spoken_of f f.slotted s.slotted)
+          ∙ and_both (has m (spoken_of f f.slotted s.slotted)) (has_slot_lines f s m) (λ some. let e : false ≡ true = sym none ∙ some in absurd (cc)) ∙ none,
+    )
+
+-- the runs of each are the longest
+apart : (f s : Map) (m : ℕ) (line : MethodLine) → method_line (composed f s) m ≡ Some line → Apart line.runs
+apart f s m line is = of (has_image f s m) (sym (lines_are f s m) ∙ is)
+  where
+    runs : Apart (composed_runs f s m)
+    runs = runs_compose.longest_apart (met (kept_runs (offsets_in f m)) (kept_runs (second_offsets f s m)))
+
+    by : (a b : Option MethodLine) → sized m (composed_runs f s m) a b ≡ Some line → Apart line.runs
+    by None None at = absurd (cc)
+    by (Some a) None at = let same : composed_runs f s m ≡ line.runs = cc in subst Apart same runs
+    by None (Some b) at = let same : composed_runs f s m ≡ line.runs = cc in subst Apart same runs
+    by (Some a) (Some b) at = let same : composed_runs f s m ≡ line.runs = cc in subst Apart same runs
+
+    of : (b : Bool) → cond b (sized m (composed_runs f s m) (method_line f m) (second_line f s m)) None ≡ Some line → Apart line.runs
+    of false at = absurd (cc)
+    of true at = by (method_line f m) (second_line f s m) at
+
 pub composed_composes : ComposedComposes
 composed_composes = λ f s f_readable s_readable. record {
   counts = counts_are f s (tables_known f f_readable) (tables_known s s_readable);
@@ -563,4 +591,6 @@ composed_composes = λ f s f_readable s_readable. record {
   slots = λ m image old follows. slots_are f s m image follows old;
   sizes = λ m image follows. sizes_are f s m image follows;
   kept = λ m image x z follows. kept_are f s m image follows x z;
+  without_image = without_image f s;
+  apart = apart f s;
 }

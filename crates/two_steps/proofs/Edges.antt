@@ -68,7 +68,7 @@ module _ (f s : Map) (method image : ℕ) (first : IsReadable f) (second : IsRea
       subst (λ n. Rise (lined b.runs n b.new_size)) (sym middle) (line_rises s image s.methods second.methods b also) in
       let images : (y z : ℕ) → Kept (lined b.runs a.new_size b.new_size) y z → (w : ℕ) × Kept (lined a.runs a.old_size a.new_size) w y =
       subst (λ o. (y z : ℕ) → Kept o y z → (w : ℕ) × Kept (lined a.runs a.old_size a.new_size) w y) joined
-      (subst (λ o. (y z : ℕ) → Kept (offsets_in s image) y z → (w : ℕ) × Kept o w y) from tight) in
+      (subst (λ o. (y z : ℕ) → Kept (offsets_in s image) y z → (w : ℕ) × Kept o w y) from (tight a b is also)) in
       ap (λ o. moved o (moved (offsets_in f method) x)) joined
       ∙ (ap (λ o. moved (lined b.runs a.new_size b.new_size) (moved o x)) from
       ∙ (next_composes.tight a.runs b.runs a.old_size a.new_size b.new_size x (line_rises f method f.methods first.methods a is) rise images

@@ -3,7 +3,7 @@ use Rattle.std.specs.Prelude.{◌≡◌, ℕ, ◌≤◌, Option, Some, None, map
 use Rattle.std.specs.Option.{option_map}
 use Rattle.custom_info.specs.declared.slots.Range.{Range}
 use Rattle.ppdb_base.specs.Offsets.{Kept, moved, old_size}
-use Rattle.ppdb_maps.specs.Map.{Map, offsets_in, slot_image}
+use Rattle.ppdb_maps.specs.Map.{Map, MethodLine, method_line, offsets_in, slot_image}
 use Rattle.ppdb_maps.specs.Readable.{IsReadable}
 use Rattle.map_compose.specs.Composed.{composed}
 use Rattle.map_compose.specs.Composition.{Follows}
@@ -61,9 +61,11 @@ pub record ImagesCompose : Type 0 where
 
 -- ---- where edges compose
 
--- each offset that the second map keeps in the method that a method became is an image that the first gives
+-- where both maps have a line, each offset that the second keeps in the method that a method became is an image that the first gives
 abbrev pub KeepsImages : Map → Map → ℕ → ℕ → Type 0
-KeepsImages f s method image = (y z : ℕ) → Kept (offsets_in s image) y z → (x : ℕ) × Kept (offsets_in f method) x y
+KeepsImages f s method image =
+    (a b : MethodLine) → method_line f method ≡ Some a → method_line s image ≡ Some b
+    → (y z : ℕ) → Kept (offsets_in s image) y z → (x : ℕ) × Kept (offsets_in f method) x y
 
 -- there, where sizes agree and the method is there after both, each offset up to the old size is taken on as the map of both takes it
 abbrev pub EdgesAreComposed : Type 0
