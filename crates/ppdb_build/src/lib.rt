@@ -15,6 +15,7 @@ pub use ppdb_values::{
     ImportScopeValue, ImportValue, MethodValue, ScopeValue, VariableValue,
 };
 pub use rebuilding::rebuild;
+pub use sample_files::sample_value;
 pub use value_check::sound;
 pub use value_reading::value_of;
 pub use write::write_file;

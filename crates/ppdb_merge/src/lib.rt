@@ -14,4 +14,5 @@ mod trace;
 
 pub use laws::worked_merges;
 pub use merger::Merger;
+pub use ppdb_base::MergeError;
 pub use trace::Trace;

@@ -15,3 +15,4 @@ pub use find::find_link;
 pub use laws::{choice_is_best, order_is_free};
 pub use links::{Links, read_links};
 pub use pair::Pair;
+pub use ppdb_base::LinkError;
