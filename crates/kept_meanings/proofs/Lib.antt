@@ -6,3 +6,6 @@ pub mod LastPoints
 pub mod MoreRows
 pub mod Only
 pub mod Origins
+pub mod MovedRows
+pub mod Counts
+pub mod Alone

@@ -1,8 +1,10 @@
 // What joined files say of a method, and where what they say comes from.
+ghost use Rattle.kept_meanings.specs.Alone.{MovedAloneIsSound};
 ghost use Rattle.kept_meanings.specs.Kept.{InputsKeepMeaning};
 ghost use Rattle.kept_meanings.specs.Laws.{JoinedMeans};
 ghost use Rattle.kept_meanings.specs.Origins.{InputsKeepOrigins};
 
+use ppdb_joined::joined_is_sound;
 use ppdb_noted::soundness_is_noted;
 
 /// What joined files say of a method of which one file alone says something is what that file says, but for the entry mark.
@@ -23,4 +25,12 @@ pub fn inputs_keep_origins()
     ensures { InputsKeepOrigins }
 {
     soundness_is_noted();
+}
+
+/// A file that a map fits is sound after it was moved and joined alone, where no image of a row that it names is above its count.
+pub fn moved_alone_is_sound()
+    ensures { MovedAloneIsSound }
+{
+    soundness_is_noted();
+    joined_is_sound();
 }

@@ -4,4 +4,4 @@
 
 mod laws;
 
-pub use laws::{inputs_keep_meaning, inputs_keep_origins, joined_means};
+pub use laws::{inputs_keep_meaning, inputs_keep_origins, joined_means, moved_alone_is_sound};

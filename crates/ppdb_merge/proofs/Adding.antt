@@ -49,7 +49,8 @@ use Rattle.ppdb_merge.proofs.Counted.{can_be_joined, counts_rows}
 use Rattle.ppdb_merge.proofs.Few.{few_rows}
 use Rattle.ppdb_merge.proofs.Indexing.{documents_more}
 use Rattle.ppdb_merge.proofs.Told.{empty_of, empty_both}
-use Rattle.ppdb_merge.proofs.Traced.{file_sound, moved_images, moved_counts_sound, moved_entry}
+use Rattle.kept_meanings.proofs.Counts.{moved_counts_sound}
+use Rattle.ppdb_merge.proofs.Traced.{file_sound, moved_images, moved_entry}
 
 -- the documents of a file, with their records, are its documents
 items_are : (value : FileValue) (n : ℕ) (ds : List DocumentValue)

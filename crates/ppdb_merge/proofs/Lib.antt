@@ -5,7 +5,6 @@ pub mod Few
 pub mod Imaged
 pub mod Indexing
 pub mod Looking
-pub mod MovedRows
 pub mod Names
 pub mod Taken
 pub mod Told
