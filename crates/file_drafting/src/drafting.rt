@@ -2,7 +2,7 @@
 use crate::notes::{fill_rows, next_row, note_guid, put_row};
 use custom_info::Range;
 use file_layout::Rows;
-use heap_items::GuidHeap;
+use heap_items::{GuidHeap, ItemStore};
 use noted_items::{BlobHeap, TextHeap};
 use ppdb_base::{List, Memory};
 use ppdb_tables::{
@@ -17,17 +17,17 @@ use type_blobs::{Constant, Modifier};
 
 /// The heaps and the rows of a file, to which its parts are added table by table. After an error a draft is of no use.
 #[derive(Drop)]
-pub struct Drafting {
+pub struct Drafting<'a> {
     alloc: Global,
-    pub(crate) texts: TextHeap,
+    pub(crate) texts: TextHeap<'a>,
     pub(crate) guids: GuidHeap,
-    pub(crate) blobs: BlobHeap,
+    pub(crate) blobs: BlobHeap<'a>,
     rows: Rows,
     /// How many constants the scopes own that have their rows.
     owned: u64,
 }
 
-impl Model for Drafting {
+impl<'a> Model for Drafting<'a> {
     ghost use Rattle.noted_items.specs.Making.{noted_of};
     ghost use Rattle.file_drafting.specs.Draft.{Draft};
 
@@ -36,7 +36,7 @@ impl Model for Drafting {
     ghost view = { λ d. record { texts = d.texts; guids = d.guids; blobs = noted_of d.blobs; rows = d.rows; owned = d.owned } };
 }
 
-impl Drafting {
+impl<'a> Drafting<'a> {
     ghost use Rattle.std.specs.Prelude.{◌≡◌, ◌≤◌, [], All, OnOk, IfOk, IfErr};
     ghost use Rattle.type_blobs.specs.Types.{IsToken};
     ghost use Rattle.type_blobs.specs.ConstantReading.{shown};
@@ -46,15 +46,15 @@ impl Drafting {
     ghost use Rattle.file_drafting.specs.Draft.{empty_draft, with_document, with_method, with_all_methods, with_variable, with_scope_row};
     ghost use Rattle.file_drafting.specs.Draft.{with_signature, with_import, with_machine, with_custom};
 
-    /// A draft without parts.
-    pub fn new(alloc: Global) -> Result<Drafting, Memory>
+    /// A draft without parts, whose items the store keeps.
+    pub fn new(alloc: Global, store: &'a ItemStore) -> Result<Drafting<'a>, Memory>
         ensures { IfOk result (λ draft. draft ≡ empty_draft) }
     {
         Ok(Drafting {
             alloc,
-            texts: TextHeap::new(alloc)?,
-            guids: GuidHeap::new(alloc),
-            blobs: BlobHeap::new(alloc)?,
+            texts: TextHeap::new(alloc, store)?,
+            guids: GuidHeap::new(alloc, store),
+            blobs: BlobHeap::new(alloc, store)?,
             rows: Rows {
                 documents: List::new(alloc),
                 methods: List::new(alloc),

@@ -1,4 +1,6 @@
 // The GUIDs of a heap, each of which is kept once.
+use crate::keys::ItemKey;
+use crate::store::ItemStore;
 use indexmap::IndexSet;
 use ppdb_base::{Bytes, Memory};
 use std::alloc::{AllocError, AllocFailed, Global};
@@ -7,7 +9,7 @@ use std::marker::Model;
 /// The GUIDs of a heap, each of which is kept once. Contracts see it as the list of its GUIDs.
 #[derive(Drop)]
 pub struct GuidHeap {
-    guids: IndexSet<[u8; 16]>,
+    guids: IndexSet<[u8; 16], ItemKey>,
 }
 
 impl Model for GuidHeap {
@@ -24,12 +26,12 @@ impl GuidHeap {
     ghost use Rattle.ppdb_base.specs.Told.{told};
     ghost use Rattle.heap_items.specs.Items.{with_use};
 
-    /// A heap without GUIDs.
-    pub fn new(alloc: Global) -> GuidHeap
+    /// A heap without GUIDs, which are hashed under the key of the store.
+    pub fn new(alloc: Global, store: &ItemStore) -> GuidHeap
         ensures { result ≡ [] }
     {
         GuidHeap {
-            guids: IndexSet::new(alloc),
+            guids: IndexSet::with_hasher(alloc, store.key()),
         }
     }
 

@@ -1,20 +1,20 @@
 // The blobs of a file, and the one that is being made.
 use crate::cells::cell_of;
 use cli_ints::spell_unsigned;
-use heap_items::{Heap, HeapKind, put_shortest};
+use heap_items::{Heap, HeapKind, ItemStore, put_shortest};
 use ppdb_base::{Bytes, Memory};
 use std::alloc::Global;
 use std::marker::Model;
 
 /// The blobs that were noted, each kept once, the length of all uses, and a buffer in which the next blob is made.
 #[derive(Drop)]
-pub struct BlobHeap {
-    heap: Heap,
+pub struct BlobHeap<'a> {
+    heap: Heap<'a>,
     total: u64,
     pub(crate) blob: Bytes,
 }
 
-impl Model for BlobHeap {
+impl<'a> Model for BlobHeap<'a> {
     ghost use Rattle.std.specs.Prelude.{◌≡◌};
     ghost use Rattle.heap_items.specs.declared.heap.HeapKind.TheVariants.{Blobs};
     ghost use Rattle.noted_items.specs.Making.{Making};
@@ -26,7 +26,7 @@ impl Model for BlobHeap {
     ghost invariant = { λ b. b.heap.kind ≡ Blobs };
 }
 
-impl BlobHeap {
+impl<'a> BlobHeap<'a> {
     ghost use Rattle.std.specs.Prelude.{◌≡◌, ◌<◌, ◌^◌, [], ◌++◌, flat_map, OnOk, IfOk};
     ghost use Rattle.cli_ints.specs.Shortest.{short_unsigned};
     ghost use Rattle.heap_items.specs.declared.heap.HeapKind.TheVariants.{Blobs};
@@ -38,10 +38,10 @@ impl BlobHeap {
     ghost use Rattle.noted_items.specs.Making.{noted_of, begun, with_piece, made};
 
     /// The empty blob alone, which no use has counted.
-    pub fn new(alloc: Global) -> Result<BlobHeap, Memory>
+    pub fn new(alloc: Global, store: &'a ItemStore) -> Result<BlobHeap<'a>, Memory>
         ensures { IfOk result (λ blobs. noted_of blobs ≡ none_noted) }
     {
-        let mut heap = Heap::new(alloc, HeapKind::Blobs);
+        let mut heap = Heap::new(alloc, store, HeapKind::Blobs);
         heap.use_item(&[])?;
         Ok(BlobHeap {
             heap,

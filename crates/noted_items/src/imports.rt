@@ -24,7 +24,7 @@ fn tag_of(table: u8) -> u32
 }
 
 /// Puts the number of a type behind the blob that is being made.
-fn put_type(blobs: &mut BlobHeap, target: &TypeToken) -> Result<(), Memory>
+fn put_type(blobs: &mut BlobHeap<'_>, target: &TypeToken) -> Result<(), Memory>
     requires { types.IsToken target.now }
     ensures { OnOk result (blobs.new ≡ with_piece blobs.old (type target.now)) }
 {
@@ -32,7 +32,7 @@ fn put_type(blobs: &mut BlobHeap, target: &TypeToken) -> Result<(), Memory>
 }
 
 /// Puts the kind of an import behind it, and a text, which is noted as a blob of its own.
-fn put_named(blobs: &mut BlobHeap, kind: u32, name: &[u8]) -> Result<(), Memory>
+fn put_named(blobs: &mut BlobHeap<'_>, kind: u32, name: &[u8]) -> Result<(), Memory>
     requires { kind < 2 ^ 29 }
     ensures { OnOk result (blobs.new ≡ fold with_piece blobs.old (number kind ∷ index name.now ∷ [])) }
 {
@@ -41,7 +41,7 @@ fn put_named(blobs: &mut BlobHeap, kind: u32, name: &[u8]) -> Result<(), Memory>
 }
 
 /// Puts an assembly and a text behind it.
-fn put_assembly(blobs: &mut BlobHeap, assembly: u32, name: &[u8]) -> Result<(), Memory>
+fn put_assembly(blobs: &mut BlobHeap<'_>, assembly: u32, name: &[u8]) -> Result<(), Memory>
     requires { assembly < 2 ^ 29 }
     ensures { OnOk result (blobs.new ≡ fold with_piece blobs.old (number assembly ∷ index name.now ∷ [])) }
 {
@@ -50,7 +50,7 @@ fn put_assembly(blobs: &mut BlobHeap, assembly: u32, name: &[u8]) -> Result<(), 
 }
 
 /// Puts an import behind it; the texts are noted as blobs of their own.
-fn put_import(blobs: &mut BlobHeap, import: &ImportValue) -> Result<(), Memory>
+fn put_import(blobs: &mut BlobHeap<'_>, import: &ImportValue) -> Result<(), Memory>
     requires { HasSpelling import.now }
     ensures { OnOk result (blobs.new ≡ fold with_piece blobs.old (import_pieces import.now)) }
 {
@@ -96,7 +96,7 @@ fn put_import(blobs: &mut BlobHeap, import: &ImportValue) -> Result<(), Memory>
 }
 
 /// Puts all imports behind it, in order.
-fn put_imports(blobs: &mut BlobHeap, imports: &[ImportValue]) -> Result<(), Memory>
+fn put_imports(blobs: &mut BlobHeap<'_>, imports: &[ImportValue]) -> Result<(), Memory>
     requires { All HasSpelling imports.now }
     ensures { OnOk result (blobs.new ≡ fold with_piece blobs.old (imports_pieces imports.now)) }
 {
@@ -106,7 +106,7 @@ fn put_imports(blobs: &mut BlobHeap, imports: &[ImportValue]) -> Result<(), Memo
     Ok(())
 }
 
-impl BlobHeap {
+impl BlobHeap<'_> {
     ghost use Rattle.std.specs.Prelude.{◌≡◌, All, OnOk, IfOk};
     ghost use Rattle.ppdb_canon.specs.Uses.{imports_pieces};
     ghost use Rattle.sound_values.specs.Writing.{HasSpelling};

@@ -1,18 +1,18 @@
 // The texts of a file.
 use crate::cells::cell_of;
-use heap_items::{Heap, HeapKind};
+use heap_items::{Heap, HeapKind, ItemStore};
 use ppdb_base::{Bytes, Memory};
 use std::alloc::Global;
 use std::marker::Model;
 
 /// The texts that were noted, each kept once, and the length of all uses.
 #[derive(Drop)]
-pub struct TextHeap {
-    heap: Heap,
+pub struct TextHeap<'a> {
+    heap: Heap<'a>,
     total: u64,
 }
 
-impl Model for TextHeap {
+impl<'a> Model for TextHeap<'a> {
     ghost use Rattle.std.specs.Prelude.{◌≡◌};
     ghost use Rattle.heap_items.specs.declared.heap.HeapKind.TheVariants.{Texts};
     ghost use Rattle.noted_items.specs.Noted.{Noted};
@@ -24,7 +24,7 @@ impl Model for TextHeap {
     ghost invariant = { λ t. t.heap.kind ≡ Texts };
 }
 
-impl TextHeap {
+impl<'a> TextHeap<'a> {
     ghost use Rattle.std.specs.Prelude.{◌≡◌, [], ◌++◌, flat_map, OnOk, IfOk};
     ghost use Rattle.heap_items.specs.declared.heap.HeapKind.TheVariants.{Texts};
     ghost use Rattle.ppdb_base.specs.Told.{told};
@@ -33,10 +33,10 @@ impl TextHeap {
     ghost use Rattle.noted_items.specs.Noted.{none_noted, with_text, text_place, cell};
 
     /// The empty text alone, which no use has counted.
-    pub fn new(alloc: Global) -> Result<TextHeap, Memory>
+    pub fn new(alloc: Global, store: &'a ItemStore) -> Result<TextHeap<'a>, Memory>
         ensures { IfOk result (λ texts. texts ≡ none_noted) }
     {
-        let mut heap = Heap::new(alloc, HeapKind::Texts);
+        let mut heap = Heap::new(alloc, store, HeapKind::Texts);
         heap.use_item(&[])?;
         Ok(TextHeap { heap, total: 0 })
     }
