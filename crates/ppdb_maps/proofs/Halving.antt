@@ -68,6 +68,25 @@ module _ {A : Type 0} (before at : A → Bool) where
       step true is here rest = absurd (false≢true (sym (parted.0 is) ∙ here))
       step false is here rest = rw is rest
 
+  -- an item at the key is the one that is found
+  pub at_there : (xs : List A) (i : ℕ) (x : A) → Parted before at xs → slice_get xs i ≡ Some x → at x ≡ true → find at xs ≡ Some x
+  at_there [] i x parted is here = absurd (cc)
+  at_there (y ∷ ys) zero x parted is here = let e : y ≡ x = some_same y x is in rw (e, here) refl
+    where
+      some_same : (y x : A) → Some y ≡ Some x → y ≡ x
+      some_same y x e = ap (λ o. elim o [ None ↦ y | Some z ↦ z ]) e
+  at_there (y ∷ ys) (suc i) x parted is here = of (at y) refl (at_there ys i x parted.2 is here)
+    where
+      before_y : (zs : List A) (k : ℕ) → AllByRecursion (λ z. (at z ≡ true → before y ≡ true) × (before z ≡ true → before y ≡ true)) zs
+          → slice_get zs k ≡ Some x → before y ≡ true
+      before_y [] k all at_k = absurd (cc)
+      before_y (z ∷ zs) zero all at_k = all.0.0 (ap (λ o. elim o [ None ↦ true | Some w ↦ at w ]) at_k ∙ here)
+      before_y (z ∷ zs) (suc k) all at_k = before_y zs k all.1 at_k
+
+      of : (b : Bool) → at y ≡ b → find at ys ≡ Some x → find at (y ∷ ys) ≡ Some x
+      of true is_y rest = absurd (false≢true (sym (parted.0 is_y) ∙ before_y ys i parted.1 is))
+      of false is_y rest = rw is_y rest
+
 -- a list that strictly ascends by its keys is parted
 module _ {A K : Type 0} {R : K → K → Ordering} (o : IsTotalOrder R) (key : A → K) (k : K) (before at : A → Bool)
     (is_before : (x : A) → before x ≡ is_lt (R (key x) k)) (is_at : (x : A) → at x ≡ true → key x ≡ k) where

@@ -19,6 +19,7 @@ mod runs;
 mod sample;
 mod says;
 mod search;
+mod starts;
 mod words;
 
 pub use laws::{

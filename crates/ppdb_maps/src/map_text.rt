@@ -10,7 +10,8 @@ ghost use Rattle.ppdb_maps.specs.Says.{offsets_of};
 use crate::entries::{Count, RowImage, SlotImage};
 use crate::method::Method;
 use crate::method_map::MethodMap;
-use crate::search::{count_at, has_number, method_at, nth_row, nth_slot, row_at, slot_at};
+use crate::search::{count_at, has_number, method_at, nth_row, nth_slot, row_near, slot_at};
+use crate::starts::Starts;
 use std::alloc::Global;
 use std::marker::Model;
 
@@ -19,6 +20,8 @@ use std::marker::Model;
 pub struct MapText {
     counts: Vec<Count>,
     rows: Vec<RowImage>,
+    /// Where the rows of each table begin among them.
+    starts: Starts,
     methods: Vec<Method>,
     drops: Vec<u32>,
     slotted: Vec<u32>,
@@ -45,6 +48,7 @@ impl MapText {
         MapText {
             counts: Vec::new(alloc),
             rows: Vec::new(alloc),
+            starts: Starts::none(),
             methods: Vec::new(alloc),
             drops: Vec::new(alloc),
             slotted: Vec::new(alloc),
@@ -64,9 +68,11 @@ impl MapText {
         requires { IsReadable (map_of counts.items rows.items methods.items drops.items slotted.items slots.items) }
         ensures { result ≡ map_of counts.items rows.items methods.items drops.items slotted.items slots.items }
     {
+        let starts = Starts::of(rows.as_slice());
         MapText {
             counts,
             rows,
+            starts,
             methods,
             drops,
             slotted,
@@ -101,7 +107,8 @@ impl MapText {
     fn new_row(&self, table: u8, old: u32) -> Option<u32>
         ensures { result ≡ row_line self.now table old }
     {
-        row_at(self.rows.as_slice(), table, old).map(|row| row.new)
+        let index = self.starts.near(table, old);
+        row_near(self.rows.as_slice(), table, old, index).map(|row| row.new)
     }
 
     /// The image of a row: none for a dropped method; the row itself where its table has no `rows`

@@ -73,6 +73,17 @@ pub fn row_at(rows: &[RowImage], table: u8, old: u32) -> Option<&RowImage>
     )
 }
 
+/// The image of a row, which often has this index.
+pub fn row_near(rows: &[RowImage], table: u8, old: u32, index: usize) -> Option<&RowImage>
+    requires { IsStrictlySortedBy pair_cmp (map (λ (r : RowImage). (r.table, r.old)) rows.now) }
+    ensures { option_copied result ≡ find (λ r. nat_eq r.table table && nat_eq r.old old) rows.now }
+{
+    match rows.get(index) {
+        Some(row) if row.table == table && row.old == old => Some(row),
+        _ => row_at(rows, table, old),
+    }
+}
+
 /// The image of a slot.
 pub fn slot_at(slots: &[SlotImage], method: u32, old: u16) -> Option<&SlotImage>
     requires { IsStrictlySortedBy pair_cmp (map (λ (s : SlotImage). (s.method, s.old)) slots.now) }
