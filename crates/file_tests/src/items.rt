@@ -1,11 +1,12 @@
 // Heaps that are written.
-use heap_items::{BlobPiece, GuidHeap, Heap, HeapKind, use_pieces};
+use heap_items::{BlobPiece, GuidHeap, Heap, HeapKind, ItemKey, ItemStore, use_pieces};
 use ppdb_base::{Bytes, Memory};
 use std::alloc::Global;
 
 /// The heap of a document's name, which is split at this separator, with a hash behind it, as bytes.
 fn heap_of_name(alloc: Global, separator: u8, name: &[u8], hash: &[u8]) -> Result<Bytes, Memory> {
-    let mut heap = Heap::new(alloc, HeapKind::Blobs);
+    let store = ItemStore::new(alloc, ItemKey::of(&[]));
+    let mut heap = Heap::new(alloc, &store, HeapKind::Blobs);
     heap.use_item(&[])?;
     let separators = [separator];
     let mut pieces = Vec::new(alloc);
@@ -63,7 +64,8 @@ fn use_zeros(heap: &mut Heap) -> Result<[u64; 5], Memory> {
 
 /// The same in a heap of its own, and how long that is.
 fn indexes(alloc: Global) -> Result<([u64; 5], u64), Memory> {
-    let mut heap = Heap::new(alloc, HeapKind::Blobs);
+    let store = ItemStore::new(alloc, ItemKey::of(&[]));
+    let mut heap = Heap::new(alloc, &store, HeapKind::Blobs);
     match use_zeros(&mut heap) {
         Ok(indexes) => Ok((indexes, heap.len())),
         Err(error) => Err(error),
@@ -89,7 +91,8 @@ fn use_guids(heap: &mut GuidHeap, bytes: &mut Bytes) -> Result<[u32; 3], Memory>
 fn guids_are_numbered_from_one(rt: HostRuntime) {
     let mut expected = [1; 32];
     expected[16..].fill(2);
-    let mut heap = GuidHeap::new(rt.alloc());
+    let store = ItemStore::new(rt.alloc(), ItemKey::of(&[]));
+    let mut heap = GuidHeap::new(rt.alloc(), &store);
     let mut bytes = Bytes::new(rt.alloc());
     assert!(rt; use_guids(&mut heap, &mut bytes) == Ok([1, 2, 1]));
     assert!(rt; bytes.as_slice() == expected.as_slice());
@@ -107,7 +110,8 @@ fn use_texts(heap: &mut Heap, bytes: &mut Bytes) -> Result<[u64; 3], Memory> {
 
 #[test]
 fn texts_end_with_a_zero(rt: HostRuntime) {
-    let mut heap = Heap::new(rt.alloc(), HeapKind::Texts);
+    let store = ItemStore::new(rt.alloc(), ItemKey::of(&[]));
+    let mut heap = Heap::new(rt.alloc(), &store, HeapKind::Texts);
     let mut bytes = Bytes::new(rt.alloc());
     assert!(rt; use_texts(&mut heap, &mut bytes) == Ok([0, 1, 4]));
     assert!(rt; bytes.as_slice() == b"\x00xy\x00y\x00".as_slice());

@@ -5,9 +5,11 @@ mod error;
 mod finish;
 mod parts;
 mod rebuilding;
+mod value_key;
 mod write;
 
 pub use error::BuildError;
+pub use heap_items::{ItemKey, KeyMaker};
 pub use ppdb_base::Limit;
 pub use ppdb_canon::IdChoice;
 pub use ppdb_values::{
@@ -18,4 +20,4 @@ pub use rebuilding::rebuild;
 pub use sample_files::sample_value;
 pub use value_check::sound;
 pub use value_reading::value_of;
-pub use write::write_file;
+pub use write::{write_file, write_file_under};

@@ -11,6 +11,7 @@ ghost use Rattle.ppdb_build.specs.Building.{ArePartsWritable, IsLimit, after_met
 
 use crate::error::BuildError;
 use file_drafting::{Drafting, lent_body};
+use heap_items::ItemStore;
 use ppdb_base::{Limit, Memory};
 use ppdb_tables::MachineRow;
 use ppdb_values::{
@@ -193,14 +194,18 @@ fn add_parts(draft: &mut Drafting, value: &FileValue) -> Result<(), BuildError>
     Ok(())
 }
 
-/// Drafts the file of a value, or answers the first step from line to line that has no form, L4.
-pub(crate) fn draft_of(alloc: Global, value: &FileValue) -> Result<Drafting, BuildError>
+/// Drafts the file of a value, or answers the first step from line to line that has no form, L4. The store keeps its items.
+pub(crate) fn draft_of<'a>(
+    alloc: Global,
+    store: &'a ItemStore,
+    value: &FileValue,
+) -> Result<Drafting<'a>, BuildError>
     requires { ArePartsWritable value.now }
     ensures draft { IfOk result (λ draft. draft ≡ drafted value.now) }
     ensures none { OnOk result (first_of (filter_map large_step_of value.now.methods) ≡ None) }
     ensures limit { IfErr result (IsLimit (first_of (filter_map large_step_of value.now.methods))) }
 {
-    let mut draft = match Drafting::new(alloc) {
+    let mut draft = match Drafting::new(alloc, store) {
         Ok(draft) => draft,
         Err(Memory) => return Err(BuildError::Memory),
     };

@@ -16,6 +16,7 @@ ghost use Rattle.ppdb_build.specs.Building.{IsLimitOf, IsDraftedFrom, early_limi
 use crate::error::BuildError;
 use crate::finish::file_of_draft;
 use file_drafting::Drafting;
+use heap_items::{ItemKey, ItemStore};
 use ppdb_base::{Bytes, Limit, Memory, Steps};
 use ppdb_canon::IdChoice;
 use ppdb_tables::PdbHead;
@@ -84,7 +85,7 @@ fn bytes_of(
 }
 
 /// The one file that says what a verified file says, with the identity that is chosen. As many rows are read as its tables have, and no
-/// value of it is made.
+/// value of it is made. Its items are hashed under the key, which should be that of the bytes of the file.
 ///
 /// # Errors
 ///
@@ -93,6 +94,7 @@ pub fn rebuild<L: Ledger>(
     alloc: Global,
     file: &Verified<'_>,
     id: IdChoice,
+    key: ItemKey,
     steps: &mut Steps<L>,
 ) -> Result<Bytes, BuildError>
     ensures written { IfOk result (λ bytes. bytes ≡ canon (value_in (raw_file file.now)) id) }
@@ -103,7 +105,8 @@ pub fn rebuild<L: Ledger>(
     ensures reread { IfOk result (λ bytes. Says bytes (with_id (value_in (raw_file file.now)) (chosen_id (value_in (raw_file file.now)) id))) }
     ensures again { IfOk result (λ bytes. (again : RawFile) → IsRawOf bytes again → IsSameAgain (value_in (raw_file file.now)) id again) }
 {
-    let draft = match draft_of_file(alloc, file, steps) {
+    let store = ItemStore::new(alloc, key);
+    let draft = match draft_of_file(alloc, &store, file, steps) {
         Ok(draft) => draft,
         Err(Memory) => return Err(BuildError::Memory),
     };

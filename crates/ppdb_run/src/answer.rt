@@ -53,7 +53,7 @@ pub fn answer<'a, F: Folder, O: Sink, K: Ledger, L: Ledger>(
     ensures later { O.faults out.old ≤ O.faults out.new }
 {
     let mut bytes = List::new(alloc);
-    let verified = match read_verified(alloc, file, folder, &mut bytes, checks) {
+    let verified = match read_verified(alloc, file, folder, &mut bytes, None, checks) {
         Ok(verified) => verified,
         Err(stop) => return Err(stop),
     };

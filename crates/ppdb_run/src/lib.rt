@@ -7,6 +7,7 @@ mod compose;
 mod fault;
 mod input;
 mod inputs;
+mod keys;
 pub mod laws;
 mod limit;
 mod map;

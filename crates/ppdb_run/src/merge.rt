@@ -19,8 +19,9 @@ use crate::options::Options;
 use crate::output::write_output;
 use crate::rebuild::choice;
 use crate::stop::Stop;
+use heap_items::{ItemKey, KeyMaker};
 use ppdb_base::{Bytes, Folder, MergeError, Steps};
-use ppdb_build::{BuildError, FileValue, write_file};
+use ppdb_build::{BuildError, FileValue, write_file_under};
 use ppdb_merge::Merger;
 use std::alloc::Global;
 use std::sync::ledger::Ledger;
@@ -103,7 +104,8 @@ fn merged_bytes<'a, F: Folder, K: Ledger, L: Ledger>(
     joined_kinds_are_known();
     joined_files_keep_inputs();
     let marks = options.marks(alloc)?;
-    let merger = match merged(alloc, inputs, marks, folder, checks, steps) {
+    let mut maker = KeyMaker::new();
+    let merger = match merged(alloc, inputs, marks, &mut maker, folder, checks, steps) {
         Ok(merger) => merger,
         Err(stop) => return Err(stop),
     };
@@ -111,7 +113,7 @@ fn merged_bytes<'a, F: Folder, K: Ledger, L: Ledger>(
         Ok(value) => value,
         Err(stop) => return Err(stop),
     };
-    value_bytes(alloc, &value, options.keep_id)
+    value_bytes(alloc, &value, options.keep_id, maker.key())
 }
 
 /// The value that inputs are joined to, where they fit together.
@@ -137,8 +139,13 @@ fn input_of(error: MergeError) -> u32
     }
 }
 
-/// The canonical file of a value.
-fn value_bytes<'a>(alloc: Global, value: &FileValue, keep_id: bool) -> Result<Bytes, Stop<'a>>
+/// The canonical file of a value, whose items are hashed under the key.
+fn value_bytes<'a>(
+    alloc: Global,
+    value: &FileValue,
+    keep_id: bool,
+    key: ItemKey,
+) -> Result<Bytes, Stop<'a>>
     requires { IsSound value.now }
     ensures told { (output : List ℕ) (marks : List (List ℕ)) →
         Gives (written output) result (gives (in_limits output (record { keep_id = keep_id; marks = marks }) value.now)) }
@@ -148,7 +155,7 @@ fn value_bytes<'a>(alloc: Global, value: &FileValue, keep_id: bool) -> Result<By
         IfOk result (λ bytes. RebuildsWhereKnown (record { keep_id = keep_id; marks = marks }) (output, bytes)) }
     ensures causes { IfErr result (λ stop. ComesFrom (cause_of stop) ⊥ no_file no_file None ⊥ ⊥ ⊥) }
 {
-    match write_file(alloc, value, choice(keep_id)) {
+    match write_file_under(alloc, value, choice(keep_id), key) {
         Ok(bytes) => Ok(bytes),
         Err(BuildError::Limit(limit)) => Err(Stop::Limit(limit)),
         Err(BuildError::Memory) => Err(Stop::Memory),

@@ -10,20 +10,23 @@ ghost use Rattle.ppdb_run.specs.Words.{Merge, texts};
 
 use crate::input::read_input;
 use crate::inputs::{Inputs, Pair};
+use crate::keys::take_in;
 use crate::map::map_of;
 use crate::stop::Stop;
 use custom_info::Marks;
+use heap_items::KeyMaker;
 use ppdb_base::{Bytes, Folder, Steps};
 use ppdb_merge::Merger;
 use ppdb_verify::{VerifyError, verify};
 use std::alloc::Global;
 use std::sync::ledger::Ledger;
 
-/// Reads and moves all inputs.
+/// Reads and moves all inputs. The maker takes in all that is read.
 pub fn merged<'a, F: Folder, K: Ledger, L: Ledger>(
     alloc: Global,
     inputs: Inputs<'a>,
     marks: Marks,
+    maker: &mut KeyMaker,
     folder: &mut F,
     checks: &mut Steps<K>,
     steps: &mut Steps<L>,
@@ -46,8 +49,8 @@ pub fn merged<'a, F: Folder, K: Ledger, L: Ledger>(
 {
     let merger = Merger::new(alloc, marks);
     match inputs {
-        Inputs::One(input) => add_one(alloc, input, merger, folder, checks, steps),
-        Inputs::Pairs(words) => add_pairs(alloc, words, merger, folder, checks, steps),
+        Inputs::One(input) => add_one(alloc, input, merger, maker, folder, checks, steps),
+        Inputs::Pairs(words) => add_pairs(alloc, words, merger, maker, folder, checks, steps),
     }
 }
 
@@ -56,6 +59,7 @@ fn add_one<'a, F: Folder, K: Ledger, L: Ledger>(
     alloc: Global,
     input: Pair<'a>,
     merger: Merger,
+    maker: &mut KeyMaker,
     folder: &mut F,
     checks: &mut Steps<K>,
     steps: &mut Steps<L>,
@@ -77,7 +81,7 @@ fn add_one<'a, F: Folder, K: Ledger, L: Ledger>(
         ⊥) }
 {
     let mut merger = merger;
-    match add_input(alloc, input, &mut merger, folder, checks, steps) {
+    match add_input(alloc, input, &mut merger, maker, folder, checks, steps) {
         Ok(()) => Ok(merger),
         Err(stop) => Err(stop),
     }
@@ -88,6 +92,7 @@ fn add_pairs<'a, F: Folder, K: Ledger, L: Ledger>(
     alloc: Global,
     words: &'a [String],
     merger: Merger,
+    maker: &mut KeyMaker,
     folder: &mut F,
     checks: &mut Steps<K>,
     steps: &mut Steps<L>,
@@ -116,7 +121,7 @@ fn add_pairs<'a, F: Folder, K: Ledger, L: Ledger>(
             file: file.as_str(),
             map_file: map.as_str(),
         };
-        match add_input(alloc, input, &mut merger, folder, checks, steps) {
+        match add_input(alloc, input, &mut merger, maker, folder, checks, steps) {
             Ok(()) => {}
             Err(stop) => return Err(stop),
         }
@@ -130,6 +135,7 @@ fn add_input<'a, F: Folder, K: Ledger, L: Ledger>(
     alloc: Global,
     input: Pair<'a>,
     merger: &mut Merger,
+    maker: &mut KeyMaker,
     folder: &mut F,
     checks: &mut Steps<K>,
     steps: &mut Steps<L>,
@@ -159,6 +165,8 @@ fn add_input<'a, F: Folder, K: Ledger, L: Ledger>(
         Ok(text) => text,
         Err(stop) => return Err(stop),
     };
+    take_in(maker, &bytes);
+    take_in(maker, &text);
     add_texts(alloc, input, bytes.as_slice(), text, merger, checks, steps)
 }
 

@@ -19,6 +19,7 @@ use crate::output::write_output;
 use crate::stop::Stop;
 use crate::verified::read_verified;
 use custom_info::{Kind, Marks, kind_of};
+use heap_items::{ItemKey, KeyMaker};
 use ppdb_base::{Bytes, Folder, List, MergeError, Steps};
 use ppdb_build::{BuildError, IdChoice};
 use ppdb_verify::Verified;
@@ -99,11 +100,20 @@ fn rebuilt_bytes<'a, F: Folder, K: Ledger, L: Ledger>(
     rebuilt_files_keep_themselves();
     let marks = options.marks(alloc)?;
     let mut bytes = List::new(alloc);
-    let file = match read_verified(alloc, input, folder, &mut bytes, checks) {
+    let mut maker = KeyMaker::new();
+    let file = match read_verified(alloc, input, folder, &mut bytes, Some(&mut maker), checks) {
         Ok(file) => file,
         Err(stop) => return Err(stop),
     };
-    file_bytes(alloc, input, &file, &marks, options.keep_id, steps)
+    file_bytes(
+        alloc,
+        input,
+        &file,
+        &marks,
+        options.keep_id,
+        maker.key(),
+        steps,
+    )
 }
 
 /// The canonical file of a verified file, where each of its custom records is of a kind that is read or passed on.
@@ -113,6 +123,7 @@ fn file_bytes<'a, L: Ledger>(
     file: &Verified<'_>,
     marks: &Marks,
     keep_id: bool,
+    key: ItemKey,
     steps: &mut Steps<L>,
 ) -> Result<Bytes, Stop<'a>>
     ensures told { (output : List ℕ) → Gives (written output) result
@@ -126,7 +137,7 @@ fn file_bytes<'a, L: Ledger>(
         Some(error) => return Err(Stop::Unfit(name, error)),
         None => {}
     }
-    match ppdb_build::rebuild(alloc, file, choice(keep_id), steps) {
+    match ppdb_build::rebuild(alloc, file, choice(keep_id), key, steps) {
         Ok(bytes) => Ok(bytes),
         Err(BuildError::Limit(limit)) => Err(Stop::Limit(limit)),
         Err(BuildError::Memory) => Err(Stop::Memory),

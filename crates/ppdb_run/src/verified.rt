@@ -6,18 +6,21 @@ ghost use Rattle.ppdb_run.specs.Stops.{cause_of, Gives, ComesFrom, no_file};
 ghost use Rattle.ppdb_verify.specs.Views.{raw_file};
 
 use crate::input::read_input;
+use crate::keys::take_in_if;
 use crate::stop::Stop;
+use heap_items::KeyMaker;
 use ppdb_base::{Bytes, Folder, Steps};
 use ppdb_verify::{Verified, VerifyError, verify};
 use std::alloc::Global;
 use std::sync::ledger::Ledger;
 
-/// Reads a file of a command into `bytes`, and verifies it there.
+/// Reads a file of a command into `bytes`, and verifies it there. The maker takes in what is read, where there is one.
 pub fn read_verified<'a, 'b, F: Folder, L: Ledger>(
     alloc: Global,
     file: &'a str,
     folder: &mut F,
     bytes: &'b mut Bytes,
+    maker: Option<&mut KeyMaker>,
     steps: &mut Steps<L>,
 ) -> Result<Verified<'b>, Stop<'a>>
     ensures told { IfSome (F.files folder.old) (λ all. Gives raw_file result (verified all file.now)) }
@@ -34,7 +37,10 @@ pub fn read_verified<'a, 'b, F: Folder, L: Ledger>(
         ⊥) }
 {
     match read_input(alloc, folder, file) {
-        Ok(contents) => *bytes = contents,
+        Ok(contents) => {
+            take_in_if(maker, &contents);
+            *bytes = contents;
+        }
         Err(stop) => return Err(stop),
     }
     match verify(alloc, bytes.as_slice(), steps) {

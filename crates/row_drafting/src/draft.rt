@@ -14,6 +14,7 @@ use crate::methods::add_methods;
 use crate::others::{add_customs, add_imports, add_machines};
 use crate::scopes::add_scopes;
 use file_drafting::{Drafting, drafts_are_canonical};
+use heap_items::ItemStore;
 use ppdb_base::{Memory, Steps};
 use ppdb_values::values_have_types;
 use ppdb_verify::Verified;
@@ -105,11 +106,13 @@ fn add_parts<L: Ledger>(
 }
 
 /// The draft of a file's value, made from its rows, of which as many are read as there are: a part at a time, and never the whole value.
-pub fn draft_of_file<L: Ledger>(
+/// The store keeps its items.
+pub fn draft_of_file<'a, L: Ledger>(
     alloc: Global,
+    store: &'a ItemStore,
     file: &Verified<'_>,
     steps: &mut Steps<L>,
-) -> Result<Drafting, Memory>
+) -> Result<Drafting<'a>, Memory>
     ensures draft { IfOk result (λ draft. IsDraftOf (value_of (raw_file file.now)) draft) }
     ensures types { OnOk result (HasTypes (value_of (raw_file file.now))) }
     ensures rows { OnOk result (steps.new ≡ steps.old + row_total (raw_file file.now).tables) }
@@ -119,7 +122,7 @@ pub fn draft_of_file<L: Ledger>(
     values_have_types();
     scopes_own_their_lists();
     id_is_long(file);
-    let mut draft = match Drafting::new(alloc) {
+    let mut draft = match Drafting::new(alloc, store) {
         Ok(draft) => draft,
         Err(error) => return Err(error),
     };
