@@ -121,7 +121,8 @@ module _ (kind : HeapKind) where
       by false at rest =
           ap (λ b. if b then (entry.0, index) ∷ entries else entry ∷ insert_entry (λ (x : Item)
           (y : Item). bytes_eq x.bytes.now y.bytes.now) entries key index) at
-          ∙ ap (λ r. entry ∷ r) (rest (sym (ap (λ b. cond b (Some entry.1) (lookup (λ (other : Item). bytes_eq key.bytes.now other.bytes.now) entries)) at) ∙ none))
+          ∙ ap (λ r. entry ∷ r) (rest (sym (ap (λ b. cond b (Some entry.1) (lookup (λ
+          (other : Item). bytes_eq key.bytes.now other.bytes.now) entries)) at) ∙ none))
 
 -- an item that is there is no new one
 pub same_contents : (contents : Contents) (item : List ℕ) → list_any (bytes_eq item) contents.items ≡ true

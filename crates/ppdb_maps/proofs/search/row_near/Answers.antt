@@ -12,7 +12,10 @@ returns-in-Some c =
     let row = c.in-Some.row.now in
     let is : slice_get c.args.rows.now c.args.index ≡ Some row =
     sym (item_copied c.args.rows.now c.args.index c.get.result c.get.ensures.lookup) ∙ ap option_copied c.in-Some.is in
-    let here : (nat_eq row.table c.args.table && nat_eq row.old c.args.old) ≡ true = rw (eq-eqb row.table c.args.table c.if-row-table.true, eq-eqb row.old c.args.old c.if-row-old.true) refl in
+    let here : (nat_eq row.table c.args.table && nat_eq row.old c.args.old) ≡ true = rw (
+      eq-eqb row.table c.args.table c.if-row-table.true,
+      eq-eqb row.old c.args.old c.if-row-old.true,
+    ) refl in
     sym (at_there (λ (x : RowImage). nat_lt x.table c.args.table || (nat_eq x.table c.args.table && nat_lt x.old c.args.old))
     (λ (x : RowImage). nat_eq x.table c.args.table && nat_eq x.old c.args.old) c.args.rows.now c.args.index row
     (by_pair (λ (x : RowImage). x.table) (λ (x : RowImage). x.old) c.args.table c.args.old c.args.rows.now c.requires) is here)
