@@ -1,0 +1,11 @@
+mod Ends
+mod Made
+mod NoCalls
+mod OneList
+mod OneRaw
+mod Outputs
+mod Pieces
+mod Placed
+mod Spelled
+mod Splits
+mod Statuses

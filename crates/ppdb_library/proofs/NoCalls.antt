@@ -1,0 +1,25 @@
+-- Calls that are none, and calls that are one.
+use Rattle.std.proofs.Common.{ℕ, ◌≡◌, List, length, sym, ◌∙◌, subst}
+use Rattle.std.specs.Str.{IsUtf8}
+use Rattle.ppdb_library.specs.declared.piece.PpdbPiece.{PpdbPiece}
+use Rattle.ppdb_library.specs.Calls.{NoCall}
+use Rattle.ppdb_library.specs.Pieces.{AreApart}
+use Rattle.ppdb_library.specs.Words.{AreWords, IsWhole}
+use Rattle.ppdb_library.proofs.Spelled.{spelling}
+use Rattle.ppdb_library.proofs.Splits.{ended_whole}
+
+module _ (words files : List ℕ) (pieces : List PpdbPiece) where
+  pub no_text : (IsUtf8 words → ⊥) → NoCall words files pieces
+  no_text none = λ told call. none call.text
+
+  pub not_ended : (text : List ℕ) → text ≡ words → (IsWhole text → ⊥) → NoCall words files pieces
+  not_ended text same none = λ told call. none (subst IsWhole (sym call.are.are ∙ sym same) (ended_whole told))
+
+  pub not_lying : (AreApart 0 pieces (length files) → ⊥) → NoCall words files pieces
+  not_lying none = λ told call. none call.apart
+
+  -- a text whose words are ended has words
+  pub is_call : (text : List ℕ) → text ≡ words → IsUtf8 words → IsWhole text → AreApart 0 pieces (length files) → NoCall words files pieces → ⊥
+  is_call text same utf8 whole apart none =
+      let spelled = spelling text whole in
+      none spelled.words (record { text = utf8; are = subst (λ bytes. AreWords bytes spelled.words) same spelled.are; apart = apart })

@@ -1,0 +1,15 @@
+-- A fault as a caller in C sees it.
+use Rattle.ppdb_base.specs.declared.fault.Fault.{Fault}
+use Rattle.ppdb_base.specs.Place.{number_of}
+use Rattle.ppdb_library.specs.declared.fault.PpdbFault.{PpdbFault}
+
+-- the rule by its number, and its place
+abbrev pub told_fault : Fault → PpdbFault
+told_fault fault = record {
+  row = fault.place.row;
+  byte = fault.place.byte;
+  code = number_of fault.code;
+  part = fault.place.part;
+  table = fault.place.table;
+  column = fault.place.column;
+}

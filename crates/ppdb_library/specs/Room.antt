@@ -1,0 +1,11 @@
+-- The rooms of a caller, into which bytes are put.
+use Rattle.std.specs.Prelude.{ℕ, ◌≡◌, ◌++◌, List, length, drop, nat_le, if◌then◌else◌}
+
+-- a room after bytes were put into it: they stand at its beginning and the rest is as before; nothing is put where they are longer than the room
+abbrev pub in_room : List ℕ → List ℕ → List ℕ
+in_room bytes room = if nat_le (length bytes) (length room) then bytes ++ drop (length bytes) room else room
+
+-- The caller is given the bytes: their length, and the bytes in the room.
+pub record IsGiven (bytes : List ℕ) (needed : ℕ) (before after : List ℕ) : Type 0 where
+  pub length_is : needed ≡ length bytes
+  pub room_is : after ≡ in_room bytes before
