@@ -1,23 +1,15 @@
 """Portable PDB files as rows and heaps, for making input: a reader, a writer, a maker of files of n methods, and a way to repeat
 the methods of a file. Nothing here is proved, and the program does not use it."""
 import struct
+import sys
 import uuid
+from pathlib import Path
 
-# The columns of the tables 30 to 37 (Portable PDB v1.0, "Metadata Tables"): a number of 2 or 4 bytes; the index of a text, blob or
-# GUID; a row of a table; or the coded parent.
-COLUMNS = {
-    0x30: ['blob', 'guid', 'blob', 'guid'],
-    0x31: [('row', 0x30), 'blob'],
-    0x32: [('row', 0x06), ('row', 0x35), ('row', 0x33), ('row', 0x34), 4, 4],
-    0x33: [2, 2, 'text'],
-    0x34: ['text', 'blob'],
-    0x35: [('row', 0x35), 'blob'],
-    0x36: [('row', 0x06), ('row', 0x06)],
-    0x37: ['parent', 'guid', 'blob'],
-}
-# The tables of the tags of the coded parent ("CustomDebugInformation Table").
-PARENTS = [0x06, 0x04, 0x01, 0x02, 0x08, 0x09, 0x0a, 0x00, 0x0e, 0x17, 0x14, 0x11, 0x1a, 0x1b, 0x20, 0x23, 0x26, 0x27, 0x28,
-           0x2a, 0x2c, 0x2b, 0x30, 0x32, 0x33, 0x34, 0x35]
+sys.path.insert(0, str(Path(__file__).resolve().parent.parent / 'scripts'))
+from cells import COLUMNS as CELLS, PARENTS
+
+# The columns of the tables 30 to 37.
+COLUMNS = {table: [form for _, form in columns] for table, columns in CELLS.items()}
 STREAMS = ['#Pdb', '#~', '#Strings', '#GUID', '#Blob']
 HOISTED = uuid.UUID('6DA9A61E-F8C7-4874-BE62-68BC5630DF71').bytes_le
 STEPPING = uuid.UUID('54FD2AC5-E925-401A-9C2A-F94F171072F8').bytes_le
