@@ -1,8 +1,10 @@
-# make              builds the program where it is not built for these sources
-# make check        the checks of the built program and of the repository (scripts/check-*), as .ci/run makes them after the proofs
-# make install      copies the program, its manual page, completions, documents and scripts below prefix, /usr/local where it is not set
+# make              proves and builds the program if it is not built for these sources
+# make quick        runs the program and all tests unproved, in some minutes
+# make lib          makes libppdb in build/library: an archive, a shared object and the header
+# make check        runs the checks of the built program and of the repository (scripts/check-*), as .ci/run does after the proofs
+# make install      copies the program, the library if make lib has built it, the manual page, completions, documents and scripts below prefix, by default /usr/local
 # make uninstall    removes what make install copied
-# make release      makes a tar file and a Debian package in build/release
+# make release      makes the files of a release in release/: the program, a tar file, a Debian package and their sums
 # make clean        removes build/ and the built programs; what is proved is kept
 # make help         prints these lines
 PREFIX ?= /usr/local
@@ -12,40 +14,60 @@ datadir ?= $(prefix)/share
 mandir ?= $(datadir)/man
 docdir ?= $(datadir)/doc/ppdb
 bashdir ?= $(datadir)/bash-completion/completions
+libdir ?= $(prefix)/lib
+includedir ?= $(prefix)/include
 zshdir ?= $(datadir)/zsh/site-functions
+fishdir ?= $(datadir)/fish/vendor_completions.d
 DESTDIR ?=
 
-documents = docs/FORMAT.md docs/lines.schema.json NOTICE LICENSE
-examples = scripts/stacktrace scripts/stack-maps scripts/extract-embedded
+documents = README.md CHANGELOG.md docs/RECIPES.md docs/MANY-FILES.md docs/PAGE.md docs/LIBRARY.md docs/FORMAT.md docs/lines.schema.json NOTICE LICENSE
+tools = $(addprefix scripts/,stacktrace stack-maps extract-embedded page verify-each symbol-store repair)
+modules = $(addprefix scripts/,assemblies.py sources.py command.py cells.py)
+samples = examples/async_iter.cs examples/async_iter.pdb examples/embed_link.pdb
 
-.PHONY: all check install uninstall release clean help
+.PHONY: all quick lib check install uninstall release clean help
 
 all:
 	@scripts/build
 
+quick:
+	@scripts/quick
+
+lib:
+	@scripts/library
+
 check: all
 	@set -e; for script in scripts/check-*; do "$$script"; done
 
-install: all
-	install -d "$(DESTDIR)$(bindir)" "$(DESTDIR)$(mandir)/man1" "$(DESTDIR)$(docdir)/examples" "$(DESTDIR)$(bashdir)" "$(DESTDIR)$(zshdir)"
-	install -m 755 crates/ppdb_cli/out/ppdb_cli "$(DESTDIR)$(bindir)/ppdb"
+install:
+	install -d "$(DESTDIR)$(bindir)" "$(DESTDIR)$(mandir)/man1" "$(DESTDIR)$(docdir)/examples" "$(DESTDIR)$(datadir)/ppdb"
+	install -d "$(DESTDIR)$(bashdir)" "$(DESTDIR)$(zshdir)" "$(DESTDIR)$(fishdir)"
+	program="$(program)"; program=$${program:-$$(scripts/program)} && install -m 755 "$$program" "$(DESTDIR)$(bindir)/ppdb"
 	install -m 644 man/ppdb.1 "$(DESTDIR)$(mandir)/man1/ppdb.1"
 	install -m 644 $(documents) "$(DESTDIR)$(docdir)"
-	install -m 755 $(examples) "$(DESTDIR)$(docdir)/examples"
+	install -m 644 $(samples) $(modules) "$(DESTDIR)$(docdir)/examples"
+	install -m 755 $(tools) "$(DESTDIR)$(docdir)/examples"
+	install -m 644 share/ppdb/page.html "$(DESTDIR)$(datadir)/ppdb"
 	install -m 644 completions/ppdb.bash "$(DESTDIR)$(bashdir)/ppdb"
 	install -m 644 completions/_ppdb "$(DESTDIR)$(zshdir)/_ppdb"
+	install -m 644 completions/ppdb.fish "$(DESTDIR)$(fishdir)/ppdb.fish"
+	if scripts/library is-built; then scripts/library install "$(DESTDIR)" "$(prefix)" "$(libdir)" "$(includedir)"; \
+	  else echo "install: the library is left out, since make lib has not built it"; fi
 
 uninstall:
-	rm -f "$(DESTDIR)$(bindir)/ppdb" "$(DESTDIR)$(mandir)/man1/ppdb.1" "$(DESTDIR)$(bashdir)/ppdb" "$(DESTDIR)$(zshdir)/_ppdb"
+	rm -f "$(DESTDIR)$(bindir)/ppdb" "$(DESTDIR)$(mandir)/man1/ppdb.1" "$(DESTDIR)$(datadir)/ppdb/page.html"
+	rm -f "$(DESTDIR)$(bashdir)/ppdb" "$(DESTDIR)$(zshdir)/_ppdb" "$(DESTDIR)$(fishdir)/ppdb.fish"
 	rm -f $(foreach file,$(notdir $(documents)),"$(DESTDIR)$(docdir)/$(file)")
-	rm -f $(foreach file,$(notdir $(examples)),"$(DESTDIR)$(docdir)/examples/$(file)")
-	rmdir "$(DESTDIR)$(docdir)/examples" "$(DESTDIR)$(docdir)" 2>/dev/null || true
+	rm -f $(foreach file,$(notdir $(samples) $(modules) $(tools)),"$(DESTDIR)$(docdir)/examples/$(file)")
+	scripts/library uninstall "$(DESTDIR)" "$(prefix)" "$(libdir)" "$(includedir)"
+	rmdir "$(DESTDIR)$(docdir)/examples" "$(DESTDIR)$(docdir)" "$(DESTDIR)$(datadir)/ppdb" 2>/dev/null || true
 
 release: all
 	scripts/release
 
 clean:
 	rm -rf build crates/ppdb_cli/out/ppdb_cli crates/check_blobs/out/check_blobs
+	rm -f crates/ppdb_library/out/libppdb_library.a
 
 help:
 	@sed -n '/^# /!q;s/^# //p' Makefile

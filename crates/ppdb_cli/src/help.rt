@@ -1,185 +1,207 @@
-// What the program says of itself: its help, its version, and where the help is when words are no command.
+// What the program says of itself: its help, its version, and a hint where the words are no command.
+use std::fmt;
 
 /// The version of the program, of its manual page and of its packages.
-const VERSION: &str = "ppdb 1.0.0\n";
+const VERSION: &str = "ppdb 1.1.0\n";
 
 const HELP: &str = "ppdb: Portable PDB debug files
 
 ppdb id FILE                   prints the identity and the entry point of a file
-ppdb verify FILE               says whether a file is valid, and else its first fault
-ppdb show FILE                 prints all rows of a file, a line each
-ppdb show FILE --json          prints them as JSON, an object a line
-ppdb query FILE METHOD OFFSET  prints what belongs to an IL offset of a method, by the method's row
-ppdb links FILE                prints for each document the address of its source, by Source Link
+ppdb verify FILE               prints accepted, or the first rule that the file breaks and where
+ppdb show FILE                 prints every row of a file, one line each
+ppdb show FILE --json          prints the same rows as JSON, one object a line
+ppdb query FILE METHOD OFFSET  prints what belongs to an IL offset of a method
+ppdb links FILE                prints the address of each document's source, by Source Link
 ppdb breaks FILE DOCUMENT LINE prints where a debugger may stop for a line of a document
-ppdb rebuild IN OUT            writes the one canonical file that says what a file says
-ppdb remap IN MAP OUT          writes that of a file whose module was rewritten, as a map says
-ppdb merge OUT IN MAP ..       writes that of up to 256 files, each moved by its map, joined to one
-ppdb compose FIRST SECOND OUT  writes the one map that says what two maps say, one after the other
-ppdb sample N                  prints how long a made file of N methods is, before and after it moves
-ppdb help COMMAND              prints more of a command; so does COMMAND --help
+ppdb rebuild IN OUT            writes the canonical file: equal contents give equal bytes
+ppdb remap IN MAP OUT          writes the debug file of a module that was rewritten as MAP says
+ppdb merge OUT IN MAP ..       writes the debug file of up to 256 modules that became one
+ppdb compose FIRST SECOND OUT  writes one map for two rewritings, one after the other
+ppdb sample N                  prints the lengths of a generated file of N methods
+ppdb help COMMAND              prints more about a command; so does COMMAND --help
 ppdb --help                    prints this text; so do -h and help
 ppdb --version                 prints the version; so does -V
 
-Numbers are decimal. Of a token and a hexadecimal offset, as stack traces have them:
+Numbers are decimal. Let the shell convert a token and a hexadecimal offset of a stack trace:
     ppdb query app.pdb $((0x06000012 & 0xffffff)) $((0x1a))
 
-The status, and the line that is printed with it:
-0   done: the answer
-1   the file is refused: refused FILE FAULT
-2   the words are no command: usage
+Exit status, and the line that is printed with it:
+0   success: the answer
+1   the file breaks a rule: refused FILE FAULT
+2   the words are not a command: usage
 3   the file could not be read: read fault FILE
-4   the answer could not be written, or a file: write fault FILE
-5   there was no memory left
-6   there is no such file: absent FILE
+4   standard output or a file could not be written; for a file: write fault FILE
+5   out of memory
+6   the file does not exist: absent FILE
 7   the file is longer than 134217728 bytes: too long FILE
-8   a file does not fit its map or the files before it, or has a record of an unknown kind: unfit
-    FILE REASON, M1 to M11; a text is no map's: map FILE line LINE kind RULE
-9   what is to be written passes a limit of the format: limit LIMIT
+8   the file does not fit its map or an earlier input, or has a record of an unknown kind:
+    unfit FILE REASON, M1 to M11; a map breaks a rule of map texts: map FILE line LINE kind RULE
+9   the result would exceed a limit of the format: limit LIMIT
 10  the file has no such method: no method METHOD
 11  the Source Link record cannot be read: links FILE not json, links FILE shape
 12  the file has no such document: no document DOCUMENT
-13  the maps do not follow one another: sizes differ method METHOD SIZE SIZE
+13  the second map is not for the result of the first: sizes differ method METHOD SIZE SIZE
 
-The manual page says of each F, M and L what it means and what to do. FORMAT.md, installed in
-share/doc/ppdb, has the form of map texts (5), and how files fit a map, move and join (10 to 12).
+The manual page explains every F, M and L code and what to do about it. FORMAT.md, installed in
+share/doc/ppdb, defines map texts (section 5) and how files fit a map, move and join (10 to 12).
 ";
 
 const ID: &str = "ppdb id FILE
 
-Verifies the file, and prints its identity in 40 hexadecimal digits and the token of its entry
-point, 00000000 where it has none:
+Verifies the file, then prints its identity in 40 hexadecimal digits and the token of its entry
+point, 00000000 if it has none:
     id 94bb8c260d0933409e88695c1845fc2a6b9eb4cc
     entry 0600000b
 ";
 
 const VERIFY: &str = "ppdb verify FILE
 
-Prints `accepted` where the file keeps all rules of the format, F1 to F40, else `refused FILE FAULT`
-with its first fault, a code and a place, and status 1. The manual page says what each code means.
+Prints `accepted` if the file breaks no rule of the format, F1 to F40. Otherwise it prints `refused
+FILE FAULT` and fails with status 1: FAULT is the code of the first fault and where it is. The
+manual page explains each code.
 ";
 
 const SHOW: &str = "ppdb show FILE [--json]
 
-Verifies the file, and prints all its rows, a line each: documents, methods with their sequence
+Verifies the file, then prints every row, one line each: documents, methods with their sequence
 points, scopes, variables, constants, imports, state machines and custom debug information. With
---json each line is an object of JSON.
+--json each line is a JSON object.
 ";
 
 const QUERY: &str = "ppdb query FILE METHOD OFFSET
 
-Verifies the file, and prints what belongs to an IL offset of a method: its last sequence point that
-is not after the offset, the scopes that hold it with their variables, constants and imports,
-hoisted variables, the links of a state machine, and custom records. METHOD is the method's row, to
-16777215, and OFFSET a number to 2147483647, both decimal. Of a token and a hexadecimal offset:
+Verifies the file, then prints what belongs to an IL offset of a method: the last sequence point at
+or before the offset, the scopes that contain it with their variables, constants and imports,
+hoisted variables, state machine links and custom records. METHOD is the method's row, at most
+16777215; OFFSET is at most 2147483647. Both are decimal. From a token and a hexadecimal offset:
     ppdb query app.pdb $((0x06000012 & 0xffffff)) $((0x1a))
 ";
 
 const LINKS: &str = "ppdb links FILE
 
-Verifies the file, and prints for each document, by row, the address at which its source is found,
-or that there is none, by the Source Link record that the compiler left in the file:
+Verifies the file, then prints for each document the address of its source, or none. The addresses
+come from the Source Link record that the compiler put into the file:
     link 1 https://example.org/raw/abc/async_iter.cs
     link 2 none
-Without such a record no document has an address. Where the record is no JSON, or not of the form of
-Source Link, the line is `links FILE not json` or `links FILE shape`, and the status 11.
+A file without such a record has no addresses. If the record is not JSON, or not of the form of
+Source Link, the line is `links FILE not json` or `links FILE shape`, and the status is 11.
 ";
 
 const BREAKS: &str = "ppdb breaks FILE DOCUMENT LINE
 
-Verifies the file, and prints the sequence points of a document that cover a line and are not
-hidden, each with its method, its IL offset, and where it starts and ends, line:column:
+Verifies the file, then prints the sequence points of a document that cover a line and are not
+hidden, each with its method, IL offset, start and end (line:column):
     break 39 0 20:108 20:109
-DOCUMENT is the name as `show` has it, before it is escaped, and is compared byte by byte; LINE is a
-decimal number to 536870911. A line without code has no points, and the status is 0; where no
-document has the name, the line is `no document DOCUMENT`, and the status 12.
+DOCUMENT is the document's name before `show` escapes it, compared byte by byte. LINE is a decimal
+number, at most 536870911. A line without code prints nothing, with status 0. If no document has the
+name, the command prints `no document DOCUMENT` and fails with status 12.
 ";
 
 const REBUILD: &str = "ppdb rebuild IN OUT [--keep-id] [--free GUID]..
 
-Verifies IN, and writes to OUT the canonical file that says the same: its rows in their order, each
-item of a heap once, each number in its shortest form. Files that say the same are rebuilt to the
-same bytes. It prints nothing. IN is read before OUT is written, so both may be one file.
---keep-id     the identity is that of IN, and not made from the bytes of the new file
---free GUID   passes on a kind of custom debug information that is unknown, else status 8
+Verifies IN, then writes to OUT the canonical file with the same contents: the same rows in the same
+order, each heap item once, each number in its shortest form. Files with equal contents become equal
+bytes. Prints nothing. IN is read before OUT is written, so both may be the same file.
+--keep-id     keeps the identity of IN; without it the identity is made from the new bytes
+--free GUID   passes on records of this unknown kind; without it they give status 8
 ";
 
 const REMAP: &str = "ppdb remap IN MAP OUT [--keep-id] [--free GUID]..
 
-Verifies IN, the debug file of a module before it was rewritten, moves it as the text in MAP says
-where rows, IL offsets and local slots went, and writes the canonical file to OUT. What was said at
-an offset that is kept is said at its image. It prints nothing. Both are read before OUT is written,
-which may be one of them.
-A map of a method of 9 bytes, of which the offsets 0 and 5 to 8 are kept in 12 bytes:
-    ppdbmap 1
+Verifies IN, the debug file of a module before it was rewritten, and moves it as MAP says: where
+rows, IL offsets and local slots went. Writes the canonical file to OUT: what IN says at an offset
+that is kept, OUT says at its new place. Prints nothing. IN and MAP are read before OUT is written,
+so OUT may be one of them.
+--keep-id     keeps the identity of IN; without it the identity is made from the new bytes
+--free GUID   passes on records of this unknown kind; without it they give status 8
+
+A map is a text. Its first line is `ppdbmap 3`; the other lines have these forms, with TT a table
+in two hexadecimal digits and decimal numbers:
+    rows TT N                  the new module has N rows in table TT
+    row TT OLD NEW             row OLD of table TT became row NEW
+    method M OLDSIZE NEWSIZE   method M (the old row) had OLDSIZE bytes of IL and has NEWSIZE now
+    run OLD NEW LENGTH         in this method, LENGTH bytes of IL at OLD are kept, now at NEW
+    drop M                     method M was removed
+    slots M                    the local slots of method M moved
+    slot M OLD NEW             slot OLD of method M became slot NEW
+What has no line stays as it is. A table with a rows line, a method with a method line and a method
+with a slots line keep only the rows, offsets and slots that are listed. Example: a method of 9
+bytes keeps the offsets 0 and 5 to 8, and has 12 bytes now:
+    ppdbmap 3
     method 1 9 12
     run 0 0 1
     run 5 6 4
---keep-id     the identity is that of IN, and not made from the bytes of the new file
---free GUID   passes on a kind of custom debug information that is unknown, else status 8
 
-A file that does not fit its map is told in a line, with status 8:
+A file that does not fit its map is reported on one line, with status 8:
     unfit IN M1 table 06 row 3 at table 31 row 3 column 1 byte 0
-M6   a record has an unknown kind: mark it by --free, where it names no row, offset or slot
+M6   a record has an unknown kind: pass --free if it names no row, offset or slot
 M4   an offset is not below the old size, or a range ends above it: give the size before rewriting
-M5   an async method stops at an offset that is not kept: a run line must hold it
-M1   a row has no image: a row line is missing, or the drop line of a removed method
-M2   two rows became one: a row line is wrong, or a method must be dropped
-M10  a slot has no image: a slot line is missing
-M11  two slots became one: a slot line is wrong
-What passes a limit of the format, with status 9:
-L3   a point at 536870912 or further: the map moves it too far
-L4   two lines are too far apart, since the point between them went: keep it by a run line
-L5   more than 134217728 bytes; L6 more than 268435456 bytes of texts and blobs: the file is too large
+M5   an async method stops at an offset that is not kept: add a run line that keeps it
+M1   a row has no image: add its row line, or the drop line of a method that was removed
+M2   two rows became one: correct a row line, or drop one of the two methods
+M10  a slot has no image: add its slot line
+M11  two slots became one: correct a slot line
+A result that would exceed a limit of the format is reported with status 9:
+L3   a point would be at 536870912 or later: the map moves it too far
+L4   two lines are too far apart, since the point between them is gone: keep it with a run line
+L5   more than 134217728 bytes; L6 more than 268435456 bytes of texts and blobs: too large
 ";
 
 const MERGE: &str = "ppdb merge OUT IN MAP [IN MAP].. [--keep-id] [--free GUID]..
 
-Verifies each IN, moves it by its MAP as `remap` does, and writes to OUT the canonical file of all:
-one to 256 inputs, of which no two name one method of the new module. Documents of one name become
-one; the entry point is that of the first IN. It prints nothing. All are read before OUT is written,
-which may be one of them. Each map gives the rows of the new module, the same in all:
-    ppdbmap 1
+Verifies each IN, moves it by its MAP as `remap` does, joins all of them and writes the canonical
+file to OUT. There are 1 to 256 inputs, and no two of them may have the same method of the new
+module. Documents with the same name become one; the entry point is that of the first IN. Prints
+nothing. All inputs are read before OUT is written, so OUT may be one of them. Each map gives the
+row counts of the new module, the same in all maps:
+    ppdbmap 3
     rows 06 10
     row 06 1 6
---keep-id     the identity is that of the first IN, and not made from the bytes of the new file
---free GUID   passes on a kind of custom debug information that is unknown, else status 8
+`ppdb help remap` has all lines of a map.
+--keep-id     keeps the identity of the first IN; without it the identity is made from the new bytes
+--free GUID   passes on records of this unknown kind; without it they give status 8
 
-What does not fit is told as by `remap` (ppdb help remap), and beside that, with status 8:
-M3   two inputs name one method of the new module: a map is wrong, or an input was named twice
-M7   documents of one name differ: compile from the same sources, or under other names
-M8   the maps count different rows: give each the same rows line
-M9   an image is above the rows of its table: a row line or the rows line is wrong
-What passes a limit of the format, with status 9, beside L3 to L6:
-L1   more than 16777215 rows of a table: join fewer inputs
-L2   65535 variables or constants, of which the last scope owns none: join another input too
+What does not fit is reported as by `remap`, and with status 8 also:
+M3   two inputs have the same new method: correct a map, or remove an input that is named twice
+M7   documents of the same name differ: compile from the same sources, or under other names
+M8   the maps give different row counts: write the same rows line into each
+M9   an image is above the row count of its table: correct the row line or the rows line
+A result that would exceed a limit is reported with status 9; beside L3 to L6:
+L1   more than 16777215 rows in a table: join fewer inputs
+L2   65535 variables or constants, and the last scope owns none: join another input too
 ";
 
 const COMPOSE: &str = "ppdb compose FIRST SECOND OUT
 
-Writes to OUT the map of two maps, where SECOND is for what FIRST made of a module: the image of the
-image of each row, offset and slot, in the one canonical text. It prints nothing. Both maps are read
-before OUT is written, which may be one of them.
-The size of a method after FIRST and before SECOND must be the same, else the line is `sizes differ
-method M A B`, with the least such method, and the status 13: SECOND was made for another body. A
-text that is no map's is told by its first bad line and the rule that this breaks, with status 8.
+Writes to OUT one map that does what two maps do one after the other: SECOND is the map of a tool
+that rewrote the result of FIRST. The output is canonical. Prints nothing. Both maps are read before
+OUT is written, so OUT may be one of them.
+A method must have the same size after FIRST and before SECOND. Otherwise SECOND was made for
+another body: the line is `sizes differ method M A B` for the first such method, and the status is
+13. A text that is not a map is reported by its first bad line and the rule that it breaks, with
+status 8.
 ";
 
 const SAMPLE: &str = "ppdb sample N
 
-Makes the file of N methods that FORMAT.md describes, N to 100000, verifies it, moves it by the map
-that turns its methods round, all in memory, and prints the lengths of both files and the identity
-of the second. It reads and writes no file; other tools that rebuild and move such files can compare
-themselves with it:
+Generates the file of N methods that FORMAT.md defines (N at most 100000), verifies it, moves it by
+a map that reverses its methods, and prints the lengths of both files and the identity of the
+second. It reads and writes no file. Use it to check another program that writes such files:
     sample 1
     bytes 332
     remapped bytes 328
     remapped id bffe13bb4dd86b4ba11e593671b42ea9eacb05b2
 ";
 
+const ABOUT_HELP: &str = "ppdb help [COMMAND]
+
+Prints the commands and the exit statuses, or more about one command. `ppdb --help` and `ppdb -h`
+print the first text, `ppdb COMMAND --help` and `ppdb COMMAND -h` the second.
+";
+
 /// A command, of which the program can say more.
 #[derive(Clone, Copy)]
-enum Topic {
+pub enum Topic {
     Id,
     Verify,
     Show,
@@ -191,6 +213,7 @@ enum Topic {
     Merge,
     Compose,
     Sample,
+    Help,
 }
 
 impl Topic {
@@ -208,11 +231,12 @@ impl Topic {
             "merge" => Some(Topic::Merge),
             "compose" => Some(Topic::Compose),
             "sample" => Some(Topic::Sample),
+            "help" => Some(Topic::Help),
             _ => None,
         }
     }
 
-    /// What the program says of the command.
+    /// What the program says of the command. The first line has the words of the command.
     fn text(self) -> &'static str {
         match self {
             Topic::Id => ID,
@@ -226,30 +250,82 @@ impl Topic {
             Topic::Merge => MERGE,
             Topic::Compose => COMPOSE,
             Topic::Sample => SAMPLE,
+            Topic::Help => ABOUT_HELP,
         }
     }
 
-    /// The words of the command, and where the help is.
-    fn hint(self) -> &'static str {
+    /// The words of the command.
+    fn form(self) -> &'static str {
+        match self.text().split_once('\n') {
+            Some((line, _)) => line,
+            None => "",
+        }
+    }
+
+    /// What the form does not say of the words.
+    fn note(self) -> &'static str {
         match self {
-            Topic::Id => "ppdb: the words are: ppdb id FILE; more: ppdb help id",
-            Topic::Verify => "ppdb: the words are: ppdb verify FILE; more: ppdb help verify",
-            Topic::Show => "ppdb: the words are: ppdb show FILE [--json]; more: ppdb help show",
-            Topic::Query =>
-                "ppdb: the words are: ppdb query FILE METHOD OFFSET, two decimal numbers; more: ppdb help query",
-            Topic::Links => "ppdb: the words are: ppdb links FILE; more: ppdb help links",
-            Topic::Breaks =>
-                "ppdb: the words are: ppdb breaks FILE DOCUMENT LINE, a name and a decimal number; more: ppdb help breaks",
-            Topic::Rebuild =>
-                "ppdb: the words are: ppdb rebuild IN OUT [--keep-id] [--free GUID]..; more: ppdb help rebuild",
-            Topic::Remap =>
-                "ppdb: the words are: ppdb remap IN MAP OUT [--keep-id] [--free GUID]..; more: ppdb help remap",
-            Topic::Merge =>
-                "ppdb: the words are: ppdb merge OUT IN MAP [IN MAP].. [--keep-id] [--free GUID]..; more: ppdb help merge",
-            Topic::Compose =>
-                "ppdb: the words are: ppdb compose FIRST SECOND OUT; more: ppdb help compose",
-            Topic::Sample =>
-                "ppdb: the words are: ppdb sample N, a decimal number to 100000; more: ppdb help sample",
+            Topic::Query => ", METHOD and OFFSET in decimal digits",
+            Topic::Breaks => ", LINE in decimal digits",
+            Topic::Sample => ", N in decimal digits, at most 100000",
+            _ => "",
+        }
+    }
+}
+
+/// What to say of words that are no command.
+#[derive(Clone, Copy)]
+pub enum Hint<'a> {
+    /// There are no words.
+    Empty,
+    /// No command has this name.
+    Unknown(&'a str),
+    /// `show` has its option before the file.
+    JsonFirst,
+    /// The word is an option that is given alone.
+    Alone(&'a str),
+    /// The command has other words; its name, and what it is.
+    Form(&'a str, Topic),
+}
+
+impl<'a> Hint<'a> {
+    /// The hint for words that are no command.
+    pub fn of(words: &'a [String]) -> Hint<'a> {
+        match words {
+            [] => Hint::Empty,
+            [command, option, _] if command.as_str() == "show" && option.as_str() == "--json" =>
+                Hint::JsonFirst,
+            [word, command] if word.as_str() == "help" => Hint::Unknown(command.as_str()),
+            [word, ..] => match (Topic::named(word), word.as_str()) {
+                (Some(topic), name) => Hint::Form(name, topic),
+                (None, name @ ("--help" | "-h" | "--version" | "-V")) => Hint::Alone(name),
+                (None, name) => Hint::Unknown(name),
+            },
+        }
+    }
+}
+
+impl fmt::Display for Hint<'_> {
+    fn fmt<W: fmt::Write>(&self, f: &mut fmt::Formatter<W>) -> fmt::Result {
+        match *self {
+            Hint::Empty => write!(
+                f,
+                "ppdb: no command is given; ppdb --help lists the commands"
+            ),
+            Hint::Unknown(word) => write!(
+                f,
+                "ppdb: no command is named {word:?}; ppdb --help lists the commands"
+            ),
+            Hint::JsonFirst => write!(f, "ppdb: --json comes after FILE: ppdb show FILE --json"),
+            Hint::Alone(word) => write!(
+                f,
+                "ppdb: {word} takes no other words; more: ppdb help help"
+            ),
+            Hint::Form(name, topic) => {
+                let form = topic.form();
+                let note = topic.note();
+                write!(f, "ppdb: usage: {form}{note}; more: ppdb help {name}")
+            }
         }
     }
 }
@@ -267,13 +343,5 @@ pub fn own_text(words: &[String]) -> Option<&'static str> {
             Topic::named(command).map(Topic::text)
         }
         _ => None,
-    }
-}
-
-/// What to say of words that are no command.
-pub fn hint(words: &[String]) -> &'static str {
-    match words.first().and_then(|word| Topic::named(word)) {
-        Some(topic) => topic.hint(),
-        None => "ppdb: no command has these words; ppdb --help lists the commands",
     }
 }

@@ -8,6 +8,7 @@ mod real_folder;
 mod std_sink;
 mod writing;
 
+use help::Hint;
 use ppdb_base::{CounterPermit, Folder, Sink, Steps};
 use ppdb_run::{Status, read_words, run};
 use real_folder::RealFolder;
@@ -64,7 +65,7 @@ fn answer(rt: &HostRuntime, words: &[String]) -> Status {
 /// written.
 fn tell_more(rt: &HostRuntime, words: &[String], status: Status, reason: Option<ErrorKind>) {
     let _ = match (status, reason) {
-        (Status::Usage, _) => rt.eprintln(help::hint(words)),
+        (Status::Usage, _) => rt.eprintln(Hint::of(words)),
         (Status::ReadFault | Status::WriteFault, Some(reason)) => eprintln!(rt; "ppdb: {reason}"),
         _ => Ok(()),
     };
