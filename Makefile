@@ -66,7 +66,7 @@ release: all
 	scripts/release
 
 clean:
-	rm -rf build crates/ppdb_cli/out/ppdb_cli crates/check_blobs/out/check_blobs
+	rm -rf build crates/ppdb_cli/out/ppdb_cli crates/tests_blobs_program/out/tests_blobs_program
 	rm -f crates/ppdb_library/out/libppdb_library.a
 
 help:

@@ -1,4 +1,4 @@
--- A UTF-8 character at the front of some bytes: what character_len finds is one, and each one is found.
+-- A UTF-8 character at the start of some bytes: what character_len finds is one, and each one is found.
 use Rattle.std.proofs.Common.{◌≡◌, ℕ, zero, suc, ◌<◌, ◌≤◌, Bool, true, false, List, [], ◌∷◌, ◌++◌, length, take, refl, sym, ap, subst}
 use Rattle.std.proofs.Common.{arith, if◌then◌else◌, Result, Ok}
 use Rattle.std.proofs.lemmas.List.{length-take}
@@ -15,7 +15,7 @@ chosen false false true w P none one two three four = three refl refl
 chosen false false false true P none one two three four = four refl refl
 chosen false false false false P none one two three four = none
 
--- So many bytes at the front are a character; nothing is said of none.
+-- So many bytes at the start are a character; nothing is said of none.
 abbrev pub CharacterAt : List ℕ → ℕ → Type 0
 CharacterAt bytes zero = Unit {0}
 CharacterAt bytes (suc len) = (is_character (take (suc len) bytes) ≡ true) × (length (take (suc len) bytes) ≡ suc len)

@@ -1,4 +1,4 @@
--- Where BlobEnd is told, the bytes end inside a field or before it.
+-- Where BlobEnd is reported, the bytes end inside a field or before it.
 use Rattle.std.proofs.Common.{◌≡◌, ◌≢◌, ℕ, zero, suc, ◌+◌, ◌-◌, ◌*◌, ◌^◌, ◌<◌, ◌≤◌, List, [], ◌∷◌, ◌++◌, length, take, drop, replicate}
 use Rattle.std.proofs.Common.{append-nil, Some, None, refl, sym, arith, ◌⊎◌, inl, inr, length-append}
 use Rattle.std.specs.Prelude.{All}
@@ -11,7 +11,7 @@ use Rattle.blob_grammar.specs.Grammar.{number, integer, octets, Form, unsigned, 
 use Rattle.blob_grammar.specs.Reading.{IsFieldThere, IsFaultOf}
 use Rattle.blob_grammar.specs.Ending.{EndsInside}
 
--- A number stands at the front of the bytes, or would with some more bytes.
+-- A number stands at the start of the bytes, or would with some more bytes.
 pub record NumberThere (after : List ℕ) : Type 0 where
   pub text : List ℕ
   pub left : List ℕ

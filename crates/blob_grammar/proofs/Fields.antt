@@ -1,4 +1,4 @@
--- A field at the front of some bytes: what field_at finds is one, and each one is found.
+-- A field at the start of some bytes: what field_at finds is one, and each one is found.
 use Rattle.std.proofs.Common.{◌≡◌, ◌≢◌, ℕ, zero, suc, ◌+◌, ◌-◌, ◌*◌, ◌^◌, ◌<◌, ◌≤◌, Bool, true, false, ◌&&◌, ltb, if◌then◌else◌, List}
 use Rattle.std.proofs.Common.{[], ◌∷◌, ◌++◌, length, take, drop, Some, Result, Ok, Err, refl, sym, ap, subst, ◌∙◌, append-nil, arith}
 use Rattle.std.proofs.Common.{inl, inr, ℤ, length-append}
@@ -16,8 +16,8 @@ use Rattle.blob_grammar.specs.Grammar.{Value, number, integer, octets, Form, uns
 use Rattle.blob_grammar.specs.Reading.{BeginsNoNumber}
 use Rattle.blob_grammar.specs.Reader.{field_at, as_number, as_integer, word_at, unsigned_at, two_at, four_at, signed_at, signed_of, character_of, character_len}
 
--- What stands at the front: some bytes, and then the rest.
-pub record Front (P : List ℕ → Type 0) (bytes : List ℕ) (len : ℕ) : Type 0 where
+-- What stands at the start: some bytes, and then the rest.
+pub record Prefix (P : List ℕ → Type 0) (bytes : List ℕ) (len : ℕ) : Type 0 where
   pub text : List ℕ
   pub parts : bytes ≡ text ++ drop len bytes
   pub spelled : P text
@@ -48,7 +48,7 @@ BeginsNone [] = ⊥
 BeginsNone (b ∷ _) = 0xE0 ≤ b
 
 abbrev pub IntFound : {V : Type 0} → (List ℕ → V → Type 0) → List ℕ → Result (V × ℕ) IntFault → Type 0
-IntFound P bytes (Ok x) = Front (λ text. P text x.0) bytes x.1
+IntFound P bytes (Ok x) = Prefix (λ text. P text x.0) bytes x.1
 IntFound P bytes (Err End) = ¬ (BeginsNone bytes)
 IntFound P bytes (Err NoForm) = BeginsNone bytes
 
@@ -130,7 +130,7 @@ unfolding signed_at
 signed-all text v after h = rw (unsigned-all text h.0 after h.1, h.2) refl
 
 abbrev pub FieldFound : Form → List ℕ → Result (Value × ℕ) Code → Type 0
-FieldFound form bytes (Ok x) = Front (λ text. Spells form text x.0 (drop x.1 bytes)) bytes x.1
+FieldFound form bytes (Ok x) = Prefix (λ text. Spells form text x.0 (drop x.1 bytes)) bytes x.1
 FieldFound form bytes (Err BlobEnd) = ¬ (BeginsNoNumber (Some form) bytes) × ((form ≡ character) → bytes ≡ [])
 FieldFound form bytes (Err IntegerForm) = BeginsNoNumber (Some form) bytes
 FieldFound form bytes (Err ValueRange) = (form ≡ character) × (bytes ≢ []) × ¬ (BeginsNoNumber (Some form) bytes)

@@ -1,13 +1,13 @@
 pub mod Characters
 pub mod Fields
 pub mod Stored
-pub mod Fronts
+pub mod Prefixes
 pub mod Readers
 pub mod Unique
 pub mod Steps
 pub mod Placed
 pub mod Written
 pub mod Ending
-pub mod FrontFields
+pub mod PrefixFields
 pub mod Walks
 pub mod ReadRecords

@@ -3,7 +3,7 @@ use Rattle.std.proofs.Common.{ℕ, List, [], ◌∷◌, ◌++◌, Option, sym, s
 use Rattle.ppdb_base.specs.declared.BlobFault.{BlobFault}
 use Rattle.blob_grammar.specs.Grammar.{Field, Grammar, Cut, with_value, cut, bytes_of, IsAllowed, EachFollows}
 use Rattle.blob_grammar.specs.Reading.{Reading}
-use Rattle.blob_grammar.proofs.Fronts.{cut-push}
+use Rattle.blob_grammar.proofs.Prefixes.{cut-push}
 
 after_all : {R : Type 0} (g : Grammar R) (H : Cut R → Type 0) → ((c : Cut R) (f : Field) (after : List ℕ) → IsAllowed g c f after → H c
     → H (with_value g c f.value))
@@ -18,4 +18,4 @@ pub of_reading : {R : Type 0} (g : Grammar R) (H : Cut R → Type 0) → ((c : C
     → H (with_value g c f.value))
     → H (record { whole = []; begun = [] }) → (blob : List ℕ) (records : List R) (fault : Option BlobFault) (r : Reading g blob records fault)
     → H (cut g r.fields)
-of_reading g H kept start blob records fault r = after_all g H kept [] r.fields r.after r.front.at_front.each start
+of_reading g H kept start blob records fault r = after_all g H kept [] r.fields r.after r.prefix.at_start.each start

@@ -3,12 +3,12 @@ use Rattle.std.proofs.Common.{◌≡◌, ℕ, zero, suc, ◌+◌, ◌<◌, Bool,
 use Rattle.std.proofs.Common.{None, Result, Ok, Err, refl, sym, ap, subst, ◌∙◌, append_assoc, append-nil, arith, length-append, inl, inr}
 use Rattle.ppdb_base.specs.declared.Code.{Code}
 use Rattle.ppdb_base.specs.declared.Code.TheVariants.{BlobEnd, IntegerForm, ValueRange}
-use Rattle.blob_grammar.specs.Grammar.{Value, Form, character, Spells, Field, Grammar, Cut, closed, with_value, cut, bytes_of, MayFollow, AtFront}
+use Rattle.blob_grammar.specs.Grammar.{Value, Form, character, Spells, Field, Grammar, Cut, closed, with_value, cut, bytes_of, MayFollow, AtStart}
 use Rattle.blob_grammar.specs.Reading.{IsFaultOf, IsOutOfRange, EndsWhole, Reading}
-use Rattle.blob_grammar.specs.Reader.{Left, field_at, is_empty, Step, field, stop, bad, stop_or, if_allowed, step_at, step_in, step}
+use Rattle.blob_grammar.specs.Reader.{Left, field_at, is_empty, Step, field, stop, invalid, stop_or, if_allowed, step_at, step_in, step}
 use Rattle.blob_grammar.specs.Reader.{close_and, take_step, read_for, read_from}
-use Rattle.blob_grammar.proofs.Fields.{Front, FieldFound, field-is, field-all}
-use Rattle.blob_grammar.proofs.Fronts.{cut-push, bytes-push, front-push, IsStuck, longest_where_stuck}
+use Rattle.blob_grammar.proofs.Fields.{Prefix, FieldFound, field-is, field-all}
+use Rattle.blob_grammar.proofs.Prefixes.{cut-push, bytes-push, prefix-push, IsStuck, longest_where_stuck}
 
 abbrev pub whole_of : {R : Type 0} → Grammar R → List Field → List R
 whole_of g fs = (cut g fs).whole
@@ -20,13 +20,13 @@ begun_of g fs = (cut g fs).begun
 pub record StepTakes {R : Type 0} (g : Grammar R) (fs : List Field) (bytes : List ℕ) (value : Value) (len : ℕ) : Type 0 where
   pub form : Form
   pub expected : g.form (whole_of g fs) (begun_of g fs) ≡ Some form
-  pub front : Front (λ text. Spells form text value (drop len bytes)) bytes len
+  pub prefix : Prefix (λ text. Spells form text value (drop len bytes)) bytes len
   pub allowed : g.allows (whole_of g fs) (begun_of g fs) value ≡ true
 
 abbrev pub StepIs : {R : Type 0} → Grammar R → List Field → List ℕ → Option Form → Step → Type 0
 StepIs g fs bytes o (field value len) = StepTakes g fs bytes value len
 StepIs g fs bytes o stop = EndsWhole g fs bytes × IsStuck g fs bytes
-StepIs g fs bytes o (bad code) = ¬ (EndsWhole g fs bytes) × IsFaultOf code o bytes × IsStuck g fs bytes
+StepIs g fs bytes o (invalid code) = ¬ (EndsWhole g fs bytes) × IsFaultOf code o bytes × IsStuck g fs bytes
 
 -- where a form may come, only a field of that form is allowed
 form_of : {R : Type 0} (g : Grammar R) (fs : List Field) (form : Form) (f : Field) (left : List ℕ) → g.form (whole_of g fs) (begun_of g fs) ≡ Some form
@@ -56,12 +56,12 @@ stuck_at_value g fs form bytes x e ok not f left parts m =
     cc
 
 value_step : {R : Type 0} (g : Grammar R) (fs : List Field) (form : Form) (bytes : List ℕ) (x : Value × ℕ) (b : Bool)
-    → g.form (whole_of g fs) (begun_of g fs) ≡ Some form → field_at form bytes ≡ Ok x → Front (λ text. Spells form text x.0 (drop x.1 bytes)) bytes x.1
+    → g.form (whole_of g fs) (begun_of g fs) ≡ Some form → field_at form bytes ≡ Ok x → Prefix (λ text. Spells form text x.0 (drop x.1 bytes)) bytes x.1
     → g.allows (whole_of g fs) (begun_of g fs) x.0 ≡ b → StepIs g fs bytes (Some form) (if_allowed b x.0 x.1)
-value_step g fs form bytes x true e ok front allowed = record { form = form; expected = e; front = front; allowed = allowed }
-value_step g fs form bytes x false e ok front allowed = (
-  λ w. let len : length bytes ≡ 0 = ap length w.0 in omega (arith, front.within, front.positive),
-  inl (record { bytes = front.text; value = x.0 }, drop x.1 bytes, front.parts, front.spelled),
+value_step g fs form bytes x true e ok prefix allowed = record { form = form; expected = e; prefix = prefix; allowed = allowed }
+value_step g fs form bytes x false e ok prefix allowed = (
+  λ w. let len : length bytes ≡ 0 = ap length w.0 in omega (arith, prefix.within, prefix.positive),
+  inl (record { bytes = prefix.text; value = x.0 }, drop x.1 bytes, prefix.parts, prefix.spelled),
   stuck_at_value g fs form bytes x e ok allowed,
 )
 
@@ -137,25 +137,25 @@ abbrev Reads : {R : Type 0} → Grammar R → List ℕ → Cut R → Left R → 
 Reads g blob c left = Reading g blob (c.whole ++ left.items) left.fault
 
 step_reads : {R : Type 0} (g : Grammar R) (blob : List ℕ) (turns : ℕ) (fs : List Field) (bytes : List ℕ)
-    → ((gs : List Field) (rest : List ℕ) → length rest < turns → AtFront g blob gs rest
+    → ((gs : List Field) (rest : List ℕ) → length rest < turns → AtStart g blob gs rest
     → Reads g blob (cut g gs) (read_for turns g (whole_of g gs) (begun_of g gs) (length (bytes_of gs)) rest))
-    → length bytes < suc turns → AtFront g blob fs bytes → (s : Step) → StepIs g fs bytes (g.form (whole_of g fs) (begun_of g fs)) s
+    → length bytes < suc turns → AtStart g blob fs bytes → (s : Step) → StepIs g fs bytes (g.form (whole_of g fs) (begun_of g fs)) s
     → Reads g blob (cut g fs) (take_step g (λ len w b. read_for turns g w b (length (bytes_of fs) + len) (drop len bytes)) (whole_of g fs) (begun_of g fs)
     (length (bytes_of fs)) s)
-step_reads g blob turns fs bytes again few front stop h =
-    record { fields = fs; after = bytes; front = longest_where_stuck g blob fs bytes front h.1; made = append-nil (whole_of g fs); ends = h.0 }
-step_reads g blob turns fs bytes again few front (bad code) h =
-    record { fields = fs; after = bytes; front = longest_where_stuck g blob fs bytes front h.2; made = append-nil (whole_of g fs); ends = (h.0, refl, h.1) }
-step_reads g blob turns fs bytes again few front (field value len) h =
-    let f : Field = record { bytes = h.front.text; value = value } in
-    let here : AtFront g blob fs (f.bytes ++ drop len bytes) = subst (λ b. AtFront g blob fs b) h.front.parts front in
-    let one : MayFollow g fs f (drop len bytes) = record { form = h.form; expected = h.expected; spelled = h.front.spelled; allowed = h.allowed } in
-    let next : AtFront g blob (fs ++ f ∷ []) (drop len bytes) = front-push g blob fs f (drop len bytes) here one in
-    let parts : length bytes ≡ length (f.bytes ++ drop len bytes) = ap length h.front.parts in
+step_reads g blob turns fs bytes again few prefix stop h =
+    record { fields = fs; after = bytes; prefix = longest_where_stuck g blob fs bytes prefix h.1; made = append-nil (whole_of g fs); ends = h.0 }
+step_reads g blob turns fs bytes again few prefix (invalid code) h =
+    record { fields = fs; after = bytes; prefix = longest_where_stuck g blob fs bytes prefix h.2; made = append-nil (whole_of g fs); ends = (h.0, refl, h.1) }
+step_reads g blob turns fs bytes again few prefix (field value len) h =
+    let f : Field = record { bytes = h.prefix.text; value = value } in
+    let here : AtStart g blob fs (f.bytes ++ drop len bytes) = subst (λ b. AtStart g blob fs b) h.prefix.parts prefix in
+    let one : MayFollow g fs f (drop len bytes) = record { form = h.form; expected = h.expected; spelled = h.prefix.spelled; allowed = h.allowed } in
+    let next : AtStart g blob (fs ++ f ∷ []) (drop len bytes) = prefix-push g blob fs f (drop len bytes) here one in
+    let parts : length bytes ≡ length (f.bytes ++ drop len bytes) = ap length h.prefix.parts in
     let sum : length (f.bytes ++ drop len bytes) ≡ length f.bytes + length (drop len bytes) = length-append f.bytes (drop len bytes) in
-    let fewer : length (drop len bytes) < turns = omega (arith, h.front.len_is, h.front.positive) in
+    let fewer : length (drop len bytes) < turns = omega (arith, h.prefix.len_is, h.prefix.positive) in
     let at : length (bytes_of (fs ++ f ∷ [])) ≡ length (bytes_of fs) + len =
-    ap length (bytes-push fs f) ∙ length-append (bytes_of fs) f.bytes ∙ ap (λ n. length (bytes_of fs) + n) h.front.len_is in
+    ap length (bytes-push fs f) ∙ length-append (bytes_of fs) f.bytes ∙ ap (λ n. length (bytes_of fs) + n) h.prefix.len_is in
     let r = again (fs ++ f ∷ []) (drop len bytes) fewer next in
     let r' : Reads g blob (cut g (fs ++ f ∷ [])) (read_for turns g (whole_of g (fs ++ f ∷ [])) (begun_of g (fs ++ f ∷ [])) (length (bytes_of fs) + len)
     (drop len bytes))
@@ -167,12 +167,12 @@ step_reads g blob turns fs bytes again few front (field value len) h =
     (g.record_of (whole_of g fs) (begun_of g fs ++ value ∷ [])) r''
 
 pub read_for-reads : {R : Type 0} (g : Grammar R) (blob : List ℕ) (turns : ℕ) (fs : List Field) (bytes : List ℕ) → length bytes < turns
-    → AtFront g blob fs bytes
+    → AtStart g blob fs bytes
     → Reads g blob (cut g fs) (read_for turns g (whole_of g fs) (begun_of g fs) (length (bytes_of fs)) bytes)
 unfolding read_for
-read_for-reads g blob zero fs bytes few front = absurd (omega arith)
-read_for-reads g blob (suc turns) fs bytes few front =
-    step_reads g blob turns fs bytes (λ gs rest l a. read_for-reads g blob turns gs rest l a) few front (step g (whole_of g fs) (begun_of g fs) bytes)
+read_for-reads g blob zero fs bytes few prefix = absurd (omega arith)
+read_for-reads g blob (suc turns) fs bytes few prefix =
+    step_reads g blob turns fs bytes (λ gs rest l a. read_for-reads g blob turns gs rest l a) few prefix (step g (whole_of g fs) (begun_of g fs) bytes)
     (step-is g fs bytes)
 
 -- What is left at the start is the blob's reading.

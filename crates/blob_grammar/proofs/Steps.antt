@@ -6,9 +6,9 @@ use Rattle.ppdb_base.specs.declared.Code.TheVariants.{BlobEnd, ValueRange}
 use Rattle.std.proofs.lemmas.List.{length-drop, drop-drop, drop_all}
 use Rattle.ppdb_base.specs.declared.BlobFault.{BlobFault}
 use Rattle.blob_grammar.specs.Grammar.{Value, Form, unsigned, signed, byte, word, fixed, rest, character, Grammar}
-use Rattle.blob_grammar.specs.Reader.{Left, field_at, unsigned_at, signed_at, is_empty, Step, field, stop, bad, stop_or, if_allowed}
+use Rattle.blob_grammar.specs.Reader.{Left, field_at, unsigned_at, signed_at, is_empty, Step, field, stop, invalid, stop_or, if_allowed}
 use Rattle.blob_grammar.specs.Reader.{step_at, step_in, step, push, close_and, take_step, read_for, read_from}
-use Rattle.blob_grammar.proofs.Fields.{Front, FieldFound, field-is}
+use Rattle.blob_grammar.proofs.Fields.{Prefix, FieldFound, field-is}
 
 -- ---- the turns do not matter, if there are enough
 
@@ -16,9 +16,9 @@ use Rattle.blob_grammar.proofs.Fields.{Front, FieldFound, field-is}
 abbrev pub Takes : List ℕ → Step → Type 0
 Takes bytes (field value len) = (1 ≤ len) × (len ≤ length bytes)
 Takes bytes stop = Unit {0}
-Takes bytes (bad code) = Unit {0}
+Takes bytes (invalid code) = Unit {0}
 
-takes_value : (bytes : List ℕ) (form : Form) (x : Value × ℕ) (b : Bool) → Front (λ text. Unit {0}) bytes x.1 → Takes bytes (if_allowed b x.0 x.1)
+takes_value : (bytes : List ℕ) (form : Form) (x : Value × ℕ) (b : Bool) → Prefix (λ text. Unit {0}) bytes x.1 → Takes bytes (if_allowed b x.0 x.1)
 takes_value bytes form x true f = (omega (arith, f.len_is, f.positive), omega (arith, f.within))
 takes_value bytes form x false f = tt
 
@@ -58,7 +58,7 @@ same_take : {R : Type 0} (g : Grammar R) (h k : ℕ → List R → List Value �
 same_take g h k whole begun at bytes (field value len) less e = same_close (h len) (k len) whole (begun ++ value ∷ []) (g.record_of whole (begun ++ value ∷ []))
     (e len (omega (arith, less.0, less.1, length-drop len bytes)))
 same_take g h k whole begun at bytes stop less e = refl
-same_take g h k whole begun at bytes (bad code) less e = refl
+same_take g h k whole begun at bytes (invalid code) less e = refl
 
 pub enough : {R : Type 0} (g : Grammar R) (m n : ℕ) (whole : List R) (begun : List Value) (at : ℕ) (bytes : List ℕ) → length bytes < m → length bytes < n
     → read_for m g whole begun at bytes ≡ read_for n g whole begun at bytes
@@ -104,7 +104,7 @@ take-alike : {R : Type 0} (g h : Grammar R) (E : List R → List R → Type 0) �
     (vs : List Value) (at : ℕ) (s : Step) → E a b
     → ((len : ℕ) (c d : List R) (ws : List Value) → E c d → on_g len c ws ≡ on_h len d ws) → take_step g on_g a vs at s ≡ take_step h on_h b vs at s
 take-alike g h E k on_g on_h a b vs at stop e again = refl
-take-alike g h E k on_g on_h a b vs at (bad code) e again = refl
+take-alike g h E k on_g on_h a b vs at (invalid code) e again = refl
 take-alike {R = R} g h E k on_g on_h a b vs at (field value len) e again =
     ap (close_and (on_g len) a (vs ++ value ∷ [])) (k.record_of a b (vs ++ value ∷ []) e) ∙ close-alike (h.record_of b (vs ++ value ∷ []))
   where
@@ -164,7 +164,7 @@ pub left-out : {R : Type 0} (g : Grammar R) (whole : List R) (begun : List Value
     → g.form whole begun ≡ Some form → field_at form (drop at blob) ≡ Ok (value, len) → g.allows whole begun value ≡ false
     → left_at g whole begun blob at ≡ nothing_left (Some (record { code = ValueRange; byte = at }))
 left-out g whole begun blob at form value len expected found allowed =
-    to_step g whole begun blob at (Some form) (bad ValueRange) expected (ap (step_at g whole begun (drop at blob)) found
+    to_step g whole begun blob at (Some form) (invalid ValueRange) expected (ap (step_at g whole begun (drop at blob)) found
     ∙ ap (λ b. if_allowed b value len) allowed)
 
 pub not_empty : (blob : List ℕ) (at : ℕ) → at < length blob → is_empty (drop at blob) ≡ false
@@ -179,7 +179,7 @@ pub left-none : {R : Type 0} (g : Grammar R) (whole : List R) (begun : List Valu
     → g.form whole begun ≡ Some form → field_at form (drop at blob) ≡ Err code → (is_empty (drop at blob) && g.may_stop whole begun) ≡ false
     → left_at g whole begun blob at ≡ nothing_left (Some (record { code = code; byte = at }))
 left-none g whole begun blob at form code expected none goes_on =
-    to_step g whole begun blob at (Some form) (bad code) expected (ap (step_at g whole begun (drop at blob)) none ∙ ap (λ b. stop_or b code) goes_on)
+    to_step g whole begun blob at (Some form) (invalid code) expected (ap (step_at g whole begun (drop at blob)) none ∙ ap (λ b. stop_or b code) goes_on)
 
 ge-false : (a b : ℕ) → b ≤ a → ltb a b ≡ false
 ge-false a b h = grind arith

@@ -1,4 +1,4 @@
--- What is known of a compressed number at a place of a blob, as what stands at the front of the bytes from there.
+-- What is known of a compressed number at a place of a blob, as what stands at the start of the bytes from there.
 use Rattle.std.proofs.Common.{◌≡◌, ℕ, suc, ◌+◌, ◌<◌, ◌≤◌, true, false, ltb, List, [], ◌∷◌, ◌++◌, length, take, drop, Result, Ok, Err}
 use Rattle.std.proofs.Common.{refl, sym, ap, ◌∙◌, arith, ℤ, inl, inr}
 use Rattle.std.specs.Prelude.{◌↔◌, slice_index}
@@ -36,9 +36,9 @@ signed-stands bytes at v len h =
     ap signed_at p.0 ∙ signed-all (take len (drop at bytes)) v (drop len (drop at bytes)) h.spelled
     ∙ ap (λ (n : ℕ). let r : Result (ℤ × ℕ) IntFault = Ok (v, n) in r) p.1
 
-form-front : (b : ℕ) (bs : List ℕ) → 0xE0 ≤ b → unsigned_at (b ∷ bs) ≡ Err NoForm
+form-prefix : (b : ℕ) (bs : List ℕ) → 0xE0 ≤ b → unsigned_at (b ∷ bs) ≡ Err NoForm
 unfolding unsigned_at
-form-front b bs h = rw (ge-false b 0x80 (omega arith), ge-false b 0xC0 (omega arith), ge-false b 0xE0 h) refl
+form-prefix b bs h = rw (ge-false b 0x80 (omega arith), ge-false b 0xC0 (omega arith), ge-false b 0xE0 h) refl
 
 two-short : (b : ℕ) (bs : List ℕ) → length (b ∷ bs) < 2 → two_at b bs ≡ Err End
 unfolding two_at
@@ -52,9 +52,9 @@ four-short b (c ∷ []) h = refl
 four-short b (c ∷ d ∷ []) h = refl
 four-short b (c ∷ d ∷ e ∷ bs) h = absurd (omega arith)
 
-cut-front : (b : ℕ) (bs : List ℕ) → b < 0xE0 → length (b ∷ bs) < len_named b → unsigned_at (b ∷ bs) ≡ Err End
+cut-prefix : (b : ℕ) (bs : List ℕ) → b < 0xE0 → length (b ∷ bs) < len_named b → unsigned_at (b ∷ bs) ≡ Err End
 unfolding unsigned_at
-cut-front b bs low short =
+cut-prefix b bs low short =
     elim (cases_lt b 0x80) [
       | inl one ↦ absurd (let s : length (b ∷ bs) < 1 = (rw (lt-true b 0x80 one) at short) in omega arith)
       | inr two ↦ rw (ge-false b 0x80 two)
@@ -64,26 +64,26 @@ cut-front b bs low short =
           ])
     ]
 
-none-front : unsigned_at [] ≡ Err End
+none-prefix : unsigned_at [] ≡ Err End
 unfolding unsigned_at
-none-front = refl
+none-prefix = refl
 
 unsigned-no_form : (bytes : List ℕ) (at : ℕ) → HasNoForm bytes at → unsigned_at (drop at bytes) ≡ Err NoForm
-unsigned-no_form bytes at h = ap unsigned_at (drop-cons bytes at 0 h.0) ∙ form-front (slice_index bytes at) (drop (suc at) bytes) h.1
+unsigned-no_form bytes at h = ap unsigned_at (drop-cons bytes at 0 h.0) ∙ form-prefix (slice_index bytes at) (drop (suc at) bytes) h.1
 
 cut-left : (bytes : List ℕ) (at : ℕ) → at < length bytes → slice_index bytes at < 0xE0 → length bytes < at + len_named (slice_index bytes at)
     → unsigned_at (drop at bytes) ≡ Err End
 cut-left bytes at there low short =
     let e : drop at bytes ≡ slice_index bytes at ∷ drop (suc at) bytes = drop-cons bytes at 0 there in
     let n : length (slice_index bytes at ∷ drop (suc at) bytes) < len_named (slice_index bytes at) = omega (arith, length-drop at bytes, ap length e) in
-    ap unsigned_at e ∙ cut-front (slice_index bytes at) (drop (suc at) bytes) low n
+    ap unsigned_at e ∙ cut-prefix (slice_index bytes at) (drop (suc at) bytes) low n
 
 unsigned-cut_off : (bytes : List ℕ) (at : ℕ) → IsCutOff bytes at → unsigned_at (drop at bytes) ≡ Err End
-unsigned-cut_off bytes at (inl past) = ap unsigned_at (drop_all at bytes past) ∙ none-front
+unsigned-cut_off bytes at (inl past) = ap unsigned_at (drop_all at bytes past) ∙ none-prefix
 unsigned-cut_off bytes at (inr h) =
     elim (cases_lt at (length bytes)) [
       | inl there ↦ cut-left bytes at there h.0 h.1
-      | inr past ↦ ap unsigned_at (drop_all at bytes past) ∙ none-front
+      | inr past ↦ ap unsigned_at (drop_all at bytes past) ∙ none-prefix
     ]
 
 -- Why no number stands there.

@@ -8,7 +8,7 @@ use Rattle.blob_grammar.specs.Grammar.{Value, number, integer, octets, Form, uns
 use Rattle.blob_grammar.specs.Reading.{BeginsNoNumber, IsOutOfRange, IsFaultOf, Ends, Reading, IsReadOnce}
 use Rattle.blob_grammar.specs.Reader.{read_from}
 use Rattle.blob_grammar.proofs.Fields.{BeginsNone}
-use Rattle.blob_grammar.proofs.Fronts.{front-unique}
+use Rattle.blob_grammar.proofs.Prefixes.{prefix-unique}
 use Rattle.blob_grammar.proofs.Readers.{read_from-reads}
 
 no_number : (text : List ℕ) (v : ℕ) (left : List ℕ) → SpellsUnsigned text v → BeginsNone (text ++ left) → ⊥
@@ -101,7 +101,7 @@ ends-unique g fs after (Some a) (Some b) p q =
 pub reading-unique : {R : Type 0} (g : Grammar R) (blob : List ℕ) (a b : List R) (e d : Option BlobFault) → Reading g blob a e → Reading g blob b d
     → (a ≡ b) × (e ≡ d)
 reading-unique g blob a b e d p q =
-    let r : (p.fields ≡ q.fields) × (p.after ≡ q.after) = front-unique g blob p.fields q.fields p.after q.after p.front q.front in
+    let r : (p.fields ≡ q.fields) × (p.after ≡ q.after) = prefix-unique g blob p.fields q.fields p.after q.after p.prefix q.prefix in
     let f : p.fields ≡ q.fields = r.0 in
     let t : p.after ≡ q.after = r.1 in
     let ends : Ends g p.fields p.after d =
@@ -116,6 +116,6 @@ read-once g blob =
       records = left.items;
       fault = left.fault;
       reading = read_from-reads g blob;
-      one_front = λ a b x y p q. front-unique g blob a b x y p q;
+      one_prefix = λ a b x y p q. prefix-unique g blob a b x y p q;
       one_reading = λ others end h. reading-unique g blob others left.items end left.fault h (read_from-reads g blob);
     }

@@ -7,9 +7,9 @@ use Rattle.ppdb_base.specs.declared.Code.{Code}
 use Rattle.ppdb_base.specs.declared.Code.TheVariants.{ValueRange, BlobEnd}
 use Rattle.blob_grammar.specs.Grammar.{Value, Form, Grammar, Cut, closed, with_value}
 use Rattle.blob_grammar.specs.Places.{PlacedField, placed_from, HasFields, HasEnd}
-use Rattle.blob_grammar.specs.Reader.{Left, field_at, is_empty, Step, field, stop, bad, stop_or, if_allowed, step_at, step_in, step}
+use Rattle.blob_grammar.specs.Reader.{Left, field_at, is_empty, Step, field, stop, invalid, stop_or, if_allowed, step_at, step_in, step}
 use Rattle.blob_grammar.specs.Reader.{close_and, take_step, read_from, take_field, fields_from, fields_left}
-use Rattle.blob_grammar.proofs.FrontFields.{fields_from-step, front_of-fields}
+use Rattle.blob_grammar.proofs.PrefixFields.{fields_from-step, prefix_of-fields}
 use Rattle.blob_grammar.proofs.Readers.{read_from-reads}
 use Rattle.blob_grammar.proofs.Steps.{Takes, takes_in, read_from-step, nothing_left, Alike}
 
@@ -18,7 +18,7 @@ abbrev pub push_all : {X : Type 0} → List X → Left X → Left X
 push_all xs left = record { items = xs ++ left.items; fault = left.fault }
 
 module _ {R X : Type 0} (g : Grammar R) (tell : PlacedField → List X) where
-  -- what a walk tells of a field
+  -- what a walk reports of a field
   abbrev pub told : Cut R → ℕ → Value → List X
   told place at value = tell (record { byte = at; before = place.begun; value = value })
 
@@ -26,7 +26,7 @@ module _ {R X : Type 0} (g : Grammar R) (tell : PlacedField → List X) where
   abbrev pub after_step : Cut R → ℕ → List ℕ → Step → Left X
   after_step place at bytes (field value len) = push_all (told place at value) (fields_left g tell (with_value g place value) (at + len) (drop len bytes))
   after_step place at bytes stop = nothing_left None
-  after_step place at bytes (bad code) = nothing_left (Some (record { code = code; byte = at }))
+  after_step place at bytes (invalid code) = nothing_left (Some (record { code = code; byte = at }))
 
   abbrev goes_on : ℕ → List ℕ → ℕ → List R → List Value → Left R
   goes_on at bytes len w b = read_from g w b (at + len) (drop len bytes)
@@ -45,14 +45,14 @@ module _ {R X : Type 0} (g : Grammar R) (tell : PlacedField → List X) where
   walked-is : (place : Cut R) (at : ℕ) (bytes : List ℕ) (s : Step) → Takes bytes s → walked place at bytes s ≡ after_step place at bytes s
   unfolding fields_left
   walked-is place at bytes stop takes = refl
-  walked-is place at bytes (bad code) takes = refl
+  walked-is place at bytes (invalid code) takes = refl
   walked-is place at bytes (field value len) takes =
       let next = with_value g place value in
       let taken : length (take len bytes) ≡ len = length-take-le len bytes takes.1 in
       let fault = closes at bytes len place.whole (place.begun ++ value ∷ []) (g.record_of place.whole (place.begun ++ value ∷ [])) in
       rw (taken, fault) refl
 
-  -- What is left is what one step tells, and what is left then.
+  -- What is left is what one step reports, and what is left then.
   pub fields_left-step : (place : Cut R) (at : ℕ) (bytes : List ℕ)
       → fields_left g tell place at bytes ≡ after_step place at bytes (step g place.whole place.begun bytes)
   unfolding fields_left
@@ -80,7 +80,7 @@ module _ {R X : Type 0} (g : Grammar R) (tell : PlacedField → List X) where
       → g.form place.whole place.begun ≡ Some form → field_at form bytes ≡ Ok (value, len) → g.allows place.whole place.begun value ≡ false
       → fields_left g tell place at bytes ≡ nothing_left (Some (record { code = ValueRange; byte = at }))
   walk-out place at bytes form value len expected found allowed =
-      to_step place at bytes (Some form) (bad ValueRange) expected (ap (step_at g place.whole place.begun bytes) found
+      to_step place at bytes (Some form) (invalid ValueRange) expected (ap (step_at g place.whole place.begun bytes) found
       ∙ ap (λ b. if_allowed b value len) allowed)
 
   -- No field is there, and the blob may not end there.
@@ -88,7 +88,7 @@ module _ {R X : Type 0} (g : Grammar R) (tell : PlacedField → List X) where
       → g.form place.whole place.begun ≡ Some form → field_at form bytes ≡ Err code → (is_empty bytes && g.may_stop place.whole place.begun) ≡ false
       → fields_left g tell place at bytes ≡ nothing_left (Some (record { code = code; byte = at }))
   walk-none place at bytes form code expected none stays =
-      to_step place at bytes (Some form) (bad code) expected (ap (step_at g place.whole place.begun bytes) none ∙ ap (λ b. stop_or b code) stays)
+      to_step place at bytes (Some form) (invalid code) expected (ap (step_at g place.whole place.begun bytes) none ∙ ap (λ b. stop_or b code) stays)
 
   -- The end of a whole blob.
   pub walk-end : (place : Cut R) (at : ℕ) (form : Form) (code : Code) → g.form place.whole place.begun ≡ Some form → field_at form [] ≡ Err code
@@ -100,13 +100,13 @@ module _ {R X : Type 0} (g : Grammar R) (tell : PlacedField → List X) where
   -- What is left at the start is the whole walk.
   pub walk-fields : (blob : List ℕ) → HasFields g tell blob (fields_left g tell (record { whole = []; begun = [] }) 0 blob).items
   unfolding fields_left
-  walk-fields blob = front_of-fields g tell blob
+  walk-fields blob = prefix_of-fields g tell blob
 
   pub walk-end_is : (blob : List ℕ) → HasEnd g blob (fields_left g tell (record { whole = []; begun = [] }) 0 blob).fault
   unfolding fields_left
   walk-end_is blob = ((read_from g [] [] 0 blob).items, read_from-reads g blob)
 
-  -- ---- places after which the grammar asks, and the walk tells, the same
+  -- ---- places after which the grammar asks, and the walk reports, the same
 
   pub record AlikeAt (E : Cut R → Cut R → Type 0) : Type 0 where
     pub form : (a b : Cut R) → E a b → g.form a.whole a.begun ≡ g.form b.whole b.begun
@@ -155,7 +155,7 @@ module _ {R X : Type 0} (g : Grammar R) (tell : PlacedField → List X) where
     abbrev Allowed : Cut R → Step → Type 0
     Allowed a (field value len) = g.allows a.whole a.begun value ≡ true
     Allowed a stop = Unit {0}
-    Allowed a (bad code) = Unit {0}
+    Allowed a (invalid code) = Unit {0}
 
     allowed_if : (a : Cut R) (b : Bool) (value : Value) (len : ℕ) → g.allows a.whole a.begun value ≡ b → Allowed a (if_allowed b value len)
     allowed_if a true value len e = e
@@ -179,7 +179,7 @@ module _ {R X : Type 0} (g : Grammar R) (tell : PlacedField → List X) where
         → fields_left g tell c (at + len) (drop len bytes) ≡ fields_left g tell d (at + len) (drop len bytes))
         → (s : Step) → Takes bytes s → Allowed a s → after_step a at bytes s ≡ after_step b at bytes s
     same_after a b at bytes e again stop takes allowed = refl
-    same_after a b at bytes e again (bad code) takes allowed = refl
+    same_after a b at bytes e again (invalid code) takes allowed = refl
     same_after a b at bytes e again (field value len) takes allowed =
         let left =
         again (with_value g a value) (with_value g b value) len (omega (arith, takes.0, takes.1, length-drop len bytes)) (k.keeps a b value e allowed) in

@@ -5,7 +5,7 @@ use Rattle.std.specs.List.{flat_map}
 use Rattle.std.proofs.lemmas.List.Sums.{fold-append}
 use Rattle.std.proofs.lemmas.Grind.{flat_map-append}
 use Rattle.blob_grammar.specs.Grammar.{number, unsigned, Field, Grammar, Cut, with_value, cut, bytes_of, IsAllowed, EachFollows}
-use Rattle.blob_grammar.specs.Reading.{IsLongestFront, Reading}
+use Rattle.blob_grammar.specs.Reading.{IsLongestPrefix, Reading}
 use Rattle.blob_grammar.specs.Places.{PlacedField, placed_from, placed_of, HasFields}
 use Rattle.blob_grammar.specs.Reader.{field_at}
 pub use Rattle.blob_grammar.specs.Reader.{cut_from}
@@ -13,7 +13,7 @@ use Rattle.cli_ints.specs.Compressed.{SpellsUnsigned}
 use Rattle.cli_ints.specs.Shortest.{short_unsigned}
 use Rattle.cli_ints.proofs.Shortest.{short_unsigned-shortest}
 use Rattle.blob_grammar.proofs.Fields.{FieldFound, field-is, field-all}
-use Rattle.blob_grammar.proofs.Fronts.{cut-push, IsStuck, longest_where_stuck}
+use Rattle.blob_grammar.proofs.Prefixes.{cut-push, IsStuck, longest_where_stuck}
 
 -- the fields are allowed after a place
 abbrev pub FollowFrom : {R : Type 0} → Grammar R → Cut R → List Field → List ℕ → Type 0
@@ -80,15 +80,15 @@ stuck_at_end g fs f left e m =
     let none = subst (FieldFound m.form []) there (field-is m.form []) in
     omega (arith, none.positive, none.within)
 
--- Fields that are allowed one after the other are the longest valid front of what they spell.
-pub fields_longest : {R : Type 0} (g : Grammar R) (fs : List Field) → FollowFrom g (after []) fs [] → IsLongestFront g (bytes_of fs) fs []
+-- Fields that are allowed one after the other are the longest valid prefix of what they spell.
+pub fields_longest : {R : Type 0} (g : Grammar R) (fs : List Field) → FollowFrom g (after []) fs [] → IsLongestPrefix g (bytes_of fs) fs []
 fields_longest g fs h =
     longest_where_stuck g (bytes_of fs) fs [] (record { bytes = sym (append-nil (bytes_of fs)); each = follow-each g [] fs [] h }) (stuck_at_end g fs)
 
--- So a walk tells of them, and of nothing else.
+-- So a walk reports of them, and of nothing else.
 pub written_fields : {R X : Type 0} (g : Grammar R) (tell : PlacedField → List X) (fs : List Field) → FollowFrom g (after []) fs []
     → HasFields g tell (bytes_of fs) (flat_map tell (placed_of g fs))
-written_fields g tell fs h = record { fields = fs; after = []; front = fields_longest g fs h; items_are = refl }
+written_fields g tell fs h = record { fields = fs; after = []; prefix = fields_longest g fs h; items_are = refl }
 
 pub placed_from-append : {R : Type 0} (g : Grammar R) (c : Cut R) (at : ℕ) (fs gs : List Field) → placed_from g c at (fs ++ gs) ≡ placed_from g c at fs
     ++ placed_from g (cut_from g c fs) (at + length (bytes_of fs)) gs
@@ -117,7 +117,7 @@ pub fields_read : {R : Type 0} (g : Grammar R) (fs : List Field) → FollowFrom 
 fields_read g fs h stops = record {
   fields = fs;
   after = [];
-  front = fields_longest g fs h;
+  prefix = fields_longest g fs h;
   made = refl;
   ends = (refl, stops);
 }

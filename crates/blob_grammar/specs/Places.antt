@@ -3,7 +3,7 @@ use Rattle.std.specs.Prelude.{◌≡◌, ℕ, ◌+◌, List, [], ◌∷◌, leng
 use Rattle.std.specs.List.{flat_map}
 use Rattle.ppdb_base.specs.declared.BlobFault.{BlobFault}
 use Rattle.blob_grammar.specs.Grammar.{Value, Field, Grammar, Cut, with_value}
-use Rattle.blob_grammar.specs.Reading.{IsLongestFront, Reading}
+use Rattle.blob_grammar.specs.Reading.{IsLongestPrefix, Reading}
 
 -- A field where it stands: its byte in the blob, the values of its record before it, and its value.
 pub record PlacedField : Type 0 where
@@ -17,15 +17,15 @@ placed_from g place at [] = []
 placed_from g place at (f ∷ fs) =
     record { byte = at; before = place.begun; value = f.value } ∷ placed_from g (with_value g place f.value) (at + length f.bytes) fs
 
--- The fields at a blob's front.
+-- The fields at a blob's prefix.
 abbrev pub placed_of : {R : Type 0} → Grammar R → List Field → List PlacedField
 placed_of g fields = placed_from g (record { whole = []; begun = [] }) 0 fields
 
--- What a walk tells of the fields of the blob's longest valid front, in order.
+-- What a walk reports of the fields of the blob's longest valid prefix, in order.
 pub record HasFields {R X : Type 0} (g : Grammar R) (tell : PlacedField → List X) (blob : List ℕ) (items : List X) : Type 0 where
   pub fields : List Field
   pub after : List ℕ
-  pub front : IsLongestFront g blob fields after
+  pub prefix : IsLongestPrefix g blob fields after
   pub items_are : items ≡ flat_map tell (placed_of g fields)
 
 -- The blob ends so: whole, or with this fault.

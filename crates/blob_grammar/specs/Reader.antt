@@ -55,7 +55,7 @@ abbrev pub placed : {V : Type 0} → ℕ → Result (V × ℕ) IntFault → Resu
 placed at (Ok x) = Ok x
 placed at (Err e) = Err (record { code = code_of e; byte = at })
 
--- the unsigned number at the front of the bytes, and its length, or why none is there
+-- the unsigned number at the start of the bytes, and its length, or why none is there
 unfoldable pub two_at : ℕ → List ℕ → Result (ℕ × ℕ) IntFault
 two_at b (c ∷ _) = if nat_lt c 256 then Ok ((b - 0x80) * 256 + c, 2) else Err End
 two_at b _ = Err End
@@ -73,11 +73,11 @@ abbrev pub signed_of : Result (ℕ × ℕ) IntFault → Result (ℤ × ℕ) IntF
 signed_of (Ok x) = Ok (unrotated (2 ^ (bits_of x.1 - 1)) x.0, x.1)
 signed_of (Err e) = Err e
 
--- the signed number at the front of the bytes
+-- the signed number at the start of the bytes
 unfoldable pub signed_at : List ℕ → Result (ℤ × ℕ) IntFault
 signed_at bytes = signed_of (unsigned_at bytes)
 
--- how many bytes the character at the front has, by the rows of Unicode's table 3-7; 0 where none is there
+-- how many bytes the character at the start has, by the rows of Unicode's table 3-7; 0 where none is there
 unfoldable pub character_len : List ℕ → ℕ
 character_len bytes =
     if is_character (take 1 bytes) then 1 else
@@ -100,7 +100,7 @@ abbrev pub word_at : List ℕ → Result (ℕ × ℕ) IntFault
 word_at (a ∷ b ∷ c ∷ d ∷ _) = Ok (from_le_bytes w32 (a ∷ b ∷ c ∷ d ∷ []), 4)
 word_at _ = Err End
 
--- the field at the front of the bytes: its value and its length, or why none is there
+-- the field at the start of the bytes: its value and its length, or why none is there
 abbrev pub field_at : Form → List ℕ → Result (Value × ℕ) Code
 field_at unsigned bytes = as_number (unsigned_at bytes)
 field_at signed bytes = as_integer (signed_at bytes)
@@ -131,15 +131,15 @@ is_empty (_ ∷ _) = false
 pub data Step : Type 0 where
   field : Value → ℕ → Step
   stop : Step
-  bad : Code → Step
+  invalid : Code → Step
 
 abbrev pub stop_or : Bool → Code → Step
 stop_or true code = stop
-stop_or false code = bad code
+stop_or false code = invalid code
 
 abbrev pub if_allowed : Bool → Value → ℕ → Step
 if_allowed true value len = field value len
-if_allowed false value len = bad ValueRange
+if_allowed false value len = invalid ValueRange
 
 abbrev pub step_at : {R : Type 0} → Grammar R → List R → List Value → List ℕ → Result (Value × ℕ) Code → Step
 step_at g whole begun bytes (Ok x) = if_allowed (g.allows whole begun x.0) x.0 x.1
@@ -148,7 +148,7 @@ step_at g whole begun bytes (Err code) = stop_or (is_empty bytes && g.may_stop w
 abbrev pub step_in : {R : Type 0} → Grammar R → List R → List Value → List ℕ → Option Form → Step
 step_in g whole begun bytes (Some form) = step_at g whole begun bytes (field_at form bytes)
 step_in g whole begun [] None = stop_or (g.may_stop whole begun) BlobEnd
-step_in g whole begun (b ∷ bytes) None = bad ValueRange
+step_in g whole begun (b ∷ bytes) None = invalid ValueRange
 
 abbrev pub step : {R : Type 0} → Grammar R → List R → List Value → List ℕ → Step
 step g whole begun bytes = step_in g whole begun bytes (g.form whole begun)
@@ -160,7 +160,7 @@ close_and goes_on whole begun (Some r) = push r (goes_on (whole ++ r ∷ []) [])
 abbrev pub take_step : {R : Type 0} → Grammar R → (ℕ → List R → List Value → Left R) → List R → List Value → ℕ → Step → Left R
 take_step g goes_on whole begun at (field v len) = close_and (goes_on len) whole (begun ++ v ∷ []) (g.record_of whole (begun ++ v ∷ []))
 take_step g goes_on whole begun at stop = record { items = []; fault = None }
-take_step g goes_on whole begun at (bad code) = record { items = []; fault = Some (record { code = code; byte = at }) }
+take_step g goes_on whole begun at (invalid code) = record { items = []; fault = Some (record { code = code; byte = at }) }
 
 unfoldable pub read_for : {R : Type 0} → ℕ → Grammar R → List R → List Value → ℕ → List ℕ → Left R
 read_for zero g whole begun at bytes = record { items = []; fault = None }
@@ -177,30 +177,30 @@ abbrev pub take_field : {R : Type 0} → Grammar R → (ℕ → List R → List 
 take_field g goes_on place bytes (field v len) =
     record { bytes = take len bytes; value = v } ∷ goes_on len (with_value g place v).whole (with_value g place v).begun
 take_field g goes_on place bytes stop = []
-take_field g goes_on place bytes (bad code) = []
+take_field g goes_on place bytes (invalid code) = []
 
 unfoldable pub fields_for : {R : Type 0} → ℕ → Grammar R → List R → List Value → List ℕ → List Field
 fields_for zero g whole begun bytes = []
 fields_for (suc turns) g whole begun bytes =
     take_field g (λ len w b. fields_for turns g w b (drop len bytes)) (record { whole = whole; begun = begun }) bytes (step g whole begun bytes)
 
--- the fields of the longest valid front from a place on, after these whole records and these values of the next one
+-- the fields of the longest valid prefix from a place on, after these whole records and these values of the next one
 unfoldable pub fields_from : {R : Type 0} → Grammar R → List R → List Value → List ℕ → List Field
 fields_from g whole begun bytes = fields_for (suc (length bytes)) g whole begun bytes
 
--- the fields of the blob's longest valid front
-abbrev pub front_of : {R : Type 0} → Grammar R → List ℕ → List Field
-front_of g blob = fields_from g [] [] blob
+-- the fields of the blob's longest valid prefix
+abbrev pub prefix_of : {R : Type 0} → Grammar R → List ℕ → List Field
+prefix_of g blob = fields_from g [] [] blob
 
 -- what fields make after a place of the grammar
 abbrev pub cut_from : {R : Type 0} → Grammar R → Cut R → List Field → Cut R
 cut_from g c fields = fold (λ c f. with_value g c f.value) c fields
 
--- the values of the record that has begun where the longest valid front ends, from a place on
+-- the values of the record that has begun where the longest valid prefix ends, from a place on
 unfoldable pub begun_from : {R : Type 0} → Grammar R → List R → List Value → List ℕ → List Value
 begun_from g whole begun bytes = (cut_from g (record { whole = whole; begun = begun }) (fields_from g whole begun bytes)).begun
 
--- what a walk tells of the fields from a place of the grammar and a byte on, and how the blob ends
+-- what a walk reports of the fields from a place of the grammar and a byte on, and how the blob ends
 unfoldable pub fields_left : {R X : Type 0} → Grammar R → (PlacedField → List X) → Cut R → ℕ → List ℕ → Left X
 fields_left g tell place at bytes = record {
   items = flat_map tell (placed_from g place at (fields_from g place.whole place.begun bytes));

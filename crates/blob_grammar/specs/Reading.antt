@@ -3,12 +3,12 @@ use Rattle.std.specs.Prelude.{◌≡◌, ◌≢◌, ℕ, ◌≤◌, List, [], �
 use Rattle.ppdb_base.specs.declared.Code.{Code}
 use Rattle.ppdb_base.specs.declared.Code.TheVariants.{BlobEnd, IntegerForm, ValueRange}
 use Rattle.ppdb_base.specs.declared.BlobFault.{BlobFault}
-use Rattle.blob_grammar.specs.Grammar.{Form, unsigned, signed, character, Spells, Field, Grammar, cut, bytes_of, AtFront}
+use Rattle.blob_grammar.specs.Grammar.{Form, unsigned, signed, character, Spells, Field, Grammar, cut, bytes_of, AtStart}
 
--- The longest valid front: the longest list of fields at the blob's front in which each is allowed after those before it.
-pub record IsLongestFront {R : Type 0} (g : Grammar R) (blob : List ℕ) (fields : List Field) (after : List ℕ) : Type 0 where
-  pub at_front : AtFront g blob fields after
-  pub longest : (others : List Field) (left : List ℕ) → AtFront g blob others left → length others ≤ length fields
+-- The longest valid prefix: the longest list of fields at the blob's prefix in which each is allowed after those before it.
+pub record IsLongestPrefix {R : Type 0} (g : Grammar R) (blob : List ℕ) (fields : List Field) (after : List ℕ) : Type 0 where
+  pub at_start : AtStart g blob fields after
+  pub longest : (others : List Field) (left : List ℕ) → AtStart g blob others left → length others ≤ length fields
 
 -- A compressed number may come there, and the byte that stands there begins none.
 abbrev pub BeginsNoNumber : Option Form → List ℕ → Type 0
@@ -26,35 +26,35 @@ abbrev pub IsOutOfRange : Option Form → List ℕ → Type 0
 IsOutOfRange (Some form) after = IsFieldThere form after ⊎ ((form ≡ character) × (after ≢ []))
 IsOutOfRange None after = after ≢ []
 
--- The fault at the first byte after the longest valid front: F38, F39, and F37 where neither holds.
+-- The fault at the first byte after the longest valid prefix: F38, F39, and F37 where neither holds.
 abbrev pub IsFaultOf : Code → Option Form → List ℕ → Type 0
 IsFaultOf IntegerForm form after = BeginsNoNumber form after
 IsFaultOf ValueRange form after = IsOutOfRange form after
 IsFaultOf BlobEnd form after = ¬ (BeginsNoNumber form after) × ¬ (IsOutOfRange form after)
 IsFaultOf _ form after = ⊥
 
--- The blob ends where its longest valid front ends, and the grammar may stop there.
+-- The blob ends where its longest valid prefix ends, and the grammar may stop there.
 abbrev pub EndsWhole : {R : Type 0} → Grammar R → List Field → List ℕ → Type 0
 EndsWhole g fields after = (after ≡ []) × (g.may_stop (cut g fields).whole (cut g fields).begun ≡ true)
 
--- How the blob ends after its longest valid front: whole, or with this fault.
+-- How the blob ends after its longest valid prefix: whole, or with this fault.
 abbrev pub Ends : {R : Type 0} → Grammar R → List Field → List ℕ → Option BlobFault → Type 0
 Ends g fields after None = EndsWhole g fields after
 Ends g fields after (Some fault) =
     ¬ (EndsWhole g fields after) × (fault.byte ≡ length (bytes_of fields)) × IsFaultOf fault.code (g.form (cut g fields).whole (cut g fields).begun) after
 
--- What the blob holds: the records that lie whole in its longest valid front, in order, and its fault, if it is not whole.
+-- What the blob holds: the records that lie whole in its longest valid prefix, in order, and its fault, if it is not whole.
 pub record Reading {R : Type 0} (g : Grammar R) (blob : List ℕ) (records : List R) (fault : Option BlobFault) : Type 0 where
   pub fields : List Field
   pub after : List ℕ
-  pub front : IsLongestFront g blob fields after
+  pub prefix : IsLongestPrefix g blob fields after
   pub made : records ≡ (cut g fields).whole
   pub ends : Ends g fields after fault
 
--- The blob is read in one way: it has one longest valid front, and one list of records with one end.
+-- The blob is read in one way: it has one longest valid prefix, and one list of records with one end.
 pub record IsReadOnce {R : Type 0} (g : Grammar R) (blob : List ℕ) : Type 0 where
   pub records : List R
   pub fault : Option BlobFault
   pub reading : Reading g blob records fault
-  pub one_front : (a b : List Field) (x y : List ℕ) → IsLongestFront g blob a x → IsLongestFront g blob b y → (a ≡ b) × (x ≡ y)
+  pub one_prefix : (a b : List Field) (x y : List ℕ) → IsLongestPrefix g blob a x → IsLongestPrefix g blob b y → (a ≡ b) × (x ≡ y)
   pub one_reading : (others : List R) (end : Option BlobFault) → Reading g blob others end → (others ≡ records) × (end ≡ fault)

@@ -47,14 +47,14 @@ fn is_character(bytes: &[u8]) -> bool
     }
 }
 
-/// Whether so many bytes at the front, or all where there are fewer, are a character.
+/// Whether so many bytes at the start, or all where there are fewer, are a character.
 fn begins_with(bytes: &[u8], len: usize) -> bool
     ensures { result ≡ is_well_formed (take len bytes.now) }
 {
     is_character(&bytes[..len.min(bytes.len())])
 }
 
-/// How many bytes the character at the front has; 0 where no well-formed one is there.
+/// How many bytes the character at the start has; 0 where no well-formed one is there.
 #[tactic(auto, unfolding(crate::specs::Reader::character_len))]
 fn character_len(bytes: &[u8]) -> usize
     ensures { result ≡ len_of_character bytes.now }
@@ -72,7 +72,7 @@ fn character_len(bytes: &[u8]) -> usize
     }
 }
 
-/// The UTF-8 character at a place of a blob. Bytes that begin none are out of range; `BlobEnd` is told only at the blob's end.
+/// The UTF-8 character at a place of a blob. Bytes that begin none are out of range; `BlobEnd` is reported only at the blob's end.
 pub fn character_field(blob: &[u8], at: usize) -> Result<&[u8], BlobFault>
     requires within { at ≤ length blob.now }
     requires short { length blob.now < 2 ^ 32 }

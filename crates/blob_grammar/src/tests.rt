@@ -34,7 +34,7 @@ fn lends_the_bytes_of_a_field(rt: HostRuntime) {
     assert_eq!(rt; rest_field(blob, 4).is_err(), true);
 }
 
-/// The bytes of the character at the front, or none where no well-formed one is there.
+/// The bytes of the character at the start, or none where no well-formed one is there.
 fn character_of<'a>(bytes: &'a [u8]) -> &'a [u8] {
     if bytes.len() < 8
         && let Ok(found) = character_field(bytes, 0)

@@ -16,9 +16,9 @@ use crate::laws::breaks_are_rows;
 use crate::method::MethodBreaks;
 use ppdb_base::Steps;
 use ppdb_verify::Verified;
+use ppdb_verify_rows::{count, method_debug, points_of};
 use std::marker::Model;
 use std::sync::ledger::Ledger;
-use verified_rows::{count, method_debug, points_of};
 
 /// The document is 0 or above the rows of Document.
 #[derive(Clone, Copy, Debug, PartialEq, Eq)]

@@ -11,8 +11,8 @@ use crate::laws::names_are_parts;
 use ppdb_base::Steps;
 use ppdb_heaps::NameCursor;
 use ppdb_verify::Verified;
+use ppdb_verify_rows::{count, document};
 use std::sync::ledger::Ledger;
-use verified_rows::{count, document};
 
 /// What follows two texts, one after the other, in a third; None where it does not begin with them.
 fn after_both<'t>(text: &'t [u8], first: &[u8], second: &[u8]) -> Option<&'t [u8]>
@@ -54,7 +54,7 @@ pub fn document_named<L: Ledger>(
     file.keeps();
     'rows: for row in 1..count(file, 0x30) + 1 {
         let cells = document(file, row, steps);
-        if has_name(verified_rows::name(file, row, &cells), name) {
+        if has_name(ppdb_verify_rows::name(file, row, &cells), name) {
             return Some(row);
         }
     }

@@ -4,7 +4,7 @@ use Rattle.std.specs.Option.{option_map}
 use Rattle.ppdb_base.specs.declared.Code.{Code}
 use Rattle.ppdb_base.specs.declared.Code.TheVariants.{BlobEnd}
 use Rattle.blob_grammar.specs.Grammar.{Value, Form, Grammar}
-use Rattle.blob_grammar.specs.Reader.{Left, field_at, is_empty, Step, field, stop, bad, stop_or, if_allowed, step_at, step_in, step}
+use Rattle.blob_grammar.specs.Reader.{Left, field_at, is_empty, Step, field, stop, invalid, stop_or, if_allowed, step_at, step_in, step}
 use Rattle.blob_grammar.specs.Reader.{push, close_and, take_step, read_for, read_from}
 
 -- what is left, each item under its other name
@@ -38,7 +38,7 @@ take-renamed : {R S : Type 0} (g : Grammar R) (h : Grammar S) (name : S → R) (
     → ((len : ℕ) (c : List R) (d : List S) (ws : List Value) → E c d → on_g len c ws ≡ renamed name (on_h len d ws))
     → take_step g on_g a vs at s ≡ renamed name (take_step h on_h b vs at s)
 take-renamed g h name E k on_g on_h a b vs at stop e again = refl
-take-renamed g h name E k on_g on_h a b vs at (bad code) e again = refl
+take-renamed g h name E k on_g on_h a b vs at (invalid code) e again = refl
 take-renamed {R = R} {S = S} g h name E k on_g on_h a b vs at (field value len) e again =
     ap (close_and (on_g len) a (vs ++ value ∷ [])) (k.record_of a b (vs ++ value ∷ []) e) ∙ close-renamed (h.record_of b (vs ++ value ∷ []))
   where

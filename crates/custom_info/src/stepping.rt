@@ -23,7 +23,7 @@ pub struct AsyncStep {
     pub method: u32,
 }
 
-/// The stored handler at the front of a blob, four bytes.
+/// The stored handler at the start of a blob, four bytes.
 fn handler_field(blob: &[u8]) -> Result<(u32, usize), BlobFault>
     requires { length blob.now < 2 ^ 32 }
     ensures found { result ≡ checked is_stored 0 (placed 0 (word_at blob.now)) }

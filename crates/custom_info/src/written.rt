@@ -1,4 +1,4 @@
-// Lists of items that are written one behind the other.
+// Lists of items that are written one after the other.
 ghost use Rattle.std.specs.Prelude.{◌≡◌, ◌++◌, ℕ, List, length, take, All, OnOk, OnErr};
 ghost use Rattle.std.specs.List.{flat_map};
 

@@ -4,9 +4,9 @@ use Rattle.std.specs.Prelude.{codes}
 use Rattle.std.specs.List.{flat_map}
 use Rattle.ppdb_maps.specs.Map.{Map}
 use Rattle.ppdb_maps.specs.Readable.{IsReadable}
-use Rattle.map_text.specs.declared.counted.Counted.{Counted}
-use Rattle.map_text.specs.MapTexts.{ended, map_text}
-use Rattle.map_text.specs.Putting.{Puts}
+use Rattle.ppdb_maps_text.specs.declared.counted.Counted.{Counted}
+use Rattle.ppdb_maps_text.specs.MapTexts.{ended, map_text}
+use Rattle.ppdb_maps_text.specs.Putting.{Puts}
 use Rattle.map_compose.specs.declared.part.Part.{Part}
 use Rattle.map_compose.specs.declared.part.Part.TheVariants.{Drops, Slots, Methods}
 use Rattle.map_compose.specs.Composed.{tables, composed}
@@ -25,7 +25,7 @@ counts_text start end text none empty short puts =
     let counted = puts.counted in
     record {
       length = omega (arith, counted, none, short);
-      kept = λ few. puts.kept few ∙ ap (λ front. front ++ text) empty;
+      kept = λ few. puts.kept few ∙ ap (λ prefix. prefix ++ text) empty;
     }
 
 abbrev part_text : Map → Map → Part → List ℕ

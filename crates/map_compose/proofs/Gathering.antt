@@ -6,7 +6,7 @@ use Rattle.std.proofs.lemmas.List.{append_assoc, append-nil}
 use Rattle.ppdb_base.specs.declared.offsets.Run.{Run}
 use Rattle.ppdb_base.specs.Offsets.{RiseFrom, end_of, new_end_of}
 use Rattle.ppdb_maps.specs.Forms.{OFFSETS}
-use Rattle.map_text.specs.declared.counted.Counted.{Counted}
+use Rattle.ppdb_maps_text.specs.declared.counted.Counted.{Counted}
 use Rattle.map_compose.specs.Runs.{meet, met, longest}
 use Rattle.map_compose.specs.Joining.{IsShort, AreRuns, Holding, JoinsRuns, JoinsOne, Joins}
 use Rattle.map_compose.proofs.JoinedRuns.{joins_same, joins_then, holding_same}
@@ -63,7 +63,7 @@ pub gathers_none : (old : List Run) → Gathers old old None []
 gathers_none old = record {
   given = [];
   are = sym (append-nil old);
-  joins = λ came front hold. holding_same came (came ++ []) front (front ++ []) None (sym (append-nil came)) (sym (append-nil front)) hold;
+  joins = λ came prefix hold. holding_same came (came ++ []) prefix (prefix ++ []) None (sym (append-nil came)) (sym (append-nil prefix)) hold;
 }
 
 pub gathers_next : (old mid new : List Run) (held : Option Run) (next : Run) (given : Option Run) (rs : List Run) (i : ℕ) (r : Run) → slice_get rs i ≡ Some r
@@ -71,11 +71,11 @@ pub gathers_next : (old mid new : List Run) (held : Option Run) (next : Run) (gi
 gathers_next old mid new held next given rs i r is h one are = record {
   given = h.given ++ option_to_list given;
   are = are ∙ ap (λ l. l ++ option_to_list given) h.are ∙ append_assoc old h.given (option_to_list given);
-  joins = λ came front hold.
-      holding_same ((came ++ take i rs) ++ r ∷ []) (came ++ take (i + 1) rs) ((front ++ h.given) ++ option_to_list given)
-      (front ++ (h.given ++ option_to_list given)) (Some next)
-      (append_assoc came (take i rs) (r ∷ []) ∙ ap (λ l. came ++ l) (sym (take_more rs i r is))) (append_assoc front h.given (option_to_list given))
-      (one (came ++ take i rs) (front ++ h.given) (h.joins came front hold));
+  joins = λ came prefix hold.
+      holding_same ((came ++ take i rs) ++ r ∷ []) (came ++ take (i + 1) rs) ((prefix ++ h.given) ++ option_to_list given)
+      (prefix ++ (h.given ++ option_to_list given)) (Some next)
+      (append_assoc came (take i rs) (r ∷ []) ∙ ap (λ l. came ++ l) (sym (take_more rs i r is))) (append_assoc prefix h.given (option_to_list given))
+      (one (came ++ take i rs) (prefix ++ h.given) (h.joins came prefix hold));
 }
 
 pub gathers_all : (old mid new : List Run) (held : Option Run) (rs : List Run) (i : ℕ) → slice_get rs i ≡ None → Gathers old mid held (take i rs)

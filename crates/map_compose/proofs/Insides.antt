@@ -11,16 +11,16 @@ use Rattle.ppdb_base.specs.declared.offsets.Run.{Run}
 use Rattle.ppdb_base.specs.Offsets.{RiseFrom, end_of, new_end_of}
 use Rattle.ppdb_maps.specs.declared.line.Line.{Line}
 use Rattle.ppdb_maps.specs.declared.line.Line.TheVariants.{Kept}
-use Rattle.map_text.specs.declared.counted.Counted.{Counted}
-use Rattle.map_text.specs.MapTexts.{ended, line_text}
-use Rattle.map_text.specs.Putting.{Puts}
+use Rattle.ppdb_maps_text.specs.declared.counted.Counted.{Counted}
+use Rattle.ppdb_maps_text.specs.MapTexts.{ended, line_text}
+use Rattle.ppdb_maps_text.specs.Putting.{Puts}
 use Rattle.map_compose.specs.Joining.{IsShort, AreRuns, EndsAlike, HoldsEnd, JoinsRuns, Joins}
 use Rattle.map_compose.specs.Laws.{Apart}
 use Rattle.map_compose.specs.Lengths.{IsPast, Inside, EndsAfter, taken_on, not_less, runs_length}
 use Rattle.map_compose.specs.Runs.{goes_on, meet, part}
 use Rattle.map_compose.specs.Says.{lines_text, PutsLines}
 use Rattle.map_compose.proofs.Digits.{Small, parted_count}
-use Rattle.map_compose.proofs.Fronts.{all_drop, rise_drop, rest_is}
+use Rattle.map_compose.proofs.Prefixes.{all_drop, rise_drop, rest_is}
 use Rattle.map_compose.proofs.JoinedRuns.{joins_apart, joins_same, joins_then, runs_then}
 use Rattle.map_compose.proofs.Making.{made_join}
 use Rattle.map_compose.proofs.Putting.{says_one, says_then, says_same, take_at, take_over, map_join}

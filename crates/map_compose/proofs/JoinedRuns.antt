@@ -6,7 +6,7 @@ use Rattle.std.proofs.lemmas.List.{append_assoc, append-nil}
 use Rattle.ppdb_base.specs.declared.offsets.Run.{Run}
 use Rattle.ppdb_base.specs.Offsets.{end_of, new_end_of}
 use Rattle.ppdb_maps.specs.declared.line.Line.TheVariants.{Kept}
-use Rattle.map_text.specs.declared.counted.Counted.{Counted}
+use Rattle.ppdb_maps_text.specs.declared.counted.Counted.{Counted}
 use Rattle.map_compose.specs.Runs.{goes_on, before, longest}
 use Rattle.map_compose.specs.Joining.{Holding, JoinsRuns, JoinsOne, Joins, EndsAlike}
 use Rattle.map_compose.specs.Says.{PutsLines}
@@ -63,10 +63,10 @@ pub longest_last : (xs : List Run) (r : Run) → longest (xs ++ r ∷ []) ≡ be
 longest_last [] r = refl
 longest_last (x ∷ xs) r = ap (before x) (longest_last xs r) ∙ before_behind x (longest xs) r
 
-behind_front : (front : List Run) (h r : Run) → behind (front ++ h ∷ []) r ≡ front ++ behind (h ∷ []) r
-behind_front [] h r = refl
-behind_front (p ∷ []) h r = refl
-behind_front (p ∷ q ∷ ps) h r = ap (λ l. p ∷ l) (behind_front (q ∷ ps) h r)
+behind_prefix : (prefix : List Run) (h r : Run) → behind (prefix ++ h ∷ []) r ≡ prefix ++ behind (h ∷ []) r
+behind_prefix [] h r = refl
+behind_prefix (p ∷ []) h r = refl
+behind_prefix (p ∷ q ∷ ps) h r = ap (λ l. p ∷ l) (behind_prefix (q ∷ ps) h r)
 
 -- ---- one run more
 
@@ -74,25 +74,25 @@ some_held : (held : Option Run) (h : Run) (came : List Run) → held ≡ Some h 
 some_held held h came is none = let e : Some h ≡ None = sym is ∙ none in absurd (cc)
 
 pub joins_first : (r : Run) → JoinsOne None r None r
-joins_first r = λ came front hold.
+joins_first r = λ came prefix hold.
     let none : came ≡ [] = hold.none refl in
-    let empty : front ≡ [] = sym (append-nil front) ∙ sym hold.are ∙ ap longest none in
+    let empty : prefix ≡ [] = sym (append-nil prefix) ∙ sym hold.are ∙ ap longest none in
     record {
       are = ap (λ l. longest (l ++ r ∷ [])) none ∙ sym (ap (λ l. (l ++ []) ++ r ∷ []) empty);
       none = some_held (Some r) r (came ++ r ∷ []) refl;
     }
 
 pub joins_on : (h r : Run) → goes_on h r ≡ true → JoinsOne (Some h) (both h r) None r
-joins_on h r on = λ came front hold. record {
-  are = longest_last came r ∙ ap (λ l. behind l r) hold.are ∙ behind_front front h r ∙ ap (λ t. front ++ cond t (both h r ∷ []) (h ∷ r ∷ [])) on
-      ∙ ap (λ l. l ++ both h r ∷ []) (sym (append-nil front));
+joins_on h r on = λ came prefix hold. record {
+  are = longest_last came r ∙ ap (λ l. behind l r) hold.are ∙ behind_prefix prefix h r ∙ ap (λ t. prefix ++ cond t (both h r ∷ []) (h ∷ r ∷ [])) on
+      ∙ ap (λ l. l ++ both h r ∷ []) (sym (append-nil prefix));
   none = some_held (Some (both h r)) (both h r) (came ++ r ∷ []) refl;
 }
 
 pub joins_apart : (h r : Run) → goes_on h r ≡ false → JoinsOne (Some h) r (Some h) r
-joins_apart h r off = λ came front hold. record {
-  are = longest_last came r ∙ ap (λ l. behind l r) hold.are ∙ behind_front front h r ∙ ap (λ t. front ++ cond t (both h r ∷ []) (h ∷ r ∷ [])) off
-      ∙ sym (append_assoc front (h ∷ []) (r ∷ []));
+joins_apart h r off = λ came prefix hold. record {
+  are = longest_last came r ∙ ap (λ l. behind l r) hold.are ∙ behind_prefix prefix h r ∙ ap (λ t. prefix ++ cond t (both h r ∷ []) (h ∷ r ∷ [])) off
+      ∙ sym (append_assoc prefix (h ∷ []) (r ∷ []));
   none = some_held (Some r) r (came ++ r ∷ []) refl;
 }
 
@@ -106,20 +106,20 @@ ends_on h r on =
 
 -- ---- more runs
 
-pub holding_same : (came came' front front' : List Run) (held : Option Run) → came ≡ came' → front ≡ front' → Holding came front held
-    → Holding came' front' held
-holding_same came came' front front' held a b hold =
-    subst (λ l. Holding l front' held) a (subst (λ l. Holding came l held) b hold)
+pub holding_same : (came came' prefix prefix' : List Run) (held : Option Run) → came ≡ came' → prefix ≡ prefix' → Holding came prefix held
+    → Holding came' prefix' held
+holding_same came came' prefix prefix' held a b hold =
+    subst (λ l. Holding l prefix' held) a (subst (λ l. Holding came l held) b hold)
 
 pub runs_then : (a b c : Option Run) (given more rs qs : List Run) → JoinsRuns a b given rs → JoinsRuns b c more qs → JoinsRuns a c (given ++ more) (rs ++ qs)
-runs_then a b c given more rs qs h k = λ came front hold.
-    holding_same ((came ++ rs) ++ qs) (came ++ (rs ++ qs)) ((front ++ given) ++ more) (front ++ (given ++ more)) c
-    (append_assoc came rs qs) (append_assoc front given more) (k (came ++ rs) (front ++ given) (h came front hold))
+runs_then a b c given more rs qs h k = λ came prefix hold.
+    holding_same ((came ++ rs) ++ qs) (came ++ (rs ++ qs)) ((prefix ++ given) ++ more) (prefix ++ (given ++ more)) c
+    (append_assoc came rs qs) (append_assoc prefix given more) (k (came ++ rs) (prefix ++ given) (h came prefix hold))
 
 pub joins_none : (held : Option Run) (text : Counted) → Joins held held text text []
 joins_none held text = record {
   given = [];
-  joins = λ came front hold. holding_same came (came ++ []) front (front ++ []) held (sym (append-nil came)) (sym (append-nil front)) hold;
+  joins = λ came prefix hold. holding_same came (came ++ []) prefix (prefix ++ []) held (sym (append-nil came)) (sym (append-nil prefix)) hold;
   puts = says_none text;
 }
 

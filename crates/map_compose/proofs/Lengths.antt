@@ -13,7 +13,7 @@ use Rattle.ppdb_maps.specs.Forms.{ROWS, OFFSETS, SLOTS}
 use Rattle.ppdb_maps.specs.Map.{Map, MethodLine, rows_of, slots_of}
 use Rattle.ppdb_maps.specs.Readable.{IsReadable, IsRow, IsCount, IsRowOf, IsLineOf, IsSlottedOf, IsSlotOf}
 use Rattle.ppdb_maps.proofs.Numbers.{may_spell_decimal, length_may_spell}
-use Rattle.map_text.specs.MapTexts.{spaced, table_word, line_text, ended, row_says, slot_says, count_says, slots_say, method_says, map_says, map_text}
+use Rattle.ppdb_maps_text.specs.MapTexts.{spaced, table_word, line_text, ended, row_says, slot_says, count_says, slots_say, method_says, map_says, map_text}
 use Rattle.map_compose.specs.Says.{lines_text}
 use Rattle.std.proofs.lemmas.Bool.{eqb-true}
 use Rattle.map_compose.specs.Joining.{IsShort}

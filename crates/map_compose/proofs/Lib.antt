@@ -11,7 +11,7 @@ pub mod Making
 pub mod Following
 pub mod Merging
 pub mod Differing
-pub mod Fronts
+pub mod Prefixes
 pub mod Gathering
 pub mod Places
 pub mod Lined

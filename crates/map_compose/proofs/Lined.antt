@@ -7,7 +7,7 @@ use Rattle.std.specs.Prelude.{nat_eq}
 use Rattle.std.specs.Option.{option_map}
 use Rattle.ppdb_base.specs.declared.offsets.Run.{Run}
 use Rattle.ppdb_base.specs.Offsets.{lined, Rise, kept_runs}
-use Rattle.ppdb_base.proofs.Moved.{rise_front}
+use Rattle.ppdb_base.proofs.Moved.{rise_prefix}
 use Rattle.ppdb_maps.specs.declared.line.Line.TheVariants.{Method, Kept}
 use Rattle.ppdb_maps.specs.Map.{Map, MethodLine, method_line, line_offsets, offsets_in}
 use Rattle.ppdb_maps.specs.Readable.{IsReadable, IsLineOf}
@@ -37,7 +37,7 @@ long_rises m line fits = longest_rises 0 0 line.runs (size_run line.old_size lin
 
 pub long_runs : (m : Map) (line : MethodLine) → IsLineOf m line → AreRuns (longest line.runs)
 long_runs m line fits = record {
-  rise = rise_front 0 0 (longest line.runs) (size_run line.old_size line.new_size ∷ []) (long_rises m line fits);
+  rise = rise_prefix 0 0 (longest line.runs) (size_run line.old_size line.new_size ∷ []) (long_rises m line fits);
   short = line_short 0 0 line.old_size line.new_size (longest line.runs) fits.1 fits.2 (long_rises m line fits);
 }
 
@@ -77,8 +77,8 @@ pub longest_met : (rs qs : List Run) (old middle new : ℕ) → Rise (lined rs o
 longest_met rs qs old middle new rise also =
     let more : Rise (lined (longest qs) middle new) = longest_rises 0 0 qs (size_run middle new ∷ []) also in
     one_longest 0 0 (longest (met rs (longest qs))) (longest (met rs qs))
-    (rise_front 0 0 (longest (met rs (longest qs))) (size_run old new ∷ []) (met_rises rs (longest qs) old middle new rise more))
-    (rise_front 0 0 (longest (met rs qs)) (size_run old new ∷ []) (met_rises rs qs old middle new rise also))
+    (rise_prefix 0 0 (longest (met rs (longest qs))) (size_run old new ∷ []) (met_rises rs (longest qs) old middle new rise more))
+    (rise_prefix 0 0 (longest (met rs qs)) (size_run old new ∷ []) (met_rises rs qs old middle new rise also))
     (longest_apart (met rs (longest qs))) (longest_apart (met rs qs))
     (λ x z. (
       λ moves.

@@ -6,8 +6,8 @@ use Rattle.ppdb_maps.specs.declared.line.Line.{Line}
 use Rattle.ppdb_maps.specs.declared.entries.RowImage.{RowImage}
 use Rattle.ppdb_maps.specs.declared.entries.SlotImage.{SlotImage}
 use Rattle.ppdb_maps.specs.Map.{Map}
-use Rattle.map_text.specs.declared.counted.Counted.{Counted}
-use Rattle.map_text.specs.MapTexts.{row_says, slot_says}
+use Rattle.ppdb_maps_text.specs.declared.counted.Counted.{Counted}
+use Rattle.ppdb_maps_text.specs.MapTexts.{row_says, slot_says}
 use Rattle.map_compose.specs.Composed.{row_entry, slot_entry, composed_row, composed_slot}
 use Rattle.map_compose.specs.Says.{PutsLines, image_says, slot_image_says}
 use Rattle.map_compose.proofs.Putting.{says_then, says_same, map_join, take_more, take_past, within}

@@ -20,7 +20,7 @@ use Rattle.map_compose.proofs.Bounds.{few}
 use Rattle.map_compose.proofs.Equations.{olds}
 use Rattle.map_compose.proofs.Readable.{ascending_hold, row_olds, line_numbers, slotted_rows, rows_up}
 
--- ---- lists that ascend are told by their numbers
+-- ---- lists that ascend are determined by their numbers
 
 above_has : (k n : ℕ) (ns : List ℕ) → Above k ns → has n ns ≡ true → k < n
 above_has k n [] above is = absurd (false≢true is)

@@ -11,7 +11,7 @@ use Rattle.std.proofs.lemmas.Cmp.{nat_cmp_total}
 use Rattle.std.proofs.lemmas.List.{append_assoc, append-nil}
 use Rattle.ppdb_base.specs.declared.offsets.Run.{Run}
 use Rattle.ppdb_base.specs.Offsets.{gone, RiseFrom, end_of, new_end_of}
-use Rattle.ppdb_base.proofs.Moved.{rise_front}
+use Rattle.ppdb_base.proofs.Moved.{rise_prefix}
 use Rattle.ppdb_maps.specs.Forms.{OFFSETS}
 use Rattle.ppdb_maps.specs.Map.{Map, MethodLine, method_line, is_dropped, line_offsets, offsets_in}
 use Rattle.ppdb_maps.specs.Readable.{IsReadable, IsLineOf}
@@ -57,7 +57,7 @@ line_short a b c d (r ∷ rs) p q rise = (
 
 pub line_runs : (m : Map) (line : MethodLine) → IsLineOf m line → AreRuns line.runs
 line_runs m line fits = record {
-  rise = rise_front 0 0 line.runs (record { old = line.old_size; new = line.new_size; length = 1 } ∷ []) fits.3;
+  rise = rise_prefix 0 0 line.runs (record { old = line.old_size; new = line.new_size; length = 1 } ∷ []) fits.3;
   short = line_short 0 0 line.old_size line.new_size line.runs fits.1 fits.2 fits.3;
 }
 
@@ -142,44 +142,44 @@ pub placed_numbers : (from : ℕ) (lines : List MethodLine) → map (λ (j : Joi
 placed_numbers from [] = refl
 placed_numbers from (l ∷ ls) = ap (λ x. l.method ∷ x) (placed_numbers (from + length (long l)) ls)
 
-pub record Placed (method : ℕ) (front : List Run) (lines : List MethodLine) (place : JoinedLine) : Type 0 where
+pub record Placed (method : ℕ) (prefix : List Run) (lines : List MethodLine) (place : JoinedLine) : Type 0 where
   pub line : MethodLine
   pub found : find (λ (l : MethodLine). nat_eq l.method method) lines ≡ Some line
-  pub within : place.end ≤ length (front ++ flat_map long lines)
+  pub within : place.end ≤ length (prefix ++ flat_map long lines)
   pub order : place.start ≤ place.end
-  pub runs : take (place.end - place.start) (drop place.start (front ++ flat_map long lines)) ≡ long line
+  pub runs : take (place.end - place.start) (drop place.start (prefix ++ flat_map long lines)) ≡ long line
 
-front_of : (xs ys zs : List Run) → take (length ys) (drop (length xs) (xs ++ (ys ++ zs))) ≡ ys
-front_of [] [] zs = refl
-front_of [] (y ∷ ys) zs = ap (λ l. y ∷ l) (front_of [] ys zs)
-front_of (x ∷ xs) ys zs = front_of xs ys zs
+prefix_of : (xs ys zs : List Run) → take (length ys) (drop (length xs) (xs ++ (ys ++ zs))) ≡ ys
+prefix_of [] [] zs = refl
+prefix_of [] (y ∷ ys) zs = ap (λ l. y ∷ l) (prefix_of [] ys zs)
+prefix_of (x ∷ xs) ys zs = prefix_of xs ys zs
 
-pub placed : (method : ℕ) (front : List Run) (lines : List MethodLine) (place : JoinedLine)
-    → find (λ (j : JoinedLine). nat_eq j.method method) (places (length front) lines) ≡ Some place
-    → Placed method front lines place
-placed method front [] place is = absurd (cc)
-placed method front (l ∷ ls) place is = of (nat_eq l.method method) refl is (λ rest. placed method (front ++ long l) ls place
-    (subst (λ n. find (λ (j : JoinedLine). nat_eq j.method method) (places n ls) ≡ Some place) (sym (length-append front (long l))) rest))
+pub placed : (method : ℕ) (prefix : List Run) (lines : List MethodLine) (place : JoinedLine)
+    → find (λ (j : JoinedLine). nat_eq j.method method) (places (length prefix) lines) ≡ Some place
+    → Placed method prefix lines place
+placed method prefix [] place is = absurd (cc)
+placed method prefix (l ∷ ls) place is = of (nat_eq l.method method) refl is (λ rest. placed method (prefix ++ long l) ls place
+    (subst (λ n. find (λ (j : JoinedLine). nat_eq j.method method) (places n ls) ≡ Some place) (sym (length-append prefix (long l))) rest))
   where
-    whole : (front ++ long l) ++ flat_map long ls ≡ front ++ (long l ++ flat_map long ls)
-    whole = append_assoc front (long l) (flat_map long ls)
+    whole : (prefix ++ long l) ++ flat_map long ls ≡ prefix ++ (long l ++ flat_map long ls)
+    whole = append_assoc prefix (long l) (flat_map long ls)
 
     of : (b : Bool) → nat_eq l.method method ≡ b
-        → cond b (Some (record { method = l.method; start = length front; end = length front + length (long l) }))
-        (find (λ (j : JoinedLine). nat_eq j.method method) (places (length front + length (long l)) ls)) ≡ Some place
-        → (find (λ (j : JoinedLine). nat_eq j.method method) (places (length front + length (long l)) ls) ≡ Some place
-        → Placed method (front ++ long l) ls place)
-        → Placed method front (l ∷ ls) place
+        → cond b (Some (record { method = l.method; start = length prefix; end = length prefix + length (long l) }))
+        (find (λ (j : JoinedLine). nat_eq j.method method) (places (length prefix + length (long l)) ls)) ≡ Some place
+        → (find (λ (j : JoinedLine). nat_eq j.method method) (places (length prefix + length (long l)) ls) ≡ Some place
+        → Placed method (prefix ++ long l) ls place)
+        → Placed method prefix (l ∷ ls) place
     of true hit is rest =
-        let e : record { method = l.method; start = length front; end = length front + length (long l) } ≡ place = cc in
-        subst (Placed method front (l ∷ ls)) e (record {
+        let e : record { method = l.method; start = length prefix; end = length prefix + length (long l) } ≡ place = cc in
+        subst (Placed method prefix (l ∷ ls)) e (record {
           line = l;
           found = ap (λ b. cond b (Some l) (find (λ (l : MethodLine). nat_eq l.method method) ls)) hit;
-          within = omega (arith, length-append front (long l ++ flat_map long ls), length-append (long l) (flat_map long ls));
+          within = omega (arith, length-append prefix (long l ++ flat_map long ls), length-append (long l) (flat_map long ls));
           order = omega arith;
-          runs = ap (λ n. take n (drop (length front) (front ++ (long l ++ flat_map long ls))))
-              (let n : length front + length (long l) - length front ≡ length (long l) = omega arith in n)
-              ∙ front_of front (long l) (flat_map long ls);
+          runs = ap (λ n. take n (drop (length prefix) (prefix ++ (long l ++ flat_map long ls))))
+              (let n : length prefix + length (long l) - length prefix ≡ length (long l) = omega arith in n)
+              ∙ prefix_of prefix (long l) (flat_map long ls);
         })
     of false miss is rest =
         let r = rest is in

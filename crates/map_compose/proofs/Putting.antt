@@ -5,9 +5,9 @@ use Rattle.std.specs.List.{flat_map, range_with_len, slice_get}
 use Rattle.std.specs.Prelude.{slice_index_or}
 use Rattle.std.proofs.lemmas.List.{append_assoc, append-nil, length-append}
 use Rattle.ppdb_maps.specs.declared.line.Line.{Line}
-use Rattle.map_text.specs.declared.counted.Counted.{Counted}
-use Rattle.map_text.specs.MapTexts.{ended, line_text}
-use Rattle.map_text.specs.Putting.{Puts}
+use Rattle.ppdb_maps_text.specs.declared.counted.Counted.{Counted}
+use Rattle.ppdb_maps_text.specs.MapTexts.{ended, line_text}
+use Rattle.ppdb_maps_text.specs.Putting.{Puts}
 use Rattle.map_compose.specs.Says.{lines_text, PutsLines}
 
 pub puts_then : (old mid new : Counted) (s t : List ℕ) → Puts old mid s → Puts mid new t → Puts old new (s ++ t)
@@ -17,7 +17,7 @@ puts_then old mid new s t h k =
     let both = length-append s t in
     record {
       counted = omega (arith, first, second, both);
-      kept = λ few. k.kept few ∙ (ap (λ front. front ++ t) (h.kept (omega (arith, few, first, second))) ∙ append_assoc old.text s t);
+      kept = λ few. k.kept few ∙ (ap (λ prefix. prefix ++ t) (h.kept (omega (arith, few, first, second))) ∙ append_assoc old.text s t);
     }
 
 pub lines_join : (xs ys : List Line) → lines_text (xs ++ ys) ≡ lines_text xs ++ lines_text ys

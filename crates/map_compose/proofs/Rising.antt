@@ -1,4 +1,4 @@
--- Rising runs meet in rising runs, and so do the longest of them; what these move tells them.
+-- Rising runs meet in rising runs, and so do the longest of them; what these move reports them.
 use Rattle.std.proofs.Common.{◌≡◌, ℕ, ◌+◌, ◌-◌, ◌<◌, ◌≤◌, ◌++◌, Bool, true, false, cond, List, [], ◌∷◌, refl, sym, ◌∙◌, ap, arith, inl, inr, subst}
 use Rattle.std.specs.Prelude.{min, max, nat_lt, nat_eq, ◌&&◌}
 use Rattle.std.specs.List.{filter_map}
@@ -169,7 +169,7 @@ pub longest_apart : (rs : List Run) → Apart (longest rs)
 longest_apart [] = tt
 longest_apart (r ∷ rs) = before_apart r (longest rs) (longest_apart rs)
 
--- ---- what they move tells them
+-- ---- what they move reports them
 
 pub run_same : (r q : Run) → r.old ≡ q.old → r.new ≡ q.new → r.length ≡ q.length → r ≡ q
 run_same r q a b c =

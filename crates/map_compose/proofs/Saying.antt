@@ -14,7 +14,7 @@ use Rattle.ppdb_maps.specs.declared.line.Line.{Line}
 use Rattle.ppdb_maps.specs.declared.line.Line.TheVariants.{Rows, Dropped, Slots}
 use Rattle.ppdb_maps.specs.Map.{Map, MethodLine, method_line, count_of, is_dropped, row_image, rows_of}
 use Rattle.ppdb_maps.specs.Readable.{IsReadable, IsRow}
-use Rattle.map_text.specs.MapTexts.{count_says, slots_say, method_says, row_says, slot_says, map_text, ended}
+use Rattle.ppdb_maps_text.specs.MapTexts.{count_says, slots_say, method_says, row_says, slot_says, map_text, ended}
 use Rattle.map_compose.specs.declared.part.Part.{Part}
 use Rattle.map_compose.specs.declared.part.Part.TheVariants.{Drops, Slots as SlotLines, Methods}
 use Rattle.map_compose.specs.Composed.{tables, composed_count, count_entry, row_entries, composed_line, composed_runs, sized, second_line, has_image}

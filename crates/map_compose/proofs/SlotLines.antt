@@ -18,7 +18,7 @@ use Rattle.ppdb_maps.specs.Map.{Map, row_image, has_slots, slot_line, slot_image
 use Rattle.ppdb_maps.specs.Readable.{IsReadable, IsSlotOf}
 use Rattle.ppdb_maps.proofs.Halving.{found_lent, by_number, if_passes}
 use Rattle.ppdb_maps.proofs.OneList.{each_found}
-use Rattle.map_text.specs.MapTexts.{ended, line_text, slot_says}
+use Rattle.ppdb_maps_text.specs.MapTexts.{ended, line_text, slot_says}
 use Rattle.map_compose.specs.declared.slot_blocks.SlotBlock.{SlotBlock}
 use Rattle.map_compose.specs.declared.slot_blocks.SlotBlocks.{SlotBlocks}
 use Rattle.map_compose.specs.Composed.{composed_slot, slot_entry, slot_sources, of_image}

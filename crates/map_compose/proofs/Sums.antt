@@ -6,7 +6,7 @@ use Rattle.std.specs.List.{AllByRecursion}
 use Rattle.std.proofs.lemmas.Fmt.{length-decimal-le}
 use Rattle.ppdb_base.specs.declared.offsets.Run.{Run}
 use Rattle.ppdb_maps.specs.declared.line.Line.TheVariants.{Kept}
-use Rattle.map_text.specs.MapTexts.{ended, line_text}
+use Rattle.ppdb_maps_text.specs.MapTexts.{ended, line_text}
 use Rattle.map_compose.specs.Joining.{IsShort}
 use Rattle.map_compose.specs.Lengths.{taken_on, old_digits, new_digits, runs_length, sums_from, AreSums}
 use Rattle.map_compose.specs.Says.{lines_text}

@@ -9,7 +9,7 @@ use Rattle.ppdb_maps.specs.declared.line.Line.TheVariants.{Kept}
 use Rattle.ppdb_maps.specs.Forms.{OFFSETS}
 use Rattle.ppdb_maps.specs.Map.{Map, MethodLine, method_line}
 use Rattle.ppdb_maps.specs.Readable.{IsReadable}
-use Rattle.map_text.specs.declared.counted.Counted.{Counted}
+use Rattle.ppdb_maps_text.specs.declared.counted.Counted.{Counted}
 use Rattle.map_compose.specs.declared.joined.JoinedRuns.{JoinedRuns}
 use Rattle.map_compose.specs.declared.joined.JoinedLine.{JoinedLine}
 use Rattle.map_compose.specs.Runs.{met, longest}
@@ -32,7 +32,7 @@ pub record Holding (came given : List Run) (held : Option Run) : Type 0 where
 
 -- whatever runs came before, it is so with these runs after them
 abbrev pub JoinsRuns : Option Run → Option Run → List Run → List Run → Type 0
-JoinsRuns old new given runs = (came front : List Run) → Holding came front old → Holding (came ++ runs) (front ++ given) new
+JoinsRuns old new given runs = (came prefix : List Run) → Holding came prefix old → Holding (came ++ runs) (prefix ++ given) new
 
 -- with one run more
 abbrev pub JoinsOne : Option Run → Run → Option Run → Run → Type 0

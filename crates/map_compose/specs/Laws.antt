@@ -32,6 +32,6 @@ pub record RunsCompose : Type 0 where
   -- rising runs meet in rising runs, and the longest of them rise, within the sizes
   pub met_rises : (firsts seconds : List Run) (old middle new : ℕ) → Rise (lined firsts old middle) → Rise (lined seconds middle new)
       → Rise (lined (longest (met firsts seconds)) old new)
-  -- rising runs of which none goes on are told by what they move
+  -- rising runs of which none goes on are determined by what they move
   pub one_longest : (old new : ℕ) (runs others : List Run) → RiseFrom old new runs → RiseFrom old new others → Apart runs → Apart others
       → MoveAlike runs others → runs ≡ others

@@ -1,9 +1,9 @@
 -- Why two maps are not made into one.
 use Rattle.std.specs.Prelude.{ℕ, ◌≡◌, ◌<◌, ◌≤◌, List, length}
 use Rattle.ppdb_maps.specs.Map.{Map}
-use Rattle.map_text.specs.declared.counted.Counted.{Counted}
-use Rattle.map_text.specs.MapTexts.{map_text}
-use Rattle.map_text.specs.Putting.{LONGEST}
+use Rattle.ppdb_maps_text.specs.declared.counted.Counted.{Counted}
+use Rattle.ppdb_maps_text.specs.MapTexts.{map_text}
+use Rattle.ppdb_maps_text.specs.Putting.{LONGEST}
 use Rattle.map_compose.specs.declared.error.ComposeError.{ComposeError}
 use Rattle.map_compose.specs.declared.error.ComposeError.TheVariants.{SizesDiffer, TooLong, Memory}
 use Rattle.map_compose.specs.Composed.{composed}

@@ -6,9 +6,9 @@ use Rattle.ppdb_maps.specs.declared.entries.RowImage.{RowImage}
 use Rattle.ppdb_maps.specs.declared.line.Line.{Line}
 use Rattle.ppdb_maps.specs.declared.line.Line.TheVariants.{Rows, Row, Dropped, Slots, Slot}
 use Rattle.ppdb_maps.specs.Map.{Map, MethodLine, count_of, row_image, slot_image}
-use Rattle.map_text.specs.MapTexts.{ended, line_text, row_says, slot_says, method_says}
-use Rattle.map_text.specs.declared.counted.Counted.{Counted}
-use Rattle.map_text.specs.Putting.{Puts}
+use Rattle.ppdb_maps_text.specs.MapTexts.{ended, line_text, row_says, slot_says, method_says}
+use Rattle.ppdb_maps_text.specs.declared.counted.Counted.{Counted}
+use Rattle.ppdb_maps_text.specs.Putting.{Puts}
 use Rattle.map_compose.specs.Composed.{composed_count, sources, row_entries, has_image, composed_line, drops_one, has_slot_lines, slot_entries}
 
 -- the text of lines, each ended by LF

@@ -1,4 +1,4 @@
--- How long the lines of a method's slots are, told by two numbers.
+-- How long the lines of a method's slots are, determined by two numbers.
 use Rattle.std.specs.Prelude.{◌≡◌, ◌⊎◌, ℕ, ◌+◌, nat_eq, List, [], ◌∷◌, Option, map, length}
 use Rattle.std.specs.Fmt.{decimal}
 use Rattle.std.specs.List.{find}

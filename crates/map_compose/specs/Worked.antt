@@ -5,7 +5,7 @@ use Rattle.ppdb_maps.specs.declared.entries.Count.{Count}
 use Rattle.ppdb_maps.specs.declared.entries.RowImage.{RowImage}
 use Rattle.ppdb_maps.specs.declared.entries.SlotImage.{SlotImage}
 use Rattle.ppdb_maps.specs.Map.{Map, MethodLine, map_of}
-use Rattle.map_text.specs.MapTexts.{map_text}
+use Rattle.ppdb_maps_text.specs.MapTexts.{map_text}
 use Rattle.map_compose.specs.Composed.{composed}
 use Rattle.map_compose.specs.Sizes.{SizesDiffer}
 

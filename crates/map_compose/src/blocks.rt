@@ -10,8 +10,8 @@ ghost use Rattle.map_compose.specs.Runs.{meet};
 ghost use Rattle.map_compose.specs.Says.{PutsLines};
 
 use crate::joining::{put_held, put_joined};
-use map_text::Counted;
 use ppdb_base::{Memory, Run};
+use ppdb_maps_text::Counted;
 
 /// What a run gives of another that lies inside its images.
 fn taken_on(run: Run, other: Run) -> Run

@@ -1,6 +1,6 @@
 // The text of the map of two maps.
 ghost use Rattle.std.specs.Prelude.{◌≡◌, ◌≤◌, length, IfOk, IfErr};
-ghost use Rattle.map_text.specs.MapTexts.{map_text};
+ghost use Rattle.ppdb_maps_text.specs.MapTexts.{map_text};
 ghost use Rattle.ppdb_maps.specs.Text.{IsMapOf};
 ghost use Rattle.map_compose.specs.Composed.{composed};
 ghost use Rattle.map_compose.specs.Refused.{Counts, RefusesFor};
@@ -12,9 +12,9 @@ use crate::methods::put_part;
 use crate::part::Part;
 use crate::sizes::first_differing;
 use crate::tables::put_tables;
-use map_text::{Counted, texts_are_read};
 use ppdb_base::{Bytes, MAX_FILE_BYTES, Memory};
 use ppdb_maps::MapText;
+use ppdb_maps_text::{Counted, texts_are_read};
 use std::alloc::Global;
 
 /// The text of the map of two maps, counted on where it is too long.

@@ -5,9 +5,9 @@ ghost use Rattle.map_compose.specs.Gathered.{IsGatheredOf};
 use crate::joined::JoinedRuns;
 use crate::part::Part;
 use crate::slot_blocks::SlotBlocks;
-use map_text::Counted;
 use ppdb_base::Memory;
 use ppdb_maps::MapText;
+use ppdb_maps_text::Counted;
 use std::alloc::Global;
 
 /// The runs of each method of a map in their longest form, and how long the lines of its slots are.

@@ -7,9 +7,9 @@ ghost use Rattle.map_compose.specs.Joining.{AreRuns, AreJoinedOf, LendsJoined, L
 ghost use Rattle.map_compose.specs.Lengths.{sums_from};
 
 use crate::joining::join;
-use map_text::{Counted, digits_of};
 use ppdb_base::{Memory, Run};
 use ppdb_maps::{MapText, MethodMap};
+use ppdb_maps_text::{Counted, digits_of};
 use std::alloc::Global;
 
 /// A method, and where its runs stand.

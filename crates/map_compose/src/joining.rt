@@ -6,8 +6,8 @@ ghost use Rattle.map_compose.specs.Runs.{goes_on as continues};
 ghost use Rattle.map_compose.specs.Says.{PutsLines};
 ghost use Rattle.map_compose.specs.Joining.{Joins, JoinsOne, EndsAlike, HoldsEnd};
 
-use map_text::Counted;
 use ppdb_base::{Memory, Run};
+use ppdb_maps_text::Counted;
 
 /// What is given up and what is held back after one more run.
 #[derive(Clone, Copy)]

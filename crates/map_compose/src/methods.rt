@@ -14,9 +14,9 @@ use crate::joined::JoinedRuns;
 use crate::part::{Part, Passed};
 use crate::runs::put_runs;
 use crate::slots::put_slots;
-use map_text::Counted;
 use ppdb_base::Memory;
 use ppdb_maps::MapText;
+use ppdb_maps_text::Counted;
 
 /// The old size of the first line and the new size of the second, or those of the only line.
 fn sizes_by_both(first: Option<(u32, u32)>, second: Option<(u32, u32)>) -> Option<(u32, u32)>

@@ -13,9 +13,9 @@ ghost use Rattle.map_compose.specs.Lengths.{AreSums, SumsOf, EndBy, EndsAfter};
 use crate::blocks::{count_inside, count_plain};
 use crate::joined::run_at;
 use crate::joining::{put_held, put_joined};
-use map_text::Counted;
 use ppdb_base::{Memory, Run};
 use ppdb_maps::MethodMap;
+use ppdb_maps_text::Counted;
 
 /// Whether the run ends before or at the offset.
 fn ends_by(run: &Run, offset: u32) -> bool
@@ -69,7 +69,7 @@ fn put_meeting(
 
 /// Takes the offsets that one run gives and the others take on, up to the first that begins where
 /// its images end.
-fn put_front(
+fn put_prefix(
     run: Run,
     others: &[Run],
     held: &mut Option<Run>,
@@ -106,16 +106,16 @@ fn put_wide(
     ensures { OnOk result (Joins held.old held.new text.old text.new (filter_map (meet run) others.now)) }
 {
     if !text.is_past() {
-        return put_front(run, others, held, text);
+        return put_prefix(run, others, held, text);
     }
     let end = run.new + run.length;
     let inside = count_ended(others, end);
     if inside < 3 {
-        return put_front(run, others, held, text);
+        return put_prefix(run, others, held, text);
     }
     put_meeting(run, others[0], held, text)?;
     count_inside(run, &others[1..inside], &sums[1..inside], held, text)?;
-    put_front(run, &others[inside..], held, text)
+    put_prefix(run, &others[inside..], held, text)
 }
 
 /// Takes the offsets that one run gives and the others take on, from the first that does not end
@@ -135,7 +135,7 @@ fn put_met(
 {
     let from = count_ended(others, run.new);
     match sums {
-        None => put_front(run, &others[from..], held, text),
+        None => put_prefix(run, &others[from..], held, text),
         Some(sums) => put_wide(run, &others[from..], &sums[from..], held, text),
     }
 }

@@ -3,9 +3,9 @@ ghost use Rattle.std.specs.Prelude.{◌≡◌, ◌≤◌, [], List, OnOk, length
 ghost use Rattle.ppdb_maps.specs.declared.entries.SlotImage.{SlotImage};
 ghost use Rattle.map_compose.specs.Slots.{slot_digits, slots_length, block_of as block_in, AreBlocksOf, FindsBlock};
 
-use map_text::{Counted, digits_of};
 use ppdb_base::Memory;
 use ppdb_maps::MapText;
+use ppdb_maps_text::{Counted, digits_of};
 use std::alloc::Global;
 
 /// How many slots of a method have a line, and how many digits OLD and NEW have in these lines.

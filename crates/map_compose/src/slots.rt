@@ -7,9 +7,9 @@ ghost use Rattle.map_compose.specs.Slots.{AreBlocksOf};
 
 use crate::image::{image_of, slot_by_both};
 use crate::slot_blocks::SlotBlocks;
-use map_text::Counted;
 use ppdb_base::Memory;
 use ppdb_maps::MapText;
+use ppdb_maps_text::Counted;
 
 /// The slot of a line from which slots with an image come, by its index among those of the method.
 fn source_slot(

@@ -6,9 +6,9 @@ ghost use Rattle.map_compose.specs.Composed.{tables, composed_count, composed_ro
 ghost use Rattle.map_compose.specs.Says.{PutsLines, image_says, table_says, rows_say, sources_of};
 
 use crate::image::row_by_both;
-use map_text::Counted;
 use ppdb_base::Memory;
 use ppdb_maps::MapText;
+use ppdb_maps_text::Counted;
 
 /// The row of a line from which rows with an image come, by its index among those of the table.
 fn source_row(first: &MapText, second: &MapText, table: u8, index: u32) -> Option<u32>

@@ -15,7 +15,7 @@ use Rattle.metadata_root.specs.declared.kind.StreamKind.{StreamKind}
 use Rattle.metadata_root.specs.declared.header.Listing.{Listing}
 use Rattle.metadata_root.specs.declared.header.Extent.{Extent}
 use Rattle.ppdb_base.specs.Fields.{IsField}
-use Rattle.metadata_root.specs.Root.{IsBadName, BadRoot, not_metadata, windows_pdb, truncated, bad_name, unknown, repeated, BeginsWith}
+use Rattle.metadata_root.specs.Root.{IsInvalidName, RootFaults, not_metadata, windows_pdb, truncated, invalid_name, unknown, repeated, BeginsWith}
 use Rattle.metadata_root.specs.Root.{IsName, fields_to, root_fields, header_fields, header_place, name_place, name_at, name_len, name_of}
 use Rattle.metadata_root.specs.Root.{stream_count}
 use Rattle.metadata_root.specs.Reading.{IsGoodName, IsHeaderFault, cut, name, CutsHeader, BreaksNameRule, listed, IsListing, HasExtent}
@@ -56,16 +56,16 @@ module _ (file : List ℕ) (signed : BeginsWith (codes "BSJB") file) where
   -- nothing bad begins before a cut of the fields that lies in the file, where the names before it are good
   judged_case : (k b : ℕ) (before after : List ℕ) → root_fields file ≡ before ++ after → b ≡ sum before → b ≤ length file → AreGoodTo file k
       → ((j : ℕ) → name_place file j < b → j < k)
-      → (code : Code) (at : Place) → BadRoot file code at → ComesBefore (numbers code at) (1 ∷ 0 ∷ 0 ∷ 0 ∷ b ∷ []) → ⊥
+      → (code : Code) (at : Place) → RootFaults file code at → ComesBefore (numbers code at) (1 ∷ 0 ∷ 0 ∷ 0 ∷ b ∷ []) → ⊥
   judged_case k b before after split is le names earlier _ _ (not_metadata none _) past = none signed
   judged_case k b before after split is le names earlier _ _ (windows_pdb m) past = no_windows_pdb file signed m
   judged_case k b before after split is le names earlier _ _ (truncated at len f within over) past =
       let lt = byte_before 1 RootTruncated at b past in
       absurd (omega (arith, is, lt, le, over, ends_by_cut (root_fields file) before after at len f split (omega (arith, is, lt))))
-  judged_case k b before after split is le names earlier _ _ (bad_name j at n bad) past =
+  judged_case k b before after split is le names earlier _ _ (invalid_name j at n invalid) past =
       let lt = byte_before 1 StreamName at b past in
       let e = n.place in
-      (names.good j (earlier j (omega (arith, e, lt)))).good (rw (← e) bad)
+      (names.good j (earlier j (omega (arith, e, lt)))).good (rw (← e) invalid)
   judged_case k b before after split is le names earlier _ _ (unknown j at n none) past =
       let lt = byte_before 1 StreamUnknown at b past in
       let e = n.place in
@@ -78,27 +78,27 @@ module _ (file : List ℕ) (signed : BeginsWith (codes "BSJB") file) where
 
   pub judged : (k b : ℕ) (before after : List ℕ) → root_fields file ≡ before ++ after → b ≡ sum before → b ≤ length file → AreGoodTo file k
       → ((j : ℕ) → name_place file j < b → j < k)
-      → IsJudgedTo (BadRoot file) (1 ∷ 0 ∷ 0 ∷ 0 ∷ b ∷ [])
+      → IsJudgedTo (RootFaults file) (1 ∷ 0 ∷ 0 ∷ 0 ∷ b ∷ [])
   judged k b before after split is le names earlier = judged_case k b before after split is le names earlier
 
   -- no code below RootTruncated is bad
-  least_cut : (code : Code) (at : Place) → BadRoot file code at → 3 ≤ number_of code
+  least_cut : (code : Code) (at : Place) → RootFaults file code at → 3 ≤ number_of code
   least_cut _ _ (not_metadata none _) = absurd (none signed)
   least_cut _ _ (windows_pdb m) = absurd (no_windows_pdb file signed m)
   least_cut _ _ (truncated at len f within over) = lit≤ tt
-  least_cut _ _ (bad_name j at n bad) = lit≤ tt
+  least_cut _ _ (invalid_name j at n invalid) = lit≤ tt
   least_cut _ _ (unknown j at n none) = lit≤ tt
   least_cut _ _ (repeated j at n i before_j same) = lit≤ tt
 
   -- a field of the root that passes the end is the first fault
   pub cut_is_first : (k at len : ℕ) (before after : List ℕ) → root_fields file ≡ before ++ len ∷ after → at ≡ sum before → at ≤ length file
       → length file < at + len → AreGoodTo file k → ((j : ℕ) → name_place file j < at → j < k)
-      → IsFirst (BadRoot file) (record { code = RootTruncated; place = at_byte 1 at })
+      → IsFirst (RootFaults file) (record { code = RootTruncated; place = at_byte 1 at })
   cut_is_first k at len before after split is le over names earlier =
-      first_at (BadRoot file) RootTruncated (at_byte 1 at)
+      first_at (RootFaults file) RootTruncated (at_byte 1 at)
       (judged k at before (len ∷ after) split is le names earlier)
       (truncated at len (record { before = before; after = after; in_order = split; place = is }) le over)
-      (λ other bad. least_cut other (at_byte 1 at) bad)
+      (λ other invalid. least_cut other (at_byte 1 at) invalid)
 
   -- the fields of the root, cut at header k
   pub split_at_header : (k : ℕ) → k < stream_count file
@@ -109,12 +109,12 @@ module _ (file : List ℕ) (signed : BeginsWith (codes "BSJB") file) where
       (r.0, r.1 ∙ append_assoc (fields_to file k) (header_fields file (sum (fields_to file k))) r.0)
 
   -- the same, cut after n more bytes of the header
-  cut_after : (k n : ℕ) (front back : List ℕ) (rest : List ℕ) → root_fields file ≡ fields_to file k ++ (front ++ back)
-      → (root_fields file ≡ (fields_to file k ++ front) ++ back) × (sum (fields_to file k ++ front) ≡ header_place file k + sum front)
-  cut_after k n front back rest e = (e ∙ sym (append_assoc (fields_to file k) front back), sum_append (fields_to file k) front)
+  cut_after : (k n : ℕ) (prefix back : List ℕ) (rest : List ℕ) → root_fields file ≡ fields_to file k ++ (prefix ++ back)
+      → (root_fields file ≡ (fields_to file k ++ prefix) ++ back) × (sum (fields_to file k ++ prefix) ≡ header_place file k + sum prefix)
+  cut_after k n prefix back rest e = (e ∙ sym (append_assoc (fields_to file k) prefix back), sum_append (fields_to file k) prefix)
 
   header_cut : (k byte : ℕ) → k < stream_count file → AreGoodTo file k → byte ≤ length file → CutsHeader file (header_place file k) byte
-      → IsFirst (BadRoot file) (record { code = RootTruncated; place = at_byte 1 byte })
+      → IsFirst (RootFaults file) (record { code = RootTruncated; place = at_byte 1 byte })
   header_cut k byte lt names le (inl at) =
       let s = split_at_header k lt in
       cut_is_first k byte 4 (fields_to file k) (4 ∷ name_len file (header_place file k + 8) ∷ s.0) s.1 at.0 le (omega (arith, at.0, at.1)) names
@@ -139,7 +139,7 @@ module _ (file : List ℕ) (signed : BeginsWith (codes "BSJB") file) where
     not_cut : (len : ℕ) → IsField (root_fields file) (name_place file k) len → length file < name_place file k + len → ⊥
     not_cut len f over =
         let s = split_at_header k lt in
-        let front = 4 ∷ 4 ∷ name_len file (header_place file k + 8) ∷ [] in
+        let prefix = 4 ∷ 4 ∷ name_len file (header_place file k + 8) ∷ [] in
         let c = cut_after k 8 (4 ∷ 4 ∷ name_len file (header_place file k + 8) ∷ []) s.0 s.0 s.1 in
         let pos = name_len_pos file (header_place file k + 8) in
         let ends = ends_by_cut (root_fields file) (fields_to file k ++ (4 ∷ 4 ∷ name_len file (header_place file k + 8) ∷ [])) s.0 (name_place file k) len f c.0
@@ -149,42 +149,42 @@ module _ (file : List ℕ) (signed : BeginsWith (codes "BSJB") file) where
     -- the rule that a code breaks at the name of header k
     Breaks : Code → Type 0
     Breaks code =
-        ((code ≡ StreamName) × IsBadName (name_at file (name_place file k)))
+        ((code ≡ StreamName) × IsInvalidName (name_at file (name_place file k)))
         ⊎ (((code ≡ StreamUnknown) × ((kind : StreamKind) → name_at file (name_place file k) ≢ name_of kind)) ⊎ (code ≡ StreamRepeated))
 
     -- what is bad at the name, whose field fits, is one of the three rules of names
-    at_name : (code : Code) (at : Place) → BadRoot file code at → at ≡ at_byte 1 (name_place file k) → Breaks code
+    at_name : (code : Code) (at : Place) → RootFaults file code at → at ≡ at_byte 1 (name_place file k) → Breaks code
     unfolding Breaks
     at_name _ _ (not_metadata none _) e = absurd (none signed)
     at_name _ _ (windows_pdb m) e = absurd (no_windows_pdb file signed m)
     at_name _ _ (truncated at len f within over) e =
         let same = same_byte at (name_place file k) e in
         absurd (not_cut len (subst (λ p. IsField (root_fields file) p len) same f) (omega (arith, same, over)))
-    at_name _ _ (bad_name j at n bad) e = inl (refl, subst (λ p. IsBadName (name_at file p)) (same_byte at (name_place file k) e) bad)
+    at_name _ _ (invalid_name j at n invalid) e = inl (refl, subst (λ p. IsInvalidName (name_at file p)) (same_byte at (name_place file k) e) invalid)
     at_name _ _ (unknown j at n none) e = inr (inl (refl, λ kind is. none kind (ap (name_at file) (same_byte at (name_place file k) e) ∙ is)))
     at_name _ _ (repeated j at n i before_j same) e = inr (inr refl)
 
-    least_bad : (code : Code) → Breaks code → 4 ≤ number_of code
+    least_invalid : (code : Code) → Breaks code → 4 ≤ number_of code
     unfolding Breaks
-    least_bad code (inl bad) = rw bad.0 (lit≤ tt)
-    least_bad code (inr (inl new)) = rw new.0 (lit≤ tt)
-    least_bad code (inr (inr again)) = rw again (lit≤ tt)
+    least_invalid code (inl invalid) = rw invalid.0 (lit≤ tt)
+    least_invalid code (inr (inl new)) = rw new.0 (lit≤ tt)
+    least_invalid code (inr (inr again)) = rw again (lit≤ tt)
 
     least_unknown : IsGoodName (name_at file (name_place file k)) → (code : Code) → Breaks code → 5 ≤ number_of code
     unfolding Breaks
-    least_unknown good code (inl bad) = absurd (good.good bad.1)
+    least_unknown good code (inl invalid) = absurd (good.good invalid.1)
     least_unknown good code (inr (inl new)) = rw new.0 (lit≤ tt)
     least_unknown good code (inr (inr again)) = rw again (lit≤ tt)
 
     least_repeated : (kind : StreamKind) → name_at file (name_place file k) ≡ name_of kind → IsGoodName (name_at file (name_place file k)) → (code : Code)
         → Breaks code → 6 ≤ number_of code
     unfolding Breaks
-    least_repeated kind is good code (inl bad) = absurd (good.good bad.1)
+    least_repeated kind is good code (inl invalid) = absurd (good.good invalid.1)
     least_repeated kind is good code (inr (inl new)) = absurd (new.1 kind is)
     least_repeated kind is good code (inr (inr again)) = rw again (lit≤ tt)
 
     -- the place of the name is judged to
-    judged_name : AreGoodTo file k → IsJudgedTo (BadRoot file) (1 ∷ 0 ∷ 0 ∷ 0 ∷ name_place file k ∷ [])
+    judged_name : AreGoodTo file k → IsJudgedTo (RootFaults file) (1 ∷ 0 ∷ 0 ∷ 0 ∷ name_place file k ∷ [])
     judged_name names =
         let s = split_at_header k lt in
         let c = cut_after k 8 (4 ∷ 4 ∷ []) (name_len file (header_place file k + 8) ∷ s.0) s.0 s.1 in
@@ -198,44 +198,44 @@ module _ (file : List ℕ) (signed : BeginsWith (codes "BSJB") file) where
     -- the rule that the name of header k breaks is the first fault
     pub name_is_first : AreGoodTo file k → (listing : Listing) → IsListing file k listing → (code : Code)
         → BreaksNameRule (name_at file (name_place file k)) listing code
-        → IsFirst (BadRoot file) (record { code = code; place = at_byte 1 (name_place file k) })
-    name_is_first names listing l code (inl bad) =
-        subst (λ c. IsFirst (BadRoot file) (record { code = c; place = at_byte 1 (name_place file k) })) (sym bad.0)
-        (first_at (BadRoot file) StreamName (at_byte 1 (name_place file k)) (judged_name names) (bad_name k (name_place file k) is_name bad.1)
-        (λ other b. least_bad other (at_name other _ b refl)))
+        → IsFirst (RootFaults file) (record { code = code; place = at_byte 1 (name_place file k) })
+    name_is_first names listing l code (inl invalid) =
+        subst (λ c. IsFirst (RootFaults file) (record { code = c; place = at_byte 1 (name_place file k) })) (sym invalid.0)
+        (first_at (RootFaults file) StreamName (at_byte 1 (name_place file k)) (judged_name names) (invalid_name k (name_place file k) is_name invalid.1)
+        (λ other b. least_invalid other (at_name other _ b refl)))
     name_is_first names listing l code (inr (inl new)) =
-        subst (λ c. IsFirst (BadRoot file) (record { code = c; place = at_byte 1 (name_place file k) })) (sym new.0)
-        (first_at (BadRoot file) StreamUnknown (at_byte 1 (name_place file k)) (judged_name names) (unknown k (name_place file k) is_name new.2)
+        subst (λ c. IsFirst (RootFaults file) (record { code = c; place = at_byte 1 (name_place file k) })) (sym new.0)
+        (first_at (RootFaults file) StreamUnknown (at_byte 1 (name_place file k)) (judged_name names) (unknown k (name_place file k) is_name new.2)
         (λ other b. least_unknown new.1 other (at_name other _ b refl)))
     name_is_first names listing l code (inr (inr again)) =
         let kind = again.2.0 in
         let seen = found_where (listed listing kind) _ _ (l.streams kind) again.2.2 in
         let j = seen.1.0 in
         let named = seen.1.2.named in
-        subst (λ c. IsFirst (BadRoot file) (record { code = c; place = at_byte 1 (name_place file k) })) (sym again.0)
-        (first_at (BadRoot file) StreamRepeated (at_byte 1 (name_place file k)) (judged_name names)
+        subst (λ c. IsFirst (RootFaults file) (record { code = c; place = at_byte 1 (name_place file k) })) (sym again.0)
+        (first_at (RootFaults file) StreamRepeated (at_byte 1 (name_place file k)) (judged_name names)
         (repeated k (name_place file k) is_name j seen.1.1 (named ∙ sym again.2.1))
         (λ other b. least_repeated kind again.2.1 again.1 other (at_name other _ b refl)))
 
   -- the fault of header k, after good ones, is the first of the root
   pub header_is_first : (k : ℕ) → k < stream_count file → AreGoodTo file k → (listing : Listing) → IsListing file k listing → (fault : Fault)
-      → IsHeaderFault file (header_place file k) listing fault → IsFirst (BadRoot file) fault
+      → IsHeaderFault file (header_place file k) listing fault → IsFirst (RootFaults file) fault
   header_is_first k lt names listing l _ (cut byte le cuts) = header_cut k byte lt names le cuts
   header_is_first k lt names listing l _ (name code fits breaks) = name_is_first k lt fits names listing l code breaks
 
   -- all headers are good, and end within the file: nothing of the root is bad
-  accepted_case : header_place file (stream_count file) ≤ length file → AreGoodTo file (stream_count file) → (code : Code) (at : Place) → BadRoot file code at
+  accepted_case : header_place file (stream_count file) ≤ length file → AreGoodTo file (stream_count file) → (code : Code) (at : Place) → RootFaults file code at
       → ⊥
   accepted_case le names _ _ (not_metadata none _) = none signed
   accepted_case le names _ _ (windows_pdb m) = no_windows_pdb file signed m
   accepted_case le names _ _ (truncated at len f within over) = absurd (omega (arith, le, over, ends_within (root_fields file) at len f))
-  accepted_case le names _ _ (bad_name j at n bad) = (names.good j n.counted).good (subst (λ p. IsBadName (name_at file p)) n.place bad)
+  accepted_case le names _ _ (invalid_name j at n invalid) = (names.good j n.counted).good (subst (λ p. IsInvalidName (name_at file p)) n.place invalid)
   accepted_case le names _ _ (unknown j at n none) =
       let known = names.known j n.counted in
       none known.0 (ap (name_at file) n.place ∙ known.1)
   accepted_case le names _ _ (repeated j at n i before_j same) = names.apart i j before_j n.counted (same ∙ ap (name_at file) n.place)
 
-  pub root_accepted : header_place file (stream_count file) ≤ length file → AreGoodTo file (stream_count file) → IsAccepted (BadRoot file)
+  pub root_accepted : header_place file (stream_count file) ≤ length file → AreGoodTo file (stream_count file) → IsAccepted (RootFaults file)
   root_accepted le names = accepted_case le names
 
 -- ---- one header more

@@ -3,4 +3,4 @@ mod HeaderFaults
 mod Listings
 mod Order
 mod FirstOfRoot
-mod FirstOfFront
+mod FirstOfPrefix

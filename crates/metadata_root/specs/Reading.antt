@@ -12,7 +12,7 @@ use Rattle.metadata_root.specs.declared.root.Root.TheInside.{Inside}
 use Rattle.metadata_root.specs.declared.header.Extent.{Extent}
 use Rattle.metadata_root.specs.declared.header.Listing.{Listing}
 use Rattle.metadata_root.specs.Fields.{number_at}
-use Rattle.metadata_root.specs.Root.{name_at, name_len, name_of, IsBadName, name_place, header_place, BeginsWith, stream_count}
+use Rattle.metadata_root.specs.Root.{name_at, name_len, name_of, IsInvalidName, name_place, header_place, BeginsWith, stream_count}
 use Rattle.metadata_root.specs.Streams.{offset_in, size_in, Stream, Streams}
 
 -- what a listing has of a stream
@@ -26,18 +26,18 @@ listed l Blobs = l.blobs
 
 -- a name that breaks no rule of its own
 pub record IsGoodName (name : List ℕ) : Type 0 where
-  pub good : IsBadName name → ⊥
+  pub good : IsInvalidName name → ⊥
 
 -- the fault of the name at a place: it passes the end, or is bad
 abbrev pub IsNameFault : List ℕ → ℕ → Fault → Type 0
 IsNameFault file at fault =
     ((fault ≡ record { code = RootTruncated; place = at_byte 1 at }) × (length file < at + name_len file at))
-    ⊎ ((fault ≡ record { code = StreamName; place = at_byte 1 at }) × (at + name_len file at ≤ length file) × IsBadName (name_at file at))
+    ⊎ ((fault ≡ record { code = StreamName; place = at_byte 1 at }) × (at + name_len file at ≤ length file) × IsInvalidName (name_at file at))
 
 -- the rule that the name breaks, after the headers that are listed
 abbrev pub BreaksNameRule : List ℕ → Listing → Code → Type 0
 BreaksNameRule name listing code =
-    ((code ≡ StreamName) × IsBadName name)
+    ((code ≡ StreamName) × IsInvalidName name)
     ⊎ (((code ≡ StreamUnknown) × IsGoodName name × ((kind : StreamKind) → name ≢ name_of kind))
     ⊎ ((code ≡ StreamRepeated) × IsGoodName name × ((kind : StreamKind) × (name ≡ name_of kind) × IsSome (listed listing kind))))
 
@@ -112,7 +112,7 @@ abbrev pub slice_of : List ℕ → Extent → Stream
 slice_of file e = record { place = e.offset; bytes = take e.size (drop e.offset file) }
 
 -- the fields before the headers are read: the headers begin at the place, and there are so many
-pub record IsFront (file : List ℕ) (headers count : ℕ) : Type 0 where
+pub record IsPrefix (file : List ℕ) (headers count : ℕ) : Type 0 where
   pub signed : BeginsWith (codes "BSJB") file
   pub begins : headers ≡ header_place file 0
   pub fits : headers ≤ length file

@@ -20,8 +20,8 @@ abbrev pub version_len : List ℕ → ℕ
 version_len file = number_at file 12 4
 
 -- the fields before the stream headers: Signature, MajorVersion, MinorVersion, Reserved, Length, Version, Flags, Streams (II.24.2.1)
-abbrev pub front_fields : List ℕ → List ℕ
-front_fields file = 4 ∷ 2 ∷ 2 ∷ 4 ∷ 4 ∷ version_len file ∷ 2 ∷ 2 ∷ []
+abbrev pub prefix_fields : List ℕ → List ℕ
+prefix_fields file = 4 ∷ 2 ∷ 2 ∷ 4 ∷ 4 ∷ version_len file ∷ 2 ∷ 2 ∷ []
 
 -- how many stream headers there are (II.24.2.1, Streams)
 abbrev pub stream_count : List ℕ → ℕ
@@ -42,7 +42,7 @@ header_fields file at = 4 ∷ 4 ∷ name_len file (at + 8) ∷ []
 
 -- the fields of the root up to the header after the first k; that header begins at the sum of their lengths
 unfoldable pub fields_to : List ℕ → ℕ → List ℕ
-fields_to file zero = front_fields file
+fields_to file zero = prefix_fields file
 fields_to file (suc k) = fields_to file k ++ header_fields file (sum (fields_to file k))
 
 -- where header k begins
@@ -67,8 +67,8 @@ abbrev pub name_place : List ℕ → ℕ → ℕ
 name_place file k = header_place file k + 8
 
 -- what a name may not be: empty, with a byte above 7f, or without a zero among its first 33 bytes (II.24.2.2, Name)
-abbrev pub IsBadName : List ℕ → Type 0
-IsBadName name = (name ≡ []) ⊎ (Any (λ b. 128 ≤ b) name ⊎ (33 ≤ length name))
+abbrev pub IsInvalidName : List ℕ → Type 0
+IsInvalidName name = (name ≡ []) ⊎ (Any (λ b. 128 ≤ b) name ⊎ (33 ≤ length name))
 
 -- header k has its name at the place, and the fields before it fit
 pub record IsName (file : List ℕ) (k at : ℕ) : Type 0 where
@@ -77,10 +77,10 @@ pub record IsName (file : List ℕ) (k at : ℕ) : Type 0 where
   pub fields_fit : at ≤ length file
 
 -- The rules of the root, F1 to F6. A field is judged where the fields before it fit.
-pub data BadRoot (file : List ℕ) : Code → Place → Type 0 where
-  not_metadata : (BeginsWith (codes "BSJB") file → ⊥) → (BeginsWith (codes "Microsoft C/C++ MSF ") file → ⊥) → BadRoot file NotMetadata (at_byte 1 0)
-  windows_pdb : BeginsWith (codes "Microsoft C/C++ MSF ") file → BadRoot file WindowsPdb (at_byte 1 0)
-  truncated : (at len : ℕ) → IsField (root_fields file) at len → at ≤ length file → length file < at + len → BadRoot file RootTruncated (at_byte 1 at)
-  bad_name : (k at : ℕ) → IsName file k at → IsBadName (name_at file at) → BadRoot file StreamName (at_byte 1 at)
-  unknown : (k at : ℕ) → IsName file k at → ((kind : StreamKind) → name_at file at ≢ name_of kind) → BadRoot file StreamUnknown (at_byte 1 at)
-  repeated : (k at : ℕ) → IsName file k at → (j : ℕ) → j < k → name_at file (name_place file j) ≡ name_at file at → BadRoot file StreamRepeated (at_byte 1 at)
+pub data RootFaults (file : List ℕ) : Code → Place → Type 0 where
+  not_metadata : (BeginsWith (codes "BSJB") file → ⊥) → (BeginsWith (codes "Microsoft C/C++ MSF ") file → ⊥) → RootFaults file NotMetadata (at_byte 1 0)
+  windows_pdb : BeginsWith (codes "Microsoft C/C++ MSF ") file → RootFaults file WindowsPdb (at_byte 1 0)
+  truncated : (at len : ℕ) → IsField (root_fields file) at len → at ≤ length file → length file < at + len → RootFaults file RootTruncated (at_byte 1 at)
+  invalid_name : (k at : ℕ) → IsName file k at → IsInvalidName (name_at file at) → RootFaults file StreamName (at_byte 1 at)
+  unknown : (k at : ℕ) → IsName file k at → ((kind : StreamKind) → name_at file at ≢ name_of kind) → RootFaults file StreamUnknown (at_byte 1 at)
+  repeated : (k at : ℕ) → IsName file k at → (j : ℕ) → j < k → name_at file (name_place file j) ≡ name_at file at → RootFaults file StreamRepeated (at_byte 1 at)

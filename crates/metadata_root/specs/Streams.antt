@@ -9,7 +9,7 @@ use Rattle.ppdb_base.specs.First.{Then}
 use Rattle.metadata_root.specs.declared.kind.StreamKind.{StreamKind}
 use Rattle.metadata_root.specs.declared.kind.StreamKind.TheVariants.{Pdb, Tables, Strings, UserStrings, Guids, Blobs}
 use Rattle.metadata_root.specs.Fields.{number_at}
-use Rattle.metadata_root.specs.Root.{BadRoot, stream_count, header_place, name_at, name_of, name_place}
+use Rattle.metadata_root.specs.Root.{RootFaults, stream_count, header_place, name_at, name_of, name_place}
 
 -- header k lists the stream
 pub record IsHeaderOf (file : List ℕ) (kind : StreamKind) (k : ℕ) : Type 0 where
@@ -28,14 +28,14 @@ abbrev pub IsListed : List ℕ → StreamKind → Type 0
 IsListed file kind = (k : ℕ) × IsHeaderOf file kind k
 
 -- The rules of the streams, F7 and F8.
-pub data BadStreams (file : List ℕ) : Code → Place → Type 0 where
-  bounds : (k : ℕ) → k < stream_count file → length file < offset_in file k + size_in file k → BadStreams file StreamBounds (at_byte 2 (header_place file k))
-  missing_pdb : (IsListed file Pdb → ⊥) → BadStreams file StreamMissing (at_byte 2 0)
-  missing_tables : (IsListed file Tables → ⊥) → BadStreams file StreamMissing (at_byte 2 0)
+pub data StreamFaults (file : List ℕ) : Code → Place → Type 0 where
+  bounds : (k : ℕ) → k < stream_count file → length file < offset_in file k + size_in file k → StreamFaults file StreamBounds (at_byte 2 (header_place file k))
+  missing_pdb : (IsListed file Pdb → ⊥) → StreamFaults file StreamMissing (at_byte 2 0)
+  missing_tables : (IsListed file Tables → ⊥) → StreamFaults file StreamMissing (at_byte 2 0)
 
 -- the rules of both parts
-abbrev pub BadContainer : List ℕ → Code → Place → Type 0
-BadContainer file = Then (BadRoot file) (BadStreams file)
+abbrev pub ContainerFaults : List ℕ → Code → Place → Type 0
+ContainerFaults file = Then (RootFaults file) (StreamFaults file)
 
 -- a stream: its first byte in the file, and its bytes
 pub record Stream : Type 0 where

@@ -123,9 +123,9 @@ fn text_at(bytes: &[u8], at: usize) -> Option<&[u8]>
     ensures none { IfNone result (length (name_at bytes.now at) ≡ min NAME_MAX (length bytes.now - at)) }
 {
     let rest = &bytes[at..];
-    let front = &rest[..NAME_MAX.min(rest.len())];
-    let len = zero_in(front)?;
-    Some(&front[..len])
+    let prefix = &rest[..NAME_MAX.min(rest.len())];
+    let len = zero_in(prefix)?;
+    Some(&prefix[..len])
 }
 
 /// The name that begins at a place, and where its field ends.

@@ -2,9 +2,9 @@ ghost use Rattle.std.specs.Prelude.{◌≡◌, ◌<◌, ◌≤◌, ◌+◌, ◌�
 ghost use Rattle.std.specs.Option.{option_copied, ForSome};
 ghost use Rattle.ppdb_base.specs.First.{IsFirst, IsAccepted};
 ghost use Rattle.metadata_root.specs.declared.kind.StreamKind.{StreamKind};
-ghost use Rattle.metadata_root.specs.Root.{BadRoot, BeginsWith, stream_count};
-ghost use Rattle.metadata_root.specs.Streams.{BadContainer, BadStreams, AreStreamsOf, stream_of};
-ghost use Rattle.metadata_root.specs.Reading.{IsFront, IsListing, listed, slice_of, seen_stream};
+ghost use Rattle.metadata_root.specs.Root.{RootFaults, BeginsWith, stream_count};
+ghost use Rattle.metadata_root.specs.Streams.{ContainerFaults, StreamFaults, AreStreamsOf, stream_of};
+ghost use Rattle.metadata_root.specs.Reading.{IsPrefix, IsListing, listed, slice_of, seen_stream};
 
 use crate::fields::{fault_at, field_end, root_fault, u16_at, u32_at};
 use crate::header::{Extent, Listing, read_header};
@@ -82,7 +82,7 @@ fn slice_at<'a>(bytes: &'a [u8], extent: Option<Extent>) -> Option<Stream<'a>>
 
 /// Where the stream headers begin, and how many there are.
 #[derive(Clone, Copy)]
-struct Front {
+struct Prefix {
     headers: usize,
     count: u16,
 }
@@ -94,10 +94,10 @@ fn begins_with(bytes: &[u8], text: &[u8]) -> bool
 }
 
 /// Reads the fields before the stream headers.
-fn read_front(bytes: &[u8]) -> Result<Front, Fault>
+fn read_prefix(bytes: &[u8]) -> Result<Prefix, Fault>
     requires { length bytes.now ≤ 134217728 }
-    ensures front { IfOk result (λ front. IsFront bytes.now front.headers front.count) }
-    ensures first { IfErr result (IsFirst (BadRoot bytes.now)) }
+    ensures prefix { IfOk result (λ prefix. IsPrefix bytes.now prefix.headers prefix.count) }
+    ensures first { IfErr result (IsFirst (RootFaults bytes.now)) }
 {
     if begins_with(bytes, b"Microsoft C/C++ MSF ") {
         return Err(root_fault(Code::WindowsPdb, 0));
@@ -112,23 +112,23 @@ fn read_front(bytes: &[u8]) -> Result<Front, Fault>
     let flags = field_end(bytes, version, u32_at(bytes, len) as usize)?;
     let streams = field_end(bytes, flags, 2)?;
     let headers = field_end(bytes, streams, 2)?;
-    Ok(Front {
+    Ok(Prefix {
         headers,
         count: u16_at(bytes, streams),
     })
 }
 
 /// Reads the stream headers, and judges the root.
-fn read_headers(bytes: &[u8], front: Front) -> Result<Listing, Fault>
+fn read_headers(bytes: &[u8], prefix: Prefix) -> Result<Listing, Fault>
     requires size { length bytes.now ≤ 134217728 }
-    requires front { IsFront bytes.now front.headers front.count }
+    requires prefix { IsPrefix bytes.now prefix.headers prefix.count }
     ensures listing { IfOk result (IsListing bytes.now (stream_count bytes.now)) }
-    ensures accepted { OnOk result (IsAccepted (BadRoot bytes.now)) }
-    ensures first { IfErr result (IsFirst (BadRoot bytes.now)) }
+    ensures accepted { OnOk result (IsAccepted (RootFaults bytes.now)) }
+    ensures first { IfErr result (IsFirst (RootFaults bytes.now)) }
 {
     let mut listing = Listing::new();
-    let mut at = front.headers;
-    for _ in 0..front.count {
+    let mut at = prefix.headers;
+    for _ in 0..prefix.count {
         at = read_header(bytes, at, &mut listing)?;
     }
     Ok(listing)
@@ -137,9 +137,9 @@ fn read_headers(bytes: &[u8], front: Front) -> Result<Listing, Fault>
 /// Judges the streams of a listing.
 fn judge_streams(bytes: &[u8], listing: &Listing) -> Result<(), Fault>
     requires { IsListing bytes.now (stream_count bytes.now) listing.now }
-    ensures accepted { OnOk result (IsAccepted (BadStreams bytes.now)) }
+    ensures accepted { OnOk result (IsAccepted (StreamFaults bytes.now)) }
     ensures inside { OnOk result ((kind : StreamKind) → ForSome (listed listing.now kind) (λ e. e.offset + e.size ≤ length bytes.now)) }
-    ensures first { IfErr result (IsFirst (BadStreams bytes.now)) }
+    ensures first { IfErr result (IsFirst (StreamFaults bytes.now)) }
 {
     if listing.pdb.is_none() || listing.tables.is_none() {
         return Err(fault_at(2, Code::StreamMissing, 0));
@@ -154,13 +154,13 @@ fn judge_streams(bytes: &[u8], listing: &Listing) -> Result<(), Fault>
 pub fn read_root<'a>(bytes: &'a [u8]) -> Result<Root<'a>, Fault>
     requires { length bytes.now ≤ 134217728 }
     // Where nothing is bad, the streams are those slices of the file.
-    ensures accepted { OnOk result (IsAccepted (BadContainer bytes.now)) }
+    ensures accepted { OnOk result (IsAccepted (ContainerFaults bytes.now)) }
     ensures streams { IfOk result (AreStreamsOf bytes.now) }
     // Else the fault is the first.
-    ensures first { IfErr result (IsFirst (BadContainer bytes.now)) }
+    ensures first { IfErr result (IsFirst (ContainerFaults bytes.now)) }
 {
-    let front = read_front(bytes)?;
-    let listing = read_headers(bytes, front)?;
+    let prefix = read_prefix(bytes)?;
+    let listing = read_headers(bytes, prefix)?;
     judge_streams(bytes, &listing)?;
     Ok(Root {
         pdb: slice_at(bytes, listing.pdb),

@@ -1,5 +1,5 @@
 -- How a function that judges a file in the order of places is shown to answer the first fault: it keeps
--- `IsJudgedTo Bad here`, that nothing bad comes before here, and moves here on.
+-- `IsJudgedTo Faults here`, that nothing bad comes before here, and moves here on.
 use Rattle.std.proofs.Common.{◌≡◌, ℕ, suc, ◌<◌, ◌≤◌, ◌⊎◌, inl, inr, List, [], ◌∷◌, ap, subst, ◌∙◌, arith}
 use Rattle.ppdb_base.specs.declared.code.Code.{Code}
 use Rattle.ppdb_base.specs.declared.fault.Place.{Place}
@@ -16,82 +16,82 @@ before_code : (d c : Code) (q p : Place) → ComesBefore (numbers d q) (numbers 
     → (ComesBefore (numbers d q) (place_numbers p)) ⊎ ((q ≡ p) × (number_of d < number_of c))
 before_code d c q p h = grind arith
 
-module _ (Bad : Code → Place → Type 0) where
+module _ (Faults : Code → Place → Type 0) where
   -- nothing bad comes before a place: the least code that is bad there is the first fault
-  pub first_at : (code : Code) (at : Place) → IsJudgedTo Bad (place_numbers at) → Bad code at
-      → ((other : Code) → Bad other at → number_of code ≤ number_of other) → IsFirst Bad (record { code = code; place = at })
-  first_at code at judged bad least = record {
-    bad = bad;
-    least = λ other place is_bad before.
+  pub first_at : (code : Code) (at : Place) → IsJudgedTo Faults (place_numbers at) → Faults code at
+      → ((other : Code) → Faults other at → number_of code ≤ number_of other) → IsFirst Faults (record { code = code; place = at })
+  first_at code at judged invalid least = record {
+    invalid = invalid;
+    least = λ other place is_invalid before.
         elim (before_code other code place at before) [
-          | inl earlier ↦ judged other place is_bad earlier
-          | inr here ↦ absurd (omega (arith, here.1, least other (subst (λ p. Bad other p) here.0 is_bad)))
+          | inl earlier ↦ judged other place is_invalid earlier
+          | inr here ↦ absurd (omega (arith, here.1, least other (subst (λ p. Faults other p) here.0 is_invalid)))
         ];
   }
 
   -- an accepted file has no first fault
-  pub first_not_accepted : (f : Fault) → IsFirst Bad f → IsAccepted Bad → ⊥
-  first_not_accepted f first accepted = accepted f.code f.place first.bad
+  pub first_not_accepted : (f : Fault) → IsFirst Faults f → IsAccepted Faults → ⊥
+  first_not_accepted f first accepted = accepted f.code f.place first.invalid
 
 module _ (Before After : Code → Place → Type 0) where
   pub first_of_before : (f : Fault) → IsFirst Before f → IsFirst (Then Before After) f
   first_of_before f first = record {
-    bad = inl first.bad;
-    least = λ code at is_bad before.
-        elim is_bad [
+    invalid = inl first.invalid;
+    least = λ code at is_invalid before.
+        elim is_invalid [
           | inl b ↦ first.least code at b before
-          | inr a ↦ a.0 f.code f.place first.bad
+          | inr a ↦ a.0 f.code f.place first.invalid
         ];
   }
 
   pub first_of_after : (f : Fault) → IsAccepted Before → IsFirst After f → IsFirst (Then Before After) f
   first_of_after f accepted first = record {
-    bad = inr (accepted, first.bad);
-    least = λ code at is_bad before.
-        elim is_bad [
+    invalid = inr (accepted, first.invalid);
+    least = λ code at is_invalid before.
+        elim is_invalid [
           | inl b ↦ accepted code at b
           | inr a ↦ first.least code at a.1 before
         ];
   }
 
   pub accepted_then : IsAccepted Before → IsAccepted After → IsAccepted (Then Before After)
-  accepted_then accepted after code at is_bad =
-      elim is_bad [
+  accepted_then accepted after code at is_invalid =
+      elim is_invalid [
         | inl b ↦ accepted code at b
         | inr a ↦ after code at a.1
       ]
 
 -- two rules that say the same have one first fault
-pub first_of_same : (Bad Same : Code → Place → Type 0) (f : Fault)
-    → ((code : Code) (at : Place) → Bad code at → Same code at) → ((code : Code) (at : Place) → Same code at → Bad code at) → IsFirst Bad f → IsFirst Same f
-first_of_same Bad Same f to from first = record {
-  bad = to f.code f.place first.bad;
-  least = λ code at is_bad before. first.least code at (from code at is_bad) before;
+pub first_of_same : (Faults Same : Code → Place → Type 0) (f : Fault)
+    → ((code : Code) (at : Place) → Faults code at → Same code at) → ((code : Code) (at : Place) → Same code at → Faults code at) → IsFirst Faults f → IsFirst Same f
+first_of_same Faults Same f to from first = record {
+  invalid = to f.code f.place first.invalid;
+  least = λ code at is_invalid before. first.least code at (from code at is_invalid) before;
 }
 
 -- in a part that has no tables, places are ordered by their bytes
 pub byte_before : (part : ℕ) (code : Code) (at here : ℕ) → ComesBefore (numbers code (at_byte part at)) (part ∷ 0 ∷ 0 ∷ 0 ∷ here ∷ []) → at < here
 byte_before part code at here h = grind arith
 
--- ---- the rows of tables: here is a front of a cell's numbers
+-- ---- the rows of tables: here is a prefix of a cell's numbers
 
-module _ (Bad : Code → Place → Type 0) (part table row column : ℕ) where
+module _ (Faults : Code → Place → Type 0) (part table row column : ℕ) where
   -- before the first column of a row stands nothing of the row
-  pub first_column : IsJudgedTo Bad (part ∷ table ∷ row ∷ []) → IsJudgedTo Bad (part ∷ table ∷ row ∷ 0 ∷ [])
-  first_column judged = λ code at bad before. judged code at bad (grind arith)
+  pub first_column : IsJudgedTo Faults (part ∷ table ∷ row ∷ []) → IsJudgedTo Faults (part ∷ table ∷ row ∷ 0 ∷ [])
+  first_column judged = λ code at invalid before. judged code at invalid (grind arith)
 
   -- before byte 0 of a cell stands nothing of the cell
-  pub first_byte : IsJudgedTo Bad (part ∷ table ∷ row ∷ column ∷ []) → IsJudgedTo Bad (part ∷ table ∷ row ∷ column ∷ 0 ∷ [])
-  first_byte judged = λ code at bad before. judged code at bad (grind arith)
+  pub first_byte : IsJudgedTo Faults (part ∷ table ∷ row ∷ column ∷ []) → IsJudgedTo Faults (part ∷ table ∷ row ∷ column ∷ 0 ∷ [])
+  first_byte judged = λ code at invalid before. judged code at invalid (grind arith)
 
   -- a column in which nothing is bad is passed
-  pub next_column : IsJudgedTo Bad (part ∷ table ∷ row ∷ column ∷ [])
-      → ((code : Code) (at : Place) → Bad code at → at.part ≡ part → at.table ≡ table → at.row ≡ row → at.column ≡ column → ⊥)
-      → IsJudgedTo Bad (part ∷ table ∷ row ∷ suc column ∷ [])
-  next_column judged none = λ code at bad before.
+  pub next_column : IsJudgedTo Faults (part ∷ table ∷ row ∷ column ∷ [])
+      → ((code : Code) (at : Place) → Faults code at → at.part ≡ part → at.table ≡ table → at.row ≡ row → at.column ≡ column → ⊥)
+      → IsJudgedTo Faults (part ∷ table ∷ row ∷ suc column ∷ [])
+  next_column judged none = λ code at invalid before.
       elim (before_next code at before) [
-        | inl earlier ↦ judged code at bad earlier
-        | inr here ↦ none code at bad here.0 here.1 here.2 here.3
+        | inl earlier ↦ judged code at invalid earlier
+        | inr here ↦ none code at invalid here.0 here.1 here.2 here.3
       ]
     where
       before_next : (code : Code) (at : Place) → ComesBefore (numbers code at) (part ∷ table ∷ row ∷ suc column ∷ [])
@@ -99,13 +99,13 @@ module _ (Bad : Code → Place → Type 0) (part table row column : ℕ) where
       before_next code at h = grind arith
 
   -- the rest of a row in which nothing is bad is passed
-  pub next_row : IsJudgedTo Bad (part ∷ table ∷ row ∷ column ∷ [])
-      → ((code : Code) (at : Place) → Bad code at → at.part ≡ part → at.table ≡ table → at.row ≡ row → column ≤ at.column → ⊥)
-      → IsJudgedTo Bad (part ∷ table ∷ suc row ∷ [])
-  next_row judged none = λ code at bad before.
+  pub next_row : IsJudgedTo Faults (part ∷ table ∷ row ∷ column ∷ [])
+      → ((code : Code) (at : Place) → Faults code at → at.part ≡ part → at.table ≡ table → at.row ≡ row → column ≤ at.column → ⊥)
+      → IsJudgedTo Faults (part ∷ table ∷ suc row ∷ [])
+  next_row judged none = λ code at invalid before.
       elim (before_next code at before) [
-        | inl earlier ↦ judged code at bad earlier
-        | inr here ↦ none code at bad here.0 here.1 here.2 here.3
+        | inl earlier ↦ judged code at invalid earlier
+        | inr here ↦ none code at invalid here.0 here.1 here.2 here.3
       ]
     where
       before_next : (code : Code) (at : Place) → ComesBefore (numbers code at) (part ∷ table ∷ suc row ∷ [])
@@ -113,13 +113,13 @@ module _ (Bad : Code → Place → Type 0) (part table row column : ℕ) where
       before_next code at h = grind arith
 
   -- the rest of a table in which nothing is bad is passed, and so are tables that have no rules
-  pub next_table : (next : ℕ) → IsJudgedTo Bad (part ∷ table ∷ row ∷ [])
-      → ((code : Code) (at : Place) → Bad code at → at.part ≡ part → (((at.table ≡ table) × (row ≤ at.row)) ⊎ ((table < at.table) × (at.table < next))) → ⊥)
-      → IsJudgedTo Bad (part ∷ next ∷ [])
-  next_table next judged none = λ code at bad before.
+  pub next_table : (next : ℕ) → IsJudgedTo Faults (part ∷ table ∷ row ∷ [])
+      → ((code : Code) (at : Place) → Faults code at → at.part ≡ part → (((at.table ≡ table) × (row ≤ at.row)) ⊎ ((table < at.table) × (at.table < next))) → ⊥)
+      → IsJudgedTo Faults (part ∷ next ∷ [])
+  next_table next judged none = λ code at invalid before.
       elim (before_next code at before) [
-        | inl earlier ↦ judged code at bad earlier
-        | inr here ↦ none code at bad here.0 here.1
+        | inl earlier ↦ judged code at invalid earlier
+        | inr here ↦ none code at invalid here.0 here.1
       ]
     where
       before_next : (code : Code) (at : Place) → ComesBefore (numbers code at) (part ∷ next ∷ [])
@@ -139,23 +139,23 @@ comes_before_trans (x ∷ xs) (y ∷ ys) (z ∷ zs) (inl a) (inr b) = inl (omega
 comes_before_trans (x ∷ xs) (y ∷ ys) (z ∷ zs) (inr a) (inl b) = inl (omega (arith, a.0, b))
 comes_before_trans (x ∷ xs) (y ∷ ys) (z ∷ zs) (inr a) (inr b) = inr (a.0 ∙ b.0, comes_before_trans xs ys zs a.1 b.1)
 
-module _ (Bad One Other : Code → Place → Type 0) (families : (code : Code) (at : Place) → Bad code at → One code at ⊎ Other code at) where
+module _ (Faults One Other : Code → Place → Type 0) (families : (code : Code) (at : Place) → Faults code at → One code at ⊎ Other code at) where
   -- of two families of rules, each with its first fault, the earlier fault is the first of all
-  pub first_of_two : (f g : Fault) → Bad f.code f.place → IsFirst One f → IsFirst Other g
-      → ComesBefore (numbers f.code f.place) (numbers g.code g.place) → IsFirst Bad f
-  first_of_two f g bad one other before = record {
-    bad = bad;
-    least = λ code at is_bad early. elim (families code at is_bad) [
+  pub first_of_two : (f g : Fault) → Faults f.code f.place → IsFirst One f → IsFirst Other g
+      → ComesBefore (numbers f.code f.place) (numbers g.code g.place) → IsFirst Faults f
+  first_of_two f g invalid one other before = record {
+    invalid = invalid;
+    least = λ code at is_invalid early. elim (families code at is_invalid) [
       | inl of_one ↦ one.least code at of_one early
       | inr of_other ↦ other.least code at of_other (comes_before_trans (numbers code at) (numbers f.code f.place) (numbers g.code g.place) early before)
     ];
   }
 
   -- where the other family has no fault before it, the first fault of the one is the first of all
-  pub first_of_one : (f : Fault) → Bad f.code f.place → IsFirst One f → IsJudgedTo Other (numbers f.code f.place) → IsFirst Bad f
-  first_of_one f bad one none = record {
-    bad = bad;
-    least = λ code at is_bad early. elim (families code at is_bad) [
+  pub first_of_one : (f : Fault) → Faults f.code f.place → IsFirst One f → IsJudgedTo Other (numbers f.code f.place) → IsFirst Faults f
+  first_of_one f invalid one none = record {
+    invalid = invalid;
+    least = λ code at is_invalid early. elim (families code at is_invalid) [
       | inl of_one ↦ one.least code at of_one early
       | inr of_other ↦ none code at of_other early
     ];
@@ -177,9 +177,9 @@ same_place : (p q : Place) → p.part ≡ q.part → p.table ≡ q.table → p.r
 same_place p q a b c d e = grind arith
 
 -- two first faults are one
-pub one_first : (Bad : Code → Place → Type 0) (f g : Fault) → IsFirst Bad f → IsFirst Bad g → f ≡ g
-one_first Bad f g a b =
-    let same = same_numbers f.code g.code f.place g.place (b.least f.code f.place a.bad) (a.least g.code g.place b.bad) in
+pub one_first : (Faults : Code → Place → Type 0) (f g : Fault) → IsFirst Faults f → IsFirst Faults g → f ≡ g
+one_first Faults f g a b =
+    let same = same_numbers f.code g.code f.place g.place (b.least f.code f.place a.invalid) (a.least g.code g.place b.invalid) in
     let code : f.code ≡ g.code = same_code f.code g.code same.5 in
     let place : f.place ≡ g.place = same_place f.place g.place same.0 same.1 same.2 same.3 same.4 in
     ap (λ c. record { code = c; place = f.place }) code ∙ ap (λ p. record { code = g.code; place = p }) place

@@ -28,10 +28,10 @@ by_order (suc n) P step (x ∷ xs) e = below (λ Q. by_order n Q) (suc x) x (ome
     below inner (suc k) y h ys ey = inner (λ rest. P (y ∷ rest))
         (λ rest er earlier. step (y ∷ rest) (omega (arith, er)) (at y rest (λ z less zs ez. below inner k z (omega (arith, less, h)) zs ez) earlier)) ys ey
 
-pub accepted_without_first : (Bad : Code → Place → Type 0) → AcceptedWithoutFirst Bad
-accepted_without_first Bad none code at bad =
-    by_order 6 (λ ns. (c : Code) (a : Place) → numbers c a ≡ ns → Bad c a → ⊥)
+pub accepted_without_first : (Faults : Code → Place → Type 0) → AcceptedWithoutFirst Faults
+accepted_without_first Faults none code at invalid =
+    by_order 6 (λ ns. (c : Code) (a : Place) → numbers c a ≡ ns → Faults c a → ⊥)
     (λ ns e earlier c a same b. none (record { code = c; place = a }) (record {
-      bad = b;
+      invalid = b;
       least = λ c' a' b' before. earlier (numbers c' a') refl (subst (λ z. ComesBefore (numbers c' a') z) same before) c' a' refl b';
-    })) (numbers code at) refl code at refl bad
+    })) (numbers code at) refl code at refl invalid

@@ -1,4 +1,4 @@
--- The files of a folder, where it tells what they hold.
+-- The files of a folder, where it reports what they hold.
 use Rattle.std.specs.Prelude.{ℕ, ◌≡◌, ◌⊎◌, List, ◌++◌, Option, None, Some, Result, Ok, Err, if◌then◌else◌, nat_lt, length}
 use Rattle.std.specs.Option.{option_map}
 use Rattle.std.specs.Cmp.Lexicographic.{slice_cmp}
@@ -33,17 +33,17 @@ Answers is (Err TooLong) into = is ≡ Longer
 Answers is (Err Failed) into = Unit {0}
 Answers is (Err Memory) into = Unit {0}
 
--- the files with this one in place of what had its name, where they are told
+-- the files with this one in place of what had its name, where they are reported
 abbrev pub with_file : Option Files → List ℕ → List ℕ → Option Files
 with_file files name bytes = option_map (λ all. insert all name bytes) files
 
--- the files with a front of the bytes as this one
-pub record HasFront (old new : Option Files) (name bytes : List ℕ) : Type 0 where
-  pub front : List ℕ
+-- the files with a prefix of the bytes as this one
+pub record HasPrefix (old new : Option Files) (name bytes : List ℕ) : Type 0 where
+  pub prefix : List ℕ
   pub rest : List ℕ
-  pub is_front : bytes ≡ front ++ rest
-  pub files : new ≡ with_file old name front
+  pub is_prefix : bytes ≡ prefix ++ rest
+  pub files : new ≡ with_file old name prefix
 
--- a write that failed left the file as it was, or with a front of the bytes
-abbrev pub LeavesFront : Option Files → Option Files → List ℕ → List ℕ → Type 0
-LeavesFront old new name bytes = (new ≡ old) ⊎ HasFront old new name bytes
+-- a write that failed left the file as it was, or with a prefix of the bytes
+abbrev pub LeavesPrefix : Option Files → Option Files → List ℕ → List ℕ → Type 0
+LeavesPrefix old new name bytes = (new ≡ old) ⊎ HasPrefix old new name bytes

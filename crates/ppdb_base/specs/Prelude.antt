@@ -11,8 +11,8 @@ pub use Rattle.ppdb_base.specs.declared.merge_error.MergeError.{MergeError}
 pub use Rattle.ppdb_base.specs.declared.link_error.LinkError.{LinkError}
 pub use Rattle.ppdb_base.specs.declared.offsets.Run.{Run}
 pub use Rattle.ppdb_base.specs.Causes.{Rose, counted}
-pub use Rattle.ppdb_base.specs.Files.{Files, reading, Reading, with_file, LeavesFront}
+pub use Rattle.ppdb_base.specs.Files.{Files, reading, Reading, with_file, LeavesPrefix}
 pub use Rattle.ppdb_base.specs.Fields.{IsField}
 pub use Rattle.ppdb_base.specs.First.{IsAccepted, IsJudgedTo, IsFirst, Then}
 pub use Rattle.ppdb_base.specs.Place.{number_of, numbers, ComesBefore, at_byte, cell}
-pub use Rattle.ppdb_base.specs.Written.{appended, AppendsFront, Puts}
+pub use Rattle.ppdb_base.specs.Written.{appended, AppendsPrefix, Puts}

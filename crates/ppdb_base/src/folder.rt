@@ -2,7 +2,7 @@
 ghost use Rattle.std.specs.Prelude.{◌≡◌, ◌≤◌, [], ℕ, Option, None, is_ok, length, OnOk, OnErr, IfSome, IsErrOf};
 ghost use Rattle.ppdb_base.specs.declared.folder.ReadError.TheVariants as read_errors;
 ghost use Rattle.ppdb_base.specs.Causes.{Rose, counted_where};
-ghost use Rattle.ppdb_base.specs.Files.{Files, reading, Answers, with_file, LeavesFront};
+ghost use Rattle.ppdb_base.specs.Files.{Files, reading, Answers, with_file, LeavesPrefix};
 
 use crate::list::{Bytes, Memory};
 use crate::sink::WriteError;
@@ -28,10 +28,10 @@ impl From<Memory> for ReadError {
     }
 }
 
-/// A folder of files by name. A folder in memory tells in contracts what its files hold; a real one does not,
+/// A folder of files by name. A folder in memory reports in contracts what its files hold; a real one does not,
 /// and its contracts speak of its counts alone.
 pub trait Folder {
-    /// The files by name, where the folder tells what they hold.
+    /// The files by name, where the folder reports what they hold.
     ghost files: { Self → Option Files };
 
     /// How often a read has failed.
@@ -61,10 +61,10 @@ pub trait Folder {
         ensures files { files self.new ≡ files self.old }
         ensures write_faults { write_faults self.new ≡ write_faults self.old };
 
-    /// Makes the file hold the bytes and nothing else. After an `Err` it is as before, or holds a front of them.
+    /// Makes the file hold the bytes and nothing else. After an `Err` it is as before, or holds a prefix of them.
     fn write(&mut self, name: &str, bytes: &[u8]) -> Result<(), WriteError>
         ensures ok { OnOk result (files self.new ≡ with_file (files self.old) name.now bytes.now) }
-        ensures err { OnErr result (LeavesFront (files self.old) (files self.new) name.now bytes.now) }
+        ensures err { OnErr result (LeavesPrefix (files self.old) (files self.new) name.now bytes.now) }
 
         ensures failed { IsErrOf result WriteError.Failed → Rose (write_faults self.old) (write_faults self.new) }
 

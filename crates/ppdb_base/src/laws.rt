@@ -6,10 +6,10 @@ ghost use Rattle.ppdb_base.specs.First.{AcceptedWithoutFirst};
 /// Rules, by what breaks them.
 pub trait Rules {
     /// The code is bad at the place.
-    ghost bad: { Code → Place → Type 0 };
+    ghost invalid: { Code → Place → Type 0 };
 }
 
 /// Where no fault is the first one, nothing is bad.
 pub fn none_first<R: Rules>()
-    ensures { AcceptedWithoutFirst R.bad }
+    ensures { AcceptedWithoutFirst R.invalid }
 {}

@@ -121,7 +121,7 @@ impl<T> List<T> {
 }
 
 impl<T: Drop> List<T> {
-    /// Puts an item behind the others. After a refusal the list is unchanged.
+    /// Puts an item after the others. After a refusal the list is unchanged.
     pub fn push(&mut self, item: T) -> Result<(), Memory>
         ensures ok { OnOk result (self.new ≡ self.old ++ item ∷ []) }
         ensures err { OnErr result (self.new ≡ self.old) }
@@ -157,7 +157,7 @@ impl<T: Copy> List<T> {
 }
 
 impl Bytes {
-    /// Puts all of the bytes behind the others. After a refusal the list is unchanged.
+    /// Puts all of the bytes after the others. After a refusal the list is unchanged.
     pub fn append(&mut self, bytes: &[u8]) -> Result<(), Memory>
         ensures ok { OnOk result (self.new ≡ self.old ++ bytes.now) }
         ensures err { OnErr result (self.new ≡ self.old) }

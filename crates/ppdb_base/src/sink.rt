@@ -24,7 +24,7 @@ impl From<Memory> for WriteError {
 
 /// What takes a program's text, in order.
 pub trait Sink {
-    /// The bytes put so far, where the sink tells them.
+    /// The bytes put so far, where the sink reports them.
     ghost written: { Self → Option (List ℕ) };
 
     /// How often a put has failed.

@@ -11,18 +11,18 @@ use Rattle.ppdb_base.specs.declared.limits.Limit.TheVariants.{TableRows}
 use Rattle.ppdb_tables.specs.RawTables.{numbered}
 use Rattle.ppdb_values.specs.declared.file.FileValue.{FileValue}
 use Rattle.ppdb_values.specs.Types.{IsGuid, HasTypes}
-use Rattle.heap_items.specs.Items.{first_uses}
-use Rattle.ppdb_canon.specs.Uses.{variables_of, constants_of, guid_uses}
-use Rattle.ppdb_canon.specs.Canonical.{counts, document_row, method_rows, scope_row, variable_row, constant_row, import_row, custom_row, canonical_tables}
-use Rattle.ppdb_canon.specs.Limits.{too_many_rows, tables, IsWithinLimits}
-use Rattle.ppdb_canon.proofs.Counts as known
-use Rattle.noted_items.specs.Noted.{cell}
-use Rattle.file_drafting.specs.Draft.{Draft}
-use Rattle.file_drafting.specs.Drafted.{held_document, held_method, held_scope, held_variable, held_constant, held_import, held_custom, held_rows, IsDraftOf}
-use Rattle.draft_layout.specs.Drafts.{counts_in}
-use Rattle.canonical_rows.proofs.Documents.{all_guids}
+use Rattle.ppdb_build_heaps.specs.Items.{first_uses}
+use Rattle.ppdb_build_canon.specs.Uses.{variables_of, constants_of, guid_uses}
+use Rattle.ppdb_build_canon.specs.Canonical.{counts, document_row, method_rows, scope_row, variable_row, constant_row, import_row, custom_row, canonical_tables}
+use Rattle.ppdb_build_canon.specs.Limits.{too_many_rows, tables, IsWithinLimits}
+use Rattle.ppdb_build_canon.proofs.Counts as known
+use Rattle.ppdb_build_items.specs.Interned.{cell}
+use Rattle.ppdb_build_draft.specs.Draft.{Draft}
+use Rattle.ppdb_build_draft.specs.Drafted.{held_document, held_method, held_scope, held_variable, held_constant, held_import, held_custom, held_rows, IsDraftOf}
+use Rattle.ppdb_build_bytes.specs.Drafts.{counts_in}
+use Rattle.ppdb_build_rows_laws.proofs.Documents.{all_guids}
 use Rattle.ppdb_build.specs.Building.{early_limit_of}
-use Rattle.value_limits.proofs.Firsts.{first_or}
+use Rattle.ppdb_build_limits.proofs.Firsts.{first_or}
 use Rattle.ppdb_build.proofs.Limits.{neither, not_above}
 
 -- ---- GUIDs

@@ -7,20 +7,20 @@ use Rattle.ppdb_base.specs.declared.limits.Limit.{Limit}
 use Rattle.ppdb_base.specs.declared.limits.Limit.TheVariants.{FileSize, SpanTotal}
 use Rattle.ppdb_tables.specs.declared.head.PdbHead.{PdbHead}
 use Rattle.ppdb_base.specs.Told.{told}
-use Rattle.file_layout.specs.Bytes.{file_bytes}
+use Rattle.ppdb_build_layout.specs.Bytes.{file_bytes}
 use Rattle.ppdb_values.specs.declared.file.FileValue.{FileValue}
-use Rattle.ppdb_canon.specs.declared.choice.IdChoice.{IdChoice}
-use Rattle.ppdb_canon.specs.Canonical.{canonical, counts}
-use Rattle.ppdb_canon.specs.Canon.{canon}
+use Rattle.ppdb_build_canon.specs.declared.choice.IdChoice.{IdChoice}
+use Rattle.ppdb_build_canon.specs.Canonical.{canonical, counts}
+use Rattle.ppdb_build_canon.specs.Canon.{canon}
 use Rattle.ppdb_values.specs.Types.{HasTypes}
-use Rattle.sound_values.specs.Sound.{IsSound}
-use Rattle.ppdb_canon.specs.Limits.{above, first_met, list_past_end, large_step_of, span, first_limit}
-use Rattle.file_drafting.specs.Draft.{Draft}
-use Rattle.file_drafting.specs.Drafted.{drafted, IsDraftOf, DraftsAreCanonical}
-use Rattle.row_drafting.specs.Unlimited.{PassesNoEarlyLimit}
-use Rattle.draft_layout.specs.Drafts.{debug_counts_of, counts_in, file_from, id_in}
-use Rattle.draft_layout.proofs.Counts.{counts_joined}
-use Rattle.draft_layout.proofs.Laid.{draft_length}
+use Rattle.ppdb_values_sound_laws.specs.Sound.{IsSound}
+use Rattle.ppdb_build_canon.specs.Limits.{above, first_met, list_past_end, large_step_of, span, first_limit}
+use Rattle.ppdb_build_draft.specs.Draft.{Draft}
+use Rattle.ppdb_build_draft.specs.Drafted.{drafted, IsDraftOf, DraftsAreCanonical}
+use Rattle.ppdb_build_from_rows.specs.Unlimited.{PassesNoEarlyLimit}
+use Rattle.ppdb_build_bytes.specs.Drafts.{debug_counts_of, counts_in, file_from, id_in}
+use Rattle.ppdb_build_bytes.proofs.Counts.{counts_joined}
+use Rattle.ppdb_build_bytes.proofs.Laid.{draft_length}
 use Rattle.ppdb_build.specs.Building.{IsDraftedFrom, early_limit_of}
 use Rattle.ppdb_build.proofs.Counted.{are_few, counts_same}
 use Rattle.ppdb_build.proofs.Limits.{late_first, lists_alone}
@@ -31,14 +31,14 @@ pub counts_told : (value : FileValue) (head : PdbHead) (draft : Draft) → IsDra
     → counts_in head.rows draft.rows ≡ counts_in value.rows draft.rows
 counts_told value head draft is =
     sym (counts_joined head.rows draft.rows)
-    ∙ ap (λ front. front ++ drop 0x2d (debug_counts_of draft.rows)) is.rows
+    ∙ ap (λ prefix. prefix ++ drop 0x2d (debug_counts_of draft.rows)) is.rows
     ∙ counts_joined value.rows draft.rows
 
 -- the row counts are those of the canonical file
 pub counts_are : (value : FileValue) (head : PdbHead) (draft : Draft) → IsDraftedFrom value head draft → counts_in head.rows draft.rows ≡ counts value
 counts_are value head draft is = counts_told value head draft is ∙ counts_same value draft (are_few value is.types.rows is.early) is.is_draft
 
--- the first limit of the value is that of the length and of the sum of lengths, as they are told
+-- the first limit of the value is that of the length and of the sum of lengths, as they are reported
 pub limit_is : (value : FileValue) (head : PdbHead) (draft : Draft) → IsDraftedFrom value head draft
     → (all : List ℕ) → all ≡ counts_in head.rows draft.rows
     → (len total : ℕ) (limit : Option Limit)

@@ -9,10 +9,10 @@ use Rattle.sequence_points.specs.Written.{first_of}
 use Rattle.ppdb_base.specs.declared.limits.Limit.{Limit}
 use Rattle.ppdb_base.specs.declared.limits.Limit.TheVariants.{FileSize, SpanTotal}
 use Rattle.ppdb_base.specs.Told.{told}
-use Rattle.file_layout.specs.Bytes.{file_bytes}
+use Rattle.ppdb_build_layout.specs.Bytes.{file_bytes}
 use Rattle.ppdb_values.specs.declared.file.FileValue.{FileValue}
-use Rattle.ppdb_canon.specs.Canonical.{canonical}
-use Rattle.ppdb_canon.specs.Limits.{above, first_met, too_many_rows, tables, list_past_end, large_offset, large_step_of, span, first_limit}
+use Rattle.ppdb_build_canon.specs.Canonical.{canonical}
+use Rattle.ppdb_build_canon.specs.Limits.{above, first_met, too_many_rows, tables, list_past_end, large_offset, large_step_of, span, first_limit}
 use Rattle.ppdb_build.specs.declared.error.BuildError.{BuildError}
 use Rattle.ppdb_build.specs.declared.error.BuildError.TheVariants.{Limit as Passed, Memory}
 use Rattle.ppdb_build.specs.Building.{IsLimit, IsLimitOf, early_limit_of}
@@ -41,7 +41,7 @@ lists_alone a b c d first last =
     by None (Some x) = refl
     by None None = refl
 
--- L4, and L5 and L6 behind it
+-- L4, and L5 and L6 after it
 abbrev pub step_of : FileValue → Option Limit
 step_of value = first_of (filter_map large_step_of value.methods)
 

@@ -16,13 +16,13 @@ use Rattle.ppdb_values.specs.declared.file.MethodValue.{MethodValue}
 use Rattle.ppdb_values.specs.declared.scope.ScopeValue.{ScopeValue}
 use Rattle.ppdb_values.specs.Ordered.{EachRow}
 use Rattle.ppdb_values.specs.Types.{HasTypes}
-use Rattle.sound_values.specs.Named.{count}
-use Rattle.sound_values.specs.Sound.{IsSound}
-use Rattle.sound_values.specs.Writing.{HasSpelling, SoundPartsCanBeWritten}
-use Rattle.ppdb_canon.specs.Limits.{too_many_rows, tables, list_past_end, large_offset, large_step_of}
-use Rattle.ppdb_canon.proofs.Among.{among_rows}
-use Rattle.ppdb_canon.proofs.Limits.{nothing_mapped, no_first, none_made, none_found}
-use Rattle.value_limits.proofs.Firsts.{first_at}
+use Rattle.ppdb_values_sound_laws.specs.Named.{count}
+use Rattle.ppdb_values_sound_laws.specs.Sound.{IsSound}
+use Rattle.ppdb_values_sound_laws.specs.Writing.{HasSpelling, SoundPartsCanBeWritten}
+use Rattle.ppdb_build_canon.specs.Limits.{too_many_rows, tables, list_past_end, large_offset, large_step_of}
+use Rattle.ppdb_build_canon.proofs.Among.{among_rows}
+use Rattle.ppdb_build_canon.proofs.Limits.{nothing_mapped, no_first, none_made, none_found}
+use Rattle.ppdb_build_limits.proofs.Firsts.{first_at}
 use Rattle.ppdb_build.specs.declared.error.BuildError.{BuildError}
 use Rattle.ppdb_build.specs.declared.error.BuildError.TheVariants.{Limit as Passed, Memory}
 use Rattle.ppdb_build.specs.Building.{IsLimit, early_limit_of, IsWritableMethod, IsWritableConstant, IsWritableScope, IsWritableImport}

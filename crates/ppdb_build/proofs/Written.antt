@@ -1,15 +1,15 @@
 -- The file of a draft is the one that is written.
 use Rattle.std.proofs.Common.{◌≡◌, ℕ, List, length, replicate, refl, ap, ◌∙◌}
 use Rattle.sha2.specs.Sha256.{sha256}
-use Rattle.file_layout.specs.Bytes.{file_bytes}
+use Rattle.ppdb_build_layout.specs.Bytes.{file_bytes}
 use Rattle.ppdb_values.specs.declared.file.FileValue.{FileValue}
-use Rattle.ppdb_canon.specs.declared.choice.IdChoice.{IdChoice}
-use Rattle.ppdb_canon.specs.declared.choice.IdChoice.TheVariants.{Hash, Keep}
-use Rattle.ppdb_canon.specs.Canonical.{canonical}
-use Rattle.ppdb_canon.specs.Canon.{canon, chosen_id, id_from}
-use Rattle.ppdb_canon.proofs.Ids.{ids_forgotten}
-use Rattle.file_drafting.specs.Draft.{Draft}
-use Rattle.draft_layout.specs.Drafts.{file_from, id_in}
+use Rattle.ppdb_build_canon.specs.declared.choice.IdChoice.{IdChoice}
+use Rattle.ppdb_build_canon.specs.declared.choice.IdChoice.TheVariants.{Hash, Keep}
+use Rattle.ppdb_build_canon.specs.Canonical.{canonical}
+use Rattle.ppdb_build_canon.specs.Canon.{canon, chosen_id, id_from}
+use Rattle.ppdb_build_canon.proofs.Ids.{ids_forgotten}
+use Rattle.ppdb_build_draft.specs.Draft.{Draft}
+use Rattle.ppdb_build_bytes.specs.Drafts.{file_from, id_in}
 
 pub written_is : (value : FileValue) (counts : List ℕ) (draft : Draft) (choice : IdChoice) → length value.id ≡ 20
     → ((id : List ℕ) → length id ≡ 20 → file_from id value.entry counts draft ≡ canonical value id)

@@ -12,13 +12,13 @@ use Rattle.ppdb_values.specs.declared.scope.ScopeValue.{ScopeValue}
 use Rattle.ppdb_values.specs.declared.scope.ConstantValue.{ConstantValue}
 use Rattle.ppdb_values.specs.declared.import.ImportScopeValue.{ImportScopeValue}
 use Rattle.ppdb_values.specs.declared.custom.CustomValue.{CustomValue}
-use Rattle.sound_values.specs.Scopes.{stored_body}
+use Rattle.ppdb_values_sound_laws.specs.Scopes.{stored_body}
 use Rattle.ppdb_values.specs.Types.{HasTypes}
-use Rattle.sound_values.specs.Sound.{IsSound}
-use Rattle.sound_values.specs.Writing.{HasSpelling, IsWritable}
-use Rattle.ppdb_canon.specs.Limits.{first_met, too_many_rows, tables, list_past_end, large_offset, large_step_of, first_limit}
-use Rattle.file_drafting.specs.Draft.{Draft, with_scope, with_constants, with_import, with_machine, with_custom}
-use Rattle.file_drafting.specs.Drafted.{IsDraftOf}
+use Rattle.ppdb_values_sound_laws.specs.Sound.{IsSound}
+use Rattle.ppdb_values_sound_laws.specs.Writing.{HasSpelling, IsWritable}
+use Rattle.ppdb_build_canon.specs.Limits.{first_met, too_many_rows, tables, list_past_end, large_offset, large_step_of, first_limit}
+use Rattle.ppdb_build_draft.specs.Draft.{Draft, with_scope, with_constants, with_import, with_machine, with_custom}
+use Rattle.ppdb_build_draft.specs.Drafted.{IsDraftOf}
 use Rattle.ppdb_build.specs.declared.error.BuildError.{BuildError}
 use Rattle.ppdb_build.specs.declared.error.BuildError.TheVariants.{Limit as Passed, Memory}
 
@@ -60,7 +60,7 @@ pub record ArePartsWritable (value : FileValue) : Type 0 where
   pub imports : All IsWritableImport value.imports
   pub customs : All IsWritableCustom value.customs
 
--- ---- the parts behind the methods
+-- ---- the parts after the methods
 
 abbrev pub after_methods : Draft → FileValue → Draft
 after_methods draft value =

@@ -4,23 +4,23 @@ ghost use Rattle.ppdb_values.specs.declared.FileValue.{FileValue};
 ghost use Rattle.ppdb_values.specs.Types.{IsGuid};
 ghost use Rattle.ppdb_base.specs.First.{IsAccepted};
 ghost use Rattle.ppdb_values.specs.RawFile.{RawFile};
-ghost use Rattle.ppdb_verify.specs.Files.{BadFile, IsRawOf};
-ghost use Rattle.written_files.specs.Written.{IsSameAgain, Says};
-ghost use Rattle.ppdb_canon.specs.Canon.{canon, chosen_id, with_id};
-ghost use Rattle.ppdb_canon.specs.Canonical.{canonical};
-ghost use Rattle.ppdb_canon.specs.Limits.{first_limit};
-ghost use Rattle.draft_layout.specs.Drafts.{counts_in, file_from, CanBeLaid};
+ghost use Rattle.ppdb_verify.specs.Files.{FileFaults, IsRawOf};
+ghost use Rattle.ppdb_build_written_laws.specs.Written.{IsSameAgain, Says};
+ghost use Rattle.ppdb_build_canon.specs.Canon.{canon, chosen_id, with_id};
+ghost use Rattle.ppdb_build_canon.specs.Canonical.{canonical};
+ghost use Rattle.ppdb_build_canon.specs.Limits.{first_limit};
+ghost use Rattle.ppdb_build_bytes.specs.Drafts.{counts_in, file_from, CanBeLaid};
 ghost use Rattle.ppdb_build.specs.Building.{IsLimitOf, IsDraftedFrom, HasValue};
 
 use crate::error::BuildError;
-use canonical_rows::canonical_rows_are_reread;
-use draft_layout::{counts_of, draft_len, file_of, late_limit};
-use file_drafting::Drafting;
 use ppdb_base::Bytes;
-use ppdb_canon::{IdChoice, values_without_limits_are_small};
+use ppdb_build_bytes::{counts_of, draft_len, file_of, late_limit};
+use ppdb_build_canon::{IdChoice, values_without_limits_are_small};
+use ppdb_build_draft::Drafting;
+use ppdb_build_rows_laws::canonical_rows_are_reread;
+use ppdb_build_written_laws::{written_files_are_canonical, written_files_are_valid};
 use ppdb_tables::PdbHead;
 use std::alloc::Global;
-use written_files::{written_files_are_canonical, written_files_are_valid};
 
 /// The GUIDs of the draft of a value have 16 bytes each.
 fn guids_are_long(head: &PdbHead, draft: &Drafting)
@@ -52,7 +52,7 @@ pub(crate) fn file_of_draft(
     ensures written { (value : FileValue) → IsDraftedFrom value head.now draft.now → IfOk result (λ bytes. bytes ≡ canon value id) }
     ensures within { (value : FileValue) → IsDraftedFrom value head.now draft.now → OnOk result (first_limit value ≡ None) }
     ensures limit { (value : FileValue) → IsDraftedFrom value head.now draft.now → IfErr result (IsLimitOf value) }
-    ensures accepted { IfOk result (λ bytes. IsAccepted (BadFile bytes)) }
+    ensures accepted { IfOk result (λ bytes. IsAccepted (FileFaults bytes)) }
     ensures reread { (value : FileValue) → IsDraftedFrom value head.now draft.now → IfOk result (λ bytes. Says bytes (with_id value (chosen_id value id))) }
     ensures again { (value : FileValue) → IsDraftedFrom value head.now draft.now
         → IfOk result (λ bytes. (again : RawFile) → IsRawOf bytes again → IsSameAgain value id again) }

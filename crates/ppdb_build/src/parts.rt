@@ -2,17 +2,17 @@
 ghost use Rattle.std.specs.Prelude.{◌≡◌, None, fold, slice_index, All, OnOk, IfOk, IfErr};
 ghost use Rattle.std.specs.List.{filter_map};
 ghost use Rattle.sequence_points.specs.Written.{first_of};
-ghost use Rattle.ppdb_canon.specs.Limits.{large_step_of};
-ghost use Rattle.file_drafting.specs.Draft.{empty_draft, with_document, with_method, with_all_methods, with_variable, with_scope};
-ghost use Rattle.file_drafting.specs.Draft.{with_constant, with_constants, with_import, with_machine, with_custom};
-ghost use Rattle.file_drafting.specs.Drafted.{drafted};
+ghost use Rattle.ppdb_build_canon.specs.Limits.{large_step_of};
+ghost use Rattle.ppdb_build_draft.specs.Draft.{empty_draft, with_document, with_method, with_all_methods, with_variable, with_scope};
+ghost use Rattle.ppdb_build_draft.specs.Draft.{with_constant, with_constants, with_import, with_machine, with_custom};
+ghost use Rattle.ppdb_build_draft.specs.Drafted.{drafted};
 ghost use Rattle.ppdb_build.specs.Building.{IsWritableMethod, IsWritableConstant, IsWritableScope, IsWritableImport, IsWritableCustom};
 ghost use Rattle.ppdb_build.specs.Building.{ArePartsWritable, IsLimit, after_methods};
 
 use crate::error::BuildError;
-use file_drafting::{Drafting, lent_body};
-use heap_items::ItemStore;
 use ppdb_base::{Limit, Memory};
+use ppdb_build_draft::{Drafting, lent_body};
+use ppdb_build_heaps::ItemStore;
 use ppdb_tables::MachineRow;
 use ppdb_values::{
     ConstantValue, CustomValue, DocumentValue, FileValue, ImportScopeValue, MethodValue,
@@ -164,7 +164,7 @@ fn add_documents_and_methods(draft: &mut Drafting, value: &FileValue) -> Result<
     Ok(())
 }
 
-/// Adds the parts behind the methods.
+/// Adds the parts after the methods.
 fn add_rest(draft: &mut Drafting, value: &FileValue) -> Result<(), Memory>
     requires { ArePartsWritable value.now }
     ensures { OnOk result (draft.new ≡ after_methods draft.old value.now) }
@@ -178,7 +178,7 @@ fn add_rest(draft: &mut Drafting, value: &FileValue) -> Result<(), Memory>
 }
 
 /// Adds all parts, table by table, up to the first step from line to line that has no form, L4.
-#[tactic(auto, unfolding(file_drafting::specs::Drafted::drafted))]
+#[tactic(auto, unfolding(ppdb_build_draft::specs::Drafted::drafted))]
 fn add_parts(draft: &mut Drafting, value: &FileValue) -> Result<(), BuildError>
     requires writable { ArePartsWritable value.now }
     requires empty { draft.old ≡ empty_draft }

@@ -2,26 +2,26 @@
 ghost use Rattle.std.specs.Prelude.{◌≡◌, ◌+◌, None, OnOk, IfOk, IfErr, length};
 ghost use Rattle.ppdb_base.specs.First.{IsAccepted};
 ghost use Rattle.ppdb_values.specs.Value.{value_of as value_in};
-ghost use Rattle.ppdb_verify.specs.Files.{BadFile, IsRawOf};
+ghost use Rattle.ppdb_verify.specs.Files.{FileFaults, IsRawOf};
 ghost use Rattle.ppdb_values.specs.RawFile.{RawFile};
 ghost use Rattle.ppdb_verify.specs.Views.{head_of, raw_file};
-ghost use Rattle.value_reading.specs.Totals.{row_total};
-ghost use Rattle.ppdb_canon.specs.Canon.{canon, chosen_id, with_id};
-ghost use Rattle.ppdb_canon.specs.Limits.{first_limit};
-ghost use Rattle.written_files.specs.Written.{IsSameAgain, Says};
-ghost use Rattle.file_drafting.specs.Drafted.{IsDraftOf};
+ghost use Rattle.ppdb_values_reading.specs.Totals.{row_total};
+ghost use Rattle.ppdb_build_canon.specs.Canon.{canon, chosen_id, with_id};
+ghost use Rattle.ppdb_build_canon.specs.Limits.{first_limit};
+ghost use Rattle.ppdb_build_written_laws.specs.Written.{IsSameAgain, Says};
+ghost use Rattle.ppdb_build_draft.specs.Drafted.{IsDraftOf};
 ghost use Rattle.ppdb_values.specs.Types.{HasTypes};
 ghost use Rattle.ppdb_build.specs.Building.{IsLimitOf, IsDraftedFrom, early_limit_of};
 
 use crate::error::BuildError;
 use crate::finish::file_of_draft;
-use file_drafting::Drafting;
-use heap_items::{ItemKey, ItemStore};
 use ppdb_base::{Bytes, Limit, Memory, Steps};
-use ppdb_canon::IdChoice;
+use ppdb_build_canon::IdChoice;
+use ppdb_build_draft::Drafting;
+use ppdb_build_from_rows::{draft_of_file, files_pass_no_early_limit, list_limit};
+use ppdb_build_heaps::{ItemKey, ItemStore};
 use ppdb_tables::PdbHead;
 use ppdb_verify::Verified;
-use row_drafting::{draft_of_file, files_pass_no_early_limit, list_limit};
 use std::alloc::Global;
 use std::sync::ledger::Ledger;
 
@@ -46,7 +46,7 @@ fn is_drafted(file: &Verified<'_>, head: &PdbHead, draft: &Drafting)
     rows_are_long(head);
 }
 
-/// L1 to L3. The rules show that a file passes neither L1 nor L3; the draft tells L2.
+/// L1 to L3. The rules show that a file passes neither L1 nor L3; the draft reports L2.
 fn early_limit_in(file: &Verified<'_>, draft: &Drafting) -> Option<Limit>
     requires { IsDraftOf (value_in (raw_file file.now)) draft.now }
     ensures { result ≡ early_limit_of (value_in (raw_file file.now)) }
@@ -68,7 +68,7 @@ fn bytes_of(
     ensures written { IfOk result (λ bytes. bytes ≡ canon (value_in (raw_file file.now)) id) }
     ensures within { OnOk result (first_limit (value_in (raw_file file.now)) ≡ None) }
     ensures limit { IfErr result (IsLimitOf (value_in (raw_file file.now))) }
-    ensures accepted { IfOk result (λ bytes. IsAccepted (BadFile bytes)) }
+    ensures accepted { IfOk result (λ bytes. IsAccepted (FileFaults bytes)) }
     ensures reread { IfOk result (λ bytes. Says bytes (with_id (value_in (raw_file file.now)) (chosen_id (value_in (raw_file file.now)) id))) }
     ensures again { IfOk result (λ bytes. (again : RawFile) → IsRawOf bytes again → IsSameAgain (value_in (raw_file file.now)) id again) }
 {
@@ -101,7 +101,7 @@ pub fn rebuild<L: Ledger>(
     ensures within { OnOk result (first_limit (value_in (raw_file file.now)) ≡ None) }
     ensures rows { OnOk result (steps.new ≡ steps.old + row_total (raw_file file.now).tables) }
     ensures limit { IfErr result (IsLimitOf (value_in (raw_file file.now))) }
-    ensures accepted { IfOk result (λ bytes. IsAccepted (BadFile bytes)) }
+    ensures accepted { IfOk result (λ bytes. IsAccepted (FileFaults bytes)) }
     ensures reread { IfOk result (λ bytes. Says bytes (with_id (value_in (raw_file file.now)) (chosen_id (value_in (raw_file file.now)) id))) }
     ensures again { IfOk result (λ bytes. (again : RawFile) → IsRawOf bytes again → IsSameAgain (value_in (raw_file file.now)) id again) }
 {

@@ -1,7 +1,7 @@
 // The key under which the items of a value's file are hashed. No clause speaks of it: the file is the same under each key.
 use custom_info::{AsyncStep, Slot};
-use heap_items::{ItemKey, KeyMaker};
 use ppdb_base::Bytes;
+use ppdb_build_heaps::{ItemKey, KeyMaker};
 use ppdb_values::{
     ConstantBody, ConstantValue, CustomBody, CustomValue, DocumentValue, FileValue, ImportValue,
     MethodValue,

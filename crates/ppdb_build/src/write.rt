@@ -1,31 +1,31 @@
 // A value as its file.
 ghost use Rattle.std.specs.Prelude.{◌≡◌, None, OnOk, IfOk, IfErr, length};
 ghost use Rattle.ppdb_values.specs.Types.{HasTypes};
-ghost use Rattle.sound_values.specs.Sound.{IsSound};
-ghost use Rattle.ppdb_canon.specs.Canon.{canon, chosen_id, with_id};
+ghost use Rattle.ppdb_values_sound_laws.specs.Sound.{IsSound};
+ghost use Rattle.ppdb_build_canon.specs.Canon.{canon, chosen_id, with_id};
 ghost use Rattle.ppdb_base.specs.First.{IsAccepted};
 ghost use Rattle.ppdb_values.specs.RawFile.{RawFile};
-ghost use Rattle.ppdb_verify.specs.Files.{BadFile, IsRawOf};
-ghost use Rattle.written_files.specs.Written.{IsSameAgain, Says};
+ghost use Rattle.ppdb_verify.specs.Files.{FileFaults, IsRawOf};
+ghost use Rattle.ppdb_build_written_laws.specs.Written.{IsSameAgain, Says};
 ghost use Rattle.std.specs.List.{filter_map};
 ghost use Rattle.sequence_points.specs.Written.{first_of};
-ghost use Rattle.ppdb_canon.specs.Limits.{first_limit, large_step_of};
-ghost use Rattle.file_drafting.specs.Drafted.{drafted};
+ghost use Rattle.ppdb_build_canon.specs.Limits.{first_limit, large_step_of};
+ghost use Rattle.ppdb_build_draft.specs.Drafted.{drafted};
 ghost use Rattle.ppdb_build.specs.Building.{IsLimitOf, ArePartsWritable, early_limit_of};
 
 use crate::error::BuildError;
 use crate::finish::file_of_draft;
 use crate::parts::draft_of;
 use crate::value_key::key_of;
-use file_drafting::{Drafting, drafts_are_canonical};
-use heap_items::{ItemKey, ItemStore};
 use ppdb_base::{Bytes, Limit};
-use ppdb_canon::IdChoice;
+use ppdb_build_canon::IdChoice;
+use ppdb_build_draft::{Drafting, drafts_are_canonical};
+use ppdb_build_heaps::{ItemKey, ItemStore};
+use ppdb_build_limits::{length_limit, offset_limit, value_has_types};
 use ppdb_tables::PdbHead;
 use ppdb_values::FileValue;
-use sound_values::sound_parts_can_be_written;
+use ppdb_values_sound_laws::sound_parts_can_be_written;
 use std::alloc::Global;
-use value_limits::{length_limit, offset_limit, value_has_types};
 
 /// L1 to L3: the first limit that lengths and offsets pass.
 fn early_limit(value: &FileValue) -> Option<Limit>
@@ -60,7 +60,7 @@ fn bytes_of(
     ensures written { IfOk result (λ bytes. bytes ≡ canon value.now id) }
     ensures within { OnOk result (first_limit value.now ≡ None) }
     ensures limit { IfErr result (IsLimitOf value.now) }
-    ensures accepted { IfOk result (λ bytes. IsAccepted (BadFile bytes)) }
+    ensures accepted { IfOk result (λ bytes. IsAccepted (FileFaults bytes)) }
     ensures reread { IfOk result (λ bytes. Says bytes (with_id value.now (chosen_id value.now id))) }
     ensures again { IfOk result (λ bytes. (again : RawFile) → IsRawOf bytes again → IsSameAgain value.now id again) }
 {
@@ -86,7 +86,7 @@ pub fn write_file(alloc: Global, value: &FileValue, id: IdChoice) -> Result<Byte
     ensures written { IfOk result (λ bytes. bytes ≡ canon value.now id) }
     ensures within { OnOk result (first_limit value.now ≡ None) }
     ensures limit { IfErr result (IsLimitOf value.now) }
-    ensures accepted { IfOk result (λ bytes. IsAccepted (BadFile bytes)) }
+    ensures accepted { IfOk result (λ bytes. IsAccepted (FileFaults bytes)) }
     ensures reread { IfOk result (λ bytes. Says bytes (with_id value.now (chosen_id value.now id))) }
     ensures again { IfOk result (λ bytes. (again : RawFile) → IsRawOf bytes again → IsSameAgain value.now id again) }
 {
@@ -109,7 +109,7 @@ pub fn write_file_under(
     ensures written { IfOk result (λ bytes. bytes ≡ canon value.now id) }
     ensures within { OnOk result (first_limit value.now ≡ None) }
     ensures limit { IfErr result (IsLimitOf value.now) }
-    ensures accepted { IfOk result (λ bytes. IsAccepted (BadFile bytes)) }
+    ensures accepted { IfOk result (λ bytes. IsAccepted (FileFaults bytes)) }
     ensures reread { IfOk result (λ bytes. Says bytes (with_id value.now (chosen_id value.now id))) }
     ensures again { IfOk result (λ bytes. (again : RawFile) → IsRawOf bytes again → IsSameAgain value.now id again) }
 {

@@ -178,7 +178,7 @@ that rewrote the result of FIRST. The output is canonical. Prints nothing. Both 
 OUT is written, so OUT may be one of them.
 A method must have the same size after FIRST and before SECOND. Otherwise SECOND was made for
 another body: the line is `sizes differ method M A B` for the first such method, and the status is
-13. A text that is not a map is reported by its first bad line and the rule that it breaks, with
+13. A text that is not a map is reported by its first invalid line and the rule that it breaks, with
 status 8.
 ";
 

@@ -89,7 +89,7 @@ impl<W: Write> StdSink<W> {
         self.kept = end;
     }
 
-    /// Keeps the bytes behind those that are kept, or writes them where they are too many.
+    /// Keeps the bytes after those that are kept, or writes them where they are too many.
     #[inline(always)]
     fn take(&mut self, bytes: &[u8]) -> Result<(), WriteError>
         ensures faults { self.new.faults ≡ self.old.faults }

@@ -23,7 +23,7 @@ err-of [] (Some g) f e = cc
 abbrev after_separator : List ℕ → List (List ℕ) → List ℕ
 after_separator sep contents = flat_map (λ content. sep ++ content) contents
 
--- What was joined so far, and the parts left behind it, are the name.
+-- What was joined so far, and the parts left after it, are the name.
 pub record Joining (blobs blob old sep into : List ℕ) (left : Left (List ℕ)) : Type 0 where
   pub contents : List (List ℕ)
   pub reading : NameReading blobs blob sep contents left.fault

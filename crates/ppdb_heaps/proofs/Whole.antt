@@ -7,7 +7,7 @@ use Rattle.blob_grammar.specs.Places.{HasFields}
 use Rattle.blob_grammar.specs.Reader.{read_from}
 use Rattle.blob_grammar.proofs.Readers.{read_from-reads}
 use Rattle.blob_grammar.proofs.Unique.{reading-unique}
-use Rattle.blob_grammar.proofs.FrontFields.{are-fields}
+use Rattle.blob_grammar.proofs.PrefixFields.{are-fields}
 use Rattle.ppdb_heaps.specs.Names.{NamePart, names, part_index, joined, IsName, name_of, name_indexes}
 
 -- A blob that is a whole name has one text, and it is name_of.

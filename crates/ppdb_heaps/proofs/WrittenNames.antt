@@ -9,7 +9,7 @@ use Rattle.blob_grammar.specs.Reading.{Reading}
 use Rattle.blob_grammar.specs.Places.{placed_from}
 use Rattle.blob_grammar.specs.Reader.{cut_from}
 use Rattle.blob_grammar.proofs.Written.{FollowFrom, fields_read, written_fields, number_field, number_allowed}
-use Rattle.blob_grammar.proofs.FrontFields.{fields-are}
+use Rattle.blob_grammar.proofs.PrefixFields.{fields-are}
 use Rattle.ppdb_heaps.specs.Heaps.{blob_at}
 use Rattle.ppdb_heaps.specs.Names.{NamePart, separator, part, part_of, names, without_zero, contents_of, IsName, part_index}
 use Rattle.ppdb_heaps.specs.Names.{name_indexes, name_spelling, indexes_at, IsWritable}
@@ -58,7 +58,7 @@ module _ (blobs : List ℕ) where
             ∙ ap (λ l. after (first ∷ l)) (append_assoc others (part c ∷ []) (map (λ content. part content) cs)),
       )
 
-  -- each index is told at its byte
+  -- each index is reported at its byte
   told : (place : Cut NamePart) (at : ℕ) (indexes : List ℕ) → flat_map part_index (placed_from (names blobs) place at (index_fields indexes))
       ≡ indexes_at at indexes
   told place at [] = refl

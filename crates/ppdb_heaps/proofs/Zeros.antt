@@ -1,4 +1,4 @@
--- Behind the last zero of #Strings stands no text.
+-- After the last zero of #Strings stands no text.
 use Rattle.std.proofs.Common.{◌≡◌, ◌≢◌, ℕ, zero, suc, ◌+◌, ◌-◌, ◌≤◌, ◌==◌, ◌||◌, Bool, true, false, not, List, [], ◌∷◌, length, drop}
 use Rattle.std.proofs.Common.{slice_index, None, refl, ap, subst, ◌∙◌, arith}
 use Rattle.std.specs.List.{list_any, prefix_len, position}
@@ -31,7 +31,7 @@ later (suc n) (b ∷ bytes) none = later n bytes (rest (b == 0) none)
     rest true h = absurd (let w : true ≡ false = h in cc)
     rest false h = h
 
--- behind the whole list
+-- after the whole list
 pub none_behind : (bytes : List ℕ) → HasZero (drop (length bytes) bytes) ≡ false
 none_behind bytes = rw (drop_all (length bytes) bytes (omega arith)) refl
 

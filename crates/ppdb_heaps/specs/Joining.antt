@@ -5,7 +5,7 @@ use Rattle.ppdb_heaps.specs.declared.join.NameError.{NameError}
 use Rattle.ppdb_heaps.specs.declared.join.NameError.TheVariants.{Blob, Memory}
 use Rattle.ppdb_heaps.specs.Names.{NamePart, names, IsName}
 
--- The blob is a whole name, and its text stands behind what was there.
+-- The blob is a whole name, and its text stands after what was there.
 abbrev pub HasAppended : List ℕ → List ℕ → List ℕ → List ℕ → Type 0
 HasAppended blobs blob before after = (name : List ℕ) × IsName blobs blob name × (after ≡ before ++ name)
 

@@ -7,7 +7,7 @@ use Rattle.blob_grammar.specs.Reading.{Reading}
 use Rattle.cli_ints.specs.Shortest.{short_unsigned}
 use Rattle.blob_grammar.specs.declared.places.PlacedIndex.{PlacedIndex}
 use Rattle.blob_grammar.specs.Places.{PlacedField, placed_of}
-use Rattle.blob_grammar.specs.Reader.{read_from, front_of}
+use Rattle.blob_grammar.specs.Reader.{read_from, prefix_of}
 use Rattle.ppdb_heaps.specs.Heaps.{blob_at}
 
 -- What a field of a name makes: the separator, or a part with its content.
@@ -90,9 +90,9 @@ index_at at value = []
 abbrev pub part_index : PlacedField → List PlacedIndex
 part_index field = index_at field.byte field.value
 
--- The indexes of the parts in the longest valid front of a name, each with the byte at which it stands.
+-- The indexes of the parts in the longest valid prefix of a name, each with the byte at which it stands.
 abbrev pub name_indexes : List ℕ → List ℕ → List PlacedIndex
-name_indexes blobs blob = flat_map part_index (placed_of (names blobs) (front_of (names blobs) blob))
+name_indexes blobs blob = flat_map part_index (placed_of (names blobs) (prefix_of (names blobs) blob))
 
 -- The shortest spelling of a name: the separator's byte, and the indexes of the parts, each in its shortest form.
 abbrev pub name_spelling : ℕ → List ℕ → List ℕ

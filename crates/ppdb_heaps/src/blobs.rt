@@ -11,7 +11,7 @@ pub struct Blobs<'a> {
     bytes: &'a [u8],
 }
 
-/// As many bytes after the number at the front as it says; None where no number stands there or there are fewer.
+/// As many bytes after the number at the start as it says; None where no number stands there or there are fewer.
 fn blob_of(bytes: &[u8]) -> Option<&[u8]>
     ensures blob { option_copied result ≡ counted bytes.now (unsigned_at bytes.now) }
     ensures short { IfSome result (λ blob. length blob.now < 2 ^ 32) }

@@ -16,7 +16,7 @@ pub fn names_are_read_once()
     ensures { (blobs blob : List ℕ) → IsReadOnce (names blobs) blob }
 {}
 
-/// The indexes of a name are those of its longest valid front, and no others.
+/// The indexes of a name are those of its longest valid prefix, and no others.
 pub fn name_indexes_are()
     ensures { (blobs blob : List ℕ) (indexes : List PlacedIndex) → (indexes ≡ name_indexes blobs blob) ↔ HasFields (names blobs) part_index blob indexes }
 {}

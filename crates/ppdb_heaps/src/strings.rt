@@ -3,8 +3,8 @@ ghost use Rattle.std.specs.List.{list_any};
 ghost use Rattle.std.specs.Option.{option_copied};
 ghost use Rattle.ppdb_heaps.specs.Heaps.{text_at, until_zero};
 
-/// The stream `#Strings`: texts, each ended by a zero (ECMA-335 II.24.2.3). No zero stands at `end` or behind it, so that an index
-/// behind the last text is told without a walk over what stands there.
+/// The stream `#Strings`: texts, each ended by a zero (ECMA-335 II.24.2.3). No zero stands at `end` or after it, so that an index
+/// after the last text is reported without a walk over what stands there.
 #[derive(Clone, Copy)]
 pub struct Strings<'a> {
     bytes: &'a [u8],

@@ -15,14 +15,14 @@ pub one_word : (text : List ℕ) (words : List (List ℕ)) (rest word others : L
 one_word text words rest word others all next = simp (ended_push, append_assoc) (all ∙ ap (λ r. ended words ++ r) next)
 
 -- a text whose last byte is a zero byte ends with its last word
-pub nothing_left : (text front rest : List ℕ) → IsWhole text → text ≡ front ++ rest → ((i : ℕ) → i < length rest → get_or rest i 0 ≢ 0) → rest ≡ []
-nothing_left text front [] whole all none = refl
-nothing_left text front (byte ∷ rest) whole all none =
-    let long : length text ≡ length front + (length rest + 1) = ap length all ∙ (length-append front (byte ∷ rest) ∙ omega arith) in
+pub nothing_left : (text prefix rest : List ℕ) → IsWhole text → text ≡ prefix ++ rest → ((i : ℕ) → i < length rest → get_or rest i 0 ≢ 0) → rest ≡ []
+nothing_left text prefix [] whole all none = refl
+nothing_left text prefix (byte ∷ rest) whole all none =
+    let long : length text ≡ length prefix + (length rest + 1) = ap length all ∙ (length-append prefix (byte ∷ rest) ∙ omega arith) in
     let last : get_or text (length text - 1) 0 ≡ 0 = whole (omega arith) in
-    let moved : get_or (front ++ (byte ∷ rest)) (length text - 1) 0 ≡ get_or (byte ∷ rest) (length text - 1 - length front) 0 =
-    get_or-append_right front (byte ∷ rest) (length front) (length text - 1) 0 refl (omega arith) in
-    absurd (none (length text - 1 - length front) (omega arith) (sym moved ∙ (ap (λ bytes. get_or bytes (length text - 1) 0) (sym all) ∙ last)))
+    let moved : get_or (prefix ++ (byte ∷ rest)) (length text - 1) 0 ≡ get_or (byte ∷ rest) (length text - 1 - length prefix) 0 =
+    get_or-append_right prefix (byte ∷ rest) (length prefix) (length text - 1) 0 refl (omega arith) in
+    absurd (none (length text - 1 - length prefix) (omega arith) (sym moved ∙ (ap (λ bytes. get_or bytes (length text - 1) 0) (sym all) ∙ last)))
 
 -- words that are ended end with a zero byte
 more_than_none : (word : List ℕ) (words : List (List ℕ)) → 0 < length (ended (word ∷ words))
@@ -35,12 +35,12 @@ ended_whole (word ∷ []) = λ below.
     get_or-append_right word (0 ∷ []) (length word) (length (word ++ 0 ∷ []) - 1) 0 refl (omega (arith, long))
     ∙ ap (λ i. get_or (0 ∷ []) i 0) (let at_end : length (word ++ 0 ∷ []) - 1 - length word ≡ 0 = omega (arith, long) in at_end)
 ended_whole (word ∷ next ∷ words) = λ below.
-    let front = word ++ 0 ∷ [] in
+    let prefix = word ++ 0 ∷ [] in
     let rest = ended (next ∷ words) in
     let some : 0 < length rest = more_than_none next words in
-    let cut : word ++ 0 ∷ rest ≡ front ++ rest = sym (append_snoc word 0 rest) in
-    let long : length (word ++ 0 ∷ rest) ≡ length front + length rest = ap length cut ∙ length-append front rest in
+    let cut : word ++ 0 ∷ rest ≡ prefix ++ rest = sym (append_snoc word 0 rest) in
+    let long : length (word ++ 0 ∷ rest) ≡ length prefix + length rest = ap length cut ∙ length-append prefix rest in
     ap (λ bytes. get_or bytes (length (word ++ 0 ∷ rest) - 1) 0) cut
-    ∙ (get_or-append_right front rest (length front) (length (word ++ 0 ∷ rest) - 1) 0 refl (omega (arith, long, some))
-    ∙ (ap (λ i. get_or rest i 0) (let moved : length (word ++ 0 ∷ rest) - 1 - length front ≡ length rest - 1 = omega (arith, long, some) in moved)
+    ∙ (get_or-append_right prefix rest (length prefix) (length (word ++ 0 ∷ rest) - 1) 0 refl (omega (arith, long, some))
+    ∙ (ap (λ i. get_or rest i 0) (let moved : length (word ++ 0 ∷ rest) - 1 - length prefix ≡ length rest - 1 = omega (arith, long, some) in moved)
     ∙ ended_whole (next ∷ words) some))

@@ -1,7 +1,7 @@
 -- The words of a call, each ended by a zero byte.
 use Rattle.std.specs.Prelude.{ℕ, ◌≡◌, ◌≢◌, ◌-◌, ◌<◌, ◌++◌, List, [], ◌∷◌, All, length, slice_index}
 
--- words one after the other, each with a zero byte behind it
+-- words one after the other, each with a zero byte after it
 abbrev pub ended : List (List ℕ) → List ℕ
 ended [] = []
 ended (word ∷ words) = word ++ 0 ∷ ended words

@@ -22,7 +22,7 @@ pub struct PpdbFault {
     pub column: u8,
 }
 
-/// The fault as it is told.
+/// The fault as it is reported.
 pub(crate) fn tell(fault: Fault) -> PpdbFault
     ensures { result ≡ told_fault fault }
 {

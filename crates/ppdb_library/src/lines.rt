@@ -3,15 +3,15 @@ ghost use Rattle.std.specs.Prelude.{◌≡◌, ◌≢◌, ◌<◌, ◌≤◌, �
 ghost use Rattle.ppdb_base.specs.First.{IsAccepted};
 ghost use Rattle.ppdb_base.specs.declared.limits.TheConstants.{MAX_FILE_BYTES};
 ghost use Rattle.ppdb_values.specs.RawFile.{RawFile};
-ghost use Rattle.ppdb_verify.specs.Files.{BadFile, IsRawOf};
+ghost use Rattle.ppdb_verify.specs.Files.{FileFaults, IsRawOf};
 ghost use Rattle.ppdb_verify.specs.Views.{raw_file};
 ghost use Rattle.ppdb_library.specs.Lines.{line_of, point_line};
 
 use crate::status::{DONE, MEMORY, REFUSED, TOO_LONG, USAGE};
 use ppdb_base::{CounterPermit, MAX_FILE_BYTES, Steps};
 use ppdb_queries::{NoMethod, point_at};
-use ppdb_rules::VerifyError;
 use ppdb_verify::{Verified, verify};
+use ppdb_verify_rules::VerifyError;
 use sequence_points::{Point, Span};
 use std::alloc::Global;
 use std::marker::Brand;
@@ -56,7 +56,7 @@ pub(crate) const HIDDEN: u32 = 2;
 pub(crate) const LINES: u32 = 3;
 
 /// Verifies a file and puts for each frame its line: 0 where the file breaks no rule; 1 where it breaks some, which `ppdb_verify`
-/// tells; 2 where there is less room for lines than there are frames; 5 where there was no memory left; 7 where the file is longer
+/// reports; 2 where there is less room for lines than there are frames; 5 where there was no memory left; 7 where the file is longer
 /// than 134217728 bytes. Where the answer is not 0 nothing is put.
 #[unsafe(no_mangle)]
 pub extern "C" fn ppdb_lines(
@@ -67,9 +67,9 @@ pub extern "C" fn ppdb_lines(
     lines: &mut [PpdbLine],
 ) -> u8
     ensures statuses { (result ≡ DONE) ⊎ (result ≡ REFUSED) ⊎ (result ≡ USAGE) ⊎ (result ≡ MEMORY) ⊎ (result ≡ TOO_LONG) }
-    ensures accepted { result ≡ DONE → IsAccepted (BadFile file.now) }
+    ensures accepted { result ≡ DONE → IsAccepted (FileFaults file.now) }
     ensures lines { result ≡ DONE → (raw : RawFile) → IsRawOf file.now raw → lines.new ≡ map (line_of raw) frames.now ++ drop (length frames.now) lines.old }
-    ensures refused { result ≡ REFUSED → IsAccepted (BadFile file.now) → ⊥ }
+    ensures refused { result ≡ REFUSED → IsAccepted (FileFaults file.now) → ⊥ }
     ensures no_room { (result ≡ USAGE) ↔ (length lines.old < length frames.now) }
     ensures too_long { (result ≡ TOO_LONG) ↔ (length frames.now ≤ length lines.old) × (MAX_FILE_BYTES < length file.now) }
     ensures kept { result ≢ DONE → lines.new ≡ lines.old }
@@ -88,9 +88,9 @@ fn verified_lines<L: Ledger>(
 ) -> u8
     requires steps { (steps.name ≡ L.name) × (steps.parts ≡ L.parts) × (0 < L.parts) }
     ensures statuses { (result ≡ DONE) ⊎ (result ≡ REFUSED) ⊎ (result ≡ USAGE) ⊎ (result ≡ MEMORY) ⊎ (result ≡ TOO_LONG) }
-    ensures accepted { result ≡ DONE → IsAccepted (BadFile file.now) }
+    ensures accepted { result ≡ DONE → IsAccepted (FileFaults file.now) }
     ensures lines { result ≡ DONE → (raw : RawFile) → IsRawOf file.now raw → lines.new ≡ map (line_of raw) frames.now ++ drop (length frames.now) lines.old }
-    ensures refused { result ≡ REFUSED → IsAccepted (BadFile file.now) → ⊥ }
+    ensures refused { result ≡ REFUSED → IsAccepted (FileFaults file.now) → ⊥ }
     ensures no_room { (result ≡ USAGE) ↔ (length lines.old < length frames.now) }
     ensures too_long { (result ≡ TOO_LONG) ↔ (length frames.now ≤ length lines.old) × (MAX_FILE_BYTES < length file.now) }
     ensures kept { result ≢ DONE → lines.new ≡ lines.old }

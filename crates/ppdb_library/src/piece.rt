@@ -3,7 +3,7 @@ ghost use Rattle.std.specs.Prelude.{◌≡◌, ◌≤◌, ◌↔◌, IsTrue, len
 ghost use Rattle.std.specs.FinMap.{get};
 ghost use Rattle.ppdb_library.specs.Pieces.{AreApart, AreWithin, EndsAt, contents_in, end_of, files_in, name_in};
 
-/// Where a file lies among the bytes of a call: its name, and right behind it what the file holds.
+/// Where a file lies among the bytes of a call: its name, and right after it what the file holds.
 #[repr(C)]
 #[derive(Clone, Copy, Debug, PartialEq, Eq)]
 pub struct PpdbPiece {

@@ -5,7 +5,7 @@ use crate::piece::PpdbPiece;
 use crate::run::ppdb_run;
 use crate::verify::ppdb_verify;
 use ppdb_base::CounterPermit;
-use worked_files::SMALL;
+use tests_files::SMALL;
 
 #[test]
 fn files_are_verified(rt: HostRuntime) {
@@ -17,9 +17,13 @@ fn files_are_verified(rt: HostRuntime) {
         table: 1,
         column: 1,
     };
-    assert!(rt; ppdb_verify(rt.alloc(), CounterPermit::new(&rt), &SMALL, &mut fault) == 0 && fault.part == 9);
     assert!(rt;
-        ppdb_verify(rt.alloc(), CounterPermit::new(&rt), b"none", &mut fault) == 1 && fault.code == 1 && fault.part == 1
+        ppdb_verify(rt.alloc(), CounterPermit::new(&rt), &SMALL, &mut fault) == 0 && fault.part == 9
+    );
+    assert!(rt;
+        ppdb_verify(rt.alloc(), CounterPermit::new(&rt), b"none", &mut fault) == 1
+            && fault.code == 1
+            && fault.part == 1
     );
 }
 
@@ -35,7 +39,15 @@ fn frames_have_lines(rt: HostRuntime) {
         end_line: 9,
         end_column: 9,
     }; 4];
-    assert!(rt; ppdb_lines(rt.alloc(), CounterPermit::new(&rt), &SMALL, &frames, &mut lines) == 0);
+    assert!(rt;
+        ppdb_lines(
+            rt.alloc(),
+            CounterPermit::new(&rt),
+            &SMALL,
+            &frames,
+            &mut lines
+        ) == 0
+    );
     let [first, hidden, none, left] = lines;
     assert!(rt; first.kind == LINES && first.document == 1 && first.offset == 0);
     assert!(rt;

@@ -3,14 +3,14 @@ ghost use Rattle.std.specs.Prelude.{◌≡◌, ◌≢◌, ◌<◌, ◌↔◌, �
 ghost use Rattle.ppdb_base.specs.First.{IsAccepted, IsFirst};
 ghost use Rattle.ppdb_base.specs.declared.fault.Fault.{Fault};
 ghost use Rattle.ppdb_base.specs.declared.limits.TheConstants.{MAX_FILE_BYTES};
-ghost use Rattle.ppdb_verify.specs.Files.{BadFile};
+ghost use Rattle.ppdb_verify.specs.Files.{FileFaults};
 ghost use Rattle.ppdb_library.specs.Faults.{told_fault};
 
 use crate::fault::{PpdbFault, tell};
 use crate::status::{DONE, MEMORY, REFUSED, TOO_LONG};
 use ppdb_base::{CounterPermit, MAX_FILE_BYTES, Steps};
-use ppdb_rules::VerifyError;
 use ppdb_verify::verify;
+use ppdb_verify_rules::VerifyError;
 use std::alloc::Global;
 use std::marker::Brand;
 use std::sync::ledger::{Blank, Ledger};
@@ -25,8 +25,8 @@ pub extern "C" fn ppdb_verify(
     fault: &mut PpdbFault,
 ) -> u8
     ensures statuses { (result ≡ DONE) ⊎ (result ≡ REFUSED) ⊎ (result ≡ MEMORY) ⊎ (result ≡ TOO_LONG) }
-    ensures accepted { result ≡ DONE → IsAccepted (BadFile file.now) }
-    ensures refused { result ≡ REFUSED → (first : Fault) × IsFirst (BadFile file.now) first × (fault.new ≡ told_fault first) }
+    ensures accepted { result ≡ DONE → IsAccepted (FileFaults file.now) }
+    ensures refused { result ≡ REFUSED → (first : Fault) × IsFirst (FileFaults file.now) first × (fault.new ≡ told_fault first) }
     ensures too_long { (result ≡ TOO_LONG) ↔ (MAX_FILE_BYTES < length file.now) }
     ensures kept { result ≢ REFUSED → fault.new ≡ fault.old }
 {
@@ -43,8 +43,8 @@ fn verified<L: Ledger>(
 ) -> u8
     requires steps { (steps.name ≡ L.name) × (steps.parts ≡ L.parts) × (0 < L.parts) }
     ensures statuses { (result ≡ DONE) ⊎ (result ≡ REFUSED) ⊎ (result ≡ MEMORY) ⊎ (result ≡ TOO_LONG) }
-    ensures accepted { result ≡ DONE → IsAccepted (BadFile file.now) }
-    ensures refused { result ≡ REFUSED → (first : Fault) × IsFirst (BadFile file.now) first × (fault.new ≡ told_fault first) }
+    ensures accepted { result ≡ DONE → IsAccepted (FileFaults file.now) }
+    ensures refused { result ≡ REFUSED → (first : Fault) × IsFirst (FileFaults file.now) first × (fault.new ≡ told_fault first) }
     ensures too_long { (result ≡ TOO_LONG) ↔ (MAX_FILE_BYTES < length file.now) }
     ensures kept { result ≢ REFUSED → fault.new ≡ fault.old }
 {

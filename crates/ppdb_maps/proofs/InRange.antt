@@ -265,5 +265,5 @@ read_fits version texts said start = record {
   slotted = λ m is. absurd (false≢true is);
   slots = λ m o n is. absurd (cc);
 }
-read_fits version texts said (further {texts = front} {before} {text} {line} read tells keeps) =
-    fits_line before line (read_fits version front before read) (tells_range version text line tells) (λ rule breaks. keeps rule (by_lines tells breaks))
+read_fits version texts said (further {texts = prefix} {before} {text} {line} read tells keeps) =
+    fits_line before line (read_fits version prefix before read) (tells_range version text line tells) (λ rule breaks. keeps rule (by_lines tells breaks))

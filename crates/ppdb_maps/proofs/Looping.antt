@@ -42,15 +42,15 @@ text_added version before text line (Err no_memory) new tells adds = tt
 
 -- what was read of a list of lines, when `rest` is left
 pub record SoFar (version : ℕ) (all rest : List (List ℕ)) (number : ℕ) (draft : Draft) : Type 0 where
-  pub front : List (List ℕ)
+  pub prefix : List (List ℕ)
   pub said : List Line
-  pub cut : all ≡ front ++ rest
-  pub read : Read version front said
+  pub cut : all ≡ prefix ++ rest
+  pub read : Read version prefix said
   pub holds : Holds said draft
-  pub at : number ≡ length front + 2
+  pub at : number ≡ length prefix + 2
 
 pub so_far_start : (version : ℕ) (all : List (List ℕ)) (draft : Draft) → Holds [] draft → SoFar version all all 2 draft
-so_far_start version all draft holds = record { front = []; said = []; cut = refl; read = start; holds = holds; at = refl }
+so_far_start version all draft holds = record { prefix = []; said = []; cut = refl; read = start; holds = holds; at = refl }
 
 -- the lines of a text that is not empty
 first_of : (text line rest : List ℕ) → 0 < length text → IsLineOf text line rest → lines text ≡ line ∷ lines rest
@@ -80,13 +80,13 @@ so_far_more version all rest line others number old new result u so some first a
     let more = added_ok version so.said line new result u is (added so.said so.holds) in
     let at = so.at in
     record {
-      front = so.front ++ line ∷ [];
+      prefix = so.prefix ++ line ∷ [];
       said = more.line ∷ so.said;
-      cut = so.cut ∙ (ap (λ (ls : List (List ℕ)). so.front ++ ls) (first_of rest line others some first)
-          ∙ sym (append_assoc so.front (line ∷ []) (lines others)));
+      cut = so.cut ∙ (ap (λ (ls : List (List ℕ)). so.prefix ++ ls) (first_of rest line others some first)
+          ∙ sym (append_assoc so.prefix (line ∷ []) (lines others)));
       read = further so.read more.tells more.keeps;
       holds = more.holds;
-      at = let e = length-append so.front (line ∷ []) in omega (arith, at, e);
+      at = let e = length-append so.prefix (line ∷ []) in omega (arith, at, e);
     }
 
 pub so_far_refused : (version : ℕ) (all : List (List ℕ)) (rest line others : List ℕ) (number : ℕ) (old new : Draft) (result : Result (Unit {0}) Refusal)
@@ -102,12 +102,12 @@ so_far_refused version all rest line others number old new result why e so some 
     of (refused rule) e refuses at =
         subst (λ (x : MapError). RefusedIn version all x) (sym at)
         (record {
-          front = so.front;
+          prefix = so.prefix;
           text = line;
           back = lines others;
           before = so.said;
           rule = rule;
-          cut = so.cut ∙ ap (λ (ls : List (List ℕ)). so.front ++ ls) (first_of rest line others some first);
+          cut = so.cut ∙ ap (λ (ls : List (List ℕ)). so.prefix ++ ls) (first_of rest line others some first);
           read = so.read;
           breaks = refuses;
           at = so.at;
@@ -117,14 +117,14 @@ so_far_refused version all rest line others number old new result why e so some 
 pub whole : (version : ℕ) (all : List (List ℕ)) (rest : List ℕ) (number : ℕ) (draft : Draft) → rest ≡ [] → SoFar version all (lines rest) number draft
     → ReadWhole version all draft
 whole version all rest number draft empty so =
-    let e : so.front ≡ all = sym (so.cut ∙ (ap (λ (t : List ℕ). so.front ++ lines t) empty ∙ append-nil so.front)) in
+    let e : so.prefix ≡ all = sym (so.cut ∙ (ap (λ (t : List ℕ). so.prefix ++ lines t) empty ∙ append-nil so.prefix)) in
     record { said = so.said; read = subst (λ (ls : List (List ℕ)). Read version ls so.said) e so.read; holds = so.holds }
 
 -- the text's refused line
 pub refused_as : (text head rest : List ℕ) (version : ℕ) (e : MapError) → IsLineOf text head rest → IsHead head version → RefusedIn version (lines rest) e
     → RefusedAs text e
 refused_as text head rest version (refused_line line kind) first begins r =
-    subst (λ l. Refused text l kind) (sym r.at) (subst (λ k. Refused text (length r.front + 2) k) (sym r.is)
+    subst (λ l. Refused text l kind) (sym r.at) (subst (λ k. Refused text (length r.prefix + 2) k) (sym r.is)
     (at_line r.back (first.first ∙ ap (λ (ls : List (List ℕ)). head ∷ ls) r.cut) begins r.read r.breaks))
 refused_as text head rest version out_of_memory first begins r = tt
 

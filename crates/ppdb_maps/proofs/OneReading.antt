@@ -22,11 +22,11 @@ snoc_same (z ∷ zs) (w ∷ ws) x y e =
 pub read_same : (version : ℕ) (texts others : List (List ℕ)) (said more : List Line) → texts ≡ others → Read version texts said → Read version others more
     → said ≡ more
 read_same version texts others said more same start start = refl
-read_same version texts others said more same start (further {texts = front} {text = line} r t k) = absurd (snoc_apart front line (sym same))
-read_same version texts others said more same (further {texts = front} {text = line} r t k) start = absurd (snoc_apart front line same)
-read_same version texts others said more same (further {texts = front} {before} {text} {line = one} r t k)
-    (further {texts = front2} {before = before2} {text = text2} {line = two} r2 t2 k2) =
-    let parts = snoc_same front front2 text text2 same in
+read_same version texts others said more same start (further {texts = prefix} {text = line} r t k) = absurd (snoc_apart prefix line (sym same))
+read_same version texts others said more same (further {texts = prefix} {text = line} r t k) start = absurd (snoc_apart prefix line same)
+read_same version texts others said more same (further {texts = prefix} {before} {text} {line = one} r t k)
+    (further {texts = prefix2} {before = before2} {text = text2} {line = two} r2 t2 k2) =
+    let parts = snoc_same prefix prefix2 text text2 same in
     let lines : one ≡ two = one_said version text2 one two (subst (λ x. Tells version x one) parts.1 t) t2 in
-    let rest : before ≡ before2 = read_same version front front2 before before2 parts.0 r r2 in
+    let rest : before ≡ before2 = read_same version prefix prefix2 before before2 parts.0 r r2 in
     ap (λ l. l ∷ before) lines ∙ ap (λ b. two ∷ b) rest

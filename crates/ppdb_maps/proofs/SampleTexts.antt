@@ -13,7 +13,7 @@ use Rattle.ppdb_maps.specs.SampleTexts.{SampleTexts}
 use Rattle.ppdb_maps.specs.declared.line.Line.TheVariants.{Rows, Row, Method, Kept}
 use Rattle.ppdb_maps.proofs.SampleMap.{sample_readable}
 use Rattle.ppdb_maps.proofs.TextSteps.{tells_rows, tells_row, tells_method, keeps_rows, keeps_row, keeps_method, with_runs}
-use Rattle.ppdb_maps.proofs.TextSteps.{number_of_digit, row_of_digit, front_run, back_run}
+use Rattle.ppdb_maps.proofs.TextSteps.{number_of_digit, row_of_digit, prefix_run, back_run}
 
 head_1 : IsHead (codes "ppdbmap 1") 1
 head_1 = record { from = omega arith; to = omega arith; spelled = refl }
@@ -76,7 +76,7 @@ read_rows_1 =
     (keeps_row (Rows 6 1 ∷ []) (codes "row 06 1 1") 6 1 1 1 row_1_1 refl refl refl)
 
 read_1 : Read 1 (codes "rows 06 1" ∷ codes "row 06 1 1" ∷ codes "method 1 16 20" ∷ codes "run 0 0 4" ∷ codes "run 8 10 8" ∷ [])
-    (Kept back_run ∷ Kept front_run ∷ Method 1 16 20 ∷ Row 6 1 1 ∷ Rows 6 1 ∷ [])
+    (Kept back_run ∷ Kept prefix_run ∷ Method 1 16 20 ∷ Row 6 1 1 ∷ Rows 6 1 ∷ [])
 read_1 = with_runs (codes "rows 06 1" ∷ codes "row 06 1 1" ∷ codes "method 1 16 20" ∷ []) (Row 6 1 1 ∷ Rows 6 1 ∷ []) 1
     (further read_rows_1 method_1 (keeps_method (Row 6 1 1 ∷ Rows 6 1 ∷ []) (codes "method 1 16 20") 1 16 20 method_1 refl refl))
 
@@ -85,7 +85,7 @@ one_row : (b : Bool) (old new : ℕ) → let r : RowImage =
 one_row true old new = refl
 one_row false old new = refl
 
-holds_1 : HoldsWhat (Kept back_run ∷ Kept front_run ∷ Method 1 16 20 ∷ Row 6 1 1 ∷ Rows 6 1 ∷ []) (sample_map_of 1)
+holds_1 : HoldsWhat (Kept back_run ∷ Kept prefix_run ∷ Method 1 16 20 ∷ Row 6 1 1 ∷ Rows 6 1 ∷ []) (sample_map_of 1)
 holds_1 = record {
   counts = one_count 1;
   rows = λ t o. one_row (nat_eq 6 t && nat_eq 1 o) 1 1;
@@ -105,18 +105,18 @@ read_rows_2 =
     (keeps_row (Row 6 1 2 ∷ Rows 6 2 ∷ []) (codes "row 06 2 1") 6 2 1 2 row_2_1 refl refl refl)
 
 read_first : Read 1 (codes "rows 06 2" ∷ codes "row 06 1 2" ∷ codes "row 06 2 1" ∷ codes "method 1 16 20" ∷ codes "run 0 0 4" ∷ codes "run 8 10 8" ∷ [])
-    (Kept back_run ∷ Kept front_run ∷ Method 1 16 20 ∷ Row 6 2 1 ∷ Row 6 1 2 ∷ Rows 6 2 ∷ [])
+    (Kept back_run ∷ Kept prefix_run ∷ Method 1 16 20 ∷ Row 6 2 1 ∷ Row 6 1 2 ∷ Rows 6 2 ∷ [])
 read_first = with_runs (codes "rows 06 2" ∷ codes "row 06 1 2" ∷ codes "row 06 2 1" ∷ codes "method 1 16 20" ∷ []) (Row 6 2 1 ∷ Row 6 1 2 ∷ Rows 6 2 ∷ []) 1
     (further read_rows_2 method_1 (keeps_method (Row 6 2 1 ∷ Row 6 1 2 ∷ Rows 6 2 ∷ []) (codes "method 1 16 20") 1 16 20 method_1 refl refl))
 
 read_2 : Read 1 (codes "rows 06 2" ∷ codes "row 06 1 2" ∷ codes "row 06 2 1" ∷ codes "method 1 16 20" ∷ codes "run 0 0 4" ∷ codes "run 8 10 8"
     ∷ codes "method 2 16 20" ∷ codes "run 0 0 4" ∷ codes "run 8 10 8" ∷ [])
-    (Kept back_run ∷ Kept front_run ∷ Method 2 16 20 ∷ Kept back_run ∷ Kept front_run ∷ Method 1 16 20 ∷ Row 6 2 1 ∷ Row 6 1 2 ∷ Rows 6 2 ∷ [])
+    (Kept back_run ∷ Kept prefix_run ∷ Method 2 16 20 ∷ Kept back_run ∷ Kept prefix_run ∷ Method 1 16 20 ∷ Row 6 2 1 ∷ Row 6 1 2 ∷ Rows 6 2 ∷ [])
 read_2 = with_runs (codes "rows 06 2" ∷ codes "row 06 1 2" ∷ codes "row 06 2 1" ∷ codes "method 1 16 20" ∷ codes "run 0 0 4" ∷ codes "run 8 10 8"
     ∷ codes "method 2 16 20" ∷ [])
-    (Kept back_run ∷ Kept front_run ∷ Method 1 16 20 ∷ Row 6 2 1 ∷ Row 6 1 2 ∷ Rows 6 2 ∷ []) 2
+    (Kept back_run ∷ Kept prefix_run ∷ Method 1 16 20 ∷ Row 6 2 1 ∷ Row 6 1 2 ∷ Rows 6 2 ∷ []) 2
     (further read_first method_2
-    (keeps_method (Kept back_run ∷ Kept front_run ∷ Method 1 16 20 ∷ Row 6 2 1 ∷ Row 6 1 2 ∷ Rows 6 2 ∷ [])
+    (keeps_method (Kept back_run ∷ Kept prefix_run ∷ Method 1 16 20 ∷ Row 6 2 1 ∷ Row 6 1 2 ∷ Rows 6 2 ∷ [])
     (codes "method 2 16 20") 2 16 20 method_2 refl refl))
 
 -- a number is not both one and two
@@ -140,13 +140,13 @@ two_methods true false x y apart = refl
 two_methods false true x y apart = refl
 two_methods false false x y apart = refl
 
-holds_2 : HoldsWhat (Kept back_run ∷ Kept front_run ∷ Method 2 16 20 ∷ Kept back_run ∷ Kept front_run ∷ Method 1 16 20 ∷ Row 6 2 1 ∷ Row 6 1 2 ∷ Rows 6 2 ∷ [])
+holds_2 : HoldsWhat (Kept back_run ∷ Kept prefix_run ∷ Method 2 16 20 ∷ Kept back_run ∷ Kept prefix_run ∷ Method 1 16 20 ∷ Row 6 2 1 ∷ Row 6 1 2 ∷ Rows 6 2 ∷ [])
     (sample_map_of 2)
 holds_2 = record {
   counts = one_count 2;
   rows = λ t o. two_rows (nat_eq 6 t) (nat_eq 1 o) (nat_eq 2 o) (apart o);
-  methods = λ m. two_methods (nat_eq 1 m) (nat_eq 2 m) (record { method = 1; old_size = 16; new_size = 20; runs = front_run ∷ back_run ∷ [] })
-      (record { method = 2; old_size = 16; new_size = 20; runs = front_run ∷ back_run ∷ [] }) (apart m);
+  methods = λ m. two_methods (nat_eq 1 m) (nat_eq 2 m) (record { method = 1; old_size = 16; new_size = 20; runs = prefix_run ∷ back_run ∷ [] })
+      (record { method = 2; old_size = 16; new_size = 20; runs = prefix_run ∷ back_run ∷ [] }) (apart m);
   drops = λ m. refl;
   slotted = λ m. refl;
   slots = λ m o. refl;
@@ -169,7 +169,7 @@ sample_texts = record {
     head = codes "ppdbmap 1";
     rest = codes "rows 06 1" ∷ codes "row 06 1 1" ∷ codes "method 1 16 20" ∷ codes "run 0 0 4" ∷ codes "run 8 10 8" ∷ [];
     version = 1;
-    said = Kept back_run ∷ Kept front_run ∷ Method 1 16 20 ∷ Row 6 1 1 ∷ Rows 6 1 ∷ [];
+    said = Kept back_run ∷ Kept prefix_run ∷ Method 1 16 20 ∷ Row 6 1 1 ∷ Rows 6 1 ∷ [];
     lines = refl;
     begins = head_1;
     read = read_1;
@@ -181,7 +181,7 @@ sample_texts = record {
         ∷ codes "run 8 10 8" ∷ codes "method 2 16 20" ∷ codes "run 0 0 4" ∷ codes "run 8 10 8" ∷ [];
     version = 1;
     said =
-        Kept back_run ∷ Kept front_run ∷ Method 2 16 20 ∷ Kept back_run ∷ Kept front_run ∷ Method 1 16 20 ∷ Row 6 2 1 ∷ Row 6 1 2 ∷ Rows 6 2 ∷ [];
+        Kept back_run ∷ Kept prefix_run ∷ Method 2 16 20 ∷ Kept back_run ∷ Kept prefix_run ∷ Method 1 16 20 ∷ Row 6 2 1 ∷ Row 6 1 2 ∷ Rows 6 2 ∷ [];
     lines =
         refl;
     begins = head_1;

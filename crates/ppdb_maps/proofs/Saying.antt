@@ -17,7 +17,7 @@ use Rattle.ppdb_maps.specs.Rules.{kind_of, Breaks, BreaksLine, BreaksFirst, no_f
 use Rattle.ppdb_maps.specs.Rules.{second_slots, second_slot, row_alone, slot_alone, run_alone, run_early, run_long, drop_named, dropped_method, dropped_row}
 use Rattle.ppdb_maps.specs.Rules.{dropped_slots}
 use Rattle.ppdb_maps.specs.declared.rule.Rule.{Rule}
-use Rattle.ppdb_maps.specs.declared.rule.Rule.TheVariants.{UnknownForm, BadNumber}
+use Rattle.ppdb_maps.specs.declared.rule.Rule.TheVariants.{UnknownForm, NumberFaults}
 use Rattle.ppdb_maps.specs.declared.words.Words.{Words}
 use Rattle.ppdb_maps.proofs.Numbers.{one_number, one_table}
 
@@ -186,7 +186,7 @@ breaks_form line words version before loud are none =
 -- a line of a form with a value that is misspelled or out of its range
 pub breaks_value : (line : List ℕ) (words : Words) (version : ℕ) (form : Form) (before : List Line) → (IsSilent line → ⊥) → AreWordsOf line words
     → FitsForm version words form
-    → ((says : Line) → Values form (values_of form words) says → ⊥) → BreaksFirst version before line BadNumber
+    → ((says : Line) → Values form (values_of form words) says → ⊥) → BreaksFirst version before line NumberFaults
 breaks_value line words version form before loud are fits none =
     let has = form_there line words version form are fits in
     record { broken = no_value loud has none; least = λ other broken. least has other broken }

@@ -1,4 +1,4 @@
--- Lines that tell something and break no rule.
+-- Lines that report something and break no rule.
 use Rattle.std.proofs.Common.{◌≡◌, ℕ, ◌+◌, ◌/◌, ◌%◌, ◌<◌, ◌≤◌, ◌++◌, Bool, true, false, List, [], ◌∷◌, length, Option, Some, None, refl}
 use Rattle.std.proofs.Common.{sym, ap, subst, ◌∙◌, arith, inl, inr}
 use Rattle.std.specs.Prelude.{codes, IsSome, IsTrue}
@@ -43,7 +43,7 @@ methods_table : IsTable (codes "06") 6
 methods_table =
     record { high = 0; low = 6; c = 48; d = 54; spelled = refl; digits = (inl (omega arith, refl), inl (omega arith, refl)); is = refl; known = omega arith }
 
--- ---- what lines tell
+-- ---- what lines report
 
 pub tells_rows : (text b : List ℕ) (n : ℕ) → line_words text ≡ codes "rows" ∷ codes "06" ∷ b ∷ [] → (IsSilent text → ⊥) → IsNumber b 0 ROWS n
     → Tells 1 text (Rows 6 n)
@@ -70,14 +70,14 @@ tells_method text a m words loud is_number = told loud (record {
       (record { spelled = sym twenty; from = omega arith; to = omega arith });
 })
 
-abbrev pub front_run : Run
-front_run = record { old = 0; new = 0; length = 4 }
+abbrev pub prefix_run : Run
+prefix_run = record { old = 0; new = 0; length = 4 }
 
 abbrev pub back_run : Run
 back_run = record { old = 8; new = 10; length = 8 }
 
-pub tells_front : Tells 1 (codes "run 0 0 4") (Kept front_run)
-tells_front = told (λ e. omega (arith, e)) (record {
+pub tells_prefix : Tells 1 (codes "run 0 0 4") (Kept prefix_run)
+tells_prefix = told (λ e. omega (arith, e)) (record {
   form = OffsetRun;
   has = record { values = codes "0" ∷ codes "0" ∷ codes "4" ∷ []; named = refl; counted = refl; there = omega arith };
   values = run_line (number_of_digit 0 OFFSETS (omega arith) (omega arith)) (number_of_digit 0 OFFSETS (omega arith) (omega arith))
@@ -141,19 +141,19 @@ keeps_run before text run line others tells follows last late short rule b = of 
 
 -- the two runs of a method that was just named
 pub with_runs : (texts : List (List ℕ)) (before : List Line) (m : ℕ) → Read 1 texts (Method m 16 20 ∷ before)
-    → Read 1 ((texts ++ codes "run 0 0 4" ∷ []) ++ codes "run 8 10 8" ∷ []) (Kept back_run ∷ Kept front_run ∷ Method m 16 20 ∷ before)
+    → Read 1 ((texts ++ codes "run 0 0 4" ∷ []) ++ codes "run 8 10 8" ∷ []) (Kept back_run ∷ Kept prefix_run ∷ Method m 16 20 ∷ before)
 with_runs texts before m read =
-    further (further read tells_front (keeps_run (Method m 16 20 ∷ before) (codes "run 0 0 4") front_run (record {
+    further (further read tells_prefix (keeps_run (Method m 16 20 ∷ before) (codes "run 0 0 4") prefix_run (record {
       method = m;
       old_size = 16;
       new_size = 20;
       runs = [];
-    }) (methods_of before) tells_front refl refl
+    }) (methods_of before) tells_prefix refl refl
     (λ e. e) (λ e. elim e [ inl h ↦ omega (arith, h) | inr h ↦ omega (arith, h) ])))
-    tells_back (keeps_run (Kept front_run ∷ Method m 16 20 ∷ before) (codes "run 8 10 8") back_run (record {
+    tells_back (keeps_run (Kept prefix_run ∷ Method m 16 20 ∷ before) (codes "run 8 10 8") back_run (record {
       method = m;
       old_size = 16;
       new_size = 20;
-      runs = front_run ∷ [];
+      runs = prefix_run ∷ [];
     }) (methods_of before) tells_back refl refl
     (λ e. elim e [ inl h ↦ omega (arith, h) | inr h ↦ omega (arith, h) ]) (λ e. elim e [ inl h ↦ omega (arith, h) | inr h ↦ omega (arith, h) ]))

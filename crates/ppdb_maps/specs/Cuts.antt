@@ -6,11 +6,11 @@ use Rattle.ppdb_maps.specs.declared.words.Words.{Words}
 
 -- the mark does not stand in the bytes
 abbrev pub IsUncut : ℕ → List ℕ → List ℕ → Type 0
-IsUncut mark bytes front = (front ≡ bytes) × (parts_at mark bytes ≡ front ∷ [])
+IsUncut mark bytes prefix = (prefix ≡ bytes) × (parts_at mark bytes ≡ prefix ∷ [])
 
 -- what stands before the first mark, and what stands after it
 abbrev pub IsCut : ℕ → List ℕ → List ℕ → List ℕ → Type 0
-IsCut mark bytes front rest = (parts_at mark bytes ≡ front ∷ parts_at mark rest) × (length rest < length bytes)
+IsCut mark bytes prefix rest = (parts_at mark bytes ≡ prefix ∷ parts_at mark rest) × (length rest < length bytes)
 
 -- the text's first line, and what stands after it
 pub record IsLineOf (text line rest : List ℕ) : Type 0 where

@@ -41,15 +41,15 @@ pub record ReadWhole (version : ℕ) (texts : List (List ℕ)) (draft : Draft) :
 
 -- the first of these lines that breaks a rule, counted from 2
 pub record RefusedLine (version : ℕ) (texts : List (List ℕ)) (line kind : ℕ) : Type 0 where
-  pub front : List (List ℕ)
+  pub prefix : List (List ℕ)
   pub text : List ℕ
   pub back : List (List ℕ)
   pub before : List Line
   pub rule : Rule
-  pub cut : texts ≡ front ++ text ∷ back
-  pub read : Read version front before
+  pub cut : texts ≡ prefix ++ text ∷ back
+  pub read : Read version prefix before
   pub breaks : BreaksFirst version before text rule
-  pub at : line ≡ length front + 2
+  pub at : line ≡ length prefix + 2
   pub is : kind ≡ kind_of rule
 
 abbrev pub RefusedIn : ℕ → List (List ℕ) → MapError → Type 0

@@ -10,13 +10,13 @@ use Rattle.ppdb_maps.specs.declared.line.Form.{Form}
 use Rattle.ppdb_maps.specs.declared.line.Line.{Line}
 use Rattle.ppdb_maps.specs.declared.line.Line.TheVariants.{Rows, Row, Method, Kept, Dropped, Slots, Slot}
 use Rattle.ppdb_maps.specs.declared.rule.Rule.{Rule}
-use Rattle.ppdb_maps.specs.declared.rule.Rule.TheVariants.{FirstLine, UnknownForm, BadNumber, Repeated, Undeclared, NoMethod, Overlap, Beyond, NamesDropped}
+use Rattle.ppdb_maps.specs.declared.rule.Rule.TheVariants.{FirstLine, UnknownForm, NumberFaults, Repeated, Undeclared, NoMethod, Overlap, Beyond, NamesDropped}
 
 -- the rule's number
 abbrev pub kind_of : Rule → ℕ
 kind_of FirstLine = 1
 kind_of UnknownForm = 2
-kind_of BadNumber = 3
+kind_of NumberFaults = 3
 kind_of Repeated = 4
 kind_of Undeclared = 5
 kind_of NoMethod = 6
@@ -59,7 +59,7 @@ pub data Breaks (before : List Line) : Rule → Line → Type 0 where
 pub data BreaksLine (version : ℕ) (before : List Line) (text : List ℕ) : Rule → Type 0 where
   no_form : (IsSilent text → ⊥) → ((form : Form) → HasForm version (line_words text) form → ⊥) → BreaksLine version before text UnknownForm
   no_value : {form : Form} → (IsSilent text → ⊥) → (has : HasForm version (line_words text) form)
-      → ((line : Line) → Values form has.values line → ⊥) → BreaksLine version before text BadNumber
+      → ((line : Line) → Values form has.values line → ⊥) → BreaksLine version before text NumberFaults
   by_lines : {line : Line} {rule : Rule} → Tells version text line → Breaks before rule line → BreaksLine version before text rule
 
 -- it breaks this rule and none with a lesser number

@@ -19,9 +19,9 @@ pub data Read (version : ℕ) : List (List ℕ) → List Line → Type 0 where
 pub data Refused (text : List ℕ) : ℕ → ℕ → Type 0 where
   at_head : {head : List ℕ} {rest : List (List ℕ)} → text_lines text ≡ head ∷ rest → ((version : ℕ) → IsHead head version → ⊥)
       → Refused text 1 1
-  at_line : {head line : List ℕ} {front : List (List ℕ)} (back : List (List ℕ)) {version : ℕ} {before : List Line} {rule : Rule}
-      → text_lines text ≡ head ∷ (front ++ line ∷ back) → IsHead head version → Read version front before
-      → BreaksFirst version before line rule → Refused text (length front + 2) (kind_of rule)
+  at_line : {head line : List ℕ} {prefix : List (List ℕ)} (back : List (List ℕ)) {version : ℕ} {before : List Line} {rule : Rule}
+      → text_lines text ≡ head ∷ (prefix ++ line ∷ back) → IsHead head version → Read version prefix before
+      → BreaksFirst version before line rule → Refused text (length prefix + 2) (kind_of rule)
 
 -- the map answers each question as the lines say, and its lists ascend
 pub record HoldsWhat (said : List Line) (holds : Map) : Type 0 where

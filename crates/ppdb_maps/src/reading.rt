@@ -16,10 +16,10 @@ pub fn version_of(line: &[u8]) -> Option<u8>
     ensures some { IfSome result (IsHead line.now) }
     ensures none { IfNone result ((version : ℕ) → IsHead line.now version → ⊥) }
 {
-    let [front @ .., digit] = line else {
+    let [prefix @ .., digit] = line else {
         return None;
     };
-    if front == b"ppdbmap ".as_slice() && b'1' <= *digit && *digit <= b'3' {
+    if prefix == b"ppdbmap ".as_slice() && b'1' <= *digit && *digit <= b'3' {
         Some(*digit - b'0')
     } else {
         None
@@ -190,6 +190,6 @@ pub fn said(version: u8, line: &[u8]) -> Result<Line, Rule>
     };
     match line_of(form, &words) {
         Some(line) => Ok(line),
-        None => Err(Rule::BadNumber),
+        None => Err(Rule::NumberFaults),
     }
 }

@@ -10,7 +10,7 @@ pub enum Rule {
     /// The first word and the number of words are those of a form of the version.
     UnknownForm,
     /// Each value is spelled as it should be, and is in its range.
-    BadNumber,
+    NumberFaults,
     /// Nothing is said twice.
     Repeated,
     /// A `row` has a `rows` of its table before it, a `slot` a `slots` of its method.
@@ -33,7 +33,7 @@ impl Rule {
         match self {
             Rule::FirstLine => 1,
             Rule::UnknownForm => 2,
-            Rule::BadNumber => 3,
+            Rule::NumberFaults => 3,
             Rule::Repeated => 4,
             Rule::Undeclared => 5,
             Rule::NoMethod => 6,

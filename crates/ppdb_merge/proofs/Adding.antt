@@ -12,36 +12,36 @@ use Rattle.ppdb_tables.specs.RawTables.{HasShape}
 use Rattle.ppdb_values.specs.Documents.{document_of}
 use Rattle.ppdb_values.specs.declared.file.DocumentValue.{DocumentValue}
 use Rattle.ppdb_values.specs.declared.file.FileValue.{FileValue}
-use Rattle.ppdb_values.specs.declared.noted.Noted.{Noted}
-use Rattle.ppdb_values.specs.Meaning.{noted_on}
+use Rattle.ppdb_values.specs.declared.annotation.Annotation.{Annotation}
+use Rattle.ppdb_values.specs.Meaning.{annotated_on}
 use Rattle.ppdb_values.specs.RawFile.{RawFile}
 use Rattle.ppdb_values.specs.Rules.{KeepsRules}
 use Rattle.ppdb_values.specs.Value.{value_of}
-use Rattle.sound_values.specs.Sound.{IsSound}
-use Rattle.ppdb_noted.specs.declared.file.NotedFile.{NotedFile}
-use Rattle.ppdb_noted.specs.Each.{Pairs}
-use Rattle.ppdb_noted.specs.Laws.{SoundnessIsNoted}
-use Rattle.ppdb_noted.specs.Noted.{noted_file, items_of}
-use Rattle.ppdb_noted.specs.Unnoted.{value_of_noted}
-use Rattle.ppdb_noted.proofs.Lists.{Each-append, Each-map, Each-weaker, Pairs-map}
-use Rattle.named_references.specs.Laws.{ReferencesAreNamed}
-use Rattle.ppdb_joined.specs.Joined.{joined}
-use Rattle.ppdb_joined.specs.Laws.{JoinedIsSound}
-use Rattle.ppdb_noted.specs.SoundParts.{SoundMoved}
-use Rattle.ppdb_moved.specs.Fits.{Fits}
-use Rattle.ppdb_moved.specs.Moved.{moved_file}
-use Rattle.ppdb_moved.proofs.SoundMoves.{moved_sound}
-use Rattle.kept_meanings.specs.Kept.{MovedBy, InputsFit, joined_inputs}
-use Rattle.ppdb_references.specs.declared.imaged.Imaged.{Imaged}
-use Rattle.ppdb_fits.specs.Clashes.{first_clash}
-use Rattle.ppdb_fits.specs.Rows.{imaged_rows}
+use Rattle.ppdb_values_sound_laws.specs.Sound.{IsSound}
+use Rattle.ppdb_merge_items.specs.declared.file.AnnotatedFile.{AnnotatedFile}
+use Rattle.ppdb_merge_items.specs.Each.{Pairs}
+use Rattle.ppdb_merge_items.specs.Laws.{SoundnessIsAnnotated}
+use Rattle.ppdb_merge_items.specs.Annotated.{annotated_file, items_of}
+use Rattle.ppdb_merge_items.specs.Unannotated.{value_of_annotated}
+use Rattle.ppdb_merge_items.proofs.Lists.{Each-append, Each-map, Each-weaker, Pairs-map}
+use Rattle.ppdb_merge_names_laws.specs.Laws.{ReferencesAreNamed}
+use Rattle.ppdb_merge_joined.specs.Joined.{joined}
+use Rattle.ppdb_merge_joined.specs.Laws.{JoinedIsSound}
+use Rattle.ppdb_merge_items.specs.SoundParts.{SoundMoved}
+use Rattle.ppdb_merge_moved.specs.Fits.{Fits}
+use Rattle.ppdb_merge_moved.specs.Moved.{moved_file}
+use Rattle.ppdb_merge_moved.proofs.SoundMoves.{moved_sound}
+use Rattle.ppdb_merge_meaning_laws.specs.Kept.{MovedBy, InputsFit, joined_inputs}
+use Rattle.ppdb_merge_names.specs.declared.imaged.Imaged.{Imaged}
+use Rattle.ppdb_merge_fits.specs.Clashes.{first_clash}
+use Rattle.ppdb_merge_fits.specs.Rows.{imaged_rows}
 use Rattle.ppdb_merge.specs.declared.index.Index.{Index}
 use Rattle.ppdb_merge.specs.declared.trace.Trace.{Trace}
 use Rattle.ppdb_merge.specs.Indexes.{Indexes}
 use Rattle.ppdb_merge.specs.Kept.{AreInputs}
 use Rattle.ppdb_merge.specs.Merged.{trace_of, moved_files, is_first}
 use Rattle.ppdb_merge.specs.Refusals.{methods_taken, documents_differ, clashes_before, or_first, refusal_of, added, with_trace}
-use Rattle.ppdb_joined.specs.Small.{AreFew, HasFewRows}
+use Rattle.ppdb_merge_joined.specs.Small.{AreFew, HasFewRows}
 use Rattle.ppdb_merge.specs.Sound.{SoundTrace, SoundTraces, AreMethodsApart, HasEntry, documents_in}
 use Rattle.ppdb_merge.specs.Together.{misfit_of}
 use Rattle.ppdb_merge.proofs.Apart.{all_apart, one_by_name, Pairs-push}
@@ -49,12 +49,12 @@ use Rattle.ppdb_merge.proofs.Counted.{can_be_joined, counts_rows}
 use Rattle.ppdb_merge.proofs.Few.{few_rows}
 use Rattle.ppdb_merge.proofs.Indexing.{documents_more}
 use Rattle.ppdb_merge.proofs.Told.{empty_of, empty_both}
-use Rattle.kept_meanings.proofs.Counts.{moved_counts_sound}
+use Rattle.ppdb_merge_meaning_laws.proofs.Counts.{moved_counts_sound}
 use Rattle.ppdb_merge.proofs.Traced.{file_sound, moved_images, moved_entry}
 
 -- the documents of a file, with their records, are its documents
 items_are : (value : FileValue) (n : ℕ) (ds : List DocumentValue)
-    → items_of (map (λ (item : ℕ × DocumentValue). record { item = item.1; customs = noted_on value 0x30 item.0 }) (enumerate_from n ds)) ≡ ds
+    → items_of (map (λ (item : ℕ × DocumentValue). record { item = item.1; customs = annotated_on value 0x30 item.0 }) (enumerate_from n ds)) ≡ ds
 items_are value n [] = refl
 items_are value n (d ∷ ds) = ap (λ l. d ∷ l) (items_are value (n + 1) ds)
 
@@ -85,31 +85,31 @@ refused_first marks traces m raw e is =
     ap (λ first. or_first first (clashes_before traces (trace_of (is_first traces) m raw).rows (value_of raw).documents)) is
 
 -- a moved file has few documents
-pub few_moved : (m : Map) (raw : RawFile) → HasShape raw.tables → length (moved_file m (noted_file (value_of raw))).documents < 0x20000000
+pub few_moved : (m : Map) (raw : RawFile) → HasShape raw.tables → length (moved_file m (annotated_file (value_of raw))).documents < 0x20000000
 few_moved m raw shape = let few = (few_rows m raw shape).documents in omega (arith, few)
 
-module _ (noted : SoundnessIsNoted) (named : ReferencesAreNamed) (m : Map) (raw : RawFile) (keeps : KeepsRules raw) (sound : IsSound (value_of raw))
+module _ (annotated : SoundnessIsAnnotated) (named : ReferencesAreNamed) (m : Map) (raw : RawFile) (keeps : KeepsRules raw) (sound : IsSound (value_of raw))
     (ready : IsReadable m) where
-  pub moved_is_sound : (first : Bool) → Fits first m (noted_file (value_of raw)) → SoundMoved (moved_file m (noted_file (value_of raw)))
-  moved_is_sound first fits = moved_sound first m (noted_file (value_of raw)) ready (file_sound noted named first m raw keeps sound ready fits) fits
+  pub moved_is_sound : (first : Bool) → Fits first m (annotated_file (value_of raw)) → SoundMoved (moved_file m (annotated_file (value_of raw)))
+  moved_is_sound first fits = moved_sound first m (annotated_file (value_of raw)) ready (file_sound annotated named first m raw keeps sound ready fits) fits
 
-  trace_sound : (first : Bool) → Fits first m (noted_file (value_of raw)) → SoundTrace (trace_of first m raw)
+  trace_sound : (first : Bool) → Fits first m (annotated_file (value_of raw)) → SoundTrace (trace_of first m raw)
   trace_sound first fits = record {
     sound = moved_is_sound first fits;
     counts = moved_counts_sound m ready (value_of raw).rows sound.rows;
     few = few_rows m raw keeps.shape;
-    images = moved_images noted named first m raw keeps sound ready fits;
+    images = moved_images annotated named first m raw keeps sound ready fits;
   }
 
-  names_differ : (first : Bool) → Fits first m (noted_file (value_of raw)) → Pairs (λ (a b : DocumentValue). a.name ≢ b.name) (value_of raw).documents
+  names_differ : (first : Bool) → Fits first m (annotated_file (value_of raw)) → Pairs (λ (a b : DocumentValue). a.name ≢ b.name) (value_of raw).documents
   names_differ first fits =
       subst (Pairs (λ (a b : DocumentValue). a.name ≢ b.name)) (items_are (value_of raw) 1 (value_of raw).documents)
-      (Pairs-map (λ (n : Noted DocumentValue). n.item) (λ (a b : DocumentValue). a.name ≢ b.name) (noted_file (value_of raw)).documents
-      (file_sound noted named first m raw keeps sound ready fits).names_differ)
+      (Pairs-map (λ (n : Annotation DocumentValue). n.item) (λ (a b : DocumentValue). a.name ≢ b.name) (annotated_file (value_of raw)).documents
+      (file_sound annotated named first m raw keeps sound ready fits).names_differ)
 
   -- the inputs with one more
   pub added_sound : (marks : List (List ℕ)) (traces : List Trace) → SoundTraces traces → length traces < 256
-      → Fits (is_first traces) m (noted_file (value_of raw)) → refusal_of marks traces m raw ≡ None
+      → Fits (is_first traces) m (annotated_file (value_of raw)) → refusal_of marks traces m raw ≡ None
       → SoundTraces (traces ++ trace_of (is_first traces) m raw ∷ [])
   added_sound marks traces all few fits is =
       let t : Trace = trace_of (is_first traces) m raw in
@@ -124,8 +124,8 @@ module _ (noted : SoundnessIsNoted) (named : ReferencesAreNamed) (m : Map) (raw 
         entry = entry_of traces all.entry fits;
       }
     where
-      entry_of : (ts : List Trace) → HasEntry ts → Fits (is_first ts) m (noted_file (value_of raw)) → HasEntry (ts ++ trace_of (is_first ts) m raw ∷ [])
-      entry_of [] has fits = moved_entry noted named true m raw keeps sound ready fits refl
+      entry_of : (ts : List Trace) → HasEntry ts → Fits (is_first ts) m (annotated_file (value_of raw)) → HasEntry (ts ++ trace_of (is_first ts) m raw ∷ [])
+      entry_of [] has fits = moved_entry annotated named true m raw keeps sound ready fits refl
       entry_of (first ∷ others) has fits = has
 
 -- ---- all inputs together
@@ -140,22 +140,22 @@ have_few traces sound = record {
     length_map [] = refl
     length_map (t ∷ ts) = ap suc (length_map ts)
 
-pub joined_sound : SoundnessIsNoted → JoinedIsSound → (traces : List Trace) → traces ≢ [] → SoundTraces traces → misfit_of traces ≡ None
-    → IsSound (value_of_noted (joined (moved_files traces)))
-joined_sound noted law [] some sound fit = absurd (some refl)
-joined_sound noted law (first ∷ others) some sound fit =
-    noted.value (joined (moved_files (first ∷ others)))
+pub joined_sound : SoundnessIsAnnotated → JoinedIsSound → (traces : List Trace) → traces ≢ [] → SoundTraces traces → misfit_of traces ≡ None
+    → IsSound (value_of_annotated (joined (moved_files traces)))
+joined_sound annotated law [] some sound fit = absurd (some refl)
+joined_sound annotated law (first ∷ others) some sound fit =
+    annotated.value (joined (moved_files (first ∷ others)))
     (law first.moved (moved_files others) (can_be_joined (first ∷ others) sound) (counts_rows first others sound fit))
 
 pub some_files : (traces : List Trace) → traces ≢ [] → moved_files traces ≢ []
 some_files [] some is = some refl
 some_files (t ∷ ts) some is = cc
 
-pub if_sound : (r : Result FileValue Memory) (files : List NotedFile) (traces : List Trace) → IfOk r (λ value. value ≡ value_of_noted (joined files))
-    → files ≡ moved_files traces → IsSound (value_of_noted (joined (moved_files traces))) → IfOk r IsSound
+pub if_sound : (r : Result FileValue Memory) (files : List AnnotatedFile) (traces : List Trace) → IfOk r (λ value. value ≡ value_of_annotated (joined files))
+    → files ≡ moved_files traces → IsSound (value_of_annotated (joined (moved_files traces))) → IfOk r IsSound
 if_sound (Err e) files traces is same sound = tt
 if_sound (Ok value) files traces is same sound =
-    subst IsSound (sym (is ∙ ap (λ l. value_of_noted (joined l)) same)) sound
+    subst IsSound (sym (is ∙ ap (λ l. value_of_annotated (joined l)) same)) sound
 
 -- ---- a file that is read
 
@@ -178,12 +178,12 @@ refused_as marks traces m raw o rows documents none same also is =
     (is ∙ ap (λ l. slice_get (clashes_before traces l documents) 0) same
     ∙ ap (λ l. slice_get (clashes_before traces (imaged_rows (is_first traces) m raw) l) 0) also)
 
-pub is_sound : (traces : List Trace) (m : Map) (raw : RawFile) (moved noted : NotedFile) (rows : List Imaged) → moved ≡ moved_file m noted
-    → noted ≡ noted_file (value_of raw) → rows ≡ imaged_rows (is_first traces) m raw → SoundTraces (traces ++ trace_of (is_first traces) m raw ∷ [])
+pub is_sound : (traces : List Trace) (m : Map) (raw : RawFile) (moved annotated : AnnotatedFile) (rows : List Imaged) → moved ≡ moved_file m annotated
+    → annotated ≡ annotated_file (value_of raw) → rows ≡ imaged_rows (is_first traces) m raw → SoundTraces (traces ++ trace_of (is_first traces) m raw ∷ [])
     → SoundTraces (traces ++ record { moved = moved; rows = rows } ∷ [])
-is_sound traces m raw moved noted rows is from same sound =
+is_sound traces m raw moved annotated rows is from same sound =
     subst (λ file. SoundTraces (traces ++ record { moved = file; rows = rows } ∷ [])) (sym (is ∙ ap (moved_file m) from))
-    (subst (λ l. SoundTraces (traces ++ record { moved = moved_file m (noted_file (value_of raw)); rows = l } ∷ [])) (sym same) sound)
+    (subst (λ l. SoundTraces (traces ++ record { moved = moved_file m (annotated_file (value_of raw)); rows = l } ∷ [])) (sym same) sound)
 
 pub added_as : (marks : List (List ℕ)) (traces : List Trace) (m : Map) (raw : RawFile) (t : Trace) → t ≡ trace_of (is_first traces) m raw
     → refusal_of marks traces m raw ≡ None → added marks traces m raw ≡ Ok (traces ++ t ∷ [])
@@ -196,17 +196,17 @@ pub grown : (traces new : List Trace) (t : Trace) (index : Index) → new ≡ tr
 grown traces new t index is holds sound = (
   subst SoundTraces (sym is) sound,
   (let counted = holds.inputs in let more = length_next traces t in let same = ap (λ (l : List Trace). length l) is in omega (arith, counted, more, same)),
-  subst (λ l. Indexes l index) (sym (ap (take index.inputs) is ∙ ap (λ n. take n (traces ++ t ∷ [])) holds.inputs ∙ front traces)) holds,
+  subst (λ l. Indexes l index) (sym (ap (take index.inputs) is ∙ ap (λ n. take n (traces ++ t ∷ [])) holds.inputs ∙ prefix traces)) holds,
 )
   where
-    front : (ts : List Trace) → take (length ts) (ts ++ t ∷ []) ≡ ts
-    front [] = refl
-    front (x ∷ ts) = ap (λ l. x ∷ l) (front ts)
+    prefix : (ts : List Trace) → take (length ts) (ts ++ t ∷ []) ≡ ts
+    prefix [] = refl
+    prefix (x ∷ ts) = ap (λ l. x ∷ l) (prefix ts)
 
-pub if_kept : (K : List MovedBy → FileValue → Type 0) (r : Result FileValue Memory) (files : List NotedFile) (traces : List Trace)
-    → IfOk r (λ value. value ≡ value_of_noted (joined files)) → files ≡ moved_files traces
+pub if_kept : (K : List MovedBy → FileValue → Type 0) (r : Result FileValue Memory) (files : List AnnotatedFile) (traces : List Trace)
+    → IfOk r (λ value. value ≡ value_of_annotated (joined files)) → files ≡ moved_files traces
     → ((inputs : List MovedBy) → InputsFit inputs → K inputs (joined_inputs inputs))
     → IfOk r (λ value. (inputs : List MovedBy) → AreInputs traces inputs → K inputs value)
 if_kept K (Err e) files traces is same law = tt
 if_kept K (Ok value) files traces is same law = λ inputs are.
-    subst (K inputs) (sym (is ∙ ap (λ l. value_of_noted (joined l)) (same ∙ are.moved))) (law inputs are.fit)
+    subst (K inputs) (sym (is ∙ ap (λ l. value_of_annotated (joined l)) (same ∙ are.moved))) (law inputs are.fit)

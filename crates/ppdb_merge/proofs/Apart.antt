@@ -7,13 +7,13 @@ use Rattle.std.proofs.lemmas.Bool.{both_ways, eq-eqb, and_parts}
 use Rattle.ppdb_base.specs.declared.merge_error.MergeError.TheVariants.{MethodTaken, DocumentConflict}
 use Rattle.ppdb_tables.specs.RawTables.{numbered}
 use Rattle.ppdb_values.specs.declared.file.DocumentValue.{DocumentValue}
-use Rattle.ppdb_noted.specs.Each.{Each, Pairs}
-use Rattle.ppdb_noted.specs.Sorted.{in_order}
-use Rattle.ppdb_noted.proofs.Lists.{Each-weaker, Each-unmap, Each-append, Pairs-weaker}
-use Rattle.ppdb_joined.specs.Joined.{firsts}
-use Rattle.ppdb_joined.proofs.Names.{same_bytes, bytes_same}
-use Rattle.ppdb_moved.proofs.Elements.{each_made}
-use Rattle.ppdb_references.specs.declared.imaged.Imaged.{Imaged}
+use Rattle.ppdb_merge_items.specs.Each.{Each, Pairs}
+use Rattle.ppdb_merge_items.specs.Sorted.{in_order}
+use Rattle.ppdb_merge_items.proofs.Lists.{Each-weaker, Each-unmap, Each-append, Pairs-weaker}
+use Rattle.ppdb_merge_joined.specs.Joined.{firsts}
+use Rattle.ppdb_merge_joined.proofs.Names.{same_bytes, bytes_same}
+use Rattle.ppdb_merge_moved.proofs.Elements.{each_made}
+use Rattle.ppdb_merge_names.specs.declared.imaged.Imaged.{Imaged}
 use Rattle.ppdb_merge.specs.declared.trace.Trace.{Trace}
 use Rattle.ppdb_merge.specs.Refusals.{methods_in, claims, taken, methods_taken, same_guid, same_contents, conflict}
 use Rattle.ppdb_merge.specs.Sound.{AreMethodsApart}
@@ -55,7 +55,7 @@ Each-swap : {A B : Type 0} (R : A → B → Type 0) (xs : List A) (ys : List B) 
 Each-swap R xs [] each = Each-none R xs
 Each-swap {A} {B} R xs (y ∷ ys) each = Each-with (λ x. R x y) (λ x. Each (R x) ys) xs each.0 (Each-swap R xs ys each.1)
 
--- one more behind the others
+-- one more after the others
 pub Pairs-push : {A : Type 0} (R : A → A → Type 0) (xs : List A) (y : A) → Pairs R xs → Each (λ x. R x y) xs → Pairs R (xs ++ y ∷ [])
 Pairs-push R [] y pairs each = (tt, tt)
 Pairs-push R (x ∷ xs) y pairs each = (Each-append (R x) xs (y ∷ []) pairs.0 (each.0, tt), Pairs-push R xs y pairs.1 each.1)

@@ -12,18 +12,18 @@ use Rattle.ppdb_values.specs.declared.custom.CustomValue.{CustomValue}
 use Rattle.ppdb_values.specs.declared.file.DocumentValue.{DocumentValue}
 use Rattle.ppdb_values.specs.declared.file.MethodValue.{MethodValue}
 use Rattle.ppdb_values.specs.declared.import.ImportScopeValue.{ImportScopeValue}
-use Rattle.ppdb_values.specs.declared.noted.Noted.{Noted}
-use Rattle.ppdb_noted.specs.declared.file.NotedFile.{NotedFile}
-use Rattle.ppdb_noted.specs.declared.file.NotedScope.{NotedScope}
-use Rattle.ppdb_noted.specs.Each.{Each, Pairs}
-use Rattle.ppdb_noted.specs.NamedRows.{Named, names, names_some, all_named, in_constant, in_import, in_steps}
-use Rattle.ppdb_noted.specs.Noted.{items_of}
-use Rattle.ppdb_noted.specs.SoundParts.{SoundMoved}
-use Rattle.ppdb_noted.proofs.Lists.{Each-weaker, Each-map, Each-unmap, Each-append, Each-filter, Pairs-map}
-use Rattle.ppdb_joined.specs.Joinable.{AreJoinable, CountsRows, AreApart, AgreeOnDocuments, methods_of}
-use Rattle.ppdb_joined.proofs.Each.{Each-flat}
-use Rattle.ppdb_moved.proofs.Elements.{each_parts, each_made, each_left, in_each}
-use Rattle.ppdb_references.specs.declared.imaged.Imaged.{Imaged}
+use Rattle.ppdb_values.specs.declared.annotation.Annotation.{Annotation}
+use Rattle.ppdb_merge_items.specs.declared.file.AnnotatedFile.{AnnotatedFile}
+use Rattle.ppdb_merge_items.specs.declared.file.AnnotatedScope.{AnnotatedScope}
+use Rattle.ppdb_merge_items.specs.Each.{Each, Pairs}
+use Rattle.ppdb_merge_items.specs.NamedRows.{Named, names, names_some, all_named, in_constant, in_import, in_steps}
+use Rattle.ppdb_merge_items.specs.Annotated.{items_of}
+use Rattle.ppdb_merge_items.specs.SoundParts.{SoundMoved}
+use Rattle.ppdb_merge_items.proofs.Lists.{Each-weaker, Each-map, Each-unmap, Each-append, Each-filter, Pairs-map}
+use Rattle.ppdb_merge_joined.specs.Joinable.{AreJoinable, CountsRows, AreApart, AgreeOnDocuments, methods_of}
+use Rattle.ppdb_merge_joined.proofs.Each.{Each-flat}
+use Rattle.ppdb_merge_moved.proofs.Elements.{each_parts, each_made, each_left, in_each}
+use Rattle.ppdb_merge_names.specs.declared.imaged.Imaged.{Imaged}
 use Rattle.ppdb_merge.specs.declared.trace.Trace.{Trace}
 use Rattle.ppdb_merge.specs.Merged.{moved_files}
 use Rattle.ppdb_merge.specs.Refusals.{methods_in}
@@ -47,16 +47,16 @@ range_each P from (suc n) each (suc k) within =
 -- ---- methods and documents of two inputs
 
 -- what holds of all rows that a file names holds of the methods of which it says something
-methods_named : (P : Named → Type 0) (file : NotedFile) → Each P (all_named file) → Each (λ row. P (names 0x06 row)) (methods_of file)
+methods_named : (P : Named → Type 0) (file : AnnotatedFile) → Each P (all_named file) → Each (λ row. P (names 0x06 row)) (methods_of file)
 methods_named P file each =
-    Each-append Q (map (λ (e : MethodValue). e.method) file.methods ++ map (λ (s : NotedScope). s.method) file.scopes
+    Each-append Q (map (λ (e : MethodValue). e.method) file.methods ++ map (λ (s : AnnotatedScope). s.method) file.scopes
     ++ flat_map sides file.machines) of_records
-    (Each-append Q (map (λ (e : MethodValue). e.method) file.methods ++ map (λ (s : NotedScope). s.method) file.scopes) (flat_map sides file.machines)
-    (Each-append Q (map (λ (e : MethodValue). e.method) file.methods) (map (λ (s : NotedScope). s.method) file.scopes)
+    (Each-append Q (map (λ (e : MethodValue). e.method) file.methods ++ map (λ (s : AnnotatedScope). s.method) file.scopes) (flat_map sides file.machines)
+    (Each-append Q (map (λ (e : MethodValue). e.method) file.methods) (map (λ (s : AnnotatedScope). s.method) file.scopes)
     (Each-map (λ (e : MethodValue). e.method) Q file.methods
     (Each-weaker (λ (e : MethodValue). Each P (of_method e)) (λ (e : MethodValue). Q e.method) (λ e both. both.0) file.methods
     (each_made of_method P file.methods methods.0)))
-    (Each-map (λ (s : NotedScope). s.method) Q file.scopes (Each-unmap (λ (s : NotedScope). names 0x06 s.method) P file.scopes scopes.0)))
+    (Each-map (λ (s : AnnotatedScope). s.method) Q file.scopes (Each-unmap (λ (s : AnnotatedScope). names 0x06 s.method) P file.scopes scopes.0)))
     (Each-flat sides Q file.machines
     (Each-weaker (λ (r : MachineRow). Each P (of_machine r)) (λ (r : MachineRow). Each Q (sides r)) (λ r both. (both.0, (both.1.0, tt))) file.machines
     (each_made of_machine P file.machines machines.0))))
@@ -87,25 +87,25 @@ methods_named P file each =
     from_machines = flat_map of_machine file.machines ++ flat_map of_custom file.customs
 
     from_imports : List Named
-    from_imports = flat_map (λ (i : Noted ImportScopeValue). flat_map in_import i.item.imports) file.imports ++ from_machines
+    from_imports = flat_map (λ (i : Annotation ImportScopeValue). flat_map in_import i.item.imports) file.imports ++ from_machines
 
     from_constants : List Named
-    from_constants = flat_map (λ (s : NotedScope). flat_map in_constant s.constants) file.scopes ++ from_imports
+    from_constants = flat_map (λ (s : AnnotatedScope). flat_map in_constant s.constants) file.scopes ++ from_imports
 
     from_scopes : List Named
-    from_scopes = map (λ (s : NotedScope). names 0x06 s.method) file.scopes ++ from_constants
+    from_scopes = map (λ (s : AnnotatedScope). names 0x06 s.method) file.scopes ++ from_constants
 
     methods : Each P (flat_map of_method file.methods) × Each P from_scopes
     methods = each_parts P (flat_map of_method file.methods) from_scopes each
 
-    scopes : Each P (map (λ (s : NotedScope). names 0x06 s.method) file.scopes) × Each P from_constants
-    scopes = each_parts P (map (λ (s : NotedScope). names 0x06 s.method) file.scopes) from_constants methods.1
+    scopes : Each P (map (λ (s : AnnotatedScope). names 0x06 s.method) file.scopes) × Each P from_constants
+    scopes = each_parts P (map (λ (s : AnnotatedScope). names 0x06 s.method) file.scopes) from_constants methods.1
 
-    constants : Each P (flat_map (λ (s : NotedScope). flat_map in_constant s.constants) file.scopes) × Each P from_imports
-    constants = each_parts P (flat_map (λ (s : NotedScope). flat_map in_constant s.constants) file.scopes) from_imports scopes.1
+    constants : Each P (flat_map (λ (s : AnnotatedScope). flat_map in_constant s.constants) file.scopes) × Each P from_imports
+    constants = each_parts P (flat_map (λ (s : AnnotatedScope). flat_map in_constant s.constants) file.scopes) from_imports scopes.1
 
-    imports : Each P (flat_map (λ (i : Noted ImportScopeValue). flat_map in_import i.item.imports) file.imports) × Each P from_machines
-    imports = each_parts P (flat_map (λ (i : Noted ImportScopeValue). flat_map in_import i.item.imports) file.imports) from_machines constants.1
+    imports : Each P (flat_map (λ (i : Annotation ImportScopeValue). flat_map in_import i.item.imports) file.imports) × Each P from_machines
+    imports = each_parts P (flat_map (λ (i : Annotation ImportScopeValue). flat_map in_import i.item.imports) file.imports) from_machines constants.1
 
     machines : Each P (flat_map of_machine file.machines) × Each P (flat_map of_custom file.customs)
     machines = each_parts P (flat_map of_machine file.machines) (flat_map of_custom file.customs) imports.1
@@ -143,27 +143,27 @@ Pairs-split R [] ys pairs = (pairs, tt)
 Pairs-split R (x ∷ xs) ys pairs =
     let rest = Pairs-split R xs ys pairs.1 in (rest.0, ((each_parts (R x) xs ys pairs.0).1, rest.1))
 
-agree : (files : List NotedFile) → Pairs OneByName (flat_map (λ (file : NotedFile). items_of file.documents) files) → Pairs AgreeOnDocuments files
+agree : (files : List AnnotatedFile) → Pairs OneByName (flat_map (λ (file : AnnotatedFile). items_of file.documents) files) → Pairs AgreeOnDocuments files
 agree [] pairs = tt
 agree (a ∷ files) pairs =
-    let parts = Pairs-split OneByName (items_of a.documents) (flat_map (λ (file : NotedFile). items_of file.documents) files) pairs in
+    let parts = Pairs-split OneByName (items_of a.documents) (flat_map (λ (file : AnnotatedFile). items_of file.documents) files) pairs in
     (each_file files parts.1, agree files parts.0)
   where
-    one_file : (b : NotedFile) → Each (λ d. Each (OneByName d) (items_of b.documents)) (items_of a.documents) → AgreeOnDocuments a b
+    one_file : (b : AnnotatedFile) → Each (λ d. Each (OneByName d) (items_of b.documents)) (items_of a.documents) → AgreeOnDocuments a b
     one_file b each =
-        Each-weaker (λ (d : Noted DocumentValue). Each (OneByName d.item) (items_of b.documents))
-        (λ (d : Noted DocumentValue). Each (λ (e : Noted DocumentValue). d.item.name ≡ e.item.name → d.item ≡ e.item) b.documents)
-        (λ d here. Each-unmap (λ (e : Noted DocumentValue). e.item) (OneByName d.item) b.documents here) a.documents
-        (Each-unmap (λ (d : Noted DocumentValue). d.item) (λ d. Each (OneByName d) (items_of b.documents)) a.documents each)
+        Each-weaker (λ (d : Annotation DocumentValue). Each (OneByName d.item) (items_of b.documents))
+        (λ (d : Annotation DocumentValue). Each (λ (e : Annotation DocumentValue). d.item.name ≡ e.item.name → d.item ≡ e.item) b.documents)
+        (λ d here. Each-unmap (λ (e : Annotation DocumentValue). e.item) (OneByName d.item) b.documents here) a.documents
+        (Each-unmap (λ (d : Annotation DocumentValue). d.item) (λ d. Each (OneByName d) (items_of b.documents)) a.documents each)
 
-    each_file : (bs : List NotedFile) → Each (λ d. Each (OneByName d) (flat_map (λ (file : NotedFile). items_of file.documents) bs)) (items_of a.documents)
+    each_file : (bs : List AnnotatedFile) → Each (λ d. Each (OneByName d) (flat_map (λ (file : AnnotatedFile). items_of file.documents) bs)) (items_of a.documents)
         → Each (AgreeOnDocuments a) bs
     each_file [] each = tt
     each_file (b ∷ bs) each = (
-      one_file b (Each-weaker (λ d. Each (OneByName d) (items_of b.documents ++ flat_map (λ (file : NotedFile). items_of file.documents) bs))
+      one_file b (Each-weaker (λ d. Each (OneByName d) (items_of b.documents ++ flat_map (λ (file : AnnotatedFile). items_of file.documents) bs))
           (λ d. Each (OneByName d) (items_of b.documents)) (λ d here. (each_parts (OneByName d) (items_of b.documents) _ here).0) (items_of a.documents) each),
-      each_file bs (Each-weaker (λ d. Each (OneByName d) (items_of b.documents ++ flat_map (λ (file : NotedFile). items_of file.documents) bs))
-          (λ d. Each (OneByName d) (flat_map (λ (file : NotedFile). items_of file.documents) bs))
+      each_file bs (Each-weaker (λ d. Each (OneByName d) (items_of b.documents ++ flat_map (λ (file : AnnotatedFile). items_of file.documents) bs))
+          (λ d. Each (OneByName d) (flat_map (λ (file : AnnotatedFile). items_of file.documents) bs))
           (λ d here. (each_parts (OneByName d) (items_of b.documents) _ here).1) (items_of a.documents) each),
     )
 

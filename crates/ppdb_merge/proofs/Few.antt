@@ -11,17 +11,17 @@ use Rattle.ppdb_tables.specs.declared.rows.VariableRow.{VariableRow}
 use Rattle.ppdb_tables.specs.declared.rows.ConstantRow.{ConstantRow}
 use Rattle.ppdb_values.specs.declared.scope.ScopeValue.{ScopeValue}
 use Rattle.ppdb_values.specs.declared.file.FileValue.{FileValue}
-use Rattle.ppdb_values.specs.Meaning.{noted_from}
+use Rattle.ppdb_values.specs.Meaning.{annotated_from}
 use Rattle.ppdb_values.specs.RawFile.{RawFile}
 use Rattle.ppdb_values.specs.Value.{value_of, scope_of, variable_of, owned_by, owner_of, is_number}
 use Rattle.ppdb_values.specs.Constants.{constant_of}
 use Rattle.ppdb_values.specs.Documents.{document_of}
 use Rattle.ppdb_values.specs.Imports.{import_scope_of}
 use Rattle.ppdb_values.specs.Parts.{first_item}
-use Rattle.ppdb_noted.specs.declared.file.NotedScope.{NotedScope}
-use Rattle.ppdb_noted.specs.Noted.{noted_file, noted_scope, with_item}
-use Rattle.ppdb_moved.specs.Moved.{moved_variable, moved_constant, moved_scope, moved_import_scope, moved_file, scope_image, is_empty}
-use Rattle.ppdb_joined.specs.Small.{HasFewRows}
+use Rattle.ppdb_merge_items.specs.declared.file.AnnotatedScope.{AnnotatedScope}
+use Rattle.ppdb_merge_items.specs.Annotated.{annotated_file, annotated_scope, with_item}
+use Rattle.ppdb_merge_moved.specs.Moved.{moved_variable, moved_constant, moved_scope, moved_import_scope, moved_file, scope_image, is_empty}
+use Rattle.ppdb_merge_joined.specs.Small.{HasFewRows}
 
 -- ---- sums
 
@@ -136,15 +136,15 @@ total_fewer {A} {B} f count after same (x ∷ xs) = step (f x) refl (total_fewer
     step (Some y) is rest = let one = same x y is in omega (arith, rest, one)
 
 -- a scope that stays has its variables and constants
-scope_is : (m : Map) (s t : NotedScope) → moved_scope m s ≡ Some t → scope_image m s ≡ t
+scope_is : (m : Map) (s t : AnnotatedScope) → moved_scope m s ≡ Some t → scope_image m s ≡ t
 scope_is m s t eq = by (is_empty (scope_image m s).range) eq
   where
     by : (b : Bool) → cond b None (Some (scope_image m s)) ≡ Some t → scope_image m s ≡ t
     by true e = absurd cc
     by false e = cc
 
-length_noted : {X : Type 0} (value : FileValue) (table first : ℕ) (items : List X) → length (noted_from value table first items) ≡ length items
-length_noted value table first items = length_map _ (enumerate_from first items) ∙ length_numbered first items
+length_annotated : {X : Type 0} (value : FileValue) (table first : ℕ) (items : List X) → length (annotated_from value table first items) ≡ length items
+length_annotated value table first items = length_map _ (enumerate_from first items) ∙ length_numbered first items
 
 unnumbered : {A : Type 0} (f : A → ℕ) (from : ℕ) (xs : List A) → total (λ (x : ℕ × A). f x.1) (enumerate_from from xs) ≡ total f xs
 unfolding total
@@ -152,16 +152,16 @@ unnumbered f from [] = refl
 unnumbered f from (x ∷ xs) = ap (λ n. f x + n) (unnumbered f (from + 1) xs)
 
 -- what the moved scopes own is no more than the file's items
-owned_moved : {I : Type 0} (m : Map) (raw : RawFile) (of_noted : NotedScope → ℕ) (of_value : ScopeValue → ℕ) (owner : ℕ × I → Option ℕ) (items : List I)
-    → ((s : NotedScope) → of_noted (scope_image m s) ≡ of_noted s)
-    → ((x : ℕ × ScopeValue) → of_noted (noted_scope (value_of raw) x) ≡ of_value x.1)
+owned_moved : {I : Type 0} (m : Map) (raw : RawFile) (of_annotated : AnnotatedScope → ℕ) (of_value : ScopeValue → ℕ) (owner : ℕ × I → Option ℕ) (items : List I)
+    → ((s : AnnotatedScope) → of_annotated (scope_image m s) ≡ of_annotated s)
+    → ((x : ℕ × ScopeValue) → of_annotated (annotated_scope (value_of raw) x) ≡ of_value x.1)
     → ((x : ℕ × _) → of_value (scope_of raw.tables x) ≡ length (filter (λ item. is_number x.0 (owner item)) (numbered items)))
-    → sum_by of_noted (moved_file m (noted_file (value_of raw))).scopes ≤ length items
-owned_moved m raw of_noted of_value owner items kept noted owned =
-    let is = sum_is of_noted (moved_file m (noted_file (value_of raw))).scopes in
-    let moved = total_fewer (moved_scope m) of_noted of_noted (λ s t eq. ap of_noted (sym (scope_is m s t eq)) ∙ kept s) (noted_file (value_of raw)).scopes in
-    let of_file = total_map of_noted (noted_scope (value_of raw)) (numbered (value_of raw).scopes) in
-    let of_values = total_same (λ x. of_noted (noted_scope (value_of raw) x)) (λ (x : ℕ × ScopeValue). of_value x.1) noted (numbered (value_of raw).scopes) in
+    → sum_by of_annotated (moved_file m (annotated_file (value_of raw))).scopes ≤ length items
+owned_moved m raw of_annotated of_value owner items kept annotated owned =
+    let is = sum_is of_annotated (moved_file m (annotated_file (value_of raw))).scopes in
+    let moved = total_fewer (moved_scope m) of_annotated of_annotated (λ s t eq. ap of_annotated (sym (scope_is m s t eq)) ∙ kept s) (annotated_file (value_of raw)).scopes in
+    let of_file = total_map of_annotated (annotated_scope (value_of raw)) (numbered (value_of raw).scopes) in
+    let of_values = total_same (λ x. of_annotated (annotated_scope (value_of raw) x)) (λ (x : ℕ × ScopeValue). of_value x.1) annotated (numbered (value_of raw).scopes) in
     let plain = unnumbered of_value 1 (value_of raw).scopes in
     let of_rows = total_map of_value (scope_of raw.tables) (numbered raw.tables.scopes) in
     let of_owned = total_same (λ x. of_value (scope_of raw.tables x)) (λ x. length (filter (λ item. is_number x.0 (owner item)) (numbered items))) owned
@@ -170,24 +170,24 @@ owned_moved m raw of_noted of_value owner items kept noted owned =
     let many = length_numbered 1 items in
     omega (arith, is, moved, of_file, of_values, plain, of_rows, of_owned, few, many)
 
-pub few_rows : (m : Map) (raw : RawFile) → HasShape raw.tables → HasFewRows (moved_file m (noted_file (value_of raw)))
+pub few_rows : (m : Map) (raw : RawFile) → HasShape raw.tables → HasFewRows (moved_file m (annotated_file (value_of raw)))
 few_rows m raw shape = record {
   documents =
-      let noted = length_noted (value_of raw) 0x30 1 (value_of raw).documents in
+      let annotated = length_annotated (value_of raw) 0x30 1 (value_of raw).documents in
       let made = length_map (document_of raw.tables) raw.tables.documents in
-      let counted = shape.documents in let small = shape.small 0x30 in omega (arith, noted, made, counted, small);
+      let counted = shape.documents in let small = shape.small 0x30 in omega (arith, annotated, made, counted, small);
   scopes =
-      let moved = fewer (moved_scope m) (noted_file (value_of raw)).scopes in
-      let noted = length_map (noted_scope (value_of raw)) (numbered (value_of raw).scopes) in
+      let moved = fewer (moved_scope m) (annotated_file (value_of raw)).scopes in
+      let annotated = length_map (annotated_scope (value_of raw)) (numbered (value_of raw).scopes) in
       let numbers = length_numbered 1 (value_of raw).scopes in
       let made = length_map (scope_of raw.tables) (numbered raw.tables.scopes) in
       let rows = length_numbered 1 raw.tables.scopes in
-      let counted = shape.scopes in let small = shape.small 0x32 in omega (arith, moved, noted, numbers, made, rows, counted, small);
+      let counted = shape.scopes in let small = shape.small 0x32 in omega (arith, moved, annotated, numbers, made, rows, counted, small);
   variables =
       let owned = owned_moved m raw (λ s. length s.variables) (λ s. length s.variables)
       (λ item. owner_of (λ scope. scope.variables) raw.tables.scopes item.0) raw.tables.variables
       (λ s. length_map (with_item (moved_variable m s.method)) s.variables)
-      (λ x. length_noted (value_of raw) 0x33 (first_item (λ before. length before.variables) (value_of raw) x.0) x.1.variables)
+      (λ x. length_annotated (value_of raw) 0x33 (first_item (λ before. length before.variables) (value_of raw) x.0) x.1.variables)
       (λ x. length_map (λ (item : ℕ × VariableRow). variable_of raw.tables item.1)
       (owned_by (λ scope. scope.variables) raw.tables.scopes x.0 raw.tables.variables)) in
       let counted = shape.variables in let small = shape.small 0x33 in omega (arith, owned, counted, small);
@@ -195,13 +195,13 @@ few_rows m raw shape = record {
       let owned = owned_moved m raw (λ s. length s.constants) (λ s. length s.constants)
       (λ item. owner_of (λ scope. scope.constants) raw.tables.scopes item.0) raw.tables.constants
       (λ s. length_map (with_item (moved_constant m)) s.constants)
-      (λ x. length_noted (value_of raw) 0x34 (first_item (λ before. length before.constants) (value_of raw) x.0) x.1.constants)
+      (λ x. length_annotated (value_of raw) 0x34 (first_item (λ before. length before.constants) (value_of raw) x.0) x.1.constants)
       (λ x. length_map (λ (item : ℕ × ConstantRow). constant_of raw.tables item.1)
       (owned_by (λ scope. scope.constants) raw.tables.scopes x.0 raw.tables.constants)) in
       let counted = shape.constants in let small = shape.small 0x34 in omega (arith, owned, counted, small);
   imports =
-      let moved = length_map (with_item (moved_import_scope m)) (noted_file (value_of raw)).imports in
-      let noted = length_noted (value_of raw) 0x35 1 (value_of raw).imports in
+      let moved = length_map (with_item (moved_import_scope m)) (annotated_file (value_of raw)).imports in
+      let annotated = length_annotated (value_of raw) 0x35 1 (value_of raw).imports in
       let made = length_map (import_scope_of raw.tables) raw.tables.imports in
-      let counted = shape.imports in let small = shape.small 0x35 in omega (arith, moved, noted, made, counted, small);
+      let counted = shape.imports in let small = shape.small 0x35 in omega (arith, moved, annotated, made, counted, small);
 }

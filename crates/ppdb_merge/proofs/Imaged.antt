@@ -8,18 +8,18 @@ use Rattle.ppdb_maps.specs.Map.{Map, row_image}
 use Rattle.ppdb_values.specs.RawFile.{RawFile}
 use Rattle.ppdb_values.specs.Rules.{KeepsRules}
 use Rattle.ppdb_values.specs.Value.{value_of}
-use Rattle.ppdb_noted.specs.Each.{Each}
-use Rattle.ppdb_noted.specs.NamedRows.{Named, named_rows}
-use Rattle.ppdb_noted.specs.Noted.{noted_file}
-use Rattle.ppdb_noted.specs.Sorted.{put, in_order}
-use Rattle.ppdb_noted.proofs.Lists.{Each-weaker, Each-map, each_of}
-use Rattle.ppdb_noted.proofs.Orders.{in_order_each}
-use Rattle.ppdb_moved.proofs.Elements.{each_in}
-use Rattle.ppdb_moved.proofs.Lists.{Each-both, Each-filter_map}
-use Rattle.ppdb_references.specs.declared.imaged.Imaged.{Imaged}
-use Rattle.ppdb_references.specs.References.{Reference, references}
-use Rattle.named_references.specs.Laws.{ReferencesAreNamed, named_by}
-use Rattle.ppdb_fits.specs.Rows.{imaged, imaged_rows}
+use Rattle.ppdb_merge_items.specs.Each.{Each}
+use Rattle.ppdb_merge_items.specs.NamedRows.{Named, named_rows}
+use Rattle.ppdb_merge_items.specs.Annotated.{annotated_file}
+use Rattle.ppdb_merge_items.specs.Sorted.{put, in_order}
+use Rattle.ppdb_merge_items.proofs.Lists.{Each-weaker, Each-map, each_of}
+use Rattle.ppdb_merge_items.proofs.Orders.{in_order_each}
+use Rattle.ppdb_merge_moved.proofs.Elements.{each_in}
+use Rattle.ppdb_merge_moved.proofs.Lists.{Each-both, Each-filter_map}
+use Rattle.ppdb_merge_names.specs.declared.imaged.Imaged.{Imaged}
+use Rattle.ppdb_merge_names.specs.References.{Reference, references}
+use Rattle.ppdb_merge_names_laws.specs.Laws.{ReferencesAreNamed, named_by}
+use Rattle.ppdb_merge_fits.specs.Rows.{imaged, imaged_rows}
 
 some_of : {A : Type 0} (a b : A) → Some a ≡ Some b → a ≡ b
 some_of a b e = cc
@@ -148,7 +148,7 @@ module _ (first : Bool) (m : Map) (raw : RawFile) where
       (ap (option_map (λ (n : ℕ). record { table = r.table; row = r.row; image = n })) is))
 
   -- each row that the file names stands among its rows, with its image
-  pub named_in_rows : ReferencesAreNamed → KeepsRules raw → Each IsInRows (named_rows first m (noted_file (value_of raw)))
+  pub named_in_rows : ReferencesAreNamed → KeepsRules raw → Each IsInRows (named_rows first m (annotated_file (value_of raw)))
   named_in_rows named keeps =
       subst (Each IsInRows) (named first m raw keeps)
       (Each-map named_by IsInRows (references first m raw)

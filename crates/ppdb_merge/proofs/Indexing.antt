@@ -3,10 +3,10 @@ use Rattle.std.proofs.Common.{◌≡◌, ℕ, suc, ◌+◌, List, [], ◌∷◌,
 use Rattle.std.specs.List.{enumerate_from}
 use Rattle.std.proofs.lemmas.List.{append-nil, append_assoc}
 use Rattle.ppdb_values.specs.declared.file.DocumentValue.{DocumentValue}
-use Rattle.ppdb_noted.specs.declared.file.NotedFile.{NotedFile}
-use Rattle.ppdb_noted.specs.Noted.{items_of}
-use Rattle.ppdb_references.specs.declared.imaged.Imaged.{Imaged}
-use Rattle.ppdb_joined.specs.Joined.{firsts}
+use Rattle.ppdb_merge_items.specs.declared.file.AnnotatedFile.{AnnotatedFile}
+use Rattle.ppdb_merge_items.specs.Annotated.{items_of}
+use Rattle.ppdb_merge_names.specs.declared.imaged.Imaged.{Imaged}
+use Rattle.ppdb_merge_joined.specs.Joined.{firsts}
 use Rattle.ppdb_merge.specs.declared.index.Index.{Index}
 use Rattle.ppdb_merge.specs.declared.trace.Trace.{Trace}
 use Rattle.ppdb_merge.specs.Indexes.{Indexes, HoldsMethods, HoldsDocuments, claims_of}
@@ -30,7 +30,7 @@ unfolding claims_from
 claims_next traces t = claims_more 1 traces t
 
 abbrev documents_in : List Trace → List DocumentValue
-documents_in traces = flat_map (λ (file : NotedFile). items_of file.documents) (moved_files traces)
+documents_in traces = flat_map (λ (file : AnnotatedFile). items_of file.documents) (moved_files traces)
 
 pub documents_more : (traces : List Trace) (t : Trace) → documents_in (traces ++ t ∷ []) ≡ documents_in traces ++ items_of t.moved.documents
 documents_more [] t = append-nil (items_of t.moved.documents)

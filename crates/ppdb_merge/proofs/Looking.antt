@@ -1,4 +1,4 @@
--- What a map that leads from keys to the first items of them leads to, when an item is put behind the others.
+-- What a map that leads from keys to the first items of them leads to, when an item is put after the others.
 use Rattle.std.proofs.Common.{◌≡◌, Bool, true, false, cond, List, [], ◌∷◌, ◌++◌, Option, Some, None, refl, sym, ◌∙◌, ap, subst}
 use Rattle.std.specs.Prelude.{find, is_some}
 use Rattle.std.specs.Option.{option_map}

@@ -19,10 +19,10 @@ use Rattle.ppdb_base.specs.declared.merge_error.MergeError.{MergeError}
 use Rattle.ppdb_base.specs.declared.merge_error.MergeError.TheVariants.{DocumentConflict}
 use Rattle.ppdb_tables.specs.RawTables.{numbered}
 use Rattle.ppdb_values.specs.declared.file.DocumentValue.{DocumentValue}
-use Rattle.ppdb_values.specs.declared.noted.Noted.{Noted}
-use Rattle.ppdb_noted.specs.Noted.{items_of}
-use Rattle.ppdb_joined.specs.Joined.{firsts}
-use Rattle.ppdb_joined.proofs.Names.{same_bytes}
+use Rattle.ppdb_values.specs.declared.annotation.Annotation.{Annotation}
+use Rattle.ppdb_merge_items.specs.Annotated.{items_of}
+use Rattle.ppdb_merge_joined.specs.Joined.{firsts}
+use Rattle.ppdb_merge_joined.proofs.Names.{same_bytes}
 use Rattle.ppdb_merge.specs.declared.documents.Documents.{Documents}
 use Rattle.ppdb_merge.specs.declared.documents.Standing.{Standing}
 use Rattle.ppdb_merge.specs.Indexes.{HoldsDocuments, standing}
@@ -180,11 +180,11 @@ inserted_document documents after k s entries q =
 
 -- ---- more documents
 
-items_append : (xs ys : List (Noted DocumentValue)) → items_of (xs ++ ys) ≡ items_of xs ++ items_of ys
+items_append : (xs ys : List (Annotation DocumentValue)) → items_of (xs ++ ys) ≡ items_of xs ++ items_of ys
 items_append [] ys = refl
 items_append (x ∷ xs) ys = ap (λ l. x.item ∷ l) (items_append xs ys)
 
-pub documents_next : (all : List DocumentValue) (documents : Documents) (xs : List (Noted DocumentValue)) (k : ℕ) (x : Noted DocumentValue)
+pub documents_next : (all : List DocumentValue) (documents : Documents) (xs : List (Annotation DocumentValue)) (k : ℕ) (x : Annotation DocumentValue)
     → k < length xs → x ≡ get_or xs k x → HoldsDocuments (firsts [] ((all ++ items_of (take k xs)) ++ x.item ∷ [])) documents
     → HoldsDocuments (firsts [] (all ++ items_of (take (k + 1) xs))) documents
 documents_next all documents xs k x within here holds =
@@ -193,7 +193,7 @@ documents_next all documents xs k x within here holds =
     ∙ ap (λ l. all ++ l) (sym (items_append (take k xs) (x ∷ [])) ∙ ap (λ y. items_of (take k xs ++ y ∷ [])) here
     ∙ ap items_of (sym (take_more xs k x within)))) holds
 
-pub documents_all : (all : List DocumentValue) (documents : Documents) (xs : List (Noted DocumentValue)) (k : ℕ) → length xs ≤ k
+pub documents_all : (all : List DocumentValue) (documents : Documents) (xs : List (Annotation DocumentValue)) (k : ℕ) → length xs ≤ k
     → HoldsDocuments (firsts [] (all ++ items_of (take k xs))) documents → HoldsDocuments (firsts [] (all ++ items_of xs)) documents
 documents_all all documents xs k end holds =
     subst (λ l. HoldsDocuments (firsts [] (all ++ items_of l)) documents) (whole xs k end) holds
@@ -204,7 +204,7 @@ documents_all all documents xs k end holds =
     whole (y ∷ ys) zero le = absurd (omega (arith, le))
     whole (y ∷ ys) (suc n) le = ap (λ l. y ∷ l) (whole ys n (omega (arith, le)))
 
--- ---- what is told of a document
+-- ---- what is reported of a document
 
 told_by : ℕ → DocumentValue → Option Standing → Option MergeError
 told_by row d None = None

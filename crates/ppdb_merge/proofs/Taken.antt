@@ -1,4 +1,4 @@
--- The methods that inputs name by their images, one further row after the other, and which row is told first.
+-- The methods that inputs name by their images, one further row after the other, and which row is reported first.
 use Rattle.std.proofs.Common.{◌≡◌, ℕ, zero, suc, ◌+◌, ◌-◌, ◌<◌, ◌≤◌, ◌&&◌, Bool, true, false, cond, List, [], ◌∷◌, ◌++◌, Option, Some, None}
 use Rattle.std.proofs.Common.{map, take, drop, length, refl, sym, ◌∙◌, ap, subst, arith, inl, inr}
 use Rattle.std.specs.Prelude.{nat_eq, find, is_some, filter, slice_get, get_or}
@@ -9,9 +9,9 @@ use Rattle.std.specs.BTreeMap as tree
 use Rattle.std.proofs.lemmas.Bool.{eqb-true, cases_lt, lt-ltb, le-ltb, le-leb, lt-leb}
 use Rattle.std.proofs.lemmas.List.{append-nil, append_assoc, take_more}
 use Rattle.ppdb_maps.proofs.Refusing.{at_number}
-use Rattle.ppdb_noted.specs.Sorted.{put, in_order}
-use Rattle.ppdb_noted.proofs.Orders.{in_order_filter}
-use Rattle.ppdb_references.specs.declared.imaged.Imaged.{Imaged}
+use Rattle.ppdb_merge_items.specs.Sorted.{put, in_order}
+use Rattle.ppdb_merge_items.proofs.Orders.{in_order_filter}
+use Rattle.ppdb_merge_names.specs.declared.imaged.Imaged.{Imaged}
 use Rattle.ppdb_merge.specs.declared.methods.Methods.{Methods}
 use Rattle.ppdb_merge.specs.Indexes.{HoldsMethods, claims_of, claim_of, before, lesser, least_taken}
 use Rattle.ppdb_merge.specs.Refusals.{methods_in, taken}
@@ -71,7 +71,7 @@ pub methods_next : (claimed : List (ℕ × Imaged)) (methods : Methods) (input :
     → HoldsMethods (claimed ++ claims_of input (take (k + 1) rows)) methods
 methods_next claimed methods input rows k d within holds = subst (λ l. HoldsMethods l methods) (claims_next claimed input rows k d within) holds
 
--- ---- which is told first
+-- ---- which is reported first
 
 first_mapped : {A B : Type 0} (f : A → Option B) (xs : List A)
     → slice_get (filter_map f xs) 0 ≡ option_and_then f (slice_get (filter (λ x. is_some (f x)) xs) 0)
@@ -146,7 +146,7 @@ least_next claimed rows (suc place) d above within =
     same : place ≡ suc place - 1
     same = omega arith
 
--- what is told where the least is known
+-- what is reported where the least is known
 pub told_least : (claimed : List (ℕ × Imaged)) (rows : List Imaged) (place : ℕ) (o : Option Imaged) → place ≡ 0 → o ≡ least_taken claimed (drop place rows)
     → slice_get (filter_map (taken claimed) (in_order (λ i. i.image) (methods_in rows))) 0 ≡ option_and_then (taken claimed) o
 told_least claimed rows place o end is =

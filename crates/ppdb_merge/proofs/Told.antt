@@ -1,4 +1,4 @@
--- The first that is told of the items of a list, found one after the other.
+-- The first that is reported of the items of a list, found one after the other.
 use Rattle.std.proofs.Common.{◌≡◌, ℕ, zero, suc, ◌+◌, ◌<◌, ◌≤◌, true, false, List, [], ◌∷◌, ◌++◌, Option, Some, None, length, take, refl}
 use Rattle.std.proofs.Common.{sym, ap, ◌∙◌, subst, arith}
 use Rattle.std.specs.Prelude.{is_some, slice_get, get_or, flat_map}
@@ -84,7 +84,7 @@ none_numbered f n xs k x within here before is =
         ap (λ o. cons_option o (filter_map f (enumerate_from (n + 1) (take (suc k) ys)))) parts.0
         ∙ walk f (n + 1) ys k x (omega (arith, within)) here parts.1 (ap (λ m. f (m, x)) same ∙ is)
 
--- ---- of items that may have several told of them
+-- ---- of items that may have several reported of them
 
 pub several_at : {A B : Type 0} (f : ℕ × A → List B) (n : ℕ) (xs : List A) (k : ℕ) (x : A) (e : B) → k < length xs → x ≡ get_or xs k x
     → flat_map f (enumerate_from n (take k xs)) ≡ [] → slice_get (f (n + k, x)) 0 ≡ Some e → slice_get (flat_map f (enumerate_from n xs)) 0 ≡ Some e

@@ -7,39 +7,39 @@ use Rattle.ppdb_maps.specs.Readable.{IsReadable}
 use Rattle.ppdb_values.specs.RawFile.{RawFile}
 use Rattle.ppdb_values.specs.Rules.{KeepsRules}
 use Rattle.ppdb_values.specs.Value.{value_of}
-use Rattle.sound_values.specs.Sound.{IsSound}
-use Rattle.ppdb_noted.specs.declared.file.NotedFile.{NotedFile}
-use Rattle.ppdb_noted.specs.Each.{Each}
-use Rattle.ppdb_noted.specs.Laws.{SoundnessIsNoted}
-use Rattle.ppdb_noted.specs.NamedRows.{Named, names, names_some, named_rows, live_file, in_entry, all_named}
-use Rattle.ppdb_noted.specs.Noted.{noted_file}
-use Rattle.ppdb_noted.specs.SoundParts.{SoundMoved}
-use Rattle.ppdb_references.specs.declared.imaged.Imaged.{Imaged}
-use Rattle.named_references.specs.Laws.{ReferencesAreNamed}
-use Rattle.ppdb_moved.specs.Fits.{Fits, IsImaged}
-use Rattle.ppdb_moved.specs.Moved.{moved_file}
-use Rattle.ppdb_moved.proofs.Lists.{each_of_three}
-use Rattle.ppdb_moved.proofs.NamedParts.{NamedParts, named_parts}
-use Rattle.ppdb_moved.proofs.NamedRows.{named_rows_are_rows}
-use Rattle.ppdb_moved.proofs.RowImages.{moved_is_image}
-use Rattle.kept_meanings.proofs.MoreRows.{sound_moved}
-use Rattle.ppdb_fits.specs.Rows.{imaged_rows}
+use Rattle.ppdb_values_sound_laws.specs.Sound.{IsSound}
+use Rattle.ppdb_merge_items.specs.declared.file.AnnotatedFile.{AnnotatedFile}
+use Rattle.ppdb_merge_items.specs.Each.{Each}
+use Rattle.ppdb_merge_items.specs.Laws.{SoundnessIsAnnotated}
+use Rattle.ppdb_merge_items.specs.NamedRows.{Named, names, names_some, named_rows, live_file, in_entry, all_named}
+use Rattle.ppdb_merge_items.specs.Annotated.{annotated_file}
+use Rattle.ppdb_merge_items.specs.SoundParts.{SoundMoved}
+use Rattle.ppdb_merge_names.specs.declared.imaged.Imaged.{Imaged}
+use Rattle.ppdb_merge_names_laws.specs.Laws.{ReferencesAreNamed}
+use Rattle.ppdb_merge_moved.specs.Fits.{Fits, IsImaged}
+use Rattle.ppdb_merge_moved.specs.Moved.{moved_file}
+use Rattle.ppdb_merge_moved.proofs.Lists.{each_of_three}
+use Rattle.ppdb_merge_moved.proofs.NamedParts.{NamedParts, named_parts}
+use Rattle.ppdb_merge_moved.proofs.NamedRows.{named_rows_are_rows}
+use Rattle.ppdb_merge_moved.proofs.RowImages.{moved_is_image}
+use Rattle.ppdb_merge_meaning_laws.proofs.MoreRows.{sound_moved}
+use Rattle.ppdb_merge_fits.specs.Rows.{imaged_rows}
 use Rattle.ppdb_merge.specs.Sound.{IsImageIn}
 use Rattle.ppdb_merge.proofs.Imaged.{named_in_rows}
-use Rattle.kept_meanings.proofs.MovedRows.{some_moves, all_move}
+use Rattle.ppdb_merge_meaning_laws.proofs.MovedRows.{some_moves, all_move}
 
 -- ---- the images of the rows that it names
 
-module _ (noted : SoundnessIsNoted) (named : ReferencesAreNamed) (first : Bool) (m : Map) (raw : RawFile) (keeps : KeepsRules raw)
-    (sound : IsSound (value_of raw)) (ready : IsReadable m) (fits : Fits first m (noted_file (value_of raw))) where
-  abbrev file : NotedFile
-  file = noted_file (value_of raw)
+module _ (annotated : SoundnessIsAnnotated) (named : ReferencesAreNamed) (first : Bool) (m : Map) (raw : RawFile) (keeps : KeepsRules raw)
+    (sound : IsSound (value_of raw)) (ready : IsReadable m) (fits : Fits first m (annotated_file (value_of raw))) where
+  abbrev file : AnnotatedFile
+  file = annotated_file (value_of raw)
 
   abbrev rows : List Imaged
   rows = imaged_rows first m raw
 
   pub file_sound : SoundMoved file
-  file_sound = sound_moved file (noted.parts (value_of raw) sound)
+  file_sound = sound_moved file (annotated.parts (value_of raw) sound)
 
   abbrev HasImage : Named → Type 0
   HasImage n = (image : ℕ) × (row_image m n.table n.row ≡ Some image) × (1 ≤ n.row)

@@ -5,8 +5,8 @@ use Rattle.std.specs.Cmp.Lexicographic.{slice_cmp}
 use Rattle.std.specs.Ordering.{nat_cmp}
 use Rattle.ppdb_tables.specs.RawTables.{numbered}
 use Rattle.ppdb_values.specs.declared.file.DocumentValue.{DocumentValue}
-use Rattle.ppdb_references.specs.declared.imaged.Imaged.{Imaged}
-use Rattle.ppdb_joined.specs.Joined.{joined_documents}
+use Rattle.ppdb_merge_names.specs.declared.imaged.Imaged.{Imaged}
+use Rattle.ppdb_merge_joined.specs.Joined.{joined_documents}
 use Rattle.ppdb_merge.specs.declared.documents.Documents.{Documents}
 use Rattle.ppdb_merge.specs.declared.documents.Standing.{Standing}
 use Rattle.ppdb_merge.specs.declared.index.Index.{Index}
@@ -43,7 +43,7 @@ pub record Indexes (traces : List Trace) (index : Index) : Type 0 where
   pub methods : HoldsMethods (claims traces) index.methods
   pub documents : HoldsDocuments (joined_documents (moved_files traces)) index.documents
 
--- ---- what is told first of the methods of a further input
+-- ---- what is reported first of the methods of a further input
 
 abbrev pub is_taken : List (ℕ × Imaged) → Imaged → Bool
 is_taken claimed i = nat_eq i.table 0x06 && is_some (find (λ (c : ℕ × Imaged). nat_eq c.1.image i.image) claimed)
@@ -56,7 +56,7 @@ before i (Some j) = cond (nat_lt j.image i.image) (Some j) (Some i)
 abbrev pub lesser : List (ℕ × Imaged) → Imaged → Option Imaged → Option Imaged
 lesser claimed i found = cond (is_taken claimed i) (before i found) found
 
--- the one that is told first
+-- the one that is reported first
 abbrev pub least_taken : List (ℕ × Imaged) → List Imaged → Option Imaged
 least_taken claimed [] = None
 least_taken claimed (i ∷ is) = lesser claimed i (least_taken claimed is)

@@ -1,6 +1,6 @@
 -- What the value of a merger keeps of its inputs.
 use Rattle.std.specs.Prelude.{◌≡◌, List, map}
-use Rattle.kept_meanings.specs.Kept.{MovedBy, InputsFit, in_turn, moved_input}
+use Rattle.ppdb_merge_meaning_laws.specs.Kept.{MovedBy, InputsFit, in_turn, moved_input}
 use Rattle.ppdb_merge.specs.declared.trace.Trace.{Trace}
 use Rattle.ppdb_merge.specs.Merged.{moved_files}
 

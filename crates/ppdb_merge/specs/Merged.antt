@@ -1,12 +1,12 @@
 -- What is kept of the inputs of a merge.
 use Rattle.std.specs.Prelude.{ℕ, Bool, nat_eq, List, length, map}
 use Rattle.ppdb_maps.specs.Map.{Map}
-use Rattle.ppdb_noted.specs.declared.file.NotedFile.{NotedFile}
-use Rattle.ppdb_noted.specs.Noted.{noted_file}
+use Rattle.ppdb_merge_items.specs.declared.file.AnnotatedFile.{AnnotatedFile}
+use Rattle.ppdb_merge_items.specs.Annotated.{annotated_file}
 use Rattle.ppdb_values.specs.RawFile.{RawFile}
 use Rattle.ppdb_values.specs.Value.{value_of}
-use Rattle.ppdb_moved.specs.Moved.{moved_file}
-use Rattle.ppdb_fits.specs.Rows.{imaged_rows}
+use Rattle.ppdb_merge_moved.specs.Moved.{moved_file}
+use Rattle.ppdb_merge_fits.specs.Rows.{imaged_rows}
 use Rattle.ppdb_merge.specs.declared.trace.Trace.{Trace}
 
 -- the kinds that are marked as free, and what is kept of each input, in order
@@ -16,10 +16,10 @@ pub record Merged : Type 0 where
 
 -- what is kept of an input: what it became, with the output's row counts, and the rows that it names with their images
 abbrev pub trace_of : Bool → Map → RawFile → Trace
-trace_of first m raw = record { moved = moved_file m (noted_file (value_of raw)); rows = imaged_rows first m raw }
+trace_of first m raw = record { moved = moved_file m (annotated_file (value_of raw)); rows = imaged_rows first m raw }
 
 -- what the inputs became
-abbrev pub moved_files : List Trace → List NotedFile
+abbrev pub moved_files : List Trace → List AnnotatedFile
 moved_files traces = map (λ (t : Trace). t.moved) traces
 
 -- an input after these is the first

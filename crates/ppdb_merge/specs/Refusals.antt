@@ -10,11 +10,11 @@ use Rattle.ppdb_tables.specs.RawTables.{numbered}
 use Rattle.ppdb_values.specs.declared.file.DocumentValue.{DocumentValue}
 use Rattle.ppdb_values.specs.RawFile.{RawFile}
 use Rattle.ppdb_values.specs.Value.{value_of}
-use Rattle.ppdb_noted.specs.Sorted.{in_order}
-use Rattle.ppdb_references.specs.declared.imaged.Imaged.{Imaged}
-use Rattle.ppdb_joined.specs.Joined.{joined_documents}
-use Rattle.ppdb_fits.specs.Clashes.{first_clash}
-use Rattle.ppdb_fits.specs.Rows.{imaged_rows}
+use Rattle.ppdb_merge_items.specs.Sorted.{in_order}
+use Rattle.ppdb_merge_names.specs.declared.imaged.Imaged.{Imaged}
+use Rattle.ppdb_merge_joined.specs.Joined.{joined_documents}
+use Rattle.ppdb_merge_fits.specs.Clashes.{first_clash}
+use Rattle.ppdb_merge_fits.specs.Rows.{imaged_rows}
 use Rattle.ppdb_merge.specs.declared.trace.Trace.{Trace}
 use Rattle.ppdb_merge.specs.Merged.{trace_of, moved_files, is_first}
 
@@ -67,7 +67,7 @@ abbrev pub or_first : Option MergeError → List MergeError → Option MergeErro
 or_first (Some e) others = Some e
 or_first None others = slice_get others 0
 
--- What is told of an input: why its map does not fit it, or else why it does not fit the inputs before it.
+-- What is reported of an input: why its map does not fit it, or else why it does not fit the inputs before it.
 abbrev pub refusal_of : List (List ℕ) → List Trace → Map → RawFile → Option MergeError
 refusal_of marks traces m raw =
     or_first (first_clash marks (is_first traces) m raw)
@@ -77,6 +77,6 @@ abbrev pub with_trace : List Trace → Trace → Option MergeError → Result (L
 with_trace traces t (Some e) = Err e
 with_trace traces t None = Ok (traces ++ t ∷ [])
 
--- The inputs with a further one, or what is told of it.
+-- The inputs with a further one, or what is reported of it.
 abbrev pub added : List (List ℕ) → List Trace → Map → RawFile → Result (List Trace) MergeError
 added marks traces m raw = with_trace traces (trace_of (is_first traces) m raw) (refusal_of marks traces m raw)

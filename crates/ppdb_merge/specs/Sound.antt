@@ -1,17 +1,17 @@
 -- What holds of what is kept of the inputs of a merge.
 use Rattle.std.specs.Prelude.{◌≡◌, ◌≢◌, ◌≤◌, List, [], ◌∷◌, Contains, length, flat_map}
 use Rattle.ppdb_values.specs.declared.file.DocumentValue.{DocumentValue}
-use Rattle.sound_values.specs.Sound.{SoundRows}
-use Rattle.ppdb_noted.specs.declared.file.NotedFile.{NotedFile}
-use Rattle.ppdb_noted.specs.Each.{Each, Pairs}
-use Rattle.ppdb_noted.specs.NamedRows.{Named, names_some, all_named}
-use Rattle.ppdb_noted.specs.Noted.{items_of}
-use Rattle.ppdb_noted.specs.SoundParts.{SoundMoved}
-use Rattle.ppdb_references.specs.declared.imaged.Imaged.{Imaged}
+use Rattle.ppdb_values_sound_laws.specs.Sound.{SoundRows}
+use Rattle.ppdb_merge_items.specs.declared.file.AnnotatedFile.{AnnotatedFile}
+use Rattle.ppdb_merge_items.specs.Each.{Each, Pairs}
+use Rattle.ppdb_merge_items.specs.NamedRows.{Named, names_some, all_named}
+use Rattle.ppdb_merge_items.specs.Annotated.{items_of}
+use Rattle.ppdb_merge_items.specs.SoundParts.{SoundMoved}
+use Rattle.ppdb_merge_names.specs.declared.imaged.Imaged.{Imaged}
 use Rattle.ppdb_merge.specs.declared.trace.Trace.{Trace}
 use Rattle.ppdb_merge.specs.Merged.{moved_files}
 use Rattle.ppdb_merge.specs.Refusals.{methods_in}
-use Rattle.ppdb_joined.specs.Small.{HasFewRows}
+use Rattle.ppdb_merge_joined.specs.Small.{HasFewRows}
 
 -- the row is the image of one of the rows
 abbrev pub IsImageIn : List Imaged → Named → Type 0
@@ -35,7 +35,7 @@ HasEntry (first ∷ others) = Each (IsImageIn first.rows) (names_some 0x06 first
 
 -- the documents of all
 abbrev pub documents_in : List Trace → List DocumentValue
-documents_in traces = flat_map (λ (file : NotedFile). items_of file.documents) (moved_files traces)
+documents_in traces = flat_map (λ (file : AnnotatedFile). items_of file.documents) (moved_files traces)
 
 -- What is kept of all: at most 256 inputs, whose methods have images of their own, and whose documents of one name are one document.
 pub record SoundTraces (traces : List Trace) : Type 0 where

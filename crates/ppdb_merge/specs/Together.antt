@@ -5,9 +5,9 @@ use Rattle.ppdb_base.specs.declared.merge_error.MergeError.{MergeError}
 use Rattle.ppdb_base.specs.declared.merge_error.MergeError.TheVariants.{RowsDiffer, ImageRange}
 use Rattle.ppdb_tables.specs.RawTables.{numbered}
 use Rattle.ppdb_values.specs.declared.file.FileValue.{FileValue}
-use Rattle.ppdb_noted.specs.Unnoted.{value_of_noted}
-use Rattle.ppdb_references.specs.declared.imaged.Imaged.{Imaged}
-use Rattle.ppdb_joined.specs.Joined.{joined}
+use Rattle.ppdb_merge_items.specs.Unannotated.{value_of_annotated}
+use Rattle.ppdb_merge_names.specs.declared.imaged.Imaged.{Imaged}
+use Rattle.ppdb_merge_joined.specs.Joined.{joined}
 use Rattle.ppdb_merge.specs.declared.trace.Trace.{Trace}
 use Rattle.ppdb_merge.specs.Merged.{moved_files}
 
@@ -39,14 +39,14 @@ images_above traces = flat_map (λ (t : ℕ × Trace). filter_map (above t) t.1.
 
 -- ---- together
 
--- what is told of the inputs together
+-- what is reported of the inputs together
 abbrev pub misfit_of : List Trace → Option MergeError
 misfit_of traces = slice_get (rows_differ traces ++ images_above traces) 0
 
 abbrev pub value_unless : List Trace → Option MergeError → Result FileValue MergeError
 value_unless traces (Some e) = Err e
-value_unless traces None = Ok (value_of_noted (joined (moved_files traces)))
+value_unless traces None = Ok (value_of_annotated (joined (moved_files traces)))
 
--- The value that inputs are joined to, or what is told of them.
+-- The value that inputs are joined to, or what is reported of them.
 abbrev pub joined_of : List Trace → Result FileValue MergeError
 joined_of traces = value_unless traces (misfit_of traces)

@@ -3,10 +3,10 @@ use Rattle.std.specs.Prelude.{◌≡◌, ℕ, List, [], ◌∷◌, ◌++◌, Non
 use Rattle.ppdb_base.specs.declared.merge_error.MergeError.TheVariants.{MethodTaken, DocumentConflict, RowsDiffer, ImageRange}
 use Rattle.ppdb_values.specs.declared.file.DocumentValue.{DocumentValue}
 use Rattle.ppdb_values.specs.WorkedSmall.{zeros}
-use Rattle.ppdb_noted.specs.Unnoted.{value_of_noted}
-use Rattle.ppdb_noted.specs.Worked.{bare, empty_noted}
-use Rattle.ppdb_references.specs.declared.imaged.Imaged.{Imaged}
-use Rattle.ppdb_joined.specs.Joined.{joined}
+use Rattle.ppdb_merge_items.specs.Unannotated.{value_of_annotated}
+use Rattle.ppdb_merge_items.specs.Worked.{bare, empty_annotated}
+use Rattle.ppdb_merge_names.specs.declared.imaged.Imaged.{Imaged}
+use Rattle.ppdb_merge_joined.specs.Joined.{joined}
 use Rattle.ppdb_merge.specs.declared.trace.Trace.{Trace}
 use Rattle.ppdb_merge.specs.Refusals.{clashes_before}
 use Rattle.ppdb_merge.specs.Together.{joined_of}
@@ -23,7 +23,7 @@ method row image = record { table = 0x06; row = row; image = image }
 -- documents a and b; methods 2 and 3 become 5 and 4 of 9
 abbrev pub first_input : Trace
 first_input = record {
-  moved = record empty_noted {
+  moved = record empty_annotated {
     rows = zeros 6 ++ 9 ∷ zeros 57;
     documents = bare (document (codes "a") []) ∷ bare (document (codes "b") []) ∷ [];
   };
@@ -36,18 +36,18 @@ other_documents = document (codes "c") [] ∷ document (codes "b") (1 ∷ []) �
 
 -- method 2 becomes 12 of 9 in the one; the other counts one row of TypeDef
 abbrev pub far_input : Trace
-far_input = record { moved = record empty_noted { rows = zeros 6 ++ 9 ∷ zeros 57 }; rows = method 2 12 ∷ method 3 4 ∷ [] }
+far_input = record { moved = record empty_annotated { rows = zeros 6 ++ 9 ∷ zeros 57 }; rows = method 2 12 ∷ method 3 4 ∷ [] }
 
 abbrev pub counting_input : Trace
-counting_input = record { moved = record empty_noted { rows = 0 ∷ 0 ∷ 1 ∷ zeros 3 ++ 9 ∷ zeros 57 }; rows = method 1 6 ∷ [] }
+counting_input = record { moved = record empty_annotated { rows = 0 ∷ 0 ∷ 1 ∷ zeros 3 ++ 9 ∷ zeros 57 }; rows = method 1 6 ∷ [] }
 
 pub record WorkedMerges : Type 0 where
-  -- method 1 of the second has the image of method 3 of the first; so has document 2 a name, which is told after it
+  -- method 1 of the second has the image of method 3 of the first; so has document 2 a name, which is reported after it
   pub taken : clashes_before (first_input ∷ []) (method 1 4 ∷ []) other_documents ≡ MethodTaken 1 3 1 4 ∷ DocumentConflict 2 2 ∷ []
-  -- the least image is told first
+  -- the least image is reported first
   pub least : clashes_before (first_input ∷ []) (method 1 5 ∷ method 2 4 ∷ []) [] ≡ MethodTaken 1 3 2 4 ∷ MethodTaken 1 2 1 5 ∷ []
   pub conflict : clashes_before (first_input ∷ []) (method 1 6 ∷ []) other_documents ≡ DocumentConflict 2 2 ∷ []
-  -- of input 1 an image is above the count, of input 2 a count differs, which is told first
+  -- of input 1 an image is above the count, of input 2 a count differs, which is reported first
   pub counts : joined_of (far_input ∷ counting_input ∷ []) ≡ Err (RowsDiffer 2 0x02 0 1)
   pub above : joined_of (far_input ∷ []) ≡ Err (ImageRange 1 0x06 2 12 9)
-  pub joins : joined_of (first_input ∷ []) ≡ Ok (value_of_noted (joined (first_input.moved ∷ [])))
+  pub joins : joined_of (first_input ∷ []) ≡ Ok (value_of_annotated (joined (first_input.moved ∷ [])))

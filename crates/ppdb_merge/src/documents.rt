@@ -2,14 +2,14 @@
 ghost use Rattle.std.specs.Prelude.{◌≡◌, ◌-◌, ◌<◌, ◌^◌, List, [], ◌∷◌, ◌++◌, OnOk, IfOk, length, slice_get};
 ghost use Rattle.std.specs.List.{filter_map};
 ghost use Rattle.ppdb_tables.specs.RawTables.{numbered};
-ghost use Rattle.ppdb_joined.specs.Joined.{firsts};
-ghost use Rattle.ppdb_noted.specs.Noted.{items_of};
+ghost use Rattle.ppdb_merge_joined.specs.Joined.{firsts};
+ghost use Rattle.ppdb_merge_items.specs.Annotated.{items_of};
 ghost use Rattle.ppdb_values.specs.declared.file.DocumentValue.{DocumentValue as document_value};
 ghost use Rattle.ppdb_merge.specs.Indexes.{HoldsDocuments};
 ghost use Rattle.ppdb_merge.specs.Refusals.{conflict, same_contents};
 
 use ppdb_base::{List, Memory, MergeError};
-use ppdb_values::{DocumentValue, Noted};
+use ppdb_values::{Annotation, DocumentValue};
 use std::alloc::Global;
 use std::collections::BTreeMap;
 
@@ -80,7 +80,7 @@ impl Documents {
     }
 
     /// Adds the documents of an input.
-    pub(crate) fn add(&mut self, documents: &[Noted<DocumentValue>]) -> Result<(), Memory>
+    pub(crate) fn add(&mut self, documents: &[Annotation<DocumentValue>]) -> Result<(), Memory>
         ensures { OnOk result ((all : List document_value) → HoldsDocuments (firsts [] all) self.old
             → HoldsDocuments (firsts [] (all ++ items_of documents.now)) self.new) }
     {
@@ -90,7 +90,7 @@ impl Documents {
         Ok(())
     }
 
-    /// What is told of a document of a further input, by its row there.
+    /// What is reported of a document of a further input, by its row there.
     fn conflict(&self, row: u32, document: &DocumentValue) -> Option<MergeError>
         ensures { (all : List document_value) → HoldsDocuments all self.now → result ≡ conflict all (row, document.now) }
     {
@@ -102,7 +102,7 @@ impl Documents {
         Some(MergeError::DocumentConflict { row, joined })
     }
 
-    /// What is told first of the documents of a further input.
+    /// What is reported first of the documents of a further input.
     pub(crate) fn first_conflict(&self, documents: &[DocumentValue]) -> Option<MergeError>
         requires { length documents.now < 2 ^ 32 - 1 }
         ensures { (all : List document_value) → HoldsDocuments all self.now

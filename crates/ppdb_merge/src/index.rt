@@ -8,7 +8,7 @@ use crate::documents::Documents;
 use crate::methods::Methods;
 use crate::trace::Trace;
 use ppdb_base::{Memory, MergeError};
-use ppdb_references::Imaged;
+use ppdb_merge_names::Imaged;
 use ppdb_values::DocumentValue;
 use std::alloc::Global;
 

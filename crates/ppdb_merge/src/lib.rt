@@ -1,4 +1,4 @@
-//! Files moved by their maps and joined into one: what is kept of each input, what is told where inputs do not fit, and the value that
+//! Files moved by their maps and joined into one: what is kept of each input, what is reported where inputs do not fit, and the value that
 //! they make.
 #![tactic(auto)]
 

@@ -1,10 +1,10 @@
 // Inputs that are moved by their maps and joined, one after the other.
 ghost use Rattle.std.specs.Prelude.{◌≡◌, ◌≤◌, ◌<◌, ◌⊎◌, [], Some, None, Ok, Err, OnOk, OnErr, IfOk, IfErr, List, length};
-ghost use Rattle.kept_meanings.specs.Kept.{MovedBy, KeepsMeaning};
-ghost use Rattle.kept_meanings.specs.Origins.{KeepsOrigins};
+ghost use Rattle.ppdb_merge_meaning_laws.specs.Kept.{MovedBy, KeepsMeaning};
+ghost use Rattle.ppdb_merge_meaning_laws.specs.Origins.{KeepsOrigins};
 ghost use Rattle.ppdb_base.specs.declared.merge_error.MergeError.TheVariants as merge_errors;
 ghost use Rattle.ppdb_verify.specs.Views.{raw_file};
-ghost use Rattle.sound_values.specs.Sound.{IsSound};
+ghost use Rattle.ppdb_values_sound_laws.specs.Sound.{IsSound};
 ghost use Rattle.ppdb_merge.specs.Kept.{AreInputs};
 ghost use Rattle.ppdb_merge.specs.Refusals.{added, refusal_of};
 ghost use Rattle.ppdb_merge.specs.Together.{joined_of, misfit_of};

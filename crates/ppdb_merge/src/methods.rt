@@ -1,13 +1,13 @@
 // The methods that inputs name, by their images.
 ghost use Rattle.std.specs.Prelude.{◌≡◌, ℕ, List, [], ◌∷◌, ◌++◌, slice_get, OnOk};
 ghost use Rattle.std.specs.List.{filter_map};
-ghost use Rattle.ppdb_noted.specs.Sorted.{in_order};
-ghost use Rattle.ppdb_references.specs.declared.imaged.Imaged.{Imaged as image_entry};
+ghost use Rattle.ppdb_merge_items.specs.Sorted.{in_order};
+ghost use Rattle.ppdb_merge_names.specs.declared.imaged.Imaged.{Imaged as image_entry};
 ghost use Rattle.ppdb_merge.specs.Indexes.{HoldsMethods, claims_of, lesser};
 ghost use Rattle.ppdb_merge.specs.Refusals.{methods_in, taken};
 
 use ppdb_base::{Memory, MergeError};
-use ppdb_references::Imaged;
+use ppdb_merge_names::Imaged;
 use std::alloc::Global;
 use std::collections::BTreeMap;
 
@@ -62,7 +62,7 @@ impl Methods {
         Ok(())
     }
 
-    /// What is told of a row whose image one of the methods has.
+    /// What is reported of a row whose image one of the methods has.
     fn taken(&self, imaged: &Imaged) -> Option<MergeError>
         ensures { (claimed : List (ℕ × image_entry)) → HoldsMethods claimed self.now → result ≡ taken claimed imaged.now }
     {
@@ -75,7 +75,7 @@ impl Methods {
         })
     }
 
-    /// The one of two rows that a further input names that is told first: the later one that has been found, unless the other is a
+    /// The one of two rows that a further input names that is reported first: the later one that has been found, unless the other is a
     /// method whose image is taken and not above its.
     fn lesser(&self, imaged: Imaged, found: Option<Imaged>) -> Option<Imaged>
         ensures { (claimed : List (ℕ × image_entry)) → HoldsMethods claimed self.now → result ≡ lesser claimed imaged found }
@@ -89,7 +89,7 @@ impl Methods {
         }
     }
 
-    /// What is told first of the rows that a further input names.
+    /// What is reported first of the rows that a further input names.
     pub(crate) fn first_taken(&self, rows: &[Imaged]) -> Option<MergeError>
         ensures { (claimed : List (ℕ × image_entry)) → HoldsMethods claimed self.now
             → result ≡ slice_get (filter_map (taken claimed) (in_order (λ i. i.image) (methods_in rows.now))) 0 }

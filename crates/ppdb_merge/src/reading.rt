@@ -10,16 +10,16 @@ ghost use Rattle.ppdb_merge.specs.Sound.{SoundTraces};
 use crate::index::Index;
 use crate::trace::Trace;
 use custom_info::Marks;
-use kept_files::KeptFile;
-use named_references::references_are_named;
 use ppdb_base::{MergeError, Steps};
-use ppdb_fits::{judge, nothing_clashes};
 use ppdb_maps::MapText;
-use ppdb_noted::soundness_is_noted;
+use ppdb_merge_fits::{judge, nothing_clashes};
+use ppdb_merge_items::soundness_is_annotated;
+use ppdb_merge_kept::KeptFile;
+use ppdb_merge_names_laws::references_are_named;
+use ppdb_values_reading::value_of;
 use ppdb_verify::Verified;
 use std::alloc::Global;
 use std::sync::ledger::Ledger;
-use value_reading::value_of;
 
 /// Reads a file, and judges whether its map fits it and whether it fits the inputs before it, of which this is the index.
 pub(crate) fn read_input<L: Ledger>(
@@ -41,7 +41,7 @@ pub(crate) fn read_input<L: Ledger>(
 {
     file.keeps();
     map.keeps();
-    soundness_is_noted();
+    soundness_is_annotated();
     references_are_named();
     nothing_clashes();
     let first = traces.len() == 0;

@@ -5,7 +5,7 @@ ghost use Rattle.ppdb_merge.specs.Together.{above, count_in, differs, images_abo
 
 use crate::trace::Trace;
 use ppdb_base::MergeError;
-use ppdb_references::Imaged;
+use ppdb_merge_names::Imaged;
 
 /// The rows of a table in the output, as an input has it.
 fn count(trace: &Trace, table: u8) -> u32
@@ -15,7 +15,7 @@ fn count(trace: &Trace, table: u8) -> u32
     trace.moved.rows()[table as usize]
 }
 
-/// What is told of a table that an input counts otherwise than the first.
+/// What is reported of a table that an input counts otherwise than the first.
 fn differs(first: &Trace, table: u8, input: u32, other: &Trace) -> Option<MergeError>
     requires { table < 64 }
     ensures { result ≡ differs first.now table (input, other.now) }
@@ -32,7 +32,7 @@ fn differs(first: &Trace, table: u8, input: u32, other: &Trace) -> Option<MergeE
     })
 }
 
-/// What is told first of a table of the inputs after the first.
+/// What is reported first of a table of the inputs after the first.
 fn first_differing(first: &Trace, others: &[Trace], table: u8) -> Option<MergeError>
     requires low { table < 64 }
     requires few { length others.now < 2 ^ 32 - 2 }
@@ -49,7 +49,7 @@ fn first_differing(first: &Trace, others: &[Trace], table: u8) -> Option<MergeEr
     None
 }
 
-/// What is told first of the inputs' row counts.
+/// What is reported first of the inputs' row counts.
 fn rows_differ(first: &Trace, others: &[Trace]) -> Option<MergeError>
     requires { length others.now < 2 ^ 32 - 2 }
     ensures { result ≡ slice_get (rows_differ (first.now ∷ others.now)) 0 }
@@ -63,7 +63,7 @@ fn rows_differ(first: &Trace, others: &[Trace]) -> Option<MergeError>
     None
 }
 
-/// What is told of a row whose image is above the rows of its table.
+/// What is reported of a row whose image is above the rows of its table.
 fn above(input: u32, trace: &Trace, imaged: &Imaged) -> Option<MergeError>
     ensures { result ≡ above (input, trace.now) imaged.now }
 {
@@ -81,7 +81,7 @@ fn above(input: u32, trace: &Trace, imaged: &Imaged) -> Option<MergeError>
     })
 }
 
-/// What is told first of an input's images.
+/// What is reported first of an input's images.
 fn first_above(input: u32, trace: &Trace) -> Option<MergeError>
     ensures { result ≡ slice_get (filter_map (above (input, trace.now)) trace.now.rows) 0 }
 {
@@ -94,7 +94,7 @@ fn first_above(input: u32, trace: &Trace) -> Option<MergeError>
     None
 }
 
-/// What is told first of the images of all inputs.
+/// What is reported first of the images of all inputs.
 fn images_above(traces: &[Trace]) -> Option<MergeError>
     requires { length traces.now < 2 ^ 32 - 1 }
     ensures { result ≡ slice_get (images_above traces.now) 0 }
@@ -110,7 +110,7 @@ fn images_above(traces: &[Trace]) -> Option<MergeError>
     None
 }
 
-/// What is told of inputs together: M8, or else M9.
+/// What is reported of inputs together: M8, or else M9.
 pub(crate) fn misfit(traces: &[Trace]) -> Option<MergeError>
     requires { length traces.now < 2 ^ 32 - 1 }
     ensures { result ≡ misfit_of traces.now }

@@ -1,7 +1,7 @@
 // What is kept of an input.
-use kept_files::KeptFile;
 use ppdb_base::List;
-use ppdb_references::Imaged;
+use ppdb_merge_kept::KeptFile;
+use ppdb_merge_names::Imaged;
 
 /// What is kept of an input between its reading and the joining.
 #[derive(Drop)]

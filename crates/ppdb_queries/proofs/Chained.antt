@@ -6,7 +6,7 @@ use Rattle.ppdb_tables.specs.declared.rows.ImportRow.{ImportRow}
 use Rattle.ppdb_values.specs.Rules.{KeepsImports}
 use Rattle.blob_grammar.specs.Reader.{tail, Left}
 use Rattle.type_blobs.specs.Imports.{ImportItem}
-use Rattle.verified_rows.specs.Imports.{imports_in}
+use Rattle.ppdb_verify_rows.specs.Imports.{imports_in}
 use Rattle.ppdb_queries.specs.declared.imports.ImportLink.{ImportLink}
 use Rattle.ppdb_queries.specs.Chains.{link_of, links_from}
 use Rattle.ppdb_queries.specs.Cursors.{next_of}

@@ -10,7 +10,7 @@ use Rattle.ppdb_values.specs.RawFile.{RawFile}
 use Rattle.ppdb_values.specs.Rules.{HasRow}
 use Rattle.ppdb_values.specs.Value.{value_of}
 use Rattle.sequence_points.specs.Places.{Shown}
-use Rattle.verified_rows.specs.Points.{PointsAre}
+use Rattle.ppdb_verify_rows.specs.Points.{PointsAre}
 
 -- what a cursor has are the points and the signature of the value
 pub points_held : (raw : RawFile) (m : ℕ) (shown : Shown) → PointsAre raw m (Some shown) → shown.left.items ≡ points_of (value_of raw) m

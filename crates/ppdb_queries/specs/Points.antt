@@ -5,7 +5,7 @@ use Rattle.ppdb_tables.specs.RawTables.{row_at}
 use Rattle.ppdb_values.specs.Parts.{points_of, signature_of, last_point}
 use Rattle.ppdb_values.specs.RawFile.{RawFile}
 use Rattle.ppdb_values.specs.Value.{value_of}
-use Rattle.verified_rows.specs.Names.{IsNameOf}
+use Rattle.ppdb_verify_rows.specs.Names.{IsNameOf}
 use Rattle.ppdb_queries.specs.declared.points.PointAt.{PointAt}
 
 -- The last point of a method that is not after an offset, the method's local signature, and the name of the point's document.

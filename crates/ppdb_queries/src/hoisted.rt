@@ -19,9 +19,9 @@ use custom_info::{HOISTED_SCOPES, Range, Slot, SlotCursor};
 use ppdb_base::Steps;
 use ppdb_tables::{CustomRow, Parent};
 use ppdb_verify::Verified;
+use ppdb_verify_rows::{custom, guid_of_kind};
 use std::marker::Model;
 use std::sync::ledger::Ledger;
-use verified_rows::{custom, guid_of_kind};
 
 /// A hoisted local where it holds an offset.
 #[derive(Clone, Copy, Debug, PartialEq, Eq)]
@@ -105,7 +105,7 @@ fn slots_at<'a>(file: &Verified<'a>, row: u32, cells: &CustomRow) -> SlotCursor<
     ensures few { length result.items < 2 ^ 32 }
 {
     if guid_of_kind(file, row, cells) == HOISTED_SCOPES {
-        verified_rows::slots_of(file, row, cells)
+        ppdb_verify_rows::slots_of(file, row, cells)
     } else {
         SlotCursor::new(&[])
     }

@@ -10,10 +10,10 @@ ghost use Rattle.ppdb_queries.specs.Cursors.{next_of};
 use crate::copied::copy_of;
 use ppdb_base::Steps;
 use ppdb_verify::Verified;
+use ppdb_verify_rows::import;
 use std::marker::Model;
 use std::sync::ledger::Ledger;
 use type_blobs::ImportCursor;
-use verified_rows::import;
 
 /// An import scope, and what it imports.
 #[derive(Drop)]
@@ -62,7 +62,7 @@ impl<'a> ImportChain<'a> {
         self.row = scope.parent;
         Some(ImportLink {
             row,
-            imports: verified_rows::imports_of(&self.file, row, &scope),
+            imports: ppdb_verify_rows::imports_of(&self.file, row, &scope),
         })
     }
 }

@@ -11,8 +11,8 @@ ghost use Rattle.ppdb_queries.specs.Digits.{digits};
 use crate::method::{NoMethod, judge_method};
 use ppdb_base::Steps;
 use ppdb_verify::Verified;
+use ppdb_verify_rows::{count, machine};
 use std::sync::ledger::Ledger;
-use verified_rows::{count, machine};
 
 /// The kickoff method of the state machine whose MoveNext is the method; None exactly where there is no such machine.
 ///

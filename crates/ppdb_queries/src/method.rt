@@ -6,7 +6,7 @@ ghost use Rattle.ppdb_verify.specs.Views.{tables_of};
 ghost use Rattle.ppdb_queries.specs.Runs.{IsNoMethod};
 
 use ppdb_verify::Verified;
-use verified_rows::count;
+use ppdb_verify_rows::count;
 
 /// The method is 0 or above the rows of MethodDef.
 #[derive(Clone, Copy, Debug, PartialEq, Eq)]

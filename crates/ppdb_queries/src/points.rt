@@ -11,9 +11,9 @@ use crate::method::{NoMethod, judge_method};
 use ppdb_base::Steps;
 use ppdb_heaps::NameCursor;
 use ppdb_verify::Verified;
+use ppdb_verify_rows::{count, document, method_debug, name, points_of};
 use sequence_points::{Point, PointCursor};
 use std::sync::ledger::Ledger;
-use verified_rows::{count, document, method_debug, name, points_of};
 
 /// A sequence point, with the method's local signature and the name of the point's document.
 #[derive(Drop)]

@@ -12,8 +12,8 @@ use crate::search::{KeyedRows, first_not_below};
 use ppdb_base::Steps;
 use ppdb_tables::{Parent, coded_parent, codes_are_parents};
 use ppdb_verify::Verified;
+use ppdb_verify_rows::{count, custom, scope};
 use std::sync::ledger::Ledger;
-use verified_rows::{count, custom, scope};
 
 /// The rows from `first` up to and without `end`.
 #[derive(Clone, Copy, Debug, PartialEq, Eq)]

@@ -18,9 +18,9 @@ use custom_info::Range;
 use ppdb_base::Steps;
 use ppdb_tables::ScopeRow;
 use ppdb_verify::Verified;
+use ppdb_verify_rows::{count, scope};
 use std::marker::Model;
 use std::sync::ledger::Ledger;
-use verified_rows::{count, scope};
 
 /// A scope, with the rows of its variables and constants.
 #[derive(Clone, Copy, Debug, PartialEq, Eq)]

@@ -11,7 +11,7 @@ use Rattle.ppdb_values.specs.Value.{value_of}
 use Rattle.break_lines.specs.declared.item.Break.{Break}
 use Rattle.break_lines.specs.Breaks.{breaks_in, document_named}
 use Rattle.break_lines.proofs.Documents.{documents_many}
-use Rattle.source_lines.specs.Breaks.{text_of_breaks}
+use Rattle.ppdb_show_sources.specs.Breaks.{text_of_breaks}
 use Rattle.ppdb_run.specs.Outcome.{breaks_answer, outcome_of}
 
 pub named_there : (raw : RawFile) (name : List ℕ) (row : ℕ) → document_named (value_of raw) name ≡ Some row → (1 ≤ row) × (row ≤ length raw.tables.documents)

@@ -58,7 +58,7 @@ reads_keep keep rest next words e h = record {
         ∙ e in cc in (o, subst (λ r. AreOptions r o) same k)
     behind (inr (inr (n, r, is, g, (o, k)))) = absurd (let both : codes "--keep-id" ∷ next ≡ codes "--free" ∷ n = sym e ∙ is in cc)
 
--- --free is read, with a GUID behind it
+-- --free is read, with a GUID after it
 pub reads_free : (keep : Bool) (rest behind next words : List (List ℕ)) → rest ≡ codes "--free" ∷ behind → IsBehindGuid behind next → Reads keep rest words
     → Reads keep next words
 reads_free keep rest behind next words e g h = record {
@@ -109,7 +109,7 @@ ends keep rest words e h =
     or_false true = refl
     or_false false = refl
 
--- --free without a GUID behind it is no option
+-- --free without a GUID after it is no option
 pub no_guid : (rest behind : List (List ℕ)) → rest ≡ codes "--free" ∷ behind → ((r : List (List ℕ)) → IsBehindGuid behind r → ⊥)
     → (options : Options) → AreOptions rest options → ⊥
 no_guid rest behind e none options h = by_first (first_of rest options h)

@@ -2,8 +2,8 @@
 use Rattle.std.proofs.Common.{ℕ, List}
 use Rattle.std.specs.Prelude.{Option, Some, None, Result, Ok, Err, IfErr}
 use Rattle.ppdb_base.specs.Files.{Files}
-use Rattle.ppdb_base.specs.Written.{AppendsFront}
-use Rattle.ppdb_base.proofs.Written.{front_nothing}
+use Rattle.ppdb_base.specs.Written.{AppendsPrefix}
+use Rattle.ppdb_base.proofs.Written.{prefix_nothing}
 use Rattle.ppdb_run.specs.declared.stop.Stop.{Stop}
 use Rattle.ppdb_run.specs.Ends.{OnTask}
 use Rattle.ppdb_run.specs.Stops.{Cause, Refusal, Unread, Unwritten, Unput, OutOfMemory, cause_of, OnCut}
@@ -21,11 +21,11 @@ at_stop T stop = Err stop
 
 -- where nothing was put yet, nothing of the text was
 pub cut_nothing : (T : Type 0) (task : Task) (files : Option Files) (stop : Stop) (written : Option (List ℕ))
-    → OnTask task files (λ due. IfErr (at_stop T stop) (λ s. OnCut (cause_of s) (AppendsFront written written due.text)))
+    → OnTask task files (λ due. IfErr (at_stop T stop) (λ s. OnCut (cause_of s) (AppendsPrefix written written due.text)))
 cut_nothing T task None stop written = record { holds = tt }
-cut_nothing T task (Some all) stop written = record { holds = λ due is. on_cut (cause_of stop) (front_nothing written due.text) }
+cut_nothing T task (Some all) stop written = record { holds = λ due is. on_cut (cause_of stop) (prefix_nothing written due.text) }
 
 pub nothing_cut : {T : Type 0} (result : Result T Stop) (written : Option (List ℕ)) (text : List ℕ)
-    → IfErr result (λ s. OnCut (cause_of s) (AppendsFront written written text))
+    → IfErr result (λ s. OnCut (cause_of s) (AppendsPrefix written written text))
 nothing_cut (Ok x) written text = tt
-nothing_cut (Err stop) written text = on_cut (cause_of stop) (front_nothing written text)
+nothing_cut (Err stop) written text = on_cut (cause_of stop) (prefix_nothing written text)

@@ -13,7 +13,7 @@ use Rattle.ppdb_run.specs.Outcome.{Outcome, IsOutcome}
 use Rattle.ppdb_run.specs.Status.{UnlessFault}
 use Rattle.ppdb_run.specs.Stops.{Cause, Refusal, Unread, Unwritten, Unput, OutOfMemory, cause_of, line_of, status_of, refusal_of}
 use Rattle.ppdb_run.specs.Stops.{ComesFrom, FindsOutcome, IsNoInput, LeavesAt, OnKept, OnUntold, Tells, Told, Failed, NoMemory}
-use Rattle.ppdb_run.specs.Writes.{WritesFront}
+use Rattle.ppdb_run.specs.Writes.{WritesPrefix}
 use Rattle.ppdb_run.proofs.Causes.{IsRefusal, Refuses, refuses, at_refusal}
 
 -- a count that rose has risen later
@@ -24,16 +24,16 @@ pub rose_before : (a b c : ℕ) → a ≤ b → Rose b c → Rose a c
 rose_before a b c h k = grind arith
 
 -- the files are as before, so the one that is written is
-pub front_none : (writes : Option (List ℕ × List ℕ)) (old new : Option Files) → new ≡ old → WritesFront writes old new
-front_none None old new e = e
-front_none (Some file) old new e = inl e
+pub prefix_none : (writes : Option (List ℕ × List ℕ)) (old new : Option Files) → new ≡ old → WritesPrefix writes old new
+prefix_none None old new e = e
+prefix_none (Some file) old new e = inl e
 
-front_at : (cause : Cause) (writes : Option (List ℕ × List ℕ)) (old new : Option Files) → LeavesAt cause writes old new → WritesFront writes old new
-front_at (Refusal outcome) writes old new h = front_none writes old new h
-front_at (Unread name) writes old new h = front_none writes old new h
-front_at (Unwritten name) writes old new h = h
-front_at Unput writes old new h = front_none writes old new h
-front_at OutOfMemory writes old new h = h
+prefix_at : (cause : Cause) (writes : Option (List ℕ × List ℕ)) (old new : Option Files) → LeavesAt cause writes old new → WritesPrefix writes old new
+prefix_at (Refusal outcome) writes old new h = prefix_none writes old new h
+prefix_at (Unread name) writes old new h = prefix_none writes old new h
+prefix_at (Unwritten name) writes old new h = h
+prefix_at Unput writes old new h = prefix_none writes old new h
+prefix_at OutOfMemory writes old new h = h
 
 module _ (cause : Cause) (status : Status) (faults faults' : ℕ) (mid new : Option (List ℕ)) (is : Refuses cause)
     (tells : Tells cause status faults faults' mid new) where
@@ -85,14 +85,14 @@ module _ (cause : Cause) (status : Status) (faults faults' : ℕ) (mid new : Opt
   due_files (Refusal outcome) is due before after h = at_refusal (λ x. LeavesFiles x due before after) h h h h h h h h h h outcome.status is
   due_files (Unread name) is due before after h = h
   due_files (Unwritten name) is due before after h = h
-  due_files Unput is due before after h = front_none due.writes before after h
+  due_files Unput is due before after h = prefix_none due.writes before after h
   due_files OutOfMemory is due before after h = h
 
   all_files : (due : Outcome) (before after : Option Files) → LeavesAt cause due.writes before after → LeavesFiles status due before after
   all_files due before after h = elim tells [
     | Told s w l ↦ subst (λ x. LeavesFiles x due before after) (sym s) (due_files cause is due before after h)
-    | Failed s r w ↦ subst (λ x. LeavesFiles x due before after) (sym s) (front_at cause due.writes before after h)
-    | NoMemory s w l ↦ subst (λ x. LeavesFiles x due before after) (sym s) (front_at cause due.writes before after h)
+    | Failed s r w ↦ subst (λ x. LeavesFiles x due before after) (sym s) (prefix_at cause due.writes before after h)
+    | NoMemory s w l ↦ subst (λ x. LeavesFiles x due before after) (sym s) (prefix_at cause due.writes before after h)
   ]
 
   -- files that were kept are as before
@@ -145,7 +145,7 @@ module _ (cause : Cause) (status : Status) (faults faults' : ℕ) (mid new : Opt
       | NoMemory s w l ↦ inr (inl s)
     ]
 
-  -- a refusal was told
+  -- a refusal was reported
   refusal_in : (cause : Cause) → IsRefusal (status_of cause) → (outcome : Outcome) × (cause ≡ Refusal outcome)
   refusal_in (Refusal outcome) is = (outcome, refl)
   refusal_in (Unread name) is = absurd is

@@ -14,11 +14,11 @@ use Rattle.ppdb_run.specs.Stops.{Cause, Refusal, Unread, Unwritten, Unput, OutOf
 use Rattle.ppdb_run.specs.Words.{Question, Id, Verify, Show, Query, Links, Breaks, Options, Task, Ask, Rebuild, Compose, Words, read_files, written_file}
 use Rattle.ppdb_base.specs.declared.link_error.LinkError.{LinkError}
 use Rattle.source_link.specs.declared.pair.Pair.{Pair}
-use Rattle.source_lines.specs.Links.{file_links}
+use Rattle.ppdb_show_sources.specs.Links.{file_links}
 use Rattle.break_lines.specs.Breaks.{document_named}
 use Rattle.ppdb_values.specs.RawFile.{RawFile}
 use Rattle.ppdb_values.specs.Value.{value_of}
-use Rattle.ppdb_run.proofs.Endings.{front_none}
+use Rattle.ppdb_run.proofs.Endings.{prefix_none}
 
 -- ---- its outcome writes no file
 
@@ -88,9 +88,9 @@ leaves T (Err stop) old new e = leaves_at (cause_of stop) old new e
 pub leaves_unchanged : (cause : Cause) (writes : Option (List ℕ × List ℕ)) (old new : Option Files) → new ≡ old → LeavesAt cause writes old new
 leaves_unchanged (Refusal outcome) writes old new e = e
 leaves_unchanged (Unread name) writes old new e = e
-leaves_unchanged (Unwritten name) writes old new e = front_none writes old new e
+leaves_unchanged (Unwritten name) writes old new e = prefix_none writes old new e
 leaves_unchanged Unput writes old new e = e
-leaves_unchanged OutOfMemory writes old new e = front_none writes old new e
+leaves_unchanged OutOfMemory writes old new e = prefix_none writes old new e
 
 -- the outcome of a question writes nothing that could be bad
 pub nothing_to_judge : (P : Outcome → Type 0) → ((due : Outcome) → due.writes ≡ None → P due) → (question : Question) (file : List ℕ) (files : Option Files)

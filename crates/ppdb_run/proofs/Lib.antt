@@ -2,7 +2,7 @@ pub mod Causes
 pub mod Choices
 pub mod Cuts
 pub mod Endings
-pub mod Fronts
+pub mod Prefixes
 pub mod Kept
 pub mod Numbers
 pub mod OneTask

@@ -6,8 +6,8 @@ use Rattle.ppdb_base.specs.Files.{Files, Reading, Missing, Longer, Contents, rea
 use Rattle.ppdb_base.specs.declared.limits.TheConstants.{MAX_FILE_BYTES}
 use Rattle.map_compose.specs.Composed.{composed}
 use Rattle.map_compose.proofs.Differing.{sizes_are_judged}
-use Rattle.map_text.specs.MapTexts.{map_text}
-use Rattle.map_text.proofs.Judged.{texts_are_judged}
+use Rattle.ppdb_maps_text.specs.MapTexts.{map_text}
+use Rattle.ppdb_maps_text.proofs.Judged.{texts_are_judged}
 use Rattle.ppdb_maps.specs.Map.{Map}
 use Rattle.ppdb_maps.specs.Readable.{IsReadable}
 use Rattle.ppdb_maps.proofs.OneMap.{texts_have_one_map}
@@ -69,7 +69,7 @@ map_given name files given refuses = by_reading (reading files name MAX_FILE_BYT
     by_reading (Contents text) is =
         let read = sym (ap (input_of name) is) in
         texts_are_judged text (λ m has. given m (inl (text, read, has)) (maps_are_readable text m has))
-        (λ n kind bad. refuses (no_map name n kind) (inl (text, read, (n, kind, bad, refl))))
+        (λ n kind invalid. refuses (no_map name n kind) (inl (text, read, (n, kind, invalid, refl))))
 
 -- two maps have a text, or are refused
 text_given : (f s : Map) → IsReadable f → ((text : List ℕ) → composed_text f s (Ok text) → ⊥)

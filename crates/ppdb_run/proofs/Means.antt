@@ -13,25 +13,25 @@ use Rattle.ppdb_base.specs.declared.merge_error.MergeError.{MergeError}
 use Rattle.ppdb_base.specs.declared.merge_error.MergeError.TheVariants.{KindUnknown}
 use Rattle.ppdb_base.specs.Files.{Files, Longer, Contents, within_max}
 use Rattle.ppdb_base.specs.First.{IsAccepted}
-use Rattle.kept_meanings.specs.Kept.{MovedBy}
+use Rattle.ppdb_merge_meaning_laws.specs.Kept.{MovedBy}
 use Rattle.ppdb_maps.specs.Map.{Map}
 use Rattle.ppdb_maps.specs.Text.{IsMapOf}
 use Rattle.ppdb_merge.specs.declared.trace.Trace.{Trace}
-use Rattle.ppdb_fits.specs.Clashes.{is_unknown}
+use Rattle.ppdb_merge_fits.specs.Clashes.{is_unknown}
 use Rattle.ppdb_merge.specs.Refusals.{added}
 use Rattle.ppdb_merge.specs.Together.{joined_of}
-use Rattle.ppdb_noted.specs.Each.{Each}
+use Rattle.ppdb_merge_items.specs.Each.{Each}
 use Rattle.ppdb_values.specs.declared.custom.CustomValue.{CustomValue}
 use Rattle.ppdb_values.specs.declared.file.FileValue.{FileValue}
 use Rattle.ppdb_values.specs.RawFile.{RawFile}
 use Rattle.ppdb_values.specs.Rules.{KeepsRules}
 use Rattle.ppdb_values.specs.Value.{value_of}
-use Rattle.ppdb_verify.specs.Files.{BadFile, IsRawOf}
-use Rattle.valid_files.proofs.ValidFiles.{valid_keeps}
-use Rattle.unmoved_files.specs.NoLines.{left_alone}
-use Rattle.written_meanings.specs.Inputs.{AreAdded, AreJoinedTo, IsValidInput, ReadInput, moved_by}
-use Rattle.written_meanings.specs.Laws.{HasKnownKinds, JoinedFilesKeepInputs, JoinedKindsAreKnown, KeepsInputs, ReadInputsAreValid}
-use Rattle.written_meanings.specs.Laws.{RebuiltFilesKeepThemselves, SaysButForId}
+use Rattle.ppdb_verify.specs.Files.{FileFaults, IsRawOf}
+use Rattle.ppdb_verify_valid_laws.proofs.ValidFiles.{valid_keeps}
+use Rattle.ppdb_merge_unmoved_laws.specs.NoLines.{left_alone}
+use Rattle.ppdb_run_meaning_laws.specs.Inputs.{AreAdded, AreJoinedTo, IsValidInput, ReadInput, moved_by}
+use Rattle.ppdb_run_meaning_laws.specs.Laws.{HasKnownKinds, JoinedFilesKeepInputs, JoinedKindsAreKnown, KeepsInputs, ReadInputsAreValid}
+use Rattle.ppdb_run_meaning_laws.specs.Laws.{RebuiltFilesKeepThemselves, SaysButForId}
 use Rattle.ppdb_run.specs.declared.stop.Stop.{Stop}
 use Rattle.ppdb_run.specs.Ends.{OnAsked, OnTask, RebuildsToItself, RebuildsWhereKnown, WritesAgain}
 use Rattle.ppdb_run.specs.Means.{AreInputsOf, AreReadAs, ExactlyMeans, WritesExactly, WritesMeaning}
@@ -84,7 +84,7 @@ module _ (files : Files) where
   record IsRead (name : List ℕ) (raw : RawFile) : Type 0 where
     bytes : List ℕ
     at : file_at files name (Ok bytes)
-    accepted : IsAccepted (BadFile bytes)
+    accepted : IsAccepted (FileFaults bytes)
     is : IsRawOf bytes raw
 
   is_read : (name : List ℕ) (raw : RawFile) → verified files name (Ok raw) → IsRead name raw
@@ -176,7 +176,7 @@ module _ (files : Files) where
 -- ---- a file that is rebuilt
 
 module _ (files : Files) (input output : List ℕ) (options : Options) (raw : RawFile) (h : verified files input (Ok raw)) (bytes : List ℕ) where
-  pub rebuilt_means : RebuiltFilesKeepThemselves → SaysButForId bytes (value_of raw) → IsAccepted (BadFile bytes) → RebuildsToItself options bytes
+  pub rebuilt_means : RebuiltFilesKeepThemselves → SaysButForId bytes (value_of raw) → IsAccepted (FileFaults bytes) → RebuildsToItself options bytes
       → ExactlyMeans (Rebuild input output options) options files bytes
   rebuilt_means law says accepted again = record {
     read = (left_alone (value_of raw) ∷ [], (raw, h, refl));
@@ -206,7 +206,7 @@ module _ (files : Files) (inputs : List Input) (output : List ℕ) (options : Op
     joined = joins;
   }
 
-  pub merged_means : JoinedFilesKeepInputs → JoinedKindsAreKnown → SaysButForId bytes value → IsAccepted (BadFile bytes)
+  pub merged_means : JoinedFilesKeepInputs → JoinedKindsAreKnown → SaysButForId bytes value → IsAccepted (FileFaults bytes)
       → RebuildsWhereKnown options (output, bytes) → ExactlyMeans (Merge inputs output options) options files bytes
   merged_means law kinds says accepted again =
       let all = all_added files options.marks [] inputs traces merged in
@@ -256,7 +256,7 @@ means_again (Some all) inputs output options bytes h means =
 
 pub rebuilt_all : (files : Option Files) (input output : List ℕ) (options : Options) (raw : RawFile) → IfSome files (λ all. verified all input (Ok raw))
     → RebuiltFilesKeepThemselves → (result : Result (List ℕ) Stop) → IfOk result (λ bytes. SaysButForId bytes (value_of raw))
-    → IfOk result (λ bytes. IsAccepted (BadFile bytes)) → IfOk result (RebuildsToItself options)
+    → IfOk result (λ bytes. IsAccepted (FileFaults bytes)) → IfOk result (RebuildsToItself options)
     → IfOk result (λ bytes. IfSome files (λ all. ExactlyMeans (Rebuild input output options) options all bytes))
 rebuilt_all files input output options raw h law (Err stop) says accepted again = tt
 rebuilt_all None input output options raw h law (Ok bytes) says accepted again = tt
@@ -270,7 +270,7 @@ joined_is inputs value (Err error) e = absurd cc
 pub merged_all : (files : Option Files) (inputs : List Input) (output : List ℕ) (options : Options) (traces : List Trace) (value : FileValue)
     → length inputs ≤ 256 → IfSome files (λ all. with_inputs all options.marks [] inputs (Ok traces)) → Ok value ≡ all_joined inputs (joined_of traces)
     → ReadInputsAreValid → JoinedFilesKeepInputs → JoinedKindsAreKnown → (result : Result (List ℕ) Stop)
-    → IfOk result (λ bytes. SaysButForId bytes value) → IfOk result (λ bytes. IsAccepted (BadFile bytes))
+    → IfOk result (λ bytes. SaysButForId bytes value) → IfOk result (λ bytes. IsAccepted (FileFaults bytes))
     → IfOk result (λ bytes. RebuildsWhereKnown options (output, bytes))
     → IfOk result (λ bytes. IfSome files (λ all. ExactlyMeans (Merge inputs output options) options all bytes))
 merged_all files inputs output options traces value few h joins valid law kinds (Err stop) says accepted again = tt

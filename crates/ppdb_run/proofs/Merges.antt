@@ -15,7 +15,7 @@ use Rattle.ppdb_merge.specs.declared.trace.Trace.{Trace}
 use Rattle.ppdb_merge.specs.Merged.{is_first, trace_of}
 use Rattle.ppdb_merge.specs.Refusals.{added, refusal_of, with_trace}
 use Rattle.ppdb_values.specs.RawFile.{RawFile}
-use Rattle.ppdb_verify.specs.Files.{BadFile, IsRawOf}
+use Rattle.ppdb_verify.specs.Files.{FileFaults, IsRawOf}
 use Rattle.ppdb_run.specs.declared.stop.Stop.{Stop}
 use Rattle.ppdb_run.specs.declared.stop.Stop.TheVariants as stops
 use Rattle.ppdb_run.specs.Ends.{ComesToInput, IsInputUnread, IsUnreadOf}
@@ -26,7 +26,7 @@ use Rattle.ppdb_run.specs.Words.{Input, Merge, input_words, texts}
 use Rattle.ppdb_run.proofs.Kept.{one_more}
 use Rattle.ppdb_run.proofs.Steps.{gives_next, gives_stop}
 
--- ---- steps over the files that are told
+-- ---- steps over the files that are reported
 
 pub on_told : {P : Files → Type 0} (files : Option Files) → ((all : Files) → P all) → IfSome files P
 on_told None h = tt
@@ -83,7 +83,7 @@ tells_unfit (stops.SizesDiffer method first second) = tt
 tells_unfit stops.Sink = tt
 tells_unfit stops.Memory = tt
 
--- an error that is told, or want of memory
+-- an error that is reported, or want of memory
 pub unfit_given : {U A : Type 0} (view : U → A) (stop : Stop) (name : List ℕ) (error : MergeError) (told : Result A MergeError)
     → IfSome (told_by (cause_of stop)) (λ o. (o ≡ unfit name error) × (error ≡ merge_errors.Memory → ⊥))
     → (error ≡ merge_errors.Memory) ⊎ (told ≡ Err error) → Gives view (Err stop) (gives (fitting name told))
@@ -99,7 +99,7 @@ unfit_given view stop name error told h either = by_refusal (told_by (cause_of s
 
 module _ (marks : List (List ℕ)) (traces more : List Trace) (input : Input) (bytes text : List ℕ) where
   abbrev judged_input : Step RawFile
-  judged_input = judged input.file (BadFile bytes) (IsRawOf bytes)
+  judged_input = judged input.file (FileFaults bytes) (IsRawOf bytes)
 
   abbrev fitted : RawFile → Map → Step (List Trace)
   fitted raw m = gives (fitting input.file (added marks traces m raw))
@@ -107,7 +107,7 @@ module _ (marks : List (List ℕ)) (traces more : List Trace) (input : Input) (b
   abbrev moved_with : RawFile → Step (List Trace)
   moved_with raw = map_in input.map_file text >>= fitted raw
 
-  module _ (raw : RawFile) (accepted : IsAccepted (BadFile bytes)) (is : IsRawOf bytes raw) where
+  module _ (raw : RawFile) (accepted : IsAccepted (FileFaults bytes)) (is : IsRawOf bytes raw) where
     -- the map's text has no map
     pub no_map_told : (stop : Stop) → Gives (λ (m : Map). m) (Err stop) (map_in input.map_file text)
         → Gives (λ (_ : Unit {0}). more) (Err stop) (with_texts marks traces input bytes text)
@@ -183,7 +183,7 @@ module _ (files : Option Files) (marks : List (List ℕ)) (traces more : List Tr
 abbrev pub reads_of : List Trace → ℕ
 reads_of traces = 2 * length traces
 
--- what was read of the inputs: what is to come decides as all of them, and is read behind two reads for each
+-- what was read of the inputs: what is to come decides as all of them, and is read after two reads for each
 pub record Goes (files : Option Files) (marks : List (List ℕ)) (traces : List Trace) (rest whole : List Input) : Type 0 where
   pub told : IfSome files (λ all. (r : Result (List Trace) Outcome) → with_inputs all marks traces rest r → with_inputs all marks [] whole r)
   pub comes : IfSome files (λ all. (read : ℕ) → ComesToInput all marks traces rest read → ComesToInput all marks [] whole (reads_of traces + read))
@@ -300,12 +300,12 @@ second : (names : List (List ℕ)) (b : List ℕ) (after : List (List ℕ)) → 
 second [] b after e = absurd cc
 second (x ∷ names) b after e = cc
 
-at_front : (names : List (List ℕ)) (i : ℕ) (a b : List ℕ) (after : List (List ℕ)) → drop i names ≡ a ∷ b ∷ after
+at_start : (names : List (List ℕ)) (i : ℕ) (a b : List ℕ) (after : List (List ℕ)) → drop i names ≡ a ∷ b ∷ after
     → (slice_get names i ≡ Some a) × (slice_get names (suc i) ≡ Some b)
-at_front [] zero a b after e = absurd cc
-at_front [] (suc i) a b after e = absurd cc
-at_front (x ∷ names) zero a b after e = (cc, second names b after cc)
-at_front (x ∷ names) (suc i) a b after e = at_front names i a b after e
+at_start [] zero a b after e = absurd cc
+at_start [] (suc i) a b after e = absurd cc
+at_start (x ∷ names) zero a b after e = (cc, second names b after cc)
+at_start (x ∷ names) (suc i) a b after e = at_start names i a b after e
 
 module _ (files : Option Files) (marks : List (List ℕ)) (traces : List Trace) (input : Input) (rest whole : List Input)
     (goes : Goes files marks traces (input ∷ rest) whole) where
@@ -328,7 +328,7 @@ module _ (files : Option Files) (marks : List (List ℕ)) (traces : List Trace) 
   pub next_unread : (output : List ℕ) (keep : Bool) (before mid after : ℕ) (name : List ℕ) → (mid < 18446744073709551615 → mid ≡ before + reads_of traces)
       → IsInputUnread files input mid after name → IsUnreadOf (Merge whole output (record { keep_id = keep; marks = marks })) files before after name
   next_unread output keep before mid after name m (inl (n, r)) =
-      let at = at_front (input_words whole) (reads_of traces) input.file input.map_file (input_words rest) goes.names in
+      let at = at_start (input_words whole) (reads_of traces) input.file input.map_file (input_words rest) goes.names in
       record {
         read = reads_of traces;
         named = at.0 ∙ ap Some (sym n);
@@ -336,7 +336,7 @@ module _ (files : Option Files) (marks : List (List ℕ)) (traces : List Trace) 
         comes = comes_to_file files goes.comes;
       }
   next_unread output keep before mid after name m (inr (n, r, h)) =
-      let at = at_front (input_words whole) (reads_of traces) input.file input.map_file (input_words rest) goes.names in
+      let at = at_start (input_words whole) (reads_of traces) input.file input.map_file (input_words rest) goes.names in
       record {
         read = suc (reads_of traces);
         named = at.1 ∙ ap Some (sym n);

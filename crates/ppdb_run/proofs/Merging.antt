@@ -5,13 +5,13 @@ use Rattle.ppdb_base.specs.Files.{Files}
 use Rattle.ppdb_base.specs.First.{IsAccepted}
 use Rattle.ppdb_base.specs.declared.merge_error.MergeError.{MergeError}
 use Rattle.ppdb_base.specs.declared.merge_error.MergeError.TheVariants as merge_errors
-use Rattle.ppdb_canon.specs.Canon.{canon, chosen_id, with_id}
+use Rattle.ppdb_build_canon.specs.Canon.{canon, chosen_id, with_id}
 use Rattle.ppdb_merge.specs.declared.trace.Trace.{Trace}
 use Rattle.ppdb_merge.specs.Together.{joined_of}
 use Rattle.ppdb_values.specs.declared.file.FileValue.{FileValue}
 use Rattle.ppdb_values.specs.RawFile.{RawFile}
-use Rattle.ppdb_verify.specs.Files.{BadFile, IsRawOf}
-use Rattle.written_files.specs.Written.{Says, IsSameAgain}
+use Rattle.ppdb_verify.specs.Files.{FileFaults, IsRawOf}
+use Rattle.ppdb_build_written_laws.specs.Written.{Says, IsSameAgain}
 use Rattle.ppdb_run.specs.declared.stop.Stop.{Stop}
 use Rattle.ppdb_run.specs.Ends.{RebuildsWhereKnown}
 use Rattle.ppdb_run.specs.Outcome.{Outcome, Step, ◌>>=◌, all_joined, choice_of, file_of, gives, in_limits, input_in, steps_of, unfit, unknown_kind}
@@ -22,7 +22,7 @@ use Rattle.ppdb_run.proofs.Merges.{next_over, on_told, stop_over}
 use Rattle.ppdb_run.proofs.Rebuilds.{rebuilds}
 use Rattle.ppdb_run.proofs.Steps.{gives_next, gives_stop}
 
--- a value that is joined, or the refusal that is told, or no memory
+-- a value that is joined, or the refusal that is reported, or no memory
 pub joined_given : (inputs : List Input) (stop : Stop) (error : MergeError) (told : Result FileValue MergeError)
     → IfSome (told_by (cause_of stop)) (λ o. (o ≡ unfit (file_of inputs (input_in error)) error) × (error ≡ merge_errors.Memory → ⊥))
     → (error ≡ merge_errors.Memory) ⊎ (told ≡ Err error) → Gives (λ (v : FileValue). v) (Err stop) (gives (all_joined inputs told))
@@ -66,7 +66,7 @@ module _ (inputs : List Input) (output : List ℕ) (options : Options) (files : 
 
 -- where its kinds are known, the canonical file of a value is rebuilt to itself
 pub rebuilds_where_known : (options : Options) (output : List ℕ) (value : FileValue) (bytes : List ℕ) → bytes ≡ canon value (choice_of options.keep_id)
-    → IsAccepted (BadFile bytes) → Says bytes (with_id value (chosen_id value (choice_of options.keep_id)))
+    → IsAccepted (FileFaults bytes) → Says bytes (with_id value (chosen_id value (choice_of options.keep_id)))
     → ((again : RawFile) → IsRawOf bytes again → IsSameAgain value (choice_of options.keep_id) again) → RebuildsWhereKnown options (output, bytes)
 rebuilds_where_known options output value bytes is accepted says same known =
     rebuilds options value bytes (sym (ap (unknown_kind options.marks) says.value_is) ∙ known says.raw says.is_raw) is accepted says same

@@ -14,7 +14,7 @@ use Rattle.ppdb_run.proofs.PairWords.{behind_first, first_letter, no_options_pai
 numerals : IsNumeralModel (AllDigits 10) (digits_value 10)
 numerals = numerals_by_value (AllDigits 10) tells_digits
 
--- the task of a name's first letter, of a file and of the words behind it
+-- the task of a name's first letter, of a file and of the words after it
 task_of : ℕ → List ℕ → List (List ℕ) → Option Task
 task_of letter file [] =
     if letter == 105 then Some (Ask Id file) else if letter == 118 then Some (Ask Verify file) else if letter == 108 then Some (Ask Links file)
@@ -122,7 +122,7 @@ one_rebuild words i o i' o' options options' h k =
     let choice : options ≡ options' = one_choice k.0 options options' (subst (λ w. AreOptions w options) same.2 h.4) k.4 in
     cc
 
--- the third letter tells rebuild from remap, and the first from merge
+-- the third letter reports rebuild from remap, and the first from merge
 apart : (words : List (List ℕ)) (i o o' : List ℕ) (inputs : List Input) (options options' : Options) → Words (Rebuild i o options) words
     → Words (Merge inputs o' options') words → ⊥
 apart words i o o' inputs options options' h (inl k) = let e : 98 ≡ 109 = ap third_letter (sym h.1 ∙ k.is) in absurd (omega (arith, e))

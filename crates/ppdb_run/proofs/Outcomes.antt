@@ -19,7 +19,7 @@ use Rattle.ppdb_run.specs.Stops.{cause_of, Gives, Settles, Finds, refusal_of}
 use Rattle.ppdb_run.specs.Words.{Question, Id, Verify, Show, Query, Links, Breaks, Options, Task, Ask, Rebuild, Compose, Merge, Sample, Input, Words}
 use Rattle.ppdb_values.specs.RawFile.{RawFile, raw_in}
 use Rattle.ppdb_values.specs.Value.{value_of}
-use Rattle.ppdb_verify.specs.Files.{BadFile, IsRawOf}
+use Rattle.ppdb_verify.specs.Files.{FileFaults, IsRawOf}
 use Rattle.ppdb_verify.proofs.Streamed.{same_streams}
 use Rattle.ppdb_run.proofs.MapSteps.{one_composed, one_text}
 use Rattle.ppdb_run.proofs.OneTask.{one_task}
@@ -28,26 +28,26 @@ use Rattle.ppdb_run.proofs.Steps.{GivesOne, gives_stop, is_one, one_next, one_gi
 -- ---- a file that is verified is one thing
 
 -- what a file says is one thing, or its first fault
-one_judged : {A : Type 0} (name : List ℕ) (Bad : Code → Place → Type 0) (Says : A → Type 0) (same : A → A → Type 0)
-    → ((x y : A) → IsAccepted Bad → Says x → Says y → same x y) → GivesOne same (judged name Bad Says)
-one_judged name Bad Says same one (Ok x) (Ok y) h k = one x y h.0 h.1 k.1
-one_judged name Bad Says same one (Ok x) (Err b) h k = first_not_accepted Bad k.0 k.1 h.0
-one_judged name Bad Says same one (Err a) (Ok y) h k = first_not_accepted Bad h.0 h.1 k.0
-one_judged name Bad Says same one (Err a) (Err b) h k = h.2 ∙ ap (refused name) (one_first Bad h.0 k.0 h.1 k.1) ∙ sym k.2
+one_judged : {A : Type 0} (name : List ℕ) (Faults : Code → Place → Type 0) (Says : A → Type 0) (same : A → A → Type 0)
+    → ((x y : A) → IsAccepted Faults → Says x → Says y → same x y) → GivesOne same (judged name Faults Says)
+one_judged name Faults Says same one (Ok x) (Ok y) h k = one x y h.0 h.1 k.1
+one_judged name Faults Says same one (Ok x) (Err b) h k = first_not_accepted Faults k.0 k.1 h.0
+one_judged name Faults Says same one (Err a) (Ok y) h k = first_not_accepted Faults h.0 h.1 k.0
+one_judged name Faults Says same one (Err a) (Err b) h k = h.2 ∙ ap (refused name) (one_first Faults h.0 k.0 h.1 k.1) ∙ sym k.2
 
 -- what a file is read as is one thing
-one_raw : (bytes : List ℕ) (x y : RawFile) → IsAccepted (BadFile bytes) → IsRawOf bytes x → IsRawOf bytes y → x ≡ y
+one_raw : (bytes : List ℕ) (x y : RawFile) → IsAccepted (FileFaults bytes) → IsRawOf bytes x → IsRawOf bytes y → x ≡ y
 one_raw bytes x y accepted one other =
-    one.raw_is ∙ (ap raw_in (same_streams bytes (λ code at bad. accepted code at (inl (inl bad))) one.streams other.streams one.are other.are)
+    one.raw_is ∙ (ap raw_in (same_streams bytes (λ code at invalid. accepted code at (inl (inl invalid))) one.streams other.streams one.are other.are)
     ∙ sym other.raw_is)
 
 abbrev judged_file : List ℕ → List ℕ → Step RawFile
-judged_file file bytes = judged file (BadFile bytes) (IsRawOf bytes)
+judged_file file bytes = judged file (FileFaults bytes) (IsRawOf bytes)
 
 pub one_verified : (files : Files) (file : List ℕ) → GivesOne (λ x y. x ≡ y) (verified files file)
 one_verified files file =
     one_then (file_at files file) (judged_file file) (one_given (input_of file (reading files file MAX_FILE_BYTES)))
-    (λ x. one_judged file (BadFile x) (IsRawOf x) (λ a b. a ≡ b) (one_raw x))
+    (λ x. one_judged file (FileFaults x) (IsRawOf x) (λ a b. a ≡ b) (one_raw x))
 
 -- ---- so are inputs
 
@@ -55,7 +55,7 @@ one_texts : (marks : List (List ℕ)) (traces : List Trace) (input : Input) (byt
     → GivesOne (λ x y. x ≡ y) (with_texts marks traces input bytes text)
 one_texts marks traces input bytes text =
     one_then (judged_file input.file bytes) (λ raw. map_in input.map_file text >>= λ m. gives (fitting input.file (added marks traces m raw)))
-    (one_judged input.file (BadFile bytes) (IsRawOf bytes) (λ a b. a ≡ b) (one_raw bytes))
+    (one_judged input.file (FileFaults bytes) (IsRawOf bytes) (λ a b. a ≡ b) (one_raw bytes))
     (λ raw. one_then (map_in input.map_file text) (λ m. gives (fitting input.file (added marks traces m raw))) (one_text input.map_file text)
     (λ m. one_given (fitting input.file (added marks traces m raw))))
 
@@ -84,7 +84,7 @@ one_merged inputs output options files r t h k =
 
 -- a file that was read and keeps all rules
 pub read_accepted : (files : Option Files) (file bytes : List ℕ) (raw : RawFile) → IfSome files (λ all. file_at all file (Ok bytes))
-    → IsAccepted (BadFile bytes) → IsRawOf bytes raw
+    → IsAccepted (FileFaults bytes) → IsRawOf bytes raw
     → IfSome files (λ all. verified all file (Ok raw))
 read_accepted None file bytes raw h accepted is = tt
 read_accepted (Some all) file bytes raw h accepted is = inl (bytes, h, (accepted, is))
@@ -129,7 +129,7 @@ one_outcome (Some task) files a b (inr h) (inr k) = err_inj a b (one_end task fi
 
 -- ---- what a command knows of its outcome
 
--- what holds of a task that reads files over those that are told holds of what the words ask for
+-- what holds of a task that reads files over those that are reported holds of what the words ask for
 pub of_told : (P : Option Task → Files → Type 0) (words : List (List ℕ)) (task : Task) (files : Option Files) → IfSome files (λ all. P (Some task) all)
     → Words task words → (IsApart (Some task) → ⊥)
     → (asked : Option Task) → Asks words asked → (all : Files) → AreSeen asked files all → P asked all

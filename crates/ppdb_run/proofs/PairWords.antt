@@ -1,4 +1,4 @@
--- Words that name files and maps, two by two, and options behind them.
+-- Words that name files and maps, two by two, and options after them.
 use Rattle.std.proofs.Common.{ℕ, zero, suc, ◌≡◌, ◌≤◌, ◌<◌, ◌+◌, ◌-◌, ◌⊎◌, List, [], ◌∷◌, ◌++◌, length, take, drop, get_or, String, string_bytes, inl}
 use Rattle.std.proofs.Common.{inr, Bool, true, false, cond, refl, sym, ◌∙◌, ap, subst, arith}
 use Rattle.std.specs.Prelude.{◌&&◌, ◌==◌, IsTrue, OnErr, Result, Ok, Err, codes}
@@ -36,7 +36,7 @@ not_pair words input rest others e none h =
     let second = both (is_file_word input.map_file) (list_all is_file_word others) first.1 in
     absurd (let yes : (is_file_word input.file && is_file_word input.map_file) ≡ true = rw (first.0, second.0) refl in cc)
 
--- inputs in front of words that begin with no pair are told by the words
+-- inputs before words that begin with no pair are determined by the words
 pub same_inputs : (one other : List Input) (rest more : List (List ℕ)) → IsTrue (list_all is_file_word (input_words one))
     → IsTrue (list_all is_file_word (input_words other)) → NoPair rest → NoPair more → input_words one ++ rest ≡ input_words other ++ more
     → (one ≡ other) × (rest ≡ more)
@@ -59,14 +59,14 @@ pairs_back (i ∷ is) = ap (λ (rest : List Input). i ∷ rest) (pairs_back is)
 
 -- ---- words that are read from the left
 
--- the words begin with those of inputs, and this is what is behind them
-pub record Front (words rest : List (List ℕ)) : Type 0 where
+-- the words begin with those of inputs, and this is what is after them
+pub record Prefix (words rest : List (List ℕ)) : Type 0 where
   pub inputs : List Input
   pub whole : words ≡ input_words inputs ++ rest
   pub files : IsTrue (list_all is_file_word (input_words inputs))
 
-pub front_all : (words : List (List ℕ)) → Front words words
-front_all words = record { inputs = []; whole = refl; files = refl }
+pub prefix_all : (words : List (List ℕ)) → Prefix words words
+prefix_all words = record { inputs = []; whole = refl; files = refl }
 
 words_on : (inputs : List Input) (input : Input) (rest : List (List ℕ))
     → input_words inputs ++ input.file ∷ input.map_file ∷ rest ≡ input_words (inputs ++ input ∷ []) ++ rest
@@ -82,9 +82,9 @@ files_on (i ∷ is) input h f m =
     rw (one.0, two.0) (files_on is input two.1 f m)
 
 -- two more words that name files
-pub front_next : (words rest after : List (List ℕ)) (file map_file : List ℕ) → rest ≡ file ∷ map_file ∷ after → IsTrue (is_file_word file)
-    → IsTrue (is_file_word map_file) → Front words rest → Front words after
-front_next words rest after file map_file e f m h = record {
+pub prefix_next : (words rest after : List (List ℕ)) (file map_file : List ℕ) → rest ≡ file ∷ map_file ∷ after → IsTrue (is_file_word file)
+    → IsTrue (is_file_word map_file) → Prefix words rest → Prefix words after
+prefix_next words rest after file map_file e f m h = record {
   inputs = h.inputs ++ record { file = file; map_file = map_file } ∷ [];
   whole = h.whole ∙ (ap (λ (r : List (List ℕ)). input_words h.inputs ++ r) e ∙ words_on h.inputs (record { file = file; map_file = map_file }) after);
   files = files_on h.inputs (record { file = file; map_file = map_file }) h.files f m;
@@ -99,16 +99,16 @@ joined_length : (xs rest : List (List ℕ)) → length (xs ++ rest) ≡ length x
 joined_length [] rest = omega arith
 joined_length (x ∷ xs) rest = let more = joined_length xs rest in omega (arith, more)
 
--- so many words are those in front
-pub front_taken : (words rest : List (List ℕ)) (n : ℕ) → n ≡ length words - length rest → (h : Front words rest)
+-- so many words are those before
+pub prefix_taken : (words rest : List (List ℕ)) (n : ℕ) → n ≡ length words - length rest → (h : Prefix words rest)
     → (take n words ≡ input_words h.inputs) × (drop n words ≡ rest)
-front_taken words rest n e h =
+prefix_taken words rest n e h =
     let long : n ≡ length (input_words h.inputs) = omega (arith, e, ap length h.whole, joined_length (input_words h.inputs) rest) in
     let cut = taken (input_words h.inputs) rest in
     rw (long, h.whole) cut
 
-pub front_even : (words : List (List ℕ)) (inputs : List Input) → words ≡ input_words inputs → words ≡ input_words (pairs_of words)
-front_even words inputs e = e ∙ sym (ap input_words (ap pairs_of e ∙ pairs_back inputs))
+pub prefix_even : (words : List (List ℕ)) (inputs : List Input) → words ≡ input_words inputs → words ≡ input_words (pairs_of words)
+prefix_even words inputs e = e ∙ sym (ap input_words (ap pairs_of e ∙ pairs_back inputs))
 
 -- inputs have two words each
 pub two_each : (inputs : List Input) → length (input_words inputs) ≡ length inputs + length inputs
@@ -127,15 +127,15 @@ third_letter ((a ∷ b ∷ c ∷ letters) ∷ words) = c
 third_letter words = 0
 
 -- words of a merge are split in one way
-pub merge_is : (inputs : List Input) (output first : List ℕ) (options : Options) (words front back : List (List ℕ))
-    → words ≡ front ++ back → front ≡ input_words (pairs_of front) → IsTrue (list_all is_file_word front) → NoPair back
-    → (h : IsMerge inputs output options (codes "merge" ∷ first ∷ words)) → (output ≡ first) × (inputs ≡ pairs_of front) × (h.rest ≡ back)
-merge_is inputs output first options words front back e even files none h =
+pub merge_is : (inputs : List Input) (output first : List ℕ) (options : Options) (words prefix back : List (List ℕ))
+    → words ≡ prefix ++ back → prefix ≡ input_words (pairs_of prefix) → IsTrue (list_all is_file_word prefix) → NoPair back
+    → (h : IsMerge inputs output options (codes "merge" ∷ first ∷ words)) → (output ≡ first) × (inputs ≡ pairs_of prefix) × (h.rest ≡ back)
+merge_is inputs output first options words prefix back e even files none h =
     let is = h.is in
     let same : output ≡ first = cc in
-    let split : input_words inputs ++ h.rest ≡ input_words (pairs_of front) ++ back =
+    let split : input_words inputs ++ h.rest ≡ input_words (pairs_of prefix) ++ back =
     (let both : words ≡ input_words inputs ++ h.rest = cc in sym both) ∙ (e ∙ ap (λ (w : List (List ℕ)). w ++ back) even) in
-    let one = same_inputs inputs (pairs_of front) h.rest back (behind_first is_file_word output (input_words inputs) h.files)
+    let one = same_inputs inputs (pairs_of prefix) h.rest back (behind_first is_file_word output (input_words inputs) h.files)
     (subst (λ w. IsTrue (list_all is_file_word w)) even files) (no_options_pair h.rest options h.options_are) none split in
     (same, one.0, one.1)
 
@@ -156,23 +156,23 @@ only_merge words none (Sample n) h = let e : 109 ≡ 115 = ap first_letter h.0 i
 only_merge words none (Merge inputs output options) (inl h) = let e : 109 ≡ 114 = ap first_letter h.is in absurd (omega (arith, e))
 only_merge words none (Merge inputs output options) (inr h) = none inputs output options h
 
-module _ (args : List (List ℕ)) (first : List ℕ) (words front back : List (List ℕ)) (is : args ≡ first ∷ words) (split : words ≡ front ++ back)
-    (even : front ≡ input_words (pairs_of front)) (files : IsTrue (list_all is_file_word front)) (none : NoPair back) where
+module _ (args : List (List ℕ)) (first : List ℕ) (words prefix back : List (List ℕ)) (is : args ≡ first ∷ words) (split : words ≡ prefix ++ back)
+    (even : prefix ≡ input_words (pairs_of prefix)) (files : IsTrue (list_all is_file_word prefix)) (none : NoPair back) where
   merge_parts : (inputs : List Input) (output : List ℕ) (options : Options) → IsMerge inputs output options (codes "merge" ∷ args)
-      → (1 ≤ length inputs) × (length inputs ≤ 256) × (inputs ≡ pairs_of front) × AreOptions back options
+      → (1 ≤ length inputs) × (length inputs ≤ 256) × (inputs ≡ pairs_of prefix) × AreOptions back options
   merge_parts inputs output options h =
       let k : IsMerge inputs output options (codes "merge" ∷ first ∷ words) =
       subst (λ w. IsMerge inputs output options (codes "merge" ∷ w)) is h in
-      let one = merge_is inputs output first options words front back split even files none k in
+      let one = merge_is inputs output first options words prefix back split even files none k in
       (k.some, k.most, one.1, subst (λ w. AreOptions w options) one.2 k.options_are)
 
   -- there is no pair, or there are too many
-  pub no_merge_count : (length front ≡ 0) ⊎ (512 < length front) → NoTask (codes "merge" ∷ args)
+  pub no_merge_count : (length prefix ≡ 0) ⊎ (512 < length prefix) → NoTask (codes "merge" ∷ args)
   no_merge_count count = only_merge args (λ inputs output options h.
       let parts = merge_parts inputs output options h in
       let same = ap length parts.2 in
       let long = ap length even in
-      let two = two_each (pairs_of front) in
+      let two = two_each (pairs_of prefix) in
       let some = parts.0 in
       let most = parts.1 in
       elim count [
@@ -180,22 +180,22 @@ module _ (args : List (List ℕ)) (first : List ℕ) (words front back : List (L
         | inr many ↦ absurd (omega (arith, many, same, long, two, most))
       ])
 
-  -- what is behind the pairs are no options
+  -- what is after the pairs are no options
   pub no_merge_options : ((options : Options) → AreOptions back options → ⊥) → NoTask (codes "merge" ∷ args)
   no_merge_options refused = only_merge args (λ inputs output options h. refused options (merge_parts inputs output options h).3)
 
   -- they are, and there are as many pairs as there can be
-  pub merge_words : (output : List ℕ) (options : Options) → output ≡ first → IsTrue (is_file_word first) → 1 ≤ length front → length front ≤ 512
-      → AreOptions back options → Words (Merge (pairs_of front) output options) (codes "merge" ∷ args)
+  pub merge_words : (output : List ℕ) (options : Options) → output ≡ first → IsTrue (is_file_word first) → 1 ≤ length prefix → length prefix ≤ 512
+      → AreOptions back options → Words (Merge (pairs_of prefix) output options) (codes "merge" ∷ args)
   merge_words output options same file some most options_are =
       let long = ap length even in
-      let two = two_each (pairs_of front) in
+      let two = two_each (pairs_of prefix) in
       inr (record {
         rest = back;
         some = omega (arith, some, long, two);
         most = omega (arith, most, long, two);
         is = ap (λ (w : List (List ℕ)). codes "merge" ∷ w) (is ∙ (ap (λ (w : List (List ℕ)). first ∷ w) (split ∙ ap (λ (w : List (List ℕ)). w ++ back) even)
-            ∙ ap (λ (w : List ℕ). w ∷ input_words (pairs_of front) ++ back) (sym same)));
+            ∙ ap (λ (w : List ℕ). w ∷ input_words (pairs_of prefix) ++ back) (sym same)));
         files = rw (ap is_file_word same ∙ file) (subst (λ w. IsTrue (list_all is_file_word w)) even files);
         options_are = options_are;
       })
@@ -237,7 +237,7 @@ file_none (a ∷ []) zero h = refl
 file_none (a ∷ []) (suc n) h = refl
 file_none (a ∷ b ∷ words) n h = absurd (omega arith)
 
--- ---- a slice of words, and the words behind two of it
+-- ---- a slice of words, and the words after two of it
 
 pub two_of : (rest : List (String Global)) (a b : String Global) → 2 ≤ length rest → a ≡ get_or rest 0 a → b ≡ get_or rest 1 b
     → texts rest ≡ string_bytes a ∷ string_bytes b ∷ texts (drop 2 rest)
@@ -245,7 +245,7 @@ two_of [] a b l e f = absurd (omega arith)
 two_of (x ∷ []) a b l e f = absurd (omega arith)
 two_of (x ∷ y ∷ rest) a b l e f = λ i. string_bytes (sym e i) ∷ string_bytes (sym f i) ∷ texts rest
 
--- its first word, and the words behind it
+-- its first word, and the words after it
 pub one_of : (words : List (String Global)) (a : String Global) → 1 ≤ length words → a ≡ get_or words 0 a
     → texts words ≡ string_bytes a ∷ texts (take (length words - 1) (drop 1 words))
 one_of [] a l e = absurd (omega arith)
@@ -277,34 +277,34 @@ place_next words rest fits two e =
 -- ---- where the options begin
 
 -- so many words come before the options
-before_count : (front back : List (List ℕ)) (options : Options) → IsTrue (list_all is_file_word front) → AreOptions back options
-    → prefix_len is_file_word (front ++ back) ≡ length front
+before_count : (prefix back : List (List ℕ)) (options : Options) → IsTrue (list_all is_file_word prefix) → AreOptions back options
+    → prefix_len is_file_word (prefix ++ back) ≡ length prefix
 before_count [] _ _ files no_option = refl
 before_count [] _ _ files (keep_id h) = refl
 before_count [] _ _ files (free word guid e h) = refl
-before_count (w ∷ front) back options files h =
-    let parts = both (is_file_word w) (list_all is_file_word front) files in
-    let more = before_count front back options parts.1 h in
-    let one_more : 1 + prefix_len is_file_word (front ++ back) ≡ length (w ∷ front) = omega (arith, more) in
-    ap (λ b. cond b (1 + prefix_len is_file_word (front ++ back)) 0) parts.0 ∙ one_more
+before_count (w ∷ prefix) back options files h =
+    let parts = both (is_file_word w) (list_all is_file_word prefix) files in
+    let more = before_count prefix back options parts.1 h in
+    let one_more : 1 + prefix_len is_file_word (prefix ++ back) ≡ length (w ∷ prefix) = omega (arith, more) in
+    ap (λ b. cond b (1 + prefix_len is_file_word (prefix ++ back)) 0) parts.0 ∙ one_more
 
--- those in front are the words before the options
-pub options_begin : (args : List (List ℕ)) (first : List ℕ) (words front back : List (List ℕ)) (options : Options) → args ≡ first ∷ words → words ≡ front ++ back
-    → IsTrue (list_all is_file_word front) → AreOptions back options
-    → (front ≡ before_options (words_after_output (codes "merge" ∷ args))) × (back ≡ from_options (words_after_output (codes "merge" ∷ args)))
-options_begin args first words front back options is split files h =
-    let cut = taken front back in
-    let count = before_count front back options files h in
-    let after : words_after_output (codes "merge" ∷ args) ≡ front ++ back = ap (λ w. words_after_output (codes "merge" ∷ w)) is ∙ split in (
-      sym (ap before_options after ∙ ap (λ n. take n (front ++ back)) count ∙ cut.0),
-      sym (ap from_options after ∙ ap (λ n. drop n (front ++ back)) count ∙ cut.1),
+-- those before are the words before the options
+pub options_begin : (args : List (List ℕ)) (first : List ℕ) (words prefix back : List (List ℕ)) (options : Options) → args ≡ first ∷ words → words ≡ prefix ++ back
+    → IsTrue (list_all is_file_word prefix) → AreOptions back options
+    → (prefix ≡ before_options (words_after_output (codes "merge" ∷ args))) × (back ≡ from_options (words_after_output (codes "merge" ∷ args)))
+options_begin args first words prefix back options is split files h =
+    let cut = taken prefix back in
+    let count = before_count prefix back options files h in
+    let after : words_after_output (codes "merge" ∷ args) ≡ prefix ++ back = ap (λ w. words_after_output (codes "merge" ∷ w)) is ∙ split in (
+      sym (ap before_options after ∙ ap (λ n. take n (prefix ++ back)) count ∙ cut.0),
+      sym (ap from_options after ∙ ap (λ n. drop n (prefix ++ back)) count ∙ cut.1),
     )
 
-pub options_pairs : (args : List (List ℕ)) (first : List ℕ) (rest : List (List ℕ)) (front back given : List (String Global)) (options : Options)
-    → args ≡ first ∷ rest → rest ≡ texts front ++ texts back → IsTrue (list_all is_file_word (texts front)) → AreOptions (texts back) options → given ≡ back
-    → (texts front ≡ before_options (words_after_output (codes "merge" ∷ args))) × (texts given ≡ from_options (words_after_output (codes "merge" ∷ args)))
-options_pairs args first rest front back given options is split files h same =
-    let begin = options_begin args first rest (texts front) (texts back) options is split files h in (begin.0, ap texts same ∙ begin.1)
+pub options_pairs : (args : List (List ℕ)) (first : List ℕ) (rest : List (List ℕ)) (prefix back given : List (String Global)) (options : Options)
+    → args ≡ first ∷ rest → rest ≡ texts prefix ++ texts back → IsTrue (list_all is_file_word (texts prefix)) → AreOptions (texts back) options → given ≡ back
+    → (texts prefix ≡ before_options (words_after_output (codes "merge" ∷ args))) × (texts given ≡ from_options (words_after_output (codes "merge" ∷ args)))
+options_pairs args first rest prefix back given options is split files h same =
+    let begin = options_begin args first rest (texts prefix) (texts back) options is split files h in (begin.0, ap texts same ∙ begin.1)
 
 -- ---- how many inputs words name
 
@@ -319,7 +319,7 @@ on_err (Ok x) p = tt
 on_err (Err e) p = p
 
 -- the words of a merge, by its parts
-pub merge_spelled : (args : List (List ℕ)) (first output : List ℕ) (rest : List (List ℕ)) (front back given : List (String Global))
-    → args ≡ first ∷ rest → rest ≡ texts front ++ texts back → output ≡ first → given ≡ back
-    → codes "merge" ∷ args ≡ codes "merge" ∷ output ∷ (texts front ++ texts given)
-merge_spelled args first output rest front back given whole split same words = rw (whole, split, same, words)
+pub merge_spelled : (args : List (List ℕ)) (first output : List ℕ) (rest : List (List ℕ)) (prefix back given : List (String Global))
+    → args ≡ first ∷ rest → rest ≡ texts prefix ++ texts back → output ≡ first → given ≡ back
+    → codes "merge" ∷ args ≡ codes "merge" ∷ output ∷ (texts prefix ++ texts given)
+merge_spelled args first output rest prefix back given whole split same words = rw (whole, split, same, words)

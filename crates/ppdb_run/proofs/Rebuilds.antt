@@ -3,13 +3,13 @@ use Rattle.std.proofs.Common.{ℕ, ◌≡◌, inl, List, sym, ◌∙◌, ap}
 use Rattle.std.specs.Prelude.{Option, Some, None, option_map, Result, Ok, Err, IfSome}
 use Rattle.ppdb_base.specs.Files.{Files}
 use Rattle.ppdb_base.specs.First.{IsAccepted}
-use Rattle.ppdb_canon.specs.Canon.{canon, chosen_id, with_id}
-use Rattle.ppdb_canon.specs.Limits.{first_limit}
+use Rattle.ppdb_build_canon.specs.Canon.{canon, chosen_id, with_id}
+use Rattle.ppdb_build_canon.specs.Limits.{first_limit}
 use Rattle.ppdb_values.specs.declared.file.FileValue.{FileValue}
 use Rattle.ppdb_values.specs.RawFile.{RawFile}
 use Rattle.ppdb_values.specs.Value.{value_of}
-use Rattle.ppdb_verify.specs.Files.{BadFile, IsRawOf}
-use Rattle.written_files.specs.Written.{Says, IsSameAgain}
+use Rattle.ppdb_verify.specs.Files.{FileFaults, IsRawOf}
+use Rattle.ppdb_build_written_laws.specs.Written.{Says, IsSameAgain}
 use Rattle.ppdb_run.specs.declared.stop.Stop.{Stop}
 use Rattle.ppdb_run.specs.Ends.{RebuildsToItself}
 use Rattle.ppdb_run.specs.Outcome.{choice_of, gives, input_of, limited, rebuilt, steps_of, unfit, unknown_kind, unless, verified, written}
@@ -52,7 +52,7 @@ unknown_as marks value other id e none = ap (unknown_kind marks) e ∙ none
 
 pub rebuilds : (options : Options) (value : FileValue) (bytes : List ℕ) → unknown_kind options.marks value ≡ None
     → bytes ≡ canon value (choice_of options.keep_id)
-    → IsAccepted (BadFile bytes) → Says bytes (with_id value (chosen_id value (choice_of options.keep_id)))
+    → IsAccepted (FileFaults bytes) → Says bytes (with_id value (chosen_id value (choice_of options.keep_id)))
     → ((again : RawFile) → IsRawOf bytes again → IsSameAgain value (choice_of options.keep_id) again) → RebuildsToItself options bytes
 rebuilds options value bytes none is accepted says same files name other read =
     inl (inl (says.raw, inl (bytes, sym (ap (input_of name) read), (accepted, says.is_raw)), sym whole))

@@ -11,14 +11,14 @@ use Rattle.ppdb_base.proofs.Least.{accepted_without_first}
 use Rattle.metadata_root.specs.declared.kind.StreamKind.{StreamKind}
 use Rattle.metadata_root.specs.declared.kind.StreamKind.TheVariants.{Pdb, Tables, Strings, UserStrings, Guids, Blobs}
 use Rattle.metadata_root.specs.Root.{header_place}
-use Rattle.metadata_root.specs.Streams.{AreStreamsOf, BadContainer, IsListed, IsStream, Stream, Streams, offset_in, size_in}
-use Rattle.metadata_root.specs.Streams.BadStreams.{bounds}
+use Rattle.metadata_root.specs.Streams.{AreStreamsOf, ContainerFaults, IsListed, IsStream, Stream, Streams, offset_in, size_in}
+use Rattle.metadata_root.specs.Streams.StreamFaults.{bounds}
 use Rattle.ppdb_values.specs.RawFile.{raw_in, RawFile}
-use Rattle.ppdb_verify.specs.Files.{BadFile}
+use Rattle.ppdb_verify.specs.Files.{FileFaults}
 use Rattle.ppdb_values.specs.Value.{value_of}
 use Rattle.ppdb_run.specs.Outcome.{Outcome, ◌>>=◌, IsOutcome, HasDue, absent, too_long, refused, usage, gives, input_of, answer_of, rebuilt}
 use Rattle.ppdb_run.specs.Outcome.{outcome_of, sampled, steps_of, verified}
-use Rattle.map_text.proofs.Judged.{texts_are_judged}
+use Rattle.ppdb_maps_text.proofs.Judged.{texts_are_judged}
 use Rattle.ppdb_verify.specs.Files.{IsRawOf}
 use Rattle.ppdb_merge.specs.declared.trace.Trace.{Trace}
 use Rattle.ppdb_merge.specs.Refusals.{added}
@@ -31,11 +31,11 @@ use Rattle.ppdb_run.proofs.MapSteps.{some_composed}
 abbrev Found : List ℕ → StreamKind → Option Stream → Type 0
 Found file kind stream = MatchOption stream (IsListed file kind → ⊥) (IsStream file kind)
 
-module _ (file : List ℕ) (accepted : IsAccepted (BadContainer file)) where
+module _ (file : List ℕ) (accepted : IsAccepted (ContainerFaults file)) where
   within : (kind : StreamKind) (listed : IsListed file kind) → offset_in file listed.0 + size_in file listed.0 ≤ length file
   within kind listed = elim (cases_lt (length file) (offset_in file listed.0 + size_in file listed.0)) [
     | inl past ↦ absurd (accepted StreamBounds (at_byte 2 (header_place file listed.0))
-        (inr (λ code at bad. accepted code at (inl bad), bounds listed.0 listed.1.counted past)))
+        (inr (λ code at invalid. accepted code at (inl invalid), bounds listed.0 listed.1.counted past)))
     | inr le ↦ le
   ]
 
@@ -70,9 +70,9 @@ module _ (file : List ℕ) (files : Files) (given : (raw : RawFile) → verified
   by_reading Longer is = refuses (too_long file) (inr (too_long file, sym (ap (input_of file) is), refl))
   by_reading (Contents bytes) is =
       let read = sym (ap (input_of file) is) in
-      let accepted : IsAccepted (BadFile bytes) = accepted_without_first (BadFile bytes) (λ fault first.
+      let accepted : IsAccepted (FileFaults bytes) = accepted_without_first (FileFaults bytes) (λ fault first.
       refuses (refused file fault) (inl (bytes, read, (fault, first, refl)))) in
-      some_streams bytes (λ code at bad. accepted code at (inl bad)) (λ streams are.
+      some_streams bytes (λ code at invalid. accepted code at (inl invalid)) (λ streams are.
       given (raw_in streams) (inl (bytes, read, (accepted, record { streams = streams; are = are; raw_is = refl }))))
 
 -- so a task over one file has an outcome
@@ -99,20 +99,20 @@ some_then {A = A} first next some then none = some by_first
     by_first (Ok x) h = then x (λ r k. none r (inl (x, h, k)))
     by_first (Err refusal) h = none (Err refusal) (inr (refusal, h, refl))
 
-some_judged : (name bytes : List ℕ) → GivesSome (judged name (BadFile bytes) (IsRawOf bytes))
+some_judged : (name bytes : List ℕ) → GivesSome (judged name (FileFaults bytes) (IsRawOf bytes))
 some_judged name bytes none =
-    let accepted : IsAccepted (BadFile bytes) = accepted_without_first (BadFile bytes) (λ fault first.
+    let accepted : IsAccepted (FileFaults bytes) = accepted_without_first (FileFaults bytes) (λ fault first.
     none (Err (refused name fault)) (fault, first, refl)) in
-    some_streams bytes (λ code at bad. accepted code at (inl bad)) (λ streams are.
+    some_streams bytes (λ code at invalid. accepted code at (inl invalid)) (λ streams are.
     none (Ok (raw_in streams)) (accepted, record { streams = streams; are = are; raw_is = refl }))
 
 some_text : (name text : List ℕ) → GivesSome (map_in name text)
 some_text name text none =
-    texts_are_judged text (λ m has. none (Ok m) has) (λ n kind bad. none (Err (no_map name n kind)) (n, kind, bad, refl))
+    texts_are_judged text (λ m has. none (Ok m) has) (λ n kind invalid. none (Err (no_map name n kind)) (n, kind, invalid, refl))
 
 some_texts : (marks : List (List ℕ)) (traces : List Trace) (input : Input) (bytes text : List ℕ) → GivesSome (with_texts marks traces input bytes text)
 some_texts marks traces input bytes text =
-    some_then (judged input.file (BadFile bytes) (IsRawOf bytes))
+    some_then (judged input.file (FileFaults bytes) (IsRawOf bytes))
     (λ raw. map_in input.map_file text >>= λ m. gives (fitting input.file (added marks traces m raw)))
     (some_judged input.file bytes)
     (λ raw. some_then (map_in input.map_file text) (λ m. gives (fitting input.file (added marks traces m raw))) (some_text input.map_file text)

@@ -8,7 +8,7 @@ use Rattle.ppdb_tables.specs.declared.rows.CustomRow.{CustomRow}
 use Rattle.ppdb_tables.specs.RawTables.{RawTables, row_at}
 use Rattle.ppdb_values.specs.declared.custom.CustomValue.{CustomValue}
 use Rattle.ppdb_values.specs.Customs.{custom_of, kind_in}
-use Rattle.ppdb_fits.specs.Clashes.{is_unknown}
+use Rattle.ppdb_merge_fits.specs.Clashes.{is_unknown}
 
 module _ (marks : List (List ℕ)) (raw : RawTables) where
   abbrev Test : ℕ × CustomValue → Bool

@@ -101,7 +101,7 @@ writes_file words task output old new writes h (Some other) asks keeps =
     let both : Some output ≡ None = sym writes ∙ same in
     absurd cc
 
--- what holds of a task and its outcome over told files holds of what the words ask for
+-- what holds of a task and its outcome over reported files holds of what the words ask for
 pub on_asked : (P : Option Task → Outcome → Type 0) (words : List (List ℕ)) (asked : Task) (files : Option Files) → OnTask asked files (P (Some asked))
     → Words asked words → (IsApart (Some asked) → ⊥) → OnAsked words files P
 on_asked P words asked files k h reads =

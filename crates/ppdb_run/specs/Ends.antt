@@ -4,7 +4,7 @@ use Rattle.ppdb_base.specs.Causes.{Rose, counted}
 use Rattle.ppdb_base.specs.declared.limits.TheConstants.{MAX_FILE_BYTES}
 use Rattle.ppdb_base.specs.Files.{Files, Contents, reading}
 use Rattle.ppdb_base.specs.First.{IsAccepted}
-use Rattle.ppdb_base.specs.Written.{appended, AppendsFront}
+use Rattle.ppdb_base.specs.Written.{appended, AppendsPrefix}
 use Rattle.ppdb_run.specs.declared.status.Status.{Status}
 use Rattle.ppdb_run.specs.declared.status.Status.TheVariants.{Done, WriteFault, Memory}
 use Rattle.ppdb_run.specs.Lines.{read_fault_line, write_fault_line}
@@ -13,7 +13,7 @@ use Rattle.ppdb_merge.specs.declared.trace.Trace.{Trace}
 use Rattle.ppdb_run.specs.Status.{UnlessFault}
 use Rattle.ppdb_run.specs.Words.{Question, Id, Verify, Query, Links, Breaks, Options, Task, Ask, Rebuild, Compose, Merge, Sample, Input, Words}
 use Rattle.ppdb_run.specs.Words.{NoTask, read_files, written_file}
-use Rattle.ppdb_run.specs.Writes.{WritesAll, WritesFront}
+use Rattle.ppdb_run.specs.Writes.{WritesAll, WritesPrefix}
 use Rattle.ppdb_maps.specs.Map.{Map}
 use Rattle.ppdb_maps.specs.Text.{IsMapOf}
 use Rattle.ppdb_show.specs.Bound.{query_rows}
@@ -23,7 +23,7 @@ use Rattle.ppdb_tables.specs.RawTables.{count}
 use Rattle.source_link.specs.FileLinks.{module_row}
 use Rattle.ppdb_values.specs.RawFile.{RawFile}
 use Rattle.ppdb_values.specs.Value.{value_of}
-use Rattle.ppdb_verify.specs.Files.{BadFile, IsRawOf}
+use Rattle.ppdb_verify.specs.Files.{FileFaults, IsRawOf}
 
 -- what the words ask for: a task, or nothing where no task has them
 abbrev pub Asks : List (List ℕ) → Option Task → Type 0
@@ -39,7 +39,7 @@ IsApart (Some (Compose first second output)) = ⊥
 IsApart (Some (Merge inputs output options)) = ⊥
 IsApart (Some (Sample n)) = Unit {0}
 
--- the files that an outcome is over: those that the folder tells; where it tells none, any, if the task has to do with no file
+-- the files that an outcome is over: those that the folder reports; where it reports none, any, if the task has to do with no file
 abbrev pub AreSeen : Option Task → Option Files → Files → Type 0
 AreSeen asked (Some told) all = told ≡ all
 AreSeen asked None all = IsApart asked
@@ -48,7 +48,7 @@ AreSeen asked None all = IsApart asked
 abbrev pub OnDue : Option Task → Files → (Outcome → Type 0) → Type 0
 OnDue asked all P = (due : Outcome) → IsOutcome asked all due → P due
 
--- P holds of the outcome of a task over the files, where the folder tells them
+-- P holds of the outcome of a task over the files, where the folder reports them
 pub record OnTask (task : Task) (files : Option Files) (P : Outcome → Type 0) : Type 0 where
   pub holds : IfSome files (λ all. OnDue (Some task) all P)
 
@@ -90,7 +90,7 @@ pub record IsUnreadOf (task : Task) (files : Option Files) (before after : ℕ) 
   pub next : after < 18446744073709551615 → after ≡ before + read
   pub comes : IfSome files (λ all. ComesToRead task all read)
 
--- this file of an input was to be read, after as many reads as before it: the file, or the map behind it
+-- this file of an input was to be read, after as many reads as before it: the file, or the map after it
 abbrev pub IsInputUnread : Option Files → Input → ℕ → ℕ → List ℕ → Type 0
 IsInputUnread files input before after name =
     ((name ≡ input.file) × (after ≡ before))
@@ -111,8 +111,8 @@ pub record IsUnwritten (words : List (List ℕ)) (name : List ℕ) : Type 0 wher
 -- the files after a run
 abbrev pub LeavesFiles : Status → Outcome → Option Files → Option Files → Type 0
 LeavesFiles Done due old new = WritesAll due.writes old new
-LeavesFiles WriteFault due old new = WritesFront due.writes old new
-LeavesFiles Memory due old new = WritesFront due.writes old new
+LeavesFiles WriteFault due old new = WritesPrefix due.writes old new
+LeavesFiles Memory due old new = WritesPrefix due.writes old new
 LeavesFiles status due old new = new ≡ old
 
 -- P holds, unless the file that the outcome writes may hold some of its bytes
@@ -150,12 +150,12 @@ pub data IsDue (words : List (List ℕ)) (files : Option Files) (due : Outcome) 
       → IsDue words files due before after ReadFailed WriteFailed (read_fault_line name)
   write_fault : (name : List ℕ) → IsUnwritten words name → WriteFailed → IsDue words files due before after ReadFailed WriteFailed (write_fault_line name)
 
--- the text that was put is a front of one that was due
-pub record PutsFront (words : List (List ℕ)) (files : Option Files) (due : Outcome) (before after : ℕ) (ReadFailed WriteFailed : Type 0)
+-- the text that was put is a prefix of one that was due
+pub record PutsPrefix (words : List (List ℕ)) (files : Option Files) (due : Outcome) (before after : ℕ) (ReadFailed WriteFailed : Type 0)
     (old new : Option (List ℕ)) : Type 0 where
   pub text : List ℕ
   pub is_due : IsDue words files due before after ReadFailed WriteFailed text
-  pub written : AppendsFront old new text
+  pub written : AppendsPrefix old new text
 
 -- a count of faults rose: of the reads, of the writes or of the sink
 abbrev pub HadFault : ℕ → ℕ → ℕ → ℕ → ℕ → ℕ → Type 0
@@ -166,7 +166,7 @@ HadFault reads reads_after writes writes_after puts puts_after = Rose reads read
 -- no rule is broken in what a task writes: a map's text has a map, and a debug file is accepted
 abbrev pub IsValid : Task → List ℕ → Type 0
 IsValid (Compose first second output) text = (m : Map) × IsMapOf text m
-IsValid task bytes = IsAccepted (BadFile bytes)
+IsValid task bytes = IsAccepted (FileFaults bytes)
 
 abbrev pub WritesValid : Option Task → Outcome → Type 0
 WritesValid None due = Unit {0}
@@ -213,7 +213,7 @@ IsWithinBound Links raw before after =
 IsWithinBound (Breaks document line) raw before after = after ≤ before + count raw.tables 0x30 + length raw.tables.methods
 IsWithinBound question raw before after = Unit {0}
 
--- P holds of the question and of what its file is read as, where the folder tells it and it is valid
+-- P holds of the question and of what its file is read as, where the folder reports it and it is valid
 abbrev pub OnRead : Task → Option Files → (Question → RawFile → Type 0) → Type 0
 OnRead (Ask question file) files P = IfSome files (λ all. (raw : RawFile) → verified all file (Ok raw) → P question raw)
 OnRead (Rebuild input output options) files P = Unit {0}

@@ -3,9 +3,9 @@ use Rattle.std.specs.Prelude.{ℕ, List, [], ◌∷◌, ◌==◌, if◌then◌el
 use Rattle.ppdb_base.specs.declared.fault.Place.{Place}
 use Rattle.ppdb_base.specs.declared.fault.Fault.{Fault}
 use Rattle.ppdb_base.specs.Prelude.{number_of}
-use Rattle.ppdb_lines.specs.Lines.{Content, Field, field, mark, number, table}
+use Rattle.ppdb_show_lines.specs.Lines.{Content, Field, field, mark, number, table}
 
--- words and what stands behind them. These lines are printed as text alone, so their fields have no keys
+-- words and what stands after them. These lines are printed as text alone, so their fields have no keys
 abbrev pub said : List ℕ → Content → Field
 said words content = field words [] content
 

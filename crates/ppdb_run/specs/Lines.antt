@@ -8,11 +8,11 @@ use Rattle.ppdb_base.specs.declared.limits.Limit.TheVariants.{TableRows, ListPas
 use Rattle.ppdb_base.specs.declared.link_error.LinkError.TheVariants as links
 use Rattle.ppdb_base.specs.declared.merge_error.MergeError.TheVariants.{Unmapped, ImageTwice, MethodTaken, OffsetBeyond, AsyncLost, KindUnknown}
 use Rattle.ppdb_base.specs.declared.merge_error.MergeError.TheVariants.{DocumentConflict, RowsDiffer, ImageRange, SlotUnmapped, SlotTwice, Memory}
-use Rattle.ppdb_lines.specs.Lines.{Content, Field, Line, mark, number, octets, table, guid, text_of}
-use Rattle.ppdb_lines.specs.Lines.{name as named_bytes}
-use Rattle.ppdb_lines.specs.Pieces.{line, numbered, signed, tabled}
+use Rattle.ppdb_show_lines.specs.Lines.{Content, Field, Line, mark, number, octets, table, guid, text_of}
+use Rattle.ppdb_show_lines.specs.Lines.{name as named_bytes}
+use Rattle.ppdb_show_lines.specs.Pieces.{line, numbered, signed, tabled}
 use Rattle.ppdb_run.specs.Faults.{said, place_fields, fault_fields}
-use Rattle.sampled_files.specs.declared.report.SampleReport.{SampleReport}
+use Rattle.ppdb_run_sample.specs.declared.report.SampleReport.{SampleReport}
 
 -- words, a name and more about it
 abbrev pub about : List ℕ → List ℕ → List Field → Line
@@ -88,7 +88,7 @@ sizes_line method first second =
 
 -- ---- the sample
 
--- words and what stands behind them
+-- words and what stands after them
 abbrev pub told_line : List ℕ → Content → Line
 told_line words content = record { word = words; fields = said (codes " ") content ∷ [] }
 

@@ -2,13 +2,13 @@
 use Rattle.std.specs.Prelude.{◌≡◌, ℕ, List, [], ◌∷◌, Option, Some, Ok, IfSome, map}
 use Rattle.ppdb_base.specs.Files.{Files}
 use Rattle.ppdb_base.specs.First.{IsAccepted}
-use Rattle.kept_meanings.specs.Kept.{MovedBy, KeepsMeaning}
-use Rattle.kept_meanings.specs.Origins.{KeepsOrigins}
+use Rattle.ppdb_merge_meaning_laws.specs.Kept.{MovedBy, KeepsMeaning}
+use Rattle.ppdb_merge_meaning_laws.specs.Origins.{KeepsOrigins}
 use Rattle.ppdb_values.specs.RawFile.{RawFile}
 use Rattle.ppdb_values.specs.Value.{value_of}
-use Rattle.ppdb_verify.specs.Files.{BadFile, IsRawOf}
-use Rattle.unmoved_files.specs.NoLines.{left_alone}
-use Rattle.written_meanings.specs.Inputs.{ReadInput, moved_by}
+use Rattle.ppdb_verify.specs.Files.{FileFaults, IsRawOf}
+use Rattle.ppdb_merge_unmoved_laws.specs.NoLines.{left_alone}
+use Rattle.ppdb_run_meaning_laws.specs.Inputs.{ReadInput, moved_by}
 use Rattle.ppdb_run.specs.Ends.{RebuildsToItself}
 use Rattle.ppdb_run.specs.Outcome.{Outcome, map_at, verified}
 use Rattle.ppdb_run.specs.Words.{Input, Options, Task, Rebuild, Merge}
@@ -31,7 +31,7 @@ pub record ExactlyMeans (task : Task) (options : Options) (files : Files) (bytes
   -- Each input is accepted, and each map's text has a map.
   pub read : (inputs : List MovedBy) × AreInputsOf task files inputs
   -- The written file is accepted.
-  pub accepted : IsAccepted (BadFile bytes)
+  pub accepted : IsAccepted (FileFaults bytes)
   -- It means at each kept offset's image what its input meant, by name and up to the map, and so does what is linked to a method.
   pub meaning : (inputs : List MovedBy) → AreInputsOf task files inputs → (raw : RawFile) → IsRawOf bytes raw → KeepsMeaning inputs (value_of raw)
   -- Its methods, its documents, its entry point and the records on rows and documents come from its inputs.
@@ -43,7 +43,7 @@ pub record ExactlyMeans (task : Task) (options : Options) (files : Files) (bytes
 abbrev pub WritesExactly : Task → List ℕ → Options → Files → Outcome → Type 0
 WritesExactly task output options files due = (bytes : List ℕ) × (due.writes ≡ Some (output, bytes)) × ExactlyMeans task options files bytes
 
--- where files are told, a task that writes a debug file writes what its inputs meant
+-- where files are reported, a task that writes a debug file writes what its inputs meant
 abbrev pub WritesMeaning : Option Files → Option Task → Outcome → Type 0
 WritesMeaning files (Some (Rebuild input output options)) due = IfSome files (λ all. WritesExactly (Rebuild input output options) output options all due)
 WritesMeaning files (Some (Merge inputs output options)) due = IfSome files (λ all. WritesExactly (Merge inputs output options) output options all due)

@@ -14,15 +14,15 @@ use Rattle.ppdb_base.specs.declared.limits.TheConstants.{MAX_FILE_BYTES}
 use Rattle.ppdb_base.specs.First.{IsAccepted, IsFirst}
 use Rattle.ppdb_run.specs.declared.status.Status.{Status}
 use Rattle.ppdb_run.specs.declared.status.Status.TheVariants as statuses
-use Rattle.ppdb_lines.specs.declared.form.Form.TheVariants.{Text}
-use Rattle.ppdb_lines.specs.Forms.{lines_as}
-use Rattle.ppdb_lines.specs.Heads.{id_line, entry_line}
-use Rattle.ppdb_lines.specs.Lines.{Line, text_of}
-use Rattle.ppdb_lines.specs.Pieces.{line}
+use Rattle.ppdb_show_lines.specs.declared.form.Form.TheVariants.{Text}
+use Rattle.ppdb_show_lines.specs.Forms.{lines_as}
+use Rattle.ppdb_show_lines.specs.Heads.{id_line, entry_line}
+use Rattle.ppdb_show_lines.specs.Lines.{Line, text_of}
+use Rattle.ppdb_show_lines.specs.Pieces.{line}
 use Rattle.ppdb_run.specs.Lines.{about, usage_line, refused_line, map_line, unfit_line, limit_text, map_limit_text}
 use Rattle.ppdb_run.specs.Lines.{no_method_line, links_line, sizes_line, sample_text}
 use Rattle.ppdb_run.specs.Words.{Question, Id, Verify, Show, Query, Links, Breaks, Options, Input, Task, Ask, Rebuild, Compose, Merge, Sample}
-use Rattle.ppdb_fits.specs.Clashes.{is_unknown}
+use Rattle.ppdb_merge_fits.specs.Clashes.{is_unknown}
 use Rattle.ppdb_merge.specs.declared.trace.Trace.{Trace}
 use Rattle.ppdb_merge.specs.Refusals.{added}
 use Rattle.ppdb_merge.specs.Together.{joined_of}
@@ -30,25 +30,25 @@ use Rattle.ppdb_base.specs.declared.merge_error.MergeError.TheVariants.{RowsDiff
 use Rattle.std.specs.Option.{unwrap_or}
 use Rattle.map_compose.specs.Composed.{composed}
 use Rattle.map_compose.specs.Sizes.{SizesAgree, IsFirstDiffering}
-use Rattle.map_text.specs.MapTexts.{map_text}
+use Rattle.ppdb_maps_text.specs.MapTexts.{map_text}
 use Rattle.ppdb_maps.specs.Map.{Map}
 use Rattle.ppdb_maps.specs.Text.{IsMapOf, Refused}
 use Rattle.ppdb_show.specs.Query.{query_text_of}
-use Rattle.sampled_files.specs.Sampled.{limit_of_sample, report_of}
+use Rattle.ppdb_run_sample.specs.Sampled.{limit_of_sample, report_of}
 use Rattle.source_link.specs.declared.pair.Pair.{Pair}
-use Rattle.source_lines.specs.Links.{file_links, link_text}
-use Rattle.source_lines.specs.Breaks.{break_text}
+use Rattle.ppdb_show_sources.specs.Links.{file_links, link_text}
+use Rattle.ppdb_show_sources.specs.Breaks.{break_text}
 use Rattle.break_lines.specs.Breaks.{document_named}
 use Rattle.ppdb_show.specs.Show.{show_text_of, show_json_of}
-use Rattle.ppdb_canon.specs.declared.choice.IdChoice.{IdChoice}
-use Rattle.ppdb_canon.specs.declared.choice.IdChoice.TheVariants.{Hash, Keep}
-use Rattle.ppdb_canon.specs.Canon.{canon}
-use Rattle.ppdb_canon.specs.Limits.{first_limit}
+use Rattle.ppdb_build_canon.specs.declared.choice.IdChoice.{IdChoice}
+use Rattle.ppdb_build_canon.specs.declared.choice.IdChoice.TheVariants.{Hash, Keep}
+use Rattle.ppdb_build_canon.specs.Canon.{canon}
+use Rattle.ppdb_build_canon.specs.Limits.{first_limit}
 use Rattle.ppdb_tables.specs.RawTables.{count, numbered, row_at}
 use Rattle.ppdb_values.specs.declared.file.FileValue.{FileValue}
 use Rattle.ppdb_values.specs.Value.{value_of}
 use Rattle.ppdb_values.specs.RawFile.{RawFile}
-use Rattle.ppdb_verify.specs.Files.{BadFile, IsRawOf}
+use Rattle.ppdb_verify.specs.Files.{FileFaults, IsRawOf}
 
 pub record Outcome : Type 0 where
   pub status : Status
@@ -129,14 +129,14 @@ file_at files name = gives (input_of name (reading files name MAX_FILE_BYTES))
 
 -- what a file says, where none of the rules is broken; else the file is refused with its first fault
 abbrev pub judged : {A : Type 0} → List ℕ → (Code → Place → Type 0) → (A → Type 0) → Step A
-judged name Bad Says (Ok x) = IsAccepted Bad × Says x
-judged name Bad Says (Err refusal) = (fault : Fault) × IsFirst Bad fault × (refusal ≡ refused name fault)
+judged name Faults Says (Ok x) = IsAccepted Faults × Says x
+judged name Faults Says (Err refusal) = (fault : Fault) × IsFirst Faults fault × (refusal ≡ refused name fault)
 
 -- what a file is read as, where no rule is broken; else it is refused with its first fault
 abbrev pub verified : Files → List ℕ → Step RawFile
 verified files file = do
   bytes ← file_at files file
-  judged file (BadFile bytes) (IsRawOf bytes)
+  judged file (FileFaults bytes) (IsRawOf bytes)
 
 -- the map that a text has; else its refused line, and the least number of a rule that this breaks
 abbrev pub map_in : List ℕ → List ℕ → Step Map
@@ -219,7 +219,7 @@ fitting name (Err error) = Err (unfit name error)
 -- an input by what was read of it: the file is verified, the map's text has a map, and the input fits those before it
 abbrev pub with_texts : List (List ℕ) → List Trace → Input → List ℕ → List ℕ → Step (List Trace)
 with_texts marks traces input bytes text = do
-  raw ← judged input.file (BadFile bytes) (IsRawOf bytes)
+  raw ← judged input.file (FileFaults bytes) (IsRawOf bytes)
   m ← map_in input.map_file text
   gives (fitting input.file (added marks traces m raw))
 

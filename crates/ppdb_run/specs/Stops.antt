@@ -6,7 +6,7 @@ use Rattle.ppdb_base.specs.declared.sink.WriteError.{WriteError}
 use Rattle.ppdb_base.specs.declared.sink.WriteError.TheVariants as write_errors
 use Rattle.ppdb_base.specs.Causes.{Rose}
 use Rattle.ppdb_base.specs.Files.{Files}
-use Rattle.ppdb_base.specs.Written.{appended, AppendsFront}
+use Rattle.ppdb_base.specs.Written.{appended, AppendsPrefix}
 use Rattle.ppdb_run.specs.declared.status.Status.{Status}
 use Rattle.ppdb_run.specs.declared.status.Status.TheVariants as statuses
 use Rattle.ppdb_run.specs.declared.stop.Stop.{Stop}
@@ -16,7 +16,7 @@ use Rattle.ppdb_run.specs.Lines.{read_fault_line, write_fault_line}
 use Rattle.ppdb_run.specs.Outcome.{Outcome, Step, IsOutcome, usage, absent, too_long, refused, no_map, unfit, limited, map_limited}
 use Rattle.ppdb_run.specs.Outcome.{no_method, unlinked, no_document, sizes_differ}
 use Rattle.ppdb_run.specs.Words.{Task}
-use Rattle.ppdb_run.specs.Writes.{WritesAll, WritesFront}
+use Rattle.ppdb_run.specs.Writes.{WritesAll, WritesPrefix}
 
 -- why a run stopped
 pub data Cause : Type 0 where
@@ -115,8 +115,8 @@ no_file name = ⊥
 
 -- the files where a command stopped that writes these bytes
 abbrev pub LeavesAt : Cause → Option (List ℕ × List ℕ) → Option Files → Option Files → Type 0
-LeavesAt (Unwritten name) writes old new = WritesFront writes old new
-LeavesAt OutOfMemory writes old new = WritesFront writes old new
+LeavesAt (Unwritten name) writes old new = WritesPrefix writes old new
+LeavesAt OutOfMemory writes old new = WritesPrefix writes old new
 LeavesAt cause writes old new = new ≡ old
 
 -- ---- what a step and a command come to
@@ -148,5 +148,5 @@ Leaves (Err stop) writes old new = LeavesAt (cause_of stop) writes old new
 -- a line says why a run stopped, and the status is that of the stop or of a failed put
 pub data Tells (cause : Cause) (status : Status) (before after : ℕ) (old new : Option (List ℕ)) : Type 0 where
   Told : status ≡ status_of cause → new ≡ appended old (line_of cause) → before ≤ after → Tells cause status before after old new
-  Failed : status ≡ statuses.WriteFault → Rose before after → AppendsFront old new (line_of cause) → Tells cause status before after old new
-  NoMemory : status ≡ statuses.Memory → AppendsFront old new (line_of cause) → before ≤ after → Tells cause status before after old new
+  Failed : status ≡ statuses.WriteFault → Rose before after → AppendsPrefix old new (line_of cause) → Tells cause status before after old new
+  NoMemory : status ≡ statuses.Memory → AppendsPrefix old new (line_of cause) → before ≤ after → Tells cause status before after old new

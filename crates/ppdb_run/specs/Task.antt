@@ -26,7 +26,7 @@ question_of (questions.Query method offset) = Query method offset
 question_of questions.Links = Links
 question_of (questions.Breaks document line) = Breaks document.now line
 
--- the words behind the first one, which is a GUID
+-- the words after the first one, which is a GUID
 abbrev pub IsBehindGuid : List (List ℕ) → List (List ℕ) → Type 0
 IsBehindGuid words rest = (word guid : List ℕ) × (words ≡ word ∷ rest) × (parsed word ≡ Some guid)
 
@@ -35,7 +35,7 @@ abbrev pub mark_of : Option (List ℕ) → List (List ℕ)
 mark_of (Some guid) = swap_fields guid ∷ []
 mark_of None = []
 
--- the GUIDs behind each --free among the words of options
+-- the GUIDs after each --free among the words of options
 abbrev pub marks_in : List (List ℕ) → List (List ℕ)
 marks_in [] = []
 marks_in (word ∷ []) = []

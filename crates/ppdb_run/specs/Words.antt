@@ -83,7 +83,7 @@ written_file (Sample n) = None
 abbrev pub IsFileAlone : List ℕ → List (List ℕ) → Type 0
 IsFileAlone file words = (words ≡ file ∷ []) × IsTrue (is_file_word file)
 
--- the words of options: any list of --keep-id and of --free with a GUID behind it
+-- the words of options: any list of --keep-id and of --free with a GUID after it
 pub data AreOptions : List (List ℕ) → Options → Type 0 where
   no_option : AreOptions [] (record { keep_id = false; marks = [] })
   keep_id : {words : List (List ℕ)} {options : Options} → AreOptions words options

@@ -1,7 +1,7 @@
 // The answers to questions about one file: what is read and verified, and what is put.
 ghost use Rattle.std.specs.Prelude.{◌≡◌, ◌≤◌, Some, None, OnOk, IfErr, IfSome};
 ghost use Rattle.ppdb_base.specs.Causes.{Rose};
-ghost use Rattle.ppdb_base.specs.Written.{appended, AppendsFront, Puts};
+ghost use Rattle.ppdb_base.specs.Written.{appended, AppendsPrefix, Puts};
 ghost use Rattle.ppdb_run.specs.Ends.{OnTask, IsWithinRows, IsWithinBound, ReadsNoRows};
 ghost use Rattle.ppdb_run.specs.Outcome.{IsOutcome, answer_of, id_text, outcome_of};
 ghost use Rattle.ppdb_run.specs.Stops.{cause_of, Settles, Finds, ComesFrom, no_file, OnCut, OnUntold};
@@ -14,8 +14,8 @@ use crate::sources::{answer_breaks, answer_links};
 use crate::stop::Stop;
 use crate::verified::read_verified;
 use ppdb_base::{Folder, List, Sink, Steps, WriteError};
-use ppdb_lines::{Form, Printer, put_entry_line, put_id_line};
 use ppdb_show::{QueryError, query_text, show_json, show_text};
+use ppdb_show_lines::{Form, Printer, put_entry_line, put_id_line};
 use ppdb_verify::Verified;
 use std::alloc::Global;
 use std::cell::Cell;
@@ -31,7 +31,7 @@ pub fn answer<'a, F: Folder, O: Sink, K: Ledger, L: Ledger>(
     checks: &mut Steps<K>,
     steps: &mut Steps<L>,
 ) -> Result<(), Stop<'a>>
-    // What it comes to over told files.
+    // What it comes to over reported files.
     ensures found { IfSome (F.files folder.old) (λ all. Finds result (IsOutcome (Some (Ask (question_of question.entry) file.now)) all)) }
     ensures told { OnTask (Ask (question_of question.entry) file.now) (F.files folder.old) (Settles result) }
     ensures text { OnTask (Ask (question_of question.entry) file.now) (F.files folder.old) (λ due. OnOk result (O.written out.new ≡ appended (O.written out.old) due.text)) }
@@ -49,7 +49,7 @@ pub fn answer<'a, F: Folder, O: Sink, K: Ledger, L: Ledger>(
         (Rose (O.faults out.old) (O.faults out.new))) }
     ensures silent { IfErr result (λ stop. OnUntold (cause_of stop) (O.written out.new ≡ O.written out.old)) }
     ensures cut { OnTask (Ask (question_of question.entry) file.now) (F.files folder.old)
-        (λ due. IfErr result (λ stop. OnCut (cause_of stop) (AppendsFront (O.written out.old) (O.written out.new) due.text))) }
+        (λ due. IfErr result (λ stop. OnCut (cause_of stop) (AppendsPrefix (O.written out.old) (O.written out.new) due.text))) }
     ensures later { O.faults out.old ≤ O.faults out.new }
 {
     let mut bytes = List::new(alloc);
@@ -74,7 +74,7 @@ fn put_answer<'a, O: Sink, L: Ledger>(
     ensures causes { IfErr result (λ stop. ComesFrom (cause_of stop) ⊥ no_file no_file None ⊥ ⊥ (Rose (O.faults out.old) (O.faults out.new))) }
     ensures silent { IfErr result (λ stop. OnUntold (cause_of stop) (O.written out.new ≡ O.written out.old)) }
     ensures cut { IfErr result (λ stop. OnCut (cause_of stop)
-        (AppendsFront (O.written out.old) (O.written out.new) (outcome_of (answer_of (question_of question.entry) name.now (raw_file file.now))).text)) }
+        (AppendsPrefix (O.written out.old) (O.written out.new) (outcome_of (answer_of (question_of question.entry) name.now (raw_file file.now))).text)) }
     ensures later { O.faults out.old ≤ O.faults out.new }
     ensures none { ReadsNoRows (question_of question.entry) → steps.new ≡ steps.old }
     ensures bound { IsWithinBound (question_of question.entry) (raw_file file.now) steps.old steps.new }

@@ -1,8 +1,8 @@
 // The commands over a folder and a sink.
 ghost use Rattle.std.specs.Prelude.{◌≡◌, ◌≤◌, ◌⊎◌, None, OnOk, IfErr, IsErrOf};
 ghost use Rattle.ppdb_base.specs.Causes.{Rose};
-ghost use Rattle.ppdb_base.specs.Written.{appended, AppendsFront};
-ghost use Rattle.ppdb_run.specs.Ends.{OnOutcome, HasOutcome, IsWithinRows, LeavesFiles, KeepsFiles, HadFault, PutsFront, IsUnread, IsUnwritten};
+ghost use Rattle.ppdb_base.specs.Written.{appended, AppendsPrefix};
+ghost use Rattle.ppdb_run.specs.Ends.{OnOutcome, HasOutcome, IsWithinRows, LeavesFiles, KeepsFiles, HadFault, PutsPrefix, IsUnread, IsUnwritten};
 ghost use Rattle.ppdb_run.specs.Ends.{TellsUnread, TellsUnwritten, UnlessWritten};
 ghost use Rattle.ppdb_run.specs.Ends.{OnAsked, WritesValid, WritesAgain};
 ghost use Rattle.ppdb_run.specs.Means.{WritesMeaning};
@@ -31,8 +31,8 @@ pub fn run<F: Folder, O: Sink, K: Ledger, L: Ledger>(
     checks: &mut Steps<K>,
     steps: &mut Steps<L>,
 ) -> Status
-    // Where nothing outside failed and memory was found, it ends with the outcome of the words over the files that the folder tells.
-    // Words that have to do with no file have an outcome also where none are told.
+    // Where nothing outside failed and memory was found, it ends with the outcome of the words over the files that the folder reports.
+    // Words that have to do with no file have an outcome also where none are reported.
     ensures outcome { HasOutcome (texts words.now) (F.files folder.old) result }
     ensures status { OnOutcome (texts words.now) (F.files folder.old) (λ due. UnlessFault result (result ≡ due.status)) }
     ensures text { OnOutcome (texts words.now) (F.files folder.old) (λ due. UnlessFault result (O.written out.new ≡ appended (O.written out.old) due.text)) }
@@ -49,8 +49,8 @@ pub fn run<F: Folder, O: Sink, K: Ledger, L: Ledger>(
     ensures write_fault { result ≡ Status.WriteFault → Rose (F.write_faults folder.old) (F.write_faults folder.new) ⊎ Rose (O.faults out.old) (O.faults out.new) }
     ensures unwritten { result ≡ Status.WriteFault → Rose (O.faults out.old) (O.faults out.new) ⊎ TellsUnwritten (texts words.now) (O.written out.old) (O.written out.new) }
 
-    // Whatever comes, what was put is a front of a text that was due.
-    ensures front { OnOutcome (texts words.now) (F.files folder.old) (λ due. PutsFront (texts words.now) (F.files folder.old) due (F.reads folder.old) (F.reads folder.new)
+    // Whatever comes, what was put is a prefix of a text that was due.
+    ensures prefix { OnOutcome (texts words.now) (F.files folder.old) (λ due. PutsPrefix (texts words.now) (F.files folder.old) due (F.reads folder.old) (F.reads folder.new)
         (Rose (F.read_faults folder.old) (F.read_faults folder.new)) (Rose (F.write_faults folder.old) (F.write_faults folder.new)) (O.written out.old)
         (O.written out.new)) }
 
@@ -65,7 +65,7 @@ pub fn run<F: Folder, O: Sink, K: Ledger, L: Ledger>(
     ensures kept { UnlessWritten result (F.files folder.new ≡ F.files folder.old) }
     ensures read_only { KeepsFiles (texts words.now) (F.files folder.old) (F.files folder.new) }
 
-    // Whether or not files are told.
+    // Whether or not files are reported.
     ensures usage { result ≡ Status.Usage → NoTask (texts words.now) }
     ensures untold { F.files folder.old ≡ None → (result ≡ Status.Absent) ⊎ (result ≡ Status.TooLong) → Rose (F.read_faults folder.old) (F.read_faults folder.new) }
 
@@ -120,7 +120,7 @@ fn carry_out<'a, F: Folder, O: Sink, K: Ledger, L: Ledger>(
     ensures no_task { NoTask (texts words.now) → IsErrOf result Stop.Usage }
     ensures silent { IfErr result (λ stop. OnUntold (cause_of stop) (O.written out.new ≡ O.written out.old)) }
     ensures cut { OnOutcome (texts words.now) (F.files folder.old)
-        (λ due. IfErr result (λ stop. OnCut (cause_of stop) (AppendsFront (O.written out.old) (O.written out.new) due.text))) }
+        (λ due. IfErr result (λ stop. OnCut (cause_of stop) (AppendsPrefix (O.written out.old) (O.written out.new) due.text))) }
     ensures kept { IfErr result (λ stop. OnKept (cause_of stop) (F.files folder.new ≡ F.files folder.old)) }
     ensures read_only { KeepsFiles (texts words.now) (F.files folder.old) (F.files folder.new) }
     ensures later { O.faults out.old ≤ O.faults out.new }

@@ -24,7 +24,7 @@ pub fn compose<'a, F: Folder>(
     output: &'a str,
     folder: &mut F,
 ) -> Result<(), Stop<'a>>
-    // What it comes to over told files.
+    // What it comes to over reported files.
     ensures found { IfSome (F.files folder.old) (λ all. Finds result (IsOutcome (Some (Compose first.now second.now output.now)) all)) }
     ensures told { OnTask (Compose first.now second.now output.now) (F.files folder.old) (Settles result) }
     ensures silent { OnTask (Compose first.now second.now output.now) (F.files folder.old) (λ due. OnOk result (due.text ≡ [])) }

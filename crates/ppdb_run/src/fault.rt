@@ -1,14 +1,14 @@
 // The line of a file that breaks a rule, and where.
 ghost use Rattle.std.specs.Prelude.{◌≡◌};
 ghost use Rattle.ppdb_base.specs.Written.{Puts};
-ghost use Rattle.ppdb_lines.specs.Lines.{text_of};
+ghost use Rattle.ppdb_show_lines.specs.Lines.{text_of};
 ghost use Rattle.ppdb_run.specs.Faults.{part_text};
 ghost use Rattle.ppdb_run.specs.Lines.{refused_line};
 
 use ppdb_base::{Fault, Sink, WriteError};
-use ppdb_lines::Item::{Name, Number, Table};
-use ppdb_lines::Part::{Field, Mark};
-use ppdb_lines::{Key, put_text_line};
+use ppdb_show_lines::Item::{Name, Number, Table};
+use ppdb_show_lines::Part::{Field, Mark};
+use ppdb_show_lines::{Key, put_text_line};
 
 /// The number of the part that has the rows of the tables.
 pub const ROWS: u8 = 5;

@@ -1,6 +1,6 @@
 // What a command takes in for the key under which it hashes items. No clause speaks of it: the file is the same under each key.
-use heap_items::KeyMaker;
 use ppdb_base::Bytes;
+use ppdb_build_heaps::KeyMaker;
 
 /// The maker takes in the bytes.
 pub fn take_in(maker: &mut KeyMaker, bytes: &Bytes) {

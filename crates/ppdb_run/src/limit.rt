@@ -1,10 +1,10 @@
 // The lines of limits.
 ghost use Rattle.ppdb_base.specs.Written.{Puts};
-ghost use Rattle.ppdb_lines.specs.Pieces.{line, numbered, signed};
+ghost use Rattle.ppdb_show_lines.specs.Pieces.{line, numbered, signed};
 ghost use Rattle.ppdb_run.specs.Lines.{limit_text};
 
 use ppdb_base::{Limit, Sink, WriteError};
-use ppdb_lines::{put_numbered, put_numbered64, put_signed, put_tabled};
+use ppdb_show_lines::{put_numbered, put_numbered64, put_signed, put_tabled};
 
 /// Puts the line of a limit that would be passed.
 pub fn put_limit<O: Sink>(out: &mut O, limit: Limit) -> Result<(), WriteError>

@@ -9,9 +9,9 @@ ghost use Rattle.ppdb_run.specs.Outcome.{IsOutcome, all_joined, gives, in_limits
 ghost use Rattle.ppdb_run.specs.Stops.{cause_of, Settles, Finds, Gives, Leaves, ComesFrom, OnKept, no_file};
 ghost use Rattle.ppdb_run.specs.Task.{inputs_of, options_of};
 ghost use Rattle.ppdb_run.specs.Words.{Merge};
-ghost use Rattle.ppdb_verify.specs.Files.{BadFile};
-ghost use Rattle.sound_values.specs.Sound.{IsSound};
-ghost use Rattle.written_meanings.specs.Laws.{SaysButForId};
+ghost use Rattle.ppdb_verify.specs.Files.{FileFaults};
+ghost use Rattle.ppdb_values_sound_laws.specs.Sound.{IsSound};
+ghost use Rattle.ppdb_run_meaning_laws.specs.Laws.{SaysButForId};
 
 use crate::inputs::Inputs;
 use crate::merged::merged;
@@ -19,13 +19,15 @@ use crate::options::Options;
 use crate::output::write_output;
 use crate::rebuild::choice;
 use crate::stop::Stop;
-use heap_items::{ItemKey, KeyMaker};
 use ppdb_base::{Bytes, Folder, MergeError, Steps};
 use ppdb_build::{BuildError, FileValue, write_file_under};
+use ppdb_build_heaps::{ItemKey, KeyMaker};
 use ppdb_merge::Merger;
+use ppdb_run_meaning_laws::{
+    joined_files_keep_inputs, joined_kinds_are_known, read_inputs_are_valid,
+};
 use std::alloc::Global;
 use std::sync::ledger::Ledger;
-use written_meanings::{joined_files_keep_inputs, joined_kinds_are_known, read_inputs_are_valid};
 
 /// Writes the canonical file of inputs, each moved by its map, joined.
 pub fn merge<'a, F: Folder, K: Ledger, L: Ledger>(
@@ -40,7 +42,7 @@ pub fn merge<'a, F: Folder, K: Ledger, L: Ledger>(
     requires some { 1 ≤ length (inputs_of inputs) }
     requires most { length (inputs_of inputs) ≤ 256 }
 
-    // What it comes to over told files.
+    // What it comes to over reported files.
     ensures found { IfSome (F.files folder.old) (λ all. Finds result (IsOutcome (Some (Merge (inputs_of inputs.entry) output.now (options_of options.entry))) all)) }
     ensures told { OnTask (Merge (inputs_of inputs.entry) output.now (options_of options.entry)) (F.files folder.old) (Settles result) }
     ensures silent { OnTask (Merge (inputs_of inputs.entry) output.now (options_of options.entry)) (F.files folder.old) (λ due. OnOk result (due.text ≡ [])) }
@@ -85,7 +87,7 @@ fn merged_bytes<'a, F: Folder, K: Ledger, L: Ledger>(
     requires most { length (inputs_of inputs) ≤ 256 }
     ensures told { (output : List ℕ) → IfSome (F.files folder.old)
         (λ all. Gives (written output) result (steps_of (Merge (inputs_of inputs.entry) output (options_of options.entry)) all)) }
-    ensures accepted { IfOk result (λ bytes. IsAccepted (BadFile bytes)) }
+    ensures accepted { IfOk result (λ bytes. IsAccepted (FileFaults bytes)) }
     ensures means { (output : List ℕ) → IfOk result (λ bytes. IfSome (F.files folder.old)
         (λ all. ExactlyMeans (Merge (inputs_of inputs.entry) output (options_of options.entry)) (options_of options.entry) all bytes)) }
     ensures files { F.files folder.new ≡ F.files folder.old }
@@ -129,7 +131,7 @@ fn joined<'a>(inputs: Inputs<'a>, merger: Merger) -> Result<FileValue, Stop<'a>>
     }
 }
 
-/// The number of the input that is told, from 1, and else 0.
+/// The number of the input that is reported, from 1, and else 0.
 fn input_of(error: MergeError) -> u32
     ensures { result ≡ input_in error }
 {
@@ -149,7 +151,7 @@ fn value_bytes<'a>(
     requires { IsSound value.now }
     ensures told { (output : List ℕ) (marks : List (List ℕ)) →
         Gives (written output) result (gives (in_limits output (record { keep_id = keep_id; marks = marks }) value.now)) }
-    ensures accepted { IfOk result (λ bytes. IsAccepted (BadFile bytes)) }
+    ensures accepted { IfOk result (λ bytes. IsAccepted (FileFaults bytes)) }
     ensures says { IfOk result (λ bytes. SaysButForId bytes value.now) }
     ensures again { (output : List ℕ) (marks : List (List ℕ)) →
         IfOk result (λ bytes. RebuildsWhereKnown (record { keep_id = keep_id; marks = marks }) (output, bytes)) }

@@ -73,7 +73,7 @@ pub(crate) fn read_options(words: &[String]) -> Result<Options<'_>, Usage>
     Ok(Options { keep_id, words })
 }
 
-/// The words behind the first one, which is a GUID.
+/// The words after the first one, which is a GUID.
 fn behind_guid(words: &[String]) -> Option<&[String]>
     ensures guid { IfSome result (λ rest. IsBehindGuid (texts words.now) (texts rest.now)) }
     ensures fewer { IfSome result (λ rest. length rest.now < length words.now) }

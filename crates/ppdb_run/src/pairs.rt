@@ -6,18 +6,18 @@ ghost use Rattle.ppdb_run.specs.Words.{input_words, is_file_word, texts};
 
 use crate::words::names_file;
 
-/// The words in front that name files, two by two, and the words behind them.
+/// The words before that name files, two by two, and the words after them.
 pub fn split_pairs(words: &[String]) -> (&[String], &[String])
     ensures whole { texts words.now ≡ texts result.0.now ++ texts result.1.now }
     ensures even { texts result.0.now ≡ input_words (pairs_of (texts result.0.now)) }
     ensures files { IsTrue (list_all is_file_word (texts result.0.now)) }
     ensures behind { NoPair (texts result.1.now) }
 {
-    words.split_at(pairs_in_front(words))
+    words.split_at(pairs_in_prefix(words))
 }
 
 /// How many words those are.
-fn pairs_in_front(words: &[String]) -> usize
+fn pairs_in_prefix(words: &[String]) -> usize
     ensures within { result ≤ length words.now }
     ensures even { take result (texts words.now) ≡ input_words (pairs_of (take result (texts words.now))) }
     ensures files { IsTrue (list_all is_file_word (take result (texts words.now))) }

@@ -2,7 +2,7 @@
 ghost use Rattle.std.specs.Prelude.{◌≡◌, ◌≤◌, ℕ, List, [], Some, None, IfOk, OnOk, IfErr, IfSome};
 ghost use Rattle.ppdb_base.specs.Causes.{Rose};
 ghost use Rattle.ppdb_base.specs.First.{IsAccepted};
-ghost use Rattle.ppdb_fits.specs.Clashes.{is_unknown as neither_read_nor_free};
+ghost use Rattle.ppdb_merge_fits.specs.Clashes.{is_unknown as neither_read_nor_free};
 ghost use Rattle.ppdb_run.specs.Ends.{OnTask, RebuildsToItself, WritesAgain, WritesValid};
 ghost use Rattle.ppdb_run.specs.Means.{ExactlyMeans, WritesMeaning};
 ghost use Rattle.ppdb_run.specs.Outcome.{IsOutcome, choice_of, gives, rebuilt, steps_of, unknown_kind, written};
@@ -10,23 +10,23 @@ ghost use Rattle.ppdb_run.specs.Stops.{cause_of, Settles, Finds, Gives, Leaves, 
 ghost use Rattle.ppdb_run.specs.Task.{options_of};
 ghost use Rattle.ppdb_run.specs.Words.{Rebuild};
 ghost use Rattle.ppdb_values.specs.Value.{value_of};
-ghost use Rattle.ppdb_verify.specs.Files.{BadFile};
+ghost use Rattle.ppdb_verify.specs.Files.{FileFaults};
 ghost use Rattle.ppdb_verify.specs.Views.{raw_file};
-ghost use Rattle.written_meanings.specs.Laws.{SaysButForId};
+ghost use Rattle.ppdb_run_meaning_laws.specs.Laws.{SaysButForId};
 
 use crate::options::Options;
 use crate::output::write_output;
 use crate::stop::Stop;
 use crate::verified::read_verified;
 use custom_info::{Kind, Marks, kind_of};
-use heap_items::{ItemKey, KeyMaker};
 use ppdb_base::{Bytes, Folder, List, MergeError, Steps};
 use ppdb_build::{BuildError, IdChoice};
+use ppdb_build_heaps::{ItemKey, KeyMaker};
+use ppdb_run_meaning_laws::rebuilt_files_keep_themselves;
 use ppdb_verify::Verified;
+use ppdb_verify_rows::{count, custom, guid_of_kind};
 use std::alloc::Global;
 use std::sync::ledger::Ledger;
-use verified_rows::{count, custom, guid_of_kind};
-use written_meanings::rebuilt_files_keep_themselves;
 
 /// Writes the canonical file of a file.
 pub fn rebuild<'a, F: Folder, K: Ledger, L: Ledger>(
@@ -38,7 +38,7 @@ pub fn rebuild<'a, F: Folder, K: Ledger, L: Ledger>(
     checks: &mut Steps<K>,
     steps: &mut Steps<L>,
 ) -> Result<(), Stop<'a>>
-    // What it comes to over told files.
+    // What it comes to over reported files.
     ensures found { IfSome (F.files folder.old) (λ all. Finds result (IsOutcome (Some (Rebuild input.now output.now (options_of options.entry))) all)) }
     ensures told { OnTask (Rebuild input.now output.now (options_of options.entry)) (F.files folder.old) (Settles result) }
     ensures silent { OnTask (Rebuild input.now output.now (options_of options.entry)) (F.files folder.old) (λ due. OnOk result (due.text ≡ [])) }
@@ -81,7 +81,7 @@ fn rebuilt_bytes<'a, F: Folder, K: Ledger, L: Ledger>(
 ) -> Result<Bytes, Stop<'a>>
     ensures told { (output : List ℕ) → IfSome (F.files folder.old)
         (λ all. Gives (written output) result (steps_of (Rebuild input.now output (options_of options.entry)) all)) }
-    ensures accepted { IfOk result (λ bytes. IsAccepted (BadFile bytes)) }
+    ensures accepted { IfOk result (λ bytes. IsAccepted (FileFaults bytes)) }
     ensures again { IfOk result (RebuildsToItself (options_of options.entry)) }
     ensures means { (output : List ℕ) → IfOk result (λ bytes. IfSome (F.files folder.old)
         (λ all. ExactlyMeans (Rebuild input.now output (options_of options.entry)) (options_of options.entry) all bytes)) }
@@ -128,7 +128,7 @@ fn file_bytes<'a, L: Ledger>(
 ) -> Result<Bytes, Stop<'a>>
     ensures told { (output : List ℕ) → Gives (written output) result
         (gives (rebuilt name.now output (record { keep_id = keep_id; marks = marks.now }) (value_of (raw_file file.now)))) }
-    ensures accepted { IfOk result (λ bytes. IsAccepted (BadFile bytes)) }
+    ensures accepted { IfOk result (λ bytes. IsAccepted (FileFaults bytes)) }
     ensures says { IfOk result (λ bytes. SaysButForId bytes (value_of (raw_file file.now))) }
     ensures again { IfOk result (RebuildsToItself (record { keep_id = keep_id; marks = marks.now })) }
     ensures causes { IfErr result (λ stop. ComesFrom (cause_of stop) ⊥ no_file no_file None ⊥ ⊥ ⊥) }

@@ -1,19 +1,19 @@
 // The command `sample`: what the sample file of so many methods comes to.
 ghost use Rattle.std.specs.Prelude.{◌≡◌, ◌≤◌, None, OnOk, IfErr};
 ghost use Rattle.ppdb_base.specs.Causes.{Rose};
-ghost use Rattle.ppdb_base.specs.Written.{appended, AppendsFront, Puts};
-ghost use Rattle.ppdb_lines.specs.Lines.{text_of};
-ghost use Rattle.ppdb_lines.specs.Views.{content_of};
+ghost use Rattle.ppdb_base.specs.Written.{appended, AppendsPrefix, Puts};
+ghost use Rattle.ppdb_show_lines.specs.Lines.{text_of};
+ghost use Rattle.ppdb_show_lines.specs.Views.{content_of};
 ghost use Rattle.ppdb_run.specs.Lines.{sample_text, told_line};
 ghost use Rattle.ppdb_run.specs.Outcome.{outcome_of, sampled};
 ghost use Rattle.ppdb_run.specs.Stops.{cause_of, Settles, ComesFrom, no_file, OnCut, OnUntold};
 
 use crate::stop::Stop;
 use ppdb_base::{Sink, Steps, WriteError};
-use ppdb_lines::Item::{Number, Octets};
-use ppdb_lines::Part::Field;
-use ppdb_lines::{Item, Key, put_text_line};
-use sampled_files::{BuildError, SampleReport, sampled};
+use ppdb_run_sample::{BuildError, SampleReport, sampled};
+use ppdb_show_lines::Item::{Number, Octets};
+use ppdb_show_lines::Part::Field;
+use ppdb_show_lines::{Item, Key, put_text_line};
 use std::alloc::Global;
 use std::sync::ledger::Ledger;
 
@@ -33,7 +33,7 @@ pub fn sample<'a, O: Sink, K: Ledger, L: Ledger>(
     // What a stop comes from, and what it leaves.
     ensures causes { IfErr result (λ stop. ComesFrom (cause_of stop) ⊥ no_file no_file None ⊥ ⊥ (Rose (O.faults out.old) (O.faults out.new))) }
     ensures silent { IfErr result (λ stop. OnUntold (cause_of stop) (O.written out.new ≡ O.written out.old)) }
-    ensures cut { IfErr result (λ stop. OnCut (cause_of stop) (AppendsFront (O.written out.old) (O.written out.new) (outcome_of (sampled methods)).text)) }
+    ensures cut { IfErr result (λ stop. OnCut (cause_of stop) (AppendsPrefix (O.written out.old) (O.written out.new) (outcome_of (sampled methods)).text)) }
     ensures later { O.faults out.old ≤ O.faults out.new }
 {
     match sampled(alloc, methods, checks, steps) {
@@ -56,7 +56,7 @@ fn put_report<O: Sink>(out: &mut O, methods: u32, report: &SampleReport) -> Resu
     put_told(out, "remapped id", Octets(&report.remapped_id))
 }
 
-/// Puts a line of words and of what stands behind them.
+/// Puts a line of words and of what stands after them.
 fn put_told<O: Sink>(out: &mut O, words: &str, item: Item<'_>) -> Result<(), WriteError>
     ensures { Puts result (O.written out.old) (O.written out.new) (O.faults out.old) (O.faults out.new) (text_of (told_line words.now (content_of item.entry))) }
 {

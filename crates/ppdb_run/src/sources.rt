@@ -1,7 +1,7 @@
 // The answers of where the sources of a file are, and where a debugger may stop.
 ghost use Rattle.std.specs.Prelude.{◌≡◌, ◌≤◌, [], None, OnOk, IfErr};
 ghost use Rattle.ppdb_base.specs.Causes.{Rose};
-ghost use Rattle.ppdb_base.specs.Written.{appended, AppendsFront};
+ghost use Rattle.ppdb_base.specs.Written.{appended, AppendsPrefix};
 ghost use Rattle.ppdb_run.specs.Ends.{IsWithinBound};
 ghost use Rattle.ppdb_run.specs.Outcome.{answer_of, outcome_of};
 ghost use Rattle.ppdb_run.specs.Stops.{cause_of, Settles, ComesFrom, no_file, OnCut, OnUntold};
@@ -11,8 +11,8 @@ ghost use Rattle.ppdb_verify.specs.Views.{raw_file};
 use crate::stop::Stop;
 use break_lines::{breaks_at, document_named};
 use ppdb_base::{Sink, Steps};
+use ppdb_show_sources::{file_links, put_breaks, put_links};
 use ppdb_verify::Verified;
-use source_lines::{file_links, put_breaks, put_links};
 use std::alloc::Global;
 use std::sync::ledger::Ledger;
 
@@ -29,7 +29,7 @@ pub fn answer_links<'a, O: Sink, L: Ledger>(
     ensures causes { IfErr result (λ stop. ComesFrom (cause_of stop) ⊥ no_file no_file None ⊥ ⊥ (Rose (O.faults out.old) (O.faults out.new))) }
     ensures silent { IfErr result (λ stop. OnUntold (cause_of stop) (O.written out.new ≡ O.written out.old)) }
     ensures cut { IfErr result (λ stop. OnCut (cause_of stop)
-        (AppendsFront (O.written out.old) (O.written out.new) (outcome_of (answer_of Links name.now (raw_file file.now))).text)) }
+        (AppendsPrefix (O.written out.old) (O.written out.new) (outcome_of (answer_of Links name.now (raw_file file.now))).text)) }
     ensures later { O.faults out.old ≤ O.faults out.new }
     ensures bound { IsWithinBound Links (raw_file file.now) steps.old steps.new }
 {
@@ -55,7 +55,7 @@ pub fn answer_breaks<'a, O: Sink, L: Ledger>(
     ensures causes { IfErr result (λ stop. ComesFrom (cause_of stop) ⊥ no_file no_file None ⊥ ⊥ (Rose (O.faults out.old) (O.faults out.new))) }
     ensures silent { IfErr result (λ stop. OnUntold (cause_of stop) (O.written out.new ≡ O.written out.old)) }
     ensures cut { IfErr result (λ stop. OnCut (cause_of stop)
-        (AppendsFront (O.written out.old) (O.written out.new) (outcome_of (answer_of (Breaks document.now line) [] (raw_file file.now))).text)) }
+        (AppendsPrefix (O.written out.old) (O.written out.new) (outcome_of (answer_of (Breaks document.now line) [] (raw_file file.now))).text)) }
     ensures later { O.faults out.old ≤ O.faults out.new }
     ensures bound { IsWithinBound (Breaks document.now line) (raw_file file.now) steps.old steps.new }
 {

@@ -1,7 +1,7 @@
 // What ends a run before its answer, and the line that says so.
 ghost use Rattle.std.specs.Prelude.{◌≡◌, []};
 ghost use Rattle.ppdb_base.specs.Written.{Puts};
-ghost use Rattle.ppdb_lines.specs.Lines.{text_of};
+ghost use Rattle.ppdb_show_lines.specs.Lines.{text_of};
 ghost use Rattle.ppdb_run.specs.declared.stop.Stop.TheVariants as stops;
 ghost use Rattle.ppdb_run.specs.Lines.{about, links_line, map_line, no_method_line, sizes_line};
 ghost use Rattle.ppdb_run.specs.Stops.{cause_of, line_of, status_of, stop_of};
@@ -11,9 +11,9 @@ use crate::limit::{put_limit, put_number_line};
 use crate::status::Status;
 use crate::unfit::put_unfit;
 use ppdb_base::{Fault, Limit, LinkError, Memory, MergeError, Sink, WriteError};
-use ppdb_lines::Item::{Name, Number};
-use ppdb_lines::Part::{Field, Mark};
-use ppdb_lines::{Key, put_text_line};
+use ppdb_show_lines::Item::{Name, Number};
+use ppdb_show_lines::Part::{Field, Mark};
+use ppdb_show_lines::{Key, put_text_line};
 
 /// What ends a run before its answer. A name is that of the file that it comes from.
 #[derive(Clone, Copy)]

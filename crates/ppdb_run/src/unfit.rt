@@ -1,14 +1,14 @@
 // The lines of inputs that are not joined.
 ghost use Rattle.ppdb_base.specs.declared.merge_error.MergeError.TheVariants as merge_errors;
 ghost use Rattle.ppdb_base.specs.Written.{Puts};
-ghost use Rattle.ppdb_lines.specs.Lines.{text_of};
+ghost use Rattle.ppdb_show_lines.specs.Lines.{text_of};
 ghost use Rattle.ppdb_run.specs.Lines.{unfit_line};
 
 use crate::fault::{ROWS, part_name};
 use ppdb_base::{MergeError, Place, Sink, WriteError};
-use ppdb_lines::Item::{Guid, Name, Number, Table};
-use ppdb_lines::Part::{Field, Mark};
-use ppdb_lines::{Key, put_text_line};
+use ppdb_show_lines::Item::{Guid, Name, Number, Table};
+use ppdb_show_lines::Part::{Field, Mark};
+use ppdb_show_lines::{Key, put_text_line};
 
 /// Puts the line of an input that is not joined.
 pub fn put_unfit<O: Sink>(out: &mut O, file: &str, error: MergeError) -> Result<(), WriteError>

@@ -1,4 +1,4 @@
--- Lines put behind a text, one after the other.
+-- Lines put after a text, one after the other.
 use Rattle.std.proofs.Common.{◌≡◌, ℕ, ◌+◌, ◌≤◌, List, [], ◌∷◌, ◌++◌, refl, sym, ◌∙◌, ap, arith, append_assoc, zero-add, map, length, false}
 use Rattle.std.specs.Prelude.{Option, Some, Result, Ok, Err, OnOk, unwrap_or}
 use Rattle.std.specs.List.{flat_map, sum_by}
@@ -9,8 +9,8 @@ use Rattle.std.proofs.lemmas.List.Sums.{sum_by-append}
 use Rattle.ppdb_base.specs.Written.{appended}
 use Rattle.type_blobs.specs.Imports.{ImportItem}
 use Rattle.ppdb_values.specs.Imports.{import_value}
-use Rattle.ppdb_lines.specs.Uses.{use_line}
-use Rattle.ppdb_lines.specs.Lines.{Line, text_of}
+use Rattle.ppdb_show_lines.specs.Uses.{use_line}
+use Rattle.ppdb_show_lines.specs.Lines.{Line, text_of}
 use Rattle.ppdb_show.specs.QueryWalk.{Adds, Walked, lines_text}
 
 pub no_lines : lines_text [] ≡ []

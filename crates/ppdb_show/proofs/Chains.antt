@@ -8,7 +8,7 @@ use Rattle.ppdb_values.specs.Chains.{chain_for, link_and}
 use Rattle.ppdb_values.specs.Rules.{HasRow}
 use Rattle.ppdb_queries.specs.declared.imports.ImportLink.{ImportLink}
 use Rattle.ppdb_queries.specs.Chains.{link_of, links_from}
-use Rattle.ppdb_lines.specs.Lines.{Line}
+use Rattle.ppdb_show_lines.specs.Lines.{Line}
 use Rattle.ppdb_show.specs.Query.{import_answer}
 use Rattle.ppdb_show.specs.QueryWalk.{lines_of_link, customs_reads, item_reads, items_reads}
 use Rattle.ppdb_show.proofs.Added.{sum_first}

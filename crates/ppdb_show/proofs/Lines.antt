@@ -10,13 +10,13 @@ use Rattle.ppdb_tables.specs.RawTables.{RawTables, row_at, count}
 use Rattle.ppdb_values.specs.RawFile.{RawFile, blob}
 use Rattle.ppdb_values.specs.Documents.{method_with, points_in, signature_in}
 use Rattle.ppdb_values.specs.Imports.{import_value, import_scope_of}
-use Rattle.ppdb_lines.specs.declared.form.Form.{Form}
-use Rattle.ppdb_lines.specs.declared.form.Form.TheVariants.{Text, Json}
-use Rattle.ppdb_lines.specs.Lines.{Line, text_of, json_of}
-use Rattle.ppdb_lines.proofs.Texts.{no_lines, more_lines}
-use Rattle.ppdb_lines.specs.Forms.{lines_as}
-use Rattle.ppdb_lines.specs.Heads.{id_line, entry_line}
-use Rattle.ppdb_lines.specs.Uses.{use_line}
+use Rattle.ppdb_show_lines.specs.declared.form.Form.{Form}
+use Rattle.ppdb_show_lines.specs.declared.form.Form.TheVariants.{Text, Json}
+use Rattle.ppdb_show_lines.specs.Lines.{Line, text_of, json_of}
+use Rattle.ppdb_show_lines.proofs.Texts.{no_lines, more_lines}
+use Rattle.ppdb_show_lines.specs.Forms.{lines_as}
+use Rattle.ppdb_show_lines.specs.Heads.{id_line, entry_line}
+use Rattle.ppdb_show_lines.specs.Uses.{use_line}
 use Rattle.ppdb_show.specs.Show.{lines_of_method, method_line, point_line, import_line, count_lines, count_lines_of, head_lines}
 use Rattle.ppdb_show.specs.Show.{row_lines, document_lines, method_lines, scope_lines, variable_lines, constant_lines, import_lines}
 use Rattle.ppdb_show.specs.Show.{machine_lines, custom_lines}

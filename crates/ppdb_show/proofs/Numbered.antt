@@ -12,13 +12,13 @@ use Rattle.ppdb_show.specs.declared.show.rows.Rows.{Rows}
 use Rattle.ppdb_show.specs.declared.show.rows.Rows.TheVariants.{Documents, Methods, Scopes, Imports, Machines, Customs}
 use Rattle.ppdb_show.specs.declared.show.owned.Owned.{Owned}
 use Rattle.ppdb_show.specs.declared.show.owned.Owned.TheVariants.{Variables, Constants}
-use Rattle.ppdb_lines.specs.Lines.{Line}
-use Rattle.ppdb_lines.specs.declared.form.Form.{Form}
-use Rattle.ppdb_lines.specs.Forms.{lines_as}
+use Rattle.ppdb_show_lines.specs.Lines.{Line}
+use Rattle.ppdb_show_lines.specs.declared.form.Form.{Form}
+use Rattle.ppdb_show_lines.specs.Forms.{lines_as}
 use Rattle.ppdb_show.specs.Show.{document_line, lines_of_method, scope_line, variable_line, constant_line, lines_of_import, machine_line}
 use Rattle.ppdb_show.specs.Show.{custom_line, scope_of_item}
 use Rattle.ppdb_show.specs.ShowWalk.{made_of, between, number_of, lines_of_row, lines_of_table, items_of, item_table, lines_of_item, lines_of_items}
-use Rattle.ppdb_lines.proofs.Texts.{more_lines}
+use Rattle.ppdb_show_lines.proofs.Texts.{more_lines}
 
 rows_from : {X : Type 0} (lines : ℕ → X → List Line) (at : ℕ → Option X) (k : ℕ) (rows : List X) → ((i : ℕ) → at (k + i) ≡ slice_get rows i)
     → flat_map (λ row. lines row.0 row.1) (enumerate_from k rows) ≡ flat_map (λ n. made_of (lines n) (at n)) (range_with_len k (length rows))

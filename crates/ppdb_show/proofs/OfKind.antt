@@ -8,7 +8,7 @@ use Rattle.ppdb_tables.specs.declared.rows.CustomRow.{CustomRow}
 use Rattle.ppdb_tables.specs.RawTables.{RawTables}
 use Rattle.ppdb_values.specs.Customs.{custom_body, kind_in}
 use Rattle.ppdb_values.specs.RawFile.{blob}
-use Rattle.ppdb_lines.specs.Lines.{Line}
+use Rattle.ppdb_show_lines.specs.Lines.{Line}
 use Rattle.ppdb_show.specs.Query.{custom_found, lines_of_body, lines_of_record}
 use Rattle.ppdb_show.specs.QueryWalk.{Adds}
 use Rattle.ppdb_show.proofs.Added.{adds_none}

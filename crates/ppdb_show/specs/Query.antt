@@ -26,8 +26,8 @@ use Rattle.ppdb_queries.specs.declared.scopes.ScopeView.{ScopeView}
 use Rattle.ppdb_queries.specs.Hoisted.{hoisted_at}
 use Rattle.ppdb_queries.specs.Runs.{customs_at}
 use Rattle.ppdb_queries.specs.Scopes.{scopes_at}
-use Rattle.ppdb_lines.specs.Lines.{Line, Field, field, mark, number, guid, octets, name, text_of}
-use Rattle.ppdb_lines.specs.Uses.{use_line}
+use Rattle.ppdb_show_lines.specs.Lines.{Line, Field, field, mark, number, guid, octets, name, text_of}
+use Rattle.ppdb_show_lines.specs.Uses.{use_line}
 use Rattle.ppdb_show.specs.Show.{span_fields}
 
 -- ---- custom records ("CustomDebugInformation Table")

@@ -10,14 +10,14 @@ use Rattle.ppdb_queries.specs.declared.points.PointAt.{PointAt}
 use Rattle.ppdb_queries.specs.declared.scopes.ScopeView.{ScopeView}
 use Rattle.ppdb_queries.specs.Digits.{digits}
 use Rattle.ppdb_queries.specs.Scopes.{scope_view, scopes_at, scope_count}
-use Rattle.ppdb_lines.specs.Lines.{Line, text_of}
-use Rattle.ppdb_lines.specs.Uses.{use_line}
+use Rattle.ppdb_show_lines.specs.Lines.{Line, text_of}
+use Rattle.ppdb_show_lines.specs.Uses.{use_line}
 use Rattle.ppdb_show.specs.Query.{customs_on, customs_found, import_found, point_found, no_point_line, document_name, variables_of, constants_of, imports_of}
 
 unfoldable pub lines_text : List Line → List ℕ
 lines_text lines = flat_map text_of lines
 
--- the lines were put behind a text
+-- the lines were put after a text
 abbrev pub Adds : List ℕ → List ℕ → List Line → Type 0
 Adds old new lines = new ≡ old ++ lines_text lines
 

@@ -9,7 +9,7 @@ use Rattle.ppdb_tables.specs.declared.rows.MachineRow.{MachineRow}
 use Rattle.ppdb_tables.specs.declared.rows.ConstantRow.{ConstantRow}
 use Rattle.ppdb_tables.specs.declared.rows.CustomRow.{CustomRow}
 use Rattle.ppdb_tables.specs.RawTables.{RawTables, numbered, count}
-use Rattle.ppdb_lines.specs.Heads.{id_line, entry_line}
+use Rattle.ppdb_show_lines.specs.Heads.{id_line, entry_line}
 use Rattle.ppdb_values.specs.declared.file.DocumentValue.{DocumentValue}
 use Rattle.ppdb_values.specs.declared.file.MethodValue.{MethodValue}
 use Rattle.ppdb_values.specs.declared.scope.VariableValue.{VariableValue}
@@ -19,8 +19,8 @@ use Rattle.ppdb_values.specs.Documents.{document_of, method_of}
 use Rattle.ppdb_values.specs.Imports.{import_scope_of}
 use Rattle.ppdb_values.specs.Customs.{parent_of}
 use Rattle.ppdb_values.specs.Value.{owner_of, variable_of, range_of}
-use Rattle.ppdb_lines.specs.Uses.{use_line}
-use Rattle.ppdb_lines.specs.Lines.{Line, Field, field, mark, number, table, guid, octets, name, text_of, json_of}
+use Rattle.ppdb_show_lines.specs.Uses.{use_line}
+use Rattle.ppdb_show_lines.specs.Lines.{Line, Field, field, mark, number, table, guid, octets, name, text_of, json_of}
 
 -- ---- the head
 

@@ -10,7 +10,7 @@ use Rattle.ppdb_show.specs.declared.show.rows.Rows.{Rows}
 use Rattle.ppdb_show.specs.declared.show.rows.Rows.TheVariants.{Documents, Methods, Scopes, Imports, Machines, Customs}
 use Rattle.ppdb_show.specs.declared.show.owned.Owned.{Owned}
 use Rattle.ppdb_show.specs.declared.show.owned.Owned.TheVariants.{Variables, Constants}
-use Rattle.ppdb_lines.specs.Lines.{Line}
+use Rattle.ppdb_show_lines.specs.Lines.{Line}
 use Rattle.ppdb_show.specs.Show.{document_line, lines_of_method, scope_line, variable_line, constant_line, lines_of_import, machine_line}
 use Rattle.ppdb_show.specs.Show.{custom_line, scope_of_item, document_lines, method_lines, scope_lines, variable_lines, constant_lines}
 use Rattle.ppdb_show.specs.Show.{import_lines, machine_lines, custom_lines}

@@ -1,7 +1,7 @@
 // What belongs to an offset of a method, as text.
 ghost use Rattle.std.specs.Prelude.{◌≡◌, ◌+◌, ◌≤◌, ◌↔◌, OnOk, OnErr, IsErrOf};
 ghost use Rattle.ppdb_base.specs.Causes.{Rose};
-ghost use Rattle.ppdb_base.specs.Written.{appended, AppendsFront};
+ghost use Rattle.ppdb_base.specs.Written.{appended, AppendsPrefix};
 ghost use Rattle.ppdb_tables.specs.RawOf.{raw_of};
 ghost use Rattle.ppdb_values.specs.Rules.{HasRow};
 ghost use Rattle.ppdb_verify.specs.Views.{tables_of, raw_file};
@@ -73,7 +73,7 @@ fn put_answer<L: Ledger>(
 /// # Errors
 ///
 /// The method is 0 or above the rows of MethodDef, and nothing was put; or the sink failed, or there was no memory left, and a
-/// front of the text was put.
+/// prefix of the text was put.
 #[tactic(auto, unfolding(crate::specs::Query::query_text_of))]
 pub fn query_text<O: Sink, L: Ledger>(
     alloc: Global,
@@ -86,7 +86,7 @@ pub fn query_text<O: Sink, L: Ledger>(
     ensures none { IsErrOf result QueryError.NoMethod ↔ IsNoMethod (raw_of (tables_of file.now)) method }
     ensures nothing { IsErrOf result QueryError.NoMethod → O.written out.new ≡ O.written out.old }
     ensures ok { OnOk result (O.written out.new ≡ appended (O.written out.old) (query_text_of (raw_file file.now) method offset)) }
-    ensures err { OnErr result (AppendsFront (O.written out.old) (O.written out.new) (query_text_of (raw_file file.now) method offset)) }
+    ensures err { OnErr result (AppendsPrefix (O.written out.old) (O.written out.new) (query_text_of (raw_file file.now) method offset)) }
     ensures failed { IsErrOf result QueryError.Failed → Rose (O.faults out.old) (O.faults out.new) }
     ensures later { O.faults out.old ≤ O.faults out.new }
     ensures cost { steps.new ≤ steps.old + query_rows (raw_of (tables_of file.now)) method offset }

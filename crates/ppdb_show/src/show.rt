@@ -1,7 +1,7 @@
 // All rows of a file.
 ghost use Rattle.ppdb_base.specs.Written.{Puts};
 ghost use Rattle.ppdb_verify.specs.Views.{raw_file};
-ghost use Rattle.ppdb_lines.specs.Forms.{lines_as};
+ghost use Rattle.ppdb_show_lines.specs.Forms.{lines_as};
 ghost use Rattle.ppdb_show.specs.Show.{row_lines, show_lines, show_text_of, show_json_of};
 
 mod documents;
@@ -15,7 +15,7 @@ use crate::show::head::put_head;
 use crate::show::owned::{Owned, put_owned};
 use crate::show::rows::{Rows, put_rows};
 use ppdb_base::{Sink, Steps, WriteError};
-use ppdb_lines::{Form, Printer};
+use ppdb_show_lines::{Form, Printer};
 use ppdb_verify::Verified;
 use std::alloc::Global;
 use std::cell::Cell;
@@ -25,7 +25,7 @@ use std::sync::ledger::Ledger;
 ///
 /// # Errors
 ///
-/// The sink failed, or there was no memory left; a front of the text was put.
+/// The sink failed, or there was no memory left; a prefix of the text was put.
 pub fn show_text<O: Sink, L: Ledger>(
     alloc: Global,
     file: &Verified<'_>,
@@ -47,7 +47,7 @@ pub fn show_text<O: Sink, L: Ledger>(
 ///
 /// # Errors
 ///
-/// The sink failed, or there was no memory left; a front of the text was put.
+/// The sink failed, or there was no memory left; a prefix of the text was put.
 pub fn show_json<O: Sink, L: Ledger>(
     alloc: Global,
     file: &Verified<'_>,

@@ -7,12 +7,12 @@ use Rattle.ppdb_base.specs.Fields.{IsField}
 use Rattle.ppdb_base.proofs.Fields.{ends_by_cut, ends_within, sum_append, sum_cons}
 
 -- a field is one of more fields, after those before them
-pub field_within : (front fields back : List ℕ) (at len : ℕ) → IsField fields at len → IsField (front ++ (fields ++ back)) (sum front + at) len
-field_within front fields back at len f = record {
-  before = front ++ f.before;
+pub field_within : (prefix fields back : List ℕ) (at len : ℕ) → IsField fields at len → IsField (prefix ++ (fields ++ back)) (sum prefix + at) len
+field_within prefix fields back at len f = record {
+  before = prefix ++ f.before;
   after = f.after ++ back;
-  in_order = ap (λ xs. front ++ (xs ++ back)) f.in_order ∙ simp append_assoc refl;
-  place = ap (λ n. sum front + n) f.place ∙ sym (sum_append front f.before);
+  in_order = ap (λ xs. prefix ++ (xs ++ back)) f.in_order ∙ simp append_assoc refl;
+  place = ap (λ n. sum prefix + n) f.place ∙ sym (sum_append prefix f.before);
 }
 
 -- the field at an index
@@ -20,15 +20,15 @@ pub field_at : (fields : List ℕ) (i : ℕ) → i < length fields → IsField f
 field_at fields i lt = record { before = take i fields; after = drop (suc i) fields; in_order = split_at fields i 0 lt; place = refl }
 
 -- a field that has bytes begins not after the last
-pub starts_by : (front : List ℕ) (last at len : ℕ) → IsField (front ++ last ∷ []) at len → 0 < len → at ≤ sum front
-starts_by front last at len f some =
-    elim (cases_lt (sum front) at) [
+pub starts_by : (prefix : List ℕ) (last at len : ℕ) → IsField (prefix ++ last ∷ []) at len → 0 < len → at ≤ sum prefix
+starts_by prefix last at len f some =
+    elim (cases_lt (sum prefix) at) [
       | inr le ↦ le
       | inl gt ↦
-          let fields = front ++ last ∷ [] in
-          let final : IsField fields (sum front) last = record { before = front; after = []; in_order = refl; place = refl } in
-          let ends = ends_by_cut fields f.before (len ∷ f.after) (sum front) last final f.in_order (omega (arith, gt, f.place)) in
-          absurd (omega (arith, ends, f.place, some, ends_within fields at len f, sum_append front (last ∷ []), sum_cons last []))
+          let fields = prefix ++ last ∷ [] in
+          let final : IsField fields (sum prefix) last = record { before = prefix; after = []; in_order = refl; place = refl } in
+          let ends = ends_by_cut fields f.before (len ∷ f.after) (sum prefix) last final f.in_order (omega (arith, gt, f.place)) in
+          absurd (omega (arith, ends, f.place, some, ends_within fields at len f, sum_append prefix (last ∷ []), sum_cons last []))
     ]
 
 -- where no field passes an end, all lie before it

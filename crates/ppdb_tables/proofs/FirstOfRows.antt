@@ -26,7 +26,7 @@ use Rattle.row_layout.specs.declared.column.Column.{Column}
 use Rattle.row_layout.specs.declared.column.Column.TheVariants.{U16, U32, Text, Blob, Guid, Row, Parent}
 use Rattle.row_layout.specs.Columns.{width_of, index_width, has_rows, parent_tables}
 use Rattle.ppdb_tables.specs.Layouts.{Table, debug_tables, row_len, row_fields, row_fields_of}
-use Rattle.ppdb_tables.specs.Tables.{BadBounds, bounds, rows_start}
+use Rattle.ppdb_tables.specs.Tables.{BoundFaults, bounds, rows_start}
 use Rattle.ppdb_tables.specs.Bounds.{IsRowFault}
 use Rattle.ppdb_tables.proofs.RowCounts.{sum-replicate}
 
@@ -130,18 +130,18 @@ module _ (sizes : Sizes) where
 
   module _ (stream : List ℕ) where
     judged_case : (before after : List ℕ) → row_fields sizes debug_tables ≡ before ++ after → rows_start stream + sum before ≤ length stream
-        → (code : Code) (at : Place) → BadBounds sizes stream code at → ComesBefore (numbers code at) (4 ∷ 0 ∷ 0 ∷ 0 ∷ (rows_start stream + sum before) ∷ [])
+        → (code : Code) (at : Place) → BoundFaults sizes stream code at → ComesBefore (numbers code at) (4 ∷ 0 ∷ 0 ∷ 0 ∷ (rows_start stream + sum before) ∷ [])
         → ⊥
     judged_case before after split le _ _ (bounds at len f over) past =
         let lt = byte_before 4 TablesBounds (rows_start stream + at) (rows_start stream + sum before) past in
         absurd (omega (arith, lt, le, over, ends_by_cut (row_fields sizes debug_tables) before after at len f split (omega (arith, lt))))
 
-    least_bounds : (code : Code) (at : Place) → BadBounds sizes stream code at → 17 ≤ number_of code
+    least_bounds : (code : Code) (at : Place) → BoundFaults sizes stream code at → 17 ≤ number_of code
     least_bounds _ _ (bounds at len f over) = lit≤ tt
 
     -- the first row of a table that passes the end, after tables that fit, is the first fault
     pub row_is_first : (index first : ℕ) (fault : Fault) → index < 8 → first ≡ rows_start stream + sum (row_fields sizes (take index debug_tables))
-        → IsRowFault stream first (slice_index sizes.rows (0x30 + index)) (row_len sizes (table index)) fault → IsFirst (BadBounds sizes stream) fault
+        → IsRowFault stream first (slice_index sizes.rows (0x30 + index)) (row_len sizes (table index)) fault → IsFirst (BoundFaults sizes stream) fault
     row_is_first index first fault lt here f =
         let row = f.0 in
         let len = row_len sizes (table index) in
@@ -152,15 +152,15 @@ module _ (sizes : Sizes) where
         let is : fault ≡ record { code = TablesBounds; place = at_byte 4 (rows_start stream + sum before) } =
         f.2 ∙ ap (λ b. record { code = TablesBounds; place = at_byte 4 b }) place in
         let field : IsField (row_fields sizes debug_tables) (sum before) len = record { before = before; after = cut.0; in_order = cut.1; place = refl } in
-        subst (IsFirst (BadBounds sizes stream)) (sym is)
-        (first_at (BadBounds sizes stream) TablesBounds (at_byte 4 (rows_start stream + sum before))
+        subst (IsFirst (BoundFaults sizes stream)) (sym is)
+        (first_at (BoundFaults sizes stream) TablesBounds (at_byte 4 (rows_start stream + sum before))
         (judged_case before (len ∷ cut.0) cut.1 (omega (arith, place, f.3)))
         (bounds (sum before) len field (omega (arith, place, f.4)))
-        (λ other bad. least_bounds other _ bad))
+        (λ other invalid. least_bounds other _ invalid))
 
-    accepted_case : rows_start stream + sum (row_fields sizes debug_tables) ≤ length stream → (code : Code) (at : Place) → BadBounds sizes stream code at → ⊥
+    accepted_case : rows_start stream + sum (row_fields sizes debug_tables) ≤ length stream → (code : Code) (at : Place) → BoundFaults sizes stream code at → ⊥
     accepted_case le _ _ (bounds at len f over) =
         absurd (omega (arith, le, over, ends_within (row_fields sizes debug_tables) at len f))
 
-    pub rows_accepted : rows_start stream + sum (row_fields sizes debug_tables) ≤ length stream → IsAccepted (BadBounds sizes stream)
+    pub rows_accepted : rows_start stream + sum (row_fields sizes debug_tables) ≤ length stream → IsAccepted (BoundFaults sizes stream)
     rows_accepted le = accepted_case le

@@ -15,14 +15,14 @@ use Rattle.std.proofs.lemmas.Bool.{cases_lt}
 use Rattle.ppdb_tables.specs.declared.head.PdbHead.{PdbHead}
 use Rattle.ppdb_tables.specs.declared.counts.Part.{Part}
 use Rattle.ppdb_tables.specs.Counts.{HasCount, counts_below, count_fields, IsShort, IsCountFault}
-use Rattle.ppdb_tables.specs.Tables.{BadTableFields, short, heap_bits, foreign, rows, method_rows, IsForeign, heap_sizes, valid}
+use Rattle.ppdb_tables.specs.Tables.{TableFieldFaults, short, heap_bits, foreign, rows, method_rows, IsForeign, heap_sizes, valid}
 use Rattle.ppdb_tables.specs.Tables.{table_fields, table_count_place, table_rows, rows_start, count_in}
 use Rattle.ppdb_tables.proofs.FieldLists.{field_within, starts_by}
 use Rattle.ppdb_tables.proofs.RowCounts.{cut, sum-cut, sum-fields, fields_cut, count_cut, one_more, earlier_table, same_table, rows_in-set}
 
 -- the fields before the row counts
-abbrev front : List ℕ
-front = 4 ∷ 1 ∷ 1 ∷ 1 ∷ 1 ∷ 8 ∷ 8 ∷ []
+abbrev prefix : List ℕ
+prefix = 4 ∷ 1 ∷ 1 ∷ 1 ∷ 1 ∷ 8 ∷ 8 ∷ []
 
 abbrev pub table_part : Part
 table_part = record { number = 4; short = TablesShort; many_rows = TableRows }
@@ -44,7 +44,7 @@ module _ (methods : ℕ) (stream : List ℕ) where
 
   -- nothing bad begins before a cut of the fields that lies in the stream, where the fields before it are good
   judged_case : (b : ℕ) (before after : List ℕ) → table_fields stream ≡ before ++ after → b ≡ sum before → b ≤ length stream → AreGoodTo b
-      → (code : Code) (at : Place) → BadTableFields methods stream code at → ComesBefore (numbers code at) (4 ∷ 0 ∷ 0 ∷ 0 ∷ b ∷ []) → ⊥
+      → (code : Code) (at : Place) → TableFieldFaults methods stream code at → ComesBefore (numbers code at) (4 ∷ 0 ∷ 0 ∷ 0 ∷ b ∷ []) → ⊥
   judged_case b before after split is le good _ _ (short at len f within over) past =
       let lt = byte_before 4 TablesShort at b past in
       absurd (omega (arith, is, lt, le, over, ends_by_cut (table_fields stream) before after at len f split (omega (arith, is, lt))))
@@ -57,7 +57,7 @@ module _ (methods : ℕ) (stream : List ℕ) where
   judged_case b before after split is le good _ _ (method_rows set within some other) past =
       good.fit (byte_before 4 MethodRows (table_count_place stream 0x31) b past) some other
 
-  least_short : (code : Code) (at : Place) → BadTableFields methods stream code at → 13 ≤ number_of code
+  least_short : (code : Code) (at : Place) → TableFieldFaults methods stream code at → 13 ≤ number_of code
   least_short _ _ (short at len f within over) = lit≤ tt
   least_short _ _ (heap_bits within large) = lit≤ tt
   least_short _ _ (foreign within some) = lit≤ tt
@@ -66,16 +66,16 @@ module _ (methods : ℕ) (stream : List ℕ) where
 
   -- a field that passes the end, after fields that fit and are good, is the first fault
   short_is_first : (b len : ℕ) (fault : Fault) → IsField (table_fields stream) b len → b ≤ length stream → AreGoodTo b
-      → (fault ≡ record { code = TablesShort; place = at_byte 4 b }) × (length stream < b + len) → IsFirst (BadTableFields methods stream) fault
+      → (fault ≡ record { code = TablesShort; place = at_byte 4 b }) × (length stream < b + len) → IsFirst (TableFieldFaults methods stream) fault
   short_is_first b len fault f le good past =
-      subst (IsFirst (BadTableFields methods stream)) (sym past.0)
-      (first_at (BadTableFields methods stream) TablesShort (at_byte 4 b) (judged_case b f.before (len ∷ f.after) f.in_order f.place le good)
+      subst (IsFirst (TableFieldFaults methods stream)) (sym past.0)
+      (first_at (TableFieldFaults methods stream) TablesShort (at_byte 4 b) (judged_case b f.before (len ∷ f.after) f.in_order f.place le good)
       (short b len f le past.1)
-      (λ other bad. least_short other (at_byte 4 b) bad))
+      (λ other invalid. least_short other (at_byte 4 b) invalid))
 
   -- a place up to which no row count begins
-  good_front : (b : ℕ) → b ≤ 24 → (6 < b → heap_sizes stream < 8) → (8 < b → IsForeign (valid stream) → ⊥) → AreGoodTo b
-  good_front b le heap known = record {
+  good_prefix : (b : ℕ) → b ≤ 24 → (6 < b → heap_sizes stream < 8) → (8 < b → IsForeign (valid stream) → ⊥) → AreGoodTo b
+  good_prefix b le heap known = record {
     heap = heap;
     known = known;
     few = λ t set lt. absurd (omega (arith, le, lt));
@@ -83,13 +83,13 @@ module _ (methods : ℕ) (stream : List ℕ) where
   }
 
   -- so it is with some of the fields before the row counts, which begin at a place
-  front_is_first : (first : ℕ) (before fields after : List ℕ) (fault : Fault) → front ≡ before ++ (fields ++ after) → first ≡ sum before
+  prefix_is_first : (first : ℕ) (before fields after : List ℕ) (fault : Fault) → prefix ≡ before ++ (fields ++ after) → first ≡ sum before
       → ((at len : ℕ) → IsField fields at len → 0 < len → AreGoodTo (first + at)) → IsShort table_part stream fields first fault
-      → IsFirst (BadTableFields methods stream) fault
-  front_is_first first before fields after fault split is good s =
+      → IsFirst (TableFieldFaults methods stream) fault
+  prefix_is_first first before fields after fault split is good s =
       let at = s.0 in
       let len = s.1 in
-      let within : IsField (front ++ count_fields (valid stream)) (sum before + at) len =
+      let within : IsField (prefix ++ count_fields (valid stream)) (sum before + at) len =
       subst (λ xs. IsField (xs ++ count_fields (valid stream)) (sum before + at) len) (sym split) (more before fields after at len s.2) in
       short_is_first (first + at) len fault (rw is within) s.4 (good at len s.2 (omega (arith, s.4, s.5))) (s.3, s.5)
     where
@@ -100,24 +100,24 @@ module _ (methods : ℕ) (stream : List ℕ) where
 
   -- ---- the fields before the row counts, group by group
 
-  pub heap_short : (fault : Fault) → IsShort table_part stream (4 ∷ 1 ∷ 1 ∷ 1 ∷ []) 0 fault → IsFirst (BadTableFields methods stream) fault
+  pub heap_short : (fault : Fault) → IsShort table_part stream (4 ∷ 1 ∷ 1 ∷ 1 ∷ []) 0 fault → IsFirst (TableFieldFaults methods stream) fault
   heap_short fault s =
-      front_is_first 0 [] (4 ∷ 1 ∷ 1 ∷ 1 ∷ []) (1 ∷ 8 ∷ 8 ∷ []) fault refl refl
+      prefix_is_first 0 [] (4 ∷ 1 ∷ 1 ∷ 1 ∷ []) (1 ∷ 8 ∷ 8 ∷ []) fault refl refl
       (λ at len f some. let le = starts_by (4 ∷ 1 ∷ 1 ∷ []) 1 at len f some in
-      good_front (0 + at) (omega (arith, le)) (λ lt. absurd (omega (arith, le, lt))) (λ lt. absurd (omega (arith, le, lt)))) s
+      good_prefix (0 + at) (omega (arith, le)) (λ lt. absurd (omega (arith, le, lt))) (λ lt. absurd (omega (arith, le, lt)))) s
 
-  pub valid_short : heap_sizes stream < 8 → (fault : Fault) → IsShort table_part stream (1 ∷ 8 ∷ []) 7 fault → IsFirst (BadTableFields methods stream) fault
+  pub valid_short : heap_sizes stream < 8 → (fault : Fault) → IsShort table_part stream (1 ∷ 8 ∷ []) 7 fault → IsFirst (TableFieldFaults methods stream) fault
   valid_short heap fault s =
-      front_is_first 7 (4 ∷ 1 ∷ 1 ∷ 1 ∷ []) (1 ∷ 8 ∷ []) (8 ∷ []) fault refl refl
+      prefix_is_first 7 (4 ∷ 1 ∷ 1 ∷ 1 ∷ []) (1 ∷ 8 ∷ []) (8 ∷ []) fault refl refl
       (λ at len f some. let le = starts_by (1 ∷ []) 8 at len f some in
-      good_front (7 + at) (omega (arith, le)) (λ _. heap) (λ lt. absurd (omega (arith, le, lt)))) s
+      good_prefix (7 + at) (omega (arith, le)) (λ _. heap) (λ lt. absurd (omega (arith, le, lt)))) s
 
   pub sorted_short : heap_sizes stream < 8 → (IsForeign (valid stream) → ⊥) → (fault : Fault) → IsShort table_part stream (8 ∷ []) 16 fault
-      → IsFirst (BadTableFields methods stream) fault
+      → IsFirst (TableFieldFaults methods stream) fault
   sorted_short heap known fault s =
-      front_is_first 16 (4 ∷ 1 ∷ 1 ∷ 1 ∷ 1 ∷ 8 ∷ []) (8 ∷ []) [] fault refl refl
+      prefix_is_first 16 (4 ∷ 1 ∷ 1 ∷ 1 ∷ 1 ∷ 8 ∷ []) (8 ∷ []) [] fault refl refl
       (λ at len f some. let le = starts_by [] 8 at len f some in
-      good_front (16 + at) (omega (arith, le)) (λ _. heap) (λ _. known)) s
+      good_prefix (16 + at) (omega (arith, le)) (λ _. heap) (λ _. known)) s
 
   -- a field at a place, which fits, is no field that passes the end
   not_short : (before after : List ℕ) (here at len : ℕ) → table_fields stream ≡ before ++ after → here < sum before → sum before ≤ length stream
@@ -125,7 +125,7 @@ module _ (methods : ℕ) (stream : List ℕ) where
   not_short before after here at len split lt le f same over =
       absurd (omega (arith, ends_by_cut (table_fields stream) before after at len f split (omega (arith, same, lt)), le, over))
 
-  least_heap : 7 ≤ length stream → (code : Code) (at : Place) → BadTableFields methods stream code at → at ≡ at_byte 4 6 → 14 ≤ number_of code
+  least_heap : 7 ≤ length stream → (code : Code) (at : Place) → TableFieldFaults methods stream code at → at ≡ at_byte 4 6 → 14 ≤ number_of code
   least_heap long _ _ (short at len f within over) e =
       absurd (not_short (4 ∷ 1 ∷ 1 ∷ 1 ∷ []) (1 ∷ 8 ∷ 8 ∷ count_fields (valid stream)) 6 at len refl (lit< tt) (omega (arith, long)) f (same_byte at 6 e) over)
   least_heap long _ _ (heap_bits within large) e = lit≤ tt
@@ -134,16 +134,16 @@ module _ (methods : ℕ) (stream : List ℕ) where
   least_heap long _ _ (method_rows set within some other) e = lit≤ tt
 
   pub heap_is_first : (fault : Fault) → fault ≡ record { code = HeapBits; place = at_byte 4 6 } → 7 ≤ length stream → 8 ≤ heap_sizes stream
-      → IsFirst (BadTableFields methods stream) fault
+      → IsFirst (TableFieldFaults methods stream) fault
   heap_is_first fault is long large =
-      subst (IsFirst (BadTableFields methods stream)) (sym is)
-      (first_at (BadTableFields methods stream) HeapBits (at_byte 4 6)
+      subst (IsFirst (TableFieldFaults methods stream)) (sym is)
+      (first_at (TableFieldFaults methods stream) HeapBits (at_byte 4 6)
       (judged_case 6 (4 ∷ 1 ∷ 1 ∷ []) (1 ∷ 1 ∷ 8 ∷ 8 ∷ count_fields (valid stream)) refl refl (omega (arith, long))
-      (good_front 6 (lit≤ tt) (λ lt. absurd (omega (arith, lt))) (λ lt. absurd (omega (arith, lt)))))
+      (good_prefix 6 (lit≤ tt) (λ lt. absurd (omega (arith, lt))) (λ lt. absurd (omega (arith, lt)))))
       (heap_bits (omega (arith, long)) large)
-      (λ other bad. least_heap long other (at_byte 4 6) bad refl))
+      (λ other invalid. least_heap long other (at_byte 4 6) invalid refl))
 
-  least_foreign : 16 ≤ length stream → (code : Code) (at : Place) → BadTableFields methods stream code at → at ≡ at_byte 4 8 → 15 ≤ number_of code
+  least_foreign : 16 ≤ length stream → (code : Code) (at : Place) → TableFieldFaults methods stream code at → at ≡ at_byte 4 8 → 15 ≤ number_of code
   least_foreign long _ _ (short at len f within over) e =
       absurd (not_short (4 ∷ 1 ∷ 1 ∷ 1 ∷ 1 ∷ 8 ∷ []) (8 ∷ count_fields (valid stream)) 8 at len refl (lit< tt) (omega (arith, long)) f (same_byte at 8 e) over)
   least_foreign long _ _ (heap_bits within large) e =
@@ -153,14 +153,14 @@ module _ (methods : ℕ) (stream : List ℕ) where
   least_foreign long _ _ (method_rows set within some other) e = lit≤ tt
 
   pub foreign_is_first : (fault : Fault) → fault ≡ record { code = TablesForeign; place = at_byte 4 8 } → heap_sizes stream < 8 → 16 ≤ length stream
-      → IsForeign (valid stream) → IsFirst (BadTableFields methods stream) fault
+      → IsForeign (valid stream) → IsFirst (TableFieldFaults methods stream) fault
   foreign_is_first fault is heap long some =
-      subst (IsFirst (BadTableFields methods stream)) (sym is)
-      (first_at (BadTableFields methods stream) TablesForeign (at_byte 4 8)
+      subst (IsFirst (TableFieldFaults methods stream)) (sym is)
+      (first_at (TableFieldFaults methods stream) TablesForeign (at_byte 4 8)
       (judged_case 8 (4 ∷ 1 ∷ 1 ∷ 1 ∷ 1 ∷ []) (8 ∷ 8 ∷ count_fields (valid stream)) refl refl (omega (arith, long))
-      (good_front 8 (lit≤ tt) (λ _. heap) (λ lt. absurd (omega (arith, lt)))))
+      (good_prefix 8 (lit≤ tt) (λ _. heap) (λ lt. absurd (omega (arith, lt)))))
       (foreign (omega (arith, long)) some)
-      (λ other bad. least_foreign long other (at_byte 4 8) bad refl))
+      (λ other invalid. least_foreign long other (at_byte 4 8) invalid refl))
 
   -- ---- the row count of a table, after good ones
   module _ (table : ℕ) (lt : table < 64) (set : HasCount (valid stream) table) (heap : heap_sizes stream < 8) (known : IsForeign (valid stream) → ⊥)
@@ -175,37 +175,37 @@ module _ (methods : ℕ) (stream : List ℕ) where
 
     count_short : (fault : Fault) → table_count_place stream table ≤ length stream
         → (fault ≡ record { code = TablesShort; place = at_byte 4 (table_count_place stream table) }) × (length stream < table_count_place stream table + 4)
-        → IsFirst (BadTableFields methods stream) fault
+        → IsFirst (TableFieldFaults methods stream) fault
     count_short fault le past =
         let n = counts_below (valid stream) table in
         short_is_first (table_count_place stream table) 4 fault
         (record {
-          before = cut front n;
+          before = cut prefix n;
           after = replicate (counts_below (valid stream) 64 - suc n) 4;
-          in_order = count_cut front (valid stream) table lt set;
-          place = omega (arith, sum-cut front n);
+          in_order = count_cut prefix (valid stream) table lt set;
+          place = omega (arith, sum-cut prefix n);
         })
         le good_before past
 
-    judged_count : table_count_place stream table ≤ length stream → IsJudgedTo (BadTableFields methods stream)
+    judged_count : table_count_place stream table ≤ length stream → IsJudgedTo (TableFieldFaults methods stream)
         (4 ∷ 0 ∷ 0 ∷ 0 ∷ table_count_place stream table ∷ [])
     judged_count le =
         let n = counts_below (valid stream) table in
         let more = one_more (valid stream) table lt set in
-        judged_case (table_count_place stream table) (cut front n) (replicate (counts_below (valid stream) 64 - n) 4)
-        (fields_cut front (valid stream) n (omega (arith, more)))
-        (omega (arith, sum-cut front n)) le good_before
+        judged_case (table_count_place stream table) (cut prefix n) (replicate (counts_below (valid stream) 64 - n) 4)
+        (fields_cut prefix (valid stream) n (omega (arith, more)))
+        (omega (arith, sum-cut prefix n)) le good_before
 
     not_short_here : table_count_place stream table + 4 ≤ length stream → (at len : ℕ) → IsField (table_fields stream) at len
         → at_byte 4 at ≡ at_byte 4 (table_count_place stream table) → length stream < at + len → ⊥
     not_short_here fits at len f e over =
         let n = suc (counts_below (valid stream) table) in
         let more = one_more (valid stream) table lt set in
-        not_short (cut front n) (replicate (counts_below (valid stream) 64 - n) 4)
-        (table_count_place stream table) at len (fields_cut front (valid stream) n more)
-        (omega (arith, sum-cut front n)) (omega (arith, sum-cut front n, fits)) f (same_byte at (table_count_place stream table) e) over
+        not_short (cut prefix n) (replicate (counts_below (valid stream) 64 - n) 4)
+        (table_count_place stream table) at len (fields_cut prefix (valid stream) n more)
+        (omega (arith, sum-cut prefix n)) (omega (arith, sum-cut prefix n, fits)) f (same_byte at (table_count_place stream table) e) over
 
-    least_rows : table_count_place stream table + 4 ≤ length stream → (code : Code) (at : Place) → BadTableFields methods stream code at
+    least_rows : table_count_place stream table + 4 ≤ length stream → (code : Code) (at : Place) → TableFieldFaults methods stream code at
         → at ≡ at_byte 4 (table_count_place stream table) → 16 ≤ number_of code
     least_rows fits _ _ (short at len f within over) e = absurd (not_short_here fits at len f e over)
     least_rows fits _ _ (heap_bits within large) e =
@@ -217,15 +217,15 @@ module _ (methods : ℕ) (stream : List ℕ) where
 
     count_many : (fault : Fault) → fault ≡ record { code = TableRows; place = at_byte 4 (table_count_place stream table) }
         → table_count_place stream table + 4 ≤ length stream
-        → 16777215 < table_rows stream table → IsFirst (BadTableFields methods stream) fault
+        → 16777215 < table_rows stream table → IsFirst (TableFieldFaults methods stream) fault
     count_many fault is fits many =
-        subst (IsFirst (BadTableFields methods stream)) (sym is)
-        (first_at (BadTableFields methods stream) TableRows (at_byte 4 (table_count_place stream table)) (judged_count (omega (arith, fits)))
+        subst (IsFirst (TableFieldFaults methods stream)) (sym is)
+        (first_at (TableFieldFaults methods stream) TableRows (at_byte 4 (table_count_place stream table)) (judged_count (omega (arith, fits)))
         (rows table lt set (omega (arith, fits)) many)
-        (λ other bad. least_rows fits other _ bad refl))
+        (λ other invalid. least_rows fits other _ invalid refl))
 
     least_methods : table_count_place stream table + 4 ≤ length stream → table_rows stream table ≤ 16777215 → (code : Code) (at : Place)
-        → BadTableFields methods stream code at → at ≡ at_byte 4 (table_count_place stream table) → 18 ≤ number_of code
+        → TableFieldFaults methods stream code at → at ≡ at_byte 4 (table_count_place stream table) → 18 ≤ number_of code
     least_methods fits small _ _ (short at len f within over) e = absurd (not_short_here fits at len f e over)
     least_methods fits small _ _ (heap_bits within large) e =
         let same = same_byte 6 (table_count_place stream table) e in absurd (omega (arith, same))
@@ -238,24 +238,24 @@ module _ (methods : ℕ) (stream : List ℕ) where
 
     pub methods_are_first : (fault : Fault) → table ≡ 0x31 → fault ≡ record { code = MethodRows; place = at_byte 4 (table_count_place stream table) }
         → table_count_place stream table + 4 ≤ length stream
-        → table_rows stream table ≤ 16777215 → table_rows stream table ≢ 0 → table_rows stream table ≢ methods → IsFirst (BadTableFields methods stream) fault
+        → table_rows stream table ≤ 16777215 → table_rows stream table ≢ 0 → table_rows stream table ≢ methods → IsFirst (TableFieldFaults methods stream) fault
     methods_are_first fault is_31 is fits small some other =
-        subst (IsFirst (BadTableFields methods stream)) (sym is)
-        (first_at (BadTableFields methods stream) MethodRows (at_byte 4 (table_count_place stream table)) (judged_count (omega (arith, fits)))
+        subst (IsFirst (TableFieldFaults methods stream)) (sym is)
+        (first_at (TableFieldFaults methods stream) MethodRows (at_byte 4 (table_count_place stream table)) (judged_count (omega (arith, fits)))
         (at_31 table is_31 set (omega (arith, fits)) some other)
-        (λ code bad. least_methods fits small code _ bad refl))
+        (λ code invalid. least_methods fits small code _ invalid refl))
       where
         at_31 : (t : ℕ) → t ≡ 0x31 → HasCount (valid stream) t → table_count_place stream t ≤ length stream → table_rows stream t ≢ 0
             → table_rows stream t ≢ methods
-            → BadTableFields methods stream MethodRows (at_byte 4 (table_count_place stream t))
+            → TableFieldFaults methods stream MethodRows (at_byte 4 (table_count_place stream t))
         at_31 t e = subst (λ u. HasCount (valid stream) u → table_count_place stream u ≤ length stream → table_rows stream u ≢ 0 → table_rows stream u ≢ methods
-            → BadTableFields methods stream MethodRows (at_byte 4 (table_count_place stream u))) (sym e) method_rows
+            → TableFieldFaults methods stream MethodRows (at_byte 4 (table_count_place stream u))) (sym e) method_rows
 
   -- the fault of a table's row count, after good ones, is the first
   pub count_is_first : (table at : ℕ) (fault : Fault) → table < 64 → at ≡ table_count_place stream table → at ≤ length stream → heap_sizes stream < 8
       → (IsForeign (valid stream) → ⊥)
       → ((t : ℕ) → t < table → table_rows stream t ≤ 16777215) → (0x31 < table → FitMethods methods stream)
-      → IsCountFault table_part stream (valid stream) table at fault → IsFirst (BadTableFields methods stream) fault
+      → IsCountFault table_part stream (valid stream) table at fault → IsFirst (TableFieldFaults methods stream) fault
   count_is_first table at fault lt here le heap known few fit (set, inl past) =
       count_short table lt set heap known few fit fault (rw (← here) le) (rw (← here) past)
   count_is_first table at fault lt here le heap known few fit (set, inr many) =
@@ -264,7 +264,7 @@ module _ (methods : ℕ) (stream : List ℕ) where
 
   -- all fields fit and are good
   accepted_case : rows_start stream ≤ length stream → heap_sizes stream < 8 → (IsForeign (valid stream) → ⊥)
-      → ((t : ℕ) → t < 64 → table_rows stream t ≤ 16777215) → FitMethods methods stream → (code : Code) (at : Place) → BadTableFields methods stream code at → ⊥
+      → ((t : ℕ) → t < 64 → table_rows stream t ≤ 16777215) → FitMethods methods stream → (code : Code) (at : Place) → TableFieldFaults methods stream code at → ⊥
   accepted_case le heap known few fit _ _ (short at len f within over) =
       absurd (omega (arith, le, over, ends_within (table_fields stream) at len f))
   accepted_case le heap known few fit _ _ (heap_bits within large) = absurd (omega (arith, large, heap))
@@ -273,12 +273,12 @@ module _ (methods : ℕ) (stream : List ℕ) where
   accepted_case le heap known few fit _ _ (method_rows set within some other) = fit some other
 
   pub fields_accepted : rows_start stream ≤ length stream → heap_sizes stream < 8 → (IsForeign (valid stream) → ⊥)
-      → ((t : ℕ) → t < 64 → table_rows stream t ≤ 16777215) → FitMethods methods stream → IsAccepted (BadTableFields methods stream)
+      → ((t : ℕ) → t < 64 → table_rows stream t ≤ 16777215) → FitMethods methods stream → IsAccepted (TableFieldFaults methods stream)
   fields_accepted le heap known few fit = accepted_case le heap known few fit
 
 -- the rows begin after the last row count
 pub start_is : (stream : List ℕ) → rows_start stream ≡ table_count_place stream 64
-start_is stream = omega (arith, sum-fields front (valid stream))
+start_is stream = omega (arith, sum-fields prefix (valid stream))
 
 -- the rows that are kept for a table are those of #Pdb or of #~
 pub kept_is : (head : PdbHead) (stream : List ℕ) (table count kept : ℕ) → count ≡ table_rows stream table

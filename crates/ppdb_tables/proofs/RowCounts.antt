@@ -32,36 +32,36 @@ counts_mono bits t (suc u) le =
 -- ---- the fields, cut after the first n row counts
 
 pub cut : List ℕ → ℕ → List ℕ
-cut front n = front ++ replicate n 4
+cut prefix n = prefix ++ replicate n 4
 
-pub sum-cut : (front : List ℕ) (n : ℕ) → sum (cut front n) ≡ sum front + 4 * n
+pub sum-cut : (prefix : List ℕ) (n : ℕ) → sum (cut prefix n) ≡ sum prefix + 4 * n
 unfolding cut
-sum-cut front n = omega (arith, sum_append front (replicate n 4), sum-replicate n 4)
+sum-cut prefix n = omega (arith, sum_append prefix (replicate n 4), sum-replicate n 4)
 
 -- all fields are those after the last row count
-pub sum-fields : (front : List ℕ) (bits : ℕ) → sum (front ++ count_fields bits) ≡ sum front + 4 * counts_below bits 64
-sum-fields front bits = omega (arith, sum_append front (count_fields bits), sum-replicate (counts_below bits 64) 4)
+pub sum-fields : (prefix : List ℕ) (bits : ℕ) → sum (prefix ++ count_fields bits) ≡ sum prefix + 4 * counts_below bits 64
+sum-fields prefix bits = omega (arith, sum_append prefix (count_fields bits), sum-replicate (counts_below bits 64) 4)
 
-pub fields_cut : (front : List ℕ) (bits n : ℕ) → n ≤ counts_below bits 64 → front ++ count_fields bits ≡ cut front n ++ replicate (counts_below bits 64 - n) 4
+pub fields_cut : (prefix : List ℕ) (bits n : ℕ) → n ≤ counts_below bits 64 → prefix ++ count_fields bits ≡ cut prefix n ++ replicate (counts_below bits 64 - n) 4
 unfolding cut
-fields_cut front bits n le =
+fields_cut prefix bits n le =
     let total = counts_below bits 64 in
     let e : n + (total - n) ≡ total = omega arith in
-    ap (λ xs. front ++ xs) (ap (λ m. replicate m 4) (sym e) ∙ sym (replicate-append-replicate n (total - n) 4))
-    ∙ sym (append_assoc front (replicate n 4) (replicate (total - n) 4))
+    ap (λ xs. prefix ++ xs) (ap (λ m. replicate m 4) (sym e) ∙ sym (replicate-append-replicate n (total - n) 4))
+    ∙ sym (append_assoc prefix (replicate n 4) (replicate (total - n) 4))
 
 -- the row count of a table is one of the fields
 pub one_more : (bits table : ℕ) → table < 64 → HasCount bits table → suc (counts_below bits table) ≤ counts_below bits 64
 one_more bits table lt set = omega (arith, counts-step bits table, set, counts_mono bits (suc table) 64 lt)
 
-pub count_cut : (front : List ℕ) (bits table : ℕ) → table < 64 → HasCount bits table
-    → front ++ count_fields bits ≡ cut front (counts_below bits table) ++ (4 ∷ replicate (counts_below bits 64 - suc (counts_below bits table)) 4)
-count_cut front bits table lt set =
+pub count_cut : (prefix : List ℕ) (bits table : ℕ) → table < 64 → HasCount bits table
+    → prefix ++ count_fields bits ≡ cut prefix (counts_below bits table) ++ (4 ∷ replicate (counts_below bits 64 - suc (counts_below bits table)) 4)
+count_cut prefix bits table lt set =
     let n = counts_below bits table in
     let total = counts_below bits 64 in
     let le = one_more bits table lt set in
     let one : total - n ≡ suc (total - suc n) = omega (arith, le) in
-    fields_cut front bits n (omega (arith, le)) ∙ ap (λ m. cut front n ++ replicate m 4) one
+    fields_cut prefix bits n (omega (arith, le)) ∙ ap (λ m. cut prefix n ++ replicate m 4) one
 
 -- ---- a table and the next
 

@@ -12,7 +12,7 @@ use Rattle.row_layout.specs.declared.column.Column.{Column}
 use Rattle.ppdb_tables.specs.declared.head.PdbHead.{PdbHead}
 use Rattle.ppdb_tables.specs.declared.layouts.Layouts.{Layouts}
 use Rattle.ppdb_tables.specs.declared.table.Table as declared
-use Rattle.ppdb_tables.specs.Head.{BadPdb, IsHeadOf}
+use Rattle.ppdb_tables.specs.Head.{PdbFaults, IsHeadOf}
 use Rattle.ppdb_tables.specs.Layouts.{debug_tables, widths_of, row_len}
 use Rattle.ppdb_tables.specs.LayoutsOf.{AreLayouts}
 use Rattle.ppdb_tables.specs.Tables.{count_in, sizes_in, table_rows, table_place, rows_at}
@@ -99,7 +99,7 @@ same_tables a b counts texts guids blobs documents methods scopes variables cons
 
 -- ---- the counts are small
 
-module _ (head : PdbHead) (pdb stream : List ℕ) (judged : IsAccepted (BadPdb pdb)) (is : IsHeadOf pdb head) (few : (t : ℕ) → t < 64
+module _ (head : PdbHead) (pdb stream : List ℕ) (judged : IsAccepted (PdbFaults pdb)) (is : IsHeadOf pdb head) (few : (t : ℕ) → t < 64
     → table_rows stream t ≤ 16777215) where
   count_small : (t : ℕ) → t < 64 → count_in head stream t ≤ 16777215
   count_small t lt =

@@ -33,23 +33,23 @@ pdb_rows stream table = rows_in stream 32 (referenced stream) table
 
 -- The rules of the fields, F9 to F11. A field is judged where the fields before it fit; 2d is the first number above those of the
 -- type system's tables.
-pub data BadPdbFields (stream : List ℕ) : Code → Place → Type 0 where
-  short : (at len : ℕ) → IsField (pdb_fields stream) at len → at ≤ length stream → length stream < at + len → BadPdbFields stream PdbShort (at_byte 3 at)
-  foreign : 24 ≤ length stream → 2 ^ 0x2D ≤ referenced stream → BadPdbFields stream PdbTables (at_byte 3 24)
+pub data PdbFieldFaults (stream : List ℕ) : Code → Place → Type 0 where
+  short : (at len : ℕ) → IsField (pdb_fields stream) at len → at ≤ length stream → length stream < at + len → PdbFieldFaults stream PdbShort (at_byte 3 at)
+  foreign : 24 ≤ length stream → 2 ^ 0x2D ≤ referenced stream → PdbFieldFaults stream PdbTables (at_byte 3 24)
   rows : (table : ℕ) → table < 64 → HasCount (referenced stream) table → pdb_count_place stream table ≤ length stream → 16777215 < pdb_rows stream table
-      → BadPdbFields stream PdbRows (at_byte 3 (pdb_count_place stream table))
+      → PdbFieldFaults stream PdbRows (at_byte 3 (pdb_count_place stream table))
 
 -- a token of MethodDef, table 06, whose row is there (ECMA-335 II.22, II.22.26)
 abbrev pub NamesMethod : ℕ → ℕ → Type 0
 NamesMethod methods token = (row : ℕ) × (1 ≤ row) × (row ≤ methods) × (token ≡ 6 * 2 ^ 24 + row)
 
 -- The rule of the entry point, F12.
-pub data BadEntry (stream : List ℕ) : Code → Place → Type 0 where
-  entry : entry_in stream ≢ 0 → (NamesMethod (pdb_rows stream 6) (entry_in stream) → ⊥) → BadEntry stream EntryPoint (at_byte 3 20)
+pub data EntryFaults (stream : List ℕ) : Code → Place → Type 0 where
+  entry : entry_in stream ≢ 0 → (NamesMethod (pdb_rows stream 6) (entry_in stream) → ⊥) → EntryFaults stream EntryPoint (at_byte 3 20)
 
 -- the rules of the stream: the entry point is judged where no field is bad
-abbrev pub BadPdb : List ℕ → Code → Place → Type 0
-BadPdb stream = Then (BadPdbFields stream) (BadEntry stream)
+abbrev pub PdbFaults : List ℕ → Code → Place → Type 0
+PdbFaults stream = Then (PdbFieldFaults stream) (EntryFaults stream)
 
 -- what the stream says: its id, the entry point's row or 0, and the rows of each table
 pub record IsHeadOf (stream : List ℕ) (head : PdbHead) : Type 0 where

@@ -44,24 +44,24 @@ abbrev pub IsForeign : ℕ → Type 0
 IsForeign bits = (bits % 2 ^ 0x30 ≢ 0) ⊎ (2 ^ 0x38 ≤ bits)
 
 -- The rules of the fields, F13 to F16 and F18; methods are the rows of MethodDef. A field is judged where the fields before it fit.
-pub data BadTableFields (methods : ℕ) (stream : List ℕ) : Code → Place → Type 0 where
+pub data TableFieldFaults (methods : ℕ) (stream : List ℕ) : Code → Place → Type 0 where
   short : (at len : ℕ) → IsField (table_fields stream) at len → at ≤ length stream → length stream < at + len
-      → BadTableFields methods stream TablesShort (at_byte 4 at)
-  heap_bits : 6 ≤ length stream → 8 ≤ heap_sizes stream → BadTableFields methods stream HeapBits (at_byte 4 6)
-  foreign : 8 ≤ length stream → IsForeign (valid stream) → BadTableFields methods stream TablesForeign (at_byte 4 8)
+      → TableFieldFaults methods stream TablesShort (at_byte 4 at)
+  heap_bits : 6 ≤ length stream → 8 ≤ heap_sizes stream → TableFieldFaults methods stream HeapBits (at_byte 4 6)
+  foreign : 8 ≤ length stream → IsForeign (valid stream) → TableFieldFaults methods stream TablesForeign (at_byte 4 8)
   rows : (table : ℕ) → table < 64 → HasCount (valid stream) table → table_count_place stream table ≤ length stream → 16777215 < table_rows stream table
-      → BadTableFields methods stream TableRows (at_byte 4 (table_count_place stream table))
+      → TableFieldFaults methods stream TableRows (at_byte 4 (table_count_place stream table))
   method_rows : HasCount (valid stream) 0x31 → table_count_place stream 0x31 ≤ length stream → table_rows stream 0x31 ≢ 0 → table_rows stream 0x31 ≢ methods
-      → BadTableFields methods stream MethodRows (at_byte 4 (table_count_place stream 0x31))
+      → TableFieldFaults methods stream MethodRows (at_byte 4 (table_count_place stream 0x31))
 
 -- where the rows begin
 abbrev pub rows_start : List ℕ → ℕ
 rows_start stream = sum (table_fields stream)
 
 -- The rule of the rows, F17.
-pub data BadBounds (sizes : Sizes) (stream : List ℕ) : Code → Place → Type 0 where
+pub data BoundFaults (sizes : Sizes) (stream : List ℕ) : Code → Place → Type 0 where
   bounds : (at len : ℕ) → IsField (row_fields sizes debug_tables) at len → length stream < rows_start stream + at + len
-      → BadBounds sizes stream TablesBounds (at_byte 4 (rows_start stream + at))
+      → BoundFaults sizes stream TablesBounds (at_byte 4 (rows_start stream + at))
 
 -- how many rows a table has: 00 to 2c by #Pdb, 30 to 37 by #~, all others none
 abbrev pub count_in : PdbHead → List ℕ → ℕ → ℕ
@@ -73,8 +73,8 @@ abbrev pub sizes_in : PdbHead → List ℕ → Sizes
 sizes_in head stream = record { heap = heap_sizes stream; rows = map (count_in head stream) (range_with_len 0 64) }
 
 -- the rules of the stream: the rows are judged where no field is bad
-abbrev pub BadTables : PdbHead → List ℕ → Code → Place → Type 0
-BadTables head stream = Then (BadTableFields (slice_index head.rows 6) stream) (BadBounds (sizes_in head stream) stream)
+abbrev pub TablesFaults : PdbHead → List ℕ → Code → Place → Type 0
+TablesFaults head stream = Then (TableFieldFaults (slice_index head.rows 6) stream) (BoundFaults (sizes_in head stream) stream)
 
 -- where a table begins: after the rows of the tables below it
 abbrev pub table_place : Sizes → List ℕ → ℕ → ℕ

@@ -1,7 +1,7 @@
 ghost use Rattle.std.specs.Prelude.{◌≡◌, ◌+◌, ◌*◌, ◌<◌, ◌≤◌, ℕ, length, map, slice_index, IfOk, OnOk, IfErr};
 ghost use Rattle.ppdb_base.specs.First.{IsFirst, IsAccepted};
 ghost use Rattle.ppdb_tables.specs.Layouts.{debug_tables, row_len};
-ghost use Rattle.ppdb_tables.specs.Tables.{BadBounds, rows_start};
+ghost use Rattle.ppdb_tables.specs.Tables.{BoundFaults, rows_start};
 ghost use Rattle.ppdb_tables.specs.Bounds.{IsRowFault, StandsAt};
 
 use crate::header::TABLES;
@@ -35,8 +35,8 @@ pub fn place_tables(
     requires inside { start ≤ length bytes.now }
     requires lens { lens.now ≡ map (row_len sizes.now) debug_tables }
     ensures places { IfOk result (λ places. (index : ℕ) → index < 8 → StandsAt sizes.now bytes.now index (slice_index places index)) }
-    ensures accepted { OnOk result (IsAccepted (BadBounds sizes.now bytes.now)) }
-    ensures first { IfErr result (IsFirst (BadBounds sizes.now bytes.now)) }
+    ensures accepted { OnOk result (IsAccepted (BoundFaults sizes.now bytes.now)) }
+    ensures first { IfErr result (IsFirst (BoundFaults sizes.now bytes.now)) }
 {
     let mut places = [0; 8];
     let mut at = start;

@@ -2,7 +2,7 @@ ghost use Rattle.std.specs.Prelude.{◌≡◌, ◌≢◌, ◌%◌, ◌^◌, ◌<
 ghost use Rattle.ppdb_base.specs.First.{IsFirst, IsAccepted};
 ghost use Rattle.metadata_root.specs.declared.kind.StreamKind.TheVariants.{Pdb};
 ghost use Rattle.metadata_root.specs.Streams.{bytes_of};
-ghost use Rattle.ppdb_tables.specs.Head.{BadPdbFields, BadPdb, IsHeadOf, NamesMethod, referenced, pdb_rows};
+ghost use Rattle.ppdb_tables.specs.Head.{PdbFieldFaults, PdbFaults, IsHeadOf, NamesMethod, referenced, pdb_rows};
 
 use crate::counts::{MAX_ROWS, Part};
 use crate::streams::stream_bytes;
@@ -32,7 +32,7 @@ fn read_bits(bytes: &[u8]) -> Result<u64, Fault>
     ensures bits { IfOk result (λ bits. bits ≡ referenced bytes.now) }
     ensures known { IfOk result (λ bits. bits < 2 ^ 45) }
     ensures long { OnOk result (32 ≤ length bytes.now) }
-    ensures first { IfErr result (IsFirst (BadPdbFields bytes.now)) }
+    ensures first { IfErr result (IsFirst (PdbFieldFaults bytes.now)) }
 {
     PDB.fields_end(bytes, 0, &[20, 4, 8])?;
     let bits = u64_at(bytes, 24);
@@ -49,8 +49,8 @@ fn read_rows(bytes: &[u8], bits: u64) -> Result<[u32; 64], Fault>
     requires long { 32 ≤ length bytes.now }
     ensures rows { IfOk result (λ rows. (table : ℕ) → table < 64 → slice_index rows table ≡ pdb_rows bytes.now table) }
     ensures few { OnOk result (pdb_rows bytes.now 6 ≤ MAX_ROWS) }
-    ensures accepted { OnOk result (IsAccepted (BadPdbFields bytes.now)) }
-    ensures first { IfErr result (IsFirst (BadPdbFields bytes.now)) }
+    ensures accepted { OnOk result (IsAccepted (PdbFieldFaults bytes.now)) }
+    ensures first { IfErr result (IsFirst (PdbFieldFaults bytes.now)) }
 {
     let mut rows = [0; 64];
     let mut at = 32;
@@ -80,9 +80,9 @@ fn method_of(token: u32, methods: u32) -> Option<u32>
 
 /// Reads the `#Pdb` stream.
 fn head_of(bytes: &[u8]) -> Result<PdbHead, Fault>
-    ensures accepted { OnOk result (IsAccepted (BadPdb bytes.now)) }
+    ensures accepted { OnOk result (IsAccepted (PdbFaults bytes.now)) }
     ensures head { IfOk result (IsHeadOf bytes.now) }
-    ensures first { IfErr result (IsFirst (BadPdb bytes.now)) }
+    ensures first { IfErr result (IsFirst (PdbFaults bytes.now)) }
 {
     let bits = read_bits(bytes)?;
     let rows = read_rows(bytes, bits)?;
@@ -100,9 +100,9 @@ fn head_of(bytes: &[u8]) -> Result<PdbHead, Fault>
 ///
 /// The first fault of the stream, F9 to F12.
 pub fn read_head(root: &Root<'_>) -> Result<PdbHead, Fault>
-    ensures accepted { OnOk result (IsAccepted (BadPdb (bytes_of root.now Pdb))) }
+    ensures accepted { OnOk result (IsAccepted (PdbFaults (bytes_of root.now Pdb))) }
     ensures head { IfOk result (IsHeadOf (bytes_of root.now Pdb)) }
-    ensures first { IfErr result (IsFirst (BadPdb (bytes_of root.now Pdb))) }
+    ensures first { IfErr result (IsFirst (PdbFaults (bytes_of root.now Pdb))) }
 {
     head_of(stream_bytes(root, StreamKind::Pdb))
 }

@@ -1,7 +1,7 @@
 ghost use Rattle.std.specs.Prelude.{◌≡◌, ◌≢◌, ◌%◌, ◌<◌, ◌≤◌, ◌↔◌, ℕ, length, map, slice_index, nat_lt, if◌then◌else◌, IfOk, OnOk, IfErr, IsTrue};
 ghost use Rattle.std.specs.List.{range_with_len};
 ghost use Rattle.ppdb_base.specs.First.{IsFirst, IsAccepted};
-ghost use Rattle.ppdb_tables.specs.Tables.{BadTableFields, IsForeign, heap_sizes, valid, table_rows, count_in, sizes_in, rows_start};
+ghost use Rattle.ppdb_tables.specs.Tables.{TableFieldFaults, IsForeign, heap_sizes, valid, table_rows, count_in, sizes_in, rows_start};
 
 use crate::counts::{MAX_ROWS, Part};
 use crate::head::PdbHead;
@@ -30,7 +30,7 @@ fn read_heap_bits(bytes: &[u8], methods: u32) -> Result<u8, Fault>
     ensures heap { IfOk result (λ heap. heap ≡ heap_sizes bytes.now) }
     ensures known { IfOk result (λ heap. heap < 8) }
     ensures long { OnOk result (7 ≤ length bytes.now) }
-    ensures first { IfErr result (IsFirst (BadTableFields methods bytes.now)) }
+    ensures first { IfErr result (IsFirst (TableFieldFaults methods bytes.now)) }
 {
     TABLES.fields_end(bytes, 0, &[4, 1, 1, 1])?;
     let heap = u8_at(bytes, 6);
@@ -54,7 +54,7 @@ fn read_valid(bytes: &[u8], methods: u32) -> Result<u64, Fault>
     ensures bits { IfOk result (λ bits. bits ≡ valid bytes.now) }
     ensures known { OnOk result (IsForeign (valid bytes.now) → ⊥) }
     ensures long { OnOk result (24 ≤ length bytes.now) }
-    ensures first { IfErr result (IsFirst (BadTableFields methods bytes.now)) }
+    ensures first { IfErr result (IsFirst (TableFieldFaults methods bytes.now)) }
 {
     TABLES.fields_end(bytes, 7, &[1, 8])?;
     let bits = u64_at(bytes, 8);
@@ -93,8 +93,8 @@ fn read_counts(bytes: &[u8], bits: u64, head: &PdbHead) -> Result<([u32; 64], us
     ensures rows { IfOk result (λ found. found.0 ≡ map (count_in head.now bytes.now) (range_with_len 0 64)) }
     ensures few { OnOk result ((table : ℕ) → table < 64 → table_rows bytes.now table ≤ MAX_ROWS) }
     ensures start { IfOk result (λ found. (found.1 ≡ rows_start bytes.now) × (found.1 ≤ length bytes.now)) }
-    ensures accepted { OnOk result (IsAccepted (BadTableFields (slice_index head.now.rows 6) bytes.now)) }
-    ensures first { IfErr result (IsFirst (BadTableFields (slice_index head.now.rows 6) bytes.now)) }
+    ensures accepted { OnOk result (IsAccepted (TableFieldFaults (slice_index head.now.rows 6) bytes.now)) }
+    ensures first { IfErr result (IsFirst (TableFieldFaults (slice_index head.now.rows 6) bytes.now)) }
 {
     let mut rows = [0; 64];
     let mut at = 24;
@@ -114,8 +114,8 @@ pub fn read_header(bytes: &[u8], head: &PdbHead) -> Result<Header, Fault>
     ensures sizes { IfOk result (λ header. header.sizes ≡ sizes_in head.now bytes.now) }
     ensures few { OnOk result ((table : ℕ) → table < 64 → table_rows bytes.now table ≤ MAX_ROWS) }
     ensures start { IfOk result (λ header. (header.start ≡ rows_start bytes.now) × (header.start ≤ length bytes.now)) }
-    ensures accepted { OnOk result (IsAccepted (BadTableFields (slice_index head.now.rows 6) bytes.now)) }
-    ensures first { IfErr result (IsFirst (BadTableFields (slice_index head.now.rows 6) bytes.now)) }
+    ensures accepted { OnOk result (IsAccepted (TableFieldFaults (slice_index head.now.rows 6) bytes.now)) }
+    ensures first { IfErr result (IsFirst (TableFieldFaults (slice_index head.now.rows 6) bytes.now)) }
 {
     let methods = head.rows[6];
     let heap = read_heap_bits(bytes, methods)?;

@@ -2,9 +2,9 @@ ghost use Rattle.std.specs.Prelude.{◌≡◌, IfOk, OnOk, IfErr};
 ghost use Rattle.ppdb_base.specs.First.{IsFirst, IsAccepted};
 ghost use Rattle.metadata_root.specs.declared.kind.StreamKind.TheVariants.{Pdb, Tables as TablesKind};
 ghost use Rattle.metadata_root.specs.Streams.{bytes_of};
-ghost use Rattle.ppdb_tables.specs.Head.{BadPdb, IsHeadOf};
+ghost use Rattle.ppdb_tables.specs.Head.{PdbFaults, IsHeadOf};
 ghost use Rattle.ppdb_tables.specs.RawOf.{raw_of};
-ghost use Rattle.ppdb_tables.specs.Tables.{BadTables, tables_in};
+ghost use Rattle.ppdb_tables.specs.Tables.{TablesFaults, tables_in};
 
 use crate::bounds::place_tables;
 use crate::head::PdbHead;
@@ -23,11 +23,11 @@ use ppdb_heaps::{Blobs, Guids, Strings};
 ///
 /// The first fault of the stream, F13 to F18.
 pub fn read_tables<'a>(root: &Root<'a>, head: &PdbHead) -> Result<Tables<'a>, Fault>
-    requires judged { IsAccepted (BadPdb (bytes_of root.now Pdb)) }
+    requires judged { IsAccepted (PdbFaults (bytes_of root.now Pdb)) }
     requires head { IsHeadOf (bytes_of root.now Pdb) head.now }
-    ensures accepted { OnOk result (IsAccepted (BadTables head.now (bytes_of root.now TablesKind))) }
+    ensures accepted { OnOk result (IsAccepted (TablesFaults head.now (bytes_of root.now TablesKind))) }
     ensures tables { IfOk result (λ tables. raw_of tables ≡ tables_in root.now head.now) }
-    ensures first { IfErr result (IsFirst (BadTables head.now (bytes_of root.now TablesKind))) }
+    ensures first { IfErr result (IsFirst (TablesFaults head.now (bytes_of root.now TablesKind))) }
 {
     let stream = stream_bytes(root, StreamKind::Tables);
     let header = read_header(stream, head)?;

@@ -3,11 +3,11 @@ use Rattle.std.proofs.Common.{◌≡◌, ℕ, List, [], ◌∷◌, map, Option, 
 use Rattle.std.specs.List.{filter_map}
 use Rattle.ppdb_base.specs.declared.fault.BlobFault.{BlobFault}
 use Rattle.blob_grammar.specs.Grammar.{Value, Field, Grammar, cut}
-use Rattle.blob_grammar.specs.Reading.{Reading, IsLongestFront}
+use Rattle.blob_grammar.specs.Reading.{Reading, IsLongestPrefix}
 use Rattle.blob_grammar.specs.Reader.{read_from, begun_from}
 use Rattle.blob_grammar.proofs.Readers.{read_from-reads}
 use Rattle.blob_grammar.proofs.Unique.{reading-unique}
-use Rattle.blob_grammar.proofs.FrontFields.{longest-front_of}
+use Rattle.blob_grammar.proofs.PrefixFields.{longest-prefix_of}
 use Rattle.ppdb_heaps.specs.Names.{IsName, names, joined, name_of}
 use Rattle.sequence_points.specs.declared.point.Point.{Point}
 use Rattle.sequence_points.specs.Records.{Entry as PointEntry, sequence_points}
@@ -30,11 +30,11 @@ unfolding records_of
 records_are g blob records fault h =
     (reading-unique g blob (read_from g [] [] 0 blob).items records (read_from g [] [] 0 blob).fault fault (read_from-reads g blob) h).0
 
--- the values of the record that has begun where the longest valid front ends
-pub begun_is : {R : Type 0} (g : Grammar R) (blob : List ℕ) (fields : List Field) (after : List ℕ) → IsLongestFront g blob fields after
+-- the values of the record that has begun where the longest valid prefix ends
+pub begun_is : {R : Type 0} (g : Grammar R) (blob : List ℕ) (fields : List Field) (after : List ℕ) → IsLongestPrefix g blob fields after
     → begun_of g blob ≡ (cut g fields).begun
 unfolding begun_of begun_from
-begun_is g blob fields after front = sym (ap (λ (fs : List Field). (cut g fs).begun) (longest-front_of g blob fields after front))
+begun_is g blob fields after prefix = sym (ap (λ (fs : List Field). (cut g fs).begun) (longest-prefix_of g blob fields after prefix))
 
 pub name_is : (raw : RawTables) (content name : List ℕ) → IsName raw.blobs content name → name_of raw.blobs content ≡ name
 unfolding name_of records_of
@@ -72,4 +72,4 @@ pub body_is : (raw : RawTables) (content : List ℕ) (modifiers : List Modifier)
     → ConstantReading (type_limits raw) content (record { modifiers = modifiers; end = body value })
     → body_of (begun_of (constants (type_limits raw)) content) ≡ Some value
 body_is raw content modifiers value h =
-    ap (λ (values : List Value). body_of values) (begun_is (constants (type_limits raw)) content h.reading.fields h.reading.after h.reading.front) ∙ h.end
+    ap (λ (values : List Value). body_of values) (begun_is (constants (type_limits raw)) content h.reading.fields h.reading.after h.reading.prefix) ∙ h.end

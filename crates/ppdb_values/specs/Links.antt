@@ -6,7 +6,7 @@ use Rattle.std.specs.List.{filter, find}
 use Rattle.ppdb_tables.specs.declared.rows.MachineRow.{MachineRow}
 use Rattle.ppdb_values.specs.declared.file.FileValue.{FileValue}
 use Rattle.ppdb_values.specs.Parts.{customs_on, slots_in}
-use Rattle.ppdb_values.specs.declared.noted.Custom.{Custom}
+use Rattle.ppdb_values.specs.declared.annotation.Custom.{Custom}
 use Rattle.ppdb_values.specs.Meaning.{without_parent}
 
 pub record Links : Type 0 where

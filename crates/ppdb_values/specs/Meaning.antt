@@ -17,8 +17,8 @@ use Rattle.ppdb_values.specs.declared.scope.ConstantValue.{ConstantValue}
 use Rattle.ppdb_values.specs.declared.import.ImportScopeValue.{ImportScopeValue}
 use Rattle.ppdb_values.specs.declared.import.ImportValue.{ImportValue}
 use Rattle.ppdb_values.specs.declared.custom.CustomValue.{CustomValue}
-use Rattle.ppdb_values.specs.declared.noted.Custom.{Custom}
-use Rattle.ppdb_values.specs.declared.noted.Noted.{Noted}
+use Rattle.ppdb_values.specs.declared.annotation.Custom.{Custom}
+use Rattle.ppdb_values.specs.declared.annotation.Annotation.{Annotation}
 use Rattle.ppdb_values.specs.Parts.{points_of, signature_of, last_point, holds, scopes_at, first_item, import_chain, customs_on, hoisted_of}
 
 -- A sequence point, with its document and the method's local signature. In a valid file the document is there.
@@ -32,9 +32,9 @@ pub record PointMeaning : Type 0 where
 pub record ScopeMeaning : Type 0 where
   pub range : Range
   pub customs : List Custom
-  pub variables : List (Noted VariableValue)
-  pub constants : List (Noted ConstantValue)
-  pub imports : List (Noted (List ImportValue))
+  pub variables : List (Annotation VariableValue)
+  pub constants : List (Annotation ConstantValue)
+  pub imports : List (Annotation (List ImportValue))
 
 -- A slot of a hoisted local: the record's position among those of the method and the slot's in the record, both from 0.
 pub record SlotMeaning : Type 0 where
@@ -58,23 +58,23 @@ abbrev pub without_parent : CustomValue → Custom
 without_parent custom = record { kind = custom.kind; value = custom.value }
 
 -- the custom records on a row, apart from it
-abbrev pub noted_on : FileValue → ℕ → ℕ → List Custom
-noted_on value table row = map without_parent (customs_on value table row)
+abbrev pub annotated_on : FileValue → ℕ → ℕ → List Custom
+annotated_on value table row = map without_parent (customs_on value table row)
 
 -- items of a table from a row on, each with its custom records
-abbrev pub noted_from : {X : Type 0} → FileValue → ℕ → ℕ → List X → List (Noted X)
-noted_from value table first items = map (λ item. record { item = item.1; customs = noted_on value table item.0 }) (enumerate_from first items)
+abbrev pub annotated_from : {X : Type 0} → FileValue → ℕ → ℕ → List X → List (Annotation X)
+annotated_from value table first items = map (λ item. record { item = item.1; customs = annotated_on value table item.0 }) (enumerate_from first items)
 
 -- an import scope of a chain: what it imports
-abbrev pub import_meaning : FileValue → ℕ × ImportScopeValue → Noted (List ImportValue)
-import_meaning value link = record { item = link.1.imports; customs = noted_on value 0x35 link.0 }
+abbrev pub import_meaning : FileValue → ℕ × ImportScopeValue → Annotation (List ImportValue)
+import_meaning value link = record { item = link.1.imports; customs = annotated_on value 0x35 link.0 }
 
 abbrev pub scope_meaning : FileValue → ℕ × ScopeValue → ScopeMeaning
 scope_meaning value scope = record {
   range = scope.1.range;
-  customs = noted_on value 0x32 scope.0;
-  variables = noted_from value 0x33 (first_item (λ before. length before.variables) value scope.0) scope.1.variables;
-  constants = noted_from value 0x34 (first_item (λ before. length before.constants) value scope.0) scope.1.constants;
+  customs = annotated_on value 0x32 scope.0;
+  variables = annotated_from value 0x33 (first_item (λ before. length before.variables) value scope.0) scope.1.variables;
+  constants = annotated_from value 0x34 (first_item (λ before. length before.constants) value scope.0) scope.1.constants;
   imports = map (import_meaning value) (import_chain value scope.1.import);
 }
 

@@ -112,7 +112,7 @@ pub record KeepsVariables (raw : RawTables) : Type 0 where
   pub slots_differ : DifferInScope (λ variable. variable.slot) (λ scope. scope.variables) raw.scopes raw.variables
   pub names_differ : DifferInScope (λ variable. text raw variable.name) (λ scope. scope.variables) raw.scopes raw.variables
 
--- The signature is whole: modifiers, and a body behind them ("LocalConstantSig Blob").
+-- The signature is whole: modifiers, and a body after them ("LocalConstantSig Blob").
 pub record IsConstant (raw : RawTables) (row : ConstantRow) : Type 0 where
   pub name : HasText raw row.name
   pub signature : HasBlob raw row.signature

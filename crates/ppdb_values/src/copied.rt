@@ -1,10 +1,10 @@
 // Copies of values, where memory may be short.
 ghost use Rattle.std.specs.Prelude.{◌≡◌, IfOk};
 
+use crate::annotation::{Annotation, Custom};
 use crate::custom::{CustomBody, CustomValue};
 use crate::file::{DocumentValue, FileValue, MethodValue};
 use crate::import::{ImportScopeValue, ImportValue};
-use crate::noted::{Custom, Noted};
 use crate::scope::{ConstantBody, ConstantValue, ScopeValue, VariableValue};
 use ppdb_base::{List, Memory};
 use std::alloc::Global;
@@ -203,9 +203,9 @@ impl Copied for Custom {
     }
 }
 
-impl<T: Copied> Copied for Noted<T> {
-    fn copied(&self, alloc: Global) -> Result<Noted<T>, Memory> {
-        Ok(Noted {
+impl<T: Copied> Copied for Annotation<T> {
+    fn copied(&self, alloc: Global) -> Result<Annotation<T>, Memory> {
+        Ok(Annotation {
             item: self.item.copied(alloc)?,
             customs: copied_all(alloc, self.customs.as_slice())?,
         })

@@ -4,16 +4,17 @@
 //! `specs/` says what the value of a file is, and what a value means at an IL offset of a method and of a method as a whole.
 #![tactic(auto)]
 
+mod annotation;
 mod copied;
 mod custom;
 mod file;
 mod import;
 mod laws;
-mod noted;
 mod same;
 mod scope;
 mod written;
 
+pub use annotation::{Annotation, Custom};
 pub use copied::{Copied, copied_all};
 pub use custom::{CustomBody, CustomValue};
 pub use file::{DocumentValue, FileValue, MethodValue};
@@ -23,7 +24,6 @@ pub use laws::{
     values_are_read, values_are_rows, values_have_types, worked_file_keeps_rules, worked_meaning,
     worked_values,
 };
-pub use noted::{Custom, Noted};
 pub use same::{Same, compare_names, same_all};
 pub use scope::{ConstantBody, ConstantValue, ScopeValue, VariableValue};
 pub use written::import_numbers;

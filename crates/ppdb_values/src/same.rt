@@ -2,9 +2,9 @@
 ghost use Rattle.std.specs.Prelude.{◌≡◌, ◌↔◌, IsTrue};
 ghost use Rattle.ppdb_values.specs.Order.{by_name};
 
+use crate::annotation::Custom;
 use crate::custom::{CustomBody, CustomValue};
 use crate::file::DocumentValue;
-use crate::noted::Custom;
 use custom_info::{AsyncStep, Slot};
 use std::cmp::Ordering;
 

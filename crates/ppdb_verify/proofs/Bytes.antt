@@ -2,7 +2,7 @@
 use Rattle.std.proofs.Common.{◌≡◌, ℕ, zero, suc, List, refl, arith}
 use Rattle.std.specs.Prelude.{Some, None, take, drop, codes, false, true}
 use Rattle.std.specs.Str.{bytes_eq}
-use Rattle.worked_files.specs.declared.TheConstants.{EMPTY, SMALL, PROGRAM}
+use Rattle.tests_files.specs.declared.TheConstants.{EMPTY, SMALL, PROGRAM}
 use Rattle.metadata_root.specs.declared.kind.StreamKind.TheVariants.{Pdb, Tables, Strings, UserStrings, Guids, Blobs}
 use Rattle.metadata_root.specs.Fields.{number_at}
 use Rattle.metadata_root.specs.Root.{name_at, fields_to}

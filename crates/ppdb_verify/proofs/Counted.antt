@@ -14,8 +14,8 @@ use Rattle.metadata_root.specs.Streams.{Streams, bytes_of}
 use Rattle.ppdb_tables.specs.Counts.{count_fields, counts_below}
 use Rattle.ppdb_tables.specs.declared.head.PdbHead.{PdbHead}
 use Rattle.ppdb_tables.specs.RawTables.{count}
-use Rattle.ppdb_tables.specs.Tables.{BadTableFields, BadTables, count_in, table_count_place, table_fields, table_rows, tables_in, valid}
-use Rattle.ppdb_tables.specs.Tables.BadTableFields.{short, method_rows}
+use Rattle.ppdb_tables.specs.Tables.{TableFieldFaults, TablesFaults, count_in, table_count_place, table_fields, table_rows, tables_in, valid}
+use Rattle.ppdb_tables.specs.Tables.TableFieldFaults.{short, method_rows}
 use Rattle.ppdb_verify.proofs.Fitting.{fields_fit}
 
 sum_replicate : (n x : ℕ) → sum (replicate n x) ≡ x * n
@@ -36,7 +36,7 @@ counts_up bits t (suc u) le = elim (cases_lt u t) [
 not_set : (bits table : ℕ) → bit_at bits table ≢ 1 → (bit_at bits table == 1) ≡ false
 not_set bits table apart = grind (arith, nat_tests, apart)
 
-module _ (methods : ℕ) (stream : List ℕ) (accepted : IsAccepted (BadTableFields methods stream)) where
+module _ (methods : ℕ) (stream : List ℕ) (accepted : IsAccepted (TableFieldFaults methods stream)) where
   place_within : (table : ℕ) → table ≤ 64 → table_count_place stream table ≤ length stream
   place_within table le =
       let fit = fields_fit (table_fields stream) (length stream) (λ at len is from past. accepted TablesShort (at_byte 4 at) (short at len is from past)) in
@@ -55,7 +55,7 @@ module _ (methods : ℕ) (stream : List ℕ) (accepted : IsAccepted (BadTableFie
   ]
 
 -- where there is debug information of methods, there is one row for each
-pub methods_fit : (streams : Streams) (head : PdbHead) → IsAccepted (BadTables head (bytes_of streams Tables))
+pub methods_fit : (streams : Streams) (head : PdbHead) → IsAccepted (TablesFaults head (bytes_of streams Tables))
     → count (tables_in streams head) 0x31 ≢ 0 → count (tables_in streams head) 0x31 ≡ count (tables_in streams head) 0x06
 methods_fit streams head accepted some =
     let stream = bytes_of streams Tables in
@@ -63,4 +63,4 @@ methods_fit streams head accepted some =
     get_or-map-range_with_len (count_in head stream) 0 64 0x31 0x31 0 (omega arith) (omega arith) in
     let methods : slice_index head.rows 6 ≡ count (tables_in streams head) 0x06 =
     sym (get_or-map-range_with_len (count_in head stream) 0 64 6 6 0 (omega arith) (omega arith)) in
-    counted ∙ method_rows_fit (slice_index head.rows 6) stream (λ code at bad. accepted code at (inl bad)) (λ none. some (counted ∙ none)) ∙ methods
+    counted ∙ method_rows_fit (slice_index head.rows 6) stream (λ code at invalid. accepted code at (inl invalid)) (λ none. some (counted ∙ none)) ∙ methods

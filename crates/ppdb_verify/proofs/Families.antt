@@ -8,12 +8,12 @@ use Rattle.ppdb_base.specs.First.{IsAccepted, IsFirst, IsJudgedTo}
 use Rattle.ppdb_base.specs.Place.{ComesBefore, numbers}
 use Rattle.ppdb_base.proofs.Judging.{first_of_one, first_of_two}
 use Rattle.ppdb_tables.specs.RawTables.{RawTables}
-use Rattle.ppdb_rules.specs.declared.errors.VerifyError.{VerifyError}
-use Rattle.ppdb_rules.specs.declared.errors.VerifyError.TheVariants.{Fault as TheFault, Memory}
-use Rattle.ppdb_rules.specs.Errors.{FaultIs}
-use Rattle.ppdb_rules.specs.Rows.{BadRow}
-use Rattle.reference_total.specs.Spans.{BadSpan}
-use Rattle.ppdb_verify.specs.Files.{BadRows}
+use Rattle.ppdb_verify_rules.specs.declared.errors.VerifyError.{VerifyError}
+use Rattle.ppdb_verify_rules.specs.declared.errors.VerifyError.TheVariants.{Fault as TheFault, Memory}
+use Rattle.ppdb_verify_rules.specs.Errors.{FaultIs}
+use Rattle.ppdb_verify_rules.specs.Rows.{RowFaults}
+use Rattle.ppdb_verify_total.specs.Spans.{SpanFaults}
+use Rattle.ppdb_verify.specs.Files.{RowsFaults}
 
 -- what holds of a fault makes another thing hold of it
 pub fault_is : (P Q : Fault → Type 0) → ((f : Fault) → P f → Q f) → (e : VerifyError) → FaultIs P e → FaultIs Q e
@@ -38,36 +38,36 @@ passes (x ∷ xs) (f ∷ fs) (s ∷ ss) none early = elim (cases_order x f) [
 ]
 
 module _ (raw : RawTables) where
-  swapped : (code : Code) (at : Place) → BadRows raw code at → BadSpan raw code at ⊎ BadRow raw code at
-  swapped code at bad = elim bad [
+  swapped : (code : Code) (at : Place) → RowsFaults raw code at → SpanFaults raw code at ⊎ RowFaults raw code at
+  swapped code at invalid = elim invalid [
     | inl row ↦ inr row
     | inr span ↦ inl span
   ]
 
   -- the rows have no fault before the item that passes the limit
-  pub span_is_first : (over : Fault) → IsFirst (BadSpan raw) over → IsJudgedTo (BadRow raw) (numbers over.code over.place) → IsFirst (BadRows raw) over
-  span_is_first over first judged = first_of_one (BadRows raw) (BadSpan raw) (BadRow raw) swapped over (inr first.bad) first judged
+  pub span_is_first : (over : Fault) → IsFirst (SpanFaults raw) over → IsJudgedTo (RowFaults raw) (numbers over.code over.place) → IsFirst (RowsFaults raw) over
+  span_is_first over first judged = first_of_one (RowsFaults raw) (SpanFaults raw) (RowFaults raw) swapped over (inr first.invalid) first judged
 
   -- the first fault of the rows does not come before it
-  pub span_is_earlier : (over fault : Fault) → IsFirst (BadSpan raw) over → IsFirst (BadRow raw) fault
-      → (ComesBefore (numbers fault.code fault.place) (numbers over.code over.place) → ⊥) → IsFirst (BadRows raw) over
+  pub span_is_earlier : (over fault : Fault) → IsFirst (SpanFaults raw) over → IsFirst (RowFaults raw) fault
+      → (ComesBefore (numbers fault.code fault.place) (numbers over.code over.place) → ⊥) → IsFirst (RowsFaults raw) over
   span_is_earlier over fault first row late =
-      span_is_first over first (λ code at bad early. late (passes (numbers code at) (numbers fault.code fault.place) (numbers over.code over.place)
-      (row.least code at bad) early))
+      span_is_first over first (λ code at invalid early. late (passes (numbers code at) (numbers fault.code fault.place) (numbers over.code over.place)
+      (row.least code at invalid) early))
 
   -- it does
-  pub row_is_earlier : (over fault : Fault) → IsFirst (BadSpan raw) over → IsFirst (BadRow raw) fault
-      → ComesBefore (numbers fault.code fault.place) (numbers over.code over.place) → IsFirst (BadRows raw) fault
+  pub row_is_earlier : (over fault : Fault) → IsFirst (SpanFaults raw) over → IsFirst (RowFaults raw) fault
+      → ComesBefore (numbers fault.code fault.place) (numbers over.code over.place) → IsFirst (RowsFaults raw) fault
   row_is_earlier over fault first row early =
-      first_of_two (BadRows raw) (BadRow raw) (BadSpan raw) (λ code at bad. bad) fault over (inl row.bad) row first early
+      first_of_two (RowsFaults raw) (RowFaults raw) (SpanFaults raw) (λ code at invalid. invalid) fault over (inl row.invalid) row first early
 
   -- no sum passes its limit
-  pub row_is_first : (fault : Fault) → IsAccepted (BadSpan raw) → IsFirst (BadRow raw) fault → IsFirst (BadRows raw) fault
+  pub row_is_first : (fault : Fault) → IsAccepted (SpanFaults raw) → IsFirst (RowFaults raw) fault → IsFirst (RowsFaults raw) fault
   row_is_first fault spans row =
-      first_of_one (BadRows raw) (BadRow raw) (BadSpan raw) (λ code at bad. bad) fault (inl row.bad) row (λ code at bad early. spans code at bad)
+      first_of_one (RowsFaults raw) (RowFaults raw) (SpanFaults raw) (λ code at invalid. invalid) fault (inl row.invalid) row (λ code at invalid early. spans code at invalid)
 
-  pub both_accepted : IsAccepted (BadRow raw) → IsAccepted (BadSpan raw) → IsAccepted (BadRows raw)
-  both_accepted rows spans code at bad = elim bad [
+  pub both_accepted : IsAccepted (RowFaults raw) → IsAccepted (SpanFaults raw) → IsAccepted (RowsFaults raw)
+  both_accepted rows spans code at invalid = elim invalid [
     | inl row ↦ rows code at row
     | inr span ↦ spans code at span
   ]

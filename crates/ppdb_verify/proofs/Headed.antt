@@ -13,13 +13,13 @@ use Rattle.metadata_root.specs.declared.kind.StreamKind.TheVariants.{Tables, Str
 use Rattle.metadata_root.specs.Streams.{Streams, bytes_of}
 use Rattle.row_layout.specs.declared.column.Sizes.{Sizes}
 use Rattle.ppdb_tables.specs.declared.head.PdbHead.{PdbHead}
-use Rattle.ppdb_tables.specs.Head.{BadPdb, IsHeadOf, NamesMethod, entry_in, pdb_rows, head_in}
-use Rattle.ppdb_tables.specs.Head.BadEntry.{entry}
+use Rattle.ppdb_tables.specs.Head.{PdbFaults, IsHeadOf, NamesMethod, entry_in, pdb_rows, head_in}
+use Rattle.ppdb_tables.specs.Head.EntryFaults.{entry}
 use Rattle.ppdb_tables.specs.Layouts.{document_columns, method_columns, scope_columns, variable_columns, constant_columns}
 use Rattle.ppdb_tables.specs.Layouts.{import_columns, machine_columns, custom_columns, document_row, method_row, scope_row, variable_row}
 use Rattle.ppdb_tables.specs.Layouts.{constant_row, import_row, machine_row, custom_row}
 use Rattle.ppdb_tables.specs.RawTables.{RawTables, count}
-use Rattle.ppdb_tables.specs.Tables.{BadBounds, BadTableFields, BadTables, count_in, heap_sizes, rows_at, sizes_in, table_rows, tables_in}
+use Rattle.ppdb_tables.specs.Tables.{BoundFaults, TableFieldFaults, TablesFaults, count_in, heap_sizes, rows_at, sizes_in, table_rows, tables_in}
 
 -- one function makes one list of another
 map_alike : {X : Type 0} (f g : ℕ → X) → ((n : ℕ) → f n ≡ g n) → (ns : List ℕ) → map f ns ≡ map g ns
@@ -68,10 +68,10 @@ module _ (pdb : List ℕ) (head : PdbHead) (is : IsHeadOf pdb head) where
   tables_alike streams = ap (tables_by streams) (sizes_alike (bytes_of streams Tables))
 
   -- the rules of #~ are the same
-  pub bad_alike : (P : (Code → Place → Type 0) → Type 0) (stream : List ℕ) → P (BadTables head stream) → P (BadTables (head_in pdb) stream)
-  bad_alike P stream holds =
-      subst (λ (m : ℕ). P (Then (BadTableFields m stream) (BadBounds (sizes_in (head_in pdb) stream) stream))) (rows_alike 6 (omega arith))
-      (subst (λ (sizes : Sizes). P (Then (BadTableFields (slice_index head.rows 6) stream) (BadBounds sizes stream))) (sizes_alike stream) holds)
+  pub invalid_alike : (P : (Code → Place → Type 0) → Type 0) (stream : List ℕ) → P (TablesFaults head stream) → P (TablesFaults (head_in pdb) stream)
+  invalid_alike P stream holds =
+      subst (λ (m : ℕ). P (Then (TableFieldFaults m stream) (BoundFaults (sizes_in (head_in pdb) stream) stream))) (rows_alike 6 (omega arith))
+      (subst (λ (sizes : Sizes). P (Then (TableFieldFaults (slice_index head.rows 6) stream) (BoundFaults sizes stream))) (sizes_alike stream) holds)
 
   -- the rows of the type system's tables
   pub rows_are : (streams : Streams) (table : ℕ) → table < 0x2D → slice_index head.rows table ≡ count (tables_in streams head) table
@@ -82,14 +82,14 @@ module _ (pdb : List ℕ) (head : PdbHead) (is : IsHeadOf pdb head) where
       sym (get_or-map-range_with_len (count_in head stream) 0 64 table table 0 (omega (arith, lt)) (omega arith) ∙ counted)
 
   -- the entry point is no row or one that is there
-  pub entry_within : (streams : Streams) → IsAccepted (BadPdb pdb) → head.entry ≤ count (tables_in streams head) 0x06
+  pub entry_within : (streams : Streams) → IsAccepted (PdbFaults pdb) → head.entry ≤ count (tables_in streams head) 0x06
   entry_within streams accepted =
       let methods : slice_index head.rows 6 ≡ pdb_rows pdb 6 = is.rows 6 (omega arith) in
       let counted : slice_index head.rows 6 ≡ count (tables_in streams head) 6 = rows_are streams 6 (omega arith) in
       let at = is.entry in
       elim (cases_lt (pdb_rows pdb 6) (entry_in pdb % 2 ^ 24)) [
         | inl over ↦ absurd (accepted EntryPoint (at_byte 3 20)
-            (inr ((λ code at bad. accepted code at (inl bad)), entry (λ zero. not_zero zero over) (λ names. not_named names over))))
+            (inr ((λ code at invalid. accepted code at (inl invalid)), entry (λ zero. not_zero zero over) (λ names. not_named names over))))
         | inr within ↦ omega (arith, within, methods, counted, at)
       ]
     where

@@ -9,8 +9,8 @@ use Rattle.ppdb_base.proofs.Fields.{sum_append}
 use Rattle.ppdb_verify.proofs.Fitting.{fields_fit}
 use Rattle.metadata_root.specs.declared.kind.StreamKind.{StreamKind}
 use Rattle.metadata_root.specs.declared.kind.StreamKind.TheVariants.{Pdb, Tables, Strings, UserStrings, Guids, Blobs}
-use Rattle.metadata_root.specs.Root.{BadRoot, fields_to, header_fields, header_place, name_len, name_place, root_fields, stream_count}
-use Rattle.metadata_root.specs.Root.BadRoot.{truncated, repeated}
+use Rattle.metadata_root.specs.Root.{RootFaults, fields_to, header_fields, header_place, name_len, name_place, root_fields, stream_count}
+use Rattle.metadata_root.specs.Root.RootFaults.{truncated, repeated}
 use Rattle.metadata_root.specs.Streams.{AreStreamsOf, IsHeaderOf, IsListed, IsStream, Stream, Streams, offset_in, size_in}
 
 next_header : (file : List ℕ) (k : ℕ) → header_place file (suc k) ≡ header_place file k + 8 + name_len file (header_place file k + 8)
@@ -26,7 +26,7 @@ before_later file j (suc k) lt =
       | inr at ↦ let e : j ≡ k = omega (arith, at, lt) in rw e (omega (arith, next_header file k))
     ]
 
-module _ (file : List ℕ) (accepted : IsAccepted (BadRoot file)) where
+module _ (file : List ℕ) (accepted : IsAccepted (RootFaults file)) where
   name_within : (k : ℕ) → k < stream_count file → name_place file k ≤ length file
   name_within k counted =
       let all : header_place file (stream_count file) ≤ length file =

@@ -4,26 +4,26 @@ use Rattle.ppdb_base.specs.declared.code.Code.{Code}
 use Rattle.ppdb_base.specs.declared.fault.Place.{Place}
 use Rattle.ppdb_base.specs.First.{Then}
 use Rattle.metadata_root.specs.declared.kind.StreamKind.TheVariants.{Pdb, Tables}
-use Rattle.metadata_root.specs.Streams.{Streams, AreStreamsOf, BadContainer, bytes_of}
-use Rattle.ppdb_tables.specs.Head.{BadPdb, head_in}
+use Rattle.metadata_root.specs.Streams.{Streams, AreStreamsOf, ContainerFaults, bytes_of}
+use Rattle.ppdb_tables.specs.Head.{PdbFaults, head_in}
 use Rattle.ppdb_tables.specs.RawTables.{RawTables}
-use Rattle.ppdb_tables.specs.Tables.{BadTables}
-use Rattle.ppdb_rules.specs.Rows.{BadRow}
-use Rattle.reference_total.specs.Spans.{BadSpan}
+use Rattle.ppdb_tables.specs.Tables.{TablesFaults}
+use Rattle.ppdb_verify_rules.specs.Rows.{RowFaults}
+use Rattle.ppdb_verify_total.specs.Spans.{SpanFaults}
 use Rattle.ppdb_values.specs.RawFile.{RawFile, raw_in}
 
 -- the rules of the rows, F19 to F40
-abbrev pub BadRows : RawTables → Code → Place → Type 0
-BadRows raw code at = BadRow raw code at ⊎ BadSpan raw code at
+abbrev pub RowsFaults : RawTables → Code → Place → Type 0
+RowsFaults raw code at = RowFaults raw code at ⊎ SpanFaults raw code at
 
 -- the rules of #Pdb, of #~ and of the rows, each judged only where nothing of the parts before is bad
-abbrev pub BadContents : Streams → Code → Place → Type 0
-BadContents streams =
-    Then (BadPdb (bytes_of streams Pdb)) (Then (BadTables (head_in (bytes_of streams Pdb)) (bytes_of streams Tables)) (BadRows (raw_in streams).tables))
+abbrev pub ContentFaults : Streams → Code → Place → Type 0
+ContentFaults streams =
+    Then (PdbFaults (bytes_of streams Pdb)) (Then (TablesFaults (head_in (bytes_of streams Pdb)) (bytes_of streams Tables)) (RowsFaults (raw_in streams).tables))
 
 -- all rules
-abbrev pub BadFile : List ℕ → Code → Place → Type 0
-BadFile file = Then (BadContainer file) (λ code at. (streams : Streams) × AreStreamsOf file streams × BadContents streams code at)
+abbrev pub FileFaults : List ℕ → Code → Place → Type 0
+FileFaults file = Then (ContainerFaults file) (λ code at. (streams : Streams) × AreStreamsOf file streams × ContentFaults streams code at)
 
 -- the file is read as this
 pub record IsRawOf (file : List ℕ) (raw : RawFile) : Type 0 where

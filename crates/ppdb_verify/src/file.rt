@@ -1,16 +1,16 @@
 // The parts of a file one after the other.
 ghost use Rattle.std.specs.Prelude.{◌≤◌, length, OnOk, IfOk, IfErr};
 ghost use Rattle.ppdb_base.specs.First.{IsAccepted, IsFirst};
-ghost use Rattle.ppdb_rules.specs.Errors.{FaultIs};
-ghost use Rattle.ppdb_verify.specs.Files.{BadFile, IsRawOf};
+ghost use Rattle.ppdb_verify_rules.specs.Errors.{FaultIs};
+ghost use Rattle.ppdb_verify.specs.Files.{FileFaults, IsRawOf};
 ghost use Rattle.ppdb_verify.specs.Views.{raw_file};
 
 use crate::judge::judge_all;
 use crate::verified::Verified;
 use metadata_root::read_root;
 use ppdb_base::Steps;
-use ppdb_rules::VerifyError;
 use ppdb_tables::{read_head, read_tables};
+use ppdb_verify_rules::VerifyError;
 use std::alloc::Global;
 use std::sync::ledger::Ledger;
 
@@ -25,9 +25,9 @@ pub fn verify<'a, L: Ledger>(
     steps: &mut Steps<L>,
 ) -> Result<Verified<'a>, VerifyError>
     requires { length bytes.now ≤ 134217728 }
-    ensures accepted { OnOk result (IsAccepted (BadFile bytes.now)) }
+    ensures accepted { OnOk result (IsAccepted (FileFaults bytes.now)) }
     ensures file { IfOk result (λ file. IsRawOf bytes.now (raw_file file)) }
-    ensures first { IfErr result (FaultIs (IsFirst (BadFile bytes.now))) }
+    ensures first { IfErr result (FaultIs (IsFirst (FileFaults bytes.now))) }
 {
     let root = match read_root(bytes) {
         Ok(root) => root,

@@ -3,20 +3,20 @@ ghost use Rattle.std.specs.Prelude.{OnOk, IfErr};
 ghost use Rattle.ppdb_base.specs.First.{IsAccepted, IsFirst, IsJudgedTo};
 ghost use Rattle.ppdb_base.specs.Place.{numbers};
 ghost use Rattle.ppdb_tables.specs.RawOf.{raw_of};
-ghost use Rattle.ppdb_rules.specs.Errors.{FaultIs};
-ghost use Rattle.ppdb_rules.specs.Rows.{BadRow};
-ghost use Rattle.reference_total.specs.Spans.{BadSpan};
-ghost use Rattle.ppdb_verify.specs.Files.{BadRows};
+ghost use Rattle.ppdb_verify_rules.specs.Errors.{FaultIs};
+ghost use Rattle.ppdb_verify_rules.specs.Rows.{RowFaults};
+ghost use Rattle.ppdb_verify_total.specs.Spans.{SpanFaults};
+ghost use Rattle.ppdb_verify.specs.Files.{RowsFaults};
 
 use crate::order::comes_before;
 use ppdb_base::{Fault, Steps};
-use ppdb_rules::{VerifyError, judge_rows, judge_rows_to};
 use ppdb_tables::Tables;
-use reference_total::judge_spans;
+use ppdb_verify_rules::{VerifyError, judge_rows, judge_rows_to};
+use ppdb_verify_total::judge_spans;
 use std::alloc::Global;
 use std::sync::ledger::Ledger;
 
-/// Judges the rows up to and with the one with which the sum passes its limit. What comes behind it is not judged: a small file
+/// Judges the rows up to and with the one with which the sum passes its limit. What comes after it is not judged: a small file
 /// may name so much there that judging it would not end in years.
 fn judge_up_to<L: Ledger>(
     alloc: Global,
@@ -24,9 +24,9 @@ fn judge_up_to<L: Ledger>(
     over: &Fault,
     steps: &mut Steps<L>,
 ) -> Result<(), VerifyError>
-    requires { IsFirst (BadSpan (raw_of tables.now)) over.now }
-    ensures ok { OnOk result (IsJudgedTo (BadRow (raw_of tables.now)) (numbers over.now.code over.now.place)) }
-    ensures err { IfErr result (FaultIs (IsFirst (BadRow (raw_of tables.now)))) }
+    requires { IsFirst (SpanFaults (raw_of tables.now)) over.now }
+    ensures ok { OnOk result (IsJudgedTo (RowFaults (raw_of tables.now)) (numbers over.now.code over.now.place)) }
+    ensures err { IfErr result (FaultIs (IsFirst (RowFaults (raw_of tables.now)))) }
 {
     tables.shape();
     judge_rows_to(alloc, tables, over.place.table, over.place.row, steps)?;
@@ -40,8 +40,8 @@ fn first_fault<L: Ledger>(
     over: Fault,
     steps: &mut Steps<L>,
 ) -> VerifyError
-    requires { IsFirst (BadSpan (raw_of tables.now)) over }
-    ensures { FaultIs (IsFirst (BadRows (raw_of tables.now))) result }
+    requires { IsFirst (SpanFaults (raw_of tables.now)) over }
+    ensures { FaultIs (IsFirst (RowsFaults (raw_of tables.now))) result }
 {
     match judge_up_to(alloc, tables, &over, steps) {
         Ok(()) => VerifyError::Fault(over),
@@ -61,8 +61,8 @@ pub(crate) fn judge_all<L: Ledger>(
     tables: &Tables<'_>,
     steps: &mut Steps<L>,
 ) -> Result<(), VerifyError>
-    ensures accepted { OnOk result (IsAccepted (BadRows (raw_of tables.now))) }
-    ensures first { IfErr result (FaultIs (IsFirst (BadRows (raw_of tables.now)))) }
+    ensures accepted { OnOk result (IsAccepted (RowsFaults (raw_of tables.now))) }
+    ensures first { IfErr result (FaultIs (IsFirst (RowsFaults (raw_of tables.now)))) }
 {
     match judge_spans(tables, steps) {
         Ok(()) => {}

@@ -9,9 +9,9 @@ mod verified;
 
 pub use file::verify;
 pub use laws::worked_bytes_are_read;
-pub use ppdb_rules::VerifyError;
 pub use ppdb_values::{
     ConstantBody, ConstantValue, CustomBody, CustomValue, DocumentValue, FileValue,
     ImportScopeValue, ImportValue, MethodValue, ScopeValue, VariableValue,
 };
+pub use ppdb_verify_rules::VerifyError;
 pub use verified::Verified;

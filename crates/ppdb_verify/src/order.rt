@@ -1,4 +1,4 @@
-// Which of two faults is told first.
+// Which of two faults is reported first.
 ghost use Rattle.std.specs.Prelude.{◌↔◌, IsTrue};
 ghost use Rattle.ppdb_base.specs.Place.{ComesBefore, numbers};
 

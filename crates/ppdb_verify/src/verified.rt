@@ -3,26 +3,26 @@ ghost use Rattle.std.specs.Prelude.{◌≡◌, ◌≢◌, ℕ, ◌<◌, ◌≤�
 ghost use Rattle.ppdb_base.specs.First.{IsAccepted};
 ghost use Rattle.ppdb_tables.specs.RawTables.{count};
 ghost use Rattle.ppdb_tables.specs.RawOf.{raw_of};
-ghost use Rattle.ppdb_verify.specs.Files.{BadRows};
+ghost use Rattle.ppdb_verify.specs.Files.{RowsFaults};
 
-use accepted_files::{accepted_files_keep_rules, cursors_never_fault};
 use ppdb_tables::{PdbHead, Tables};
-use sound_values::values_are_sound;
+use ppdb_values_sound_laws::values_are_sound;
+use ppdb_verify_accepted_laws::{accepted_files_keep_rules, cursors_never_fault};
 
 /// A debug file that keeps all rules, where it stands in memory.
 #[derive(Clone, Copy)]
 pub struct Verified<'a> {
     pub(crate) head: PdbHead,
     pub(crate) tables: Tables<'a>,
-    ghost accepted: { IsAccepted (BadRows (raw_of tables)) },
+    ghost accepted: { IsAccepted (RowsFaults (raw_of tables)) },
     ghost entry: { head.entry ≤ count (raw_of tables) 0x06 },
     ghost methods: { count (raw_of tables) 0x31 ≢ 0 → count (raw_of tables) 0x31 ≡ count (raw_of tables) 0x06 },
     ghost rows: { (table : ℕ) → table < 0x2D → slice_index head.rows table ≡ count (raw_of tables) table },
 }
 
 impl<'a> Verified<'a> {
-    ghost use Rattle.accepted_files.specs.Cursors.{CursorsNeverFault};
-    ghost use Rattle.sound_values.specs.Sound.{IsSound};
+    ghost use Rattle.ppdb_verify_accepted_laws.specs.Cursors.{CursorsNeverFault};
+    ghost use Rattle.ppdb_values_sound_laws.specs.Sound.{IsSound};
     ghost use Rattle.ppdb_values.specs.Rules.{KeepsRules};
     ghost use Rattle.ppdb_values.specs.Value.{value_of};
     ghost use Rattle.ppdb_verify.specs.Views.{head_of, raw_file, tables_of};
@@ -39,7 +39,7 @@ impl<'a> Verified<'a> {
     /// The tables, which keep all rules of the rows.
     pub fn tables(&self) -> &Tables<'a>
         ensures tables { result.now ≡ tables_of self.now }
-        ensures accepted { IsAccepted (BadRows (raw_of (tables_of self.now))) }
+        ensures accepted { IsAccepted (RowsFaults (raw_of (tables_of self.now))) }
     {
         &self.tables
     }

@@ -49,8 +49,8 @@ cell-row_bytes (w ∷ ws) (c ∷ cs) rest fit (suc k) h =
     (length-bytes_low_first 0 w c) (sum_cons w (take k ws)))
     ∙ cell-row_bytes ws cs rest fit.1 k (omega (arith, h))
   where
-    moved : (front row rest : List ℕ) (w n m : ℕ) → length front ≡ w → m ≡ w + n → drop m ((front ++ row) ++ rest) ≡ drop n (row ++ rest)
-    moved front row rest w n m e at = rw (at, append_assoc front row rest, ← drop-drop n w (front ++ (row ++ rest)), drop_at front (row ++ rest) w e) refl
+    moved : (prefix row rest : List ℕ) (w n m : ℕ) → length prefix ≡ w → m ≡ w + n → drop m ((prefix ++ row) ++ rest) ≡ drop n (row ++ rest)
+    moved prefix row rest w n m e at = rw (at, append_assoc prefix row rest, ← drop-drop n w (prefix ++ (row ++ rest)), drop_at prefix (row ++ rest) w e) refl
 
 -- one more cell that fits, and one that does not
 pub fit_more : (widths cells : List ℕ) (i : ℕ) → i < length widths → length widths ≡ length cells → Fit (take i widths) (take i cells)

@@ -26,7 +26,7 @@ pub(crate) fn line_range(base: u32, step: i64, more: u32) -> Option<(u32, u32)>
     Some((first, last))
 }
 
-/// A column after a step, and the one that is `more` behind it, where both lie in their range.
+/// A column after a step, and the one that is `more` after it, where both lie in their range.
 pub(crate) fn column_range(base: u32, step: i64, more: i64) -> Option<(u32, u32)>
     requires low { neg_ℤ (pos 4294967296) ≤ℤ step }
     requires high { step ≤ℤ pos 4294967296 }

@@ -32,11 +32,11 @@ taken n xs h = omega (arith, length-take n xs)
 fixed_name : (key : List ℕ) → is_pattern key ≡ false → fixed_part key ≡ key
 fixed_name key e = ap (λ b. cond b (take (length key - 1) key) key) e
 
--- the fixed part of a key that matches is a front of the name, without case
-pub matched_front : (name : List ℕ) (pair : Pair) → matches name pair ≡ true
+-- the fixed part of a key that matches is a prefix of the name, without case
+pub matched_prefix : (name : List ℕ) (pair : Pair) → matches name pair ≡ true
     → (length (fixed_part pair.key) ≤ length name) × (lower (fixed_part pair.key) ≡ take (length (fixed_part pair.key)) (lower name)) ×
     (is_pattern pair.key ≡ false → length (fixed_part pair.key) ≡ length name)
-matched_front name pair h = step (is_pattern pair.key) refl h
+matched_prefix name pair h = step (is_pattern pair.key) refl h
   where
     step : (b : Bool) → is_pattern pair.key ≡ b → cond b (starts_with nat_eq (lower name) (lower (fixed_part pair.key)))
         (bytes_eq (lower name) (lower pair.key)) ≡ true
@@ -72,11 +72,11 @@ name_matches name pair e same =
     ap (λ b. cond b (starts_with nat_eq (lower name) (lower f)) (bytes_eq (lower name) (lower pair.key))) e
     ∙ (bytes_eq-Decides (lower name) (lower pair.key)).1 (sym same ∙ ap lower (fixed_name pair.key e))
 
--- a key that matches begins with each front of the name that is not longer
+-- a key that matches begins with each prefix of the name that is not longer
 pub begins_of : (name : List ℕ) (pair : Pair) (n : ℕ) → matches name pair ≡ true → n ≤ length (fixed_part pair.key) → BeginsWith (take n name) pair
 begins_of name pair n h short =
     let f = fixed_part pair.key in
-    let m = matched_front name pair h in
+    let m = matched_prefix name pair h in
     let n_is : length (take n name) ≡ n = taken n name (omega (arith, m.0, short)) in (
       omega (arith, n_is, short),
       ap (λ k. take k (lower f)) n_is ∙ ap (λ l. take n l) m.1 ∙ take-take n (length f) (lower name) short ∙ take-map to_ascii_lowercase n name,
@@ -142,14 +142,14 @@ begins_more name at pair less begins goes =
     let big = rank_big at (to_ascii_lowercase (get_or name at 0)) pair goes in
     let n : length (take at name) ≡ at = taken at name (omega (arith, less)) in
     let m : length (take (at + 1) name) ≡ at + 1 = taken (at + 1) name (omega (arith, less)) in
-    let front : take at (lower f) ≡ lower (take at name) = ap (λ k. take k (lower f)) (sym n) ∙ begins.1 in
+    let prefix : take at (lower f) ≡ lower (take at name) = ap (λ k. take k (lower f)) (sym n) ∙ begins.1 in
     let byte : get_or (lower f) at 0 ≡ to_ascii_lowercase (get_or name at 0) = get_or-map to_ascii_lowercase f at 0 0 big.0 ∙ big.1 in
     let left : take (at + 1) (lower f) ≡ take at (lower f) ++ get_or (lower f) at 0 ∷ [] = take_more (lower f) at 0 (omega (arith, low_long f, big.0)) in
     let right : take (at + 1) (lower name) ≡ take at (lower name) ++ get_or (lower name) at 0 ∷ [] =
     take_more (lower name) at 0 (omega (arith, low_long name, less)) in
     let read : get_or (lower name) at 0 ≡ to_ascii_lowercase (get_or name at 0) = get_or-map to_ascii_lowercase name at 0 0 less in (
       omega (arith, m, big.0),
-      ap (λ k. take k (lower f)) m ∙ left ∙ ap (λ l. l ++ get_or (lower f) at 0 ∷ []) (front ∙ sym (take-map to_ascii_lowercase at name))
+      ap (λ k. take k (lower f)) m ∙ left ∙ ap (λ l. l ++ get_or (lower f) at 0 ∷ []) (prefix ∙ sym (take-map to_ascii_lowercase at name))
           ∙ ap (λ b. take at (lower name) ++ b ∷ []) (byte ∙ sym read) ∙ sym right ∙ take-map to_ascii_lowercase (at + 1) name,
     )
 
@@ -162,13 +162,13 @@ begins_back name at pair less begins =
     let long : at < length f = omega (arith, begins.0, m) in
     let whole : take (at + 1) (lower f) ≡ take (at + 1) (lower name) = ap (λ k. take k (lower f)) (sym m) ∙ begins.1
     ∙ sym (take-map to_ascii_lowercase (at + 1) name) in
-    let front : take at (lower f) ≡ take at (lower name) = sym (take-take at (at + 1) (lower f) (omega arith)) ∙ ap (λ l. take at l) whole
+    let prefix : take at (lower f) ≡ take at (lower name) = sym (take-take at (at + 1) (lower f) (omega arith)) ∙ ap (λ l. take at l) whole
     ∙ take-take at (at + 1) (lower name) (omega arith) in
     let byte : get_or (lower f) at 0 ≡ get_or (lower name) at 0 = sym (get_or-take (at + 1) (lower f) at 0 (omega arith)) ∙ ap (λ l. get_or l at 0) whole
     ∙ get_or-take (at + 1) (lower name) at 0 (omega arith) in
     let same : to_ascii_lowercase (get_or f at 0) ≡ to_ascii_lowercase (get_or name at 0) = sym (get_or-map to_ascii_lowercase f at 0 0 long) ∙ byte
     ∙ get_or-map to_ascii_lowercase name at 0 0 less in (
-      (omega (arith, n, long), ap (λ k. take k (lower f)) n ∙ front ∙ take-map to_ascii_lowercase at name),
+      (omega (arith, n, long), ap (λ k. take k (lower f)) n ∙ prefix ∙ take-map to_ascii_lowercase at name),
       rank_here at pair long ∙ ap (λ b. 2 + b) same,
     )
 

@@ -1,4 +1,4 @@
--- Pairs in order: a search among those that share a front, by how they go on.
+-- Pairs in order: a search among those that share a prefix, by how they go on.
 use Rattle.std.proofs.Common.{◌≡◌, ℕ, zero, suc, ◌+◌, ◌-◌, ◌<◌, ◌≤◌, ◌∙◌, Bool, true, false, cond, List, [], ◌∷◌, length}
 use Rattle.std.proofs.Common.{take, drop, get_or, refl, sym, ap, subst, arith, Option, Some, None, Bor, ltb, ltb-true, length-drop, length-take}
 use Rattle.std.specs.Prelude.{Contains}
@@ -40,7 +40,7 @@ in_order part i j d order up less =
     back (place_cmp b.key a.key) (place_cmp a.key b.key) (place_total.antisymm a.key b.key)
     (sorted_far (λ (x y : Pair). is_lt (place_cmp x.key y.key)) (ranks_by place_total (λ (p : Pair). p.key)) part order i j d up less)
 
--- ---- how keys go on where they share a front
+-- ---- how keys go on where they share a prefix
 
 -- how a text goes on at a place, where its key is a name or a pattern
 rank_in : Bool → Option ℕ → ℕ
@@ -92,15 +92,15 @@ rank_is pair n = rw (slice_get-map to_ascii_lowercase (fixed_part pair.key) n) (
     lifted None = refl
     lifted (Some b) = refl
 
-pub ranks_rise : (part : List Pair) (front : List ℕ) → AreInOrder part → ((pair : Pair) → Contains part pair → BeginsWith front pair)
-    → IsNonDecreasingBy (rank_at (length front)) part
-ranks_rise part front order those i j d up less =
+pub ranks_rise : (part : List Pair) (prefix : List ℕ) → AreInOrder part → ((pair : Pair) → Contains part pair → BeginsWith prefix pair)
+    → IsNonDecreasingBy (rank_at (length prefix)) part
+ranks_rise part prefix order those i j d up less =
     let a = get_or part i d in let b = get_or part j d in
     let at_a = those a (Contains-get_or part i d (omega arith)) in
     let at_b = those b (Contains-get_or part j d less) in
-    let same : take (length front) (lower (fixed_part a.key)) ≡ take (length front) (lower (fixed_part b.key)) = at_a.1 ∙ sym at_b.1 in
-    rw (rank_is a (length front), rank_is b (length front))
-    (ranks_up (is_pattern a.key) (is_pattern b.key) (lower (fixed_part a.key)) (lower (fixed_part b.key)) (slice_cmp nat_cmp a.key b.key) (length front)
+    let same : take (length prefix) (lower (fixed_part a.key)) ≡ take (length prefix) (lower (fixed_part b.key)) = at_a.1 ∙ sym at_b.1 in
+    rw (rank_is a (length prefix), rank_is b (length prefix))
+    (ranks_up (is_pattern a.key) (is_pattern b.key) (lower (fixed_part a.key)) (lower (fixed_part b.key)) (slice_cmp nat_cmp a.key b.key) (length prefix)
     same (omega (arith, at_a.0, length-map (fixed_part a.key) to_ascii_lowercase)) (omega (arith, at_b.0, length-map (fixed_part b.key) to_ascii_lowercase))
     (in_order part i j d order up less))
 

@@ -14,7 +14,7 @@ use Rattle.source_link.specs.Laws.{IsBest}
 use Rattle.source_link.specs.Pairs.{is_pattern, fixed_part}
 use Rattle.source_link.specs.Search.{place_cmp, AreInOrder, rank_at, BeginsWith}
 use Rattle.source_link.proofs.Narrowed.{Ended, Narrowed}
-use Rattle.source_link.proofs.Narrowing.{taken, low_long, matched_front, pattern_matches, name_matches, begins_of, whole_begins}
+use Rattle.source_link.proofs.Narrowing.{taken, low_long, matched_prefix, pattern_matches, name_matches, begins_of, whole_begins}
 use Rattle.source_link.proofs.Narrowing.{rank_small, rank_past, rank_one, begins_more, begins_back, longer_first, place_first}
 use Rattle.source_link.proofs.Places.{ranks_rise}
 
@@ -40,12 +40,12 @@ ends_here pairs name at part found pair n less ended long =
   where
     step : (b : Bool) → is_pattern pair.key ≡ b → ◌≡◌ {A = ℕ} (cond b 1 0) 1
     step true e = refl
-    step false e = let even = (matched_front name pair ended.matching).2 e in absurd (omega (arith, even, ended.shorter, less))
+    step false e = let even = (matched_prefix name pair ended.matching).2 e in absurd (omega (arith, even, ended.shorter, less))
 
 -- two patterns that end at one place of a name have one fixed part, without case
 same_fixed : (name : List ℕ) (at : ℕ) (a b : Pair) → matches name a ≡ true → matches name b ≡ true → length (fixed_part a.key) ≡ length (fixed_part b.key)
     → lower (fixed_part a.key) ≡ lower (fixed_part b.key)
-same_fixed name at a b ma mb even = (matched_front name a ma).1 ∙ ap (λ n. take n (lower name)) even ∙ sym (matched_front name b mb).1
+same_fixed name at a b ma mb even = (matched_prefix name a ma).1 ∙ ap (λ n. take n (lower name)) even ∙ sym (matched_prefix name b mb).1
 
 ended_later : (name : List ℕ) (at : ℕ) (pairs : List Pair) (pair : Pair) → Ended name at pairs pair → Ended name (at + 1) pairs pair
 ended_later name at pairs pair e = let s = e.shorter in record { there = e.there; matching = e.matching; shorter = omega (arith, s) }
@@ -56,15 +56,15 @@ remembered : (pairs : List Pair) (name : List ℕ) (at : ℕ) (part : List Pair)
     → MatchOption (option_or here found) ((pair : Pair) → Ended name (at + 1) pairs pair → ⊥)
     (λ best. Ended name (at + 1) pairs best.now × ((pair : Pair) → Ended name (at + 1) pairs pair → is_le (key_cmp best.now.key pair.key) ≡ true))
 remembered pairs name at part found (Some first) n less h =
-    let front = n.those first.now h.0 in
+    let prefix = n.those first.now h.0 in
     let one = rank_one at first.now h.1 in
     let at_is : length (take at name) ≡ at = taken at name (omega (arith, less)) in
-    let long : at ≤ length (fixed_part first.now.key) = let b = front.1.0 in omega (arith, b, at_is) in
+    let long : at ≤ length (fixed_part first.now.key) = let b = prefix.1.0 in omega (arith, b, at_is) in
     let even : length (fixed_part first.now.key) ≡ at = let s = one.0 in omega (arith, s, long) in
-    let whole : lower (fixed_part first.now.key) ≡ lower (take at name) = whole_begins (take at name) first.now front.1 (omega (arith, at_is, even)) in
+    let whole : lower (fixed_part first.now.key) ≡ lower (take at name) = whole_begins (take at name) first.now prefix.1 (omega (arith, at_is, even)) in
     let matched : matches name first.now ≡ true = pattern_matches name first.now one.1
     (whole ∙ sym (take-map to_ascii_lowercase at name) ∙ ap (λ k. take k (lower name)) (sym even)) in (
-      record { there = front.0; matching = matched; shorter = omega (arith, even) },
+      record { there = prefix.0; matching = matched; shorter = omega (arith, even) },
       λ pair ended. choose pair ended matched even (ltb (length (fixed_part pair.key)) at) refl,
     )
   where
@@ -107,8 +107,8 @@ narrowed_on pairs name at byte part next found here after n less is ended or ord
       let before = n.those pair was.0 in
       (before.0, begins_more name at pair less before.1 (was.1 ∙ ap (λ b. 2 + to_ascii_lowercase b) is));
   all = λ pair there begins.
-      let front = begins_back name at pair less begins in
-      all pair (n.all pair there front.0) (front.1 ∙ ap (λ b. 2 + to_ascii_lowercase b) (sym is));
+      let prefix = begins_back name at pair less begins in
+      all pair (n.all pair there prefix.0) (prefix.1 ∙ ap (λ b. 2 + to_ascii_lowercase b) (sym is));
   ended = subst (λ (r : Option (Bor Pair)). MatchOption r ((pair : Pair) → Ended name (at + 1) pairs pair → ⊥)
       (λ best. Ended name (at + 1) pairs best.now × ((pair : Pair) → Ended name (at + 1) pairs pair → is_le (key_cmp best.now.key pair.key) ≡ true))) (sym or)
       (remembered pairs name at part found here n less ended);
@@ -131,14 +131,14 @@ pub first_is_best : (pairs : List Pair) (name : List ℕ) (at : ℕ) (part : Lis
     → Contains part first → ((pair : Pair) → Contains part pair → is_le (place_cmp first.key pair.key) ≡ true) → rank_at (length name) first < 2
     → IsBest name pairs first
 first_is_best pairs name at part found first n end there before small =
-    let front = n.those first there in
-    let begins = whole_name name at first (omega (arith, end)) front.1 in
+    let prefix = n.those first there in
+    let begins = whole_name name at first (omega (arith, end)) prefix.1 in
     let short = rank_small (length name) first small in
     let whole = whole_begins name first begins short in
     let even : length (fixed_part first.key) ≡ length name = let b = begins.0 in omega (arith, b, short) in
     let mine = matched (is_pattern first.key) refl whole even in
     record {
-      there = front.0;
+      there = prefix.0;
       matching = mine;
       first = λ other inside matching. choose other inside matching mine even (ltb (length (fixed_part other.key)) at) refl;
     }
@@ -154,7 +154,7 @@ first_is_best pairs name at part found first n end there before small =
     choose other inside matching mine even true t = let short = ltb-true _ _ t in longer_first first.key other.key (omega (arith, short, even, end))
     choose other inside matching mine even false t =
         let long = ltb-false _ _ t in
-        let most = (matched_front name other matching).0 in
+        let most = (matched_prefix name other matching).0 in
         place_first first.key other.key (same_fixed name at first other mine matching (omega (arith, long, most, even, end)))
         (before other (at_end pairs name at part found other n end inside matching long))
 
@@ -174,7 +174,7 @@ shorter_than pairs name at part found n end big pair there matching =
     step true t = ltb-true _ _ t
     step false t =
         let here = big pair (at_end pairs name at part found pair n end there matching (ltb-false _ _ t)) in
-        let most = (matched_front name pair matching).0 in
+        let most = (matched_prefix name pair matching).0 in
         absurd (low (is_pattern pair.key) (subst (λ r. 2 ≤ r) (rank_past (length name) pair most) here))
 
 -- else it is what is remembered

@@ -52,9 +52,9 @@ no_star rest xs is = step (ltb (position_or_len (λ b. nat_eq b star) xs) (lengt
     step false e none = let past = ltb-false _ _ e in all_kept rest xs (λ k less. fails_before_first (λ b. nat_eq b star) xs k 0 (omega (arith, past, less)))
 
 -- one turn of the walk over the stars
-pub one_star : (rest into left front next after : List ℕ) → with_rest rest left ≡ front ++ (rest ++ with_rest rest next) → after ≡ (into ++ front) ++ rest
+pub one_star : (rest into left prefix next after : List ℕ) → with_rest rest left ≡ prefix ++ (rest ++ with_rest rest next) → after ≡ (into ++ prefix) ++ rest
     → after ++ with_rest rest next ≡ into ++ with_rest rest left
-one_star rest into left front next after cut put = rw (put, cut) (simp append_assoc)
+one_star rest into left prefix next after cut put = rw (put, cut) (simp append_assoc)
 
 pub on_ok : {T E P Q : Type 0} (r : Result T E) → (P → Q) → OnOk r P → OnOk r Q
 on_ok (Ok x) f h = f h

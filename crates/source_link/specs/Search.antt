@@ -33,4 +33,4 @@ rank_at at pair = rank_of (is_pattern pair.key) (slice_get (fixed_part pair.key)
 
 -- the fixed part of the key has so many bytes at least, and begins with these, without case
 abbrev pub BeginsWith : List ℕ → Pair → Type 0
-BeginsWith front pair = (length front ≤ length (fixed_part pair.key)) × (take (length front) (lower (fixed_part pair.key)) ≡ lower front)
+BeginsWith prefix pair = (length prefix ≤ length (fixed_part pair.key)) × (take (length prefix) (lower (fixed_part pair.key)) ≡ lower prefix)

@@ -9,7 +9,7 @@ use ppdb_base::{Bytes, Memory};
 /// Appends the rest of a name, with slashes in place of backslashes.
 fn append_turned(rest: &[u8], into: &mut Bytes) -> Result<(), Memory>
     ensures ok { OnOk result (into.new ≡ into.old ++ turned rest.now) }
-    ensures front { (more : List ℕ) × (into.new ≡ into.old ++ more) }
+    ensures prefix { (more : List ℕ) × (into.new ≡ into.old ++ more) }
 {
     into.reserve(rest.len())?;
     for byte in rest {
@@ -38,11 +38,11 @@ fn cut_at_star(address: &[u8]) -> Option<(&[u8], &[u8])>
 /// Appends an address with the rest of a name in place of each `*`.
 fn append_with_rest(address: &[u8], rest: &[u8], into: &mut Bytes) -> Result<(), Memory>
     ensures ok { OnOk result (into.new ≡ into.old ++ with_rest (turned rest.now) address.now) }
-    ensures front { (more : List ℕ) × (into.new ≡ into.old ++ more) }
+    ensures prefix { (more : List ℕ) × (into.new ≡ into.old ++ more) }
 {
     let mut left = address;
-    'stars: while let Some((front, after)) = cut_at_star(left) {
-        into.append(front)?;
+    'stars: while let Some((prefix, after)) = cut_at_star(left) {
+        into.append(prefix)?;
         append_turned(rest, into)?;
         left = after;
     }
@@ -52,7 +52,7 @@ fn append_with_rest(address: &[u8], rest: &[u8], into: &mut Bytes) -> Result<(),
 /// Appends the address of a name that a pair matches.
 pub(crate) fn append_filled(pair: &Pair, name: &[u8], into: &mut Bytes) -> Result<(), Memory>
     ensures ok { OnOk result (into.new ≡ into.old ++ filled name.now pair.now) }
-    ensures front { (more : List ℕ) × (into.new ≡ into.old ++ more) }
+    ensures prefix { (more : List ℕ) × (into.new ≡ into.old ++ more) }
 {
     let key = pair.key.as_slice();
     if !is_pattern(key) {

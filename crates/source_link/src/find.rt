@@ -13,8 +13,8 @@ use ppdb_base::Steps;
 use ppdb_queries::{Run, customs_of};
 use ppdb_tables::Parent;
 use ppdb_verify::Verified;
+use ppdb_verify_rows::{blob, count, custom, guid_of_kind};
 use std::sync::ledger::Ledger;
-use verified_rows::{blob, count, custom, guid_of_kind};
 
 /// The first Source Link record of some rows of CustomDebugInformation.
 fn link_between<'a, L: Ledger>(

@@ -14,7 +14,7 @@ use ppdb_base::{Bytes, LinkError, Memory};
 use std::alloc::Global;
 use std::marker::Model;
 
-/// The names and fronts of names that a Source Link record has addresses for.
+/// The names and prefixes of names that a Source Link record has addresses for.
 #[derive(Drop)]
 pub struct Links {
     pairs: Vec<Pair>,
@@ -51,7 +51,7 @@ impl Links {
         ensures found { (address : List ℕ) → address_of name.now self.now ≡ Some address
             → OnOk result ((result ≡ Ok true) × (into.new ≡ into.old ++ address)) }
         ensures none { address_of name.now self.now ≡ None → (result ≡ Ok false) × (into.new ≡ into.old) }
-        ensures front { (more : List ℕ) × (into.new ≡ into.old ++ more) }
+        ensures prefix { (more : List ℕ) × (into.new ≡ into.old ++ more) }
     {
         let Some(pair) = best(self.pairs.as_slice(), name) else {
             return Ok(false);

@@ -4,12 +4,12 @@ ghost use Rattle.source_link.specs.Pairs as pairs;
 
 use ppdb_base::{Bytes, List};
 
-/// A document name, or the front of document names before a `*`, and the address of their sources.
+/// A document name, or the prefix of document names before a `*`, and the address of their sources.
 #[derive(Drop)]
 pub struct Pair {
-    /// The name, or the front and a `*`.
+    /// The name, or the prefix and a `*`.
     pub key: Bytes,
-    /// The address; a `*` in that of a front stands for the rest of the name.
+    /// The address; a `*` in that of a prefix stands for the rest of the name.
     pub address: Bytes,
 }
 

@@ -1,4 +1,4 @@
--- What is left of a constant behind the code of its body.
+-- What is left of a constant after the code of its body.
 use Rattle.std.proofs.Common.{◌≡◌, ℕ, ◌+◌, ◌-◌, ◌<◌, ◌≤◌, Bool, true, false, ◌&&◌, List, [], ◌∷◌, length, get_or, take, drop, Some, None}
 use Rattle.std.proofs.Common.{Result, Ok, Err, refl, sym, ap, ◌∙◌, arith}
 use Rattle.std.specs.Prelude.{is_some, ◌==◌}
@@ -21,7 +21,7 @@ use Rattle.type_blobs.specs.ConstantReading.{Rest, begins_modifier, finished, le
 use Rattle.type_blobs.specs.ConstantReading.{fault_end, whole_end, shown_body, BodyIs}
 use Rattle.type_blobs.proofs.NextStep.{Found, found, step-field, step-out, step-none, step-end, step-end_none, step-over, step-number, step-no_number}
 use Rattle.type_blobs.proofs.Codes.{OfGeneral, of_general, OfPrimitive, of_primitive}
-use Rattle.type_blobs.proofs.ConstantRests.{rest as rest_behind, rest_goes, rest_bad, rest_stop}
+use Rattle.type_blobs.proofs.ConstantRests.{rest as rest_behind, rest_goes, rest_invalid, rest_stop}
 use Rattle.type_blobs.proofs.ModifiersTaken.{Byte_at, code_taken, a_modifier, no_type}
 
 -- the bytes from a place on, as a slice has them
@@ -48,7 +48,7 @@ module _ (limits : TypeLimits) (blob : List ℕ) where
 
   pub object_more : (at : ℕ) → at < length blob → IsFault (number 28 ∷ []) at (out_at at)
   object_more at less =
-      (number 28 ∷ [], rest_bad limits blob (number 28 ∷ []) at ValueRange (step-over (constants limits) [] (number 28 ∷ []) blob at refl less), refl)
+      (number 28 ∷ [], rest_invalid limits blob (number 28 ∷ []) at ValueRange (step-over (constants limits) [] (number 28 ∷ []) blob at refl less), refl)
 
   -- ---- the rest of a blob
 
@@ -75,7 +75,7 @@ module _ (limits : TypeLimits) (blob : List ℕ) where
   text_odd at [] e h = absurd cc
   text_odd at (b ∷ bs) e h = (
     text,
-    rest_bad limits blob text at ValueRange (step-out (constants limits) [] text blob at rest (octets (b ∷ bs))
+    rest_invalid limits blob text at ValueRange (step-out (constants limits) [] text blob at rest (octets (b ∷ bs))
         (length (b ∷ bs)) refl (ap (field_at rest) e) h),
     refl,
   )
@@ -98,7 +98,7 @@ module _ (limits : TypeLimits) (blob : List ℕ) where
       let b = step-no_number (constants limits) [] (number code ∷ []) blob at (is_type limits) token_of fault known.after (λ n. refl)
       (no_end (number code ∷ []) at known.alone) e in (
         number code ∷ [],
-        rest_bad limits blob (number code ∷ []) at b.code b.is ∙ ap (λ f. finished (number code ∷ []) (Some f)) (sym b.fault_is),
+        rest_invalid limits blob (number code ∷ []) at b.code b.is ∙ ap (λ f. finished (number code ∷ []) (Some f)) (sym b.fault_is),
         known.no_modifier,
       )
 
@@ -144,7 +144,7 @@ module _ (limits : TypeLimits) (blob : List ℕ) where
   value_missing code size at fault is low high m =
       let known : OfPrimitive code = of_primitive code low high in (
         number code ∷ [],
-        rest_bad limits blob (number code ∷ []) at m.code (step-none (constants limits) [] (number code ∷ []) blob at (fixed size) m.code (known.after
+        rest_invalid limits blob (number code ∷ []) at m.code (step-none (constants limits) [] (number code ∷ []) blob at (fixed size) m.code (known.after
             ∙ ap (λ s. Some (fixed s)) (sym is)) m.none (no_end (number code ∷ []) at known.alone))
             ∙ ap (λ f. finished (number code ∷ []) (Some f)) (sym m.fault_is),
         known.no_modifier,
@@ -198,7 +198,7 @@ module _ (limits : TypeLimits) (blob : List ℕ) where
       let known : OfPrimitive code = of_primitive code low high in (
         valued code value,
         value_taken code size at value is low high there
-            ∙ rest_bad limits blob (valued code value) (at + size) ValueRange (step-over (constants limits) [] (valued code value) blob (at + size)
+            ∙ rest_invalid limits blob (valued code value) (at + size) ValueRange (step-over (constants limits) [] (valued code value) blob (at + size)
             (form_other code h known.no_general) less),
         known.no_modifier,
       )
@@ -211,7 +211,7 @@ module _ (limits : TypeLimits) (blob : List ℕ) where
       let b = step-no_number (constants limits) [] (valued code value) blob (at + size) (is_type limits) token_of fault (form_enumerable code h) (λ n. refl)
       (ap (λ b. b && true) (not_empty blob (at + size) less)) e in (
         valued code value,
-        value_taken code size at value is low high there ∙ rest_bad limits blob (valued code value) (at + size) b.code b.is
+        value_taken code size at value is low high there ∙ rest_invalid limits blob (valued code value) (at + size) b.code b.is
             ∙ ap (λ f. finished (valued code value) (Some f)) (sym b.fault_is),
         known.no_modifier,
       )
@@ -244,7 +244,7 @@ module _ (limits : TypeLimits) (blob : List ℕ) where
       let all : List Value = number code ∷ octets value ∷ number f.n ∷ [] in (
         all,
         value_taken code size at value is low high there ∙ enumerated_taken code (at + size) value token next h f
-            ∙ rest_bad limits blob all next ValueRange (step-over (constants limits) [] all blob next refl less),
+            ∙ rest_invalid limits blob all next ValueRange (step-over (constants limits) [] all blob next refl less),
         (of_primitive code low high).no_modifier,
       )
 
@@ -262,14 +262,14 @@ module _ (limits : TypeLimits) (blob : List ℕ) where
   pub code_missing : (at : ℕ) (fault : BlobFault) → IsMissing byte blob at fault → body_answer (constant_left limits blob at).end ≡ Err fault
   unfolding constant_left
   code_missing at fault m =
-      ap (λ r. body_answer (left_of r).end) (rest_bad limits blob [] at m.code (step-none (constants limits) [] [] blob at byte m.code refl m.none
+      ap (λ r. body_answer (left_of r).end) (rest_invalid limits blob [] at m.code (step-none (constants limits) [] [] blob at byte m.code refl m.none
       (and-false (is_empty (drop at blob)))))
       ∙ ap (λ f. Err f) (sym m.fault_is)
 
   pub code_other : (at code : ℕ) → Byte_at limits blob at code → is_code code ≡ false → body_answer (constant_left limits blob at).end ≡ Err (out_at at)
   unfolding constant_left
   code_other at code there h = ap (λ r. body_answer (left_of r).end)
-      (rest_bad limits blob [] at ValueRange (step-out (constants limits) [] [] blob at byte (number code) 1 refl there h))
+      (rest_invalid limits blob [] at ValueRange (step-out (constants limits) [] [] blob at byte (number code) 1 refl there h))
 
   -- where the cursor answers None, no modifier begins
   pub no_modifier_there : (at code : ℕ) (b : Bool) → Byte_at limits blob at code → is_modifier code ≡ b

@@ -3,7 +3,7 @@ use Rattle.std.proofs.Common.{◌≡◌, ℕ, zero, suc, ◌+◌, List, [], ◌�
 use Rattle.std.specs.List.{fold}
 use Rattle.ppdb_base.specs.declared.Code.{Code}
 use Rattle.blob_grammar.specs.Grammar.{Value, Field, Cut, closed, with_value}
-use Rattle.blob_grammar.specs.Reader.{Step, field, stop, bad, step, take_field, fields_for, fields_from, begun_from}
+use Rattle.blob_grammar.specs.Reader.{Step, field, stop, invalid, step, take_field, fields_for, fields_from, begun_from}
 use Rattle.blob_grammar.proofs.Steps.{Alike, read_from-alike}
 use Rattle.type_blobs.specs.declared.types.TypeLimits.{TypeLimits}
 use Rattle.type_blobs.specs.declared.types.Modifier.{Modifier}
@@ -40,7 +40,7 @@ module _ (limits : TypeLimits) (blob : List ℕ) where
       let f : Field = record { bytes = take len bytes; value = value } in
       ap (λ fs. f ∷ fs) (same_closed (h len) a b (vs ++ value ∷ []) (modifier_of (vs ++ value ∷ [])) (e len))
   same_take h a b vs bytes stop e = refl
-  same_take h a b vs bytes (bad code) e = refl
+  same_take h a b vs bytes (invalid code) e = refl
 
   fields_for-alike : (turns : ℕ) (a b : List Modifier) (vs : List Value) (bytes : List ℕ)
       → fields_for turns (constants limits) a vs bytes ≡ fields_for turns (constants limits) b vs bytes
@@ -90,9 +90,9 @@ module _ (limits : TypeLimits) (blob : List ℕ) where
   rest_closes begun at value len m s e = rest-step (constants limits) [] begun blob at (field value len) s
       ∙ ap (closed_rest (constants limits) [] begun blob at value len) e ∙ same_rest m (at + len)
 
-  pub rest_bad : (begun : List Value) (at : ℕ) (code : Code) → Steps begun at (bad code)
+  pub rest_invalid : (begun : List Value) (at : ℕ) (code : Code) → Steps begun at (invalid code)
       → rest begun at ≡ finished begun (Some (record { code = code; byte = at }))
-  rest_bad begun at code s = rest-step (constants limits) [] begun blob at (bad code) s
+  rest_invalid begun at code s = rest-step (constants limits) [] begun blob at (invalid code) s
 
   pub rest_stop : (begun : List Value) (at : ℕ) → Steps begun at stop → rest begun at ≡ finished begun None
   rest_stop begun at s = rest-step (constants limits) [] begun blob at stop s

@@ -4,12 +4,12 @@ use Rattle.std.specs.Prelude.{is_some}
 use Rattle.ppdb_base.specs.declared.BlobFault.{BlobFault}
 use Rattle.blob_grammar.specs.Grammar.{Value, Field, cut}
 use Rattle.blob_grammar.specs.Reading.{Ends}
-use Rattle.blob_grammar.specs.Reader.{read_from, front_of, begun_from}
+use Rattle.blob_grammar.specs.Reader.{read_from, prefix_of, begun_from}
 use Rattle.blob_grammar.proofs.Readers.{read_from-reads}
 use Rattle.type_blobs.specs.declared.types.TypeLimits.{TypeLimits}
 use Rattle.type_blobs.specs.Constants.{ConstantBody, constants, body_of}
 use Rattle.type_blobs.specs.ConstantReading.{fault_of, begins_modifier, EndIs, ConstantReading, whole_end, fault_end, end_of, constant_left}
-use Rattle.blob_grammar.proofs.FrontFields.{longest-front_of}
+use Rattle.blob_grammar.proofs.PrefixFields.{longest-prefix_of}
 
 pub fault_is : (begun : List Value) (fault : Option BlobFault) → fault_of (end_of begun fault) ≡ fault
 fault_is begun None = whole (body_of begun)
@@ -17,38 +17,38 @@ fault_is begun None = whole (body_of begun)
     whole : (o : Option ConstantBody) → fault_of (whole_end o) ≡ None
     whole None = refl
     whole (Some b) = refl
-fault_is begun (Some fault) = bad (begins_modifier begun)
+fault_is begun (Some fault) = invalid (begins_modifier begun)
   where
-    bad : (b : Bool) → fault_of (fault_end b fault) ≡ Some fault
-    bad true = refl
-    bad false = refl
+    invalid : (b : Bool) → fault_of (fault_end b fault) ≡ Some fault
+    invalid true = refl
+    invalid false = refl
 
 whole_is : (begun : List Value) (o : Option ConstantBody) → body_of begun ≡ o → is_some o ≡ true → EndIs begun (whole_end o)
 whole_is begun None e h = absurd cc
 whole_is begun (Some b) e h = e
 
-bad_is : (begun : List Value) (b : Bool) (fault : BlobFault) → begins_modifier begun ≡ b → EndIs begun (fault_end b fault)
-bad_is begun true fault e = e
-bad_is begun false fault e = e
+invalid_is : (begun : List Value) (b : Bool) (fault : BlobFault) → begins_modifier begun ≡ b → EndIs begun (fault_end b fault)
+invalid_is begun true fault e = e
+invalid_is begun false fault e = e
 
 end_is : (limits : TypeLimits) (fields : List Field) (after : List ℕ) (fault : Option BlobFault) → Ends (constants limits) fields after fault
     → let begun : List Value = (cut (constants limits) fields).begun in EndIs begun (end_of begun fault)
 end_is limits fields after None h = whole_is (cut (constants limits) fields).begun (body_of (cut (constants limits) fields).begun) refl h.1
-end_is limits fields after (Some fault) h = bad_is (cut (constants limits) fields).begun (begins_modifier (cut (constants limits) fields).begun) fault refl
+end_is limits fields after (Some fault) h = invalid_is (cut (constants limits) fields).begun (begins_modifier (cut (constants limits) fields).begun) fault refl
 
 pub constant_left-reads : (limits : TypeLimits) (blob : List ℕ) → ConstantReading limits blob (constant_left limits blob 0)
 unfolding constant_left begun_from
 constant_left-reads limits blob =
     let r = read_from-reads (constants limits) blob in
     let fault = (read_from (constants limits) [] [] 0 blob).fault in
-    let begun = (cut (constants limits) (front_of (constants limits) blob)).begun in
+    let begun = (cut (constants limits) (prefix_of (constants limits) blob)).begun in
     let same : (cut (constants limits) r.fields).begun ≡ begun =
-    ap (λ (fs : List Field). (cut (constants limits) fs).begun) (longest-front_of (constants limits) blob r.fields r.after r.front) in
+    ap (λ (fs : List Field). (cut (constants limits) fs).begun) (longest-prefix_of (constants limits) blob r.fields r.after r.prefix) in
     record {
       reading = record {
         fields = r.fields;
         after = r.after;
-        front = r.front;
+        prefix = r.prefix;
         made = r.made;
         ends = subst (λ f. Ends (constants limits) r.fields r.after f) (sym (fault_is begun fault)) r.ends;
       };

@@ -3,7 +3,7 @@ use Rattle.std.proofs.Common.{◌≡◌, ℕ, List, Option, sym, ap}
 use Rattle.std.specs.Prelude.{◌↔◌}
 use Rattle.std.specs.List.{flat_map}
 use Rattle.blob_grammar.specs.Places.{HasFields}
-use Rattle.blob_grammar.proofs.FrontFields.{are-fields, fields-are}
+use Rattle.blob_grammar.proofs.PrefixFields.{are-fields, fields-are}
 use Rattle.type_blobs.specs.declared.types.TypeLimits.{TypeLimits}
 use Rattle.type_blobs.specs.declared.import_part.ImportField.{ImportField}
 use Rattle.type_blobs.specs.Imports.{imports, import_field, import_fields, import_indexes, text_index}

@@ -39,7 +39,7 @@ module _ (limits : TypeLimits) (heap : ℕ → Option (List ℕ)) (blob : List �
   abbrev after : List Value → ℕ → Left ImportItem
   after begun at = left_at (imports limits heap) [] begun blob at
 
-  -- an import that these values make is left, and what is left behind it
+  -- an import that these values make is left, and what is left after it
   closes : (item : ImportItem) (at : ℕ) → push item (left_at (imports limits heap) (item ∷ []) [] blob at) ≡ push item (imports_left limits heap blob at)
   unfolding imports_left Any
   closes item at = ap (push item) (read_from-alike (imports limits heap) (imports limits heap) Any alike (item ∷ []) [] [] at (drop at blob) tt)

@@ -6,19 +6,19 @@ use Rattle.std.proofs.lemmas.List.{drop_all}
 use Rattle.ppdb_base.specs.declared.BlobFault.{BlobFault}
 use Rattle.ppdb_base.specs.declared.Code.TheVariants.{BlobEnd, ValueRange}
 use Rattle.blob_grammar.specs.Grammar.{Value, number, integer, octets, unsigned, byte}
-use Rattle.blob_grammar.specs.Reader.{field_at, is_empty, Step, field, stop, bad, stop_or, step}
+use Rattle.blob_grammar.specs.Reader.{field_at, is_empty, Step, field, stop, invalid, stop_or, step}
 use Rattle.type_blobs.specs.declared.types.TypeLimits.{TypeLimits}
 use Rattle.type_blobs.specs.declared.types.TypeToken.{TypeToken}
 use Rattle.type_blobs.specs.declared.types.Modifier.{Modifier}
 use Rattle.type_blobs.specs.Types.{is_type, token_of}
 use Rattle.type_blobs.specs.Numbers.{number_at}
 use Rattle.type_blobs.specs.Constants.{constants, modifier_of, body_of, is_modifier, is_code, after_code}
-use Rattle.type_blobs.specs.ConstantReading.{Rest, ConstantLeft, ConstantEnd, bad_modifier, begins_modifier, modifier_fault, finished}
+use Rattle.type_blobs.specs.ConstantReading.{Rest, ConstantLeft, ConstantEnd, invalid_modifier, begins_modifier, modifier_fault, finished}
 use Rattle.type_blobs.specs.ConstantReading.{end_of, left_of, constant_left, with_modifier}
 use Rattle.type_blobs.proofs.NextStep.{found, step-field, step-out, step-none, step-number, step-no_number}
 use Rattle.type_blobs.proofs.Rests.{push_rest}
 use Rattle.type_blobs.proofs.Codes.{modifier_is}
-use Rattle.type_blobs.proofs.ConstantRests.{rest, Steps, rest_goes, rest_closes, rest_bad, rest_stop}
+use Rattle.type_blobs.proofs.ConstantRests.{rest, Steps, rest_goes, rest_closes, rest_invalid, rest_stop}
 
 module _ (limits : TypeLimits) (blob : List ℕ) where
   abbrev Type_at : ℕ → Result (TypeToken × ℕ) BlobFault → Type 0
@@ -71,7 +71,7 @@ module _ (limits : TypeLimits) (blob : List ℕ) where
       let more : (is_empty (drop (at + 1) blob) && is_some (body_of (number code ∷ []))) ≡ false
       = ap (λ o. is_empty (drop (at + 1) blob) && is_some o) (no_body code h) ∙ and-false (is_empty (drop (at + 1) blob)) in
       let b = step-no_number (constants limits) [] (number code ∷ []) blob (at + 1) (is_type limits) token_of fault (form_modifier code h) (λ n. refl) more e in
-      code_taken at code there (modifier_code code h) ∙ rest_bad limits blob (number code ∷ []) (at + 1) b.code b.is
+      code_taken at code there (modifier_code code h) ∙ rest_invalid limits blob (number code ∷ []) (at + 1) b.code b.is
       ∙ ap (λ f. finished (number code ∷ []) (Some f)) (sym b.fault_is)
 
   -- ---- no modifier
@@ -79,8 +79,8 @@ module _ (limits : TypeLimits) (blob : List ℕ) where
   abbrev pub NoModifier : Rest Modifier → Type 0
   NoModifier r = (r.left.items ≡ []) × (begins_modifier r.begun ≡ false)
 
-  no_bad : (code : ℕ) (more : List Value) (fault : Option BlobFault) → is_modifier code ≡ false → NoModifier (finished (number code ∷ more) fault)
-  no_bad code more fault h = (refl, h)
+  no_invalid : (code : ℕ) (more : List Value) (fault : Option BlobFault) → is_modifier code ≡ false → NoModifier (finished (number code ∷ more) fault)
+  no_invalid code more fault h = (refl, h)
 
   after_three : (code : ℕ) (x y : Value) (at : ℕ) (s : Step) → is_modifier code ≡ false → Steps limits blob (number code ∷ x ∷ y ∷ []) at s
       → NoModifier (rest limits blob (number code ∷ x ∷ y ∷ []) at)
@@ -93,9 +93,9 @@ module _ (limits : TypeLimits) (blob : List ℕ) where
           stops true e = cc
           stops false e = cc
       no_field (b ∷ bs) e = cc
-  after_three code x y at stop h s = subst NoModifier (sym (rest_stop limits blob (number code ∷ x ∷ y ∷ []) at s)) (no_bad code (x ∷ y ∷ []) None h)
-  after_three code x y at (bad c) h s =
-      subst NoModifier (sym (rest_bad limits blob (number code ∷ x ∷ y ∷ []) at c s)) (no_bad code (x ∷ y ∷ []) (Some (record { code = c; byte = at })) h)
+  after_three code x y at stop h s = subst NoModifier (sym (rest_stop limits blob (number code ∷ x ∷ y ∷ []) at s)) (no_invalid code (x ∷ y ∷ []) None h)
+  after_three code x y at (invalid c) h s =
+      subst NoModifier (sym (rest_invalid limits blob (number code ∷ x ∷ y ∷ []) at c s)) (no_invalid code (x ∷ y ∷ []) (Some (record { code = c; byte = at })) h)
 
   after_two_values : (code : ℕ) (x : Value) (at : ℕ) (s : Step) → is_modifier code ≡ false → Steps limits blob (number code ∷ x ∷ []) at s
       → NoModifier (rest limits blob (number code ∷ x ∷ []) at)
@@ -107,9 +107,9 @@ module _ (limits : TypeLimits) (blob : List ℕ) where
       none (number n) = refl
       none (integer z) = refl
       none (octets xs) = refl
-  after_two_values code x at stop h s = subst NoModifier (sym (rest_stop limits blob (number code ∷ x ∷ []) at s)) (no_bad code (x ∷ []) None h)
-  after_two_values code x at (bad c) h s =
-      subst NoModifier (sym (rest_bad limits blob (number code ∷ x ∷ []) at c s)) (no_bad code (x ∷ []) (Some (record { code = c; byte = at })) h)
+  after_two_values code x at stop h s = subst NoModifier (sym (rest_stop limits blob (number code ∷ x ∷ []) at s)) (no_invalid code (x ∷ []) None h)
+  after_two_values code x at (invalid c) h s =
+      subst NoModifier (sym (rest_invalid limits blob (number code ∷ x ∷ []) at c s)) (no_invalid code (x ∷ []) (Some (record { code = c; byte = at })) h)
 
   after_one : (code at : ℕ) (s : Step) → is_modifier code ≡ false → Steps limits blob (number code ∷ []) at s
       → NoModifier (rest limits blob (number code ∷ []) at)
@@ -121,15 +121,15 @@ module _ (limits : TypeLimits) (blob : List ℕ) where
       none (number n) = rw h refl
       none (integer z) = refl
       none (octets xs) = refl
-  after_one code at stop h s = subst NoModifier (sym (rest_stop limits blob (number code ∷ []) at s)) (no_bad code [] None h)
-  after_one code at (bad c) h s =
-      subst NoModifier (sym (rest_bad limits blob (number code ∷ []) at c s)) (no_bad code [] (Some (record { code = c; byte = at })) h)
+  after_one code at stop h s = subst NoModifier (sym (rest_stop limits blob (number code ∷ []) at s)) (no_invalid code [] None h)
+  after_one code at (invalid c) h s =
+      subst NoModifier (sym (rest_invalid limits blob (number code ∷ []) at c s)) (no_invalid code [] (Some (record { code = c; byte = at })) h)
 
   code_known : (at code : ℕ) (b : Bool) → Byte_at at code → is_modifier code ≡ false → is_code code ≡ b → NoModifier (rest limits blob [] at)
   code_known at code true there h e =
       subst NoModifier (sym (code_taken at code there e)) (after_one code (at + 1) (step (constants limits) [] (number code ∷ []) (drop (at + 1) blob)) h refl)
   code_known at code false there h e =
-      subst NoModifier (sym (rest_bad limits blob [] at ValueRange (step-out (constants limits) [] [] blob at byte (number code) 1 refl there e))) (refl, refl)
+      subst NoModifier (sym (rest_invalid limits blob [] at ValueRange (step-out (constants limits) [] [] blob at byte (number code) 1 refl there e))) (refl, refl)
 
   -- a byte that begins none
   pub no_modifier : (at code : ℕ) → Byte_at at code → is_modifier code ≡ false → NoModifier (rest limits blob [] at)
@@ -139,7 +139,7 @@ module _ (limits : TypeLimits) (blob : List ℕ) where
   no_code : (at : ℕ) → length blob ≤ at → rest limits blob [] at ≡ finished [] (Some (record { code = BlobEnd; byte = at }))
   no_code at e =
       let bytes : drop at blob ≡ [] = drop_all at blob e in
-      rest_bad limits blob [] at BlobEnd (step-none (constants limits) [] [] blob at byte BlobEnd refl (ap (field_at byte) bytes) (rw bytes refl))
+      rest_invalid limits blob [] at BlobEnd (step-none (constants limits) [] [] blob at byte BlobEnd refl (ap (field_at byte) bytes) (rw bytes refl))
 
   pub nothing_there : (at : ℕ) → length blob ≤ at → NoModifier (rest limits blob [] at)
   nothing_there at e = subst NoModifier (sym (no_code at e)) (refl, refl)
@@ -172,6 +172,6 @@ module _ (limits : TypeLimits) (blob : List ℕ) where
   a_modifier at code token next there h e = ap left_of (modifier_taken at code token next there h e)
 
   pub no_type : (at code : ℕ) (fault : BlobFault) → Byte_at at code → is_modifier code ≡ true → Type_at (at + 1) (Err fault)
-      → constant_left limits blob at ≡ record { modifiers = []; end = bad_modifier fault }
+      → constant_left limits blob at ≡ record { modifiers = []; end = invalid_modifier fault }
   unfolding constant_left
   no_type at code fault there h e = ap left_of (modifier_refused at code fault there h e) ∙ rw h refl

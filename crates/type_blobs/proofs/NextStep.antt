@@ -5,7 +5,7 @@ use Rattle.ppdb_base.specs.declared.Code.{Code}
 use Rattle.ppdb_base.specs.declared.Code.TheVariants.{BlobEnd, ValueRange}
 use Rattle.ppdb_base.specs.declared.BlobFault.{BlobFault}
 use Rattle.blob_grammar.specs.Grammar.{Value, number, Form, unsigned, Grammar}
-use Rattle.blob_grammar.specs.Reader.{placed, unsigned_at, field_at, is_empty, field, stop, bad, stop_or, if_allowed, step_at, step_in, step}
+use Rattle.blob_grammar.specs.Reader.{placed, unsigned_at, field_at, is_empty, field, stop, invalid, stop_or, if_allowed, step_at, step_in, step}
 use Rattle.blob_grammar.proofs.Placed.{unsigned_there, unsigned_not_there}
 use Rattle.type_blobs.specs.Numbers.{in_range, number_after, number_at}
 
@@ -50,12 +50,12 @@ module _ {R : Type 0} (g : Grammar R) (whole : List R) (begun : List Value) (blo
       ap (step_in g whole begun (drop at blob)) expected ∙ ap (step_at g whole begun (drop at blob)) found ∙ ap (λ b. if_allowed b value len) allowed
 
   pub step-out : (form : Form) (value : Value) (len : ℕ) → g.form whole begun ≡ Some form → field_at form (drop at blob) ≡ Ok (value, len)
-      → g.allows whole begun value ≡ false → step g whole begun (drop at blob) ≡ bad ValueRange
+      → g.allows whole begun value ≡ false → step g whole begun (drop at blob) ≡ invalid ValueRange
   step-out form value len expected found allowed =
       ap (step_in g whole begun (drop at blob)) expected ∙ ap (step_at g whole begun (drop at blob)) found ∙ ap (λ b. if_allowed b value len) allowed
 
   pub step-none : (form : Form) (code : Code) → g.form whole begun ≡ Some form → field_at form (drop at blob) ≡ Err code
-      → (is_empty (drop at blob) && g.may_stop whole begun) ≡ false → step g whole begun (drop at blob) ≡ bad code
+      → (is_empty (drop at blob) && g.may_stop whole begun) ≡ false → step g whole begun (drop at blob) ≡ invalid code
   step-none form code expected none goes_on =
       ap (step_in g whole begun (drop at blob)) expected ∙ ap (step_at g whole begun (drop at blob)) none ∙ ap (λ b. stop_or b code) goes_on
 
@@ -71,10 +71,10 @@ module _ {R : Type 0} (g : Grammar R) (whole : List R) (begun : List Value) (blo
       let bytes : drop at blob ≡ [] = drop_all at blob (omega arith) in
       ap (step_in g whole begun (drop at blob)) expected ∙ ap (λ b. step_in g whole begun b None) bytes ∙ ap (λ b. stop_or b BlobEnd) stops
 
-  pub step-over : g.form whole begun ≡ None → at < length blob → step g whole begun (drop at blob) ≡ bad ValueRange
+  pub step-over : g.form whole begun ≡ None → at < length blob → step g whole begun (drop at blob) ≡ invalid ValueRange
   step-over expected less = ap (step_in g whole begun (drop at blob)) expected ∙ some (drop at blob) (omega (arith, length-drop at blob))
     where
-      some : (bytes : List ℕ) → 0 < length bytes → step_in g whole begun bytes None ≡ bad ValueRange
+      some : (bytes : List ℕ) → 0 < length bytes → step_in g whole begun bytes None ≡ invalid ValueRange
       some [] h = absurd (omega arith)
       some (b ∷ bs) h = refl
 
@@ -88,15 +88,15 @@ module _ {R : Type 0} (g : Grammar R) (whole : List R) (begun : List Value) (blo
       step-field unsigned (number f.n) f.len form (unsigned_there at (drop at blob) f.n f.len f.there) (same f.n ∙ f.allowed)
 
   -- The step is a fault.
-  pub record IsBad (fault : BlobFault) : Type 0 where
+  pub record IsInvalid (fault : BlobFault) : Type 0 where
     pub code : Code
-    pub is : step g whole begun (drop at blob) ≡ bad code
+    pub is : step g whole begun (drop at blob) ≡ invalid code
     pub fault_is : fault ≡ record { code = code; byte = at }
 
   refused_after : {X : Type 0} (allows : ℕ → Bool) (means : ℕ → X) (fault : BlobFault) (r : Result (ℕ × ℕ) BlobFault) (b : Bool)
       → g.form whole begun ≡ Some unsigned → ((n : ℕ) → g.allows whole begun (number n) ≡ allows n)
       → (is_empty (drop at blob) && g.may_stop whole begun) ≡ false → placed at (unsigned_at (drop at blob)) ≡ r
-      → ((x : ℕ × ℕ) → r ≡ Ok x → allows x.0 ≡ b) → number_after allows means at r ≡ Err fault → IsBad fault
+      → ((x : ℕ × ℕ) → r ≡ Ok x → allows x.0 ≡ b) → number_after allows means at r ≡ Err fault → IsInvalid fault
   refused_after allows means fault (Ok x) true form same more e f h =
       let t : in_range at true (means x.0) x.1 ≡ Err fault = sym (ap (λ b. in_range at b (means x.0) x.1) (f x refl)) ∙ h in absurd cc
   refused_after allows means fault (Ok x) false form same more e f h =
@@ -116,7 +116,7 @@ module _ {R : Type 0} (g : Grammar R) (whole : List R) (begun : List Value) (blo
   -- One that is missing or out of range is a fault.
   pub step-no_number : {X : Type 0} (allows : ℕ → Bool) (means : ℕ → X) (fault : BlobFault) → g.form whole begun ≡ Some unsigned
       → ((n : ℕ) → g.allows whole begun (number n) ≡ allows n)
-      → (is_empty (drop at blob) && g.may_stop whole begun) ≡ false → number_at allows means blob at ≡ Err fault → IsBad fault
+      → (is_empty (drop at blob) && g.may_stop whole begun) ≡ false → number_at allows means blob at ≡ Err fault → IsInvalid fault
   step-no_number allows means fault form same more e =
       let r = placed at (unsigned_at (drop at blob)) in
       let a = allows_one allows r in

@@ -3,10 +3,10 @@ use Rattle.std.proofs.Common.{◌≡◌, ℕ, ◌+◌, List, [], ◌∷◌, ◌+
 use Rattle.std.specs.List.{fold}
 use Rattle.std.proofs.lemmas.List.{drop-drop}
 use Rattle.blob_grammar.specs.Grammar.{Value, Grammar, Cut, closed, with_value}
-use Rattle.blob_grammar.specs.Reader.{Left, Step, field, stop, bad, step, push, close_and, take_step, take_field, read_from, fields_from, begun_from}
+use Rattle.blob_grammar.specs.Reader.{Left, Step, field, stop, invalid, step, push, close_and, take_step, take_field, read_from, fields_from, begun_from}
 use Rattle.blob_grammar.proofs.Steps.{read_from-step}
 use Rattle.type_blobs.specs.ConstantReading.{Rest, rest_at}
-use Rattle.blob_grammar.proofs.FrontFields.{fields_from-step}
+use Rattle.blob_grammar.proofs.PrefixFields.{fields_from-step}
 
 abbrev pub push_rest : {R : Type 0} → R → Rest R → Rest R
 push_rest r found = record { left = push r found.left; begun = found.begun }
@@ -23,7 +23,7 @@ module _ {R : Type 0} (g : Grammar R) (whole : List R) (begun : List Value) (blo
   abbrev stepped : Step → Rest R
   stepped (field value len) = closed_rest value len (g.record_of whole (begun ++ value ∷ []))
   stepped stop = record { left = record { items = []; fault = None }; begun = begun }
-  stepped (bad code) = record { left = record { items = []; fault = Some (record { code = code; byte = at }) }; begun = begun }
+  stepped (invalid code) = record { left = record { items = []; fault = Some (record { code = code; byte = at }) }; begun = begun }
 
   abbrev left_after : Step → Left R
   left_after s = take_step g (λ len w b. read_from g w b (at + len) (drop len (drop at blob))) whole begun at s
@@ -45,7 +45,7 @@ module _ {R : Type 0} (g : Grammar R) (whole : List R) (begun : List Value) (blo
   unfolding begun_from
   stepped-is (field value len) = stepped_close value len (g.record_of whole (begun ++ value ∷ []))
   stepped-is stop = refl
-  stepped-is (bad code) = refl
+  stepped-is (invalid code) = refl
 
   pub rest-step : (s : Step) → step g whole begun (drop at blob) ≡ s → rest_at g whole begun blob at ≡ stepped s
   unfolding begun_from

@@ -231,7 +231,7 @@ module _ (limits : TypeLimits) where
         reading = record {
           fields = fs ++ gs;
           after = [];
-          front = fields_longest g (fs ++ gs) follow;
+          prefix = fields_longest g (fs ++ gs) follow;
           made = sym (ap (λ (c : Cut Modifier). c.whole) cut_is);
           ends = (refl, stops);
         };

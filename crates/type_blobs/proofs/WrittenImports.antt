@@ -17,7 +17,7 @@ use Rattle.type_blobs.specs.Imports.{import_field, import_fields, import_indexes
 use Rattle.type_blobs.specs.declared.import_part.ImportPart.{ImportPart}
 use Rattle.type_blobs.specs.declared.import_part.ImportField.{ImportField}
 use Rattle.blob_grammar.specs.Places.{placed_from}
-use Rattle.blob_grammar.proofs.FrontFields.{fields-are}
+use Rattle.blob_grammar.proofs.PrefixFields.{fields-are}
 use Rattle.type_blobs.specs.declared.import_part.ImportPart.TheVariants.{Kind, Alias, Assembly, Namespace, Target}
 use Rattle.type_blobs.specs.Spelling.{part_number, import_spelling, IsImport, IsPartThere, import_item, StandFor, parts_at, fields_at}
 use Rattle.type_blobs.proofs.WrittenNumbers.{number_small, row_is, type_is}
@@ -55,7 +55,7 @@ module _ (limits : TypeLimits) (heap : ℕ → Option (List ℕ)) where
   there_is : (o : Option (List ℕ)) → IsSome o → is_some o ≡ true
   there_is o h = h
 
-  -- what a walk tells of fields that are written
+  -- what a walk reports of fields that are written
   abbrev told : Cut ImportItem → ℕ → List Field → List ImportField
   told place at fields = flat_map import_field (placed_from (imports limits heap) place at fields)
 

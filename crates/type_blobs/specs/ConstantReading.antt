@@ -10,11 +10,11 @@ use Rattle.type_blobs.specs.declared.constant.Constant.{Constant}
 use Rattle.type_blobs.specs.declared.constant.Constant.TheVariants.{Primitive, Enumerated, General, Object}
 use Rattle.type_blobs.specs.Constants.{ConstantBody, primitive, enumerated, general, object, is_modifier, body_of, constants}
 
--- How a constant ends behind its modifiers: with a body, or at a fault, in the body or in a further modifier.
+-- How a constant ends after its modifiers: with a body, or at a fault, in the body or in a further modifier.
 pub data ConstantEnd : Type 0 where
   body : ConstantBody → ConstantEnd
-  bad_body : BlobFault → ConstantEnd
-  bad_modifier : BlobFault → ConstantEnd
+  invalid_body : BlobFault → ConstantEnd
+  invalid_modifier : BlobFault → ConstantEnd
 
 -- What is left of a constant: the modifiers to come, and how it ends.
 pub record ConstantLeft : Type 0 where
@@ -24,8 +24,8 @@ pub record ConstantLeft : Type 0 where
 -- the fault of the blob
 abbrev pub fault_of : ConstantEnd → Option BlobFault
 fault_of (body b) = None
-fault_of (bad_body fault) = Some fault
-fault_of (bad_modifier fault) = Some fault
+fault_of (invalid_body fault) = Some fault
+fault_of (invalid_modifier fault) = Some fault
 
 -- The record that has begun is a modifier: it begins with 1f or 20.
 abbrev pub begins_modifier : List Value → Bool
@@ -35,8 +35,8 @@ begins_modifier _ = false
 -- The values after the modifiers are the body of a whole blob; else the fault stands in the modifier or in the body that has begun.
 abbrev pub EndIs : List Value → ConstantEnd → Type 0
 EndIs begun (body b) = body_of begun ≡ Some b
-EndIs begun (bad_body fault) = begins_modifier begun ≡ false
-EndIs begun (bad_modifier fault) = begins_modifier begun ≡ true
+EndIs begun (invalid_body fault) = begins_modifier begun ≡ false
+EndIs begun (invalid_modifier fault) = begins_modifier begun ≡ true
 
 -- What a constant's blob holds: its modifiers, and its body or its fault.
 pub record ConstantReading (limits : TypeLimits) (blob : List ℕ) (left : ConstantLeft) : Type 0 where
@@ -47,7 +47,7 @@ pub record ConstantReading (limits : TypeLimits) (blob : List ℕ) (left : Const
 
 -- the fault in a modifier, where no further one is whole
 abbrev pub modifier_fault : ConstantEnd → Option BlobFault
-modifier_fault (bad_modifier fault) = Some fault
+modifier_fault (invalid_modifier fault) = Some fault
 modifier_fault _ = None
 
 -- The next modifier; None where the body comes.
@@ -60,8 +60,8 @@ rest_of left = record { modifiers = tail left.modifiers; end = left.end }
 -- The body, or the fault.
 abbrev pub body_answer : ConstantEnd → Result ConstantBody BlobFault
 body_answer (body b) = Ok b
-body_answer (bad_body fault) = Err fault
-body_answer (bad_modifier fault) = Err fault
+body_answer (invalid_body fault) = Err fault
+body_answer (invalid_modifier fault) = Err fault
 
 -- The constant, with the bytes that it lends.
 abbrev pub shown : Constant → ConstantBody
@@ -89,8 +89,8 @@ whole_end (Some b) = body b
 whole_end None = body object
 
 abbrev pub fault_end : Bool → BlobFault → ConstantEnd
-fault_end true fault = bad_modifier fault
-fault_end false fault = bad_body fault
+fault_end true fault = invalid_modifier fault
+fault_end false fault = invalid_body fault
 
 abbrev pub end_of : List Value → Option BlobFault → ConstantEnd
 end_of begun None = whole_end (body_of begun)
@@ -122,4 +122,4 @@ NextModifierIs limits blob at (Ok (Some found)) =
     (constant_left limits blob at ≡ with_modifier found.0 (constant_left limits blob found.1)) × (found.1 ≤ length blob)
 NextModifierIs limits blob at (Ok None) =
     (end : ConstantEnd) × (constant_left limits blob at ≡ record { modifiers = []; end = end }) × (modifier_fault end ≡ None)
-NextModifierIs limits blob at (Err fault) = constant_left limits blob at ≡ record { modifiers = []; end = bad_modifier fault }
+NextModifierIs limits blob at (Err fault) = constant_left limits blob at ≡ record { modifiers = []; end = invalid_modifier fault }

@@ -6,7 +6,7 @@ use Rattle.type_blobs.specs.declared.types.TypeLimits.{TypeLimits}
 use Rattle.type_blobs.specs.declared.types.Modifier.{Modifier}
 use Rattle.type_blobs.specs.Types.{is_type, token_of}
 
--- The body of a constant, behind its modifiers: a value of a primitive type or a text; a value of an enumeration; a value of
+-- The body of a constant, after its modifiers: a value of a primitive type or a text; a value of an enumeration; a value of
 -- a class or a value type; or the null reference of type object.
 pub data ConstantBody : Type 0 where
   primitive : (code : ℕ) (value : List ℕ) → ConstantBody

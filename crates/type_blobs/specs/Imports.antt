@@ -9,7 +9,7 @@ use Rattle.blob_grammar.specs.Places.{PlacedField, placed_of}
 use Rattle.type_blobs.specs.declared.import_part.ImportPart.{ImportPart}
 use Rattle.type_blobs.specs.declared.import_part.ImportPart.TheVariants.{Kind, Alias, Assembly, Namespace, Target}
 use Rattle.type_blobs.specs.declared.import_part.ImportField.{ImportField}
-use Rattle.blob_grammar.specs.Reader.{front_of}
+use Rattle.blob_grammar.specs.Reader.{prefix_of}
 use Rattle.type_blobs.specs.declared.types.TypeToken.{TypeToken}
 use Rattle.type_blobs.specs.declared.types.TypeLimits.{TypeLimits}
 use Rattle.blob_grammar.specs.Allowed.{is_row, is_between}
@@ -119,9 +119,9 @@ field_of _ at value = []
 abbrev pub import_field : PlacedField → List ImportField
 import_field field = field_of (next_part field.before) field.byte field.value
 
--- The fields of the longest valid front of some imports, in order.
+-- The fields of the longest valid prefix of some imports, in order.
 abbrev pub import_fields : TypeLimits → (ℕ → Option (List ℕ)) → List ℕ → List ImportField
-import_fields limits heap blob = flat_map import_field (placed_of (imports limits heap) (front_of (imports limits heap) blob))
+import_fields limits heap blob = flat_map import_field (placed_of (imports limits heap) (prefix_of (imports limits heap) blob))
 
 abbrev pub names_text : ImportPart → Bool
 names_text Alias = true

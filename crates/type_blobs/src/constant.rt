@@ -9,7 +9,7 @@ use blob_grammar::{byte_field, fixed_field};
 use ppdb_base::BlobFault;
 use std::marker::Model;
 
-/// The value of a local constant, behind its modifiers (Portable PDB v1.0, "LocalConstantSig Blob").
+/// The value of a local constant, after its modifiers (Portable PDB v1.0, "LocalConstantSig Blob").
 #[derive(Clone, Copy, Debug, PartialEq, Eq)]
 pub enum Constant<'a> {
     /// A value of a primitive type, as stored, or a text with the code 0e: the byte ff for null, else UTF-16.
@@ -94,7 +94,7 @@ fn modifier_at(
     Ok(Some((modifier, end)))
 }
 
-/// A value of a primitive type or of an enumeration, behind its code.
+/// A value of a primitive type or of an enumeration, after its code.
 fn value_at(blob: &[u8], limits: TypeLimits, code: u8, at: usize) -> Result<Constant<'_>, BlobFault>
     requires within { at ≤ length blob.now }
     requires short { length blob.now < 2 ^ 32 }
@@ -122,7 +122,7 @@ fn value_at(blob: &[u8], limits: TypeLimits, code: u8, at: usize) -> Result<Cons
     })
 }
 
-/// A text, behind its code.
+/// A text, after its code.
 fn text_at(blob: &[u8], limits: TypeLimits, at: usize) -> Result<Constant<'_>, BlobFault>
     requires within { at ≤ length blob.now }
     requires short { length blob.now < 2 ^ 32 }
@@ -136,7 +136,7 @@ fn text_at(blob: &[u8], limits: TypeLimits, at: usize) -> Result<Constant<'_>, B
     }
 }
 
-/// A value of a class or a value type, behind its code.
+/// A value of a class or a value type, after its code.
 fn general_at(
     blob: &[u8],
     limits: TypeLimits,

@@ -38,7 +38,7 @@ pub struct ImportField {
     pub number: u32,
 }
 
-/// The fields behind a kind.
+/// The fields after a kind.
 pub(crate) fn parts_of(kind: u32) -> &'static [ImportPart]
     requires from { 1 ≤ kind }
     requires to { kind ≤ 9 }

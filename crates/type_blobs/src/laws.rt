@@ -43,7 +43,7 @@ pub fn imports_are_read_once()
     ensures { (limits : TypeLimits) (heap : ℕ → Option (List ℕ)) (blob : List ℕ) → IsReadOnce (imports limits heap) blob }
 {}
 
-/// The fields of imports are those of the longest valid front, and no others.
+/// The fields of imports are those of the longest valid prefix, and no others.
 pub fn import_fields_are()
     ensures fields { (limits : TypeLimits) (heap : ℕ → Option (List ℕ)) (blob : List ℕ) (fields : List ImportField)
         → (fields ≡ import_fields limits heap blob) ↔ HasFields (imports limits heap) import_field blob fields }

@@ -9,14 +9,14 @@ ghost use Rattle.ppdb_show.specs.QueryWalk.{Adds, customs_reads};
 
 use crate::query::text::put_line;
 use ppdb_base::{Memory, SteadySink, Steps};
-use ppdb_lines::Item::{Guid, Octets};
-use ppdb_lines::Key;
-use ppdb_lines::Part::Field;
 use ppdb_queries::customs_of;
+use ppdb_show_lines::Item::{Guid, Octets};
+use ppdb_show_lines::Key;
+use ppdb_show_lines::Part::Field;
 use ppdb_tables::{CustomRow, Parent};
 use ppdb_verify::Verified;
+use ppdb_verify_rows::{blob, custom, guid};
 use std::sync::ledger::Ledger;
-use verified_rows::{blob, custom, guid};
 
 /// Puts the line of a custom record.
 pub(crate) fn put_custom(

@@ -8,10 +8,10 @@ ghost use Rattle.ppdb_show.specs.QueryWalk.{Adds, customs_reads};
 
 use crate::query::text::put_line;
 use ppdb_base::{Memory, SteadySink, Steps};
-use ppdb_lines::Item::Number;
-use ppdb_lines::Key;
-use ppdb_lines::Part::Field;
 use ppdb_queries::hoisted_at;
+use ppdb_show_lines::Item::Number;
+use ppdb_show_lines::Key;
+use ppdb_show_lines::Part::Field;
 use ppdb_verify::Verified;
 use std::sync::ledger::Ledger;
 

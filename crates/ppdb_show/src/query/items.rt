@@ -12,14 +12,14 @@ ghost use Rattle.ppdb_show.specs.QueryWalk.{Adds, customs_reads, items_reads};
 use crate::query::customs::put_customs;
 use crate::query::text::put_line;
 use ppdb_base::{Memory, SteadySink, Steps};
-use ppdb_lines::Item::{Name, Number, Octets};
-use ppdb_lines::Key;
-use ppdb_lines::Part::Field;
 use ppdb_queries::Run;
+use ppdb_show_lines::Item::{Name, Number, Octets};
+use ppdb_show_lines::Key;
+use ppdb_show_lines::Part::Field;
 use ppdb_tables::{ConstantRow, Parent, VariableRow};
 use ppdb_verify::Verified;
+use ppdb_verify_rows::{blob, constant, text as text_of, variable};
 use std::sync::ledger::Ledger;
-use verified_rows::{blob, constant, text as text_of, variable};
 
 /// Puts the line of a variable.
 fn put_variable_line(

@@ -9,10 +9,10 @@ ghost use Rattle.ppdb_show.specs.QueryWalk.{Adds};
 
 use crate::query::text::put_line;
 use ppdb_base::{Memory, SteadySink, Steps};
-use ppdb_lines::Item::Number;
-use ppdb_lines::Key;
-use ppdb_lines::Part::Field;
 use ppdb_queries::{kickoff_of, move_next_of};
+use ppdb_show_lines::Item::Number;
+use ppdb_show_lines::Key;
+use ppdb_show_lines::Part::Field;
 use ppdb_verify::Verified;
 use std::sync::ledger::Ledger;
 

@@ -8,15 +8,15 @@ ghost use Rattle.ppdb_show.specs.QueryWalk.{Adds, HasDocument, found_line};
 
 use crate::query::text::put_line;
 use ppdb_base::{Bytes, Memory, SteadySink, Steps};
-use ppdb_lines::Item::{Name, Number};
-use ppdb_lines::Key;
-use ppdb_lines::Part::{Field, Mark};
 use ppdb_queries::PointAt;
+use ppdb_show_lines::Item::{Name, Number};
+use ppdb_show_lines::Key;
+use ppdb_show_lines::Part::{Field, Mark};
 use ppdb_verify::Verified;
+use ppdb_verify_rows::{document, joined_name};
 use sequence_points::{Point, Span};
 use std::alloc::Global;
 use std::sync::ledger::Ledger;
-use verified_rows::{document, joined_name};
 
 /// The name of a document, its parts joined.
 fn document_name_of<L: Ledger>(

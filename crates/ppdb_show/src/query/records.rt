@@ -4,7 +4,7 @@ ghost use Rattle.ppdb_tables.specs.RawOf.{raw_of};
 ghost use Rattle.ppdb_tables.specs.RawTables.{row_at};
 ghost use Rattle.ppdb_values.specs.Rules.{HasRow};
 ghost use Rattle.ppdb_verify.specs.Views.{tables_of};
-ghost use Rattle.verified_rows.specs.Customs.{IsOfKind};
+ghost use Rattle.ppdb_verify_rows.specs.Customs.{IsOfKind};
 ghost use Rattle.ppdb_show.specs.Query.{async_line, step_line, lines_of_record, record_lines};
 ghost use Rattle.ppdb_show.specs.QueryWalk.{Adds, customs_reads};
 
@@ -12,15 +12,15 @@ use crate::query::customs::put_custom;
 use crate::query::text::put_line;
 use custom_info::{AsyncCursor, AsyncStep, Kind};
 use ppdb_base::{Memory, SteadySink, Steps};
-use ppdb_lines::Item::Number;
-use ppdb_lines::Key;
-use ppdb_lines::Part::{Field, Mark};
 use ppdb_queries::customs_of;
+use ppdb_show_lines::Item::Number;
+use ppdb_show_lines::Key;
+use ppdb_show_lines::Part::{Field, Mark};
 use ppdb_tables::{CustomRow, Parent};
 use ppdb_verify::Verified;
+use ppdb_verify_rows::{custom, kind, stepping_of};
 use std::alloc::Global;
 use std::sync::ledger::Ledger;
-use verified_rows::{custom, kind, stepping_of};
 
 /// Puts the line of an async method's catch handler.
 fn put_handler(text: &mut SteadySink, handler: Option<u32>) -> Result<(), Memory>

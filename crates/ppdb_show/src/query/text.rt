@@ -2,17 +2,17 @@
 ghost use Rattle.std.specs.Prelude.{[], ◌∷◌, OnOk};
 ghost use Rattle.type_blobs.specs.ImportReading.{shown};
 ghost use Rattle.ppdb_values.specs.Imports.{import_value};
-ghost use Rattle.ppdb_lines.specs.Uses.{use_line};
-ghost use Rattle.ppdb_lines.specs.Views.{line_of};
+ghost use Rattle.ppdb_show_lines.specs.Uses.{use_line};
+ghost use Rattle.ppdb_show_lines.specs.Views.{line_of};
 ghost use Rattle.ppdb_show.specs.QueryWalk.{Adds};
 
 use ppdb_base::{Memory, SteadySink};
-use ppdb_lines::{Form, Part, Printer, put_text_line, put_use};
+use ppdb_show_lines::{Form, Part, Printer, put_text_line, put_use};
 use std::alloc::Global;
 use std::cell::Cell;
 use type_blobs::Import;
 
-/// Puts a line behind the text.
+/// Puts a line after the text.
 pub(crate) fn put_line(text: &mut SteadySink, word: &str, parts: &[Part<'_>]) -> Result<(), Memory>
     ensures { OnOk result (Adds text.old text.new (line_of word.now parts.now ∷ [])) }
 {
@@ -22,7 +22,7 @@ pub(crate) fn put_line(text: &mut SteadySink, word: &str, parts: &[Part<'_>]) ->
     Ok(())
 }
 
-/// Puts the line of an import behind the text.
+/// Puts the line of an import after the text.
 pub(crate) fn put_import_line(
     alloc: Global,
     text: &mut SteadySink,

@@ -4,21 +4,21 @@ ghost use Rattle.ppdb_base.specs.Written.{Puts};
 ghost use Rattle.ppdb_tables.specs.RawTables.{row_at};
 ghost use Rattle.ppdb_values.specs.Documents.{document_of};
 ghost use Rattle.ppdb_verify.specs.Views.{raw_file};
-ghost use Rattle.ppdb_lines.specs.Forms.{lines_as};
+ghost use Rattle.ppdb_show_lines.specs.Forms.{lines_as};
 ghost use Rattle.ppdb_show.specs.Show.{document_line};
 ghost use Rattle.ppdb_show.specs.ShowWalk.{lines_of_document};
 ghost use Rattle.ppdb_values.specs.Rules.{HasRow};
 
 use ppdb_base::{List, Memory, Sink, Steps, WriteError};
-use ppdb_lines::Item::{Guid, Name, Number, Octets};
-use ppdb_lines::Part::Field;
-use ppdb_lines::{Key, Printer};
+use ppdb_show_lines::Item::{Guid, Name, Number, Octets};
+use ppdb_show_lines::Part::Field;
+use ppdb_show_lines::{Key, Printer};
 use ppdb_tables::DocumentRow;
 use ppdb_values::DocumentValue;
 use ppdb_verify::Verified;
+use ppdb_verify_rows::{blob, document, guid, joined_name};
 use std::alloc::Global;
 use std::sync::ledger::Ledger;
-use verified_rows::{blob, document, guid, joined_name};
 
 /// Puts the line of a document.
 pub(crate) fn put_document<O: Sink, L: Ledger>(

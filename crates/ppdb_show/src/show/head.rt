@@ -3,13 +3,13 @@ ghost use Rattle.std.specs.Prelude.{◌<◌};
 ghost use Rattle.ppdb_base.specs.Written.{Puts};
 ghost use Rattle.ppdb_tables.specs.RawOf.{raw_of};
 ghost use Rattle.ppdb_verify.specs.Views.{raw_file};
-ghost use Rattle.ppdb_lines.specs.Forms.{lines_as};
+ghost use Rattle.ppdb_show_lines.specs.Forms.{lines_as};
 ghost use Rattle.ppdb_show.specs.Show.{head_lines, count_lines, count_lines_of};
 
 use ppdb_base::{Sink, WriteError};
-use ppdb_lines::Item::{Number, Table};
-use ppdb_lines::Part::Field;
-use ppdb_lines::{Key, Printer, put_entry_line, put_id_line};
+use ppdb_show_lines::Item::{Number, Table};
+use ppdb_show_lines::Part::Field;
+use ppdb_show_lines::{Key, Printer, put_entry_line, put_id_line};
 use ppdb_tables::Tables;
 use ppdb_verify::Verified;
 

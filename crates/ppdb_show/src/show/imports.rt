@@ -3,19 +3,19 @@ ghost use Rattle.std.specs.Prelude.{◌≡◌, map, None, Some};
 ghost use Rattle.ppdb_base.specs.Written.{Puts};
 ghost use Rattle.ppdb_values.specs.Imports.{import_value};
 ghost use Rattle.ppdb_verify.specs.Views.{raw_file};
-ghost use Rattle.ppdb_lines.specs.Forms.{lines_as};
-ghost use Rattle.ppdb_lines.specs.Uses.{use_line};
+ghost use Rattle.ppdb_show_lines.specs.Forms.{lines_as};
+ghost use Rattle.ppdb_show_lines.specs.Uses.{use_line};
 ghost use Rattle.ppdb_show.specs.ShowWalk.{lines_of_import_row};
 ghost use Rattle.ppdb_values.specs.Rules.{HasRow};
 
 use ppdb_base::{Sink, Steps, WriteError};
-use ppdb_lines::Item::Number;
-use ppdb_lines::Part::Field;
-use ppdb_lines::{Key, Printer, put_use};
+use ppdb_show_lines::Item::Number;
+use ppdb_show_lines::Part::Field;
+use ppdb_show_lines::{Key, Printer, put_use};
 use ppdb_verify::Verified;
+use ppdb_verify_rows::{import, imports_of};
 use std::sync::ledger::Ledger;
 use type_blobs::ImportCursor;
-use verified_rows::{import, imports_of};
 
 /// Puts the line of an import scope, and the lines of what it imports.
 pub(crate) fn put_import<O: Sink, L: Ledger>(

@@ -5,20 +5,20 @@ ghost use Rattle.ppdb_tables.specs.RawTables.{row_at};
 ghost use Rattle.ppdb_values.specs.Documents.{points_in, signature_in};
 ghost use Rattle.ppdb_values.specs.RawFile.{blob};
 ghost use Rattle.ppdb_verify.specs.Views.{raw_file};
-ghost use Rattle.ppdb_lines.specs.Forms.{lines_as};
+ghost use Rattle.ppdb_show_lines.specs.Forms.{lines_as};
 ghost use Rattle.ppdb_show.specs.Show.{point_line};
 ghost use Rattle.ppdb_show.specs.ShowWalk.{lines_of_method_row};
 ghost use Rattle.ppdb_values.specs.Rules.{HasRow};
 
 use ppdb_base::{Sink, Steps, WriteError};
-use ppdb_lines::Item::Number;
-use ppdb_lines::Part::{Field, Mark};
-use ppdb_lines::{Key, Printer};
+use ppdb_show_lines::Item::Number;
+use ppdb_show_lines::Part::{Field, Mark};
+use ppdb_show_lines::{Key, Printer};
 use ppdb_tables::MethodDebugRow;
 use ppdb_verify::Verified;
+use ppdb_verify_rows::{blob, method_debug, point_limits};
 use sequence_points::{Point, PointCursor, Span};
 use std::sync::ledger::Ledger;
-use verified_rows::{blob, method_debug, point_limits};
 
 /// Puts the line of a method that has points, and the lines of these.
 pub(crate) fn put_method<O: Sink, L: Ledger>(

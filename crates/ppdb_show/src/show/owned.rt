@@ -4,19 +4,19 @@ ghost use Rattle.ppdb_base.specs.Written.{Puts};
 ghost use Rattle.ppdb_tables.specs.RawOf.{raw_of};
 ghost use Rattle.ppdb_values.specs.Owners.{list_end};
 ghost use Rattle.ppdb_verify.specs.Views.{raw_file};
-ghost use Rattle.ppdb_lines.specs.Forms.{lines_as};
+ghost use Rattle.ppdb_show_lines.specs.Forms.{lines_as};
 ghost use Rattle.ppdb_show.specs.ShowWalk.{OwnsItem, item_table, items_of, list_by, lines_of_item, lines_between, lines_of_items};
 ghost use Rattle.ppdb_values.specs.Rules.{HasRow};
 
 use ppdb_base::{Sink, Steps, WriteError};
-use ppdb_lines::Item::{Name, Number, Octets};
-use ppdb_lines::Part::Field;
-use ppdb_lines::{Key, Printer};
 use ppdb_queries::Run;
+use ppdb_show_lines::Item::{Name, Number, Octets};
+use ppdb_show_lines::Part::Field;
+use ppdb_show_lines::{Key, Printer};
 use ppdb_tables::{ScopeRow, Tables};
 use ppdb_verify::Verified;
+use ppdb_verify_rows::{blob, constant, text, variable};
 use std::sync::ledger::Ledger;
-use verified_rows::{blob, constant, text, variable};
 
 /// The number of the table LocalScope.
 const SCOPES: u8 = 0x32;
@@ -50,7 +50,7 @@ fn list_of(owned: Owned, scope: ScopeRow) -> u32
     }
 }
 
-/// The first item behind the list of a scope.
+/// The first item after the list of a scope.
 fn end_of_list<L: Ledger>(
     owned: Owned,
     tables: &Tables<'_>,

@@ -2,7 +2,7 @@
 ghost use Rattle.std.specs.Prelude.{◌≡◌, ◌<◌, ◌+◌, Some};
 ghost use Rattle.ppdb_base.specs.Written.{Puts};
 ghost use Rattle.ppdb_verify.specs.Views.{raw_file};
-ghost use Rattle.ppdb_lines.specs.Forms.{lines_as};
+ghost use Rattle.ppdb_show_lines.specs.Forms.{lines_as};
 ghost use Rattle.ppdb_show.specs.ShowWalk.{number_of, lines_of_row, lines_of_table, lines_of_scope, lines_of_machine, lines_of_custom};
 ghost use Rattle.ppdb_values.specs.Rules.{HasRow};
 
@@ -10,13 +10,13 @@ use crate::show::documents::put_document;
 use crate::show::imports::put_import;
 use crate::show::methods::put_method;
 use ppdb_base::{Sink, Steps, WriteError};
-use ppdb_lines::Item::{Guid, Number, Octets, Table};
-use ppdb_lines::Part::Field;
-use ppdb_lines::{Key, Printer};
+use ppdb_show_lines::Item::{Guid, Number, Octets, Table};
+use ppdb_show_lines::Part::Field;
+use ppdb_show_lines::{Key, Printer};
 use ppdb_tables::parent_of;
 use ppdb_verify::Verified;
+use ppdb_verify_rows::{blob, count, custom, guid, machine, scope};
 use std::sync::ledger::Ledger;
-use verified_rows::{blob, count, custom, guid, machine, scope};
 
 /// The tables whose rows are shown each by itself.
 #[derive(Clone, Copy)]

@@ -1,4 +1,4 @@
-use Rattle.break_lines.proofs.Names.{first_not, second_front}
+use Rattle.break_lines.proofs.Names.{first_not, second_prefix}
 use Rattle.break_lines.proofs.name.after_both.Goals as goal
 
 pub returns-in_err-strip_prefix : goal.returns-in_err-strip_prefix
@@ -8,5 +8,5 @@ returns-in_err-strip_prefix c =
 pub returns : goal.returns
 returns c =
     let first = c.in_ok-strip_prefix.ensures.cases in
-    second_front c.args.first.now c.args.second.now c.args.text.now c.in_ok-strip_prefix.field-0.now c.strip_prefix-2.result first.0 first.1
+    second_prefix c.args.first.now c.args.second.now c.args.text.now c.in_ok-strip_prefix.field-0.now c.strip_prefix-2.result first.0 first.1
     c.strip_prefix-2.ensures.cases

@@ -1,5 +1,5 @@
 use Rattle.std.proofs.Common.{arith, sym, ap, subst, ◌∙◌, ◌≡◌, ◌≤◌, length}
-use Rattle.map_text.specs.MapTexts.{map_text}
+use Rattle.ppdb_maps_text.specs.MapTexts.{map_text}
 use Rattle.ppdb_maps.specs.Text.{IsMapOf}
 use Rattle.map_compose.specs.Composed.{composed}
 use Rattle.map_compose.proofs.Readable.{composed_is_readable}

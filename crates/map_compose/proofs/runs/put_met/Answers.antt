@@ -1,15 +1,15 @@
 use Rattle.std.proofs.Common.{arith, sym, subst, length, take, drop, ◌-◌}
 use Rattle.std.specs.Option.{option_copied}
 use Rattle.map_compose.specs.Lengths.{AreSums, SumsOf}
-use Rattle.map_compose.proofs.Fronts.{begins_there, short_rest, rise_rest}
+use Rattle.map_compose.proofs.Prefixes.{begins_there, short_rest, rise_rest}
 use Rattle.map_compose.proofs.Insides.{piece_apart, ends_after}
 use Rattle.map_compose.proofs.JoinedRuns.{joins_same}
 use Rattle.map_compose.proofs.Putting.{ok_then}
 use Rattle.map_compose.proofs.Sums.{sums_range, same_long}
 use Rattle.map_compose.proofs.runs.put_met.Goals as goal
 
-pub put_front-requires : goal.put_front-requires
-put_front-requires c = record {
+pub put_prefix-requires : goal.put_prefix-requires
+put_prefix-requires c = record {
   run = c.requires.run;
   others = record {
     rise = rise_rest c.args.others.now c.count_ended-from.result c.requires.others.rise;
@@ -18,9 +18,9 @@ put_front-requires c = record {
 }
 
 pub returns-in-None : goal.returns-in-None
-returns-in-None c = ok_then c.put_front.result
+returns-in-None c = ok_then c.put_prefix.result
     (λ h. joins_same _ _ _ _ _ _ (begins_there c.args.run c.args.others.now c.count_ended-from.result c.count_ended-from.ensures.ended) h)
-    c.put_front.ensures
+    c.put_prefix.ensures
 
 pub slice_bounds-put_wide-count-in-Some : goal.slice_bounds-put_wide-count-in-Some
 slice_bounds-put_wide-count-in-Some c =

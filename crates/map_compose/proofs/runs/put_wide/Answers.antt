@@ -1,6 +1,6 @@
 use Rattle.std.proofs.Common.{arith, drop, ◌-◌}
 use Rattle.std.proofs.lemmas.List.{length-take-le, length-drop}
-use Rattle.map_compose.proofs.Fronts.{short_at, short_rest, rise_rest}
+use Rattle.map_compose.proofs.Prefixes.{short_at, short_rest, rise_rest}
 use Rattle.map_compose.proofs.Insides.{piece_runs, piece_apart, all_inside, past_kept, wide_joins}
 use Rattle.map_compose.proofs.Putting.{ok_then}
 use Rattle.map_compose.proofs.Sums.{sums_range, same_long}
@@ -34,8 +34,8 @@ count_inside-requires c =
       past = past_kept _ _ _ (record { long = past.0 c.if-not-is_past.false; fits = c.is_past.ensures.fits }) c.in_ok-put_meeting.ensures.puts;
     }
 
-pub put_front-requires-2 : goal.put_front-requires-2
-put_front-requires-2 c = record {
+pub put_prefix-requires-2 : goal.put_prefix-requires-2
+put_prefix-requires-2 c = record {
   run = c.requires.run;
   others = record {
     rise = rise_rest c.args.others.now c.count_ended-inside.result c.requires.others.rise;
@@ -46,7 +46,7 @@ put_front-requires-2 c = record {
 pub returns : goal.returns
 returns c =
     let bound = c.count_ended-inside.ensures.bound in
-    ok_then c.put_front-2.result
+    ok_then c.put_prefix-2.result
     (λ h. wide_joins c.args.run c.args.others.now c.count_ended-inside.result _ _ _ _ _ _ _ _ _ (omega arith) bound
     c.in_ok-put_meeting.ensures c.in_ok-count_inside.ensures h)
-    c.put_front-2.ensures
+    c.put_prefix-2.ensures

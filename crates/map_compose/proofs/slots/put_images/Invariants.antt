@@ -1,6 +1,6 @@
 use Rattle.std.proofs.Common.{map, take, length, ◌≤◌, ◌-◌}
 use Rattle.std.specs.List.{filter_map}
-use Rattle.map_text.specs.MapTexts.{slot_says}
+use Rattle.ppdb_maps_text.specs.MapTexts.{slot_says}
 use Rattle.map_compose.specs.Composed.{slot_entry, slot_sources}
 use Rattle.map_compose.specs.Says.{PutsLines}
 use Rattle.map_compose.proofs.slots.put_images.Given as goal

@@ -1,6 +1,6 @@
 use Rattle.std.proofs.Common.{map, take, length, ◌≤◌, ◌-◌}
 use Rattle.std.specs.List.{filter_map}
-use Rattle.map_text.specs.MapTexts.{row_says}
+use Rattle.ppdb_maps_text.specs.MapTexts.{row_says}
 use Rattle.map_compose.specs.Composed.{row_entry}
 use Rattle.map_compose.specs.Says.{PutsLines, sources_of}
 use Rattle.map_compose.proofs.tables.put_rows_of.Given as goal

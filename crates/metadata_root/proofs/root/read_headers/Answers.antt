@@ -11,9 +11,9 @@ returns-in_err-at-clause-first c =
     let p = err_from_is_err_and c.from_residual.result c.from_residual.ensures.1 in
     let file = c.args.bytes.now in
     let i = c.loop.invariant in
-    let front = c.requires.front in
+    let prefix = c.requires.prefix in
     let fault = c.in_err-at.field-0.0 in
-    rw (p.1, p.2) (header_is_first file front.signed c.loop.counter (omega (arith, c.loop-test.true, front.counted)) i.names c.loop.listing i.listing fault
+    rw (p.1, p.2) (header_is_first file prefix.signed c.loop.counter (omega (arith, c.loop-test.true, prefix.counted)) i.names c.loop.listing i.listing fault
     (subst (λ place. IsHeaderFault file place c.loop.listing fault) i.place c.in_err-at.ensures.fault))
 
 pub loop-preserved : goal.loop-preserved
@@ -36,6 +36,6 @@ pub returns-clause-accepted : goal.returns-clause-accepted
 returns-clause-accepted c =
     let file = c.args.bytes.now in
     let i = c.loop.invariant in
-    let front = c.requires.front in
-    let all : c.loop.counter ≡ stream_count file = omega (arith, c.loop-test.false, c.loop.auto.counter-end, front.counted) in
-    root_accepted file front.signed (subst (λ k. header_place file k ≤ length file) all (omega (arith, i.place, i.fits))) (subst (AreGoodTo file) all i.names)
+    let prefix = c.requires.prefix in
+    let all : c.loop.counter ≡ stream_count file = omega (arith, c.loop-test.false, c.loop.auto.counter-end, prefix.counted) in
+    root_accepted file prefix.signed (subst (λ k. header_place file k ≤ length file) all (omega (arith, i.place, i.fits))) (subst (AreGoodTo file) all i.names)

@@ -1,8 +1,8 @@
 use Rattle.std.proofs.Common.{sym, subst, ◌∙◌}
 use Rattle.ppdb_base.specs.First.{IsAccepted}
-use Rattle.ppdb_verify.specs.Files.{BadFile, IsRawOf}
-use Rattle.ppdb_canon.specs.Canon.{chosen_id, with_id}
-use Rattle.written_files.specs.Written.{Says}
+use Rattle.ppdb_verify.specs.Files.{FileFaults, IsRawOf}
+use Rattle.ppdb_build_canon.specs.Canon.{chosen_id, with_id}
+use Rattle.ppdb_build_written_laws.specs.Written.{Says}
 use Rattle.ppdb_build.proofs.Finished.{limit_is, file_is}
 use Rattle.ppdb_build.proofs.finish.file_of_draft.Goals as goal
 
@@ -34,7 +34,7 @@ returns-clause-accepted c =
     c.draft_len-len.ensures c.span.ensures c.in-None.ensures in
     let written = c.in_ok-file.ensures
     ∙ file_is value c.args.head.now c.args.draft.now c.args.id c.counts_of-counts.result is (c.can_be_laid.ensures.file value is) in
-    subst (λ bytes. IsAccepted (BadFile bytes)) (sym written)
+    subst (λ bytes. IsAccepted (FileFaults bytes)) (sym written)
     (c.written_files_are_valid.ensures value c.args.id is.sound is.types within).accepted
 
 pub returns-clause-reread : goal.returns-clause-reread

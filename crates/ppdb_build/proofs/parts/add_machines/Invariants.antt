@@ -1,5 +1,5 @@
 use Rattle.std.proofs.Common.{◌≡◌, take, fold}
-use Rattle.file_drafting.specs.Draft.{with_machine}
+use Rattle.ppdb_build_draft.specs.Draft.{with_machine}
 use Rattle.ppdb_build.proofs.parts.add_machines.Given as goal
 
 abbrev pub invariant-loop-machine : goal.invariant-loop-machine

@@ -3,10 +3,10 @@ use Rattle.std.specs.List.{filter_map}
 use Rattle.std.proofs.lemmas.List.{take_all, take_more}
 use Rattle.std.proofs.lemmas.List.Sums.{fold_push}
 use Rattle.sequence_points.specs.Written.{first_of}
-use Rattle.ppdb_canon.specs.Limits.{large_step_of}
+use Rattle.ppdb_build_canon.specs.Limits.{large_step_of}
 use Rattle.ppdb_values.specs.declared.file.MethodValue.{MethodValue}
-use Rattle.file_drafting.specs.Draft.{with_method}
-use Rattle.value_limits.proofs.Firsts.{none_more}
+use Rattle.ppdb_build_draft.specs.Draft.{with_method}
+use Rattle.ppdb_build_limits.proofs.Firsts.{none_more}
 use Rattle.ppdb_build.proofs.Writable.{step_at}
 use Rattle.ppdb_build.proofs.parts.add_methods.Goals as goal
 

@@ -1,7 +1,7 @@
 use Rattle.std.proofs.Common.{◌≡◌, [], take, fold}
 use Rattle.std.specs.List.{filter_map}
-use Rattle.ppdb_canon.specs.Limits.{large_step_of}
-use Rattle.file_drafting.specs.Draft.{with_method}
+use Rattle.ppdb_build_canon.specs.Limits.{large_step_of}
+use Rattle.ppdb_build_draft.specs.Draft.{with_method}
 use Rattle.ppdb_build.proofs.parts.add_methods.Given as goal
 
 abbrev pub invariant-loop-method : goal.invariant-loop-method

@@ -1,5 +1,5 @@
 use Rattle.std.proofs.Common.{◌≡◌, take, fold}
-use Rattle.file_drafting.specs.Draft.{with_scope}
+use Rattle.ppdb_build_draft.specs.Draft.{with_scope}
 use Rattle.ppdb_build.proofs.parts.add_scopes.Given as goal
 
 abbrev pub invariant-loop-scope : goal.invariant-loop-scope

@@ -4,7 +4,7 @@ use Rattle.std.specs.List.{filter_map}
 use Rattle.sequence_points.specs.Written.{first_of}
 use Rattle.ppdb_base.specs.declared.limits.Limit.{Limit}
 use Rattle.ppdb_values.specs.declared.file.MethodValue.{MethodValue}
-use Rattle.ppdb_canon.specs.Limits.{too_many_rows, tables, list_past_end, large_offset}
+use Rattle.ppdb_build_canon.specs.Limits.{too_many_rows, tables, list_past_end, large_offset}
 use Rattle.ppdb_build.proofs.Limits.{one_more}
 use Rattle.ppdb_build.proofs.write.early_limit.Goals as goal
 

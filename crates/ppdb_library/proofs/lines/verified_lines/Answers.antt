@@ -11,4 +11,4 @@ returns-in-Ok-clause-lines g c = λ done raw is.
 
 pub returns-in-Err-Fault-clause-refused : goal.returns-in-Err-Fault-clause-refused
 returns-in-Err-Fault-clause-refused g c = λ refused accepted.
-    let first = rw c.in-Err-Fault.field-0-is at c.in-Err-Fault.ensures.first in accepted c.in-Err-Fault.field-0-0.code c.in-Err-Fault.field-0-0.place first.bad
+    let first = rw c.in-Err-Fault.field-0-is at c.in-Err-Fault.ensures.first in accepted c.in-Err-Fault.field-0-0.code c.in-Err-Fault.field-0-0.place first.invalid

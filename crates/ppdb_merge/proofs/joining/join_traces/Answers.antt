@@ -1,8 +1,8 @@
 use Rattle.std.proofs.Common.{sym, subst, ◌∙◌}
-use Rattle.kept_meanings.specs.Kept.{KeepsMeaning}
-use Rattle.kept_meanings.specs.Origins.{KeepsOrigins}
-use Rattle.ppdb_joined.specs.Joinable.{AreJoinable}
-use Rattle.ppdb_joined.specs.Small.{HaveRoom}
+use Rattle.ppdb_merge_meaning_laws.specs.Kept.{KeepsMeaning}
+use Rattle.ppdb_merge_meaning_laws.specs.Origins.{KeepsOrigins}
+use Rattle.ppdb_merge_joined.specs.Joinable.{AreJoinable}
+use Rattle.ppdb_merge_joined.specs.Small.{HaveRoom}
 use Rattle.ppdb_merge.proofs.Adding.{have_few, joined_sound, some_files, if_sound, if_kept}
 use Rattle.ppdb_merge.proofs.Counted.{can_be_joined}
 use Rattle.ppdb_merge.proofs.joining.join_traces.Goals as goal
@@ -20,7 +20,7 @@ joined_value-requires-clause-room c =
 pub returns-clause-sound : goal.returns-clause-sound
 returns-clause-sound c =
     if_sound c.joined_value.result c.in_ok-moved_files.field-0 c.args.traces c.joined_value.ensures c.in_ok-moved_files.ensures
-    (joined_sound c.soundness_is_noted.ensures c.joined_is_sound.ensures c.args.traces c.requires.some c.requires.sound c.requires.fit)
+    (joined_sound c.soundness_is_annotated.ensures c.joined_is_sound.ensures c.args.traces c.requires.some c.requires.sound c.requires.fit)
 
 pub returns-clause-kept : goal.returns-clause-kept
 returns-clause-kept c =

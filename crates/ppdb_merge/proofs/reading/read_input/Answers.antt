@@ -1,9 +1,9 @@
 use Rattle.std.proofs.Common.{◌<◌, length, sym, ap, subst, ◌∙◌, inr, Some, None}
 use Rattle.ppdb_values.specs.declared.file.FileValue.{FileValue}
 use Rattle.ppdb_verify.specs.Views.{raw_file}
-use Rattle.ppdb_noted.specs.Noted.{noted_file}
-use Rattle.ppdb_noted.specs.SoundParts.{SoundMoved}
-use Rattle.ppdb_moved.specs.Moved.{moved_file}
+use Rattle.ppdb_merge_items.specs.Annotated.{annotated_file}
+use Rattle.ppdb_merge_items.specs.SoundParts.{SoundMoved}
+use Rattle.ppdb_merge_moved.specs.Moved.{moved_file}
 use Rattle.ppdb_merge.specs.Merged.{is_first}
 use Rattle.ppdb_merge.proofs.Adding.{few_documents, few_moved, moved_is_sound, refused_as, added_sound, is_sound}
 use Rattle.ppdb_merge.proofs.reading.read_input.Goals as goal
@@ -22,15 +22,15 @@ returns-in-Some-clause-refused g c =
 
 pub moved-requires-clause-sound : goal.moved-requires-clause-sound
 moved-requires-clause-sound g c =
-    subst (λ (v : FileValue). SoundMoved (moved_file c.args.map.now (noted_file v))) (sym c.in_ok-value.ensures.value)
-    (moved_is_sound c.soundness_is_noted.ensures c.references_are_named.ensures c.args.map.now (raw_file c.args.file.now) c.keeps.ensures.rules
+    subst (λ (v : FileValue). SoundMoved (moved_file c.args.map.now (annotated_file v))) (sym c.in_ok-value.ensures.value)
+    (moved_is_sound c.soundness_is_annotated.ensures c.references_are_named.ensures c.args.map.now (raw_file c.args.file.now) c.keeps.ensures.rules
     c.keeps.ensures.sound c.keeps-2.ensures (is_first c.args.traces.now)
     (c.nothing_clashes.ensures c.args.marks.now (is_first c.args.traces.now) c.args.map.now (raw_file c.args.file.now) c.keeps.ensures.rules c.keeps-2.ensures
     c.in_ok-rows.ensures.fits).fits)
 
 pub moved-requires-clause-few : goal.moved-requires-clause-few
 moved-requires-clause-few g c =
-    subst (λ (v : FileValue). length (moved_file c.args.map.now (noted_file v)).documents < 0x20000000) (sym c.in_ok-value.ensures.value)
+    subst (λ (v : FileValue). length (moved_file c.args.map.now (annotated_file v)).documents < 0x20000000) (sym c.in_ok-value.ensures.value)
     (few_moved c.args.map.now (raw_file c.args.file.now) c.keeps.ensures.rules.shape)
 
 pub returns-clause-fits : goal.returns-clause-fits
@@ -42,9 +42,9 @@ returns-clause-fits g c =
 
 pub returns-clause-sound : goal.returns-clause-sound
 returns-clause-sound g c =
-    is_sound c.args.traces.now c.args.map.now (raw_file c.args.file.now) c.in_ok-moved.moved (noted_file c.in_ok-value.value) c.in_ok-rows.rows
-    c.in_ok-moved.ensures (ap noted_file c.in_ok-value.ensures.value) c.in_ok-rows.ensures.rows
-    (added_sound c.soundness_is_noted.ensures c.references_are_named.ensures c.args.map.now (raw_file c.args.file.now) c.keeps.ensures.rules
+    is_sound c.args.traces.now c.args.map.now (raw_file c.args.file.now) c.in_ok-moved.moved (annotated_file c.in_ok-value.value) c.in_ok-rows.rows
+    c.in_ok-moved.ensures (ap annotated_file c.in_ok-value.ensures.value) c.in_ok-rows.ensures.rows
+    (added_sound c.soundness_is_annotated.ensures c.references_are_named.ensures c.args.map.now (raw_file c.args.file.now) c.keeps.ensures.rules
     c.keeps.ensures.sound c.keeps-2.ensures c.args.marks.now c.args.traces.now c.requires.sound c.requires.few
     (c.nothing_clashes.ensures c.args.marks.now (is_first c.args.traces.now) c.args.map.now (raw_file c.args.file.now) c.keeps.ensures.rules c.keeps-2.ensures
     c.in_ok-rows.ensures.fits).fits

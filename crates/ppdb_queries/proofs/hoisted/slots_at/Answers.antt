@@ -4,7 +4,7 @@ use Rattle.blob_grammar.specs.Reader.{Left}
 use Rattle.custom_info.specs.HoistedScopes.{hoisted_scopes}
 use Rattle.custom_info.specs.declared.slots.Slot.{Slot}
 use Rattle.ppdb_verify.specs.Views.{raw_file}
-use Rattle.verified_rows.proofs.Whole.{whole_left, left_of}
+use Rattle.ppdb_verify_rows.proofs.Whole.{whole_left, left_of}
 use Rattle.ppdb_queries.proofs.Records.{slots_none, slots_are, hoisted_kind, nothing_whole, nothing_read}
 use Rattle.ppdb_queries.proofs.hoisted.slots_at.Goals as goal
 

@@ -2,7 +2,7 @@ use Rattle.std.proofs.Common.{◌≡◌, refl, subst, sym, Some}
 use Rattle.ppdb_run.specs.Outcome.{IsOutcome}
 use Rattle.ppdb_run.specs.Stops.{cause_of, Finds, OnCut, Settles}
 use Rattle.std.specs.Prelude.{IfErr, IfSome, OnOk}
-use Rattle.ppdb_base.specs.Written.{appended, AppendsFront}
+use Rattle.ppdb_base.specs.Written.{appended, AppendsPrefix}
 use Rattle.ppdb_run.specs.Ends.{IsValid, WritesAgain, WritesValid}
 use Rattle.ppdb_run.specs.Task.{inputs_of, options_of, question_of}
 use Rattle.ppdb_run.proofs.PairWords.{merge_counts}
@@ -307,7 +307,7 @@ pub returns-in-Sample-clause-cut : goal.returns-in-Sample-clause-cut
 returns-in-Sample-clause-cut g c =
     let words = subst (λ task. Words task (texts c.args.words.now)) (sym c.in-Sample.ensures) c.in-Ok.ensures.command in
     of_sampled (texts c.args.words.now) c.in-Sample.n words (g.F.Folder.files c.args.folder.now)
-    (λ due. IfErr c.sample.result (λ stop. OnCut (cause_of stop) (AppendsFront (g.O.Sink.written c.args.out.now) (g.O.Sink.written c.sample.new.out)
+    (λ due. IfErr c.sample.result (λ stop. OnCut (cause_of stop) (AppendsPrefix (g.O.Sink.written c.args.out.now) (g.O.Sink.written c.sample.new.out)
     due.text)))
     c.sample.ensures.cut
 

@@ -2,7 +2,7 @@ use Rattle.ppdb_run.specs.Stops.{cause_of}
 use Rattle.ppdb_run.proofs.Causes.{refuses}
 use Rattle.ppdb_run.proofs.Endings.{stopped_outcome, stopped_status, stopped_text, stopped_files, stopped_complete, stopped_kept}
 use Rattle.ppdb_run.proofs.Endings.{stopped_not_done, stopped_read_fault, stopped_unread, stopped_write_fault, stopped_unwritten, stopped_usage, stopped_untold}
-use Rattle.ppdb_run.proofs.Fronts.{front_of_done, front_of_stop}
+use Rattle.ppdb_run.proofs.Prefixes.{prefix_of_done, prefix_of_stop}
 use Rattle.ppdb_run.proofs.commands.run.Goals as goal
 
 pub returns-in-Err-clause-outcome : goal.returns-in-Err-clause-outcome
@@ -43,13 +43,13 @@ returns-in-Err-clause-unwritten g c = λ is.
     stopped_unwritten (cause_of c.in-Err.stop) _ _ _ _ _ (refuses c.in-Err.stop) c.tell.ensures _ _ _ _ _ _ _ _ c.in-Err.ensures.later
     c.in-Err.ensures.causes c.in-Err.ensures.silent is
 
-pub returns-in-Ok-clause-front : goal.returns-in-Ok-clause-front
-returns-in-Ok-clause-front g c = front_of_done _ _ _ _ _ _ _ _ c.in-Ok.ensures.text
+pub returns-in-Ok-clause-prefix : goal.returns-in-Ok-clause-prefix
+returns-in-Ok-clause-prefix g c = prefix_of_done _ _ _ _ _ _ _ _ c.in-Ok.ensures.text
 
-pub returns-in-Err-clause-front : goal.returns-in-Err-clause-front
-returns-in-Err-clause-front g c =
+pub returns-in-Err-clause-prefix : goal.returns-in-Err-clause-prefix
+returns-in-Err-clause-prefix g c =
     let known = c.in-Err.ensures in
-    front_of_stop _ _ _ _ _ _ _ _ _ _ _ (cause_of c.in-Err.stop) c.tell.result _ _ known.causes known.told known.cut known.silent c.tell.ensures
+    prefix_of_stop _ _ _ _ _ _ _ _ _ _ _ (cause_of c.in-Err.stop) c.tell.result _ _ known.causes known.told known.cut known.silent c.tell.ensures
 
 pub returns-in-Err-clause-kept : goal.returns-in-Err-clause-kept
 returns-in-Err-clause-kept g c = stopped_kept (cause_of c.in-Err.stop) _ _ _ _ _ (refuses c.in-Err.stop) c.tell.ensures _ c.in-Err.ensures.kept

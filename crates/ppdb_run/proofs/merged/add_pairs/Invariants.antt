@@ -4,7 +4,7 @@ use Rattle.ppdb_run.specs.Words.{texts}
 use Rattle.ppdb_run.proofs.Merges.{Goes, reads_of}
 use Rattle.ppdb_run.proofs.merged.add_pairs.Given as goal
 
--- what was read so far decides with the rest, behind two reads for each input
+-- what was read so far decides with the rest, after two reads for each input
 abbrev pub invariant-loop-rest : goal.invariant-loop-rest
 invariant-loop-rest g l =
     let folder = g.F.Folder in

@@ -5,7 +5,7 @@ use Rattle.custom_info.specs.Kinds.{kind_of}
 use Rattle.ppdb_tables.specs.RawOf.{raw_of}
 use Rattle.ppdb_values.specs.Customs.{kind_in}
 use Rattle.ppdb_verify.specs.Views.{tables_of}
-use Rattle.ppdb_fits.specs.Clashes.{is_unknown}
+use Rattle.ppdb_merge_fits.specs.Clashes.{is_unknown}
 use Rattle.ppdb_run.proofs.Unknowns.{at_unknown, past_known, none_unknown}
 use Rattle.ppdb_run.proofs.rebuild.unknown.Goals as goal
 

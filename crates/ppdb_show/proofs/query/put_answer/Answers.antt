@@ -1,7 +1,7 @@
 use Rattle.std.proofs.Common.{arith, ap, [], ◌∷◌}
 use Rattle.ppdb_tables.specs.RawOf.{raw_of}
 use Rattle.ppdb_verify.specs.Views.{tables_of, raw_file}
-use Rattle.ppdb_lines.specs.Lines.{Line}
+use Rattle.ppdb_show_lines.specs.Lines.{Line}
 use Rattle.ppdb_show.proofs.Added.{then_ok, adds_same}
 use Rattle.ppdb_show.proofs.Names.{found_is, found_there}
 use Rattle.ppdb_show.proofs.Bounded.{reads_bounded}

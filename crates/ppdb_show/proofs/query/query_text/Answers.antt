@@ -1,5 +1,5 @@
 use Rattle.std.proofs.Common.{arith, sym, ◌∙◌}
-use Rattle.ppdb_base.proofs.Written.{front_nothing}
+use Rattle.ppdb_base.proofs.Written.{prefix_nothing}
 use Rattle.ppdb_tables.specs.RawOf.{raw_of}
 use Rattle.ppdb_verify.specs.Views.{tables_of, raw_file}
 use Rattle.ppdb_show.specs.Query.{query_lines, query_text_of}
@@ -8,7 +8,7 @@ use Rattle.ppdb_show.proofs.Bounded.{at_least}
 use Rattle.ppdb_show.proofs.query.query_text.Goals as goal
 
 pub returns-in_default-clause-err : goal.returns-in_default-clause-err
-returns-in_default-clause-err g c = front_nothing (g.O.Sink.written c.args.out.now) (query_text_of (raw_file c.args.file.now) c.args.method c.args.offset)
+returns-in_default-clause-err g c = prefix_nothing (g.O.Sink.written c.args.out.now) (query_text_of (raw_file c.args.file.now) c.args.method c.args.offset)
 
 pub returns-in_default-clause-cost : goal.returns-in_default-clause-cost
 returns-in_default-clause-cost g c =
@@ -17,7 +17,7 @@ returns-in_default-clause-cost g c =
     omega (arith, some, cost)
 
 pub returns-then-is_err-clause-err : goal.returns-then-is_err-clause-err
-returns-then-is_err-clause-err g c = front_nothing (g.O.Sink.written c.args.out.now) (query_text_of (raw_file c.args.file.now) c.args.method c.args.offset)
+returns-then-is_err-clause-err g c = prefix_nothing (g.O.Sink.written c.args.out.now) (query_text_of (raw_file c.args.file.now) c.args.method c.args.offset)
 
 pub returns-in-Ok-put-clause-ok : goal.returns-in-Ok-put-clause-ok
 unfolding query_text_of

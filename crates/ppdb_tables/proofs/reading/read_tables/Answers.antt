@@ -8,7 +8,7 @@ use Rattle.metadata_root.specs.Streams.{bytes_of}
 use Rattle.ppdb_tables.specs.Layouts.{document_columns, method_columns, scope_columns, variable_columns, constant_columns}
 use Rattle.ppdb_tables.specs.Layouts.{import_columns, machine_columns, custom_columns, document_row, method_row, scope_row, variable_row}
 use Rattle.ppdb_tables.specs.Layouts.{constant_row, import_row, machine_row, custom_row}
-use Rattle.ppdb_tables.specs.Tables.{BadTables, BadTableFields, BadBounds, count_in, sizes_in}
+use Rattle.ppdb_tables.specs.Tables.{TablesFaults, TableFieldFaults, BoundFaults, count_in, sizes_in}
 use Rattle.ppdb_tables.proofs.TablesRead.{table_fits, table_read, same_tables, small_counts}
 use Rattle.ppdb_tables.proofs.reading.read_tables.Goals as goal
 
@@ -19,18 +19,18 @@ returns-in_err-places-clause-first c =
     let stream = c.stream_bytes-stream.result.now in
     let fault = c.in_err-places.field-0.0 in
     let header = c.in_ok-header.ensures in
-    rw (p.1, p.2) (subst (λ bytes. IsFirst (BadTables head bytes) fault) c.stream_bytes-stream.ensures.bytes
-    (first_of_after (BadTableFields (slice_index head.rows 6) stream) (BadBounds (sizes_in head stream) stream) fault header.accepted
-    (subst (λ sizes. IsFirst (BadBounds sizes stream) fault) header.sizes c.in_err-places.ensures.first)))
+    rw (p.1, p.2) (subst (λ bytes. IsFirst (TablesFaults head bytes) fault) c.stream_bytes-stream.ensures.bytes
+    (first_of_after (TableFieldFaults (slice_index head.rows 6) stream) (BoundFaults (sizes_in head stream) stream) fault header.accepted
+    (subst (λ sizes. IsFirst (BoundFaults sizes stream) fault) header.sizes c.in_err-places.ensures.first)))
 
 pub returns-clause-accepted : goal.returns-clause-accepted
 returns-clause-accepted c =
     let head = c.args.head.now in
     let stream = c.stream_bytes-stream.result.now in
     let header = c.in_ok-header.ensures in
-    subst (λ bytes. IsAccepted (BadTables head bytes)) c.stream_bytes-stream.ensures.bytes
-    (accepted_then (BadTableFields (slice_index head.rows 6) stream) (BadBounds (sizes_in head stream) stream) header.accepted
-    (subst (λ sizes. IsAccepted (BadBounds sizes stream)) header.sizes c.in_ok-places.ensures.accepted))
+    subst (λ bytes. IsAccepted (TablesFaults head bytes)) c.stream_bytes-stream.ensures.bytes
+    (accepted_then (TableFieldFaults (slice_index head.rows 6) stream) (BoundFaults (sizes_in head stream) stream) header.accepted
+    (subst (λ sizes. IsAccepted (BoundFaults sizes stream)) header.sizes c.in_ok-places.ensures.accepted))
 
 pub at-requires : goal.at-requires
 at-requires c = (

@@ -14,8 +14,8 @@ use Rattle.ppdb_values.proofs.laws.values_have_types.Goals as goal
 pub returns : goal.returns
 returns c = λ raw keeps id narrow. record {
   id = id;
-  rows = let entries = keeps.shape.entries in let front = length-take-le 0x2d raw.tables.counts (omega (arith, entries)) in
-      length-append (take 0x2d raw.tables.counts) _ ∙ omega (arith, front);
+  rows = let entries = keeps.shape.entries in let prefix = length-take-le 0x2d raw.tables.counts (omega (arith, entries)) in
+      length-append (take 0x2d raw.tables.counts) _ ∙ omega (arith, prefix);
   documents = All-map HasGuids (document_of raw.tables) raw.tables.documents
       (any_all (λ row. HasGuids (document_of raw.tables row)) raw.tables.documents (λ row. (
         guid_or_none raw.tables.guids row.algorithm _ refl,

@@ -6,7 +6,7 @@ use Rattle.metadata_root.specs.Streams.{bytes_of}
 use Rattle.ppdb_tables.specs.RawTables.{RawTables, count}
 use Rattle.ppdb_tables.specs.RawOf.{raw_of}
 use Rattle.ppdb_values.specs.RawFile.{raw_in}
-use Rattle.ppdb_verify.specs.Files.{BadFile, BadRows}
+use Rattle.ppdb_verify.specs.Files.{FileFaults, RowsFaults}
 use Rattle.ppdb_verify.proofs.Counted.{methods_fit}
 use Rattle.ppdb_verify.proofs.Families.{fault_is}
 use Rattle.ppdb_verify.proofs.Headed.{entry_within, rows_are}
@@ -60,7 +60,7 @@ returns-in-Ok-judge_all-clause-file g c =
 
 pub returns-in-Err-judge_all-clause-first : goal.returns-in-Err-judge_all-clause-first
 returns-in-Err-judge_all-clause-first g c =
-    fault_is (IsFirst (BadRows (raw_of c.in-Ok-read_tables.tables))) (IsFirst (BadFile c.args.bytes.now))
+    fault_is (IsFirst (RowsFaults (raw_of c.in-Ok-read_tables.tables))) (IsFirst (FileFaults c.args.bytes.now))
     (λ f first. rows_first c.args.bytes.now c.in-Ok.root c.in-Ok.ensures.accepted c.in-Ok.ensures.streams c.in-Ok-read_head.head
     c.in-Ok-read_head.ensures.accepted c.in-Ok-read_head.ensures.head
     (raw_of c.in-Ok-read_tables.tables) c.in-Ok-read_tables.ensures.accepted c.in-Ok-read_tables.ensures.tables f first)

@@ -1,7 +1,7 @@
 use Rattle.ppdb_base.specs.First.{IsFirst}
 use Rattle.ppdb_tables.specs.RawOf.{raw_of}
-use Rattle.ppdb_rules.specs.Rows.{BadRow}
-use Rattle.ppdb_verify.specs.Files.{BadRows}
+use Rattle.ppdb_verify_rules.specs.Rows.{RowFaults}
+use Rattle.ppdb_verify.specs.Files.{RowsFaults}
 use Rattle.ppdb_verify.proofs.Families.{both_accepted, fault_is, row_is_first}
 use Rattle.ppdb_verify.proofs.judge.judge_all.Goals as goal
 
@@ -10,5 +10,5 @@ returns-in-Ok-judge_rows-clause-accepted g c = both_accepted (raw_of c.args.tabl
 
 pub returns-in-Err-judge_rows-clause-first : goal.returns-in-Err-judge_rows-clause-first
 returns-in-Err-judge_rows-clause-first g c =
-    fault_is (IsFirst (BadRow (raw_of c.args.tables.now))) (IsFirst (BadRows (raw_of c.args.tables.now)))
+    fault_is (IsFirst (RowFaults (raw_of c.args.tables.now))) (IsFirst (RowsFaults (raw_of c.args.tables.now)))
     (λ f first. row_is_first (raw_of c.args.tables.now) f c.in-Ok.ensures.accepted first) c.in-Err-judge_rows.error c.in-Err-judge_rows.ensures.first

@@ -15,7 +15,7 @@ loop-i-preserved g c =
     let four = width_below widths i there c.requires.narrow in
     record {
       so_far = take_more_set places i c.loop-i.place (omega (arith, inv.count, there, c.told-widths))
-          ∙ ap (λ front. front ++ c.loop-i.place ∷ []) inv.so_far ∙ ap (λ n. places_from 0 (take i widths) ++ n ∷ []) inv.sum
+          ∙ ap (λ prefix. prefix ++ c.loop-i.place ∷ []) inv.so_far ∙ ap (λ n. places_from 0 (take i widths) ++ n ∷ []) inv.sum
           ∙ sym (places_more widths i there);
       sum = omega (arith, inv.sum, more);
       short = omega (arith, inv.short, four);

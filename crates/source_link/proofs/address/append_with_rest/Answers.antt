@@ -5,14 +5,14 @@ use Rattle.source_link.proofs.address.append_with_rest.Goals as goal
 
 pub stars-preserved : goal.stars-preserved
 stars-preserved c =
-    let rest = turned c.args.rest.now in let front = c.in-Some.front.now in
-    let more = c.append_turned.ensures.front in let before = c.stars.invariant.more in
+    let rest = turned c.args.rest.now in let prefix = c.in-Some.prefix.now in
+    let more = c.append_turned.ensures.prefix in let before = c.stars.invariant.more in
     record {
       more = (
-        (before.0 ++ front) ++ more.0,
-        more.1 ∙ ap (λ l. l ++ more.0) (c.in_ok-append.ensures.ok ∙ ap (λ l. l ++ front) before.1) ∙ simp append_assoc,
+        (before.0 ++ prefix) ++ more.0,
+        more.1 ∙ ap (λ l. l ++ more.0) (c.in_ok-append.ensures.ok ∙ ap (λ l. l ++ prefix) before.1) ∙ simp append_assoc,
       );
-      same = one_star rest c.stars.into c.stars.left.now front c.in-Some.after.now c.append_turned.new.into (c.in-Some.ensures.cut rest)
+      same = one_star rest c.stars.into c.stars.left.now prefix c.in-Some.after.now c.append_turned.new.into (c.in-Some.ensures.cut rest)
           (c.in_ok-append_turned.ensures.ok ∙ ap (λ l. l ++ rest) c.in_ok-append.ensures.ok) ∙ c.stars.invariant.same;
     }
 

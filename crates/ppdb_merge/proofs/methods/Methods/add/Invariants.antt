@@ -1,5 +1,5 @@
 use Rattle.std.proofs.Common.{ℕ, List, ◌++◌, take}
-use Rattle.ppdb_references.specs.declared.imaged.Imaged.{Imaged}
+use Rattle.ppdb_merge_names.specs.declared.imaged.Imaged.{Imaged}
 use Rattle.ppdb_merge.specs.Indexes.{HoldsMethods, claims_of}
 use Rattle.ppdb_merge.proofs.methods.Methods.add.Given as goal
 

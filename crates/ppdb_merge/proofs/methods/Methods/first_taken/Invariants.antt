@@ -1,5 +1,5 @@
 use Rattle.std.proofs.Common.{◌≡◌, ◌≤◌, ℕ, List, drop, length}
-use Rattle.ppdb_references.specs.declared.imaged.Imaged.{Imaged}
+use Rattle.ppdb_merge_names.specs.declared.imaged.Imaged.{Imaged}
 use Rattle.ppdb_merge.specs.Indexes.{HoldsMethods, least_taken}
 use Rattle.ppdb_merge.proofs.methods.Methods.first_taken.Given as goal
 

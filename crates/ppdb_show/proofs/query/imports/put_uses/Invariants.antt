@@ -1,7 +1,7 @@
 use Rattle.std.proofs.Common.{◌≡◌, [], ◌∷◌, length}
 use Rattle.std.specs.Prelude.{None}
 use Rattle.ppdb_values.specs.Imports.{import_value}
-use Rattle.ppdb_lines.specs.Uses.{use_line}
+use Rattle.ppdb_show_lines.specs.Uses.{use_line}
 use Rattle.ppdb_show.specs.QueryWalk.{Walked}
 use Rattle.ppdb_show.proofs.query.imports.put_uses.Given as goal
 

@@ -1,9 +1,9 @@
 use Rattle.std.proofs.Common.{sym, ◌∙◌}
 use Rattle.type_blobs.specs.ImportReading.{shown}
 use Rattle.ppdb_values.specs.Imports.{import_value}
-use Rattle.ppdb_lines.specs.declared.form.Form.TheVariants.{Text}
-use Rattle.ppdb_lines.specs.Uses.{use_line}
-use Rattle.ppdb_lines.proofs.Texts.{one_line}
+use Rattle.ppdb_show_lines.specs.declared.form.Form.TheVariants.{Text}
+use Rattle.ppdb_show_lines.specs.Uses.{use_line}
+use Rattle.ppdb_show_lines.proofs.Texts.{one_line}
 use Rattle.ppdb_show.proofs.Added.{added}
 use Rattle.ppdb_show.proofs.query.text.put_import_line.Goals as goal
 

@@ -1,5 +1,5 @@
 use Rattle.std.proofs.Common.{sym, ◌∙◌}
-use Rattle.ppdb_lines.specs.Views.{line_of}
+use Rattle.ppdb_show_lines.specs.Views.{line_of}
 use Rattle.ppdb_show.proofs.Added.{added}
 use Rattle.ppdb_show.proofs.query.text.put_line.Goals as goal
 

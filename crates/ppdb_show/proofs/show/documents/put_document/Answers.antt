@@ -1,4 +1,4 @@
-use Rattle.ppdb_lines.proofs.Putting.{puts_memory}
+use Rattle.ppdb_show_lines.proofs.Putting.{puts_memory}
 use Rattle.ppdb_show.proofs.show.documents.put_document.Goals as goal
 
 pub returns-in_err-value : goal.returns-in_err-value

@@ -1,6 +1,6 @@
 use Rattle.std.proofs.Common.{sym, ◌∙◌}
 use Rattle.ppdb_tables.specs.RawOf.{raw_of}
-use Rattle.ppdb_lines.proofs.Putting.{puts_nothing}
+use Rattle.ppdb_show_lines.proofs.Putting.{puts_nothing}
 use Rattle.ppdb_show.proofs.Lines.{no_count}
 use Rattle.ppdb_show.proofs.show.head.put_count.Goals as goal
 

@@ -1,6 +1,6 @@
 use Rattle.std.proofs.Common.{arith}
 use Rattle.ppdb_tables.specs.RawOf.{raw_of}
-use Rattle.ppdb_lines.proofs.Putting.{put_none, put_piece, put_front, put_whole}
+use Rattle.ppdb_show_lines.proofs.Putting.{put_none, put_piece, put_prefix, put_whole}
 use Rattle.ppdb_show.specs.Show.{count_lines_of}
 use Rattle.ppdb_show.proofs.Lines.{counts_between, next_row, last_row}
 use Rattle.ppdb_show.proofs.show.head.put_counts.Goals as goal
@@ -11,7 +11,7 @@ counts-init g c =
 
 pub returns-in_err-put_count : goal.returns-in_err-put_count
 returns-in_err-put_count g c =
-    put_front _ _ _ _ _ _ _ _ _ _ _ (rw (next_row c.args.printer.form (count_lines_of (raw_of c.args.tables.now)) c.counts.table 0x2d (omega arith)) at
+    put_prefix _ _ _ _ _ _ _ _ _ _ _ (rw (next_row c.args.printer.form (count_lines_of (raw_of c.args.tables.now)) c.counts.table 0x2d (omega arith)) at
     c.counts.invariant.put) c.from_residual.ensures.1 c.in_err-put_count.ensures
 
 pub counts-preserved : goal.counts-preserved

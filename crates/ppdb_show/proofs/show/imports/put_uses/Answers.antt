@@ -3,7 +3,7 @@ use Rattle.std.specs.Prelude.{Option, Result, Ok, Some, None}
 use Rattle.ppdb_base.specs.declared.BlobFault.{BlobFault}
 use Rattle.type_blobs.specs.declared.import.Import.{Import}
 use Rattle.type_blobs.specs.ImportReading.{shown, shown_answer}
-use Rattle.ppdb_lines.proofs.Putting.{put_piece, put_front, put_whole}
+use Rattle.ppdb_show_lines.proofs.Putting.{put_piece, put_prefix, put_whole}
 use Rattle.ppdb_show.proofs.Lines.{uses_step, uses_done}
 use Rattle.ppdb_show.proofs.Whole.{answers_some, answers_none}
 use Rattle.ppdb_show.proofs.show.imports.put_uses.Goals as goal
@@ -29,7 +29,7 @@ pub returns-in_err-put_use-in-Ok-Some : goal.returns-in_err-put_use-in-Ok-Some
 returns-in_err-put_use-in-Ok-Some g c =
     let e = answers_some c.imports.imports.items c.imports.imports.fault (shown c.in-Ok-Some.import) (sym c.next.ensures.answer
     ∙ shown_some c.next.result c.in-Ok-Some.field-0 c.in-Ok-Some.import c.in-Ok-Some.is c.in-Ok-Some.field-0-is) in
-    put_front _ _ _ _ _ _ _ _ _ _ _ (rw (uses_step c.args.printer.form c.imports.imports.items (shown c.in-Ok-Some.import) e) at c.imports.invariant.put)
+    put_prefix _ _ _ _ _ _ _ _ _ _ _ (rw (uses_step c.args.printer.form c.imports.imports.items (shown c.in-Ok-Some.import) e) at c.imports.invariant.put)
     c.from_residual.ensures.1 c.in_err-put_use-in-Ok-Some.ensures
 
 pub returns-in-Ok-None : goal.returns-in-Ok-None

@@ -1,7 +1,7 @@
 use Rattle.ppdb_base.proofs.Written.{puts_cut, puts_then}
 use Rattle.std.proofs.Common.{sym, ◌∙◌}
 use Rattle.ppdb_verify.specs.Views.{raw_file}
-use Rattle.ppdb_lines.proofs.Putting.{puts_nothing}
+use Rattle.ppdb_show_lines.proofs.Putting.{puts_nothing}
 use Rattle.ppdb_show.proofs.Lines.{is_nil, not_nil, no_method, method_text}
 use Rattle.ppdb_show.proofs.show.methods.put_method.Goals as goal
 

@@ -1,4 +1,4 @@
-use Rattle.ppdb_lines.proofs.Putting.{put_piece, put_front, put_whole}
+use Rattle.ppdb_show_lines.proofs.Putting.{put_piece, put_prefix, put_whole}
 use Rattle.ppdb_show.specs.Show.{point_line}
 use Rattle.ppdb_show.proofs.Lines.{mapped_step, mapped_done}
 use Rattle.ppdb_show.proofs.Whole.{answered, ended}
@@ -18,7 +18,7 @@ pub returns-in_err-put_point-in-Ok-Some : goal.returns-in_err-put_point-in-Ok-So
 returns-in_err-put_point-in-Ok-Some g c =
     let e = answered c.points.points.left.items c.points.points.left.fault c.in-Ok-Some.point c.next.result c.in-Ok-Some.field-0 c.next.ensures.answer
     c.in-Ok-Some.is c.in-Ok-Some.field-0-is in
-    put_front _ _ _ _ _ _ _ _ _ _ _ (rw (mapped_step c.args.printer.form point_line c.points.points.left.items c.in-Ok-Some.point e) at c.points.invariant.put)
+    put_prefix _ _ _ _ _ _ _ _ _ _ _ (rw (mapped_step c.args.printer.form point_line c.points.points.left.items c.in-Ok-Some.point e) at c.points.invariant.put)
     c.from_residual.ensures.1 c.in_err-put_point-in-Ok-Some.ensures
 
 pub returns-in-Ok-None : goal.returns-in-Ok-None

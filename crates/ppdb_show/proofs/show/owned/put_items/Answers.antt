@@ -1,5 +1,5 @@
 use Rattle.std.proofs.Common.{arith}
-use Rattle.ppdb_lines.proofs.Putting.{put_none, put_piece, put_front, put_whole}
+use Rattle.ppdb_show_lines.proofs.Putting.{put_none, put_piece, put_prefix, put_whole}
 use Rattle.ppdb_verify.specs.Views.{raw_file}
 use Rattle.ppdb_show.specs.ShowWalk.{lines_of_item}
 use Rattle.ppdb_show.proofs.Lines.{next_row, last_row}
@@ -18,7 +18,7 @@ items-init g c = record { from = omega arith; to = omega arith; put = put_none (
 pub returns-in_err-put_item : goal.returns-in_err-put_item
 returns-in_err-put_item g c =
     let raw = (raw_file c.args.file.now).tables in
-    put_front _ _ _ _ _ _ _ _ _ _ _ (rw (next_row c.args.printer.form (lines_of_item raw c.args.owned) c.items.item c.args.items.end (omega arith)) at
+    put_prefix _ _ _ _ _ _ _ _ _ _ _ (rw (next_row c.args.printer.form (lines_of_item raw c.args.owned) c.items.item c.args.items.end (omega arith)) at
     c.items.invariant.put) c.from_residual.ensures.1 c.in_err-put_item.ensures
 
 pub items-preserved : goal.items-preserved

@@ -1,5 +1,5 @@
 use Rattle.std.proofs.Common.{◌≡◌, ◌≤◌, ◌+◌, arith, sym, ◌∙◌, length}
-use Rattle.ppdb_lines.proofs.Putting.{put_none, put_piece, put_front, put_whole}
+use Rattle.ppdb_show_lines.proofs.Putting.{put_none, put_piece, put_prefix, put_whole}
 use Rattle.ppdb_verify.specs.Views.{raw_file}
 use Rattle.ppdb_values.specs.Owners.{list_end}
 use Rattle.ppdb_show.specs.ShowWalk.{list_by, items_of, lines_of_item}
@@ -61,7 +61,7 @@ returns-in_err-put_items g c =
     rw end_is (ends_within (list_by c.args.owned) raw.scopes (items_of raw c.args.owned) c.lists.scope keeps) in
     let split =
     split_lines c.args.printer.form (lines_of_item raw c.args.owned) c.lists.item c.end_of_list-end.result (items_of raw c.args.owned + 1) forward last in
-    put_front _ _ _ _ _ _ _ _ _ _ _ (rw split at c.lists.invariant.put) c.from_residual.ensures.1 c.in_err-put_items.ensures
+    put_prefix _ _ _ _ _ _ _ _ _ _ _ (rw split at c.lists.invariant.put) c.from_residual.ensures.1 c.in_err-put_items.ensures
 
 pub lists-preserved : goal.lists-preserved
 lists-preserved g c =

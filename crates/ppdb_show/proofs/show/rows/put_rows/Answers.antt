@@ -1,6 +1,6 @@
 use Rattle.std.proofs.Common.{arith, ◌+◌, ◌≡◌}
 use Rattle.ppdb_tables.specs.RawTables.{count}
-use Rattle.ppdb_lines.proofs.Putting.{put_none, put_piece, put_front, put_whole}
+use Rattle.ppdb_show_lines.proofs.Putting.{put_none, put_piece, put_prefix, put_whole}
 use Rattle.ppdb_verify.specs.Views.{raw_file}
 use Rattle.ppdb_show.specs.ShowWalk.{number_of, lines_of_row}
 use Rattle.ppdb_show.proofs.Lines.{next_row, last_row}
@@ -20,7 +20,7 @@ rows-init g c =
 pub returns-in_err-put_row : goal.returns-in_err-put_row
 returns-in_err-put_row g c =
     let raw = (raw_file c.args.file.now).tables in
-    put_front _ _ _ _ _ _ _ _ _ _ _ (rw (next_row c.args.printer.form (lines_of_row raw c.args.rows) c.rows.row (c.count-count.result + 1) (omega arith)) at
+    put_prefix _ _ _ _ _ _ _ _ _ _ _ (rw (next_row c.args.printer.form (lines_of_row raw c.args.rows) c.rows.row (c.count-count.result + 1) (omega arith)) at
     c.rows.invariant.put) c.from_residual.ensures.1 c.in_err-put_row.ensures
 
 pub rows-preserved : goal.rows-preserved

@@ -10,7 +10,7 @@ returns c =
       shape = c.shape.ensures;
       entry = file.entry;
       methods = file.methods;
-      accepted = λ code at bad. file.accepted code at (inl bad);
+      accepted = λ code at invalid. file.accepted code at (inl invalid);
     }) in
     record {
       rules = rules;

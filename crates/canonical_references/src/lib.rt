@@ -1,6 +1,0 @@
-//! What the rows of a canonical file refer to: its texts and blobs have in all the length that is limited.
-#![tactic(auto)]
-
-mod laws;
-
-pub use laws::{references_are_few, references_are_summed};

@@ -1,5 +1,0 @@
-use Rattle.canonical_scopes.proofs.Reread.{canonical_customs}
-use Rattle.canonical_scopes.proofs.laws.canonical_customs_are_reread.Goals as goal
-
-pub returns : goal.returns
-returns c = canonical_customs c.codes_are_parents.ensures c.values_without_limits_are_small.ensures

@@ -1,4 +1,0 @@
-use Rattle.check_blobs.proofs.check.Given as goal
-
-abbrev pub ghosts-put_counted : goal.ghosts-put_counted
-ghosts-put_counted a = record { name = a.rows.name; parts = a.rows.parts }

@@ -1,5 +1,0 @@
-use Rattle.std.proofs.Common.{length, ◌-◌, ◌+◌}
-use Rattle.check_blobs.proofs.file.read_to_end.Given as goal
-
-abbrev pub decreases-loop-buffer : goal.decreases-loop-buffer
-decreases-loop-buffer g l = 134217728 + 1 - length l.into

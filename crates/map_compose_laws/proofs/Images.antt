@@ -1,0 +1,249 @@
+-- The image of the image of a meaning is its image by the composed map.
+use Rattle.std.proofs.Common.{◌≡◌, ℕ, List, [], ◌∷◌, Option, Some, None, refl, sym, ◌∙◌, ap, arith, map, zero, suc}
+use Rattle.std.specs.Prelude.{unwrap_or}
+use Rattle.std.specs.Option.{option_map, option_and_then}
+use Rattle.std.proofs.lemmas.Bool.{ne_eqb}
+use Rattle.custom_info.specs.declared.slots.Range.{Range}
+use Rattle.ppdb_base.specs.Offsets.{moved}
+use Rattle.ppdb_maps.specs.Map.{Map, row_image, moved_row, slot_image, offsets_in}
+use Rattle.type_blobs.specs.declared.types.TypeToken.{TypeToken}
+use Rattle.type_blobs.specs.declared.types.Modifier.{Modifier}
+use Rattle.ppdb_values.specs.declared.scope.VariableValue.{VariableValue}
+use Rattle.ppdb_values.specs.declared.scope.ConstantValue.{ConstantValue}
+use Rattle.ppdb_values.specs.declared.scope.ConstantBody.{ConstantBody}
+use Rattle.ppdb_values.specs.declared.scope.ConstantBody.TheVariants.{Primitive, Enumerated, General, Object}
+use Rattle.ppdb_values.specs.declared.import.ImportValue.{ImportValue}
+use Rattle.ppdb_values.specs.declared.import.ImportValue.TheVariants.{Namespace, AssemblyNamespace, Target, Xml, Alias, AssemblyAlias, NamespaceAlias}
+use Rattle.ppdb_values.specs.declared.import.ImportValue.TheVariants.{AssemblyNamespaceAlias, TargetAlias}
+use Rattle.ppdb_values.specs.declared.annotation.Annotation.{Annotation}
+use Rattle.ppdb_values.specs.Meaning.{ScopeMeaning, SlotMeaning, PointMeaning, Meaning}
+use Rattle.ppdb_merge_items.specs.Each.{Each}
+use Rattle.ppdb_merge_items.specs.Annotated.{with_item}
+use Rattle.ppdb_merge_moved.specs.Images.{point_image, scope_image, slot_meaning_image, meaning_image}
+use Rattle.ppdb_merge_moved.specs.Moved.{moved_token, moved_modifier, moved_constant_body, moved_constant, moved_import, moved_variable, moved_range}
+use Rattle.map_compose.specs.Composed.{composed}
+use Rattle.map_compose.specs.Composition.{Follows, IsComposition}
+use Rattle.map_compose.proofs.Equations.{composed_composes}
+use Rattle.map_compose_laws.specs.Images.{no_range, without_edges, SlotsStay, RangeComposes, PointComposes, EdgesCompose, ImagesCompose}
+use Rattle.map_compose_laws.proofs.Rows.{KeepsRows, keeps_rows}
+
+-- ---- lists
+
+map_map_is : {A B C : Type 0} (g : B → C) (f : A → B) (h : A → C) → ((x : A) → g (f x) ≡ h x) → (xs : List A) → map g (map f xs) ≡ map h xs
+map_map_is g f h is [] = refl
+map_map_is g f h is (x ∷ xs) = ap (λ y. y ∷ map g (map f xs)) (is x) ∙ ap (λ l. h x ∷ l) (map_map_is g f h is xs)
+
+pub map_map_each : {A B C : Type 0} (g : B → C) (f : A → B) (h : A → C) (P : A → Type 0) → ((x : A) → P x → g (f x) ≡ h x) → (xs : List A) → Each P xs
+    → map g (map f xs) ≡ map h xs
+map_map_each g f h P is [] each = refl
+map_map_each g f h P is (x ∷ xs) each = ap (λ y. y ∷ map g (map f xs)) (is x each.0) ∙ ap (λ l. h x ∷ l) (map_map_each g f h P is xs each.1)
+
+item_is : {A : Type 0} (g f h : A → A) → ((x : A) → g (f x) ≡ h x) → (n : Annotation A) → with_item g (with_item f n) ≡ with_item h n
+item_is g f h is n = ap (λ i. record { item = i; customs = n.customs }) (is n.item)
+
+-- ---- rows
+
+pub row_there : (m : Map) (table n : ℕ) → moved_row m table (suc n) ≡ unwrap_or (row_image m table (suc n)) 0
+row_there m table n = rw (ne_eqb (suc n) 0 (λ e. omega (arith, e))) refl
+
+module _ (f s : Map) (composes : IsComposition f s (composed f s)) (keeps : KeepsRows f) where
+  abbrev c : Map
+  c = composed f s
+
+  pub row_on : (table old : ℕ) → moved_row s table (moved_row f table old) ≡ moved_row c table old
+  row_on table zero = refl
+  row_on table (suc n) = ap (moved_row s table) (row_there f table n) ∙ step (row_image f table (suc n)) refl ∙ sym (row_there c table n)
+    where
+      step : (o : Option ℕ) → row_image f table (suc n) ≡ o → moved_row s table (unwrap_or o 0) ≡ unwrap_or (row_image c table (suc n)) 0
+      step None is = sym (ap (λ r. unwrap_or r 0) (composes.rows table (suc n) ∙ ap (option_and_then (row_image s table)) is))
+      step (Some zero) is = absurd (keeps table (suc n) (omega arith) is)
+      step (Some (suc k)) is = row_there s table k ∙ sym (ap (λ r. unwrap_or r 0) (composes.rows table (suc n) ∙ ap (option_and_then (row_image s table)) is))
+
+  token_on : (t : TypeToken) → moved_token s (moved_token f t) ≡ moved_token c t
+  token_on t = ap (λ n. record { table = t.table; row = n }) (row_on t.table t.row)
+
+  modifier_on : (m : Modifier) → moved_modifier s (moved_modifier f m) ≡ moved_modifier c m
+  modifier_on m = ap (λ t. record { required = m.required; target = t }) (token_on m.target)
+
+  body_on : (b : ConstantBody) → moved_constant_body s (moved_constant_body f b) ≡ moved_constant_body c b
+  body_on (Primitive code value) = refl
+  body_on (Enumerated code value target) = ap (Enumerated code value) (token_on target)
+  body_on (General code target rest) = ap (λ t. General code t rest) (token_on target)
+  body_on Object = refl
+
+  constant_on : (k : ConstantValue) → moved_constant s (moved_constant f k) ≡ moved_constant c k
+  constant_on k =
+      ap (λ l. record { name = k.name; modifiers = l; body = moved_constant_body s (moved_constant_body f k.body) })
+      (map_map_is (moved_modifier s) (moved_modifier f) (moved_modifier c) modifier_on k.modifiers)
+      ∙ ap (λ b. record { name = k.name; modifiers = map (moved_modifier c) k.modifiers; body = b }) (body_on k.body)
+
+  import_on : (i : ImportValue) → moved_import s (moved_import f i) ≡ moved_import c i
+  import_on (Namespace n) = refl
+  import_on (AssemblyNamespace a n) = ap (λ r. AssemblyNamespace r n) (row_on 0x23 a)
+  import_on (Target t) = ap Target (token_on t)
+  import_on (Xml a n) = refl
+  import_on (Alias a) = refl
+  import_on (AssemblyAlias a r) = ap (AssemblyAlias a) (row_on 0x23 r)
+  import_on (NamespaceAlias a n) = refl
+  import_on (AssemblyNamespaceAlias a r n) = ap (λ k. AssemblyNamespaceAlias a k n) (row_on 0x23 r)
+  import_on (TargetAlias a t) = ap (TargetAlias a) (token_on t)
+
+  -- ---- of one method
+
+  module _ (method image : ℕ) (follows : Follows f s method image) where
+    variable_on : (v : Annotation VariableValue) → (new : ℕ) × (slot_image f method v.item.slot ≡ Some new)
+        → with_item (moved_variable s image) (with_item (moved_variable f method) v) ≡ with_item (moved_variable c method) v
+    variable_on v stays = ap (λ n. record { item = record { attributes = v.item.attributes; slot = n; name = v.item.name }; customs = v.customs })
+        (slot_on v.item.slot stays)
+      where
+        slot_on : (old : ℕ) → (new : ℕ) × (slot_image f method old ≡ Some new)
+            → unwrap_or (slot_image s image (unwrap_or (slot_image f method old) 0)) 0 ≡ unwrap_or (slot_image c method old) 0
+        slot_on old stays =
+            ap (λ o. unwrap_or (slot_image s image (unwrap_or o 0)) 0) stays.1
+            ∙ sym (ap (λ r. unwrap_or r 0) (composes.slots method image old follows ∙ ap (option_and_then (slot_image s image)) stays.1))
+
+    -- a scope with this range
+    abbrev ranged : Range → ScopeMeaning → ScopeMeaning
+    ranged range x = record x { range = range }
+
+    abbrev VariablesStay : ScopeMeaning → Type 0
+    VariablesStay x = Each (λ (v : Annotation VariableValue). (new : ℕ) × (slot_image f method v.item.slot ≡ Some new)) x.variables
+
+    scope_on : (range : Range) (x : ScopeMeaning) → VariablesStay x
+        → ranged range (scope_image s image (scope_image f method x)) ≡ ranged range (scope_image c method x)
+    scope_on range x stays =
+        ap (λ l. record {
+          range = range;
+          customs = x.customs;
+          variables = l;
+          constants = map (with_item (moved_constant s))
+              (map (with_item (moved_constant f)) x.constants);
+          imports = map (with_item (map (moved_import s)))
+              (map (with_item (map (moved_import f))) x.imports);
+        })
+        (map_map_each (with_item (moved_variable s image)) (with_item (moved_variable f method)) (with_item (moved_variable c method)) _ variable_on
+        x.variables stays)
+        ∙ ap (λ l. record {
+          range = range;
+          customs = x.customs;
+          variables = map (with_item (moved_variable c method)) x.variables;
+          constants = l;
+          imports = map (with_item (map (moved_import s))) (map (with_item (map (moved_import f))) x.imports);
+        })
+        (map_map_is (with_item (moved_constant s)) (with_item (moved_constant f)) (with_item (moved_constant c))
+        (item_is (moved_constant s) (moved_constant f) (moved_constant c) constant_on) x.constants)
+        ∙ ap (λ l. record {
+          range = range;
+          customs = x.customs;
+          variables = map (with_item (moved_variable c method)) x.variables;
+          constants = map
+              (with_item (moved_constant c)) x.constants;
+          imports = l;
+        })
+        (map_map_is (with_item (map (moved_import s))) (with_item (map (moved_import f))) (with_item (map (moved_import c)))
+        (item_is (map (moved_import s)) (map (moved_import f)) (map (moved_import c))
+        (map_map_is (moved_import s) (moved_import f) (moved_import c) import_on)) x.imports)
+
+    range_on : (range : Range) → RangeComposes f s method image range
+        → moved_range (offsets_in s image) (moved_range (offsets_in f method) range) ≡ moved_range (offsets_in c method) range
+    range_on range composed =
+        ap (λ n. record { start = n; end = moved (offsets_in s image) (moved (offsets_in f method) range.end) }) composed.0
+        ∙ ap (λ n. record { start = moved (offsets_in c method) range.start; end = n }) composed.1
+
+    scope_exactly : (x : ScopeMeaning) → VariablesStay x × RangeComposes f s method image x.range
+        → scope_image s image (scope_image f method x) ≡ scope_image c method x
+    scope_exactly x both =
+        scope_on (moved_range (offsets_in s image) (moved_range (offsets_in f method) x.range)) x both.0
+        ∙ ap (λ r. ranged r (scope_image c method x)) (range_on x.range both.1)
+
+    abbrev edgeless_scope : ScopeMeaning → ScopeMeaning
+    edgeless_scope x = record x { range = no_range }
+
+    abbrev edgeless_slot : SlotMeaning → SlotMeaning
+    edgeless_slot x = record x { range = no_range }
+
+    abbrev edgeless_point : PointMeaning → PointMeaning
+    edgeless_point p = record p { offset = 0 }
+
+    scopes_edgeless : (xs : List ScopeMeaning) → Each VariablesStay xs
+        → map edgeless_scope (map (scope_image s image) (map (scope_image f method) xs)) ≡ map edgeless_scope (map (scope_image c method) xs)
+    scopes_edgeless [] each = refl
+    scopes_edgeless (x ∷ xs) each =
+        ap (λ y. y ∷ map edgeless_scope (map (scope_image s image) (map (scope_image f method) xs))) (scope_on no_range x each.0)
+        ∙ ap (λ l. edgeless_scope (scope_image c method x) ∷ l) (scopes_edgeless xs each.1)
+
+    slots_edgeless : (xs : List SlotMeaning)
+        → map edgeless_slot (map (slot_meaning_image s image) (map (slot_meaning_image f method) xs)) ≡ map edgeless_slot (map (slot_meaning_image c method) xs)
+    slots_edgeless [] = refl
+    slots_edgeless (x ∷ xs) = ap (λ l. edgeless_slot x ∷ l) (slots_edgeless xs)
+
+    point_edgeless : (p : Option PointMeaning)
+        → option_map edgeless_point (option_map (point_image s image) (option_map (point_image f method) p)) ≡ option_map edgeless_point
+        (option_map (point_image c method) p)
+    point_edgeless None = refl
+    point_edgeless (Some p) = ap (λ n. Some (record { offset = 0; span = p.span; document = p.document; signature = n })) (row_on 0x11 p.signature)
+
+    pub but_for_edges : (a : Meaning) → SlotsStay f method a
+        → without_edges (meaning_image s image (meaning_image f method a)) ≡ without_edges (meaning_image c method a)
+    but_for_edges a stays =
+        ap (λ p. record {
+          point = p;
+          scopes = map edgeless_scope (map (scope_image s image) (map (scope_image f method) a.scopes));
+          slots = map
+              edgeless_slot (map (slot_meaning_image s image) (map (slot_meaning_image f method) a.slots));
+        }) (point_edgeless a.point)
+        ∙ ap (λ l. record {
+          point = option_map edgeless_point (option_map (point_image c method) a.point);
+          scopes = l;
+          slots = map edgeless_slot
+              (map (slot_meaning_image s image) (map (slot_meaning_image f method) a.slots));
+        }) (scopes_edgeless a.scopes stays)
+        ∙ ap (λ l. record {
+          point = option_map edgeless_point (option_map (point_image c method) a.point);
+          scopes = map edgeless_scope
+              (map (scope_image c method) a.scopes);
+          slots = l;
+        }) (slots_edgeless a.slots)
+
+    point_exactly : (p : Option PointMeaning) → PointComposes f s method image p
+        → option_map (point_image s image) (option_map (point_image f method) p) ≡ option_map (point_image c method) p
+    point_exactly None composes = refl
+    point_exactly (Some p) edge =
+        ap (λ n. Some (record { offset = n; span = p.span; document = p.document; signature = moved_row s 0x11 (moved_row f 0x11 p.signature) })) edge
+        ∙ ap (λ n. Some (record { offset = moved (offsets_in c method) p.offset; span = p.span; document = p.document; signature = n }))
+        (row_on 0x11 p.signature)
+
+    both_each : {A : Type 0} (P Q : A → Type 0) (xs : List A) → Each P xs → Each Q xs → Each (λ x. P x × Q x) xs
+    both_each P Q [] ps qs = tt
+    both_each P Q (x ∷ xs) ps qs = ((ps.0, qs.0), both_each P Q xs ps.1 qs.1)
+
+    slot_exactly : (x : SlotMeaning) → RangeComposes f s method image x.range
+        → slot_meaning_image s image (slot_meaning_image f method x) ≡ slot_meaning_image c method x
+    slot_exactly x edges = ap (λ r. record { position = x.position; slot = x.slot; range = r }) (range_on x.range edges)
+
+    pub exactly : (a : Meaning) → SlotsStay f method a → EdgesCompose f s method image a
+        → meaning_image s image (meaning_image f method a) ≡ meaning_image c method a
+    exactly a stays edges =
+        ap (λ p. record {
+          point = p;
+          scopes = map (scope_image s image) (map (scope_image f method) a.scopes);
+          slots = map (slot_meaning_image s image)
+              (map (slot_meaning_image f method) a.slots);
+        }) (point_exactly a.point edges.point)
+        ∙ ap (λ l. record {
+          point = option_map (point_image c method) a.point;
+          scopes = l;
+          slots = map (slot_meaning_image s image)
+              (map (slot_meaning_image f method) a.slots);
+        })
+        (map_map_each (scope_image s image) (scope_image f method) (scope_image c method) _ scope_exactly a.scopes (both_each _ _ a.scopes stays edges.scopes))
+        ∙ ap (λ l. record { point = option_map (point_image c method) a.point; scopes = map (scope_image c method) a.scopes; slots = l })
+        (map_map_each (slot_meaning_image s image) (slot_meaning_image f method) (slot_meaning_image c method) _ slot_exactly a.slots edges.slots)
+
+pub images_compose : ImagesCompose
+images_compose = record {
+  but_for_edges = λ f s method image a first second follows stays.
+      but_for_edges f s (composed_composes f s first second) (keeps_rows f first) method image follows a stays;
+  exactly = λ f s method image a first second follows stays edges.
+      exactly f s (composed_composes f s first second) (keeps_rows f first) method image follows a stays edges;
+}

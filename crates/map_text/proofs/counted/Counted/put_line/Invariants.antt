@@ -1,8 +1,0 @@
-use Rattle.std.proofs.Common.{map, take}
-use Rattle.std.specs.Fmt.{decimal}
-use Rattle.map_text.specs.MapTexts.{spaced}
-use Rattle.map_text.specs.Putting.{Puts}
-use Rattle.map_text.proofs.counted.Counted.put_line.Given as goal
-
-abbrev pub invariant-loop-number : goal.invariant-loop-number
-invariant-loop-number l = Puts l.fn.self l.self (spaced l.words (map decimal (take l.number-index l.numbers)))

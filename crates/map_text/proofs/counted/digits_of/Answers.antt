@@ -1,4 +1,0 @@
-use Rattle.map_text.proofs.counted.digits_of.Goals as goal
-
-pub returns-clause-few : goal.returns-clause-few
-returns-clause-few c = c.format.ensures.fits

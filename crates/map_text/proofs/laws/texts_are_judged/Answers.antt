@@ -1,5 +1,0 @@
-use Rattle.map_text.proofs.Judged.{texts_are_judged}
-use Rattle.map_text.proofs.laws.texts_are_judged.Goals as goal
-
-pub returns : goal.returns
-returns c = texts_are_judged

@@ -1,5 +1,0 @@
-use Rattle.map_text.proofs.Reading.{texts_are_read}
-use Rattle.map_text.proofs.laws.texts_are_read.Goals as goal
-
-pub returns : goal.returns
-returns c = texts_are_read

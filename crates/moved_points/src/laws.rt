@@ -1,8 +1,0 @@
-//! What the last point needs.
-
-ghost use Rattle.moved_points.specs.MovedBlob.{KeptToTheEnd};
-
-/// Up to the greatest number, what is kept is what is kept up to the old size.
-pub fn kept_to_the_end()
-    ensures { KeptToTheEnd }
-{}

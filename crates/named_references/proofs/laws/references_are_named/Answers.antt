@@ -1,5 +1,0 @@
-use Rattle.named_references.proofs.Whole.{all-named}
-use Rattle.named_references.proofs.laws.references_are_named.Goals as goal
-
-pub returns : goal.returns
-returns c first m raw keeps = all-named c.lists_are_owned.ensures first m raw keeps

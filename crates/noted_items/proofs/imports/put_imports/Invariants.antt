@@ -1,7 +1,0 @@
-use Rattle.std.proofs.Common.{◌≡◌, take, fold}
-use Rattle.ppdb_canon.specs.Uses.{imports_pieces}
-use Rattle.noted_items.specs.Making.{with_piece}
-use Rattle.noted_items.proofs.imports.put_imports.Given as goal
-
-abbrev pub invariant-loop-import : goal.invariant-loop-import
-invariant-loop-import l = l.blobs ≡ fold with_piece l.initial.blobs (imports_pieces (take l.import-index l.imports))

@@ -1,0 +1,103 @@
+// The bytes of a draft.
+ghost use Rattle.std.specs.Prelude.{◌≡◌, ◌≤◌, ◌++◌, length, take, drop, IfOk};
+ghost use Rattle.ppdb_build_layout.specs.Bytes.{file_bytes};
+ghost use Rattle.ppdb_build_items.specs.Interned.{cell};
+ghost use Rattle.ppdb_build_bytes.specs.Drafts.{debug_counts_of, counts_in, file_from, id_in, CanBeLaid};
+
+use crate::identity::id_of;
+use ppdb_base::{Bytes, Memory};
+use ppdb_build_canon::IdChoice;
+use ppdb_build_draft::Drafting;
+use ppdb_build_layout::{Rows, put_prefix};
+use std::alloc::Global;
+
+/// A length as a row count.
+fn count_of(len: usize) -> u32
+    ensures { result ≡ cell len }
+{
+    len.min(0xffff_ffff) as u32
+}
+
+/// The row counts of the debug tables alone.
+fn debug_counts(rows: &Rows) -> [u32; 64]
+    ensures { result ≡ debug_counts_of rows.now }
+{
+    let mut counts = [0; 64];
+    counts[0x30] = count_of(rows.documents.len());
+    counts[0x31] = count_of(rows.methods.len());
+    counts[0x32] = count_of(rows.scopes.len());
+    counts[0x33] = count_of(rows.variables.len());
+    counts[0x34] = count_of(rows.constants.len());
+    counts[0x35] = count_of(rows.imports.len());
+    counts[0x36] = count_of(rows.machines.len());
+    counts[0x37] = count_of(rows.customs.len());
+    counts
+}
+
+/// The row counts of a file with these of the type system.
+pub fn counts_of(system: &[u32; 64], draft: &Drafting) -> [u32; 64]
+    ensures { result ≡ counts_in system.now draft.now.rows }
+{
+    let mut counts = debug_counts(draft.rows());
+    for i in 0..0x2d {
+        counts[i] = system[i];
+    }
+    counts
+}
+
+/// All bytes of a draft, in a buffer of their length.
+fn lay_out(
+    alloc: Global,
+    id: &[u8; 20],
+    entry: u32,
+    counts: &[u32; 64],
+    draft: &Drafting,
+    len: usize,
+) -> Result<Bytes, Memory>
+    requires { CanBeLaid entry counts.now draft.now }
+    ensures { IfOk result (λ bytes. bytes ≡ file_bytes (file_from id.now entry counts.now draft.now)) }
+{
+    let mut bytes = Bytes::with_capacity(alloc, len)?;
+    put_prefix(
+        id,
+        entry,
+        counts,
+        draft.rows(),
+        draft.heap_lens(),
+        &mut bytes,
+    )?;
+    draft.put_heaps(&mut bytes)?;
+    Ok(bytes)
+}
+
+/// Puts another identity in its place, right after the root.
+fn set_id(file: &mut [u8], id: &[u8; 20])
+    requires { 132 ≤ length file.old }
+    ensures { file.new ≡ take 112 file.old ++ (id.now ++ drop 132 file.old) }
+{
+    file[112..132].copy_from_slice(id);
+}
+
+/// All bytes of a draft, with the identity that is chosen.
+pub fn file_of(
+    alloc: Global,
+    kept: &[u8; 20],
+    entry: u32,
+    counts: &[u32; 64],
+    draft: &Drafting,
+    len: usize,
+    choice: IdChoice,
+) -> Result<Bytes, Memory>
+    requires { CanBeLaid entry counts.now draft.now }
+    ensures { IfOk result (λ bytes. bytes ≡ file_bytes (file_from (id_in choice kept.now entry counts.now draft.now) entry counts.now draft.now)) }
+{
+    match choice {
+        IdChoice::Keep => lay_out(alloc, kept, entry, counts, draft, len),
+        IdChoice::Hash => {
+            let mut file = lay_out(alloc, &[0; 20], entry, counts, draft, len)?;
+            let id = id_of(file.as_slice());
+            set_id(file.as_mut_slice(), &id);
+            Ok(file)
+        }
+    }
+}

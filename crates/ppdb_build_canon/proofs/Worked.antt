@@ -1,0 +1,47 @@
+-- The worked files, by computation.
+use Rattle.std.proofs.Common.{◌≡◌, refl, ap, ◌∙◌, None, Some, [], ◌∷◌, pos}
+use Rattle.cli_ints.specs.Shortest.{short_unsigned, short_signed}
+use Rattle.ppdb_build_heaps.specs.Items.{first_uses}
+use Rattle.tests_files.specs.declared.TheConstants.{EMPTY, SMALL, PROGRAM}
+use Rattle.ppdb_build_layout.specs.Worked.{WorkedFilesAreLaidOut}
+use Rattle.ppdb_build_layout.specs.Bytes.{file_bytes, prefix_bytes, pdb_stream, tables_stream, all_rows}
+use Rattle.ppdb_values.specs.WorkedSmall.{zeros, empty_file, empty_value, small_file, small_value}
+use Rattle.ppdb_values.specs.WorkedProgram.{program_file, program_value}
+use Rattle.ppdb_build_canon.specs.declared.choice.IdChoice.TheVariants.{Keep}
+use Rattle.ppdb_build_heaps.specs.Uses.{blobs_after}
+use Rattle.ppdb_build_canon.specs.Canonical.{canonical, canonical_tables}
+use Rattle.ppdb_build_canon.specs.Canon.{canon}
+use Rattle.ppdb_build_canon.specs.Limits.{first_limit, span}
+use Rattle.ppdb_base.specs.declared.limits.Limit.TheVariants.{PointOffset, LineStep}
+use Rattle.ppdb_build_canon.specs.Worked.{with_points, point_at}
+
+pub empty_is : canonical empty_value (zeros 20) ≡ empty_file
+unfolding canonical_tables first_uses blobs_after short_unsigned short_signed
+empty_is = refl
+
+pub small_is : canonical small_value (zeros 20) ≡ small_file
+unfolding canonical_tables first_uses blobs_after short_unsigned short_signed
+small_is = refl
+
+pub program_is : canonical program_value (zeros 20) ≡ program_file
+unfolding canonical_tables first_uses blobs_after short_unsigned short_signed
+program_is = refl
+
+pub bytes_are : WorkedFilesAreLaidOut → (canon empty_value Keep ≡ EMPTY) × (canon small_value Keep ≡ SMALL) × (canon program_value Keep ≡ PROGRAM)
+bytes_are laid = (ap file_bytes empty_is ∙ laid.empty, ap file_bytes small_is ∙ laid.small, ap file_bytes program_is ∙ laid.program)
+
+pub small_limit : first_limit small_value ≡ None
+unfolding canonical_tables first_uses blobs_after short_unsigned short_signed file_bytes prefix_bytes pdb_stream tables_stream all_rows span
+small_limit = refl
+
+pub program_limit : first_limit program_value ≡ None
+unfolding canonical_tables first_uses blobs_after short_unsigned short_signed file_bytes prefix_bytes pdb_stream tables_stream all_rows span
+program_limit = refl
+
+pub offset_limit : first_limit (with_points (point_at 0 1 ∷ point_at 2 0x1ffffff0 ∷ point_at 0x20000000 0x1ffffff1 ∷ [])) ≡ Some (PointOffset 1 0x20000000)
+unfolding canonical_tables first_uses blobs_after short_unsigned short_signed file_bytes prefix_bytes pdb_stream tables_stream all_rows span
+offset_limit = refl
+
+pub step_limit : first_limit (with_points (point_at 0 1 ∷ point_at 2 0x1ffffff0 ∷ [])) ≡ Some (LineStep 1 (pos 536870895))
+unfolding canonical_tables first_uses blobs_after short_unsigned short_signed file_bytes prefix_bytes pdb_stream tables_stream all_rows span
+step_limit = refl

@@ -1,0 +1,29 @@
+use Rattle.std.proofs.Common.{◌≡◌, ℕ, ap, ◌∙◌}
+use Rattle.ppdb_build_heaps.specs.declared.heap.HeapKind.TheVariants.{Texts, Blobs}
+use Rattle.ppdb_build_heaps.specs.Interned.{length_of}
+use Rattle.ppdb_build_heaps.specs.Items.{as_text, as_blob}
+use Rattle.ppdb_build_layout.specs.Told.{told_lens}
+use Rattle.ppdb_build_items.specs.Making.{interned_of}
+use Rattle.ppdb_build_draft.specs.Draft.{Draft}
+use Rattle.ppdb_build_draft.specs.Heaps.{heap_lens_of}
+use Rattle.ppdb_build_draft.proofs.Lens.{padded_len_is}
+use Rattle.ppdb_build_draft.proofs.drafting.Drafting.heap_lens.Goals as goal
+
+pub returns : goal.returns
+returns c =
+    let draft : Draft = record {
+      texts = c.self.inside.texts;
+      guids = c.self.inside.guids;
+      blobs = interned_of c.self.inside.blobs;
+      rows = c.self.inside.rows;
+      owned = c.self.inside.owned;
+    } in
+    let told = told_lens (heap_lens_of draft) in
+    let texts : c.padded_len.result ≡ told.texts =
+    padded_len_is as_text draft.texts.items c.padded_len.result (c.padded_len.ensures (length_of Texts draft.texts.items) c.len.ensures) in
+    let blobs : c.padded_len-2.result ≡ told.blobs =
+    padded_len_is as_blob draft.blobs.items c.padded_len-2.result (c.padded_len-2.ensures (length_of Blobs draft.blobs.items) c.len-3.ensures) in
+    ap (λ (n : ℕ). record { texts = n; guids = c.len-2.result; blobs = c.padded_len-2.result }) texts
+    ∙ ap (λ (n : ℕ). record { texts = told.texts; guids = n; blobs = c.padded_len-2.result }) c.len-2.ensures
+    ∙ ap (λ (n : ℕ). record { texts = told.texts; guids = told.guids; blobs = n }) blobs
+    ∙ ap (λ (d : Draft). told_lens (heap_lens_of d)) c.self.view_is

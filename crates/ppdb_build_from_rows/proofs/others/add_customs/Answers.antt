@@ -1,0 +1,28 @@
+use Rattle.std.proofs.Common.{arith, fold}
+use Rattle.std.proofs.lemmas.List.{length-map}
+use Rattle.ppdb_values.specs.Customs.{custom_of}
+use Rattle.ppdb_values.specs.Value.{value_of}
+use Rattle.ppdb_verify.specs.Views.{raw_file}
+use Rattle.ppdb_build_draft.specs.Draft.{with_custom}
+use Rattle.ppdb_build_from_rows.proofs.Rows.{row_added, rows_added}
+use Rattle.ppdb_build_from_rows.proofs.others.add_customs.Goals as goal
+
+pub rows-preserved : goal.rows-preserved
+rows-preserved g c =
+    let items = (value_of (raw_file c.args.file.now)).customs in
+    record {
+      from = omega arith;
+      to = omega arith;
+      added = row_added with_custom items (fold with_custom c.args.draft.now items) c.rows.draft c.add_custom.new.draft c.rows.row c.rows.invariant.from
+          c.rows.invariant.added
+          c.in_ok-add_custom.ensures.added;
+      cost = omega (arith, c.in_ok-add_custom.ensures.step);
+    }
+
+pub returns-clause-added : goal.returns-clause-added
+returns-clause-added g c =
+    let raw = raw_file c.args.file.now in
+    let items = (value_of (raw_file c.args.file.now)).customs in
+    let many = length-map raw.tables.customs (custom_of raw.tables) in
+    rows_added with_custom items (fold with_custom c.args.draft.now items) c.rows.draft c.rows.row (omega (arith, many, c.keeps.ensures.rules.shape.customs))
+    c.rows.invariant.added

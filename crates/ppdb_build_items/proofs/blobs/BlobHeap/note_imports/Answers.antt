@@ -1,0 +1,17 @@
+use Rattle.std.proofs.Common.{ap, ◌∙◌, fold}
+use Rattle.ppdb_build_canon.specs.Uses.{imports_pieces}
+use Rattle.ppdb_build_items.specs.Making.{with_piece}
+use Rattle.ppdb_build_items.specs.Interned.{cell}
+use Rattle.ppdb_build_items.proofs.Made.{interned-is}
+use Rattle.ppdb_build_items.proofs.blobs.BlobHeap.note_imports.Goals as goal
+
+pub returns-clause-interned : goal.returns-clause-interned
+returns-clause-interned c =
+    (interned-is c.args.self.now (imports_pieces c.args.imports.now) c.put_imports.new.blobs c.finish.new.self (c.in_ok-put_imports.ensures
+    ∙ ap (λ making. fold with_piece making (imports_pieces c.args.imports.now)) c.begin.ensures) c.in_ok-index.ensures.interned).interned
+
+pub returns-clause-index : goal.returns-clause-index
+returns-clause-index c =
+    c.in_ok-index.ensures.index
+    ∙ ap cell (interned-is c.args.self.now (imports_pieces c.args.imports.now) c.put_imports.new.blobs c.finish.new.self (c.in_ok-put_imports.ensures
+    ∙ ap (λ making. fold with_piece making (imports_pieces c.args.imports.now)) c.begin.ensures) c.in_ok-index.ensures.interned).place

@@ -1,0 +1,74 @@
+// The texts of a file.
+use crate::cells::cell_of;
+use ppdb_base::{Bytes, Memory};
+use ppdb_build_heaps::{Heap, HeapKind, ItemStore};
+use std::alloc::Global;
+use std::marker::Model;
+
+/// The texts that were noted, each kept once, and the length of all uses.
+#[derive(Drop)]
+pub struct TextHeap<'a> {
+    heap: Heap<'a>,
+    total: u64,
+}
+
+impl<'a> Model for TextHeap<'a> {
+    ghost use Rattle.std.specs.Prelude.{◌≡◌};
+    ghost use Rattle.ppdb_build_heaps.specs.declared.heap.HeapKind.TheVariants.{Texts};
+    ghost use Rattle.ppdb_build_items.specs.Interned.{Annotation};
+
+    ghost Value = { Annotation };
+
+    ghost view = { λ t. record { items = t.heap.items; total = t.total } };
+
+    ghost invariant = { λ t. t.heap.kind ≡ Texts };
+}
+
+impl<'a> TextHeap<'a> {
+    ghost use Rattle.std.specs.Prelude.{◌≡◌, [], ◌++◌, flat_map, OnOk, IfOk};
+    ghost use Rattle.ppdb_build_heaps.specs.declared.heap.HeapKind.TheVariants.{Texts};
+    ghost use Rattle.ppdb_base.specs.Told.{told};
+    ghost use Rattle.ppdb_build_heaps.specs.Interned.{length_of};
+    ghost use Rattle.ppdb_build_heaps.specs.Items.{as_text};
+    ghost use Rattle.ppdb_build_items.specs.Interned.{none_interned, with_text, text_place, cell};
+
+    /// The empty text alone, which no use has counted.
+    pub fn new(alloc: Global, store: &'a ItemStore) -> Result<TextHeap<'a>, Memory>
+        ensures { IfOk result (λ texts. texts ≡ none_interned) }
+    {
+        let mut heap = Heap::new(alloc, store, HeapKind::Texts);
+        heap.use_item(&[])?;
+        Ok(TextHeap { heap, total: 0 })
+    }
+
+    /// Notes a text, and answers its index.
+    pub fn note(&mut self, text: &[u8]) -> Result<u32, Memory>
+        ensures interned { OnOk result (self.new ≡ with_text self.old text.now) }
+        ensures index { IfOk result (λ index. index ≡ cell (text_place self.new.items text.now)) }
+    {
+        let index = self.heap.use_item(text)?;
+        self.total = self.total.saturating_add(text.len() as u64);
+        Ok(cell_of(index))
+    }
+
+    /// How many bytes the texts take in the heap.
+    pub fn len(&self) -> u64
+        ensures { result ≡ told (length_of Texts self.now.items) }
+    {
+        self.heap.len()
+    }
+
+    /// The length of all uses.
+    pub fn total(&self) -> u64
+        ensures { result ≡ self.now.total }
+    {
+        self.total
+    }
+
+    /// Appends the texts as the heap has them.
+    pub fn put(&self, into: &mut Bytes) -> Result<(), Memory>
+        ensures { OnOk result (into.new ≡ into.old ++ flat_map as_text self.now.items) }
+    {
+        self.heap.put(into)
+    }
+}

@@ -1,0 +1,5 @@
+pub mod Counting
+pub mod Fitting
+pub mod Annotated
+pub mod Sound
+pub mod Worked

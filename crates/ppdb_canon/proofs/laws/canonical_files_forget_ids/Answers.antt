@@ -1,5 +1,0 @@
-use Rattle.ppdb_canon.proofs.Ids.{ids_forgotten}
-use Rattle.ppdb_canon.proofs.laws.canonical_files_forget_ids.Goals as goal
-
-pub returns : goal.returns
-returns c = ids_forgotten

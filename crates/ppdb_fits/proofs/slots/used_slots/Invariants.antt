@@ -1,7 +1,0 @@
-use Rattle.std.proofs.Common.{◌≡◌, take}
-use Rattle.std.specs.List.{filter_map}
-use Rattle.ppdb_fits.specs.Slots.{used}
-use Rattle.ppdb_fits.proofs.slots.used_slots.Given as goal
-
-abbrev pub invariant-loop-x : goal.invariant-loop-x
-invariant-loop-x l = l.all.items ≡ filter_map (used l.map) (take l.x-index l.slots)

@@ -1,5 +1,0 @@
-use Rattle.std.proofs.Common.{refl}
-use Rattle.ppdb_joined.proofs.laws.worked_joins.Goals as goal
-
-pub returns : goal.returns
-returns c = record { records = refl; scopes = refl }

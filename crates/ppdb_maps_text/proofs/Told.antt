@@ -1,0 +1,128 @@
+-- Each line of a map's text says what it was spelled from.
+use Rattle.std.proofs.Common.{ℕ, ◌≡◌, ◌<◌, ◌≤◌, ◌/◌, ◌%◌, List, [], ◌∷◌, length, refl, ap, ◌∙◌, subst, arith, inl, inr, lit≤}
+use Rattle.std.specs.Char.{digit_char}
+use Rattle.std.specs.Fmt.{decimal}
+use Rattle.std.specs.List.{AllByRecursion}
+use Rattle.std.proofs.lemmas.Bool.{cases_lt, lt-ltb, le-ltb}
+use Rattle.ppdb_base.specs.declared.offsets.Run.{Run}
+use Rattle.ppdb_maps.specs.Words.{IsSilent}
+use Rattle.ppdb_maps.specs.Forms.{name_of, words_in, since, IsNumber, IsTable, IsHexDigit, ROWS, OFFSETS, SLOTS, Values, Tells, told}
+use Rattle.ppdb_maps.specs.Forms.{rows_line, row_line, method_line, run_line, drop_line, slots_line, slot_line}
+use Rattle.ppdb_maps.specs.declared.line.Form.{Form}
+use Rattle.ppdb_maps.specs.declared.line.Form.TheVariants.{TableRows, RowMove, MethodSizes, OffsetRun, MethodDrop, MethodSlots, SlotMove}
+use Rattle.ppdb_maps.specs.declared.line.Line.{Line}
+use Rattle.ppdb_maps.specs.declared.line.Line.TheVariants.{Rows, Row, Method, Kept, Dropped, Slots, Slot}
+use Rattle.ppdb_maps_text.specs.MapTexts.{spaced, table_word, line_text}
+use Rattle.ppdb_maps_text.proofs.Words.{IsWord, IsPlain, line_words_spaced, spaced_is_plain, decimal_is_word}
+
+-- a line that says what it was spelled from, and that a text can have
+pub record IsTold (line : Line) : Type 0 where
+  pub tells : Tells 3 (line_text line) line
+  pub plain : IsPlain (line_text line)
+
+name_is_word : (form : Form) → IsWord (name_of form)
+name_is_word TableRows = (omega arith, (omega arith, (omega arith, (omega arith, tt))))
+name_is_word RowMove = (omega arith, (omega arith, (omega arith, tt)))
+name_is_word MethodSizes = (omega arith, (omega arith, (omega arith, (omega arith, (omega arith, (omega arith, tt))))))
+name_is_word OffsetRun = (omega arith, (omega arith, (omega arith, tt)))
+name_is_word MethodDrop = (omega arith, (omega arith, (omega arith, (omega arith, tt))))
+name_is_word MethodSlots = (omega arith, (omega arith, (omega arith, (omega arith, (omega arith, tt)))))
+name_is_word SlotMove = (omega arith, (omega arith, (omega arith, (omega arith, tt))))
+
+loud : (form : Form) (values : List (List ℕ)) → IsSilent (spaced (name_of form) values) → ⊥
+loud TableRows values silent = omega (arith, silent)
+loud RowMove values silent = omega (arith, silent)
+loud MethodSizes values silent = omega (arith, silent)
+loud OffsetRun values silent = omega (arith, silent)
+loud MethodDrop values silent = omega (arith, silent)
+loud MethodSlots values silent = omega (arith, silent)
+loud SlotMove values silent = omega (arith, silent)
+
+told_form : (form : Form) (values : List (List ℕ)) (line : Line) → spaced (name_of form) values ≡ line_text line → AllByRecursion IsWord values
+    → length (name_of form ∷ values) ≡ words_in form → since form ≤ 3 → Values form values line → IsTold line
+told_form form values line is all count there says =
+    let words = line_words_spaced (name_of form) values (name_is_word form) all in
+    record {
+      tells = subst (λ text. Tells 3 text line) is (told (loud form values) (record {
+        form = form;
+        has = record { values = values; named = words; counted = ap length words ∙ count; there = there };
+        values = says;
+      }));
+      plain = subst IsPlain is (spaced_is_plain (name_of form) values (name_is_word form) all);
+    }
+
+number_word : (n : ℕ) → n ≤ OFFSETS → IsWord (decimal n)
+number_word n le = decimal_is_word n (omega (arith, le))
+
+number : (n least most : ℕ) → least ≤ n → n ≤ most → IsNumber (decimal n) least most n
+number n least most from to = record { spelled = refl; from = from; to = to }
+
+digit : (d : ℕ) → d < 16 → IsHexDigit (digit_char d) d
+digit d below = elim (cases_lt d 10) [
+  | inl few ↦ inl (few, rw (lt-ltb d 10 few) refl)
+  | inr many ↦ inr (many, below, inl (rw (le-ltb d 10 many) refl))
+]
+
+digit_word : (c d : ℕ) → IsHexDigit c d → 33 ≤ c
+digit_word c d (inl h) = let e = h.1 in omega (arith, e)
+digit_word c d (inr h) = elim h.2 [ inl e ↦ (let from = h.0 in omega (arith, e, from)) | inr e ↦ (let from = h.0 in omega (arith, e, from)) ]
+
+table_digits : (table : ℕ) → table ≤ 0x2c → IsHexDigit (digit_char (table / 16)) (table / 16) × IsHexDigit (digit_char (table % 16)) (table % 16)
+table_digits table le = (digit (table / 16) (omega (arith, le)), digit (table % 16) (omega arith))
+
+table_is : (table : ℕ) → table ≤ 0x2c → IsTable (table_word table) table
+table_is table le = record {
+  high = table / 16;
+  low = table % 16;
+  c = digit_char (table / 16);
+  d = digit_char (table % 16);
+  spelled = refl;
+  digits = table_digits table le;
+  is = omega arith;
+  known = le;
+}
+
+table_is_word : (table : ℕ) → table ≤ 0x2c → IsWord (table_word table)
+table_is_word table le =
+    let d = table_digits table le in
+    (digit_word (digit_char (table / 16)) (table / 16) d.0, (digit_word (digit_char (table % 16)) (table % 16) d.1, tt))
+
+pub rows_told : (table rows : ℕ) → table ≤ 0x2c → rows ≤ ROWS → IsTold (Rows table rows)
+rows_told table rows known few =
+    told_form TableRows (table_word table ∷ decimal rows ∷ []) (Rows table rows) refl
+    (table_is_word table known, (number_word rows (omega (arith, few)), tt)) refl (lit≤ tt)
+    (rows_line (table_is table known) (number rows 0 ROWS (omega arith) few))
+
+pub row_told : (table old new : ℕ) → table ≤ 0x2c → 1 ≤ old → old ≤ ROWS → 1 ≤ new → new ≤ ROWS → IsTold (Row table old new)
+row_told table old new known old_from old_to new_from new_to =
+    told_form RowMove (table_word table ∷ decimal old ∷ decimal new ∷ []) (Row table old new) refl
+    (table_is_word table known, (number_word old (omega (arith, old_to)), (number_word new (omega (arith, new_to)), tt))) refl (lit≤ tt)
+    (row_line (table_is table known) (number old 1 ROWS old_from old_to) (number new 1 ROWS new_from new_to))
+
+pub method_told : (method old new : ℕ) → 1 ≤ method → method ≤ ROWS → old ≤ OFFSETS → new ≤ OFFSETS → IsTold (Method method old new)
+method_told method old new from to old_to new_to =
+    told_form MethodSizes (decimal method ∷ decimal old ∷ decimal new ∷ []) (Method method old new) refl
+    (number_word method (omega (arith, to)), (number_word old old_to, (number_word new new_to, tt))) refl (lit≤ tt)
+    (method_line (number method 1 ROWS from to) (number old 0 OFFSETS (omega arith) old_to) (number new 0 OFFSETS (omega arith) new_to))
+
+pub run_told : (run : Run) → run.old ≤ OFFSETS → run.new ≤ OFFSETS → 1 ≤ run.length → run.length ≤ OFFSETS → IsTold (Kept run)
+run_told run old_to new_to from to =
+    told_form OffsetRun (decimal run.old ∷ decimal run.new ∷ decimal run.length ∷ []) (Kept run) refl
+    (number_word run.old old_to, (number_word run.new new_to, (number_word run.length to, tt))) refl (lit≤ tt)
+    (run_line (number run.old 0 OFFSETS (omega arith) old_to) (number run.new 0 OFFSETS (omega arith) new_to) (number run.length 1 OFFSETS from to))
+
+pub drop_told : (method : ℕ) → 1 ≤ method → method ≤ ROWS → IsTold (Dropped method)
+drop_told method from to =
+    told_form MethodDrop (decimal method ∷ []) (Dropped method) refl (number_word method (omega (arith, to)), tt) refl (lit≤ tt)
+    (drop_line (number method 1 ROWS from to))
+
+pub slots_told : (method : ℕ) → 1 ≤ method → method ≤ ROWS → IsTold (Slots method)
+slots_told method from to =
+    told_form MethodSlots (decimal method ∷ []) (Slots method) refl (number_word method (omega (arith, to)), tt) refl (lit≤ tt)
+    (slots_line (number method 1 ROWS from to))
+
+pub slot_told : (method old new : ℕ) → 1 ≤ method → method ≤ ROWS → old ≤ SLOTS → new ≤ SLOTS → IsTold (Slot method old new)
+slot_told method old new from to old_to new_to =
+    told_form SlotMove (decimal method ∷ decimal old ∷ decimal new ∷ []) (Slot method old new) refl
+    (number_word method (omega (arith, to)), (number_word old (omega (arith, old_to)), (number_word new (omega (arith, new_to)), tt))) refl (lit≤ tt)
+    (slot_line (number method 1 ROWS from to) (number old 0 SLOTS (omega arith) old_to) (number new 0 SLOTS (omega arith) new_to))

@@ -1,0 +1,94 @@
+// The lines of the text of a map.
+ghost use Rattle.std.specs.Prelude.{◌≡◌, ◌<◌, codes, map, OnOk};
+ghost use Rattle.std.specs.Char.{digit_char};
+ghost use Rattle.std.specs.Fmt.{decimal};
+ghost use Rattle.ppdb_maps.specs.declared.line.Line.TheVariants.{Rows, Row, Method, Kept, Dropped, Slots, Slot};
+ghost use Rattle.ppdb_maps_text.specs.MapTexts.{spaced, ended, line_text};
+ghost use Rattle.ppdb_maps_text.specs.Putting.{Puts};
+
+use crate::counted::Counted;
+use ppdb_base::{Memory, Run};
+
+impl Counted {
+    /// Puts the first line of a text.
+    pub fn put_head(&mut self) -> Result<(), Memory>
+        ensures { OnOk result (Puts self.old self.new (ended (codes "ppdbmap 3"))) }
+    {
+        self.put(b"ppdbmap 3\n")
+    }
+
+    /// Puts the line `rows TT N`.
+    pub fn put_rows(&mut self, table: u8, rows: u32) -> Result<(), Memory>
+        ensures { OnOk result (Puts self.old self.new (ended (line_text (Rows table rows)))) }
+    {
+        let (high, low) = (digit(table / 16), digit(table % 16));
+        self.put_line(&[b'r', b'o', b'w', b's', b' ', high, low], &[rows])
+    }
+
+    /// Puts the line `row TT OLD NEW`.
+    pub fn put_row(&mut self, table: u8, old: u32, new: u32) -> Result<(), Memory>
+        ensures { OnOk result (Puts self.old self.new (ended (line_text (Row table old new)))) }
+    {
+        let (high, low) = (digit(table / 16), digit(table % 16));
+        self.put_line(&[b'r', b'o', b'w', b' ', high, low], &[old, new])
+    }
+
+    /// Puts the line `drop M`.
+    pub fn put_drop(&mut self, method: u32) -> Result<(), Memory>
+        ensures { OnOk result (Puts self.old self.new (ended (line_text (Dropped method)))) }
+    {
+        self.put_line(b"drop", &[method])
+    }
+
+    /// Puts the line `slots M`.
+    pub fn put_slots(&mut self, method: u32) -> Result<(), Memory>
+        ensures { OnOk result (Puts self.old self.new (ended (line_text (Slots method)))) }
+    {
+        self.put_line(b"slots", &[method])
+    }
+
+    /// Puts the line `slot M OLD NEW`.
+    pub fn put_slot(&mut self, method: u32, old: u16, new: u16) -> Result<(), Memory>
+        ensures { OnOk result (Puts self.old self.new (ended (line_text (Slot method old new)))) }
+    {
+        self.put_line(b"slot", &[method, u32::from(old), u32::from(new)])
+    }
+
+    /// Puts the line `method M OLDSIZE NEWSIZE`.
+    pub fn put_method(&mut self, method: u32, old_size: u32, new_size: u32) -> Result<(), Memory>
+        ensures { OnOk result (Puts self.old self.new (ended (line_text (Method method old_size new_size)))) }
+    {
+        self.put_line(b"method", &[method, old_size, new_size])
+    }
+
+    /// Puts the line `run OLD NEW LENGTH`.
+    pub fn put_run(&mut self, run: &Run) -> Result<(), Memory>
+        ensures { OnOk result (Puts self.old self.new (ended (line_text (Kept run.now)))) }
+    {
+        self.put_line(b"run", &[run.old, run.new, run.length])
+    }
+
+    /// Puts words, decimal numbers after them, and the line's end.
+    #[tactic(auto, using(crate::proofs::Putting::puts_then, crate::proofs::Putting::puts_none, crate::proofs::Putting::puts_number, crate::proofs::Putting::puts_all))]
+    fn put_line(&mut self, words: &[u8], numbers: &[u32]) -> Result<(), Memory>
+        ensures { OnOk result (Puts self.old self.new (ended (spaced words.now (map decimal numbers.now)))) }
+    {
+        self.put(words)?;
+        for number in numbers {
+            self.put_number(*number)?;
+        }
+        self.put(b"\n")
+    }
+}
+
+/// A lower-case hexadecimal digit.
+fn digit(value: u8) -> u8
+    requires { value < 16 }
+    ensures { result ≡ digit_char value }
+{
+    if value < 10 {
+        b'0' + value
+    } else {
+        b'a' + (value - 10)
+    }
+}

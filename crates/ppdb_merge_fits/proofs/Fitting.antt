@@ -1,0 +1,176 @@
+-- A map that does not clash with a file fits it.
+use Rattle.std.proofs.Common.{◌≡◌, ℕ, ◌+◌, ◌<◌, ◌≤◌, ◌&&◌, ◌++◌, Bool, true, false, cond, List, [], ◌∷◌, Option, Some, None, flat_map}
+use Rattle.std.proofs.Common.{refl, sym, ◌∙◌, ap, subst, arith}
+use Rattle.std.specs.Prelude.{IfSome, nat_le, nat_lt, nat_eq, not}
+use Rattle.std.specs.List.{enumerate_from}
+use Rattle.std.proofs.lemmas.Bool.{leb-false, ltb-false}
+use Rattle.ppdb_base.specs.Offsets.{Offsets, Kept, KeepsBetween, every, gone, lined, old_size}
+use Rattle.ppdb_base.proofs.Moved.{is_kept as kept_between}
+use Rattle.custom_info.specs.HoistedScopes.{IsSlot}
+use Rattle.custom_info.specs.declared.kinds.Kind.{Kind}
+use Rattle.custom_info.specs.declared.kinds.Kind.TheVariants as kinds
+use Rattle.custom_info.specs.declared.slots.Slot.{Slot}
+use Rattle.custom_info.specs.declared.slots.Slot.TheVariants.{Empty, Held}
+use Rattle.custom_info.specs.declared.stepping.AsyncStep.{AsyncStep}
+use Rattle.custom_info.specs.Kinds.{kind_of}
+use Rattle.ppdb_maps.specs.Map.{Map, offsets_in, line_offsets, method_line, is_dropped}
+use Rattle.ppdb_maps.specs.Readable.{IsReadable}
+use Rattle.ppdb_maps.specs.Says.{sizes_of}
+use Rattle.sequence_points.specs.declared.point.Point.{Point}
+use Rattle.ppdb_values_sound_laws.specs.Customs.{SoundCustom, IsBodyOfKind}
+use Rattle.ppdb_values_sound_laws.specs.Methods.{SoundMethod, SoundPoint}
+use Rattle.ppdb_values.specs.declared.custom.CustomBody.{CustomBody}
+use Rattle.ppdb_values.specs.declared.custom.CustomBody.TheVariants.{Async, Hoisted, TypeDocuments, Unread}
+use Rattle.ppdb_values.specs.declared.custom.CustomValue.{CustomValue}
+use Rattle.ppdb_values.specs.declared.file.FileValue.{FileValue}
+use Rattle.ppdb_values.specs.declared.file.MethodValue.{MethodValue}
+use Rattle.ppdb_values.specs.declared.scope.ScopeValue.{ScopeValue}
+use Rattle.ppdb_merge_items.specs.Each.{Each}
+use Rattle.ppdb_merge_items.specs.NamedRows.{live_custom}
+use Rattle.ppdb_merge_items.specs.Annotated.{annotated_file, annotated_scope}
+use Rattle.ppdb_merge_items.specs.SoundParts.{SoundAnnotatedScope}
+use Rattle.ppdb_merge_items.specs.declared.file.AnnotatedScope.{AnnotatedScope}
+use Rattle.ppdb_merge_items.proofs.Lists.{Each-weaker, Each-map, Each-filter, Each-enumerate}
+use Rattle.ppdb_merge_moved.specs.Fits.{IsKept, KeepsStep, KeepsAsync, EndsWithin, AreWithin}
+use Rattle.ppdb_merge_moved.proofs.Fitting.{offsets_rise}
+use Rattle.ppdb_merge_moved.proofs.SoundItems.{each_all}
+use Rattle.ppdb_merge_fits.specs.Offsets.{offset_in, step_offsets, handler_offsets, async_offsets, if_past, offset_beyond, end_beyond, points_beyond}
+use Rattle.ppdb_merge_fits.specs.Offsets.{scope_beyond, slot_beyond, body_beyond, custom_beyond, is_kept, if_lost, custom_lost, lost}
+use Rattle.ppdb_merge_fits.proofs.Apart.{each_both}
+use Rattle.ppdb_merge_fits.proofs.First.{nil_parts, flat_append, flat_nested}
+
+pub flat_none : {A B : Type 0} (f : A → List B) (xs : List A) → flat_map f xs ≡ [] → Each (λ x. f x ≡ []) xs
+flat_none f [] none = tt
+flat_none f (x ∷ xs) none = let parts = nil_parts (f x) (flat_map f xs) none in (parts.0, flat_none f xs parts.1)
+
+-- a test that reports something holds not, and one that reports something where it fails holds
+pub fails : {B : Type 0} (b : Bool) (z : B) → cond b (z ∷ []) [] ≡ [] → b ≡ false
+fails true z none = absurd cc
+fails false z none = refl
+
+pub holds : {B : Type 0} (b : Bool) (z : B) → cond b [] (z ∷ []) ≡ [] → b ≡ true
+holds true z none = refl
+holds false z none = absurd cc
+
+-- ---- offsets below the old size
+
+below : (o : Offsets) (method x : ℕ) → x < 0x80000000 → if_past (λ size. nat_le size x) method x (sizes_of o) ≡ [] → x < old_size o
+below every method x small none = omega (arith, small)
+below gone method x small none = omega (arith, small)
+below (lined runs old new) method x small none = leb-false old x (fails (nat_le old x) _ none)
+
+within : (o : Offsets) (method end : ℕ) → end < 0x80000000 → if_past (λ size. nat_lt size end) method end (sizes_of o) ≡ [] → end ≤ old_size o
+within every method end small none = omega (arith, small)
+within gone method end small none = omega (arith, small)
+within (lined runs old new) method end small none = ltb-false old end (fails (nat_lt old end) _ none)
+
+pub points_fit : (m : Map) (v : FileValue) (es : List MethodValue) → flat_map (points_beyond m) es ≡ [] → Each (SoundMethod v) es
+    → Each (λ e. Each (λ p. p.offset < old_size (offsets_in m e.method)) e.points) es
+points_fit m v es none sound =
+    each_both (λ e. points_beyond m e ≡ []) (SoundMethod v) (λ e. Each (λ p. p.offset < old_size (offsets_in m e.method)) e.points)
+    (λ e silent s. each_both (λ (p : Point). offset_beyond m (offset_in e.method p.offset) ≡ []) (SoundPoint v)
+    (λ p. p.offset < old_size (offsets_in m e.method))
+    (λ p quiet sp. below (offsets_in m e.method) e.method p.offset sp.offset quiet) e.points
+    (flat_none (λ (p : Point). offset_beyond m (offset_in e.method p.offset)) e.points silent) (each_all (SoundPoint v) e.points s.points))
+    es (flat_none (points_beyond m) es none) sound
+
+pub ranges_fit : (m : Map) (v value : FileValue) → flat_map (scope_beyond m) value.scopes ≡ [] → Each (SoundAnnotatedScope v) (annotated_file value).scopes
+    → Each (λ s. s.range.end ≤ old_size (offsets_in m s.method)) (annotated_file value).scopes
+ranges_fit m v value none sound =
+    each_both (λ (s : AnnotatedScope). end_beyond m s.method s.range ≡ []) (SoundAnnotatedScope v) (λ s. s.range.end ≤ old_size (offsets_in m s.method))
+    (λ s quiet ss. within (offsets_in m s.method) s.method s.range.end ss.itself.end quiet) (annotated_file value).scopes
+    (Each-map (annotated_scope value) (λ (s : AnnotatedScope). end_beyond m s.method s.range ≡ []) (enumerate_from 1 value.scopes)
+    (Each-enumerate (λ (s : ScopeValue). scope_beyond m s ≡ []) 1 value.scopes (flat_none (scope_beyond m) value.scopes none))) sound
+
+slots_of : (v : FileValue) (kind : Kind) (slots : List Slot) → IsBodyOfKind v kind (Hoisted slots) → Each IsSlot slots
+slots_of v kinds.Hoisted slots sound = each_all IsSlot slots sound
+slots_of v kinds.Async slots sound = absurd sound
+slots_of v kinds.TypeDocuments slots sound = absurd sound
+slots_of v kinds.Free slots sound = absurd sound
+slots_of v kinds.Unknown slots sound = absurd sound
+
+slot_fits : (m : Map) (method : ℕ) (s : Slot) → IsSlot s → slot_beyond m method s ≡ [] → EndsWithin (old_size (offsets_in m method)) s
+slot_fits m method Empty sound none = tt
+slot_fits m method (Held range) sound none = within (offsets_in m method) method range.end sound.1 none
+
+far_fits : (size : ℕ) → size ≡ 4294967295 → (s : Slot) → IsSlot s → EndsWithin size s
+far_fits size is Empty sound = tt
+far_fits size is (Held range) sound = let small = sound.1 in omega (arith, is, small)
+
+-- what stands at a dropped method has any size
+dropped_size : (m : Map) (c : CustomValue) → live_custom m c ≡ false → old_size (offsets_in m c.parent.row) ≡ 4294967295
+dropped_size m c is = of (nat_eq c.parent.table 0x06) (is_dropped m c.parent.row) is
+  where
+    of : (a b : Bool) → not (a && b) ≡ false → old_size (cond b gone (line_offsets (method_line m c.parent.row))) ≡ 4294967295
+    of true true is = refl
+    of true false is = absurd cc
+    of false b is = absurd cc
+
+hoisted_fit : (m : Map) (v : FileValue) (c : CustomValue) → custom_beyond m c ≡ [] → SoundCustom v c → AreWithin (old_size (offsets_in m c.parent.row)) c.value
+hoisted_fit m v c none sound = by_body c.value sound.body (live_custom m c) refl none
+  where
+    by_body : (b : CustomBody) → IsBodyOfKind v (kind_of [] c.kind) b → (live : Bool) → live_custom m c ≡ live
+        → cond live (body_beyond m c.parent.row b) [] ≡ [] → AreWithin (old_size (offsets_in m c.parent.row)) b
+    by_body (Hoisted slots) body true is none =
+        each_both IsSlot (λ s. slot_beyond m c.parent.row s ≡ []) (EndsWithin (old_size (offsets_in m c.parent.row))) (slot_fits m c.parent.row) slots
+        (slots_of v (kind_of [] c.kind) slots body) (flat_none (slot_beyond m c.parent.row) slots none)
+    by_body (Hoisted slots) body false is none =
+        Each-weaker IsSlot (EndsWithin (old_size (offsets_in m c.parent.row))) (far_fits (old_size (offsets_in m c.parent.row)) (dropped_size m c is)) slots
+        (slots_of v (kind_of [] c.kind) slots body)
+    by_body (Async handler steps) body live is none = tt
+    by_body (TypeDocuments rows) body live is none = tt
+    by_body (Unread bytes) body live is none = tt
+
+pub hoisted_fits : (m : Map) (v value : FileValue) → flat_map (custom_beyond m) value.customs ≡ []
+    → Each (λ c. (c.parent.table < 0x2d) × SoundCustom v c) (annotated_file value).customs
+    → Each (λ c. AreWithin (old_size (offsets_in m c.parent.row)) c.value) (annotated_file value).customs
+hoisted_fits m v value none sound =
+    each_both (λ (c : CustomValue). custom_beyond m c ≡ []) (λ c. (c.parent.table < 0x2d) × SoundCustom v c)
+    (λ c. AreWithin (old_size (offsets_in m c.parent.row)) c.value) (λ c quiet s. hoisted_fit m v c quiet s.1) (annotated_file value).customs
+    (Each-filter (λ (c : CustomValue). custom_beyond m c ≡ []) (λ c. custom_beyond m c ≡ []) (λ (c : CustomValue). nat_lt c.parent.table 0x2d)
+    (λ c is quiet. quiet) value.customs (flat_none (custom_beyond m) value.customs none)) sound
+
+-- ---- offsets that are kept
+
+kept : (m : Map) → IsReadable m → (method x : ℕ) → if_lost m (offset_in method x) ≡ [] → IsKept m method x
+kept m ready method x none =
+    let k : KeepsBetween (offsets_in m method) x (x + 1) =
+    kept_between (offsets_in m method) (offsets_rise m ready method) x (x + 1) (holds (is_kept m method x) _ none) in
+    let a = k.after in
+    let b = k.before in
+    let same : k.offset ≡ x = omega (arith, a, b) in
+    (k.image, subst (λ n. Kept (offsets_in m method) n k.image) same k.moves)
+
+async_fits : (m : Map) → IsReadable m → (method : ℕ) (b : CustomBody) → flat_map (if_lost m) (async_offsets method b) ≡ [] → KeepsAsync m method b
+async_fits m ready method (Async handler steps) none = (of_handler handler parts.0, of_steps)
+  where
+    parts : (flat_map (if_lost m) (handler_offsets method handler) ≡ []) × (flat_map (if_lost m) (flat_map (step_offsets method) steps) ≡ [])
+    parts = nil_parts (flat_map (if_lost m) (handler_offsets method handler)) _
+        (sym (flat_append (if_lost m) (handler_offsets method handler) (flat_map (step_offsets method) steps)) ∙ none)
+
+    of_handler : (h : Option ℕ) → flat_map (if_lost m) (handler_offsets method h) ≡ [] → IfSome h (IsKept m method)
+    of_handler None none = tt
+    of_handler (Some x) none = kept m ready method x (nil_parts (if_lost m (offset_in method x)) [] none).0
+
+    step : (s : AsyncStep) → flat_map (if_lost m) (step_offsets method s) ≡ [] → KeepsStep m method s
+    step s none =
+        let here = nil_parts (if_lost m (offset_in method s.pause)) (if_lost m (offset_in s.method s.resume) ++ []) none in
+        (kept m ready method s.pause here.0, kept m ready s.method s.resume (nil_parts (if_lost m (offset_in s.method s.resume)) [] here.1).0)
+
+    of_steps : Each (KeepsStep m method) steps
+    of_steps =
+        Each-weaker (λ s. flat_map (if_lost m) (step_offsets method s) ≡ []) (KeepsStep m method) step steps
+        (flat_none (λ s. flat_map (if_lost m) (step_offsets method s)) steps
+        (sym (flat_nested (if_lost m) (step_offsets method) steps) ∙ parts.1))
+async_fits m ready method (Hoisted slots) none = tt
+async_fits m ready method (TypeDocuments rows) none = tt
+async_fits m ready method (Unread bytes) none = tt
+
+pub async_fit : (m : Map) → IsReadable m → (value : FileValue) → lost m value ≡ []
+    → Each (λ c. live_custom m c ≡ true → KeepsAsync m c.parent.row c.value) (annotated_file value).customs
+async_fit m ready value none =
+    Each-filter (λ (c : CustomValue). custom_lost m c ≡ []) (λ c. live_custom m c ≡ true → KeepsAsync m c.parent.row c.value)
+    (λ (c : CustomValue). nat_lt c.parent.table 0x2d)
+    (λ c is quiet live. async_fits m ready c.parent.row c.value
+    (sym (ap (λ b. cond b (flat_map (if_lost m) (async_offsets c.parent.row c.value)) []) live) ∙ quiet)) value.customs
+    (flat_none (custom_lost m) value.customs none)

@@ -1,0 +1,67 @@
+-- The parts of what is reported, one after the other.
+use Rattle.std.proofs.Common.{◌≡◌, ℕ, ◌⊎◌, ◌++◌, Bool, List, [], Some, None, slice_get, sym, ◌∙◌, ap, subst, inl, inr}
+use Rattle.ppdb_base.specs.declared.merge_error.MergeError.{MergeError}
+use Rattle.ppdb_base.specs.declared.merge_error.MergeError.TheVariants.{Memory}
+use Rattle.ppdb_maps.specs.Map.{Map}
+use Rattle.ppdb_values.specs.RawFile.{RawFile}
+use Rattle.ppdb_values.specs.Value.{value_of}
+use Rattle.ppdb_values.specs.declared.file.FileValue.{FileValue}
+use Rattle.ppdb_merge_fits.specs.Clashes.{unknown_kinds, clashes, first_clash}
+use Rattle.ppdb_merge_fits.specs.FirstOf.{IsTold}
+use Rattle.ppdb_merge_fits.specs.Offsets.{beyond, lost}
+use Rattle.ppdb_merge_fits.specs.Rows.{unmapped, images_twice}
+use Rattle.ppdb_merge_fits.specs.Slots.{slots_unmapped, slots_twice}
+use Rattle.ppdb_merge_fits.proofs.First.{append_is, first_prefix}
+
+pub then_fine : (xs ys : List MergeError) (e : MergeError) → xs ≡ [] → IsTold ys e → IsTold (xs ++ ys) e
+then_fine xs ys e none is = subst (λ l. IsTold (l ++ ys) e) (sym none) is
+
+pub refused : (xs ys : List MergeError) (e : MergeError) → IsTold xs e → IsTold (xs ++ ys) e
+refused xs ys e (inl memory) = inl memory
+refused xs ys e (inr is) = inr (first_prefix xs ys e is)
+
+pub both_fine : {A : Type 0} (xs ys : List A) → xs ≡ [] → ys ≡ [] → xs ++ ys ≡ []
+both_fine xs ys none also = ap (λ l. l ++ ys) none ∙ also
+
+module _ (marks : List (List ℕ)) (first : Bool) (m : Map) (raw : RawFile) where
+  abbrev of_value : FileValue → List MergeError
+  of_value value = unknown_kinds marks m value ++ (beyond m value ++ lost m value)
+
+  abbrev of_rows : List MergeError
+  of_rows = unmapped first m raw ++ images_twice first m raw
+
+  abbrev of_slots : FileValue → List MergeError
+  of_slots value = slots_unmapped m value ++ slots_twice m value
+
+  split : of_value (value_of raw) ++ (of_rows ++ of_slots (value_of raw)) ≡ clashes marks first m raw
+  split =
+      sym (append_is (unknown_kinds marks m (value_of raw)) _ _)
+      ∙ ap (λ l. unknown_kinds marks m (value_of raw) ++ l) (sym (append_is (beyond m (value_of raw)) _ _)
+      ∙ ap (λ l. beyond m (value_of raw) ++ (lost m (value_of raw) ++ l)) (sym (append_is (unmapped first m raw) _ _)))
+
+  told : (e : MergeError) → IsTold (of_value (value_of raw) ++ (of_rows ++ of_slots (value_of raw))) e
+      → (e ≡ Memory) ⊎ (first_clash marks first m raw ≡ Some e)
+  unfolding first_clash
+  told e is = subst (λ l. IsTold l e) split is
+
+  pub clash_of_value : (value : FileValue) (e : MergeError) → value ≡ value_of raw → IsTold (of_value value) e
+      → (e ≡ Memory) ⊎ (first_clash marks first m raw ≡ Some e)
+  clash_of_value value e same is =
+      told e (refused (of_value (value_of raw)) _ e (subst (λ v. IsTold (of_value v) e) same is))
+
+  pub clash_of_rows : (value : FileValue) (e : MergeError) → value ≡ value_of raw → of_value value ≡ [] → IsTold of_rows e
+      → (e ≡ Memory) ⊎ (first_clash marks first m raw ≡ Some e)
+  clash_of_rows value e same none is =
+      told e (then_fine (of_value (value_of raw)) _ e (subst (λ v. of_value v ≡ []) same none) (refused of_rows _ e is))
+
+  pub clash_of_slots : (value : FileValue) (e : MergeError) → value ≡ value_of raw → of_value value ≡ [] → of_rows ≡ []
+      → IsTold (of_slots value) e → (e ≡ Memory) ⊎ (first_clash marks first m raw ≡ Some e)
+  clash_of_slots value e same none also is =
+      told e (then_fine (of_value (value_of raw)) _ e (subst (λ v. of_value v ≡ []) same none)
+      (then_fine of_rows _ e also (subst (λ v. IsTold (of_slots v) e) same is)))
+
+  pub no_clash : (value : FileValue) → value ≡ value_of raw → of_value value ≡ [] → of_rows ≡ [] → of_slots value ≡ [] → first_clash marks first m raw ≡ None
+  unfolding first_clash
+  no_clash value same none also last =
+      ap (λ l. slice_get l 0) (sym split ∙ both_fine (of_value (value_of raw)) _ (subst (λ v. of_value v ≡ []) same none)
+      (both_fine of_rows _ also (subst (λ v. of_slots v ≡ []) same last)))

@@ -1,0 +1,74 @@
+-- Where a map does not fit a file, and what is reported first (docs/FORMAT.md, "Fitting"). What stands at a dropped method is not judged.
+use Rattle.std.specs.Prelude.{ℕ, ◌&&◌, ◌==◌, not, Bool, true, false, cond, List, [], ◌∷◌, ◌++◌, Option, Some, None, map, option_to_list, slice_get}
+use Rattle.std.specs.List.{flat_map, list_any}
+use Rattle.custom_info.specs.Kinds.{kind_of}
+use Rattle.custom_info.specs.declared.kinds.Kind.{Kind}
+use Rattle.custom_info.specs.declared.kinds.Kind.TheVariants.{Unknown}
+use Rattle.ppdb_base.specs.declared.merge_error.MergeError.{MergeError}
+use Rattle.ppdb_base.specs.declared.merge_error.MergeError.TheVariants.{KindUnknown}
+use Rattle.ppdb_maps.specs.Map.{Map, is_dropped}
+use Rattle.ppdb_tables.specs.RawTables.{numbered, row_at}
+use Rattle.ppdb_tables.specs.declared.parent.Parent.{Parent}
+use Rattle.ppdb_values.specs.RawFile.{RawFile}
+use Rattle.ppdb_values.specs.Value.{value_of}
+use Rattle.ppdb_values.specs.declared.file.FileValue.{FileValue}
+use Rattle.ppdb_values.specs.declared.scope.ScopeValue.{ScopeValue}
+use Rattle.ppdb_values.specs.declared.custom.CustomValue.{CustomValue}
+use Rattle.ppdb_merge_fits.specs.Offsets.{beyond, lost}
+use Rattle.ppdb_merge_fits.specs.Rows.{unmapped, images_twice}
+use Rattle.ppdb_merge_fits.specs.Slots.{slots_unmapped, slots_twice}
+
+-- ---- records at dropped methods
+
+-- the methods of the scopes, of the variables of all scopes and of their constants, by their rows from 1
+abbrev pub scope_methods : FileValue → List ℕ
+scope_methods value = map (λ (s : ScopeValue). s.method) value.scopes
+
+abbrev pub variable_methods : FileValue → List ℕ
+variable_methods value = flat_map (λ (s : ScopeValue). map (λ v. s.method) s.variables) value.scopes
+
+abbrev pub constant_methods : FileValue → List ℕ
+constant_methods value = flat_map (λ (s : ScopeValue). map (λ c. s.method) s.constants) value.scopes
+
+-- the method at which a row stands: a method itself, and the method of the scope that the row is or that owns it
+abbrev pub method_at : FileValue → Parent → Option ℕ
+method_at value parent =
+    cond (parent.table == 0x06) (Some parent.row)
+    (cond (parent.table == 0x32) (row_at (scope_methods value) parent.row)
+    (cond (parent.table == 0x33) (row_at (variable_methods value) parent.row)
+    (cond (parent.table == 0x34) (row_at (constant_methods value) parent.row) None)))
+
+abbrev pub is_at_dropped : Map → FileValue → Parent → Bool
+is_at_dropped m value parent = list_any (is_dropped m) (option_to_list (method_at value parent))
+
+-- ---- records of unknown kinds
+
+abbrev pub is_unknown : Kind → Bool
+is_unknown Unknown = true
+is_unknown kind = false
+
+abbrev pub has_unknown_kind : List (List ℕ) → Map → FileValue → CustomValue → Bool
+has_unknown_kind marks m value c = is_unknown (kind_of marks c.kind) && not (is_at_dropped m value c.parent)
+
+abbrev pub if_unknown : List (List ℕ) → Map → FileValue → ℕ × CustomValue → List MergeError
+if_unknown marks m value x = cond (has_unknown_kind marks m value x.1) (KindUnknown x.0 x.1.kind ∷ []) []
+
+abbrev pub unknown_kinds : List (List ℕ) → Map → FileValue → List MergeError
+unknown_kinds marks m value = flat_map (if_unknown marks m value) (numbered value.customs)
+
+-- ---- all together
+
+-- in the order in which they are reported
+abbrev pub clashes : List (List ℕ) → Bool → Map → RawFile → List MergeError
+clashes marks first m raw =
+    unknown_kinds marks m (value_of raw)
+    ++ (beyond m (value_of raw)
+    ++ (lost m (value_of raw)
+    ++ (unmapped first m raw
+    ++ (images_twice first m raw
+    ++ (slots_unmapped m (value_of raw)
+    ++ slots_twice m (value_of raw))))))
+
+-- What is reported of a file that a map does not fit. The entry point counts in the first of several files.
+unfoldable pub first_clash : List (List ℕ) → Bool → Map → RawFile → Option MergeError
+first_clash marks first m raw = slice_get (clashes marks first m raw) 0

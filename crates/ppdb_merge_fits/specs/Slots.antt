@@ -1,0 +1,49 @@
+-- The slots of variables whose images a map does not report, or reports twice (docs/FORMAT.md, "Fitting").
+use Rattle.std.specs.Prelude.{ℕ, ◌||◌, cond, is_some, List, [], ◌∷◌, Option, None, map}
+use Rattle.std.specs.List.{filter_map, flat_map}
+use Rattle.std.specs.Option.{option_map}
+use Rattle.ppdb_base.specs.declared.merge_error.MergeError.{MergeError}
+use Rattle.ppdb_base.specs.declared.merge_error.MergeError.TheVariants.{SlotUnmapped, SlotTwice}
+use Rattle.ppdb_maps.specs.Map.{Map, slot_image, is_dropped}
+use Rattle.ppdb_tables.specs.RawTables.{numbered}
+use Rattle.ppdb_values.specs.declared.file.FileValue.{FileValue}
+use Rattle.ppdb_values.specs.declared.scope.ScopeValue.{ScopeValue}
+use Rattle.ppdb_values.specs.declared.scope.VariableValue.{VariableValue}
+use Rattle.ppdb_merge_fits.specs.declared.used.MethodSlot.{MethodSlot}
+use Rattle.ppdb_merge_fits.specs.declared.used.UsedSlot.{UsedSlot}
+use Rattle.ppdb_merge_fits.specs.Twice.{each_once, twice}
+
+-- the slots of the variables of a scope
+abbrev pub scope_slots : ScopeValue → List MethodSlot
+scope_slots s = map (λ (v : VariableValue). record { method = s.method; slot = v.slot }) s.variables
+
+-- those of all scopes, by the rows of the variables from 1
+abbrev pub variable_slots : FileValue → List MethodSlot
+variable_slots value = flat_map scope_slots value.scopes
+
+-- a variable that stands at no dropped method has a slot without image
+abbrev pub if_slot_unmapped : Map → ℕ × MethodSlot → List MergeError
+if_slot_unmapped m x =
+    cond (is_dropped m x.1.method || is_some (slot_image m x.1.method x.1.slot)) [] (SlotUnmapped x.0 x.1.slot ∷ [])
+
+abbrev pub slots_unmapped : Map → FileValue → List MergeError
+slots_unmapped m value = flat_map (if_slot_unmapped m) (numbered (variable_slots value))
+
+-- the slots that variables of methods use, but for dropped methods, with their images, each once, by method and slot
+abbrev pub used : Map → MethodSlot → Option UsedSlot
+used m x =
+    cond (is_dropped m x.method) None
+    (option_map (λ image. record { method = x.method; slot = x.slot; image = image }) (slot_image m x.method x.slot))
+
+abbrev pub used_slots : Map → List MethodSlot → List UsedSlot
+used_slots m slots = each_once (λ (u : UsedSlot). u.method) (λ u. u.slot) (filter_map (used m) slots)
+
+-- two of them have one image
+abbrev pub slot_twice : UsedSlot → UsedSlot → MergeError
+slot_twice a b = SlotTwice a.method a.slot b.slot a.image
+
+abbrev pub twice_of : Map → List MethodSlot → List MergeError
+twice_of m slots = twice (λ (u : UsedSlot). u.method) (λ u. u.slot) (λ u. u.image) slot_twice (used_slots m slots)
+
+abbrev pub slots_twice : Map → FileValue → List MergeError
+slots_twice m value = twice_of m (variable_slots value)

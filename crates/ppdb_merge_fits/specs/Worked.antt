@@ -1,0 +1,126 @@
+-- Worked maps of small files, and what is reported of each.
+use Rattle.std.specs.Prelude.{◌≡◌, ℕ, ◌+◌, ◌-◌, true, List, [], ◌∷◌, ◌++◌, Option, Some, None}
+use Rattle.ppdb_base.specs.Place.{at_byte}
+use Rattle.ppdb_base.specs.declared.merge_error.MergeError.TheVariants.{KindUnknown, OffsetBeyond, AsyncLost, Unmapped, ImageTwice, SlotUnmapped, SlotTwice}
+use Rattle.custom_info.specs.Kinds.{in_file_order, async_stepping, hoisted_scopes}
+use Rattle.custom_info.specs.declared.slots.Slot.TheVariants.{Empty, Held}
+use Rattle.ppdb_maps.specs.Map.{Map, MethodLine}
+use Rattle.ppdb_values.specs.RawFile.{RawFile}
+use Rattle.ppdb_values.specs.WorkedSmall.{empty_file, empty_value, small_file, zeros}
+use Rattle.ppdb_values.specs.declared.file.FileValue.{FileValue}
+use Rattle.ppdb_values.specs.declared.custom.CustomBody.{CustomBody}
+use Rattle.ppdb_values.specs.declared.custom.CustomBody.TheVariants.{Async, Hoisted, Unread}
+use Rattle.ppdb_values.specs.declared.custom.CustomValue.{CustomValue}
+use Rattle.ppdb_merge_items.specs.Worked.{pair_value}
+use Rattle.ppdb_merge_fits.specs.Clashes.{unknown_kinds, first_clash}
+use Rattle.ppdb_merge_fits.specs.Offsets.{beyond, lost}
+use Rattle.ppdb_merge_fits.specs.Rows.{imaged_rows}
+
+-- ---- maps
+
+abbrev pub no_lines : Map
+no_lines = record { counts = []; rows = []; methods = []; drops = []; slotted = []; slots = [] }
+
+-- `method 1 SIZE SIZE / run 0 0 LENGTH`
+abbrev pub prefix_kept : ℕ → ℕ → MethodLine
+prefix_kept size length = record { method = 1; old_size = size; new_size = size; runs = record { old = 0; new = 0; length = length } ∷ [] }
+
+abbrev pub keeps_prefix : ℕ → ℕ → Map
+keeps_prefix size length = record no_lines { methods = prefix_kept size length ∷ [] }
+
+-- `method 1 30 30`, and runs that leave one offset out
+abbrev pub all_but : ℕ → Map
+all_but offset = record no_lines {
+  methods = record {
+    method = 1;
+    old_size = 30;
+    new_size = 30;
+    runs = record { old = 0; new = 0; length = offset } ∷ record { old = offset + 1; new = offset + 1; length = 29 - offset } ∷ [];
+  } ∷ [];
+}
+
+-- `rows 06 2`, and the image of each method
+abbrev pub methods_to : ℕ → ℕ → Map
+methods_to first second = record no_lines {
+  counts = record { table = 6; rows = 2 } ∷ [];
+  rows = record { table = 6; old = 1; new = first } ∷ record { table = 6; old = 2; new = second } ∷ [];
+}
+
+-- `drop METHOD`
+abbrev pub drops : ℕ → Map
+drops method = record no_lines { drops = method ∷ [] }
+
+-- `slots 1 / slot 1 0 FIRST`, and the image of slot 1
+abbrev pub slot_to : ℕ → Map
+slot_to first = record no_lines { slotted = 1 ∷ []; slots = record { method = 1; old = 0; new = first } ∷ [] }
+
+abbrev pub slots_to : ℕ → ℕ → Map
+slots_to first second = record (slot_to first) { slots = record { method = 1; old = 0; new = first } ∷ record { method = 1; old = 1; new = second } ∷ [] }
+
+-- ---- files
+
+-- two methods with a scope each and a state machine
+abbrev pub machine_file : RawFile
+machine_file = record empty_file {
+  tables = record empty_file.tables {
+    counts = zeros 6 ++ 2 ∷ (zeros 43 ++ 2 ∷ (zeros 3 ++ 1 ∷ zeros 9));
+    scopes = record { method = 1; import = 0; variables = 1; constants = 1; start = 0; length = 4 }
+        ∷ record { method = 2; import = 0; variables = 1; constants = 1; start = 0; length = 6 } ∷ [];
+    machines = record { move_next = 2; kickoff = 1 } ∷ [];
+  };
+}
+
+-- a record on a method
+abbrev pub on_method : ℕ → List ℕ → CustomBody → CustomValue
+on_method method kind value = record { parent = record { table = 0x06; row = method }; kind = kind; value = value }
+
+abbrev pub with_records : List CustomValue → FileValue
+with_records customs = record empty_value { customs = customs }
+
+-- an async record on method 1 with one step that pauses at 20 and resumes at 25
+abbrev pub with_step : Option ℕ → ℕ → FileValue
+with_step handler method = with_records (on_method 1 async_stepping (Async handler (record { pause = 20; resume = 25; method = method } ∷ [])) ∷ [])
+
+-- hoisted locals from 2 to 5, none, and from 0 to 9
+abbrev pub with_hoisted : FileValue
+with_hoisted =
+    with_records (on_method 1 hoisted_scopes (Hoisted (Held (record { start = 2; end = 5 }) ∷ Empty ∷ Held (record { start = 0; end = 9 }) ∷ [])) ∷ [])
+
+-- 00112233-4455-6677-8899-aabbccddeeff
+abbrev pub strange : List ℕ
+strange = in_file_order
+    (0x00 ∷ 0x11 ∷ 0x22 ∷ 0x33 ∷ 0x44 ∷ 0x55 ∷ 0x66 ∷ 0x77 ∷ 0x88 ∷ 0x99 ∷ 0xaa ∷ 0xbb ∷ 0xcc ∷ 0xdd ∷ 0xee ∷ 0xff ∷ [])
+
+-- records of an unknown kind on method 2 and on the variable of its scope
+abbrev pub with_strange : FileValue
+with_strange = record pair_value {
+  customs = on_method 2 strange (Unread []) ∷ record { parent = record { table = 0x33; row = 2 }; kind = strange; value = Unread [] } ∷ [];
+}
+
+-- ---- what is reported
+
+pub record WorkedMaps : Type 0 where
+  pub nothing : first_clash [] true no_lines small_file ≡ None
+  pub point : first_clash [] true (keeps_prefix 7 7) small_file ≡ Some (OffsetBeyond 1 7 7)
+  pub no_image : first_clash [] true (record no_lines { counts = record { table = 6; rows = 1 } ∷ [] }) small_file ≡ Some (Unmapped 6 1 (at_byte 3 20))
+  -- an offset is reported before a row
+  pub offset_first : first_clash [] true (record (keeps_prefix 5 5) { counts = record { table = 6; rows = 1 } ∷ [] }) small_file ≡ Some (OffsetBeyond 1 7 5)
+  pub two_rows : first_clash [] true (methods_to 1 1) machine_file ≡ Some (ImageTwice 6 1 2 1)
+  pub exchanged : first_clash [] true (methods_to 2 1) machine_file ≡ None
+  pub rows_are : imaged_rows true (methods_to 2 1) machine_file ≡ record { table = 6; row = 1; image = 2 } ∷ record { table = 6; row = 2; image = 1 } ∷ []
+  pub slot : first_clash [] true (slot_to 5) small_file ≡ Some (SlotUnmapped 2 1)
+  pub two_slots : first_clash [] true (slots_to 5 5) small_file ≡ Some (SlotTwice 1 0 1 5)
+  pub slots_exchanged : first_clash [] true (slots_to 1 0) small_file ≡ None
+  pub dropped : first_clash [] true (drops 1) small_file ≡ None
+  -- offsets of records
+  pub pause_lost : lost (all_but 20) (with_step None 1) ≡ AsyncLost 1 20 ∷ []
+  pub handler_lost : lost (all_but 7) (with_step (Some 7) 1) ≡ AsyncLost 1 7 ∷ []
+  pub pause_beyond : beyond (keeps_prefix 6 6) (with_step (Some 7) 1) ≡ OffsetBeyond 1 7 6 ∷ OffsetBeyond 1 20 6 ∷ OffsetBeyond 1 25 6 ∷ []
+  pub at_the_size : beyond (keeps_prefix 25 25) (with_step None 1) ≡ OffsetBeyond 1 25 25 ∷ []
+  pub in_dropped : lost (drops 2) (with_step None 2) ≡ AsyncLost 2 25 ∷ []
+  pub record_goes : lost (drops 1) (with_step None 2) ≡ []
+  pub hoisted : beyond (keeps_prefix 8 8) with_hoisted ≡ OffsetBeyond 1 9 8 ∷ []
+  -- kinds of records
+  pub strange_goes : unknown_kinds [] (drops 2) with_strange ≡ []
+  pub strange_stays : unknown_kinds [] (drops 1) with_strange ≡ KindUnknown 1 strange ∷ KindUnknown 2 strange ∷ []
+  pub strange_is_marked : unknown_kinds (strange ∷ []) (drops 1) with_strange ≡ []

@@ -1,0 +1,128 @@
+// Slots of variables that have no image, and slots of a method that have one image.
+ghost use Rattle.std.specs.Prelude.{◌≡◌, ◌≤◌, ◌++◌, IfOk, OnOk, length, option_to_list, slice_get};
+ghost use Rattle.std.specs.List.{filter_map, flat_map};
+ghost use Rattle.ppdb_tables.specs.RawTables.{numbered};
+ghost use Rattle.ppdb_merge_fits.specs.Slots.{scope_slots, variable_slots, if_slot_unmapped, slots_unmapped, used, twice_of, slots_twice};
+
+use crate::twice::{first_twice, leave_once};
+use crate::used::{MethodSlot, UsedSlot};
+use ppdb_base::{List, Memory, MergeError};
+use ppdb_maps::MapText;
+use ppdb_values::{FileValue, ScopeValue};
+use std::alloc::Global;
+
+/// Adds the slots of a scope's variables.
+fn add_slots(slots: &mut List<MethodSlot>, scope: &ScopeValue) -> Result<(), Memory>
+    ensures { OnOk result (slots.new ≡ slots.old ++ scope_slots scope.now) }
+{
+    for variable in scope.variables.as_slice() {
+        slots.push(MethodSlot {
+            method: scope.method,
+            slot: variable.slot,
+        })?;
+    }
+    Ok(())
+}
+
+/// The slots of the variables of all scopes.
+fn variable_slots(alloc: Global, scopes: &[ScopeValue]) -> Result<List<MethodSlot>, Memory>
+    ensures { IfOk result (λ slots. slots ≡ flat_map scope_slots scopes.now) }
+{
+    let mut slots = List::new(alloc);
+    for scope in scopes {
+        add_slots(&mut slots, scope)?;
+    }
+    Ok(slots)
+}
+
+/// What is reported of a variable's slot that has no image.
+fn slot_unmapped(map: &MapText, row: u32, x: &MethodSlot) -> Option<MergeError>
+    ensures { result ≡ slice_get (if_slot_unmapped map.now (row, x.now)) 0 }
+{
+    if map.dropped(x.method) || map.slot(x.method, x.slot).is_some() {
+        return None;
+    }
+    Some(MergeError::SlotUnmapped { row, slot: x.slot })
+}
+
+/// What is reported of the first variable whose slot has no image.
+fn first_unmapped(map: &MapText, slots: &[MethodSlot]) -> Option<MergeError>
+    requires { length slots.now ≤ 16777215 }
+    ensures { result ≡ slice_get (flat_map (if_slot_unmapped map.now) (numbered slots.now)) 0 }
+{
+    let mut row: u32 = 0;
+    for x in slots {
+        row += 1;
+        if let Some(error) = slot_unmapped(map, row, x) {
+            return Some(error);
+        }
+    }
+    None
+}
+
+/// A slot that a variable of a method uses, with its image; none at a dropped method, and where it has no image.
+fn used(map: &MapText, x: &MethodSlot) -> Option<UsedSlot>
+    ensures { result ≡ used map.now x.now }
+{
+    if map.dropped(x.method) {
+        return None;
+    }
+    match map.slot(x.method, x.slot) {
+        Some(image) => Some(UsedSlot {
+            method: x.method,
+            slot: x.slot,
+            image,
+        }),
+        None => None,
+    }
+}
+
+/// Adds a slot that a variable of a method uses.
+fn add_used(all: &mut Vec<UsedSlot>, map: &MapText, x: &MethodSlot) -> Result<(), Memory>
+    ensures { OnOk result (all.new.items ≡ all.old.items ++ option_to_list (used map.now x.now)) }
+{
+    if let Some(found) = used(map, x) {
+        all.push(found)?;
+    }
+    Ok(())
+}
+
+/// The slots that variables use, with their images.
+fn used_slots(alloc: Global, map: &MapText, slots: &[MethodSlot]) -> Result<Vec<UsedSlot>, Memory>
+    ensures { IfOk result (λ all. all.items ≡ filter_map (used map.now) slots.now) }
+{
+    let mut all = Vec::with_capacity(alloc, slots.len())?;
+    for x in slots {
+        add_used(&mut all, map, x)?;
+    }
+    Ok(all)
+}
+
+/// What is reported of the first two slots of a method that have one image.
+fn first_slot_twice(
+    alloc: Global,
+    map: &MapText,
+    slots: &[MethodSlot],
+) -> Result<Option<MergeError>, Memory>
+    ensures { IfOk result (λ told. told ≡ slice_get (twice_of map.now slots.now) 0) }
+{
+    let mut all = used_slots(alloc, map, slots)?;
+    leave_once(&mut all)?;
+    first_twice(&mut all)
+}
+
+/// What is reported first of the slots of variables.
+pub(crate) fn first_of_slots(
+    alloc: Global,
+    map: &MapText,
+    value: &FileValue,
+) -> Result<Option<MergeError>, Memory>
+    requires { length (variable_slots value.now) ≤ 16777215 }
+    ensures { IfOk result (λ told. told ≡ slice_get (slots_unmapped map.now value.now ++ slots_twice map.now value.now) 0) }
+{
+    let slots = variable_slots(alloc, value.scopes.as_slice())?;
+    if let Some(error) = first_unmapped(map, slots.as_slice()) {
+        return Ok(Some(error));
+    }
+    first_slot_twice(alloc, map, slots.as_slice())
+}

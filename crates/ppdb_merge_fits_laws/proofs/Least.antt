@@ -1,0 +1,175 @@
+-- Of items whose images go by their groups and numbers, what is reported first is reported of the least two.
+use Rattle.std.proofs.Common.{◌≡◌, ℕ, ◌≤◌, true, List, [], ◌∷◌, Some, slice_get, refl, sym, ◌∙◌, ap, inl, inr, arith}
+use Rattle.std.specs.Prelude.{nat_eq, Contains}
+use Rattle.std.proofs.lemmas.Bool.{eqb-true, and_parts}
+use Rattle.ppdb_merge_items.specs.Each.{Each, Pairs}
+use Rattle.ppdb_merge_items.specs.Sorted.{in_order}
+use Rattle.ppdb_merge_items.proofs.Lists.{Each-weaker, Pairs-weaker}
+use Rattle.ppdb_merge_items.proofs.Orders.{in_order_each}
+use Rattle.ppdb_merge_moved.proofs.Elements.{each_in, in_each}
+use Rattle.ppdb_merge_fits.specs.Twice.{beside, each_once, if_one_image, is_same, twice}
+use Rattle.ppdb_merge_fits.proofs.Apart.{apart, OneNumber}
+use Rattle.ppdb_merge_fits_laws.specs.Least.{AreLeast, HaveOneImage, IsUpTo, TellsLeast, place_of}
+use Rattle.ppdb_merge_fits_laws.proofs.Found.{Found, InOrder, found}
+use Rattle.ppdb_merge_fits_laws.proofs.Keyed.{By, in_order_by, each_once as each_kept, pairs_once}
+use Rattle.ppdb_merge_fits_laws.proofs.Sources.{once_of, order_of}
+
+-- two lists of which each comes before the other or is the same are the same
+one_place : (ns ms : List ℕ) → IsUpTo ns ms → IsUpTo ms ns → ns ≡ ms
+one_place [] [] up down = refl
+one_place [] (m ∷ ms) up down = absurd down
+one_place (n ∷ ns) [] up down = absurd up
+one_place (n ∷ ns) (m ∷ ms) (inl less) (inl more) = absurd (omega (arith, less, more))
+one_place (n ∷ ns) (m ∷ ms) (inl less) (inr same) = let e = same.0 in absurd (omega (arith, less, e))
+one_place (n ∷ ns) (m ∷ ms) (inr same) (inl more) = let e = same.0 in absurd (omega (arith, more, e))
+one_place (n ∷ ns) (m ∷ ms) (inr same) (inr also) = ap (λ k. k ∷ ns) same.0 ∙ ap (λ l. m ∷ l) (one_place ns ms same.1 also.1)
+
+module _ {A B : Type 0} (group number image : A → ℕ) (told : A → A → B) (of : ℕ → ℕ → ℕ)
+    (equal : (x y : A) → group x ≡ group y → number x ≡ number y → image x ≡ image y → x ≡ y) (items : List A)
+    (owns : Each (λ x. image x ≡ of (group x) (number x)) items) where
+  abbrev Own : A → Type 0
+  Own x = image x ≡ of (group x) (number x)
+
+  abbrev Two : A → A → Type 0
+  Two = HaveOneImage group number image
+
+  abbrev Order : A → A → Type 0
+  Order = InOrder group number image
+
+  -- ---- the items in the order in which they are looked at
+
+  abbrev once : List A
+  once = each_once group number items
+
+  abbrev sorted : List A
+  sorted = in_order group (in_order image once)
+
+  abbrev Any : A → A → Type 0
+  Any a b = Unit {0}
+
+  all_any : (xs : List A) → Pairs Any xs
+  all_any [] = tt
+  all_any (x ∷ xs) = (each_in (Any x) xs (λ y is. tt), all_any xs)
+
+  abbrev ByNumber : A → A → Type 0
+  ByNumber = By group (By number Any)
+
+  -- equal keys stay by the key before
+  order : (x y : A) → By group (By image ByNumber) x y → Order x y
+  order x y (inl less) = record { groups = omega (arith, less); images = λ g. absurd (omega (arith, less, g)); numbers = λ g. absurd (omega (arith, less, g)) }
+  order x y (inr same) = let g = same.0 in record { groups = omega (arith, g); images = λ e. images same.1; numbers = λ e i. numbers e same.1 i }
+    where
+      images : By image ByNumber x y → image x ≤ image y
+      images (inl less) = omega (arith, less)
+      images (inr same) = let i = same.0 in omega (arith, i)
+
+      numbers : group x ≡ group y → By image ByNumber x y → image x ≡ image y → number x ≤ number y
+      numbers g (inl less) i = absurd (omega (arith, less, i))
+      numbers g (inr (same, inl less)) i = absurd (omega (arith, less, g))
+      numbers g (inr (same, inr (also, inl less))) i = omega (arith, less)
+      numbers g (inr (same, inr (also, inr rest))) i = let n = rest.0 in omega (arith, n)
+
+  in_turn : Pairs Order sorted
+  in_turn =
+      Pairs-weaker (By group (By image ByNumber)) Order order sorted
+      (in_order_by group (By image ByNumber) (in_order image once)
+      (in_order_by image ByNumber once
+      (pairs_once (is_same group number) ByNumber (in_order group (in_order number items))
+      (in_order_by group (By number Any) (in_order number items) (in_order_by number Any items (all_any items))))))
+
+  forth : (P : A → Type 0) → Each P items → Each P sorted
+  forth P each =
+      in_order_each group P (in_order image once)
+      (in_order_each image P once
+      (each_kept (is_same group number) P (in_order group (in_order number items))
+      (in_order_each group P (in_order number items) (in_order_each number P items each))))
+
+  one : (x y : A) → Own x → Own y → is_same group number x y ≡ true → x ≡ y
+  one x y own also is =
+      let p = and_parts (nat_eq (group x) (group y)) (nat_eq (number x) (number y)) is in
+      let g = eqb-true (group x) (group y) p.0 in
+      let n = eqb-true (number x) (number y) p.1 in
+      equal x y g n (own ∙ ap (λ z. of z (number x)) g ∙ ap (of (group y)) n ∙ sym also)
+
+  back : (P : A → Type 0) → Each P sorted → Each P items
+  back P each =
+      order_of number P items
+      (order_of group P (in_order number items)
+      (once_of (is_same group number) Own one P (in_order group (in_order number items))
+      (in_order_each group Own (in_order number items) (in_order_each number Own items owns))
+      (order_of image P once (order_of group P (in_order image once) each))))
+
+  -- ---- what is reported first
+
+  abbrev list : List B
+  list = twice group number image told once
+
+  abbrev Least : A → A → Type 0
+  Least = AreLeast group number image items
+
+  to_least : (t : B) → slice_get list 0 ≡ Some t → (a : A) × (b : A) × Least a b × (told a b ≡ t)
+  to_least t is = of_found (by sorted is (forth (Contains items) (each_in (Contains items) items (λ x in_x. in_x))) in_turn)
+    where
+      by : (xs : List A) → slice_get (beside (if_one_image group number image told) xs) 0 ≡ Some t → Each (Contains items) xs → Pairs Order xs
+          → Found group number image told (Contains items) xs t
+      by [] is each pairs = absurd cc
+      by (x ∷ xs) is each pairs = found group number image told (Contains items) x xs t each pairs is
+
+      of_found : Found group number image told (Contains items) sorted t → (a : A) × (b : A) × Least a b × (told a b ≡ t)
+      of_found f =
+          let NotBehind = λ (c d : A). Two c d → IsUpTo (place_of group number image f.a f.b) (place_of group number image c d) in
+          let all = back (λ c. Each (NotBehind c) items)
+          (Each-weaker (λ c. Each (NotBehind c) sorted) (λ c. Each (NotBehind c) items) (λ c each. back (NotBehind c) each) sorted f.least) in (
+            f.a,
+            f.b,
+            record {
+              first = f.of_a;
+              second = f.of_b;
+              one_image = f.two;
+              least = λ c d in_c in_d. in_each (NotBehind c) items d (in_each (λ c. Each (NotBehind c) items) items c all in_c) in_d;
+            },
+            f.tells,
+          )
+
+  none_two : list ≡ [] → (a b : A) → Contains items a → Contains items b → Two a b → ⊥
+  none_two none a b in_a in_b two =
+      let all = apart group number image told of equal items owns none in
+      let n = in_each (OneNumber group number image a) items b
+      (in_each (λ x. Each (OneNumber group number image x) items) items a all in_a) in_b two.groups two.images in
+      let less = two.numbers in
+      omega (arith, n, less)
+
+  -- two pairs that are least are one
+  same_told : (a b c d : A) → Least a b → Least c d → told a b ≡ told c d
+  same_told a b c d ab cd =
+      let e = one_place (place_of group number image a b) (place_of group number image c d) (ab.least c d cd.first cd.second cd.one_image)
+      (cd.least a b ab.first ab.second ab.one_image) in
+      let g : group a ≡ group c = cc in
+      let i : image a ≡ image c = cc in
+      let n : number a ≡ number c = cc in
+      let m : number b ≡ number d = cc in
+      let first = equal a c g n i in
+      let second = equal b d (sym ab.one_image.groups ∙ g ∙ cd.one_image.groups) m (sym ab.one_image.images ∙ i ∙ cd.one_image.images) in
+      ap (λ z. told z b) first ∙ ap (told c) second
+
+  of_least : (t : B) → (a : A) × (b : A) × Least a b × (told a b ≡ t) → slice_get list 0 ≡ Some t
+  of_least t is = by list refl
+    where
+      by : (l : List B) → list ≡ l → slice_get list 0 ≡ Some t
+      by [] none = absurd (none_two none is.0 is.1 is.2.first is.2.second is.2.one_image)
+      by (u ∷ l) some =
+          let head : slice_get list 0 ≡ Some u = ap (λ l. slice_get l 0) some in
+          let other = to_least u head in
+          head ∙ ap Some (sym other.3 ∙ same_told other.0 other.1 is.0 is.1 other.2 is.2 ∙ is.3)
+
+  none_told : ((a b : A) → Contains items a → Contains items b → Two a b → ⊥) → list ≡ []
+  none_told none = by list refl
+    where
+      by : (l : List B) → list ≡ l → list ≡ []
+      by [] is = is
+      by (u ∷ l) some =
+          let other = to_least u (ap (λ l. slice_get l 0) some) in
+          absurd (none other.0 other.1 other.2.first other.2.second other.2.one_image)
+
+  pub tells_least : TellsLeast group number image told items list
+  tells_least = record { first = λ t. (to_least t, of_least t); nothing = (none_two, none_told) }

@@ -1,0 +1,6 @@
+//! Laws: where two rows or two slots have one image, what is reported first is reported of the least two.
+#![tactic(auto)]
+
+mod laws;
+
+pub use laws::{least_rows_are_told, least_slots_are_told};

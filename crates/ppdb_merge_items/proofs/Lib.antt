@@ -1,0 +1,11 @@
+pub mod Files
+pub mod Lists
+pub mod Mapped
+pub mod AnnotatedMeanings
+pub mod Orders
+pub mod Parents
+pub mod Rows
+pub mod Soundness
+pub mod Spread
+pub mod StableSort
+pub mod Values

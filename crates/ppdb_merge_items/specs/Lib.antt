@@ -1,0 +1,9 @@
+pub mod Each
+pub mod Laws
+pub mod NamedRows
+pub mod Annotated
+pub mod AnnotatedMeaning
+pub mod Sorted
+pub mod SoundParts
+pub mod Unannotated
+pub mod Worked

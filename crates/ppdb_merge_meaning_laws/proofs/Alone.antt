@@ -1,0 +1,96 @@
+-- A file that is moved alone is sound afterwards, where no image is above its count.
+use Rattle.std.proofs.Common.{◌≡◌, ℕ, zero, suc, ◌≤◌, Bool, true, false, cond, [], ◌∷◌, Option, Some, None, refl, sym, ◌∙◌, ap, subst, arith}
+use Rattle.std.specs.Prelude.{nat_eq, unwrap_or, slice_index, Contains}
+use Rattle.std.proofs.lemmas.Bool.{eqb-true}
+use Rattle.ppdb_maps.specs.Map.{Map, row_image, row_line, count_of, moved_row, is_dropped}
+use Rattle.ppdb_values_sound_laws.specs.Sound.{IsSound}
+use Rattle.ppdb_merge_items.specs.declared.file.AnnotatedFile.{AnnotatedFile}
+use Rattle.ppdb_merge_items.specs.Each.{Each}
+use Rattle.ppdb_merge_items.specs.Laws.{SoundnessIsAnnotated}
+use Rattle.ppdb_merge_items.specs.NamedRows.{Named, names, names_some, named_rows}
+use Rattle.ppdb_merge_items.specs.Annotated.{annotated_file}
+use Rattle.ppdb_merge_joined.specs.Joinable.{CountsRows}
+use Rattle.ppdb_merge_joined.specs.Joined.{joined}
+use Rattle.ppdb_merge_joined.specs.Laws.{JoinedIsSound}
+use Rattle.ppdb_merge_moved.specs.Fits.{IsImaged}
+use Rattle.ppdb_merge_moved.specs.Moved.{moved_file}
+use Rattle.ppdb_merge_moved.proofs.Elements.{each_in, in_each}
+use Rattle.ppdb_merge_moved.proofs.NamedParts.{NamedParts, named_parts}
+use Rattle.ppdb_merge_moved.proofs.NamedRows.{named_rows_are_rows}
+use Rattle.ppdb_merge_moved.proofs.RowImages.{moved_is_image}
+use Rattle.ppdb_merge_meaning_laws.specs.Alone.{ImagesAreCounted, MovedAloneIsSound}
+use Rattle.ppdb_merge_meaning_laws.specs.Kept.{MovedBy, FitsAlone, joined_inputs}
+use Rattle.ppdb_merge_meaning_laws.proofs.Counts.{moved_counts_sound}
+use Rattle.ppdb_merge_meaning_laws.proofs.Inputs.{can_be_joined, input_sound}
+use Rattle.ppdb_merge_meaning_laws.proofs.MovedRows.{some_moves, all_move}
+
+-- a dropped method moves to none
+none : (m : Map) (row : ℕ) → is_dropped m row ≡ true → moved_row m 0x06 row ≡ 0
+none m zero drop = refl
+none m (suc row) drop = ap (λ b. cond (nat_eq (suc row) 0) 0 (unwrap_or (cond b None (images_of (suc row))) 0)) drop ∙ same (nat_eq (suc row) 0)
+  where
+    images_of : ℕ → Option ℕ
+    images_of r = elim (count_of m 0x06) as (λ _. Option ℕ) [ None ↦ Some r | Some count ↦ row_line m 0x06 r ]
+
+    same : (b : Bool) → ◌≡◌ {A = ℕ} (cond b 0 0) 0
+    same true = refl
+    same false = refl
+
+module _ (annotated : SoundnessIsAnnotated) (law : JoinedIsSound) (input : MovedBy) (fits : FitsAlone (true, input)) (counted : ImagesAreCounted (true, input)) where
+  abbrev m : Map
+  m = input.map
+
+  abbrev file : AnnotatedFile
+  file = annotated_file input.value
+
+  abbrev moved : AnnotatedFile
+  moved = moved_file m file
+
+  abbrev In : Named → Type 0
+  In n = Contains (named_rows true m file) n
+
+  abbrev Within : Named → Type 0
+  Within n = n.row ≤ slice_index moved.rows n.table
+
+  entry_small : file.entry ≤ 16777215
+  entry_small = let most = fits.sound.rows.most 0x06 in let entry = fits.sound.entry in omega (arith, most, entry)
+
+  moves : (table row : ℕ) → In (names table row) → Within (names table (moved_row m table row))
+  moves table row is =
+      let imaged = in_each (IsImaged m) (named_rows true m file) (names table row) fits.fits.images is in
+      let low = in_each (λ n. (1 ≤ n.row) × (n.row ≤ 16777215)) (named_rows true m file) (names table row)
+      (named_rows_are_rows true m file (input_sound annotated (true, input) fits) entry_small) is in
+      let small = in_each (λ n. (image : ℕ) → row_image m n.table n.row ≡ Some image → image ≤ slice_index moved.rows n.table)
+      (named_rows true m file) (names table row) counted is in
+      subst (λ r. r ≤ slice_index moved.rows table) (sym (moved_is_image m table row imaged.0 low.0 imaged.1)) (small imaged.0 imaged.1)
+
+  parts : NamedParts In true m file
+  parts = named_parts In true m file (each_in In (named_rows true m file) (λ n is. is))
+
+  entry_moves : Each Within (names_some 0x06 moved.entry)
+  entry_moves = by_drop (is_dropped m file.entry) refl parts.entry
+    where
+      by_drop : (b : Bool) → is_dropped m file.entry ≡ b → Each In (names_some 0x06 (cond b 0 file.entry))
+          → Each Within (names_some 0x06 (moved_row m 0x06 file.entry))
+      by_drop true drop each = subst (λ row. Each Within (names_some 0x06 row)) (sym (none m file.entry drop)) tt
+      by_drop false drop each = some_moves m In Within moves 0x06 file.entry each
+
+  entry_there : moved.entry ≤ slice_index moved.rows 0x06
+  entry_there = by (nat_eq moved.entry 0) refl entry_moves
+    where
+      by : (b : Bool) → nat_eq moved.entry 0 ≡ b → Each Within (cond b [] (names 0x06 moved.entry ∷ [])) → moved.entry ≤ slice_index moved.rows 0x06
+      by true zero_entry each = let is = eqb-true moved.entry 0 zero_entry in omega (arith, is)
+      by false some each = each.0
+
+  counts : CountsRows moved (moved ∷ [])
+  counts = record {
+    rows = moved_counts_sound m fits.ready input.value.rows fits.sound.rows;
+    entry = entry_there;
+    named = (all_move m In Within moves true file parts, tt);
+  }
+
+  pub sound_alone : IsSound (joined_inputs (input ∷ []))
+  sound_alone = annotated.value (joined (moved ∷ [])) (law moved [] (can_be_joined annotated ((true, input) ∷ []) (fits, tt) (tt, tt) (tt, tt)) counts)
+
+pub moved_alone_is_sound : SoundnessIsAnnotated → JoinedIsSound → MovedAloneIsSound
+moved_alone_is_sound annotated law = λ input fits counted. sound_alone annotated law input fits counted

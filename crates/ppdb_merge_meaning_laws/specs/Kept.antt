@@ -1,0 +1,87 @@
+-- What joined files keep of their inputs: what each said of a method at an IL offset that its map keeps.
+use Rattle.std.specs.Prelude.{◌≡◌, ℕ, Bool, true, false, List, [], ◌∷◌, Some, Contains, map}
+use Rattle.ppdb_base.specs.Offsets.{Kept}
+use Rattle.ppdb_maps.specs.Map.{Map, moved_row, row_image, offsets_in}
+use Rattle.ppdb_maps.specs.Readable.{IsReadable}
+use Rattle.sequence_points.specs.declared.point.Point.{Point}
+use Rattle.ppdb_values.specs.declared.file.FileValue.{FileValue}
+use Rattle.ppdb_values.specs.Links.{links}
+use Rattle.ppdb_values.specs.Meaning.{meaning}
+use Rattle.ppdb_values.specs.Parts.{points_of}
+use Rattle.ppdb_values_sound_laws.specs.Sound.{IsSound}
+use Rattle.ppdb_merge_items.specs.declared.file.AnnotatedFile.{AnnotatedFile}
+use Rattle.ppdb_merge_items.specs.Each.{Each, Pairs}
+use Rattle.ppdb_merge_items.specs.NamedRows.{Named, names, named_rows}
+use Rattle.ppdb_merge_items.specs.Annotated.{annotated_file}
+use Rattle.ppdb_merge_items.specs.Unannotated.{value_of_annotated}
+use Rattle.ppdb_merge_joined.specs.Joinable.{AgreeOnDocuments}
+use Rattle.ppdb_merge_joined.specs.Joined.{joined}
+use Rattle.ppdb_merge_moved.specs.Fits.{Fits}
+use Rattle.ppdb_merge_moved.specs.Images.{meaning_image, links_image}
+use Rattle.ppdb_merge_moved.specs.Moved.{moved_file}
+
+-- what a file says, and the map by which it is moved
+pub record MovedBy : Type 0 where
+  pub value : FileValue
+  pub map : Map
+
+-- an input, and whether it is the first: its entry point alone counts
+abbrev pub Input : Type 0
+Input = Bool × MovedBy
+
+-- inputs in order
+abbrev pub in_turn : List MovedBy → List Input
+in_turn [] = []
+in_turn (first ∷ others) = (true, first) ∷ map (λ input. (false, input)) others
+
+-- the rows of the type system that an input names
+abbrev pub named_by : Input → List Named
+named_by input = named_rows input.0 input.1.map (annotated_file input.1.value)
+
+abbrev pub NamesMethod : Input → ℕ → Type 0
+NamesMethod input method = Contains (named_by input) (names 0x06 method)
+
+-- ---- inputs that fit
+
+-- A sound file, and a readable map that fits it.
+pub record FitsAlone (input : Input) : Type 0 where
+  pub sound : IsSound input.1.value
+  pub ready : IsReadable input.1.map
+  pub fits : Fits input.0 input.1.map (annotated_file input.1.value)
+
+-- no method of the one has the image of a method of the other
+abbrev pub MethodsApart : Input → Input → Type 0
+MethodsApart a b = (method other image : ℕ) → NamesMethod a method → NamesMethod b other → row_image a.1.map 0x06 method ≡ Some image
+    → row_image b.1.map 0x06 other ≡ Some image → ⊥
+
+pub record InputsFit (inputs : List MovedBy) : Type 0 where
+  pub each : Each FitsAlone (in_turn inputs)
+  pub methods_apart : Pairs MethodsApart (in_turn inputs)
+  pub documents_agree : Pairs (λ a b. AgreeOnDocuments (annotated_file a.1.value) (annotated_file b.1.value)) (in_turn inputs)
+
+-- ---- the file that they make
+
+abbrev pub moved_input : Input → AnnotatedFile
+moved_input input = moved_file input.1.map (annotated_file input.1.value)
+
+abbrev pub joined_inputs : List MovedBy → FileValue
+joined_inputs inputs = value_of_annotated (joined (map moved_input (in_turn inputs)))
+
+-- ---- what it keeps
+
+-- For each input, each method that it names and each offset that its map keeps, the value says at the offset's image, of the method's
+-- image, the image of what the input says; and what is linked to the method's image is the image of what is linked to the method. A
+-- point that stands at a kept offset stands at that offset's image, with its span.
+pub record KeepsMeaning (inputs : List MovedBy) (value : FileValue) : Type 0 where
+  pub meanings : (input : Input) (method x y : ℕ) → Contains (in_turn inputs) input → NamesMethod input method → Kept (offsets_in input.1.map method) x y
+      → meaning value (moved_row input.1.map 0x06 method) y ≡ meaning_image input.1.map method (meaning input.1.value method x)
+  pub all_links : (input : Input) (method : ℕ) → Contains (in_turn inputs) input → NamesMethod input method
+      → links value (moved_row input.1.map 0x06 method) ≡ links_image input.0 input.1.map method (links input.1.value method)
+  pub points : (input : Input) (method x y : ℕ) (p : Point) → Contains (in_turn inputs) input → NamesMethod input method
+      → Kept (offsets_in input.1.map method) x y
+      → Contains (points_of input.1.value method) p → p.offset ≡ x
+      → (q : Point) × Contains (points_of value (moved_row input.1.map 0x06 method)) q × (q.offset ≡ y) × (q.span ≡ p.span)
+
+-- Inputs that fit are joined to a file that keeps what they say.
+abbrev pub InputsKeepMeaning : Type 0
+InputsKeepMeaning = (inputs : List MovedBy) → InputsFit inputs → KeepsMeaning inputs (joined_inputs inputs)

@@ -1,0 +1,54 @@
+-- Where what joined files say comes from: of each method from one input, and on any other row from all that have records on it.
+use Rattle.std.specs.Prelude.{◌≡◌, ℕ, ◌<◌, ◌⊎◌, List, [], ◌∷◌, Some, Contains, map, filter, flat_map}
+use Rattle.ppdb_maps.specs.Map.{moved_row}
+use Rattle.ppdb_tables.specs.RawTables.{row_at}
+use Rattle.ppdb_values.specs.declared.file.DocumentValue.{DocumentValue}
+use Rattle.ppdb_values.specs.declared.file.FileValue.{FileValue}
+use Rattle.ppdb_values.specs.declared.custom.CustomValue.{CustomValue}
+use Rattle.ppdb_values.specs.declared.annotation.Custom.{Custom}
+use Rattle.ppdb_values.specs.Meaning.{annotated_on, without_parent}
+use Rattle.ppdb_values.specs.Parts.{is_at}
+use Rattle.ppdb_merge_items.specs.Each.{Each}
+use Rattle.ppdb_merge_items.specs.Annotated.{annotated_file}
+use Rattle.ppdb_merge_joined.specs.Joinable.{methods_of}
+use Rattle.ppdb_merge_joined.specs.Joined.{firsts, customs_named, joined_rows, row_in, renumbered_custom}
+use Rattle.ppdb_merge_joined.specs.Same.{fresh, same_custom}
+use Rattle.ppdb_merge_moved.specs.Laws.{IsImageOfNamed}
+use Rattle.ppdb_merge_meaning_laws.specs.Kept.{MovedBy, Input, InputsFit, in_turn, moved_input, joined_inputs}
+
+-- P of one item, and of no other
+abbrev pub OfOne : {A : Type 0} → (A → Type 0) → List A → Type 0
+OfOne P [] = ⊥
+OfOne P (x ∷ xs) = (P x × Each (λ other. ¬ (P other)) xs) ⊎ (¬ (P x) × OfOne P xs)
+
+-- the row is the image of a method that the input names
+abbrev pub IsImageFrom : ℕ → Input → Type 0
+IsImageFrom row input = IsImageOfNamed input.0 input.1.map (annotated_file input.1.value) row
+
+-- the entry point that the first input's has become, and 0 for none where there is no input
+abbrev pub entry_of : List MovedBy → ℕ
+entry_of [] = 0
+entry_of (first ∷ others) = moved_row first.map 0x06 first.value.entry
+
+-- the records of a moved input on a row; the documents in them are given by the rows that they have among the joined ones
+abbrev pub records_from : List DocumentValue → ℕ → ℕ → Input → List Custom
+records_from documents table row input =
+    map (λ (c : CustomValue). without_parent (renumbered_custom (row_in (joined_rows documents (moved_input input))) c))
+    (filter (λ (c : CustomValue). is_at table row c.parent) (moved_input input).customs)
+
+-- The entry point is the first input's, moved (Portable PDB v1.0, "#Pdb stream": EntryPoint).
+-- Each method that has points, scopes, state machines or custom records is the image of a method that one input alone names. The documents are
+-- those of the inputs, the first of each name. The records on a row of the tables 00 to 2c, and on a document, are the moved records of
+-- the inputs in order, without those that equal one of an earlier input (Portable PDB v1.0, "CustomDebugInformation Table").
+pub record KeepsOrigins (inputs : List MovedBy) (value : FileValue) : Type 0 where
+  pub entry : value.entry ≡ entry_of inputs
+  pub methods : (row : ℕ) → Contains (methods_of (annotated_file value)) row → OfOne (IsImageFrom row) (in_turn inputs)
+  pub documents : value.documents ≡ firsts [] (flat_map (λ (input : MovedBy). input.value.documents) inputs)
+  pub customs : (table row : ℕ) → table < 0x2d
+      → annotated_on value table row ≡ fresh same_custom [] (map (records_from value.documents table row) (in_turn inputs))
+  pub on_documents : (row : ℕ) (d : DocumentValue) → row_at value.documents row ≡ Some d
+      → annotated_on value 0x30 row ≡ fresh same_custom [] (map (λ (input : Input). customs_named d.name (moved_input input)) (in_turn inputs))
+
+-- Inputs that fit are joined to a file whose parts come from them.
+abbrev pub InputsKeepOrigins : Type 0
+InputsKeepOrigins = (inputs : List MovedBy) → InputsFit inputs → KeepsOrigins inputs (joined_inputs inputs)

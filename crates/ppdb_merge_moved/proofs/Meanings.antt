@@ -1,0 +1,80 @@
+-- A file moved by a map means at a kept offset's image the image of what the file meant.
+use Rattle.std.proofs.Common.{◌≡◌, ℕ, ◌≤◌, ◌≢◌, ◌&&◌, Bool, true, false, cond, List, [], ◌∷◌, refl, sym, ◌∙◌, ap, arith, subst, map, length, suc}
+use Rattle.std.specs.Prelude.{nat_eq}
+use Rattle.ppdb_base.specs.Offsets.{gone, Rise, Kept, old_size}
+use Rattle.ppdb_maps.specs.Map.{Map, moved_row, offsets_in}
+use Rattle.ppdb_values.specs.declared.import.ImportScopeValue.{ImportScopeValue}
+use Rattle.ppdb_values.specs.declared.annotation.Annotation.{Annotation}
+use Rattle.ppdb_merge_items.specs.declared.file.AnnotatedScope.{AnnotatedScope}
+use Rattle.ppdb_merge_items.specs.declared.file.AnnotatedFile.{AnnotatedFile}
+use Rattle.ppdb_merge_items.specs.Annotated.{with_item}
+use Rattle.ppdb_merge_moved.specs.Moved.{moved_import, moved_import_scope, scope_image, moved_file}
+use Rattle.ppdb_merge_moved.specs.Images.{scope_image as scope_image_meaning}
+use Rattle.ppdb_merge_items.specs.AnnotatedMeaning.{chain, imported, scope_meaning, scopes_at, held as holds}
+use Rattle.ppdb_merge_moved.specs.FitsMethod.{FitsScope}
+use Rattle.ppdb_merge_items.specs.Sorted.{in_order}
+use Rattle.ppdb_merge_items.specs.Each.{Each}
+use Rattle.ppdb_values.specs.Chains.{chain_of}
+use Rattle.ppdb_merge_items.proofs.Mapped.{chain_of_map, map_map_both}
+use Rattle.ppdb_merge_moved.proofs.Scopes.{scopes_kept}
+use Rattle.ppdb_merge_items.proofs.Orders.{in_order_keeps}
+use Rattle.std.proofs.lemmas.Bool.{eqb-true, and_parts}
+
+-- the chain of moved imports is the chain, moved
+chain_moved : (m : Map) (imports : List (Annotation ImportScopeValue)) (row : ℕ)
+    → chain (map (with_item (moved_import_scope m)) imports) row ≡ map (with_item (moved_import_scope m)) (chain imports row)
+chain_moved m imports row =
+    ap (map (λ (link : ℕ × Annotation ImportScopeValue). link.1))
+    (chain_of_map (with_item (moved_import_scope m)) (λ n. n.item.parent) (λ n. n.item.parent) (λ x. refl) imports row)
+    ∙ map_map_both (λ (link : ℕ × Annotation ImportScopeValue). link.1) (λ link. (link.0, with_item (moved_import_scope m) link.1))
+    (chain_of (λ n. n.item.parent) imports row)
+    ∙ sym (map_map_both (with_item (moved_import_scope m)) (λ (link : ℕ × Annotation ImportScopeValue). link.1) (chain_of (λ n. n.item.parent) imports row))
+
+length_map : {A B : Type 0} (f : A → B) (xs : List A) → length (map f xs) ≡ length xs
+length_map f [] = refl
+length_map f (x ∷ xs) = ap suc (length_map f xs)
+
+imported_moved : (m : Map) (links : List (Annotation ImportScopeValue))
+    → map imported (map (with_item (moved_import_scope m)) links) ≡ map (with_item (map (moved_import m))) (map imported links)
+imported_moved m [] = refl
+imported_moved m (l ∷ ls) = ap (λ r. record { item = map (moved_import m) l.item.imports; customs = l.customs } ∷ r) (imported_moved m ls)
+
+scope_moved : (m : Map) (w : AnnotatedFile) (s : AnnotatedScope) → scope_meaning (moved_file m w) (scope_image m s) ≡ scope_image_meaning m s.method (scope_meaning w s)
+scope_moved m w s =
+    let imports : chain (map (with_item (moved_import_scope m)) w.imports) s.import ≡ map (with_item (moved_import_scope m)) (chain w.imports s.import) =
+    chain_moved m w.imports s.import in
+    ap (λ l. record (scope_image_meaning m s.method (scope_meaning w s)) { imports = l })
+    (ap (map imported) imports ∙ imported_moved m (chain w.imports s.import))
+
+scopes_moved : (m : Map) (w : AnnotatedFile) (method x : ℕ) (ss : List AnnotatedScope)
+    → map (scope_meaning (moved_file m w)) (map (scope_image m) (scopes_at method x ss))
+    ≡ map (scope_image_meaning m method) (map (scope_meaning w) (scopes_at method x ss))
+scopes_moved m w method x [] = refl
+scopes_moved m w method x (s ∷ ss) = step (nat_eq s.method method && holds x s.range) refl (scopes_moved m w method x ss)
+  where
+    step : (b : Bool) → nat_eq s.method method && holds x s.range ≡ b
+        → map (scope_meaning (moved_file m w)) (map (scope_image m) (scopes_at method x ss))
+        ≡ map (scope_image_meaning m method) (map (scope_meaning w) (scopes_at method x ss))
+        → map (scope_meaning (moved_file m w)) (map (scope_image m) (cond b (s ∷ scopes_at method x ss) (scopes_at method x ss)))
+        ≡ map (scope_image_meaning m method) (map (scope_meaning w) (cond b (s ∷ scopes_at method x ss) (scopes_at method x ss)))
+    step false is rest = rest
+    step true is rest =
+        let same : s.method ≡ method = eqb-true s.method method (and_parts (nat_eq s.method method) (holds x s.range) is).0 in
+        let first : scope_meaning (moved_file m w) (scope_image m s) ≡ scope_image_meaning m method (scope_meaning w s) =
+        subst (λ n. scope_meaning (moved_file m w) (scope_image m s) ≡ scope_image_meaning m n (scope_meaning w s)) same (scope_moved m w s) in
+        ap (λ h. h ∷ map (scope_meaning (moved_file m w)) (map (scope_image m) (scopes_at method x ss))) first
+        ∙ ap (λ l. scope_image_meaning m method (scope_meaning w s) ∷ l) rest
+
+-- the scopes' part of the meaning
+pub scopes_mean : (m : Map) (w : AnnotatedFile) (method : ℕ) → Rise (offsets_in m method) → (offsets_in m method ≢ gone) → (x y : ℕ)
+    → Kept (offsets_in m method) x y → x ≤ old_size (offsets_in m method)
+    → Each (FitsScope m method) w.scopes
+    → map (scope_meaning (moved_file m w)) (scopes_at (moved_row m 0x06 method) y (moved_file m w).scopes)
+    ≡ map (scope_image_meaning m method) (map (scope_meaning w) (scopes_at method x w.scopes))
+scopes_mean m w method rise live x y kept at fits =
+    ap (map (scope_meaning (moved_file m w))) (scopes_kept m method rise live x y kept at w.scopes fits) ∙ scopes_moved m w method x w.scopes
+
+-- sets of scopes in order by their methods hold the same ones at an offset
+pub scopes_ordered : (method x : ℕ) (ss : List AnnotatedScope) → scopes_at method x (in_order (λ (s : AnnotatedScope). s.method) ss) ≡ scopes_at method x ss
+scopes_ordered method x ss = in_order_keeps (λ (s : AnnotatedScope). s.method) _
+    (λ a b p q. omega (arith, eqb-true a.method method (and_parts _ _ p).0, eqb-true b.method method (and_parts _ _ q).0)) ss

@@ -1,0 +1,149 @@
+-- The rows that a sound file names are rows.
+use Rattle.std.proofs.Common.{◌≡◌, ℕ, zero, suc, ◌≤◌, Bool, true, false, cond, List, [], ◌∷◌, map, flat_map, refl, subst, arith}
+use Rattle.std.specs.Prelude.{nat_eq}
+use Rattle.std.specs.List.{filter}
+use Rattle.std.proofs.lemmas.Bool.{eqb-false}
+use Rattle.type_blobs.specs.declared.types.TypeToken.{TypeToken}
+use Rattle.type_blobs.specs.declared.types.Modifier.{Modifier}
+use Rattle.type_blobs.specs.Spelling.{IsBody, IsBodyThere}
+use Rattle.custom_info.specs.AsyncStepping.{IsStep}
+use Rattle.custom_info.specs.Kinds.{kind_of}
+use Rattle.custom_info.specs.declared.kinds.Kind.{Kind}
+use Rattle.custom_info.specs.declared.kinds.Kind.TheVariants as kinds
+use Rattle.custom_info.specs.declared.stepping.AsyncStep.{AsyncStep}
+use Rattle.ppdb_maps.specs.Map.{Map, is_dropped}
+use Rattle.ppdb_tables.specs.declared.rows.MachineRow.{MachineRow}
+use Rattle.ppdb_values.specs.declared.custom.CustomBody.{CustomBody}
+use Rattle.ppdb_values.specs.declared.custom.CustomBody.TheVariants.{Async, Hoisted, TypeDocuments, Unread}
+use Rattle.ppdb_values.specs.declared.custom.CustomValue.{CustomValue}
+use Rattle.ppdb_values.specs.declared.file.FileValue.{FileValue}
+use Rattle.ppdb_values.specs.declared.file.MethodValue.{MethodValue}
+use Rattle.ppdb_values.specs.declared.import.ImportScopeValue.{ImportScopeValue}
+use Rattle.ppdb_values.specs.declared.import.ImportValue.{ImportValue}
+use Rattle.ppdb_values.specs.declared.import.ImportValue.TheVariants.{Namespace, AssemblyNamespace, Target, Xml, Alias, AssemblyAlias, NamespaceAlias}
+use Rattle.ppdb_values.specs.declared.import.ImportValue.TheVariants.{AssemblyNamespaceAlias, TargetAlias}
+use Rattle.ppdb_values.specs.declared.annotation.Annotation.{Annotation}
+use Rattle.ppdb_values.specs.declared.scope.ConstantValue.{ConstantValue}
+use Rattle.ppdb_values.specs.declared.scope.ConstantBody.{ConstantBody}
+use Rattle.ppdb_values.specs.declared.scope.ConstantBody.TheVariants.{Primitive, Enumerated, General, Object}
+use Rattle.ppdb_values_sound_laws.specs.Customs.{IsBodyOfKind}
+use Rattle.ppdb_values_sound_laws.specs.Imports.{SoundImport}
+use Rattle.ppdb_values_sound_laws.specs.Named.{count, HasType, type_limits}
+use Rattle.ppdb_values_sound_laws.specs.Scopes.{SoundConstant, stored_body}
+use Rattle.ppdb_merge_items.specs.declared.file.AnnotatedScope.{AnnotatedScope}
+use Rattle.ppdb_merge_items.specs.declared.file.AnnotatedFile.{AnnotatedFile}
+use Rattle.ppdb_merge_items.specs.Each.{Each}
+use Rattle.ppdb_merge_items.specs.NamedRows.{Named, names, names_some, in_token, in_body, in_constant, in_import, in_steps, in_entry, all_named}
+use Rattle.ppdb_merge_items.specs.NamedRows.{live_file, live_method, live_scope, live_machine, live_custom}
+use Rattle.ppdb_merge_items.specs.Annotated.{items_of}
+use Rattle.ppdb_merge_items.specs.Unannotated.{value_of_annotated}
+use Rattle.ppdb_merge_items.proofs.Lists.{Each-append, Each-filter, Each-map, Each-weaker, each_row}
+use Rattle.ppdb_merge_moved.specs.Laws.{NamedRowsAreRows}
+use Rattle.ppdb_merge_moved.proofs.RowImages.{count_most}
+use Rattle.ppdb_merge_moved.proofs.SoundItems.{most, each_all}
+
+abbrev IsThere : Named → Type 0
+IsThere n = (1 ≤ n.row) × (n.row ≤ 16777215)
+
+each_flat : {A B : Type 0} (f : A → List B) (P : B → Type 0) (xs : List A) → Each (λ x. Each P (f x)) xs → Each P (flat_map f xs)
+each_flat f P [] each = tt
+each_flat f P (x ∷ xs) each = Each-append P (f x) (flat_map f xs) each.0 (each_flat f P xs each.1)
+
+live_flat : {A B : Type 0} (live : A → Bool) (f : A → List B) (P : B → Type 0) (Q : A → Type 0) → ((x : A) → Q x → Each P (f x)) → (xs : List A) → Each Q xs
+    → Each P (flat_map f (filter live xs))
+live_flat live f P Q holds xs each = each_flat f P (filter live xs) (Each-filter Q (λ x. Each P (f x)) live (λ x is q. holds x q) xs each)
+
+some_there : (table row : ℕ) → row ≤ 16777215 → Each IsThere (names_some table row)
+some_there table row below = step (nat_eq row 0) refl
+  where
+    positive : (row : ℕ) → (row ≡ 0 → ⊥) → 1 ≤ row
+    positive zero none = absurd (none refl)
+    positive (suc row) none = omega arith
+
+    step : (b : Bool) → nat_eq row 0 ≡ b → Each IsThere (cond b [] (names table row ∷ []))
+    step true is = tt
+    step false is = ((positive row (eqb-false row 0 is), below), tt)
+
+token_there : (v : FileValue) (t : TypeToken) → HasType (most v) t → IsThere (in_token t)
+token_there v t has = (has.1.0, has.0.1)
+
+body_there : (v : FileValue) (b : ConstantBody) → IsBody (stored_body b) → IsBodyThere (type_limits (most v)) (stored_body b) → Each IsThere (in_body b)
+body_there v (Primitive code value) is there = tt
+body_there v (Enumerated code value target) is there = (token_there v target (is.2, there), tt)
+body_there v (General code target rest) is there = (token_there v target (is.1, there), tt)
+body_there v Object is there = tt
+
+modifiers_there : (v : FileValue) (ms : List Modifier) → Each (λ (x : Modifier). HasType (most v) x.target) ms
+    → Each IsThere (map (λ (x : Modifier). in_token x.target) ms)
+modifiers_there v [] each = tt
+modifiers_there v (x ∷ xs) each = (token_there v x.target each.0, modifiers_there v xs each.1)
+
+constant_there : (v : FileValue) (n : Annotation ConstantValue) → SoundConstant (most v) n.item → Each IsThere (in_constant n)
+constant_there v n sound = Each-append IsThere (map (λ (x : Modifier). in_token x.target) n.item.modifiers) (in_body n.item.body)
+    (modifiers_there v n.item.modifiers (each_all (λ (x : Modifier). HasType (most v) x.target) n.item.modifiers sound.modifiers))
+    (body_there v n.item.body sound.body sound.body_there)
+
+import_there : (v : FileValue) (i : ImportValue) → SoundImport (most v) i → Each IsThere (in_import i)
+import_there v (Namespace namespace) sound = tt
+import_there v (AssemblyNamespace assembly namespace) sound = ((sound.0, sound.1), tt)
+import_there v (Target target) sound = (token_there v target sound, tt)
+import_there v (Xml alias namespace) sound = tt
+import_there v (Alias alias) sound = tt
+import_there v (AssemblyAlias alias assembly) sound = ((sound.0, sound.1), tt)
+import_there v (NamespaceAlias alias namespace) sound = tt
+import_there v (AssemblyNamespaceAlias alias assembly namespace) sound = ((sound.0, sound.1), tt)
+import_there v (TargetAlias alias target) sound = (token_there v target sound, tt)
+
+steps_there : (v : FileValue) (steps : List AsyncStep) → Each (λ (s : AsyncStep). IsStep s × (s.method ≤ count (most v) 0x06)) steps
+    → Each IsThere (map (λ (s : AsyncStep). names 0x06 s.method) steps)
+steps_there v [] each = tt
+steps_there v (s ∷ ss) each = ((each.0.0.2, each.0.1), steps_there v ss each.1)
+
+record_there : (v : FileValue) (kind : Kind) (b : CustomBody) → IsBodyOfKind (most v) kind b → Each IsThere (in_steps b)
+record_there v kinds.Async (Async handler steps) sound = steps_there v steps
+    (each_all (λ (s : AsyncStep). IsStep s × (s.method ≤ count (most v) 0x06)) steps sound.1)
+record_there v kinds.Hoisted (Async handler steps) sound = absurd sound
+record_there v kinds.TypeDocuments (Async handler steps) sound = absurd sound
+record_there v kinds.Free (Async handler steps) sound = absurd sound
+record_there v kinds.Unknown (Async handler steps) sound = absurd sound
+record_there v kind (Hoisted slots) sound = tt
+record_there v kind (TypeDocuments rows) sound = tt
+record_there v kind (Unread bytes) sound = tt
+
+entry_there : (first : Bool) (m : Map) (w : AnnotatedFile) → w.entry ≤ 16777215 → Each IsThere (in_entry first (live_file m w))
+entry_there false m w below = tt
+entry_there true m w below = some_there 0x06 (cond (is_dropped m w.entry) 0 w.entry) (by_drop (is_dropped m w.entry))
+  where
+    by_drop : (b : Bool) → cond b 0 w.entry ≤ 16777215
+    by_drop true = omega arith
+    by_drop false = below
+
+pub named_rows_are_rows : NamedRowsAreRows
+named_rows_are_rows first m w sound below =
+    Each-append IsThere (in_entry first (live_file m w)) (all_named (live_file m w)) (entry_there first m w below)
+    (Each-append IsThere _ _ (live_flat (live_method m) (λ (e : MethodValue). names 0x06 e.method ∷ names_some 0x11 e.signature) IsThere _
+    (λ e s. ((s.row.0, s.row.1), some_there 0x11 e.signature s.signature)) w.methods sound.methods)
+    (Each-append IsThere _ _ (Each-map (λ (s : AnnotatedScope). names 0x06 s.method) IsThere (filter (live_scope m) w.scopes)
+    (Each-filter _ (λ (s : AnnotatedScope). IsThere (names 0x06 s.method)) (live_scope m)
+    (λ s is sound_s. (sound_s.itself.method.0, sound_s.itself.method.1)) w.scopes sound.scopes))
+    (Each-append IsThere _ _ (live_flat (live_scope m) (λ (s : AnnotatedScope). flat_map in_constant s.constants) IsThere _
+    (λ s sound_s. each_flat in_constant IsThere s.constants
+    (constants_there (value_of_annotated w) s.constants (each_row _ (items_of s.constants) sound_s.itself.constants))) w.scopes sound.scopes)
+    (Each-append IsThere _ _ (each_flat (λ (i : Annotation ImportScopeValue). flat_map in_import i.item.imports) IsThere w.imports
+    (Each-weaker _ (λ (i : Annotation ImportScopeValue). Each IsThere (flat_map in_import i.item.imports))
+    (λ i s. each_flat in_import IsThere i.item.imports
+    (Each-weaker _ (λ n. Each IsThere (in_import n)) (import_there (value_of_annotated w)) i.item.imports
+    (each_row _ i.item.imports s.0.imports))) w.imports sound.imports))
+    (Each-append IsThere _ _ (live_flat (live_machine m) (λ (r : MachineRow). names 0x06 r.move_next ∷ names 0x06 r.kickoff ∷ []) IsThere _
+    (λ r s. ((s.move_next.0, s.move_next.1), ((s.kickoff.0, s.kickoff.1), tt))) w.machines sound.machines)
+    (live_flat (live_custom m) (λ (c : CustomValue). names c.parent.table c.parent.row ∷ in_steps c.value) IsThere _
+    (λ c s. (
+      (s.1.parent.0, subst (λ n. c.parent.row ≤ n) (count_most (value_of_annotated w) c.parent.table s.0) s.1.parent.1),
+      record_there (value_of_annotated w)
+          (kind_of [] c.kind) c.value s.1.body,
+    )) w.customs sound.customs))))))
+  where
+    constants_there : (v : FileValue) (ns : List (Annotation ConstantValue)) → Each (SoundConstant (most v)) (items_of ns)
+        → Each (λ n. Each IsThere (in_constant n)) ns
+    constants_there v [] each = tt
+    constants_there v (n ∷ ns) each = (constant_there v n each.0, constants_there v ns each.1)

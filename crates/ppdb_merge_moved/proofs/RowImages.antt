@@ -1,0 +1,85 @@
+-- The images of rows are rows.
+use Rattle.std.proofs.Common.{◌≡◌, ◌≢◌, ℕ, zero, suc, ◌<◌, ◌≤◌, ◌&&◌, Bool, true, false, cond, List, [], ◌∷◌, Option, Some, None, refl, sym, ◌∙◌}
+use Rattle.std.proofs.Common.{ap, subst, arith}
+use Rattle.std.specs.Prelude.{nat_eq, IfSome, unwrap_or, get_or}
+use Rattle.std.specs.List.{find, repeat, AllByRecursion}
+use Rattle.std.specs.Option.{option_map}
+use Rattle.std.proofs.lemmas.Bool.{ne_eqb}
+use Rattle.ppdb_maps.specs.declared.entries.RowImage.{RowImage}
+use Rattle.ppdb_maps.specs.Map.{Map, moved_row, row_image, row_line, count_of, is_dropped}
+use Rattle.ppdb_maps.specs.Readable.{IsReadable, IsRowOf}
+use Rattle.ppdb_values.specs.declared.file.FileValue.{FileValue}
+use Rattle.ppdb_values_sound_laws.specs.Named.{count}
+use Rattle.ppdb_merge_items.specs.NamedRows.{names}
+use Rattle.ppdb_merge_moved.specs.Fits.{IsImaged}
+
+-- ---- images
+
+pub found_holds : {A : Type 0} (P : A → Type 0) (p : A → Bool) (xs : List A) → AllByRecursion P xs → IfSome (find p xs) P
+found_holds P p [] all = tt
+found_holds P p (x ∷ xs) all = step (p x) (found_holds P p xs all.1)
+  where
+    step : (b : Bool) → IfSome (find p xs) P → IfSome (cond b (Some x) (find p xs)) P
+    step true rest = all.0
+    step false rest = rest
+
+pub image_in : (m : Map) → IsReadable m → (table row image : ℕ) → 1 ≤ row → row ≤ 16777215 → row_image m table row ≡ Some image
+    → (1 ≤ image) × (image ≤ 16777215)
+image_in m ready table row image above below is = by_drop (nat_eq table 0x06 && is_dropped m row) is
+  where
+    some_of : (a b : ℕ) → Some a ≡ Some b → a ≡ b
+    some_of a b e = cc
+
+    by_row : (o : Option RowImage) → IfSome o (IsRowOf m) → option_map (λ (r : RowImage). r.new) o ≡ Some image → (1 ≤ image) × (image ≤ 16777215)
+    by_row None holds e = absurd cc
+    by_row (Some r) holds e = subst (λ n. (1 ≤ n) × (n ≤ 16777215)) (some_of r.new image e) holds.1
+
+    by_count : (c : Option ℕ) → elim c as (λ _. Option ℕ) [ None ↦ Some row | Some count ↦ row_line m table row ] ≡ Some image
+        → (1 ≤ image) × (image ≤ 16777215)
+    by_count None e = subst (λ n. (1 ≤ n) × (n ≤ 16777215)) (some_of row image e) (above, below)
+    by_count (Some count) e = by_row (find (λ r. nat_eq r.table table && nat_eq r.old row) m.rows)
+        (found_holds (IsRowOf m) (λ r. nat_eq r.table table && nat_eq r.old row) m.rows ready.rows) e
+
+    by_drop : (b : Bool) → cond b None (elim (count_of m table) as (λ _. Option ℕ) [ None ↦ Some row | Some count ↦ row_line m table row ]) ≡ Some image
+        → (1 ≤ image) × (image ≤ 16777215)
+    by_drop true e = absurd cc
+    by_drop false e = by_count (count_of m table) e
+
+pub moved_is_image : (m : Map) (table row image : ℕ) → 1 ≤ row → row_image m table row ≡ Some image → moved_row m table row ≡ image
+moved_is_image m table row image above is =
+    ap (λ o. cond (nat_eq row 0) 0 (unwrap_or o 0)) is ∙ ap (λ b. cond b 0 image) (ne_eqb row 0 (λ e. absurd (omega (arith, above, e))))
+
+-- a row that has an image moves to a row
+pub row_moved : (m : Map) → IsReadable m → (table row : ℕ) → 1 ≤ row → row ≤ 16777215 → IsImaged m (names table row)
+    → (1 ≤ moved_row m table row) × (moved_row m table row ≤ 16777215)
+row_moved m ready table row above below image =
+    subst (λ n. (1 ≤ n) × (n ≤ 16777215)) (sym (moved_is_image m table row image.0 above image.1)) (image_in m ready table row image.0 above below image.1)
+
+-- and so does a number that may be 0 for none
+pub some_moved : (m : Map) → IsReadable m → (table row : ℕ) → row ≤ 16777215 → (row ≢ 0 → IsImaged m (names table row)) → moved_row m table row ≤ 16777215
+some_moved m ready table zero below image = omega arith
+some_moved m ready table (suc row) below image = (row_moved m ready table (suc row) (omega arith) below (image (λ e. absurd (omega (arith, e))))).1
+
+-- two rows with one image
+pub one_image : (m : Map) (table a b : ℕ) → 1 ≤ a → 1 ≤ b → (i : IsImaged m (names table a)) → IsImaged m (names table b)
+    → moved_row m table a ≡ moved_row m table b
+    → row_image m table b ≡ Some i.0
+one_image m table a b above also i j same =
+    j.1 ∙ ap Some (sym (moved_is_image m table b j.0 also j.1) ∙ sym same ∙ moved_is_image m table a i.0 above i.1)
+
+-- ---- how many rows the type system has
+
+at_repeat : (n i d x : ℕ) → i < n → get_or (repeat n (x ∷ [])) i d ≡ x
+at_repeat zero i d x less = absurd (omega (arith, less))
+at_repeat (suc n) zero d x less = refl
+at_repeat (suc n) (suc i) d x less = at_repeat n i d x (omega (arith, less))
+
+pub count_most : (value : FileValue) (table : ℕ) → table < 0x2d → count (record value { rows = repeat 64 (16777215 ∷ []) }) table ≡ 16777215
+count_most value table less =
+    rw (
+      ne_eqb table 0x30 (λ e. absurd (omega (arith, less, e))),
+      ne_eqb table 0x32 (λ e. absurd (omega (arith, less, e))),
+      ne_eqb table 0x33 (λ e. absurd (omega (arith, less, e))),
+      ne_eqb table 0x34 (λ e. absurd (omega (arith, less, e))),
+      ne_eqb table 0x35 (λ e. absurd (omega (arith, less, e))),
+    ) (at_repeat 64 table _ 16777215 (omega (arith, less)))

@@ -1,0 +1,289 @@
+-- The items of a sound file are sound after they have moved.
+use Rattle.std.proofs.Common.{◌≡◌, ◌≢◌, ℕ, ◌<◌, ◌≤◌, ◌⊎◌, Bool, true, false, cond, List, [], ◌∷◌, Option, Some, None, map, refl, sym}
+use Rattle.std.proofs.Common.{ap, subst, arith, inl, inr}
+use Rattle.std.specs.Prelude.{nat_eq, nat_lt, All, IfSome, get_or}
+use Rattle.std.specs.List.{repeat}
+use Rattle.std.specs.Option.{option_map}
+use Rattle.std.proofs.lemmas.Bool.{cases_lt, ltb-true, not-false}
+use Rattle.std.proofs.lemmas.List.Elements.{All-head, All-tail}
+use Rattle.ppdb_base.specs.Offsets.{Offsets, every, gone, lined, Rise, Kept, moved, old_size}
+use Rattle.ppdb_base.proofs.Moved.{moved_never_falls}
+use Rattle.type_blobs.specs.declared.types.TypeToken.{TypeToken}
+use Rattle.type_blobs.specs.declared.types.Modifier.{Modifier}
+use Rattle.type_blobs.specs.Types.{rows_of, tag_of}
+use Rattle.type_blobs.specs.Spelling.{IsBody, IsBodyThere}
+use Rattle.custom_info.specs.AsyncStepping.{IsHandler, IsStep}
+use Rattle.custom_info.specs.HoistedScopes.{IsSlot}
+use Rattle.custom_info.specs.declared.kinds.Kind.{Kind}
+use Rattle.custom_info.specs.declared.kinds.Kind.TheVariants as kinds
+use Rattle.custom_info.specs.declared.slots.Range.{Range}
+use Rattle.custom_info.specs.declared.slots.Slot.{Slot}
+use Rattle.custom_info.specs.declared.slots.Slot.TheVariants.{Empty, Held}
+use Rattle.custom_info.specs.declared.stepping.AsyncStep.{AsyncStep}
+use Rattle.ppdb_maps.specs.Map.{Map, MethodLine, moved_row, offsets_in, is_dropped, line_offsets, method_line}
+use Rattle.ppdb_maps.specs.Readable.{IsReadable, IsLineOf}
+use Rattle.ppdb_values.specs.declared.file.FileValue.{FileValue}
+use Rattle.ppdb_values.specs.declared.scope.ConstantValue.{ConstantValue}
+use Rattle.ppdb_values.specs.declared.scope.ConstantBody.{ConstantBody}
+use Rattle.ppdb_values.specs.declared.scope.ConstantBody.TheVariants.{Primitive, Enumerated, General, Object}
+use Rattle.ppdb_values.specs.declared.import.ImportValue.{ImportValue}
+use Rattle.ppdb_values.specs.declared.import.ImportValue.TheVariants.{Namespace, AssemblyNamespace, Target, Xml, Alias, AssemblyAlias, NamespaceAlias}
+use Rattle.ppdb_values.specs.declared.import.ImportValue.TheVariants.{AssemblyNamespaceAlias, TargetAlias}
+use Rattle.ppdb_values.specs.declared.custom.CustomBody.{CustomBody}
+use Rattle.ppdb_values.specs.declared.custom.CustomBody.TheVariants.{Async, Hoisted, TypeDocuments, Unread}
+use Rattle.ppdb_values.specs.declared.annotation.Annotation.{Annotation}
+use Rattle.ppdb_values.specs.Ranges.{ComesAfter, IsInOrAfter}
+use Rattle.ppdb_values_sound_laws.specs.Customs.{IsBodyOfKind}
+use Rattle.ppdb_values_sound_laws.specs.Imports.{SoundImport}
+use Rattle.ppdb_values_sound_laws.specs.Named.{count, HasRow, HasType, type_limits}
+use Rattle.ppdb_values_sound_laws.specs.Scopes.{SoundConstant, stored_body}
+use Rattle.ppdb_merge_items.specs.Each.{Each}
+use Rattle.ppdb_merge_items.specs.NamedRows.{names, in_token, in_body, in_constant, in_import, in_steps}
+use Rattle.ppdb_merge_moved.specs.Fits.{IsImaged, KeepsStep, KeepsAsync, EndsWithin, AreWithin}
+use Rattle.ppdb_merge_moved.specs.Moved.{moved_range, is_empty, moved_slot, moved_step, moved_body, moved_token, moved_modifier, moved_constant_body}
+use Rattle.ppdb_merge_moved.specs.Moved.{moved_constant, moved_import}
+use Rattle.ppdb_merge_moved.proofs.Elements.{each_parts}
+use Rattle.ppdb_merge_moved.proofs.Means.{kept_within}
+use Rattle.ppdb_merge_moved.proofs.RisingPoints.{all_each, size_moved, itself_moved}
+use Rattle.ppdb_merge_moved.proofs.RowImages.{row_moved, found_holds}
+
+-- a value whose type system has as many rows as may be
+abbrev pub most : FileValue → FileValue
+most value = record value { rows = repeat 64 (16777215 ∷ []) }
+
+pub each_all : {A : Type 0} (P : A → Type 0) (xs : List A) → All P xs → Each P xs
+each_all P [] all = tt
+each_all P (x ∷ xs) all = (All-head P x xs all, each_all P xs (All-tail P x xs all))
+
+-- ---- offsets
+
+SizeFits : Offsets → Type 0
+SizeFits every = Unit {0}
+SizeFits gone = Unit {0}
+SizeFits (lined runs old new) = new ≤ 2147483647
+
+size_fits : (m : Map) → IsReadable m → (method : ℕ) → SizeFits (offsets_in m method)
+unfolding SizeFits
+size_fits m ready method = by_drop (is_dropped m method)
+  where
+    by_line : (o : Option MethodLine) → IfSome o (IsLineOf m) → SizeFits (line_offsets o)
+    by_line None is = tt
+    by_line (Some line) is = is.2
+
+    by_drop : (b : Bool) → SizeFits (cond b gone (line_offsets (method_line m method)))
+    by_drop true = tt
+    by_drop false = by_line (method_line m method) (found_holds (IsLineOf m) (λ l. nat_eq l.method method) m.methods ready.methods)
+
+small_in : (o : Offsets) → Rise o → SizeFits o → (x : ℕ) → x < 0x80000000 → x ≤ old_size o → moved o x < 0x80000000
+unfolding SizeFits
+small_in every rise fits x small within = omega (arith, itself_moved rise x (omega (arith, small)), small)
+small_in gone rise fits x small within = omega arith
+small_in (lined runs old new) rise fits x small within =
+    omega (arith, moved_never_falls (lined runs old new) rise (λ e. cc) x old within (omega arith), size_moved runs old new rise, fits)
+
+-- ---- types and imports
+
+within_types : (u : FileValue) (table row : ℕ) → (table ≡ 0x02) ⊎ ((table ≡ 0x01) ⊎ (table ≡ 0x1b)) → row ≤ 16777215
+    → row ≤ rows_of (type_limits (most u)) (tag_of table)
+within_types u table row (inl is) below = subst (λ t. row ≤ rows_of (type_limits (most u)) (tag_of t)) (sym is) below
+within_types u table row (inr (inl is)) below = subst (λ t. row ≤ rows_of (type_limits (most u)) (tag_of t)) (sym is) below
+within_types u table row (inr (inr is)) below = subst (λ t. row ≤ rows_of (type_limits (most u)) (tag_of t)) (sym is) below
+
+token_moved : (m : Map) → IsReadable m → (v u : FileValue) (t : TypeToken) → HasType (most v) t → IsImaged m (in_token t) → HasType (most u) (moved_token m t)
+token_moved m ready v u t has image =
+    let row = row_moved m ready t.table t.row has.1.0 has.0.1 image in
+    ((has.0.0, row.1), (row.0, within_types u t.table (moved_row m t.table t.row) has.0.0 row.1))
+
+assembly_moved : (m : Map) → IsReadable m → (v u : FileValue) (row : ℕ) → HasRow (most v) 0x23 row → IsImaged m (names 0x23 row)
+    → HasRow (most u) 0x23 (moved_row m 0x23 row)
+assembly_moved m ready v u row has image = row_moved m ready 0x23 row has.0 has.1 image
+
+pub import_moved : (m : Map) → IsReadable m → (v u : FileValue) (i : ImportValue) → SoundImport (most v) i → Each (IsImaged m) (in_import i)
+    → SoundImport (most u) (moved_import m i)
+import_moved m ready v u (Namespace namespace) sound images = tt
+import_moved m ready v u (AssemblyNamespace assembly namespace) sound images = assembly_moved m ready v u assembly sound images.0
+import_moved m ready v u (Target target) sound images = token_moved m ready v u target sound images.0
+import_moved m ready v u (Xml alias namespace) sound images = tt
+import_moved m ready v u (Alias alias) sound images = tt
+import_moved m ready v u (AssemblyAlias alias assembly) sound images = assembly_moved m ready v u assembly sound images.0
+import_moved m ready v u (NamespaceAlias alias namespace) sound images = tt
+import_moved m ready v u (AssemblyNamespaceAlias alias assembly namespace) sound images = assembly_moved m ready v u assembly sound images.0
+import_moved m ready v u (TargetAlias alias target) sound images = token_moved m ready v u target sound images.0
+
+-- ---- constants
+
+body_moved : (m : Map) → IsReadable m → (v u : FileValue) (body : ConstantBody) → IsBody (stored_body body)
+    → IsBodyThere (type_limits (most v)) (stored_body body)
+    → Each (IsImaged m) (in_body body)
+    → IsBody (stored_body (moved_constant_body m body)) × IsBodyThere (type_limits (most u)) (stored_body (moved_constant_body m body))
+body_moved m ready v u (Primitive code value) is there images = (is, tt)
+body_moved m ready v u (Enumerated code value target) is there images =
+    let has = token_moved m ready v u target (is.2, there) images.0 in ((is.0, is.1, has.0), has.1)
+body_moved m ready v u (General code target rest) is there images =
+    let has = token_moved m ready v u target (is.1, there) images.0 in ((is.0, has.0), has.1)
+body_moved m ready v u Object is there images = (tt, tt)
+
+modifiers_moved : (m : Map) → IsReadable m → (v u : FileValue) (modifiers : List Modifier)
+    → Each (λ (modifier : Modifier). HasType (most v) modifier.target) modifiers
+    → Each (IsImaged m) (map (λ (modifier : Modifier). in_token modifier.target) modifiers)
+    → Each (λ (modifier : Modifier). HasType (most u) modifier.target) (map (moved_modifier m) modifiers)
+modifiers_moved m ready v u [] sound images = tt
+modifiers_moved m ready v u (x ∷ xs) sound images = (token_moved m ready v u x.target sound.0 images.0, modifiers_moved m ready v u xs sound.1 images.1)
+
+pub constant_moved : (m : Map) → IsReadable m → (v u : FileValue) (n : Annotation ConstantValue) → SoundConstant (most v) n.item → Each (IsImaged m) (in_constant n)
+    → SoundConstant (most u) (moved_constant m n.item)
+constant_moved m ready v u n sound images =
+    let parts = each_parts (IsImaged m) (map (λ (modifier : Modifier). in_token modifier.target) n.item.modifiers) (in_body n.item.body) images in
+    let body = body_moved m ready v u n.item.body sound.body sound.body_there parts.1 in
+    record {
+      name = sound.name;
+      modifiers = all_each (λ (modifier : Modifier). HasType (most u) modifier.target) (map (moved_modifier m) n.item.modifiers)
+          (modifiers_moved m ready v u n.item.modifiers
+          (each_all (λ (modifier : Modifier). HasType (most v) modifier.target) n.item.modifiers sound.modifiers) parts.0);
+      body = body.0;
+      body_there = body.1;
+    }
+
+-- ---- records on methods and types
+
+slots_moved : (o : Offsets) → Rise o → SizeFits o → (slots : List Slot) → Each IsSlot slots → Each (EndsWithin (old_size o)) slots
+    → Each IsSlot (map (moved_slot o) slots)
+slots_moved o rise fits [] sound within = tt
+slots_moved o rise fits (s ∷ ss) sound within = (one s sound.0 within.0, slots_moved o rise fits ss sound.1 within.1)
+  where
+    one : (s : Slot) → IsSlot s → EndsWithin (old_size o) s → IsSlot (moved_slot o s)
+    one Empty sound within = tt
+    one (Held range) sound within = by_range (is_empty (moved_range o range)) refl
+      where
+        by_range : (b : Bool) → is_empty (moved_range o range) ≡ b → IsSlot (cond b Empty (Held (moved_range o range)))
+        by_range true is = tt
+        by_range false is = (
+          ltb-true (moved o range.start) (moved o range.end)
+              (not-false (nat_lt (moved o range.start) (moved o range.end)) is),
+          small_in o rise fits range.end sound.1 within,
+        )
+
+step_moved : (m : Map) → IsReadable m → ((n : ℕ) → Rise (offsets_in m n)) → (v u : FileValue) (method : ℕ) (step : AsyncStep)
+    → IsStep step × (step.method ≤ count (most v) 0x06) → KeepsStep m method step
+    → IsImaged m (names 0x06 step.method) → IsStep (moved_step m method step) × ((moved_step m method step).method ≤ count (most u) 0x06)
+step_moved m ready rise v u method step sound keeps image =
+    let row = row_moved m ready 0x06 step.method sound.0.2 sound.1 image in
+    let below : moved_row m 0x06 step.method ≤ 16777215 = row.1 in (
+      (
+        small_in (offsets_in m method) (rise method) (size_fits m ready method) step.pause sound.0.0
+            (kept_within (offsets_in m method) (rise method) step.pause keeps.0.0 keeps.0.1),
+        small_in (offsets_in m step.method) (rise step.method) (size_fits m ready step.method) step.resume sound.0.1
+            (kept_within (offsets_in m step.method) (rise step.method) step.resume keeps.1.0 keeps.1.1),
+        row.0,
+        omega (arith, below),
+      ),
+      row.1,
+    )
+
+steps_moved : (m : Map) → IsReadable m → ((n : ℕ) → Rise (offsets_in m n)) → (v u : FileValue) (method : ℕ) (steps : List AsyncStep)
+    → Each (λ (step : AsyncStep). IsStep step × (step.method ≤ count (most v) 0x06)) steps → Each (KeepsStep m method) steps
+    → Each (IsImaged m) (map (λ (step : AsyncStep). names 0x06 step.method) steps)
+    → Each (λ (step : AsyncStep). IsStep step × (step.method ≤ count (most u) 0x06)) (map (moved_step m method) steps)
+steps_moved m ready rise v u method [] sound keeps images = tt
+steps_moved m ready rise v u method (s ∷ ss) sound keeps images =
+    (step_moved m ready rise v u method s sound.0 keeps.0 images.0, steps_moved m ready rise v u method ss sound.1 keeps.1 images.1)
+
+handler_moved : (m : Map) → IsReadable m → ((n : ℕ) → Rise (offsets_in m n)) → (method : ℕ) (handler : Option ℕ) → IsHandler handler
+    → IfSome handler (λ x. (image : ℕ) × Kept (offsets_in m method) x image)
+    → IsHandler (option_map (moved (offsets_in m method)) handler)
+handler_moved m ready rise method None sound keeps = tt
+handler_moved m ready rise method (Some x) sound keeps =
+    small_in (offsets_in m method) (rise method) (size_fits m ready method) x sound (kept_within (offsets_in m method) (rise method) x keeps.0 keeps.1)
+
+-- the body of a record moves to one of its kind, where the documents are as many
+pub body_kept : (m : Map) → IsReadable m → ((n : ℕ) → Rise (offsets_in m n)) → (v u : FileValue) → (count (most v) 0x30 ≡ count (most u) 0x30)
+    → (method : ℕ) (kind : Kind) (body : CustomBody)
+    → IsBodyOfKind (most v) kind body → KeepsAsync m method body → AreWithin (old_size (offsets_in m method)) body → Each (IsImaged m) (in_steps body)
+    → IsBodyOfKind (most u) kind (moved_body m method body)
+body_kept m ready rise v u same method kinds.Async (Async handler steps) sound keeps within images = (
+  handler_moved m ready rise method handler sound.0 keeps.0,
+  all_each (λ (step : AsyncStep). IsStep step × (step.method ≤ count (most u) 0x06)) (map (moved_step m method) steps)
+      (steps_moved m ready rise v u method steps
+      (each_all (λ (step : AsyncStep). IsStep step × (step.method ≤ count (most v) 0x06)) steps sound.1) keeps.1 images),
+)
+body_kept m ready rise v u same method kinds.Hoisted (Hoisted slots) sound keeps within images =
+    all_each IsSlot (map (moved_slot (offsets_in m method)) slots)
+    (slots_moved (offsets_in m method) (rise method) (size_fits m ready method) slots (each_all IsSlot slots sound) within)
+body_kept m ready rise v u same method kinds.TypeDocuments (TypeDocuments documents) sound keeps within images =
+    λ k d less. ((sound k d less).0, subst (λ n. get_or documents k d ≤ n) same (sound k d less).1)
+body_kept m ready rise v u same method kinds.Free (Unread content) sound keeps within images = tt
+body_kept m ready rise v u same method kinds.Unknown (Unread content) sound keeps within images = tt
+body_kept m ready rise v u same method kinds.Async (Hoisted slots) sound keeps within images = absurd sound
+body_kept m ready rise v u same method kinds.Async (TypeDocuments rows) sound keeps within images = absurd sound
+body_kept m ready rise v u same method kinds.Async (Unread content) sound keeps within images = absurd sound
+body_kept m ready rise v u same method kinds.Hoisted (Async handler steps) sound keeps within images = absurd sound
+body_kept m ready rise v u same method kinds.Hoisted (TypeDocuments rows) sound keeps within images = absurd sound
+body_kept m ready rise v u same method kinds.Hoisted (Unread content) sound keeps within images = absurd sound
+body_kept m ready rise v u same method kinds.TypeDocuments (Async handler steps) sound keeps within images = absurd sound
+body_kept m ready rise v u same method kinds.TypeDocuments (Hoisted slots) sound keeps within images = absurd sound
+body_kept m ready rise v u same method kinds.TypeDocuments (Unread content) sound keeps within images = absurd sound
+body_kept m ready rise v u same method kinds.Free (Async handler steps) sound keeps within images = absurd sound
+body_kept m ready rise v u same method kinds.Free (Hoisted slots) sound keeps within images = absurd sound
+body_kept m ready rise v u same method kinds.Free (TypeDocuments rows) sound keeps within images = absurd sound
+body_kept m ready rise v u same method kinds.Unknown (Async handler steps) sound keeps within images = absurd sound
+body_kept m ready rise v u same method kinds.Unknown (Hoisted slots) sound keeps within images = absurd sound
+body_kept m ready rise v u same method kinds.Unknown (TypeDocuments rows) sound keeps within images = absurd sound
+
+-- ---- ranges of one method
+
+pub ranges_moved : (o : Offsets) → Rise o → (o ≢ gone) → (a b : Range) → a.start < a.end → b.start < b.end → a.end ≤ old_size o → b.end ≤ old_size o
+    → is_empty (moved_range o a) ≡ false → ComesAfter a b → IsInOrAfter a b
+    → ComesAfter (moved_range o a) (moved_range o b) × IsInOrAfter (moved_range o a) (moved_range o b)
+ranges_moved o rise live a b a_order b_order a_within b_within filled comes lies = (by_order comes, in_or_after lies)
+  where
+    starts_apart : moved o a.start < moved o a.end
+    starts_apart = ltb-true (moved o a.start) (moved o a.end) (not-false (nat_lt (moved o a.start) (moved o a.end)) filled)
+
+    in_or_after : IsInOrAfter a b → IsInOrAfter (moved_range o a) (moved_range o b)
+    in_or_after (inl inside) = inl (moved_never_falls o rise live b.end a.end inside a_within)
+    in_or_after (inr past) = inr (moved_never_falls o rise live a.end b.start past (omega (arith, b_order, b_within)))
+
+    at_one_start : moved o a.start ≡ moved o b.start → IsInOrAfter a b → moved o b.end ≤ moved o a.end
+    at_one_start same (inl inside) = moved_never_falls o rise live b.end a.end inside a_within
+    at_one_start same (inr past) = absurd
+        (omega (arith, same, starts_apart, moved_never_falls o rise live a.end b.start past (omega (arith, b_order, b_within))))
+
+    by_start : moved o a.start ≤ moved o b.start → ComesAfter (moved_range o a) (moved_range o b)
+    by_start le = elim (cases_lt (moved o a.start) (moved o b.start)) [
+      | inl less ↦ inl less
+      | inr back ↦ let same : moved o a.start ≡ moved o b.start = omega (arith, le, back) in inr (same, at_one_start same lies)
+    ]
+
+    by_order : ComesAfter a b → ComesAfter (moved_range o a) (moved_range o b)
+    by_order (inl later) = by_start (moved_never_falls o rise live a.start b.start (omega (arith, later)) (omega (arith, b_order, b_within)))
+    by_order (inr (same, within)) = inr (ap (moved o) same, moved_never_falls o rise live b.end a.end within a_within)
+
+-- an offset below 2 ^ 31 moves to one
+pub small_after : (m : Map) → IsReadable m → (method : ℕ) → Rise (offsets_in m method) → (x : ℕ) → x < 0x80000000 → x ≤ old_size (offsets_in m method)
+    → moved (offsets_in m method) x < 0x80000000
+small_after m ready method rise x small within = small_in (offsets_in m method) rise (size_fits m ready method) x small within
+
+-- what a body says of its kind is the same where the documents are as many
+pub body_same : (v u : FileValue) → (count (most v) 0x30 ≡ count (most u) 0x30) → (kind : Kind) (body : CustomBody) → IsBodyOfKind (most v) kind body
+    → IsBodyOfKind (most u) kind body
+body_same v u same kinds.Async (Async handler steps) sound = sound
+body_same v u same kinds.Hoisted (Hoisted slots) sound = sound
+body_same v u same kinds.TypeDocuments (TypeDocuments documents) sound = λ k d less.
+    ((sound k d less).0, subst (λ n. get_or documents k d ≤ n) same (sound k d less).1)
+body_same v u same kinds.Free (Unread content) sound = tt
+body_same v u same kinds.Unknown (Unread content) sound = tt
+body_same v u same kinds.Async (Hoisted slots) sound = absurd sound
+body_same v u same kinds.Async (TypeDocuments rows) sound = absurd sound
+body_same v u same kinds.Async (Unread content) sound = absurd sound
+body_same v u same kinds.Hoisted (Async handler steps) sound = absurd sound
+body_same v u same kinds.Hoisted (TypeDocuments rows) sound = absurd sound
+body_same v u same kinds.Hoisted (Unread content) sound = absurd sound
+body_same v u same kinds.TypeDocuments (Async handler steps) sound = absurd sound
+body_same v u same kinds.TypeDocuments (Hoisted slots) sound = absurd sound
+body_same v u same kinds.TypeDocuments (Unread content) sound = absurd sound
+body_same v u same kinds.Free (Async handler steps) sound = absurd sound
+body_same v u same kinds.Free (Hoisted slots) sound = absurd sound
+body_same v u same kinds.Free (TypeDocuments rows) sound = absurd sound
+body_same v u same kinds.Unknown (Async handler steps) sound = absurd sound
+body_same v u same kinds.Unknown (Hoisted slots) sound = absurd sound
+body_same v u same kinds.Unknown (TypeDocuments rows) sound = absurd sound

@@ -1,0 +1,66 @@
+-- What a map that fits a file knows of a method that the file names, part by part of the file.
+use Rattle.std.specs.Prelude.{◌≡◌, ◌≢◌, ℕ, ◌<◌, ◌≤◌, Bool, true, List, [], ◌∷◌}
+use Rattle.ppdb_tables.specs.declared.rows.MachineRow.{MachineRow}
+use Rattle.ppdb_merge_items.specs.NamedRows.{live_machine}
+use Rattle.ppdb_base.specs.Offsets.{Offsets, Rise, gone, old_size}
+use Rattle.ppdb_merge_items.specs.declared.file.AnnotatedFile.{AnnotatedFile}
+use Rattle.custom_info.specs.declared.slots.Slot.{Slot}
+use Rattle.custom_info.specs.declared.slots.Slot.TheVariants.{Empty, Held}
+use Rattle.ppdb_values.specs.declared.custom.CustomBody.{CustomBody}
+use Rattle.ppdb_values.specs.declared.custom.CustomBody.TheVariants.{Hoisted}
+use Rattle.ppdb_values.specs.declared.custom.CustomValue.{CustomValue}
+use Rattle.ppdb_merge_items.specs.Each.{Each}
+use Rattle.ppdb_maps.specs.Map.{Map, moved_row, offsets_in}
+use Rattle.sequence_points.specs.declared.point.Point.{Point}
+use Rattle.ppdb_values.specs.declared.file.MethodValue.{MethodValue}
+use Rattle.sequence_points.specs.MovedPoints.{first_offset}
+use Rattle.ppdb_merge_items.specs.declared.file.AnnotatedScope.{AnnotatedScope}
+
+-- offsets rise, and the last is below the end
+abbrev pub PointsRise : ℕ → List Point → Type 0
+PointsRise end [] = Unit {0}
+PointsRise end (p ∷ ps) = (p.offset < first_offset end ps) × PointsRise end ps
+
+-- of a scope: no other method has the method's image
+pub record FitsScope (m : Map) (method : ℕ) (s : AnnotatedScope) : Type 0 where
+  pub order : s.range.start < s.range.end
+  pub within : s.range.end ≤ old_size (offsets_in m s.method)
+  pub own : moved_row m 0x06 s.method ≡ moved_row m 0x06 method → s.method ≡ method
+
+-- of a method with points
+pub record FitsMethod (m : Map) (method : ℕ) (e : MethodValue) : Type 0 where
+  pub rise : PointsRise (old_size (offsets_in m e.method)) e.points
+  pub own : moved_row m 0x06 e.method ≡ moved_row m 0x06 method → e.method ≡ method
+
+-- of a slot of hoisted locals
+abbrev pub FitsSlot : Offsets → Slot → Type 0
+FitsSlot offsets Empty = Unit {0}
+FitsSlot offsets (Held range) = (range.start < range.end) × (range.end ≤ old_size offsets)
+
+abbrev pub FitsSlots : Offsets → CustomBody → Type 0
+FitsSlots offsets (Hoisted slots) = Each (FitsSlot offsets) slots
+FitsSlots offsets body = Unit {0}
+
+-- of a custom record that is on a method
+pub record FitsCustom (m : Map) (method : ℕ) (c : CustomValue) : Type 0 where
+  pub own : c.parent.table ≡ 0x06 → moved_row m 0x06 c.parent.row ≡ moved_row m 0x06 method → c.parent.row ≡ method
+  pub slots : FitsSlots (offsets_in m c.parent.row) c.value
+
+-- of the row of the entry point, or 0
+abbrev pub FitsEntry : Map → ℕ → ℕ → Type 0
+FitsEntry m method entry = moved_row m 0x06 entry ≡ moved_row m 0x06 method → entry ≡ method
+
+-- of a state machine; one of a dropped method goes
+pub record FitsMachine (m : Map) (method : ℕ) (r : MachineRow) : Type 0 where
+  pub move_next : live_machine m r ≡ true → moved_row m 0x06 r.move_next ≡ moved_row m 0x06 method → r.move_next ≡ method
+  pub kickoff : live_machine m r ≡ true → moved_row m 0x06 r.kickoff ≡ moved_row m 0x06 method → r.kickoff ≡ method
+
+-- of a file that names the method
+pub record FitsFile (first : Bool) (m : Map) (w : AnnotatedFile) (method : ℕ) : Type 0 where
+  pub rise : Rise (offsets_in m method)
+  pub live : offsets_in m method ≢ gone
+  pub entry : first ≡ true → FitsEntry m method w.entry
+  pub methods : Each (FitsMethod m method) w.methods
+  pub scopes : Each (FitsScope m method) w.scopes
+  pub machines : Each (FitsMachine m method) w.machines
+  pub customs : Each (FitsCustom m method) w.customs

@@ -1,0 +1,44 @@
+-- What a meaning, and what is linked to a method, becomes where a file is moved by a map.
+use Rattle.std.specs.Prelude.{ℕ, ◌&&◌, Bool, cond, Option, Some, None, map}
+use Rattle.std.specs.Option.{option_map, option_and_then}
+use Rattle.ppdb_base.specs.Offsets.{moved}
+use Rattle.ppdb_maps.specs.Map.{Map, moved_row, offsets_in, is_dropped}
+use Rattle.ppdb_values.specs.declared.annotation.Custom.{Custom}
+use Rattle.ppdb_values.specs.Meaning.{PointMeaning, ScopeMeaning, SlotMeaning, Meaning}
+use Rattle.ppdb_values.specs.Links.{Links}
+use Rattle.ppdb_merge_items.specs.Annotated.{with_item}
+use Rattle.ppdb_merge_moved.specs.Moved.{moved_range, moved_variable, moved_constant, moved_import, moved_body}
+
+abbrev pub point_image : Map → ℕ → PointMeaning → PointMeaning
+point_image m method p = record p { offset = moved (offsets_in m method) p.offset; signature = moved_row m 0x11 p.signature }
+
+abbrev pub scope_image : Map → ℕ → ScopeMeaning → ScopeMeaning
+scope_image m method s = record s {
+  range = moved_range (offsets_in m method) s.range;
+  variables = map (with_item (moved_variable m method)) s.variables;
+  constants = map (with_item (moved_constant m)) s.constants;
+  imports = map (with_item (map (moved_import m))) s.imports;
+}
+
+abbrev pub slot_meaning_image : Map → ℕ → SlotMeaning → SlotMeaning
+slot_meaning_image m method h = record h { range = moved_range (offsets_in m method) h.range }
+
+abbrev pub meaning_image : Map → ℕ → Meaning → Meaning
+meaning_image m method a = record {
+  point = option_map (point_image m method) a.point;
+  scopes = map (scope_image m method) a.scopes;
+  slots = map (slot_meaning_image m method) a.slots;
+}
+
+-- a partner that is dropped is none
+abbrev pub partner_image : Map → ℕ → Option ℕ
+partner_image m method = cond (is_dropped m method) None (Some (moved_row m 0x06 method))
+
+-- only the entry point of the first input stays
+abbrev pub links_image : Bool → Map → ℕ → Links → Links
+links_image first m method l = record {
+  kickoff = option_and_then (partner_image m) l.kickoff;
+  move_next = option_and_then (partner_image m) l.move_next;
+  is_entry = l.is_entry && first;
+  customs = map (λ (c : Custom). record c { value = moved_body m method c.value }) l.customs;
+}

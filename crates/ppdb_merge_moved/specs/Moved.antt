@@ -1,0 +1,147 @@
+-- A file moved by a map: rows, offsets and slots become their images, and what has none goes.
+use Rattle.std.specs.Prelude.{ℕ, ◌+◌, ◌&&◌, ◌||◌, not, Bool, cond, nat_eq, nat_lt, List, [], ◌∷◌, Option, Some, None, unwrap_or, map}
+use Rattle.std.specs.List.{filter_map}
+use Rattle.std.specs.Option.{option_map}
+use Rattle.ppdb_base.specs.Offsets.{Offsets, moved}
+use Rattle.ppdb_maps.specs.Map.{Map, moved_row, offsets_in, slot_image, is_dropped, output_count}
+use Rattle.sequence_points.specs.declared.point.Point.{Point}
+use Rattle.type_blobs.specs.declared.types.TypeToken.{TypeToken}
+use Rattle.type_blobs.specs.declared.types.Modifier.{Modifier}
+use Rattle.custom_info.specs.declared.slots.Range.{Range}
+use Rattle.custom_info.specs.declared.slots.Slot.{Slot}
+use Rattle.custom_info.specs.declared.slots.Slot.TheVariants.{Empty, Held}
+use Rattle.custom_info.specs.declared.stepping.AsyncStep.{AsyncStep}
+use Rattle.ppdb_tables.specs.declared.rows.MachineRow.{MachineRow}
+use Rattle.ppdb_values.specs.declared.file.MethodValue.{MethodValue}
+use Rattle.ppdb_values.specs.declared.scope.VariableValue.{VariableValue}
+use Rattle.ppdb_values.specs.declared.scope.ConstantValue.{ConstantValue}
+use Rattle.ppdb_values.specs.declared.scope.ConstantBody.{ConstantBody}
+use Rattle.ppdb_values.specs.declared.scope.ConstantBody.TheVariants.{Enumerated, General}
+use Rattle.ppdb_values.specs.declared.import.ImportValue.{ImportValue}
+use Rattle.ppdb_values.specs.declared.import.ImportValue.TheVariants.{AssemblyNamespace, Target, AssemblyAlias, AssemblyNamespaceAlias, TargetAlias}
+use Rattle.ppdb_values.specs.declared.import.ImportScopeValue.{ImportScopeValue}
+use Rattle.ppdb_values.specs.declared.custom.CustomBody.{CustomBody}
+use Rattle.ppdb_values.specs.declared.custom.CustomBody.TheVariants.{Async, Hoisted}
+use Rattle.ppdb_values.specs.declared.custom.CustomValue.{CustomValue}
+use Rattle.ppdb_merge_items.specs.declared.file.AnnotatedScope.{AnnotatedScope}
+use Rattle.ppdb_merge_items.specs.declared.file.AnnotatedFile.{AnnotatedFile}
+use Rattle.ppdb_merge_items.specs.Annotated.{with_item}
+use Rattle.sequence_points.specs.MovedPoints.{moved_points}
+
+-- ---- offsets
+
+-- a range's edges become their images
+abbrev pub moved_range : Offsets → Range → Range
+moved_range offsets range = record { start = moved offsets range.start; end = moved offsets range.end }
+
+abbrev pub is_empty : Range → Bool
+is_empty range = not (nat_lt range.start range.end)
+
+-- a hoisted range that becomes empty is an empty slot
+abbrev pub moved_slot : Offsets → Slot → Slot
+moved_slot offsets Empty = Empty
+moved_slot offsets (Held range) = cond (is_empty (moved_range offsets range)) Empty (Held (moved_range offsets range))
+
+-- a step pauses in the record's method and resumes in its own
+abbrev pub moved_step : Map → ℕ → AsyncStep → AsyncStep
+moved_step m method step = record {
+  pause = moved (offsets_in m method) step.pause;
+  resume = moved (offsets_in m step.method) step.resume;
+  method = moved_row m 0x06 step.method;
+}
+
+-- the body of a record on a method; one that is on no method names no row of the type system and no offset
+abbrev pub moved_body : Map → ℕ → CustomBody → CustomBody
+moved_body m method (Async handler steps) = Async (option_map (moved (offsets_in m method)) handler) (map (moved_step m method) steps)
+moved_body m method (Hoisted slots) = Hoisted (map (moved_slot (offsets_in m method)) slots)
+moved_body m method body = body
+
+-- ---- types and imports
+
+abbrev pub moved_token : Map → TypeToken → TypeToken
+moved_token m token = record token { row = moved_row m token.table token.row }
+
+abbrev pub moved_modifier : Map → Modifier → Modifier
+moved_modifier m modifier = record modifier { target = moved_token m modifier.target }
+
+abbrev pub moved_constant_body : Map → ConstantBody → ConstantBody
+moved_constant_body m (Enumerated code value target) = Enumerated code value (moved_token m target)
+moved_constant_body m (General code target rest) = General code (moved_token m target) rest
+moved_constant_body m body = body
+
+abbrev pub moved_import : Map → ImportValue → ImportValue
+moved_import m (AssemblyNamespace assembly namespace) = AssemblyNamespace (moved_row m 0x23 assembly) namespace
+moved_import m (Target target) = Target (moved_token m target)
+moved_import m (AssemblyAlias alias assembly) = AssemblyAlias alias (moved_row m 0x23 assembly)
+moved_import m (AssemblyNamespaceAlias alias assembly namespace) = AssemblyNamespaceAlias alias (moved_row m 0x23 assembly) namespace
+moved_import m (TargetAlias alias target) = TargetAlias alias (moved_token m target)
+moved_import m import = import
+
+-- ---- items; each keeps the records on it
+
+abbrev pub moved_variable : Map → ℕ → VariableValue → VariableValue
+moved_variable m method v = record v { slot = unwrap_or (slot_image m method v.slot) 0 }
+
+abbrev pub moved_constant : Map → ConstantValue → ConstantValue
+moved_constant m c = record c { modifiers = map (moved_modifier m) c.modifiers; body = moved_constant_body m c.body }
+
+abbrev pub moved_import_scope : Map → ImportScopeValue → ImportScopeValue
+moved_import_scope m i = record i { imports = map (moved_import m) i.imports }
+
+abbrev pub scope_image : Map → AnnotatedScope → AnnotatedScope
+scope_image m s = record {
+  method = moved_row m 0x06 s.method;
+  import = s.import;
+  range = moved_range (offsets_in m s.method) s.range;
+  customs = s.customs;
+  variables = map (with_item (moved_variable m s.method)) s.variables;
+  constants = map (with_item (moved_constant m)) s.constants;
+}
+
+-- ---- what may go
+
+-- a method whose points all go leaves the list
+abbrev pub with_points : Map → MethodValue → List Point → Option MethodValue
+with_points m method [] = None
+with_points m method (p ∷ ps) = Some (record { method = moved_row m 0x06 method.method; signature = moved_row m 0x11 method.signature; points = p ∷ ps })
+
+abbrev pub moved_method : Map → MethodValue → Option MethodValue
+moved_method m method = with_points m method (moved_points (offsets_in m method.method) method.points)
+
+-- a scope whose range becomes empty goes, with what stands at it; so does each scope of a dropped method, which keeps no offset
+abbrev pub moved_scope : Map → AnnotatedScope → Option AnnotatedScope
+moved_scope m s = cond (is_empty (scope_image m s).range) None (Some (scope_image m s))
+
+-- a machine of a dropped method goes
+abbrev pub moved_machine : Map → MachineRow → Option MachineRow
+moved_machine m r =
+    cond (is_dropped m r.move_next || is_dropped m r.kickoff) None
+    (Some (record { move_next = moved_row m 0x06 r.move_next; kickoff = moved_row m 0x06 r.kickoff }))
+
+-- a record on a dropped method goes
+abbrev pub moved_custom : Map → CustomValue → Option CustomValue
+moved_custom m c =
+    cond (nat_eq c.parent.table 0x06 && is_dropped m c.parent.row) None (Some (record {
+      parent = record { table = c.parent.table; row = moved_row m c.parent.table c.parent.row };
+      kind = c.kind;
+      value = moved_body m c.parent.row c.value;
+    }))
+
+-- ---- the file
+
+abbrev pub moved_counts : Map → ℕ → List ℕ → List ℕ
+moved_counts m table [] = []
+moved_counts m table (n ∷ ns) = output_count m table n ∷ moved_counts m (table + 1) ns
+
+abbrev pub moved_file : Map → AnnotatedFile → AnnotatedFile
+moved_file m file = record {
+  id = file.id;
+  entry = moved_row m 0x06 file.entry;
+  rows = moved_counts m 0 file.rows;
+  documents = file.documents;
+  methods = filter_map (moved_method m) file.methods;
+  scopes = filter_map (moved_scope m) file.scopes;
+  imports = map (with_item (moved_import_scope m)) file.imports;
+  machines = filter_map (moved_machine m) file.machines;
+  customs = filter_map (moved_custom m) file.customs;
+}

@@ -1,0 +1,24 @@
+//! A debug file moved by a map: rows, IL offsets and slots become their images, and what has none goes. What it says at a kept offset of
+//! a method is what the file said there, moved.
+#![tactic(auto)]
+
+mod annotating;
+mod file;
+mod imports;
+mod laws;
+mod locals;
+mod methods;
+mod moves;
+mod offsets;
+mod records;
+mod types;
+
+pub use annotating::annotated_file;
+pub use file::moved_file;
+pub use laws::{
+    files_mean, fits_are_of_methods, links_mean, moved_is_sound, moved_names_images,
+    named_rows_are_rows, points_mean, scopes_mean, slots_mean,
+};
+pub use methods::move_points;
+pub use moves::{InMethod, Moves, Stays, move_all, moved_all};
+pub use offsets::moved_offset;

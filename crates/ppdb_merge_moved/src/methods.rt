@@ -1,0 +1,68 @@
+// Sequence points, moved in their places.
+ghost use Rattle.std.specs.Prelude.{◌≡◌, ◌≤◌, take, drop, length};
+ghost use Rattle.ppdb_base.specs.Offsets.{old_size};
+ghost use Rattle.sequence_points.specs.MovedPoints.{first_offset, moved_points};
+
+use crate::moves::Stays;
+use crate::offsets::moved_offset;
+use ppdb_base::{List, OffsetImage};
+use ppdb_maps::MapText;
+use ppdb_values::MethodValue;
+use sequence_points::Point;
+
+/// The offset of the point at a place, or the greatest number past the last.
+fn offset_at(points: &[Point], place: usize) -> u32
+    ensures { result ≡ first_offset 4294967295 (drop place points.now) }
+{
+    match points.get(place) {
+        Some(point) => point.offset,
+        None => u32::MAX,
+    }
+}
+
+/// Moves the points that stay to the start, in order, and answers how many stay.
+fn move_prefix<G: OffsetImage>(points: &mut [Point], image: &G) -> usize
+    requires { old_size (G.offsets image.now) ≤ 4294967295 }
+    ensures within { result ≤ length points.new }
+    ensures moved { take result points.new ≡ moved_points (G.offsets image.now) points.old }
+{
+    let mut stay = 0;
+    for place in 0..points.len() {
+        let point = points[place];
+        if image.kept_between(point.offset, offset_at(points, place + 1)) {
+            points[stay] = Point {
+                offset: moved_offset(image, point.offset),
+                ..point
+            };
+            stay += 1;
+        }
+    }
+    stay
+}
+
+/// Moves the points that stay; the others go.
+pub fn move_points<G: OffsetImage>(points: &mut List<Point>, image: &G)
+    requires { old_size (G.offsets image.now) ≤ 4294967295 }
+    ensures { points.new ≡ moved_points (G.offsets image.now) points.old }
+{
+    let stay = move_prefix(points.as_mut_slice(), image);
+    points.truncate(stay);
+}
+
+/// A method stays where a point of it stays.
+impl Stays<MapText> for MethodValue {
+    ghost use Rattle.ppdb_merge_moved.specs.Moved.{moved_method};
+
+    ghost stays = { moved_method };
+
+    fn stay_by(mut self, map: &MapText) -> Option<MethodValue> {
+        map.keeps();
+        move_points(&mut self.points, &map.method(self.method));
+        if self.points.is_empty() {
+            return None;
+        }
+        self.method = map.moved_row(0x06, self.method);
+        self.signature = map.moved_row(0x11, self.signature);
+        Some(self)
+    }
+}

@@ -1,0 +1,150 @@
+-- References that are gone through one after the other.
+use Rattle.std.proofs.Common.{◌≡◌, ℕ, zero, suc, ◌+◌, ◌<◌, List, [], ◌∷◌, ◌++◌, Option, Some, None, Result, Ok, Err, slice_get, refl, sym, ap, subst, ◌∙◌}
+use Rattle.std.proofs.Common.{arith, append_assoc, append-nil}
+use Rattle.ppdb_base.specs.declared.fault.Place.{Place}
+use Rattle.ppdb_maps.specs.Map.{Map}
+use Rattle.ppdb_merge_names.specs.declared.imaged.Imaged.{Imaged}
+use Rattle.ppdb_merge_names.specs.declared.imaged.ReferenceError.{ReferenceError}
+use Rattle.ppdb_merge_names.specs.declared.imaged.ReferenceError.TheVariants.{Unmapped, Memory}
+use Rattle.ppdb_merge_names.specs.References.{Reference, names}
+use Rattle.ppdb_merge_names.specs.Imaging.{image_of, AreImagesOf, IsFirstUnmapped, IsRefusedBy, Imaging, with_image, and_then, imaged_on, Goes}
+
+pub imaged_on-append : (s : Imaging) (xs ys : List Reference) → imaged_on s (xs ++ ys) ≡ and_then (imaged_on s xs) (λ t. imaged_on t ys)
+unfolding imaged_on
+imaged_on-append s [] ys = refl
+imaged_on-append s (x ∷ xs) ys = split (λ t. imaged_on-append t xs ys) (image_of s.map x)
+  where
+    split : ((t : Imaging) → imaged_on t (xs ++ ys) ≡ and_then (imaged_on t xs) (λ u. imaged_on u ys)) → (o : Option ℕ)
+        → and_then (with_image s x o) (λ t. imaged_on t (xs ++ ys)) ≡ and_then (and_then (with_image s x o) (λ t. imaged_on t xs)) (λ t. imaged_on t ys)
+    split again None = refl
+    split again (Some image) = again (record { map = s.map; images = s.images ++ record { table = x.table; row = x.row; image = image } ∷ [] })
+
+-- ---- one reference
+
+pub one-is : (s t : Imaging) (r : Reference) (image : ℕ) → image_of s.map r ≡ Some image
+    → t ≡ record { map = s.map; images = s.images ++ record { table = r.table; row = r.row; image = image } ∷ [] }
+    → imaged_on s (r ∷ []) ≡ Ok t
+unfolding imaged_on
+one-is s t r image e is = rw (e, is) refl
+
+pub one-none : (s : Imaging) (r : Reference) → image_of s.map r ≡ None → imaged_on s (r ∷ []) ≡ Err r
+unfolding imaged_on
+one-none s r e = rw e refl
+
+pub none-is : (s : Imaging) → imaged_on s [] ≡ Ok s
+unfolding imaged_on
+none-is s = refl
+
+-- ---- what is left to go through
+
+-- all references from a start on are those that are left now
+abbrev pub Leads : Imaging → List Reference → Imaging → List Reference → Type 0
+Leads start all now left = imaged_on start all ≡ imaged_on now left
+
+pub leads-few : (start now after : Imaging) (all few left : List Reference) → Leads start all now (few ++ left) → imaged_on now few ≡ Ok after
+    → Leads start all after left
+leads-few start now after all few left e one = e ∙ imaged_on-append now few left ∙ ap (λ (o : Result Imaging Reference). and_then o (λ t. imaged_on t left)) one
+
+pub leads-end : (start now : Imaging) (all left : List Reference) → Leads start all now left → left ≡ [] → imaged_on start all ≡ Ok now
+leads-end start now all left e none = e ∙ ap (imaged_on now) none ∙ none-is now
+
+leads-stop : (start now : Imaging) (all few left : List Reference) (r : Reference) → Leads start all now (few ++ left) → imaged_on now few ≡ Err r
+    → imaged_on start all ≡ Err r
+leads-stop start now all few left r e one = e ∙ imaged_on-append now few left ∙ ap (λ (o : Result Imaging Reference). and_then o (λ t. imaged_on t left)) one
+
+-- a refusal on the way is the refusal of all
+pub goes-stop : (start now after last : Imaging) (all few left : List Reference) (error : ReferenceError) → Leads start all now (few ++ left)
+    → Goes now few after (Err error) → Goes start all last (Err error)
+goes-stop start now after last all few left (Unmapped table row place) e one = leads-stop start now all few left (names place table row) e one
+goes-stop start now after last all few left Memory e one = tt
+
+-- ---- one list after the other
+
+pub goes-then : (s t u : Imaging) (xs ys : List Reference) (result : Result (Unit {0}) ReferenceError) → imaged_on s xs ≡ Ok t → Goes t ys u result
+    → Goes s (xs ++ ys) u result
+goes-then s t u xs ys (Ok done) first second = imaged_on-append s xs ys ∙ ap (λ (o : Result Imaging Reference). and_then o (λ v. imaged_on v ys)) first ∙ second
+goes-then s t u xs ys (Err (Unmapped table row place)) first second =
+    imaged_on-append s xs ys ∙ ap (λ (o : Result Imaging Reference). and_then o (λ v. imaged_on v ys)) first ∙ second
+goes-then s t u xs ys (Err Memory) first second = tt
+
+pub goes-cut : (s t u : Imaging) (xs ys : List Reference) (error : ReferenceError) → Goes s xs t (Err error) → Goes s (xs ++ ys) u (Err error)
+goes-cut s t u xs ys (Unmapped table row place) first = imaged_on-append s xs ys ∙ ap (λ (o : Result Imaging Reference). and_then o (λ v. imaged_on v ys)) first
+goes-cut s t u xs ys Memory first = tt
+
+-- ---- the images and the first reference without one
+
+images-after : (s t : Imaging) (rs : List Reference) → imaged_on s rs ≡ Ok t → (more : List Imaged) × (t.images ≡ s.images ++ more) × AreImagesOf s.map rs more
+unfolding imaged_on
+images-after s t [] e = let same : s ≡ t = cc in ([], ap (λ (u : Imaging). u.images) (sym same) ∙ sym (append-nil s.images), tt)
+images-after s t (r ∷ rs) e = split (λ u h. images-after u t rs h) (image_of s.map r) refl e
+  where
+    split : ((u : Imaging) → imaged_on u rs ≡ Ok t → (more : List Imaged) × (t.images ≡ u.images ++ more) × AreImagesOf u.map rs more) → (o : Option ℕ)
+        → image_of s.map r ≡ o
+        → and_then (with_image s r o) (λ u. imaged_on u rs) ≡ Ok t → (more : List Imaged) × (t.images ≡ s.images ++ more) × AreImagesOf s.map (r ∷ rs) more
+    split again None is e = absurd cc
+    split again (Some image) is e =
+        let i : Imaged = record { table = r.table; row = r.row; image = image } in
+        let h = again (record { map = s.map; images = s.images ++ i ∷ [] }) e in
+        (i ∷ h.0, h.1 ∙ append_assoc s.images (i ∷ []) h.0, (record { table = refl; row = refl; image = is }, h.2))
+
+pub images-are : (m : Map) (t : Imaging) (rs : List Reference) → imaged_on (record { map = m; images = [] }) rs ≡ Ok t → AreImagesOf m rs t.images
+images-are m t rs e = let h = images-after (record { map = m; images = [] }) t rs e in subst (λ (l : List Imaged). AreImagesOf m rs l) (sym h.1) h.2
+
+pub first-unmapped : (s : Imaging) (rs : List Reference) (r : Reference) → imaged_on s rs ≡ Err r → IsFirstUnmapped s.map rs r
+unfolding imaged_on
+first-unmapped s [] r e = absurd cc
+first-unmapped s (x ∷ rs) r e = split (λ u h. first-unmapped u rs r h) (image_of s.map x) refl e
+  where
+    shifted : (image : ℕ) → image_of s.map x ≡ Some image → IsFirstUnmapped s.map rs r → IsFirstUnmapped s.map (x ∷ rs) r
+    shifted image is h = record { at = suc h.at; there = h.there; none = h.none; before = earlier }
+      where
+        earlier : (k : ℕ) (other : Reference) → k < suc h.at → slice_get (x ∷ rs) k ≡ Some other → (i : ℕ) × (image_of s.map other ≡ Some i)
+        earlier zero other less there = let same : x ≡ other = cc in (image, ap (image_of s.map) (sym same) ∙ is)
+        earlier (suc k) other less there = h.before k other (omega (arith, less)) there
+
+    split : ((u : Imaging) → imaged_on u rs ≡ Err r → IsFirstUnmapped u.map rs r) → (o : Option ℕ) → image_of s.map x ≡ o
+        → and_then (with_image s x o) (λ u. imaged_on u rs) ≡ Err r → IsFirstUnmapped s.map (x ∷ rs) r
+    split again None is e = let same : x
+        ≡ r = cc in record {
+          at = 0;
+          there = ap (λ (y : Reference). Some y) same;
+          none = ap (image_of s.map) (sym same)
+              ∙ is;
+          before = λ k other less there. absurd (omega (arith, less));
+        }
+    split again (Some image) is e = shifted image is
+        (again (record { map = s.map; images = s.images ++ record { table = x.table; row = x.row; image = image } ∷ [] }) e)
+
+-- the map stays
+pub map-stays : (s t : Imaging) (rs : List Reference) → imaged_on s rs ≡ Ok t → t.map ≡ s.map
+unfolding imaged_on
+map-stays s t [] e = let same : s ≡ t = cc in ap (λ (u : Imaging). u.map) (sym same)
+map-stays s t (r ∷ rs) e = split (λ u h. map-stays u t rs h) (image_of s.map r) e
+  where
+    split : ((u : Imaging) → imaged_on u rs ≡ Ok t → t.map ≡ u.map) → (o : Option ℕ) → and_then (with_image s r o) (λ u. imaged_on u rs) ≡ Ok t → t.map ≡ s.map
+    split again None e = absurd cc
+    split again (Some image) e = again (record { map = s.map; images = s.images ++ record { table = r.table; row = r.row; image = image } ∷ [] }) e
+
+-- the same of a list that is this one
+pub goes-as : (s t : Imaging) (xs ys : List Reference) (result : Result (Unit {0}) ReferenceError) → xs ≡ ys → Goes s xs t result → Goes s ys t result
+goes-as s t xs ys result e h = subst (λ (rs : List Reference). Goes s rs t result) e h
+
+pub goes-none : (s : Imaging) (xs : List Reference) → xs ≡ [] → imaged_on s xs ≡ Ok s
+goes-none s xs e = ap (imaged_on s) e ∙ none-is s
+
+-- the same at a place that is this one
+pub goes-at : (s t : Imaging) (place other : Place) (table row : ℕ) (result : Result (Unit {0}) ReferenceError) → place ≡ other
+    → Goes s (names place table row ∷ []) t result → Goes s (names other table row ∷ []) t result
+goes-at s t place other table row result e h = subst (λ (p : Place). Goes s (names p table row ∷ []) t result) e h
+
+-- one list after the other, where the second goes by the map
+pub goes-more : (s t u : Imaging) (xs : List Reference) (more : Map → List Reference) (result : Result (Unit {0}) ReferenceError) → imaged_on s xs ≡ Ok t
+    → Goes t (more t.map) u result
+    → Goes s (xs ++ more s.map) u result
+goes-more s t u xs more result first second =
+    goes-then s t u xs (more s.map) result first (goes-as t u (more t.map) (more s.map) result (ap more (map-stays s t xs first)) second)
+
+pub refused : (m : Map) (t : Imaging) (rs : List Reference) (error : ReferenceError) → Goes (record { map = m; images = [] }) rs t (Err error)
+    → IsRefusedBy m rs error
+refused m t rs (Unmapped table row place) e = first-unmapped (record { map = m; images = [] }) rs (names place table row) e
+refused m t rs Memory e = tt

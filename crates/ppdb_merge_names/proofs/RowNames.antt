@@ -1,0 +1,94 @@
+-- What a row names, by what is read of it.
+use Rattle.std.proofs.Common.{◌≡◌, ℕ, true, false, ◌||◌, List, [], ◌∷◌, Option, Some, refl, sym, ap, ◌∙◌, cond, Bool}
+use Rattle.std.specs.Prelude.{unwrap_or, ◌≢◌}
+use Rattle.ppdb_base.specs.Place.{at_byte, cell}
+use Rattle.custom_info.specs.declared.kinds.Kind.{Kind}
+use Rattle.custom_info.specs.declared.kinds.Kind.TheVariants.{Async}
+use Rattle.ppdb_maps.specs.Map.{Map, is_dropped}
+use Rattle.ppdb_tables.specs.declared.parent.Parent.{Parent}
+use Rattle.ppdb_tables.specs.declared.rows.MethodDebugRow.{MethodDebugRow}
+use Rattle.ppdb_tables.specs.declared.rows.ScopeRow.{ScopeRow}
+use Rattle.ppdb_tables.specs.declared.rows.MachineRow.{MachineRow}
+use Rattle.ppdb_tables.specs.declared.rows.CustomRow.{CustomRow}
+use Rattle.ppdb_tables.specs.Parents.{parent_in}
+use Rattle.ppdb_tables.specs.RawTables.{RawTables, row_at}
+use Rattle.ppdb_values.specs.declared.file.MethodValue.{MethodValue}
+use Rattle.ppdb_values.specs.Customs.{parent_of, no_parent}
+use Rattle.ppdb_values.specs.Documents.{method_of}
+use Rattle.ppdb_values.specs.Parts.{method_at}
+use Rattle.ppdb_values.specs.RawFile.{RawFile}
+use Rattle.ppdb_values.specs.Rows.{ValuesAreRows, method_in}
+use Rattle.ppdb_values.specs.Value.{value_of}
+use Rattle.ppdb_merge_names.specs.References.{Reference, names, names_some, of_entry, of_points, of_method, of_scope, of_machine, methods_in, is_live_parent}
+use Rattle.ppdb_merge_names.specs.References.{of_parent, of_custom}
+
+abbrev if_kept : Bool → List Reference → List Reference
+if_kept dropped rs = cond dropped [] rs
+
+pub entry_later : (first : Bool) (m : Map) (entry : ℕ) → first ≡ false → of_entry first m entry ≡ []
+entry_later first m entry e = rw e refl
+
+pub entry_dropped : (first : Bool) (m : Map) (entry : ℕ) → first ≡ true → is_dropped m entry ≡ true → of_entry first m entry ≡ []
+entry_dropped first m entry e d = rw (e, d) refl
+
+pub entry_named : (first : Bool) (m : Map) (entry : ℕ) → first ≡ true → is_dropped m entry ≡ false
+    → names_some (at_byte 3 20) 0x06 entry ≡ of_entry first m entry
+entry_named first m entry e d = rw (e, d) refl
+
+-- a method by the value that it has
+pub method_is : (raw : RawFile) (row : ℕ) (cells : MethodDebugRow) (o : Option MethodValue) → ValuesAreRows → row_at raw.tables.methods row ≡ Some cells
+    → method_at (value_of raw) row ≡ o → method_of raw.tables (row, cells) ≡ o
+method_is raw row cells o values there is = sym (values.method raw row ∙ ap (method_in raw.tables row) there) ∙ is
+
+pub method_dropped : (m : Map) (raw : RawTables) (row : ℕ) (cells : MethodDebugRow) → is_dropped m row ≡ true → of_method m raw (row, cells) ≡ []
+method_dropped m raw row cells d = ap (λ (b : Bool). if_kept b (of_points row (method_of raw (row, cells)))) d
+
+pub method_names : (m : Map) (raw : RawTables) (row : ℕ) (cells : MethodDebugRow) (o : Option MethodValue) → is_dropped m row ≡ false
+    → method_of raw (row, cells) ≡ o
+    → of_points row o ≡ of_method m raw (row, cells)
+method_names m raw row cells o d is = sym (ap (λ (b : Bool). if_kept b (of_points row (method_of raw (row, cells)))) d ∙ ap (of_points row) is)
+
+pub scope_dropped : (m : Map) (row : ℕ) (cells : ScopeRow) → is_dropped m cells.method ≡ true → of_scope m (row, cells) ≡ []
+scope_dropped m row cells d = rw d refl
+
+pub scope_names : (m : Map) (row : ℕ) (cells : ScopeRow) → is_dropped m cells.method ≡ false
+    → names (cell 0x32 row 0) 0x06 cells.method ∷ [] ≡ of_scope m (row, cells)
+scope_names m row cells d = rw d refl
+
+pub machine_dropped : (m : Map) (row : ℕ) (cells : MachineRow) → (is_dropped m cells.move_next || is_dropped m cells.kickoff) ≡ true
+    → of_machine m (row, cells) ≡ []
+machine_dropped m row cells d =
+    ap (λ (b : Bool). if_kept b (names (cell 0x36 row 0) 0x06 cells.move_next ∷ names (cell 0x36 row 1) 0x06 cells.kickoff ∷ [])) d
+
+pub machine_names : (m : Map) (row : ℕ) (cells : MachineRow) → (is_dropped m cells.move_next || is_dropped m cells.kickoff) ≡ false
+    → names (cell 0x36 row 0) 0x06 cells.move_next ∷ names (cell 0x36 row 1) 0x06 cells.kickoff ∷ [] ≡ of_machine m (row, cells)
+machine_names m row cells d =
+    sym (ap (λ (b : Bool). if_kept b (names (cell 0x36 row 0) 0x06 cells.move_next ∷ names (cell 0x36 row 1) 0x06 cells.kickoff ∷ [])) d)
+
+-- a custom record by its parent
+parent_is : (coded : ℕ) (parent : Parent) → Some parent ≡ parent_in coded → parent_of coded ≡ parent
+parent_is coded parent e = ap (λ (o : Option Parent). unwrap_or o no_parent) (sym e)
+
+abbrev if_live : Bool → List Reference → List Reference
+if_live live rs = cond live rs []
+
+custom_is : (m : Map) (raw : RawTables) (row : ℕ) (cells : CustomRow) (parent : Parent) → parent_of cells.parent ≡ parent
+    → of_custom m raw (row, cells) ≡ if_live (is_live_parent m parent) (of_parent raw (row, cells) parent)
+custom_is m raw row cells parent e = ap (λ (p : Parent). if_live (is_live_parent m p) (of_parent raw (row, cells) p)) e
+
+pub custom_dropped : (m : Map) (raw : RawTables) (row : ℕ) (cells : CustomRow) (parent : Parent) → Some parent ≡ parent_in cells.parent
+    → is_live_parent m parent ≡ false
+    → of_custom m raw (row, cells) ≡ []
+custom_dropped m raw row cells parent e d =
+    custom_is m raw row cells parent (parent_is cells.parent parent e) ∙ ap (λ (b : Bool). if_live b (of_parent raw (row, cells) parent)) d
+
+pub custom_names : (m : Map) (raw : RawTables) (row : ℕ) (cells : CustomRow) (parent : Parent) → Some parent ≡ parent_in cells.parent
+    → is_live_parent m parent ≡ true
+    → of_parent raw (row, cells) parent ≡ of_custom m raw (row, cells)
+custom_names m raw row cells parent e d =
+    sym (custom_is m raw row cells parent (parent_is cells.parent parent e) ∙ ap (λ (b : Bool). if_live b (of_parent raw (row, cells) parent)) d)
+
+-- a record of another kind names no method
+pub no_methods : (raw : RawTables) (kind : Kind) (content : List ℕ) → kind ≢ Async → methods_in raw kind content ≡ []
+no_methods raw Async content other = absurd (other refl)
+no_methods raw kind content other = refl

@@ -1,0 +1,61 @@
+-- The images of the rows that are named, and the first row that has none.
+use Rattle.std.specs.Prelude.{◌≡◌, ℕ, ◌<◌, List, [], ◌∷◌, ◌++◌, Option, Some, None, Result, Ok, Err, slice_get}
+use Rattle.ppdb_maps.specs.Map.{Map, row_image}
+use Rattle.ppdb_merge_names.specs.declared.imaged.Imaged.{Imaged}
+use Rattle.ppdb_merge_names.specs.declared.imaged.ReferenceError.{ReferenceError}
+use Rattle.ppdb_merge_names.specs.declared.imaged.ReferenceError.TheVariants.{Unmapped, Memory}
+use Rattle.ppdb_merge_names.specs.References.{Reference, names}
+
+-- the image of a row that is named
+abbrev pub image_of : Map → Reference → Option ℕ
+image_of m r = row_image m r.table r.row
+
+-- It has this image.
+pub record IsImageOf (m : Map) (r : Reference) (i : Imaged) : Type 0 where
+  pub table : i.table ≡ r.table
+  pub row : i.row ≡ r.row
+  pub image : image_of m r ≡ Some i.image
+
+-- One for each, in order.
+abbrev pub AreImagesOf : Map → List Reference → List Imaged → Type 0
+AreImagesOf m [] [] = Unit {0}
+AreImagesOf m (r ∷ rs) (i ∷ is) = IsImageOf m r i × AreImagesOf m rs is
+AreImagesOf m _ _ = ⊥
+
+-- The first that has no image: those before it have theirs.
+pub record IsFirstUnmapped (m : Map) (references : List Reference) (r : Reference) : Type 0 where
+  pub at : ℕ
+  pub there : slice_get references at ≡ Some r
+  pub none : image_of m r ≡ None
+  pub before : (k : ℕ) (other : Reference) → k < at → slice_get references k ≡ Some other → (image : ℕ) × (image_of m other ≡ Some image)
+
+-- What is reported where not all have images: the first that has none, or that memory is refused.
+abbrev pub IsRefusedBy : Map → List Reference → ReferenceError → Type 0
+IsRefusedBy m references (Unmapped table row place) = IsFirstUnmapped m references (names place table row)
+IsRefusedBy m references Memory = Unit {0}
+
+-- ---- how they are found, one after the other
+
+-- what is known: the map, and the images so far
+pub record Imaging : Type 0 where
+  pub map : Map
+  pub images : List Imaged
+
+abbrev pub with_image : Imaging → Reference → Option ℕ → Result Imaging Reference
+with_image s r (Some image) = Ok (record { map = s.map; images = s.images ++ record { table = r.table; row = r.row; image = image } ∷ [] })
+with_image s r None = Err r
+
+abbrev pub and_then : Result Imaging Reference → (Imaging → Result Imaging Reference) → Result Imaging Reference
+and_then (Ok s) goes_on = goes_on s
+and_then (Err r) goes_on = Err r
+
+-- what is known after these references, or the first of them that has no image
+unfoldable pub imaged_on : Imaging → List Reference → Result Imaging Reference
+imaged_on s [] = Ok s
+imaged_on s (r ∷ rs) = and_then (with_image s r (image_of s.map r)) (λ t. imaged_on t rs)
+
+-- The references were gone through, but where memory is refused.
+abbrev pub Goes : Imaging → List Reference → Imaging → Result (Unit {0}) ReferenceError → Type 0
+Goes s rs after (Ok done) = imaged_on s rs ≡ Ok after
+Goes s rs after (Err (Unmapped table row place)) = imaged_on s rs ≡ Err (record { table = table; row = row; place = place })
+Goes s rs after (Err Memory) = Unit {0}

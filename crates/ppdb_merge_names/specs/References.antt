@@ -1,0 +1,122 @@
+-- The rows of the type system that an input names, each with its place, in the order of the places (Portable PDB v1.0, "#Pdb
+-- stream", "Metadata Tables" and the formats of its blobs). What stands at a dropped method names none.
+use Rattle.std.specs.Prelude.{map, ℕ, ◌&&◌, ◌||◌, not, Bool, false, cond, nat_eq, nat_lt, List, [], ◌∷◌, ◌++◌, Option, Some, None}
+use Rattle.std.specs.List.{flat_map}
+use Rattle.std.specs.Option.{option_and_then}
+use Rattle.ppdb_base.specs.declared.fault.Place.{Place}
+use Rattle.ppdb_base.specs.Place.{at_byte, cell}
+use Rattle.custom_info.specs.Kinds.{kind_of}
+use Rattle.custom_info.specs.declared.kinds.Kind.{Kind}
+use Rattle.custom_info.specs.declared.kinds.Kind.TheVariants.{Async}
+use Rattle.ppdb_maps.specs.Map.{Map, is_dropped}
+use Rattle.ppdb_tables.specs.declared.parent.Parent.{Parent}
+use Rattle.ppdb_tables.specs.declared.rows.MethodDebugRow.{MethodDebugRow}
+use Rattle.ppdb_tables.specs.declared.rows.ScopeRow.{ScopeRow}
+use Rattle.ppdb_tables.specs.declared.rows.ConstantRow.{ConstantRow}
+use Rattle.ppdb_tables.specs.declared.rows.ImportRow.{ImportRow}
+use Rattle.ppdb_tables.specs.declared.rows.MachineRow.{MachineRow}
+use Rattle.ppdb_tables.specs.declared.rows.CustomRow.{CustomRow}
+use Rattle.ppdb_tables.specs.RawTables.{RawTables, count, numbered, row_at}
+use Rattle.ppdb_values.specs.declared.file.MethodValue.{MethodValue}
+use Rattle.ppdb_values.specs.RawFile.{RawFile, blob, type_limits}
+use Rattle.ppdb_values.specs.Documents.{method_of}
+use Rattle.ppdb_values.specs.Imports.{heap_of}
+use Rattle.ppdb_values.specs.Customs.{parent_of, kind_in}
+use Rattle.ppdb_values.specs.Value.{owner_of}
+use Rattle.type_blobs_rows.specs.declared.row.PlacedRow.{PlacedRow}
+use Rattle.type_blobs_rows.specs.Rows.{constant_types, import_rows, resume_methods}
+
+-- a row that is named, and where
+pub record Reference : Type 0 where
+  pub table : ℕ
+  pub row : ℕ
+  pub place : Place
+
+abbrev pub names : Place → ℕ → ℕ → Reference
+names place table row = record { table = table; row = row; place = place }
+
+-- a row that may be 0 for none
+abbrev pub names_some : Place → ℕ → ℕ → List Reference
+names_some place table row = cond (nat_eq row 0) [] (names place table row ∷ [])
+
+-- the rows that the blob of a cell names
+abbrev pub inside : ℕ → ℕ → ℕ → List PlacedRow → List Reference
+inside table row column rows = map (λ (x : PlacedRow). names (record (cell table row column) { byte = x.byte }) x.table x.row) rows
+
+-- ---- the entry point ("#Pdb stream": EntryPoint), which counts in the first input
+
+abbrev pub of_entry : Bool → Map → ℕ → List Reference
+of_entry first m entry = cond first (cond (is_dropped m entry) [] (names_some (at_byte 3 20) 0x06 entry)) []
+
+-- ---- the rows of each table
+
+-- a method that has points, and its local signature
+abbrev pub of_points : ℕ → Option MethodValue → List Reference
+of_points row None = []
+of_points row (Some method) = names (cell 0x31 row 1) 0x06 row ∷ names_some (cell 0x31 row 1) 0x11 method.signature
+
+abbrev pub of_method : Map → RawTables → ℕ × MethodDebugRow → List Reference
+of_method m raw x = cond (is_dropped m x.0) [] (of_points x.0 (method_of raw x))
+
+abbrev pub of_scope : Map → ℕ × ScopeRow → List Reference
+of_scope m x = cond (is_dropped m x.1.method) [] (names (cell 0x32 x.0 0) 0x06 x.1.method ∷ [])
+
+-- a constant goes with the scope that owns it
+abbrev pub is_dropped_scope : Map → Option ScopeRow → Bool
+is_dropped_scope m None = false
+is_dropped_scope m (Some scope) = is_dropped m scope.method
+
+abbrev pub is_dropped_constant : Map → RawTables → ℕ → Bool
+is_dropped_constant m raw row = is_dropped_scope m (option_and_then (row_at raw.scopes) (owner_of (λ scope. scope.constants) raw.scopes row))
+
+abbrev pub types_of : RawTables → ℕ × ConstantRow → List Reference
+types_of raw x = inside 0x34 x.0 1 (constant_types (type_limits raw) (blob raw x.1.signature))
+
+abbrev pub of_constant : Map → RawTables → ℕ × ConstantRow → List Reference
+of_constant m raw x = cond (is_dropped_constant m raw x.0) [] (types_of raw x)
+
+abbrev pub of_import : RawTables → ℕ × ImportRow → List Reference
+of_import raw x = inside 0x35 x.0 1 (import_rows (type_limits raw) (heap_of raw) (blob raw x.1.imports))
+
+abbrev pub of_machine : Map → ℕ × MachineRow → List Reference
+of_machine m x =
+    cond (is_dropped m x.1.move_next || is_dropped m x.1.kickoff) []
+    (names (cell 0x36 x.0 0) 0x06 x.1.move_next ∷ names (cell 0x36 x.0 1) 0x06 x.1.kickoff ∷ [])
+
+-- the methods that resume, in a record of async stepping information
+abbrev pub methods_in : RawTables → Kind → List ℕ → List PlacedRow
+methods_in raw Async content = resume_methods (count raw 0x06) content
+methods_in raw kind content = []
+
+abbrev pub methods_of : RawTables → CustomRow → List PlacedRow
+methods_of raw row = methods_in raw (kind_of [] (kind_in raw row)) (blob raw row.value)
+
+-- a record on a row of the tables 00 to 2c
+abbrev pub of_parent : RawTables → ℕ × CustomRow → Parent → List Reference
+of_parent raw x parent =
+    names (cell 0x37 x.0 0) parent.table parent.row
+    ∷ inside 0x37 x.0 2 (methods_of raw x.1)
+
+abbrev pub is_live_parent : Map → Parent → Bool
+is_live_parent m parent = nat_lt parent.table 0x2d && not (nat_eq parent.table 0x06 && is_dropped m parent.row)
+
+abbrev pub of_custom : Map → RawTables → ℕ × CustomRow → List Reference
+of_custom m raw x = cond (is_live_parent m (parent_of x.1.parent)) (of_parent raw x (parent_of x.1.parent)) []
+
+-- ---- the whole input
+
+-- the tables 31 to 34, and 35 to 37
+abbrev pub of_methods : Map → RawTables → List Reference
+of_methods m raw =
+    flat_map (of_method m raw) (numbered raw.methods)
+    ++ (flat_map (of_scope m) (numbered raw.scopes)
+    ++ flat_map (of_constant m raw) (numbered raw.constants))
+
+abbrev pub of_others : Map → RawTables → List Reference
+of_others m raw =
+    flat_map (of_import raw) (numbered raw.imports)
+    ++ (flat_map (of_machine m) (numbered raw.machines)
+    ++ flat_map (of_custom m raw) (numbered raw.customs))
+
+unfoldable pub references : Bool → Map → RawFile → List Reference
+references first m raw = of_entry first m raw.entry ++ (of_methods m raw.tables ++ of_others m raw.tables)

@@ -1,0 +1,76 @@
+// The types that the constants of scopes name.
+ghost use Rattle.std.specs.Prelude.{length};
+ghost use Rattle.std.specs.List.{flat_map};
+ghost use Rattle.ppdb_tables.specs.RawTables.{numbered};
+ghost use Rattle.ppdb_verify.specs.Views.{raw_file};
+ghost use Rattle.ppdb_values_reading.specs.Scopes.{HasLists, IsWithin};
+ghost use Rattle.ppdb_merge_names.specs.Imaging.{Goes};
+ghost use Rattle.ppdb_merge_names.specs.Lists.{of_list, of_scope_constants};
+ghost use Rattle.ppdb_merge_names.specs.References.{of_constant};
+
+use crate::imaged::ReferenceError;
+use crate::imager::Imager;
+use crate::rows::add_rows;
+use ppdb_base::Steps;
+use ppdb_values::lists_are_owned;
+use ppdb_values_reading::{ListRange, Scope, ScopeCursor, scopes_own_their_lists};
+use ppdb_verify::Verified;
+use ppdb_verify_rows::{blob, constant, type_limits};
+use std::sync::ledger::Ledger;
+use type_blobs_rows::ConstantTypes;
+
+/// Adds the types that the constants of a list name.
+fn add_list<L: Ledger>(
+    file: &Verified<'_>,
+    list: ListRange,
+    imager: &mut Imager<'_>,
+    steps: &mut Steps<L>,
+) -> Result<(), ReferenceError>
+    requires { IsWithin (length (raw_file file.now).tables.constants) list }
+    ensures { Goes imager.old (of_list (raw_file file.now).tables list) imager.new result }
+{
+    file.keeps();
+    let limits = type_limits(file);
+    let mut row = list.first;
+    'rows: while row < list.end {
+        let cells = constant(file, row, steps);
+        let mut types = ConstantTypes::new(blob(file, cells.signature), limits);
+        add_rows(&mut types, 0x34, row, 1, imager)?;
+        row += 1;
+    }
+    Ok(())
+}
+
+/// Adds the types that the constants of a scope name, if its method is not dropped.
+fn add_scope_constants<L: Ledger>(
+    file: &Verified<'_>,
+    scope: &Scope,
+    imager: &mut Imager<'_>,
+    steps: &mut Steps<L>,
+) -> Result<(), ReferenceError>
+    requires { HasLists (raw_file file.now).tables scope.now }
+    ensures { Goes imager.old (of_scope_constants imager.old.map (raw_file file.now).tables scope.now) imager.new result }
+{
+    if imager.drops(scope.method) {
+        return Ok(());
+    }
+    add_list(file, scope.constants, imager, steps)
+}
+
+/// Adds the types that the constants of scopes name, but for those of dropped methods.
+pub(crate) fn add_constants<L: Ledger>(
+    file: &Verified<'_>,
+    imager: &mut Imager<'_>,
+    steps: &mut Steps<L>,
+) -> Result<(), ReferenceError>
+    ensures { Goes imager.old (flat_map (of_constant imager.old.map (raw_file file.now).tables) (numbered (raw_file file.now).tables.constants)) imager.new result }
+{
+    file.keeps();
+    lists_are_owned();
+    scopes_own_their_lists();
+    let mut scopes = ScopeCursor::new(file, steps);
+    'scopes: while let Some(scope) = scopes.next(steps) {
+        add_scope_constants(file, &scope, imager, steps)?;
+    }
+    Ok(())
+}

@@ -1,0 +1,265 @@
+// The rows that a row names.
+ghost use Rattle.std.specs.Prelude.{◌≡◌, ◌||◌, List, Some};
+ghost use Rattle.ppdb_maps.specs.Map.{is_dropped};
+ghost use Rattle.ppdb_base.specs.Place.{cell};
+ghost use Rattle.ppdb_tables.specs.RawTables.{row_at};
+ghost use Rattle.ppdb_values.specs.Rules.{HasRow};
+ghost use Rattle.ppdb_verify.specs.Views.{raw_file};
+ghost use Rattle.ppdb_merge_names.specs.Imaging.{Goes};
+ghost use Rattle.ppdb_merge_names.specs.References.{Reference, inside, of_entry, of_method, of_scope};
+ghost use Rattle.ppdb_merge_names.specs.References.{of_import, of_machine, methods_of, of_parent, is_live_parent, of_custom};
+ghost use Rattle.ppdb_merge_names.specs.TableRows.{table_number, row_references};
+
+use crate::imaged::ReferenceError;
+use crate::imager::Imager;
+use custom_info::Kind;
+use ppdb_base::{Place, Steps};
+use ppdb_tables::{CustomRow, ImportRow, MachineRow, MethodDebugRow, Parent, ScopeRow, parent_of};
+use ppdb_values::values_are_rows;
+use ppdb_verify::Verified;
+use ppdb_verify_rows::{
+    blob, blobs, count, custom, import, kind, machine, method_debug, points_of, scope, type_limits,
+};
+use std::alloc::Global;
+use std::sync::ledger::Ledger;
+use type_blobs_rows::{ImportRows, ResumeMethods, RowWalk};
+
+/// A table whose rows name rows by themselves.
+#[derive(Clone, Copy)]
+pub(crate) enum Table {
+    MethodDebug,
+    LocalScope,
+    ImportScope,
+    StateMachine,
+    Custom,
+}
+
+/// The number of a table.
+pub(crate) fn table_number(table: Table) -> u8
+    ensures { result ≡ table_number table }
+{
+    match table {
+        Table::MethodDebug => 0x31,
+        Table::LocalScope => 0x32,
+        Table::ImportScope => 0x35,
+        Table::StateMachine => 0x36,
+        Table::Custom => 0x37,
+    }
+}
+
+/// A byte of the blob that a cell names.
+fn byte_of(table: u8, row: u32, column: u8, byte: u32) -> Place
+    ensures { result ≡ record (cell table row column) { byte = byte } }
+{
+    Place {
+        part: 5,
+        table,
+        row,
+        column,
+        byte,
+    }
+}
+
+/// A cell.
+fn cell(table: u8, row: u32, column: u8) -> Place
+    ensures { result ≡ cell table row column }
+{
+    byte_of(table, row, column, 0)
+}
+
+/// Adds the rows that the blob of a cell names.
+pub(crate) fn add_rows<W: RowWalk>(
+    walk: &mut W,
+    table: u8,
+    row: u32,
+    column: u8,
+    imager: &mut Imager<'_>,
+) -> Result<(), ReferenceError>
+    ensures { Goes imager.old (inside table row column (W.left walk.old)) imager.new result }
+{
+    'rows: while let Some(found) = walk.next_row() {
+        let place = byte_of(table, row, column, found.byte);
+        imager.add(found.table, found.row, place)?;
+    }
+    Ok(())
+}
+
+/// Adds the entry point, which counts in the first input.
+pub(crate) fn add_entry(
+    file: &Verified<'_>,
+    first: bool,
+    imager: &mut Imager<'_>,
+) -> Result<(), ReferenceError>
+    ensures { Goes imager.old (of_entry first imager.old.map (raw_file file.now).entry) imager.new result }
+{
+    if !first {
+        return Ok(());
+    }
+    let entry = file.head().entry;
+    if imager.drops(entry) {
+        return Ok(());
+    }
+    let place = Place {
+        part: 3,
+        table: 0,
+        row: 0,
+        column: 0,
+        byte: 20,
+    };
+    imager.add_some(0x06, entry, place)
+}
+
+/// Adds a method that has points, and its local signature.
+fn add_method(
+    file: &Verified<'_>,
+    row: u32,
+    cells: &MethodDebugRow,
+    imager: &mut Imager<'_>,
+) -> Result<(), ReferenceError>
+    requires { row_at (raw_file file.now).tables.methods row ≡ Some cells.now }
+    ensures { Goes imager.old (of_method imager.old.map (raw_file file.now).tables (row, cells.now)) imager.new result }
+{
+    values_are_rows();
+    if imager.drops(row) {
+        return Ok(());
+    }
+    let Some(cursor) = points_of(file, row, cells) else {
+        return Ok(());
+    };
+    let place = cell(0x31, row, 1);
+    imager.add(0x06, row, place)?;
+    imager.add_some(0x11, cursor.signature(), place)
+}
+
+/// Adds the methods that resume, where a custom record has async steps.
+fn add_steps(
+    alloc: Global,
+    file: &Verified<'_>,
+    row: u32,
+    cells: &CustomRow,
+    imager: &mut Imager<'_>,
+) -> Result<(), ReferenceError>
+    requires { row_at (raw_file file.now).tables.customs row ≡ Some cells.now }
+    ensures { Goes imager.old (inside 0x37 row 2 (methods_of (raw_file file.now).tables cells.now)) imager.new result }
+{
+    match kind(alloc, file, row, cells) {
+        Kind::Async => {
+            let mut methods = ResumeMethods::new(blob(file, cells.value), count(file, 0x06));
+            add_rows(&mut methods, 0x37, row, 2, imager)
+        }
+        _ => Ok(()),
+    }
+}
+
+/// Adds the row that a custom record is on, and the methods that its steps resume.
+fn add_parent(
+    alloc: Global,
+    file: &Verified<'_>,
+    row: u32,
+    cells: &CustomRow,
+    parent: Parent,
+    imager: &mut Imager<'_>,
+) -> Result<(), ReferenceError>
+    requires { row_at (raw_file file.now).tables.customs row ≡ Some cells.now }
+    ensures { Goes imager.old (of_parent (raw_file file.now).tables (row, cells.now) parent) imager.new result }
+{
+    imager.add(parent.table, parent.row, cell(0x37, row, 0))?;
+    add_steps(alloc, file, row, cells, imager)
+}
+
+/// Whether a row is one of the type system that is not dropped.
+fn is_live(imager: &Imager<'_>, parent: Parent) -> bool
+    ensures { result ≡ is_live_parent imager.now.map parent }
+{
+    parent.table < 0x2d && !(parent.table == 0x06 && imager.drops(parent.row))
+}
+
+/// Adds what a custom record names, where it is on a row of the type system that is not dropped.
+fn add_custom(
+    alloc: Global,
+    file: &Verified<'_>,
+    row: u32,
+    cells: &CustomRow,
+    imager: &mut Imager<'_>,
+) -> Result<(), ReferenceError>
+    requires { row_at (raw_file file.now).tables.customs row ≡ Some cells.now }
+    ensures { Goes imager.old (of_custom imager.old.map (raw_file file.now).tables (row, cells.now)) imager.new result }
+{
+    file.keeps();
+    let Some(parent) = parent_of(cells.parent) else {
+        unreachable!()
+    };
+    if !is_live(imager, parent) {
+        return Ok(());
+    }
+    add_parent(alloc, file, row, cells, parent, imager)
+}
+
+/// Adds the method of a scope.
+fn add_scope(row: u32, cells: &ScopeRow, imager: &mut Imager<'_>) -> Result<(), ReferenceError>
+    ensures { Goes imager.old (of_scope imager.old.map (row, cells.now)) imager.new result }
+{
+    if imager.drops(cells.method) {
+        return Ok(());
+    }
+    imager.add(0x06, cells.method, cell(0x32, row, 0))
+}
+
+/// Adds the types and the assemblies that the imports of a scope name.
+fn add_import(
+    file: &Verified<'_>,
+    row: u32,
+    cells: &ImportRow,
+    imager: &mut Imager<'_>,
+) -> Result<(), ReferenceError>
+    ensures { Goes imager.old (of_import (raw_file file.now).tables (row, cells.now)) imager.new result }
+{
+    let content = blob(file, cells.imports);
+    let mut rows = ImportRows::new(content, blobs(file), type_limits(file));
+    add_rows(&mut rows, 0x35, row, 1, imager)
+}
+
+/// Whether a method of a state machine is dropped.
+fn drops_machine(imager: &Imager<'_>, cells: &MachineRow) -> bool
+    ensures { result ≡ (is_dropped imager.now.map cells.now.move_next || is_dropped imager.now.map cells.now.kickoff) }
+{
+    imager.drops(cells.move_next) || imager.drops(cells.kickoff)
+}
+
+/// Adds the methods of a state machine.
+fn add_machine(row: u32, cells: &MachineRow, imager: &mut Imager<'_>) -> Result<(), ReferenceError>
+    ensures { Goes imager.old (of_machine imager.old.map (row, cells.now)) imager.new result }
+{
+    if drops_machine(imager, cells) {
+        return Ok(());
+    }
+    imager.add(0x06, cells.move_next, cell(0x36, row, 0))?;
+    imager.add(0x06, cells.kickoff, cell(0x36, row, 1))
+}
+
+/// Adds what a row of a table names.
+pub(crate) fn add_row<L: Ledger>(
+    alloc: Global,
+    file: &Verified<'_>,
+    table: Table,
+    row: u32,
+    imager: &mut Imager<'_>,
+    steps: &mut Steps<L>,
+) -> Result<(), ReferenceError>
+    requires { HasRow (raw_file file.now).tables (table_number table) row }
+    ensures { (names : List Reference) → row_at (row_references imager.old.map (raw_file file.now).tables table) row ≡ Some names → Goes imager.old names imager.new result }
+{
+    match table {
+        Table::MethodDebug => {
+            let cells = method_debug(file, row, steps);
+            add_method(file, row, &cells, imager)
+        }
+        Table::LocalScope => add_scope(row, &scope(file, row, steps), imager),
+        Table::ImportScope => add_import(file, row, &import(file, row, steps), imager),
+        Table::StateMachine => add_machine(row, &machine(file, row, steps), imager),
+        Table::Custom => {
+            let cells = custom(file, row, steps);
+            add_custom(alloc, file, row, &cells, imager)
+        }
+    }
+}

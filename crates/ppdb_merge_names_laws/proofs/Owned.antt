@@ -1,0 +1,192 @@
+-- What constants, imports, state machines and custom records name is what those of the value do.
+use Rattle.std.proofs.Common.{◌≡◌, ℕ, suc, ◌+◌, ◌-◌, Bool, true, false, ◌&&◌, ◌||◌, not, cond, List, [], ◌∷◌, length, Some, refl, sym, ap, ◌∙◌, map}
+use Rattle.std.proofs.Common.{slice_get, drop, arith}
+use Rattle.std.specs.Prelude.{nat_lt, slice_range}
+use Rattle.std.specs.List.{flat_map, filter}
+use Rattle.ppdb_base.specs.Place.{cell}
+use Rattle.blob_grammar.specs.Grammar.{Value, cut}
+use Rattle.blob_grammar.specs.Reader.{prefix_of}
+use Rattle.blob_grammar.specs.Allowed.{is_between}
+use Rattle.blob_grammar.proofs.PrefixFields.{longest-prefix_of}
+use Rattle.custom_info.specs.declared.kinds.Kind.{Kind}
+use Rattle.custom_info.specs.declared.kinds.Kind.TheVariants.{Async, Hoisted, TypeDocuments, Free, Unknown}
+use Rattle.custom_info.specs.Kinds.{kind_of}
+use Rattle.type_blobs.specs.Imports.{imports as import_grammar}
+use Rattle.ppdb_maps.specs.Map.{Map, is_dropped}
+use Rattle.ppdb_tables.specs.declared.rows.ScopeRow.{ScopeRow}
+use Rattle.ppdb_tables.specs.declared.rows.ConstantRow.{ConstantRow}
+use Rattle.ppdb_tables.specs.declared.rows.ImportRow.{ImportRow}
+use Rattle.ppdb_tables.specs.declared.rows.MachineRow.{MachineRow}
+use Rattle.ppdb_tables.specs.declared.rows.CustomRow.{CustomRow}
+use Rattle.ppdb_tables.specs.RawTables.{RawTables, count, numbered, row_at}
+use Rattle.ppdb_values.specs.declared.custom.CustomValue.{CustomValue}
+use Rattle.ppdb_values.specs.declared.import.ImportScopeValue.{ImportScopeValue}
+use Rattle.ppdb_values.specs.declared.annotation.Annotation.{Annotation}
+use Rattle.ppdb_values.specs.declared.scope.ConstantValue.{ConstantValue}
+use Rattle.ppdb_values.specs.Constants.{constant_of}
+use Rattle.ppdb_values.specs.Customs.{custom_of, custom_body, parent_of, kind_in}
+use Rattle.ppdb_values.specs.Imports.{import_scope_of, import_value, heap_of}
+use Rattle.ppdb_values.specs.Owners.{ListsAreOwned, list_of}
+use Rattle.ppdb_values.specs.Parts.{first_item}
+use Rattle.ppdb_values.specs.RawFile.{RawFile, blob, records_of, type_limits}
+use Rattle.ppdb_values.specs.Rules.{KeepsRules}
+use Rattle.ppdb_values.specs.Value.{value_of, scope_of}
+use Rattle.ppdb_values_reading.specs.Scopes.{scope_in}
+use Rattle.ppdb_merge_names.specs.References.{names as names_at, types_of, of_constant, of_import, of_machine, methods_in, methods_of, of_parent}
+use Rattle.ppdb_merge_names.specs.References.{is_live_parent, of_custom}
+use Rattle.ppdb_merge_names.specs.Lists.{of_list, of_scope_constants}
+use Rattle.ppdb_merge_names.proofs.ConstantLists.{all-scopes, get_numbered, get_take, get_drop}
+use Rattle.ppdb_merge_items.specs.declared.file.AnnotatedScope.{AnnotatedScope}
+use Rattle.ppdb_merge_items.specs.Annotated.{annotated_file}
+use Rattle.ppdb_merge_items.specs.NamedRows.{Named, names, in_constant, in_import, in_steps, live_scope, live_machine, live_custom}
+use Rattle.ppdb_merge_names_laws.proofs.FieldWalks.{row_named}
+use Rattle.ppdb_merge_names_laws.proofs.ConstantNames.{constant-names}
+use Rattle.ppdb_merge_names_laws.proofs.ImportNames.{import-names}
+use Rattle.ppdb_merge_names_laws.proofs.StepNames.{step-names}
+use Rattle.ppdb_merge_names_laws.proofs.Listed.{unplaced, flat_map-made, flat_map-same, unplaced-flat, named-mapped, unnumbered, numbered-out, numbered-value}
+use Rattle.ppdb_merge_names_laws.proofs.Listed.{annotated-items, filter-both}
+use Rattle.ppdb_merge_names_laws.proofs.Parts.{inside-named, annotated_row, annotated-scopes}
+
+-- ---- constants
+
+abbrev value_rows : ConstantValue → List Named
+value_rows c = in_constant (record { item = c; customs = [] })
+
+module _ (m : Map) (raw : RawFile) (owned : ListsAreOwned) (keeps : KeepsRules raw) where
+  constant-named : (row : ℕ) (cells : ConstantRow) → row_at raw.tables.constants row ≡ Some cells
+      → unplaced (types_of raw.tables (row, cells)) ≡ value_rows (constant_of raw.tables cells)
+  constant-named row cells there =
+      inside-named 0x34 row 1 _ ∙ constant-names (type_limits raw.tables) (blob raw.tables cells.signature) ((keeps.constants.each row cells there).body)
+
+  -- a constant of a slice of the table is that of its row
+  in-slice : (a b i : ℕ) (x : ℕ × ConstantRow) → slice_get (slice_range (numbered raw.tables.constants) a b) i ≡ Some x
+      → row_at raw.tables.constants x.0 ≡ Some x.1
+  in-slice a b i x e =
+      let t = get_take (b - a) (drop a (numbered raw.tables.constants)) i x e in
+      let n = get_numbered 1 raw.tables.constants (a + i) x (sym (get_drop (numbered raw.tables.constants) a i) ∙ t.1) in
+      let up : 1 + (a + i) ≡ suc (a + i) = omega arith in
+      ap (row_at raw.tables.constants) (n.0 ∙ up) ∙ n.1
+
+  list-named : (row : ℕ) (scope : ScopeRow) → row_at raw.tables.scopes row ≡ Some scope
+      → unplaced (of_list raw.tables (scope_in raw.tables (row, scope)).constants) ≡ flat_map in_constant (annotated_row m raw (row, scope)).constants
+  list-named row scope there =
+      let list = list_of (λ s. s.constants) raw.tables.scopes row scope raw.tables.constants in
+      unplaced-flat (types_of raw.tables) list
+      ∙ flat_map-same (λ x. unplaced (types_of raw.tables x)) (λ x. value_rows (constant_of raw.tables x.1)) list
+      (λ i x e. constant-named x.0 x.1 (in-slice (scope.constants - 1) ((scope_in raw.tables (row, scope)).constants.end - 1) i x e))
+      ∙ sym (flat_map-made (λ (x : ℕ × ConstantRow). constant_of raw.tables x.1) value_rows list)
+      ∙ ap (λ (items : List (ℕ × ConstantRow)). flat_map value_rows (map (λ (x : ℕ × ConstantRow). constant_of raw.tables x.1) items))
+      (sym (owned.constants (λ s. s.constants) raw.tables.scopes row scope raw.tables.constants keeps.constants.lists there))
+      ∙ sym (annotated-items (value_of raw) 0x34 (first_item (λ before. length before.constants) (value_of raw) row)
+      (scope_of raw.tables (row, scope)).constants in_constant value_rows (λ x. refl))
+
+  scope-constants : (i : ℕ) (x : ℕ × ScopeRow) → slice_get (numbered raw.tables.scopes) i ≡ Some x
+      → unplaced (of_scope_constants m raw.tables (scope_in raw.tables x))
+      ≡ cond (live_scope m (annotated_row m raw x)) (flat_map in_constant (annotated_row m raw x).constants) []
+  scope-constants i x e =
+      let n = get_numbered 1 raw.tables.scopes i x e in
+      let up : 1 + i ≡ suc i = omega arith in
+      by (is_dropped m x.1.method) (ap (row_at raw.tables.scopes) (n.0 ∙ up) ∙ n.1)
+    where
+      by : (d : Bool) → row_at raw.tables.scopes x.0 ≡ Some x.1
+          → unplaced (cond d [] (of_list raw.tables (scope_in raw.tables x).constants)) ≡ cond (not d) (flat_map in_constant (annotated_row m raw x).constants) []
+      by true there = refl
+      by false there = list-named x.0 x.1 there
+
+  pub constants-named : unplaced (flat_map (of_constant m raw.tables) (numbered raw.tables.constants))
+      ≡ flat_map (λ (s : AnnotatedScope). flat_map in_constant s.constants) (filter (live_scope m) (annotated_file (value_of raw)).scopes)
+  constants-named =
+      let rows = numbered raw.tables.scopes in
+      ap unplaced (all-scopes m raw.tables owned keeps.constants.lists ∙ flat_map-made (scope_in raw.tables) (of_scope_constants m raw.tables) rows)
+      ∙ unplaced-flat (λ x. of_scope_constants m raw.tables (scope_in raw.tables x)) rows
+      ∙ named-mapped (annotated_row m raw) (λ x. unplaced (of_scope_constants m raw.tables (scope_in raw.tables x))) (live_scope m)
+      (λ (s : AnnotatedScope). flat_map in_constant s.constants) rows scope-constants
+      ∙ ap (λ (scopes : List AnnotatedScope). flat_map (λ (s : AnnotatedScope). flat_map in_constant s.constants) (filter (live_scope m) scopes))
+      (sym (annotated-scopes m raw))
+
+  -- ---- imports
+
+  no_begun : (values : List Value) → is_between values ≡ true → values ≡ []
+  no_begun [] e = refl
+  no_begun (v ∷ values) e = cc
+
+  import-named : (row : ℕ) (cells : ImportRow) → row_at raw.tables.imports row ≡ Some cells
+      → unplaced (of_import raw.tables (row, cells)) ≡ flat_map in_import (import_scope_of raw.tables cells).imports
+  import-named row cells there =
+      let g = import_grammar (type_limits raw.tables) (heap_of raw.tables) in
+      let content = blob raw.tables cells.imports in
+      let whole = (keeps.imports.each row cells there).imports_whole in
+      let prefix = longest-prefix_of g content whole.fields whole.after whole.prefix in
+      let ends : (cut g (prefix_of g content)).begun
+      ≡ [] = no_begun (cut g (prefix_of g content)).begun (ap (λ fs. is_between (cut g fs).begun) (sym prefix) ∙ whole.ends.1) in
+      inside-named 0x35 row 1 _
+      ∙ import-names (heap_of raw.tables) (type_limits raw.tables) content ends
+      ∙ sym (flat_map-made import_value in_import (records_of g content))
+
+  pub imports-named : unplaced (flat_map (of_import raw.tables) (numbered raw.tables.imports))
+      ≡ flat_map (λ (i : Annotation ImportScopeValue). flat_map in_import i.item.imports) (annotated_file (value_of raw)).imports
+  imports-named =
+      let rows = numbered raw.tables.imports in
+      unplaced-flat (of_import raw.tables) rows
+      ∙ flat_map-same (λ x. unplaced (of_import raw.tables x)) (λ x. flat_map in_import (import_scope_of raw.tables x.1).imports) rows
+      (λ i x e.
+      let n = get_numbered 1 raw.tables.imports i x e in
+      let up : 1 + i ≡ suc i = omega arith in
+      import-named x.0 x.1 (ap (row_at raw.tables.imports) (n.0 ∙ up) ∙ n.1))
+      ∙ unnumbered (λ cells. flat_map in_import (import_scope_of raw.tables cells).imports) 1 raw.tables.imports
+      ∙ sym (flat_map-made (import_scope_of raw.tables) (λ (s : ImportScopeValue). flat_map in_import s.imports) raw.tables.imports)
+      ∙ sym (annotated-items (value_of raw) 0x35 1 (value_of raw).imports (λ (i : Annotation ImportScopeValue). flat_map in_import i.item.imports)
+      (λ (s : ImportScopeValue). flat_map in_import s.imports) (λ x. refl))
+
+-- ---- state machines
+
+abbrev pub machine_rows : MachineRow → List Named
+machine_rows r = names 0x06 r.move_next ∷ names 0x06 r.kickoff ∷ []
+
+pub machines-named : (m : Map) (raw : RawTables)
+    → unplaced (flat_map (of_machine m) (numbered raw.machines)) ≡ flat_map machine_rows (filter (live_machine m) raw.machines)
+machines-named m raw =
+    unplaced-flat (of_machine m) (numbered raw.machines)
+    ∙ named-mapped (λ (x : ℕ × MachineRow). x.1) (λ x. unplaced (of_machine m x)) (live_machine m) machine_rows (numbered raw.machines)
+    (λ i x e. by x (is_dropped m x.1.move_next || is_dropped m x.1.kickoff))
+    ∙ ap (λ (machines : List MachineRow). flat_map machine_rows (filter (live_machine m) machines)) (numbered-out 1 raw.machines)
+  where
+    by : (x : ℕ × MachineRow) (d : Bool)
+        → unplaced (cond d [] (names_at (cell 0x36 x.0 0) 0x06 x.1.move_next ∷ names_at (cell 0x36 x.0 1) 0x06 x.1.kickoff ∷ []))
+        ≡ cond (not d) (machine_rows x.1) []
+    by x true = refl
+    by x false = refl
+
+-- ---- custom records
+
+abbrev pub custom_rows : CustomValue → List Named
+custom_rows c = names c.parent.table c.parent.row ∷ in_steps c.value
+
+methods-named : (raw : RawTables) (kind : Kind) (content : List ℕ) → map row_named (methods_in raw kind content) ≡ in_steps (custom_body raw kind content)
+methods-named raw Async content = step-names (count raw 0x06) content
+methods-named raw Hoisted content = refl
+methods-named raw TypeDocuments content = refl
+methods-named raw Free content = refl
+methods-named raw Unknown content = refl
+
+custom-row : (raw : RawTables) (x : ℕ × CustomRow) (live : Bool)
+    → unplaced (cond live (of_parent raw x (parent_of x.1.parent)) []) ≡ cond live (custom_rows (custom_of raw x.1)) []
+custom-row raw x true =
+    ap (λ (l : List Named). names (parent_of x.1.parent).table (parent_of x.1.parent).row ∷ l)
+    (inside-named 0x37 x.0 2 (methods_of raw x.1) ∙ methods-named raw (kind_of [] (kind_in raw x.1)) (blob raw x.1.value))
+custom-row raw x false = refl
+
+abbrev pub is_type_system : CustomValue → Bool
+is_type_system c = nat_lt c.parent.table 0x2d
+
+pub customs-named : (m : Map) (raw : RawTables)
+    → unplaced (flat_map (of_custom m raw) (numbered raw.customs))
+    ≡ flat_map custom_rows (filter (live_custom m) (filter is_type_system (map (custom_of raw) raw.customs)))
+customs-named m raw =
+    unplaced-flat (of_custom m raw) (numbered raw.customs)
+    ∙ named-mapped (λ (x : ℕ × CustomRow). custom_of raw x.1) (λ x. unplaced (of_custom m raw x)) (λ c. is_type_system c && live_custom m c) custom_rows
+    (numbered raw.customs)
+    (λ i x e. custom-row raw x (is_live_parent m (parent_of x.1.parent)))
+    ∙ ap (λ (customs : List CustomValue). flat_map custom_rows (filter (λ c. is_type_system c && live_custom m c) customs))
+    (numbered-value (custom_of raw) 1 raw.customs)
+    ∙ ap (λ (customs : List CustomValue). flat_map custom_rows customs) (sym (filter-both (live_custom m) is_type_system (map (custom_of raw) raw.customs)))

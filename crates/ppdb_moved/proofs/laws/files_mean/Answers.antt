@@ -1,5 +1,0 @@
-use Rattle.ppdb_moved.proofs.Means.{files_mean}
-use Rattle.ppdb_moved.proofs.laws.files_mean.Goals as goal
-
-pub returns : goal.returns
-returns c = files_mean

@@ -1,5 +1,0 @@
-use Rattle.ppdb_moved.proofs.Links.{links_mean}
-use Rattle.ppdb_moved.proofs.laws.links_mean.Goals as goal
-
-pub returns : goal.returns
-returns c = links_mean

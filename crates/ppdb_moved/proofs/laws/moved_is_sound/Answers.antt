@@ -1,5 +1,0 @@
-use Rattle.ppdb_moved.proofs.SoundMoves.{moved_sound}
-use Rattle.ppdb_moved.proofs.laws.moved_is_sound.Goals as goal
-
-pub returns : goal.returns
-returns c = moved_sound

@@ -1,5 +1,0 @@
-use Rattle.ppdb_moved.proofs.SoundMoves.{moved_names}
-use Rattle.ppdb_moved.proofs.laws.moved_names_images.Goals as goal
-
-pub returns : goal.returns
-returns c = moved_names

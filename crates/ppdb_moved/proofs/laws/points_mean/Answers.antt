@@ -1,5 +1,0 @@
-use Rattle.ppdb_moved.proofs.PointMeanings.{points_mean}
-use Rattle.ppdb_moved.proofs.laws.points_mean.Goals as goal
-
-pub returns : goal.returns
-returns c = points_mean

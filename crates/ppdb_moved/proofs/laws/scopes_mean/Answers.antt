@@ -1,5 +1,0 @@
-use Rattle.ppdb_moved.proofs.Meanings.{scopes_mean}
-use Rattle.ppdb_moved.proofs.laws.scopes_mean.Goals as goal
-
-pub returns : goal.returns
-returns c = scopes_mean

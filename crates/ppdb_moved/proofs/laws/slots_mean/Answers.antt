@@ -1,5 +1,0 @@
-use Rattle.ppdb_moved.proofs.Slots.{slots_mean}
-use Rattle.ppdb_moved.proofs.laws.slots_mean.Goals as goal
-
-pub returns : goal.returns
-returns c = slots_mean

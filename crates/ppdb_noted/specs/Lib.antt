@@ -1,9 +1,0 @@
-pub mod Each
-pub mod Laws
-pub mod NamedRows
-pub mod Noted
-pub mod NotedMeaning
-pub mod Sorted
-pub mod SoundParts
-pub mod Unnoted
-pub mod Worked

@@ -1,6 +1,0 @@
-use Rattle.ppdb_tables.specs.RawOf.{raw_of}
-use Rattle.ppdb_rules.proofs.MethodDebugFaults.{first_row}
-use Rattle.ppdb_rules.proofs.methods.judge_methods.Goals as goal
-
-pub loop-row-init : goal.loop-row-init
-loop-row-init g c = first_row (raw_of c.args.tables.now) c.requires.judged

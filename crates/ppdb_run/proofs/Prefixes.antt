@@ -1,0 +1,69 @@
+-- What was put when a run has ended.
+use Rattle.std.proofs.Common.{ℕ, ◌≡◌, List, [], ◌∷◌, ◌++◌, sym, ◌∙◌, ap, subst}
+use Rattle.std.specs.Prelude.{Option, IfSome}
+use Rattle.ppdb_base.specs.Files.{Files}
+use Rattle.ppdb_base.specs.Written.{appended, AppendsPrefix}
+use Rattle.ppdb_base.proofs.Written.{prefix_whole, appended_nothing}
+use Rattle.ppdb_run.specs.declared.status.Status.{Status}
+use Rattle.ppdb_run.specs.Ends.{OnOutcome, IsUnread, IsUnwritten, IsDue, answer, read_fault, write_fault, PutsPrefix}
+use Rattle.ppdb_run.specs.Outcome.{Outcome}
+use Rattle.ppdb_run.specs.Stops.{Cause, Refusal, Unread, Unwritten, Unput, OutOfMemory, line_of, refusal_of}
+use Rattle.ppdb_run.specs.Stops.{ComesFrom, OnUntold, OnCut, Tells, Told, Failed, NoMemory}
+
+module _ (words : List (List ℕ)) (files : Option Files) (before after : ℕ) (ReadFailed WriteFailed : Type 0) (old mid new : Option (List ℕ)) where
+  abbrev Due : Outcome → List ℕ → Type 0
+  Due due text = IsDue words files due before after ReadFailed WriteFailed text
+
+  abbrev Puts : Outcome → Type 0
+  Puts due = PutsPrefix words files due before after ReadFailed WriteFailed old new
+
+  nothing_put : (prefix rest : List ℕ) → [] ≡ prefix ++ rest → new ≡ appended mid prefix → new ≡ mid
+  nothing_put [] rest e w = w ∙ appended_nothing mid
+  nothing_put (x ∷ prefix) rest e w = cc
+
+  the_text : (due : Outcome) → AppendsPrefix old mid due.text → AppendsPrefix mid new [] → Puts due
+  the_text due h k = record {
+    text = due.text;
+    is_due = answer;
+    written = subst (λ (w : Option (List ℕ)). AppendsPrefix old w due.text) (sym (nothing_put k.prefix k.rest k.is_prefix k.written)) h;
+  }
+
+  the_line : (due : Outcome) (text : List ℕ) → Due due text → mid ≡ old → AppendsPrefix mid new text → Puts due
+  the_line due text d e h = record { text = text; is_due = d; written = subst (λ (w : Option (List ℕ)). AppendsPrefix w new text) e h }
+
+  -- the line of a refusal is the text of the outcome
+  the_refusal : (due refusal : Outcome) → due ≡ refusal → mid ≡ old → AppendsPrefix mid new refusal.text → Puts due
+  the_refusal due refusal e silent h = the_line due refusal.text (subst (λ (text : List ℕ). Due due text) (ap (λ (o : Outcome). o.text) e) answer) silent h
+
+  module _ (M C : Type 0) where
+    stopped : (cause : Cause) (due : Outcome) → ComesFrom cause M (IsUnread words files before after) (IsUnwritten words) files ReadFailed WriteFailed C
+        → IfSome (refusal_of cause) (λ refusal. due ≡ refusal) → OnUntold cause (mid ≡ old) → OnCut cause (AppendsPrefix old mid due.text)
+        → AppendsPrefix mid new (line_of cause) → Puts due
+    stopped (Refusal outcome) due comes settles silent cut h = the_refusal due outcome settles silent h
+    stopped (Unread name) due comes settles silent cut h = the_line due _ (read_fault name comes.0 comes.1) silent h
+    stopped (Unwritten name) due comes settles silent cut h = the_line due _ (write_fault name comes.0 comes.1) silent h
+    stopped Unput due comes settles silent cut h = the_text due cut h
+    stopped OutOfMemory due comes settles silent cut h = the_text due cut h
+
+    told_prefix : (cause : Cause) (status : Status) (faults faults' : ℕ) → Tells cause status faults faults' mid new → AppendsPrefix mid new (line_of cause)
+    told_prefix cause status faults faults' (Told s w l) = prefix_whole mid new (line_of cause) w
+    told_prefix cause status faults faults' (Failed s r f) = f
+    told_prefix cause status faults faults' (NoMemory s f l) = f
+
+    -- a run that stopped put a prefix of a text that was due
+    pub prefix_of_stop : (cause : Cause) (status : Status) (faults faults' : ℕ)
+        → ComesFrom cause M (IsUnread words files before after) (IsUnwritten words) files ReadFailed WriteFailed C
+        → OnOutcome words files (λ due. IfSome (refusal_of cause) (λ refusal. due ≡ refusal))
+        → OnOutcome words files (λ due. OnCut cause (AppendsPrefix old mid due.text))
+        → OnUntold cause (mid ≡ old)
+        → Tells cause status faults faults' mid new
+        → OnOutcome words files Puts
+    prefix_of_stop cause status f f' comes settles cut silent t asked h all seen due is =
+        stopped cause due comes (settles asked h all seen due is) silent (cut asked h all seen due is) (told_prefix cause status f f' t)
+
+-- a run that was done put its text
+pub prefix_of_done : (words : List (List ℕ)) (files : Option Files) (before after : ℕ) (ReadFailed WriteFailed : Type 0) (old new : Option (List ℕ))
+    → OnOutcome words files (λ due. new ≡ appended old due.text)
+    → OnOutcome words files (λ due. PutsPrefix words files due before after ReadFailed WriteFailed old new)
+prefix_of_done words files b a R W old new put asked h all seen due is = record
+    { text = due.text; is_due = answer; written = prefix_whole old new _ (put asked h all seen due is) }

@@ -1,0 +1,32 @@
+-- What the code's lines show.
+use Rattle.std.specs.Prelude.{map, ℕ, List}
+use Rattle.std.specs.List.{flat_map}
+use Rattle.ppdb_show_lines.specs.declared.line.Item.{Item}
+use Rattle.ppdb_show_lines.specs.declared.line.Item.TheVariants.{Number, Table, Token, Guid, Octets, Name}
+use Rattle.ppdb_show_lines.specs.declared.line.Part.{Part}
+use Rattle.ppdb_show_lines.specs.declared.line.Part.TheVariants.{Field as FieldPart, Mark}
+use Rattle.ppdb_show_lines.specs.Keys.{key_text}
+use Rattle.ppdb_show_lines.specs.Lines.{Content, number, table, token, guid, octets, name, Field, field, mark, Line, field_text}
+
+abbrev pub content_of : Item → Content
+content_of (Number n) = number n
+content_of (Table t) = table t
+content_of (Token t) = token t
+content_of (Guid g) = guid g
+content_of (Octets bytes) = octets bytes.now
+content_of (Name bytes) = name bytes.now
+
+-- It is no number.
+abbrev pub IsText : Content → Type 0
+IsText (number n) = ⊥
+IsText content = Unit {0}
+
+abbrev pub field_of : Part → Field
+field_of (FieldPart words key item) = field words.now (key_text key) (content_of item)
+field_of (Mark words) = mark words.now
+
+abbrev pub line_of : List ℕ → List Part → Line
+line_of word parts = record { word = word; fields = map field_of parts }
+
+abbrev pub fields_text : List Part → List ℕ
+fields_text parts = flat_map field_text (map field_of parts)

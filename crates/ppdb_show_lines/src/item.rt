@@ -1,0 +1,23 @@
+// What a field holds, as text.
+ghost use Rattle.ppdb_base.specs.Written.{Puts};
+ghost use Rattle.ppdb_show_lines.specs.Lines.{content_text};
+ghost use Rattle.ppdb_show_lines.specs.Views.{content_of};
+
+use crate::line::Item;
+use crate::values::{put_guid, put_hex, put_table, put_token};
+use itoa::Buffer;
+use ppdb_base::{Sink, WriteError, put_escaped};
+
+/// Puts what a field holds.
+pub fn put_item<O: Sink>(out: &mut O, item: &Item<'_>) -> Result<(), WriteError>
+    ensures { Puts result (O.written out.old) (O.written out.new) (O.faults out.old) (O.faults out.new) (content_text (content_of item.now)) }
+{
+    match *item {
+        Item::Number(number) => out.put(Buffer::new().format(number).as_bytes()),
+        Item::Table(table) => put_table(out, table),
+        Item::Token(token) => put_token(out, token),
+        Item::Guid(guid) => put_guid(out, guid),
+        Item::Octets(bytes) => put_hex(out, bytes),
+        Item::Name(name) => put_escaped(out, name),
+    }
+}

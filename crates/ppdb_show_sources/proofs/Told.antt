@@ -1,0 +1,57 @@
+-- What was put and what is still to come, under other names; the next break; the address of a document as it was reported.
+use Rattle.std.proofs.Common.{◌≡◌, ℕ, ◌∙◌, Bool, true, false, List, [], ◌∷◌, ◌++◌, refl, sym, ap, subst, Option, Some, None, Result, Ok, Err}
+use Rattle.std.specs.Prelude.{IfOk, OnOk}
+use Rattle.blob_grammar.specs.Reader.{tail}
+use Rattle.ppdb_base.specs.Written.{Puts}
+use Rattle.ppdb_base.specs.declared.link_error.LinkError.{LinkError}
+use Rattle.ppdb_base.specs.declared.list.Memory.{Memory}
+use Rattle.ppdb_base.specs.declared.sink.WriteError.{WriteError}
+use Rattle.ppdb_show_lines.proofs.Putting.{Putting}
+use Rattle.ppdb_show_lines.specs.Lines.{text_of}
+use Rattle.ppdb_queries.specs.Cursors.{next_of}
+use Rattle.ppdb_values.specs.declared.file.FileValue.{FileValue}
+use Rattle.break_lines.specs.declared.item.Break.{Break}
+use Rattle.source_link.specs.declared.pair.Pair.{Pair}
+use Rattle.source_link.specs.FileLinks.{link_record}
+use Rattle.source_link.specs.Laws.{AreLinks, OrderIsFree}
+use Rattle.ppdb_show_sources.specs.Breaks.{break_line, text_of_breaks}
+use Rattle.ppdb_show_sources.specs.Found.{AreFileLinks}
+use Rattle.ppdb_show_sources.specs.Links.{links_in}
+use Rattle.ppdb_show_sources.proofs.Documents.{same_text}
+
+pub rest_is : (old new : Option (List ℕ)) (before after : ℕ) (rest other whole : List ℕ) → rest ≡ other
+    → Putting old new before after rest whole → Putting old new before after other whole
+rest_is old new before after rest other whole e h = subst (λ (l : List ℕ). Putting old new before after l whole) e h
+
+pub puts_as : (r : Result (Unit {0}) WriteError) (old new : Option (List ℕ)) (before after : ℕ) (text other : List ℕ) → text ≡ other
+    → Puts r old new before after text → Puts r old new before after other
+puts_as r old new before after text other e h = subst (λ (l : List ℕ). Puts r old new before after l) e h
+
+pub next_text : (items next : List Break) (found : Break) → Some found ≡ next_of items → next ≡ tail items
+    → text_of_breaks items ≡ text_of (break_line found) ++ text_of_breaks next
+next_text [] next found e is = absurd (cc)
+next_text (x ∷ xs) next found e is =
+    let same : x ≡ found = cc in
+    ap (λ (b : Break). text_of (break_line b) ++ text_of_breaks xs) same ∙ ap (λ (l : List Break). text_of (break_line found) ++ text_of_breaks l) (sym is)
+
+pub links_ok : (value : FileValue) (bytes : List ℕ) (r : Result (List Pair) LinkError) → OrderIsFree → Some bytes ≡ link_record value
+    → IfOk r (AreLinks bytes) → IfOk r (AreFileLinks value)
+links_ok value bytes (Ok links) free e are = record {
+  pairs = are.pairs;
+  said = ap links_in (sym e) ∙ are.said;
+  text = same_text value links are.pairs (free.same bytes are.pairs links are.said are);
+}
+links_ok value bytes (Err error) free e are = tt
+
+-- whether an address was reported, and which
+pub told : (o : Option (List ℕ)) (r : Result Bool Memory) (old new : List ℕ) → ((a : List ℕ) → o ≡ Some a → OnOk r ((r ≡ Ok true) × (new ≡ old ++ a)))
+    → (o ≡ None → (r ≡ Ok false) × (new ≡ old)) → old ≡ [] → r ≡ Ok true → o ≡ Some new
+told None r old new found none empty is = let other = (none refl).0 in absurd (cc)
+told (Some a) (Ok b) old new found none empty is = let put = (found a refl).1 in ap Some (sym (put ∙ ap (λ l. l ++ a) empty))
+told (Some a) (Err e) old new found none empty is = absurd (cc)
+
+pub untold : (o : Option (List ℕ)) (r : Result Bool Memory) (old new : List ℕ) → ((a : List ℕ) → o ≡ Some a → OnOk r ((r ≡ Ok true) × (new ≡ old ++ a)))
+    → r ≡ Ok false → o ≡ None
+untold None r old new found is = refl
+untold (Some a) (Ok b) old new found is = let other = (found a refl).0 in absurd (cc)
+untold (Some a) (Err e) old new found is = absurd (cc)

@@ -1,0 +1,104 @@
+// The lines of the documents, with the addresses of their sources.
+ghost use Rattle.std.specs.Prelude.{◌≡◌, ◌+◌, ◌*◌, ◌≤◌, length, Some, IfOk};
+ghost use Rattle.ppdb_base.specs.Written.{Puts};
+ghost use Rattle.ppdb_tables.specs.RawTables.{count as count_of};
+ghost use Rattle.ppdb_tables.specs.declared.rows.DocumentRow.{DocumentRow};
+ghost use Rattle.ppdb_tables.specs.RawTables.{row_at};
+ghost use Rattle.ppdb_values.specs.Documents.{document_of};
+ghost use Rattle.ppdb_values.specs.Rules.{HasRow};
+ghost use Rattle.ppdb_values.specs.Value.{value_of};
+ghost use Rattle.ppdb_verify.specs.Views.{raw_file};
+ghost use Rattle.ppdb_queries.specs.Digits.{digits};
+ghost use Rattle.ppdb_queries.specs.Runs.{customs_at};
+ghost use Rattle.source_link.specs.FileLinks.{module_row};
+ghost use Rattle.source_link.specs.Record.{IsRefusedBy};
+ghost use Rattle.ppdb_show_sources.specs.Found.{AreFileLinks};
+ghost use Rattle.ppdb_show_sources.specs.Links.{file_links as links_said, link_of, link_text};
+
+use ppdb_base::{Bytes, LinkError, List, Sink, Steps, WriteError};
+use ppdb_show_lines::Item::{Name, Number};
+use ppdb_show_lines::Part::{Field, Mark};
+use ppdb_show_lines::{Key, put_text_line};
+use ppdb_verify::Verified;
+use ppdb_verify_rows::{count, document, joined_name};
+use source_link::{Links, find_link, read_links};
+use std::alloc::Global;
+use std::sync::ledger::Ledger;
+
+/// The links of a file: those of its Source Link record, and none where it has no record.
+///
+/// # Errors
+///
+/// The record is no JSON text, or it maps no names to addresses, or there was no memory left.
+pub fn file_links<L: Ledger>(
+    alloc: Global,
+    file: &Verified<'_>,
+    steps: &mut Steps<L>,
+) -> Result<Links, LinkError>
+    ensures links { IfOk result (AreFileLinks (value_of (raw_file file.now))) }
+    ensures refused { IsRefusedBy result (links_said (value_of (raw_file file.now))) }
+    ensures later { steps.old ≤ steps.new }
+    ensures cost { steps.new ≤ steps.old + 2 * digits (length (raw_file file.now).tables.customs) + length
+        (customs_at (raw_file file.now).tables module_row) }
+{
+    source_link::order_is_free();
+    match find_link(file, steps) {
+        Some(record) => read_links(alloc, record),
+        None => Ok(Links::none(alloc)),
+    }
+}
+
+/// Puts the line of a document: its row and its address, or that it has none.
+fn put_link<O: Sink, L: Ledger>(
+    alloc: Global,
+    file: &Verified<'_>,
+    links: &Links,
+    row: u32,
+    address: &mut Bytes,
+    out: &mut O,
+    steps: &mut Steps<L>,
+) -> Result<(), WriteError>
+    requires { HasRow (raw_file file.now).tables 0x30 row }
+    ensures puts { (cells : DocumentRow) → row_at (raw_file file.now).tables.documents row ≡ Some cells
+        → Puts result (O.written out.old) (O.written out.new) (O.faults out.old) (O.faults out.new)
+        (link_of links.now (row, document_of (raw_file file.now).tables cells)) }
+    ensures step { steps.new ≡ steps.old + 1 }
+{
+    let cells = document(file, row, steps);
+    let name = joined_name(alloc, file, row, &cells)?;
+    address.clear();
+    let number = Field(" ", Key::Row, Number(row));
+    if links.address(name.as_slice(), address)? {
+        put_text_line(
+            out,
+            "link",
+            &[
+                number,
+                Field(" ", Key::Other("address"), Name(address.as_slice())),
+            ],
+        )
+    } else {
+        put_text_line(out, "link", &[number, Mark(" none")])
+    }
+}
+
+/// Puts the lines of the documents, a line each. Each row of Document is read once.
+pub fn put_links<O: Sink, L: Ledger>(
+    alloc: Global,
+    file: &Verified<'_>,
+    links: &Links,
+    out: &mut O,
+    steps: &mut Steps<L>,
+) -> Result<(), WriteError>
+    ensures puts { Puts result (O.written out.old) (O.written out.new) (O.faults out.old) (O.faults out.new)
+        (link_text (value_of (raw_file file.now)) links.now) }
+    ensures later { steps.old ≤ steps.new }
+    ensures cost { steps.new ≤ steps.old + count_of (raw_file file.now).tables 0x30 }
+{
+    file.keeps();
+    let mut address: Bytes = List::new(alloc);
+    'rows: for row in 1..count(file, 0x30) + 1 {
+        put_link(alloc, file, links, row, &mut address, out, steps)?;
+    }
+    Ok(())
+}

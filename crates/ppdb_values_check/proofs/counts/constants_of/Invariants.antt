@@ -1,0 +1,7 @@
+use Rattle.std.proofs.Common.{take, length}
+use Rattle.std.specs.List.{sum_by}
+use Rattle.ppdb_values_check.specs.Counts.{IsCapped}
+use Rattle.ppdb_values_check.proofs.counts.constants_of.Given as goal
+
+abbrev pub invariant-loop-scope : goal.invariant-loop-scope
+invariant-loop-scope l = IsCapped (sum_by (λ scope. length scope.constants) (take l.scope-index l.scopes)) l.total

@@ -1,0 +1,41 @@
+-- What records of custom debug information say, by their kinds.
+use Rattle.std.proofs.Common.{◌≡◌, ℕ, List, sym, ap, ◌∙◌}
+use Rattle.std.specs.Prelude.{None}
+use Rattle.blob_grammar.specs.Reader.{Left}
+use Rattle.blob_grammar.specs.Reading.{Reading}
+use Rattle.custom_info.specs.declared.kinds.Kind.{Kind}
+use Rattle.custom_info.specs.declared.kinds.Kind.TheVariants.{TypeDocuments as DocumentsKind, Hoisted as HoistedKind}
+use Rattle.custom_info.specs.declared.slots.Slot.{Slot}
+use Rattle.custom_info.specs.TypeDocuments.{type_documents}
+use Rattle.ppdb_tables.specs.declared.rows.CustomRow.{CustomRow}
+use Rattle.ppdb_tables.specs.RawTables.{RawTables, count}
+use Rattle.ppdb_values.specs.declared.custom.CustomBody.TheVariants.{Hoisted, TypeDocuments}
+use Rattle.ppdb_values.specs.Customs.{custom_body, custom_of}
+use Rattle.ppdb_values.specs.RawFile.{blob}
+use Rattle.ppdb_values.specs.Readings.{ValuesAreRead}
+use Rattle.ppdb_values.specs.Rules.{IsCustom}
+use Rattle.ppdb_verify_rows.specs.Customs.{IsOfKind, slots_in}
+use Rattle.ppdb_verify_rows.proofs.Records.{whole_of_kind}
+use Rattle.ppdb_verify_rows.proofs.Whole.{whole_left}
+
+-- the body, by the kind
+pub body_of_kind : (raw : RawTables) (row : CustomRow) (kind : Kind) → IsOfKind raw row kind
+    → (custom_of raw row).value ≡ custom_body raw kind (blob raw row.value)
+body_of_kind raw row kind is = ap (λ (k : Kind). custom_body raw k (blob raw row.value)) is
+
+-- type documents that were read
+pub documents_read : (raw : RawTables) (row : CustomRow) (left : Left ℕ) → ValuesAreRead → IsOfKind raw row DocumentsKind
+    → Reading (type_documents (count raw 0x30)) (blob raw row.value) left.items left.fault → TypeDocuments left.items ≡ (custom_of raw row).value
+documents_read raw row left read is reading =
+    ap (λ (rows : List ℕ). TypeDocuments rows) (sym (read.rows raw (blob raw row.value) left.items left.fault reading))
+    ∙ sym (body_of_kind raw row DocumentsKind is)
+
+pub documents_whole : (raw : RawTables) (row : CustomRow) (left : Left ℕ) → IsCustom raw row → IsOfKind raw row DocumentsKind
+    → Reading (type_documents (count raw 0x30)) (blob raw row.value) left.items left.fault → left.fault ≡ None
+documents_whole raw row left keeps is reading =
+    (whole_left (type_documents (count raw 0x30)) (blob raw row.value) left.items left.fault reading (whole_of_kind raw row DocumentsKind keeps is)).1
+
+-- slots that were read
+pub slots_read : (raw : RawTables) (row : CustomRow) (left : Left Slot) → IsOfKind raw row HoistedKind → left ≡ slots_in raw row
+    → Hoisted left.items ≡ (custom_of raw row).value
+slots_read raw row left is same = ap (λ (l : Left Slot). Hoisted l.items) same ∙ sym (body_of_kind raw row HoistedKind is)

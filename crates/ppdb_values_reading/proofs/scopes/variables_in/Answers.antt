@@ -1,0 +1,16 @@
+use Rattle.std.proofs.Common.{arith}
+use Rattle.ppdb_verify.specs.Views.{raw_file}
+use Rattle.ppdb_values_reading.specs.Lent.{variables_of}
+use Rattle.ppdb_values_reading.proofs.Lists.{slice_more}
+use Rattle.ppdb_values_reading.proofs.scopes.variables_in.Goals as goal
+
+pub rows-preserved : goal.rows-preserved
+rows-preserved g c =
+    record {
+      from = omega arith;
+      to = omega arith;
+      made = slice_more (variables_of (raw_file c.args.file.now).tables) c.rows.variables c.push.new.self c.args.list.first c.rows.row
+          c.in_ok-variable_value.field-0 c.requires.first c.rows.invariant.from c.in_ok-variable_value.ensures.variable c.rows.invariant.made
+          c.in_ok-push.ensures.ok;
+      cost = omega arith;
+    }

@@ -1,0 +1,28 @@
+//! What the rows of a verified file say: lent or filled into lists of the caller a row at a time, as parts of a value of their own, and
+//! as the value of the whole file. Each row of the eight tables is read once; a row of StateMachineMethod is read by `ppdb_verify_rows`.
+#![tactic(auto)]
+
+mod constants;
+mod copied;
+mod customs;
+mod documents;
+mod filling;
+mod imports;
+mod laws;
+mod methods;
+mod owned;
+mod scopes;
+mod scratch;
+mod value;
+mod variables;
+
+pub use constants::{LentConstant, constant_value, read_constant};
+pub use customs::{LentBody, LentCustom, custom_value, read_custom};
+pub use documents::{LentDocument, document_value, read_document};
+pub use imports::{LentImports, import_scope_value, read_import_scope};
+pub use laws::scopes_own_their_lists;
+pub use methods::{method_value, read_method};
+pub use scopes::{ListRange, Scope, ScopeCursor, scope_value};
+pub use scratch::Scratch;
+pub use value::value_of;
+pub use variables::{LentVariable, read_variable, variable_value};

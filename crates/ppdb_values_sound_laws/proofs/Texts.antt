@@ -1,0 +1,28 @@
+-- A text of #Strings holds no zero byte.
+use Rattle.std.proofs.Common.{◌≡◌, ◌≢◌, ℕ, zero, suc, ◌<◌, true, List, [], take, drop, refl, sym, ap, ◌∙◌, subst, arith, get_or}
+use Rattle.std.specs.Prelude.{Option, Some, None, ◌==◌}
+use Rattle.std.specs.List.{position}
+use Rattle.std.specs.Option.{option_map}
+use Rattle.std.proofs.lemmas.List.{length-take, get_or-take}
+use Rattle.std.proofs.lemmas.List.Quantifiers.{position-Some}
+use Rattle.std.proofs.lemmas.List.Elements.{All-nil}
+use Rattle.ppdb_heaps.specs.Heaps.{text_at}
+use Rattle.ppdb_values_sound_laws.specs.Scopes.{HoldsNoZero}
+
+before_zero : (bytes : List ℕ) (o : Option ℕ) → position (λ b. b == 0) bytes ≡ o → (text : List ℕ) → option_map (λ len. take len bytes) o ≡ Some text
+    → HoldsNoZero text
+before_zero bytes None e text is = cc
+before_zero bytes (Some len) e text is =
+    let same : take len bytes ≡ text = cc in
+    subst HoldsNoZero same (λ k d within zero_there.
+    let below : k < len = omega (arith, within, length-take len bytes) in
+    let differs = (position-Some (λ b. b == 0) bytes len d e).2 k below in
+    let there : get_or bytes k d ≡ 0 = sym (get_or-take len bytes k d below) ∙ zero_there in
+    let is_zero : (get_or bytes k d == 0) ≡ true = ap (λ (b : ℕ). b == 0) there in
+    cc)
+
+-- the text at an index
+pub no_zero : (texts : List ℕ) (index : ℕ) (text : List ℕ) → text_at texts index ≡ Some text → HoldsNoZero text
+unfolding text_at
+no_zero texts zero text e = let same : [] ≡ text = cc in subst HoldsNoZero same (All-nil (λ b. b ≢ 0))
+no_zero texts (suc i) text e = before_zero (drop (suc i) texts) (position (λ b. b == 0) (drop (suc i) texts)) refl text e

@@ -1,0 +1,42 @@
+-- Custom debug information (Portable PDB v1.0, "CustomDebugInformation Table", and its kinds "Async Method Stepping Information",
+-- "State Machine Hoisted Local Scopes" and "Type Definition Documents").
+use Rattle.std.specs.Prelude.{ℕ, ◌≤◌, map, [], IsSome, All, unwrap_or}
+use Rattle.custom_info.specs.declared.kinds.Kind.{Kind}
+use Rattle.custom_info.specs.declared.kinds.Kind.TheVariants.{Async as AsyncKind, Hoisted as HoistedKind, TypeDocuments as DocumentsKind, Free, Unknown}
+use Rattle.custom_info.specs.Kinds.{kind_of}
+use Rattle.custom_info.specs.AsyncStepping.{IsHandler, IsStep}
+use Rattle.custom_info.specs.HoistedScopes.{IsSlot}
+use Rattle.ppdb_tables.specs.declared.parent.Parent.{Parent}
+use Rattle.ppdb_tables.specs.Parents.{coded_in}
+use Rattle.ppdb_values.specs.declared.file.FileValue.{FileValue}
+use Rattle.ppdb_values.specs.declared.custom.CustomBody.{CustomBody}
+use Rattle.ppdb_values.specs.declared.custom.CustomBody.TheVariants.{Async, Hoisted, TypeDocuments, Unread}
+use Rattle.ppdb_values.specs.declared.custom.CustomValue.{CustomValue}
+use Rattle.ppdb_values.specs.Ordered.{EachRow, IsSorted}
+use Rattle.ppdb_values.specs.Rules.{StandsOn}
+use Rattle.ppdb_values_sound_laws.specs.Named.{HasRow, count}
+
+-- A record of a kind that is read has that kind's body, whose offsets are in range and whose rows are there; every other record
+-- is unread.
+abbrev pub IsBodyOfKind : FileValue → Kind → CustomBody → Type 0
+IsBodyOfKind value AsyncKind (Async handler steps) = IsHandler handler × All (λ step. IsStep step × (step.method ≤ count value 0x06)) steps
+IsBodyOfKind value HoistedKind (Hoisted slots) = All IsSlot slots
+IsBodyOfKind value DocumentsKind (TypeDocuments documents) = All (HasRow value 0x30) documents
+IsBodyOfKind value Free (Unread content) = Unit {0}
+IsBodyOfKind value Unknown (Unread content) = Unit {0}
+IsBodyOfKind value _ _ = ⊥
+
+-- the coded index of a parent
+abbrev pub coded_of : Parent → ℕ
+coded_of parent = unwrap_or (coded_in parent) 0
+
+-- A custom record: the table of its parent has a tag, and the row is there.
+pub record SoundCustom (value : FileValue) (custom : CustomValue) : Type 0 where
+  pub tag : IsSome (coded_in custom.parent)
+  pub parent : HasRow value custom.parent.table custom.parent.row
+  pub stands_on : StandsOn (kind_of [] custom.kind) custom.parent.table
+  pub body : IsBodyOfKind value (kind_of [] custom.kind) custom.value
+
+pub record SoundCustoms (value : FileValue) : Type 0 where
+  pub each : EachRow (SoundCustom value) value.customs
+  pub by_parent : IsSorted (map (λ custom. coded_of custom.parent) value.customs)

@@ -1,0 +1,30 @@
+-- The imports of a scope of a valid file are whole.
+use Rattle.std.proofs.Common.{◌≡◌, ℕ, List, subst}
+use Rattle.blob_grammar.specs.Reader.{Left}
+use Rattle.blob_grammar.specs.Reading.{Reading}
+use Rattle.ppdb_heaps.specs.Heaps.{blob_at}
+use Rattle.ppdb_heaps.specs.Views.{blobs_of}
+use Rattle.ppdb_heaps.specs.declared.blobs.Blobs.{Blobs}
+use Rattle.type_blobs.specs.declared.types.TypeLimits.{TypeLimits}
+use Rattle.type_blobs.specs.ImportReading.{heap_of as heap_in}
+use Rattle.type_blobs.specs.Imports.{imports, ImportItem}
+use Rattle.ppdb_tables.specs.declared.rows.ImportRow.{ImportRow}
+use Rattle.ppdb_tables.specs.RawTables.{RawTables}
+use Rattle.ppdb_values.specs.Imports.{heap_of}
+use Rattle.ppdb_values.specs.RawFile.{blob, records_of, type_limits}
+use Rattle.ppdb_values.specs.Rules.{IsImport}
+use Rattle.ppdb_verify_rows.specs.Imports.{imports_in}
+use Rattle.ppdb_verify_rows.proofs.Whole.{whole_left, left_of}
+
+-- a cursor of the imports of a row has all of them left
+pub imports_begun : (raw : RawTables) (row : ImportRow) (content : List ℕ) (blobs : Blobs) (limits : TypeLimits) (left : Left ImportItem)
+    → IsImport raw row → content ≡ blob raw row.imports → blobs_of blobs ≡ raw.blobs → limits ≡ type_limits raw
+    → Reading (imports limits (heap_in blobs)) content left.items left.fault → left ≡ imports_in raw row
+imports_begun raw row content blobs limits left keeps same heap counts reading =
+    let g = imports (type_limits raw) (heap_of raw) in
+    let there : Reading g (blob raw row.imports) left.items left.fault =
+    subst (λ (heap : List ℕ). Reading (imports (type_limits raw) (λ index. blob_at heap index)) (blob raw row.imports) left.items left.fault) heap
+    (subst (λ (l : TypeLimits). Reading (imports l (heap_in blobs)) (blob raw row.imports) left.items left.fault) counts
+    (subst (λ (c : List ℕ). Reading (imports limits (heap_in blobs)) c left.items left.fault) same reading)) in
+    let whole = whole_left g (blob raw row.imports) left.items left.fault there keeps.imports_whole in
+    left_of left (records_of g (blob raw row.imports)) whole.0 whole.1

@@ -1,0 +1,6 @@
+use Rattle.ppdb_tables.specs.RawOf.{raw_of}
+use Rattle.ppdb_verify_rules.proofs.CustomFaults.{first_row}
+use Rattle.ppdb_verify_rules.proofs.customs.judge_customs.Goals as goal
+
+pub loop-row-init : goal.loop-row-init
+loop-row-init g c = first_row (raw_of c.args.tables.now) c.requires.judged

@@ -1,0 +1,14 @@
+use Rattle.ppdb_tables.specs.RawOf.{raw_of}
+use Rattle.std.proofs.Common.{◌∙◌, ap, sym, refl, ℕ, length, replicate}
+use Rattle.ppdb_tables.proofs.Walks.{marks_at_first}
+use Rattle.ppdb_verify_rules.specs.Chains.{parent_in}
+use Rattle.ppdb_verify_rules.proofs.ImportFaults.{first_row}
+use Rattle.ppdb_verify_rules.proofs.imports.judge_imports.Goals as goal
+
+pub loop-row-init : goal.loop-row-init
+loop-row-init g c = record {
+  judged = first_row (raw_of c.args.tables.now) c.requires.judged;
+  marks = marks_at_first (parent_in (raw_of c.args.tables.now).imports) refl (length (raw_of c.args.tables.now).imports) c.as_mut_slice-marks.result.now
+      (c.as_mut_slice-marks.ensures.value ∙ (c.in_ok-all.ensures.items_if_clones_equal (λ y h. cc)
+      ∙ ap (λ (n : ℕ). replicate n 0) (c.row_count-count.ensures.count ∙ sym c.row_count-count.ensures.all.imports)));
+}

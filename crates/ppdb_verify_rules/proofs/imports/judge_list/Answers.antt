@@ -1,0 +1,29 @@
+use Rattle.std.proofs.Common.{◌≡◌, Some, sym}
+use Rattle.ppdb_heaps.specs.Heaps.{blob_at}
+use Rattle.ppdb_tables.specs.RawOf.{raw_of}
+use Rattle.type_blobs.specs.Imports.{imports}
+use Rattle.ppdb_verify_rules.specs.Blobs.{type_limits}
+use Rattle.ppdb_verify_rules.proofs.BlobFaults.{not_whole, value_there}
+use Rattle.ppdb_verify_rules.proofs.ImportFaults.{no_list_first, invalid_list_first, next_1}
+use Rattle.ppdb_verify_rules.proofs.imports.judge_list.Goals as goal
+
+pub returns-in_default-clause-err : goal.returns-in_default-clause-err
+returns-in_default-clause-err c = no_list_first (raw_of c.args.tables.now) c.args.row c.args.import.now c.requires.there c.fault.result c.requires.judged
+    (sym (rw c.blobs.ensures at c.in_default.ensures.blob)) c.fault.ensures
+
+pub returns-in-Some-imports_fault-clause-err : goal.returns-in-Some-imports_fault-clause-err
+returns-in-Some-imports_fault-clause-err c =
+    let there : blob_at (raw_of c.args.tables.now).blobs c.args.import.now.imports ≡ Some c.in-Some.content.now =
+    sym (rw c.blobs.ensures at c.in-Some.ensures.blob) in
+    invalid_list_first (raw_of c.args.tables.now) c.args.row c.args.import.now c.requires.there c.fault_within.result c.in-Some-imports_fault.inside
+    c.requires.judged
+    (record { content = c.in-Some.content.now; there = there; reads = c.in-Some-imports_fault.ensures }) c.fault_within.ensures
+
+pub returns-in-None-clause-ok : goal.returns-in-None-clause-ok
+returns-in-None-clause-ok c =
+    let there : blob_at (raw_of c.args.tables.now).blobs c.args.import.now.imports ≡ Some c.in-Some.content.now =
+    sym (rw c.blobs.ensures at c.in-Some.ensures.blob) in
+    next_1 (raw_of c.args.tables.now) c.args.row c.args.import.now c.requires.there c.requires.judged
+    (value_there (raw_of c.args.tables.now).blobs c.in-Some.content.now c.args.import.now.imports there)
+    (λ fault invalid. not_whole {g = imports (type_limits (raw_of c.args.tables.now)) (blob_at (raw_of c.args.tables.now).blobs)} c.in-Some.content.now there
+    c.in-None.ensures invalid)

@@ -1,0 +1,6 @@
+use Rattle.ppdb_tables.specs.RawOf.{raw_of}
+use Rattle.ppdb_verify_rules.specs.Judged.{ToRow}
+use Rattle.ppdb_verify_rules.proofs.methods.judge_methods.Given as goal
+
+abbrev pub invariant-loop-row : goal.invariant-loop-row
+invariant-loop-row g l = ToRow (raw_of l.tables) 0x31 l.row

@@ -1,0 +1,44 @@
+use Rattle.std.proofs.Common.{ap, ◌∙◌, List, [], ◌++◌, length, Option, Some, None, is_some, Bool, true, false, not, IsTrue, ◌↔◌, ◌<◌, refl, arith, ℕ, ◌≡◌}
+use Rattle.std.specs.Borrow.{Bor}
+use Rattle.ppdb_verify_rules.specs.SeenNames.{HasRoom}
+use Rattle.ppdb_heaps.specs.Views.{blobs_of}
+use Rattle.ppdb_heaps.proofs.Joins.{answer-is, joining-starts}
+use Rattle.ppdb_verify_rules.proofs.NameParts.{joining-end, joining-goes}
+use Rattle.ppdb_verify_rules.proofs.names.exceeds.Goals as goal
+
+-- where there is no room, there are more bytes
+room_tells : (most : ℕ) (into name : List ℕ) (room : Option ℕ) (longer : Bool) → is_some room ≡ not longer → HasRoom most into room → into ≡ name
+    → IsTrue longer ↔ (most < length name)
+room_tells most into name (Some room) true told has same = absurd cc
+room_tells most into name (Some room) false told has same = ((λ yes. absurd cc), (λ more. absurd (omega (arith, has, more, ap length same))))
+room_tells most into name None true told has same = ((λ yes. omega (arith, has, ap length same)), (λ more. refl))
+room_tells most into name None false told has same = absurd cc
+
+pub loop-part-init : goal.loop-part-init
+loop-part-init c =
+    let e = answer-is c.in_ok-cursor.cursor.left c.in_ok-first.field-0 (Some c.in-Some.first) c.in_ok-first.ensures.answer c.in-Some.is in (
+      c.in-Some.first.now,
+      joining-starts (blobs_of c.args.blobs) c.args.content.now [] c.in-Some.first.now c.separator-separator.result.now c.in_ok-cursor.cursor.separator
+          c.in_ok-cursor.cursor.left c.next.new.self.left c.in-Some.first.now
+          c.in_ok-cursor.ensures.begun (c.separator-separator.ensures ∙ c.next.ensures.separator) e c.next.ensures.left refl,
+      c.less-room.ensures c.args.most [] (omega arith),
+    )
+
+pub loop-part-preserved : goal.loop-part-preserved
+loop-part-preserved c =
+    let h = c.loop-part.invariant in
+    let e = answer-is c.loop-part.cursor.left c.in_ok-part.field-0 (Some c.in-Some-2.part) c.in_ok-part.ensures.answer c.in-Some-2.is in (
+      (h.0 ++ c.separator-separator.result.now) ++ c.in-Some-2.part.now,
+      joining-goes (blobs_of c.args.blobs) c.args.content.now [] c.separator-separator.result.now h.0 (h.0 ++ c.separator-separator.result.now)
+          ((h.0 ++ c.separator-separator.result.now) ++ c.in-Some-2.part.now)
+          c.loop-part.cursor.left c.next-in-loop-part.new.self.left c.in-Some-2.part.now h.1 e c.next-in-loop-part.ensures.left refl refl,
+      c.less-room-in-Some-2.ensures c.args.most (h.0 ++ c.separator-separator.result.now) (c.less.ensures c.args.most h.0 h.2),
+    )
+
+pub returns-clause-ok : goal.returns-clause-ok
+returns-clause-ok c =
+    let h = c.loop-part.invariant in
+    let none : Option (Bor (List ℕ)) = None in
+    let e = answer-is c.loop-part.cursor.left c.in_ok-part.field-0 none c.in_ok-part.ensures.answer c.in_default-2.is in
+    let end = joining-end (blobs_of c.args.blobs) c.args.content.now [] c.separator-separator.result.now h.0 c.loop-part.cursor.left h.1 e in
+    (end.0, end.1, room_tells c.args.most h.0 end.0 c.loop-part.room c.is_none.result c.is_none.ensures h.2 end.2)

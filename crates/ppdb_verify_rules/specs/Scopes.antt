@@ -1,0 +1,59 @@
+-- The order and the ranges of scopes, and what belongs to a scope (Portable PDB v1.0, "LocalScope Table").
+use Rattle.std.specs.Prelude.{ℕ, ◌≡◌, ◌≢◌, ◌+◌, ◌-◌, ◌<◌, ◌≤◌, ◌⊎◌, List, Some}
+use Rattle.ppdb_heaps.specs.Heaps.{text_at}
+use Rattle.ppdb_tables.specs.declared.rows.ScopeRow.{ScopeRow}
+use Rattle.ppdb_tables.specs.RawTables.{row_at}
+pub use Rattle.ppdb_tables.specs.Owners.{Owns}
+use Rattle.ppdb_verify_rules.specs.Earlier.{NamesNoRow}
+
+-- a method and a range of its IL offsets: from the start, up to and without the end
+pub record Extent : Type 0 where
+  pub method : ℕ
+  pub start : ℕ
+  pub end : ℕ
+
+-- Method, StartOffset, and StartOffset + Length
+abbrev pub extent_of : ScopeRow → Extent
+extent_of scope = record { method = scope.method; start = scope.start; end = scope.start + scope.length }
+
+-- the first is greater by method, start, and then the shorter range
+abbrev pub IsAbove : Extent → Extent → Type 0
+IsAbove a b = (b.method < a.method) ⊎ ((b.method ≡ a.method) × ((b.start < a.start) ⊎ ((b.start ≡ a.start) × (a.end < b.end))))
+
+-- the range is empty, or ends at 2^31 or above
+abbrev pub HasNoRange : Extent → Type 0
+HasNoRange x = (x.end ≤ x.start) ⊎ (0x80000000 ≤ x.end)
+
+-- the offset lies in the range
+abbrev pub Covers : Extent → ℕ → Type 0
+Covers x offset = (x.start ≤ offset) × (offset < x.end)
+
+-- two ranges meet, and each has an offset that the other lacks
+pub record Crosses (a b : Extent) : Type 0 where
+  pub shared : ℕ
+  pub in_both : Covers a shared × Covers b shared
+  pub first : ((offset : ℕ) → Covers b offset → Covers a offset) → ⊥
+  pub second : ((offset : ℕ) → Covers a offset → Covers b offset) → ⊥
+
+-- two ranges of one method cross
+abbrev pub AreCrossed : Extent → Extent → Type 0
+AreCrossed a b = (a.method ≡ b.method) × Crosses a b
+
+-- the list is below 1 or above rows + 1; or, in row 1, not 1; or below that of the row before (VariableList, ConstantList)
+abbrev pub IsListOut : (ScopeRow → ℕ) → ℕ → List ScopeRow → ℕ → ScopeRow → Type 0
+IsListOut list rows scopes row scope =
+    NamesNoRow 1 (rows + 1) (list scope)
+    ⊎ (((row ≡ 1) × (list scope ≢ 1))
+    ⊎ ((before : ScopeRow) × (row_at scopes (row - 1) ≡ Some before) × (list scope < list before)))
+
+-- two items are in the list of one scope
+pub record ShareOwner (list : ScopeRow → ℕ) (scopes : List ScopeRow) (a b : ℕ) : Type 0 where
+  pub owner : ℕ
+  pub first : Owns list scopes owner a
+  pub second : Owns list scopes owner b
+
+-- two texts are there, and are equal byte for byte
+pub record AreSameText (texts : List ℕ) (a b : ℕ) : Type 0 where
+  pub text : List ℕ
+  pub first : text_at texts a ≡ Some text
+  pub second : text_at texts b ≡ Some text

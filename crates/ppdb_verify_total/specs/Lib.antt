@@ -1,0 +1,3 @@
+pub mod HeapUses
+pub mod Spans
+pub mod TableRows

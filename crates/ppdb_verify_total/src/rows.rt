@@ -1,0 +1,122 @@
+// The texts and blobs that a row names.
+ghost use Rattle.std.specs.Prelude.{◌≡◌, ◌≤◌, ◌∷◌, Some, List, IfOk};
+ghost use Rattle.ppdb_heaps.specs.Heaps.{blob_at};
+ghost use Rattle.ppdb_tables.specs.RawTables.{count, row_at};
+ghost use Rattle.ppdb_tables.specs.RawOf.{raw_of};
+ghost use Rattle.ppdb_verify_total.specs.HeapUses.{HeapUse, blob_in, named_inside, in_name, in_imports};
+ghost use Rattle.ppdb_verify_total.specs.Spans.{most_bytes, spanned};
+ghost use Rattle.ppdb_verify_total.specs.TableRows.{number_of, rows_of};
+
+use crate::inside::{add_imports, add_parts};
+use crate::sum::{add, add_blob, add_text};
+use ppdb_base::{Fault, Steps};
+use ppdb_tables::Tables;
+use ppdb_verify_rules::type_limits;
+use std::sync::ledger::Ledger;
+
+/// A table whose rows name texts or blobs.
+#[derive(Clone, Copy)]
+pub(crate) enum Table {
+    Document,
+    MethodDebug,
+    LocalVariable,
+    LocalConstant,
+    ImportScope,
+    Custom,
+}
+
+/// The number of a table.
+pub(crate) fn number_of(table: Table) -> u8
+    ensures { result ≡ number_of table }
+{
+    match table {
+        Table::Document => 0x30,
+        Table::MethodDebug => 0x31,
+        Table::LocalVariable => 0x33,
+        Table::LocalConstant => 0x34,
+        Table::ImportScope => 0x35,
+        Table::Custom => 0x37,
+    }
+}
+
+/// Adds a document's name and the parts in it.
+fn add_name(tables: &Tables<'_>, row: u32, index: u32, total: u64) -> Result<u64, Fault>
+    requires within { total ≤ most_bytes }
+    ensures sum { result ≡ spanned total (blob_in (raw_of tables.now) 0x30 row 0 index ∷ named_inside (raw_of tables.now).blobs 0x30 row 0 (in_name (raw_of tables.now)
+        (blob_at (raw_of tables.now).blobs index))) }
+    ensures within { IfOk result (λ after. after ≤ most_bytes) }
+{
+    let blobs = tables.blobs();
+    let Some(content) = blobs.get(index) else {
+        return add(total, 0, 0x30, row, 0, 0);
+    };
+    match add(total, content.len(), 0x30, row, 0, 0) {
+        Ok(sum) => add_parts(content, blobs, row, sum),
+        Err(fault) => Err(fault),
+    }
+}
+
+/// Adds the list of an import scope and the texts that are named in it.
+fn add_list(tables: &Tables<'_>, row: u32, index: u32, total: u64) -> Result<u64, Fault>
+    requires within { total ≤ most_bytes }
+    ensures sum { result ≡ spanned total (blob_in (raw_of tables.now) 0x35 row 1 index ∷ named_inside (raw_of tables.now).blobs 0x35 row 1 (in_imports (raw_of tables.now)
+        (blob_at (raw_of tables.now).blobs index))) }
+    ensures within { IfOk result (λ after. after ≤ most_bytes) }
+{
+    let blobs = tables.blobs();
+    let limits = type_limits(tables);
+    let Some(content) = blobs.get(index) else {
+        return add(total, 0, 0x35, row, 1, 0);
+    };
+    match add(total, content.len(), 0x35, row, 1, 0) {
+        Ok(sum) => add_imports(content, blobs, limits, row, sum),
+        Err(fault) => Err(fault),
+    }
+}
+
+/// Adds what a row of a table names.
+pub(crate) fn add_row<L: Ledger>(
+    tables: &Tables<'_>,
+    table: Table,
+    row: u32,
+    total: u64,
+    steps: &mut Steps<L>,
+) -> Result<u64, Fault>
+    requires there { (1 ≤ row) × (row ≤ count (raw_of tables.now) (number_of table)) }
+    requires within { total ≤ most_bytes }
+    ensures sum { (names : List HeapUse) → row_at (rows_of (raw_of tables.now) table) row ≡ Some names → result ≡ spanned total names }
+    ensures within { IfOk result (λ after. after ≤ most_bytes) }
+{
+    match table {
+        Table::Document => {
+            let document = tables.document(row, steps);
+            match add_name(tables, row, document.name, total) {
+                Ok(sum) => add_blob(tables, sum, 0x30, row, 2, document.hash),
+                Err(fault) => Err(fault),
+            }
+        }
+        Table::MethodDebug => {
+            let method = tables.method_debug(row, steps);
+            add_blob(tables, total, 0x31, row, 1, method.points)
+        }
+        Table::LocalVariable => {
+            let variable = tables.variable(row, steps);
+            add_text(tables, total, 0x33, row, 2, variable.name)
+        }
+        Table::LocalConstant => {
+            let constant = tables.constant(row, steps);
+            match add_text(tables, total, 0x34, row, 0, constant.name) {
+                Ok(sum) => add_blob(tables, sum, 0x34, row, 1, constant.signature),
+                Err(fault) => Err(fault),
+            }
+        }
+        Table::ImportScope => {
+            let import = tables.import(row, steps);
+            add_list(tables, row, import.imports, total)
+        }
+        Table::Custom => {
+            let custom = tables.custom(row, steps);
+            add_blob(tables, total, 0x37, row, 2, custom.value)
+        }
+    }
+}

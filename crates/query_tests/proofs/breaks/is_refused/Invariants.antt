@@ -1,4 +1,0 @@
-use Rattle.query_tests.proofs.breaks.is_refused.Given as goal
-
-abbrev pub ghosts-is_refused_in : goal.ghosts-is_refused_in
-ghosts-is_refused_in a = record { name = a.blank.name; parts = a.blank.parts }

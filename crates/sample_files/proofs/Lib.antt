@@ -1,5 +1,0 @@
-pub mod Counting
-pub mod Fitting
-pub mod Noted
-pub mod Sound
-pub mod Worked

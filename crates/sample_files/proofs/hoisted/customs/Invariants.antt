@@ -1,7 +1,0 @@
-use Rattle.std.proofs.Common.{◌≡◌, map}
-use Rattle.std.specs.List.{filter, range_with_len}
-use Rattle.sample_files.specs.Sample.{is_fourth, sample_custom}
-use Rattle.sample_files.proofs.hoisted.customs.Given as goal
-
-abbrev pub invariant-loop-before : goal.invariant-loop-before
-invariant-loop-before l = l.customs ≡ map sample_custom (filter is_fourth (range_with_len 1 l.before))

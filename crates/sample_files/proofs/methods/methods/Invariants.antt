@@ -1,7 +1,0 @@
-use Rattle.std.proofs.Common.{◌≡◌, map}
-use Rattle.std.specs.List.{range_with_len}
-use Rattle.sample_files.specs.Sample.{sample_method}
-use Rattle.sample_files.proofs.methods.methods.Given as goal
-
-abbrev pub invariant-loop-before : goal.invariant-loop-before
-invariant-loop-before l = l.methods ≡ map sample_method (range_with_len 1 l.before)

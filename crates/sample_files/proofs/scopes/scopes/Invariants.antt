@@ -1,7 +1,0 @@
-use Rattle.std.proofs.Common.{◌≡◌, ◌∷◌, [], flat_map}
-use Rattle.std.specs.List.{range_with_len}
-use Rattle.sample_files.specs.Sample.{outer_scope, inner_scope}
-use Rattle.sample_files.proofs.scopes.scopes.Given as goal
-
-abbrev pub invariant-loop-before : goal.invariant-loop-before
-invariant-loop-before l = l.scopes ≡ flat_map (λ i. outer_scope i ∷ inner_scope i ∷ []) (range_with_len 1 l.before)

@@ -1,5 +1,0 @@
-use Rattle.sampled_files.proofs.NoClash.{fitting_maps_do_not_clash}
-use Rattle.sampled_files.proofs.laws.fitting_maps_do_not_clash.Goals as goal
-
-pub returns : goal.returns
-returns c = fitting_maps_do_not_clash c.codes_are_parents.ensures c.lists_are_owned.ensures

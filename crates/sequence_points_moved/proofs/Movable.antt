@@ -1,0 +1,84 @@
+-- Points that have moved can be written.
+use Rattle.std.proofs.Common.{◌≡◌, ℕ, ◌<◌, ◌≤◌, ◌-◌, Bool, true, false, List, [], ◌∷◌, length, map, sym, subst, ◌∙◌, arith}
+use Rattle.std.specs.Prelude.{cond, All, AllPairs, get_or}
+use Rattle.std.proofs.lemmas.List.Elements.{All-nil, All-cons, All-head, All-tail, All-map, All-get_or}
+use Rattle.std.proofs.lemmas.List.Kept.{AllPairs-cons}
+use Rattle.ppdb_base.specs.Offsets.{Offsets, Rise, moved, is_kept_between, old_size}
+use Rattle.sequence_points.specs.declared.point.Point.{Point}
+use Rattle.sequence_points.specs.declared.point.PointLimits.{PointLimits}
+use Rattle.sequence_points.specs.MovedPoints.{first_offset, moved_points}
+use Rattle.sequence_points.specs.Ranges.{IsOffset, IsDocument}
+use Rattle.sequence_points.specs.Written.{AreInRange, CanBeWritten, IsSpan}
+use Rattle.sequence_points.proofs.Follows.{pairs-head, pairs-tail}
+use Rattle.sequence_points.proofs.MovedPoints.{moved-rise}
+use Rattle.sequence_points.proofs.ReadPoints.{points_in_range}
+use Rattle.sequence_points_moved.specs.MovedBlob.{in_new_document, moved_in}
+use Rattle.sequence_points_moved.specs.Conditions.{ReadsAs, IsWhole, EachPoint, HasImage}
+use Rattle.sequence_points_moved.specs.Writing.{CanMove, IsWritable}
+use Rattle.sequence_points_moved.proofs.Stays.{at_image, image_small}
+
+-- points that can be written where there is one
+pub writable_head : (all : List Point) (p : Point) (ps : List Point) → all ≡ p ∷ ps → IsWritable all → CanBeWritten 0 (p ∷ ps)
+writable_head all p ps cut h = subst (CanBeWritten 0) cut (h (λ none. let e : p ∷ ps ≡ [] = sym cut ∙ none in cc))
+
+-- what holds of each point at its image
+moved_all : (o : Offsets) (documents : List ℕ) (P Q : Point → Type 0) → ((p : Point) → P p → Q (at_image o documents p)) → (ps : List Point) → All P ps
+    → All Q (moved_in o documents ps)
+moved_all o documents P Q each [] h = All-nil Q
+moved_all o documents P Q each (p ∷ ps) h =
+    by_test (is_kept_between o p.offset (first_offset (old_size o) ps)) (moved_all o documents P Q each ps (All-tail P p ps h))
+  where
+    by_test : (b : Bool) → All Q (moved_in o documents ps)
+        → All Q (map (in_new_document documents) (cond b (record p { offset = moved o p.offset } ∷ moved_points o ps) (moved_points o ps)))
+    by_test false rest = rest
+    by_test true rest = All-cons Q (at_image o documents p) (moved_in o documents ps) (each p (All-head P p ps h)) rest
+
+rise_map : (documents : List ℕ) (ps : List Point) → AllPairs (λ p q. p.offset < q.offset) ps
+    → AllPairs (λ p q. p.offset < q.offset) (map (in_new_document documents) ps)
+rise_map documents [] h = h
+rise_map documents (p ∷ ps) h =
+    AllPairs-cons (λ (q r : Point). q.offset < r.offset) (in_new_document documents p) (map (in_new_document documents) ps)
+    (All-map (λ (q : Point). p.offset < q.offset) (in_new_document documents) ps (pairs-head p ps h)) (rise_map documents ps (pairs-tail p ps h))
+
+-- a new document is one of the list
+new_document : (documents : List ℕ) (row : ℕ) → All IsDocument documents → 1 ≤ row → row ≤ length documents → IsDocument (get_or documents (row - 1) 0)
+new_document documents row rows first there = All-get_or IsDocument documents (row - 1) 0 (omega arith) rows
+
+-- both at once of each
+both : (P Q : Point → Type 0) (ps : List Point) → All P ps → All Q ps → All (λ p. P p × Q p) ps
+both P Q ps h k = λ i d less. (h i d less, k i d less)
+
+pub writable : (o : Offsets) → Rise o → (documents : List ℕ) → All IsDocument documents → (points : List Point)
+    → AreInRange points → All (λ p. p.offset < old_size o) points
+    → All (CanMove o documents) points → IsWritable (moved_in o documents points)
+writable o rise documents rows points read below each some = record {
+  some = some;
+  rise = rise_map documents (moved_points o points) (moved-rise o points rise read.rise below);
+  offsets = moved_all o documents (CanMove o documents) (λ (p : Point). IsOffset p.offset) (λ p h. image_small o rise p.offset h.image) points each;
+  documents = moved_all o documents (CanMove o documents) (λ (p : Point). IsDocument p.document)
+      (λ p h. new_document documents p.document rows h.first h.there) points each;
+  spans = moved_all o documents (λ (p : Point). IsSpan p.span) (λ (p : Point). IsSpan p.span) (λ p h. h) points read.spans;
+  signature_is = omega arith;
+}
+
+-- what is asked of the blob and of the map, of the points themselves
+pub record Ready (o : Offsets) (documents : List ℕ) (points : List Point) : Type 0 where
+  pub each : All (CanMove o documents) points
+  pub writable : IsWritable (moved_in o documents points)
+
+pub ready : (o : Offsets) → Rise o → (column : ℕ) (limits : PointLimits) (blob documents : List ℕ) (points : List Point) → column ≤ limits.documents
+    → IsWhole column limits blob
+    → length documents ≡ limits.documents → All IsDocument documents
+    → EachPoint (λ p. p.offset < old_size o) column limits blob → EachPoint (λ p. HasImage o p.offset) column limits blob
+    → ((signature : ℕ) (others : List Point) → ReadsAs column limits blob signature others → points ≡ others) → Ready o documents points
+ready o rise column limits blob documents points there whole len rows below images same =
+    let at = same whole.0 whole.1 whole.2 in
+    let read = points_in_range column limits blob whole.0 whole.1 there whole.2 in
+    let image = images whole.0 whole.1 whole.2 in
+    let each : All (CanMove o documents) whole.1 = λ i d less. let row = read.2 i d less in record {
+      image = image i d less;
+      first = row.0;
+      there = omega (arith, row.1, len);
+    } in
+    subst (Ready o documents) (sym at)
+    (record { each = each; writable = writable o rise documents rows whole.1 read.0 (below whole.0 whole.1 whole.2) each })

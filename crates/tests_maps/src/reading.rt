@@ -1,0 +1,276 @@
+// What maps say that are read of their texts, and at which line a text is refused.
+use crate::maps::read;
+use ppdb_base::OffsetImage;
+use ppdb_maps::{MapError, MapText, read_map};
+use std::alloc::{AllocError, Global};
+use std::test::Fail;
+
+/// The refused line and the number of its rule, and twice 0 where the text has a map.
+fn refusal(alloc: Global, text: &str) -> Result<(u32, u8), Fail> {
+    if text.len() > 134_217_728 {
+        return Err(Fail::from("too long"));
+    }
+    match read_map(alloc, text.as_bytes()) {
+        Ok(_) => Ok((0, 0)),
+        Err(MapError::Line { line, kind }) => Ok((line, kind)),
+        Err(MapError::Memory) => Err(Fail::from("no memory")),
+    }
+}
+
+/// Texts with a map, and texts that are refused at a line by a rule.
+const TEXTS: [(&str, u32, u8); 76] = [
+    ("", 1, 1),
+    ("ppdbmap 1", 0, 0),
+    ("ppdbmap 2\n", 0, 0),
+    ("ppdbmap 3\r\n", 0, 0),
+    ("ppdbmap 1\r", 1, 1),
+    ("ppdbmap 4\n", 1, 1),
+    ("ppdbmap 0\n", 1, 1),
+    ("ppdbmap  1\n", 1, 1),
+    ("# a comment\nppdbmap 1\n", 1, 1),
+    ("\nppdbmap 1\n", 1, 1),
+    ("PPDBMAP 1\n", 1, 1),
+    ("ppdbmap 1\n\n# run 0 0 1\n\r\n", 0, 0),
+    ("ppdbmap 1\nppdbmap 1\n", 2, 2),
+    ("ppdbmap 1\n \n", 2, 2),
+    ("ppdbmap 1\nrows 06\n", 2, 2),
+    ("ppdbmap 1\nrows 06 1 \n", 2, 2),
+    ("ppdbmap 1\nrows 06 1\r\r\n", 2, 3),
+    ("ppdbmap 1\nrows 06 1\r", 2, 3),
+    ("ppdbmap 1\nrows 06 1\r\nrow 06 1 1", 0, 0),
+    ("ppdbmap 1\nrows\t06 1\n", 2, 2),
+    ("ppdbmap 1\nrows  06\n", 2, 3),
+    ("ppdbmap 1\nRows 06 1\n", 2, 2),
+    ("ppdbmap 1\ndrop 1\n", 2, 2),
+    ("ppdbmap 2\ndrop 1\n", 0, 0),
+    ("ppdbmap 1\nslots 1\n", 2, 2),
+    ("ppdbmap 2\nslots 1\n", 2, 2),
+    ("ppdbmap 3\nslots 1\n", 0, 0),
+    ("ppdbmap 2\nslot 1 0 0\n", 2, 2),
+    ("ppdbmap 3\nslots 1\nslot 1 0 0\n", 0, 0),
+    ("ppdbmap 2\nslots x\n", 2, 2),
+    ("ppdbmap 1\nrows 2c 0\n", 0, 0),
+    ("ppdbmap 1\nrows 2C 0\n", 0, 0),
+    ("ppdbmap 1\nrows 2d 0\n", 2, 3),
+    ("ppdbmap 1\nrows 6 0\n", 2, 3),
+    ("ppdbmap 1\nrows 006 0\n", 2, 3),
+    ("ppdbmap 1\nrows 0g 0\n", 2, 3),
+    ("ppdbmap 1\nrows 06 16777215\n", 0, 0),
+    ("ppdbmap 1\nrows 06 16777216\n", 2, 3),
+    ("ppdbmap 1\nrows 06 01\n", 2, 3),
+    ("ppdbmap 1\nrows 06 +1\n", 2, 3),
+    ("ppdbmap 1\nrows 06 -1\n", 2, 3),
+    ("ppdbmap 1\nrows 06 \n", 2, 3),
+    ("ppdbmap 1\nrows 06 1\nrow 06 0 1\n", 3, 3),
+    ("ppdbmap 1\nrows 06 1\nrow 06 1 0\n", 3, 3),
+    ("ppdbmap 1\nmethod 0 1 1\n", 2, 3),
+    ("ppdbmap 1\nmethod 1 2147483647 0\n", 0, 0),
+    ("ppdbmap 1\nmethod 1 2147483648 0\n", 2, 3),
+    ("ppdbmap 1\nmethod 1 99999999999999999999 0\n", 2, 3),
+    ("ppdbmap 1\nmethod 1 9 9\nrun 0 0 0\n", 3, 3),
+    (
+        "ppdbmap 3\nslots 1\nslot 1 65535 65535\nslot 1 0 65536\n",
+        4,
+        3,
+    ),
+    ("ppdbmap 1\nrows 06 1\nrows 06 1\n", 3, 4),
+    ("ppdbmap 1\nrows 0a 1\nrow 0A 1 1\nrow 0a 1 2\n", 4, 4),
+    ("ppdbmap 1\nmethod 1 1 1\nmethod 1 1 1\n", 3, 4),
+    ("ppdbmap 2\ndrop 1\ndrop 1\n", 3, 4),
+    ("ppdbmap 3\nslots 1\nslots 1\n", 3, 4),
+    (
+        "ppdbmap 3\nslots 1\nslots 2\nslot 1 0 1\nslot 2 0 1\nslot 1 0 2\n",
+        6,
+        4,
+    ),
+    ("ppdbmap 1\nrow 06 1 1\n", 2, 5),
+    ("ppdbmap 1\nrows 02 1\nrow 06 1 1\n", 3, 5),
+    ("ppdbmap 3\nslot 1 0 5\n", 2, 5),
+    ("ppdbmap 2\ndrop 1\nrow 06 1 2\n", 3, 5),
+    ("ppdbmap 1\nrun 0 0 1\n", 2, 6),
+    ("ppdbmap 1\nmethod 1 9 9\nrows 06 1\nrun 0 0 1\n", 4, 6),
+    (
+        "ppdbmap 3\nmethod 1 9 9\nrun 0 0 1\nslots 1\nrun 0 0 20\n",
+        5,
+        6,
+    ),
+    (
+        "ppdbmap 1\nmethod 1 9 9\n\n# here\nrun 0 0 1\n\nrun 1 1 1\n",
+        0,
+        0,
+    ),
+    ("ppdbmap 1\nmethod 1 9 12\nrun 5 6 4\nrun 0 0 1\n", 4, 7),
+    ("ppdbmap 1\nmethod 1 9 12\nrun 0 0 4\nrun 4 3 1\n", 4, 7),
+    ("ppdbmap 1\nmethod 1 9 12\nrun 0 0 4\nrun 3 4 1\n", 4, 7),
+    ("ppdbmap 1\nmethod 1 9 12\nrun 0 0 4\nrun 4 4 5\n", 0, 0),
+    ("ppdbmap 1\nmethod 1 9 12\nrun 0 3 10\n", 3, 8),
+    ("ppdbmap 1\nmethod 1 9 12\nrun 0 4 9\n", 3, 8),
+    ("ppdbmap 1\nmethod 1 9 12\nrun 0 3 9\n", 0, 0),
+    ("ppdbmap 2\nmethod 1 9 9\ndrop 1\n", 3, 9),
+    ("ppdbmap 2\nrows 06 1\nrow 06 1 1\ndrop 1\n", 4, 9),
+    ("ppdbmap 3\nslots 1\ndrop 1\n", 3, 9),
+    ("ppdbmap 3\ndrop 1\nrows 06 2\nrow 06 1 2\n", 4, 9),
+    ("ppdbmap 3\nrows 02 1\nrow 02 1 1\ndrop 1\nslots 1\n", 5, 9),
+];
+
+/// Which of these texts is not reported so, by its number.
+fn first_other(alloc: Global, rows: &[(&str, u32, u8)]) -> Result<Option<usize>, Fail> {
+    for (number, &(text, line, kind)) in rows.iter().enumerate() {
+        if refusal(alloc, text)? != (line, kind) {
+            return Ok(Some(number));
+        }
+    }
+    Ok(None)
+}
+
+#[test]
+fn refuses_the_first_line(rt: HostRuntime) -> Result<(), Fail> {
+    assert_eq!(rt; first_other(rt.alloc(), &TEXTS)?, None);
+    Ok(())
+}
+
+/// Whether these are the images, the next images and what is kept among two offsets, at the offsets 0 to 13.
+fn offsets_are(
+    map: &impl OffsetImage,
+    images: [Option<u32>; 14],
+    next: [Option<u32>; 14],
+    kept: [bool; 14],
+) -> bool {
+    let mut are = true;
+    for offset in 0..14 {
+        let at = offset as usize;
+        let ours = map.image(offset) == images[at] && map.next_image(offset) == next[at];
+        let among = map.kept_between(offset, offset + 2) == kept[at];
+        are = are && ours && among && !map.kept_between(offset, offset);
+    }
+    are
+}
+
+const NONE: [Option<u32>; 14] = [None; 14];
+
+/// The images of the offsets from 0 on.
+fn from_0(images: &[Option<u32>]) -> [Option<u32>; 14] {
+    let mut all = NONE;
+    for (place, image) in all.iter_mut().zip(images) {
+        *place = *image;
+    }
+    all
+}
+
+#[test]
+fn moves_offsets_of_runs(rt: HostRuntime) -> Result<(), Fail> {
+    let map = read(
+        rt.alloc(),
+        b"ppdbmap 2\nmethod 1 9 12\nrun 0 0 1\nrun 5 6 4\ndrop 2\n",
+    )?;
+    let images = [
+        Some(0),
+        None,
+        None,
+        None,
+        None,
+        Some(6),
+        Some(7),
+        Some(8),
+        Some(9),
+        Some(12),
+    ];
+    let next = [0, 6, 6, 6, 6, 6, 7, 8, 9, 12].map(Some);
+    let mut kept = [false; 14];
+    for old in [0, 4, 5, 6, 7, 8] {
+        kept[old] = true;
+    }
+    assert!(rt; offsets_are(&map.method(1), from_0(&images), from_0(&next), kept));
+    assert!(rt; offsets_are(&map.method(2), NONE, NONE, [false; 14]));
+    Ok(())
+}
+
+#[test]
+fn moves_offsets_without_runs(rt: HostRuntime) -> Result<(), Fail> {
+    let map = read(rt.alloc(), b"ppdbmap 2\nmethod 3 9 12\n")?;
+    let mut size = NONE;
+    size[9] = Some(12);
+    let next = from_0(&[Some(12); 10]);
+    assert!(rt; offsets_are(&map.method(3), size, next, [false; 14]));
+    let mut itself = NONE;
+    for old in 0..14u32 {
+        itself[old as usize] = Some(old);
+    }
+    assert!(rt; offsets_are(&map.method(4), itself, itself, [true; 14]));
+    Ok(())
+}
+
+/// A map whose lines stand in no order.
+const UNORDERED: &[u8] =
+    b"ppdbmap 3\nmethod 7 9 12\nrun 0 0 1\nrows 06 2\nrow 06 3 1\nrow 06 1 2\nrows 02 0\n\
+      drop 2\nslots 7\nslot 7 1 0\nslot 7 0 1\nmethod 1 1 1\n";
+
+/// Whether a map says of rows and slots what those lines say.
+fn says_those_lines(map: &MapText) -> bool {
+    let counts = map.rows(0x06) == Some(2) && map.rows(0x02) == Some(0) && map.rows(0x01).is_none();
+    let named = map.row(0x06, 1) == Some(2) && map.row(0x06, 3) == Some(1);
+    let unnamed = map.row(0x06, 2).is_none() && map.row(0x02, 1).is_none();
+    let slots = map.slot(7, 0) == Some(1) && map.slot(7, 2).is_none() && map.slot(1, 2) == Some(2);
+    let dropped = map.dropped(2) && !map.dropped(1);
+    counts && named && unnamed && slots && dropped && map.row(0x01, 9) == Some(9)
+}
+
+/// Whether a map without lines says nothing.
+fn says_nothing(map: &MapText) -> bool {
+    map.rows(0x06).is_none() && map.row(0x06, 5) == Some(5) && map.method_line(0).is_none()
+}
+
+#[test]
+fn answers_what_lines_say(rt: HostRuntime) -> Result<(), Fail> {
+    assert!(rt; says_those_lines(&read(rt.alloc(), UNORDERED)?));
+    assert!(rt; says_nothing(&MapText::empty(rt.alloc())));
+    Ok(())
+}
+
+/// Whether a map lists the methods, drops and rows of those lines in order.
+fn lists_rows(map: &MapText) -> bool {
+    let first = map.method_line(0) == Some(1) && map.method_line(1) == Some(7);
+    let methods = first && map.method_line(2).is_none();
+    let rows = map.row_line(0x06, 0) == Some((1, 2)) && map.row_line(0x06, 1) == Some((3, 1));
+    let drops = map.drop_line(0) == Some(2) && map.drop_line(1).is_none();
+    methods && rows && map.row_line(0x06, 2).is_none() && drops
+}
+
+/// Whether it lists their slots, sizes and runs in order.
+fn lists_slots_and_runs(map: &MapText) -> bool {
+    let methods = map.slots_line(0) == Some(7) && map.slots_line(1).is_none();
+    let slots = map.slot_line(7, 0) == Some((0, 1)) && map.slot_line(7, 1) == Some((1, 0));
+    let (line, without) = (map.method(7), map.method(2));
+    let sizes = line.sizes() == Some((9, 12)) && without.sizes().is_none();
+    let runs = line.run_line(0) == Some((0, 0, 1)) && line.run_line(1).is_none();
+    methods && slots && map.slot_line(7, 2).is_none() && sizes && runs
+}
+
+#[test]
+fn lists_its_lines_in_order(rt: HostRuntime) -> Result<(), Fail> {
+    let map = read(rt.alloc(), UNORDERED)?;
+    assert!(rt; lists_rows(&map));
+    assert!(rt; lists_slots_and_runs(&map));
+    Ok(())
+}
+
+/// Lines that each keep one offset, of 64 MB in all.
+fn long_text(alloc: Global) -> Result<Vec<u8>, AllocError> {
+    let mut text = Vec::from_slice(alloc, b"ppdbmap 1\nmethod 1 2147483647 2147483647\n")?;
+    for offset in 1_000_000_000..1_002_485_514u32 {
+        let line = format!(in alloc; "run {offset} {offset} 1\n")?;
+        text.extend_from_slice(line.as_bytes())?;
+    }
+    Ok(text)
+}
+
+#[test]
+fn reads_a_long_text(rt: HostRuntime) -> Result<(), Fail> {
+    let text = long_text(rt.alloc())?;
+    assert!(rt; text.len() >= 67_108_864);
+    let map = read(rt.alloc(), &text)?;
+    let last = map.method(1).run_line(2_485_513);
+    assert!(rt; last == Some((1_002_485_513, 1_002_485_513, 1)));
+    assert!(rt; map.method(1).image(1_002_485_514).is_none());
+    Ok(())
+}

@@ -1,0 +1,180 @@
+// Whether maps fit files that come first.
+ghost use Rattle.std.specs.Prelude.{◌≡◌, ◌<◌};
+
+use crate::files::{HALVES, HANDLED, RESUMED, UNKNOWN};
+use custom_info::Marks;
+use ppdb_base::{CounterPermit, List, MergeError, Place, Steps};
+use ppdb_maps::MapText;
+use ppdb_merge_fits::judge;
+use ppdb_merge_names::Imaged;
+use ppdb_values_reading::value_of;
+use ppdb_verify::verify;
+use std::marker::Brand;
+use std::sync::ledger::{Blank, Ledger};
+use std::test::Fail;
+use tests_files::{PROGRAM, SMALL};
+use tests_maps::map_of;
+
+fn judged_in<L: Ledger>(
+    rt: &HostRuntime,
+    bytes: &[u8],
+    map: &MapText,
+    blank: Blank,
+) -> Result<Result<List<Imaged>, MergeError>, Fail>
+    requires { (blank.name ≡ L.name) × (blank.parts ≡ L.parts) × (0 < L.parts) }
+{
+    if bytes.len() > 0x0800_0000 {
+        return Err(Fail::from("too long"));
+    }
+    let marks = Marks::new(rt.alloc());
+    let mut steps = Steps::<L>::new(CounterPermit::new(rt), blank);
+    let Ok(file) = verify(rt.alloc(), bytes, &mut steps) else {
+        return Err(Fail::from("not valid"));
+    };
+    let Ok(value) = value_of(rt.alloc(), &file, &mut steps) else {
+        return Err(Fail::from("no memory"));
+    };
+    Ok(judge(rt.alloc(), &file, &value, map, &marks, true, &mut steps))
+}
+
+/// How a map is judged for a file that comes first: the rows that the file names with their images, or what does not fit.
+fn judged(
+    rt: &HostRuntime,
+    bytes: &[u8],
+    lines: &str,
+) -> Result<Result<List<Imaged>, MergeError>, Fail> {
+    let map = map_of(rt.alloc(), lines)?;
+    judged_in::<Brand>(rt, bytes, &map, Blank::new(1))
+}
+
+/// The entry point is named, and has no image.
+const ENTRY_UNMAPPED: MergeError = MergeError::Unmapped {
+    table: 6,
+    row: 1,
+    place: Place {
+        part: 3,
+        table: 0,
+        row: 0,
+        column: 0,
+        byte: 20,
+    },
+};
+
+const KIND_UNKNOWN: MergeError = MergeError::KindUnknown {
+    row: 1,
+    kind: [
+        0x33, 0x22, 0x11, 0x00, 0x55, 0x44, 0x77, 0x66, 0x88, 0x99, 0xaa, 0xbb, 0xcc, 0xdd, 0xee,
+        0xff,
+    ],
+};
+
+fn beyond(offset: u32, size: u32) -> MergeError {
+    MergeError::OffsetBeyond {
+        method: 1,
+        offset,
+        size,
+    }
+}
+
+fn lost(method: u32, offset: u32) -> MergeError {
+    MergeError::AsyncLost { method, offset }
+}
+
+/// A map that does not fit its file is refused with this error.
+fn is_told(
+    rt: &HostRuntime,
+    bytes: &[u8],
+    lines: &'static str,
+    error: MergeError,
+) -> Result<(), Fail> {
+    match judged(rt, bytes, lines)? {
+        Err(told) if told == error => Ok(()),
+        _ => Err(Fail::from(lines)),
+    }
+}
+
+#[test]
+fn rows_slots_and_kinds_that_do_not_fit_are_told(rt: HostRuntime) -> Result<(), Fail> {
+    let slot_unmapped = MergeError::SlotUnmapped { row: 2, slot: 1 };
+    let slot_twice = MergeError::SlotTwice {
+        method: 1,
+        first: 0,
+        second: 1,
+        image: 5,
+    };
+    let image_twice = MergeError::ImageTwice {
+        table: 6,
+        first: 2,
+        second: 3,
+        image: 1,
+    };
+    let one_slot = "ppdbmap 3/slots 1/slot 1 0 5";
+    let two_slots = "ppdbmap 3/slots 1/slot 1 0 5/slot 1 1 5";
+    let no_entry = "ppdbmap 3/rows 06 1/slots 1/slot 1 0 5/slot 1 1 5";
+    let one_image = "ppdbmap 1/rows 06 2/row 06 2 1/row 06 3 1";
+    let rows: [(&[u8], &'static str, MergeError); 6] = [
+        (&SMALL, "ppdbmap 1/rows 06 1", ENTRY_UNMAPPED),
+        (&SMALL, one_slot, slot_unmapped),
+        (&SMALL, two_slots, slot_twice),
+        (&SMALL, no_entry, ENTRY_UNMAPPED),
+        (&HALVES, one_image, image_twice),
+        (&UNKNOWN, "ppdbmap 2/drop 1", KIND_UNKNOWN),
+    ];
+    for (bytes, lines, error) in rows {
+        is_told(&rt, bytes, lines, error)?;
+    }
+    Ok(())
+}
+
+#[test]
+fn offsets_that_do_not_fit_are_told(rt: HostRuntime) -> Result<(), Fail> {
+    let no_entry = "ppdbmap 1/rows 06 1/method 1 5 5/run 0 0 5";
+    let seven_goes = "ppdbmap 1/method 1 30 30/run 0 0 7/run 8 8 22";
+    let twenty_goes = "ppdbmap 1/method 1 30 30/run 0 0 20/run 21 21 9";
+    let short = "ppdbmap 1/method 1 25 30/run 0 0 25";
+    let rows: [(&[u8], &'static str, MergeError); 8] = [
+        (&SMALL, "ppdbmap 1/method 1 7 7/run 0 0 7", beyond(7, 7)),
+        (&SMALL, "ppdbmap 1/method 1 8 8/run 0 0 8", beyond(9, 8)),
+        (&SMALL, no_entry, beyond(7, 5)),
+        (&HANDLED, seven_goes, lost(1, 7)),
+        (&HANDLED, twenty_goes, lost(1, 20)),
+        (&HANDLED, "ppdbmap 1/method 1 6 6/run 0 0 6", beyond(7, 6)),
+        (&HANDLED, short, beyond(25, 25)),
+        (&RESUMED, "ppdbmap 2/drop 2", lost(2, 25)),
+    ];
+    for (bytes, lines, error) in rows {
+        is_told(&rt, bytes, lines, error)?;
+    }
+    Ok(())
+}
+
+#[test]
+fn what_fits_has_images(rt: HostRuntime) -> Result<(), Fail> {
+    let rows: [(&[u8], &str, &[(u32, u32)]); 4] = [
+        (
+            &PROGRAM,
+            "ppdbmap 1/rows 06 10/row 06 1 6/row 06 2 2/row 06 4 9",
+            &[(1, 6), (2, 2), (4, 9)],
+        ),
+        (
+            &HALVES,
+            "ppdbmap 1/rows 06 9/row 06 2 5/row 06 3 4",
+            &[(2, 5), (3, 4)],
+        ),
+        (&RESUMED, "ppdbmap 2/drop 1", &[]),
+        (&UNKNOWN, "ppdbmap 2/drop 2", &[]),
+    ];
+    for (bytes, lines, methods) in rows {
+        let Ok(found) = judged(&rt, bytes, lines)? else {
+            return Err(Fail::from(lines));
+        };
+        let mut images = Vec::new(rt.alloc());
+        for row in found.as_slice() {
+            if row.table == 6 {
+                images.push((row.row, row.image))?;
+            }
+        }
+        assert!(rt; images.as_slice() == methods);
+    }
+    Ok(())
+}

@@ -1,5 +1,0 @@
-use Rattle.unmoved_files.proofs.Fitting.{sound_files_stay}
-use Rattle.unmoved_files.proofs.laws.sound_files_stay.Goals as goal
-
-pub returns : goal.returns
-returns c = sound_files_stay c.soundness_is_noted.ensures c.values_come_back.ensures c.one_file_stays.ensures

@@ -1,7 +1,0 @@
-use Rattle.std.proofs.Common.{take}
-use Rattle.std.specs.Prelude.{All}
-use Rattle.sound_values.specs.Named.{HasRow}
-use Rattle.value_check.proofs.customs.are_documents.Given as goal
-
-abbrev pub invariant-loop-row : goal.invariant-loop-row
-invariant-loop-row l = All (HasRow l.counted 0x30) (take l.row-index l.rows)

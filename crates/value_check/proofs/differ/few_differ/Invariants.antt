@@ -1,8 +1,0 @@
-use Rattle.value_check.specs.Pairs.{AreApart, FrontStands, PairsBelow}
-use Rattle.value_check.proofs.differ.few_differ.Given as goal
-
-abbrev pub invariant-loop-j : goal.invariant-loop-j
-invariant-loop-j g l = FrontStands (AreApart g.K.Ord.cmp) l.keys l.i l.j
-
-abbrev pub invariant-loop-i : goal.invariant-loop-i
-invariant-loop-i g l = PairsBelow (AreApart g.K.Ord.cmp) l.keys l.i

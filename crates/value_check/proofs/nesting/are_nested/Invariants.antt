@@ -1,9 +1,0 @@
-use Rattle.value_check.specs.Pairs.{PairsBelow}
-use Rattle.value_check.specs.Scopes.{IsNested, WasOpen}
-use Rattle.value_check.proofs.nesting.are_nested.Given as goal
-
-abbrev pub invariant-loop-place : goal.invariant-loop-place
-invariant-loop-place l = record {
-  nested : PairsBelow IsNested l.scopes l.place;
-  opened : WasOpen l.scopes l.place l.ends.items;
-}

@@ -1,5 +1,0 @@
-use Rattle.value_check.specs.Pairs.{PairsBelow}
-use Rattle.value_check.proofs.order.in_order.Given as goal
-
-abbrev pub invariant-loop-i : goal.invariant-loop-i
-invariant-loop-i g l = PairsBelow g.T.Ordered.before l.items l.i

@@ -1,7 +1,0 @@
-use Rattle.std.proofs.Common.{take}
-use Rattle.std.specs.Prelude.{All}
-use Rattle.value_check.specs.Scopes.{HasDistinctItems}
-use Rattle.value_check.proofs.scopes.have_distinct_items.Given as goal
-
-abbrev pub invariant-loop-scope : goal.invariant-loop-scope
-invariant-loop-scope l = All HasDistinctItems (take l.scope-index l.scopes)

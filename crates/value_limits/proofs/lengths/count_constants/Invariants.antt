@@ -1,6 +1,0 @@
-use Rattle.std.proofs.Common.{◌≡◌, take, length, sum_by}
-use Rattle.ppdb_base.specs.Told.{told}
-use Rattle.value_limits.proofs.lengths.count_constants.Given as goal
-
-abbrev pub invariant-loop-scope : goal.invariant-loop-scope
-invariant-loop-scope l = l.count ≡ told (sum_by (λ scope. length scope.constants) (take l.scope-index l.scopes))

@@ -1,5 +1,0 @@
-use Rattle.value_reading.proofs.Shared.{own_their_lists}
-use Rattle.value_reading.proofs.laws.scopes_own_their_lists.Goals as goal
-
-pub returns : goal.returns
-returns c raw keeps = own_their_lists raw c.lists_are_owned.ensures keeps
