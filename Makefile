@@ -1,7 +1,7 @@
 # make              proves and builds the program if it is not built for these sources
 # make quick        runs the program and all tests unproved, in some minutes
 # make lib          makes libppdb in build/library: an archive, a shared object and the header
-# make check        runs the checks of the built program and of the repository (scripts/check-*), as .ci/run does after the proofs
+# make check        runs the checks of the built program and of the repository (scripts/checks/check-*), as .ci/run does after the proofs
 # make install      copies the program, the library if make lib has built it, the manual page, completions, documents and scripts below prefix, by default /usr/local
 # make uninstall    removes what make install copied
 # make release      makes the files of a release in release/: the program, a tar file, a Debian package and their sums
@@ -22,48 +22,50 @@ DESTDIR ?=
 
 documents = README.md CHANGELOG.md docs/RECIPES.md docs/MANY-FILES.md docs/PAGE.md docs/LIBRARY.md docs/FORMAT.md docs/lines.schema.json NOTICE LICENSE
 tools = $(addprefix scripts/,stacktrace stack-maps extract-embedded page verify-each symbol-store repair)
-modules = $(addprefix scripts/,assemblies.py sources.py command.py cells.py)
+modules = $(addprefix scripts/shared/,assemblies.py sources.py command.py cells.py)
 samples = examples/async_iter.cs examples/async_iter.pdb examples/embed_link.pdb
 
 .PHONY: all quick lib check install uninstall release clean help
 
 all:
-	@scripts/build
+	@scripts/making/build
 
 quick:
 	@scripts/quick
 
 lib:
-	@scripts/library
+	@scripts/making/library
 
 check: all
-	@set -e; for script in scripts/check-*; do "$$script"; done
+	@set -e; for script in scripts/checks/check-*; do "$$script"; done
 
 install:
-	install -d "$(DESTDIR)$(bindir)" "$(DESTDIR)$(mandir)/man1" "$(DESTDIR)$(docdir)/examples" "$(DESTDIR)$(datadir)/ppdb"
+	install -d "$(DESTDIR)$(bindir)" "$(DESTDIR)$(mandir)/man1" "$(DESTDIR)$(docdir)/examples/shared" "$(DESTDIR)$(datadir)/ppdb"
 	install -d "$(DESTDIR)$(bashdir)" "$(DESTDIR)$(zshdir)" "$(DESTDIR)$(fishdir)"
-	program="$(program)"; program=$${program:-$$(scripts/program)} && install -m 755 "$$program" "$(DESTDIR)$(bindir)/ppdb"
+	program="$(program)"; program=$${program:-$$(scripts/making/program)} && install -m 755 "$$program" "$(DESTDIR)$(bindir)/ppdb"
 	install -m 644 man/ppdb.1 "$(DESTDIR)$(mandir)/man1/ppdb.1"
 	install -m 644 $(documents) "$(DESTDIR)$(docdir)"
-	install -m 644 $(samples) $(modules) "$(DESTDIR)$(docdir)/examples"
+	install -m 644 $(samples) "$(DESTDIR)$(docdir)/examples"
+	install -m 644 $(modules) "$(DESTDIR)$(docdir)/examples/shared"
 	install -m 755 $(tools) "$(DESTDIR)$(docdir)/examples"
 	install -m 644 share/ppdb/page.html "$(DESTDIR)$(datadir)/ppdb"
 	install -m 644 completions/ppdb.bash "$(DESTDIR)$(bashdir)/ppdb"
 	install -m 644 completions/_ppdb "$(DESTDIR)$(zshdir)/_ppdb"
 	install -m 644 completions/ppdb.fish "$(DESTDIR)$(fishdir)/ppdb.fish"
-	if scripts/library is-built; then scripts/library install "$(DESTDIR)" "$(prefix)" "$(libdir)" "$(includedir)"; \
+	if scripts/making/library is-built; then scripts/making/library install "$(DESTDIR)" "$(prefix)" "$(libdir)" "$(includedir)"; \
 	  else echo "install: the library is left out, since make lib has not built it"; fi
 
 uninstall:
 	rm -f "$(DESTDIR)$(bindir)/ppdb" "$(DESTDIR)$(mandir)/man1/ppdb.1" "$(DESTDIR)$(datadir)/ppdb/page.html"
 	rm -f "$(DESTDIR)$(bashdir)/ppdb" "$(DESTDIR)$(zshdir)/_ppdb" "$(DESTDIR)$(fishdir)/ppdb.fish"
 	rm -f $(foreach file,$(notdir $(documents)),"$(DESTDIR)$(docdir)/$(file)")
-	rm -f $(foreach file,$(notdir $(samples) $(modules) $(tools)),"$(DESTDIR)$(docdir)/examples/$(file)")
-	scripts/library uninstall "$(DESTDIR)" "$(prefix)" "$(libdir)" "$(includedir)"
-	rmdir "$(DESTDIR)$(docdir)/examples" "$(DESTDIR)$(docdir)" "$(DESTDIR)$(datadir)/ppdb" 2>/dev/null || true
+	rm -f $(foreach file,$(notdir $(samples) $(tools)),"$(DESTDIR)$(docdir)/examples/$(file)")
+	rm -f $(foreach file,$(notdir $(modules)),"$(DESTDIR)$(docdir)/examples/shared/$(file)")
+	scripts/making/library uninstall "$(DESTDIR)" "$(prefix)" "$(libdir)" "$(includedir)"
+	rmdir "$(DESTDIR)$(docdir)/examples/shared" "$(DESTDIR)$(docdir)/examples" "$(DESTDIR)$(docdir)" "$(DESTDIR)$(datadir)/ppdb" 2>/dev/null || true
 
 release: all
-	scripts/release
+	scripts/making/release
 
 clean:
 	rm -rf build crates/ppdb_cli/out/ppdb_cli crates/tests_blobs_program/out/tests_blobs_program

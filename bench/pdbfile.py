@@ -5,7 +5,7 @@ import sys
 import uuid
 from pathlib import Path
 
-sys.path.insert(0, str(Path(__file__).resolve().parent.parent / "scripts"))
+sys.path.insert(0, str(Path(__file__).resolve().parent.parent / "scripts/shared"))
 from cells import COLUMNS as CELLS, PARENTS
 
 # The columns of the tables 30 to 37.
