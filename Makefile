@@ -20,10 +20,12 @@ zshdir ?= $(datadir)/zsh/site-functions
 fishdir ?= $(datadir)/fish/vendor_completions.d
 DESTDIR ?=
 
-documents = README.md CHANGELOG.md docs/RECIPES.md docs/MANY-FILES.md docs/PAGE.md docs/LIBRARY.md docs/FORMAT.md docs/lines.schema.json NOTICE LICENSE
+# What is installed below docdir as it lies here, so that the links of the documents lead to it.
+documents = README.md CHANGELOG.md CONTRIBUTING.md SECURITY.md NOTICE LICENSE $(wildcard docs/*.md docs/pictures/*.png) docs/lines.schema.json \
+  docs/verify-debug-files.yml
+samples = examples/async_iter.cs examples/async_iter.pdb examples/embed_link.pdb $(wildcard examples/library/*)
 tools = $(addprefix scripts/,stacktrace stack-maps extract-embedded page verify-each symbol-store repair)
 modules = $(addprefix scripts/shared/,assemblies.py sources.py command.py cells.py)
-samples = examples/async_iter.cs examples/async_iter.pdb examples/embed_link.pdb
 
 .PHONY: all quick lib check install uninstall release clean help
 
@@ -40,14 +42,13 @@ check: all
 	@set -e; for script in scripts/checks/check-*; do "$$script"; done
 
 install:
-	install -d "$(DESTDIR)$(bindir)" "$(DESTDIR)$(mandir)/man1" "$(DESTDIR)$(docdir)/examples/shared" "$(DESTDIR)$(datadir)/ppdb"
+	install -d "$(DESTDIR)$(bindir)" "$(DESTDIR)$(mandir)/man1" "$(DESTDIR)$(datadir)/ppdb"
 	install -d "$(DESTDIR)$(bashdir)" "$(DESTDIR)$(zshdir)" "$(DESTDIR)$(fishdir)"
 	program="$(program)"; program=$${program:-$$(scripts/making/program)} && install -m 755 "$$program" "$(DESTDIR)$(bindir)/ppdb"
 	install -m 644 man/ppdb.1 "$(DESTDIR)$(mandir)/man1/ppdb.1"
-	install -m 644 $(documents) "$(DESTDIR)$(docdir)"
-	install -m 644 $(samples) "$(DESTDIR)$(docdir)/examples"
-	install -m 644 $(modules) "$(DESTDIR)$(docdir)/examples/shared"
+	for file in $(documents) $(samples); do install -D -m 644 "$$file" "$(DESTDIR)$(docdir)/$$file"; done
 	install -m 755 $(tools) "$(DESTDIR)$(docdir)/examples"
+	install -D -m 644 -t "$(DESTDIR)$(docdir)/examples/shared" $(modules)
 	install -m 644 share/ppdb/page.html "$(DESTDIR)$(datadir)/ppdb"
 	install -m 644 completions/ppdb.bash "$(DESTDIR)$(bashdir)/ppdb"
 	install -m 644 completions/_ppdb "$(DESTDIR)$(zshdir)/_ppdb"
@@ -58,11 +59,11 @@ install:
 uninstall:
 	rm -f "$(DESTDIR)$(bindir)/ppdb" "$(DESTDIR)$(mandir)/man1/ppdb.1" "$(DESTDIR)$(datadir)/ppdb/page.html"
 	rm -f "$(DESTDIR)$(bashdir)/ppdb" "$(DESTDIR)$(zshdir)/_ppdb" "$(DESTDIR)$(fishdir)/ppdb.fish"
-	rm -f $(foreach file,$(notdir $(documents)),"$(DESTDIR)$(docdir)/$(file)")
-	rm -f $(foreach file,$(notdir $(samples) $(tools)),"$(DESTDIR)$(docdir)/examples/$(file)")
-	rm -f $(foreach file,$(notdir $(modules)),"$(DESTDIR)$(docdir)/examples/shared/$(file)")
+	rm -f $(foreach file,$(documents) $(samples),"$(DESTDIR)$(docdir)/$(file)")
+	rm -f $(foreach file,$(notdir $(tools)) $(addprefix shared/,$(notdir $(modules))),"$(DESTDIR)$(docdir)/examples/$(file)")
 	scripts/making/library uninstall "$(DESTDIR)" "$(prefix)" "$(libdir)" "$(includedir)"
-	rmdir "$(DESTDIR)$(docdir)/examples/shared" "$(DESTDIR)$(docdir)/examples" "$(DESTDIR)$(docdir)" "$(DESTDIR)$(datadir)/ppdb" 2>/dev/null || true
+	rmdir $(foreach folder,examples/shared examples/library examples docs/pictures docs,"$(DESTDIR)$(docdir)/$(folder)") \
+	  "$(DESTDIR)$(docdir)" "$(DESTDIR)$(datadir)/ppdb" 2>/dev/null || true
 
 release: all
 	scripts/making/release
