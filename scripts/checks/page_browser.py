@@ -165,7 +165,7 @@ def click_through(browser: Browser, page: Path) -> None:
     browser.open(page)
     check.that("static async Task<int> One(int n)" in browser.text("#said"), f"the page begins with {browser.text('#said')}")
     browser.find('.row[data-l="20"] > a').click()
-    check.that(browser.place() == "#d=1&l=20" and "A break point on line 20" in browser.text("#said"), f"a line number leads to {browser.place()}")
+    check.that(browser.place() == "#d=1&l=20" and "A breakpoint on line 20" in browser.text("#said"), f"a line number leads to {browser.place()}")
     check.that(re.findall(r"▶\s*(IL_\w+)", browser.text("#breaks")) == ["IL_0000", "IL_0038"], f"line 20 stops at {browser.text('#breaks')}")
     browser.find('.row[data-l="23"] .p').click()
     check.that(re.fullmatch(r"#m=\d+&o=\d+", browser.place()) is not None and "int outer = 5;" in browser.text("#said"), f"a span leads to {browser.place()}")
@@ -225,7 +225,7 @@ def check_many(browser: Browser, page: Path) -> None:
 
 # The pictures: the page and the place of each, light or dark, and words that are to be seen in it.
 PICTURES = {"page": ("page.html", "#m=24&o=300", "light", "await Task.FromResult(big); <"),
-            "break-point": ("page.html", "#m=42&d=1&l=20", "light", "A break point on line 20"),
+            "breakpoint": ("page.html", "#m=42&d=1&l=20", "light", "A breakpoint on line 20"),
             "remap": ("rewriting.html", "#m=42&o=57", "dark", "It went to IL_0045 of method 34.")}
 SEEN = """
   const flat = text => text.replaceAll("\\n", " / "), each = (selector, words) => [...document.querySelectorAll(selector)].map(words);
