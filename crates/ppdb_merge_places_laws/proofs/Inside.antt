@@ -1,0 +1,112 @@
+-- The references inside a blob rise by their bytes.
+use Rattle.std.proofs.Common.{◌≡◌, ℕ, List, [], ◌∷◌, inl, inr, Option, Some, None, refl, sym, subst, flat_map}
+use Rattle.ppdb_base.specs.Place.{ComesBefore, cell}
+use Rattle.blob_grammar.specs.Grammar.{Value, number, integer, octets}
+use Rattle.blob_grammar.specs.Places.{PlacedField, placed_of}
+use Rattle.blob_grammar.specs.Reader.{prefix_of}
+use Rattle.custom_info.specs.AsyncStepping.{async_stepping}
+use Rattle.type_blobs.specs.declared.import_part.ImportPart.{ImportPart}
+use Rattle.type_blobs.specs.declared.import_part.ImportPart.TheVariants.{Kind as KindPart, Alias, Assembly, Namespace, Target}
+use Rattle.type_blobs.specs.declared.types.TypeLimits.{TypeLimits}
+use Rattle.type_blobs.specs.Constants.{constants}
+use Rattle.type_blobs.specs.Imports.{imports, next_part, field_of, import_field}
+use Rattle.type_blobs_rows.specs.declared.row.PlacedRow.{PlacedRow}
+use Rattle.type_blobs_rows.specs.Rows.{type_behind, constant_type, constant_types, import_row, import_rows}
+use Rattle.type_blobs_rows.specs.Rows.{method_behind, resume_method, resume_methods}
+use Rattle.ppdb_merge_items.specs.Each.{Each, Pairs}
+use Rattle.ppdb_merge_items.proofs.Lists.{Each-map, each_of, Pairs-map, Pairs-weaker}
+use Rattle.ppdb_merge_names.specs.References.{Reference, names, inside}
+use Rattle.ppdb_merge_fits.proofs.First.{flat_nested}
+use Rattle.ppdb_merge_places_laws.specs.References.{reference_numbers}
+use Rattle.ppdb_merge_places_laws.proofs.Bytes.{Above, NamesOne, bytes_rise}
+use Rattle.ppdb_merge_places_laws.proofs.Ordered.{At, Rise}
+
+abbrev pub Rising : List Reference → Type 0
+Rising = Rise reference_numbers
+
+-- in this row of this table
+abbrev pub InRow : ℕ → ℕ → Reference → Type 0
+InRow table row = At reference_numbers (5 ∷ table ∷ []) row
+
+abbrev pub InTable : ℕ → Reference → Type 0
+InTable table = At reference_numbers (5 ∷ []) table
+
+pub in_table : (table row : ℕ) (r : Reference) → InRow table row r → InTable table r
+in_table table row r at = (row ∷ at.0, at.1)
+
+-- ---- the rows inside a blob
+
+constant_names : NamesOne constant_type
+constant_names = record { one = λ f. one f.before f.value f.byte; byte = λ f. byte f.before f.value f.byte }
+  where
+    one : (before : List Value) (v : Value) (at : ℕ) → Pairs (λ (a b : PlacedRow). ⊥) (type_behind before at v)
+    one [] v at = tt
+    one (code ∷ before) (number n) at = (tt, tt)
+    one (code ∷ before) (integer z) at = tt
+    one (code ∷ before) (octets xs) at = tt
+
+    byte : (before : List Value) (v : Value) (at : ℕ) → Each (λ (x : PlacedRow). x.byte ≡ at) (type_behind before at v)
+    byte [] v at = tt
+    byte (code ∷ before) (number n) at = (refl, tt)
+    byte (code ∷ before) (integer z) at = tt
+    byte (code ∷ before) (octets xs) at = tt
+
+import_names : NamesOne (λ (f : PlacedField). flat_map import_row (import_field f))
+import_names = record { one = λ f. one (next_part f.before) f.value f.byte; byte = λ f. byte (next_part f.before) f.value f.byte }
+  where
+    one : (o : Option ImportPart) (v : Value) (at : ℕ) → Pairs (λ (a b : PlacedRow). ⊥) (flat_map import_row (field_of o at v))
+    one None v at = tt
+    one (Some part) (integer z) at = tt
+    one (Some part) (octets xs) at = tt
+    one (Some KindPart) (number n) at = tt
+    one (Some Alias) (number n) at = tt
+    one (Some Assembly) (number n) at = (tt, tt)
+    one (Some Namespace) (number n) at = tt
+    one (Some Target) (number n) at = (tt, tt)
+
+    byte : (o : Option ImportPart) (v : Value) (at : ℕ) → Each (λ (x : PlacedRow). x.byte ≡ at) (flat_map import_row (field_of o at v))
+    byte None v at = tt
+    byte (Some part) (integer z) at = tt
+    byte (Some part) (octets xs) at = tt
+    byte (Some KindPart) (number n) at = tt
+    byte (Some Alias) (number n) at = tt
+    byte (Some Assembly) (number n) at = (refl, tt)
+    byte (Some Namespace) (number n) at = tt
+    byte (Some Target) (number n) at = (refl, tt)
+
+resume_names : NamesOne resume_method
+resume_names = record { one = λ f. one f.before f.value f.byte; byte = λ f. byte f.before f.value f.byte }
+  where
+    one : (before : List Value) (v : Value) (at : ℕ) → Pairs (λ (a b : PlacedRow). ⊥) (method_behind before at v)
+    one (number a ∷ number b ∷ []) (number n) at = (tt, tt)
+    one _ _ at = tt
+
+    byte : (before : List Value) (v : Value) (at : ℕ) → Each (λ (x : PlacedRow). x.byte ≡ at) (method_behind before at v)
+    byte (number a ∷ number b ∷ []) (number n) at = (refl, tt)
+    byte _ _ at = tt
+
+pub constants_rise : (limits : TypeLimits) (content : List ℕ) → Pairs Above (constant_types limits content)
+constants_rise limits content = bytes_rise (constants limits) constant_type constant_names content
+
+pub imports_rise : (limits : TypeLimits) (heap : ℕ → Option (List ℕ)) (content : List ℕ) → Pairs Above (import_rows limits heap content)
+imports_rise limits heap content =
+    subst (Pairs Above) (sym (flat_nested import_row import_field (placed_of (imports limits heap) (prefix_of (imports limits heap) content))))
+    (bytes_rise (imports limits heap) (λ (f : PlacedField). flat_map import_row (import_field f)) import_names content)
+
+pub methods_rise : (methods : ℕ) (content : List ℕ) → Pairs Above (resume_methods methods content)
+methods_rise methods content = bytes_rise (async_stepping methods) resume_method resume_names content
+
+pub inside_rises : (table row column : ℕ) (rows : List PlacedRow) → Pairs Above rows → Rising (inside table row column rows)
+inside_rises table row column rows rise =
+    Pairs-map (λ (x : PlacedRow). names (record (cell table row column) { byte = x.byte }) x.table x.row)
+    (λ a b. ComesBefore (reference_numbers a) (reference_numbers b)) rows
+    (Pairs-weaker Above _ (λ a b less. inr (refl, inr (refl, inr (refl, inr (refl, inl less))))) rows rise)
+
+pub inside_each : (table row column : ℕ) (P : Reference → Type 0)
+    → ((x : PlacedRow) → P (names (record (cell table row column) { byte = x.byte }) x.table x.row)) → (rows : List PlacedRow)
+    → Each P (inside table row column rows)
+inside_each table row column P holds rows =
+    Each-map (λ (x : PlacedRow). names (record (cell table row column) { byte = x.byte }) x.table x.row) P rows (each_of _ holds rows)
+
+pub inside_row : (table row column : ℕ) (rows : List PlacedRow) → Each (InRow table row) (inside table row column rows)
+inside_row table row column rows = inside_each table row column (InRow table row) (λ x. (column ∷ x.byte ∷ x.table ∷ [], refl)) rows

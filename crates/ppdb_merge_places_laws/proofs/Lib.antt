@@ -1,0 +1,13 @@
+pub mod Beyond
+pub mod BeyondRows
+pub mod Bytes
+pub mod Inside
+pub mod Lost
+pub mod MethodRows
+pub mod Ordered
+pub mod Past
+pub mod References
+pub mod Reported
+pub mod Rows
+pub mod Tagged
+pub mod Unmapped
