@@ -1,0 +1,139 @@
+-- The lines of a readable map, by what the map answers.
+use Rattle.std.proofs.Common.{◌≡◌, ℕ, suc, ◌&&◌, Bool, true, false, cond, List, [], ◌∷◌, Option, Some, None, refl, sym, ◌∙◌, ap, arith, subst}
+use Rattle.std.specs.Prelude.{nat_eq, is_some, IsSome, IsTrue}
+use Rattle.std.specs.List.{find}
+use Rattle.std.specs.Option.{option_map}
+use Rattle.std.proofs.lemmas.Bool.{eqb-true, and_parts}
+use Rattle.ppdb_base.specs.Offsets.{gone, lined}
+use Rattle.ppdb_maps.specs.declared.entries.RowImage.{RowImage}
+use Rattle.ppdb_maps.specs.declared.entries.SlotImage.{SlotImage}
+use Rattle.ppdb_maps.specs.Forms.{SLOTS}
+use Rattle.ppdb_maps.specs.Map.{Map, MethodLine, count_of, row_line, row_image, method_line, is_dropped, has_slots, slot_line, slot_image}
+use Rattle.ppdb_maps.specs.Map.{line_offsets, offsets_in}
+use Rattle.ppdb_maps.specs.Readable.{IsReadable, IsRowOf, IsLineOf, IsSlotOf}
+use Rattle.ppdb_maps.specs.Says.{sizes_of}
+use Rattle.map_compose.proofs.Readable.{found_holds}
+
+-- what is found passes
+found_passes : {X : Type 0} (p : X → Bool) (xs : List X) (x : X) → find p xs ≡ Some x → p x ≡ true
+found_passes p [] x is = absurd cc
+found_passes {X} p (y ∷ ys) x is = step (p y) refl is (found_passes p ys x)
+  where
+    step : (b : Bool) → p y ≡ b → cond b (Some y) (find p ys) ≡ Some x → (find p ys ≡ Some x → p x ≡ true) → p x ≡ true
+    step true hit is rest = let e : y ≡ x = cc in subst (λ z. p z ≡ true) e hit
+    step false miss is rest = rest is
+
+module _ (m : Map) (readable : IsReadable m) where
+  -- ---- rows
+
+  -- there is none for a dropped method and for a table without a count; else it is the image
+  abbrev pub row_by : Bool → Option ℕ → Option ℕ → Option ℕ
+  row_by true count image = None
+  row_by false None image = None
+  row_by false (Some rows) image = image
+
+  pub row_line_is : (table old : ℕ)
+      → row_line m table old ≡ row_by (nat_eq table 0x06 && is_dropped m old) (count_of m table) (row_image m table old)
+  row_line_is table old = step (find p m.rows) refl
+    where
+      p : RowImage → Bool
+      p r = nat_eq r.table table && nat_eq r.old old
+
+      none : (dropped : Bool) (count : Option ℕ) (line : Option ℕ) → line ≡ None
+          → None ≡ row_by dropped count (cond dropped None (elim count as (λ _. Option ℕ) [ None ↦ Some old | Some rows ↦ line ]))
+      none true count line is = refl
+      none false None line is = refl
+      none false (Some rows) line is = sym is
+
+      some : (dropped : Bool) (count : Option ℕ) (line : Option ℕ) → dropped ≡ false → IsSome count
+          → line ≡ row_by dropped count (cond dropped None (elim count as (λ _. Option ℕ) [ None ↦ Some old | Some rows ↦ line ]))
+      some true count line is there = absurd cc
+      some false None line is there = absurd cc
+      some false (Some rows) line is there = refl
+
+      not_dropped : (b dropped : Bool) → (b ≡ true → dropped ≡ false) → (b && dropped) ≡ false
+      not_dropped true dropped live = live refl
+      not_dropped false dropped live = refl
+
+      step : (o : Option RowImage) → find p m.rows ≡ o
+          → row_line m table old ≡ row_by (nat_eq table 0x06 && is_dropped m old) (count_of m table) (row_image m table old)
+      step None is =
+          let line : row_line m table old ≡ None = ap (option_map (λ (r : RowImage). r.new)) is in
+          line ∙ none (nat_eq table 0x06 && is_dropped m old) (count_of m table) (row_line m table old) line
+      step (Some r) is =
+          let of = found_holds (IsRowOf m) p m.rows r readable.rows is in
+          let parts = and_parts (nat_eq r.table table) (nat_eq r.old old) (found_passes p m.rows r is) in
+          let tables = eqb-true r.table table parts.0 in
+          let olds = eqb-true r.old old parts.1 in
+          some (nat_eq table 0x06 && is_dropped m old) (count_of m table) (row_line m table old)
+          (not_dropped (nat_eq table 0x06) (is_dropped m old)
+          (λ six. subst (λ n. is_dropped m n ≡ false) olds (of.3 (tables ∙ eqb-true table 0x06 six))))
+          (subst (λ t. IsSome (count_of m t)) tables of.2)
+
+  -- ---- slots
+
+  pub slot_line_is : (method old : ℕ) → slot_line m method old ≡ cond (has_slots m method) (slot_image m method old) None
+  slot_line_is method old = step (find p m.slots) refl
+    where
+      p : SlotImage → Bool
+      p s = nat_eq s.method method && nat_eq s.old old
+
+      none : (has : Bool) (line : Option ℕ) → line ≡ None → None ≡ cond has (cond has line (Some old)) None
+      none true line is = sym is
+      none false line is = refl
+
+      some : (has : Bool) (line : Option ℕ) → IsTrue has → line ≡ cond has (cond has line (Some old)) None
+      some true line is = refl
+      some false line is = absurd cc
+
+      step : (o : Option SlotImage) → find p m.slots ≡ o → slot_line m method old ≡ cond (has_slots m method) (slot_image m method old) None
+      step None is =
+          let line : slot_line m method old ≡ None = ap (option_map (λ (s : SlotImage). s.new)) is in
+          line ∙ none (has_slots m method) (slot_line m method old) line
+      step (Some s) is =
+          let of = found_holds (IsSlotOf m) p m.slots s readable.slots is in
+          let parts = and_parts (nat_eq s.method method) (nat_eq s.old old) (found_passes p m.slots s is) in
+          some (has_slots m method) (slot_line m method old) (subst (λ n. IsTrue (has_slots m n)) (eqb-true s.method method parts.0) of.2)
+
+  -- no slot is past the last one of maps, so a method has a `slots` line if and only if that one has no image
+  pub slots_are_told : (method : ℕ) → is_some (slot_image m method (suc SLOTS)) ≡ cond (has_slots m method) false true
+  slots_are_told method = step (has_slots m method) (find p m.slots) refl
+    where
+      p : SlotImage → Bool
+      p s = nat_eq s.method method && nat_eq s.old (suc SLOTS)
+
+      step : (has : Bool) (o : Option SlotImage) → find p m.slots ≡ o
+          → is_some (cond has (slot_line m method (suc SLOTS)) (Some (suc SLOTS))) ≡ cond has false true
+      step false o is = refl
+      step true None is = ap (λ (o : Option SlotImage). is_some (option_map (λ (s : SlotImage). s.new) o)) is
+      step true (Some s) is =
+          let of = found_holds (IsSlotOf m) p m.slots s readable.slots is in
+          let parts = and_parts (nat_eq s.method method) (nat_eq s.old (suc SLOTS)) (found_passes p m.slots s is) in
+          let past = eqb-true s.old (suc SLOTS) parts.1 in
+          let within = of.0 in
+          absurd (omega (arith, past, within))
+
+  -- ---- methods
+
+  pub record IsOwnLine (method : ℕ) (line : MethodLine) : Type 0 where
+    pub of : IsLineOf m line
+    pub named : line.method ≡ method
+    pub offsets : offsets_in m method ≡ lined line.runs line.old_size line.new_size
+
+  pub own_line : (method : ℕ) (line : MethodLine) → method_line m method ≡ Some line → IsOwnLine method line
+  own_line method line is =
+      let of = found_holds (IsLineOf m) (λ (l : MethodLine). nat_eq l.method method) m.methods line readable.methods is in
+      let named = eqb-true line.method method (found_passes (λ (l : MethodLine). nat_eq l.method method) m.methods line is) in
+      record {
+        of = of;
+        named = named;
+        offsets = ap (λ b. cond b gone (line_offsets (method_line m method))) (subst (λ n. is_dropped m n ≡ false) named of.4) ∙ ap line_offsets is;
+      }
+
+  pub no_sizes : (method : ℕ) → method_line m method ≡ None → sizes_of (offsets_in m method) ≡ None
+  no_sizes method is = step (is_dropped m method) (method_line m method) is
+    where
+      step : (b : Bool) (o : Option MethodLine) → o ≡ None → sizes_of (cond b gone (line_offsets o)) ≡ None
+      step true o is = refl
+      step false None is = refl
+      step false (Some line) is = absurd cc

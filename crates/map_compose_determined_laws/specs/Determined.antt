@@ -1,0 +1,15 @@
+-- Two maps have one map of both (docs/FORMAT.md, "Two maps made into one").
+use Rattle.std.specs.Prelude.{◌≡◌}
+use Rattle.ppdb_maps.specs.Map.{Map}
+use Rattle.ppdb_maps.specs.Readable.{IsReadable}
+use Rattle.map_compose.specs.Composed.{composed}
+use Rattle.map_compose.specs.Composition.{IsComposition}
+use Rattle.map_compose.specs.Sizes.{SizesAgree}
+
+-- the equations of a composition have one solution among the maps that a text has
+abbrev pub CompositionsAreOne : Type 0
+CompositionsAreOne = (f s c d : Map) → IsReadable c → IsReadable d → IsComposition f s c → IsComposition f s d → c ≡ d
+
+-- so a composition is the map that is made of both
+abbrev pub ComposedIsTheOnlyOne : Type 0
+ComposedIsTheOnlyOne = (f s c : Map) → IsReadable f → IsReadable s → SizesAgree f s → IsReadable c → IsComposition f s c → c ≡ composed f s

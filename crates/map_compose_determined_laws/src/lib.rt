@@ -1,0 +1,6 @@
+//! Laws: two maps have one map of both.
+#![tactic(auto)]
+
+mod laws;
+
+pub use laws::{composed_is_the_only_one, compositions_are_one};
