@@ -1,5 +1,6 @@
 pub mod Beyond
 pub mod BeyondRows
+pub mod ByRow
 pub mod Bytes
 pub mod Inside
 pub mod Lost

@@ -1,3 +1,4 @@
 pub mod Offsets
 pub mod Places
 pub mod References
+pub mod Rows

@@ -5,5 +5,6 @@ mod laws;
 
 pub use laws::{
     first_lost_offsets_are_reported, first_offsets_beyond_are_reported,
-    first_references_are_reported, references_rise,
+    first_references_are_reported, first_unknown_kinds_are_reported,
+    first_unmapped_slots_are_reported, references_rise,
 };
