@@ -9,13 +9,14 @@ use Rattle.ppdb_base.specs.Offsets.{every, gone, Moves, Kept, kept_runs, all_off
 use Rattle.ppdb_maps.specs.declared.entries.Count.{Count}
 use Rattle.ppdb_maps.specs.declared.entries.RowImage.{RowImage}
 use Rattle.ppdb_maps.specs.declared.entries.SlotImage.{SlotImage}
+use Rattle.ppdb_maps.specs.declared.entries.SignatureImage.{SignatureImage}
 use Rattle.ppdb_maps.specs.Map.{Map, MethodLine, count_of, row_line, row_image, method_line, is_dropped, has_slots, slot_line, slot_image, offsets_in}
-use Rattle.ppdb_maps.specs.Map.{line_offsets, rows_of, slots_of}
+use Rattle.ppdb_maps.specs.Map.{line_offsets, rows_of, slots_of, signature_line}
 use Rattle.std.specs.List.{AllByRecursion}
 use Rattle.map_compose.specs.Runs.{met, longest}
 use Rattle.map_compose.specs.Composed.{tables, composed_count, count_entry, composed_row, sources, row_entry, row_entries, spoken_of, of_image, drops_one}
 use Rattle.map_compose.specs.Composed.{has_image, second_line, composed_runs, sized, composed_line, has_slot_lines, composed_slot, slot_sources, slot_entry}
-use Rattle.map_compose.specs.Composed.{slot_entries, slotted_methods, second_offsets, composed}
+use Rattle.map_compose.specs.Composed.{slot_entries, slotted_methods, second_offsets, composed, signature_then, composed_signature, signature_entry, signed}
 use Rattle.ppdb_maps.specs.Readable.{IsReadable, IsCount}
 use Rattle.ppdb_maps.specs.Says.{sizes_of}
 use Rattle.map_compose.specs.Composition.{Follows, ComposedComposes, sizes_then}
@@ -555,15 +556,63 @@ module _ (f s : Map) (m image : ℕ) (follows : Follows f s m image) where
       of false false is also = sym (ap (λ c. option_and_then (slot_image s image) (cond c (slot_line f m old) (Some old))) is
           ∙ ap (λ c. cond c (slot_line s image old) (Some old)) also)
 
+-- ---- local signatures
+
+pub signature_named : (f s : Map) (k : ℕ) (x : SignatureImage) → signature_entry f s k ≡ Some x → x.method ≡ k
+signature_named f s k x is = of (composed_signature f s k) is
+  where
+    of : (o : Option ℕ) → option_map (λ new. record { method = k; new = new }) o ≡ Some x → x.method ≡ k
+    of None is = absurd (cc)
+    of (Some n) is = cc
+
+pub signatures_are : (f s : Map) (m : ℕ) → signature_line (composed f s) m ≡ composed_signature f s m
+signatures_are f s m =
+    ap (option_map (λ (x : SignatureImage). x.new))
+    (made_found (λ (x : SignatureImage). x.method) (signature_entry f s) (signature_named f s) m (spoken_of f (signed f) (signed s)))
+    ∙ new_of (has m (spoken_of f (signed f) (signed s))) (composed_signature f s m)
+    ∙ given_true (has m (spoken_of f (signed f) (signed s))) (composed_signature f s m) (λ some. of (has_image f s m) some)
+  where
+    new_of : (b : Bool) (o : Option ℕ) → option_map (λ (x : SignatureImage). x.new) (given b (option_map (λ new. record { method = m; new = new }) o))
+        ≡ given b o
+    new_of false o = refl
+    new_of true None = refl
+    new_of true (Some n) = refl
+
+    by : (image : ℕ) → row_image f 0x06 m ≡ Some image → (o : Option ℕ) → signature_line f m ≡ o → is_some (signature_then s image o) ≡ true
+        → has m (spoken_of f (signed f) (signed s)) ≡ true
+    by image at (Some new) is some = spoken_own f (signed f) (signed s) m
+        (has_key (λ (x : SignatureImage). x.method) m f.signatures ∙ some_mapped _ _ new is)
+    by image at None is some = spoken_by f (signed f) (signed s) m image at
+        (has_key (λ (x : SignatureImage). x.method) image s.signatures
+        ∙ sym (is_some_map (λ (x : SignatureImage). x.new) (find (λ (x : SignatureImage). nat_eq x.method image) s.signatures)) ∙ some)
+
+    at : (o : Option ℕ) → row_image f 0x06 m ≡ o → is_some (of_image None (λ image. signature_then s image (signature_line f m)) o) ≡ true
+        → has m (spoken_of f (signed f) (signed s)) ≡ true
+    at None is some = absurd (cc)
+    at (Some image) is some = by image is (signature_line f m) refl some
+
+    of : (b : Bool) → is_some (cond b (of_image None (λ image. signature_then s image (signature_line f m)) (row_image f 0x06 m)) None) ≡ true
+        → has m (spoken_of f (signed f) (signed s)) ≡ true
+    of false some = absurd (cc)
+    of true some = at (row_image f 0x06 m) refl some
+
+-- what the second map makes of the first map's line
+pub signature_on : (f s : Map) (m image : ℕ) → Follows f s m image → composed_signature f s m ≡ signature_then s image (signature_line f m)
+signature_on f s m image follows =
+    ap (λ b. cond b (of_image None (λ i. signature_then s i (signature_line f m)) (row_image f 0x06 m)) None) (there f s m image follows)
+    ∙ ap (of_image None (λ i. signature_then s i (signature_line f m))) follows.first
+
 -- ---- lines
 
 -- a method that is not there after both has none
-without_image : (f s : Map) (m : ℕ) → has_image f s m ≡ false → (method_line (composed f s) m ≡ None) × (has_slots (composed f s) m ≡ false)
+without_image : (f s : Map) (m : ℕ) → has_image f s m ≡ false
+    → (method_line (composed f s) m ≡ None) × (has_slots (composed f s) m ≡ false) × (signature_line (composed f s) m ≡ None)
 without_image f s m away =
     let none : has_slot_lines f s m ≡ false = ap (λ b. b && (has_slots f m || of_image false (has_slots s) (row_image f 0x06 m))) away in (
       lines_are f s m ∙ ap (λ b. cond b (sized m (composed_runs f s m) (method_line f m) (second_line f s m)) None) away,
       has_filter (has_slot_lines f s) m (spoken_of f f.slotted s.slotted)
           ∙ and_both (has m (spoken_of f f.slotted s.slotted)) (has_slot_lines f s m) (λ some. let e : false ≡ true = sym none ∙ some in absurd (cc)) ∙ none,
+      signatures_are f s m ∙ ap (λ b. cond b (of_image None (λ i. signature_then s i (signature_line f m)) (row_image f 0x06 m)) None) away,
     )
 
 -- the runs of each are the longest
@@ -591,6 +640,7 @@ composed_composes = λ f s f_readable s_readable. record {
   slots = λ m image old follows. slots_are f s m image follows old;
   sizes = λ m image follows. sizes_are f s m image follows;
   kept = λ m image x z follows. kept_are f s m image follows x z;
+  signatures = λ m image follows. signatures_are f s m ∙ signature_on f s m image follows;
   without_image = without_image f s;
   apart = apart f s;
 }

@@ -2,10 +2,11 @@
 use Rattle.std.proofs.Common.{ℕ, ◌≡◌, ◌||◌, ◌&&◌, Bool, true, false, cond, Option, Some, None, refl, sym, ap, ◌∙◌}
 use Rattle.std.specs.Prelude.{is_some}
 use Rattle.std.specs.Option.{option_and_then}
-use Rattle.ppdb_maps.specs.Map.{Map, row_image, slot_image, has_slots}
-use Rattle.map_compose.specs.Composed.{has_image, composed_slot, of_image, has_slot_lines}
+use Rattle.ppdb_maps.specs.Map.{Map, row_image, slot_image, has_slots, signature_line}
+use Rattle.map_compose.specs.Composed.{has_image, composed_slot, of_image, has_slot_lines, signature_then, composed_signature}
 use Rattle.map_compose.specs.Composition.{Follows}
 use Rattle.map_compose.specs.Says.{followed, slot_after}
+use Rattle.map_compose.proofs.Equations.{signature_on}
 
 -- it follows
 pub follows_image : (f s : Map) (method image : ℕ) → followed f s method ≡ Some image → Follows f s method image
@@ -43,3 +44,11 @@ pub slots_follow : (f s : Map) (method image : ℕ) → followed f s method ≡ 
 slots_follow f s method image is =
     ap (λ b. b && (has_slots f method || of_image false (has_slots s) (row_image f 0x06 method))) (image_there f s method image is)
     ∙ ap (λ o. has_slots f method || of_image false (has_slots s) o) (follows_image f s method image is).first
+
+pub signature_follows : (f s : Map) (method image : ℕ) (o : Option ℕ) → followed f s method ≡ Some image → signature_line f method ≡ o
+    → composed_signature f s method ≡ signature_then s image o
+signature_follows f s method image o is line = signature_on f s method image (follows_image f s method image is) ∙ ap (signature_then s image) line
+
+pub signature_away : (f s : Map) (method : ℕ) → followed f s method ≡ None → composed_signature f s method ≡ None
+signature_away f s method is =
+    ap (λ b. cond b (of_image None (λ i. signature_then s i (signature_line f method)) (row_image f 0x06 method)) None) (none_there f s method is)

@@ -7,13 +7,15 @@ use Rattle.std.proofs.lemmas.List.{length-map}
 use Rattle.ppdb_maps.specs.declared.entries.Count.{Count}
 use Rattle.ppdb_maps.specs.declared.entries.RowImage.{RowImage}
 use Rattle.ppdb_maps.specs.declared.entries.SlotImage.{SlotImage}
+use Rattle.ppdb_maps.specs.declared.entries.SignatureImage.{SignatureImage}
 use Rattle.ppdb_maps.specs.declared.line.Line.{Line}
-use Rattle.ppdb_maps.specs.declared.line.Line.TheVariants.{Silent, Rows, Row, Method, Kept, Dropped, Slots, Slot}
+use Rattle.ppdb_maps.specs.declared.line.Line.TheVariants.{Silent, Rows, Row, Method, Kept, Dropped, Slots, Slot, Signature}
 use Rattle.ppdb_maps.specs.Forms.{ROWS, OFFSETS, SLOTS}
 use Rattle.ppdb_maps.specs.Map.{Map, MethodLine, rows_of, slots_of}
-use Rattle.ppdb_maps.specs.Readable.{IsReadable, IsRow, IsCount, IsRowOf, IsLineOf, IsSlottedOf, IsSlotOf}
+use Rattle.ppdb_maps.specs.Readable.{IsReadable, IsRow, IsCount, IsRowOf, IsLineOf, IsSlottedOf, IsSlotOf, IsSignatureOf}
 use Rattle.ppdb_maps.proofs.Numbers.{may_spell_decimal, length_may_spell}
-use Rattle.ppdb_maps_text.specs.MapTexts.{spaced, table_word, line_text, ended, row_says, slot_says, count_says, slots_say, method_says, map_says, map_text}
+use Rattle.ppdb_maps_text.specs.MapTexts.{spaced, table_word, line_text, ended, row_says, slot_says, signature_says, count_says, slots_say, method_says, map_says, map_text}
+use Rattle.ppdb_maps_text.specs.MapTexts.{version_with, head_text}
 use Rattle.map_compose.specs.Says.{lines_text}
 use Rattle.std.proofs.lemmas.Bool.{eqb-true}
 use Rattle.map_compose.specs.Joining.{IsShort}
@@ -21,7 +23,7 @@ use Rattle.map_compose.proofs.Bounds.{few}
 use Rattle.map_compose.proofs.Gathering.{few_runs}
 use Rattle.map_compose.proofs.Orders.{Up}
 use Rattle.map_compose.proofs.Places.{line_runs}
-use Rattle.map_compose.proofs.Readable.{line_numbers, rows_up, slots_up, slots_hold, slotted_rows, filter_hold}
+use Rattle.map_compose.proofs.Readable.{line_numbers, rows_up, slots_up, slots_hold, slotted_rows, signed_rows, filter_hold}
 
 digits_few : (n : ℕ) → n ≤ OFFSETS → length (decimal n) ≤ 10
 digits_few n le = length_may_spell (decimal n) (may_spell_decimal n (omega (arith, le)))
@@ -36,6 +38,7 @@ IsSmall (Kept r) = (r.old ≤ OFFSETS) × (r.new ≤ OFFSETS) × (r.length ≤ O
 IsSmall (Dropped m) = m ≤ OFFSETS
 IsSmall (Slots m) = m ≤ OFFSETS
 IsSmall (Slot m o n) = (m ≤ OFFSETS) × (o ≤ OFFSETS) × (n ≤ OFFSETS)
+IsSmall (Signature m n) = (m ≤ OFFSETS) × (n ≤ OFFSETS)
 
 words_long : (ws : List (List ℕ)) (most : ℕ) → AllByRecursion (λ w. length w ≤ 10) ws → length ws ≤ most → length (flat_map (λ w. 32 ∷ w) ws) ≤ most * 11
 words_long [] most all le = omega (arith, le)
@@ -63,6 +66,8 @@ line_long (Dropped m) small = spaced_long (codes "drop") (decimal m ∷ []) (ome
 line_long (Slots m) small = spaced_long (codes "slots") (decimal m ∷ []) (omega arith) (digits_few m small, tt) (omega arith)
 line_long (Slot m o n) small = spaced_long (codes "slot") (decimal m ∷ decimal o ∷ decimal n ∷ []) (omega arith)
     (digits_few m small.0, (digits_few o small.1, (digits_few n small.2, tt))) (omega arith)
+line_long (Signature m n) small = spaced_long (codes "signature") (decimal m ∷ decimal n ∷ []) (omega arith)
+    (digits_few m small.0, (digits_few n small.1, tt)) (omega arith)
 
 lines_long : (xs : List Line) → AllByRecursion IsSmall xs → length (lines_text xs) ≤ length xs * 64
 lines_long [] all = omega arith
@@ -174,6 +179,15 @@ module _ (m : Map) (readable : IsReadable m) where
       let same = length-map m.methods (λ (l : MethodLine). l.method) in
       omega (arith, methods, same)
 
+  few_signatures : length m.signatures ≤ 16777216
+  few_signatures =
+      let methods = few_rows (map (λ (x : SignatureImage). x.method) m.signatures) readable.ascends.signatures (signed_rows m readable) in
+      let same = length-map m.signatures (λ (x : SignatureImage). x.method) in
+      omega (arith, methods, same)
+
+  signatures_small : AllByRecursion IsSmall (map signature_says m.signatures)
+  signatures_small = mapped (IsSignatureOf m) IsSmall signature_says (λ x is. (omega (arith, is.0.1), omega (arith, is.1))) m.signatures readable.signatures
+
   drops_small : (ns : List ℕ) → AllByRecursion IsRow ns → AllByRecursion IsSmall (map (λ k. Dropped k) ns)
   drops_small ns all = mapped IsRow IsSmall (λ k. Dropped k) (λ k is. omega (arith, is.1)) ns all
 
@@ -184,9 +198,10 @@ module _ (m : Map) (readable : IsReadable m) where
       (both_small (map (λ k. Dropped k) m.drops) _ (drops_small m.drops readable.drops)
       (both_small (flat_map (slots_say m) m.slotted) _ (flat_small (slots_say m) 65537 m.slotted
       (each (IsSlottedOf m) (Few (slots_say m) 65537) slots_few m.slotted readable.slotted))
-      (flat_small method_says 2147483648 m.methods (each (IsLineOf m) (Few method_says 2147483648) line_few m.methods readable.methods))))
+      (both_small (map signature_says m.signatures) _ signatures_small
+      (flat_small method_says 2147483648 m.methods (each (IsLineOf m) (Few method_says 2147483648) line_few m.methods readable.methods)))))
 
-  few_lines : length (map_says m) ≤ 45 * 16777217 + 16777216 + 16777216 * 65537 + 16777216 * 2147483648
+  few_lines : length (map_says m) ≤ 45 * 16777217 + 16777216 + 16777216 * 65537 + 16777216 + 16777216 * 2147483648
   few_lines =
       let tables = flat_few (count_says m) 16777217 m.counts (each IsCount (Few (count_says m) 16777217) count_few m.counts readable.counts) in
       let drops = few_rows m.drops readable.ascends.drops readable.drops in
@@ -195,16 +210,19 @@ module _ (m : Map) (readable : IsReadable m) where
       let lines = flat_few method_says 2147483648 m.methods (each (IsLineOf m) (Few method_says 2147483648) line_few m.methods readable.methods) in
       let counts = few_counts in
       let methods = few_methods in
+      let signatures = few_signatures in
       let same = length-map m.drops (λ k. Dropped k) in
-      let one = length-append (flat_map (count_says m) m.counts) (map (λ k. Dropped k) m.drops
-      ++ (flat_map (slots_say m) m.slotted ++ flat_map method_says m.methods)) in
-      let two = length-append (map (λ k. Dropped k) m.drops) (flat_map (slots_say m) m.slotted ++ flat_map method_says m.methods) in
-      let three = length-append (flat_map (slots_say m) m.slotted) (flat_map method_says m.methods) in
-      omega (arith, tables, drops, slotted, slots, lines, counts, methods, same, one, two, three)
+      let also = length-map m.signatures signature_says in
+      let rest : List Line = map signature_says m.signatures ++ flat_map method_says m.methods in
+      let one = length-append (flat_map (count_says m) m.counts) (map (λ k. Dropped k) m.drops ++ (flat_map (slots_say m) m.slotted ++ rest)) in
+      let two = length-append (map (λ k. Dropped k) m.drops) (flat_map (slots_say m) m.slotted ++ rest) in
+      let three = length-append (flat_map (slots_say m) m.slotted) rest in
+      let four = length-append (map signature_says m.signatures) (flat_map method_says m.methods) in
+      omega (arith, tables, drops, slotted, slots, signatures, lines, counts, methods, same, also, one, two, three, four)
 
   pub text_short : length (map_text m) < 0xffffffffffffffff
   text_short =
       let lines = lines_long (map_says m) says_small in
       let few = few_lines in
-      let all = length-append (ended (codes "ppdbmap 3")) (lines_text (map_says m)) in
+      let all = length-append (ended (head_text (version_with m.signatures))) (lines_text (map_says m)) in
       omega (arith, lines, few, all)

@@ -16,6 +16,7 @@ pub mod Gathering
 pub mod Places
 pub mod Lined
 pub mod Saying
+pub mod Signed
 pub mod Lengths
 pub mod Counting
 pub mod Bounds

@@ -11,14 +11,14 @@ use Rattle.ppdb_maps.specs.Forms.{ROWS}
 use Rattle.ppdb_maps.specs.Map.{Map, count_of}
 use Rattle.ppdb_maps.specs.Readable.{IsReadable, IsRow}
 use Rattle.map_compose.specs.declared.part.Part.{Part}
-use Rattle.map_compose.specs.declared.part.Part.TheVariants.{Drops, Slots, Methods}
+use Rattle.map_compose.specs.declared.part.Part.TheVariants.{Drops, Slots, Signatures, Methods}
 use Rattle.map_compose.specs.Ascending.{ascending}
 use Rattle.map_compose.specs.Parts.{part_numbers, other_numbers}
 use Rattle.map_compose.proofs.Found.{either, has, has_append, has_ascending}
 use Rattle.map_compose.proofs.Orders.{Up, Above, less, is_less, ascending_up}
 use Rattle.map_compose.proofs.Bounds.{few}
 use Rattle.map_compose.proofs.Equations.{olds}
-use Rattle.map_compose.proofs.Readable.{ascending_hold, row_olds, line_numbers, slotted_rows, rows_up}
+use Rattle.map_compose.proofs.Readable.{ascending_hold, row_olds, line_numbers, slotted_rows, signed_rows, rows_up}
 
 -- ---- lists that ascend are determined by their numbers
 
@@ -178,11 +178,13 @@ module _ (xs ys : List ℕ) (up : Up xs) (also : Up ys) (i j : ℕ) where
 pub part_up : (part : Part) (m : Map) → IsReadable m → Up (part_numbers part m)
 part_up Drops m readable = readable.ascends.drops
 part_up Slots m readable = readable.ascends.slotted
+part_up Signatures m readable = readable.ascends.signatures
 part_up Methods m readable = readable.ascends.methods
 
 part_rows : (part : Part) (m : Map) → IsReadable m → AllByRecursion IsRow (part_numbers part m)
 part_rows Drops m readable = readable.drops
 part_rows Slots m readable = slotted_rows m readable
+part_rows Signatures m readable = signed_rows m readable
 part_rows Methods m readable = line_numbers m readable
 
 pub others_up : (part : Part) (f s : Map) → IsReadable f → IsReadable s → Up (other_numbers part f s)

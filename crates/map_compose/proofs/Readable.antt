@@ -1,31 +1,32 @@
 -- The map of two readable maps whose sizes agree is readable.
 use Rattle.std.proofs.Common.{◌≡◌, ℕ, ◌+◌, ◌<◌, ◌≤◌, ◌&&◌, ◌||◌, ◌++◌, Bool, true, false, cond, List, [], ◌∷◌, Option, Some, None, refl, sym, ◌∙◌, ap, arith}
 use Rattle.std.proofs.Common.{inl, inr, map, subst, zero, suc}
-use Rattle.std.specs.Prelude.{nat_eq, nat_lt, is_some, min, max}
+use Rattle.std.specs.Prelude.{nat_eq, nat_lt, is_some, min, max, unwrap_or}
 use Rattle.std.specs.List.{filter, filter_map, flat_map, find, range_with_len, cons_option, AllByRecursion}
 use Rattle.std.specs.Option.{option_map, option_and_then, option_or}
-use Rattle.std.proofs.lemmas.Bool.{lt-ltb, eq-eqb, eqb-true, and_parts, false≢true}
+use Rattle.std.proofs.lemmas.Bool.{cases_lt, lt-ltb, eq-eqb, eqb-true, and_parts, false≢true}
 use Rattle.ppdb_base.specs.declared.offsets.Run.{Run}
 use Rattle.ppdb_base.specs.Offsets.{every, gone, lined, Rise, RiseFrom, kept_runs, all_offsets, end_of, new_end_of}
 use Rattle.ppdb_maps.specs.declared.entries.Count.{Count}
 use Rattle.ppdb_maps.specs.declared.entries.RowImage.{RowImage}
 use Rattle.ppdb_maps.specs.declared.entries.SlotImage.{SlotImage}
+use Rattle.ppdb_maps.specs.declared.entries.SignatureImage.{SignatureImage}
 use Rattle.ppdb_maps.specs.Forms.{ROWS, OFFSETS, SLOTS}
 use Rattle.ppdb_maps.specs.Map.{Map, MethodLine, Ascends, count_of, row_line, row_image, method_line, is_dropped, has_slots, slot_line, slot_image}
-use Rattle.ppdb_maps.specs.Map.{offsets_in, line_offsets, rows_of, slots_of}
-use Rattle.ppdb_maps.specs.Readable.{IsReadable, IsRow, IsCount, IsRowOf, IsLineOf, IsSlottedOf, IsSlotOf}
+use Rattle.ppdb_maps.specs.Map.{offsets_in, line_offsets, rows_of, slots_of, moved_row, signature_line, moved_signature}
+use Rattle.ppdb_maps.specs.Readable.{IsReadable, IsRow, IsCount, IsRowOf, IsLineOf, IsSlottedOf, IsSlotOf, IsSignatureOf}
 use Rattle.map_compose.specs.Runs.{meet, met, longest}
 use Rattle.map_compose.specs.Ascending.{put_once, ascending}
 use Rattle.map_compose.specs.Composed.{tables, composed_count, count_entry, composed_row, sources, row_entry, row_entries, spoken_of, of_image, drops_one}
 use Rattle.map_compose.specs.Composed.{has_image, second_line, composed_runs, sized, composed_line, has_slot_lines, composed_slot, slot_sources, slot_entry}
-use Rattle.map_compose.specs.Composed.{slot_entries, slotted_methods, composed}
+use Rattle.map_compose.specs.Composed.{slot_entries, slotted_methods, composed, signature_then, signature_entry, signed}
 use Rattle.map_compose.specs.Composition.{ComposedIsReadable}
 use Rattle.map_compose.specs.Sizes.{SizesAgree}
 use Rattle.map_compose.proofs.Found.{either, has}
 use Rattle.map_compose.proofs.Orders.{Up, ascending_up, range_up, made_up, filter_up, flat_pairs, key_up}
 use Rattle.map_compose.proofs.Rising.{run_same, met_rises, longest_rises}
 use Rattle.map_compose.proofs.Equations.{composed_composes, counts_are, tables_known, line_named, count_named, entries_named, row_named, slots_named}
-use Rattle.map_compose.proofs.Equations.{slot_named, olds, numbers, came_by, live_image}
+use Rattle.map_compose.proofs.Equations.{slot_named, signature_named, olds, numbers, came_by, live_image}
 
 -- ---- each item of a list
 
@@ -112,6 +113,9 @@ module _ (m : Map) (readable : IsReadable m) where
       all [] is = tt
       all (n ∷ ns) is = (is.0.0, all ns is.1)
 
+  pub signed_rows : AllByRecursion IsRow (signed m)
+  signed_rows = map_hold (IsSignatureOf m) IsRow (λ (x : SignatureImage). x.method) (λ x is. is.0) m.signatures readable.signatures
+
   pub counted : (table rows : ℕ) → count_of m table ≡ Some rows → rows ≤ ROWS
   counted table rows is = of (find (λ (c : Count). nat_eq c.table table) m.counts) refl is
     where
@@ -137,6 +141,41 @@ module _ (m : Map) (readable : IsReadable m) where
       of true c is = absurd (cc)
       of false None is = let e : old ≡ new = cc in subst IsRow e row
       of false (Some n) is = lined_row table old new is
+
+  -- and so is that of a number that may be 0 for no row, or it is 0
+  image_or_none : (table old : ℕ) → old ≤ ROWS → moved_row m table old ≤ ROWS
+  image_or_none table old le = of (nat_eq old 0) refl
+    where
+      by : (o : Option ℕ) → row_image m table old ≡ o → 1 ≤ old → unwrap_or o 0 ≤ ROWS
+      by None at some = omega arith
+      by (Some new) at some = (image_row table old new (some, le) at).1
+
+      some : nat_eq old 0 ≡ false → 1 ≤ old
+      some apart = elim (cases_lt 0 old) [
+        | inl less ↦ omega (arith, less)
+        | inr none ↦ absurd (false≢true (sym apart ∙ eq-eqb old 0 (omega (arith, none))))
+      ]
+
+      of : (b : Bool) → nat_eq old 0 ≡ b → cond b 0 (unwrap_or (row_image m table old) 0) ≤ ROWS
+      of true is = omega arith
+      of false is = by (row_image m table old) refl (some is)
+
+  lined_signature : (method new : ℕ) → signature_line m method ≡ Some new → new ≤ ROWS
+  lined_signature method new is = of (find (λ (x : SignatureImage). nat_eq x.method method) m.signatures) refl is
+    where
+      of : (o : Option SignatureImage) → find (λ (x : SignatureImage). nat_eq x.method method) m.signatures ≡ o
+          → option_map (λ (x : SignatureImage). x.new) o ≡ Some new → new ≤ ROWS
+      of None at is = absurd (cc)
+      of (Some x) at is = let e : x.new ≡ new = cc in subst (λ n. n ≤ ROWS) e
+          (found_holds (IsSignatureOf m) (λ (x : SignatureImage). nat_eq x.method method) m.signatures x readable.signatures at).1
+
+  -- a local signature goes to a row, or to none
+  signature_fits : (method stored : ℕ) → stored ≤ ROWS → moved_signature m method stored ≤ ROWS
+  signature_fits method stored le = of (signature_line m method) refl
+    where
+      of : (o : Option ℕ) → signature_line m method ≡ o → unwrap_or o (moved_row m 0x11 stored) ≤ ROWS
+      of None at = image_or_none 0x11 stored le
+      of (Some new) at = lined_signature method new at
 
   lined_slot : (method old new : ℕ) → slot_line m method old ≡ Some new → new ≤ SLOTS
   lined_slot method old new is = of (find (λ (x : SlotImage). nat_eq x.method method && nat_eq x.old old) m.slots) refl is
@@ -434,6 +473,34 @@ module _ (f s : Map) (f_readable : IsReadable f) (s_readable : IsReadable s) whe
           let e : record { method = k; old = line.old; new = new } ≡ x = cc in
           subst (IsSlotOf (composed f s)) e (small, first (slot_image f k line.old) new refl at, there)
 
+  -- ---- local signatures
+
+  signature_holds : (k : ℕ) (x : SignatureImage) → IsRow k → signature_entry f s k ≡ Some x → IsSignatureOf (composed f s) x
+  signature_holds k x row is = of (has_image f s k) refl is
+    where
+      small : (image new : ℕ) (o : Option ℕ) → signature_line f k ≡ o → signature_then s image o ≡ Some new → new ≤ ROWS
+      small image new None at is = lined_signature s s_readable image new is
+      small image new (Some mid) at is = let e : moved_signature s image mid ≡ new = cc in subst (λ n. n ≤ ROWS) e
+          (signature_fits s s_readable image mid (lined_signature f f_readable k mid at))
+
+      by : (new : ℕ) (o : Option ℕ) → of_image None (λ image. signature_then s image (signature_line f k)) o ≡ Some new → new ≤ ROWS
+      by new None is = absurd (cc)
+      by new (Some image) is = small image new (signature_line f k) refl is
+
+      made : has_image f s k ≡ true → (o : Option ℕ) → of_image None (λ image. signature_then s image (signature_line f k)) (row_image f 0x06 k) ≡ o
+          → option_map (λ new. record { method = k; new = new }) o ≡ Some x → IsSignatureOf (composed f s) x
+      made there None at is = absurd (cc)
+      made there (Some new) at is =
+          let e : record { method = k; new = new } ≡ x = cc in
+          subst (IsSignatureOf (composed f s)) e (row, by new (row_image f 0x06 k) at, stays k there)
+
+      of : (b : Bool) → has_image f s k ≡ b
+          → option_map (λ new. record { method = k; new = new })
+          (cond b (of_image None (λ image. signature_then s image (signature_line f k)) (row_image f 0x06 k)) None) ≡ Some x
+          → IsSignatureOf (composed f s) x
+      of false there is = absurd (cc)
+      of true there is = made there (of_image None (λ image. signature_then s image (signature_line f k)) (row_image f 0x06 k)) refl is
+
   -- ---- the lists ascend
 
   ascends : Ascends (composed f s)
@@ -449,6 +516,8 @@ module _ (f s : Map) (f_readable : IsReadable f) (s_readable : IsReadable s) whe
     slots = flat_pairs (λ (x : SlotImage). x.method) (λ (x : SlotImage). x.old) (slot_entries f s) (slots_named f s)
         (λ k. made_up (λ (x : SlotImage). x.old) (λ (x : SlotImage). x.old) (slot_entry f s k) (λ line x is. slot_named f s k line.old x is)
         (slot_sources f s k) (slot_sources_up k)) (slotted_methods f s) slotted_up;
+    signatures = made_up (λ k. k) (λ (x : SignatureImage). x.method) (signature_entry f s) (signature_named f s) (spoken_of f (signed f) (signed s))
+        (subst Up (sym (map_same (spoken_of f (signed f) (signed s)))) (ascending_up (signed f ++ (olds f ++ signed s))));
   }
     where
       map_same : (ns : List ℕ) → map (λ k. k) ns ≡ ns
@@ -476,6 +545,8 @@ module _ (f s : Map) (f_readable : IsReadable f) (s_readable : IsReadable s) whe
         (λ k there. made_hold (λ (x : SlotImage). x.old ≤ SLOTS) (IsSlotOf (composed f s)) (slot_entry f s k) (slot_holds k there) (slot_sources f s k)
         (slot_source_fits k))
         (slotted_methods f s) (all_there (slotted_methods f s));
+    signatures = made_hold IsRow (IsSignatureOf (composed f s)) (signature_entry f s) signature_holds (spoken_of f (signed f) (signed s))
+        (spoken_rows (signed f) (signed s) (signed_rows f f_readable) (signed_rows s s_readable));
   }
 
 pub composed_is_readable : ComposedIsReadable

@@ -1,7 +1,7 @@
 -- What the text of the map of two maps says, table by table and part by part.
 use Rattle.std.proofs.Common.{ℕ, ◌≡◌, ◌⊎◌, ◌++◌, ◌||◌, ◌&&◌, Bool, true, false, cond, List, [], ◌∷◌, map, refl, sym, ap, ◌∙◌, arith, subst, inl, inr, Option}
 use Rattle.std.proofs.Common.{Some, None}
-use Rattle.std.specs.Prelude.{nat_eq, is_some, codes}
+use Rattle.std.specs.Prelude.{nat_eq, is_some}
 use Rattle.std.specs.List.{AllByRecursion, filter, filter_map, flat_map, cons_option}
 use Rattle.std.specs.List.Sorted.{IsStrictlySortedBy}
 use Rattle.std.specs.Option.{option_map, option_and_then}
@@ -10,17 +10,19 @@ use Rattle.std.proofs.lemmas.List.{append-nil}
 use Rattle.ppdb_maps.specs.declared.entries.Count.{Count}
 use Rattle.ppdb_maps.specs.declared.entries.RowImage.{RowImage}
 use Rattle.ppdb_maps.specs.declared.entries.SlotImage.{SlotImage}
+use Rattle.ppdb_maps.specs.declared.entries.SignatureImage.{SignatureImage}
 use Rattle.ppdb_maps.specs.declared.line.Line.{Line}
 use Rattle.ppdb_maps.specs.declared.line.Line.TheVariants.{Rows, Dropped, Slots}
-use Rattle.ppdb_maps.specs.Map.{Map, MethodLine, method_line, count_of, is_dropped, row_image, rows_of}
+use Rattle.ppdb_maps.specs.Map.{Map, MethodLine, method_line, count_of, is_dropped, row_image, rows_of, signature_line}
 use Rattle.ppdb_maps.specs.Readable.{IsReadable, IsRow}
-use Rattle.ppdb_maps_text.specs.MapTexts.{count_says, slots_say, method_says, row_says, slot_says, map_text, ended}
+use Rattle.ppdb_maps_text.specs.MapTexts.{count_says, slots_say, method_says, row_says, slot_says, signature_says, map_text, ended, version_with, head_text}
 use Rattle.map_compose.specs.declared.part.Part.{Part}
-use Rattle.map_compose.specs.declared.part.Part.TheVariants.{Drops, Slots as SlotLines, Methods}
+use Rattle.map_compose.specs.declared.part.Part.TheVariants.{Drops, Slots as SlotLines, Signatures, Methods}
 use Rattle.map_compose.specs.Composed.{tables, composed_count, count_entry, row_entries, composed_line, composed_runs, sized, second_line, has_image}
-use Rattle.map_compose.specs.Composed.{drops_one, of_image, has_slot_lines, slot_entries, slotted_methods, spoken_of, composed}
+use Rattle.map_compose.specs.Composed.{drops_one, of_image, has_slot_lines, slot_entries, slotted_methods, spoken_of, composed, signature_then}
+use Rattle.map_compose.specs.Composed.{composed_signature, signature_entry, signed}
 use Rattle.map_compose.specs.Parts.{part_numbers, other_numbers, all_numbers, part_says}
-use Rattle.map_compose.specs.Says.{lines_text, counted_says, table_says, drop_of_both, slots_of_both, lined_says, line_of_both}
+use Rattle.map_compose.specs.Says.{lines_text, counted_says, table_says, drop_of_both, slots_of_both, signed_says, signature_of_both, lined_says, line_of_both}
 use Rattle.map_compose.proofs.Equations.{olds, came_by, Came, moved, stayed, entries_named, slots_named, spoken_has}
 use Rattle.map_compose.proofs.Found.{either, has, has_append, has_ascending, has_filter}
 use Rattle.map_compose.proofs.Merging.{one_up}
@@ -201,6 +203,10 @@ drop_known f s k n some drops = of (is_dropped f k) refl (row_image f 0x06 k) re
 
 -- ---- the text
 
+all_unit : (ns : List ℕ) → AllByRecursion (λ k. Unit {0}) ns
+all_unit [] = tt
+all_unit (n ∷ ns) = (tt, all_unit ns)
+
 module _ (f s : Map) (f_readable : IsReadable f) (s_readable : IsReadable s) where
   tables_say : flat_map (count_says (composed f s)) (composed f s).counts ≡ flat_map (table_says f s) tables
   tables_say = flat_made (count_says (composed f s)) (count_entry f s) (table_says f s) (λ k. has k tables ≡ true)
@@ -255,6 +261,33 @@ module _ (f s : Map) (f_readable : IsReadable f) (s_readable : IsReadable s) whe
           (and_parts (has k (spoken_of f f.slotted s.slotted)) (has_slot_lines f s k)
           (sym (has_filter (has_slot_lines f s) k (spoken_of f f.slotted s.slotted)) ∙ there)).1)
 
+  -- each signature says one line
+  pub signatures_told : map signature_says (composed f s).signatures ≡ flat_map (part_says Signatures f s) (all_numbers Signatures f s)
+  signatures_told =
+      one_each (composed f s).signatures
+      ∙ flat_made (λ x. signature_says x ∷ []) (signature_entry f s) (signature_of_both f s) (λ k. Unit {0})
+      (λ k u. of k (composed_signature f s k) refl) (spoken_of f (signed f) (signed s)) (all_unit (spoken_of f (signed f) (signed s)))
+      ∙ sym (flat_filter (signature_of_both f s) (has_image f s) none_says (spoken_of f (signed f) (signed s)))
+      ∙ ap (flat_map (signature_of_both f s)) (part_same Signatures f s (has_image f s) f_readable
+      (λ k n some there. or_right (has k (signed f)) (has k (olds f)) (image_old f s k n some there)))
+      ∙ flat_filter (signature_of_both f s) (has_image f s) none_says (all_numbers Signatures f s)
+    where
+      one_each : (xs : List SignatureImage) → map signature_says xs ≡ flat_map (λ x. signature_says x ∷ []) xs
+      one_each [] = refl
+      one_each (x ∷ xs) = ap (λ l. signature_says x ∷ l) (one_each xs)
+
+      none_says : (k : ℕ) → has_image f s k ≡ false → signature_of_both f s k ≡ []
+      none_says k is = ap (λ b. signed_says k (cond b (of_image None (λ i. signature_then s i (signature_line f k)) (row_image f 0x06 k)) None)) is
+
+      of : (k : ℕ) (o : Option ℕ) → composed_signature f s k ≡ o
+          → ((signature_entry f s k ≡ None) × (signature_of_both f s k ≡ []))
+          ⊎ ((x : SignatureImage) × ((signature_entry f s k ≡ Some x) × (◌≡◌ {A = List Line} (signature_says x ∷ []) (signature_of_both f s k))))
+      of k None is = inl (ap (option_map (λ new. record { method = k; new = new })) is, ap (signed_says k) is)
+      of k (Some new) is = inr (
+        record { method = k; new = new },
+        (ap (option_map (λ new. record { method = k; new = new })) is, sym (ap (signed_says k) is)),
+      )
+
   lines_told : flat_map method_says (composed f s).methods ≡ flat_map (part_says Methods f s) (all_numbers Methods f s)
   lines_told =
       flat_made method_says (composed_line f s) (line_of_both f s) (λ k. Unit {0}) (λ k u. of k (composed_line f s k) refl)
@@ -268,31 +301,34 @@ module _ (f s : Map) (f_readable : IsReadable f) (s_readable : IsReadable s) whe
       none_says : (k : ℕ) → has_image f s k ≡ false → line_of_both f s k ≡ []
       none_says k is = ap (λ b. lined_says (cond b (sized k (composed_runs f s k) (method_line f k) (second_line f s k)) None)) is
 
-      all_unit : (ns : List ℕ) → AllByRecursion (λ k. Unit {0}) ns
-      all_unit [] = tt
-      all_unit (n ∷ ns) = (tt, all_unit ns)
-
       of : (k : ℕ) (o : Option MethodLine) → composed_line f s k ≡ o
           → ((composed_line f s k ≡ None) × (line_of_both f s k ≡ []))
           ⊎ ((x : MethodLine) × ((composed_line f s k ≡ Some x) × (method_says x ≡ line_of_both f s k)))
       of k None is = inl (is, ap lined_says is)
       of k (Some x) is = inr (x, (is, sym (ap lined_says is)))
 
-  pub text_is : map_text (composed f s) ≡ ended (codes "ppdbmap 3")
+  pub text_is : map_text (composed f s) ≡ ended (head_text (version_with (composed f s).signatures))
       ++ (lines_text (flat_map (table_says f s) tables) ++ (lines_text (flat_map (part_says Drops f s) (all_numbers Drops f s))
       ++ (lines_text (flat_map (part_says SlotLines f s) (all_numbers SlotLines f s))
-      ++ lines_text (flat_map (part_says Methods f s) (all_numbers Methods f s)))))
+      ++ (lines_text (flat_map (part_says Signatures f s) (all_numbers Signatures f s))
+      ++ lines_text (flat_map (part_says Methods f s) (all_numbers Methods f s))))))
   text_is =
-      let slots = flat_map (part_says SlotLines f s) (all_numbers SlotLines f s) in
-      let lines = flat_map (part_says Methods f s) (all_numbers Methods f s) in
+      let c = composed f s in
+      let head = ended (head_text (version_with c.signatures)) in
+      let rows = flat_map (table_says f s) tables in
       let drops = flat_map (part_says Drops f s) (all_numbers Drops f s) in
-      ap (λ l. ended (codes "ppdbmap 3") ++ lines_text l)
-      (ap (λ l. l ++ (map (λ k. Dropped k) (composed f s).drops ++
-      (flat_map (slots_say (composed f s)) (composed f s).slotted ++ flat_map method_says (composed f s).methods))) tables_say
-      ∙ ap (λ l. flat_map (table_says f s) tables ++ (l ++ (flat_map (slots_say (composed f s)) (composed f s).slotted
-      ++ flat_map method_says (composed f s).methods))) drops_say
-      ∙ ap (λ l. flat_map (table_says f s) tables ++ (drops ++ (l ++ flat_map method_says (composed f s).methods))) slots_told
-      ∙ ap (λ l. flat_map (table_says f s) tables ++ (drops ++ (slots ++ l))) lines_told)
-      ∙ ap (λ l. ended (codes "ppdbmap 3") ++ l) (lines_join (flat_map (table_says f s) tables) (drops ++ (slots ++ lines))
-      ∙ ap (λ l. lines_text (flat_map (table_says f s) tables) ++ l) (lines_join drops (slots ++ lines)
-      ∙ ap (λ l. lines_text drops ++ l) (lines_join slots lines)))
+      let slots = flat_map (part_says SlotLines f s) (all_numbers SlotLines f s) in
+      let signatures = flat_map (part_says Signatures f s) (all_numbers Signatures f s) in
+      let lines = flat_map (part_says Methods f s) (all_numbers Methods f s) in
+      let own_slots = flat_map (slots_say c) c.slotted in
+      let own_lines = flat_map method_says c.methods in
+      ap (λ l. head ++ lines_text l)
+      (ap (λ l. l ++ (map (λ k. Dropped k) c.drops ++ (own_slots ++ (map signature_says c.signatures ++ own_lines)))) tables_say
+      ∙ ap (λ l. rows ++ (l ++ (own_slots ++ (map signature_says c.signatures ++ own_lines)))) drops_say
+      ∙ ap (λ l. rows ++ (drops ++ (l ++ (map signature_says c.signatures ++ own_lines)))) slots_told
+      ∙ ap (λ l. rows ++ (drops ++ (slots ++ (l ++ own_lines)))) signatures_told
+      ∙ ap (λ l. rows ++ (drops ++ (slots ++ (signatures ++ l)))) lines_told)
+      ∙ ap (λ l. head ++ l) (lines_join rows (drops ++ (slots ++ (signatures ++ lines)))
+      ∙ ap (λ l. lines_text rows ++ l) (lines_join drops (slots ++ (signatures ++ lines))
+      ∙ ap (λ l. lines_text drops ++ l) (lines_join slots (signatures ++ lines)
+      ∙ ap (λ l. lines_text slots ++ l) (lines_join signatures lines))))

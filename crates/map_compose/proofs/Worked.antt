@@ -28,6 +28,10 @@ worked_maps = record {
   nothing_kept = refl;
   no_run = refl;
   inside = refl;
+  signature_moved = refl;
+  signature_of_second = refl;
+  signature_of_image = refl;
+  signature_dropped = refl;
   differs = record { a = _; b = _; there = refl; before = refl; after = refl; sizes = (refl, refl, λ e. omega (arith, e)) };
   differs_by_image = record { a = _; b = _; there = refl; before = refl; after = refl; sizes = (refl, refl, λ e. omega (arith, e)) };
 }

@@ -7,7 +7,9 @@ use Rattle.ppdb_base.specs.Offsets.{Offsets, every, kept_runs}
 use Rattle.ppdb_maps.specs.declared.entries.Count.{Count}
 use Rattle.ppdb_maps.specs.declared.entries.RowImage.{RowImage}
 use Rattle.ppdb_maps.specs.declared.entries.SlotImage.{SlotImage}
+use Rattle.ppdb_maps.specs.declared.entries.SignatureImage.{SignatureImage}
 use Rattle.ppdb_maps.specs.Map.{Map, MethodLine, count_of, row_image, method_line, is_dropped, has_slots, slot_image, offsets_in, rows_of, slots_of}
+use Rattle.ppdb_maps.specs.Map.{signature_line, moved_signature}
 use Rattle.map_compose.specs.Runs.{met, longest}
 use Rattle.map_compose.specs.Ascending.{ascending}
 
@@ -101,6 +103,24 @@ slot_entries f s method = filter_map (slot_entry f s method) (slot_sources f s m
 abbrev pub slotted_methods : Map → Map → List ℕ
 slotted_methods f s = filter (has_slot_lines f s) (spoken_of f f.slotted s.slotted)
 
+-- ---- local signatures
+
+-- of a method that is `image` between the two steps, where the first map's line has this NEW or there is none: the second map moves the NEW of
+-- the first on; where the first has no line, that of the second stands
+abbrev pub signature_then : Map → ℕ → Option ℕ → Option ℕ
+signature_then s image (Some new) = Some (moved_signature s image new)
+signature_then s image None = signature_line s image
+
+abbrev pub composed_signature : Map → Map → ℕ → Option ℕ
+composed_signature f s method =
+    cond (has_image f s method) (of_image None (λ image. signature_then s image (signature_line f method)) (row_image f 0x06 method)) None
+
+abbrev pub signature_entry : Map → Map → ℕ → Option SignatureImage
+signature_entry f s method = option_map (λ new. record { method = method; new = new }) (composed_signature f s method)
+
+abbrev pub signed : Map → List ℕ
+signed m = map (λ (x : SignatureImage). x.method) m.signatures
+
 -- ---- the map
 
 abbrev pub composed : Map → Map → Map
@@ -111,4 +131,5 @@ composed f s = record {
   drops = filter (drops_one f s) (spoken_of f f.drops s.drops);
   slotted = slotted_methods f s;
   slots = flat_map (slot_entries f s) (slotted_methods f s);
+  signatures = filter_map (signature_entry f s) (spoken_of f (signed f) (signed s));
 }

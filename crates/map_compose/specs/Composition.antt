@@ -3,10 +3,10 @@ use Rattle.std.specs.Prelude.{◌≡◌, ℕ, ◌≤◌, ◌↔◌, ◌⊎◌, t
 use Rattle.std.specs.Option.{option_and_then}
 use Rattle.ppdb_base.specs.declared.offsets.Run.{Run}
 use Rattle.ppdb_base.specs.Offsets.{lined, Rise, Kept, kept_runs, old_size, moved}
-use Rattle.ppdb_maps.specs.Map.{Map, MethodLine, count_of, row_image, is_dropped, has_slots, method_line, slot_image, offsets_in}
+use Rattle.ppdb_maps.specs.Map.{Map, MethodLine, count_of, row_image, is_dropped, has_slots, method_line, slot_image, offsets_in, signature_line}
 use Rattle.ppdb_maps.specs.Readable.{IsReadable}
 use Rattle.ppdb_maps.specs.Says.{sizes_of}
-use Rattle.map_compose.specs.Composed.{composed, composed_count, composed_row, drops_one, has_image}
+use Rattle.map_compose.specs.Composed.{composed, composed_count, composed_row, drops_one, has_image, signature_then}
 use Rattle.map_compose.specs.Laws.{Apart, MovesOn}
 use Rattle.map_compose.specs.Runs.{met, longest}
 use Rattle.map_compose.specs.Sizes.{SizesAgree}
@@ -31,8 +31,10 @@ pub record IsComposition (f s c : Map) : Type 0 where
       → sizes_of (offsets_in c method) ≡ sizes_then (sizes_of (offsets_in f method)) (sizes_of (offsets_in s image))
   pub kept : (method image x z : ℕ) → Follows f s method image
       → Kept (offsets_in c method) x z ↔ MovesOn (kept_runs (offsets_in f method)) (kept_runs (offsets_in s image)) x z
-  -- a method that is not there after both has no `method` line and no `slots` line
-  pub without_image : (method : ℕ) → has_image f s method ≡ false → (method_line c method ≡ None) × (has_slots c method ≡ false)
+  pub signatures : (method image : ℕ) → Follows f s method image → signature_line c method ≡ signature_then s image (signature_line f method)
+  -- a method that is not there after both has no `method` line, no `slots` line and no `signature` line
+  pub without_image : (method : ℕ) → has_image f s method ≡ false
+      → (method_line c method ≡ None) × (has_slots c method ≡ false) × (signature_line c method ≡ None)
   -- the runs of a line are the longest
   pub apart : (method : ℕ) (line : MethodLine) → method_line c method ≡ Some line → Apart line.runs
 

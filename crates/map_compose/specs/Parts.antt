@@ -4,15 +4,17 @@ use Rattle.ppdb_maps.specs.declared.entries.RowImage.{RowImage}
 use Rattle.ppdb_maps.specs.declared.line.Line.{Line}
 use Rattle.ppdb_maps.specs.Map.{Map, MethodLine, count_of, rows_of}
 use Rattle.map_compose.specs.declared.part.Part.{Part}
-use Rattle.map_compose.specs.declared.part.Part.TheVariants.{Drops, Slots, Methods}
+use Rattle.map_compose.specs.declared.part.Part.TheVariants.{Drops, Slots, Signatures, Methods}
 use Rattle.map_compose.specs.declared.part.Passed.{Passed}
 use Rattle.map_compose.specs.Ascending.{ascending}
-use Rattle.map_compose.specs.Says.{drop_of_both, slots_of_both, line_of_both}
+use Rattle.map_compose.specs.Composed.{signed}
+use Rattle.map_compose.specs.Says.{drop_of_both, slots_of_both, signature_of_both, line_of_both}
 
 -- the methods with a line of the part
 abbrev pub part_numbers : Part → Map → List ℕ
 part_numbers Drops m = m.drops
 part_numbers Slots m = m.slotted
+part_numbers Signatures m = signed m
 part_numbers Methods m = map (λ (l : MethodLine). l.method) m.methods
 
 -- the methods that the first map moves by lines; where it has no `rows` line for them, those of the second map's lines
@@ -30,4 +32,5 @@ numbers_left part f s passed = ascending (drop passed.own (part_numbers part f) 
 abbrev pub part_says : Part → Map → Map → ℕ → List Line
 part_says Drops f s method = drop_of_both f s method
 part_says Slots f s method = slots_of_both f s method
+part_says Signatures f s method = signature_of_both f s method
 part_says Methods f s method = line_of_both f s method

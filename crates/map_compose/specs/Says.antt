@@ -4,12 +4,13 @@ use Rattle.std.specs.List.{flat_map}
 use Rattle.std.specs.Option.{option_and_then}
 use Rattle.ppdb_maps.specs.declared.entries.RowImage.{RowImage}
 use Rattle.ppdb_maps.specs.declared.line.Line.{Line}
-use Rattle.ppdb_maps.specs.declared.line.Line.TheVariants.{Rows, Row, Dropped, Slots, Slot}
+use Rattle.ppdb_maps.specs.declared.line.Line.TheVariants.{Rows, Row, Dropped, Slots, Slot, Signature}
 use Rattle.ppdb_maps.specs.Map.{Map, MethodLine, count_of, row_image, slot_image}
 use Rattle.ppdb_maps_text.specs.MapTexts.{ended, line_text, row_says, slot_says, method_says}
 use Rattle.ppdb_maps_text.specs.declared.counted.Counted.{Counted}
 use Rattle.ppdb_maps_text.specs.Putting.{Puts}
 use Rattle.map_compose.specs.Composed.{composed_count, sources, row_entries, has_image, composed_line, drops_one, has_slot_lines, slot_entries}
+use Rattle.map_compose.specs.Composed.{composed_signature}
 
 -- the text of lines, each ended by LF
 abbrev pub lines_text : List Line → List ℕ
@@ -62,6 +63,14 @@ slot_images f s method = map slot_says (slot_entries f s method)
 
 abbrev pub slots_of_both : Map → Map → ℕ → List Line
 slots_of_both f s method = cond (has_slot_lines f s method) (Slots method ∷ slot_images f s method) []
+
+-- of a method with a local signature
+abbrev pub signed_says : ℕ → Option ℕ → List Line
+signed_says method None = []
+signed_says method (Some new) = Signature method new ∷ []
+
+abbrev pub signature_of_both : Map → Map → ℕ → List Line
+signature_of_both f s method = signed_says method (composed_signature f s method)
 
 abbrev pub lined_says : Option MethodLine → List Line
 lined_says None = []

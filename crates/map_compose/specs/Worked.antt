@@ -4,6 +4,7 @@ use Rattle.ppdb_base.specs.declared.offsets.Run.{Run}
 use Rattle.ppdb_maps.specs.declared.entries.Count.{Count}
 use Rattle.ppdb_maps.specs.declared.entries.RowImage.{RowImage}
 use Rattle.ppdb_maps.specs.declared.entries.SlotImage.{SlotImage}
+use Rattle.ppdb_maps.specs.declared.entries.SignatureImage.{SignatureImage}
 use Rattle.ppdb_maps.specs.Map.{Map, MethodLine, map_of}
 use Rattle.ppdb_maps_text.specs.MapTexts.{map_text}
 use Rattle.map_compose.specs.Composed.{composed}
@@ -24,8 +25,11 @@ line method old_size new_size runs = record { method = method; old_size = old_si
 abbrev pub slot : ℕ → ℕ → ℕ → SlotImage
 slot method old new = record { method = method; old = old; new = new }
 
+abbrev pub signature : ℕ → ℕ → SignatureImage
+signature method new = record { method = method; new = new }
+
 abbrev pub no_lines : Map
-no_lines = map_of [] [] [] [] [] []
+no_lines = map_of [] [] [] [] [] [] []
 
 -- the two maps come to the map of this text
 abbrev pub ComesTo : Map → Map → List ℕ → Type 0
@@ -98,6 +102,18 @@ pub record WorkedComposed : Type 0 where
   pub inside : ComesTo (record no_lines { methods = line 1 8 8 (run 0 0 4 ∷ run 4 4 4 ∷ []) ∷ [] })
       (record no_lines { methods = line 1 8 8 (run 3 3 2 ∷ []) ∷ [] })
       (codes "ppdbmap 3\nmethod 1 8 8\nrun 3 3 2\n")
+  pub signature_moved : ComesTo (record no_lines { signatures = signature 1 2 ∷ signature 2 3 ∷ signature 3 0 ∷ [] })
+      (record no_lines { counts = count 17 4 ∷ []; rows = row 17 2 4 ∷ [] })
+      (codes "ppdbmap 4\nrows 11 4\nrow 11 2 4\nsignature 1 4\nsignature 2 0\nsignature 3 0\n")
+  pub signature_of_second : ComesTo (record no_lines { signatures = signature 1 2 ∷ signature 4 2 ∷ [] })
+      (record no_lines { drops = 4 ∷ []; signatures = signature 1 0 ∷ [] })
+      (codes "ppdbmap 4\ndrop 4\nsignature 1 0\n")
+  pub signature_of_image : ComesTo (record no_lines { counts = count 6 2 ∷ []; rows = row 6 1 2 ∷ row 6 2 1 ∷ [] })
+      (record no_lines { signatures = signature 2 1 ∷ [] })
+      (codes "ppdbmap 4\nrows 06 2\nrow 06 1 2\nrow 06 2 1\nsignature 1 1\n")
+  pub signature_dropped : ComesTo (record no_lines { signatures = signature 4 2 ∷ [] })
+      (record no_lines { drops = 4 ∷ [] })
+      (codes "ppdbmap 3\ndrop 4\n")
   pub differs : SizesDiffer (record no_lines { methods = line 1 9 12 (run 0 0 1 ∷ run 5 6 4 ∷ []) ∷ [] })
       (record no_lines { methods = line 1 10 10 [] ∷ [] }) 1 12 10
   pub differs_by_image : SizesDiffer (record no_lines {

@@ -10,6 +10,7 @@ use crate::error::ComposeError;
 use crate::gathered::Gathered;
 use crate::methods::put_part;
 use crate::part::Part;
+use crate::signatures::{put_signatures, version_by_both};
 use crate::sizes::first_differing;
 use crate::tables::put_tables;
 use ppdb_base::{Bytes, MAX_FILE_BYTES, Memory};
@@ -26,10 +27,12 @@ fn counted_map(alloc: Global, first: &MapText, second: &MapText) -> Result<Count
     second.keeps();
     let mut gathered = Gathered::of(alloc, second)?;
     let mut text = Counted::new(alloc);
-    text.put_head()?;
+    let version = version_by_both(first, second);
+    text.put_head(version)?;
     put_tables(first, second, &mut text)?;
     put_part(Part::Drops, first, second, &mut gathered, &mut text)?;
     put_part(Part::Slots, first, second, &mut gathered, &mut text)?;
+    put_signatures(version, first, second, &mut gathered, &mut text)?;
     put_part(Part::Methods, first, second, &mut gathered, &mut text)?;
     Ok(text)
 }

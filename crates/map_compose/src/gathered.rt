@@ -34,7 +34,7 @@ impl Gathered {
     {
         map.keeps();
         match part {
-            Part::Drops => Ok(()),
+            Part::Drops | Part::Signatures => Ok(()),
             Part::Slots => self.slots.count(map, text),
             Part::Methods => self.runs.sum_up(text),
         }

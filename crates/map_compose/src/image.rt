@@ -1,6 +1,6 @@
 // What becomes of a row, a method and a slot by one map after another.
 ghost use Rattle.std.specs.Prelude.{◌≡◌};
-ghost use Rattle.map_compose.specs.Composed.{composed_row, drops_one};
+ghost use Rattle.map_compose.specs.Composed.{composed_row, composed_signature, drops_one};
 ghost use Rattle.map_compose.specs.Says.{followed, slot_after};
 
 use ppdb_maps::MapText;
@@ -44,4 +44,15 @@ pub fn slot_by_both(
 {
     let middle = first.slot(method, old)?;
     second.slot(image, middle)
+}
+
+/// The NEW of the `signature` line of a method by both maps; none where it has no such line.
+pub fn signature_by_both(first: &MapText, second: &MapText, method: u32) -> Option<u32>
+    ensures { result ≡ composed_signature first.now second.now method }
+{
+    let image = image_of(first, second, method)?;
+    match first.signature(method) {
+        Some(new) => Some(second.moved_signature(image, new)),
+        None => second.signature(image),
+    }
 }

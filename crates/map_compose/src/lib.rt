@@ -12,6 +12,7 @@ mod laws;
 mod methods;
 mod part;
 mod runs;
+mod signatures;
 mod sizes;
 mod slot_blocks;
 mod slots;

@@ -5,11 +5,11 @@ ghost use Rattle.map_compose.specs.Gathered.{IsGatheredOf};
 ghost use Rattle.map_compose.specs.Joining.{AreJoinedOf};
 ghost use Rattle.map_compose.specs.Composition.{sizes_then};
 ghost use Rattle.map_compose.specs.Sizes.{SizesAgree};
-ghost use Rattle.map_compose.specs.Says.{PutsLines, line_of_both, drop_of_both};
+ghost use Rattle.map_compose.specs.Says.{PutsLines, line_of_both, drop_of_both, signature_of_both};
 ghost use Rattle.map_compose.specs.Parts.{part_says, all_numbers};
 
 use crate::gathered::Gathered;
-use crate::image::{drops, image_of};
+use crate::image::{drops, image_of, signature_by_both};
 use crate::joined::JoinedRuns;
 use crate::part::{Part, Passed};
 use crate::runs::put_runs;
@@ -42,6 +42,21 @@ fn put_drop(
         text.put_drop(method)
     } else {
         Ok(())
+    }
+}
+
+/// Puts the `signature` line of a method, where one of the maps has its line.
+fn put_signature(
+    first: &MapText,
+    second: &MapText,
+    method: u32,
+    text: &mut Counted,
+) -> Result<(), Memory>
+    ensures { OnOk result (PutsLines text.old text.new (signature_of_both first.now second.now method)) }
+{
+    match signature_by_both(first, second, method) {
+        None => Ok(()),
+        Some(new) => text.put_signature(method, new),
     }
 }
 
@@ -89,6 +104,7 @@ fn put_method(
     match part {
         Part::Drops => put_drop(first, second, method, text),
         Part::Slots => put_slots(first, second, &gathered.slots, method, text),
+        Part::Signatures => put_signature(first, second, method, text),
         Part::Methods => put_line(first, second, &gathered.runs, method, text),
     }
 }

@@ -11,6 +11,8 @@ pub enum Part {
     Drops,
     /// The `slots` lines, each with its `slot` lines.
     Slots,
+    /// The `signature` lines.
+    Signatures,
     /// The `method` lines, each with its runs.
     Methods,
 }
@@ -30,6 +32,10 @@ impl Part {
         match self {
             Part::Drops => map.drop_line(index),
             Part::Slots => map.slots_line(index),
+            Part::Signatures => {
+                let (method, _) = map.signature_line(index)?;
+                Some(method)
+            }
             Part::Methods => map.method_line(index),
         }
     }

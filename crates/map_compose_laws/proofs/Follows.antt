@@ -1,4 +1,4 @@
--- What a moved file names and a second map does not drop is an image of what the file names by the map of both.
+-- A method that a moved file names and a second map does not drop is the image of one that the file names by the map of both.
 use Rattle.std.proofs.Common.{◌≡◌, ℕ, ◌≤◌, ◌&&◌, ◌||◌, not, Bool, true, false, cond, List, [], ◌∷◌, Option, Some, None, refl, sym, ◌∙◌, ap, subst}
 use Rattle.std.proofs.Common.{arith, map}
 use Rattle.std.specs.Prelude.{nat_eq}
@@ -28,6 +28,7 @@ use Rattle.ppdb_merge_items.specs.declared.file.AnnotatedScope.{AnnotatedScope}
 use Rattle.ppdb_merge_items.specs.declared.file.AnnotatedFile.{AnnotatedFile}
 use Rattle.ppdb_merge_items.specs.Each.{Each}
 use Rattle.ppdb_merge_items.specs.NamedRows.{Named, names, names_some, in_token, in_body, in_constant, in_import, in_steps, live_machine, live_custom}
+use Rattle.ppdb_merge_items.specs.NamedRows.{live_signature}
 use Rattle.ppdb_merge_items.specs.SoundParts.{SoundMoved}
 use Rattle.ppdb_merge_items.proofs.Lists.{Each-append, Each-map, Each-weaker}
 use Rattle.ppdb_merge_joined.proofs.Each.{Each-split, Each-with}
@@ -38,6 +39,7 @@ use Rattle.ppdb_merge_moved.proofs.Fitting.{moved_dropped}
 use Rattle.ppdb_merge_moved.proofs.Lists.{Each-filter_map}
 use Rattle.ppdb_merge_moved.proofs.NamedParts.{NamedParts}
 use Rattle.map_compose_laws.proofs.Fitting.{image_is}
+use Rattle.map_compose_laws.proofs.Named.{of_signatures}
 
 some_of : {A : Type 0} (a b : A) → Some a ≡ Some b → a ≡ b
 some_of a b e = cc
@@ -46,9 +48,9 @@ module _ (f s : Map) (composes : IsComposition f s (composed f s)) (first : IsRe
   abbrev c : Map
   c = composed f s
 
-  -- the row is the image by the first map of one that is named
+  -- a method is the image by the first map of one that is named
   abbrev pub Comes : Named → Type 0
-  Comes n = (from : Named) × In from × (names from.table (moved_row f from.table from.row) ≡ n)
+  Comes n = n.table ≡ 0x06 → (from : Named) × In from × (names from.table (moved_row f from.table from.row) ≡ n)
 
   -- a method that stays, and whose image the second map does not drop, the map of both does not drop
   stays_live : (method : ℕ) → is_dropped f method ≡ false → is_dropped s (moved_row f 0x06 method) ≡ false → is_dropped c method ≡ false
@@ -72,7 +74,11 @@ module _ (f s : Map) (composes : IsComposition f s (composed f s)) (first : IsRe
   live method there also = stays_live method (stays method there) also
 
   comes : (table row : ℕ) → In (names table row) → Comes (names table (moved_row f table row))
-  comes table row is = (names table row, is, refl)
+  comes table row is six = (names table row, is, refl)
+
+  -- a local signature is no method
+  signed : (row : ℕ) → Each Comes (names_some 0x11 row)
+  signed row = of_signatures Comes (λ row six. absurd (omega (arith, six))) row
 
   some_comes : (table row : ℕ) → Each In (names_some table row) → Each Comes (names_some table (moved_row f table row))
   some_comes table row each = by_row (nat_eq row 0) refl
@@ -103,29 +109,21 @@ module _ (f s : Map) (composes : IsComposition f s (composed f s)) (first : IsRe
 
   -- ---- methods with points
 
-  record MethodImage (e q : MethodValue) : Type 0 where
-    method : moved_row f 0x06 e.method ≡ q.method
-    signature : moved_row f 0x11 e.signature ≡ q.signature
-
-  method_image : (e q : MethodValue) → moved_method f e ≡ Some q → MethodImage e q
+  method_image : (e q : MethodValue) → moved_method f e ≡ Some q → moved_row f 0x06 e.method ≡ q.method
   method_image e q is = by_points (moved_points (offsets_in f e.method) e.points) is
     where
-      by_points : (ps : List Point) → with_points f e ps ≡ Some q → MethodImage e q
+      by_points : (ps : List Point) → with_points f e ps ≡ Some q → moved_row f 0x06 e.method ≡ q.method
       by_points [] eq = absurd cc
-      by_points (p ∷ ps) eq =
-          let same = some_of _ q eq in
-          record { method = ap (λ (r : MethodValue). r.method) same; signature = ap (λ (r : MethodValue). r.signature) same }
+      by_points (p ∷ ps) eq = ap (λ (r : MethodValue). r.method) (some_of _ q eq)
 
   abbrev OfMethod : (Named → Type 0) → Map → MethodValue → Type 0
-  OfMethod P m e = is_dropped m e.method ≡ false → P (names 0x06 e.method) × Each P (names_some 0x11 e.signature)
+  OfMethod P m e = is_dropped m e.method ≡ false → P (names 0x06 e.method) × Each P (names_some 0x11 (live_signature m e))
 
   method_comes : (e q : MethodValue) → moved_method f e ≡ Some q → OfMethod In c e → 1 ≤ q.method → OfMethod Comes s q
   method_comes e q is named there also =
       let image = method_image e q is in
-      let both = named (live e.method (subst (λ n. 1 ≤ n) (sym image.method) there) (ap (is_dropped s) image.method ∙ also)) in (
-        subst (λ n. Comes (names 0x06 n)) image.method (comes 0x06 e.method both.0),
-        subst (λ n. Each Comes (names_some 0x11 n)) image.signature (some_comes 0x11 e.signature both.1),
-      )
+      let both = named (live e.method (subst (λ n. 1 ≤ n) (sym image) there) (ap (is_dropped s) image ∙ also)) in
+      (subst (λ n. Comes (names 0x06 n)) image (comes 0x06 e.method both.0), signed (live_signature s q))
 
   -- ---- scopes and constants
 

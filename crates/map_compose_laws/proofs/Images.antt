@@ -5,7 +5,7 @@ use Rattle.std.specs.Option.{option_map, option_and_then}
 use Rattle.std.proofs.lemmas.Bool.{ne_eqb}
 use Rattle.custom_info.specs.declared.slots.Range.{Range}
 use Rattle.ppdb_base.specs.Offsets.{moved}
-use Rattle.ppdb_maps.specs.Map.{Map, row_image, moved_row, slot_image, offsets_in}
+use Rattle.ppdb_maps.specs.Map.{Map, row_image, moved_row, moved_signature, signature_line, slot_image, offsets_in}
 use Rattle.type_blobs.specs.declared.types.TypeToken.{TypeToken}
 use Rattle.type_blobs.specs.declared.types.Modifier.{Modifier}
 use Rattle.ppdb_values.specs.declared.scope.VariableValue.{VariableValue}
@@ -21,7 +21,7 @@ use Rattle.ppdb_merge_items.specs.Each.{Each}
 use Rattle.ppdb_merge_items.specs.Annotated.{with_item}
 use Rattle.ppdb_merge_moved.specs.Images.{point_image, scope_image, slot_meaning_image, meaning_image}
 use Rattle.ppdb_merge_moved.specs.Moved.{moved_token, moved_modifier, moved_constant_body, moved_constant, moved_import, moved_variable, moved_range}
-use Rattle.map_compose.specs.Composed.{composed}
+use Rattle.map_compose.specs.Composed.{composed, signature_then}
 use Rattle.map_compose.specs.Composition.{Follows, IsComposition}
 use Rattle.map_compose.proofs.Equations.{composed_composes}
 use Rattle.map_compose_laws.specs.Images.{no_range, without_edges, SlotsStay, RangeComposes, PointComposes, EdgesCompose, ImagesCompose}
@@ -144,6 +144,16 @@ module _ (f s : Map) (composes : IsComposition f s (composed f s)) (keeps : Keep
         (item_is (map (moved_import s)) (map (moved_import f)) (map (moved_import c))
         (map_map_is (moved_import s) (moved_import f) (moved_import c) import_on)) x.imports)
 
+    -- the second map's line stands before the first's, and else the row is moved on
+    signature_on : (stored : ℕ) → moved_signature s image (moved_signature f method stored) ≡ moved_signature c method stored
+    signature_on stored =
+        step (signature_line f method) ∙ ap (λ o. unwrap_or o (moved_row c 0x11 stored)) (sym (composes.signatures method image follows))
+      where
+        step : (o : Option ℕ)
+            → moved_signature s image (unwrap_or o (moved_row f 0x11 stored)) ≡ unwrap_or (signature_then s image o) (moved_row c 0x11 stored)
+        step None = ap (unwrap_or (signature_line s image)) (row_on 0x11 stored)
+        step (Some new) = refl
+
     range_on : (range : Range) → RangeComposes f s method image range
         → moved_range (offsets_in s image) (moved_range (offsets_in f method) range) ≡ moved_range (offsets_in c method) range
     range_on range composed =
@@ -181,7 +191,7 @@ module _ (f s : Map) (composes : IsComposition f s (composed f s)) (keeps : Keep
         → option_map edgeless_point (option_map (point_image s image) (option_map (point_image f method) p)) ≡ option_map edgeless_point
         (option_map (point_image c method) p)
     point_edgeless None = refl
-    point_edgeless (Some p) = ap (λ n. Some (record { offset = 0; span = p.span; document = p.document; signature = n })) (row_on 0x11 p.signature)
+    point_edgeless (Some p) = ap (λ n. Some (record { offset = 0; span = p.span; document = p.document; signature = n })) (signature_on p.signature)
 
     pub but_for_edges : (a : Meaning) → SlotsStay f method a
         → without_edges (meaning_image s image (meaning_image f method a)) ≡ without_edges (meaning_image c method a)
@@ -209,9 +219,14 @@ module _ (f s : Map) (composes : IsComposition f s (composed f s)) (keeps : Keep
         → option_map (point_image s image) (option_map (point_image f method) p) ≡ option_map (point_image c method) p
     point_exactly None composes = refl
     point_exactly (Some p) edge =
-        ap (λ n. Some (record { offset = n; span = p.span; document = p.document; signature = moved_row s 0x11 (moved_row f 0x11 p.signature) })) edge
+        ap (λ n. Some (record {
+          offset = n;
+          span = p.span;
+          document = p.document;
+          signature = moved_signature s image (moved_signature f method p.signature);
+        })) edge
         ∙ ap (λ n. Some (record { offset = moved (offsets_in c method) p.offset; span = p.span; document = p.document; signature = n }))
-        (row_on 0x11 p.signature)
+        (signature_on p.signature)
 
     both_each : {A : Type 0} (P Q : A → Type 0) (xs : List A) → Each P xs → Each Q xs → Each (λ x. P x × Q x) xs
     both_each P Q [] ps qs = tt

@@ -1,5 +1,5 @@
 -- Which rows a file names, part by part; and whether it names a row.
-use Rattle.std.proofs.Common.{◌≡◌, ◌≢◌, ℕ, suc, ◌&&◌, ◌||◌, ◌⊎◌, inl, inr, not, Bool, true, false, cond, List, [], ◌∷◌, refl, ◌∙◌, ap}
+use Rattle.std.proofs.Common.{◌≡◌, ◌≢◌, ℕ, suc, ◌&&◌, ◌||◌, ◌⊎◌, inl, inr, not, Bool, true, false, cond, List, [], ◌∷◌, refl, ◌∙◌, ap, map}
 use Rattle.std.proofs.Common.{subst, arith, flat_map}
 use Rattle.std.specs.Prelude.{nat_eq, Contains}
 use Rattle.std.specs.List.{filter}
@@ -14,7 +14,7 @@ use Rattle.ppdb_merge_items.specs.declared.file.AnnotatedScope.{AnnotatedScope}
 use Rattle.ppdb_merge_items.specs.declared.file.AnnotatedFile.{AnnotatedFile}
 use Rattle.ppdb_merge_items.specs.Each.{Each}
 use Rattle.ppdb_merge_items.specs.NamedRows.{Named, names, names_some, named_rows, in_entry, in_constant, in_import, in_steps, all_named, live_file, live_method}
-use Rattle.ppdb_merge_items.specs.NamedRows.{live_scope, live_machine, live_custom}
+use Rattle.ppdb_merge_items.specs.NamedRows.{live_scope, live_machine, live_custom, live_signature, with_live_signature}
 use Rattle.ppdb_merge_items.proofs.Lists.{Each-append, Each-filter, Each-map, Each-weaker}
 use Rattle.ppdb_merge_joined.proofs.Each.{Each-flat}
 use Rattle.ppdb_merge_moved.proofs.NamedParts.{NamedParts}
@@ -29,9 +29,10 @@ live_flat live f P xs each =
 pub parts_named : (P : Named → Type 0) (first : Bool) (m : Map) (w : AnnotatedFile) → NamedParts P first m w → Each P (named_rows first m w)
 parts_named P first m w parts =
     Each-append P (in_entry first (live_file m w)) (all_named (live_file m w)) parts.entry
-    (Each-append P _ _ (live_flat (live_method m) (λ (e : MethodValue). names 0x06 e.method ∷ names_some 0x11 e.signature) P w.methods
-    (Each-weaker _ (λ (e : MethodValue). live_method m e ≡ true → Each P (names 0x06 e.method ∷ names_some 0x11 e.signature))
-    (λ e holds is. let both = holds (not-true (is_dropped m e.method) is) in (both.0, both.1)) w.methods parts.methods))
+    (Each-append P _ _ (Each-flat of_method P (map (with_live_signature m) (filter (live_method m) w.methods))
+    (Each-map (with_live_signature m) (λ (e : MethodValue). Each P (of_method e)) (filter (live_method m) w.methods)
+    (Each-filter _ (λ (e : MethodValue). Each P (of_method (with_live_signature m e))) (live_method m)
+    (λ e is holds. let both = holds (not-true (is_dropped m e.method) is) in (both.0, both.1)) w.methods parts.methods)))
     (Each-append P _ _ (Each-map (λ (s : AnnotatedScope). names 0x06 s.method) P (filter (live_scope m) w.scopes)
     (Each-filter _ (λ (s : AnnotatedScope). P (names 0x06 s.method)) (live_scope m) (λ s is holds. holds (not-true (is_dropped m s.method) is))
     w.scopes parts.scopes))
@@ -47,6 +48,17 @@ parts_named P first m w parts =
     (live_flat (live_custom m) (λ (c : CustomValue). names c.parent.table c.parent.row ∷ in_steps c.value) P w.customs
     (Each-weaker _ (λ (c : CustomValue). live_custom m c ≡ true → Each P (names c.parent.table c.parent.row ∷ in_steps c.value))
     (λ c holds is. let both = holds is in (both.0, both.1)) w.customs parts.customs)))))))
+  where
+    of_method : MethodValue → List Named
+    of_method e = names 0x06 e.method ∷ names_some 0x11 e.signature
+
+-- what holds of all rows of local signatures
+pub of_signatures : (P : Named → Type 0) → ((row : ℕ) → P (names 0x11 row)) → (row : ℕ) → Each P (names_some 0x11 row)
+of_signatures P signs row = by (nat_eq row 0)
+  where
+    by : (b : Bool) → Each P (cond b [] (names 0x11 row ∷ []))
+    by true = tt
+    by false = (signs row, tt)
 
 -- ---- of two maps
 
@@ -64,12 +76,12 @@ module _ (m n : Map) (more : (method : ℕ) → is_dropped n method ≡ false �
       by_table true is = not_from_false (is_dropped m c.parent.row) (more c.parent.row (not-true (is_dropped n c.parent.row) is))
       by_table false is = refl
 
-  -- what a file names by the map that drops more it names by the other
-  pub parts_more : (P : Named → Type 0) (w : AnnotatedFile) → NamedParts P true m w → NamedParts P true n w
-  parts_more P w parts = record {
+  -- what a file names by the map that drops more it names by the other, but for local signatures
+  pub parts_more : (P : Named → Type 0) → ((row : ℕ) → P (names 0x11 row)) → (w : AnnotatedFile) → NamedParts P true m w → NamedParts P true n w
+  parts_more P signs w parts = record {
     entry = by_drop (is_dropped n w.entry) refl;
-    methods = Each-weaker _ (λ e. is_dropped n e.method ≡ false → P (names 0x06 e.method) × Each P (names_some 0x11 e.signature))
-        (λ e holds is. holds (more e.method is)) w.methods parts.methods;
+    methods = Each-weaker _ (λ e. is_dropped n e.method ≡ false → P (names 0x06 e.method) × Each P (names_some 0x11 (live_signature n e)))
+        (λ e holds is. ((holds (more e.method is)).0, of_signatures P signs (live_signature n e))) w.methods parts.methods;
     scopes = Each-weaker _ (λ s. is_dropped n s.method ≡ false → P (names 0x06 s.method)) (λ s holds is. holds (more s.method is)) w.scopes parts.scopes;
     constants = Each-weaker _ (λ s. is_dropped n s.method ≡ false → Each (λ n. Each P (in_constant n)) s.constants)
         (λ s holds is. holds (more s.method is)) w.scopes parts.constants;

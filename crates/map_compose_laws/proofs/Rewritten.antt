@@ -12,7 +12,7 @@ use Rattle.ppdb_values_sound_laws.specs.Customs.{coded_of}
 use Rattle.ppdb_merge_items.specs.declared.file.AnnotatedScope.{AnnotatedScope}
 use Rattle.ppdb_merge_items.specs.declared.file.AnnotatedFile.{AnnotatedFile}
 use Rattle.ppdb_merge_items.specs.Each.{Each}
-use Rattle.ppdb_merge_items.specs.NamedRows.{Named, names, names_some, in_constant, in_import, in_steps, live_machine, live_custom}
+use Rattle.ppdb_merge_items.specs.NamedRows.{Named, names, names_some, in_constant, in_import, in_steps, live_machine, live_custom, live_signature}
 use Rattle.ppdb_merge_items.specs.Annotated.{with_item}
 use Rattle.ppdb_merge_items.proofs.Lists.{Each-append, Each-map, Each-weaker}
 use Rattle.ppdb_merge_items.proofs.Orders.{in_order_each}
@@ -54,7 +54,7 @@ joined_parts P m w parts = record {
     row = row_in (joined_rows (joined_documents (w ∷ [])) w)
 
     OfMethod : MethodValue → Type 0
-    OfMethod e = is_dropped m e.method ≡ false → P (names 0x06 e.method) × Each P (names_some 0x11 e.signature)
+    OfMethod e = is_dropped m e.method ≡ false → P (names 0x06 e.method) × Each P (names_some 0x11 (live_signature m e))
 
     OfScope : AnnotatedScope → Type 0
     OfScope s = is_dropped m s.method ≡ false → P (names 0x06 s.method)

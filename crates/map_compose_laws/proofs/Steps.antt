@@ -97,11 +97,12 @@ module _ (sound : SoundnessIsAnnotated) (law : InputsKeepMeaning) (origins : Inp
 
   first_named : NamesMethod (true, moved_by value f) method
   first_named =
-      let inside = named_parts Of_first true f v (each_in Of_first (named_rows true f v) (λ n is. is)) in
-      in_each Of_first (named_rows true c v) (names 0x06 method) (parts_named Of_first true c v (parts_more f c stays Of_first v inside)) named
+      let inside = named_parts Of_first true f v (each_in Of_first (named_rows true f v) (λ n is six. is)) in
+      in_each Of_first (named_rows true c v) (names 0x06 method)
+      (parts_named Of_first true c v (parts_more f c stays Of_first (λ row six. absurd (omega (arith, six))) v inside)) named refl
     where
       Of_first : Named → Type 0
-      Of_first n = Contains (named_rows true f v) n
+      Of_first n = n.table ≡ 0x06 → Contains (named_rows true f v) n
 
       stays : (row : ℕ) → is_dropped c row ≡ false → is_dropped f row ≡ false
       stays row is = (or_parts (is_dropped f row) (of_image false (is_dropped s) (row_image f 0x06 row)) (sym (composes.drops row) ∙ is)).0
@@ -116,7 +117,7 @@ module _ (sound : SoundnessIsAnnotated) (law : InputsKeepMeaning) (origins : Inp
   -- what the second step names comes from what the file names by the map of both, so no other method has the image
   own : (other : ℕ) → NamesMethod (true, moved_by (rewritten f value) s) other → row_image s 0x06 other ≡ Some last → other ≡ image
   own other is image_of =
-      let from = in_each (Comes f s composes fit.first.ready v In) (named_by (true, moved_by (rewritten f value) s)) (names 0x06 other) all_come is in
+      let from = in_each (Comes f s composes fit.first.ready v In) (named_by (true, moved_by (rewritten f value) s)) (names 0x06 other) all_come is refl in
       let table : from.0.table ≡ 0x06 = ap (λ (n : Named). n.table) from.2 in
       let there : IsNamed f s value from.0.row = subst (λ t. In (names t from.0.row)) table from.1 in
       let moved : moved_row f 0x06 from.0.row ≡ other = ap (λ t. moved_row f t from.0.row) (sym table) ∙ ap (λ (n : Named). n.row) from.2 in

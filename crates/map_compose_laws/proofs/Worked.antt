@@ -109,13 +109,14 @@ module _ (old new : ℕ) (runs : List Run) where
   readable : old ≤ 100 → new ≤ 100 → Rise (lined runs old new) → IsReadable m
   unfolding IsStrictlySortedBy
   readable few few_too rise = record {
-    ascends = record { counts = tt; rows = tt; methods = (tt, tt); drops = tt; slotted = tt; slots = tt };
+    ascends = record { counts = tt; rows = tt; methods = (tt, tt); drops = tt; slotted = tt; slots = tt; signatures = tt };
     counts = tt;
     rows = tt;
     methods = (((omega arith, omega arith), omega (arith, few), omega (arith, few_too), rise, refl), tt);
     drops = tt;
     slotted = tt;
     slots = tt;
+    signatures = tt;
   }
 
   image_is : (table row : ℕ) → row_image m table row ≡ Some row

@@ -49,7 +49,7 @@ one_kept old new = record { old = old; new = new; length = 1 }
 
 -- a map of the method's sizes and runs
 abbrev pub map_with : ℕ → ℕ → List Run → Map
-map_with old_size new_size runs = map_of [] [] (record { method = 1; old_size = old_size; new_size = new_size; runs = runs } ∷ []) [] [] []
+map_with old_size new_size runs = map_of [] [] (record { method = 1; old_size = old_size; new_size = new_size; runs = runs } ∷ []) [] [] [] []
 
 abbrev pub first_step : Map
 first_step = map_with 9 12 (one_kept 0 0 ∷ one_kept 5 6 ∷ one_kept 8 9 ∷ [])

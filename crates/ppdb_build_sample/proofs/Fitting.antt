@@ -20,6 +20,7 @@ use Rattle.ppdb_merge_items.specs.declared.file.AnnotatedScope.{AnnotatedScope}
 use Rattle.ppdb_merge_items.specs.Each.{Each}
 use Rattle.ppdb_merge_items.specs.Laws.{SoundnessIsAnnotated}
 use Rattle.ppdb_merge_items.specs.NamedRows.{Named, names, names_some, named_rows, in_constant, in_steps, live_method, live_scope, live_custom}
+use Rattle.ppdb_merge_items.specs.NamedRows.{with_live_signature}
 use Rattle.ppdb_merge_items.specs.Annotated.{annotated_file}
 use Rattle.ppdb_merge_items.proofs.Lists.{Each-append, Each-filter, Each-map, Each-weaker}
 use Rattle.ppdb_merge_joined.proofs.Each.{Each-flat}
@@ -106,7 +107,7 @@ module _ (n : ℕ) where
       in_custom c = names c.parent.table c.parent.row ∷ in_steps c.value
 
       methods : List Named
-      methods = flat_map in_method (filter (live_method m) (sample_annotated n).methods)
+      methods = flat_map in_method (map (with_live_signature m) (filter (live_method m) (sample_annotated n).methods))
 
       scopes : List Named
       scopes = map (λ (s : AnnotatedScope). names 0x06 s.method) (filter (live_scope m) (sample_annotated n).scopes)
@@ -124,8 +125,9 @@ module _ (n : ℕ) where
       rest = scopes ++ rest_of_scopes
 
       of_methods : Each P methods
-      of_methods = Each-flat in_method P _ (live (λ e. Each P (in_method e)) (live_method m) (sample_annotated n).methods
-          (each_method n (λ e. Each P (in_method e)) (λ i within. (inl (refl, within), (inr (refl, refl), tt)))))
+      of_methods = Each-flat in_method P _ (Each-map (with_live_signature m) (λ e. Each P (in_method e)) _
+          (live (λ e. Each P (in_method (with_live_signature m e))) (live_method m) (sample_annotated n).methods
+          (each_method n (λ e. Each P (in_method (with_live_signature m e))) (λ i within. (inl (refl, within), (inr (refl, refl), tt))))))
 
       of_scopes : Each P scopes
       of_scopes = Each-map (λ (s : AnnotatedScope). names 0x06 s.method) P _

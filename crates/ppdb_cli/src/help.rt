@@ -115,7 +115,7 @@ so OUT may be one of them.
 --keep-id     keeps the identity of IN; without it the identity is made from the new bytes
 --free GUID   passes on records of this unknown kind; without it they give status 8
 
-A map is a text. Its first line is `ppdbmap 3`; the other lines have these forms, with TT a table
+A map is a text. Its first line is `ppdbmap 4`; the other lines have these forms, with TT a table
 in two hexadecimal digits and decimal numbers:
     rows TT N                  the new module has N rows in table TT
     row TT OLD NEW             row OLD of table TT became row NEW
@@ -124,6 +124,7 @@ in two hexadecimal digits and decimal numbers:
     drop M                     method M was removed
     slots M                    the local slots of method M moved
     slot M OLD NEW             slot OLD of method M became slot NEW
+    signature M NEW            the local signature of method M is row NEW of table 11; 0: none
 What has no line stays as it is. A table with a rows line, a method with a method line and a method
 with a slots line keep only the rows, offsets and slots that are listed. Example: a method of 9
 bytes keeps the offsets 0 and 5 to 8, and has 12 bytes now:

@@ -9,6 +9,7 @@ use Rattle.std.specs.declared.alloc.Global.{Global}
 use Rattle.std.proofs.lemmas.List.{map-append}
 use Rattle.std.proofs.lemmas.List.Folds.{find-append}
 use Rattle.std.proofs.lemmas.Map.Keys.{IsDistinct-push}
+use Rattle.std.specs.Ordering.{nat_cmp}
 use Rattle.std.specs.BTreeMap as tree
 use Rattle.std.specs.BTreeMap.{BTreeMap, is_at}
 use Rattle.std.proofs.lemmas.Bool.{false≢true}
@@ -24,13 +25,13 @@ use Rattle.ppdb_maps.specs.declared.draft.Draft.{Draft}
 use Rattle.ppdb_maps.specs.declared.refusal.Refusal.{Refusal}
 use Rattle.ppdb_maps.specs.declared.refusal.Refusal.TheVariants.{Breaks as refused, Memory}
 use Rattle.ppdb_maps.specs.declared.line.Line.{Line}
-use Rattle.ppdb_maps.specs.declared.line.Line.TheVariants.{Silent, Row, Method, Kept, Slot}
+use Rattle.ppdb_maps.specs.declared.line.Line.TheVariants.{Silent, Row, Method, Kept, Slot, Signature}
 use Rattle.ppdb_maps.specs.declared.rule.Rule.{Rule}
 use Rattle.ppdb_maps.specs.declared.rule.Rule.TheVariants.{NoMethod}
 use Rattle.ppdb_maps.specs.declared.bit_set.RowSet.{RowSet}
 use Rattle.ppdb_maps.specs.declared.entries.RowImage.{RowImage}
 use Rattle.ppdb_maps.proofs.OneMap.{pair_equal, pair_is}
-use Rattle.ppdb_maps.proofs.Refusing.{at_pair}
+use Rattle.ppdb_maps.proofs.Refusing.{at_number, at_pair}
 
 abbrev is_row : ℕ → ℕ → RowImage → Bool
 is_row table old row = nat_eq row.table table && nat_eq row.old old
@@ -63,9 +64,10 @@ some_or false x o = refl
 
 pub none_held : (draft : Draft) → draft.counts.entries ≡ [] → draft.rows.items ≡ [] → ((table row : ℕ) → has_row draft.moved table row ≡ false)
     → draft.methods.entries ≡ []
-    → draft.current ≡ None → draft.drops.keys ≡ [] → draft.slotted.keys ≡ [] → draft.slots.entries ≡ [] → Holds [] draft
+    → draft.current ≡ None → draft.drops.keys ≡ [] → draft.slotted.keys ≡ [] → draft.slots.entries ≡ [] → draft.signatures.entries ≡ []
+    → Holds [] draft
 unfolding IsDistinct
-none_held draft counts rows moved methods current drops slotted slots = record {
+none_held draft counts rows moved methods current drops slotted slots signatures = record {
   others = record {
     counts = λ table. rw counts refl;
     rows = λ table old. rw rows refl;
@@ -74,6 +76,7 @@ none_held draft counts rows moved methods current drops slotted slots = record {
     drops = λ method. rw drops refl;
     slotted = λ method. rw slotted refl;
     slots = λ method old. rw slots refl;
+    signatures = λ method. rw signatures refl;
   };
   methods = subst (λ (m : Option MethodLine). HoldsMethods [] m draft) (sym current) ((λ method. rw methods refl), refl);
 }
@@ -99,6 +102,7 @@ row_added before draft rows moved t o n closed fresh pushes marks = record {
     drops = closed.others.drops;
     slotted = closed.others.slotted;
     slots = closed.others.slots;
+    signatures = closed.others.signatures;
   };
   methods = subst (λ (m : Option MethodLine). HoldsMethods (Row t o n ∷ before) m (record draft { rows = rows; moved = moved })) (sym closed.closed)
       (closed.methods, refl);
@@ -121,8 +125,27 @@ slot_added before draft slots m o n closed updates = record {
     drops = closed.others.drops;
     slotted = closed.others.slotted;
     slots = λ a b. updates (a, b) ∙ rw (at_pair m o a b, closed.others.slots a b) refl;
+    signatures = closed.others.signatures;
   };
   methods = subst (λ (l : Option MethodLine). HoldsMethods (Slot m o n ∷ before) l (record draft { slots = slots })) (sym closed.closed) (closed.methods, refl);
+}
+
+pub signature_added : (before : List Line) (draft : Draft) (signatures : BTreeMap ℕ ℕ) (m n : ℕ) → IsClosed before draft
+    → ((q : ℕ) → tree.get nat_cmp signatures q ≡ cond (is_at (nat_cmp m) q) (Some n) (tree.get nat_cmp draft.signatures q))
+    → Holds (Signature m n ∷ before) (record draft { signatures = signatures })
+signature_added before draft signatures m n closed updates = record {
+  others = record {
+    counts = closed.others.counts;
+    rows = closed.others.rows;
+    distinct = closed.others.distinct;
+    moved = closed.others.moved;
+    drops = closed.others.drops;
+    slotted = closed.others.slotted;
+    slots = closed.others.slots;
+    signatures = λ k. updates k ∙ rw (at_number m k, closed.others.signatures k) refl;
+  };
+  methods = subst (λ (l : Option MethodLine). HoldsMethods (Signature m n ∷ before) l (record draft { signatures = signatures })) (sym closed.closed)
+      (closed.methods, refl);
 }
 
 pub method_added : (before : List Line) (draft : Draft) (m o n : ℕ) → IsClosed before draft
@@ -136,6 +159,7 @@ method_added before draft m o n closed = record {
     drops = closed.others.drops;
     slotted = closed.others.slotted;
     slots = closed.others.slots;
+    signatures = closed.others.signatures;
   };
   methods = (methods_of before, refl, closed.methods, refl);
 }
@@ -150,6 +174,7 @@ silent_added before draft holds = record {
     drops = holds.others.drops;
     slotted = holds.others.slotted;
     slots = holds.others.slots;
+    signatures = holds.others.signatures;
   };
   methods = of draft.current holds.methods;
 }
@@ -200,6 +225,7 @@ run_added before draft line taken run result holds is added kept why =
           drops = holds.others.drops;
           slotted = holds.others.slotted;
           slots = holds.others.slots;
+          signatures = holds.others.signatures;
         };
         methods = (h.0, rw (h.1, added) refl, h.2, h.3);
       },

@@ -12,13 +12,14 @@ use Rattle.std.proofs.lemmas.Cmp.{nat_cmp_total}
 use Rattle.std.proofs.lemmas.List.Elements.{All-head, All-tail}
 use Rattle.std.proofs.lemmas.Map.Views.{All-found, exact_unsigned_eq}
 use Rattle.ppdb_maps.specs.Map.{Map, MethodLine, Ascends, pair_cmp}
-use Rattle.ppdb_maps.specs.Gathered.{count_entry, row_key, same_pair, slot_entry}
+use Rattle.ppdb_maps.specs.Gathered.{count_entry, row_key, same_pair, slot_entry, signature_entry}
 use Rattle.ppdb_maps.specs.Drafts.{IsClosed}
 use Rattle.ppdb_maps.specs.Before.{methods_of}
 use Rattle.ppdb_maps.specs.Text.{HoldsWhat}
 use Rattle.ppdb_maps.specs.declared.entries.Count.{Count}
 use Rattle.ppdb_maps.specs.declared.entries.RowImage.{RowImage}
 use Rattle.ppdb_maps.specs.declared.entries.SlotImage.{SlotImage}
+use Rattle.ppdb_maps.specs.declared.entries.SignatureImage.{SignatureImage}
 use Rattle.ppdb_maps.specs.declared.draft.Draft.{Draft}
 use Rattle.ppdb_maps.specs.declared.line.Line.{Line}
 use Rattle.ppdb_maps.proofs.OneMap.{pair_equal, pair_exact, pair_is, pair_total}
@@ -57,6 +58,11 @@ pub slots_found : (m : BTreeMap (ℕ × ℕ) ℕ) (method old : ℕ)
 slots_found m method old = found_entry slot_entry (λ (s : SlotImage). nat_eq s.method method && nat_eq s.old old) (λ (s : SlotImage). s.new)
     (is_at (pair_cmp (method, old)))
     (λ e. turned_pair e.0.0 e.0.1 method old ∙ sym (at_pair method old e.0.0 e.0.1)) (λ e. refl) m.entries
+
+pub signatures_found : (m : BTreeMap ℕ ℕ) (method : ℕ)
+    → option_map (λ (s : SignatureImage). s.new) (find (λ s. nat_eq s.method method) (map signature_entry m.entries)) ≡ get nat_cmp m method
+signatures_found m method = found_entry signature_entry (λ (s : SignatureImage). nat_eq s.method method) (λ (s : SignatureImage). s.new)
+    (is_at (nat_cmp method)) (λ e. turned e.0 method ∙ sym (at_number method e.0)) (λ e. refl) m.entries
 
 -- a number is in a set by `nat_eq`
 any_number : (n : ℕ) (xs : List ℕ) → list_any (nat_eq n) xs ≡ list_any (is_at (nat_cmp n)) xs
@@ -107,12 +113,14 @@ pub record MadeOf (draft : Draft) (made : Map) : Type 0 where
   pub drops : made.drops ≡ draft.drops.keys
   pub slotted : made.slotted ≡ draft.slotted.keys
   pub slots : made.slots ≡ map slot_entry draft.slots.entries
+  pub signatures : made.signatures ≡ map signature_entry draft.signatures.entries
   pub counts_ordered : IsOrdered nat_cmp draft.counts
   pub rows_ordered : IsSortedByKey row_key pair_cmp made.rows
   pub methods_ordered : IsOrdered nat_cmp draft.methods
   pub drops_ordered : sorted.IsOrdered nat_cmp draft.drops
   pub slotted_ordered : sorted.IsOrdered nat_cmp draft.slotted
   pub slots_ordered : IsOrdered pair_cmp draft.slots
+  pub signatures_ordered : IsOrdered nat_cmp draft.signatures
 
 keyed_draft : (before : List Line) (draft : Draft) → IsClosed before draft → IsOrdered nat_cmp draft.methods → Keyed draft.methods.entries
 keyed_draft before draft closed ordered = keyed_of (methods_of before) draft.methods draft.methods.entries closed.methods
@@ -131,6 +139,7 @@ made_ascends before draft made closed h = record {
   drops = rw h.drops h.drops_ordered;
   slotted = rw h.slotted h.slotted_ordered;
   slots = rw (h.slots, same_keys slot_entry (λ (s : SlotImage). (s.method, s.old)) (λ e. refl) draft.slots.entries) h.slots_ordered;
+  signatures = rw (h.signatures, same_keys signature_entry (λ (s : SignatureImage). s.method) (λ e. refl) draft.signatures.entries) h.signatures_ordered;
 }
 
 pub made_holds : (before : List Line) (draft : Draft) (made : Map) → IsClosed before draft → MadeOf draft made → HoldsWhat before made
@@ -145,5 +154,6 @@ made_holds before draft made closed h = record {
   drops = λ method. rw h.drops (any_number method draft.drops.keys ∙ closed.others.drops method);
   slotted = λ method. rw h.slotted (any_number method draft.slotted.keys ∙ closed.others.slotted method);
   slots = λ method old. rw h.slots (slots_found draft.slots method old ∙ closed.others.slots method old);
+  signatures = λ method. rw h.signatures (signatures_found draft.signatures method ∙ closed.others.signatures method);
   ascends = made_ascends before draft made closed h;
 }

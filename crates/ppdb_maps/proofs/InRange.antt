@@ -6,16 +6,17 @@ use Rattle.std.specs.List.{find}
 use Rattle.std.proofs.lemmas.Bool.{false≢true, eqb-true, and_parts}
 use Rattle.ppdb_base.specs.declared.offsets.Run.{Run}
 use Rattle.ppdb_base.specs.Offsets.{Rise, lined}
-use Rattle.ppdb_maps.specs.Before.{count_in, row_in, method_in, methods_of, with_run, drop_in, slots_in, slot_in}
+use Rattle.ppdb_maps.specs.Before.{count_in, row_in, method_in, methods_of, with_run, drop_in, slots_in, slot_in, signature_in}
 use Rattle.ppdb_maps.specs.Forms.{ROWS, OFFSETS, SLOTS, Values, Tells, silent, told, rows_line, row_line, method_line, run_line, drop_line, slots_line}
-use Rattle.ppdb_maps.specs.Forms.{slot_line}
+use Rattle.ppdb_maps.specs.Forms.{slot_line, signature_line}
 use Rattle.ppdb_maps.specs.Map.{MethodLine}
 use Rattle.ppdb_maps.specs.Readable.{IsRow}
-use Rattle.ppdb_maps.specs.Rules.{Breaks, row_alone, slot_alone, run_early, run_long, drop_named, dropped_method, dropped_row, dropped_slots, by_lines}
+use Rattle.ppdb_maps.specs.Rules.{Breaks, row_alone, slot_alone, run_early, run_long, drop_named, dropped_method, dropped_row, dropped_slots, dropped_signature}
+use Rattle.ppdb_maps.specs.Rules.{by_lines}
 use Rattle.ppdb_maps.specs.Text.{Read, start, further}
 use Rattle.ppdb_maps.specs.declared.line.Form.{Form}
 use Rattle.ppdb_maps.specs.declared.line.Line.{Line}
-use Rattle.ppdb_maps.specs.declared.line.Line.TheVariants.{Silent, Rows, Row, Method, Kept, Dropped, Slots, Slot}
+use Rattle.ppdb_maps.specs.declared.line.Line.TheVariants.{Silent, Rows, Row, Method, Kept, Dropped, Slots, Slot, Signature}
 use Rattle.ppdb_maps.specs.declared.rule.Rule.{Rule}
 use Rattle.ppdb_maps.specs.declared.rule.Rule.TheVariants.{Undeclared, Overlap, Beyond, NamesDropped}
 use Rattle.ppdb_maps.proofs.Finishing.{found_at_number}
@@ -31,6 +32,7 @@ InRange (Kept run) = 0 < run.length
 InRange (Dropped m) = IsRow m
 InRange (Slots m) = IsRow m
 InRange (Slot m o n) = (o ≤ SLOTS) × (n ≤ SLOTS)
+InRange (Signature m n) = IsRow m × (n ≤ ROWS)
 
 values_range : (form : Form) (values : List (List ℕ)) (line : Line) → Values form values line → InRange line
 values_range form values line (rows_line a b) = (a.known, b.to)
@@ -40,6 +42,7 @@ values_range form values line (run_line a b d) = d.from
 values_range form values line (drop_line a) = (a.from, a.to)
 values_range form values line (slots_line a) = (a.from, a.to)
 values_range form values line (slot_line a b d) = (b.to, d.to)
+values_range form values line (signature_line a b) = ((a.from, a.to), b.to)
 
 tells_range : (version : ℕ) (text : List ℕ) (line : Line) → Tells version text line → InRange line
 tells_range version text line (silent h) = tt
@@ -59,6 +62,7 @@ pub record Fits (said : List Line) : Type 0 where
   pub drops : (m : ℕ) → drop_in said m ≡ true → IsRow m
   pub slotted : (m : ℕ) → slots_in said m ≡ true → IsRow m × (drop_in said m ≡ false)
   pub slots : (m o n : ℕ) → slot_in said m o ≡ Some n → (o ≤ SLOTS) × (n ≤ SLOTS) × (slots_in said m ≡ true)
+  pub signatures : (m n : ℕ) → signature_in said m ≡ Some n → IsRow m × (n ≤ ROWS) × (drop_in said m ≡ false)
 
 -- an answer comes from the last line or from the lines before it
 answer_from : {A : Type 0} (b : Bool) (x y : A) (o : Option A) → cond b (Some x) o ≡ Some y → ((b ≡ true) × (x ≡ y)) ⊎ ((b ≡ false) × (o ≡ Some y))
@@ -101,8 +105,15 @@ abbrev KeepsAll : List Line → Line → Type 0
 KeepsAll before line = (rule : Rule) → Breaks before rule line → ⊥
 
 fits_silent : (before : List Line) → Fits before → Fits (Silent ∷ before)
-fits_silent before fits = record
-    { counts = fits.counts; rows = fits.rows; methods = fits.methods; drops = fits.drops; slotted = fits.slotted; slots = fits.slots }
+fits_silent before fits = record {
+  counts = fits.counts;
+  rows = fits.rows;
+  methods = fits.methods;
+  drops = fits.drops;
+  slotted = fits.slotted;
+  slots = fits.slots;
+  signatures = fits.signatures;
+}
 
 fits_rows : (before : List Line) (t n : ℕ) → Fits before → InRange (Rows t n) → Fits (Rows t n ∷ before)
 fits_rows before t n fits range = record {
@@ -115,6 +126,7 @@ fits_rows before t n fits range = record {
   drops = fits.drops;
   slotted = fits.slotted;
   slots = fits.slots;
+  signatures = fits.signatures;
 }
 
 fits_row : (before : List Line) (t o n : ℕ) → Fits before → InRange (Row t o n) → KeepsAll before (Row t o n) → Fits (Row t o n ∷ before)
@@ -136,6 +148,7 @@ fits_row before t o n fits range keeps = record {
   drops = fits.drops;
   slotted = fits.slotted;
   slots = fits.slots;
+  signatures = fits.signatures;
 }
 
 fits_method : (before : List Line) (m o n : ℕ) → Fits before → InRange (Method m o n) → KeepsAll before (Method m o n) → Fits (Method m o n ∷ before)
@@ -151,6 +164,7 @@ fits_method before m o n fits range keeps = record {
   drops = fits.drops;
   slotted = fits.slotted;
   slots = fits.slots;
+  signatures = fits.signatures;
 }
 
 fits_kept : (before : List Line) (run : Run) → Fits before → InRange (Kept run) → KeepsAll before (Kept run) → Fits (Kept run ∷ before)
@@ -161,6 +175,7 @@ fits_kept before run fits range keeps = record {
   drops = fits.drops;
   slotted = fits.slotted;
   slots = fits.slots;
+  signatures = fits.signatures;
 }
   where
     with_longer : (first : MethodLine) (others : List MethodLine) → methods_of before ≡ first ∷ others → FitsLine before first
@@ -197,6 +212,9 @@ fits_drop before m fits range keeps = record {
   drops = λ k is. elim (true_from (nat_eq m k) (drop_in before k) is) [ inl hit ↦ subst IsRow (eqb-true m k hit) range | inr rest ↦ fits.drops k rest ];
   slotted = λ k is. let h = fits.slotted k is in (h.0, still_false (nat_eq m k) (drop_in before k) (λ hit. no_slots k (eqb-true m k hit) is) h.1);
   slots = fits.slots;
+  signatures = λ k n is.
+      let h = fits.signatures k n is in
+      (h.0, h.1, still_false (nat_eq m k) (drop_in before k) (λ hit. no_signature k n (eqb-true m k hit) is) h.2);
 }
   where
     no_row : (t o n : ℕ) → t ≡ 0x06 → m ≡ o → row_in before t o ≡ Some n → ⊥
@@ -210,7 +228,11 @@ fits_drop before m fits range keeps = record {
         (inl (subst (λ x. is_some (method_in before x) ≡ true) (sym (same ∙ found_at_number (methods_of before) k line is)) (there _ line is))))
 
     no_slots : (k : ℕ) → m ≡ k → slots_in before k ≡ true → ⊥
-    no_slots k same is = keeps NamesDropped (drop_named (inr (inr (subst (λ x. slots_in before x ≡ true) (sym same) is))))
+    no_slots k same is = keeps NamesDropped (drop_named (inr (inr (inl (subst (λ x. slots_in before x ≡ true) (sym same) is)))))
+
+    no_signature : (k n : ℕ) → m ≡ k → signature_in before k ≡ Some n → ⊥
+    no_signature k n same is =
+        keeps NamesDropped (drop_named (inr (inr (inr (subst (λ x. is_some (signature_in before x) ≡ true) (sym same) (there _ n is))))))
 
 fits_slots : (before : List Line) (m : ℕ) → Fits before → InRange (Slots m) → KeepsAll before (Slots m) → Fits (Slots m ∷ before)
 fits_slots before m fits range keeps = record {
@@ -225,6 +247,7 @@ fits_slots before m fits range keeps = record {
     | inr rest ↦ fits.slotted k rest
   ];
   slots = λ k o n is. let h = fits.slots k o n is in (h.0, h.1, still_true (nat_eq m k) (slots_in before k) h.2);
+  signatures = fits.signatures;
 }
 
 fits_slot : (before : List Line) (m o n : ℕ) → Fits before → InRange (Slot m o n) → KeepsAll before (Slot m o n) → Fits (Slot m o n ∷ before)
@@ -243,6 +266,26 @@ fits_slot before m o n fits range keeps = record {
         )
     | inr (miss, rest) ↦ fits.slots k j i rest
   ];
+  signatures = fits.signatures;
+}
+
+fits_signature : (before : List Line) (m n : ℕ) → Fits before → InRange (Signature m n) → KeepsAll before (Signature m n) → Fits (Signature m n ∷ before)
+fits_signature before m n fits range keeps = record {
+  counts = fits.counts;
+  rows = fits.rows;
+  methods = fits.methods;
+  drops = fits.drops;
+  slotted = fits.slotted;
+  slots = fits.slots;
+  signatures = λ k i is. elim (answer_from (nat_eq m k) n i (signature_in before k) is) [
+    | inl (hit, same) ↦
+        let one : m ≡ k = eqb-true m k hit in (
+          subst IsRow one range.0,
+          subst (λ x. x ≤ ROWS) same range.1,
+          subst (λ x. drop_in before x ≡ false) one (not_true (drop_in before m) (λ drop. keeps NamesDropped (dropped_signature drop))),
+        )
+    | inr (miss, rest) ↦ fits.signatures k i rest
+  ];
 }
 
 fits_line : (before : List Line) (line : Line) → Fits before → InRange line → KeepsAll before line → Fits (line ∷ before)
@@ -254,6 +297,7 @@ fits_line before (Kept run) fits range keeps = fits_kept before run fits range k
 fits_line before (Dropped m) fits range keeps = fits_drop before m fits range keeps
 fits_line before (Slots m) fits range keeps = fits_slots before m fits range keeps
 fits_line before (Slot m o n) fits range keeps = fits_slot before m o n fits range keeps
+fits_line before (Signature m n) fits range keeps = fits_signature before m n fits range keeps
 
 -- lines that were read fit together
 pub read_fits : (version : ℕ) (texts : List (List ℕ)) (said : List Line) → Read version texts said → Fits said
@@ -264,6 +308,7 @@ read_fits version texts said start = record {
   drops = λ m is. absurd (false≢true is);
   slotted = λ m is. absurd (false≢true is);
   slots = λ m o n is. absurd (cc);
+  signatures = λ m n is. absurd (cc);
 }
 read_fits version texts said (further {texts = prefix} {before} {text} {line} read tells keeps) =
     fits_line before line (read_fits version prefix before read) (tells_range version text line tells) (λ rule breaks. keeps rule (by_lines tells breaks))

@@ -3,7 +3,7 @@ use Rattle.std.proofs.Common.{ℕ, ◌≡◌, ◌<◌, ◌+◌, ◌++◌, List, 
 use Rattle.std.proofs.Common.{subst, arith}
 use Rattle.std.specs.Prelude.{MatchResult}
 use Rattle.std.specs.Str.Lines.{lines}
-use Rattle.ppdb_maps.specs.Forms.{Tells, Values, silent, told, run_line, rows_line, row_line, method_line, drop_line, slots_line, slot_line, IsHead}
+use Rattle.ppdb_maps.specs.Forms.{Tells, Values, silent, told, run_line, rows_line, row_line, method_line, drop_line, slots_line, slot_line, signature_line, IsHead}
 use Rattle.ppdb_maps.specs.Cuts.{IsLineOf}
 use Rattle.ppdb_maps.specs.Rules.{by_lines}
 use Rattle.ppdb_maps.specs.Text.{Read, start, further, Refused, at_line, at_head}
@@ -27,6 +27,7 @@ values_length form values line (run_line a b d) = d.from
 values_length form values line (drop_line a) = tt
 values_length form values line (slots_line a) = tt
 values_length form values line (slot_line a b d) = tt
+values_length form values line (signature_line a b) = tt
 
 pub tells_length : (version : ℕ) (text : List ℕ) (line : Line) → Tells version text line → HasLength line
 tells_length version text line (silent h) = tt

@@ -13,9 +13,10 @@ use Rattle.std.proofs.lemmas.List.{append_cancel_left}
 use Rattle.ppdb_maps.specs.declared.entries.Count.{Count}
 use Rattle.ppdb_maps.specs.declared.entries.RowImage.{RowImage}
 use Rattle.ppdb_maps.specs.declared.entries.SlotImage.{SlotImage}
+use Rattle.ppdb_maps.specs.declared.entries.SignatureImage.{SignatureImage}
 use Rattle.ppdb_maps.specs.declared.line.Line.{Line}
 use Rattle.ppdb_maps.specs.Gathered.{same_pair}
-use Rattle.ppdb_maps.specs.Map.{Map, MethodLine, pair_cmp}
+use Rattle.ppdb_maps.specs.Map.{Map, MethodLine, map_of, pair_cmp}
 use Rattle.ppdb_maps.specs.Text.{Read, HoldsWhat}
 use Rattle.ppdb_maps.specs.Readable.{TextsHaveOneMap}
 use Rattle.ppdb_maps.proofs.OneList.{one_list}
@@ -86,6 +87,21 @@ numbers_one xs ys a b same = one_list (λ (x : ℕ). x) nat_eq nat_cmp same_numb
     (subst (IsStrictlySortedBy nat_cmp) (sym (map_itself xs)) a) (subst (IsStrictlySortedBy nat_cmp) (sym (map_itself ys)) b)
     (λ n. number_found n xs ∙ ap (λ r. cond r (Some n) None) (same n) ∙ sym (number_found n ys))
 
+-- maps of the same lists are the same
+pub maps_made : (a b : Map) → a.counts ≡ b.counts → a.rows ≡ b.rows → a.methods ≡ b.methods → a.drops ≡ b.drops → a.slotted ≡ b.slotted → a.slots ≡ b.slots
+    → a.signatures ≡ b.signatures → a ≡ b
+maps_made a b counts rows methods drops slotted slots signatures =
+    ap (λ (v : List Count × List RowImage × List MethodLine × List ℕ × List ℕ × List SlotImage × List SignatureImage). map_of v.0 v.1 v.2 v.3 v.4 v.5 v.6)
+    (let e : (a.counts, a.rows, a.methods, a.drops, a.slotted, a.slots, a.signatures) ≡ (
+      b.counts,
+      b.rows,
+      b.methods,
+      b.drops,
+      b.slotted,
+      b.slots,
+      b.signatures,
+    ) = cc in e)
+
 maps_same : (said : List Line) (a b : Map) → HoldsWhat said a → HoldsWhat said b → a ≡ b
 maps_same said a b x y =
     let counts : a.counts ≡ b.counts = one_list (λ (c : Count). c.table) nat_eq nat_cmp same_number number_same nat_cmp_total a.counts b.counts
@@ -111,12 +127,11 @@ maps_same said a b x y =
     ap (λ t. record { method = t; old = k.1; new = s.new }) (sym (eqb-true s.method k.0 parts.0))
     ∙ ap (λ o. record { method = s.method; old = o; new = s.new }) (sym (eqb-true s.old k.1 parts.1)))
     a.slots b.slots (x.slots k.0 k.1 ∙ sym (y.slots k.0 k.1))) in
-    ap (λ z. record { counts = z; rows = a.rows; methods = a.methods; drops = a.drops; slotted = a.slotted; slots = a.slots }) counts
-    ∙ ap (λ z. record { counts = b.counts; rows = z; methods = a.methods; drops = a.drops; slotted = a.slotted; slots = a.slots }) rows
-    ∙ ap (λ z. record { counts = b.counts; rows = b.rows; methods = z; drops = a.drops; slotted = a.slotted; slots = a.slots }) methods
-    ∙ ap (λ z. record { counts = b.counts; rows = b.rows; methods = b.methods; drops = z; slotted = a.slotted; slots = a.slots }) drops
-    ∙ ap (λ z. record { counts = b.counts; rows = b.rows; methods = b.methods; drops = b.drops; slotted = z; slots = a.slots }) slotted
-    ∙ ap (λ z. record { counts = b.counts; rows = b.rows; methods = b.methods; drops = b.drops; slotted = b.slotted; slots = z }) slots
+    let signatures : a.signatures ≡ b.signatures = one_list (λ (s : SignatureImage). s.method) nat_eq nat_cmp same_number number_same nat_cmp_total a.signatures
+    b.signatures x.ascends.signatures y.ascends.signatures
+    (λ n. alike (λ (s : SignatureImage). nat_eq s.method n) (λ (s : SignatureImage). s.new) (λ r. record { method = n; new = r })
+    (λ s hit. ap (λ t. record { method = t; new = s.new }) (sym (eqb-true s.method n hit))) a.signatures b.signatures (x.signatures n ∙ sym (y.signatures n))) in
+    maps_made a b counts rows methods drops slotted slots signatures
 
 pub version_same : (head : List ℕ) (v w : ℕ) → head ≡ codes "ppdbmap " ++ (48 + v) ∷ [] → head ≡ codes "ppdbmap " ++ (48 + w) ∷ [] → v ≡ w
 version_same head v w a b =

@@ -9,11 +9,12 @@ use Rattle.std.proofs.lemmas.Bool.{eq-eqb}
 use Rattle.std.proofs.lemmas.Cmp.{nat_cmp_total}
 use Rattle.ppdb_maps.specs.Gathered.{same_pair}
 use Rattle.ppdb_maps.specs.Map.{Map, MethodLine, pair_cmp}
-use Rattle.ppdb_maps.specs.Readable.{IsReadable, IsCount, IsRow, IsRowOf, IsLineOf, IsSlottedOf, IsSlotOf, MapsAreReadable}
+use Rattle.ppdb_maps.specs.Readable.{IsReadable, IsCount, IsRow, IsRowOf, IsLineOf, IsSlottedOf, IsSlotOf, IsSignatureOf, MapsAreReadable}
 use Rattle.ppdb_maps.specs.Text.{HoldsWhat, Read}
 use Rattle.ppdb_maps.specs.declared.entries.Count.{Count}
 use Rattle.ppdb_maps.specs.declared.entries.RowImage.{RowImage}
 use Rattle.ppdb_maps.specs.declared.entries.SlotImage.{SlotImage}
+use Rattle.ppdb_maps.specs.declared.entries.SignatureImage.{SignatureImage}
 use Rattle.ppdb_maps.specs.declared.line.Line.{Line}
 use Rattle.ppdb_maps.proofs.InRange.{Fits, read_fits}
 use Rattle.ppdb_maps.proofs.OneList.{each_found}
@@ -51,6 +52,11 @@ held_fits said m holds fits = record {
       (λ s found.
       let h = fits.slots s.method s.old s.new (sym (holds.slots s.method s.old) ∙ ap (option_map (λ (s : SlotImage). s.new)) found) in
       (h.0, h.1, holds.slotted s.method ∙ h.2));
+  signatures = each_found (λ (s : SignatureImage). s.method) nat_eq nat_cmp same_number number_same nat_cmp_total (IsSignatureOf m) m.signatures
+      holds.ascends.signatures
+      (λ s found.
+      let h = fits.signatures s.method s.new (sym (holds.signatures s.method) ∙ ap (option_map (λ (s : SignatureImage). s.new)) found) in
+      (h.0, h.1, holds.drops s.method ∙ h.2));
 }
 
 -- a map of lines that were read is readable
@@ -60,14 +66,16 @@ read_readable version texts said m read holds = held_fits said m holds (read_fit
 pub maps_are_readable : MapsAreReadable
 maps_are_readable = λ text m is. read_readable is.version is.rest is.said m is.read is.holds_what
 
-pub empty_readable : (m : Map) → m.counts ≡ [] → m.rows ≡ [] → m.methods ≡ [] → m.drops ≡ [] → m.slotted ≡ [] → m.slots ≡ [] → IsReadable m
+pub empty_readable : (m : Map) → m.counts ≡ [] → m.rows ≡ [] → m.methods ≡ [] → m.drops ≡ [] → m.slotted ≡ [] → m.slots ≡ [] → m.signatures ≡ []
+    → IsReadable m
 unfolding IsStrictlySortedBy
-empty_readable m a b d e f g = record {
-  ascends = record { counts = rw a tt; rows = rw b tt; methods = rw d tt; drops = rw e tt; slotted = rw f tt; slots = rw g tt };
+empty_readable m a b d e f g h = record {
+  ascends = record { counts = rw a tt; rows = rw b tt; methods = rw d tt; drops = rw e tt; slotted = rw f tt; slots = rw g tt; signatures = rw h tt };
   counts = rw a tt;
   rows = rw b tt;
   methods = rw d tt;
   drops = rw e tt;
   slotted = rw f tt;
   slots = rw g tt;
+  signatures = rw h tt;
 }

@@ -1,18 +1,18 @@
 -- Which rules a line breaks, by what the lines before it say.
-use Rattle.std.proofs.Common.{◌⊎◌, ℕ, ◌≡◌, ◌≤◌, ◌&&◌, Bool, true, false, List, Option, Some, None, lit≤, refl, sym, ◌∙◌, arith}
+use Rattle.std.proofs.Common.{ℕ, ◌≡◌, ◌≤◌, ◌&&◌, Bool, true, false, List, Option, Some, None, lit≤, refl, sym, ◌∙◌, arith}
 use Rattle.std.specs.Prelude.{IsSome, IsTrue, nat_eq, is_some}
 use Rattle.std.specs.Ordering.{nat_cmp}
 use Rattle.std.proofs.lemmas.Bool.{false≢true}
 use Rattle.std.proofs.lemmas.Bool.Decides.{nat_tests}
 use Rattle.std.specs.BTreeMap.{is_at}
 use Rattle.ppdb_maps.specs.Map.{pair_cmp}
-use Rattle.ppdb_maps.specs.Before.{count_in, row_in, method_in, drop_in, slots_in, slot_in}
+use Rattle.ppdb_maps.specs.Before.{count_in, row_in, method_in, drop_in, slots_in, slot_in, signature_in}
 use Rattle.ppdb_maps.specs.Rules.{kind_of, Breaks, second_row, second_method, second_drop, second_slots, second_slot, row_alone, slot_alone, drop_named}
-use Rattle.ppdb_maps.specs.Rules.{dropped_method, dropped_row, dropped_slots}
+use Rattle.ppdb_maps.specs.Rules.{IsNamed, dropped_method, dropped_row, dropped_slots, second_signature, dropped_signature}
 use Rattle.ppdb_maps.specs.Drafts.{RefusedBy}
 use Rattle.ppdb_maps.specs.declared.refusal.Refusal.TheVariants.{Breaks as refused}
 use Rattle.ppdb_maps.specs.declared.line.Line.{Line}
-use Rattle.ppdb_maps.specs.declared.line.Line.TheVariants.{Row, Method, Dropped, Slots, Slot}
+use Rattle.ppdb_maps.specs.declared.line.Line.TheVariants.{Row, Method, Dropped, Slots, Slot, Signature}
 use Rattle.ppdb_maps.specs.declared.rule.Rule.{Rule}
 use Rattle.ppdb_maps.specs.declared.rule.Rule.TheVariants.{Repeated, Undeclared, NamesDropped}
 use Rattle.ppdb_maps.proofs.Saying.{from_four}
@@ -74,9 +74,7 @@ pub method_keeps : (before : List Line) (m o n : ℕ) → is_some (method_in bef
 method_keeps before m o n method drop rule (second_method h) = both (method_in before m) method h
 method_keeps before m o n method drop rule (dropped_method h) = untrue (drop_in before m) drop h
 
-pub drop_of_named : (before : List Line) (m : ℕ) → drop_in before m ≡ false → IsSome (method_in before m) ⊎ IsSome (row_in before 0x06 m)
-    ⊎ IsTrue (slots_in before m)
-    → RefusedBy before (Dropped m) (refused NamesDropped)
+pub drop_of_named : (before : List Line) (m : ℕ) → drop_in before m ≡ false → IsNamed before m → RefusedBy before (Dropped m) (refused NamesDropped)
 drop_of_named before m drop named = (drop_named named, λ other h. least other h)
   where
     least : (other : Rule) → Breaks before other (Dropped m) → 9 ≤ kind_of other
@@ -102,6 +100,19 @@ pub slot_keeps : (before : List Line) (m o n : ℕ) → is_some (slot_in before 
     → Breaks before rule (Slot m o n) → ⊥
 slot_keeps before m o n slot slots rule (second_slot h) = both (slot_in before m o) slot h
 slot_keeps before m o n slot slots rule (slot_alone h) = untrue (slots_in before m) h slots
+
+pub signature_dropped : (before : List Line) (m n : ℕ) → is_some (signature_in before m) ≡ false → drop_in before m ≡ true
+    → RefusedBy before (Signature m n) (refused NamesDropped)
+signature_dropped before m n signature drop = (dropped_signature drop, λ other h. least other h)
+  where
+    least : (other : Rule) → Breaks before other (Signature m n) → 9 ≤ kind_of other
+    least other (second_signature h) = absurd (both (signature_in before m) signature h)
+    least other (dropped_signature h) = lit≤ tt
+
+pub signature_keeps : (before : List Line) (m n : ℕ) → is_some (signature_in before m) ≡ false → drop_in before m ≡ false → (rule : Rule)
+    → Breaks before rule (Signature m n) → ⊥
+signature_keeps before m n signature drop rule (second_signature h) = both (signature_in before m) signature h
+signature_keeps before m n signature drop rule (dropped_signature h) = untrue (drop_in before m) drop h
 
 -- what the tests of keys say
 pub at_number : (k q : ℕ) → is_at (nat_cmp k) q ≡ nat_eq k q

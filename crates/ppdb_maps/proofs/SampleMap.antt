@@ -1,5 +1,5 @@
 -- The sample's map keeps what maps keep.
-use Rattle.std.proofs.Common.{◌≡◌, ℕ, zero, suc, ◌+◌, ◌<◌, ◌≤◌, List, [], ◌∷◌, map, refl, sym, ap, arith}
+use Rattle.std.proofs.Common.{◌≡◌, ℕ, zero, suc, ◌+◌, ◌<◌, ◌≤◌, List, [], ◌∷◌, map, refl, sym, arith}
 use Rattle.std.specs.List.{range_with_len, AllByRecursion}
 use Rattle.std.specs.List.Sorted.{IsStrictlySortedBy}
 use Rattle.std.specs.Ordering.{nat_cmp}
@@ -9,9 +9,11 @@ use Rattle.ppdb_base.specs.Offsets.{Rise, lined}
 use Rattle.ppdb_maps.specs.declared.entries.Count.{Count}
 use Rattle.ppdb_maps.specs.declared.entries.RowImage.{RowImage}
 use Rattle.ppdb_maps.specs.declared.entries.SlotImage.{SlotImage}
+use Rattle.ppdb_maps.specs.declared.entries.SignatureImage.{SignatureImage}
 use Rattle.ppdb_maps.specs.Map.{MethodLine, pair_cmp, map_of}
 use Rattle.ppdb_maps.specs.Readable.{IsRowOf, IsLineOf, IsReadable}
 use Rattle.ppdb_maps.specs.Sample.{sample_row, sample_method, sample_runs, sample_map_of}
+use Rattle.ppdb_maps.proofs.OneMap.{maps_made}
 
 pub sample_rise : Rise (lined sample_runs 16 20)
 sample_rise = (omega arith, omega arith, omega arith, (omega arith, omega arith, omega arith, (omega arith, omega arith, omega arith, tt)))
@@ -70,6 +72,7 @@ sample_readable n few = record {
     drops = nothing_rises;
     slotted = nothing_rises;
     slots = no_pairs_rise;
+    signatures = nothing_rises;
   };
   counts = ((omega arith, omega arith), tt);
   rows = rows_in n 1 n (omega arith) (omega arith) few;
@@ -77,20 +80,14 @@ sample_readable n few = record {
   drops = tt;
   slotted = tt;
   slots = tt;
+  signatures = tt;
 }
 
 pub sample_of : (n : ℕ) (counts : List Count) (rows : List RowImage) (methods : List MethodLine) (drops slotted : List ℕ) (slots : List SlotImage)
+    (signatures : List SignatureImage)
     → counts ≡ record { table = 0x06; rows = n } ∷ []
     → rows ≡ map (sample_row n) (range_with_len 1 n) → methods ≡ map sample_method (range_with_len 1 n) → drops ≡ [] → slotted ≡ [] → slots ≡ []
-    → map_of counts rows methods drops slotted slots ≡ sample_map_of n
-sample_of n counts rows methods drops slotted slots c r m d s i =
-    let one : Count = record { table = 0x06; rows = n } in
-    ap (λ (v : List Count × List RowImage × List MethodLine × List ℕ × List ℕ × List SlotImage). map_of v.0 v.1 v.2 v.3 v.4 v.5)
-    (let e : (counts, rows, methods, drops, slotted, slots) ≡ (
-      one ∷ [],
-      map (sample_row n) (range_with_len 1 n),
-      map sample_method (range_with_len 1 n),
-      [],
-      [],
-      [],
-    ) = cc in e)
+    → signatures ≡ []
+    → map_of counts rows methods drops slotted slots signatures ≡ sample_map_of n
+sample_of n counts rows methods drops slotted slots signatures c r m d t s g =
+    maps_made (map_of counts rows methods drops slotted slots signatures) (sample_map_of n) c r m d t s g

@@ -65,6 +65,7 @@ holds_0 = record {
   drops = λ m. refl;
   slotted = λ m. refl;
   slots = λ m o. refl;
+  signatures = λ m. refl;
   ascends = (sample_readable 0 (omega arith)).ascends;
 }
 
@@ -93,6 +94,7 @@ holds_1 = record {
   drops = λ m. refl;
   slotted = λ m. refl;
   slots = λ m o. refl;
+  signatures = λ m. refl;
   ascends = (sample_readable 1 (omega arith)).ascends;
 }
 
@@ -150,6 +152,7 @@ holds_2 = record {
   drops = λ m. refl;
   slotted = λ m. refl;
   slots = λ m o. refl;
+  signatures = λ m. refl;
   ascends = (sample_readable 2 (omega arith)).ascends;
 }
 

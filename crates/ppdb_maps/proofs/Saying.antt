@@ -3,9 +3,9 @@ use Rattle.std.proofs.Common.{zero, suc, inl, inr, lit<, lit≤, ℕ, ◌≡◌,
 use Rattle.ppdb_base.specs.declared.offsets.Run.{Run}
 use Rattle.ppdb_maps.specs.Words.{IsSilent, line_words}
 use Rattle.ppdb_maps.specs.Forms.{name_of, words_in, HasForm, IsNumber, IsTable, ROWS, Values, Tells, rows_line, row_line, method_line, run_line, drop_line}
-use Rattle.ppdb_maps.specs.Forms.{slots_line, slot_line, silent, told}
+use Rattle.ppdb_maps.specs.Forms.{slots_line, slot_line, signature_line, silent, told}
 use Rattle.ppdb_maps.specs.declared.line.Form.{Form}
-use Rattle.ppdb_maps.specs.declared.line.Form.TheVariants.{TableRows, RowMove, MethodSizes, OffsetRun, MethodDrop, MethodSlots, SlotMove}
+use Rattle.ppdb_maps.specs.declared.line.Form.TheVariants.{TableRows, RowMove, MethodSizes, OffsetRun, MethodDrop, MethodSlots, SlotMove, MethodSignature}
 use Rattle.ppdb_maps.specs.declared.line.Line.{Line}
 use Rattle.ppdb_maps.specs.declared.line.Line.TheVariants.{Kept}
 use Rattle.std.specs.Prelude.{find, bytes_eq}
@@ -14,8 +14,8 @@ use Rattle.std.proofs.lemmas.List.{length-take-le}
 use Rattle.ppdb_maps.specs.Cuts.{AreWordsOf}
 use Rattle.ppdb_maps.specs.Reading.{FitsForm, values_of}
 use Rattle.ppdb_maps.specs.Rules.{kind_of, Breaks, BreaksLine, BreaksFirst, no_form, no_value, by_lines, second_rows, second_row, second_method, second_drop}
-use Rattle.ppdb_maps.specs.Rules.{second_slots, second_slot, row_alone, slot_alone, run_alone, run_early, run_long, drop_named, dropped_method, dropped_row}
-use Rattle.ppdb_maps.specs.Rules.{dropped_slots}
+use Rattle.ppdb_maps.specs.Rules.{second_slots, second_slot, second_signature, row_alone, slot_alone, run_alone, run_early, run_long, drop_named, dropped_method, dropped_row}
+use Rattle.ppdb_maps.specs.Rules.{dropped_slots, dropped_signature}
 use Rattle.ppdb_maps.specs.declared.rule.Rule.{Rule}
 use Rattle.ppdb_maps.specs.declared.rule.Rule.TheVariants.{UnknownForm, NumberFaults}
 use Rattle.ppdb_maps.specs.declared.words.Words.{Words}
@@ -62,10 +62,15 @@ one_of_form form values x y (slot_line {method = m} {old = o} {new = n} a b d) (
     let old = one_number _ _ _ o o2 (lit< tt) b b2 in
     let new = one_number _ _ _ n n2 (lit< tt) d d2 in
     cc
+one_of_form form values x y (signature_line {method = m} {new = n} a b) (signature_line {method = m2} {new = n2} a2 b2) =
+    let method = one_number _ _ _ m m2 (lit< tt) a a2 in
+    let new = one_number _ _ _ n n2 (lit< tt) b b2 in
+    cc
 
 -- the form that has the name
 abbrev form_named : List ℕ → Option Form
-form_named name = find (λ form. bytes_eq (name_of form) name) (TableRows ∷ RowMove ∷ MethodSizes ∷ OffsetRun ∷ MethodDrop ∷ MethodSlots ∷ SlotMove ∷ [])
+form_named name = find (λ form. bytes_eq (name_of form) name)
+    (TableRows ∷ RowMove ∷ MethodSizes ∷ OffsetRun ∷ MethodDrop ∷ MethodSlots ∷ SlotMove ∷ MethodSignature ∷ [])
 
 named_itself : (form : Form) → form_named (name_of form) ≡ Some form
 named_itself TableRows = refl
@@ -75,6 +80,7 @@ named_itself OffsetRun = refl
 named_itself MethodDrop = refl
 named_itself MethodSlots = refl
 named_itself SlotMove = refl
+named_itself MethodSignature = refl
 
 -- forms have different first words
 one_form : (x y : Form) → name_of x ≡ name_of y → x ≡ y
@@ -89,6 +95,7 @@ few_words OffsetRun = (lit≤ tt, lit≤ tt)
 few_words MethodDrop = (lit≤ tt, lit≤ tt)
 few_words MethodSlots = (lit≤ tt, lit≤ tt)
 few_words SlotMove = (lit≤ tt, lit≤ tt)
+few_words MethodSignature = (lit≤ tt, lit≤ tt)
 
 count_fits : (n : ℕ) (name a b d : List ℕ) (words : List (List ℕ)) (version : ℕ) (form : Form)
     → (n ≤ 4 → words ≡ take n (name ∷ a ∷ b ∷ d ∷ [])) → (4 < n → 4 < length words) → HasForm version words form
@@ -136,6 +143,7 @@ has_form line words version form are fits =
     taken MethodDrop = refl
     taken MethodSlots = refl
     taken SlotMove = refl
+    taken MethodSignature = refl
 
     long : (form : Form) → length (take (words_in form) (words.name.now ∷ words.first.now ∷ words.second.now ∷ words.third.now ∷ [])) ≡ words_in form
     long form = length-take-le (words_in form) (words.name.now ∷ words.first.now ∷ words.second.now ∷ words.third.now ∷ []) (few_words form).1
@@ -162,6 +170,7 @@ from_four before rule line (second_method h) = lit≤ tt
 from_four before rule line (second_drop h) = lit≤ tt
 from_four before rule line (second_slots h) = lit≤ tt
 from_four before rule line (second_slot h) = lit≤ tt
+from_four before rule line (second_signature h) = lit≤ tt
 from_four before rule line (row_alone h) = lit≤ tt
 from_four before rule line (slot_alone h) = lit≤ tt
 from_four before rule line (run_alone h) = lit≤ tt
@@ -171,6 +180,7 @@ from_four before rule line (drop_named h) = lit≤ tt
 from_four before rule line (dropped_method h) = lit≤ tt
 from_four before rule line (dropped_row h k) = lit≤ tt
 from_four before rule line (dropped_slots h) = lit≤ tt
+from_four before rule line (dropped_signature h) = lit≤ tt
 
 -- a line without a form
 pub breaks_form : (line : List ℕ) (words : Words) (version : ℕ) (before : List Line) → (IsSilent line → ⊥) → AreWordsOf line words

@@ -4,7 +4,7 @@ use Rattle.std.specs.List.{find}
 use Rattle.ppdb_base.specs.declared.offsets.Run.{Run}
 use Rattle.ppdb_maps.specs.Map.{MethodLine}
 use Rattle.ppdb_maps.specs.declared.line.Line.{Line}
-use Rattle.ppdb_maps.specs.declared.line.Line.TheVariants.{Silent, Rows, Row, Method, Kept, Dropped, Slots, Slot}
+use Rattle.ppdb_maps.specs.declared.line.Line.TheVariants.{Silent, Rows, Row, Method, Kept, Dropped, Slots, Slot, Signature}
 
 -- the N of the table's `rows` line
 abbrev pub count_in : List Line → ℕ → Option ℕ
@@ -35,6 +35,12 @@ abbrev pub slot_in : List Line → ℕ → ℕ → Option ℕ
 slot_in [] method old = None
 slot_in (Slot m o n ∷ before) method old = cond (nat_eq m method && nat_eq o old) (Some n) (slot_in before method old)
 slot_in (_ ∷ before) method old = slot_in before method old
+
+-- the NEW of the method's `signature` line
+abbrev pub signature_in : List Line → ℕ → Option ℕ
+signature_in [] method = None
+signature_in (Signature m n ∷ before) method = cond (nat_eq m method) (Some n) (signature_in before method)
+signature_in (_ ∷ before) method = signature_in before method
 
 -- a run goes to the last `method` line
 abbrev pub with_run : Run → List MethodLine → List MethodLine

@@ -1,5 +1,5 @@
 -- What a draft holds of the lines read so far, of which the last one stands first.
-use Rattle.std.specs.Prelude.{◌≡◌, ℕ, ◌<◌, ◌≤◌, ◌⊎◌, ◌↔◌, Bool, true, false, List, ◌∷◌, Option, Some, None, Result, MatchResult, IsSome, IsTrue, find, nat_eq}
+use Rattle.std.specs.Prelude.{◌≡◌, ℕ, ◌<◌, ◌≤◌, true, false, List, ◌∷◌, Option, Some, None, Result, MatchResult, find, nat_eq}
 use Rattle.std.specs.Prelude.{is_some, option_map, map, ◌&&◌}
 use Rattle.std.specs.List.{IsDistinct}
 use Rattle.ppdb_maps.specs.declared.entries.RowImage.{RowImage}
@@ -9,7 +9,7 @@ use Rattle.std.specs.BTreeSet as sorted
 use Rattle.ppdb_maps.specs.BitSets.{has_row}
 use Rattle.ppdb_maps.specs.Gathered.{row_key, same_pair}
 use Rattle.ppdb_maps.specs.Map.{MethodLine, pair_cmp}
-use Rattle.ppdb_maps.specs.Before.{count_in, row_in, method_in, methods_of, drop_in, slots_in, slot_in, follows_method}
+use Rattle.ppdb_maps.specs.Before.{count_in, row_in, methods_of, drop_in, slots_in, slot_in, signature_in, follows_method}
 use Rattle.ppdb_maps.specs.Rules.{Breaks, kind_of}
 use Rattle.ppdb_maps.specs.declared.draft.Draft.{Draft}
 use Rattle.ppdb_maps.specs.declared.refusal.Refusal.{Refusal}
@@ -28,6 +28,7 @@ pub record HoldsOthers (before : List Line) (draft : Draft) : Type 0 where
   pub drops : (method : ℕ) → sorted.contains nat_cmp draft.drops method ≡ drop_in before method
   pub slotted : (method : ℕ) → sorted.contains nat_cmp draft.slotted method ≡ slots_in before method
   pub slots : (method old : ℕ) → tree.get pair_cmp draft.slots (method, old) ≡ slot_in before method old
+  pub signatures : (method : ℕ) → tree.get nat_cmp draft.signatures method ≡ signature_in before method
 
 -- the map has these method lines
 abbrev pub HasLines : List MethodLine → Draft → Type 0
@@ -66,10 +67,6 @@ IsAdded line old result new = (before : List Line) → IsClosed before old → A
 
 abbrev pub IsAddedTo : Line → Draft → Result (Unit {0}) Refusal → Draft → Type 0
 IsAddedTo line old result new = (before : List Line) → Holds before old → AddsLine before line result new
-
--- whether the method has a line that no `drop` may follow
-abbrev pub IsNamedIn : List Line → ℕ → Bool → Type 0
-IsNamedIn before method result = IsTrue result ↔ (IsSome (method_in before method) ⊎ IsSome (row_in before 0x06 method) ⊎ IsTrue (slots_in before method))
 
 -- a run has an offset
 abbrev pub HasLength : Line → Type 0

@@ -4,14 +4,14 @@ use Rattle.std.specs.Fmt.{decimal}
 use Rattle.ppdb_base.specs.declared.offsets.Run.{Run}
 use Rattle.ppdb_maps.specs.Words.{IsSilent, line_words}
 use Rattle.ppdb_maps.specs.declared.line.Form.{Form}
-use Rattle.ppdb_maps.specs.declared.line.Form.TheVariants.{TableRows, RowMove, MethodSizes, OffsetRun, MethodDrop, MethodSlots, SlotMove}
+use Rattle.ppdb_maps.specs.declared.line.Form.TheVariants.{TableRows, RowMove, MethodSizes, OffsetRun, MethodDrop, MethodSlots, SlotMove, MethodSignature}
 use Rattle.ppdb_maps.specs.declared.line.Line.{Line}
-use Rattle.ppdb_maps.specs.declared.line.Line.TheVariants.{Silent, Rows, Row, Method, Kept, Dropped, Slots, Slot}
+use Rattle.ppdb_maps.specs.declared.line.Line.TheVariants.{Silent, Rows, Row, Method, Kept, Dropped, Slots, Slot, Signature}
 
 -- line 1 of a text of the version: 48 is the digit 0
 pub record IsHead (line : List ℕ) (version : ℕ) : Type 0 where
   pub from : 1 ≤ version
-  pub to : version ≤ 3
+  pub to : version ≤ 4
   pub spelled : line ≡ codes "ppdbmap " ++ (48 + version) ∷ []
 
 -- the first word of a form
@@ -23,6 +23,7 @@ name_of OffsetRun = codes "run"
 name_of MethodDrop = codes "drop"
 name_of MethodSlots = codes "slots"
 name_of SlotMove = codes "slot"
+name_of MethodSignature = codes "signature"
 
 -- its number of words, the first one among them
 abbrev pub words_in : Form → ℕ
@@ -33,6 +34,7 @@ words_in OffsetRun = 4
 words_in MethodDrop = 2
 words_in MethodSlots = 2
 words_in SlotMove = 4
+words_in MethodSignature = 3
 
 -- the version from which on texts have it
 abbrev pub since : Form → ℕ
@@ -43,6 +45,7 @@ since OffsetRun = 1
 since MethodDrop = 2
 since MethodSlots = 3
 since SlotMove = 3
+since MethodSignature = 4
 
 -- the words are those of a form of the version, whatever its values
 pub record HasForm (version : ℕ) (words : List (List ℕ)) (form : Form) : Type 0 where
@@ -95,6 +98,8 @@ pub data Values : Form → List (List ℕ) → Line → Type 0 where
   slots_line : {m : List ℕ} {method : ℕ} → IsNumber m 1 ROWS method → Values MethodSlots (m ∷ []) (Slots method)
   slot_line : {m o n : List ℕ} {method old new : ℕ} → IsNumber m 1 ROWS method → IsNumber o 0 SLOTS old
       → IsNumber n 0 SLOTS new → Values SlotMove (m ∷ o ∷ n ∷ []) (Slot method old new)
+  signature_line : {m n : List ℕ} {method new : ℕ} → IsNumber m 1 ROWS method → IsNumber n 0 ROWS new
+      → Values MethodSignature (m ∷ n ∷ []) (Signature method new)
 
 -- the words say this: they are those of a form of the version, and their values are in range
 pub record Says (version : ℕ) (words : List (List ℕ)) (line : Line) : Type 0 where

@@ -3,6 +3,7 @@ use Rattle.std.specs.Prelude.{ℕ, ◌&&◌, Bool, nat_eq}
 use Rattle.ppdb_maps.specs.declared.entries.Count.{Count}
 use Rattle.ppdb_maps.specs.declared.entries.RowImage.{RowImage}
 use Rattle.ppdb_maps.specs.declared.entries.SlotImage.{SlotImage}
+use Rattle.ppdb_maps.specs.declared.entries.SignatureImage.{SignatureImage}
 
 abbrev pub count_entry : ℕ × ℕ → Count
 count_entry e = record { table = e.0; rows = e.1 }
@@ -13,6 +14,9 @@ row_key row = (row.table, row.old)
 
 abbrev pub slot_entry : (ℕ × ℕ) × ℕ → SlotImage
 slot_entry e = record { method = e.0.0; old = e.0.1; new = e.1 }
+
+abbrev pub signature_entry : ℕ × ℕ → SignatureImage
+signature_entry e = record { method = e.0; new = e.1 }
 
 -- both numbers of two pairs are the same
 abbrev pub same_pair : ℕ × ℕ → ℕ × ℕ → Bool

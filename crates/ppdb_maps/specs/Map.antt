@@ -10,6 +10,7 @@ use Rattle.ppdb_base.specs.Offsets.{Offsets, every, gone, lined}
 use Rattle.ppdb_maps.specs.declared.entries.Count.{Count}
 use Rattle.ppdb_maps.specs.declared.entries.RowImage.{RowImage}
 use Rattle.ppdb_maps.specs.declared.entries.SlotImage.{SlotImage}
+use Rattle.ppdb_maps.specs.declared.entries.SignatureImage.{SignatureImage}
 
 -- a method's IL sizes and the runs of its kept offsets
 pub record MethodLine : Type 0 where
@@ -26,11 +27,12 @@ pub record Map : Type 0 where
   pub drops : List ℕ
   pub slotted : List ℕ
   pub slots : List SlotImage
+  pub signatures : List SignatureImage
 
 -- the map of these lists
-abbrev pub map_of : List Count → List RowImage → List MethodLine → List ℕ → List ℕ → List SlotImage → Map
-map_of counts rows methods drops slotted slots =
-    record { counts = counts; rows = rows; methods = methods; drops = drops; slotted = slotted; slots = slots }
+abbrev pub map_of : List Count → List RowImage → List MethodLine → List ℕ → List ℕ → List SlotImage → List SignatureImage → Map
+map_of counts rows methods drops slotted slots signatures =
+    record { counts = counts; rows = rows; methods = methods; drops = drops; slotted = slotted; slots = slots; signatures = signatures }
 
 -- by the first number, and by the second where the first are equal
 abbrev pub pair_cmp : ℕ × ℕ → ℕ × ℕ → Ordering
@@ -44,6 +46,7 @@ pub record Ascends (said : Map) : Type 0 where
   pub drops : IsStrictlySortedBy nat_cmp said.drops
   pub slotted : IsStrictlySortedBy nat_cmp said.slotted
   pub slots : IsStrictlySortedBy pair_cmp (map (λ (s : SlotImage). (s.method, s.old)) said.slots)
+  pub signatures : IsStrictlySortedBy nat_cmp (map (λ (s : SignatureImage). s.method) said.signatures)
 
 -- the count of the table's `rows` line
 abbrev pub count_of : Map → ℕ → Option ℕ
@@ -68,6 +71,10 @@ has_slots said method = list_any (nat_eq method) said.slotted
 abbrev pub slot_line : Map → ℕ → ℕ → Option ℕ
 slot_line said method old = option_map (λ (s : SlotImage). s.new) (find (λ s. nat_eq s.method method && nat_eq s.old old) said.slots)
 
+-- the NEW of the method's `signature` line: the row of its local signature in the output, 0 for none
+abbrev pub signature_line : Map → ℕ → Option ℕ
+signature_line said method = option_map (λ (s : SignatureImage). s.new) (find (λ s. nat_eq s.method method) said.signatures)
+
 -- the image of a row: none for a dropped method; the row itself where the table has no `rows` line; else that of its line
 abbrev pub row_image : Map → ℕ → ℕ → Option ℕ
 row_image said table old =
@@ -77,6 +84,11 @@ row_image said table old =
 -- the same of a number that may be 0 for no row, and 0 where there is none
 abbrev pub moved_row : Map → ℕ → ℕ → ℕ
 moved_row said table old = cond (nat_eq old 0) 0 (unwrap_or (row_image said table old) 0)
+
+-- the local signature of a method (a row of StandAloneSig, ECMA-335 II.22.36, 0 for none), where the input has the row `stored`: the NEW
+-- of its `signature` line, else the image of that row, and 0 where there is none
+abbrev pub moved_signature : Map → ℕ → ℕ → ℕ
+moved_signature said method stored = unwrap_or (signature_line said method) (moved_row said 0x11 stored)
 
 -- the runs and the sizes of a line, or that there is none
 abbrev pub line_offsets : Option MethodLine → Offsets

@@ -5,6 +5,7 @@ use Rattle.ppdb_base.specs.Offsets.{Rise, lined}
 use Rattle.ppdb_maps.specs.declared.entries.Count.{Count}
 use Rattle.ppdb_maps.specs.declared.entries.RowImage.{RowImage}
 use Rattle.ppdb_maps.specs.declared.entries.SlotImage.{SlotImage}
+use Rattle.ppdb_maps.specs.declared.entries.SignatureImage.{SignatureImage}
 use Rattle.ppdb_maps.specs.Forms.{ROWS, OFFSETS, SLOTS}
 use Rattle.ppdb_maps.specs.Map.{Map, MethodLine, Ascends, count_of, is_dropped, has_slots}
 use Rattle.ppdb_maps.specs.Text.{IsMapOf, Refused}
@@ -35,6 +36,10 @@ IsSlottedOf m method = IsRow method × (is_dropped m method ≡ false)
 abbrev pub IsSlotOf : Map → SlotImage → Type 0
 IsSlotOf m slot = (slot.old ≤ SLOTS) × (slot.new ≤ SLOTS) × IsTrue (has_slots m slot.method)
 
+-- a method that is not dropped, and the row of its local signature, 0 for none
+abbrev pub IsSignatureOf : Map → SignatureImage → Type 0
+IsSignatureOf m signature = IsRow signature.method × (signature.new ≤ ROWS) × (is_dropped m signature.method ≡ false)
+
 -- the numbers are in the ranges of map texts, and no line stands where another forbids it
 pub record IsReadable (m : Map) : Type 0 where
   pub ascends : Ascends m
@@ -44,6 +49,7 @@ pub record IsReadable (m : Map) : Type 0 where
   pub drops : AllByRecursion IsRow m.drops
   pub slotted : AllByRecursion (IsSlottedOf m) m.slotted
   pub slots : AllByRecursion (IsSlotOf m) m.slots
+  pub signatures : AllByRecursion (IsSignatureOf m) m.signatures
 
 -- a map that a text has is readable
 abbrev pub MapsAreReadable : Type 0

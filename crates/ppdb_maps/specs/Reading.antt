@@ -4,7 +4,7 @@ use Rattle.ppdb_maps.specs.Forms.{name_of, words_in, since, Values, Tells}
 use Rattle.ppdb_maps.specs.Rules.{BreaksFirst}
 use Rattle.ppdb_maps.specs.declared.words.Words.{Words}
 use Rattle.ppdb_maps.specs.declared.line.Form.{Form}
-use Rattle.ppdb_maps.specs.declared.line.Form.TheVariants.{TableRows, RowMove, MethodSizes, OffsetRun, MethodDrop, MethodSlots, SlotMove}
+use Rattle.ppdb_maps.specs.declared.line.Form.TheVariants.{TableRows, RowMove, MethodSizes, OffsetRun, MethodDrop, MethodSlots, SlotMove, MethodSignature}
 use Rattle.ppdb_maps.specs.declared.line.Line.{Line}
 use Rattle.ppdb_maps.specs.declared.rule.Rule.{Rule}
 
@@ -30,6 +30,7 @@ values_of OffsetRun words = words.first.now ∷ words.second.now ∷ words.third
 values_of MethodDrop words = words.first.now ∷ []
 values_of MethodSlots words = words.first.now ∷ []
 values_of SlotMove words = words.first.now ∷ words.second.now ∷ words.third.now ∷ []
+values_of MethodSignature words = words.first.now ∷ words.second.now ∷ []
 
 -- what the values of a form say, or that one is misspelled or out of its range
 abbrev pub IsLineOfForm : Form → Words → Option Line → Type 0

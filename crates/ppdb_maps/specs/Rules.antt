@@ -5,10 +5,10 @@ use Rattle.ppdb_base.specs.Offsets.{end_of, new_end_of}
 use Rattle.ppdb_maps.specs.Map.{MethodLine}
 use Rattle.ppdb_maps.specs.Words.{IsSilent, line_words}
 use Rattle.ppdb_maps.specs.Forms.{HasForm, Values, Tells}
-use Rattle.ppdb_maps.specs.Before.{count_in, row_in, method_in, methods_of, drop_in, slots_in, slot_in, follows_method}
+use Rattle.ppdb_maps.specs.Before.{count_in, row_in, method_in, methods_of, drop_in, slots_in, slot_in, signature_in, follows_method}
 use Rattle.ppdb_maps.specs.declared.line.Form.{Form}
 use Rattle.ppdb_maps.specs.declared.line.Line.{Line}
-use Rattle.ppdb_maps.specs.declared.line.Line.TheVariants.{Rows, Row, Method, Kept, Dropped, Slots, Slot}
+use Rattle.ppdb_maps.specs.declared.line.Line.TheVariants.{Rows, Row, Method, Kept, Dropped, Slots, Slot, Signature}
 use Rattle.ppdb_maps.specs.declared.rule.Rule.{Rule}
 use Rattle.ppdb_maps.specs.declared.rule.Rule.TheVariants.{FirstLine, UnknownForm, NumberFaults, Repeated, Undeclared, NoMethod, Overlap, Beyond, NamesDropped}
 
@@ -34,6 +34,11 @@ BeginsEarly run (first ∷ second ∷ runs) = BeginsEarly run (second ∷ runs)
 abbrev pub EndsBeyond : Run → MethodLine → Type 0
 EndsBeyond run line = (line.old_size < end_of run) ⊎ (line.new_size < new_end_of run)
 
+-- the method has a `method`, a `row`, a `slots` or a `signature` line, which no `drop` may follow
+abbrev pub IsNamed : List Line → ℕ → Type 0
+IsNamed before method =
+    IsSome (method_in before method) ⊎ IsSome (row_in before 0x06 method) ⊎ IsTrue (slots_in before method) ⊎ IsSome (signature_in before method)
+
 -- what a line says breaks a rule by the lines before it
 pub data Breaks (before : List Line) : Rule → Line → Type 0 where
   second_rows : {t n : ℕ} → IsSome (count_in before t) → Breaks before Repeated (Rows t n)
@@ -42,6 +47,7 @@ pub data Breaks (before : List Line) : Rule → Line → Type 0 where
   second_drop : {m : ℕ} → IsTrue (drop_in before m) → Breaks before Repeated (Dropped m)
   second_slots : {m : ℕ} → IsTrue (slots_in before m) → Breaks before Repeated (Slots m)
   second_slot : {m o n : ℕ} → IsSome (slot_in before m o) → Breaks before Repeated (Slot m o n)
+  second_signature : {m n : ℕ} → IsSome (signature_in before m) → Breaks before Repeated (Signature m n)
   row_alone : {t o n : ℕ} → count_in before t ≡ None → Breaks before Undeclared (Row t o n)
   slot_alone : {m o n : ℕ} → slots_in before m ≡ false → Breaks before Undeclared (Slot m o n)
   run_alone : {run : Run} → follows_method before ≡ false → Breaks before NoMethod (Kept run)
@@ -49,11 +55,11 @@ pub data Breaks (before : List Line) : Rule → Line → Type 0 where
       → BeginsEarly run line.runs → Breaks before Overlap (Kept run)
   run_long : {run : Run} {line : MethodLine} {lines : List MethodLine} → methods_of before ≡ line ∷ lines
       → EndsBeyond run line → Breaks before Beyond (Kept run)
-  drop_named : {m : ℕ} → IsSome (method_in before m) ⊎ IsSome (row_in before 0x06 m) ⊎ IsTrue (slots_in before m)
-      → Breaks before NamesDropped (Dropped m)
+  drop_named : {m : ℕ} → IsNamed before m → Breaks before NamesDropped (Dropped m)
   dropped_method : {m o n : ℕ} → IsTrue (drop_in before m) → Breaks before NamesDropped (Method m o n)
   dropped_row : {t o n : ℕ} → t ≡ 0x06 → IsTrue (drop_in before o) → Breaks before NamesDropped (Row t o n)
   dropped_slots : {m : ℕ} → IsTrue (drop_in before m) → Breaks before NamesDropped (Slots m)
+  dropped_signature : {m n : ℕ} → IsTrue (drop_in before m) → Breaks before NamesDropped (Signature m n)
 
 -- a line after the first breaks a rule
 pub data BreaksLine (version : ℕ) (before : List Line) (text : List ℕ) : Rule → Type 0 where

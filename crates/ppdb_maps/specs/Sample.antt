@@ -25,4 +25,5 @@ sample_map_of n = record {
   drops = [];
   slotted = [];
   slots = [];
+  signatures = [];
 }

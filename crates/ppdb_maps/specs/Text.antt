@@ -1,9 +1,9 @@
 -- Map texts (docs/FORMAT.md, "Map texts"): the map that a text has, and its refused line.
 use Rattle.std.specs.Prelude.{◌≡◌, ℕ, ◌+◌, ◌++◌, List, [], ◌∷◌, length}
-use Rattle.ppdb_maps.specs.Map.{Map, Ascends, count_of, row_line, method_line, is_dropped, has_slots, slot_line}
+use Rattle.ppdb_maps.specs.Map.{Map, Ascends, count_of, row_line, method_line, is_dropped, has_slots, slot_line, signature_line}
 use Rattle.ppdb_maps.specs.Words.{text_lines}
 use Rattle.ppdb_maps.specs.Forms.{IsHead, Tells}
-use Rattle.ppdb_maps.specs.Before.{count_in, row_in, method_in, drop_in, slots_in, slot_in}
+use Rattle.ppdb_maps.specs.Before.{count_in, row_in, method_in, drop_in, slots_in, slot_in, signature_in}
 use Rattle.ppdb_maps.specs.Rules.{Keeps, BreaksFirst, kind_of}
 use Rattle.ppdb_maps.specs.declared.line.Line.{Line}
 use Rattle.ppdb_maps.specs.declared.rule.Rule.{Rule}
@@ -31,6 +31,7 @@ pub record HoldsWhat (said : List Line) (holds : Map) : Type 0 where
   pub drops : (method : ℕ) → is_dropped holds method ≡ drop_in said method
   pub slotted : (method : ℕ) → has_slots holds method ≡ slots_in said method
   pub slots : (method old : ℕ) → slot_line holds method old ≡ slot_in said method old
+  pub signatures : (method : ℕ) → signature_line holds method ≡ signature_in said method
   pub ascends : Ascends holds
 
 -- the text has this map

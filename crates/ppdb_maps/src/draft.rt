@@ -1,14 +1,15 @@
 // What the lines of a map text say together, while they are read.
-ghost use Rattle.std.specs.Prelude.{ℕ, ◌<◌, [], List, OnOk, IfOk};
+ghost use Rattle.std.specs.Prelude.{ℕ, ◌<◌, ◌↔◌, [], List, IsTrue, OnOk, IfOk};
 ghost use Rattle.ppdb_maps.specs.Loops.{IsTextAdded};
 ghost use Rattle.ppdb_maps.specs.Text.{HoldsWhat, Read};
 ghost use Rattle.ppdb_maps.specs.declared.line.Line.{Line};
-ghost use Rattle.ppdb_maps.specs.declared.line.Line.TheVariants.{Rows, Row, Method as SizesOf, Kept, Dropped, Slots, Slot};
-ghost use Rattle.ppdb_maps.specs.Drafts.{Holds, IsClosed, IsAdded, IsAddedTo, HasLength, IsNamedIn};
+ghost use Rattle.ppdb_maps.specs.declared.line.Line.TheVariants.{Rows, Row, Method as SizesOf, Kept, Dropped, Slots, Slot, Signature};
+ghost use Rattle.ppdb_maps.specs.Drafts.{Holds, IsClosed, IsAdded, IsAddedTo, HasLength};
+ghost use Rattle.ppdb_maps.specs.Rules.{IsNamed};
 
 use crate::bit_set::RowSet;
 use crate::entries::RowImage;
-use crate::finish::{counts_of, in_order, methods_of, numbers_of, slots_of};
+use crate::finish::{counts_of, in_order, methods_of, numbers_of, signatures_of, slots_of};
 use crate::line::Line;
 use crate::map_text::MapText;
 use crate::method::Method;
@@ -32,6 +33,7 @@ pub struct Draft {
     drops: BTreeSet<u32>,
     slotted: BTreeSet<u32>,
     slots: BTreeMap<(u32, u16), u16>,
+    signatures: BTreeMap<u32, u32>,
 }
 
 impl Draft {
@@ -48,6 +50,7 @@ impl Draft {
             drops: BTreeSet::new(alloc),
             slotted: BTreeSet::new(alloc),
             slots: BTreeMap::new(alloc),
+            signatures: BTreeMap::new(alloc),
         }
     }
 
@@ -120,13 +123,14 @@ impl Draft {
         Ok(())
     }
 
-    /// Whether the method has a `method`, a `row` or a `slots` line.
+    /// Whether the method has a `method`, a `row`, a `slots` or a `signature` line.
     fn is_named(&self, method: u32) -> bool
-        ensures { (before : List Line) → IsClosed before self.now → IsNamedIn before method result }
+        ensures { (before : List Line) → IsClosed before self.now → IsTrue result ↔ IsNamed before method }
     {
         self.methods.contains_key(&method)
             || self.moved.contains(0x06, method)
             || self.slotted.contains(&method)
+            || self.signatures.contains_key(&method)
     }
 
     fn add_slots(&mut self, method: u32) -> Result<(), Refusal>
@@ -152,6 +156,19 @@ impl Draft {
             return Err(Refusal::Breaks(Rule::Undeclared));
         }
         self.slots.insert((method, old), new)?;
+        Ok(())
+    }
+
+    fn add_signature(&mut self, method: u32, new: u32) -> Result<(), Refusal>
+        ensures { IsAdded (Signature method new) self.old result self.new }
+    {
+        if self.signatures.contains_key(&method) {
+            return Err(Refusal::Breaks(Rule::Repeated));
+        }
+        if self.drops.contains(&method) {
+            return Err(Refusal::Breaks(Rule::NamesDropped));
+        }
+        self.signatures.insert(method, new)?;
         Ok(())
     }
 
@@ -201,6 +218,10 @@ impl Draft {
                 self.close()?;
                 self.add_slot(method, old, new)
             }
+            Line::Signature { method, new } => {
+                self.close()?;
+                self.add_signature(method, new)
+            }
         }
     }
 
@@ -228,6 +249,7 @@ impl Draft {
             drops,
             slotted,
             slots,
+            signatures,
         } = self;
         let counts = counts_of(alloc, counts)?;
         let rows = in_order(rows)?;
@@ -235,6 +257,7 @@ impl Draft {
         let drops = numbers_of(alloc, drops)?;
         let slotted = numbers_of(alloc, slotted)?;
         let slots = slots_of(alloc, slots)?;
-        Ok(MapText::new(counts, rows, methods, drops, slotted, slots))
+        let signatures = signatures_of(alloc, signatures)?;
+        Ok(MapText::new(counts, rows, methods, drops, slotted, slots, signatures))
     }
 }

@@ -22,3 +22,10 @@ pub struct SlotImage {
     pub old: u16,
     pub new: u16,
 }
+
+/// The local signature of a method: a row of StandAloneSig, or 0 for none.
+#[derive(Clone, Copy)]
+pub struct SignatureImage {
+    pub method: u32,
+    pub new: u32,
+}

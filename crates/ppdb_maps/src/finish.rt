@@ -4,10 +4,10 @@ ghost use Rattle.std.specs.Ordering.{nat_cmp};
 ghost use Rattle.std.specs.BTreeMap.{IsOrdered, values};
 ghost use Rattle.std.specs.BTreeSet as sorted;
 ghost use Rattle.ppdb_maps.specs.Map.{pair_cmp};
-ghost use Rattle.ppdb_maps.specs.Gathered.{count_entry, row_key, slot_entry};
+ghost use Rattle.ppdb_maps.specs.Gathered.{count_entry, row_key, signature_entry, slot_entry};
 ghost use Rattle.std.specs.List.Sorted.{IsPermutation, IsSortedByKey};
 
-use crate::entries::{Count, RowImage, SlotImage};
+use crate::entries::{Count, RowImage, SignatureImage, SlotImage};
 use crate::method::Method;
 use std::alloc::{AllocError, Global};
 use std::collections::{BTreeMap, BTreeSet};
@@ -41,6 +41,19 @@ pub fn slots_of(
     slots
         .into_iter()
         .map(|((method, old), new)| SlotImage { method, old, new })
+        .collect(alloc)
+}
+
+pub fn signatures_of(
+    alloc: Global,
+    signatures: BTreeMap<u32, u32>,
+) -> Result<Vec<SignatureImage>, AllocError>
+    ensures ordered { IsOrdered nat_cmp signatures }
+    ensures items { IfOk result (λ v. v.items ≡ map signature_entry signatures.entries) }
+{
+    signatures
+        .into_iter()
+        .map(|(method, new)| SignatureImage { method, new })
         .collect(alloc)
 }
 

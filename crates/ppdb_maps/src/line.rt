@@ -18,6 +18,8 @@ pub enum Form {
     MethodSlots,
     /// `slot M OLD NEW`
     SlotMove,
+    /// `signature M NEW`
+    MethodSignature,
 }
 
 /// What a line after the first says.
@@ -53,5 +55,10 @@ pub enum Line {
         method: u32,
         old: u16,
         new: u16,
+    },
+    /// The local signature of a method.
+    Signature {
+        method: u32,
+        new: u32,
     },
 }

@@ -2,15 +2,19 @@
 ghost use Rattle.std.specs.Prelude.{◌≡◌, [], slice_get, option_map};
 ghost use Rattle.ppdb_maps.specs.Map.{MethodLine, map_of, count_of, output_count, row_line, row_image, moved_row};
 ghost use Rattle.ppdb_maps.specs.Map.{is_dropped, has_slots, slot_line, slot_image, offsets_in, rows_of, slots_of};
+ghost use Rattle.ppdb_maps.specs.Map.{signature_line, moved_signature};
 ghost use Rattle.ppdb_maps.specs.Readable.{IsReadable};
 ghost use Rattle.ppdb_maps.specs.declared.entries.RowImage.{RowImage};
+ghost use Rattle.ppdb_maps.specs.declared.entries.SignatureImage.{SignatureImage};
 ghost use Rattle.ppdb_maps.specs.declared.entries.SlotImage.{SlotImage};
 ghost use Rattle.ppdb_maps.specs.Says.{offsets_of};
 
-use crate::entries::{Count, RowImage, SlotImage};
+use crate::entries::{Count, RowImage, SignatureImage, SlotImage};
 use crate::method::Method;
 use crate::method_map::MethodMap;
-use crate::search::{count_at, has_number, method_at, nth_row, nth_slot, row_near, slot_at};
+use crate::search::{
+    count_at, has_number, method_at, nth_row, nth_slot, row_near, signature_at, slot_at,
+};
 use crate::starts::Starts;
 use std::alloc::Global;
 use std::marker::Model;
@@ -26,6 +30,7 @@ pub struct MapText {
     drops: Vec<u32>,
     slotted: Vec<u32>,
     slots: Vec<SlotImage>,
+    signatures: Vec<SignatureImage>,
 }
 
 impl Model for MapText {
@@ -35,15 +40,15 @@ impl Model for MapText {
 
     ghost use Rattle.ppdb_maps.specs.Readable.{IsReadable};
 
-    ghost view = { λ m. map_of m.counts.items m.rows.items m.methods.items m.drops.items m.slotted.items m.slots.items };
+    ghost view = { λ m. map_of m.counts.items m.rows.items m.methods.items m.drops.items m.slotted.items m.slots.items m.signatures.items };
 
-    ghost invariant = { λ m. IsReadable (map_of m.counts.items m.rows.items m.methods.items m.drops.items m.slotted.items m.slots.items) };
+    ghost invariant = { λ m. IsReadable (map_of m.counts.items m.rows.items m.methods.items m.drops.items m.slotted.items m.slots.items m.signatures.items) };
 }
 
 impl MapText {
     /// The map without lines: nothing changes. It takes no memory.
     pub fn empty(alloc: Global) -> MapText
-        ensures { result ≡ map_of [] [] [] [] [] [] }
+        ensures { result ≡ map_of [] [] [] [] [] [] [] }
     {
         MapText {
             counts: Vec::new(alloc),
@@ -53,6 +58,7 @@ impl MapText {
             drops: Vec::new(alloc),
             slotted: Vec::new(alloc),
             slots: Vec::new(alloc),
+            signatures: Vec::new(alloc),
         }
     }
 
@@ -64,9 +70,10 @@ impl MapText {
         drops: Vec<u32>,
         slotted: Vec<u32>,
         slots: Vec<SlotImage>,
+        signatures: Vec<SignatureImage>,
     ) -> MapText
-        requires { IsReadable (map_of counts.items rows.items methods.items drops.items slotted.items slots.items) }
-        ensures { result ≡ map_of counts.items rows.items methods.items drops.items slotted.items slots.items }
+        requires { IsReadable (map_of counts.items rows.items methods.items drops.items slotted.items slots.items signatures.items) }
+        ensures { result ≡ map_of counts.items rows.items methods.items drops.items slotted.items slots.items signatures.items }
     {
         let starts = Starts::of(rows.as_slice());
         MapText {
@@ -77,6 +84,7 @@ impl MapText {
             drops,
             slotted,
             slots,
+            signatures,
         }
     }
 
@@ -181,6 +189,24 @@ impl MapText {
         }
     }
 
+    /// The NEW of the method's `signature` line: its local signature in the output, 0 for none.
+    pub fn signature(&self, method: u32) -> Option<u32>
+        ensures { result ≡ signature_line self.now method }
+    {
+        signature_at(self.signatures.as_slice(), method).map(|signature| signature.new)
+    }
+
+    /// The local signature of a method in the output, where that in the input is `stored`: the NEW
+    /// of its `signature` line, else the image of the row `stored`, or 0 where there is none.
+    pub fn moved_signature(&self, method: u32, stored: u32) -> u32
+        ensures { result ≡ moved_signature self.now method stored }
+    {
+        match self.signature(method) {
+            Some(new) => new,
+            None => self.moved_row(0x11, stored),
+        }
+    }
+
     /// The methods with a `method` line, in ascending order; none past the last.
     pub fn method_line(&self, index: u32) -> Option<u32>
         ensures { result ≡ option_map (λ (l : MethodLine). l.method) (slice_get self.now.methods index) }
@@ -216,5 +242,15 @@ impl MapText {
         ensures { result ≡ option_map (λ (s : SlotImage). (s.old, s.new)) (slice_get (slots_of self.now method) index) }
     {
         nth_slot(self.slots.as_slice(), method, index).map(|slot| (slot.old, slot.new))
+    }
+
+    /// The methods with a `signature` line and their local signatures, in ascending order; none
+    /// past the last.
+    pub fn signature_line(&self, index: u32) -> Option<(u32, u32)>
+        ensures { result ≡ option_map (λ (s : SignatureImage). (s.method, s.new)) (slice_get self.now.signatures index) }
+    {
+        self.signatures
+            .get(index as usize)
+            .map(|signature| (signature.method, signature.new))
     }
 }

@@ -64,6 +64,14 @@ pub fn row(word: &[u8]) -> Option<u32>
     number(word, 1, 16_777_215)
 }
 
+/// A row or 0 for none, or a count of rows: 0 to 16777215.
+pub fn row_or_zero(word: &[u8]) -> Option<u32>
+    ensures some { IfSome result (IsNumber word.now 0 ROWS) }
+    ensures none { IfNone result ((n : ℕ) → IsNumber word.now 0 ROWS n → ⊥) }
+{
+    number(word, 0, 16_777_215)
+}
+
 /// An offset or a size, 0 to 2147483647.
 pub fn offset(word: &[u8]) -> Option<u32>
     ensures some { IfSome result (IsNumber word.now 0 OFFSETS) }

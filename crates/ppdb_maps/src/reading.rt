@@ -3,10 +3,10 @@ ghost use Rattle.std.specs.Prelude.{◌≡◌, ℕ, IfSome, IfNone, IsTrue, ◌�
 ghost use Rattle.ppdb_maps.specs.Words.{IsSilent};
 ghost use Rattle.ppdb_maps.specs.Forms.{IsHead, words_in, since};
 ghost use Rattle.ppdb_maps.specs.Reading.{IsNamed, IsFormOf, IsLineOfForm, IsTold};
-ghost use Rattle.ppdb_maps.specs.declared.line.Form.TheVariants.{TableRows, RowMove, MethodSizes, OffsetRun, MethodDrop, MethodSlots, SlotMove};
+ghost use Rattle.ppdb_maps.specs.declared.line.Form.TheVariants.{TableRows, RowMove, MethodSizes, OffsetRun, MethodDrop, MethodSlots, SlotMove, MethodSignature};
 
 use crate::line::{Form, Line};
-use crate::number::{number, offset, row, slot, table};
+use crate::number::{number, offset, row, row_or_zero, slot, table};
 use crate::rule::Rule;
 use crate::words::{Words, words_of};
 use ppdb_base::Run;
@@ -19,7 +19,7 @@ pub fn version_of(line: &[u8]) -> Option<u8>
     let [prefix @ .., digit] = line else {
         return None;
     };
-    if prefix == b"ppdbmap ".as_slice() && b'1' <= *digit && *digit <= b'3' {
+    if prefix == b"ppdbmap ".as_slice() && b'1' <= *digit && *digit <= b'4' {
         Some(*digit - b'0')
     } else {
         None
@@ -58,6 +58,9 @@ fn named(word: &[u8]) -> Option<Form>
     if word == b"slots".as_slice() {
         return Some(Form::MethodSlots);
     }
+    if word == b"signature".as_slice() {
+        return Some(Form::MethodSignature);
+    }
     if word == b"rows".as_slice() {
         return Some(Form::TableRows);
     }
@@ -71,7 +74,7 @@ impl Form {
     {
         match self {
             Form::MethodDrop | Form::MethodSlots => 2,
-            Form::TableRows => 3,
+            Form::TableRows | Form::MethodSignature => 3,
             Form::RowMove | Form::MethodSizes | Form::OffsetRun | Form::SlotMove => 4,
         }
     }
@@ -84,6 +87,7 @@ impl Form {
             Form::TableRows | Form::RowMove | Form::MethodSizes | Form::OffsetRun => 1,
             Form::MethodDrop => 2,
             Form::MethodSlots | Form::SlotMove => 3,
+            Form::MethodSignature => 4,
         }
     }
 }
@@ -104,7 +108,7 @@ fn rows_line(words: &Words<'_>) -> Option<Line>
     ensures { IsLineOfForm TableRows words.now result }
 {
     let table = table(words.first)?;
-    let rows = number(words.second, 0, 16_777_215)?;
+    let rows = row_or_zero(words.second)?;
     Some(Line::Rows { table, rows })
 }
 
@@ -162,6 +166,14 @@ fn slot_line(words: &Words<'_>) -> Option<Line>
     Some(Line::Slot { method, old, new })
 }
 
+fn signature_line(words: &Words<'_>) -> Option<Line>
+    ensures { IsLineOfForm MethodSignature words.now result }
+{
+    let method = row(words.first)?;
+    let new = row_or_zero(words.second)?;
+    Some(Line::Signature { method, new })
+}
+
 /// What the values of a form say; none where one is misspelled or out of its range.
 fn line_of(form: Form, words: &Words<'_>) -> Option<Line>
     ensures { IsLineOfForm form words.now result }
@@ -174,6 +186,7 @@ fn line_of(form: Form, words: &Words<'_>) -> Option<Line>
         Form::MethodDrop => drop_line(words),
         Form::MethodSlots => slots_line(words),
         Form::SlotMove => slot_line(words),
+        Form::MethodSignature => signature_line(words),
     }
 }
 

@@ -58,5 +58,6 @@ pub fn sample_map(alloc: Global, n: u32) -> Result<MapText, Memory>
     let drops = Vec::new(alloc);
     let slotted = Vec::new(alloc);
     let slots = Vec::new(alloc);
-    Ok(MapText::new(counts, rows, methods, drops, slotted, slots))
+    let signatures = Vec::new(alloc);
+    Ok(MapText::new(counts, rows, methods, drops, slotted, slots, signatures))
 }

@@ -6,11 +6,12 @@ ghost use Rattle.std.specs.List.Sorted.{IsStrictlySortedBy};
 ghost use Rattle.std.specs.Ordering.{nat_cmp};
 ghost use Rattle.ppdb_maps.specs.declared.entries.Count.{Count};
 ghost use Rattle.ppdb_maps.specs.declared.entries.RowImage.{RowImage};
+ghost use Rattle.ppdb_maps.specs.declared.entries.SignatureImage.{SignatureImage};
 ghost use Rattle.ppdb_maps.specs.declared.entries.SlotImage.{SlotImage};
 ghost use Rattle.ppdb_maps.specs.Map.{MethodLine, pair_cmp};
 ghost use Rattle.ppdb_maps.specs.Search.{FindsBy, CountsBy};
 
-use crate::entries::{Count, RowImage, SlotImage};
+use crate::entries::{Count, RowImage, SignatureImage, SlotImage};
 use crate::method::Method;
 
 /// The item that is `at` a key, where all items before it are `before` the key.
@@ -93,6 +94,18 @@ pub fn slot_at(slots: &[SlotImage], method: u32, old: u16) -> Option<&SlotImage>
         slots,
         |slot| slot.method < method || slot.method == method && slot.old < old,
         |slot| slot.method == method && slot.old == old,
+    )
+}
+
+/// The local signature of a method.
+pub fn signature_at(signatures: &[SignatureImage], method: u32) -> Option<&SignatureImage>
+    requires { IsStrictlySortedBy nat_cmp (map (λ (s : SignatureImage). s.method) signatures.now) }
+    ensures { option_copied result ≡ find (λ s. nat_eq s.method method) signatures.now }
+{
+    find_by(
+        signatures,
+        |signature| signature.method < method,
+        |signature| signature.method == method,
     )
 }
 

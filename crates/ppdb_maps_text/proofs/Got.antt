@@ -1,5 +1,5 @@
 -- What is known once the lines of a text were read down to some line: what they answer, and what is still ahead.
-use Rattle.std.proofs.Common.{ℕ, ◌≡◌, ◌≤◌, ◌++◌, true, false, List, [], ◌∷◌, sym, ap, ◌∙◌, inl, inr, map}
+use Rattle.std.proofs.Common.{ℕ, ◌≡◌, ◌≤◌, ◌++◌, true, false, List, [], ◌∷◌, sym, ap, ◌∙◌, inl, inr, map, lit≤}
 use Rattle.std.specs.Prelude.{nat_eq, is_some}
 use Rattle.std.specs.List.{AllByRecursion, find}
 use Rattle.std.specs.Ordering.{nat_cmp}
@@ -10,29 +10,30 @@ use Rattle.std.proofs.lemmas.List.{append_assoc}
 use Rattle.ppdb_maps.specs.declared.entries.Count.{Count}
 use Rattle.ppdb_maps.specs.declared.entries.RowImage.{RowImage}
 use Rattle.ppdb_maps.specs.declared.entries.SlotImage.{SlotImage}
+use Rattle.ppdb_maps.specs.declared.entries.SignatureImage.{SignatureImage}
 use Rattle.ppdb_maps.specs.declared.line.Line.{Line}
 use Rattle.ppdb_maps.specs.declared.line.Line.TheVariants.{Rows, Dropped, Slots}
 use Rattle.ppdb_maps.specs.declared.rule.Rule.{Rule}
-use Rattle.ppdb_maps.specs.Before.{count_in, row_in, method_in, methods_of, drop_in, slots_in, slot_in}
+use Rattle.ppdb_maps.specs.Before.{count_in, row_in, method_in, methods_of, drop_in, slots_in, slot_in, signature_in}
 use Rattle.ppdb_maps.specs.Gathered.{same_pair}
-use Rattle.ppdb_maps.specs.Map.{Map, MethodLine, pair_cmp, count_of, row_line, is_dropped, has_slots, slot_line}
-use Rattle.ppdb_maps.specs.Readable.{IsCount, IsRow, IsRowOf, IsSlottedOf, IsSlotOf}
+use Rattle.ppdb_maps.specs.Map.{Map, MethodLine, pair_cmp, count_of, row_line, is_dropped, has_slots, slot_line, signature_line}
+use Rattle.ppdb_maps.specs.Readable.{IsCount, IsRow, IsRowOf, IsSlottedOf, IsSlotOf, IsSignatureOf}
 use Rattle.ppdb_maps.specs.Rules.{Breaks, second_rows, second_drop, second_slots, drop_named, dropped_slots}
 use Rattle.ppdb_maps.specs.Text.{Read, further}
 use Rattle.ppdb_maps.proofs.OneMap.{same_number, pair_is, pair_total}
-use Rattle.ppdb_maps.proofs.Refusing.{row_keeps, slot_keeps}
+use Rattle.ppdb_maps.proofs.Refusing.{row_keeps, slot_keeps, signature_keeps}
 use Rattle.ppdb_maps.proofs.Saying.{breaks_said}
-use Rattle.ppdb_maps_text.specs.MapTexts.{line_text, row_says, slot_says}
+use Rattle.ppdb_maps_text.specs.MapTexts.{version_with, line_text, row_says, slot_says, signature_says}
 use Rattle.ppdb_maps_text.proofs.Ahead.{Ahead, AheadOf, none_ahead, not_yet, steps, not_before, before, not_yet_of, steps_of, not_before_of, none_of_them}
 use Rattle.ppdb_maps_text.proofs.Ahead.{before_of}
-use Rattle.ppdb_maps_text.proofs.Told.{IsTold, rows_told, row_told, drop_told, slots_told, slot_told}
+use Rattle.ppdb_maps_text.proofs.Told.{IsTold, rows_told, row_told, drop_told, slots_told, slot_told, signature_told}
 use Rattle.ppdb_maps_text.proofs.Words.{IsPlain}
 
 pub record Got (m : Map) (texts : List (List ℕ)) (after : List Line) (cs : List Count) (rs : List RowImage) (ds ss : List ℕ) (sl : List SlotImage)
-    (Rest : List Line → Type 0) : Type 0 where
+    (sg : List SignatureImage) (Rest : List Line → Type 0) : Type 0 where
   pub said : List Line
   pub prefix : List (List ℕ)
-  pub read : Read 3 prefix said
+  pub read : Read (version_with m.signatures) prefix said
   pub plain : AllByRecursion IsPlain prefix
   pub whole : prefix ++ map line_text after ≡ texts
   pub counts : Ahead (λ (c : Count). c.table) (λ (c : Count). c.rows) nat_eq nat_cmp (λ t. count_in said t) cs (λ t. count_of m t)
@@ -42,7 +43,14 @@ pub record Got (m : Map) (texts : List (List ℕ)) (after : List Line) (cs : Lis
   pub slotted : AheadOf (λ n. slots_in said n) ss (λ n. has_slots m n)
   pub slots : Ahead (λ (s : SlotImage). (s.method, s.old)) (λ (s : SlotImage). s.new) same_pair pair_cmp (λ k. slot_in said k.0 k.1) sl
       (λ k. slot_line m k.0 k.1)
+  pub signatures : Ahead (λ (s : SignatureImage). s.method) (λ (s : SignatureImage). s.new) nat_eq nat_cmp (λ n. signature_in said n) sg
+      (λ n. signature_line m n)
   pub rest : Rest said
+
+-- all texts are of version 3 at least, and those with `signature` lines of version 4
+pub from_three : (signatures : List SignatureImage) → 3 ≤ version_with signatures
+from_three [] = lit≤ tt
+from_three (s ∷ ss) = lit≤ tt
 
 -- no `method` line was read
 abbrev pub NoMethods : List Line → Type 0
@@ -53,12 +61,12 @@ all_then P [] x all is = (is, tt)
 all_then P (y ∷ ys) x all is = (all.0, all_then P ys x all.1 is)
 
 -- one line more
-pub read_on : (prefix texts : List (List ℕ)) (said after : List Line) (line : Line) → Read 3 prefix said → AllByRecursion IsPlain prefix
-    → prefix ++ map line_text (line ∷ after) ≡ texts → IsTold line → ((rule : Rule) → Breaks said rule line → ⊥)
-    → Read 3 (prefix ++ line_text line ∷ []) (line ∷ said) × AllByRecursion IsPlain (prefix ++ line_text line ∷ [])
+pub read_on : (version : ℕ) (prefix texts : List (List ℕ)) (said after : List Line) (line : Line) → Read version prefix said → AllByRecursion IsPlain prefix
+    → prefix ++ map line_text (line ∷ after) ≡ texts → IsTold version line → ((rule : Rule) → Breaks said rule line → ⊥)
+    → Read version (prefix ++ line_text line ∷ []) (line ∷ said) × AllByRecursion IsPlain (prefix ++ line_text line ∷ [])
     × ((prefix ++ line_text line ∷ []) ++ map line_text after ≡ texts)
-read_on prefix texts said after line read plain whole told keeps = (
-  further read told.tells (λ rule broken. keeps rule (breaks_said 3 said (line_text line) line rule told.tells broken)),
+read_on version prefix texts said after line read plain whole told keeps = (
+  further read told.tells (λ rule broken. keeps rule (breaks_said version said (line_text line) line rule told.tells broken)),
   all_then IsPlain prefix (line_text line) plain told.plain,
   append_assoc prefix (line_text line ∷ []) (map line_text after) ∙ whole,
 )
@@ -67,11 +75,11 @@ rows_keep : (said : List Line) (t n : ℕ) → is_some (count_in said t) ≡ fal
 rows_keep said t n new rule (second_rows h) = false≢true (sym new ∙ h)
 
 drop_keeps : (said : List Line) (d : ℕ) → drop_in said d ≡ false → is_some (method_in said d) ≡ false → is_some (row_in said 0x06 d) ≡ false
-    → slots_in said d ≡ false → (rule : Rule) → Breaks said rule (Dropped d) → ⊥
-drop_keeps said d new method row slots rule (second_drop h) = false≢true (sym new ∙ h)
-drop_keeps said d new method row slots rule (drop_named h) = elim h [
+    → slots_in said d ≡ false → is_some (signature_in said d) ≡ false → (rule : Rule) → Breaks said rule (Dropped d) → ⊥
+drop_keeps said d new method row slots signature rule (second_drop h) = false≢true (sym new ∙ h)
+drop_keeps said d new method row slots signature rule (drop_named h) = elim h [
   | inl a ↦ false≢true (sym method ∙ a)
-  | inr b ↦ elim b [ inl a ↦ false≢true (sym row ∙ a) | inr a ↦ false≢true (sym slots ∙ a) ]
+  | inr b ↦ elim b [ inl a ↦ false≢true (sym row ∙ a) | inr e ↦ elim e [ inl a ↦ false≢true (sym slots ∙ a) | inr a ↦ false≢true (sym signature ∙ a) ] ]
 ]
 
 slots_keep : (said : List Line) (s : ℕ) → slots_in said s ≡ false → drop_in said s ≡ false → (rule : Rule) → Breaks said rule (Slots s) → ⊥
@@ -79,12 +87,15 @@ slots_keep said s new drop rule (second_slots h) = false≢true (sym new ∙ h)
 slots_keep said s new drop rule (dropped_slots h) = false≢true (sym drop ∙ h)
 
 module _ (m : Map) (texts : List (List ℕ)) where
-  pub add_count : (after : List Line) (c : Count) (cs : List Count) (rs : List RowImage) (ds ss : List ℕ) (sl : List SlotImage) → IsCount c
-      → Got m texts (Rows c.table c.rows ∷ after) (c ∷ cs) rs ds ss sl NoMethods → Got m texts after cs rs ds ss sl NoMethods
-  add_count after c cs rs ds ss sl is g =
+  abbrev version : ℕ
+  version = version_with m.signatures
+
+  pub add_count : (after : List Line) (c : Count) (cs : List Count) (rs : List RowImage) (ds ss : List ℕ) (sl : List SlotImage) (sg : List SignatureImage) → IsCount c
+      → Got m texts (Rows c.table c.rows ∷ after) (c ∷ cs) rs ds ss sl sg NoMethods → Got m texts after cs rs ds ss sl sg NoMethods
+  add_count after c cs rs ds ss sl sg is g =
       let new = not_yet (λ (c : Count). c.table) (λ (c : Count). c.rows) nat_eq nat_cmp same_number nat_cmp_total (λ t. count_in g.said t) c cs
       (λ t. count_of m t) g.counts in
-      let next = read_on g.prefix texts g.said after (Rows c.table c.rows) g.read g.plain g.whole (rows_told c.table c.rows is.0 is.1)
+      let next = read_on version g.prefix texts g.said after (Rows c.table c.rows) g.read g.plain g.whole (rows_told version (from_three m.signatures) c.table c.rows is.0 is.1)
       (rows_keep g.said c.table c.rows new) in
       record {
         said = Rows c.table c.rows ∷ g.said;
@@ -98,13 +109,14 @@ module _ (m : Map) (texts : List (List ℕ)) where
         drops = g.drops;
         slotted = g.slotted;
         slots = g.slots;
+        signatures = g.signatures;
         rest = g.rest;
       }
 
-  pub add_row : (after : List Line) (r : RowImage) (cs : List Count) (rs : List RowImage) (ds ss : List ℕ) (sl : List SlotImage) → r.table ≤ 0x2c
+  pub add_row : (after : List Line) (r : RowImage) (cs : List Count) (rs : List RowImage) (ds ss : List ℕ) (sl : List SlotImage) (sg : List SignatureImage) → r.table ≤ 0x2c
       → IsRowOf m r → AllByRecursion (λ y. nat_cmp r.table y ≡ Less) (map (λ (c : Count). c.table) cs)
-      → Got m texts (row_says r ∷ after) cs (r ∷ rs) ds ss sl NoMethods → Got m texts after cs rs ds ss sl NoMethods
-  add_row after r cs rs ds ss sl known is below g =
+      → Got m texts (row_says r ∷ after) cs (r ∷ rs) ds ss sl sg NoMethods → Got m texts after cs rs ds ss sl sg NoMethods
+  add_row after r cs rs ds ss sl sg known is below g =
       let key : RowImage → ℕ × ℕ = λ r. (r.table, r.old) in
       let new = not_yet key (λ (r : RowImage). r.new) same_pair pair_cmp pair_is pair_total (λ k. row_in g.said k.0 k.1) r rs
       (λ k. row_line m k.0 k.1) g.rows in
@@ -113,8 +125,8 @@ module _ (m : Map) (texts : List (List ℕ)) where
       (λ t. count_of m t) g.counts r.table is.2 none in
       let kept : r.table ≡ 0x06 → drop_in g.said r.old ≡ true → ⊥ =
       λ six dropped. false≢true (sym (not_before_of (λ n. drop_in g.said n) ds (λ n. is_dropped m n) g.drops r.old (is.3 six)) ∙ dropped) in
-      let next = read_on g.prefix texts g.said after (row_says r) g.read g.plain g.whole
-      (row_told r.table r.old r.new known is.0.0 is.0.1 is.1.0 is.1.1) (row_keeps g.said r.table r.old r.new new there kept) in
+      let next = read_on version g.prefix texts g.said after (row_says r) g.read g.plain g.whole
+      (row_told version (from_three m.signatures) r.table r.old r.new known is.0.0 is.0.1 is.1.0 is.1.1) (row_keeps g.said r.table r.old r.new new there kept) in
       record {
         said = row_says r ∷ g.said;
         prefix = g.prefix ++ line_text (row_says r) ∷ [];
@@ -126,21 +138,24 @@ module _ (m : Map) (texts : List (List ℕ)) where
         drops = g.drops;
         slotted = g.slotted;
         slots = g.slots;
+        signatures = g.signatures;
         rest = g.rest;
       }
 
-  pub add_drop : (after : List Line) (d : ℕ) (cs : List Count) (rs : List RowImage) (ds ss : List ℕ) (sl : List SlotImage) → IsRow d
-      → is_some (row_line m 0x06 d) ≡ false → has_slots m d ≡ false → Got m texts (Dropped d ∷ after) cs rs (d ∷ ds) ss sl NoMethods
-      → Got m texts after cs rs ds ss sl NoMethods
-  add_drop after d cs rs ds ss sl is unmoved unslotted g =
+  pub add_drop : (after : List Line) (d : ℕ) (cs : List Count) (rs : List RowImage) (ds ss : List ℕ) (sl : List SlotImage) (sg : List SignatureImage) → IsRow d
+      → is_some (row_line m 0x06 d) ≡ false → has_slots m d ≡ false → is_some (signature_line m d) ≡ false → Got m texts (Dropped d ∷ after) cs rs (d ∷ ds) ss sl sg NoMethods
+      → Got m texts after cs rs ds ss sl sg NoMethods
+  add_drop after d cs rs ds ss sl sg is unmoved unslotted unsigned g =
       let new = not_yet_of (λ n. drop_in g.said n) d ds (λ n. is_dropped m n) g.drops in
       let row = not_before (λ (r : RowImage). (r.table, r.old)) (λ (r : RowImage). r.new) same_pair pair_cmp pair_is pair_total
       (λ k. row_in g.said k.0 k.1) rs (λ k. row_line m k.0 k.1) g.rows (0x06, d) unmoved in
       let slots = not_before_of (λ n. slots_in g.said n) ss (λ n. has_slots m n) g.slotted d unslotted in
+      let signature = not_before (λ (s : SignatureImage). s.method) (λ (s : SignatureImage). s.new) nat_eq nat_cmp same_number nat_cmp_total
+      (λ n. signature_in g.said n) sg (λ n. signature_line m n) g.signatures d unsigned in
       let method : is_some (method_in g.said d) ≡ false =
       ap (λ (lines : List MethodLine). is_some (find (λ (l : MethodLine). nat_eq l.method d) lines)) g.rest in
-      let next = read_on g.prefix texts g.said after (Dropped d) g.read g.plain g.whole (drop_told d is.0 is.1)
-      (drop_keeps g.said d new method row slots) in
+      let next = read_on version g.prefix texts g.said after (Dropped d) g.read g.plain g.whole (drop_told version (from_three m.signatures) d is.0 is.1)
+      (drop_keeps g.said d new method row slots signature) in
       record {
         said = Dropped d ∷ g.said;
         prefix = g.prefix ++ line_text (Dropped d) ∷ [];
@@ -152,15 +167,17 @@ module _ (m : Map) (texts : List (List ℕ)) where
         drops = steps_of (λ n. drop_in g.said n) d ds (λ n. is_dropped m n) g.drops;
         slotted = g.slotted;
         slots = g.slots;
+        signatures = g.signatures;
         rest = g.rest;
       }
 
-  pub add_slots : (after : List Line) (s : ℕ) (cs : List Count) (rs : List RowImage) (ds ss : List ℕ) (sl : List SlotImage) → IsSlottedOf m s
-      → Got m texts (Slots s ∷ after) cs rs ds (s ∷ ss) sl NoMethods → Got m texts after cs rs ds ss sl NoMethods
-  add_slots after s cs rs ds ss sl is g =
+  pub add_slots : (after : List Line) (s : ℕ) (cs : List Count) (rs : List RowImage) (ds ss : List ℕ) (sl : List SlotImage) (sg : List SignatureImage) → IsSlottedOf m s
+      → Got m texts (Slots s ∷ after) cs rs ds (s ∷ ss) sl sg NoMethods → Got m texts after cs rs ds ss sl sg NoMethods
+  add_slots after s cs rs ds ss sl sg is g =
       let new = not_yet_of (λ n. slots_in g.said n) s ss (λ n. has_slots m n) g.slotted in
       let drop = not_before_of (λ n. drop_in g.said n) ds (λ n. is_dropped m n) g.drops s is.1 in
-      let next = read_on g.prefix texts g.said after (Slots s) g.read g.plain g.whole (slots_told s is.0.0 is.0.1) (slots_keep g.said s new drop) in
+      let next = read_on version g.prefix texts g.said after (Slots s) g.read g.plain g.whole
+      (slots_told version (from_three m.signatures) s is.0.0 is.0.1) (slots_keep g.said s new drop) in
       record {
         said = Slots s ∷ g.said;
         prefix = g.prefix ++ line_text (Slots s) ∷ [];
@@ -172,18 +189,20 @@ module _ (m : Map) (texts : List (List ℕ)) where
         drops = g.drops;
         slotted = steps_of (λ n. slots_in g.said n) s ss (λ n. has_slots m n) g.slotted;
         slots = g.slots;
+        signatures = g.signatures;
         rest = g.rest;
       }
 
-  pub add_slot : (after : List Line) (s : SlotImage) (cs : List Count) (rs : List RowImage) (ds ss : List ℕ) (sl : List SlotImage) → IsRow s.method
-      → IsSlotOf m s → AllByRecursion (λ y. nat_cmp s.method y ≡ Less) ss → Got m texts (slot_says s ∷ after) cs rs ds ss (s ∷ sl) NoMethods
-      → Got m texts after cs rs ds ss sl NoMethods
-  add_slot after s cs rs ds ss sl known is below g =
+  pub add_slot : (after : List Line) (s : SlotImage) (cs : List Count) (rs : List RowImage) (ds ss : List ℕ) (sl : List SlotImage) (sg : List SignatureImage) → IsRow s.method
+      → IsSlotOf m s → AllByRecursion (λ y. nat_cmp s.method y ≡ Less) ss → Got m texts (slot_says s ∷ after) cs rs ds ss (s ∷ sl) sg NoMethods
+      → Got m texts after cs rs ds ss sl sg NoMethods
+  add_slot after s cs rs ds ss sl sg known is below g =
       let key : SlotImage → ℕ × ℕ = λ s. (s.method, s.old) in
       let new = not_yet key (λ (s : SlotImage). s.new) same_pair pair_cmp pair_is pair_total (λ k. slot_in g.said k.0 k.1) s sl
       (λ k. slot_line m k.0 k.1) g.slots in
       let there = before_of (λ n. slots_in g.said n) ss (λ n. has_slots m n) g.slotted s.method is.2 (none_of_them s.method ss below) in
-      let next = read_on g.prefix texts g.said after (slot_says s) g.read g.plain g.whole (slot_told s.method s.old s.new known.0 known.1 is.0 is.1)
+      let next = read_on version g.prefix texts g.said after (slot_says s) g.read g.plain g.whole
+      (slot_told version (from_three m.signatures) s.method s.old s.new known.0 known.1 is.0 is.1)
       (slot_keeps g.said s.method s.old s.new new there) in
       record {
         said = slot_says s ∷ g.said;
@@ -197,5 +216,31 @@ module _ (m : Map) (texts : List (List ℕ)) where
         slotted = g.slotted;
         slots = steps key (λ (s : SlotImage). s.new) same_pair pair_cmp pair_is pair_total (λ k. slot_in g.said k.0 k.1) s sl
             (λ k. slot_line m k.0 k.1) g.slots;
+        signatures = g.signatures;
+        rest = g.rest;
+      }
+
+  pub add_signature : (after : List Line) (s : SignatureImage) (cs : List Count) (rs : List RowImage) (ds ss : List ℕ) (sl : List SlotImage)
+      (sg : List SignatureImage) → IsSignatureOf m s → 4 ≤ version_with m.signatures → Got m texts (signature_says s ∷ after) cs rs ds ss sl (s ∷ sg) NoMethods
+      → Got m texts after cs rs ds ss sl sg NoMethods
+  add_signature after s cs rs ds ss sl sg is newer g =
+      let new = not_yet (λ (s : SignatureImage). s.method) (λ (s : SignatureImage). s.new) nat_eq nat_cmp same_number nat_cmp_total
+      (λ n. signature_in g.said n) s sg (λ n. signature_line m n) g.signatures in
+      let drop = not_before_of (λ n. drop_in g.said n) ds (λ n. is_dropped m n) g.drops s.method is.2 in
+      let next = read_on version g.prefix texts g.said after (signature_says s) g.read g.plain g.whole
+      (signature_told version newer s.method s.new is.0.0 is.0.1 is.1) (signature_keeps g.said s.method s.new new drop) in
+      record {
+        said = signature_says s ∷ g.said;
+        prefix = g.prefix ++ line_text (signature_says s) ∷ [];
+        read = next.0;
+        plain = next.1;
+        whole = next.2;
+        counts = g.counts;
+        rows = g.rows;
+        drops = g.drops;
+        slotted = g.slotted;
+        slots = g.slots;
+        signatures = steps (λ (s : SignatureImage). s.method) (λ (s : SignatureImage). s.new) nat_eq nat_cmp same_number nat_cmp_total
+            (λ n. signature_in g.said n) s sg (λ n. signature_line m n) g.signatures;
         rest = g.rest;
       }

@@ -10,8 +10,9 @@ use Rattle.ppdb_base.specs.declared.offsets.Run.{Run}
 use Rattle.ppdb_maps.specs.declared.entries.Count.{Count}
 use Rattle.ppdb_maps.specs.declared.entries.RowImage.{RowImage}
 use Rattle.ppdb_maps.specs.declared.entries.SlotImage.{SlotImage}
+use Rattle.ppdb_maps.specs.declared.entries.SignatureImage.{SignatureImage}
 use Rattle.ppdb_maps.specs.declared.line.Line.{Line}
-use Rattle.ppdb_maps.specs.declared.line.Line.TheVariants.{Silent, Rows, Row, Method, Kept, Dropped, Slots, Slot}
+use Rattle.ppdb_maps.specs.declared.line.Line.TheVariants.{Silent, Rows, Row, Method, Kept, Dropped, Slots, Slot, Signature}
 use Rattle.ppdb_maps.specs.Before.{methods_of}
 use Rattle.ppdb_maps.specs.Gathered.{same_pair}
 use Rattle.ppdb_maps.specs.Map.{Map, MethodLine, map_of, pair_cmp, method_line}
@@ -33,6 +34,9 @@ method_of line = line.method
 abbrev slot_of : SlotImage → ℕ × ℕ
 slot_of slot = (slot.method, slot.old)
 
+abbrev signed_of : SignatureImage → ℕ
+signed_of signature = signature.method
+
 abbrev itself : ℕ → ℕ
 itself n = n
 
@@ -50,6 +54,9 @@ with_number x xs = put itself nat_eq nat_cmp same_number nat_cmp_total exact_uns
 
 abbrev with_slot : SlotImage → List SlotImage → List SlotImage
 with_slot x xs = put slot_of same_pair pair_cmp pair_is pair_total pair_exact x xs
+
+abbrev with_signature : SignatureImage → List SignatureImage → List SignatureImage
+with_signature x xs = put signed_of nat_eq nat_cmp same_number nat_cmp_total exact_unsigned x xs
 
 -- what is said of what is found
 said_found : {X V : Type 0} (val : X → V) (b : Bool) (x : X) (found : Option X) (before : Option V) → option_map val found ≡ before
@@ -79,7 +86,7 @@ number_rises x xs rise =
 
 -- ---- a line more
 
-none_held : HoldsWhat [] (map_of [] [] [] [] [] [])
+none_held : HoldsWhat [] (map_of [] [] [] [] [] [] [])
 unfolding IsStrictlySortedBy
 none_held = record {
   counts = λ table. refl;
@@ -88,7 +95,8 @@ none_held = record {
   drops = λ method. refl;
   slotted = λ method. refl;
   slots = λ method old. refl;
-  ascends = record { counts = tt; rows = tt; methods = tt; drops = tt; slotted = tt; slots = tt };
+  signatures = λ method. refl;
+  ascends = record { counts = tt; rows = tt; methods = tt; drops = tt; slotted = tt; slots = tt; signatures = tt };
 }
 
 silent_held : (said : List Line) (m : Map) → HoldsWhat said m → HoldsWhat (Silent ∷ said) m
@@ -99,6 +107,7 @@ silent_held said m h = record {
   drops = h.drops;
   slotted = h.slotted;
   slots = h.slots;
+  signatures = h.signatures;
   ascends = h.ascends;
 }
 
@@ -114,6 +123,7 @@ rows_held said m t n h = record {
   drops = h.drops;
   slotted = h.slotted;
   slots = h.slots;
+  signatures = h.signatures;
   ascends = record {
     counts = put_rises table_of nat_eq nat_cmp same_number nat_cmp_total exact_unsigned (record { table = t; rows = n }) m.counts h.ascends.counts;
     rows = h.ascends.rows;
@@ -121,6 +131,7 @@ rows_held said m t n h = record {
     drops = h.ascends.drops;
     slotted = h.ascends.slotted;
     slots = h.ascends.slots;
+    signatures = h.ascends.signatures;
   };
 }
 
@@ -137,6 +148,7 @@ row_held said m t o n h = record {
   drops = h.drops;
   slotted = h.slotted;
   slots = h.slots;
+  signatures = h.signatures;
   ascends = record {
     counts = h.ascends.counts;
     rows = put_rises row_of same_pair pair_cmp pair_is pair_total pair_exact (record { table = t; old = o; new = n }) m.rows h.ascends.rows;
@@ -144,6 +156,7 @@ row_held said m t o n h = record {
     drops = h.ascends.drops;
     slotted = h.ascends.slotted;
     slots = h.ascends.slots;
+    signatures = h.ascends.signatures;
   };
 }
 
@@ -168,6 +181,7 @@ method_held said m k o n h = record {
   drops = h.drops;
   slotted = h.slotted;
   slots = h.slots;
+  signatures = h.signatures;
   ascends = record {
     counts = h.ascends.counts;
     rows = h.ascends.rows;
@@ -175,6 +189,7 @@ method_held said m k o n h = record {
     drops = h.ascends.drops;
     slotted = h.ascends.slotted;
     slots = h.ascends.slots;
+    signatures = h.ascends.signatures;
   };
 }
 
@@ -186,6 +201,7 @@ drop_held said m k h = record {
   drops = λ method. number_found method k m.drops _ (h.drops method);
   slotted = h.slotted;
   slots = h.slots;
+  signatures = h.signatures;
   ascends = record {
     counts = h.ascends.counts;
     rows = h.ascends.rows;
@@ -193,6 +209,7 @@ drop_held said m k h = record {
     drops = number_rises k m.drops h.ascends.drops;
     slotted = h.ascends.slotted;
     slots = h.ascends.slots;
+    signatures = h.ascends.signatures;
   };
 }
 
@@ -204,6 +221,7 @@ slots_held said m k h = record {
   drops = h.drops;
   slotted = λ method. number_found method k m.slotted _ (h.slotted method);
   slots = h.slots;
+  signatures = h.signatures;
   ascends = record {
     counts = h.ascends.counts;
     rows = h.ascends.rows;
@@ -211,6 +229,7 @@ slots_held said m k h = record {
     drops = h.ascends.drops;
     slotted = number_rises k m.slotted h.ascends.slotted;
     slots = h.ascends.slots;
+    signatures = h.ascends.signatures;
   };
 }
 
@@ -227,6 +246,7 @@ slot_held said m k o n h = record {
       (put_found slot_of same_pair pair_cmp pair_is pair_total pair_exact (method, old) (record { method = k; old = o; new = n }) m.slots)
       ∙ said_found (λ (s : SlotImage). s.new) (same_pair (k, o) (method, old)) (record { method = k; old = o; new = n })
       (find (λ s. same_pair (slot_of s) (method, old)) m.slots) _ (h.slots method old);
+  signatures = h.signatures;
   ascends = record {
     counts = h.ascends.counts;
     rows = h.ascends.rows;
@@ -234,6 +254,33 @@ slot_held said m k o n h = record {
     drops = h.ascends.drops;
     slotted = h.ascends.slotted;
     slots = put_rises slot_of same_pair pair_cmp pair_is pair_total pair_exact (record { method = k; old = o; new = n }) m.slots h.ascends.slots;
+    signatures = h.ascends.signatures;
+  };
+}
+
+signature_held : (said : List Line) (m : Map) (k n : ℕ) → HoldsWhat said m
+    → HoldsWhat (Signature k n ∷ said) (record m { signatures = with_signature (record { method = k; new = n }) m.signatures })
+signature_held said m k n h = record {
+  counts = h.counts;
+  rows = h.rows;
+  methods = h.methods;
+  drops = h.drops;
+  slotted = h.slotted;
+  slots = h.slots;
+  signatures = λ method.
+      ap (option_map (λ (s : SignatureImage). s.new))
+      (put_found signed_of nat_eq nat_cmp same_number nat_cmp_total exact_unsigned method (record { method = k; new = n }) m.signatures)
+      ∙ said_found (λ (s : SignatureImage). s.new) (nat_eq k method) (record { method = k; new = n })
+      (find (λ s. nat_eq s.method method) m.signatures) _ (h.signatures method);
+  ascends = record {
+    counts = h.ascends.counts;
+    rows = h.ascends.rows;
+    methods = h.ascends.methods;
+    drops = h.ascends.drops;
+    slotted = h.ascends.slotted;
+    slots = h.ascends.slots;
+    signatures = put_rises signed_of nat_eq nat_cmp same_number nat_cmp_total exact_unsigned (record { method = k; new = n }) m.signatures
+        h.ascends.signatures;
   };
 }
 
@@ -255,6 +302,7 @@ run_held said m run h = of (methods_of said) refl
         drops = h.drops;
         slotted = h.slotted;
         slots = h.slots;
+        signatures = h.signatures;
         ascends = h.ascends;
       },
     )
@@ -271,6 +319,7 @@ run_held said m run h = of (methods_of said) refl
             drops = h.drops;
             slotted = h.slotted;
             slots = h.slots;
+            signatures = h.signatures;
             ascends = record {
               counts = h.ascends.counts;
               rows = h.ascends.rows;
@@ -278,12 +327,13 @@ run_held said m run h = of (methods_of said) refl
               drops = h.ascends.drops;
               slotted = h.ascends.slotted;
               slots = h.ascends.slots;
+              signatures = h.ascends.signatures;
             };
           },
         )
 
 pub held : (said : List Line) → (m : Map) × HoldsWhat said m
-held [] = (map_of [] [] [] [] [] [], none_held)
+held [] = (map_of [] [] [] [] [] [] [], none_held)
 held (Silent ∷ said) = let m = held said in (m.0, silent_held said m.0 m.1)
 held (Rows t n ∷ said) = let m = held said in (_, rows_held said m.0 t n m.1)
 held (Row t o n ∷ said) = let m = held said in (_, row_held said m.0 t o n m.1)
@@ -292,3 +342,4 @@ held (Kept run ∷ said) = let m = held said in run_held said m.0 run m.1
 held (Dropped k ∷ said) = let m = held said in (_, drop_held said m.0 k m.1)
 held (Slots k ∷ said) = let m = held said in (_, slots_held said m.0 k m.1)
 held (Slot k o n ∷ said) = let m = held said in (_, slot_held said m.0 k o n m.1)
+held (Signature k n ∷ said) = let m = held said in (_, signature_held said m.0 k n m.1)

@@ -1,6 +1,6 @@
 -- The canonical text of a readable map is read as this map.
 use Rattle.std.proofs.Common.{ℕ, ◌≡◌, ◌≤◌, ◌++◌, ◌&&◌, Bool, true, false, List, [], ◌∷◌, Option, Some, None, refl, sym, ap, ◌∙◌, subst, arith, map, lit≤}
-use Rattle.std.specs.Prelude.{nat_eq, is_some, codes}
+use Rattle.std.specs.Prelude.{nat_eq, is_some}
 use Rattle.std.specs.List.{AllByRecursion, find, flat_map, list_any}
 use Rattle.std.specs.List.Sorted.{IsStrictlySortedBy}
 use Rattle.std.specs.Option.{option_map}
@@ -12,18 +12,21 @@ use Rattle.std.proofs.lemmas.List.{append_assoc, append-nil}
 use Rattle.ppdb_maps.specs.declared.entries.Count.{Count}
 use Rattle.ppdb_maps.specs.declared.entries.RowImage.{RowImage}
 use Rattle.ppdb_maps.specs.declared.entries.SlotImage.{SlotImage}
+use Rattle.ppdb_maps.specs.declared.entries.SignatureImage.{SignatureImage}
 use Rattle.ppdb_maps.specs.declared.line.Line.{Line}
 use Rattle.ppdb_maps.specs.declared.line.Line.TheVariants.{Rows, Dropped, Slots}
 use Rattle.ppdb_maps.specs.Before.{drop_in}
 use Rattle.ppdb_maps.specs.Gathered.{same_pair}
-use Rattle.ppdb_maps.specs.Map.{Map, MethodLine, pair_cmp, row_line, is_dropped, has_slots, rows_of, slots_of}
-use Rattle.ppdb_maps.specs.Readable.{IsReadable, IsCount, IsRow, IsRowOf, IsSlottedOf, IsSlotOf}
+use Rattle.ppdb_maps.specs.Map.{Map, MethodLine, pair_cmp, row_line, is_dropped, has_slots, signature_line, rows_of, slots_of}
+use Rattle.ppdb_maps.specs.Readable.{IsReadable, IsCount, IsRow, IsRowOf, IsSlottedOf, IsSlotOf, IsSignatureOf}
+use Rattle.ppdb_maps.specs.Forms.{IsHead}
 use Rattle.ppdb_maps.specs.Text.{Read, HoldsWhat, start}
 use Rattle.ppdb_maps.proofs.OneMap.{same_number, pair_is, pair_total}
 use Rattle.ppdb_maps_text.specs.Laws.{TextsAreRead}
-use Rattle.ppdb_maps_text.specs.MapTexts.{line_text, row_says, slot_says, count_says, slots_say, method_says, map_says, map_lines}
+use Rattle.ppdb_maps_text.specs.MapTexts.{version_with, head_text, line_text, row_says, slot_says, signature_says, count_says, slots_say, method_says, map_says}
+use Rattle.ppdb_maps_text.specs.MapTexts.{map_lines}
 use Rattle.ppdb_maps_text.proofs.Ahead.{starts, ends, starts_of, ends_of, one_of}
-use Rattle.ppdb_maps_text.proofs.Got.{Got, NoMethods, add_count, add_row, add_drop, add_slots, add_slot}
+use Rattle.ppdb_maps_text.proofs.Got.{Got, NoMethods, add_count, add_row, add_drop, add_slots, add_slot, add_signature}
 use Rattle.ppdb_maps_text.proofs.Groups.{regrouped, found_among, of_found, of_any, of_passed, of_each}
 use Rattle.ppdb_maps_text.proofs.Methods.{MethodsAhead, LinesAhead, line_among, add_methods}
 use Rattle.ppdb_maps_text.proofs.Words.{IsPlain, lines_ended}
@@ -63,68 +66,88 @@ dropped_unslotted m is d dropped = of (has_slots m d) refl
     of false e = refl
     of true e = let h : IsSlottedOf m d = of_any (IsSlottedOf m) d m.slotted is.slotted e in absurd (false≢true (sym h.1 ∙ dropped))
 
+-- nor a `signature` line
+dropped_unsigned : (m : Map) → IsReadable m → (d : ℕ) → is_dropped m d ≡ true → is_some (signature_line m d) ≡ false
+dropped_unsigned m is d dropped = of (find (λ (s : SignatureImage). nat_eq s.method d) m.signatures) refl
+  where
+    of : (o : Option SignatureImage) → find (λ (s : SignatureImage). nat_eq s.method d) m.signatures ≡ o
+        → is_some (option_map (λ (s : SignatureImage). s.new) o) ≡ false
+    of None e = refl
+    of (Some s) e =
+        let h = of_found (IsSignatureOf m) (λ (s : SignatureImage). nat_eq s.method d) m.signatures s is.signatures e in
+        absurd (false≢true (sym (subst (λ n. is_dropped m n ≡ false) (eqb-true s.method d h.1) h.0.2) ∙ dropped))
+
 module _ (m : Map) (texts : List (List ℕ)) (is : IsReadable m) where
   add_rows : (after : List Line) (t : ℕ) (rows rs : List RowImage) (cs : List Count) (ds ss : List ℕ) (sl : List SlotImage) → t ≤ 0x2c
       → AllByRecursion (λ (r : RowImage). IsRowOf m r × (nat_eq r.table t ≡ true)) rows
       → AllByRecursion (λ y. nat_cmp t y ≡ Less) (map (λ (c : Count). c.table) cs)
-      → Got m texts (map row_says rows ++ after) cs (rows ++ rs) ds ss sl NoMethods → Got m texts after cs rs ds ss sl NoMethods
+      → Got m texts (map row_says rows ++ after) cs (rows ++ rs) ds ss sl m.signatures NoMethods → Got m texts after cs rs ds ss sl m.signatures NoMethods
   add_rows after t [] rs cs ds ss sl known all below g = g
   add_rows after t (r ∷ rows) rs cs ds ss sl known all below g =
       let e : t ≡ r.table = sym (eqb-true r.table t all.0.1) in
       add_rows after t rows rs cs ds ss sl known all.1 below
-      (add_row m texts (map row_says rows ++ after) r cs (rows ++ rs) ds ss sl (subst (λ n. n ≤ 0x2c) e known) all.0.0
+      (add_row m texts (map row_says rows ++ after) r cs (rows ++ rs) ds ss sl m.signatures (subst (λ n. n ≤ 0x2c) e known) all.0.0
       (subst (λ n. AllByRecursion (λ y. nat_cmp n y ≡ Less) (map (λ (c : Count). c.table) cs)) e below) g)
 
   add_counts : (after : List Line) (cs : List Count) (ds ss : List ℕ) (sl : List SlotImage) → AllByRecursion IsCount cs
-      → Got m texts (flat_map (count_says m) cs ++ after) cs (flat_map (λ (c : Count). rows_of m c.table) cs) ds ss sl NoMethods
-      → Got m texts after [] [] ds ss sl NoMethods
+      → Got m texts (flat_map (count_says m) cs ++ after) cs (flat_map (λ (c : Count). rows_of m c.table) cs) ds ss sl m.signatures NoMethods
+      → Got m texts after [] [] ds ss sl m.signatures NoMethods
   add_counts after [] ds ss sl all g = g
   add_counts after (c ∷ cs) ds ss sl all g =
       let rest : List RowImage = flat_map (λ (c : Count). rows_of m c.table) cs in
       let below = first_below c cs g.counts.sorted in
       let regot : Got m texts (Rows c.table c.rows ∷ (map row_says (rows_of m c.table) ++ (flat_map (count_says m) cs ++ after))) (c ∷ cs)
-      (rows_of m c.table ++ rest) ds ss sl NoMethods =
-      subst (λ a. Got m texts a (c ∷ cs) (rows_of m c.table ++ rest) ds ss sl NoMethods)
+      (rows_of m c.table ++ rest) ds ss sl m.signatures NoMethods =
+      subst (λ a. Got m texts a (c ∷ cs) (rows_of m c.table ++ rest) ds ss sl m.signatures NoMethods)
       (append_assoc (count_says m c) (flat_map (count_says m) cs) after) g in
       add_counts after cs ds ss sl all.1
       (add_rows (flat_map (count_says m) cs ++ after) c.table (rows_of m c.table) rest cs ds ss sl all.0.0
       (of_passed (IsRowOf m) (λ (r : RowImage). nat_eq r.table c.table) m.rows is.rows) below
-      (add_count m texts (map row_says (rows_of m c.table) ++ (flat_map (count_says m) cs ++ after)) c cs (rows_of m c.table ++ rest) ds ss sl all.0 regot))
+      (add_count m texts (map row_says (rows_of m c.table) ++ (flat_map (count_says m) cs ++ after)) c cs (rows_of m c.table ++ rest) ds ss sl m.signatures all.0 regot))
 
   add_drops : (after : List Line) (ds ss : List ℕ) (sl : List SlotImage) → AllByRecursion IsRow ds
-      → Got m texts (map Dropped ds ++ after) [] [] ds ss sl NoMethods → Got m texts after [] [] [] ss sl NoMethods
+      → Got m texts (map Dropped ds ++ after) [] [] ds ss sl m.signatures NoMethods → Got m texts after [] [] [] ss sl m.signatures NoMethods
   add_drops after [] ss sl all g = g
   add_drops after (d ∷ ds) ss sl all g =
       let dropped = one_of (λ n. drop_in g.said n) d ds (λ n. is_dropped m n) g.drops in
       add_drops after ds ss sl all.1
-      (add_drop m texts (map Dropped ds ++ after) d [] [] ds ss sl all.0 (dropped_unmoved m is d dropped) (dropped_unslotted m is d dropped) g)
+      (add_drop m texts (map Dropped ds ++ after) d [] [] ds ss sl m.signatures all.0 (dropped_unmoved m is d dropped) (dropped_unslotted m is d dropped)
+      (dropped_unsigned m is d dropped) g)
 
   add_slot_lines : (after : List Line) (n : ℕ) (slots sl : List SlotImage) (ss : List ℕ) → IsRow n
       → AllByRecursion (λ (s : SlotImage). IsSlotOf m s × (nat_eq s.method n ≡ true)) slots → AllByRecursion (λ y. nat_cmp n y ≡ Less) ss
-      → Got m texts (map slot_says slots ++ after) [] [] [] ss (slots ++ sl) NoMethods → Got m texts after [] [] [] ss sl NoMethods
+      → Got m texts (map slot_says slots ++ after) [] [] [] ss (slots ++ sl) m.signatures NoMethods → Got m texts after [] [] [] ss sl m.signatures NoMethods
   add_slot_lines after n [] sl ss known all below g = g
   add_slot_lines after n (s ∷ slots) sl ss known all below g =
       let e : n ≡ s.method = sym (eqb-true s.method n all.0.1) in
       add_slot_lines after n slots sl ss known all.1 below
-      (add_slot m texts (map slot_says slots ++ after) s [] [] [] ss (slots ++ sl) (subst IsRow e known) all.0.0
+      (add_slot m texts (map slot_says slots ++ after) s [] [] [] ss (slots ++ sl) m.signatures (subst IsRow e known) all.0.0
       (subst (λ k. AllByRecursion (λ y. nat_cmp k y ≡ Less) ss) e below) g)
 
   add_slotted : (after : List Line) (ss : List ℕ) → AllByRecursion (IsSlottedOf m) ss
-      → Got m texts (flat_map (slots_say m) ss ++ after) [] [] [] ss (flat_map (slots_of m) ss) NoMethods
-      → Got m texts after [] [] [] [] [] NoMethods
+      → Got m texts (flat_map (slots_say m) ss ++ after) [] [] [] ss (flat_map (slots_of m) ss) m.signatures NoMethods
+      → Got m texts after [] [] [] [] [] m.signatures NoMethods
   add_slotted after [] all g = g
   add_slotted after (s ∷ ss) all g =
       let rest : List SlotImage = flat_map (slots_of m) ss in
       let below = number_below s ss g.slotted.sorted in
       let regot : Got m texts (Slots s ∷ (map slot_says (slots_of m s) ++ (flat_map (slots_say m) ss ++ after))) [] [] [] (s ∷ ss)
-      (slots_of m s ++ rest) NoMethods =
-      subst (λ a. Got m texts a [] [] [] (s ∷ ss) (slots_of m s ++ rest) NoMethods) (append_assoc (slots_say m s) (flat_map (slots_say m) ss) after) g in
+      (slots_of m s ++ rest) m.signatures NoMethods =
+      subst (λ a. Got m texts a [] [] [] (s ∷ ss) (slots_of m s ++ rest) m.signatures NoMethods)
+      (append_assoc (slots_say m s) (flat_map (slots_say m) ss) after) g in
       add_slotted after ss all.1
       (add_slot_lines (flat_map (slots_say m) ss ++ after) s (slots_of m s) rest ss all.0.0
       (of_passed (IsSlotOf m) (λ (x : SlotImage). nat_eq x.method s) m.slots is.slots) below
-      (add_slots m texts (map slot_says (slots_of m s) ++ (flat_map (slots_say m) ss ++ after)) s [] [] [] ss (slots_of m s ++ rest) all.0 regot))
+      (add_slots m texts (map slot_says (slots_of m s) ++ (flat_map (slots_say m) ss ++ after)) s [] [] [] ss (slots_of m s ++ rest) m.signatures all.0
+      regot))
 
-  begin_methods : (after : List Line) → Got m texts after [] [] [] [] [] NoMethods → Got m texts after [] [] [] [] [] (MethodsAhead m m.methods)
+  add_signatures : (after : List Line) (sg : List SignatureImage) → AllByRecursion (λ s. IsSignatureOf m s × (4 ≤ version_with m.signatures)) sg
+      → Got m texts (map signature_says sg ++ after) [] [] [] [] [] sg NoMethods → Got m texts after [] [] [] [] [] [] NoMethods
+  add_signatures after [] all g = g
+  add_signatures after (s ∷ sg) all g =
+      add_signatures after sg all.1 (add_signature m texts (map signature_says sg ++ after) s [] [] [] [] [] sg all.0.0 all.0.1 g)
+
+  begin_methods : (after : List Line) → Got m texts after [] [] [] [] [] [] NoMethods → Got m texts after [] [] [] [] [] [] (MethodsAhead m m.methods)
   begin_methods after g = record {
     said = g.said;
     prefix = g.prefix;
@@ -136,12 +159,13 @@ module _ (m : Map) (texts : List (List ℕ)) (is : IsReadable m) where
     drops = g.drops;
     slotted = g.slotted;
     slots = g.slots;
+    signatures = g.signatures;
     rest = subst (λ lines. LinesAhead m lines m.methods) (sym g.rest)
         (starts (λ (l : MethodLine). l.method) (λ (l : MethodLine). l) nat_eq nat_cmp same_number nat_cmp_total m.methods is.ascends.methods);
   }
 
 -- nothing is read yet
-nothing_read : (m : Map) → IsReadable m → Got m (map line_text (map_says m)) (map_says m) m.counts m.rows m.drops m.slotted m.slots NoMethods
+nothing_read : (m : Map) → IsReadable m → Got m (map line_text (map_says m)) (map_says m) m.counts m.rows m.drops m.slotted m.slots m.signatures NoMethods
 nothing_read m is = record {
   said = [];
   prefix = [];
@@ -153,6 +177,8 @@ nothing_read m is = record {
   drops = starts_of m.drops is.ascends.drops;
   slotted = starts_of m.slotted is.ascends.slotted;
   slots = starts (λ (s : SlotImage). (s.method, s.old)) (λ (s : SlotImage). s.new) same_pair pair_cmp pair_is pair_total m.slots is.ascends.slots;
+  signatures = starts (λ (s : SignatureImage). s.method) (λ (s : SignatureImage). s.new) nat_eq nat_cmp same_number nat_cmp_total m.signatures
+      is.ascends.signatures;
   rest = refl;
 }
 
@@ -168,25 +194,41 @@ slots_in_order m is =
     (subst (IsStrictlySortedBy nat_cmp) (sym (map_itself m.slotted)) is.ascends.slotted) is.ascends.slots
     (of_each (IsSlotOf m) (λ (s : SlotImage). list_any (nat_eq s.method) m.slotted ≡ true) (λ s h. h.2) m.slots is.slots)
 
+-- each signature, in a text of version 4
+signatures_newer : (m : Map) → IsReadable m → AllByRecursion (λ s. IsSignatureOf m s × (4 ≤ version_with m.signatures)) m.signatures
+signatures_newer m is = of m.signatures refl is.signatures
+  where
+    each : (sg : List SignatureImage) → 4 ≤ version_with m.signatures → AllByRecursion (IsSignatureOf m) sg
+        → AllByRecursion (λ s. IsSignatureOf m s × (4 ≤ version_with m.signatures)) sg
+    each [] newer all = tt
+    each (s ∷ sg) newer all = ((all.0, newer), each sg newer all.1)
+
+    of : (sg : List SignatureImage) → m.signatures ≡ sg → AllByRecursion (IsSignatureOf m) sg
+        → AllByRecursion (λ s. IsSignatureOf m s × (4 ≤ version_with m.signatures)) sg
+    of [] e all = tt
+    of (s ∷ sg) e all = each (s ∷ sg) (subst (λ l. 4 ≤ version_with l) (sym e) (lit≤ tt)) all
+
 -- all lines are read
-all_read : (m : Map) → IsReadable m → Got m (map line_text (map_says m)) [] [] [] [] [] [] (MethodsAhead m [])
+all_read : (m : Map) → IsReadable m → Got m (map line_text (map_says m)) [] [] [] [] [] [] [] (MethodsAhead m [])
 all_read m is =
     let texts : List (List ℕ) = map line_text (map_says m) in
     let methods : List Line = flat_map method_says m.methods in
-    let slots : List Line = flat_map (slots_say m) m.slotted ++ methods in
+    let signatures : List Line = map signature_says m.signatures ++ methods in
+    let slots : List Line = flat_map (slots_say m) m.slotted ++ signatures in
     let drops : List Line = map Dropped m.drops ++ slots in
-    let begun = subst (λ rs. Got m texts (map_says m) m.counts rs m.drops m.slotted m.slots NoMethods) (sym (rows_in_order m is)) (nothing_read m is) in
+    let begun = subst (λ rs. Got m texts (map_says m) m.counts rs m.drops m.slotted m.slots m.signatures NoMethods) (sym (rows_in_order m is)) (nothing_read m is) in
     let counted = add_counts m texts is drops m.counts m.drops m.slotted m.slots is.counts begun in
     let dropped = add_drops m texts is slots m.drops m.slotted m.slots is.drops counted in
-    let given = subst (λ sl. Got m texts slots [] [] [] m.slotted sl NoMethods) (sym (slots_in_order m is)) dropped in
-    let slotted = add_slotted m texts is methods m.slotted is.slotted given in
-    add_methods m texts m.methods is.methods (begin_methods m texts is methods slotted)
+    let given = subst (λ sl. Got m texts slots [] [] [] m.slotted sl m.signatures NoMethods) (sym (slots_in_order m is)) dropped in
+    let slotted = add_slotted m texts is signatures m.slotted is.slotted given in
+    let signed = add_signatures m texts is methods m.signatures (signatures_newer m is) slotted in
+    add_methods m texts m.methods is.methods (begin_methods m texts is methods signed)
 
 itself : (o : Option MethodLine) → option_map (λ (l : MethodLine). l) o ≡ o
 itself None = refl
 itself (Some l) = refl
 
-read_holds : (m : Map) → IsReadable m → (g : Got m (map line_text (map_says m)) [] [] [] [] [] [] (MethodsAhead m [])) → HoldsWhat g.said m
+read_holds : (m : Map) → IsReadable m → (g : Got m (map line_text (map_says m)) [] [] [] [] [] [] [] (MethodsAhead m [])) → HoldsWhat g.said m
 read_holds m is g = record {
   counts = λ t. sym (ends (λ (c : Count). c.table) (λ (c : Count). c.rows) nat_eq nat_cmp same_number nat_cmp_total _ _ g.counts t);
   rows = λ t o. sym (ends (λ (r : RowImage). (r.table, r.old)) (λ (r : RowImage). r.new) same_pair pair_cmp pair_is pair_total _ _ g.rows (t, o));
@@ -195,23 +237,29 @@ read_holds m is g = record {
   drops = λ n. sym (ends_of _ _ g.drops n);
   slotted = λ n. sym (ends_of _ _ g.slotted n);
   slots = λ n o. sym (ends (λ (s : SlotImage). (s.method, s.old)) (λ (s : SlotImage). s.new) same_pair pair_cmp pair_is pair_total _ _ g.slots (n, o));
+  signatures = λ n. sym (ends (λ (s : SignatureImage). s.method) (λ (s : SignatureImage). s.new) nat_eq nat_cmp same_number nat_cmp_total _ _ g.signatures n);
   ascends = is.ascends;
 }
 
-head_is_plain : IsPlain (codes "ppdbmap 3")
-head_is_plain = (omega arith, (omega arith, (omega arith, (omega arith, (omega arith, (omega arith, (omega arith, (omega arith, (omega arith, tt)))))))))
+head_is_plain : (version : ℕ) → IsPlain (head_text version)
+head_is_plain version =
+    (omega arith, (omega arith, (omega arith, (omega arith, (omega arith, (omega arith, (omega arith, (omega arith, (omega arith, tt)))))))))
+
+head_is : (signatures : List SignatureImage) → IsHead (head_text (version_with signatures)) (version_with signatures)
+head_is [] = record { from = lit≤ tt; to = lit≤ tt; spelled = refl }
+head_is (s ∷ ss) = record { from = lit≤ tt; to = lit≤ tt; spelled = refl }
 
 pub texts_are_read : TextsAreRead
 texts_are_read = λ m is.
     let g = all_read m is in
     let texts : g.prefix ≡ map line_text (map_says m) = sym (append-nil g.prefix) ∙ g.whole in
     record {
-      head = codes "ppdbmap 3";
+      head = head_text (version_with m.signatures);
       rest = map line_text (map_says m);
-      version = 3;
+      version = version_with m.signatures;
       said = g.said;
-      lines = lines_ended (map_lines m) (head_is_plain, subst (AllByRecursion IsPlain) texts g.plain);
-      begins = record { from = lit≤ tt; to = lit≤ tt; spelled = refl };
-      read = subst (λ t. Read 3 t g.said) texts g.read;
+      lines = lines_ended (map_lines m) (head_is_plain (version_with m.signatures), subst (AllByRecursion IsPlain) texts g.plain);
+      begins = head_is m.signatures;
+      read = subst (λ t. Read (version_with m.signatures) t g.said) texts g.read;
       holds_what = read_holds m is g;
     }

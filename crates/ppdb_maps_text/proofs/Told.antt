@@ -1,5 +1,5 @@
 -- Each line of a map's text says what it was spelled from.
-use Rattle.std.proofs.Common.{ℕ, ◌≡◌, ◌<◌, ◌≤◌, ◌/◌, ◌%◌, List, [], ◌∷◌, length, refl, ap, ◌∙◌, subst, arith, inl, inr, lit≤}
+use Rattle.std.proofs.Common.{ℕ, ◌≡◌, ◌<◌, ◌≤◌, ◌/◌, ◌%◌, List, [], ◌∷◌, length, refl, ap, ◌∙◌, subst, arith, inl, inr}
 use Rattle.std.specs.Char.{digit_char}
 use Rattle.std.specs.Fmt.{decimal}
 use Rattle.std.specs.List.{AllByRecursion}
@@ -7,17 +7,17 @@ use Rattle.std.proofs.lemmas.Bool.{cases_lt, lt-ltb, le-ltb}
 use Rattle.ppdb_base.specs.declared.offsets.Run.{Run}
 use Rattle.ppdb_maps.specs.Words.{IsSilent}
 use Rattle.ppdb_maps.specs.Forms.{name_of, words_in, since, IsNumber, IsTable, IsHexDigit, ROWS, OFFSETS, SLOTS, Values, Tells, told}
-use Rattle.ppdb_maps.specs.Forms.{rows_line, row_line, method_line, run_line, drop_line, slots_line, slot_line}
+use Rattle.ppdb_maps.specs.Forms.{rows_line, row_line, method_line, run_line, drop_line, slots_line, slot_line, signature_line}
 use Rattle.ppdb_maps.specs.declared.line.Form.{Form}
-use Rattle.ppdb_maps.specs.declared.line.Form.TheVariants.{TableRows, RowMove, MethodSizes, OffsetRun, MethodDrop, MethodSlots, SlotMove}
+use Rattle.ppdb_maps.specs.declared.line.Form.TheVariants.{TableRows, RowMove, MethodSizes, OffsetRun, MethodDrop, MethodSlots, SlotMove, MethodSignature}
 use Rattle.ppdb_maps.specs.declared.line.Line.{Line}
-use Rattle.ppdb_maps.specs.declared.line.Line.TheVariants.{Rows, Row, Method, Kept, Dropped, Slots, Slot}
+use Rattle.ppdb_maps.specs.declared.line.Line.TheVariants.{Rows, Row, Method, Kept, Dropped, Slots, Slot, Signature}
 use Rattle.ppdb_maps_text.specs.MapTexts.{spaced, table_word, line_text}
 use Rattle.ppdb_maps_text.proofs.Words.{IsWord, IsPlain, line_words_spaced, spaced_is_plain, decimal_is_word}
 
--- a line that says what it was spelled from, and that a text can have
-pub record IsTold (line : Line) : Type 0 where
-  pub tells : Tells 3 (line_text line) line
+-- a line that says what it was spelled from, and that a text of the version can have
+pub record IsTold (version : ℕ) (line : Line) : Type 0 where
+  pub tells : Tells version (line_text line) line
   pub plain : IsPlain (line_text line)
 
 name_is_word : (form : Form) → IsWord (name_of form)
@@ -28,6 +28,8 @@ name_is_word OffsetRun = (omega arith, (omega arith, (omega arith, tt)))
 name_is_word MethodDrop = (omega arith, (omega arith, (omega arith, (omega arith, tt))))
 name_is_word MethodSlots = (omega arith, (omega arith, (omega arith, (omega arith, (omega arith, tt)))))
 name_is_word SlotMove = (omega arith, (omega arith, (omega arith, (omega arith, tt))))
+name_is_word MethodSignature =
+    (omega arith, (omega arith, (omega arith, (omega arith, (omega arith, (omega arith, (omega arith, (omega arith, (omega arith, tt)))))))))
 
 loud : (form : Form) (values : List (List ℕ)) → IsSilent (spaced (name_of form) values) → ⊥
 loud TableRows values silent = omega (arith, silent)
@@ -37,13 +39,14 @@ loud OffsetRun values silent = omega (arith, silent)
 loud MethodDrop values silent = omega (arith, silent)
 loud MethodSlots values silent = omega (arith, silent)
 loud SlotMove values silent = omega (arith, silent)
+loud MethodSignature values silent = omega (arith, silent)
 
-told_form : (form : Form) (values : List (List ℕ)) (line : Line) → spaced (name_of form) values ≡ line_text line → AllByRecursion IsWord values
-    → length (name_of form ∷ values) ≡ words_in form → since form ≤ 3 → Values form values line → IsTold line
-told_form form values line is all count there says =
+told_form : (version : ℕ) (form : Form) (values : List (List ℕ)) (line : Line) → spaced (name_of form) values ≡ line_text line → AllByRecursion IsWord values
+    → length (name_of form ∷ values) ≡ words_in form → since form ≤ version → Values form values line → IsTold version line
+told_form version form values line is all count there says =
     let words = line_words_spaced (name_of form) values (name_is_word form) all in
     record {
-      tells = subst (λ text. Tells 3 text line) is (told (loud form values) (record {
+      tells = subst (λ text. Tells version text line) is (told (loud form values) (record {
         form = form;
         has = record { values = values; named = words; counted = ap length words ∙ count; there = there };
         values = says;
@@ -87,42 +90,48 @@ table_is_word table le =
     let d = table_digits table le in
     (digit_word (digit_char (table / 16)) (table / 16) d.0, (digit_word (digit_char (table % 16)) (table % 16) d.1, tt))
 
-pub rows_told : (table rows : ℕ) → table ≤ 0x2c → rows ≤ ROWS → IsTold (Rows table rows)
-rows_told table rows known few =
-    told_form TableRows (table_word table ∷ decimal rows ∷ []) (Rows table rows) refl
-    (table_is_word table known, (number_word rows (omega (arith, few)), tt)) refl (lit≤ tt)
+pub rows_told : (version : ℕ) → 3 ≤ version → (table rows : ℕ) → table ≤ 0x2c → rows ≤ ROWS → IsTold version (Rows table rows)
+rows_told version there table rows known few =
+    told_form version TableRows (table_word table ∷ decimal rows ∷ []) (Rows table rows) refl
+    (table_is_word table known, (number_word rows (omega (arith, few)), tt)) refl (omega (arith, there))
     (rows_line (table_is table known) (number rows 0 ROWS (omega arith) few))
 
-pub row_told : (table old new : ℕ) → table ≤ 0x2c → 1 ≤ old → old ≤ ROWS → 1 ≤ new → new ≤ ROWS → IsTold (Row table old new)
-row_told table old new known old_from old_to new_from new_to =
-    told_form RowMove (table_word table ∷ decimal old ∷ decimal new ∷ []) (Row table old new) refl
-    (table_is_word table known, (number_word old (omega (arith, old_to)), (number_word new (omega (arith, new_to)), tt))) refl (lit≤ tt)
+pub row_told : (version : ℕ) → 3 ≤ version → (table old new : ℕ) → table ≤ 0x2c → 1 ≤ old → old ≤ ROWS → 1 ≤ new → new ≤ ROWS → IsTold version (Row table old new)
+row_told version there table old new known old_from old_to new_from new_to =
+    told_form version RowMove (table_word table ∷ decimal old ∷ decimal new ∷ []) (Row table old new) refl
+    (table_is_word table known, (number_word old (omega (arith, old_to)), (number_word new (omega (arith, new_to)), tt))) refl (omega (arith, there))
     (row_line (table_is table known) (number old 1 ROWS old_from old_to) (number new 1 ROWS new_from new_to))
 
-pub method_told : (method old new : ℕ) → 1 ≤ method → method ≤ ROWS → old ≤ OFFSETS → new ≤ OFFSETS → IsTold (Method method old new)
-method_told method old new from to old_to new_to =
-    told_form MethodSizes (decimal method ∷ decimal old ∷ decimal new ∷ []) (Method method old new) refl
-    (number_word method (omega (arith, to)), (number_word old old_to, (number_word new new_to, tt))) refl (lit≤ tt)
+pub method_told : (version : ℕ) → 3 ≤ version → (method old new : ℕ) → 1 ≤ method → method ≤ ROWS → old ≤ OFFSETS → new ≤ OFFSETS → IsTold version (Method method old new)
+method_told version there method old new from to old_to new_to =
+    told_form version MethodSizes (decimal method ∷ decimal old ∷ decimal new ∷ []) (Method method old new) refl
+    (number_word method (omega (arith, to)), (number_word old old_to, (number_word new new_to, tt))) refl (omega (arith, there))
     (method_line (number method 1 ROWS from to) (number old 0 OFFSETS (omega arith) old_to) (number new 0 OFFSETS (omega arith) new_to))
 
-pub run_told : (run : Run) → run.old ≤ OFFSETS → run.new ≤ OFFSETS → 1 ≤ run.length → run.length ≤ OFFSETS → IsTold (Kept run)
-run_told run old_to new_to from to =
-    told_form OffsetRun (decimal run.old ∷ decimal run.new ∷ decimal run.length ∷ []) (Kept run) refl
-    (number_word run.old old_to, (number_word run.new new_to, (number_word run.length to, tt))) refl (lit≤ tt)
+pub run_told : (version : ℕ) → 3 ≤ version → (run : Run) → run.old ≤ OFFSETS → run.new ≤ OFFSETS → 1 ≤ run.length → run.length ≤ OFFSETS → IsTold version (Kept run)
+run_told version there run old_to new_to from to =
+    told_form version OffsetRun (decimal run.old ∷ decimal run.new ∷ decimal run.length ∷ []) (Kept run) refl
+    (number_word run.old old_to, (number_word run.new new_to, (number_word run.length to, tt))) refl (omega (arith, there))
     (run_line (number run.old 0 OFFSETS (omega arith) old_to) (number run.new 0 OFFSETS (omega arith) new_to) (number run.length 1 OFFSETS from to))
 
-pub drop_told : (method : ℕ) → 1 ≤ method → method ≤ ROWS → IsTold (Dropped method)
-drop_told method from to =
-    told_form MethodDrop (decimal method ∷ []) (Dropped method) refl (number_word method (omega (arith, to)), tt) refl (lit≤ tt)
+pub drop_told : (version : ℕ) → 3 ≤ version → (method : ℕ) → 1 ≤ method → method ≤ ROWS → IsTold version (Dropped method)
+drop_told version there method from to =
+    told_form version MethodDrop (decimal method ∷ []) (Dropped method) refl (number_word method (omega (arith, to)), tt) refl (omega (arith, there))
     (drop_line (number method 1 ROWS from to))
 
-pub slots_told : (method : ℕ) → 1 ≤ method → method ≤ ROWS → IsTold (Slots method)
-slots_told method from to =
-    told_form MethodSlots (decimal method ∷ []) (Slots method) refl (number_word method (omega (arith, to)), tt) refl (lit≤ tt)
+pub slots_told : (version : ℕ) → 3 ≤ version → (method : ℕ) → 1 ≤ method → method ≤ ROWS → IsTold version (Slots method)
+slots_told version there method from to =
+    told_form version MethodSlots (decimal method ∷ []) (Slots method) refl (number_word method (omega (arith, to)), tt) refl (omega (arith, there))
     (slots_line (number method 1 ROWS from to))
 
-pub slot_told : (method old new : ℕ) → 1 ≤ method → method ≤ ROWS → old ≤ SLOTS → new ≤ SLOTS → IsTold (Slot method old new)
-slot_told method old new from to old_to new_to =
-    told_form SlotMove (decimal method ∷ decimal old ∷ decimal new ∷ []) (Slot method old new) refl
-    (number_word method (omega (arith, to)), (number_word old (omega (arith, old_to)), (number_word new (omega (arith, new_to)), tt))) refl (lit≤ tt)
+pub slot_told : (version : ℕ) → 3 ≤ version → (method old new : ℕ) → 1 ≤ method → method ≤ ROWS → old ≤ SLOTS → new ≤ SLOTS → IsTold version (Slot method old new)
+slot_told version there method old new from to old_to new_to =
+    told_form version SlotMove (decimal method ∷ decimal old ∷ decimal new ∷ []) (Slot method old new) refl
+    (number_word method (omega (arith, to)), (number_word old (omega (arith, old_to)), (number_word new (omega (arith, new_to)), tt))) refl (omega (arith, there))
     (slot_line (number method 1 ROWS from to) (number old 0 SLOTS (omega arith) old_to) (number new 0 SLOTS (omega arith) new_to))
+
+pub signature_told : (version : ℕ) → 4 ≤ version → (method new : ℕ) → 1 ≤ method → method ≤ ROWS → new ≤ ROWS → IsTold version (Signature method new)
+signature_told version there method new from to new_to =
+    told_form version MethodSignature (decimal method ∷ decimal new ∷ []) (Signature method new) refl
+    (number_word method (omega (arith, to)), (number_word new (omega (arith, new_to)), tt)) refl there
+    (signature_line (number method 1 ROWS from to) (number new 0 ROWS (omega arith) new_to))

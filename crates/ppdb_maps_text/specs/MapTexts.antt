@@ -1,13 +1,14 @@
 -- The canonical text of a map (docs/FORMAT.md, "Map texts"): what its lines say, in their order, and how each is spelled.
-use Rattle.std.specs.Prelude.{ℕ, ◌/◌, ◌%◌, List, [], ◌∷◌, ◌++◌, codes, map}
+use Rattle.std.specs.Prelude.{ℕ, ◌+◌, ◌/◌, ◌%◌, List, [], ◌∷◌, ◌++◌, codes, map}
 use Rattle.std.specs.Char.{digit_char}
 use Rattle.std.specs.Fmt.{decimal}
 use Rattle.std.specs.List.{flat_map}
 use Rattle.ppdb_maps.specs.declared.entries.Count.{Count}
 use Rattle.ppdb_maps.specs.declared.entries.RowImage.{RowImage}
 use Rattle.ppdb_maps.specs.declared.entries.SlotImage.{SlotImage}
+use Rattle.ppdb_maps.specs.declared.entries.SignatureImage.{SignatureImage}
 use Rattle.ppdb_maps.specs.declared.line.Line.{Line}
-use Rattle.ppdb_maps.specs.declared.line.Line.TheVariants.{Silent, Rows, Row, Method, Kept, Dropped, Slots, Slot}
+use Rattle.ppdb_maps.specs.declared.line.Line.TheVariants.{Silent, Rows, Row, Method, Kept, Dropped, Slots, Slot, Signature}
 use Rattle.ppdb_maps.specs.Map.{Map, MethodLine, rows_of, slots_of}
 
 -- a word, and words after it, apart by one space
@@ -28,6 +29,7 @@ line_text (Kept run) = spaced (codes "run") (decimal run.old ∷ decimal run.new
 line_text (Dropped method) = spaced (codes "drop") (decimal method ∷ [])
 line_text (Slots method) = spaced (codes "slots") (decimal method ∷ [])
 line_text (Slot method old new) = spaced (codes "slot") (decimal method ∷ decimal old ∷ decimal new ∷ [])
+line_text (Signature method new) = spaced (codes "signature") (decimal method ∷ decimal new ∷ [])
 
 -- what the lines of an entry say
 abbrev pub row_says : RowImage → Line
@@ -35,6 +37,9 @@ row_says row = Row row.table row.old row.new
 
 abbrev pub slot_says : SlotImage → Line
 slot_says slot = Slot slot.method slot.old slot.new
+
+abbrev pub signature_says : SignatureImage → Line
+signature_says signature = Signature signature.method signature.new
 
 -- a table's count, and its rows
 abbrev pub count_says : Map → Count → List Line
@@ -48,13 +53,23 @@ slots_say m method = Slots method ∷ map slot_says (slots_of m method)
 abbrev pub method_says : MethodLine → List Line
 method_says line = Method line.method line.old_size line.new_size ∷ map Kept line.runs
 
--- tables with their rows, dropped methods, slots, methods with their runs
+-- tables with their rows, dropped methods, slots, local signatures, methods with their runs
 abbrev pub map_says : Map → List Line
-map_says m = flat_map (count_says m) m.counts ++ (map Dropped m.drops ++ (flat_map (slots_say m) m.slotted ++ flat_map method_says m.methods))
+map_says m =
+    flat_map (count_says m) m.counts
+    ++ (map Dropped m.drops ++ (flat_map (slots_say m) m.slotted ++ (map signature_says m.signatures ++ flat_map method_says m.methods)))
 
--- the text is of version 3, whatever it says
+-- the version of the text: 4 where a `signature` line is there, else 3
+abbrev pub version_with : List SignatureImage → ℕ
+version_with [] = 3
+version_with (_ ∷ _) = 4
+
+-- line 1 of a text of the version: 48 is the digit 0
+abbrev pub head_text : ℕ → List ℕ
+head_text version = codes "ppdbmap " ++ (48 + version) ∷ []
+
 abbrev pub map_lines : Map → List (List ℕ)
-map_lines m = codes "ppdbmap 3" ∷ map line_text (map_says m)
+map_lines m = head_text (version_with m.signatures) ∷ map line_text (map_says m)
 
 -- each line is ended by LF
 abbrev pub ended : List ℕ → List ℕ

@@ -1,20 +1,23 @@
 // The lines of the text of a map.
-ghost use Rattle.std.specs.Prelude.{◌≡◌, ◌<◌, codes, map, OnOk};
+ghost use Rattle.std.specs.Prelude.{◌≡◌, ◌<◌, ◌≤◌, map, OnOk};
 ghost use Rattle.std.specs.Char.{digit_char};
 ghost use Rattle.std.specs.Fmt.{decimal};
-ghost use Rattle.ppdb_maps.specs.declared.line.Line.TheVariants.{Rows, Row, Method, Kept, Dropped, Slots, Slot};
-ghost use Rattle.ppdb_maps_text.specs.MapTexts.{spaced, ended, line_text};
+ghost use Rattle.ppdb_maps.specs.declared.line.Line.TheVariants.{Rows, Row, Method, Kept, Dropped, Slots, Slot, Signature};
+ghost use Rattle.ppdb_maps_text.specs.MapTexts.{spaced, ended, head_text, line_text};
 ghost use Rattle.ppdb_maps_text.specs.Putting.{Puts};
 
 use crate::counted::Counted;
 use ppdb_base::{Memory, Run};
 
 impl Counted {
-    /// Puts the first line of a text.
-    pub fn put_head(&mut self) -> Result<(), Memory>
-        ensures { OnOk result (Puts self.old self.new (ended (codes "ppdbmap 3"))) }
+    /// Puts the first line of a text of the version.
+    #[tactic(auto, using(crate::proofs::Putting::puts_then))]
+    pub fn put_head(&mut self, version: u8) -> Result<(), Memory>
+        requires { version ≤ 9 }
+        ensures { OnOk result (Puts self.old self.new (ended (head_text version))) }
     {
-        self.put(b"ppdbmap 3\n")
+        self.put(b"ppdbmap ")?;
+        self.put(&[b'0' + version, b'\n'])
     }
 
     /// Puts the line `rows TT N`.
@@ -52,6 +55,13 @@ impl Counted {
         ensures { OnOk result (Puts self.old self.new (ended (line_text (Slot method old new)))) }
     {
         self.put_line(b"slot", &[method, u32::from(old), u32::from(new)])
+    }
+
+    /// Puts the line `signature M NEW`.
+    pub fn put_signature(&mut self, method: u32, new: u32) -> Result<(), Memory>
+        ensures { OnOk result (Puts self.old self.new (ended (line_text (Signature method new)))) }
+    {
+        self.put_line(b"signature", &[method, new])
     }
 
     /// Puts the line `method M OLDSIZE NEWSIZE`.

@@ -34,7 +34,7 @@ use Rattle.ppdb_merge_moved.proofs.SoundMoves.{moved_sound}
 use Rattle.ppdb_merge_meaning_laws.specs.Kept.{MovedBy, InputsFit, joined_inputs}
 use Rattle.ppdb_merge_names.specs.declared.imaged.Imaged.{Imaged}
 use Rattle.ppdb_merge_fits.specs.Clashes.{first_clash}
-use Rattle.ppdb_merge_fits.specs.Rows.{imaged_rows}
+use Rattle.ppdb_merge_fits.specs.Signatures.{all_images}
 use Rattle.ppdb_merge.specs.declared.index.Index.{Index}
 use Rattle.ppdb_merge.specs.declared.trace.Trace.{Trace}
 use Rattle.ppdb_merge.specs.Indexes.{Indexes}
@@ -171,15 +171,15 @@ few_documents raw documents shape is =
     length_all (d ∷ ds) = ap suc (length_all ds)
 
 pub refused_as : (marks : List (List ℕ)) (traces : List Trace) (m : Map) (raw : RawFile) (o : Option MergeError) (rows : List Imaged)
-    (documents : List DocumentValue) → first_clash marks (is_first traces) m raw ≡ None → rows ≡ imaged_rows (is_first traces) m raw
+    (documents : List DocumentValue) → first_clash marks (is_first traces) m raw ≡ None → rows ≡ all_images (is_first traces) m raw
     → documents ≡ (value_of raw).documents → o ≡ slice_get (clashes_before traces rows documents) 0 → refusal_of marks traces m raw ≡ o
 refused_as marks traces m raw o rows documents none same also is =
     refused_by marks traces m raw o none
     (is ∙ ap (λ l. slice_get (clashes_before traces l documents) 0) same
-    ∙ ap (λ l. slice_get (clashes_before traces (imaged_rows (is_first traces) m raw) l) 0) also)
+    ∙ ap (λ l. slice_get (clashes_before traces (all_images (is_first traces) m raw) l) 0) also)
 
 pub is_sound : (traces : List Trace) (m : Map) (raw : RawFile) (moved annotated : AnnotatedFile) (rows : List Imaged) → moved ≡ moved_file m annotated
-    → annotated ≡ annotated_file (value_of raw) → rows ≡ imaged_rows (is_first traces) m raw → SoundTraces (traces ++ trace_of (is_first traces) m raw ∷ [])
+    → annotated ≡ annotated_file (value_of raw) → rows ≡ all_images (is_first traces) m raw → SoundTraces (traces ++ trace_of (is_first traces) m raw ∷ [])
     → SoundTraces (traces ++ record { moved = moved; rows = rows } ∷ [])
 is_sound traces m raw moved annotated rows is from same sound =
     subst (λ file. SoundTraces (traces ++ record { moved = file; rows = rows } ∷ [])) (sym (is ∙ ap (moved_file m) from))

@@ -25,7 +25,7 @@ some_of : {A : Type 0} (a b : A) → Some a ≡ Some b → a ≡ b
 some_of a b e = cc
 
 -- what holds of what is made of items holds of what each makes
-Each-unmapped : {A B : Type 0} (f : A → Option B) (P : B → Type 0) (xs : List A) → Each P (filter_map f xs) → Each (λ x. (y : B) → f x ≡ Some y → P y) xs
+pub Each-unmapped : {A B : Type 0} (f : A → Option B) (P : B → Type 0) (xs : List A) → Each P (filter_map f xs) → Each (λ x. (y : B) → f x ≡ Some y → P y) xs
 Each-unmapped f P [] each = tt
 Each-unmapped {A} {B} f P (x ∷ xs) each = step (f x) refl each (λ rest. Each-unmapped f P xs rest)
   where

@@ -2,6 +2,7 @@ pub mod Adding
 pub mod Apart
 pub mod Counted
 pub mod Few
+pub mod Given
 pub mod Imaged
 pub mod Indexing
 pub mod Looking

@@ -14,6 +14,7 @@ use Rattle.ppdb_merge_items.specs.Laws.{SoundnessIsAnnotated}
 use Rattle.ppdb_merge_items.specs.NamedRows.{Named, names, names_some, named_rows, live_file, in_entry, all_named}
 use Rattle.ppdb_merge_items.specs.Annotated.{annotated_file}
 use Rattle.ppdb_merge_items.specs.SoundParts.{SoundMoved}
+use Rattle.ppdb_merge_items.proofs.Lists.{Each-weaker}
 use Rattle.ppdb_merge_names.specs.declared.imaged.Imaged.{Imaged}
 use Rattle.ppdb_merge_names_laws.specs.Laws.{ReferencesAreNamed}
 use Rattle.ppdb_merge_moved.specs.Fits.{Fits, IsImaged}
@@ -24,7 +25,9 @@ use Rattle.ppdb_merge_moved.proofs.NamedRows.{named_rows_are_rows}
 use Rattle.ppdb_merge_moved.proofs.RowImages.{moved_is_image}
 use Rattle.ppdb_merge_meaning_laws.proofs.MoreRows.{sound_moved}
 use Rattle.ppdb_merge_fits.specs.Rows.{imaged_rows}
+use Rattle.ppdb_merge_fits.specs.Signatures.{all_images}
 use Rattle.ppdb_merge.specs.Sound.{IsImageIn}
+use Rattle.ppdb_merge.proofs.Given.{row_in_all, given_in_all}
 use Rattle.ppdb_merge.proofs.Imaged.{named_in_rows}
 use Rattle.ppdb_merge_meaning_laws.proofs.MovedRows.{some_moves, all_move}
 
@@ -36,7 +39,7 @@ module _ (annotated : SoundnessIsAnnotated) (named : ReferencesAreNamed) (first 
   file = annotated_file (value_of raw)
 
   abbrev rows : List Imaged
-  rows = imaged_rows first m raw
+  rows = all_images first m raw
 
   pub file_sound : SoundMoved file
   file_sound = sound_moved file (annotated.parts (value_of raw) sound)
@@ -54,7 +57,11 @@ module _ (annotated : SoundnessIsAnnotated) (named : ReferencesAreNamed) (first 
       (λ n. (image : ℕ) → row_image m n.table n.row ≡ Some image → Contains rows (record { table = n.table; row = n.row; image = image }))
       HasImage (named_rows first m file)
       (λ n image row there. (image.0, image.1, row.0, there image.0 image.1))
-      fits.images (named_rows_are_rows first m file file_sound entry_small) (named_in_rows first m raw named keeps)
+      fits.images (named_rows_are_rows first m file file_sound entry_small)
+      (Each-weaker (λ n. (image : ℕ) → row_image m n.table n.row ≡ Some image
+      → Contains (imaged_rows first m raw) (record { table = n.table; row = n.row; image = image }))
+      (λ n. (image : ℕ) → row_image m n.table n.row ≡ Some image → Contains rows (record { table = n.table; row = n.row; image = image }))
+      (λ n there image is. row_in_all first m raw _ (there image is)) (named_rows first m file) (named_in_rows first m raw named keeps))
 
   moves : (table row : ℕ) → HasImage (names table row) → IsImageIn rows (names table (moved_row m table row))
   moves table row has =
@@ -64,7 +71,7 @@ module _ (annotated : SoundnessIsAnnotated) (named : ReferencesAreNamed) (first 
   parts = named_parts HasImage first m file all_named_images
 
   pub moved_images : Each (IsImageIn rows) (all_named (moved_file m file))
-  moved_images = all_move m HasImage (IsImageIn rows) moves first file parts
+  moved_images = all_move m HasImage (IsImageIn rows) moves first file parts (given_in_all first m raw)
 
   pub moved_entry : first ≡ true → Each (IsImageIn rows) (names_some 0x06 (moved_file m file).entry)
   moved_entry is = by_drop (is_dropped m file.entry) refl (subst (λ b. Each HasImage (in_entry b (live_file m file))) is parts.entry)

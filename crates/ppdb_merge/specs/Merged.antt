@@ -6,7 +6,7 @@ use Rattle.ppdb_merge_items.specs.Annotated.{annotated_file}
 use Rattle.ppdb_values.specs.RawFile.{RawFile}
 use Rattle.ppdb_values.specs.Value.{value_of}
 use Rattle.ppdb_merge_moved.specs.Moved.{moved_file}
-use Rattle.ppdb_merge_fits.specs.Rows.{imaged_rows}
+use Rattle.ppdb_merge_fits.specs.Signatures.{all_images}
 use Rattle.ppdb_merge.specs.declared.trace.Trace.{Trace}
 
 -- the kinds that are marked as free, and what is kept of each input, in order
@@ -14,9 +14,9 @@ pub record Merged : Type 0 where
   pub marks : List (List ℕ)
   pub traces : List Trace
 
--- what is kept of an input: what it became, with the output's row counts, and the rows that it names with their images
+-- what is kept of an input: what it became, with the output's row counts, and the images that it has in the output
 abbrev pub trace_of : Bool → Map → RawFile → Trace
-trace_of first m raw = record { moved = moved_file m (annotated_file (value_of raw)); rows = imaged_rows first m raw }
+trace_of first m raw = record { moved = moved_file m (annotated_file (value_of raw)); rows = all_images first m raw }
 
 -- what the inputs became
 abbrev pub moved_files : List Trace → List AnnotatedFile

@@ -14,7 +14,7 @@ use Rattle.ppdb_merge_items.specs.Sorted.{in_order}
 use Rattle.ppdb_merge_names.specs.declared.imaged.Imaged.{Imaged}
 use Rattle.ppdb_merge_joined.specs.Joined.{joined_documents}
 use Rattle.ppdb_merge_fits.specs.Clashes.{first_clash}
-use Rattle.ppdb_merge_fits.specs.Rows.{imaged_rows}
+use Rattle.ppdb_merge_fits.specs.Signatures.{all_images}
 use Rattle.ppdb_merge.specs.declared.trace.Trace.{Trace}
 use Rattle.ppdb_merge.specs.Merged.{trace_of, moved_files, is_first}
 
@@ -71,7 +71,7 @@ or_first None others = slice_get others 0
 abbrev pub refusal_of : List (List ℕ) → List Trace → Map → RawFile → Option MergeError
 refusal_of marks traces m raw =
     or_first (first_clash marks (is_first traces) m raw)
-    (clashes_before traces (imaged_rows (is_first traces) m raw) (value_of raw).documents)
+    (clashes_before traces (all_images (is_first traces) m raw) (value_of raw).documents)
 
 abbrev pub with_trace : List Trace → Trace → Option MergeError → Result (List Trace) MergeError
 with_trace traces t (Some e) = Err e

@@ -17,7 +17,7 @@ use Rattle.ppdb_merge_joined.specs.Small.{HasFewRows}
 abbrev pub IsImageIn : List Imaged → Named → Type 0
 IsImageIn rows n = (i : Imaged) × Contains rows i × (i.table ≡ n.table) × (i.image ≡ n.row)
 
--- What is kept of one input: what it became is sound, and names images of the rows that the input names.
+-- What is kept of one input: what it became is sound, and names images that are kept.
 pub record SoundTrace (t : Trace) : Type 0 where
   pub sound : SoundMoved t.moved
   pub counts : SoundRows t.moved.rows

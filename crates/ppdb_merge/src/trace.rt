@@ -8,6 +8,7 @@ use ppdb_merge_names::Imaged;
 pub struct Trace {
     /// What the input says, moved by its map, with the output's row counts. Its points are packed.
     pub moved: KeptFile,
-    /// The rows of the type system that the input names, with their images: each once, by table and row.
+    /// The rows of the type system that the input names, with their images, and the local signatures that `signature` lines give: by table, row and
+    /// image.
     pub rows: List<Imaged>,
 }

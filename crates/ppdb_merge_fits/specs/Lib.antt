@@ -3,6 +3,7 @@ pub mod FirstOf
 pub mod Laws
 pub mod Offsets
 pub mod Rows
+pub mod Signatures
 pub mod Slots
 pub mod Twice
 pub mod Worked

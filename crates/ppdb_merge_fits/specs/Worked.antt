@@ -19,7 +19,7 @@ use Rattle.ppdb_merge_fits.specs.Rows.{imaged_rows}
 -- ---- maps
 
 abbrev pub no_lines : Map
-no_lines = record { counts = []; rows = []; methods = []; drops = []; slotted = []; slots = [] }
+no_lines = record { counts = []; rows = []; methods = []; drops = []; slotted = []; slots = []; signatures = [] }
 
 -- `method 1 SIZE SIZE / run 0 0 LENGTH`
 abbrev pub prefix_kept : ℕ → ℕ → MethodLine

@@ -10,11 +10,13 @@ ghost use Rattle.ppdb_merge_fits.specs.Clashes.{unknown_kinds, first_clash};
 ghost use Rattle.ppdb_merge_fits.specs.FirstOf.{IsFirstOf};
 ghost use Rattle.ppdb_merge_fits.specs.Offsets.{beyond, lost};
 ghost use Rattle.ppdb_merge_fits.specs.Rows.{imaged, imaged_rows, unmapped, image_twice, images_twice};
+ghost use Rattle.ppdb_merge_fits.specs.Signatures.{all_images};
 ghost use Rattle.ppdb_merge_fits.specs.Slots.{variable_slots, slots_unmapped, slots_twice};
 ghost use Rattle.ppdb_merge_fits.specs.Twice.{twice};
 
 use crate::kinds::first_unknown;
 use crate::offsets::{first_beyond, first_lost};
+use crate::signatures::with_given;
 use crate::slots::first_of_slots;
 use crate::twice::{first_twice, leave_once};
 use custom_info::Marks;
@@ -107,8 +109,8 @@ fn judge_slots(alloc: Global, value: &FileValue, map: &MapText) -> Result<(), Me
 }
 
 /// Judges whether a map fits a file, whose value is handed in: the rows of the type system that the file names with their images, each
-/// once, by table and row; else what does not fit first, in the order M6, M4, M5, M1, M2, M10, M11. What stands at a dropped method is
-/// not judged. The entry point counts in the first of several files.
+/// once, and the local signatures that `signature` lines give, by table, row and image; else what does not fit first, in the order M6,
+/// M4, M5, M1, M2, M10, M11. What stands at a dropped method is not judged. The entry point counts in the first of several files.
 pub fn judge<L: Ledger>(
     alloc: Global,
     file: &Verified<'_>,
@@ -120,12 +122,12 @@ pub fn judge<L: Ledger>(
 ) -> Result<List<Imaged>, MergeError>
     requires { value.now ≡ value_of (raw_file file.now) }
     ensures fits { IfOk result (λ rows. first_clash marks.now first map.now (raw_file file.now) ≡ None) }
-    ensures rows { IfOk result (λ rows. rows ≡ imaged_rows first map.now (raw_file file.now)) }
+    ensures rows { IfOk result (λ rows. rows ≡ all_images first map.now (raw_file file.now)) }
     ensures refused { IfErr result (λ error. (error ≡ NoMemory) ⊎ (first_clash marks.now first map.now (raw_file file.now) ≡ Some error)) }
 {
     file.keeps();
     judge_value(alloc, value, map, marks)?;
     let rows = judge_rows(alloc, file, map, first, steps)?;
     judge_slots(alloc, value, map)?;
-    Ok(rows)
+    Ok(with_given(alloc, map, value, rows)?)
 }

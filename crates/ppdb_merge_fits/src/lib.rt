@@ -1,4 +1,4 @@
-//! Whether a map fits a debug file: what does not fit first, and where all fits, the rows that the file names with their images.
+//! Whether a map fits a debug file: what does not fit first, and where all fits, the images that the file has in the output.
 #![tactic(auto)]
 
 mod judged;
@@ -6,6 +6,7 @@ mod judging;
 mod kinds;
 mod laws;
 mod offsets;
+mod signatures;
 mod slots;
 mod twice;
 mod used;

@@ -1,7 +1,7 @@
 // Items of a group that have one image.
 ghost use Rattle.std.specs.Prelude.{◌≡◌, IfOk, OnOk, slice_get};
 ghost use Rattle.ppdb_merge_items.specs.Sorted.{in_order};
-ghost use Rattle.ppdb_merge_fits.specs.Twice.{beside, each_once, have_one_image, if_one_image, is_same, twice};
+ghost use Rattle.ppdb_merge_fits.specs.Twice.{beside, by_all, each_once, have_one_image, if_one_image, is_same, twice};
 
 use crate::used::UsedSlot;
 use ppdb_base::{Memory, MergeError};
@@ -121,6 +121,16 @@ fn by_group<T: HasImage>(items: &mut Vec<T>) -> Result<(), Memory>
     ensures { OnOk result (items.new.items ≡ in_order T.group_of items.old.items) }
 {
     items.sort_by_key(|item| item.group())?;
+    Ok(())
+}
+
+/// Sets items in order by their groups, in a group by their numbers, and of one number by their images.
+pub(crate) fn by_all<T: HasImage>(all: &mut Vec<T>) -> Result<(), Memory>
+    ensures { OnOk result (all.new.items ≡ by_all T.group_of T.number_of T.image_of all.old.items) }
+{
+    by_image(all)?;
+    by_number(all)?;
+    by_group(all)?;
     Ok(())
 }
 

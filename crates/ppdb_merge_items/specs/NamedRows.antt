@@ -1,8 +1,8 @@
 -- The rows of the type system that a file names (Portable PDB v1.0, "Metadata Tables" and the formats of its blobs), but for those
 -- of dropped methods.
-use Rattle.std.specs.Prelude.{ℕ, ◌&&◌, ◌||◌, not, Bool, true, false, cond, nat_eq, List, [], ◌∷◌, ◌++◌, map}
+use Rattle.std.specs.Prelude.{ℕ, ◌&&◌, ◌||◌, not, Bool, true, false, cond, nat_eq, is_some, List, [], ◌∷◌, ◌++◌, map}
 use Rattle.std.specs.List.{filter, flat_map}
-use Rattle.ppdb_maps.specs.Map.{Map, is_dropped}
+use Rattle.ppdb_maps.specs.Map.{Map, is_dropped, signature_line}
 use Rattle.type_blobs.specs.declared.types.TypeToken.{TypeToken}
 use Rattle.type_blobs.specs.declared.types.Modifier.{Modifier}
 use Rattle.custom_info.specs.declared.stepping.AsyncStep.{AsyncStep}
@@ -69,11 +69,19 @@ live_machine m machine = not (is_dropped m machine.move_next || is_dropped m mac
 abbrev pub live_custom : Map → CustomValue → Bool
 live_custom m custom = not (nat_eq custom.parent.table 0x06 && is_dropped m custom.parent.row)
 
--- What stands at a dropped method goes: points, scopes with what they own, state machines, custom records, and an entry point.
+-- the stored local signature of a method is cut where the method has a `signature` line
+abbrev pub live_signature : Map → MethodValue → ℕ
+live_signature m method = cond (is_some (signature_line m method.method)) 0 method.signature
+
+abbrev pub with_live_signature : Map → MethodValue → MethodValue
+with_live_signature m method = record method { signature = live_signature m method }
+
+-- What stands at a dropped method goes: points, scopes with what they own, state machines, custom records, and an entry point. So does
+-- the stored local signature of a method that has a `signature` line.
 abbrev pub live_file : Map → AnnotatedFile → AnnotatedFile
 live_file m file = record file {
   entry = cond (is_dropped m file.entry) 0 file.entry;
-  methods = filter (live_method m) file.methods;
+  methods = map (with_live_signature m) (filter (live_method m) file.methods);
   scopes = filter (live_scope m) file.scopes;
   machines = filter (live_machine m) file.machines;
   customs = filter (live_custom m) file.customs;

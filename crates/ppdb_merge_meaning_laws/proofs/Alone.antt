@@ -2,13 +2,15 @@
 use Rattle.std.proofs.Common.{◌≡◌, ℕ, zero, suc, ◌≤◌, Bool, true, false, cond, [], ◌∷◌, Option, Some, None, refl, sym, ◌∙◌, ap, subst, arith}
 use Rattle.std.specs.Prelude.{nat_eq, unwrap_or, slice_index, Contains}
 use Rattle.std.proofs.lemmas.Bool.{eqb-true}
-use Rattle.ppdb_maps.specs.Map.{Map, row_image, row_line, count_of, moved_row, is_dropped}
+use Rattle.ppdb_maps.specs.Map.{Map, row_image, row_line, signature_line, count_of, moved_row, is_dropped}
+use Rattle.ppdb_values.specs.declared.file.MethodValue.{MethodValue}
 use Rattle.ppdb_values_sound_laws.specs.Sound.{IsSound}
 use Rattle.ppdb_merge_items.specs.declared.file.AnnotatedFile.{AnnotatedFile}
 use Rattle.ppdb_merge_items.specs.Each.{Each}
 use Rattle.ppdb_merge_items.specs.Laws.{SoundnessIsAnnotated}
 use Rattle.ppdb_merge_items.specs.NamedRows.{Named, names, names_some, named_rows}
 use Rattle.ppdb_merge_items.specs.Annotated.{annotated_file}
+use Rattle.ppdb_merge_items.proofs.Lists.{Each-weaker}
 use Rattle.ppdb_merge_joined.specs.Joinable.{CountsRows}
 use Rattle.ppdb_merge_joined.specs.Joined.{joined}
 use Rattle.ppdb_merge_joined.specs.Laws.{JoinedIsSound}
@@ -61,11 +63,23 @@ module _ (annotated : SoundnessIsAnnotated) (law : JoinedIsSound) (input : Moved
       let low = in_each (λ n. (1 ≤ n.row) × (n.row ≤ 16777215)) (named_rows true m file) (names table row)
       (named_rows_are_rows true m file (input_sound annotated (true, input) fits) entry_small) is in
       let small = in_each (λ n. (image : ℕ) → row_image m n.table n.row ≡ Some image → image ≤ slice_index moved.rows n.table)
-      (named_rows true m file) (names table row) counted is in
+      (named_rows true m file) (names table row) counted.rows is in
       subst (λ r. r ≤ slice_index moved.rows table) (sym (moved_is_image m table row imaged.0 low.0 imaged.1)) (small imaged.0 imaged.1)
 
   parts : NamedParts In true m file
   parts = named_parts In true m file (each_in In (named_rows true m file) (λ n is. is))
+
+  some_within : (new : ℕ) → new ≤ slice_index moved.rows 0x11 → Each Within (names_some 0x11 new)
+  some_within new small = by (nat_eq new 0)
+    where
+      by : (b : Bool) → Each Within (cond b [] (names 0x11 new ∷ []))
+      by true = tt
+      by false = (small, tt)
+
+  signed : Each (λ (e : MethodValue). (new : ℕ) → signature_line m e.method ≡ Some new → Each Within (names_some 0x11 new)) file.methods
+  signed = Each-weaker (λ (e : MethodValue). (new : ℕ) → signature_line m e.method ≡ Some new → new ≤ slice_index moved.rows 0x11)
+      (λ (e : MethodValue). (new : ℕ) → signature_line m e.method ≡ Some new → Each Within (names_some 0x11 new))
+      (λ e small new is. some_within new (small new is)) input.value.methods counted.signatures
 
   entry_moves : Each Within (names_some 0x06 moved.entry)
   entry_moves = by_drop (is_dropped m file.entry) refl parts.entry
@@ -86,7 +100,7 @@ module _ (annotated : SoundnessIsAnnotated) (law : JoinedIsSound) (input : Moved
   counts = record {
     rows = moved_counts_sound m fits.ready input.value.rows fits.sound.rows;
     entry = entry_there;
-    named = (all_move m In Within moves true file parts, tt);
+    named = (all_move m In Within moves true file parts signed, tt);
   }
 
   pub sound_alone : IsSound (joined_inputs (input ∷ []))

@@ -1,7 +1,7 @@
 -- What holds of the rows of the type system that a moved file names, where it holds of the images of those that the file names.
 use Rattle.std.proofs.Common.{◌≡◌, ℕ, zero, suc, ◌&&◌, ◌||◌, not, Bool, true, false, cond, List, [], ◌∷◌, Option, Some, None, map, flat_map}
 use Rattle.std.proofs.Common.{refl, sym, ◌∙◌, ap, subst, arith}
-use Rattle.std.specs.Prelude.{nat_eq, nat_lt}
+use Rattle.std.specs.Prelude.{nat_eq, nat_lt, is_some, unwrap_or}
 use Rattle.std.specs.List.{filter_map}
 use Rattle.std.proofs.lemmas.Bool.{both_ways, ne_eqb}
 use Rattle.ppdb_base.specs.Offsets.{gone, old_size}
@@ -10,7 +10,7 @@ use Rattle.sequence_points.specs.MovedPoints.{moved_points, first_offset}
 use Rattle.type_blobs.specs.declared.types.TypeToken.{TypeToken}
 use Rattle.type_blobs.specs.declared.types.Modifier.{Modifier}
 use Rattle.custom_info.specs.declared.stepping.AsyncStep.{AsyncStep}
-use Rattle.ppdb_maps.specs.Map.{Map, moved_row, offsets_in, is_dropped, line_offsets, method_line}
+use Rattle.ppdb_maps.specs.Map.{Map, moved_row, moved_signature, signature_line, offsets_in, is_dropped, line_offsets, method_line}
 use Rattle.ppdb_tables.specs.declared.rows.MachineRow.{MachineRow}
 use Rattle.ppdb_values.specs.declared.custom.CustomBody.{CustomBody}
 use Rattle.ppdb_values.specs.declared.custom.CustomBody.TheVariants.{Async, Hoisted, TypeDocuments, Unread}
@@ -28,6 +28,7 @@ use Rattle.ppdb_merge_items.specs.declared.file.AnnotatedScope.{AnnotatedScope}
 use Rattle.ppdb_merge_items.specs.declared.file.AnnotatedFile.{AnnotatedFile}
 use Rattle.ppdb_merge_items.specs.Each.{Each}
 use Rattle.ppdb_merge_items.specs.NamedRows.{Named, names, names_some, all_named, in_token, in_body, in_constant, in_import, in_steps, live_machine, live_custom}
+use Rattle.ppdb_merge_items.specs.NamedRows.{live_signature}
 use Rattle.ppdb_merge_items.proofs.Lists.{Each-append, Each-map}
 use Rattle.ppdb_merge_joined.proofs.Each.{Each-flat}
 use Rattle.ppdb_merge_items.specs.Annotated.{with_item}
@@ -35,7 +36,7 @@ use Rattle.ppdb_merge_moved.specs.Moved.{moved_range, is_empty, moved_token, mov
 use Rattle.ppdb_merge_moved.specs.Moved.{moved_import_scope, with_points, moved_method, scope_image, moved_scope, moved_machine, moved_step, moved_body, moved_custom}
 use Rattle.ppdb_merge_moved.specs.Moved.{moved_file}
 use Rattle.ppdb_merge_moved.proofs.Elements.{each_parts}
-use Rattle.ppdb_merge_moved.proofs.Lists.{Each-filter_map}
+use Rattle.ppdb_merge_moved.proofs.Lists.{Each-both, Each-filter_map}
 use Rattle.ppdb_merge_moved.proofs.NamedParts.{NamedParts}
 
 some_of : {A : Type 0} (a b : A) → Some a ≡ Some b → a ≡ b
@@ -168,17 +169,32 @@ module _ (m : Map) (P Q : Named → Type 0) (moves : (table row : ℕ) → P (na
   abbrev of_custom : CustomValue → List Named
   of_custom c = names c.parent.table c.parent.row ∷ in_steps c.value
 
-  method_moves : (e q : MethodValue) → moved_method m e ≡ Some q
-      → (is_dropped m e.method ≡ false → P (names 0x06 e.method) × Each P (names_some 0x11 e.signature)) → Each Q (of_method q)
+  -- of the local signature of a `signature` line
+  abbrev pub Given : MethodValue → Type 0
+  Given e = (new : ℕ) → signature_line m e.method ≡ Some new → Each Q (names_some 0x11 new)
+
+  abbrev MethodNames : MethodValue → Type 0
+  MethodNames e = is_dropped m e.method ≡ false → P (names 0x06 e.method) × Each P (names_some 0x11 (live_signature m e))
+
+  signature_moves : (e : MethodValue) → Given e → Each P (names_some 0x11 (live_signature m e))
+      → Each Q (names_some 0x11 (moved_signature m e.method e.signature))
+  signature_moves e given each = by_line (signature_line m e.method) refl each
+    where
+      by_line : (o : Option ℕ) → signature_line m e.method ≡ o → Each P (names_some 0x11 (cond (is_some o) 0 e.signature))
+          → Each Q (names_some 0x11 (unwrap_or o (moved_row m 0x11 e.signature)))
+      by_line None is each = some_moves 0x11 e.signature each
+      by_line (Some new) is each = given new is
+
+  method_moves : (e q : MethodValue) → moved_method m e ≡ Some q → MethodNames e × Given e → Each Q (of_method q)
   method_moves e q is holds = by_points (moved_points (offsets_in m e.method) e.points) is
     where
-      both : P (names 0x06 e.method) × Each P (names_some 0x11 e.signature)
-      both = holds (method_stays m e q is)
+      both : P (names 0x06 e.method) × Each P (names_some 0x11 (live_signature m e))
+      both = holds.0 (method_stays m e q is)
 
       by_points : (ps : List Point) → with_points m e ps ≡ Some q → Each Q (of_method q)
       by_points [] eq = absurd (cc)
       by_points (p ∷ ps) eq = subst (λ (r : MethodValue). Each Q (of_method r)) (some_of _ q eq)
-          (moves 0x06 e.method both.0, some_moves 0x11 e.signature both.1)
+          (moves 0x06 e.method both.0, signature_moves e holds.1 both.1)
 
   machine_moves : (r s : MachineRow) → moved_machine m r ≡ Some s
       → (live_machine m r ≡ true → P (names 0x06 r.move_next) × P (names 0x06 r.kickoff)) → Each Q (of_machine s)
@@ -228,10 +244,11 @@ module _ (m : Map) (P Q : Named → Type 0) (moves : (table row : ℕ) → P (na
       let stays = scope_stays m s t eq in
       subst (λ (r : AnnotatedScope). Each Q (flat_map in_constant r.constants)) stays.is (constants_move s.constants (holds.constants stays.live))
 
-  pub all_move : (first : Bool) (w : AnnotatedFile) → NamedParts P first m w → Each Q (all_named (moved_file m w))
-  all_move first w parts =
+  pub all_move : (first : Bool) (w : AnnotatedFile) → NamedParts P first m w → Each Given w.methods → Each Q (all_named (moved_file m w))
+  all_move first w parts given =
       Each-append Q _ _ (Each-flat of_method Q (filter_map (moved_method m) w.methods)
-      (Each-filter_map (moved_method m) _ (λ q. Each Q (of_method q)) method_moves w.methods parts.methods))
+      (Each-filter_map (moved_method m) (λ e. MethodNames e × Given e) (λ q. Each Q (of_method q)) method_moves w.methods
+      (Each-both MethodNames Given w.methods parts.methods given)))
       (Each-append Q _ _ (Each-map (λ (s : AnnotatedScope). names 0x06 s.method) Q (filter_map (moved_scope m) w.scopes)
       (Each-filter_map (moved_scope m) ScopeNames (λ t. Q (names 0x06 t.method)) scope_moves w.scopes scopes))
       (Each-append Q _ _ (Each-flat (λ (s : AnnotatedScope). flat_map in_constant s.constants) Q (filter_map (moved_scope m) w.scopes)

@@ -26,7 +26,7 @@ use Rattle.ppdb_values_sound_laws.specs.Methods.{SoundMethod}
 use Rattle.ppdb_merge_items.specs.declared.file.AnnotatedScope.{AnnotatedScope}
 use Rattle.ppdb_merge_items.specs.declared.file.AnnotatedFile.{AnnotatedFile}
 use Rattle.ppdb_merge_items.specs.Each.{Each}
-use Rattle.ppdb_merge_items.specs.NamedRows.{Named, names, names_some, named_rows, in_entry, live_file, live_machine}
+use Rattle.ppdb_merge_items.specs.NamedRows.{Named, names, names_some, named_rows, in_entry, live_file, live_machine, live_signature}
 use Rattle.ppdb_merge_items.specs.NamedRows.{live_custom, in_steps}
 use Rattle.ppdb_merge_items.specs.SoundParts.{SoundAnnotatedScope}
 use Rattle.ppdb_merge_items.specs.Unannotated.{value_of_annotated}
@@ -192,7 +192,7 @@ fits_file first m w method above below ready sound fits named = record {
   methods = each_of_three (SoundMethod value) (λ e. Each (λ (p : Point). p.offset < old_size (offsets_in m e.method)) e.points)
       (λ e. is_dropped m e.method ≡ false → Contains (named_rows first m w) (names 0x06 e.method)) (FitsMethod m method) w.methods
       (λ e sound_e under there. method_fits first m w method above below ready fits named e sound_e.rise under there) sound.methods fits.points
-      (Each-weaker (λ e. is_dropped m e.method ≡ false → In_ (names 0x06 e.method) × Each In_ (names_some 0x11 e.signature))
+      (Each-weaker (λ e. is_dropped m e.method ≡ false → In_ (names 0x06 e.method) × Each In_ (names_some 0x11 (live_signature m e)))
       (λ e. is_dropped m e.method ≡ false → In_ (names 0x06 e.method))
       (λ e holds is. (holds is).0) w.methods named_in.methods);
   scopes = each_of_three (SoundAnnotatedScope value) (λ s. s.range.end ≤ old_size (offsets_in m s.method))

@@ -1,7 +1,8 @@
 -- What holds of each row that a file names, part by part of the file.
-use Rattle.std.proofs.Common.{◌≡◌, ◌++◌, not, Bool, true, false, List, [], ◌∷◌, ap, flat_map, map}
+use Rattle.std.proofs.Common.{◌≡◌, ℕ, ◌++◌, not, Bool, true, false, cond, List, [], ◌∷◌, Option, None, ap, flat_map, map}
+use Rattle.std.specs.Prelude.{is_some}
 use Rattle.std.specs.List.{filter}
-use Rattle.ppdb_maps.specs.Map.{Map, is_dropped}
+use Rattle.ppdb_maps.specs.Map.{Map, is_dropped, signature_line}
 use Rattle.ppdb_tables.specs.declared.rows.MachineRow.{MachineRow}
 use Rattle.ppdb_values.specs.declared.custom.CustomValue.{CustomValue}
 use Rattle.ppdb_values.specs.declared.file.MethodValue.{MethodValue}
@@ -11,13 +12,17 @@ use Rattle.ppdb_merge_items.specs.declared.file.AnnotatedScope.{AnnotatedScope}
 use Rattle.ppdb_merge_items.specs.declared.file.AnnotatedFile.{AnnotatedFile}
 use Rattle.ppdb_merge_items.specs.Each.{Each}
 use Rattle.ppdb_merge_items.specs.NamedRows.{Named, names, names_some, named_rows, in_entry, in_constant, in_import, in_steps, all_named, live_file, live_method}
-use Rattle.ppdb_merge_items.specs.NamedRows.{live_scope, live_machine, live_custom}
+use Rattle.ppdb_merge_items.specs.NamedRows.{live_scope, live_machine, live_custom, live_signature, with_live_signature}
 use Rattle.ppdb_merge_items.proofs.Lists.{Each-weaker, Each-unmap}
 use Rattle.ppdb_merge_moved.proofs.Elements.{each_parts, each_made, each_left}
 
+-- a local signature is looked at where the method has no `signature` line
+pub unsigned : (m : Map) (e : MethodValue) → signature_line m e.method ≡ None → live_signature m e ≡ e.signature
+unsigned m e is = ap (λ (o : Option ℕ). cond (is_some o) 0 e.signature) is
+
 pub record NamedParts (P : Named → Type 0) (first : Bool) (m : Map) (w : AnnotatedFile) : Type 0 where
   pub entry : Each P (in_entry first (live_file m w))
-  pub methods : Each (λ e. is_dropped m e.method ≡ false → P (names 0x06 e.method) × Each P (names_some 0x11 e.signature)) w.methods
+  pub methods : Each (λ e. is_dropped m e.method ≡ false → P (names 0x06 e.method) × Each P (names_some 0x11 (live_signature m e))) w.methods
   pub scopes : Each (λ s. is_dropped m s.method ≡ false → P (names 0x06 s.method)) w.scopes
   pub constants : Each (λ s. is_dropped m s.method ≡ false → Each (λ n. Each P (in_constant n)) s.constants) w.scopes
   pub imports : Each (λ (i : Annotation ImportScopeValue). Each (λ n. Each P (in_import n)) i.item.imports) w.imports
@@ -32,16 +37,19 @@ live_made live f P xs each = each_left (λ x. Each P (f x)) live xs (each_made f
 pub named_parts : (P : Named → Type 0) (first : Bool) (m : Map) (w : AnnotatedFile) → Each P (named_rows first m w) → NamedParts P first m w
 named_parts P first m w each =
     let entry = each_parts P (in_entry first (live_file m w)) (all_named (live_file m w)) each in
-    let methods = each_parts P (flat_map of_method (filter (live_method m) w.methods)) (from_scopes) entry.1 in
+    let methods = each_parts P (flat_map of_method (map (with_live_signature m) (filter (live_method m) w.methods))) (from_scopes) entry.1 in
     let scopes = each_parts P (map (λ (s : AnnotatedScope). names 0x06 s.method) (filter (live_scope m) w.scopes)) (from_constants) methods.1 in
     let constants = each_parts P (flat_map of_constants (filter (live_scope m) w.scopes)) (from_imports) scopes.1 in
     let imports = each_parts P (flat_map of_imports w.imports) (from_machines) constants.1 in
     let machines = each_parts P (flat_map of_machine (filter (live_machine m) w.machines)) (flat_map of_custom (filter (live_custom m) w.customs)) imports.1 in
     record {
       entry = entry.0;
-      methods = Each-weaker (λ e. live_method m e ≡ true → Each P (of_method e))
-          (λ e. is_dropped m e.method ≡ false → P (names 0x06 e.method) × Each P (names_some 0x11 e.signature))
-          (λ e holds is. let both = holds (ap not is) in (both.0, both.1)) w.methods (live_made (live_method m) of_method P w.methods methods.0);
+      methods = Each-weaker (λ e. live_method m e ≡ true → Each P (of_method (with_live_signature m e)))
+          (λ e. is_dropped m e.method ≡ false → P (names 0x06 e.method) × Each P (names_some 0x11 (live_signature m e)))
+          (λ e holds is. let both = holds (ap not is) in (both.0, both.1)) w.methods
+          (each_left (λ e. Each P (of_method (with_live_signature m e))) (live_method m) w.methods
+          (Each-unmap (with_live_signature m) (λ e. Each P (of_method e)) (filter (live_method m) w.methods)
+          (each_made of_method P (map (with_live_signature m) (filter (live_method m) w.methods)) methods.0)));
       scopes = Each-weaker (λ s. live_scope m s ≡ true → P (names 0x06 s.method)) (λ s. is_dropped m s.method ≡ false → P (names 0x06 s.method))
           (λ s holds is. holds (ap not is)) w.scopes
           (each_left (λ s. P (names 0x06 s.method)) (live_scope m) w.scopes

@@ -1,6 +1,6 @@
 -- The rows that a sound file names are rows.
 use Rattle.std.proofs.Common.{◌≡◌, ℕ, zero, suc, ◌≤◌, Bool, true, false, cond, List, [], ◌∷◌, map, flat_map, refl, subst, arith}
-use Rattle.std.specs.Prelude.{nat_eq}
+use Rattle.std.specs.Prelude.{nat_eq, is_some}
 use Rattle.std.specs.List.{filter}
 use Rattle.std.proofs.lemmas.Bool.{eqb-false}
 use Rattle.type_blobs.specs.declared.types.TypeToken.{TypeToken}
@@ -11,7 +11,7 @@ use Rattle.custom_info.specs.Kinds.{kind_of}
 use Rattle.custom_info.specs.declared.kinds.Kind.{Kind}
 use Rattle.custom_info.specs.declared.kinds.Kind.TheVariants as kinds
 use Rattle.custom_info.specs.declared.stepping.AsyncStep.{AsyncStep}
-use Rattle.ppdb_maps.specs.Map.{Map, is_dropped}
+use Rattle.ppdb_maps.specs.Map.{Map, is_dropped, signature_line}
 use Rattle.ppdb_tables.specs.declared.rows.MachineRow.{MachineRow}
 use Rattle.ppdb_values.specs.declared.custom.CustomBody.{CustomBody}
 use Rattle.ppdb_values.specs.declared.custom.CustomBody.TheVariants.{Async, Hoisted, TypeDocuments, Unread}
@@ -34,7 +34,7 @@ use Rattle.ppdb_merge_items.specs.declared.file.AnnotatedScope.{AnnotatedScope}
 use Rattle.ppdb_merge_items.specs.declared.file.AnnotatedFile.{AnnotatedFile}
 use Rattle.ppdb_merge_items.specs.Each.{Each}
 use Rattle.ppdb_merge_items.specs.NamedRows.{Named, names, names_some, in_token, in_body, in_constant, in_import, in_steps, in_entry, all_named}
-use Rattle.ppdb_merge_items.specs.NamedRows.{live_file, live_method, live_scope, live_machine, live_custom}
+use Rattle.ppdb_merge_items.specs.NamedRows.{live_file, live_method, live_scope, live_machine, live_custom, live_signature, with_live_signature}
 use Rattle.ppdb_merge_items.specs.Annotated.{items_of}
 use Rattle.ppdb_merge_items.specs.Unannotated.{value_of_annotated}
 use Rattle.ppdb_merge_items.proofs.Lists.{Each-append, Each-filter, Each-map, Each-weaker, each_row}
@@ -118,11 +118,22 @@ entry_there true m w below = some_there 0x06 (cond (is_dropped m w.entry) 0 w.en
     by_drop true = omega arith
     by_drop false = below
 
+live_small : (m : Map) (e : MethodValue) → e.signature ≤ 16777215 → live_signature m e ≤ 16777215
+live_small m e below = by (is_some (signature_line m e.method))
+  where
+    by : (b : Bool) → cond b 0 e.signature ≤ 16777215
+    by true = omega arith
+    by false = below
+
 pub named_rows_are_rows : NamedRowsAreRows
 named_rows_are_rows first m w sound below =
     Each-append IsThere (in_entry first (live_file m w)) (all_named (live_file m w)) (entry_there first m w below)
-    (Each-append IsThere _ _ (live_flat (live_method m) (λ (e : MethodValue). names 0x06 e.method ∷ names_some 0x11 e.signature) IsThere _
-    (λ e s. ((s.row.0, s.row.1), some_there 0x11 e.signature s.signature)) w.methods sound.methods)
+    (Each-append IsThere _ _ (each_flat (λ (e : MethodValue). names 0x06 e.method ∷ names_some 0x11 e.signature) IsThere
+    (map (with_live_signature m) (filter (live_method m) w.methods))
+    (Each-map (with_live_signature m) (λ (e : MethodValue). Each IsThere (names 0x06 e.method ∷ names_some 0x11 e.signature))
+    (filter (live_method m) w.methods)
+    (Each-filter _ (λ (e : MethodValue). Each IsThere (names 0x06 e.method ∷ names_some 0x11 (live_signature m e))) (live_method m)
+    (λ e is s. ((s.row.0, s.row.1), some_there 0x11 (live_signature m e) (live_small m e s.signature))) w.methods sound.methods)))
     (Each-append IsThere _ _ (Each-map (λ (s : AnnotatedScope). names 0x06 s.method) IsThere (filter (live_scope m) w.scopes)
     (Each-filter _ (λ (s : AnnotatedScope). IsThere (names 0x06 s.method)) (live_scope m)
     (λ s is sound_s. (sound_s.itself.method.0, sound_s.itself.method.1)) w.scopes sound.scopes))

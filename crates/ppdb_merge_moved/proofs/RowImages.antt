@@ -6,8 +6,9 @@ use Rattle.std.specs.List.{find, repeat, AllByRecursion}
 use Rattle.std.specs.Option.{option_map}
 use Rattle.std.proofs.lemmas.Bool.{ne_eqb}
 use Rattle.ppdb_maps.specs.declared.entries.RowImage.{RowImage}
-use Rattle.ppdb_maps.specs.Map.{Map, moved_row, row_image, row_line, count_of, is_dropped}
-use Rattle.ppdb_maps.specs.Readable.{IsReadable, IsRowOf}
+use Rattle.ppdb_maps.specs.declared.entries.SignatureImage.{SignatureImage}
+use Rattle.ppdb_maps.specs.Map.{Map, moved_row, moved_signature, row_image, row_line, signature_line, count_of, is_dropped}
+use Rattle.ppdb_maps.specs.Readable.{IsReadable, IsRowOf, IsSignatureOf}
 use Rattle.ppdb_values.specs.declared.file.FileValue.{FileValue}
 use Rattle.ppdb_values_sound_laws.specs.Named.{count}
 use Rattle.ppdb_merge_items.specs.NamedRows.{names}
@@ -59,6 +60,24 @@ row_moved m ready table row above below image =
 pub some_moved : (m : Map) → IsReadable m → (table row : ℕ) → row ≤ 16777215 → (row ≢ 0 → IsImaged m (names table row)) → moved_row m table row ≤ 16777215
 some_moved m ready table zero below image = omega arith
 some_moved m ready table (suc row) below image = (row_moved m ready table (suc row) (omega arith) below (image (λ e. absurd (omega (arith, e))))).1
+
+-- the row of a `signature` line
+signature_small : (m : Map) → IsReadable m → (method new : ℕ) → signature_line m method ≡ Some new → new ≤ 16777215
+signature_small m ready method new is =
+    by (find (λ s. nat_eq s.method method) m.signatures) (found_holds (IsSignatureOf m) (λ s. nat_eq s.method method) m.signatures ready.signatures) is
+  where
+    by : (o : Option SignatureImage) → IfSome o (IsSignatureOf m) → option_map (λ (s : SignatureImage). s.new) o ≡ Some new → new ≤ 16777215
+    by None holds e = absurd cc
+    by (Some s) holds e = let same : s.new ≡ new = cc in subst (λ n. n ≤ 16777215) same holds.1
+
+-- a local signature moves to a row, or to 0 for none
+pub signature_moved : (m : Map) → IsReadable m → (method row : ℕ) → row ≤ 16777215
+    → (signature_line m method ≡ None → row ≢ 0 → IsImaged m (names 0x11 row)) → moved_signature m method row ≤ 16777215
+signature_moved m ready method row below image = by (signature_line m method) refl
+  where
+    by : (o : Option ℕ) → signature_line m method ≡ o → unwrap_or o (moved_row m 0x11 row) ≤ 16777215
+    by None is = some_moved m ready 0x11 row below (image is)
+    by (Some new) is = signature_small m ready method new is
 
 -- two rows with one image
 pub one_image : (m : Map) (table a b : ℕ) → 1 ≤ a → 1 ≤ b → (i : IsImaged m (names table a)) → IsImaged m (names table b)

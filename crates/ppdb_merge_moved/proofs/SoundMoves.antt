@@ -32,7 +32,7 @@ use Rattle.ppdb_values_sound_laws.specs.Sound.{SoundMachine}
 use Rattle.ppdb_merge_items.specs.declared.file.AnnotatedScope.{AnnotatedScope}
 use Rattle.ppdb_merge_items.specs.declared.file.AnnotatedFile.{AnnotatedFile}
 use Rattle.ppdb_merge_items.specs.Each.{Each, Pairs}
-use Rattle.ppdb_merge_items.specs.NamedRows.{names, names_some, named_rows, live_machine, live_custom, live_scope, in_constant, in_import, in_steps}
+use Rattle.ppdb_merge_items.specs.NamedRows.{names, names_some, named_rows, live_machine, live_custom, live_scope, live_signature, in_constant, in_import, in_steps}
 use Rattle.ppdb_merge_items.specs.SoundParts.{SoundMoved, SoundNote, SoundAnnotatedScope}
 use Rattle.ppdb_merge_items.specs.Unannotated.{value_of_annotated}
 use Rattle.ppdb_merge_items.specs.Annotated.{items_of, with_item}
@@ -47,9 +47,9 @@ use Rattle.ppdb_merge_moved.specs.Moved.{moved_method, scope_image, moved_scope,
 use Rattle.ppdb_merge_moved.proofs.Fitting.{offsets_rise}
 use Rattle.ppdb_merge_moved.proofs.Elements.{each_in}
 use Rattle.ppdb_merge_moved.proofs.Lists.{Each-filter_map, Pairs-filter_map, Each-both, each_of_three, each_of_four}
-use Rattle.ppdb_merge_moved.proofs.NamedParts.{NamedParts, named_parts}
+use Rattle.ppdb_merge_moved.proofs.NamedParts.{NamedParts, named_parts, unsigned}
 use Rattle.ppdb_merge_moved.proofs.RisingPoints.{all_each, all_pairs, points_rise, points_are_rising}
-use Rattle.ppdb_merge_moved.proofs.RowImages.{moved_is_image, row_moved, some_moved, one_image, count_most}
+use Rattle.ppdb_merge_moved.proofs.RowImages.{moved_is_image, row_moved, signature_moved, one_image, count_most}
 use Rattle.ppdb_merge_moved.proofs.SoundItems.{most, each_all, small_after, body_same, constant_moved, import_moved, body_kept, ranges_moved}
 
 some_of : {A : Type 0} (a b : A) → Some a ≡ Some b → a ≡ b
@@ -118,9 +118,9 @@ module _ (first : Bool) (m : Map) (w : AnnotatedFile) (ready : IsReadable m) (so
   record MethodFacts (e : MethodValue) : Type 0 where
     sound_e : SoundMethod (most old) e
     under : Each (λ (p : Point). p.offset < old_size (offsets_in m e.method)) e.points
-    image : is_dropped m e.method ≡ false → IsImaged m (names 0x06 e.method) × Each (IsImaged m) (names_some 0x11 e.signature)
+    image : is_dropped m e.method ≡ false → IsImaged m (names 0x06 e.method) × Each (IsImaged m) (names_some 0x11 (live_signature m e))
     there : is_dropped m e.method ≡ false
-        → Contains (named_rows first m w) (names 0x06 e.method) × Each (λ n. Contains (named_rows first m w) n) (names_some 0x11 e.signature)
+        → Contains (named_rows first m w) (names 0x06 e.method) × Each (λ n. Contains (named_rows first m w) n) (names_some 0x11 (live_signature m e))
 
   signature_image : (row : ℕ) → Each (IsImaged m) (names_some 0x11 row) → row ≢ 0 → IsImaged m (names 0x11 row)
   signature_image row each some = (subst (Each (IsImaged m)) (ap (λ b. cond b [] (names 0x11 row ∷ [])) (ne_eqb row 0 some)) each).0
@@ -173,7 +173,8 @@ module _ (first : Bool) (m : Map) (w : AnnotatedFile) (ready : IsReadable m) (so
       by_points [] same eq = absurd (cc)
       by_points (p ∷ ps) same eq = subst (SoundMethod (most new)) (some_of _ q eq) (record {
         row = row_moved m ready 0x06 e.method facts.sound_e.row.0 facts.sound_e.row.1 (facts.image live).0;
-        signature = some_moved m ready 0x11 e.signature facts.sound_e.signature (signature_image e.signature (facts.image live).1);
+        signature = signature_moved m ready e.method e.signature facts.sound_e.signature
+            (λ none. signature_image e.signature (subst (λ row. Each (IsImaged m) (names_some 0x11 row)) (unsigned m e none) (facts.image live).1));
         some = λ none. cc;
         rise = all_pairs (λ (p q : Point). p.offset < q.offset) (p ∷ ps) (subst (Pairs (λ (p q : Point). p.offset < q.offset)) same rises);
         points = all_each (SoundPoint (most new)) (p ∷ ps) (subst (Each (SoundPoint (most new))) same points);

@@ -3,7 +3,7 @@ use Rattle.std.specs.Prelude.{ℕ, ◌+◌, ◌&&◌, ◌||◌, not, Bool, cond,
 use Rattle.std.specs.List.{filter_map}
 use Rattle.std.specs.Option.{option_map}
 use Rattle.ppdb_base.specs.Offsets.{Offsets, moved}
-use Rattle.ppdb_maps.specs.Map.{Map, moved_row, offsets_in, slot_image, is_dropped, output_count}
+use Rattle.ppdb_maps.specs.Map.{Map, moved_row, moved_signature, offsets_in, slot_image, is_dropped, output_count}
 use Rattle.sequence_points.specs.declared.point.Point.{Point}
 use Rattle.type_blobs.specs.declared.types.TypeToken.{TypeToken}
 use Rattle.type_blobs.specs.declared.types.Modifier.{Modifier}
@@ -103,7 +103,11 @@ scope_image m s = record {
 -- a method whose points all go leaves the list
 abbrev pub with_points : Map → MethodValue → List Point → Option MethodValue
 with_points m method [] = None
-with_points m method (p ∷ ps) = Some (record { method = moved_row m 0x06 method.method; signature = moved_row m 0x11 method.signature; points = p ∷ ps })
+with_points m method (p ∷ ps) = Some (record {
+  method = moved_row m 0x06 method.method;
+  signature = moved_signature m method.method method.signature;
+  points = p ∷ ps;
+})
 
 abbrev pub moved_method : Map → MethodValue → Option MethodValue
 moved_method m method = with_points m method (moved_points (offsets_in m method.method) method.points)

@@ -61,8 +61,8 @@ impl Stays<MapText> for MethodValue {
         if self.points.is_empty() {
             return None;
         }
+        self.signature = map.moved_signature(self.method, self.signature);
         self.method = map.moved_row(0x06, self.method);
-        self.signature = map.moved_row(0x11, self.signature);
         Some(self)
     }
 }

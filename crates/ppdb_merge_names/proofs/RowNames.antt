@@ -1,10 +1,10 @@
 -- What a row names, by what is read of it.
 use Rattle.std.proofs.Common.{◌≡◌, ℕ, true, false, ◌||◌, List, [], ◌∷◌, Option, Some, refl, sym, ap, ◌∙◌, cond, Bool}
-use Rattle.std.specs.Prelude.{unwrap_or, ◌≢◌}
+use Rattle.std.specs.Prelude.{unwrap_or, is_some, ◌≢◌}
 use Rattle.ppdb_base.specs.Place.{at_byte, cell}
 use Rattle.custom_info.specs.declared.kinds.Kind.{Kind}
 use Rattle.custom_info.specs.declared.kinds.Kind.TheVariants.{Async}
-use Rattle.ppdb_maps.specs.Map.{Map, is_dropped}
+use Rattle.ppdb_maps.specs.Map.{Map, is_dropped, signature_line}
 use Rattle.ppdb_tables.specs.declared.parent.Parent.{Parent}
 use Rattle.ppdb_tables.specs.declared.rows.MethodDebugRow.{MethodDebugRow}
 use Rattle.ppdb_tables.specs.declared.rows.ScopeRow.{ScopeRow}
@@ -19,8 +19,8 @@ use Rattle.ppdb_values.specs.Parts.{method_at}
 use Rattle.ppdb_values.specs.RawFile.{RawFile}
 use Rattle.ppdb_values.specs.Rows.{ValuesAreRows, method_in}
 use Rattle.ppdb_values.specs.Value.{value_of}
-use Rattle.ppdb_merge_names.specs.References.{Reference, names, names_some, of_entry, of_points, of_method, of_scope, of_machine, methods_in, is_live_parent}
-use Rattle.ppdb_merge_names.specs.References.{of_parent, of_custom}
+use Rattle.ppdb_merge_names.specs.References.{Reference, names, names_some, of_entry, of_signature, of_points, of_method, of_scope, of_machine, methods_in}
+use Rattle.ppdb_merge_names.specs.References.{is_live_parent, of_parent, of_custom}
 
 abbrev if_kept : Bool → List Reference → List Reference
 if_kept dropped rs = cond dropped [] rs
@@ -41,12 +41,20 @@ pub method_is : (raw : RawFile) (row : ℕ) (cells : MethodDebugRow) (o : Option
 method_is raw row cells o values there is = sym (values.method raw row ∙ ap (method_in raw.tables row) there) ∙ is
 
 pub method_dropped : (m : Map) (raw : RawTables) (row : ℕ) (cells : MethodDebugRow) → is_dropped m row ≡ true → of_method m raw (row, cells) ≡ []
-method_dropped m raw row cells d = ap (λ (b : Bool). if_kept b (of_points row (method_of raw (row, cells)))) d
+method_dropped m raw row cells d = ap (λ (b : Bool). if_kept b (of_points m row (method_of raw (row, cells)))) d
 
 pub method_names : (m : Map) (raw : RawTables) (row : ℕ) (cells : MethodDebugRow) (o : Option MethodValue) → is_dropped m row ≡ false
     → method_of raw (row, cells) ≡ o
-    → of_points row o ≡ of_method m raw (row, cells)
-method_names m raw row cells o d is = sym (ap (λ (b : Bool). if_kept b (of_points row (method_of raw (row, cells)))) d ∙ ap (of_points row) is)
+    → of_points m row o ≡ of_method m raw (row, cells)
+method_names m raw row cells o d is = sym (ap (λ (b : Bool). if_kept b (of_points m row (method_of raw (row, cells)))) d ∙ ap (of_points m row) is)
+
+-- the stored local signature of a method, by whether the map gives it another
+pub signature_cut : (m : Map) (row signature : ℕ) → is_some (signature_line m row) ≡ true → of_signature m row signature ≡ []
+signature_cut m row signature is = ap (λ (b : Bool). if_kept b (names_some (cell 0x31 row 1) 0x11 signature)) is
+
+pub signature_names : (m : Map) (row signature : ℕ) → is_some (signature_line m row) ≡ false
+    → names_some (cell 0x31 row 1) 0x11 signature ≡ of_signature m row signature
+signature_names m row signature is = sym (ap (λ (b : Bool). if_kept b (names_some (cell 0x31 row 1) 0x11 signature)) is)
 
 pub scope_dropped : (m : Map) (row : ℕ) (cells : ScopeRow) → is_dropped m cells.method ≡ true → of_scope m (row, cells) ≡ []
 scope_dropped m row cells d = rw d refl

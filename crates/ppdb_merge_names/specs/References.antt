@@ -1,6 +1,7 @@
 -- The rows of the type system that an input names, each with its place, in the order of the places (Portable PDB v1.0, "#Pdb
--- stream", "Metadata Tables" and the formats of its blobs). What stands at a dropped method names none.
-use Rattle.std.specs.Prelude.{map, ℕ, ◌&&◌, ◌||◌, not, Bool, false, cond, nat_eq, nat_lt, List, [], ◌∷◌, ◌++◌, Option, Some, None}
+-- stream", "Metadata Tables" and the formats of its blobs). What stands at a dropped method names none, nor does the stored local signature
+-- of a method that has a `signature` line.
+use Rattle.std.specs.Prelude.{map, ℕ, ◌&&◌, ◌||◌, not, Bool, false, cond, nat_eq, nat_lt, is_some, List, [], ◌∷◌, ◌++◌, Option, Some, None}
 use Rattle.std.specs.List.{flat_map}
 use Rattle.std.specs.Option.{option_and_then}
 use Rattle.ppdb_base.specs.declared.fault.Place.{Place}
@@ -8,7 +9,7 @@ use Rattle.ppdb_base.specs.Place.{at_byte, cell}
 use Rattle.custom_info.specs.Kinds.{kind_of}
 use Rattle.custom_info.specs.declared.kinds.Kind.{Kind}
 use Rattle.custom_info.specs.declared.kinds.Kind.TheVariants.{Async}
-use Rattle.ppdb_maps.specs.Map.{Map, is_dropped}
+use Rattle.ppdb_maps.specs.Map.{Map, is_dropped, signature_line}
 use Rattle.ppdb_tables.specs.declared.parent.Parent.{Parent}
 use Rattle.ppdb_tables.specs.declared.rows.MethodDebugRow.{MethodDebugRow}
 use Rattle.ppdb_tables.specs.declared.rows.ScopeRow.{ScopeRow}
@@ -50,13 +51,17 @@ of_entry first m entry = cond first (cond (is_dropped m entry) [] (names_some (a
 
 -- ---- the rows of each table
 
+-- the stored local signature of a method, unless a `signature` line names another
+abbrev pub of_signature : Map → ℕ → ℕ → List Reference
+of_signature m row signature = cond (is_some (signature_line m row)) [] (names_some (cell 0x31 row 1) 0x11 signature)
+
 -- a method that has points, and its local signature
-abbrev pub of_points : ℕ → Option MethodValue → List Reference
-of_points row None = []
-of_points row (Some method) = names (cell 0x31 row 1) 0x06 row ∷ names_some (cell 0x31 row 1) 0x11 method.signature
+abbrev pub of_points : Map → ℕ → Option MethodValue → List Reference
+of_points m row None = []
+of_points m row (Some method) = names (cell 0x31 row 1) 0x06 row ∷ of_signature m row method.signature
 
 abbrev pub of_method : Map → RawTables → ℕ × MethodDebugRow → List Reference
-of_method m raw x = cond (is_dropped m x.0) [] (of_points x.0 (method_of raw x))
+of_method m raw x = cond (is_dropped m x.0) [] (of_points m x.0 (method_of raw x))
 
 abbrev pub of_scope : Map → ℕ × ScopeRow → List Reference
 of_scope m x = cond (is_dropped m x.1.method) [] (names (cell 0x32 x.0 0) 0x06 x.1.method ∷ [])

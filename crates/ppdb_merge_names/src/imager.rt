@@ -1,6 +1,6 @@
 // The images that were found so far.
-ghost use Rattle.std.specs.Prelude.{◌≡◌, ◌∷◌, []};
-ghost use Rattle.ppdb_maps.specs.Map.{is_dropped, row_image};
+ghost use Rattle.std.specs.Prelude.{◌≡◌, ◌∷◌, [], is_some};
+ghost use Rattle.ppdb_maps.specs.Map.{is_dropped, row_image, signature_line};
 ghost use Rattle.ppdb_merge_names.specs.Imaging.{Goes};
 ghost use Rattle.ppdb_merge_names.specs.References.{names, names_some};
 
@@ -56,6 +56,13 @@ impl<'m> Imager<'m> {
         ensures { result ≡ is_dropped self.now.map method }
     {
         self.map.dropped(method)
+    }
+
+    /// Whether the map gives a method its local signature.
+    pub(crate) fn signs(&self, method: u32) -> bool
+        ensures { result ≡ is_some (signature_line self.now.map method) }
+    {
+        self.map.signature(method).is_some()
     }
 
     /// The image of a row.

@@ -6,7 +6,7 @@ ghost use Rattle.ppdb_tables.specs.RawTables.{row_at};
 ghost use Rattle.ppdb_values.specs.Rules.{HasRow};
 ghost use Rattle.ppdb_verify.specs.Views.{raw_file};
 ghost use Rattle.ppdb_merge_names.specs.Imaging.{Goes};
-ghost use Rattle.ppdb_merge_names.specs.References.{Reference, inside, of_entry, of_method, of_scope};
+ghost use Rattle.ppdb_merge_names.specs.References.{Reference, inside, of_entry, of_method, of_scope, of_signature};
 ghost use Rattle.ppdb_merge_names.specs.References.{of_import, of_machine, methods_of, of_parent, is_live_parent, of_custom};
 ghost use Rattle.ppdb_merge_names.specs.TableRows.{table_number, row_references};
 
@@ -109,6 +109,16 @@ pub(crate) fn add_entry(
     imager.add_some(0x06, entry, place)
 }
 
+/// Adds the local signature of a method, unless the map gives it another.
+fn add_signature(row: u32, signature: u32, imager: &mut Imager<'_>) -> Result<(), ReferenceError>
+    ensures { Goes imager.old (of_signature imager.old.map row signature) imager.new result }
+{
+    if imager.signs(row) {
+        return Ok(());
+    }
+    imager.add_some(0x11, signature, cell(0x31, row, 1))
+}
+
 /// Adds a method that has points, and its local signature.
 fn add_method(
     file: &Verified<'_>,
@@ -126,9 +136,8 @@ fn add_method(
     let Some(cursor) = points_of(file, row, cells) else {
         return Ok(());
     };
-    let place = cell(0x31, row, 1);
-    imager.add(0x06, row, place)?;
-    imager.add_some(0x11, cursor.signature(), place)
+    imager.add(0x06, row, cell(0x31, row, 1))?;
+    add_signature(row, cursor.signature(), imager)
 }
 
 /// Adds the methods that resume, where a custom record has async steps.

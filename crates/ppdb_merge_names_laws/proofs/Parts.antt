@@ -1,11 +1,11 @@
 -- Part by part, what a file names is what its value names.
-use Rattle.std.proofs.Common.{◌≡◌, ℕ, Bool, true, false, not, cond, nat_eq, List, [], ◌∷◌, Option, Some, None, refl, sym, ap, ◌∙◌, map}
+use Rattle.std.proofs.Common.{◌≡◌, ℕ, Bool, true, false, not, cond, nat_eq, is_some, List, [], ◌∷◌, Option, Some, None, refl, sym, ap, ◌∙◌, map}
 use Rattle.std.specs.List.{flat_map, filter, filter_map}
 use Rattle.std.specs.Option.{option_map}
 use Rattle.std.proofs.lemmas.List.Concat.{flat_map_single}
 use Rattle.ppdb_base.specs.declared.fault.Place.{Place}
 use Rattle.ppdb_base.specs.Place.{at_byte, cell}
-use Rattle.ppdb_maps.specs.Map.{Map, is_dropped}
+use Rattle.ppdb_maps.specs.Map.{Map, is_dropped, signature_line}
 use Rattle.ppdb_tables.specs.declared.rows.MethodDebugRow.{MethodDebugRow}
 use Rattle.ppdb_tables.specs.declared.rows.ScopeRow.{ScopeRow}
 use Rattle.ppdb_tables.specs.RawTables.{RawTables, numbered}
@@ -14,12 +14,12 @@ use Rattle.ppdb_values.specs.Documents.{method_of, method_with, signature_in, po
 use Rattle.ppdb_values.specs.RawFile.{RawFile, blob}
 use Rattle.ppdb_values.specs.Value.{value_of, scope_of}
 use Rattle.type_blobs_rows.specs.declared.row.PlacedRow.{PlacedRow}
-use Rattle.ppdb_merge_names.specs.References.{names as names_at, names_some as some_at, inside, of_entry, of_points, of_method, of_scope}
+use Rattle.ppdb_merge_names.specs.References.{names as names_at, names_some as some_at, inside, of_entry, of_signature, of_points, of_method, of_scope}
 use Rattle.ppdb_merge_items.specs.declared.file.AnnotatedScope.{AnnotatedScope}
 use Rattle.ppdb_merge_items.specs.Annotated.{annotated_file, annotated_scope}
-use Rattle.ppdb_merge_items.specs.NamedRows.{Named, names, names_some, in_entry, live_file, live_method, live_scope}
+use Rattle.ppdb_merge_items.specs.NamedRows.{Named, names, names_some, in_entry, live_file, live_method, live_scope, live_signature, with_live_signature}
 use Rattle.ppdb_merge_names_laws.proofs.FieldWalks.{row_named}
-use Rattle.ppdb_merge_names_laws.proofs.Listed.{unplaced, unplaced-flat, named-mapped, named-filtered, numbered-made, map-twice}
+use Rattle.ppdb_merge_names_laws.proofs.Listed.{unplaced, unplaced-flat, flat_map-made, named-mapped, named-filtered, numbered-made, map-twice}
 
 some-named : (place : Place) (table row : ℕ) → unplaced (some_at place table row) ≡ names_some table row
 some-named place table row = by (nat_eq row 0)
@@ -64,25 +64,38 @@ method-is raw x v e = by (blob raw x.1.points) e
         (λ signature. record { method = x.0; signature = signature; points = points_in raw x.1.document (b ∷ bytes) }) (λ signature. refl) v e
 
 module _ (m : Map) where
+  signature-named : (row : ℕ) (v : MethodValue) → v.method ≡ row → unplaced (of_signature m row v.signature) ≡ names_some 0x11 (live_signature m v)
+  signature-named row v is = by (is_some (signature_line m row)) refl
+    where
+      live : (b : Bool) → is_some (signature_line m row) ≡ b → live_signature m v ≡ cond b 0 v.signature
+      live b e = ap (λ (c : Bool). cond c 0 v.signature) (ap (λ (n : ℕ). is_some (signature_line m n)) is ∙ e)
+
+      by : (b : Bool) → is_some (signature_line m row) ≡ b
+          → unplaced (cond b [] (some_at (cell 0x31 row 1) 0x11 v.signature)) ≡ names_some 0x11 (live_signature m v)
+      by true e = sym (ap (names_some 0x11) (live true e))
+      by false e = some-named (cell 0x31 row 1) 0x11 v.signature ∙ sym (ap (names_some 0x11) (live false e))
+
   method-row : (raw : RawTables) (x : ℕ × MethodDebugRow) (o : Option MethodValue) (d : Bool) → ((v : MethodValue) → o ≡ Some v → v.method ≡ x.0)
       → is_dropped m x.0 ≡ d
-      → unplaced (cond d [] (of_points x.0 o))
-      ≡ elim o as (λ (w : Option MethodValue). List Named) [ None ↦ [] | Some v ↦ cond (live_method m v) (method_rows v) [] ]
+      → unplaced (cond d [] (of_points m x.0 o))
+      ≡ elim o as (λ (w : Option MethodValue). List Named)
+      [ None ↦ [] | Some v ↦ cond (live_method m v) (method_rows (with_live_signature m v)) [] ]
   method-row raw x None true is e = refl
   method-row raw x None false is e = refl
   method-row raw x (Some v) true is e = let d : is_dropped m v.method ≡ true = ap (is_dropped m) (is v refl) ∙ e in rw d refl
   method-row raw x (Some v) false is e =
       let d : is_dropped m v.method ≡ false = ap (is_dropped m) (is v refl) ∙ e in
-      rw d (ap (λ (l : List Named). names 0x06 x.0 ∷ l) (some-named (cell 0x31 x.0 1) 0x11 v.signature)
-      ∙ ap (λ (n : ℕ). names 0x06 n ∷ names_some 0x11 v.signature) (sym (is v refl)))
+      rw d (ap (λ (l : List Named). names 0x06 x.0 ∷ l) (signature-named x.0 v (is v refl))
+      ∙ ap (λ (n : ℕ). names 0x06 n ∷ names_some 0x11 (live_signature m v)) (sym (is v refl)))
 
   pub methods-named : (raw : RawTables)
       → unplaced (flat_map (of_method m raw) (numbered raw.methods))
-      ≡ flat_map method_rows (filter (live_method m) (filter_map (method_of raw) (numbered raw.methods)))
+      ≡ flat_map method_rows (map (with_live_signature m) (filter (live_method m) (filter_map (method_of raw) (numbered raw.methods))))
   methods-named raw =
       unplaced-flat (of_method m raw) (numbered raw.methods)
-      ∙ named-filtered (method_of raw) (λ x. unplaced (of_method m raw x)) (live_method m) method_rows (numbered raw.methods)
+      ∙ named-filtered (method_of raw) (λ x. unplaced (of_method m raw x)) (live_method m) (λ v. method_rows (with_live_signature m v)) (numbered raw.methods)
       (λ x. method-row raw x (method_of raw x) (is_dropped m x.0) (λ v e. method-is raw x v e) refl)
+      ∙ sym (flat_map-made (with_live_signature m) method_rows (filter (live_method m) (filter_map (method_of raw) (numbered raw.methods))))
 
   -- ---- scopes
 

@@ -32,13 +32,14 @@ use Rattle.ppdb_merge_unmoved_laws.proofs.Staying.{image_is, IsSmallBody, small_
 readable : IsReadable no_lines
 unfolding IsStrictlySortedBy
 readable = record {
-  ascends = record { counts = tt; rows = tt; methods = tt; drops = tt; slotted = tt; slots = tt };
+  ascends = record { counts = tt; rows = tt; methods = tt; drops = tt; slotted = tt; slots = tt; signatures = tt };
   counts = tt;
   rows = tt;
   methods = tt;
   drops = tt;
   slotted = tt;
   slots = tt;
+  signatures = tt;
 }
 
 -- ---- offsets

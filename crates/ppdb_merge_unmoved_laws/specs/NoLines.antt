@@ -6,7 +6,7 @@ use Rattle.ppdb_values_sound_laws.specs.Sound.{IsSound}
 use Rattle.ppdb_merge_meaning_laws.specs.Kept.{MovedBy, InputsFit, joined_inputs}
 
 abbrev pub no_lines : Map
-no_lines = record { counts = []; rows = []; methods = []; drops = []; slotted = []; slots = [] }
+no_lines = record { counts = []; rows = []; methods = []; drops = []; slotted = []; slots = []; signatures = [] }
 
 abbrev pub left_alone : FileValue → MovedBy
 left_alone value = record { value = value; map = no_lines }

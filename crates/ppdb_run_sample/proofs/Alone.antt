@@ -35,6 +35,7 @@ use Rattle.ppdb_merge_moved.proofs.Lists.{Each-filter_map}
 use Rattle.ppdb_merge_fits.specs.Clashes.{first_clash, is_at_dropped}
 use Rattle.ppdb_merge_fits.specs.Laws.{NoClash}
 use Rattle.ppdb_merge_fits.specs.Rows.{imaged, imaged_rows}
+use Rattle.ppdb_merge_fits.specs.Signatures.{given_signature, given_signatures, with_given, all_images}
 use Rattle.ppdb_merge.specs.declared.trace.Trace.{Trace}
 use Rattle.ppdb_merge.specs.Merged.{Merged, trace_of, moved_files}
 use Rattle.ppdb_merge.specs.Refusals.{added, refusal_of, taken, conflict, clashes_before, or_first, with_trace, claims, methods_in, documents_differ}
@@ -68,8 +69,8 @@ nothing_before rows documents =
 -- an input that nothing is reported of alone is not refused as the first
 not_refused : (marks : List (List ℕ)) (m : Map) (raw : RawFile) → first_clash marks true m raw ≡ None → refusal_of marks [] m raw ≡ None
 not_refused marks m raw none =
-    ap (λ o. or_first o (clashes_before [] (imaged_rows true m raw) (value_of raw).documents)) none
-    ∙ ap (λ l. slice_get l 0) (nothing_before (imaged_rows true m raw) (value_of raw).documents)
+    ap (λ o. or_first o (clashes_before [] (all_images true m raw) (value_of raw).documents)) none
+    ∙ ap (λ l. slice_get l 0) (nothing_before (all_images true m raw) (value_of raw).documents)
 
 module _ (n : ℕ) (raw : RawFile) (fits : SampleFits n) (says : value_of raw ≡ sample n) (keeps : KeepsRules raw) where
   abbrev m : Map
@@ -105,17 +106,25 @@ module _ (n : ℕ) (raw : RawFile) (fits : SampleFits n) (says : value_of raw �
   counts : (table : ℕ) → slice_index (sample n).rows table ≡ count_in trace table
   counts table = ap (λ rows. slice_index rows table) (sym fits.counts) ∙ ap (λ file. slice_index file.rows table) (sym moved_is)
 
+  -- the sample's map gives no local signature
+  none_given : given_signatures m (value_of raw) ≡ []
+  none_given = filter_nil (given_signature m) (value_of raw).methods (each_of (λ e. given_signature m e ≡ None) (λ e. refl) (value_of raw).methods)
+
   below : ReferencesAreNamed → Each IsBelow trace.rows
   below named =
-      each_once_each (λ (i : Imaged). i.table) (λ i. i.row) IsBelow (filter_map (imaged m) (references true m raw))
-      (Each-filter_map (imaged m) (λ r. IsCounted (named_by r)) IsBelow of_image (references true m raw)
-      (Each-unmap named_by IsCounted (references true m raw)
-      (subst (Each IsCounted) (sym (named true m raw keeps ∙ ap (λ v. named_rows true m (annotated_file v)) says)) fits.counted)))
+      subst (Each IsBelow) (sym (ap (with_given (imaged_rows true m raw)) none_given)) (named_below named)
     where
       of_image : (r : Reference) (i : Imaged) → imaged m r ≡ Some i → IsCounted (named_by r) → IsBelow i
       of_image r i is counted =
           let a = made m r i is in
           subst IsBelow a.1 (subst (λ k. i.image ≤ k) (counts r.table) (counted i.image a.0))
+
+      named_below : ReferencesAreNamed → Each IsBelow (imaged_rows true m raw)
+      named_below named =
+          each_once_each (λ (i : Imaged). i.table) (λ i. i.row) IsBelow (filter_map (imaged m) (references true m raw))
+          (Each-filter_map (imaged m) (λ r. IsCounted (named_by r)) IsBelow of_image (references true m raw)
+          (Each-unmap named_by IsCounted (references true m raw)
+          (subst (Each IsCounted) (sym (named true m raw keeps ∙ ap (λ v. named_rows true m (annotated_file v)) says)) fits.counted)))
 
   -- ---- alone
 

@@ -127,7 +127,7 @@ const OTHER_SIZES: &[u8] = b"ppdbmap 1\nmethod 1 8 8\nmethod 2 9 9";
 const MAPS: [(&str, &[u8]); 6] = [
     ("f", b"ppdbmap 1"),
     ("x", b"ppdbmap 1\nx"),
-    ("y", b"ppdbmap 4"),
+    ("y", b"ppdbmap 5"),
     ("a", SIZED),
     ("b", OTHER_SIZES),
     ("OUT", b"as before"),

@@ -27,6 +27,8 @@ mod sample;
 #[cfg(test)]
 mod show;
 #[cfg(test)]
+mod signatures;
+#[cfg(test)]
 mod two_steps;
 #[cfg(test)]
 mod words;

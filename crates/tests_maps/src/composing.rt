@@ -14,7 +14,7 @@ fn compare(rt: &HostRuntime, first: &str, second: &str, want: &str) -> Result<()
     }
 }
 
-const WORKED: [(&str, &str, &str); 8] = [
+const WORKED: [(&str, &str, &str); 14] = [
     (
         "ppdbmap 1/method 1 9 12/run 0 0 1/run 5 6 4",
         "ppdbmap 1/method 1 12 12/run 0 0 8",
@@ -54,6 +54,36 @@ const WORKED: [(&str, &str, &str); 8] = [
         "ppdbmap 2/drop 2",
         "ppdbmap 1/rows 06 4/row 06 1 4/row 06 2 3",
         "ppdbmap 3/rows 06 4/row 06 1 4/drop 2/",
+    ),
+    (
+        "ppdbmap 4/method 1 4 4/run 0 0 4/signature 2 1/slots 1/slot 1 0 0/drop 3/rows 1B 3/row 1B 3 3",
+        "ppdbmap 1",
+        "ppdbmap 4/rows 1b 3/row 1b 3 3/drop 3/slots 1/slot 1 0 0/signature 2 1/method 1 4 4/run 0 0 4/",
+    ),
+    (
+        "ppdbmap 4/rows 01 2/row 01 1 2",
+        "ppdbmap 4",
+        "ppdbmap 3/rows 01 2/row 01 1 2/",
+    ),
+    (
+        "ppdbmap 4/signature 1 2/signature 2 3/signature 3 0",
+        "ppdbmap 1/rows 11 4/row 11 2 4",
+        "ppdbmap 4/rows 11 4/row 11 2 4/signature 1 4/signature 2 0/signature 3 0/",
+    ),
+    (
+        "ppdbmap 4/rows 06 2/row 06 1 2/row 06 2 1",
+        "ppdbmap 4/signature 2 1",
+        "ppdbmap 4/rows 06 2/row 06 1 2/row 06 2 1/signature 1 1/",
+    ),
+    (
+        "ppdbmap 4/signature 1 2/signature 4 2",
+        "ppdbmap 4/signature 1 0/drop 4",
+        "ppdbmap 4/drop 4/signature 1 0/",
+    ),
+    (
+        "ppdbmap 4/rows 11 4/row 11 1 1/signature 2 3",
+        "ppdbmap 1/rows 11 4/row 11 1 4/row 11 3 2",
+        "ppdbmap 4/rows 11 4/row 11 1 4/signature 2 2/",
     ),
 ];
 

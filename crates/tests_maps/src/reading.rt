@@ -18,13 +18,14 @@ fn refusal(alloc: Global, text: &str) -> Result<(u32, u8), Fail> {
 }
 
 /// Texts with a map, and texts that are refused at a line by a rule.
-const TEXTS: [(&str, u32, u8); 76] = [
+const TEXTS: [(&str, u32, u8); 86] = [
     ("", 1, 1),
     ("ppdbmap 1", 0, 0),
     ("ppdbmap 2\n", 0, 0),
     ("ppdbmap 3\r\n", 0, 0),
     ("ppdbmap 1\r", 1, 1),
-    ("ppdbmap 4\n", 1, 1),
+    ("ppdbmap 4\n", 0, 0),
+    ("ppdbmap 5\n", 1, 1),
     ("ppdbmap 0\n", 1, 1),
     ("ppdbmap  1\n", 1, 1),
     ("# a comment\nppdbmap 1\n", 1, 1),
@@ -49,6 +50,13 @@ const TEXTS: [(&str, u32, u8); 76] = [
     ("ppdbmap 2\nslot 1 0 0\n", 2, 2),
     ("ppdbmap 3\nslots 1\nslot 1 0 0\n", 0, 0),
     ("ppdbmap 2\nslots x\n", 2, 2),
+    ("ppdbmap 3\nsignature 1 2\n", 2, 2),
+    ("ppdbmap 4\nsignature 1 2 3\n", 2, 2),
+    (
+        "ppdbmap 4\nsignature 16777215 0\nsignature 1 16777215\n",
+        0,
+        0,
+    ),
     ("ppdbmap 1\nrows 2c 0\n", 0, 0),
     ("ppdbmap 1\nrows 2C 0\n", 0, 0),
     ("ppdbmap 1\nrows 2d 0\n", 2, 3),
@@ -64,6 +72,8 @@ const TEXTS: [(&str, u32, u8); 76] = [
     ("ppdbmap 1\nrows 06 1\nrow 06 0 1\n", 3, 3),
     ("ppdbmap 1\nrows 06 1\nrow 06 1 0\n", 3, 3),
     ("ppdbmap 1\nmethod 0 1 1\n", 2, 3),
+    ("ppdbmap 4\nsignature 0 1\n", 2, 3),
+    ("ppdbmap 4\nsignature 1 16777216\n", 2, 3),
     ("ppdbmap 1\nmethod 1 2147483647 0\n", 0, 0),
     ("ppdbmap 1\nmethod 1 2147483648 0\n", 2, 3),
     ("ppdbmap 1\nmethod 1 99999999999999999999 0\n", 2, 3),
@@ -78,6 +88,7 @@ const TEXTS: [(&str, u32, u8); 76] = [
     ("ppdbmap 1\nmethod 1 1 1\nmethod 1 1 1\n", 3, 4),
     ("ppdbmap 2\ndrop 1\ndrop 1\n", 3, 4),
     ("ppdbmap 3\nslots 1\nslots 1\n", 3, 4),
+    ("ppdbmap 4\nsignature 1 2\nsignature 1 2\n", 3, 4),
     (
         "ppdbmap 3\nslots 1\nslots 2\nslot 1 0 1\nslot 2 0 1\nslot 1 0 2\n",
         6,
@@ -94,6 +105,7 @@ const TEXTS: [(&str, u32, u8); 76] = [
         5,
         6,
     ),
+    ("ppdbmap 4\nmethod 1 9 9\nsignature 1 2\nrun 0 0 9\n", 4, 6),
     (
         "ppdbmap 1\nmethod 1 9 9\n\n# here\nrun 0 0 1\n\nrun 1 1 1\n",
         0,
@@ -109,6 +121,8 @@ const TEXTS: [(&str, u32, u8); 76] = [
     ("ppdbmap 2\nmethod 1 9 9\ndrop 1\n", 3, 9),
     ("ppdbmap 2\nrows 06 1\nrow 06 1 1\ndrop 1\n", 4, 9),
     ("ppdbmap 3\nslots 1\ndrop 1\n", 3, 9),
+    ("ppdbmap 4\nsignature 1 0\ndrop 1\n", 3, 9),
+    ("ppdbmap 4\ndrop 1\nsignature 1 0\n", 3, 9),
     ("ppdbmap 3\ndrop 1\nrows 06 2\nrow 06 1 2\n", 4, 9),
     ("ppdbmap 3\nrows 02 1\nrow 02 1 1\ndrop 1\nslots 1\n", 5, 9),
 ];
@@ -251,6 +265,21 @@ fn lists_its_lines_in_order(rt: HostRuntime) -> Result<(), Fail> {
     let map = read(rt.alloc(), UNORDERED)?;
     assert!(rt; lists_rows(&map));
     assert!(rt; lists_slots_and_runs(&map));
+    Ok(())
+}
+
+#[test]
+fn answers_what_signatures_say(rt: HostRuntime) -> Result<(), Fail> {
+    let map = read(
+        rt.alloc(),
+        b"ppdbmap 4\nsignature 7 0\nrows 11 2\nrow 11 1 2\nsignature 3 9\n",
+    )?;
+    assert!(rt; map.signature(3) == Some(9) && map.signature(7) == Some(0));
+    assert!(rt; map.signature(1).is_none());
+    assert!(rt; map.moved_signature(3, 1) == 9 && map.moved_signature(7, 1) == 0);
+    assert!(rt; map.moved_signature(1, 1) == 2 && map.moved_signature(1, 2) == 0);
+    assert!(rt; map.signature_line(0) == Some((3, 9)) && map.signature_line(1) == Some((7, 0)));
+    assert!(rt; map.signature_line(2).is_none());
     Ok(())
 }
 

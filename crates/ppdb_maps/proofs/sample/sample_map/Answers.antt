@@ -28,9 +28,9 @@ new-requires c =
     let one : Count = record { table = 0x06; rows = n } in
     subst IsReadable
     (sym (sample_of n c.push.new.self.items c.loop-before.rows.items c.loop-before.methods.items c.new-drops.result.items c.new-slotted.result.items
-    c.new-slots.result.items
+    c.new-slots.result.items c.new-signatures.result.items
     (c.in_ok-push.ensures.items ∙ ap (λ xs. xs ++ one ∷ []) c.new-counts.ensures.items) (c.loop-before.invariant.rows
     ∙ ap (λ k. map (sample_row n) (range_with_len 1 k)) end)
     (c.loop-before.invariant.methods ∙ ap (λ k. map sample_method (range_with_len 1 k)) end) c.new-drops.ensures.items c.new-slotted.ensures.items
-    c.new-slots.ensures.items))
+    c.new-slots.ensures.items c.new-signatures.ensures.items))
     (sample_readable n c.requires)

@@ -1,10 +1,11 @@
-use Rattle.std.proofs.Common.{Err, sym, ◌∙◌, None, Some, [], ◌∷◌, refl}
+use Rattle.std.proofs.Common.{Err, sym, ◌∙◌, ap, None, Some, [], ◌∷◌}
 use Rattle.std.proofs.lemmas.Result.{err_from_is_err_and}
 use Rattle.ppdb_base.specs.Place.{cell}
 use Rattle.ppdb_values.specs.declared.file.MethodValue.{MethodValue}
+use Rattle.ppdb_maps.specs.Map.{Map}
 use Rattle.ppdb_verify.specs.Views.{raw_file}
-use Rattle.ppdb_merge_names.specs.References.{names, names_some, of_points, of_method}
-use Rattle.ppdb_merge_names.proofs.Going.{goes-as, goes-none, goes-cut, goes-then, goes-at}
+use Rattle.ppdb_merge_names.specs.References.{names, of_signature, of_points, of_method}
+use Rattle.ppdb_merge_names.proofs.Going.{goes-as, goes-none, goes-cut, goes-more, goes-at}
 use Rattle.ppdb_merge_names.proofs.RowNames.{method_is, method_dropped, method_names}
 use Rattle.ppdb_merge_names.proofs.rows.add_method.Goals as goal
 
@@ -31,12 +32,12 @@ returns-in_err-add c =
     let value : MethodValue = record { method = c.args.row; signature = c.in-Some.cursor.signature; points = c.in-Some.cursor.left.items } in
     let is = method_is raw c.args.row c.args.cells.now (Some value) c.values_are_rows.ensures c.requires c.in-Some.ensures.0 in
     rw (p.1, p.2)
-    (goes-as s c.add.new.self (of_points c.args.row (Some value)) (of_method s.map raw.tables (c.args.row, c.args.cells.now)) (Err c.in_err-add.field-0.0)
+    (goes-as s c.add.new.self (of_points s.map c.args.row (Some value)) (of_method s.map raw.tables (c.args.row, c.args.cells.now)) (Err c.in_err-add.field-0.0)
     (method_names s.map raw.tables c.args.row c.args.cells.now (Some value) (sym c.drops.ensures ∙ c.if-drops.false) is)
     (goes-cut s c.add.new.self c.add.new.self (names (cell 0x31 c.args.row 1) 0x06 c.args.row ∷ [])
-    (names_some (cell 0x31 c.args.row 1) 0x11 value.signature) c.in_err-add.field-0.0
-    (goes-at s c.add.new.self c.cell-place.result (cell 0x31 c.args.row 1) 0x06 c.args.row
-    (Err c.in_err-add.field-0.0) c.cell-place.ensures c.in_err-add.ensures)))
+    (of_signature s.map c.args.row value.signature) c.in_err-add.field-0.0
+    (goes-at s c.add.new.self c.cell.result (cell 0x31 c.args.row 1) 0x06 c.args.row
+    (Err c.in_err-add.field-0.0) c.cell.ensures c.in_err-add.ensures)))
 
 pub returns : goal.returns
 returns c =
@@ -44,11 +45,12 @@ returns c =
     let s = c.args.imager.now in
     let value : MethodValue = record { method = c.args.row; signature = c.in-Some.cursor.signature; points = c.in-Some.cursor.left.items } in
     let is = method_is raw c.args.row c.args.cells.now (Some value) c.values_are_rows.ensures c.requires c.in-Some.ensures.0 in
-    goes-as s c.add_some.new.self (of_points c.args.row (Some value)) (of_method s.map raw.tables (c.args.row, c.args.cells.now)) c.add_some.result
+    let t = c.add.new.self in
+    let u = c.add_signature.new.imager in
+    goes-as s u (of_points s.map c.args.row (Some value)) (of_method s.map raw.tables (c.args.row, c.args.cells.now)) c.add_signature.result
     (method_names s.map raw.tables c.args.row c.args.cells.now (Some value) (sym c.drops.ensures ∙ c.if-drops.false) is)
-    (goes-then s c.add.new.self c.add_some.new.self (names (cell 0x31 c.args.row 1) 0x06 c.args.row ∷ [])
-    (names_some (cell 0x31 c.args.row 1) 0x11 value.signature) c.add_some.result
-    (rw c.cell-place.ensures at c.in_ok-add.ensures)
-    (goes-as c.add.new.self c.add_some.new.self (names_some c.cell-place.result 0x11 c.signature.result)
-    (names_some (cell 0x31 c.args.row 1) 0x11 value.signature) c.add_some.result
-    (rw (c.cell-place.ensures, c.signature.ensures) refl) c.add_some.ensures))
+    (goes-more s t u (names (cell 0x31 c.args.row 1) 0x06 c.args.row ∷ [])
+    (λ (m : Map). of_signature m c.args.row value.signature) c.add_signature.result
+    (rw c.cell.ensures at c.in_ok-add.ensures)
+    (goes-as t u (of_signature t.map c.args.row c.signature.result) (of_signature t.map c.args.row value.signature) c.add_signature.result
+    (ap (of_signature t.map c.args.row) c.signature.ensures) c.add_signature.ensures))

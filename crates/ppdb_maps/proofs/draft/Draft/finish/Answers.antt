@@ -10,12 +10,14 @@ new-requires c = read_readable c.requires.0 c.requires.1 c.requires.2 _ c.requir
   drops = c.in_ok-drops.ensures.items;
   slotted = c.in_ok-slotted.ensures.items;
   slots = c.in_ok-slots.ensures.items;
+  signatures = c.in_ok-signatures.ensures.items;
   counts_ordered = c.in_ok-counts.ensures.ordered;
   rows_ordered = c.in_ok-rows.ensures.sorted;
   methods_ordered = c.in_ok-methods.ensures.ordered;
   drops_ordered = c.in_ok-drops.ensures.ordered;
   slotted_ordered = c.in_ok-slotted.ensures.ordered;
   slots_ordered = c.in_ok-slots.ensures.ordered;
+  signatures_ordered = c.in_ok-signatures.ensures.ordered;
 }))
 
 pub returns : goal.returns
@@ -26,10 +28,12 @@ returns c = λ before closed. rw c.new.ensures (made_holds before c.args.self _ 
   drops = c.in_ok-drops.ensures.items;
   slotted = c.in_ok-slotted.ensures.items;
   slots = c.in_ok-slots.ensures.items;
+  signatures = c.in_ok-signatures.ensures.items;
   counts_ordered = c.in_ok-counts.ensures.ordered;
   rows_ordered = c.in_ok-rows.ensures.sorted;
   methods_ordered = c.in_ok-methods.ensures.ordered;
   drops_ordered = c.in_ok-drops.ensures.ordered;
   slotted_ordered = c.in_ok-slotted.ensures.ordered;
   slots_ordered = c.in_ok-slots.ensures.ordered;
+  signatures_ordered = c.in_ok-signatures.ensures.ordered;
 }))

@@ -1,0 +1,11 @@
+use Rattle.std.proofs.Common.{sym, subst, ◌∙◌}
+use Rattle.map_compose.specs.Says.{PutsLines}
+use Rattle.map_compose.proofs.Putting.{says_none}
+use Rattle.map_compose.proofs.Signed.{three_signed}
+use Rattle.map_compose.proofs.signatures.put_signatures.Goals as goal
+
+pub returns-then-version-eq3-clause-puts : goal.returns-then-version-eq3-clause-puts
+returns-then-version-eq3-clause-puts c =
+    subst (PutsLines c.args.text.now c.args.text.now)
+    (sym (three_signed c.args.first.now c.args.second.now c.keeps.ensures c.keeps-2.ensures (sym c.requires.version ∙ c.if-version-eq3.true)))
+    (says_none c.args.text.now)

@@ -1,0 +1,59 @@
+// The `signature` lines of the map of two maps, and the version of its text.
+ghost use Rattle.std.specs.Prelude.{◌≡◌, OnOk};
+ghost use Rattle.std.specs.List.{flat_map};
+ghost use Rattle.ppdb_maps_text.specs.MapTexts.{version_with};
+ghost use Rattle.map_compose.specs.declared.part.Part.TheVariants.{Signatures};
+ghost use Rattle.map_compose.specs.Composed.{composed};
+ghost use Rattle.map_compose.specs.Gathered.{IsGatheredOf};
+ghost use Rattle.map_compose.specs.Parts.{part_says, all_numbers};
+ghost use Rattle.map_compose.specs.Says.{PutsLines};
+ghost use Rattle.map_compose.specs.Sizes.{SizesAgree};
+
+use crate::gathered::Gathered;
+use crate::image::signature_by_both;
+use crate::methods::put_part;
+use crate::part::{Part, Passed};
+use ppdb_base::Memory;
+use ppdb_maps::MapText;
+use ppdb_maps_text::Counted;
+
+/// The version of the text of the map of two maps: 4 where that has a `signature` line, else 3.
+pub fn version_by_both(first: &MapText, second: &MapText) -> u8
+    ensures { result ≡ version_with (composed first.now second.now).signatures }
+{
+    first.keeps();
+    second.keeps();
+    if first.signature_line(0).is_none() && second.signature_line(0).is_none() {
+        return 3;
+    }
+    let mut passed = Passed { own: 0, other: 0 };
+    'methods: while let Some(method) = Part::Signatures.next(first, second, &mut passed) {
+        if signature_by_both(first, second, method).is_some() {
+            return 4;
+        }
+    }
+    3
+}
+
+/// Puts the `signature` lines, which a text of version 3 does not have.
+pub fn put_signatures(
+    version: u8,
+    first: &MapText,
+    second: &MapText,
+    gathered: &mut Gathered,
+    text: &mut Counted,
+) -> Result<(), Memory>
+    requires version { version ≡ version_with (composed first.now second.now).signatures }
+    requires gathered { IsGatheredOf gathered.now second.now }
+    requires agree { SizesAgree first.now second.now }
+    ensures gathered { OnOk result (IsGatheredOf gathered.new second.now) }
+    ensures puts { OnOk result (PutsLines text.old text.new (flat_map (part_says Signatures first.now second.now)
+        (all_numbers Signatures first.now second.now))) }
+{
+    first.keeps();
+    second.keeps();
+    if version == 3 {
+        return Ok(());
+    }
+    put_part(Part::Signatures, first, second, gathered, text)
+}
