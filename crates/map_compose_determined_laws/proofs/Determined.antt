@@ -6,6 +6,7 @@ use Rattle.ppdb_base.specs.Offsets.{Kept, RiseFrom, lined, stop_runs}
 use Rattle.ppdb_base.proofs.Moved.{rise_prefix}
 use Rattle.ppdb_maps.specs.Forms.{SLOTS}
 use Rattle.ppdb_maps.specs.Map.{Map, MethodLine, count_of, row_line, row_image, method_line, is_dropped, has_slots, slot_line, slot_image, offsets_in}
+use Rattle.ppdb_maps.specs.Map.{signature_line}
 use Rattle.ppdb_maps.specs.Readable.{IsReadable}
 use Rattle.ppdb_maps.specs.Says.{sizes_of}
 use Rattle.map_compose.specs.Composed.{composed, has_image}
@@ -78,6 +79,15 @@ module _ (f s c d : Map) (readable : IsReadable c) (also : IsReadable d) (one : 
           ap (λ b. cond b (slot_image c method old) None) (slotted_alike method)
           ∙ ap (λ o. cond (has_slots d method) o None) (images_alike method image old follows)
 
+  -- ---- local signatures
+
+  signatures_alike : (method : ℕ) → signature_line c method ≡ signature_line d method
+  signatures_alike method = step (is_there method)
+    where
+      step : IsThere method → signature_line c method ≡ signature_line d method
+      step (gone is) = (one.without_image method is).2 ∙ sym (other.without_image method is).2
+      step (there image follows) = one.signatures method image follows ∙ sym (other.signatures method image follows)
+
   -- ---- methods
 
   line_same : (a b : MethodLine) → a.method ≡ b.method → a.old_size ≡ b.old_size → a.new_size ≡ b.new_size → a.runs ≡ b.runs → a ≡ b
@@ -139,6 +149,7 @@ compositions_are_one f s c d readable also one other =
       drops = drops_alike f s c d readable also one other;
       slotted = slotted_alike f s c d readable also one other;
       slots = slots_alike f s c d readable also one other;
+      signatures = signatures_alike f s c d readable also one other;
     })
 
 pub composed_is_the_only_one : ComposedComposes → ComposedIsReadable → ComposedIsTheOnlyOne

@@ -10,8 +10,9 @@ use Rattle.std.proofs.lemmas.Cmp.{nat_cmp_total}
 use Rattle.ppdb_maps.specs.declared.entries.Count.{Count}
 use Rattle.ppdb_maps.specs.declared.entries.RowImage.{RowImage}
 use Rattle.ppdb_maps.specs.declared.entries.SlotImage.{SlotImage}
+use Rattle.ppdb_maps.specs.declared.entries.SignatureImage.{SignatureImage}
 use Rattle.ppdb_maps.specs.Gathered.{same_pair}
-use Rattle.ppdb_maps.specs.Map.{Map, MethodLine, Ascends, pair_cmp, count_of, row_line, method_line, is_dropped, has_slots, slot_line}
+use Rattle.ppdb_maps.specs.Map.{Map, MethodLine, Ascends, pair_cmp, count_of, row_line, method_line, is_dropped, has_slots, slot_line, signature_line}
 use Rattle.ppdb_maps.proofs.OneList.{one_list}
 use Rattle.ppdb_maps.proofs.OneMap.{same_number, number_same, pair_is, is_pair, pair_total}
 use Rattle.map_compose.proofs.Found.{either}
@@ -91,6 +92,7 @@ pub record AnswerAlike (a b : Map) : Type 0 where
   pub drops : (method : ℕ) → is_dropped a method ≡ is_dropped b method
   pub slotted : (method : ℕ) → has_slots a method ≡ has_slots b method
   pub slots : (method old : ℕ) → slot_line a method old ≡ slot_line b method old
+  pub signatures : (method : ℕ) → signature_line a method ≡ signature_line b method
 
 -- One list after the other: a further list of a map is one more `let` and one more line.
 pub one_map : (a b : Map) → Ascends a → Ascends b → AnswerAlike a b → a ≡ b
@@ -100,6 +102,7 @@ one_map a b x y same =
     let lined : Map = record rowed { methods = b.methods } in
     let dropped : Map = record lined { drops = b.drops } in
     let slotted : Map = record dropped { slotted = b.slotted } in
+    let put : Map = record slotted { slots = b.slots } in
     ap (λ l. record a { counts = l })
     (with_value (λ (c : Count). c.table) (λ c. c.rows) (λ t r. record { table = t; rows = r }) (λ c. refl) a.counts b.counts x.counts y.counts same.counts)
     ∙ ap (λ l. record counted { rows = l })
@@ -111,3 +114,6 @@ one_map a b x y same =
     ∙ ap (λ l. record slotted { slots = l })
     (with_pair (λ (s : SlotImage). s.method) (λ s. s.old) (λ s. s.new) (λ m o n. record { method = m; old = o; new = n }) (λ s. refl)
     a.slots b.slots x.slots y.slots same.slots)
+    ∙ ap (λ l. record put { signatures = l })
+    (with_value (λ (s : SignatureImage). s.method) (λ s. s.new) (λ m r. record { method = m; new = r }) (λ s. refl)
+    a.signatures b.signatures x.signatures y.signatures same.signatures)
