@@ -1,13 +1,13 @@
 -- The references of a file rise, table by table and row by row.
 use Rattle.std.proofs.Common.{ℕ, ◌<◌, ◌++◌, Bool, true, false, cond, List, [], ◌∷◌, inl, inr, Option, Some, None, refl, ap, subst, ◌∙◌, arith, flat_map}
-use Rattle.std.specs.Prelude.{nat_eq, ◌||◌}
+use Rattle.std.specs.Prelude.{nat_eq, is_some, ◌||◌}
 use Rattle.std.specs.List.{enumerate_from}
 use Rattle.ppdb_base.specs.Place.{ComesBefore, at_byte, cell}
 use Rattle.custom_info.specs.Kinds.{kind_of}
 use Rattle.custom_info.specs.declared.kinds.Kind.{Kind}
 use Rattle.custom_info.specs.declared.kinds.Kind.TheVariants.{Async}
 use Rattle.type_blobs_rows.specs.Rows.{constant_types, import_rows}
-use Rattle.ppdb_maps.specs.Map.{Map, is_dropped}
+use Rattle.ppdb_maps.specs.Map.{Map, is_dropped, signature_line}
 use Rattle.ppdb_tables.specs.declared.rows.MethodDebugRow.{MethodDebugRow}
 use Rattle.ppdb_tables.specs.declared.rows.ScopeRow.{ScopeRow}
 use Rattle.ppdb_tables.specs.declared.rows.ConstantRow.{ConstantRow}
@@ -48,19 +48,20 @@ only true rs of = of
 only false rs of = record { rise = tt; each = tt }
 
 method_row : (m : Map) (raw : RawTables) (row : ℕ) (x : MethodDebugRow) → OfRow 0x31 row (of_method m raw (row, x))
-method_row m raw row x = unless (is_dropped m row) (of_points row (method_of raw (row, x))) (points (method_of raw (row, x)))
+method_row m raw row x = unless (is_dropped m row) (of_points m row (method_of raw (row, x))) (points (method_of raw (row, x)))
   where
-    signed : (b : Bool) (signature : ℕ)
-        → OfRow 0x31 row (names (cell 0x31 row 1) 0x06 row ∷ cond b [] (names (cell 0x31 row 1) 0x11 signature ∷ []))
-    signed true signature = record { rise = (tt, tt); each = ((1 ∷ 0 ∷ 6 ∷ [], refl), tt) }
-    signed false signature = record {
+    signed : (lined none : Bool) (signature : ℕ)
+        → OfRow 0x31 row (names (cell 0x31 row 1) 0x06 row ∷ cond lined [] (cond none [] (names (cell 0x31 row 1) 0x11 signature ∷ [])))
+    signed true none signature = record { rise = (tt, tt); each = ((1 ∷ 0 ∷ 6 ∷ [], refl), tt) }
+    signed false true signature = record { rise = (tt, tt); each = ((1 ∷ 0 ∷ 6 ∷ [], refl), tt) }
+    signed false false signature = record {
       rise = ((inr (refl, inr (refl, inr (refl, inr (refl, inr (refl, inl (omega arith)))))), tt), (tt, tt));
       each = ((1 ∷ 0 ∷ 6 ∷ [], refl), ((1 ∷ 0 ∷ 0x11 ∷ [], refl), tt));
     }
 
-    points : (o : Option MethodValue) → OfRow 0x31 row (of_points row o)
+    points : (o : Option MethodValue) → OfRow 0x31 row (of_points m row o)
     points None = record { rise = tt; each = tt }
-    points (Some method) = signed (nat_eq method.signature 0) method.signature
+    points (Some method) = signed (is_some (signature_line m row)) (nat_eq method.signature 0) method.signature
 
 scope_row : (m : Map) (row : ℕ) (x : ScopeRow) → OfRow 0x32 row (of_scope m (row, x))
 scope_row m row x = unless (is_dropped m x.method) (names (cell 0x32 row 0) 0x06 x.method ∷ [])
