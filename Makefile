@@ -23,7 +23,7 @@ DESTDIR ?=
 # What is installed below docdir as it lies here, so that the links of the documents lead to it.
 documents = README.md CHANGELOG.md CONTRIBUTING.md SECURITY.md NOTICE LICENSE $(wildcard docs/*.md docs/pictures/*.png) docs/lines.schema.json \
   docs/verify-debug-files.yml
-samples = examples/async_iter.cs examples/async_iter.pdb examples/embed_link.pdb $(wildcard examples/library/*)
+samples = examples/async_iter.cs examples/async_iter.pdb examples/embed_link.pdb $(wildcard examples/library/* examples/weaver/*.cs examples/weaver/tests/*.cs)
 tools = $(addprefix scripts/,stacktrace stack-maps extract-embedded page verify-each symbol-store repair)
 modules = $(addprefix scripts/shared/,assemblies.py sources.py command.py cells.py)
 
@@ -62,7 +62,7 @@ uninstall:
 	rm -f $(foreach file,$(documents) $(samples),"$(DESTDIR)$(docdir)/$(file)")
 	rm -f $(foreach file,$(notdir $(tools)) $(addprefix shared/,$(notdir $(modules))),"$(DESTDIR)$(docdir)/examples/$(file)")
 	scripts/making/library uninstall "$(DESTDIR)" "$(prefix)" "$(libdir)" "$(includedir)"
-	rmdir $(foreach folder,examples/shared examples/library examples docs/pictures docs,"$(DESTDIR)$(docdir)/$(folder)") \
+	rmdir $(foreach folder,examples/shared examples/library examples/weaver/tests examples/weaver examples docs/pictures docs,"$(DESTDIR)$(docdir)/$(folder)") \
 	  "$(DESTDIR)$(docdir)" "$(DESTDIR)$(datadir)/ppdb" 2>/dev/null || true
 
 release: all

@@ -1,0 +1,413 @@
+// MapWriter writes the map that `ppdb remap` reads after a tool has changed a module with Mono.Cecil 0.10 or later.
+//
+//     var map = MapWriter.Start(module);            // before the first change
+//     ...                                           // change the module
+//     map.Keep(module);                             // types that only the debug file names keep their rows
+//     module.Write(path, map.WriterParameters());   // the module names its debug file, which ppdb will write
+//     map.Save(path, path + ".map");
+//
+// Copyright 2026 Jamtrov maintainers
+// Licensed under the Apache License, Version 2.0: https://www.apache.org/licenses/LICENSE-2.0
+// Copy this file into your tool, with these lines.
+using System;
+using System.Collections.Generic;
+using System.IO;
+using System.Linq;
+using Mono.Cecil;
+using Mono.Cecil.Cil;
+
+public sealed class MapWriter
+{
+    // What a method was before the first change.
+    sealed class Body
+    {
+        public uint Row, Signature;
+        public int Size;
+        public Instruction[] Code = { };
+        public int[] Offsets = { };
+        public VariableDefinition[] Locals = { };
+    }
+
+    // A body before, now, and as it was written.
+    sealed class Change
+    {
+        public Body Old;
+        public MethodBody Now, Written;
+        public uint Signature { get { return Written.LocalVarToken.RID; } }
+    }
+
+    // Tables of ECMA-335 II.22.
+    const int Module = 0x00, TypeRef = 0x01, TypeDef = 0x02, Field = 0x04, Method = 0x06, StandAloneSig = 0x11,
+        Event = 0x14, Property = 0x17, TypeSpec = 0x1b, Assembly = 0x20, AssemblyRef = 0x23, LastTable = 0x2c;
+
+    readonly ModuleDefinition module;
+    readonly int[] rowsBefore;
+    readonly List<TypeReference> typeRefs, typeSpecs;
+    readonly Dictionary<MethodDefinition, Body> methods = new Dictionary<MethodDefinition, Body>();
+    readonly Dictionary<int, SortedDictionary<uint, IMetadataTokenProvider>> members =
+        new Dictionary<int, SortedDictionary<uint, IMetadataTokenProvider>>();
+    readonly List<string> warnings = new List<string>();
+
+    /// Call it before the first change, with a module that was read from a file.
+    public static MapWriter Start(ModuleDefinition module) { return new MapWriter(module); }
+
+    /// What the map cannot say, a sentence each. Read them after Save.
+    public IList<string> Warnings { get { return warnings; } }
+
+    MapWriter(ModuleDefinition module)
+    {
+        this.module = module;
+        rowsBefore = RowCounts.Of(Read(module.FileName));
+        typeRefs = Types(module, TypeRef);
+        typeSpecs = Types(module, TypeSpec);
+        Remember(AssemblyRef, module.AssemblyReferences);
+        foreach (var type in module.GetTypes()) Remember(type);
+        if (DebugDirectory.Has(module, DebugDirectory.Embedded))
+            warnings.Add("The debug file is in the module: extract it. The new debug file will be beside the new module.");
+    }
+
+    // A module may be open for writing.
+    static byte[] Read(string file)
+    {
+        using (var stream = new FileStream(file, FileMode.Open, FileAccess.Read, FileShare.ReadWrite))
+        using (var copy = new MemoryStream())
+        {
+            stream.CopyTo(copy);
+            return copy.ToArray();
+        }
+    }
+
+    void Remember(TypeDefinition type)
+    {
+        Remember(TypeDef, new[] { type });
+        Remember(Field, type.Fields);
+        Remember(Method, type.Methods);
+        Remember(Event, type.Events);
+        Remember(Property, type.Properties);
+        foreach (var method in type.Methods) methods[method] = Before(method);
+    }
+
+    void Remember(int table, IEnumerable<IMetadataTokenProvider> items)
+    {
+        if (!members.ContainsKey(table)) members[table] = new SortedDictionary<uint, IMetadataTokenProvider>();
+        foreach (var item in items) members[table][item.MetadataToken.RID] = item;
+    }
+
+    static Body Before(MethodDefinition method)
+    {
+        uint row = method.MetadataToken.RID;
+        if (!method.HasBody) return new Body { Row = row };
+        return new Body
+        {
+            Row = row,
+            Signature = method.Body.LocalVarToken.RID,
+            Size = method.Body.CodeSize,
+            Code = method.Body.Instructions.ToArray(),
+            Offsets = method.Body.Instructions.Select(instruction => instruction.Offset).ToArray(),
+            Locals = method.Body.Variables.ToArray(),
+        };
+    }
+
+    static List<TypeReference> Types(ModuleDefinition module, int table)
+    {
+        var found = new List<TypeReference>();
+        for (uint row = 1; ; row++)
+        {
+            var type = module.LookupToken(new MetadataToken((TokenType)(table << 24), row)) as TypeReference;
+            if (type == null) return found;
+            found.Add(type);
+        }
+    }
+
+    /// Adds a method that nothing calls and that uses each type that had a row. Cecil writes no row for a type that only the
+    /// debug file names, for example for a local `const DayOfWeek Day = DayOfWeek.Friday`.
+    public void Keep(ModuleDefinition module)
+    {
+        var attributes = MethodAttributes.CompilerControlled | MethodAttributes.Static | MethodAttributes.HideBySig;
+        var method = new MethodDefinition("<types of the debug file>", attributes, module.TypeSystem.Void);
+        var code = method.Body.GetILProcessor();
+        foreach (var type in typeRefs.Concat(typeSpecs))
+        {
+            code.Emit(OpCodes.Ldtoken, type);
+            code.Emit(OpCodes.Pop);
+        }
+        code.Emit(OpCodes.Ret);
+        module.Types[0].Methods.Add(method);
+    }
+
+    /// With these the written module names its debug file as before, without the checksum of the old one.
+    public WriterParameters WriterParameters()
+    {
+        if (!module.HasDebugHeader) return new WriterParameters();
+        return new WriterParameters { WriteSymbols = true, SymbolWriterProvider = new DebugDirectory(module.GetDebugHeader()) };
+    }
+
+    /// Writes the map to the file `path`. The file `written` is the module as Cecil wrote it last.
+    public void Save(string written, string path)
+    {
+        var bytes = Read(written);
+        using (var after = ModuleDefinition.ReadModule(new MemoryStream(bytes)))
+        using (var map = new StreamWriter(path) { NewLine = "\n" })
+        {
+            if (!DebugDirectory.Has(after, DebugDirectory.CodeView))
+                warnings.Add("The new module names no debug file, so a runtime will not look for one.");
+            var alive = Alive();
+            var changes = Changes(alive, after);
+            var signatures = SignatureImages(changes);
+            map.WriteLine("ppdbmap 3");
+            var rowsNow = RowCounts.Of(bytes);
+            for (int table = 0; table <= LastTable; table++)
+            {
+                if (rowsBefore[table] + rowsNow[table] == 0) continue;
+                map.WriteLine("rows {0:x2} {1}", table, rowsNow[table]);
+                var images = table == StandAloneSig ? signatures : Images(table, alive, after);
+                foreach (var image in images) map.WriteLine("row {0:x2} {1} {2}", table, image.Key, image.Value);
+            }
+            foreach (var body in methods.Where(pair => !alive.Contains(pair.Key)).Select(pair => pair.Value).OrderBy(body => body.Row))
+                map.WriteLine("drop {0}", body.Row);
+            foreach (var change in changes.Where(change => !HasImage(change, signatures)))
+                warnings.Add("The local signature of " + change.Now.Method + " is wrong, since other methods share its old row.");
+            foreach (var change in changes) SaveSlots(map, change);
+            foreach (var change in changes) SaveRuns(map, change);
+        }
+    }
+
+    // What the module still has, without the methods of whose code nothing is left: the debug file says nothing of their new code.
+    HashSet<object> Alive()
+    {
+        var found = new HashSet<object>(module.AssemblyReferences);
+        foreach (var type in module.GetTypes())
+        {
+            found.Add(type);
+            found.UnionWith(type.Fields);
+            found.UnionWith(type.Events);
+            found.UnionWith(type.Properties);
+            found.UnionWith(type.Methods.Where(method => !IsReplaced(method)));
+        }
+        return found;
+    }
+
+    bool IsReplaced(MethodDefinition method)
+    {
+        Body old;
+        if (!methods.TryGetValue(method, out old) || old.Code.Length == 0 || method == module.EntryPoint) return false;
+        if (method.HasBody && method.Body.Instructions.Intersect(old.Code).Any()) return false;
+        warnings.Add("Nothing is left of the code of " + method + ", so it has no lines.");
+        return true;
+    }
+
+    List<Change> Changes(HashSet<object> alive, ModuleDefinition after)
+    {
+        var found = new List<Change>();
+        foreach (var pair in methods.Where(pair => pair.Key.HasBody && alive.Contains(pair.Key)).OrderBy(pair => pair.Value.Row))
+        {
+            var written = after.LookupToken(pair.Key.MetadataToken) as MethodDefinition;
+            if (written == null || !written.HasBody || written.Body.Instructions.Count != pair.Key.Body.Instructions.Count)
+                throw new InvalidOperationException(pair.Key.FullName + " has changed since the module was written");
+            found.Add(new Change { Old = pair.Value, Now = pair.Key.Body, Written = written.Body });
+        }
+        return found;
+    }
+
+    // The new row of each old row that still exists. A row of a table that is not here gets none, so `remap` reports M1 if the
+    // debug file names it.
+    SortedDictionary<uint, uint> Images(int table, HashSet<object> alive, ModuleDefinition after)
+    {
+        var images = new SortedDictionary<uint, uint>();
+        if (table == Module || table == Assembly) images[1] = 1;
+        else if (table == TypeRef) TypeImages(images, typeRefs, Types(after, TypeRef));
+        else if (table == TypeSpec) TypeImages(images, typeSpecs, Types(after, TypeSpec));
+        else if (members.ContainsKey(table))
+            foreach (var row in members[table].Where(row => alive.Contains(row.Value))) images[row.Key] = row.Value.MetadataToken.RID;
+        return images;
+    }
+
+    void TypeImages(SortedDictionary<uint, uint> images, List<TypeReference> before, List<TypeReference> now)
+    {
+        var rows = new Dictionary<string, uint>();
+        for (int i = now.Count - 1; i >= 0; i--) rows[TypeNames.Of(now[i])] = (uint)i + 1;
+        for (int i = 0; i < before.Count; i++)
+        {
+            uint row;
+            if (rows.TryGetValue(TypeNames.Of(before[i]), out row)) images[(uint)i + 1] = row;
+            else warnings.Add("The new module does not name " + before[i] + ". If its debug file does, call Keep before you write.");
+        }
+    }
+
+    // The image of a row of StandAloneSig is the row that most of its methods have now, unless it is already that of another row.
+    static SortedDictionary<uint, uint> SignatureImages(List<Change> changes)
+    {
+        var images = new SortedDictionary<uint, uint>();
+        var taken = new HashSet<uint> { 0 };
+        foreach (var old in changes.Where(change => change.Old.Signature != 0).GroupBy(change => change.Old.Signature)
+            .OrderByDescending(group => group.Count()).ThenBy(group => group.Key))
+        {
+            var rows = old.GroupBy(change => change.Signature).OrderByDescending(group => group.Count()).ThenBy(group => group.Key);
+            uint row = rows.Select(group => group.Key).FirstOrDefault(taken.Add);
+            if (row != 0) images[old.Key] = row;
+        }
+        return images;
+    }
+
+    // Whether the new signature of a method is the image of its old one.
+    static bool HasImage(Change change, SortedDictionary<uint, uint> signatures)
+    {
+        uint row;
+        if (change.Old.Signature == 0) return change.Signature == 0;
+        return signatures.TryGetValue(change.Old.Signature, out row) && row == change.Signature;
+    }
+
+    static void SaveSlots(TextWriter map, Change change)
+    {
+        var locals = change.Now.Variables;
+        if (locals.Take(change.Old.Locals.Length).SequenceEqual(change.Old.Locals)) return;
+        map.WriteLine("slots {0}", change.Old.Row);
+        for (int slot = 0; slot < change.Old.Locals.Length; slot++)
+        {
+            int now = locals.IndexOf(change.Old.Locals[slot]);
+            if (now >= 0) map.WriteLine("slot {0} {1} {2}", change.Old.Row, slot, now);
+        }
+    }
+
+    // Instructions that follow each other before and now are in one run. Of one that became longer or shorter the common length is kept.
+    void SaveRuns(TextWriter map, Change change)
+    {
+        var old = change.Old;
+        var kept = new HashSet<Instruction>(change.Now.Instructions);
+        int from = 0, to = 0, length = 0, lost = 0;
+        map.WriteLine("method {0} {1} {2}", old.Row, old.Size, change.Written.CodeSize);
+        for (int i = 0; i < old.Code.Length; i++)
+        {
+            var instruction = old.Code[i];
+            if (!kept.Contains(instruction)) continue;
+            int end = i + 1 < old.Code.Length ? old.Offsets[i + 1] : old.Size;
+            int size = Math.Min(end - old.Offsets[i], instruction.GetSize());
+            if (instruction.Offset < to + length) lost++;
+            else if (old.Offsets[i] == from + length && instruction.Offset == to + length) length += size;
+            else
+            {
+                if (length > 0) map.WriteLine("run {0} {1} {2}", from, to, length);
+                from = old.Offsets[i];
+                to = instruction.Offset;
+                length = size;
+            }
+        }
+        if (length > 0) map.WriteLine("run {0} {1} {2}", from, to, length);
+        if (lost > 0) warnings.Add("The code of " + change.Now.Method + " has another order, so the map leaves out " + lost + " instructions.");
+    }
+}
+
+// A name for each type, which is that of no other type.
+static class TypeNames
+{
+    public static string Of(TypeReference type)
+    {
+        var parameter = type as GenericParameter;
+        if (parameter != null) return (parameter.Type == GenericParameterType.Method ? "!!" : "!") + parameter.Position;
+        var specification = type as TypeSpecification;
+        if (specification != null) return Of(specification.ElementType) + Suffix(specification);
+        if (type.DeclaringType != null) return Of(type.DeclaringType) + "/" + type.Name;
+        return Scope(type.Scope) + type.Namespace + "." + type.Name;
+    }
+
+    static string Suffix(TypeSpecification type)
+    {
+        var instance = type as GenericInstanceType;
+        if (instance != null) return "<" + string.Join(",", instance.GenericArguments.Select(Of)) + ">";
+        var array = type as ArrayType;
+        if (array != null) return array.IsVector ? "[]" : "[" + array.Rank + ":" + string.Join(",", array.Dimensions) + "]";
+        var modifier = type as IModifierType;
+        if (modifier != null) return " " + type.GetType().Name + " " + Of(modifier.ModifierType);
+        var function = type as FunctionPointerType;
+        if (function != null) return "(" + function.CallingConvention + " " + function.HasThis + " "
+            + string.Join(",", function.Parameters.Select(parameter => Of(parameter.ParameterType))) + ") " + Of(function.ReturnType);
+        return " " + type.GetType().Name;
+    }
+
+    static string Scope(IMetadataScope scope)
+    {
+        var reference = scope as AssemblyNameReference;
+        if (reference != null) return "[" + reference.FullName + "]";
+        return scope is ModuleDefinition || scope == null ? "[]" : "[module " + scope.Name + "]";
+    }
+}
+
+// Has Cecil write the debug directory of a module without a debug file.
+sealed class DebugDirectory : ISymbolWriterProvider, ISymbolWriter
+{
+    public const int CodeView = 2, Embedded = 17, Checksum = 19;
+    readonly ImageDebugHeader header;
+
+    public DebugDirectory(ImageDebugHeader old)
+    {
+        header = new ImageDebugHeader(old.Entries.Where(entry => Kind(entry) != Embedded && Kind(entry) != Checksum).ToArray());
+    }
+
+    public static bool Has(ModuleDefinition module, int kind)
+    {
+        return module.HasDebugHeader && module.GetDebugHeader().Entries.Any(entry => Kind(entry) == kind);
+    }
+
+    static int Kind(ImageDebugHeaderEntry entry) { return (int)entry.Directory.Type; }
+
+    public ISymbolWriter GetSymbolWriter(ModuleDefinition module, string fileName) { return this; }
+    public ISymbolWriter GetSymbolWriter(ModuleDefinition module, Stream symbolStream) { return this; }
+    public ISymbolReaderProvider GetReaderProvider() { return null; }
+    public ImageDebugHeader GetDebugHeader() { return header; }
+    public void Write(MethodDebugInformation info) { }
+    public void Write(ICustomDebugInformationProvider provider) { } // this and the next are for Cecil 0.11.5 and later
+    public void Write() { }
+    public void Dispose() { }
+}
+
+// The numbers of rows of the tables of a module, which Cecil does not tell (ECMA-335 II.24.2.6 and II.25).
+static class RowCounts
+{
+    public static int[] Of(byte[] bytes)
+    {
+        int tables = Tables(bytes, Metadata(bytes));
+        ulong present = BitConverter.ToUInt64(bytes, tables + 8);
+        var counts = new int[64];
+        for (int table = 0, at = tables + 24; table < 64; table++)
+        {
+            if ((present >> table & 1) == 0) continue;
+            counts[table] = BitConverter.ToInt32(bytes, at);
+            at += 4;
+        }
+        return counts;
+    }
+
+    // The place of the metadata root: data directory 14 has the CLI header, which has its address.
+    static int Metadata(byte[] bytes)
+    {
+        int optional = BitConverter.ToInt32(bytes, 0x3c) + 24;
+        int directories = optional + (BitConverter.ToUInt16(bytes, optional) == 0x20b ? 112 : 96);
+        int header = Place(bytes, BitConverter.ToInt32(bytes, directories + 14 * 8));
+        return Place(bytes, BitConverter.ToInt32(bytes, header + 8));
+    }
+
+    // The place in the file of an address in memory.
+    static int Place(byte[] bytes, int address)
+    {
+        int coff = BitConverter.ToInt32(bytes, 0x3c) + 4, sections = BitConverter.ToUInt16(bytes, coff + 2);
+        for (int at = coff + 20 + BitConverter.ToUInt16(bytes, coff + 16); sections > 0; sections--, at += 40)
+        {
+            int start = BitConverter.ToInt32(bytes, at + 12), size = BitConverter.ToInt32(bytes, at + 16);
+            if (address >= start && address < start + size) return address - start + BitConverter.ToInt32(bytes, at + 20);
+        }
+        throw new BadImageFormatException("no section has the address " + address);
+    }
+
+    // The place of the stream #~.
+    static int Tables(byte[] bytes, int root)
+    {
+        int at = root + 16 + BitConverter.ToInt32(bytes, root + 12), streams = BitConverter.ToUInt16(bytes, at + 2);
+        for (at += 4; streams > 0; streams--)
+        {
+            int name = at + 8, end = Array.IndexOf(bytes, (byte)0, name);
+            if (bytes[name + 1] == '~' && end == name + 2) return root + BitConverter.ToInt32(bytes, at);
+            at = name + (end - name) / 4 * 4 + 4;
+        }
+        throw new BadImageFormatException("no stream #~");
+    }
+}
