@@ -46,6 +46,7 @@ public sealed class MapWriter
     readonly Dictionary<MethodDefinition, Body> methods = new Dictionary<MethodDefinition, Body>();
     readonly Dictionary<int, SortedDictionary<uint, IMetadataTokenProvider>> members =
         new Dictionary<int, SortedDictionary<uint, IMetadataTokenProvider>>();
+    readonly Dictionary<Instruction, Instruction> replaced = new Dictionary<Instruction, Instruction>();
     readonly List<string> warnings = new List<string>();
 
     /// Call it before the first change, with a module that was read from a file.
@@ -117,6 +118,16 @@ public sealed class MapWriter
             if (type == null) return found;
             found.Add(type);
         }
+    }
+
+    /// Gives an instruction that you put in the place of another one the line of that.
+    public void Replaced(Instruction old, Instruction now) { replaced[old] = now; }
+
+    Instruction Now(Instruction old)
+    {
+        Instruction now;
+        while (replaced.TryGetValue(old, out now)) old = now;
+        return old;
     }
 
     /// Adds a method that nothing calls and that uses each type that had a row. Cecil writes no row for a type that only the
@@ -191,7 +202,7 @@ public sealed class MapWriter
     {
         Body old;
         if (!methods.TryGetValue(method, out old) || old.Code.Length == 0 || method == module.EntryPoint) return false;
-        if (method.HasBody && method.Body.Instructions.Intersect(old.Code).Any()) return false;
+        if (method.HasBody && method.Body.Instructions.Intersect(old.Code.Select(Now)).Any()) return false;
         warnings.Add("Nothing is left of the code of " + method + ", so it has no lines.");
         return true;
     }
@@ -278,7 +289,7 @@ public sealed class MapWriter
         map.WriteLine("method {0} {1} {2}", old.Row, old.Size, change.Written.CodeSize);
         for (int i = 0; i < old.Code.Length; i++)
         {
-            var instruction = old.Code[i];
+            var instruction = Now(old.Code[i]);
             if (!kept.Contains(instruction)) continue;
             int end = i + 1 < old.Code.Length ? old.Offsets[i + 1] : old.Size;
             int size = Math.Min(end - old.Offsets[i], instruction.GetSize());

@@ -18,6 +18,8 @@ static class Cases
             if (words[0] != "lost") map.Keep(module);
             if (words[0] == "replaced") Replace(choose);
             if (words[0] == "back") MoveBack(choose);
+            if (words[0] == "copied")
+                foreach (var method in module.GetTypes().SelectMany(type => type.Methods).Where(method => method.HasBody)) Copy(method.Body, map);
             var parameters = map.WriterParameters();
             if (words[0] == "unnamed") parameters = new WriterParameters();
             if (words[0] == "checksum") parameters.SymbolWriterProvider = new WithChecksum(module.GetDebugHeader());
@@ -32,6 +34,32 @@ static class Cases
         code.Clear();
         code.Add(Instruction.Create(OpCodes.Ldnull));
         code.Add(Instruction.Create(OpCodes.Throw));
+    }
+
+    // Each instruction becomes a copy.
+    static void Copy(MethodBody body, MapWriter map)
+    {
+        var copies = body.Instructions.ToDictionary(old => old, old => Instruction.Create(OpCodes.Nop));
+        Func<Instruction, Instruction> copy = old => old == null ? null : copies[old];
+        foreach (var old in body.Instructions)
+        {
+            copies[old].OpCode = old.OpCode;
+            var targets = old.Operand as Instruction[];
+            if (targets != null) copies[old].Operand = targets.Select(copy).ToArray();
+            else copies[old].Operand = old.Operand is Instruction ? copy((Instruction)old.Operand) : old.Operand;
+            map.Replaced(old, copies[old]);
+        }
+        foreach (var handler in body.ExceptionHandlers)
+        {
+            handler.TryStart = copy(handler.TryStart);
+            handler.TryEnd = copy(handler.TryEnd);
+            handler.HandlerStart = copy(handler.HandlerStart);
+            handler.HandlerEnd = copy(handler.HandlerEnd);
+            handler.FilterStart = copy(handler.FilterStart);
+        }
+        var code = body.Instructions.Select(copy).ToList();
+        body.Instructions.Clear();
+        foreach (var instruction in code) body.Instructions.Add(instruction);
     }
 
     // The first instruction becomes the last.
