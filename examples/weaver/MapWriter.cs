@@ -165,7 +165,7 @@ public sealed class MapWriter
             var alive = Alive();
             var changes = Changes(alive, after);
             var signatures = SignatureImages(changes);
-            map.WriteLine("ppdbmap 3");
+            map.WriteLine("ppdbmap 4");
             var rowsNow = RowCounts.Of(bytes);
             for (int table = 0; table <= LastTable; table++)
             {
@@ -176,9 +176,9 @@ public sealed class MapWriter
             }
             foreach (var body in methods.Where(pair => !alive.Contains(pair.Key)).Select(pair => pair.Value).OrderBy(body => body.Row))
                 map.WriteLine("drop {0}", body.Row);
-            foreach (var change in changes.Where(change => !HasImage(change, signatures)))
-                warnings.Add("The local signature of " + change.Now.Method + " is wrong, since other methods share its old row.");
             foreach (var change in changes) SaveSlots(map, change);
+            foreach (var change in changes.Where(change => !HasImage(change, signatures)))
+                map.WriteLine("signature {0} {1}", change.Old.Row, change.Signature);
             foreach (var change in changes) SaveRuns(map, change);
         }
     }
@@ -245,7 +245,8 @@ public sealed class MapWriter
         }
     }
 
-    // The image of a row of StandAloneSig is the row that most of its methods have now, unless it is already that of another row.
+    // Compilers give many methods one row of StandAloneSig. Its image is the row that most of them have now, unless that is already the
+    // image of another row. The other methods get `signature` lines.
     static SortedDictionary<uint, uint> SignatureImages(List<Change> changes)
     {
         var images = new SortedDictionary<uint, uint>();

@@ -59,16 +59,13 @@ static class Weave
     // string entered = NAME; Enter(entered);
     static void Insert(MethodDefinition method, MethodDefinition enter, int slot)
     {
+        var entered = new VariableDefinition(method.Module.TypeSystem.String);
+        method.Body.Variables.Insert(slot, entered);
         var code = method.Body.GetILProcessor();
         var first = method.Body.Instructions[0];
         code.InsertBefore(first, code.Create(OpCodes.Ldstr, method.FullName));
-        if (method.Body.HasVariables)
-        {
-            var entered = new VariableDefinition(method.Module.TypeSystem.String);
-            method.Body.Variables.Insert(slot, entered);
-            code.InsertBefore(first, code.Create(OpCodes.Stloc, entered));
-            code.InsertBefore(first, code.Create(OpCodes.Ldloc, entered));
-        }
+        code.InsertBefore(first, code.Create(OpCodes.Stloc, entered));
+        code.InsertBefore(first, code.Create(OpCodes.Ldloc, entered));
         code.InsertBefore(first, code.Create(OpCodes.Call, enter));
     }
 }
