@@ -3,6 +3,7 @@ pub mod Bounded
 pub mod Chains
 pub mod Given
 pub mod Lines
+pub mod Looked
 pub mod Names
 pub mod Numbered
 pub mod OfKind

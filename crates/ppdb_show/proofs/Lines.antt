@@ -11,8 +11,7 @@ use Rattle.ppdb_values.specs.RawFile.{RawFile, blob}
 use Rattle.ppdb_values.specs.Documents.{method_with, points_in, signature_in}
 use Rattle.ppdb_values.specs.Imports.{import_value, import_scope_of}
 use Rattle.ppdb_show_lines.specs.declared.form.Form.{Form}
-use Rattle.ppdb_show_lines.specs.declared.form.Form.TheVariants.{Text, Json}
-use Rattle.ppdb_show_lines.specs.Lines.{Line, text_of, json_of}
+use Rattle.ppdb_show_lines.specs.Lines.{Line}
 use Rattle.ppdb_show_lines.proofs.Texts.{no_lines, more_lines}
 use Rattle.ppdb_show_lines.specs.Forms.{lines_as}
 use Rattle.ppdb_show_lines.specs.Heads.{id_line, entry_line}
@@ -121,11 +120,3 @@ pub rows_text : (form : Form) (raw : RawTables) → lines_as form (row_lines raw
 rows_text form raw =
     rows_in form (document_lines raw) (method_lines raw) (scope_lines raw) (variable_lines raw) (constant_lines raw) (import_lines raw) (machine_lines raw)
     (custom_lines raw)
-
-pub as_text : (lines : List Line) → lines_as Text lines ≡ flat_map text_of lines
-unfolding lines_as
-as_text lines = refl
-
-pub as_json : (lines : List Line) → lines_as Json lines ≡ flat_map json_of lines
-unfolding lines_as
-as_json lines = refl

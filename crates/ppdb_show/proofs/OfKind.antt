@@ -8,6 +8,7 @@ use Rattle.ppdb_tables.specs.declared.rows.CustomRow.{CustomRow}
 use Rattle.ppdb_tables.specs.RawTables.{RawTables}
 use Rattle.ppdb_values.specs.Customs.{custom_body, kind_in}
 use Rattle.ppdb_values.specs.RawFile.{blob}
+use Rattle.ppdb_show_lines.specs.declared.form.Form.{Form}
 use Rattle.ppdb_show_lines.specs.Lines.{Line}
 use Rattle.ppdb_show.specs.Query.{custom_found, lines_of_body, lines_of_record}
 use Rattle.ppdb_show.specs.QueryWalk.{Adds}
@@ -19,24 +20,24 @@ kind_lines : (raw : RawTables) (n : ℕ) (row : CustomRow) (kind : Kind) → kin
     → lines_of_record raw (n, row) ≡ lines_of_body (custom_found raw row) (custom_body raw kind (blob raw row.value))
 kind_lines raw n row kind e = ap (λ (k : Kind). lines_of_body (custom_found raw row) (custom_body raw k (blob raw row.value))) e
 
-pub hoisted_put : (raw : RawTables) (n : ℕ) (row : CustomRow) (kind : Kind) (old : List ℕ) → kind ≡ kind_of [] (kind_in raw row) → kind ≡ HoistedKind
-    → Adds old old (lines_of_record raw (n, row))
-hoisted_put raw n row kind old is hoisted =
-    subst (λ (lines : List Line). Adds old old lines) (sym (kind_lines raw n row HoistedKind (sym is ∙ hoisted))) (adds_none old)
+pub hoisted_put : (form : Form) (raw : RawTables) (n : ℕ) (row : CustomRow) (kind : Kind) (old : List ℕ) → kind ≡ kind_of [] (kind_in raw row) → kind ≡ HoistedKind
+    → Adds form old old (lines_of_record raw (n, row))
+hoisted_put form raw n row kind old is hoisted =
+    subst (λ (lines : List Line). Adds form old old lines) (sym (kind_lines raw n row HoistedKind (sym is ∙ hoisted))) (adds_none form old)
 
-pub documents_put : {T E : Type 0} (r : Result T E) (raw : RawTables) (n : ℕ) (row : CustomRow) (kind : Kind) (old new : List ℕ)
+pub documents_put : {T E : Type 0} (form : Form) (r : Result T E) (raw : RawTables) (n : ℕ) (row : CustomRow) (kind : Kind) (old new : List ℕ)
     → kind ≡ kind_of [] (kind_in raw row) → kind ≡ DocumentsKind
-    → OnOk r (Adds old new (custom_found raw row ∷ [])) → OnOk r (Adds old new (lines_of_record raw (n, row)))
-documents_put r raw n row kind old new is documents put =
-    subst (λ (lines : List Line). OnOk r (Adds old new lines)) (sym (kind_lines raw n row DocumentsKind (sym is ∙ documents))) put
+    → OnOk r (Adds form old new (custom_found raw row ∷ [])) → OnOk r (Adds form old new (lines_of_record raw (n, row)))
+documents_put form r raw n row kind old new is documents put =
+    subst (λ (lines : List Line). OnOk r (Adds form old new lines)) (sym (kind_lines raw n row DocumentsKind (sym is ∙ documents))) put
 
-pub free_put : {T E : Type 0} (r : Result T E) (raw : RawTables) (n : ℕ) (row : CustomRow) (kind : Kind) (old new : List ℕ)
+pub free_put : {T E : Type 0} (form : Form) (r : Result T E) (raw : RawTables) (n : ℕ) (row : CustomRow) (kind : Kind) (old new : List ℕ)
     → kind ≡ kind_of [] (kind_in raw row) → kind ≡ Free
-    → OnOk r (Adds old new (custom_found raw row ∷ [])) → OnOk r (Adds old new (lines_of_record raw (n, row)))
-free_put r raw n row kind old new is free put = subst (λ (lines : List Line). OnOk r (Adds old new lines)) (sym (kind_lines raw n row Free (sym is ∙ free))) put
+    → OnOk r (Adds form old new (custom_found raw row ∷ [])) → OnOk r (Adds form old new (lines_of_record raw (n, row)))
+free_put form r raw n row kind old new is free put = subst (λ (lines : List Line). OnOk r (Adds form old new lines)) (sym (kind_lines raw n row Free (sym is ∙ free))) put
 
-pub unknown_put : {T E : Type 0} (r : Result T E) (raw : RawTables) (n : ℕ) (row : CustomRow) (kind : Kind) (old new : List ℕ)
+pub unknown_put : {T E : Type 0} (form : Form) (r : Result T E) (raw : RawTables) (n : ℕ) (row : CustomRow) (kind : Kind) (old new : List ℕ)
     → kind ≡ kind_of [] (kind_in raw row) → kind ≡ Unknown
-    → OnOk r (Adds old new (custom_found raw row ∷ [])) → OnOk r (Adds old new (lines_of_record raw (n, row)))
-unknown_put r raw n row kind old new is unknown put =
-    subst (λ (lines : List Line). OnOk r (Adds old new lines)) (sym (kind_lines raw n row Unknown (sym is ∙ unknown))) put
+    → OnOk r (Adds form old new (custom_found raw row ∷ [])) → OnOk r (Adds form old new (lines_of_record raw (n, row)))
+unknown_put form r raw n row kind old new is unknown put =
+    subst (λ (lines : List Line). OnOk r (Adds form old new lines)) (sym (kind_lines raw n row Unknown (sym is ∙ unknown))) put

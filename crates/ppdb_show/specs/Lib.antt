@@ -1,4 +1,5 @@
 pub mod Bound
+pub mod Lookup
 pub mod Query
 pub mod QueryWalk
 pub mod Show

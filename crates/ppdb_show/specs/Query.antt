@@ -1,4 +1,4 @@
--- What a query of an offset of a method prints, line by line (this project's format; Portable PDB v1.0, "Metadata Tables").
+-- What a query of an offset of a method prints, line by line, as text or as objects of JSON (this project's format; Portable PDB v1.0, "Metadata Tables").
 use Rattle.std.specs.Prelude.{map, ℕ, List, [], ◌∷◌, ◌++◌, Option, Some, None, Bool, true, false, ◌==◌, codes, unwrap_or}
 use Rattle.std.specs.Option.{option_map}
 use Rattle.std.specs.List.{flat_map}
@@ -26,7 +26,9 @@ use Rattle.ppdb_queries.specs.declared.scopes.ScopeView.{ScopeView}
 use Rattle.ppdb_queries.specs.Hoisted.{hoisted_at}
 use Rattle.ppdb_queries.specs.Runs.{customs_at}
 use Rattle.ppdb_queries.specs.Scopes.{scopes_at}
-use Rattle.ppdb_show_lines.specs.Lines.{Line, Field, field, mark, number, guid, octets, name, text_of}
+use Rattle.ppdb_show_lines.specs.declared.form.Form.{Form}
+use Rattle.ppdb_show_lines.specs.Forms.{lines_as}
+use Rattle.ppdb_show_lines.specs.Lines.{Line, Content, field, number, guid, octets, name, absent}
 use Rattle.ppdb_show_lines.specs.Uses.{use_line}
 use Rattle.ppdb_show.specs.Show.{span_fields}
 
@@ -49,7 +51,7 @@ customs_found raw table row = map (λ custom. custom_found raw custom.1) (custom
 -- ---- the sequence point ("Sequence Points Blob", "Document Table")
 
 abbrev pub no_point_line : Line
-no_point_line = record { word = codes "point"; fields = mark (codes " none") ∷ [] }
+no_point_line = record { word = codes "point"; fields = field (codes " ") (codes "offset") (absent (codes "none")) ∷ [] }
 
 abbrev pub point_found : Point → ℕ → List ℕ → Line
 point_found point signature document = record {
@@ -142,8 +144,9 @@ abbrev pub entry_lines : Bool → List Line
 entry_lines true = record { word = codes "entry"; fields = [] } ∷ []
 entry_lines false = []
 
+-- its key is its word, as in the line of a state machine
 abbrev pub link_line : List ℕ → ℕ → Line
-link_line word method = record { word = word; fields = field (codes " ") (codes "method") (number method) ∷ [] }
+link_line word method = record { word = word; fields = field (codes " ") word (number method) ∷ [] }
 
 abbrev pub links_to : List ℕ → Option ℕ → List Line
 links_to word (Some method) = link_line word method ∷ []
@@ -156,12 +159,12 @@ link_lines raw m = entry_lines (raw.entry == m)
 
 -- ---- the other custom records of the method ("Async Method Stepping Information")
 
-abbrev pub handler_field : Option ℕ → Field
-handler_field (Some offset) = field (codes " ") (codes "handler") (number offset)
-handler_field None = mark (codes " -")
+abbrev pub handler_or_none : Option ℕ → Content
+handler_or_none (Some offset) = number offset
+handler_or_none None = absent (codes "-")
 
 abbrev pub async_line : Option ℕ → Line
-async_line handler = record { word = codes "async"; fields = handler_field handler ∷ [] }
+async_line handler = record { word = codes "async"; fields = field (codes " ") (codes "handler") (handler_or_none handler) ∷ [] }
 
 abbrev pub step_line : AsyncStep → Line
 step_line step = record {
@@ -190,5 +193,5 @@ query_lines raw m x = points_found raw m x
     ++ (scopes_found raw.tables m x ++ (hoisted_lines raw.tables m x ++ (link_lines raw m ++ record_lines raw.tables m)))
 
 -- What `query` prints.
-unfoldable pub query_text_of : RawFile → ℕ → ℕ → List ℕ
-query_text_of raw m x = flat_map text_of (query_lines raw m x)
+unfoldable pub query_text_of : Form → RawFile → ℕ → ℕ → List ℕ
+query_text_of form raw m x = lines_as form (query_lines raw m x)

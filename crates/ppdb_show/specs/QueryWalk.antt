@@ -10,21 +10,20 @@ use Rattle.ppdb_queries.specs.declared.points.PointAt.{PointAt}
 use Rattle.ppdb_queries.specs.declared.scopes.ScopeView.{ScopeView}
 use Rattle.ppdb_queries.specs.Digits.{digits}
 use Rattle.ppdb_queries.specs.Scopes.{scope_view, scopes_at, scope_count}
-use Rattle.ppdb_show_lines.specs.Lines.{Line, text_of}
+use Rattle.ppdb_show_lines.specs.declared.form.Form.{Form}
+use Rattle.ppdb_show_lines.specs.Forms.{lines_as}
+use Rattle.ppdb_show_lines.specs.Lines.{Line}
 use Rattle.ppdb_show_lines.specs.Uses.{use_line}
 use Rattle.ppdb_show.specs.Query.{customs_on, customs_found, import_found, point_found, no_point_line, document_name, variables_of, constants_of, imports_of}
 
-unfoldable pub lines_text : List Line → List ℕ
-lines_text lines = flat_map text_of lines
-
 -- the lines were put after a text
-abbrev pub Adds : List ℕ → List ℕ → List Line → Type 0
-Adds old new lines = new ≡ old ++ lines_text lines
+abbrev pub Adds : Form → List ℕ → List ℕ → List Line → Type 0
+Adds form old new lines = new ≡ old ++ lines_as form lines
 
 -- Of some items, each with its lines and the rows that are read for them, these are left: the lines of the others were put, and
 -- the rows read from before to after leave those of the rest.
-pub record Walked {X : Type 0} (lines : X → List Line) (reads : X → ℕ) (all rest : List X) (old new : List ℕ) (before after : ℕ) : Type 0 where
-  pub put : old ++ lines_text (flat_map lines all) ≡ new ++ lines_text (flat_map lines rest)
+pub record Walked {X : Type 0} (form : Form) (lines : X → List Line) (reads : X → ℕ) (all rest : List X) (old new : List ℕ) (before after : ℕ) : Type 0 where
+  pub put : old ++ lines_as form (flat_map lines all) ≡ new ++ lines_as form (flat_map lines rest)
   pub read : after + sum_by reads rest ≤ before + sum_by reads all
 
 -- ---- rows that are read

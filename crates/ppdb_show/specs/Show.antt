@@ -19,8 +19,10 @@ use Rattle.ppdb_values.specs.Documents.{document_of, method_of}
 use Rattle.ppdb_values.specs.Imports.{import_scope_of}
 use Rattle.ppdb_values.specs.Customs.{parent_of}
 use Rattle.ppdb_values.specs.Value.{owner_of, variable_of, range_of}
+use Rattle.ppdb_show_lines.specs.declared.form.Form.{Form}
+use Rattle.ppdb_show_lines.specs.Forms.{lines_as}
 use Rattle.ppdb_show_lines.specs.Uses.{use_line}
-use Rattle.ppdb_show_lines.specs.Lines.{Line, Field, field, mark, number, table, guid, octets, name, text_of, json_of}
+use Rattle.ppdb_show_lines.specs.Lines.{Line, Field, field, mark, number, table, guid, octets, name}
 
 -- ---- the head
 
@@ -179,9 +181,6 @@ row_lines raw = document_lines raw ++ (method_lines raw ++ (scope_lines raw ++ (
 abbrev pub show_lines : RawFile → List Line
 show_lines raw = head_lines raw ++ row_lines raw.tables
 
--- What `show` prints: as text, and as JSON.
-abbrev pub show_text_of : RawFile → List ℕ
-show_text_of raw = flat_map text_of (show_lines raw)
-
-abbrev pub show_json_of : RawFile → List ℕ
-show_json_of raw = flat_map json_of (show_lines raw)
+-- What `show` prints.
+abbrev pub show_text_of : Form → RawFile → List ℕ
+show_text_of form raw = lines_as form (show_lines raw)

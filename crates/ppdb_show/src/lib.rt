@@ -1,8 +1,11 @@
-//! The texts of a valid file: all its rows, as lines of text or as objects of JSON, and what belongs to an offset of a method.
+//! The texts of a valid file, as lines of text or as objects of JSON: all its rows, what belongs to an offset of a method, and
+//! what belongs to each offset of a list.
 #![tactic(auto)]
 
+mod lookup;
 mod query;
 mod show;
 
-pub use query::{QueryError, query_text};
-pub use show::{show_json, show_text};
+pub use lookup::{put_lookup, put_no_method};
+pub use query::{QueryError, put_query};
+pub use show::put_show;

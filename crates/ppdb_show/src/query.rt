@@ -1,4 +1,4 @@
-// What belongs to an offset of a method, as text.
+// What belongs to an offset of a method, as text or as JSON.
 ghost use Rattle.std.specs.Prelude.{◌≡◌, ◌+◌, ◌≤◌, ◌↔◌, OnOk, OnErr, IsErrOf};
 ghost use Rattle.ppdb_base.specs.Causes.{Rose};
 ghost use Rattle.ppdb_base.specs.Written.{appended, AppendsPrefix};
@@ -28,8 +28,8 @@ use crate::query::records::put_records;
 use crate::query::scopes::put_scopes;
 use ppdb_base::{Memory, Sink, SteadySink, Steps, WriteError};
 use ppdb_queries::{PointAt, point_at};
+use ppdb_show_lines::Printer;
 use ppdb_verify::Verified;
-use std::alloc::Global;
 use std::sync::ledger::Ledger;
 
 /// Why a query was not answered.
@@ -45,7 +45,7 @@ pub enum QueryError {
 
 /// Puts the lines of an answer.
 fn put_answer<L: Ledger>(
-    alloc: Global,
+    printer: Printer<'_>,
     text: &mut SteadySink,
     file: &Verified<'_>,
     method: u32,
@@ -55,15 +55,15 @@ fn put_answer<L: Ledger>(
 ) -> Result<(), Memory>
     requires there { HasRow (raw_of (tables_of file.now)) 0x06 method }
     requires point { PointIs (raw_file file.now) method offset found.now }
-    ensures ok { OnOk result (Adds text.old text.new (query_lines (raw_file file.now) method offset)) }
+    ensures ok { OnOk result (Adds printer.entry.form text.old text.new (query_lines (raw_file file.now) method offset)) }
     ensures cost { steps.new + 2 ≤ steps.old + query_rows (raw_of (tables_of file.now)) method offset }
 {
     file.keeps();
-    put_point(alloc, text, file, found, steps)?;
-    put_scopes(alloc, text, file, method, offset, steps)?;
-    put_hoisted(text, file, method, offset, steps)?;
-    put_links(text, file, method, steps)?;
-    put_records(alloc, text, file, method, steps)
+    put_point(printer, text, file, found, steps)?;
+    put_scopes(printer, text, file, method, offset, steps)?;
+    put_hoisted(printer, text, file, method, offset, steps)?;
+    put_links(printer, text, file, method, steps)?;
+    put_records(printer, text, file, method, steps)
 }
 
 /// Puts what belongs to an offset of a method: its last sequence point that is not after the offset, the scopes that hold it
@@ -75,8 +75,8 @@ fn put_answer<L: Ledger>(
 /// The method is 0 or above the rows of MethodDef, and nothing was put; or the sink failed, or there was no memory left, and a
 /// prefix of the text was put.
 #[tactic(auto, unfolding(crate::specs::Query::query_text_of))]
-pub fn query_text<O: Sink, L: Ledger>(
-    alloc: Global,
+pub fn put_query<O: Sink, L: Ledger>(
+    printer: Printer<'_>,
     file: &Verified<'_>,
     method: u32,
     offset: u32,
@@ -85,8 +85,8 @@ pub fn query_text<O: Sink, L: Ledger>(
 ) -> Result<(), QueryError>
     ensures none { IsErrOf result QueryError.NoMethod ↔ IsNoMethod (raw_of (tables_of file.now)) method }
     ensures nothing { IsErrOf result QueryError.NoMethod → O.written out.new ≡ O.written out.old }
-    ensures ok { OnOk result (O.written out.new ≡ appended (O.written out.old) (query_text_of (raw_file file.now) method offset)) }
-    ensures err { OnErr result (AppendsPrefix (O.written out.old) (O.written out.new) (query_text_of (raw_file file.now) method offset)) }
+    ensures ok { OnOk result (O.written out.new ≡ appended (O.written out.old) (query_text_of printer.entry.form (raw_file file.now) method offset)) }
+    ensures err { OnErr result (AppendsPrefix (O.written out.old) (O.written out.new) (query_text_of printer.entry.form (raw_file file.now) method offset)) }
     ensures failed { IsErrOf result QueryError.Failed → Rose (O.faults out.old) (O.faults out.new) }
     ensures later { O.faults out.old ≤ O.faults out.new }
     ensures cost { steps.new ≤ steps.old + query_rows (raw_of (tables_of file.now)) method offset }
@@ -94,8 +94,8 @@ pub fn query_text<O: Sink, L: Ledger>(
     let Ok(found) = point_at(file, method, offset, steps) else {
         return Err(QueryError::NoMethod);
     };
-    let mut text = SteadySink::new(alloc);
-    if put_answer(alloc, &mut text, file, method, offset, &found, steps).is_err() {
+    let mut text = SteadySink::new(printer.alloc);
+    if put_answer(printer, &mut text, file, method, offset, &found, steps).is_err() {
         return Err(QueryError::Memory);
     }
     match out.put(text.as_slice()) {

@@ -2,7 +2,7 @@
 ghost use Rattle.ppdb_base.specs.Written.{Puts};
 ghost use Rattle.ppdb_verify.specs.Views.{raw_file};
 ghost use Rattle.ppdb_show_lines.specs.Forms.{lines_as};
-ghost use Rattle.ppdb_show.specs.Show.{row_lines, show_lines, show_text_of, show_json_of};
+ghost use Rattle.ppdb_show.specs.Show.{row_lines, show_text_of};
 
 mod documents;
 mod head;
@@ -15,10 +15,8 @@ use crate::show::head::put_head;
 use crate::show::owned::{Owned, put_owned};
 use crate::show::rows::{Rows, put_rows};
 use ppdb_base::{Sink, Steps, WriteError};
-use ppdb_show_lines::{Form, Printer};
+use ppdb_show_lines::Printer;
 use ppdb_verify::Verified;
-use std::alloc::Global;
-use std::cell::Cell;
 use std::sync::ledger::Ledger;
 
 /// Puts all rows of a file, a line each.
@@ -26,53 +24,13 @@ use std::sync::ledger::Ledger;
 /// # Errors
 ///
 /// The sink failed, or there was no memory left; a prefix of the text was put.
-pub fn show_text<O: Sink, L: Ledger>(
-    alloc: Global,
-    file: &Verified<'_>,
-    out: &mut O,
-    steps: &mut Steps<L>,
-) -> Result<(), WriteError>
-    ensures { Puts result (O.written out.old) (O.written out.new) (O.faults out.old) (O.faults out.new) (show_text_of (raw_file file.now)) }
-{
-    let room = Cell::new(Vec::new(alloc));
-    let printer = Printer {
-        alloc,
-        form: Form::Text,
-        room: &room,
-    };
-    put_file(printer, file, out, steps)
-}
-
-/// Puts all rows of a file, an object of JSON and a line each.
-///
-/// # Errors
-///
-/// The sink failed, or there was no memory left; a prefix of the text was put.
-pub fn show_json<O: Sink, L: Ledger>(
-    alloc: Global,
-    file: &Verified<'_>,
-    out: &mut O,
-    steps: &mut Steps<L>,
-) -> Result<(), WriteError>
-    ensures { Puts result (O.written out.old) (O.written out.new) (O.faults out.old) (O.faults out.new) (show_json_of (raw_file file.now)) }
-{
-    let room = Cell::new(Vec::new(alloc));
-    let printer = Printer {
-        alloc,
-        form: Form::Json,
-        room: &room,
-    };
-    put_file(printer, file, out, steps)
-}
-
-/// Puts all lines of a file.
-fn put_file<O: Sink, L: Ledger>(
+pub fn put_show<O: Sink, L: Ledger>(
     printer: Printer<'_>,
     file: &Verified<'_>,
     out: &mut O,
     steps: &mut Steps<L>,
 ) -> Result<(), WriteError>
-    ensures { Puts result (O.written out.old) (O.written out.new) (O.faults out.old) (O.faults out.new) (lines_as printer.entry.form (show_lines (raw_file file.now))) }
+    ensures { Puts result (O.written out.old) (O.written out.new) (O.faults out.old) (O.faults out.new) (show_text_of printer.entry.form (raw_file file.now)) }
 {
     put_head(printer, file, out)?;
     put_tables(printer, file, out, steps)

@@ -16,7 +16,7 @@ use Rattle.uuid.specs.Parts.{swap_fields}
 use Rattle.uuid.proofs.TextLemmas.{hyphenated_ascii}
 use Rattle.ppdb_base.specs.Escaped.{escaped, escaped_byte, code_of, is_plain}
 use Rattle.ppdb_show_lines.specs.Values.{table_text, token_text, guid_text, hex_text, hyphenated}
-use Rattle.ppdb_show_lines.specs.Lines.{Content, number, table, token, guid, octets, name, content_text}
+use Rattle.ppdb_show_lines.specs.Lines.{Content, number, table, token, guid, octets, name, absent, content_text}
 use Rattle.ppdb_show_lines.specs.Views.{IsText}
 
 all_small : (xs : List ℕ) → list_all (λ c. nat_lt c 128) xs ≡ true → IsAscii xs
@@ -79,6 +79,7 @@ content_ascii (token t) h = token_ascii t
 content_ascii (guid g) h = guided_ascii g
 content_ascii (octets bytes) h = hexed_ascii bytes
 content_ascii (name bytes) h = escaped_ascii bytes
+content_ascii (absent words) h = absurd h
 
 -- what a sink that began empty was given
 pub given : {T E : Type 0} (r : Result T E) (old new text : List ℕ) → is_err r ≡ false → old ≡ [] → OnOk r (Some new ≡ appended (Some old) text) → new ≡ text

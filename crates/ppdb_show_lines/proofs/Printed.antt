@@ -7,7 +7,7 @@ use Rattle.json.specs.Token as tokens
 use Rattle.json.specs.Print.{print, print_from, quoted, token_text, ends}
 use Rattle.serde_json.specs.Data.{Members, object}
 use Rattle.serde_json.specs.Written.{compact_text, members_text, comma_if}
-use Rattle.ppdb_show_lines.specs.Lines.{Content, number, table, token, guid, octets, name, content_data, Field, field, mark, Line, object_of}
+use Rattle.ppdb_show_lines.specs.Lines.{Content, number, table, token, guid, octets, name, absent, content_data, Field, field, mark, Line, object_of}
 use Rattle.ppdb_show_lines.specs.Tokens.{content_token, field_tokens, member_tokens, object_tokens, with_member, listed, IsKeyOrder}
 
 content_text_is : (c : Content) → token_text (content_token c) ≡ compact_text (content_data c)
@@ -19,6 +19,7 @@ content_text_is (guid (Some g)) = refl
 content_text_is (octets []) = refl
 content_text_is (octets (b ∷ bs)) = refl
 content_text_is (name bytes) = refl
+content_text_is (absent words) = refl
 
 content_ends : (c : Content) → ends (content_token c) ≡ true
 content_ends (number n) = refl
@@ -29,6 +30,7 @@ content_ends (guid (Some g)) = refl
 content_ends (octets []) = refl
 content_ends (octets (b ∷ bs)) = refl
 content_ends (name bytes) = refl
+content_ends (absent words) = refl
 
 -- a member and what comes after it
 member_printed : (later : Bool) (k : List ℕ) (t : Token) (rest : List Token) → ends t ≡ true

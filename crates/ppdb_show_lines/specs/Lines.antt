@@ -22,6 +22,8 @@ pub data Content : Type 0 where
   octets : List ℕ → Content
   -- the bytes of a name, escaped
   name : List ℕ → Content
+  -- nothing, and the words that say so in the text
+  absent : List ℕ → Content
 
 -- A field: the words before it in the text, its key in JSON, and what it holds; or words that stand in the text alone.
 pub data Field : Type 0 where
@@ -42,6 +44,7 @@ content_text (token t) = token_text t
 content_text (guid g) = guid_text g
 content_text (octets bytes) = hex_text bytes
 content_text (name bytes) = escaped bytes
+content_text (absent words) = words
 
 abbrev pub field_text : Field → List ℕ
 field_text (field words key content) = words ++ content_text content
@@ -57,6 +60,7 @@ abbrev pub content_data : Content → Data
 content_data (number n) = json_number (unsigned n)
 content_data (guid None) = null
 content_data (octets []) = null
+content_data (absent words) = null
 content_data content = string (content_text content)
 
 abbrev pub with_field : Members → Field → Members

@@ -4,13 +4,14 @@ use Rattle.std.specs.List.{flat_map}
 use Rattle.json.specs.Token.{Token}
 use Rattle.json.specs.Token as tokens
 use Rattle.serde_json.specs.Data.{Members, no_members, member, string}
-use Rattle.ppdb_show_lines.specs.Lines.{Content, number, guid, octets, content_text, content_data, Field, field, mark, Line, members_of}
+use Rattle.ppdb_show_lines.specs.Lines.{Content, number, guid, octets, absent, content_text, content_data, Field, field, mark, Line, members_of}
 
 -- what a field holds
 abbrev pub content_token : Content → Token
 content_token (number n) = tokens.number (decimal n)
 content_token (guid None) = tokens.null
 content_token (octets []) = tokens.null
+content_token (absent words) = tokens.null
 content_token content = tokens.string (content_text content)
 
 abbrev pub field_tokens : Option Field → List Token

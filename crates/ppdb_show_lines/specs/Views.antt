@@ -2,11 +2,11 @@
 use Rattle.std.specs.Prelude.{map, ℕ, List}
 use Rattle.std.specs.List.{flat_map}
 use Rattle.ppdb_show_lines.specs.declared.line.Item.{Item}
-use Rattle.ppdb_show_lines.specs.declared.line.Item.TheVariants.{Number, Table, Token, Guid, Octets, Name}
+use Rattle.ppdb_show_lines.specs.declared.line.Item.TheVariants.{Number, Table, Token, Guid, Octets, Name, Absent}
 use Rattle.ppdb_show_lines.specs.declared.line.Part.{Part}
 use Rattle.ppdb_show_lines.specs.declared.line.Part.TheVariants.{Field as FieldPart, Mark}
 use Rattle.ppdb_show_lines.specs.Keys.{key_text}
-use Rattle.ppdb_show_lines.specs.Lines.{Content, number, table, token, guid, octets, name, Field, field, mark, Line, field_text}
+use Rattle.ppdb_show_lines.specs.Lines.{Content, number, table, token, guid, octets, name, absent, Field, field, mark, Line, field_text}
 
 abbrev pub content_of : Item → Content
 content_of (Number n) = number n
@@ -15,10 +15,12 @@ content_of (Token t) = token t
 content_of (Guid g) = guid g
 content_of (Octets bytes) = octets bytes.now
 content_of (Name bytes) = name bytes.now
+content_of (Absent words) = absent words.now
 
--- It is no number.
+-- It is neither a number nor absent.
 abbrev pub IsText : Content → Type 0
 IsText (number n) = ⊥
+IsText (absent words) = ⊥
 IsText content = Unit {0}
 
 abbrev pub field_of : Part → Field

@@ -19,5 +19,6 @@ pub fn put_item<O: Sink>(out: &mut O, item: &Item<'_>) -> Result<(), WriteError>
         Item::Guid(guid) => put_guid(out, guid),
         Item::Octets(bytes) => put_hex(out, bytes),
         Item::Name(name) => put_escaped(out, name),
+        Item::Absent(words) => out.put(words.as_bytes()),
     }
 }

@@ -16,6 +16,8 @@ pub enum Item<'a> {
     Octets(&'a [u8]),
     /// A name, escaped.
     Name(&'a [u8]),
+    /// Nothing: these words in the text, and null in JSON.
+    Absent(&'static str),
 }
 
 /// A part of a line after its first word.

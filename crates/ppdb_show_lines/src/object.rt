@@ -94,7 +94,7 @@ fn put_value(alloc: Global, writer: &mut Writer, item: &Item<'_>) -> Result<(), 
 {
     match item {
         Item::Number(number) => put_number(writer, *number),
-        Item::Guid(None) | Item::Octets([]) => Ok(writer.null()?),
+        Item::Guid(None) | Item::Octets([]) | Item::Absent(_) => Ok(writer.null()?),
         Item::Table(_) | Item::Token(_) | Item::Guid(_) | Item::Octets(_) | Item::Name(_) => {
             put_string(alloc, writer, item)
         }
@@ -126,7 +126,7 @@ fn put_digits(writer: &mut Writer, number: u32) -> Result<(), Memory>
     Ok(writer.number(buffer.format(number))?)
 }
 
-/// Puts the text of what a field holds that is no number.
+/// Puts the text of what a field holds that is neither a number nor absent.
 #[inline(never)]
 fn put_string(alloc: Global, writer: &mut Writer, item: &Item<'_>) -> Result<(), Memory>
     requires { IsText (content_of item.now) }

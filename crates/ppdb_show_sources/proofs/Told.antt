@@ -1,5 +1,5 @@
 -- What was put and what is still to come, under other names; the next break; the address of a document as it was reported.
-use Rattle.std.proofs.Common.{◌≡◌, ℕ, ◌∙◌, Bool, true, false, List, [], ◌∷◌, ◌++◌, refl, sym, ap, subst, Option, Some, None, Result, Ok, Err}
+use Rattle.std.proofs.Common.{◌≡◌, ℕ, ◌∙◌, Bool, true, false, List, [], ◌∷◌, ◌++◌, map, refl, sym, ap, subst, Option, Some, None, Result, Ok, Err}
 use Rattle.std.specs.Prelude.{IfOk, OnOk}
 use Rattle.blob_grammar.specs.Reader.{tail}
 use Rattle.ppdb_base.specs.Written.{Puts}
@@ -7,7 +7,9 @@ use Rattle.ppdb_base.specs.declared.link_error.LinkError.{LinkError}
 use Rattle.ppdb_base.specs.declared.list.Memory.{Memory}
 use Rattle.ppdb_base.specs.declared.sink.WriteError.{WriteError}
 use Rattle.ppdb_show_lines.proofs.Putting.{Putting}
-use Rattle.ppdb_show_lines.specs.Lines.{text_of}
+use Rattle.ppdb_show_lines.specs.declared.form.Form.{Form}
+use Rattle.ppdb_show_lines.specs.Forms.{lines_as}
+use Rattle.ppdb_show_lines.proofs.Texts.{more_lines, no_lines}
 use Rattle.ppdb_queries.specs.Cursors.{next_of}
 use Rattle.ppdb_values.specs.declared.file.FileValue.{FileValue}
 use Rattle.break_lines.specs.declared.item.Break.{Break}
@@ -17,7 +19,7 @@ use Rattle.source_link.specs.Laws.{AreLinks, OrderIsFree}
 use Rattle.ppdb_show_sources.specs.Breaks.{break_line, text_of_breaks}
 use Rattle.ppdb_show_sources.specs.Found.{AreFileLinks}
 use Rattle.ppdb_show_sources.specs.Links.{links_in}
-use Rattle.ppdb_show_sources.proofs.Documents.{same_text}
+use Rattle.ppdb_show_sources.proofs.Documents.{same_lines_of}
 
 pub rest_is : (old new : Option (List ℕ)) (before after : ℕ) (rest other whole : List ℕ) → rest ≡ other
     → Putting old new before after rest whole → Putting old new before after other whole
@@ -27,19 +29,27 @@ pub puts_as : (r : Result (Unit {0}) WriteError) (old new : Option (List ℕ)) (
     → Puts r old new before after text → Puts r old new before after other
 puts_as r old new before after text other e h = subst (λ (l : List ℕ). Puts r old new before after l) e h
 
-pub next_text : (items next : List Break) (found : Break) → Some found ≡ next_of items → next ≡ tail items
-    → text_of_breaks items ≡ text_of (break_line found) ++ text_of_breaks next
-next_text [] next found e is = absurd (cc)
-next_text (x ∷ xs) next found e is =
+pub next_text : (form : Form) (items next : List Break) (found : Break) → Some found ≡ next_of items → next ≡ tail items
+    → text_of_breaks form items ≡ lines_as form (break_line found ∷ []) ++ text_of_breaks form next
+next_text form [] next found e is = absurd (cc)
+next_text form (x ∷ xs) next found e is =
     let same : x ≡ found = cc in
-    ap (λ (b : Break). text_of (break_line b) ++ text_of_breaks xs) same ∙ ap (λ (l : List Break). text_of (break_line found) ++ text_of_breaks l) (sym is)
+    ap (λ (b : Break). lines_as form (break_line b ∷ map break_line xs)) same
+    ∙ more_lines form (break_line found ∷ []) (map break_line xs)
+    ∙ ap (λ (l : List Break). lines_as form (break_line found ∷ []) ++ text_of_breaks form l) (sym is)
+
+-- no break is left
+pub no_text : (form : Form) (items : List Break) (next : Option Break) → next ≡ next_of items → ((x : Break) → next ≡ Some x → ⊥)
+    → text_of_breaks form items ≡ []
+no_text form [] next e never = no_lines form
+no_text form (x ∷ xs) next e never = absurd (never x e)
 
 pub links_ok : (value : FileValue) (bytes : List ℕ) (r : Result (List Pair) LinkError) → OrderIsFree → Some bytes ≡ link_record value
     → IfOk r (AreLinks bytes) → IfOk r (AreFileLinks value)
 links_ok value bytes (Ok links) free e are = record {
   pairs = are.pairs;
   said = ap links_in (sym e) ∙ are.said;
-  text = same_text value links are.pairs (free.same bytes are.pairs links are.said are);
+  lines = same_lines_of value links are.pairs (free.same bytes are.pairs links are.said are);
 }
 links_ok value bytes (Err error) free e are = tt
 

@@ -1,7 +1,8 @@
 -- Where a debugger may stop, line by line (this project's format; Portable PDB v1.0, "Sequence Points Blob").
-use Rattle.std.specs.Prelude.{ℕ, List, [], ◌∷◌, codes}
-use Rattle.std.specs.List.{flat_map}
-use Rattle.ppdb_show_lines.specs.Lines.{Line, field, number, text_of}
+use Rattle.std.specs.Prelude.{ℕ, List, [], ◌∷◌, codes, map}
+use Rattle.ppdb_show_lines.specs.declared.form.Form.{Form}
+use Rattle.ppdb_show_lines.specs.Forms.{lines_as}
+use Rattle.ppdb_show_lines.specs.Lines.{Line, field, number}
 use Rattle.ppdb_values.specs.declared.file.FileValue.{FileValue}
 use Rattle.break_lines.specs.declared.item.Break.{Break}
 use Rattle.break_lines.specs.Breaks.{breaks_in}
@@ -14,9 +15,9 @@ break_line found = record {
       ∷ field (codes " ") (codes "end_line") (number found.end_line) ∷ field (codes ":") (codes "end_column") (number found.end_column) ∷ [];
 }
 
-abbrev pub text_of_breaks : List Break → List ℕ
-text_of_breaks breaks = flat_map (λ found. text_of (break_line found)) breaks
+abbrev pub text_of_breaks : Form → List Break → List ℕ
+text_of_breaks form breaks = lines_as form (map break_line breaks)
 
 -- the breaks of a line of a document, by method and IL offset
-abbrev pub break_text : FileValue → ℕ → ℕ → List ℕ
-break_text value document line = text_of_breaks (breaks_in value document line)
+abbrev pub break_text : Form → FileValue → ℕ → ℕ → List ℕ
+break_text form value document line = text_of_breaks form (breaks_in value document line)

@@ -2,10 +2,10 @@
 use Rattle.std.specs.Prelude.{◌≡◌, List, Ok}
 use Rattle.ppdb_values.specs.declared.file.FileValue.{FileValue}
 use Rattle.source_link.specs.declared.pair.Pair.{Pair}
-use Rattle.ppdb_show_sources.specs.Links.{file_links, link_text}
+use Rattle.ppdb_show_sources.specs.Links.{file_links, link_lines}
 
 -- links that give each name the address that the pairs of a file give it
 pub record AreFileLinks (value : FileValue) (links : List Pair) : Type 0 where
   pub pairs : List Pair
   pub said : file_links value ≡ Ok pairs
-  pub text : link_text value links ≡ link_text value pairs
+  pub lines : link_lines value links ≡ link_lines value pairs

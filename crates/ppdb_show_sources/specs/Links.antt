@@ -1,8 +1,9 @@
 -- What is reported of the sources of a file, line by line (this project's format).
-use Rattle.std.specs.Prelude.{ℕ, List, [], ◌∷◌, Option, Some, None, Result, Ok, codes}
-use Rattle.std.specs.List.{flat_map}
+use Rattle.std.specs.Prelude.{ℕ, List, [], ◌∷◌, Option, Some, None, Result, Ok, codes, map}
 use Rattle.ppdb_base.specs.declared.link_error.LinkError.{LinkError}
-use Rattle.ppdb_show_lines.specs.Lines.{Line, Field, field, mark, number, name, text_of}
+use Rattle.ppdb_show_lines.specs.declared.form.Form.{Form}
+use Rattle.ppdb_show_lines.specs.Forms.{lines_as}
+use Rattle.ppdb_show_lines.specs.Lines.{Line, Content, field, number, name, absent}
 use Rattle.ppdb_tables.specs.RawTables.{numbered}
 use Rattle.ppdb_values.specs.declared.file.DocumentValue.{DocumentValue}
 use Rattle.ppdb_values.specs.declared.file.FileValue.{FileValue}
@@ -20,16 +21,22 @@ links_in (Some bytes) = links_of bytes
 abbrev pub file_links : FileValue → Result (List Pair) LinkError
 file_links value = links_in (link_record value)
 
-abbrev pub address_field : Option (List ℕ) → Field
-address_field None = mark (codes " none")
-address_field (Some address) = field (codes " ") (codes "address") (name address)
+abbrev pub address_or_none : Option (List ℕ) → Content
+address_or_none None = absent (codes "none")
+address_or_none (Some address) = name address
 
 abbrev pub link_line : ℕ → Option (List ℕ) → Line
-link_line row address = record { word = codes "link"; fields = field (codes " ") (codes "row") (number row) ∷ address_field address ∷ [] }
+link_line row address = record {
+  word = codes "link";
+  fields = field (codes " ") (codes "row") (number row) ∷ field (codes " ") (codes "address") (address_or_none address) ∷ [];
+}
 
-abbrev pub link_of : List Pair → ℕ × DocumentValue → List ℕ
-link_of pairs document = text_of (link_line document.0 (address_of document.1.name pairs))
+abbrev pub link_of : List Pair → ℕ × DocumentValue → Line
+link_of pairs document = link_line document.0 (address_of document.1.name pairs)
 
 -- a line for each document, by row
-abbrev pub link_text : FileValue → List Pair → List ℕ
-link_text value pairs = flat_map (link_of pairs) (numbered value.documents)
+abbrev pub link_lines : FileValue → List Pair → List Line
+link_lines value pairs = map (link_of pairs) (numbered value.documents)
+
+abbrev pub link_text : Form → FileValue → List Pair → List ℕ
+link_text form value pairs = lines_as form (link_lines value pairs)

@@ -1,5 +1,5 @@
 // The lines of the documents, with the addresses of their sources.
-ghost use Rattle.std.specs.Prelude.{◌≡◌, ◌+◌, ◌*◌, ◌≤◌, length, Some, IfOk};
+ghost use Rattle.std.specs.Prelude.{◌≡◌, ◌+◌, ◌*◌, ◌≤◌, [], ◌∷◌, length, Some, option_copied, IfOk};
 ghost use Rattle.ppdb_base.specs.Written.{Puts};
 ghost use Rattle.ppdb_tables.specs.RawTables.{count as count_of};
 ghost use Rattle.ppdb_tables.specs.declared.rows.DocumentRow.{DocumentRow};
@@ -12,13 +12,15 @@ ghost use Rattle.ppdb_queries.specs.Digits.{digits};
 ghost use Rattle.ppdb_queries.specs.Runs.{customs_at};
 ghost use Rattle.source_link.specs.FileLinks.{module_row};
 ghost use Rattle.source_link.specs.Record.{IsRefusedBy};
+ghost use Rattle.ppdb_show_lines.specs.Forms.{lines_as};
+ghost use Rattle.ppdb_show_lines.specs.Views.{content_of};
 ghost use Rattle.ppdb_show_sources.specs.Found.{AreFileLinks};
-ghost use Rattle.ppdb_show_sources.specs.Links.{file_links as links_said, link_of, link_text};
+ghost use Rattle.ppdb_show_sources.specs.Links.{address_or_none, file_links as links_said, link_line, link_of, link_text};
 
 use ppdb_base::{Bytes, LinkError, List, Sink, Steps, WriteError};
-use ppdb_show_lines::Item::{Name, Number};
-use ppdb_show_lines::Part::{Field, Mark};
-use ppdb_show_lines::{Key, put_text_line};
+use ppdb_show_lines::Item::{Absent, Name, Number};
+use ppdb_show_lines::Part::Field;
+use ppdb_show_lines::{Item, Key, Printer};
 use ppdb_verify::Verified;
 use ppdb_verify_rows::{count, document, joined_name};
 use source_link::{Links, find_link, read_links};
@@ -48,9 +50,36 @@ pub fn file_links<L: Ledger>(
     }
 }
 
-/// Puts the line of a document: its row and its address, or that it has none.
+/// An address, or that there is none.
+fn address_item<'a>(address: Option<&'a [u8]>) -> Item<'a>
+    ensures { content_of result ≡ address_or_none (option_copied address.entry) }
+{
+    match address {
+        Some(address) => Name(address),
+        None => Absent("none"),
+    }
+}
+
+/// Puts the line of a document: its row, and its address or that it has none.
+fn put_address<O: Sink>(
+    printer: Printer<'_>,
+    row: u32,
+    address: Option<&[u8]>,
+    out: &mut O,
+) -> Result<(), WriteError>
+    ensures { Puts result (O.written out.old) (O.written out.new) (O.faults out.old) (O.faults out.new)
+        (lines_as printer.entry.form (link_line row (option_copied address.entry) ∷ [])) }
+{
+    let parts = [
+        Field(" ", Key::Row, Number(row)),
+        Field(" ", Key::Other("address"), address_item(address)),
+    ];
+    printer.put_line(out, "link", &[2, 0, 1], &parts)
+}
+
+/// Puts the line of a document, whose address is found while its name is read.
 fn put_link<O: Sink, L: Ledger>(
-    alloc: Global,
+    printer: Printer<'_>,
     file: &Verified<'_>,
     links: &Links,
     row: u32,
@@ -61,44 +90,36 @@ fn put_link<O: Sink, L: Ledger>(
     requires { HasRow (raw_file file.now).tables 0x30 row }
     ensures puts { (cells : DocumentRow) → row_at (raw_file file.now).tables.documents row ≡ Some cells
         → Puts result (O.written out.old) (O.written out.new) (O.faults out.old) (O.faults out.new)
-        (link_of links.now (row, document_of (raw_file file.now).tables cells)) }
+        (lines_as printer.entry.form (link_of links.now (row, document_of (raw_file file.now).tables cells) ∷ [])) }
     ensures step { steps.new ≡ steps.old + 1 }
 {
     let cells = document(file, row, steps);
-    let name = joined_name(alloc, file, row, &cells)?;
+    let name = joined_name(printer.alloc, file, row, &cells)?;
     address.clear();
-    let number = Field(" ", Key::Row, Number(row));
     if links.address(name.as_slice(), address)? {
-        put_text_line(
-            out,
-            "link",
-            &[
-                number,
-                Field(" ", Key::Other("address"), Name(address.as_slice())),
-            ],
-        )
+        put_address(printer, row, Some(address.as_slice()), out)
     } else {
-        put_text_line(out, "link", &[number, Mark(" none")])
+        put_address(printer, row, None, out)
     }
 }
 
 /// Puts the lines of the documents, a line each. Each row of Document is read once.
 pub fn put_links<O: Sink, L: Ledger>(
-    alloc: Global,
+    printer: Printer<'_>,
     file: &Verified<'_>,
     links: &Links,
     out: &mut O,
     steps: &mut Steps<L>,
 ) -> Result<(), WriteError>
     ensures puts { Puts result (O.written out.old) (O.written out.new) (O.faults out.old) (O.faults out.new)
-        (link_text (value_of (raw_file file.now)) links.now) }
+        (link_text printer.entry.form (value_of (raw_file file.now)) links.now) }
     ensures later { steps.old ≤ steps.new }
     ensures cost { steps.new ≤ steps.old + count_of (raw_file file.now).tables 0x30 }
 {
     file.keeps();
-    let mut address: Bytes = List::new(alloc);
+    let mut address: Bytes = List::new(printer.alloc);
     'rows: for row in 1..count(file, 0x30) + 1 {
-        put_link(alloc, file, links, row, &mut address, out, steps)?;
+        put_link(printer, file, links, row, &mut address, out, steps)?;
     }
     Ok(())
 }

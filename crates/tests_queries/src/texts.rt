@@ -3,7 +3,9 @@ ghost use Rattle.std.specs.Prelude.{◌≡◌, ◌<◌};
 
 use crate::opening::open;
 use ppdb_base::{CounterPermit, SteadySink, Steps};
-use ppdb_show::{QueryError, query_text};
+use ppdb_show::{QueryError, put_query};
+use ppdb_show_lines::{Form, Printer};
+use std::cell::Cell;
 use std::marker::Brand;
 use std::sync::ledger::{Blank, Ledger};
 use std::test::Fail;
@@ -38,7 +40,13 @@ fn compared_in<L: Ledger>(
         return Err(Fail::from("not valid"));
     };
     let mut out = SteadySink::new(rt.alloc());
-    let answer = match query_text(rt.alloc(), &file, method, offset, &mut out, &mut steps) {
+    let room = Cell::new(Vec::new(rt.alloc()));
+    let printer = Printer {
+        alloc: rt.alloc(),
+        form: Form::Text,
+        room: &room,
+    };
+    let answer = match put_query(printer, &file, method, offset, &mut out, &mut steps) {
         Ok(()) if out.as_slice() == text => Answer::Put,
         Ok(()) => Answer::Other,
         Err(QueryError::NoMethod) if out.as_slice().is_empty() => Answer::NoMethod,

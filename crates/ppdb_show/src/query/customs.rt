@@ -11,8 +11,8 @@ use crate::query::text::put_line;
 use ppdb_base::{Memory, SteadySink, Steps};
 use ppdb_queries::customs_of;
 use ppdb_show_lines::Item::{Guid, Octets};
-use ppdb_show_lines::Key;
 use ppdb_show_lines::Part::Field;
+use ppdb_show_lines::{Key, Printer};
 use ppdb_tables::{CustomRow, Parent};
 use ppdb_verify::Verified;
 use ppdb_verify_rows::{blob, custom, guid};
@@ -20,21 +20,23 @@ use std::sync::ledger::Ledger;
 
 /// Puts the line of a custom record.
 pub(crate) fn put_custom(
+    printer: Printer<'_>,
     text: &mut SteadySink,
     file: &Verified<'_>,
     custom: &CustomRow,
 ) -> Result<(), Memory>
-    ensures { OnOk result (Adds text.old text.new (custom_found (raw_of (tables_of file.now)) custom.now ∷ [])) }
+    ensures { OnOk result (Adds printer.entry.form text.old text.new (custom_found (raw_of (tables_of file.now)) custom.now ∷ [])) }
 {
     let parts = [
         Field(" ", Key::Kind, Guid(guid(file, custom.kind))),
         Field(" ", Key::Value, Octets(blob(file, custom.value))),
     ];
-    put_line(text, "custom", &parts)
+    put_line(printer, text, "custom", &[1, 0, 2], &parts)
 }
 
 /// Puts the lines of the custom records on a row.
 pub(crate) fn put_customs<L: Ledger>(
+    printer: Printer<'_>,
     text: &mut SteadySink,
     file: &Verified<'_>,
     parent: Parent,
@@ -42,7 +44,7 @@ pub(crate) fn put_customs<L: Ledger>(
 ) -> Result<(), Memory>
     requires tag { IsSome (coded_in parent) }
     requires there { HasRow (raw_of (tables_of file.now)) parent.table parent.row }
-    ensures ok { OnOk result (Adds text.old text.new (customs_found (raw_of (tables_of file.now)) parent.table parent.row)) }
+    ensures ok { OnOk result (Adds printer.entry.form text.old text.new (customs_found (raw_of (tables_of file.now)) parent.table parent.row)) }
     ensures later { steps.old ≤ steps.new }
     ensures cost { steps.new ≤ steps.old + customs_reads (raw_of (tables_of file.now)) parent.table parent.row }
 {
@@ -51,7 +53,7 @@ pub(crate) fn put_customs<L: Ledger>(
     let mut row = run.first;
     'customs: while row < run.end {
         let custom = custom(file, row, steps);
-        put_custom(text, file, &custom)?;
+        put_custom(printer, text, file, &custom)?;
         row += 1;
     }
     Ok(())

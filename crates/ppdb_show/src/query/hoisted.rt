@@ -10,13 +10,14 @@ use crate::query::text::put_line;
 use ppdb_base::{Memory, SteadySink, Steps};
 use ppdb_queries::hoisted_at;
 use ppdb_show_lines::Item::Number;
-use ppdb_show_lines::Key;
 use ppdb_show_lines::Part::Field;
+use ppdb_show_lines::{Key, Printer};
 use ppdb_verify::Verified;
 use std::sync::ledger::Ledger;
 
 /// Puts the lines of the hoisted locals of a method that hold an offset.
 pub(crate) fn put_hoisted<L: Ledger>(
+    printer: Printer<'_>,
     text: &mut SteadySink,
     file: &Verified<'_>,
     method: u32,
@@ -24,7 +25,7 @@ pub(crate) fn put_hoisted<L: Ledger>(
     steps: &mut Steps<L>,
 ) -> Result<(), Memory>
     requires { HasRow (raw_of (tables_of file.now)) 0x06 method }
-    ensures ok { OnOk result (Adds text.old text.new (hoisted_lines (raw_of (tables_of file.now)) method offset)) }
+    ensures ok { OnOk result (Adds printer.entry.form text.old text.new (hoisted_lines (raw_of (tables_of file.now)) method offset)) }
     ensures cost { steps.new ≤ steps.old + customs_reads (raw_of (tables_of file.now)) 0x06 method }
 {
     let Ok(mut locals) = hoisted_at(file, method, offset, steps) else {
@@ -36,7 +37,7 @@ pub(crate) fn put_hoisted<L: Ledger>(
             Field(" ", Key::Start, Number(local.range.start)),
             Field(" ", Key::End, Number(local.range.end)),
         ];
-        put_line(text, "hoisted", &parts)?;
+        put_line(printer, text, "hoisted", &[3, 0, 1, 2], &parts)?;
     }
     Ok(())
 }

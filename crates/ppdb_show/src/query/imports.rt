@@ -15,26 +15,25 @@ use crate::query::text::{put_import_line, put_line};
 use ppdb_base::{Memory, SteadySink, Steps};
 use ppdb_queries::{ImportLink, imports_of};
 use ppdb_show_lines::Item::Number;
-use ppdb_show_lines::Key;
 use ppdb_show_lines::Part::Field;
+use ppdb_show_lines::{Key, Printer};
 use ppdb_tables::Parent;
 use ppdb_verify::Verified;
-use std::alloc::Global;
 use std::sync::ledger::Ledger;
 use type_blobs::ImportCursor;
 
 /// Puts the lines of the imports that are left.
 fn put_uses(
-    alloc: Global,
+    printer: Printer<'_>,
     text: &mut SteadySink,
     imports: &mut ImportCursor<'_>,
 ) -> Result<(), Memory>
     requires { imports.old.fault ≡ None }
-    ensures { OnOk result (Adds text.old text.new (map use_line (map import_value imports.old.items))) }
+    ensures { OnOk result (Adds printer.entry.form text.old text.new (map use_line (map import_value imports.old.items))) }
 {
     'imports: loop {
         match imports.next() {
-            Ok(Some(import)) => put_import_line(alloc, text, &import)?,
+            Ok(Some(import)) => put_import_line(printer, text, &import)?,
             Ok(None) => return Ok(()),
             Err(_) => unreachable!(),
         }
@@ -43,7 +42,7 @@ fn put_uses(
 
 /// Puts the line of an import scope, and those of its imports and of the custom records on it.
 fn put_import<L: Ledger>(
-    alloc: Global,
+    printer: Printer<'_>,
     text: &mut SteadySink,
     file: &Verified<'_>,
     mut link: ImportLink<'_>,
@@ -51,27 +50,33 @@ fn put_import<L: Ledger>(
 ) -> Result<(), Memory>
     requires there { HasRow (raw_of (tables_of file.now)) 0x35 link.row }
     requires whole { link.imports.fault ≡ None }
-    ensures ok { OnOk result (Adds text.old text.new (lines_of_link (raw_of (tables_of file.now)) link.entry)) }
+    ensures ok { OnOk result (Adds printer.entry.form text.old text.new (lines_of_link (raw_of (tables_of file.now)) link.entry)) }
     ensures later { steps.old ≤ steps.new }
     ensures cost { steps.new ≤ steps.old + customs_reads (raw_of (tables_of file.now)) 0x35 link.entry.row }
 {
     let row = link.row;
-    put_line(text, "import", &[Field(" ", Key::Row, Number(row))])?;
-    put_uses(alloc, text, &mut link.imports)?;
+    put_line(
+        printer,
+        text,
+        "import",
+        &[0, 1],
+        &[Field(" ", Key::Row, Number(row))],
+    )?;
+    put_uses(printer, text, &mut link.imports)?;
     let parent = Parent { table: 0x35, row };
-    put_customs(text, file, parent, steps)
+    put_customs(printer, text, file, parent, steps)
 }
 
 /// Puts the lines of an import scope, of its parent, and so on.
 pub(crate) fn put_imports<L: Ledger>(
-    alloc: Global,
+    printer: Printer<'_>,
     text: &mut SteadySink,
     file: &Verified<'_>,
     import: u32,
     steps: &mut Steps<L>,
 ) -> Result<(), Memory>
     requires { HasRowOrNone (raw_of (tables_of file.now)) 0x35 import }
-    ensures ok { OnOk result (Adds text.old text.new (flat_map (import_answer (raw_of (tables_of file.now)))
+    ensures ok { OnOk result (Adds printer.entry.form text.old text.new (flat_map (import_answer (raw_of (tables_of file.now)))
         (chain_of (λ scope. scope.parent) (raw_of (tables_of file.now)).imports import))) }
     ensures later { steps.old ≤ steps.new }
     ensures cost { steps.new ≤ steps.old + items_reads (raw_of (tables_of file.now)) 0x35 (chain_of (λ scope. scope.parent) (raw_of (tables_of file.now)).imports import) }
@@ -79,7 +84,7 @@ pub(crate) fn put_imports<L: Ledger>(
     file.keeps();
     let mut chain = imports_of(file, import);
     'chain: while let Some(link) = chain.next(steps) {
-        put_import(alloc, text, file, link, steps)?;
+        put_import(printer, text, file, link, steps)?;
     }
     Ok(())
 }

@@ -14,8 +14,8 @@ use crate::query::text::put_line;
 use ppdb_base::{Memory, SteadySink, Steps};
 use ppdb_queries::Run;
 use ppdb_show_lines::Item::{Name, Number, Octets};
-use ppdb_show_lines::Key;
 use ppdb_show_lines::Part::Field;
+use ppdb_show_lines::{Key, Printer};
 use ppdb_tables::{ConstantRow, Parent, VariableRow};
 use ppdb_verify::Verified;
 use ppdb_verify_rows::{blob, constant, text as text_of, variable};
@@ -23,22 +23,24 @@ use std::sync::ledger::Ledger;
 
 /// Puts the line of a variable.
 fn put_variable_line(
+    printer: Printer<'_>,
     text: &mut SteadySink,
     file: &Verified<'_>,
     variable: &VariableRow,
 ) -> Result<(), Memory>
-    ensures { OnOk result (Adds text.old text.new (variable_found (variable_of (raw_of (tables_of file.now)) variable.now) ∷ [])) }
+    ensures { OnOk result (Adds printer.entry.form text.old text.new (variable_found (variable_of (raw_of (tables_of file.now)) variable.now) ∷ [])) }
 {
     let parts = [
         Field(" ", Key::Slot, Number(variable.slot as u32)),
         Field(" ", Key::Attributes, Number(variable.attributes as u32)),
         Field(" ", Key::Name, Name(text_of(file, variable.name))),
     ];
-    put_line(text, "variable", &parts)
+    put_line(printer, text, "variable", &[2, 0, 3, 1], &parts)
 }
 
 /// Puts the line of a variable, and those of the custom records on it.
 fn put_variable<L: Ledger>(
+    printer: Printer<'_>,
     text: &mut SteadySink,
     file: &Verified<'_>,
     row: u32,
@@ -46,18 +48,19 @@ fn put_variable<L: Ledger>(
     steps: &mut Steps<L>,
 ) -> Result<(), Memory>
     requires { row_at (raw_of (tables_of file.now)).variables row ≡ Some variable.now }
-    ensures ok { OnOk result (Adds text.old text.new (variable_answer (raw_of (tables_of file.now)) (row, variable.now))) }
+    ensures ok { OnOk result (Adds printer.entry.form text.old text.new (variable_answer (raw_of (tables_of file.now)) (row, variable.now))) }
     ensures later { steps.old ≤ steps.new }
     ensures cost { steps.new ≤ steps.old + customs_reads (raw_of (tables_of file.now)) 0x33 row }
 {
-    put_variable_line(text, file, variable)?;
+    put_variable_line(printer, text, file, variable)?;
     file.keeps();
     let parent = Parent { table: 0x33, row };
-    put_customs(text, file, parent, steps)
+    put_customs(printer, text, file, parent, steps)
 }
 
 /// Puts the lines of the variables of a run, each with those of the custom records on it.
 pub(crate) fn put_variables<L: Ledger>(
+    printer: Printer<'_>,
     text: &mut SteadySink,
     file: &Verified<'_>,
     run: Run,
@@ -66,7 +69,8 @@ pub(crate) fn put_variables<L: Ledger>(
     requires first { 1 ≤ run.first }
     requires forward { run.first ≤ run.end }
     requires last { run.end ≤ length (raw_of (tables_of file.now)).variables + 1 }
-    ensures ok { OnOk result (Adds text.old text.new (flat_map (variable_answer (raw_of (tables_of file.now))) (rows_in run (raw_of (tables_of file.now)).variables))) }
+    ensures ok { OnOk result (Adds printer.entry.form text.old text.new (flat_map (variable_answer (raw_of (tables_of file.now)))
+        (rows_in run (raw_of (tables_of file.now)).variables))) }
     ensures later { steps.old ≤ steps.new }
     ensures cost { steps.new ≤ steps.old + items_reads (raw_of (tables_of file.now)) 0x33 (rows_in run (raw_of (tables_of file.now)).variables) }
 {
@@ -74,7 +78,7 @@ pub(crate) fn put_variables<L: Ledger>(
     let mut row = run.first;
     'variables: while row < run.end {
         let variable = variable(file, row, steps);
-        put_variable(text, file, row, &variable, steps)?;
+        put_variable(printer, text, file, row, &variable, steps)?;
         row += 1;
     }
     Ok(())
@@ -82,21 +86,23 @@ pub(crate) fn put_variables<L: Ledger>(
 
 /// Puts the line of a constant.
 fn put_constant_line(
+    printer: Printer<'_>,
     text: &mut SteadySink,
     file: &Verified<'_>,
     constant: &ConstantRow,
 ) -> Result<(), Memory>
-    ensures { OnOk result (Adds text.old text.new (constant_found (raw_of (tables_of file.now)) constant.now ∷ [])) }
+    ensures { OnOk result (Adds printer.entry.form text.old text.new (constant_found (raw_of (tables_of file.now)) constant.now ∷ [])) }
 {
     let parts = [
         Field(" ", Key::Signature, Octets(blob(file, constant.signature))),
         Field(" ", Key::Name, Name(text_of(file, constant.name))),
     ];
-    put_line(text, "constant", &parts)
+    put_line(printer, text, "constant", &[0, 2, 1], &parts)
 }
 
 /// Puts the line of a constant, and those of the custom records on it.
 fn put_constant<L: Ledger>(
+    printer: Printer<'_>,
     text: &mut SteadySink,
     file: &Verified<'_>,
     row: u32,
@@ -104,18 +110,19 @@ fn put_constant<L: Ledger>(
     steps: &mut Steps<L>,
 ) -> Result<(), Memory>
     requires { row_at (raw_of (tables_of file.now)).constants row ≡ Some constant.now }
-    ensures ok { OnOk result (Adds text.old text.new (constant_answer (raw_of (tables_of file.now)) (row, constant.now))) }
+    ensures ok { OnOk result (Adds printer.entry.form text.old text.new (constant_answer (raw_of (tables_of file.now)) (row, constant.now))) }
     ensures later { steps.old ≤ steps.new }
     ensures cost { steps.new ≤ steps.old + customs_reads (raw_of (tables_of file.now)) 0x34 row }
 {
-    put_constant_line(text, file, constant)?;
+    put_constant_line(printer, text, file, constant)?;
     file.keeps();
     let parent = Parent { table: 0x34, row };
-    put_customs(text, file, parent, steps)
+    put_customs(printer, text, file, parent, steps)
 }
 
 /// Puts the lines of the constants of a run, each with those of the custom records on it.
 pub(crate) fn put_constants<L: Ledger>(
+    printer: Printer<'_>,
     text: &mut SteadySink,
     file: &Verified<'_>,
     run: Run,
@@ -124,7 +131,8 @@ pub(crate) fn put_constants<L: Ledger>(
     requires first { 1 ≤ run.first }
     requires forward { run.first ≤ run.end }
     requires last { run.end ≤ length (raw_of (tables_of file.now)).constants + 1 }
-    ensures ok { OnOk result (Adds text.old text.new (flat_map (constant_answer (raw_of (tables_of file.now))) (rows_in run (raw_of (tables_of file.now)).constants))) }
+    ensures ok { OnOk result (Adds printer.entry.form text.old text.new (flat_map (constant_answer (raw_of (tables_of file.now)))
+        (rows_in run (raw_of (tables_of file.now)).constants))) }
     ensures later { steps.old ≤ steps.new }
     ensures cost { steps.new ≤ steps.old + items_reads (raw_of (tables_of file.now)) 0x34 (rows_in run (raw_of (tables_of file.now)).constants) }
 {
@@ -132,7 +140,7 @@ pub(crate) fn put_constants<L: Ledger>(
     let mut row = run.first;
     'constants: while row < run.end {
         let constant = constant(file, row, steps);
-        put_constant(text, file, row, &constant, steps)?;
+        put_constant(printer, text, file, row, &constant, steps)?;
         row += 1;
     }
     Ok(())

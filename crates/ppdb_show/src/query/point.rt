@@ -9,9 +9,9 @@ ghost use Rattle.ppdb_show.specs.QueryWalk.{Adds, HasDocument, found_line};
 use crate::query::text::put_line;
 use ppdb_base::{Bytes, Memory, SteadySink, Steps};
 use ppdb_queries::PointAt;
-use ppdb_show_lines::Item::{Name, Number};
-use ppdb_show_lines::Key;
+use ppdb_show_lines::Item::{Absent, Name, Number};
 use ppdb_show_lines::Part::{Field, Mark};
+use ppdb_show_lines::{Key, Printer};
 use ppdb_verify::Verified;
 use ppdb_verify_rows::{document, joined_name};
 use sequence_points::{Point, Span};
@@ -35,12 +35,13 @@ fn document_name_of<L: Ledger>(
 
 /// Puts the line of a point.
 fn put_point_line(
+    printer: Printer<'_>,
     text: &mut SteadySink,
     point: Point,
     signature: u32,
     document: &[u8],
 ) -> Result<(), Memory>
-    ensures { OnOk result (Adds text.old text.new (point_found point signature document.now ∷ [])) }
+    ensures { OnOk result (Adds printer.entry.form text.old text.new (point_found point signature document.now ∷ [])) }
 {
     let offset = Field(" ", Key::Offset, Number(point.offset));
     let row = Field(" ", Key::Document, Number(point.document));
@@ -48,8 +49,10 @@ fn put_point_line(
     let name = Field(" name ", Key::Name, Name(document));
     match point.span {
         Span::Hidden => put_line(
+            printer,
             text,
             "point",
+            &[2, 0, 5, 1, 4],
             &[offset, row, Mark(" hidden"), signature, name],
         ),
         Span::Lines {
@@ -58,8 +61,10 @@ fn put_point_line(
             end_line,
             end_column,
         } => put_line(
+            printer,
             text,
             "point",
+            &[2, 6, 5, 0, 8, 1, 7, 4, 3],
             &[
                 offset,
                 row,
@@ -76,20 +81,21 @@ fn put_point_line(
 
 /// Puts the line of the point that was found, or that there is none.
 pub(crate) fn put_point<L: Ledger>(
-    alloc: Global,
+    printer: Printer<'_>,
     text: &mut SteadySink,
     file: &Verified<'_>,
     found: &Option<PointAt<'_>>,
     steps: &mut Steps<L>,
 ) -> Result<(), Memory>
     requires { HasDocument (raw_of (tables_of file.now)) found.now }
-    ensures ok { OnOk result (Adds text.old text.new (found_line (raw_of (tables_of file.now)) found.now ∷ [])) }
+    ensures ok { OnOk result (Adds printer.entry.form text.old text.new (found_line (raw_of (tables_of file.now)) found.now ∷ [])) }
     ensures later { steps.old ≤ steps.new }
     ensures cost { steps.new ≤ steps.old + 1 }
 {
     let Some(at) = found else {
-        return put_line(text, "point", &[Mark(" none")]);
+        let none = Field(" ", Key::Offset, Absent("none"));
+        return put_line(printer, text, "point", &[0, 1], &[none]);
     };
-    let name = document_name_of(alloc, file, at.point.document, steps)?;
-    put_point_line(text, at.point, at.signature, name.as_slice())
+    let name = document_name_of(printer.alloc, file, at.point.document, steps)?;
+    put_point_line(printer, text, at.point, at.signature, name.as_slice())
 }

@@ -5,7 +5,8 @@ ghost use Rattle.ppdb_tables.specs.RawTables.{row_at};
 ghost use Rattle.ppdb_values.specs.Rules.{HasRow};
 ghost use Rattle.ppdb_verify.specs.Views.{tables_of};
 ghost use Rattle.ppdb_verify_rows.specs.Customs.{IsOfKind};
-ghost use Rattle.ppdb_show.specs.Query.{async_line, step_line, lines_of_record, record_lines};
+ghost use Rattle.ppdb_show_lines.specs.Views.{content_of};
+ghost use Rattle.ppdb_show.specs.Query.{async_line, handler_or_none, step_line, lines_of_record, record_lines};
 ghost use Rattle.ppdb_show.specs.QueryWalk.{Adds, customs_reads};
 
 use crate::query::customs::put_custom;
@@ -13,49 +14,65 @@ use crate::query::text::put_line;
 use custom_info::{AsyncCursor, AsyncStep, Kind};
 use ppdb_base::{Memory, SteadySink, Steps};
 use ppdb_queries::customs_of;
-use ppdb_show_lines::Item::Number;
-use ppdb_show_lines::Key;
-use ppdb_show_lines::Part::{Field, Mark};
+use ppdb_show_lines::Item::{Absent, Number};
+use ppdb_show_lines::Part::Field;
+use ppdb_show_lines::{Item, Key, Printer};
 use ppdb_tables::{CustomRow, Parent};
 use ppdb_verify::Verified;
 use ppdb_verify_rows::{custom, kind, stepping_of};
-use std::alloc::Global;
 use std::sync::ledger::Ledger;
 
-/// Puts the line of an async method's catch handler.
-fn put_handler(text: &mut SteadySink, handler: Option<u32>) -> Result<(), Memory>
-    ensures { OnOk result (Adds text.old text.new (async_line handler ∷ [])) }
+/// The offset of a catch handler, or that there is none.
+fn handler_item(handler: Option<u32>) -> Item<'static>
+    ensures { content_of result ≡ handler_or_none handler }
 {
     match handler {
-        Some(offset) => put_line(
-            text,
-            "async",
-            &[Field(" ", Key::Other("handler"), Number(offset))],
-        ),
-        None => put_line(text, "async", &[Mark(" -")]),
+        Some(offset) => Number(offset),
+        None => Absent("-"),
     }
 }
 
+/// Puts the line of an async method's catch handler.
+fn put_handler(
+    printer: Printer<'_>,
+    text: &mut SteadySink,
+    handler: Option<u32>,
+) -> Result<(), Memory>
+    ensures { OnOk result (Adds printer.entry.form text.old text.new (async_line handler ∷ [])) }
+{
+    put_line(
+        printer,
+        text,
+        "async",
+        &[1, 0],
+        &[Field(" ", Key::Other("handler"), handler_item(handler))],
+    )
+}
+
 /// Puts the line of a step.
-fn put_step(text: &mut SteadySink, step: AsyncStep) -> Result<(), Memory>
-    ensures { OnOk result (Adds text.old text.new (step_line step ∷ [])) }
+fn put_step(printer: Printer<'_>, text: &mut SteadySink, step: AsyncStep) -> Result<(), Memory>
+    ensures { OnOk result (Adds printer.entry.form text.old text.new (step_line step ∷ [])) }
 {
     let parts = [
         Field(" ", Key::Other("pause"), Number(step.pause)),
         Field(" ", Key::Other("resume"), Number(step.resume)),
         Field(" ", Key::Method, Number(step.method)),
     ];
-    put_line(text, "step", &parts)
+    put_line(printer, text, "step", &[0, 3, 1, 2], &parts)
 }
 
 /// Puts the lines of the steps that are left.
-fn put_steps(text: &mut SteadySink, cursor: &mut AsyncCursor<'_>) -> Result<(), Memory>
+fn put_steps(
+    printer: Printer<'_>,
+    text: &mut SteadySink,
+    cursor: &mut AsyncCursor<'_>,
+) -> Result<(), Memory>
     requires { cursor.old.left.fault ≡ None }
-    ensures { OnOk result (Adds text.old text.new (map step_line cursor.old.left.items)) }
+    ensures { OnOk result (Adds printer.entry.form text.old text.new (map step_line cursor.old.left.items)) }
 {
     'steps: loop {
         match cursor.next() {
-            Ok(Some(step)) => put_step(text, step)?,
+            Ok(Some(step)) => put_step(printer, text, step)?,
             Ok(None) => return Ok(()),
             Err(_) => unreachable!(),
         }
@@ -64,6 +81,7 @@ fn put_steps(text: &mut SteadySink, cursor: &mut AsyncCursor<'_>) -> Result<(), 
 
 /// Puts the lines of the stepping information of an async method.
 fn put_async(
+    printer: Printer<'_>,
     text: &mut SteadySink,
     file: &Verified<'_>,
     row: u32,
@@ -71,42 +89,42 @@ fn put_async(
 ) -> Result<(), Memory>
     requires there { row_at (raw_of (tables_of file.now)).customs row ≡ Some record.now }
     requires kind { IsOfKind (raw_of (tables_of file.now)) record.now Kind.Async }
-    ensures { OnOk result (Adds text.old text.new (lines_of_record (raw_of (tables_of file.now)) (row, record.now))) }
+    ensures { OnOk result (Adds printer.entry.form text.old text.new (lines_of_record (raw_of (tables_of file.now)) (row, record.now))) }
 {
     let mut cursor = stepping_of(file, row, record);
-    put_handler(text, cursor.handler())?;
-    put_steps(text, &mut cursor)
+    put_handler(printer, text, cursor.handler())?;
+    put_steps(printer, text, &mut cursor)
 }
 
 /// Puts the lines of a custom record on a method: stepping information is read, hoisted locals are left out.
 fn put_record(
-    alloc: Global,
+    printer: Printer<'_>,
     text: &mut SteadySink,
     file: &Verified<'_>,
     row: u32,
     record: &CustomRow,
 ) -> Result<(), Memory>
     requires { row_at (raw_of (tables_of file.now)).customs row ≡ Some record.now }
-    ensures { OnOk result (Adds text.old text.new (lines_of_record (raw_of (tables_of file.now)) (row, record.now))) }
+    ensures { OnOk result (Adds printer.entry.form text.old text.new (lines_of_record (raw_of (tables_of file.now)) (row, record.now))) }
 {
     file.keeps();
-    match kind(alloc, file, row, record) {
-        Kind::Async => put_async(text, file, row, record),
+    match kind(printer.alloc, file, row, record) {
+        Kind::Async => put_async(printer, text, file, row, record),
         Kind::Hoisted => Ok(()),
-        Kind::TypeDocuments | Kind::Free | Kind::Unknown => put_custom(text, file, record),
+        Kind::TypeDocuments | Kind::Free | Kind::Unknown => put_custom(printer, text, file, record),
     }
 }
 
 /// Puts the lines of the custom records on a method.
 pub(crate) fn put_records<L: Ledger>(
-    alloc: Global,
+    printer: Printer<'_>,
     text: &mut SteadySink,
     file: &Verified<'_>,
     method: u32,
     steps: &mut Steps<L>,
 ) -> Result<(), Memory>
     requires { HasRow (raw_of (tables_of file.now)) 0x06 method }
-    ensures ok { OnOk result (Adds text.old text.new (record_lines (raw_of (tables_of file.now)) method)) }
+    ensures ok { OnOk result (Adds printer.entry.form text.old text.new (record_lines (raw_of (tables_of file.now)) method)) }
     ensures later { steps.old ≤ steps.new }
     ensures cost { steps.new ≤ steps.old + customs_reads (raw_of (tables_of file.now)) 0x06 method }
 {
@@ -119,7 +137,7 @@ pub(crate) fn put_records<L: Ledger>(
     let mut row = run.first;
     'records: while row < run.end {
         let record = custom(file, row, steps);
-        put_record(alloc, text, file, row, &record)?;
+        put_record(printer, text, file, row, &record)?;
         row += 1;
     }
     Ok(())

@@ -13,23 +13,22 @@ use crate::query::text::put_line;
 use ppdb_base::{Memory, SteadySink, Steps};
 use ppdb_queries::{ScopeView, scopes_at};
 use ppdb_show_lines::Item::Number;
-use ppdb_show_lines::Key;
 use ppdb_show_lines::Part::Field;
+use ppdb_show_lines::{Key, Printer};
 use ppdb_tables::Parent;
 use ppdb_verify::Verified;
-use std::alloc::Global;
 use std::sync::ledger::Ledger;
 
 /// Puts the lines of a scope: of its range, of the custom records on it, of its variables and constants, and of its imports.
 fn put_scope<L: Ledger>(
-    alloc: Global,
+    printer: Printer<'_>,
     text: &mut SteadySink,
     file: &Verified<'_>,
     scope: ScopeView,
     steps: &mut Steps<L>,
 ) -> Result<(), Memory>
     requires { IsViewOf (raw_of (tables_of file.now)) scope }
-    ensures ok { OnOk result (Adds text.old text.new (scope_answer (raw_of (tables_of file.now)) scope)) }
+    ensures ok { OnOk result (Adds printer.entry.form text.old text.new (scope_answer (raw_of (tables_of file.now)) scope)) }
     ensures later { steps.old ≤ steps.new }
     ensures cost { steps.new ≤ steps.old + scope_reads (raw_of (tables_of file.now)) scope }
 {
@@ -37,21 +36,21 @@ fn put_scope<L: Ledger>(
         Field(" ", Key::Start, Number(scope.range.start)),
         Field(" ", Key::End, Number(scope.range.end)),
     ];
-    put_line(text, "scope", &parts)?;
+    put_line(printer, text, "scope", &[2, 0, 1], &parts)?;
     file.keeps();
     let parent = Parent {
         table: 0x32,
         row: scope.row,
     };
-    put_customs(text, file, parent, steps)?;
-    put_variables(text, file, scope.variables, steps)?;
-    put_constants(text, file, scope.constants, steps)?;
-    put_imports(alloc, text, file, scope.import, steps)
+    put_customs(printer, text, file, parent, steps)?;
+    put_variables(printer, text, file, scope.variables, steps)?;
+    put_constants(printer, text, file, scope.constants, steps)?;
+    put_imports(printer, text, file, scope.import, steps)
 }
 
 /// Puts the lines of the scopes of a method that hold an offset.
 pub(crate) fn put_scopes<L: Ledger>(
-    alloc: Global,
+    printer: Printer<'_>,
     text: &mut SteadySink,
     file: &Verified<'_>,
     method: u32,
@@ -59,7 +58,7 @@ pub(crate) fn put_scopes<L: Ledger>(
     steps: &mut Steps<L>,
 ) -> Result<(), Memory>
     requires { HasRow (raw_of (tables_of file.now)) 0x06 method }
-    ensures ok { OnOk result (Adds text.old text.new (scopes_found (raw_of (tables_of file.now)) method offset)) }
+    ensures ok { OnOk result (Adds printer.entry.form text.old text.new (scopes_found (raw_of (tables_of file.now)) method offset)) }
     ensures later { steps.old ≤ steps.new }
     ensures cost { steps.new ≤ steps.old + scopes_reads (raw_of (tables_of file.now)) method offset }
 {
@@ -67,7 +66,7 @@ pub(crate) fn put_scopes<L: Ledger>(
         unreachable!()
     };
     'scopes: while let Some(scope) = scopes.next(steps) {
-        put_scope(alloc, text, file, scope, steps)?;
+        put_scope(printer, text, file, scope, steps)?;
     }
     Ok(())
 }

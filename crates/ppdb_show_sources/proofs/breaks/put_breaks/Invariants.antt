@@ -10,7 +10,7 @@ invariant-breaks g l =
       later : l.fn.steps ≤ l.steps;
       cost : l.steps + l.breaks.rows ≤ l.fn.steps + l.fn.breaks.rows;
       put : Putting (sink.written l.fn.out) (sink.written l.out) (sink.faults l.fn.out) (sink.faults l.out)
-          (text_of_breaks l.breaks.items) (text_of_breaks l.fn.breaks.items);
+          (text_of_breaks l.printer.form l.breaks.items) (text_of_breaks l.printer.form l.fn.breaks.items);
     }
 
 abbrev pub decreases-breaks : goal.decreases-breaks

@@ -1,6 +1,6 @@
-use Rattle.std.proofs.Common.{◌≡◌, ◌∙◌, List, ℕ, Option, Some, ap, sym, true, false, Ok}
+use Rattle.std.proofs.Common.{◌≡◌, ◌∙◌, List, [], ◌∷◌, ℕ, Option, Some, ap, sym, true, false, Ok}
 use Rattle.ppdb_show_lines.proofs.Putting.{puts_memory}
-use Rattle.ppdb_show_lines.specs.Lines.{text_of}
+use Rattle.ppdb_show_lines.specs.Forms.{lines_as}
 use Rattle.ppdb_tables.proofs.NumberedRows.{same_row}
 use Rattle.ppdb_tables.specs.declared.rows.DocumentRow.{DocumentRow}
 use Rattle.ppdb_values.specs.Documents.{document_of}
@@ -25,8 +25,8 @@ returns-then-branch-clause-puts g c cells there =
     let told_it = told (address_of c.as_slice.result.now c.args.links.now) c.address.result _ c.address.new.into c.address.ensures.found
     c.address.ensures.none
     c.clear.ensures (c.in_ok-address.was ∙ ap Ok c.if-branch.true) in
-    puts_as _ _ _ _ _ _ _ (ap (λ (address : Option (List ℕ)). text_of (link_line c.args.row address))
-    (ap Some c.as_slice-then-branch.ensures ∙ sym told_it ∙ ap (λ name. address_of name c.args.links.now) named)) c.put_text_line.ensures
+    puts_as _ _ _ _ _ _ _ (ap (λ (address : Option (List ℕ)). lines_as c.args.printer.form (link_line c.args.row address ∷ []))
+    (ap Some c.as_slice-then-branch.ensures ∙ sym told_it ∙ ap (λ name. address_of name c.args.links.now) named)) c.put_address.ensures
 
 pub returns-clause-puts : goal.returns-clause-puts
 returns-clause-puts g c cells there =
@@ -36,5 +36,5 @@ returns-clause-puts g c cells there =
     c.as_slice.ensures ∙ c.in_ok-name.ensures ∙ ap (λ (row : DocumentRow). (document_of raw row).name) same in
     let not_told = untold (address_of c.as_slice.result.now c.args.links.now) c.address.result _ c.address.new.into c.address.ensures.found
     (c.in_ok-address.was ∙ ap Ok c.if-branch.false) in
-    puts_as _ _ _ _ _ _ _ (ap (λ (address : Option (List ℕ)). text_of (link_line c.args.row address))
-    (sym not_told ∙ ap (λ name. address_of name c.args.links.now) named)) c.put_text_line-else-branch.ensures
+    puts_as _ _ _ _ _ _ _ (ap (λ (address : Option (List ℕ)). lines_as c.args.printer.form (link_line c.args.row address ∷ []))
+    (sym not_told ∙ ap (λ name. address_of name c.args.links.now) named)) c.put_address-else-branch.ensures

@@ -13,5 +13,5 @@ invariant-rows g l =
       later : l.fn.steps ≤ l.steps;
       cost : l.steps + 1 ≤ l.fn.steps + l.row;
       put : Putting (sink.written l.fn.out) (sink.written l.out) (sink.faults l.fn.out) (sink.faults l.out)
-          (lines_after (raw_file l.file).tables l.links (l.row - 1)) (link_text (value_of (raw_file l.file)) l.links);
+          (lines_after l.printer.form (raw_file l.file).tables l.links (l.row - 1)) (link_text l.printer.form (value_of (raw_file l.file)) l.links);
     }

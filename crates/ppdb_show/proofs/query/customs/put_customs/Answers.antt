@@ -38,7 +38,7 @@ returns-in_err-put_custom-clause-cost g c =
 pub returns-clause-ok : goal.returns-clause-ok
 returns-clause-ok g c =
     let raw = raw_of (tables_of c.args.file.now) in
-    customs_all raw c.args.parent c.customs_of-run.result c.args.text.now _ c.customs_of-run.ensures.all
+    customs_all c.args.printer.form raw c.args.parent c.customs_of-run.result c.args.text.now _ c.customs_of-run.ensures.all
     (walk_done _ _ _ _ _ _ _ _ c.customs.invariant.walk (run_done _ c.customs.row c.customs_of-run.result.end (omega arith)))
 
 pub returns-clause-cost : goal.returns-clause-cost

@@ -15,7 +15,7 @@ invariant-customs g l =
       from : 1 ≤ l.row;
       to : l.row ≤ l.run.end;
       last : l.run.end ≤ length raw.customs + 1;
-      walk : Walked (λ custom. custom_found raw custom.1 ∷ []) (λ custom. 1) (rows_in l.run raw.customs)
+      walk : Walked l.printer.form (λ custom. custom_found raw custom.1 ∷ []) (λ custom. 1) (rows_in l.run raw.customs)
           (slice_range (numbered raw.customs) (l.row - 1) (l.run.end - 1))
           l.fn.text l.text (l.fn.steps + 2 * digits (length raw.customs)) l.steps;
       later : l.fn.steps ≤ l.steps;

@@ -23,7 +23,7 @@ locals-preserved g c =
 
 pub returns-clause-ok : goal.returns-clause-ok
 returns-clause-ok g c =
-    adds_same _ _ _ _ (lines_each hoisted_line (hoisted_at (raw_of (tables_of c.args.file.now)) c.args.method c.args.offset))
+    adds_same c.args.printer.form _ _ _ _ (lines_each hoisted_line (hoisted_at (raw_of (tables_of c.args.file.now)) c.args.method c.args.offset))
     (walk_done _ _ _ _ _ _ _ _ c.locals.invariant.walk (given_none c.locals.locals.items c.next.result c.next.ensures.answer c.in_default-next.not-Some))
 
 pub returns-clause-cost : goal.returns-clause-cost

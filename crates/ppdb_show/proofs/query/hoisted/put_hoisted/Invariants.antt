@@ -10,7 +10,7 @@ abbrev pub invariant-locals : goal.invariant-locals
 invariant-locals g l =
     let raw = raw_of (tables_of l.file) in
     record {
-      walk : Walked (λ local. hoisted_line local ∷ []) (λ local. 0) (hoisted_at raw l.method l.offset) l.locals.items l.fn.text l.text
+      walk : Walked l.printer.form (λ local. hoisted_line local ∷ []) (λ local. 0) (hoisted_at raw l.method l.offset) l.locals.items l.fn.text l.text
           (l.fn.steps + customs_reads raw 0x06 l.method) (l.steps + l.locals.rows);
     }
 

@@ -46,7 +46,7 @@ returns-in_err-put_import-clause-cost g c =
 pub returns-clause-ok : goal.returns-clause-ok
 returns-clause-ok g c =
     let raw = raw_of (tables_of c.args.file.now) in
-    adds_same _ _ _ _ (lines_of_links raw (chain_of (λ scope. scope.parent) raw.imports c.args.import))
+    adds_same c.args.printer.form _ _ _ _ (lines_of_links raw (chain_of (λ scope. scope.parent) raw.imports c.args.import))
     (walk_done _ _ _ _ _ _ _ _ c.chain.invariant.walk (given_none c.chain.chain c.next.result c.next.ensures.answer c.in_default.not-Some))
 
 pub returns-clause-cost : goal.returns-clause-cost

@@ -12,7 +12,7 @@ invariant-chain g l =
     let raw = raw_of (tables_of l.file) in
     record {
       each : Each (IsLink raw) l.chain;
-      walk : Walked (lines_of_link raw) (link_reads raw) (links_from raw l.import) l.chain l.fn.text l.text l.fn.steps l.steps;
+      walk : Walked l.printer.form (lines_of_link raw) (link_reads raw) (links_from raw l.import) l.chain l.fn.text l.text l.fn.steps l.steps;
       later : l.fn.steps ≤ l.steps;
     }
 

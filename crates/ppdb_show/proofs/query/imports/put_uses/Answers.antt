@@ -28,7 +28,7 @@ unreachable-requires c =
 
 pub returns-in-Ok-None : goal.returns-in-Ok-None
 returns-in-Ok-None c =
-    adds_same _ _ _ _ (uses_each c.args.imports.now.items)
+    adds_same c.args.printer.form _ _ _ _ (uses_each c.args.imports.now.items)
     (walk_done _ _ _ _ _ _ _ _ c.imports.invariant.walk
     (answer_end c.imports.imports.items c.imports.imports.fault
     (sym (ap shown_answer (c.in-Ok-None.is ∙ ap (λ (o : Option Import). Ok o) c.in-Ok-None.field-0-is)) ∙ c.next.ensures.answer)))

@@ -8,7 +8,7 @@ use Rattle.ppdb_show.proofs.query.imports.put_uses.Given as goal
 abbrev pub invariant-imports : goal.invariant-imports
 invariant-imports l = record {
   whole : l.imports.fault ≡ None;
-  walk : Walked (λ item. use_line (import_value item) ∷ []) (λ item. 0) l.fn.imports.items l.imports.items l.fn.text l.text 0 0;
+  walk : Walked l.printer.form (λ item. use_line (import_value item) ∷ []) (λ item. 0) l.fn.imports.items l.imports.items l.fn.text l.text 0 0;
 }
 
 abbrev pub decreases-imports : goal.decreases-imports

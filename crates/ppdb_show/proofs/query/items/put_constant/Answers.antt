@@ -12,4 +12,4 @@ put_customs-requires-clause-there g c =
     (within.0, omega (arith, within, many))
 
 pub returns-clause-ok : goal.returns-clause-ok
-returns-clause-ok g c = then_ok _ _ _ _ _ _ c.in_ok-put_constant_line.ensures c.put_customs.ensures.ok
+returns-clause-ok g c = then_ok c.args.printer.form _ _ _ _ _ _ c.in_ok-put_constant_line.ensures c.put_customs.ensures.ok

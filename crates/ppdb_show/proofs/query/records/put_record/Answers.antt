@@ -9,4 +9,4 @@ put_async-requires-clause-kind c = sym c.kind.ensures ∙ c.in-Async.is
 
 pub returns-in-Hoisted : goal.returns-in-Hoisted
 returns-in-Hoisted c =
-    hoisted_put (raw_of (tables_of c.args.file.now)) c.args.row c.args.record.now c.kind.result c.args.text.now c.kind.ensures c.in-Hoisted.is
+    hoisted_put c.args.printer.form (raw_of (tables_of c.args.file.now)) c.args.row c.args.record.now c.kind.result c.args.text.now c.kind.ensures c.in-Hoisted.is

@@ -39,7 +39,7 @@ returns-in_err-put_record-clause-cost g c =
 pub returns-clause-ok : goal.returns-clause-ok
 returns-clause-ok g c =
     let raw = raw_of (tables_of c.args.file.now) in
-    records_all raw c.args.method c.customs_of-run.result c.args.text.now _ c.customs_of-run.ensures.all
+    records_all c.args.printer.form raw c.args.method c.customs_of-run.result c.args.text.now _ c.customs_of-run.ensures.all
     (walk_done _ _ _ _ _ _ _ _ c.records.invariant.walk (run_done _ c.records.row c.customs_of-run.result.end (omega arith)))
 
 pub returns-clause-cost : goal.returns-clause-cost

@@ -19,7 +19,7 @@ steps-preserved c = record {
 
 pub returns-in-Ok-None : goal.returns-in-Ok-None
 returns-in-Ok-None c =
-    adds_same _ _ _ _ (lines_each step_line c.args.cursor.now.left.items)
+    adds_same c.args.printer.form _ _ _ _ (lines_each step_line c.args.cursor.now.left.items)
     (walk_done _ _ _ _ _ _ _ _ c.steps.invariant.walk
     (answer_end c.steps.cursor.left.items c.steps.cursor.left.fault (sym (c.in-Ok-None.is ∙ ap (λ (o : Option AsyncStep). Ok o) c.in-Ok-None.field-0-is)
     ∙ c.next.ensures.answer)))

@@ -64,9 +64,10 @@ returns-clause-cost g c =
 pub returns-clause-ok : goal.returns-clause-ok
 returns-clause-ok g c =
     let raw = raw_of (tables_of c.args.file.now) in
-    let v = adds_same _ _ _ _ (ap (flat_map (variable_answer raw)) (variables_owned raw c.args.scope c.requires c.keeps.ensures.rules.variables.lists))
+    let v = adds_same c.args.printer.form _ _ _ _ (ap (flat_map (variable_answer raw)) (variables_owned raw c.args.scope c.requires c.keeps.ensures.rules.variables.lists))
     c.in_ok-put_variables.ensures.ok in
-    let k = adds_same _ _ _ _ (ap (flat_map (constant_answer raw)) (constants_owned raw c.args.scope c.requires c.keeps.ensures.rules.constants.lists))
+    let k = adds_same c.args.printer.form _ _ _ _ (ap (flat_map (constant_answer raw)) (constants_owned raw c.args.scope c.requires c.keeps.ensures.rules.constants.lists))
     c.in_ok-put_constants.ensures.ok in
-    then_ok _ _ _ _ _ _ c.in_ok-put_line.ensures
-    (then_ok _ _ _ _ _ _ c.in_ok-put_customs.ensures.ok (then_ok _ _ _ _ _ _ v (then_ok _ _ _ _ _ _ k c.put_imports.ensures.ok)))
+    then_ok c.args.printer.form _ _ _ _ _ _ c.in_ok-put_line.ensures
+    (then_ok c.args.printer.form _ _ _ _ _ _ c.in_ok-put_customs.ensures.ok
+    (then_ok c.args.printer.form _ _ _ _ _ _ v (then_ok c.args.printer.form _ _ _ _ _ _ k c.put_imports.ensures.ok)))

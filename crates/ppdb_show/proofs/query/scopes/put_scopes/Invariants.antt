@@ -13,7 +13,7 @@ invariant-scopes g l =
     let raw = raw_of (tables_of l.file) in
     record {
       each : Each (IsViewOf raw) l.scopes.items;
-      walk : Walked (scope_answer raw) (scope_reads raw) (scopes_at raw l.method l.offset) l.scopes.items l.fn.text l.text
+      walk : Walked l.printer.form (scope_answer raw) (scope_reads raw) (scopes_at raw l.method l.offset) l.scopes.items l.fn.text l.text
           (l.fn.steps + (2 * digits (length raw.scopes) + 2 * scope_count raw l.method)) (l.steps + 2 * l.scopes.rows);
       later : l.fn.steps ≤ l.steps;
     }

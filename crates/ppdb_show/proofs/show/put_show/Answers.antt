@@ -2,7 +2,7 @@ use Rattle.ppdb_base.proofs.Written.{puts_cut, puts_then}
 use Rattle.ppdb_verify.specs.Views.{raw_file}
 use Rattle.ppdb_show.specs.Show.{head_lines, row_lines}
 use Rattle.ppdb_show_lines.proofs.Texts.{more_lines}
-use Rattle.ppdb_show.proofs.show.put_file.Goals as goal
+use Rattle.ppdb_show.proofs.show.put_show.Goals as goal
 
 pub returns-in_err-put_head : goal.returns-in_err-put_head
 returns-in_err-put_head g c =

@@ -1,0 +1,15 @@
+//! A list of offsets of methods: its text, read line by line, and the numbers that its words say.
+#![tactic(auto)]
+
+mod check;
+mod cut;
+mod decimal;
+mod laws;
+mod line;
+mod word;
+
+pub use check::check_list;
+pub use cut::first_line;
+pub use decimal::number;
+pub use laws::lists_are_one;
+pub use line::{MethodOffset, Said, read_line};

@@ -1,0 +1,41 @@
+-- What a lookup of a list of offsets prints, line by line, and how many rows it reads at most (this project's format).
+use Rattle.std.specs.Prelude.{ℕ, List, [], ◌∷◌, Bool, nat_le, ◌&&◌, codes, if◌then◌else◌}
+use Rattle.std.specs.List.{flat_map, sum_by}
+use Rattle.ppdb_queries_list.specs.declared.line.MethodOffset.{MethodOffset}
+use Rattle.ppdb_show_lines.specs.declared.form.Form.{Form}
+use Rattle.ppdb_show_lines.specs.Forms.{lines_as}
+use Rattle.ppdb_show_lines.specs.Lines.{Line, field, number}
+use Rattle.ppdb_tables.specs.RawTables.{RawTables, count}
+use Rattle.ppdb_values.specs.RawFile.{RawFile}
+use Rattle.ppdb_show.specs.Bound.{query_rows}
+use Rattle.ppdb_show.specs.Query.{query_lines}
+
+-- the file has such a method
+abbrev pub has_method : RawTables → ℕ → Bool
+has_method raw method = nat_le 1 method && nat_le method (count raw 0x06)
+
+-- what is asked
+abbrev pub at_line : MethodOffset → Line
+at_line at = record {
+  word = codes "at";
+  fields = field (codes " ") (codes "method") (number at.method) ∷ field (codes " ") (codes "offset") (number at.offset) ∷ [];
+}
+
+abbrev pub no_method_line : ℕ → Line
+no_method_line method = record { word = codes "no method"; fields = field (codes " ") (codes "method") (number method) ∷ [] }
+
+-- the lines of the query, or that there is no such method
+abbrev pub found_lines : RawFile → MethodOffset → List Line
+found_lines raw at = if has_method raw.tables at.method then query_lines raw at.method at.offset else no_method_line at.method ∷ []
+
+-- what is asked, and the answer
+abbrev pub answer_lines : RawFile → MethodOffset → List Line
+answer_lines raw at = at_line at ∷ found_lines raw at
+
+-- What `lookup` prints of what is asked, in this order.
+unfoldable pub lookup_text_of : Form → RawFile → List MethodOffset → List ℕ
+lookup_text_of form raw asked = lines_as form (flat_map (answer_lines raw) asked)
+
+-- no more rows than the queries of all that is asked
+abbrev pub lookup_rows : RawTables → List MethodOffset → ℕ
+lookup_rows raw asked = sum_by (λ (at : MethodOffset). query_rows raw at.method at.offset) asked
