@@ -42,7 +42,8 @@ enum {
     PPDB_NO_METHOD = 10,   /* the file has no such method */
     PPDB_UNLINKED = 11,    /* the Source Link record of the file cannot be read */
     PPDB_NO_DOCUMENT = 12, /* the file has no such document */
-    PPDB_UNCOMPOSED = 13   /* the second map is not for the result of the first */
+    PPDB_UNCOMPOSED = 13,  /* the second map is not for the result of the first */
+    PPDB_UNLISTED = 14     /* a line of a list is not METHOD OFFSET */
 };
 
 /* The first rule that a file breaks, and where: 12 bytes. Section 4 of docs/FORMAT.md has the rules. */

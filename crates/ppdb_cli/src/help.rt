@@ -9,8 +9,8 @@ const HELP: &str = "ppdb: Portable PDB debug files
 ppdb id FILE                   prints the identity and the entry point of a file
 ppdb verify FILE               prints accepted, or the first rule that the file breaks and where
 ppdb show FILE                 prints every row of a file, one line each
-ppdb show FILE --json          prints the same rows as JSON, one object a line
 ppdb query FILE METHOD OFFSET  prints what belongs to an IL offset of a method
+ppdb lookup FILE LIST          prints the same for each line METHOD OFFSET of a list
 ppdb links FILE                prints the address of each document's source, by Source Link
 ppdb breaks FILE DOCUMENT LINE prints where a debugger may stop for a line of a document
 ppdb rebuild IN OUT            writes the canonical file: equal contents give equal bytes
@@ -22,6 +22,7 @@ ppdb help COMMAND              prints more about a command; so does COMMAND --he
 ppdb --help                    prints this text; so do -h and help
 ppdb --version                 prints the version; so does -V
 
+id, show, query, lookup, links and breaks print JSON, one object a line, with --json at the end.
 Numbers are decimal. Let the shell convert a token and a hexadecimal offset of a stack trace:
     ppdb query app.pdb $((0x06000012 & 0xffffff)) $((0x1a))
 
@@ -41,17 +42,19 @@ Exit status, and the line that is printed with it:
 11  the Source Link record cannot be read: links FILE not json, links FILE shape
 12  the file has no such document: no document DOCUMENT
 13  the second map is not for the result of the first: sizes differ method METHOD SIZE SIZE
+14  a line of a list is not METHOD OFFSET: list LIST line LINE
 
 The manual page explains every F, M and L code and what to do about it. FORMAT.md, installed in
 share/doc/ppdb, defines map texts (section 5) and how files fit a map, move and join (10 to 12).
 ";
 
-const ID: &str = "ppdb id FILE
+const ID: &str = "ppdb id FILE [--json]
 
 Verifies the file, then prints its identity in 40 hexadecimal digits and the token of its entry
 point, 00000000 if it has none:
     id 94bb8c260d0933409e88695c1845fc2a6b9eb4cc
     entry 0600000b
+With --json each line is a JSON object.
 ";
 
 const VERIFY: &str = "ppdb verify FILE
@@ -68,16 +71,31 @@ points, scopes, variables, constants, imports, state machines and custom debug i
 --json each line is a JSON object.
 ";
 
-const QUERY: &str = "ppdb query FILE METHOD OFFSET
+const QUERY: &str = "ppdb query FILE METHOD OFFSET [--json]
 
 Verifies the file, then prints what belongs to an IL offset of a method: the last sequence point at
 or before the offset, the scopes that contain it with their variables, constants and imports,
 hoisted variables, state machine links and custom records. METHOD is the method's row, at most
 16777215; OFFSET is at most 2147483647. Both are decimal. From a token and a hexadecimal offset:
     ppdb query app.pdb $((0x06000012 & 0xffffff)) $((0x1a))
+With --json each line is a JSON object. `ppdb lookup` answers many queries at once.
 ";
 
-const LINKS: &str = "ppdb links FILE
+const LOOKUP: &str = "ppdb lookup FILE LIST [--json]
+
+Verifies the file once, then answers each line of LIST, in order: `at METHOD OFFSET`, and then the
+lines of `ppdb query FILE METHOD OFFSET`. LIST is a text with one question a line, METHOD and OFFSET
+parted by one space. METHOD is a row, or a token such as 0x06000012; OFFSET is decimal, or
+hexadecimal after 0x. Lines that are empty or begin with # are skipped:
+    # async_iter.cs
+    0x06000012 0x1a
+    18 26
+A method that the file does not have is answered by `no method METHOD`, and the next line follows.
+Any other line in LIST is reported as `list LIST line LINE`, with status 14, and nothing else is
+printed. With --json each line is a JSON object.
+";
+
+const LINKS: &str = "ppdb links FILE [--json]
 
 Verifies the file, then prints for each document the address of its source, or none. The addresses
 come from the Source Link record that the compiler put into the file:
@@ -85,16 +103,18 @@ come from the Source Link record that the compiler put into the file:
     link 2 none
 A file without such a record has no addresses. If the record is not JSON, or not of the form of
 Source Link, the line is `links FILE not json` or `links FILE shape`, and the status is 11.
+With --json each line is a JSON object.
 ";
 
-const BREAKS: &str = "ppdb breaks FILE DOCUMENT LINE
+const BREAKS: &str = "ppdb breaks FILE DOCUMENT LINE [--json]
 
 Verifies the file, then prints the sequence points of a document that cover a line and are not
 hidden, each with its method, IL offset, start and end (line:column):
     break 39 0 20:108 20:109
 DOCUMENT is the document's name before `show` escapes it, compared byte by byte. LINE is a decimal
 number, at most 536870911. A line without code prints nothing, with status 0. If no document has the
-name, the command prints `no document DOCUMENT` and fails with status 12.
+name, the command prints `no document DOCUMENT` and fails with status 12. With --json each line is
+a JSON object.
 ";
 
 const REBUILD: &str = "ppdb rebuild IN OUT [--keep-id] [--free GUID]..
@@ -207,6 +227,7 @@ pub enum Topic {
     Verify,
     Show,
     Query,
+    Lookup,
     Links,
     Breaks,
     Rebuild,
@@ -225,6 +246,7 @@ impl Topic {
             "verify" => Some(Topic::Verify),
             "show" => Some(Topic::Show),
             "query" => Some(Topic::Query),
+            "lookup" => Some(Topic::Lookup),
             "links" => Some(Topic::Links),
             "breaks" => Some(Topic::Breaks),
             "rebuild" => Some(Topic::Rebuild),
@@ -244,6 +266,7 @@ impl Topic {
             Topic::Verify => VERIFY,
             Topic::Show => SHOW,
             Topic::Query => QUERY,
+            Topic::Lookup => LOOKUP,
             Topic::Links => LINKS,
             Topic::Breaks => BREAKS,
             Topic::Rebuild => REBUILD,

@@ -13,9 +13,10 @@ use Rattle.ppdb_maps.specs.Map.{Map}
 use Rattle.ppdb_run.specs.declared.status.Status.TheVariants.{Done}
 use Rattle.ppdb_run.specs.Means.{WritesMeaning}
 use Rattle.ppdb_run.specs.Outcome.{Outcome, IsOutcome, absent, composed_text, done, input_of, limited, map_at, prints, too_long, unless, written}
-use Rattle.ppdb_run.specs.Words.{Task, Ask, Rebuild, Compose, Merge, Sample, written_file}
+use Rattle.ppdb_run.specs.Words.{Task, Ask, Lookup, Rebuild, Compose, Merge, Sample, written_file}
 use Rattle.ppdb_run.specs.Writes.{WritesAll}
 use Rattle.ppdb_run.proofs.Kept.{writes_none}
+use Rattle.ppdb_run.proofs.Lookups.{lookup_writes}
 use Rattle.ppdb_library.specs.Calls.{made_bytes}
 use Rattle.ppdb_library.specs.Ended.{held}
 
@@ -83,6 +84,7 @@ sample_refusal (Some limit) text due e = ap (λ (o : Outcome). o.writes) (one_re
 pub has_output : (task : Task) (files : Files) (due : Outcome) → IsOutcome (Some task) files due → due.status ≡ Done
     → WritesMeaning (Some files) (Some task) due → HasOutput (written_file task) due.writes
 has_output (Ask question file) files due is status means = writes_none question file files due is
+has_output (Lookup file list json) files due is status means = lookup_writes file list json files due is
 has_output (Rebuild input output options) files due is status means = (means.0, means.1)
 has_output (Compose first second output) files due is status means = composed_output first second output files due is status
 has_output (Merge inputs output options) files due is status means = (means.0, means.1)

@@ -3,7 +3,7 @@ use Rattle.std.proofs.Common.{ℕ, ◌≡◌, List, [], arith, refl}
 use Rattle.std.specs.Prelude.{Option}
 use Rattle.ppdb_run.specs.declared.status.Status.{Status}
 use Rattle.ppdb_run.specs.declared.status.Status.TheVariants.{Done, Refused, Usage, ReadFault, WriteFault, Memory, Absent, TooLong, Unfit, Limit}
-use Rattle.ppdb_run.specs.declared.status.Status.TheVariants.{NoMethod, Unlinked, NoDocument, Uncomposed}
+use Rattle.ppdb_run.specs.declared.status.Status.TheVariants.{NoMethod, Unlinked, NoDocument, Uncomposed, Unlisted}
 use Rattle.ppdb_run.specs.Status.{status_number}
 use Rattle.ppdb_library.specs.Calls.{made_bytes}
 
@@ -22,6 +22,7 @@ zero_is_done NoMethod e = absurd (omega arith)
 zero_is_done Unlinked e = absurd (omega arith)
 zero_is_done NoDocument e = absurd (omega arith)
 zero_is_done Uncomposed e = absurd (omega arith)
+zero_is_done Unlisted e = absurd (omega arith)
 
 pub five_is_memory : (status : Status) → status_number status ≡ 5 → status ≡ Memory
 five_is_memory Done e = absurd (omega arith)
@@ -38,6 +39,7 @@ five_is_memory NoMethod e = absurd (omega arith)
 five_is_memory Unlinked e = absurd (omega arith)
 five_is_memory NoDocument e = absurd (omega arith)
 five_is_memory Uncomposed e = absurd (omega arith)
+five_is_memory Unlisted e = absurd (omega arith)
 
 -- a status is that of a run that is done, or of one that makes nothing
 pub data IsDoneOrNot (status : Status) : Type 0 where
@@ -59,3 +61,4 @@ done_or_not NoMethod = is_not (λ e. absurd cc) (λ writes. refl)
 done_or_not Unlinked = is_not (λ e. absurd cc) (λ writes. refl)
 done_or_not NoDocument = is_not (λ e. absurd cc) (λ writes. refl)
 done_or_not Uncomposed = is_not (λ e. absurd cc) (λ writes. refl)
+done_or_not Unlisted = is_not (λ e. absurd cc) (λ writes. refl)

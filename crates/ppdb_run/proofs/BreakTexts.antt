@@ -11,6 +11,7 @@ use Rattle.ppdb_values.specs.Value.{value_of}
 use Rattle.break_lines.specs.declared.item.Break.{Break}
 use Rattle.break_lines.specs.Breaks.{breaks_in, document_named}
 use Rattle.break_lines.proofs.Documents.{documents_many}
+use Rattle.ppdb_show_lines.specs.declared.form.Form.{Form}
 use Rattle.ppdb_show_sources.specs.Breaks.{text_of_breaks}
 use Rattle.ppdb_run.specs.Outcome.{breaks_answer, outcome_of}
 
@@ -31,10 +32,10 @@ named_there raw name row e = by_place (position test (value_of raw).documents) r
         let inside = within (value_of raw).documents i is in
         (omega (arith, row_is), omega (arith, row_is, inside, documents_many raw))
 
-pub breaks_text : (document : List ℕ) (line row : ℕ) (value : FileValue) (items : List Break) (old new : Option (List ℕ))
+pub breaks_text : (form : Form) (document : List ℕ) (line row : ℕ) (value : FileValue) (items : List Break) (old new : Option (List ℕ))
     → document_named value document ≡ Some row
-    → items ≡ breaks_in value row line → new ≡ appended old (text_of_breaks items)
-    → new ≡ appended old (outcome_of (breaks_answer document line value (document_named value document))).text
-breaks_text document line row value items old new named are put =
-    subst (λ found. new ≡ appended old (outcome_of (breaks_answer document line value found)).text) (sym named)
-    (subst (λ breaks. new ≡ appended old (text_of_breaks breaks)) are put)
+    → items ≡ breaks_in value row line → new ≡ appended old (text_of_breaks form items)
+    → new ≡ appended old (outcome_of (breaks_answer form document line value (document_named value document))).text
+breaks_text form document line row value items old new named are put =
+    subst (λ found. new ≡ appended old (outcome_of (breaks_answer form document line value found)).text) (sym named)
+    (subst (λ breaks. new ≡ appended old (text_of_breaks form breaks)) are put)

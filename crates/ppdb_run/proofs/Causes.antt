@@ -8,7 +8,7 @@ use Rattle.ppdb_base.specs.declared.link_error.LinkError.TheVariants as link_err
 use Rattle.ppdb_base.specs.declared.merge_error.MergeError.TheVariants as merge_errors
 use Rattle.ppdb_run.specs.declared.status.Status.{Status}
 use Rattle.ppdb_run.specs.declared.status.Status.TheVariants.{Done, Refused, Usage, ReadFault, WriteFault, Memory, Absent, TooLong, Unfit, Limit}
-use Rattle.ppdb_run.specs.declared.status.Status.TheVariants.{NoMethod, Unlinked, NoDocument, Uncomposed}
+use Rattle.ppdb_run.specs.declared.status.Status.TheVariants.{NoMethod, Unlinked, NoDocument, Uncomposed, Unlisted}
 use Rattle.ppdb_run.specs.declared.stop.Stop.{Stop}
 use Rattle.ppdb_run.specs.declared.stop.Stop.TheVariants as stops
 use Rattle.ppdb_run.specs.Stops.{Cause, Refusal, Unread, Unwritten, Unput, OutOfMemory, cause_of, ComesFrom}
@@ -60,26 +60,28 @@ refuses (stops.Unlinked name error) = of_link error
     of_link link_errors.Memory = tt
 refuses (stops.NoDocument name) = tt
 refuses (stops.SizesDiffer method first second) = tt
+refuses (stops.Unlisted name line) = tt
 refuses stops.Sink = tt
 refuses stops.Memory = tt
 
 -- what holds at the status of each refusal
 pub at_refusal : (P : Status → Type 0) → P Refused → P Usage → P Absent → P TooLong → P Unfit → P Limit → P NoMethod → P Unlinked → P NoDocument → P Uncomposed
-    → (status : Status) → IsRefusal status → P status
-at_refusal P a b c d e f g h i j Done is = absurd is
-at_refusal P a b c d e f g h i j ReadFault is = absurd is
-at_refusal P a b c d e f g h i j WriteFault is = absurd is
-at_refusal P a b c d e f g h i j Memory is = absurd is
-at_refusal P a b c d e f g h i j Refused is = a
-at_refusal P a b c d e f g h i j Usage is = b
-at_refusal P a b c d e f g h i j Absent is = c
-at_refusal P a b c d e f g h i j TooLong is = d
-at_refusal P a b c d e f g h i j Unfit is = e
-at_refusal P a b c d e f g h i j Limit is = f
-at_refusal P a b c d e f g h i j NoMethod is = g
-at_refusal P a b c d e f g h i j Unlinked is = h
-at_refusal P a b c d e f g h i j NoDocument is = i
-at_refusal P a b c d e f g h i j Uncomposed is = j
+    → P Unlisted → (status : Status) → IsRefusal status → P status
+at_refusal P a b c d e f g h i j k Done is = absurd is
+at_refusal P a b c d e f g h i j k ReadFault is = absurd is
+at_refusal P a b c d e f g h i j k WriteFault is = absurd is
+at_refusal P a b c d e f g h i j k Memory is = absurd is
+at_refusal P a b c d e f g h i j k Refused is = a
+at_refusal P a b c d e f g h i j k Usage is = b
+at_refusal P a b c d e f g h i j k Absent is = c
+at_refusal P a b c d e f g h i j k TooLong is = d
+at_refusal P a b c d e f g h i j k Unfit is = e
+at_refusal P a b c d e f g h i j k Limit is = f
+at_refusal P a b c d e f g h i j k NoMethod is = g
+at_refusal P a b c d e f g h i j k Unlinked is = h
+at_refusal P a b c d e f g h i j k NoDocument is = i
+at_refusal P a b c d e f g h i j k Uncomposed is = j
+at_refusal P a b c d e f g h i j k Unlisted is = k
 
 -- what a stop comes from, said of more
 pub widened : {M M' : Type 0} {R R' W W' : List ℕ → Type 0} {files files' : Option Files} {A A' B B' C C' : Type 0} (cause : Cause)

@@ -50,7 +50,7 @@ module _ (cause : Cause) (status : Status) (faults faults' : ℕ) (mid new : Opt
   found (Refusal outcome) is Due h = unless outcome.status is (outcome, h)
     where
       unless : {P : Type 0} (s : Status) → IsRefusal s → P → UnlessFault s P
-      unless {P = P} s is p = at_refusal (λ s. UnlessFault s P) p p p p p p p p p p s is
+      unless {P = P} s is p = at_refusal (λ s. UnlessFault s P) p p p p p p p p p p p s is
   found (Unread name) is Due h = tt
   found (Unwritten name) is Due h = tt
   found Unput is Due h = tt
@@ -61,7 +61,7 @@ module _ (cause : Cause) (status : Status) (faults faults' : ℕ) (mid new : Opt
       → UnlessFault (status_of cause) (status ≡ due.status)
   due_status (Refusal outcome) is due e s =
       let same : status ≡ due.status = s ∙ sym (ap (λ (o : Outcome). o.status) e) in
-      at_refusal (λ x. UnlessFault x (status ≡ due.status)) same same same same same same same same same same outcome.status is
+      at_refusal (λ x. UnlessFault x (status ≡ due.status)) same same same same same same same same same same same outcome.status is
   due_status (Unread name) is due e s = tt
   due_status (Unwritten name) is due e s = tt
   due_status Unput is due e s = tt
@@ -73,7 +73,7 @@ module _ (cause : Cause) (status : Status) (faults faults' : ℕ) (mid new : Opt
   due_text (Refusal outcome) is due old e silent w =
       let same : new ≡ appended old due.text =
       w ∙ (ap (λ m. appended m outcome.text) silent ∙ ap (λ (o : Outcome). appended old o.text) (sym e)) in
-      at_refusal (λ x. UnlessFault x (new ≡ appended old due.text)) same same same same same same same same same same outcome.status is
+      at_refusal (λ x. UnlessFault x (new ≡ appended old due.text)) same same same same same same same same same same same outcome.status is
   due_text (Unread name) is due old e silent w = tt
   due_text (Unwritten name) is due old e silent w = tt
   due_text Unput is due old e silent w = tt
@@ -82,7 +82,7 @@ module _ (cause : Cause) (status : Status) (faults faults' : ℕ) (mid new : Opt
   -- the files that it leaves
   due_files : (cause : Cause) → Refuses cause → (due : Outcome) (before after : Option Files) → LeavesAt cause due.writes before after
       → LeavesFiles (status_of cause) due before after
-  due_files (Refusal outcome) is due before after h = at_refusal (λ x. LeavesFiles x due before after) h h h h h h h h h h outcome.status is
+  due_files (Refusal outcome) is due before after h = at_refusal (λ x. LeavesFiles x due before after) h h h h h h h h h h h outcome.status is
   due_files (Unread name) is due before after h = h
   due_files (Unwritten name) is due before after h = h
   due_files Unput is due before after h = prefix_none due.writes before after h
@@ -97,7 +97,7 @@ module _ (cause : Cause) (status : Status) (faults faults' : ℕ) (mid new : Opt
 
   -- files that were kept are as before
   as_before : (cause : Cause) → Refuses cause → (P : Type 0) → OnKept cause P → UnlessWritten (status_of cause) P
-  as_before (Refusal outcome) is P h = at_refusal (λ x. UnlessWritten x P) h h h h h h h h h h outcome.status is
+  as_before (Refusal outcome) is P h = at_refusal (λ x. UnlessWritten x P) h h h h h h h h h h h outcome.status is
   as_before (Unread name) is P h = h
   as_before (Unwritten name) is P h = tt
   as_before Unput is P h = tt

@@ -9,7 +9,7 @@ use Rattle.ppdb_base.specs.declared.limits.TheConstants.{MAX_FILE_BYTES}
 use Rattle.ppdb_run.specs.declared.stop.Stop.{Stop}
 use Rattle.ppdb_maps.specs.Map.{Map}
 use Rattle.ppdb_run.specs.Ends.{ComesToRead, OnTask, IsUnread, IsUnreadOf, IsUnwritten}
-use Rattle.ppdb_run.specs.Outcome.{Outcome, IsOutcome, absent, answer_of, breaks_answer, done, input_of, links_answer, map_at, no_method, too_long, verified}
+use Rattle.ppdb_run.specs.Outcome.{Outcome, IsOutcome, absent, answer_of, breaks_answer, done, form_of, input_of, links_answer, map_at, no_method, too_long, verified}
 use Rattle.ppdb_run.specs.Stops.{Cause, Refusal, Unread, Unwritten, Unput, OutOfMemory, cause_of, Leaves, LeavesAt}
 use Rattle.ppdb_run.specs.Words.{Question, Id, Verify, Show, Query, Links, Breaks, Options, Task, Ask, Rebuild, Compose, Words, read_files, written_file}
 use Rattle.ppdb_base.specs.declared.link_error.LinkError.{LinkError}
@@ -27,21 +27,20 @@ WritesNone (Ok answer) = answer.writes ≡ None
 WritesNone (Err refusal) = refusal.writes ≡ None
 
 answer_writes : (question : Question) (file : List ℕ) (raw : RawFile) → WritesNone (answer_of question file raw)
-answer_writes Id file raw = refl
+answer_writes (Id json) file raw = refl
 answer_writes Verify file raw = refl
-answer_writes (Show false) file raw = refl
-answer_writes (Show true) file raw = refl
-answer_writes Links file raw = by_pairs (file_links (value_of raw))
+answer_writes (Show json) file raw = refl
+answer_writes (Links json) file raw = by_pairs (file_links (value_of raw))
   where
-    by_pairs : (pairs : Result (List Pair) LinkError) → WritesNone (links_answer file (value_of raw) pairs)
+    by_pairs : (pairs : Result (List Pair) LinkError) → WritesNone (links_answer (form_of json) file (value_of raw) pairs)
     by_pairs (Ok pairs) = refl
     by_pairs (Err error) = refl
-answer_writes (Breaks document line) file raw = by_row (document_named (value_of raw) document)
+answer_writes (Breaks document line json) file raw = by_row (document_named (value_of raw) document)
   where
-    by_row : (row : Option ℕ) → WritesNone (breaks_answer document line (value_of raw) row)
+    by_row : (row : Option ℕ) → WritesNone (breaks_answer (form_of json) document line (value_of raw) row)
     by_row None = refl
     by_row (Some row) = refl
-answer_writes (Query method offset) file raw = by_test _ _
+answer_writes (Query method offset json) file raw = by_test _ _
   where
     by_test : (text : List ℕ) (test : Bool) → WritesNone (if test then done text else Err (no_method method))
     by_test text true = refl
@@ -112,7 +111,7 @@ on_told None h = tt
 on_told (Some all) h = h all
 
 -- the file that was to be read first
-first_unread : (task : Task) (file : List ℕ) (files : Option Files) (before after : ℕ) (name : List ℕ) → slice_get (read_files task) 0 ≡ Some file
+pub first_unread : (task : Task) (file : List ℕ) (files : Option Files) (before after : ℕ) (name : List ℕ) → slice_get (read_files task) 0 ≡ Some file
     → ((all : Files) → ComesToRead task all 0) → name ≡ file → after ≡ before → IsUnreadOf task files before after name
 first_unread task file files before after name first comes e same = record {
   read = 0;

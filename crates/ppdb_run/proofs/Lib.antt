@@ -1,10 +1,11 @@
+pub mod AsQueries
 pub mod Causes
 pub mod Choices
 pub mod Cuts
 pub mod Endings
 pub mod Prefixes
 pub mod Kept
-pub mod Numbers
+pub mod Lookups
 pub mod OneTask
 pub mod Outcomes
 pub mod Means

@@ -80,6 +80,7 @@ tells_unfit (stops.NoMethod method) = tt
 tells_unfit (stops.Unlinked name error) = tt
 tells_unfit (stops.NoDocument name) = tt
 tells_unfit (stops.SizesDiffer method first second) = tt
+tells_unfit (stops.Unlisted name line) = tt
 tells_unfit stops.Sink = tt
 tells_unfit stops.Memory = tt
 

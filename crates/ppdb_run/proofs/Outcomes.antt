@@ -1,5 +1,5 @@
 -- A task has one outcome over the files.
-use Rattle.std.proofs.Common.{ℕ, ◌≡◌, inl, inr, List, [], ◌∷◌, refl, sym, ◌∙◌, ap, subst, arith}
+use Rattle.std.proofs.Common.{ℕ, ◌≡◌, inl, inr, List, [], ◌∷◌, Bool, refl, sym, ◌∙◌, ap, subst, arith}
 use Rattle.std.specs.Prelude.{Option, Some, None, Result, Ok, Err, IfSome}
 use Rattle.ppdb_base.specs.declared.code.Code.{Code}
 use Rattle.ppdb_base.specs.declared.fault.Place.{Place}
@@ -14,9 +14,13 @@ use Rattle.ppdb_run.specs.Outcome.{all_joined, fitting, in_limits, map_in, with_
 use Rattle.ppdb_merge.specs.declared.trace.Trace.{Trace}
 use Rattle.ppdb_merge.specs.Refusals.{added}
 use Rattle.ppdb_merge.specs.Together.{joined_of}
-use Rattle.ppdb_run.specs.Outcome.{steps_of, IsOutcome}
+use Rattle.ppdb_run.specs.Outcome.{steps_of, IsOutcome, done, form_of, listed, looked_up, unlisted}
+use Rattle.std.specs.Str.Lines.{lines}
+use Rattle.ppdb_show.specs.Lookup.{lookup_text_of}
+use Rattle.ppdb_show_lines.specs.declared.form.Form.{Form}
+use Rattle.ppdb_queries_list.proofs.Lists.{no_list, one_list, one_other}
 use Rattle.ppdb_run.specs.Stops.{cause_of, Gives, Settles, Finds, refusal_of}
-use Rattle.ppdb_run.specs.Words.{Question, Id, Verify, Show, Query, Links, Breaks, Options, Task, Ask, Rebuild, Compose, Merge, Sample, Input, Words}
+use Rattle.ppdb_run.specs.Words.{Question, Id, Verify, Show, Query, Links, Breaks, Options, Task, Ask, Lookup, Rebuild, Compose, Merge, Sample, Input, Words}
 use Rattle.ppdb_values.specs.RawFile.{RawFile, raw_in}
 use Rattle.ppdb_values.specs.Value.{value_of}
 use Rattle.ppdb_verify.specs.Files.{FileFaults, IsRawOf}
@@ -82,6 +86,31 @@ one_merged inputs output options files r t h k =
     (λ traces. one_then (gives (all_joined inputs (joined_of traces))) (λ value. gives (in_limits output options value))
     (one_given (all_joined inputs (joined_of traces))) (λ value. one_given (in_limits output options value))) r t h k)
 
+-- ---- so is what a list asks of a file
+
+one_listed : (name text : List ℕ) → GivesOne (λ x y. x ≡ y) (listed name text)
+one_listed name text (Ok x) (Ok y) h k = one_list (lines text) x y h k
+one_listed name text (Ok x) (Err b) h k = absurd (no_list (lines text) x k.0 h k.1)
+one_listed name text (Err a) (Ok y) h k = absurd (no_list (lines text) y h.0 k h.1)
+one_listed name text (Err a) (Err b) h k = h.2 ∙ ap (unlisted name) (one_other (lines text) h.0 k.0 h.1 k.1) ∙ sym k.2
+
+one_looked_up : (form : Form) (name : List ℕ) (raw : RawFile) (text : List ℕ) → GivesOne (λ x y. x ≡ y) (looked_up form name raw text)
+one_looked_up form name raw text =
+    one_then (listed name text) (λ asked. gives (done (lookup_text_of form raw asked))) (one_listed name text)
+    (λ asked. one_given (done (lookup_text_of form raw asked)))
+
+one_lookup : (file list : List ℕ) (json : Bool) (files : Files) (r t : Result Outcome Outcome) → steps_of (Lookup file list json) files r
+    → steps_of (Lookup file list json) files t → r ≡ t
+one_lookup file list json files r t h k =
+    is_one r t (one_then (file_at files file)
+    (λ bytes. file_at files list >>= λ text. judged_file file bytes >>= λ raw. looked_up (form_of json) list raw text)
+    (one_given (input_of file (reading files file MAX_FILE_BYTES)))
+    (λ bytes. one_then (file_at files list) (λ text. judged_file file bytes >>= λ raw. looked_up (form_of json) list raw text)
+    (one_given (input_of list (reading files list MAX_FILE_BYTES)))
+    (λ text. one_then (judged_file file bytes) (λ raw. looked_up (form_of json) list raw text)
+    (one_judged file (FileFaults bytes) (IsRawOf bytes) (λ a b. a ≡ b) (one_raw bytes))
+    (λ raw. one_looked_up (form_of json) list raw text))) r t h k)
+
 -- a file that was read and keeps all rules
 pub read_accepted : (files : Option Files) (file bytes : List ℕ) (raw : RawFile) → IfSome files (λ all. file_at all file (Ok bytes))
     → IsAccepted (FileFaults bytes) → IsRawOf bytes raw
@@ -99,6 +128,7 @@ one_over answer file files =
 
 one_end : (task : Task) (files : Files) (r t : Result Outcome Outcome) → steps_of task files r → steps_of task files t → r ≡ t
 one_end (Ask question file) files = one_over (answer_of question file) file files
+one_end (Lookup file list json) files = one_lookup file list json files
 one_end (Rebuild input output options) files = one_over (λ raw. rebuilt input output options (value_of raw)) input files
 one_end (Compose first second output) files = one_composed first second output files
 one_end (Merge inputs output options) files = one_merged inputs output options files
@@ -212,15 +242,15 @@ on_read P question file (Some all) raw h p = λ other is. subst (P question) (on
 
 -- a question for which nothing was read is within its rows
 pub nothing_read : (question : Question) (file : List ℕ) (files : Option Files) (steps : ℕ) → IsWithinRows (Ask question file) files steps steps
-nothing_read question file files steps = record { none = λ no. refl; bound = on_all files }
+nothing_read question file files steps = record { none = λ no. refl; bound = on_all files; listed = tt }
   where
     within : (question : Question) (raw : RawFile) → IsWithinBound question raw steps steps
-    within Id raw = tt
+    within (Id json) raw = tt
     within Verify raw = tt
     within (Show json) raw = tt
-    within (Query method offset) raw = omega arith
-    within Links raw = omega arith
-    within (Breaks document line) raw = omega arith
+    within (Query method offset json) raw = omega arith
+    within (Links json) raw = omega arith
+    within (Breaks document line json) raw = omega arith
 
     on_all : (files : Option Files) → OnRead (Ask question file) files (λ question raw. IsWithinBound question raw steps steps)
     on_all None = tt

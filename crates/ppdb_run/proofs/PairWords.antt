@@ -9,7 +9,7 @@ use Rattle.std.specs.List.{list_all, prefix_len}
 use Rattle.ppdb_run.specs.Task.{NoPair, before_options, from_options, pairs_of, words_after_output}
 use Rattle.ppdb_run.specs.Outcome.{file_of}
 use Rattle.ppdb_run.specs.Words.{Options, AreOptions, no_option, keep_id, free, Input, input_words, is_file_word, texts, NoTask, Words, IsMerge, IsRemap}
-use Rattle.ppdb_run.specs.Words.{Id, Verify, Show, Query, Links, Breaks, Ask, Rebuild, Compose, Merge, Sample}
+use Rattle.ppdb_run.specs.Words.{Id, Verify, Show, Query, Links, Breaks, Ask, Lookup, Rebuild, Compose, Merge, Sample}
 
 -- what holds of two
 pub both : (a b : Bool) → IsTrue (a && b) → IsTrue a × IsTrue b
@@ -143,13 +143,13 @@ merge_is inputs output first options words prefix back e even files none h =
 pub only_merge : (words : List (List ℕ)) → ((inputs : List Input) (output : List ℕ) (options : Options) → IsMerge inputs output options
     (codes "merge" ∷ words) → ⊥)
     → NoTask (codes "merge" ∷ words)
-only_merge words none (Ask Id file) h = let e : 109 ≡ 105 = ap first_letter h.0 in absurd (omega (arith, e))
+only_merge words none (Ask (Id json) file) h = let e : 109 ≡ 105 = ap first_letter h.0 in absurd (omega (arith, e))
 only_merge words none (Ask Verify file) h = let e : 109 ≡ 118 = ap first_letter h.0 in absurd (omega (arith, e))
-only_merge words none (Ask (Show false) file) h = let e : 109 ≡ 115 = ap first_letter h.0 in absurd (omega (arith, e))
-only_merge words none (Ask (Show true) file) h = let e : 109 ≡ 115 = ap first_letter h.0 in absurd (omega (arith, e))
-only_merge words none (Ask (Query method offset) file) h = let e : 109 ≡ 113 = ap first_letter h.0 in absurd (omega (arith, e))
-only_merge words none (Ask Links file) h = let e : 109 ≡ 108 = ap first_letter h.0 in absurd (omega (arith, e))
-only_merge words none (Ask (Breaks document line) file) h = let e : 109 ≡ 98 = ap first_letter h.0 in absurd (omega (arith, e))
+only_merge words none (Ask (Show json) file) h = let e : 109 ≡ 115 = ap first_letter h.0 in absurd (omega (arith, e))
+only_merge words none (Ask (Query method offset json) file) h = let e : 109 ≡ 113 = ap first_letter h.0 in absurd (omega (arith, e))
+only_merge words none (Ask (Links json) file) h = let e : 109 ≡ 108 = ap first_letter h.0 in absurd (omega (arith, e))
+only_merge words none (Ask (Breaks document line json) file) h = let e : 109 ≡ 98 = ap first_letter h.0 in absurd (omega (arith, e))
+only_merge words none (Lookup file list json) h = let e : 109 ≡ 108 = ap first_letter h.0 in absurd (omega (arith, e))
 only_merge words none (Rebuild input output options) h = let e : 109 ≡ 114 = ap first_letter h.1 in absurd (omega (arith, e))
 only_merge words none (Compose first second output) h = let e : 109 ≡ 99 = ap first_letter h.0 in absurd (omega (arith, e))
 only_merge words none (Sample n) h = let e : 109 ≡ 115 = ap first_letter h.0 in absurd (omega (arith, e))
@@ -203,13 +203,13 @@ module _ (args : List (List ℕ)) (first : List ℕ) (words prefix back : List (
 pub only_remap : (words : List (List ℕ)) → ((inputs : List Input) (output : List ℕ) (options : Options) → IsRemap inputs output options
     (codes "remap" ∷ words) → ⊥)
     → NoTask (codes "remap" ∷ words)
-only_remap words none (Ask Id file) h = let e : 114 ≡ 105 = ap first_letter h.0 in absurd (omega (arith, e))
+only_remap words none (Ask (Id json) file) h = let e : 114 ≡ 105 = ap first_letter h.0 in absurd (omega (arith, e))
 only_remap words none (Ask Verify file) h = let e : 114 ≡ 118 = ap first_letter h.0 in absurd (omega (arith, e))
-only_remap words none (Ask (Show false) file) h = let e : 114 ≡ 115 = ap first_letter h.0 in absurd (omega (arith, e))
-only_remap words none (Ask (Show true) file) h = let e : 114 ≡ 115 = ap first_letter h.0 in absurd (omega (arith, e))
-only_remap words none (Ask (Query method offset) file) h = let e : 114 ≡ 113 = ap first_letter h.0 in absurd (omega (arith, e))
-only_remap words none (Ask Links file) h = let e : 114 ≡ 108 = ap first_letter h.0 in absurd (omega (arith, e))
-only_remap words none (Ask (Breaks document line) file) h = let e : 114 ≡ 98 = ap first_letter h.0 in absurd (omega (arith, e))
+only_remap words none (Ask (Show json) file) h = let e : 114 ≡ 115 = ap first_letter h.0 in absurd (omega (arith, e))
+only_remap words none (Ask (Query method offset json) file) h = let e : 114 ≡ 113 = ap first_letter h.0 in absurd (omega (arith, e))
+only_remap words none (Ask (Links json) file) h = let e : 114 ≡ 108 = ap first_letter h.0 in absurd (omega (arith, e))
+only_remap words none (Ask (Breaks document line json) file) h = let e : 114 ≡ 98 = ap first_letter h.0 in absurd (omega (arith, e))
+only_remap words none (Lookup file list json) h = let e : 114 ≡ 108 = ap first_letter h.0 in absurd (omega (arith, e))
 only_remap words none (Rebuild input output options) h = let e : 109 ≡ 98 = ap third_letter h.1 in absurd (omega (arith, e))
 only_remap words none (Compose first second output) h = let e : 114 ≡ 99 = ap first_letter h.0 in absurd (omega (arith, e))
 only_remap words none (Sample n) h = let e : 114 ≡ 115 = ap first_letter h.0 in absurd (omega (arith, e))

@@ -1,5 +1,5 @@
 -- What is asked for has an outcome.
-use Rattle.std.proofs.Common.{ℕ, ◌≡◌, ◌+◌, ◌≤◌, inl, inr, List, [], ◌∷◌, length, take, drop, Option, Some, None, Result, Ok, Err, refl, sym, ap}
+use Rattle.std.proofs.Common.{ℕ, ◌≡◌, ◌+◌, ◌≤◌, inl, inr, Bool, List, [], ◌∷◌, length, take, drop, Option, Some, None, Result, Ok, Err, refl, sym, ap}
 use Rattle.std.specs.Prelude.{MatchOption}
 use Rattle.std.proofs.lemmas.Bool.{cases_lt}
 use Rattle.ppdb_base.specs.declared.code.Code.TheVariants.{StreamBounds}
@@ -24,7 +24,11 @@ use Rattle.ppdb_merge.specs.declared.trace.Trace.{Trace}
 use Rattle.ppdb_merge.specs.Refusals.{added}
 use Rattle.ppdb_merge.specs.Together.{joined_of}
 use Rattle.ppdb_run.specs.Outcome.{Step, all_joined, file_at, fitting, in_limits, judged, map_in, no_map, with_input, with_inputs, with_texts}
-use Rattle.ppdb_run.specs.Words.{Input, Options, Task, Ask, Rebuild, Compose, Merge, Sample}
+use Rattle.std.specs.Str.Lines.{lines}
+use Rattle.ppdb_queries_list.proofs.Lists.{lists_are_judged}
+use Rattle.ppdb_show.specs.Lookup.{lookup_text_of}
+use Rattle.ppdb_run.specs.Outcome.{done, form_of, listed, looked_up, unlisted}
+use Rattle.ppdb_run.specs.Words.{Input, Options, Task, Ask, Lookup, Rebuild, Compose, Merge, Sample}
 use Rattle.ppdb_run.proofs.MapSteps.{some_composed}
 
 -- what a stream of a kind is: that it is not listed, or the slice that is
@@ -139,6 +143,20 @@ some_merged inputs output options files =
     (λ traces. some_then (gives (all_joined inputs (joined_of traces))) (λ value. gives (in_limits output options value))
     (some_given (all_joined inputs (joined_of traces))) (λ value. some_given (in_limits output options value)))
 
+some_listed : (name text : List ℕ) → GivesSome (listed name text)
+some_listed name text none = lists_are_judged (lines text) (λ asked is. none (Ok asked) is) (λ n other. none (Err (unlisted name n)) (n, other, refl))
+
+some_lookup : (file list : List ℕ) (json : Bool) (files : Files) → GivesSome (steps_of (Lookup file list json) files)
+some_lookup file list json files =
+    some_then (file_at files file)
+    (λ bytes. file_at files list >>= λ text. judged file (FileFaults bytes) (IsRawOf bytes) >>= λ raw. looked_up (form_of json) list raw text)
+    (some_given (input_of file (reading files file MAX_FILE_BYTES)))
+    (λ bytes. some_then (file_at files list) (λ text. judged file (FileFaults bytes) (IsRawOf bytes) >>= λ raw. looked_up (form_of json) list raw text)
+    (some_given (input_of list (reading files list MAX_FILE_BYTES)))
+    (λ text. some_then (judged file (FileFaults bytes) (IsRawOf bytes)) (λ raw. looked_up (form_of json) list raw text) (some_judged file bytes)
+    (λ raw. some_then (listed list text) (λ asked. gives (done (lookup_text_of (form_of json) raw asked))) (some_listed list text)
+    (λ asked. some_given (done (lookup_text_of (form_of json) raw asked))))))
+
 ends : (task : Task) (files : Files) (r : Result Outcome Outcome) → steps_of task files r → IsOutcome (Some task) files (outcome_of r)
 ends task files (Ok answer) h = inl h
 ends task files (Err refusal) h = inr h
@@ -147,6 +165,8 @@ pub has_due : (asked : Option Task) (files : Files) → HasDue asked files
 has_due None files none = none usage refl
 has_due (Some (Ask question file)) files none =
     over_file (answer_of question file) file files (IsOutcome (Some (Ask question file)) files) (ends (Ask question file) files) none
+has_due (Some (Lookup file list json)) files none =
+    some_lookup file list json files (λ r h. none (outcome_of r) (ends (Lookup file list json) files r h))
 has_due (Some (Rebuild input output options)) files none =
     over_file (λ raw. rebuilt input output options (value_of raw)) input files (IsOutcome (Some (Rebuild input output options)) files)
     (ends (Rebuild input output options) files) none

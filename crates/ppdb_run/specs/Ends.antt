@@ -11,12 +11,16 @@ use Rattle.ppdb_run.specs.Lines.{read_fault_line, write_fault_line}
 use Rattle.ppdb_run.specs.Outcome.{Outcome, IsOutcome, file_at, map_at, unknown_kind, verified, with_input, written}
 use Rattle.ppdb_merge.specs.declared.trace.Trace.{Trace}
 use Rattle.ppdb_run.specs.Status.{UnlessFault}
-use Rattle.ppdb_run.specs.Words.{Question, Id, Verify, Query, Links, Breaks, Options, Task, Ask, Rebuild, Compose, Merge, Sample, Input, Words}
+use Rattle.ppdb_run.specs.Words.{Question, Id, Verify, Query, Links, Breaks, Options, Task, Ask, Lookup, Rebuild, Compose, Merge, Sample, Input, Words}
 use Rattle.ppdb_run.specs.Words.{NoTask, read_files, written_file}
 use Rattle.ppdb_run.specs.Writes.{WritesAll, WritesPrefix}
 use Rattle.ppdb_maps.specs.Map.{Map}
 use Rattle.ppdb_maps.specs.Text.{IsMapOf}
+use Rattle.std.specs.Str.Lines.{lines}
+use Rattle.ppdb_queries_list.specs.Lists.{Lists}
+use Rattle.ppdb_queries_list.specs.declared.line.MethodOffset.{MethodOffset}
 use Rattle.ppdb_show.specs.Bound.{query_rows}
+use Rattle.ppdb_show.specs.Lookup.{lookup_rows}
 use Rattle.ppdb_queries.specs.Digits.{digits}
 use Rattle.ppdb_queries.specs.Runs.{customs_at}
 use Rattle.ppdb_tables.specs.RawTables.{count}
@@ -34,6 +38,7 @@ Asks words None = NoTask words
 abbrev pub IsApart : Option Task → Type 0
 IsApart None = Unit {0}
 IsApart (Some (Ask question file)) = ⊥
+IsApart (Some (Lookup file list json)) = ⊥
 IsApart (Some (Rebuild input output options)) = ⊥
 IsApart (Some (Compose first second output)) = ⊥
 IsApart (Some (Merge inputs output options)) = ⊥
@@ -76,6 +81,7 @@ ComesToInput files marks traces (input ∷ inputs) read =
 -- the task comes to its read of this number, from 0: nothing that comes before is refused
 abbrev pub ComesToRead : Task → Files → ℕ → Type 0
 ComesToRead (Ask question file) files read = read ≡ 0
+ComesToRead (Lookup file list json) files read = (read ≡ 0) ⊎ ((read ≡ 1) × ((bytes : List ℕ) × file_at files file (Ok bytes)))
 ComesToRead (Rebuild input output options) files read = read ≡ 0
 ComesToRead (Compose first second output) files read = (read ≡ 0) ⊎ ((read ≡ 1) × ((m : Map) × map_at files first (Ok m)))
 ComesToRead (Merge inputs output options) files read = ComesToInput files options.marks [] inputs read
@@ -193,13 +199,14 @@ WritesAgain asked due = Unit {0}
 
 -- the verifier reads all that the answer needs
 abbrev pub ReadsNoRows : Question → Type 0
-ReadsNoRows Id = Unit {0}
+ReadsNoRows (Id json) = Unit {0}
 ReadsNoRows Verify = Unit {0}
 ReadsNoRows question = ⊥
 
 -- it reads all that the task needs
 abbrev pub NeedsNoRows : Task → Type 0
 NeedsNoRows (Ask question file) = ReadsNoRows question
+NeedsNoRows (Lookup file list json) = ⊥
 NeedsNoRows (Rebuild input output options) = ⊥
 NeedsNoRows (Compose first second output) = Unit {0}
 NeedsNoRows (Merge inputs output options) = ⊥
@@ -207,21 +214,30 @@ NeedsNoRows (Sample n) = ⊥
 
 -- so many rows were counted before the answer and after it: to a query, of links and of breaks no more than its bound
 abbrev pub IsWithinBound : Question → RawFile → ℕ → ℕ → Type 0
-IsWithinBound (Query method offset) raw before after = after ≤ before + query_rows raw.tables method offset
-IsWithinBound Links raw before after =
+IsWithinBound (Query method offset json) raw before after = after ≤ before + query_rows raw.tables method offset
+IsWithinBound (Links json) raw before after =
     after ≤ before + 2 * digits (length raw.tables.customs) + length (customs_at raw.tables module_row) + count raw.tables 0x30
-IsWithinBound (Breaks document line) raw before after = after ≤ before + count raw.tables 0x30 + length raw.tables.methods
+IsWithinBound (Breaks document line json) raw before after = after ≤ before + count raw.tables 0x30 + length raw.tables.methods
 IsWithinBound question raw before after = Unit {0}
 
 -- P holds of the question and of what its file is read as, where the folder reports it and it is valid
 abbrev pub OnRead : Task → Option Files → (Question → RawFile → Type 0) → Type 0
 OnRead (Ask question file) files P = IfSome files (λ all. (raw : RawFile) → verified all file (Ok raw) → P question raw)
+OnRead (Lookup file list json) files P = Unit {0}
 OnRead (Rebuild input output options) files P = Unit {0}
 OnRead (Compose first second output) files P = Unit {0}
 OnRead (Merge inputs output options) files P = Unit {0}
 OnRead (Sample n) files P = Unit {0}
 
--- so many rows were counted before the task and after it: it reads none that it has no need of, and no more than its bound
+-- P holds of what the file of a lookup is read as and of what its list asks, where the folder reports both, and both are valid
+abbrev pub OnLookup : Task → Option Files → (RawFile → List MethodOffset → Type 0) → Type 0
+OnLookup (Lookup file list json) files P = IfSome files (λ all. (raw : RawFile) → verified all file (Ok raw)
+    → (text : List ℕ) → file_at all list (Ok text) → (asked : List MethodOffset) → Lists (lines text) asked → P raw asked)
+OnLookup task files P = Unit {0}
+
+-- so many rows were counted before the task and after it: it reads none that it has no need of, and no more than its bound, which
+-- for a lookup is that of the queries of all that the list asks
 pub record IsWithinRows (task : Task) (files : Option Files) (before after : ℕ) : Type 0 where
   pub none : NeedsNoRows task → after ≡ before
   pub bound : OnRead task files (λ question raw. IsWithinBound question raw before after)
+  pub listed : OnLookup task files (λ raw asked. after ≤ before + lookup_rows raw.tables asked)

@@ -32,6 +32,10 @@ write_fault_line name = text_of (about (codes "write fault") name [])
 abbrev pub refused_line : List ℕ → Fault → Line
 refused_line name fault = about (codes "refused") name (fault_fields fault)
 
+-- the first line of a list's text, by its number, that a list cannot have
+abbrev pub list_line : List ℕ → ℕ → Line
+list_line name n = about (codes "list") name (said (codes " line ") (number n) ∷ [])
+
 -- ---- maps, and files that are rewritten by them
 
 -- a line of a map's text, and the number of the rule that it breaks
@@ -100,9 +104,6 @@ sample_text n report =
     ++ (text_of (told_line (codes "remapped bytes") (number report.remapped_bytes)) ++ text_of (told_line (codes "remapped id") (octets report.remapped_id))))
 
 -- ---- questions about a file
-
-abbrev pub no_method_line : ℕ → Line
-no_method_line method = record { word = codes "no method"; fields = said (codes " ") (number method) ∷ [] }
 
 -- why a Source Link record gives no addresses
 abbrev pub link_fields : LinkError → List Field

@@ -1,5 +1,5 @@
 -- What a command comes to over the files: a status, a text, and at most one file that is written.
-use Rattle.std.specs.Prelude.{ℕ, ◌≡◌, ◌<◌, ◌≤◌, ◌⊎◌, List, [], ◌∷◌, Bool, true, false, ◌&&◌, if◌then◌else◌, nat_le, find, Option, Some, None, option_map}
+use Rattle.std.specs.Prelude.{ℕ, ◌≡◌, ◌<◌, ◌≤◌, ◌⊎◌, List, [], ◌∷◌, Bool, true, false, if◌then◌else◌, find, Option, Some, None, option_map}
 use Rattle.std.specs.Prelude.{Result, Ok, Err, codes, length}
 use Rattle.custom_info.specs.Kinds.{kind_of}
 use Rattle.ppdb_base.specs.declared.code.Code.{Code}
@@ -14,14 +14,19 @@ use Rattle.ppdb_base.specs.declared.limits.TheConstants.{MAX_FILE_BYTES}
 use Rattle.ppdb_base.specs.First.{IsAccepted, IsFirst}
 use Rattle.ppdb_run.specs.declared.status.Status.{Status}
 use Rattle.ppdb_run.specs.declared.status.Status.TheVariants as statuses
-use Rattle.ppdb_show_lines.specs.declared.form.Form.TheVariants.{Text}
+use Rattle.std.specs.Str.Lines.{lines}
+use Rattle.ppdb_queries_list.specs.Lists.{IsFirstOther, Lists}
+use Rattle.ppdb_queries_list.specs.declared.line.MethodOffset.{MethodOffset}
+use Rattle.ppdb_show_lines.specs.declared.form.Form.{Form}
+use Rattle.ppdb_show_lines.specs.declared.form.Form.TheVariants.{Text, Json}
 use Rattle.ppdb_show_lines.specs.Forms.{lines_as}
 use Rattle.ppdb_show_lines.specs.Heads.{id_line, entry_line}
 use Rattle.ppdb_show_lines.specs.Lines.{Line, text_of}
 use Rattle.ppdb_show_lines.specs.Pieces.{line}
 use Rattle.ppdb_run.specs.Lines.{about, usage_line, refused_line, map_line, unfit_line, limit_text, map_limit_text}
-use Rattle.ppdb_run.specs.Lines.{no_method_line, links_line, sizes_line, sample_text}
-use Rattle.ppdb_run.specs.Words.{Question, Id, Verify, Show, Query, Links, Breaks, Options, Input, Task, Ask, Rebuild, Compose, Merge, Sample}
+use Rattle.ppdb_run.specs.Lines.{list_line, links_line, sizes_line, sample_text}
+use Rattle.ppdb_show.specs.Lookup.{has_method, lookup_text_of, no_method_line}
+use Rattle.ppdb_run.specs.Words.{Question, Id, Verify, Show, Query, Links, Breaks, Options, Input, Task, Ask, Lookup, Rebuild, Compose, Merge, Sample}
 use Rattle.ppdb_merge_fits.specs.Clashes.{is_unknown}
 use Rattle.ppdb_merge.specs.declared.trace.Trace.{Trace}
 use Rattle.ppdb_merge.specs.Refusals.{added}
@@ -39,12 +44,12 @@ use Rattle.source_link.specs.declared.pair.Pair.{Pair}
 use Rattle.ppdb_show_sources.specs.Links.{file_links, link_text}
 use Rattle.ppdb_show_sources.specs.Breaks.{break_text}
 use Rattle.break_lines.specs.Breaks.{document_named}
-use Rattle.ppdb_show.specs.Show.{show_text_of, show_json_of}
+use Rattle.ppdb_show.specs.Show.{show_text_of}
 use Rattle.ppdb_build_canon.specs.declared.choice.IdChoice.{IdChoice}
 use Rattle.ppdb_build_canon.specs.declared.choice.IdChoice.TheVariants.{Hash, Keep}
 use Rattle.ppdb_build_canon.specs.Canon.{canon}
 use Rattle.ppdb_build_canon.specs.Limits.{first_limit}
-use Rattle.ppdb_tables.specs.RawTables.{count, numbered, row_at}
+use Rattle.ppdb_tables.specs.RawTables.{numbered, row_at}
 use Rattle.ppdb_values.specs.declared.file.FileValue.{FileValue}
 use Rattle.ppdb_values.specs.Value.{value_of}
 use Rattle.ppdb_values.specs.RawFile.{RawFile}
@@ -97,6 +102,9 @@ unlinked name error = tells statuses.Unlinked (links_line name error)
 
 abbrev pub no_document : List ℕ → Outcome
 no_document name = tells statuses.NoDocument (about (codes "no document") name [])
+
+abbrev pub unlisted : List ℕ → ℕ → Outcome
+unlisted name n = tells statuses.Unlisted (list_line name n)
 
 abbrev pub sizes_differ : ℕ → ℕ → ℕ → Outcome
 sizes_differ method first second = tells statuses.Uncomposed (sizes_line method first second)
@@ -151,33 +159,51 @@ map_at files name = do
 
 -- ---- the commands
 
-abbrev pub id_text : RawFile → List ℕ
-id_text raw = lines_as Text (id_line raw.id ∷ entry_line raw.entry ∷ [])
+-- what an answer is put as
+abbrev pub form_of : Bool → Form
+form_of true = Json
+form_of false = Text
+
+abbrev pub id_text : Form → RawFile → List ℕ
+id_text form raw = lines_as form (id_line raw.id ∷ entry_line raw.entry ∷ [])
 
 -- a text is the answer
 abbrev pub done : List ℕ → Result Outcome Outcome
 done text = Ok (prints statuses.Done text)
 
 -- the addresses of the documents, where the Source Link record gives some
-abbrev pub links_answer : List ℕ → FileValue → Result (List Pair) LinkError → Result Outcome Outcome
-links_answer file value (Ok pairs) = done (link_text value pairs)
-links_answer file value (Err error) = Err (unlinked file error)
+abbrev pub links_answer : Form → List ℕ → FileValue → Result (List Pair) LinkError → Result Outcome Outcome
+links_answer form file value (Ok pairs) = done (link_text form value pairs)
+links_answer form file value (Err error) = Err (unlinked file error)
 
 -- the breaks of a line, where there is such a document
-abbrev pub breaks_answer : List ℕ → ℕ → FileValue → Option ℕ → Result Outcome Outcome
-breaks_answer document line value None = Err (no_document document)
-breaks_answer document line value (Some row) = done (break_text value row line)
+abbrev pub breaks_answer : Form → List ℕ → ℕ → FileValue → Option ℕ → Result Outcome Outcome
+breaks_answer form document line value None = Err (no_document document)
+breaks_answer form document line value (Some row) = done (break_text form value row line)
 
 -- what the answer to a question about a file is: a text, or why there is none
 abbrev pub answer_of : Question → List ℕ → RawFile → Result Outcome Outcome
-answer_of Id file raw = done (id_text raw)
+answer_of (Id json) file raw = done (id_text (form_of json) raw)
 answer_of Verify file raw = done (line (codes "accepted"))
-answer_of (Show false) file raw = done (show_text_of raw)
-answer_of (Show true) file raw = done (show_json_of raw)
-answer_of (Query method offset) file raw =
-    if nat_le 1 method && nat_le method (count raw.tables 0x06) then done (query_text_of raw method offset) else Err (no_method method)
-answer_of Links file raw = links_answer file (value_of raw) (file_links (value_of raw))
-answer_of (Breaks document line) file raw = breaks_answer document line (value_of raw) (document_named (value_of raw) document)
+answer_of (Show json) file raw = done (show_text_of (form_of json) raw)
+answer_of (Query method offset json) file raw =
+    if has_method raw.tables method then done (query_text_of (form_of json) raw method offset) else Err (no_method method)
+answer_of (Links json) file raw = links_answer (form_of json) file (value_of raw) (file_links (value_of raw))
+answer_of (Breaks document line json) file raw =
+    breaks_answer (form_of json) document line (value_of raw) (document_named (value_of raw) document)
+
+-- ---- the questions of a list
+
+-- what a list's text asks; else its first line that a list cannot have
+abbrev pub listed : List ℕ → List ℕ → Step (List MethodOffset)
+listed name text (Ok asked) = Lists (lines text) asked
+listed name text (Err refusal) = (n : ℕ) × IsFirstOther (lines text) n × (refusal ≡ unlisted name n)
+
+-- the answers to all that a list asks of a file
+abbrev pub looked_up : Form → List ℕ → RawFile → List ℕ → Step Outcome
+looked_up form name raw text = do
+  asked ← listed name text
+  gives (done (lookup_text_of form raw asked))
 
 -- ---- a file that is written anew
 
@@ -277,6 +303,11 @@ abbrev pub steps_of : Task → Files → Step Outcome
 steps_of (Ask question file) files = do
   raw ← verified files file
   gives (answer_of question file raw)
+steps_of (Lookup file list json) files = do
+  bytes ← file_at files file
+  text ← file_at files list
+  raw ← judged file (FileFaults bytes) (IsRawOf bytes)
+  looked_up (form_of json) list raw text
 steps_of (Rebuild input output options) files = do
   raw ← verified files input
   gives (rebuilt input output options (value_of raw))
@@ -291,10 +322,14 @@ steps_of (Merge inputs output options) files = do
   gives (in_limits output options value)
 steps_of (Sample n) files = gives (sampled n)
 
+-- an outcome that steps come to
+abbrev pub IsEnd : Step Outcome → Outcome → Type 0
+IsEnd steps due = steps (Ok due) ⊎ steps (Err due)
+
 -- the outcome of a task, or of words that are no task's
 abbrev pub IsOutcome : Option Task → Files → Outcome → Type 0
 IsOutcome None files due = due ≡ usage
-IsOutcome (Some task) files due = steps_of task files (Ok due) ⊎ steps_of task files (Err due)
+IsOutcome (Some task) files due = IsEnd (steps_of task files) due
 
 -- what is asked for has an outcome over the files: it cannot be that none is one
 abbrev pub HasDue : Option Task → Files → Type 0

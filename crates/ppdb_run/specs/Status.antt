@@ -2,7 +2,7 @@
 use Rattle.std.specs.Prelude.{ℕ}
 use Rattle.ppdb_run.specs.declared.status.Status.{Status}
 use Rattle.ppdb_run.specs.declared.status.Status.TheVariants.{Done, Refused, Usage, ReadFault, WriteFault, Memory, Absent, TooLong, Unfit, Limit}
-use Rattle.ppdb_run.specs.declared.status.Status.TheVariants.{NoMethod, Unlinked, NoDocument, Uncomposed}
+use Rattle.ppdb_run.specs.declared.status.Status.TheVariants.{NoMethod, Unlinked, NoDocument, Uncomposed, Unlisted}
 
 abbrev pub status_number : Status → ℕ
 status_number Done = 0
@@ -19,6 +19,7 @@ status_number NoMethod = 10
 status_number Unlinked = 11
 status_number NoDocument = 12
 status_number Uncomposed = 13
+status_number Unlisted = 14
 
 -- P holds, unless something outside failed or there was no memory left
 abbrev pub UnlessFault : Status → Type 0 → Type 0

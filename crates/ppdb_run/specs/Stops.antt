@@ -1,5 +1,5 @@
 -- What ends a run before its answer: why, and what holds then.
-use Rattle.std.specs.Prelude.{ℕ, List, [], Option, Some, None, Result, Ok, Err, IfSome, ◌≡◌, ◌≤◌, ◌⊎◌}
+use Rattle.std.specs.Prelude.{ℕ, List, [], Option, Some, None, Result, Ok, Err, IfErr, IfSome, OnOk, ◌≡◌, ◌≤◌, ◌⊎◌}
 use Rattle.ppdb_base.specs.declared.link_error.LinkError.TheVariants as link_errors
 use Rattle.ppdb_base.specs.declared.merge_error.MergeError.TheVariants as merge_errors
 use Rattle.ppdb_base.specs.declared.sink.WriteError.{WriteError}
@@ -13,8 +13,8 @@ use Rattle.ppdb_run.specs.declared.stop.Stop.{Stop}
 use Rattle.ppdb_run.specs.declared.stop.Stop.TheVariants as stops
 use Rattle.ppdb_run.specs.Ends.{Asks, AreSeen}
 use Rattle.ppdb_run.specs.Lines.{read_fault_line, write_fault_line}
-use Rattle.ppdb_run.specs.Outcome.{Outcome, Step, IsOutcome, usage, absent, too_long, refused, no_map, unfit, limited, map_limited}
-use Rattle.ppdb_run.specs.Outcome.{no_method, unlinked, no_document, sizes_differ}
+use Rattle.ppdb_run.specs.Outcome.{Outcome, Step, IsEnd, IsOutcome, usage, absent, too_long, refused, no_map, unfit, limited, map_limited}
+use Rattle.ppdb_run.specs.Outcome.{no_method, unlinked, no_document, sizes_differ, unlisted}
 use Rattle.ppdb_run.specs.Words.{Task}
 use Rattle.ppdb_run.specs.Writes.{WritesAll, WritesPrefix}
 
@@ -48,6 +48,7 @@ cause_of (stops.Unlinked name link_errors.Memory) = OutOfMemory
 cause_of (stops.Unlinked name error) = Refusal (unlinked name.now error)
 cause_of (stops.NoDocument name) = Refusal (no_document name.now)
 cause_of (stops.SizesDiffer method first second) = Refusal (sizes_differ method first second)
+cause_of (stops.Unlisted name line) = Refusal (unlisted name.now line)
 cause_of stops.Sink = Unput
 cause_of stops.Memory = OutOfMemory
 
@@ -144,6 +145,14 @@ FindsOutcome words files result = (asked : Option Task) → Asks words asked →
 abbrev pub Leaves : {T : Type 0} → Result T Stop → Option (List ℕ × List ℕ) → Option Files → Option Files → Type 0
 Leaves (Ok _) writes old new = WritesAll writes old new
 Leaves (Err stop) writes old new = LeavesAt (cause_of stop) writes old new
+
+-- steps were carried out, and come to an outcome: they were done, or stopped at it, and its text was put
+pub record Delivers {T : Type 0} (steps : Step Outcome) (result : Result T Stop) (old new : Option (List ℕ)) : Type 0 where
+  pub due : Outcome
+  pub is : IsEnd steps due
+  pub told : Settles result due
+  pub text : OnOk result (new ≡ appended old due.text)
+  pub cut : IfErr result (λ stop. OnCut (cause_of stop) (AppendsPrefix old new due.text))
 
 -- a line says why a run stopped, and the status is that of the stop or of a failed put
 pub data Tells (cause : Cause) (status : Status) (before after : ℕ) (old new : Option (List ℕ)) : Type 0 where

@@ -1,5 +1,5 @@
 -- A command as it is asked for.
-use Rattle.std.specs.Prelude.{ℕ, ◌≡◌, ◌&&◌, true, false, List, [], ◌∷◌, ◌++◌, drop, Option, Some, None, codes, if◌then◌else◌}
+use Rattle.std.specs.Prelude.{ℕ, ◌≡◌, ◌&&◌, Bool, false, List, [], ◌∷◌, ◌++◌, drop, Option, Some, None, codes, if◌then◌else◌}
 use Rattle.std.specs.Fmt.{decimal}
 use Rattle.std.specs.List.{prefix_len, take_while}
 use Rattle.std.specs.Str.{bytes_eq}
@@ -11,20 +11,29 @@ use Rattle.ppdb_run.specs.declared.options.Options.{Options as Given}
 use Rattle.ppdb_run.specs.declared.inputs.Inputs.{Inputs}
 use Rattle.ppdb_run.specs.declared.inputs.Pair.{Pair}
 use Rattle.ppdb_run.specs.declared.inputs.Inputs.TheVariants as inputs
-use Rattle.ppdb_run.specs.declared.words.Asked.{Asked}
-use Rattle.ppdb_run.specs.declared.words.Asked.TheVariants as asked
-use Rattle.ppdb_run.specs.declared.words.Command.{Command}
-use Rattle.ppdb_run.specs.declared.words.Command.TheVariants as commands
-use Rattle.ppdb_run.specs.Words.{Question, Id, Verify, Show, Query, Links, Breaks, Options, Input, Task, Ask, Rebuild, Compose, Merge, Sample}
-use Rattle.ppdb_run.specs.Words.{is_file_word, texts}
+use Rattle.ppdb_run.specs.declared.command.Asked.{Asked}
+use Rattle.ppdb_run.specs.declared.command.Asked.TheVariants as asked
+use Rattle.ppdb_run.specs.declared.command.Command.{Command}
+use Rattle.ppdb_run.specs.declared.command.Command.TheVariants as commands
+use Rattle.ppdb_run.specs.Words.{Question, Id, Verify, Show, Query, Links, Breaks, Options, Input, Task, Ask, Lookup, Rebuild, Compose, Merge, Sample}
+use Rattle.ppdb_run.specs.Words.{is_file_word, json_words, texts}
 
 abbrev pub question_of : GivenQuestion → Question
-question_of questions.Id = Id
+question_of (questions.Id json) = Id json
 question_of questions.Verify = Verify
 question_of (questions.Show json) = Show json
-question_of (questions.Query method offset) = Query method offset
-question_of questions.Links = Links
-question_of (questions.Breaks document line) = Breaks document.now line
+question_of (questions.Query method offset json) = Query method offset json
+question_of (questions.Links json) = Links json
+question_of (questions.Breaks document line json) = Breaks document.now line json
+
+-- whether a question's answer is put as objects of JSON
+abbrev pub json_of : Question → Bool
+json_of (Id json) = json
+json_of Verify = false
+json_of (Show json) = json
+json_of (Query method offset json) = json
+json_of (Links json) = json
+json_of (Breaks document line json) = json
 
 -- the words after the first one, which is a GUID
 abbrev pub IsBehindGuid : List (List ℕ) → List (List ℕ) → Type 0
@@ -69,6 +78,7 @@ inputs_of (inputs.Pairs words) = pairs_of (texts words.now)
 -- what a command asks for, without where its words lie in memory
 abbrev pub asked_task : Asked → Task
 asked_task (asked.Ask question file) = Ask (question_of question) file.now
+asked_task (asked.Lookup file list json) = Lookup file.now list.now json
 asked_task (asked.Rebuild input output options) = Rebuild input.now output.now (options_of options)
 asked_task (asked.Compose first second output) = Compose first.now second.now output.now
 asked_task (asked.Merge inputs output options) = Merge (inputs_of inputs) output.now (options_of options)
@@ -76,12 +86,13 @@ asked_task (asked.Sample n) = Sample n
 
 -- a command without where its words lie in memory
 abbrev pub task_of : Command → Task
-task_of (commands.Id file) = Ask Id file.now
+task_of (commands.Id file json) = Ask (Id json) file.now
 task_of (commands.Verify file) = Ask Verify file.now
 task_of (commands.Show file json) = Ask (Show json) file.now
-task_of (commands.Query file method offset) = Ask (Query method offset) file.now
-task_of (commands.Links file) = Ask Links file.now
-task_of (commands.Breaks file document line) = Ask (Breaks document.now line) file.now
+task_of (commands.Query file method offset json) = Ask (Query method offset json) file.now
+task_of (commands.Links file json) = Ask (Links json) file.now
+task_of (commands.Breaks file document line json) = Ask (Breaks document.now line json) file.now
+task_of (commands.Lookup file list json) = Lookup file.now list.now json
 task_of (commands.Rebuild input output options) = Rebuild input.now output.now (options_of options)
 task_of (commands.Compose first second output) = Compose first.now second.now output.now
 task_of (commands.Remap input map_file output options) = Merge (record { file = input.now; map_file = map_file.now } ∷ []) output.now (options_of options)
@@ -90,13 +101,13 @@ task_of (commands.Sample n) = Sample n
 
 -- the words of a command
 abbrev pub words_of : Command → List (List ℕ)
-words_of (commands.Id file) = codes "id" ∷ file.now ∷ []
+words_of (commands.Id file json) = codes "id" ∷ file.now ∷ json_words json
 words_of (commands.Verify file) = codes "verify" ∷ file.now ∷ []
-words_of (commands.Show file false) = codes "show" ∷ file.now ∷ []
-words_of (commands.Show file true) = codes "show" ∷ file.now ∷ codes "--json" ∷ []
-words_of (commands.Query file method offset) = codes "query" ∷ file.now ∷ decimal method ∷ decimal offset ∷ []
-words_of (commands.Links file) = codes "links" ∷ file.now ∷ []
-words_of (commands.Breaks file document line) = codes "breaks" ∷ file.now ∷ document.now ∷ decimal line ∷ []
+words_of (commands.Show file json) = codes "show" ∷ file.now ∷ json_words json
+words_of (commands.Query file method offset json) = codes "query" ∷ file.now ∷ decimal method ∷ decimal offset ∷ json_words json
+words_of (commands.Links file json) = codes "links" ∷ file.now ∷ json_words json
+words_of (commands.Breaks file document line json) = codes "breaks" ∷ file.now ∷ document.now ∷ decimal line ∷ json_words json
+words_of (commands.Lookup file list json) = codes "lookup" ∷ file.now ∷ list.now ∷ json_words json
 words_of (commands.Rebuild input output options) = codes "rebuild" ∷ input.now ∷ output.now ∷ texts options.words.now
 words_of (commands.Compose first second output) = codes "compose" ∷ first.now ∷ second.now ∷ output.now ∷ []
 words_of (commands.Remap input map_file output options) = codes "remap" ∷ input.now ∷ map_file.now ∷ output.now ∷ texts options.words.now

@@ -26,12 +26,12 @@ is_name_word word = true
 
 -- what is asked of one file, whose answer is a text
 pub data Question : Type 0 where
-  Id : Question
+  Id : (json : Bool) → Question
   Verify : Question
   Show : (json : Bool) → Question
-  Query : (method offset : ℕ) → Question
-  Links : Question
-  Breaks : (document : List ℕ) → (line : ℕ) → Question
+  Query : (method offset : ℕ) → (json : Bool) → Question
+  Links : (json : Bool) → Question
+  Breaks : (document : List ℕ) → (line : ℕ) → (json : Bool) → Question
 
 -- how a file is written
 pub record Options : Type 0 where
@@ -54,6 +54,8 @@ input_words (input ∷ inputs) = input.file ∷ input.map_file ∷ input_words i
 pub data Task : Type 0 where
   -- a question about a file
   Ask : (question : Question) → (file : List ℕ) → Task
+  -- the questions of a list about a file
+  Lookup : (file list : List ℕ) → (json : Bool) → Task
   -- the canonical file of a file
   Rebuild : (input output : List ℕ) → (options : Options) → Task
   -- the map of two maps
@@ -66,6 +68,7 @@ pub data Task : Type 0 where
 -- the files that a task reads, in the order of its words and as often as they are named
 abbrev pub read_files : Task → List (List ℕ)
 read_files (Ask question file) = file ∷ []
+read_files (Lookup file list json) = file ∷ list ∷ []
 read_files (Rebuild input output options) = input ∷ []
 read_files (Compose first second output) = first ∷ second ∷ []
 read_files (Merge inputs output options) = input_words inputs
@@ -74,6 +77,7 @@ read_files (Sample n) = []
 -- the file that a task writes, if any
 abbrev pub written_file : Task → Option (List ℕ)
 written_file (Ask question file) = None
+written_file (Lookup file list json) = None
 written_file (Rebuild input output options) = Some output
 written_file (Compose first second output) = Some output
 written_file (Merge inputs output options) = Some output
@@ -82,6 +86,15 @@ written_file (Sample n) = None
 -- the words are one that names a file
 abbrev pub IsFileAlone : List ℕ → List (List ℕ) → Type 0
 IsFileAlone file words = (words ≡ file ∷ []) × IsTrue (is_file_word file)
+
+-- the last word of a command whose answer is put as objects of JSON
+abbrev pub json_words : Bool → List (List ℕ)
+json_words true = codes "--json" ∷ []
+json_words false = []
+
+-- the words are one that names a file, and --json where JSON is asked for
+abbrev pub IsFileInForm : List ℕ → Bool → List (List ℕ) → Type 0
+IsFileInForm file json words = (words ≡ file ∷ json_words json) × IsTrue (is_file_word file)
 
 -- the words of options: any list of --keep-id and of --free with a GUID after it
 pub data AreOptions : List (List ℕ) → Options → Type 0 where
@@ -111,15 +124,17 @@ pub record IsMerge (inputs : List Input) (output : List ℕ) (options : Options)
 
 -- the words of a task, one case for each form
 abbrev pub Words : Task → List (List ℕ) → Type 0
-Words (Ask Id file) words = (words ≡ codes "id" ∷ file ∷ []) × IsTrue (is_file_word file)
+Words (Ask (Id json) file) words = (words ≡ codes "id" ∷ file ∷ json_words json) × IsTrue (is_file_word file)
 Words (Ask Verify file) words = (words ≡ codes "verify" ∷ file ∷ []) × IsTrue (is_file_word file)
-Words (Ask (Show false) file) words = (words ≡ codes "show" ∷ file ∷ []) × IsTrue (is_file_word file)
-Words (Ask (Show true) file) words = (words ≡ codes "show" ∷ file ∷ codes "--json" ∷ []) × IsTrue (is_file_word file)
-Words (Ask (Query method offset) file) words =
-    (words ≡ codes "query" ∷ file ∷ decimal method ∷ decimal offset ∷ []) × IsTrue (is_file_word file) × (method ≤ MAX_ROWS) × (offset ≤ MAX_OFFSET)
-Words (Ask Links file) words = (words ≡ codes "links" ∷ file ∷ []) × IsTrue (is_file_word file)
-Words (Ask (Breaks document line) file) words =
-    (words ≡ codes "breaks" ∷ file ∷ document ∷ decimal line ∷ []) × IsTrue (is_file_word file) × IsTrue (is_name_word document) × (line ≤ MAX_LINE)
+Words (Ask (Show json) file) words = (words ≡ codes "show" ∷ file ∷ json_words json) × IsTrue (is_file_word file)
+Words (Ask (Query method offset json) file) words =
+    (words ≡ codes "query" ∷ file ∷ decimal method ∷ decimal offset ∷ json_words json) × IsTrue (is_file_word file) × (method ≤ MAX_ROWS)
+    × (offset ≤ MAX_OFFSET)
+Words (Ask (Links json) file) words = (words ≡ codes "links" ∷ file ∷ json_words json) × IsTrue (is_file_word file)
+Words (Ask (Breaks document line json) file) words =
+    (words ≡ codes "breaks" ∷ file ∷ document ∷ decimal line ∷ json_words json) × IsTrue (is_file_word file) × IsTrue (is_name_word document)
+    × (line ≤ MAX_LINE)
+Words (Lookup file list json) words = (words ≡ codes "lookup" ∷ file ∷ list ∷ json_words json) × IsTrue (is_file_word file) × IsTrue (is_file_word list)
 Words (Rebuild input output options) words =
     (rest : List (List ℕ)) × (words ≡ codes "rebuild" ∷ input ∷ output ∷ rest) × IsTrue (is_file_word input) × IsTrue (is_file_word output)
     × AreOptions rest options

@@ -14,8 +14,8 @@ use crate::sources::{answer_breaks, answer_links};
 use crate::stop::Stop;
 use crate::verified::read_verified;
 use ppdb_base::{Folder, List, Sink, Steps, WriteError};
-use ppdb_show::{QueryError, query_text, show_json, show_text};
-use ppdb_show_lines::{Form, Printer, put_entry_line, put_id_line};
+use ppdb_show::{QueryError, put_query, put_show};
+use ppdb_show_lines::{Printer, put_entry_line, put_id_line};
 use ppdb_verify::Verified;
 use std::alloc::Global;
 use std::cell::Cell;
@@ -79,37 +79,36 @@ fn put_answer<'a, O: Sink, L: Ledger>(
     ensures none { ReadsNoRows (question_of question.entry) → steps.new ≡ steps.old }
     ensures bound { IsWithinBound (question_of question.entry) (raw_file file.now) steps.old steps.new }
 {
+    let room = Cell::new(Vec::new(alloc));
+    let printer = Printer {
+        alloc,
+        form: question.form(),
+        room: &room,
+    };
     match question {
-        Question::Id => put_id(alloc, out, file)?,
+        Question::Id { .. } => put_id(printer, out, file)?,
         Question::Verify => out.put(b"accepted\n")?,
-        Question::Show { json: false } => show_text(alloc, file, out, steps)?,
-        Question::Show { json: true } => show_json(alloc, file, out, steps)?,
-        Question::Query { method, offset } => {
-            match query_text(alloc, file, method, offset, out, steps) {
+        Question::Show { .. } => put_show(printer, file, out, steps)?,
+        Question::Query { method, offset, .. } => {
+            match put_query(printer, file, method, offset, out, steps) {
                 Ok(()) => {}
                 Err(QueryError::NoMethod) => return Err(Stop::NoMethod(method)),
                 Err(QueryError::Failed) => return Err(Stop::Sink),
                 Err(QueryError::Memory) => return Err(Stop::Memory),
             }
         }
-        Question::Links => return answer_links(alloc, name, file, out, steps),
-        Question::Breaks { document, line } => {
-            return answer_breaks(document, line, file, out, steps);
+        Question::Links { .. } => return answer_links(printer, name, file, out, steps),
+        Question::Breaks { document, line, .. } => {
+            return answer_breaks(printer, document, line, file, out, steps);
         }
     }
     Ok(())
 }
 
 /// Puts the two lines of `id`.
-fn put_id<O: Sink>(alloc: Global, out: &mut O, file: &Verified<'_>) -> Result<(), WriteError>
-    ensures { Puts result (O.written out.old) (O.written out.new) (O.faults out.old) (O.faults out.new) (id_text (raw_file file.now)) }
+fn put_id<O: Sink>(printer: Printer<'_>, out: &mut O, file: &Verified<'_>) -> Result<(), WriteError>
+    ensures { Puts result (O.written out.old) (O.written out.new) (O.faults out.old) (O.faults out.new) (id_text printer.entry.form (raw_file file.now)) }
 {
-    let room = Cell::new(Vec::new(alloc));
-    let printer = Printer {
-        alloc,
-        form: Form::Text,
-        room: &room,
-    };
     file.keeps();
     let head = file.head();
     put_id_line(printer, out, &head.id)?;

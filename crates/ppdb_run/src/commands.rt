@@ -11,13 +11,15 @@ ghost use Rattle.ppdb_run.specs.Stops.{cause_of, Tells, Settles, FindsOutcome, C
 ghost use Rattle.ppdb_run.specs.Words.{Task, Words, NoTask, texts};
 
 use crate::answer::answer;
+use crate::command::Asked;
 use crate::compose::compose;
+use crate::lookup::lookup;
 use crate::merge::merge;
 use crate::rebuild::rebuild;
 use crate::sample::sample;
 use crate::status::Status;
 use crate::stop::Stop;
-use crate::words::{Asked, Usage, read_words};
+use crate::words::{Usage, read_words};
 use ppdb_base::{Folder, Sink, Steps, WriteError};
 use std::alloc::Global;
 use std::sync::ledger::Ledger;
@@ -129,6 +131,9 @@ fn carry_out<'a, F: Folder, O: Sink, K: Ledger, L: Ledger>(
         Ok(command) => match command.asked() {
             Asked::Ask(question, file) => {
                 answer(alloc, question, file, folder, out, checks, steps)
+            }
+            Asked::Lookup(file, list, json) => {
+                lookup(alloc, file, list, json, folder, out, checks, steps)
             }
             Asked::Rebuild(input, output, options) => {
                 rebuild(alloc, input, output, options, folder, checks, steps)

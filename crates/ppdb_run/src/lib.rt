@@ -2,6 +2,7 @@
 #![tactic(auto)]
 
 mod answer;
+mod command;
 mod commands;
 mod compose;
 mod fault;
@@ -10,10 +11,10 @@ mod inputs;
 mod keys;
 pub mod laws;
 mod limit;
+mod lookup;
 mod map;
 mod merge;
 mod merged;
-mod number;
 mod options;
 mod output;
 mod pairs;
@@ -27,7 +28,8 @@ mod unfit;
 mod verified;
 mod words;
 
+pub use command::Command;
 pub use commands::run;
 pub use options::Options;
 pub use status::Status;
-pub use words::{Command, Usage, read_words};
+pub use words::{Usage, read_words};

@@ -1,9 +1,12 @@
 // The answers of where the sources of a file are, and where a debugger may stop.
-ghost use Rattle.std.specs.Prelude.{◌≡◌, ◌≤◌, [], None, OnOk, IfErr};
+ghost use Rattle.std.specs.Prelude.{◌≡◌, ◌≤◌, false, None, OnOk, IfErr};
 ghost use Rattle.ppdb_base.specs.Causes.{Rose};
 ghost use Rattle.ppdb_base.specs.Written.{appended, AppendsPrefix};
+ghost use Rattle.break_lines.specs.Breaks.{document_named as named};
+ghost use Rattle.ppdb_show_sources.specs.Links.{file_links as links_of};
+ghost use Rattle.ppdb_values.specs.Value.{value_of};
 ghost use Rattle.ppdb_run.specs.Ends.{IsWithinBound};
-ghost use Rattle.ppdb_run.specs.Outcome.{answer_of, outcome_of};
+ghost use Rattle.ppdb_run.specs.Outcome.{breaks_answer, links_answer, outcome_of};
 ghost use Rattle.ppdb_run.specs.Stops.{cause_of, Settles, ComesFrom, no_file, OnCut, OnUntold};
 ghost use Rattle.ppdb_run.specs.Words.{Links, Breaks};
 ghost use Rattle.ppdb_verify.specs.Views.{raw_file};
@@ -11,31 +14,34 @@ ghost use Rattle.ppdb_verify.specs.Views.{raw_file};
 use crate::stop::Stop;
 use break_lines::{breaks_at, document_named};
 use ppdb_base::{Sink, Steps};
+use ppdb_show_lines::Printer;
 use ppdb_show_sources::{file_links, put_breaks, put_links};
 use ppdb_verify::Verified;
-use std::alloc::Global;
 use std::sync::ledger::Ledger;
 
 /// Puts the addresses of the documents of a verified file.
 pub fn answer_links<'a, O: Sink, L: Ledger>(
-    alloc: Global,
+    printer: Printer<'_>,
     name: &'a str,
     file: &Verified<'_>,
     out: &mut O,
     steps: &mut Steps<L>,
 ) -> Result<(), Stop<'a>>
-    ensures told { Settles result (outcome_of (answer_of Links name.now (raw_file file.now))) }
-    ensures text { OnOk result (O.written out.new ≡ appended (O.written out.old) (outcome_of (answer_of Links name.now (raw_file file.now))).text) }
+    ensures told { Settles result
+        (outcome_of (links_answer printer.entry.form name.now (value_of (raw_file file.now)) (links_of (value_of (raw_file file.now))))) }
+    ensures text { OnOk result (O.written out.new ≡ appended (O.written out.old)
+        (outcome_of (links_answer printer.entry.form name.now (value_of (raw_file file.now)) (links_of (value_of (raw_file file.now))))).text) }
     ensures causes { IfErr result (λ stop. ComesFrom (cause_of stop) ⊥ no_file no_file None ⊥ ⊥ (Rose (O.faults out.old) (O.faults out.new))) }
     ensures silent { IfErr result (λ stop. OnUntold (cause_of stop) (O.written out.new ≡ O.written out.old)) }
     ensures cut { IfErr result (λ stop. OnCut (cause_of stop)
-        (AppendsPrefix (O.written out.old) (O.written out.new) (outcome_of (answer_of Links name.now (raw_file file.now))).text)) }
+        (AppendsPrefix (O.written out.old) (O.written out.new)
+        (outcome_of (links_answer printer.entry.form name.now (value_of (raw_file file.now)) (links_of (value_of (raw_file file.now))))).text)) }
     ensures later { O.faults out.old ≤ O.faults out.new }
-    ensures bound { IsWithinBound Links (raw_file file.now) steps.old steps.new }
+    ensures bound { IsWithinBound (Links false) (raw_file file.now) steps.old steps.new }
 {
-    match file_links(alloc, file, steps) {
+    match file_links(printer.alloc, file, steps) {
         Ok(links) => {
-            put_links(alloc, file, &links, out, steps)?;
+            put_links(printer, file, &links, out, steps)?;
             Ok(())
         }
         Err(error) => Err(Stop::Unlinked(name, error)),
@@ -44,20 +50,24 @@ pub fn answer_links<'a, O: Sink, L: Ledger>(
 
 /// Puts the places at which a debugger may stop for a line of a document. The answer does not look at the file's name.
 pub fn answer_breaks<'a, O: Sink, L: Ledger>(
+    printer: Printer<'_>,
     document: &'a str,
     line: u32,
     file: &Verified<'_>,
     out: &mut O,
     steps: &mut Steps<L>,
 ) -> Result<(), Stop<'a>>
-    ensures told { Settles result (outcome_of (answer_of (Breaks document.now line) [] (raw_file file.now))) }
-    ensures text { OnOk result (O.written out.new ≡ appended (O.written out.old) (outcome_of (answer_of (Breaks document.now line) [] (raw_file file.now))).text) }
+    ensures told { Settles result
+        (outcome_of (breaks_answer printer.entry.form document.now line (value_of (raw_file file.now)) (named (value_of (raw_file file.now)) document.now))) }
+    ensures text { OnOk result (O.written out.new ≡ appended (O.written out.old)
+        (outcome_of (breaks_answer printer.entry.form document.now line (value_of (raw_file file.now)) (named (value_of (raw_file file.now)) document.now))).text) }
     ensures causes { IfErr result (λ stop. ComesFrom (cause_of stop) ⊥ no_file no_file None ⊥ ⊥ (Rose (O.faults out.old) (O.faults out.new))) }
     ensures silent { IfErr result (λ stop. OnUntold (cause_of stop) (O.written out.new ≡ O.written out.old)) }
     ensures cut { IfErr result (λ stop. OnCut (cause_of stop)
-        (AppendsPrefix (O.written out.old) (O.written out.new) (outcome_of (answer_of (Breaks document.now line) [] (raw_file file.now))).text)) }
+        (AppendsPrefix (O.written out.old) (O.written out.new)
+        (outcome_of (breaks_answer printer.entry.form document.now line (value_of (raw_file file.now)) (named (value_of (raw_file file.now)) document.now))).text)) }
     ensures later { O.faults out.old ≤ O.faults out.new }
-    ensures bound { IsWithinBound (Breaks document.now line) (raw_file file.now) steps.old steps.new }
+    ensures bound { IsWithinBound (Breaks document.now line false) (raw_file file.now) steps.old steps.new }
 {
     file.keeps();
     let Some(row) = document_named(file, document.as_bytes(), steps) else {
@@ -65,7 +75,7 @@ pub fn answer_breaks<'a, O: Sink, L: Ledger>(
     };
     match breaks_at(file, row, line) {
         Ok(breaks) => {
-            put_breaks(breaks, out, steps)?;
+            put_breaks(printer, breaks, out, steps)?;
             Ok(())
         }
         Err(_) => Err(Stop::NoDocument(document)),

@@ -32,6 +32,8 @@ pub enum Status {
     NoDocument,
     /// Two maps do not fit one another.
     Uncomposed,
+    /// A list has a line that is none of a list's.
+    Unlisted,
 }
 
 impl Status {
@@ -54,6 +56,7 @@ impl Status {
             Status::Unlinked => 11,
             Status::NoDocument => 12,
             Status::Uncomposed => 13,
+            Status::Unlisted => 14,
         }
     }
 }

@@ -2,8 +2,9 @@
 ghost use Rattle.std.specs.Prelude.{◌≡◌, []};
 ghost use Rattle.ppdb_base.specs.Written.{Puts};
 ghost use Rattle.ppdb_show_lines.specs.Lines.{text_of};
+ghost use Rattle.ppdb_show.specs.Lookup.{no_method_line};
 ghost use Rattle.ppdb_run.specs.declared.stop.Stop.TheVariants as stops;
-ghost use Rattle.ppdb_run.specs.Lines.{about, links_line, map_line, no_method_line, sizes_line};
+ghost use Rattle.ppdb_run.specs.Lines.{about, links_line, list_line, map_line, sizes_line};
 ghost use Rattle.ppdb_run.specs.Stops.{cause_of, line_of, status_of, stop_of};
 
 use crate::fault::put_refused;
@@ -50,6 +51,11 @@ pub enum Stop<'a> {
         first: u32,
         second: u32,
     },
+    /// The list's text: its first line that a list cannot have.
+    Unlisted {
+        name: &'a str,
+        line: u32,
+    },
     /// The sink failed, so that no line can say so.
     Sink,
     Memory,
@@ -93,6 +99,7 @@ impl Stop<'_> {
             Stop::Unlinked(_, _) => Status::Unlinked,
             Stop::NoDocument(_) => Status::NoDocument,
             Stop::SizesDiffer { .. } => Status::Uncomposed,
+            Stop::Unlisted { .. } => Status::Unlisted,
             Stop::Memory => Status::Memory,
         }
     }
@@ -121,6 +128,7 @@ impl Stop<'_> {
                 first,
                 second,
             } => put_sizes(out, method, first, second),
+            Stop::Unlisted { name, line } => put_list(out, name, line),
             Stop::Sink | Stop::Memory => Ok(()),
         }
     }
@@ -143,11 +151,20 @@ fn put_map<O: Sink>(out: &mut O, name: &str, line: u32, kind: u8) -> Result<(), 
     put_text_line(out, "map", &[name, line, kind])
 }
 
+/// Puts the line of a list's text that a list cannot have.
+fn put_list<O: Sink>(out: &mut O, name: &str, line: u32) -> Result<(), WriteError>
+    ensures { Puts result (O.written out.old) (O.written out.new) (O.faults out.old) (O.faults out.new) (text_of (list_line name.now line)) }
+{
+    let name = Field(" ", Key::None, Name(name.as_bytes()));
+    let line = Field(" line ", Key::None, Number(line));
+    put_text_line(out, "list", &[name, line])
+}
+
 /// Puts the line of a method that is not there.
 fn put_no_method<O: Sink>(out: &mut O, method: u32) -> Result<(), WriteError>
     ensures { Puts result (O.written out.old) (O.written out.new) (O.faults out.old) (O.faults out.new) (text_of (no_method_line method)) }
 {
-    put_text_line(out, "no method", &[Field(" ", Key::None, Number(method))])
+    put_text_line(out, "no method", &[Field(" ", Key::Method, Number(method))])
 }
 
 /// Puts the line of a Source Link record that gives no addresses.

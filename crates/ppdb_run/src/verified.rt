@@ -1,8 +1,10 @@
 // The files that a command reads and verifies.
-ghost use Rattle.std.specs.Prelude.{◌≡◌, ◌≤◌, IfErr, IfSome};
+ghost use Rattle.std.specs.Prelude.{◌≡◌, ◌≤◌, None, IfErr, IfSome, length};
 ghost use Rattle.ppdb_base.specs.Causes.{Rose};
-ghost use Rattle.ppdb_run.specs.Outcome.{verified};
+ghost use Rattle.ppdb_base.specs.declared.limits.TheConstants.{MAX_FILE_BYTES};
+ghost use Rattle.ppdb_run.specs.Outcome.{judged, verified};
 ghost use Rattle.ppdb_run.specs.Stops.{cause_of, Gives, ComesFrom, no_file};
+ghost use Rattle.ppdb_verify.specs.Files.{FileFaults, IsRawOf};
 ghost use Rattle.ppdb_verify.specs.Views.{raw_file};
 
 use crate::input::read_input;
@@ -44,6 +46,24 @@ pub fn read_verified<'a, 'b, F: Folder, L: Ledger>(
         Err(stop) => return Err(stop),
     }
     match verify(alloc, bytes.as_slice(), steps) {
+        Ok(verified) => Ok(verified),
+        Err(VerifyError::Fault(fault)) => Err(Stop::Refused(file, fault)),
+        Err(VerifyError::Memory) => Err(Stop::Memory),
+    }
+}
+
+/// Verifies the bytes of a file.
+pub fn verify_bytes<'a, 'b, L: Ledger>(
+    alloc: Global,
+    file: &'a str,
+    bytes: &'b [u8],
+    steps: &mut Steps<L>,
+) -> Result<Verified<'b>, Stop<'a>>
+    requires { length bytes.now ≤ MAX_FILE_BYTES }
+    ensures told { Gives raw_file result (judged file.now (FileFaults bytes.now) (IsRawOf bytes.now)) }
+    ensures causes { IfErr result (λ stop. ComesFrom (cause_of stop) ⊥ no_file no_file None ⊥ ⊥ ⊥) }
+{
+    match verify(alloc, bytes, steps) {
         Ok(verified) => Ok(verified),
         Err(VerifyError::Fault(fault)) => Err(Stop::Refused(file, fault)),
         Err(VerifyError::Memory) => Err(Stop::Memory),

@@ -1,14 +1,13 @@
 // The words of the command line.
-ghost use Rattle.std.specs.Prelude.{◌≡◌, ℕ, List, ◌∷◌, codes, IfOk, OnErr};
-ghost use Rattle.ppdb_run.specs.Words.{Words, NoTask, IsFileAlone, is_file_word, is_name_word, texts};
-ghost use Rattle.ppdb_run.specs.Task.{PairsEndAtOptions, asked_task, task_of, words_of};
+ghost use Rattle.std.specs.Prelude.{◌≡◌, ℕ, Bool, List, ◌∷◌, codes, IfOk, OnErr};
+ghost use Rattle.ppdb_run.specs.Words.{Words, NoTask, IsFileAlone, IsFileInForm, is_file_word, is_name_word, json_words, texts};
+ghost use Rattle.ppdb_run.specs.Task.{PairsEndAtOptions, task_of, words_of};
 
-use crate::inputs::{Inputs, Pair};
-use crate::number::number;
-use crate::options::{Options, read_options};
+use crate::command::Command;
+use crate::options::read_options;
 use crate::pairs::split_pairs;
-use crate::question::Question;
 use ppdb_base::{MAX_OFFSET, MAX_ROWS};
+use ppdb_queries_list::number;
 
 /// The largest line of a sequence point.
 pub(crate) const MAX_LINE: u32 = 0x1fff_ffff;
@@ -18,136 +17,6 @@ const MAX_INPUTS: usize = 256;
 
 /// How many methods a sample has at most.
 const MAX_METHODS: u32 = 100_000;
-
-/// What the words ask for.
-#[derive(Clone, Copy, Debug, PartialEq, Eq)]
-pub enum Command<'a> {
-    /// The identity and the entry point of a file.
-    Id {
-        file: &'a str,
-    },
-    /// Whether a file keeps all rules.
-    Verify {
-        file: &'a str,
-    },
-    /// All rows of a file, as lines of text or as objects of JSON.
-    Show {
-        file: &'a str,
-        json: bool,
-    },
-    /// What belongs to an offset of a method, to 16777215 and to 2147483647.
-    Query {
-        file: &'a str,
-        method: u32,
-        offset: u32,
-    },
-    /// The addresses of the documents of a file.
-    Links {
-        file: &'a str,
-    },
-    /// The places at which a debugger may stop for a line of a document, to 536870911.
-    Breaks {
-        file: &'a str,
-        document: &'a str,
-        line: u32,
-    },
-    /// The canonical file of a file, written to another.
-    Rebuild {
-        input: &'a str,
-        output: &'a str,
-        options: Options<'a>,
-    },
-    /// The map of two maps, written to a file.
-    Compose {
-        first: &'a str,
-        second: &'a str,
-        output: &'a str,
-    },
-    /// The canonical file of an input that is moved by its map, written to a file.
-    Remap {
-        input: &'a str,
-        map: &'a str,
-        output: &'a str,
-        options: Options<'a>,
-    },
-    /// The canonical file of inputs that are moved by their maps and joined. Their words name files and maps, two by two.
-    Merge {
-        output: &'a str,
-        pairs: &'a [String],
-        options: Options<'a>,
-    },
-    /// The lengths of the sample of `n` methods, to 100000, as it is and after it has moved.
-    Sample {
-        n: u32,
-    },
-}
-
-/// What a command asks for.
-#[derive(Clone, Copy)]
-pub(crate) enum Asked<'a> {
-    /// A question about a file.
-    Ask(Question<'a>, &'a str),
-    /// The canonical file of a file, the file that is written, and how.
-    Rebuild(&'a str, &'a str, Options<'a>),
-    /// The map of two maps, and the file that is written.
-    Compose(&'a str, &'a str, &'a str),
-    /// The canonical file of inputs that are moved and joined, the file that is written, and how.
-    Merge(Inputs<'a>, &'a str, Options<'a>),
-    /// The lengths of the sample of so many methods.
-    Sample(u32),
-}
-
-impl<'a> Command<'a> {
-    /// What the command asks for.
-    pub(crate) fn asked(self) -> Asked<'a>
-        ensures { asked_task result ≡ task_of self.entry }
-    {
-        match self {
-            Command::Id { file } => Asked::Ask(Question::Id, file),
-            Command::Verify { file } => Asked::Ask(Question::Verify, file),
-            Command::Show { file, json } => Asked::Ask(Question::Show { json }, file),
-            Command::Query {
-                file,
-                method,
-                offset,
-            } => Asked::Ask(Question::Query { method, offset }, file),
-            Command::Links { file } => Asked::Ask(Question::Links, file),
-            Command::Breaks {
-                file,
-                document,
-                line,
-            } => Asked::Ask(Question::Breaks { document, line }, file),
-            Command::Rebuild {
-                input,
-                output,
-                options,
-            } => Asked::Rebuild(input, output, options),
-            Command::Compose {
-                first,
-                second,
-                output,
-            } => Asked::Compose(first, second, output),
-            Command::Remap {
-                input,
-                map,
-                output,
-                options,
-            } => {
-                let input = Pair {
-                    file: input,
-                    map_file: map,
-                };
-                Asked::Merge(Inputs::One(input), output, options)
-            }
-            Command::Merge {
-                output,
-                pairs,
-                options,
-            } => Asked::Merge(Inputs::Pairs(pairs), output, options),
-            Command::Sample { n } => Asked::Sample(n),
-        }
-    }
-}
 
 /// The words are those of no command.
 #[derive(Clone, Copy, Debug, PartialEq, Eq)]
@@ -164,12 +33,13 @@ pub fn read_words(words: &[String]) -> Result<Command<'_>, Usage>
         return Err(Usage);
     };
     match name.as_str() {
-        "id" => one_file(args).map(|file| Command::Id { file }),
+        "id" => file_in_form(args).map(|(file, json)| Command::Id { file, json }),
         "verify" => one_file(args).map(|file| Command::Verify { file }),
-        "show" => show(args),
+        "show" => file_in_form(args).map(|(file, json)| Command::Show { file, json }),
         "query" => query(args),
-        "links" => one_file(args).map(|file| Command::Links { file }),
+        "links" => file_in_form(args).map(|(file, json)| Command::Links { file, json }),
         "breaks" => breaks(args),
+        "lookup" => lookup(args),
         "rebuild" => rebuild(args),
         "compose" => compose(args),
         "remap" => remap(args),
@@ -190,22 +60,28 @@ fn one_file(args: &[String]) -> Result<&str, Usage>
     }
 }
 
-/// The command `show` of the words after its name.
-fn show(args: &[String]) -> Result<Command<'_>, Usage>
-    ensures command { IfOk result (λ command. Words (task_of command) (codes "show" ∷ texts args.now)) }
-    ensures spelled { IfOk result (λ command. codes "show" ∷ texts args.now ≡ words_of command) }
-    ensures pairs { IfOk result (PairsEndAtOptions (codes "show" ∷ texts args.now)) }
-    ensures usage { OnErr result (NoTask (codes "show" ∷ texts args.now)) }
+/// Whether the words after the others ask for JSON: they are none, or `--json`.
+fn asks_json(words: &[String]) -> Result<bool, Usage>
+    ensures json { IfOk result (λ json. texts words.now ≡ json_words json) }
+    ensures usage { OnErr result ((json : Bool) → texts words.now ≡ json_words json → ⊥) }
+{
+    match words {
+        [] => Ok(false),
+        [form] if form.as_str() == "--json" => Ok(true),
+        _ => Err(Usage),
+    }
+}
+
+/// The word that names a file, and whether JSON is asked for.
+fn file_in_form(args: &[String]) -> Result<(&str, bool), Usage>
+    ensures file { IfOk result (λ asked. IsFileInForm asked.0.now asked.1 (texts args.now)) }
+    ensures usage { OnErr result ((file : List ℕ) (json : Bool) → IsFileInForm file json (texts args.now) → ⊥) }
 {
     match args {
-        [file] if names_file(file) => Ok(Command::Show {
-            file: file.as_str(),
-            json: false,
-        }),
-        [file, form] if names_file(file) && form.as_str() == "--json" => Ok(Command::Show {
-            file: file.as_str(),
-            json: true,
-        }),
+        [file, form @ ..] if names_file(file) => {
+            let json = asks_json(form)?;
+            Ok((file.as_str(), json))
+        }
         _ => Err(Usage),
     }
 }
@@ -217,14 +93,16 @@ fn query(args: &[String]) -> Result<Command<'_>, Usage>
     ensures pairs { IfOk result (PairsEndAtOptions (codes "query" ∷ texts args.now)) }
     ensures usage { OnErr result (NoTask (codes "query" ∷ texts args.now)) }
 {
-    let [file, method, offset] = args else {
+    let [file, method, offset, form @ ..] = args else {
         return Err(Usage);
     };
+    let json = asks_json(form)?;
     match (number(method, MAX_ROWS), number(offset, MAX_OFFSET)) {
         (Some(method), Some(offset)) if names_file(file) => Ok(Command::Query {
             file: file.as_str(),
             method,
             offset,
+            json,
         }),
         _ => Err(Usage),
     }
@@ -237,15 +115,37 @@ fn breaks(args: &[String]) -> Result<Command<'_>, Usage>
     ensures pairs { IfOk result (PairsEndAtOptions (codes "breaks" ∷ texts args.now)) }
     ensures usage { OnErr result (NoTask (codes "breaks" ∷ texts args.now)) }
 {
-    let [file, document, line] = args else {
+    let [file, document, line, form @ ..] = args else {
         return Err(Usage);
     };
+    let json = asks_json(form)?;
     match number(line, MAX_LINE) {
         Some(line) if names_file(file) && names_document(document) => Ok(Command::Breaks {
             file: file.as_str(),
             document: document.as_str(),
             line,
+            json,
         }),
+        _ => Err(Usage),
+    }
+}
+
+/// The command `lookup` of the words after its name.
+fn lookup(args: &[String]) -> Result<Command<'_>, Usage>
+    ensures command { IfOk result (λ command. Words (task_of command) (codes "lookup" ∷ texts args.now)) }
+    ensures spelled { IfOk result (λ command. codes "lookup" ∷ texts args.now ≡ words_of command) }
+    ensures pairs { IfOk result (PairsEndAtOptions (codes "lookup" ∷ texts args.now)) }
+    ensures usage { OnErr result (NoTask (codes "lookup" ∷ texts args.now)) }
+{
+    match args {
+        [file, list, form @ ..] if names_file(file) && names_file(list) => {
+            let json = asks_json(form)?;
+            Ok(Command::Lookup {
+                file: file.as_str(),
+                list: list.as_str(),
+                json,
+            })
+        }
         _ => Err(Usage),
     }
 }

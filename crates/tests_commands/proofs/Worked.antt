@@ -42,4 +42,5 @@ worked_lines = record {
   not_json = record { status = refl; text = refl };
   document = record { status = refl; text = refl };
   sizes = record { status = refl; text = refl };
+  list = record { status = refl; text = refl };
 }

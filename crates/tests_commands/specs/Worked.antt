@@ -10,7 +10,7 @@ use Rattle.ppdb_base.specs.declared.merge_error.MergeError.TheVariants.{Unmapped
 use Rattle.ppdb_base.specs.declared.merge_error.MergeError.TheVariants.{DocumentConflict, RowsDiffer, ImageRange, SlotUnmapped, SlotTwice}
 use Rattle.ppdb_run.specs.Lines.{read_fault_line, write_fault_line}
 use Rattle.ppdb_run.specs.Outcome.{Outcome, usage, absent, too_long, refused, no_map, unfit, limited, map_limited, unlinked, no_method, no_document}
-use Rattle.ppdb_run.specs.Outcome.{sizes_differ}
+use Rattle.ppdb_run.specs.Outcome.{sizes_differ, unlisted}
 use Rattle.ppdb_run.specs.Status.{status_number}
 
 -- a run that stops so ends with this status, and has printed this
@@ -73,3 +73,4 @@ pub record WorkedLines : Type 0 where
   pub not_json : Says (unlinked (codes "Q") NotJson) 11 (codes "links Q not json\n")
   pub document : Says (no_document (codes "/a/c")) 12 (codes "no document /a/c\n")
   pub sizes : Says (sizes_differ 1 12 10) 13 (codes "sizes differ method 1 12 10\n")
+  pub list : Says (unlisted (codes "q") 2) 14 (codes "list q line 2\n")

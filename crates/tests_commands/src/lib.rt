@@ -13,6 +13,8 @@ mod lines;
 #[cfg(test)]
 mod links;
 #[cfg(test)]
+mod lookup;
+#[cfg(test)]
 mod moving;
 #[cfg(test)]
 mod moving_files;

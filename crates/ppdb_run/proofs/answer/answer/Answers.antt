@@ -63,4 +63,5 @@ returns-clause-rows g c = record {
   bound =
       on_read (λ question raw. IsWithinBound question raw c.args.steps.now c.put_answer.new.steps) (question_of c.args.question) c.args.file.now
       (g.F.Folder.files c.args.folder.now) (raw_file c.in-Ok.verified) c.in-Ok.ensures.told c.put_answer.ensures.bound;
+  listed = tt;
 }

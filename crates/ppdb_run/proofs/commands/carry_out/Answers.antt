@@ -6,10 +6,11 @@ use Rattle.ppdb_base.specs.Written.{appended, AppendsPrefix}
 use Rattle.ppdb_run.specs.Ends.{IsValid, WritesAgain, WritesValid}
 use Rattle.ppdb_run.specs.Task.{inputs_of, options_of, question_of}
 use Rattle.ppdb_run.proofs.PairWords.{merge_counts}
-use Rattle.ppdb_run.specs.Words.{Ask, Rebuild, Compose, Merge, Sample, Words, texts}
+use Rattle.ppdb_run.specs.Words.{Ask, Lookup, Rebuild, Compose, Merge, Sample, Words, texts}
 use Rattle.ppdb_run.proofs.Causes.{widened_stop}
 use Rattle.ppdb_run.proofs.Cuts.{nothing_cut}
 use Rattle.ppdb_run.proofs.Kept.{is_unread, is_input, is_output, leaves_all, nothing_to_judge}
+use Rattle.ppdb_run.proofs.Lookups.{leaves_looked_up, on_none}
 use Rattle.ppdb_run.proofs.Outcomes.{of_told, of_task, of_rows}
 use Rattle.ppdb_run.proofs.Sampling.{of_sampled, sampled_again, sampled_found, sampled_leaves, sampled_valid}
 use Rattle.ppdb_run.proofs.Writing.{nothing_put, nothing_due, on_asked, on_done, on_then, writes_file}
@@ -74,6 +75,68 @@ returns-in-Ask-clause-again g c =
     c.in-Ask.file.now
     (g.F.Folder.files c.args.folder.now)) words (λ a. a))
 
+pub returns-in-Lookup-clause-found : goal.returns-in-Lookup-clause-found
+returns-in-Lookup-clause-found g c =
+    let words = subst (λ task. Words task (texts c.args.words.now)) (sym c.in-Lookup.ensures) c.in-Ok.ensures.command in
+    of_told (λ asked all. Finds c.lookup.result (IsOutcome asked all)) (texts c.args.words.now)
+    (Lookup c.in-Lookup.file.now c.in-Lookup.list.now c.in-Lookup.json) (g.F.Folder.files c.args.folder.now) c.lookup.ensures.found words (λ a. a)
+
+pub returns-in-Lookup-clause-told : goal.returns-in-Lookup-clause-told
+returns-in-Lookup-clause-told g c =
+    let words = subst (λ task. Words task (texts c.args.words.now)) (sym c.in-Lookup.ensures) c.in-Ok.ensures.command in
+    of_task _ _ _ c.lookup.ensures.told words (λ a. a)
+
+pub returns-in-Lookup-clause-text : goal.returns-in-Lookup-clause-text
+returns-in-Lookup-clause-text g c =
+    let words = subst (λ task. Words task (texts c.args.words.now)) (sym c.in-Lookup.ensures) c.in-Ok.ensures.command in
+    of_task _ _ _ c.lookup.ensures.text words (λ a. a)
+
+pub returns-in-Lookup-clause-files : goal.returns-in-Lookup-clause-files
+returns-in-Lookup-clause-files g c =
+    let words = subst (λ task. Words task (texts c.args.words.now)) (sym c.in-Lookup.ensures) c.in-Ok.ensures.command in
+    let left = leaves_looked_up c.in-Lookup.file.now c.in-Lookup.list.now c.in-Lookup.json (g.F.Folder.files c.args.folder.now) c.lookup.result _ _
+    c.lookup.ensures.files in
+    of_task _ _ _ left words (λ a. a)
+
+pub returns-in-Lookup-clause-cut : goal.returns-in-Lookup-clause-cut
+returns-in-Lookup-clause-cut g c =
+    let words = subst (λ task. Words task (texts c.args.words.now)) (sym c.in-Lookup.ensures) c.in-Ok.ensures.command in
+    of_task _ _ _ c.lookup.ensures.cut words (λ a. a)
+
+pub returns-in-Lookup-clause-rows : goal.returns-in-Lookup-clause-rows
+returns-in-Lookup-clause-rows g c =
+    let words = subst (λ task. Words task (texts c.args.words.now)) (sym c.in-Lookup.ensures) c.in-Ok.ensures.command in
+    of_rows _ _ _ _ _ c.lookup.ensures.rows words
+
+pub returns-in-Lookup-clause-causes : goal.returns-in-Lookup-clause-causes
+returns-in-Lookup-clause-causes g c =
+    let words = subst (λ task. Words task (texts c.args.words.now)) (sym c.in-Lookup.ensures) c.in-Ok.ensures.command in
+    widened_stop c.lookup.result (λ m. absurd m)
+    (λ name r. record { task = Lookup c.in-Lookup.file.now c.in-Lookup.list.now c.in-Lookup.json; asked = words; unread = r }) (λ name w. absurd w) (λ e. e)
+    (λ a. a) (λ b. b) (λ p. p) c.lookup.ensures.causes
+
+pub returns-in-Lookup-clause-accepted : goal.returns-in-Lookup-clause-accepted
+returns-in-Lookup-clause-accepted g c =
+    let words = subst (λ task. Words task (texts c.args.words.now)) (sym c.in-Lookup.ensures) c.in-Ok.ensures.command in
+    let task = Lookup c.in-Lookup.file.now c.in-Lookup.list.now c.in-Lookup.json in
+    on_done c.lookup.result (on_asked WritesValid _ task (g.F.Folder.files c.args.folder.now)
+    (on_none (WritesValid (Some task)) (λ due none. subst (λ w. IfSome w (λ file. IsValid task file.1)) (sym none) tt) c.in-Lookup.file.now
+    c.in-Lookup.list.now c.in-Lookup.json (g.F.Folder.files c.args.folder.now)) words (λ a. a))
+
+pub returns-in-Lookup-clause-again : goal.returns-in-Lookup-clause-again
+returns-in-Lookup-clause-again g c =
+    let words = subst (λ task. Words task (texts c.args.words.now)) (sym c.in-Lookup.ensures) c.in-Ok.ensures.command in
+    let task = Lookup c.in-Lookup.file.now c.in-Lookup.list.now c.in-Lookup.json in
+    on_done c.lookup.result (on_asked WritesAgain _ task (g.F.Folder.files c.args.folder.now)
+    (on_none (WritesAgain (Some task)) (λ due none. tt) c.in-Lookup.file.now c.in-Lookup.list.now c.in-Lookup.json (g.F.Folder.files c.args.folder.now))
+    words (λ a. a))
+
+pub returns-in-Lookup-clause-means : goal.returns-in-Lookup-clause-means
+returns-in-Lookup-clause-means g c =
+    let words = subst (λ task. Words task (texts c.args.words.now)) (sym c.in-Lookup.ensures) c.in-Ok.ensures.command in
+    on_done c.lookup.result (nothing_means (texts c.args.words.now) (Lookup c.in-Lookup.file.now c.in-Lookup.list.now c.in-Lookup.json)
+    (g.F.Folder.files c.args.folder.now) (λ due. tt) words)
+
 pub returns-in-Rebuild-clause-found : goal.returns-in-Rebuild-clause-found
 returns-in-Rebuild-clause-found g c =
     let words = subst (λ task. Words task (texts c.args.words.now)) (sym c.in-Rebuild.ensures) c.in-Ok.ensures.command in
@@ -116,7 +179,7 @@ pub returns-in-Rebuild-clause-rows : goal.returns-in-Rebuild-clause-rows
 returns-in-Rebuild-clause-rows g c =
     let words = subst (λ task. Words task (texts c.args.words.now)) (sym c.in-Rebuild.ensures) c.in-Ok.ensures.command in
     of_rows _ (Rebuild c.in-Rebuild.input.now c.in-Rebuild.output.now (options_of c.in-Rebuild.options)) (g.F.Folder.files c.args.folder.now) _ _
-    (record { none = λ no. absurd no; bound = tt }) words
+    (record { none = λ no. absurd no; bound = tt; listed = tt }) words
 
 pub returns-in-Rebuild-clause-causes : goal.returns-in-Rebuild-clause-causes
 returns-in-Rebuild-clause-causes g c =
@@ -174,7 +237,7 @@ pub returns-in-Compose-clause-rows : goal.returns-in-Compose-clause-rows
 returns-in-Compose-clause-rows g c =
     let words = subst (λ task. Words task (texts c.args.words.now)) (sym c.in-Compose.ensures) c.in-Ok.ensures.command in
     of_rows _ (Compose c.in-Compose.first.now c.in-Compose.second.now c.in-Compose.output.now) (g.F.Folder.files c.args.folder.now) _ _
-    (record { none = λ no. refl; bound = tt }) words
+    (record { none = λ no. refl; bound = tt; listed = tt }) words
 
 pub returns-in-Compose-clause-causes : goal.returns-in-Compose-clause-causes
 returns-in-Compose-clause-causes g c =
@@ -231,7 +294,7 @@ pub returns-in-Merge-clause-rows : goal.returns-in-Merge-clause-rows
 returns-in-Merge-clause-rows g c =
     let words = subst (λ task. Words task (texts c.args.words.now)) (sym c.in-Merge.ensures) c.in-Ok.ensures.command in
     of_rows _ (Merge (inputs_of c.in-Merge.inputs) c.in-Merge.output.now (options_of c.in-Merge.options)) (g.F.Folder.files c.args.folder.now) _ _
-    (record { none = λ no. absurd no; bound = tt }) words
+    (record { none = λ no. absurd no; bound = tt; listed = tt }) words
 
 pub returns-in-Merge-clause-cut : goal.returns-in-Merge-clause-cut
 returns-in-Merge-clause-cut g c = λ asked asks all seen due is. nothing_cut c.merge.result (g.O.Sink.written c.args.out.now) due.text
@@ -295,7 +358,7 @@ returns-in-Sample-clause-again g c =
 pub returns-in-Sample-clause-rows : goal.returns-in-Sample-clause-rows
 returns-in-Sample-clause-rows g c =
     let words = subst (λ task. Words task (texts c.args.words.now)) (sym c.in-Sample.ensures) c.in-Ok.ensures.command in
-    of_rows _ (Sample c.in-Sample.n) (g.F.Folder.files c.args.folder.now) _ _ (record { none = λ no. absurd no; bound = tt }) words
+    of_rows _ (Sample c.in-Sample.n) (g.F.Folder.files c.args.folder.now) _ _ (record { none = λ no. absurd no; bound = tt; listed = tt }) words
 
 pub returns-in-Sample-clause-causes : goal.returns-in-Sample-clause-causes
 returns-in-Sample-clause-causes g c =

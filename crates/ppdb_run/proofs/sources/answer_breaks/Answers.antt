@@ -9,7 +9,7 @@ pub returns-in_ok-put_breaks-in-Ok-clause-text : goal.returns-in_ok-put_breaks-i
 returns-in_ok-put_breaks-in-Ok-clause-text g c =
     let named : document_named (value_of (raw_file c.args.file.now)) c.args.document.now ≡ Some c.in-Some.row =
     rw (← c.as_bytes.ensures.value) (sym c.document_named.ensures.row ∙ c.in-Some.is) in
-    breaks_text c.args.document.now c.args.line c.in-Some.row (value_of (raw_file c.args.file.now)) c.in-Ok.breaks.items _ _ named c.in-Ok.ensures.breaks
+    breaks_text c.args.printer.form c.args.document.now c.args.line c.in-Some.row (value_of (raw_file c.args.file.now)) c.in-Ok.breaks.items _ _ named c.in-Ok.ensures.breaks
     c.in_ok-put_breaks-in-Ok.ensures.puts.ok
 
 pub returns-in-Err-clause-told : goal.returns-in-Err-clause-told
