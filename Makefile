@@ -25,7 +25,7 @@ documents = README.md CHANGELOG.md CONTRIBUTING.md SECURITY.md NOTICE LICENSE $(
   docs/verify-debug-files.yml
 samples = examples/async_iter.cs examples/async_iter.pdb examples/embed_link.pdb $(wildcard examples/library/* examples/weaver/*.cs examples/weaver/tests/*.cs)
 tools = $(addprefix scripts/,stacktrace stack-maps extract-embedded page verify-each symbol-store repair)
-modules = $(addprefix scripts/shared/,assemblies.py sources.py command.py cells.py)
+modules = $(addprefix scripts/shared/,assemblies.py signatures.py symbols.py sources.py command.py cells.py)
 
 .PHONY: all quick lib check install uninstall release clean help
 

@@ -1,6 +1,10 @@
-"""What scripts read of an assembly (ECMA-335 II.22 to II.25): its module's identity, its methods by row and by name, and which
-debug files its debug directory names."""
+"""What scripts read of an assembly (ECMA-335 II.22 to II.25): its module's identity, its methods by row and by the name that Mono
+prints, and which debug files its debug directory names."""
+import functools
+import re
 import struct
+
+from signatures import Names, Signature
 
 # The columns of the tables 00 to 2a (II.22): a number of 2 or 4 bytes; a text, a GUID or a blob; a row of a table; or a row of one of
 # several tables, by a name of CODED.
@@ -29,11 +33,13 @@ CODED: dict[str, tuple[int, tuple[int, ...]]] = {
     "MemberForwarded": (1, (0x04, 0x06)), "Implementation": (2, (0x26, 0x23, 0x27)), "CustomAttributeType": (3, (0x06, 0x0A)),
     "ResolutionScope": (2, (0x00, 0x1A, 0x23, 0x01)), "TypeOrMethodDef": (1, (0x02, 0x06)),
 }
-# The tables whose rows are kept: Module, TypeDef, MethodDef, NestedClass and GenericParam.
-KEPT = (0x00, 0x02, 0x06, 0x29, 0x2A)
+# The tables whose rows are kept: Module, TypeRef, TypeDef, MethodDef, NestedClass and GenericParam.
+KEPT = (0x00, 0x01, 0x02, 0x06, 0x29, 0x2A)
+# The tags of a type's coded row, and that of a type that another type of another assembly is around (II.24.2.6).
+DEFINED, REFERRED, NESTED = 0, 1, 3
 CODE_VIEW = 2
 # What reading raises where the bytes are no assembly.
-NO_ASSEMBLY = (StopIteration, struct.error, KeyError, IndexError, ValueError)
+NO_ASSEMBLY = (StopIteration, struct.error, KeyError, IndexError, ValueError, RecursionError)
 
 
 def number(data: bytes, at: int, size: int) -> int:
@@ -134,34 +140,53 @@ class Assembly:
         parts = streams(data, image.metadata())
         self.texts, self.blobs = parts["#Strings"], parts["#Blob"]
         tables = Tables(parts["#~"])
-        self.types, self.rows = tables.rows[0x02], tables.rows[0x06]
+        self.references, self.types, self.rows = tables.rows[0x01], tables.rows[0x02], tables.rows[0x06]
         self.identity = guid(parts["#GUID"][16 * tables.rows[0x00][0][2] - 16:][:16])
         self.debug_ids = image.debug_ids()
-        self.methods = self.by_name()
         self.enclosing = dict(tables.rows[0x29])
         self.generics = self.by_owner(tables.rows[0x2A])
 
     def text(self, at: int) -> str:
         return self.texts[at:self.texts.index(0, at)].decode()
 
-    def parameters(self, at: int) -> int:
-        """How many parameters a signature has (II.23.2.1); lengths below 128 have one byte."""
-        first = at + (1 if self.blobs[at] < 0x80 else 2 if self.blobs[at] < 0xC0 else 4)
-        return self.blobs[first + (2 if self.blobs[first] & 0x10 else 1)]
+    def blob(self, at: int) -> bytes:
+        """A blob and what comes after it, from its first byte on (II.24.2.4)."""
+        return self.blobs[at + (1 if self.blobs[at] < 0x80 else 2 if self.blobs[at] < 0xC0 else 4):]
 
     def methods_of(self, index: int) -> range:
         """The rows of the methods of a type, of which the index is one less than its row."""
         end = self.types[index + 1][5] if index + 1 < len(self.types) else len(self.rows) + 1
         return range(self.types[index][5], end)
 
-    def by_name(self) -> dict[tuple[str, str, int], list[int]]:
-        """The rows of methods by the name of the type alone, that of the method, and how many parameters it has."""
-        found: dict[tuple[str, str, int], list[int]] = {}
-        for index, cells in enumerate(self.types):
+    @functools.cached_property
+    def printed(self) -> dict[str, list[tuple[int, int]]]:
+        """The methods, each the row of its type and its own, by the names that Mono prints, without generic parameters."""
+        found: dict[str, list[tuple[int, int]]] = {}
+        for index in range(len(self.types)):
+            before = self.printed_type(DEFINED, index + 1)
             for method in self.methods_of(index):
-                key = self.text(cells[1]), self.text(self.rows[method - 1][3]), self.parameters(self.rows[method - 1][4])
-                found.setdefault(key, []).append(method)
+                name = without_brackets(f"{before}.{self.text(self.rows[method - 1][3])}")
+                found.setdefault(name, []).append((index + 1, method))
         return found
+
+    def printed_type(self, tag: int, row: int) -> str:
+        """The name of a type as Mono prints it: nested types follow a plus. A row of TypeSpec has none."""
+        if tag not in (DEFINED, REFERRED):
+            return "?"
+        if tag == DEFINED:
+            name, namespace = self.types[row - 1][1:3]
+            outer = self.enclosing.get(row, 0)
+        else:
+            scope, name, namespace = self.references[row - 1]
+            outer = scope >> 2 if scope & 3 == NESTED else 0
+        before = f"{self.printed_type(tag, outer)}+" if outer else f"{self.text(namespace)}." if namespace else ""
+        return before + self.text(name)
+
+    def parameters(self, kind: int, method: int) -> list[str]:
+        """The types of the parameters of a method of a type, as Mono prints them."""
+        names = Names(lambda coded: self.printed_type(coded & 3, coded >> 2), self.generics.get(kind << 1, []),
+                      self.generics.get(method << 1 | 1, []))
+        return Signature(self.blob(self.rows[method - 1][4]), names).parameters()
 
     def by_owner(self, parameters: list[list[int]]) -> dict[int, list[str]]:
         """The names of the generic parameters of each owner, a type or method by its coded row, in their order."""
@@ -191,3 +216,9 @@ class Assembly:
 
 def in_brackets(names: list[str]) -> str:
     return f"<{', '.join(names)}>" if names else ""
+
+
+def without_brackets(name: str) -> str:
+    """A name without what is in square brackets, which may be in one another."""
+    less = re.sub(r"\[[^][]*\]", "", name)
+    return name if less == name else without_brackets(less)

@@ -17,9 +17,13 @@ class Answer(NamedTuple):
     line: str
 
 
+def warn(why: str) -> None:
+    print(f"{Path(sys.argv[0]).name}: {why}", file=sys.stderr)
+
+
 def stop(why: str) -> NoReturn:
     """Ends a script that cannot do its work with status 2, as wrong words do."""
-    print(f"{Path(sys.argv[0]).name}: {why}", file=sys.stderr)
+    warn(why)
     sys.exit(2)
 
 
