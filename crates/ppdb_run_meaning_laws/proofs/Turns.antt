@@ -23,6 +23,7 @@ use Rattle.ppdb_merge_moved.proofs.Elements.{each_left, in_each}
 use Rattle.ppdb_merge_meaning_laws.specs.Kept.{Input, FitsAlone, MethodsApart, InputsFit, in_turn, moved_input}
 use Rattle.ppdb_merge_fits.specs.Clashes.{first_clash}
 use Rattle.ppdb_merge_fits.specs.Laws.{NoClash, NothingClashes}
+use Rattle.ppdb_merge_fits.specs.Rows.{imaged_rows}
 use Rattle.ppdb_merge.specs.declared.trace.Trace.{Trace}
 use Rattle.ppdb_merge.specs.Kept.{AreInputs}
 use Rattle.ppdb_merge.specs.Merged.{trace_of, moved_files, is_first}
@@ -30,6 +31,7 @@ use Rattle.ppdb_merge.specs.Refusals.{added, clashes_before, methods_in, or_firs
 use Rattle.ppdb_merge.specs.Sound.{SoundTraces, AreMethodsApart}
 use Rattle.ppdb_merge.proofs.Adding.{added_sound}
 use Rattle.ppdb_merge.proofs.Counted.{can_be_joined}
+use Rattle.ppdb_merge.proofs.Given.{row_in_all}
 use Rattle.ppdb_merge.proofs.Imaged.{named_in_rows}
 use Rattle.ppdb_run_meaning_laws.specs.Inputs.{ReadInput, IsValidInput, AreAdded, moved_by}
 
@@ -167,10 +169,11 @@ module _ (sounds : (raw : RawFile) → KeepsRules raw → IsSound (value_of raw)
   stands : (x : Turn) → (Fitting marks) x → (method image : ℕ) → Contains (named_rows x.0 x.1.map (annotated_file (value_of x.1.raw))) (names 0x06 method)
       → row_image x.1.map 0x06 method ≡ Some image → Contains (trace_by x).rows (Of method image)
   stands x fits method image there is =
-      in_each (λ n. (image : ℕ) → row_image x.1.map n.table n.row ≡ Some image
-      → Contains (trace_by x).rows (record { table = n.table; row = n.row; image = image }))
+      row_in_all x.0 x.1.map x.1.raw (Of method image)
+      (in_each (λ n. (image : ℕ) → row_image x.1.map n.table n.row ≡ Some image
+      → Contains (imaged_rows x.0 x.1.map x.1.raw) (record { table = n.table; row = n.row; image = image }))
       (named_rows x.0 x.1.map (annotated_file (value_of x.1.raw))) (names 0x06 method)
-      (named_in_rows x.0 x.1.map x.1.raw named fits.valid.rules) there image is
+      (named_in_rows x.0 x.1.map x.1.raw named fits.valid.rules) there image is)
 
   apart : (a b : Turn) → (Fitting marks) a → (Fitting marks) b → AreMethodsApart (trace_by a) (trace_by b) → MethodsApart (input_by a) (input_by b)
   apart a b fits_a fits_b differ method other image names_a names_b is_a is_b =
