@@ -2,8 +2,8 @@
 
    docs/LIBRARY.md says what each call promises; the code is proved to keep these promises. For all calls:
 
-   - Lengths and rooms are numbers of bytes, counts are numbers of items. Each may be 0. A room is the length of a buffer of the
-     caller.
+   - Lengths and rooms are numbers of bytes, counts are numbers of items. Each may be 0. A room is the capacity, in bytes, of a
+     buffer of the caller.
    - A pointer points to as many bytes or items as the length, room or count after it says, and has the alignment of its type. It is
      not null, even if that number is 0: then pass any other address, since nothing is read or written there.
    - What a call writes to (a pointer without const) shares no byte with any other argument. While the call runs, no other thread

@@ -2,7 +2,7 @@
 //
 //     var map = MapWriter.Start(module);            // before the first change
 //     ...                                           // change the module
-//     map.Keep(module);                             // types that only the debug file names keep their rows
+//     map.Keep(module);                             // after the last change: types that only the debug file names keep their rows
 //     module.Write(path, map.WriterParameters());   // the module names its debug file, which ppdb will write
 //     map.Save(path, path + ".map");
 //
@@ -48,9 +48,17 @@ public sealed class MapWriter
         new Dictionary<int, SortedDictionary<uint, IMetadataTokenProvider>>();
     readonly Dictionary<Instruction, Instruction> replaced = new Dictionary<Instruction, Instruction>();
     readonly List<string> warnings = new List<string>();
+    List<TypeReference> kept = new List<TypeReference>();
 
     /// Call it before the first change, with a module that was read from a file.
-    public static MapWriter Start(ModuleDefinition module) { return new MapWriter(module); }
+    public static MapWriter Start(ModuleDefinition module)
+    {
+        if (string.IsNullOrEmpty(module.FileName))
+            throw new ArgumentException("MapWriter needs the file of the module: read the module from a path, not from a stream.");
+        var map = new MapWriter(module);
+        if (map.IsLate()) throw new InvalidOperationException(module.Name + " has changed since it was read: call Start before the first change.");
+        return map;
+    }
 
     /// What the map cannot say, a sentence each. Read them after Save.
     public IList<string> Warnings { get { return warnings; } }
@@ -109,6 +117,20 @@ public sealed class MapWriter
         };
     }
 
+    // Whether the types, the methods or their code are not those of the file.
+    bool IsLate()
+    {
+        return members[TypeDef].Count != rowsBefore[TypeDef] || methods.Count != rowsBefore[Method] || methods.Values.Any(HasChanged);
+    }
+
+    static bool HasChanged(Body body)
+    {
+        int offset = 0;
+        for (int i = 0; i < body.Code.Length; offset += body.Code[i++].GetSize())
+            if (body.Offsets[i] != offset) return true;
+        return offset != body.Size;
+    }
+
     static List<TypeReference> Types(ModuleDefinition module, int table)
     {
         var found = new List<TypeReference>();
@@ -130,27 +152,32 @@ public sealed class MapWriter
         return old;
     }
 
-    /// Adds a method that nothing calls and that uses each type that had a row. Cecil writes no row for a type that only the
-    /// debug file names, for example for a local `const DayOfWeek Day = DayOfWeek.Friday`.
+    /// Call it after the last change. It adds a method that nothing calls and that uses each type that had a row and that the tool did not
+    /// remove. Cecil writes no row for a type that only the debug file names, for example for a local `const DayOfWeek Day = ...`.
     public void Keep(ModuleDefinition module)
     {
+        const string name = "<types of the debug file>";
+        var all = module.Types[0].Methods;
+        foreach (var earlier in all.Where(other => other.Name == name).ToList()) all.Remove(earlier); // that of a module woven before
         var attributes = MethodAttributes.CompilerControlled | MethodAttributes.Static | MethodAttributes.HideBySig;
-        var method = new MethodDefinition("<types of the debug file>", attributes, module.TypeSystem.Void);
+        var method = new MethodDefinition(name, attributes, module.TypeSystem.Void);
         var code = method.Body.GetILProcessor();
-        foreach (var type in typeRefs.Concat(typeSpecs))
+        kept = typeRefs.Concat(typeSpecs).Where(new Nameable(module).Has).ToList();
+        foreach (var type in kept)
         {
             code.Emit(OpCodes.Ldtoken, type);
             code.Emit(OpCodes.Pop);
         }
         code.Emit(OpCodes.Ret);
-        module.Types[0].Methods.Add(method);
+        all.Add(method);
     }
 
-    /// With these the written module names its debug file as before, without the checksum of the old one.
-    public WriterParameters WriterParameters()
+    /// With these the written module names its debug file as before. The checksum, if it is to be kept, is that of the old debug file:
+    /// write the new one (PatchIdentity.cs).
+    public WriterParameters WriterParameters(bool keepsChecksum = false)
     {
         if (!module.HasDebugHeader) return new WriterParameters();
-        return new WriterParameters { WriteSymbols = true, SymbolWriterProvider = new DebugDirectory(module.GetDebugHeader()) };
+        return new WriterParameters { WriteSymbols = true, SymbolWriterProvider = new DebugDirectory(module.GetDebugHeader(), keepsChecksum) };
     }
 
     /// Writes the map to the file `path`. The file `written` is the module as Cecil wrote it last.
@@ -162,8 +189,11 @@ public sealed class MapWriter
         {
             if (!DebugDirectory.Has(after, DebugDirectory.CodeView))
                 warnings.Add("The new module names no debug file, so a runtime will not look for one.");
+            foreach (var type in kept.Except(kept.Where(new Nameable(module).Has)))
+                warnings.Add("The new module names " + type + ", which was removed after Keep: call Keep after the last change.");
             var alive = Alive();
-            var changes = Changes(alive, after);
+            var homes = Homes();
+            var changes = Changes(homes, after);
             var signatures = SignatureImages(changes);
             map.WriteLine("ppdbmap 4");
             var rowsNow = RowCounts.Of(bytes);
@@ -171,10 +201,10 @@ public sealed class MapWriter
             {
                 if (rowsBefore[table] + rowsNow[table] == 0) continue;
                 map.WriteLine("rows {0:x2} {1}", table, rowsNow[table]);
-                var images = table == StandAloneSig ? signatures : Images(table, alive, after);
+                var images = table == StandAloneSig ? signatures : table == Method ? MethodImages(homes) : Images(table, alive, after);
                 foreach (var image in images) map.WriteLine("row {0:x2} {1} {2}", table, image.Key, image.Value);
             }
-            foreach (var body in methods.Where(pair => !alive.Contains(pair.Key)).Select(pair => pair.Value).OrderBy(body => body.Row))
+            foreach (var body in methods.Where(pair => !homes.ContainsKey(pair.Key)).Select(pair => pair.Value).OrderBy(body => body.Row))
                 map.WriteLine("drop {0}", body.Row);
             foreach (var change in changes) SaveSlots(map, change);
             foreach (var change in changes.Where(change => !HasImage(change, signatures)))
@@ -183,7 +213,7 @@ public sealed class MapWriter
         }
     }
 
-    // What the module still has, without the methods of whose code nothing is left: the debug file says nothing of their new code.
+    // What the module still has, besides methods.
     HashSet<object> Alive()
     {
         var found = new HashSet<object>(module.AssemblyReferences);
@@ -193,31 +223,60 @@ public sealed class MapWriter
             found.UnionWith(type.Fields);
             found.UnionWith(type.Events);
             found.UnionWith(type.Properties);
-            found.UnionWith(type.Methods.Where(method => !IsReplaced(method)));
         }
         return found;
     }
 
-    bool IsReplaced(MethodDefinition method)
+    // The method that has the code of an old method now: itself, or one that was added. A method of whose code nothing is left is not
+    // here, since the debug file says nothing of new code. The entry point is, since the debug file names it.
+    Dictionary<MethodDefinition, MethodDefinition> Homes()
     {
-        Body old;
-        if (!methods.TryGetValue(method, out old) || old.Code.Length == 0 || method == module.EntryPoint) return false;
-        if (method.HasBody && method.Body.Instructions.Intersect(old.Code.Select(Now)).Any()) return false;
-        warnings.Add("Nothing is left of the code of " + method + ", so it has no lines.");
-        return true;
+        var now = new HashSet<MethodDefinition>(module.GetTypes().SelectMany(type => type.Methods));
+        var owners = new Dictionary<Instruction, MethodDefinition>();
+        foreach (var method in now.Where(method => method.HasBody))
+            foreach (var instruction in method.Body.Instructions) owners[instruction] = method;
+        var homes = new Dictionary<MethodDefinition, MethodDefinition>();
+        var taken = new HashSet<MethodDefinition>();
+        foreach (var method in methods.OrderBy(pair => pair.Value.Row).Select(pair => pair.Key))
+        {
+            var parts = Owners(method, owners);
+            var home = parts.FirstOrDefault(taken.Add);
+            if (parts.Count > 1) warnings.Add("The code of " + method + " is in " + parts.Count + " methods now. Only that in " + home + " has lines.");
+            bool isEmpty = home == null && methods[method].Code.Length > 0;
+            if (isEmpty && now.Contains(method)) warnings.Add("Nothing is left of the code of " + method + ", so it has no lines.");
+            if (home == null && now.Contains(method) && (!isEmpty || method == module.EntryPoint)) home = method;
+            if (home != null) homes[method] = home;
+        }
+        return homes;
     }
 
-    List<Change> Changes(HashSet<object> alive, ModuleDefinition after)
+    // The method itself and those that were added, if they have some of its code: first the one that has most.
+    List<MethodDefinition> Owners(MethodDefinition method, Dictionary<Instruction, MethodDefinition> owners)
+    {
+        return methods[method].Code.Select(Now).Where(owners.ContainsKey).Select(instruction => owners[instruction])
+            .Where(owner => owner == method || !methods.ContainsKey(owner))
+            .GroupBy(owner => owner).OrderByDescending(group => group.Count()).ThenByDescending(group => group.Key == method)
+            .Select(group => group.Key).ToList();
+    }
+
+    List<Change> Changes(Dictionary<MethodDefinition, MethodDefinition> homes, ModuleDefinition after)
     {
         var found = new List<Change>();
-        foreach (var pair in methods.Where(pair => pair.Key.HasBody && alive.Contains(pair.Key)).OrderBy(pair => pair.Value.Row))
+        foreach (var pair in homes.Where(pair => pair.Value.HasBody).OrderBy(pair => methods[pair.Key].Row))
         {
-            var written = after.LookupToken(pair.Key.MetadataToken) as MethodDefinition;
-            if (written == null || !written.HasBody || written.Body.Instructions.Count != pair.Key.Body.Instructions.Count)
-                throw new InvalidOperationException(pair.Key.FullName + " has changed since the module was written");
-            found.Add(new Change { Old = pair.Value, Now = pair.Key.Body, Written = written.Body });
+            var written = after.LookupToken(pair.Value.MetadataToken) as MethodDefinition;
+            if (written == null || !written.HasBody || written.Body.Instructions.Count != pair.Value.Body.Instructions.Count)
+                throw new InvalidOperationException(pair.Value.FullName + " has changed since the module was written: call Save right after Write.");
+            found.Add(new Change { Old = methods[pair.Key], Now = pair.Value.Body, Written = written.Body });
         }
         return found;
+    }
+
+    SortedDictionary<uint, uint> MethodImages(Dictionary<MethodDefinition, MethodDefinition> homes)
+    {
+        var images = new SortedDictionary<uint, uint>();
+        foreach (var pair in homes) images[methods[pair.Key].Row] = pair.Value.MetadataToken.RID;
+        return images;
     }
 
     // The new row of each old row that still exists. A row of a table that is not here gets none, so `remap` reports M1 if the
@@ -235,13 +294,15 @@ public sealed class MapWriter
 
     void TypeImages(SortedDictionary<uint, uint> images, List<TypeReference> before, List<TypeReference> now)
     {
+        var nameable = new Nameable(module);
         var rows = new Dictionary<string, uint>();
         for (int i = now.Count - 1; i >= 0; i--) rows[TypeNames.Of(now[i])] = (uint)i + 1;
         for (int i = 0; i < before.Count; i++)
         {
             uint row;
             if (rows.TryGetValue(TypeNames.Of(before[i]), out row)) images[(uint)i + 1] = row;
-            else warnings.Add("The new module does not name " + before[i] + ". If its debug file does, call Keep before you write.");
+            else if (nameable.Has(before[i]))
+                warnings.Add("The new module does not name " + before[i] + ". If its debug file does, call Keep before you write.");
         }
     }
 
@@ -309,6 +370,27 @@ public sealed class MapWriter
     }
 }
 
+// The types that a module can still name: without those that a tool removed, or whose assembly reference it removed.
+sealed class Nameable
+{
+    readonly HashSet<object> present;
+
+    public Nameable(ModuleDefinition module)
+    {
+        present = new HashSet<object>(module.GetTypes()) { module };
+        present.UnionWith(module.AssemblyReferences);
+        present.UnionWith(module.ModuleReferences);
+    }
+
+    public bool Has(TypeReference type)
+    {
+        if (type is GenericParameter) return true;
+        if (type is TypeDefinition) return present.Contains(type);
+        if (type is TypeSpecification) return TypeNames.Parts((TypeSpecification)type).All(Has);
+        return type.DeclaringType != null ? Has(type.DeclaringType) : type.Scope == null || present.Contains(type.Scope);
+    }
+}
+
 // A name for each type, which is that of no other type.
 static class TypeNames
 {
@@ -317,9 +399,22 @@ static class TypeNames
         var parameter = type as GenericParameter;
         if (parameter != null) return (parameter.Type == GenericParameterType.Method ? "!!" : "!") + parameter.Position;
         var specification = type as TypeSpecification;
+        if (specification is FunctionPointerType) return Suffix(specification);
         if (specification != null) return Of(specification.ElementType) + Suffix(specification);
         if (type.DeclaringType != null) return Of(type.DeclaringType) + "/" + type.Name;
         return Scope(type.Scope) + type.Namespace + "." + type.Name;
+    }
+
+    // The types that a type consists of.
+    public static IEnumerable<TypeReference> Parts(TypeSpecification type)
+    {
+        var instance = type as GenericInstanceType;
+        if (instance != null) return instance.GenericArguments.Concat(new[] { type.ElementType });
+        var modifier = type as IModifierType;
+        if (modifier != null) return new[] { type.ElementType, modifier.ModifierType };
+        var function = type as FunctionPointerType;
+        if (function != null) return function.Parameters.Select(parameter => parameter.ParameterType).Concat(new[] { function.ReturnType });
+        return new[] { type.ElementType };
     }
 
     static string Suffix(TypeSpecification type)
@@ -350,9 +445,9 @@ sealed class DebugDirectory : ISymbolWriterProvider, ISymbolWriter
     public const int CodeView = 2, Embedded = 17, Checksum = 19;
     readonly ImageDebugHeader header;
 
-    public DebugDirectory(ImageDebugHeader old)
+    public DebugDirectory(ImageDebugHeader old, bool keepsChecksum)
     {
-        header = new ImageDebugHeader(old.Entries.Where(entry => Kind(entry) != Embedded && Kind(entry) != Checksum).ToArray());
+        header = new ImageDebugHeader(old.Entries.Where(entry => Kind(entry) != Embedded && (keepsChecksum || Kind(entry) != Checksum)).ToArray());
     }
 
     public static bool Has(ModuleDefinition module, int kind)

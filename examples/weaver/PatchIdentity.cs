@@ -2,7 +2,7 @@
 // after `ppdb remap` without --keep-id:
 //   the entry of type 2 (CodeView)    gets the first 16 bytes of the identity as its GUID, and the last four as its time stamp
 //   the entry of type 19 (checksum)   gets the SHA-256 of the debug file with 20 zero bytes in place of the identity
-// Sign the module afterwards.
+// Sign the module afterwards. In a tool of your own, leave out Main, and call PatchIdentity.Patch.
 //
 // Copyright 2026 Jamtrov maintainers
 // Licensed under the Apache License, Version 2.0: https://www.apache.org/licenses/LICENSE-2.0
@@ -20,9 +20,7 @@ public static class PatchIdentity
     {
         try
         {
-            var module = File.ReadAllBytes(words[0]);
-            Patch(module, File.ReadAllBytes(words[1]));
-            File.WriteAllBytes(words[0], module);
+            Patch(words[0], words[1]);
             return 0;
         }
         catch (Exception fault)
@@ -30,6 +28,14 @@ public static class PatchIdentity
             Console.Error.WriteLine("PatchIdentity: " + fault.Message);
             return 1;
         }
+    }
+
+    /// Writes the identity of a debug file, and its checksum where the module has one, into the file of the module.
+    public static void Patch(string module, string debugFile)
+    {
+        var bytes = File.ReadAllBytes(module);
+        Patch(bytes, File.ReadAllBytes(debugFile));
+        File.WriteAllBytes(module, bytes);
     }
 
     /// Writes the identity of the debug file, and its checksum where the module has one, into the bytes of the module.

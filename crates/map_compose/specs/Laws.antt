@@ -10,13 +10,13 @@ pub record MovesOn (firsts seconds : List Run) (x z : ℕ) : Type 0 where
   pub first : Moves firsts x y
   pub second : Moves seconds y z
 
--- none goes on where the one before it ends
+-- no run goes on where the run before it ends
 abbrev pub Apart : List Run → Type 0
 Apart [] = Unit {0}
 Apart (run ∷ []) = Unit {0}
 Apart (run ∷ next ∷ runs) = (goes_on run next ≡ false) × Apart (next ∷ runs)
 
--- the same offsets are kept, each at the same image
+-- the two lists of runs keep the same offsets, each at the same image
 abbrev pub MoveAlike : List Run → List Run → Type 0
 MoveAlike runs others = (x z : ℕ) → (Moves runs x z → Moves others x z) × (Moves others x z → Moves runs x z)
 

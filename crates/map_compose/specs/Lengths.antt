@@ -18,7 +18,7 @@ pub record Inside (run other : Run) : Type 0 where
   pub begins : run.new ≤ other.old
   pub ends : end_of other ≤ new_end_of run
 
--- so many of the runs end by an offset, and those after them do not
+-- the first `many` runs end at or before an offset, and those after them do not
 pub record EndBy (runs : List Run) (offset many : ℕ) : Type 0 where
   pub bound : many ≤ length runs
   pub ended : (k : ℕ) (d : Run) → k < many → k < length runs → end_of (slice_index_or runs k d) ≤ offset

@@ -10,6 +10,6 @@ use Rattle.map_compose.specs.Sizes.{SizesAgree}
 abbrev pub CompositionsAreOne : Type 0
 CompositionsAreOne = (f s c d : Map) → IsReadable c → IsReadable d → IsComposition f s c → IsComposition f s d → c ≡ d
 
--- so a composition is the map that is made of both
+-- each readable composition of two maps is the map that is made of both
 abbrev pub ComposedIsTheOnlyOne : Type 0
 ComposedIsTheOnlyOne = (f s c : Map) → IsReadable f → IsReadable s → SizesAgree f s → IsReadable c → IsComposition f s c → c ≡ composed f s

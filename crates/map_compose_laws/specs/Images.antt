@@ -44,7 +44,7 @@ abbrev pub PointComposes : Map → Map → ℕ → ℕ → Option PointMeaning �
 PointComposes f s method image None = Unit {0}
 PointComposes f s method image (Some p) = EdgeComposes f s method image p.offset
 
--- so it does all offsets of a meaning
+-- the second map takes the images of all offsets of a meaning on as the map of both takes these offsets
 pub record EdgesCompose (f s : Map) (method image : ℕ) (a : Meaning) : Type 0 where
   pub point : PointComposes f s method image a.point
   pub scopes : Each (λ (x : ScopeMeaning). RangeComposes f s method image x.range) a.scopes

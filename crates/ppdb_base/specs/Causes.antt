@@ -9,6 +9,6 @@ Rose before after = (before < after) ⊎ (after ≡ 18446744073709551615)
 abbrev pub counted : ℕ → ℕ
 counted n = if n == 18446744073709551615 then n else n + 1
 
--- the same where it did happen
+-- the count after what may have happened: one more where it did, unless it stands at its last value
 abbrev pub counted_where : Bool → ℕ → ℕ
 counted_where happened n = if happened then counted n else n

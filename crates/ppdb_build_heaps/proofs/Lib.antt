@@ -3,6 +3,7 @@ pub mod Stable
 pub mod Stands
 pub mod FirstUses
 pub mod Interned
+pub mod GuidSets
 pub mod Parts
 pub mod Drafts
 pub mod Stays

@@ -1,4 +1,5 @@
 // The GUIDs of a heap, each of which is kept once.
+use crate::item::Guid;
 use crate::keys::ItemKey;
 use crate::store::ItemStore;
 use indexmap::IndexSet;
@@ -9,15 +10,16 @@ use std::marker::Model;
 /// The GUIDs of a heap, each of which is kept once. Contracts see it as the list of its GUIDs.
 #[derive(Drop)]
 pub struct GuidHeap {
-    guids: IndexSet<[u8; 16], ItemKey>,
+    guids: IndexSet<Guid, ItemKey>,
 }
 
 impl Model for GuidHeap {
     ghost use Rattle.std.specs.Prelude.{ℕ, List};
+    ghost use Rattle.ppdb_build_heaps.specs.Guids.{guids_of};
 
     ghost Value = { List (List ℕ) };
 
-    ghost view = { λ h. h.guids.keys };
+    ghost view = { λ h. guids_of h.guids.keys };
 }
 
 impl GuidHeap {
@@ -48,7 +50,7 @@ impl GuidHeap {
         ensures number { IfOk result (λ number. number ≡ min (1 + position_or_len (bytes_eq guid.now) (with_use self.old guid.now)) 0xffffffff) }
         ensures err { OnErr result (self.new ≡ self.old) }
     {
-        let (index, _) = self.guids.insert_full(*guid)?;
+        let (index, _) = self.guids.insert_full(Guid { bytes: *guid })?;
         Ok((index as u64).saturating_add(1).min(0xffff_ffff) as u32)
     }
 
@@ -57,7 +59,7 @@ impl GuidHeap {
         ensures { OnOk result (into.new ≡ into.old ++ flat_map (λ guid. guid) self.now) }
     {
         for guid in self.guids.as_slice() {
-            into.append(guid)?;
+            into.append(&guid.bytes)?;
         }
         Ok(())
     }

@@ -23,20 +23,21 @@ ppdb --help                    prints this text; so do -h and help
 ppdb --version                 prints the version; so does -V
 
 id, show, query, lookup, links and breaks print JSON, one object a line, with --json at the end.
-Numbers are decimal. Let the shell convert a token and a hexadecimal offset of a stack trace:
+Numbers are decimal, but a LIST may have tokens and hexadecimal offsets. For the other commands let
+the shell convert them:
     ppdb query app.pdb $((0x06000012 & 0xffffff)) $((0x1a))
 
 Exit status, and the line that is printed with it:
 0   success: the answer
 1   the file breaks a rule: refused FILE FAULT
-2   the words are not a command: usage
+2   the command line is wrong: usage
 3   the file could not be read: read fault FILE
 4   standard output or a file could not be written; for a file: write fault FILE
 5   out of memory
 6   the file does not exist: absent FILE
 7   the file is longer than 134217728 bytes: too long FILE
 8   the file does not fit its map or an earlier input, or has a record of an unknown kind:
-    unfit FILE REASON, M1 to M11; a map breaks a rule of map texts: map FILE line LINE kind RULE
+    unfit FILE REASON, M1 to M11; a map breaks a rule of map texts: map FILE line LINE kind KIND
 9   the result would exceed a limit of the format: limit LIMIT
 10  the file has no such method: no method METHOD
 11  the Source Link record cannot be read: links FILE not json, links FILE shape
@@ -44,8 +45,9 @@ Exit status, and the line that is printed with it:
 13  the second map is not for the result of the first: sizes differ method METHOD SIZE SIZE
 14  a line of a list is not METHOD OFFSET: list LIST line LINE
 
-The manual page explains every F, M and L code and what to do about it. FORMAT.md, installed in
-share/doc/ppdb, defines map texts (section 5) and how files fit a map, move and join (10 to 12).
+The manual page explains every code of F, M and L and what to do about it. FORMAT.md, installed as
+share/doc/ppdb/docs/FORMAT.md, defines map texts (section 5) and how files fit a map, move and join
+(10 to 12).
 ";
 
 const ID: &str = "ppdb id FILE [--json]
@@ -85,12 +87,13 @@ const LOOKUP: &str = "ppdb lookup FILE LIST [--json]
 
 Verifies the file once, then answers each line of LIST, in order: `at METHOD OFFSET`, and then the
 lines of `ppdb query FILE METHOD OFFSET`. LIST is a text with one question a line, METHOD and OFFSET
-parted by one space. METHOD is a row, or a token such as 0x06000012; OFFSET is decimal, or
-hexadecimal after 0x. Lines that are empty or begin with # are skipped:
+separated by one space. METHOD is a row, or a token of eight digits, 0x06000012 (.NET prints
+0x6000012: insert the zero); OFFSET is decimal, or hexadecimal after 0x. Lines that are empty or
+begin with # are skipped:
     # async_iter.cs
     0x06000012 0x1a
     18 26
-A method that the file does not have is answered by `no method METHOD`, and the next line follows.
+If the file does not have a method, the answer is `no method METHOD`, and the next line follows.
 Any other line in LIST is reported as `list LIST line LINE`, with status 14, and nothing else is
 printed. With --json each line is a JSON object.
 ";
@@ -98,7 +101,7 @@ printed. With --json each line is a JSON object.
 const LINKS: &str = "ppdb links FILE [--json]
 
 Verifies the file, then prints for each document the address of its source, or none. The addresses
-come from the Source Link record that the compiler put into the file:
+come from the Source Link record of the module; if it has several, the first one counts:
     link 1 https://example.org/raw/abc/async_iter.cs
     link 2 none
 A file without such a record has no addresses. If the record is not JSON, or not of the form of
@@ -123,17 +126,17 @@ Verifies IN, then writes to OUT the canonical file with the same contents: the s
 order, each heap item once, each number in its shortest form. Files with equal contents become equal
 bytes. Prints nothing. IN is read before OUT is written, so both may be the same file.
 --keep-id     keeps the identity of IN; without it the identity is made from the new bytes
---free GUID   passes on records of this unknown kind; without it they give status 8
+--free GUID   copies records of this unknown kind unchanged; without it they give status 8
 ";
 
 const REMAP: &str = "ppdb remap IN MAP OUT [--keep-id] [--free GUID]..
 
 Verifies IN, the debug file of a module before it was rewritten, and moves it as MAP says: where
-rows, IL offsets and local slots went. Writes the canonical file to OUT: what IN says at an offset
-that is kept, OUT says at its new place. Prints nothing. IN and MAP are read before OUT is written,
-so OUT may be one of them.
+rows, IL offsets and local slots went. Writes the canonical file to OUT: for each offset that is
+kept, OUT says at the new offset what IN says at the old one. Prints nothing. IN and MAP are read
+before OUT is written, so OUT may be one of them.
 --keep-id     keeps the identity of IN; without it the identity is made from the new bytes
---free GUID   passes on records of this unknown kind; without it they give status 8
+--free GUID   copies records of this unknown kind unchanged; without it they give status 8
 
 A map is a text. Its first line is `ppdbmap 4`; the other lines have these forms, with TT a table
 in two hexadecimal digits and decimal numbers:
@@ -148,7 +151,7 @@ in two hexadecimal digits and decimal numbers:
 What has no line stays as it is. A table with a rows line, a method with a method line and a method
 with a slots line keep only the rows, offsets and slots that are listed. Example: a method of 9
 bytes keeps the offsets 0 and 5 to 8, and has 12 bytes now:
-    ppdbmap 3
+    ppdbmap 4
     method 1 9 12
     run 0 0 1
     run 5 6 4
@@ -158,14 +161,15 @@ A file that does not fit its map is reported on one line, with status 8:
 M6   a record has an unknown kind: pass --free if it names no row, offset or slot
 M4   an offset is not below the old size, or a range ends above it: give the size before rewriting
 M5   an async method stops at an offset that is not kept: add a run line that keeps it
-M1   a row has no image: add its row line, or the drop line of a method that was removed
+M1   the map gives a row no new row: add its row line, or the drop line of a method that was removed
 M2   two rows became one: correct a row line, or drop one of the two methods
-M10  a slot has no image: add its slot line
+M10  the map gives a slot no new slot: add its slot line
 M11  two slots became one: correct a slot line
+M9   a new row is above the row count of its table: correct the row, signature or rows line
 A result that would exceed a limit of the format is reported with status 9:
 L3   a point would be at 536870912 or later: the map moves it too far
 L4   two lines are too far apart, since the point between them is gone: keep it with a run line
-L5   more than 134217728 bytes; L6 more than 268435456 bytes of texts and blobs: too large
+L5   more than 134217728 bytes; L6 more than 268435456 bytes of strings and blobs: too large
 ";
 
 const MERGE: &str = "ppdb merge OUT IN MAP [IN MAP].. [--keep-id] [--free GUID]..
@@ -173,30 +177,32 @@ const MERGE: &str = "ppdb merge OUT IN MAP [IN MAP].. [--keep-id] [--free GUID].
 Verifies each IN, moves it by its MAP as `remap` does, joins all of them and writes the canonical
 file to OUT. There are 1 to 256 inputs, and no two of them may have the same method of the new
 module. Documents with the same name become one; the entry point is that of the first IN. Prints
-nothing. All inputs are read before OUT is written, so OUT may be one of them. Each map gives the
-row counts of the new module, the same in all maps:
-    ppdbmap 3
+nothing. All inputs are read before OUT is written, so OUT may be one of them. Each map has a rows
+line, with the row count of the new module, and a row line for each row, of every table that the
+merger changed, at least 01, 02, 06, 11, 1b and 23; the rows lines are the same in all maps:
+    ppdbmap 4
     rows 06 10
     row 06 1 6
-`ppdb help remap` has all lines of a map.
+The rows of a table that is left out keep their numbers: two inputs then share them, and the status
+is still 0. `ppdb help remap` has all lines of a map.
 --keep-id     keeps the identity of the first IN; without it the identity is made from the new bytes
---free GUID   passes on records of this unknown kind; without it they give status 8
+--free GUID   copies records of this unknown kind unchanged; without it they give status 8
 
-What does not fit is reported as by `remap`, and with status 8 also:
+`merge` reports what `remap` reports, and with status 8 also:
 M3   two inputs have the same new method: correct a map, or remove an input that is named twice
 M7   documents of the same name differ: compile from the same sources, or under other names
 M8   the maps give different row counts: write the same rows line into each
-M9   an image is above the row count of its table: correct the row line or the rows line
-A result that would exceed a limit is reported with status 9; beside L3 to L6:
+A result that would exceed a limit is reported with status 9; besides L3 to L6:
 L1   more than 16777215 rows in a table: join fewer inputs
 L2   65535 variables or constants, and the last scope owns none: join another input too
 ";
 
 const COMPOSE: &str = "ppdb compose FIRST SECOND OUT
 
-Writes to OUT one map that does what two maps do one after the other: SECOND is the map of a tool
-that rewrote the result of FIRST. The output is canonical. Prints nothing. Both maps are read before
-OUT is written, so OUT may be one of them.
+Writes to OUT one map of two rewritings: SECOND is the map of a tool that rewrote the result of
+FIRST. For an offset that both maps keep, one step by OUT and the two steps say the same. `remap`
+may report M1 for OUT where it accepts the two steps. OUT is canonical. Prints nothing. Both maps
+are read before OUT is written, so OUT may be one of them.
 A method must have the same size after FIRST and before SECOND. Otherwise SECOND was made for
 another body: the line is `sizes differ method M A B` for the first such method, and the status is
 13. A text that is not a map is reported by its first invalid line and the rule that it breaks, with

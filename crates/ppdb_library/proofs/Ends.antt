@@ -2,11 +2,12 @@
 use Rattle.std.proofs.Common.{ℕ, ◌≡◌, inl, inr, List, [], refl, sym, ◌∙◌, ap, subst}
 use Rattle.std.specs.Prelude.{Option, Some, None}
 use Rattle.ppdb_base.specs.Files.{Files}
-use Rattle.ppdb_run.specs.declared.status.Status.TheVariants.{Done, Usage}
+use Rattle.ppdb_run_stops.specs.declared.status.Status.TheVariants.{Done, Usage}
 use Rattle.ppdb_run.specs.Ends.{AreSeen, Asks, LeavesFiles}
 use Rattle.ppdb_run.specs.Means.{WritesMeaning}
-use Rattle.ppdb_run.specs.Outcome.{Outcome, IsOutcome}
-use Rattle.ppdb_run.specs.Words.{Task, Words, texts, written_file}
+use Rattle.ppdb_run_stops.specs.Refusals.{Outcome}
+use Rattle.ppdb_run.specs.Outcome.{IsOutcome}
+use Rattle.ppdb_run_words.specs.Words.{Task, Words, texts, written_file}
 use Rattle.ppdb_library.specs.declared.answer.Ended.{Ended}
 use Rattle.ppdb_library.specs.declared.piece.PpdbPiece.{PpdbPiece}
 use Rattle.ppdb_library.specs.Calls.{IsCall, made_bytes}

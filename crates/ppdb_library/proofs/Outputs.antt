@@ -10,10 +10,11 @@ use Rattle.ppdb_base.specs.declared.limits.Limit.{Limit}
 use Rattle.ppdb_base.specs.declared.limits.TheConstants.{MAX_FILE_BYTES}
 use Rattle.ppdb_base.specs.Files.{Files, Reading, Missing, Longer, Contents, reading}
 use Rattle.ppdb_maps.specs.Map.{Map}
-use Rattle.ppdb_run.specs.declared.status.Status.TheVariants.{Done}
+use Rattle.ppdb_run_stops.specs.declared.status.Status.TheVariants.{Done}
 use Rattle.ppdb_run.specs.Means.{WritesMeaning}
-use Rattle.ppdb_run.specs.Outcome.{Outcome, IsOutcome, absent, composed_text, done, input_of, limited, map_at, prints, too_long, unless, written}
-use Rattle.ppdb_run.specs.Words.{Task, Ask, Lookup, Rebuild, Compose, Merge, Sample, written_file}
+use Rattle.ppdb_run_stops.specs.Refusals.{Outcome, absent, limited, prints, too_long}
+use Rattle.ppdb_run.specs.Outcome.{IsOutcome, composed_text, done, input_of, map_at, unless, written}
+use Rattle.ppdb_run_words.specs.Words.{Task, Ask, Lookup, Rebuild, Compose, Merge, Sample, written_file}
 use Rattle.ppdb_run.specs.Writes.{WritesAll}
 use Rattle.ppdb_run.proofs.Kept.{writes_none}
 use Rattle.ppdb_run.proofs.Lookups.{lookup_writes}

@@ -2,10 +2,10 @@
 use Rattle.std.specs.Prelude.{ℕ, ◌≡◌, ◌⊎◌, List, [], Option, Some, length}
 use Rattle.std.specs.Str.{IsUtf8}
 use Rattle.ppdb_base.specs.Files.{Files}
-use Rattle.ppdb_run.specs.declared.status.Status.{Status}
-use Rattle.ppdb_run.specs.declared.status.Status.TheVariants.{Done}
-use Rattle.ppdb_run.specs.Outcome.{Outcome}
-use Rattle.ppdb_run.specs.Status.{status_number}
+use Rattle.ppdb_run_stops.specs.declared.status.Status.{Status}
+use Rattle.ppdb_run_stops.specs.declared.status.Status.TheVariants.{Done}
+use Rattle.ppdb_run_stops.specs.Refusals.{Outcome}
+use Rattle.ppdb_run_stops.specs.Status.{status_number}
 use Rattle.ppdb_library.specs.declared.piece.PpdbPiece.{PpdbPiece}
 use Rattle.ppdb_library.specs.declared.status.TheConstants.{MEMORY, USAGE}
 use Rattle.ppdb_library.specs.Pieces.{AreApart, files_in}

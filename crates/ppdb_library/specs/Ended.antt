@@ -3,11 +3,11 @@ use Rattle.std.specs.Prelude.{ℕ, ◌≡◌, ◌≢◌, ◌⊎◌, List, [], Op
 use Rattle.std.specs.FinMap.{get}
 use Rattle.std.specs.Option.{unwrap_or}
 use Rattle.ppdb_base.specs.Files.{Files}
-use Rattle.ppdb_run.specs.declared.status.Status.TheVariants.{Done, Memory}
+use Rattle.ppdb_run_stops.specs.declared.status.Status.TheVariants.{Done, Memory}
 use Rattle.ppdb_run.specs.Ends.{LeavesFiles, OnAsked, OnOutcome, WritesAgain, WritesValid}
 use Rattle.ppdb_run.specs.Means.{WritesMeaning}
-use Rattle.ppdb_run.specs.Outcome.{Outcome}
-use Rattle.ppdb_run.specs.Words.{texts}
+use Rattle.ppdb_run_stops.specs.Refusals.{Outcome}
+use Rattle.ppdb_run_words.specs.Words.{texts}
 use Rattle.ppdb_library.specs.declared.answer.Ended.{Ended}
 
 -- what the file of a name holds, if there is a name

@@ -1,7 +1,7 @@
 // How a command over files in memory ends.
 ghost use Rattle.std.specs.Prelude.{◌≡◌, ◌≢◌, ◌<◌, [], ℕ, List, IfErr, IfOk, option_copied};
-ghost use Rattle.ppdb_run.specs.Task.{task_of};
-ghost use Rattle.ppdb_run.specs.Words.{Task, Words, texts, written_file};
+ghost use Rattle.ppdb_run_words.specs.Task.{task_of};
+ghost use Rattle.ppdb_run_words.specs.Words.{Task, Words, texts, written_file};
 ghost use Rattle.ppdb_library.specs.Calls.{ErrIs, IsCall};
 ghost use Rattle.ppdb_library.specs.Ended.{Comes, Ends, held};
 ghost use Rattle.ppdb_library.specs.Pieces.{files_in};

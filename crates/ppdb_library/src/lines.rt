@@ -1,7 +1,6 @@
 // The sequence points of frames: a method and an IL offset each, as a stack trace has them.
 ghost use Rattle.std.specs.Prelude.{◌≡◌, ◌≢◌, ◌<◌, ◌≤◌, ◌++◌, ◌↔◌, ◌⊎◌, length, map, drop};
 ghost use Rattle.ppdb_base.specs.First.{IsAccepted};
-ghost use Rattle.ppdb_base.specs.declared.limits.TheConstants.{MAX_FILE_BYTES};
 ghost use Rattle.ppdb_values.specs.RawFile.{RawFile};
 ghost use Rattle.ppdb_verify.specs.Files.{FileFaults, IsRawOf};
 ghost use Rattle.ppdb_verify.specs.Views.{raw_file};

@@ -2,7 +2,6 @@
 ghost use Rattle.std.specs.Prelude.{◌≡◌, ◌≢◌, ◌<◌, ◌↔◌, ◌⊎◌, length};
 ghost use Rattle.ppdb_base.specs.First.{IsAccepted, IsFirst};
 ghost use Rattle.ppdb_base.specs.declared.fault.Fault.{Fault};
-ghost use Rattle.ppdb_base.specs.declared.limits.TheConstants.{MAX_FILE_BYTES};
 ghost use Rattle.ppdb_verify.specs.Files.{FileFaults};
 ghost use Rattle.ppdb_library.specs.Faults.{told_fault};
 

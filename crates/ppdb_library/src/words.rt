@@ -1,6 +1,6 @@
 // The words of a call, each ended by a zero byte.
 ghost use Rattle.std.specs.Prelude.{◌↔◌, IfOk, IsTrue};
-ghost use Rattle.ppdb_run.specs.Words.{texts};
+ghost use Rattle.ppdb_run_words.specs.Words.{texts};
 ghost use Rattle.ppdb_library.specs.Words.{AreWords, IsWhole};
 
 use ppdb_base::Memory;

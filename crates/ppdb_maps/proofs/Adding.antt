@@ -8,19 +8,19 @@ use Rattle.std.specs.Prelude.{Vec}
 use Rattle.std.specs.declared.alloc.Global.{Global}
 use Rattle.std.proofs.lemmas.List.{map-append}
 use Rattle.std.proofs.lemmas.List.Folds.{find-append}
+use Rattle.std.proofs.lemmas.Cmp.{nat_eq_equiv}
 use Rattle.std.proofs.lemmas.Map.Keys.{IsDistinct-push}
-use Rattle.std.specs.Ordering.{nat_cmp}
 use Rattle.std.specs.BTreeMap as tree
 use Rattle.std.specs.BTreeMap.{BTreeMap, is_at}
 use Rattle.std.proofs.lemmas.Bool.{false≢true}
 use Rattle.ppdb_base.specs.declared.offsets.Run.{Run}
 use Rattle.ppdb_maps.specs.Map.{MethodLine, pair_cmp}
-use Rattle.ppdb_maps.specs.BitSets.{has_row}
-use Rattle.ppdb_maps.specs.Gathered.{row_key, same_pair}
-use Rattle.ppdb_maps.specs.Before.{methods_of, follows_method, row_in}
+use Rattle.ppdb_maps.specs.BitSets.{has_number, has_row}
+use Rattle.ppdb_maps.specs.Gathered.{row_key, method_key, signature_key, same_pair}
+use Rattle.ppdb_maps.specs.Before.{methods_of, follows_method, row_in, method_in, signature_in}
 use Rattle.ppdb_maps.specs.Rules.{kind_of, Breaks, BeginsEarly, EndsBeyond, run_alone, run_early, run_long}
 use Rattle.ppdb_maps.specs.Runs.{RefusesRun}
-use Rattle.ppdb_maps.specs.Drafts.{Holds, HoldsMethods, IsClosed, RefusedBy, AddsLine}
+use Rattle.ppdb_maps.specs.Drafts.{Holds, HoldsMethods, HasLines, IsClosed, RefusedBy, AddsLine}
 use Rattle.ppdb_maps.specs.declared.draft.Draft.{Draft}
 use Rattle.ppdb_maps.specs.declared.refusal.Refusal.{Refusal}
 use Rattle.ppdb_maps.specs.declared.refusal.Refusal.TheVariants.{Breaks as refused, Memory}
@@ -28,10 +28,12 @@ use Rattle.ppdb_maps.specs.declared.line.Line.{Line}
 use Rattle.ppdb_maps.specs.declared.line.Line.TheVariants.{Silent, Row, Method, Kept, Slot, Signature}
 use Rattle.ppdb_maps.specs.declared.rule.Rule.{Rule}
 use Rattle.ppdb_maps.specs.declared.rule.Rule.TheVariants.{NoMethod}
+use Rattle.ppdb_maps.specs.declared.bit_set.BitSet.{BitSet}
 use Rattle.ppdb_maps.specs.declared.bit_set.RowSet.{RowSet}
 use Rattle.ppdb_maps.specs.declared.entries.RowImage.{RowImage}
-use Rattle.ppdb_maps.proofs.OneMap.{pair_equal, pair_is}
-use Rattle.ppdb_maps.proofs.Refusing.{at_number, at_pair}
+use Rattle.ppdb_maps.specs.declared.entries.SignatureImage.{SignatureImage}
+use Rattle.ppdb_maps.proofs.OneMap.{pair_equal, pair_is, same_number}
+use Rattle.ppdb_maps.proofs.Refusing.{at_pair}
 
 abbrev is_row : ℕ → ℕ → RowImage → Bool
 is_row table old row = nat_eq row.table table && nat_eq row.old old
@@ -62,12 +64,62 @@ some_or : {A : Type 0} (b : Bool) (x : A) (o : Option A) → (b || is_some o) �
 some_or true x o = refl
 some_or false x o = refl
 
+-- what is found by a key
+abbrev find_at : {X : Type 0} → (X → ℕ) → ℕ → List X → Option X
+find_at key k xs = find (λ x. nat_eq (key x) k) xs
+
+pushed_at : {X V : Type 0} (value : X → V) (o : Option X) (x : X) (b : Bool) → (b ≡ true → is_some (option_map value o) ≡ false)
+    → option_map value (option_or o (cond b (Some x) None)) ≡ cond b (Some (value x)) (option_map value o)
+pushed_at value None x true fresh = refl
+pushed_at value None x false fresh = refl
+pushed_at value (Some other) x true fresh = absurd (false≢true (sym (fresh refl)))
+pushed_at value (Some other) x false fresh = refl
+
+-- what is said by a key, with one more item at the end at a key that was not there before
+push_said : {X V : Type 0} (key : X → ℕ) (value : X → V) (xs : List X) (x : X) (said : ℕ → Option V)
+    → ((k : ℕ) → option_map value (find_at key k xs) ≡ said k) → is_some (said (key x)) ≡ false → (k : ℕ)
+    → option_map value (find_at key k (xs ++ x ∷ [])) ≡ cond (nat_eq (key x) k) (Some (value x)) (said k)
+push_said key value xs x said same fresh k =
+    ap (option_map value) (find-append (λ y. nat_eq (key y) k) xs (x ∷ []))
+    ∙ (pushed_at value (find_at key k xs) x (nat_eq (key x) k)
+    (λ is. ap is_some (same k) ∙ subst (λ j. is_some (said j) ≡ false) (same_number (key x) k is) fresh)
+    ∙ ap (cond (nat_eq (key x) k) (Some (value x))) (same k))
+
+itself : {X : Type 0} (o : Option X) → option_map (λ x. x) o ≡ o
+itself None = refl
+itself (Some x) = refl
+
+push_found : {X : Type 0} (key : X → ℕ) (xs : List X) (x : X) (lines : List X) → ((k : ℕ) → find_at key k xs ≡ find_at key k lines)
+    → is_some (find_at key (key x) lines) ≡ false → (k : ℕ) → find_at key k (xs ++ x ∷ []) ≡ cond (nat_eq (key x) k) (Some x) (find_at key k lines)
+push_found key xs x lines same fresh k =
+    sym (itself (find_at key k (xs ++ x ∷ [])))
+    ∙ push_said key (λ y. y) xs x (λ j. find_at key j lines) (λ j. itself (find_at key j xs) ∙ same j) fresh k
+
+some_said : {X V : Type 0} (value : X → V) (o : Option X) → is_some (option_map value o) ≡ false → is_some o ≡ false
+some_said value None none = refl
+some_said value (Some x) none = none
+
+key_absent : {X : Type 0} (key : X → ℕ) (xs : List X) (k : ℕ) → is_some (find_at key k xs) ≡ false → list_any (nat_eq k) (map key xs) ≡ false
+key_absent key [] k fresh = refl
+key_absent key (x ∷ xs) k fresh = of (nat_eq (key x) k) refl fresh (key_absent key xs k)
+  where
+    of : (b : Bool) → nat_eq (key x) k ≡ b → is_some (cond b (Some x) (find_at key k xs)) ≡ false
+        → (is_some (find_at key k xs) ≡ false → list_any (nat_eq k) (map key xs) ≡ false) → list_any (nat_eq k) (map key (x ∷ xs)) ≡ false
+    of true is fresh rest = absurd (false≢true (sym fresh))
+    of false is fresh rest = ap (λ b. b || list_any (nat_eq k) (map key xs)) (nat_eq_equiv.symm k (key x) ∙ is) ∙ rest fresh
+
+push_distinct : {X : Type 0} (key : X → ℕ) (xs : List X) (x : X) → IsDistinct nat_eq (map key xs) → is_some (find_at key (key x) xs) ≡ false
+    → IsDistinct nat_eq (map key (xs ++ x ∷ []))
+push_distinct key xs x distinct fresh = subst (IsDistinct nat_eq) (sym (map-append key xs (x ∷ [])))
+    (IsDistinct-push nat_eq_equiv (map key xs) (key x) distinct (key_absent key xs (key x) fresh))
+
 pub none_held : (draft : Draft) → draft.counts.entries ≡ [] → draft.rows.items ≡ [] → ((table row : ℕ) → has_row draft.moved table row ≡ false)
-    → draft.methods.entries ≡ []
-    → draft.current ≡ None → draft.drops.keys ≡ [] → draft.slotted.keys ≡ [] → draft.slots.entries ≡ [] → draft.signatures.entries ≡ []
+    → draft.methods.items ≡ [] → ((number : ℕ) → has_number draft.listed number ≡ false)
+    → draft.current ≡ None → draft.drops.keys ≡ [] → draft.slotted.keys ≡ [] → draft.slots.entries ≡ [] → draft.signatures.items ≡ []
+    → ((number : ℕ) → has_number draft.signed number ≡ false)
     → Holds [] draft
 unfolding IsDistinct
-none_held draft counts rows moved methods current drops slotted slots signatures = record {
+none_held draft counts rows moved methods listed current drops slotted slots signatures signed = record {
   others = record {
     counts = λ table. rw counts refl;
     rows = λ table old. rw rows refl;
@@ -77,8 +129,11 @@ none_held draft counts rows moved methods current drops slotted slots signatures
     slotted = λ method. rw slotted refl;
     slots = λ method old. rw slots refl;
     signatures = λ method. rw signatures refl;
+    signed_once = rw signatures tt;
+    signed = signed;
   };
-  methods = subst (λ (m : Option MethodLine). HoldsMethods [] m draft) (sym current) ((λ method. rw methods refl), refl);
+  methods = subst (λ (m : Option MethodLine). HoldsMethods [] m draft) (sym current)
+      (record { found = λ method. rw methods refl; distinct = rw methods tt; numbers = listed }, refl);
 }
 
 pub row_added : (before : List Line) (draft : Draft) (rows : Vec RowImage Global) (moved : RowSet) (t o n : ℕ) → IsClosed before draft
@@ -103,6 +158,8 @@ row_added before draft rows moved t o n closed fresh pushes marks = record {
     slotted = closed.others.slotted;
     slots = closed.others.slots;
     signatures = closed.others.signatures;
+    signed_once = closed.others.signed_once;
+    signed = closed.others.signed;
   };
   methods = subst (λ (m : Option MethodLine). HoldsMethods (Row t o n ∷ before) m (record draft { rows = rows; moved = moved })) (sym closed.closed)
       (closed.methods, refl);
@@ -126,14 +183,18 @@ slot_added before draft slots m o n closed updates = record {
     slotted = closed.others.slotted;
     slots = λ a b. updates (a, b) ∙ rw (at_pair m o a b, closed.others.slots a b) refl;
     signatures = closed.others.signatures;
+    signed_once = closed.others.signed_once;
+    signed = closed.others.signed;
   };
   methods = subst (λ (l : Option MethodLine). HoldsMethods (Slot m o n ∷ before) l (record draft { slots = slots })) (sym closed.closed) (closed.methods, refl);
 }
 
-pub signature_added : (before : List Line) (draft : Draft) (signatures : BTreeMap ℕ ℕ) (m n : ℕ) → IsClosed before draft
-    → ((q : ℕ) → tree.get nat_cmp signatures q ≡ cond (is_at (nat_cmp m) q) (Some n) (tree.get nat_cmp draft.signatures q))
-    → Holds (Signature m n ∷ before) (record draft { signatures = signatures })
-signature_added before draft signatures m n closed updates = record {
+pub signature_added : (before : List Line) (draft : Draft) (signatures : Vec SignatureImage Global) (signed : BitSet) (m n : ℕ) → IsClosed before draft
+    → is_some (signature_in before m) ≡ false
+    → signatures.items ≡ draft.signatures.items ++ record { method = m; new = n } ∷ []
+    → ((a : ℕ) → has_number signed a ≡ (nat_eq m a || has_number draft.signed a))
+    → Holds (Signature m n ∷ before) (record draft { signatures = signatures; signed = signed })
+signature_added before draft signatures signed m n closed fresh pushes marks = record {
   others = record {
     counts = closed.others.counts;
     rows = closed.others.rows;
@@ -142,15 +203,63 @@ signature_added before draft signatures m n closed updates = record {
     drops = closed.others.drops;
     slotted = closed.others.slotted;
     slots = closed.others.slots;
-    signatures = λ k. updates k ∙ rw (at_number m k, closed.others.signatures k) refl;
+    signatures = λ k.
+        ap (λ ss. option_map (λ (s : SignatureImage). s.new) (find_at signature_key k ss)) pushes
+        ∙ push_said signature_key (λ (s : SignatureImage). s.new) draft.signatures.items (record { method = m; new = n })
+        (signature_in before) closed.others.signatures fresh k;
+    signed_once = subst (λ ss. IsDistinct nat_eq (map signature_key ss)) (sym pushes)
+        (push_distinct signature_key draft.signatures.items (record { method = m; new = n }) closed.others.signed_once
+        (some_said (λ (s : SignatureImage). s.new) (find_at signature_key m draft.signatures.items) (ap is_some (closed.others.signatures m) ∙ fresh)));
+    signed = λ k. marks k ∙ (ap (λ b. nat_eq m k || b) (closed.others.signed k) ∙ some_or (nat_eq m k) n (signature_in before k));
   };
-  methods = subst (λ (l : Option MethodLine). HoldsMethods (Signature m n ∷ before) l (record draft { signatures = signatures })) (sym closed.closed)
-      (closed.methods, refl);
+  methods = subst (λ (l : Option MethodLine). HoldsMethods (Signature m n ∷ before) l (record draft { signatures = signatures; signed = signed }))
+      (sym closed.closed) (closed.methods, refl);
 }
 
-pub method_added : (before : List Line) (draft : Draft) (m o n : ℕ) → IsClosed before draft
+-- the open method is put at the end of the others
+pub method_closed : (before : List Line) (draft : Draft) (methods : Vec MethodLine Global) (listed : BitSet) (line : MethodLine) → Holds before draft
+    → draft.current ≡ Some line → methods.items ≡ draft.methods.items ++ line ∷ []
+    → ((a : ℕ) → has_number listed a ≡ (nat_eq line.method a || has_number draft.listed a))
+    → IsClosed before (record draft { methods = methods; listed = listed; current = None })
+method_closed before draft methods listed line holds is pushes marks = record {
+  others = record {
+    counts = holds.others.counts;
+    rows = holds.others.rows;
+    distinct = holds.others.distinct;
+    moved = holds.others.moved;
+    drops = holds.others.drops;
+    slotted = holds.others.slotted;
+    slots = holds.others.slots;
+    signatures = holds.others.signatures;
+    signed_once = holds.others.signed_once;
+    signed = holds.others.signed;
+  };
+  methods = lines_now (subst (λ (m : Option MethodLine). HoldsMethods before m draft) is holds.methods);
+  closed = refl;
+}
+  where
+    lines_now : HoldsMethods before (Some line) draft → HasLines (methods_of before) (record draft { methods = methods; listed = listed; current = None })
+    lines_now h = record {
+      found = λ k.
+          ap (λ ls. find_at method_key k ls) pushes ∙ (push_found method_key draft.methods.items line h.0 h.2.found h.4 k ∙ ap (λ ls. find_at method_key k ls) (sym h.1));
+      distinct = subst (λ ls. IsDistinct nat_eq (map method_key ls)) (sym pushes)
+          (push_distinct method_key draft.methods.items line h.2.distinct (ap is_some (h.2.found line.method) ∙ h.4));
+      numbers = λ k.
+          marks k ∙ (ap (λ b. nat_eq line.method k || b) (h.2.numbers k) ∙ (some_or (nat_eq line.method k) line (find_at method_key k h.0)
+          ∙ ap (λ ls. is_some (find_at method_key k ls)) (sym h.1)));
+    }
+
+-- where no method is open
+pub none_closed : (before : List Line) (draft : Draft) → Holds before draft → draft.current ≡ None → IsClosed before draft
+none_closed before draft holds is = record {
+  others = holds.others;
+  methods = (subst (λ (m : Option MethodLine). HoldsMethods before m draft) is holds.methods).0;
+  closed = is;
+}
+
+pub method_added : (before : List Line) (draft : Draft) (m o n : ℕ) → IsClosed before draft → is_some (method_in before m) ≡ false
     → Holds (Method m o n ∷ before) (record draft { current = Some (record { method = m; old_size = o; new_size = n; runs = [] }) })
-method_added before draft m o n closed = record {
+method_added before draft m o n closed fresh = record {
   others = record {
     counts = closed.others.counts;
     rows = closed.others.rows;
@@ -160,8 +269,10 @@ method_added before draft m o n closed = record {
     slotted = closed.others.slotted;
     slots = closed.others.slots;
     signatures = closed.others.signatures;
+    signed_once = closed.others.signed_once;
+    signed = closed.others.signed;
   };
-  methods = (methods_of before, refl, closed.methods, refl);
+  methods = (methods_of before, refl, closed.methods, refl, fresh);
 }
 
 pub silent_added : (before : List Line) (draft : Draft) → Holds before draft → Holds (Silent ∷ before) draft
@@ -175,13 +286,15 @@ silent_added before draft holds = record {
     slotted = holds.others.slotted;
     slots = holds.others.slots;
     signatures = holds.others.signatures;
+    signed_once = holds.others.signed_once;
+    signed = holds.others.signed;
   };
   methods = of draft.current holds.methods;
 }
   where
     of : (m : Option MethodLine) → HoldsMethods before m draft → HoldsMethods (Silent ∷ before) m draft
     of None h = (h.0, h.1)
-    of (Some line) h = (h.0, h.1, h.2, h.3)
+    of (Some line) h = (h.0, h.1, h.2, h.3, h.4)
 
 pub silent_keeps : (before : List Line) (rule : Rule) → Breaks before rule Silent → ⊥
 silent_keeps before rule h = elim h [ ]
@@ -226,8 +339,10 @@ run_added before draft line taken run result holds is added kept why =
           slotted = holds.others.slotted;
           slots = holds.others.slots;
           signatures = holds.others.signatures;
+          signed_once = holds.others.signed_once;
+          signed = holds.others.signed;
         };
-        methods = (h.0, rw (h.1, added) refl, h.2, h.3);
+        methods = (h.0, rw (h.1, added) refl, h.2, h.3, rw added h.4);
       },
       λ rule b. keeps rule b,
     )

@@ -22,7 +22,7 @@ parts_at_place mark (x ∷ xs) (suc i) within here before =
     rw (no, rest) refl
 
 -- a slice's end, as it is taken
-end_of_slice : (j : ℕ) (xs : List ℕ) → take (length xs - j) (drop j xs) ≡ drop j xs
+pub end_of_slice : (j : ℕ) (xs : List ℕ) → take (length xs - j) (drop j xs) ≡ drop j xs
 end_of_slice j xs = rw (← length-drop j xs) (take-length (drop j xs))
 
 -- the parts where the mark is found

@@ -1,20 +1,19 @@
 -- The lists of a map answer as the maps in which they were gathered.
 use Rattle.std.proofs.Common.{ℕ, ◌≡◌, ◌&&◌, Bool, true, false, List, [], ◌∷◌, Some, map, refl, sym, ap, ◌∙◌, subst, arith}
-use Rattle.std.specs.Prelude.{find, nat_eq, option_map, All}
-use Rattle.std.specs.List.{AllByRecursion, list_any}
+use Rattle.std.specs.Prelude.{find, nat_eq, option_map}
+use Rattle.std.specs.List.{list_any}
 use Rattle.std.specs.List.Sorted.{IsStrictlySortedBy, IsSortedByKey, IsPermutation}
 use Rattle.std.specs.Ordering.{nat_cmp}
-use Rattle.std.specs.Map.{lookup, keys_of, values_of}
+use Rattle.std.specs.Map.{lookup, keys_of}
 use Rattle.std.specs.BTreeMap.{BTreeMap, is_at, IsOrdered, get}
 use Rattle.std.specs.BTreeSet as sorted
 use Rattle.std.proofs.lemmas.Bool.Decides.{nat_tests}
-use Rattle.std.proofs.lemmas.Cmp.{nat_cmp_total}
-use Rattle.std.proofs.lemmas.List.Elements.{All-head, All-tail}
-use Rattle.std.proofs.lemmas.Map.Views.{All-found, exact_unsigned_eq}
+use Rattle.std.proofs.lemmas.Cmp.{nat_cmp_total, nat_eq_equiv}
+use Rattle.std.proofs.lemmas.Map.Lookups.{exact_unsigned}
+use Rattle.std.proofs.lemmas.Map.Views.{exact_unsigned_eq}
 use Rattle.ppdb_maps.specs.Map.{Map, MethodLine, Ascends, pair_cmp}
-use Rattle.ppdb_maps.specs.Gathered.{count_entry, row_key, same_pair, slot_entry, signature_entry}
+use Rattle.ppdb_maps.specs.Gathered.{count_entry, row_key, method_key, signature_key, same_pair, slot_entry}
 use Rattle.ppdb_maps.specs.Drafts.{IsClosed}
-use Rattle.ppdb_maps.specs.Before.{methods_of}
 use Rattle.ppdb_maps.specs.Text.{HoldsWhat}
 use Rattle.ppdb_maps.specs.declared.entries.Count.{Count}
 use Rattle.ppdb_maps.specs.declared.entries.RowImage.{RowImage}
@@ -22,7 +21,7 @@ use Rattle.ppdb_maps.specs.declared.entries.SlotImage.{SlotImage}
 use Rattle.ppdb_maps.specs.declared.entries.SignatureImage.{SignatureImage}
 use Rattle.ppdb_maps.specs.declared.draft.Draft.{Draft}
 use Rattle.ppdb_maps.specs.declared.line.Line.{Line}
-use Rattle.ppdb_maps.proofs.OneMap.{pair_equal, pair_exact, pair_is, pair_total}
+use Rattle.ppdb_maps.proofs.OneMap.{pair_equal, pair_exact, pair_is, pair_total, same_number}
 use Rattle.ppdb_maps.proofs.Refusing.{at_number, at_pair}
 use Rattle.ppdb_maps.proofs.Sorting.{found_alike, sorts_strictly}
 
@@ -59,11 +58,6 @@ slots_found m method old = found_entry slot_entry (λ (s : SlotImage). nat_eq s.
     (is_at (pair_cmp (method, old)))
     (λ e. turned_pair e.0.0 e.0.1 method old ∙ sym (at_pair method old e.0.0 e.0.1)) (λ e. refl) m.entries
 
-pub signatures_found : (m : BTreeMap ℕ ℕ) (method : ℕ)
-    → option_map (λ (s : SignatureImage). s.new) (find (λ s. nat_eq s.method method) (map signature_entry m.entries)) ≡ get nat_cmp m method
-signatures_found m method = found_entry signature_entry (λ (s : SignatureImage). nat_eq s.method method) (λ (s : SignatureImage). s.new)
-    (is_at (nat_cmp method)) (λ e. turned e.0 method ∙ sym (at_number method e.0)) (λ e. refl) m.entries
-
 -- a number is in a set by `nat_eq`
 any_number : (n : ℕ) (xs : List ℕ) → list_any (nat_eq n) xs ≡ list_any (is_at (nat_cmp n)) xs
 any_number n [] = refl
@@ -79,67 +73,49 @@ found_at_number (l ∷ ls) m line is = of (nat_eq l.method m) refl (found_at_num
         (exact_unsigned_eq l.method m here)
     of false here rest = rest (rw here at is)
 
--- each entry stands at its line's number
-abbrev Keyed : List (ℕ × MethodLine) → Type 0
-Keyed es = AllByRecursion (λ (e : ℕ × MethodLine). e.1.method ≡ e.0) es
-
-keyed_of : (lines : List MethodLine) (m : BTreeMap ℕ MethodLine) (es : List (ℕ × MethodLine))
-    → ((k : ℕ) → get nat_cmp m k ≡ find (λ l. nat_eq l.method k) lines)
-    → All (λ e. get nat_cmp m e.0 ≡ Some e.1) es → Keyed es
-keyed_of lines m [] are all = tt
-keyed_of lines m (e ∷ es) are all = (
-  found_at_number lines e.0 e.1 (sym (are e.0) ∙ All-head (λ (x : ℕ × MethodLine). get nat_cmp m x.0 ≡ Some x.1) e es all),
-  keyed_of lines m es are (All-tail (λ (x : ℕ × MethodLine). get nat_cmp m x.0 ≡ Some x.1) e es all),
-)
-
-method_found : (es : List (ℕ × MethodLine)) (k : ℕ) → Keyed es → find (λ l. nat_eq l.method k) (values_of es) ≡ lookup (is_at (nat_cmp k)) es
-method_found [] k keyed = refl
-method_found (e ∷ es) k keyed = of (nat_eq e.0 k) refl (method_found es k keyed.1)
-  where
-    of : (b : Bool) → nat_eq e.0 k ≡ b → find (λ l. nat_eq l.method k) (values_of es) ≡ lookup (is_at (nat_cmp k)) es
-        → find (λ l. nat_eq l.method k) (values_of (e ∷ es)) ≡ lookup (is_at (nat_cmp k)) (e ∷ es)
-    of true is rest = rw (keyed.0, at_number k e.0, turned k e.0, is) refl
-    of false is rest = rw (keyed.0, at_number k e.0, turned k e.0, is) rest
-
-method_keys : (es : List (ℕ × MethodLine)) → Keyed es → map (λ (m : MethodLine). m.method) (values_of es) ≡ keys_of es
-method_keys [] keyed = refl
-method_keys (e ∷ es) keyed = rw (keyed.0, method_keys es keyed.1) refl
-
 -- the lists that were made of a draft
 pub record MadeOf (draft : Draft) (made : Map) : Type 0 where
   pub counts : made.counts ≡ map count_entry draft.counts.entries
   pub rows : IsPermutation draft.rows.items made.rows
-  pub methods : made.methods ≡ values_of draft.methods.entries
+  pub methods : IsPermutation draft.methods.items made.methods
   pub drops : made.drops ≡ draft.drops.keys
   pub slotted : made.slotted ≡ draft.slotted.keys
   pub slots : made.slots ≡ map slot_entry draft.slots.entries
-  pub signatures : made.signatures ≡ map signature_entry draft.signatures.entries
+  pub signatures : IsPermutation draft.signatures.items made.signatures
   pub counts_ordered : IsOrdered nat_cmp draft.counts
   pub rows_ordered : IsSortedByKey row_key pair_cmp made.rows
-  pub methods_ordered : IsOrdered nat_cmp draft.methods
+  pub methods_ordered : IsSortedByKey method_key nat_cmp made.methods
   pub drops_ordered : sorted.IsOrdered nat_cmp draft.drops
   pub slotted_ordered : sorted.IsOrdered nat_cmp draft.slotted
   pub slots_ordered : IsOrdered pair_cmp draft.slots
-  pub signatures_ordered : IsOrdered nat_cmp draft.signatures
-
-keyed_draft : (before : List Line) (draft : Draft) → IsClosed before draft → IsOrdered nat_cmp draft.methods → Keyed draft.methods.entries
-keyed_draft before draft closed ordered = keyed_of (methods_of before) draft.methods draft.methods.entries closed.methods
-    (All-found nat_cmp_total draft.methods ordered)
+  pub signatures_ordered : IsSortedByKey signature_key nat_cmp made.signatures
 
 rows_ascend : (before : List Line) (draft : Draft) (made : Map) → IsClosed before draft → MadeOf draft made
     → IsStrictlySortedBy pair_cmp (map row_key made.rows)
 rows_ascend before draft made closed h =
     sorts_strictly row_key same_pair pair_cmp pair_equal pair_is pair_total pair_exact draft.rows.items made.rows closed.others.distinct h.rows h.rows_ordered
 
+methods_ascend : (before : List Line) (draft : Draft) (made : Map) → IsClosed before draft → MadeOf draft made
+    → IsStrictlySortedBy nat_cmp (map method_key made.methods)
+methods_ascend before draft made closed h =
+    sorts_strictly method_key nat_eq nat_cmp nat_eq_equiv same_number nat_cmp_total exact_unsigned draft.methods.items made.methods closed.methods.distinct
+    h.methods h.methods_ordered
+
+signatures_ascend : (before : List Line) (draft : Draft) (made : Map) → IsClosed before draft → MadeOf draft made
+    → IsStrictlySortedBy nat_cmp (map signature_key made.signatures)
+signatures_ascend before draft made closed h =
+    sorts_strictly signature_key nat_eq nat_cmp nat_eq_equiv same_number nat_cmp_total exact_unsigned draft.signatures.items made.signatures
+    closed.others.signed_once h.signatures h.signatures_ordered
+
 pub made_ascends : (before : List Line) (draft : Draft) (made : Map) → IsClosed before draft → MadeOf draft made → Ascends made
 made_ascends before draft made closed h = record {
   counts = rw (h.counts, same_keys count_entry (λ (c : Count). c.table) (λ e. refl) draft.counts.entries) h.counts_ordered;
   rows = rows_ascend before draft made closed h;
-  methods = rw (h.methods, method_keys draft.methods.entries (keyed_draft before draft closed h.methods_ordered)) h.methods_ordered;
+  methods = methods_ascend before draft made closed h;
   drops = rw h.drops h.drops_ordered;
   slotted = rw h.slotted h.slotted_ordered;
   slots = rw (h.slots, same_keys slot_entry (λ (s : SlotImage). (s.method, s.old)) (λ e. refl) draft.slots.entries) h.slots_ordered;
-  signatures = rw (h.signatures, same_keys signature_entry (λ (s : SignatureImage). s.method) (λ e. refl) draft.signatures.entries) h.signatures_ordered;
+  signatures = signatures_ascend before draft made closed h;
 }
 
 pub made_holds : (before : List Line) (draft : Draft) (made : Map) → IsClosed before draft → MadeOf draft made → HoldsWhat before made
@@ -150,10 +126,17 @@ made_holds before draft made closed h = record {
       (found_alike row_key same_pair pair_cmp pair_equal pair_is pair_total pair_exact draft.rows.items made.rows h.rows
       (rows_ascend before draft made closed h) (table, old))
       ∙ closed.others.rows table old;
-  methods = λ method. rw h.methods (method_found draft.methods.entries method (keyed_draft before draft closed h.methods_ordered) ∙ closed.methods method);
+  methods = λ method.
+      found_alike method_key nat_eq nat_cmp nat_eq_equiv same_number nat_cmp_total exact_unsigned draft.methods.items made.methods h.methods
+      (methods_ascend before draft made closed h) method
+      ∙ closed.methods.found method;
   drops = λ method. rw h.drops (any_number method draft.drops.keys ∙ closed.others.drops method);
   slotted = λ method. rw h.slotted (any_number method draft.slotted.keys ∙ closed.others.slotted method);
   slots = λ method old. rw h.slots (slots_found draft.slots method old ∙ closed.others.slots method old);
-  signatures = λ method. rw h.signatures (signatures_found draft.signatures method ∙ closed.others.signatures method);
+  signatures = λ method.
+      ap (option_map (λ (s : SignatureImage). s.new))
+      (found_alike signature_key nat_eq nat_cmp nat_eq_equiv same_number nat_cmp_total exact_unsigned draft.signatures.items made.signatures h.signatures
+      (signatures_ascend before draft made closed h) method)
+      ∙ closed.others.signatures method;
   ascends = made_ascends before draft made closed h;
 }

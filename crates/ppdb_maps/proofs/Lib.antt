@@ -20,3 +20,4 @@ pub mod InRange
 pub mod SampleMap
 pub mod TextSteps
 pub mod SampleTexts
+pub mod OnePass

@@ -13,7 +13,7 @@ has_bit words number = nat_eq (bit_at (slice_index_or words (number / 64) 0) (nu
 abbrev pub has_number : BitSet → ℕ → Bool
 has_number numbers number = has_bit numbers.words.items number
 
--- the same of a set that may be missing
+-- the number is in the set; none is in a set that is missing
 abbrev pub is_among : Option BitSet → ℕ → Bool
 is_among None number = false
 is_among (Some numbers) number = has_number numbers number

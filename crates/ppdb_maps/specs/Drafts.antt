@@ -3,14 +3,16 @@ use Rattle.std.specs.Prelude.{◌≡◌, ℕ, ◌<◌, ◌≤◌, true, false, L
 use Rattle.std.specs.Prelude.{is_some, option_map, map, ◌&&◌}
 use Rattle.std.specs.List.{IsDistinct}
 use Rattle.ppdb_maps.specs.declared.entries.RowImage.{RowImage}
+use Rattle.ppdb_maps.specs.declared.entries.SignatureImage.{SignatureImage}
 use Rattle.std.specs.Ordering.{nat_cmp}
 use Rattle.std.specs.BTreeMap as tree
 use Rattle.std.specs.BTreeSet as sorted
-use Rattle.ppdb_maps.specs.BitSets.{has_row}
-use Rattle.ppdb_maps.specs.Gathered.{row_key, same_pair}
+use Rattle.ppdb_maps.specs.BitSets.{has_number, has_row}
+use Rattle.ppdb_maps.specs.Gathered.{row_key, method_key, signature_key, same_pair}
 use Rattle.ppdb_maps.specs.Map.{MethodLine, pair_cmp}
 use Rattle.ppdb_maps.specs.Before.{count_in, row_in, methods_of, drop_in, slots_in, slot_in, signature_in, follows_method}
 use Rattle.ppdb_maps.specs.Rules.{Breaks, kind_of}
+use Rattle.ppdb_maps.specs.declared.bit_set.BitSet.{BitSet}
 use Rattle.ppdb_maps.specs.declared.draft.Draft.{Draft}
 use Rattle.ppdb_maps.specs.declared.refusal.Refusal.{Refusal}
 use Rattle.ppdb_maps.specs.declared.refusal.Refusal.TheVariants.{Breaks as refused, Memory}
@@ -28,24 +30,34 @@ pub record HoldsOthers (before : List Line) (draft : Draft) : Type 0 where
   pub drops : (method : ℕ) → sorted.contains nat_cmp draft.drops method ≡ drop_in before method
   pub slotted : (method : ℕ) → sorted.contains nat_cmp draft.slotted method ≡ slots_in before method
   pub slots : (method old : ℕ) → tree.get pair_cmp draft.slots (method, old) ≡ slot_in before method old
-  pub signatures : (method : ℕ) → tree.get nat_cmp draft.signatures method ≡ signature_in before method
+  pub signatures : (method : ℕ)
+      → option_map (λ (s : SignatureImage). s.new) (find (λ s. nat_eq s.method method) draft.signatures.items) ≡ signature_in before method
+  pub signed_once : IsDistinct nat_eq (map signature_key draft.signatures.items)
+  pub signed : (method : ℕ) → has_number draft.signed method ≡ is_some (signature_in before method)
 
--- the map has these method lines
+-- the list of distinct methods answers as these lines, and the set has their numbers
+pub record AreLines (lines methods : List MethodLine) (listed : BitSet) : Type 0 where
+  pub found : (method : ℕ) → find (λ l. nat_eq l.method method) methods ≡ find (λ l. nat_eq l.method method) lines
+  pub distinct : IsDistinct nat_eq (map method_key methods)
+  pub numbers : (method : ℕ) → has_number listed method ≡ is_some (find (λ l. nat_eq l.method method) lines)
+
+-- the draft has these method lines
 abbrev pub HasLines : List MethodLine → Draft → Type 0
-HasLines lines draft = (method : ℕ) → tree.get nat_cmp draft.methods method ≡ find (λ l. nat_eq l.method method) lines
+HasLines lines draft = AreLines lines draft.methods.items draft.listed
 
--- all methods are in the map, or all but the last one, which a `run` may follow
+-- all methods are in the list, or all but the last one, which a `run` may follow
 abbrev pub HoldsMethods : List Line → Option MethodLine → Draft → Type 0
 HoldsMethods before None draft = HasLines (methods_of before) draft × (follows_method before ≡ false)
 HoldsMethods before (Some line) draft =
     (lines : List MethodLine) × (methods_of before ≡ line ∷ lines) × HasLines lines draft × (follows_method before ≡ true)
+    × (is_some (find (λ l. nat_eq l.method line.method) lines) ≡ false)
 
 -- the draft holds what the lines say
 pub record Holds (before : List Line) (draft : Draft) : Type 0 where
   pub others : HoldsOthers before draft
   pub methods : HoldsMethods before draft.current draft
 
--- the same, and no method is open
+-- the draft holds what the lines say, and no method is open
 pub record IsClosed (before : List Line) (draft : Draft) : Type 0 where
   pub others : HoldsOthers before draft
   pub methods : HasLines (methods_of before) draft

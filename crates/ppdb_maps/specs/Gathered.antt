@@ -4,6 +4,7 @@ use Rattle.ppdb_maps.specs.declared.entries.Count.{Count}
 use Rattle.ppdb_maps.specs.declared.entries.RowImage.{RowImage}
 use Rattle.ppdb_maps.specs.declared.entries.SlotImage.{SlotImage}
 use Rattle.ppdb_maps.specs.declared.entries.SignatureImage.{SignatureImage}
+use Rattle.ppdb_maps.specs.Map.{MethodLine}
 
 abbrev pub count_entry : ℕ × ℕ → Count
 count_entry e = record { table = e.0; rows = e.1 }
@@ -15,8 +16,12 @@ row_key row = (row.table, row.old)
 abbrev pub slot_entry : (ℕ × ℕ) × ℕ → SlotImage
 slot_entry e = record { method = e.0.0; old = e.0.1; new = e.1 }
 
-abbrev pub signature_entry : ℕ × ℕ → SignatureImage
-signature_entry e = record { method = e.0; new = e.1 }
+-- and `method` and `signature` lines
+abbrev pub method_key : MethodLine → ℕ
+method_key line = line.method
+
+abbrev pub signature_key : SignatureImage → ℕ
+signature_key signature = signature.method
 
 -- both numbers of two pairs are the same
 abbrev pub same_pair : ℕ × ℕ → ℕ × ℕ → Bool

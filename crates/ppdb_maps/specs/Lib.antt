@@ -11,6 +11,7 @@ pub mod Sample
 pub mod SampleTexts
 pub mod Cuts
 pub mod Reading
+pub mod OnePass
 pub mod Loops
 pub mod Gathered
 pub mod Search

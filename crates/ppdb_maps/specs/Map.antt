@@ -81,7 +81,7 @@ row_image said table old =
     cond (nat_eq table 0x06 && is_dropped said old) None
     (elim (count_of said table) as (λ _. Option ℕ) [ None ↦ Some old | Some count ↦ row_line said table old ])
 
--- the same of a number that may be 0 for no row, and 0 where there is none
+-- the image of a row, where 0 is no row: 0 of 0, and 0 where the row has no image
 abbrev pub moved_row : Map → ℕ → ℕ → ℕ
 moved_row said table old = cond (nat_eq old 0) 0 (unwrap_or (row_image said table old) 0)
 

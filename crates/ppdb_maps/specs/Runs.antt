@@ -15,7 +15,7 @@ pub record IsRunAt (runs : List Run) (x : ℕ) (run : Run) : Type 0 where
   pub held : (u v : ℕ) → Takes run u v → Moves runs u v
   pub least : (u v : ℕ) → Moves runs u v → x ≤ u → run.old ≤ u
 
--- the same, or all runs end before or at the offset
+-- the first run that does not end before or at the offset, if there is one; else all runs end before or at it
 abbrev pub RunIs : List Run → ℕ → Option Run → Type 0
 RunIs runs x None = (u v : ℕ) → Moves runs u v → u < x
 RunIs runs x (Some run) = IsRunAt runs x run

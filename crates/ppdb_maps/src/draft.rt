@@ -1,19 +1,21 @@
 // What the lines of a map text say together, while they are read.
 ghost use Rattle.std.specs.Prelude.{ℕ, ◌<◌, ◌↔◌, [], List, IsTrue, OnOk, IfOk};
 ghost use Rattle.ppdb_maps.specs.Loops.{IsTextAdded};
+ghost use Rattle.ppdb_maps.specs.Reading.{IsTold};
 ghost use Rattle.ppdb_maps.specs.Text.{HoldsWhat, Read};
 ghost use Rattle.ppdb_maps.specs.declared.line.Line.{Line};
 ghost use Rattle.ppdb_maps.specs.declared.line.Line.TheVariants.{Rows, Row, Method as SizesOf, Kept, Dropped, Slots, Slot, Signature};
 ghost use Rattle.ppdb_maps.specs.Drafts.{Holds, IsClosed, IsAdded, IsAddedTo, HasLength};
 ghost use Rattle.ppdb_maps.specs.Rules.{IsNamed};
 
-use crate::bit_set::RowSet;
-use crate::entries::RowImage;
-use crate::finish::{counts_of, in_order, methods_of, numbers_of, signatures_of, slots_of};
+use crate::bit_set::{BitSet, RowSet};
+use crate::entries::{RowImage, SignatureImage};
+use crate::finish::{
+    counts_of, methods_in_order, numbers_of, rows_in_order, signatures_in_order, slots_of,
+};
 use crate::line::Line;
 use crate::map_text::MapText;
 use crate::method::Method;
-use crate::reading::said;
 use crate::refusal::Refusal;
 use crate::rule::Rule;
 use ppdb_base::{Memory, Run};
@@ -27,13 +29,19 @@ pub struct Draft {
     /// In the order of their lines.
     rows: Vec<RowImage>,
     moved: RowSet,
-    methods: BTreeMap<u32, Method>,
+    /// In the order of their lines.
+    methods: Vec<Method>,
+    /// The numbers of `methods`.
+    listed: BitSet,
     /// The last method, while its runs may follow; it is not among `methods` yet.
     current: Option<Method>,
     drops: BTreeSet<u32>,
     slotted: BTreeSet<u32>,
     slots: BTreeMap<(u32, u16), u16>,
-    signatures: BTreeMap<u32, u32>,
+    /// In the order of their lines.
+    signatures: Vec<SignatureImage>,
+    /// The methods of `signatures`.
+    signed: BitSet,
 }
 
 impl Draft {
@@ -45,12 +53,14 @@ impl Draft {
             counts: BTreeMap::new(alloc),
             rows: Vec::new(alloc),
             moved: RowSet::new(alloc),
-            methods: BTreeMap::new(alloc),
+            methods: Vec::new(alloc),
+            listed: BitSet::new(alloc),
             current: None,
             drops: BTreeSet::new(alloc),
             slotted: BTreeSet::new(alloc),
             slots: BTreeMap::new(alloc),
-            signatures: BTreeMap::new(alloc),
+            signatures: Vec::new(alloc),
+            signed: BitSet::new(alloc),
         }
     }
 
@@ -59,7 +69,8 @@ impl Draft {
         ensures { OnOk result ((before : List Line) → Holds before self.old → IsClosed before self.new) }
     {
         if let Some(method) = self.current.take() {
-            self.methods.insert(method.number(), method)?;
+            self.listed.insert(method.number())?;
+            self.methods.push(method)?;
         }
         Ok(())
     }
@@ -100,7 +111,7 @@ impl Draft {
     ) -> Result<(), Refusal>
         ensures { IsAdded (SizesOf method old_size new_size) self.old result self.new }
     {
-        if self.methods.contains_key(&method) {
+        if self.listed.contains(method) {
             return Err(Refusal::Breaks(Rule::Repeated));
         }
         if self.drops.contains(&method) {
@@ -127,10 +138,10 @@ impl Draft {
     fn is_named(&self, method: u32) -> bool
         ensures { (before : List Line) → IsClosed before self.now → IsTrue result ↔ IsNamed before method }
     {
-        self.methods.contains_key(&method)
+        self.listed.contains(method)
             || self.moved.contains(0x06, method)
             || self.slotted.contains(&method)
-            || self.signatures.contains_key(&method)
+            || self.signed.contains(method)
     }
 
     fn add_slots(&mut self, method: u32) -> Result<(), Refusal>
@@ -162,13 +173,14 @@ impl Draft {
     fn add_signature(&mut self, method: u32, new: u32) -> Result<(), Refusal>
         ensures { IsAdded (Signature method new) self.old result self.new }
     {
-        if self.signatures.contains_key(&method) {
+        if self.signed.contains(method) {
             return Err(Refusal::Breaks(Rule::Repeated));
         }
         if self.drops.contains(&method) {
             return Err(Refusal::Breaks(Rule::NamesDropped));
         }
-        self.signatures.insert(method, new)?;
+        self.signed.insert(method)?;
+        self.signatures.push(SignatureImage { method, new })?;
         Ok(())
     }
 
@@ -225,11 +237,12 @@ impl Draft {
         }
     }
 
-    /// Adds what a line after the first says.
-    pub fn add_text(&mut self, alloc: Global, version: u8, text: &[u8]) -> Result<(), Refusal>
-        ensures { IsTextAdded version text.now self.old result self.new }
+    /// Adds what a line after the first says, or refuses it by the rule that it breaks by itself.
+    pub fn add_said(&mut self, alloc: Global, told: Result<Line, Rule>) -> Result<(), Refusal>
+        requires { (version : ℕ) × (text : List ℕ) × IsTold version text told }
+        ensures { (version : ℕ) (text : List ℕ) → IsTold version text told → IsTextAdded version text self.old result self.new }
     {
-        match said(version, text) {
+        match told {
             Ok(line) => self.add(alloc, line),
             Err(rule) => Err(Refusal::Breaks(rule)),
         }
@@ -245,19 +258,21 @@ impl Draft {
             rows,
             moved: _,
             methods,
+            listed: _,
             current: _,
             drops,
             slotted,
             slots,
             signatures,
+            signed: _,
         } = self;
         let counts = counts_of(alloc, counts)?;
-        let rows = in_order(rows)?;
-        let methods = methods_of(alloc, methods)?;
+        let rows = rows_in_order(rows)?;
+        let methods = methods_in_order(methods)?;
         let drops = numbers_of(alloc, drops)?;
         let slotted = numbers_of(alloc, slotted)?;
         let slots = slots_of(alloc, slots)?;
-        let signatures = signatures_of(alloc, signatures)?;
+        let signatures = signatures_in_order(signatures)?;
         Ok(MapText::new(counts, rows, methods, drops, slotted, slots, signatures))
     }
 }

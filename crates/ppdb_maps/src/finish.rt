@@ -1,10 +1,10 @@
-// The lists of a map, from the maps in which they were gathered.
+// The lists of a map, from the lists and maps in which they were gathered.
 ghost use Rattle.std.specs.Prelude.{◌≡◌, map, IfOk};
 ghost use Rattle.std.specs.Ordering.{nat_cmp};
-ghost use Rattle.std.specs.BTreeMap.{IsOrdered, values};
+ghost use Rattle.std.specs.BTreeMap.{IsOrdered};
 ghost use Rattle.std.specs.BTreeSet as sorted;
 ghost use Rattle.ppdb_maps.specs.Map.{pair_cmp};
-ghost use Rattle.ppdb_maps.specs.Gathered.{count_entry, row_key, signature_entry, slot_entry};
+ghost use Rattle.ppdb_maps.specs.Gathered.{count_entry, row_key, method_key, signature_key, slot_entry};
 ghost use Rattle.std.specs.List.Sorted.{IsPermutation, IsSortedByKey};
 
 use crate::entries::{Count, RowImage, SignatureImage, SlotImage};
@@ -23,7 +23,7 @@ pub fn counts_of(alloc: Global, counts: BTreeMap<u8, u32>) -> Result<Vec<Count>,
 }
 
 /// Rows in ascending order of their tables and numbers.
-pub fn in_order(mut rows: Vec<RowImage>) -> Result<Vec<RowImage>, AllocError>
+pub fn rows_in_order(mut rows: Vec<RowImage>) -> Result<Vec<RowImage>, AllocError>
     ensures moved { IfOk result (λ v. IsPermutation rows.items v.items) }
     ensures sorted { IfOk result (λ v. IsSortedByKey row_key pair_cmp v.items) }
 {
@@ -44,26 +44,24 @@ pub fn slots_of(
         .collect(alloc)
 }
 
-pub fn signatures_of(
-    alloc: Global,
-    signatures: BTreeMap<u32, u32>,
+/// Local signatures in ascending order of their methods.
+pub fn signatures_in_order(
+    mut signatures: Vec<SignatureImage>,
 ) -> Result<Vec<SignatureImage>, AllocError>
-    ensures ordered { IsOrdered nat_cmp signatures }
-    ensures items { IfOk result (λ v. v.items ≡ map signature_entry signatures.entries) }
+    ensures moved { IfOk result (λ v. IsPermutation signatures.items v.items) }
+    ensures sorted { IfOk result (λ v. IsSortedByKey signature_key nat_cmp v.items) }
 {
-    signatures
-        .into_iter()
-        .map(|(method, new)| SignatureImage { method, new })
-        .collect(alloc)
+    signatures.sort_by_key(|signature| signature.method)?;
+    Ok(signatures)
 }
 
-pub fn methods_of(alloc: Global, methods: BTreeMap<u32, Method>) -> Result<Vec<Method>, AllocError>
-    ensures ordered { IsOrdered nat_cmp methods }
-    ensures items { IfOk result (λ v. v.items ≡ values methods) }
+/// Methods in ascending order of their numbers.
+pub fn methods_in_order(mut methods: Vec<Method>) -> Result<Vec<Method>, AllocError>
+    ensures moved { IfOk result (λ v. IsPermutation methods.items v.items) }
+    ensures sorted { IfOk result (λ v. IsSortedByKey method_key nat_cmp v.items) }
 {
-    // For the proof alone: it says that the methods are in order.
-    let _count = methods.len();
-    methods.into_values().collect(alloc)
+    methods.sort_by_key(|method| method.number())?;
+    Ok(methods)
 }
 
 pub fn numbers_of(alloc: Global, numbers: BTreeSet<u32>) -> Result<Vec<u32>, AllocError>

@@ -11,6 +11,7 @@ mod map_text;
 mod method;
 mod method_map;
 mod number;
+mod one_pass;
 mod read;
 mod reading;
 mod refusal;

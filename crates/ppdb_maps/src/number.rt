@@ -21,7 +21,7 @@ fn digits(word: &[u8]) -> Option<u64>
 }
 
 /// Whether a decimal number is spelled so: it has one to ten characters, and no zero before others.
-fn may_spell(word: &[u8]) -> bool
+pub fn may_spell(word: &[u8]) -> bool
     ensures { IsTrue result ↔ MaySpell word.now }
 {
     match word {

@@ -3,10 +3,13 @@ ghost use Rattle.std.specs.Prelude.{◌≤◌, length, IfOk, IfErr};
 ghost use Rattle.std.specs.Str.Lines.{lines};
 ghost use Rattle.ppdb_maps.specs.Text.{IsMapOf};
 ghost use Rattle.ppdb_maps.specs.Loops.{IsAt, ReadWhole, RefusedIn, RefusedAs};
+ghost use Rattle.ppdb_maps.specs.OnePass.{IsFirstTold};
 
 use crate::draft::Draft;
+use crate::line::Line;
 use crate::map_text::MapText;
-use crate::reading::version_of;
+use crate::one_pass::line_before;
+use crate::reading::{said, version_of};
 use crate::refusal::{MapError, Refusal};
 use crate::rule::Rule;
 use crate::words::first_line;
@@ -25,9 +28,22 @@ fn refusal_at(line: u32, refusal: Refusal) -> MapError
     }
 }
 
+/// What the first line of a text says, and what stands after that line.
+fn first_said(version: u8, text: &[u8]) -> (Result<Line, Rule>, &[u8])
+    requires { 1 ≤ version }
+    ensures { IsFirstTold version text.now result.0 result.1.now }
+{
+    if let Some((line, rest)) = line_before(text) {
+        return (Ok(line), rest);
+    }
+    let (line, rest) = first_line(text);
+    (said(version, line), rest)
+}
+
 /// Reads the lines after the first.
 fn read_lines(alloc: Global, version: u8, text: &[u8]) -> Result<Draft, MapError>
-    requires { length text.now ≤ 134217728 }
+    requires short { length text.now ≤ 134217728 }
+    requires known { 1 ≤ version }
     ensures read { IfOk result (ReadWhole version (lines text.now)) }
     ensures refused { IfErr result (RefusedIn version (lines text.now)) }
 {
@@ -35,8 +51,8 @@ fn read_lines(alloc: Global, version: u8, text: &[u8]) -> Result<Draft, MapError
     let mut rest = text;
     let mut number: u32 = 2;
     while !rest.is_empty() {
-        let (line, others) = first_line(rest);
-        match draft.add_text(alloc, version, line) {
+        let (said, others) = first_said(version, rest);
+        match draft.add_said(alloc, said) {
             Ok(()) => {}
             Err(refusal) => return Err(refusal_at(number, refusal)),
         }

@@ -6,5 +6,6 @@ pub mod First
 pub mod Fitting
 pub mod FittingRows
 pub mod Images
+pub mod Kept
 pub mod Nothing
 pub mod Told

@@ -18,7 +18,7 @@ use crate::kinds::first_unknown;
 use crate::offsets::{first_beyond, first_lost};
 use crate::signatures::with_given;
 use crate::slots::first_of_slots;
-use crate::twice::{first_twice, leave_once};
+use crate::twice::{all_keep_numbers, first_twice, leave_once};
 use custom_info::Marks;
 use ppdb_base::{List, Memory, MergeError, Steps};
 use ppdb_maps::MapText;
@@ -79,6 +79,9 @@ fn placed_images<L: Ledger>(
 fn first_image_twice(alloc: Global, rows: &[Imaged]) -> Result<Option<MergeError>, Memory>
     ensures { IfOk result (λ told. told ≡ slice_get (twice (λ i. i.table) (λ i. i.row) (λ i. i.image) image_twice rows.now) 0) }
 {
+    if all_keep_numbers(rows) {
+        return Ok(None);
+    }
     let mut again = List::copied(alloc, rows)?.into_vec();
     first_twice(&mut again)
 }

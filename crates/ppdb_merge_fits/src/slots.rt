@@ -4,7 +4,7 @@ ghost use Rattle.std.specs.List.{filter_map, flat_map};
 ghost use Rattle.ppdb_tables.specs.RawTables.{numbered};
 ghost use Rattle.ppdb_merge_fits.specs.Slots.{scope_slots, variable_slots, if_slot_unmapped, slots_unmapped, used, twice_of, slots_twice};
 
-use crate::twice::{first_twice, leave_once};
+use crate::twice::{all_keep_numbers, first_twice, leave_once};
 use crate::used::{MethodSlot, UsedSlot};
 use ppdb_base::{List, Memory, MergeError};
 use ppdb_maps::MapText;
@@ -107,6 +107,9 @@ fn first_slot_twice(
     ensures { IfOk result (λ told. told ≡ slice_get (twice_of map.now slots.now) 0) }
 {
     let mut all = used_slots(alloc, map, slots)?;
+    if all_keep_numbers(all.as_slice()) {
+        return Ok(None);
+    }
     leave_once(&mut all)?;
     first_twice(&mut all)
 }

@@ -1,5 +1,5 @@
 // Items of a group that have one image.
-ghost use Rattle.std.specs.Prelude.{◌≡◌, IfOk, OnOk, slice_get};
+ghost use Rattle.std.specs.Prelude.{◌≡◌, ◌↔◌, All, IfOk, OnOk, IsTrue, slice_get};
 ghost use Rattle.ppdb_merge_items.specs.Sorted.{in_order};
 ghost use Rattle.ppdb_merge_fits.specs.Twice.{beside, by_all, each_once, have_one_image, if_one_image, is_same, twice};
 
@@ -132,6 +132,13 @@ pub(crate) fn by_all<T: HasImage>(all: &mut Vec<T>) -> Result<(), Memory>
     by_number(all)?;
     by_group(all)?;
     Ok(())
+}
+
+/// Whether each item's image is its number; then no two items that differ have one image.
+pub(crate) fn all_keep_numbers<T: HasImage>(items: &[T]) -> bool
+    ensures { IsTrue result ↔ All (λ i. T.image_of i ≡ T.number_of i) items.now }
+{
+    items.iter().all(|item| item.image() == item.number())
 }
 
 /// Whether two items have one group and one number.

@@ -33,7 +33,7 @@ use Rattle.ppdb_merge_parts.proofs.Ordered.{in_order_made, in_order_map}
 
 -- ---- inputs, moved
 
-abbrev moved_of : MovedBy → AnnotatedFile
+abbrev pub moved_of : MovedBy → AnnotatedFile
 moved_of input = moved_file input.map (annotated_file input.value)
 
 -- which input is the first does not matter here
@@ -69,7 +69,7 @@ documents_flat (input ∷ inputs) =
     ap (λ l. l ++ flat_map (λ (file : AnnotatedFile). items_of file.documents) (map moved_of inputs)) (items_are input.value 0x30 1 input.value.documents)
     ∙ ap (λ l. input.value.documents ++ l) (documents_flat inputs)
 
-rows_are : (documents : List DocumentValue) (input : MovedBy) → joined_rows documents (moved_of input) ≡ document_rows documents input
+pub rows_are : (documents : List DocumentValue) (input : MovedBy) → joined_rows documents (moved_of input) ≡ document_rows documents input
 rows_are documents input = map_numbered _ _ (λ (d : DocumentValue). row_named documents d.name) (λ n d. refl) 1 input.value.documents
 
 -- ---- one input
@@ -188,7 +188,7 @@ module _ (first : MovedBy) (others : List MovedBy) where
   documents_same = ap (firsts []) (documents_flat inputs)
 
   -- the joined file, with its documents as the inputs have them
-  file_same : joined (map moved_input (in_turn inputs)) ≡ joined_parts (moved_of first) documents all
+  pub file_same : joined (map moved_input (in_turn inputs)) ≡ joined_parts (moved_of first) documents all
   file_same = ap joined (turned inputs) ∙ ap (λ d. joined_parts (moved_of first) d (renumbered_all d 0 files)) documents_same
 
   abbrev flat : FileValue

@@ -1,3 +1,3 @@
 pub mod Lists
 pub mod Ordered
-mod Flat
+pub mod Flat

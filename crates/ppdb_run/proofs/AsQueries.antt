@@ -11,8 +11,9 @@ use Rattle.ppdb_show_lines.specs.declared.form.Form.TheVariants.{Text, Json}
 use Rattle.ppdb_show_lines.specs.Forms.{lines_as, put_as}
 use Rattle.ppdb_show_lines.proofs.Texts.{one_line}
 use Rattle.ppdb_values.specs.RawFile.{RawFile}
-use Rattle.ppdb_run.specs.Outcome.{answer_of, done, no_method, outcome_of}
-use Rattle.ppdb_run.specs.Words.{Query}
+use Rattle.ppdb_run.specs.Outcome.{answer_of, done, outcome_of}
+use Rattle.ppdb_run_stops.specs.Refusals.{no_method}
+use Rattle.ppdb_run_words.specs.Words.{Query}
 
 pub one_asked : (form : Form) (raw : RawFile) (at : MethodOffset)
     → lookup_text_of form raw (at ∷ []) ≡ put_as form (at_line at) ++ lines_as form (found_lines raw at)

@@ -3,10 +3,11 @@ use Rattle.std.proofs.Common.{ℕ, ◌≡◌, List, refl, subst}
 use Rattle.std.specs.Prelude.{Option, Some, None, Result, Ok, Err, IfSome}
 use Rattle.ppdb_base.specs.Files.{Files}
 use Rattle.ppdb_maps.specs.Map.{Map}
-use Rattle.ppdb_run.specs.declared.stop.Stop.{Stop}
-use Rattle.ppdb_run.specs.Outcome.{Outcome, Step, ◌>>=◌, composed_text, file_at, gives, map_at, map_in, steps_of, written}
+use Rattle.ppdb_run_stops.specs.declared.stop.Stop.{Stop}
+use Rattle.ppdb_run_stops.specs.Refusals.{Outcome}
+use Rattle.ppdb_run.specs.Outcome.{Step, ◌>>=◌, composed_text, file_at, gives, map_at, map_in, steps_of, written}
 use Rattle.ppdb_run.specs.Stops.{Gives}
-use Rattle.ppdb_run.specs.Words.{Compose}
+use Rattle.ppdb_run_words.specs.Words.{Compose}
 use Rattle.ppdb_run.proofs.Steps.{gives_stop, gives_next}
 
 -- ---- a map is read

@@ -6,12 +6,14 @@ use Rattle.std.proofs.lemmas.Bool.{eqb-true}
 use Rattle.ppdb_base.specs.Causes.{counted}
 use Rattle.ppdb_base.specs.Files.{Files, Reading, Missing, Longer, Contents, reading}
 use Rattle.ppdb_base.specs.declared.limits.TheConstants.{MAX_FILE_BYTES}
-use Rattle.ppdb_run.specs.declared.stop.Stop.{Stop}
+use Rattle.ppdb_run_stops.specs.declared.stop.Stop.{Stop}
 use Rattle.ppdb_maps.specs.Map.{Map}
 use Rattle.ppdb_run.specs.Ends.{ComesToRead, OnTask, IsUnread, IsUnreadOf, IsUnwritten}
-use Rattle.ppdb_run.specs.Outcome.{Outcome, IsOutcome, absent, answer_of, breaks_answer, done, form_of, input_of, links_answer, map_at, no_method, too_long, verified}
-use Rattle.ppdb_run.specs.Stops.{Cause, Refusal, Unread, Unwritten, Unput, OutOfMemory, cause_of, Leaves, LeavesAt}
-use Rattle.ppdb_run.specs.Words.{Question, Id, Verify, Show, Query, Links, Breaks, Options, Task, Ask, Rebuild, Compose, Words, read_files, written_file}
+use Rattle.ppdb_run_stops.specs.Refusals.{Outcome, absent, no_method, too_long}
+use Rattle.ppdb_run.specs.Outcome.{IsOutcome, answer_of, breaks_answer, done, form_of, input_of, links_answer, map_at, verified}
+use Rattle.ppdb_run_stops.specs.Causes.{Cause, Refusal, Unread, Unwritten, Unput, OutOfMemory, cause_of}
+use Rattle.ppdb_run.specs.Stops.{Leaves, LeavesAt}
+use Rattle.ppdb_run_words.specs.Words.{Question, Id, Verify, Show, Query, Links, Breaks, Options, Task, Ask, Rebuild, Compose, Words, read_files, written_file}
 use Rattle.ppdb_base.specs.declared.link_error.LinkError.{LinkError}
 use Rattle.source_link.specs.declared.pair.Pair.{Pair}
 use Rattle.ppdb_show_sources.specs.Links.{file_links}

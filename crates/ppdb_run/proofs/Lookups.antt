@@ -15,14 +15,16 @@ use Rattle.ppdb_show.specs.Lookup.{lookup_rows, lookup_text_of}
 use Rattle.ppdb_show_lines.specs.declared.form.Form.{Form}
 use Rattle.ppdb_values.specs.RawFile.{RawFile}
 use Rattle.ppdb_verify.specs.Files.{FileFaults, IsRawOf}
-use Rattle.ppdb_run.specs.declared.stop.Stop.{Stop}
-use Rattle.ppdb_run.specs.declared.stop.Stop.TheVariants as stops
+use Rattle.ppdb_run_stops.specs.declared.stop.Stop.{Stop}
 use Rattle.ppdb_run.specs.Ends.{ComesToRead, IsUnreadOf, IsWithinRows, OnLookup, OnTask}
-use Rattle.ppdb_run.specs.Outcome.{Outcome, Step, ◌>>=◌, IsEnd, IsOutcome, absent, done, file_at, form_of, gives, input_of, judged, listed, looked_up, prints}
-use Rattle.ppdb_run.specs.Outcome.{steps_of, too_long, unlisted}
-use Rattle.ppdb_run.specs.declared.status.Status.TheVariants as statuses
-use Rattle.ppdb_run.specs.Stops.{cause_of, refusal_of, stop_of, Delivers, Finds, Gives, Leaves, OnCut, Settles}
-use Rattle.ppdb_run.specs.Words.{Lookup}
+use Rattle.ppdb_run_stops.specs.Refusals.{Outcome, absent, prints}
+use Rattle.ppdb_run.specs.Outcome.{Step, ◌>>=◌, IsEnd, IsOutcome, done, file_at, form_of, gives, input_of, judged, listed, looked_up}
+use Rattle.ppdb_run.specs.Outcome.{steps_of}
+use Rattle.ppdb_run_stops.specs.Refusals.{too_long, unlisted}
+use Rattle.ppdb_run_stops.specs.declared.status.Status.TheVariants as statuses
+use Rattle.ppdb_run_stops.specs.Causes.{cause_of, refusal_of, stop_of, OnCut}
+use Rattle.ppdb_run.specs.Stops.{Delivers, Finds, Gives, Leaves, Settles}
+use Rattle.ppdb_run_words.specs.Words.{Lookup}
 use Rattle.ppdb_run.proofs.Kept.{first_unread, leaves, one_more}
 use Rattle.ppdb_run.proofs.Merges.{on_told, stop_over, next_over}
 use Rattle.ppdb_run.proofs.Outcomes.{on_due, one_verified}

@@ -13,9 +13,11 @@ use Rattle.ppdb_maps.specs.Readable.{IsReadable}
 use Rattle.ppdb_maps.proofs.OneMap.{texts_have_one_map}
 use Rattle.ppdb_maps.proofs.Readable.{maps_are_readable}
 use Rattle.ppdb_maps.proofs.Refusals.{refusals_are_one}
-use Rattle.ppdb_run.specs.Outcome.{Outcome, IsOutcome, absent, composed_text, file_at, input_of, map_at, map_in, map_limited, no_map, sizes_differ}
-use Rattle.ppdb_run.specs.Outcome.{steps_of, too_long, written}
-use Rattle.ppdb_run.specs.Words.{Compose}
+use Rattle.ppdb_run_stops.specs.Refusals.{Outcome, absent, map_limited, no_map, sizes_differ}
+use Rattle.ppdb_run.specs.Outcome.{IsOutcome, composed_text, file_at, input_of, map_at, map_in}
+use Rattle.ppdb_run.specs.Outcome.{steps_of, written}
+use Rattle.ppdb_run_stops.specs.Refusals.{too_long}
+use Rattle.ppdb_run_words.specs.Words.{Compose}
 use Rattle.ppdb_run.proofs.Steps.{GivesOne, is_one, one_given, one_then}
 
 -- ---- one thing

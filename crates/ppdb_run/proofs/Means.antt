@@ -32,15 +32,16 @@ use Rattle.ppdb_merge_unmoved_laws.specs.NoLines.{left_alone}
 use Rattle.ppdb_run_meaning_laws.specs.Inputs.{AreAdded, AreJoinedTo, IsValidInput, ReadInput, moved_by}
 use Rattle.ppdb_run_meaning_laws.specs.Laws.{HasKnownKinds, JoinedFilesKeepInputs, JoinedKindsAreKnown, KeepsInputs, ReadInputsAreValid}
 use Rattle.ppdb_run_meaning_laws.specs.Laws.{RebuiltFilesKeepThemselves, SaysButForId}
-use Rattle.ppdb_run.specs.declared.stop.Stop.{Stop}
+use Rattle.ppdb_run_stops.specs.declared.stop.Stop.{Stop}
 use Rattle.ppdb_run.specs.Ends.{OnAsked, OnTask, RebuildsToItself, RebuildsWhereKnown, WritesAgain}
 use Rattle.ppdb_run.specs.Means.{AreInputsOf, AreReadAs, ExactlyMeans, WritesExactly, WritesMeaning}
-use Rattle.ppdb_run.specs.Outcome.{Outcome, all_joined, file_at, fitting, input_of, map_at, steps_of, unknown_kind, verified, with_input}
+use Rattle.ppdb_run_stops.specs.Refusals.{Outcome}
+use Rattle.ppdb_run.specs.Outcome.{all_joined, file_at, fitting, input_of, map_at, steps_of, unknown_kind, verified, with_input}
 use Rattle.ppdb_run.specs.Outcome.{with_inputs}
 use Rattle.ppdb_run.specs.Outcome.{written}
-use Rattle.ppdb_run.specs.Words.{Input, Options, Task, Rebuild, Merge, Words}
+use Rattle.ppdb_run_words.specs.Words.{Input, Options, Task, Rebuild, Merge, Words}
 use Rattle.ppdb_run.proofs.MapSteps.{one_map}
-use Rattle.ppdb_run.proofs.OneTask.{one_task}
+use Rattle.ppdb_run_words.proofs.OneTask.{one_task}
 use Rattle.ppdb_run.proofs.Outcomes.{one_verified}
 use Rattle.ppdb_run.proofs.Writing.{on_written}
 

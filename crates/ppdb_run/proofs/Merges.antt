@@ -16,13 +16,15 @@ use Rattle.ppdb_merge.specs.Merged.{is_first, trace_of}
 use Rattle.ppdb_merge.specs.Refusals.{added, refusal_of, with_trace}
 use Rattle.ppdb_values.specs.RawFile.{RawFile}
 use Rattle.ppdb_verify.specs.Files.{FileFaults, IsRawOf}
-use Rattle.ppdb_run.specs.declared.stop.Stop.{Stop}
-use Rattle.ppdb_run.specs.declared.stop.Stop.TheVariants as stops
+use Rattle.ppdb_run_stops.specs.declared.stop.Stop.{Stop}
+use Rattle.ppdb_run_stops.specs.declared.stop.Stop.TheVariants as stops
 use Rattle.ppdb_run.specs.Ends.{ComesToInput, IsInputUnread, IsUnreadOf}
-use Rattle.ppdb_run.specs.Outcome.{Outcome, Step, ◌>>=◌, file_at, fitting, gives, judged, map_in, unfit, with_input, with_inputs, with_texts}
-use Rattle.ppdb_run.specs.Stops.{cause_of, refusal_of as told_by, Gives}
-use Rattle.ppdb_run.specs.Task.{pairs_of}
-use Rattle.ppdb_run.specs.Words.{Input, Merge, input_words, texts}
+use Rattle.ppdb_run_stops.specs.Refusals.{Outcome, unfit}
+use Rattle.ppdb_run.specs.Outcome.{Step, ◌>>=◌, file_at, fitting, gives, judged, map_in, with_input, with_inputs, with_texts}
+use Rattle.ppdb_run_stops.specs.Causes.{cause_of, refusal_of as told_by}
+use Rattle.ppdb_run.specs.Stops.{Gives}
+use Rattle.ppdb_run_words.specs.Task.{pairs_of}
+use Rattle.ppdb_run_words.specs.Words.{Input, Merge, input_words, texts}
 use Rattle.ppdb_run.proofs.Kept.{one_more}
 use Rattle.ppdb_run.proofs.Steps.{gives_next, gives_stop}
 

@@ -12,12 +12,15 @@ use Rattle.ppdb_values.specs.declared.file.FileValue.{FileValue}
 use Rattle.ppdb_values.specs.RawFile.{RawFile}
 use Rattle.ppdb_verify.specs.Files.{FileFaults, IsRawOf}
 use Rattle.ppdb_build_written_laws.specs.Written.{Says, IsSameAgain}
-use Rattle.ppdb_run.specs.declared.stop.Stop.{Stop}
+use Rattle.ppdb_run_stops.specs.declared.stop.Stop.{Stop}
 use Rattle.ppdb_run.specs.Ends.{RebuildsWhereKnown}
-use Rattle.ppdb_run.specs.Outcome.{Outcome, Step, ◌>>=◌, all_joined, choice_of, file_of, gives, in_limits, input_in, steps_of, unfit, unknown_kind}
+use Rattle.ppdb_run_stops.specs.Refusals.{Outcome, unfit}
+use Rattle.ppdb_run.specs.Outcome.{Step, ◌>>=◌, all_joined, choice_of, gives, in_limits, input_in, steps_of, unknown_kind}
+use Rattle.ppdb_run_words.specs.Task.{file_of}
 use Rattle.ppdb_run.specs.Outcome.{with_inputs, written}
-use Rattle.ppdb_run.specs.Stops.{cause_of, refusal_of as told_by, Gives}
-use Rattle.ppdb_run.specs.Words.{Input, Options, Merge}
+use Rattle.ppdb_run_stops.specs.Causes.{cause_of, refusal_of as told_by}
+use Rattle.ppdb_run.specs.Stops.{Gives}
+use Rattle.ppdb_run_words.specs.Words.{Input, Options, Merge}
 use Rattle.ppdb_run.proofs.Merges.{next_over, on_told, stop_over}
 use Rattle.ppdb_run.proofs.Rebuilds.{rebuilds}
 use Rattle.ppdb_run.proofs.Steps.{gives_next, gives_stop}

@@ -7,26 +7,30 @@ use Rattle.ppdb_base.specs.First.{IsAccepted}
 use Rattle.ppdb_base.specs.Files.{Files, reading}
 use Rattle.ppdb_base.specs.declared.limits.TheConstants.{MAX_FILE_BYTES}
 use Rattle.ppdb_base.proofs.Judging.{one_first, first_not_accepted}
-use Rattle.ppdb_run.specs.declared.stop.Stop.{Stop}
+use Rattle.ppdb_run_stops.specs.declared.stop.Stop.{Stop}
 use Rattle.ppdb_run.specs.Ends.{Asks, AreSeen, IsApart, OnDue, OnOutcome, OnTask, OnRead, IsWithinBound, IsWithinRows}
-use Rattle.ppdb_run.specs.Outcome.{Outcome, Step, ◌>>=◌, gives, judged, refused, file_at, input_of, verified, answer_of, rebuilt, outcome_of}
+use Rattle.ppdb_run_stops.specs.Refusals.{Outcome, refused}
+use Rattle.ppdb_run.specs.Outcome.{Step, ◌>>=◌, gives, judged, file_at, input_of, verified, answer_of, rebuilt, outcome_of}
 use Rattle.ppdb_run.specs.Outcome.{all_joined, fitting, in_limits, map_in, with_input, with_inputs, with_texts}
 use Rattle.ppdb_merge.specs.declared.trace.Trace.{Trace}
 use Rattle.ppdb_merge.specs.Refusals.{added}
 use Rattle.ppdb_merge.specs.Together.{joined_of}
-use Rattle.ppdb_run.specs.Outcome.{steps_of, IsOutcome, done, form_of, listed, looked_up, unlisted}
+use Rattle.ppdb_run.specs.Outcome.{steps_of, IsOutcome, done, form_of, listed, looked_up}
+use Rattle.ppdb_run_stops.specs.Refusals.{unlisted}
 use Rattle.std.specs.Str.Lines.{lines}
 use Rattle.ppdb_show.specs.Lookup.{lookup_text_of}
 use Rattle.ppdb_show_lines.specs.declared.form.Form.{Form}
 use Rattle.ppdb_queries_list.proofs.Lists.{no_list, one_list, one_other}
-use Rattle.ppdb_run.specs.Stops.{cause_of, Gives, Settles, Finds, refusal_of}
-use Rattle.ppdb_run.specs.Words.{Question, Id, Verify, Show, Query, Links, Breaks, Options, Task, Ask, Lookup, Rebuild, Compose, Merge, Sample, Input, Words}
+use Rattle.ppdb_run_stops.specs.Causes.{cause_of, refusal_of}
+use Rattle.ppdb_run.specs.Stops.{Gives, Settles, Finds}
+use Rattle.ppdb_run_words.specs.Words.{Question, Id, Verify, Show, Query, Links, Breaks, Options, Task, Ask, Lookup, Rebuild, Compose, Merge, Sample, Input}
+use Rattle.ppdb_run_words.specs.Words.{Words}
 use Rattle.ppdb_values.specs.RawFile.{RawFile, raw_in}
 use Rattle.ppdb_values.specs.Value.{value_of}
 use Rattle.ppdb_verify.specs.Files.{FileFaults, IsRawOf}
 use Rattle.ppdb_verify.proofs.Streamed.{same_streams}
 use Rattle.ppdb_run.proofs.MapSteps.{one_composed, one_text}
-use Rattle.ppdb_run.proofs.OneTask.{one_task}
+use Rattle.ppdb_run_words.proofs.OneTask.{one_task}
 use Rattle.ppdb_run.proofs.Steps.{GivesOne, gives_stop, is_one, one_next, one_given, one_then}
 
 -- ---- a file that is verified is one thing

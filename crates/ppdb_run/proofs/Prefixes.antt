@@ -4,11 +4,12 @@ use Rattle.std.specs.Prelude.{Option, IfSome}
 use Rattle.ppdb_base.specs.Files.{Files}
 use Rattle.ppdb_base.specs.Written.{appended, AppendsPrefix}
 use Rattle.ppdb_base.proofs.Written.{prefix_whole, appended_nothing}
-use Rattle.ppdb_run.specs.declared.status.Status.{Status}
+use Rattle.ppdb_run_stops.specs.declared.status.Status.{Status}
 use Rattle.ppdb_run.specs.Ends.{OnOutcome, IsUnread, IsUnwritten, IsDue, answer, read_fault, write_fault, PutsPrefix}
-use Rattle.ppdb_run.specs.Outcome.{Outcome}
-use Rattle.ppdb_run.specs.Stops.{Cause, Refusal, Unread, Unwritten, Unput, OutOfMemory, line_of, refusal_of}
-use Rattle.ppdb_run.specs.Stops.{ComesFrom, OnUntold, OnCut, Tells, Told, Failed, NoMemory}
+use Rattle.ppdb_run_stops.specs.Refusals.{Outcome}
+use Rattle.ppdb_run_stops.specs.Causes.{Cause, Refusal, Unread, Unwritten, Unput, OutOfMemory, line_of, refusal_of}
+use Rattle.ppdb_run_stops.specs.Causes.{ComesFrom, OnUntold, OnCut}
+use Rattle.ppdb_run.specs.Stops.{Tells, Told, Failed, NoMemory}
 
 module _ (words : List (List ℕ)) (files : Option Files) (before after : ℕ) (ReadFailed WriteFailed : Type 0) (old mid new : Option (List ℕ)) where
   abbrev Due : Outcome → List ℕ → Type 0

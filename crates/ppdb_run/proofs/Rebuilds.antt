@@ -10,11 +10,12 @@ use Rattle.ppdb_values.specs.RawFile.{RawFile}
 use Rattle.ppdb_values.specs.Value.{value_of}
 use Rattle.ppdb_verify.specs.Files.{FileFaults, IsRawOf}
 use Rattle.ppdb_build_written_laws.specs.Written.{Says, IsSameAgain}
-use Rattle.ppdb_run.specs.declared.stop.Stop.{Stop}
+use Rattle.ppdb_run_stops.specs.declared.stop.Stop.{Stop}
 use Rattle.ppdb_run.specs.Ends.{RebuildsToItself}
-use Rattle.ppdb_run.specs.Outcome.{choice_of, gives, input_of, limited, rebuilt, steps_of, unfit, unknown_kind, unless, verified, written}
+use Rattle.ppdb_run.specs.Outcome.{choice_of, gives, input_of, rebuilt, steps_of, unknown_kind, unless, verified, written}
+use Rattle.ppdb_run_stops.specs.Refusals.{limited, unfit}
 use Rattle.ppdb_run.specs.Stops.{Gives}
-use Rattle.ppdb_run.specs.Words.{Options, Task, Rebuild}
+use Rattle.ppdb_run_words.specs.Words.{Options, Task, Rebuild}
 use Rattle.ppdb_run.proofs.Steps.{gives_next, gives_stop}
 
 -- ---- what it comes to

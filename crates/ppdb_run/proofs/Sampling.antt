@@ -4,13 +4,15 @@ use Rattle.std.specs.Prelude.{Option, Some, None, option_map, Result, Ok, Err, I
 use Rattle.ppdb_base.specs.Files.{Files}
 use Rattle.ppdb_base.specs.declared.limits.Limit.{Limit}
 use Rattle.ppdb_run_sample.specs.Sampled.{limit_of_sample}
-use Rattle.ppdb_run.specs.declared.stop.Stop.{Stop}
+use Rattle.ppdb_run_stops.specs.declared.stop.Stop.{Stop}
 use Rattle.ppdb_run.specs.Ends.{Asks, IsValid, OnAsked, OnDue, OnOutcome, WritesAgain, WritesValid}
-use Rattle.ppdb_run.specs.Outcome.{Outcome, IsOutcome, done, limited, outcome_of, sampled, unless}
-use Rattle.ppdb_run.specs.Stops.{cause_of, refusal_of, Finds, FindsOutcome, Leaves, Settles}
-use Rattle.ppdb_run.specs.Words.{Task, Sample, Words}
+use Rattle.ppdb_run_stops.specs.Refusals.{Outcome, limited}
+use Rattle.ppdb_run.specs.Outcome.{IsOutcome, done, outcome_of, sampled, unless}
+use Rattle.ppdb_run_stops.specs.Causes.{cause_of, refusal_of}
+use Rattle.ppdb_run.specs.Stops.{Finds, FindsOutcome, Leaves, Settles}
+use Rattle.ppdb_run_words.specs.Words.{Task, Sample, Words}
 use Rattle.ppdb_run.proofs.Kept.{leaves}
-use Rattle.ppdb_run.proofs.OneTask.{one_task}
+use Rattle.ppdb_run_words.proofs.OneTask.{one_task}
 
 -- what holds over all files holds over those that the words see
 of_all : (P : Option Task → Files → Type 0) (words : List (List ℕ)) (task : Task) → ((all : Files) → P (Some task) all) → Words task words

@@ -16,19 +16,22 @@ use Rattle.metadata_root.specs.Streams.StreamFaults.{bounds}
 use Rattle.ppdb_values.specs.RawFile.{raw_in, RawFile}
 use Rattle.ppdb_verify.specs.Files.{FileFaults}
 use Rattle.ppdb_values.specs.Value.{value_of}
-use Rattle.ppdb_run.specs.Outcome.{Outcome, ◌>>=◌, IsOutcome, HasDue, absent, too_long, refused, usage, gives, input_of, answer_of, rebuilt}
+use Rattle.ppdb_run_stops.specs.Refusals.{Outcome, absent, too_long, refused, usage}
+use Rattle.ppdb_run.specs.Outcome.{◌>>=◌, IsOutcome, HasDue, gives, input_of, answer_of, rebuilt}
 use Rattle.ppdb_run.specs.Outcome.{outcome_of, sampled, steps_of, verified}
 use Rattle.ppdb_maps_text.proofs.Judged.{texts_are_judged}
 use Rattle.ppdb_verify.specs.Files.{IsRawOf}
 use Rattle.ppdb_merge.specs.declared.trace.Trace.{Trace}
 use Rattle.ppdb_merge.specs.Refusals.{added}
 use Rattle.ppdb_merge.specs.Together.{joined_of}
-use Rattle.ppdb_run.specs.Outcome.{Step, all_joined, file_at, fitting, in_limits, judged, map_in, no_map, with_input, with_inputs, with_texts}
+use Rattle.ppdb_run.specs.Outcome.{Step, all_joined, file_at, fitting, in_limits, judged, map_in, with_input, with_inputs, with_texts}
+use Rattle.ppdb_run_stops.specs.Refusals.{no_map}
 use Rattle.std.specs.Str.Lines.{lines}
 use Rattle.ppdb_queries_list.proofs.Lists.{lists_are_judged}
 use Rattle.ppdb_show.specs.Lookup.{lookup_text_of}
-use Rattle.ppdb_run.specs.Outcome.{done, form_of, listed, looked_up, unlisted}
-use Rattle.ppdb_run.specs.Words.{Input, Options, Task, Ask, Lookup, Rebuild, Compose, Merge, Sample}
+use Rattle.ppdb_run.specs.Outcome.{done, form_of, listed, looked_up}
+use Rattle.ppdb_run_stops.specs.Refusals.{unlisted}
+use Rattle.ppdb_run_words.specs.Words.{Input, Options, Task, Ask, Lookup, Rebuild, Compose, Merge, Sample}
 use Rattle.ppdb_run.proofs.MapSteps.{some_composed}
 
 -- what a stream of a kind is: that it is not listed, or the slice that is

@@ -4,13 +4,15 @@ use Rattle.std.specs.Prelude.{Option, Some, None, Result, Ok, Err, IfSome, IfErr
 use Rattle.ppdb_base.specs.Files.{Files}
 use Rattle.ppdb_base.specs.Written.{appended}
 use Rattle.ppdb_base.proofs.Written.{appended_nothing}
-use Rattle.ppdb_run.specs.declared.stop.Stop.{Stop}
+use Rattle.ppdb_run_stops.specs.declared.stop.Stop.{Stop}
 use Rattle.ppdb_run.specs.Ends.{IsApart, IsValid, KeepsFiles, OnTask, OnAsked, WritesAgain, WritesValid}
-use Rattle.ppdb_run.specs.Outcome.{Outcome, IsOutcome, steps_of, written}
-use Rattle.ppdb_run.specs.Stops.{cause_of, refusal_of, Leaves, LeavesAt, Finds, Settles}
-use Rattle.ppdb_run.specs.Words.{Task, Words, written_file}
+use Rattle.ppdb_run_stops.specs.Refusals.{Outcome}
+use Rattle.ppdb_run.specs.Outcome.{IsOutcome, steps_of, written}
+use Rattle.ppdb_run_stops.specs.Causes.{cause_of, refusal_of}
+use Rattle.ppdb_run.specs.Stops.{Leaves, LeavesAt, Finds, Settles}
+use Rattle.ppdb_run_words.specs.Words.{Task, Words, written_file}
 use Rattle.ppdb_run.proofs.Kept.{leaves_unchanged}
-use Rattle.ppdb_run.proofs.OneTask.{one_task}
+use Rattle.ppdb_run_words.proofs.OneTask.{one_task}
 use Rattle.ppdb_run.proofs.Outcomes.{of_told, on_due}
 
 module _ (task : Task) (output : List ℕ) (files : Option Files) where

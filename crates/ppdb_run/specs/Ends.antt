@@ -5,14 +5,15 @@ use Rattle.ppdb_base.specs.declared.limits.TheConstants.{MAX_FILE_BYTES}
 use Rattle.ppdb_base.specs.Files.{Files, Contents, reading}
 use Rattle.ppdb_base.specs.First.{IsAccepted}
 use Rattle.ppdb_base.specs.Written.{appended, AppendsPrefix}
-use Rattle.ppdb_run.specs.declared.status.Status.{Status}
-use Rattle.ppdb_run.specs.declared.status.Status.TheVariants.{Done, WriteFault, Memory}
-use Rattle.ppdb_run.specs.Lines.{read_fault_line, write_fault_line}
-use Rattle.ppdb_run.specs.Outcome.{Outcome, IsOutcome, file_at, map_at, unknown_kind, verified, with_input, written}
+use Rattle.ppdb_run_stops.specs.declared.status.Status.{Status}
+use Rattle.ppdb_run_stops.specs.declared.status.Status.TheVariants.{Done, WriteFault, Memory}
+use Rattle.ppdb_run_stops.specs.Lines.{read_fault_line, write_fault_line}
+use Rattle.ppdb_run_stops.specs.Refusals.{Outcome}
+use Rattle.ppdb_run.specs.Outcome.{IsOutcome, file_at, map_at, unknown_kind, verified, with_input, written}
 use Rattle.ppdb_merge.specs.declared.trace.Trace.{Trace}
-use Rattle.ppdb_run.specs.Status.{UnlessFault}
-use Rattle.ppdb_run.specs.Words.{Question, Id, Verify, Query, Links, Breaks, Options, Task, Ask, Lookup, Rebuild, Compose, Merge, Sample, Input, Words}
-use Rattle.ppdb_run.specs.Words.{NoTask, read_files, written_file}
+use Rattle.ppdb_run_stops.specs.Status.{UnlessFault}
+use Rattle.ppdb_run_words.specs.Words.{Question, Id, Verify, Query, Links, Breaks, Options, Task, Ask, Lookup, Rebuild, Compose, Merge, Sample, Input, Words}
+use Rattle.ppdb_run_words.specs.Words.{NoTask, read_files, written_file}
 use Rattle.ppdb_run.specs.Writes.{WritesAll, WritesPrefix}
 use Rattle.ppdb_maps.specs.Map.{Map}
 use Rattle.ppdb_maps.specs.Text.{IsMapOf}

@@ -1,10 +1,6 @@
 pub mod Ends
-pub mod Faults
-pub mod Lines
 pub mod Means
 pub mod Outcome
-pub mod Status
+pub mod Sample
 pub mod Stops
-pub mod Task
-pub mod Words
 pub mod Writes

@@ -6,14 +6,12 @@ use Rattle.ppdb_base.specs.declared.code.Code.{Code}
 use Rattle.ppdb_base.specs.declared.fault.Place.{Place}
 use Rattle.ppdb_base.specs.declared.fault.Fault.{Fault}
 use Rattle.ppdb_base.specs.Files.{Files, Reading, Missing, Longer, Contents, reading}
-use Rattle.ppdb_base.specs.declared.limits.Limit.{Limit}
 use Rattle.ppdb_base.specs.declared.link_error.LinkError.{LinkError}
 use Rattle.ppdb_base.specs.declared.merge_error.MergeError.{MergeError}
 use Rattle.ppdb_base.specs.declared.merge_error.MergeError.TheVariants.{KindUnknown}
 use Rattle.ppdb_base.specs.declared.limits.TheConstants.{MAX_FILE_BYTES}
 use Rattle.ppdb_base.specs.First.{IsAccepted, IsFirst}
-use Rattle.ppdb_run.specs.declared.status.Status.{Status}
-use Rattle.ppdb_run.specs.declared.status.Status.TheVariants as statuses
+use Rattle.ppdb_run_stops.specs.declared.status.Status.TheVariants as statuses
 use Rattle.std.specs.Str.Lines.{lines}
 use Rattle.ppdb_queries_list.specs.Lists.{IsFirstOther, Lists}
 use Rattle.ppdb_queries_list.specs.declared.line.MethodOffset.{MethodOffset}
@@ -21,18 +19,18 @@ use Rattle.ppdb_show_lines.specs.declared.form.Form.{Form}
 use Rattle.ppdb_show_lines.specs.declared.form.Form.TheVariants.{Text, Json}
 use Rattle.ppdb_show_lines.specs.Forms.{lines_as}
 use Rattle.ppdb_show_lines.specs.Heads.{id_line, entry_line}
-use Rattle.ppdb_show_lines.specs.Lines.{Line, text_of}
 use Rattle.ppdb_show_lines.specs.Pieces.{line}
-use Rattle.ppdb_run.specs.Lines.{about, usage_line, refused_line, map_line, unfit_line, limit_text, map_limit_text}
-use Rattle.ppdb_run.specs.Lines.{list_line, links_line, sizes_line, sample_text}
-use Rattle.ppdb_show.specs.Lookup.{has_method, lookup_text_of, no_method_line}
-use Rattle.ppdb_run.specs.Words.{Question, Id, Verify, Show, Query, Links, Breaks, Options, Input, Task, Ask, Lookup, Rebuild, Compose, Merge, Sample}
+use Rattle.ppdb_run.specs.Sample.{sample_text}
+use Rattle.ppdb_show.specs.Lookup.{has_method, lookup_text_of}
+use Rattle.ppdb_run_stops.specs.Refusals.{Outcome, prints, usage, absent, too_long, refused, no_map, unfit, limited, map_limited, no_method, unlinked}
+use Rattle.ppdb_run_stops.specs.Refusals.{no_document, unlisted, sizes_differ}
+use Rattle.ppdb_run_words.specs.Task.{file_of}
+use Rattle.ppdb_run_words.specs.Words.{Question, Id, Verify, Show, Query, Links, Breaks, Options, Input, Task, Ask, Lookup, Rebuild, Compose, Merge, Sample}
 use Rattle.ppdb_merge_fits.specs.Clashes.{is_unknown}
 use Rattle.ppdb_merge.specs.declared.trace.Trace.{Trace}
 use Rattle.ppdb_merge.specs.Refusals.{added}
 use Rattle.ppdb_merge.specs.Together.{joined_of}
 use Rattle.ppdb_base.specs.declared.merge_error.MergeError.TheVariants.{RowsDiffer, ImageRange}
-use Rattle.std.specs.Option.{unwrap_or}
 use Rattle.map_compose.specs.Composed.{composed}
 use Rattle.map_compose.specs.Sizes.{SizesAgree, IsFirstDiffering}
 use Rattle.ppdb_maps_text.specs.MapTexts.{map_text}
@@ -49,65 +47,11 @@ use Rattle.ppdb_build_canon.specs.declared.choice.IdChoice.{IdChoice}
 use Rattle.ppdb_build_canon.specs.declared.choice.IdChoice.TheVariants.{Hash, Keep}
 use Rattle.ppdb_build_canon.specs.Canon.{canon}
 use Rattle.ppdb_build_canon.specs.Limits.{first_limit}
-use Rattle.ppdb_tables.specs.RawTables.{numbered, row_at}
+use Rattle.ppdb_tables.specs.RawTables.{numbered}
 use Rattle.ppdb_values.specs.declared.file.FileValue.{FileValue}
 use Rattle.ppdb_values.specs.Value.{value_of}
 use Rattle.ppdb_values.specs.RawFile.{RawFile}
 use Rattle.ppdb_verify.specs.Files.{FileFaults, IsRawOf}
-
-pub record Outcome : Type 0 where
-  pub status : Status
-  pub text : List ℕ
-  pub writes : Option (List ℕ × List ℕ)
-
--- a text alone
-abbrev pub prints : Status → List ℕ → Outcome
-prints status text = record { status = status; text = text; writes = None }
-
--- ---- the refusals
-
--- a line alone
-abbrev pub tells : Status → Line → Outcome
-tells status said = prints status (text_of said)
-
-abbrev pub usage : Outcome
-usage = tells statuses.Usage usage_line
-
-abbrev pub absent : List ℕ → Outcome
-absent name = tells statuses.Absent (about (codes "absent") name [])
-
-abbrev pub too_long : List ℕ → Outcome
-too_long name = tells statuses.TooLong (about (codes "too long") name [])
-
-abbrev pub refused : List ℕ → Fault → Outcome
-refused name fault = tells statuses.Refused (refused_line name fault)
-
-abbrev pub no_map : List ℕ → ℕ → ℕ → Outcome
-no_map name n kind = tells statuses.Unfit (map_line name n kind)
-
-abbrev pub unfit : List ℕ → MergeError → Outcome
-unfit name error = tells statuses.Unfit (unfit_line name error)
-
-abbrev pub limited : Limit → Outcome
-limited limit = prints statuses.Limit (limit_text limit)
-
-abbrev pub map_limited : ℕ → Outcome
-map_limited bytes = prints statuses.Limit (map_limit_text bytes)
-
-abbrev pub no_method : ℕ → Outcome
-no_method method = tells statuses.NoMethod (no_method_line method)
-
-abbrev pub unlinked : List ℕ → LinkError → Outcome
-unlinked name error = tells statuses.Unlinked (links_line name error)
-
-abbrev pub no_document : List ℕ → Outcome
-no_document name = tells statuses.NoDocument (about (codes "no document") name [])
-
-abbrev pub unlisted : List ℕ → ℕ → Outcome
-unlisted name n = tells statuses.Unlisted (list_line name n)
-
-abbrev pub sizes_differ : ℕ → ℕ → ℕ → Outcome
-sizes_differ method first second = tells statuses.Uncomposed (sizes_line method first second)
 
 -- ---- steps, of which each may end a command by a refusal
 
@@ -268,10 +212,6 @@ abbrev pub input_in : MergeError → ℕ
 input_in (RowsDiffer input table first second) = input
 input_in (ImageRange input table row image rows) = input
 input_in error = 0
-
--- the file of the input of a number
-abbrev pub file_of : List Input → ℕ → List ℕ
-file_of inputs n = unwrap_or (option_map (λ (input : Input). input.file) (row_at inputs n)) []
 
 -- the value of all inputs, where they can be joined; else the file of the one that cannot, and why
 abbrev pub all_joined : List Input → Result FileValue MergeError → Result FileValue Outcome

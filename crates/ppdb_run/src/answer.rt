@@ -4,16 +4,18 @@ ghost use Rattle.ppdb_base.specs.Causes.{Rose};
 ghost use Rattle.ppdb_base.specs.Written.{appended, AppendsPrefix, Puts};
 ghost use Rattle.ppdb_run.specs.Ends.{OnTask, IsWithinRows, IsWithinBound, ReadsNoRows};
 ghost use Rattle.ppdb_run.specs.Outcome.{IsOutcome, answer_of, id_text, outcome_of};
-ghost use Rattle.ppdb_run.specs.Stops.{cause_of, Settles, Finds, ComesFrom, no_file, OnCut, OnUntold};
-ghost use Rattle.ppdb_run.specs.Task.{question_of};
-ghost use Rattle.ppdb_run.specs.Words.{Ask};
+ghost use Rattle.ppdb_run_stops.specs.Causes.{cause_of, ComesFrom, no_file, OnCut, OnUntold};
+ghost use Rattle.ppdb_run.specs.Stops.{Settles, Finds};
+ghost use Rattle.ppdb_run_words.specs.Task.{question_of};
+ghost use Rattle.ppdb_run_words.specs.Words.{Ask};
 ghost use Rattle.ppdb_verify.specs.Views.{raw_file};
 
-use crate::question::Question;
+use crate::form::answer_form;
 use crate::sources::{answer_breaks, answer_links};
-use crate::stop::Stop;
 use crate::verified::read_verified;
 use ppdb_base::{Folder, List, Sink, Steps, WriteError};
+use ppdb_run_stops::Stop;
+use ppdb_run_words::Question;
 use ppdb_show::{QueryError, put_query, put_show};
 use ppdb_show_lines::{Printer, put_entry_line, put_id_line};
 use ppdb_verify::Verified;
@@ -82,7 +84,7 @@ fn put_answer<'a, O: Sink, L: Ledger>(
     let room = Cell::new(Vec::new(alloc));
     let printer = Printer {
         alloc,
-        form: question.form(),
+        form: answer_form(question),
         room: &room,
     };
     match question {

@@ -6,21 +6,20 @@ ghost use Rattle.ppdb_run.specs.Ends.{OnOutcome, HasOutcome, IsWithinRows, Leave
 ghost use Rattle.ppdb_run.specs.Ends.{TellsUnread, TellsUnwritten, UnlessWritten};
 ghost use Rattle.ppdb_run.specs.Ends.{OnAsked, WritesValid, WritesAgain};
 ghost use Rattle.ppdb_run.specs.Means.{WritesMeaning};
-ghost use Rattle.ppdb_run.specs.Status.{UnlessFault};
-ghost use Rattle.ppdb_run.specs.Stops.{cause_of, Tells, Settles, FindsOutcome, ComesFrom, Leaves, OnKept, OnCut, OnUntold};
-ghost use Rattle.ppdb_run.specs.Words.{Task, Words, NoTask, texts};
+ghost use Rattle.ppdb_run_stops.specs.Status.{UnlessFault};
+ghost use Rattle.ppdb_run_stops.specs.Causes.{cause_of, ComesFrom, OnKept, OnCut, OnUntold};
+ghost use Rattle.ppdb_run.specs.Stops.{Tells, Settles, FindsOutcome, Leaves};
+ghost use Rattle.ppdb_run_words.specs.Words.{Task, Words, NoTask, texts};
 
 use crate::answer::answer;
-use crate::command::Asked;
 use crate::compose::compose;
 use crate::lookup::lookup;
 use crate::merge::merge;
 use crate::rebuild::rebuild;
 use crate::sample::sample;
-use crate::status::Status;
-use crate::stop::Stop;
-use crate::words::{Usage, read_words};
 use ppdb_base::{Folder, Sink, Steps, WriteError};
+use ppdb_run_stops::{Status, Stop};
+use ppdb_run_words::{Asked, Usage, read_words};
 use std::alloc::Global;
 use std::sync::ledger::Ledger;
 

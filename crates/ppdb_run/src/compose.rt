@@ -5,15 +5,16 @@ ghost use Rattle.ppdb_maps.specs.Map.{Map};
 ghost use Rattle.ppdb_maps.specs.Text.{IsMapOf};
 ghost use Rattle.ppdb_run.specs.Ends.{OnTask, WritesValid, IsUnreadOf};
 ghost use Rattle.ppdb_run.specs.Outcome.{IsOutcome, composed_text, steps_of, written};
-ghost use Rattle.ppdb_run.specs.Stops.{cause_of, Settles, Finds, Gives, Leaves, ComesFrom, OnKept, no_file};
-ghost use Rattle.ppdb_run.specs.Words.{Compose};
+ghost use Rattle.ppdb_run_stops.specs.Causes.{cause_of, ComesFrom, OnKept, no_file};
+ghost use Rattle.ppdb_run.specs.Stops.{Settles, Finds, Gives, Leaves};
+ghost use Rattle.ppdb_run_words.specs.Words.{Compose};
 
 use crate::map::read_map_file;
 use crate::output::write_output;
-use crate::stop::Stop;
 use map_compose::{ComposeError, compose_maps};
 use ppdb_base::{Bytes, Folder};
 use ppdb_maps::MapText;
+use ppdb_run_stops::Stop;
 use std::alloc::Global;
 
 /// Writes the text of the map of two maps.

@@ -1,12 +1,12 @@
 // The files that a command reads.
 ghost use Rattle.std.specs.Prelude.{◌≡◌, ◌≤◌, is_ok, length, IfOk, IfErr, IfSome};
 ghost use Rattle.ppdb_base.specs.Causes.{Rose, counted_where};
-ghost use Rattle.ppdb_base.specs.declared.limits.TheConstants.{MAX_FILE_BYTES};
 ghost use Rattle.ppdb_run.specs.Outcome.{file_at};
-ghost use Rattle.ppdb_run.specs.Stops.{cause_of, Gives, ComesFrom, no_file};
+ghost use Rattle.ppdb_run_stops.specs.Causes.{cause_of, ComesFrom, no_file};
+ghost use Rattle.ppdb_run.specs.Stops.{Gives};
 
-use crate::stop::Stop;
 use ppdb_base::{Bytes, Folder, List, MAX_FILE_BYTES, ReadError};
+use ppdb_run_stops::Stop;
 use std::alloc::Global;
 
 /// Reads a file of a command.

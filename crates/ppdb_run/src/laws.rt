@@ -6,13 +6,11 @@ ghost use Rattle.ppdb_show.specs.Lookup.{at_line, has_method, lookup_text_of};
 ghost use Rattle.ppdb_show_lines.specs.declared.form.Form.{Form};
 ghost use Rattle.ppdb_show_lines.specs.Lines.{json_of, text_of};
 ghost use Rattle.ppdb_values.specs.RawFile.{RawFile};
-ghost use Rattle.ppdb_run.specs.Outcome.{Outcome, IsOutcome, HasDue, answer_of, form_of, outcome_of};
-ghost use Rattle.ppdb_run.specs.Words.{Task, Words, Query};
+ghost use Rattle.ppdb_run_stops.specs.Refusals.{Outcome};
+ghost use Rattle.ppdb_run.specs.Outcome.{IsOutcome, HasDue, answer_of, form_of, outcome_of};
+ghost use Rattle.ppdb_run_words.specs.Words.{Task, Query};
 
-/// The words are those of one task at most.
-pub fn one_task_at_most()
-    ensures { (words : List (List ℕ)) (one other : Task) → Words one words → Words other words → one ≡ other }
-{}
+pub use ppdb_run_words::laws::one_task_at_most;
 
 /// What is asked for has one outcome at most.
 pub fn one_outcome_at_most()

@@ -2,34 +2,22 @@
 #![tactic(auto)]
 
 mod answer;
-mod command;
 mod commands;
 mod compose;
-mod fault;
+mod form;
 mod input;
-mod inputs;
 mod keys;
 pub mod laws;
-mod limit;
 mod lookup;
 mod map;
 mod merge;
 mod merged;
-mod options;
 mod output;
-mod pairs;
-mod question;
 mod rebuild;
 mod sample;
 mod sources;
-mod status;
-mod stop;
-mod unfit;
 mod verified;
-mod words;
 
-pub use command::Command;
 pub use commands::run;
-pub use options::Options;
-pub use status::Status;
-pub use words::{Usage, read_words};
+pub use ppdb_run_stops::Status;
+pub use ppdb_run_words::{Command, Options, Usage, read_words};

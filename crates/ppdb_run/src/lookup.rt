@@ -3,22 +3,22 @@ ghost use Rattle.std.specs.Prelude.{◌≡◌, ◌≤◌, ◌+◌, List, Some, N
 ghost use Rattle.std.specs.Str.Lines.{lines};
 ghost use Rattle.ppdb_base.specs.Causes.{Rose};
 ghost use Rattle.ppdb_base.specs.Written.{appended, AppendsPrefix};
-ghost use Rattle.ppdb_base.specs.declared.limits.TheConstants.{MAX_FILE_BYTES};
 ghost use Rattle.ppdb_queries_list.specs.Lists.{Lists};
 ghost use Rattle.ppdb_queries_list.specs.declared.line.MethodOffset.{MethodOffset};
 ghost use Rattle.ppdb_show.specs.Lookup.{lookup_rows};
 ghost use Rattle.ppdb_run.specs.Ends.{OnTask, IsUnreadOf, IsWithinRows};
 ghost use Rattle.ppdb_run.specs.Outcome.{IsOutcome, form_of, looked_up};
-ghost use Rattle.ppdb_run.specs.Stops.{cause_of, Delivers, Settles, Finds, ComesFrom, no_file, OnCut, OnUntold};
-ghost use Rattle.ppdb_run.specs.Words.{Lookup};
+ghost use Rattle.ppdb_run_stops.specs.Causes.{cause_of, ComesFrom, no_file, OnCut, OnUntold};
+ghost use Rattle.ppdb_run.specs.Stops.{Delivers, Settles, Finds};
+ghost use Rattle.ppdb_run_words.specs.Words.{Lookup};
 ghost use Rattle.ppdb_verify.specs.Views.{raw_file};
 
+use crate::form::form;
 use crate::input::read_input;
-use crate::question::form;
-use crate::stop::Stop;
 use crate::verified::verify_bytes;
-use ppdb_base::{Folder, Sink, Steps};
+use ppdb_base::{Folder, MAX_FILE_BYTES, Sink, Steps};
 use ppdb_queries_list::check_list;
+use ppdb_run_stops::Stop;
 use ppdb_show::put_lookup;
 use ppdb_show_lines::Printer;
 use ppdb_verify::Verified;

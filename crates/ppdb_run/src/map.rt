@@ -2,12 +2,13 @@
 ghost use Rattle.std.specs.Prelude.{◌≡◌, ◌≤◌, None, length, IfOk, IfErr, IfSome};
 ghost use Rattle.ppdb_base.specs.Causes.{Rose, counted};
 ghost use Rattle.ppdb_run.specs.Outcome.{map_at, map_in};
-ghost use Rattle.ppdb_run.specs.Stops.{cause_of, Gives, ComesFrom, no_file};
+ghost use Rattle.ppdb_run_stops.specs.Causes.{cause_of, ComesFrom, no_file};
+ghost use Rattle.ppdb_run.specs.Stops.{Gives};
 
 use crate::input::read_input;
-use crate::stop::Stop;
 use ppdb_base::{Bytes, Folder};
 use ppdb_maps::{MapError, MapText, read_map};
+use ppdb_run_stops::Stop;
 use std::alloc::Global;
 
 /// Reads a file of a command, and the map that its text has.

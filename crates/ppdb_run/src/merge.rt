@@ -6,19 +6,17 @@ ghost use Rattle.ppdb_merge.specs.Together.{joined_of};
 ghost use Rattle.ppdb_run.specs.Ends.{IsUnreadOf, OnTask, RebuildsWhereKnown, WritesAgain, WritesValid};
 ghost use Rattle.ppdb_run.specs.Means.{ExactlyMeans, WritesMeaning};
 ghost use Rattle.ppdb_run.specs.Outcome.{IsOutcome, all_joined, gives, in_limits, input_in, steps_of, written};
-ghost use Rattle.ppdb_run.specs.Stops.{cause_of, Settles, Finds, Gives, Leaves, ComesFrom, OnKept, no_file};
-ghost use Rattle.ppdb_run.specs.Task.{inputs_of, options_of};
-ghost use Rattle.ppdb_run.specs.Words.{Merge};
+ghost use Rattle.ppdb_run_stops.specs.Causes.{cause_of, ComesFrom, OnKept, no_file};
+ghost use Rattle.ppdb_run.specs.Stops.{Settles, Finds, Gives, Leaves};
+ghost use Rattle.ppdb_run_words.specs.Task.{inputs_of, options_of};
+ghost use Rattle.ppdb_run_words.specs.Words.{Merge};
 ghost use Rattle.ppdb_verify.specs.Files.{FileFaults};
 ghost use Rattle.ppdb_values_sound_laws.specs.Sound.{IsSound};
 ghost use Rattle.ppdb_run_meaning_laws.specs.Laws.{SaysButForId};
 
-use crate::inputs::Inputs;
 use crate::merged::merged;
-use crate::options::Options;
 use crate::output::write_output;
 use crate::rebuild::choice;
-use crate::stop::Stop;
 use ppdb_base::{Bytes, Folder, MergeError, Steps};
 use ppdb_build::{BuildError, FileValue, write_file_under};
 use ppdb_build_heaps::{ItemKey, KeyMaker};
@@ -26,6 +24,8 @@ use ppdb_merge::Merger;
 use ppdb_run_meaning_laws::{
     joined_files_keep_inputs, joined_kinds_are_known, read_inputs_are_valid,
 };
+use ppdb_run_stops::Stop;
+use ppdb_run_words::{Inputs, Options};
 use std::alloc::Global;
 use std::sync::ledger::Ledger;
 

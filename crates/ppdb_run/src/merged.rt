@@ -1,22 +1,22 @@
 // Inputs that are read, and moved by their maps, one after the other.
 ghost use Rattle.std.specs.Prelude.{◌≡◌, ◌≤◌, ◌<◌, ◌+◌, ℕ, Bool, List, [], ◌∷◌, length, None, IfOk, OnOk, IfErr, IfSome};
 ghost use Rattle.ppdb_base.specs.Causes.{Rose, counted};
-ghost use Rattle.ppdb_base.specs.declared.limits.TheConstants.{MAX_FILE_BYTES};
 ghost use Rattle.ppdb_run.specs.Ends.{IsUnreadOf, IsInputUnread};
 ghost use Rattle.ppdb_run.specs.Outcome.{with_input, with_inputs, with_texts};
-ghost use Rattle.ppdb_run.specs.Stops.{cause_of, Gives, ComesFrom, no_file};
-ghost use Rattle.ppdb_run.specs.Task.{input_of, inputs_of, pairs_of};
-ghost use Rattle.ppdb_run.specs.Words.{Merge, texts};
+ghost use Rattle.ppdb_run_stops.specs.Causes.{cause_of, ComesFrom, no_file};
+ghost use Rattle.ppdb_run.specs.Stops.{Gives};
+ghost use Rattle.ppdb_run_words.specs.Task.{input_of, inputs_of, pairs_of};
+ghost use Rattle.ppdb_run_words.specs.Words.{Merge, texts};
 
 use crate::input::read_input;
-use crate::inputs::{Inputs, Pair};
 use crate::keys::take_in;
 use crate::map::map_of;
-use crate::stop::Stop;
 use custom_info::Marks;
-use ppdb_base::{Bytes, Folder, Steps};
+use ppdb_base::{Bytes, Folder, MAX_FILE_BYTES, Steps};
 use ppdb_build_heaps::KeyMaker;
 use ppdb_merge::Merger;
+use ppdb_run_stops::Stop;
+use ppdb_run_words::{Inputs, Pair};
 use ppdb_verify::{VerifyError, verify};
 use std::alloc::Global;
 use std::sync::ledger::Ledger;

@@ -1,10 +1,11 @@
 // The file that a command writes.
 ghost use Rattle.std.specs.Prelude.{◌≡◌, Some, None, IfErr};
 ghost use Rattle.ppdb_base.specs.Causes.{Rose};
-ghost use Rattle.ppdb_run.specs.Stops.{cause_of, refusal_of, Leaves, ComesFrom, OnKept, no_file};
+ghost use Rattle.ppdb_run_stops.specs.Causes.{cause_of, refusal_of, ComesFrom, OnKept, no_file};
+ghost use Rattle.ppdb_run.specs.Stops.{Leaves};
 
-use crate::stop::Stop;
 use ppdb_base::{Folder, WriteError};
+use ppdb_run_stops::Stop;
 
 /// Writes a file of a command.
 pub fn write_output<'a, F: Folder>(

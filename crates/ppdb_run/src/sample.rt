@@ -4,13 +4,14 @@ ghost use Rattle.ppdb_base.specs.Causes.{Rose};
 ghost use Rattle.ppdb_base.specs.Written.{appended, AppendsPrefix, Puts};
 ghost use Rattle.ppdb_show_lines.specs.Lines.{text_of};
 ghost use Rattle.ppdb_show_lines.specs.Views.{content_of};
-ghost use Rattle.ppdb_run.specs.Lines.{sample_text, told_line};
+ghost use Rattle.ppdb_run.specs.Sample.{sample_text, told_line};
 ghost use Rattle.ppdb_run.specs.Outcome.{outcome_of, sampled};
-ghost use Rattle.ppdb_run.specs.Stops.{cause_of, Settles, ComesFrom, no_file, OnCut, OnUntold};
+ghost use Rattle.ppdb_run_stops.specs.Causes.{cause_of, ComesFrom, no_file, OnCut, OnUntold};
+ghost use Rattle.ppdb_run.specs.Stops.{Settles};
 
-use crate::stop::Stop;
 use ppdb_base::{Sink, Steps, WriteError};
 use ppdb_run_sample::{BuildError, SampleReport, sampled};
+use ppdb_run_stops::Stop;
 use ppdb_show_lines::Item::{Number, Octets};
 use ppdb_show_lines::Part::Field;
 use ppdb_show_lines::{Item, Key, put_text_line};

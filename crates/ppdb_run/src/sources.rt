@@ -7,13 +7,14 @@ ghost use Rattle.ppdb_show_sources.specs.Links.{file_links as links_of};
 ghost use Rattle.ppdb_values.specs.Value.{value_of};
 ghost use Rattle.ppdb_run.specs.Ends.{IsWithinBound};
 ghost use Rattle.ppdb_run.specs.Outcome.{breaks_answer, links_answer, outcome_of};
-ghost use Rattle.ppdb_run.specs.Stops.{cause_of, Settles, ComesFrom, no_file, OnCut, OnUntold};
-ghost use Rattle.ppdb_run.specs.Words.{Links, Breaks};
+ghost use Rattle.ppdb_run_stops.specs.Causes.{cause_of, ComesFrom, no_file, OnCut, OnUntold};
+ghost use Rattle.ppdb_run.specs.Stops.{Settles};
+ghost use Rattle.ppdb_run_words.specs.Words.{Links, Breaks};
 ghost use Rattle.ppdb_verify.specs.Views.{raw_file};
 
-use crate::stop::Stop;
 use break_lines::{breaks_at, document_named};
 use ppdb_base::{Sink, Steps};
+use ppdb_run_stops::Stop;
 use ppdb_show_lines::Printer;
 use ppdb_show_sources::{file_links, put_breaks, put_links};
 use ppdb_verify::Verified;

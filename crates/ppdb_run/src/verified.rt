@@ -1,17 +1,17 @@
 // The files that a command reads and verifies.
 ghost use Rattle.std.specs.Prelude.{◌≡◌, ◌≤◌, None, IfErr, IfSome, length};
 ghost use Rattle.ppdb_base.specs.Causes.{Rose};
-ghost use Rattle.ppdb_base.specs.declared.limits.TheConstants.{MAX_FILE_BYTES};
 ghost use Rattle.ppdb_run.specs.Outcome.{judged, verified};
-ghost use Rattle.ppdb_run.specs.Stops.{cause_of, Gives, ComesFrom, no_file};
+ghost use Rattle.ppdb_run_stops.specs.Causes.{cause_of, ComesFrom, no_file};
+ghost use Rattle.ppdb_run.specs.Stops.{Gives};
 ghost use Rattle.ppdb_verify.specs.Files.{FileFaults, IsRawOf};
 ghost use Rattle.ppdb_verify.specs.Views.{raw_file};
 
 use crate::input::read_input;
 use crate::keys::take_in_if;
-use crate::stop::Stop;
-use ppdb_base::{Bytes, Folder, Steps};
+use ppdb_base::{Bytes, Folder, MAX_FILE_BYTES, Steps};
 use ppdb_build_heaps::KeyMaker;
+use ppdb_run_stops::Stop;
 use ppdb_verify::{Verified, VerifyError, verify};
 use std::alloc::Global;
 use std::sync::ledger::Ledger;

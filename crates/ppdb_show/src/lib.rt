@@ -7,5 +7,5 @@ mod query;
 mod show;
 
 pub use lookup::{put_lookup, put_no_method};
-pub use query::{QueryError, put_query};
-pub use show::put_show;
+pub use query::{QueryError, put_query, query_text};
+pub use show::{put_show, show_json, show_text};

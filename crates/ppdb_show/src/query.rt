@@ -7,6 +7,7 @@ ghost use Rattle.ppdb_values.specs.Rules.{HasRow};
 ghost use Rattle.ppdb_verify.specs.Views.{tables_of, raw_file};
 ghost use Rattle.ppdb_queries.specs.Points.{PointIs};
 ghost use Rattle.ppdb_queries.specs.Runs.{IsNoMethod};
+ghost use Rattle.ppdb_show_lines.specs.declared.form.Form.TheVariants.{Text};
 ghost use Rattle.ppdb_show.specs.Bound.{query_rows};
 ghost use Rattle.ppdb_show.specs.Query.{query_lines, query_text_of};
 ghost use Rattle.ppdb_show.specs.QueryWalk.{Adds};
@@ -28,8 +29,10 @@ use crate::query::records::put_records;
 use crate::query::scopes::put_scopes;
 use ppdb_base::{Memory, Sink, SteadySink, Steps, WriteError};
 use ppdb_queries::{PointAt, point_at};
-use ppdb_show_lines::Printer;
+use ppdb_show_lines::{Form, Printer};
 use ppdb_verify::Verified;
+use std::alloc::Global;
+use std::cell::Cell;
 use std::sync::ledger::Ledger;
 
 /// Why a query was not answered.
@@ -103,4 +106,35 @@ pub fn put_query<O: Sink, L: Ledger>(
         Err(WriteError::Failed) => Err(QueryError::Failed),
         Err(WriteError::Memory) => Err(QueryError::Memory),
     }
+}
+
+/// Puts what belongs to an offset of a method, as the command `query` does.
+///
+/// # Errors
+///
+/// The method is 0 or above the rows of MethodDef, and nothing was put; or the sink failed, or there was no memory left, and a
+/// prefix of the text was put.
+pub fn query_text<O: Sink, L: Ledger>(
+    alloc: Global,
+    file: &Verified<'_>,
+    method: u32,
+    offset: u32,
+    out: &mut O,
+    steps: &mut Steps<L>,
+) -> Result<(), QueryError>
+    ensures none { IsErrOf result QueryError.NoMethod ↔ IsNoMethod (raw_of (tables_of file.now)) method }
+    ensures nothing { IsErrOf result QueryError.NoMethod → O.written out.new ≡ O.written out.old }
+    ensures ok { OnOk result (O.written out.new ≡ appended (O.written out.old) (query_text_of Text (raw_file file.now) method offset)) }
+    ensures err { OnErr result (AppendsPrefix (O.written out.old) (O.written out.new) (query_text_of Text (raw_file file.now) method offset)) }
+    ensures failed { IsErrOf result QueryError.Failed → Rose (O.faults out.old) (O.faults out.new) }
+    ensures later { O.faults out.old ≤ O.faults out.new }
+    ensures cost { steps.new ≤ steps.old + query_rows (raw_of (tables_of file.now)) method offset }
+{
+    let room = Cell::new(Vec::new(alloc));
+    let printer = Printer {
+        alloc,
+        form: Form::Text,
+        room: &room,
+    };
+    put_query(printer, file, method, offset, out, steps)
 }

@@ -22,7 +22,7 @@ hex_text (byte ∷ bytes) = encode_lower (byte ∷ bytes)
 unfoldable pub hyphenated : List ℕ → List ℕ
 hyphenated guid = hyphenated_text lower (swap_fields guid)
 
--- the same, and a dash for none
+-- the hyphenated form of a GUID, and a dash for none
 unfoldable pub guid_text : Option (List ℕ) → List ℕ
 guid_text None = codes "-"
 guid_text (Some guid) = hyphenated guid

@@ -26,7 +26,7 @@ pub record HasTypes (value : FileValue) : Type 0 where
   pub variables : All (λ scope. All IsNarrow scope.variables) value.scopes
   pub kinds : All (λ custom. IsGuid custom.kind) value.customs
 
--- the same of a row of LocalVariable, whose cells have two bytes
+-- the attributes and the slot of a row of LocalVariable have two bytes each
 abbrev pub IsNarrowRow : VariableRow → Type 0
 IsNarrowRow row = (row.attributes < 2 ^ 16) × (row.slot < 2 ^ 16)
 

@@ -1,10 +1,12 @@
 -- Cells that are written are the cells that are read.
 use Rattle.std.proofs.Common.{◌≡◌, ℕ, zero, suc, ◌+◌, ◌<◌, ◌≤◌, ◌^◌, List, [], ◌∷◌, ◌++◌, take, drop, length, sum, inl, inr, get_or, All}
 use Rattle.std.proofs.Common.{refl, ap, ◌∙◌, sym, subst, append_assoc, length-append, add-one, arith}
-use Rattle.std.proofs.lemmas.List.{take_more, drop_at, drop-drop, length-take-le, append-nil}
+use Rattle.std.proofs.lemmas.List.{take_more, drop_at, drop-drop, length-take-le, append-nil, take-append-le}
+use Rattle.std.proofs.Math.Seq.{take-append-add}
 use Rattle.std.proofs.lemmas.List.Elements.{AllZip-get_or}
 use Rattle.ppdb_base.proofs.Fields.{sum_append, sum_cons}
 use Rattle.byteorder.specs.Endian.{little_number, little_bytes}
+use Rattle.byteorder.proofs.Bytes.{take-bytes_low_first}
 use Rattle.byteorder.specs.Numbers.{little_number-reads_back, length-bytes_low_first}
 use Rattle.row_layout.specs.Rows.{Fit, row_bytes, cell_in, cell_place, places_from, IsWidth}
 
@@ -25,6 +27,23 @@ row_bytes_more widths cells i h e =
     rw (take_more widths i 0 h, take_more cells i 0 there)
     (row_bytes_push (take i widths) (take i cells) (get_or widths i 0) (get_or cells i 0) (length-take-le i widths (omega arith)
     ∙ sym (length-take-le i cells (omega arith))))
+
+-- a cell that is written in four bytes, of which those of its width count
+pub cell_written : (widths cells row bytes rest post : List ℕ) (i len : ℕ) → i < length widths → length widths ≡ length cells → len ≤ length row
+    → get_or widths i 0 ≤ 4 → bytes ≡ little_bytes 4 (get_or cells i 0) ++ rest → take len row ≡ row_bytes (take i widths) (take i cells)
+    → take (len + get_or widths i 0) (take len row ++ (bytes ++ post)) ≡ row_bytes (take (i + 1) widths) (take (i + 1) cells)
+cell_written widths cells row bytes rest post i len less same room few is before =
+    let width = get_or widths i 0 in
+    let cell = get_or cells i 0 in
+    let four : length (little_bytes 4 cell) ≡ 4 = length-bytes_low_first 0 4 cell in
+    let long : length bytes ≡ 4 + length rest = ap length is ∙ length-append (little_bytes 4 cell) rest ∙ ap (λ n. n + length rest) four in
+    ap (λ n. take (n + width) (take len row ++ (bytes ++ post))) (sym (length-take-le len row room))
+    ∙ take-append-add (take len row) (bytes ++ post) width
+    ∙ ap (λ bs. take len row ++ bs)
+    (take-append-le width bytes post (omega (arith, long, few)) ∙ ap (take width) is ∙ take-append-le width (little_bytes 4 cell) rest (omega (arith, four, few))
+    ∙ take-bytes_low_first 0 4 width cell few)
+    ∙ ap (λ bs. bs ++ little_bytes width cell) before
+    ∙ sym (row_bytes_more widths cells i less same)
 
 -- a row has the sum of the widths
 pub length-row_bytes : (widths cells : List ℕ) → length widths ≡ length cells → length (row_bytes widths cells) ≡ sum widths

@@ -2,7 +2,6 @@ ghost use Rattle.std.specs.Prelude.{◌≡◌, ◌≤◌, ◌<◌, ◌+◌, ◌+
 ghost use Rattle.std.specs.Prelude.{List as Seq};
 ghost use Rattle.row_layout.specs.Columns.{width_of};
 ghost use Rattle.row_layout.specs.Rows.{cell_place, cell_in, Fit, IsWidth, places_from, row_bytes};
-ghost use Rattle.byteorder.specs.Endian.{little_bytes};
 
 use crate::column::{Column, Sizes};
 use byteorder::{ByteOrder, LittleEndian};
@@ -97,20 +96,19 @@ impl<const N: usize> RowLayout<N> {
     /// # Errors
     ///
     /// There was no memory left.
-    #[tactic(auto, using(crate::proofs::Cells::row_bytes_more))]
     pub fn put_cells(&self, cells: &[u32; N], into: &mut Bytes) -> Result<(), Memory>
         requires { Fit self.now cells.now }
         ensures ok { OnOk result (into.new ≡ into.old ++ row_bytes self.now cells.now) }
         ensures err { OnErr result (into.new ≡ into.old) }
     {
-        let len = into.len();
+        // A cell is written in four bytes; the next one overwrites those beyond its width. No row has more than 64 cells.
+        let mut row = [0; 256];
+        let mut len = 0;
         for (i, width) in self.widths.iter().enumerate() {
-            if let Err(refusal) = put_cell(*width, cells[i], into) {
-                into.truncate(len);
-                return Err(refusal);
-            }
+            LittleEndian::write_u32(&mut row[len..], cells[i]);
+            len += *width as usize;
         }
-        Ok(())
+        into.append(&row[..len])
     }
 }
 
@@ -147,16 +145,6 @@ fn cell_fits(width: u8, cell: u32) -> bool
     ensures { IsTrue result ↔ cell < 256 ^ width }
 {
     width == 4 || cell < 65536
-}
-
-fn put_cell(width: u8, cell: u32, into: &mut Bytes) -> Result<(), Memory>
-    requires { IsWidth width }
-    ensures ok { OnOk result (into.new ≡ into.old ++ little_bytes width cell) }
-    ensures err { OnErr result (into.new ≡ into.old) }
-{
-    let mut bytes = [0; 4];
-    LittleEndian::write_u32(&mut bytes, cell);
-    into.append(&bytes[..width as usize])
 }
 
 /// The cells of a row that was written are the cells that are read, whatever stands after it.

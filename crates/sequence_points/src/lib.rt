@@ -9,6 +9,7 @@ mod place;
 mod point;
 mod ranges;
 mod records;
+mod room;
 mod step;
 mod writer;
 

@@ -1,7 +1,7 @@
 //! Writes points.
 
-ghost use Rattle.std.specs.Prelude.{◌≡◌, ◌+◌, ◌-◌, ◌<◌, ◌≤◌, ◌++◌, ◌≤ℤ◌, ◌<ℤ◌, ◌-ℤ◌, neg_ℤ, pos, [], All, OnOk, OnErr, IfErr, IfSome, None};
-ghost use Rattle.cli_ints.specs.Shortest.{short_unsigned, short_signed};
+ghost use Rattle.std.specs.Prelude.{◌≡◌, ◌+◌, ◌-◌, ◌<◌, ◌≤◌, ◌++◌, ◌-ℤ◌, pos, [], length, All, OnOk, OnErr, IfErr, IfSome, None};
+ghost use Rattle.cli_ints.specs.Shortest.{short_unsigned};
 ghost use Rattle.sequence_points.specs.Written.{IsSpan, CanBeWritten, document_bytes, columns_bytes, start_bytes, span_bytes};
 ghost use Rattle.sequence_points.specs.Written.{bytes_after, header_bytes, points_blob, if_large, large_step, large_steps, IsRefused};
 ghost use Rattle.ppdb_base.specs.Written.{BeginsWith};
@@ -10,8 +10,9 @@ ghost use Rattle.sequence_points.specs.Following.{IsStart, MayFollow, EachMayFol
 
 use crate::place::Start;
 use crate::point::{Point, Span, single_document};
+use crate::room::Room;
 use crate::step::{LineStep, first_large_step, start_after};
-use cli_ints::{spell_signed, spell_unsigned};
+use cli_ints::spell_unsigned;
 use ppdb_base::{Bytes, Memory};
 
 /// Why points were not written.
@@ -33,90 +34,82 @@ pub fn unsigned_into(number: u32, into: &mut Bytes) -> Result<(), Memory>
     into.append(spell_unsigned(number).as_slice())
 }
 
-/// Appends the signed difference of two numbers.
-fn difference_into(to: u32, from: u32, into: &mut Bytes) -> Result<(), Memory>
-    requires to { to < 536870912 }
-    requires from { from < 536870912 }
-    requires low { neg_ℤ (pos 268435456) ≤ℤ (pos to -ℤ pos from) }
-    requires high { (pos to -ℤ pos from) <ℤ pos 268435456 }
-    ensures ok { OnOk result (into.new ≡ into.old ++ short_signed (pos to -ℤ pos from)) }
-    ensures err { OnErr result (into.new ≡ into.old) }
-{
-    into.append(spell_signed(to as i32 - from as i32).as_slice())
-}
-
-/// Appends a document record, where the document is not that of the last point.
-fn document_into(last: Option<Point>, row: u32, into: &mut Bytes) -> Result<(), Memory>
-    requires { row < 536870912 }
-    ensures ok { OnOk result (into.new ≡ into.old ++ document_bytes last row) }
-    ensures err { OnErr result (BeginsWith into.old into.new) }
+/// Puts a document record, where the document is not that of the last point.
+fn put_document(last: Option<Point>, row: u32, room: &mut Room)
+    requires row { row < 536870912 }
+    requires room { length room.old ≤ 27 }
+    ensures bytes { room.new ≡ room.old ++ document_bytes last row }
+    ensures len { length room.new ≤ length room.old + 5 }
 {
     match last {
         Some(last) if last.document != row => {
-            into.append(&[0])?;
-            unsigned_into(row, into)
+            room.push(0);
+            room.put_unsigned(row);
         }
-        _ => Ok(()),
+        _ => {}
     }
 }
 
-/// Appends Columns.
-fn columns_into(lines: u32, start: u32, end: u32, into: &mut Bytes) -> Result<(), Memory>
+/// Puts Columns.
+fn put_columns(lines: u32, start: u32, end: u32, room: &mut Room)
     requires start { start < 65536 }
     requires end { end < 65536 }
     requires one_line { lines ≡ 0 → start ≤ end }
-    ensures ok { OnOk result (into.new ≡ into.old ++ columns_bytes lines start end) }
-    ensures err { OnErr result (into.new ≡ into.old) }
+    requires room { length room.old ≤ 28 }
+    ensures bytes { room.new ≡ room.old ++ columns_bytes lines start end }
+    ensures len { length room.new ≤ length room.old + 4 }
 {
     if lines == 0 {
-        unsigned_into(end - start, into)
+        room.put_unsigned(end - start);
     } else {
-        difference_into(end, start, into)
+        room.put_difference(end, start);
     }
 }
 
-/// Appends StartLine and StartColumn.
-fn start_into(start: Option<Start>, line: u32, column: u32, into: &mut Bytes) -> Result<(), Memory>
+/// Puts StartLine and StartColumn.
+fn put_start(start: Option<Start>, line: u32, column: u32, room: &mut Room)
     requires line { line < 536870912 }
     requires column { column < 65536 }
     requires start { IsStart start }
     requires step { IfSome start (λ s. if_large (pos line -ℤ pos s.line) ≡ None) }
-    ensures ok { OnOk result (into.new ≡ into.old ++ start_bytes start line column) }
-    ensures err { OnErr result (BeginsWith into.old into.new) }
+    requires room { length room.old ≤ 24 }
+    ensures bytes { room.new ≡ room.old ++ start_bytes start line column }
+    ensures len { length room.new ≤ length room.old + 8 }
 {
     match start {
         None => {
-            unsigned_into(line, into)?;
-            unsigned_into(column, into)
+            room.put_unsigned(line);
+            room.put_unsigned(column);
         }
         Some(last) => {
-            difference_into(line, last.line, into)?;
-            difference_into(column, last.column, into)
+            room.put_difference(line, last.line);
+            room.put_difference(column, last.column);
         }
     }
 }
 
-/// Appends Lines, Columns, StartLine and StartColumn.
-fn span_into(start: Option<Start>, span: Span, into: &mut Bytes) -> Result<(), Memory>
+/// Puts Lines, Columns, StartLine and StartColumn.
+fn put_span(start: Option<Start>, span: Span, room: &mut Room)
     requires span { IsSpan span }
     requires start { IsStart start }
     requires step { large_step start span ≡ None }
-    ensures ok { OnOk result (into.new ≡ into.old ++ span_bytes start span) }
-    ensures err { OnErr result (BeginsWith into.old into.new) }
+    requires room { length room.old ≤ 16 }
+    ensures bytes { room.new ≡ room.old ++ span_bytes start span }
 {
-    let Span::Lines {
-        start_line,
-        start_column,
-        end_line,
-        end_column,
-    } = span
-    else {
-        return into.append(&[0, 0]);
-    };
-    let lines = end_line - start_line;
-    unsigned_into(lines, into)?;
-    columns_into(lines, start_column, end_column, into)?;
-    start_into(start, start_line, start_column, into)
+    match span {
+        Span::Hidden => room.put(&[0, 0]),
+        Span::Lines {
+            start_line,
+            start_column,
+            end_line,
+            end_column,
+        } => {
+            let lines = end_line - start_line;
+            room.put_unsigned(lines);
+            put_columns(lines, start_column, end_column, room);
+            put_start(start, start_line, start_column, room);
+        }
+    }
 }
 
 /// Appends a point, and a document record before it where one is needed. `last` is the point before it, and `start` the start of the
@@ -131,13 +124,15 @@ pub fn point_into(
     ensures ok { OnOk result (into.new ≡ into.old ++ bytes_after last start point) }
     ensures err { OnErr result (BeginsWith into.old into.new) }
 {
-    document_into(last, point.document, into)?;
+    let mut room = Room::new();
+    put_document(last, point.document, &mut room);
     let offset = match last {
         Some(last) => last.offset,
         None => 0,
     };
-    unsigned_into(point.offset - offset, into)?;
-    span_into(start, point.span, into)
+    room.put_unsigned(point.offset - offset);
+    put_span(start, point.span, &mut room);
+    into.append(room.as_slice())
 }
 
 /// Appends the header.

@@ -8,10 +8,10 @@ use Rattle.ppdb_base.specs.declared.link_error.LinkError.TheVariants.{NotJson, S
 use Rattle.ppdb_base.specs.declared.merge_error.MergeError.{MergeError}
 use Rattle.ppdb_base.specs.declared.merge_error.MergeError.TheVariants.{Unmapped, ImageTwice, MethodTaken, OffsetBeyond, AsyncLost, KindUnknown}
 use Rattle.ppdb_base.specs.declared.merge_error.MergeError.TheVariants.{DocumentConflict, RowsDiffer, ImageRange, SlotUnmapped, SlotTwice}
-use Rattle.ppdb_run.specs.Lines.{read_fault_line, write_fault_line}
-use Rattle.ppdb_run.specs.Outcome.{Outcome, usage, absent, too_long, refused, no_map, unfit, limited, map_limited, unlinked, no_method, no_document}
-use Rattle.ppdb_run.specs.Outcome.{sizes_differ, unlisted}
-use Rattle.ppdb_run.specs.Status.{status_number}
+use Rattle.ppdb_run_stops.specs.Lines.{read_fault_line, write_fault_line}
+use Rattle.ppdb_run_stops.specs.Refusals.{Outcome, usage, absent, too_long, refused, no_map, unfit, limited, map_limited, unlinked, no_method, no_document}
+use Rattle.ppdb_run_stops.specs.Refusals.{sizes_differ, unlisted}
+use Rattle.ppdb_run_stops.specs.Status.{status_number}
 
 -- a run that stops so ends with this status, and has printed this
 pub record Says (outcome : Outcome) (number : ℕ) (words : List ℕ) : Type 0 where

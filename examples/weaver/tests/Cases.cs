@@ -11,16 +11,25 @@ static class Cases
 {
     static void Main(string[] words)
     {
-        using (var module = ModuleDefinition.ReadModule(words[1]))
+        using (var module = Read(words[1], words[0] == "stream"))
         {
+            var chooser = module.GetType("Work").Methods.First(method => method.Name == "Choose");
+            var choose = chooser.Body.Instructions;
+            if (words[0] == "late") choose.Insert(0, Instruction.Create(OpCodes.Nop));
             var map = MapWriter.Start(module);
-            var choose = module.GetTypes().SelectMany(type => type.Methods).First(method => method.Name == "Choose").Body.Instructions;
+            if (words[0] == "marked") Mark(chooser);
+            if (words[0] == "unmarked" && module.Types.Remove(module.GetType("Unused"))) Unmark(chooser);
+            if (words[0] == "moved")
+                foreach (var method in module.GetType("Work").Methods.Where(method => char.IsLetter(method.Name[0])).ToList()) MoveOut(method);
+            if (words[0] == "split") Split(chooser);
             if (words[0] != "lost") map.Keep(module);
+            if (words[0] == "early") Unmark(chooser);
             if (words[0] == "replaced") Replace(choose);
             if (words[0] == "back") MoveBack(choose);
             if (words[0] == "copied")
                 foreach (var method in module.GetTypes().SelectMany(type => type.Methods).Where(method => method.HasBody)) Copy(method.Body, map);
             var parameters = map.WriterParameters();
+            if (words[0] == "checked") parameters = map.WriterParameters(true);
             if (words[0] == "unnamed") parameters = new WriterParameters();
             if (words[0] == "checksum") parameters.SymbolWriterProvider = new WithChecksum(module.GetDebugHeader());
             module.Write(words[2], parameters);
@@ -29,11 +38,69 @@ static class Cases
         }
     }
 
+    static ModuleDefinition Read(string path, bool isStream)
+    {
+        return isStream ? ModuleDefinition.ReadModule(new MemoryStream(File.ReadAllBytes(path))) : ModuleDefinition.ReadModule(path);
+    }
+
     static void Replace(IList<Instruction> code)
     {
         code.Clear();
         code.Add(Instruction.Create(OpCodes.Ldnull));
         code.Add(Instruction.Create(OpCodes.Throw));
+    }
+
+    // Gives the method an attribute of another assembly, and code with types that only TypeSpec has.
+    static void Mark(MethodDefinition method)
+    {
+        var module = method.Module;
+        var marks = new AssemblyNameReference("Marks", new Version(1, 0));
+        module.AssemblyReferences.Add(marks);
+        var mark = new TypeReference("Marks", "MarkAttribute", module, marks);
+        method.CustomAttributes.Add(new CustomAttribute(new MethodReference(".ctor", module.TypeSystem.Void, mark) { HasThis = true }));
+        var pointer = new FunctionPointerType { ReturnType = module.TypeSystem.Int32 };
+        pointer.Parameters.Add(new ParameterDefinition(mark));
+        foreach (var type in new TypeReference[] { new ArrayType(module.GetType("Unused")), new ArrayType(mark), pointer })
+        {
+            method.Body.Instructions.Insert(0, Instruction.Create(OpCodes.Pop));
+            method.Body.Instructions.Insert(0, Instruction.Create(OpCodes.Ldtoken, type));
+        }
+    }
+
+    // Removes all of this again, the assembly reference too.
+    static void Unmark(MethodDefinition method)
+    {
+        var references = method.Module.AssemblyReferences;
+        references.Remove(references.First(reference => reference.Name == "Marks"));
+        method.CustomAttributes.Clear();
+        for (int count = 0; count < 6; count++) method.Body.Instructions.RemoveAt(0);
+    }
+
+    // The code becomes that of a new method, which the old one calls.
+    static void MoveOut(MethodDefinition method)
+    {
+        var moved = new MethodDefinition(method.Name + "Moved", method.Attributes, method.ReturnType);
+        foreach (var parameter in method.Parameters) moved.Parameters.Add(new ParameterDefinition(parameter.Name, 0, parameter.ParameterType));
+        foreach (var local in method.Body.Variables) moved.Body.Variables.Add(local);
+        foreach (var instruction in method.Body.Instructions) moved.Body.Instructions.Add(instruction);
+        foreach (var handler in method.Body.ExceptionHandlers) moved.Body.ExceptionHandlers.Add(handler);
+        moved.Body.InitLocals = true;
+        method.DeclaringType.Methods.Insert(0, moved);
+        method.Body = new MethodBody(method);
+        var code = method.Body.GetILProcessor();
+        foreach (var parameter in method.Parameters) code.Emit(OpCodes.Ldarg, parameter);
+        code.Emit(OpCodes.Call, moved);
+        code.Emit(OpCodes.Ret);
+    }
+
+    // The first instruction becomes that of a new method.
+    static void Split(MethodDefinition method)
+    {
+        var part = new MethodDefinition("Part", method.Attributes, method.Module.TypeSystem.Void);
+        part.Body.Instructions.Add(method.Body.Instructions[0]);
+        part.Body.Instructions.Add(Instruction.Create(OpCodes.Ret));
+        method.Body.Instructions.RemoveAt(0);
+        method.DeclaringType.Methods.Add(part);
     }
 
     // Each instruction becomes a copy.

@@ -40,6 +40,7 @@ static class Compare
                 if (known.ContainsKey(method.FullName)) CompareMethod(known[method.FullName], method);
                 else if (method.DebugInformation.HasSequencePoints || method.DebugInformation.Scope != null)
                     Fail(method + " is new and has points or scopes");
+            foreach (var name in now.GroupBy(method => method.FullName).Where(group => group.Count() > 1)) Fail("more than one method is " + name.Key);
             CompareSignatures(now.ToDictionary(method => method.MetadataToken.RID), File.ReadLines(words[2]));
             if (words.Length > 3) CompareRows(Rows(before), Rows(after), File.ReadLines(words[3]));
             Console.WriteLine("compare: {0} methods, {1} failed", now.Count, failed);

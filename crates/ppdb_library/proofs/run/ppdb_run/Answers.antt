@@ -1,5 +1,5 @@
 use Rattle.std.proofs.Common.{inl, inr, sym, ◌∙◌, ap, subst}
-use Rattle.ppdb_run.specs.Status.{status_number}
+use Rattle.ppdb_run_stops.specs.Status.{status_number}
 use Rattle.ppdb_library.specs.Pieces.{files_in}
 use Rattle.ppdb_library.specs.Room.{IsGiven}
 use Rattle.ppdb_library.proofs.Ends.{came, made_due, same_call}

@@ -2,7 +2,7 @@ use Rattle.std.proofs.Common.{◌≡◌, ◌≢◌, ◌++◌, length}
 use Rattle.std.specs.List.{All}
 use denote.Text.{Utf8}
 use denote.Shadow.{shadow}
-use Rattle.ppdb_run.specs.Words.{texts}
+use Rattle.ppdb_run_words.specs.Words.{texts}
 use Rattle.ppdb_library.specs.Words.{ended}
 use Rattle.ppdb_library.proofs.words.split_words.Given as goal
 

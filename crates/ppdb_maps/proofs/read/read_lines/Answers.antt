@@ -7,22 +7,28 @@ use Rattle.ppdb_maps.proofs.read.read_lines.Goals as goal
 pub loop-rest-init : goal.loop-rest-init
 loop-rest-init c = record { so_far = so_far_start c.args.version (lines c.args.text.now) c.new-draft.result c.new-draft.ensures; room = grind arith }
 
+pub add_said-requires : goal.add_said-requires
+add_said-requires c = (c.args.version, c.first_said-said.ensures.line, c.first_said-said.ensures.told)
+
 pub loop-rest-preserved : goal.loop-rest-preserved
 loop-rest-preserved c =
     let some : 0 < length c.loop-rest.rest.now = grind (arith, common_steps) in
-    let shorter = c.first_line.ensures.shorter some in
+    let told = c.first_said-said.ensures in
+    let shorter = told.first.shorter some in
     record {
-      so_far = so_far_more c.args.version (lines c.args.text.now) c.loop-rest.rest.now c.first_line.result.0.now c.first_line.result.1.now c.loop-rest.number
+      so_far = so_far_more c.args.version (lines c.args.text.now) c.loop-rest.rest.now told.line c.first_said-said.result.1.now c.loop-rest.number
           c.loop-rest.draft
-          c.add_text.new.self c.add_text.result c.in-Ok.field-0 c.loop-rest.invariant.so_far some c.first_line.ensures c.add_text.ensures c.in-Ok.is;
+          c.add_said.new.self c.add_said.result c.in-Ok.field-0 c.loop-rest.invariant.so_far some told.first
+          (c.add_said.ensures c.args.version told.line told.told) c.in-Ok.is;
       room = grind (arith, shorter, c.loop-rest.invariant.room);
     }
 
 pub returns-in-Err-clause-refused : goal.returns-in-Err-clause-refused
 returns-in-Err-clause-refused c =
     let some : 0 < length c.loop-rest.rest.now = grind (arith, common_steps) in
-    so_far_refused c.args.version (lines c.args.text.now) c.loop-rest.rest.now c.first_line.result.0.now c.first_line.result.1.now c.loop-rest.number
+    let told = c.first_said-said.ensures in
+    so_far_refused c.args.version (lines c.args.text.now) c.loop-rest.rest.now told.line c.first_said-said.result.1.now c.loop-rest.number
     c.loop-rest.draft
-    c.add_text.new.self c.add_text.result c.in-Err.refusal c.refusal_at.result c.loop-rest.invariant.so_far some c.first_line.ensures c.add_text.ensures
-    c.in-Err.is
+    c.add_said.new.self c.add_said.result c.in-Err.refusal c.refusal_at.result c.loop-rest.invariant.so_far some told.first
+    (c.add_said.ensures c.args.version told.line told.told) c.in-Err.is
     c.refusal_at.ensures

@@ -1,13 +1,14 @@
 use Rattle.std.proofs.Common.{◌≡◌, refl, subst, sym, Some}
 use Rattle.ppdb_run.specs.Outcome.{IsOutcome}
-use Rattle.ppdb_run.specs.Stops.{cause_of, Finds, OnCut, Settles}
+use Rattle.ppdb_run_stops.specs.Causes.{cause_of, OnCut}
+use Rattle.ppdb_run.specs.Stops.{Finds, Settles}
 use Rattle.std.specs.Prelude.{IfErr, IfSome, OnOk}
 use Rattle.ppdb_base.specs.Written.{appended, AppendsPrefix}
 use Rattle.ppdb_run.specs.Ends.{IsValid, WritesAgain, WritesValid}
-use Rattle.ppdb_run.specs.Task.{inputs_of, options_of, question_of}
-use Rattle.ppdb_run.proofs.PairWords.{merge_counts}
-use Rattle.ppdb_run.specs.Words.{Ask, Lookup, Rebuild, Compose, Merge, Sample, Words, texts}
-use Rattle.ppdb_run.proofs.Causes.{widened_stop}
+use Rattle.ppdb_run_words.specs.Task.{inputs_of, options_of, question_of}
+use Rattle.ppdb_run_words.proofs.PairWords.{merge_counts}
+use Rattle.ppdb_run_words.specs.Words.{Ask, Lookup, Rebuild, Compose, Merge, Sample, Words, texts}
+use Rattle.ppdb_run_stops.proofs.Causes.{widened_stop}
 use Rattle.ppdb_run.proofs.Cuts.{nothing_cut}
 use Rattle.ppdb_run.proofs.Kept.{is_unread, is_input, is_output, leaves_all, nothing_to_judge}
 use Rattle.ppdb_run.proofs.Lookups.{leaves_looked_up, on_none}

@@ -1,9 +1,9 @@
 use Rattle.std.proofs.Common.{◌∙◌, subst}
 use Rattle.ppdb_base.specs.Causes.{Rose}
 use Rattle.ppdb_run.specs.Outcome.{written}
-use Rattle.ppdb_run.specs.Stops.{cause_of}
-use Rattle.ppdb_run.specs.Words.{Compose}
-use Rattle.ppdb_run.proofs.Causes.{widened, widened_stop}
+use Rattle.ppdb_run_stops.specs.Causes.{cause_of}
+use Rattle.ppdb_run_words.specs.Words.{Compose}
+use Rattle.ppdb_run_stops.proofs.Causes.{widened, widened_stop}
 use Rattle.ppdb_run.proofs.Outcomes.{stop_found, stop_settles}
 use Rattle.ppdb_run.proofs.Writing.{nothing_written, written_found, written_settles, written_silent, written_leaves, written_valid}
 use Rattle.ppdb_run.proofs.compose.compose.Goals as goal

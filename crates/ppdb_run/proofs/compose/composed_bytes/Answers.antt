@@ -1,6 +1,6 @@
 use Rattle.std.proofs.Common.{refl, ◌∙◌}
-use Rattle.ppdb_run.specs.Stops.{cause_of}
-use Rattle.ppdb_run.proofs.Causes.{widened, widened_stop}
+use Rattle.ppdb_run_stops.specs.Causes.{cause_of}
+use Rattle.ppdb_run_stops.proofs.Causes.{widened, widened_stop}
 use Rattle.ppdb_run.proofs.Composing.{no_second, both_read}
 use Rattle.ppdb_run.proofs.Endings.{rose_before}
 use Rattle.ppdb_run.proofs.Kept.{is_second_map}

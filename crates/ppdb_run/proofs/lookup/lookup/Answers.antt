@@ -4,10 +4,11 @@ use Rattle.ppdb_base.specs.First.{IsAccepted}
 use Rattle.ppdb_base.specs.Written.{appended, AppendsPrefix}
 use Rattle.ppdb_verify.specs.Files.{FileFaults, IsRawOf}
 use Rattle.ppdb_verify.specs.Views.{raw_file}
-use Rattle.ppdb_run.specs.Outcome.{Outcome}
-use Rattle.ppdb_run.specs.Stops.{cause_of, OnCut, Settles}
-use Rattle.ppdb_run.specs.Words.{Lookup}
-use Rattle.ppdb_run.proofs.Causes.{widened, widened_stop}
+use Rattle.ppdb_run_stops.specs.Refusals.{Outcome}
+use Rattle.ppdb_run_stops.specs.Causes.{cause_of, OnCut}
+use Rattle.ppdb_run.specs.Stops.{Settles}
+use Rattle.ppdb_run_words.specs.Words.{Lookup}
+use Rattle.ppdb_run_stops.proofs.Causes.{widened, widened_stop}
 use Rattle.ppdb_run.proofs.Cuts.{cut_nothing}
 use Rattle.ppdb_run.proofs.Endings.{rose_before}
 use Rattle.ppdb_run.proofs.Lookups.{fault_stops, file_stops, found, is_file, is_list, list_stops, nothing_looked_up, on_delivered, within_rows}

@@ -1,6 +1,6 @@
 use Rattle.std.proofs.Common.{List}
 use Rattle.ppdb_merge.specs.declared.trace.Trace.{Trace}
-use Rattle.ppdb_run.specs.Task.{inputs_of, options_of}
+use Rattle.ppdb_run_words.specs.Task.{inputs_of, options_of}
 use Rattle.ppdb_run.proofs.Means.{merged_all}
 use Rattle.ppdb_run.proofs.Merging.{not_merged, not_joined, all_written}
 use Rattle.ppdb_run.proofs.merge.merged_bytes.Goals as goal

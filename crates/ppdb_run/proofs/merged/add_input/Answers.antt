@@ -1,4 +1,4 @@
-use Rattle.ppdb_run.specs.Task.{input_of}
+use Rattle.ppdb_run_words.specs.Task.{input_of}
 use Rattle.ppdb_run.proofs.Merges.{map_told, texts_told}
 use Rattle.ppdb_run.proofs.merged.add_input.Goals as goal
 

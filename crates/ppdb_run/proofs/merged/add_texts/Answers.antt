@@ -1,6 +1,6 @@
 use Rattle.ppdb_verify.specs.Views.{raw_file}
-use Rattle.ppdb_run.specs.declared.stop.Stop.TheVariants.{Unfit}
-use Rattle.ppdb_run.specs.Task.{input_of}
+use Rattle.ppdb_run_stops.specs.declared.stop.Stop.TheVariants.{Unfit}
+use Rattle.ppdb_run_words.specs.Task.{input_of}
 use Rattle.ppdb_run.proofs.Merges.{input_told, misfit_told, one_added, no_map_told, tells_unfit}
 use Rattle.ppdb_run.proofs.merged.add_texts.Goals as goal
 

@@ -1,9 +1,9 @@
 use Rattle.std.proofs.Common.{◌∙◌, subst}
 use Rattle.ppdb_base.specs.Causes.{Rose}
 use Rattle.ppdb_run.specs.Outcome.{written}
-use Rattle.ppdb_run.specs.Task.{options_of}
-use Rattle.ppdb_run.specs.Words.{Rebuild}
-use Rattle.ppdb_run.proofs.Causes.{widened_stop}
+use Rattle.ppdb_run_words.specs.Task.{options_of}
+use Rattle.ppdb_run_words.specs.Words.{Rebuild}
+use Rattle.ppdb_run_stops.proofs.Causes.{widened_stop}
 use Rattle.ppdb_run.proofs.Outcomes.{stop_found, stop_settles}
 use Rattle.ppdb_run.proofs.Writing.{nothing_written, written_found, written_settles, written_silent, written_leaves, written_valid, written_again, on_done}
 use Rattle.ppdb_run.proofs.Means.{means_written}

@@ -3,7 +3,7 @@ use Rattle.ppdb_values.specs.Value.{value_of}
 use Rattle.ppdb_verify.specs.Views.{raw_file}
 use Rattle.ppdb_run.specs.Outcome.{gives, rebuilt, written}
 use Rattle.ppdb_run.specs.Stops.{Gives}
-use Rattle.ppdb_run.specs.Task.{options_of}
+use Rattle.ppdb_run_words.specs.Task.{options_of}
 use Rattle.ppdb_run.proofs.Rebuilds.{not_read, is_rebuilt}
 use Rattle.ppdb_run.specs.Ends.{RebuildsToItself}
 use Rattle.ppdb_run.proofs.Means.{rebuilt_all}

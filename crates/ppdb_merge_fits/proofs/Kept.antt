@@ -1,0 +1,55 @@
+-- Items whose images are their numbers: nothing is reported of two of them.
+use Rattle.std.proofs.Common.{◌≡◌, ℕ, ◌&&◌, Bool, true, false, cond, List, [], ◌∷◌, ◌++◌, refl, ap, ◌∙◌}
+use Rattle.std.specs.Prelude.{All, nat_eq, nat_le, not}
+use Rattle.std.proofs.lemmas.List.Elements.{All-cons, All-head, All-tail}
+use Rattle.std.proofs.lemmas.List.Filters.{All-dedup}
+use Rattle.ppdb_merge_items.specs.Sorted.{put, in_order}
+use Rattle.ppdb_merge_fits.specs.Twice.{beside, beside_from, each_once, if_one_image, is_same, twice}
+
+module _ {A : Type 0} (P : A → Type 0) where
+  all_put : (key : A → ℕ) (x : A) (ys : List A) → P x → All P ys → All P (put key x ys)
+  all_put key x [] p all = All-cons P x [] p all
+  all_put key x (y ∷ ys) p all = by (nat_le (key x) (key y)) (all_put key x ys p (All-tail P y ys all))
+    where
+      by : (b : Bool) → All P (put key x ys) → All P (cond b (x ∷ y ∷ ys) (y ∷ put key x ys))
+      by true rest = All-cons P x (y ∷ ys) p all
+      by false rest = All-cons P y (put key x ys) (All-head P y ys all) rest
+
+  pub all_in_order : (key : A → ℕ) (xs : List A) → All P xs → All P (in_order key xs)
+  all_in_order key [] all = all
+  all_in_order key (x ∷ xs) all = all_put key x (in_order key xs) (All-head P x xs all) (all_in_order key xs (All-tail P x xs all))
+
+  module _ {B : Type 0} (told : A → A → List B) (none : (a b : A) → P a → P b → told a b ≡ []) where
+    nothing_from : (x : A) (xs : List A) → All P (x ∷ xs) → beside_from told x xs ≡ []
+    nothing_from x [] all = refl
+    nothing_from x (y ∷ ys) all =
+        let rest = All-tail P x (y ∷ ys) all in
+        ap (λ l. l ++ beside_from told y ys) (none x y (All-head P x (y ∷ ys) all) (All-head P y ys rest)) ∙ nothing_from y ys rest
+
+    pub nothing_beside : (xs : List A) → All P xs → beside told xs ≡ []
+    nothing_beside [] all = refl
+    nothing_beside (x ∷ xs) all = nothing_from x xs all
+
+never_both : (a b : Bool) → (a && (b && not b)) ≡ false
+never_both true true = refl
+never_both true false = refl
+never_both false b = refl
+
+module _ {A B : Type 0} (group number image : A → ℕ) (told : A → A → B) where
+  none_told : (a b : A) → image a ≡ number a → image b ≡ number b → if_one_image group number image told a b ≡ []
+  none_told a b p q =
+      ap (λ n. cond (nat_eq (group a) (group b) && (nat_eq n (image b) && not (nat_eq (number a) (number b)))) (told a b ∷ []) []) p
+      ∙ ap (λ n. cond (nat_eq (group a) (group b) && (nat_eq (number a) n && not (nat_eq (number a) (number b)))) (told a b ∷ []) []) q
+      ∙ ap (λ t. cond t (told a b ∷ []) []) (never_both (nat_eq (group a) (group b)) (nat_eq (number a) (number b)))
+
+  pub none_twice : (items : List A) → All (λ a. image a ≡ number a) items → twice group number image told items ≡ []
+  none_twice items keep =
+      let P = λ (a : A). image a ≡ number a in
+      nothing_beside P (if_one_image group number image told) none_told (in_order group (in_order image items))
+      (all_in_order P group (in_order image items) (all_in_order P image items keep))
+
+  pub none_twice_once : (items : List A) → All (λ a. image a ≡ number a) items → twice group number image told (each_once group number items) ≡ []
+  none_twice_once items keep =
+      let P = λ (a : A). image a ≡ number a in
+      none_twice (each_once group number items)
+      (All-dedup (is_same group number) P (in_order group (in_order number items)) (all_in_order P group (in_order number items) (all_in_order P number items keep)))

@@ -1,0 +1,116 @@
+-- The custom records of the file that inputs are joined into, as what becomes of the records of the inputs (Portable PDB v1.0,
+-- "CustomDebugInformation Table": in order of Parent; docs/FORMAT.md, "Joining").
+use Rattle.std.specs.Prelude.{◌≡◌, ℕ, zero, suc, ◌+◌, ◌≤◌, ◌++◌, ◌&&◌, not, nat_eq, nat_lt, cond, List, [], ◌∷◌}
+use Rattle.std.specs.Prelude.{Option, Some, None, length, map, flat_map, position, sum_by}
+use Rattle.std.specs.List.{filter, filter_map, enumerate_from}
+use Rattle.std.specs.Option.{option_map}
+use Rattle.ppdb_maps.specs.Map.{moved_row, offsets_in, is_dropped}
+use Rattle.ppdb_tables.specs.RawTables.{numbered, row_at}
+use Rattle.ppdb_tables.specs.declared.parent.Parent.{Parent}
+use Rattle.ppdb_values.specs.declared.custom.CustomValue.{CustomValue}
+use Rattle.ppdb_values.specs.declared.file.FileValue.{FileValue}
+use Rattle.ppdb_values.specs.declared.scope.ScopeValue.{ScopeValue}
+use Rattle.ppdb_values.specs.Parts.{first_item}
+use Rattle.ppdb_values_sound_laws.specs.Customs.{SoundCustoms, coded_of}
+use Rattle.ppdb_merge_items.specs.Each.{Each}
+use Rattle.ppdb_merge_items.specs.Sorted.{in_order}
+use Rattle.ppdb_merge_joined.specs.Joined.{row_in, with_documents}
+use Rattle.ppdb_merge_joined.specs.Same.{fresh, same_record}
+use Rattle.ppdb_merge_moved.specs.Moved.{moved_range, is_empty, moved_body}
+use Rattle.ppdb_merge_meaning_laws.specs.Kept.{MovedBy, joined_inputs}
+use Rattle.ppdb_merge_parts.specs.Flat.{documents_of, document_rows}
+
+-- ---- rows with their numbers
+
+-- an input, with its number among the inputs, from 0
+abbrev pub Numbered : Type 0
+Numbered = ℕ × MovedBy
+
+-- the rows of one table of all inputs: each with its input, its number there, from 1, and what it says
+abbrev pub numbered_rows : {A : Type 0} → (FileValue → List A) → List MovedBy → List (Numbered × ℕ × A)
+numbered_rows {A} part inputs =
+    flat_map (λ (input : Numbered). map (λ (row : ℕ × A). (input, row.0, row.1)) (numbered (part input.1.value))) (enumerate_from 0 inputs)
+
+-- ---- where the rows of the joined file come from
+
+-- a row of an input: the numbers of the input and of the row
+abbrev pub Origin : Type 0
+Origin = ℕ × ℕ
+
+abbrev pub origin_of : {A : Type 0} → Numbered × ℕ × A → Origin
+origin_of row = (row.0.0, row.1)
+
+-- the scopes whose ranges do not become empty, in the order of the images of their methods
+abbrev pub scopes_left : List MovedBy → List (Numbered × ℕ × ScopeValue)
+scopes_left inputs =
+    filter (λ (row : Numbered × ℕ × ScopeValue). not (is_empty (moved_range (offsets_in row.0.1.map row.2.method) row.2.range)))
+    (in_order (λ (row : Numbered × ℕ × ScopeValue). moved_row row.0.1.map 0x06 row.2.method) (numbered_rows (λ (v : FileValue). v.scopes) inputs))
+
+abbrev pub scope_origins : List MovedBy → List Origin
+scope_origins inputs = map origin_of (scopes_left inputs)
+
+-- so many rows of an input, from one on
+abbrev pub rows_from : ℕ → ℕ → ℕ → List Origin
+rows_from input first zero = []
+rows_from input first (suc n) = (input, first) ∷ rows_from input (first + 1) n
+
+-- what these scopes own, scope by scope
+abbrev pub owned_origins : (ScopeValue → ℕ) → List MovedBy → List Origin
+owned_origins items inputs =
+    flat_map (λ (row : Numbered × ℕ × ScopeValue). rows_from row.0.0 (first_item items row.0.1.value row.1) (items row.2)) (scopes_left inputs)
+
+abbrev pub import_origins : List MovedBy → List Origin
+import_origins inputs = map origin_of (numbered_rows (λ (v : FileValue). v.imports) inputs)
+
+-- LocalScope, LocalVariable, LocalConstant and ImportScope
+abbrev pub origins_in : List MovedBy → ℕ → List Origin
+origins_in inputs table =
+    cond (nat_eq table 0x32) (scope_origins inputs)
+    (cond (nat_eq table 0x33) (owned_origins (λ (s : ScopeValue). length s.variables) inputs)
+    (cond (nat_eq table 0x34) (owned_origins (λ (s : ScopeValue). length s.constants) inputs)
+    (cond (nat_eq table 0x35) (import_origins inputs) [])))
+
+-- the row that comes from a row, and none where that goes
+abbrev pub row_of : List Origin → Origin → Option ℕ
+row_of origins origin = option_map suc (position (λ (other : Origin). nat_eq origin.0 other.0 && nat_eq origin.1 other.1) origins)
+
+-- ---- what becomes of a record
+
+-- The row that its parent becomes: of a table of the type system the image, where that is no dropped method; a document is found by
+-- its name, and a row of another table by where it comes from.
+abbrev pub parent_row : List MovedBy → Numbered → Parent → Option ℕ
+parent_row inputs input parent =
+    cond (nat_lt parent.table 0x2d)
+    (cond (nat_eq parent.table 0x06 && is_dropped input.1.map parent.row) None (Some (moved_row input.1.map parent.table parent.row)))
+    (cond (nat_eq parent.table 0x30) (row_at (document_rows (documents_of inputs) input.1) parent.row)
+    (row_of (origins_in inputs parent.table) (input.0, parent.row)))
+
+-- the record on another row of that table, its body moved and the documents in it by their rows in the joined file
+abbrev pub record_on : List MovedBy → Numbered → CustomValue → ℕ → CustomValue
+record_on inputs input custom row = record {
+  parent = record { table = custom.parent.table; row = row };
+  kind = custom.kind;
+  value = with_documents (row_in (document_rows (documents_of inputs) input.1)) (moved_body input.1.map custom.parent.row custom.value);
+}
+
+-- a record leaves the file where its parent does
+abbrev pub record_image : List MovedBy → Numbered → CustomValue → Option CustomValue
+record_image inputs input custom = option_map (record_on inputs input custom) (parent_row inputs input custom.parent)
+
+-- the records of each input
+abbrev pub records_of : List MovedBy → List (List CustomValue)
+records_of inputs = map (λ (input : Numbered). filter_map (record_image inputs input) input.1.value.customs) (enumerate_from 0 inputs)
+
+-- ---- the file
+
+-- Where the records of each input are sound, those of the file are what becomes of them, in order of their parents, without those that
+-- equal one of an earlier input.
+abbrev pub JoinedRecordsAreFlat : Type 0
+JoinedRecordsAreFlat = (inputs : List MovedBy) → Each (λ (input : MovedBy). SoundCustoms input.value) inputs
+    → (joined_inputs inputs).customs ≡ in_order (λ (c : CustomValue). coded_of c.parent) (fresh same_record [] (records_of inputs))
+
+-- An import scope stands as far after the import scopes of the inputs before as it stands in its own input.
+abbrev pub ImportScopesFollow : Type 0
+ImportScopesFollow = (before after : List MovedBy) (input : MovedBy) (row : ℕ) → 1 ≤ row → row ≤ length input.value.imports
+    → row_of (import_origins (before ++ input ∷ after)) (length before, row)
+    ≡ Some (sum_by (λ (other : MovedBy). length other.value.imports) before + row)

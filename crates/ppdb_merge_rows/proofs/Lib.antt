@@ -1,0 +1,6 @@
+mod Images
+mod Read
+mod After
+mod Asked
+mod Rows
+mod RowImages

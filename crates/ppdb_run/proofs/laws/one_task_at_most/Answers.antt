@@ -1,5 +1,0 @@
-use Rattle.ppdb_run.proofs.OneTask.{one_task}
-use Rattle.ppdb_run.proofs.laws.one_task_at_most.Goals as goal
-
-pub returns : goal.returns
-returns c = one_task

@@ -1,4 +1,0 @@
-use Rattle.ppdb_run.proofs.unfit.put_image_twice.Goals as goal
-
-pub returns : goal.returns
-returns g c = rw c.as_bytes.ensures.value at c.put_text_line.ensures

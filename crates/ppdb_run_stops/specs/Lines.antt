@@ -1,0 +1,101 @@
+-- The lines that say why a run stopped.
+use Rattle.std.specs.Prelude.{ℕ, List, [], ◌∷◌, ◌++◌, Some, codes}
+use Rattle.ppdb_base.specs.declared.fault.Fault.{Fault}
+use Rattle.ppdb_base.specs.declared.limits.Limit.{Limit}
+use Rattle.ppdb_base.specs.declared.link_error.LinkError.{LinkError}
+use Rattle.ppdb_base.specs.declared.merge_error.MergeError.{MergeError}
+use Rattle.ppdb_base.specs.declared.limits.Limit.TheVariants.{TableRows, ListPastEnd, PointOffset, LineStep, FileSize, SpanTotal}
+use Rattle.ppdb_base.specs.declared.link_error.LinkError.TheVariants as links
+use Rattle.ppdb_base.specs.declared.merge_error.MergeError.TheVariants.{Unmapped, ImageTwice, MethodTaken, OffsetBeyond, AsyncLost, KindUnknown}
+use Rattle.ppdb_base.specs.declared.merge_error.MergeError.TheVariants.{DocumentConflict, RowsDiffer, ImageRange, SlotUnmapped, SlotTwice, Memory}
+use Rattle.ppdb_show_lines.specs.Lines.{Field, Line, mark, number, table, guid, text_of}
+use Rattle.ppdb_show_lines.specs.Lines.{name as named_bytes}
+use Rattle.ppdb_show_lines.specs.Pieces.{line, numbered, signed, tabled}
+use Rattle.ppdb_run_stops.specs.Faults.{said, place_fields, fault_fields}
+
+-- words, a name and more about it
+abbrev pub about : List ℕ → List ℕ → List Field → Line
+about words name fields = record { word = words; fields = said (codes " ") (named_bytes name) ∷ fields }
+
+abbrev pub usage_line : Line
+usage_line = record { word = codes "usage"; fields = [] }
+
+-- ---- files
+
+abbrev pub read_fault_line : List ℕ → List ℕ
+read_fault_line name = text_of (about (codes "read fault") name [])
+
+abbrev pub write_fault_line : List ℕ → List ℕ
+write_fault_line name = text_of (about (codes "write fault") name [])
+
+abbrev pub refused_line : List ℕ → Fault → Line
+refused_line name fault = about (codes "refused") name (fault_fields fault)
+
+-- the first line of a list's text, by its number, that a list cannot have
+abbrev pub list_line : List ℕ → ℕ → Line
+list_line name n = about (codes "list") name (said (codes " line ") (number n) ∷ [])
+
+-- ---- maps, and files that are rewritten by them
+
+-- a line of a map's text, and the number of the rule that it breaks
+abbrev pub map_line : List ℕ → ℕ → ℕ → Line
+map_line name n kind = about (codes "map") name (said (codes " line ") (number n) ∷ said (codes " kind ") (number kind) ∷ [])
+
+-- why an input is not joined, M1 to M11
+abbrev pub merge_fields : MergeError → List Field
+merge_fields (Unmapped t row place) = said (codes " M1 table ") (table t) ∷ said (codes " row ") (number row) ∷ mark (codes " at") ∷ place_fields place
+merge_fields (ImageTwice t first second image) =
+    said (codes " M2 table ") (table t) ∷ said (codes " rows ") (number first) ∷ said (codes " ") (number second) ∷ said (codes " image ") (number image) ∷ []
+merge_fields (MethodTaken input first second image) =
+    said (codes " M3 input ") (number input) ∷ said (codes " row ") (number first) ∷ said (codes " row ") (number second)
+    ∷ said (codes " image ") (number image) ∷ []
+merge_fields (OffsetBeyond method offset size) =
+    said (codes " M4 method ") (number method) ∷ said (codes " offset ") (number offset) ∷ said (codes " size ") (number size) ∷ []
+merge_fields (AsyncLost method offset) = said (codes " M5 method ") (number method) ∷ said (codes " offset ") (number offset) ∷ []
+merge_fields (KindUnknown row kind) = said (codes " M6 row ") (number row) ∷ said (codes " kind ") (guid (Some kind)) ∷ []
+merge_fields (DocumentConflict row joined) = said (codes " M7 document ") (number row) ∷ said (codes " joined ") (number joined) ∷ []
+merge_fields (RowsDiffer input t first second) = said (codes " M8 table ") (table t) ∷ said (codes " rows ") (number first)
+    ∷ said (codes " ") (number second) ∷ []
+merge_fields (ImageRange input t row image rows) =
+    said (codes " M9 table ") (table t) ∷ said (codes " row ") (number row) ∷ said (codes " image ") (number image) ∷ said (codes " rows ") (number rows) ∷ []
+merge_fields (SlotUnmapped row slot) = said (codes " M10 variable ") (number row) ∷ said (codes " slot ") (number slot) ∷ []
+merge_fields (SlotTwice method first second image) =
+    said (codes " M11 method ") (number method) ∷ said (codes " slots ") (number first) ∷ said (codes " ") (number second)
+    ∷ said (codes " image ") (number image) ∷ []
+merge_fields Memory = []
+
+abbrev pub unfit_line : List ℕ → MergeError → Line
+unfit_line name error = about (codes "unfit") name (merge_fields error)
+
+-- a limit of the format, L1 to L6
+abbrev pub limit_text : Limit → List ℕ
+limit_text (TableRows t rows) = tabled (codes "limit L1 table ") t ++ line (numbered (codes " rows ") rows)
+limit_text (ListPastEnd t rows) = tabled (codes "limit L2 table ") t ++ line (numbered (codes " rows ") rows)
+limit_text (PointOffset method offset) = numbered (codes "limit L3 method ") method ++ line (numbered (codes " offset ") offset)
+limit_text (LineStep method step) = numbered (codes "limit L4 method ") method ++ line (signed (codes " step ") step)
+limit_text (FileSize bytes) = line (numbered (codes "limit L5 bytes ") bytes)
+limit_text (SpanTotal total) = line (numbered (codes "limit L6 total ") total)
+
+-- the text of a map has so many bytes
+abbrev pub map_limit_text : ℕ → List ℕ
+map_limit_text bytes = line (numbered (codes "limit map bytes ") bytes)
+
+-- the sizes of a method after the first map and before the second
+abbrev pub sizes_line : ℕ → ℕ → ℕ → Line
+sizes_line method first second =
+    record {
+      word = codes "sizes differ";
+      fields = said (codes " method ") (number method) ∷ said (codes " ") (number first)
+          ∷ said (codes " ") (number second) ∷ [];
+    }
+
+-- ---- questions about a file
+
+-- why a Source Link record gives no addresses
+abbrev pub link_fields : LinkError → List Field
+link_fields links.NotJson = mark (codes " not json") ∷ []
+link_fields links.Shape = mark (codes " shape") ∷ []
+link_fields links.Memory = []
+
+abbrev pub links_line : List ℕ → LinkError → Line
+links_line name error = about (codes "links") name (link_fields error)

@@ -1,0 +1,4 @@
+pub mod Choices
+pub mod OneTask
+pub mod PairWords
+pub mod WordList
