@@ -8,6 +8,12 @@ mod compose;
 #[cfg(test)]
 mod copies;
 #[cfg(test)]
+mod every_kind;
+#[cfg(test)]
+mod files;
+#[cfg(test)]
+mod identity;
+#[cfg(test)]
 mod large;
 mod lines;
 #[cfg(test)]
@@ -23,7 +29,13 @@ mod puts;
 #[cfg(test)]
 mod query;
 #[cfg(test)]
+mod rebuild_changed;
+#[cfg(test)]
+mod rebuilding;
+#[cfg(test)]
 mod rules;
+#[cfg(test)]
+mod running;
 #[cfg(test)]
 mod sample;
 #[cfg(test)]
@@ -36,5 +48,7 @@ mod two_steps;
 mod words;
 #[cfg(test)]
 mod words_of_commands;
+#[cfg(test)]
+mod writing;
 
 pub use lines::worked_lines;

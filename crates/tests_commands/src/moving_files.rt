@@ -3,7 +3,7 @@ use ppdb_base::{Memory, MemoryFolder};
 use std::alloc::{AllocError, Global};
 use std::test::Fail;
 use tests_files::{EMPTY, PROGRAM, SMALL};
-use tests_runs::{NOTHING, Parts, file_of};
+use crate::files::{NOTHING, Parts, file_of};
 
 /// The GUID of the records of async steps, as its bytes stand in a file.
 const ASYNC: [u8; 16] = [

@@ -1,7 +1,8 @@
 // Rules of the rows, over files of a few rows.
 use std::alloc::{AllocError, Global};
 use std::test::Fail;
-use tests_runs::{FREE_KIND, NOTHING, Parts, count_of, file_of, verifies};
+use crate::files::{FREE_KIND, NOTHING, Parts, count_of, file_of};
+use crate::running::verifies;
 
 /// No rows but one method.
 const ONE_METHOD: Parts<'static> = Parts {

@@ -2,7 +2,7 @@
 use crate::puts::puts_prefixes;
 use std::test::Fail;
 use tests_files::{EMPTY, SMALL};
-use tests_runs::first_other_over;
+use crate::running::first_other_over;
 
 /// What `show B` prints.
 const B_AS_TEXT: &str = "\

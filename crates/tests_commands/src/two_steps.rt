@@ -2,7 +2,8 @@
 use crate::moving_files::{ONE_METHOD, TWO_METHODS, put_parts, put_texts, worked};
 use ppdb_base::MemoryFolder;
 use std::test::Fail;
-use tests_runs::{NOTHING, Parts, first_other};
+use crate::files::{NOTHING, Parts};
+use crate::running::first_other;
 
 /// Files by their names.
 const FILES: [(&str, Parts<'static>); 3] = [

@@ -4,7 +4,8 @@ use ppdb_base::{MemoryFolder, SteadyFolder};
 use std::alloc::Global;
 use std::test::Fail;
 use tests_files::{EMPTY, PROGRAM, SMALL};
-use tests_runs::{FREE_KIND, NOTHING, Parts, ends, file_of, first_other, prints};
+use crate::files::{FREE_KIND, NOTHING, Parts, file_of};
+use crate::running::{ends, first_other, prints};
 
 /// One document, and a method whose last line is determined by a longer number than it needs.
 const LONG_NUMBER: Parts<'static> = Parts {

@@ -9,7 +9,7 @@ use ppdb_tables::Parent;
 use std::alloc::Global;
 use std::test::Fail;
 use tests_files::{EMPTY, PROGRAM};
-use tests_runs::first_other;
+use crate::running::first_other;
 use tests_values::value as read;
 
 /// The file of a sound value.
