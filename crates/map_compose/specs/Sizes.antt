@@ -1,7 +1,6 @@
 -- Where two maps do not follow one another (docs/FORMAT.md, "Two maps made into one"): a method's size after the first is not that before the second.
 use Rattle.std.specs.Prelude.{◌≡◌, ◌≢◌, ℕ, ◌≤◌, ◌⊎◌, true, Some}
-use Rattle.ppdb_maps.specs.Map.{Map, MethodLine, method_line}
-use Rattle.ppdb_maps.specs.Readable.{IsReadable}
+use Rattle.ppdb_maps.specs.{Map.{Map, MethodLine, method_line}, Readable.IsReadable}
 use Rattle.map_compose.specs.Composed.{has_image, second_line}
 
 -- the method is there after both, both maps have a line for it, and its size after the first and before the second are these two and differ

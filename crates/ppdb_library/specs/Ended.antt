@@ -1,12 +1,7 @@
 -- A command that has run over files in memory.
-use Rattle.std.specs.Prelude.{ℕ, ◌≡◌, ◌≢◌, ◌⊎◌, List, [], Option, Some, None}
-use Rattle.std.specs.FinMap.{get}
-use Rattle.std.specs.Option.{unwrap_or}
-use Rattle.ppdb_base.specs.Files.{Files}
-use Rattle.ppdb_run_stops.specs.declared.status.Status.TheVariants.{Done, Memory}
-use Rattle.ppdb_run.specs.Ends.{LeavesFiles, OnAsked, OnOutcome, WritesAgain, WritesValid}
-use Rattle.ppdb_run.specs.Means.{WritesMeaning}
-use Rattle.ppdb_run_stops.specs.Refusals.{Outcome}
+use Rattle.ppdb_values.specs.Names.{ℕ, ◌≡◌, ◌≢◌, ◌⊎◌, List, [], Option, Some, None, get, unwrap_or, Files}
+use Rattle.ppdb_run_stops.specs.{declared.status.Status.TheVariants.{Done, Memory}, Refusals.Outcome}
+use Rattle.ppdb_run.specs.{Ends.{LeavesFiles, OnAsked, OnOutcome, WritesAgain, WritesValid}, Means.WritesMeaning}
 use Rattle.ppdb_run_words.specs.Words.{texts}
 use Rattle.ppdb_library.specs.declared.answer.Ended.{Ended}
 

@@ -1,10 +1,6 @@
 -- The entries of a map's lists, from those of the maps in which they were gathered.
 use Rattle.std.specs.Prelude.{ℕ, ◌&&◌, Bool, nat_eq}
-use Rattle.ppdb_maps.specs.declared.entries.Count.{Count}
-use Rattle.ppdb_maps.specs.declared.entries.RowImage.{RowImage}
-use Rattle.ppdb_maps.specs.declared.entries.SlotImage.{SlotImage}
-use Rattle.ppdb_maps.specs.declared.entries.SignatureImage.{SignatureImage}
-use Rattle.ppdb_maps.specs.Map.{MethodLine}
+use Rattle.ppdb_maps.specs.{declared.entries.{Count.Count, RowImage.RowImage, SlotImage.SlotImage, SignatureImage.SignatureImage}, Map.MethodLine}
 
 abbrev pub count_entry : ℕ × ℕ → Count
 count_entry e = record { table = e.0; rows = e.1 }

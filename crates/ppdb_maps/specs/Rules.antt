@@ -1,15 +1,9 @@
 -- The rules of map texts and their numbers; a line breaks one by the lines before it alone, of which the last one stands first.
 use Rattle.std.specs.Prelude.{◌≡◌, ℕ, ◌<◌, ◌≤◌, ◌⊎◌, false, List, [], ◌∷◌, None, IsSome, IsTrue}
-use Rattle.ppdb_base.specs.declared.offsets.Run.{Run}
-use Rattle.ppdb_base.specs.Offsets.{end_of, new_end_of}
-use Rattle.ppdb_maps.specs.Map.{MethodLine}
-use Rattle.ppdb_maps.specs.Words.{IsSilent, line_words}
-use Rattle.ppdb_maps.specs.Forms.{HasForm, Values, Tells}
-use Rattle.ppdb_maps.specs.Before.{count_in, row_in, method_in, methods_of, drop_in, slots_in, slot_in, signature_in, follows_method}
-use Rattle.ppdb_maps.specs.declared.line.Form.{Form}
-use Rattle.ppdb_maps.specs.declared.line.Line.{Line}
-use Rattle.ppdb_maps.specs.declared.line.Line.TheVariants.{Rows, Row, Method, Kept, Dropped, Slots, Slot, Signature}
-use Rattle.ppdb_maps.specs.declared.rule.Rule.{Rule}
+use Rattle.ppdb_base.specs.{declared.offsets.Run.Run, Offsets.{end_of, new_end_of}}
+use Rattle.ppdb_maps.specs.{Map.MethodLine, Words.{IsSilent, line_words}, Forms.{HasForm, Values, Tells}}
+use Rattle.ppdb_maps.specs.{Before.{count_in, row_in, method_in, methods_of, drop_in, slots_in, slot_in, signature_in, follows_method}, declared.line.{Form.Form, Line.Line}}
+use Rattle.ppdb_maps.specs.{declared.line.Line.TheVariants.{Rows, Row, Method, Kept, Dropped, Slots, Slot, Signature}, declared.rule.Rule.Rule}
 use Rattle.ppdb_maps.specs.declared.rule.Rule.TheVariants.{FirstLine, UnknownForm, NumberFaults, Repeated, Undeclared, NoMethod, Overlap, Beyond, NamesDropped}
 
 -- the rule's number

@@ -1,34 +1,17 @@
 -- How a run ends: what its status, its text and the files afterwards have to do with the outcome of its words.
-use Rattle.std.specs.Prelude.{ℕ, ◌≡◌, ◌<◌, ◌≤◌, ◌+◌, ◌-◌, ◌*◌, ◌⊎◌, List, [], ◌∷◌, length, Option, Some, None, Ok, IfSome, slice_get}
-use Rattle.ppdb_base.specs.Causes.{Rose, counted}
-use Rattle.ppdb_base.specs.declared.limits.TheConstants.{MAX_FILE_BYTES}
-use Rattle.ppdb_base.specs.Files.{Files, Contents, reading}
-use Rattle.ppdb_base.specs.First.{IsAccepted}
-use Rattle.ppdb_base.specs.Written.{appended, AppendsPrefix}
-use Rattle.ppdb_run_stops.specs.declared.status.Status.{Status}
-use Rattle.ppdb_run_stops.specs.declared.status.Status.TheVariants.{Done, WriteFault, Memory}
-use Rattle.ppdb_run_stops.specs.Lines.{read_fault_line, write_fault_line}
-use Rattle.ppdb_run_stops.specs.Refusals.{Outcome}
-use Rattle.ppdb_run.specs.Outcome.{IsOutcome, file_at, map_at, unknown_kind, verified, with_input, written}
+use Rattle.ppdb_values.specs.Names.{ℕ, ◌≡◌, ◌<◌, ◌≤◌, ◌+◌, ◌-◌, ◌*◌, ◌⊎◌, List, [], ◌∷◌, length, Option, Some, None, Ok, IfSome, slice_get, Rose, counted, MAX_FILE_BYTES, Files, Contents, reading}
+use Rattle.ppdb_values.specs.Names.{IsAccepted, appended, AppendsPrefix, lines, count}
+use Rattle.ppdb_run_stops.specs.{declared.status.Status.{Status, TheVariants.{Done, WriteFault, Memory}}, Lines.{read_fault_line, write_fault_line}, Refusals.Outcome, Status.UnlessFault}
 use Rattle.ppdb_merge.specs.declared.trace.Trace.{Trace}
-use Rattle.ppdb_run_stops.specs.Status.{UnlessFault}
-use Rattle.ppdb_run_words.specs.Words.{Question, Id, Verify, Query, Links, Breaks, Options, Task, Ask, Lookup, Rebuild, Compose, Merge, Sample, Input, Words}
-use Rattle.ppdb_run_words.specs.Words.{NoTask, read_files, written_file}
-use Rattle.ppdb_run.specs.Writes.{WritesAll, WritesPrefix}
-use Rattle.ppdb_maps.specs.Map.{Map}
-use Rattle.ppdb_maps.specs.Text.{IsMapOf}
-use Rattle.std.specs.Str.Lines.{lines}
-use Rattle.ppdb_queries_list.specs.Lists.{Lists}
-use Rattle.ppdb_queries_list.specs.declared.line.MethodOffset.{MethodOffset}
-use Rattle.ppdb_show.specs.Bound.{query_rows}
-use Rattle.ppdb_show.specs.Lookup.{lookup_rows}
-use Rattle.ppdb_queries.specs.Digits.{digits}
-use Rattle.ppdb_queries.specs.Runs.{customs_at}
-use Rattle.ppdb_tables.specs.RawTables.{count}
+use Rattle.ppdb_run_words.specs.Words.{Question, Id, Verify, Query, Links, Breaks, Options, Task, Ask, Lookup, Rebuild, Compose, Merge, Sample, Input, Words, NoTask, read_files, written_file}
+use Rattle.ppdb_maps.specs.{Map.Map, Text.IsMapOf}
+use Rattle.ppdb_queries_list.specs.{Lists.Lists, declared.line.MethodOffset.MethodOffset}
+use Rattle.ppdb_show.specs.{Bound.query_rows, Lookup.lookup_rows}
+use Rattle.ppdb_queries.specs.{Digits.digits, Runs.customs_at}
 use Rattle.source_link.specs.FileLinks.{module_row}
-use Rattle.ppdb_values.specs.RawFile.{RawFile}
-use Rattle.ppdb_values.specs.Value.{value_of}
+use Rattle.ppdb_values.specs.{RawFile.RawFile, Value.value_of}
 use Rattle.ppdb_verify.specs.Files.{FileFaults, IsRawOf}
+use Rattle.ppdb_run.specs.{Outcome.{IsOutcome, file_at, map_at, unknown_kind, verified, with_input, written}, Writes.{WritesAll, WritesPrefix}}
 
 -- what the words ask for: a task, or nothing where no task has them
 abbrev pub Asks : List (List ℕ) → Option Task → Type 0
