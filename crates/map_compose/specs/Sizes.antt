@@ -17,7 +17,7 @@ pub record IsFirstDiffering (f s : Map) (method first second : ℕ) : Type 0 whe
   pub differ : SizesDiffer f s method first second
   pub least : (other a b : ℕ) → SizesDiffer f s other a b → method ≤ other
 
--- there is one
+-- some method is the least whose sizes differ
 pub record FirstDiffering (f s : Map) : Type 0 where
   pub method : ℕ
   pub first : ℕ

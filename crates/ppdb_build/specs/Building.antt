@@ -12,7 +12,7 @@ abbrev pub IsLimit : Option Limit → BuildError → Type 0
 IsLimit limit (Passed passed) = limit ≡ Some passed
 IsLimit limit Memory = Unit {0}
 
--- it names the first limit that the value passes
+-- a refusal that names a limit names the first that the value passes
 abbrev pub IsLimitOf : FileValue → BuildError → Type 0
 IsLimitOf value error = IsLimit (first_limit value) error
 

@@ -13,7 +13,7 @@ pub record IsCall (words files : List ℕ) (pieces : List PpdbPiece) (told : Lis
 abbrev pub OnCall : (words files : List ℕ) → List PpdbPiece → (List (List ℕ) → Files → Type 0) → Type 0
 OnCall words files pieces P = (told : List (List ℕ)) → IsCall words files pieces told → P told (files_in files pieces)
 
--- it is no call
+-- the pieces are no call
 abbrev pub NoCall : (words files : List ℕ) → List PpdbPiece → Type 0
 NoCall words files pieces = (told : List (List ℕ)) → IsCall words files pieces told → ⊥
 

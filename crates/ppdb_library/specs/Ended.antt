@@ -10,7 +10,7 @@ abbrev pub held : Option (List ℕ) → Files → List ℕ
 held None files = []
 held (Some name) files = unwrap_or (get files name) []
 
--- it came to the outcome: its status, its text, and the files
+-- what ended came to the outcome: its status, its text, and the files
 pub record CameTo (all : Files) (ended : Ended) (due : Outcome) : Type 0 where
   pub status_is : ended.status ≡ due.status
   pub text_is : ended.text ≡ due.text

@@ -50,12 +50,12 @@ pub record IsClosed (before : List Line) (draft : Draft) : Type 0 where
   pub methods : HasLines (methods_of before) draft
   pub closed : draft.current ≡ None
 
--- it breaks this rule, and none with a lesser number
+-- a line that is refused breaks this rule, and none with a lesser number
 abbrev pub RefusedBy : List Line → Line → Refusal → Type 0
 RefusedBy before line (refused rule) = Breaks before rule line × ((other : Rule) → Breaks before other line → kind_of rule ≤ kind_of other)
 RefusedBy before line Memory = Unit {0}
 
--- it breaks none, and the draft holds it too; or it is refused
+-- a line breaks no rule, and the draft holds it too; or it is refused
 abbrev pub AddsLine : List Line → Line → Result (Unit {0}) Refusal → Draft → Type 0
 AddsLine before line result new =
     MatchResult result (λ _. Holds (line ∷ before) new × ((rule : Rule) → Breaks before rule line → ⊥)) (RefusedBy before line)

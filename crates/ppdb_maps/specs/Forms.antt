@@ -21,7 +21,7 @@ name_of MethodSlots = codes "slots"
 name_of SlotMove = codes "slot"
 name_of MethodSignature = codes "signature"
 
--- its number of words, the first one among them
+-- the number of words of a line of this form, the first one among them
 abbrev pub words_in : Form → ℕ
 words_in TableRows = 3
 words_in RowMove = 4

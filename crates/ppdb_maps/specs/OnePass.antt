@@ -14,7 +14,7 @@ pub record IsLineBefore (text : List ℕ) (said : Line) (rest : List ℕ) : Type
   pub first : IsLineOf text line rest
   pub tells : (version : ℕ) → 1 ≤ version → Tells version line said
 
--- it says this run
+-- the text's first line says this run in each version
 abbrev pub IsRunBefore : List ℕ → Run → List ℕ → Type 0
 IsRunBefore text run rest = IsLineBefore text (Kept run) rest
 

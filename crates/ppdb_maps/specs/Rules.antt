@@ -62,11 +62,11 @@ pub data BreaksLine (version : ℕ) (before : List Line) (text : List ℕ) : Rul
       → ((line : Line) → Values form has.values line → ⊥) → BreaksLine version before text NumberFaults
   by_lines : {line : Line} {rule : Rule} → Tells version text line → Breaks before rule line → BreaksLine version before text rule
 
--- it breaks this rule and none with a lesser number
+-- a text breaks this rule after these lines, and none with a lesser number
 pub record BreaksFirst (version : ℕ) (before : List Line) (text : List ℕ) (rule : Rule) : Type 0 where
   pub broken : BreaksLine version before text rule
   pub least : (other : Rule) → BreaksLine version before text other → kind_of rule ≤ kind_of other
 
--- it breaks none
+-- a text breaks no rule after these lines
 abbrev pub Keeps : ℕ → List Line → List ℕ → Type 0
 Keeps version before text = (rule : Rule) → BreaksLine version before text rule → ⊥

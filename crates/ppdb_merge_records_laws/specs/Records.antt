@@ -40,7 +40,7 @@ scopes_left inputs =
 abbrev pub scope_origins : List MovedBy → List Origin
 scope_origins inputs = map origin_of (scopes_left inputs)
 
--- so many rows of an input, from one on
+-- as many rows of an input as are counted, from the first one on
 abbrev pub rows_from : ℕ → ℕ → ℕ → List Origin
 rows_from input first zero = []
 rows_from input first (suc n) = (input, first) ∷ rows_from input (first + 1) n

@@ -28,7 +28,7 @@ abbrev pub Finds : {T : Type 0} → Result T Stop → (Outcome → Type 0) → T
 Finds (Ok _) Due = (due : Outcome) × Due due
 Finds (Err stop) Due = IfSome (refusal_of (cause_of stop)) Due
 
--- so have the words, over the files that they see
+-- a command that was done, or stopped at a refusal, has the outcome of the words over the files that they see
 abbrev pub FindsOutcome : {T : Type 0} → List (List ℕ) → Option Files → Result T Stop → Type 0
 FindsOutcome words files result = (asked : Option Task) → Asks words asked → (all : Files) → AreSeen asked files all → Finds result (IsOutcome asked all)
 

@@ -89,8 +89,8 @@ OnKept cause P = P
 abbrev pub IsNoInput : Status → Type 0
 IsNoInput status = (status ≡ statuses.Absent) ⊎ (status ≡ statuses.TooLong)
 
--- what a stop comes from: Misused says that the words are no command's, ReadFailed, WriteFailed and PutFailed that a count of faults rose,
--- and ToRead and ToWrite of which file
+-- what a stop comes from: Misused says that the words are no command's, ToRead and ToWrite which file was to be read or written, and
+-- ReadFailed, WriteFailed and PutFailed that a count of faults rose
 abbrev pub ComesFrom : Cause → (Misused : Type 0) → (ToRead ToWrite : List ℕ → Type 0) → (files : Option Files) → (ReadFailed WriteFailed PutFailed : Type 0)
     → Type 0
 ComesFrom (Refusal outcome) Misused ToRead ToWrite files ReadFailed WriteFailed PutFailed =
