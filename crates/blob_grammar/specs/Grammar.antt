@@ -1,7 +1,5 @@
 -- Blobs of the #Blob heap as lists of fields (Portable PDB v1.0, the formats of its blobs; ECMA-335 II.23.2).
-use Rattle.std.specs.Prelude.{◌≡◌, ℕ, ◌≤◌, List, [], ◌∷◌, ◌++◌, length, Option, Some, None, Bool, true, false, ◌&&◌, nat_le, ℤ, ◌==◌, if◌then◌else◌}
-use Rattle.std.specs.List.{fold, flat_map}
-use Rattle.std.specs.Int.{w32, from_le_bytes}
+use Rattle.std.specs.{Prelude.{◌≡◌, ℕ, ◌≤◌, List, [], ◌∷◌, ◌++◌, length, Option, Some, None, Bool, true, false, ◌&&◌, nat_le, ℤ, ◌==◌, if◌then◌else◌, fold, flat_map}, Int.{w32, from_le_bytes}}
 use Rattle.cli_ints.specs.Compressed.{SpellsUnsigned, SpellsSigned}
 
 -- What a field says.

@@ -1,9 +1,7 @@
 -- The fields of a blob where they stand.
-use Rattle.std.specs.Prelude.{◌≡◌, ℕ, ◌+◌, List, [], ◌∷◌, length, Option}
-use Rattle.std.specs.List.{flat_map}
-use Rattle.ppdb_base.specs.declared.BlobFault.{BlobFault}
-use Rattle.blob_grammar.specs.Grammar.{Value, Field, Grammar, Cut, with_value}
-use Rattle.blob_grammar.specs.Reading.{IsLongestPrefix, Reading}
+use Rattle.std.specs.Prelude.{◌≡◌, ℕ, ◌+◌, List, [], ◌∷◌, length, Option, flat_map}
+use Rattle.ppdb_base.specs.declared.fault.BlobFault.{BlobFault}
+use Rattle.blob_grammar.specs.{Grammar.{Value, Field, Grammar, Cut, with_value}, Reading.{IsLongestPrefix, Reading}}
 
 -- A field where it stands: its byte in the blob, the values of its record before it, and its value.
 pub record PlacedField : Type 0 where

@@ -1,16 +1,10 @@
 -- The plain reader: it takes one field after the other, and keeps the records made so far.
-use Rattle.std.specs.Prelude.{◌≡◌, ℕ, zero, suc, ◌+◌, ◌-◌, ◌*◌, ◌^◌, List, [], ◌∷◌, ◌++◌, length, take, drop, nat_lt, if◌then◌else◌}
-use Rattle.std.specs.Prelude.{Option, Some, None, Bool, true, false, ◌&&◌, ℤ, Result, Ok, Err, ◌≤◌}
-use Rattle.std.specs.List.{fold, flat_map}
+use Rattle.std.specs.Prelude.{◌≡◌, ℕ, zero, suc, ◌+◌, ◌-◌, ◌*◌, ◌^◌, List, [], ◌∷◌, ◌++◌, length, take, drop, nat_lt, if◌then◌else◌, Option, Some, None, Bool, true, false, ◌&&◌, ℤ, Result, Ok, Err}
+use Rattle.std.specs.Prelude.{◌≤◌, fold, flat_map}
 use Rattle.std.specs.Int.{w32, from_le_bytes}
-use Rattle.ppdb_base.specs.declared.Code.{Code}
-use Rattle.ppdb_base.specs.declared.Code.TheVariants.{BlobEnd, IntegerForm, ValueRange}
-use Rattle.ppdb_base.specs.declared.BlobFault.{BlobFault}
-use Rattle.cli_ints.specs.declared.IntFault.{IntFault}
-use Rattle.cli_ints.specs.declared.IntFault.TheVariants.{End, Form as NoForm}
-use Rattle.cli_ints.specs.Compressed.{bits_of, unrotated}
-use Rattle.blob_grammar.specs.Grammar.{Value, number, integer, octets, Form, unsigned, signed, byte, word, fixed, rest, character, Field}
-use Rattle.blob_grammar.specs.Grammar.{Grammar, Cut, with_value, is_character}
+use Rattle.ppdb_base.specs.{declared.code.Code.{Code, TheVariants.{BlobEnd, IntegerForm, ValueRange}}, declared.fault.BlobFault.BlobFault}
+use Rattle.cli_ints.specs.{declared.IntFault.{IntFault, TheVariants.{End, Form as NoForm}}, Compressed.{bits_of, unrotated}}
+use Rattle.blob_grammar.specs.Grammar.{Value, number, integer, octets, Form, unsigned, signed, byte, word, fixed, rest, character, Field, Grammar, Cut, with_value, is_character}
 use Rattle.blob_grammar.specs.Places.{PlacedField, placed_from}
 
 -- What is left of a blob: the items to come, and the fault after them, if the blob is not whole.

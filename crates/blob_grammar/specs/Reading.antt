@@ -1,8 +1,6 @@
 -- What a blob holds, and where it is at fault (Portable PDB v1.0; ECMA-335 II.23.2).
 use Rattle.std.specs.Prelude.{◌≡◌, ◌≢◌, ℕ, ◌≤◌, List, [], ◌∷◌, ◌++◌, length, Option, Some, None, true, ◌⊎◌}
-use Rattle.ppdb_base.specs.declared.Code.{Code}
-use Rattle.ppdb_base.specs.declared.Code.TheVariants.{BlobEnd, IntegerForm, ValueRange}
-use Rattle.ppdb_base.specs.declared.BlobFault.{BlobFault}
+use Rattle.ppdb_base.specs.{declared.code.Code.{Code, TheVariants.{BlobEnd, IntegerForm, ValueRange}}, declared.fault.BlobFault.BlobFault}
 use Rattle.blob_grammar.specs.Grammar.{Form, unsigned, signed, character, Spells, Field, Grammar, cut, bytes_of, AtStart}
 
 -- The longest valid prefix: the longest list of fields at the blob's prefix in which each is allowed after those before it.

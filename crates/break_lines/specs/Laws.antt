@@ -1,10 +1,7 @@
 -- What the walk over the rows comes to, and how a name is compared part by part (Portable PDB v1.0, "Document Name Blob").
-use Rattle.std.specs.Prelude.{◌≡◌, ℕ, List, [], ◌∷◌, ◌++◌, None, length}
-use Rattle.std.specs.List.{join_by}
-use Rattle.ppdb_values.specs.RawFile.{RawFile}
-use Rattle.ppdb_values.specs.Value.{value_of}
-use Rattle.break_lines.specs.Breaks.{breaks_in}
-use Rattle.break_lines.specs.Walks.{breaks_left}
+use Rattle.std.specs.{Prelude.{◌≡◌, ℕ, List, [], ◌∷◌, ◌++◌, None, length}, List.join_by}
+use Rattle.ppdb_values.specs.{RawFile.RawFile, Value.value_of}
+use Rattle.break_lines.specs.{Breaks.breaks_in, Walks.breaks_left}
 
 -- before the first row a walk has all breaks of the file
 pub record BreaksAreRows : Type 0 where

@@ -1,13 +1,8 @@
 -- The breaks as a walk over the rows of MethodDebugInformation gives them (Portable PDB v1.0, "MethodDebugInformation Table").
-use Rattle.std.specs.Prelude.{ℕ, ◌-◌, List, [], ◌++◌, Option, Some, None, length, drop}
-use Rattle.std.specs.List.{flat_map}
-use Rattle.ppdb_tables.specs.declared.rows.MethodDebugRow.{MethodDebugRow}
-use Rattle.ppdb_tables.specs.RawTables.{RawTables, numbered}
-use Rattle.ppdb_values.specs.declared.file.MethodValue.{MethodValue}
-use Rattle.ppdb_values.specs.Documents.{method_of}
+use Rattle.ppdb_values.specs.Names.{ℕ, ◌-◌, List, [], ◌++◌, Option, Some, None, length, drop, flat_map, MethodDebugRow, RawTables, numbered}
+use Rattle.ppdb_values.specs.{declared.file.MethodValue.MethodValue, Documents.method_of}
 use Rattle.ppdb_queries.specs.Cursors.{Walk}
-use Rattle.break_lines.specs.declared.item.Break.{Break}
-use Rattle.break_lines.specs.Breaks.{breaks_of}
+use Rattle.break_lines.specs.{declared.item.Break.Break, Breaks.breaks_of}
 
 abbrev pub breaks_by : ℕ → ℕ → Option MethodValue → List Break
 breaks_by document line None = []

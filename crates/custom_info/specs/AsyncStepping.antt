@@ -1,14 +1,8 @@
 -- Async Method Stepping Information (Portable PDB v1.0, CustomDebugInformation Table).
-use Rattle.std.specs.Prelude.{ℕ, zero, suc, List, [], ◌∷◌, ◌++◌, map, Option, Some, None, Bool, false, nat_le, drop, ◌<◌, ◌≤◌}
-use Rattle.std.specs.List.{flat_map}
-use Rattle.std.specs.Option.{option_map}
-use Rattle.std.specs.Int.{w32, to_le_bytes}
+use Rattle.std.specs.{Prelude.{ℕ, zero, suc, List, [], ◌∷◌, ◌++◌, map, Option, Some, None, Bool, false, nat_le, drop, ◌<◌, ◌≤◌, flat_map, option_map}, Int.{w32, to_le_bytes}}
 use Rattle.cli_ints.specs.Shortest.{short_unsigned}
-use Rattle.blob_grammar.specs.Grammar.{Value, number, Form, word, unsigned, Grammar}
-use Rattle.blob_grammar.specs.Reader.{Left, read_from}
-use Rattle.blob_grammar.specs.Allowed.{is_row, is_number, is_between}
-use Rattle.custom_info.specs.Fields.{is_offset}
-use Rattle.custom_info.specs.declared.stepping.AsyncStep.{AsyncStep}
+use Rattle.blob_grammar.specs.{Grammar.{Value, number, Form, word, unsigned, Grammar}, Reader.{Left, read_from}, Allowed.{is_row, is_number, is_between}}
+use Rattle.custom_info.specs.{Fields.is_offset, declared.stepping.AsyncStep.AsyncStep}
 
 -- ---- the steps
 

@@ -1,7 +1,6 @@
 -- Fields of custom debug information: IL offsets, and numbers that must pass a test.
 use Rattle.std.specs.Prelude.{ℕ, Bool, nat_lt, if◌then◌else◌, Result, Ok, Err}
-use Rattle.ppdb_base.specs.declared.Code.TheVariants.{ValueRange}
-use Rattle.ppdb_base.specs.declared.BlobFault.{BlobFault}
+use Rattle.ppdb_base.specs.{declared.code.Code.TheVariants.ValueRange, declared.fault.BlobFault.BlobFault}
 
 -- an IL offset
 abbrev pub is_offset : ℕ → Bool

@@ -1,12 +1,7 @@
 -- State Machine Hoisted Local Scopes (Portable PDB v1.0, CustomDebugInformation Table).
-use Rattle.std.specs.Prelude.{ℕ, zero, suc, ◌+◌, ◌-◌, List, [], ◌∷◌, ◌++◌, Option, Some, None, Bool, true, ◌||◌, nat_lt, ◌==◌, drop, ◌<◌}
-use Rattle.std.specs.List.{flat_map}
-use Rattle.std.specs.Int.{w32, to_le_bytes}
-use Rattle.blob_grammar.specs.Grammar.{Value, number, word, Grammar}
-use Rattle.blob_grammar.specs.Reader.{Left, read_from}
-use Rattle.blob_grammar.specs.Allowed.{is_number, is_between}
-use Rattle.custom_info.specs.declared.slots.Slot.{Slot}
-use Rattle.custom_info.specs.declared.slots.Slot.TheVariants.{Empty, Held}
+use Rattle.std.specs.{Prelude.{ℕ, zero, suc, ◌+◌, ◌-◌, List, [], ◌∷◌, ◌++◌, Option, Some, None, Bool, true, ◌||◌, nat_lt, ◌==◌, drop, ◌<◌, flat_map}, Int.{w32, to_le_bytes}}
+use Rattle.blob_grammar.specs.{Grammar.{Value, number, word, Grammar}, Reader.{Left, read_from}, Allowed.{is_number, is_between}}
+use Rattle.custom_info.specs.declared.slots.Slot.{Slot, TheVariants.{Empty, Held}}
 
 -- From this start the length is allowed: it is 0, or the range ends below 2 ^ 31.
 abbrev pub is_length : ℕ → ℕ → Bool

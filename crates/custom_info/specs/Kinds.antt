@@ -1,10 +1,7 @@
 -- The kinds of custom debug information, each named by a GUID (Portable PDB v1.0, CustomDebugInformation Table, and the kinds that the C#
 -- and Visual Basic compilers add).
-use Rattle.std.specs.Prelude.{ℕ, List, [], ◌∷◌, Bool, ◌||◌, if◌then◌else◌}
-use Rattle.std.specs.List.{list_any}
-use Rattle.std.specs.Str.{bytes_eq}
-use Rattle.custom_info.specs.declared.kinds.Kind.{Kind}
-use Rattle.custom_info.specs.declared.kinds.Kind.TheVariants.{Async, Hoisted, TypeDocuments, Free, Unknown}
+use Rattle.std.specs.{Prelude.{ℕ, List, [], ◌∷◌, Bool, ◌||◌, if◌then◌else◌, bytes_eq}, List.list_any}
+use Rattle.custom_info.specs.declared.kinds.Kind.{Kind, TheVariants.{Async, Hoisted, TypeDocuments, Free, Unknown}}
 
 -- The bytes of a GUID in the #GUID heap (ECMA-335 II.24.2.5), from those of its text: the first three fields are little-endian, the last
 -- eight bytes stand as they are written.

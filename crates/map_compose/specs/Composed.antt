@@ -1,17 +1,10 @@
 -- The map of two maps (docs/FORMAT.md, "Two maps made into one"): what the first makes of a row, an offset or a slot, the second takes on.
-use Rattle.std.specs.Prelude.{ℕ, ◌&&◌, ◌||◌, Bool, false, cond, List, [], ◌++◌, Option, Some, None, is_some, map}
-use Rattle.std.specs.List.{filter, filter_map, flat_map, range_with_len}
-use Rattle.std.specs.Option.{option_map, option_and_then, option_or}
-use Rattle.ppdb_base.specs.declared.offsets.Run.{Run}
-use Rattle.ppdb_base.specs.Offsets.{Offsets, every, kept_runs}
-use Rattle.ppdb_maps.specs.declared.entries.Count.{Count}
-use Rattle.ppdb_maps.specs.declared.entries.RowImage.{RowImage}
-use Rattle.ppdb_maps.specs.declared.entries.SlotImage.{SlotImage}
-use Rattle.ppdb_maps.specs.declared.entries.SignatureImage.{SignatureImage}
-use Rattle.ppdb_maps.specs.Map.{Map, MethodLine, count_of, row_image, method_line, is_dropped, has_slots, slot_image, offsets_in, rows_of, slots_of}
-use Rattle.ppdb_maps.specs.Map.{signature_line, moved_signature}
-use Rattle.map_compose.specs.Runs.{met, longest}
-use Rattle.map_compose.specs.Ascending.{ascending}
+use Rattle.std.specs.{Prelude.{ℕ, ◌&&◌, ◌||◌, Bool, false, cond, List, [], ◌++◌, Option, Some, None, is_some, map, filter, filter_map, flat_map, option_map, option_and_then}, List.range_with_len}
+use Rattle.std.specs.Option.{option_or}
+use Rattle.ppdb_base.specs.{declared.offsets.Run.Run, Offsets.{Offsets, every, kept_runs}}
+use Rattle.ppdb_maps.specs.declared.entries.{Count.Count, RowImage.RowImage, SlotImage.SlotImage, SignatureImage.SignatureImage}
+use Rattle.ppdb_maps.specs.Map.{Map, MethodLine, count_of, row_image, method_line, is_dropped, has_slots, slot_image, offsets_in, rows_of, slots_of, signature_line, moved_signature}
+use Rattle.map_compose.specs.{Runs.{met, longest}, Ascending.ascending}
 
 -- ---- rows
 

@@ -1,15 +1,8 @@
 -- The equations by which a map is the composition of two, and when the map of two maps is readable.
-use Rattle.std.specs.Prelude.{◌≡◌, ℕ, ◌≤◌, ◌↔◌, ◌⊎◌, true, false, List, Option, Some, None, is_some}
-use Rattle.std.specs.Option.{option_and_then}
-use Rattle.ppdb_base.specs.declared.offsets.Run.{Run}
-use Rattle.ppdb_base.specs.Offsets.{lined, Rise, Kept, kept_runs, old_size, moved}
-use Rattle.ppdb_maps.specs.Map.{Map, MethodLine, count_of, row_image, is_dropped, has_slots, method_line, slot_image, offsets_in, signature_line}
-use Rattle.ppdb_maps.specs.Readable.{IsReadable}
-use Rattle.ppdb_maps.specs.Says.{sizes_of}
-use Rattle.map_compose.specs.Composed.{composed, composed_count, composed_row, drops_one, has_image, signature_then}
-use Rattle.map_compose.specs.Laws.{Apart, MovesOn}
-use Rattle.map_compose.specs.Runs.{met, longest}
-use Rattle.map_compose.specs.Sizes.{SizesAgree}
+use Rattle.std.specs.Prelude.{◌≡◌, ℕ, ◌≤◌, ◌↔◌, ◌⊎◌, true, false, List, Option, Some, None, is_some, option_and_then}
+use Rattle.ppdb_base.specs.{declared.offsets.Run.Run, Offsets.{lined, Rise, Kept, kept_runs, old_size, moved}}
+use Rattle.ppdb_maps.specs.{Map.{Map, MethodLine, count_of, row_image, is_dropped, has_slots, method_line, slot_image, offsets_in, signature_line}, Readable.IsReadable, Says.sizes_of}
+use Rattle.map_compose.specs.{Composed.{composed, composed_count, composed_row, drops_one, has_image, signature_then}, Laws.{Apart, MovesOn}, Runs.{met, longest}, Sizes.SizesAgree}
 
 -- the method becomes `image` by the first map, and is there after both
 pub record Follows (f s : Map) (method image : ℕ) : Type 0 where

@@ -1,8 +1,6 @@
 -- What is gathered of the second map, beside what it answers itself.
 use Rattle.ppdb_maps.specs.Map.{Map}
-use Rattle.map_compose.specs.declared.gathered.Gathered.{Gathered}
-use Rattle.map_compose.specs.Joining.{AreJoinedOf}
-use Rattle.map_compose.specs.Slots.{AreBlocksOf}
+use Rattle.map_compose.specs.{declared.gathered.Gathered.Gathered, Joining.AreJoinedOf, Slots.AreBlocksOf}
 
 pub record IsGatheredOf (gathered : Gathered) (m : Map) : Type 0 where
   pub runs : AreJoinedOf gathered.runs m

@@ -1,20 +1,10 @@
 -- What is put of runs of which each is held back until it is known that none goes on with it.
-use Rattle.std.specs.Prelude.{◌≡◌, ◌⊎◌, ℕ, ◌+◌, ◌<◌, ◌≤◌, ◌++◌, nat_eq, List, [], ◌∷◌, Option, Some, None, option_to_list, option_copied, map, length}
-use Rattle.std.specs.Borrow.{Bor}
-use Rattle.std.specs.List.{flat_map, find, AllByRecursion}
-use Rattle.std.specs.Option.{option_map}
-use Rattle.ppdb_base.specs.declared.offsets.Run.{Run}
-use Rattle.ppdb_base.specs.Offsets.{Offsets, every, gone, lined, RiseFrom, end_of, new_end_of}
-use Rattle.ppdb_maps.specs.declared.line.Line.TheVariants.{Kept}
-use Rattle.ppdb_maps.specs.Forms.{OFFSETS}
-use Rattle.ppdb_maps.specs.Map.{Map, MethodLine, method_line}
-use Rattle.ppdb_maps.specs.Readable.{IsReadable}
+use Rattle.std.specs.{Prelude.{◌≡◌, ◌⊎◌, ℕ, ◌+◌, ◌<◌, ◌≤◌, ◌++◌, nat_eq, List, [], ◌∷◌, Option, Some, None, option_to_list, option_copied, map, length, flat_map, find, option_map}, Borrow.Bor}
+use Rattle.std.specs.List.{AllByRecursion}
+use Rattle.ppdb_base.specs.{declared.offsets.Run.Run, Offsets.{Offsets, every, gone, lined, RiseFrom, end_of, new_end_of}}
+use Rattle.ppdb_maps.specs.{declared.line.Line.TheVariants.Kept, Forms.OFFSETS, Map.{Map, MethodLine, method_line}, Readable.IsReadable}
 use Rattle.ppdb_maps_text.specs.declared.counted.Counted.{Counted}
-use Rattle.map_compose.specs.declared.joined.JoinedRuns.{JoinedRuns}
-use Rattle.map_compose.specs.declared.joined.JoinedLine.{JoinedLine}
-use Rattle.map_compose.specs.Runs.{met, longest}
-use Rattle.map_compose.specs.Lengths.{SumsOf, sums_from}
-use Rattle.map_compose.specs.Says.{PutsLines}
+use Rattle.map_compose.specs.{declared.joined.{JoinedRuns.JoinedRuns, JoinedLine.JoinedLine}, Runs.{met, longest}, Lengths.{SumsOf, sums_from}, Says.PutsLines}
 
 -- a run of a map that a text has
 abbrev pub IsShort : Run → Type 0

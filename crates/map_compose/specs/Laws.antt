@@ -1,7 +1,6 @@
 -- What runs of two rewritings, and runs that go on, come to.
 use Rattle.std.specs.Prelude.{◌≡◌, ℕ, false, List, [], ◌∷◌}
-use Rattle.ppdb_base.specs.declared.offsets.Run.{Run}
-use Rattle.ppdb_base.specs.Offsets.{Moves, RiseFrom, Rise, lined}
+use Rattle.ppdb_base.specs.{declared.offsets.Run.Run, Offsets.{Moves, RiseFrom, Rise, lined}}
 use Rattle.map_compose.specs.Runs.{met, goes_on, longest}
 
 -- x is taken to some offset by the first runs, and that to z by the second

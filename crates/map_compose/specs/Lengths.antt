@@ -1,11 +1,8 @@
 -- How long the lines of many runs are, determined by a few numbers.
-use Rattle.std.specs.Prelude.{◌≡◌, ℕ, ◌+◌, ◌-◌, ◌<◌, ◌≤◌, cond, nat_lt, List, [], ◌∷◌, Option, Some, None, map, length, slice_index_or}
-use Rattle.std.specs.Fmt.{decimal}
-use Rattle.ppdb_base.specs.declared.offsets.Run.{Run}
-use Rattle.ppdb_base.specs.Offsets.{end_of, new_end_of}
+use Rattle.std.specs.Prelude.{◌≡◌, ℕ, ◌+◌, ◌-◌, ◌<◌, ◌≤◌, cond, nat_lt, List, [], ◌∷◌, Option, Some, None, map, length, slice_index_or, decimal}
+use Rattle.ppdb_base.specs.{declared.offsets.Run.Run, Offsets.{end_of, new_end_of}}
 use Rattle.ppdb_maps.specs.declared.line.Line.TheVariants.{Kept}
-use Rattle.ppdb_maps_text.specs.declared.counted.Counted.{Counted}
-use Rattle.ppdb_maps_text.specs.Putting.{LONGEST}
+use Rattle.ppdb_maps_text.specs.{declared.counted.Counted.Counted, Putting.LONGEST}
 use Rattle.map_compose.specs.Says.{lines_text}
 
 -- a text that is too long to be kept, and whose length fits its type

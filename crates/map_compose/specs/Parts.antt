@@ -1,13 +1,7 @@
 -- The parts of a map's text that are about methods, and the methods of which each may speak.
 use Rattle.std.specs.Prelude.{ℕ, cond, is_some, List, ◌++◌, map, drop}
-use Rattle.ppdb_maps.specs.declared.entries.RowImage.{RowImage}
-use Rattle.ppdb_maps.specs.declared.line.Line.{Line}
-use Rattle.ppdb_maps.specs.Map.{Map, MethodLine, count_of, rows_of}
-use Rattle.map_compose.specs.declared.part.Part.{Part}
-use Rattle.map_compose.specs.declared.part.Part.TheVariants.{Drops, Slots, Signatures, Methods}
-use Rattle.map_compose.specs.declared.part.Passed.{Passed}
-use Rattle.map_compose.specs.Ascending.{ascending}
-use Rattle.map_compose.specs.Composed.{signed}
+use Rattle.ppdb_maps.specs.{declared.entries.RowImage.RowImage, declared.line.Line.Line, Map.{Map, MethodLine, count_of, rows_of}}
+use Rattle.map_compose.specs.{declared.part.{Part.{Part, TheVariants.{Drops, Slots, Signatures, Methods}}, Passed.Passed}, Ascending.ascending, Composed.signed}
 use Rattle.map_compose.specs.Says.{drop_of_both, slots_of_both, signature_of_both, line_of_both}
 
 -- the methods with a line of the part

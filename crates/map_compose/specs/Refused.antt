@@ -1,13 +1,8 @@
 -- Why two maps are not made into one.
 use Rattle.std.specs.Prelude.{ℕ, ◌≡◌, ◌<◌, ◌≤◌, List, length}
 use Rattle.ppdb_maps.specs.Map.{Map}
-use Rattle.ppdb_maps_text.specs.declared.counted.Counted.{Counted}
-use Rattle.ppdb_maps_text.specs.MapTexts.{map_text}
-use Rattle.ppdb_maps_text.specs.Putting.{LONGEST}
-use Rattle.map_compose.specs.declared.error.ComposeError.{ComposeError}
-use Rattle.map_compose.specs.declared.error.ComposeError.TheVariants.{SizesDiffer, TooLong, Memory}
-use Rattle.map_compose.specs.Composed.{composed}
-use Rattle.map_compose.specs.Sizes.{SizesAgree, IsFirstDiffering}
+use Rattle.ppdb_maps_text.specs.{declared.counted.Counted.Counted, MapTexts.map_text, Putting.LONGEST}
+use Rattle.map_compose.specs.{declared.error.ComposeError.{ComposeError, TheVariants.{SizesDiffer, TooLong, Memory}}, Composed.composed, Sizes.{SizesAgree, IsFirstDiffering}}
 
 -- each byte of a text is counted, and the text is kept as long as it is not too long
 pub record Counts (counted : Counted) (text : List ℕ) : Type 0 where

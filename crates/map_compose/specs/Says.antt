@@ -1,16 +1,9 @@
 -- What the lines of the map of two maps say of a table and of a method.
-use Rattle.std.specs.Prelude.{ℕ, ◌≤◌, cond, List, [], ◌∷◌, Option, Some, None, map}
-use Rattle.std.specs.List.{flat_map}
-use Rattle.std.specs.Option.{option_and_then}
-use Rattle.ppdb_maps.specs.declared.entries.RowImage.{RowImage}
-use Rattle.ppdb_maps.specs.declared.line.Line.{Line}
-use Rattle.ppdb_maps.specs.declared.line.Line.TheVariants.{Rows, Row, Dropped, Slots, Slot, Signature}
+use Rattle.std.specs.Prelude.{ℕ, ◌≤◌, cond, List, [], ◌∷◌, Option, Some, None, map, flat_map, option_and_then}
+use Rattle.ppdb_maps.specs.{declared.entries.RowImage.RowImage, declared.line.Line.{Line, TheVariants.{Rows, Row, Dropped, Slots, Slot, Signature}}}
 use Rattle.ppdb_maps.specs.Map.{Map, MethodLine, count_of, row_image, slot_image}
-use Rattle.ppdb_maps_text.specs.MapTexts.{ended, line_text, row_says, slot_says, method_says}
-use Rattle.ppdb_maps_text.specs.declared.counted.Counted.{Counted}
-use Rattle.ppdb_maps_text.specs.Putting.{Puts}
-use Rattle.map_compose.specs.Composed.{composed_count, sources, row_entries, has_image, composed_line, drops_one, has_slot_lines, slot_entries}
-use Rattle.map_compose.specs.Composed.{composed_signature}
+use Rattle.ppdb_maps_text.specs.{MapTexts.{ended, line_text, row_says, slot_says, method_says}, declared.counted.Counted.Counted, Putting.Puts}
+use Rattle.map_compose.specs.Composed.{composed_count, sources, row_entries, has_image, composed_line, drops_one, has_slot_lines, slot_entries, composed_signature}
 
 -- the text of lines, each ended by LF
 abbrev pub lines_text : List Line → List ℕ

@@ -1,7 +1,6 @@
 -- Where two maps do not follow one another (docs/FORMAT.md, "Two maps made into one"): a method's size after the first is not that before the second.
 use Rattle.std.specs.Prelude.{◌≡◌, ◌≢◌, ℕ, ◌≤◌, ◌⊎◌, true, Some}
-use Rattle.ppdb_maps.specs.Map.{Map, MethodLine, method_line}
-use Rattle.ppdb_maps.specs.Readable.{IsReadable}
+use Rattle.ppdb_maps.specs.{Map.{Map, MethodLine, method_line}, Readable.IsReadable}
 use Rattle.map_compose.specs.Composed.{has_image, second_line}
 
 -- the method is there after both, both maps have a line for it, and its size after the first and before the second are these two and differ
@@ -18,7 +17,7 @@ pub record IsFirstDiffering (f s : Map) (method first second : ℕ) : Type 0 whe
   pub differ : SizesDiffer f s method first second
   pub least : (other a b : ℕ) → SizesDiffer f s other a b → method ≤ other
 
--- there is one
+-- some method is the least whose sizes differ
 pub record FirstDiffering (f s : Map) : Type 0 where
   pub method : ℕ
   pub first : ℕ

@@ -1,14 +1,7 @@
 -- How long the lines of a method's slots are, determined by two numbers.
-use Rattle.std.specs.Prelude.{◌≡◌, ◌⊎◌, ℕ, ◌+◌, nat_eq, List, [], ◌∷◌, Option, map, length}
-use Rattle.std.specs.Fmt.{decimal}
-use Rattle.std.specs.List.{find}
-use Rattle.ppdb_maps.specs.declared.entries.SlotImage.{SlotImage}
-use Rattle.ppdb_maps.specs.declared.line.Line.TheVariants.{Slot}
-use Rattle.ppdb_maps.specs.Map.{Map, slots_of}
-use Rattle.ppdb_maps.specs.Readable.{IsReadable}
-use Rattle.map_compose.specs.declared.slot_blocks.SlotBlock.{SlotBlock}
-use Rattle.map_compose.specs.declared.slot_blocks.SlotBlocks.{SlotBlocks}
-use Rattle.map_compose.specs.Says.{lines_text}
+use Rattle.std.specs.Prelude.{◌≡◌, ◌⊎◌, ℕ, ◌+◌, nat_eq, List, [], ◌∷◌, Option, map, length, decimal, find}
+use Rattle.ppdb_maps.specs.{declared.entries.SlotImage.SlotImage, declared.line.Line.TheVariants.Slot, Map.{Map, slots_of}, Readable.IsReadable}
+use Rattle.map_compose.specs.{declared.slot_blocks.{SlotBlock.SlotBlock, SlotBlocks.SlotBlocks}, Says.lines_text}
 
 -- the digits of OLD and NEW
 abbrev pub slot_digits : List SlotImage → ℕ

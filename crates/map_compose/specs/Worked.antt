@@ -1,14 +1,9 @@
 -- Worked maps, composed, and the canonical texts of what they come to.
 use Rattle.std.specs.Prelude.{◌≡◌, ℕ, List, [], ◌∷◌, codes}
 use Rattle.ppdb_base.specs.declared.offsets.Run.{Run}
-use Rattle.ppdb_maps.specs.declared.entries.Count.{Count}
-use Rattle.ppdb_maps.specs.declared.entries.RowImage.{RowImage}
-use Rattle.ppdb_maps.specs.declared.entries.SlotImage.{SlotImage}
-use Rattle.ppdb_maps.specs.declared.entries.SignatureImage.{SignatureImage}
-use Rattle.ppdb_maps.specs.Map.{Map, MethodLine, map_of}
+use Rattle.ppdb_maps.specs.{declared.entries.{Count.Count, RowImage.RowImage, SlotImage.SlotImage, SignatureImage.SignatureImage}, Map.{Map, MethodLine, map_of}}
 use Rattle.ppdb_maps_text.specs.MapTexts.{map_text}
-use Rattle.map_compose.specs.Composed.{composed}
-use Rattle.map_compose.specs.Sizes.{SizesDiffer}
+use Rattle.map_compose.specs.{Composed.composed, Sizes.SizesDiffer}
 
 abbrev pub count : ℕ → ℕ → Count
 count table rows = record { table = table; rows = rows }

@@ -1,10 +1,7 @@
 -- Two maps have one map of both (docs/FORMAT.md, "Two maps made into one").
 use Rattle.std.specs.Prelude.{◌≡◌}
-use Rattle.ppdb_maps.specs.Map.{Map}
-use Rattle.ppdb_maps.specs.Readable.{IsReadable}
-use Rattle.map_compose.specs.Composed.{composed}
-use Rattle.map_compose.specs.Composition.{IsComposition}
-use Rattle.map_compose.specs.Sizes.{SizesAgree}
+use Rattle.ppdb_maps.specs.{Map.Map, Readable.IsReadable}
+use Rattle.map_compose.specs.{Composed.composed, Composition.IsComposition, Sizes.SizesAgree}
 
 -- the equations of a composition have one solution among the maps that a text has
 abbrev pub CompositionsAreOne : Type 0

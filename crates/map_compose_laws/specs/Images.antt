@@ -1,16 +1,8 @@
 -- What a method means after two maps, one after the other, and after the map of both.
-use Rattle.std.specs.Prelude.{◌≡◌, ℕ, ◌≤◌, Option, Some, None, map}
-use Rattle.std.specs.Option.{option_map}
-use Rattle.custom_info.specs.declared.slots.Range.{Range}
-use Rattle.ppdb_base.specs.Offsets.{Kept, moved, old_size}
-use Rattle.ppdb_maps.specs.Map.{Map, MethodLine, method_line, offsets_in, slot_image}
-use Rattle.ppdb_maps.specs.Readable.{IsReadable}
-use Rattle.map_compose.specs.Composed.{composed}
-use Rattle.map_compose.specs.Composition.{Follows}
-use Rattle.map_compose.specs.Sizes.{SizesAgree}
-use Rattle.ppdb_values.specs.declared.annotation.Annotation.{Annotation}
-use Rattle.ppdb_values.specs.declared.scope.VariableValue.{VariableValue}
-use Rattle.ppdb_values.specs.Meaning.{PointMeaning, ScopeMeaning, SlotMeaning, Meaning}
+use Rattle.ppdb_values.specs.Names.{◌≡◌, ℕ, ◌≤◌, Option, Some, None, map, option_map, Range, Kept, moved, old_size}
+use Rattle.ppdb_maps.specs.{Map.{Map, MethodLine, method_line, offsets_in, slot_image}, Readable.IsReadable}
+use Rattle.map_compose.specs.{Composed.composed, Composition.Follows, Sizes.SizesAgree}
+use Rattle.ppdb_values.specs.{declared.annotation.Annotation.Annotation, declared.scope.VariableValue.VariableValue, Meaning.{PointMeaning, ScopeMeaning, SlotMeaning, Meaning}}
 use Rattle.ppdb_merge_items.specs.Each.{Each}
 use Rattle.ppdb_merge_moved.specs.Images.{meaning_image}
 

@@ -1,13 +1,8 @@
 -- What is linked to a method after two maps, one after the other, and after the map of both.
-use Rattle.std.specs.Prelude.{◌≡◌, ℕ, ◌≤◌, true, Option, Some, None}
-use Rattle.custom_info.specs.declared.stepping.AsyncStep.{AsyncStep}
-use Rattle.ppdb_maps.specs.Map.{Map, moved_row}
-use Rattle.ppdb_maps.specs.Readable.{IsReadable}
+use Rattle.ppdb_values.specs.Names.{◌≡◌, ℕ, ◌≤◌, true, Option, Some, None, AsyncStep}
+use Rattle.ppdb_maps.specs.{Map.{Map, moved_row}, Readable.IsReadable}
 use Rattle.map_compose.specs.Composed.{composed}
-use Rattle.ppdb_values.specs.declared.custom.CustomBody.{CustomBody}
-use Rattle.ppdb_values.specs.declared.custom.CustomBody.TheVariants.{Async, Hoisted}
-use Rattle.ppdb_values.specs.declared.annotation.Custom.{Custom}
-use Rattle.ppdb_values.specs.Links.{Links}
+use Rattle.ppdb_values.specs.{declared.custom.CustomBody.{CustomBody, TheVariants.{Async, Hoisted}}, declared.annotation.Custom.Custom, Links.Links}
 use Rattle.ppdb_merge_items.specs.Each.{Each}
 use Rattle.ppdb_merge_moved.specs.Images.{links_image}
 use Rattle.map_compose_laws.specs.Images.{EdgeComposes}

@@ -1,12 +1,8 @@
 -- Two rewritings of a module, one after the other, and one by the map of both.
-use Rattle.std.specs.Prelude.{◌≡◌, ℕ, true, [], ◌∷◌}
-use Rattle.ppdb_base.specs.Offsets.{Kept}
+use Rattle.ppdb_values.specs.Names.{◌≡◌, ℕ, true, [], ◌∷◌, Kept}
 use Rattle.ppdb_maps.specs.Map.{Map, moved_row, offsets_in}
-use Rattle.map_compose.specs.Composed.{composed}
-use Rattle.map_compose.specs.Sizes.{SizesAgree}
-use Rattle.ppdb_values.specs.declared.file.FileValue.{FileValue}
-use Rattle.ppdb_values.specs.Links.{links}
-use Rattle.ppdb_values.specs.Meaning.{meaning}
+use Rattle.map_compose.specs.{Composed.composed, Sizes.SizesAgree}
+use Rattle.ppdb_values.specs.{declared.file.FileValue.FileValue, Links.links, Meaning.meaning}
 use Rattle.ppdb_merge_meaning_laws.specs.Kept.{MovedBy, FitsAlone, NamesMethod, joined_inputs}
 use Rattle.map_compose_laws.specs.Images.{without_edges, KeepsImages}
 

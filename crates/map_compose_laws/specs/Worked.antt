@@ -1,14 +1,8 @@
 -- A file that says after two steps the same as after one but for edges, and not wholly the same.
-use Rattle.std.specs.Prelude.{◌≡◌, ℕ, List, [], ◌∷◌, Some}
-use Rattle.sequence_points.specs.declared.point.Point.{Point}
-use Rattle.sequence_points.specs.declared.point.Span.TheVariants.{Lines}
-use Rattle.ppdb_base.specs.declared.offsets.Run.{Run}
+use Rattle.ppdb_values.specs.Names.{◌≡◌, ℕ, List, [], ◌∷◌, Some, Point, Lines, Run}
 use Rattle.ppdb_maps.specs.Map.{Map, map_of}
-use Rattle.map_compose.specs.Composed.{composed}
-use Rattle.map_compose.specs.Sizes.{SizesAgree}
-use Rattle.ppdb_values.specs.declared.file.FileValue.{FileValue}
-use Rattle.ppdb_values.specs.declared.scope.VariableValue.{VariableValue}
-use Rattle.ppdb_values.specs.Meaning.{Meaning, ScopeMeaning, meaning}
+use Rattle.map_compose.specs.{Composed.composed, Sizes.SizesAgree}
+use Rattle.ppdb_values.specs.{declared.file.FileValue.FileValue, declared.scope.VariableValue.VariableValue, Meaning.{Meaning, ScopeMeaning, meaning}}
 use Rattle.ppdb_values.specs.WorkedSmall.{small_value, small_document, outer_scope, inner_scope, variable_x, variable_y}
 use Rattle.map_compose_laws.specs.Steps.{StepsFit, rewritten}
 

@@ -1,19 +1,10 @@
 -- What the functions that read the root say to one another.
-use Rattle.std.specs.Prelude.{◌≡◌, ◌≢◌, ℕ, ◌+◌, ◌<◌, ◌≤◌, ◌⊎◌, List, length, take, drop, codes, option_map, Option, Some, None, IsSome}
-use Rattle.std.specs.Prelude.{MatchOption, nat_lt, if◌then◌else◌}
-use Rattle.ppdb_base.specs.declared.code.Code.{Code}
-use Rattle.ppdb_base.specs.declared.code.Code.TheVariants.{RootTruncated, StreamName, StreamUnknown, StreamRepeated}
-use Rattle.ppdb_base.specs.declared.fault.Fault.{Fault}
-use Rattle.ppdb_base.specs.Place.{at_byte}
-use Rattle.metadata_root.specs.declared.kind.StreamKind.{StreamKind}
-use Rattle.metadata_root.specs.declared.kind.StreamKind.TheVariants.{Pdb, Tables, Strings, UserStrings, Guids, Blobs}
+use Rattle.std.specs.Prelude.{◌≡◌, ◌≢◌, ℕ, ◌+◌, ◌<◌, ◌≤◌, ◌⊎◌, List, length, take, drop, codes, option_map, Option, Some, None, IsSome, MatchOption, nat_lt, if◌then◌else◌}
+use Rattle.ppdb_base.specs.{declared.code.Code.{Code, TheVariants.{RootTruncated, StreamName, StreamUnknown, StreamRepeated}}, declared.fault.Fault.Fault, Place.at_byte}
+use Rattle.metadata_root.specs.{declared.kind.StreamKind.{StreamKind, TheVariants.{Pdb, Tables, Strings, UserStrings, Guids, Blobs}}, declared.root.Root.TheInside.Inside}
+use Rattle.metadata_root.specs.{declared.header.{Extent.Extent, Listing.Listing}, Fields.number_at}
+use Rattle.metadata_root.specs.{Root.{name_at, name_len, name_of, IsInvalidName, name_place, header_place, BeginsWith, stream_count}, Streams.{offset_in, size_in, Stream, Streams}}
 use Rattle.metadata_root.specs.declared.stream.Stream as stream
-use Rattle.metadata_root.specs.declared.root.Root.TheInside.{Inside}
-use Rattle.metadata_root.specs.declared.header.Extent.{Extent}
-use Rattle.metadata_root.specs.declared.header.Listing.{Listing}
-use Rattle.metadata_root.specs.Fields.{number_at}
-use Rattle.metadata_root.specs.Root.{name_at, name_len, name_of, IsInvalidName, name_place, header_place, BeginsWith, stream_count}
-use Rattle.metadata_root.specs.Streams.{offset_in, size_in, Stream, Streams}
 
 -- what a listing has of a stream
 abbrev pub listed : Listing → StreamKind → Option Extent

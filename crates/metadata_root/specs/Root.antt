@@ -1,15 +1,8 @@
 -- The metadata root and its stream headers (ECMA-335 II.24.2.1 and II.24.2.2), and what is wrong with them.
-use Rattle.std.specs.Prelude.{◌≡◌, ◌≢◌, ℕ, zero, suc, ◌+◌, ◌*◌, ◌/◌, ◌<◌, ◌≤◌, ◌⊎◌, List, [], ◌∷◌, ◌++◌, length, take, drop, sum, nat_lt}
-use Rattle.std.specs.Prelude.{◌==◌, if◌then◌else◌, Any, codes}
-use Rattle.std.specs.List.{before_first}
-use Rattle.ppdb_base.specs.declared.code.Code.{Code}
-use Rattle.ppdb_base.specs.declared.code.Code.TheVariants.{NotMetadata, WindowsPdb, RootTruncated, StreamName, StreamUnknown, StreamRepeated}
-use Rattle.ppdb_base.specs.declared.fault.Place.{Place}
-use Rattle.ppdb_base.specs.Place.{at_byte}
-use Rattle.metadata_root.specs.declared.kind.StreamKind.{StreamKind}
-use Rattle.metadata_root.specs.declared.kind.StreamKind.TheVariants.{Pdb, Tables, Strings, UserStrings, Guids, Blobs}
+use Rattle.std.specs.{Prelude.{◌≡◌, ◌≢◌, ℕ, zero, suc, ◌+◌, ◌*◌, ◌/◌, ◌<◌, ◌≤◌, ◌⊎◌, List, [], ◌∷◌, ◌++◌, length, take, drop, sum, nat_lt, ◌==◌, if◌then◌else◌, Any, codes}, List.before_first}
+use Rattle.ppdb_base.specs.{declared.code.Code.{Code, TheVariants.{NotMetadata, WindowsPdb, RootTruncated, StreamName, StreamUnknown, StreamRepeated}}, declared.fault.Place.Place, Place.at_byte}
 use Rattle.ppdb_base.specs.Fields.{IsField}
-use Rattle.metadata_root.specs.Fields.{number_at}
+use Rattle.metadata_root.specs.{declared.kind.StreamKind.{StreamKind, TheVariants.{Pdb, Tables, Strings, UserStrings, Guids, Blobs}}, Fields.number_at}
 
 -- the file begins with the text
 abbrev pub BeginsWith : List ℕ → List ℕ → Type 0

@@ -1,14 +1,7 @@
 -- The streams that a root lists (ECMA-335 II.24.2.2), and what is wrong with them.
-use Rattle.std.specs.Prelude.{◌≡◌, ℕ, ◌+◌, ◌<◌, ◌≤◌, List, length, take, drop, Option, MatchOption, []}
-use Rattle.std.specs.Option.{option_map_or}
-use Rattle.ppdb_base.specs.declared.code.Code.{Code}
-use Rattle.ppdb_base.specs.declared.code.Code.TheVariants.{StreamBounds, StreamMissing}
-use Rattle.ppdb_base.specs.declared.fault.Place.{Place}
-use Rattle.ppdb_base.specs.Place.{at_byte}
-use Rattle.ppdb_base.specs.First.{Then}
-use Rattle.metadata_root.specs.declared.kind.StreamKind.{StreamKind}
-use Rattle.metadata_root.specs.declared.kind.StreamKind.TheVariants.{Pdb, Tables, Strings, UserStrings, Guids, Blobs}
-use Rattle.metadata_root.specs.Fields.{number_at}
+use Rattle.std.specs.{Prelude.{◌≡◌, ℕ, ◌+◌, ◌<◌, ◌≤◌, List, length, take, drop, Option, MatchOption, []}, Option.option_map_or}
+use Rattle.ppdb_base.specs.{declared.code.Code.{Code, TheVariants.{StreamBounds, StreamMissing}}, declared.fault.Place.Place, Place.at_byte, First.Then}
+use Rattle.metadata_root.specs.{declared.kind.StreamKind.{StreamKind, TheVariants.{Pdb, Tables, Strings, UserStrings, Guids, Blobs}}, Fields.number_at}
 use Rattle.metadata_root.specs.Root.{RootFaults, stream_count, header_place, name_at, name_of, name_place}
 
 -- header k lists the stream

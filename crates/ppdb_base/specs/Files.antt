@@ -1,11 +1,7 @@
 -- The files of a folder, where it reports what they hold.
-use Rattle.std.specs.Prelude.{ℕ, ◌≡◌, ◌⊎◌, List, ◌++◌, Option, None, Some, Result, Ok, Err, if◌then◌else◌, nat_lt, length}
-use Rattle.std.specs.Option.{option_map}
-use Rattle.std.specs.Cmp.Lexicographic.{slice_cmp}
-use Rattle.std.specs.Ordering.{nat_cmp}
+use Rattle.std.specs.{Prelude.{ℕ, ◌≡◌, ◌⊎◌, List, ◌++◌, Option, None, Some, Result, Ok, Err, if◌then◌else◌, nat_lt, length, option_map}, Cmp.Lexicographic.slice_cmp, Ordering.nat_cmp}
 use Rattle.std.specs.FinMap.{FinMap, get, insert}
-use Rattle.ppdb_base.specs.declared.folder.ReadError.{ReadError}
-use Rattle.ppdb_base.specs.declared.folder.ReadError.TheVariants.{Absent, TooLong, Failed, Memory}
+use Rattle.ppdb_base.specs.declared.folder.ReadError.{ReadError, TheVariants.{Absent, TooLong, Failed, Memory}}
 
 -- the contents of each file by its name, both as bytes
 abbrev pub Files : Type 0

@@ -6,7 +6,6 @@ pub mod First
 pub mod Offsets
 pub mod Place
 pub mod Plan
-pub mod Prelude
 pub mod Steady
 pub mod Told
 pub mod Written

@@ -1,33 +1,18 @@
 -- Why a file is not written, and what of a value can be.
-use Rattle.std.specs.Prelude.{◌≡◌, ◌≤◌, [], ◌∷◌, fold, length, take, Option, Some, None, All}
-use Rattle.std.specs.List.{filter_map}
-use Rattle.sequence_points.specs.Written.{CanBeWritten, first_of}
-use Rattle.type_blobs.specs.Types.{IsToken}
-use Rattle.type_blobs.specs.Spelling.{IsBody}
-use Rattle.ppdb_base.specs.declared.limits.Limit.{Limit}
-use Rattle.ppdb_tables.specs.declared.head.PdbHead.{PdbHead}
-use Rattle.ppdb_values.specs.declared.file.FileValue.{FileValue}
-use Rattle.ppdb_values.specs.declared.file.MethodValue.{MethodValue}
-use Rattle.ppdb_values.specs.declared.scope.ScopeValue.{ScopeValue}
-use Rattle.ppdb_values.specs.declared.scope.ConstantValue.{ConstantValue}
-use Rattle.ppdb_values.specs.declared.import.ImportScopeValue.{ImportScopeValue}
-use Rattle.ppdb_values.specs.declared.custom.CustomValue.{CustomValue}
-use Rattle.ppdb_values_sound_laws.specs.Scopes.{stored_body}
-use Rattle.ppdb_values.specs.Types.{HasTypes}
-use Rattle.ppdb_values_sound_laws.specs.Sound.{IsSound}
-use Rattle.ppdb_values_sound_laws.specs.Writing.{HasSpelling, IsWritable}
+use Rattle.ppdb_values.specs.Names.{◌≡◌, ◌≤◌, [], ◌∷◌, fold, length, take, Option, Some, None, All, filter_map, CanBeWritten, first_of, IsToken, IsBody, Limit, PdbHead}
+use Rattle.ppdb_values.specs.{declared.file.{FileValue.FileValue, MethodValue.MethodValue}, declared.scope.{ScopeValue.ScopeValue, ConstantValue.ConstantValue}}
+use Rattle.ppdb_values.specs.{declared.import.ImportScopeValue.ImportScopeValue, declared.custom.CustomValue.CustomValue, Types.HasTypes}
+use Rattle.ppdb_values_sound_laws.specs.{Scopes.stored_body, Sound.IsSound, Writing.{HasSpelling, IsWritable}}
 use Rattle.ppdb_build_canon.specs.Limits.{first_met, too_many_rows, tables, list_past_end, large_offset, large_step_of, first_limit}
-use Rattle.ppdb_build_draft.specs.Draft.{Draft, with_scope, with_constants, with_import, with_machine, with_custom}
-use Rattle.ppdb_build_draft.specs.Drafted.{IsDraftOf}
-use Rattle.ppdb_build.specs.declared.error.BuildError.{BuildError}
-use Rattle.ppdb_build.specs.declared.error.BuildError.TheVariants.{Limit as Passed, Memory}
+use Rattle.ppdb_build_draft.specs.{Draft.{Draft, with_scope, with_constants, with_import, with_machine, with_custom}, Drafted.IsDraftOf}
+use Rattle.ppdb_build.specs.declared.error.BuildError.{BuildError, TheVariants.{Limit as Passed, Memory}}
 
 -- a refusal that names a limit names this one
 abbrev pub IsLimit : Option Limit → BuildError → Type 0
 IsLimit limit (Passed passed) = limit ≡ Some passed
 IsLimit limit Memory = Unit {0}
 
--- it names the first limit that the value passes
+-- a refusal that names a limit names the first that the value passes
 abbrev pub IsLimitOf : FileValue → BuildError → Type 0
 IsLimitOf value error = IsLimit (first_limit value) error
 

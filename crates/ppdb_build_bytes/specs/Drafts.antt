@@ -1,19 +1,12 @@
 -- The file of a draft (Portable PDB v1.0, "#Pdb stream" and "#~ stream").
-use Rattle.std.specs.Prelude.{◌≡◌, ◌≤◌, All, ℕ, List, [], ◌∷◌, ◌++◌, length, take, flat_map, replicate}
-use Rattle.ppdb_tables.specs.RawTables.{RawTables}
-use Rattle.ppdb_values.specs.RawFile.{RawFile}
+use Rattle.ppdb_values.specs.Names.{◌≡◌, ◌≤◌, All, ℕ, List, [], ◌∷◌, ◌++◌, length, take, flat_map, replicate, RawTables}
+use Rattle.ppdb_values.specs.{RawFile.RawFile, Types.IsGuid}
 use Rattle.ppdb_build_heaps.specs.Items.{as_text, as_blob}
-use Rattle.ppdb_build_layout.specs.declared.rows.Rows.{Rows}
-use Rattle.ppdb_build_layout.specs.Bytes.{padded, file_bytes, sizes_of}
-use Rattle.ppdb_build_layout.specs.Laid.{AllRowsFit}
+use Rattle.ppdb_build_layout.specs.{declared.rows.Rows.Rows, Bytes.{padded, file_bytes, sizes_of}, Laid.AllRowsFit}
 use Rattle.sha2.specs.Sha256.{sha256}
-use Rattle.ppdb_values.specs.Types.{IsGuid}
-use Rattle.ppdb_build_canon.specs.declared.choice.IdChoice.{IdChoice}
-use Rattle.ppdb_build_canon.specs.declared.choice.IdChoice.TheVariants.{Hash, Keep}
-use Rattle.ppdb_build_canon.specs.Canon.{id_from}
+use Rattle.ppdb_build_canon.specs.{declared.choice.IdChoice.{IdChoice, TheVariants.{Hash, Keep}}, Canon.id_from}
 use Rattle.ppdb_build_items.specs.Interned.{cell}
-use Rattle.ppdb_build_draft.specs.Draft.{Draft}
-use Rattle.ppdb_build_draft.specs.Heaps.{heap_lens_of}
+use Rattle.ppdb_build_draft.specs.{Draft.Draft, Heaps.heap_lens_of}
 
 -- the row counts of the debug tables alone
 abbrev pub debug_counts_of : Rows → List ℕ

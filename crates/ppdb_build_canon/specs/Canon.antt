@@ -3,9 +3,7 @@ use Rattle.std.specs.Prelude.{ℕ, List, take, set, replicate, slice_index, bit_
 use Rattle.sha2.specs.Sha256.{sha256}
 use Rattle.ppdb_values.specs.declared.file.FileValue.{FileValue}
 use Rattle.ppdb_build_layout.specs.Bytes.{file_bytes}
-use Rattle.ppdb_build_canon.specs.declared.choice.IdChoice.{IdChoice}
-use Rattle.ppdb_build_canon.specs.declared.choice.IdChoice.TheVariants.{Hash, Keep}
-use Rattle.ppdb_build_canon.specs.Canonical.{canonical}
+use Rattle.ppdb_build_canon.specs.{declared.choice.IdChoice.{IdChoice, TheVariants.{Hash, Keep}}, Canonical.canonical}
 
 -- An identity from a digest: its first 20 bytes. In the GUID of the first 16, the high half of byte 7 is 4 and the two high bits of byte 8 are 10,
 -- as in a random one (version 4); the high bit of byte 19, the last of the stamp, is set.

@@ -1,28 +1,11 @@
 -- The rows and heaps of the one file of a value (Portable PDB v1.0, "Metadata Tables").
-use Rattle.std.specs.Prelude.{ℕ, ◌+◌, ◌-◌, List, [], ◌∷◌, ◌++◌, length, take, map, flat_map, replicate, slice_index, bytes_eq, Option, Some, None}
-use Rattle.std.specs.List.{range_with_len, position_or_len}
-use Rattle.sequence_points.specs.Points.{common_document}
-use Rattle.ppdb_tables.specs.declared.rows.DocumentRow.{DocumentRow}
-use Rattle.ppdb_tables.specs.declared.rows.MethodDebugRow.{MethodDebugRow}
-use Rattle.ppdb_tables.specs.declared.rows.ScopeRow.{ScopeRow}
-use Rattle.ppdb_tables.specs.declared.rows.VariableRow.{VariableRow}
-use Rattle.ppdb_tables.specs.declared.rows.ConstantRow.{ConstantRow}
-use Rattle.ppdb_tables.specs.declared.rows.ImportRow.{ImportRow}
-use Rattle.ppdb_tables.specs.declared.rows.CustomRow.{CustomRow}
-use Rattle.ppdb_tables.specs.RawTables.{RawTables, numbered}
-use Rattle.ppdb_values.specs.declared.file.FileValue.{FileValue}
-use Rattle.ppdb_values.specs.declared.file.DocumentValue.{DocumentValue}
-use Rattle.ppdb_values.specs.declared.file.MethodValue.{MethodValue}
-use Rattle.ppdb_values.specs.declared.scope.ScopeValue.{ScopeValue}
-use Rattle.ppdb_values.specs.declared.scope.VariableValue.{VariableValue}
-use Rattle.ppdb_values.specs.declared.scope.ConstantValue.{ConstantValue}
-use Rattle.ppdb_values.specs.declared.import.ImportScopeValue.{ImportScopeValue}
-use Rattle.ppdb_values.specs.declared.custom.CustomValue.{CustomValue}
-use Rattle.ppdb_values.specs.Parts.{method_at, first_item}
+use Rattle.ppdb_values.specs.Names.{ℕ, ◌+◌, ◌-◌, List, [], ◌∷◌, ◌++◌, length, take, map, flat_map, replicate, slice_index, bytes_eq, Option, Some, None, range_with_len, position_or_len}
+use Rattle.ppdb_values.specs.Names.{common_document, DocumentRow, MethodDebugRow, ScopeRow, VariableRow, ConstantRow, ImportRow, CustomRow, RawTables, numbered}
+use Rattle.ppdb_values.specs.{declared.file.{FileValue.FileValue, DocumentValue.DocumentValue, MethodValue.MethodValue}, declared.scope.{ScopeValue.ScopeValue, VariableValue.VariableValue}}
+use Rattle.ppdb_values.specs.{declared.scope.ConstantValue.ConstantValue, declared.import.ImportScopeValue.ImportScopeValue, declared.custom.CustomValue.CustomValue, Parts.{method_at, first_item}}
 use Rattle.ppdb_values.specs.RawFile.{RawFile}
 use Rattle.ppdb_values_sound_laws.specs.Customs.{coded_of}
-use Rattle.ppdb_build_heaps.specs.Items.{index_of, as_text, as_blob}
-use Rattle.ppdb_build_heaps.specs.Uses.{Piece, plain, blob_bytes}
+use Rattle.ppdb_build_heaps.specs.{Items.{index_of, as_text, as_blob}, Uses.{Piece, plain, blob_bytes}}
 use Rattle.ppdb_build_layout.specs.Bytes.{padded}
 use Rattle.ppdb_build_canon.specs.Uses.{texts, guids, blobs, name_pieces, method_blob, constant_blob, import_blob, custom_blob, variables_of, constants_of}
 

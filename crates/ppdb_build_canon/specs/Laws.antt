@@ -1,11 +1,8 @@
 -- What is promised of the one file of a value.
 use Rattle.std.specs.Prelude.{◌≡◌, ℕ, List, ◌++◌, length, take, drop}
-use Rattle.ppdb_values.specs.declared.file.FileValue.{FileValue}
-use Rattle.ppdb_values.specs.RawFile.{RawFile}
+use Rattle.ppdb_values.specs.{declared.file.FileValue.FileValue, RawFile.RawFile}
 use Rattle.ppdb_build_layout.specs.Bytes.{file_bytes}
-use Rattle.ppdb_build_canon.specs.declared.choice.IdChoice.{IdChoice}
-use Rattle.ppdb_build_canon.specs.Canonical.{canonical}
-use Rattle.ppdb_build_canon.specs.Canon.{chosen_id, canon, with_id}
+use Rattle.ppdb_build_canon.specs.{declared.choice.IdChoice.IdChoice, Canonical.canonical, Canon.{chosen_id, canon, with_id}}
 
 -- The rows and heaps do not depend on the value's identity: with the identity that is chosen, the value has the same file.
 pub record CanonicalFilesForgetIds : Type 0 where

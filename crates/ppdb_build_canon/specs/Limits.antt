@@ -1,19 +1,10 @@
 -- What is too large to be written.
-use Rattle.std.specs.Prelude.{◌≡◌, ◌<◌, ◌≤◌, All, ℕ, ◌+◌, ◌==◌, ◌&&◌, Bool, false, slice_index, List, [], ◌∷◌, length, sum_by, nat_lt, nat_le, find, option_map}
-use Rattle.std.specs.Prelude.{Option, Some, None, if◌then◌else◌}
-use Rattle.std.specs.Option.{option_or}
-use Rattle.std.specs.List.{filter_map, Contains}
-use Rattle.sequence_points.specs.Written.{large_steps, first_of, last_of}
-use Rattle.ppdb_values.specs.declared.file.FileValue.{FileValue}
-use Rattle.ppdb_values.specs.declared.file.MethodValue.{MethodValue}
-use Rattle.ppdb_values.specs.declared.scope.ScopeValue.{ScopeValue}
+use Rattle.ppdb_values.specs.Names.{◌≡◌, ◌<◌, ◌≤◌, All, ℕ, ◌+◌, ◌==◌, ◌&&◌, Bool, false, slice_index, List, [], ◌∷◌, length, sum_by, nat_lt, nat_le, find, option_map, Option, Some, None}
+use Rattle.ppdb_values.specs.Names.{if◌then◌else◌, option_or, filter_map, Contains, large_steps, first_of, last_of, Limit, TableRows, ListPastEnd, PointOffset, LineStep, FileSize, SpanTotal, told}
+use Rattle.ppdb_values.specs.{declared.file.{FileValue.FileValue, MethodValue.MethodValue}, declared.scope.ScopeValue.ScopeValue}
 use Rattle.ppdb_build_layout.specs.Bytes.{file_bytes}
-use Rattle.ppdb_base.specs.declared.limits.Limit.{Limit}
-use Rattle.ppdb_base.specs.declared.limits.Limit.TheVariants.{TableRows, ListPastEnd, PointOffset, LineStep, FileSize, SpanTotal}
-use Rattle.ppdb_base.specs.Told.{told}
 use Rattle.ppdb_build_heaps.specs.Uses.{blob_bytes}
-use Rattle.ppdb_build_canon.specs.Uses.{blobs, blob_uses, text_uses}
-use Rattle.ppdb_build_canon.specs.Canonical.{canonical, counts}
+use Rattle.ppdb_build_canon.specs.{Uses.{blobs, blob_uses, text_uses}, Canonical.{canonical, counts}}
 
 abbrev pub above : ℕ → (ℕ → Limit) → ℕ → Option Limit
 above most limit number = if nat_lt most number then Some (limit (told number)) else None

@@ -1,30 +1,14 @@
 -- Which texts, GUIDs and blobs the file of a value names, in the order of table, row and column (Portable PDB v1.0, "Metadata
 -- Tables" and the formats of its blobs; ECMA-335 II.24.2.3 to II.24.2.5).
-use Rattle.std.specs.Prelude.{ℕ, List, [], ◌∷◌, ◌++◌, map, flat_map, option_to_list, ◌==◌, if◌then◌else◌}
-use Rattle.std.specs.List.{list_any, slice_split}
-use Rattle.cli_ints.specs.Shortest.{short_unsigned}
-use Rattle.sequence_points.specs.Written.{points_blob}
-use Rattle.type_blobs.specs.declared.types.TypeToken.{TypeToken}
+use Rattle.ppdb_values.specs.Names.{ℕ, List, [], ◌∷◌, ◌++◌, map, flat_map, option_to_list, ◌==◌, if◌then◌else◌, list_any, slice_split, short_unsigned, points_blob, TypeToken, constant_spelling}
+use Rattle.ppdb_values.specs.Names.{async_spelling, slots_spelling, rows_spelling}
 use Rattle.type_blobs.specs.Types.{number_of}
-use Rattle.type_blobs.specs.Spelling.{constant_spelling}
-use Rattle.custom_info.specs.AsyncStepping.{async_spelling}
-use Rattle.custom_info.specs.HoistedScopes.{slots_spelling}
-use Rattle.custom_info.specs.TypeDocuments.{rows_spelling}
-use Rattle.ppdb_values.specs.declared.file.FileValue.{FileValue}
-use Rattle.ppdb_values.specs.declared.file.DocumentValue.{DocumentValue}
-use Rattle.ppdb_values.specs.declared.file.MethodValue.{MethodValue}
-use Rattle.ppdb_values.specs.declared.scope.ConstantValue.{ConstantValue}
-use Rattle.ppdb_values.specs.declared.scope.VariableValue.{VariableValue}
-use Rattle.ppdb_values.specs.declared.import.ImportScopeValue.{ImportScopeValue}
-use Rattle.ppdb_values.specs.declared.import.ImportValue.{ImportValue}
-use Rattle.ppdb_values.specs.declared.import.ImportValue.TheVariants.{Namespace, AssemblyNamespace, Target, Xml, Alias, AssemblyAlias, NamespaceAlias}
-use Rattle.ppdb_values.specs.declared.import.ImportValue.TheVariants.{AssemblyNamespaceAlias, TargetAlias}
-use Rattle.ppdb_values.specs.declared.custom.CustomBody.{CustomBody}
-use Rattle.ppdb_values.specs.declared.custom.CustomBody.TheVariants.{Async, Hoisted, TypeDocuments, Unread}
-use Rattle.ppdb_values.specs.declared.custom.CustomValue.{CustomValue}
+use Rattle.ppdb_values.specs.{declared.file.{FileValue.FileValue, DocumentValue.DocumentValue, MethodValue.MethodValue}, declared.scope.{ConstantValue.ConstantValue, VariableValue.VariableValue}}
+use Rattle.ppdb_values.specs.declared.import.{ImportScopeValue.ImportScopeValue, ImportValue.ImportValue}
+use Rattle.ppdb_values.specs.declared.import.ImportValue.TheVariants.{Namespace, AssemblyNamespace, Target, Xml, Alias, AssemblyAlias, NamespaceAlias, AssemblyNamespaceAlias, TargetAlias}
+use Rattle.ppdb_values.specs.declared.custom.{CustomBody.{CustomBody, TheVariants.{Async, Hoisted, TypeDocuments, Unread}}, CustomValue.CustomValue}
 use Rattle.ppdb_values_sound_laws.specs.Scopes.{stored_body}
-use Rattle.ppdb_build_heaps.specs.Items.{first_uses}
-use Rattle.ppdb_build_heaps.specs.Uses.{Piece, octets, index, plain, with_held, heap_of}
+use Rattle.ppdb_build_heaps.specs.{Items.first_uses, Uses.{Piece, octets, index, plain, with_held, heap_of}}
 
 -- ---- names ("Document Name Blob")
 

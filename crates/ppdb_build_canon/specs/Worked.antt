@@ -1,16 +1,8 @@
 -- Three worked files and their values, and values that are too large to be written.
-use Rattle.std.specs.Prelude.{◌≡◌, ℕ, List, [], ◌∷◌, None, Some, pos}
+use Rattle.ppdb_values.specs.Names.{◌≡◌, ℕ, List, [], ◌∷◌, None, Some, pos, Point, Lines, PointOffset, LineStep}
 use Rattle.tests_files.specs.declared.TheConstants.{EMPTY, SMALL, PROGRAM}
-use Rattle.sequence_points.specs.declared.point.Point.{Point}
-use Rattle.sequence_points.specs.declared.point.Span.TheVariants.{Lines}
-use Rattle.ppdb_values.specs.declared.file.FileValue.{FileValue}
-use Rattle.ppdb_values.specs.WorkedSmall.{zeros, empty_value, small_value, empty_file, small_file}
-use Rattle.ppdb_values.specs.WorkedProgram.{program_value, program_file}
-use Rattle.ppdb_build_canon.specs.declared.choice.IdChoice.TheVariants.{Keep}
-use Rattle.ppdb_base.specs.declared.limits.Limit.TheVariants.{PointOffset, LineStep}
-use Rattle.ppdb_build_canon.specs.Canon.{canon}
-use Rattle.ppdb_build_canon.specs.Canonical.{canonical}
-use Rattle.ppdb_build_canon.specs.Limits.{first_limit}
+use Rattle.ppdb_values.specs.{declared.file.FileValue.FileValue, WorkedSmall.{zeros, empty_value, small_value, empty_file, small_file}, WorkedProgram.{program_value, program_file}}
+use Rattle.ppdb_build_canon.specs.{declared.choice.IdChoice.TheVariants.Keep, Canon.canon, Canonical.canonical, Limits.first_limit}
 
 -- the small value with points at these offsets and lines
 abbrev pub point_at : ℕ → ℕ → Point

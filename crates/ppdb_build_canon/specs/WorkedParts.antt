@@ -1,16 +1,8 @@
 -- Worked parts of files: names and their blobs, points in two documents, and a list that begins past its table.
-use Rattle.std.specs.Prelude.{◌≡◌, ℕ, ◌∷◌, [], List, codes, flat_map, replicate, None, Some}
-use Rattle.sequence_points.specs.declared.point.Point.{Point}
-use Rattle.sequence_points.specs.declared.point.Span.{Span}
-use Rattle.sequence_points.specs.declared.point.Span.TheVariants.{Hidden, Lines}
-use Rattle.ppdb_base.specs.declared.limits.Limit.TheVariants.{ListPastEnd}
-use Rattle.ppdb_values.specs.declared.file.FileValue.{FileValue}
-use Rattle.ppdb_values.specs.declared.file.DocumentValue.{DocumentValue}
-use Rattle.ppdb_values.specs.WorkedSmall.{empty_value, small_value, variable_x, outer_scope, inner_scope}
+use Rattle.ppdb_values.specs.Names.{◌≡◌, ℕ, ◌∷◌, [], List, codes, flat_map, replicate, None, Some, Point, Span, Hidden, Lines, ListPastEnd}
+use Rattle.ppdb_values.specs.{declared.file.{FileValue.FileValue, DocumentValue.DocumentValue}, WorkedSmall.{empty_value, small_value, variable_x, outer_scope, inner_scope}}
 use Rattle.ppdb_build_heaps.specs.Items.{as_blob}
-use Rattle.ppdb_build_canon.specs.Canonical.{canonical_tables}
-use Rattle.ppdb_build_canon.specs.Limits.{first_limit}
-use Rattle.ppdb_build_canon.specs.Uses.{blobs}
+use Rattle.ppdb_build_canon.specs.{Canonical.canonical_tables, Limits.first_limit, Uses.blobs}
 
 -- ---- names
 

@@ -1,19 +1,9 @@
 -- A file that is drafted part by part: the items that its heaps have so far, and its rows, whose cells hold the places that the
 -- items got when they were noted (Portable PDB v1.0, "Metadata Tables").
-use Rattle.std.specs.Prelude.{ℕ, ◌+◌, ◌-◌, List, [], ◌∷◌, ◌++◌, length, fold, replicate, Some}
-use Rattle.custom_info.specs.declared.slots.Range.{Range}
-use Rattle.sequence_points.specs.Points.{common_document}
-use Rattle.ppdb_tables.specs.declared.rows.MachineRow.{MachineRow}
-use Rattle.ppdb_tables.specs.declared.rows.MethodDebugRow.{MethodDebugRow}
-use Rattle.ppdb_values.specs.declared.file.DocumentValue.{DocumentValue}
-use Rattle.ppdb_values.specs.declared.file.MethodValue.{MethodValue}
-use Rattle.ppdb_values.specs.declared.scope.ScopeValue.{ScopeValue}
-use Rattle.ppdb_values.specs.declared.scope.VariableValue.{VariableValue}
-use Rattle.ppdb_values.specs.declared.scope.ConstantValue.{ConstantValue}
-use Rattle.ppdb_values.specs.declared.import.ImportScopeValue.{ImportScopeValue}
-use Rattle.ppdb_values.specs.declared.custom.CustomValue.{CustomValue}
+use Rattle.ppdb_values.specs.Names.{ℕ, ◌+◌, ◌-◌, List, [], ◌∷◌, ◌++◌, length, fold, replicate, Some, Range, common_document, MachineRow, MethodDebugRow, told}
+use Rattle.ppdb_values.specs.{declared.file.{DocumentValue.DocumentValue, MethodValue.MethodValue}, declared.scope.{ScopeValue.ScopeValue, VariableValue.VariableValue, ConstantValue.ConstantValue}}
+use Rattle.ppdb_values.specs.{declared.import.ImportScopeValue.ImportScopeValue, declared.custom.CustomValue.CustomValue}
 use Rattle.ppdb_values_sound_laws.specs.Customs.{coded_of}
-use Rattle.ppdb_base.specs.Told.{told}
 use Rattle.ppdb_build_heaps.specs.Uses.{plain}
 use Rattle.ppdb_build_layout.specs.declared.rows.Rows.{Rows}
 use Rattle.ppdb_build_canon.specs.Uses.{name_pieces, method_blob, signature_of, import_blob, custom_blob}

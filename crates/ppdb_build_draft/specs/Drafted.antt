@@ -1,23 +1,11 @@
 -- The draft of a value, and what it holds: the heaps and rows of the value's file, whose cells have four bytes.
-use Rattle.std.specs.Prelude.{◌≡◌, ◌+◌, map, fold, slice_index}
-use Rattle.ppdb_tables.specs.declared.rows.DocumentRow.{DocumentRow}
-use Rattle.ppdb_tables.specs.declared.rows.MethodDebugRow.{MethodDebugRow}
-use Rattle.ppdb_tables.specs.declared.rows.ScopeRow.{ScopeRow}
-use Rattle.ppdb_tables.specs.declared.rows.VariableRow.{VariableRow}
-use Rattle.ppdb_tables.specs.declared.rows.ConstantRow.{ConstantRow}
-use Rattle.ppdb_tables.specs.declared.rows.ImportRow.{ImportRow}
-use Rattle.ppdb_tables.specs.declared.rows.CustomRow.{CustomRow}
-use Rattle.ppdb_tables.specs.RawTables.{RawTables}
+use Rattle.ppdb_values.specs.Names.{◌≡◌, ◌+◌, map, fold, slice_index, DocumentRow, MethodDebugRow, ScopeRow, VariableRow, ConstantRow, ImportRow, CustomRow, RawTables, told}
 use Rattle.ppdb_values.specs.declared.file.FileValue.{FileValue}
 use Rattle.ppdb_values_sound_laws.specs.Sound.{IsSound}
-use Rattle.ppdb_base.specs.Told.{told}
 use Rattle.ppdb_build_layout.specs.declared.rows.Rows.{Rows}
-use Rattle.ppdb_build_canon.specs.Uses.{texts, guids, blobs}
-use Rattle.ppdb_build_canon.specs.Canonical.{canonical_tables}
-use Rattle.ppdb_build_canon.specs.Limits.{span}
+use Rattle.ppdb_build_canon.specs.{Uses.{texts, guids, blobs}, Canonical.canonical_tables, Limits.span}
 use Rattle.ppdb_build_items.specs.Interned.{cell}
-use Rattle.ppdb_build_draft.specs.Draft.{Draft, empty_draft, with_document, with_method, with_all_methods, with_scope, with_constants}
-use Rattle.ppdb_build_draft.specs.Draft.{with_import, with_machine, with_custom}
+use Rattle.ppdb_build_draft.specs.Draft.{Draft, empty_draft, with_document, with_method, with_all_methods, with_scope, with_constants, with_import, with_machine, with_custom}
 
 -- all parts, table by table; the names of all variables come before those of the constants
 abbrev pub with_documents : FileValue → Draft

@@ -1,8 +1,7 @@
 -- How many bytes the heaps of a draft take (ECMA-335 II.24.2.2).
 use Rattle.std.specs.Prelude.{◌*◌, length, flat_map}
 use Rattle.ppdb_build_heaps.specs.Items.{as_text, as_blob}
-use Rattle.ppdb_build_layout.specs.declared.rows.HeapLens.{HeapLens}
-use Rattle.ppdb_build_layout.specs.Bytes.{padded}
+use Rattle.ppdb_build_layout.specs.{declared.rows.HeapLens.HeapLens, Bytes.padded}
 use Rattle.ppdb_build_draft.specs.Draft.{Draft}
 
 -- with their padding; a GUID has 16 bytes

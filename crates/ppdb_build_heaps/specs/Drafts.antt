@@ -1,8 +1,6 @@
 -- Blobs as they are put together from pieces.
 use Rattle.std.specs.Prelude.{◌≡◌, ℕ, List, map}
-use Rattle.ppdb_build_heaps.specs.declared.draft.BlobPiece.{BlobPiece}
-use Rattle.ppdb_build_heaps.specs.declared.draft.BlobPiece.TheVariants.{Octets, Index}
-use Rattle.ppdb_build_heaps.specs.Uses.{Piece, octets, index, held_in, plain, blobs_after, blob_bytes}
+use Rattle.ppdb_build_heaps.specs.{declared.draft.BlobPiece.{BlobPiece, TheVariants.{Octets, Index}}, Uses.{Piece, octets, index, held_in, plain, blobs_after, blob_bytes}}
 
 abbrev pub piece_of : BlobPiece → Piece
 piece_of (Octets bytes) = octets bytes.now

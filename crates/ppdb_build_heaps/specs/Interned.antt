@@ -1,10 +1,7 @@
 -- What the code keeps of a heap: each item with its index, in order of first use.
 use Rattle.std.specs.Prelude.{ℕ, ◌≡◌, ◌<◌, List, map, length, take, sum_by, slice_index_or}
-use Rattle.ppdb_build_heaps.specs.declared.heap.HeapKind.{HeapKind}
-use Rattle.ppdb_build_heaps.specs.declared.item.Item.{Item}
-use Rattle.ppdb_build_heaps.specs.Items.{IsIn, index_of}
-use Rattle.ppdb_build_heaps.specs.Kinds.{spelled}
 use Rattle.ppdb_base.specs.Told.{told}
+use Rattle.ppdb_build_heaps.specs.{declared.heap.HeapKind.HeapKind, declared.item.Item.Item, Items.{IsIn, index_of}, Kinds.spelled}
 
 -- A heap as it is seen: its kind and its items.
 pub record Contents : Type 0 where

@@ -1,8 +1,6 @@
 -- How the items of a heap are spelled.
 use Rattle.std.specs.Prelude.{ℕ, List}
-use Rattle.ppdb_build_heaps.specs.declared.heap.HeapKind.{HeapKind}
-use Rattle.ppdb_build_heaps.specs.declared.heap.HeapKind.TheVariants.{Texts, Blobs}
-use Rattle.ppdb_build_heaps.specs.Items.{as_text, as_blob}
+use Rattle.ppdb_build_heaps.specs.{declared.heap.HeapKind.{HeapKind, TheVariants.{Texts, Blobs}}, Items.{as_text, as_blob}}
 
 abbrev pub spelled : HeapKind → List ℕ → List ℕ
 spelled Texts = as_text

@@ -1,11 +1,8 @@
 -- What is promised of a heap that is written.
-use Rattle.std.specs.Prelude.{◌≡◌, ◌≢◌, ℕ, ◌+◌, ◌<◌, ◌≤◌, List, [], ◌∷◌, ◌++◌, length, flat_map, bytes_eq, All, Some}
-use Rattle.std.specs.List.{position_or_len}
+use Rattle.std.specs.{Prelude.{◌≡◌, ◌≢◌, ℕ, ◌+◌, ◌<◌, ◌≤◌, List, [], ◌∷◌, ◌++◌, length, flat_map, bytes_eq, All, Some}, List.position_or_len}
 use Rattle.cli_ints.specs.Shortest.{short_unsigned}
 use Rattle.ppdb_heaps.specs.Heaps.{text_at, blob_at, guid_at}
-use Rattle.ppdb_build_heaps.specs.Items.{IsIn, with_use, index_of, as_text, as_blob, shortest}
-use Rattle.ppdb_build_heaps.specs.Uses.{Piece, octets, index, with_held, heap_of, blob_bytes, blobs_after}
-use Rattle.ppdb_build_heaps.specs.Drafts.{IsDraft}
+use Rattle.ppdb_build_heaps.specs.{Items.{IsIn, with_use, index_of, as_text, as_blob, shortest}, Uses.{Piece, octets, index, with_held, heap_of, blob_bytes, blobs_after}, Drafts.IsDraft}
 
 -- At an item's index the heap, with whatever stands after it, has the item. The first text and the first blob are empty.
 pub record WrittenItemsAreRead : Type 0 where

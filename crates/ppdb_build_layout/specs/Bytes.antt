@@ -1,25 +1,10 @@
 -- A file as its bytes (ECMA-335 II.24.2.1, II.24.2.2 and II.24.2.6; Portable PDB v1.0, "#Pdb stream" and "#~ stream").
-use Rattle.std.specs.Prelude.{ℕ, ◌+◌, ◌-◌, ◌%◌, ◌^◌, List, [], ◌∷◌, ◌++◌, length, filter, flat_map, replicate, sum_by, nat_lt, nat_le, ◌==◌, if◌then◌else◌}
-use Rattle.std.specs.Prelude.{codes, slice_index}
-use Rattle.std.specs.List.{range_with_len}
+use Rattle.ppdb_values.specs.Names.{ℕ, ◌+◌, ◌-◌, ◌%◌, ◌^◌, List, [], ◌∷◌, ◌++◌, length, filter, flat_map, replicate, sum_by, nat_lt, nat_le, ◌==◌, if◌then◌else◌, codes, slice_index, range_with_len}
+use Rattle.ppdb_values.specs.Names.{Column, Sizes, row_bytes, DocumentRow, MethodDebugRow, ScopeRow, VariableRow, ConstantRow, ImportRow, MachineRow, CustomRow, widths_of, document_columns}
+use Rattle.ppdb_values.specs.Names.{method_columns, scope_columns, variable_columns, constant_columns, import_columns, machine_columns, custom_columns, RawTables}
 use Rattle.byteorder.specs.Endian.{little_bytes}
-use Rattle.row_layout.specs.declared.column.Column.{Column}
-use Rattle.row_layout.specs.declared.column.Sizes.{Sizes}
-use Rattle.row_layout.specs.Rows.{row_bytes}
-use Rattle.ppdb_tables.specs.declared.rows.DocumentRow.{DocumentRow}
-use Rattle.ppdb_tables.specs.declared.rows.MethodDebugRow.{MethodDebugRow}
-use Rattle.ppdb_tables.specs.declared.rows.ScopeRow.{ScopeRow}
-use Rattle.ppdb_tables.specs.declared.rows.VariableRow.{VariableRow}
-use Rattle.ppdb_tables.specs.declared.rows.ConstantRow.{ConstantRow}
-use Rattle.ppdb_tables.specs.declared.rows.ImportRow.{ImportRow}
-use Rattle.ppdb_tables.specs.declared.rows.MachineRow.{MachineRow}
-use Rattle.ppdb_tables.specs.declared.rows.CustomRow.{CustomRow}
-use Rattle.ppdb_tables.specs.Layouts.{widths_of, document_columns, method_columns, scope_columns, variable_columns, constant_columns, import_columns}
-use Rattle.ppdb_tables.specs.Layouts.{machine_columns, custom_columns}
-use Rattle.ppdb_tables.specs.RawTables.{RawTables}
 use Rattle.ppdb_values.specs.RawFile.{RawFile}
-use Rattle.ppdb_build_layout.specs.declared.rows.Rows.{Rows}
-use Rattle.ppdb_build_layout.specs.declared.rows.HeapLens.{HeapLens}
+use Rattle.ppdb_build_layout.specs.declared.rows.{Rows.Rows, HeapLens.HeapLens}
 
 -- zeros up to a multiple of four (II.24.2.2)
 abbrev pub padding : ℕ → ℕ

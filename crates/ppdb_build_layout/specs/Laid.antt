@@ -1,19 +1,10 @@
 -- Which files can be laid out, and what is promised of one that is: read again, it is the same file.
-use Rattle.std.specs.Prelude.{◌≡◌, ℕ, ◌+◌, ◌<◌, ◌≤◌, ◌⊎◌, List, length, All, Some, None}
-use Rattle.ppdb_base.specs.First.{IsAccepted}
-use Rattle.metadata_root.specs.Streams.{Streams, AreStreamsOf, ContainerFaults}
-use Rattle.row_layout.specs.declared.column.Column.{Column}
-use Rattle.row_layout.specs.declared.column.Sizes.{Sizes}
-use Rattle.row_layout.specs.Rows.{Fit}
-use Rattle.ppdb_tables.specs.Head.{PdbFaults, head_in}
-use Rattle.ppdb_tables.specs.Layouts.{widths_of, document_columns, method_columns, scope_columns, variable_columns, constant_columns, import_columns}
-use Rattle.ppdb_tables.specs.Layouts.{machine_columns, custom_columns}
-use Rattle.ppdb_tables.specs.RawTables.{count, HasShape}
-use Rattle.ppdb_tables.specs.Tables.{TablesFaults}
+use Rattle.ppdb_values.specs.Names.{◌≡◌, ℕ, ◌+◌, ◌<◌, ◌≤◌, ◌⊎◌, List, length, All, Some, None, IsAccepted, Streams, AreStreamsOf, ContainerFaults, Column, Sizes, Fit, PdbFaults, head_in, widths_of}
+use Rattle.ppdb_values.specs.Names.{document_columns, method_columns, scope_columns, variable_columns, constant_columns, import_columns, machine_columns, custom_columns, count, HasShape, TablesFaults}
 use Rattle.ppdb_values.specs.RawFile.{RawFile, raw_in}
+use Rattle.ppdb_build_layout.specs.Bytes.{file_bytes, pdb_stream, tables_stream, sizes_of, rows_of, heaps_of, document_cells, method_cells, scope_cells, variable_cells, constant_cells, import_cells}
+use Rattle.ppdb_build_layout.specs.Bytes.{machine_cells, custom_cells}
 use Rattle.ppdb_build_layout.specs.declared.rows.Rows.{Rows}
-use Rattle.ppdb_build_layout.specs.Bytes.{file_bytes, pdb_stream, tables_stream, sizes_of, rows_of, heaps_of, document_cells, method_cells, scope_cells}
-use Rattle.ppdb_build_layout.specs.Bytes.{variable_cells, constant_cells, import_cells, machine_cells, custom_cells}
 
 -- each cell of each row fits the width of its column
 abbrev pub RowsFit : {X : Type 0} → Sizes → List Column → (X → List ℕ) → List X → Type 0

@@ -1,15 +1,9 @@
 -- Which limits a file that is read cannot pass (ECMA-335 II.24.2.6: below 65536 rows a table is indexed by two bytes; docs/FORMAT.md, 9).
-use Rattle.std.specs.Prelude.{◌≡◌, ◌<◌, ◌^◌, ℕ, All, List, [], ◌∷◌, length, Option, None}
-use Rattle.ppdb_base.specs.declared.limits.Limit.{Limit}
-use Rattle.ppdb_base.specs.declared.limits.Limit.TheVariants.{FileSize, SpanTotal}
+use Rattle.ppdb_values.specs.Names.{◌≡◌, ◌<◌, ◌^◌, ℕ, All, List, [], ◌∷◌, length, Option, None, Limit, FileSize, SpanTotal}
 use Rattle.ppdb_build_layout.specs.Bytes.{file_bytes}
-use Rattle.ppdb_values.specs.declared.file.FileValue.{FileValue}
-use Rattle.ppdb_values.specs.RawFile.{RawFile}
-use Rattle.ppdb_values.specs.Rules.{KeepsRules}
-use Rattle.ppdb_values.specs.Value.{value_of}
+use Rattle.ppdb_values.specs.{declared.file.FileValue.FileValue, RawFile.RawFile, Rules.KeepsRules, Value.value_of}
 use Rattle.ppdb_verify.specs.Files.{IsRawOf}
-use Rattle.ppdb_build_canon.specs.Canonical.{canonical}
-use Rattle.ppdb_build_canon.specs.Limits.{above, first_limit, first_met, list_past_end, span}
+use Rattle.ppdb_build_canon.specs.{Canonical.canonical, Limits.{above, first_limit, first_met, list_past_end, span}}
 use Rattle.ppdb_verify_valid_laws.specs.Valid.{IsValid}
 
 -- L2 is not met: the list of the last scope begins neither after 65535 variables nor after 65535 constants.

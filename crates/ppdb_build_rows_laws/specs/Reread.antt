@@ -1,14 +1,9 @@
 -- What the rows and heaps of a canonical file are: they keep the rules of the format, they can be laid out, and they say the value.
 use Rattle.std.specs.Prelude.{◌≡◌, ℕ, List, length, None}
-use Rattle.ppdb_values.specs.declared.file.FileValue.{FileValue}
-use Rattle.ppdb_values.specs.Rules.{KeepsRules}
-use Rattle.ppdb_values.specs.Types.{HasTypes}
-use Rattle.ppdb_values.specs.Value.{value_of}
+use Rattle.ppdb_values.specs.{declared.file.FileValue.FileValue, Rules.KeepsRules, Types.HasTypes, Value.value_of}
 use Rattle.ppdb_values_sound_laws.specs.Sound.{IsSound}
 use Rattle.ppdb_build_layout.specs.Laid.{CanBeLaidOut}
-use Rattle.ppdb_build_canon.specs.Canon.{with_id}
-use Rattle.ppdb_build_canon.specs.Canonical.{canonical}
-use Rattle.ppdb_build_canon.specs.Limits.{first_limit}
+use Rattle.ppdb_build_canon.specs.{Canon.with_id, Canonical.canonical, Limits.first_limit}
 
 -- The canonical file of a value, with this identity.
 pub record IsReread (value : FileValue) (id : List ℕ) : Type 0 where

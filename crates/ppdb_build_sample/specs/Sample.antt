@@ -1,25 +1,11 @@
 -- The sample file of n methods (docs/FORMAT.md, "Sample"): eight methods a document, and in each points, two scopes with variables and a
 -- constant, and in every fourth a hoisted local (Portable PDB v1.0, "Metadata Tables" and the formats of its blobs).
-use Rattle.std.specs.Prelude.{ℕ, zero, suc, ◌+◌, ◌*◌, ◌/◌, ◌%◌, List, [], ◌∷◌, ◌++◌, None, Bool, nat_eq, codes, map}
-use Rattle.std.specs.List.{filter, flat_map, range_with_len}
-use Rattle.std.specs.Fmt.{decimal}
-use Rattle.std.specs.Int.{w32, to_le_bytes}
-use Rattle.custom_info.specs.Kinds.{hoisted_scopes}
-use Rattle.custom_info.specs.declared.slots.Range.{Range}
-use Rattle.custom_info.specs.declared.slots.Slot.TheVariants.{Held}
-use Rattle.ppdb_values.specs.declared.custom.CustomBody.TheVariants.{Hoisted}
-use Rattle.ppdb_values.specs.declared.custom.CustomValue.{CustomValue}
-use Rattle.ppdb_values.specs.declared.file.DocumentValue.{DocumentValue}
-use Rattle.ppdb_values.specs.declared.file.FileValue.{FileValue}
-use Rattle.ppdb_values.specs.declared.file.MethodValue.{MethodValue}
-use Rattle.ppdb_values.specs.declared.import.ImportScopeValue.{ImportScopeValue}
-use Rattle.ppdb_values.specs.declared.import.ImportValue.TheVariants.{Namespace}
-use Rattle.ppdb_values.specs.declared.scope.ConstantBody.TheVariants.{Primitive}
-use Rattle.ppdb_values.specs.declared.scope.ConstantValue.{ConstantValue}
-use Rattle.ppdb_values.specs.declared.scope.ScopeValue.{ScopeValue}
-use Rattle.ppdb_values.specs.WorkedSmall.{zeros, empty_value}
-use Rattle.sequence_points.specs.declared.point.Point.{Point}
-use Rattle.sequence_points.specs.declared.point.Span.TheVariants.{Hidden, Lines}
+use Rattle.std.specs.{Prelude.{ℕ, zero, suc, ◌+◌, ◌*◌, ◌/◌, ◌%◌, List, [], ◌∷◌, ◌++◌, None, Bool, nat_eq, codes, map, filter, flat_map, decimal}, List.range_with_len, Int.{w32, to_le_bytes}}
+use Rattle.custom_info.specs.{Kinds.hoisted_scopes, declared.slots.{Range.Range, Slot.TheVariants.Held}}
+use Rattle.ppdb_values.specs.{declared.custom.{CustomBody.TheVariants.Hoisted, CustomValue.CustomValue}, declared.file.{DocumentValue.DocumentValue, FileValue.FileValue, MethodValue.MethodValue}}
+use Rattle.ppdb_values.specs.{declared.import.{ImportScopeValue.ImportScopeValue, ImportValue.TheVariants.Namespace}, declared.scope.{ConstantBody.TheVariants.Primitive, ConstantValue.ConstantValue}}
+use Rattle.ppdb_values.specs.{declared.scope.ScopeValue.ScopeValue, WorkedSmall.{zeros, empty_value}}
+use Rattle.sequence_points.specs.declared.point.{Point.Point, Span.TheVariants.{Hidden, Lines}}
 
 -- from 1 on
 abbrev pub counted : ℕ → List ℕ

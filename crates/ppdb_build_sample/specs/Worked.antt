@@ -1,14 +1,8 @@
 -- The sample of one method, and parts of that of nine.
-use Rattle.std.specs.Prelude.{◌≡◌, ℕ, List, [], ◌∷◌, ◌++◌, None, codes, map}
+use Rattle.ppdb_values.specs.Names.{◌≡◌, ℕ, List, [], ◌∷◌, ◌++◌, None, codes, map, Held, Hidden, Lines}
 use Rattle.custom_info.specs.Kinds.{hoisted_scopes}
-use Rattle.custom_info.specs.declared.slots.Slot.TheVariants.{Held}
-use Rattle.ppdb_values.specs.declared.custom.CustomBody.TheVariants.{Hoisted}
-use Rattle.ppdb_values.specs.declared.custom.CustomValue.{CustomValue}
-use Rattle.ppdb_values.specs.declared.file.FileValue.{FileValue}
-use Rattle.ppdb_values.specs.declared.import.ImportValue.TheVariants.{Namespace}
-use Rattle.ppdb_values.specs.declared.scope.ConstantBody.TheVariants.{Primitive}
-use Rattle.ppdb_values.specs.WorkedSmall.{zeros}
-use Rattle.sequence_points.specs.declared.point.Span.TheVariants.{Hidden, Lines}
+use Rattle.ppdb_values.specs.{declared.custom.{CustomBody.TheVariants.Hoisted, CustomValue.CustomValue}, declared.file.FileValue.FileValue, declared.import.ImportValue.TheVariants.Namespace}
+use Rattle.ppdb_values.specs.{declared.scope.ConstantBody.TheVariants.Primitive, WorkedSmall.zeros}
 use Rattle.ppdb_build_sample.specs.Sample.{sample}
 
 -- TypeRef 1, MethodDef 1, StandAloneSig 1, AssemblyRef 1

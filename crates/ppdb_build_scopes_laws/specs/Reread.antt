@@ -1,15 +1,9 @@
 -- What the scopes and the custom records of a value are in its canonical file (Portable PDB v1.0, "LocalScope Table",
 -- "LocalVariable Table", "LocalConstant Table" and "CustomDebugInformation Table").
-use Rattle.std.specs.Prelude.{◌≡◌, map, None}
-use Rattle.ppdb_tables.specs.RawTables.{numbered}
-use Rattle.ppdb_values.specs.declared.file.FileValue.{FileValue}
-use Rattle.ppdb_values.specs.Customs.{custom_of}
-use Rattle.ppdb_values.specs.Rules.{KeepsScopes, KeepsVariables, KeepsConstants, KeepsCustoms}
-use Rattle.ppdb_values.specs.Types.{HasTypes}
-use Rattle.ppdb_values.specs.Value.{scope_of}
+use Rattle.ppdb_values.specs.Names.{◌≡◌, map, None, numbered}
+use Rattle.ppdb_values.specs.{declared.file.FileValue.FileValue, Customs.custom_of, Rules.{KeepsScopes, KeepsVariables, KeepsConstants, KeepsCustoms}, Types.HasTypes, Value.scope_of}
 use Rattle.ppdb_values_sound_laws.specs.Sound.{IsSound}
-use Rattle.ppdb_build_canon.specs.Canonical.{canonical_tables}
-use Rattle.ppdb_build_canon.specs.Limits.{first_limit}
+use Rattle.ppdb_build_canon.specs.{Canonical.canonical_tables, Limits.first_limit}
 
 -- The rows of the scopes, of their variables and of their constants keep the rules, and say the scopes of the value: each owns its
 -- own variables and constants, and no others.

@@ -1,13 +1,9 @@
 -- What the rows of a canonical file refer to (Portable PDB v1.0, "Metadata Tables" and the formats of its blobs).
-use Rattle.std.specs.Prelude.{◌≡◌, ◌≤◌, length, sum_by}
-use Rattle.ppdb_base.specs.First.{IsAccepted}
-use Rattle.ppdb_values.specs.declared.file.FileValue.{FileValue}
-use Rattle.ppdb_values.specs.Types.{HasTypes}
+use Rattle.ppdb_values.specs.Names.{◌≡◌, ◌≤◌, length, sum_by, IsAccepted}
+use Rattle.ppdb_values.specs.{declared.file.FileValue.FileValue, Types.HasTypes}
 use Rattle.ppdb_values_sound_laws.specs.Sound.{IsSound}
-use Rattle.ppdb_verify_total.specs.HeapUses.{HeapUse, heap_uses}
-use Rattle.ppdb_verify_total.specs.Spans.{SpanFaults}
-use Rattle.ppdb_build_canon.specs.Canonical.{canonical_tables}
-use Rattle.ppdb_build_canon.specs.Limits.{IsWithinLimits, span}
+use Rattle.ppdb_verify_total.specs.{HeapUses.{HeapUse, heap_uses}, Spans.SpanFaults}
+use Rattle.ppdb_build_canon.specs.{Canonical.canonical_tables, Limits.{IsWithinLimits, span}}
 
 -- The texts and blobs that the rows of the canonical file refer to, one for each reference, have in all the length that L6 limits,
 -- where the blobs are few enough for a file.

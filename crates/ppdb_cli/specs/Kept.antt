@@ -1,6 +1,5 @@
 -- The bytes that a sink was given.
-use Rattle.std.specs.Prelude.{ℕ, List, Option, take}
-use Rattle.std.specs.Io.KnownBytes.{append_known}
+use Rattle.std.specs.{Prelude.{ℕ, List, Option, take}, Io.KnownBytes.append_known}
 
 -- those that the writer holds, where they are known, and then those that are kept
 abbrev pub kept_after : Option (List ℕ) → List ℕ → ℕ → Option (List ℕ)

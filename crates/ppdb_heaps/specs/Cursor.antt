@@ -1,11 +1,8 @@
 -- What a cursor of a document name has left, and what its answers show.
-use Rattle.std.specs.Prelude.{ℕ, List, [], ◌∷◌, drop, Option, Some, None, Result, Ok, Err, ◌==◌, if◌then◌else◌}
-use Rattle.std.specs.Borrow.{Bor}
-use Rattle.ppdb_base.specs.declared.BlobFault.{BlobFault}
-use Rattle.blob_grammar.specs.Reader.{Left, read_from, fields_left}
-use Rattle.blob_grammar.specs.declared.places.PlacedIndex.{PlacedIndex}
-use Rattle.ppdb_heaps.specs.declared.name.Part.{Part}
-use Rattle.ppdb_heaps.specs.Names.{NamePart, separator, part, part_index, names, contents_of}
+use Rattle.std.specs.{Prelude.{ℕ, List, [], ◌∷◌, drop, Option, Some, None, Result, Ok, Err, ◌==◌, if◌then◌else◌}, Borrow.Bor}
+use Rattle.ppdb_base.specs.declared.fault.BlobFault.{BlobFault}
+use Rattle.blob_grammar.specs.{Reader.{Left, read_from, fields_left}, declared.places.PlacedIndex.PlacedIndex}
+use Rattle.ppdb_heaps.specs.{declared.name.Part.Part, Names.{NamePart, separator, part, part_index, names, contents_of}}
 
 -- The separator, and the parts to come.
 pub record NameLeft : Type 0 where

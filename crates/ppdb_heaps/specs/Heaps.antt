@@ -1,10 +1,7 @@
 -- The items of the heaps, as partial functions from an index to a list of bytes (ECMA-335 II.24.2.3 to II.24.2.5).
 -- Index 0 is the empty text, the empty blob, which is nil, and no GUID.
-use Rattle.std.specs.Prelude.{◌≡◌, ℕ, zero, suc, ◌+◌, ◌*◌, List, [], ◌++◌, length, take, drop, Option, Some, None, Result, Ok, Err}
-use Rattle.std.specs.Prelude.{option_map, nat_le, ◌==◌, if◌then◌else◌}
-use Rattle.std.specs.List.{position}
-use Rattle.cli_ints.specs.declared.IntFault.{IntFault}
-use Rattle.cli_ints.specs.Compressed.{SpellsUnsigned}
+use Rattle.std.specs.Prelude.{◌≡◌, ℕ, zero, suc, ◌+◌, ◌*◌, List, [], ◌++◌, length, take, drop, Option, Some, None, Result, Ok, Err, option_map, nat_le, ◌==◌, if◌then◌else◌, position}
+use Rattle.cli_ints.specs.{declared.IntFault.IntFault, Compressed.SpellsUnsigned}
 use Rattle.blob_grammar.specs.Reader.{unsigned_at}
 
 -- The bytes before the first zero, where there is one.

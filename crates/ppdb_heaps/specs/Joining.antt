@@ -1,9 +1,7 @@
 -- What joining a name does.
 use Rattle.std.specs.Prelude.{◌≡◌, ℕ, List, ◌++◌, Some}
 use Rattle.blob_grammar.specs.Reading.{Reading}
-use Rattle.ppdb_heaps.specs.declared.join.NameError.{NameError}
-use Rattle.ppdb_heaps.specs.declared.join.NameError.TheVariants.{Blob, Memory}
-use Rattle.ppdb_heaps.specs.Names.{NamePart, names, IsName}
+use Rattle.ppdb_heaps.specs.{declared.join.NameError.{NameError, TheVariants.{Blob, Memory}}, Names.{NamePart, names, IsName}}
 
 -- The blob is a whole name, and its text stands after what was there.
 abbrev pub HasAppended : List ℕ → List ℕ → List ℕ → List ℕ → Type 0

@@ -1,13 +1,9 @@
 -- The names of documents (Portable PDB v1.0, "Document Name Blob"): a separator, and parts that are blobs of their own.
-use Rattle.std.specs.Prelude.{◌≡◌, ◌≢◌, ℕ, zero, ◌+◌, ◌^◌, ◌<◌, List, [], ◌∷◌, length, map, All, Option, Some, None, Bool, true, false, is_some, option_map}
-use Rattle.std.specs.List.{flat_map, join_by}
-use Rattle.ppdb_base.specs.declared.BlobFault.{BlobFault}
-use Rattle.blob_grammar.specs.Grammar.{Value, number, octets, Form, character, unsigned, Grammar}
-use Rattle.blob_grammar.specs.Reading.{Reading}
-use Rattle.cli_ints.specs.Shortest.{short_unsigned}
-use Rattle.blob_grammar.specs.declared.places.PlacedIndex.{PlacedIndex}
-use Rattle.blob_grammar.specs.Places.{PlacedField, placed_of}
+use Rattle.std.specs.{Prelude.{◌≡◌, ◌≢◌, ℕ, zero, ◌+◌, ◌^◌, ◌<◌, List, [], ◌∷◌, length, map, All, Option, Some, None, Bool, true, false, is_some, option_map, flat_map}, List.join_by}
+use Rattle.ppdb_base.specs.declared.fault.BlobFault.{BlobFault}
+use Rattle.blob_grammar.specs.{Grammar.{Value, number, octets, Form, character, unsigned, Grammar}, Reading.Reading, declared.places.PlacedIndex.PlacedIndex, Places.{PlacedField, placed_of}}
 use Rattle.blob_grammar.specs.Reader.{read_from, prefix_of}
+use Rattle.cli_ints.specs.Shortest.{short_unsigned}
 use Rattle.ppdb_heaps.specs.Heaps.{blob_at}
 
 -- What a field of a name makes: the separator, or a part with its content.

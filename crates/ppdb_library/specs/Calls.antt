@@ -1,16 +1,7 @@
 -- A call of ppdb_run: its words and its files, and what its caller is given.
-use Rattle.std.specs.Prelude.{ℕ, ◌≡◌, ◌⊎◌, List, [], Option, Some, length}
-use Rattle.std.specs.Str.{IsUtf8}
-use Rattle.ppdb_base.specs.Files.{Files}
-use Rattle.ppdb_run_stops.specs.declared.status.Status.{Status}
-use Rattle.ppdb_run_stops.specs.declared.status.Status.TheVariants.{Done}
-use Rattle.ppdb_run_stops.specs.Refusals.{Outcome}
-use Rattle.ppdb_run_stops.specs.Status.{status_number}
-use Rattle.ppdb_library.specs.declared.piece.PpdbPiece.{PpdbPiece}
-use Rattle.ppdb_library.specs.declared.status.TheConstants.{MEMORY, USAGE}
-use Rattle.ppdb_library.specs.Pieces.{AreApart, files_in}
-use Rattle.ppdb_library.specs.Room.{IsGiven}
-use Rattle.ppdb_library.specs.Words.{AreWords}
+use Rattle.ppdb_values.specs.Names.{ℕ, ◌≡◌, ◌⊎◌, List, [], Option, Some, length, IsUtf8, Files}
+use Rattle.ppdb_run_stops.specs.{declared.status.Status.{Status, TheVariants.Done}, Refusals.Outcome, Status.status_number}
+use Rattle.ppdb_library.specs.{declared.piece.PpdbPiece.PpdbPiece, declared.status.TheConstants.{MEMORY, USAGE}, Pieces.{AreApart, files_in}, Room.IsGiven, Words.AreWords}
 
 -- These are the words of the call: they are text, each ended by a zero byte. Its pieces lie one after the other among the bytes of its files.
 pub record IsCall (words files : List ℕ) (pieces : List PpdbPiece) (told : List (List ℕ)) : Type 0 where
@@ -22,7 +13,7 @@ pub record IsCall (words files : List ℕ) (pieces : List PpdbPiece) (told : Lis
 abbrev pub OnCall : (words files : List ℕ) → List PpdbPiece → (List (List ℕ) → Files → Type 0) → Type 0
 OnCall words files pieces P = (told : List (List ℕ)) → IsCall words files pieces told → P told (files_in files pieces)
 
--- it is no call
+-- the pieces are no call
 abbrev pub NoCall : (words files : List ℕ) → List PpdbPiece → Type 0
 NoCall words files pieces = (told : List (List ℕ)) → IsCall words files pieces told → ⊥
 

@@ -1,12 +1,7 @@
 -- A command that has run over files in memory.
-use Rattle.std.specs.Prelude.{ℕ, ◌≡◌, ◌≢◌, ◌⊎◌, List, [], Option, Some, None}
-use Rattle.std.specs.FinMap.{get}
-use Rattle.std.specs.Option.{unwrap_or}
-use Rattle.ppdb_base.specs.Files.{Files}
-use Rattle.ppdb_run_stops.specs.declared.status.Status.TheVariants.{Done, Memory}
-use Rattle.ppdb_run.specs.Ends.{LeavesFiles, OnAsked, OnOutcome, WritesAgain, WritesValid}
-use Rattle.ppdb_run.specs.Means.{WritesMeaning}
-use Rattle.ppdb_run_stops.specs.Refusals.{Outcome}
+use Rattle.ppdb_values.specs.Names.{ℕ, ◌≡◌, ◌≢◌, ◌⊎◌, List, [], Option, Some, None, get, unwrap_or, Files}
+use Rattle.ppdb_run_stops.specs.{declared.status.Status.TheVariants.{Done, Memory}, Refusals.Outcome}
+use Rattle.ppdb_run.specs.{Ends.{LeavesFiles, OnAsked, OnOutcome, WritesAgain, WritesValid}, Means.WritesMeaning}
 use Rattle.ppdb_run_words.specs.Words.{texts}
 use Rattle.ppdb_library.specs.declared.answer.Ended.{Ended}
 
@@ -15,7 +10,7 @@ abbrev pub held : Option (List ℕ) → Files → List ℕ
 held None files = []
 held (Some name) files = unwrap_or (get files name) []
 
--- it came to the outcome: its status, its text, and the files
+-- what ended came to the outcome: its status, its text, and the files
 pub record CameTo (all : Files) (ended : Ended) (due : Outcome) : Type 0 where
   pub status_is : ended.status ≡ due.status
   pub text_is : ended.text ≡ due.text

@@ -1,6 +1,5 @@
 -- A fault as a caller in C sees it.
-use Rattle.ppdb_base.specs.declared.fault.Fault.{Fault}
-use Rattle.ppdb_base.specs.Place.{number_of}
+use Rattle.ppdb_base.specs.{declared.fault.Fault.Fault, Place.number_of}
 use Rattle.ppdb_library.specs.declared.fault.PpdbFault.{PpdbFault}
 
 -- the rule by its number, and its place

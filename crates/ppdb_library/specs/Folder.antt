@@ -1,8 +1,5 @@
 -- A folder of files that are lent, with the one that was written.
-use Rattle.std.specs.Prelude.{ℕ, ◌≡◌, List, Option, Some, None}
-use Rattle.std.specs.FinMap.{insert}
-use Rattle.std.specs.String.{string_bytes}
-use Rattle.ppdb_base.specs.Files.{Files}
+use Rattle.ppdb_values.specs.Names.{ℕ, ◌≡◌, List, Option, Some, None, insert, string_bytes, Files}
 use Rattle.ppdb_library.specs.declared.folder.MadeFile.{MadeFile}
 
 -- the files with the one that was written in the place of what had its name

@@ -1,15 +1,7 @@
 -- The sequence points of frames, as a caller in C sees them.
-use Rattle.std.specs.Prelude.{ℕ, ◌&&◌, nat_le, if◌then◌else◌, Option, Some, None}
-use Rattle.ppdb_tables.specs.RawTables.{count}
-use Rattle.ppdb_values.specs.Parts.{last_point, points_of}
-use Rattle.ppdb_values.specs.RawFile.{RawFile}
-use Rattle.ppdb_values.specs.Value.{value_of}
-use Rattle.sequence_points.specs.declared.point.Point.{Point}
-use Rattle.sequence_points.specs.declared.point.Span.{Span}
-use Rattle.sequence_points.specs.declared.point.Span.TheVariants.{Hidden, Lines}
-use Rattle.ppdb_library.specs.declared.lines.PpdbFrame.{PpdbFrame}
-use Rattle.ppdb_library.specs.declared.lines.PpdbLine.{PpdbLine}
-use Rattle.ppdb_library.specs.declared.lines.TheConstants.{NO_METHOD, NO_POINT, HIDDEN, LINES}
+use Rattle.ppdb_values.specs.Names.{ℕ, ◌&&◌, nat_le, if◌then◌else◌, Option, Some, None, count, Point, Span, Hidden, Lines}
+use Rattle.ppdb_values.specs.{Parts.{last_point, points_of}, RawFile.RawFile, Value.value_of}
+use Rattle.ppdb_library.specs.declared.lines.{PpdbFrame.PpdbFrame, PpdbLine.PpdbLine, TheConstants.{NO_METHOD, NO_POINT, HIDDEN, LINES}}
 
 -- a line of this kind, all else 0
 abbrev pub bare_line : ℕ → PpdbLine

@@ -1,10 +1,7 @@
 -- What lines of a map text say together; a list of lines has the last one first.
-use Rattle.std.specs.Prelude.{ℕ, ◌&&◌, ◌++◌, Bool, true, false, cond, nat_eq, List, [], ◌∷◌, Option, Some, None}
-use Rattle.std.specs.List.{find}
+use Rattle.std.specs.Prelude.{ℕ, ◌&&◌, ◌++◌, Bool, true, false, cond, nat_eq, List, [], ◌∷◌, Option, Some, None, find}
 use Rattle.ppdb_base.specs.declared.offsets.Run.{Run}
-use Rattle.ppdb_maps.specs.Map.{MethodLine}
-use Rattle.ppdb_maps.specs.declared.line.Line.{Line}
-use Rattle.ppdb_maps.specs.declared.line.Line.TheVariants.{Silent, Rows, Row, Method, Kept, Dropped, Slots, Slot, Signature}
+use Rattle.ppdb_maps.specs.{Map.MethodLine, declared.line.Line.{Line, TheVariants.{Silent, Rows, Row, Method, Kept, Dropped, Slots, Slot, Signature}}}
 
 -- the N of the table's `rows` line
 abbrev pub count_in : List Line → ℕ → Option ℕ

@@ -1,10 +1,7 @@
 -- Sets of numbers that have a bit for each number, and of rows of tables.
-use Rattle.std.specs.Prelude.{ℕ, ◌/◌, ◌%◌, Bool, false, nat_eq, List, Option, Some, None, slice_index_or}
+use Rattle.std.specs.{Prelude.{ℕ, ◌/◌, ◌%◌, Bool, false, nat_eq, List, Option, Some, None, slice_index_or}, Int.bit_at, Ordering.nat_cmp}
+use Rattle.ppdb_maps.specs.declared.bit_set.{BitSet.BitSet, RowSet.RowSet}
 use Rattle.std.specs.BTreeMap as tree
-use Rattle.std.specs.Int.{bit_at}
-use Rattle.std.specs.Ordering.{nat_cmp}
-use Rattle.ppdb_maps.specs.declared.bit_set.BitSet.{BitSet}
-use Rattle.ppdb_maps.specs.declared.bit_set.RowSet.{RowSet}
 
 -- the number's bit is set
 abbrev pub has_bit : List ℕ → ℕ → Bool

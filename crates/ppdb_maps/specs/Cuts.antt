@@ -1,8 +1,6 @@
 -- The first line of a text and the words of a line, as slices.
-use Rattle.std.specs.Prelude.{◌≡◌, ℕ, ◌<◌, ◌≤◌, List, [], ◌∷◌, length, take}
-use Rattle.std.specs.Str.Lines.{lines}
-use Rattle.ppdb_maps.specs.Words.{parts_at, text_lines, line_words}
-use Rattle.ppdb_maps.specs.declared.words.Words.{Words}
+use Rattle.std.specs.{Prelude.{◌≡◌, ℕ, ◌<◌, ◌≤◌, List, [], ◌∷◌, length, take}, Str.Lines.lines}
+use Rattle.ppdb_maps.specs.{Words.{parts_at, text_lines, line_words}, declared.words.Words.Words}
 
 -- the mark does not stand in the bytes
 abbrev pub IsUncut : ℕ → List ℕ → List ℕ → Type 0

@@ -1,24 +1,11 @@
 -- What a draft holds of the lines read so far, of which the last one stands first.
-use Rattle.std.specs.Prelude.{◌≡◌, ℕ, ◌<◌, ◌≤◌, true, false, List, ◌∷◌, Option, Some, None, Result, MatchResult, find, nat_eq}
-use Rattle.std.specs.Prelude.{is_some, option_map, map, ◌&&◌}
-use Rattle.std.specs.List.{IsDistinct}
-use Rattle.ppdb_maps.specs.declared.entries.RowImage.{RowImage}
-use Rattle.ppdb_maps.specs.declared.entries.SignatureImage.{SignatureImage}
-use Rattle.std.specs.Ordering.{nat_cmp}
+use Rattle.std.specs.{Prelude.{◌≡◌, ℕ, ◌<◌, ◌≤◌, true, false, List, ◌∷◌, Option, Some, None, Result, MatchResult, find, nat_eq, is_some, option_map, map, ◌&&◌}, List.IsDistinct, Ordering.nat_cmp}
+use Rattle.ppdb_maps.specs.{declared.entries.{RowImage.RowImage, SignatureImage.SignatureImage}, BitSets.{has_number, has_row}, Gathered.{row_key, method_key, signature_key, same_pair}}
+use Rattle.ppdb_maps.specs.{Map.{MethodLine, pair_cmp}, Before.{count_in, row_in, methods_of, drop_in, slots_in, slot_in, signature_in, follows_method}, Rules.{Breaks, kind_of}}
+use Rattle.ppdb_maps.specs.{declared.bit_set.BitSet.BitSet, declared.draft.Draft.Draft, declared.refusal.Refusal.{Refusal, TheVariants.{Breaks as refused, Memory}}, declared.line.Line.Line}
+use Rattle.ppdb_maps.specs.{declared.line.Line.TheVariants.Kept, declared.rule.Rule.Rule}
 use Rattle.std.specs.BTreeMap as tree
 use Rattle.std.specs.BTreeSet as sorted
-use Rattle.ppdb_maps.specs.BitSets.{has_number, has_row}
-use Rattle.ppdb_maps.specs.Gathered.{row_key, method_key, signature_key, same_pair}
-use Rattle.ppdb_maps.specs.Map.{MethodLine, pair_cmp}
-use Rattle.ppdb_maps.specs.Before.{count_in, row_in, methods_of, drop_in, slots_in, slot_in, signature_in, follows_method}
-use Rattle.ppdb_maps.specs.Rules.{Breaks, kind_of}
-use Rattle.ppdb_maps.specs.declared.bit_set.BitSet.{BitSet}
-use Rattle.ppdb_maps.specs.declared.draft.Draft.{Draft}
-use Rattle.ppdb_maps.specs.declared.refusal.Refusal.{Refusal}
-use Rattle.ppdb_maps.specs.declared.refusal.Refusal.TheVariants.{Breaks as refused, Memory}
-use Rattle.ppdb_maps.specs.declared.line.Line.{Line}
-use Rattle.ppdb_maps.specs.declared.line.Line.TheVariants.{Kept}
-use Rattle.ppdb_maps.specs.declared.rule.Rule.{Rule}
 
 -- all but the methods
 pub record HoldsOthers (before : List Line) (draft : Draft) : Type 0 where
@@ -63,12 +50,12 @@ pub record IsClosed (before : List Line) (draft : Draft) : Type 0 where
   pub methods : HasLines (methods_of before) draft
   pub closed : draft.current ≡ None
 
--- it breaks this rule, and none with a lesser number
+-- a line that is refused breaks this rule, and none with a lesser number
 abbrev pub RefusedBy : List Line → Line → Refusal → Type 0
 RefusedBy before line (refused rule) = Breaks before rule line × ((other : Rule) → Breaks before other line → kind_of rule ≤ kind_of other)
 RefusedBy before line Memory = Unit {0}
 
--- it breaks none, and the draft holds it too; or it is refused
+-- a line breaks no rule, and the draft holds it too; or it is refused
 abbrev pub AddsLine : List Line → Line → Result (Unit {0}) Refusal → Draft → Type 0
 AddsLine before line result new =
     MatchResult result (λ _. Holds (line ∷ before) new × ((rule : Rule) → Breaks before rule line → ⊥)) (RefusedBy before line)

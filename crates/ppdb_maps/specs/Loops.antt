@@ -1,15 +1,7 @@
 -- What the readers of lines answer.
 use Rattle.std.specs.Prelude.{◌≡◌, ℕ, ◌+◌, ◌++◌, List, ◌∷◌, Result, MatchResult, length}
-use Rattle.ppdb_maps.specs.Forms.{Tells}
-use Rattle.ppdb_maps.specs.Rules.{Keeps, BreaksFirst, kind_of}
-use Rattle.ppdb_maps.specs.Text.{Read, Refused}
-use Rattle.ppdb_maps.specs.Drafts.{Holds}
-use Rattle.ppdb_maps.specs.declared.draft.Draft.{Draft}
-use Rattle.ppdb_maps.specs.declared.line.Line.{Line}
-use Rattle.ppdb_maps.specs.declared.rule.Rule.{Rule}
-use Rattle.ppdb_maps.specs.declared.refusal.Refusal.{Refusal}
-use Rattle.ppdb_maps.specs.declared.refusal.Refusal.TheVariants.{Breaks as refused, Memory as no_memory}
-use Rattle.ppdb_maps.specs.declared.refusal.MapError.{MapError}
+use Rattle.ppdb_maps.specs.{Forms.Tells, Rules.{Keeps, BreaksFirst, kind_of}, Text.{Read, Refused}, Drafts.Holds, declared.draft.Draft.Draft, declared.line.Line.Line, declared.rule.Rule.Rule}
+use Rattle.ppdb_maps.specs.declared.refusal.{Refusal.{Refusal, TheVariants.{Breaks as refused, Memory as no_memory}}, MapError.MapError}
 use Rattle.ppdb_maps.specs.declared.refusal.MapError.TheVariants.{Line as refused_line, Memory as out_of_memory}
 
 -- the draft holds what the line says too, and the line breaks no rule

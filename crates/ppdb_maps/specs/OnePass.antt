@@ -1,13 +1,7 @@
 -- Lines that are read in one pass.
-use Rattle.std.specs.Prelude.{◌≡◌, ℕ, ◌<◌, ◌≤◌, ◌^◌, ◌++◌, List, ◌∷◌, Result}
-use Rattle.std.specs.Fmt.{decimal}
+use Rattle.std.specs.Prelude.{◌≡◌, ℕ, ◌<◌, ◌≤◌, ◌^◌, ◌++◌, List, ◌∷◌, Result, decimal}
 use Rattle.ppdb_base.specs.declared.offsets.Run.{Run}
-use Rattle.ppdb_maps.specs.Cuts.{IsLineOf}
-use Rattle.ppdb_maps.specs.Forms.{Tells}
-use Rattle.ppdb_maps.specs.Reading.{IsTold}
-use Rattle.ppdb_maps.specs.declared.line.Line.{Line}
-use Rattle.ppdb_maps.specs.declared.line.Line.TheVariants.{Kept}
-use Rattle.ppdb_maps.specs.declared.rule.Rule.{Rule}
+use Rattle.ppdb_maps.specs.{Cuts.IsLineOf, Forms.Tells, Reading.IsTold, declared.line.Line.{Line, TheVariants.Kept}, declared.rule.Rule.Rule}
 
 -- the bytes begin with the number's decimal digits and this end
 pub record IsNumberBefore (end : ℕ) (bytes : List ℕ) (number : ℕ) (rest : List ℕ) : Type 0 where
@@ -20,7 +14,7 @@ pub record IsLineBefore (text : List ℕ) (said : Line) (rest : List ℕ) : Type
   pub first : IsLineOf text line rest
   pub tells : (version : ℕ) → 1 ≤ version → Tells version line said
 
--- it says this run
+-- the text's first line says this run in each version
 abbrev pub IsRunBefore : List ℕ → Run → List ℕ → Type 0
 IsRunBefore text run rest = IsLineBefore text (Kept run) rest
 

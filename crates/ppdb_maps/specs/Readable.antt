@@ -1,14 +1,8 @@
 -- What reading promises of every map, and that a text has one map or one refused line (docs/FORMAT.md, "Map texts").
-use Rattle.std.specs.Prelude.{◌≡◌, ℕ, ◌≤◌, false, IsSome, IsTrue, List}
-use Rattle.std.specs.List.{AllByRecursion}
+use Rattle.std.specs.{Prelude.{◌≡◌, ℕ, ◌≤◌, false, IsSome, IsTrue, List}, List.AllByRecursion}
 use Rattle.ppdb_base.specs.Offsets.{Rise, lined}
-use Rattle.ppdb_maps.specs.declared.entries.Count.{Count}
-use Rattle.ppdb_maps.specs.declared.entries.RowImage.{RowImage}
-use Rattle.ppdb_maps.specs.declared.entries.SlotImage.{SlotImage}
-use Rattle.ppdb_maps.specs.declared.entries.SignatureImage.{SignatureImage}
-use Rattle.ppdb_maps.specs.Forms.{ROWS, OFFSETS, SLOTS}
-use Rattle.ppdb_maps.specs.Map.{Map, MethodLine, Ascends, count_of, is_dropped, has_slots}
-use Rattle.ppdb_maps.specs.Text.{IsMapOf, Refused}
+use Rattle.ppdb_maps.specs.{declared.entries.{Count.Count, RowImage.RowImage, SlotImage.SlotImage, SignatureImage.SignatureImage}, Forms.{ROWS, OFFSETS, SLOTS}}
+use Rattle.ppdb_maps.specs.{Map.{Map, MethodLine, Ascends, count_of, is_dropped, has_slots}, Text.{IsMapOf, Refused}}
 
 -- the number of a row that is there
 abbrev pub IsRow : ℕ → Type 0

@@ -1,12 +1,7 @@
 -- What the readers of a line answer.
 use Rattle.std.specs.Prelude.{◌≡◌, ℕ, ◌≤◌, List, [], ◌∷◌, Option, Result, MatchOption, MatchResult}
-use Rattle.ppdb_maps.specs.Forms.{name_of, words_in, since, Values, Tells}
-use Rattle.ppdb_maps.specs.Rules.{BreaksFirst}
-use Rattle.ppdb_maps.specs.declared.words.Words.{Words}
-use Rattle.ppdb_maps.specs.declared.line.Form.{Form}
-use Rattle.ppdb_maps.specs.declared.line.Form.TheVariants.{TableRows, RowMove, MethodSizes, OffsetRun, MethodDrop, MethodSlots, SlotMove, MethodSignature}
-use Rattle.ppdb_maps.specs.declared.line.Line.{Line}
-use Rattle.ppdb_maps.specs.declared.rule.Rule.{Rule}
+use Rattle.ppdb_maps.specs.{Forms.{name_of, words_in, since, Values, Tells}, Rules.BreaksFirst, declared.words.Words.Words, declared.line.Form.Form}
+use Rattle.ppdb_maps.specs.{declared.line.{Form.TheVariants.{TableRows, RowMove, MethodSizes, OffsetRun, MethodDrop, MethodSlots, SlotMove, MethodSignature}, Line.Line}, declared.rule.Rule.Rule}
 
 -- the form whose first word this is
 abbrev pub IsNamed : List ℕ → Option Form → Type 0

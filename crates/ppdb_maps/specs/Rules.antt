@@ -1,15 +1,9 @@
 -- The rules of map texts and their numbers; a line breaks one by the lines before it alone, of which the last one stands first.
 use Rattle.std.specs.Prelude.{◌≡◌, ℕ, ◌<◌, ◌≤◌, ◌⊎◌, false, List, [], ◌∷◌, None, IsSome, IsTrue}
-use Rattle.ppdb_base.specs.declared.offsets.Run.{Run}
-use Rattle.ppdb_base.specs.Offsets.{end_of, new_end_of}
-use Rattle.ppdb_maps.specs.Map.{MethodLine}
-use Rattle.ppdb_maps.specs.Words.{IsSilent, line_words}
-use Rattle.ppdb_maps.specs.Forms.{HasForm, Values, Tells}
-use Rattle.ppdb_maps.specs.Before.{count_in, row_in, method_in, methods_of, drop_in, slots_in, slot_in, signature_in, follows_method}
-use Rattle.ppdb_maps.specs.declared.line.Form.{Form}
-use Rattle.ppdb_maps.specs.declared.line.Line.{Line}
-use Rattle.ppdb_maps.specs.declared.line.Line.TheVariants.{Rows, Row, Method, Kept, Dropped, Slots, Slot, Signature}
-use Rattle.ppdb_maps.specs.declared.rule.Rule.{Rule}
+use Rattle.ppdb_base.specs.{declared.offsets.Run.Run, Offsets.{end_of, new_end_of}}
+use Rattle.ppdb_maps.specs.{Map.MethodLine, Words.{IsSilent, line_words}, Forms.{HasForm, Values, Tells}}
+use Rattle.ppdb_maps.specs.{Before.{count_in, row_in, method_in, methods_of, drop_in, slots_in, slot_in, signature_in, follows_method}, declared.line.{Form.Form, Line.Line}}
+use Rattle.ppdb_maps.specs.{declared.line.Line.TheVariants.{Rows, Row, Method, Kept, Dropped, Slots, Slot, Signature}, declared.rule.Rule.Rule}
 use Rattle.ppdb_maps.specs.declared.rule.Rule.TheVariants.{FirstLine, UnknownForm, NumberFaults, Repeated, Undeclared, NoMethod, Overlap, Beyond, NamesDropped}
 
 -- the rule's number
@@ -68,11 +62,11 @@ pub data BreaksLine (version : ℕ) (before : List Line) (text : List ℕ) : Rul
       → ((line : Line) → Values form has.values line → ⊥) → BreaksLine version before text NumberFaults
   by_lines : {line : Line} {rule : Rule} → Tells version text line → Breaks before rule line → BreaksLine version before text rule
 
--- it breaks this rule and none with a lesser number
+-- a text breaks this rule after these lines, and none with a lesser number
 pub record BreaksFirst (version : ℕ) (before : List Line) (text : List ℕ) (rule : Rule) : Type 0 where
   pub broken : BreaksLine version before text rule
   pub least : (other : Rule) → BreaksLine version before text other → kind_of rule ≤ kind_of other
 
--- it breaks none
+-- a text breaks no rule after these lines
 abbrev pub Keeps : ℕ → List Line → List ℕ → Type 0
 Keeps version before text = (rule : Rule) → BreaksLine version before text rule → ⊥

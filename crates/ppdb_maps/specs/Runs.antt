@@ -1,11 +1,7 @@
 -- Where an offset stands among runs that rise.
 use Rattle.std.specs.Prelude.{◌≡◌, ℕ, ◌<◌, ◌≤◌, ◌⊎◌, List, Option, Some, None}
-use Rattle.ppdb_base.specs.declared.offsets.Run.{Run}
-use Rattle.ppdb_base.specs.Offsets.{Takes, Moves, end_of}
-use Rattle.ppdb_maps.specs.Map.{MethodLine}
-use Rattle.ppdb_maps.specs.Rules.{BeginsEarly, EndsBeyond}
-use Rattle.ppdb_maps.specs.declared.refusal.Refusal.{Refusal}
-use Rattle.ppdb_maps.specs.declared.refusal.Refusal.TheVariants.{Breaks as refused, Memory}
+use Rattle.ppdb_base.specs.{declared.offsets.Run.Run, Offsets.{Takes, Moves, end_of}}
+use Rattle.ppdb_maps.specs.{Map.MethodLine, Rules.{BeginsEarly, EndsBeyond}, declared.refusal.Refusal.{Refusal, TheVariants.{Breaks as refused, Memory}}}
 use Rattle.ppdb_maps.specs.declared.rule.Rule.TheVariants.{Overlap, Beyond}
 
 -- the run is the first that does not end before or at the offset

@@ -1,10 +1,8 @@
 -- The map of the sample file of n methods (docs/FORMAT.md, "Sample"): the methods change places, and of the 16 bytes of each those at
 -- the offsets 4 to 7 go, six bytes stand in their place, and two more at the end.
-use Rattle.std.specs.Prelude.{ℕ, ◌+◌, ◌-◌, List, [], ◌∷◌, map}
-use Rattle.std.specs.List.{range_with_len}
+use Rattle.std.specs.{Prelude.{ℕ, ◌+◌, ◌-◌, List, [], ◌∷◌, map}, List.range_with_len}
 use Rattle.ppdb_base.specs.declared.offsets.Run.{Run}
-use Rattle.ppdb_maps.specs.Map.{Map, MethodLine}
-use Rattle.ppdb_maps.specs.declared.entries.RowImage.{RowImage}
+use Rattle.ppdb_maps.specs.{Map.{Map, MethodLine}, declared.entries.RowImage.RowImage}
 
 -- the method i of n becomes the method n + 1 - i
 abbrev pub sample_row : ℕ → ℕ → RowImage

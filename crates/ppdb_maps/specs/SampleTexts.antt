@@ -1,7 +1,6 @@
 -- The texts of the samples of none, one and two methods (docs/FORMAT.md, "Sample").
 use Rattle.std.specs.Prelude.{List, ℕ, codes}
-use Rattle.ppdb_maps.specs.Sample.{sample_map_of}
-use Rattle.ppdb_maps.specs.Text.{IsMapOf}
+use Rattle.ppdb_maps.specs.{Sample.sample_map_of, Text.IsMapOf}
 
 abbrev pub text_of_none : List ℕ
 text_of_none = codes "ppdbmap 1\nrows 06 0\n"

@@ -1,9 +1,7 @@
 -- What a map says of one method's offsets.
 use Rattle.std.specs.Prelude.{ℕ, List, [], Option, Some, None}
-use Rattle.ppdb_base.specs.declared.offsets.Run.{Run}
-use Rattle.ppdb_base.specs.Offsets.{Offsets, every, gone, lined}
-use Rattle.ppdb_maps.specs.declared.says.Says.{Says}
-use Rattle.ppdb_maps.specs.declared.says.Says.TheVariants.{Every, Gone, Lined}
+use Rattle.ppdb_base.specs.{declared.offsets.Run.Run, Offsets.{Offsets, every, gone, lined}}
+use Rattle.ppdb_maps.specs.declared.says.Says.{Says, TheVariants.{Every, Gone, Lined}}
 
 abbrev pub offsets_of : Says → Offsets
 offsets_of Every = every

@@ -1,6 +1,5 @@
 -- Lists that a halving search may search.
-use Rattle.std.specs.Prelude.{◌≡◌, ℕ, Bool, true, false, List, [], ◌∷◌, Option, find, filter, slice_get}
-use Rattle.std.specs.List.{AllByRecursion}
+use Rattle.std.specs.{Prelude.{◌≡◌, ℕ, Bool, true, false, List, [], ◌∷◌, Option, find, filter, slice_get}, List.AllByRecursion}
 
 -- an item at the key is not before it, and all items that stand before an item at the key, or before it, are before it
 abbrev pub Parted : {A : Type 0} → (A → Bool) → (A → Bool) → List A → Type 0

@@ -1,12 +1,7 @@
 -- Map texts (docs/FORMAT.md, "Map texts"): the map that a text has, and its refused line.
 use Rattle.std.specs.Prelude.{◌≡◌, ℕ, ◌+◌, ◌++◌, List, [], ◌∷◌, length}
-use Rattle.ppdb_maps.specs.Map.{Map, Ascends, count_of, row_line, method_line, is_dropped, has_slots, slot_line, signature_line}
-use Rattle.ppdb_maps.specs.Words.{text_lines}
-use Rattle.ppdb_maps.specs.Forms.{IsHead, Tells}
-use Rattle.ppdb_maps.specs.Before.{count_in, row_in, method_in, drop_in, slots_in, slot_in, signature_in}
-use Rattle.ppdb_maps.specs.Rules.{Keeps, BreaksFirst, kind_of}
-use Rattle.ppdb_maps.specs.declared.line.Line.{Line}
-use Rattle.ppdb_maps.specs.declared.rule.Rule.{Rule}
+use Rattle.ppdb_maps.specs.{Map.{Map, Ascends, count_of, row_line, method_line, is_dropped, has_slots, slot_line, signature_line}, Words.text_lines, Forms.{IsHead, Tells}}
+use Rattle.ppdb_maps.specs.{Before.{count_in, row_in, method_in, drop_in, slots_in, slot_in, signature_in}, Rules.{Keeps, BreaksFirst, kind_of}, declared.line.Line.Line, declared.rule.Rule.Rule}
 
 -- the lines after line 1 say these things, the last one first, and none breaks a rule
 pub data Read (version : ℕ) : List (List ℕ) → List Line → Type 0 where

@@ -1,7 +1,5 @@
 -- The lines of a map text, and the words of a line (docs/FORMAT.md, "Map texts").
-use Rattle.std.specs.Prelude.{◌≡◌, ℕ, ◌==◌, List, [], ◌∷◌}
-use Rattle.std.specs.List.{slice_split}
-use Rattle.std.specs.Str.Lines.{lines}
+use Rattle.std.specs.{Prelude.{◌≡◌, ℕ, ◌==◌, List, [], ◌∷◌}, List.slice_split, Str.Lines.lines}
 
 -- lines end by LF or CR LF, and the last end may be missing; the empty text has one empty line
 abbrev pub text_lines : List ℕ → List (List ℕ)

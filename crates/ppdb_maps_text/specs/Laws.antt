@@ -1,8 +1,6 @@
 -- What holds of the canonical text of every map, and of every text.
 use Rattle.std.specs.Prelude.{ℕ, List}
-use Rattle.ppdb_maps.specs.Map.{Map}
-use Rattle.ppdb_maps.specs.Readable.{IsReadable}
-use Rattle.ppdb_maps.specs.Text.{IsMapOf, Refused}
+use Rattle.ppdb_maps.specs.{Map.Map, Readable.IsReadable, Text.{IsMapOf, Refused}}
 use Rattle.ppdb_maps_text.specs.MapTexts.{map_text}
 
 -- the text of a map that a text can have is read as this map

@@ -1,20 +1,11 @@
 -- What is looked up of the inputs before a further one.
-use Rattle.std.specs.Prelude.{◌≡◌, ℕ, ◌&&◌, Bool, cond, List, [], Option, Some, None, is_some, ◌∷◌, length, map, find, option_map, nat_eq, nat_lt, bytes_eq}
-use Rattle.std.specs.BTreeMap as tree
-use Rattle.std.specs.Cmp.Lexicographic.{slice_cmp}
-use Rattle.std.specs.Ordering.{nat_cmp}
-use Rattle.ppdb_tables.specs.RawTables.{numbered}
+use Rattle.ppdb_values.specs.Names.{◌≡◌, ℕ, ◌&&◌, Bool, cond, List, [], Option, Some, None, is_some, ◌∷◌, length, map, find, option_map, nat_eq, nat_lt, bytes_eq, slice_cmp, nat_cmp, numbered}
 use Rattle.ppdb_values.specs.declared.file.DocumentValue.{DocumentValue}
 use Rattle.ppdb_merge_names.specs.declared.imaged.Imaged.{Imaged}
 use Rattle.ppdb_merge_joined.specs.Joined.{joined_documents}
-use Rattle.ppdb_merge.specs.declared.documents.Documents.{Documents}
-use Rattle.ppdb_merge.specs.declared.documents.Standing.{Standing}
-use Rattle.ppdb_merge.specs.declared.index.Index.{Index}
-use Rattle.ppdb_merge.specs.declared.methods.Claim.{Claim}
-use Rattle.ppdb_merge.specs.declared.methods.Methods.{Methods}
-use Rattle.ppdb_merge.specs.declared.trace.Trace.{Trace}
-use Rattle.ppdb_merge.specs.Merged.{moved_files}
-use Rattle.ppdb_merge.specs.Refusals.{methods_in, claims}
+use Rattle.ppdb_merge.specs.{declared.documents.{Documents.Documents, Standing.Standing}, declared.index.Index.Index, declared.methods.{Claim.Claim, Methods.Methods}, declared.trace.Trace.Trace}
+use Rattle.ppdb_merge.specs.{Merged.moved_files, Refusals.{methods_in, claims}}
+use Rattle.std.specs.BTreeMap as tree
 
 -- the methods of one input
 abbrev pub claims_of : ℕ → List Imaged → List (ℕ × Imaged)

@@ -1,8 +1,7 @@
 -- What the value of a merger keeps of its inputs.
 use Rattle.std.specs.Prelude.{◌≡◌, List, map}
 use Rattle.ppdb_merge_meaning_laws.specs.Kept.{MovedBy, InputsFit, in_turn, moved_input}
-use Rattle.ppdb_merge.specs.declared.trace.Trace.{Trace}
-use Rattle.ppdb_merge.specs.Merged.{moved_files}
+use Rattle.ppdb_merge.specs.{declared.trace.Trace.Trace, Merged.moved_files}
 
 -- Inputs that fit, and that became what is kept of them.
 pub record AreInputs (traces : List Trace) (inputs : List MovedBy) : Type 0 where

@@ -1,10 +1,8 @@
 -- What is kept of the inputs of a merge.
 use Rattle.std.specs.Prelude.{ℕ, Bool, nat_eq, List, length, map}
 use Rattle.ppdb_maps.specs.Map.{Map}
-use Rattle.ppdb_merge_items.specs.declared.file.AnnotatedFile.{AnnotatedFile}
-use Rattle.ppdb_merge_items.specs.Annotated.{annotated_file}
-use Rattle.ppdb_values.specs.RawFile.{RawFile}
-use Rattle.ppdb_values.specs.Value.{value_of}
+use Rattle.ppdb_merge_items.specs.{declared.file.AnnotatedFile.AnnotatedFile, Annotated.annotated_file}
+use Rattle.ppdb_values.specs.{RawFile.RawFile, Value.value_of}
 use Rattle.ppdb_merge_moved.specs.Moved.{moved_file}
 use Rattle.ppdb_merge_fits.specs.Signatures.{all_images}
 use Rattle.ppdb_merge.specs.declared.trace.Trace.{Trace}

@@ -1,22 +1,13 @@
 -- Why an input is not joined to those before it (docs/FORMAT.md, "Fitting").
-use Rattle.std.specs.Prelude.{ℕ, ◌&&◌, Bool, true, false, cond, nat_eq, bytes_eq, List, [], ◌∷◌, ◌++◌, Option, Some, None, Result, Ok, Err}
-use Rattle.std.specs.Prelude.{slice_get, filter, find, flat_map, map, option_map}
-use Rattle.std.specs.List.{filter_map}
-use Rattle.std.specs.Option.{option_and_then}
-use Rattle.ppdb_base.specs.declared.merge_error.MergeError.{MergeError}
-use Rattle.ppdb_base.specs.declared.merge_error.MergeError.TheVariants.{MethodTaken, DocumentConflict}
+use Rattle.ppdb_values.specs.Names.{ℕ, ◌&&◌, Bool, true, false, cond, nat_eq, bytes_eq, List, [], ◌∷◌, ◌++◌, Option, Some, None, Result, Ok, Err, slice_get, filter, find, flat_map, map, option_map}
+use Rattle.ppdb_values.specs.Names.{filter_map, option_and_then, MergeError, MethodTaken, DocumentConflict, numbered}
 use Rattle.ppdb_maps.specs.Map.{Map}
-use Rattle.ppdb_tables.specs.RawTables.{numbered}
-use Rattle.ppdb_values.specs.declared.file.DocumentValue.{DocumentValue}
-use Rattle.ppdb_values.specs.RawFile.{RawFile}
-use Rattle.ppdb_values.specs.Value.{value_of}
+use Rattle.ppdb_values.specs.{declared.file.DocumentValue.DocumentValue, RawFile.RawFile, Value.value_of}
 use Rattle.ppdb_merge_items.specs.Sorted.{in_order}
 use Rattle.ppdb_merge_names.specs.declared.imaged.Imaged.{Imaged}
 use Rattle.ppdb_merge_joined.specs.Joined.{joined_documents}
-use Rattle.ppdb_merge_fits.specs.Clashes.{first_clash}
-use Rattle.ppdb_merge_fits.specs.Signatures.{all_images}
-use Rattle.ppdb_merge.specs.declared.trace.Trace.{Trace}
-use Rattle.ppdb_merge.specs.Merged.{trace_of, moved_files, is_first}
+use Rattle.ppdb_merge_fits.specs.{Clashes.first_clash, Signatures.all_images}
+use Rattle.ppdb_merge.specs.{declared.trace.Trace.Trace, Merged.{trace_of, moved_files, is_first}}
 
 -- ---- M3: a method's image is that of a method of an earlier input
 

@@ -2,16 +2,10 @@
 use Rattle.std.specs.Prelude.{◌≡◌, ◌≢◌, ◌≤◌, List, [], ◌∷◌, Contains, length, flat_map}
 use Rattle.ppdb_values.specs.declared.file.DocumentValue.{DocumentValue}
 use Rattle.ppdb_values_sound_laws.specs.Sound.{SoundRows}
-use Rattle.ppdb_merge_items.specs.declared.file.AnnotatedFile.{AnnotatedFile}
-use Rattle.ppdb_merge_items.specs.Each.{Each, Pairs}
-use Rattle.ppdb_merge_items.specs.NamedRows.{Named, names_some, all_named}
-use Rattle.ppdb_merge_items.specs.Annotated.{items_of}
-use Rattle.ppdb_merge_items.specs.SoundParts.{SoundMoved}
+use Rattle.ppdb_merge_items.specs.{declared.file.AnnotatedFile.AnnotatedFile, Each.{Each, Pairs}, NamedRows.{Named, names_some, all_named}, Annotated.items_of, SoundParts.SoundMoved}
 use Rattle.ppdb_merge_names.specs.declared.imaged.Imaged.{Imaged}
-use Rattle.ppdb_merge.specs.declared.trace.Trace.{Trace}
-use Rattle.ppdb_merge.specs.Merged.{moved_files}
-use Rattle.ppdb_merge.specs.Refusals.{methods_in}
 use Rattle.ppdb_merge_joined.specs.Small.{HasFewRows}
+use Rattle.ppdb_merge.specs.{declared.trace.Trace.Trace, Merged.moved_files, Refusals.methods_in}
 
 -- the row is the image of one of the rows
 abbrev pub IsImageIn : List Imaged → Named → Type 0

@@ -1,15 +1,11 @@
 -- What the inputs of a merge come to together, and why they do not (docs/FORMAT.md, "Joining").
-use Rattle.std.specs.Prelude.{ℕ, cond, nat_eq, nat_lt, List, [], ◌∷◌, ◌++◌, Option, Some, None, Result, Ok, Err, slice_get, slice_index, flat_map}
-use Rattle.std.specs.List.{filter_map, enumerate_from, range_with_len}
-use Rattle.ppdb_base.specs.declared.merge_error.MergeError.{MergeError}
-use Rattle.ppdb_base.specs.declared.merge_error.MergeError.TheVariants.{RowsDiffer, ImageRange}
-use Rattle.ppdb_tables.specs.RawTables.{numbered}
+use Rattle.ppdb_values.specs.Names.{ℕ, cond, nat_eq, nat_lt, List, [], ◌∷◌, ◌++◌, Option, Some, None, Result, Ok, Err, slice_get, slice_index, flat_map, filter_map, enumerate_from, range_with_len}
+use Rattle.ppdb_values.specs.Names.{MergeError, RowsDiffer, ImageRange, numbered}
 use Rattle.ppdb_values.specs.declared.file.FileValue.{FileValue}
 use Rattle.ppdb_merge_items.specs.Unannotated.{value_of_annotated}
 use Rattle.ppdb_merge_names.specs.declared.imaged.Imaged.{Imaged}
 use Rattle.ppdb_merge_joined.specs.Joined.{joined}
-use Rattle.ppdb_merge.specs.declared.trace.Trace.{Trace}
-use Rattle.ppdb_merge.specs.Merged.{moved_files}
+use Rattle.ppdb_merge.specs.{declared.trace.Trace.Trace, Merged.moved_files}
 
 -- the rows of a table in the output, as the input has it
 abbrev pub count_in : Trace → ℕ → ℕ

@@ -1,15 +1,10 @@
 -- Worked inputs that do not fit each other, and that do.
-use Rattle.std.specs.Prelude.{◌≡◌, ℕ, List, [], ◌∷◌, ◌++◌, None, Ok, Err, codes}
-use Rattle.ppdb_base.specs.declared.merge_error.MergeError.TheVariants.{MethodTaken, DocumentConflict, RowsDiffer, ImageRange}
-use Rattle.ppdb_values.specs.declared.file.DocumentValue.{DocumentValue}
-use Rattle.ppdb_values.specs.WorkedSmall.{zeros}
-use Rattle.ppdb_merge_items.specs.Unannotated.{value_of_annotated}
-use Rattle.ppdb_merge_items.specs.Worked.{bare, empty_annotated}
+use Rattle.ppdb_values.specs.Names.{◌≡◌, ℕ, List, [], ◌∷◌, ◌++◌, None, Ok, Err, codes, MethodTaken, DocumentConflict, RowsDiffer, ImageRange}
+use Rattle.ppdb_values.specs.{declared.file.DocumentValue.DocumentValue, WorkedSmall.zeros}
+use Rattle.ppdb_merge_items.specs.{Unannotated.value_of_annotated, Worked.{bare, empty_annotated}}
 use Rattle.ppdb_merge_names.specs.declared.imaged.Imaged.{Imaged}
 use Rattle.ppdb_merge_joined.specs.Joined.{joined}
-use Rattle.ppdb_merge.specs.declared.trace.Trace.{Trace}
-use Rattle.ppdb_merge.specs.Refusals.{clashes_before}
-use Rattle.ppdb_merge.specs.Together.{joined_of}
+use Rattle.ppdb_merge.specs.{declared.trace.Trace.Trace, Refusals.clashes_before, Together.joined_of}
 
 -- ---- what is kept of two inputs
 

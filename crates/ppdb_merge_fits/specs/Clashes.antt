@@ -1,22 +1,9 @@
 -- Where a map does not fit a file, and what is reported first (docs/FORMAT.md, "Fitting"). What stands at a dropped method is not judged.
-use Rattle.std.specs.Prelude.{ℕ, ◌&&◌, ◌==◌, not, Bool, true, false, cond, List, [], ◌∷◌, ◌++◌, Option, Some, None, map, option_to_list, slice_get}
-use Rattle.std.specs.List.{flat_map, list_any}
-use Rattle.custom_info.specs.Kinds.{kind_of}
-use Rattle.custom_info.specs.declared.kinds.Kind.{Kind}
-use Rattle.custom_info.specs.declared.kinds.Kind.TheVariants.{Unknown}
-use Rattle.ppdb_base.specs.declared.merge_error.MergeError.{MergeError}
-use Rattle.ppdb_base.specs.declared.merge_error.MergeError.TheVariants.{KindUnknown}
+use Rattle.ppdb_values.specs.Names.{ℕ, ◌&&◌, ◌==◌, not, Bool, true, false, cond, List, [], ◌∷◌, ◌++◌, Option, Some, None, map, option_to_list, slice_get, flat_map, list_any, kind_of, Kind, Unknown}
+use Rattle.ppdb_values.specs.Names.{MergeError, KindUnknown, numbered, row_at, Parent}
 use Rattle.ppdb_maps.specs.Map.{Map, is_dropped}
-use Rattle.ppdb_tables.specs.RawTables.{numbered, row_at}
-use Rattle.ppdb_tables.specs.declared.parent.Parent.{Parent}
-use Rattle.ppdb_values.specs.RawFile.{RawFile}
-use Rattle.ppdb_values.specs.Value.{value_of}
-use Rattle.ppdb_values.specs.declared.file.FileValue.{FileValue}
-use Rattle.ppdb_values.specs.declared.scope.ScopeValue.{ScopeValue}
-use Rattle.ppdb_values.specs.declared.custom.CustomValue.{CustomValue}
-use Rattle.ppdb_merge_fits.specs.Offsets.{beyond, lost}
-use Rattle.ppdb_merge_fits.specs.Rows.{unmapped, images_twice}
-use Rattle.ppdb_merge_fits.specs.Slots.{slots_unmapped, slots_twice}
+use Rattle.ppdb_values.specs.{RawFile.RawFile, Value.value_of, declared.file.FileValue.FileValue, declared.scope.ScopeValue.ScopeValue, declared.custom.CustomValue.CustomValue}
+use Rattle.ppdb_merge_fits.specs.{Offsets.{beyond, lost}, Rows.{unmapped, images_twice}, Slots.{slots_unmapped, slots_twice}}
 
 -- ---- records at dropped methods
 

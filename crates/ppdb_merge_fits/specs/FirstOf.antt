@@ -1,7 +1,6 @@
 -- What is reported, or that nothing is.
 use Rattle.std.specs.Prelude.{◌≡◌, ◌⊎◌, List, [], Some, Result, Ok, Err, slice_get}
-use Rattle.ppdb_base.specs.declared.merge_error.MergeError.{MergeError}
-use Rattle.ppdb_base.specs.declared.merge_error.MergeError.TheVariants.{Memory}
+use Rattle.ppdb_base.specs.declared.merge_error.MergeError.{MergeError, TheVariants.Memory}
 
 -- the first that is reported, or that memory is refused
 abbrev pub IsTold : List MergeError → MergeError → Type 0

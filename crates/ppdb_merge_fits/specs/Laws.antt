@@ -1,14 +1,8 @@
 -- What a map promises that does not clash with a file (docs/FORMAT.md, "Fitting").
-use Rattle.std.specs.Prelude.{◌≡◌, ◌≢◌, ℕ, Bool, false, List, None}
-use Rattle.custom_info.specs.Kinds.{kind_of}
-use Rattle.custom_info.specs.declared.kinds.Kind.TheVariants.{Unknown}
-use Rattle.ppdb_maps.specs.Map.{Map}
-use Rattle.ppdb_maps.specs.Readable.{IsReadable}
-use Rattle.ppdb_values.specs.RawFile.{RawFile}
-use Rattle.ppdb_values.specs.Rules.{KeepsRules}
-use Rattle.ppdb_values.specs.Value.{value_of}
-use Rattle.ppdb_merge_items.specs.Each.{Each}
-use Rattle.ppdb_merge_items.specs.Annotated.{annotated_file}
+use Rattle.ppdb_values.specs.Names.{◌≡◌, ◌≢◌, ℕ, Bool, false, List, None, kind_of, Unknown}
+use Rattle.ppdb_maps.specs.{Map.Map, Readable.IsReadable}
+use Rattle.ppdb_values.specs.{RawFile.RawFile, Rules.KeepsRules, Value.value_of}
+use Rattle.ppdb_merge_items.specs.{Each.Each, Annotated.annotated_file}
 use Rattle.ppdb_merge_moved.specs.Fits.{Fits}
 use Rattle.ppdb_merge_fits.specs.Clashes.{first_clash, is_at_dropped}
 

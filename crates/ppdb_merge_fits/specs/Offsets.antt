@@ -1,21 +1,8 @@
 -- IL offsets that a map does not know, and offsets of async records that it does not keep (docs/FORMAT.md, "Fitting").
-use Rattle.std.specs.Prelude.{ℕ, ◌+◌, Bool, cond, nat_le, nat_lt, List, [], ◌∷◌, ◌++◌, Option, Some, None, map, option_to_list}
-use Rattle.std.specs.List.{flat_map}
-use Rattle.ppdb_base.specs.declared.merge_error.MergeError.{MergeError}
-use Rattle.ppdb_base.specs.declared.merge_error.MergeError.TheVariants.{OffsetBeyond, AsyncLost}
-use Rattle.ppdb_base.specs.Offsets.{is_kept_between}
-use Rattle.ppdb_maps.specs.Map.{Map, offsets_in}
-use Rattle.ppdb_maps.specs.Says.{sizes_of}
-use Rattle.sequence_points.specs.declared.point.Point.{Point}
-use Rattle.custom_info.specs.declared.slots.Range.{Range}
-use Rattle.custom_info.specs.declared.slots.Slot.{Slot}
-use Rattle.custom_info.specs.declared.slots.Slot.TheVariants.{Empty, Held}
-use Rattle.custom_info.specs.declared.stepping.AsyncStep.{AsyncStep}
-use Rattle.ppdb_values.specs.declared.file.FileValue.{FileValue}
-use Rattle.ppdb_values.specs.declared.file.MethodValue.{MethodValue}
-use Rattle.ppdb_values.specs.declared.scope.ScopeValue.{ScopeValue}
-use Rattle.ppdb_values.specs.declared.custom.CustomBody.{CustomBody}
-use Rattle.ppdb_values.specs.declared.custom.CustomBody.TheVariants.{Async, Hoisted}
+use Rattle.ppdb_values.specs.Names.{ℕ, ◌+◌, Bool, cond, nat_le, nat_lt, List, [], ◌∷◌, ◌++◌, Option, Some, None, map, option_to_list, flat_map, MergeError, OffsetBeyond, AsyncLost, is_kept_between}
+use Rattle.ppdb_values.specs.Names.{Point, Range, Slot, Empty, Held, AsyncStep}
+use Rattle.ppdb_maps.specs.{Map.{Map, offsets_in}, Says.sizes_of}
+use Rattle.ppdb_values.specs.{declared.file.{FileValue.FileValue, MethodValue.MethodValue}, declared.scope.ScopeValue.ScopeValue, declared.custom.CustomBody.{CustomBody, TheVariants.{Async, Hoisted}}}
 use Rattle.ppdb_values.specs.declared.custom.CustomValue.{CustomValue}
 use Rattle.ppdb_merge_items.specs.NamedRows.{live_custom}
 

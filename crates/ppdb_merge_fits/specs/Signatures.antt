@@ -1,16 +1,10 @@
 -- The images that an input has in the output: those of the rows that it names, and the local signatures of `signature` lines
 -- (docs/FORMAT.md, "Fitting").
-use Rattle.std.specs.Prelude.{ℕ, Bool, cond, nat_eq, List, [], ◌∷◌, ◌++◌, Option, Some, None}
-use Rattle.std.specs.List.{filter_map}
-use Rattle.std.specs.Option.{option_and_then}
+use Rattle.std.specs.Prelude.{ℕ, Bool, cond, nat_eq, List, [], ◌∷◌, ◌++◌, Option, Some, None, filter_map, option_and_then}
 use Rattle.ppdb_maps.specs.Map.{Map, signature_line}
-use Rattle.ppdb_values.specs.RawFile.{RawFile}
-use Rattle.ppdb_values.specs.Value.{value_of}
-use Rattle.ppdb_values.specs.declared.file.FileValue.{FileValue}
-use Rattle.ppdb_values.specs.declared.file.MethodValue.{MethodValue}
+use Rattle.ppdb_values.specs.{RawFile.RawFile, Value.value_of, declared.file.{FileValue.FileValue, MethodValue.MethodValue}}
 use Rattle.ppdb_merge_names.specs.declared.imaged.Imaged.{Imaged}
-use Rattle.ppdb_merge_fits.specs.Rows.{imaged_rows}
-use Rattle.ppdb_merge_fits.specs.Twice.{by_all}
+use Rattle.ppdb_merge_fits.specs.{Rows.imaged_rows, Twice.by_all}
 
 -- a local signature that the output has: the image of the stored one, which is 0 where there is none (ECMA-335 II.22.36)
 abbrev pub given : ℕ → ℕ → Option Imaged

@@ -1,17 +1,8 @@
 -- The slots of variables whose images a map does not report, or reports twice (docs/FORMAT.md, "Fitting").
-use Rattle.std.specs.Prelude.{ℕ, ◌||◌, cond, is_some, List, [], ◌∷◌, Option, None, map}
-use Rattle.std.specs.List.{filter_map, flat_map}
-use Rattle.std.specs.Option.{option_map}
-use Rattle.ppdb_base.specs.declared.merge_error.MergeError.{MergeError}
-use Rattle.ppdb_base.specs.declared.merge_error.MergeError.TheVariants.{SlotUnmapped, SlotTwice}
+use Rattle.ppdb_values.specs.Names.{ℕ, ◌||◌, cond, is_some, List, [], ◌∷◌, Option, None, map, filter_map, flat_map, option_map, MergeError, SlotUnmapped, SlotTwice, numbered}
 use Rattle.ppdb_maps.specs.Map.{Map, slot_image, is_dropped}
-use Rattle.ppdb_tables.specs.RawTables.{numbered}
-use Rattle.ppdb_values.specs.declared.file.FileValue.{FileValue}
-use Rattle.ppdb_values.specs.declared.scope.ScopeValue.{ScopeValue}
-use Rattle.ppdb_values.specs.declared.scope.VariableValue.{VariableValue}
-use Rattle.ppdb_merge_fits.specs.declared.used.MethodSlot.{MethodSlot}
-use Rattle.ppdb_merge_fits.specs.declared.used.UsedSlot.{UsedSlot}
-use Rattle.ppdb_merge_fits.specs.Twice.{each_once, twice}
+use Rattle.ppdb_values.specs.{declared.file.FileValue.FileValue, declared.scope.{ScopeValue.ScopeValue, VariableValue.VariableValue}}
+use Rattle.ppdb_merge_fits.specs.{declared.used.{MethodSlot.MethodSlot, UsedSlot.UsedSlot}, Twice.{each_once, twice}}
 
 -- the slots of the variables of a scope
 abbrev pub scope_slots : ScopeValue → List MethodSlot

@@ -1,6 +1,5 @@
 -- Rows of a table, and slots of a method, that have one image.
-use Rattle.std.specs.Prelude.{ℕ, ◌&&◌, not, Bool, cond, nat_eq, List, [], ◌∷◌, ◌++◌}
-use Rattle.std.specs.List.{dedup}
+use Rattle.std.specs.{Prelude.{ℕ, ◌&&◌, not, Bool, cond, nat_eq, List, [], ◌∷◌, ◌++◌}, List.dedup}
 use Rattle.ppdb_merge_items.specs.Sorted.{in_order}
 
 -- two items have one group and one number

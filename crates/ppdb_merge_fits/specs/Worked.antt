@@ -1,20 +1,12 @@
 -- Worked maps of small files, and what is reported of each.
 use Rattle.std.specs.Prelude.{◌≡◌, ℕ, ◌+◌, ◌-◌, true, List, [], ◌∷◌, ◌++◌, Option, Some, None}
-use Rattle.ppdb_base.specs.Place.{at_byte}
-use Rattle.ppdb_base.specs.declared.merge_error.MergeError.TheVariants.{KindUnknown, OffsetBeyond, AsyncLost, Unmapped, ImageTwice, SlotUnmapped, SlotTwice}
-use Rattle.custom_info.specs.Kinds.{in_file_order, async_stepping, hoisted_scopes}
-use Rattle.custom_info.specs.declared.slots.Slot.TheVariants.{Empty, Held}
+use Rattle.ppdb_base.specs.{Place.at_byte, declared.merge_error.MergeError.TheVariants.{KindUnknown, OffsetBeyond, AsyncLost, Unmapped, ImageTwice, SlotUnmapped, SlotTwice}}
+use Rattle.custom_info.specs.{Kinds.{in_file_order, async_stepping, hoisted_scopes}, declared.slots.Slot.TheVariants.{Empty, Held}}
 use Rattle.ppdb_maps.specs.Map.{Map, MethodLine}
-use Rattle.ppdb_values.specs.RawFile.{RawFile}
-use Rattle.ppdb_values.specs.WorkedSmall.{empty_file, empty_value, small_file, zeros}
-use Rattle.ppdb_values.specs.declared.file.FileValue.{FileValue}
-use Rattle.ppdb_values.specs.declared.custom.CustomBody.{CustomBody}
-use Rattle.ppdb_values.specs.declared.custom.CustomBody.TheVariants.{Async, Hoisted, Unread}
-use Rattle.ppdb_values.specs.declared.custom.CustomValue.{CustomValue}
+use Rattle.ppdb_values.specs.{RawFile.RawFile, WorkedSmall.{empty_file, empty_value, small_file, zeros}, declared.file.FileValue.FileValue, declared.custom.CustomBody.CustomBody}
+use Rattle.ppdb_values.specs.declared.custom.{CustomBody.TheVariants.{Async, Hoisted, Unread}, CustomValue.CustomValue}
 use Rattle.ppdb_merge_items.specs.Worked.{pair_value}
-use Rattle.ppdb_merge_fits.specs.Clashes.{unknown_kinds, first_clash}
-use Rattle.ppdb_merge_fits.specs.Offsets.{beyond, lost}
-use Rattle.ppdb_merge_fits.specs.Rows.{imaged_rows}
+use Rattle.ppdb_merge_fits.specs.{Clashes.{unknown_kinds, first_clash}, Offsets.{beyond, lost}, Rows.imaged_rows}
 
 -- ---- maps
 

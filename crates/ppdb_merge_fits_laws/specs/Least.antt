@@ -1,13 +1,9 @@
 -- Of which two rows of a table, and of which two slots of a method, it is reported that they have one image (docs/FORMAT.md, "Fitting").
-use Rattle.std.specs.Prelude.{◌≡◌, ◌↔◌, ℕ, ◌<◌, ◌⊎◌, Bool, List, [], ◌∷◌, Contains, Option, Some, slice_get}
-use Rattle.std.specs.List.{filter_map}
+use Rattle.std.specs.Prelude.{◌≡◌, ◌↔◌, ℕ, ◌<◌, ◌⊎◌, Bool, List, [], ◌∷◌, Contains, Option, Some, slice_get, filter_map}
 use Rattle.ppdb_maps.specs.Map.{Map}
-use Rattle.ppdb_values.specs.RawFile.{RawFile}
-use Rattle.ppdb_values.specs.declared.file.FileValue.{FileValue}
-use Rattle.ppdb_merge_names.specs.declared.imaged.Imaged.{Imaged}
-use Rattle.ppdb_merge_names.specs.References.{references}
-use Rattle.ppdb_merge_fits.specs.Rows.{imaged, image_twice, images_twice}
-use Rattle.ppdb_merge_fits.specs.Slots.{used, variable_slots, slot_twice, slots_twice}
+use Rattle.ppdb_values.specs.{RawFile.RawFile, declared.file.FileValue.FileValue}
+use Rattle.ppdb_merge_names.specs.{declared.imaged.Imaged.Imaged, References.references}
+use Rattle.ppdb_merge_fits.specs.{Rows.{imaged, image_twice, images_twice}, Slots.{used, variable_slots, slot_twice, slots_twice}}
 
 -- Two items of one group have one image, and the number of the first is less.
 pub record HaveOneImage {A : Type 0} (group number image : A → ℕ) (a b : A) : Type 0 where

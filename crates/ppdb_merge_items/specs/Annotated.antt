@@ -1,17 +1,9 @@
 -- What a file says, with each custom record at the item that it is on (Portable PDB v1.0, "CustomDebugInformation Table": Parent):
 -- from a value, and the parts of it that are numbered by their places.
-use Rattle.std.specs.Prelude.{map, ℕ, ◌+◌, nat_lt, List, [], ◌∷◌, ◌++◌, length}
-use Rattle.std.specs.List.{filter, flat_map}
-use Rattle.ppdb_tables.specs.RawTables.{numbered}
-use Rattle.ppdb_values.specs.declared.file.FileValue.{FileValue}
-use Rattle.ppdb_values.specs.declared.scope.ScopeValue.{ScopeValue}
-use Rattle.ppdb_values.specs.declared.custom.CustomValue.{CustomValue}
-use Rattle.ppdb_values.specs.declared.annotation.Custom.{Custom}
-use Rattle.ppdb_values.specs.declared.annotation.Annotation.{Annotation}
-use Rattle.ppdb_values.specs.Parts.{first_item}
-use Rattle.ppdb_values.specs.Meaning.{annotated_on, annotated_from}
-use Rattle.ppdb_merge_items.specs.declared.file.AnnotatedScope.{AnnotatedScope}
-use Rattle.ppdb_merge_items.specs.declared.file.AnnotatedFile.{AnnotatedFile}
+use Rattle.ppdb_values.specs.Names.{map, ℕ, ◌+◌, nat_lt, List, [], ◌∷◌, ◌++◌, length, filter, flat_map, numbered}
+use Rattle.ppdb_values.specs.{declared.file.FileValue.FileValue, declared.scope.ScopeValue.ScopeValue, declared.custom.CustomValue.CustomValue, declared.annotation.Custom.Custom}
+use Rattle.ppdb_values.specs.{declared.annotation.Annotation.Annotation, Parts.first_item, Meaning.{annotated_on, annotated_from}}
+use Rattle.ppdb_merge_items.specs.declared.file.{AnnotatedScope.AnnotatedScope, AnnotatedFile.AnnotatedFile}
 
 -- ---- from a value
 

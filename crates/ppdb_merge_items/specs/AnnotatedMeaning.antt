@@ -1,23 +1,11 @@
 -- What a file says of an IL offset of a method, and of a method as a whole, where its records stand at their items (Portable PDB v1.0:
 -- sequence points, local scopes, import scopes, hoisted local scopes, custom debug information).
-use Rattle.std.specs.Prelude.{ℕ, ◌&&◌, nat_eq, nat_le, Bool, List, [], ◌∷◌, Option, Some, None, is_none, map}
-use Rattle.std.specs.List.{filter, filter_map, flat_map, find, enumerate_from}
-use Rattle.std.specs.Option.{option_map, option_and_then}
-use Rattle.sequence_points.specs.declared.point.Point.{Point}
-use Rattle.custom_info.specs.declared.slots.Range.{Range}
-use Rattle.ppdb_tables.specs.RawTables.{row_at}
-use Rattle.ppdb_values.specs.declared.file.DocumentValue.{DocumentValue}
-use Rattle.ppdb_values.specs.declared.file.MethodValue.{MethodValue}
-use Rattle.ppdb_values.specs.declared.import.ImportValue.{ImportValue}
-use Rattle.ppdb_values.specs.declared.import.ImportScopeValue.{ImportScopeValue}
-use Rattle.ppdb_values.specs.declared.custom.CustomValue.{CustomValue}
-use Rattle.ppdb_values.specs.declared.annotation.Annotation.{Annotation}
-use Rattle.ppdb_values.specs.Links.{Links, kickoff_of, move_next_of}
-use Rattle.ppdb_values.specs.Meaning.{PointMeaning, ScopeMeaning, SlotMeaning, Meaning, slot_at, without_parent}
-use Rattle.ppdb_values.specs.Parts.{holds, slots_in}
-use Rattle.ppdb_values.specs.Chains.{chain_of}
-use Rattle.ppdb_merge_items.specs.declared.file.AnnotatedScope.{AnnotatedScope}
-use Rattle.ppdb_merge_items.specs.declared.file.AnnotatedFile.{AnnotatedFile}
+use Rattle.ppdb_values.specs.Names.{ℕ, ◌&&◌, nat_eq, nat_le, Bool, List, [], ◌∷◌, Option, Some, None, is_none, map, filter, filter_map, flat_map, find, enumerate_from, option_map, option_and_then}
+use Rattle.ppdb_values.specs.Names.{Point, Range, row_at}
+use Rattle.ppdb_values.specs.{declared.file.{DocumentValue.DocumentValue, MethodValue.MethodValue}, declared.import.{ImportValue.ImportValue, ImportScopeValue.ImportScopeValue}}
+use Rattle.ppdb_values.specs.{declared.custom.CustomValue.CustomValue, declared.annotation.Annotation.Annotation, Links.{Links, kickoff_of, move_next_of}}
+use Rattle.ppdb_values.specs.{Meaning.{PointMeaning, ScopeMeaning, SlotMeaning, Meaning, slot_at, without_parent}, Parts.{holds, slots_in}, Chains.chain_of}
+use Rattle.ppdb_merge_items.specs.declared.file.{AnnotatedScope.AnnotatedScope, AnnotatedFile.AnnotatedFile}
 
 abbrev pub last_of : {A : Type 0} → List A → Option A
 last_of [] = None

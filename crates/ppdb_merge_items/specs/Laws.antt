@@ -1,19 +1,9 @@
 -- What is promised of files whose records stand at their items.
-use Rattle.std.specs.Prelude.{◌≡◌, ℕ, ◌≤◌, ◌<◌, Bool, true, List, filter}
-use Rattle.std.specs.List.Sorted.{IsSortedByKey, IsStableByKey}
-use Rattle.std.specs.Ordering.{nat_cmp}
-use Rattle.ppdb_values.specs.declared.file.FileValue.{FileValue}
-use Rattle.ppdb_values.specs.Meaning.{meaning}
-use Rattle.ppdb_values.specs.Links.{links}
-use Rattle.ppdb_values_sound_laws.specs.Customs.{coded_of}
-use Rattle.ppdb_values_sound_laws.specs.Sound.{IsSound}
-use Rattle.ppdb_merge_items.specs.declared.file.AnnotatedFile.{AnnotatedFile}
-use Rattle.ppdb_merge_items.specs.Each.{Each, Pairs}
-use Rattle.ppdb_merge_items.specs.Annotated.{annotated_file}
-use Rattle.ppdb_merge_items.specs.Sorted.{in_order}
-use Rattle.ppdb_merge_items.specs.Unannotated.{value_of_annotated}
-use Rattle.ppdb_merge_items.specs.AnnotatedMeaning.{annotated_meaning, annotated_links}
-use Rattle.ppdb_merge_items.specs.SoundParts.{SoundParts}
+use Rattle.std.specs.{Prelude.{◌≡◌, ℕ, ◌≤◌, ◌<◌, Bool, true, List, filter, IsSortedByKey}, List.Sorted.IsStableByKey, Ordering.nat_cmp}
+use Rattle.ppdb_values.specs.{declared.file.FileValue.FileValue, Meaning.meaning, Links.links}
+use Rattle.ppdb_values_sound_laws.specs.{Customs.coded_of, Sound.IsSound}
+use Rattle.ppdb_merge_items.specs.{declared.file.AnnotatedFile.AnnotatedFile, Each.{Each, Pairs}, Annotated.annotated_file, Sorted.in_order, Unannotated.value_of_annotated}
+use Rattle.ppdb_merge_items.specs.{AnnotatedMeaning.{annotated_meaning, annotated_links}, SoundParts.SoundParts}
 
 -- What a value says of an offset of a method, and of a method, is read off its noted form.
 abbrev pub MeaningsAreAnnotated : Type 0

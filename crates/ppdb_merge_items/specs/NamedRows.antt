@@ -1,25 +1,12 @@
 -- The rows of the type system that a file names (Portable PDB v1.0, "Metadata Tables" and the formats of its blobs), but for those
 -- of dropped methods.
-use Rattle.std.specs.Prelude.{ℕ, ◌&&◌, ◌||◌, not, Bool, true, false, cond, nat_eq, is_some, List, [], ◌∷◌, ◌++◌, map}
-use Rattle.std.specs.List.{filter, flat_map}
+use Rattle.ppdb_values.specs.Names.{ℕ, ◌&&◌, ◌||◌, not, Bool, true, false, cond, nat_eq, is_some, List, [], ◌∷◌, ◌++◌, map, filter, flat_map, TypeToken, Modifier, AsyncStep, MachineRow}
 use Rattle.ppdb_maps.specs.Map.{Map, is_dropped, signature_line}
-use Rattle.type_blobs.specs.declared.types.TypeToken.{TypeToken}
-use Rattle.type_blobs.specs.declared.types.Modifier.{Modifier}
-use Rattle.custom_info.specs.declared.stepping.AsyncStep.{AsyncStep}
-use Rattle.ppdb_tables.specs.declared.rows.MachineRow.{MachineRow}
-use Rattle.ppdb_values.specs.declared.file.MethodValue.{MethodValue}
-use Rattle.ppdb_values.specs.declared.scope.ConstantValue.{ConstantValue}
-use Rattle.ppdb_values.specs.declared.scope.ConstantBody.{ConstantBody}
-use Rattle.ppdb_values.specs.declared.scope.ConstantBody.TheVariants.{Enumerated, General}
-use Rattle.ppdb_values.specs.declared.import.ImportScopeValue.{ImportScopeValue}
-use Rattle.ppdb_values.specs.declared.import.ImportValue.{ImportValue}
-use Rattle.ppdb_values.specs.declared.import.ImportValue.TheVariants.{AssemblyNamespace, Target, AssemblyAlias, AssemblyNamespaceAlias, TargetAlias}
-use Rattle.ppdb_values.specs.declared.custom.CustomBody.{CustomBody}
-use Rattle.ppdb_values.specs.declared.custom.CustomBody.TheVariants.{Async}
-use Rattle.ppdb_values.specs.declared.custom.CustomValue.{CustomValue}
-use Rattle.ppdb_values.specs.declared.annotation.Annotation.{Annotation}
-use Rattle.ppdb_merge_items.specs.declared.file.AnnotatedScope.{AnnotatedScope}
-use Rattle.ppdb_merge_items.specs.declared.file.AnnotatedFile.{AnnotatedFile}
+use Rattle.ppdb_values.specs.{declared.file.MethodValue.MethodValue, declared.scope.{ConstantValue.ConstantValue, ConstantBody.{ConstantBody, TheVariants.{Enumerated, General}}}}
+use Rattle.ppdb_values.specs.declared.import.{ImportScopeValue.ImportScopeValue, ImportValue.ImportValue}
+use Rattle.ppdb_values.specs.{declared.import.ImportValue.TheVariants.{AssemblyNamespace, Target, AssemblyAlias, AssemblyNamespaceAlias, TargetAlias}, declared.custom.CustomBody.CustomBody}
+use Rattle.ppdb_values.specs.{declared.custom.{CustomBody.TheVariants.Async, CustomValue.CustomValue}, declared.annotation.Annotation.Annotation}
+use Rattle.ppdb_merge_items.specs.declared.file.{AnnotatedScope.AnnotatedScope, AnnotatedFile.AnnotatedFile}
 
 pub record Named : Type 0 where
   pub table : ℕ

@@ -1,23 +1,9 @@
 -- When what a file says is sound, where its records stand at their items (Portable PDB v1.0, "Metadata Tables"; ECMA-335 II.22).
-use Rattle.std.specs.Prelude.{◌≡◌, ◌≢◌, ℕ, ◌<◌, ◌≤◌, [], ◌∷◌}
-use Rattle.std.specs.List.{repeat}
-use Rattle.custom_info.specs.Kinds.{kind_of}
-use Rattle.ppdb_values.specs.declared.file.FileValue.{FileValue}
-use Rattle.ppdb_values.specs.declared.annotation.Custom.{Custom}
-use Rattle.ppdb_values.specs.Chains.{NeverEnds, parent_at}
-use Rattle.ppdb_values.specs.Ranges.{ComesAfter, IsInOrAfter}
-use Rattle.ppdb_values.specs.Rules.{StandsOn}
-use Rattle.ppdb_values_sound_laws.specs.Named.{HasRowOrNone}
-use Rattle.ppdb_values_sound_laws.specs.Customs.{SoundCustom, IsBodyOfKind, coded_of}
-use Rattle.ppdb_values_sound_laws.specs.Imports.{SoundImportScope}
-use Rattle.ppdb_values_sound_laws.specs.Methods.{SoundMethod}
-use Rattle.ppdb_values_sound_laws.specs.Scopes.{SoundScope}
+use Rattle.ppdb_values.specs.Names.{◌≡◌, ◌≢◌, ℕ, ◌<◌, ◌≤◌, [], ◌∷◌, repeat, kind_of, NeverEnds, parent_at}
+use Rattle.ppdb_values.specs.{declared.file.FileValue.FileValue, declared.annotation.Custom.Custom, Ranges.{ComesAfter, IsInOrAfter}, Rules.StandsOn}
+use Rattle.ppdb_values_sound_laws.specs.{Named.HasRowOrNone, Customs.{SoundCustom, IsBodyOfKind, coded_of}, Imports.SoundImportScope, Methods.SoundMethod, Scopes.SoundScope}
 use Rattle.ppdb_values_sound_laws.specs.Sound.{SoundRows, SoundMachine}
-use Rattle.ppdb_merge_items.specs.declared.file.AnnotatedScope.{AnnotatedScope}
-use Rattle.ppdb_merge_items.specs.declared.file.AnnotatedFile.{AnnotatedFile}
-use Rattle.ppdb_merge_items.specs.Each.{Each, Pairs}
-use Rattle.ppdb_merge_items.specs.Annotated.{scope_of}
-use Rattle.ppdb_merge_items.specs.Unannotated.{value_of_annotated}
+use Rattle.ppdb_merge_items.specs.{declared.file.{AnnotatedScope.AnnotatedScope, AnnotatedFile.AnnotatedFile}, Each.{Each, Pairs}, Annotated.scope_of, Unannotated.value_of_annotated}
 
 -- A record on an item of a table: one of a kind that is read stands on that kind's table and has that kind's body.
 pub record SoundNote (value : FileValue) (table : ℕ) (custom : Custom) : Type 0 where

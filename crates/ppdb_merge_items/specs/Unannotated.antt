@@ -2,9 +2,7 @@
 use Rattle.std.specs.Prelude.{map}
 use Rattle.ppdb_values.specs.declared.file.FileValue.{FileValue}
 use Rattle.ppdb_values_sound_laws.specs.Customs.{coded_of}
-use Rattle.ppdb_merge_items.specs.declared.file.AnnotatedFile.{AnnotatedFile}
-use Rattle.ppdb_merge_items.specs.Annotated.{items_of, scope_of, all_customs}
-use Rattle.ppdb_merge_items.specs.Sorted.{in_order}
+use Rattle.ppdb_merge_items.specs.{declared.file.AnnotatedFile.AnnotatedFile, Annotated.{items_of, scope_of, all_customs}, Sorted.in_order}
 
 abbrev pub value_of_annotated : AnnotatedFile → FileValue
 value_of_annotated file = record {

@@ -1,16 +1,9 @@
 -- Four worked files: with their records at their items, and back.
-use Rattle.std.specs.Prelude.{◌≡◌, ℕ, [], ◌∷◌, ◌++◌}
-use Rattle.custom_info.specs.Kinds.{dynamic_locals}
-use Rattle.ppdb_values.specs.declared.file.FileValue.{FileValue}
-use Rattle.ppdb_values.specs.declared.annotation.Annotation.{Annotation}
-use Rattle.ppdb_values.specs.declared.scope.VariableValue.{VariableValue}
-use Rattle.ppdb_values.specs.declared.custom.CustomBody.{CustomBody}
-use Rattle.ppdb_values.specs.declared.custom.CustomBody.TheVariants.{Unread}
-use Rattle.ppdb_values.specs.WorkedSmall.{zeros, empty_value, small_value, small_document, variable_x, variable_y}
+use Rattle.ppdb_values.specs.Names.{◌≡◌, ℕ, [], ◌∷◌, ◌++◌, dynamic_locals}
+use Rattle.ppdb_values.specs.{declared.file.FileValue.FileValue, declared.annotation.Annotation.Annotation, declared.scope.VariableValue.VariableValue, declared.custom.CustomBody.CustomBody}
+use Rattle.ppdb_values.specs.{declared.custom.CustomBody.TheVariants.Unread, WorkedSmall.{zeros, empty_value, small_value, small_document, variable_x, variable_y}}
 use Rattle.ppdb_values.specs.WorkedProgram.{program_value, program_document, program_imports, limit}
-use Rattle.ppdb_merge_items.specs.declared.file.AnnotatedFile.{AnnotatedFile}
-use Rattle.ppdb_merge_items.specs.Annotated.{annotated_file}
-use Rattle.ppdb_merge_items.specs.Unannotated.{value_of_annotated}
+use Rattle.ppdb_merge_items.specs.{declared.file.AnnotatedFile.AnnotatedFile, Annotated.annotated_file, Unannotated.value_of_annotated}
 
 -- an item without records
 abbrev pub bare : {X : Type 0} → X → Annotation X

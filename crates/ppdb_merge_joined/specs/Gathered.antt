@@ -1,17 +1,9 @@
 -- Documents of several files, by name, while they are put together.
-use Rattle.std.specs.Prelude.{◌≡◌, ℕ, zero, suc, List, [], ◌∷◌, ◌++◌, map, filter, unwrap_or, bytes_eq, cond}
-use Rattle.std.specs.BTreeMap.{BTreeMap, get}
-use Rattle.std.specs.Cmp.Lexicographic.{slice_cmp}
-use Rattle.std.specs.Ordering.{nat_cmp, is_eq}
-use Rattle.std.specs.declared.vec.Vec.{Vec}
-use Rattle.std.specs.declared.alloc.Global.{Global}
-use Rattle.ppdb_values.specs.declared.file.DocumentValue.{DocumentValue}
-use Rattle.ppdb_values.specs.declared.annotation.Custom.{Custom}
-use Rattle.ppdb_values.specs.declared.annotation.Annotation.{Annotation}
+use Rattle.std.specs.{Prelude.{◌≡◌, ℕ, zero, suc, List, [], ◌∷◌, ◌++◌, map, filter, unwrap_or, bytes_eq, cond}, BTreeMap.{BTreeMap, get}, Cmp.Lexicographic.slice_cmp, Ordering.{nat_cmp, is_eq}}
+use Rattle.std.specs.{declared.vec.Vec.Vec, declared.alloc.Global.Global}
+use Rattle.ppdb_values.specs.{declared.file.DocumentValue.DocumentValue, declared.annotation.{Custom.Custom, Annotation.Annotation}}
 use Rattle.ppdb_merge_items.specs.Annotated.{items_of}
-use Rattle.ppdb_merge_joined.specs.declared.documents.Gathered.{Gathered}
-use Rattle.ppdb_merge_joined.specs.declared.documents.Documents.{Documents}
-use Rattle.ppdb_merge_joined.specs.Joined.{firsts, row_named}
+use Rattle.ppdb_merge_joined.specs.{declared.documents.{Gathered.Gathered, Documents.Documents}, Joined.{firsts, row_named}}
 
 -- the row of a name among the first documents of each name
 abbrev pub row_after : List (Annotation DocumentValue) → List ℕ → ℕ

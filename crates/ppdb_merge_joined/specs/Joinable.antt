@@ -1,9 +1,6 @@
 -- Files that can be joined into a sound one.
 use Rattle.std.specs.Prelude.{◌≡◌, ◌≢◌, ℕ, ◌≤◌, nat_eq, List, [], ◌∷◌, ◌++◌, map, filter, flat_map, slice_index}
-use Rattle.ppdb_merge_items.specs.declared.file.AnnotatedFile.{AnnotatedFile}
-use Rattle.ppdb_merge_items.specs.Each.{Each, Pairs}
-use Rattle.ppdb_merge_items.specs.NamedRows.{all_named}
-use Rattle.ppdb_merge_items.specs.SoundParts.{SoundMoved}
+use Rattle.ppdb_merge_items.specs.{declared.file.AnnotatedFile.AnnotatedFile, Each.{Each, Pairs}, NamedRows.all_named, SoundParts.SoundMoved}
 use Rattle.ppdb_values_sound_laws.specs.Sound.{SoundRows}
 
 -- the methods of which a file says something: those that have points, scopes, state machines or custom records

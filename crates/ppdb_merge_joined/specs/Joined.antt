@@ -1,23 +1,10 @@
 -- Files joined into one, each with its records at their items (Portable PDB v1.0, "Document Table", "ImportScope Table",
 -- "CustomDebugInformation Table").
-use Rattle.std.specs.Prelude.{ℕ, zero, suc, ◌+◌, cond, List, [], ◌∷◌, length, map, filter, flat_map, position, unwrap_or, bytes_eq}
-use Rattle.std.specs.List.{list_any, repeat}
-use Rattle.std.specs.Option.{option_map}
-use Rattle.sequence_points.specs.declared.point.Point.{Point}
-use Rattle.ppdb_tables.specs.RawTables.{row_at}
-use Rattle.ppdb_values.specs.declared.file.DocumentValue.{DocumentValue}
-use Rattle.ppdb_values.specs.declared.file.MethodValue.{MethodValue}
-use Rattle.ppdb_values.specs.declared.import.ImportScopeValue.{ImportScopeValue}
-use Rattle.ppdb_values.specs.declared.custom.CustomBody.{CustomBody}
-use Rattle.ppdb_values.specs.declared.custom.CustomBody.TheVariants.{TypeDocuments}
-use Rattle.ppdb_values.specs.declared.custom.CustomValue.{CustomValue}
-use Rattle.ppdb_values.specs.declared.annotation.Custom.{Custom}
-use Rattle.ppdb_values.specs.declared.annotation.Annotation.{Annotation}
+use Rattle.ppdb_values.specs.Names.{ℕ, zero, suc, ◌+◌, cond, List, [], ◌∷◌, length, map, filter, flat_map, position, unwrap_or, bytes_eq, list_any, repeat, option_map, Point, row_at}
+use Rattle.ppdb_values.specs.{declared.file.{DocumentValue.DocumentValue, MethodValue.MethodValue}, declared.import.ImportScopeValue.ImportScopeValue, declared.custom.CustomBody.CustomBody}
+use Rattle.ppdb_values.specs.{declared.custom.{CustomBody.TheVariants.TypeDocuments, CustomValue.CustomValue}, declared.annotation.{Custom.Custom, Annotation.Annotation}}
 use Rattle.ppdb_values_sound_laws.specs.Customs.{coded_of}
-use Rattle.ppdb_merge_items.specs.declared.file.AnnotatedScope.{AnnotatedScope}
-use Rattle.ppdb_merge_items.specs.declared.file.AnnotatedFile.{AnnotatedFile}
-use Rattle.ppdb_merge_items.specs.Annotated.{items_of, with_item}
-use Rattle.ppdb_merge_items.specs.Sorted.{in_order}
+use Rattle.ppdb_merge_items.specs.{declared.file.{AnnotatedScope.AnnotatedScope, AnnotatedFile.AnnotatedFile}, Annotated.{items_of, with_item}, Sorted.in_order}
 use Rattle.ppdb_merge_joined.specs.Same.{same_custom, same_record, fresh}
 
 -- ---- documents, by name

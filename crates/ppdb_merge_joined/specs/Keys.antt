@@ -1,11 +1,7 @@
 -- Custom records by which equal ones are looked up.
 use Rattle.std.specs.Prelude.{Option, Some, None}
-use Rattle.ppdb_values.specs.declared.custom.CustomBody.{CustomBody}
-use Rattle.ppdb_values.specs.declared.custom.CustomBody.TheVariants.{Async, Hoisted, TypeDocuments, Unread}
-use Rattle.ppdb_values.specs.declared.custom.CustomValue.{CustomValue}
-use Rattle.ppdb_merge_joined.specs.declared.keys.Content.{Content}
-use Rattle.ppdb_merge_joined.specs.declared.keys.Content.TheVariants.{Documents, Unread as Bytes}
-use Rattle.ppdb_merge_joined.specs.declared.keys.Key.{Key}
+use Rattle.ppdb_values.specs.declared.custom.{CustomBody.{CustomBody, TheVariants.{Async, Hoisted, TypeDocuments, Unread}}, CustomValue.CustomValue}
+use Rattle.ppdb_merge_joined.specs.declared.keys.{Content.{Content, TheVariants.{Documents, Unread as Bytes}}, Key.Key}
 
 -- what a key says
 abbrev pub body_of : Content → CustomBody

@@ -1,9 +1,7 @@
 -- What is promised of files that are joined.
 use Rattle.std.specs.Prelude.{◌≡◌, List, [], ◌∷◌}
-use Rattle.ppdb_merge_items.specs.declared.file.AnnotatedFile.{AnnotatedFile}
-use Rattle.ppdb_merge_items.specs.SoundParts.{SoundParts}
-use Rattle.ppdb_merge_joined.specs.Joinable.{AreJoinable, CountsRows}
-use Rattle.ppdb_merge_joined.specs.Joined.{joined}
+use Rattle.ppdb_merge_items.specs.{declared.file.AnnotatedFile.AnnotatedFile, SoundParts.SoundParts}
+use Rattle.ppdb_merge_joined.specs.{Joinable.{AreJoinable, CountsRows}, Joined.joined}
 
 -- One file alone stays as it is, where its parts are sound.
 abbrev pub OneFileStays : Type 0

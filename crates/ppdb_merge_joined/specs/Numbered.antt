@@ -1,10 +1,7 @@
 -- Rows as they are numbered in four bytes.
 use Rattle.std.specs.Prelude.{ℕ, zero, suc, ◌+◌, min, List, [], ◌∷◌, map, length}
-use Rattle.ppdb_values.specs.declared.file.DocumentValue.{DocumentValue}
-use Rattle.ppdb_values.specs.declared.import.ImportScopeValue.{ImportScopeValue}
-use Rattle.ppdb_merge_items.specs.declared.file.AnnotatedScope.{AnnotatedScope}
-use Rattle.ppdb_merge_items.specs.declared.file.AnnotatedFile.{AnnotatedFile}
-use Rattle.ppdb_merge_items.specs.Annotated.{with_item}
+use Rattle.ppdb_values.specs.{declared.file.DocumentValue.DocumentValue, declared.import.ImportScopeValue.ImportScopeValue}
+use Rattle.ppdb_merge_items.specs.{declared.file.{AnnotatedScope.AnnotatedScope, AnnotatedFile.AnnotatedFile}, Annotated.with_item}
 use Rattle.ppdb_merge_joined.specs.Joined.{joined_rows, row_in, renumbered_method, renumbered_custom}
 
 -- a row that may be 0 for none, numbered on as far as four bytes go

@@ -1,16 +1,8 @@
 -- The parts of files, while they are put together.
 use Rattle.std.specs.Prelude.{◌≡◌, List, [], map, flat_map}
-use Rattle.ppdb_values.specs.declared.file.DocumentValue.{DocumentValue}
-use Rattle.ppdb_values.specs.declared.annotation.Custom.{Custom}
-use Rattle.ppdb_values.specs.declared.annotation.Annotation.{Annotation}
-use Rattle.ppdb_values.specs.declared.custom.CustomValue.{CustomValue}
+use Rattle.ppdb_values.specs.{declared.file.DocumentValue.DocumentValue, declared.annotation.{Custom.Custom, Annotation.Annotation}, declared.custom.CustomValue.CustomValue}
 use Rattle.ppdb_merge_items.specs.declared.file.AnnotatedFile.{AnnotatedFile}
-use Rattle.ppdb_merge_joined.specs.declared.documents.Gathered.{Gathered}
-use Rattle.ppdb_merge_joined.specs.declared.joining.Parts.{Parts}
-use Rattle.ppdb_merge_joined.specs.Gathered.{Holds}
-use Rattle.ppdb_merge_joined.specs.Numbered.{put_all}
-use Rattle.ppdb_merge_joined.specs.Joined.{joined_documents}
-use Rattle.ppdb_merge_joined.specs.Repeats.{unrepeated}
+use Rattle.ppdb_merge_joined.specs.{declared.documents.Gathered.Gathered, declared.joining.Parts.Parts, Gathered.Holds, Numbered.put_all, Joined.joined_documents, Repeats.unrepeated}
 
 -- a record apart from its parent, as a record on no row
 abbrev pub on_no_row : Custom → CustomValue

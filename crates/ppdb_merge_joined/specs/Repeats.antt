@@ -1,12 +1,8 @@
 -- Custom records of several inputs without those that equal one of an earlier input, as they are looked up by their keys.
-use Rattle.std.specs.Prelude.{◌≡◌, Bool, true, false, Option, Some, None, List, [], ◌∷◌, ◌++◌, map, not, filter}
-use Rattle.std.specs.BTreeSet.{BTreeSet, contains}
-use Rattle.std.specs.List.{list_any, filter_map}
+use Rattle.std.specs.{Prelude.{◌≡◌, Bool, true, false, Option, Some, None, List, [], ◌∷◌, ◌++◌, map, not, filter, filter_map}, BTreeSet.{BTreeSet, contains}, List.list_any}
 use Rattle.ppdb_values.specs.declared.custom.CustomValue.{CustomValue}
-use Rattle.ppdb_merge_joined.specs.declared.keys.Key.{Key}
+use Rattle.ppdb_merge_joined.specs.{declared.keys.Key.Key, Keys.{plain, record_of}, Same.same_record}
 use Rattle.ppdb_merge_joined.specs.contracts.keys.KeyOrd.TheImpl as key_ord
-use Rattle.ppdb_merge_joined.specs.Keys.{plain, record_of}
-use Rattle.ppdb_merge_joined.specs.Same.{same_record}
 
 -- a set has the keys of these records, and none else
 abbrev pub IsSeen : List CustomValue → BTreeSet Key → Type 0

@@ -1,14 +1,7 @@
 -- Records that are equal, and those of later inputs that equal none of an earlier one.
-use Rattle.std.specs.Prelude.{ℕ, ◌&&◌, ◌++◌, not, Bool, true, false, nat_eq, List, [], ◌∷◌, Option, Some, None, filter, bytes_eq}
-use Rattle.std.specs.List.{list_any}
+use Rattle.ppdb_values.specs.Names.{ℕ, ◌&&◌, ◌++◌, not, Bool, true, false, nat_eq, List, [], ◌∷◌, Option, Some, None, filter, bytes_eq, list_any, Slot, Empty, Held, AsyncStep}
 use lib.Pointwise.{pointwise}
-use Rattle.custom_info.specs.declared.slots.Slot.{Slot}
-use Rattle.custom_info.specs.declared.slots.Slot.TheVariants.{Empty, Held}
-use Rattle.custom_info.specs.declared.stepping.AsyncStep.{AsyncStep}
-use Rattle.ppdb_values.specs.declared.custom.CustomBody.{CustomBody}
-use Rattle.ppdb_values.specs.declared.custom.CustomBody.TheVariants.{Async, Hoisted, TypeDocuments, Unread}
-use Rattle.ppdb_values.specs.declared.custom.CustomValue.{CustomValue}
-use Rattle.ppdb_values.specs.declared.annotation.Custom.{Custom}
+use Rattle.ppdb_values.specs.{declared.custom.{CustomBody.{CustomBody, TheVariants.{Async, Hoisted, TypeDocuments, Unread}}, CustomValue.CustomValue}, declared.annotation.Custom.Custom}
 use Rattle.ppdb_values.specs.Meaning.{without_parent}
 
 abbrev pub same_option : Option ℕ → Option ℕ → Bool

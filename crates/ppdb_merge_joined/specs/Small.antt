@@ -1,7 +1,6 @@
 -- Files whose rows have numbers of four bytes.
 use Rattle.std.specs.Prelude.{◌<◌, ◌≤◌, List, length, sum_by}
-use Rattle.ppdb_merge_items.specs.declared.file.AnnotatedFile.{AnnotatedFile}
-use Rattle.ppdb_merge_items.specs.Each.{Each}
+use Rattle.ppdb_merge_items.specs.{declared.file.AnnotatedFile.AnnotatedFile, Each.Each}
 
 pub record IsSmall (file : AnnotatedFile) : Type 0 where
   pub documents : length file.documents < 0xffffffff

@@ -1,16 +1,9 @@
 -- Worked files that are joined.
 use Rattle.std.specs.Prelude.{◌≡◌, ℕ, List, [], ◌∷◌, ◌++◌, None, codes}
 use Rattle.custom_info.specs.Kinds.{source_link, type_documents}
-use Rattle.ppdb_values.specs.declared.file.DocumentValue.{DocumentValue}
-use Rattle.ppdb_values.specs.declared.import.ImportScopeValue.{ImportScopeValue}
-use Rattle.ppdb_values.specs.declared.custom.CustomBody.TheVariants.{TypeDocuments, Unread}
-use Rattle.ppdb_values.specs.declared.custom.CustomValue.{CustomValue}
-use Rattle.ppdb_values.specs.declared.annotation.Custom.{Custom}
-use Rattle.ppdb_values.specs.declared.annotation.Annotation.{Annotation}
-use Rattle.ppdb_values.specs.WorkedSmall.{zeros}
-use Rattle.ppdb_merge_items.specs.declared.file.AnnotatedScope.{AnnotatedScope}
-use Rattle.ppdb_merge_items.specs.declared.file.AnnotatedFile.{AnnotatedFile}
-use Rattle.ppdb_merge_items.specs.Worked.{bare, empty_annotated}
+use Rattle.ppdb_values.specs.{declared.file.DocumentValue.DocumentValue, declared.import.ImportScopeValue.ImportScopeValue, declared.custom.CustomBody.TheVariants.{TypeDocuments, Unread}}
+use Rattle.ppdb_values.specs.{declared.custom.CustomValue.CustomValue, declared.annotation.{Custom.Custom, Annotation.Annotation}, WorkedSmall.zeros}
+use Rattle.ppdb_merge_items.specs.{declared.file.{AnnotatedScope.AnnotatedScope, AnnotatedFile.AnnotatedFile}, Worked.{bare, empty_annotated}}
 use Rattle.ppdb_merge_joined.specs.Joined.{joined}
 
 -- ---- two files whose records repeat

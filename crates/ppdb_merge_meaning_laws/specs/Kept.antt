@@ -1,24 +1,11 @@
 -- What joined files keep of their inputs: what each said of a method at an IL offset that its map keeps.
-use Rattle.std.specs.Prelude.{◌≡◌, ℕ, Bool, true, false, List, [], ◌∷◌, Some, Contains, map}
-use Rattle.ppdb_base.specs.Offsets.{Kept}
-use Rattle.ppdb_maps.specs.Map.{Map, moved_row, row_image, offsets_in}
-use Rattle.ppdb_maps.specs.Readable.{IsReadable}
-use Rattle.sequence_points.specs.declared.point.Point.{Point}
-use Rattle.ppdb_values.specs.declared.file.FileValue.{FileValue}
-use Rattle.ppdb_values.specs.Links.{links}
-use Rattle.ppdb_values.specs.Meaning.{meaning}
-use Rattle.ppdb_values.specs.Parts.{points_of}
+use Rattle.ppdb_values.specs.Names.{◌≡◌, ℕ, Bool, true, false, List, [], ◌∷◌, Some, Contains, map, Kept, Point}
+use Rattle.ppdb_maps.specs.{Map.{Map, moved_row, row_image, offsets_in}, Readable.IsReadable}
+use Rattle.ppdb_values.specs.{declared.file.FileValue.FileValue, Links.links, Meaning.meaning, Parts.points_of}
 use Rattle.ppdb_values_sound_laws.specs.Sound.{IsSound}
-use Rattle.ppdb_merge_items.specs.declared.file.AnnotatedFile.{AnnotatedFile}
-use Rattle.ppdb_merge_items.specs.Each.{Each, Pairs}
-use Rattle.ppdb_merge_items.specs.NamedRows.{Named, names, named_rows}
-use Rattle.ppdb_merge_items.specs.Annotated.{annotated_file}
-use Rattle.ppdb_merge_items.specs.Unannotated.{value_of_annotated}
-use Rattle.ppdb_merge_joined.specs.Joinable.{AgreeOnDocuments}
-use Rattle.ppdb_merge_joined.specs.Joined.{joined}
-use Rattle.ppdb_merge_moved.specs.Fits.{Fits}
-use Rattle.ppdb_merge_moved.specs.Images.{meaning_image, links_image}
-use Rattle.ppdb_merge_moved.specs.Moved.{moved_file}
+use Rattle.ppdb_merge_items.specs.{declared.file.AnnotatedFile.AnnotatedFile, Each.{Each, Pairs}, NamedRows.{Named, names, named_rows}, Annotated.annotated_file, Unannotated.value_of_annotated}
+use Rattle.ppdb_merge_joined.specs.{Joinable.AgreeOnDocuments, Joined.joined}
+use Rattle.ppdb_merge_moved.specs.{Fits.Fits, Images.{meaning_image, links_image}, Moved.moved_file}
 
 -- what a file says, and the map by which it is moved
 pub record MovedBy : Type 0 where

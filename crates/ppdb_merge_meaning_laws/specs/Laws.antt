@@ -1,11 +1,8 @@
 -- What joined files say of a method.
 use Rattle.std.specs.Prelude.{◌≡◌, ◌≢◌, ℕ, List, ◌∷◌, ◌++◌}
 use Rattle.ppdb_values.specs.Links.{kickoff_of, move_next_of}
-use Rattle.ppdb_merge_items.specs.declared.file.AnnotatedFile.{AnnotatedFile}
-use Rattle.ppdb_merge_items.specs.Each.{Each}
-use Rattle.ppdb_merge_items.specs.AnnotatedMeaning.{annotated_meaning, annotated_links}
-use Rattle.ppdb_merge_joined.specs.Joinable.{AreJoinable, methods_of}
-use Rattle.ppdb_merge_joined.specs.Joined.{joined}
+use Rattle.ppdb_merge_items.specs.{declared.file.AnnotatedFile.AnnotatedFile, Each.Each, AnnotatedMeaning.{annotated_meaning, annotated_links}}
+use Rattle.ppdb_merge_joined.specs.{Joinable.{AreJoinable, methods_of}, Joined.joined}
 
 -- the file says nothing of the method
 abbrev pub SaysNothingOf : ℕ → AnnotatedFile → Type 0

@@ -1,18 +1,10 @@
 -- Where what joined files say comes from: of each method from one input, and on any other row from all that have records on it.
-use Rattle.std.specs.Prelude.{◌≡◌, ℕ, ◌<◌, ◌⊎◌, List, [], ◌∷◌, Some, Contains, map, filter, flat_map}
+use Rattle.ppdb_values.specs.Names.{◌≡◌, ℕ, ◌<◌, ◌⊎◌, List, [], ◌∷◌, Some, Contains, map, filter, flat_map, row_at}
 use Rattle.ppdb_maps.specs.Map.{moved_row}
-use Rattle.ppdb_tables.specs.RawTables.{row_at}
-use Rattle.ppdb_values.specs.declared.file.DocumentValue.{DocumentValue}
-use Rattle.ppdb_values.specs.declared.file.FileValue.{FileValue}
-use Rattle.ppdb_values.specs.declared.custom.CustomValue.{CustomValue}
-use Rattle.ppdb_values.specs.declared.annotation.Custom.{Custom}
-use Rattle.ppdb_values.specs.Meaning.{annotated_on, without_parent}
-use Rattle.ppdb_values.specs.Parts.{is_at}
-use Rattle.ppdb_merge_items.specs.Each.{Each}
-use Rattle.ppdb_merge_items.specs.Annotated.{annotated_file}
-use Rattle.ppdb_merge_joined.specs.Joinable.{methods_of}
-use Rattle.ppdb_merge_joined.specs.Joined.{firsts, customs_named, joined_rows, row_in, renumbered_custom}
-use Rattle.ppdb_merge_joined.specs.Same.{fresh, same_custom}
+use Rattle.ppdb_values.specs.{declared.file.{DocumentValue.DocumentValue, FileValue.FileValue}, declared.custom.CustomValue.CustomValue, declared.annotation.Custom.Custom}
+use Rattle.ppdb_values.specs.{Meaning.{annotated_on, without_parent}, Parts.is_at}
+use Rattle.ppdb_merge_items.specs.{Each.Each, Annotated.annotated_file}
+use Rattle.ppdb_merge_joined.specs.{Joinable.methods_of, Joined.{firsts, customs_named, joined_rows, row_in, renumbered_custom}, Same.{fresh, same_custom}}
 use Rattle.ppdb_merge_moved.specs.Laws.{IsImageOfNamed}
 use Rattle.ppdb_merge_meaning_laws.specs.Kept.{MovedBy, Input, InputsFit, in_turn, moved_input, joined_inputs}
 

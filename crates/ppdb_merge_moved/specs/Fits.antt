@@ -1,18 +1,8 @@
 -- When a map fits a file (docs/FORMAT.md, "Fitting").
-use Rattle.std.specs.Prelude.{◌≡◌, ℕ, ◌<◌, ◌≤◌, Bool, true, IfSome, List, Some, Contains}
-use Rattle.ppdb_base.specs.Offsets.{Kept, old_size}
-use Rattle.custom_info.specs.declared.slots.Slot.{Slot}
-use Rattle.custom_info.specs.declared.slots.Slot.TheVariants.{Empty, Held}
-use Rattle.custom_info.specs.declared.stepping.AsyncStep.{AsyncStep}
+use Rattle.ppdb_values.specs.Names.{◌≡◌, ℕ, ◌<◌, ◌≤◌, Bool, true, IfSome, List, Some, Contains, Kept, old_size, Slot, Empty, Held, AsyncStep}
 use Rattle.ppdb_maps.specs.Map.{Map, row_image, offsets_in, slot_image}
-use Rattle.ppdb_values.specs.declared.custom.CustomBody.{CustomBody}
-use Rattle.ppdb_values.specs.declared.custom.CustomBody.TheVariants.{Async, Hoisted}
-use Rattle.ppdb_values.specs.declared.annotation.Annotation.{Annotation}
-use Rattle.ppdb_values.specs.declared.scope.VariableValue.{VariableValue}
-use Rattle.ppdb_merge_items.specs.declared.file.AnnotatedScope.{AnnotatedScope}
-use Rattle.ppdb_merge_items.specs.declared.file.AnnotatedFile.{AnnotatedFile}
-use Rattle.ppdb_merge_items.specs.Each.{Each}
-use Rattle.ppdb_merge_items.specs.NamedRows.{Named, named_rows, live_scope, live_custom}
+use Rattle.ppdb_values.specs.{declared.custom.CustomBody.{CustomBody, TheVariants.{Async, Hoisted}}, declared.annotation.Annotation.Annotation, declared.scope.VariableValue.VariableValue}
+use Rattle.ppdb_merge_items.specs.{declared.file.{AnnotatedScope.AnnotatedScope, AnnotatedFile.AnnotatedFile}, Each.Each, NamedRows.{Named, named_rows, live_scope, live_custom}}
 
 -- ---- rows
 

@@ -1,20 +1,8 @@
 -- What a map that fits a file knows of a method that the file names, part by part of the file.
-use Rattle.std.specs.Prelude.{◌≡◌, ◌≢◌, ℕ, ◌<◌, ◌≤◌, Bool, true, List, [], ◌∷◌}
-use Rattle.ppdb_tables.specs.declared.rows.MachineRow.{MachineRow}
-use Rattle.ppdb_merge_items.specs.NamedRows.{live_machine}
-use Rattle.ppdb_base.specs.Offsets.{Offsets, Rise, gone, old_size}
-use Rattle.ppdb_merge_items.specs.declared.file.AnnotatedFile.{AnnotatedFile}
-use Rattle.custom_info.specs.declared.slots.Slot.{Slot}
-use Rattle.custom_info.specs.declared.slots.Slot.TheVariants.{Empty, Held}
-use Rattle.ppdb_values.specs.declared.custom.CustomBody.{CustomBody}
-use Rattle.ppdb_values.specs.declared.custom.CustomBody.TheVariants.{Hoisted}
-use Rattle.ppdb_values.specs.declared.custom.CustomValue.{CustomValue}
-use Rattle.ppdb_merge_items.specs.Each.{Each}
+use Rattle.ppdb_values.specs.Names.{◌≡◌, ◌≢◌, ℕ, ◌<◌, ◌≤◌, Bool, true, List, [], ◌∷◌, MachineRow, Offsets, Rise, gone, old_size, Slot, Empty, Held, Point, first_offset}
+use Rattle.ppdb_merge_items.specs.{NamedRows.live_machine, declared.file.{AnnotatedFile.AnnotatedFile, AnnotatedScope.AnnotatedScope}, Each.Each}
+use Rattle.ppdb_values.specs.{declared.custom.{CustomBody.{CustomBody, TheVariants.Hoisted}, CustomValue.CustomValue}, declared.file.MethodValue.MethodValue}
 use Rattle.ppdb_maps.specs.Map.{Map, moved_row, offsets_in}
-use Rattle.sequence_points.specs.declared.point.Point.{Point}
-use Rattle.ppdb_values.specs.declared.file.MethodValue.{MethodValue}
-use Rattle.sequence_points.specs.MovedPoints.{first_offset}
-use Rattle.ppdb_merge_items.specs.declared.file.AnnotatedScope.{AnnotatedScope}
 
 -- offsets rise, and the last is below the end
 abbrev pub PointsRise : ℕ → List Point → Type 0

@@ -1,24 +1,11 @@
 -- What a moved file says at the images of kept offsets: the images of what the file says there.
-use Rattle.std.specs.Prelude.{◌≡◌, ◌≢◌, ℕ, ◌≤◌, Bool, List, Some, Contains, map}
-use Rattle.std.specs.List.{filter_map, find}
-use Rattle.std.specs.Prelude.{nat_eq}
-use Rattle.std.specs.Option.{option_map, option_and_then}
-use Rattle.ppdb_base.specs.Offsets.{gone, Rise, Kept, old_size}
-use Rattle.ppdb_maps.specs.Map.{Map, row_image, moved_row, offsets_in}
-use Rattle.ppdb_values.specs.declared.file.MethodValue.{MethodValue}
-use Rattle.ppdb_merge_items.specs.declared.file.AnnotatedFile.{AnnotatedFile}
-use Rattle.ppdb_tables.specs.declared.rows.MachineRow.{MachineRow}
-use Rattle.ppdb_values.specs.declared.annotation.Custom.{Custom}
-use Rattle.ppdb_values.specs.Links.{kickoff_of, move_next_of}
-use Rattle.ppdb_merge_moved.specs.Moved.{moved_file, moved_method, moved_body}
-use Rattle.ppdb_merge_moved.specs.Images.{scope_image, point_image, slot_meaning_image, meaning_image, partner_image}
-use Rattle.ppdb_merge_items.specs.AnnotatedMeaning.{annotated_links, annotated_meaning, slots_at, scope_meaning, scopes_at, point_meaning}
-use Rattle.ppdb_maps.specs.Readable.{IsReadable}
-use Rattle.ppdb_merge_items.specs.NamedRows.{names, named_rows}
-use Rattle.ppdb_merge_items.specs.SoundParts.{SoundMoved}
-use Rattle.ppdb_merge_moved.specs.Fits.{Fits}
+use Rattle.ppdb_values.specs.Names.{◌≡◌, ◌≢◌, ℕ, ◌≤◌, Bool, List, Some, Contains, map, filter_map, find, nat_eq, option_map, option_and_then, gone, Rise, Kept, old_size, MachineRow}
+use Rattle.ppdb_maps.specs.{Map.{Map, row_image, moved_row, offsets_in}, Readable.IsReadable}
+use Rattle.ppdb_values.specs.{declared.file.MethodValue.MethodValue, declared.annotation.Custom.Custom, Links.{kickoff_of, move_next_of}}
+use Rattle.ppdb_merge_items.specs.{declared.file.AnnotatedFile.AnnotatedFile, AnnotatedMeaning.{annotated_links, annotated_meaning, slots_at, scope_meaning, scopes_at, point_meaning}}
+use Rattle.ppdb_merge_items.specs.{NamedRows.{names, named_rows}, SoundParts.SoundMoved, Each.{Each, Pairs}}
+use Rattle.ppdb_merge_moved.specs.{Moved.{moved_file, moved_method, moved_body}, Images.{scope_image, point_image, slot_meaning_image, meaning_image, partner_image}, Fits.Fits}
 use Rattle.ppdb_merge_moved.specs.FitsMethod.{FitsScope, FitsMethod, FitsCustom, FitsEntry, FitsMachine, FitsFile}
-use Rattle.ppdb_merge_items.specs.Each.{Each, Pairs}
 
 abbrev pub ScopesMean : Type 0
 ScopesMean = (m : Map) (w : AnnotatedFile) (method : ℕ) → Rise (offsets_in m method) → (offsets_in m method ≢ gone) → (x y : ℕ) → Kept (offsets_in m method) x y

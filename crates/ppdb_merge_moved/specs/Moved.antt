@@ -1,32 +1,12 @@
 -- A file moved by a map: rows, offsets and slots become their images, and what has none goes.
-use Rattle.std.specs.Prelude.{ℕ, ◌+◌, ◌&&◌, ◌||◌, not, Bool, cond, nat_eq, nat_lt, List, [], ◌∷◌, Option, Some, None, unwrap_or, map}
-use Rattle.std.specs.List.{filter_map}
-use Rattle.std.specs.Option.{option_map}
-use Rattle.ppdb_base.specs.Offsets.{Offsets, moved}
+use Rattle.ppdb_values.specs.Names.{ℕ, ◌+◌, ◌&&◌, ◌||◌, not, Bool, cond, nat_eq, nat_lt, List, [], ◌∷◌, Option, Some, None, unwrap_or, map, filter_map, option_map, Offsets, moved, Point, TypeToken}
+use Rattle.ppdb_values.specs.Names.{Modifier, Range, Slot, Empty, Held, AsyncStep, MachineRow, moved_points}
 use Rattle.ppdb_maps.specs.Map.{Map, moved_row, moved_signature, offsets_in, slot_image, is_dropped, output_count}
-use Rattle.sequence_points.specs.declared.point.Point.{Point}
-use Rattle.type_blobs.specs.declared.types.TypeToken.{TypeToken}
-use Rattle.type_blobs.specs.declared.types.Modifier.{Modifier}
-use Rattle.custom_info.specs.declared.slots.Range.{Range}
-use Rattle.custom_info.specs.declared.slots.Slot.{Slot}
-use Rattle.custom_info.specs.declared.slots.Slot.TheVariants.{Empty, Held}
-use Rattle.custom_info.specs.declared.stepping.AsyncStep.{AsyncStep}
-use Rattle.ppdb_tables.specs.declared.rows.MachineRow.{MachineRow}
-use Rattle.ppdb_values.specs.declared.file.MethodValue.{MethodValue}
-use Rattle.ppdb_values.specs.declared.scope.VariableValue.{VariableValue}
-use Rattle.ppdb_values.specs.declared.scope.ConstantValue.{ConstantValue}
-use Rattle.ppdb_values.specs.declared.scope.ConstantBody.{ConstantBody}
-use Rattle.ppdb_values.specs.declared.scope.ConstantBody.TheVariants.{Enumerated, General}
-use Rattle.ppdb_values.specs.declared.import.ImportValue.{ImportValue}
-use Rattle.ppdb_values.specs.declared.import.ImportValue.TheVariants.{AssemblyNamespace, Target, AssemblyAlias, AssemblyNamespaceAlias, TargetAlias}
-use Rattle.ppdb_values.specs.declared.import.ImportScopeValue.{ImportScopeValue}
-use Rattle.ppdb_values.specs.declared.custom.CustomBody.{CustomBody}
-use Rattle.ppdb_values.specs.declared.custom.CustomBody.TheVariants.{Async, Hoisted}
-use Rattle.ppdb_values.specs.declared.custom.CustomValue.{CustomValue}
-use Rattle.ppdb_merge_items.specs.declared.file.AnnotatedScope.{AnnotatedScope}
-use Rattle.ppdb_merge_items.specs.declared.file.AnnotatedFile.{AnnotatedFile}
-use Rattle.ppdb_merge_items.specs.Annotated.{with_item}
-use Rattle.sequence_points.specs.MovedPoints.{moved_points}
+use Rattle.ppdb_values.specs.{declared.file.MethodValue.MethodValue, declared.scope.{VariableValue.VariableValue, ConstantValue.ConstantValue, ConstantBody.ConstantBody}}
+use Rattle.ppdb_values.specs.{declared.scope.ConstantBody.TheVariants.{Enumerated, General}, declared.import.ImportValue.ImportValue}
+use Rattle.ppdb_values.specs.declared.import.{ImportValue.TheVariants.{AssemblyNamespace, Target, AssemblyAlias, AssemblyNamespaceAlias, TargetAlias}, ImportScopeValue.ImportScopeValue}
+use Rattle.ppdb_values.specs.declared.custom.{CustomBody.{CustomBody, TheVariants.{Async, Hoisted}}, CustomValue.CustomValue}
+use Rattle.ppdb_merge_items.specs.{declared.file.{AnnotatedScope.AnnotatedScope, AnnotatedFile.AnnotatedFile}, Annotated.with_item}
 
 -- ---- offsets
 

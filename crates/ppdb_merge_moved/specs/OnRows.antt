@@ -1,13 +1,8 @@
 -- Custom records by the rows that they are on, as lists of lists (Portable PDB v1.0, "CustomDebugInformation Table": Parent).
-use Rattle.std.specs.Prelude.{◌≡◌, ℕ, ◌+◌, ◌-◌, ◌<◌, ◌++◌, cond, nat_lt, List, [], ◌∷◌, length, get_or, map}
-use Rattle.std.specs.List.{filter, enumerate_from}
-use Rattle.ppdb_values.specs.declared.custom.CustomValue.{CustomValue}
-use Rattle.ppdb_values.specs.declared.annotation.Custom.{Custom}
-use Rattle.ppdb_values.specs.declared.annotation.Annotation.{Annotation}
-use Rattle.ppdb_values.specs.declared.scope.ScopeValue.{ScopeValue}
-use Rattle.ppdb_merge_items.specs.declared.file.AnnotatedScope.{AnnotatedScope}
-use Rattle.ppdb_values.specs.Parts.{is_at}
+use Rattle.std.specs.{Prelude.{◌≡◌, ℕ, ◌+◌, ◌-◌, ◌<◌, ◌++◌, cond, nat_lt, List, [], ◌∷◌, length, get_or, map, filter}, List.enumerate_from}
+use Rattle.ppdb_values.specs.{declared.custom.CustomValue.CustomValue, declared.annotation.{Custom.Custom, Annotation.Annotation}, declared.scope.ScopeValue.ScopeValue, Parts.is_at}
 use Rattle.ppdb_values.specs.Meaning.{without_parent}
+use Rattle.ppdb_merge_items.specs.declared.file.AnnotatedScope.{AnnotatedScope}
 use Rattle.ppdb_merge_moved.specs.declared.annotating.OnRows.{OnRows}
 
 -- the records of some that are on a row, apart from it

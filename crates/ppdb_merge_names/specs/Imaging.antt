@@ -1,10 +1,7 @@
 -- The images of the rows that are named, and the first row that has none.
 use Rattle.std.specs.Prelude.{◌≡◌, ℕ, ◌<◌, List, [], ◌∷◌, ◌++◌, Option, Some, None, Result, Ok, Err, slice_get}
 use Rattle.ppdb_maps.specs.Map.{Map, row_image}
-use Rattle.ppdb_merge_names.specs.declared.imaged.Imaged.{Imaged}
-use Rattle.ppdb_merge_names.specs.declared.imaged.ReferenceError.{ReferenceError}
-use Rattle.ppdb_merge_names.specs.declared.imaged.ReferenceError.TheVariants.{Unmapped, Memory}
-use Rattle.ppdb_merge_names.specs.References.{Reference, names}
+use Rattle.ppdb_merge_names.specs.{declared.imaged.{Imaged.Imaged, ReferenceError.{ReferenceError, TheVariants.{Unmapped, Memory}}}, References.{Reference, names}}
 
 -- the image of a row that is named
 abbrev pub image_of : Map → Reference → Option ℕ

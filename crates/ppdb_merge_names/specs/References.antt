@@ -1,31 +1,11 @@
 -- The rows of the type system that an input names, each with its place, in the order of the places (Portable PDB v1.0, "#Pdb
 -- stream", "Metadata Tables" and the formats of its blobs). What stands at a dropped method names none, nor does the stored local signature
 -- of a method that has a `signature` line.
-use Rattle.std.specs.Prelude.{map, ℕ, ◌&&◌, ◌||◌, not, Bool, false, cond, nat_eq, nat_lt, is_some, List, [], ◌∷◌, ◌++◌, Option, Some, None}
-use Rattle.std.specs.List.{flat_map}
-use Rattle.std.specs.Option.{option_and_then}
-use Rattle.ppdb_base.specs.declared.fault.Place.{Place}
-use Rattle.ppdb_base.specs.Place.{at_byte, cell}
-use Rattle.custom_info.specs.Kinds.{kind_of}
-use Rattle.custom_info.specs.declared.kinds.Kind.{Kind}
-use Rattle.custom_info.specs.declared.kinds.Kind.TheVariants.{Async}
+use Rattle.ppdb_values.specs.Names.{map, ℕ, ◌&&◌, ◌||◌, not, Bool, false, cond, nat_eq, nat_lt, is_some, List, [], ◌∷◌, ◌++◌, Option, Some, None, flat_map, option_and_then, Place, at_byte, cell}
+use Rattle.ppdb_values.specs.Names.{kind_of, Kind, Async, Parent, MethodDebugRow, ScopeRow, ConstantRow, ImportRow, MachineRow, CustomRow, RawTables, count, numbered, row_at}
 use Rattle.ppdb_maps.specs.Map.{Map, is_dropped, signature_line}
-use Rattle.ppdb_tables.specs.declared.parent.Parent.{Parent}
-use Rattle.ppdb_tables.specs.declared.rows.MethodDebugRow.{MethodDebugRow}
-use Rattle.ppdb_tables.specs.declared.rows.ScopeRow.{ScopeRow}
-use Rattle.ppdb_tables.specs.declared.rows.ConstantRow.{ConstantRow}
-use Rattle.ppdb_tables.specs.declared.rows.ImportRow.{ImportRow}
-use Rattle.ppdb_tables.specs.declared.rows.MachineRow.{MachineRow}
-use Rattle.ppdb_tables.specs.declared.rows.CustomRow.{CustomRow}
-use Rattle.ppdb_tables.specs.RawTables.{RawTables, count, numbered, row_at}
-use Rattle.ppdb_values.specs.declared.file.MethodValue.{MethodValue}
-use Rattle.ppdb_values.specs.RawFile.{RawFile, blob, type_limits}
-use Rattle.ppdb_values.specs.Documents.{method_of}
-use Rattle.ppdb_values.specs.Imports.{heap_of}
-use Rattle.ppdb_values.specs.Customs.{parent_of, kind_in}
-use Rattle.ppdb_values.specs.Value.{owner_of}
-use Rattle.type_blobs_rows.specs.declared.row.PlacedRow.{PlacedRow}
-use Rattle.type_blobs_rows.specs.Rows.{constant_types, import_rows, resume_methods}
+use Rattle.ppdb_values.specs.{declared.file.MethodValue.MethodValue, RawFile.{RawFile, blob, type_limits}, Documents.method_of, Imports.heap_of, Customs.{parent_of, kind_in}, Value.owner_of}
+use Rattle.type_blobs_rows.specs.{declared.row.PlacedRow.PlacedRow, Rows.{constant_types, import_rows, resume_methods}}
 
 -- a row that is named, and where
 pub record Reference : Type 0 where

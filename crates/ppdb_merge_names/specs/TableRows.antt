@@ -1,11 +1,9 @@
 -- The references of a table row by row.
-use Rattle.std.specs.Prelude.{ℕ, List, map}
-use Rattle.std.specs.List.{flat_map}
+use Rattle.ppdb_values.specs.Names.{ℕ, List, map, flat_map, RawTables, numbered}
 use Rattle.ppdb_maps.specs.Map.{Map}
-use Rattle.ppdb_tables.specs.RawTables.{RawTables, numbered}
 use Rattle.ppdb_merge_names.specs.References.{Reference, of_method, of_scope, of_import, of_machine, of_custom}
-use Rattle.ppdb_merge_names.specs.declared.rows.Table as table
 use Rattle.ppdb_merge_names.specs.declared.rows.Table.TheVariants.{MethodDebug, LocalScope, ImportScope, StateMachine, Custom}
+use Rattle.ppdb_merge_names.specs.declared.rows.Table as table
 
 abbrev pub table_number : table.Table → ℕ
 table_number MethodDebug = 0x31

@@ -1,11 +1,8 @@
 -- What a file names is what its value names.
 use Rattle.std.specs.Prelude.{◌≡◌, Bool, map}
 use Rattle.ppdb_maps.specs.Map.{Map}
-use Rattle.ppdb_values.specs.RawFile.{RawFile}
-use Rattle.ppdb_values.specs.Rules.{KeepsRules}
-use Rattle.ppdb_values.specs.Value.{value_of}
-use Rattle.ppdb_merge_items.specs.Annotated.{annotated_file}
-use Rattle.ppdb_merge_items.specs.NamedRows.{Named, names, named_rows}
+use Rattle.ppdb_values.specs.{RawFile.RawFile, Rules.KeepsRules, Value.value_of}
+use Rattle.ppdb_merge_items.specs.{Annotated.annotated_file, NamedRows.{Named, names, named_rows}}
 use Rattle.ppdb_merge_names.specs.References.{Reference, references}
 
 -- a reference without its place

@@ -1,6 +1,5 @@
 -- The rows that rows of several inputs become in the file that the inputs are joined into (ECMA-335 II.22: rows count from 1).
-use Rattle.std.specs.Prelude.{◌≡◌, ℕ, zero, suc, ◌+◌, ◌<◌, ◌&&◌, cond, nat_eq, List, [], length, get_or, position, replicate, unwrap_or}
-use Rattle.std.specs.Option.{option_map}
+use Rattle.std.specs.Prelude.{◌≡◌, ℕ, zero, suc, ◌+◌, ◌<◌, ◌&&◌, cond, nat_eq, List, [], length, get_or, position, replicate, unwrap_or, option_map}
 use Rattle.ppdb_merge_order.specs.declared.keys.Key.{Key}
 
 -- the place of a row of an input among those that stay, from 1, and 0 where it goes

@@ -29,7 +29,7 @@ fn note(rows: &mut [u32], row: u32, new: u32)
     }
 }
 
-/// The same of a row of an input.
+/// Notes what the row of a key becomes in the list of its input, where nothing is noted so far.
 fn note_key(lists: &mut [List<u32>], key: Key, new: u32)
     ensures { IsNoted key new lists.old lists.new }
 {

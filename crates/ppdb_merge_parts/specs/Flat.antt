@@ -1,14 +1,8 @@
 -- The file that inputs are joined into, as what becomes of the rows of the inputs (Portable PDB v1.0, "MethodDebugInformation Table",
 -- "LocalScope Table", "ImportScope Table", "StateMachineMethod Table"; docs/FORMAT.md, "Joining").
-use Rattle.std.specs.Prelude.{◌≡◌, ℕ, ◌+◌, cond, List, [], ◌∷◌, Option, Some, None, length, map, flat_map}
-use Rattle.std.specs.List.{filter_map}
-use Rattle.std.specs.Option.{option_map}
+use Rattle.ppdb_values.specs.Names.{◌≡◌, ℕ, ◌+◌, cond, List, [], ◌∷◌, Option, Some, None, length, map, flat_map, filter_map, option_map, MachineRow}
 use Rattle.ppdb_maps.specs.Map.{moved_row, offsets_in}
-use Rattle.ppdb_tables.specs.declared.rows.MachineRow.{MachineRow}
-use Rattle.ppdb_values.specs.declared.file.DocumentValue.{DocumentValue}
-use Rattle.ppdb_values.specs.declared.file.FileValue.{FileValue}
-use Rattle.ppdb_values.specs.declared.file.MethodValue.{MethodValue}
-use Rattle.ppdb_values.specs.declared.import.ImportScopeValue.{ImportScopeValue}
+use Rattle.ppdb_values.specs.{declared.file.{DocumentValue.DocumentValue, FileValue.FileValue, MethodValue.MethodValue}, declared.import.ImportScopeValue.ImportScopeValue}
 use Rattle.ppdb_values.specs.declared.scope.ScopeValue.{ScopeValue}
 use Rattle.ppdb_merge_items.specs.Sorted.{in_order}
 use Rattle.ppdb_merge_joined.specs.Joined.{firsts, row_named, row_in, shifted, renumbered_method, renumbered_import}

@@ -1,24 +1,9 @@
 -- Which offsets a map does not know, and which of async records it does not keep, each with its table, its row and its number in the row
 -- (docs/FORMAT.md, "What does not fit").
-use Rattle.std.specs.Prelude.{◌≡◌, ℕ, ◌<◌, ◌≤◌, true, false, List, [], ◌∷◌, Contains, Option, Some, slice_get}
-use Rattle.std.specs.Option.{option_map}
-use Rattle.ppdb_base.specs.declared.merge_error.MergeError.{MergeError}
-use Rattle.ppdb_base.specs.declared.merge_error.MergeError.TheVariants.{OffsetBeyond, AsyncLost}
-use Rattle.sequence_points.specs.declared.point.Point.{Point}
-use Rattle.custom_info.specs.declared.slots.Range.{Range}
-use Rattle.custom_info.specs.declared.slots.Slot.{Slot}
-use Rattle.custom_info.specs.declared.slots.Slot.TheVariants.{Held}
-use Rattle.ppdb_tables.specs.RawTables.{row_at}
-use Rattle.ppdb_maps.specs.Map.{Map, offsets_in}
-use Rattle.ppdb_maps.specs.Says.{sizes_of}
-use Rattle.ppdb_values.specs.RawFile.{RawFile}
-use Rattle.ppdb_values.specs.Value.{value_of}
-use Rattle.ppdb_values.specs.declared.file.FileValue.{FileValue}
-use Rattle.ppdb_values.specs.declared.file.MethodValue.{MethodValue}
-use Rattle.ppdb_values.specs.declared.scope.ScopeValue.{ScopeValue}
-use Rattle.ppdb_values.specs.declared.custom.CustomBody.{CustomBody}
-use Rattle.ppdb_values.specs.declared.custom.CustomBody.TheVariants.{Hoisted}
-use Rattle.ppdb_values.specs.declared.custom.CustomValue.{CustomValue}
+use Rattle.ppdb_values.specs.Names.{◌≡◌, ℕ, ◌<◌, ◌≤◌, true, false, List, [], ◌∷◌, Contains, Option, Some, slice_get, option_map, MergeError, OffsetBeyond, AsyncLost, Point, Range, Slot, Held, row_at}
+use Rattle.ppdb_maps.specs.{Map.{Map, offsets_in}, Says.sizes_of}
+use Rattle.ppdb_values.specs.{RawFile.RawFile, Value.value_of, declared.file.{FileValue.FileValue, MethodValue.MethodValue}, declared.scope.ScopeValue.ScopeValue}
+use Rattle.ppdb_values.specs.declared.custom.{CustomBody.{CustomBody, TheVariants.Hoisted}, CustomValue.CustomValue}
 use Rattle.ppdb_merge_items.specs.NamedRows.{live_custom}
 use Rattle.ppdb_merge_fits.specs.Offsets.{MethodOffset, async_offsets, beyond, is_kept, lost}
 use Rattle.ppdb_merge_places_laws.specs.Places.{ReportsFirst}

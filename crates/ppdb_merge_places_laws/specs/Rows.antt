@@ -1,13 +1,8 @@
 -- Records of unknown kinds, and variables whose slots have no image, each by its row (docs/FORMAT.md, "What does not fit").
-use Rattle.std.specs.Prelude.{◌≡◌, ℕ, true, false, List, [], ◌∷◌, Option, Some, None}
-use Rattle.ppdb_base.specs.declared.merge_error.MergeError.{MergeError}
-use Rattle.ppdb_base.specs.declared.merge_error.MergeError.TheVariants.{KindUnknown, SlotUnmapped}
+use Rattle.ppdb_values.specs.Names.{◌≡◌, ℕ, true, false, List, [], ◌∷◌, Option, Some, None, MergeError, KindUnknown, SlotUnmapped, row_at}
 use Rattle.ppdb_maps.specs.Map.{Map, is_dropped, slot_image}
-use Rattle.ppdb_tables.specs.RawTables.{row_at}
-use Rattle.ppdb_values.specs.declared.custom.CustomValue.{CustomValue}
-use Rattle.ppdb_values.specs.declared.file.FileValue.{FileValue}
-use Rattle.ppdb_merge_fits.specs.Clashes.{has_unknown_kind, unknown_kinds}
-use Rattle.ppdb_merge_fits.specs.Slots.{used, variable_slots, slots_unmapped}
+use Rattle.ppdb_values.specs.{declared.custom.CustomValue.CustomValue, declared.file.FileValue.FileValue}
+use Rattle.ppdb_merge_fits.specs.{Clashes.{has_unknown_kind, unknown_kinds}, Slots.{used, variable_slots, slots_unmapped}}
 use Rattle.ppdb_merge_places_laws.specs.Places.{ReportsFirst}
 
 -- M6: the kind of a custom record that is at no dropped method is on no list and not marked as free.

@@ -1,21 +1,12 @@
 -- The custom records of the file that inputs are joined into, as what becomes of the records of the inputs (Portable PDB v1.0,
 -- "CustomDebugInformation Table": in order of Parent; docs/FORMAT.md, "Joining").
-use Rattle.std.specs.Prelude.{◌≡◌, ℕ, zero, suc, ◌+◌, ◌≤◌, ◌++◌, ◌&&◌, not, nat_eq, nat_lt, cond, List, [], ◌∷◌}
-use Rattle.std.specs.Prelude.{Option, Some, None, length, map, flat_map, position, sum_by}
-use Rattle.std.specs.List.{filter, filter_map, enumerate_from}
-use Rattle.std.specs.Option.{option_map}
+use Rattle.ppdb_values.specs.Names.{◌≡◌, ℕ, zero, suc, ◌+◌, ◌≤◌, ◌++◌, ◌&&◌, not, nat_eq, nat_lt, cond, List, [], ◌∷◌, Option, Some, None, length, map, flat_map, position, sum_by, filter, filter_map}
+use Rattle.ppdb_values.specs.Names.{enumerate_from, option_map, numbered, row_at, Parent}
 use Rattle.ppdb_maps.specs.Map.{moved_row, offsets_in, is_dropped}
-use Rattle.ppdb_tables.specs.RawTables.{numbered, row_at}
-use Rattle.ppdb_tables.specs.declared.parent.Parent.{Parent}
-use Rattle.ppdb_values.specs.declared.custom.CustomValue.{CustomValue}
-use Rattle.ppdb_values.specs.declared.file.FileValue.{FileValue}
-use Rattle.ppdb_values.specs.declared.scope.ScopeValue.{ScopeValue}
-use Rattle.ppdb_values.specs.Parts.{first_item}
+use Rattle.ppdb_values.specs.{declared.custom.CustomValue.CustomValue, declared.file.FileValue.FileValue, declared.scope.ScopeValue.ScopeValue, Parts.first_item}
 use Rattle.ppdb_values_sound_laws.specs.Customs.{SoundCustoms, coded_of}
-use Rattle.ppdb_merge_items.specs.Each.{Each}
-use Rattle.ppdb_merge_items.specs.Sorted.{in_order}
-use Rattle.ppdb_merge_joined.specs.Joined.{row_in, with_documents}
-use Rattle.ppdb_merge_joined.specs.Same.{fresh, same_record}
+use Rattle.ppdb_merge_items.specs.{Each.Each, Sorted.in_order}
+use Rattle.ppdb_merge_joined.specs.{Joined.{row_in, with_documents}, Same.{fresh, same_record}}
 use Rattle.ppdb_merge_moved.specs.Moved.{moved_range, is_empty, moved_body}
 use Rattle.ppdb_merge_meaning_laws.specs.Kept.{MovedBy, joined_inputs}
 use Rattle.ppdb_merge_parts.specs.Flat.{documents_of, document_rows}
@@ -49,7 +40,7 @@ scopes_left inputs =
 abbrev pub scope_origins : List MovedBy → List Origin
 scope_origins inputs = map origin_of (scopes_left inputs)
 
--- so many rows of an input, from one on
+-- as many rows of an input as are counted, from the first one on
 abbrev pub rows_from : ℕ → ℕ → ℕ → List Origin
 rows_from input first zero = []
 rows_from input first (suc n) = (input, first) ∷ rows_from input (first + 1) n

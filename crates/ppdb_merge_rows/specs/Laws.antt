@@ -1,24 +1,15 @@
 -- That what becomes of the rows of an input is what the joined file is made of.
-use Rattle.std.specs.Prelude.{◌≡◌, ℕ, ◌&&◌, nat_eq, cond, Bool, List, Option, Some, None, map}
-use Rattle.std.specs.Option.{option_map, option_and_then}
+use Rattle.std.specs.Prelude.{◌≡◌, ℕ, ◌&&◌, nat_eq, cond, Bool, List, Option, Some, None, map, option_map, option_and_then}
 use Rattle.ppdb_maps.specs.Map.{Map, moved_row, is_dropped}
-use Rattle.ppdb_values.specs.declared.custom.CustomValue.{CustomValue}
-use Rattle.ppdb_values.specs.declared.file.DocumentValue.{DocumentValue}
-use Rattle.ppdb_values.specs.declared.file.MethodValue.{MethodValue}
-use Rattle.ppdb_values.specs.declared.import.ImportScopeValue.{ImportScopeValue}
-use Rattle.ppdb_values.specs.Parts.{method_at}
-use Rattle.ppdb_values.specs.RawFile.{RawFile}
-use Rattle.ppdb_values.specs.Value.{value_of}
-use Rattle.ppdb_values_reading.specs.declared.scopes.Scope.{Scope}
-use Rattle.ppdb_values_reading.specs.Scopes.{scope_with}
+use Rattle.ppdb_values.specs.{declared.custom.CustomValue.CustomValue, declared.file.{DocumentValue.DocumentValue, MethodValue.MethodValue}, declared.import.ImportScopeValue.ImportScopeValue}
+use Rattle.ppdb_values.specs.{Parts.method_at, RawFile.RawFile, Value.value_of}
+use Rattle.ppdb_values_reading.specs.{declared.scopes.Scope.Scope, Scopes.scope_with}
 use Rattle.ppdb_merge_items.specs.Annotated.{annotated_file}
 use Rattle.ppdb_merge_joined.specs.Joined.{row_in, renumbered_custom}
-use Rattle.ppdb_merge_moved.specs.Fits.{Fits}
-use Rattle.ppdb_merge_moved.specs.Moved.{moved_custom}
+use Rattle.ppdb_merge_moved.specs.{Fits.Fits, Moved.moved_custom}
 use Rattle.ppdb_merge_meaning_laws.specs.Kept.{MovedBy}
 use Rattle.ppdb_merge_parts.specs.Flat.{document_rows, import_image, method_image, scope_image}
-use Rattle.ppdb_merge_rows.specs.Methods.{method_after, PointsFit}
-use Rattle.ppdb_merge_rows.specs.Rows.{body_after, imports_after, scope_after, scope_value}
+use Rattle.ppdb_merge_rows.specs.{Methods.{method_after, PointsFit}, Rows.{body_after, imports_after, scope_after, scope_value}}
 
 -- a file and its map
 abbrev pub input_of : RawFile → Map → MovedBy

@@ -1,19 +1,11 @@
 -- What becomes of the points of a method of an input (Portable PDB v1.0, "MethodDebugInformation Table", "Sequence Points Blob").
-use Rattle.std.specs.Prelude.{◌≡◌, ◌≢◌, ℕ, ◌<◌, ◌++◌, ◌⊎◌, Bool, true, false, not, nat_lt, List, [], Option, Some, None, All}
-use Rattle.std.specs.Option.{option_map, option_and_then}
-use Rattle.ppdb_base.specs.Offsets.{Offsets, every, gone, lined, old_size}
+use Rattle.ppdb_values.specs.Names.{◌≡◌, ◌≢◌, ℕ, ◌<◌, ◌++◌, ◌⊎◌, Bool, true, false, not, nat_lt, List, [], Option, Some, None, All, option_map, option_and_then, Offsets, every, gone, lined, old_size}
+use Rattle.ppdb_values.specs.Names.{common_document, number_limit, points_blob, large_steps}
 use Rattle.ppdb_maps.specs.Map.{Map, offsets_in}
-use Rattle.sequence_points.specs.Points.{common_document}
-use Rattle.sequence_points.specs.Ranges.{number_limit}
-use Rattle.sequence_points.specs.Written.{points_blob, large_steps}
-use Rattle.ppdb_values.specs.declared.file.MethodValue.{MethodValue}
-use Rattle.ppdb_values.specs.Parts.{method_at}
-use Rattle.ppdb_values.specs.RawFile.{RawFile}
-use Rattle.ppdb_values.specs.Value.{value_of}
+use Rattle.ppdb_values.specs.{declared.file.MethodValue.MethodValue, Parts.method_at, RawFile.RawFile, Value.value_of}
 use Rattle.ppdb_merge_joined.specs.Joined.{row_in, renumbered_method}
 use Rattle.ppdb_merge_moved.specs.Moved.{moved_method}
-use Rattle.ppdb_merge_rows.specs.declared.methods.MovedMethod.{MovedMethod}
-use Rattle.ppdb_merge_rows.specs.declared.methods.MovedMethod.TheVariants.{Gone, Blob, Listed}
+use Rattle.ppdb_merge_rows.specs.declared.methods.MovedMethod.{MovedMethod, TheVariants.{Gone, Blob, Listed}}
 
 -- The method of a row, moved by the map and in the new rows of its documents; none where it has no points, or none that stays.
 abbrev pub method_after : RawFile → Map → List ℕ → ℕ → Option MethodValue

@@ -1,26 +1,13 @@
 -- What becomes of the rows of an input, by their numbers (Portable PDB v1.0, "LocalScope Table", "LocalVariable Table", "LocalConstant
 -- Table", "ImportScope Table", "CustomDebugInformation Table"; docs/FORMAT.md, "Joining").
-use Rattle.std.specs.Prelude.{ℕ, cond, List, Option, Some, None, map}
+use Rattle.ppdb_values.specs.Names.{ℕ, cond, List, Option, Some, None, map, RawTables}
 use Rattle.ppdb_maps.specs.Map.{Map, moved_row, offsets_in}
-use Rattle.ppdb_tables.specs.RawTables.{RawTables}
-use Rattle.ppdb_values.specs.declared.custom.CustomBody.{CustomBody}
-use Rattle.ppdb_values.specs.declared.custom.CustomBody.TheVariants.{Unread}
-use Rattle.ppdb_values.specs.declared.custom.CustomValue.{CustomValue}
-use Rattle.ppdb_values.specs.declared.import.ImportScopeValue.{ImportScopeValue}
-use Rattle.ppdb_values.specs.declared.scope.ConstantValue.{ConstantValue}
-use Rattle.ppdb_values.specs.declared.scope.ScopeValue.{ScopeValue}
-use Rattle.ppdb_values.specs.declared.scope.VariableValue.{VariableValue}
-use Rattle.ppdb_values.specs.RawFile.{RawFile}
-use Rattle.ppdb_values.specs.Value.{value_of}
-use Rattle.ppdb_values_reading.specs.declared.scopes.Scope.{Scope}
-use Rattle.ppdb_values_reading.specs.Lent.{variables_of, constants_of}
-use Rattle.ppdb_values_reading.specs.Scopes.{items_in}
+use Rattle.ppdb_values.specs.{declared.custom.{CustomBody.{CustomBody, TheVariants.Unread}, CustomValue.CustomValue}, declared.import.ImportScopeValue.ImportScopeValue}
+use Rattle.ppdb_values.specs.{declared.scope.{ConstantValue.ConstantValue, ScopeValue.ScopeValue, VariableValue.VariableValue}, RawFile.RawFile, Value.value_of}
+use Rattle.ppdb_values_reading.specs.{declared.scopes.Scope.Scope, Lent.{variables_of, constants_of}, Scopes.items_in}
 use Rattle.ppdb_merge_joined.specs.Joined.{row_in, shifted, with_documents, renumbered_import}
 use Rattle.ppdb_merge_moved.specs.Moved.{moved_range, is_empty, moved_variable, moved_constant, moved_import_scope, moved_body}
-use Rattle.ppdb_merge_rows.specs.declared.records.MovedBody.{MovedBody}
-use Rattle.ppdb_merge_rows.specs.declared.records.MovedBody.TheVariants.{Owned, Lent}
-use Rattle.ppdb_merge_rows.specs.declared.records.MovedRecord.{MovedRecord}
-use Rattle.ppdb_merge_rows.specs.declared.scopes.MovedScope.{MovedScope}
+use Rattle.ppdb_merge_rows.specs.{declared.records.{MovedBody.{MovedBody, TheVariants.{Owned, Lent}}, MovedRecord.MovedRecord}, declared.scopes.MovedScope.MovedScope}
 
 -- ---- scopes, and what they own
 

@@ -1,18 +1,9 @@
 -- Hoisted locals that hold an offset, as rows (Portable PDB v1.0, "CustomDebugInformation Table", "State Machine Hoisted Local
 -- Scopes").
-use Rattle.std.specs.Prelude.{ℕ, ◌-◌, List, [], ◌++◌, slice_range, if◌then◌else◌, Option, Some, None}
-use Rattle.std.specs.List.{filter_map, flat_map, enumerate_from}
-use Rattle.std.specs.Option.{option_map}
-use Rattle.custom_info.specs.declared.slots.Range.{Range}
-use Rattle.custom_info.specs.declared.slots.Slot.{Slot}
-use Rattle.custom_info.specs.declared.slots.Slot.TheVariants.{Empty, Held}
-use Rattle.ppdb_tables.specs.declared.rows.CustomRow.{CustomRow}
-use Rattle.ppdb_tables.specs.RawTables.{RawTables, numbered}
-use Rattle.ppdb_values.specs.Customs.{custom_of}
-use Rattle.ppdb_values.specs.Parts.{slots_in, holds}
-use Rattle.ppdb_queries.specs.Cursors.{Walk}
-use Rattle.ppdb_queries.specs.Runs.{customs_at}
-use Rattle.ppdb_queries.specs.declared.hoisted.Hoisted.{Hoisted}
+use Rattle.ppdb_values.specs.Names.{ℕ, ◌-◌, List, [], ◌++◌, slice_range, if◌then◌else◌, Option, Some, None, filter_map, flat_map, enumerate_from, option_map, Range, Slot, Empty, Held, CustomRow}
+use Rattle.ppdb_values.specs.Names.{RawTables, numbered}
+use Rattle.ppdb_values.specs.{Customs.custom_of, Parts.{slots_in, holds}}
+use Rattle.ppdb_queries.specs.{Cursors.Walk, Runs.customs_at, declared.hoisted.Hoisted.Hoisted}
 
 -- the range of a slot that holds an offset
 abbrev pub range_at : ℕ → Slot → Option Range

@@ -1,32 +1,10 @@
 -- What the queries answer of rows is what the value of the file has (Portable PDB v1.0, "Metadata Tables").
-use Rattle.std.specs.Prelude.{◌≡◌, ◌≤◌, ◌+◌, map, ℕ, length, Some, is_some, List}
-use Rattle.std.specs.Option.{option_map}
-use Rattle.std.specs.List.{filter, flat_map, enumerate_from}
-use Rattle.custom_info.specs.declared.slots.Range.{Range}
-use Rattle.ppdb_tables.specs.declared.parent.Parent.{Parent}
-use Rattle.ppdb_tables.specs.declared.rows.CustomRow.{CustomRow}
-use Rattle.ppdb_tables.specs.declared.rows.ScopeRow.{ScopeRow}
-use Rattle.ppdb_tables.specs.RawTables.{RawTables, count, row_at}
-use Rattle.ppdb_values.specs.declared.import.ImportScopeValue.{ImportScopeValue}
-use Rattle.ppdb_values.specs.declared.import.ImportValue.{ImportValue}
-use Rattle.ppdb_values.specs.declared.scope.ScopeValue.{ScopeValue}
-use Rattle.ppdb_values.specs.Constants.{constant_of}
-use Rattle.ppdb_values.specs.Customs.{custom_of}
-use Rattle.ppdb_values.specs.Documents.{document_of}
-use Rattle.ppdb_values.specs.Imports.{import_value}
-use Rattle.ppdb_values.specs.Meaning.{SlotMeaning, slots_at}
-use Rattle.ppdb_values.specs.Parts.{customs_on, first_item, import_chain, scopes_at as scopes_of_value, slots_in}
-use Rattle.ppdb_values.specs.RawFile.{RawFile}
-use Rattle.ppdb_values.specs.Rules.{HasRow, HasRowOrNone}
-use Rattle.ppdb_values.specs.Value.{value_of, scope_of, variable_of}
-use Rattle.ppdb_queries.specs.Chains.{links_from}
-use Rattle.ppdb_queries.specs.declared.imports.ImportLink.{ImportLink}
-use Rattle.ppdb_queries.specs.declared.run.Run.{Run}
-use Rattle.ppdb_queries.specs.declared.scopes.ScopeView.{ScopeView}
-use Rattle.ppdb_queries.specs.declared.hoisted.Hoisted.{Hoisted}
-use Rattle.ppdb_queries.specs.Hoisted.{hoisted_at, hoisted_in, records_on, slots_from, slots_of}
-use Rattle.ppdb_queries.specs.Runs.{customs_at, rows_in}
-use Rattle.ppdb_queries.specs.Scopes.{scope_view, scopes_at}
+use Rattle.ppdb_values.specs.Names.{◌≡◌, ◌≤◌, ◌+◌, map, ℕ, length, Some, is_some, List, option_map, filter, flat_map, enumerate_from, Range, Parent, CustomRow, ScopeRow, RawTables, count, row_at}
+use Rattle.ppdb_values.specs.{declared.import.{ImportScopeValue.ImportScopeValue, ImportValue.ImportValue}, declared.scope.ScopeValue.ScopeValue, Constants.constant_of, Customs.custom_of}
+use Rattle.ppdb_values.specs.{Documents.document_of, Imports.import_value, Meaning.{SlotMeaning, slots_at}, Parts.{customs_on, first_item, import_chain, scopes_at as scopes_of_value, slots_in}}
+use Rattle.ppdb_values.specs.{RawFile.RawFile, Rules.{HasRow, HasRowOrNone}, Value.{value_of, scope_of, variable_of}}
+use Rattle.ppdb_queries.specs.{Chains.links_from, declared.imports.ImportLink.ImportLink, declared.run.Run.Run, declared.scopes.ScopeView.ScopeView, declared.hoisted.Hoisted.Hoisted}
+use Rattle.ppdb_queries.specs.{Hoisted.{hoisted_at, hoisted_in, records_on, slots_from, slots_of}, Runs.{customs_at, rows_in}, Scopes.{scope_view, scopes_at}}
 
 -- the records of hoisted locals among the custom records of a method
 abbrev pub hoisted_records : RawTables → ℕ → List (ℕ × CustomRow)

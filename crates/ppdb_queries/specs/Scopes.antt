@@ -1,14 +1,7 @@
 -- Scopes that hold an offset, as rows (Portable PDB v1.0, "LocalScope Table").
-use Rattle.std.specs.Prelude.{map, ℕ, ◌≡◌, ◌-◌, ◌<◌, ◌≤◌, ◌==◌, ◌&&◌, List, [], ◌∷◌, length, slice_range, Option, Some, None}
-use Rattle.std.specs.List.{filter}
-use Rattle.ppdb_tables.specs.declared.rows.ScopeRow.{ScopeRow}
-use Rattle.ppdb_tables.specs.RawTables.{RawTables, numbered}
-use Rattle.ppdb_values.specs.Owners.{list_end}
-use Rattle.ppdb_values.specs.Parts.{holds}
-use Rattle.ppdb_values.specs.Value.{range_of}
-use Rattle.ppdb_queries.specs.declared.run.Run.{Run}
-use Rattle.ppdb_queries.specs.declared.scopes.ScopeView.{ScopeView}
-use Rattle.ppdb_queries.specs.Cursors.{Walk}
+use Rattle.ppdb_values.specs.Names.{map, ℕ, ◌≡◌, ◌-◌, ◌<◌, ◌≤◌, ◌==◌, ◌&&◌, List, [], ◌∷◌, length, slice_range, Option, Some, None, filter, ScopeRow, RawTables, numbered}
+use Rattle.ppdb_values.specs.{Owners.list_end, Parts.holds, Value.range_of}
+use Rattle.ppdb_queries.specs.{declared.run.Run.Run, declared.scopes.ScopeView.ScopeView, Cursors.Walk}
 
 -- the items of a scope: from its list number up to that of the next row, or to the table's end
 abbrev pub list_run : (ScopeRow → ℕ) → List ScopeRow → ℕ → ℕ × ScopeRow → Run

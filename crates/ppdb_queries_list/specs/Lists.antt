@@ -1,7 +1,5 @@
 -- The text of a list of offsets of methods (docs/FORMAT.md, "Lists of offsets").
-use Rattle.std.specs.Prelude.{◌≡◌, ℕ, ◌+◌, ◌≤◌, ◌⊎◌, ◌++◌, List, [], ◌∷◌, codes, length}
-use Rattle.std.specs.Fmt.{decimal}
-use Rattle.std.specs.Str.Parse.{IsNumeral, digits_value}
+use Rattle.std.specs.{Prelude.{◌≡◌, ℕ, ◌+◌, ◌≤◌, ◌⊎◌, ◌++◌, List, [], ◌∷◌, codes, length, decimal}, Str.Parse.{IsNumeral, digits_value}}
 use Rattle.ppdb_base.specs.declared.limits.TheConstants.{MAX_ROWS, MAX_OFFSET}
 use Rattle.ppdb_maps.specs.Words.{IsSilent, line_words}
 use Rattle.ppdb_queries_list.specs.declared.line.MethodOffset.{MethodOffset}

@@ -1,34 +1,17 @@
 -- How a run ends: what its status, its text and the files afterwards have to do with the outcome of its words.
-use Rattle.std.specs.Prelude.{ℕ, ◌≡◌, ◌<◌, ◌≤◌, ◌+◌, ◌-◌, ◌*◌, ◌⊎◌, List, [], ◌∷◌, length, Option, Some, None, Ok, IfSome, slice_get}
-use Rattle.ppdb_base.specs.Causes.{Rose, counted}
-use Rattle.ppdb_base.specs.declared.limits.TheConstants.{MAX_FILE_BYTES}
-use Rattle.ppdb_base.specs.Files.{Files, Contents, reading}
-use Rattle.ppdb_base.specs.First.{IsAccepted}
-use Rattle.ppdb_base.specs.Written.{appended, AppendsPrefix}
-use Rattle.ppdb_run_stops.specs.declared.status.Status.{Status}
-use Rattle.ppdb_run_stops.specs.declared.status.Status.TheVariants.{Done, WriteFault, Memory}
-use Rattle.ppdb_run_stops.specs.Lines.{read_fault_line, write_fault_line}
-use Rattle.ppdb_run_stops.specs.Refusals.{Outcome}
-use Rattle.ppdb_run.specs.Outcome.{IsOutcome, file_at, map_at, unknown_kind, verified, with_input, written}
+use Rattle.ppdb_values.specs.Names.{ℕ, ◌≡◌, ◌<◌, ◌≤◌, ◌+◌, ◌-◌, ◌*◌, ◌⊎◌, List, [], ◌∷◌, length, Option, Some, None, Ok, IfSome, slice_get, Rose, counted, MAX_FILE_BYTES, Files, Contents, reading}
+use Rattle.ppdb_values.specs.Names.{IsAccepted, appended, AppendsPrefix, lines, count}
+use Rattle.ppdb_run_stops.specs.{declared.status.Status.{Status, TheVariants.{Done, WriteFault, Memory}}, Lines.{read_fault_line, write_fault_line}, Refusals.Outcome, Status.UnlessFault}
 use Rattle.ppdb_merge.specs.declared.trace.Trace.{Trace}
-use Rattle.ppdb_run_stops.specs.Status.{UnlessFault}
-use Rattle.ppdb_run_words.specs.Words.{Question, Id, Verify, Query, Links, Breaks, Options, Task, Ask, Lookup, Rebuild, Compose, Merge, Sample, Input, Words}
-use Rattle.ppdb_run_words.specs.Words.{NoTask, read_files, written_file}
-use Rattle.ppdb_run.specs.Writes.{WritesAll, WritesPrefix}
-use Rattle.ppdb_maps.specs.Map.{Map}
-use Rattle.ppdb_maps.specs.Text.{IsMapOf}
-use Rattle.std.specs.Str.Lines.{lines}
-use Rattle.ppdb_queries_list.specs.Lists.{Lists}
-use Rattle.ppdb_queries_list.specs.declared.line.MethodOffset.{MethodOffset}
-use Rattle.ppdb_show.specs.Bound.{query_rows}
-use Rattle.ppdb_show.specs.Lookup.{lookup_rows}
-use Rattle.ppdb_queries.specs.Digits.{digits}
-use Rattle.ppdb_queries.specs.Runs.{customs_at}
-use Rattle.ppdb_tables.specs.RawTables.{count}
+use Rattle.ppdb_run_words.specs.Words.{Question, Id, Verify, Query, Links, Breaks, Options, Task, Ask, Lookup, Rebuild, Compose, Merge, Sample, Input, Words, NoTask, read_files, written_file}
+use Rattle.ppdb_maps.specs.{Map.Map, Text.IsMapOf}
+use Rattle.ppdb_queries_list.specs.{Lists.Lists, declared.line.MethodOffset.MethodOffset}
+use Rattle.ppdb_show.specs.{Bound.query_rows, Lookup.lookup_rows}
+use Rattle.ppdb_queries.specs.{Digits.digits, Runs.customs_at}
 use Rattle.source_link.specs.FileLinks.{module_row}
-use Rattle.ppdb_values.specs.RawFile.{RawFile}
-use Rattle.ppdb_values.specs.Value.{value_of}
+use Rattle.ppdb_values.specs.{RawFile.RawFile, Value.value_of}
 use Rattle.ppdb_verify.specs.Files.{FileFaults, IsRawOf}
+use Rattle.ppdb_run.specs.{Outcome.{IsOutcome, file_at, map_at, unknown_kind, verified, with_input, written}, Writes.{WritesAll, WritesPrefix}}
 
 -- what the words ask for: a task, or nothing where no task has them
 abbrev pub Asks : List (List ℕ) → Option Task → Type 0
@@ -62,7 +45,7 @@ pub record OnTask (task : Task) (files : Option Files) (P : Outcome → Type 0) 
 abbrev pub OnOutcome : List (List ℕ) → Option Files → (Outcome → Type 0) → Type 0
 OnOutcome words files P = (asked : Option Task) → Asks words asked → (all : Files) → AreSeen asked files all → OnDue asked all P
 
--- so does P of what is asked for and of its outcome
+-- P holds of what the words ask for and of its outcome, over the files that they see
 abbrev pub OnAsked : List (List ℕ) → Option Files → (Option Task → Outcome → Type 0) → Type 0
 OnAsked words files P = (asked : Option Task) → Asks words asked → (all : Files) → AreSeen asked files all → OnDue asked all (P asked)
 
@@ -88,7 +71,7 @@ ComesToRead (Compose first second output) files read = (read ≡ 0) ⊎ ((read �
 ComesToRead (Merge inputs output options) files read = ComesToInput files options.marks [] inputs read
 ComesToRead (Sample n) files read = ⊥
 
--- this file of the task was to be read, after so many reads that gave a file
+-- the task was to read this file when it stopped: the counter of reads that gave a file rose by those before it
 pub record IsUnreadOf (task : Task) (files : Option Files) (before after : ℕ) (name : List ℕ) : Type 0 where
   -- which read of the task it was
   pub read : ℕ
@@ -103,7 +86,7 @@ IsInputUnread files input before after name =
     ((name ≡ input.file) × (after ≡ before))
     ⊎ ((name ≡ input.map_file) × (after ≡ counted before) × IfSome files (λ all. (bytes : List ℕ) × file_at all input.file (Ok bytes)))
 
--- so it was of the words' task
+-- the task that the words name was to read this file when it stopped
 pub record IsUnread (words : List (List ℕ)) (files : Option Files) (before after : ℕ) (name : List ℕ) : Type 0 where
   pub task : Task
   pub asked : Words task words
@@ -185,7 +168,7 @@ RebuildsToItself options bytes =
     (files : Files) (name other : List ℕ) → reading files name MAX_FILE_BYTES ≡ Contents bytes
     → IsOutcome (Some (Rebuild name other options)) files (written other bytes)
 
--- so it is where each of its custom records is of a kind that is read or passed on
+-- a file is rebuilt to itself if each of its custom records is of a kind that is read or passed on
 abbrev pub RebuildsWhereKnown : Options → List ℕ × List ℕ → Type 0
 RebuildsWhereKnown options file =
     ((raw : RawFile) → IsRawOf file.1 raw → unknown_kind options.marks (value_of raw) ≡ None) → RebuildsToItself options file.1
@@ -204,7 +187,7 @@ ReadsNoRows (Id json) = Unit {0}
 ReadsNoRows Verify = Unit {0}
 ReadsNoRows question = ⊥
 
--- it reads all that the task needs
+-- the verifier reads all that the task needs
 abbrev pub NeedsNoRows : Task → Type 0
 NeedsNoRows (Ask question file) = ReadsNoRows question
 NeedsNoRows (Lookup file list json) = ⊥
@@ -213,7 +196,7 @@ NeedsNoRows (Compose first second output) = Unit {0}
 NeedsNoRows (Merge inputs output options) = ⊥
 NeedsNoRows (Sample n) = ⊥
 
--- so many rows were counted before the answer and after it: to a query, of links and of breaks no more than its bound
+-- between two counts, before an answer and after it, a query, links and breaks read no more rows than their bound
 abbrev pub IsWithinBound : Question → RawFile → ℕ → ℕ → Type 0
 IsWithinBound (Query method offset json) raw before after = after ≤ before + query_rows raw.tables method offset
 IsWithinBound (Links json) raw before after =
@@ -236,8 +219,8 @@ OnLookup (Lookup file list json) files P = IfSome files (λ all. (raw : RawFile)
     → (text : List ℕ) → file_at all list (Ok text) → (asked : List MethodOffset) → Lists (lines text) asked → P raw asked)
 OnLookup task files P = Unit {0}
 
--- so many rows were counted before the task and after it: it reads none that it has no need of, and no more than its bound, which
--- for a lookup is that of the queries of all that the list asks
+-- between two counts, before a task and after it, it read no row if it needs none, and no more than its bound, which for a lookup is
+-- that of the queries of all that the list asks
 pub record IsWithinRows (task : Task) (files : Option Files) (before after : ℕ) : Type 0 where
   pub none : NeedsNoRows task → after ≡ before
   pub bound : OnRead task files (λ question raw. IsWithinBound question raw before after)

@@ -1,57 +1,26 @@
 -- What a command comes to over the files: a status, a text, and at most one file that is written.
-use Rattle.std.specs.Prelude.{ℕ, ◌≡◌, ◌<◌, ◌≤◌, ◌⊎◌, List, [], ◌∷◌, Bool, true, false, if◌then◌else◌, find, Option, Some, None, option_map}
-use Rattle.std.specs.Prelude.{Result, Ok, Err, codes, length}
-use Rattle.custom_info.specs.Kinds.{kind_of}
-use Rattle.ppdb_base.specs.declared.code.Code.{Code}
-use Rattle.ppdb_base.specs.declared.fault.Place.{Place}
-use Rattle.ppdb_base.specs.declared.fault.Fault.{Fault}
-use Rattle.ppdb_base.specs.Files.{Files, Reading, Missing, Longer, Contents, reading}
-use Rattle.ppdb_base.specs.declared.link_error.LinkError.{LinkError}
-use Rattle.ppdb_base.specs.declared.merge_error.MergeError.{MergeError}
-use Rattle.ppdb_base.specs.declared.merge_error.MergeError.TheVariants.{KindUnknown}
-use Rattle.ppdb_base.specs.declared.limits.TheConstants.{MAX_FILE_BYTES}
-use Rattle.ppdb_base.specs.First.{IsAccepted, IsFirst}
-use Rattle.ppdb_run_stops.specs.declared.status.Status.TheVariants as statuses
-use Rattle.std.specs.Str.Lines.{lines}
-use Rattle.ppdb_queries_list.specs.Lists.{IsFirstOther, Lists}
-use Rattle.ppdb_queries_list.specs.declared.line.MethodOffset.{MethodOffset}
-use Rattle.ppdb_show_lines.specs.declared.form.Form.{Form}
-use Rattle.ppdb_show_lines.specs.declared.form.Form.TheVariants.{Text, Json}
-use Rattle.ppdb_show_lines.specs.Forms.{lines_as}
-use Rattle.ppdb_show_lines.specs.Heads.{id_line, entry_line}
-use Rattle.ppdb_show_lines.specs.Pieces.{line}
-use Rattle.ppdb_run.specs.Sample.{sample_text}
-use Rattle.ppdb_show.specs.Lookup.{has_method, lookup_text_of}
-use Rattle.ppdb_run_stops.specs.Refusals.{Outcome, prints, usage, absent, too_long, refused, no_map, unfit, limited, map_limited, no_method, unlinked}
-use Rattle.ppdb_run_stops.specs.Refusals.{no_document, unlisted, sizes_differ}
-use Rattle.ppdb_run_words.specs.Task.{file_of}
-use Rattle.ppdb_run_words.specs.Words.{Question, Id, Verify, Show, Query, Links, Breaks, Options, Input, Task, Ask, Lookup, Rebuild, Compose, Merge, Sample}
+use Rattle.ppdb_values.specs.Names.{ℕ, ◌≡◌, ◌<◌, ◌≤◌, ◌⊎◌, List, [], ◌∷◌, Bool, true, false, if◌then◌else◌, find, Option, Some, None, option_map, Result, Ok, Err, codes, length, kind_of, Code, Place}
+use Rattle.ppdb_values.specs.Names.{Fault, Files, Missing, Longer, Contents, reading, LinkError, MergeError, KindUnknown, MAX_FILE_BYTES, IsAccepted, IsFirst, lines, RowsDiffer, ImageRange, numbered}
+use Rattle.ppdb_base.specs.Files.{Reading}
+use Rattle.ppdb_queries_list.specs.{Lists.{IsFirstOther, Lists}, declared.line.MethodOffset.MethodOffset}
+use Rattle.ppdb_show_lines.specs.{declared.form.Form.{Form, TheVariants.{Text, Json}}, Forms.lines_as, Heads.{id_line, entry_line}, Pieces.line}
+use Rattle.ppdb_show.specs.{Lookup.{has_method, lookup_text_of}, Query.query_text_of, Show.show_text_of}
+use Rattle.ppdb_run_stops.specs.Refusals.{Outcome, prints, usage, absent, too_long, refused, no_map, unfit, limited, map_limited, no_method, unlinked, no_document, unlisted, sizes_differ}
+use Rattle.ppdb_run_words.specs.{Task.file_of, Words.{Question, Id, Verify, Show, Query, Links, Breaks, Options, Input, Task, Ask, Lookup, Rebuild, Compose, Merge, Sample}}
 use Rattle.ppdb_merge_fits.specs.Clashes.{is_unknown}
-use Rattle.ppdb_merge.specs.declared.trace.Trace.{Trace}
-use Rattle.ppdb_merge.specs.Refusals.{added}
-use Rattle.ppdb_merge.specs.Together.{joined_of}
-use Rattle.ppdb_base.specs.declared.merge_error.MergeError.TheVariants.{RowsDiffer, ImageRange}
-use Rattle.map_compose.specs.Composed.{composed}
-use Rattle.map_compose.specs.Sizes.{SizesAgree, IsFirstDiffering}
+use Rattle.ppdb_merge.specs.{declared.trace.Trace.Trace, Refusals.added, Together.joined_of}
+use Rattle.map_compose.specs.{Composed.composed, Sizes.{SizesAgree, IsFirstDiffering}}
 use Rattle.ppdb_maps_text.specs.MapTexts.{map_text}
-use Rattle.ppdb_maps.specs.Map.{Map}
-use Rattle.ppdb_maps.specs.Text.{IsMapOf, Refused}
-use Rattle.ppdb_show.specs.Query.{query_text_of}
+use Rattle.ppdb_maps.specs.{Map.Map, Text.{IsMapOf, Refused}}
 use Rattle.ppdb_run_sample.specs.Sampled.{limit_of_sample, report_of}
 use Rattle.source_link.specs.declared.pair.Pair.{Pair}
-use Rattle.ppdb_show_sources.specs.Links.{file_links, link_text}
-use Rattle.ppdb_show_sources.specs.Breaks.{break_text}
+use Rattle.ppdb_show_sources.specs.{Links.{file_links, link_text}, Breaks.break_text}
 use Rattle.break_lines.specs.Breaks.{document_named}
-use Rattle.ppdb_show.specs.Show.{show_text_of}
-use Rattle.ppdb_build_canon.specs.declared.choice.IdChoice.{IdChoice}
-use Rattle.ppdb_build_canon.specs.declared.choice.IdChoice.TheVariants.{Hash, Keep}
-use Rattle.ppdb_build_canon.specs.Canon.{canon}
-use Rattle.ppdb_build_canon.specs.Limits.{first_limit}
-use Rattle.ppdb_tables.specs.RawTables.{numbered}
-use Rattle.ppdb_values.specs.declared.file.FileValue.{FileValue}
-use Rattle.ppdb_values.specs.Value.{value_of}
-use Rattle.ppdb_values.specs.RawFile.{RawFile}
+use Rattle.ppdb_build_canon.specs.{declared.choice.IdChoice.{IdChoice, TheVariants.{Hash, Keep}}, Canon.canon, Limits.first_limit}
+use Rattle.ppdb_values.specs.{declared.file.FileValue.FileValue, Value.value_of, RawFile.RawFile}
 use Rattle.ppdb_verify.specs.Files.{FileFaults, IsRawOf}
+use Rattle.ppdb_run.specs.Sample.{sample_text}
+use Rattle.ppdb_run_stops.specs.declared.status.Status.TheVariants as statuses
 
 -- ---- steps, of which each may end a command by a refusal
 

@@ -1,17 +1,9 @@
 -- What a command and its steps come to: an answer, or a stop and what holds then.
-use Rattle.std.specs.Prelude.{ℕ, List, Option, Result, Ok, Err, IfErr, IfSome, OnOk, ◌≡◌, ◌≤◌}
-use Rattle.ppdb_base.specs.Causes.{Rose}
-use Rattle.ppdb_base.specs.Files.{Files}
-use Rattle.ppdb_base.specs.Written.{appended, AppendsPrefix}
-use Rattle.ppdb_run_stops.specs.declared.status.Status.{Status}
-use Rattle.ppdb_run_stops.specs.declared.status.Status.TheVariants as statuses
-use Rattle.ppdb_run_stops.specs.declared.stop.Stop.{Stop}
-use Rattle.ppdb_run.specs.Ends.{Asks, AreSeen}
-use Rattle.ppdb_run_stops.specs.Refusals.{Outcome}
-use Rattle.ppdb_run.specs.Outcome.{Step, IsEnd, IsOutcome}
-use Rattle.ppdb_run_stops.specs.Causes.{Cause, Unwritten, OutOfMemory, cause_of, refusal_of, status_of, line_of, OnCut}
+use Rattle.ppdb_values.specs.Names.{ℕ, List, Option, Result, Ok, Err, IfErr, IfSome, OnOk, ◌≡◌, ◌≤◌, Rose, Files, appended, AppendsPrefix}
+use Rattle.ppdb_run_stops.specs.{declared.status.Status.Status, declared.stop.Stop.Stop, Refusals.Outcome, Causes.{Cause, Unwritten, OutOfMemory, cause_of, refusal_of, status_of, line_of, OnCut}}
 use Rattle.ppdb_run_words.specs.Words.{Task}
-use Rattle.ppdb_run.specs.Writes.{WritesAll, WritesPrefix}
+use Rattle.ppdb_run.specs.{Ends.{Asks, AreSeen}, Outcome.{Step, IsEnd, IsOutcome}, Writes.{WritesAll, WritesPrefix}}
+use Rattle.ppdb_run_stops.specs.declared.status.Status.TheVariants as statuses
 
 -- the files where a command stopped that writes these bytes
 abbrev pub LeavesAt : Cause → Option (List ℕ × List ℕ) → Option Files → Option Files → Type 0
@@ -36,7 +28,7 @@ abbrev pub Finds : {T : Type 0} → Result T Stop → (Outcome → Type 0) → T
 Finds (Ok _) Due = (due : Outcome) × Due due
 Finds (Err stop) Due = IfSome (refusal_of (cause_of stop)) Due
 
--- so have the words, over the files that they see
+-- a command that was done, or stopped at a refusal, has the outcome of the words over the files that they see
 abbrev pub FindsOutcome : {T : Type 0} → List (List ℕ) → Option Files → Result T Stop → Type 0
 FindsOutcome words files result = (asked : Option Task) → Asks words asked → (all : Files) → AreSeen asked files all → Finds result (IsOutcome asked all)
 

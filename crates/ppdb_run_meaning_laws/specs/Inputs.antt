@@ -1,16 +1,10 @@
 -- Inputs that were read, and added one after the other under the same marks.
 use Rattle.std.specs.Prelude.{◌≡◌, ◌≤◌, ℕ, List, [], ◌∷◌, Ok, length}
-use Rattle.ppdb_maps.specs.Map.{Map}
-use Rattle.ppdb_maps.specs.Readable.{IsReadable}
-use Rattle.ppdb_values.specs.declared.file.FileValue.{FileValue}
-use Rattle.ppdb_values.specs.RawFile.{RawFile}
-use Rattle.ppdb_values.specs.Rules.{KeepsRules}
-use Rattle.ppdb_values.specs.Value.{value_of}
+use Rattle.ppdb_maps.specs.{Map.Map, Readable.IsReadable}
+use Rattle.ppdb_values.specs.{declared.file.FileValue.FileValue, RawFile.RawFile, Rules.KeepsRules, Value.value_of}
 use Rattle.ppdb_merge_items.specs.Each.{Each}
 use Rattle.ppdb_merge_meaning_laws.specs.Kept.{MovedBy}
-use Rattle.ppdb_merge.specs.declared.trace.Trace.{Trace}
-use Rattle.ppdb_merge.specs.Refusals.{added}
-use Rattle.ppdb_merge.specs.Together.{joined_of}
+use Rattle.ppdb_merge.specs.{declared.trace.Trace.Trace, Refusals.added, Together.joined_of}
 
 -- what a file is read as, and the map by which it is moved
 pub record ReadInput : Type 0 where

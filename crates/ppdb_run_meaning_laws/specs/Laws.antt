@@ -1,25 +1,14 @@
 -- What a file that is written says, by what its inputs said.
-use Rattle.std.specs.Prelude.{◌≡◌, ◌≢◌, ◌≤◌, ℕ, List, [], ◌∷◌, None, length, map}
-use Rattle.custom_info.specs.Kinds.{kind_of}
-use Rattle.custom_info.specs.declared.kinds.Kind.TheVariants.{Unknown}
-use Rattle.ppdb_base.specs.First.{IsAccepted}
+use Rattle.ppdb_values.specs.Names.{◌≡◌, ◌≢◌, ◌≤◌, ℕ, List, [], ◌∷◌, None, length, map, kind_of, Unknown, IsAccepted}
 use Rattle.ppdb_maps.specs.Text.{IsMapOf}
-use Rattle.ppdb_values.specs.declared.file.FileValue.{FileValue}
-use Rattle.ppdb_values.specs.RawFile.{RawFile}
-use Rattle.ppdb_values.specs.Rules.{KeepsRules}
-use Rattle.ppdb_values.specs.Types.{HasTypes}
-use Rattle.ppdb_values.specs.Value.{value_of}
-use Rattle.ppdb_build_canon.specs.declared.choice.IdChoice.{IdChoice}
-use Rattle.ppdb_build_canon.specs.Canon.{canon, with_id}
-use Rattle.ppdb_build_canon.specs.Limits.{first_limit}
+use Rattle.ppdb_values.specs.{declared.file.FileValue.FileValue, RawFile.RawFile, Rules.KeepsRules, Types.HasTypes, Value.value_of}
+use Rattle.ppdb_build_canon.specs.{declared.choice.IdChoice.IdChoice, Canon.{canon, with_id}, Limits.first_limit}
 use Rattle.ppdb_verify.specs.Files.{FileFaults, IsRawOf}
 use Rattle.ppdb_build_written_laws.specs.Written.{IsSameAgain, IsValidFile}
 use Rattle.ppdb_merge_items.specs.Each.{Each}
-use Rattle.ppdb_merge_meaning_laws.specs.Kept.{MovedBy, KeepsMeaning}
-use Rattle.ppdb_merge_meaning_laws.specs.Origins.{KeepsOrigins}
+use Rattle.ppdb_merge_meaning_laws.specs.{Kept.{MovedBy, KeepsMeaning}, Origins.KeepsOrigins}
 use Rattle.ppdb_merge_unmoved_laws.specs.NoLines.{left_alone}
-use Rattle.ppdb_merge.specs.declared.trace.Trace.{Trace}
-use Rattle.ppdb_merge.specs.Kept.{AreInputs}
+use Rattle.ppdb_merge.specs.{declared.trace.Trace.Trace, Kept.AreInputs}
 use Rattle.ppdb_run_meaning_laws.specs.Inputs.{ReadInput, IsValidInput, AreAdded, AreJoinedTo, moved_by}
 
 -- ---- bytes

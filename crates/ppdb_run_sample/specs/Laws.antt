@@ -1,11 +1,8 @@
 -- What is promised of a map that fits a file (docs/FORMAT.md, "Fitting").
 use Rattle.std.specs.Prelude.{◌≡◌, ℕ, Bool, List, None}
-use Rattle.ppdb_maps.specs.Map.{Map}
-use Rattle.ppdb_maps.specs.Readable.{IsReadable}
-use Rattle.ppdb_values.specs.RawFile.{RawFile}
-use Rattle.ppdb_values.specs.Rules.{KeepsRules}
-use Rattle.ppdb_merge_fits.specs.Clashes.{first_clash}
-use Rattle.ppdb_merge_fits.specs.Laws.{NoClash}
+use Rattle.ppdb_maps.specs.{Map.Map, Readable.IsReadable}
+use Rattle.ppdb_values.specs.{RawFile.RawFile, Rules.KeepsRules}
+use Rattle.ppdb_merge_fits.specs.{Clashes.first_clash, Laws.NoClash}
 
 -- The other way round than `NothingClashes`: where the map fits what the file says, and each custom record that stands at no dropped
 -- method is of a kind that is read or passed on, nothing is reported of the two.

@@ -1,14 +1,9 @@
 -- What the sample comes to (docs/FORMAT.md, "Sample"): its file, and the file of what its map makes of it.
-use Rattle.std.specs.Prelude.{ℕ, List, [], ◌∷◌, length, Option}
-use Rattle.std.specs.Option.{option_or}
-use Rattle.ppdb_base.specs.declared.limits.Limit.{Limit}
+use Rattle.ppdb_values.specs.Names.{ℕ, List, [], ◌∷◌, length, Option, option_or, Limit}
 use Rattle.ppdb_values.specs.declared.file.FileValue.{FileValue}
-use Rattle.ppdb_build_canon.specs.declared.choice.IdChoice.TheVariants.{Hash, Keep}
-use Rattle.ppdb_build_canon.specs.Canon.{canon, chosen_id}
-use Rattle.ppdb_build_canon.specs.Limits.{first_limit}
+use Rattle.ppdb_build_canon.specs.{declared.choice.IdChoice.TheVariants.{Hash, Keep}, Canon.{canon, chosen_id}, Limits.first_limit}
 use Rattle.ppdb_merge_meaning_laws.specs.Kept.{joined_inputs}
-use Rattle.ppdb_build_sample.specs.Laws.{sample_input}
-use Rattle.ppdb_build_sample.specs.Sample.{sample}
+use Rattle.ppdb_build_sample.specs.{Laws.sample_input, Sample.sample}
 use Rattle.ppdb_run_sample.specs.declared.report.SampleReport.{SampleReport}
 
 -- the sample, moved by its map and joined to nothing else

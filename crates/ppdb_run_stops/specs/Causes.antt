@@ -1,17 +1,12 @@
 -- Why a run stopped, and what that says.
-use Rattle.std.specs.Prelude.{ℕ, List, [], Option, Some, None, ◌≡◌, ◌⊎◌}
+use Rattle.ppdb_values.specs.Names.{ℕ, List, [], Option, Some, None, ◌≡◌, ◌⊎◌, WriteError, Files}
+use Rattle.ppdb_run_stops.specs.{declared.status.Status.Status, declared.stop.Stop.Stop, Lines.{read_fault_line, write_fault_line}}
+use Rattle.ppdb_run_stops.specs.Refusals.{Outcome, usage, absent, too_long, refused, no_map, unfit, limited, map_limited, no_method, unlinked, no_document, sizes_differ, unlisted}
 use Rattle.ppdb_base.specs.declared.link_error.LinkError.TheVariants as link_errors
 use Rattle.ppdb_base.specs.declared.merge_error.MergeError.TheVariants as merge_errors
-use Rattle.ppdb_base.specs.declared.sink.WriteError.{WriteError}
 use Rattle.ppdb_base.specs.declared.sink.WriteError.TheVariants as write_errors
-use Rattle.ppdb_base.specs.Files.{Files}
-use Rattle.ppdb_run_stops.specs.declared.status.Status.{Status}
 use Rattle.ppdb_run_stops.specs.declared.status.Status.TheVariants as statuses
-use Rattle.ppdb_run_stops.specs.declared.stop.Stop.{Stop}
 use Rattle.ppdb_run_stops.specs.declared.stop.Stop.TheVariants as stops
-use Rattle.ppdb_run_stops.specs.Lines.{read_fault_line, write_fault_line}
-use Rattle.ppdb_run_stops.specs.Refusals.{Outcome, usage, absent, too_long, refused, no_map, unfit, limited, map_limited}
-use Rattle.ppdb_run_stops.specs.Refusals.{no_method, unlinked, no_document, sizes_differ, unlisted}
 
 -- why a run stopped
 pub data Cause : Type 0 where
@@ -94,8 +89,8 @@ OnKept cause P = P
 abbrev pub IsNoInput : Status → Type 0
 IsNoInput status = (status ≡ statuses.Absent) ⊎ (status ≡ statuses.TooLong)
 
--- what a stop comes from: Misused says that the words are no command's, ReadFailed, WriteFailed and PutFailed that a count of faults rose,
--- and ToRead and ToWrite of which file
+-- what a stop comes from: Misused says that the words are no command's, ToRead and ToWrite which file was to be read or written, and
+-- ReadFailed, WriteFailed and PutFailed that a count of faults rose
 abbrev pub ComesFrom : Cause → (Misused : Type 0) → (ToRead ToWrite : List ℕ → Type 0) → (files : Option Files) → (ReadFailed WriteFailed PutFailed : Type 0)
     → Type 0
 ComesFrom (Refusal outcome) Misused ToRead ToWrite files ReadFailed WriteFailed PutFailed =

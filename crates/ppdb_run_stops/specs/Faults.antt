@@ -1,8 +1,6 @@
 -- A fault of a file as it is printed: its code and its place.
 use Rattle.std.specs.Prelude.{ℕ, List, [], ◌∷◌, ◌==◌, if◌then◌else◌, codes}
-use Rattle.ppdb_base.specs.declared.fault.Place.{Place}
-use Rattle.ppdb_base.specs.declared.fault.Fault.{Fault}
-use Rattle.ppdb_base.specs.Prelude.{number_of}
+use Rattle.ppdb_base.specs.{declared.fault.{Place.Place, Fault.Fault}, Place.number_of}
 use Rattle.ppdb_show_lines.specs.Lines.{Content, Field, field, mark, number, table}
 
 -- words and what stands after them. These lines are printed as text alone, so their fields have no keys

@@ -1,17 +1,10 @@
 -- The lines that say why a run stopped.
-use Rattle.std.specs.Prelude.{ℕ, List, [], ◌∷◌, ◌++◌, Some, codes}
-use Rattle.ppdb_base.specs.declared.fault.Fault.{Fault}
-use Rattle.ppdb_base.specs.declared.limits.Limit.{Limit}
-use Rattle.ppdb_base.specs.declared.link_error.LinkError.{LinkError}
-use Rattle.ppdb_base.specs.declared.merge_error.MergeError.{MergeError}
-use Rattle.ppdb_base.specs.declared.limits.Limit.TheVariants.{TableRows, ListPastEnd, PointOffset, LineStep, FileSize, SpanTotal}
-use Rattle.ppdb_base.specs.declared.link_error.LinkError.TheVariants as links
-use Rattle.ppdb_base.specs.declared.merge_error.MergeError.TheVariants.{Unmapped, ImageTwice, MethodTaken, OffsetBeyond, AsyncLost, KindUnknown}
-use Rattle.ppdb_base.specs.declared.merge_error.MergeError.TheVariants.{DocumentConflict, RowsDiffer, ImageRange, SlotUnmapped, SlotTwice, Memory}
-use Rattle.ppdb_show_lines.specs.Lines.{Field, Line, mark, number, table, guid, text_of}
-use Rattle.ppdb_show_lines.specs.Lines.{name as named_bytes}
-use Rattle.ppdb_show_lines.specs.Pieces.{line, numbered, signed, tabled}
+use Rattle.ppdb_values.specs.Names.{ℕ, List, [], ◌∷◌, ◌++◌, Some, codes, Fault, Limit, LinkError, MergeError, TableRows, ListPastEnd, PointOffset, LineStep, FileSize, SpanTotal, Unmapped, ImageTwice}
+use Rattle.ppdb_values.specs.Names.{MethodTaken, OffsetBeyond, AsyncLost, KindUnknown, DocumentConflict, RowsDiffer, ImageRange, SlotUnmapped, SlotTwice}
+use Rattle.ppdb_base.specs.declared.merge_error.MergeError.TheVariants.{Memory}
+use Rattle.ppdb_show_lines.specs.{Lines.{Field, Line, mark, number, table, guid, text_of, name as named_bytes}, Pieces.{line, numbered, signed, tabled}}
 use Rattle.ppdb_run_stops.specs.Faults.{said, place_fields, fault_fields}
+use Rattle.ppdb_base.specs.declared.link_error.LinkError.TheVariants as links
 
 -- words, a name and more about it
 abbrev pub about : List ℕ → List ℕ → List Field → Line

@@ -1,15 +1,9 @@
 -- What a command comes to, and the lines that it may stop with.
-use Rattle.std.specs.Prelude.{ℕ, List, [], Option, None, codes}
-use Rattle.ppdb_base.specs.declared.fault.Fault.{Fault}
-use Rattle.ppdb_base.specs.declared.limits.Limit.{Limit}
-use Rattle.ppdb_base.specs.declared.link_error.LinkError.{LinkError}
-use Rattle.ppdb_base.specs.declared.merge_error.MergeError.{MergeError}
+use Rattle.ppdb_values.specs.Names.{ℕ, List, [], Option, None, codes, Fault, Limit, LinkError, MergeError}
 use Rattle.ppdb_show.specs.Lookup.{no_method_line}
 use Rattle.ppdb_show_lines.specs.Lines.{Line, text_of}
-use Rattle.ppdb_run_stops.specs.declared.status.Status.{Status}
+use Rattle.ppdb_run_stops.specs.{declared.status.Status.Status, Lines.{about, usage_line, refused_line, map_line, unfit_line, limit_text, map_limit_text, list_line, links_line, sizes_line}}
 use Rattle.ppdb_run_stops.specs.declared.status.Status.TheVariants as statuses
-use Rattle.ppdb_run_stops.specs.Lines.{about, usage_line, refused_line, map_line, unfit_line, limit_text, map_limit_text}
-use Rattle.ppdb_run_stops.specs.Lines.{list_line, links_line, sizes_line}
 
 pub record Outcome : Type 0 where
   pub status : Status

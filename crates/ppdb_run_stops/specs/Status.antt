@@ -1,8 +1,8 @@
 -- The status that a process ends with.
 use Rattle.std.specs.Prelude.{ℕ}
+use Rattle.ppdb_run_stops.specs.declared.status.Status.TheVariants.{Done, Refused, Usage, ReadFault, WriteFault, Memory, Absent, TooLong, Unfit, Limit, NoMethod, Unlinked, NoDocument, Uncomposed}
+use Rattle.ppdb_run_stops.specs.declared.status.Status.TheVariants.{Unlisted}
 use Rattle.ppdb_run_stops.specs.declared.status.Status.{Status}
-use Rattle.ppdb_run_stops.specs.declared.status.Status.TheVariants.{Done, Refused, Usage, ReadFault, WriteFault, Memory, Absent, TooLong, Unfit, Limit}
-use Rattle.ppdb_run_stops.specs.declared.status.Status.TheVariants.{NoMethod, Unlinked, NoDocument, Uncomposed, Unlisted}
 
 abbrev pub status_number : Status → ℕ
 status_number Done = 0

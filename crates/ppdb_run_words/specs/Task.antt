@@ -1,24 +1,14 @@
 -- A command as it is asked for.
-use Rattle.std.specs.Prelude.{ℕ, ◌≡◌, ◌&&◌, Bool, false, List, [], ◌∷◌, ◌++◌, drop, Option, Some, None, option_map, codes, if◌then◌else◌}
-use Rattle.std.specs.Fmt.{decimal}
-use Rattle.std.specs.List.{prefix_len, take_while}
-use Rattle.std.specs.Option.{unwrap_or}
-use Rattle.std.specs.Str.{bytes_eq}
+use Rattle.std.specs.{Prelude.{ℕ, ◌≡◌, ◌&&◌, Bool, false, List, [], ◌∷◌, ◌++◌, drop, Option, Some, None, option_map, codes, if◌then◌else◌, decimal, take_while, unwrap_or, bytes_eq}, List.prefix_len}
 use Rattle.ppdb_tables.specs.RawTables.{row_at}
-use Rattle.uuid.specs.Text.{parsed}
-use Rattle.uuid.specs.Parts.{swap_fields}
-use Rattle.ppdb_run_words.specs.declared.question.Question.{Question as GivenQuestion}
+use Rattle.uuid.specs.{Text.parsed, Parts.swap_fields}
+use Rattle.ppdb_run_words.specs.{declared.question.Question.Question as GivenQuestion, declared.options.Options.Options as Given, declared.inputs.{Inputs.Inputs, Pair.Pair}}
+use Rattle.ppdb_run_words.specs.declared.command.{Asked.Asked, Command.Command}
+use Rattle.ppdb_run_words.specs.Words.{Question, Id, Verify, Show, Query, Links, Breaks, Options, Input, Task, Ask, Lookup, Rebuild, Compose, Merge, Sample, is_file_word, json_words, texts}
 use Rattle.ppdb_run_words.specs.declared.question.Question.TheVariants as questions
-use Rattle.ppdb_run_words.specs.declared.options.Options.{Options as Given}
-use Rattle.ppdb_run_words.specs.declared.inputs.Inputs.{Inputs}
-use Rattle.ppdb_run_words.specs.declared.inputs.Pair.{Pair}
 use Rattle.ppdb_run_words.specs.declared.inputs.Inputs.TheVariants as inputs
-use Rattle.ppdb_run_words.specs.declared.command.Asked.{Asked}
 use Rattle.ppdb_run_words.specs.declared.command.Asked.TheVariants as asked
-use Rattle.ppdb_run_words.specs.declared.command.Command.{Command}
 use Rattle.ppdb_run_words.specs.declared.command.Command.TheVariants as commands
-use Rattle.ppdb_run_words.specs.Words.{Question, Id, Verify, Show, Query, Links, Breaks, Options, Input, Task, Ask, Lookup, Rebuild, Compose, Merge, Sample}
-use Rattle.ppdb_run_words.specs.Words.{is_file_word, json_words, texts}
 
 abbrev pub question_of : GivenQuestion → Question
 question_of (questions.Id json) = Id json

@@ -1,11 +1,7 @@
 -- The command line: which words ask for what.
-use Rattle.std.specs.Prelude.{ℕ, ◌≡◌, ◌≤◌, ◌⊎◌, List, [], ◌∷◌, ◌++◌, length, map, Bool, true, false, not, ◌&&◌, ◌==◌, Option, Some, None, codes, IsTrue, String}
-use Rattle.std.specs.List.{list_all}
-use Rattle.std.specs.Fmt.{decimal}
-use Rattle.std.specs.String.{string_bytes}
+use Rattle.std.specs.{Prelude.{ℕ, ◌≡◌, ◌≤◌, ◌⊎◌, List, [], ◌∷◌, ◌++◌, length, map, Bool, true, false, not, ◌&&◌, ◌==◌, Option, Some, None, codes, IsTrue, String, decimal, string_bytes}, List.list_all}
 use Rattle.std.specs.declared.alloc.Global.{Global}
-use Rattle.uuid.specs.Text.{parsed}
-use Rattle.uuid.specs.Parts.{swap_fields}
+use Rattle.uuid.specs.{Text.parsed, Parts.swap_fields}
 use Rattle.ppdb_base.specs.declared.limits.TheConstants.{MAX_ROWS, MAX_OFFSET}
 use Rattle.ppdb_run_words.specs.declared.words.TheConstants.{MAX_LINE}
 

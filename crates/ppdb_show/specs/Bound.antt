@@ -1,10 +1,6 @@
 -- How many rows a query of an offset of a method reads at most.
-use Rattle.std.specs.Prelude.{ℕ, ◌+◌, ◌*◌, List, length}
-use Rattle.std.specs.List.{sum_by}
-use Rattle.ppdb_tables.specs.RawTables.{RawTables}
-use Rattle.ppdb_queries.specs.declared.scopes.ScopeView.{ScopeView}
-use Rattle.ppdb_queries.specs.Digits.{digits}
-use Rattle.ppdb_queries.specs.Scopes.{scopes_at, scope_count}
+use Rattle.ppdb_values.specs.Names.{ℕ, ◌+◌, ◌*◌, List, length, sum_by, RawTables}
+use Rattle.ppdb_queries.specs.{declared.scopes.ScopeView.ScopeView, Digits.digits, Scopes.{scopes_at, scope_count}}
 use Rattle.ppdb_show.specs.Query.{customs_on, variables_of, constants_of, imports_of}
 
 -- a row that is shown, and the custom records on it

@@ -1,14 +1,9 @@
 -- What a lookup of a list of offsets prints, line by line, and how many rows it reads at most (this project's format).
-use Rattle.std.specs.Prelude.{ℕ, List, [], ◌∷◌, Bool, nat_le, ◌&&◌, codes, if◌then◌else◌}
-use Rattle.std.specs.List.{flat_map, sum_by}
+use Rattle.ppdb_values.specs.Names.{ℕ, List, [], ◌∷◌, Bool, nat_le, ◌&&◌, codes, if◌then◌else◌, flat_map, sum_by, RawTables, count}
 use Rattle.ppdb_queries_list.specs.declared.line.MethodOffset.{MethodOffset}
-use Rattle.ppdb_show_lines.specs.declared.form.Form.{Form}
-use Rattle.ppdb_show_lines.specs.Forms.{lines_as}
-use Rattle.ppdb_show_lines.specs.Lines.{Line, field, number}
-use Rattle.ppdb_tables.specs.RawTables.{RawTables, count}
+use Rattle.ppdb_show_lines.specs.{declared.form.Form.Form, Forms.lines_as, Lines.{Line, field, number}}
 use Rattle.ppdb_values.specs.RawFile.{RawFile}
-use Rattle.ppdb_show.specs.Bound.{query_rows}
-use Rattle.ppdb_show.specs.Query.{query_lines}
+use Rattle.ppdb_show.specs.{Bound.query_rows, Query.query_lines}
 
 -- the file has such a method
 abbrev pub has_method : RawTables → ℕ → Bool

@@ -1,35 +1,11 @@
 -- What a query of an offset of a method prints, line by line, as text or as objects of JSON (this project's format; Portable PDB v1.0, "Metadata Tables").
-use Rattle.std.specs.Prelude.{map, ℕ, List, [], ◌∷◌, ◌++◌, Option, Some, None, Bool, true, false, ◌==◌, codes, unwrap_or}
-use Rattle.std.specs.Option.{option_map}
-use Rattle.std.specs.List.{flat_map}
-use Rattle.sequence_points.specs.declared.point.Point.{Point}
-use Rattle.custom_info.specs.declared.slots.Range.{Range}
-use Rattle.custom_info.specs.declared.stepping.AsyncStep.{AsyncStep}
-use Rattle.ppdb_tables.specs.declared.rows.ConstantRow.{ConstantRow}
-use Rattle.ppdb_tables.specs.declared.rows.CustomRow.{CustomRow}
-use Rattle.ppdb_tables.specs.declared.rows.ImportRow.{ImportRow}
-use Rattle.ppdb_tables.specs.declared.rows.VariableRow.{VariableRow}
-use Rattle.ppdb_tables.specs.RawTables.{RawTables, row_at}
-use Rattle.ppdb_values.specs.declared.custom.CustomBody.{CustomBody}
-use Rattle.ppdb_values.specs.declared.custom.CustomBody.TheVariants.{Async, Hoisted, TypeDocuments, Unread}
-use Rattle.ppdb_values.specs.declared.scope.VariableValue.{VariableValue}
-use Rattle.ppdb_values.specs.Chains.{chain_of}
-use Rattle.ppdb_values.specs.Customs.{custom_of}
-use Rattle.ppdb_values.specs.Documents.{document_of}
-use Rattle.ppdb_values.specs.Imports.{import_scope_of}
-use Rattle.ppdb_values.specs.Links.{kickoff_of, move_next_of}
-use Rattle.ppdb_values.specs.Parts.{points_of, signature_of, last_point}
-use Rattle.ppdb_values.specs.RawFile.{RawFile, text, blob, guid as guid_in}
-use Rattle.ppdb_values.specs.Value.{owned_by, variable_of, value_of}
-use Rattle.ppdb_queries.specs.declared.hoisted.Hoisted.{Hoisted as HoistedLocal}
-use Rattle.ppdb_queries.specs.declared.scopes.ScopeView.{ScopeView}
-use Rattle.ppdb_queries.specs.Hoisted.{hoisted_at}
-use Rattle.ppdb_queries.specs.Runs.{customs_at}
-use Rattle.ppdb_queries.specs.Scopes.{scopes_at}
-use Rattle.ppdb_show_lines.specs.declared.form.Form.{Form}
-use Rattle.ppdb_show_lines.specs.Forms.{lines_as}
-use Rattle.ppdb_show_lines.specs.Lines.{Line, Content, field, number, guid, octets, name, absent}
-use Rattle.ppdb_show_lines.specs.Uses.{use_line}
+use Rattle.ppdb_values.specs.Names.{map, ℕ, List, [], ◌∷◌, ◌++◌, Option, Some, None, Bool, true, false, ◌==◌, codes, unwrap_or, option_map, flat_map, Point, Range, AsyncStep, ConstantRow, CustomRow}
+use Rattle.ppdb_values.specs.Names.{ImportRow, VariableRow, RawTables, row_at}
+use Rattle.ppdb_values.specs.{declared.custom.CustomBody.{CustomBody, TheVariants.{Async, Hoisted, TypeDocuments, Unread}}, declared.scope.VariableValue.VariableValue, Chains.chain_of}
+use Rattle.ppdb_values.specs.{Customs.custom_of, Documents.document_of, Imports.import_scope_of, Links.{kickoff_of, move_next_of}, Parts.{points_of, signature_of, last_point}}
+use Rattle.ppdb_values.specs.{RawFile.{RawFile, text, blob, guid as guid_in}, Value.{owned_by, variable_of, value_of}}
+use Rattle.ppdb_queries.specs.{declared.hoisted.Hoisted.Hoisted as HoistedLocal, declared.scopes.ScopeView.ScopeView, Hoisted.hoisted_at, Runs.customs_at, Scopes.scopes_at}
+use Rattle.ppdb_show_lines.specs.{declared.form.Form.Form, Forms.lines_as, Lines.{Line, Content, field, number, guid, octets, name, absent}, Uses.use_line}
 use Rattle.ppdb_show.specs.Show.{span_fields}
 
 -- ---- custom records ("CustomDebugInformation Table")

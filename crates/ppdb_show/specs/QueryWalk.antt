@@ -1,19 +1,8 @@
 -- Lines put one after the other, and the rows that are read for them, for the functions that put them.
-use Rattle.std.specs.Prelude.{map, ℕ, ◌≡◌, ◌+◌, ◌*◌, ◌≤◌, ◌++◌, List, ◌∷◌, length, Option, Some, None}
-use Rattle.std.specs.List.{flat_map, sum_by}
-use Rattle.ppdb_tables.specs.declared.rows.ScopeRow.{ScopeRow}
-use Rattle.ppdb_tables.specs.RawTables.{RawTables, row_at}
-use Rattle.ppdb_values.specs.Imports.{import_value}
-use Rattle.ppdb_values.specs.Rules.{HasRow}
-use Rattle.ppdb_queries.specs.declared.imports.ImportLink.{ImportLink}
-use Rattle.ppdb_queries.specs.declared.points.PointAt.{PointAt}
-use Rattle.ppdb_queries.specs.declared.scopes.ScopeView.{ScopeView}
-use Rattle.ppdb_queries.specs.Digits.{digits}
-use Rattle.ppdb_queries.specs.Scopes.{scope_view, scopes_at, scope_count}
-use Rattle.ppdb_show_lines.specs.declared.form.Form.{Form}
-use Rattle.ppdb_show_lines.specs.Forms.{lines_as}
-use Rattle.ppdb_show_lines.specs.Lines.{Line}
-use Rattle.ppdb_show_lines.specs.Uses.{use_line}
+use Rattle.ppdb_values.specs.Names.{map, ℕ, ◌≡◌, ◌+◌, ◌*◌, ◌≤◌, ◌++◌, List, ◌∷◌, length, Option, Some, None, flat_map, sum_by, ScopeRow, RawTables, row_at}
+use Rattle.ppdb_values.specs.{Imports.import_value, Rules.HasRow}
+use Rattle.ppdb_queries.specs.{declared.imports.ImportLink.ImportLink, declared.points.PointAt.PointAt, declared.scopes.ScopeView.ScopeView, Digits.digits, Scopes.{scope_view, scopes_at, scope_count}}
+use Rattle.ppdb_show_lines.specs.{declared.form.Form.Form, Forms.lines_as, Lines.Line, Uses.use_line}
 use Rattle.ppdb_show.specs.Query.{customs_on, customs_found, import_found, point_found, no_point_line, document_name, variables_of, constants_of, imports_of}
 
 -- the lines were put after a text

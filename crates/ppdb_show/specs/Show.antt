@@ -1,28 +1,9 @@
 -- All rows of a file, line by line (this project's format; Portable PDB v1.0, "#Pdb stream" and "Metadata Tables").
-use Rattle.std.specs.Prelude.{map, ℕ, List, [], ◌∷◌, ◌++◌, Option, Some, None, codes, if◌then◌else◌, ◌==◌, unwrap_or}
-use Rattle.std.specs.List.{flat_map, range_with_len}
-use Rattle.sequence_points.specs.declared.point.Point.{Point}
-use Rattle.sequence_points.specs.declared.point.Span.{Span}
-use Rattle.sequence_points.specs.declared.point.Span.TheVariants.{Hidden, Lines}
-use Rattle.ppdb_tables.specs.declared.rows.ScopeRow.{ScopeRow}
-use Rattle.ppdb_tables.specs.declared.rows.MachineRow.{MachineRow}
-use Rattle.ppdb_tables.specs.declared.rows.ConstantRow.{ConstantRow}
-use Rattle.ppdb_tables.specs.declared.rows.CustomRow.{CustomRow}
-use Rattle.ppdb_tables.specs.RawTables.{RawTables, numbered, count}
-use Rattle.ppdb_show_lines.specs.Heads.{id_line, entry_line}
-use Rattle.ppdb_values.specs.declared.file.DocumentValue.{DocumentValue}
-use Rattle.ppdb_values.specs.declared.file.MethodValue.{MethodValue}
-use Rattle.ppdb_values.specs.declared.scope.VariableValue.{VariableValue}
-use Rattle.ppdb_values.specs.declared.import.ImportScopeValue.{ImportScopeValue}
-use Rattle.ppdb_values.specs.RawFile.{RawFile, text, blob, guid as guid_in}
-use Rattle.ppdb_values.specs.Documents.{document_of, method_of}
-use Rattle.ppdb_values.specs.Imports.{import_scope_of}
-use Rattle.ppdb_values.specs.Customs.{parent_of}
-use Rattle.ppdb_values.specs.Value.{owner_of, variable_of, range_of}
-use Rattle.ppdb_show_lines.specs.declared.form.Form.{Form}
-use Rattle.ppdb_show_lines.specs.Forms.{lines_as}
-use Rattle.ppdb_show_lines.specs.Uses.{use_line}
-use Rattle.ppdb_show_lines.specs.Lines.{Line, Field, field, mark, number, table, guid, octets, name}
+use Rattle.ppdb_values.specs.Names.{map, ℕ, List, [], ◌∷◌, ◌++◌, Option, Some, None, codes, if◌then◌else◌, ◌==◌, unwrap_or, flat_map, range_with_len, Point, Span, Hidden, Lines, ScopeRow, MachineRow}
+use Rattle.ppdb_values.specs.Names.{ConstantRow, CustomRow, RawTables, numbered, count}
+use Rattle.ppdb_show_lines.specs.{Heads.{id_line, entry_line}, declared.form.Form.Form, Forms.lines_as, Uses.use_line, Lines.{Line, Field, field, mark, number, table, guid, octets, name}}
+use Rattle.ppdb_values.specs.{declared.file.{DocumentValue.DocumentValue, MethodValue.MethodValue}, declared.scope.VariableValue.VariableValue, declared.import.ImportScopeValue.ImportScopeValue}
+use Rattle.ppdb_values.specs.{RawFile.{RawFile, text, blob, guid as guid_in}, Documents.{document_of, method_of}, Imports.import_scope_of, Customs.parent_of, Value.{owner_of, variable_of, range_of}}
 
 -- ---- the head
 

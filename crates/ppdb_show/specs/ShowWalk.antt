@@ -1,19 +1,10 @@
 -- The lines of one row of a table, for the functions that put them.
-use Rattle.std.specs.Prelude.{ℕ, ◌≡◌, ◌-◌, List, [], ◌∷◌, Option, Some, None, length}
-use Rattle.std.specs.List.{flat_map, range_with_len}
-use Rattle.ppdb_tables.specs.declared.rows.ScopeRow.{ScopeRow}
-use Rattle.ppdb_tables.specs.RawTables.{RawTables, row_at}
-use Rattle.ppdb_values.specs.Documents.{document_of, method_of}
-use Rattle.ppdb_values.specs.Imports.{import_scope_of}
-use Rattle.ppdb_values.specs.Value.{owner_of, variable_of}
-use Rattle.ppdb_show.specs.declared.show.rows.Rows.{Rows}
-use Rattle.ppdb_show.specs.declared.show.rows.Rows.TheVariants.{Documents, Methods, Scopes, Imports, Machines, Customs}
-use Rattle.ppdb_show.specs.declared.show.owned.Owned.{Owned}
-use Rattle.ppdb_show.specs.declared.show.owned.Owned.TheVariants.{Variables, Constants}
+use Rattle.ppdb_values.specs.Names.{ℕ, ◌≡◌, ◌-◌, List, [], ◌∷◌, Option, Some, None, length, flat_map, range_with_len, ScopeRow, RawTables, row_at}
+use Rattle.ppdb_values.specs.{Documents.{document_of, method_of}, Imports.import_scope_of, Value.{owner_of, variable_of}}
 use Rattle.ppdb_show_lines.specs.Lines.{Line}
-use Rattle.ppdb_show.specs.Show.{document_line, lines_of_method, scope_line, variable_line, constant_line, lines_of_import, machine_line}
-use Rattle.ppdb_show.specs.Show.{custom_line, scope_of_item, document_lines, method_lines, scope_lines, variable_lines, constant_lines}
-use Rattle.ppdb_show.specs.Show.{import_lines, machine_lines, custom_lines}
+use Rattle.ppdb_show.specs.Show.{document_line, lines_of_method, scope_line, variable_line, constant_line, lines_of_import, machine_line, custom_line, scope_of_item, document_lines, method_lines}
+use Rattle.ppdb_show.specs.Show.{scope_lines, variable_lines, constant_lines, import_lines, machine_lines, custom_lines}
+use Rattle.ppdb_show.specs.{declared.show.rows.Rows.{Rows, TheVariants.{Documents, Methods, Scopes, Imports, Machines, Customs}}, declared.show.owned.Owned.{Owned, TheVariants.{Variables, Constants}}}
 
 -- the lines that are made of a row, where it is there
 abbrev pub made_of : {X : Type 0} → (X → List Line) → Option X → List Line

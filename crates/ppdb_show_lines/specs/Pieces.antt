@@ -1,6 +1,5 @@
 -- Pieces of lines of text. A piece that has a name of its own is put by a function of its own.
-use Rattle.std.specs.Prelude.{ℕ, ℤ, List, [], ◌∷◌, ◌++◌}
-use Rattle.std.specs.Fmt.{decimal, signed_decimal}
+use Rattle.std.specs.{Prelude.{ℕ, ℤ, List, [], ◌∷◌, ◌++◌, decimal}, Fmt.signed_decimal}
 use Rattle.ppdb_show_lines.specs.Values.{table_text}
 
 -- a line of words

@@ -1,10 +1,9 @@
 -- The tokens of a line's object, key by key.
-use Rattle.std.specs.Prelude.{ℕ, suc, zero, ◌≡◌, List, [], ◌∷◌, ◌++◌, Option, Some, None, decimal, codes, slice_get}
-use Rattle.std.specs.List.{flat_map}
+use Rattle.std.specs.Prelude.{ℕ, suc, zero, ◌≡◌, List, [], ◌∷◌, ◌++◌, Option, Some, None, decimal, codes, slice_get, flat_map}
 use Rattle.json.specs.Token.{Token}
-use Rattle.json.specs.Token as tokens
 use Rattle.serde_json.specs.Data.{Members, no_members, member, string}
 use Rattle.ppdb_show_lines.specs.Lines.{Content, number, guid, octets, absent, content_text, content_data, Field, field, mark, Line, members_of}
+use Rattle.json.specs.Token as tokens
 
 -- what a field holds
 abbrev pub content_token : Content → Token

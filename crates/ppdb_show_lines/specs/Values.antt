@@ -1,9 +1,7 @@
 -- Numbers, GUIDs and bytes as they are printed.
-use Rattle.std.specs.Prelude.{ℕ, List, [], ◌∷◌, Option, Some, None, codes}
-use Rattle.std.specs.Int.{to_be_bytes, w32}
+use Rattle.std.specs.{Prelude.{ℕ, List, [], ◌∷◌, Option, Some, None, codes}, Int.{to_be_bytes, w32}}
 use Rattle.hex.specs.Hex.{encode_lower}
-use Rattle.uuid.specs.Parts.{swap_fields}
-use Rattle.uuid.specs.Text.{hyphenated_text, lower}
+use Rattle.uuid.specs.{Parts.swap_fields, Text.{hyphenated_text, lower}}
 
 -- the number of a table, in two hexadecimal digits
 unfoldable pub table_text : ℕ → List ℕ

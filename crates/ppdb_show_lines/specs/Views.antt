@@ -1,11 +1,6 @@
 -- What the code's lines show.
-use Rattle.std.specs.Prelude.{map, ℕ, List}
-use Rattle.std.specs.List.{flat_map}
-use Rattle.ppdb_show_lines.specs.declared.line.Item.{Item}
-use Rattle.ppdb_show_lines.specs.declared.line.Item.TheVariants.{Number, Table, Token, Guid, Octets, Name, Absent}
-use Rattle.ppdb_show_lines.specs.declared.line.Part.{Part}
-use Rattle.ppdb_show_lines.specs.declared.line.Part.TheVariants.{Field as FieldPart, Mark}
-use Rattle.ppdb_show_lines.specs.Keys.{key_text}
+use Rattle.std.specs.Prelude.{map, ℕ, List, flat_map}
+use Rattle.ppdb_show_lines.specs.{declared.line.{Item.{Item, TheVariants.{Number, Table, Token, Guid, Octets, Name, Absent}}, Part.{Part, TheVariants.{Field as FieldPart, Mark}}}, Keys.key_text}
 use Rattle.ppdb_show_lines.specs.Lines.{Content, number, table, token, guid, octets, name, absent, Field, field, mark, Line, field_text}
 
 abbrev pub content_of : Item → Content

@@ -1,11 +1,8 @@
 -- Where a debugger may stop, line by line (this project's format; Portable PDB v1.0, "Sequence Points Blob").
 use Rattle.std.specs.Prelude.{ℕ, List, [], ◌∷◌, codes, map}
-use Rattle.ppdb_show_lines.specs.declared.form.Form.{Form}
-use Rattle.ppdb_show_lines.specs.Forms.{lines_as}
-use Rattle.ppdb_show_lines.specs.Lines.{Line, field, number}
+use Rattle.ppdb_show_lines.specs.{declared.form.Form.Form, Forms.lines_as, Lines.{Line, field, number}}
 use Rattle.ppdb_values.specs.declared.file.FileValue.{FileValue}
-use Rattle.break_lines.specs.declared.item.Break.{Break}
-use Rattle.break_lines.specs.Breaks.{breaks_in}
+use Rattle.break_lines.specs.{declared.item.Break.Break, Breaks.breaks_in}
 
 abbrev pub break_line : Break → Line
 break_line found = record {

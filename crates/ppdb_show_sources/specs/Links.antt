@@ -1,16 +1,8 @@
 -- What is reported of the sources of a file, line by line (this project's format).
-use Rattle.std.specs.Prelude.{ℕ, List, [], ◌∷◌, Option, Some, None, Result, Ok, codes, map}
-use Rattle.ppdb_base.specs.declared.link_error.LinkError.{LinkError}
-use Rattle.ppdb_show_lines.specs.declared.form.Form.{Form}
-use Rattle.ppdb_show_lines.specs.Forms.{lines_as}
-use Rattle.ppdb_show_lines.specs.Lines.{Line, Content, field, number, name, absent}
-use Rattle.ppdb_tables.specs.RawTables.{numbered}
-use Rattle.ppdb_values.specs.declared.file.DocumentValue.{DocumentValue}
-use Rattle.ppdb_values.specs.declared.file.FileValue.{FileValue}
-use Rattle.source_link.specs.declared.pair.Pair.{Pair}
-use Rattle.source_link.specs.Address.{address_of}
-use Rattle.source_link.specs.FileLinks.{link_record}
-use Rattle.source_link.specs.Record.{links_of}
+use Rattle.ppdb_values.specs.Names.{ℕ, List, [], ◌∷◌, Option, Some, None, Result, Ok, codes, map, LinkError, numbered}
+use Rattle.ppdb_show_lines.specs.{declared.form.Form.Form, Forms.lines_as, Lines.{Line, Content, field, number, name, absent}}
+use Rattle.ppdb_values.specs.declared.file.{DocumentValue.DocumentValue, FileValue.FileValue}
+use Rattle.source_link.specs.{declared.pair.Pair.Pair, Address.address_of, FileLinks.link_record, Record.links_of}
 
 -- without a record there are no pairs
 abbrev pub links_in : Option (List ℕ) → Result (List Pair) LinkError

@@ -1,11 +1,8 @@
 -- What the functions that place the tables say to one another.
 use Rattle.std.specs.Prelude.{◌≡◌, ℕ, ◌+◌, ◌*◌, ◌<◌, ◌≤◌, List, length, take, sum}
-use Rattle.ppdb_base.specs.declared.code.Code.TheVariants.{TablesBounds}
-use Rattle.ppdb_base.specs.declared.fault.Fault.{Fault}
-use Rattle.ppdb_base.specs.Place.{at_byte}
+use Rattle.ppdb_base.specs.{declared.code.Code.TheVariants.TablesBounds, declared.fault.Fault.Fault, Place.at_byte}
 use Rattle.row_layout.specs.declared.column.Sizes.{Sizes}
-use Rattle.ppdb_tables.specs.Layouts.{debug_tables, row_fields}
-use Rattle.ppdb_tables.specs.Tables.{rows_start}
+use Rattle.ppdb_tables.specs.{Layouts.{debug_tables, row_fields}, Tables.rows_start}
 
 -- the fault of the first of some rows, which stand one after another from a place on, that passes the end
 abbrev pub IsRowFault : List ℕ → ℕ → ℕ → ℕ → Fault → Type 0

@@ -1,10 +1,7 @@
 -- The row counts of a stream: after its other fields one number of 4 bytes for each of 64 bits that is set, the lowest table
 -- first (ECMA-335 II.24.2.6, Rows; Portable PDB v1.0, "Standalone debugging metadata", #Pdb, TypeSystemTableRows).
-use Rattle.std.specs.Prelude.{◌≡◌, ℕ, zero, suc, ◌+◌, ◌*◌, ◌<◌, ◌≤◌, ◌⊎◌, List, length, replicate, ◌==◌, if◌then◌else◌}
-use Rattle.std.specs.Int.{bit_at}
-use Rattle.ppdb_base.specs.declared.fault.Fault.{Fault}
-use Rattle.ppdb_base.specs.Place.{at_byte}
-use Rattle.ppdb_base.specs.Fields.{IsField}
+use Rattle.std.specs.{Prelude.{◌≡◌, ℕ, zero, suc, ◌+◌, ◌*◌, ◌<◌, ◌≤◌, ◌⊎◌, List, length, replicate, ◌==◌, if◌then◌else◌}, Int.bit_at}
+use Rattle.ppdb_base.specs.{declared.fault.Fault.Fault, Place.at_byte, Fields.IsField}
 use Rattle.metadata_root.specs.Fields.{number_at}
 use Rattle.ppdb_tables.specs.declared.counts.Part.{Part}
 

@@ -1,15 +1,8 @@
 -- The #Pdb stream, and what is wrong with it (Portable PDB v1.0, "Standalone debugging metadata", #Pdb).
-use Rattle.std.specs.Prelude.{◌≡◌, ◌≢◌, ℕ, ◌+◌, ◌*◌, ◌%◌, ◌^◌, ◌<◌, ◌≤◌, List, ◌∷◌, length, map, take, slice_index}
-use Rattle.std.specs.List.{range_with_len}
-use Rattle.ppdb_base.specs.declared.code.Code.{Code}
-use Rattle.ppdb_base.specs.declared.code.Code.TheVariants.{PdbShort, PdbTables, PdbRows, EntryPoint}
-use Rattle.ppdb_base.specs.declared.fault.Place.{Place}
-use Rattle.ppdb_base.specs.Place.{at_byte}
-use Rattle.ppdb_base.specs.First.{Then}
-use Rattle.ppdb_base.specs.Fields.{IsField}
+use Rattle.std.specs.{Prelude.{◌≡◌, ◌≢◌, ℕ, ◌+◌, ◌*◌, ◌%◌, ◌^◌, ◌<◌, ◌≤◌, List, ◌∷◌, length, map, take, slice_index}, List.range_with_len}
+use Rattle.ppdb_base.specs.{declared.code.Code.{Code, TheVariants.{PdbShort, PdbTables, PdbRows, EntryPoint}}, declared.fault.Place.Place, Place.at_byte, First.Then, Fields.IsField}
 use Rattle.metadata_root.specs.Fields.{number_at}
-use Rattle.ppdb_tables.specs.declared.head.PdbHead.{PdbHead}
-use Rattle.ppdb_tables.specs.Counts.{HasCount, count_fields, count_place, rows_in}
+use Rattle.ppdb_tables.specs.{declared.head.PdbHead.PdbHead, Counts.{HasCount, count_fields, count_place, rows_in}}
 
 -- the entry point's token (EntryPoint)
 abbrev pub entry_in : List ℕ → ℕ

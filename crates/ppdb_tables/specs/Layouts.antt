@@ -1,19 +1,8 @@
 -- The columns of the debug tables (Portable PDB v1.0, "Metadata Tables"), and the rows of a table as its bytes (ECMA-335 II.24.2.6).
-use Rattle.std.specs.Prelude.{ℕ, ◌*◌, List, [], ◌∷◌, map, flat_map, replicate, take, drop, sum, slice_index}
-use Rattle.std.specs.List.{range_with_len}
-use Rattle.row_layout.specs.declared.column.Sizes.{Sizes}
-use Rattle.row_layout.specs.declared.column.Column.{Column}
-use Rattle.row_layout.specs.declared.column.Column.TheVariants.{U16, U32, Text, Blob, Guid, Row, Parent}
-use Rattle.row_layout.specs.Columns.{width_of}
-use Rattle.row_layout.specs.Rows.{cell_in}
-use Rattle.ppdb_tables.specs.declared.rows.DocumentRow.{DocumentRow}
-use Rattle.ppdb_tables.specs.declared.rows.MethodDebugRow.{MethodDebugRow}
-use Rattle.ppdb_tables.specs.declared.rows.ScopeRow.{ScopeRow}
-use Rattle.ppdb_tables.specs.declared.rows.VariableRow.{VariableRow}
-use Rattle.ppdb_tables.specs.declared.rows.ConstantRow.{ConstantRow}
-use Rattle.ppdb_tables.specs.declared.rows.ImportRow.{ImportRow}
-use Rattle.ppdb_tables.specs.declared.rows.MachineRow.{MachineRow}
-use Rattle.ppdb_tables.specs.declared.rows.CustomRow.{CustomRow}
+use Rattle.std.specs.{Prelude.{ℕ, ◌*◌, List, [], ◌∷◌, map, flat_map, replicate, take, drop, sum, slice_index}, List.range_with_len}
+use Rattle.row_layout.specs.{declared.column.{Sizes.Sizes, Column.{Column, TheVariants.{U16, U32, Text, Blob, Guid, Row, Parent}}}, Columns.width_of, Rows.cell_in}
+use Rattle.ppdb_tables.specs.declared.rows.{DocumentRow.DocumentRow, MethodDebugRow.MethodDebugRow, ScopeRow.ScopeRow, VariableRow.VariableRow, ConstantRow.ConstantRow, ImportRow.ImportRow}
+use Rattle.ppdb_tables.specs.declared.rows.{MachineRow.MachineRow, CustomRow.CustomRow}
 
 -- Document: Name, HashAlgorithm, Hash, Language
 abbrev pub document_columns : List Column

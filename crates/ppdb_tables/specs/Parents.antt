@@ -1,7 +1,6 @@
 -- The parents of custom debug information (Portable PDB v1.0, HasCustomDebugInformation; ECMA-335 II.24.2.6): a coded index
 -- has a tag of five bits, which picks one of 27 tables, and above it the row.
-use Rattle.std.specs.Prelude.{◌≡◌, ℕ, ◌+◌, ◌*◌, ◌/◌, ◌%◌, ◌==◌, Option, IfSome, Some, slice_get, position}
-use Rattle.std.specs.Option.{option_map}
+use Rattle.std.specs.Prelude.{◌≡◌, ℕ, ◌+◌, ◌*◌, ◌/◌, ◌%◌, ◌==◌, Option, IfSome, Some, slice_get, position, option_map}
 use Rattle.row_layout.specs.Columns.{parent_tables}
 use Rattle.ppdb_tables.specs.declared.parent.Parent.{Parent}
 

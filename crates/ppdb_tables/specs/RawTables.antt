@@ -1,15 +1,8 @@
 -- The tables of a Portable PDB file as they are stored: the rows of each table as lists of numbers, and the heaps that they
 -- point into (Portable PDB v1.0, "Metadata Tables"; ECMA-335 II.22, II.24.2).
-use Rattle.std.specs.Prelude.{◌≡◌, ℕ, zero, suc, ◌≤◌, List, Option, None, length, slice_get, slice_index}
-use Rattle.std.specs.List.{enumerate_from}
-use Rattle.ppdb_tables.specs.declared.rows.DocumentRow.{DocumentRow}
-use Rattle.ppdb_tables.specs.declared.rows.MethodDebugRow.{MethodDebugRow}
-use Rattle.ppdb_tables.specs.declared.rows.ScopeRow.{ScopeRow}
-use Rattle.ppdb_tables.specs.declared.rows.VariableRow.{VariableRow}
-use Rattle.ppdb_tables.specs.declared.rows.ConstantRow.{ConstantRow}
-use Rattle.ppdb_tables.specs.declared.rows.ImportRow.{ImportRow}
-use Rattle.ppdb_tables.specs.declared.rows.MachineRow.{MachineRow}
-use Rattle.ppdb_tables.specs.declared.rows.CustomRow.{CustomRow}
+use Rattle.std.specs.{Prelude.{◌≡◌, ℕ, zero, suc, ◌≤◌, List, Option, None, length, slice_get, slice_index}, List.enumerate_from}
+use Rattle.ppdb_tables.specs.declared.rows.{DocumentRow.DocumentRow, MethodDebugRow.MethodDebugRow, ScopeRow.ScopeRow, VariableRow.VariableRow, ConstantRow.ConstantRow, ImportRow.ImportRow}
+use Rattle.ppdb_tables.specs.declared.rows.{MachineRow.MachineRow, CustomRow.CustomRow}
 
 pub record RawTables : Type 0 where
   -- how many rows the tables 00 to 3f have

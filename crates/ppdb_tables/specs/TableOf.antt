@@ -1,7 +1,6 @@
 -- What a table is that stands in a stream.
 use Rattle.std.specs.Prelude.{◌≡◌, ℕ, ◌*◌, List, take, drop, sum}
-use Rattle.ppdb_tables.specs.declared.table.Table.{Table}
-use Rattle.ppdb_tables.specs.Layouts.{rows_by}
+use Rattle.ppdb_tables.specs.{declared.table.Table.Table, Layouts.rows_by}
 
 -- the rows of a table
 abbrev pub rows_of : {X : Type 0} → {N : ℕ} → (List ℕ → List ℕ → X) → Table N → List X

@@ -1,23 +1,12 @@
 -- The #~ stream, and what is wrong with it (ECMA-335 II.24.2.6; Portable PDB v1.0, "Standalone debugging metadata", #~).
-use Rattle.std.specs.Prelude.{◌≢◌, ℕ, ◌+◌, ◌*◌, ◌%◌, ◌^◌, ◌<◌, ◌≤◌, ◌⊎◌, List, ◌∷◌, length, take, drop, sum, filter, map, nat_lt, if◌then◌else◌, slice_index}
-use Rattle.std.specs.List.{range_with_len}
-use Rattle.ppdb_base.specs.declared.code.Code.{Code}
-use Rattle.ppdb_base.specs.declared.code.Code.TheVariants.{TablesShort, HeapBits, TablesForeign, TableRows, TablesBounds, MethodRows}
-use Rattle.ppdb_base.specs.declared.fault.Place.{Place}
-use Rattle.ppdb_base.specs.Place.{at_byte}
-use Rattle.ppdb_base.specs.First.{Then}
+use Rattle.std.specs.{Prelude.{◌≢◌, ℕ, ◌+◌, ◌*◌, ◌%◌, ◌^◌, ◌<◌, ◌≤◌, ◌⊎◌, List, ◌∷◌, length, take, drop, sum, filter, map, nat_lt, if◌then◌else◌, slice_index}, List.range_with_len}
+use Rattle.ppdb_base.specs.{declared.code.Code.{Code, TheVariants.{TablesShort, HeapBits, TablesForeign, TableRows, TablesBounds, MethodRows}}, declared.fault.Place.Place, Place.at_byte, First.Then}
 use Rattle.ppdb_base.specs.Fields.{IsField}
-use Rattle.metadata_root.specs.declared.kind.StreamKind.TheVariants.{Tables, Strings, Guids, Blobs}
-use Rattle.metadata_root.specs.Fields.{number_at}
-use Rattle.metadata_root.specs.Streams.{Streams, bytes_of}
-use Rattle.row_layout.specs.declared.column.Sizes.{Sizes}
-use Rattle.row_layout.specs.declared.column.Column.{Column}
-use Rattle.ppdb_tables.specs.declared.head.PdbHead.{PdbHead}
-use Rattle.ppdb_tables.specs.Counts.{HasCount, count_fields, count_place, rows_in}
-use Rattle.ppdb_tables.specs.Layouts.{debug_tables, widths_of, row_fields, rows_by, document_columns, method_columns, scope_columns}
-use Rattle.ppdb_tables.specs.Layouts.{variable_columns, constant_columns, import_columns, machine_columns, custom_columns, document_row}
-use Rattle.ppdb_tables.specs.Layouts.{method_row, scope_row, variable_row, constant_row, import_row, machine_row, custom_row}
-use Rattle.ppdb_tables.specs.RawTables.{RawTables}
+use Rattle.metadata_root.specs.{declared.kind.StreamKind.TheVariants.{Tables, Strings, Guids, Blobs}, Fields.number_at, Streams.{Streams, bytes_of}}
+use Rattle.row_layout.specs.declared.column.{Sizes.Sizes, Column.Column}
+use Rattle.ppdb_tables.specs.Layouts.{debug_tables, widths_of, row_fields, rows_by, document_columns, method_columns, scope_columns, variable_columns, constant_columns, import_columns}
+use Rattle.ppdb_tables.specs.Layouts.{machine_columns, custom_columns, document_row, method_row, scope_row, variable_row, constant_row, import_row, machine_row, custom_row}
+use Rattle.ppdb_tables.specs.{declared.head.PdbHead.PdbHead, Counts.{HasCount, count_fields, count_place, rows_in}, RawTables.RawTables}
 
 -- the bits of the heaps whose indexes have four bytes (HeapSizes)
 abbrev pub heap_sizes : List ℕ → ℕ

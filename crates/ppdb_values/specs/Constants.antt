@@ -1,11 +1,6 @@
 -- The value of a local constant (Portable PDB v1.0, "LocalConstant Table", "LocalConstantSig Blob").
-use Rattle.std.specs.Prelude.{Option, Some, None}
-use Rattle.type_blobs.specs.Constants.{constants, body_of, ConstantBody as StoredBody, primitive, enumerated, general, object}
-use Rattle.ppdb_tables.specs.declared.rows.ConstantRow.{ConstantRow}
-use Rattle.ppdb_tables.specs.RawTables.{RawTables}
-use Rattle.ppdb_values.specs.declared.scope.ConstantBody.{ConstantBody}
-use Rattle.ppdb_values.specs.declared.scope.ConstantBody.TheVariants.{Primitive, Enumerated, General, Object}
-use Rattle.ppdb_values.specs.declared.scope.ConstantValue.{ConstantValue}
+use Rattle.ppdb_values.specs.Names.{Option, Some, None, constants, body_of, ConstantBody as StoredBody, primitive, enumerated, general, object, ConstantRow, RawTables}
+use Rattle.ppdb_values.specs.declared.scope.{ConstantBody.{ConstantBody, TheVariants.{Primitive, Enumerated, General, Object}}, ConstantValue.ConstantValue}
 use Rattle.ppdb_values.specs.RawFile.{text, blob, records_of, begun_of, type_limits}
 
 abbrev pub body_value : StoredBody → ConstantBody

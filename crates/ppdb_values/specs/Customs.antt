@@ -1,22 +1,9 @@
 -- The value of a record of custom debug information (Portable PDB v1.0, "CustomDebugInformation Table", and its kinds
 -- "Async Method Stepping Information", "State Machine Hoisted Local Scopes" and "Type Definition Documents").
-use Rattle.std.specs.Prelude.{ℕ, List, [], ◌∷◌, Option, Some, None, unwrap_or}
-use Rattle.std.specs.List.{filter_map}
-use Rattle.custom_info.specs.declared.kinds.Kind.{Kind}
-use Rattle.custom_info.specs.declared.kinds.Kind.TheVariants.{Async as AsyncKind, Hoisted as HoistedKind, TypeDocuments as DocumentsKind}
-use Rattle.custom_info.specs.declared.stepping.AsyncStep.{AsyncStep}
-use Rattle.custom_info.specs.Kinds.{kind_of}
-use Rattle.custom_info.specs.AsyncStepping.{async_stepping, Entry, catch_handler, await_step}
-use Rattle.custom_info.specs.HoistedScopes.{hoisted_scopes}
-use Rattle.custom_info.specs.TypeDocuments.{type_documents}
-use Rattle.ppdb_tables.specs.declared.rows.CustomRow.{CustomRow}
-use Rattle.ppdb_tables.specs.declared.parent.Parent.{Parent}
-use Rattle.ppdb_tables.specs.Parents.{parent_in}
-use Rattle.ppdb_tables.specs.RawTables.{RawTables, count}
-use Rattle.ppdb_values.specs.declared.custom.CustomBody.{CustomBody}
-use Rattle.ppdb_values.specs.declared.custom.CustomBody.TheVariants.{Async, Hoisted, TypeDocuments, Unread}
-use Rattle.ppdb_values.specs.declared.custom.CustomValue.{CustomValue}
-use Rattle.ppdb_values.specs.RawFile.{blob, guid, records_of}
+use Rattle.ppdb_values.specs.Names.{ℕ, List, [], ◌∷◌, Option, Some, None, unwrap_or, filter_map, Kind, Async as AsyncKind, Hoisted as HoistedKind, TypeDocuments as DocumentsKind, AsyncStep, kind_of}
+use Rattle.ppdb_values.specs.Names.{async_stepping, catch_handler, await_step, type_documents, CustomRow, Parent, parent_in, RawTables, count}
+use Rattle.custom_info.specs.{AsyncStepping.Entry, HoistedScopes.hoisted_scopes}
+use Rattle.ppdb_values.specs.{declared.custom.{CustomBody.{CustomBody, TheVariants.{Async, Hoisted, TypeDocuments, Unread}}, CustomValue.CustomValue}, RawFile.{blob, guid, records_of}}
 
 abbrev pub step_of : Entry → Option AsyncStep
 step_of (await_step step) = Some step

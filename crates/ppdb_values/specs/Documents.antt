@@ -1,17 +1,8 @@
 -- The value of a document, and the sequence points of a method (Portable PDB v1.0, "Document Table", "Document Name Blob",
 -- "MethodDebugInformation Table", "Sequence Points Blob").
-use Rattle.std.specs.Prelude.{ℕ, List, [], ◌∷◌, Option, None}
-use Rattle.std.specs.Option.{option_map}
-use Rattle.ppdb_heaps.specs.Names.{name_of}
-use Rattle.sequence_points.specs.declared.point.Point.{Point}
-use Rattle.sequence_points.specs.Records.{Entry, sequence_points}
-use Rattle.sequence_points.specs.Points.{points_after, signature_of}
-use Rattle.ppdb_tables.specs.declared.rows.DocumentRow.{DocumentRow}
-use Rattle.ppdb_tables.specs.declared.rows.MethodDebugRow.{MethodDebugRow}
-use Rattle.ppdb_tables.specs.RawTables.{RawTables}
-use Rattle.ppdb_values.specs.declared.file.DocumentValue.{DocumentValue}
-use Rattle.ppdb_values.specs.declared.file.MethodValue.{MethodValue}
-use Rattle.ppdb_values.specs.RawFile.{blob, guid, records_of, point_limits}
+use Rattle.ppdb_values.specs.Names.{ℕ, List, [], ◌∷◌, Option, None, option_map, name_of, Point, sequence_points, points_after, signature_of, DocumentRow, MethodDebugRow, RawTables}
+use Rattle.sequence_points.specs.Records.{Entry}
+use Rattle.ppdb_values.specs.{declared.file.{DocumentValue.DocumentValue, MethodValue.MethodValue}, RawFile.{blob, guid, records_of, point_limits}}
 
 -- A document: its name with the parts joined, and its hash and GUIDs themselves.
 abbrev pub document_of : RawTables → DocumentRow → DocumentValue

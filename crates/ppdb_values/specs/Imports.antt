@@ -1,15 +1,9 @@
 -- The value of an import scope (Portable PDB v1.0, "ImportScope Table", "Imports Blob").
-use Rattle.std.specs.Prelude.{map, ℕ, List, Option}
-use Rattle.ppdb_heaps.specs.Heaps.{blob_at}
-use Rattle.type_blobs.specs.Imports.{imports, ImportItem, namespace, assembly_namespace, target, xml, alias, assembly_alias}
-use Rattle.type_blobs.specs.Imports.{namespace_alias, assembly_namespace_alias, target_alias}
-use Rattle.ppdb_tables.specs.declared.rows.ImportRow.{ImportRow}
-use Rattle.ppdb_tables.specs.RawTables.{RawTables}
+use Rattle.ppdb_values.specs.Names.{map, ℕ, List, Option, blob_at, imports, ImportItem, namespace, assembly_namespace, target, xml, alias, assembly_alias, namespace_alias, assembly_namespace_alias}
+use Rattle.ppdb_values.specs.Names.{target_alias, ImportRow, RawTables}
 use Rattle.ppdb_values.specs.declared.import.ImportValue.{ImportValue}
-use Rattle.ppdb_values.specs.declared.import.ImportValue.TheVariants.{Namespace, AssemblyNamespace, Target, Xml, Alias, AssemblyAlias}
-use Rattle.ppdb_values.specs.declared.import.ImportValue.TheVariants.{NamespaceAlias, AssemblyNamespaceAlias, TargetAlias}
-use Rattle.ppdb_values.specs.declared.import.ImportScopeValue.{ImportScopeValue}
-use Rattle.ppdb_values.specs.RawFile.{blob, records_of, type_limits}
+use Rattle.ppdb_values.specs.declared.import.ImportValue.TheVariants.{Namespace, AssemblyNamespace, Target, Xml, Alias, AssemblyAlias, NamespaceAlias, AssemblyNamespaceAlias, TargetAlias}
+use Rattle.ppdb_values.specs.{declared.import.ImportScopeValue.ImportScopeValue, RawFile.{blob, records_of, type_limits}}
 
 -- the contents of #Blob by their indexes
 abbrev pub heap_of : RawTables → ℕ → Option (List ℕ)

@@ -5,6 +5,7 @@ pub mod Documents
 pub mod Imports
 pub mod Links
 pub mod Meaning
+pub mod Names
 pub mod Ordered
 pub mod Order
 pub mod Owners

@@ -1,25 +1,9 @@
 -- What a file says of an IL offset of a method (Portable PDB v1.0: sequence points, local scopes, import scopes, custom
 -- debug information, hoisted local scopes). That of a sound value has no row of the tables 30 to 37 in it.
-use Rattle.std.specs.Prelude.{map, ℕ, length, if◌then◌else◌, List, Option, Some, None}
-use Rattle.std.specs.Option.{option_map}
-use Rattle.std.specs.List.{filter_map, flat_map, enumerate_from}
-use Rattle.sequence_points.specs.declared.point.Point.{Point}
-use Rattle.sequence_points.specs.declared.point.Span.{Span}
-use Rattle.custom_info.specs.declared.slots.Range.{Range}
-use Rattle.custom_info.specs.declared.slots.Slot.{Slot}
-use Rattle.custom_info.specs.declared.slots.Slot.TheVariants.{Empty, Held}
-use Rattle.ppdb_tables.specs.RawTables.{row_at}
-use Rattle.ppdb_values.specs.declared.file.DocumentValue.{DocumentValue}
-use Rattle.ppdb_values.specs.declared.file.FileValue.{FileValue}
-use Rattle.ppdb_values.specs.declared.scope.ScopeValue.{ScopeValue}
-use Rattle.ppdb_values.specs.declared.scope.VariableValue.{VariableValue}
-use Rattle.ppdb_values.specs.declared.scope.ConstantValue.{ConstantValue}
-use Rattle.ppdb_values.specs.declared.import.ImportScopeValue.{ImportScopeValue}
-use Rattle.ppdb_values.specs.declared.import.ImportValue.{ImportValue}
-use Rattle.ppdb_values.specs.declared.custom.CustomValue.{CustomValue}
-use Rattle.ppdb_values.specs.declared.annotation.Custom.{Custom}
-use Rattle.ppdb_values.specs.declared.annotation.Annotation.{Annotation}
-use Rattle.ppdb_values.specs.Parts.{points_of, signature_of, last_point, holds, scopes_at, first_item, import_chain, customs_on, hoisted_of}
+use Rattle.ppdb_values.specs.Names.{map, ℕ, length, if◌then◌else◌, List, Option, Some, None, option_map, filter_map, flat_map, enumerate_from, Point, Span, Range, Slot, Empty, Held, row_at}
+use Rattle.ppdb_values.specs.{declared.file.{DocumentValue.DocumentValue, FileValue.FileValue}, declared.scope.{ScopeValue.ScopeValue, VariableValue.VariableValue, ConstantValue.ConstantValue}}
+use Rattle.ppdb_values.specs.{declared.import.{ImportScopeValue.ImportScopeValue, ImportValue.ImportValue}, declared.custom.CustomValue.CustomValue, declared.annotation.Custom.Custom}
+use Rattle.ppdb_values.specs.{declared.annotation.Annotation.Annotation, Parts.{points_of, signature_of, last_point, holds, scopes_at, first_item, import_chain, customs_on, hoisted_of}}
 
 -- A sequence point, with its document and the method's local signature. In a valid file the document is there.
 pub record PointMeaning : Type 0 where

@@ -1,7 +1,5 @@
 -- The order of documents by their names, byte by byte.
-use Rattle.std.specs.declared.cmp.Ordering.{Ordering}
-use Rattle.std.specs.Ordering.{nat_cmp}
-use Rattle.std.specs.Cmp.Lexicographic.{slice_cmp}
+use Rattle.std.specs.{declared.cmp.Ordering.Ordering, Ordering.nat_cmp, Cmp.Lexicographic.slice_cmp}
 use Rattle.ppdb_values.specs.declared.file.DocumentValue.{DocumentValue}
 
 abbrev pub by_name : DocumentValue → DocumentValue → Ordering

@@ -1,13 +1,6 @@
 -- Which scope owns an item (Portable PDB v1.0, "LocalScope Table": VariableList, ConstantList).
-use Rattle.std.specs.Prelude.{◌≡◌, ℕ, suc, ◌+◌, ◌-◌, ◌<◌, ◌≤◌, ◌↔◌, List, length, Some, unwrap_or, slice_range}
-use Rattle.std.specs.Option.{option_map}
-use Rattle.ppdb_tables.specs.declared.rows.ScopeRow.{ScopeRow}
-use Rattle.ppdb_tables.specs.RawTables.{numbered, row_at}
-use Rattle.ppdb_tables.specs.declared.rows.VariableRow.{VariableRow}
-use Rattle.ppdb_tables.specs.declared.rows.ConstantRow.{ConstantRow}
-use Rattle.ppdb_tables.specs.Owners.{Owns}
-use Rattle.ppdb_values.specs.Value.{owner_of, owned_by}
-use Rattle.ppdb_values.specs.Rules.{KeepsLists}
+use Rattle.ppdb_values.specs.Names.{◌≡◌, ℕ, suc, ◌+◌, ◌-◌, ◌<◌, ◌≤◌, ◌↔◌, List, length, Some, unwrap_or, slice_range, option_map, ScopeRow, numbered, row_at, VariableRow, ConstantRow, Owns}
+use Rattle.ppdb_values.specs.{Value.{owner_of, owned_by}, Rules.KeepsLists}
 
 -- The owner that the value of a file goes by is that scope.
 pub record OwnersAreLast : Type 0 where

@@ -1,19 +1,7 @@
 -- What of a value belongs to a method, to a row and to an offset (Portable PDB v1.0).
-use Rattle.std.specs.Prelude.{ℕ, suc, ◌-◌, ◌==◌, ◌&&◌, nat_le, nat_lt, List, [], Option, Some, None, Bool, take}
-use Rattle.std.specs.List.{filter, filter_map, find, last_or, sum_by}
-use Rattle.sequence_points.specs.declared.point.Point.{Point}
-use Rattle.custom_info.specs.declared.slots.Range.{Range}
-use Rattle.custom_info.specs.declared.slots.Slot.{Slot}
-use Rattle.ppdb_tables.specs.declared.parent.Parent.{Parent}
-use Rattle.ppdb_tables.specs.RawTables.{numbered}
-use Rattle.ppdb_values.specs.declared.file.FileValue.{FileValue}
-use Rattle.ppdb_values.specs.declared.file.MethodValue.{MethodValue}
-use Rattle.ppdb_values.specs.declared.scope.ScopeValue.{ScopeValue}
-use Rattle.ppdb_values.specs.declared.import.ImportScopeValue.{ImportScopeValue}
-use Rattle.ppdb_values.specs.declared.custom.CustomBody.{CustomBody}
-use Rattle.ppdb_values.specs.declared.custom.CustomBody.TheVariants.{Hoisted}
-use Rattle.ppdb_values.specs.declared.custom.CustomValue.{CustomValue}
-use Rattle.ppdb_values.specs.Chains.{chain_of}
+use Rattle.ppdb_values.specs.Names.{ℕ, suc, ◌-◌, ◌==◌, ◌&&◌, nat_le, nat_lt, List, [], Option, Some, None, Bool, take, filter, filter_map, find, last_or, sum_by, Point, Range, Slot, Parent, numbered}
+use Rattle.ppdb_values.specs.{declared.file.{FileValue.FileValue, MethodValue.MethodValue}, declared.scope.ScopeValue.ScopeValue, declared.import.ImportScopeValue.ImportScopeValue}
+use Rattle.ppdb_values.specs.{declared.custom.{CustomBody.{CustomBody, TheVariants.Hoisted}, CustomValue.CustomValue}, Chains.chain_of}
 
 -- ---- points ("Sequence Points Blob")
 

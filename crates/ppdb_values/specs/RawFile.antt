@@ -1,16 +1,7 @@
 -- A Portable PDB file as it is stored: its identity and entry point, and its tables with their heaps (Portable PDB v1.0,
 -- "#Pdb stream" and "Metadata Tables").
-use Rattle.std.specs.Prelude.{ℕ, List, [], Option, unwrap_or}
-use Rattle.blob_grammar.specs.Grammar.{Value, Grammar}
-use Rattle.blob_grammar.specs.Reader.{read_from, begun_from}
-use Rattle.ppdb_heaps.specs.Heaps.{text_at, blob_at, guid_at}
-use Rattle.sequence_points.specs.declared.point.PointLimits.{PointLimits}
-use Rattle.type_blobs.specs.declared.types.TypeLimits.{TypeLimits}
-use Rattle.metadata_root.specs.declared.kind.StreamKind.TheVariants.{Pdb}
-use Rattle.metadata_root.specs.Streams.{Streams, bytes_of}
-use Rattle.ppdb_tables.specs.Head.{head_in}
-use Rattle.ppdb_tables.specs.RawTables.{RawTables, count}
-use Rattle.ppdb_tables.specs.Tables.{tables_in}
+use Rattle.ppdb_values.specs.Names.{ℕ, List, [], Option, unwrap_or, Value, Grammar, read_from, begun_from, text_at, blob_at, guid_at, PointLimits, TypeLimits, Pdb, Streams, bytes_of, head_in}
+use Rattle.ppdb_values.specs.Names.{RawTables, count, tables_in}
 
 pub record RawFile : Type 0 where
   pub id : List ℕ

@@ -1,25 +1,9 @@
 -- What the value of a file takes from a blob is what the blob holds by its grammar, however it is read (Portable PDB v1.0, the
 -- formats of its blobs).
-use Rattle.std.specs.Prelude.{◌≡◌, ℕ, List, Option, Some}
-use Rattle.ppdb_base.specs.declared.fault.BlobFault.{BlobFault}
-use Rattle.blob_grammar.specs.Reading.{Reading}
-use Rattle.ppdb_heaps.specs.Names.{IsName, name_of}
-use Rattle.sequence_points.specs.declared.point.Point.{Point}
-use Rattle.sequence_points.specs.Points.{PointsReading}
-use Rattle.type_blobs.specs.declared.types.Modifier.{Modifier}
-use Rattle.type_blobs.specs.Constants.{constants, ConstantBody, body_of}
-use Rattle.type_blobs.specs.ConstantReading.{ConstantReading, body}
-use Rattle.type_blobs.specs.Imports.{imports, ImportItem}
-use Rattle.custom_info.specs.declared.slots.Slot.{Slot}
-use Rattle.custom_info.specs.declared.stepping.AsyncStep.{AsyncStep}
-use Rattle.custom_info.specs.AsyncStepping.{async_stepping, entries_of}
+use Rattle.ppdb_values.specs.Names.{◌≡◌, ℕ, List, Option, Some, BlobFault, Reading, IsName, name_of, Point, PointsReading, Modifier, constants, ConstantBody, body_of, ConstantReading, body, imports}
+use Rattle.ppdb_values.specs.Names.{ImportItem, Slot, AsyncStep, async_stepping, entries_of, type_documents, RawTables, count}
 use Rattle.custom_info.specs.HoistedScopes.{hoisted_scopes}
-use Rattle.custom_info.specs.TypeDocuments.{type_documents}
-use Rattle.ppdb_tables.specs.RawTables.{RawTables, count}
-use Rattle.ppdb_values.specs.declared.custom.CustomBody.TheVariants.{Async}
-use Rattle.ppdb_values.specs.RawFile.{records_of, begun_of, point_limits, type_limits}
-use Rattle.ppdb_values.specs.Documents.{points_in, signature_in}
-use Rattle.ppdb_values.specs.Imports.{heap_of}
+use Rattle.ppdb_values.specs.{declared.custom.CustomBody.TheVariants.Async, RawFile.{records_of, begun_of, point_limits, type_limits}, Documents.{points_in, signature_in}, Imports.heap_of}
 use Rattle.ppdb_values.specs.Customs.{async_body}
 
 -- The text of a whole name, the points and the signature, the imports, the async steps, the slots and the rows are those of the reading.

@@ -1,36 +1,11 @@
 -- What holds of every valid file, as facts that its readers can use (Portable PDB v1.0, "Metadata Tables" and the formats of
 -- its blobs; ECMA-335 II.22, II.24.2).
-use Rattle.std.specs.Prelude.{◌≡◌, ◌≢◌, ℕ, suc, ◌+◌, ◌<◌, ◌≤◌, ◌⊎◌, map, List, [], length, Some, None, is_some, true}
-use Rattle.blob_grammar.specs.Grammar.{Grammar}
-use Rattle.blob_grammar.specs.Reading.{Reading}
-use Rattle.ppdb_heaps.specs.Heaps.{text_at, blob_at, guid_at}
-use Rattle.ppdb_heaps.specs.Names.{names}
-use Rattle.sequence_points.specs.Records.{sequence_points}
-use Rattle.type_blobs.specs.Constants.{constants, body_of}
-use Rattle.type_blobs.specs.Imports.{imports as import_grammar}
-use Rattle.custom_info.specs.declared.kinds.Kind.{Kind}
-use Rattle.custom_info.specs.declared.kinds.Kind.TheVariants.{Async, Hoisted, TypeDocuments}
-use Rattle.custom_info.specs.Kinds.{kind_of}
-use Rattle.custom_info.specs.AsyncStepping.{async_stepping}
+use Rattle.ppdb_values.specs.Names.{◌≡◌, ◌≢◌, ℕ, suc, ◌+◌, ◌<◌, ◌≤◌, ◌⊎◌, map, List, [], length, Some, None, is_some, true, Grammar, Reading, text_at, blob_at, guid_at, names, sequence_points}
+use Rattle.ppdb_values.specs.Names.{constants, body_of, imports as import_grammar, Kind, Async, Hoisted, TypeDocuments, kind_of, async_stepping, type_documents, DocumentRow, MethodDebugRow, ScopeRow}
+use Rattle.ppdb_values.specs.Names.{ConstantRow, ImportRow, MachineRow, CustomRow, parent_in, RawTables, HasShape, count, row_at}
 use Rattle.custom_info.specs.HoistedScopes.{hoisted_scopes}
-use Rattle.custom_info.specs.TypeDocuments.{type_documents}
-use Rattle.ppdb_tables.specs.declared.rows.DocumentRow.{DocumentRow}
-use Rattle.ppdb_tables.specs.declared.rows.MethodDebugRow.{MethodDebugRow}
-use Rattle.ppdb_tables.specs.declared.rows.ScopeRow.{ScopeRow}
-use Rattle.ppdb_tables.specs.declared.rows.ConstantRow.{ConstantRow}
-use Rattle.ppdb_tables.specs.declared.rows.ImportRow.{ImportRow}
-use Rattle.ppdb_tables.specs.declared.rows.MachineRow.{MachineRow}
-use Rattle.ppdb_tables.specs.declared.rows.CustomRow.{CustomRow}
-use Rattle.ppdb_tables.specs.Parents.{parent_in}
-use Rattle.ppdb_tables.specs.RawTables.{RawTables, HasShape, count, row_at}
-use Rattle.ppdb_values.specs.RawFile.{RawFile, text, blob, records_of, begun_of, point_limits, type_limits}
-use Rattle.ppdb_values.specs.Documents.{document_of}
-use Rattle.ppdb_values.specs.Imports.{heap_of}
-use Rattle.ppdb_values.specs.Customs.{parent_of, kind_in}
-use Rattle.ppdb_values.specs.Ranges.{ComesAfter, IsInOrAfter}
-use Rattle.ppdb_values.specs.Value.{owner_of, range_of}
-use Rattle.ppdb_values.specs.Chains.{chain_for, chain_of}
-use Rattle.ppdb_values.specs.Ordered.{EachRow, EachPair, IsSorted, Rises}
+use Rattle.ppdb_values.specs.{RawFile.{RawFile, text, blob, records_of, begun_of, point_limits, type_limits}, Documents.document_of, Imports.heap_of, Customs.{parent_of, kind_in}}
+use Rattle.ppdb_values.specs.{Ranges.{ComesAfter, IsInOrAfter}, Value.{owner_of, range_of}, Chains.{chain_for, chain_of}, Ordered.{EachRow, EachPair, IsSorted, Rises}}
 
 -- ---- items that are there
 

@@ -1,19 +1,8 @@
 -- What a file says: the items themselves in place of indexes (Portable PDB v1.0, "Metadata Tables").
-use Rattle.std.specs.Prelude.{map, Bool, false, ℕ, ◌+◌, ◌==◌, nat_le, List, [], ◌∷◌, ◌++◌, take, Option, Some, None}
-use Rattle.std.specs.Option.{option_map}
-use Rattle.std.specs.List.{filter, filter_map, last_or, repeat}
-use Rattle.custom_info.specs.declared.slots.Range.{Range}
-use Rattle.ppdb_tables.specs.declared.rows.ScopeRow.{ScopeRow}
-use Rattle.ppdb_tables.specs.declared.rows.VariableRow.{VariableRow}
-use Rattle.ppdb_tables.specs.RawTables.{RawTables, numbered}
-use Rattle.ppdb_values.specs.declared.scope.ScopeValue.{ScopeValue}
-use Rattle.ppdb_values.specs.declared.scope.VariableValue.{VariableValue}
-use Rattle.ppdb_values.specs.declared.file.FileValue.{FileValue}
-use Rattle.ppdb_values.specs.RawFile.{RawFile, text}
-use Rattle.ppdb_values.specs.Documents.{document_of, method_of}
-use Rattle.ppdb_values.specs.Constants.{constant_of}
-use Rattle.ppdb_values.specs.Imports.{import_scope_of}
-use Rattle.ppdb_values.specs.Customs.{custom_of}
+use Rattle.ppdb_values.specs.Names.{map, Bool, false, ℕ, ◌+◌, ◌==◌, nat_le, List, [], ◌∷◌, ◌++◌, take, Option, Some, None, option_map, filter, filter_map, last_or, repeat, Range, ScopeRow}
+use Rattle.ppdb_values.specs.Names.{VariableRow, RawTables, numbered}
+use Rattle.ppdb_values.specs.{declared.scope.{ScopeValue.ScopeValue, VariableValue.VariableValue}, declared.file.FileValue.FileValue, RawFile.{RawFile, text}, Documents.{document_of, method_of}}
+use Rattle.ppdb_values.specs.{Constants.constant_of, Imports.import_scope_of, Customs.custom_of}
 
 -- ---- what a scope owns ("LocalScope Table": VariableList, ConstantList)
 

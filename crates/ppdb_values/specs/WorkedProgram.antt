@@ -1,23 +1,10 @@
 -- The file of a program whose Main is asynchronous: a state machine with points, a scope with a constant, imports, and custom
 -- records of read kinds and of others.
-use Rattle.std.specs.Prelude.{ℕ, List, [], ◌∷◌, ◌++◌, Some, None, false, codes}
-use Rattle.std.specs.List.{repeat}
-use Rattle.sequence_points.specs.declared.point.Point.{Point}
-use Rattle.sequence_points.specs.declared.point.Span.TheVariants.{Hidden, Lines}
-use Rattle.custom_info.specs.declared.slots.Slot.TheVariants.{Empty, Held}
-use Rattle.custom_info.specs.Kinds.{in_file_order, async_stepping, hoisted_scopes, source_link, compilation_options}
-use Rattle.ppdb_values.specs.declared.file.DocumentValue.{DocumentValue}
-use Rattle.ppdb_values.specs.declared.file.FileValue.{FileValue}
-use Rattle.ppdb_values.specs.declared.scope.ConstantValue.{ConstantValue}
-use Rattle.ppdb_values.specs.declared.scope.ConstantBody.TheVariants.{Primitive}
-use Rattle.ppdb_values.specs.declared.import.ImportValue.{ImportValue}
-use Rattle.ppdb_values.specs.declared.import.ImportValue.TheVariants.{Namespace}
-use Rattle.ppdb_values.specs.declared.custom.CustomBody.{CustomBody}
-use Rattle.ppdb_values.specs.declared.custom.CustomBody.TheVariants.{Async, Hoisted, Unread}
-use Rattle.ppdb_values.specs.Meaning.{Meaning}
-use Rattle.ppdb_values.specs.Links.{Links}
-use Rattle.ppdb_values.specs.RawFile.{RawFile}
-use Rattle.ppdb_values.specs.WorkedSmall.{zeros}
+use Rattle.ppdb_values.specs.Names.{ℕ, List, [], ◌∷◌, ◌++◌, Some, None, false, codes, repeat, Point, Hidden, Lines, Empty, Held, in_file_order, source_link, compilation_options}
+use Rattle.custom_info.specs.Kinds.{async_stepping, hoisted_scopes}
+use Rattle.ppdb_values.specs.{declared.file.{DocumentValue.DocumentValue, FileValue.FileValue}, declared.scope.{ConstantValue.ConstantValue, ConstantBody.TheVariants.Primitive}}
+use Rattle.ppdb_values.specs.{declared.import.ImportValue.{ImportValue, TheVariants.Namespace}, declared.custom.CustomBody.{CustomBody, TheVariants.{Async, Hoisted, Unread}}, Meaning.Meaning}
+use Rattle.ppdb_values.specs.{Links.Links, RawFile.RawFile, WorkedSmall.zeros}
 
 -- 8829D00F-11B8-4213-878B-770E8597AC16: the hash is SHA-256
 abbrev pub sha256 : List ℕ

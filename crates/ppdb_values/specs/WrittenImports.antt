@@ -1,14 +1,8 @@
 -- The import of a value as it is stored and as its writer takes it (Portable PDB v1.0, "Imports Blob").
-use Rattle.std.specs.Prelude.{◌≡◌, ℕ, ◌<◌, ◌^◌, List, [], Option, Some}
-use Rattle.type_blobs.specs.declared.types.TypeToken.{TypeToken}
-use Rattle.type_blobs.specs.declared.import_writer.ImportNumbers.{ImportNumbers}
-use Rattle.type_blobs.specs.Imports.{ImportItem, namespace, assembly_namespace, target, xml, alias, assembly_alias, namespace_alias}
-use Rattle.type_blobs.specs.Imports.{assembly_namespace_alias, target_alias, text_of}
-use Rattle.type_blobs.specs.Spelling.{IsImport, import_item}
-use Rattle.type_blobs.specs.Types.{IsToken}
+use Rattle.ppdb_values.specs.Names.{◌≡◌, ℕ, ◌<◌, ◌^◌, List, [], Option, Some, TypeToken, ImportNumbers, ImportItem, namespace, assembly_namespace, target, xml, alias, assembly_alias, namespace_alias}
+use Rattle.ppdb_values.specs.Names.{assembly_namespace_alias, target_alias, text_of, IsImport, import_item, IsToken}
 use Rattle.ppdb_values.specs.declared.import.ImportValue.{ImportValue}
-use Rattle.ppdb_values.specs.declared.import.ImportValue.TheVariants.{Namespace, AssemblyNamespace, Target, Xml, Alias, AssemblyAlias}
-use Rattle.ppdb_values.specs.declared.import.ImportValue.TheVariants.{NamespaceAlias, AssemblyNamespaceAlias, TargetAlias}
+use Rattle.ppdb_values.specs.declared.import.ImportValue.TheVariants.{Namespace, AssemblyNamespace, Target, Xml, Alias, AssemblyAlias, NamespaceAlias, AssemblyNamespaceAlias, TargetAlias}
 use Rattle.ppdb_values.specs.Imports.{import_value}
 
 -- the import as the records of its blob have it

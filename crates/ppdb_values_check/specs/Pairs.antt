@@ -1,7 +1,5 @@
 -- How the items of a list stand to each other.
-use Rattle.std.specs.Prelude.{◌≡◌, ℕ, ◌<◌, List, slice_index_or, false}
-use Rattle.std.specs.declared.cmp.Ordering.{Ordering}
-use Rattle.std.specs.Ordering.{is_eq}
+use Rattle.std.specs.{Prelude.{◌≡◌, ℕ, ◌<◌, List, slice_index_or, false}, declared.cmp.Ordering.Ordering, Ordering.is_eq}
 
 -- each of the first items stands so to each later one of them
 abbrev pub PairsBelow : {X : Type 0} → (X → X → Type 0) → List X → ℕ → Type 0

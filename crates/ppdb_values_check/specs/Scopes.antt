@@ -1,11 +1,7 @@
 -- The parts of what makes scopes sound, each as one pass reports it (Portable PDB v1.0, "LocalScope Table").
 use Rattle.std.specs.Prelude.{◌≡◌, ◌≢◌, ℕ, zero, suc, ◌<◌, ◌≤◌, ◌⊎◌, List, length, slice_index, slice_index_or}
-use Rattle.ppdb_values.specs.declared.file.FileValue.{FileValue}
-use Rattle.ppdb_values.specs.declared.scope.ScopeValue.{ScopeValue}
-use Rattle.ppdb_values.specs.Ordered.{EachRow, EachPair}
-use Rattle.ppdb_values.specs.Ranges.{ComesAfter, IsInOrAfter}
-use Rattle.ppdb_values_sound_laws.specs.Named.{HasRow, HasRowOrNone}
-use Rattle.ppdb_values_sound_laws.specs.Scopes.{SoundVariable, SoundConstant}
+use Rattle.ppdb_values.specs.{declared.file.FileValue.FileValue, declared.scope.ScopeValue.ScopeValue, Ordered.{EachRow, EachPair}, Ranges.{ComesAfter, IsInOrAfter}}
+use Rattle.ppdb_values_sound_laws.specs.{Named.{HasRow, HasRowOrNone}, Scopes.{SoundVariable, SoundConstant}}
 
 -- What a scope names is there, and its range holds an offset and ends below 2 ^ 31.
 abbrev pub HasSoundPlace : FileValue → ScopeValue → Type 0

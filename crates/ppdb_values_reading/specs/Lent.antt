@@ -1,28 +1,11 @@
 -- What is lent of a row, as the part of the value that it is (Portable PDB v1.0, "Metadata Tables" and the formats of its blobs).
-use Rattle.std.specs.Prelude.{◌≡◌, map, ℕ, List, Option, Some, None}
-use Rattle.sequence_points.specs.declared.point.Point.{Point}
-use Rattle.type_blobs.specs.declared.types.Modifier.{Modifier}
-use Rattle.type_blobs.specs.ConstantReading.{shown as constant_shown}
-use Rattle.ppdb_tables.specs.RawTables.{RawTables}
-use Rattle.ppdb_values.specs.declared.custom.CustomBody.{CustomBody}
-use Rattle.ppdb_values.specs.declared.custom.CustomBody.TheVariants.{Async, Hoisted, TypeDocuments, Unread}
-use Rattle.ppdb_values.specs.declared.custom.CustomValue.{CustomValue}
-use Rattle.ppdb_values.specs.declared.file.DocumentValue.{DocumentValue}
-use Rattle.ppdb_values.specs.declared.file.MethodValue.{MethodValue}
-use Rattle.ppdb_values.specs.declared.import.ImportScopeValue.{ImportScopeValue}
-use Rattle.ppdb_values.specs.declared.scope.ConstantValue.{ConstantValue}
-use Rattle.ppdb_values.specs.declared.scope.VariableValue.{VariableValue}
-use Rattle.ppdb_values.specs.Constants.{body_value, constant_of}
-use Rattle.ppdb_values.specs.Imports.{import_value}
-use Rattle.ppdb_values.specs.Value.{variable_of}
-use Rattle.ppdb_values_reading.specs.declared.constants.LentConstant.{LentConstant}
-use Rattle.ppdb_values_reading.specs.declared.customs.LentBody.{LentBody}
-use Rattle.ppdb_values_reading.specs.declared.customs.LentBody.TheVariants.{Async as LentAsync, Hoisted as LentHoisted, TypeDocuments as LentDocuments}
-use Rattle.ppdb_values_reading.specs.declared.customs.LentBody.TheVariants.{Unread as LentUnread}
-use Rattle.ppdb_values_reading.specs.declared.customs.LentCustom.{LentCustom}
-use Rattle.ppdb_values_reading.specs.declared.documents.LentDocument.{LentDocument}
-use Rattle.ppdb_values_reading.specs.declared.imports.LentImports.{LentImports}
-use Rattle.ppdb_values_reading.specs.declared.variables.LentVariable.{LentVariable}
+use Rattle.ppdb_values.specs.Names.{◌≡◌, map, ℕ, List, Option, Some, None, Point, Modifier, shown as constant_shown, RawTables}
+use Rattle.ppdb_values.specs.{declared.custom.{CustomBody.{CustomBody, TheVariants.{Async, Hoisted, TypeDocuments, Unread}}, CustomValue.CustomValue}, declared.file.DocumentValue.DocumentValue}
+use Rattle.ppdb_values.specs.{declared.file.MethodValue.MethodValue, declared.import.ImportScopeValue.ImportScopeValue, declared.scope.{ConstantValue.ConstantValue, VariableValue.VariableValue}}
+use Rattle.ppdb_values.specs.{Constants.{body_value, constant_of}, Imports.import_value, Value.variable_of}
+use Rattle.ppdb_values_reading.specs.{declared.constants.LentConstant.LentConstant, declared.customs.LentBody.LentBody}
+use Rattle.ppdb_values_reading.specs.declared.customs.{LentBody.TheVariants.{Async as LentAsync, Hoisted as LentHoisted, TypeDocuments as LentDocuments, Unread as LentUnread}, LentCustom.LentCustom}
+use Rattle.ppdb_values_reading.specs.{declared.documents.LentDocument.LentDocument, declared.imports.LentImports.LentImports, declared.variables.LentVariable.LentVariable}
 
 -- ---- the variables and the constants of all scopes, by their rows ("LocalVariable Table", "LocalConstant Table")
 

@@ -1,16 +1,7 @@
 -- The scopes of a file, each with the rows of what it owns (Portable PDB v1.0, "LocalScope Table": VariableList, ConstantList).
-use Rattle.std.specs.Prelude.{◌≡◌, map, ℕ, ◌+◌, ◌-◌, ◌≤◌, List, [], ◌∷◌, length, drop, slice_range, Option, Some, None, All}
-use Rattle.std.specs.List.{sum_by}
-use Rattle.ppdb_tables.specs.declared.rows.ScopeRow.{ScopeRow}
-use Rattle.ppdb_tables.specs.RawTables.{RawTables, numbered}
-use Rattle.ppdb_values.specs.declared.scope.ScopeValue.{ScopeValue}
-use Rattle.ppdb_values.specs.Owners.{list_end}
-use Rattle.ppdb_values.specs.RawFile.{RawFile}
-use Rattle.ppdb_values.specs.Rules.{KeepsRules}
-use Rattle.ppdb_values.specs.Value.{range_of, value_of}
-use Rattle.ppdb_values_reading.specs.declared.scopes.ListRange.{ListRange}
-use Rattle.ppdb_values_reading.specs.declared.scopes.Scope.{Scope}
-use Rattle.ppdb_values_reading.specs.Lent.{variables_of, constants_of}
+use Rattle.ppdb_values.specs.Names.{◌≡◌, map, ℕ, ◌+◌, ◌-◌, ◌≤◌, List, [], ◌∷◌, length, drop, slice_range, Option, Some, None, All, sum_by, ScopeRow, RawTables, numbered}
+use Rattle.ppdb_values.specs.{declared.scope.ScopeValue.ScopeValue, Owners.list_end, RawFile.RawFile, Rules.KeepsRules, Value.{range_of, value_of}}
+use Rattle.ppdb_values_reading.specs.{declared.scopes.{ListRange.ListRange, Scope.Scope}, Lent.{variables_of, constants_of}}
 
 -- the list of a scope: from its first item up to and without that of the next scope, or to the table's end
 abbrev pub list_range : (ScopeRow → ℕ) → List ScopeRow → ℕ → ℕ × ScopeRow → ListRange

@@ -1,19 +1,9 @@
 -- Custom debug information (Portable PDB v1.0, "CustomDebugInformation Table", and its kinds "Async Method Stepping Information",
 -- "State Machine Hoisted Local Scopes" and "Type Definition Documents").
-use Rattle.std.specs.Prelude.{ℕ, ◌≤◌, map, [], IsSome, All, unwrap_or}
-use Rattle.custom_info.specs.declared.kinds.Kind.{Kind}
-use Rattle.custom_info.specs.declared.kinds.Kind.TheVariants.{Async as AsyncKind, Hoisted as HoistedKind, TypeDocuments as DocumentsKind, Free, Unknown}
-use Rattle.custom_info.specs.Kinds.{kind_of}
-use Rattle.custom_info.specs.AsyncStepping.{IsHandler, IsStep}
-use Rattle.custom_info.specs.HoistedScopes.{IsSlot}
-use Rattle.ppdb_tables.specs.declared.parent.Parent.{Parent}
-use Rattle.ppdb_tables.specs.Parents.{coded_in}
-use Rattle.ppdb_values.specs.declared.file.FileValue.{FileValue}
-use Rattle.ppdb_values.specs.declared.custom.CustomBody.{CustomBody}
-use Rattle.ppdb_values.specs.declared.custom.CustomBody.TheVariants.{Async, Hoisted, TypeDocuments, Unread}
-use Rattle.ppdb_values.specs.declared.custom.CustomValue.{CustomValue}
-use Rattle.ppdb_values.specs.Ordered.{EachRow, IsSorted}
-use Rattle.ppdb_values.specs.Rules.{StandsOn}
+use Rattle.ppdb_values.specs.Names.{ℕ, ◌≤◌, map, [], IsSome, All, unwrap_or, Kind, Async as AsyncKind, Hoisted as HoistedKind, TypeDocuments as DocumentsKind, Free, Unknown, kind_of, IsHandler}
+use Rattle.ppdb_values.specs.Names.{IsStep, IsSlot, Parent, coded_in}
+use Rattle.ppdb_values.specs.{declared.file.FileValue.FileValue, declared.custom.{CustomBody.{CustomBody, TheVariants.{Async, Hoisted, TypeDocuments, Unread}}, CustomValue.CustomValue}}
+use Rattle.ppdb_values.specs.{Ordered.{EachRow, IsSorted}, Rules.StandsOn}
 use Rattle.ppdb_values_sound_laws.specs.Named.{HasRow, count}
 
 -- A record of a kind that is read has that kind's body, whose offsets are in range and whose rows are there; every other record

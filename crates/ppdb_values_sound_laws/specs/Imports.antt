@@ -1,11 +1,7 @@
 -- Import scopes (Portable PDB v1.0, "ImportScope Table", "Imports Blob").
-use Rattle.std.specs.Prelude.{ℕ}
-use Rattle.ppdb_values.specs.declared.file.FileValue.{FileValue}
-use Rattle.ppdb_values.specs.declared.import.ImportValue.{ImportValue}
-use Rattle.ppdb_values.specs.declared.import.ImportValue.TheVariants.{AssemblyNamespace, Target, AssemblyAlias, AssemblyNamespaceAlias, TargetAlias}
-use Rattle.ppdb_values.specs.declared.import.ImportScopeValue.{ImportScopeValue}
-use Rattle.ppdb_values.specs.Chains.{NeverEnds, parent_at}
-use Rattle.ppdb_values.specs.Ordered.{EachRow}
+use Rattle.ppdb_values.specs.Names.{ℕ, NeverEnds, parent_at}
+use Rattle.ppdb_values.specs.{declared.file.FileValue.FileValue, declared.import.ImportValue.{ImportValue, TheVariants.{AssemblyNamespace, Target, AssemblyAlias, AssemblyNamespaceAlias, TargetAlias}}}
+use Rattle.ppdb_values.specs.{declared.import.ImportScopeValue.ImportScopeValue, Ordered.EachRow}
 use Rattle.ppdb_values_sound_laws.specs.Named.{HasRow, HasRowOrNone, HasType}
 
 -- The assembly or the type of an import is there; its texts are any bytes.

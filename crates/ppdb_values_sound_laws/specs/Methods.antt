@@ -1,10 +1,6 @@
 -- The sequence points of methods (Portable PDB v1.0, "Sequence Points Blob").
-use Rattle.std.specs.Prelude.{◌≢◌, ◌<◌, map, [], All, AllPairs}
-use Rattle.sequence_points.specs.declared.point.Point.{Point}
-use Rattle.sequence_points.specs.Written.{IsSpan}
-use Rattle.ppdb_values.specs.declared.file.FileValue.{FileValue}
-use Rattle.ppdb_values.specs.declared.file.MethodValue.{MethodValue}
-use Rattle.ppdb_values.specs.Ordered.{EachRow, Rises}
+use Rattle.ppdb_values.specs.Names.{◌≢◌, ◌<◌, map, [], All, AllPairs, Point, IsSpan}
+use Rattle.ppdb_values.specs.{declared.file.{FileValue.FileValue, MethodValue.MethodValue}, Ordered.{EachRow, Rises}}
 use Rattle.ppdb_values_sound_laws.specs.Named.{HasRow, HasRowOrNone}
 
 -- A sequence point. One that is not hidden ends after its start.

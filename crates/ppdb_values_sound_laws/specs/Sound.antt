@@ -1,14 +1,8 @@
 -- When a value is sound: a Portable PDB file can say it, where it has what its types carry (`HasTypes`), but for the limits L1 to L6
 -- (Portable PDB v1.0, "#Pdb stream" and "Metadata Tables"; ECMA-335 II.22).
-use Rattle.std.specs.Prelude.{◌≡◌, ◌≢◌, ℕ, ◌≤◌, map, List, slice_index}
-use Rattle.ppdb_tables.specs.declared.rows.MachineRow.{MachineRow}
-use Rattle.ppdb_values.specs.declared.file.FileValue.{FileValue}
-use Rattle.ppdb_values.specs.Ordered.{EachRow, EachPair, Rises}
-use Rattle.ppdb_values_sound_laws.specs.Named.{HasRow, HasRowOrNone}
-use Rattle.ppdb_values_sound_laws.specs.Methods.{SoundMethods}
-use Rattle.ppdb_values_sound_laws.specs.Scopes.{SoundScopes}
-use Rattle.ppdb_values_sound_laws.specs.Imports.{SoundImports}
-use Rattle.ppdb_values_sound_laws.specs.Customs.{SoundCustoms}
+use Rattle.ppdb_values.specs.Names.{◌≡◌, ◌≢◌, ℕ, ◌≤◌, map, List, slice_index, MachineRow}
+use Rattle.ppdb_values.specs.{declared.file.FileValue.FileValue, Ordered.{EachRow, EachPair, Rises}}
+use Rattle.ppdb_values_sound_laws.specs.{Named.{HasRow, HasRowOrNone}, Methods.SoundMethods, Scopes.SoundScopes, Imports.SoundImports, Customs.SoundCustoms}
 
 -- The row counts of the type system: they fit three bytes, and only the tables 00 to 2c have any ("#Pdb stream").
 pub record SoundRows (rows : List ℕ) : Type 0 where

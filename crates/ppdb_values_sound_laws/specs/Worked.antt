@@ -1,15 +1,8 @@
 -- Values that are sound, and values that are not, each for the reason that is given.
-use Rattle.std.specs.Prelude.{ℕ, List, [], ◌∷◌, ◌++◌, codes}
-use Rattle.sequence_points.specs.declared.point.Span.{Span}
-use Rattle.sequence_points.specs.declared.point.Span.TheVariants.{Hidden, Lines}
-use Rattle.custom_info.specs.Kinds.{hoisted_scopes, source_link}
-use Rattle.ppdb_values.specs.declared.file.FileValue.{FileValue}
-use Rattle.ppdb_values.specs.declared.scope.ScopeValue.{ScopeValue}
-use Rattle.ppdb_values.specs.declared.scope.VariableValue.{VariableValue}
-use Rattle.ppdb_values.specs.declared.scope.ConstantBody.TheVariants.{Primitive}
-use Rattle.ppdb_values.specs.declared.custom.CustomBody.TheVariants.{Unread}
-use Rattle.ppdb_values.specs.declared.custom.CustomValue.{CustomValue}
-use Rattle.ppdb_values.specs.WorkedSmall.{zeros, empty_value, small_value, small_document, variable_x, outer_scope}
+use Rattle.ppdb_values.specs.Names.{ℕ, List, [], ◌∷◌, ◌++◌, codes, Span, Hidden, Lines, source_link}
+use Rattle.custom_info.specs.Kinds.{hoisted_scopes}
+use Rattle.ppdb_values.specs.{declared.file.FileValue.FileValue, declared.scope.{ScopeValue.ScopeValue, VariableValue.VariableValue, ConstantBody.TheVariants.Primitive}}
+use Rattle.ppdb_values.specs.{declared.custom.{CustomBody.TheVariants.Unread, CustomValue.CustomValue}, WorkedSmall.{zeros, empty_value, small_value, small_document, variable_x, outer_scope}}
 use Rattle.ppdb_values.specs.WorkedProgram.{program_value}
 use Rattle.ppdb_values_sound_laws.specs.Sound.{IsSound}
 

@@ -1,21 +1,9 @@
 -- What the writers of blobs ask of the parts of a sound value (Portable PDB v1.0, "Sequence Points Blob", "LocalConstantSig Blob",
 -- "Imports Blob" and the kinds of custom debug information; ECMA-335 II.23.2).
-use Rattle.std.specs.Prelude.{◌<◌, ◌≤◌, ◌^◌, length, All}
-use Rattle.custom_info.specs.AsyncStepping.{IsHandler, IsStep}
-use Rattle.custom_info.specs.HoistedScopes.{IsSlot}
-use Rattle.custom_info.specs.TypeDocuments.{IsRowNumber}
-use Rattle.sequence_points.specs.Written.{CanBeWritten}
-use Rattle.sequence_points.specs.Ranges.{IsOffset}
-use Rattle.type_blobs.specs.Types.{IsToken}
-use Rattle.type_blobs.specs.Spelling.{IsBody}
-use Rattle.ppdb_values.specs.declared.file.FileValue.{FileValue}
-use Rattle.ppdb_values.specs.declared.custom.CustomBody.{CustomBody}
-use Rattle.ppdb_values.specs.declared.custom.CustomBody.TheVariants.{Async, Hoisted, TypeDocuments, Unread}
-use Rattle.ppdb_values.specs.declared.import.ImportValue.{ImportValue}
-use Rattle.ppdb_values.specs.declared.import.ImportValue.TheVariants.{AssemblyNamespace, Target, AssemblyAlias, AssemblyNamespaceAlias, TargetAlias}
-use Rattle.ppdb_values.specs.Ordered.{EachRow}
-use Rattle.ppdb_values_sound_laws.specs.Scopes.{stored_body}
-use Rattle.ppdb_values_sound_laws.specs.Sound.{IsSound}
+use Rattle.ppdb_values.specs.Names.{◌<◌, ◌≤◌, ◌^◌, length, All, IsHandler, IsStep, IsSlot, IsRowNumber, CanBeWritten, IsOffset, IsToken, IsBody}
+use Rattle.ppdb_values.specs.{declared.file.FileValue.FileValue, declared.custom.CustomBody.{CustomBody, TheVariants.{Async, Hoisted, TypeDocuments, Unread}}, declared.import.ImportValue.ImportValue}
+use Rattle.ppdb_values.specs.{declared.import.ImportValue.TheVariants.{AssemblyNamespace, Target, AssemblyAlias, AssemblyNamespaceAlias, TargetAlias}, Ordered.EachRow}
+use Rattle.ppdb_values_sound_laws.specs.{Scopes.stored_body, Sound.IsSound}
 
 -- The records of a kind that is read can be written; bytes always can.
 abbrev pub IsWritable : CustomBody → Type 0

@@ -1,13 +1,6 @@
 -- The rules of a whole file, F1 to F40, and what a file is read as.
-use Rattle.std.specs.Prelude.{◌≡◌, ℕ, ◌⊎◌, List}
-use Rattle.ppdb_base.specs.declared.code.Code.{Code}
-use Rattle.ppdb_base.specs.declared.fault.Place.{Place}
-use Rattle.ppdb_base.specs.First.{Then}
-use Rattle.metadata_root.specs.declared.kind.StreamKind.TheVariants.{Pdb, Tables}
-use Rattle.metadata_root.specs.Streams.{Streams, AreStreamsOf, ContainerFaults, bytes_of}
-use Rattle.ppdb_tables.specs.Head.{PdbFaults, head_in}
-use Rattle.ppdb_tables.specs.RawTables.{RawTables}
-use Rattle.ppdb_tables.specs.Tables.{TablesFaults}
+use Rattle.ppdb_values.specs.Names.{◌≡◌, ℕ, ◌⊎◌, List, Code, Place, Then, Pdb, Streams, AreStreamsOf, ContainerFaults, bytes_of, PdbFaults, head_in, RawTables, TablesFaults}
+use Rattle.metadata_root.specs.declared.kind.StreamKind.TheVariants.{Tables}
 use Rattle.ppdb_verify_rules.specs.Rows.{RowFaults}
 use Rattle.ppdb_verify_total.specs.Spans.{SpanFaults}
 use Rattle.ppdb_values.specs.RawFile.{RawFile, raw_in}

@@ -1,7 +1,5 @@
 -- A verified file as contracts see it.
-use Rattle.ppdb_tables.specs.declared.head.PdbHead.{PdbHead}
-use Rattle.ppdb_tables.specs.declared.tables.Tables.{Tables}
-use Rattle.ppdb_tables.specs.RawOf.{raw_of}
+use Rattle.ppdb_tables.specs.{declared.head.PdbHead.PdbHead, declared.tables.Tables.Tables, RawOf.raw_of}
 use Rattle.ppdb_values.specs.RawFile.{RawFile}
 use Rattle.ppdb_verify.specs.declared.verified.Verified.{Verified}
 

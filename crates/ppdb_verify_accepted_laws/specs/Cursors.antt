@@ -1,29 +1,13 @@
 -- The cursors over the blobs of a file that keeps the rules: none of them ever answers a fault (Portable PDB v1.0, the formats of
 -- its blobs).
-use Rattle.std.specs.Prelude.{◌≡◌, ◌≢◌, ℕ, zero, suc, List, [], Some, Result, IsOk, IsOkAnd, IfOk, IfErr}
-use Rattle.ppdb_base.specs.declared.fault.BlobFault.{BlobFault}
-use Rattle.blob_grammar.specs.Reader.{Left, answer, rest_of}
-use Rattle.blob_grammar.specs.Reading.{Reading}
-use Rattle.ppdb_heaps.specs.Cursor.{NameLeft}
-use Rattle.ppdb_heaps.specs.Heaps.{blob_at, guid_at}
-use Rattle.ppdb_heaps.specs.Names.{NameReading, names as name_grammar}
-use Rattle.sequence_points.specs.declared.point.PointLimits.{PointLimits}
-use Rattle.sequence_points.specs.Places.{Shown}
-use Rattle.sequence_points.specs.Points.{PointsReading}
-use Rattle.sequence_points.specs.Records.{sequence_points}
-use Rattle.type_blobs.specs.ConstantReading.{ConstantLeft, ConstantReading, modifier_answer, body_answer, rest_of as constant_rest}
-use Rattle.type_blobs.specs.Imports.{ImportItem, imports as import_grammar}
-use Rattle.custom_info.specs.declared.kinds.Kind.{Kind}
-use Rattle.custom_info.specs.declared.kinds.Kind.TheVariants.{Async, Hoisted, TypeDocuments}
-use Rattle.custom_info.specs.declared.slots.Slot.{Slot}
-use Rattle.custom_info.specs.AsyncStepping.{Stepping, async_stepping, entries_of}
+use Rattle.ppdb_values.specs.Names.{◌≡◌, ◌≢◌, ℕ, zero, suc, List, [], Some, Result, IsOk, IsOkAnd, IfOk, IfErr, BlobFault, Left, answer, Reading, NameLeft, blob_at, guid_at, NameReading}
+use Rattle.ppdb_values.specs.Names.{names as name_grammar, PointLimits, Shown, PointsReading, sequence_points, ConstantLeft, ConstantReading, modifier_answer, body_answer, ImportItem}
+use Rattle.ppdb_values.specs.Names.{imports as import_grammar, Kind, Async, Hoisted, TypeDocuments, Slot, Stepping, async_stepping, entries_of, kind_of, type_documents, CustomRow, RawTables, count}
+use Rattle.ppdb_values.specs.Names.{row_at}
+use Rattle.blob_grammar.specs.Reader.{rest_of}
+use Rattle.type_blobs.specs.ConstantReading.{rest_of as constant_rest}
 use Rattle.custom_info.specs.HoistedScopes.{hoisted_scopes}
-use Rattle.custom_info.specs.Kinds.{kind_of}
-use Rattle.custom_info.specs.TypeDocuments.{type_documents}
-use Rattle.ppdb_tables.specs.declared.rows.CustomRow.{CustomRow}
-use Rattle.ppdb_tables.specs.RawTables.{RawTables, count, row_at}
-use Rattle.ppdb_values.specs.Imports.{heap_of}
-use Rattle.ppdb_values.specs.RawFile.{point_limits, type_limits}
+use Rattle.ppdb_values.specs.{Imports.heap_of, RawFile.{point_limits, type_limits}}
 
 -- ---- a cursor that answers no fault
 

@@ -1,17 +1,8 @@
 -- Records of custom debug information that are read (Portable PDB v1.0, "Async Method Stepping Information", "State Machine Hoisted
 -- Local Scopes").
-use Rattle.std.specs.Prelude.{◌≡◌, [], None}
-use Rattle.blob_grammar.specs.Reader.{Left}
-use Rattle.custom_info.specs.declared.kinds.Kind.{Kind}
-use Rattle.custom_info.specs.declared.slots.Slot.{Slot}
-use Rattle.custom_info.specs.AsyncStepping.{Stepping}
+use Rattle.ppdb_values.specs.Names.{◌≡◌, [], None, Left, Kind, Slot, Stepping, kind_of, CustomRow, RawTables}
 use Rattle.custom_info.specs.HoistedScopes.{hoisted_scopes}
-use Rattle.custom_info.specs.Kinds.{kind_of}
-use Rattle.ppdb_tables.specs.declared.rows.CustomRow.{CustomRow}
-use Rattle.ppdb_tables.specs.RawTables.{RawTables}
-use Rattle.ppdb_values.specs.declared.custom.CustomBody.TheVariants.{Async}
-use Rattle.ppdb_values.specs.Customs.{custom_of, kind_in}
-use Rattle.ppdb_values.specs.RawFile.{blob, records_of}
+use Rattle.ppdb_values.specs.{declared.custom.CustomBody.TheVariants.Async, Customs.{custom_of, kind_in}, RawFile.{blob, records_of}}
 
 -- the record is of the kind
 abbrev pub IsOfKind : RawTables → CustomRow → Kind → Type 0

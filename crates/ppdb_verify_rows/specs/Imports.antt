@@ -1,11 +1,6 @@
 -- What an import scope imports (Portable PDB v1.0, "Imports Blob").
-use Rattle.std.specs.Prelude.{None}
-use Rattle.blob_grammar.specs.Reader.{Left}
-use Rattle.type_blobs.specs.Imports.{imports, ImportItem}
-use Rattle.ppdb_tables.specs.declared.rows.ImportRow.{ImportRow}
-use Rattle.ppdb_tables.specs.RawTables.{RawTables}
-use Rattle.ppdb_values.specs.Imports.{heap_of}
-use Rattle.ppdb_values.specs.RawFile.{blob, records_of, type_limits}
+use Rattle.ppdb_values.specs.Names.{None, Left, imports, ImportItem, ImportRow, RawTables}
+use Rattle.ppdb_values.specs.{Imports.heap_of, RawFile.{blob, records_of, type_limits}}
 
 -- what a cursor of all imports of a scope has left: the imports, and no fault after them
 abbrev pub imports_in : RawTables → ImportRow → Left ImportItem

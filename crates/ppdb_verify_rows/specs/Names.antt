@@ -1,12 +1,6 @@
 -- The name of a document, part after part (Portable PDB v1.0, "Document Name Blob").
-use Rattle.std.specs.Prelude.{◌≡◌, None}
-use Rattle.std.specs.List.{join_by}
-use Rattle.ppdb_heaps.specs.Cursor.{NameLeft}
-use Rattle.ppdb_heaps.specs.Names.{NameReading}
-use Rattle.ppdb_tables.specs.declared.rows.DocumentRow.{DocumentRow}
-use Rattle.ppdb_tables.specs.RawTables.{RawTables}
-use Rattle.ppdb_values.specs.Documents.{document_of}
-use Rattle.ppdb_values.specs.RawFile.{blob}
+use Rattle.ppdb_values.specs.Names.{◌≡◌, None, join_by, NameLeft, NameReading, DocumentRow, RawTables}
+use Rattle.ppdb_values.specs.{Documents.document_of, RawFile.blob}
 
 -- What a cursor of a document's name has, before the first part: all parts, no fault after them, and joined they are the name.
 pub record IsNameOf (raw : RawTables) (document : DocumentRow) (shown : NameLeft) : Type 0 where

@@ -1,9 +1,7 @@
 -- The contents of the blobs that cells name.
 use Rattle.std.specs.Prelude.{ℕ, ◌≡◌, ◌≢◌, ◌⊎◌, ◌<◌, List, [], Some, None}
-use Rattle.ppdb_base.specs.declared.fault.BlobFault.{BlobFault}
-use Rattle.ppdb_base.specs.declared.fault.Place.{Place}
-use Rattle.blob_grammar.specs.Grammar.{Grammar}
-use Rattle.blob_grammar.specs.Places.{HasEnd}
+use Rattle.ppdb_base.specs.declared.fault.{BlobFault.BlobFault, Place.Place}
+use Rattle.blob_grammar.specs.{Grammar.Grammar, Places.HasEnd}
 use Rattle.ppdb_heaps.specs.Heaps.{blob_at, guid_at}
 use Rattle.ppdb_tables.specs.RawTables.{RawTables, count}
 use Rattle.sequence_points.specs.declared.point.PointLimits.{PointLimits}

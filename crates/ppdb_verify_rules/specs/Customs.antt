@@ -1,15 +1,10 @@
 -- Custom records: their parents and the kinds that are read (Portable PDB v1.0, "CustomDebugInformation Table").
 use Rattle.std.specs.Prelude.{ℕ, ◌≡◌, ◌≢◌, ◌/◌, ◌%◌, List, [], Option, Some, None, slice_get}
 use Rattle.ppdb_base.specs.declared.fault.BlobFault.{BlobFault}
-use Rattle.custom_info.specs.declared.kinds.Kind.{Kind}
-use Rattle.custom_info.specs.declared.kinds.Kind.TheVariants.{Async, Hoisted, TypeDocuments, Free, Unknown}
-use Rattle.custom_info.specs.AsyncStepping.{async_stepping}
-use Rattle.custom_info.specs.HoistedScopes.{hoisted_scopes}
-use Rattle.custom_info.specs.TypeDocuments.{type_documents}
-use Rattle.custom_info.specs.Kinds.{kind_of}
+use Rattle.custom_info.specs.{declared.kinds.Kind.{Kind, TheVariants.{Async, Hoisted, TypeDocuments, Free, Unknown}}, AsyncStepping.async_stepping, HoistedScopes.hoisted_scopes}
+use Rattle.custom_info.specs.{TypeDocuments.type_documents, Kinds.kind_of}
 use Rattle.ppdb_heaps.specs.Heaps.{blob_at, guid_at}
-use Rattle.ppdb_tables.specs.declared.rows.CustomRow.{CustomRow}
-use Rattle.ppdb_tables.specs.RawTables.{RawTables, count}
+use Rattle.ppdb_tables.specs.{declared.rows.CustomRow.CustomRow, RawTables.{RawTables, count}}
 use Rattle.row_layout.specs.Columns.{parent_tables}
 use Rattle.blob_grammar.specs.Places.{HasEnd}
 use Rattle.ppdb_verify_rules.specs.Earlier.{NamesNoRow}

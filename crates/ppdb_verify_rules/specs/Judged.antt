@@ -1,7 +1,6 @@
 -- How far the rows are judged.
 use Rattle.std.specs.Prelude.{ℕ, [], ◌∷◌}
-use Rattle.ppdb_base.specs.declared.fault.Fault.{Fault}
-use Rattle.ppdb_base.specs.First.{IsJudgedTo, IsFirst}
+use Rattle.ppdb_base.specs.{declared.fault.Fault.Fault, First.{IsJudgedTo, IsFirst}}
 use Rattle.ppdb_tables.specs.RawTables.{RawTables}
 use Rattle.ppdb_verify_rules.specs.Rows.{RowFaults}
 

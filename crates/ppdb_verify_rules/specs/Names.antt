@@ -1,7 +1,6 @@
 -- The names of documents (Portable PDB v1.0, "Document Name Blob").
 use Rattle.std.specs.Prelude.{ℕ, ◌≡◌, List, Some}
-use Rattle.ppdb_heaps.specs.Heaps.{blob_at}
-use Rattle.ppdb_heaps.specs.Names.{IsName}
+use Rattle.ppdb_heaps.specs.{Heaps.blob_at, Names.IsName}
 
 -- the blob at the index is there and whole, and this is its text
 pub record SpellsName (blobs : List ℕ) (index : ℕ) (name : List ℕ) : Type 0 where

@@ -1,9 +1,7 @@
 -- Which earlier scopes of a method may still hold a later one.
 use Rattle.std.specs.Prelude.{◌≡◌, ℕ, ◌<◌, ◌≤◌, ◌⊎◌, List, length, slice_index, Some}
-use Rattle.ppdb_tables.specs.declared.rows.ScopeRow.{ScopeRow}
-use Rattle.ppdb_tables.specs.RawTables.{row_at}
-use Rattle.ppdb_verify_rules.specs.Earlier.{HasEarlier}
-use Rattle.ppdb_verify_rules.specs.Scopes.{extent_of}
+use Rattle.ppdb_tables.specs.{declared.rows.ScopeRow.ScopeRow, RawTables.row_at}
+use Rattle.ppdb_verify_rules.specs.{Earlier.HasEarlier, Scopes.extent_of}
 
 -- a scope before the row, of the method, that ends there
 abbrev pub EndsThere : List ScopeRow → ℕ → ℕ → ℕ → Type 0

@@ -1,33 +1,16 @@
 -- Where the rows of the tables 30 to 37 break the rules F19 to F39, table by table (Portable PDB v1.0, "Metadata Tables"; ECMA-335 II.22).
 -- A fault of a row stands at a column and, of a blob that is read, at a byte inside it.
+use Rattle.ppdb_base.specs.declared.code.Code.TheVariants.{StringIndex, BlobIndex, GuidIndex, RowIndex, CodedTag, NameNil, DocumentRepeated, ScopeOrder, ScopeRange, ScopeCrossing, ListRange}
+use Rattle.ppdb_base.specs.declared.code.Code.TheVariants.{SlotRepeated, NameRepeated, ImportCycle, MachineOrder, KickoffRepeated, CustomOrder, KindParent}
 use Rattle.std.specs.Prelude.{ℕ, ◌≡◌, ◌%◌, ◌<◌, ◌≤◌, None, Some}
-use Rattle.ppdb_base.specs.declared.code.Code.{Code}
-use Rattle.ppdb_base.specs.declared.code.Code.TheVariants.{StringIndex, BlobIndex, GuidIndex, RowIndex, CodedTag, NameNil}
-use Rattle.ppdb_base.specs.declared.code.Code.TheVariants.{DocumentRepeated, ScopeOrder, ScopeRange, ScopeCrossing, ListRange}
-use Rattle.ppdb_base.specs.declared.code.Code.TheVariants.{SlotRepeated, NameRepeated, ImportCycle, MachineOrder, KickoffRepeated}
-use Rattle.ppdb_base.specs.declared.code.Code.TheVariants.{CustomOrder, KindParent}
-use Rattle.ppdb_base.specs.declared.fault.BlobFault.{BlobFault}
-use Rattle.ppdb_base.specs.declared.fault.Place.{Place}
-use Rattle.ppdb_heaps.specs.Heaps.{text_at, blob_at}
-use Rattle.ppdb_heaps.specs.Names.{names}
-use Rattle.ppdb_tables.specs.declared.rows.DocumentRow.{DocumentRow}
-use Rattle.ppdb_tables.specs.declared.rows.MethodDebugRow.{MethodDebugRow}
-use Rattle.ppdb_tables.specs.declared.rows.ScopeRow.{ScopeRow}
-use Rattle.ppdb_tables.specs.declared.rows.VariableRow.{VariableRow}
-use Rattle.ppdb_tables.specs.declared.rows.ConstantRow.{ConstantRow}
-use Rattle.ppdb_tables.specs.declared.rows.ImportRow.{ImportRow}
-use Rattle.ppdb_tables.specs.declared.rows.MachineRow.{MachineRow}
-use Rattle.ppdb_tables.specs.declared.rows.CustomRow.{CustomRow}
-use Rattle.ppdb_tables.specs.RawTables.{RawTables, row_at, count}
+use Rattle.ppdb_base.specs.{declared.code.Code.Code, declared.fault.{BlobFault.BlobFault, Place.Place}}
+use Rattle.ppdb_heaps.specs.{Heaps.{text_at, blob_at}, Names.names}
+use Rattle.ppdb_tables.specs.declared.rows.{DocumentRow.DocumentRow, MethodDebugRow.MethodDebugRow, ScopeRow.ScopeRow, VariableRow.VariableRow, ConstantRow.ConstantRow, ImportRow.ImportRow}
+use Rattle.ppdb_tables.specs.{declared.rows.{MachineRow.MachineRow, CustomRow.CustomRow}, RawTables.{RawTables, row_at, count}}
 use Rattle.sequence_points.specs.Records.{sequence_points}
-use Rattle.type_blobs.specs.Constants.{constants}
-use Rattle.type_blobs.specs.Imports.{imports}
-use Rattle.ppdb_verify_rules.specs.Blobs.{HasFault, IsNil, NamesNoGuid, in_blob, point_limits, type_limits}
-use Rattle.ppdb_verify_rules.specs.Chains.{NeverEnds}
-use Rattle.ppdb_verify_rules.specs.Customs.{HasNoParent, HasOtherParent, HasInvalidValue}
-use Rattle.ppdb_verify_rules.specs.Earlier.{HasEarlier, NamesNoRow}
-use Rattle.ppdb_verify_rules.specs.Names.{AreSameName}
-use Rattle.ppdb_verify_rules.specs.Scopes.{AreCrossed, AreSameText, HasNoRange, IsAbove, IsListOut, ShareOwner, extent_of}
+use Rattle.type_blobs.specs.{Constants.constants, Imports.imports}
+use Rattle.ppdb_verify_rules.specs.{Blobs.{HasFault, IsNil, NamesNoGuid, in_blob, point_limits, type_limits}, Chains.NeverEnds, Customs.{HasNoParent, HasOtherParent, HasInvalidValue}}
+use Rattle.ppdb_verify_rules.specs.{Earlier.{HasEarlier, NamesNoRow}, Names.AreSameName, Scopes.{AreCrossed, AreSameText, HasNoRange, IsAbove, IsListOut, ShareOwner, extent_of}}
 
 -- Document: Name, HashAlgorithm, Hash, Language
 pub data DocumentFault (raw : RawTables) (row : ℕ) (document : DocumentRow) : ℕ → ℕ → Code → Type 0 where

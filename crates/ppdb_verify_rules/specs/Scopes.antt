@@ -1,10 +1,9 @@
 -- The order and the ranges of scopes, and what belongs to a scope (Portable PDB v1.0, "LocalScope Table").
 use Rattle.std.specs.Prelude.{ℕ, ◌≡◌, ◌≢◌, ◌+◌, ◌-◌, ◌<◌, ◌≤◌, ◌⊎◌, List, Some}
 use Rattle.ppdb_heaps.specs.Heaps.{text_at}
-use Rattle.ppdb_tables.specs.declared.rows.ScopeRow.{ScopeRow}
-use Rattle.ppdb_tables.specs.RawTables.{row_at}
-pub use Rattle.ppdb_tables.specs.Owners.{Owns}
+use Rattle.ppdb_tables.specs.{declared.rows.ScopeRow.ScopeRow, RawTables.row_at}
 use Rattle.ppdb_verify_rules.specs.Earlier.{NamesNoRow}
+pub use Rattle.ppdb_tables.specs.Owners.{Owns}
 
 -- a method and a range of its IL offsets: from the start, up to and without the end
 pub record Extent : Type 0 where

@@ -1,22 +1,9 @@
 -- What the passes over the tables have seen.
-use Rattle.std.specs.Prelude.{◌≡◌, ℕ, ◌-◌, ◌/◌, ◌%◌, ◌<◌, ◌≤◌, ◌⊎◌, List, [], Some, IsTrue, slice_index}
-use Rattle.std.specs.Ordering.{nat_cmp, is_eq}
-use Rattle.std.specs.Cmp.Lexicographic.{slice_cmp}
-use Rattle.std.specs.Int.{bit_at}
-use Rattle.std.specs.List.{list_any}
-use Rattle.std.specs.Str.{bytes_eq}
+use Rattle.std.specs.{Prelude.{◌≡◌, ℕ, ◌-◌, ◌/◌, ◌%◌, ◌<◌, ◌≤◌, ◌⊎◌, List, [], Some, IsTrue, slice_index, bytes_eq}, Ordering.{nat_cmp, is_eq}, Cmp.Lexicographic.slice_cmp, Int.bit_at, List.list_any}
 use Rattle.std.specs.Borrow.{Bor}
 use Rattle.ppdb_heaps.specs.Heaps.{text_at}
-use Rattle.ppdb_tables.specs.declared.rows.MachineRow.{MachineRow}
-use Rattle.ppdb_tables.specs.declared.rows.ScopeRow.{ScopeRow}
-use Rattle.ppdb_tables.specs.declared.rows.VariableRow.{VariableRow}
-use Rattle.ppdb_tables.specs.declared.rows.ConstantRow.{ConstantRow}
-use Rattle.ppdb_tables.specs.RawTables.{RawTables, row_at, count}
-use Rattle.ppdb_verify_rules.specs.declared.lists.ScopeList.{ScopeList}
-use Rattle.ppdb_verify_rules.specs.declared.seen.Texts.{Texts}
-use Rattle.ppdb_verify_rules.specs.Earlier.{HasEarlier}
-use Rattle.ppdb_verify_rules.specs.Lists.{list_of, table_of}
-use Rattle.ppdb_verify_rules.specs.Scopes.{IsListOut, Owns}
+use Rattle.ppdb_tables.specs.{declared.rows.{MachineRow.MachineRow, ScopeRow.ScopeRow, VariableRow.VariableRow, ConstantRow.ConstantRow}, RawTables.{RawTables, row_at, count}, Owners.Owns}
+use Rattle.ppdb_verify_rules.specs.{declared.lists.ScopeList.ScopeList, declared.seen.Texts.Texts, Earlier.HasEarlier, Lists.{list_of, table_of}, Scopes.IsListOut}
 
 -- the bit of the number is set: bit n % 32 of word n / 32
 abbrev pub Has : List ℕ → ℕ → Type 0

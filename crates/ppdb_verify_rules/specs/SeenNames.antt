@@ -1,13 +1,8 @@
 -- What the pass over the documents has seen.
-use Rattle.std.specs.Prelude.{◌≡◌, ℕ, ◌+◌, ◌<◌, ◌≤◌, List, length, Option, Some, None, IsTrue}
-use Rattle.std.specs.Ordering.{nat_cmp}
-use Rattle.std.specs.Cmp.Lexicographic.{slice_cmp}
-use Rattle.std.specs.BTreeSet.{BTreeSet, contains}
-use Rattle.std.specs.declared.vec.Vec.{Vec}
+use Rattle.std.specs.{Prelude.{◌≡◌, ℕ, ◌+◌, ◌<◌, ◌≤◌, List, length, Option, Some, None, IsTrue}, Ordering.nat_cmp, Cmp.Lexicographic.slice_cmp, BTreeSet.{BTreeSet, contains}, declared.vec.Vec.Vec}
 use Rattle.std.specs.declared.alloc.Global.{Global}
 use Rattle.ppdb_tables.specs.declared.rows.DocumentRow.{DocumentRow}
-use Rattle.ppdb_verify_rules.specs.Earlier.{HasEarlier}
-use Rattle.ppdb_verify_rules.specs.Names.{SpellsName}
+use Rattle.ppdb_verify_rules.specs.{Earlier.HasEarlier, Names.SpellsName}
 
 -- the set has the bytes
 abbrev pub HasBytes : BTreeSet (Vec ℕ Global) → Vec ℕ Global → Type 0

@@ -1,18 +1,10 @@
 -- The texts and blobs that the rows refer to, in the order of their places (Portable PDB v1.0, "Metadata Tables" and the formats
 -- of its blobs; ECMA-335 II.24.2.3, II.24.2.4).
-use Rattle.std.specs.Prelude.{ℕ, List, [], ◌∷◌, ◌++◌, length, map, Option, Some, None}
-use Rattle.std.specs.List.{flat_map}
-use Rattle.ppdb_base.specs.declared.fault.Place.{Place}
-use Rattle.ppdb_base.specs.Place.{cell}
+use Rattle.std.specs.Prelude.{ℕ, List, [], ◌∷◌, ◌++◌, length, map, Option, Some, None, flat_map}
+use Rattle.ppdb_base.specs.{declared.fault.Place.Place, Place.cell}
 use Rattle.blob_grammar.specs.declared.places.PlacedIndex.{PlacedIndex}
-use Rattle.ppdb_heaps.specs.Heaps.{text_at, blob_at}
-use Rattle.ppdb_heaps.specs.Names.{name_indexes}
-use Rattle.ppdb_tables.specs.declared.rows.DocumentRow.{DocumentRow}
-use Rattle.ppdb_tables.specs.declared.rows.MethodDebugRow.{MethodDebugRow}
-use Rattle.ppdb_tables.specs.declared.rows.VariableRow.{VariableRow}
-use Rattle.ppdb_tables.specs.declared.rows.ConstantRow.{ConstantRow}
-use Rattle.ppdb_tables.specs.declared.rows.ImportRow.{ImportRow}
-use Rattle.ppdb_tables.specs.declared.rows.CustomRow.{CustomRow}
+use Rattle.ppdb_heaps.specs.{Heaps.{text_at, blob_at}, Names.name_indexes}
+use Rattle.ppdb_tables.specs.declared.rows.{DocumentRow.DocumentRow, MethodDebugRow.MethodDebugRow, VariableRow.VariableRow, ConstantRow.ConstantRow, ImportRow.ImportRow, CustomRow.CustomRow}
 use Rattle.ppdb_tables.specs.RawTables.{RawTables, numbered}
 use Rattle.type_blobs.specs.Imports.{import_indexes}
 use Rattle.ppdb_verify_rules.specs.Blobs.{in_blob, type_limits}

@@ -1,9 +1,6 @@
 -- How many bytes the references name in all: the rule F40.
 use Rattle.std.specs.Prelude.{◌≡◌, ℕ, ◌+◌, ◌<◌, List, [], ◌∷◌, take, sum_by, slice_get, Some, Result, Ok, Err, nat_lt, if◌then◌else◌}
-use Rattle.ppdb_base.specs.declared.code.Code.{Code}
-use Rattle.ppdb_base.specs.declared.code.Code.TheVariants.{SpanTotal}
-use Rattle.ppdb_base.specs.declared.fault.Fault.{Fault}
-use Rattle.ppdb_base.specs.declared.fault.Place.{Place}
+use Rattle.ppdb_base.specs.{declared.code.Code.{Code, TheVariants.SpanTotal}, declared.fault.{Fault.Fault, Place.Place}}
 use Rattle.ppdb_tables.specs.RawTables.{RawTables}
 use Rattle.ppdb_verify_total.specs.HeapUses.{HeapUse, heap_uses}
 

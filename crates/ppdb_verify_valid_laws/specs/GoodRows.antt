@@ -1,8 +1,7 @@
 -- The list of the faults of rows and the list of their rules say the same (Portable PDB v1.0, "Metadata Tables"; ECMA-335 II.22).
 use Rattle.std.specs.Prelude.{◌↔◌}
 use Rattle.ppdb_verify_accepted_laws.specs.Accepted.{HasGoodRows}
-use Rattle.ppdb_values.specs.RawFile.{RawFile}
-use Rattle.ppdb_values.specs.Rules.{KeepsRules}
+use Rattle.ppdb_values.specs.{RawFile.RawFile, Rules.KeepsRules}
 
 -- Nothing is bad in the rows exactly where the rules are kept.
 abbrev pub GoodRowsAreKeptRules : Type 0

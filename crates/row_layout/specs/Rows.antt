@@ -1,6 +1,5 @@
 -- A row as its cells, by the widths of the columns (ECMA-335 II.24.2.6): one after another, each little-endian.
-use Rattle.std.specs.Prelude.{◌≡◌, ℕ, ◌+◌, ◌<◌, ◌^◌, List, [], ◌∷◌, ◌++◌, ◌⊎◌, take, drop, sum, slice_index}
-use Rattle.std.specs.List.{AllZip}
+use Rattle.std.specs.{Prelude.{◌≡◌, ℕ, ◌+◌, ◌<◌, ◌^◌, List, [], ◌∷◌, ◌++◌, ◌⊎◌, take, drop, sum, slice_index}, List.AllZip}
 use Rattle.byteorder.specs.Endian.{little_number, little_bytes}
 
 -- where a cell begins: the sum of the widths before it

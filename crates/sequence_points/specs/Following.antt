@@ -1,9 +1,6 @@
 -- What the writer asks of a point and of those before it.
 use Rattle.std.specs.Prelude.{◌≡◌, ◌<◌, Option, Some, None, List, [], ◌∷◌, ◌++◌}
-use Rattle.sequence_points.specs.declared.point.Point.{Point}
-use Rattle.sequence_points.specs.declared.place.Start.{Start}
-use Rattle.sequence_points.specs.Written.{IsSpan, large_step, last_of, last_start}
-use Rattle.sequence_points.specs.Ranges.{IsOffset, IsDocument, IsLine, IsColumn}
+use Rattle.sequence_points.specs.{declared.point.Point.Point, declared.place.Start.Start, Written.{IsSpan, large_step, last_of, last_start}, Ranges.{IsOffset, IsDocument, IsLine, IsColumn}}
 
 -- the start of a point that was written
 abbrev pub IsStart : Option Start → Type 0

@@ -1,8 +1,7 @@
 -- Where points move to (Portable PDB v1.0, "Sequence Points Blob": a point holds up to the next one).
 use Rattle.std.specs.Prelude.{◌≡◌, ℕ, ◌<◌, cond, List, [], ◌∷◌, All, AllPairs}
 use Rattle.ppdb_base.specs.Offsets.{Offsets, gone, lined, moved, is_kept_between, old_size}
-use Rattle.sequence_points.specs.declared.point.Point.{Point}
-use Rattle.sequence_points.specs.declared.point.Span.TheVariants.{Hidden}
+use Rattle.sequence_points.specs.declared.point.{Point.Point, Span.TheVariants.Hidden}
 
 -- the offset of the first point, or the end where there is none
 abbrev pub first_offset : ℕ → List Point → ℕ

@@ -1,18 +1,9 @@
 -- What a cursor has left, by the place that it has come to.
 use Rattle.std.specs.Prelude.{◌≡◌, ℕ, List, [], ◌∷◌, length, drop, Option, Some, None, Result, Ok, Err, ℤ, pos, ◌≤◌, ◌<◌, ◌+◌, Bool, true, false, ◌&&◌, ◌+ℤ◌}
-use Rattle.ppdb_base.specs.declared.Code.{Code}
-use Rattle.ppdb_base.specs.declared.BlobFault.{BlobFault}
-use Rattle.blob_grammar.specs.Grammar.{Value, number}
-use Rattle.blob_grammar.specs.Reader.{Left, push, close_and, read_from}
-use Rattle.sequence_points.specs.declared.point.PointLimits.{PointLimits}
-use Rattle.sequence_points.specs.declared.point.Point.{Point}
-use Rattle.sequence_points.specs.declared.point.Span.{Span}
-use Rattle.sequence_points.specs.declared.point.Span.TheVariants.{Hidden, Lines}
-use Rattle.sequence_points.specs.declared.place.Place.{Place}
-use Rattle.sequence_points.specs.declared.place.Last.{Last}
-use Rattle.sequence_points.specs.declared.place.Start.{Start}
-use Rattle.sequence_points.specs.Records.{Entry, header, hidden, visible, int_of, sums, header_of, sequence_points}
-use Rattle.sequence_points.specs.Points.{points_after}
+use Rattle.ppdb_base.specs.{declared.code.Code.Code, declared.fault.BlobFault.BlobFault}
+use Rattle.blob_grammar.specs.{Grammar.{Value, number}, Reader.{Left, push, close_and, read_from}}
+use Rattle.sequence_points.specs.{declared.point.{PointLimits.PointLimits, Point.Point, Span.{Span, TheVariants.{Hidden, Lines}}}, declared.place.{Place.Place, Last.Last, Start.Start}}
+use Rattle.sequence_points.specs.{Records.{Entry, header, hidden, visible, int_of, sums, header_of, sequence_points}, Points.points_after}
 
 -- records that leave the sums at this place
 abbrev pub point_entry : ℕ → Option Start → Entry

@@ -1,12 +1,8 @@
 -- The points that the records of a sequence points blob make (Portable PDB v1.0, "Sequence Points Blob").
-use Rattle.std.specs.Prelude.{◌≡◌, ℕ, ◌+◌, List, [], ◌∷◌, ◌++◌, Option, Some, None, pos, ◌+ℤ◌, unsigned_abs, All, ◌≢◌, ◌⊎◌, ◌==◌, if◌then◌else◌}
-use Rattle.std.specs.Option.{option_to_list}
-use Rattle.std.specs.List.{flat_map, list_all}
-use Rattle.ppdb_base.specs.declared.BlobFault.{BlobFault}
+use Rattle.std.specs.{Prelude.{◌≡◌, ℕ, ◌+◌, List, [], ◌∷◌, ◌++◌, Option, Some, None, pos, ◌+ℤ◌, unsigned_abs, All, ◌≢◌, ◌⊎◌, ◌==◌, if◌then◌else◌, option_to_list, flat_map}, List.list_all}
+use Rattle.ppdb_base.specs.declared.fault.BlobFault.{BlobFault}
 use Rattle.blob_grammar.specs.Reading.{Reading}
-use Rattle.sequence_points.specs.declared.point.PointLimits.{PointLimits}
-use Rattle.sequence_points.specs.declared.point.Point.{Point}
-use Rattle.sequence_points.specs.declared.point.Span.TheVariants.{Hidden, Lines}
+use Rattle.sequence_points.specs.declared.point.{PointLimits.PointLimits, Point.Point, Span.TheVariants.{Hidden, Lines}}
 use Rattle.sequence_points.specs.Records.{Entry, header, hidden, visible, in_document, Sums, sums, sequence_points}
 
 -- the row that a record names as the document of the points after it

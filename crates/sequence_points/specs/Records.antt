@@ -1,10 +1,7 @@
 -- Sequence points (Portable PDB v1.0, "Sequence Points Blob"): which field may follow the fields before it.
-use Rattle.std.specs.Prelude.{ℕ, zero, suc, ◌+◌, List, [], ◌∷◌, Option, Some, None, Bool, true, false, ◌&&◌, nat_le, if◌then◌else◌, ℤ, pos, ◌+ℤ◌}
-use Rattle.std.specs.List.{sum_by, list_any}
-use Rattle.blob_grammar.specs.Grammar.{Value, number, integer, Form, unsigned, signed, Grammar}
-use Rattle.blob_grammar.specs.Allowed.{is_row, is_number}
-use Rattle.sequence_points.specs.declared.point.PointLimits.{PointLimits}
-use Rattle.sequence_points.specs.Ranges.{is_offset, is_line, is_column}
+use Rattle.std.specs.{Prelude.{ℕ, zero, suc, ◌+◌, List, [], ◌∷◌, Option, Some, None, Bool, true, false, ◌&&◌, nat_le, if◌then◌else◌, ℤ, pos, ◌+ℤ◌, sum_by}, List.list_any}
+use Rattle.blob_grammar.specs.{Grammar.{Value, number, integer, Form, unsigned, signed, Grammar}, Allowed.{is_row, is_number}}
+use Rattle.sequence_points.specs.{declared.point.PointLimits.PointLimits, Ranges.{is_offset, is_line, is_column}}
 
 -- A record of the blob, its numbers as they are stored: offset, start line and start column are differences.
 pub data Entry : Type 0 where

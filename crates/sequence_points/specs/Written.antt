@@ -1,19 +1,10 @@
 -- The one canonical blob of some points (Portable PDB v1.0, "Sequence Points Blob"): each number has its shortest form
 -- (ECMA-335 II.23.2), and a document record stands exactly before each point whose document is not that of the point before.
-use Rattle.std.specs.Prelude.{◌≡◌, ◌≢◌, ℕ, ◌+◌, ◌-◌, ◌<◌, ◌^◌, ◌⊎◌, zero, suc, List, [], ◌∷◌, ◌++◌, length, Option, Some, None, ◌==◌}
-use Rattle.std.specs.Prelude.{if◌then◌else◌, All, AllPairs, ℤ, pos, ◌-ℤ◌}
-use Rattle.std.specs.List.{filter_map}
-use Rattle.std.specs.Option.{option_map, option_to_list}
+use Rattle.std.specs.Prelude.{◌≡◌, ◌≢◌, ℕ, ◌+◌, ◌-◌, ◌<◌, ◌^◌, ◌⊎◌, zero, suc, List, [], ◌∷◌, ◌++◌, length, Option, Some, None, ◌==◌, if◌then◌else◌, All, AllPairs, ℤ, pos, ◌-ℤ◌, filter_map}
+use Rattle.std.specs.Prelude.{option_map, option_to_list}
 use Rattle.cli_ints.specs.Shortest.{short_unsigned, short_signed, fits_half}
-use Rattle.sequence_points.specs.declared.point.Point.{Point}
-use Rattle.sequence_points.specs.declared.point.Span.{Span}
-use Rattle.sequence_points.specs.declared.point.Span.TheVariants.{Hidden, Lines}
-use Rattle.sequence_points.specs.declared.place.Start.{Start}
-use Rattle.sequence_points.specs.declared.step.LineStep.{LineStep}
-use Rattle.sequence_points.specs.declared.writer.PointError.{PointError}
-use Rattle.sequence_points.specs.declared.writer.PointError.TheVariants.{Step, Memory}
-use Rattle.sequence_points.specs.Ranges.{IsOffset, IsDocument, IsLine, IsColumn}
-use Rattle.sequence_points.specs.Points.{common_document}
+use Rattle.sequence_points.specs.{declared.point.{Point.Point, Span.{Span, TheVariants.{Hidden, Lines}}}, declared.place.Start.Start, declared.step.LineStep.LineStep}
+use Rattle.sequence_points.specs.{declared.writer.PointError.{PointError, TheVariants.{Step, Memory}}, Ranges.{IsOffset, IsDocument, IsLine, IsColumn}, Points.common_document}
 
 -- ---- what can be written
 

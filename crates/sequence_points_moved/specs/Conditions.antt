@@ -1,10 +1,7 @@
 -- What is asked of a blob of sequence points and of a map before the points are moved.
 use Rattle.std.specs.Prelude.{◌≡◌, ℕ, ◌<◌, ◌++◌, List, None, All}
 use Rattle.ppdb_base.specs.Offsets.{Offsets, IsNextImage, old_size}
-use Rattle.sequence_points.specs.declared.point.Point.{Point}
-use Rattle.sequence_points.specs.declared.point.PointLimits.{PointLimits}
-use Rattle.sequence_points.specs.Points.{PointsReading}
-use Rattle.sequence_points.specs.Ranges.{number_limit}
+use Rattle.sequence_points.specs.{declared.point.{Point.Point, PointLimits.PointLimits}, Points.PointsReading, Ranges.number_limit}
 
 -- The blob reads whole, as this signature and these points.
 abbrev pub ReadsAs : ℕ → PointLimits → List ℕ → ℕ → List Point → Type 0

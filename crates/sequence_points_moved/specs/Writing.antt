@@ -1,17 +1,10 @@
 -- What the writer has come to: the points that it wrote, and what is asked of the next one.
 use Rattle.std.specs.Prelude.{◌≡◌, ◌≢◌, ℕ, ◌+◌, ◌<◌, ◌≤◌, ◌++◌, List, [], ◌∷◌, length, Option, Some, None, Bool, true, false}
-use Rattle.sequence_points.specs.declared.point.Point.{Point}
-use Rattle.sequence_points.specs.declared.writer.PointError.{PointError}
-use Rattle.sequence_points.specs.declared.writer.PointError.TheVariants.{Step, Memory}
-use Rattle.sequence_points.specs.Points.{common_document}
-use Rattle.sequence_points.specs.Ranges.{IsOffset, IsDocument}
-use Rattle.sequence_points.specs.Following.{IsStart, IsBehind}
+use Rattle.sequence_points.specs.{declared.point.Point.Point, declared.writer.PointError.{PointError, TheVariants.{Step, Memory}}, Points.common_document, Ranges.{IsOffset, IsDocument}}
+use Rattle.sequence_points.specs.{Following.{IsStart, IsBehind}, Written.{CanBeWritten, IsSpan, last_of, last_start, large_step, large_steps, points_bytes}}
 use Rattle.cli_ints.specs.Shortest.{short_unsigned}
-use Rattle.sequence_points_moved.specs.MovedBlob.{moved_blob}
-use Rattle.sequence_points.specs.Written.{CanBeWritten, IsSpan, last_of, last_start, large_step, large_steps, points_bytes}
-use Rattle.sequence_points_moved.specs.declared.writer.Written.{Written}
 use Rattle.ppdb_base.specs.Offsets.{Offsets}
-use Rattle.sequence_points_moved.specs.Conditions.{HasImage}
+use Rattle.sequence_points_moved.specs.{MovedBlob.moved_blob, declared.writer.Written.Written, Conditions.HasImage}
 
 -- The writer has written these points.
 pub record HasWritten (before : List Point) (w : Written) : Type 0 where

@@ -1,14 +1,8 @@
 -- What packed points are seen as (Portable PDB v1.0, "Sequence Points Blob").
 use Rattle.std.specs.Prelude.{◌≡◌, ℕ, ◌<◌, ◌≤◌, ◌^◌, List, [], length, None, All}
 use Rattle.blob_grammar.specs.Reader.{read_from}
-use Rattle.sequence_points.specs.declared.point.Point.{Point}
-use Rattle.sequence_points.specs.declared.point.PointLimits.{PointLimits}
-use Rattle.sequence_points.specs.Points.{PointsReading, points_after}
-use Rattle.sequence_points.specs.Ranges.{IsOffset}
-use Rattle.sequence_points.specs.Records.{sequence_points}
-use Rattle.sequence_points.specs.Written.{CanBeWritten}
-use Rattle.sequence_points_packed.specs.declared.packed.Kept.{Kept}
-use Rattle.sequence_points_packed.specs.declared.packed.Kept.TheVariants.{Blob, Listed}
+use Rattle.sequence_points.specs.{declared.point.{Point.Point, PointLimits.PointLimits}, Points.{PointsReading, points_after}, Ranges.IsOffset, Records.sequence_points, Written.CanBeWritten}
+use Rattle.sequence_points_packed.specs.declared.packed.Kept.{Kept, TheVariants.{Blob, Listed}}
 
 -- any row of a document, and no local signature
 abbrev pub packed_limits : PointLimits

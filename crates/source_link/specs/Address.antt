@@ -1,15 +1,8 @@
 -- The address of a document name: that of the pair with the longest key among those that match (this project's
 -- rule, docs/FORMAT.md, "Blobs"; debuggers do so).
-use Rattle.std.specs.Prelude.{ℕ, Bool, cond, nat_eq, List, [], ◌∷◌, Option, length, drop, map}
-use Rattle.std.specs.Char.{to_ascii_lowercase}
-use Rattle.std.specs.List.{filter, find, flat_map, list_all, starts_with}
-use Rattle.std.specs.Option.{option_map}
-use Rattle.std.specs.Ordering.{nat_cmp, bool_cmp, ordering_then, is_le}
-use Rattle.std.specs.Cmp.Lexicographic.{slice_cmp}
-use Rattle.std.specs.declared.cmp.Ordering.{Ordering}
-use Rattle.std.specs.Str.{bytes_eq}
-use Rattle.source_link.specs.declared.pair.Pair.{Pair}
-use Rattle.source_link.specs.Pairs.{star, is_pattern, fixed_part}
+use Rattle.std.specs.{Prelude.{ℕ, Bool, cond, nat_eq, List, [], ◌∷◌, Option, length, drop, map, filter, find, flat_map, option_map, bytes_eq}, Char.to_ascii_lowercase, List.{list_all, starts_with}}
+use Rattle.std.specs.{Ordering.{nat_cmp, bool_cmp, ordering_then, is_le}, Cmp.Lexicographic.slice_cmp, declared.cmp.Ordering.Ordering}
+use Rattle.source_link.specs.{declared.pair.Pair.Pair, Pairs.{star, is_pattern, fixed_part}}
 
 abbrev pub lower : List ℕ → List ℕ
 lower bytes = map to_ascii_lowercase bytes

@@ -1,15 +1,6 @@
 -- The Source Link record of a file (Portable PDB v1.0, "CustomDebugInformation Table", "Source Link").
-use Rattle.std.specs.Prelude.{ℕ, ◌&&◌, Bool, List, [], Option}
-use Rattle.std.specs.List.{find}
-use Rattle.std.specs.Option.{option_map}
-use Rattle.std.specs.Str.{bytes_eq}
-use Rattle.custom_info.specs.Kinds.{source_link}
-use Rattle.ppdb_tables.specs.declared.parent.Parent.{Parent}
-use Rattle.ppdb_values.specs.declared.custom.CustomBody.{CustomBody}
-use Rattle.ppdb_values.specs.declared.custom.CustomBody.TheVariants.{Unread}
-use Rattle.ppdb_values.specs.declared.custom.CustomValue.{CustomValue}
-use Rattle.ppdb_values.specs.declared.file.FileValue.{FileValue}
-use Rattle.ppdb_values.specs.Parts.{is_at}
+use Rattle.ppdb_values.specs.Names.{ℕ, ◌&&◌, Bool, List, [], Option, find, option_map, bytes_eq, source_link, Parent}
+use Rattle.ppdb_values.specs.{declared.custom.{CustomBody.{CustomBody, TheVariants.Unread}, CustomValue.CustomValue}, declared.file.FileValue.FileValue, Parts.is_at}
 
 -- the one row of Module
 abbrev pub module_row : Parent

@@ -1,11 +1,6 @@
 -- What the choice of a pair comes to, whatever the order in which pairs stand.
-use Rattle.std.specs.Prelude.{◌≡◌, ℕ, List, map, Ok, Some, None, true, Contains}
-use Rattle.std.specs.Ordering.{is_le, nat_cmp}
-use Rattle.std.specs.Cmp.Lexicographic.{slice_cmp}
-use Rattle.std.specs.List.Sorted.{IsPermutation, IsStrictlySortedBy}
-use Rattle.source_link.specs.declared.pair.Pair.{Pair}
-use Rattle.source_link.specs.Address.{matches, key_cmp, chosen, address_of}
-use Rattle.source_link.specs.Record.{links_of}
+use Rattle.std.specs.{Prelude.{◌≡◌, ℕ, List, map, Ok, Some, None, true, Contains, IsPermutation}, Ordering.{is_le, nat_cmp}, Cmp.Lexicographic.slice_cmp, List.Sorted.IsStrictlySortedBy}
+use Rattle.source_link.specs.{declared.pair.Pair.Pair, Address.{matches, key_cmp, chosen, address_of}, Record.links_of}
 
 -- the pair matches, and each pair that matches is not before it
 pub record IsBest (name : List ℕ) (pairs : List Pair) (pair : Pair) : Type 0 where

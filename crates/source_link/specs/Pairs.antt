@@ -1,7 +1,6 @@
 -- The pairs of a Source Link record: keys and addresses (this project's rules, docs/FORMAT.md, "Blobs"; the JSON schema of Source Link
 -- is stricter, and asks for a member of `documents`).
-use Rattle.std.specs.Prelude.{ℕ, ◌-◌, ◌||◌, ◌&&◌, not, Bool, cond, nat_eq, List, [], ◌∷◌, length, take, Option, Some, None}
-use Rattle.std.specs.List.{count_by, list_any, ends_with}
+use Rattle.std.specs.{Prelude.{ℕ, ◌-◌, ◌||◌, ◌&&◌, not, Bool, cond, nat_eq, List, [], ◌∷◌, length, take, Option, Some, None, count_by}, List.{list_any, ends_with}}
 use Rattle.source_link.specs.declared.pair.Pair.{Pair}
 
 -- `*`

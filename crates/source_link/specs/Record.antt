@@ -1,14 +1,8 @@
 -- The pairs that a Source Link record says, or why it says none (this project's rules, docs/FORMAT.md, "Blobs"; RFC 8259).
-use Rattle.std.specs.Prelude.{◌≡◌, ℕ, ◌⊎◌, cond, List, [], ◌∷◌, Option, Some, None, Result, Ok, Err, IfErr, codes}
-use Rattle.std.specs.Option.{option_map, option_and_then}
-use Rattle.std.specs.Str.{is_utf8}
-use Rattle.serde_json.specs.Data.{Data, Members, no_members, member}
-use Rattle.serde_json.specs.Read.{read}
-use Rattle.serde_json.specs.Find.{get_member, as_object, as_str}
-use Rattle.ppdb_base.specs.declared.link_error.LinkError.{LinkError}
-use Rattle.ppdb_base.specs.declared.link_error.LinkError.TheVariants.{NotJson, Shape, Memory}
-use Rattle.source_link.specs.declared.pair.Pair.{Pair}
-use Rattle.source_link.specs.Pairs.{pair_of}
+use Rattle.std.specs.{Prelude.{◌≡◌, ℕ, ◌⊎◌, cond, List, [], ◌∷◌, Option, Some, None, Result, Ok, Err, IfErr, codes, option_map, option_and_then}, Str.is_utf8}
+use Rattle.serde_json.specs.{Data.{Data, Members, no_members, member}, Read.read, Find.{get_member, as_object, as_str}}
+use Rattle.ppdb_base.specs.declared.link_error.LinkError.{LinkError, TheVariants.{NotJson, Shape, Memory}}
+use Rattle.source_link.specs.{declared.pair.Pair.Pair, Pairs.pair_of}
 
 -- what the bytes are as JSON, in UTF-8
 abbrev pub data_in : List ℕ → Option Data

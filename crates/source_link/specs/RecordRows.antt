@@ -1,10 +1,5 @@
 -- The Source Link record among some rows of CustomDebugInformation, as a walk over them finds it.
-use Rattle.std.specs.Prelude.{ℕ, ◌-◌, List, Option, slice_range}
-use Rattle.std.specs.List.{find}
-use Rattle.std.specs.Option.{option_map}
-use Rattle.std.specs.Str.{bytes_eq}
-use Rattle.custom_info.specs.Kinds.{source_link}
-use Rattle.ppdb_tables.specs.RawTables.{RawTables, numbered}
+use Rattle.ppdb_values.specs.Names.{ℕ, ◌-◌, List, Option, slice_range, find, option_map, bytes_eq, source_link, RawTables, numbered}
 use Rattle.ppdb_values.specs.Customs.{custom_of}
 use Rattle.source_link.specs.FileLinks.{bytes_in}
 

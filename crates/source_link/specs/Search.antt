@@ -1,14 +1,7 @@
 -- How pairs are sorted, so that a name finds its best pair while it is read once from the left.
-use Rattle.std.specs.Prelude.{◌≡◌, ℕ, ◌+◌, ◌≤◌, List, length, slice_get, take, Bool, Option, Some, None, cond}
-use Rattle.std.specs.Char.{to_ascii_lowercase}
-use Rattle.std.specs.List.Sorted.{IsSortedByKey}
-use Rattle.std.specs.Ordering.{nat_cmp, bool_cmp, ordering_then}
-use Rattle.std.specs.Cmp.Lexicographic.{slice_cmp}
-use Rattle.std.specs.declared.cmp.Ordering.{Ordering}
-use Rattle.source_link.specs.declared.pair.Pair.{Pair}
-use Rattle.source_link.specs.Pairs.{is_pattern, fixed_part}
-use Rattle.source_link.specs.Address.{lower}
-use Rattle.source_link.specs.Laws.{KeysDiffer}
+use Rattle.std.specs.{Prelude.{◌≡◌, ℕ, ◌+◌, ◌≤◌, List, length, slice_get, take, Bool, Option, Some, None, cond, IsSortedByKey}, Char.to_ascii_lowercase, Ordering.{nat_cmp, bool_cmp, ordering_then}}
+use Rattle.std.specs.{Cmp.Lexicographic.slice_cmp, declared.cmp.Ordering.Ordering}
+use Rattle.source_link.specs.{declared.pair.Pair.Pair, Pairs.{is_pattern, fixed_part}, Address.lower, Laws.KeysDiffer}
 
 -- the key without its star and without case, then a name before a pattern, then the key
 abbrev pub place_cmp : List ℕ → List ℕ → Ordering

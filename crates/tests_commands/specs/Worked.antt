@@ -1,16 +1,8 @@
 -- The lines that say why a run stopped, written out, and the statuses with which it ends.
-use Rattle.std.specs.Prelude.{◌≡◌, ℕ, List, [], ◌∷◌, negsuc, codes}
-use Rattle.ppdb_base.specs.declared.code.Code.TheVariants.{ScopeCrossing}
-use Rattle.ppdb_base.specs.declared.fault.Place.{Place}
-use Rattle.ppdb_base.specs.declared.limits.Limit.{Limit}
-use Rattle.ppdb_base.specs.declared.limits.Limit.TheVariants.{TableRows, ListPastEnd, PointOffset, LineStep, FileSize, SpanTotal}
-use Rattle.ppdb_base.specs.declared.link_error.LinkError.TheVariants.{NotJson, Shape}
-use Rattle.ppdb_base.specs.declared.merge_error.MergeError.{MergeError}
-use Rattle.ppdb_base.specs.declared.merge_error.MergeError.TheVariants.{Unmapped, ImageTwice, MethodTaken, OffsetBeyond, AsyncLost, KindUnknown}
-use Rattle.ppdb_base.specs.declared.merge_error.MergeError.TheVariants.{DocumentConflict, RowsDiffer, ImageRange, SlotUnmapped, SlotTwice}
+use Rattle.ppdb_values.specs.Names.{◌≡◌, ℕ, List, [], ◌∷◌, negsuc, codes, ScopeCrossing, Place, Limit, TableRows, ListPastEnd, PointOffset, LineStep, FileSize, SpanTotal, NotJson, Shape, MergeError}
+use Rattle.ppdb_values.specs.Names.{Unmapped, ImageTwice, MethodTaken, OffsetBeyond, AsyncLost, KindUnknown, DocumentConflict, RowsDiffer, ImageRange, SlotUnmapped, SlotTwice}
 use Rattle.ppdb_run_stops.specs.Lines.{read_fault_line, write_fault_line}
-use Rattle.ppdb_run_stops.specs.Refusals.{Outcome, usage, absent, too_long, refused, no_map, unfit, limited, map_limited, unlinked, no_method, no_document}
-use Rattle.ppdb_run_stops.specs.Refusals.{sizes_differ, unlisted}
+use Rattle.ppdb_run_stops.specs.Refusals.{Outcome, usage, absent, too_long, refused, no_map, unfit, limited, map_limited, unlinked, no_method, no_document, sizes_differ, unlisted}
 use Rattle.ppdb_run_stops.specs.Status.{status_number}
 
 -- a run that stops so ends with this status, and has printed this

@@ -1,13 +1,8 @@
 -- What a cursor of a constant has left, and what its answers show.
 use Rattle.std.specs.Prelude.{◌≡◌, ℕ, List, [], ◌∷◌, length, drop, Option, Some, None, Result, Ok, Err, Bool, true, false, ◌≤◌}
-use Rattle.ppdb_base.specs.declared.BlobFault.{BlobFault}
-use Rattle.blob_grammar.specs.Grammar.{Value, number, Grammar, cut}
-use Rattle.blob_grammar.specs.Reading.{Reading}
-use Rattle.blob_grammar.specs.Reader.{Left, read_from, begun_from, answer_from, tail}
-use Rattle.type_blobs.specs.declared.types.TypeLimits.{TypeLimits}
-use Rattle.type_blobs.specs.declared.types.Modifier.{Modifier}
-use Rattle.type_blobs.specs.declared.constant.Constant.{Constant}
-use Rattle.type_blobs.specs.declared.constant.Constant.TheVariants.{Primitive, Enumerated, General, Object}
+use Rattle.ppdb_base.specs.declared.fault.BlobFault.{BlobFault}
+use Rattle.blob_grammar.specs.{Grammar.{Value, number, Grammar, cut}, Reading.Reading, Reader.{Left, read_from, begun_from, answer_from, tail}}
+use Rattle.type_blobs.specs.{declared.types.{TypeLimits.TypeLimits, Modifier.Modifier}, declared.constant.Constant.{Constant, TheVariants.{Primitive, Enumerated, General, Object}}}
 use Rattle.type_blobs.specs.Constants.{ConstantBody, primitive, enumerated, general, object, is_modifier, body_of, constants}
 
 -- How a constant ends after its modifiers: with a body, or at a fault, in the body or in a further modifier.

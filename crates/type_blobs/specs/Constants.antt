@@ -1,10 +1,7 @@
 -- The signature of a local constant (Portable PDB v1.0, "LocalConstantSig Blob"; codes of ECMA-335 II.23.1.16).
 use Rattle.std.specs.Prelude.{ℕ, ◌%◌, List, [], ◌∷◌, length, Option, Some, None, Bool, true, false, is_some, ◌&&◌, ◌||◌, ◌==◌, nat_le, if◌then◌else◌}
 use Rattle.blob_grammar.specs.Grammar.{Value, number, octets, Form, unsigned, byte, fixed, rest, Grammar}
-use Rattle.type_blobs.specs.declared.types.TypeToken.{TypeToken}
-use Rattle.type_blobs.specs.declared.types.TypeLimits.{TypeLimits}
-use Rattle.type_blobs.specs.declared.types.Modifier.{Modifier}
-use Rattle.type_blobs.specs.Types.{is_type, token_of}
+use Rattle.type_blobs.specs.{declared.types.{TypeToken.TypeToken, TypeLimits.TypeLimits, Modifier.Modifier}, Types.{is_type, token_of}}
 
 -- The body of a constant, after its modifiers: a value of a primitive type or a text; a value of an enumeration; a value of
 -- a class or a value type; or the null reference of type object.

@@ -1,23 +1,13 @@
 -- What a cursor of imports has left, and what its answers show.
 use Rattle.std.specs.Prelude.{◌≡◌, ◌≢◌, ℕ, zero, suc, ◌≤◌, List, [], ◌∷◌, length, drop, Option, Some, None, Result, Ok, Err, is_some}
-use Rattle.ppdb_base.specs.declared.BlobFault.{BlobFault}
-use Rattle.ppdb_heaps.specs.Heaps.{blob_at}
-use Rattle.ppdb_heaps.specs.Views.{blobs_of}
-use Rattle.ppdb_heaps.specs.declared.blobs.Blobs.{Blobs}
-use Rattle.blob_grammar.specs.Grammar.{Value, number}
-use Rattle.blob_grammar.specs.Reader.{Left, read_from, push, fields_left as fields_left_from}
-use Rattle.type_blobs.specs.declared.types.TypeToken.{TypeToken}
-use Rattle.type_blobs.specs.declared.types.TypeLimits.{TypeLimits}
-use Rattle.type_blobs.specs.declared.import.Import.{Import}
-use Rattle.type_blobs.specs.declared.import.Import.TheVariants.{Namespace, AssemblyNamespace, Target, Xml, Alias, AssemblyAlias}
-use Rattle.type_blobs.specs.declared.import.Import.TheVariants.{NamespaceAlias, AssemblyNamespaceAlias, TargetAlias}
-use Rattle.blob_grammar.specs.Allowed.{is_row}
-use Rattle.type_blobs.specs.Types.{is_type, token_of}
-use Rattle.type_blobs.specs.Numbers.{number_at}
-use Rattle.type_blobs.specs.Imports.{ImportItem, namespace, assembly_namespace, target, xml, alias, assembly_alias, namespace_alias}
-use Rattle.type_blobs.specs.Imports.{assembly_namespace_alias, target_alias, imports, text_of, parts_of, import_field}
-use Rattle.type_blobs.specs.declared.import_part.ImportField.{ImportField}
-use Rattle.type_blobs.specs.declared.import_fields.ImportPlace.{ImportPlace}
+use Rattle.ppdb_base.specs.declared.fault.BlobFault.{BlobFault}
+use Rattle.ppdb_heaps.specs.{Heaps.blob_at, Views.blobs_of, declared.blobs.Blobs.Blobs}
+use Rattle.blob_grammar.specs.{Grammar.{Value, number}, Reader.{Left, read_from, push, fields_left as fields_left_from}, Allowed.is_row}
+use Rattle.type_blobs.specs.Imports.{ImportItem, namespace, assembly_namespace, target, xml, alias, assembly_alias, namespace_alias, assembly_namespace_alias, target_alias, imports, text_of, parts_of}
+use Rattle.type_blobs.specs.Imports.{import_field}
+use Rattle.type_blobs.specs.{declared.types.{TypeToken.TypeToken, TypeLimits.TypeLimits}, declared.import.Import.Import}
+use Rattle.type_blobs.specs.declared.import.Import.TheVariants.{Namespace, AssemblyNamespace, Target, Xml, Alias, AssemblyAlias, NamespaceAlias, AssemblyNamespaceAlias, TargetAlias}
+use Rattle.type_blobs.specs.{Types.{is_type, token_of}, Numbers.number_at, declared.import_part.ImportField.ImportField, declared.import_fields.ImportPlace.ImportPlace}
 
 -- the contents of #Blob by their indexes
 abbrev pub heap_of : Blobs → ℕ → Option (List ℕ)

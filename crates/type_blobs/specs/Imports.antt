@@ -1,19 +1,9 @@
 -- The imports of an import scope (Portable PDB v1.0, "Imports Blob"): each is a kind, and the fields of that kind.
-use Rattle.std.specs.Prelude.{ℕ, zero, suc, List, [], ◌∷◌, length, Option, Some, None, Bool, true, false, is_some, ◌&&◌, nat_le, ◌==◌}
-use Rattle.std.specs.Prelude.{slice_get, slice_index, if◌then◌else◌, unwrap_or}
-use Rattle.std.specs.Option.{option_map}
-use Rattle.blob_grammar.specs.Grammar.{Value, number, unsigned, Grammar}
-use Rattle.std.specs.List.{flat_map}
-use Rattle.blob_grammar.specs.declared.places.PlacedIndex.{PlacedIndex}
-use Rattle.blob_grammar.specs.Places.{PlacedField, placed_of}
-use Rattle.type_blobs.specs.declared.import_part.ImportPart.{ImportPart}
-use Rattle.type_blobs.specs.declared.import_part.ImportPart.TheVariants.{Kind, Alias, Assembly, Namespace, Target}
-use Rattle.type_blobs.specs.declared.import_part.ImportField.{ImportField}
-use Rattle.blob_grammar.specs.Reader.{prefix_of}
-use Rattle.type_blobs.specs.declared.types.TypeToken.{TypeToken}
-use Rattle.type_blobs.specs.declared.types.TypeLimits.{TypeLimits}
-use Rattle.blob_grammar.specs.Allowed.{is_row, is_between}
-use Rattle.type_blobs.specs.Types.{is_type, token_of}
+use Rattle.std.specs.Prelude.{ℕ, zero, suc, List, [], ◌∷◌, length, Option, Some, None, Bool, true, false, is_some, ◌&&◌, nat_le, ◌==◌, slice_get, slice_index, if◌then◌else◌, unwrap_or, option_map}
+use Rattle.std.specs.Prelude.{flat_map}
+use Rattle.blob_grammar.specs.{Grammar.{Value, number, unsigned, Grammar}, declared.places.PlacedIndex.PlacedIndex, Places.{PlacedField, placed_of}, Reader.prefix_of, Allowed.{is_row, is_between}}
+use Rattle.type_blobs.specs.{declared.import_part.{ImportPart.{ImportPart, TheVariants.{Kind, Alias, Assembly, Namespace, Target}}, ImportField.ImportField}, declared.types.TypeToken.TypeToken}
+use Rattle.type_blobs.specs.{declared.types.TypeLimits.TypeLimits, Types.{is_type, token_of}}
 
 -- The fields of the kinds 1 to 9.
 abbrev pub parts_by_kind : List (List ImportPart)

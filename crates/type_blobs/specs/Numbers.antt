@@ -1,9 +1,7 @@
 -- A field that is one compressed number, as a reader finds it: what the number means and the place after it, where the
 -- number is in range.
-use Rattle.std.specs.Prelude.{ℕ, ◌+◌, Bool, true, false, List, drop, Result, Ok, Err}
-use Rattle.std.specs.Borrow.{Bor}
-use Rattle.ppdb_base.specs.declared.BlobFault.{BlobFault}
-use Rattle.ppdb_base.specs.declared.Code.TheVariants.{ValueRange}
+use Rattle.std.specs.{Prelude.{ℕ, ◌+◌, Bool, true, false, List, drop, Result, Ok, Err}, Borrow.Bor}
+use Rattle.ppdb_base.specs.{declared.fault.BlobFault.BlobFault, declared.code.Code.TheVariants.ValueRange}
 use Rattle.blob_grammar.specs.Reader.{placed, unsigned_at}
 
 abbrev pub in_range : {X : Type 0} → ℕ → Bool → X → ℕ → Result (X × ℕ) BlobFault

@@ -1,18 +1,10 @@
 -- How constants and imports are written: each number in its shortest form (ECMA-335 II.23.2; Portable PDB v1.0,
 -- "LocalConstantSig Blob" and "Imports Blob").
-use Rattle.std.specs.Prelude.{◌≡◌, ℕ, ◌+◌, ◌<◌, ◌≤◌, ◌^◌, List, [], ◌∷◌, ◌++◌, length, map, Option, Some, IsSome, Bool, true, false, if◌then◌else◌}
-use Rattle.std.specs.List.{flat_map}
+use Rattle.std.specs.Prelude.{◌≡◌, ℕ, ◌+◌, ◌<◌, ◌≤◌, ◌^◌, List, [], ◌∷◌, ◌++◌, length, map, Option, Some, IsSome, Bool, true, false, if◌then◌else◌, flat_map}
 use Rattle.cli_ints.specs.Shortest.{short_unsigned}
-use Rattle.type_blobs.specs.declared.types.TypeLimits.{TypeLimits}
-use Rattle.type_blobs.specs.declared.types.Modifier.{Modifier}
-use Rattle.type_blobs.specs.declared.import_writer.ImportNumbers.{ImportNumbers}
-use Rattle.type_blobs.specs.Types.{number_of, IsToken, IsThere}
-use Rattle.type_blobs.specs.Constants.{ConstantBody, primitive, enumerated, general, object, is_primitive, is_enumerable, is_general}
-use Rattle.type_blobs.specs.Constants.{is_string, is_text, size_of}
-use Rattle.type_blobs.specs.Imports.{parts_of, ImportItem, item_of}
-use Rattle.type_blobs.specs.declared.import_part.ImportPart.{ImportPart}
-use Rattle.type_blobs.specs.declared.import_part.ImportPart.TheVariants.{Kind, Alias, Assembly, Namespace, Target}
-use Rattle.type_blobs.specs.declared.import_part.ImportField.{ImportField}
+use Rattle.type_blobs.specs.{declared.types.{TypeLimits.TypeLimits, Modifier.Modifier}, declared.import_writer.ImportNumbers.ImportNumbers, Types.{number_of, IsToken, IsThere}}
+use Rattle.type_blobs.specs.Constants.{ConstantBody, primitive, enumerated, general, object, is_primitive, is_enumerable, is_general, is_string, is_text, size_of}
+use Rattle.type_blobs.specs.{Imports.{parts_of, ImportItem, item_of}, declared.import_part.{ImportPart.{ImportPart, TheVariants.{Kind, Alias, Assembly, Namespace, Target}}, ImportField.ImportField}}
 
 -- ---- constants
 

@@ -1,8 +1,7 @@
 -- Type references (ECMA-335 II.23.2.8, TypeDefOrRefOrSpecEncoded): a compressed number, a row times four and a tag.
 use Rattle.std.specs.Prelude.{◌≡◌, ℕ, zero, suc, ◌+◌, ◌*◌, ◌/◌, ◌%◌, ◌≤◌, Bool, ◌==◌, if◌then◌else◌, ◌⊎◌}
 use Rattle.blob_grammar.specs.Allowed.{is_row}
-use Rattle.type_blobs.specs.declared.types.TypeToken.{TypeToken}
-use Rattle.type_blobs.specs.declared.types.TypeLimits.{TypeLimits}
+use Rattle.type_blobs.specs.declared.types.{TypeToken.TypeToken, TypeLimits.TypeLimits}
 
 -- The table of a tag: 0 TypeDef, 1 TypeRef, 2 TypeSpec. No type has the tag 3 (`is_type`), and what stands for it is never read.
 abbrev pub table_of : ℕ → ℕ

@@ -1,13 +1,10 @@
 -- What the reading of a field shows.
 use Rattle.std.specs.Prelude.{◌≡◌, ℕ, ◌+◌, ◌≤◌, List, [], ◌∷◌, drop, Option, Some, None, Result, Ok, Bool, true, false}
 use Rattle.cli_ints.specs.declared.IntFault.{IntFault}
-use Rattle.blob_grammar.specs.Allowed.{is_row}
-use Rattle.blob_grammar.specs.Reader.{unsigned_at, word_at}
-use Rattle.type_blobs.specs.declared.types.TypeLimits.{TypeLimits}
-use Rattle.type_blobs.specs.Types.{is_type}
+use Rattle.blob_grammar.specs.{Allowed.is_row, Reader.{unsigned_at, word_at}}
+use Rattle.type_blobs.specs.{declared.types.TypeLimits.TypeLimits, Types.is_type}
 use Rattle.custom_info.specs.Fields.{is_offset}
-use Rattle.type_blobs_rows.specs.declared.row.PlacedRow.{PlacedRow}
-use Rattle.type_blobs_rows.specs.Rows.{type_at, method_at}
+use Rattle.type_blobs_rows.specs.{declared.row.PlacedRow.PlacedRow, Rows.{type_at, method_at}}
 
 -- A number was read that passes the test: what it means, and the place after it.
 pub record Has {X : Type 0} (read : Result (ℕ × ℕ) IntFault) (test : ℕ → Bool) (means : ℕ → X) (at : ℕ) (found : X × ℕ) : Type 0 where

@@ -1,11 +1,9 @@
 -- What a walk over a blob has left at a place.
 use Rattle.std.specs.Prelude.{ℕ, List, [], ◌∷◌, drop, None}
 use Rattle.blob_grammar.specs.Reader.{fields_left}
-use Rattle.type_blobs.specs.declared.types.TypeLimits.{TypeLimits}
-use Rattle.type_blobs.specs.Constants.{constants}
+use Rattle.type_blobs.specs.{declared.types.TypeLimits.TypeLimits, Constants.constants}
 use Rattle.custom_info.specs.AsyncStepping.{async_stepping, catch_handler}
-use Rattle.type_blobs_rows.specs.declared.row.PlacedRow.{PlacedRow}
-use Rattle.type_blobs_rows.specs.Rows.{constant_type, resume_method}
+use Rattle.type_blobs_rows.specs.{declared.row.PlacedRow.PlacedRow, Rows.{constant_type, resume_method}}
 
 -- the types from a place between two modifiers on
 unfoldable pub types_left : TypeLimits → List ℕ → ℕ → List PlacedRow

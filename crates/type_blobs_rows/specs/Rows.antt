@@ -1,17 +1,9 @@
 -- The rows of the type system that blobs name, each at its byte (Portable PDB v1.0, "LocalConstantSig Blob", "Imports Blob" and
 -- "Async Method Stepping Information"). What a blob names are the fields of its longest valid prefix.
-use Rattle.std.specs.Prelude.{ℕ, ◌/◌, ◌%◌, List, [], ◌∷◌, Option}
-use Rattle.std.specs.List.{flat_map}
-use Rattle.blob_grammar.specs.Grammar.{Value, number}
-use Rattle.blob_grammar.specs.Places.{PlacedField, placed_of}
-use Rattle.blob_grammar.specs.Reader.{prefix_of}
-use Rattle.type_blobs.specs.declared.types.TypeLimits.{TypeLimits}
-use Rattle.type_blobs.specs.declared.import_part.ImportField.{ImportField}
-use Rattle.type_blobs.specs.declared.import_part.ImportPart.{ImportPart}
-use Rattle.type_blobs.specs.declared.import_part.ImportPart.TheVariants.{Assembly, Target}
-use Rattle.type_blobs.specs.Types.{table_of}
-use Rattle.type_blobs.specs.Constants.{constants}
-use Rattle.type_blobs.specs.Imports.{import_fields}
+use Rattle.std.specs.Prelude.{ℕ, ◌/◌, ◌%◌, List, [], ◌∷◌, Option, flat_map}
+use Rattle.blob_grammar.specs.{Grammar.{Value, number}, Places.{PlacedField, placed_of}, Reader.prefix_of}
+use Rattle.type_blobs.specs.{declared.types.TypeLimits.TypeLimits, declared.import_part.{ImportField.ImportField, ImportPart.{ImportPart, TheVariants.{Assembly, Target}}}, Types.table_of}
+use Rattle.type_blobs.specs.{Constants.constants, Imports.import_fields}
 use Rattle.custom_info.specs.AsyncStepping.{async_stepping}
 use Rattle.type_blobs_rows.specs.declared.row.PlacedRow.{PlacedRow}
 
