@@ -37,7 +37,7 @@ use Rattle.ppdb_maps_text.specs.MapTexts.{map_text}
 use Rattle.ppdb_maps.specs.Map.{Map}
 use Rattle.ppdb_maps.specs.Text.{IsMapOf, Refused}
 use Rattle.ppdb_show.specs.Query.{query_text_of}
-use Rattle.ppdb_run_sample.specs.Sampled.{limit_of_sample, report_of}
+use Rattle.ppdb_run.specs.Sampled.{limit_of_sample, report_of}
 use Rattle.source_link.specs.declared.pair.Pair.{Pair}
 use Rattle.ppdb_show_sources.specs.Links.{file_links, link_text}
 use Rattle.ppdb_show_sources.specs.Breaks.{break_text}
