@@ -17,3 +17,13 @@ pub mod Composing
 pub mod MapSteps
 pub mod Steps
 pub mod Writing
+pub mod Alone
+pub mod Identity
+pub mod NoClash
+pub mod Reporting
+pub mod Silent
+pub mod SilentRows
+pub mod Keeping
+pub mod KnownKinds
+pub mod MovedKinds
+pub mod Turns

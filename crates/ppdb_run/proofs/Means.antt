@@ -29,9 +29,9 @@ use Rattle.ppdb_values.specs.Value.{value_of}
 use Rattle.ppdb_verify.specs.Files.{FileFaults, IsRawOf}
 use Rattle.ppdb_verify_valid_laws.proofs.ValidFiles.{valid_keeps}
 use Rattle.ppdb_merge_unmoved_laws.specs.NoLines.{left_alone}
-use Rattle.ppdb_run_meaning_laws.specs.Inputs.{AreAdded, AreJoinedTo, IsValidInput, ReadInput, moved_by}
-use Rattle.ppdb_run_meaning_laws.specs.Laws.{HasKnownKinds, JoinedFilesKeepInputs, JoinedKindsAreKnown, KeepsInputs, ReadInputsAreValid}
-use Rattle.ppdb_run_meaning_laws.specs.Laws.{RebuiltFilesKeepThemselves, SaysButForId}
+use Rattle.ppdb_run.specs.Inputs.{AreAdded, AreJoinedTo, IsValidInput, ReadInput, moved_by}
+use Rattle.ppdb_run.specs.MeaningLaws.{HasKnownKinds, JoinedFilesKeepInputs, JoinedKindsAreKnown, KeepsInputs, ReadInputsAreValid}
+use Rattle.ppdb_run.specs.MeaningLaws.{RebuiltFilesKeepThemselves, SaysButForId}
 use Rattle.ppdb_run_stops.specs.declared.stop.Stop.{Stop}
 use Rattle.ppdb_run.specs.Ends.{OnAsked, OnTask, RebuildsToItself, RebuildsWhereKnown, WritesAgain}
 use Rattle.ppdb_run.specs.Means.{AreInputsOf, AreReadAs, ExactlyMeans, WritesExactly, WritesMeaning}

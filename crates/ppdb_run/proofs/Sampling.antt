@@ -3,7 +3,7 @@ use Rattle.std.proofs.Common.{ℕ, ◌≡◌, inl, inr, List, refl, sym, ap, sub
 use Rattle.std.specs.Prelude.{Option, Some, None, option_map, Result, Ok, Err, IfSome}
 use Rattle.ppdb_base.specs.Files.{Files}
 use Rattle.ppdb_base.specs.declared.limits.Limit.{Limit}
-use Rattle.ppdb_run_sample.specs.Sampled.{limit_of_sample}
+use Rattle.ppdb_run.specs.Sampled.{limit_of_sample}
 use Rattle.ppdb_run_stops.specs.declared.stop.Stop.{Stop}
 use Rattle.ppdb_run.specs.Ends.{Asks, IsValid, OnAsked, OnDue, OnOutcome, WritesAgain, WritesValid}
 use Rattle.ppdb_run_stops.specs.Refusals.{Outcome, limited}

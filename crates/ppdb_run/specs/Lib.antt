@@ -1,6 +1,11 @@
 pub mod Ends
+pub mod Holding
+pub mod Inputs
+pub mod MeaningLaws
 pub mod Means
 pub mod Outcome
 pub mod Sample
+pub mod SampleLaws
+pub mod Sampled
 pub mod Stops
 pub mod Writes

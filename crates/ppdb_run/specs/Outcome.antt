@@ -12,7 +12,7 @@ use Rattle.ppdb_merge.specs.{declared.trace.Trace.Trace, Refusals.added, Togethe
 use Rattle.map_compose.specs.{Composed.composed, Sizes.{SizesAgree, IsFirstDiffering}}
 use Rattle.ppdb_maps_text.specs.MapTexts.{map_text}
 use Rattle.ppdb_maps.specs.{Map.Map, Text.{IsMapOf, Refused}}
-use Rattle.ppdb_run_sample.specs.Sampled.{limit_of_sample, report_of}
+use Rattle.ppdb_run.specs.Sampled.{limit_of_sample, report_of}
 use Rattle.source_link.specs.declared.pair.Pair.{Pair}
 use Rattle.ppdb_show_sources.specs.{Links.{file_links, link_text}, Breaks.break_text}
 use Rattle.break_lines.specs.Breaks.{document_named}

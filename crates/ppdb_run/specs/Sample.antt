@@ -1,7 +1,7 @@
 -- The lines that say what a sample comes to.
 use Rattle.std.specs.Prelude.{ℕ, List, [], ◌∷◌, ◌++◌, codes}
 use Rattle.ppdb_run_stops.specs.Faults.{said}
-use Rattle.ppdb_run_sample.specs.declared.report.SampleReport.{SampleReport}
+use Rattle.ppdb_run.specs.declared.report.SampleReport.{SampleReport}
 use Rattle.ppdb_show_lines.specs.Lines.{Content, Line, number, octets, text_of}
 
 -- words and what stands after them

@@ -12,8 +12,11 @@ ghost use Rattle.ppdb_run_words.specs.Task.{inputs_of, options_of};
 ghost use Rattle.ppdb_run_words.specs.Words.{Merge};
 ghost use Rattle.ppdb_verify.specs.Files.{FileFaults};
 ghost use Rattle.ppdb_values_sound_laws.specs.Sound.{IsSound};
-ghost use Rattle.ppdb_run_meaning_laws.specs.Laws.{SaysButForId};
+ghost use Rattle.ppdb_run.specs.MeaningLaws.{SaysButForId};
 
+use crate::meaning_laws::{
+    joined_files_keep_inputs, joined_kinds_are_known, read_inputs_are_valid,
+};
 use crate::merged::merged;
 use crate::output::write_output;
 use crate::rebuild::choice;
@@ -21,9 +24,6 @@ use ppdb_base::{Bytes, Folder, MergeError, Steps};
 use ppdb_build::{BuildError, FileValue, write_file_under};
 use ppdb_build_heaps::{ItemKey, KeyMaker};
 use ppdb_merge::Merger;
-use ppdb_run_meaning_laws::{
-    joined_files_keep_inputs, joined_kinds_are_known, read_inputs_are_valid,
-};
 use ppdb_run_stops::Stop;
 use ppdb_run_words::{Inputs, Options};
 use std::alloc::Global;

@@ -13,15 +13,15 @@ ghost use Rattle.ppdb_run_words.specs.Words.{Rebuild};
 ghost use Rattle.ppdb_values.specs.Value.{value_of};
 ghost use Rattle.ppdb_verify.specs.Files.{FileFaults};
 ghost use Rattle.ppdb_verify.specs.Views.{raw_file};
-ghost use Rattle.ppdb_run_meaning_laws.specs.Laws.{SaysButForId};
+ghost use Rattle.ppdb_run.specs.MeaningLaws.{SaysButForId};
 
+use crate::meaning_laws::rebuilt_files_keep_themselves;
 use crate::output::write_output;
 use crate::verified::read_verified;
 use custom_info::{Kind, Marks, kind_of};
 use ppdb_base::{Bytes, Folder, List, MergeError, Steps};
 use ppdb_build::{BuildError, IdChoice};
 use ppdb_build_heaps::{ItemKey, KeyMaker};
-use ppdb_run_meaning_laws::rebuilt_files_keep_themselves;
 use ppdb_run_stops::Stop;
 use ppdb_run_words::Options;
 use ppdb_verify::Verified;

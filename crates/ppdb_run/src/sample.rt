@@ -9,8 +9,9 @@ ghost use Rattle.ppdb_run.specs.Outcome.{outcome_of, sampled};
 ghost use Rattle.ppdb_run_stops.specs.Causes.{cause_of, ComesFrom, no_file, OnCut, OnUntold};
 ghost use Rattle.ppdb_run.specs.Stops.{Settles};
 
+use crate::report::{SampleReport, sampled};
 use ppdb_base::{Sink, Steps, WriteError};
-use ppdb_run_sample::{BuildError, SampleReport, sampled};
+use ppdb_build::BuildError;
 use ppdb_run_stops::Stop;
 use ppdb_show_lines::Item::{Number, Octets};
 use ppdb_show_lines::Part::Field;

@@ -1,0 +1,184 @@
+-- The sample as the one input of a merger.
+use Rattle.std.proofs.Common.{◌≡◌, ◌≢◌, ℕ, ◌≤◌, ◌++◌, Bool, true, false, cond, List, [], ◌∷◌, Option, Some, None, Ok, refl, sym, ◌∙◌, ap}
+use Rattle.std.proofs.Common.{subst, inl, inr, slice_get, slice_index, ◌⊎◌}
+use Rattle.std.specs.Prelude.{nat_lt}
+use Rattle.std.specs.List.{filter_map, cons_option, enumerate_from, range_with_len}
+use Rattle.std.proofs.lemmas.Bool.{le-ltb}
+use Rattle.std.proofs.lemmas.Option.{none-some}
+use Rattle.custom_info.specs.Kinds.{kind_of}
+use Rattle.custom_info.specs.declared.kinds.Kind.TheVariants.{Unknown}
+use Rattle.ppdb_merge_names_laws.specs.Laws.{ReferencesAreNamed, named_by}
+use Rattle.ppdb_base.specs.declared.merge_error.MergeError.{MergeError}
+use Rattle.ppdb_base.specs.declared.merge_error.MergeError.TheVariants.{Memory}
+use Rattle.ppdb_maps.specs.Map.{Map, row_image}
+use Rattle.ppdb_maps.specs.Readable.{IsReadable}
+use Rattle.ppdb_maps.specs.Sample.{sample_map_of}
+use Rattle.ppdb_merge_names.specs.declared.imaged.Imaged.{Imaged}
+use Rattle.ppdb_merge_names.specs.References.{Reference, references}
+use Rattle.ppdb_tables.specs.RawTables.{numbered}
+use Rattle.ppdb_values.specs.RawFile.{RawFile}
+use Rattle.ppdb_values.specs.Rules.{KeepsRules}
+use Rattle.ppdb_values.specs.Value.{value_of}
+use Rattle.ppdb_values.specs.declared.custom.CustomValue.{CustomValue}
+use Rattle.ppdb_values.specs.declared.file.DocumentValue.{DocumentValue}
+use Rattle.ppdb_values.specs.declared.file.FileValue.{FileValue}
+use Rattle.ppdb_merge_items.specs.Each.{Each}
+use Rattle.ppdb_merge_items.specs.NamedRows.{Named, named_rows}
+use Rattle.ppdb_merge_items.specs.Annotated.{annotated_file}
+use Rattle.ppdb_merge_items.specs.Sorted.{in_order}
+use Rattle.ppdb_merge_items.specs.Unannotated.{value_of_annotated}
+use Rattle.ppdb_merge_items.proofs.Lists.{Each-weaker, Each-unmap, each_of}
+use Rattle.ppdb_merge_joined.specs.Joined.{joined}
+use Rattle.ppdb_merge_moved.specs.Fits.{Fits}
+use Rattle.ppdb_merge_moved.specs.Moved.{moved_file}
+use Rattle.ppdb_merge_moved.proofs.Lists.{Each-filter_map}
+use Rattle.ppdb_merge_fits.specs.Clashes.{first_clash, is_at_dropped}
+use Rattle.ppdb_merge_fits.specs.Laws.{NoClash}
+use Rattle.ppdb_merge_fits.specs.Rows.{imaged, imaged_rows}
+use Rattle.ppdb_merge_fits.specs.Signatures.{given_signature, given_signatures, with_given, all_images}
+use Rattle.ppdb_merge.specs.declared.trace.Trace.{Trace}
+use Rattle.ppdb_merge.specs.Merged.{Merged, trace_of, moved_files}
+use Rattle.ppdb_merge.specs.Refusals.{added, refusal_of, taken, conflict, clashes_before, or_first, with_trace, claims, methods_in, documents_differ}
+use Rattle.ppdb_merge.specs.Together.{above, count_in, differs, images_above, joined_of, misfit_of, rows_differ, value_unless}
+use Rattle.ppdb_merge_meaning_laws.specs.Kept.{moved_input}
+use Rattle.ppdb_build_sample.specs.Laws.{SampleFits, sample_input}
+use Rattle.ppdb_build_sample.specs.Sample.{sample}
+use Rattle.ppdb_run.specs.Holding.{HoldsSample}
+use Rattle.ppdb_run.specs.SampleLaws.{FittingMapsDoNotClash}
+use Rattle.ppdb_run.specs.Sampled.{remapped_sample}
+use Rattle.ppdb_run.proofs.Silent.{flat_nil}
+use Rattle.ppdb_run.proofs.SilentRows.{made, each_once_each}
+
+filter_nil : {A B : Type 0} (f : A → Option B) (xs : List A) → Each (λ x. f x ≡ None) xs → filter_map f xs ≡ []
+filter_nil f [] each = refl
+filter_nil f (x ∷ xs) each = ap (λ o. cons_option o (filter_map f xs)) each.0 ∙ filter_nil f xs each.1
+
+not_above : (told : Option MergeError) (b : Bool) → b ≡ false → cond b told None ≡ None
+not_above told b is = ap (λ c. cond c told None) is
+
+-- ---- the first input
+
+nothing_before : (rows : List Imaged) (documents : List DocumentValue) → clashes_before [] rows documents ≡ []
+nothing_before rows documents =
+    ap (λ l. l ++ documents_differ [] documents) (filter_nil (taken (claims [])) methods (each_of (λ i. taken (claims []) i ≡ None) (λ i. refl) methods))
+    ∙ filter_nil (conflict []) (numbered documents) (each_of (λ d. conflict [] d ≡ None) (λ d. refl) (numbered documents))
+  where
+    methods : List Imaged
+    methods = in_order (λ i. i.image) (methods_in rows)
+
+-- an input that nothing is reported of alone is not refused as the first
+not_refused : (marks : List (List ℕ)) (m : Map) (raw : RawFile) → first_clash marks true m raw ≡ None → refusal_of marks [] m raw ≡ None
+not_refused marks m raw none =
+    ap (λ o. or_first o (clashes_before [] (all_images true m raw) (value_of raw).documents)) none
+    ∙ ap (λ l. slice_get l 0) (nothing_before (all_images true m raw) (value_of raw).documents)
+
+module _ (n : ℕ) (raw : RawFile) (fits : SampleFits n) (says : value_of raw ≡ sample n) (keeps : KeepsRules raw) where
+  abbrev m : Map
+  m = sample_map_of n
+
+  no_clash : (marks : List (List ℕ)) → NoClash marks true m raw
+  no_clash marks = record {
+    fits = subst (λ v. Fits true m (annotated_file v)) (sym says) fits.fits.each.0.fits;
+    known = subst IsKnown (sym says) (Each-weaker (λ (c : CustomValue). kind_of marks c.kind ≢ Unknown)
+        (λ c. is_at_dropped m (sample n) c.parent ≡ false → kind_of marks c.kind ≢ Unknown) (λ c known stays. known) (sample n).customs (fits.known marks));
+  }
+    where
+      IsKnown : FileValue → Type 0
+      IsKnown v = Each (λ (c : CustomValue). is_at_dropped m v c.parent ≡ false → kind_of marks c.kind ≢ Unknown) v.customs
+
+  pub sample_not_refused : (marks : List (List ℕ)) → FittingMapsDoNotClash → IsReadable m → refusal_of marks [] m raw ≡ None
+  sample_not_refused marks silent ready = not_refused marks m raw (silent marks true m raw keeps ready (no_clash marks))
+
+  -- ---- the rows that it names
+
+  abbrev trace : Trace
+  trace = trace_of true m raw
+
+  moved_is : trace.moved ≡ moved_input (true, sample_input n)
+  moved_is = ap (λ v. moved_file m (annotated_file v)) says
+
+  abbrev IsCounted : Named → Type 0
+  IsCounted a = (image : ℕ) → row_image m a.table a.row ≡ Some image → image ≤ slice_index (sample n).rows a.table
+
+  abbrev IsBelow : Imaged → Type 0
+  IsBelow i = i.image ≤ count_in trace i.table
+
+  counts : (table : ℕ) → slice_index (sample n).rows table ≡ count_in trace table
+  counts table = ap (λ rows. slice_index rows table) (sym fits.counts) ∙ ap (λ file. slice_index file.rows table) (sym moved_is)
+
+  -- the sample's map gives no local signature
+  none_given : given_signatures m (value_of raw) ≡ []
+  none_given = filter_nil (given_signature m) (value_of raw).methods (each_of (λ e. given_signature m e ≡ None) (λ e. refl) (value_of raw).methods)
+
+  below : ReferencesAreNamed → Each IsBelow trace.rows
+  below named =
+      subst (Each IsBelow) (sym (ap (with_given (imaged_rows true m raw)) none_given)) (named_below named)
+    where
+      of_image : (r : Reference) (i : Imaged) → imaged m r ≡ Some i → IsCounted (named_by r) → IsBelow i
+      of_image r i is counted =
+          let a = made m r i is in
+          subst IsBelow a.1 (subst (λ k. i.image ≤ k) (counts r.table) (counted i.image a.0))
+
+      named_below : ReferencesAreNamed → Each IsBelow (imaged_rows true m raw)
+      named_below named =
+          each_once_each (λ (i : Imaged). i.table) (λ i. i.row) IsBelow (filter_map (imaged m) (references true m raw))
+          (Each-filter_map (imaged m) (λ r. IsCounted (named_by r)) IsBelow of_image (references true m raw)
+          (Each-unmap named_by IsCounted (references true m raw)
+          (subst (Each IsCounted) (sym (named true m raw keeps ∙ ap (λ v. named_rows true m (annotated_file v)) says)) fits.counted)))
+
+  -- ---- alone
+
+  none_differ : rows_differ (trace ∷ []) ≡ []
+  none_differ =
+      flat_nil (λ table. filter_map (differs trace table) (enumerate_from 2 [])) (range_with_len 0 0x2d)
+      (each_of (λ table. filter_map (differs trace table) (enumerate_from 2 []) ≡ []) (λ table. refl) (range_with_len 0 0x2d))
+
+  none_above : ReferencesAreNamed → images_above (trace ∷ []) ≡ []
+  none_above named =
+      ap (λ l. l ++ []) (filter_nil (above (1, trace)) trace.rows
+      (Each-weaker IsBelow (λ i. above (1, trace) i ≡ None)
+      (λ i le. not_above _ (nat_lt (count_in trace i.table) i.image) (le-ltb (count_in trace i.table) i.image le)) trace.rows (below named)))
+
+  no_misfit : ReferencesAreNamed → misfit_of (trace ∷ []) ≡ None
+  no_misfit named = ap (λ l. slice_get l 0) (ap (λ l. l ++ images_above (trace ∷ [])) none_differ ∙ none_above named)
+
+  pub holds_sample : (marks : List (List ℕ)) (traces : List Trace) → FittingMapsDoNotClash → IsReadable m → ReferencesAreNamed
+      → added marks [] m raw ≡ Ok traces → HoldsSample n traces
+  holds_sample marks traces silent ready named is =
+      let e : added marks [] m raw ≡ Ok (trace ∷ []) = ap (with_trace [] trace) (sample_not_refused marks silent ready) in
+      let same : traces ≡ trace ∷ [] = cc in
+      rw same (record { moved = ap (λ file. file ∷ []) moved_is; fits = no_misfit named })
+
+  -- the same of a merger that has no input yet, and of the sample's map
+  module _ (marks : List (List ℕ)) (before : Merged) (map : Map) (silent : FittingMapsDoNotClash) (ready : IsReadable map)
+      (none : before ≡ record { marks = marks; traces = [] }) (is : map ≡ sample_map_of n) where
+    readable : IsReadable m
+    readable = subst IsReadable is ready
+
+    pub holds_after : (traces : List Trace) → ReferencesAreNamed → added before.marks before.traces map raw ≡ Ok traces → HoldsSample n traces
+    holds_after traces named after =
+        holds_sample marks traces silent readable named
+        (subst (λ (b : Merged). added b.marks b.traces m raw ≡ Ok traces) none
+        (subst (λ k. added before.marks before.traces k raw ≡ Ok traces) is after))
+
+    pub for_memory : (e : MergeError) → (e ≡ Memory) ⊎ (refusal_of before.marks before.traces map raw ≡ Some e) → e ≡ Memory
+    for_memory e (inl memory) = memory
+    for_memory e (inr told) =
+        let here : refusal_of marks [] m raw ≡ Some e =
+        subst (λ (b : Merged). refusal_of b.marks b.traces m raw ≡ Some e) none (subst (λ k. refusal_of before.marks before.traces k raw ≡ Some e) is told) in
+        absurd (none-some e (sym (sample_not_refused marks silent readable) ∙ here))
+
+-- what is reported is not reported of the sample
+pub finishes : (n : ℕ) (traces : List Trace) (e : MergeError) → HoldsSample n traces → (e ≡ Memory) ⊎ (misfit_of traces ≡ Some e) → e ≡ Memory
+finishes n traces e holds (inl memory) = memory
+finishes n traces e holds (inr told) = absurd (none-some e (sym holds.fits ∙ told))
+
+pub is_remapped : (n : ℕ) (traces : List Trace) (value : FileValue) → HoldsSample n traces → joined_of traces ≡ Ok value → value ≡ remapped_sample n
+is_remapped n traces value holds is =
+    let e : joined_of traces ≡ Ok (value_of_annotated (joined (moved_files traces))) = ap (value_unless traces) holds.fits in
+    let same : value ≡ value_of_annotated (joined (moved_files traces)) = cc in
+    same ∙ ap (λ files. value_of_annotated (joined files)) holds.moved
+
+pub some_input : (n : ℕ) (traces : List Trace) → HoldsSample n traces → traces ≢ []
+some_input n traces holds none =
+    let e : ◌≡◌ {A = List _} [] (moved_input (true, sample_input n) ∷ []) = ap moved_files (sym none) ∙ holds.moved in absurd cc

@@ -1,0 +1,274 @@
+-- Where a map fits a file, nothing is reported of images of rows and slots.
+use Rattle.std.proofs.Common.{◌≡◌, ℕ, ◌+◌, ◌&&◌, ◌||◌, ◌++◌, Bool, true, false, cond, List, [], ◌∷◌, Option, Some, None, map, flat_map, refl, sym}
+use Rattle.std.proofs.Common.{◌∙◌, ap, subst}
+use Rattle.std.specs.Prelude.{nat_eq, is_some, not}
+use Rattle.std.specs.List.{dedup, dedup_from, filter_map, enumerate_from}
+use Rattle.std.specs.Option.{option_map}
+use Rattle.std.proofs.lemmas.Bool.{both_ways, eq-eqb, eqb-true}
+use Rattle.ppdb_maps.specs.Map.{Map, row_image, slot_image, is_dropped}
+use Rattle.ppdb_merge_names.specs.declared.imaged.Imaged.{Imaged}
+use Rattle.ppdb_merge_names.specs.References.{Reference, references}
+use Rattle.ppdb_merge_names_laws.specs.Laws.{named_by}
+use Rattle.ppdb_values.specs.RawFile.{RawFile}
+use Rattle.ppdb_values.specs.declared.file.FileValue.{FileValue}
+use Rattle.ppdb_values.specs.declared.scope.ScopeValue.{ScopeValue}
+use Rattle.ppdb_values.specs.declared.scope.VariableValue.{VariableValue}
+use Rattle.ppdb_values.specs.declared.annotation.Annotation.{Annotation}
+use Rattle.ppdb_merge_items.specs.Each.{Each, Pairs}
+use Rattle.ppdb_merge_items.specs.NamedRows.{live_scope}
+use Rattle.ppdb_merge_items.specs.Annotated.{annotated_file, annotated_scope}
+use Rattle.ppdb_merge_items.specs.Sorted.{in_order}
+use Rattle.ppdb_merge_items.specs.declared.file.AnnotatedScope.{AnnotatedScope}
+use Rattle.ppdb_merge_items.proofs.Lists.{Each-weaker, Each-map, Each-unmap, each_of}
+use Rattle.ppdb_merge_items.proofs.Orders.{in_order_each}
+use Rattle.ppdb_merge_joined.proofs.Each.{Each-flat}
+use Rattle.ppdb_merge_moved.specs.Fits.{IsImaged, AreApart, HasSlot, SlotsAreApart}
+use Rattle.ppdb_merge_moved.proofs.Elements.{each_in}
+use Rattle.ppdb_merge_moved.proofs.Lists.{Each-filter_map}
+use Rattle.ppdb_merge_fits.specs.Rows.{imaged, if_unmapped, image_twice, images_twice, unmapped}
+use Rattle.ppdb_merge_fits.specs.Slots.{scope_slots, variable_slots, if_slot_unmapped, slots_unmapped, used, slot_twice, slots_twice}
+use Rattle.ppdb_merge_fits.specs.Twice.{beside, beside_from, each_once, is_same, if_one_image, twice}
+use Rattle.ppdb_merge_fits.proofs.Apart.{OneNumber}
+use Rattle.ppdb_run.proofs.Silent.{flat_nil, unnumbered, if_holds}
+
+-- ---- lists in order, each item once
+
+module _ {A : Type 0} (same : A → A → Bool) (P : A → Type 0) where
+  once_from : (k : A) (xs : List A) → P k → Each P xs → Each P (dedup_from same k xs)
+  once_from k [] here each = (here, tt)
+  once_from k (x ∷ xs) here each = step (same x k) (once_from k xs here each.1) (once_from x xs each.0 each.1)
+    where
+      step : (b : Bool) → Each P (dedup_from same k xs) → Each P (dedup_from same x xs) → Each P (cond b (dedup_from same k xs) (k ∷ dedup_from same x xs))
+      step true skipped kept = skipped
+      step false skipped kept = (here, kept)
+
+  once : (xs : List A) → Each P xs → Each P (dedup same xs)
+  once [] each = tt
+  once (x ∷ xs) each = once_from x xs each.0 each.1
+
+pub each_once_each : {A : Type 0} (group number : A → ℕ) (P : A → Type 0) (xs : List A) → Each P xs → Each P (each_once group number xs)
+each_once_each group number P xs each =
+    once (is_same group number) P (in_order group (in_order number xs))
+    (in_order_each group P (in_order number xs) (in_order_each number P xs each))
+
+pairs_among : {A : Type 0} (R : A → A → Type 0) (xs : List A) → Each (λ a. Each (R a) xs) xs → Pairs R xs
+pairs_among R [] each = tt
+pairs_among R (x ∷ xs) each =
+    (each.0.1, pairs_among R xs (Each-weaker (λ a. Each (R a) (x ∷ xs)) (λ a. Each (R a) xs) (λ a with_x. with_x.1) xs each.1))
+
+-- ---- items of which no two of a group have one image
+
+module _ {A B : Type 0} (group number image : A → ℕ) (told : A → A → B) where
+  two_silent : (x y : A) → OneNumber group number image x y → if_one_image group number image told x y ≡ []
+  two_silent x y one =
+      of (nat_eq (group x) (group y)) (nat_eq (image x) (image y)) (nat_eq (number x) (number y)) refl refl refl
+    where
+      of : (a b c : Bool) → nat_eq (group x) (group y) ≡ a → nat_eq (image x) (image y) ≡ b → nat_eq (number x) (number y) ≡ c
+          → cond (a && (b && not c)) (told x y ∷ []) [] ≡ []
+      of false b c groups images numbers = refl
+      of true false c groups images numbers = refl
+      of true true true groups images numbers = refl
+      of true true false groups images numbers =
+          absurd (both_ways (nat_eq (number x) (number y)) numbers
+          (eq-eqb (number x) (number y) (one (eqb-true (group x) (group y) groups) (eqb-true (image x) (image y) images))))
+
+  from_silent : (x : A) (ys : List A) → Pairs (OneNumber group number image) (x ∷ ys) → beside_from (if_one_image group number image told) x ys ≡ []
+  from_silent x [] pairs = refl
+  from_silent x (y ∷ ys) pairs =
+      ap (λ l. l ++ beside_from (if_one_image group number image told) y ys) (two_silent x y pairs.0.0) ∙ from_silent y ys pairs.1
+
+  all_silent : (xs : List A) → Pairs (OneNumber group number image) xs → beside (if_one_image group number image told) xs ≡ []
+  all_silent [] pairs = refl
+  all_silent (x ∷ xs) pairs = from_silent x xs pairs
+
+  abbrev at_once : List A → List A
+  at_once xs = in_order group (in_order image (each_once group number xs))
+
+  kept_once : (P : A → Type 0) (xs : List A) → Each P xs → Each P (at_once xs)
+  kept_once P xs each =
+      in_order_each group P (in_order image (each_once group number xs))
+      (in_order_each image P (each_once group number xs) (each_once_each group number P xs each))
+
+  twice_silent : (xs : List A) → Each (λ a. Each (OneNumber group number image a) xs) xs → twice group number image told (each_once group number xs) ≡ []
+  twice_silent xs each =
+      all_silent (at_once xs)
+      (pairs_among (OneNumber group number image) (at_once xs)
+      (kept_once (λ a. Each (OneNumber group number image a) (at_once xs)) xs
+      (Each-weaker (λ a. Each (OneNumber group number image a) xs) (λ a. Each (OneNumber group number image a) (at_once xs))
+      (λ a others. kept_once (OneNumber group number image a) xs others) xs each)))
+
+-- ---- rows
+
+pub rows_silent : (first : Bool) (m : Map) (raw : RawFile) → Each (IsImaged m) (map named_by (references first m raw)) → unmapped first m raw ≡ []
+rows_silent first m raw each =
+    flat_nil (if_unmapped m) (references first m raw)
+    (Each-weaker (λ r. IsImaged m (named_by r)) (λ r. if_unmapped m r ≡ [])
+    (λ r there. if_holds _ (is_some (row_image m r.table r.row)) (ap is_some there.1)) (references first m raw)
+    (Each-unmap named_by (IsImaged m) (references first m raw) each))
+
+abbrev with_image : Reference → ℕ → Imaged
+with_image r image = record { table = r.table; row = r.row; image = image }
+
+-- a row with its image is the image of a row that is named
+pub made : (m : Map) (r : Reference) (i : Imaged) → imaged m r ≡ Some i → (row_image m r.table r.row ≡ Some i.image) × (with_image r i.image ≡ i)
+made m r i is = of (row_image m r.table r.row) refl is
+  where
+    of : (o : Option ℕ) → row_image m r.table r.row ≡ o → option_map (with_image r) o ≡ Some i
+        → (row_image m r.table r.row ≡ Some i.image) × (with_image r i.image ≡ i)
+    of None from e = absurd cc
+    of (Some image) from e =
+        let same : with_image r image ≡ i = cc in
+        (from ∙ ap (λ (j : Imaged). Some j.image) same, ap (λ (j : Imaged). with_image r j.image) (sym same) ∙ same)
+
+abbrev OneRow : Imaged → Imaged → Type 0
+OneRow = OneNumber (λ (i : Imaged). i.table) (λ i. i.row) (λ i. i.image)
+
+one_row : (m : Map) (r s : Reference) (i j : Imaged) → AreApart m (named_by r) (named_by s) → imaged m r ≡ Some i → imaged m s ≡ Some j → OneRow i j
+one_row m r s i j apart is js =
+    let a = made m r i is in
+    let b = made m s j js in
+    subst (λ z. OneRow z j) a.1 (subst (λ z. OneRow (with_image r i.image) z) b.1
+    (λ tables images. apart i.image tables a.0 (b.0 ∙ ap Some (sym images))))
+
+pub rows_apart_silent : (first : Bool) (m : Map) (raw : RawFile)
+    → Each (λ a. Each (AreApart m a) (map named_by (references first m raw))) (map named_by (references first m raw)) → images_twice first m raw ≡ []
+rows_apart_silent first m raw each =
+    twice_silent (λ (i : Imaged). i.table) (λ i. i.row) (λ i. i.image) image_twice all
+    (Each-filter_map (imaged m) (λ r. Each (λ s. AreApart m (named_by r) (named_by s)) refs) (λ i. Each (OneRow i) all)
+    (λ r i is others. Each-filter_map (imaged m) (λ s. AreApart m (named_by r) (named_by s)) (OneRow i)
+    (λ s j js apart. one_row m r s i j apart is js) refs others) refs
+    (Each-weaker (λ r. Each (AreApart m (named_by r)) (map named_by refs)) (λ r. Each (λ s. AreApart m (named_by r) (named_by s)) refs)
+    (λ r others. Each-unmap named_by (AreApart m (named_by r)) refs others) refs
+    (Each-unmap named_by (λ a. Each (AreApart m a) (map named_by refs)) refs each)))
+  where
+    refs : List Reference
+    refs = references first m raw
+
+    all : List Imaged
+    all = filter_map (imaged m) refs
+
+-- ---- slots
+
+live_is : (b : Bool) → b ≡ false → not b ≡ true
+live_is b is = ap not is
+
+-- the items of a list, and what a test takes
+abbrev Item : {A : Type 0} → List A → Type 0
+Item {A} xs = A
+
+abbrev Made : {A B : Type 0} → (A → Option B) → Type 0
+Made {A} {B} f = B
+
+module _ (m : Map) (value : FileValue) where
+  -- a slot of a method, and one with its image
+  abbrev MethodSlot : Type 0
+  MethodSlot = Item (variable_slots value)
+
+  abbrev UsedSlot : Type 0
+  UsedSlot = Made (used m)
+
+  abbrev slot_of : ℕ → Annotation VariableValue → MethodSlot
+  slot_of method v = record { method = method; slot = v.item.slot }
+
+  -- what holds of the slots of each scope holds of those of all variables
+  by_scope : (P : MethodSlot → Type 0) → Each (λ (s : AnnotatedScope). Each (λ v. P (slot_of s.method v)) s.variables) (annotated_file value).scopes
+      → Each P (variable_slots value)
+  by_scope P each =
+      Each-flat scope_slots P value.scopes
+      (unnumbered (λ (s : ScopeValue). Each P (scope_slots s)) 1 value.scopes
+      (Each-weaker (λ (s : ℕ × ScopeValue). Each (λ v. P (slot_of s.1.method v)) (annotated_scope value s).variables) (λ s. Each P (scope_slots s.1)) in_scope
+      (enumerate_from 1 value.scopes)
+      (Each-unmap (annotated_scope value) (λ (s : AnnotatedScope). Each (λ v. P (slot_of s.method v)) s.variables) (enumerate_from 1 value.scopes) each)))
+    where
+      in_scope : (s : ℕ × ScopeValue) → Each (λ v. P (slot_of s.1.method v)) (annotated_scope value s).variables → Each P (scope_slots s.1)
+      in_scope s each =
+          Each-map (λ (v : VariableValue). record { method = s.1.method; slot = v.slot }) P s.1.variables
+          (unnumbered (λ (v : VariableValue). P (record { method = s.1.method; slot = v.slot })) _ s.1.variables
+          (Each-unmap _ (λ (v : Annotation VariableValue). P (slot_of s.1.method v)) _ each))
+
+  abbrev Has : MethodSlot → Type 0
+  Has x = is_dropped m x.method ≡ false → (image : ℕ) × (slot_image m x.method x.slot ≡ Some image)
+
+  all_have : Each (λ (s : AnnotatedScope). live_scope m s ≡ true → Each (HasSlot m s.method) s.variables) (annotated_file value).scopes → Each Has
+      (variable_slots value)
+  all_have each =
+      by_scope Has
+      (Each-weaker (λ (s : AnnotatedScope). live_scope m s ≡ true → Each (HasSlot m s.method) s.variables)
+      (λ s. Each (λ v. Has (slot_of s.method v)) s.variables) (λ s there. of s there (is_dropped m s.method) refl) (annotated_file value).scopes each)
+    where
+      of : (s : AnnotatedScope) → (live_scope m s ≡ true → Each (HasSlot m s.method) s.variables) → (b : Bool) → is_dropped m s.method ≡ b
+          → Each (λ v. Has (slot_of s.method v)) s.variables
+      of s there true is = each_of (λ v. Has (slot_of s.method v)) (λ v stays. absurd (both_ways (is_dropped m s.method) stays is)) s.variables
+      of s there false is =
+          Each-weaker (HasSlot m s.method) (λ v. Has (slot_of s.method v)) (λ v has stays. has) s.variables (there (live_is (is_dropped m s.method) is))
+
+  has_image : (n : ℕ) (x : MethodSlot) → Has x → if_slot_unmapped m (n, x) ≡ []
+  has_image n x has = if_holds _ (is_dropped m x.method || is_some (slot_image m x.method x.slot)) (of (is_dropped m x.method) has)
+    where
+      of : (b : Bool) → (b ≡ false → (image : ℕ) × (slot_image m x.method x.slot ≡ Some image)) → (b || is_some (slot_image m x.method x.slot)) ≡ true
+      of true has = refl
+      of false has = ap is_some (has refl).1
+
+  have_images : (n : ℕ) (xs : List MethodSlot) → Each Has xs → flat_map (if_slot_unmapped m) (enumerate_from n xs) ≡ []
+  have_images n [] each = refl
+  have_images n (x ∷ xs) each =
+      ap (λ l. l ++ flat_map (if_slot_unmapped m) (enumerate_from (n + 1) xs)) (has_image n x each.0) ∙ have_images (n + 1) xs each.1
+
+  pub slots_silent : Each (λ (s : AnnotatedScope). live_scope m s ≡ true → Each (HasSlot m s.method) s.variables) (annotated_file value).scopes
+      → slots_unmapped m value ≡ []
+  slots_silent each = have_images 1 (variable_slots value) (all_have each)
+
+  -- two slots of a method that stays have one image only where they are one slot
+  abbrev SlotsApart : MethodSlot → MethodSlot → Type 0
+  SlotsApart x y = is_dropped m x.method ≡ false → x.method ≡ y.method → (image : ℕ) → slot_image m x.method x.slot ≡ Some image
+      → slot_image m y.method y.slot ≡ Some image → x.slot ≡ y.slot
+
+  abbrev scopes : List AnnotatedScope
+  scopes = (annotated_file value).scopes
+
+  all_apart : SlotsAreApart m scopes → Each (λ x. Each (SlotsApart x) (variable_slots value)) (variable_slots value)
+  all_apart apart =
+      by_scope (λ x. Each (SlotsApart x) (variable_slots value))
+      (each_in (λ s. Each (λ v. Each (SlotsApart (slot_of s.method v)) (variable_slots value)) s.variables) scopes
+      (λ s in_s. each_in (λ v. Each (SlotsApart (slot_of s.method v)) (variable_slots value)) s.variables
+      (λ v in_v. by_scope (SlotsApart (slot_of s.method v))
+      (each_in (λ t. Each (λ w. SlotsApart (slot_of s.method v) (slot_of t.method w)) t.variables) scopes
+      (λ t in_t. each_in (λ w. SlotsApart (slot_of s.method v) (slot_of t.method w)) t.variables
+      (λ w in_w stays methods image of_v of_w.
+      apart s t v w image in_s in_t (live_is (is_dropped m s.method) stays) methods in_v in_w of_v of_w))))))
+
+  abbrev with_slot_image : MethodSlot → ℕ → UsedSlot
+  with_slot_image x image = record { method = x.method; slot = x.slot; image = image }
+
+  made_used : (x : MethodSlot) (u : UsedSlot) → used m x ≡ Some u
+      → (is_dropped m x.method ≡ false) × (slot_image m x.method x.slot ≡ Some u.image) × (with_slot_image x u.image ≡ u)
+  made_used x u is = of (is_dropped m x.method) refl (slot_image m x.method x.slot) refl is
+    where
+      of : (b : Bool) → is_dropped m x.method ≡ b → (o : Option ℕ) → slot_image m x.method x.slot ≡ o
+          → cond b None (option_map (with_slot_image x) o) ≡ Some u
+          → (is_dropped m x.method ≡ false) × (slot_image m x.method x.slot ≡ Some u.image) × (with_slot_image x u.image ≡ u)
+      of true gone o from e = absurd cc
+      of false stays None from e = absurd cc
+      of false stays (Some image) from e =
+          let same : with_slot_image x image ≡ u = cc in
+          (stays, from ∙ ap (λ (w : UsedSlot). Some w.image) same, ap (λ (w : UsedSlot). with_slot_image x w.image) (sym same) ∙ same)
+
+  abbrev OneSlot : UsedSlot → UsedSlot → Type 0
+  OneSlot = OneNumber (λ (u : UsedSlot). u.method) (λ u. u.slot) (λ u. u.image)
+
+  one_slot : (x y : MethodSlot) (u w : UsedSlot) → SlotsApart x y → used m x ≡ Some u → used m y ≡ Some w → OneSlot u w
+  one_slot x y u w apart is js =
+      let a = made_used x u is in
+      let b = made_used y w js in
+      subst (λ z. OneSlot z w) a.2 (subst (λ z. OneSlot (with_slot_image x u.image) z) b.2
+      (λ methods images. apart a.0 methods u.image a.1 (b.1 ∙ ap Some (sym images))))
+
+  pub slots_apart_silent : SlotsAreApart m scopes → slots_twice m value ≡ []
+  slots_apart_silent apart =
+      twice_silent (λ (u : UsedSlot). u.method) (λ u. u.slot) (λ u. u.image) slot_twice all
+      (Each-filter_map (used m) (λ x. Each (SlotsApart x) (variable_slots value)) (λ u. Each (OneSlot u) all)
+      (λ x u is others. Each-filter_map (used m) (SlotsApart x) (OneSlot u) (λ y w js one. one_slot x y u w one is js) (variable_slots value) others)
+      (variable_slots value) (all_apart apart))
+    where
+      all : List UsedSlot
+      all = filter_map (used m) (variable_slots value)

@@ -1,4 +1,0 @@
-pub mod Keeping
-pub mod KnownKinds
-pub mod MovedKinds
-pub mod Turns

@@ -1,5 +1,0 @@
-use Rattle.ppdb_run_meaning_laws.proofs.Keeping.{rebuilt_keep}
-use Rattle.ppdb_run_meaning_laws.proofs.laws.rebuilt_files_keep_themselves.Goals as goal
-
-pub returns : goal.returns
-returns c = rebuilt_keep c.values_are_sound.ensures c.sound_files_stay.ensures c.inputs_keep_meaning.ensures c.inputs_keep_origins.ensures

@@ -1,6 +1,0 @@
-pub mod Alone
-pub mod Identity
-pub mod NoClash
-pub mod Reporting
-pub mod Silent
-pub mod SilentRows
