@@ -9,12 +9,12 @@ use Rattle.std.proofs.lemmas.Bool.Decides.{nat_tests}
 use Rattle.std.specs.Option.{option_map}
 use Rattle.ppdb_tables.specs.RawTables.{row_at}
 use Rattle.ppdb_values.specs.Ordered.{IsSorted, Rises}
-use Rattle.ppdb_values.specs.Links.{kickoff_of, move_next_of}
+use Rattle.ppdb_values.specs.Links.{move_next_of}
 use Rattle.ppdb_tables.specs.declared.rows.MachineRow.{MachineRow}
 use Rattle.ppdb_queries.proofs.Keys.{key_at}
 use Rattle.ppdb_queries.specs.Runs.{IsRunOf, IsFirstNotBelow}
 
-le_or_lt : (a b : ℕ) → (a ≤ b) ⊎ (b < a)
+pub le_or_lt : (a b : ℕ) → (a ≤ b) ⊎ (b < a)
 le_or_lt a b = grind arith
 
 differs : (a b : ℕ) → a ≢ b → (a == b) ≡ false
@@ -114,31 +114,25 @@ rising_sorted keys rise i j order inside = elim (le_or_lt j i) [
 pub above_both : {a b : ℕ} → a ≢ b → b ≤ a → b + 1 ≤ a
 above_both apart h = grind (arith, apart)
 
--- the machine whose MoveNext is the method
-pub kickoff_found : (machines : List MachineRow) (method row : ℕ) (machine : MachineRow)
-    → Rises (map (λ machine. machine.move_next) machines)
-    → 1 ≤ row → row ≤ length machines → row_at machines row ≡ Some machine → machine.move_next ≡ method → Some machine.kickoff ≡ kickoff_of machines method
-kickoff_found machines method row machine rise from to there same =
-    let key : MachineRow → ℕ = λ m. m.move_next in
-    let at : slice_index (map key machines) (row - 1) ≡ key machine = key_at key machines row machine there in
-    sym (ap (λ (found : Option MachineRow). option_map (λ m. m.kickoff) found)
-    (find_key key method machines (row - 1) machine (place_of machines row machine there) same
-    (λ j here e. let len = length-map machines key in let r = rise j (row - 1) here (omega (arith, len)) in omega (arith, r, at, same, e))))
+-- the row with a key, among rows whose keys rise
+pub rising_found : {X : Type 0} (key : X → ℕ) (rows : List X) (wanted row : ℕ) (x : X) → Rises (map key rows)
+    → 1 ≤ row → row ≤ length rows → row_at rows row ≡ Some x → key x ≡ wanted → Some x ≡ find (λ y. key y == wanted) rows
+rising_found key rows wanted row x rise from to there same =
+    let at : slice_index (map key rows) (row - 1) ≡ key x = key_at key rows row x there in
+    sym (find_key key wanted rows (row - 1) x (place_of rows row x there) same
+    (λ j here e. let len = length-map rows key in let r = rise j (row - 1) here (omega (arith, len)) in omega (arith, r, at, same, e)))
 
--- no machine has the MoveNext
-pub kickoff_none : (machines : List MachineRow) (method first end : ℕ) → end ≤ first
-    → ((i : ℕ) → i + 1 < first → slice_index (map (λ machine. machine.move_next) machines) i < method)
-    → ((i : ℕ) → end ≤ i + 1 → i < length (map (λ machine. machine.move_next) machines)
-    → method + 1 ≤ slice_index (map (λ machine. machine.move_next) machines) i)
-    → None ≡ kickoff_of machines method
-kickoff_none machines method first end met below above =
-    let key : MachineRow → ℕ = λ m. m.move_next in
-    let len = length-map machines key in
-    sym (ap (λ (found : Option MachineRow). option_map (λ m. m.kickoff) found)
-    (find_none key method machines (λ j inside e. elim (le_or_lt end (j + 1)) [
+-- no row has the key
+pub rising_none : {X : Type 0} (key : X → ℕ) (rows : List X) (wanted first end : ℕ) → end ≤ first
+    → ((i : ℕ) → i + 1 < first → slice_index (map key rows) i < wanted)
+    → ((i : ℕ) → end ≤ i + 1 → i < length (map key rows) → wanted + 1 ≤ slice_index (map key rows) i)
+    → None ≡ find (λ y. key y == wanted) rows
+rising_none key rows wanted first end met below above =
+    let len = length-map rows key in
+    sym (find_none key wanted rows (λ j inside e. elim (le_or_lt end (j + 1)) [
       | inl h ↦ let a = above j h (omega (arith, len)) in omega (arith, a, e)
       | inr h ↦ let b = below j (omega arith) in omega (arith, b, e)
-    ])))
+    ]))
 
 -- the machine whose kickoff is the method, the first with it
 pub move_next_found : (machines : List MachineRow) (method row : ℕ) (machine : MachineRow)

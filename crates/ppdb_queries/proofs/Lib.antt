@@ -2,6 +2,7 @@ pub mod Powers
 pub mod Keys
 pub mod Searches
 pub mod Filters
+pub mod Orders
 pub mod Views
 pub mod Chained
 pub mod Owned

@@ -1,10 +1,11 @@
 -- How often a list can be halved.
-use Rattle.std.proofs.Common.{◌≡◌, ℕ, zero, suc, ◌+◌, ◌*◌, ◌<◌, ◌≤◌, ◌^◌, length, arith, mul_assoc, ◌∙◌, ap, true}
+use Rattle.std.proofs.Common.{◌≡◌, ℕ, zero, suc, ◌+◌, ◌*◌, ◌<◌, ◌≤◌, ◌^◌, List, [], ◌∷◌, length, arith, mul_assoc, ◌∙◌, ap, Bool, true, false, cond}
 use Rattle.std.specs.Prelude.{nat_le}
 use Rattle.std.specs.List.{filter, range_with_len}
 use Rattle.std.proofs.Math.Pow.{pow_mono}
 use Rattle.std.proofs.Math.Nat.{pow-suc, mul-le-mul_left}
 use Rattle.std.proofs.lemmas.Bool.Decides.{nat_tests}
+use Rattle.std.proofs.lemmas.List.FromFn.{length-range_with_len}
 use Rattle.ppdb_queries.specs.Digits.{digits}
 
 -- so many probes were made of a table of so many rows, and so many rows are left
@@ -12,8 +13,8 @@ pub record Halved (rows probes left : ℕ) : Type 0 where
   pub cost : 2 ^ probes ≤ 2 * rows + 1
   pub work : 2 ^ probes * left ≤ rows
 
-pub unhalved : (rows : ℕ) → Halved rows 0 rows
-unhalved rows = record { cost = omega arith; work = omega arith }
+pub unhalved : (rows left : ℕ) → left ≤ rows → Halved rows 0 left
+unhalved rows left h = record { cost = omega arith; work = omega arith }
 
 product : (p a b n : ℕ) → a + a ≤ b → p * b ≤ n → p * 2 * a ≤ n
 product p a b n h w =
@@ -43,6 +44,23 @@ passing (suc k) a (suc n) m h all =
     rw (test (2 ^ a) m (all a (omega arith)))
     (let more : k ≤ length (filter (λ d. nat_le (2 ^ d) m) (range_with_len (a + 1) n)) = passing k (a + 1) n m (omega arith) (λ d below. all d (omega arith)) in
     omega (arith, more))
+
+filter_most : {X : Type 0} (p : X → Bool) (xs : List X) → length (filter p xs) ≤ length xs
+filter_most p [] = omega arith
+filter_most p (x ∷ xs) =
+    let more = filter_most p xs in
+    elim (p x) as (λ b. length (cond b (x ∷ filter p xs) (filter p xs)) ≤ suc (length xs)) [
+      | true ↦ omega (arith, more)
+      | false ↦ omega (arith, more)
+    ]
+
+-- a number has no more digits than it counts
+pub digits_most : (n : ℕ) → digits n ≤ n
+unfolding digits
+digits_most n =
+    let most = filter_most (λ d. nat_le (2 ^ d) n) (range_with_len 0 n) in
+    let len = length-range_with_len 0 n in
+    omega (arith, most, len)
 
 -- as many halvings as there are binary digits
 pub within_digits : (t n : ℕ) → 2 ^ t ≤ 2 * n + 1 → t ≤ digits n

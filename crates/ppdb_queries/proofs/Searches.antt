@@ -1,5 +1,5 @@
 -- Halving a table that is sorted.
-use Rattle.std.proofs.Common.{◌≡◌, ℕ, suc, ◌+◌, ◌-◌, ◌<◌, ◌≤◌, List, length, arith, slice_index, subst, sym}
+use Rattle.std.proofs.Common.{◌≡◌, ℕ, suc, ◌+◌, ◌-◌, ◌<◌, ◌≤◌, List, length, arith, slice_index, subst}
 use Rattle.ppdb_values.specs.Ordered.{IsSorted}
 use Rattle.ppdb_queries.proofs.Powers.{Halved, halved, unhalved}
 
@@ -25,7 +25,7 @@ probed rows before steps next left less h tick later some half =
     subst (λ (t : ℕ). Halved rows t less) e (halved rows (steps - before) left less h some half)
 
 -- no probe yet
-pub unprobed : (rows before left : ℕ) → left ≡ rows → Halved rows (before - before) left
-unprobed rows before left e =
+pub unprobed : (rows before left : ℕ) → left ≤ rows → Halved rows (before - before) left
+unprobed rows before left h =
     let none : 0 ≡ before - before = omega arith in
-    subst (λ (t : ℕ). Halved rows t left) none (subst (λ (n : ℕ). Halved rows 0 n) (sym e) (unhalved rows))
+    subst (λ (t : ℕ). Halved rows t left) none (unhalved rows left h)

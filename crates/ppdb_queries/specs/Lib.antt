@@ -3,6 +3,7 @@ pub mod Cursors
 pub mod Digits
 pub mod Hoisted
 pub mod Laws
+pub mod Machines
 pub mod Points
 pub mod Runs
 pub mod Scopes

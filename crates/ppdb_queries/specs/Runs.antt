@@ -10,6 +10,14 @@ pub record IsFirstNotBelow (keys : List ℕ) (key row : ℕ) : Type 0 where
   pub below : (i : ℕ) → i + 1 < row → slice_index keys i < key
   pub above : (i : ℕ) → row ≤ i + 1 → i < length keys → key ≤ slice_index keys i
 
+-- The first row whose key is not below the key is from `first` to `end`: the keys before `first` are below it, and those from `end` on are not.
+pub record IsBetween (keys : List ℕ) (key first end : ℕ) : Type 0 where
+  pub from : 1 ≤ first
+  pub forward : first ≤ end
+  pub to : end ≤ length keys + 1
+  pub below : (i : ℕ) → i + 1 < first → slice_index keys i < key
+  pub above : (i : ℕ) → end ≤ i + 1 → i < length keys → key ≤ slice_index keys i
+
 -- the rows of a run, with their numbers
 abbrev pub rows_in : {X : Type 0} → Run → List X → List (ℕ × X)
 rows_in run rows = slice_range (numbered rows) (run.first - 1) (run.end - 1)

@@ -17,7 +17,7 @@ mod search;
 pub use hoisted::{Hoisted, HoistedCursor, hoisted_at};
 pub use imports::{ImportChain, ImportLink, imports_of};
 pub use laws::{lists_are_values, rows_are_values, views_are_there};
-pub use machines::{kickoff_of, move_next_of};
+pub use machines::{KickoffOrder, kickoff_of, move_next_by, move_next_of};
 pub use method::NoMethod;
 pub use points::{PointAt, point_at};
 pub use run::{Run, customs_of, scope_run};

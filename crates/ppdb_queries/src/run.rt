@@ -8,7 +8,7 @@ ghost use Rattle.ppdb_queries.specs.Runs.{IsRunOf, IsNoMethod, rows_in, customs_
 ghost use Rattle.ppdb_queries.specs.Digits.{digits};
 
 use crate::method::{NoMethod, judge_method};
-use crate::search::{KeyedRows, first_not_below};
+use crate::search::{KeyedRows, rows_with};
 use ppdb_base::Steps;
 use ppdb_tables::{Parent, coded_parent, codes_are_parents};
 use ppdb_verify::Verified;
@@ -81,9 +81,8 @@ pub fn scope_run<L: Ledger>(
     judge_method(file, method)?;
     file.keeps();
     let scopes = ByMethod { file };
-    let first = first_not_below(&scopes, method, steps);
-    let end = first_not_below(&scopes, method + 1, steps);
-    Ok(Run { first, end })
+    let run = rows_with(&scopes, method, steps);
+    Ok(run)
 }
 
 /// The custom records on a coded parent.
@@ -94,10 +93,7 @@ fn customs_of_code<L: Ledger>(file: &Verified<'_>, coded: u32, steps: &mut Steps
     ensures cost { steps.new ≤ steps.old + 2 * digits (length (raw_of (tables_of file.now)).customs) }
 {
     file.keeps();
-    let customs = ByParent { file };
-    let first = first_not_below(&customs, coded, steps);
-    let end = first_not_below(&customs, coded + 1, steps);
-    Run { first, end }
+    rows_with(&ByParent { file }, coded, steps)
 }
 
 /// The custom records on a row: rows of CustomDebugInformation. The parent's table has a tag, and the row is there.

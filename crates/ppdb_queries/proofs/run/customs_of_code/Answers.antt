@@ -5,5 +5,5 @@ use Rattle.ppdb_queries.proofs.run.customs_of_code.Goals as goal
 
 pub returns-clause-run : goal.returns-clause-run
 returns-clause-run g c =
-    run_of (λ custom. custom.parent) c.args.coded (raw_of (tables_of c.args.file.now)).customs c.first_not_below-first.result c.first_not_below-end.result
-    c.first_not_below-first.ensures.found c.first_not_below-end.ensures.found
+    run_of (λ custom. custom.parent) c.args.coded (raw_of (tables_of c.args.file.now)).customs c.rows_with.result.first c.rows_with.result.end
+    c.rows_with.ensures.first c.rows_with.ensures.end

@@ -1,12 +1,13 @@
 use Rattle.std.proofs.Common.{◌-◌, ◌+◌, ◌<◌, ◌≤◌, ℕ, length, slice_index, map}
 use Rattle.ppdb_tables.specs.RawOf.{raw_of}
 use Rattle.ppdb_verify.specs.Views.{tables_of}
+use Rattle.ppdb_queries.specs.Machines.{cell_of}
 use Rattle.ppdb_queries.proofs.Powers.{Halved}
-use Rattle.ppdb_queries.proofs.machines.kickoff_of.Given as goal
+use Rattle.ppdb_queries.proofs.machines.machine_with.Given as goal
 
 abbrev pub invariant-halves : goal.invariant-halves
 invariant-halves g l =
-    let keys = map (λ machine. machine.move_next) (raw_of (tables_of l.file)).machines in
+    let keys = map (cell_of l.column) (raw_of (tables_of l.file)).machines in
     record {
       from : 1 ≤ l.first;
       forward : l.first ≤ l.end;

@@ -1,18 +1,19 @@
-use Rattle.std.proofs.Common.{◌-◌, ◌/◌, ◌+◌, length, map, arith, sym}
+use Rattle.std.proofs.Common.{◌-◌, ◌/◌, ◌+◌, length, map, arith, sym, ◌∙◌}
 use Rattle.ppdb_tables.specs.RawOf.{raw_of}
 use Rattle.ppdb_verify.specs.Views.{tables_of}
 use Rattle.std.proofs.lemmas.List.{length-map}
 use Rattle.ppdb_queries.proofs.Powers.{within_digits}
 use Rattle.ppdb_queries.proofs.Searches.{unprobed}
+use Rattle.ppdb_queries.specs.Machines.{cell_of}
 use Rattle.ppdb_queries.proofs.Keys.{key_at}
 use Rattle.ppdb_queries.proofs.Searches.{all_below, all_above, probed}
-use Rattle.ppdb_queries.proofs.Filters.{rising_sorted, above_both, kickoff_found, kickoff_none}
-use Rattle.ppdb_queries.proofs.machines.kickoff_of.Goals as goal
+use Rattle.ppdb_queries.proofs.Filters.{rising_sorted, above_both, rising_found, rising_none}
+use Rattle.ppdb_queries.proofs.machines.machine_with.Goals as goal
 
 pub halves-init : goal.halves-init
 halves-init g c =
     let shape = c.keeps.ensures.rules.shape.machines in
-    let len = length-map (raw_of (tables_of c.args.file.now)).machines (λ machine. machine.move_next) in
+    let len = length-map (raw_of (tables_of c.args.file.now)).machines (cell_of c.args.column) in
     let rows = c.count-end.ensures.rows in
     record {
       from = omega arith;
@@ -24,31 +25,31 @@ halves-init g c =
       halved = unprobed (length (raw_of (tables_of c.args.file.now)).machines) c.args.steps.now _ (omega (arith, shape, rows));
     }
 
-pub returns-then-machine-method-clause-found : goal.returns-then-machine-method-clause-found
-returns-then-machine-method-clause-found g c =
-    kickoff_found (raw_of (tables_of c.args.file.now)).machines c.args.method (c.halves.first + (c.halves.end - c.halves.first) / 2) c.machine-machine.result
-    c.keeps.ensures.rules.machines.by_move_next (omega arith) (omega arith) c.machine-machine.ensures.row c.if-machine-method.true
+pub returns-then-found-method-clause-found : goal.returns-then-found-method-clause-found
+returns-then-found-method-clause-found g c =
+    rising_found (cell_of c.args.column) (raw_of (tables_of c.args.file.now)).machines c.args.method (c.halves.first + (c.halves.end - c.halves.first) / 2)
+    c.machine-machine.result c.requires (omega arith) (omega arith) c.machine-machine.ensures.row (sym c.cell-found.ensures ∙ c.if-found-method.true)
 
-pub returns-then-machine-method-clause-cost : goal.returns-then-machine-method-clause-cost
-returns-then-machine-method-clause-cost g c =
+pub returns-then-found-method-clause-cost : goal.returns-then-found-method-clause-cost
+returns-then-found-method-clause-cost g c =
     let probe = probed _ _ _ _ _ 0 c.halves.invariant.halved c.machine-machine.ensures.step (omega arith) (omega arith) (omega arith) in
     let h = within_digits (c.machine-machine.new.steps - c.args.steps.now) (length (raw_of (tables_of c.args.file.now)).machines) probe.cost in
     omega (arith, h)
 
-pub halves-preserved-then-machine-method-2 : goal.halves-preserved-then-machine-method-2
-halves-preserved-then-machine-method-2 g c =
+pub halves-preserved-then-found-method-2 : goal.halves-preserved-then-found-method-2
+halves-preserved-then-found-method-2 g c =
     let machines = (raw_of (tables_of c.args.file.now)).machines in
-    let keys = map (λ machine. machine.move_next) machines in
-    let len = length-map machines (λ machine. machine.move_next) in
+    let keys = map (cell_of c.args.column) machines in
+    let len = length-map machines (cell_of c.args.column) in
     let middle = c.halves.first + (c.halves.end - c.halves.first) / 2 in
-    let at = key_at (λ machine. machine.move_next) machines middle c.machine-machine.result c.machine-machine.ensures.row in
-    let sorted = rising_sorted keys c.keeps.ensures.rules.machines.by_move_next in
+    let at = key_at (cell_of c.args.column) machines middle c.machine-machine.result c.machine-machine.ensures.row in
+    let sorted = rising_sorted keys c.requires in
     record {
       from = omega arith;
       forward = omega arith;
       to = c.halves.invariant.to;
       below =
-          all_below keys c.args.method middle c.machine-machine.result.move_next sorted (sym at) (omega arith) (omega (arith, len)) c.if-machine-method-2.true;
+          all_below keys c.args.method middle c.cell-found.result sorted (c.cell-found.ensures ∙ sym at) (omega arith) (omega (arith, len)) c.if-found-method-2.true;
       above = c.halves.invariant.above;
       later = omega arith;
       halved = probed _ _ _ _ _ _ c.halves.invariant.halved c.machine-machine.ensures.step (omega arith) (omega arith) (omega arith);
@@ -57,24 +58,24 @@ halves-preserved-then-machine-method-2 g c =
 pub halves-preserved : goal.halves-preserved
 halves-preserved g c =
     let machines = (raw_of (tables_of c.args.file.now)).machines in
-    let keys = map (λ machine. machine.move_next) machines in
-    let len = length-map machines (λ machine. machine.move_next) in
+    let keys = map (cell_of c.args.column) machines in
+    let len = length-map machines (cell_of c.args.column) in
     let middle = c.halves.first + (c.halves.end - c.halves.first) / 2 in
-    let at = key_at (λ machine. machine.move_next) machines middle c.machine-machine.result c.machine-machine.ensures.row in
-    let sorted = rising_sorted keys c.keeps.ensures.rules.machines.by_move_next in
+    let at = key_at (cell_of c.args.column) machines middle c.machine-machine.result c.machine-machine.ensures.row in
+    let sorted = rising_sorted keys c.requires in
     record {
       from = omega arith;
       forward = omega arith;
       to = omega arith;
       below = c.halves.invariant.below;
-      above = all_above keys (c.args.method + 1) middle c.machine-machine.result.move_next sorted (sym at) (omega arith) (omega (arith, len))
-          (above_both c.if-machine-method.false c.if-machine-method-2.false);
+      above = all_above keys (c.args.method + 1) middle c.cell-found.result sorted (c.cell-found.ensures ∙ sym at) (omega arith) (omega (arith, len))
+          (above_both c.if-found-method.false c.if-found-method-2.false);
       later = omega arith;
       halved = probed _ _ _ _ _ _ c.halves.invariant.halved c.machine-machine.ensures.step (omega arith) (omega arith) (omega arith);
     }
 
 pub returns-clause-found : goal.returns-clause-found
-returns-clause-found g c = kickoff_none (raw_of (tables_of c.args.file.now)).machines c.args.method c.halves.first c.halves.end c.halves-test.false
+returns-clause-found g c = rising_none (cell_of c.args.column) (raw_of (tables_of c.args.file.now)).machines c.args.method c.halves.first c.halves.end c.halves-test.false
     c.halves.invariant.below c.halves.invariant.above
 
 pub returns-clause-cost : goal.returns-clause-cost
