@@ -1,9 +1,7 @@
 -- The rows that are read for an answer, and what is shown.
-use Rattle.std.proofs.Common.{ℕ, suc, ◌+◌, ◌*◌, ◌≤◌, List, [], ◌∷◌, length, arith, Bool, true, false, cond}
-use Rattle.std.specs.Prelude.{◌^◌, nat_le}
-use Rattle.std.specs.List.{sum_by, filter, range_with_len}
+use Rattle.std.proofs.Common.{ℕ, ◌+◌, ◌*◌, ◌≤◌, List, [], ◌∷◌, length, arith}
+use Rattle.std.specs.List.{sum_by}
 use Rattle.std.proofs.Math.Nat.{mul-add, mul-le-mul_right}
-use Rattle.std.proofs.lemmas.List.FromFn.{length-range_with_len}
 use Rattle.ppdb_tables.specs.RawTables.{RawTables}
 use Rattle.ppdb_queries.specs.declared.scopes.ScopeView.{ScopeView}
 use Rattle.ppdb_queries.specs.Digits.{digits}
@@ -11,24 +9,8 @@ use Rattle.ppdb_queries.specs.Scopes.{scopes_at, scope_count}
 use Rattle.ppdb_show.specs.Bound.{with_customs, all_with_customs, shown_of_scope, query_rows}
 use Rattle.ppdb_show.specs.Query.{customs_on, variables_of, constants_of, imports_of}
 use Rattle.ppdb_show.specs.QueryWalk.{customs_reads, item_reads, items_reads, scope_reads, scopes_reads}
+use Rattle.ppdb_queries.proofs.Powers.{digits_most}
 use Rattle.ppdb_show.proofs.Added.{sum_first}
-
-filter_most : {X : Type 0} (p : X → Bool) (xs : List X) → length (filter p xs) ≤ length xs
-filter_most p [] = omega arith
-filter_most p (x ∷ xs) =
-    let more = filter_most p xs in
-    elim (p x) as (λ b. length (cond b (x ∷ filter p xs) (filter p xs)) ≤ suc (length xs)) [
-      | true ↦ omega (arith, more)
-      | false ↦ omega (arith, more)
-    ]
-
--- a number has no more digits than it counts
-digits_most : (n : ℕ) → digits n ≤ n
-unfolding digits
-digits_most n =
-    let most = filter_most (λ d. nat_le (2 ^ d) n) (range_with_len 0 n) in
-    let len = length-range_with_len 0 n in
-    omega (arith, most, len)
 
 sum_most : {X : Type 0} (k : ℕ) (f g : X → ℕ) → ((x : X) → f x ≤ k * g x) → (xs : List X) → sum_by f xs ≤ k * sum_by g xs
 sum_most k f g each [] = omega arith

@@ -1,5 +1,6 @@
 pub mod Bound
 pub mod Lookup
+pub mod Noted
 pub mod Query
 pub mod QueryWalk
 pub mod Show

@@ -7,9 +7,11 @@ ghost use Rattle.ppdb_queries_list.specs.declared.line.MethodOffset.{MethodOffse
 ghost use Rattle.ppdb_show_lines.specs.Forms.{lines_as};
 ghost use Rattle.ppdb_show.specs.Bound.{query_rows};
 ghost use Rattle.ppdb_show.specs.Lookup.{answer_lines, at_line, no_method_line, lookup_rows, lookup_text_of};
+ghost use Rattle.ppdb_show.specs.Noted.{AreNotes};
 ghost use Rattle.ppdb_verify.specs.Views.{raw_file};
 
-use crate::query::{QueryError, put_query};
+use crate::query::notes::Notes;
+use crate::query::{QueryError, put_noted_query};
 use ppdb_base::{Sink, Steps, WriteError};
 use ppdb_queries_list::{MethodOffset, Said, first_line, read_line};
 use ppdb_show_lines::Item::Number;
@@ -46,15 +48,18 @@ fn put_one<O: Sink, L: Ledger>(
     printer: Printer<'_>,
     file: &Verified<'_>,
     at: MethodOffset,
+    notes: &mut Notes,
     out: &mut O,
     steps: &mut Steps<L>,
 ) -> Result<(), WriteError>
+    requires known { AreNotes printer.form (raw_file file.now).tables notes.old }
+    ensures known { AreNotes printer.entry.form (raw_file file.now).tables notes.new }
     ensures puts { Puts result (O.written out.old) (O.written out.new) (O.faults out.old) (O.faults out.new)
         (lines_as printer.entry.form (answer_lines (raw_file file.now) at)) }
     ensures cost { steps.new ≤ steps.old + query_rows (raw_file file.now).tables at.method at.offset }
 {
     put_at(printer, out, at)?;
-    match put_query(printer, file, at.method, at.offset, out, steps) {
+    match put_noted_query(printer, file, at.method, at.offset, notes, out, steps) {
         Ok(()) => Ok(()),
         Err(QueryError::NoMethod) => put_no_method(printer, out, at.method),
         Err(QueryError::Failed) => Err(WriteError::Failed),
@@ -80,11 +85,12 @@ pub fn put_lookup<O: Sink, L: Ledger>(
         (lookup_text_of printer.entry.form (raw_file file.now) asked) }
     ensures cost { (asked : List Asked) → Lists (lines list.now) asked → steps.new ≤ steps.old + lookup_rows (raw_file file.now).tables asked }
 {
+    let mut notes = Notes::new(printer.alloc);
     let mut rest = list;
     'lines: while !rest.is_empty() {
         let (line, others) = first_line(rest);
         match read_line(line) {
-            Some(Said::Asks(at)) => put_one(printer, file, at, out, steps)?,
+            Some(Said::Asks(at)) => put_one(printer, file, at, &mut notes, out, steps)?,
             Some(Said::Nothing) => {}
             None => unreachable!(),
         }

@@ -9,6 +9,7 @@ ghost use Rattle.ppdb_queries.specs.Points.{PointIs};
 ghost use Rattle.ppdb_queries.specs.Runs.{IsNoMethod};
 ghost use Rattle.ppdb_show_lines.specs.declared.form.Form.TheVariants.{Text};
 ghost use Rattle.ppdb_show.specs.Bound.{query_rows};
+ghost use Rattle.ppdb_show.specs.Noted.{AreNotes};
 ghost use Rattle.ppdb_show.specs.Query.{query_lines, query_text_of};
 ghost use Rattle.ppdb_show.specs.QueryWalk.{Adds};
 
@@ -17,6 +18,7 @@ mod hoisted;
 mod imports;
 mod items;
 mod links;
+pub(crate) mod notes;
 mod point;
 mod records;
 mod scopes;
@@ -24,6 +26,7 @@ mod text;
 
 use crate::query::hoisted::put_hoisted;
 use crate::query::links::put_links;
+use crate::query::notes::Notes;
 use crate::query::point::put_point;
 use crate::query::records::put_records;
 use crate::query::scopes::put_scopes;
@@ -54,19 +57,74 @@ fn put_answer<L: Ledger>(
     method: u32,
     offset: u32,
     found: &Option<PointAt<'_>>,
+    notes: &mut Notes,
     steps: &mut Steps<L>,
 ) -> Result<(), Memory>
     requires there { HasRow (raw_of (tables_of file.now)) 0x06 method }
     requires point { PointIs (raw_file file.now) method offset found.now }
+    requires known { AreNotes printer.form (raw_of (tables_of file.now)) notes.old }
+    ensures known { AreNotes printer.entry.form (raw_of (tables_of file.now)) notes.new }
     ensures ok { OnOk result (Adds printer.entry.form text.old text.new (query_lines (raw_file file.now) method offset)) }
     ensures cost { steps.new + 2 ≤ steps.old + query_rows (raw_of (tables_of file.now)) method offset }
 {
     file.keeps();
     put_point(printer, text, file, found, steps)?;
-    put_scopes(printer, text, file, method, offset, steps)?;
+    put_scopes(
+        printer,
+        text,
+        file,
+        method,
+        offset,
+        &mut notes.imports,
+        steps,
+    )?;
     put_hoisted(printer, text, file, method, offset, steps)?;
-    put_links(printer, text, file, method, steps)?;
+    put_links(printer, text, file, method, &mut notes.kickoffs, steps)?;
     put_records(printer, text, file, method, steps)
+}
+
+/// Puts what belongs to an offset of a method, by what the answers before it noted of the same file.
+///
+/// # Errors
+///
+/// The method is 0 or above the rows of MethodDef, and nothing was put; or the sink failed, or there was no memory left, and a
+/// prefix of the text was put.
+#[tactic(auto, unfolding(crate::specs::Query::query_text_of))]
+pub(crate) fn put_noted_query<O: Sink, L: Ledger>(
+    printer: Printer<'_>,
+    file: &Verified<'_>,
+    method: u32,
+    offset: u32,
+    notes: &mut Notes,
+    out: &mut O,
+    steps: &mut Steps<L>,
+) -> Result<(), QueryError>
+    requires known { AreNotes printer.form (raw_of (tables_of file.now)) notes.old }
+    ensures known { AreNotes printer.entry.form (raw_of (tables_of file.now)) notes.new }
+    ensures none { IsErrOf result QueryError.NoMethod ↔ IsNoMethod (raw_of (tables_of file.now)) method }
+    ensures nothing { IsErrOf result QueryError.NoMethod → O.written out.new ≡ O.written out.old }
+    ensures ok { OnOk result (O.written out.new ≡ appended (O.written out.old) (query_text_of printer.entry.form (raw_file file.now) method offset)) }
+    ensures err { OnErr result (AppendsPrefix (O.written out.old) (O.written out.new) (query_text_of printer.entry.form (raw_file file.now) method offset)) }
+    ensures failed { IsErrOf result QueryError.Failed → Rose (O.faults out.old) (O.faults out.new) }
+    ensures later { O.faults out.old ≤ O.faults out.new }
+    ensures cost { steps.new ≤ steps.old + query_rows (raw_of (tables_of file.now)) method offset }
+{
+    let Ok(found) = point_at(file, method, offset, steps) else {
+        return Err(QueryError::NoMethod);
+    };
+    let mut text = SteadySink::new(printer.alloc);
+    if put_answer(
+        printer, &mut text, file, method, offset, &found, notes, steps,
+    )
+    .is_err()
+    {
+        return Err(QueryError::Memory);
+    }
+    match out.put(text.as_slice()) {
+        Ok(()) => Ok(()),
+        Err(WriteError::Failed) => Err(QueryError::Failed),
+        Err(WriteError::Memory) => Err(QueryError::Memory),
+    }
 }
 
 /// Puts what belongs to an offset of a method: its last sequence point that is not after the offset, the scopes that hold it
@@ -77,7 +135,6 @@ fn put_answer<L: Ledger>(
 ///
 /// The method is 0 or above the rows of MethodDef, and nothing was put; or the sink failed, or there was no memory left, and a
 /// prefix of the text was put.
-#[tactic(auto, unfolding(crate::specs::Query::query_text_of))]
 pub fn put_query<O: Sink, L: Ledger>(
     printer: Printer<'_>,
     file: &Verified<'_>,
@@ -94,18 +151,8 @@ pub fn put_query<O: Sink, L: Ledger>(
     ensures later { O.faults out.old ≤ O.faults out.new }
     ensures cost { steps.new ≤ steps.old + query_rows (raw_of (tables_of file.now)) method offset }
 {
-    let Ok(found) = point_at(file, method, offset, steps) else {
-        return Err(QueryError::NoMethod);
-    };
-    let mut text = SteadySink::new(printer.alloc);
-    if put_answer(printer, &mut text, file, method, offset, &found, steps).is_err() {
-        return Err(QueryError::Memory);
-    }
-    match out.put(text.as_slice()) {
-        Ok(()) => Ok(()),
-        Err(WriteError::Failed) => Err(QueryError::Failed),
-        Err(WriteError::Memory) => Err(QueryError::Memory),
-    }
+    let mut notes = Notes::new(printer.alloc);
+    put_noted_query(printer, file, method, offset, &mut notes, out, steps)
 }
 
 /// Puts what belongs to an offset of a method, as the command `query` does.

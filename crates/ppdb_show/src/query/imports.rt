@@ -7,11 +7,13 @@ ghost use Rattle.ppdb_values.specs.Imports.{import_value};
 ghost use Rattle.ppdb_values.specs.Rules.{HasRow, HasRowOrNone};
 ghost use Rattle.ppdb_verify.specs.Views.{tables_of};
 ghost use Rattle.ppdb_show_lines.specs.Uses.{use_line};
+ghost use Rattle.ppdb_show.specs.Noted.{IsNotedText};
 ghost use Rattle.ppdb_show.specs.Query.{import_answer};
 ghost use Rattle.ppdb_show.specs.QueryWalk.{Adds, customs_reads, items_reads, lines_of_link};
 
 use crate::query::customs::put_customs;
-use crate::query::text::{put_import_line, put_line};
+use crate::query::notes::NotedText;
+use crate::query::text::{put_import_line, put_line, put_text};
 use ppdb_base::{Memory, SteadySink, Steps};
 use ppdb_queries::{ImportLink, imports_of};
 use ppdb_show_lines::Item::Number;
@@ -86,5 +88,31 @@ pub(crate) fn put_imports<L: Ledger>(
     'chain: while let Some(link) = chain.next(steps) {
         put_import(printer, text, file, link, steps)?;
     }
+    Ok(())
+}
+
+/// Puts the lines of an import scope, of its parent, and so on: as they were put before, where they are noted.
+pub(crate) fn put_noted_imports<L: Ledger>(
+    printer: Printer<'_>,
+    text: &mut SteadySink,
+    file: &Verified<'_>,
+    import: u32,
+    noted: &mut NotedText,
+    steps: &mut Steps<L>,
+) -> Result<(), Memory>
+    requires there { HasRowOrNone (raw_of (tables_of file.now)) 0x35 import }
+    requires known { IsNotedText printer.form (raw_of (tables_of file.now)) noted.old }
+    ensures known { IsNotedText printer.entry.form (raw_of (tables_of file.now)) noted.new }
+    ensures ok { OnOk result (Adds printer.entry.form text.old text.new (flat_map (import_answer (raw_of (tables_of file.now)))
+        (chain_of (λ scope. scope.parent) (raw_of (tables_of file.now)).imports import))) }
+    ensures later { steps.old ≤ steps.new }
+    ensures cost { steps.new ≤ steps.old + items_reads (raw_of (tables_of file.now)) 0x35 (chain_of (λ scope. scope.parent) (raw_of (tables_of file.now)).imports import) }
+{
+    if noted.import == import {
+        return put_text(text, noted.text.as_slice());
+    }
+    let start = text.as_slice().len();
+    put_imports(printer, text, file, import, steps)?;
+    noted.note(printer.alloc, import, &text.as_slice()[start..]);
     Ok(())
 }

@@ -4,13 +4,14 @@ ghost use Rattle.ppdb_tables.specs.RawOf.{raw_of};
 ghost use Rattle.ppdb_values.specs.Rules.{HasRow};
 ghost use Rattle.ppdb_verify.specs.Views.{tables_of, raw_file};
 ghost use Rattle.ppdb_queries.specs.Digits.{digits};
+ghost use Rattle.ppdb_queries.specs.Machines.{IsOrderOf};
 ghost use Rattle.ppdb_show_lines.specs.Tokens.{IsKeyOrder};
 ghost use Rattle.ppdb_show.specs.Query.{entry_lines, link_line, links_to, link_lines};
 ghost use Rattle.ppdb_show.specs.QueryWalk.{Adds};
 
 use crate::query::text::put_line;
 use ppdb_base::{Memory, SteadySink, Steps};
-use ppdb_queries::{kickoff_of, move_next_of};
+use ppdb_queries::{KickoffOrder, kickoff_of, move_next_by};
 use ppdb_show_lines::Item::Number;
 use ppdb_show_lines::Part::Field;
 use ppdb_show_lines::{Key, Printer};
@@ -56,9 +57,12 @@ pub(crate) fn put_links<L: Ledger>(
     text: &mut SteadySink,
     file: &Verified<'_>,
     method: u32,
+    kickoffs: &mut KickoffOrder,
     steps: &mut Steps<L>,
 ) -> Result<(), Memory>
-    requires { HasRow (raw_of (tables_of file.now)) 0x06 method }
+    requires there { HasRow (raw_of (tables_of file.now)) 0x06 method }
+    requires known { IsOrderOf (raw_of (tables_of file.now)).machines kickoffs.old }
+    ensures known { IsOrderOf (raw_of (tables_of file.now)).machines kickoffs.new }
     ensures ok { OnOk result (Adds printer.entry.form text.old text.new (link_lines (raw_file file.now) method)) }
     ensures later { steps.old ≤ steps.new }
     ensures cost { steps.new ≤ steps.old + (digits (length (raw_of (tables_of file.now)).machines) + length (raw_of (tables_of file.now)).machines) }
@@ -68,7 +72,7 @@ pub(crate) fn put_links<L: Ledger>(
         unreachable!()
     };
     put_method(printer, text, "kickoff", &[1, 0], kickoff)?;
-    let Ok(move_next) = move_next_of(file, method, steps) else {
+    let Ok(move_next) = move_next_by(file, method, kickoffs, steps) else {
         unreachable!()
     };
     put_method(printer, text, "move", &[0, 1], move_next)

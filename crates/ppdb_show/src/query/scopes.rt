@@ -3,12 +3,14 @@ ghost use Rattle.std.specs.Prelude.{◌+◌, ◌≤◌, OnOk};
 ghost use Rattle.ppdb_tables.specs.RawOf.{raw_of};
 ghost use Rattle.ppdb_values.specs.Rules.{HasRow};
 ghost use Rattle.ppdb_verify.specs.Views.{tables_of};
+ghost use Rattle.ppdb_show.specs.Noted.{IsNotedText};
 ghost use Rattle.ppdb_show.specs.Query.{scope_answer, scopes_found};
 ghost use Rattle.ppdb_show.specs.QueryWalk.{Adds, IsViewOf, scope_reads, scopes_reads};
 
 use crate::query::customs::put_customs;
-use crate::query::imports::put_imports;
+use crate::query::imports::put_noted_imports;
 use crate::query::items::{put_constants, put_variables};
+use crate::query::notes::NotedText;
 use crate::query::text::put_line;
 use ppdb_base::{Memory, SteadySink, Steps};
 use ppdb_queries::{ScopeView, scopes_at};
@@ -25,9 +27,12 @@ fn put_scope<L: Ledger>(
     text: &mut SteadySink,
     file: &Verified<'_>,
     scope: ScopeView,
+    noted: &mut NotedText,
     steps: &mut Steps<L>,
 ) -> Result<(), Memory>
-    requires { IsViewOf (raw_of (tables_of file.now)) scope }
+    requires view { IsViewOf (raw_of (tables_of file.now)) scope }
+    requires known { IsNotedText printer.form (raw_of (tables_of file.now)) noted.old }
+    ensures known { IsNotedText printer.entry.form (raw_of (tables_of file.now)) noted.new }
     ensures ok { OnOk result (Adds printer.entry.form text.old text.new (scope_answer (raw_of (tables_of file.now)) scope)) }
     ensures later { steps.old ≤ steps.new }
     ensures cost { steps.new ≤ steps.old + scope_reads (raw_of (tables_of file.now)) scope }
@@ -45,7 +50,7 @@ fn put_scope<L: Ledger>(
     put_customs(printer, text, file, parent, steps)?;
     put_variables(printer, text, file, scope.variables, steps)?;
     put_constants(printer, text, file, scope.constants, steps)?;
-    put_imports(printer, text, file, scope.import, steps)
+    put_noted_imports(printer, text, file, scope.import, noted, steps)
 }
 
 /// Puts the lines of the scopes of a method that hold an offset.
@@ -55,9 +60,12 @@ pub(crate) fn put_scopes<L: Ledger>(
     file: &Verified<'_>,
     method: u32,
     offset: u32,
+    noted: &mut NotedText,
     steps: &mut Steps<L>,
 ) -> Result<(), Memory>
-    requires { HasRow (raw_of (tables_of file.now)) 0x06 method }
+    requires there { HasRow (raw_of (tables_of file.now)) 0x06 method }
+    requires known { IsNotedText printer.form (raw_of (tables_of file.now)) noted.old }
+    ensures known { IsNotedText printer.entry.form (raw_of (tables_of file.now)) noted.new }
     ensures ok { OnOk result (Adds printer.entry.form text.old text.new (scopes_found (raw_of (tables_of file.now)) method offset)) }
     ensures later { steps.old ≤ steps.new }
     ensures cost { steps.new ≤ steps.old + scopes_reads (raw_of (tables_of file.now)) method offset }
@@ -66,7 +74,7 @@ pub(crate) fn put_scopes<L: Ledger>(
         unreachable!()
     };
     'scopes: while let Some(scope) = scopes.next(steps) {
-        put_scope(printer, text, file, scope, steps)?;
+        put_scope(printer, text, file, scope, noted, steps)?;
     }
     Ok(())
 }

@@ -1,5 +1,5 @@
 // The text of an answer, line by line.
-ghost use Rattle.std.specs.Prelude.{[], ◌∷◌, OnOk};
+ghost use Rattle.std.specs.Prelude.{◌≡◌, [], ◌∷◌, ◌++◌, OnOk};
 ghost use Rattle.type_blobs.specs.ImportReading.{shown};
 ghost use Rattle.ppdb_values.specs.Imports.{import_value};
 ghost use Rattle.ppdb_show_lines.specs.Tokens.{IsKeyOrder};
@@ -7,9 +7,19 @@ ghost use Rattle.ppdb_show_lines.specs.Uses.{use_line};
 ghost use Rattle.ppdb_show_lines.specs.Views.{line_of};
 ghost use Rattle.ppdb_show.specs.QueryWalk.{Adds};
 
-use ppdb_base::{Memory, SteadySink};
+use ppdb_base::{Memory, Sink, SteadySink};
 use ppdb_show_lines::{Part, Printer, put_use};
 use type_blobs::Import;
+
+/// Puts lines that are noted after the text.
+pub(crate) fn put_text(text: &mut SteadySink, lines: &[u8]) -> Result<(), Memory>
+    ensures { OnOk result (text.new ≡ text.old ++ lines.now) }
+{
+    if text.put(lines).is_err() {
+        return Err(Memory);
+    }
+    Ok(())
+}
 
 /// Puts a line after the text. The order is that of its keys in JSON.
 pub(crate) fn put_line(

@@ -4,15 +4,19 @@ use Rattle.std.specs.Str.Lines.{lines}
 use Rattle.ppdb_queries_list.specs.Lists.{Lists}
 use Rattle.ppdb_queries_list.specs.declared.line.MethodOffset.{MethodOffset}
 use Rattle.ppdb_verify.specs.Views.{raw_file}
+use Rattle.ppdb_show.specs.Noted.{AreNotes}
 use Rattle.ppdb_show.proofs.Looked.{Left}
 use Rattle.ppdb_show.proofs.lookup.put_lookup.Given as goal
 
 abbrev pub invariant-lines : goal.invariant-lines
 invariant-lines g l =
     let sink = g.O.Sink in
-    (all : List MethodOffset) → Lists (lines l.list) all
-    → Left l.printer.form (raw_file l.file) all (lines l.rest) (sink.written l.fn.out) (sink.written l.out) (sink.faults l.fn.out) (sink.faults l.out)
-    l.fn.steps l.steps
+    record {
+      left : (all : List MethodOffset) → Lists (lines l.list) all
+          → Left l.printer.form (raw_file l.file) all (lines l.rest) (sink.written l.fn.out) (sink.written l.out) (sink.faults l.fn.out) (sink.faults l.out)
+          l.fn.steps l.steps;
+      known : AreNotes l.printer.form (raw_file l.file).tables l.notes;
+    }
 
 abbrev pub decreases-lines : goal.decreases-lines
 decreases-lines g l = length l.rest

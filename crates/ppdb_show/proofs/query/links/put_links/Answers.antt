@@ -8,4 +8,4 @@ pub returns-clause-ok : goal.returns-clause-ok
 returns-clause-ok g c =
     then_ok c.args.printer.form _ _ _ _ _ _
     (adds_same c.args.printer.form _ _ _ _ (ap (λ (head : PdbHead). entry_lines (head.entry == c.args.method)) c.head.ensures.head) c.in_ok-put_entry.ensures)
-    (then_ok c.args.printer.form _ _ _ _ _ _ (rw c.in-Ok.ensures.found at c.in_ok-put_method.ensures) (rw c.in-Ok-move_next_of.ensures.found at c.put_method-2.ensures))
+    (then_ok c.args.printer.form _ _ _ _ _ _ (rw c.in-Ok.ensures.found at c.in_ok-put_method.ensures) (rw c.in-Ok-move_next_by.ensures.found at c.put_method-2.ensures))

@@ -17,10 +17,11 @@ scopes-init g c =
       each = rw c.in-Ok.ensures.scopes (views_there raw c.args.method c.args.offset);
       walk = walk_none _ _ _ _ _ _ _ c.in-Ok.ensures.scopes (omega (arith, rows, cost));
       later = omega (arith, later);
+      known = c.requires.known;
     }
 
-pub put_scope-requires : goal.put_scope-requires
-put_scope-requires g c =
+pub put_scope-requires-clause-view : goal.put_scope-requires-clause-view
+put_scope-requires-clause-view g c =
     let raw = raw_of (tables_of c.args.file.now) in
     each_first (IsViewOf raw) _ _ _ (given_next c.scopes.scopes.items c.next.new.self.items c.in-Some.scope c.next.result c.next.ensures.answer c.in-Some.is
     c.next.ensures.left) c.scopes.invariant.each
@@ -35,6 +36,7 @@ scopes-preserved g c =
       each = each_rest (IsViewOf raw) _ _ _ e c.scopes.invariant.each;
       walk = walk_next _ _ _ _ _ c.in-Some.scope _ _ _ _ _ _ c.scopes.invariant.walk e c.in_ok-put_scope.ensures.ok (omega (arith, cost));
       later = omega (arith, later);
+      known = c.in_ok-put_scope.ensures.known;
     }
 
 pub returns-in_err-put_scope-clause-cost : goal.returns-in_err-put_scope-clause-cost

@@ -3,6 +3,7 @@ use Rattle.ppdb_tables.specs.RawOf.{raw_of}
 use Rattle.ppdb_verify.specs.Views.{tables_of}
 use Rattle.ppdb_queries.specs.Digits.{digits}
 use Rattle.ppdb_queries.specs.Scopes.{scopes_at, scope_count}
+use Rattle.ppdb_show.specs.Noted.{IsNotedText}
 use Rattle.ppdb_show.specs.Query.{scope_answer}
 use Rattle.ppdb_show.specs.QueryWalk.{IsViewOf, Walked, scope_reads}
 use Rattle.ppdb_show.proofs.Given.{Each}
@@ -16,6 +17,7 @@ invariant-scopes g l =
       walk : Walked l.printer.form (scope_answer raw) (scope_reads raw) (scopes_at raw l.method l.offset) l.scopes.items l.fn.text l.text
           (l.fn.steps + (2 * digits (length raw.scopes) + 2 * scope_count raw l.method)) (l.steps + 2 * l.scopes.rows);
       later : l.fn.steps ≤ l.steps;
+      known : IsNotedText l.printer.form raw l.noted;
     }
 
 abbrev pub decreases-scopes : goal.decreases-scopes

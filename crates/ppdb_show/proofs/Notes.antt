@@ -1,0 +1,34 @@
+-- What the answers about one file note for one another.
+use Rattle.std.proofs.Common.{◌≡◌, ℕ, List, [], ◌++◌, sym, ap, ◌∙◌}
+use Rattle.std.specs.Prelude.{Result, Ok, Err, OnOk}
+use Rattle.std.specs.List.{flat_map}
+use Rattle.ppdb_tables.specs.RawTables.{RawTables}
+use Rattle.ppdb_queries.proofs.Chained.{chain_zero}
+use Rattle.ppdb_queries.specs.declared.machines.KickoffOrder.TheVariants.{Unread}
+use Rattle.ppdb_show_lines.specs.declared.form.Form.{Form}
+use Rattle.ppdb_show_lines.specs.Forms.{lines_as}
+use Rattle.ppdb_show_lines.proofs.Texts.{no_lines}
+use Rattle.ppdb_show.specs.declared.query.notes.NotedText.{NotedText}
+use Rattle.ppdb_show.specs.declared.query.notes.Notes.{Notes}
+use Rattle.ppdb_show.specs.Noted.{AreNotes, IsNotedText, lines_of_chain}
+use Rattle.ppdb_show.specs.Query.{import_answer}
+use Rattle.ppdb_show.specs.QueryWalk.{Adds}
+
+no_chain : (raw : RawTables) → lines_of_chain raw 0 ≡ []
+no_chain raw = ap (flat_map (import_answer raw)) (chain_zero (λ scope. scope.parent) raw.imports)
+
+-- nothing is noted
+pub new_notes : (form : Form) (raw : RawTables) (notes : Notes) → notes.kickoffs ≡ Unread → notes.imports.import ≡ 0 → notes.imports.text ≡ []
+    → AreNotes form raw notes
+new_notes form raw notes kickoffs import text = record {
+  kickoffs = rw kickoffs tt;
+  imports = text ∙ sym (no_lines form) ∙ ap (lines_as form) (sym (no_chain raw)) ∙ ap (λ (row : ℕ). lines_as form (lines_of_chain raw row)) (sym import);
+}
+
+-- lines that are noted are put again
+pub put_again : {T E : Type 0} (form : Form) (raw : RawTables) (noted : NotedText) (import : ℕ) (r : Result T E) (old new content : List ℕ)
+    → IsNotedText form raw noted → noted.import ≡ import → content ≡ noted.text → OnOk r (new ≡ old ++ content)
+    → OnOk r (Adds form old new (lines_of_chain raw import))
+put_again form raw noted import (Ok x) old new content known same is put =
+    put ∙ ap (λ (text : List ℕ). old ++ text) (is ∙ known ∙ ap (λ (row : ℕ). lines_as form (lines_of_chain raw row)) same)
+put_again form raw noted import (Err e) old new content known same is put = tt

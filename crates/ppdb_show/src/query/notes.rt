@@ -1,0 +1,64 @@
+// What the answer to one question notes for the next about the same file.
+ghost use Rattle.std.specs.Prelude.{◌≡◌, [], ◌⊎◌};
+ghost use Rattle.ppdb_queries.specs.declared.machines.KickoffOrder.TheVariants.{Unread};
+
+use ppdb_base::{Bytes, List};
+use ppdb_queries::KickoffOrder;
+use std::alloc::Global;
+
+/// How many bytes of lines are noted at most, so that the notes need little memory.
+const MAX_NOTED: usize = 16384;
+
+/// The lines of an import scope and of its parents, which the answers to most questions about methods of one source file repeat.
+#[derive(Drop)]
+pub(crate) struct NotedText {
+    /// The row of ImportScope, or 0.
+    pub(crate) import: u32,
+    pub(crate) text: Bytes,
+}
+
+impl NotedText {
+    /// The lines of no import scope.
+    fn new(alloc: Global) -> NotedText
+        ensures import { result.import ≡ 0 }
+        ensures text { result.text ≡ [] }
+    {
+        NotedText {
+            import: 0,
+            text: List::new(alloc),
+        }
+    }
+
+    /// Notes the lines of an import scope, unless they are long or there is no memory left.
+    pub(crate) fn note(&mut self, alloc: Global, import: u32, text: &[u8])
+        ensures { (self.new ≡ self.old) ⊎ ((self.new.import ≡ import) × (self.new.text ≡ text.now)) }
+    {
+        if text.len() > MAX_NOTED {
+            return;
+        }
+        if let Ok(text) = List::copied(alloc, text) {
+            *self = NotedText { import, text };
+        }
+    }
+}
+
+/// What one answer notes for the next.
+#[derive(Drop)]
+pub(crate) struct Notes {
+    pub(crate) kickoffs: KickoffOrder,
+    pub(crate) imports: NotedText,
+}
+
+impl Notes {
+    /// Nothing.
+    pub(crate) fn new(alloc: Global) -> Notes
+        ensures kickoffs { result.kickoffs ≡ Unread }
+        ensures import { result.imports.import ≡ 0 }
+        ensures text { result.imports.text ≡ [] }
+    {
+        Notes {
+            kickoffs: KickoffOrder::Unread,
+            imports: NotedText::new(alloc),
+        }
+    }
+}
