@@ -1,11 +1,7 @@
 -- Rows of StateMachineMethod by their two methods (Portable PDB v1.0, "StateMachineMethod Table").
-use Rattle.std.specs.Prelude.{map, ℕ, List, Option, Some, None, ◌==◌, if◌then◌else◌}
-use Rattle.ppdb_tables.specs.declared.rows.MachineRow.{MachineRow}
+use Rattle.ppdb_values.specs.Names.{map, ℕ, List, Option, Some, None, ◌==◌, if◌then◌else◌, MachineRow}
 use Rattle.ppdb_values.specs.Ordered.{Rises}
-use Rattle.ppdb_queries.specs.declared.machines.Column.{Column}
-use Rattle.ppdb_queries.specs.declared.machines.Column.TheVariants.{MoveNext, Kickoff}
-use Rattle.ppdb_queries.specs.declared.machines.KickoffOrder.{KickoffOrder}
-use Rattle.ppdb_queries.specs.declared.machines.KickoffOrder.TheVariants.{Unread, Rising, Mixed}
+use Rattle.ppdb_queries.specs.declared.machines.{Column.{Column, TheVariants.{MoveNext, Kickoff}}, KickoffOrder.{KickoffOrder, TheVariants.{Unread, Rising, Mixed}}}
 
 abbrev pub cell_of : Column → MachineRow → ℕ
 cell_of MoveNext machine = machine.move_next

@@ -12,14 +12,13 @@ use Rattle.ppdb_merge.specs.{declared.trace.Trace.Trace, Refusals.added, Togethe
 use Rattle.map_compose.specs.{Composed.composed, Sizes.{SizesAgree, IsFirstDiffering}}
 use Rattle.ppdb_maps_text.specs.MapTexts.{map_text}
 use Rattle.ppdb_maps.specs.{Map.Map, Text.{IsMapOf, Refused}}
-use Rattle.ppdb_run.specs.Sampled.{limit_of_sample, report_of}
 use Rattle.source_link.specs.declared.pair.Pair.{Pair}
 use Rattle.ppdb_show_sources.specs.{Links.{file_links, link_text}, Breaks.break_text}
 use Rattle.break_lines.specs.Breaks.{document_named}
 use Rattle.ppdb_build_canon.specs.{declared.choice.IdChoice.{IdChoice, TheVariants.{Hash, Keep}}, Canon.canon, Limits.first_limit}
 use Rattle.ppdb_values.specs.{declared.file.FileValue.FileValue, Value.value_of, RawFile.RawFile}
 use Rattle.ppdb_verify.specs.Files.{FileFaults, IsRawOf}
-use Rattle.ppdb_run.specs.Sample.{sample_text}
+use Rattle.ppdb_run.specs.{Sampled.{limit_of_sample, report_of}, Sample.sample_text}
 use Rattle.ppdb_run_stops.specs.declared.status.Status.TheVariants as statuses
 
 -- ---- steps, of which each may end a command by a refusal

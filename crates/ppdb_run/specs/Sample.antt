@@ -1,8 +1,8 @@
 -- The lines that say what a sample comes to.
 use Rattle.std.specs.Prelude.{ℕ, List, [], ◌∷◌, ◌++◌, codes}
 use Rattle.ppdb_run_stops.specs.Faults.{said}
-use Rattle.ppdb_run.specs.declared.report.SampleReport.{SampleReport}
 use Rattle.ppdb_show_lines.specs.Lines.{Content, Line, number, octets, text_of}
+use Rattle.ppdb_run.specs.declared.report.SampleReport.{SampleReport}
 
 -- words and what stands after them
 abbrev pub told_line : List ℕ → Content → Line

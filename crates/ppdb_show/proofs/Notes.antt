@@ -1,14 +1,12 @@
 -- What the answers about one file note for one another.
-use Rattle.std.proofs.Common.{◌≡◌, ℕ, ◌≤◌, List, [], ◌++◌, length, drop, sym, ap, ◌∙◌, arith, ◌⊎◌, inl, inr}
+use Rattle.std.proofs.Common.{◌≡◌, ℕ, List, [], ◌++◌, sym, ap, ◌∙◌}
 use Rattle.std.specs.Prelude.{Result, Ok, Err, OnOk}
 use Rattle.std.specs.List.{flat_map}
-use Rattle.std.proofs.lemmas.List.{drop_at, length-append}
 use Rattle.ppdb_tables.specs.RawTables.{RawTables}
 use Rattle.ppdb_queries.proofs.Chained.{chain_zero}
 use Rattle.ppdb_queries.specs.declared.machines.KickoffOrder.TheVariants.{Unread}
 use Rattle.ppdb_show_lines.specs.declared.form.Form.{Form}
 use Rattle.ppdb_show_lines.specs.Forms.{lines_as}
-use Rattle.ppdb_show_lines.specs.Lines.{Line}
 use Rattle.ppdb_show_lines.proofs.Texts.{no_lines}
 use Rattle.ppdb_show.specs.declared.query.notes.NotedText.{NotedText}
 use Rattle.ppdb_show.specs.declared.query.notes.Notes.{Notes}
@@ -34,17 +32,3 @@ pub put_again : {T E : Type 0} (form : Form) (raw : RawTables) (noted : NotedTex
 put_again form raw noted import (Ok x) old new content known same is put =
     put ∙ ap (λ (text : List ℕ). old ++ text) (is ∙ known ∙ ap (λ (row : ℕ). lines_as form (lines_of_chain raw row)) same)
 put_again form raw noted import (Err e) old new content known same is put = tt
-
--- the lines that were put after a text
-pub put_last : (form : Form) (old new : List ℕ) (lines : List Line) (start : ℕ) → start ≡ length old → Adds form old new lines → drop start new ≡ lines_as form lines
-put_last form old new lines start e h = rw h (drop_at old (lines_as form lines) start (sym e))
-
-pub put_longer : (form : Form) (old new : List ℕ) (lines : List Line) → Adds form old new lines → length old ≤ length new
-put_longer form old new lines h = let e = ap length h in let more = length-append old (lines_as form lines) in omega (arith, e, more)
-
--- what is noted next
-pub noted_next : (form : Form) (raw : RawTables) (old new : NotedText) (import : ℕ) (text : List ℕ) → IsNotedText form raw old
-    → text ≡ lines_as form (lines_of_chain raw import) → (new ≡ old) ⊎ ((new.import ≡ import) × (new.text ≡ text)) → IsNotedText form raw new
-noted_next form raw old new import text known is (inl same) = rw same known
-noted_next form raw old new import text known is (inr next) =
-    next.1 ∙ is ∙ ap (λ (row : ℕ). lines_as form (lines_of_chain raw row)) (sym next.0)

@@ -1,15 +1,9 @@
 -- What the answers about one file note for one another.
-use Rattle.std.specs.Prelude.{ℕ, ◌≡◌, List}
-use Rattle.std.specs.List.{flat_map}
-use Rattle.ppdb_tables.specs.RawTables.{RawTables}
+use Rattle.ppdb_values.specs.Names.{ℕ, ◌≡◌, List, flat_map, RawTables}
 use Rattle.ppdb_values.specs.Chains.{chain_of}
 use Rattle.ppdb_queries.specs.Machines.{IsOrderOf}
-use Rattle.ppdb_show_lines.specs.declared.form.Form.{Form}
-use Rattle.ppdb_show_lines.specs.Forms.{lines_as}
-use Rattle.ppdb_show_lines.specs.Lines.{Line}
-use Rattle.ppdb_show.specs.declared.query.notes.NotedText.{NotedText}
-use Rattle.ppdb_show.specs.declared.query.notes.Notes.{Notes}
-use Rattle.ppdb_show.specs.Query.{import_answer}
+use Rattle.ppdb_show_lines.specs.{declared.form.Form.Form, Forms.lines_as, Lines.Line}
+use Rattle.ppdb_show.specs.{declared.query.notes.{NotedText.NotedText, Notes.Notes}, Query.import_answer}
 
 -- the lines of an import scope and of its parents; none for 0
 abbrev pub lines_of_chain : RawTables → ℕ → List Line
