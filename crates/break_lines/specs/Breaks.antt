@@ -1,5 +1,6 @@
 -- Where a debugger may stop for a line of a document (Portable PDB v1.0, "Document Table", "Sequence Points Blob").
-use Rattle.ppdb_values.specs.Names.{ℕ, suc, ◌==◌, ◌&&◌, nat_le, if◌then◌else◌, position, List, Option, Some, None, filter_map, flat_map, option_map, bytes_eq, Point, Span, Hidden, Lines}
+use Rattle.std.specs.Prelude.{ℕ, suc, ◌==◌, ◌&&◌, nat_le, if◌then◌else◌, position, List, Option, Some, None, filter_map, flat_map, option_map, bytes_eq}
+use Rattle.sequence_points.specs.declared.point.{Point.Point, Span.{Span, TheVariants.{Hidden, Lines}}}
 use Rattle.ppdb_values.specs.declared.file.FileValue.{FileValue}
 use Rattle.break_lines.specs.declared.item.Break.{Break}
 

@@ -1,5 +1,6 @@
 -- The breaks as a walk over the rows of MethodDebugInformation gives them (Portable PDB v1.0, "MethodDebugInformation Table").
-use Rattle.ppdb_values.specs.Names.{ℕ, ◌-◌, List, [], ◌++◌, Option, Some, None, length, drop, flat_map, MethodDebugRow, RawTables, numbered}
+use Rattle.std.specs.Prelude.{ℕ, ◌-◌, List, [], ◌++◌, Option, Some, None, length, drop, flat_map}
+use Rattle.ppdb_tables.specs.{declared.rows.MethodDebugRow.MethodDebugRow, RawTables.{RawTables, numbered}}
 use Rattle.ppdb_values.specs.{declared.file.MethodValue.MethodValue, Documents.method_of}
 use Rattle.ppdb_queries.specs.Cursors.{Walk}
 use Rattle.break_lines.specs.{declared.item.Break.Break, Breaks.breaks_of}

@@ -1,5 +1,6 @@
 -- What a method means after two maps, one after the other, and after the map of both.
-use Rattle.ppdb_values.specs.Names.{◌≡◌, ℕ, ◌≤◌, Option, Some, None, map, option_map, Range, Kept, moved, old_size}
+use Rattle.ppdb_values.specs.Names.{Range, Kept, moved, old_size}
+use Rattle.std.specs.Prelude.{◌≡◌, ℕ, ◌≤◌, Option, Some, None, map, option_map}
 use Rattle.ppdb_maps.specs.{Map.{Map, MethodLine, method_line, offsets_in, slot_image}, Readable.IsReadable}
 use Rattle.map_compose.specs.{Composed.composed, Composition.Follows, Sizes.SizesAgree}
 use Rattle.ppdb_values.specs.{declared.annotation.Annotation.Annotation, declared.scope.VariableValue.VariableValue, Meaning.{PointMeaning, ScopeMeaning, SlotMeaning, Meaning}}

@@ -1,5 +1,6 @@
 -- What is linked to a method after two maps, one after the other, and after the map of both.
-use Rattle.ppdb_values.specs.Names.{◌≡◌, ℕ, ◌≤◌, true, Option, Some, None, AsyncStep}
+use Rattle.std.specs.Prelude.{◌≡◌, ℕ, ◌≤◌, true, Option, Some, None}
+use Rattle.custom_info.specs.declared.stepping.AsyncStep.{AsyncStep}
 use Rattle.ppdb_maps.specs.{Map.{Map, moved_row}, Readable.IsReadable}
 use Rattle.map_compose.specs.Composed.{composed}
 use Rattle.ppdb_values.specs.{declared.custom.CustomBody.{CustomBody, TheVariants.{Async, Hoisted}}, declared.annotation.Custom.Custom, Links.Links}

@@ -1,5 +1,6 @@
 -- Two rewritings of a module, one after the other, and one by the map of both.
-use Rattle.ppdb_values.specs.Names.{◌≡◌, ℕ, true, [], ◌∷◌, Kept}
+use Rattle.std.specs.Prelude.{◌≡◌, ℕ, true, [], ◌∷◌}
+use Rattle.ppdb_base.specs.Offsets.{Kept}
 use Rattle.ppdb_maps.specs.Map.{Map, moved_row, offsets_in}
 use Rattle.map_compose.specs.{Composed.composed, Sizes.SizesAgree}
 use Rattle.ppdb_values.specs.{declared.file.FileValue.FileValue, Links.links, Meaning.meaning}

@@ -1,5 +1,6 @@
 -- A file that says after two steps the same as after one but for edges, and not wholly the same.
-use Rattle.ppdb_values.specs.Names.{◌≡◌, ℕ, List, [], ◌∷◌, Some, Point, Lines, Run}
+use Rattle.ppdb_values.specs.Names.{Point, Lines, Run}
+use Rattle.std.specs.Prelude.{◌≡◌, ℕ, List, [], ◌∷◌, Some}
 use Rattle.ppdb_maps.specs.Map.{Map, map_of}
 use Rattle.map_compose.specs.{Composed.composed, Sizes.SizesAgree}
 use Rattle.ppdb_values.specs.{declared.file.FileValue.FileValue, declared.scope.VariableValue.VariableValue, Meaning.{Meaning, ScopeMeaning, meaning}}

@@ -1,5 +1,6 @@
 -- Why a file is not written, and what of a value can be.
-use Rattle.ppdb_values.specs.Names.{◌≡◌, ◌≤◌, [], ◌∷◌, fold, length, take, Option, Some, None, All, filter_map, CanBeWritten, first_of, IsToken, IsBody, Limit, PdbHead}
+use Rattle.ppdb_values.specs.Names.{CanBeWritten, first_of, IsToken, IsBody, Limit, PdbHead}
+use Rattle.std.specs.Prelude.{◌≡◌, ◌≤◌, [], ◌∷◌, fold, length, take, Option, Some, None, All, filter_map}
 use Rattle.ppdb_values.specs.{declared.file.{FileValue.FileValue, MethodValue.MethodValue}, declared.scope.{ScopeValue.ScopeValue, ConstantValue.ConstantValue}}
 use Rattle.ppdb_values.specs.{declared.import.ImportScopeValue.ImportScopeValue, declared.custom.CustomValue.CustomValue, Types.HasTypes}
 use Rattle.ppdb_values_sound_laws.specs.{Scopes.stored_body, Sound.IsSound, Writing.{HasSpelling, IsWritable}}

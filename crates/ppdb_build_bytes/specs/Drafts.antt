@@ -1,5 +1,6 @@
 -- The file of a draft (Portable PDB v1.0, "#Pdb stream" and "#~ stream").
-use Rattle.ppdb_values.specs.Names.{◌≡◌, ◌≤◌, All, ℕ, List, [], ◌∷◌, ◌++◌, length, take, flat_map, replicate, RawTables}
+use Rattle.std.specs.Prelude.{◌≡◌, ◌≤◌, All, ℕ, List, [], ◌∷◌, ◌++◌, length, take, flat_map, replicate}
+use Rattle.ppdb_tables.specs.RawTables.{RawTables}
 use Rattle.ppdb_values.specs.{RawFile.RawFile, Types.IsGuid}
 use Rattle.ppdb_build_heaps.specs.Items.{as_text, as_blob}
 use Rattle.ppdb_build_layout.specs.{declared.rows.Rows.Rows, Bytes.{padded, file_bytes, sizes_of}, Laid.AllRowsFit}

@@ -1,6 +1,6 @@
 -- The rows and heaps of the one file of a value (Portable PDB v1.0, "Metadata Tables").
-use Rattle.ppdb_values.specs.Names.{ℕ, ◌+◌, ◌-◌, List, [], ◌∷◌, ◌++◌, length, take, map, flat_map, replicate, slice_index, bytes_eq, Option, Some, None, range_with_len, position_or_len}
-use Rattle.ppdb_values.specs.Names.{common_document, DocumentRow, MethodDebugRow, ScopeRow, VariableRow, ConstantRow, ImportRow, CustomRow, RawTables, numbered}
+use Rattle.ppdb_values.specs.Names.{range_with_len, position_or_len, common_document, DocumentRow, MethodDebugRow, ScopeRow, VariableRow, ConstantRow, ImportRow, CustomRow, RawTables, numbered}
+use Rattle.std.specs.Prelude.{ℕ, ◌+◌, ◌-◌, List, [], ◌∷◌, ◌++◌, length, take, map, flat_map, replicate, slice_index, bytes_eq, Option, Some, None}
 use Rattle.ppdb_values.specs.{declared.file.{FileValue.FileValue, DocumentValue.DocumentValue, MethodValue.MethodValue}, declared.scope.{ScopeValue.ScopeValue, VariableValue.VariableValue}}
 use Rattle.ppdb_values.specs.{declared.scope.ConstantValue.ConstantValue, declared.import.ImportScopeValue.ImportScopeValue, declared.custom.CustomValue.CustomValue, Parts.{method_at, first_item}}
 use Rattle.ppdb_values.specs.RawFile.{RawFile}

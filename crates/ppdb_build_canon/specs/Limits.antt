@@ -1,6 +1,7 @@
 -- What is too large to be written.
-use Rattle.ppdb_values.specs.Names.{◌≡◌, ◌<◌, ◌≤◌, All, ℕ, ◌+◌, ◌==◌, ◌&&◌, Bool, false, slice_index, List, [], ◌∷◌, length, sum_by, nat_lt, nat_le, find, option_map, Option, Some, None}
-use Rattle.ppdb_values.specs.Names.{if◌then◌else◌, option_or, filter_map, Contains, large_steps, first_of, last_of, Limit, TableRows, ListPastEnd, PointOffset, LineStep, FileSize, SpanTotal, told}
+use Rattle.ppdb_values.specs.Names.{option_or, large_steps, first_of, last_of, Limit, TableRows, ListPastEnd, PointOffset, LineStep, FileSize, SpanTotal, told}
+use Rattle.std.specs.Prelude.{◌≡◌, ◌<◌, ◌≤◌, All, ℕ, ◌+◌, ◌==◌, ◌&&◌, Bool, false, slice_index, List, [], ◌∷◌, length, sum_by, nat_lt, nat_le, find, option_map, Option, Some, None, if◌then◌else◌}
+use Rattle.std.specs.Prelude.{filter_map, Contains}
 use Rattle.ppdb_values.specs.{declared.file.{FileValue.FileValue, MethodValue.MethodValue}, declared.scope.ScopeValue.ScopeValue}
 use Rattle.ppdb_build_layout.specs.Bytes.{file_bytes}
 use Rattle.ppdb_build_heaps.specs.Uses.{blob_bytes}

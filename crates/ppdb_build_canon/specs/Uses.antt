@@ -1,7 +1,7 @@
 -- Which texts, GUIDs and blobs the file of a value names, in the order of table, row and column (Portable PDB v1.0, "Metadata
 -- Tables" and the formats of its blobs; ECMA-335 II.24.2.3 to II.24.2.5).
-use Rattle.ppdb_values.specs.Names.{ℕ, List, [], ◌∷◌, ◌++◌, map, flat_map, option_to_list, ◌==◌, if◌then◌else◌, list_any, slice_split, short_unsigned, points_blob, TypeToken, constant_spelling}
-use Rattle.ppdb_values.specs.Names.{async_spelling, slots_spelling, rows_spelling}
+use Rattle.ppdb_values.specs.Names.{list_any, slice_split, short_unsigned, points_blob, TypeToken, constant_spelling, async_spelling, slots_spelling, rows_spelling}
+use Rattle.std.specs.Prelude.{ℕ, List, [], ◌∷◌, ◌++◌, map, flat_map, option_to_list, ◌==◌, if◌then◌else◌}
 use Rattle.type_blobs.specs.Types.{number_of}
 use Rattle.ppdb_values.specs.{declared.file.{FileValue.FileValue, DocumentValue.DocumentValue, MethodValue.MethodValue}, declared.scope.{ConstantValue.ConstantValue, VariableValue.VariableValue}}
 use Rattle.ppdb_values.specs.declared.import.{ImportScopeValue.ImportScopeValue, ImportValue.ImportValue}

@@ -1,5 +1,6 @@
 -- Three worked files and their values, and values that are too large to be written.
-use Rattle.ppdb_values.specs.Names.{◌≡◌, ℕ, List, [], ◌∷◌, None, Some, pos, Point, Lines, PointOffset, LineStep}
+use Rattle.ppdb_values.specs.Names.{Point, Lines, PointOffset, LineStep}
+use Rattle.std.specs.Prelude.{◌≡◌, ℕ, List, [], ◌∷◌, None, Some, pos}
 use Rattle.tests_files.specs.declared.TheConstants.{EMPTY, SMALL, PROGRAM}
 use Rattle.ppdb_values.specs.{declared.file.FileValue.FileValue, WorkedSmall.{zeros, empty_value, small_value, empty_file, small_file}, WorkedProgram.{program_value, program_file}}
 use Rattle.ppdb_build_canon.specs.{declared.choice.IdChoice.TheVariants.Keep, Canon.canon, Canonical.canonical, Limits.first_limit}

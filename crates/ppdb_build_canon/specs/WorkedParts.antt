@@ -1,5 +1,6 @@
 -- Worked parts of files: names and their blobs, points in two documents, and a list that begins past its table.
-use Rattle.ppdb_values.specs.Names.{◌≡◌, ℕ, ◌∷◌, [], List, codes, flat_map, replicate, None, Some, Point, Span, Hidden, Lines, ListPastEnd}
+use Rattle.ppdb_values.specs.Names.{Point, Span, Hidden, Lines, ListPastEnd}
+use Rattle.std.specs.Prelude.{◌≡◌, ℕ, ◌∷◌, [], List, codes, flat_map, replicate, None, Some}
 use Rattle.ppdb_values.specs.{declared.file.{FileValue.FileValue, DocumentValue.DocumentValue}, WorkedSmall.{empty_value, small_value, variable_x, outer_scope, inner_scope}}
 use Rattle.ppdb_build_heaps.specs.Items.{as_blob}
 use Rattle.ppdb_build_canon.specs.{Canonical.canonical_tables, Limits.first_limit, Uses.blobs}

@@ -1,5 +1,6 @@
 -- The draft of a value, and what it holds: the heaps and rows of the value's file, whose cells have four bytes.
-use Rattle.ppdb_values.specs.Names.{◌≡◌, ◌+◌, map, fold, slice_index, DocumentRow, MethodDebugRow, ScopeRow, VariableRow, ConstantRow, ImportRow, CustomRow, RawTables, told}
+use Rattle.ppdb_values.specs.Names.{DocumentRow, MethodDebugRow, ScopeRow, VariableRow, ConstantRow, ImportRow, CustomRow, RawTables, told}
+use Rattle.std.specs.Prelude.{◌≡◌, ◌+◌, map, fold, slice_index}
 use Rattle.ppdb_values.specs.declared.file.FileValue.{FileValue}
 use Rattle.ppdb_values_sound_laws.specs.Sound.{IsSound}
 use Rattle.ppdb_build_layout.specs.declared.rows.Rows.{Rows}

@@ -1,5 +1,6 @@
 -- Items that were noted, and the places that they got (ECMA-335 II.24.2.3 to II.24.2.5).
-use Rattle.ppdb_values.specs.Names.{ℕ, ◌+◌, List, [], ◌∷◌, length, min, sum_by, bytes_eq, Option, Some, None, position_or_len, told}
+use Rattle.std.specs.{Prelude.{ℕ, ◌+◌, List, [], ◌∷◌, length, min, sum_by, bytes_eq, Option, Some, None}, List.position_or_len}
+use Rattle.ppdb_base.specs.Told.{told}
 use Rattle.ppdb_build_heaps.specs.{Items.{with_use, index_of, as_text, as_blob}, Uses.{Piece, with_held, blob_bytes, blobs_after}}
 
 -- a number as a cell of four bytes holds it: one of 2 ^ 32 or more as the greatest below

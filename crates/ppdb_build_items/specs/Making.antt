@@ -1,5 +1,6 @@
 -- A blob that is made piece by piece: bytes, and the indexes of blobs that are noted on the way.
-use Rattle.ppdb_values.specs.Names.{ℕ, ◌+◌, List, [], ◌++◌, length, told}
+use Rattle.std.specs.Prelude.{ℕ, ◌+◌, List, [], ◌++◌, length}
+use Rattle.ppdb_base.specs.Told.{told}
 use Rattle.ppdb_build_heaps.specs.{Items.{with_use, index_of, as_blob, shortest}, Uses.{Piece, octets, index}}
 use Rattle.ppdb_build_items.specs.Interned.{Annotation}
 

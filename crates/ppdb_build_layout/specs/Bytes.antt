@@ -1,7 +1,7 @@
 -- A file as its bytes (ECMA-335 II.24.2.1, II.24.2.2 and II.24.2.6; Portable PDB v1.0, "#Pdb stream" and "#~ stream").
-use Rattle.ppdb_values.specs.Names.{ℕ, ◌+◌, ◌-◌, ◌%◌, ◌^◌, List, [], ◌∷◌, ◌++◌, length, filter, flat_map, replicate, sum_by, nat_lt, nat_le, ◌==◌, if◌then◌else◌, codes, slice_index, range_with_len}
-use Rattle.ppdb_values.specs.Names.{Column, Sizes, row_bytes, DocumentRow, MethodDebugRow, ScopeRow, VariableRow, ConstantRow, ImportRow, MachineRow, CustomRow, widths_of, document_columns}
-use Rattle.ppdb_values.specs.Names.{method_columns, scope_columns, variable_columns, constant_columns, import_columns, machine_columns, custom_columns, RawTables}
+use Rattle.ppdb_values.specs.Names.{range_with_len, Column, Sizes, row_bytes, DocumentRow, MethodDebugRow, ScopeRow, VariableRow, ConstantRow, ImportRow, MachineRow, CustomRow, widths_of}
+use Rattle.ppdb_values.specs.Names.{document_columns, method_columns, scope_columns, variable_columns, constant_columns, import_columns, machine_columns, custom_columns, RawTables}
+use Rattle.std.specs.Prelude.{ℕ, ◌+◌, ◌-◌, ◌%◌, ◌^◌, List, [], ◌∷◌, ◌++◌, length, filter, flat_map, replicate, sum_by, nat_lt, nat_le, ◌==◌, if◌then◌else◌, codes, slice_index}
 use Rattle.byteorder.specs.Endian.{little_bytes}
 use Rattle.ppdb_values.specs.RawFile.{RawFile}
 use Rattle.ppdb_build_layout.specs.declared.rows.{Rows.Rows, HeapLens.HeapLens}

@@ -1,5 +1,6 @@
 -- Which limits a file that is read cannot pass (ECMA-335 II.24.2.6: below 65536 rows a table is indexed by two bytes; docs/FORMAT.md, 9).
-use Rattle.ppdb_values.specs.Names.{◌≡◌, ◌<◌, ◌^◌, ℕ, All, List, [], ◌∷◌, length, Option, None, Limit, FileSize, SpanTotal}
+use Rattle.std.specs.Prelude.{◌≡◌, ◌<◌, ◌^◌, ℕ, All, List, [], ◌∷◌, length, Option, None}
+use Rattle.ppdb_base.specs.declared.limits.Limit.{Limit, TheVariants.{FileSize, SpanTotal}}
 use Rattle.ppdb_build_layout.specs.Bytes.{file_bytes}
 use Rattle.ppdb_values.specs.{declared.file.FileValue.FileValue, RawFile.RawFile, Rules.KeepsRules, Value.value_of}
 use Rattle.ppdb_verify.specs.Files.{IsRawOf}

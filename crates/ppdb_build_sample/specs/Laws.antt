@@ -1,5 +1,6 @@
 -- What is promised of the samples.
-use Rattle.ppdb_values.specs.Names.{◌≡◌, ◌≢◌, ℕ, ◌≤◌, true, List, [], ◌∷◌, Some, slice_index, kind_of, Unknown}
+use Rattle.std.specs.Prelude.{◌≡◌, ◌≢◌, ℕ, ◌≤◌, true, List, [], ◌∷◌, Some, slice_index}
+use Rattle.custom_info.specs.{Kinds.kind_of, declared.kinds.Kind.TheVariants.Unknown}
 use Rattle.ppdb_maps.specs.{Map.row_image, Sample.sample_map_of}
 use Rattle.ppdb_merge_items.specs.Each.{Each}
 use Rattle.ppdb_values_sound_laws.specs.Sound.{IsSound}

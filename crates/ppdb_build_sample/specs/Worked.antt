@@ -1,6 +1,7 @@
 -- The sample of one method, and parts of that of nine.
-use Rattle.ppdb_values.specs.Names.{◌≡◌, ℕ, List, [], ◌∷◌, ◌++◌, None, codes, map, Held, Hidden, Lines}
-use Rattle.custom_info.specs.Kinds.{hoisted_scopes}
+use Rattle.std.specs.Prelude.{◌≡◌, ℕ, List, [], ◌∷◌, ◌++◌, None, codes, map}
+use Rattle.custom_info.specs.{declared.slots.Slot.TheVariants.Held, Kinds.hoisted_scopes}
+use Rattle.sequence_points.specs.declared.point.Span.TheVariants.{Hidden, Lines}
 use Rattle.ppdb_values.specs.{declared.custom.{CustomBody.TheVariants.Hoisted, CustomValue.CustomValue}, declared.file.FileValue.FileValue, declared.import.ImportValue.TheVariants.Namespace}
 use Rattle.ppdb_values.specs.{declared.scope.ConstantBody.TheVariants.Primitive, WorkedSmall.zeros}
 use Rattle.ppdb_build_sample.specs.Sample.{sample}

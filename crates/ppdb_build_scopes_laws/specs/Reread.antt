@@ -1,6 +1,7 @@
 -- What the scopes and the custom records of a value are in its canonical file (Portable PDB v1.0, "LocalScope Table",
 -- "LocalVariable Table", "LocalConstant Table" and "CustomDebugInformation Table").
-use Rattle.ppdb_values.specs.Names.{◌≡◌, map, None, numbered}
+use Rattle.std.specs.Prelude.{◌≡◌, map, None}
+use Rattle.ppdb_tables.specs.RawTables.{numbered}
 use Rattle.ppdb_values.specs.{declared.file.FileValue.FileValue, Customs.custom_of, Rules.{KeepsScopes, KeepsVariables, KeepsConstants, KeepsCustoms}, Types.HasTypes, Value.scope_of}
 use Rattle.ppdb_values_sound_laws.specs.Sound.{IsSound}
 use Rattle.ppdb_build_canon.specs.{Canonical.canonical_tables, Limits.first_limit}

@@ -1,5 +1,6 @@
 -- What the rows of a canonical file refer to (Portable PDB v1.0, "Metadata Tables" and the formats of its blobs).
-use Rattle.ppdb_values.specs.Names.{◌≡◌, ◌≤◌, length, sum_by, IsAccepted}
+use Rattle.std.specs.Prelude.{◌≡◌, ◌≤◌, length, sum_by}
+use Rattle.ppdb_base.specs.First.{IsAccepted}
 use Rattle.ppdb_values.specs.{declared.file.FileValue.FileValue, Types.HasTypes}
 use Rattle.ppdb_values_sound_laws.specs.Sound.{IsSound}
 use Rattle.ppdb_verify_total.specs.{HeapUses.{HeapUse, heap_uses}, Spans.SpanFaults}

@@ -1,5 +1,6 @@
 -- What is promised of the file that is written of a value (Portable PDB v1.0; ECMA-335 II.22, II.24.2).
-use Rattle.ppdb_values.specs.Names.{◌≡◌, ℕ, List, None, IsAccepted}
+use Rattle.std.specs.Prelude.{◌≡◌, ℕ, List, None}
+use Rattle.ppdb_base.specs.First.{IsAccepted}
 use Rattle.ppdb_values.specs.{declared.file.FileValue.FileValue, RawFile.RawFile, Types.HasTypes, Value.value_of}
 use Rattle.ppdb_values_sound_laws.specs.Sound.{IsSound}
 use Rattle.ppdb_build_canon.specs.{declared.choice.IdChoice.IdChoice, Canon.{canon, chosen_id, with_id}, Limits.first_limit}

@@ -1,5 +1,6 @@
 -- A call of ppdb_run: its words and its files, and what its caller is given.
-use Rattle.ppdb_values.specs.Names.{ℕ, ◌≡◌, ◌⊎◌, List, [], Option, Some, length, IsUtf8, Files}
+use Rattle.std.specs.Prelude.{ℕ, ◌≡◌, ◌⊎◌, List, [], Option, Some, length, IsUtf8}
+use Rattle.ppdb_base.specs.Files.{Files}
 use Rattle.ppdb_run_stops.specs.{declared.status.Status.{Status, TheVariants.Done}, Refusals.Outcome, Status.status_number}
 use Rattle.ppdb_library.specs.{declared.piece.PpdbPiece.PpdbPiece, declared.status.TheConstants.{MEMORY, USAGE}, Pieces.{AreApart, files_in}, Room.IsGiven, Words.AreWords}
 

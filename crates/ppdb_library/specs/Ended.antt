@@ -1,5 +1,6 @@
 -- A command that has run over files in memory.
-use Rattle.ppdb_values.specs.Names.{ℕ, ◌≡◌, ◌≢◌, ◌⊎◌, List, [], Option, Some, None, get, unwrap_or, Files}
+use Rattle.std.specs.{Prelude.{ℕ, ◌≡◌, ◌≢◌, ◌⊎◌, List, [], Option, Some, None, unwrap_or}, FinMap.get}
+use Rattle.ppdb_base.specs.Files.{Files}
 use Rattle.ppdb_run_stops.specs.{declared.status.Status.TheVariants.{Done, Memory}, Refusals.Outcome}
 use Rattle.ppdb_run.specs.{Ends.{LeavesFiles, OnAsked, OnOutcome, WritesAgain, WritesValid}, Means.WritesMeaning}
 use Rattle.ppdb_run_words.specs.Words.{texts}

@@ -1,5 +1,6 @@
 -- A folder of files that are lent, with the one that was written.
-use Rattle.ppdb_values.specs.Names.{ℕ, ◌≡◌, List, Option, Some, None, insert, string_bytes, Files}
+use Rattle.std.specs.{Prelude.{ℕ, ◌≡◌, List, Option, Some, None, string_bytes}, FinMap.insert}
+use Rattle.ppdb_base.specs.Files.{Files}
 use Rattle.ppdb_library.specs.declared.folder.MadeFile.{MadeFile}
 
 -- the files with the one that was written in the place of what had its name

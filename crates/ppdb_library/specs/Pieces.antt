@@ -1,5 +1,6 @@
 -- The files of a call: pieces of one list of bytes, each a name and right after it what the file of the name holds.
-use Rattle.ppdb_values.specs.Names.{ℕ, ◌≡◌, ◌+◌, ◌≤◌, List, [], ◌∷◌, Option, Some, None, All, map, slice_range, from_entries, Files}
+use Rattle.std.specs.{Prelude.{ℕ, ◌≡◌, ◌+◌, ◌≤◌, List, [], ◌∷◌, Option, Some, None, All, map, slice_range}, FinMap.from_entries}
+use Rattle.ppdb_base.specs.Files.{Files}
 use Rattle.ppdb_library.specs.declared.piece.PpdbPiece.{PpdbPiece}
 
 -- the first byte after a piece

@@ -1,5 +1,6 @@
 -- What is looked up of the inputs before a further one.
-use Rattle.ppdb_values.specs.Names.{◌≡◌, ℕ, ◌&&◌, Bool, cond, List, [], Option, Some, None, is_some, ◌∷◌, length, map, find, option_map, nat_eq, nat_lt, bytes_eq, slice_cmp, nat_cmp, numbered}
+use Rattle.ppdb_values.specs.Names.{slice_cmp, nat_cmp, numbered}
+use Rattle.std.specs.Prelude.{◌≡◌, ℕ, ◌&&◌, Bool, cond, List, [], Option, Some, None, is_some, ◌∷◌, length, map, find, option_map, nat_eq, nat_lt, bytes_eq}
 use Rattle.ppdb_values.specs.declared.file.DocumentValue.{DocumentValue}
 use Rattle.ppdb_merge_names.specs.declared.imaged.Imaged.{Imaged}
 use Rattle.ppdb_merge_joined.specs.Joined.{joined_documents}

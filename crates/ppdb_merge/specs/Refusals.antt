@@ -1,6 +1,7 @@
 -- Why an input is not joined to those before it (docs/FORMAT.md, "Fitting").
-use Rattle.ppdb_values.specs.Names.{ℕ, ◌&&◌, Bool, true, false, cond, nat_eq, bytes_eq, List, [], ◌∷◌, ◌++◌, Option, Some, None, Result, Ok, Err, slice_get, filter, find, flat_map, map, option_map}
-use Rattle.ppdb_values.specs.Names.{filter_map, option_and_then, MergeError, MethodTaken, DocumentConflict, numbered}
+use Rattle.ppdb_values.specs.Names.{MergeError, MethodTaken, DocumentConflict, numbered}
+use Rattle.std.specs.Prelude.{ℕ, ◌&&◌, Bool, true, false, cond, nat_eq, bytes_eq, List, [], ◌∷◌, ◌++◌, Option, Some, None, Result, Ok, Err, slice_get, filter, find, flat_map, map, option_map}
+use Rattle.std.specs.Prelude.{filter_map, option_and_then}
 use Rattle.ppdb_maps.specs.Map.{Map}
 use Rattle.ppdb_values.specs.{declared.file.DocumentValue.DocumentValue, RawFile.RawFile, Value.value_of}
 use Rattle.ppdb_merge_items.specs.Sorted.{in_order}

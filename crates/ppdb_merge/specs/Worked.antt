@@ -1,5 +1,6 @@
 -- Worked inputs that do not fit each other, and that do.
-use Rattle.ppdb_values.specs.Names.{◌≡◌, ℕ, List, [], ◌∷◌, ◌++◌, None, Ok, Err, codes, MethodTaken, DocumentConflict, RowsDiffer, ImageRange}
+use Rattle.std.specs.Prelude.{◌≡◌, ℕ, List, [], ◌∷◌, ◌++◌, None, Ok, Err, codes}
+use Rattle.ppdb_base.specs.declared.merge_error.MergeError.TheVariants.{MethodTaken, DocumentConflict, RowsDiffer, ImageRange}
 use Rattle.ppdb_values.specs.{declared.file.DocumentValue.DocumentValue, WorkedSmall.zeros}
 use Rattle.ppdb_merge_items.specs.{Unannotated.value_of_annotated, Worked.{bare, empty_annotated}}
 use Rattle.ppdb_merge_names.specs.declared.imaged.Imaged.{Imaged}

@@ -1,6 +1,6 @@
 -- Where a map does not fit a file, and what is reported first (docs/FORMAT.md, "Fitting"). What stands at a dropped method is not judged.
-use Rattle.ppdb_values.specs.Names.{ℕ, ◌&&◌, ◌==◌, not, Bool, true, false, cond, List, [], ◌∷◌, ◌++◌, Option, Some, None, map, option_to_list, slice_get, flat_map, list_any, kind_of, Kind, Unknown}
-use Rattle.ppdb_values.specs.Names.{MergeError, KindUnknown, numbered, row_at, Parent}
+use Rattle.ppdb_values.specs.Names.{list_any, kind_of, Kind, Unknown, MergeError, KindUnknown, numbered, row_at, Parent}
+use Rattle.std.specs.Prelude.{ℕ, ◌&&◌, ◌==◌, not, Bool, true, false, cond, List, [], ◌∷◌, ◌++◌, Option, Some, None, map, option_to_list, slice_get, flat_map}
 use Rattle.ppdb_maps.specs.Map.{Map, is_dropped}
 use Rattle.ppdb_values.specs.{RawFile.RawFile, Value.value_of, declared.file.FileValue.FileValue, declared.scope.ScopeValue.ScopeValue, declared.custom.CustomValue.CustomValue}
 use Rattle.ppdb_merge_fits.specs.{Offsets.{beyond, lost}, Rows.{unmapped, images_twice}, Slots.{slots_unmapped, slots_twice}}

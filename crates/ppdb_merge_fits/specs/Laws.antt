@@ -1,5 +1,6 @@
 -- What a map promises that does not clash with a file (docs/FORMAT.md, "Fitting").
-use Rattle.ppdb_values.specs.Names.{◌≡◌, ◌≢◌, ℕ, Bool, false, List, None, kind_of, Unknown}
+use Rattle.std.specs.Prelude.{◌≡◌, ◌≢◌, ℕ, Bool, false, List, None}
+use Rattle.custom_info.specs.{Kinds.kind_of, declared.kinds.Kind.TheVariants.Unknown}
 use Rattle.ppdb_maps.specs.{Map.Map, Readable.IsReadable}
 use Rattle.ppdb_values.specs.{RawFile.RawFile, Rules.KeepsRules, Value.value_of}
 use Rattle.ppdb_merge_items.specs.{Each.Each, Annotated.annotated_file}

@@ -1,6 +1,6 @@
 -- IL offsets that a map does not know, and offsets of async records that it does not keep (docs/FORMAT.md, "Fitting").
-use Rattle.ppdb_values.specs.Names.{ℕ, ◌+◌, Bool, cond, nat_le, nat_lt, List, [], ◌∷◌, ◌++◌, Option, Some, None, map, option_to_list, flat_map, MergeError, OffsetBeyond, AsyncLost, is_kept_between}
-use Rattle.ppdb_values.specs.Names.{Point, Range, Slot, Empty, Held, AsyncStep}
+use Rattle.ppdb_values.specs.Names.{MergeError, OffsetBeyond, AsyncLost, is_kept_between, Point, Range, Slot, Empty, Held, AsyncStep}
+use Rattle.std.specs.Prelude.{ℕ, ◌+◌, Bool, cond, nat_le, nat_lt, List, [], ◌∷◌, ◌++◌, Option, Some, None, map, option_to_list, flat_map}
 use Rattle.ppdb_maps.specs.{Map.{Map, offsets_in}, Says.sizes_of}
 use Rattle.ppdb_values.specs.{declared.file.{FileValue.FileValue, MethodValue.MethodValue}, declared.scope.ScopeValue.ScopeValue, declared.custom.CustomBody.{CustomBody, TheVariants.{Async, Hoisted}}}
 use Rattle.ppdb_values.specs.declared.custom.CustomValue.{CustomValue}

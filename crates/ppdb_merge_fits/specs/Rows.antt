@@ -1,5 +1,6 @@
 -- The rows of the type system that a file names, with their images (docs/FORMAT.md, "Fitting").
-use Rattle.ppdb_values.specs.Names.{Bool, cond, is_some, List, [], ◌∷◌, Option, filter_map, flat_map, option_map, MergeError, Unmapped, ImageTwice}
+use Rattle.std.specs.Prelude.{Bool, cond, is_some, List, [], ◌∷◌, Option, filter_map, flat_map, option_map}
+use Rattle.ppdb_base.specs.declared.merge_error.MergeError.{MergeError, TheVariants.{Unmapped, ImageTwice}}
 use Rattle.ppdb_maps.specs.Map.{Map, row_image}
 use Rattle.ppdb_values.specs.RawFile.{RawFile}
 use Rattle.ppdb_merge_names.specs.{declared.imaged.Imaged.Imaged, References.{Reference, references}}

@@ -1,5 +1,6 @@
 -- The slots of variables whose images a map does not report, or reports twice (docs/FORMAT.md, "Fitting").
-use Rattle.ppdb_values.specs.Names.{ℕ, ◌||◌, cond, is_some, List, [], ◌∷◌, Option, None, map, filter_map, flat_map, option_map, MergeError, SlotUnmapped, SlotTwice, numbered}
+use Rattle.ppdb_values.specs.Names.{MergeError, SlotUnmapped, SlotTwice, numbered}
+use Rattle.std.specs.Prelude.{ℕ, ◌||◌, cond, is_some, List, [], ◌∷◌, Option, None, map, filter_map, flat_map, option_map}
 use Rattle.ppdb_maps.specs.Map.{Map, slot_image, is_dropped}
 use Rattle.ppdb_values.specs.{declared.file.FileValue.FileValue, declared.scope.{ScopeValue.ScopeValue, VariableValue.VariableValue}}
 use Rattle.ppdb_merge_fits.specs.{declared.used.{MethodSlot.MethodSlot, UsedSlot.UsedSlot}, Twice.{each_once, twice}}

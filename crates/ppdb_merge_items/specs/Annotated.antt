@@ -1,6 +1,7 @@
 -- What a file says, with each custom record at the item that it is on (Portable PDB v1.0, "CustomDebugInformation Table": Parent):
 -- from a value, and the parts of it that are numbered by their places.
-use Rattle.ppdb_values.specs.Names.{map, ℕ, ◌+◌, nat_lt, List, [], ◌∷◌, ◌++◌, length, filter, flat_map, numbered}
+use Rattle.std.specs.Prelude.{map, ℕ, ◌+◌, nat_lt, List, [], ◌∷◌, ◌++◌, length, filter, flat_map}
+use Rattle.ppdb_tables.specs.RawTables.{numbered}
 use Rattle.ppdb_values.specs.{declared.file.FileValue.FileValue, declared.scope.ScopeValue.ScopeValue, declared.custom.CustomValue.CustomValue, declared.annotation.Custom.Custom}
 use Rattle.ppdb_values.specs.{declared.annotation.Annotation.Annotation, Parts.first_item, Meaning.{annotated_on, annotated_from}}
 use Rattle.ppdb_merge_items.specs.declared.file.{AnnotatedScope.AnnotatedScope, AnnotatedFile.AnnotatedFile}

@@ -1,7 +1,7 @@
 -- What a file says of an IL offset of a method, and of a method as a whole, where its records stand at their items (Portable PDB v1.0:
 -- sequence points, local scopes, import scopes, hoisted local scopes, custom debug information).
-use Rattle.ppdb_values.specs.Names.{ℕ, ◌&&◌, nat_eq, nat_le, Bool, List, [], ◌∷◌, Option, Some, None, is_none, map, filter, filter_map, flat_map, find, enumerate_from, option_map, option_and_then}
-use Rattle.ppdb_values.specs.Names.{Point, Range, row_at}
+use Rattle.ppdb_values.specs.Names.{enumerate_from, Point, Range, row_at}
+use Rattle.std.specs.Prelude.{ℕ, ◌&&◌, nat_eq, nat_le, Bool, List, [], ◌∷◌, Option, Some, None, is_none, map, filter, filter_map, flat_map, find, option_map, option_and_then}
 use Rattle.ppdb_values.specs.{declared.file.{DocumentValue.DocumentValue, MethodValue.MethodValue}, declared.import.{ImportValue.ImportValue, ImportScopeValue.ImportScopeValue}}
 use Rattle.ppdb_values.specs.{declared.custom.CustomValue.CustomValue, declared.annotation.Annotation.Annotation, Links.{Links, kickoff_of, move_next_of}}
 use Rattle.ppdb_values.specs.{Meaning.{PointMeaning, ScopeMeaning, SlotMeaning, Meaning, slot_at, without_parent}, Parts.{holds, slots_in}, Chains.chain_of}

@@ -1,6 +1,7 @@
 -- The rows of the type system that a file names (Portable PDB v1.0, "Metadata Tables" and the formats of its blobs), but for those
 -- of dropped methods.
-use Rattle.ppdb_values.specs.Names.{ℕ, ◌&&◌, ◌||◌, not, Bool, true, false, cond, nat_eq, is_some, List, [], ◌∷◌, ◌++◌, map, filter, flat_map, TypeToken, Modifier, AsyncStep, MachineRow}
+use Rattle.ppdb_values.specs.Names.{TypeToken, Modifier, AsyncStep, MachineRow}
+use Rattle.std.specs.Prelude.{ℕ, ◌&&◌, ◌||◌, not, Bool, true, false, cond, nat_eq, is_some, List, [], ◌∷◌, ◌++◌, map, filter, flat_map}
 use Rattle.ppdb_maps.specs.Map.{Map, is_dropped, signature_line}
 use Rattle.ppdb_values.specs.{declared.file.MethodValue.MethodValue, declared.scope.{ConstantValue.ConstantValue, ConstantBody.{ConstantBody, TheVariants.{Enumerated, General}}}}
 use Rattle.ppdb_values.specs.declared.import.{ImportScopeValue.ImportScopeValue, ImportValue.ImportValue}

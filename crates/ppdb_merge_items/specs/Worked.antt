@@ -1,5 +1,6 @@
 -- Four worked files: with their records at their items, and back.
-use Rattle.ppdb_values.specs.Names.{◌≡◌, ℕ, [], ◌∷◌, ◌++◌, dynamic_locals}
+use Rattle.std.specs.Prelude.{◌≡◌, ℕ, [], ◌∷◌, ◌++◌}
+use Rattle.custom_info.specs.Kinds.{dynamic_locals}
 use Rattle.ppdb_values.specs.{declared.file.FileValue.FileValue, declared.annotation.Annotation.Annotation, declared.scope.VariableValue.VariableValue, declared.custom.CustomBody.CustomBody}
 use Rattle.ppdb_values.specs.{declared.custom.CustomBody.TheVariants.Unread, WorkedSmall.{zeros, empty_value, small_value, small_document, variable_x, variable_y}}
 use Rattle.ppdb_values.specs.WorkedProgram.{program_value, program_document, program_imports, limit}

@@ -1,6 +1,7 @@
 -- Files joined into one, each with its records at their items (Portable PDB v1.0, "Document Table", "ImportScope Table",
 -- "CustomDebugInformation Table").
-use Rattle.ppdb_values.specs.Names.{ℕ, zero, suc, ◌+◌, cond, List, [], ◌∷◌, length, map, filter, flat_map, position, unwrap_or, bytes_eq, list_any, repeat, option_map, Point, row_at}
+use Rattle.ppdb_values.specs.Names.{list_any, repeat, Point, row_at}
+use Rattle.std.specs.Prelude.{ℕ, zero, suc, ◌+◌, cond, List, [], ◌∷◌, length, map, filter, flat_map, position, unwrap_or, bytes_eq, option_map}
 use Rattle.ppdb_values.specs.{declared.file.{DocumentValue.DocumentValue, MethodValue.MethodValue}, declared.import.ImportScopeValue.ImportScopeValue, declared.custom.CustomBody.CustomBody}
 use Rattle.ppdb_values.specs.{declared.custom.{CustomBody.TheVariants.TypeDocuments, CustomValue.CustomValue}, declared.annotation.{Custom.Custom, Annotation.Annotation}}
 use Rattle.ppdb_values_sound_laws.specs.Customs.{coded_of}

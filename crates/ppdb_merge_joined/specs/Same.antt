@@ -1,5 +1,6 @@
 -- Records that are equal, and those of later inputs that equal none of an earlier one.
-use Rattle.ppdb_values.specs.Names.{ℕ, ◌&&◌, ◌++◌, not, Bool, true, false, nat_eq, List, [], ◌∷◌, Option, Some, None, filter, bytes_eq, list_any, Slot, Empty, Held, AsyncStep}
+use Rattle.std.specs.{Prelude.{ℕ, ◌&&◌, ◌++◌, not, Bool, true, false, nat_eq, List, [], ◌∷◌, Option, Some, None, filter, bytes_eq}, List.list_any}
+use Rattle.custom_info.specs.{declared.slots.Slot.{Slot, TheVariants.{Empty, Held}}, declared.stepping.AsyncStep.AsyncStep}
 use lib.Pointwise.{pointwise}
 use Rattle.ppdb_values.specs.{declared.custom.{CustomBody.{CustomBody, TheVariants.{Async, Hoisted, TypeDocuments, Unread}}, CustomValue.CustomValue}, declared.annotation.Custom.Custom}
 use Rattle.ppdb_values.specs.Meaning.{without_parent}

@@ -1,5 +1,6 @@
 -- What joined files keep of their inputs: what each said of a method at an IL offset that its map keeps.
-use Rattle.ppdb_values.specs.Names.{◌≡◌, ℕ, Bool, true, false, List, [], ◌∷◌, Some, Contains, map, Kept, Point}
+use Rattle.ppdb_values.specs.Names.{Kept, Point}
+use Rattle.std.specs.Prelude.{◌≡◌, ℕ, Bool, true, false, List, [], ◌∷◌, Some, Contains, map}
 use Rattle.ppdb_maps.specs.{Map.{Map, moved_row, row_image, offsets_in}, Readable.IsReadable}
 use Rattle.ppdb_values.specs.{declared.file.FileValue.FileValue, Links.links, Meaning.meaning, Parts.points_of}
 use Rattle.ppdb_values_sound_laws.specs.Sound.{IsSound}

@@ -1,5 +1,6 @@
 -- Where what joined files say comes from: of each method from one input, and on any other row from all that have records on it.
-use Rattle.ppdb_values.specs.Names.{◌≡◌, ℕ, ◌<◌, ◌⊎◌, List, [], ◌∷◌, Some, Contains, map, filter, flat_map, row_at}
+use Rattle.std.specs.Prelude.{◌≡◌, ℕ, ◌<◌, ◌⊎◌, List, [], ◌∷◌, Some, Contains, map, filter, flat_map}
+use Rattle.ppdb_tables.specs.RawTables.{row_at}
 use Rattle.ppdb_maps.specs.Map.{moved_row}
 use Rattle.ppdb_values.specs.{declared.file.{DocumentValue.DocumentValue, FileValue.FileValue}, declared.custom.CustomValue.CustomValue, declared.annotation.Custom.Custom}
 use Rattle.ppdb_values.specs.{Meaning.{annotated_on, without_parent}, Parts.is_at}

@@ -1,5 +1,6 @@
 -- When a map fits a file (docs/FORMAT.md, "Fitting").
-use Rattle.ppdb_values.specs.Names.{◌≡◌, ℕ, ◌<◌, ◌≤◌, Bool, true, IfSome, List, Some, Contains, Kept, old_size, Slot, Empty, Held, AsyncStep}
+use Rattle.ppdb_values.specs.Names.{Kept, old_size, Slot, Empty, Held, AsyncStep}
+use Rattle.std.specs.Prelude.{◌≡◌, ℕ, ◌<◌, ◌≤◌, Bool, true, IfSome, List, Some, Contains}
 use Rattle.ppdb_maps.specs.Map.{Map, row_image, offsets_in, slot_image}
 use Rattle.ppdb_values.specs.{declared.custom.CustomBody.{CustomBody, TheVariants.{Async, Hoisted}}, declared.annotation.Annotation.Annotation, declared.scope.VariableValue.VariableValue}
 use Rattle.ppdb_merge_items.specs.{declared.file.{AnnotatedScope.AnnotatedScope, AnnotatedFile.AnnotatedFile}, Each.Each, NamedRows.{Named, named_rows, live_scope, live_custom}}

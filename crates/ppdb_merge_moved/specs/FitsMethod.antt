@@ -1,5 +1,6 @@
 -- What a map that fits a file knows of a method that the file names, part by part of the file.
-use Rattle.ppdb_values.specs.Names.{◌≡◌, ◌≢◌, ℕ, ◌<◌, ◌≤◌, Bool, true, List, [], ◌∷◌, MachineRow, Offsets, Rise, gone, old_size, Slot, Empty, Held, Point, first_offset}
+use Rattle.ppdb_values.specs.Names.{MachineRow, Offsets, Rise, gone, old_size, Slot, Empty, Held, Point, first_offset}
+use Rattle.std.specs.Prelude.{◌≡◌, ◌≢◌, ℕ, ◌<◌, ◌≤◌, Bool, true, List, [], ◌∷◌}
 use Rattle.ppdb_merge_items.specs.{NamedRows.live_machine, declared.file.{AnnotatedFile.AnnotatedFile, AnnotatedScope.AnnotatedScope}, Each.Each}
 use Rattle.ppdb_values.specs.{declared.custom.{CustomBody.{CustomBody, TheVariants.Hoisted}, CustomValue.CustomValue}, declared.file.MethodValue.MethodValue}
 use Rattle.ppdb_maps.specs.Map.{Map, moved_row, offsets_in}

@@ -1,5 +1,6 @@
 -- What a meaning, and what is linked to a method, becomes where a file is moved by a map.
-use Rattle.ppdb_values.specs.Names.{ℕ, ◌&&◌, Bool, cond, Option, Some, None, map, option_map, option_and_then, moved}
+use Rattle.std.specs.Prelude.{ℕ, ◌&&◌, Bool, cond, Option, Some, None, map, option_map, option_and_then}
+use Rattle.ppdb_base.specs.Offsets.{moved}
 use Rattle.ppdb_maps.specs.Map.{Map, moved_row, moved_signature, offsets_in, is_dropped}
 use Rattle.ppdb_values.specs.{declared.annotation.Custom.Custom, Meaning.{PointMeaning, ScopeMeaning, SlotMeaning, Meaning}, Links.Links}
 use Rattle.ppdb_merge_items.specs.Annotated.{with_item}

@@ -1,5 +1,6 @@
 -- What a moved file says at the images of kept offsets: the images of what the file says there.
-use Rattle.ppdb_values.specs.Names.{◌≡◌, ◌≢◌, ℕ, ◌≤◌, Bool, List, Some, Contains, map, filter_map, find, nat_eq, option_map, option_and_then, gone, Rise, Kept, old_size, MachineRow}
+use Rattle.ppdb_values.specs.Names.{gone, Rise, Kept, old_size, MachineRow}
+use Rattle.std.specs.Prelude.{◌≡◌, ◌≢◌, ℕ, ◌≤◌, Bool, List, Some, Contains, map, filter_map, find, nat_eq, option_map, option_and_then}
 use Rattle.ppdb_maps.specs.{Map.{Map, row_image, moved_row, offsets_in}, Readable.IsReadable}
 use Rattle.ppdb_values.specs.{declared.file.MethodValue.MethodValue, declared.annotation.Custom.Custom, Links.{kickoff_of, move_next_of}}
 use Rattle.ppdb_merge_items.specs.{declared.file.AnnotatedFile.AnnotatedFile, AnnotatedMeaning.{annotated_links, annotated_meaning, slots_at, scope_meaning, scopes_at, point_meaning}}

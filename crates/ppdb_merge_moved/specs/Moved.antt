@@ -1,6 +1,6 @@
 -- A file moved by a map: rows, offsets and slots become their images, and what has none goes.
-use Rattle.ppdb_values.specs.Names.{ℕ, ◌+◌, ◌&&◌, ◌||◌, not, Bool, cond, nat_eq, nat_lt, List, [], ◌∷◌, Option, Some, None, unwrap_or, map, filter_map, option_map, Offsets, moved, Point, TypeToken}
-use Rattle.ppdb_values.specs.Names.{Modifier, Range, Slot, Empty, Held, AsyncStep, MachineRow, moved_points}
+use Rattle.ppdb_values.specs.Names.{Offsets, moved, Point, TypeToken, Modifier, Range, Slot, Empty, Held, AsyncStep, MachineRow, moved_points}
+use Rattle.std.specs.Prelude.{ℕ, ◌+◌, ◌&&◌, ◌||◌, not, Bool, cond, nat_eq, nat_lt, List, [], ◌∷◌, Option, Some, None, unwrap_or, map, filter_map, option_map}
 use Rattle.ppdb_maps.specs.Map.{Map, moved_row, moved_signature, offsets_in, slot_image, is_dropped, output_count}
 use Rattle.ppdb_values.specs.{declared.file.MethodValue.MethodValue, declared.scope.{VariableValue.VariableValue, ConstantValue.ConstantValue, ConstantBody.ConstantBody}}
 use Rattle.ppdb_values.specs.{declared.scope.ConstantBody.TheVariants.{Enumerated, General}, declared.import.ImportValue.ImportValue}

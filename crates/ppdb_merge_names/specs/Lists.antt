@@ -1,5 +1,6 @@
 -- The types that the constants of a list name ("LocalScope Table": ConstantList).
-use Rattle.ppdb_values.specs.Names.{◌-◌, cond, List, [], slice_range, flat_map, RawTables, numbered}
+use Rattle.std.specs.Prelude.{◌-◌, cond, List, [], slice_range, flat_map}
+use Rattle.ppdb_tables.specs.RawTables.{RawTables, numbered}
 use Rattle.ppdb_maps.specs.Map.{Map, is_dropped}
 use Rattle.ppdb_values_reading.specs.declared.scopes.{ListRange.ListRange, Scope.Scope}
 use Rattle.ppdb_merge_names.specs.References.{Reference, types_of}

@@ -1,8 +1,8 @@
 -- The rows of the type system that an input names, each with its place, in the order of the places (Portable PDB v1.0, "#Pdb
 -- stream", "Metadata Tables" and the formats of its blobs). What stands at a dropped method names none, nor does the stored local signature
 -- of a method that has a `signature` line.
-use Rattle.ppdb_values.specs.Names.{map, ℕ, ◌&&◌, ◌||◌, not, Bool, false, cond, nat_eq, nat_lt, is_some, List, [], ◌∷◌, ◌++◌, Option, Some, None, flat_map, option_and_then, Place, at_byte, cell}
-use Rattle.ppdb_values.specs.Names.{kind_of, Kind, Async, Parent, MethodDebugRow, ScopeRow, ConstantRow, ImportRow, MachineRow, CustomRow, RawTables, count, numbered, row_at}
+use Rattle.ppdb_values.specs.Names.{Place, at_byte, cell, kind_of, Kind, Async, Parent, MethodDebugRow, ScopeRow, ConstantRow, ImportRow, MachineRow, CustomRow, RawTables, count, numbered, row_at}
+use Rattle.std.specs.Prelude.{map, ℕ, ◌&&◌, ◌||◌, not, Bool, false, cond, nat_eq, nat_lt, is_some, List, [], ◌∷◌, ◌++◌, Option, Some, None, flat_map, option_and_then}
 use Rattle.ppdb_maps.specs.Map.{Map, is_dropped, signature_line}
 use Rattle.ppdb_values.specs.{declared.file.MethodValue.MethodValue, RawFile.{RawFile, blob, type_limits}, Documents.method_of, Imports.heap_of, Customs.{parent_of, kind_in}, Value.owner_of}
 use Rattle.type_blobs_rows.specs.{declared.row.PlacedRow.PlacedRow, Rows.{constant_types, import_rows, resume_methods}}

@@ -1,5 +1,6 @@
 -- The references of a table row by row.
-use Rattle.ppdb_values.specs.Names.{ℕ, List, map, flat_map, RawTables, numbered}
+use Rattle.std.specs.Prelude.{ℕ, List, map, flat_map}
+use Rattle.ppdb_tables.specs.RawTables.{RawTables, numbered}
 use Rattle.ppdb_maps.specs.Map.{Map}
 use Rattle.ppdb_merge_names.specs.References.{Reference, of_method, of_scope, of_import, of_machine, of_custom}
 use Rattle.ppdb_merge_names.specs.declared.rows.Table.TheVariants.{MethodDebug, LocalScope, ImportScope, StateMachine, Custom}

@@ -1,6 +1,7 @@
 -- The file that inputs are joined into, as what becomes of the rows of the inputs (Portable PDB v1.0, "MethodDebugInformation Table",
 -- "LocalScope Table", "ImportScope Table", "StateMachineMethod Table"; docs/FORMAT.md, "Joining").
-use Rattle.ppdb_values.specs.Names.{◌≡◌, ℕ, ◌+◌, cond, List, [], ◌∷◌, Option, Some, None, length, map, flat_map, filter_map, option_map, MachineRow}
+use Rattle.std.specs.Prelude.{◌≡◌, ℕ, ◌+◌, cond, List, [], ◌∷◌, Option, Some, None, length, map, flat_map, filter_map, option_map}
+use Rattle.ppdb_tables.specs.declared.rows.MachineRow.{MachineRow}
 use Rattle.ppdb_maps.specs.Map.{moved_row, offsets_in}
 use Rattle.ppdb_values.specs.{declared.file.{DocumentValue.DocumentValue, FileValue.FileValue, MethodValue.MethodValue}, declared.import.ImportScopeValue.ImportScopeValue}
 use Rattle.ppdb_values.specs.declared.scope.ScopeValue.{ScopeValue}

@@ -1,6 +1,7 @@
 -- Which offsets a map does not know, and which of async records it does not keep, each with its table, its row and its number in the row
 -- (docs/FORMAT.md, "What does not fit").
-use Rattle.ppdb_values.specs.Names.{◌≡◌, ℕ, ◌<◌, ◌≤◌, true, false, List, [], ◌∷◌, Contains, Option, Some, slice_get, option_map, MergeError, OffsetBeyond, AsyncLost, Point, Range, Slot, Held, row_at}
+use Rattle.ppdb_values.specs.Names.{MergeError, OffsetBeyond, AsyncLost, Point, Range, Slot, Held, row_at}
+use Rattle.std.specs.Prelude.{◌≡◌, ℕ, ◌<◌, ◌≤◌, true, false, List, [], ◌∷◌, Contains, Option, Some, slice_get, option_map}
 use Rattle.ppdb_maps.specs.{Map.{Map, offsets_in}, Says.sizes_of}
 use Rattle.ppdb_values.specs.{RawFile.RawFile, Value.value_of, declared.file.{FileValue.FileValue, MethodValue.MethodValue}, declared.scope.ScopeValue.ScopeValue}
 use Rattle.ppdb_values.specs.declared.custom.{CustomBody.{CustomBody, TheVariants.Hoisted}, CustomValue.CustomValue}

@@ -1,5 +1,6 @@
 -- The order of places, and what is reported of several witnesses (docs/FORMAT.md, "Faults" and "What does not fit").
-use Rattle.ppdb_values.specs.Names.{◌≡◌, ◌↔◌, ℕ, List, [], ◌∷◌, Some, slice_get, Place, ComesBefore, MergeError}
+use Rattle.std.specs.Prelude.{◌≡◌, ◌↔◌, ℕ, List, [], ◌∷◌, Some, slice_get}
+use Rattle.ppdb_base.specs.{declared.fault.Place.Place, Place.ComesBefore, declared.merge_error.MergeError.MergeError}
 
 -- the numbers by which places are ordered: part, table, row, column and byte
 abbrev pub place_numbers : Place → List ℕ

@@ -1,5 +1,6 @@
 -- The references of a file stand in the order of their places (docs/FORMAT.md, "References").
-use Rattle.ppdb_values.specs.Names.{◌≡◌, ℕ, Bool, List, [], ◌∷◌, ◌++◌, Contains, None, ComesBefore, MergeError, Unmapped}
+use Rattle.std.specs.Prelude.{◌≡◌, ℕ, Bool, List, [], ◌∷◌, ◌++◌, Contains, None}
+use Rattle.ppdb_base.specs.{Place.ComesBefore, declared.merge_error.MergeError.{MergeError, TheVariants.Unmapped}}
 use Rattle.ppdb_maps.specs.Map.{Map, row_image}
 use Rattle.ppdb_values.specs.RawFile.{RawFile}
 use Rattle.ppdb_merge_items.specs.Each.{Pairs}

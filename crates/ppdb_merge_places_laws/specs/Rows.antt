@@ -1,5 +1,6 @@
 -- Records of unknown kinds, and variables whose slots have no image, each by its row (docs/FORMAT.md, "What does not fit").
-use Rattle.ppdb_values.specs.Names.{◌≡◌, ℕ, true, false, List, [], ◌∷◌, Option, Some, None, MergeError, KindUnknown, SlotUnmapped, row_at}
+use Rattle.ppdb_values.specs.Names.{MergeError, KindUnknown, SlotUnmapped, row_at}
+use Rattle.std.specs.Prelude.{◌≡◌, ℕ, true, false, List, [], ◌∷◌, Option, Some, None}
 use Rattle.ppdb_maps.specs.Map.{Map, is_dropped, slot_image}
 use Rattle.ppdb_values.specs.{declared.custom.CustomValue.CustomValue, declared.file.FileValue.FileValue}
 use Rattle.ppdb_merge_fits.specs.{Clashes.{has_unknown_kind, unknown_kinds}, Slots.{used, variable_slots, slots_unmapped}}

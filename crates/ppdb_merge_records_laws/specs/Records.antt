@@ -1,7 +1,8 @@
 -- The custom records of the file that inputs are joined into, as what becomes of the records of the inputs (Portable PDB v1.0,
 -- "CustomDebugInformation Table": in order of Parent; docs/FORMAT.md, "Joining").
-use Rattle.ppdb_values.specs.Names.{◌≡◌, ℕ, zero, suc, ◌+◌, ◌≤◌, ◌++◌, ◌&&◌, not, nat_eq, nat_lt, cond, List, [], ◌∷◌, Option, Some, None, length, map, flat_map, position, sum_by, filter, filter_map}
-use Rattle.ppdb_values.specs.Names.{enumerate_from, option_map, numbered, row_at, Parent}
+use Rattle.ppdb_values.specs.Names.{enumerate_from, numbered, row_at, Parent}
+use Rattle.std.specs.Prelude.{◌≡◌, ℕ, zero, suc, ◌+◌, ◌≤◌, ◌++◌, ◌&&◌, not, nat_eq, nat_lt, cond, List, [], ◌∷◌, Option, Some, None, length, map, flat_map, position, sum_by, filter, filter_map}
+use Rattle.std.specs.Prelude.{option_map}
 use Rattle.ppdb_maps.specs.Map.{moved_row, offsets_in, is_dropped}
 use Rattle.ppdb_values.specs.{declared.custom.CustomValue.CustomValue, declared.file.FileValue.FileValue, declared.scope.ScopeValue.ScopeValue, Parts.first_item}
 use Rattle.ppdb_values_sound_laws.specs.Customs.{SoundCustoms, coded_of}

@@ -1,6 +1,6 @@
 -- What becomes of the points of a method of an input (Portable PDB v1.0, "MethodDebugInformation Table", "Sequence Points Blob").
-use Rattle.ppdb_values.specs.Names.{◌≡◌, ◌≢◌, ℕ, ◌<◌, ◌++◌, ◌⊎◌, Bool, true, false, not, nat_lt, List, [], Option, Some, None, All, option_map, option_and_then, Offsets, every, gone, lined, old_size}
-use Rattle.ppdb_values.specs.Names.{common_document, number_limit, points_blob, large_steps}
+use Rattle.ppdb_values.specs.Names.{Offsets, every, gone, lined, old_size, common_document, number_limit, points_blob, large_steps}
+use Rattle.std.specs.Prelude.{◌≡◌, ◌≢◌, ℕ, ◌<◌, ◌++◌, ◌⊎◌, Bool, true, false, not, nat_lt, List, [], Option, Some, None, All, option_map, option_and_then}
 use Rattle.ppdb_maps.specs.Map.{Map, offsets_in}
 use Rattle.ppdb_values.specs.{declared.file.MethodValue.MethodValue, Parts.method_at, RawFile.RawFile, Value.value_of}
 use Rattle.ppdb_merge_joined.specs.Joined.{row_in, renumbered_method}

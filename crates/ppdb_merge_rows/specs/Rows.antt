@@ -1,6 +1,7 @@
 -- What becomes of the rows of an input, by their numbers (Portable PDB v1.0, "LocalScope Table", "LocalVariable Table", "LocalConstant
 -- Table", "ImportScope Table", "CustomDebugInformation Table"; docs/FORMAT.md, "Joining").
-use Rattle.ppdb_values.specs.Names.{ℕ, cond, List, Option, Some, None, map, RawTables}
+use Rattle.std.specs.Prelude.{ℕ, cond, List, Option, Some, None, map}
+use Rattle.ppdb_tables.specs.RawTables.{RawTables}
 use Rattle.ppdb_maps.specs.Map.{Map, moved_row, offsets_in}
 use Rattle.ppdb_values.specs.{declared.custom.{CustomBody.{CustomBody, TheVariants.Unread}, CustomValue.CustomValue}, declared.import.ImportScopeValue.ImportScopeValue}
 use Rattle.ppdb_values.specs.{declared.scope.{ConstantValue.ConstantValue, ScopeValue.ScopeValue, VariableValue.VariableValue}, RawFile.RawFile, Value.value_of}

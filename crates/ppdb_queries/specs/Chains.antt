@@ -1,5 +1,6 @@
 -- Chains of import scopes, as rows (Portable PDB v1.0, "ImportScope Table").
-use Rattle.ppdb_values.specs.Names.{map, ℕ, List, ImportRow, RawTables}
+use Rattle.std.specs.Prelude.{map, ℕ, List}
+use Rattle.ppdb_tables.specs.{declared.rows.ImportRow.ImportRow, RawTables.RawTables}
 use Rattle.ppdb_values.specs.Chains.{chain_of}
 use Rattle.ppdb_verify_rows.specs.Imports.{imports_in}
 use Rattle.ppdb_queries.specs.declared.imports.ImportLink.{ImportLink}

@@ -1,7 +1,7 @@
 -- Hoisted locals that hold an offset, as rows (Portable PDB v1.0, "CustomDebugInformation Table", "State Machine Hoisted Local
 -- Scopes").
-use Rattle.ppdb_values.specs.Names.{ℕ, ◌-◌, List, [], ◌++◌, slice_range, if◌then◌else◌, Option, Some, None, filter_map, flat_map, enumerate_from, option_map, Range, Slot, Empty, Held, CustomRow}
-use Rattle.ppdb_values.specs.Names.{RawTables, numbered}
+use Rattle.ppdb_values.specs.Names.{enumerate_from, Range, Slot, Empty, Held, CustomRow, RawTables, numbered}
+use Rattle.std.specs.Prelude.{ℕ, ◌-◌, List, [], ◌++◌, slice_range, if◌then◌else◌, Option, Some, None, filter_map, flat_map, option_map}
 use Rattle.ppdb_values.specs.{Customs.custom_of, Parts.{slots_in, holds}}
 use Rattle.ppdb_queries.specs.{Cursors.Walk, Runs.customs_at, declared.hoisted.Hoisted.Hoisted}
 

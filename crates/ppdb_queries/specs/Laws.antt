@@ -1,5 +1,6 @@
 -- What the queries answer of rows is what the value of the file has (Portable PDB v1.0, "Metadata Tables").
-use Rattle.ppdb_values.specs.Names.{◌≡◌, ◌≤◌, ◌+◌, map, ℕ, length, Some, is_some, List, option_map, filter, flat_map, enumerate_from, Range, Parent, CustomRow, ScopeRow, RawTables, count, row_at}
+use Rattle.ppdb_values.specs.Names.{enumerate_from, Range, Parent, CustomRow, ScopeRow, RawTables, count, row_at}
+use Rattle.std.specs.Prelude.{◌≡◌, ◌≤◌, ◌+◌, map, ℕ, length, Some, is_some, List, option_map, filter, flat_map}
 use Rattle.ppdb_values.specs.{declared.import.{ImportScopeValue.ImportScopeValue, ImportValue.ImportValue}, declared.scope.ScopeValue.ScopeValue, Constants.constant_of, Customs.custom_of}
 use Rattle.ppdb_values.specs.{Documents.document_of, Imports.import_value, Meaning.{SlotMeaning, slots_at}, Parts.{customs_on, first_item, import_chain, scopes_at as scopes_of_value, slots_in}}
 use Rattle.ppdb_values.specs.{RawFile.RawFile, Rules.{HasRow, HasRowOrNone}, Value.{value_of, scope_of, variable_of}}

@@ -1,5 +1,6 @@
 -- Rows of StateMachineMethod by their two methods (Portable PDB v1.0, "StateMachineMethod Table").
-use Rattle.ppdb_values.specs.Names.{map, ℕ, List, Option, Some, None, ◌==◌, if◌then◌else◌, MachineRow}
+use Rattle.std.specs.Prelude.{map, ℕ, List, Option, Some, None, ◌==◌, if◌then◌else◌}
+use Rattle.ppdb_tables.specs.declared.rows.MachineRow.{MachineRow}
 use Rattle.ppdb_values.specs.Ordered.{Rises}
 use Rattle.ppdb_queries.specs.declared.machines.{Column.{Column, TheVariants.{MoveNext, Kickoff}}, KickoffOrder.{KickoffOrder, TheVariants.{Unread, Rising, Mixed}}}
 

@@ -1,5 +1,6 @@
 -- The point of an offset (Portable PDB v1.0, "Sequence Points Blob", "Document Name Blob").
-use Rattle.ppdb_values.specs.Names.{◌≡◌, ℕ, Option, Some, None, DocumentRow, row_at}
+use Rattle.std.specs.Prelude.{◌≡◌, ℕ, Option, Some, None}
+use Rattle.ppdb_tables.specs.{declared.rows.DocumentRow.DocumentRow, RawTables.row_at}
 use Rattle.ppdb_values.specs.{Parts.{points_of, signature_of, last_point}, RawFile.RawFile, Value.value_of}
 use Rattle.ppdb_verify_rows.specs.Names.{IsNameOf}
 use Rattle.ppdb_queries.specs.declared.points.PointAt.{PointAt}

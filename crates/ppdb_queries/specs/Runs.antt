@@ -1,5 +1,6 @@
 -- Rows with a key, in a table that is sorted by it (ECMA-335 II.22: tables that are sorted by a primary key).
-use Rattle.ppdb_values.specs.Names.{map, ℕ, ◌≡◌, ◌+◌, ◌-◌, ◌<◌, ◌≤◌, ◌==◌, ◌⊎◌, List, length, slice_index, slice_range, filter, Parent, CustomRow, RawTables, numbered, count}
+use Rattle.std.specs.Prelude.{map, ℕ, ◌≡◌, ◌+◌, ◌-◌, ◌<◌, ◌≤◌, ◌==◌, ◌⊎◌, List, length, slice_index, slice_range, filter}
+use Rattle.ppdb_tables.specs.{declared.parent.Parent.Parent, declared.rows.CustomRow.CustomRow, RawTables.{RawTables, numbered, count}}
 use Rattle.ppdb_values.specs.{Customs.parent_of, Parts.is_at}
 use Rattle.ppdb_queries.specs.declared.run.Run.{Run}
 

@@ -1,5 +1,6 @@
 -- Scopes that hold an offset, as rows (Portable PDB v1.0, "LocalScope Table").
-use Rattle.ppdb_values.specs.Names.{map, ℕ, ◌≡◌, ◌-◌, ◌<◌, ◌≤◌, ◌==◌, ◌&&◌, List, [], ◌∷◌, length, slice_range, Option, Some, None, filter, ScopeRow, RawTables, numbered}
+use Rattle.std.specs.Prelude.{map, ℕ, ◌≡◌, ◌-◌, ◌<◌, ◌≤◌, ◌==◌, ◌&&◌, List, [], ◌∷◌, length, slice_range, Option, Some, None, filter}
+use Rattle.ppdb_tables.specs.{declared.rows.ScopeRow.ScopeRow, RawTables.{RawTables, numbered}}
 use Rattle.ppdb_values.specs.{Owners.list_end, Parts.holds, Value.range_of}
 use Rattle.ppdb_queries.specs.{declared.run.Run.Run, declared.scopes.ScopeView.ScopeView, Cursors.Walk}
 

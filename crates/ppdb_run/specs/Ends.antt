@@ -1,6 +1,6 @@
 -- How a run ends: what its status, its text and the files afterwards have to do with the outcome of its words.
-use Rattle.ppdb_values.specs.Names.{ℕ, ◌≡◌, ◌<◌, ◌≤◌, ◌+◌, ◌-◌, ◌*◌, ◌⊎◌, List, [], ◌∷◌, length, Option, Some, None, Ok, IfSome, slice_get, Rose, counted, MAX_FILE_BYTES, Files, Contents, reading}
-use Rattle.ppdb_values.specs.Names.{IsAccepted, appended, AppendsPrefix, lines, count}
+use Rattle.ppdb_values.specs.Names.{Rose, counted, MAX_FILE_BYTES, Files, Contents, reading, IsAccepted, appended, AppendsPrefix, lines, count}
+use Rattle.std.specs.Prelude.{ℕ, ◌≡◌, ◌<◌, ◌≤◌, ◌+◌, ◌-◌, ◌*◌, ◌⊎◌, List, [], ◌∷◌, length, Option, Some, None, Ok, IfSome, slice_get}
 use Rattle.ppdb_run_stops.specs.{declared.status.Status.{Status, TheVariants.{Done, WriteFault, Memory}}, Lines.{read_fault_line, write_fault_line}, Refusals.Outcome, Status.UnlessFault}
 use Rattle.ppdb_merge.specs.declared.trace.Trace.{Trace}
 use Rattle.ppdb_run_words.specs.Words.{Question, Id, Verify, Query, Links, Breaks, Options, Task, Ask, Lookup, Rebuild, Compose, Merge, Sample, Input, Words, NoTask, read_files, written_file}

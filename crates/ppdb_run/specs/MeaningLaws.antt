@@ -1,5 +1,6 @@
 -- What a file that is written says, by what its inputs said.
-use Rattle.ppdb_values.specs.Names.{◌≡◌, ◌≢◌, ◌≤◌, ℕ, List, [], ◌∷◌, None, length, map, kind_of, Unknown, IsAccepted}
+use Rattle.ppdb_values.specs.Names.{kind_of, Unknown, IsAccepted}
+use Rattle.std.specs.Prelude.{◌≡◌, ◌≢◌, ◌≤◌, ℕ, List, [], ◌∷◌, None, length, map}
 use Rattle.ppdb_maps.specs.Text.{IsMapOf}
 use Rattle.ppdb_values.specs.{declared.file.FileValue.FileValue, RawFile.RawFile, Rules.KeepsRules, Types.HasTypes, Value.value_of}
 use Rattle.ppdb_build_canon.specs.{declared.choice.IdChoice.IdChoice, Canon.{canon, with_id}, Limits.first_limit}

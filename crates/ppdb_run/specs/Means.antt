@@ -1,5 +1,6 @@
 -- What a debug file that is written means, by what its inputs meant.
-use Rattle.ppdb_values.specs.Names.{◌≡◌, ℕ, List, [], ◌∷◌, Option, Some, Ok, IfSome, map, Files, IsAccepted}
+use Rattle.std.specs.Prelude.{◌≡◌, ℕ, List, [], ◌∷◌, Option, Some, Ok, IfSome, map}
+use Rattle.ppdb_base.specs.{Files.Files, First.IsAccepted}
 use Rattle.ppdb_merge_meaning_laws.specs.{Kept.{MovedBy, KeepsMeaning}, Origins.KeepsOrigins}
 use Rattle.ppdb_values.specs.{RawFile.RawFile, Value.value_of}
 use Rattle.ppdb_verify.specs.Files.{FileFaults, IsRawOf}

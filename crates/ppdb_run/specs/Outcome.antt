@@ -1,6 +1,7 @@
 -- What a command comes to over the files: a status, a text, and at most one file that is written.
-use Rattle.ppdb_values.specs.Names.{ℕ, ◌≡◌, ◌<◌, ◌≤◌, ◌⊎◌, List, [], ◌∷◌, Bool, true, false, if◌then◌else◌, find, Option, Some, None, option_map, Result, Ok, Err, codes, length, kind_of, Code, Place}
-use Rattle.ppdb_values.specs.Names.{Fault, Files, Missing, Longer, Contents, reading, LinkError, MergeError, KindUnknown, MAX_FILE_BYTES, IsAccepted, IsFirst, lines, RowsDiffer, ImageRange, numbered}
+use Rattle.ppdb_values.specs.Names.{kind_of, Code, Place, Fault, Files, Missing, Longer, Contents, reading, LinkError, MergeError, KindUnknown, MAX_FILE_BYTES, IsAccepted, IsFirst, lines, RowsDiffer}
+use Rattle.ppdb_values.specs.Names.{ImageRange, numbered}
+use Rattle.std.specs.Prelude.{ℕ, ◌≡◌, ◌<◌, ◌≤◌, ◌⊎◌, List, [], ◌∷◌, Bool, true, false, if◌then◌else◌, find, Option, Some, None, option_map, Result, Ok, Err, codes, length}
 use Rattle.ppdb_base.specs.Files.{Reading}
 use Rattle.ppdb_queries_list.specs.{Lists.{IsFirstOther, Lists}, declared.line.MethodOffset.MethodOffset}
 use Rattle.ppdb_show_lines.specs.{declared.form.Form.{Form, TheVariants.{Text, Json}}, Forms.lines_as, Heads.{id_line, entry_line}, Pieces.line}

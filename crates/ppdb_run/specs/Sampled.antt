@@ -1,5 +1,6 @@
 -- What the sample comes to (docs/FORMAT.md, "Sample"): its file, and the file of what its map makes of it.
-use Rattle.ppdb_values.specs.Names.{ℕ, List, [], ◌∷◌, length, Option, option_or, Limit}
+use Rattle.std.specs.{Prelude.{ℕ, List, [], ◌∷◌, length, Option}, Option.option_or}
+use Rattle.ppdb_base.specs.declared.limits.Limit.{Limit}
 use Rattle.ppdb_values.specs.declared.file.FileValue.{FileValue}
 use Rattle.ppdb_build_canon.specs.{declared.choice.IdChoice.TheVariants.{Hash, Keep}, Canon.{canon, chosen_id}, Limits.first_limit}
 use Rattle.ppdb_merge_meaning_laws.specs.Kept.{joined_inputs}

@@ -1,5 +1,6 @@
 -- Why a run stopped, and what that says.
-use Rattle.ppdb_values.specs.Names.{ℕ, List, [], Option, Some, None, ◌≡◌, ◌⊎◌, WriteError, Files}
+use Rattle.std.specs.Prelude.{ℕ, List, [], Option, Some, None, ◌≡◌, ◌⊎◌}
+use Rattle.ppdb_base.specs.{declared.sink.WriteError.WriteError, Files.Files}
 use Rattle.ppdb_run_stops.specs.{declared.status.Status.Status, declared.stop.Stop.Stop, Lines.{read_fault_line, write_fault_line}}
 use Rattle.ppdb_run_stops.specs.Refusals.{Outcome, usage, absent, too_long, refused, no_map, unfit, limited, map_limited, no_method, unlinked, no_document, sizes_differ, unlisted}
 use Rattle.ppdb_base.specs.declared.link_error.LinkError.TheVariants as link_errors

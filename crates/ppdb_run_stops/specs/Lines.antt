@@ -1,6 +1,7 @@
 -- The lines that say why a run stopped.
-use Rattle.ppdb_values.specs.Names.{ℕ, List, [], ◌∷◌, ◌++◌, Some, codes, Fault, Limit, LinkError, MergeError, TableRows, ListPastEnd, PointOffset, LineStep, FileSize, SpanTotal, Unmapped, ImageTwice}
-use Rattle.ppdb_values.specs.Names.{MethodTaken, OffsetBeyond, AsyncLost, KindUnknown, DocumentConflict, RowsDiffer, ImageRange, SlotUnmapped, SlotTwice}
+use Rattle.ppdb_values.specs.Names.{Fault, Limit, LinkError, MergeError, TableRows, ListPastEnd, PointOffset, LineStep, FileSize, SpanTotal, Unmapped, ImageTwice, MethodTaken, OffsetBeyond, AsyncLost}
+use Rattle.ppdb_values.specs.Names.{KindUnknown, DocumentConflict, RowsDiffer, ImageRange, SlotUnmapped, SlotTwice}
+use Rattle.std.specs.Prelude.{ℕ, List, [], ◌∷◌, ◌++◌, Some, codes}
 use Rattle.ppdb_base.specs.declared.merge_error.MergeError.TheVariants.{Memory}
 use Rattle.ppdb_show_lines.specs.{Lines.{Field, Line, mark, number, table, guid, text_of, name as named_bytes}, Pieces.{line, numbered, signed, tabled}}
 use Rattle.ppdb_run_stops.specs.Faults.{said, place_fields, fault_fields}

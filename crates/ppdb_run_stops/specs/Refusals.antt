@@ -1,5 +1,6 @@
 -- What a command comes to, and the lines that it may stop with.
-use Rattle.ppdb_values.specs.Names.{ℕ, List, [], Option, None, codes, Fault, Limit, LinkError, MergeError}
+use Rattle.std.specs.Prelude.{ℕ, List, [], Option, None, codes}
+use Rattle.ppdb_base.specs.{declared.fault.Fault.Fault, declared.limits.Limit.Limit, declared.link_error.LinkError.LinkError, declared.merge_error.MergeError.MergeError}
 use Rattle.ppdb_show.specs.Lookup.{no_method_line}
 use Rattle.ppdb_show_lines.specs.Lines.{Line, text_of}
 use Rattle.ppdb_run_stops.specs.{declared.status.Status.Status, Lines.{about, usage_line, refused_line, map_line, unfit_line, limit_text, map_limit_text, list_line, links_line, sizes_line}}

@@ -1,5 +1,6 @@
 -- How many rows a query of an offset of a method reads at most.
-use Rattle.ppdb_values.specs.Names.{ℕ, ◌+◌, ◌*◌, List, length, sum_by, RawTables}
+use Rattle.std.specs.Prelude.{ℕ, ◌+◌, ◌*◌, List, length, sum_by}
+use Rattle.ppdb_tables.specs.RawTables.{RawTables}
 use Rattle.ppdb_queries.specs.{declared.scopes.ScopeView.ScopeView, Digits.digits, Scopes.{scopes_at, scope_count}}
 use Rattle.ppdb_show.specs.Query.{customs_on, variables_of, constants_of, imports_of}
 

@@ -1,5 +1,6 @@
 -- What a lookup of a list of offsets prints, line by line, and how many rows it reads at most (this project's format).
-use Rattle.ppdb_values.specs.Names.{ℕ, List, [], ◌∷◌, Bool, nat_le, ◌&&◌, codes, if◌then◌else◌, flat_map, sum_by, RawTables, count}
+use Rattle.std.specs.Prelude.{ℕ, List, [], ◌∷◌, Bool, nat_le, ◌&&◌, codes, if◌then◌else◌, flat_map, sum_by}
+use Rattle.ppdb_tables.specs.RawTables.{RawTables, count}
 use Rattle.ppdb_queries_list.specs.declared.line.MethodOffset.{MethodOffset}
 use Rattle.ppdb_show_lines.specs.{declared.form.Form.Form, Forms.lines_as, Lines.{Line, field, number}}
 use Rattle.ppdb_values.specs.RawFile.{RawFile}

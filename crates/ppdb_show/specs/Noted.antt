@@ -1,5 +1,6 @@
 -- What the answers about one file note for one another.
-use Rattle.ppdb_values.specs.Names.{ℕ, ◌≡◌, List, flat_map, RawTables}
+use Rattle.std.specs.Prelude.{ℕ, ◌≡◌, List, flat_map}
+use Rattle.ppdb_tables.specs.RawTables.{RawTables}
 use Rattle.ppdb_values.specs.Chains.{chain_of}
 use Rattle.ppdb_queries.specs.Machines.{IsOrderOf}
 use Rattle.ppdb_show_lines.specs.{declared.form.Form.Form, Forms.lines_as, Lines.Line}

@@ -1,6 +1,6 @@
 -- What a query of an offset of a method prints, line by line, as text or as objects of JSON (this project's format; Portable PDB v1.0, "Metadata Tables").
-use Rattle.ppdb_values.specs.Names.{map, ℕ, List, [], ◌∷◌, ◌++◌, Option, Some, None, Bool, true, false, ◌==◌, codes, unwrap_or, option_map, flat_map, Point, Range, AsyncStep, ConstantRow, CustomRow}
-use Rattle.ppdb_values.specs.Names.{ImportRow, VariableRow, RawTables, row_at}
+use Rattle.ppdb_values.specs.Names.{Point, Range, AsyncStep, ConstantRow, CustomRow, ImportRow, VariableRow, RawTables, row_at}
+use Rattle.std.specs.Prelude.{map, ℕ, List, [], ◌∷◌, ◌++◌, Option, Some, None, Bool, true, false, ◌==◌, codes, unwrap_or, option_map, flat_map}
 use Rattle.ppdb_values.specs.{declared.custom.CustomBody.{CustomBody, TheVariants.{Async, Hoisted, TypeDocuments, Unread}}, declared.scope.VariableValue.VariableValue, Chains.chain_of}
 use Rattle.ppdb_values.specs.{Customs.custom_of, Documents.document_of, Imports.import_scope_of, Links.{kickoff_of, move_next_of}, Parts.{points_of, signature_of, last_point}}
 use Rattle.ppdb_values.specs.{RawFile.{RawFile, text, blob, guid as guid_in}, Value.{owned_by, variable_of, value_of}}

@@ -1,5 +1,6 @@
 -- Lines put one after the other, and the rows that are read for them, for the functions that put them.
-use Rattle.ppdb_values.specs.Names.{map, ℕ, ◌≡◌, ◌+◌, ◌*◌, ◌≤◌, ◌++◌, List, ◌∷◌, length, Option, Some, None, flat_map, sum_by, ScopeRow, RawTables, row_at}
+use Rattle.std.specs.Prelude.{map, ℕ, ◌≡◌, ◌+◌, ◌*◌, ◌≤◌, ◌++◌, List, ◌∷◌, length, Option, Some, None, flat_map, sum_by}
+use Rattle.ppdb_tables.specs.{declared.rows.ScopeRow.ScopeRow, RawTables.{RawTables, row_at}}
 use Rattle.ppdb_values.specs.{Imports.import_value, Rules.HasRow}
 use Rattle.ppdb_queries.specs.{declared.imports.ImportLink.ImportLink, declared.points.PointAt.PointAt, declared.scopes.ScopeView.ScopeView, Digits.digits, Scopes.{scope_view, scopes_at, scope_count}}
 use Rattle.ppdb_show_lines.specs.{declared.form.Form.Form, Forms.lines_as, Lines.Line, Uses.use_line}

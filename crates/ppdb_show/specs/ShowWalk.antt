@@ -1,5 +1,6 @@
 -- The lines of one row of a table, for the functions that put them.
-use Rattle.ppdb_values.specs.Names.{ℕ, ◌≡◌, ◌-◌, List, [], ◌∷◌, Option, Some, None, length, flat_map, range_with_len, ScopeRow, RawTables, row_at}
+use Rattle.std.specs.{Prelude.{ℕ, ◌≡◌, ◌-◌, List, [], ◌∷◌, Option, Some, None, length, flat_map}, List.range_with_len}
+use Rattle.ppdb_tables.specs.{declared.rows.ScopeRow.ScopeRow, RawTables.{RawTables, row_at}}
 use Rattle.ppdb_values.specs.{Documents.{document_of, method_of}, Imports.import_scope_of, Value.{owner_of, variable_of}}
 use Rattle.ppdb_show_lines.specs.Lines.{Line}
 use Rattle.ppdb_show.specs.Show.{document_line, lines_of_method, scope_line, variable_line, constant_line, lines_of_import, machine_line, custom_line, scope_of_item, document_lines, method_lines}

@@ -1,5 +1,6 @@
 -- A line that is shown, as text and as an object of JSON (this project's format).
-use Rattle.ppdb_values.specs.Names.{ℕ, List, [], ◌++◌, Option, None, decimal, codes, flat_map, fold, escaped}
+use Rattle.std.specs.Prelude.{ℕ, List, [], ◌++◌, Option, None, decimal, codes, flat_map, fold}
+use Rattle.ppdb_base.specs.Escaped.{escaped}
 use Rattle.serde_json.specs.{Data.{Data, Members, no_members, null, string, object, unsigned, put, number as json_number}, Written.compact_text}
 use Rattle.ppdb_show_lines.specs.{Pieces.line, Values.{table_text, token_text, guid_text, hex_text}}
 

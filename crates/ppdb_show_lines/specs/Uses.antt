@@ -1,6 +1,7 @@
 -- The line of an import: its kind, and then the alias, the assembly, the namespace and the type, as far as it has them
 -- (this project's format; Portable PDB v1.0, "Imports Blob").
-use Rattle.ppdb_values.specs.Names.{ℕ, List, [], ◌∷◌, Option, Some, None, codes, TypeToken}
+use Rattle.std.specs.Prelude.{ℕ, List, [], ◌∷◌, Option, Some, None, codes}
+use Rattle.type_blobs.specs.declared.types.TypeToken.{TypeToken}
 use Rattle.ppdb_values.specs.declared.import.ImportValue.{ImportValue}
 use Rattle.ppdb_values.specs.declared.import.ImportValue.TheVariants.{Namespace, AssemblyNamespace, Target, Xml, Alias, AssemblyAlias, NamespaceAlias, AssemblyNamespaceAlias, TargetAlias}
 use Rattle.ppdb_values.specs.WrittenImports.{kind_of_import}

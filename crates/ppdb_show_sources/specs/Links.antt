@@ -1,5 +1,6 @@
 -- What is reported of the sources of a file, line by line (this project's format).
-use Rattle.ppdb_values.specs.Names.{ℕ, List, [], ◌∷◌, Option, Some, None, Result, Ok, codes, map, LinkError, numbered}
+use Rattle.ppdb_values.specs.Names.{LinkError, numbered}
+use Rattle.std.specs.Prelude.{ℕ, List, [], ◌∷◌, Option, Some, None, Result, Ok, codes, map}
 use Rattle.ppdb_show_lines.specs.{declared.form.Form.Form, Forms.lines_as, Lines.{Line, Content, field, number, name, absent}}
 use Rattle.ppdb_values.specs.declared.file.{DocumentValue.DocumentValue, FileValue.FileValue}
 use Rattle.source_link.specs.{declared.pair.Pair.Pair, Address.address_of, FileLinks.link_record, Record.links_of}

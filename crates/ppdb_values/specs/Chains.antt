@@ -1,5 +1,6 @@
 -- Chains of rows, each the parent of the one before it (Portable PDB v1.0, "ImportScope Table": Parent).
-use Rattle.ppdb_values.specs.Names.{◌≡◌, ℕ, zero, suc, ◌≤◌, List, [], ◌∷◌, length, Option, Some, None, row_at}
+use Rattle.std.specs.Prelude.{◌≡◌, ℕ, zero, suc, ◌≤◌, List, [], ◌∷◌, length, Option, Some, None}
+use Rattle.ppdb_tables.specs.RawTables.{row_at}
 pub use Rattle.ppdb_tables.specs.Chains.{parent_at, ancestor_of, NeverEnds}
 
 abbrev pub link_and : {X : Type 0} → (X → ℕ) → (ℕ → List (ℕ × X)) → ℕ → Option X → List (ℕ × X)

@@ -1,5 +1,6 @@
 -- The value of a local constant (Portable PDB v1.0, "LocalConstant Table", "LocalConstantSig Blob").
-use Rattle.ppdb_values.specs.Names.{Option, Some, None, constants, body_of, ConstantBody as StoredBody, primitive, enumerated, general, object, ConstantRow, RawTables}
+use Rattle.ppdb_values.specs.Names.{constants, body_of, ConstantBody as StoredBody, primitive, enumerated, general, object, ConstantRow, RawTables}
+use Rattle.std.specs.Prelude.{Option, Some, None}
 use Rattle.ppdb_values.specs.declared.scope.{ConstantBody.{ConstantBody, TheVariants.{Primitive, Enumerated, General, Object}}, ConstantValue.ConstantValue}
 use Rattle.ppdb_values.specs.RawFile.{text, blob, records_of, begun_of, type_limits}
 

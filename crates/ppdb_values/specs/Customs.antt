@@ -1,8 +1,9 @@
 -- The value of a record of custom debug information (Portable PDB v1.0, "CustomDebugInformation Table", and its kinds
 -- "Async Method Stepping Information", "State Machine Hoisted Local Scopes" and "Type Definition Documents").
-use Rattle.ppdb_values.specs.Names.{ℕ, List, [], ◌∷◌, Option, Some, None, unwrap_or, filter_map, Kind, Async as AsyncKind, Hoisted as HoistedKind, TypeDocuments as DocumentsKind, AsyncStep, kind_of}
-use Rattle.ppdb_values.specs.Names.{async_stepping, catch_handler, await_step, type_documents, CustomRow, Parent, parent_in, RawTables, count}
-use Rattle.custom_info.specs.{AsyncStepping.Entry, HoistedScopes.hoisted_scopes}
+use Rattle.std.specs.Prelude.{ℕ, List, [], ◌∷◌, Option, Some, None, unwrap_or, filter_map}
+use Rattle.custom_info.specs.{declared.kinds.Kind.{Kind, TheVariants.{Async as AsyncKind, Hoisted as HoistedKind, TypeDocuments as DocumentsKind}}, declared.stepping.AsyncStep.AsyncStep}
+use Rattle.custom_info.specs.{Kinds.kind_of, AsyncStepping.{async_stepping, catch_handler, await_step, Entry}, TypeDocuments.type_documents, HoistedScopes.hoisted_scopes}
+use Rattle.ppdb_tables.specs.{declared.rows.CustomRow.CustomRow, declared.parent.Parent.Parent, Parents.parent_in, RawTables.{RawTables, count}}
 use Rattle.ppdb_values.specs.{declared.custom.{CustomBody.{CustomBody, TheVariants.{Async, Hoisted, TypeDocuments, Unread}}, CustomValue.CustomValue}, RawFile.{blob, guid, records_of}}
 
 abbrev pub step_of : Entry → Option AsyncStep

@@ -1,6 +1,7 @@
 -- The value of a document, and the sequence points of a method (Portable PDB v1.0, "Document Table", "Document Name Blob",
 -- "MethodDebugInformation Table", "Sequence Points Blob").
-use Rattle.ppdb_values.specs.Names.{ℕ, List, [], ◌∷◌, Option, None, option_map, name_of, Point, sequence_points, points_after, signature_of, DocumentRow, MethodDebugRow, RawTables}
+use Rattle.ppdb_values.specs.Names.{name_of, Point, sequence_points, points_after, signature_of, DocumentRow, MethodDebugRow, RawTables}
+use Rattle.std.specs.Prelude.{ℕ, List, [], ◌∷◌, Option, None, option_map}
 use Rattle.sequence_points.specs.Records.{Entry}
 use Rattle.ppdb_values.specs.{declared.file.{DocumentValue.DocumentValue, MethodValue.MethodValue}, RawFile.{blob, guid, records_of, point_limits}}
 

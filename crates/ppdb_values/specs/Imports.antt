@@ -1,6 +1,7 @@
 -- The value of an import scope (Portable PDB v1.0, "ImportScope Table", "Imports Blob").
-use Rattle.ppdb_values.specs.Names.{map, ℕ, List, Option, blob_at, imports, ImportItem, namespace, assembly_namespace, target, xml, alias, assembly_alias, namespace_alias, assembly_namespace_alias}
-use Rattle.ppdb_values.specs.Names.{target_alias, ImportRow, RawTables}
+use Rattle.ppdb_values.specs.Names.{blob_at, imports, ImportItem, namespace, assembly_namespace, target, xml, alias, assembly_alias, namespace_alias, assembly_namespace_alias, target_alias, ImportRow}
+use Rattle.ppdb_values.specs.Names.{RawTables}
+use Rattle.std.specs.Prelude.{map, ℕ, List, Option}
 use Rattle.ppdb_values.specs.declared.import.ImportValue.{ImportValue}
 use Rattle.ppdb_values.specs.declared.import.ImportValue.TheVariants.{Namespace, AssemblyNamespace, Target, Xml, Alias, AssemblyAlias, NamespaceAlias, AssemblyNamespaceAlias, TargetAlias}
 use Rattle.ppdb_values.specs.{declared.import.ImportScopeValue.ImportScopeValue, RawFile.{blob, records_of, type_limits}}

@@ -1,6 +1,7 @@
 -- What a file says of a method as a whole (Portable PDB v1.0, "StateMachineMethod Table", "#Pdb stream": EntryPoint,
 -- "CustomDebugInformation Table").
-use Rattle.ppdb_values.specs.Names.{map, ℕ, ◌==◌, List, Option, Bool, is_none, option_map, filter, find, MachineRow}
+use Rattle.std.specs.Prelude.{map, ℕ, ◌==◌, List, Option, Bool, is_none, option_map, filter, find}
+use Rattle.ppdb_tables.specs.declared.rows.MachineRow.{MachineRow}
 use Rattle.ppdb_values.specs.{declared.file.FileValue.FileValue, Parts.{customs_on, slots_in}, declared.annotation.Custom.Custom, Meaning.without_parent}
 
 pub record Links : Type 0 where

@@ -1,6 +1,7 @@
 -- What a file says of an IL offset of a method (Portable PDB v1.0: sequence points, local scopes, import scopes, custom
 -- debug information, hoisted local scopes). That of a sound value has no row of the tables 30 to 37 in it.
-use Rattle.ppdb_values.specs.Names.{map, ℕ, length, if◌then◌else◌, List, Option, Some, None, option_map, filter_map, flat_map, enumerate_from, Point, Span, Range, Slot, Empty, Held, row_at}
+use Rattle.ppdb_values.specs.Names.{enumerate_from, Point, Span, Range, Slot, Empty, Held, row_at}
+use Rattle.std.specs.Prelude.{map, ℕ, length, if◌then◌else◌, List, Option, Some, None, option_map, filter_map, flat_map}
 use Rattle.ppdb_values.specs.{declared.file.{DocumentValue.DocumentValue, FileValue.FileValue}, declared.scope.{ScopeValue.ScopeValue, VariableValue.VariableValue, ConstantValue.ConstantValue}}
 use Rattle.ppdb_values.specs.{declared.import.{ImportScopeValue.ImportScopeValue, ImportValue.ImportValue}, declared.custom.CustomValue.CustomValue, declared.annotation.Custom.Custom}
 use Rattle.ppdb_values.specs.{declared.annotation.Annotation.Annotation, Parts.{points_of, signature_of, last_point, holds, scopes_at, first_item, import_chain, customs_on, hoisted_of}}

@@ -1,5 +1,6 @@
 -- Rows of a table, each by itself, each with those before it, and by a number of theirs (ECMA-335 II.22).
-use Rattle.ppdb_values.specs.Names.{◌≡◌, ℕ, ◌<◌, ◌≤◌, List, length, slice_index, Some, row_at}
+use Rattle.std.specs.Prelude.{◌≡◌, ℕ, ◌<◌, ◌≤◌, List, length, slice_index, Some}
+use Rattle.ppdb_tables.specs.RawTables.{row_at}
 
 -- each row is so
 abbrev pub EachRow : {X : Type 0} → (X → Type 0) → List X → Type 0

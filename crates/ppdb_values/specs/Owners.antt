@@ -1,5 +1,6 @@
 -- Which scope owns an item (Portable PDB v1.0, "LocalScope Table": VariableList, ConstantList).
-use Rattle.ppdb_values.specs.Names.{◌≡◌, ℕ, suc, ◌+◌, ◌-◌, ◌<◌, ◌≤◌, ◌↔◌, List, length, Some, unwrap_or, slice_range, option_map, ScopeRow, numbered, row_at, VariableRow, ConstantRow, Owns}
+use Rattle.std.specs.Prelude.{◌≡◌, ℕ, suc, ◌+◌, ◌-◌, ◌<◌, ◌≤◌, ◌↔◌, List, length, Some, unwrap_or, slice_range, option_map}
+use Rattle.ppdb_tables.specs.{declared.rows.{ScopeRow.ScopeRow, VariableRow.VariableRow, ConstantRow.ConstantRow}, RawTables.{numbered, row_at}, Owners.Owns}
 use Rattle.ppdb_values.specs.{Value.{owner_of, owned_by}, Rules.KeepsLists}
 
 -- The owner that the value of a file goes by is that scope.

@@ -1,5 +1,6 @@
 -- What of a value belongs to a method, to a row and to an offset (Portable PDB v1.0).
-use Rattle.ppdb_values.specs.Names.{ℕ, suc, ◌-◌, ◌==◌, ◌&&◌, nat_le, nat_lt, List, [], Option, Some, None, Bool, take, filter, filter_map, find, last_or, sum_by, Point, Range, Slot, Parent, numbered}
+use Rattle.ppdb_values.specs.Names.{last_or, Point, Range, Slot, Parent, numbered}
+use Rattle.std.specs.Prelude.{ℕ, suc, ◌-◌, ◌==◌, ◌&&◌, nat_le, nat_lt, List, [], Option, Some, None, Bool, take, filter, filter_map, find, sum_by}
 use Rattle.ppdb_values.specs.{declared.file.{FileValue.FileValue, MethodValue.MethodValue}, declared.scope.ScopeValue.ScopeValue, declared.import.ImportScopeValue.ImportScopeValue}
 use Rattle.ppdb_values.specs.{declared.custom.{CustomBody.{CustomBody, TheVariants.Hoisted}, CustomValue.CustomValue}, Chains.chain_of}
 

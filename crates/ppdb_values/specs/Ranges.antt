@@ -1,5 +1,6 @@
 -- The order of the ranges of scopes, and how they lie in each other (Portable PDB v1.0, "LocalScope Table").
-use Rattle.ppdb_values.specs.Names.{◌≡◌, ◌<◌, ◌≤◌, ◌⊎◌, Range}
+use Rattle.std.specs.Prelude.{◌≡◌, ◌<◌, ◌≤◌, ◌⊎◌}
+use Rattle.custom_info.specs.declared.slots.Range.{Range}
 
 -- A later range starts later, or there and does not end later.
 abbrev pub ComesAfter : Range → Range → Type 0

@@ -1,7 +1,7 @@
 -- A Portable PDB file as it is stored: its identity and entry point, and its tables with their heaps (Portable PDB v1.0,
 -- "#Pdb stream" and "Metadata Tables").
-use Rattle.ppdb_values.specs.Names.{ℕ, List, [], Option, unwrap_or, Value, Grammar, read_from, begun_from, text_at, blob_at, guid_at, PointLimits, TypeLimits, Pdb, Streams, bytes_of, head_in}
-use Rattle.ppdb_values.specs.Names.{RawTables, count, tables_in}
+use Rattle.ppdb_values.specs.Names.{Value, Grammar, read_from, begun_from, text_at, blob_at, guid_at, PointLimits, TypeLimits, Pdb, Streams, bytes_of, head_in, RawTables, count, tables_in}
+use Rattle.std.specs.Prelude.{ℕ, List, [], Option, unwrap_or}
 
 pub record RawFile : Type 0 where
   pub id : List ℕ

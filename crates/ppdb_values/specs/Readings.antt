@@ -1,7 +1,8 @@
 -- What the value of a file takes from a blob is what the blob holds by its grammar, however it is read (Portable PDB v1.0, the
 -- formats of its blobs).
-use Rattle.ppdb_values.specs.Names.{◌≡◌, ℕ, List, Option, Some, BlobFault, Reading, IsName, name_of, Point, PointsReading, Modifier, constants, ConstantBody, body_of, ConstantReading, body, imports}
-use Rattle.ppdb_values.specs.Names.{ImportItem, Slot, AsyncStep, async_stepping, entries_of, type_documents, RawTables, count}
+use Rattle.ppdb_values.specs.Names.{BlobFault, Reading, IsName, name_of, Point, PointsReading, Modifier, constants, ConstantBody, body_of, ConstantReading, body, imports, ImportItem, Slot, AsyncStep}
+use Rattle.ppdb_values.specs.Names.{async_stepping, entries_of, type_documents, RawTables, count}
+use Rattle.std.specs.Prelude.{◌≡◌, ℕ, List, Option, Some}
 use Rattle.custom_info.specs.HoistedScopes.{hoisted_scopes}
 use Rattle.ppdb_values.specs.{declared.custom.CustomBody.TheVariants.Async, RawFile.{records_of, begun_of, point_limits, type_limits}, Documents.{points_in, signature_in}, Imports.heap_of}
 use Rattle.ppdb_values.specs.Customs.{async_body}

@@ -1,6 +1,7 @@
 -- What a value has of a method, of an offset and of an import scope is what the rows have (Portable PDB v1.0,
 -- "MethodDebugInformation Table", "LocalScope Table", "ImportScope Table").
-use Rattle.ppdb_values.specs.Names.{◌≡◌, map, ℕ, ◌==◌, ◌&&◌, Option, Some, None, filter, MethodDebugRow, RawTables, numbered, row_at}
+use Rattle.std.specs.Prelude.{◌≡◌, map, ℕ, ◌==◌, ◌&&◌, Option, Some, None, filter}
+use Rattle.ppdb_tables.specs.{declared.rows.MethodDebugRow.MethodDebugRow, RawTables.{RawTables, numbered, row_at}}
 use Rattle.ppdb_values.specs.{declared.file.MethodValue.MethodValue, RawFile.RawFile, Documents.method_of, Imports.import_scope_of, Value.{value_of, scope_of, range_of}, Chains.chain_of}
 use Rattle.ppdb_values.specs.Parts.{method_at, scopes_at, import_chain, holds}
 

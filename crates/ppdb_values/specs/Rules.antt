@@ -1,8 +1,8 @@
 -- What holds of every valid file, as facts that its readers can use (Portable PDB v1.0, "Metadata Tables" and the formats of
 -- its blobs; ECMA-335 II.22, II.24.2).
-use Rattle.ppdb_values.specs.Names.{◌≡◌, ◌≢◌, ℕ, suc, ◌+◌, ◌<◌, ◌≤◌, ◌⊎◌, map, List, [], length, Some, None, is_some, true, Grammar, Reading, text_at, blob_at, guid_at, names, sequence_points}
-use Rattle.ppdb_values.specs.Names.{constants, body_of, imports as import_grammar, Kind, Async, Hoisted, TypeDocuments, kind_of, async_stepping, type_documents, DocumentRow, MethodDebugRow, ScopeRow}
-use Rattle.ppdb_values.specs.Names.{ConstantRow, ImportRow, MachineRow, CustomRow, parent_in, RawTables, HasShape, count, row_at}
+use Rattle.ppdb_values.specs.Names.{Grammar, Reading, text_at, blob_at, guid_at, names, sequence_points, constants, body_of, imports as import_grammar, Kind, Async, Hoisted, TypeDocuments, kind_of}
+use Rattle.ppdb_values.specs.Names.{async_stepping, type_documents, DocumentRow, MethodDebugRow, ScopeRow, ConstantRow, ImportRow, MachineRow, CustomRow, parent_in, RawTables, HasShape, count, row_at}
+use Rattle.std.specs.Prelude.{◌≡◌, ◌≢◌, ℕ, suc, ◌+◌, ◌<◌, ◌≤◌, ◌⊎◌, map, List, [], length, Some, None, is_some, true}
 use Rattle.custom_info.specs.HoistedScopes.{hoisted_scopes}
 use Rattle.ppdb_values.specs.{RawFile.{RawFile, text, blob, records_of, begun_of, point_limits, type_limits}, Documents.document_of, Imports.heap_of, Customs.{parent_of, kind_in}}
 use Rattle.ppdb_values.specs.{Ranges.{ComesAfter, IsInOrAfter}, Value.{owner_of, range_of}, Chains.{chain_for, chain_of}, Ordered.{EachRow, EachPair, IsSorted, Rises}}

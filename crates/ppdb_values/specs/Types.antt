@@ -1,7 +1,8 @@
 -- What the types of the code carry and the definitions of a value do not say: an identity of 20 bytes, a row count for each of 64
 -- tables, GUIDs of 16 bytes, attributes and slots of two bytes (Portable PDB v1.0, "#Pdb stream", "LocalVariable Table"; ECMA-335
 -- II.24.2.5).
-use Rattle.ppdb_values.specs.Names.{◌≡◌, ℕ, ◌<◌, ◌^◌, List, length, All, IfSome, VariableRow}
+use Rattle.std.specs.Prelude.{◌≡◌, ℕ, ◌<◌, ◌^◌, List, length, All, IfSome}
+use Rattle.ppdb_tables.specs.declared.rows.VariableRow.{VariableRow}
 use Rattle.ppdb_values.specs.{declared.file.{DocumentValue.DocumentValue, FileValue.FileValue}, declared.scope.VariableValue.VariableValue, RawFile.RawFile, Rules.KeepsRules, Value.value_of}
 
 abbrev pub IsGuid : List ℕ → Type 0

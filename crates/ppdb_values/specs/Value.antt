@@ -1,6 +1,6 @@
 -- What a file says: the items themselves in place of indexes (Portable PDB v1.0, "Metadata Tables").
-use Rattle.ppdb_values.specs.Names.{map, Bool, false, ℕ, ◌+◌, ◌==◌, nat_le, List, [], ◌∷◌, ◌++◌, take, Option, Some, None, option_map, filter, filter_map, last_or, repeat, Range, ScopeRow}
-use Rattle.ppdb_values.specs.Names.{VariableRow, RawTables, numbered}
+use Rattle.ppdb_values.specs.Names.{last_or, repeat, Range, ScopeRow, VariableRow, RawTables, numbered}
+use Rattle.std.specs.Prelude.{map, Bool, false, ℕ, ◌+◌, ◌==◌, nat_le, List, [], ◌∷◌, ◌++◌, take, Option, Some, None, option_map, filter, filter_map}
 use Rattle.ppdb_values.specs.{declared.scope.{ScopeValue.ScopeValue, VariableValue.VariableValue}, declared.file.FileValue.FileValue, RawFile.{RawFile, text}, Documents.{document_of, method_of}}
 use Rattle.ppdb_values.specs.{Constants.constant_of, Imports.import_scope_of, Customs.custom_of}
 

@@ -1,7 +1,8 @@
 -- The file of a program whose Main is asynchronous: a state machine with points, a scope with a constant, imports, and custom
 -- records of read kinds and of others.
-use Rattle.ppdb_values.specs.Names.{ℕ, List, [], ◌∷◌, ◌++◌, Some, None, false, codes, repeat, Point, Hidden, Lines, Empty, Held, in_file_order, source_link, compilation_options}
-use Rattle.custom_info.specs.Kinds.{async_stepping, hoisted_scopes}
+use Rattle.std.specs.{Prelude.{ℕ, List, [], ◌∷◌, ◌++◌, Some, None, false, codes}, List.repeat}
+use Rattle.sequence_points.specs.declared.point.{Point.Point, Span.TheVariants.{Hidden, Lines}}
+use Rattle.custom_info.specs.{declared.slots.Slot.TheVariants.{Empty, Held}, Kinds.{in_file_order, source_link, compilation_options, async_stepping, hoisted_scopes}}
 use Rattle.ppdb_values.specs.{declared.file.{DocumentValue.DocumentValue, FileValue.FileValue}, declared.scope.{ConstantValue.ConstantValue, ConstantBody.TheVariants.Primitive}}
 use Rattle.ppdb_values.specs.{declared.import.ImportValue.{ImportValue, TheVariants.Namespace}, declared.custom.CustomBody.{CustomBody, TheVariants.{Async, Hoisted, Unread}}, Meaning.Meaning}
 use Rattle.ppdb_values.specs.{Links.Links, RawFile.RawFile, WorkedSmall.zeros}

@@ -1,5 +1,6 @@
 -- Two small files: one without rows, and one of a document and a method with three points and two scopes.
-use Rattle.ppdb_values.specs.Names.{ℕ, List, [], ◌∷◌, ◌++◌, Some, None, true, codes, repeat, Hidden, Lines}
+use Rattle.std.specs.{Prelude.{ℕ, List, [], ◌∷◌, ◌++◌, Some, None, true, codes}, List.repeat}
+use Rattle.sequence_points.specs.declared.point.Span.TheVariants.{Hidden, Lines}
 use Rattle.ppdb_values.specs.{declared.file.{DocumentValue.DocumentValue, FileValue.FileValue}, declared.scope.{ScopeValue.ScopeValue, VariableValue.VariableValue}, Meaning.Meaning, Links.Links}
 use Rattle.ppdb_values.specs.RawFile.{RawFile}
 

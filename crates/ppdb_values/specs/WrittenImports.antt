@@ -1,6 +1,7 @@
 -- The import of a value as it is stored and as its writer takes it (Portable PDB v1.0, "Imports Blob").
-use Rattle.ppdb_values.specs.Names.{◌≡◌, ℕ, ◌<◌, ◌^◌, List, [], Option, Some, TypeToken, ImportNumbers, ImportItem, namespace, assembly_namespace, target, xml, alias, assembly_alias, namespace_alias}
-use Rattle.ppdb_values.specs.Names.{assembly_namespace_alias, target_alias, text_of, IsImport, import_item, IsToken}
+use Rattle.ppdb_values.specs.Names.{TypeToken, ImportNumbers, ImportItem, namespace, assembly_namespace, target, xml, alias, assembly_alias, namespace_alias, assembly_namespace_alias, target_alias}
+use Rattle.ppdb_values.specs.Names.{text_of, IsImport, import_item, IsToken}
+use Rattle.std.specs.Prelude.{◌≡◌, ℕ, ◌<◌, ◌^◌, List, [], Option, Some}
 use Rattle.ppdb_values.specs.declared.import.ImportValue.{ImportValue}
 use Rattle.ppdb_values.specs.declared.import.ImportValue.TheVariants.{Namespace, AssemblyNamespace, Target, Xml, Alias, AssemblyAlias, NamespaceAlias, AssemblyNamespaceAlias, TargetAlias}
 use Rattle.ppdb_values.specs.Imports.{import_value}

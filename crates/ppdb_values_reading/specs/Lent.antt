@@ -1,5 +1,6 @@
 -- What is lent of a row, as the part of the value that it is (Portable PDB v1.0, "Metadata Tables" and the formats of its blobs).
-use Rattle.ppdb_values.specs.Names.{◌≡◌, map, ℕ, List, Option, Some, None, Point, Modifier, shown as constant_shown, RawTables}
+use Rattle.ppdb_values.specs.Names.{Point, Modifier, shown as constant_shown, RawTables}
+use Rattle.std.specs.Prelude.{◌≡◌, map, ℕ, List, Option, Some, None}
 use Rattle.ppdb_values.specs.{declared.custom.{CustomBody.{CustomBody, TheVariants.{Async, Hoisted, TypeDocuments, Unread}}, CustomValue.CustomValue}, declared.file.DocumentValue.DocumentValue}
 use Rattle.ppdb_values.specs.{declared.file.MethodValue.MethodValue, declared.import.ImportScopeValue.ImportScopeValue, declared.scope.{ConstantValue.ConstantValue, VariableValue.VariableValue}}
 use Rattle.ppdb_values.specs.{Constants.{body_value, constant_of}, Imports.import_value, Value.variable_of}

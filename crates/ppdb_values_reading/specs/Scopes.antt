@@ -1,5 +1,6 @@
 -- The scopes of a file, each with the rows of what it owns (Portable PDB v1.0, "LocalScope Table": VariableList, ConstantList).
-use Rattle.ppdb_values.specs.Names.{◌≡◌, map, ℕ, ◌+◌, ◌-◌, ◌≤◌, List, [], ◌∷◌, length, drop, slice_range, Option, Some, None, All, sum_by, ScopeRow, RawTables, numbered}
+use Rattle.std.specs.Prelude.{◌≡◌, map, ℕ, ◌+◌, ◌-◌, ◌≤◌, List, [], ◌∷◌, length, drop, slice_range, Option, Some, None, All, sum_by}
+use Rattle.ppdb_tables.specs.{declared.rows.ScopeRow.ScopeRow, RawTables.{RawTables, numbered}}
 use Rattle.ppdb_values.specs.{declared.scope.ScopeValue.ScopeValue, Owners.list_end, RawFile.RawFile, Rules.KeepsRules, Value.{range_of, value_of}}
 use Rattle.ppdb_values_reading.specs.{declared.scopes.{ListRange.ListRange, Scope.Scope}, Lent.{variables_of, constants_of}}
 

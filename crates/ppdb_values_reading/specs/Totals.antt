@@ -1,5 +1,6 @@
 -- How many rows the tables of a debug file have (Portable PDB v1.0, "Metadata Tables").
-use Rattle.ppdb_values.specs.Names.{ℕ, ◌+◌, length, sum, map, range_with_len, RawTables, count}
+use Rattle.std.specs.{Prelude.{ℕ, ◌+◌, length, sum, map}, List.range_with_len}
+use Rattle.ppdb_tables.specs.RawTables.{RawTables, count}
 
 -- the rows of the tables 30 to 37
 abbrev pub row_total : RawTables → ℕ

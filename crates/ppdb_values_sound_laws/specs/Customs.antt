@@ -1,7 +1,7 @@
 -- Custom debug information (Portable PDB v1.0, "CustomDebugInformation Table", and its kinds "Async Method Stepping Information",
 -- "State Machine Hoisted Local Scopes" and "Type Definition Documents").
-use Rattle.ppdb_values.specs.Names.{ℕ, ◌≤◌, map, [], IsSome, All, unwrap_or, Kind, Async as AsyncKind, Hoisted as HoistedKind, TypeDocuments as DocumentsKind, Free, Unknown, kind_of, IsHandler}
-use Rattle.ppdb_values.specs.Names.{IsStep, IsSlot, Parent, coded_in}
+use Rattle.ppdb_values.specs.Names.{Kind, Async as AsyncKind, Hoisted as HoistedKind, TypeDocuments as DocumentsKind, Free, Unknown, kind_of, IsHandler, IsStep, IsSlot, Parent, coded_in}
+use Rattle.std.specs.Prelude.{ℕ, ◌≤◌, map, [], IsSome, All, unwrap_or}
 use Rattle.ppdb_values.specs.{declared.file.FileValue.FileValue, declared.custom.{CustomBody.{CustomBody, TheVariants.{Async, Hoisted, TypeDocuments, Unread}}, CustomValue.CustomValue}}
 use Rattle.ppdb_values.specs.{Ordered.{EachRow, IsSorted}, Rules.StandsOn}
 use Rattle.ppdb_values_sound_laws.specs.Named.{HasRow, count}

@@ -1,5 +1,6 @@
 -- Import scopes (Portable PDB v1.0, "ImportScope Table", "Imports Blob").
-use Rattle.ppdb_values.specs.Names.{ℕ, NeverEnds, parent_at}
+use Rattle.std.specs.Prelude.{ℕ}
+use Rattle.ppdb_tables.specs.Chains.{NeverEnds, parent_at}
 use Rattle.ppdb_values.specs.{declared.file.FileValue.FileValue, declared.import.ImportValue.{ImportValue, TheVariants.{AssemblyNamespace, Target, AssemblyAlias, AssemblyNamespaceAlias, TargetAlias}}}
 use Rattle.ppdb_values.specs.{declared.import.ImportScopeValue.ImportScopeValue, Ordered.EachRow}
 use Rattle.ppdb_values_sound_laws.specs.Named.{HasRow, HasRowOrNone, HasType}

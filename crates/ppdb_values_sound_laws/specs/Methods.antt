@@ -1,5 +1,6 @@
 -- The sequence points of methods (Portable PDB v1.0, "Sequence Points Blob").
-use Rattle.ppdb_values.specs.Names.{◌≢◌, ◌<◌, map, [], All, AllPairs, Point, IsSpan}
+use Rattle.std.specs.Prelude.{◌≢◌, ◌<◌, map, [], All, AllPairs}
+use Rattle.sequence_points.specs.{declared.point.Point.Point, Written.IsSpan}
 use Rattle.ppdb_values.specs.{declared.file.{FileValue.FileValue, MethodValue.MethodValue}, Ordered.{EachRow, Rises}}
 use Rattle.ppdb_values_sound_laws.specs.Named.{HasRow, HasRowOrNone}
 

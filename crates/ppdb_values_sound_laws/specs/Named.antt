@@ -1,5 +1,6 @@
 -- The rows that a value names (Portable PDB v1.0, "#Pdb stream" and "Metadata Tables"; ECMA-335 II.22, II.23.2.8).
-use Rattle.ppdb_values.specs.Names.{ℕ, ◌≤◌, ◌==◌, length, slice_index, if◌then◌else◌, sum_by, TypeToken, TypeLimits, IsToken, IsThere}
+use Rattle.std.specs.Prelude.{ℕ, ◌≤◌, ◌==◌, length, slice_index, if◌then◌else◌, sum_by}
+use Rattle.type_blobs.specs.{declared.types.{TypeToken.TypeToken, TypeLimits.TypeLimits}, Types.{IsToken, IsThere}}
 use Rattle.ppdb_values.specs.declared.file.FileValue.{FileValue}
 
 -- How many rows a table has that a value may name: Document, LocalScope, LocalVariable, LocalConstant and ImportScope as many as

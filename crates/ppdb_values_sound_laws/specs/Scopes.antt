@@ -1,6 +1,7 @@
 -- Local scopes, with their variables and constants (Portable PDB v1.0, "LocalScope Table", "LocalVariable Table", "LocalConstant
 -- Table", "LocalConstantSig Blob").
-use Rattle.ppdb_values.specs.Names.{◌≡◌, ◌≢◌, ℕ, ◌<◌, map, List, All, ConstantBody as StoredBody, primitive, enumerated, general, object, IsBody, IsBodyThere}
+use Rattle.std.specs.Prelude.{◌≡◌, ◌≢◌, ℕ, ◌<◌, map, List, All}
+use Rattle.type_blobs.specs.{Constants.{ConstantBody as StoredBody, primitive, enumerated, general, object}, Spelling.{IsBody, IsBodyThere}}
 use Rattle.ppdb_values.specs.{declared.file.FileValue.FileValue, declared.scope.{ScopeValue.ScopeValue, VariableValue.VariableValue, ConstantValue.ConstantValue, ConstantBody.ConstantBody}}
 use Rattle.ppdb_values.specs.{declared.scope.ConstantBody.TheVariants.{Primitive, Enumerated, General, Object}, Ordered.{EachRow, EachPair, IsSorted}, Ranges.{ComesAfter, IsInOrAfter}}
 use Rattle.ppdb_values_sound_laws.specs.Named.{HasRow, HasRowOrNone, HasType, type_limits}

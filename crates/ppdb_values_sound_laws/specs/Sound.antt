@@ -1,6 +1,7 @@
 -- When a value is sound: a Portable PDB file can say it, where it has what its types carry (`HasTypes`), but for the limits L1 to L6
 -- (Portable PDB v1.0, "#Pdb stream" and "Metadata Tables"; ECMA-335 II.22).
-use Rattle.ppdb_values.specs.Names.{◌≡◌, ◌≢◌, ℕ, ◌≤◌, map, List, slice_index, MachineRow}
+use Rattle.std.specs.Prelude.{◌≡◌, ◌≢◌, ℕ, ◌≤◌, map, List, slice_index}
+use Rattle.ppdb_tables.specs.declared.rows.MachineRow.{MachineRow}
 use Rattle.ppdb_values.specs.{declared.file.FileValue.FileValue, Ordered.{EachRow, EachPair, Rises}}
 use Rattle.ppdb_values_sound_laws.specs.{Named.{HasRow, HasRowOrNone}, Methods.SoundMethods, Scopes.SoundScopes, Imports.SoundImports, Customs.SoundCustoms}
 

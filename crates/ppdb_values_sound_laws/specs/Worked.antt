@@ -1,6 +1,7 @@
 -- Values that are sound, and values that are not, each for the reason that is given.
-use Rattle.ppdb_values.specs.Names.{ℕ, List, [], ◌∷◌, ◌++◌, codes, Span, Hidden, Lines, source_link}
-use Rattle.custom_info.specs.Kinds.{hoisted_scopes}
+use Rattle.std.specs.Prelude.{ℕ, List, [], ◌∷◌, ◌++◌, codes}
+use Rattle.sequence_points.specs.declared.point.Span.{Span, TheVariants.{Hidden, Lines}}
+use Rattle.custom_info.specs.Kinds.{source_link, hoisted_scopes}
 use Rattle.ppdb_values.specs.{declared.file.FileValue.FileValue, declared.scope.{ScopeValue.ScopeValue, VariableValue.VariableValue, ConstantBody.TheVariants.Primitive}}
 use Rattle.ppdb_values.specs.{declared.custom.{CustomBody.TheVariants.Unread, CustomValue.CustomValue}, WorkedSmall.{zeros, empty_value, small_value, small_document, variable_x, outer_scope}}
 use Rattle.ppdb_values.specs.WorkedProgram.{program_value}

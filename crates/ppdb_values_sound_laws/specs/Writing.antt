@@ -1,6 +1,7 @@
 -- What the writers of blobs ask of the parts of a sound value (Portable PDB v1.0, "Sequence Points Blob", "LocalConstantSig Blob",
 -- "Imports Blob" and the kinds of custom debug information; ECMA-335 II.23.2).
-use Rattle.ppdb_values.specs.Names.{◌<◌, ◌≤◌, ◌^◌, length, All, IsHandler, IsStep, IsSlot, IsRowNumber, CanBeWritten, IsOffset, IsToken, IsBody}
+use Rattle.ppdb_values.specs.Names.{IsHandler, IsStep, IsSlot, IsRowNumber, CanBeWritten, IsOffset, IsToken, IsBody}
+use Rattle.std.specs.Prelude.{◌<◌, ◌≤◌, ◌^◌, length, All}
 use Rattle.ppdb_values.specs.{declared.file.FileValue.FileValue, declared.custom.CustomBody.{CustomBody, TheVariants.{Async, Hoisted, TypeDocuments, Unread}}, declared.import.ImportValue.ImportValue}
 use Rattle.ppdb_values.specs.{declared.import.ImportValue.TheVariants.{AssemblyNamespace, Target, AssemblyAlias, AssemblyNamespaceAlias, TargetAlias}, Ordered.EachRow}
 use Rattle.ppdb_values_sound_laws.specs.{Scopes.stored_body, Sound.IsSound}

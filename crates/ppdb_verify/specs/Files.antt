@@ -1,5 +1,6 @@
 -- The rules of a whole file, F1 to F40, and what a file is read as.
-use Rattle.ppdb_values.specs.Names.{◌≡◌, ℕ, ◌⊎◌, List, Code, Place, Then, Pdb, Streams, AreStreamsOf, ContainerFaults, bytes_of, PdbFaults, head_in, RawTables, TablesFaults}
+use Rattle.ppdb_values.specs.Names.{Code, Place, Then, Pdb, Streams, AreStreamsOf, ContainerFaults, bytes_of, PdbFaults, head_in, RawTables, TablesFaults}
+use Rattle.std.specs.Prelude.{◌≡◌, ℕ, ◌⊎◌, List}
 use Rattle.metadata_root.specs.declared.kind.StreamKind.TheVariants.{Tables}
 use Rattle.ppdb_verify_rules.specs.Rows.{RowFaults}
 use Rattle.ppdb_verify_total.specs.Spans.{SpanFaults}

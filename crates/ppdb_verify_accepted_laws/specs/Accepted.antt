@@ -1,5 +1,6 @@
 -- A file in whose rows nothing is bad (Portable PDB v1.0, "Metadata Tables"; ECMA-335 II.22).
-use Rattle.ppdb_values.specs.Names.{◌≡◌, ◌≢◌, ◌≤◌, IsAccepted, HasShape, count}
+use Rattle.ppdb_values.specs.Names.{IsAccepted, HasShape, count}
+use Rattle.std.specs.Prelude.{◌≡◌, ◌≢◌, ◌≤◌}
 use Rattle.ppdb_verify_rules.specs.Rows.{RowFaults}
 use Rattle.ppdb_values.specs.{RawFile.RawFile, Rules.KeepsRules}
 

@@ -1,9 +1,9 @@
 -- The cursors over the blobs of a file that keeps the rules: none of them ever answers a fault (Portable PDB v1.0, the formats of
 -- its blobs).
-use Rattle.ppdb_values.specs.Names.{◌≡◌, ◌≢◌, ℕ, zero, suc, List, [], Some, Result, IsOk, IsOkAnd, IfOk, IfErr, BlobFault, Left, answer, Reading, NameLeft, blob_at, guid_at, NameReading}
-use Rattle.ppdb_values.specs.Names.{names as name_grammar, PointLimits, Shown, PointsReading, sequence_points, ConstantLeft, ConstantReading, modifier_answer, body_answer, ImportItem}
-use Rattle.ppdb_values.specs.Names.{imports as import_grammar, Kind, Async, Hoisted, TypeDocuments, Slot, Stepping, async_stepping, entries_of, kind_of, type_documents, CustomRow, RawTables, count}
-use Rattle.ppdb_values.specs.Names.{row_at}
+use Rattle.ppdb_values.specs.Names.{BlobFault, Left, answer, Reading, NameLeft, blob_at, guid_at, NameReading, names as name_grammar, PointLimits, Shown, PointsReading, sequence_points, ConstantLeft}
+use Rattle.ppdb_values.specs.Names.{ConstantReading, modifier_answer, body_answer, ImportItem, imports as import_grammar, Kind, Async, Hoisted, TypeDocuments, Slot, Stepping, async_stepping}
+use Rattle.ppdb_values.specs.Names.{entries_of, kind_of, type_documents, CustomRow, RawTables, count, row_at}
+use Rattle.std.specs.Prelude.{◌≡◌, ◌≢◌, ℕ, zero, suc, List, [], Some, Result, IsOk, IsOkAnd, IfOk, IfErr}
 use Rattle.blob_grammar.specs.Reader.{rest_of}
 use Rattle.type_blobs.specs.ConstantReading.{rest_of as constant_rest}
 use Rattle.custom_info.specs.HoistedScopes.{hoisted_scopes}

@@ -1,6 +1,7 @@
 -- Records of custom debug information that are read (Portable PDB v1.0, "Async Method Stepping Information", "State Machine Hoisted
 -- Local Scopes").
-use Rattle.ppdb_values.specs.Names.{◌≡◌, [], None, Left, Kind, Slot, Stepping, kind_of, CustomRow, RawTables}
+use Rattle.ppdb_values.specs.Names.{Left, Kind, Slot, Stepping, kind_of, CustomRow, RawTables}
+use Rattle.std.specs.Prelude.{◌≡◌, [], None}
 use Rattle.custom_info.specs.HoistedScopes.{hoisted_scopes}
 use Rattle.ppdb_values.specs.{declared.custom.CustomBody.TheVariants.Async, Customs.{custom_of, kind_in}, RawFile.{blob, records_of}}
 

@@ -1,5 +1,6 @@
 -- What an import scope imports (Portable PDB v1.0, "Imports Blob").
-use Rattle.ppdb_values.specs.Names.{None, Left, imports, ImportItem, ImportRow, RawTables}
+use Rattle.ppdb_values.specs.Names.{Left, imports, ImportItem, ImportRow, RawTables}
+use Rattle.std.specs.Prelude.{None}
 use Rattle.ppdb_values.specs.{Imports.heap_of, RawFile.{blob, records_of, type_limits}}
 
 -- what a cursor of all imports of a scope has left: the imports, and no fault after them

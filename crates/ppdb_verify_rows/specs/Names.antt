@@ -1,5 +1,6 @@
 -- The name of a document, part after part (Portable PDB v1.0, "Document Name Blob").
-use Rattle.ppdb_values.specs.Names.{◌≡◌, None, join_by, NameLeft, NameReading, DocumentRow, RawTables}
+use Rattle.ppdb_values.specs.Names.{join_by, NameLeft, NameReading, DocumentRow, RawTables}
+use Rattle.std.specs.Prelude.{◌≡◌, None}
 use Rattle.ppdb_values.specs.{Documents.document_of, RawFile.blob}
 
 -- What a cursor of a document's name has, before the first part: all parts, no fault after them, and joined they are the name.

@@ -1,5 +1,6 @@
 -- The points of a method (Portable PDB v1.0, "Sequence Points Blob").
-use Rattle.ppdb_values.specs.Names.{◌≡◌, ℕ, Option, Some, None, All, Shown}
+use Rattle.std.specs.Prelude.{◌≡◌, ℕ, Option, Some, None, All}
+use Rattle.sequence_points.specs.Places.{Shown}
 use Rattle.ppdb_values.specs.{Parts.method_at, RawFile.RawFile, Rules.HasRow, Value.value_of}
 
 -- What a cursor of a method's points has, before the first: the signature and all points of the method as the value has them, and

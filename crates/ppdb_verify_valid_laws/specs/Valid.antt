@@ -1,5 +1,6 @@
 -- What a valid file is read as (Portable PDB v1.0; ECMA-335 II.22, II.24.2).
-use Rattle.ppdb_values.specs.Names.{ℕ, ◌≤◌, ◌<◌, ◌^◌, List, length, All, IsAccepted}
+use Rattle.std.specs.Prelude.{ℕ, ◌≤◌, ◌<◌, ◌^◌, List, length, All}
+use Rattle.ppdb_base.specs.First.{IsAccepted}
 use Rattle.ppdb_values.specs.{RawFile.RawFile, Rules.KeepsRules, Types.HasTypes, Value.value_of}
 use Rattle.ppdb_values_sound_laws.specs.Sound.{IsSound}
 use Rattle.ppdb_verify.specs.Files.{FileFaults, IsRawOf}

@@ -1,5 +1,6 @@
 -- The Source Link record of a file (Portable PDB v1.0, "CustomDebugInformation Table", "Source Link").
-use Rattle.ppdb_values.specs.Names.{ℕ, ◌&&◌, Bool, List, [], Option, find, option_map, bytes_eq, source_link, Parent}
+use Rattle.ppdb_values.specs.Names.{source_link, Parent}
+use Rattle.std.specs.Prelude.{ℕ, ◌&&◌, Bool, List, [], Option, find, option_map, bytes_eq}
 use Rattle.ppdb_values.specs.{declared.custom.{CustomBody.{CustomBody, TheVariants.Unread}, CustomValue.CustomValue}, declared.file.FileValue.FileValue, Parts.is_at}
 
 -- the one row of Module

@@ -1,5 +1,6 @@
 -- The Source Link record among some rows of CustomDebugInformation, as a walk over them finds it.
-use Rattle.ppdb_values.specs.Names.{ℕ, ◌-◌, List, Option, slice_range, find, option_map, bytes_eq, source_link, RawTables, numbered}
+use Rattle.ppdb_values.specs.Names.{source_link, RawTables, numbered}
+use Rattle.std.specs.Prelude.{ℕ, ◌-◌, List, Option, slice_range, find, option_map, bytes_eq}
 use Rattle.ppdb_values.specs.Customs.{custom_of}
 use Rattle.source_link.specs.FileLinks.{bytes_in}
 

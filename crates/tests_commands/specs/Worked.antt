@@ -1,6 +1,7 @@
 -- The lines that say why a run stopped, written out, and the statuses with which it ends.
-use Rattle.ppdb_values.specs.Names.{◌≡◌, ℕ, List, [], ◌∷◌, negsuc, codes, ScopeCrossing, Place, Limit, TableRows, ListPastEnd, PointOffset, LineStep, FileSize, SpanTotal, NotJson, Shape, MergeError}
-use Rattle.ppdb_values.specs.Names.{Unmapped, ImageTwice, MethodTaken, OffsetBeyond, AsyncLost, KindUnknown, DocumentConflict, RowsDiffer, ImageRange, SlotUnmapped, SlotTwice}
+use Rattle.ppdb_values.specs.Names.{ScopeCrossing, Place, Limit, TableRows, ListPastEnd, PointOffset, LineStep, FileSize, SpanTotal, NotJson, Shape, MergeError, Unmapped, ImageTwice, MethodTaken}
+use Rattle.ppdb_values.specs.Names.{OffsetBeyond, AsyncLost, KindUnknown, DocumentConflict, RowsDiffer, ImageRange, SlotUnmapped, SlotTwice}
+use Rattle.std.specs.Prelude.{◌≡◌, ℕ, List, [], ◌∷◌, negsuc, codes}
 use Rattle.ppdb_run_stops.specs.Lines.{read_fault_line, write_fault_line}
 use Rattle.ppdb_run_stops.specs.Refusals.{Outcome, usage, absent, too_long, refused, no_map, unfit, limited, map_limited, unlinked, no_method, no_document, sizes_differ, unlisted}
 use Rattle.ppdb_run_stops.specs.Status.{status_number}

@@ -1,6 +1,6 @@
+use crate::running::{answers, verifies};
 use std::test::Fail;
 use tests_files::SMALL;
-use crate::running::{answers, verifies};
 
 // B cut to fewer bytes than `end`, down to the `end` of the row before.
 const CUT: [(usize, &str); 27] = [

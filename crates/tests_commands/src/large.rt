@@ -1,8 +1,8 @@
 // Files that would cost much if they were read the simple way.
-use std::alloc::{AllocError, Global};
-use std::test::Fail;
 use crate::files::{NOTHING, Parts, count_of, file_of};
 use crate::running::verifies;
+use std::alloc::{AllocError, Global};
+use std::test::Fail;
 
 /// A file of one document, whose name has so many parts, each the same text of 1000000 bytes.
 fn long_name(alloc: Global, parts: u16) -> Result<Vec<u8>, AllocError> {

@@ -1,9 +1,9 @@
 // Debug files and maps by which they are moved and joined.
+use crate::files::{NOTHING, Parts, file_of};
 use ppdb_base::{Memory, MemoryFolder};
 use std::alloc::{AllocError, Global};
 use std::test::Fail;
 use tests_files::{EMPTY, PROGRAM, SMALL};
-use crate::files::{NOTHING, Parts, file_of};
 
 /// The GUID of the records of async steps, as its bytes stand in a file.
 const ASYNC: [u8; 16] = [

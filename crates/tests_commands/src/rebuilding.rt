@@ -1,11 +1,11 @@
 // The canonical files that `rebuild` writes, and what it does not write.
+use crate::files::{FREE_KIND, NOTHING, Parts, file_of};
 use crate::identity::{BY_HASH, with_id};
+use crate::running::{ends, first_other, prints};
 use ppdb_base::{MemoryFolder, SteadyFolder};
 use std::alloc::Global;
 use std::test::Fail;
 use tests_files::{EMPTY, PROGRAM, SMALL};
-use crate::files::{FREE_KIND, NOTHING, Parts, file_of};
-use crate::running::{ends, first_other, prints};
 
 /// One document, and a method whose last line is determined by a longer number than it needs.
 const LONG_NUMBER: Parts<'static> = Parts {

@@ -1,8 +1,8 @@
 // Rules of the rows, over files of a few rows.
-use std::alloc::{AllocError, Global};
-use std::test::Fail;
 use crate::files::{FREE_KIND, NOTHING, Parts, count_of, file_of};
 use crate::running::verifies;
+use std::alloc::{AllocError, Global};
+use std::test::Fail;
 
 /// No rows but one method.
 const ONE_METHOD: Parts<'static> = Parts {

@@ -1,6 +1,6 @@
 // What the samples of few methods come to, worked out apart from this program.
-use std::test::Fail;
 use crate::running::first_other_over;
+use std::test::Fail;
 
 const ROWS: [(&[&str], u8, &str); 4] = [
     (

@@ -1,6 +1,7 @@
 // Values that are written as files, and read again.
 use crate::every_kind::{SHOWN, with_every_kind};
 use crate::identity::{BY_HASH, with_id};
+use crate::running::first_other;
 use custom_info::SOURCE_LINK;
 use ppdb_base::{Bytes, List, SteadyFolder};
 use ppdb_build::{CustomBody, CustomValue, DocumentValue, FileValue, IdChoice, sound, write_file};
@@ -9,7 +10,6 @@ use ppdb_tables::Parent;
 use std::alloc::Global;
 use std::test::Fail;
 use tests_files::{EMPTY, PROGRAM};
-use crate::running::first_other;
 use tests_values::value as read;
 
 /// The file of a sound value.
