@@ -13,6 +13,7 @@ using System;
 using System.Collections.Generic;
 using System.IO;
 using System.Linq;
+using System.Text;
 using Mono.Cecil;
 using Mono.Cecil.Cil;
 
@@ -49,6 +50,7 @@ public sealed class MapWriter
     readonly Dictionary<Instruction, Instruction> replaced = new Dictionary<Instruction, Instruction>();
     readonly List<string> warnings = new List<string>();
     List<TypeReference> kept = new List<TypeReference>();
+    readonly SortedDictionary<string, string> renamed = new SortedDictionary<string, string>(StringComparer.Ordinal);
 
     /// Call it before the first change, with a module that was read from a file.
     public static MapWriter Start(ModuleDefinition module)
@@ -180,6 +182,12 @@ public sealed class MapWriter
         return new WriterParameters { WriteSymbols = true, SymbolWriterProvider = new DebugDirectory(module.GetDebugHeader(), keepsChecksum) };
     }
 
+    /// Gives a document of the debug file another name. Source Link finds its source by the new name.
+    public void Rename(string document, string name) { renamed[document] = name; }
+
+    /// The new value of the Source Link record of the module: JSON, or null if it stays.
+    public string SourceLink { get; set; }
+
     /// Writes the map to the file `path`. The file `written` is the module as Cecil wrote it last.
     public void Save(string written, string path)
     {
@@ -209,8 +217,17 @@ public sealed class MapWriter
             foreach (var change in changes) SaveSlots(map, change);
             foreach (var change in changes.Where(change => !HasImage(change, signatures)))
                 map.WriteLine("signature {0} {1}", change.Old.Row, change.Signature);
+            foreach (var pair in renamed) map.WriteLine("document {0} {1}", Escaped(pair.Key), Escaped(pair.Value));
+            if (SourceLink != null) map.WriteLine("link {0}", Escaped(SourceLink));
             foreach (var change in changes) SaveRuns(map, change);
         }
+    }
+
+    // A name or value as a word of a map: what is no printed character of ASCII, a space or a backslash is written as bytes of UTF-8.
+    static string Escaped(string text)
+    {
+        if (text == "") return "\\-";
+        return string.Concat(Encoding.UTF8.GetBytes(text).Select(b => b > 0x20 && b < 0x7f && b != '\\' ? ((char)b).ToString() : "\\x" + b.ToString("x2")));
     }
 
     // What the module still has, besides methods.

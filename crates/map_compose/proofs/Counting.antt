@@ -4,16 +4,18 @@ use Rattle.std.specs.List.{flat_map}
 use Rattle.ppdb_maps.specs.Map.{Map}
 use Rattle.ppdb_maps.specs.Readable.{IsReadable}
 use Rattle.ppdb_maps_text.specs.declared.counted.Counted.{Counted}
-use Rattle.ppdb_maps_text.specs.MapTexts.{ended, map_text, version_with, head_text}
+use Rattle.ppdb_maps_text.specs.MapTexts.{ended, link_says, map_text, version_with, head_text}
 use Rattle.ppdb_maps_text.specs.Putting.{Puts}
 use Rattle.map_compose.specs.declared.part.Part.{Part}
 use Rattle.map_compose.specs.declared.part.Part.TheVariants.{Drops, Slots, Signatures, Methods}
-use Rattle.map_compose.specs.Composed.{tables, composed}
+use Rattle.map_compose.specs.Composed.{tables, composed, composed_link}
+use Rattle.map_compose.specs.Fits.{NamesFit}
 use Rattle.map_compose.specs.Parts.{part_says, all_numbers}
 use Rattle.map_compose.specs.Refused.{Counts}
-use Rattle.map_compose.specs.Says.{lines_text, table_says, PutsLines}
+use Rattle.map_compose.specs.Says.{lines_text, table_says, documents_say, PutsLines}
 use Rattle.map_compose.specs.Sizes.{SizesAgree}
 use Rattle.map_compose.proofs.Lengths.{text_short}
+use Rattle.map_compose.proofs.Named.{composed_fits}
 use Rattle.map_compose.proofs.Putting.{puts_then}
 use Rattle.map_compose.proofs.Readable.{composed_is_readable}
 use Rattle.map_compose.proofs.Saying.{text_is}
@@ -30,16 +32,20 @@ counts_text start end text none empty short puts =
 abbrev part_text : Map → Map → Part → List ℕ
 part_text f s part = lines_text (flat_map (part_says part f s) (all_numbers part f s))
 
-pub counts_all : (f s : Map) → IsReadable f → IsReadable s → SizesAgree f s → (version : ℕ) → version ≡ version_with (composed f s).signatures
-    → (t0 t1 t2 t3 t4 t5 t6 : Counted) → t0.length ≡ 0 → t0.text ≡ []
-    → Puts t0 t1 (ended (head_text version)) → PutsLines t1 t2 (flat_map (table_says f s) tables)
-    → PutsLines t2 t3 (flat_map (part_says Drops f s) (all_numbers Drops f s)) → PutsLines t3 t4 (flat_map (part_says Slots f s) (all_numbers Slots f s))
-    → PutsLines t4 t5 (flat_map (part_says Signatures f s) (all_numbers Signatures f s))
-    → PutsLines t5 t6 (flat_map (part_says Methods f s) (all_numbers Methods f s)) → Counts t6 (map_text (composed f s))
-counts_all f s f_readable s_readable agree version is t0 t1 t2 t3 t4 t5 t6 none empty head rows drops slots signatures lines =
-    let first : Puts t0 t1 (ended (head_text (version_with (composed f s).signatures))) = subst (λ v. Puts t0 t1 (ended (head_text v))) is head in
+pub counts_all : (f s : Map) → IsReadable f → IsReadable s → NamesFit 134217728 f → NamesFit 134217728 s → SizesAgree f s → (version : ℕ)
+    → version ≡ version_with (composed f s).signatures (composed f s).documents (composed f s).link
+    → (t0 t1 t2 t3 t4 t5 t6 t7 t8 : Counted) → t0.length ≡ 0 → t0.text ≡ []
+    → Puts t0 t1 (ended (head_text version)) → PutsLines t1 t2 (link_says (composed_link f s)) → PutsLines t2 t3 (flat_map (table_says f s) tables)
+    → PutsLines t3 t4 (flat_map (part_says Drops f s) (all_numbers Drops f s)) → PutsLines t4 t5 (flat_map (part_says Slots f s) (all_numbers Slots f s))
+    → PutsLines t5 t6 (flat_map (part_says Signatures f s) (all_numbers Signatures f s)) → PutsLines t6 t7 (documents_say f s)
+    → PutsLines t7 t8 (flat_map (part_says Methods f s) (all_numbers Methods f s)) → Counts t8 (map_text (composed f s))
+counts_all f s f_readable s_readable own other agree version is t0 t1 t2 t3 t4 t5 t6 t7 t8 none empty head value rows drops slots signatures names lines =
+    let c : Map = composed f s in
+    let first : Puts t0 t1 (ended (head_text (version_with c.signatures c.documents c.link))) = subst (λ v. Puts t0 t1 (ended (head_text v))) is head in
     let a = first.counted in
-    let one = rows.puts (omega (arith, a)) in
+    let valued = value.puts (omega (arith, a)) in
+    let a1 = valued.counted in
+    let one = rows.puts (omega (arith, a1)) in
     let b = one.counted in
     let two = drops.puts (omega (arith, b)) in
     let d = two.counted in
@@ -47,10 +53,16 @@ counts_all f s f_readable s_readable agree version is t0 t1 t2 t3 t4 t5 t6 none 
     let e = three.counted in
     let four = signatures.puts (omega (arith, e)) in
     let g = four.counted in
-    let five = lines.puts (omega (arith, g)) in
-    counts_text t0 t6 (map_text (composed f s)) none empty (text_short (composed f s) (composed_is_readable f s f_readable s_readable agree))
-    (subst (Puts t0 t6) (sym (text_is f s f_readable s_readable))
-    (puts_then t0 t1 t6 (ended (head_text (version_with (composed f s).signatures))) _ first
-    (puts_then t1 t2 t6 (lines_text (flat_map (table_says f s) tables)) _ one
-    (puts_then t2 t3 t6 (part_text f s Drops) _ two
-    (puts_then t3 t4 t6 (part_text f s Slots) _ three (puts_then t4 t5 t6 (part_text f s Signatures) (part_text f s Methods) four five))))))
+    let five = names.puts (omega (arith, g)) in
+    let h = five.counted in
+    let six = lines.puts (omega (arith, h)) in
+    counts_text t0 t8 (map_text c) none empty
+    (text_short c (composed_is_readable f s f_readable s_readable agree) (composed_fits f s own other))
+    (subst (Puts t0 t8) (sym (text_is f s f_readable s_readable))
+    (puts_then t0 t1 t8 (ended (head_text (version_with c.signatures c.documents c.link))) _ first
+    (puts_then t1 t2 t8 (lines_text (link_says (composed_link f s))) _ valued
+    (puts_then t2 t3 t8 (lines_text (flat_map (table_says f s) tables)) _ one
+    (puts_then t3 t4 t8 (part_text f s Drops) _ two
+    (puts_then t4 t5 t8 (part_text f s Slots) _ three
+    (puts_then t5 t6 t8 (part_text f s Signatures) _ four
+    (puts_then t6 t7 t8 (lines_text (documents_say f s)) (part_text f s Methods) five six))))))))

@@ -23,6 +23,7 @@ use Rattle.map_compose.specs.Composition.{Follows, ComposedComposes, sizes_then}
 use Rattle.map_compose.specs.Laws.{Apart, MovesOn}
 use Rattle.map_compose.proofs.Found.{either, has, given, made_found, filter_map_map, flat_found, has_append, has_filter, has_ascending, has_key, find_filter}
 use Rattle.map_compose.proofs.Meeting.{runs_compose}
+use Rattle.map_compose.proofs.Named.{names_are, named_are}
 
 -- ---- small things
 
@@ -641,6 +642,9 @@ composed_composes = λ f s f_readable s_readable. record {
   sizes = λ m image follows. sizes_are f s m image follows;
   kept = λ m image x z follows. kept_are f s m image follows x z;
   signatures = λ m image follows. signatures_are f s m ∙ signature_on f s m image follows;
+  names = names_are f s;
+  named = named_are f s;
+  link = refl;
   without_image = without_image f s;
   apart = apart f s;
 }

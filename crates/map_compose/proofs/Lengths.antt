@@ -1,6 +1,7 @@
 -- The text of a readable map has fewer than 2 ^ 64 bytes.
-use Rattle.std.proofs.Common.{ℕ, zero, suc, ◌+◌, ◌*◌, ◌<◌, ◌≤◌, ◌++◌, Bool, true, false, cond, List, [], ◌∷◌, length, map, arith, length-append}
-use Rattle.std.specs.Prelude.{nat_eq, codes}
+use Rattle.std.proofs.Common.{ℕ, zero, suc, ◌+◌, ◌*◌, ◌<◌, ◌≤◌, ◌++◌, Bool, true, false, cond, ◌≡◌, ◌∙◌, ap, List, [], ◌∷◌, length, map}
+use Rattle.std.proofs.Common.{arith, length-append, Option, Some, None}
+use Rattle.std.specs.Prelude.{nat_eq, codes, IfSome, if◌then◌else◌}
 use Rattle.std.specs.Fmt.{decimal}
 use Rattle.std.specs.List.{AllByRecursion, filter, flat_map}
 use Rattle.std.proofs.lemmas.List.{length-map}
@@ -8,17 +9,22 @@ use Rattle.ppdb_maps.specs.declared.entries.Count.{Count}
 use Rattle.ppdb_maps.specs.declared.entries.RowImage.{RowImage}
 use Rattle.ppdb_maps.specs.declared.entries.SlotImage.{SlotImage}
 use Rattle.ppdb_maps.specs.declared.entries.SignatureImage.{SignatureImage}
+use Rattle.ppdb_maps.specs.declared.entries.NameLine.{NameLine}
+use Rattle.ppdb_base.specs.Escaped.{is_plain, code_of, escaped_byte, escaped}
 use Rattle.ppdb_maps.specs.declared.line.Line.{Line}
-use Rattle.ppdb_maps.specs.declared.line.Line.TheVariants.{Silent, Rows, Row, Method, Kept, Dropped, Slots, Slot, Signature}
+use Rattle.ppdb_maps.specs.declared.line.Line.TheVariants.{Silent, Rows, Row, Method, Kept, Dropped, Slots, Slot, Signature, Document, Link}
 use Rattle.ppdb_maps.specs.Forms.{ROWS, OFFSETS, SLOTS}
 use Rattle.ppdb_maps.specs.Map.{Map, MethodLine, rows_of, slots_of}
 use Rattle.ppdb_maps.specs.Readable.{IsReadable, IsRow, IsCount, IsRowOf, IsLineOf, IsSlottedOf, IsSlotOf, IsSignatureOf}
 use Rattle.ppdb_maps.proofs.Numbers.{may_spell_decimal, length_may_spell}
+use Rattle.ppdb_maps.proofs.Spelled.{code_is}
 use Rattle.ppdb_maps_text.specs.MapTexts.{spaced, table_word, line_text, ended, row_says, slot_says, signature_says, count_says, slots_say, method_says, map_says, map_text}
-use Rattle.ppdb_maps_text.specs.MapTexts.{version_with, head_text}
+use Rattle.ppdb_maps_text.specs.MapTexts.{version_with, head_text, link_says}
+use Rattle.map_compose.proofs.Putting.{lines_join}
 use Rattle.map_compose.specs.Says.{lines_text}
 use Rattle.std.proofs.lemmas.Bool.{eqb-true}
-use Rattle.map_compose.specs.Joining.{IsShort}
+use Rattle.map_compose.specs.Joining.{IsShort as IsShortRun}
+use Rattle.map_compose.specs.Fits.{IsShort, IsShortLine, NamesFit}
 use Rattle.map_compose.proofs.Bounds.{few}
 use Rattle.map_compose.proofs.Gathering.{few_runs}
 use Rattle.map_compose.proofs.Orders.{Up}
@@ -39,6 +45,8 @@ IsSmall (Dropped m) = m ≤ OFFSETS
 IsSmall (Slots m) = m ≤ OFFSETS
 IsSmall (Slot m o n) = (m ≤ OFFSETS) × (o ≤ OFFSETS) × (n ≤ OFFSETS)
 IsSmall (Signature m n) = (m ≤ OFFSETS) × (n ≤ OFFSETS)
+IsSmall (Document d) = ⊥
+IsSmall (Link value) = ⊥
 
 words_long : (ws : List (List ℕ)) (most : ℕ) → AllByRecursion (λ w. length w ≤ 10) ws → length ws ≤ most → length (flat_map (λ w. 32 ∷ w) ws) ≤ most * 11
 words_long [] most all le = omega (arith, le)
@@ -68,10 +76,63 @@ line_long (Slot m o n) small = spaced_long (codes "slot") (decimal m ∷ decimal
     (digits_few m small.0, (digits_few o small.1, (digits_few n small.2, tt))) (omega arith)
 line_long (Signature m n) small = spaced_long (codes "signature") (decimal m ∷ decimal n ∷ []) (omega arith)
     (digits_few m small.0, (digits_few n small.1, tt)) (omega arith)
+line_long (Document d) small = absurd small
+line_long (Link value) small = absurd small
 
 lines_long : (xs : List Line) → AllByRecursion IsSmall xs → length (lines_text xs) ≤ length xs * 64
 lines_long [] all = omega arith
 lines_long (x ∷ xs) all = omega (arith, line_long x all.0, lines_long xs all.1, length-append (ended (line_text x)) (lines_text xs))
+
+-- ---- lines of names
+
+byte_long : (b : ℕ) → length (escaped_byte b) ≤ 4
+byte_long b = of (is_plain b)
+  where
+    of : (p : Bool) → length (if p then b ∷ [] else code_of b) ≤ 4
+    of true = omega arith
+    of false = let four = ap length (code_is b) in omega (arith, four)
+
+bytes_long : (bytes : List ℕ) → length (flat_map escaped_byte bytes) ≤ length bytes * 4
+bytes_long [] = omega arith
+bytes_long (b ∷ bytes) = omega (arith, byte_long b, bytes_long bytes, length-append (escaped_byte b) (flat_map escaped_byte bytes))
+
+escaped_long : (bytes : List ℕ) → IsShort bytes → length (escaped bytes) ≤ 536870914
+escaped_long [] short = omega arith
+escaped_long (b ∷ bytes) short = omega (arith, short, bytes_long (b ∷ bytes))
+
+one_word : (word a : List ℕ) → length (spaced word (a ∷ []) ++ 10 ∷ []) ≡ length word + length a + 2
+one_word word a = omega (arith, length-append (spaced word (a ∷ [])) (10 ∷ []), length-append word ((32 ∷ a) ++ []), length-append (32 ∷ a) [])
+
+two_words : (word a b : List ℕ) → length (spaced word (a ∷ b ∷ []) ++ 10 ∷ []) ≡ length word + length a + length b + 3
+two_words word a b =
+    omega (
+      arith,
+      length-append (spaced word (a ∷ b ∷ [])) (10 ∷ []),
+      length-append word ((32 ∷ a) ++ ((32 ∷ b) ++ [])),
+      length-append (32 ∷ a) ((32 ∷ b) ++ []),
+      length-append (32 ∷ b) [],
+    )
+
+named_long : (d : NameLine) → IsShortLine d → length (ended (line_text (Document d))) ≤ 1073741840
+named_long d short =
+    let long : length (ended (line_text (Document d))) ≡ 8 + length (escaped d.old) + length (escaped d.new) + 3 =
+    two_words (codes "document") (escaped d.old) (escaped d.new) in
+    omega (arith, long, escaped_long d.old short.0, escaped_long d.new short.1)
+
+all_named_long : (ds : List NameLine) → AllByRecursion IsShortLine ds → length (lines_text (map (λ d. Document d) ds)) ≤ length ds * 1073741840
+all_named_long [] all = omega arith
+all_named_long (d ∷ ds) all = omega (
+  arith,
+  named_long d all.0,
+  all_named_long ds all.1,
+  length-append (ended (line_text (Document d))) (lines_text (map (λ x. Document x) ds)),
+)
+
+link_long : (o : Option (List ℕ)) → IfSome o IsShort → length (lines_text (link_says o)) ≤ 1073741840
+link_long None short = omega arith
+link_long (Some value) short =
+    let long : length (ended (line_text (Link value))) ≡ 4 + length (escaped value) + 2 = one_word (codes "link") (escaped value) in
+    omega (arith, long, escaped_long value short, length-append (ended (line_text (Link value))) [])
 
 -- ---- how many lines
 
@@ -161,7 +222,7 @@ module _ (m : Map) (readable : IsReadable m) where
         omega (arith, runs, same);
     small = (
       (omega (arith, is.0.1), is.1, is.2),
-      mapped IsShort IsSmall (λ r. Kept r)
+      mapped IsShortRun IsSmall (λ r. Kept r)
           (λ r short. (omega (arith, short.1), omega (arith, short.2), omega (arith, short.1))) line.runs (line_runs m line is).short,
     );
   }
@@ -191,7 +252,12 @@ module _ (m : Map) (readable : IsReadable m) where
   drops_small : (ns : List ℕ) → AllByRecursion IsRow ns → AllByRecursion IsSmall (map (λ k. Dropped k) ns)
   drops_small ns all = mapped IsRow IsSmall (λ k. Dropped k) (λ k is. omega (arith, is.1)) ns all
 
-  says_small : AllByRecursion IsSmall (map_says m)
+  -- the lines but those of names and of the value
+  abbrev other_lines : List Line
+  other_lines = flat_map (count_says m) m.counts
+      ++ (map (λ k. Dropped k) m.drops ++ (flat_map (slots_say m) m.slotted ++ (map signature_says m.signatures ++ flat_map method_says m.methods)))
+
+  says_small : AllByRecursion IsSmall other_lines
   says_small =
       both_small (flat_map (count_says m) m.counts) _ (flat_small (count_says m) 16777217 m.counts
       (each IsCount (Few (count_says m) 16777217) count_few m.counts readable.counts))
@@ -201,7 +267,7 @@ module _ (m : Map) (readable : IsReadable m) where
       (both_small (map signature_says m.signatures) _ signatures_small
       (flat_small method_says 2147483648 m.methods (each (IsLineOf m) (Few method_says 2147483648) line_few m.methods readable.methods)))))
 
-  few_lines : length (map_says m) ≤ 45 * 16777217 + 16777216 + 16777216 * 65537 + 16777216 + 16777216 * 2147483648
+  few_lines : length other_lines ≤ 45 * 16777217 + 16777216 + 16777216 * 65537 + 16777216 + 16777216 * 2147483648
   few_lines =
       let tables = flat_few (count_says m) 16777217 m.counts (each IsCount (Few (count_says m) 16777217) count_few m.counts readable.counts) in
       let drops = few_rows m.drops readable.ascends.drops readable.drops in
@@ -220,9 +286,32 @@ module _ (m : Map) (readable : IsReadable m) where
       let four = length-append (map signature_says m.signatures) (flat_map method_says m.methods) in
       omega (arith, tables, drops, slotted, slots, signatures, lines, counts, methods, same, also, one, two, three, four)
 
-  pub text_short : length (map_text m) < 0xffffffffffffffff
-  text_short =
-      let lines = lines_long (map_says m) says_small in
+  text_parts : (ls bs cs ds es gs hs : List Line) → length (lines_text (ls ++ (bs ++ (cs ++ (ds ++ (es ++ (gs ++ hs)))))))
+      ≡ length (lines_text ls) + length (lines_text (bs ++ (cs ++ (ds ++ (es ++ hs))))) + length (lines_text gs)
+  text_parts ls bs cs ds es gs hs =
+      let one = joined ls (bs ++ (cs ++ (ds ++ (es ++ (gs ++ hs))))) in
+      let two = joined bs (cs ++ (ds ++ (es ++ (gs ++ hs)))) in
+      let three = joined cs (ds ++ (es ++ (gs ++ hs))) in
+      let four = joined ds (es ++ (gs ++ hs)) in
+      let five = joined es (gs ++ hs) in
+      let six = joined gs hs in
+      let others = joined bs (cs ++ (ds ++ (es ++ hs))) in
+      let seven = joined cs (ds ++ (es ++ hs)) in
+      let eight = joined ds (es ++ hs) in
+      let nine = joined es hs in
+      omega (arith, one, two, three, four, five, six, others, seven, eight, nine)
+    where
+      joined : (xs ys : List Line) → length (lines_text (xs ++ ys)) ≡ length (lines_text xs) + length (lines_text ys)
+      joined xs ys = ap length (lines_join xs ys) ∙ length-append (lines_text xs) (lines_text ys)
+
+  pub text_short : NamesFit 268435456 m → length (map_text m) < 0xffffffffffffffff
+  text_short fit =
+      let lines = lines_long other_lines says_small in
       let few = few_lines in
-      let all = length-append (ended (head_text (version_with m.signatures))) (lines_text (map_says m)) in
-      omega (arith, lines, few, all)
+      let names = all_named_long m.documents fit.short in
+      let most = fit.few in
+      let value = link_long m.link fit.link in
+      let parts = text_parts (link_says m.link) (flat_map (count_says m) m.counts) (map (λ k. Dropped k) m.drops) (flat_map (slots_say m) m.slotted)
+      (map signature_says m.signatures) (map (λ d. Document d) m.documents) (flat_map method_says m.methods) in
+      let all = length-append (ended (head_text (version_with m.signatures m.documents m.link))) (lines_text (map_says m)) in
+      omega (arith, lines, few, names, most, value, parts, all)

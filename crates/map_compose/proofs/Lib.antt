@@ -2,6 +2,7 @@ pub mod Rising
 pub mod Meeting
 pub mod Found
 pub mod Orders
+pub mod Named
 pub mod Equations
 pub mod Readable
 pub mod Next
@@ -25,3 +26,4 @@ pub mod Digits
 pub mod Sums
 pub mod Insides
 pub mod SlotLines
+pub mod Names

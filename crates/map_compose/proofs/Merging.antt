@@ -1,6 +1,6 @@
 -- Two lists of numbers that ascend, merged: what is left after the least of their first numbers.
 use Rattle.std.proofs.Common.{ℕ, zero, suc, ◌≡◌, ◌+◌, ◌<◌, ◌≤◌, ◌⊎◌, ◌++◌, ◌||◌, Bool, true, false, cond, List, [], ◌∷◌, length, drop, refl, sym, ap, ◌∙◌}
-use Rattle.std.proofs.Common.{arith, add-one, subst, inl, inr, Some, None}
+use Rattle.std.proofs.Common.{arith, subst, inl, inr, Some, None}
 use Rattle.std.specs.Prelude.{nat_eq, is_some}
 use Rattle.std.specs.List.{AllByRecursion, slice_get}
 use Rattle.std.specs.List.Sorted.{IsStrictlySortedBy}
@@ -17,6 +17,7 @@ use Rattle.map_compose.specs.Parts.{part_numbers, other_numbers}
 use Rattle.map_compose.proofs.Found.{either, has, has_append, has_ascending}
 use Rattle.map_compose.proofs.Orders.{Up, Above, less, is_less, ascending_up}
 use Rattle.map_compose.proofs.Bounds.{few}
+use Rattle.map_compose.proofs.Putting.{drop_at, drop_past}
 use Rattle.map_compose.proofs.Equations.{olds}
 use Rattle.map_compose.proofs.Readable.{ascending_hold, row_olds, line_numbers, slotted_rows, signed_rows, rows_up}
 
@@ -115,17 +116,6 @@ unfolding IsStrictlySortedBy
 only_other y ys up = first_of y (y ∷ ys) ys up.0 (λ n. refl)
 
 -- ---- by their indexes
-
-drop_at : (xs : List ℕ) (i x : ℕ) → slice_get xs i ≡ Some x → drop i xs ≡ x ∷ drop (i + 1) xs
-drop_at [] i x is = absurd (cc)
-drop_at (y ∷ ys) zero x is = let e : y ≡ x = cc in ap (λ z. z ∷ ys) e
-drop_at (y ∷ ys) (suc i) x is = rw (add-one (suc i)) (drop_at ys i x is ∙ ap (λ n. x ∷ drop n ys) (add-one i))
-
-drop_past : (xs : List ℕ) (i : ℕ) → slice_get xs i ≡ None → drop i xs ≡ []
-drop_past [] zero is = refl
-drop_past [] (suc i) is = refl
-drop_past (y ∷ ys) zero is = absurd (cc)
-drop_past (y ∷ ys) (suc i) is = drop_past ys i is
 
 up_drop : (xs : List ℕ) (i : ℕ) → Up xs → Up (drop i xs)
 unfolding IsStrictlySortedBy

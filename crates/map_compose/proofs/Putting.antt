@@ -1,5 +1,5 @@
 -- What is put one after the other is put as one text, and texts of lines.
-use Rattle.std.proofs.Common.{ℕ, zero, suc, ◌≡◌, ◌+◌, ◌<◌, ◌≤◌, ◌++◌, Bool, true, false, cond, List, [], ◌∷◌, length, map, take, refl, sym, ap, ◌∙◌, arith}
+use Rattle.std.proofs.Common.{ℕ, zero, suc, ◌≡◌, ◌+◌, ◌<◌, ◌≤◌, ◌++◌, Bool, true, false, cond, List, [], ◌∷◌, length, map, take, drop, refl, sym, ap, ◌∙◌, arith}
 use Rattle.std.proofs.Common.{add-one, subst, Some, None, Result, Ok, Err, OnOk}
 use Rattle.std.specs.List.{flat_map, range_with_len, slice_get}
 use Rattle.std.specs.Prelude.{slice_index_or}
@@ -78,6 +78,19 @@ take_over (y ∷ ys) (suc i) le = ap (λ l. y ∷ l) (take_over ys i (omega (ari
 pub map_join : {X Y : Type 0} (g : X → Y) (xs ys : List X) → map g (xs ++ ys) ≡ map g xs ++ map g ys
 map_join g [] ys = refl
 map_join g (x ∷ xs) ys = ap (λ l. g x ∷ l) (map_join g xs ys)
+
+-- ---- what is left after some
+
+pub drop_at : {X : Type 0} (xs : List X) (i : ℕ) (x : X) → slice_get xs i ≡ Some x → drop i xs ≡ x ∷ drop (i + 1) xs
+drop_at [] i x is = absurd (cc)
+drop_at (y ∷ ys) zero x is = let e : y ≡ x = cc in ap (λ z. z ∷ ys) e
+drop_at (y ∷ ys) (suc i) x is = rw (add-one (suc i)) (drop_at ys i x is ∙ ap (λ n. x ∷ drop n ys) (add-one i))
+
+pub drop_past : {X : Type 0} (xs : List X) (i : ℕ) → slice_get xs i ≡ None → drop i xs ≡ []
+drop_past [] zero is = refl
+drop_past [] (suc i) is = refl
+drop_past (y ∷ ys) zero is = absurd (cc)
+drop_past (y ∷ ys) (suc i) is = drop_past ys i is
 
 -- ---- what is put in a loop: the lines of what was passed
 

@@ -11,7 +11,7 @@ use Rattle.ppdb_maps.specs.declared.entries.Count.{Count}
 use Rattle.ppdb_maps.specs.declared.entries.RowImage.{RowImage}
 use Rattle.ppdb_maps.specs.declared.entries.SlotImage.{SlotImage}
 use Rattle.ppdb_maps.specs.declared.entries.SignatureImage.{SignatureImage}
-use Rattle.ppdb_maps.specs.Forms.{ROWS, OFFSETS, SLOTS}
+use Rattle.ppdb_maps.specs.Forms.{AreBytes, ROWS, OFFSETS, SLOTS}
 use Rattle.ppdb_maps.specs.Map.{Map, MethodLine, Ascends, count_of, row_line, row_image, method_line, is_dropped, has_slots, slot_line, slot_image}
 use Rattle.ppdb_maps.specs.Map.{offsets_in, line_offsets, rows_of, slots_of, moved_row, signature_line, moved_signature}
 use Rattle.ppdb_maps.specs.Readable.{IsReadable, IsRow, IsCount, IsRowOf, IsLineOf, IsSlottedOf, IsSlotOf, IsSignatureOf}
@@ -19,13 +19,17 @@ use Rattle.map_compose.specs.Runs.{meet, met, longest}
 use Rattle.map_compose.specs.Ascending.{put_once, ascending}
 use Rattle.map_compose.specs.Composed.{tables, composed_count, count_entry, composed_row, sources, row_entry, row_entries, spoken_of, of_image, drops_one}
 use Rattle.map_compose.specs.Composed.{has_image, second_line, composed_runs, sized, composed_line, has_slot_lines, composed_slot, slot_sources, slot_entry}
-use Rattle.map_compose.specs.Composed.{slot_entries, slotted_methods, composed, signature_then, signature_entry, signed}
+use Rattle.map_compose.specs.Composed.{slot_entries, slotted_methods, composed, signature_then, signature_entry, signed, named}
+use Rattle.map_compose.specs.Names.{name_cmp, names_ascending}
+use Rattle.std.specs.List.Sorted.{IsStrictlySortedBy}
 use Rattle.map_compose.specs.Composition.{ComposedIsReadable}
 use Rattle.map_compose.specs.Sizes.{SizesAgree}
 use Rattle.map_compose.proofs.Found.{either, has}
 use Rattle.map_compose.proofs.Orders.{Up, ascending_up, range_up, made_up, filter_up, flat_pairs, key_up}
 use Rattle.map_compose.proofs.Rising.{run_same, met_rises, longest_rises}
 use Rattle.map_compose.proofs.Equations.{composed_composes, counts_are, tables_known, line_named, count_named, entries_named, row_named, slots_named}
+use Rattle.map_compose.proofs.Named.{entries_hold, link_holds, olds_are}
+use Rattle.map_compose.proofs.Names.{ascending_up as names_up}
 use Rattle.map_compose.proofs.Equations.{slot_named, signature_named, olds, numbers, came_by, live_image}
 
 -- ---- each item of a list
@@ -518,6 +522,7 @@ module _ (f s : Map) (f_readable : IsReadable f) (s_readable : IsReadable s) whe
         (slot_sources f s k) (slot_sources_up k)) (slotted_methods f s) slotted_up;
     signatures = made_up (λ k. k) (λ (x : SignatureImage). x.method) (signature_entry f s) (signature_named f s) (spoken_of f (signed f) (signed s))
         (subst Up (sym (map_same (spoken_of f (signed f) (signed s)))) (ascending_up (signed f ++ (olds f ++ signed s))));
+    documents = subst (IsStrictlySortedBy name_cmp) (sym (olds_are f s (names_ascending (named f ++ named s)))) (names_up (named f ++ named s));
   }
     where
       map_same : (ns : List ℕ) → map (λ k. k) ns ≡ ns
@@ -547,6 +552,8 @@ module _ (f s : Map) (f_readable : IsReadable f) (s_readable : IsReadable s) whe
         (slotted_methods f s) (all_there (slotted_methods f s));
     signatures = made_hold IsRow (IsSignatureOf (composed f s)) (signature_entry f s) signature_holds (spoken_of f (signed f) (signed s))
         (spoken_rows (signed f) (signed s) (signed_rows f f_readable) (signed_rows s s_readable));
+    documents = entries_hold AreBytes f s f_readable.documents s_readable.documents;
+    link = link_holds AreBytes f s f_readable.link s_readable.link;
   }
 
 pub composed_is_readable : ComposedIsReadable

@@ -15,14 +15,15 @@ use Rattle.ppdb_maps.specs.declared.line.Line.{Line}
 use Rattle.ppdb_maps.specs.declared.line.Line.TheVariants.{Rows, Dropped, Slots}
 use Rattle.ppdb_maps.specs.Map.{Map, MethodLine, method_line, count_of, is_dropped, row_image, rows_of, signature_line}
 use Rattle.ppdb_maps.specs.Readable.{IsReadable, IsRow}
-use Rattle.ppdb_maps_text.specs.MapTexts.{count_says, slots_say, method_says, row_says, slot_says, signature_says, map_text, ended, version_with, head_text}
+use Rattle.ppdb_maps_text.specs.MapTexts.{count_says, slots_say, method_says, row_says, slot_says, signature_says, link_says, map_text, ended, version_with, head_text}
 use Rattle.map_compose.specs.declared.part.Part.{Part}
 use Rattle.map_compose.specs.declared.part.Part.TheVariants.{Drops, Slots as SlotLines, Signatures, Methods}
 use Rattle.map_compose.specs.Composed.{tables, composed_count, count_entry, row_entries, composed_line, composed_runs, sized, second_line, has_image}
 use Rattle.map_compose.specs.Composed.{drops_one, of_image, has_slot_lines, slot_entries, slotted_methods, spoken_of, composed, signature_then}
-use Rattle.map_compose.specs.Composed.{composed_signature, signature_entry, signed}
+use Rattle.map_compose.specs.Composed.{composed_signature, signature_entry, signed, composed_link}
 use Rattle.map_compose.specs.Parts.{part_numbers, other_numbers, all_numbers, part_says}
 use Rattle.map_compose.specs.Says.{lines_text, counted_says, table_says, drop_of_both, slots_of_both, signed_says, signature_of_both, lined_says, line_of_both}
+use Rattle.map_compose.specs.Says.{documents_say}
 use Rattle.map_compose.proofs.Equations.{olds, came_by, Came, moved, stayed, entries_named, slots_named, spoken_has}
 use Rattle.map_compose.proofs.Found.{either, has, has_append, has_ascending, has_filter}
 use Rattle.map_compose.proofs.Merging.{one_up}
@@ -307,28 +308,33 @@ module _ (f s : Map) (f_readable : IsReadable f) (s_readable : IsReadable s) whe
       of k None is = inl (is, ap lined_says is)
       of k (Some x) is = inr (x, (is, sym (ap lined_says is)))
 
-  pub text_is : map_text (composed f s) ≡ ended (head_text (version_with (composed f s).signatures))
+  pub text_is : map_text (composed f s) ≡ ended (head_text (version_with (composed f s).signatures (composed f s).documents (composed f s).link))
+      ++ (lines_text (link_says (composed_link f s))
       ++ (lines_text (flat_map (table_says f s) tables) ++ (lines_text (flat_map (part_says Drops f s) (all_numbers Drops f s))
       ++ (lines_text (flat_map (part_says SlotLines f s) (all_numbers SlotLines f s))
       ++ (lines_text (flat_map (part_says Signatures f s) (all_numbers Signatures f s))
-      ++ lines_text (flat_map (part_says Methods f s) (all_numbers Methods f s))))))
+      ++ (lines_text (documents_say f s) ++ lines_text (flat_map (part_says Methods f s) (all_numbers Methods f s))))))))
   text_is =
       let c = composed f s in
-      let head = ended (head_text (version_with c.signatures)) in
+      let head = ended (head_text (version_with c.signatures c.documents c.link)) in
+      let value = link_says (composed_link f s) in
       let rows = flat_map (table_says f s) tables in
       let drops = flat_map (part_says Drops f s) (all_numbers Drops f s) in
       let slots = flat_map (part_says SlotLines f s) (all_numbers SlotLines f s) in
       let signatures = flat_map (part_says Signatures f s) (all_numbers Signatures f s) in
+      let names = documents_say f s in
       let lines = flat_map (part_says Methods f s) (all_numbers Methods f s) in
       let own_slots = flat_map (slots_say c) c.slotted in
       let own_lines = flat_map method_says c.methods in
       ap (λ l. head ++ lines_text l)
-      (ap (λ l. l ++ (map (λ k. Dropped k) c.drops ++ (own_slots ++ (map signature_says c.signatures ++ own_lines)))) tables_say
-      ∙ ap (λ l. rows ++ (l ++ (own_slots ++ (map signature_says c.signatures ++ own_lines)))) drops_say
-      ∙ ap (λ l. rows ++ (drops ++ (l ++ (map signature_says c.signatures ++ own_lines)))) slots_told
-      ∙ ap (λ l. rows ++ (drops ++ (slots ++ (l ++ own_lines)))) signatures_told
-      ∙ ap (λ l. rows ++ (drops ++ (slots ++ (signatures ++ l)))) lines_told)
-      ∙ ap (λ l. head ++ l) (lines_join rows (drops ++ (slots ++ (signatures ++ lines)))
-      ∙ ap (λ l. lines_text rows ++ l) (lines_join drops (slots ++ (signatures ++ lines))
-      ∙ ap (λ l. lines_text drops ++ l) (lines_join slots (signatures ++ lines)
-      ∙ ap (λ l. lines_text slots ++ l) (lines_join signatures lines))))
+      (ap (λ l. value ++ (l ++ (map (λ k. Dropped k) c.drops ++ (own_slots ++ (map signature_says c.signatures ++ (names ++ own_lines)))))) tables_say
+      ∙ ap (λ l. value ++ (rows ++ (l ++ (own_slots ++ (map signature_says c.signatures ++ (names ++ own_lines)))))) drops_say
+      ∙ ap (λ l. value ++ (rows ++ (drops ++ (l ++ (map signature_says c.signatures ++ (names ++ own_lines)))))) slots_told
+      ∙ ap (λ l. value ++ (rows ++ (drops ++ (slots ++ (l ++ (names ++ own_lines)))))) signatures_told
+      ∙ ap (λ l. value ++ (rows ++ (drops ++ (slots ++ (signatures ++ (names ++ l)))))) lines_told)
+      ∙ ap (λ l. head ++ l) (lines_join value (rows ++ (drops ++ (slots ++ (signatures ++ (names ++ lines)))))
+      ∙ ap (λ l. lines_text value ++ l) (lines_join rows (drops ++ (slots ++ (signatures ++ (names ++ lines))))
+      ∙ ap (λ l. lines_text rows ++ l) (lines_join drops (slots ++ (signatures ++ (names ++ lines)))
+      ∙ ap (λ l. lines_text drops ++ l) (lines_join slots (signatures ++ (names ++ lines))
+      ∙ ap (λ l. lines_text slots ++ l) (lines_join signatures (names ++ lines)
+      ∙ ap (λ l. lines_text signatures ++ l) (lines_join names lines))))))

@@ -32,6 +32,11 @@ worked_maps = record {
   signature_of_second = refl;
   signature_of_image = refl;
   signature_dropped = refl;
+  named_by_both = refl;
+  named_back = refl;
+  named_by_bytes = refl;
+  link_of_second = refl;
+  link_of_first = refl;
   differs = record { a = _; b = _; there = refl; before = refl; after = refl; sizes = (refl, refl, λ e. omega (arith, e)) };
   differs_by_image = record { a = _; b = _; there = refl; before = refl; after = refl; sizes = (refl, refl, λ e. omega (arith, e)) };
 }

@@ -2,9 +2,9 @@
 use Rattle.std.specs.{Prelude.{ℕ, ◌&&◌, ◌||◌, Bool, false, cond, List, [], ◌++◌, Option, Some, None, is_some, map, filter, filter_map, flat_map, option_map, option_and_then}, List.range_with_len}
 use Rattle.std.specs.Option.{option_or}
 use Rattle.ppdb_base.specs.{declared.offsets.Run.Run, Offsets.{Offsets, every, kept_runs}}
-use Rattle.ppdb_maps.specs.declared.entries.{Count.Count, RowImage.RowImage, SlotImage.SlotImage, SignatureImage.SignatureImage}
-use Rattle.ppdb_maps.specs.Map.{Map, MethodLine, count_of, row_image, method_line, is_dropped, has_slots, slot_image, offsets_in, rows_of, slots_of, signature_line, moved_signature}
-use Rattle.map_compose.specs.{Runs.{met, longest}, Ascending.ascending}
+use Rattle.ppdb_maps.specs.declared.entries.{Count.Count, RowImage.RowImage, SlotImage.SlotImage, SignatureImage.SignatureImage, NameLine.NameLine}
+use Rattle.ppdb_maps.specs.Map.{Map, MethodLine, count_of, row_image, method_line, is_dropped, has_slots, slot_image, offsets_in, rows_of, slots_of, signature_line, moved_signature, moved_name}
+use Rattle.map_compose.specs.{Runs.{met, longest}, Ascending.ascending, Names.names_ascending}
 
 -- ---- rows
 
@@ -114,6 +114,24 @@ signature_entry f s method = option_map (λ new. record { method = method; new =
 abbrev pub signed : Map → List ℕ
 signed m = map (λ (x : SignatureImage). x.method) m.signatures
 
+-- ---- names of documents, and the value of Source Link records
+
+-- the names with a `document` line
+abbrev pub named : Map → List (List ℕ)
+named m = map (λ (d : NameLine). d.old) m.documents
+
+-- a name gets what the second map makes of what the first makes of it
+abbrev pub document_entry : Map → Map → List ℕ → NameLine
+document_entry f s name = record { old = name; new = moved_name s (moved_name f name) }
+
+-- of each name with a line in one of the maps
+abbrev pub document_entries : Map → Map → List NameLine
+document_entries f s = map (document_entry f s) (names_ascending (named f ++ named s))
+
+-- the value of the second map's `link` line, else that of the first's
+abbrev pub composed_link : Map → Map → Option (List ℕ)
+composed_link f s = option_or s.link f.link
+
 -- ---- the map
 
 abbrev pub composed : Map → Map → Map
@@ -125,4 +143,6 @@ composed f s = record {
   slotted = slotted_methods f s;
   slots = flat_map (slot_entries f s) (slotted_methods f s);
   signatures = filter_map (signature_entry f s) (spoken_of f (signed f) (signed s));
+  documents = document_entries f s;
+  link = composed_link f s;
 }

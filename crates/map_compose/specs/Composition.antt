@@ -1,8 +1,9 @@
 -- The equations by which a map is the composition of two, and when the map of two maps is readable.
-use Rattle.std.specs.Prelude.{◌≡◌, ℕ, ◌≤◌, ◌↔◌, ◌⊎◌, true, false, List, Option, Some, None, is_some, option_and_then}
+use Rattle.std.specs.Prelude.{◌≡◌, ℕ, ◌≤◌, ◌↔◌, ◌⊎◌, ◌||◌, true, false, List, Option, Some, None, is_some, option_and_then}
 use Rattle.ppdb_base.specs.{declared.offsets.Run.Run, Offsets.{lined, Rise, Kept, kept_runs, old_size, moved}}
-use Rattle.ppdb_maps.specs.{Map.{Map, MethodLine, count_of, row_image, is_dropped, has_slots, method_line, slot_image, offsets_in, signature_line}, Readable.IsReadable, Says.sizes_of}
-use Rattle.map_compose.specs.{Composed.{composed, composed_count, composed_row, drops_one, has_image, signature_then}, Laws.{Apart, MovesOn}, Runs.{met, longest}, Sizes.SizesAgree}
+use Rattle.ppdb_maps.specs.Map.{Map, MethodLine, count_of, row_image, is_dropped, has_slots, method_line, slot_image, offsets_in, signature_line, document_line, moved_name}
+use Rattle.ppdb_maps.specs.{Readable.IsReadable, Says.sizes_of}
+use Rattle.map_compose.specs.{Composed.{composed, composed_count, composed_row, drops_one, has_image, signature_then, composed_link}, Laws.{Apart, MovesOn}, Runs.{met, longest}, Sizes.SizesAgree}
 
 -- the method becomes `image` by the first map, and is there after both
 pub record Follows (f s : Map) (method image : ℕ) : Type 0 where
@@ -25,6 +26,11 @@ pub record IsComposition (f s c : Map) : Type 0 where
   pub kept : (method image x z : ℕ) → Follows f s method image
       → Kept (offsets_in c method) x z ↔ MovesOn (kept_runs (offsets_in f method)) (kept_runs (offsets_in s image)) x z
   pub signatures : (method image : ℕ) → Follows f s method image → signature_line c method ≡ signature_then s image (signature_line f method)
+  -- a document gets the name that the second map makes of what the first makes of its name
+  pub names : (name : List ℕ) → moved_name c name ≡ moved_name s (moved_name f name)
+  -- a name has a `document` line exactly where one of the maps has one
+  pub named : (name : List ℕ) → is_some (document_line c name) ≡ (is_some (document_line f name) || is_some (document_line s name))
+  pub link : c.link ≡ composed_link f s
   -- a method that is not there after both has no `method` line, no `slots` line and no `signature` line
   pub without_image : (method : ℕ) → has_image f s method ≡ false
       → (method_line c method ≡ None) × (has_slots c method ≡ false) × (signature_line c method ≡ None)

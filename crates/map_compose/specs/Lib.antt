@@ -1,5 +1,6 @@
 pub mod Runs
 pub mod Ascending
+pub mod Names
 pub mod Composed
 pub mod Sizes
 pub mod Laws
@@ -12,3 +13,4 @@ pub mod Refused
 pub mod Lengths
 pub mod Slots
 pub mod Gathered
+pub mod Fits

@@ -1,7 +1,7 @@
 -- The parts of a map's text that are about methods, and the methods of which each may speak.
 use Rattle.std.specs.Prelude.{ℕ, cond, is_some, List, ◌++◌, map, drop}
 use Rattle.ppdb_maps.specs.{declared.entries.RowImage.RowImage, declared.line.Line.Line, Map.{Map, MethodLine, count_of, rows_of}}
-use Rattle.map_compose.specs.{declared.part.{Part.{Part, TheVariants.{Drops, Slots, Signatures, Methods}}, Passed.Passed}, Ascending.ascending, Composed.signed}
+use Rattle.map_compose.specs.{declared.part.{Part.{Part, TheVariants.{Drops, Slots, Signatures, Methods}}, Passed.Passed}, Ascending.ascending, Names.names_ascending, Composed.{signed, named}}
 use Rattle.map_compose.specs.Says.{drop_of_both, slots_of_both, signature_of_both, line_of_both}
 
 -- the methods with a line of the part
@@ -28,3 +28,9 @@ part_says Drops f s method = drop_of_both f s method
 part_says Slots f s method = slots_of_both f s method
 part_says Signatures f s method = signature_of_both f s method
 part_says Methods f s method = line_of_both f s method
+
+-- ---- names of documents
+
+-- the names of both maps' lines that are left
+abbrev pub names_left : Map → Map → Passed → List (List ℕ)
+names_left f s passed = names_ascending (drop passed.own (named f) ++ drop passed.other (named s))

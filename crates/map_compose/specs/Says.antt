@@ -1,9 +1,9 @@
 -- What the lines of the map of two maps say of a table and of a method.
-use Rattle.std.specs.Prelude.{ℕ, ◌≤◌, cond, List, [], ◌∷◌, Option, Some, None, map, flat_map, option_and_then}
-use Rattle.ppdb_maps.specs.{declared.entries.RowImage.RowImage, declared.line.Line.{Line, TheVariants.{Rows, Row, Dropped, Slots, Slot, Signature}}}
+use Rattle.std.specs.Prelude.{ℕ, ◌≤◌, ◌||◌, Bool, cond, List, [], ◌∷◌, Option, Some, None, is_some, slice_get, map, flat_map, option_and_then}
+use Rattle.ppdb_maps.specs.{declared.entries.RowImage.RowImage, declared.line.Line.{Line, TheVariants.{Rows, Row, Dropped, Slots, Slot, Signature, Document}}}
 use Rattle.ppdb_maps.specs.Map.{Map, MethodLine, count_of, row_image, slot_image}
 use Rattle.ppdb_maps_text.specs.{MapTexts.{ended, line_text, row_says, slot_says, method_says}, declared.counted.Counted.Counted, Putting.Puts}
-use Rattle.map_compose.specs.Composed.{composed_count, sources, row_entries, has_image, composed_line, drops_one, has_slot_lines, slot_entries, composed_signature}
+use Rattle.map_compose.specs.Composed.{composed_count, sources, row_entries, has_image, composed_line, drops_one, has_slot_lines, slot_entries, composed_signature, document_entry, document_entries}
 
 -- the text of lines, each ended by LF
 abbrev pub lines_text : List Line → List ℕ
@@ -71,3 +71,15 @@ lined_says (Some line) = method_says line
 
 abbrev pub line_of_both : Map → Map → ℕ → List Line
 line_of_both f s method = lined_says (composed_line f s method)
+
+-- ---- names of documents
+
+abbrev pub names_say : Map → Map → List (List ℕ) → List Line
+names_say f s names = map (λ d. Document d) (map (document_entry f s) names)
+
+abbrev pub documents_say : Map → Map → List Line
+documents_say f s = map (λ d. Document d) (document_entries f s)
+
+-- the map has a `document` or a `link` line
+abbrev pub has_names : Map → Bool
+has_names m = is_some (slice_get m.documents 0) || is_some m.link

@@ -1,7 +1,7 @@
 -- Worked maps, composed, and the canonical texts of what they come to.
-use Rattle.std.specs.Prelude.{◌≡◌, ℕ, List, [], ◌∷◌, codes}
+use Rattle.std.specs.Prelude.{◌≡◌, ℕ, List, [], ◌∷◌, None, Some, codes}
 use Rattle.ppdb_base.specs.declared.offsets.Run.{Run}
-use Rattle.ppdb_maps.specs.{declared.entries.{Count.Count, RowImage.RowImage, SlotImage.SlotImage, SignatureImage.SignatureImage}, Map.{Map, MethodLine, map_of}}
+use Rattle.ppdb_maps.specs.{declared.entries.{Count.Count, RowImage.RowImage, SlotImage.SlotImage, SignatureImage.SignatureImage, NameLine.NameLine}, Map.{Map, MethodLine, map_of}}
 use Rattle.ppdb_maps_text.specs.MapTexts.{map_text}
 use Rattle.map_compose.specs.{Composed.composed, Sizes.SizesDiffer}
 
@@ -23,8 +23,11 @@ slot method old new = record { method = method; old = old; new = new }
 abbrev pub signature : ℕ → ℕ → SignatureImage
 signature method new = record { method = method; new = new }
 
+abbrev pub document : List ℕ → List ℕ → NameLine
+document old new = record { old = old; new = new }
+
 abbrev pub no_lines : Map
-no_lines = map_of [] [] [] [] [] [] []
+no_lines = map_of [] [] [] [] [] [] [] [] None
 
 -- the two maps come to the map of this text
 abbrev pub ComesTo : Map → Map → List ℕ → Type 0
@@ -109,6 +112,22 @@ pub record WorkedComposed : Type 0 where
   pub signature_dropped : ComesTo (record no_lines { signatures = signature 4 2 ∷ [] })
       (record no_lines { drops = 4 ∷ [] })
       (codes "ppdbmap 3\ndrop 4\n")
+  pub named_by_both : ComesTo
+      (record no_lines { documents = document (codes "a") (codes "b") ∷ document (codes "c") (codes "d") ∷ document (codes "e") (codes "f") ∷ [] })
+      (record no_lines { documents = document (codes "b") (codes "x") ∷ document (codes "d") (codes "c") ∷ document (codes "e") (codes "y") ∷ [] })
+      (codes "ppdbmap 4\ndocument a x\ndocument b x\ndocument c c\ndocument d c\ndocument e f\n")
+  pub named_back : ComesTo (record no_lines { documents = document (codes "a") (codes "b") ∷ document (codes "b") (codes "c") ∷ [] })
+      (record no_lines { documents = document (codes "b") (codes "a") ∷ [] })
+      (codes "ppdbmap 4\ndocument a a\ndocument b c\n")
+  pub named_by_bytes : ComesTo (record no_lines { documents = document [] (codes "c") ∷ document (codes "A") (codes "a") ∷ [] })
+      no_lines
+      (codes "ppdbmap 4\ndocument \\- c\ndocument A a\n")
+  pub link_of_second : ComesTo (record no_lines { counts = count 1 0 ∷ []; documents = document (codes "a") (codes "b") ∷ []; link = Some (codes "a") })
+      (record no_lines { link = Some (codes "b") })
+      (codes "ppdbmap 4\nlink b\nrows 01 0\ndocument a b\n")
+  pub link_of_first : ComesTo (record no_lines { link = Some [] })
+      no_lines
+      (codes "ppdbmap 4\nlink \\-\n")
   pub differs : SizesDiffer (record no_lines { methods = line 1 9 12 (run 0 0 1 ∷ run 5 6 4 ∷ []) ∷ [] })
       (record no_lines { methods = line 1 10 10 [] ∷ [] }) 1 12 10
   pub differs_by_image : SizesDiffer (record no_lines {

@@ -3,10 +3,13 @@ ghost use Rattle.std.specs.Prelude.{◌≡◌, ◌≤◌, length, IfOk, IfErr};
 ghost use Rattle.ppdb_maps_text.specs.MapTexts.{map_text};
 ghost use Rattle.ppdb_maps.specs.Text.{IsMapOf};
 ghost use Rattle.map_compose.specs.Composed.{composed};
+ghost use Rattle.map_compose.specs.Fits.{NamesFit};
 ghost use Rattle.map_compose.specs.Refused.{Counts, RefusesFor};
 ghost use Rattle.map_compose.specs.Sizes.{SizesAgree};
 
+use crate::documents::{put_documents, put_link};
 use crate::error::ComposeError;
+use crate::fits::names_fit;
 use crate::gathered::Gathered;
 use crate::methods::put_part;
 use crate::part::Part;
@@ -20,7 +23,9 @@ use std::alloc::Global;
 
 /// The text of the map of two maps, counted on where it is too long.
 fn counted_map(alloc: Global, first: &MapText, second: &MapText) -> Result<Counted, Memory>
-    requires { SizesAgree first.now second.now }
+    requires agree { SizesAgree first.now second.now }
+    requires own { NamesFit 134217728 first.now }
+    requires other { NamesFit 134217728 second.now }
     ensures { IfOk result (λ text. Counts text (map_text (composed first.now second.now))) }
 {
     first.keeps();
@@ -29,10 +34,12 @@ fn counted_map(alloc: Global, first: &MapText, second: &MapText) -> Result<Count
     let mut text = Counted::new(alloc);
     let version = version_by_both(first, second);
     text.put_head(version)?;
+    put_link(first, second, &mut text)?;
     put_tables(first, second, &mut text)?;
     put_part(Part::Drops, first, second, &mut gathered, &mut text)?;
     put_part(Part::Slots, first, second, &mut gathered, &mut text)?;
     put_signatures(version, first, second, &mut gathered, &mut text)?;
+    put_documents(first, second, &mut text)?;
     put_part(Part::Methods, first, second, &mut gathered, &mut text)?;
     Ok(text)
 }
@@ -57,6 +64,12 @@ pub fn compose_maps(alloc: Global, first: &MapText, second: &MapText) -> Result<
             first: found.first,
             second: found.second,
         });
+    }
+    if !names_fit(first) {
+        return Err(ComposeError::Memory);
+    }
+    if !names_fit(second) {
+        return Err(ComposeError::Memory);
     }
     let text = counted_map(alloc, first, second)?;
     let bytes = text.len();

@@ -3,7 +3,9 @@
 
 mod blocks;
 mod compose;
+mod documents;
 mod error;
+mod fits;
 mod gathered;
 mod image;
 mod joined;

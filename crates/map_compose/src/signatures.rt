@@ -1,12 +1,12 @@
 // The `signature` lines of the map of two maps, and the version of its text.
-ghost use Rattle.std.specs.Prelude.{◌≡◌, OnOk};
+ghost use Rattle.std.specs.Prelude.{◌≡◌, ◌||◌, [], None, OnOk};
 ghost use Rattle.std.specs.List.{flat_map};
 ghost use Rattle.ppdb_maps_text.specs.MapTexts.{version_with};
 ghost use Rattle.map_compose.specs.declared.part.Part.TheVariants.{Signatures};
 ghost use Rattle.map_compose.specs.Composed.{composed};
 ghost use Rattle.map_compose.specs.Gathered.{IsGatheredOf};
 ghost use Rattle.map_compose.specs.Parts.{part_says, all_numbers};
-ghost use Rattle.map_compose.specs.Says.{PutsLines};
+ghost use Rattle.map_compose.specs.Says.{PutsLines, has_names as has_lines};
 ghost use Rattle.map_compose.specs.Sizes.{SizesAgree};
 
 use crate::gathered::Gathered;
@@ -17,9 +17,24 @@ use ppdb_base::Memory;
 use ppdb_maps::MapText;
 use ppdb_maps_text::Counted;
 
-/// The version of the text of the map of two maps: 4 where that has a `signature` line, else 3.
-pub fn version_by_both(first: &MapText, second: &MapText) -> u8
-    ensures { result ≡ version_with (composed first.now second.now).signatures }
+/// Whether a map has a `document` or a `link` line.
+fn has_names(map: &MapText) -> bool
+    ensures { result ≡ has_lines map.now }
+{
+    map.document_line(0).is_some() || map.link().is_some()
+}
+
+/// Whether one of two maps has a `document` or a `link` line, and with it the map of both.
+fn names_by_both(first: &MapText, second: &MapText) -> bool
+    ensures { result ≡ (has_lines first.now || has_lines second.now) }
+{
+    has_names(first) || has_names(second)
+}
+
+/// The version of the text of the map of two maps, where that has no `document` and no `link` line:
+/// 4 where it has a `signature` line, else 3.
+fn version_signed(first: &MapText, second: &MapText) -> u8
+    ensures { result ≡ version_with (composed first.now second.now).signatures [] None }
 {
     first.keeps();
     second.keeps();
@@ -35,6 +50,20 @@ pub fn version_by_both(first: &MapText, second: &MapText) -> u8
     3
 }
 
+/// The version of the text of the map of two maps: 4 where that has a `signature`, a `document` or
+/// a `link` line, else 3.
+pub fn version_by_both(first: &MapText, second: &MapText) -> u8
+    ensures { result ≡ version_with (composed first.now second.now).signatures (composed first.now second.now).documents
+        (composed first.now second.now).link }
+{
+    let named = names_by_both(first, second);
+    if named {
+        4
+    } else {
+        version_signed(first, second)
+    }
+}
+
 /// Puts the `signature` lines, which a text of version 3 does not have.
 pub fn put_signatures(
     version: u8,
@@ -43,7 +72,8 @@ pub fn put_signatures(
     gathered: &mut Gathered,
     text: &mut Counted,
 ) -> Result<(), Memory>
-    requires version { version ≡ version_with (composed first.now second.now).signatures }
+    requires version { version ≡ version_with (composed first.now second.now).signatures (composed first.now second.now).documents
+        (composed first.now second.now).link }
     requires gathered { IsGatheredOf gathered.now second.now }
     requires agree { SizesAgree first.now second.now }
     ensures gathered { OnOk result (IsGatheredOf gathered.new second.now) }

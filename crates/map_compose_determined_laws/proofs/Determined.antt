@@ -1,12 +1,12 @@
 -- A composition answers each question of its lines in one way.
-use Rattle.std.proofs.Common.{◌≡◌, ℕ, suc, ◌&&◌, Bool, true, false, cond, [], ◌∷◌, Option, Some, None, refl, sym, ◌∙◌, ap, subst}
-use Rattle.std.specs.Prelude.{nat_eq, is_some}
+use Rattle.std.proofs.Common.{◌≡◌, ℕ, suc, ◌&&◌, Bool, true, false, cond, List, [], ◌∷◌, Option, Some, None, refl, sym, ◌∙◌, ap, subst}
+use Rattle.std.specs.Prelude.{nat_eq, is_some, unwrap_or}
 use Rattle.std.specs.Option.{option_and_then}
 use Rattle.ppdb_base.specs.Offsets.{Kept, RiseFrom, lined, stop_runs}
 use Rattle.ppdb_base.proofs.Moved.{rise_prefix}
 use Rattle.ppdb_maps.specs.Forms.{SLOTS}
 use Rattle.ppdb_maps.specs.Map.{Map, MethodLine, count_of, row_line, row_image, method_line, is_dropped, has_slots, slot_line, slot_image, offsets_in}
-use Rattle.ppdb_maps.specs.Map.{signature_line}
+use Rattle.ppdb_maps.specs.Map.{signature_line, document_line}
 use Rattle.ppdb_maps.specs.Readable.{IsReadable}
 use Rattle.ppdb_maps.specs.Says.{sizes_of}
 use Rattle.map_compose.specs.Composed.{composed, has_image}
@@ -88,6 +88,18 @@ module _ (f s c d : Map) (readable : IsReadable c) (also : IsReadable d) (one : 
       step (gone is) = (one.without_image method is).2 ∙ sym (other.without_image method is).2
       step (there image follows) = one.signatures method image follows ∙ sym (other.signatures method image follows)
 
+  -- ---- names of documents
+
+  -- a line is there, and what it says is what the name gets
+  documents_alike : (name : List ℕ) → document_line c name ≡ document_line d name
+  documents_alike name = step (document_line c name) (document_line d name) (one.named name ∙ sym (other.named name)) (one.names name ∙ sym (other.names name))
+    where
+      step : (o p : Option (List ℕ)) → is_some o ≡ is_some p → unwrap_or o name ≡ unwrap_or p name → o ≡ p
+      step None None is same = refl
+      step None (Some b) is same = absurd cc
+      step (Some a) None is same = absurd cc
+      step (Some a) (Some b) is same = ap Some same
+
   -- ---- methods
 
   line_same : (a b : MethodLine) → a.method ≡ b.method → a.old_size ≡ b.old_size → a.new_size ≡ b.new_size → a.runs ≡ b.runs → a ≡ b
@@ -150,6 +162,8 @@ compositions_are_one f s c d readable also one other =
       slotted = slotted_alike f s c d readable also one other;
       slots = slots_alike f s c d readable also one other;
       signatures = signatures_alike f s c d readable also one other;
+      documents = documents_alike f s c d readable also one other;
+      link = one.link ∙ sym other.link;
     })
 
 pub composed_is_the_only_one : ComposedComposes → ComposedIsReadable → ComposedIsTheOnlyOne

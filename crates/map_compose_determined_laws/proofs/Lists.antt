@@ -2,20 +2,25 @@
 use Rattle.std.proofs.Common.{◌≡◌, ℕ, ◌&&◌, Bool, true, false, cond, List, [], ◌∷◌, Some, None, refl, sym, ◌∙◌, ap, inl, inr, map, subst}
 use Rattle.std.specs.Prelude.{nat_eq}
 use Rattle.std.specs.List.{find, list_any}
+use Rattle.std.specs.Str.{bytes_eq}
+use Rattle.std.specs.Cmp.Lexicographic.{slice_cmp}
 use Rattle.std.specs.List.Sorted.{IsStrictlySortedBy}
 use Rattle.std.specs.Option.{option_map}
 use Rattle.std.specs.Ordering.{nat_cmp}
 use Rattle.std.proofs.lemmas.Bool.{eq-eqb, ne_eqb, eqb-true, and_parts}
-use Rattle.std.proofs.lemmas.Cmp.{nat_cmp_total}
+use Rattle.std.proofs.lemmas.Cmp.{nat_cmp_total, nat_list_cmp_total}
 use Rattle.ppdb_maps.specs.declared.entries.Count.{Count}
 use Rattle.ppdb_maps.specs.declared.entries.RowImage.{RowImage}
 use Rattle.ppdb_maps.specs.declared.entries.SlotImage.{SlotImage}
 use Rattle.ppdb_maps.specs.declared.entries.SignatureImage.{SignatureImage}
+use Rattle.ppdb_maps.specs.declared.entries.NameLine.{NameLine}
 use Rattle.ppdb_maps.specs.Gathered.{same_pair}
 use Rattle.ppdb_maps.specs.Map.{Map, MethodLine, Ascends, pair_cmp, count_of, row_line, method_line, is_dropped, has_slots, slot_line, signature_line}
+use Rattle.ppdb_maps.specs.Map.{document_line}
 use Rattle.ppdb_maps.proofs.OneList.{one_list}
 use Rattle.ppdb_maps.proofs.OneMap.{same_number, number_same, pair_is, is_pair, pair_total}
 use Rattle.map_compose.proofs.Found.{either}
+use Rattle.map_compose.proofs.Names.{same as same_bytes, eq_itself as bytes_itself}
 
 -- ---- lists that answer alike by their keys
 
@@ -64,6 +69,19 @@ with_pair {X} first second value make is xs ys a b same =
         ap (λ n. make n k (value x)) (sym (eqb-true (first x) j parts.0)) ∙ ap (λ n. make (first x) n (value x)) (sym (eqb-true (second x) k parts.1))
         ∙ is x
 
+-- names and what they get
+pub by_name : (xs ys : List NameLine) → IsStrictlySortedBy (slice_cmp nat_cmp) (map (λ (d : NameLine). d.old) xs)
+    → IsStrictlySortedBy (slice_cmp nat_cmp) (map (λ (d : NameLine). d.old) ys)
+    → ((name : List ℕ) → option_map (λ (d : NameLine). d.new) (find (λ d. bytes_eq d.old name) xs)
+    ≡ option_map (λ (d : NameLine). d.new) (find (λ d. bytes_eq d.old name) ys)) → xs ≡ ys
+by_name xs ys a b same_names =
+    one_list (λ (d : NameLine). d.old) bytes_eq (slice_cmp nat_cmp) same_bytes bytes_itself nat_list_cmp_total xs ys a b
+    (λ name. alike (λ d. bytes_eq d.old name) (λ d. d.new) (λ new. record { old = name; new = new }) (λ d hit. remade name d (same_bytes d.old name hit))
+    xs ys (same_names name))
+  where
+    remade : (name : List ℕ) (d : NameLine) → d.old ≡ name → record { old = name; new = d.new } ≡ d
+    remade name d e = ap (λ k. record d { old = k }) (sym e)
+
 -- numbers
 number_found : (n : ℕ) (xs : List ℕ) → find (λ x. nat_eq x n) xs ≡ cond (list_any (nat_eq n) xs) (Some n) None
 number_found n [] = refl
@@ -93,6 +111,8 @@ pub record AnswerAlike (a b : Map) : Type 0 where
   pub slotted : (method : ℕ) → has_slots a method ≡ has_slots b method
   pub slots : (method old : ℕ) → slot_line a method old ≡ slot_line b method old
   pub signatures : (method : ℕ) → signature_line a method ≡ signature_line b method
+  pub documents : (name : List ℕ) → document_line a name ≡ document_line b name
+  pub link : a.link ≡ b.link
 
 -- One list after the other: a further list of a map is one more `let` and one more line.
 pub one_map : (a b : Map) → Ascends a → Ascends b → AnswerAlike a b → a ≡ b
@@ -103,6 +123,8 @@ one_map a b x y same =
     let dropped : Map = record lined { drops = b.drops } in
     let slotted : Map = record dropped { slotted = b.slotted } in
     let put : Map = record slotted { slots = b.slots } in
+    let signed : Map = record put { signatures = b.signatures } in
+    let named : Map = record signed { documents = b.documents } in
     ap (λ l. record a { counts = l })
     (with_value (λ (c : Count). c.table) (λ c. c.rows) (λ t r. record { table = t; rows = r }) (λ c. refl) a.counts b.counts x.counts y.counts same.counts)
     ∙ ap (λ l. record counted { rows = l })
@@ -117,3 +139,5 @@ one_map a b x y same =
     ∙ ap (λ l. record put { signatures = l })
     (with_value (λ (s : SignatureImage). s.method) (λ s. s.new) (λ m r. record { method = m; new = r }) (λ s. refl)
     a.signatures b.signatures x.signatures y.signatures same.signatures)
+    ∙ ap (λ l. record signed { documents = l }) (by_name a.documents b.documents x.documents y.documents same.documents)
+    ∙ ap (λ o. record named { link = o }) same.link

@@ -1,7 +1,8 @@
 -- A method that a moved file names and a second map does not drop is the image of one that the file names by the map of both.
 use Rattle.std.proofs.Common.{◌≡◌, ℕ, ◌≤◌, ◌&&◌, ◌||◌, not, Bool, true, false, cond, List, [], ◌∷◌, Option, Some, None, refl, sym, ◌∙◌, ap, subst}
 use Rattle.std.proofs.Common.{arith, map}
-use Rattle.std.specs.Prelude.{nat_eq}
+use Rattle.std.specs.Prelude.{nat_eq, unwrap_or}
+use Rattle.std.specs.Option.{option_map}
 use Rattle.std.proofs.lemmas.Bool.{eqb-true, not-true, not_from_false, or_from, or_parts}
 use Rattle.custom_info.specs.declared.stepping.AsyncStep.{AsyncStep}
 use Rattle.sequence_points.specs.declared.point.Point.{Point}
@@ -33,7 +34,8 @@ use Rattle.ppdb_merge_items.specs.SoundParts.{SoundMoved}
 use Rattle.ppdb_merge_items.proofs.Lists.{Each-append, Each-map, Each-weaker}
 use Rattle.ppdb_merge_joined.proofs.Each.{Each-split, Each-with}
 use Rattle.ppdb_merge_items.specs.Annotated.{with_item}
-use Rattle.ppdb_merge_moved.specs.Moved.{is_empty, moved_body, moved_constant, moved_constant_body, moved_custom, moved_file, moved_import, moved_import_scope}
+use Rattle.ppdb_merge_moved.specs.Moved.{is_empty, is_link, linked, moved_body, moved_constant, moved_constant_body, moved_custom, moved_record, moved_file}
+use Rattle.ppdb_merge_moved.specs.Moved.{moved_import, moved_import_scope}
 use Rattle.ppdb_merge_moved.specs.Moved.{moved_machine, moved_method, moved_modifier, moved_scope, moved_step, scope_image, with_points}
 use Rattle.ppdb_merge_moved.proofs.Fitting.{moved_dropped}
 use Rattle.ppdb_merge_moved.proofs.Lists.{Each-filter_map}
@@ -220,7 +222,7 @@ module _ (f s : Map) (composes : IsComposition f s (composed f s)) (first : IsRe
 
   -- ---- custom records
 
-  custom_is : (x q : CustomValue) → moved_custom f x ≡ Some q
+  custom_is : (x q : CustomValue) → moved_record f x ≡ Some q
       → record {
         parent = record { table = x.parent.table; row = moved_row f x.parent.table x.parent.row };
         kind = x.kind;
@@ -266,10 +268,21 @@ module _ (f s : Map) (composes : IsComposition f s (composed f s)) (first : IsRe
           (live x.parent.row (subst (λ t. 1 ≤ moved_row f t x.parent.row) six there)
           (ap (λ t. is_dropped s (moved_row f t x.parent.row)) (sym six) ∙ not-true (is_dropped s (moved_row f x.parent.table x.parent.row)) also))
 
-  custom_comes : (x q : CustomValue) → moved_custom f x ≡ Some q → OfCustom In c x → 1 ≤ q.parent.row → OfCustom Comes s q
-  custom_comes x q is named =
+  -- the value of a map's line names no method
+  linked_steps : (o : Option (List ℕ)) (b : CustomBody) → Each In (in_steps b) → Each In (in_steps (unwrap_or (option_map Unread o) b))
+  linked_steps None b each = each
+  linked_steps (Some value) b each = tt
+
+  linked_in : (x : CustomValue) → OfCustom In c x → OfCustom In c (linked f x)
+  linked_in x named live = let its = named live in (its.0, linked_steps (cond (is_link x) f.link None) x.value its.1)
+
+  record_moves : (x q : CustomValue) → moved_record f x ≡ Some q → OfCustom In c x → 1 ≤ q.parent.row → OfCustom Comes s q
+  record_moves x q is named =
       subst (λ (y : CustomValue). 1 ≤ y.parent.row → OfCustom Comes s y) (custom_is x q is)
       (λ there also. let its = named (custom_live x there also) in (comes x.parent.table x.parent.row its.0, record_comes x.parent.row x.value its.1))
+
+  custom_comes : (x q : CustomValue) → moved_custom f x ≡ Some q → OfCustom In c x → 1 ≤ q.parent.row → OfCustom Comes s q
+  custom_comes x q is named = record_moves (linked f x) q is (linked_in x named)
 
   -- ---- the file
 

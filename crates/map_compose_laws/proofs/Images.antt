@@ -20,11 +20,12 @@ use Rattle.ppdb_values.specs.Meaning.{ScopeMeaning, SlotMeaning, PointMeaning, M
 use Rattle.ppdb_merge_items.specs.Each.{Each}
 use Rattle.ppdb_merge_items.specs.Annotated.{with_item}
 use Rattle.ppdb_merge_moved.specs.Images.{point_image, scope_image, slot_meaning_image, meaning_image}
-use Rattle.ppdb_merge_moved.specs.Moved.{moved_token, moved_modifier, moved_constant_body, moved_constant, moved_import, moved_variable, moved_range}
+use Rattle.ppdb_merge_moved.specs.Moved.{moved_token, moved_modifier, moved_constant_body, moved_constant, moved_import, moved_variable, moved_range, moved_document}
 use Rattle.map_compose.specs.Composed.{composed, signature_then}
 use Rattle.map_compose.specs.Composition.{Follows, IsComposition}
 use Rattle.map_compose.proofs.Equations.{composed_composes}
 use Rattle.map_compose_laws.specs.Images.{no_range, without_edges, SlotsStay, RangeComposes, PointComposes, EdgesCompose, ImagesCompose}
+use Rattle.map_compose_laws.proofs.Renamed.{documents_on}
 use Rattle.map_compose_laws.proofs.Rows.{KeepsRows, keeps_rows}
 
 -- ---- lists
@@ -191,7 +192,11 @@ module _ (f s : Map) (composes : IsComposition f s (composed f s)) (keeps : Keep
         → option_map edgeless_point (option_map (point_image s image) (option_map (point_image f method) p)) ≡ option_map edgeless_point
         (option_map (point_image c method) p)
     point_edgeless None = refl
-    point_edgeless (Some p) = ap (λ n. Some (record { offset = 0; span = p.span; document = p.document; signature = n })) (signature_on p.signature)
+    point_edgeless (Some p) =
+        ap (λ d. Some (record { offset = 0; span = p.span; document = d; signature = moved_signature s image (moved_signature f method p.signature) }))
+        (documents_on f s composes p.document)
+        ∙ ap (λ n. Some (record { offset = 0; span = p.span; document = option_map (moved_document c) p.document; signature = n }))
+        (signature_on p.signature)
 
     pub but_for_edges : (a : Meaning) → SlotsStay f method a
         → without_edges (meaning_image s image (meaning_image f method a)) ≡ without_edges (meaning_image c method a)
@@ -222,11 +227,21 @@ module _ (f s : Map) (composes : IsComposition f s (composed f s)) (keeps : Keep
         ap (λ n. Some (record {
           offset = n;
           span = p.span;
-          document = p.document;
+          document = option_map (moved_document s) (option_map (moved_document f) p.document);
           signature = moved_signature s image (moved_signature f method p.signature);
         })) edge
-        ∙ ap (λ n. Some (record { offset = moved (offsets_in c method) p.offset; span = p.span; document = p.document; signature = n }))
-        (signature_on p.signature)
+        ∙ ap (λ d. Some (record {
+          offset = moved (offsets_in c method) p.offset;
+          span = p.span;
+          document = d;
+          signature = moved_signature s image (moved_signature f method p.signature);
+        })) (documents_on f s composes p.document)
+        ∙ ap (λ n. Some (record {
+          offset = moved (offsets_in c method) p.offset;
+          span = p.span;
+          document = option_map (moved_document c) p.document;
+          signature = n;
+        })) (signature_on p.signature)
 
     both_each : {A : Type 0} (P Q : A → Type 0) (xs : List A) → Each P xs → Each Q xs → Each (λ x. P x × Q x) xs
     both_each P Q [] ps qs = tt

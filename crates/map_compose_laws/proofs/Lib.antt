@@ -5,6 +5,7 @@ pub mod Images
 pub mod Kept
 pub mod Links
 pub mod Named
+pub mod Renamed
 pub mod Rewritten
 pub mod Rows
 pub mod Silent

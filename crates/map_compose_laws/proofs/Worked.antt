@@ -109,7 +109,7 @@ module _ (old new : ℕ) (runs : List Run) where
   readable : old ≤ 100 → new ≤ 100 → Rise (lined runs old new) → IsReadable m
   unfolding IsStrictlySortedBy
   readable few few_too rise = record {
-    ascends = record { counts = tt; rows = tt; methods = (tt, tt); drops = tt; slotted = tt; slots = tt; signatures = tt };
+    ascends = record { counts = tt; rows = tt; methods = (tt, tt); drops = tt; slotted = tt; slots = tt; signatures = tt; documents = tt };
     counts = tt;
     rows = tt;
     methods = (((omega arith, omega arith), omega (arith, few), omega (arith, few_too), rise, refl), tt);
@@ -117,6 +117,8 @@ module _ (old new : ℕ) (runs : List Run) where
     slotted = tt;
     slots = tt;
     signatures = tt;
+    documents = tt;
+    link = tt;
   }
 
   image_is : (table row : ℕ) → row_image m table row ≡ Some row
@@ -138,6 +140,7 @@ module _ (old new : ℕ) (runs : List Run) where
     slots = each_of (λ s. live_scope m s ≡ true → Each (HasSlot m s.method) s.variables)
         (λ s stays. each_of (HasSlot m s.method) (λ v. (v.item.slot, refl)) s.variables) (annotated_file (edged start size)).scopes;
     slots_apart = λ s t v u image in_s in_t stays same of_v of_u a b. some_of v.item.slot u.item.slot (a ∙ sym b);
+    documents = (tt, tt);
   }
     where
       first : 0 < old

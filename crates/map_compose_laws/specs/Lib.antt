@@ -1,4 +1,5 @@
 pub mod Images
 pub mod Links
+pub mod Names
 pub mod Steps
 pub mod Worked

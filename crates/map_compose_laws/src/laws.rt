@@ -1,6 +1,7 @@
 // Two rewritings of a module, one after the other, and one by the map of both.
 ghost use Rattle.map_compose_laws.specs.Images.{EdgesAreComposed, ImagesCompose};
 ghost use Rattle.map_compose_laws.specs.Links.{LinksCompose};
+ghost use Rattle.map_compose_laws.specs.Names.{NamesCompose};
 ghost use Rattle.map_compose_laws.specs.Steps.{TwoStepsMean};
 ghost use Rattle.map_compose_laws.specs.Worked.{WorkedEdges};
 
@@ -22,6 +23,11 @@ pub fn edges_compose()
 /// The image of the image of what is linked to a method is its image by the map of both.
 pub fn links_compose()
     ensures { LinksCompose }
+{}
+
+/// The name of a document and the value of a Source Link record after two maps, one after the other, are those after the map of both.
+pub fn names_compose()
+    ensures { NamesCompose }
 {}
 
 /// Two steps and one mean the same of each method that the file names by the map of both, but for the edges of ranges, and link the same to it.

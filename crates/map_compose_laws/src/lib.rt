@@ -3,4 +3,6 @@
 
 mod laws;
 
-pub use laws::{edges_compose, images_compose, links_compose, two_steps_mean, worked_edges};
+pub use laws::{
+    edges_compose, images_compose, links_compose, names_compose, two_steps_mean, worked_edges,
+};

@@ -77,6 +77,16 @@ pub enum MergeError {
         second: u16,
         image: u16,
     },
+    /// M12: two documents of the file have one name by the map.
+    DocumentTwice {
+        first: u32,
+        second: u32,
+    },
+    /// M13: the custom row is a Source Link record of the module's row 1, and an earlier input has one on the same row
+    /// with another value than the map's `link` line.
+    LinkDiffers {
+        row: u32,
+    },
     /// There was no memory left.
     Memory,
 }

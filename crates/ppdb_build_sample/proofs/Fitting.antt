@@ -17,14 +17,15 @@ use Rattle.ppdb_values.specs.declared.custom.CustomValue.{CustomValue}
 use Rattle.ppdb_values.specs.declared.file.MethodValue.{MethodValue}
 use Rattle.ppdb_values.specs.WorkedSmall.{empty_value}
 use Rattle.ppdb_merge_items.specs.declared.file.AnnotatedScope.{AnnotatedScope}
-use Rattle.ppdb_merge_items.specs.Each.{Each}
+use Rattle.ppdb_merge_items.specs.declared.file.AnnotatedFile.{AnnotatedFile}
+use Rattle.ppdb_merge_items.specs.Each.{Each, Pairs}
 use Rattle.ppdb_merge_items.specs.Laws.{SoundnessIsAnnotated}
 use Rattle.ppdb_merge_items.specs.NamedRows.{Named, names, names_some, named_rows, in_constant, in_steps, live_method, live_scope, live_custom}
 use Rattle.ppdb_merge_items.specs.NamedRows.{with_live_signature}
 use Rattle.ppdb_merge_items.specs.Annotated.{annotated_file}
 use Rattle.ppdb_merge_items.proofs.Lists.{Each-append, Each-filter, Each-map, Each-weaker}
 use Rattle.ppdb_merge_joined.proofs.Each.{Each-flat}
-use Rattle.ppdb_merge_moved.specs.Fits.{Fits, IsImaged, AreWithin, KeepsAsync, HasSlot, AreApart}
+use Rattle.ppdb_merge_moved.specs.Fits.{Fits, IsImaged, AreWithin, KeepsAsync, HasSlot, AreApart, NamesDiffer}
 use Rattle.ppdb_merge_moved.proofs.Elements.{in_each}
 use Rattle.ppdb_values_sound_laws.specs.Sound.{IsSound}
 use Rattle.ppdb_merge_meaning_laws.specs.Kept.{InputsFit}
@@ -153,8 +154,8 @@ module _ (n : ℕ) where
   apart a b (inr (table, one)) (inl (other, also)) image tables of_a of_b = absurd (omega (arith, table, other, tables))
   apart a b (inr (table, one)) (inr (other, also)) image tables of_a of_b = one ∙ sym also
 
-  fits : 1 ≤ n → Fits true m (sample_annotated n)
-  fits some = record {
+  fits : 1 ≤ n → Pairs (NamesDiffer m) (sample_annotated n).documents → Fits true m (sample_annotated n)
+  fits some names_differ = record {
     images = Each-weaker (IsNamed n) (IsImaged m) image_of (named_rows true m (sample_annotated n)) (named some);
     apart = λ a b there also. apart a b (in_each (IsNamed n) (named_rows true m (sample_annotated n)) a (named some) there)
         (in_each (IsNamed n) (named_rows true m (sample_annotated n)) b (named some) also);
@@ -168,6 +169,7 @@ module _ (n : ℕ) where
     slots = each_scope n (λ s. live_scope m s ≡ true → Each (HasSlot m s.method) s.variables)
         (λ i within. ((λ stays. ((0, refl), tt)), (λ stays. ((1, refl), tt))));
     slots_apart = λ s t v w image in_s in_t stays same of_v of_w a b. some_of v.item.slot w.item.slot (a ∙ sym b);
+    documents = names_differ;
   }
 
   -- no image is above the count
@@ -196,6 +198,7 @@ empty_fits = record {
   async = tt;
   slots = tt;
   slots_apart = λ s t v w image there. absurd (omega (arith, there.1));
+  documents = tt;
 }
 
 known : (n : ℕ) (marks : List (List ℕ)) → Each (λ (c : CustomValue). kind_of marks c.kind ≢ Unknown) (sample_annotated n).customs
@@ -218,7 +221,7 @@ samples_fit annotated empty zero few = record {
 }
 samples_fit annotated empty (suc k) few = record {
   sound = sound;
-  fits = input_fits n sound few (subst (Fits true (sample_map_of n)) (sym (annotated_is n)) (fits n (omega arith)));
+  fits = input_fits n sound few (subst (Fits true (sample_map_of n)) (sym (annotated_is n)) (fits n (omega arith) names_differ));
   known = known n;
   counts = refl;
   counted = subst (λ w. Each (IsCounted n) (named_rows true (sample_map_of n) w)) (sym (annotated_is n)) (counted n (omega arith));
@@ -229,3 +232,7 @@ samples_fit annotated empty (suc k) few = record {
 
     sound : IsSound (sample_of n)
     sound = sample_is_sound n (omega arith) few annotated
+
+    names_differ : Pairs (NamesDiffer (sample_map_of n)) (sample_annotated n).documents
+    names_differ = subst (λ (w : AnnotatedFile). Pairs (NamesDiffer (sample_map_of n)) w.documents) (annotated_is n)
+        (annotated.parts (sample_of n) sound).parts.names_differ

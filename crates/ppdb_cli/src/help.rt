@@ -37,7 +37,7 @@ Exit status, and the line that is printed with it:
 6   the file does not exist: absent FILE
 7   the file is longer than 134217728 bytes: too long FILE
 8   the file does not fit its map or an earlier input, or has a record of an unknown kind:
-    unfit FILE REASON, M1 to M11; a map breaks a rule of map texts: map FILE line LINE kind KIND
+    unfit FILE REASON, M1 to M13; a map breaks a rule of map texts: map FILE line LINE kind KIND
 9   the result would exceed a limit of the format: limit LIMIT
 10  the file has no such method: no method METHOD
 11  the Source Link record cannot be read: links FILE not json, links FILE shape
@@ -148,6 +148,8 @@ in two hexadecimal digits and decimal numbers:
     slots M                    the local slots of method M moved
     slot M OLD NEW             slot OLD of method M became slot NEW
     signature M NEW            the local signature of method M is row NEW of table 11; 0: none
+    document OLD NEW           the document named OLD is named NEW; names as `show` prints them
+    link VALUE                 the Source Link record of the module has these bytes, escaped as names
 What has no line stays as it is. A table with a rows line, a method with a method line and a method
 with a slots line keep only the rows, offsets and slots that are listed. Example: a method of 9
 bytes keeps the offsets 0 and 5 to 8, and has 12 bytes now:
@@ -165,6 +167,7 @@ M1   the map gives a row no new row: add its row line, or the drop line of a met
 M2   two rows became one: correct a row line, or drop one of the two methods
 M10  the map gives a slot no new slot: add its slot line
 M11  two slots became one: correct a slot line
+M12  two documents got one name: correct a document line
 M9   a new row is above the row count of its table: correct the row, signature or rows line
 A result that would exceed a limit of the format is reported with status 9:
 L3   a point would be at 536870912 or later: the map moves it too far
@@ -190,7 +193,8 @@ is still 0. `ppdb help remap` has all lines of a map.
 
 `merge` reports what `remap` reports, and with status 8 also:
 M3   two inputs have the same new method: correct a map, or remove an input that is named twice
-M7   documents of the same name differ: compile from the same sources, or under other names
+M7   documents of the same name differ: compile from the same sources, or write a document line
+M13  a link line, and an earlier input has another Source Link value: write it into every map
 M8   the maps give different row counts: write the same rows line into each
 A result that would exceed a limit is reported with status 9; besides L3 to L6:
 L1   more than 16777215 rows in a table: join fewer inputs

@@ -1,7 +1,7 @@
 -- A draft holds a line that was added.
 use Rattle.std.proofs.Common.{inl, inr, ℕ, ◌≡◌, ◌≤◌, ◌&&◌, ◌||◌, ◌++◌, map, Bool, true, false, cond, List, [], ◌∷◌, Option, Some, None, Result, Ok, Err, OnOk}
 use Rattle.std.proofs.Common.{IfErr, lit≤, refl, sym, ap, ◌∙◌, subst}
-use Rattle.std.specs.Prelude.{nat_eq, is_some, option_map}
+use Rattle.std.specs.Prelude.{nat_eq, bytes_eq, is_some, option_map}
 use Rattle.std.specs.List.{find, list_any, IsDistinct}
 use Rattle.std.specs.Option.{option_or}
 use Rattle.std.specs.Prelude.{Vec}
@@ -25,7 +25,10 @@ use Rattle.ppdb_maps.specs.declared.draft.Draft.{Draft}
 use Rattle.ppdb_maps.specs.declared.refusal.Refusal.{Refusal}
 use Rattle.ppdb_maps.specs.declared.refusal.Refusal.TheVariants.{Breaks as refused, Memory}
 use Rattle.ppdb_maps.specs.declared.line.Line.{Line}
-use Rattle.ppdb_maps.specs.declared.line.Line.TheVariants.{Silent, Row, Method, Kept, Slot, Signature}
+use Rattle.ppdb_maps.specs.declared.line.Line.TheVariants.{Silent, Row, Method, Kept, Slot, Signature, Document, Link}
+use Rattle.ppdb_maps.specs.declared.entries.NameLine.{NameLine}
+use Rattle.std.specs.Cmp.Lexicographic.{slice_cmp}
+use Rattle.std.specs.Ordering.{nat_cmp}
 use Rattle.ppdb_maps.specs.declared.rule.Rule.{Rule}
 use Rattle.ppdb_maps.specs.declared.rule.Rule.TheVariants.{NoMethod}
 use Rattle.ppdb_maps.specs.declared.bit_set.BitSet.{BitSet}
@@ -116,10 +119,10 @@ push_distinct key xs x distinct fresh = subst (IsDistinct nat_eq) (sym (map-appe
 pub none_held : (draft : Draft) → draft.counts.entries ≡ [] → draft.rows.items ≡ [] → ((table row : ℕ) → has_row draft.moved table row ≡ false)
     → draft.methods.items ≡ [] → ((number : ℕ) → has_number draft.listed number ≡ false)
     → draft.current ≡ None → draft.drops.keys ≡ [] → draft.slotted.keys ≡ [] → draft.slots.entries ≡ [] → draft.signatures.items ≡ []
-    → ((number : ℕ) → has_number draft.signed number ≡ false)
+    → ((number : ℕ) → has_number draft.signed number ≡ false) → draft.documents.entries ≡ [] → draft.link ≡ None
     → Holds [] draft
 unfolding IsDistinct
-none_held draft counts rows moved methods listed current drops slotted slots signatures signed = record {
+none_held draft counts rows moved methods listed current drops slotted slots signatures signed documents link = record {
   others = record {
     counts = λ table. rw counts refl;
     rows = λ table old. rw rows refl;
@@ -131,6 +134,8 @@ none_held draft counts rows moved methods listed current drops slotted slots sig
     signatures = λ method. rw signatures refl;
     signed_once = rw signatures tt;
     signed = signed;
+    documents = λ name. rw documents refl;
+    link = link;
   };
   methods = subst (λ (m : Option MethodLine). HoldsMethods [] m draft) (sym current)
       (record { found = λ method. rw methods refl; distinct = rw methods tt; numbers = listed }, refl);
@@ -160,6 +165,8 @@ row_added before draft rows moved t o n closed fresh pushes marks = record {
     signatures = closed.others.signatures;
     signed_once = closed.others.signed_once;
     signed = closed.others.signed;
+    documents = closed.others.documents;
+    link = closed.others.link;
   };
   methods = subst (λ (m : Option MethodLine). HoldsMethods (Row t o n ∷ before) m (record draft { rows = rows; moved = moved })) (sym closed.closed)
       (closed.methods, refl);
@@ -185,6 +192,8 @@ slot_added before draft slots m o n closed updates = record {
     signatures = closed.others.signatures;
     signed_once = closed.others.signed_once;
     signed = closed.others.signed;
+    documents = closed.others.documents;
+    link = closed.others.link;
   };
   methods = subst (λ (l : Option MethodLine). HoldsMethods (Slot m o n ∷ before) l (record draft { slots = slots })) (sym closed.closed) (closed.methods, refl);
 }
@@ -211,9 +220,53 @@ signature_added before draft signatures signed m n closed fresh pushes marks = r
         (push_distinct signature_key draft.signatures.items (record { method = m; new = n }) closed.others.signed_once
         (some_said (λ (s : SignatureImage). s.new) (find_at signature_key m draft.signatures.items) (ap is_some (closed.others.signatures m) ∙ fresh)));
     signed = λ k. marks k ∙ (ap (λ b. nat_eq m k || b) (closed.others.signed k) ∙ some_or (nat_eq m k) n (signature_in before k));
+    documents = closed.others.documents;
+    link = closed.others.link;
   };
   methods = subst (λ (l : Option MethodLine). HoldsMethods (Signature m n ∷ before) l (record draft { signatures = signatures; signed = signed }))
       (sym closed.closed) (closed.methods, refl);
+}
+
+pub document_added : (before : List Line) (draft : Draft) (documents : BTreeMap (Vec ℕ Global) (List ℕ)) (d : NameLine) → IsClosed before draft
+    → ((name : List ℕ) → tree.get_by (λ key. slice_cmp nat_cmp name key.items) documents
+    ≡ cond (bytes_eq d.old name) (Some d.new) (tree.get_by (λ key. slice_cmp nat_cmp name key.items) draft.documents))
+    → Holds (Document d ∷ before) (record draft { documents = documents })
+document_added before draft documents d closed updates = record {
+  others = record {
+    counts = closed.others.counts;
+    rows = closed.others.rows;
+    distinct = closed.others.distinct;
+    moved = closed.others.moved;
+    drops = closed.others.drops;
+    slotted = closed.others.slotted;
+    slots = closed.others.slots;
+    signatures = closed.others.signatures;
+    signed_once = closed.others.signed_once;
+    signed = closed.others.signed;
+    documents = λ name. updates name ∙ ap (cond (bytes_eq d.old name) (Some d.new)) (closed.others.documents name);
+    link = closed.others.link;
+  };
+  methods = subst (λ (l : Option MethodLine). HoldsMethods (Document d ∷ before) l (record draft { documents = documents }))
+      (sym closed.closed) (closed.methods, refl);
+}
+
+pub link_added : (before : List Line) (draft : Draft) (value : List ℕ) → IsClosed before draft → Holds (Link value ∷ before) (record draft { link = Some value })
+link_added before draft value closed = record {
+  others = record {
+    counts = closed.others.counts;
+    rows = closed.others.rows;
+    distinct = closed.others.distinct;
+    moved = closed.others.moved;
+    drops = closed.others.drops;
+    slotted = closed.others.slotted;
+    slots = closed.others.slots;
+    signatures = closed.others.signatures;
+    signed_once = closed.others.signed_once;
+    signed = closed.others.signed;
+    documents = closed.others.documents;
+    link = refl;
+  };
+  methods = subst (λ (l : Option MethodLine). HoldsMethods (Link value ∷ before) l (record draft { link = Some value })) (sym closed.closed) (closed.methods, refl);
 }
 
 -- the open method is put at the end of the others
@@ -233,6 +286,8 @@ method_closed before draft methods listed line holds is pushes marks = record {
     signatures = holds.others.signatures;
     signed_once = holds.others.signed_once;
     signed = holds.others.signed;
+    documents = holds.others.documents;
+    link = holds.others.link;
   };
   methods = lines_now (subst (λ (m : Option MethodLine). HoldsMethods before m draft) is holds.methods);
   closed = refl;
@@ -271,6 +326,8 @@ method_added before draft m o n closed fresh = record {
     signatures = closed.others.signatures;
     signed_once = closed.others.signed_once;
     signed = closed.others.signed;
+    documents = closed.others.documents;
+    link = closed.others.link;
   };
   methods = (methods_of before, refl, closed.methods, refl, fresh);
 }
@@ -288,6 +345,8 @@ silent_added before draft holds = record {
     signatures = holds.others.signatures;
     signed_once = holds.others.signed_once;
     signed = holds.others.signed;
+    documents = holds.others.documents;
+    link = holds.others.link;
   };
   methods = of draft.current holds.methods;
 }
@@ -341,6 +400,8 @@ run_added before draft line taken run result holds is added kept why =
           signatures = holds.others.signatures;
           signed_once = holds.others.signed_once;
           signed = holds.others.signed;
+          documents = holds.others.documents;
+          link = holds.others.link;
         };
         methods = (h.0, rw (h.1, added) refl, h.2, h.3, rw added h.4);
       },

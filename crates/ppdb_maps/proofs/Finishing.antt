@@ -1,26 +1,31 @@
 -- The lists of a map answer as the maps in which they were gathered.
 use Rattle.std.proofs.Common.{ℕ, ◌≡◌, ◌&&◌, Bool, true, false, List, [], ◌∷◌, Some, map, refl, sym, ap, ◌∙◌, subst, arith}
-use Rattle.std.specs.Prelude.{find, nat_eq, option_map}
-use Rattle.std.specs.List.{list_any}
+use Rattle.std.specs.Prelude.{find, nat_eq, bytes_eq, option_map, Vec}
+use Rattle.std.specs.declared.alloc.Global.{Global}
+use Rattle.std.specs.List.{list_any, AllByRecursion}
+use Rattle.std.specs.declared.cmp.Ordering.TheVariants.{Less}
 use Rattle.std.specs.List.Sorted.{IsStrictlySortedBy, IsSortedByKey, IsPermutation}
 use Rattle.std.specs.Ordering.{nat_cmp}
+use Rattle.std.specs.Cmp.Lexicographic.{slice_cmp}
 use Rattle.std.specs.Map.{lookup, keys_of}
-use Rattle.std.specs.BTreeMap.{BTreeMap, is_at, IsOrdered, get}
+use Rattle.std.specs.BTreeMap.{BTreeMap, is_at, IsOrdered, get, get_by}
 use Rattle.std.specs.BTreeSet as sorted
 use Rattle.std.proofs.lemmas.Bool.Decides.{nat_tests}
 use Rattle.std.proofs.lemmas.Cmp.{nat_cmp_total, nat_eq_equiv}
 use Rattle.std.proofs.lemmas.Map.Lookups.{exact_unsigned}
 use Rattle.std.proofs.lemmas.Map.Views.{exact_unsigned_eq}
 use Rattle.ppdb_maps.specs.Map.{Map, MethodLine, Ascends, pair_cmp}
-use Rattle.ppdb_maps.specs.Gathered.{count_entry, row_key, method_key, signature_key, same_pair, slot_entry}
+use Rattle.ppdb_maps.specs.Gathered.{count_entry, row_key, method_key, signature_key, same_pair, slot_entry, name_entry, name_cmp}
 use Rattle.ppdb_maps.specs.Drafts.{IsClosed}
 use Rattle.ppdb_maps.specs.Text.{HoldsWhat}
 use Rattle.ppdb_maps.specs.declared.entries.Count.{Count}
 use Rattle.ppdb_maps.specs.declared.entries.RowImage.{RowImage}
 use Rattle.ppdb_maps.specs.declared.entries.SlotImage.{SlotImage}
 use Rattle.ppdb_maps.specs.declared.entries.SignatureImage.{SignatureImage}
+use Rattle.ppdb_maps.specs.declared.entries.NameLine.{NameLine}
 use Rattle.ppdb_maps.specs.declared.draft.Draft.{Draft}
 use Rattle.ppdb_maps.specs.declared.line.Line.{Line}
+use Rattle.ppdb_maps.proofs.Named.{at_name}
 use Rattle.ppdb_maps.proofs.OneMap.{pair_equal, pair_exact, pair_is, pair_total, same_number}
 use Rattle.ppdb_maps.proofs.Refusing.{at_number, at_pair}
 use Rattle.ppdb_maps.proofs.Sorting.{found_alike, sorts_strictly}
@@ -58,6 +63,13 @@ slots_found m method old = found_entry slot_entry (λ (s : SlotImage). nat_eq s.
     (is_at (pair_cmp (method, old)))
     (λ e. turned_pair e.0.0 e.0.1 method old ∙ sym (at_pair method old e.0.0 e.0.1)) (λ e. refl) m.entries
 
+pub documents_found : (m : BTreeMap (Vec ℕ Global) (List ℕ)) (name : List ℕ)
+    → option_map (λ (d : NameLine). d.new) (find (λ d. bytes_eq d.old name) (map name_entry m.entries))
+    ≡ get_by (λ key. slice_cmp nat_cmp name key.items) m
+documents_found m name = found_entry name_entry (λ (d : NameLine). bytes_eq d.old name) (λ (d : NameLine). d.new)
+    (is_at (λ (key : Vec ℕ Global). slice_cmp nat_cmp name key.items))
+    (λ e. sym (at_name name e.0.items)) (λ e. refl) m.entries
+
 -- a number is in a set by `nat_eq`
 any_number : (n : ℕ) (xs : List ℕ) → list_any (nat_eq n) xs ≡ list_any (is_at (nat_cmp n)) xs
 any_number n [] = refl
@@ -82,6 +94,8 @@ pub record MadeOf (draft : Draft) (made : Map) : Type 0 where
   pub slotted : made.slotted ≡ draft.slotted.keys
   pub slots : made.slots ≡ map slot_entry draft.slots.entries
   pub signatures : IsPermutation draft.signatures.items made.signatures
+  pub documents : made.documents ≡ map name_entry draft.documents.entries
+  pub link : made.link ≡ draft.link
   pub counts_ordered : IsOrdered nat_cmp draft.counts
   pub rows_ordered : IsSortedByKey row_key pair_cmp made.rows
   pub methods_ordered : IsSortedByKey method_key nat_cmp made.methods
@@ -89,6 +103,7 @@ pub record MadeOf (draft : Draft) (made : Map) : Type 0 where
   pub slotted_ordered : sorted.IsOrdered nat_cmp draft.slotted
   pub slots_ordered : IsOrdered pair_cmp draft.slots
   pub signatures_ordered : IsSortedByKey signature_key nat_cmp made.signatures
+  pub documents_ordered : IsOrdered name_cmp draft.documents
 
 rows_ascend : (before : List Line) (draft : Draft) (made : Map) → IsClosed before draft → MadeOf draft made
     → IsStrictlySortedBy pair_cmp (map row_key made.rows)
@@ -107,6 +122,18 @@ signatures_ascend before draft made closed h =
     sorts_strictly signature_key nat_eq nat_cmp nat_eq_equiv same_number nat_cmp_total exact_unsigned draft.signatures.items made.signatures
     closed.others.signed_once h.signatures h.signatures_ordered
 
+-- entries that are in the order of their keys ascend by their names
+names_after : (k : Vec ℕ Global) (es : List (Vec ℕ Global × List ℕ)) → AllByRecursion (λ y. name_cmp k y ≡ Less) (keys_of es)
+    → AllByRecursion (λ y. slice_cmp nat_cmp k.items y ≡ Less) (map (λ (d : NameLine). d.old) (map name_entry es))
+names_after k [] all = tt
+names_after k (e ∷ es) all = (all.0, names_after k es all.1)
+
+names_rise : (es : List (Vec ℕ Global × List ℕ)) → IsStrictlySortedBy name_cmp (keys_of es)
+    → IsStrictlySortedBy (slice_cmp nat_cmp) (map (λ (d : NameLine). d.old) (map name_entry es))
+unfolding IsStrictlySortedBy
+names_rise [] rise = tt
+names_rise (e ∷ es) rise = (names_after e.0 es rise.0, names_rise es rise.1)
+
 pub made_ascends : (before : List Line) (draft : Draft) (made : Map) → IsClosed before draft → MadeOf draft made → Ascends made
 made_ascends before draft made closed h = record {
   counts = rw (h.counts, same_keys count_entry (λ (c : Count). c.table) (λ e. refl) draft.counts.entries) h.counts_ordered;
@@ -116,6 +143,7 @@ made_ascends before draft made closed h = record {
   slotted = rw h.slotted h.slotted_ordered;
   slots = rw (h.slots, same_keys slot_entry (λ (s : SlotImage). (s.method, s.old)) (λ e. refl) draft.slots.entries) h.slots_ordered;
   signatures = signatures_ascend before draft made closed h;
+  documents = rw h.documents (names_rise draft.documents.entries h.documents_ordered);
 }
 
 pub made_holds : (before : List Line) (draft : Draft) (made : Map) → IsClosed before draft → MadeOf draft made → HoldsWhat before made
@@ -138,5 +166,7 @@ made_holds before draft made closed h = record {
       (found_alike signature_key nat_eq nat_cmp nat_eq_equiv same_number nat_cmp_total exact_unsigned draft.signatures.items made.signatures h.signatures
       (signatures_ascend before draft made closed h) method)
       ∙ closed.others.signatures method;
+  documents = λ name. rw h.documents (documents_found draft.documents name ∙ closed.others.documents name);
+  link = h.link ∙ closed.others.link;
   ascends = made_ascends before draft made closed h;
 }

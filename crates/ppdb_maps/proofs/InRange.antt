@@ -1,14 +1,14 @@
 -- What lines that break no rule say is in range and fits together.
 use Rattle.std.proofs.Common.{inl, inr, ◌⊎◌, ℕ, ◌≡◌, ◌<◌, ◌≤◌, ◌++◌, ◌&&◌, Bool, true, false, cond, List, [], ◌∷◌, Option, Some, None, refl, sym, ap, ◌∙◌}
 use Rattle.std.proofs.Common.{subst, arith}
-use Rattle.std.specs.Prelude.{nat_eq, is_some}
+use Rattle.std.specs.Prelude.{nat_eq, bytes_eq, is_some}
 use Rattle.std.specs.List.{find}
 use Rattle.std.proofs.lemmas.Bool.{false≢true, eqb-true, and_parts}
 use Rattle.ppdb_base.specs.declared.offsets.Run.{Run}
 use Rattle.ppdb_base.specs.Offsets.{Rise, lined}
-use Rattle.ppdb_maps.specs.Before.{count_in, row_in, method_in, methods_of, with_run, drop_in, slots_in, slot_in, signature_in}
-use Rattle.ppdb_maps.specs.Forms.{ROWS, OFFSETS, SLOTS, Values, Tells, silent, told, rows_line, row_line, method_line, run_line, drop_line, slots_line}
-use Rattle.ppdb_maps.specs.Forms.{slot_line, signature_line}
+use Rattle.ppdb_maps.specs.Before.{count_in, row_in, method_in, methods_of, with_run, drop_in, slots_in, slot_in, signature_in, document_in, link_in}
+use Rattle.ppdb_maps.specs.Forms.{AreBytes, ROWS, OFFSETS, SLOTS, Values, Tells, silent, told, rows_line, row_line, method_line, run_line, drop_line, slots_line}
+use Rattle.ppdb_maps.specs.Forms.{slot_line, signature_line, document_line, link_line}
 use Rattle.ppdb_maps.specs.Map.{MethodLine}
 use Rattle.ppdb_maps.specs.Readable.{IsRow}
 use Rattle.ppdb_maps.specs.Rules.{Breaks, row_alone, slot_alone, run_early, run_long, drop_named, dropped_method, dropped_row, dropped_slots, dropped_signature}
@@ -16,10 +16,12 @@ use Rattle.ppdb_maps.specs.Rules.{by_lines}
 use Rattle.ppdb_maps.specs.Text.{Read, start, further}
 use Rattle.ppdb_maps.specs.declared.line.Form.{Form}
 use Rattle.ppdb_maps.specs.declared.line.Line.{Line}
-use Rattle.ppdb_maps.specs.declared.line.Line.TheVariants.{Silent, Rows, Row, Method, Kept, Dropped, Slots, Slot, Signature}
+use Rattle.ppdb_maps.specs.declared.line.Line.TheVariants.{Silent, Rows, Row, Method, Kept, Dropped, Slots, Slot, Signature, Document, Link}
+use Rattle.ppdb_maps.specs.declared.entries.NameLine.{NameLine}
 use Rattle.ppdb_maps.specs.declared.rule.Rule.{Rule}
 use Rattle.ppdb_maps.specs.declared.rule.Rule.TheVariants.{Undeclared, Overlap, Beyond, NamesDropped}
 use Rattle.ppdb_maps.proofs.Finishing.{found_at_number}
+use Rattle.ppdb_maps.proofs.Named.{same_bytes}
 use Rattle.ppdb_maps.proofs.Rising.{rise_with, not_less}
 
 -- the numbers of a line
@@ -33,6 +35,8 @@ InRange (Dropped m) = IsRow m
 InRange (Slots m) = IsRow m
 InRange (Slot m o n) = (o ≤ SLOTS) × (n ≤ SLOTS)
 InRange (Signature m n) = IsRow m × (n ≤ ROWS)
+InRange (Document d) = AreBytes d.old × AreBytes d.new
+InRange (Link value) = AreBytes value
 
 values_range : (form : Form) (values : List (List ℕ)) (line : Line) → Values form values line → InRange line
 values_range form values line (rows_line a b) = (a.known, b.to)
@@ -43,6 +47,8 @@ values_range form values line (drop_line a) = (a.from, a.to)
 values_range form values line (slots_line a) = (a.from, a.to)
 values_range form values line (slot_line a b d) = (b.to, d.to)
 values_range form values line (signature_line a b) = ((a.from, a.to), b.to)
+values_range form values line (document_line a b) = (a.within, b.within)
+values_range form values line (link_line a) = a.within
 
 tells_range : (version : ℕ) (text : List ℕ) (line : Line) → Tells version text line → InRange line
 tells_range version text line (silent h) = tt
@@ -63,6 +69,8 @@ pub record Fits (said : List Line) : Type 0 where
   pub slotted : (m : ℕ) → slots_in said m ≡ true → IsRow m × (drop_in said m ≡ false)
   pub slots : (m o n : ℕ) → slot_in said m o ≡ Some n → (o ≤ SLOTS) × (n ≤ SLOTS) × (slots_in said m ≡ true)
   pub signatures : (m n : ℕ) → signature_in said m ≡ Some n → IsRow m × (n ≤ ROWS) × (drop_in said m ≡ false)
+  pub documents : (old new : List ℕ) → document_in said old ≡ Some new → AreBytes old × AreBytes new
+  pub link : (value : List ℕ) → link_in said ≡ Some value → AreBytes value
 
 -- an answer comes from the last line or from the lines before it
 answer_from : {A : Type 0} (b : Bool) (x y : A) (o : Option A) → cond b (Some x) o ≡ Some y → ((b ≡ true) × (x ≡ y)) ⊎ ((b ≡ false) × (o ≡ Some y))
@@ -113,6 +121,8 @@ fits_silent before fits = record {
   slotted = fits.slotted;
   slots = fits.slots;
   signatures = fits.signatures;
+  documents = fits.documents;
+  link = fits.link;
 }
 
 fits_rows : (before : List Line) (t n : ℕ) → Fits before → InRange (Rows t n) → Fits (Rows t n ∷ before)
@@ -127,6 +137,8 @@ fits_rows before t n fits range = record {
   slotted = fits.slotted;
   slots = fits.slots;
   signatures = fits.signatures;
+  documents = fits.documents;
+  link = fits.link;
 }
 
 fits_row : (before : List Line) (t o n : ℕ) → Fits before → InRange (Row t o n) → KeepsAll before (Row t o n) → Fits (Row t o n ∷ before)
@@ -149,6 +161,8 @@ fits_row before t o n fits range keeps = record {
   slotted = fits.slotted;
   slots = fits.slots;
   signatures = fits.signatures;
+  documents = fits.documents;
+  link = fits.link;
 }
 
 fits_method : (before : List Line) (m o n : ℕ) → Fits before → InRange (Method m o n) → KeepsAll before (Method m o n) → Fits (Method m o n ∷ before)
@@ -165,6 +179,8 @@ fits_method before m o n fits range keeps = record {
   slotted = fits.slotted;
   slots = fits.slots;
   signatures = fits.signatures;
+  documents = fits.documents;
+  link = fits.link;
 }
 
 fits_kept : (before : List Line) (run : Run) → Fits before → InRange (Kept run) → KeepsAll before (Kept run) → Fits (Kept run ∷ before)
@@ -176,6 +192,8 @@ fits_kept before run fits range keeps = record {
   slotted = fits.slotted;
   slots = fits.slots;
   signatures = fits.signatures;
+  documents = fits.documents;
+  link = fits.link;
 }
   where
     with_longer : (first : MethodLine) (others : List MethodLine) → methods_of before ≡ first ∷ others → FitsLine before first
@@ -215,6 +233,8 @@ fits_drop before m fits range keeps = record {
   signatures = λ k n is.
       let h = fits.signatures k n is in
       (h.0, h.1, still_false (nat_eq m k) (drop_in before k) (λ hit. no_signature k n (eqb-true m k hit) is) h.2);
+  documents = fits.documents;
+  link = fits.link;
 }
   where
     no_row : (t o n : ℕ) → t ≡ 0x06 → m ≡ o → row_in before t o ≡ Some n → ⊥
@@ -248,6 +268,8 @@ fits_slots before m fits range keeps = record {
   ];
   slots = λ k o n is. let h = fits.slots k o n is in (h.0, h.1, still_true (nat_eq m k) (slots_in before k) h.2);
   signatures = fits.signatures;
+  documents = fits.documents;
+  link = fits.link;
 }
 
 fits_slot : (before : List Line) (m o n : ℕ) → Fits before → InRange (Slot m o n) → KeepsAll before (Slot m o n) → Fits (Slot m o n ∷ before)
@@ -267,6 +289,8 @@ fits_slot before m o n fits range keeps = record {
     | inr (miss, rest) ↦ fits.slots k j i rest
   ];
   signatures = fits.signatures;
+  documents = fits.documents;
+  link = fits.link;
 }
 
 fits_signature : (before : List Line) (m n : ℕ) → Fits before → InRange (Signature m n) → KeepsAll before (Signature m n) → Fits (Signature m n ∷ before)
@@ -286,6 +310,37 @@ fits_signature before m n fits range keeps = record {
         )
     | inr (miss, rest) ↦ fits.signatures k i rest
   ];
+  documents = fits.documents;
+  link = fits.link;
+}
+
+fits_document : (before : List Line) (d : NameLine) → Fits before → InRange (Document d) → Fits (Document d ∷ before)
+fits_document before d fits range = record {
+  counts = fits.counts;
+  rows = fits.rows;
+  methods = fits.methods;
+  drops = fits.drops;
+  slotted = fits.slotted;
+  slots = fits.slots;
+  signatures = fits.signatures;
+  documents = λ old new is. elim (answer_from (bytes_eq d.old old) d.new new (document_in before old) is) [
+    | inl (hit, same) ↦ (subst AreBytes (same_bytes d.old old hit) range.0, subst AreBytes same range.1)
+    | inr (miss, rest) ↦ fits.documents old new rest
+  ];
+  link = fits.link;
+}
+
+fits_link : (before : List Line) (value : List ℕ) → Fits before → InRange (Link value) → Fits (Link value ∷ before)
+fits_link before value fits range = record {
+  counts = fits.counts;
+  rows = fits.rows;
+  methods = fits.methods;
+  drops = fits.drops;
+  slotted = fits.slotted;
+  slots = fits.slots;
+  signatures = fits.signatures;
+  documents = fits.documents;
+  link = λ other is. let e : value ≡ other = cc in subst AreBytes e range;
 }
 
 fits_line : (before : List Line) (line : Line) → Fits before → InRange line → KeepsAll before line → Fits (line ∷ before)
@@ -298,6 +353,8 @@ fits_line before (Dropped m) fits range keeps = fits_drop before m fits range ke
 fits_line before (Slots m) fits range keeps = fits_slots before m fits range keeps
 fits_line before (Slot m o n) fits range keeps = fits_slot before m o n fits range keeps
 fits_line before (Signature m n) fits range keeps = fits_signature before m n fits range keeps
+fits_line before (Document d) fits range keeps = fits_document before d fits range
+fits_line before (Link value) fits range keeps = fits_link before value fits range
 
 -- lines that were read fit together
 pub read_fits : (version : ℕ) (texts : List (List ℕ)) (said : List Line) → Read version texts said → Fits said
@@ -309,6 +366,8 @@ read_fits version texts said start = record {
   slotted = λ m is. absurd (false≢true is);
   slots = λ m o n is. absurd (cc);
   signatures = λ m n is. absurd (cc);
+  documents = λ old new is. absurd (cc);
+  link = λ value is. absurd (cc);
 }
 read_fits version texts said (further {texts = prefix} {before} {text} {line} read tells keeps) =
     fits_line before line (read_fits version prefix before read) (tells_range version text line tells) (λ rule breaks. keeps rule (by_lines tells breaks))

@@ -1,6 +1,8 @@
 pub mod Searching
 pub mod Lines
 pub mod Numbers
+pub mod Spelled
+pub mod Named
 pub mod Cutting
 pub mod Saying
 pub mod Rising

@@ -4,11 +4,13 @@ use Rattle.std.proofs.Common.{subst, arith}
 use Rattle.std.specs.Prelude.{MatchResult}
 use Rattle.std.specs.Str.Lines.{lines}
 use Rattle.ppdb_maps.specs.Forms.{Tells, Values, silent, told, run_line, rows_line, row_line, method_line, drop_line, slots_line, slot_line, signature_line, IsHead}
+use Rattle.ppdb_maps.specs.Forms.{document_line, link_line}
 use Rattle.ppdb_maps.specs.Cuts.{IsLineOf}
 use Rattle.ppdb_maps.specs.Rules.{by_lines}
 use Rattle.ppdb_maps.specs.Text.{Read, start, further, Refused, at_line, at_head}
 use Rattle.ppdb_maps.specs.Drafts.{Holds, AddsLine, HasLength}
 use Rattle.ppdb_maps.specs.Loops.{TextAdded, TextRefused, IsAt, ReadWhole, RefusedIn, RefusedAs}
+use Rattle.ppdb_maps.specs.Reading.{RefusedAlone}
 use Rattle.ppdb_maps.specs.declared.draft.Draft.{Draft}
 use Rattle.ppdb_maps.specs.declared.line.Form.{Form}
 use Rattle.ppdb_maps.specs.declared.line.Line.{Line}
@@ -28,6 +30,8 @@ values_length form values line (drop_line a) = tt
 values_length form values line (slots_line a) = tt
 values_length form values line (slot_line a b d) = tt
 values_length form values line (signature_line a b) = tt
+values_length form values line (document_line a b) = tt
+values_length form values line (link_line a) = tt
 
 pub tells_length : (version : ℕ) (text : List ℕ) (line : Line) → Tells version text line → HasLength line
 tells_length version text line (silent h) = tt
@@ -40,6 +44,11 @@ text_added version before text line (Ok u) new tells adds =
 text_added version before text line (Err (refused rule)) new tells adds =
     record { broken = by_lines tells adds.0; least = λ other broken. adds.1 other (breaks_said version before text line other tells broken) }
 text_added version before text line (Err no_memory) new tells adds = tt
+
+-- a line that is refused whatever the lines before it say is refused
+pub alone_refused : (version : ℕ) (before : List Line) (text : List ℕ) (why : Refusal) → RefusedAlone version text why → TextRefused version before text why
+alone_refused version before text (refused rule) alone = alone before
+alone_refused version before text no_memory alone = tt
 
 -- what was read of a list of lines, when `rest` is left
 pub record SoFar (version : ℕ) (all rest : List (List ℕ)) (number : ℕ) (draft : Draft) : Type 0 where

@@ -1,10 +1,11 @@
 -- A text has one map: its lines say one thing, and a map that holds it is one.
-use Rattle.std.proofs.Common.{◌≡◌, ℕ, ◌+◌, ◌⊎◌, ◌&&◌, ◌++◌, Bool, true, false, cond, List, [], ◌∷◌, Some, None, refl, sym, ◌∙◌, ap, arith, inl, inr, map, subst}
-use Rattle.std.specs.Prelude.{nat_eq, codes}
+use Rattle.std.proofs.Common.{◌≡◌, ℕ, ◌+◌, ◌⊎◌, ◌&&◌, ◌++◌, Bool, true, false, cond, List, [], ◌∷◌, Option, Some, None, refl, sym, ◌∙◌, ap, arith, inl, inr, map, subst}
+use Rattle.std.specs.Prelude.{nat_eq, bytes_eq, codes}
 use Rattle.std.specs.List.{find, list_any}
 use Rattle.std.specs.List.Sorted.{IsStrictlySortedBy}
 use Rattle.std.specs.Option.{option_map}
 use Rattle.std.specs.Ordering.{nat_cmp}
+use Rattle.std.specs.Cmp.Lexicographic.{slice_cmp, nat_list_cmp_total}
 use Rattle.std.specs.Cmp.{IsTotalOrder, IsEquivalence}
 use Rattle.std.proofs.lemmas.Map.Lookups.{CmpEqualImpliesEq, exact_pairs, exact_unsigned}
 use Rattle.std.proofs.lemmas.Bool.{cases_lt, eq-eqb, ne_eqb, eqb-true, and_parts, and_from}
@@ -14,6 +15,7 @@ use Rattle.ppdb_maps.specs.declared.entries.Count.{Count}
 use Rattle.ppdb_maps.specs.declared.entries.RowImage.{RowImage}
 use Rattle.ppdb_maps.specs.declared.entries.SlotImage.{SlotImage}
 use Rattle.ppdb_maps.specs.declared.entries.SignatureImage.{SignatureImage}
+use Rattle.ppdb_maps.specs.declared.entries.NameLine.{NameLine}
 use Rattle.ppdb_maps.specs.declared.line.Line.{Line}
 use Rattle.ppdb_maps.specs.Gathered.{same_pair}
 use Rattle.ppdb_maps.specs.Map.{Map, MethodLine, map_of, pair_cmp}
@@ -21,6 +23,7 @@ use Rattle.ppdb_maps.specs.Text.{Read, HoldsWhat}
 use Rattle.ppdb_maps.specs.Readable.{TextsHaveOneMap}
 use Rattle.ppdb_maps.proofs.OneList.{one_list}
 use Rattle.ppdb_maps.proofs.OneReading.{read_same}
+use Rattle.ppdb_maps.proofs.Named.{same_bytes, bytes_same}
 
 -- an item that is found is made of what it was found by and what it says
 rebuilt : {X V : Type 0} (p : X → Bool) (val : X → V) (make : V → X) → ((x : X) → p x ≡ true → make (val x) ≡ x) → (xs : List X)
@@ -89,10 +92,11 @@ numbers_one xs ys a b same = one_list (λ (x : ℕ). x) nat_eq nat_cmp same_numb
 
 -- maps of the same lists are the same
 pub maps_made : (a b : Map) → a.counts ≡ b.counts → a.rows ≡ b.rows → a.methods ≡ b.methods → a.drops ≡ b.drops → a.slotted ≡ b.slotted → a.slots ≡ b.slots
-    → a.signatures ≡ b.signatures → a ≡ b
-maps_made a b counts rows methods drops slotted slots signatures =
-    ap (λ (v : List Count × List RowImage × List MethodLine × List ℕ × List ℕ × List SlotImage × List SignatureImage). map_of v.0 v.1 v.2 v.3 v.4 v.5 v.6)
-    (let e : (a.counts, a.rows, a.methods, a.drops, a.slotted, a.slots, a.signatures) ≡ (
+    → a.signatures ≡ b.signatures → a.documents ≡ b.documents → a.link ≡ b.link → a ≡ b
+maps_made a b counts rows methods drops slotted slots signatures documents link =
+    ap (λ (v : List Count × List RowImage × List MethodLine × List ℕ × List ℕ × List SlotImage × List SignatureImage × List NameLine × Option (List ℕ)).
+    map_of v.0 v.1 v.2 v.3 v.4 v.5 v.6 v.7 v.8)
+    (let e : (a.counts, a.rows, a.methods, a.drops, a.slotted, a.slots, a.signatures, a.documents, a.link) ≡ (
       b.counts,
       b.rows,
       b.methods,
@@ -100,6 +104,8 @@ maps_made a b counts rows methods drops slotted slots signatures =
       b.slotted,
       b.slots,
       b.signatures,
+      b.documents,
+      b.link,
     ) = cc in e)
 
 maps_same : (said : List Line) (a b : Map) → HoldsWhat said a → HoldsWhat said b → a ≡ b
@@ -131,7 +137,11 @@ maps_same said a b x y =
     b.signatures x.ascends.signatures y.ascends.signatures
     (λ n. alike (λ (s : SignatureImage). nat_eq s.method n) (λ (s : SignatureImage). s.new) (λ r. record { method = n; new = r })
     (λ s hit. ap (λ t. record { method = t; new = s.new }) (sym (eqb-true s.method n hit))) a.signatures b.signatures (x.signatures n ∙ sym (y.signatures n))) in
-    maps_made a b counts rows methods drops slotted slots signatures
+    let documents : a.documents ≡ b.documents = one_list (λ (d : NameLine). d.old) bytes_eq (slice_cmp nat_cmp) same_bytes bytes_same nat_list_cmp_total
+    a.documents b.documents x.ascends.documents y.ascends.documents
+    (λ n. alike (λ (d : NameLine). bytes_eq d.old n) (λ (d : NameLine). d.new) (λ r. record { old = n; new = r })
+    (λ d hit. ap (λ t. record { old = t; new = d.new }) (sym (same_bytes d.old n hit))) a.documents b.documents (x.documents n ∙ sym (y.documents n))) in
+    maps_made a b counts rows methods drops slotted slots signatures documents (x.link ∙ sym y.link)
 
 pub version_same : (head : List ℕ) (v w : ℕ) → head ≡ codes "ppdbmap " ++ (48 + v) ∷ [] → head ≡ codes "ppdbmap " ++ (48 + w) ∷ [] → v ≡ w
 version_same head v w a b =

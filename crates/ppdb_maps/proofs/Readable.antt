@@ -1,22 +1,26 @@
 -- A map that a text has is readable.
-use Rattle.std.proofs.Common.{ℕ, ◌≡◌, ◌||◌, Bool, true, false, List, [], ◌∷◌, refl, sym, ap, ◌∙◌}
-use Rattle.std.specs.Prelude.{nat_eq, is_some}
+use Rattle.std.proofs.Common.{ℕ, ◌≡◌, ◌||◌, Bool, true, false, List, [], ◌∷◌, Option, Some, None, IfSome, refl, sym, ap, ◌∙◌}
+use Rattle.std.specs.Prelude.{nat_eq, bytes_eq, is_some}
 use Rattle.std.specs.List.{AllByRecursion, list_any}
 use Rattle.std.specs.List.Sorted.{IsStrictlySortedBy}
 use Rattle.std.specs.Option.{option_map}
 use Rattle.std.specs.Ordering.{nat_cmp}
+use Rattle.std.specs.Cmp.Lexicographic.{slice_cmp, nat_list_cmp_total}
 use Rattle.std.proofs.lemmas.Bool.{eq-eqb}
 use Rattle.std.proofs.lemmas.Cmp.{nat_cmp_total}
 use Rattle.ppdb_maps.specs.Gathered.{same_pair}
 use Rattle.ppdb_maps.specs.Map.{Map, MethodLine, pair_cmp}
-use Rattle.ppdb_maps.specs.Readable.{IsReadable, IsCount, IsRow, IsRowOf, IsLineOf, IsSlottedOf, IsSlotOf, IsSignatureOf, MapsAreReadable}
+use Rattle.ppdb_maps.specs.Readable.{IsReadable, IsCount, IsRow, IsRowOf, IsLineOf, IsSlottedOf, IsSlotOf, IsSignatureOf, AreNames, MapsAreReadable}
+use Rattle.ppdb_maps.specs.Forms.{AreBytes}
 use Rattle.ppdb_maps.specs.Text.{HoldsWhat, Read}
 use Rattle.ppdb_maps.specs.declared.entries.Count.{Count}
 use Rattle.ppdb_maps.specs.declared.entries.RowImage.{RowImage}
 use Rattle.ppdb_maps.specs.declared.entries.SlotImage.{SlotImage}
 use Rattle.ppdb_maps.specs.declared.entries.SignatureImage.{SignatureImage}
+use Rattle.ppdb_maps.specs.declared.entries.NameLine.{NameLine}
 use Rattle.ppdb_maps.specs.declared.line.Line.{Line}
 use Rattle.ppdb_maps.proofs.InRange.{Fits, read_fits}
+use Rattle.ppdb_maps.proofs.Named.{same_bytes, bytes_same}
 use Rattle.ppdb_maps.proofs.OneList.{each_found}
 use Rattle.ppdb_maps.proofs.OneMap.{same_number, number_same, pair_is, is_pair, pair_total}
 
@@ -57,7 +61,15 @@ held_fits said m holds fits = record {
       (λ s found.
       let h = fits.signatures s.method s.new (sym (holds.signatures s.method) ∙ ap (option_map (λ (s : SignatureImage). s.new)) found) in
       (h.0, h.1, holds.drops s.method ∙ h.2));
+  documents = each_found (λ (d : NameLine). d.old) bytes_eq (slice_cmp nat_cmp) same_bytes bytes_same nat_list_cmp_total AreNames m.documents
+      holds.ascends.documents
+      (λ d found. fits.documents d.old d.new (sym (holds.documents d.old) ∙ ap (option_map (λ (d : NameLine). d.new)) found));
+  link = if_there m.link (λ value is. fits.link value (sym holds.link ∙ is));
 }
+  where
+    if_there : (o : Option (List ℕ)) → ((value : List ℕ) → o ≡ Some value → AreBytes value) → IfSome o AreBytes
+    if_there None all = tt
+    if_there (Some value) all = all value refl
 
 -- a map of lines that were read is readable
 pub read_readable : (version : ℕ) (texts : List (List ℕ)) (said : List Line) (m : Map) → Read version texts said → HoldsWhat said m → IsReadable m
@@ -67,10 +79,19 @@ pub maps_are_readable : MapsAreReadable
 maps_are_readable = λ text m is. read_readable is.version is.rest is.said m is.read is.holds_what
 
 pub empty_readable : (m : Map) → m.counts ≡ [] → m.rows ≡ [] → m.methods ≡ [] → m.drops ≡ [] → m.slotted ≡ [] → m.slots ≡ [] → m.signatures ≡ []
-    → IsReadable m
+    → m.documents ≡ [] → m.link ≡ None → IsReadable m
 unfolding IsStrictlySortedBy
-empty_readable m a b d e f g h = record {
-  ascends = record { counts = rw a tt; rows = rw b tt; methods = rw d tt; drops = rw e tt; slotted = rw f tt; slots = rw g tt; signatures = rw h tt };
+empty_readable m a b d e f g h i j = record {
+  ascends = record {
+    counts = rw a tt;
+    rows = rw b tt;
+    methods = rw d tt;
+    drops = rw e tt;
+    slotted = rw f tt;
+    slots = rw g tt;
+    signatures = rw h tt;
+    documents = rw i tt;
+  };
   counts = rw a tt;
   rows = rw b tt;
   methods = rw d tt;
@@ -78,4 +99,6 @@ empty_readable m a b d e f g h = record {
   slotted = rw f tt;
   slots = rw g tt;
   signatures = rw h tt;
+  documents = rw i tt;
+  link = rw j tt;
 }

@@ -6,13 +6,14 @@ use Rattle.std.proofs.lemmas.Bool.{false≢true}
 use Rattle.std.proofs.lemmas.Bool.Decides.{nat_tests}
 use Rattle.std.specs.BTreeMap.{is_at}
 use Rattle.ppdb_maps.specs.Map.{pair_cmp}
-use Rattle.ppdb_maps.specs.Before.{count_in, row_in, method_in, drop_in, slots_in, slot_in, signature_in}
+use Rattle.ppdb_maps.specs.Before.{count_in, row_in, method_in, drop_in, slots_in, slot_in, signature_in, document_in, link_in}
 use Rattle.ppdb_maps.specs.Rules.{kind_of, Breaks, second_row, second_method, second_drop, second_slots, second_slot, row_alone, slot_alone, drop_named}
-use Rattle.ppdb_maps.specs.Rules.{IsNamed, dropped_method, dropped_row, dropped_slots, second_signature, dropped_signature}
+use Rattle.ppdb_maps.specs.Rules.{IsNamed, dropped_method, dropped_row, dropped_slots, second_signature, dropped_signature, second_document, second_link}
 use Rattle.ppdb_maps.specs.Drafts.{RefusedBy}
 use Rattle.ppdb_maps.specs.declared.refusal.Refusal.TheVariants.{Breaks as refused}
 use Rattle.ppdb_maps.specs.declared.line.Line.{Line}
-use Rattle.ppdb_maps.specs.declared.line.Line.TheVariants.{Row, Method, Dropped, Slots, Slot, Signature}
+use Rattle.ppdb_maps.specs.declared.line.Line.TheVariants.{Row, Method, Dropped, Slots, Slot, Signature, Document, Link}
+use Rattle.ppdb_maps.specs.declared.entries.NameLine.{NameLine}
 use Rattle.ppdb_maps.specs.declared.rule.Rule.{Rule}
 use Rattle.ppdb_maps.specs.declared.rule.Rule.TheVariants.{Repeated, Undeclared, NamesDropped}
 use Rattle.ppdb_maps.proofs.Saying.{from_four}
@@ -113,6 +114,12 @@ pub signature_keeps : (before : List Line) (m n : ℕ) → is_some (signature_in
     → Breaks before rule (Signature m n) → ⊥
 signature_keeps before m n signature drop rule (second_signature h) = both (signature_in before m) signature h
 signature_keeps before m n signature drop rule (dropped_signature h) = untrue (drop_in before m) drop h
+
+pub document_keeps : (before : List Line) (d : NameLine) → is_some (document_in before d.old) ≡ false → (rule : Rule) → Breaks before rule (Document d) → ⊥
+document_keeps before d document rule (second_document h) = both (document_in before d.old) document h
+
+pub link_keeps : (before : List Line) (value : List ℕ) → is_some (link_in before) ≡ false → (rule : Rule) → Breaks before rule (Link value) → ⊥
+link_keeps before value link rule (second_link h) = both (link_in before) link h
 
 -- what the tests of keys say
 pub at_number : (k q : ℕ) → is_at (nat_cmp k) q ≡ nat_eq k q

@@ -1,8 +1,9 @@
 -- The sample's map keeps what maps keep.
-use Rattle.std.proofs.Common.{◌≡◌, ℕ, zero, suc, ◌+◌, ◌<◌, ◌≤◌, List, [], ◌∷◌, map, refl, sym, arith}
+use Rattle.std.proofs.Common.{◌≡◌, ℕ, zero, suc, ◌+◌, ◌<◌, ◌≤◌, List, [], ◌∷◌, Option, None, map, refl, sym, arith}
 use Rattle.std.specs.List.{range_with_len, AllByRecursion}
 use Rattle.std.specs.List.Sorted.{IsStrictlySortedBy}
 use Rattle.std.specs.Ordering.{nat_cmp}
+use Rattle.std.specs.Cmp.Lexicographic.{slice_cmp}
 use Rattle.std.specs.Cmp.{nat_cmp_is}
 use Rattle.std.specs.declared.cmp.Ordering.TheVariants.{Less}
 use Rattle.ppdb_base.specs.Offsets.{Rise, lined}
@@ -10,6 +11,7 @@ use Rattle.ppdb_maps.specs.declared.entries.Count.{Count}
 use Rattle.ppdb_maps.specs.declared.entries.RowImage.{RowImage}
 use Rattle.ppdb_maps.specs.declared.entries.SlotImage.{SlotImage}
 use Rattle.ppdb_maps.specs.declared.entries.SignatureImage.{SignatureImage}
+use Rattle.ppdb_maps.specs.declared.entries.NameLine.{NameLine}
 use Rattle.ppdb_maps.specs.Map.{MethodLine, pair_cmp, map_of}
 use Rattle.ppdb_maps.specs.Readable.{IsRowOf, IsLineOf, IsReadable}
 use Rattle.ppdb_maps.specs.Sample.{sample_row, sample_method, sample_runs, sample_map_of}
@@ -49,6 +51,10 @@ no_pairs_rise : IsStrictlySortedBy pair_cmp []
 unfolding IsStrictlySortedBy
 no_pairs_rise = tt
 
+no_names_rise : IsStrictlySortedBy (slice_cmp nat_cmp) []
+unfolding IsStrictlySortedBy
+no_names_rise = tt
+
 one_rises : IsStrictlySortedBy nat_cmp (6 ∷ [])
 unfolding IsStrictlySortedBy
 one_rises = (tt, tt)
@@ -73,6 +79,7 @@ sample_readable n few = record {
     slotted = nothing_rises;
     slots = no_pairs_rise;
     signatures = nothing_rises;
+    documents = no_names_rise;
   };
   counts = ((omega arith, omega arith), tt);
   rows = rows_in n 1 n (omega arith) (omega arith) few;
@@ -81,13 +88,15 @@ sample_readable n few = record {
   slotted = tt;
   slots = tt;
   signatures = tt;
+  documents = tt;
+  link = tt;
 }
 
 pub sample_of : (n : ℕ) (counts : List Count) (rows : List RowImage) (methods : List MethodLine) (drops slotted : List ℕ) (slots : List SlotImage)
-    (signatures : List SignatureImage)
+    (signatures : List SignatureImage) (documents : List NameLine) (link : Option (List ℕ))
     → counts ≡ record { table = 0x06; rows = n } ∷ []
     → rows ≡ map (sample_row n) (range_with_len 1 n) → methods ≡ map sample_method (range_with_len 1 n) → drops ≡ [] → slotted ≡ [] → slots ≡ []
-    → signatures ≡ []
-    → map_of counts rows methods drops slotted slots signatures ≡ sample_map_of n
-sample_of n counts rows methods drops slotted slots signatures c r m d t s g =
-    maps_made (map_of counts rows methods drops slotted slots signatures) (sample_map_of n) c r m d t s g
+    → signatures ≡ [] → documents ≡ [] → link ≡ None
+    → map_of counts rows methods drops slotted slots signatures documents link ≡ sample_map_of n
+sample_of n counts rows methods drops slotted slots signatures documents link c r m d t s g o l =
+    maps_made (map_of counts rows methods drops slotted slots signatures documents link) (sample_map_of n) c r m d t s g o l

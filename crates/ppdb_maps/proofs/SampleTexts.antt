@@ -66,6 +66,8 @@ holds_0 = record {
   slotted = λ m. refl;
   slots = λ m o. refl;
   signatures = λ m. refl;
+  documents = λ name. refl;
+  link = refl;
   ascends = (sample_readable 0 (omega arith)).ascends;
 }
 
@@ -95,6 +97,8 @@ holds_1 = record {
   slotted = λ m. refl;
   slots = λ m o. refl;
   signatures = λ m. refl;
+  documents = λ name. refl;
+  link = refl;
   ascends = (sample_readable 1 (omega arith)).ascends;
 }
 
@@ -153,6 +157,8 @@ holds_2 = record {
   slotted = λ m. refl;
   slots = λ m o. refl;
   signatures = λ m. refl;
+  documents = λ name. refl;
+  link = refl;
   ascends = (sample_readable 2 (omega arith)).ascends;
 }
 

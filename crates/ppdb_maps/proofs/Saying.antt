@@ -3,11 +3,13 @@ use Rattle.std.proofs.Common.{zero, suc, inl, inr, lit<, lit≤, ℕ, ◌≡◌,
 use Rattle.ppdb_base.specs.declared.offsets.Run.{Run}
 use Rattle.ppdb_maps.specs.Words.{IsSilent, line_words}
 use Rattle.ppdb_maps.specs.Forms.{name_of, words_in, HasForm, IsNumber, IsTable, ROWS, Values, Tells, rows_line, row_line, method_line, run_line, drop_line}
-use Rattle.ppdb_maps.specs.Forms.{slots_line, slot_line, signature_line, silent, told}
+use Rattle.ppdb_maps.specs.Forms.{slots_line, slot_line, signature_line, document_line, link_line, silent, told}
+use Rattle.ppdb_maps.specs.declared.entries.NameLine.{NameLine}
 use Rattle.ppdb_maps.specs.declared.line.Form.{Form}
 use Rattle.ppdb_maps.specs.declared.line.Form.TheVariants.{TableRows, RowMove, MethodSizes, OffsetRun, MethodDrop, MethodSlots, SlotMove, MethodSignature}
+use Rattle.ppdb_maps.specs.declared.line.Form.TheVariants.{DocumentRename, LinkValue}
 use Rattle.ppdb_maps.specs.declared.line.Line.{Line}
-use Rattle.ppdb_maps.specs.declared.line.Line.TheVariants.{Kept}
+use Rattle.ppdb_maps.specs.declared.line.Line.TheVariants.{Kept, Document, Link}
 use Rattle.std.specs.Prelude.{find, bytes_eq}
 use Rattle.std.proofs.lemmas.Bool.{cases_lt}
 use Rattle.std.proofs.lemmas.List.{length-take-le}
@@ -15,11 +17,12 @@ use Rattle.ppdb_maps.specs.Cuts.{AreWordsOf}
 use Rattle.ppdb_maps.specs.Reading.{FitsForm, values_of}
 use Rattle.ppdb_maps.specs.Rules.{kind_of, Breaks, BreaksLine, BreaksFirst, no_form, no_value, by_lines, second_rows, second_row, second_method, second_drop}
 use Rattle.ppdb_maps.specs.Rules.{second_slots, second_slot, second_signature, row_alone, slot_alone, run_alone, run_early, run_long, drop_named, dropped_method, dropped_row}
-use Rattle.ppdb_maps.specs.Rules.{dropped_slots, dropped_signature}
+use Rattle.ppdb_maps.specs.Rules.{dropped_slots, dropped_signature, second_document, second_link}
 use Rattle.ppdb_maps.specs.declared.rule.Rule.{Rule}
 use Rattle.ppdb_maps.specs.declared.rule.Rule.TheVariants.{UnknownForm, NumberFaults}
 use Rattle.ppdb_maps.specs.declared.words.Words.{Words}
 use Rattle.ppdb_maps.proofs.Numbers.{one_number, one_table}
+use Rattle.ppdb_maps.proofs.Spelled.{one_spelling}
 
 pub rows_values : (a b : List ℕ) (line : Line) → Values TableRows (a ∷ b ∷ []) line → ((t : ℕ) × IsTable a t) × ((n : ℕ) × IsNumber b 0 ROWS n)
 rows_values a b line (rows_line t n) = ((_, t), (_, n))
@@ -32,6 +35,11 @@ same_run : (r s : Run) → r.old ≡ s.old → r.new ≡ s.new → r.length ≡ 
 same_run r s old new long =
     let make : ℕ → ℕ → ℕ → Run = λ a b d. record { old = a; new = b; length = d } in
     ap (λ a. make a r.new r.length) old ∙ (ap (λ b. make s.old b r.length) new ∙ ap (λ d. make s.old s.new d) long)
+
+pub same_names : (d e : NameLine) → d.old ≡ e.old → d.new ≡ e.new → d ≡ e
+same_names d e old new =
+    let make : List ℕ → List ℕ → NameLine = λ a b. record { old = a; new = b } in
+    ap (λ a. make a d.new) old ∙ ap (λ b. make e.old b) new
 
 -- a line of a form says one thing
 one_of_form : (form : Form) (values : List (List ℕ)) (x y : Line) → Values form values x → Values form values y → x ≡ y
@@ -66,11 +74,14 @@ one_of_form form values x y (signature_line {method = m} {new = n} a b) (signatu
     let method = one_number _ _ _ m m2 (lit< tt) a a2 in
     let new = one_number _ _ _ n n2 (lit< tt) b b2 in
     cc
+one_of_form form values x y (document_line {d = d} a b) (document_line {d = e} a2 b2) =
+    ap Document (same_names d e (one_spelling _ d.old e.old a a2) (one_spelling _ d.new e.new b b2))
+one_of_form form values x y (link_line {value = v} a) (link_line {value = w} b) = ap Link (one_spelling _ v w a b)
 
 -- the form that has the name
 abbrev form_named : List ℕ → Option Form
 form_named name = find (λ form. bytes_eq (name_of form) name)
-    (TableRows ∷ RowMove ∷ MethodSizes ∷ OffsetRun ∷ MethodDrop ∷ MethodSlots ∷ SlotMove ∷ MethodSignature ∷ [])
+    (TableRows ∷ RowMove ∷ MethodSizes ∷ OffsetRun ∷ MethodDrop ∷ MethodSlots ∷ SlotMove ∷ MethodSignature ∷ DocumentRename ∷ LinkValue ∷ [])
 
 named_itself : (form : Form) → form_named (name_of form) ≡ Some form
 named_itself TableRows = refl
@@ -81,6 +92,8 @@ named_itself MethodDrop = refl
 named_itself MethodSlots = refl
 named_itself SlotMove = refl
 named_itself MethodSignature = refl
+named_itself DocumentRename = refl
+named_itself LinkValue = refl
 
 -- forms have different first words
 one_form : (x y : Form) → name_of x ≡ name_of y → x ≡ y
@@ -96,6 +109,8 @@ few_words MethodDrop = (lit≤ tt, lit≤ tt)
 few_words MethodSlots = (lit≤ tt, lit≤ tt)
 few_words SlotMove = (lit≤ tt, lit≤ tt)
 few_words MethodSignature = (lit≤ tt, lit≤ tt)
+few_words DocumentRename = (lit≤ tt, lit≤ tt)
+few_words LinkValue = (lit≤ tt, lit≤ tt)
 
 count_fits : (n : ℕ) (name a b d : List ℕ) (words : List (List ℕ)) (version : ℕ) (form : Form)
     → (n ≤ 4 → words ≡ take n (name ∷ a ∷ b ∷ d ∷ [])) → (4 < n → 4 < length words) → HasForm version words form
@@ -144,6 +159,8 @@ has_form line words version form are fits =
     taken MethodSlots = refl
     taken SlotMove = refl
     taken MethodSignature = refl
+    taken DocumentRename = refl
+    taken LinkValue = refl
 
     long : (form : Form) → length (take (words_in form) (words.name.now ∷ words.first.now ∷ words.second.now ∷ words.third.now ∷ [])) ≡ words_in form
     long form = length-take-le (words_in form) (words.name.now ∷ words.first.now ∷ words.second.now ∷ words.third.now ∷ []) (few_words form).1
@@ -171,6 +188,8 @@ from_four before rule line (second_drop h) = lit≤ tt
 from_four before rule line (second_slots h) = lit≤ tt
 from_four before rule line (second_slot h) = lit≤ tt
 from_four before rule line (second_signature h) = lit≤ tt
+from_four before rule line (second_document h) = lit≤ tt
+from_four before rule line (second_link h) = lit≤ tt
 from_four before rule line (row_alone h) = lit≤ tt
 from_four before rule line (slot_alone h) = lit≤ tt
 from_four before rule line (run_alone h) = lit≤ tt

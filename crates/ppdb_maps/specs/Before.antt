@@ -1,7 +1,7 @@
 -- What lines of a map text say together; a list of lines has the last one first.
-use Rattle.std.specs.Prelude.{ℕ, ◌&&◌, ◌++◌, Bool, true, false, cond, nat_eq, List, [], ◌∷◌, Option, Some, None, find}
+use Rattle.std.specs.Prelude.{ℕ, ◌&&◌, ◌++◌, Bool, true, false, cond, nat_eq, bytes_eq, List, [], ◌∷◌, Option, Some, None, find}
 use Rattle.ppdb_base.specs.declared.offsets.Run.{Run}
-use Rattle.ppdb_maps.specs.{Map.MethodLine, declared.line.Line.{Line, TheVariants.{Silent, Rows, Row, Method, Kept, Dropped, Slots, Slot, Signature}}}
+use Rattle.ppdb_maps.specs.{Map.MethodLine, declared.line.Line.{Line, TheVariants.{Silent, Rows, Row, Method, Kept, Dropped, Slots, Slot, Signature, Document, Link}}}
 
 -- the N of the table's `rows` line
 abbrev pub count_in : List Line → ℕ → Option ℕ
@@ -38,6 +38,18 @@ abbrev pub signature_in : List Line → ℕ → Option ℕ
 signature_in [] method = None
 signature_in (Signature m n ∷ before) method = cond (nat_eq m method) (Some n) (signature_in before method)
 signature_in (_ ∷ before) method = signature_in before method
+
+-- the NEW of the name's `document` line
+abbrev pub document_in : List Line → List ℕ → Option (List ℕ)
+document_in [] name = None
+document_in (Document d ∷ before) name = cond (bytes_eq d.old name) (Some d.new) (document_in before name)
+document_in (_ ∷ before) name = document_in before name
+
+-- the VALUE of the `link` line
+abbrev pub link_in : List Line → Option (List ℕ)
+link_in [] = None
+link_in (Link value ∷ before) = Some value
+link_in (_ ∷ before) = link_in before
 
 -- a run goes to the last `method` line
 abbrev pub with_run : Run → List MethodLine → List MethodLine

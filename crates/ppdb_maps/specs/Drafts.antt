@@ -1,7 +1,8 @@
 -- What a draft holds of the lines read so far, of which the last one stands first.
-use Rattle.std.specs.{Prelude.{◌≡◌, ℕ, ◌<◌, ◌≤◌, true, false, List, ◌∷◌, Option, Some, None, Result, MatchResult, find, nat_eq, is_some, option_map, map, ◌&&◌}, List.IsDistinct, Ordering.nat_cmp}
+use Rattle.std.specs.Prelude.{◌≡◌, ℕ, ◌<◌, ◌≤◌, true, false, List, ◌∷◌, Option, Some, None, Result, MatchResult, find, nat_eq, is_some, option_map, map, ◌&&◌}
+use Rattle.std.specs.{List.IsDistinct, Ordering.nat_cmp, Cmp.Lexicographic.slice_cmp}
 use Rattle.ppdb_maps.specs.{declared.entries.{RowImage.RowImage, SignatureImage.SignatureImage}, BitSets.{has_number, has_row}, Gathered.{row_key, method_key, signature_key, same_pair}}
-use Rattle.ppdb_maps.specs.{Map.{MethodLine, pair_cmp}, Before.{count_in, row_in, methods_of, drop_in, slots_in, slot_in, signature_in, follows_method}, Rules.{Breaks, kind_of}}
+use Rattle.ppdb_maps.specs.{Map.{MethodLine, pair_cmp}, Before.{count_in, row_in, methods_of, drop_in, slots_in, slot_in, signature_in, document_in, link_in, follows_method}, Rules.{Breaks, kind_of}}
 use Rattle.ppdb_maps.specs.{declared.bit_set.BitSet.BitSet, declared.draft.Draft.Draft, declared.refusal.Refusal.{Refusal, TheVariants.{Breaks as refused, Memory}}, declared.line.Line.Line}
 use Rattle.ppdb_maps.specs.{declared.line.Line.TheVariants.Kept, declared.rule.Rule.Rule}
 use Rattle.std.specs.BTreeMap as tree
@@ -21,6 +22,8 @@ pub record HoldsOthers (before : List Line) (draft : Draft) : Type 0 where
       → option_map (λ (s : SignatureImage). s.new) (find (λ s. nat_eq s.method method) draft.signatures.items) ≡ signature_in before method
   pub signed_once : IsDistinct nat_eq (map signature_key draft.signatures.items)
   pub signed : (method : ℕ) → has_number draft.signed method ≡ is_some (signature_in before method)
+  pub documents : (name : List ℕ) → tree.get_by (λ key. slice_cmp nat_cmp name key.items) draft.documents ≡ document_in before name
+  pub link : draft.link ≡ link_in before
 
 -- the list of distinct methods answers as these lines, and the set has their numbers
 pub record AreLines (lines methods : List MethodLine) (listed : BitSet) : Type 0 where

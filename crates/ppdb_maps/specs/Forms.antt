@@ -1,8 +1,10 @@
 -- The forms of a map text's lines, and what a line of each form says (docs/FORMAT.md, "Map texts").
-use Rattle.std.specs.Prelude.{◌≡◌, ℕ, ◌+◌, ◌*◌, ◌<◌, ◌≤◌, ◌⊎◌, ◌++◌, List, [], ◌∷◌, codes, length, decimal}
-use Rattle.ppdb_base.specs.declared.offsets.Run.{Run}
-use Rattle.ppdb_maps.specs.{Words.{IsSilent, line_words}, declared.line.Form.{Form, TheVariants.{TableRows, RowMove, MethodSizes, OffsetRun, MethodDrop, MethodSlots, SlotMove, MethodSignature}}}
-use Rattle.ppdb_maps.specs.declared.line.Line.{Line, TheVariants.{Silent, Rows, Row, Method, Kept, Dropped, Slots, Slot, Signature}}
+use Rattle.std.specs.{Prelude.{◌≡◌, ℕ, ◌+◌, ◌*◌, ◌<◌, ◌≤◌, ◌⊎◌, ◌++◌, List, [], ◌∷◌, codes, length, decimal}, List.AllByRecursion}
+use Rattle.ppdb_base.specs.{declared.offsets.Run.Run, Escaped.escaped}
+use Rattle.ppdb_maps.specs.Words.{IsSilent, line_words}
+use Rattle.ppdb_maps.specs.declared.line.Form.{Form, TheVariants.{TableRows, RowMove, MethodSizes, OffsetRun, MethodDrop, MethodSlots, SlotMove, MethodSignature, DocumentRename, LinkValue}}
+use Rattle.ppdb_maps.specs.declared.entries.NameLine.{NameLine}
+use Rattle.ppdb_maps.specs.declared.line.Line.{Line, TheVariants.{Silent, Rows, Row, Method, Kept, Dropped, Slots, Slot, Signature, Document, Link}}
 
 -- line 1 of a text of the version: 48 is the digit 0
 pub record IsHead (line : List ℕ) (version : ℕ) : Type 0 where
@@ -20,6 +22,8 @@ name_of MethodDrop = codes "drop"
 name_of MethodSlots = codes "slots"
 name_of SlotMove = codes "slot"
 name_of MethodSignature = codes "signature"
+name_of DocumentRename = codes "document"
+name_of LinkValue = codes "link"
 
 -- the number of words of a line of this form, the first one among them
 abbrev pub words_in : Form → ℕ
@@ -31,6 +35,8 @@ words_in MethodDrop = 2
 words_in MethodSlots = 2
 words_in SlotMove = 4
 words_in MethodSignature = 3
+words_in DocumentRename = 3
+words_in LinkValue = 2
 
 -- the version from which on texts have it
 abbrev pub since : Form → ℕ
@@ -42,6 +48,8 @@ since MethodDrop = 2
 since MethodSlots = 3
 since SlotMove = 3
 since MethodSignature = 4
+since DocumentRename = 4
+since LinkValue = 4
 
 -- the words are those of a form of the version, whatever its values
 pub record HasForm (version : ℕ) (words : List (List ℕ)) (form : Form) : Type 0 where
@@ -71,6 +79,15 @@ pub record IsTable (word : List ℕ) (table : ℕ) : Type 0 where
   pub is : table ≡ high * 16 + low
   pub known : table ≤ 0x2c
 
+-- numbers that are bytes
+abbrev pub AreBytes : List ℕ → Type 0
+AreBytes bytes = AllByRecursion (λ b. b < 256) bytes
+
+-- the one spelling of bytes: printable ASCII but the backslash stands for itself, any other byte is `\x` and two digits, and no bytes are `\-`
+pub record IsEscaped (word bytes : List ℕ) : Type 0 where
+  pub spelled : word ≡ escaped bytes
+  pub within : AreBytes bytes
+
 abbrev pub ROWS : ℕ
 ROWS = 16777215
 
@@ -96,6 +113,8 @@ pub data Values : Form → List (List ℕ) → Line → Type 0 where
       → IsNumber n 0 SLOTS new → Values SlotMove (m ∷ o ∷ n ∷ []) (Slot method old new)
   signature_line : {m n : List ℕ} {method new : ℕ} → IsNumber m 1 ROWS method → IsNumber n 0 ROWS new
       → Values MethodSignature (m ∷ n ∷ []) (Signature method new)
+  document_line : {o n : List ℕ} {d : NameLine} → IsEscaped o d.old → IsEscaped n d.new → Values DocumentRename (o ∷ n ∷ []) (Document d)
+  link_line : {v : List ℕ} {value : List ℕ} → IsEscaped v value → Values LinkValue (v ∷ []) (Link value)
 
 -- the words say this: they are those of a form of the version, and their values are in range
 pub record Says (version : ℕ) (words : List (List ℕ)) (line : Line) : Type 0 where

@@ -1,6 +1,6 @@
 -- The entries of a map's lists, from those of the maps in which they were gathered.
-use Rattle.std.specs.Prelude.{ℕ, ◌&&◌, Bool, nat_eq}
-use Rattle.ppdb_maps.specs.{declared.entries.{Count.Count, RowImage.RowImage, SlotImage.SlotImage, SignatureImage.SignatureImage}, Map.MethodLine}
+use Rattle.std.specs.{Prelude.{ℕ, ◌&&◌, Bool, List, nat_eq}, Cmp.Lexicographic.slice_cmp, Ordering.nat_cmp, declared.{cmp.Ordering.Ordering, alloc.Global.Global, vec.Vec.Vec}}
+use Rattle.ppdb_maps.specs.{declared.entries.{Count.Count, RowImage.RowImage, SlotImage.SlotImage, SignatureImage.SignatureImage, NameLine.NameLine}, Map.MethodLine}
 
 -- the count of a pair of a table and its rows
 abbrev pub count_entry : ℕ × ℕ → Count
@@ -21,6 +21,14 @@ method_key line = line.method
 -- what `signature` lines are ordered by
 abbrev pub signature_key : SignatureImage → ℕ
 signature_key signature = signature.method
+
+-- the document line of a pair of a name and the name that it gets
+abbrev pub name_entry : Vec ℕ Global × List ℕ → NameLine
+name_entry e = record { old = e.0.items; new = e.1 }
+
+-- names are ordered by their bytes
+abbrev pub name_cmp : Vec ℕ Global → Vec ℕ Global → Ordering
+name_cmp a b = slice_cmp nat_cmp a.items b.items
 
 -- both numbers of two pairs are the same
 abbrev pub same_pair : ℕ × ℕ → ℕ × ℕ → Bool

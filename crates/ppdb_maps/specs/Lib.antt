@@ -18,3 +18,4 @@ pub mod Search
 pub mod BitSets
 pub mod Drafts
 pub mod Spelling
+pub mod Escapes

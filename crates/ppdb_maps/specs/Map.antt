@@ -1,8 +1,8 @@
 -- What a map says: one entry for each of its lines that says something, and the questions that are asked of it.
-use Rattle.std.specs.{Prelude.{ℕ, ◌&&◌, Bool, cond, nat_eq, List, Option, Some, None, unwrap_or, filter, map, find, option_map}, List.list_any, List.Sorted.IsStrictlySortedBy}
-use Rattle.std.specs.{Ordering.{nat_cmp, ordering_then}, declared.cmp.Ordering.Ordering}
+use Rattle.std.specs.{Prelude.{ℕ, ◌&&◌, Bool, cond, nat_eq, bytes_eq, List, Option, Some, None, unwrap_or, filter, map, find, option_map}, List.list_any, List.Sorted.IsStrictlySortedBy}
+use Rattle.std.specs.{Ordering.{nat_cmp, ordering_then}, Cmp.Lexicographic.slice_cmp, declared.cmp.Ordering.Ordering}
 use Rattle.ppdb_base.specs.{declared.offsets.Run.Run, Offsets.{Offsets, every, gone, lined}}
-use Rattle.ppdb_maps.specs.declared.entries.{Count.Count, RowImage.RowImage, SlotImage.SlotImage, SignatureImage.SignatureImage}
+use Rattle.ppdb_maps.specs.declared.entries.{Count.Count, RowImage.RowImage, SlotImage.SlotImage, SignatureImage.SignatureImage, NameLine.NameLine}
 
 -- a method's IL sizes and the runs of its kept offsets
 pub record MethodLine : Type 0 where
@@ -20,11 +20,23 @@ pub record Map : Type 0 where
   pub slotted : List ℕ
   pub slots : List SlotImage
   pub signatures : List SignatureImage
+  pub documents : List NameLine
+  pub link : Option (List ℕ)
 
 -- the map of these lists
-abbrev pub map_of : List Count → List RowImage → List MethodLine → List ℕ → List ℕ → List SlotImage → List SignatureImage → Map
-map_of counts rows methods drops slotted slots signatures =
-    record { counts = counts; rows = rows; methods = methods; drops = drops; slotted = slotted; slots = slots; signatures = signatures }
+abbrev pub map_of : List Count → List RowImage → List MethodLine → List ℕ → List ℕ → List SlotImage → List SignatureImage → List NameLine
+    → Option (List ℕ) → Map
+map_of counts rows methods drops slotted slots signatures documents link = record {
+  counts = counts;
+  rows = rows;
+  methods = methods;
+  drops = drops;
+  slotted = slotted;
+  slots = slots;
+  signatures = signatures;
+  documents = documents;
+  link = link;
+}
 
 -- by the first number, and by the second where the first are equal
 abbrev pub pair_cmp : ℕ × ℕ → ℕ × ℕ → Ordering
@@ -39,6 +51,7 @@ pub record Ascends (said : Map) : Type 0 where
   pub slotted : IsStrictlySortedBy nat_cmp said.slotted
   pub slots : IsStrictlySortedBy pair_cmp (map (λ (s : SlotImage). (s.method, s.old)) said.slots)
   pub signatures : IsStrictlySortedBy nat_cmp (map (λ (s : SignatureImage). s.method) said.signatures)
+  pub documents : IsStrictlySortedBy (slice_cmp nat_cmp) (map (λ (d : NameLine). d.old) said.documents)
 
 -- the count of the table's `rows` line
 abbrev pub count_of : Map → ℕ → Option ℕ
@@ -66,6 +79,14 @@ slot_line said method old = option_map (λ (s : SlotImage). s.new) (find (λ s. 
 -- the NEW of the method's `signature` line: the row of its local signature in the output, 0 for none
 abbrev pub signature_line : Map → ℕ → Option ℕ
 signature_line said method = option_map (λ (s : SignatureImage). s.new) (find (λ s. nat_eq s.method method) said.signatures)
+
+-- the NEW of the name's `document` line
+abbrev pub document_line : Map → List ℕ → Option (List ℕ)
+document_line said name = option_map (λ (d : NameLine). d.new) (find (λ d. bytes_eq d.old name) said.documents)
+
+-- the name that a document gets: the NEW of its line, else its own
+abbrev pub moved_name : Map → List ℕ → List ℕ
+moved_name said name = unwrap_or (document_line said name) name
 
 -- the image of a row: none for a dropped method; the row itself where the table has no `rows` line; else that of its line
 abbrev pub row_image : Map → ℕ → ℕ → Option ℕ

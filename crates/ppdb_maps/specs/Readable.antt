@@ -1,7 +1,7 @@
 -- What reading promises of every map, and that a text has one map or one refused line (docs/FORMAT.md, "Map texts").
-use Rattle.std.specs.{Prelude.{◌≡◌, ℕ, ◌≤◌, false, IsSome, IsTrue, List}, List.AllByRecursion}
+use Rattle.std.specs.{Prelude.{◌≡◌, ℕ, ◌≤◌, false, IfSome, IsSome, IsTrue, List}, List.AllByRecursion}
 use Rattle.ppdb_base.specs.Offsets.{Rise, lined}
-use Rattle.ppdb_maps.specs.{declared.entries.{Count.Count, RowImage.RowImage, SlotImage.SlotImage, SignatureImage.SignatureImage}, Forms.{ROWS, OFFSETS, SLOTS}}
+use Rattle.ppdb_maps.specs.{declared.entries.{Count.Count, RowImage.RowImage, SlotImage.SlotImage, SignatureImage.SignatureImage, NameLine.NameLine}, Forms.{AreBytes, ROWS, OFFSETS, SLOTS}}
 use Rattle.ppdb_maps.specs.{Map.{Map, MethodLine, Ascends, count_of, is_dropped, has_slots}, Text.{IsMapOf, Refused}}
 
 -- the number of a row that is there
@@ -34,6 +34,10 @@ IsSlotOf m slot = (slot.old ≤ SLOTS) × (slot.new ≤ SLOTS) × IsTrue (has_sl
 abbrev pub IsSignatureOf : Map → SignatureImage → Type 0
 IsSignatureOf m signature = IsRow signature.method × (signature.new ≤ ROWS) × (is_dropped m signature.method ≡ false)
 
+-- names are bytes
+abbrev pub AreNames : NameLine → Type 0
+AreNames document = AreBytes document.old × AreBytes document.new
+
 -- the numbers are in the ranges of map texts, and no line stands where another forbids it
 pub record IsReadable (m : Map) : Type 0 where
   pub ascends : Ascends m
@@ -44,6 +48,8 @@ pub record IsReadable (m : Map) : Type 0 where
   pub slotted : AllByRecursion (IsSlottedOf m) m.slotted
   pub slots : AllByRecursion (IsSlotOf m) m.slots
   pub signatures : AllByRecursion (IsSignatureOf m) m.signatures
+  pub documents : AllByRecursion AreNames m.documents
+  pub link : IfSome m.link AreBytes
 
 -- a map that a text has is readable
 abbrev pub MapsAreReadable : Type 0

@@ -1,7 +1,8 @@
 -- What the readers of a line answer.
 use Rattle.std.specs.Prelude.{◌≡◌, ℕ, ◌≤◌, List, [], ◌∷◌, Option, Result, MatchOption, MatchResult}
 use Rattle.ppdb_maps.specs.{Forms.{name_of, words_in, since, Values, Tells}, Rules.BreaksFirst, declared.words.Words.Words, declared.line.Form.Form}
-use Rattle.ppdb_maps.specs.{declared.line.{Form.TheVariants.{TableRows, RowMove, MethodSizes, OffsetRun, MethodDrop, MethodSlots, SlotMove, MethodSignature}, Line.Line}, declared.rule.Rule.Rule}
+use Rattle.ppdb_maps.specs.declared.line.Form.TheVariants.{TableRows, RowMove, MethodSizes, OffsetRun, MethodDrop, MethodSlots, SlotMove, MethodSignature, DocumentRename, LinkValue}
+use Rattle.ppdb_maps.specs.{declared.line.Line.Line, declared.refusal.Refusal.{Refusal, TheVariants.{Breaks as refused, Memory as no_memory}}}
 
 -- the form whose first word this is
 abbrev pub IsNamed : List ℕ → Option Form → Type 0
@@ -26,11 +27,18 @@ values_of MethodDrop words = words.first.now ∷ []
 values_of MethodSlots words = words.first.now ∷ []
 values_of SlotMove words = words.first.now ∷ words.second.now ∷ words.third.now ∷ []
 values_of MethodSignature words = words.first.now ∷ words.second.now ∷ []
+values_of DocumentRename words = words.first.now ∷ words.second.now ∷ []
+values_of LinkValue words = words.first.now ∷ []
 
 -- what the values of a form say, or that one is misspelled or out of its range
 abbrev pub IsLineOfForm : Form → Words → Option Line → Type 0
 IsLineOfForm form words result = MatchOption result ((line : Line) → Values form (values_of form words) line → ⊥) (Values form (values_of form words))
 
+-- the first rule that a line breaks, whatever the lines before it say
+abbrev pub RefusedAlone : ℕ → List ℕ → Refusal → Type 0
+RefusedAlone version text (refused rule) = (before : List Line) → BreaksFirst version before text rule
+RefusedAlone version text no_memory = Unit {0}
+
 -- what a line says, or the first rule that it breaks, whatever the lines before it say
-abbrev pub IsTold : ℕ → List ℕ → Result Line Rule → Type 0
-IsTold version text result = MatchResult result (Tells version text) (λ rule. (before : List Line) → BreaksFirst version before text rule)
+abbrev pub IsTold : ℕ → List ℕ → Result Line Refusal → Type 0
+IsTold version text result = MatchResult result (Tells version text) (RefusedAlone version text)

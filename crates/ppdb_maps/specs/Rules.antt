@@ -1,9 +1,9 @@
 -- The rules of map texts and their numbers; a line breaks one by the lines before it alone, of which the last one stands first.
 use Rattle.std.specs.Prelude.{◌≡◌, ℕ, ◌<◌, ◌≤◌, ◌⊎◌, false, List, [], ◌∷◌, None, IsSome, IsTrue}
 use Rattle.ppdb_base.specs.{declared.offsets.Run.Run, Offsets.{end_of, new_end_of}}
-use Rattle.ppdb_maps.specs.{Map.MethodLine, Words.{IsSilent, line_words}, Forms.{HasForm, Values, Tells}}
-use Rattle.ppdb_maps.specs.{Before.{count_in, row_in, method_in, methods_of, drop_in, slots_in, slot_in, signature_in, follows_method}, declared.line.{Form.Form, Line.Line}}
-use Rattle.ppdb_maps.specs.{declared.line.Line.TheVariants.{Rows, Row, Method, Kept, Dropped, Slots, Slot, Signature}, declared.rule.Rule.Rule}
+use Rattle.ppdb_maps.specs.{declared.entries.NameLine.NameLine, Map.MethodLine, Words.{IsSilent, line_words}, Forms.{HasForm, Values, Tells}}
+use Rattle.ppdb_maps.specs.{Before.{count_in, row_in, method_in, methods_of, drop_in, slots_in, slot_in, signature_in, document_in, link_in, follows_method}, declared.line.{Form.Form, Line.Line}}
+use Rattle.ppdb_maps.specs.{declared.line.Line.TheVariants.{Rows, Row, Method, Kept, Dropped, Slots, Slot, Signature, Document, Link}, declared.rule.Rule.Rule}
 use Rattle.ppdb_maps.specs.declared.rule.Rule.TheVariants.{FirstLine, UnknownForm, NumberFaults, Repeated, Undeclared, NoMethod, Overlap, Beyond, NamesDropped}
 
 -- the rule's number
@@ -42,6 +42,8 @@ pub data Breaks (before : List Line) : Rule → Line → Type 0 where
   second_slots : {m : ℕ} → IsTrue (slots_in before m) → Breaks before Repeated (Slots m)
   second_slot : {m o n : ℕ} → IsSome (slot_in before m o) → Breaks before Repeated (Slot m o n)
   second_signature : {m n : ℕ} → IsSome (signature_in before m) → Breaks before Repeated (Signature m n)
+  second_document : {d : NameLine} → IsSome (document_in before d.old) → Breaks before Repeated (Document d)
+  second_link : {value : List ℕ} → IsSome (link_in before) → Breaks before Repeated (Link value)
   row_alone : {t o n : ℕ} → count_in before t ≡ None → Breaks before Undeclared (Row t o n)
   slot_alone : {m o n : ℕ} → slots_in before m ≡ false → Breaks before Undeclared (Slot m o n)
   run_alone : {run : Run} → follows_method before ≡ false → Breaks before NoMethod (Kept run)

@@ -1,6 +1,6 @@
 -- The map of the sample file of n methods (docs/FORMAT.md, "Sample"): the methods change places, and of the 16 bytes of each those at
 -- the offsets 4 to 7 go, six bytes stand in their place, and two more at the end.
-use Rattle.std.specs.{Prelude.{ℕ, ◌+◌, ◌-◌, List, [], ◌∷◌, map}, List.range_with_len}
+use Rattle.std.specs.{Prelude.{ℕ, ◌+◌, ◌-◌, List, [], ◌∷◌, None, map}, List.range_with_len}
 use Rattle.ppdb_base.specs.declared.offsets.Run.{Run}
 use Rattle.ppdb_maps.specs.{Map.{Map, MethodLine}, declared.entries.RowImage.RowImage}
 
@@ -24,4 +24,6 @@ sample_map_of n = record {
   slotted = [];
   slots = [];
   signatures = [];
+  documents = [];
+  link = None;
 }

@@ -1,7 +1,8 @@
 -- Map texts (docs/FORMAT.md, "Map texts"): the map that a text has, and its refused line.
 use Rattle.std.specs.Prelude.{◌≡◌, ℕ, ◌+◌, ◌++◌, List, [], ◌∷◌, length}
-use Rattle.ppdb_maps.specs.{Map.{Map, Ascends, count_of, row_line, method_line, is_dropped, has_slots, slot_line, signature_line}, Words.text_lines, Forms.{IsHead, Tells}}
-use Rattle.ppdb_maps.specs.{Before.{count_in, row_in, method_in, drop_in, slots_in, slot_in, signature_in}, Rules.{Keeps, BreaksFirst, kind_of}, declared.line.Line.Line, declared.rule.Rule.Rule}
+use Rattle.ppdb_maps.specs.{Map.{Map, Ascends, count_of, row_line, method_line, is_dropped, has_slots, slot_line, signature_line, document_line}, Words.text_lines, Forms.{IsHead, Tells}}
+use Rattle.ppdb_maps.specs.Before.{count_in, row_in, method_in, drop_in, slots_in, slot_in, signature_in, document_in, link_in}
+use Rattle.ppdb_maps.specs.{Rules.{Keeps, BreaksFirst, kind_of}, declared.line.Line.Line, declared.rule.Rule.Rule}
 
 -- the lines after line 1 say these things, the last one first, and none breaks a rule
 pub data Read (version : ℕ) : List (List ℕ) → List Line → Type 0 where
@@ -27,6 +28,8 @@ pub record HoldsWhat (said : List Line) (holds : Map) : Type 0 where
   pub slotted : (method : ℕ) → has_slots holds method ≡ slots_in said method
   pub slots : (method old : ℕ) → slot_line holds method old ≡ slot_in said method old
   pub signatures : (method : ℕ) → signature_line holds method ≡ signature_in said method
+  pub documents : (name : List ℕ) → document_line holds name ≡ document_in said name
+  pub link : holds.link ≡ link_in said
   pub ascends : Ascends holds
 
 -- the text has this map

@@ -4,21 +4,22 @@ ghost use Rattle.ppdb_maps.specs.Loops.{IsTextAdded};
 ghost use Rattle.ppdb_maps.specs.Reading.{IsTold};
 ghost use Rattle.ppdb_maps.specs.Text.{HoldsWhat, Read};
 ghost use Rattle.ppdb_maps.specs.declared.line.Line.{Line};
-ghost use Rattle.ppdb_maps.specs.declared.line.Line.TheVariants.{Rows, Row, Method as SizesOf, Kept, Dropped, Slots, Slot, Signature};
+ghost use Rattle.ppdb_maps.specs.declared.line.Line.TheVariants.{Rows, Row, Method as SizesOf, Kept, Dropped, Slots, Slot, Signature, Document, Link};
 ghost use Rattle.ppdb_maps.specs.Drafts.{Holds, IsClosed, IsAdded, IsAddedTo, HasLength};
 ghost use Rattle.ppdb_maps.specs.Rules.{IsNamed};
 
 use crate::bit_set::{BitSet, RowSet};
-use crate::entries::{RowImage, SignatureImage};
+use crate::entries::{NameLine, RowImage, SignatureImage};
 use crate::finish::{
-    counts_of, methods_in_order, numbers_of, rows_in_order, signatures_in_order, slots_of,
+    counts_of, documents_of, methods_in_order, numbers_of, rows_in_order, signatures_in_order,
+    slots_of,
 };
 use crate::line::Line;
 use crate::map_text::MapText;
 use crate::method::Method;
 use crate::refusal::Refusal;
 use crate::rule::Rule;
-use ppdb_base::{Memory, Run};
+use ppdb_base::{Bytes, Memory, Run};
 use std::alloc::Global;
 use std::collections::{BTreeMap, BTreeSet};
 
@@ -42,6 +43,9 @@ pub struct Draft {
     signatures: Vec<SignatureImage>,
     /// The methods of `signatures`.
     signed: BitSet,
+    /// The new names of documents, by their names.
+    documents: BTreeMap<Vec<u8>, Bytes>,
+    link: Option<Bytes>,
 }
 
 impl Draft {
@@ -61,6 +65,8 @@ impl Draft {
             slots: BTreeMap::new(alloc),
             signatures: Vec::new(alloc),
             signed: BitSet::new(alloc),
+            documents: BTreeMap::new(alloc),
+            link: None,
         }
     }
 
@@ -184,6 +190,42 @@ impl Draft {
         Ok(())
     }
 
+    fn add_document(&mut self, document: NameLine) -> Result<(), Refusal>
+        ensures { IsAdded (Document document) self.old result self.new }
+    {
+        let NameLine { old, new } = document;
+        let old = old.into_vec();
+        if self.documents.contains_key(old.as_slice()) {
+            return Err(Refusal::Breaks(Rule::Repeated));
+        }
+        self.documents.insert(old, new)?;
+        Ok(())
+    }
+
+    fn add_link(&mut self, value: Bytes) -> Result<(), Refusal>
+        ensures { IsAdded (Link value) self.old result self.new }
+    {
+        if self.link.is_some() {
+            return Err(Refusal::Breaks(Rule::Repeated));
+        }
+        self.link = Some(value);
+        Ok(())
+    }
+
+    fn close_and_add_document(&mut self, document: NameLine) -> Result<(), Refusal>
+        ensures { IsAddedTo (Document document) self.old result self.new }
+    {
+        self.close()?;
+        self.add_document(document)
+    }
+
+    fn close_and_add_link(&mut self, value: Bytes) -> Result<(), Refusal>
+        ensures { IsAddedTo (Link value) self.old result self.new }
+    {
+        self.close()?;
+        self.add_link(value)
+    }
+
     fn add_run(&mut self, run: Run) -> Result<(), Refusal>
         requires { 0 < run.length }
         ensures { IsAddedTo (Kept run) self.old result self.new }
@@ -234,17 +276,19 @@ impl Draft {
                 self.close()?;
                 self.add_signature(method, new)
             }
+            Line::Document(document) => self.close_and_add_document(document.into_inner()),
+            Line::Link(value) => self.close_and_add_link(value.into_inner()),
         }
     }
 
     /// Adds what a line after the first says, or refuses it by the rule that it breaks by itself.
-    pub fn add_said(&mut self, alloc: Global, told: Result<Line, Rule>) -> Result<(), Refusal>
+    pub fn add_said(&mut self, alloc: Global, told: Result<Line, Refusal>) -> Result<(), Refusal>
         requires { (version : ℕ) × (text : List ℕ) × IsTold version text told }
         ensures { (version : ℕ) (text : List ℕ) → IsTold version text told → IsTextAdded version text self.old result self.new }
     {
         match told {
             Ok(line) => self.add(alloc, line),
-            Err(rule) => Err(Refusal::Breaks(rule)),
+            Err(refusal) => Err(refusal),
         }
     }
 
@@ -265,6 +309,8 @@ impl Draft {
             slots,
             signatures,
             signed: _,
+            documents,
+            link,
         } = self;
         let counts = counts_of(alloc, counts)?;
         let rows = rows_in_order(rows)?;
@@ -273,6 +319,9 @@ impl Draft {
         let slotted = numbers_of(alloc, slotted)?;
         let slots = slots_of(alloc, slots)?;
         let signatures = signatures_in_order(signatures)?;
-        Ok(MapText::new(counts, rows, methods, drops, slotted, slots, signatures))
+        let documents = documents_of(alloc, documents)?;
+        Ok(MapText::new(
+            counts, rows, methods, drops, slotted, slots, signatures, documents, link,
+        ))
     }
 }

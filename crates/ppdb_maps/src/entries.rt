@@ -1,4 +1,5 @@
 // The entries of a map's lists.
+use ppdb_base::Bytes;
 
 /// The rows of a table in the output.
 #[derive(Clone, Copy)]
@@ -28,4 +29,11 @@ pub struct SlotImage {
 pub struct SignatureImage {
     pub method: u32,
     pub new: u32,
+}
+
+/// The name of a document, and the name that it gets.
+#[derive(Drop)]
+pub struct NameLine {
+    pub old: Bytes,
+    pub new: Bytes,
 }

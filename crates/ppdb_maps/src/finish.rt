@@ -4,11 +4,12 @@ ghost use Rattle.std.specs.Ordering.{nat_cmp};
 ghost use Rattle.std.specs.BTreeMap.{IsOrdered};
 ghost use Rattle.std.specs.BTreeSet as sorted;
 ghost use Rattle.ppdb_maps.specs.Map.{pair_cmp};
-ghost use Rattle.ppdb_maps.specs.Gathered.{count_entry, row_key, method_key, signature_key, slot_entry};
+ghost use Rattle.ppdb_maps.specs.Gathered.{count_entry, row_key, method_key, signature_key, slot_entry, name_entry, name_cmp};
 ghost use Rattle.std.specs.List.Sorted.{IsPermutation, IsSortedByKey};
 
-use crate::entries::{Count, RowImage, SignatureImage, SlotImage};
+use crate::entries::{Count, NameLine, RowImage, SignatureImage, SlotImage};
 use crate::method::Method;
+use ppdb_base::Bytes;
 use std::alloc::{AllocError, Global};
 use std::collections::{BTreeMap, BTreeSet};
 
@@ -53,6 +54,23 @@ pub fn signatures_in_order(
 {
     signatures.sort_by_key(|signature| signature.method)?;
     Ok(signatures)
+}
+
+/// Documents in ascending order of their names.
+pub fn documents_of(
+    alloc: Global,
+    documents: BTreeMap<Vec<u8>, Bytes>,
+) -> Result<Vec<NameLine>, AllocError>
+    ensures ordered { IsOrdered name_cmp documents }
+    ensures items { IfOk result (λ v. v.items ≡ map name_entry documents.entries) }
+{
+    documents
+        .into_iter()
+        .map(|(old, new)| NameLine {
+            old: Bytes::from_vec(old),
+            new,
+        })
+        .collect(alloc)
 }
 
 /// Methods in ascending order of their numbers.

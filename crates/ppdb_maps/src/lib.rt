@@ -2,8 +2,10 @@
 #![tactic(auto)]
 
 mod bit_set;
+mod boxed;
 mod draft;
 mod entries;
+mod escaped;
 mod finish;
 mod laws;
 mod line;

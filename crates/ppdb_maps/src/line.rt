@@ -1,5 +1,7 @@
 // The forms of a map text's lines, and what a line says.
-use ppdb_base::Run;
+use crate::boxed::Boxed;
+use crate::entries::NameLine;
+use ppdb_base::{Bytes, Run};
 
 /// The forms of the lines that say something.
 #[derive(Clone, Copy)]
@@ -20,10 +22,14 @@ pub enum Form {
     SlotMove,
     /// `signature M NEW`
     MethodSignature,
+    /// `document OLD NEW`
+    DocumentRename,
+    /// `link VALUE`
+    LinkValue,
 }
 
 /// What a line after the first says.
-#[derive(Clone, Copy)]
+#[derive(Drop)]
 pub enum Line {
     /// Nothing: it is empty or a comment.
     Silent,
@@ -61,4 +67,8 @@ pub enum Line {
         method: u32,
         new: u32,
     },
+    /// The name of a document, and the name that it gets.
+    Document(Boxed<NameLine>),
+    /// The value of each Source Link record on row 1 of Module.
+    Link(Boxed<Bytes>),
 }

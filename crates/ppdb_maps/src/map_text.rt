@@ -1,21 +1,24 @@
 // The map that a text has.
-ghost use Rattle.std.specs.Prelude.{◌≡◌, [], slice_get, option_map};
+ghost use Rattle.std.specs.Prelude.{◌≡◌, ℕ, List, [], None, option_copied, slice_get, option_map};
 ghost use Rattle.ppdb_maps.specs.Map.{MethodLine, map_of, count_of, output_count, row_line, row_image, moved_row};
 ghost use Rattle.ppdb_maps.specs.Map.{is_dropped, has_slots, slot_line, slot_image, offsets_in, rows_of, slots_of};
-ghost use Rattle.ppdb_maps.specs.Map.{signature_line, moved_signature};
+ghost use Rattle.ppdb_maps.specs.Map.{signature_line, moved_signature, document_line, moved_name};
 ghost use Rattle.ppdb_maps.specs.Readable.{IsReadable};
+ghost use Rattle.ppdb_maps.specs.declared.entries.NameLine.{NameLine};
 ghost use Rattle.ppdb_maps.specs.declared.entries.RowImage.{RowImage};
 ghost use Rattle.ppdb_maps.specs.declared.entries.SignatureImage.{SignatureImage};
 ghost use Rattle.ppdb_maps.specs.declared.entries.SlotImage.{SlotImage};
 ghost use Rattle.ppdb_maps.specs.Says.{offsets_of};
 
-use crate::entries::{Count, RowImage, SignatureImage, SlotImage};
+use crate::entries::{Count, NameLine, RowImage, SignatureImage, SlotImage};
 use crate::method::Method;
 use crate::method_map::MethodMap;
 use crate::search::{
-    count_at, has_number, method_at, nth_row, nth_slot, row_near, signature_at, slot_at,
+    count_at, document_at, has_number, method_at, nth_row, nth_slot, row_near, signature_at,
+    slot_at,
 };
 use crate::starts::Starts;
+use ppdb_base::Bytes;
 use std::alloc::Global;
 use std::marker::Model;
 
@@ -31,6 +34,8 @@ pub struct MapText {
     slotted: Vec<u32>,
     slots: Vec<SlotImage>,
     signatures: Vec<SignatureImage>,
+    documents: Vec<NameLine>,
+    link: Option<Bytes>,
 }
 
 impl Model for MapText {
@@ -40,15 +45,16 @@ impl Model for MapText {
 
     ghost use Rattle.ppdb_maps.specs.Readable.{IsReadable};
 
-    ghost view = { λ m. map_of m.counts.items m.rows.items m.methods.items m.drops.items m.slotted.items m.slots.items m.signatures.items };
+    ghost view = { λ m. map_of m.counts.items m.rows.items m.methods.items m.drops.items m.slotted.items m.slots.items m.signatures.items m.documents.items m.link };
 
-    ghost invariant = { λ m. IsReadable (map_of m.counts.items m.rows.items m.methods.items m.drops.items m.slotted.items m.slots.items m.signatures.items) };
+    ghost invariant = { λ m. IsReadable (map_of m.counts.items m.rows.items m.methods.items m.drops.items m.slotted.items m.slots.items
+        m.signatures.items m.documents.items m.link) };
 }
 
 impl MapText {
     /// The map without lines: nothing changes. It takes no memory.
     pub fn empty(alloc: Global) -> MapText
-        ensures { result ≡ map_of [] [] [] [] [] [] [] }
+        ensures { result ≡ map_of [] [] [] [] [] [] [] [] None }
     {
         MapText {
             counts: Vec::new(alloc),
@@ -59,6 +65,8 @@ impl MapText {
             slotted: Vec::new(alloc),
             slots: Vec::new(alloc),
             signatures: Vec::new(alloc),
+            documents: Vec::new(alloc),
+            link: None,
         }
     }
 
@@ -71,9 +79,11 @@ impl MapText {
         slotted: Vec<u32>,
         slots: Vec<SlotImage>,
         signatures: Vec<SignatureImage>,
+        documents: Vec<NameLine>,
+        link: Option<Bytes>,
     ) -> MapText
-        requires { IsReadable (map_of counts.items rows.items methods.items drops.items slotted.items slots.items signatures.items) }
-        ensures { result ≡ map_of counts.items rows.items methods.items drops.items slotted.items slots.items signatures.items }
+        requires { IsReadable (map_of counts.items rows.items methods.items drops.items slotted.items slots.items signatures.items documents.items link) }
+        ensures { result ≡ map_of counts.items rows.items methods.items drops.items slotted.items slots.items signatures.items documents.items link }
     {
         let starts = Starts::of(rows.as_slice());
         MapText {
@@ -85,6 +95,8 @@ impl MapText {
             slotted,
             slots,
             signatures,
+            documents,
+            link,
         }
     }
 
@@ -207,6 +219,34 @@ impl MapText {
         }
     }
 
+    /// The NEW of the name's `document` line: the name that the documents of this name get.
+    pub fn document(&self, name: &[u8]) -> Option<&[u8]>
+        ensures { option_copied result ≡ document_line self.now name.now }
+    {
+        let document = document_at(self.documents.as_slice(), name)?;
+        Some(document.new.as_slice())
+    }
+
+    /// The name that the documents of a name get: the NEW of its `document` line, else the name.
+    pub fn moved_name<'a>(&'a self, name: &'a [u8]) -> &'a [u8]
+        ensures { result.now ≡ moved_name self.now name.now }
+    {
+        match self.document(name) {
+            Some(new) => new,
+            None => name,
+        }
+    }
+
+    /// The VALUE of the `link` line: that of each Source Link record on row 1 of Module.
+    pub fn link(&self) -> Option<&[u8]>
+        ensures { option_copied result ≡ self.now.link }
+    {
+        match &self.link {
+            Some(value) => Some(value.as_slice()),
+            None => None,
+        }
+    }
+
     /// The methods with a `method` line, in ascending order; none past the last.
     pub fn method_line(&self, index: u32) -> Option<u32>
         ensures { result ≡ option_map (λ (l : MethodLine). l.method) (slice_get self.now.methods index) }
@@ -252,5 +292,14 @@ impl MapText {
         self.signatures
             .get(index as usize)
             .map(|signature| (signature.method, signature.new))
+    }
+
+    /// The names with a `document` line and the names that they get, in ascending order of their
+    /// bytes; none past the last.
+    pub fn document_line(&self, index: u32) -> Option<(&[u8], &[u8])>
+        ensures { option_map {U = List ℕ × List ℕ} (λ p. (p.0.now, p.1.now)) result ≡ option_map (λ (d : NameLine). (d.old, d.new)) (slice_get self.now.documents index) }
+    {
+        let document = self.documents.get(index as usize)?;
+        Some((document.old.as_slice(), document.new.as_slice()))
     }
 }

@@ -29,7 +29,7 @@ fn refusal_at(line: u32, refusal: Refusal) -> MapError
 }
 
 /// What the first line of a text says, and what stands after that line.
-fn first_said(version: u8, text: &[u8]) -> (Result<Line, Rule>, &[u8])
+fn first_said(alloc: Global, version: u8, text: &[u8]) -> (Result<Line, Refusal>, &[u8])
     requires { 1 ≤ version }
     ensures { IsFirstTold version text.now result.0 result.1.now }
 {
@@ -37,7 +37,7 @@ fn first_said(version: u8, text: &[u8]) -> (Result<Line, Rule>, &[u8])
         return (Ok(line), rest);
     }
     let (line, rest) = first_line(text);
-    (said(version, line), rest)
+    (said(alloc, version, line), rest)
 }
 
 /// Reads the lines after the first.
@@ -51,7 +51,7 @@ fn read_lines(alloc: Global, version: u8, text: &[u8]) -> Result<Draft, MapError
     let mut rest = text;
     let mut number: u32 = 2;
     while !rest.is_empty() {
-        let (said, others) = first_said(version, rest);
+        let (said, others) = first_said(alloc, version, rest);
         match draft.add_said(alloc, said) {
             Ok(()) => {}
             Err(refusal) => return Err(refusal_at(number, refusal)),

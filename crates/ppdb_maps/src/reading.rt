@@ -1,15 +1,21 @@
 // What one line of a map text says.
-ghost use Rattle.std.specs.Prelude.{◌≡◌, ℕ, IfSome, IfNone, IsTrue, ◌↔◌};
+ghost use Rattle.std.specs.Prelude.{◌≡◌, ℕ, IfOk, IfSome, IfNone, IsTrue, ◌↔◌};
 ghost use Rattle.ppdb_maps.specs.Words.{IsSilent};
 ghost use Rattle.ppdb_maps.specs.Forms.{IsHead, words_in, since};
 ghost use Rattle.ppdb_maps.specs.Reading.{IsNamed, IsFormOf, IsLineOfForm, IsTold};
 ghost use Rattle.ppdb_maps.specs.declared.line.Form.TheVariants.{TableRows, RowMove, MethodSizes, OffsetRun, MethodDrop, MethodSlots, SlotMove, MethodSignature};
+ghost use Rattle.ppdb_maps.specs.declared.line.Form.TheVariants.{DocumentRename, LinkValue};
 
+use crate::boxed::Boxed;
+use crate::entries::NameLine;
+use crate::escaped::unescaped;
 use crate::line::{Form, Line};
 use crate::number::{number, offset, row, row_or_zero, slot, table};
+use crate::refusal::Refusal;
 use crate::rule::Rule;
 use crate::words::{Words, words_of};
-use ppdb_base::Run;
+use ppdb_base::{Memory, Run};
+use std::alloc::Global;
 
 /// The version that line 1 names.
 pub fn version_of(line: &[u8]) -> Option<u8>
@@ -61,6 +67,12 @@ fn named(word: &[u8]) -> Option<Form>
     if word == b"signature".as_slice() {
         return Some(Form::MethodSignature);
     }
+    if word == b"document".as_slice() {
+        return Some(Form::DocumentRename);
+    }
+    if word == b"link".as_slice() {
+        return Some(Form::LinkValue);
+    }
     if word == b"rows".as_slice() {
         return Some(Form::TableRows);
     }
@@ -73,8 +85,8 @@ impl Form {
         ensures { result ≡ words_in self }
     {
         match self {
-            Form::MethodDrop | Form::MethodSlots => 2,
-            Form::TableRows | Form::MethodSignature => 3,
+            Form::MethodDrop | Form::MethodSlots | Form::LinkValue => 2,
+            Form::TableRows | Form::MethodSignature | Form::DocumentRename => 3,
             Form::RowMove | Form::MethodSizes | Form::OffsetRun | Form::SlotMove => 4,
         }
     }
@@ -87,7 +99,7 @@ impl Form {
             Form::TableRows | Form::RowMove | Form::MethodSizes | Form::OffsetRun => 1,
             Form::MethodDrop => 2,
             Form::MethodSlots | Form::SlotMove => 3,
-            Form::MethodSignature => 4,
+            Form::MethodSignature | Form::DocumentRename | Form::LinkValue => 4,
         }
     }
 }
@@ -174,24 +186,49 @@ fn signature_line(words: &Words<'_>) -> Option<Line>
     Some(Line::Signature { method, new })
 }
 
+fn document_line(alloc: Global, words: &Words<'_>) -> Result<Option<Line>, Memory>
+    ensures { IfOk result (IsLineOfForm DocumentRename words.now) }
+{
+    let Some(old) = unescaped(alloc, words.first)? else {
+        return Ok(None);
+    };
+    let Some(new) = unescaped(alloc, words.second)? else {
+        return Ok(None);
+    };
+    let document = Boxed::new(alloc, NameLine { old, new })?;
+    Ok(Some(Line::Document(document)))
+}
+
+fn link_line(alloc: Global, words: &Words<'_>) -> Result<Option<Line>, Memory>
+    ensures { IfOk result (IsLineOfForm LinkValue words.now) }
+{
+    let Some(value) = unescaped(alloc, words.first)? else {
+        return Ok(None);
+    };
+    let value = Boxed::new(alloc, value)?;
+    Ok(Some(Line::Link(value)))
+}
+
 /// What the values of a form say; none where one is misspelled or out of its range.
-fn line_of(form: Form, words: &Words<'_>) -> Option<Line>
-    ensures { IsLineOfForm form words.now result }
+fn line_of(alloc: Global, form: Form, words: &Words<'_>) -> Result<Option<Line>, Memory>
+    ensures { IfOk result (IsLineOfForm form words.now) }
 {
     match form {
-        Form::TableRows => rows_line(words),
-        Form::RowMove => row_line(words),
-        Form::MethodSizes => method_line(words),
-        Form::OffsetRun => run_line(words),
-        Form::MethodDrop => drop_line(words),
-        Form::MethodSlots => slots_line(words),
-        Form::SlotMove => slot_line(words),
-        Form::MethodSignature => signature_line(words),
+        Form::TableRows => Ok(rows_line(words)),
+        Form::RowMove => Ok(row_line(words)),
+        Form::MethodSizes => Ok(method_line(words)),
+        Form::OffsetRun => Ok(run_line(words)),
+        Form::MethodDrop => Ok(drop_line(words)),
+        Form::MethodSlots => Ok(slots_line(words)),
+        Form::SlotMove => Ok(slot_line(words)),
+        Form::MethodSignature => Ok(signature_line(words)),
+        Form::DocumentRename => document_line(alloc, words),
+        Form::LinkValue => link_line(alloc, words),
     }
 }
 
 /// What a line after the first says.
-pub fn said(version: u8, line: &[u8]) -> Result<Line, Rule>
+pub fn said(alloc: Global, version: u8, line: &[u8]) -> Result<Line, Refusal>
     ensures { IsTold version line.now result }
 {
     if is_silent(line) {
@@ -199,10 +236,10 @@ pub fn said(version: u8, line: &[u8]) -> Result<Line, Rule>
     }
     let words = words_of(line);
     let Some(form) = form_of(version, &words) else {
-        return Err(Rule::UnknownForm);
+        return Err(Refusal::Breaks(Rule::UnknownForm));
     };
-    match line_of(form, &words) {
+    match line_of(alloc, form, &words)? {
         Some(line) => Ok(line),
-        None => Err(Rule::NumberFaults),
+        None => Err(Refusal::Breaks(Rule::NumberFaults)),
     }
 }

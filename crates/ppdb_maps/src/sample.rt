@@ -59,5 +59,8 @@ pub fn sample_map(alloc: Global, n: u32) -> Result<MapText, Memory>
     let slotted = Vec::new(alloc);
     let slots = Vec::new(alloc);
     let signatures = Vec::new(alloc);
-    Ok(MapText::new(counts, rows, methods, drops, slotted, slots, signatures))
+    let documents = Vec::new(alloc);
+    Ok(MapText::new(
+        counts, rows, methods, drops, slotted, slots, signatures, documents, None,
+    ))
 }

@@ -1,17 +1,19 @@
 // A halving search in a list that is in order.
-ghost use Rattle.std.specs.Prelude.{◌≡◌, ◌&&◌, Bool, map, nat_eq, option_copied, find, filter, slice_get};
+ghost use Rattle.std.specs.Prelude.{◌≡◌, ◌&&◌, Bool, bytes_eq, map, nat_eq, option_copied, find, filter, slice_get};
 ghost use Rattle.std.specs.Fn.{ComputesKey};
 ghost use Rattle.std.specs.List.{list_any};
 ghost use Rattle.std.specs.List.Sorted.{IsStrictlySortedBy};
 ghost use Rattle.std.specs.Ordering.{nat_cmp};
+ghost use Rattle.std.specs.Cmp.Lexicographic.{slice_cmp};
 ghost use Rattle.ppdb_maps.specs.declared.entries.Count.{Count};
+ghost use Rattle.ppdb_maps.specs.declared.entries.NameLine.{NameLine};
 ghost use Rattle.ppdb_maps.specs.declared.entries.RowImage.{RowImage};
 ghost use Rattle.ppdb_maps.specs.declared.entries.SignatureImage.{SignatureImage};
 ghost use Rattle.ppdb_maps.specs.declared.entries.SlotImage.{SlotImage};
 ghost use Rattle.ppdb_maps.specs.Map.{MethodLine, pair_cmp};
 ghost use Rattle.ppdb_maps.specs.Search.{FindsBy, CountsBy};
 
-use crate::entries::{Count, RowImage, SignatureImage, SlotImage};
+use crate::entries::{Count, NameLine, RowImage, SignatureImage, SlotImage};
 use crate::method::Method;
 
 /// The item that is `at` a key, where all items before it are `before` the key.
@@ -106,6 +108,18 @@ pub fn signature_at(signatures: &[SignatureImage], method: u32) -> Option<&Signa
         signatures,
         |signature| signature.method < method,
         |signature| signature.method == method,
+    )
+}
+
+/// The line of a document's name.
+pub fn document_at<'a>(documents: &'a [NameLine], name: &[u8]) -> Option<&'a NameLine>
+    requires { IsStrictlySortedBy (slice_cmp nat_cmp) (map (λ (d : NameLine). d.old) documents.now) }
+    ensures { option_copied result ≡ find (λ d. bytes_eq d.old name.now) documents.now }
+{
+    find_by(
+        documents,
+        |document| document.old.as_slice().cmp(name).is_lt(),
+        |document| document.old.as_slice() == name,
     )
 }
 

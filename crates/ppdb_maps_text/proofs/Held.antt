@@ -1,22 +1,25 @@
 -- The map that lines say, whichever they are.
-use Rattle.std.proofs.Common.{ℕ, ◌≡◌, ◌++◌, Bool, true, false, cond, List, [], ◌∷◌, Option, Some, map, refl, sym, ap, ◌∙◌, subst}
-use Rattle.std.specs.Prelude.{nat_eq, is_some, option_map}
+use Rattle.std.proofs.Common.{ℕ, ◌≡◌, ◌++◌, Bool, true, false, cond, List, [], ◌∷◌, Option, Some, None, map, refl, sym, ap, ◌∙◌, subst}
+use Rattle.std.specs.Prelude.{nat_eq, bytes_eq, is_some, option_map}
+use Rattle.std.specs.Cmp.Lexicographic.{slice_cmp, nat_list_cmp_total}
 use Rattle.std.specs.List.{find, list_any}
 use Rattle.std.specs.List.Sorted.{IsStrictlySortedBy}
 use Rattle.std.specs.Ordering.{nat_cmp}
 use Rattle.std.proofs.lemmas.Cmp.{nat_cmp_total}
-use Rattle.std.proofs.lemmas.Map.Lookups.{exact_unsigned}
+use Rattle.std.proofs.lemmas.Map.Lookups.{exact_unsigned, exact_bytes}
 use Rattle.ppdb_base.specs.declared.offsets.Run.{Run}
 use Rattle.ppdb_maps.specs.declared.entries.Count.{Count}
 use Rattle.ppdb_maps.specs.declared.entries.RowImage.{RowImage}
 use Rattle.ppdb_maps.specs.declared.entries.SlotImage.{SlotImage}
 use Rattle.ppdb_maps.specs.declared.entries.SignatureImage.{SignatureImage}
+use Rattle.ppdb_maps.specs.declared.entries.NameLine.{NameLine}
 use Rattle.ppdb_maps.specs.declared.line.Line.{Line}
-use Rattle.ppdb_maps.specs.declared.line.Line.TheVariants.{Silent, Rows, Row, Method, Kept, Dropped, Slots, Slot, Signature}
+use Rattle.ppdb_maps.specs.declared.line.Line.TheVariants.{Silent, Rows, Row, Method, Kept, Dropped, Slots, Slot, Signature, Document, Link}
 use Rattle.ppdb_maps.specs.Before.{methods_of}
 use Rattle.ppdb_maps.specs.Gathered.{same_pair}
 use Rattle.ppdb_maps.specs.Map.{Map, MethodLine, map_of, pair_cmp, method_line}
 use Rattle.ppdb_maps.specs.Text.{HoldsWhat}
+use Rattle.ppdb_maps.proofs.Named.{same_bytes}
 use Rattle.ppdb_maps.proofs.OneMap.{same_number, pair_is, pair_total, pair_exact}
 use Rattle.ppdb_maps_text.proofs.Entries.{put, put_found, put_rises, any_found}
 
@@ -36,6 +39,9 @@ slot_of slot = (slot.method, slot.old)
 
 abbrev signed_of : SignatureImage → ℕ
 signed_of signature = signature.method
+
+abbrev name_of : NameLine → List ℕ
+name_of document = document.old
 
 abbrev itself : ℕ → ℕ
 itself n = n
@@ -57,6 +63,9 @@ with_slot x xs = put slot_of same_pair pair_cmp pair_is pair_total pair_exact x 
 
 abbrev with_signature : SignatureImage → List SignatureImage → List SignatureImage
 with_signature x xs = put signed_of nat_eq nat_cmp same_number nat_cmp_total exact_unsigned x xs
+
+abbrev with_document : NameLine → List NameLine → List NameLine
+with_document x xs = put name_of bytes_eq (slice_cmp nat_cmp) same_bytes nat_list_cmp_total exact_bytes x xs
 
 -- what is said of what is found
 said_found : {X V : Type 0} (val : X → V) (b : Bool) (x : X) (found : Option X) (before : Option V) → option_map val found ≡ before
@@ -86,7 +95,7 @@ number_rises x xs rise =
 
 -- ---- a line more
 
-none_held : HoldsWhat [] (map_of [] [] [] [] [] [] [])
+none_held : HoldsWhat [] (map_of [] [] [] [] [] [] [] [] None)
 unfolding IsStrictlySortedBy
 none_held = record {
   counts = λ table. refl;
@@ -96,7 +105,9 @@ none_held = record {
   slotted = λ method. refl;
   slots = λ method old. refl;
   signatures = λ method. refl;
-  ascends = record { counts = tt; rows = tt; methods = tt; drops = tt; slotted = tt; slots = tt; signatures = tt };
+  documents = λ name. refl;
+  link = refl;
+  ascends = record { counts = tt; rows = tt; methods = tt; drops = tt; slotted = tt; slots = tt; signatures = tt; documents = tt };
 }
 
 silent_held : (said : List Line) (m : Map) → HoldsWhat said m → HoldsWhat (Silent ∷ said) m
@@ -108,6 +119,8 @@ silent_held said m h = record {
   slotted = h.slotted;
   slots = h.slots;
   signatures = h.signatures;
+  documents = h.documents;
+  link = h.link;
   ascends = h.ascends;
 }
 
@@ -124,6 +137,8 @@ rows_held said m t n h = record {
   slotted = h.slotted;
   slots = h.slots;
   signatures = h.signatures;
+  documents = h.documents;
+  link = h.link;
   ascends = record {
     counts = put_rises table_of nat_eq nat_cmp same_number nat_cmp_total exact_unsigned (record { table = t; rows = n }) m.counts h.ascends.counts;
     rows = h.ascends.rows;
@@ -132,6 +147,7 @@ rows_held said m t n h = record {
     slotted = h.ascends.slotted;
     slots = h.ascends.slots;
     signatures = h.ascends.signatures;
+    documents = h.ascends.documents;
   };
 }
 
@@ -149,6 +165,8 @@ row_held said m t o n h = record {
   slotted = h.slotted;
   slots = h.slots;
   signatures = h.signatures;
+  documents = h.documents;
+  link = h.link;
   ascends = record {
     counts = h.ascends.counts;
     rows = put_rises row_of same_pair pair_cmp pair_is pair_total pair_exact (record { table = t; old = o; new = n }) m.rows h.ascends.rows;
@@ -157,6 +175,7 @@ row_held said m t o n h = record {
     slotted = h.ascends.slotted;
     slots = h.ascends.slots;
     signatures = h.ascends.signatures;
+    documents = h.ascends.documents;
   };
 }
 
@@ -182,6 +201,8 @@ method_held said m k o n h = record {
   slotted = h.slotted;
   slots = h.slots;
   signatures = h.signatures;
+  documents = h.documents;
+  link = h.link;
   ascends = record {
     counts = h.ascends.counts;
     rows = h.ascends.rows;
@@ -190,6 +211,7 @@ method_held said m k o n h = record {
     slotted = h.ascends.slotted;
     slots = h.ascends.slots;
     signatures = h.ascends.signatures;
+    documents = h.ascends.documents;
   };
 }
 
@@ -202,6 +224,8 @@ drop_held said m k h = record {
   slotted = h.slotted;
   slots = h.slots;
   signatures = h.signatures;
+  documents = h.documents;
+  link = h.link;
   ascends = record {
     counts = h.ascends.counts;
     rows = h.ascends.rows;
@@ -210,6 +234,7 @@ drop_held said m k h = record {
     slotted = h.ascends.slotted;
     slots = h.ascends.slots;
     signatures = h.ascends.signatures;
+    documents = h.ascends.documents;
   };
 }
 
@@ -222,6 +247,8 @@ slots_held said m k h = record {
   slotted = λ method. number_found method k m.slotted _ (h.slotted method);
   slots = h.slots;
   signatures = h.signatures;
+  documents = h.documents;
+  link = h.link;
   ascends = record {
     counts = h.ascends.counts;
     rows = h.ascends.rows;
@@ -230,6 +257,7 @@ slots_held said m k h = record {
     slotted = number_rises k m.slotted h.ascends.slotted;
     slots = h.ascends.slots;
     signatures = h.ascends.signatures;
+    documents = h.ascends.documents;
   };
 }
 
@@ -247,6 +275,8 @@ slot_held said m k o n h = record {
       ∙ said_found (λ (s : SlotImage). s.new) (same_pair (k, o) (method, old)) (record { method = k; old = o; new = n })
       (find (λ s. same_pair (slot_of s) (method, old)) m.slots) _ (h.slots method old);
   signatures = h.signatures;
+  documents = h.documents;
+  link = h.link;
   ascends = record {
     counts = h.ascends.counts;
     rows = h.ascends.rows;
@@ -255,6 +285,7 @@ slot_held said m k o n h = record {
     slotted = h.ascends.slotted;
     slots = put_rises slot_of same_pair pair_cmp pair_is pair_total pair_exact (record { method = k; old = o; new = n }) m.slots h.ascends.slots;
     signatures = h.ascends.signatures;
+    documents = h.ascends.documents;
   };
 }
 
@@ -272,6 +303,8 @@ signature_held said m k n h = record {
       (put_found signed_of nat_eq nat_cmp same_number nat_cmp_total exact_unsigned method (record { method = k; new = n }) m.signatures)
       ∙ said_found (λ (s : SignatureImage). s.new) (nat_eq k method) (record { method = k; new = n })
       (find (λ s. nat_eq s.method method) m.signatures) _ (h.signatures method);
+  documents = h.documents;
+  link = h.link;
   ascends = record {
     counts = h.ascends.counts;
     rows = h.ascends.rows;
@@ -281,6 +314,57 @@ signature_held said m k n h = record {
     slots = h.ascends.slots;
     signatures = put_rises signed_of nat_eq nat_cmp same_number nat_cmp_total exact_unsigned (record { method = k; new = n }) m.signatures
         h.ascends.signatures;
+    documents = h.ascends.documents;
+  };
+}
+
+document_held : (said : List Line) (m : Map) (d : NameLine) → HoldsWhat said m
+    → HoldsWhat (Document d ∷ said) (record m { documents = with_document d m.documents })
+document_held said m d h = record {
+  counts = h.counts;
+  rows = h.rows;
+  methods = h.methods;
+  drops = h.drops;
+  slotted = h.slotted;
+  slots = h.slots;
+  signatures = h.signatures;
+  documents = λ name.
+      ap (option_map (λ (d : NameLine). d.new))
+      (put_found name_of bytes_eq (slice_cmp nat_cmp) same_bytes nat_list_cmp_total exact_bytes name d m.documents)
+      ∙ said_found (λ (d : NameLine). d.new) (bytes_eq d.old name) d (find (λ d. bytes_eq d.old name) m.documents) _ (h.documents name);
+  link = h.link;
+  ascends = record {
+    counts = h.ascends.counts;
+    rows = h.ascends.rows;
+    methods = h.ascends.methods;
+    drops = h.ascends.drops;
+    slotted = h.ascends.slotted;
+    slots = h.ascends.slots;
+    signatures = h.ascends.signatures;
+    documents = put_rises name_of bytes_eq (slice_cmp nat_cmp) same_bytes nat_list_cmp_total exact_bytes d m.documents h.ascends.documents;
+  };
+}
+
+link_held : (said : List Line) (m : Map) (value : List ℕ) → HoldsWhat said m → HoldsWhat (Link value ∷ said) (record m { link = Some value })
+link_held said m value h = record {
+  counts = h.counts;
+  rows = h.rows;
+  methods = h.methods;
+  drops = h.drops;
+  slotted = h.slotted;
+  slots = h.slots;
+  signatures = h.signatures;
+  documents = h.documents;
+  link = refl;
+  ascends = record {
+    counts = h.ascends.counts;
+    rows = h.ascends.rows;
+    methods = h.ascends.methods;
+    drops = h.ascends.drops;
+    slotted = h.ascends.slotted;
+    slots = h.ascends.slots;
+    signatures = h.ascends.signatures;
+    documents = h.ascends.documents;
   };
 }
 
@@ -303,6 +387,8 @@ run_held said m run h = of (methods_of said) refl
         slotted = h.slotted;
         slots = h.slots;
         signatures = h.signatures;
+        documents = h.documents;
+        link = h.link;
         ascends = h.ascends;
       },
     )
@@ -320,6 +406,8 @@ run_held said m run h = of (methods_of said) refl
             slotted = h.slotted;
             slots = h.slots;
             signatures = h.signatures;
+            documents = h.documents;
+            link = h.link;
             ascends = record {
               counts = h.ascends.counts;
               rows = h.ascends.rows;
@@ -328,12 +416,13 @@ run_held said m run h = of (methods_of said) refl
               slotted = h.ascends.slotted;
               slots = h.ascends.slots;
               signatures = h.ascends.signatures;
+              documents = h.ascends.documents;
             };
           },
         )
 
 pub held : (said : List Line) → (m : Map) × HoldsWhat said m
-held [] = (map_of [] [] [] [] [] [] [], none_held)
+held [] = (map_of [] [] [] [] [] [] [] [] None, none_held)
 held (Silent ∷ said) = let m = held said in (m.0, silent_held said m.0 m.1)
 held (Rows t n ∷ said) = let m = held said in (_, rows_held said m.0 t n m.1)
 held (Row t o n ∷ said) = let m = held said in (_, row_held said m.0 t o n m.1)
@@ -343,3 +432,5 @@ held (Dropped k ∷ said) = let m = held said in (_, drop_held said m.0 k m.1)
 held (Slots k ∷ said) = let m = held said in (_, slots_held said m.0 k m.1)
 held (Slot k o n ∷ said) = let m = held said in (_, slot_held said m.0 k o n m.1)
 held (Signature k n ∷ said) = let m = held said in (_, signature_held said m.0 k n m.1)
+held (Document d ∷ said) = let m = held said in (_, document_held said m.0 d m.1)
+held (Link value ∷ said) = let m = held said in (_, link_held said m.0 value m.1)

@@ -19,9 +19,9 @@ use Rattle.ppdb_maps.specs.Readable.{IsLineOf}
 use Rattle.ppdb_maps.specs.Rules.{Breaks, BeginsEarly, EndsBeyond, run_alone, run_early, run_long}
 use Rattle.ppdb_maps.proofs.OneMap.{same_number}
 use Rattle.ppdb_maps.proofs.Refusing.{method_keeps}
-use Rattle.ppdb_maps_text.specs.MapTexts.{version_with, line_text, method_says}
+use Rattle.ppdb_maps_text.specs.MapTexts.{line_text, method_says}
 use Rattle.ppdb_maps_text.proofs.Ahead.{Ahead, not_yet, steps, not_before_of}
-use Rattle.ppdb_maps_text.proofs.Got.{Got, from_three, read_on}
+use Rattle.ppdb_maps_text.proofs.Got.{Got, version_of, from_three, read_on}
 use Rattle.ppdb_maps_text.proofs.Told.{method_told, run_told}
 
 -- the method's line among these
@@ -88,16 +88,16 @@ run_keeps said run line lines is follows late within rule (run_long {line = othe
 
 module _ (m : Map) (texts : List (List ℕ)) where
   add_method : (after : List Line) (l : MethodLine) (ms : List MethodLine) → IsLineOf m l
-      → Got m texts (Method l.method l.old_size l.new_size ∷ after) [] [] [] [] [] [] (MethodsAhead m (l ∷ ms))
-      → Got m texts after [] [] [] [] [] [] (Open m l [] ms)
+      → Got m texts (Method l.method l.old_size l.new_size ∷ after) [] [] [] [] [] [] [] (MethodsAhead m (l ∷ ms))
+      → Got m texts after [] [] [] [] [] [] [] (Open m l [] ms)
   add_method after l ms is g =
       let new : is_some (line_among (methods_of g.said) l.method) ≡ false =
       not_yet (λ (l : MethodLine). l.method) (λ (l : MethodLine). l) nat_eq nat_cmp same_number nat_cmp_total (λ k. line_among (methods_of g.said) k) l ms
       (λ k. option_map (λ (l : MethodLine). l) (line_among m.methods k)) g.rest in
       let drop : drop_in g.said l.method ≡ false = not_before_of (λ n. drop_in g.said n) [] (λ n. is_dropped m n) g.drops l.method is.4 in
       let line : Line = Method l.method l.old_size l.new_size in
-      let next = read_on (version_with m.signatures) g.prefix texts g.said after (Method l.method l.old_size l.new_size) g.read g.plain g.whole
-      (method_told (version_with m.signatures) (from_three m.signatures) l.method l.old_size l.new_size is.0.0 is.0.1 is.1 is.2)
+      let next = read_on (version_of m) g.prefix texts g.said after (Method l.method l.old_size l.new_size) g.read g.plain g.whole
+      (method_told (version_of m) (from_three m) l.method l.old_size l.new_size is.0.0 is.0.1 is.1 is.2)
       (method_keeps g.said l.method l.old_size l.new_size new drop) in
       record {
         said = Method l.method l.old_size l.new_size ∷ g.said;
@@ -111,12 +111,14 @@ module _ (m : Map) (texts : List (List ℕ)) where
         slotted = g.slotted;
         slots = g.slots;
         signatures = g.signatures;
+        documents = g.documents;
+        link = g.link;
         rest = record { lines = methods_of g.said; is = refl; follows = refl; ahead = g.rest };
       }
 
   add_run : (after : List Line) (l : MethodLine) (ms : List MethodLine) (done rest : List Run) (run : Run) → IsLineOf m l
       → RiseFrom 0 0 (done ++ (run ∷ (rest ++ sizes l.old_size l.new_size ∷ [])))
-      → Got m texts (Kept run ∷ after) [] [] [] [] [] [] (Open m l done ms) → Got m texts after [] [] [] [] [] [] (Open m l (done ++ run ∷ []) ms)
+      → Got m texts (Kept run ∷ after) [] [] [] [] [] [] [] (Open m l done ms) → Got m texts after [] [] [] [] [] [] [] (Open m l (done ++ run ∷ []) ms)
   add_run after l ms done rest run is rise g =
       let o = g.rest in
       let h : (0 < run.length) × (end_of run ≤ l.old_size) × (new_end_of run ≤ l.new_size) =
@@ -128,8 +130,8 @@ module _ (m : Map) (texts : List (List ℕ)) where
       let new_to : l.new_size ≤ OFFSETS = is.2 in
       let within : EndsBeyond run (with_runs l done) → ⊥ = λ beyond. elim beyond [ inl b ↦ omega (arith, b, old) | inr b ↦ omega (arith, b, new) ] in
       let late : BeginsEarly run done → ⊥ = begins_late 0 0 done (rest ++ sizes l.old_size l.new_size ∷ []) run rise in
-      let next = read_on (version_with m.signatures) g.prefix texts g.said after (Kept run) g.read g.plain g.whole
-      (run_told (version_with m.signatures) (from_three m.signatures) run (omega (arith, old, old_to)) (omega (arith, new, new_to)) (omega (arith, long))
+      let next = read_on (version_of m) g.prefix texts g.said after (Kept run) g.read g.plain g.whole
+      (run_told (version_of m) (from_three m) run (omega (arith, old, old_to)) (omega (arith, new, new_to)) (omega (arith, long))
       (omega (arith, old, old_to)))
       (run_keeps g.said run (with_runs l done) o.lines o.is o.follows late within) in
       record {
@@ -144,21 +146,23 @@ module _ (m : Map) (texts : List (List ℕ)) where
         slotted = g.slotted;
         slots = g.slots;
         signatures = g.signatures;
+        documents = g.documents;
+        link = g.link;
         rest = record { lines = o.lines; is = ap (with_run run) o.is; follows = o.follows; ahead = o.ahead };
       }
 
   add_runs : (after : List Line) (l : MethodLine) (ms : List MethodLine) (runs done : List Run) → IsLineOf m l
-      → RiseFrom 0 0 (done ++ (runs ++ sizes l.old_size l.new_size ∷ [])) → Got m texts (map Kept runs ++ after) [] [] [] [] [] [] (Open m l done ms)
-      → Got m texts after [] [] [] [] [] [] (Open m l (done ++ runs) ms)
-  add_runs after l ms [] done is rise g = subst (λ d. Got m texts after [] [] [] [] [] [] (Open m l d ms)) (sym (append-nil done)) g
+      → RiseFrom 0 0 (done ++ (runs ++ sizes l.old_size l.new_size ∷ [])) → Got m texts (map Kept runs ++ after) [] [] [] [] [] [] [] (Open m l done ms)
+      → Got m texts after [] [] [] [] [] [] [] (Open m l (done ++ runs) ms)
+  add_runs after l ms [] done is rise g = subst (λ d. Got m texts after [] [] [] [] [] [] [] (Open m l d ms)) (sym (append-nil done)) g
   add_runs after l ms (run ∷ runs) done is rise g =
       let next = add_run (map Kept runs ++ after) l ms done runs run is rise g in
       let further = add_runs after l ms runs (done ++ run ∷ []) is
       (subst (RiseFrom 0 0) (sym (append_assoc done (run ∷ []) (runs ++ sizes l.old_size l.new_size ∷ []))) rise) next in
-      subst (λ d. Got m texts after [] [] [] [] [] [] (Open m l d ms)) (append_assoc done (run ∷ []) runs) further
+      subst (λ d. Got m texts after [] [] [] [] [] [] [] (Open m l d ms)) (append_assoc done (run ∷ []) runs) further
 
-  close : (after : List Line) (l : MethodLine) (ms : List MethodLine) → Got m texts after [] [] [] [] [] [] (Open m l l.runs ms)
-      → Got m texts after [] [] [] [] [] [] (MethodsAhead m ms)
+  close : (after : List Line) (l : MethodLine) (ms : List MethodLine) → Got m texts after [] [] [] [] [] [] [] (Open m l l.runs ms)
+      → Got m texts after [] [] [] [] [] [] [] (MethodsAhead m ms)
   close after l ms g =
       let o = g.rest in
       let closed : LinesAhead m (l ∷ o.lines) ms =
@@ -176,11 +180,13 @@ module _ (m : Map) (texts : List (List ℕ)) where
         slotted = g.slotted;
         slots = g.slots;
         signatures = g.signatures;
+        documents = g.documents;
+        link = g.link;
         rest = subst (λ lines. LinesAhead m lines ms) (sym o.is) closed;
       }
 
-  pub add_methods : (ms : List MethodLine) → AllByRecursion (IsLineOf m) ms → Got m texts (flat_map method_says ms) [] [] [] [] [] [] (MethodsAhead m ms)
-      → Got m texts [] [] [] [] [] [] [] (MethodsAhead m [])
+  pub add_methods : (ms : List MethodLine) → AllByRecursion (IsLineOf m) ms → Got m texts (flat_map method_says ms) [] [] [] [] [] [] [] (MethodsAhead m ms)
+      → Got m texts [] [] [] [] [] [] [] [] (MethodsAhead m [])
   add_methods [] all g = g
   add_methods (l ∷ ms) all g =
       add_methods ms all.1 (close (flat_map method_says ms) l ms

@@ -1,10 +1,10 @@
 -- What is put one after the other is put as one text.
-use Rattle.std.proofs.Common.{ℕ, zero, suc, ◌≡◌, ◌+◌, ◌<◌, ◌++◌, List, [], ◌∷◌, length, get_or, map, take, sym, ap, ◌∙◌, arith, add-one, subst}
+use Rattle.std.proofs.Common.{ℕ, zero, suc, ◌≡◌, ◌+◌, ◌<◌, ◌++◌, List, [], ◌∷◌, length, get_or, map, take, sym, ap, ◌∙◌, arith, add-one, subst, Result, Ok, Err, OnOk}
 use Rattle.std.specs.Fmt.{decimal}
 use Rattle.std.proofs.Math.Seq.{take-length}
 use Rattle.std.proofs.lemmas.List.{append_assoc, append-nil, length-append}
 use Rattle.ppdb_maps_text.specs.declared.counted.Counted.{Counted}
-use Rattle.ppdb_maps_text.specs.MapTexts.{spaced}
+use Rattle.ppdb_maps_text.specs.MapTexts.{spaced, ended}
 use Rattle.ppdb_maps_text.specs.Putting.{Puts}
 
 pub puts_then : (old mid new : Counted) (s t : List ℕ) → Puts old mid s → Puts mid new t → Puts old new (s ++ t)
@@ -40,3 +40,18 @@ puts_number old mid new word numbers i within before put =
 pub puts_all : (old new : Counted) (word numbers : List ℕ) → Puts old new (spaced word (map decimal (take (length numbers) numbers)))
     → Puts old new (spaced word (map decimal numbers))
 puts_all old new word numbers put = subst (λ ns. Puts old new (spaced word (map decimal ns))) (take-length numbers) put
+
+-- a line of words that are put one by one
+pub puts_words : (a b d e f : Counted) (word x y : List ℕ) → Puts a b word → Puts b d (32 ∷ x) → Puts d e (32 ∷ y) → Puts e f (10 ∷ [])
+    → Puts a f (ended (spaced word (x ∷ y ∷ [])))
+puts_words a b d e f word x y first second third end =
+    subst (Puts a f)
+    (sym (append_assoc word ((32 ∷ x) ++ ((32 ∷ y) ++ [])) (10 ∷ [])
+    ∙ ap (λ t. word ++ t) (append_assoc (32 ∷ x) ((32 ∷ y) ++ []) (10 ∷ [])
+    ∙ ap (λ t. (32 ∷ x) ++ (t ++ 10 ∷ [])) (append-nil (32 ∷ y)))))
+    (puts_then a b f word ((32 ∷ x) ++ ((32 ∷ y) ++ 10 ∷ [])) first
+    (puts_then b d f (32 ∷ x) ((32 ∷ y) ++ 10 ∷ []) second (puts_then d e f (32 ∷ y) (10 ∷ []) third end)))
+
+pub ok_then : {T E : Type 0} {P Q : Type 0} (r : Result T E) → OnOk r P → (P → Q) → OnOk r Q
+ok_then (Ok x) h f = f h
+ok_then (Err e) h f = tt

@@ -7,13 +7,16 @@ use Rattle.std.proofs.lemmas.Bool.{cases_lt, lt-ltb, le-ltb}
 use Rattle.ppdb_base.specs.declared.offsets.Run.{Run}
 use Rattle.ppdb_maps.specs.Words.{IsSilent}
 use Rattle.ppdb_maps.specs.Forms.{name_of, words_in, since, IsNumber, IsTable, IsHexDigit, ROWS, OFFSETS, SLOTS, Values, Tells, told}
-use Rattle.ppdb_maps.specs.Forms.{rows_line, row_line, method_line, run_line, drop_line, slots_line, slot_line, signature_line}
+use Rattle.ppdb_maps.specs.Forms.{rows_line, row_line, method_line, run_line, drop_line, slots_line, slot_line, signature_line, document_line, link_line, AreBytes, IsEscaped}
 use Rattle.ppdb_maps.specs.declared.line.Form.{Form}
 use Rattle.ppdb_maps.specs.declared.line.Form.TheVariants.{TableRows, RowMove, MethodSizes, OffsetRun, MethodDrop, MethodSlots, SlotMove, MethodSignature}
+use Rattle.ppdb_maps.specs.declared.line.Form.TheVariants.{DocumentRename, LinkValue}
 use Rattle.ppdb_maps.specs.declared.line.Line.{Line}
-use Rattle.ppdb_maps.specs.declared.line.Line.TheVariants.{Rows, Row, Method, Kept, Dropped, Slots, Slot, Signature}
+use Rattle.ppdb_maps.specs.declared.line.Line.TheVariants.{Rows, Row, Method, Kept, Dropped, Slots, Slot, Signature, Document, Link}
+use Rattle.ppdb_maps.specs.declared.entries.NameLine.{NameLine}
+use Rattle.ppdb_base.specs.Escaped.{escaped}
 use Rattle.ppdb_maps_text.specs.MapTexts.{spaced, table_word, line_text}
-use Rattle.ppdb_maps_text.proofs.Words.{IsWord, IsPlain, line_words_spaced, spaced_is_plain, decimal_is_word}
+use Rattle.ppdb_maps_text.proofs.Words.{IsWord, IsPlain, line_words_spaced, spaced_is_plain, decimal_is_word, escaped_is_word}
 
 -- a line that says what it was spelled from, and that a text of the version can have
 pub record IsTold (version : ℕ) (line : Line) : Type 0 where
@@ -30,6 +33,9 @@ name_is_word MethodSlots = (omega arith, (omega arith, (omega arith, (omega arit
 name_is_word SlotMove = (omega arith, (omega arith, (omega arith, (omega arith, tt))))
 name_is_word MethodSignature =
     (omega arith, (omega arith, (omega arith, (omega arith, (omega arith, (omega arith, (omega arith, (omega arith, (omega arith, tt)))))))))
+name_is_word DocumentRename =
+    (omega arith, (omega arith, (omega arith, (omega arith, (omega arith, (omega arith, (omega arith, (omega arith, tt))))))))
+name_is_word LinkValue = (omega arith, (omega arith, (omega arith, (omega arith, tt))))
 
 loud : (form : Form) (values : List (List ℕ)) → IsSilent (spaced (name_of form) values) → ⊥
 loud TableRows values silent = omega (arith, silent)
@@ -40,6 +46,8 @@ loud MethodDrop values silent = omega (arith, silent)
 loud MethodSlots values silent = omega (arith, silent)
 loud SlotMove values silent = omega (arith, silent)
 loud MethodSignature values silent = omega (arith, silent)
+loud DocumentRename values silent = omega (arith, silent)
+loud LinkValue values silent = omega (arith, silent)
 
 told_form : (version : ℕ) (form : Form) (values : List (List ℕ)) (line : Line) → spaced (name_of form) values ≡ line_text line → AllByRecursion IsWord values
     → length (name_of form ∷ values) ≡ words_in form → since form ≤ version → Values form values line → IsTold version line
@@ -135,3 +143,15 @@ signature_told version there method new from to new_to =
     told_form version MethodSignature (decimal method ∷ decimal new ∷ []) (Signature method new) refl
     (number_word method (omega (arith, to)), (number_word new (omega (arith, new_to)), tt)) refl there
     (signature_line (number method 1 ROWS from to) (number new 0 ROWS (omega arith) new_to))
+
+spelling : (bytes : List ℕ) → AreBytes bytes → IsEscaped (escaped bytes) bytes
+spelling bytes all = record { spelled = refl; within = all }
+
+pub document_told : (version : ℕ) → 4 ≤ version → (d : NameLine) → AreBytes d.old → AreBytes d.new → IsTold version (Document d)
+document_told version there d old new =
+    told_form version DocumentRename (escaped d.old ∷ escaped d.new ∷ []) (Document d) refl
+    (escaped_is_word d.old old, (escaped_is_word d.new new, tt)) refl there (document_line (spelling d.old old) (spelling d.new new))
+
+pub link_told : (version : ℕ) → 4 ≤ version → (value : List ℕ) → AreBytes value → IsTold version (Link value)
+link_told version there value all =
+    told_form version LinkValue (escaped value ∷ []) (Link value) refl (escaped_is_word value all, tt) refl there (link_line (spelling value all))

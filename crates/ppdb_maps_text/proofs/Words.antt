@@ -1,16 +1,21 @@
 -- The lines of a text whose lines are ended, and the words of a line whose words stand apart.
-use Rattle.std.proofs.Common.{ℕ, zero, suc, ◌≡◌, ◌<◌, ◌≤◌, ◌-◌, ◌^◌, ◌++◌, false, List, [], ◌∷◌, length, refl, sym, ap, ◌∙◌, subst, arith}
+use Rattle.std.proofs.Common.{ℕ, zero, suc, ◌≡◌, ◌<◌, ◌≤◌, ◌-◌, ◌^◌, ◌/◌, ◌%◌, ◌++◌, Bool, true, false, inl, inr, List, [], ◌∷◌, length, refl, sym, ap, ◌∙◌, subst, arith}
 use Rattle.std.specs.Prelude.{◌==◌}
 use Rattle.std.specs.Fmt.{decimal}
 use Rattle.std.specs.List.{AllByRecursion, flat_map, slice_index}
 use Rattle.std.specs.Str.Lines.{lines_of_parts, strip_carriage_return}
 use Rattle.std.specs.Str.Parse.{AllDigits}
 use Rattle.std.proofs.lemmas.Bool.{eq-eqb, ne_eqb}
+use Rattle.std.proofs.lemmas.Bool.Decides.{nat_tests}
 use Rattle.std.proofs.lemmas.Fmt.{digits_decimal}
 use Rattle.std.proofs.lemmas.List.{append_assoc, append-nil}
 use Rattle.std.proofs.lemmas.Str.Parse.{digit_from_value}
 use Rattle.ppdb_maps.specs.Words.{parts_at, line_words}
+use Rattle.ppdb_base.specs.Escaped.{is_plain, escaped_byte, escaped}
+use Rattle.ppdb_maps.specs.Escapes.{IsLowerDigit}
+use Rattle.ppdb_maps.specs.Forms.{AreBytes}
 use Rattle.ppdb_maps.proofs.Numbers.{numerals}
+use Rattle.ppdb_maps.proofs.Spelled.{digit, digit_lower, plain_text, code_text}
 use Rattle.ppdb_maps_text.specs.MapTexts.{spaced, ended}
 
 -- printed characters and spaces alone
@@ -91,3 +96,33 @@ lines_kept (line ∷ next ∷ lines) all =
 -- the lines of ended lines are the lines
 pub lines_ended : (lines : List (List ℕ)) → AllByRecursion IsPlain lines → lines_of_parts (parts_at 10 (flat_map ended lines)) ≡ lines
 lines_ended lines all = ap lines_of_parts (parts_ended lines all) ∙ lines_kept lines all
+
+-- ---- spellings
+
+digit_is_printed : (d : ℕ) → d < 16 → 33 ≤ digit d
+digit_is_printed d below = by (digit d) (digit_lower d below)
+  where
+    by : (c : ℕ) → IsLowerDigit c d → 33 ≤ c
+    by c (inl h) = let e = h.1 in omega (arith, e)
+    by c (inr h) = let e = h.2 in omega (arith, e)
+
+printed_from : (b : ℕ) → is_plain b ≡ true → 33 ≤ b
+printed_from b is = grind (arith, nat_tests)
+
+byte_is_word : (b : ℕ) → b < 256 → IsWord (escaped_byte b)
+byte_is_word b below = of (is_plain b) refl
+  where
+    of : (c : Bool) → is_plain b ≡ c → IsWord (escaped_byte b)
+    of true is = subst IsWord (sym (plain_text b is)) (printed_from b is, tt)
+    of false is = subst IsWord (sym (code_text b is))
+        (omega arith, (omega arith, (digit_is_printed (b / 16) (omega arith), (digit_is_printed (b % 16) (omega arith), tt))))
+
+bytes_are_word : (bytes : List ℕ) → AreBytes bytes → IsWord (flat_map escaped_byte bytes)
+bytes_are_word [] all = tt
+bytes_are_word (b ∷ bs) all =
+    all_append (λ b. 33 ≤ b) (escaped_byte b) (flat_map escaped_byte bs) (byte_is_word b all.0) (bytes_are_word bs all.1)
+
+-- a spelling is a word
+pub escaped_is_word : (bytes : List ℕ) → AreBytes bytes → IsWord (escaped bytes)
+escaped_is_word [] all = (omega arith, (omega arith, tt))
+escaped_is_word (b ∷ bs) all = bytes_are_word (b ∷ bs) all

@@ -1,7 +1,8 @@
 -- The canonical text of a map (docs/FORMAT.md, "Map texts"): what its lines say, in their order, and how each is spelled.
-use Rattle.std.specs.{Prelude.{ℕ, ◌+◌, ◌/◌, ◌%◌, List, [], ◌∷◌, ◌++◌, codes, map, decimal, flat_map}, Char.digit_char}
-use Rattle.ppdb_maps.specs.{declared.entries.{Count.Count, RowImage.RowImage, SlotImage.SlotImage, SignatureImage.SignatureImage}, declared.line.Line.Line}
-use Rattle.ppdb_maps.specs.{declared.line.Line.TheVariants.{Silent, Rows, Row, Method, Kept, Dropped, Slots, Slot, Signature}, Map.{Map, MethodLine, rows_of, slots_of}}
+use Rattle.std.specs.{Prelude.{ℕ, ◌+◌, ◌/◌, ◌%◌, List, [], ◌∷◌, ◌++◌, Option, Some, None, codes, map, decimal, flat_map}, Char.digit_char}
+use Rattle.ppdb_base.specs.Escaped.{escaped}
+use Rattle.ppdb_maps.specs.{declared.entries.{Count.Count, RowImage.RowImage, SlotImage.SlotImage, SignatureImage.SignatureImage, NameLine.NameLine}, declared.line.Line.Line}
+use Rattle.ppdb_maps.specs.{declared.line.Line.TheVariants.{Silent, Rows, Row, Method, Kept, Dropped, Slots, Slot, Signature, Document, Link}, Map.{Map, MethodLine, rows_of, slots_of}}
 
 -- a word, and words after it, apart by one space
 abbrev pub spaced : List ℕ → List (List ℕ) → List ℕ
@@ -22,6 +23,8 @@ line_text (Dropped method) = spaced (codes "drop") (decimal method ∷ [])
 line_text (Slots method) = spaced (codes "slots") (decimal method ∷ [])
 line_text (Slot method old new) = spaced (codes "slot") (decimal method ∷ decimal old ∷ decimal new ∷ [])
 line_text (Signature method new) = spaced (codes "signature") (decimal method ∷ decimal new ∷ [])
+line_text (Document d) = spaced (codes "document") (escaped d.old ∷ escaped d.new ∷ [])
+line_text (Link value) = spaced (codes "link") (escaped value ∷ [])
 
 -- what the lines of an entry say
 abbrev pub row_says : RowImage → Line
@@ -45,23 +48,32 @@ slots_say m method = Slots method ∷ map slot_says (slots_of m method)
 abbrev pub method_says : MethodLine → List Line
 method_says line = Method line.method line.old_size line.new_size ∷ map Kept line.runs
 
--- tables with their rows, dropped methods, slots, local signatures, methods with their runs
+-- the value of Source Link records, where the map has one
+abbrev pub link_says : Option (List ℕ) → List Line
+link_says None = []
+link_says (Some value) = Link value ∷ []
+
+-- the value of Source Link records, tables with their rows, dropped methods, slots, local signatures, names of documents, methods with their runs
 abbrev pub map_says : Map → List Line
 map_says m =
-    flat_map (count_says m) m.counts
-    ++ (map Dropped m.drops ++ (flat_map (slots_say m) m.slotted ++ (map signature_says m.signatures ++ flat_map method_says m.methods)))
+    link_says m.link
+    ++ (flat_map (count_says m) m.counts
+    ++ (map Dropped m.drops
+    ++ (flat_map (slots_say m) m.slotted ++ (map signature_says m.signatures ++ (map Document m.documents ++ flat_map method_says m.methods)))))
 
--- the version of the text: 4 where a `signature` line is there, else 3
-abbrev pub version_with : List SignatureImage → ℕ
-version_with [] = 3
-version_with (_ ∷ _) = 4
+-- the version of the text: 4 where a `signature`, a `document` or a `link` line is there, else 3
+abbrev pub version_with : List SignatureImage → List NameLine → Option (List ℕ) → ℕ
+version_with [] [] None = 3
+version_with [] [] (Some _) = 4
+version_with [] (_ ∷ _) link = 4
+version_with (_ ∷ _) documents link = 4
 
 -- line 1 of a text of the version: 48 is the digit 0
 abbrev pub head_text : ℕ → List ℕ
 head_text version = codes "ppdbmap " ++ (48 + version) ∷ []
 
 abbrev pub map_lines : Map → List (List ℕ)
-map_lines m = head_text (version_with m.signatures) ∷ map line_text (map_says m)
+map_lines m = head_text (version_with m.signatures m.documents m.link) ∷ map line_text (map_says m)
 
 -- each line is ended by LF
 abbrev pub ended : List ℕ → List ℕ

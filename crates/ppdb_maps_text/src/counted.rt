@@ -1,10 +1,11 @@
 // A text that is counted on beyond the longest one that is kept.
 ghost use Rattle.std.specs.Prelude.{◌≡◌, ℕ, ◌<◌, ◌≤◌, ◌↔◌, List, [], ◌∷◌, length, IsTrue, OnOk};
 ghost use Rattle.std.specs.Fmt.{decimal};
+ghost use Rattle.ppdb_base.specs.Escaped.{escaped};
 ghost use Rattle.ppdb_maps_text.specs.Putting.{LONGEST, Puts};
 
 use itoa::Buffer;
-use ppdb_base::{Bytes, MAX_FILE_BYTES, Memory};
+use ppdb_base::{Bytes, MAX_FILE_BYTES, Memory, SteadySink, put_escaped};
 use std::alloc::Global;
 
 /// A text and its length. Past 134217728 bytes the text is let go, and its length is counted on.
@@ -76,6 +77,19 @@ impl Counted {
     {
         self.put(b" ")?;
         self.put(Buffer::new().format(number).as_bytes())
+    }
+
+    /// Puts a space and the spelling of bytes.
+    pub fn put_spelled(&mut self, bytes: &[u8]) -> Result<(), Memory>
+        ensures { OnOk result (Puts self.old self.new (32 ∷ escaped bytes.now)) }
+    {
+        let mut text = SteadySink::new(self.alloc);
+        match put_escaped(&mut text, bytes) {
+            Ok(()) => {}
+            Err(_) => return Err(Memory),
+        }
+        self.put(&[b' '])?;
+        self.put(text.as_slice())
     }
 }
 

@@ -2,7 +2,7 @@
 ghost use Rattle.std.specs.Prelude.{◌≡◌, ◌<◌, ◌≤◌, map, OnOk};
 ghost use Rattle.std.specs.Char.{digit_char};
 ghost use Rattle.std.specs.Fmt.{decimal};
-ghost use Rattle.ppdb_maps.specs.declared.line.Line.TheVariants.{Rows, Row, Method, Kept, Dropped, Slots, Slot, Signature};
+ghost use Rattle.ppdb_maps.specs.declared.line.Line.TheVariants.{Rows, Row, Method, Kept, Dropped, Slots, Slot, Signature, Document, Link};
 ghost use Rattle.ppdb_maps_text.specs.MapTexts.{spaced, ended, head_text, line_text};
 ghost use Rattle.ppdb_maps_text.specs.Putting.{Puts};
 
@@ -62,6 +62,25 @@ impl Counted {
         ensures { OnOk result (Puts self.old self.new (ended (line_text (Signature method new)))) }
     {
         self.put_line(b"signature", &[method, new])
+    }
+
+    /// Puts the line `document OLD NEW`, of names that are not escaped.
+    pub fn put_document(&mut self, old: &[u8], new: &[u8]) -> Result<(), Memory>
+        ensures { OnOk result (Puts self.old self.new (ended (line_text (Document (record { old = old.now; new = new.now }))))) }
+    {
+        self.put(b"document")?;
+        self.put_spelled(old)?;
+        self.put_spelled(new)?;
+        self.put(&[b'\n'])
+    }
+
+    /// Puts the line `link VALUE`, of a value that is not escaped.
+    pub fn put_link(&mut self, value: &[u8]) -> Result<(), Memory>
+        ensures { OnOk result (Puts self.old self.new (ended (line_text (Link value.now)))) }
+    {
+        self.put(b"link")?;
+        self.put_spelled(value)?;
+        self.put(&[b'\n'])
     }
 
     /// Puts the line `method M OLDSIZE NEWSIZE`.

@@ -2,18 +2,20 @@
 use Rattle.std.proofs.Common.{◌≡◌, ◌≢◌, ℕ, suc, ◌+◌, ◌<◌, ◌≤◌, Bool, true, List, [], ◌∷◌, ◌++◌, Option, Some, None, map, length, take}
 use Rattle.std.proofs.Common.{refl, sym, ◌∙◌, ap, subst, arith}
 use Rattle.std.specs.Prelude.{slice_get, Result, Ok, Err, IfOk}
-use Rattle.std.specs.List.{enumerate_from}
 use Rattle.ppdb_base.specs.declared.merge_error.MergeError.{MergeError}
 use Rattle.ppdb_base.specs.declared.list.Memory.{Memory}
 use Rattle.ppdb_maps.specs.Map.{Map}
 use Rattle.ppdb_maps.specs.Readable.{IsReadable}
+use Rattle.ppdb_tables.specs.declared.rows.CustomRow.{CustomRow}
 use Rattle.ppdb_tables.specs.declared.rows.DocumentRow.{DocumentRow}
 use Rattle.ppdb_tables.specs.RawTables.{HasShape}
+use Rattle.ppdb_values.specs.Customs.{custom_of}
 use Rattle.ppdb_values.specs.Documents.{document_of}
+use Rattle.ppdb_values.specs.declared.custom.CustomValue.{CustomValue}
 use Rattle.ppdb_values.specs.declared.file.DocumentValue.{DocumentValue}
 use Rattle.ppdb_values.specs.declared.file.FileValue.{FileValue}
 use Rattle.ppdb_values.specs.declared.annotation.Annotation.{Annotation}
-use Rattle.ppdb_values.specs.Meaning.{annotated_on}
+use Rattle.ppdb_values.specs.Meaning.{annotated_from}
 use Rattle.ppdb_values.specs.RawFile.{RawFile}
 use Rattle.ppdb_values.specs.Rules.{KeepsRules}
 use Rattle.ppdb_values.specs.Value.{value_of}
@@ -21,7 +23,7 @@ use Rattle.ppdb_values_sound_laws.specs.Sound.{IsSound}
 use Rattle.ppdb_merge_items.specs.declared.file.AnnotatedFile.{AnnotatedFile}
 use Rattle.ppdb_merge_items.specs.Each.{Pairs}
 use Rattle.ppdb_merge_items.specs.Laws.{SoundnessIsAnnotated}
-use Rattle.ppdb_merge_items.specs.Annotated.{annotated_file, items_of}
+use Rattle.ppdb_merge_items.specs.Annotated.{annotated_file, items_of, with_item}
 use Rattle.ppdb_merge_items.specs.Unannotated.{value_of_annotated}
 use Rattle.ppdb_merge_items.proofs.Lists.{Each-append, Each-map, Each-weaker, Pairs-map}
 use Rattle.ppdb_merge_names_laws.specs.Laws.{ReferencesAreNamed}
@@ -29,7 +31,7 @@ use Rattle.ppdb_merge_joined.specs.Joined.{joined}
 use Rattle.ppdb_merge_joined.specs.Laws.{JoinedIsSound}
 use Rattle.ppdb_merge_items.specs.SoundParts.{SoundMoved}
 use Rattle.ppdb_merge_moved.specs.Fits.{Fits}
-use Rattle.ppdb_merge_moved.specs.Moved.{moved_file}
+use Rattle.ppdb_merge_moved.specs.Moved.{moved_file, moved_document}
 use Rattle.ppdb_merge_moved.proofs.SoundMoves.{moved_sound}
 use Rattle.ppdb_merge_meaning_laws.specs.Kept.{MovedBy, InputsFit, joined_inputs}
 use Rattle.ppdb_merge_names.specs.declared.imaged.Imaged.{Imaged}
@@ -40,7 +42,7 @@ use Rattle.ppdb_merge.specs.declared.trace.Trace.{Trace}
 use Rattle.ppdb_merge.specs.Indexes.{Indexes}
 use Rattle.ppdb_merge.specs.Kept.{AreInputs}
 use Rattle.ppdb_merge.specs.Merged.{trace_of, moved_files, is_first}
-use Rattle.ppdb_merge.specs.Refusals.{methods_taken, documents_differ, clashes_before, or_first, refusal_of, added, with_trace}
+use Rattle.ppdb_merge.specs.Refusals.{methods_taken, documents_differ, links_differ, clashes_before, or_first, refusal_of, added, with_trace}
 use Rattle.ppdb_merge_joined.specs.Small.{AreFew, HasFewRows}
 use Rattle.ppdb_merge.specs.Sound.{SoundTrace, SoundTraces, AreMethodsApart, HasEntry, documents_in}
 use Rattle.ppdb_merge.specs.Together.{misfit_of}
@@ -52,11 +54,11 @@ use Rattle.ppdb_merge.proofs.Told.{empty_of, empty_both}
 use Rattle.ppdb_merge_meaning_laws.proofs.Counts.{moved_counts_sound}
 use Rattle.ppdb_merge.proofs.Traced.{file_sound, moved_images, moved_entry}
 
--- the documents of a file, with their records, are its documents
-items_are : (value : FileValue) (n : ℕ) (ds : List DocumentValue)
-    → items_of (map (λ (item : ℕ × DocumentValue). record { item = item.1; customs = annotated_on value 0x30 item.0 }) (enumerate_from n ds)) ≡ ds
-items_are value n [] = refl
-items_are value n (d ∷ ds) = ap (λ l. d ∷ l) (items_are value (n + 1) ds)
+-- the documents of a moved file, with their records, are its documents with the names that the map gives
+items_are : (m : Map) (value : FileValue) (n : ℕ) (ds : List DocumentValue)
+    → items_of (map (with_item (moved_document m)) (annotated_from value 0x30 n ds)) ≡ map (moved_document m) ds
+items_are m value n [] = refl
+items_are m value n (d ∷ ds) = ap (λ l. moved_document m d ∷ l) (items_are m value (n + 1) ds)
 
 length_next : {A : Type 0} (xs : List A) (x : A) → length (xs ++ x ∷ []) ≡ length xs + 1
 length_next [] x = omega arith
@@ -64,25 +66,25 @@ length_next (y ∷ ys) x = let rest = length_next ys x in omega (arith, rest)
 
 -- a file that is not refused does not clash
 pub none_before : (marks : List (List ℕ)) (traces : List Trace) (m : Map) (raw : RawFile) → refusal_of marks traces m raw ≡ None
-    → clashes_before traces (trace_of (is_first traces) m raw).rows (value_of raw).documents ≡ []
+    → clashes_before traces m (trace_of (is_first traces) m raw).rows (value_of raw) ≡ []
 none_before marks traces m raw is = empty_of _ (by (first_clash marks (is_first traces) m raw) is)
   where
     by : (o : Option MergeError)
-        → or_first o (clashes_before traces (trace_of (is_first traces) m raw).rows (value_of raw).documents) ≡ None
-        → slice_get (clashes_before traces (trace_of (is_first traces) m raw).rows (value_of raw).documents) 0 ≡ None
+        → or_first o (clashes_before traces m (trace_of (is_first traces) m raw).rows (value_of raw)) ≡ None
+        → slice_get (clashes_before traces m (trace_of (is_first traces) m raw).rows (value_of raw)) 0 ≡ None
     by None e = e
     by (Some told) e = absurd cc
 
 pub refused_by : (marks : List (List ℕ)) (traces : List Trace) (m : Map) (raw : RawFile) (o : Option MergeError)
     → first_clash marks (is_first traces) m raw ≡ None
-    → o ≡ slice_get (clashes_before traces (trace_of (is_first traces) m raw).rows (value_of raw).documents) 0 → refusal_of marks traces m raw ≡ o
+    → o ≡ slice_get (clashes_before traces m (trace_of (is_first traces) m raw).rows (value_of raw)) 0 → refusal_of marks traces m raw ≡ o
 refused_by marks traces m raw o none is =
-    ap (λ first. or_first first (clashes_before traces (trace_of (is_first traces) m raw).rows (value_of raw).documents)) none ∙ sym is
+    ap (λ first. or_first first (clashes_before traces m (trace_of (is_first traces) m raw).rows (value_of raw))) none ∙ sym is
 
 pub refused_first : (marks : List (List ℕ)) (traces : List Trace) (m : Map) (raw : RawFile) (e : MergeError)
     → first_clash marks (is_first traces) m raw ≡ Some e → refusal_of marks traces m raw ≡ Some e
 refused_first marks traces m raw e is =
-    ap (λ first. or_first first (clashes_before traces (trace_of (is_first traces) m raw).rows (value_of raw).documents)) is
+    ap (λ first. or_first first (clashes_before traces m (trace_of (is_first traces) m raw).rows (value_of raw))) is
 
 -- a moved file has few documents
 pub few_moved : (m : Map) (raw : RawFile) → HasShape raw.tables → length (moved_file m (annotated_file (value_of raw))).documents < 0x20000000
@@ -101,11 +103,14 @@ module _ (annotated : SoundnessIsAnnotated) (named : ReferencesAreNamed) (m : Ma
     images = moved_images annotated named first m raw keeps sound ready fits;
   }
 
-  names_differ : (first : Bool) → Fits first m (annotated_file (value_of raw)) → Pairs (λ (a b : DocumentValue). a.name ≢ b.name) (value_of raw).documents
+  names_differ : (first : Bool) → Fits first m (annotated_file (value_of raw))
+      → Pairs (λ (a b : DocumentValue). a.name ≢ b.name) (map (moved_document m) (value_of raw).documents)
   names_differ first fits =
-      subst (Pairs (λ (a b : DocumentValue). a.name ≢ b.name)) (items_are (value_of raw) 1 (value_of raw).documents)
-      (Pairs-map (λ (n : Annotation DocumentValue). n.item) (λ (a b : DocumentValue). a.name ≢ b.name) (annotated_file (value_of raw)).documents
-      (file_sound annotated named first m raw keeps sound ready fits).names_differ)
+      subst (Pairs (λ (a b : DocumentValue). a.name ≢ b.name)) (items_are m (value_of raw) 1 (value_of raw).documents)
+      (Pairs-map (λ (n : Annotation DocumentValue). n.item) (λ (a b : DocumentValue). a.name ≢ b.name)
+      (map (with_item (moved_document m)) (annotated_file (value_of raw)).documents)
+      (Pairs-map (with_item (moved_document m)) (λ (a b : Annotation DocumentValue). a.item.name ≢ b.item.name) (annotated_file (value_of raw)).documents
+      fits.documents))
 
   -- the inputs with one more
   pub added_sound : (marks : List (List ℕ)) (traces : List Trace) → SoundTraces traces → length traces < 256
@@ -113,14 +118,16 @@ module _ (annotated : SoundnessIsAnnotated) (named : ReferencesAreNamed) (m : Ma
       → SoundTraces (traces ++ trace_of (is_first traces) m raw ∷ [])
   added_sound marks traces all few fits is =
       let t : Trace = trace_of (is_first traces) m raw in
-      let none = empty_both (methods_taken traces t.rows) (documents_differ traces (value_of raw).documents) (none_before marks traces m raw is) in
+      let none = empty_both (methods_taken traces t.rows) (documents_differ traces m (value_of raw).documents ++ links_differ traces m (value_of raw).customs)
+      (none_before marks traces m raw is) in
+      let agree = empty_both (documents_differ traces m (value_of raw).documents) (links_differ traces m (value_of raw).customs) none.1 in
       record {
         few = let more = length_next traces t in omega (arith, few, more);
         each = Each-append SoundTrace traces (t ∷ []) all.each (trace_sound (is_first traces) fits, tt);
         methods_apart = Pairs-push AreMethodsApart traces t all.methods_apart (all_apart traces t none.0);
         documents_agree = subst (Pairs (λ (d e : DocumentValue). d.name ≡ e.name → d ≡ e))
-            (sym (documents_more traces t ∙ ap (λ l. documents_in traces ++ l) (items_are (value_of raw) 1 (value_of raw).documents)))
-            (one_by_name (documents_in traces) (value_of raw).documents all.documents_agree (names_differ (is_first traces) fits) none.1);
+            (sym (documents_more traces t ∙ ap (λ l. documents_in traces ++ l) (items_are m (value_of raw) 1 (value_of raw).documents)))
+            (one_by_name m (documents_in traces) (value_of raw).documents all.documents_agree (names_differ (is_first traces) fits) agree.0);
         entry = entry_of traces all.entry fits;
       }
     where
@@ -170,13 +177,23 @@ few_documents raw documents shape is =
     length_all [] = refl
     length_all (d ∷ ds) = ap suc (length_all ds)
 
+pub few_customs : (raw : RawFile) (customs : List CustomValue) → HasShape raw.tables → customs ≡ (value_of raw).customs → length customs < 4294967295
+few_customs raw customs shape is =
+    let many = length_all raw.tables.customs in
+    let same = ap (λ (l : List CustomValue). length l) is in
+    let counted = shape.customs in let small = shape.small 0x37 in omega (arith, many, same, counted, small)
+  where
+    length_all : (cs : List CustomRow) → length (map (custom_of raw.tables) cs) ≡ length cs
+    length_all [] = refl
+    length_all (c ∷ cs) = ap suc (length_all cs)
+
 pub refused_as : (marks : List (List ℕ)) (traces : List Trace) (m : Map) (raw : RawFile) (o : Option MergeError) (rows : List Imaged)
-    (documents : List DocumentValue) → first_clash marks (is_first traces) m raw ≡ None → rows ≡ all_images (is_first traces) m raw
-    → documents ≡ (value_of raw).documents → o ≡ slice_get (clashes_before traces rows documents) 0 → refusal_of marks traces m raw ≡ o
-refused_as marks traces m raw o rows documents none same also is =
+    (value : FileValue) → first_clash marks (is_first traces) m raw ≡ None → rows ≡ all_images (is_first traces) m raw
+    → value ≡ value_of raw → o ≡ slice_get (clashes_before traces m rows value) 0 → refusal_of marks traces m raw ≡ o
+refused_as marks traces m raw o rows value none same also is =
     refused_by marks traces m raw o none
-    (is ∙ ap (λ l. slice_get (clashes_before traces l documents) 0) same
-    ∙ ap (λ l. slice_get (clashes_before traces (all_images (is_first traces) m raw) l) 0) also)
+    (is ∙ ap (λ l. slice_get (clashes_before traces m l value) 0) same
+    ∙ ap (λ v. slice_get (clashes_before traces m (all_images (is_first traces) m raw) v) 0) also)
 
 pub is_sound : (traces : List Trace) (m : Map) (raw : RawFile) (moved annotated : AnnotatedFile) (rows : List Imaged) → moved ≡ moved_file m annotated
     → annotated ≡ annotated_file (value_of raw) → rows ≡ all_images (is_first traces) m raw → SoundTraces (traces ++ trace_of (is_first traces) m raw ∷ [])

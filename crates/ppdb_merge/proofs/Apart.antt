@@ -5,6 +5,7 @@ use Rattle.std.specs.List.{filter_map, cons_option, enumerate_from, list_any}
 use Rattle.std.specs.Option.{option_map, option_and_then}
 use Rattle.std.proofs.lemmas.Bool.{both_ways, eq-eqb, and_parts}
 use Rattle.ppdb_base.specs.declared.merge_error.MergeError.TheVariants.{MethodTaken, DocumentConflict}
+use Rattle.ppdb_maps.specs.Map.{Map}
 use Rattle.ppdb_tables.specs.RawTables.{numbered}
 use Rattle.ppdb_values.specs.declared.file.DocumentValue.{DocumentValue}
 use Rattle.ppdb_merge_items.specs.Each.{Each, Pairs}
@@ -12,10 +13,11 @@ use Rattle.ppdb_merge_items.specs.Sorted.{in_order}
 use Rattle.ppdb_merge_items.proofs.Lists.{Each-weaker, Each-unmap, Each-append, Pairs-weaker}
 use Rattle.ppdb_merge_joined.specs.Joined.{firsts}
 use Rattle.ppdb_merge_joined.proofs.Names.{same_bytes, bytes_same}
+use Rattle.ppdb_merge_moved.specs.Moved.{moved_document}
 use Rattle.ppdb_merge_moved.proofs.Elements.{each_made}
 use Rattle.ppdb_merge_names.specs.declared.imaged.Imaged.{Imaged}
 use Rattle.ppdb_merge.specs.declared.trace.Trace.{Trace}
-use Rattle.ppdb_merge.specs.Refusals.{methods_in, claims, taken, methods_taken, same_guid, same_contents, conflict}
+use Rattle.ppdb_merge.specs.Refusals.{methods_in, claims, taken, methods_taken, same_guid, same_contents, conflict, moved_conflict}
 use Rattle.ppdb_merge.specs.Sound.{AreMethodsApart}
 use Rattle.ppdb_merge.proofs.Imaged.{Each-unsorted}
 
@@ -196,16 +198,19 @@ Pairs-append : {A : Type 0} (R : A → A → Type 0) (xs ys : List A) → Pairs 
 Pairs-append R [] ys pairs also across = also
 Pairs-append R (x ∷ xs) ys pairs also across = (Each-append (R x) xs ys pairs.0 across.0, Pairs-append R xs ys pairs.1 also across.1)
 
-pub one_by_name : (all documents : List DocumentValue) → Pairs OneByName all → Pairs (λ (a b : DocumentValue). a.name ≢ b.name) documents
-    → filter_map (conflict (firsts [] all)) (numbered documents) ≡ [] → Pairs OneByName (all ++ documents)
-one_by_name all documents pairs differ none =
-    Pairs-append OneByName all documents pairs
-    (Pairs-weaker (λ (a b : DocumentValue). a.name ≢ b.name) OneByName (λ a b apart same. absurd (apart same)) documents differ)
-    (Each-swap OneByName all documents
-    (each_numbered 1 documents (none_made (conflict (firsts [] all)) (numbered documents) none)))
+-- a further input's documents get names that differ, and do not clash
+pub one_by_name : (m : Map) (all documents : List DocumentValue) → Pairs OneByName all
+    → Pairs (λ (a b : DocumentValue). a.name ≢ b.name) (map (moved_document m) documents)
+    → filter_map (moved_conflict m (firsts [] all)) (numbered documents) ≡ [] → Pairs OneByName (all ++ map (moved_document m) documents)
+one_by_name m all documents pairs differ none =
+    Pairs-append OneByName all (map (moved_document m) documents) pairs
+    (Pairs-weaker (λ (a b : DocumentValue). a.name ≢ b.name) OneByName (λ a b apart same. absurd (apart same)) (map (moved_document m) documents) differ)
+    (Each-swap OneByName all (map (moved_document m) documents)
+    (each_numbered 1 documents (none_made (moved_conflict m (firsts [] all)) (numbered documents) none)))
   where
-    each_numbered : (n : ℕ) (ds : List DocumentValue) → Each (λ (x : ℕ × DocumentValue). conflict (firsts [] all) x ≡ None) (enumerate_from n ds)
-        → Each (λ e. Each (λ d. OneByName d e) all) ds
+    each_numbered : (n : ℕ) (ds : List DocumentValue) → Each (λ (x : ℕ × DocumentValue). moved_conflict m (firsts [] all) x ≡ None) (enumerate_from n ds)
+        → Each (λ e. Each (λ d. OneByName d e) all) (map (moved_document m) ds)
     each_numbered n [] each = tt
-    each_numbered n (e ∷ ds) each =
-        (all_one all e pairs (λ d is. no_conflict (firsts [] all) n e d each.0 (first_stands [] all e.name refl ∙ is)), each_numbered (n + 1) ds each.1)
+    each_numbered n (d ∷ ds) each =
+        let e : DocumentValue = moved_document m d in
+        (all_one all e pairs (λ x is. no_conflict (firsts [] all) n e x each.0 (first_stands [] all e.name refl ∙ is)), each_numbered (n + 1) ds each.1)

@@ -20,7 +20,7 @@ use Rattle.ppdb_values.specs.Imports.{import_scope_of}
 use Rattle.ppdb_values.specs.Parts.{first_item}
 use Rattle.ppdb_merge_items.specs.declared.file.AnnotatedScope.{AnnotatedScope}
 use Rattle.ppdb_merge_items.specs.Annotated.{annotated_file, annotated_scope, with_item}
-use Rattle.ppdb_merge_moved.specs.Moved.{moved_variable, moved_constant, moved_scope, moved_import_scope, moved_file, scope_image, is_empty}
+use Rattle.ppdb_merge_moved.specs.Moved.{moved_document, moved_variable, moved_constant, moved_scope, moved_import_scope, moved_file, scope_image, is_empty}
 use Rattle.ppdb_merge_joined.specs.Small.{HasFewRows}
 
 -- ---- sums
@@ -173,9 +173,10 @@ owned_moved m raw of_annotated of_value owner items kept annotated owned =
 pub few_rows : (m : Map) (raw : RawFile) → HasShape raw.tables → HasFewRows (moved_file m (annotated_file (value_of raw)))
 few_rows m raw shape = record {
   documents =
+      let moved = length_map (with_item (moved_document m)) (annotated_file (value_of raw)).documents in
       let annotated = length_annotated (value_of raw) 0x30 1 (value_of raw).documents in
       let made = length_map (document_of raw.tables) raw.tables.documents in
-      let counted = shape.documents in let small = shape.small 0x30 in omega (arith, annotated, made, counted, small);
+      let counted = shape.documents in let small = shape.small 0x30 in omega (arith, moved, annotated, made, counted, small);
   scopes =
       let moved = fewer (moved_scope m) (annotated_file (value_of raw)).scopes in
       let annotated = length_map (annotated_scope (value_of raw)) (numbered (value_of raw).scopes) in

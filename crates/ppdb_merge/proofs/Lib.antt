@@ -5,7 +5,7 @@ pub mod Few
 pub mod Given
 pub mod Imaged
 pub mod Indexing
-pub mod Looking
+pub mod Linked
 pub mod Names
 pub mod Taken
 pub mod Told

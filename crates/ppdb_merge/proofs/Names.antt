@@ -1,20 +1,13 @@
 -- The documents of inputs by their names, one further document after the other.
-use Rattle.std.proofs.Common.{◌≡◌, ℕ, zero, suc, ◌+◌, ◌<◌, ◌≤◌, ◌||◌, Bool, true, false, cond, List, [], ◌∷◌, ◌++◌, Option, Some, None, Ordering, Vec}
-use Rattle.std.proofs.Common.{length, map, take, refl, sym, ◌∙◌, ap, subst, arith}
+use Rattle.std.proofs.Common.{◌≡◌, ℕ, zero, suc, ◌+◌, ◌<◌, ◌≤◌, ◌||◌, Bool, true, false, cond, List, [], ◌∷◌, ◌++◌, Option, Some, None}
+use Rattle.std.proofs.Common.{length, take, refl, sym, ◌∙◌, ap, subst, arith}
 use Rattle.std.specs.Prelude.{find, is_some, bytes_eq, get_or}
 use Rattle.std.specs.List.{enumerate_from, list_any}
 use Rattle.std.specs.Option.{option_map, option_and_then}
-use Rattle.std.specs.Ordering.{nat_cmp, eq_by_cmp, match_ordering}
-use Rattle.std.specs.declared.alloc.Global.{Global}
-use Rattle.std.specs.declared.cmp.Ordering.TheVariants.{Less, Equal, Greater}
 use Rattle.std.specs.BTreeMap as tree
-use Rattle.std.specs.BTreeMap.{BTreeMap, insert_entry, is_at}
-use Rattle.std.specs.Cmp.Lexicographic.{slice_cmp, nat_list_cmp_total, nat_list_eq_equiv}
+use Rattle.std.specs.BTreeMap.{insert_entry, is_at}
 use Rattle.std.specs.Map.{lookup}
-use Rattle.std.specs.FinMap as maps
-use Rattle.std.specs.FinMap.Entries.{find-put, by_order}
 use Rattle.std.proofs.lemmas.List.{append_assoc, take_more}
-use Rattle.std.proofs.lemmas.Map.Text.{is_eq-slice_cmp}
 use Rattle.ppdb_base.specs.declared.merge_error.MergeError.{MergeError}
 use Rattle.ppdb_base.specs.declared.merge_error.MergeError.TheVariants.{DocumentConflict}
 use Rattle.ppdb_tables.specs.RawTables.{numbered}
@@ -27,47 +20,8 @@ use Rattle.ppdb_merge.specs.declared.documents.Documents.{Documents}
 use Rattle.ppdb_merge.specs.declared.documents.Standing.{Standing}
 use Rattle.ppdb_merge.specs.Indexes.{HoldsDocuments, standing}
 use Rattle.ppdb_merge.specs.Refusals.{conflict, same_contents}
-use Rattle.ppdb_merge.proofs.Looking.{absent, some_mapped}
-
--- ---- a map with names as keys
-
-abbrev Name : Type 0
-Name = Vec ℕ Global
-
-abbrev names : List ℕ → List ℕ → Ordering
-names = slice_cmp nat_cmp
-
-module _ {V : Type 0} where
-  abbrev seen : Name × V → List ℕ × V
-  seen e = (e.0.items, e.1)
-
-  find_seen : (es : List (Name × V)) (q : List ℕ) → maps.find names q (map seen es) ≡ lookup (is_at (λ k. names q k.items)) es
-  find_seen [] q = refl
-  find_seen (e ∷ es) q = ap (cond (eq_by_cmp names q e.0.items) (Some e.1)) (find_seen es q)
-
-  put_seen : (es : List (Name × V)) (k : Name) (v : V)
-      → map seen (insert_entry (λ x y. names x.items y.items) es k v) ≡ maps.put names k.items v (map seen es)
-  put_seen [] k v = refl
-  put_seen (e ∷ es) k v =
-      elim (names k.items e.0.items) as (λ r.
-      map seen (match_ordering r ((k, v) ∷ e ∷ es) ((e.0, v) ∷ es) (e ∷ insert_entry (λ x y. names x.items y.items) es k v))
-      ≡ by_order r ((k.items, v) ∷ map seen (e ∷ es)) ((e.0.items, v) ∷ map seen es)
-      (seen e ∷ maps.put names k.items v (map seen es))) [
-        | Less ↦ refl
-        | Equal ↦ refl
-        | Greater ↦ ap (λ (l : List (List ℕ × V)). seen e ∷ l) (put_seen es k v)
-      ]
-
-  -- what is found after an insertion
-  pub found_after : (es : List (Name × V)) (k : Name) (v : V) (q : List ℕ)
-      → lookup (is_at (λ x. names q x.items)) (insert_entry (λ x y. names x.items y.items) es k v)
-      ≡ cond (bytes_eq k.items q) (Some v) (lookup (is_at (λ x. names q x.items)) es)
-  found_after es k v q =
-      sym (find_seen (insert_entry (λ x y. names x.items y.items) es k v) q)
-      ∙ ap (maps.find names q) (put_seen es k v)
-      ∙ find-put names nat_list_cmp_total q k.items v (map seen es)
-      ∙ ap (λ b. cond b (Some v) (maps.find names q (map seen es))) (is_eq-slice_cmp q k.items ∙ nat_list_eq_equiv.symm q k.items)
-      ∙ ap (cond (bytes_eq k.items q) (Some v)) (find_seen es q)
+use Rattle.ppdb_merge_fits.proofs.ByName.{Name, names, found_after}
+use Rattle.ppdb_merge_fits.proofs.Looking.{absent, some_mapped}
 
 -- ---- the first document of each name
 

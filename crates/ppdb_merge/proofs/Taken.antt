@@ -12,10 +12,10 @@ use Rattle.ppdb_maps.proofs.Refusing.{at_number}
 use Rattle.ppdb_merge_items.specs.Sorted.{put, in_order}
 use Rattle.ppdb_merge_items.proofs.Orders.{in_order_filter}
 use Rattle.ppdb_merge_names.specs.declared.imaged.Imaged.{Imaged}
+use Rattle.ppdb_merge_fits.proofs.Looking.{present, absent, some_mapped}
 use Rattle.ppdb_merge.specs.declared.methods.Methods.{Methods}
 use Rattle.ppdb_merge.specs.Indexes.{HoldsMethods, claims_of, claim_of, before, lesser, least_taken}
 use Rattle.ppdb_merge.specs.Refusals.{methods_in, taken}
-use Rattle.ppdb_merge.proofs.Looking.{present, absent, some_mapped}
 
 -- ---- one further row
 

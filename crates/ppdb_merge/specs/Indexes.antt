@@ -1,7 +1,8 @@
 -- What is looked up of the inputs before a further one.
 use Rattle.ppdb_values.specs.Names.{slice_cmp, nat_cmp, numbered}
 use Rattle.std.specs.Prelude.{◌≡◌, ℕ, ◌&&◌, Bool, cond, List, [], Option, Some, None, is_some, ◌∷◌, length, map, find, option_map, nat_eq, nat_lt, bytes_eq}
-use Rattle.ppdb_values.specs.declared.file.DocumentValue.{DocumentValue}
+use Rattle.ppdb_values.specs.{declared.custom.CustomValue.CustomValue, declared.file.DocumentValue.DocumentValue}
+use Rattle.ppdb_merge_moved.specs.Moved.{is_link}
 use Rattle.ppdb_merge_names.specs.declared.imaged.Imaged.{Imaged}
 use Rattle.ppdb_merge_joined.specs.Joined.{joined_documents}
 use Rattle.ppdb_merge.specs.{declared.documents.{Documents.Documents, Standing.Standing}, declared.index.Index.Index, declared.methods.{Claim.Claim, Methods.Methods}, declared.trace.Trace.Trace}
@@ -52,3 +53,9 @@ lesser claimed i found = cond (is_taken claimed i) (before i found) found
 abbrev pub least_taken : List (ℕ × Imaged) → List Imaged → Option Imaged
 least_taken claimed [] = None
 least_taken claimed (i ∷ is) = lesser claimed i (least_taken claimed is)
+
+-- ---- what is reported first of the records of a further input
+
+-- the row of a Source Link record on row 1 of Module
+abbrev pub link_row : ℕ × CustomValue → Option ℕ
+link_row c = cond (is_link c.1) (Some c.0) None

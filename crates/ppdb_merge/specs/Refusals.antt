@@ -1,10 +1,12 @@
 -- Why an input is not joined to those before it (docs/FORMAT.md, "Fitting").
-use Rattle.ppdb_values.specs.Names.{MergeError, MethodTaken, DocumentConflict, numbered}
-use Rattle.std.specs.Prelude.{ℕ, ◌&&◌, Bool, true, false, cond, nat_eq, bytes_eq, List, [], ◌∷◌, ◌++◌, Option, Some, None, Result, Ok, Err, slice_get, filter, find, flat_map, map, option_map}
-use Rattle.std.specs.Prelude.{filter_map, option_and_then}
-use Rattle.ppdb_maps.specs.Map.{Map}
-use Rattle.ppdb_values.specs.{declared.file.DocumentValue.DocumentValue, RawFile.RawFile, Value.value_of}
-use Rattle.ppdb_merge_items.specs.Sorted.{in_order}
+use Rattle.ppdb_values.specs.Names.{MergeError, MethodTaken, DocumentConflict, LinkDiffers, list_any, numbered, source_link}
+use Rattle.std.specs.Prelude.{ℕ, ◌&&◌, not, Bool, true, false, cond, nat_eq, bytes_eq, List, [], ◌∷◌, ◌++◌, Option, Some, None, Result, Ok, Err, slice_get, filter, find, flat_map, map, option_map}
+use Rattle.std.specs.Prelude.{filter_map, option_and_then, option_to_list}
+use Rattle.ppdb_maps.specs.Map.{Map, moved_row}
+use Rattle.ppdb_values.specs.{declared.file.{DocumentValue.DocumentValue, FileValue.FileValue}, declared.custom.{CustomBody.{CustomBody, TheVariants.Unread}, CustomValue.CustomValue}, Parts.is_at}
+use Rattle.ppdb_values.specs.{RawFile.RawFile, Value.value_of}
+use Rattle.ppdb_merge_items.specs.{Sorted.in_order, declared.file.AnnotatedFile.AnnotatedFile}
+use Rattle.ppdb_merge_moved.specs.Moved.{is_link, moved_document}
 use Rattle.ppdb_merge_names.specs.declared.imaged.Imaged.{Imaged}
 use Rattle.ppdb_merge_joined.specs.Joined.{joined_documents}
 use Rattle.ppdb_merge_fits.specs.{Clashes.first_clash, Signatures.all_images}
@@ -44,15 +46,43 @@ conflict documents d =
     option_and_then (λ (e : ℕ × DocumentValue). cond (same_contents e.1 d.1) None (Some (DocumentConflict d.0 e.0)))
     (find (λ (e : ℕ × DocumentValue). bytes_eq e.1.name d.1.name) (numbered documents))
 
--- of the documents of a further input, by their rows
-abbrev pub documents_differ : List Trace → List DocumentValue → List MergeError
-documents_differ traces documents = filter_map (conflict (joined_documents (moved_files traces))) (numbered documents)
+-- of a document of a further input, with the name that its map gives it
+abbrev pub moved_conflict : Map → List DocumentValue → ℕ × DocumentValue → Option MergeError
+moved_conflict m documents d = conflict documents (d.0, moved_document m d.1)
+
+-- of all, by their rows
+abbrev pub documents_differ : List Trace → Map → List DocumentValue → List MergeError
+documents_differ traces m documents = filter_map (moved_conflict m (joined_documents (moved_files traces))) (numbered documents)
+
+-- ---- M13: the map has a `link` line, and a record to which it gives its value stands where an earlier input says something else
+
+-- the value of a Source Link record, which is not read, has other bytes
+abbrev pub says_other : List ℕ → CustomBody → Bool
+says_other value (Unread bytes) = not (bytes_eq bytes value)
+says_other value body = false
+
+-- a Source Link record on this row of Module with another value (ECMA-335 II.22.30)
+abbrev pub is_other_link : ℕ → List ℕ → CustomValue → Bool
+is_other_link row value c = is_at 0x00 row c.parent && (bytes_eq c.kind source_link && says_other value c.value)
+
+-- among the moved records of inputs
+abbrev pub has_other_link : List Trace → ℕ → List ℕ → Bool
+has_other_link traces row value = list_any (λ (file : AnnotatedFile). list_any (is_other_link row value) file.customs) (moved_files traces)
+
+-- a Source Link record on row 1 of Module, where there is one on the image of that row
+abbrev pub link_differs : List Trace → Map → List ℕ → ℕ × CustomValue → Option MergeError
+link_differs traces m value c = cond (is_link c.1 && has_other_link traces (moved_row m 0x00 1) value) (Some (LinkDiffers c.0)) None
+
+-- of the records of a further input, by their rows
+abbrev pub links_differ : List Trace → Map → List CustomValue → List MergeError
+links_differ traces m customs = flat_map (λ value. filter_map (link_differs traces m value) (numbered customs)) (option_to_list m.link)
 
 -- ---- a further input
 
 -- why it does not fit those before it
-abbrev pub clashes_before : List Trace → List Imaged → List DocumentValue → List MergeError
-clashes_before traces rows documents = methods_taken traces rows ++ documents_differ traces documents
+abbrev pub clashes_before : List Trace → Map → List Imaged → FileValue → List MergeError
+clashes_before traces m rows value =
+    methods_taken traces rows ++ (documents_differ traces m value.documents ++ links_differ traces m value.customs)
 
 -- the one, and the head of a list where there is none
 abbrev pub or_first : Option MergeError → List MergeError → Option MergeError
@@ -63,7 +93,7 @@ or_first None others = slice_get others 0
 abbrev pub refusal_of : List (List ℕ) → List Trace → Map → RawFile → Option MergeError
 refusal_of marks traces m raw =
     or_first (first_clash marks (is_first traces) m raw)
-    (clashes_before traces (all_images (is_first traces) m raw) (value_of raw).documents)
+    (clashes_before traces m (all_images (is_first traces) m raw) (value_of raw))
 
 abbrev pub with_trace : List Trace → Trace → Option MergeError → Result (List Trace) MergeError
 with_trace traces t (Some e) = Err e

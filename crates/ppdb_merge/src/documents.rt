@@ -6,9 +6,10 @@ ghost use Rattle.ppdb_merge_joined.specs.Joined.{firsts};
 ghost use Rattle.ppdb_merge_items.specs.Annotated.{items_of};
 ghost use Rattle.ppdb_values.specs.declared.file.DocumentValue.{DocumentValue as document_value};
 ghost use Rattle.ppdb_merge.specs.Indexes.{HoldsDocuments};
-ghost use Rattle.ppdb_merge.specs.Refusals.{conflict, same_contents};
+ghost use Rattle.ppdb_merge.specs.Refusals.{moved_conflict, same_contents};
 
 use ppdb_base::{List, Memory, MergeError};
+use ppdb_maps::MapText;
 use ppdb_values::{Annotation, DocumentValue};
 use std::alloc::Global;
 use std::collections::BTreeMap;
@@ -90,11 +91,11 @@ impl Documents {
         Ok(())
     }
 
-    /// What is reported of a document of a further input, by its row there.
-    fn conflict(&self, row: u32, document: &DocumentValue) -> Option<MergeError>
-        ensures { (all : List document_value) → HoldsDocuments all self.now → result ≡ conflict all (row, document.now) }
+    /// What is reported of a document of a further input, with the name that its map gives it, by its row there.
+    fn conflict(&self, map: &MapText, row: u32, document: &DocumentValue) -> Option<MergeError>
+        ensures { (all : List document_value) → HoldsDocuments all self.now → result ≡ moved_conflict map.now all (row, document.now) }
     {
-        let standing = self.by_name.get(document.name.as_slice())?;
+        let standing = self.by_name.get(map.moved_name(document.name.as_slice()))?;
         if same_contents(&standing.document, document) {
             return None;
         }
@@ -103,14 +104,18 @@ impl Documents {
     }
 
     /// What is reported first of the documents of a further input.
-    pub(crate) fn first_conflict(&self, documents: &[DocumentValue]) -> Option<MergeError>
+    pub(crate) fn first_conflict(
+        &self,
+        map: &MapText,
+        documents: &[DocumentValue],
+    ) -> Option<MergeError>
         requires { length documents.now < 2 ^ 32 - 1 }
         ensures { (all : List document_value) → HoldsDocuments all self.now
-            → result ≡ slice_get (filter_map (conflict all) (numbered documents.now)) 0 }
+            → result ≡ slice_get (filter_map (moved_conflict map.now all) (numbered documents.now)) 0 }
     {
         let mut row = 1;
         for document in documents {
-            let told = self.conflict(row, document);
+            let told = self.conflict(map, row, document);
             if told.is_some() {
                 return told;
             }

@@ -6,6 +6,7 @@ mod documents;
 mod index;
 mod joining;
 mod laws;
+mod links;
 mod merger;
 mod methods;
 mod reading;

@@ -7,7 +7,7 @@ ghost use Rattle.ppdb_merge.specs.Merged.{trace_of, is_first};
 ghost use Rattle.ppdb_merge.specs.Refusals.{refusal_of};
 ghost use Rattle.ppdb_merge.specs.Sound.{SoundTraces};
 
-use crate::index::Index;
+use crate::index::{Index, clash_before};
 use crate::trace::Trace;
 use custom_info::Marks;
 use ppdb_base::{MergeError, Steps};
@@ -47,7 +47,7 @@ pub(crate) fn read_input<L: Ledger>(
     let first = traces.len() == 0;
     let value = value_of(alloc, file, steps)?;
     let rows = judge(alloc, file, &value, map, marks, first, steps)?;
-    match index.clash(rows.as_slice(), value.documents.as_slice()) {
+    match clash_before(index, traces, map, rows.as_slice(), &value) {
         Some(told) => return Err(told),
         None => {}
     }

@@ -105,11 +105,11 @@ module _ {A B : Type 0} (f : A → List B) where
 
 module _ {A B : Type 0} (f : ℕ × A → List B) where
   -- the same of items by their rows from 1
-  row_is : (xs : List A) (i row : ℕ) (x : A) → row ≡ i → i < length xs → x ≡ get_or xs i x → (row + 1, x) ≡ get_or (enumerate_from 1 xs) i (row + 1, x)
+  pub row_is : (xs : List A) (i row : ℕ) (x : A) → row ≡ i → i < length xs → x ≡ get_or xs i x → (row + 1, x) ≡ get_or (enumerate_from 1 xs) i (row + 1, x)
   row_is xs i row x same less is =
       let e : row + 1 ≡ 1 + i = omega (arith, same) in ap (λ n. (n, x)) e ∙ numbered_at 1 xs i x (row + 1, x) less is
 
-  inside : (xs : List A) (i : ℕ) → i < length xs → i < length (enumerate_from 1 xs)
+  pub inside : (xs : List A) (i : ℕ) → i < length xs → i < length (enumerate_from 1 xs)
   inside xs i less = omega (arith, less, length-enumerate_from 1 xs)
 
   pub hit_row : (xs : List A) (i row : ℕ) (x : A) (e : B) → row ≡ i → flat_map f (take i (enumerate_from 1 xs)) ≡ [] → i < length xs → x ≡ get_or xs i x

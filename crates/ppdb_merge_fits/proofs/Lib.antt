@@ -1,5 +1,6 @@
 pub mod Apart
 pub mod Beside
+pub mod ByName
 pub mod Counted
 pub mod Far
 pub mod First
@@ -7,5 +8,7 @@ pub mod Fitting
 pub mod FittingRows
 pub mod Images
 pub mod Kept
+pub mod Looking
 pub mod Nothing
+pub mod OneName
 pub mod Told

@@ -5,26 +5,32 @@ use Rattle.std.specs.List.{enumerate_from}
 use Rattle.custom_info.specs.Kinds.{kind_of}
 use Rattle.custom_info.specs.declared.kinds.Kind.TheVariants.{Unknown}
 use Rattle.ppdb_merge_names_laws.proofs.Whole.{all-named}
-use Rattle.ppdb_maps.specs.Map.{Map}
+use Rattle.ppdb_maps.specs.Map.{Map, moved_name}
 use Rattle.ppdb_tables.specs.Parents.{CodesAreParents}
 use Rattle.ppdb_values.specs.Owners.{ListsAreOwned}
 use Rattle.ppdb_values.specs.RawFile.{RawFile}
 use Rattle.ppdb_values.specs.Value.{value_of}
+use Rattle.ppdb_values.specs.declared.annotation.Annotation.{Annotation}
 use Rattle.ppdb_values.specs.declared.custom.CustomValue.{CustomValue}
+use Rattle.ppdb_values.specs.declared.file.DocumentValue.{DocumentValue}
 use Rattle.ppdb_values.specs.declared.file.FileValue.{FileValue}
 use Rattle.ppdb_values_sound_laws.proofs.Values.{value_sound}
-use Rattle.ppdb_merge_items.specs.Each.{Each}
+use Rattle.ppdb_merge_items.specs.Each.{Each, Pairs}
 use Rattle.ppdb_merge_items.specs.NamedRows.{named_rows}
 use Rattle.ppdb_merge_items.specs.Annotated.{annotated_file}
 use Rattle.ppdb_merge_items.specs.SoundParts.{SoundParts}
+use Rattle.ppdb_merge_items.proofs.Lists.{Pairs-unmap}
 use Rattle.ppdb_merge_items.proofs.Soundness.{parts_sound}
+use Rattle.ppdb_merge_items.proofs.Values.{items_back}
 use Rattle.ppdb_merge_moved.specs.Fits.{IsImaged, AreApart}
 use Rattle.ppdb_merge_moved.proofs.Elements.{in_each}
 use Rattle.ppdb_merge_fits.specs.Clashes.{first_clash, clashes, unknown_kinds, if_unknown, is_unknown, is_at_dropped}
+use Rattle.ppdb_merge_fits.specs.Documents.{documents_twice}
 use Rattle.ppdb_merge_fits.specs.Laws.{NothingClashes}
 use Rattle.ppdb_merge_fits.specs.Offsets.{beyond, lost, points_beyond, scope_beyond, custom_beyond}
 use Rattle.ppdb_merge_fits.specs.Rows.{unmapped, images_twice}
 use Rattle.ppdb_merge_fits.specs.Slots.{slots_unmapped, slots_twice}
+use Rattle.ppdb_merge_fits.proofs.OneName.{names_differ}
 use Rattle.ppdb_merge_fits.proofs.First.{nil_parts, no_first}
 use Rattle.ppdb_merge_fits.proofs.Fitting.{flat_none, fails, points_fit, ranges_fit, hoisted_fits, async_fit}
 use Rattle.ppdb_merge_fits.proofs.FittingRows.{rows_fit, rows_apart, slots_fit, slots_apart}
@@ -62,7 +68,8 @@ nothing_clashes codes owned marks first m raw keeps ready none =
     let c = nil_parts (lost m value) _ b.1 in
     let d = nil_parts (unmapped first m raw) _ c.1 in
     let e = nil_parts (images_twice first m raw) _ d.1 in
-    let f = nil_parts (slots_unmapped m value) (slots_twice m value) e.1 in
+    let f = nil_parts (slots_unmapped m value) _ e.1 in
+    let g = nil_parts (slots_twice m value) (documents_twice m value) f.1 in
     let points = nil_parts (flat_map (points_beyond m) value.methods) _ b.0 in
     let ranges = nil_parts (flat_map (scope_beyond m) value.scopes) (flat_map (custom_beyond m) value.customs) points.1 in
     let named = all-named owned first m raw keeps in
@@ -77,7 +84,10 @@ nothing_clashes codes owned marks first m raw keeps ready none =
         hoisted = hoisted_fits m _ value ranges.1 sound.parts.customs;
         async = async_fit m ready value c.0;
         slots = slots_fit m value f.0;
-        slots_apart = slots_apart m value f.1;
+        slots_apart = slots_apart m value g.0;
+        documents = Pairs-unmap (λ (n : Annotation DocumentValue). n.item) (λ (a b : DocumentValue). moved_name m a.name ≢ moved_name m b.name) file.documents
+            (subst (Pairs (λ (a b : DocumentValue). moved_name m a.name ≢ moved_name m b.name)) (sym (items_back value 0x30 1 value.documents))
+            (names_differ m value.documents g.1));
       };
       known = kinds_known marks m value 1 value.customs (flat_none (if_unknown marks m value) _ a.0);
     }

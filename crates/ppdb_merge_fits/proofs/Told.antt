@@ -7,6 +7,7 @@ use Rattle.ppdb_values.specs.RawFile.{RawFile}
 use Rattle.ppdb_values.specs.Value.{value_of}
 use Rattle.ppdb_values.specs.declared.file.FileValue.{FileValue}
 use Rattle.ppdb_merge_fits.specs.Clashes.{unknown_kinds, clashes, first_clash}
+use Rattle.ppdb_merge_fits.specs.Documents.{documents_twice}
 use Rattle.ppdb_merge_fits.specs.FirstOf.{IsTold}
 use Rattle.ppdb_merge_fits.specs.Offsets.{beyond, lost}
 use Rattle.ppdb_merge_fits.specs.Rows.{unmapped, images_twice}
@@ -33,14 +34,17 @@ module _ (marks : List (List ℕ)) (first : Bool) (m : Map) (raw : RawFile) wher
   abbrev of_slots : FileValue → List MergeError
   of_slots value = slots_unmapped m value ++ slots_twice m value
 
-  split : of_value (value_of raw) ++ (of_rows ++ of_slots (value_of raw)) ≡ clashes marks first m raw
+  abbrev all : List MergeError
+  all = of_value (value_of raw) ++ (of_rows ++ (of_slots (value_of raw) ++ documents_twice m (value_of raw)))
+
+  split : all ≡ clashes marks first m raw
   split =
       sym (append_is (unknown_kinds marks m (value_of raw)) _ _)
       ∙ ap (λ l. unknown_kinds marks m (value_of raw) ++ l) (sym (append_is (beyond m (value_of raw)) _ _)
-      ∙ ap (λ l. beyond m (value_of raw) ++ (lost m (value_of raw) ++ l)) (sym (append_is (unmapped first m raw) _ _)))
+      ∙ ap (λ l. beyond m (value_of raw) ++ (lost m (value_of raw) ++ l)) (sym (append_is (unmapped first m raw) _ _)
+      ∙ ap (λ l. unmapped first m raw ++ (images_twice first m raw ++ l)) (sym (append_is (slots_unmapped m (value_of raw)) _ _))))
 
-  told : (e : MergeError) → IsTold (of_value (value_of raw) ++ (of_rows ++ of_slots (value_of raw))) e
-      → (e ≡ Memory) ⊎ (first_clash marks first m raw ≡ Some e)
+  told : (e : MergeError) → IsTold all e → (e ≡ Memory) ⊎ (first_clash marks first m raw ≡ Some e)
   unfolding first_clash
   told e is = subst (λ l. IsTold l e) split is
 
@@ -58,10 +62,19 @@ module _ (marks : List (List ℕ)) (first : Bool) (m : Map) (raw : RawFile) wher
       → IsTold (of_slots value) e → (e ≡ Memory) ⊎ (first_clash marks first m raw ≡ Some e)
   clash_of_slots value e same none also is =
       told e (then_fine (of_value (value_of raw)) _ e (subst (λ v. of_value v ≡ []) same none)
-      (then_fine of_rows _ e also (subst (λ v. IsTold (of_slots v) e) same is)))
+      (then_fine of_rows _ e also (refused (of_slots (value_of raw)) _ e (subst (λ v. IsTold (of_slots v) e) same is))))
 
-  pub no_clash : (value : FileValue) → value ≡ value_of raw → of_value value ≡ [] → of_rows ≡ [] → of_slots value ≡ [] → first_clash marks first m raw ≡ None
+  pub clash_of_documents : (value : FileValue) (e : MergeError) → value ≡ value_of raw → of_value value ≡ [] → of_rows ≡ [] → of_slots value ≡ []
+      → IsTold (documents_twice m value) e → (e ≡ Memory) ⊎ (first_clash marks first m raw ≡ Some e)
+  clash_of_documents value e same none also further is =
+      told e (then_fine (of_value (value_of raw)) _ e (subst (λ v. of_value v ≡ []) same none)
+      (then_fine of_rows _ e also (then_fine (of_slots (value_of raw)) _ e (subst (λ v. of_slots v ≡ []) same further)
+      (subst (λ v. IsTold (documents_twice m v) e) same is))))
+
+  pub no_clash : (value : FileValue) → value ≡ value_of raw → of_value value ≡ [] → of_rows ≡ [] → of_slots value ≡ [] → documents_twice m value ≡ []
+      → first_clash marks first m raw ≡ None
   unfolding first_clash
-  no_clash value same none also last =
+  no_clash value same none also further last =
       ap (λ l. slice_get l 0) (sym split ∙ both_fine (of_value (value_of raw)) _ (subst (λ v. of_value v ≡ []) same none)
-      (both_fine of_rows _ also (subst (λ v. of_slots v ≡ []) same last)))
+      (both_fine of_rows _ also (both_fine (of_slots (value_of raw)) _ (subst (λ v. of_slots v ≡ []) same further)
+      (subst (λ v. documents_twice m v ≡ []) same last))))

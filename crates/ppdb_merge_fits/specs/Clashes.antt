@@ -3,7 +3,7 @@ use Rattle.ppdb_values.specs.Names.{list_any, kind_of, Kind, Unknown, MergeError
 use Rattle.std.specs.Prelude.{ℕ, ◌&&◌, ◌==◌, not, Bool, true, false, cond, List, [], ◌∷◌, ◌++◌, Option, Some, None, map, option_to_list, slice_get, flat_map}
 use Rattle.ppdb_maps.specs.Map.{Map, is_dropped}
 use Rattle.ppdb_values.specs.{RawFile.RawFile, Value.value_of, declared.file.FileValue.FileValue, declared.scope.ScopeValue.ScopeValue, declared.custom.CustomValue.CustomValue}
-use Rattle.ppdb_merge_fits.specs.{Offsets.{beyond, lost}, Rows.{unmapped, images_twice}, Slots.{slots_unmapped, slots_twice}}
+use Rattle.ppdb_merge_fits.specs.{Documents.documents_twice, Offsets.{beyond, lost}, Rows.{unmapped, images_twice}, Slots.{slots_unmapped, slots_twice}}
 
 -- ---- records at dropped methods
 
@@ -54,7 +54,8 @@ clashes marks first m raw =
     ++ (unmapped first m raw
     ++ (images_twice first m raw
     ++ (slots_unmapped m (value_of raw)
-    ++ slots_twice m (value_of raw))))))
+    ++ (slots_twice m (value_of raw)
+    ++ documents_twice m (value_of raw)))))))
 
 -- What is reported of a file that a map does not fit. The entry point counts in the first of several files.
 unfoldable pub first_clash : List (List ℕ) → Bool → Map → RawFile → Option MergeError

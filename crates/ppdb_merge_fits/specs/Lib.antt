@@ -1,6 +1,8 @@
 pub mod Clashes
+pub mod Documents
 pub mod FirstOf
 pub mod Laws
+pub mod Names
 pub mod Offsets
 pub mod Rows
 pub mod Signatures

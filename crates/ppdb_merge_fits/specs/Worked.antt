@@ -1,17 +1,17 @@
 -- Worked maps of small files, and what is reported of each.
-use Rattle.std.specs.Prelude.{◌≡◌, ℕ, ◌+◌, ◌-◌, true, List, [], ◌∷◌, ◌++◌, Option, Some, None}
-use Rattle.ppdb_base.specs.{Place.at_byte, declared.merge_error.MergeError.TheVariants.{KindUnknown, OffsetBeyond, AsyncLost, Unmapped, ImageTwice, SlotUnmapped, SlotTwice}}
+use Rattle.std.specs.Prelude.{◌≡◌, ℕ, ◌+◌, ◌-◌, true, List, [], ◌∷◌, ◌++◌, Option, Some, None, map, codes}
+use Rattle.ppdb_base.specs.{Place.at_byte, declared.merge_error.MergeError.TheVariants.{KindUnknown, OffsetBeyond, AsyncLost, Unmapped, ImageTwice, SlotUnmapped, SlotTwice, DocumentTwice}}
 use Rattle.custom_info.specs.{Kinds.{in_file_order, async_stepping, hoisted_scopes}, declared.slots.Slot.TheVariants.{Empty, Held}}
-use Rattle.ppdb_maps.specs.Map.{Map, MethodLine}
+use Rattle.ppdb_maps.specs.{Map.{Map, MethodLine}, declared.entries.NameLine.NameLine}
 use Rattle.ppdb_values.specs.{RawFile.RawFile, WorkedSmall.{empty_file, empty_value, small_file, zeros}, declared.file.FileValue.FileValue, declared.custom.CustomBody.CustomBody}
 use Rattle.ppdb_values.specs.declared.custom.{CustomBody.TheVariants.{Async, Hoisted, Unread}, CustomValue.CustomValue}
 use Rattle.ppdb_merge_items.specs.Worked.{pair_value}
-use Rattle.ppdb_merge_fits.specs.{Clashes.{unknown_kinds, first_clash}, Offsets.{beyond, lost}, Rows.imaged_rows}
+use Rattle.ppdb_merge_fits.specs.{Clashes.{unknown_kinds, first_clash}, Documents.documents_twice, Offsets.{beyond, lost}, Rows.imaged_rows}
 
 -- ---- maps
 
 abbrev pub no_lines : Map
-no_lines = record { counts = []; rows = []; methods = []; drops = []; slotted = []; slots = []; signatures = [] }
+no_lines = record { counts = []; rows = []; methods = []; drops = []; slotted = []; slots = []; signatures = []; documents = []; link = None }
 
 -- `method 1 SIZE SIZE / run 0 0 LENGTH`
 abbrev pub prefix_kept : ℕ → ℕ → MethodLine
@@ -48,6 +48,13 @@ slot_to first = record no_lines { slotted = 1 ∷ []; slots = record { method = 
 
 abbrev pub slots_to : ℕ → ℕ → Map
 slots_to first second = record (slot_to first) { slots = record { method = 1; old = 0; new = first } ∷ record { method = 1; old = 1; new = second } ∷ [] }
+
+-- `document OLD NEW`
+abbrev pub named : List ℕ → List ℕ → NameLine
+named old new = record { old = old; new = new }
+
+abbrev pub names : List NameLine → Map
+names documents = record no_lines { documents = documents }
 
 -- ---- files
 
@@ -89,6 +96,14 @@ with_strange = record pair_value {
   customs = on_method 2 strange (Unread []) ∷ record { parent = record { table = 0x33; row = 2 }; kind = strange; value = Unread [] } ∷ [];
 }
 
+-- documents of these names
+abbrev pub named_documents : List (List ℕ) → FileValue
+named_documents names = record empty_value { documents = map (λ name. record { name = name; algorithm = None; hash = []; language = None }) names }
+
+-- a, b, c and d
+abbrev pub four_documents : FileValue
+four_documents = named_documents (codes "a" ∷ codes "b" ∷ codes "c" ∷ codes "d" ∷ [])
+
 -- ---- what is reported
 
 pub record WorkedMaps : Type 0 where
@@ -116,3 +131,14 @@ pub record WorkedMaps : Type 0 where
   pub strange_goes : unknown_kinds [] (drops 2) with_strange ≡ []
   pub strange_stays : unknown_kinds [] (drops 1) with_strange ≡ KindUnknown 1 strange ∷ KindUnknown 2 strange ∷ []
   pub strange_is_marked : unknown_kinds (strange ∷ []) (drops 1) with_strange ≡ []
+  -- names of documents
+  pub renamed : first_clash [] true (names (named (codes "/a/b") (codes "x") ∷ [])) small_file ≡ None
+  pub one_name : documents_twice (names (named (codes "b") (codes "a") ∷ [])) four_documents ≡ DocumentTwice 1 2 ∷ []
+  -- the least second document is reported first
+  pub least_second : documents_twice (names (named (codes "c") (codes "b") ∷ named (codes "d") (codes "a") ∷ [])) four_documents
+      ≡ DocumentTwice 2 3 ∷ DocumentTwice 1 4 ∷ []
+  pub three_one_name : documents_twice (names (named (codes "a") (codes "x") ∷ named (codes "b") (codes "x") ∷ named (codes "d") (codes "x") ∷ [])) four_documents
+      ≡ DocumentTwice 1 2 ∷ DocumentTwice 1 4 ∷ DocumentTwice 2 4 ∷ []
+  pub names_exchanged : documents_twice (names (named (codes "a") (codes "b") ∷ named (codes "b") (codes "a") ∷ [])) four_documents ≡ []
+  -- a name that no document has says nothing
+  pub no_such_name : documents_twice (names (named (codes "e") (codes "a") ∷ [])) four_documents ≡ []

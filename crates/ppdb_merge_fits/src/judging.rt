@@ -1,12 +1,14 @@
 // Whether a map fits a file.
-ghost use Rattle.std.specs.Prelude.{◌≡◌, ◌⊎◌, ◌++◌, ◌≤◌, List, None, Some, IfOk, IfErr, length, slice_get};
+ghost use Rattle.std.specs.Prelude.{◌≡◌, ◌≢◌, ◌⊎◌, ◌++◌, ◌≤◌, List, None, Some, IfOk, IfErr, length, slice_get};
 ghost use Rattle.std.specs.List.{filter_map};
 ghost use Rattle.ppdb_base.specs.declared.merge_error.MergeError.{MergeError};
 ghost use Rattle.ppdb_base.specs.declared.merge_error.MergeError.TheVariants.{Memory as NoMemory};
 ghost use Rattle.ppdb_verify.specs.Views.{raw_file};
+ghost use Rattle.ppdb_values.specs.Ordered.{EachPair};
 ghost use Rattle.ppdb_values.specs.Value.{value_of};
 ghost use Rattle.ppdb_merge_names.specs.References.{references};
 ghost use Rattle.ppdb_merge_fits.specs.Clashes.{unknown_kinds, first_clash};
+ghost use Rattle.ppdb_merge_fits.specs.Documents.{documents_twice};
 ghost use Rattle.ppdb_merge_fits.specs.FirstOf.{IsFirstOf};
 ghost use Rattle.ppdb_merge_fits.specs.Offsets.{beyond, lost};
 ghost use Rattle.ppdb_merge_fits.specs.Rows.{imaged, imaged_rows, unmapped, image_twice, images_twice};
@@ -14,6 +16,7 @@ ghost use Rattle.ppdb_merge_fits.specs.Signatures.{all_images};
 ghost use Rattle.ppdb_merge_fits.specs.Slots.{variable_slots, slots_unmapped, slots_twice};
 ghost use Rattle.ppdb_merge_fits.specs.Twice.{twice};
 
+use crate::documents::first_document_twice;
 use crate::kinds::first_unknown;
 use crate::offsets::{first_beyond, first_lost};
 use crate::signatures::with_given;
@@ -111,9 +114,18 @@ fn judge_slots(alloc: Global, value: &FileValue, map: &MapText) -> Result<(), Me
     refuse(first_of_slots(alloc, map, value)?)
 }
 
+/// Judges the names that documents get.
+fn judge_documents(alloc: Global, value: &FileValue, map: &MapText) -> Result<(), MergeError>
+    requires few { length value.now.documents ≤ 16777215 }
+    requires names { EachPair (λ a b. a.name ≢ b.name) value.now.documents }
+    ensures { IsFirstOf (documents_twice map.now value.now) result }
+{
+    refuse(first_document_twice(alloc, map, value)?)
+}
+
 /// Judges whether a map fits a file, whose value is handed in: the rows of the type system that the file names with their images, each
 /// once, and the local signatures that `signature` lines give, by table, row and image; else what does not fit first, in the order M6,
-/// M4, M5, M1, M2, M10, M11. What stands at a dropped method is not judged. The entry point counts in the first of several files.
+/// M4, M5, M1, M2, M10, M11, M12. What stands at a dropped method is not judged. The entry point counts in the first of several files.
 pub fn judge<L: Ledger>(
     alloc: Global,
     file: &Verified<'_>,
@@ -132,5 +144,6 @@ pub fn judge<L: Ledger>(
     judge_value(alloc, value, map, marks)?;
     let rows = judge_rows(alloc, file, map, first, steps)?;
     judge_slots(alloc, value, map)?;
+    judge_documents(alloc, value, map)?;
     Ok(with_given(alloc, map, value, rows)?)
 }

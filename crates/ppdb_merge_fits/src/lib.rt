@@ -1,6 +1,7 @@
 //! Whether a map fits a debug file: what does not fit first, and where all fits, the images that the file has in the output.
 #![tactic(auto)]
 
+mod documents;
 mod judged;
 mod judging;
 mod kinds;

@@ -9,7 +9,7 @@ use ppdb_base::{List, Memory};
 use ppdb_maps::MapText;
 use ppdb_merge_items::AnnotatedFile;
 use ppdb_merge_moved::{annotated_file, moved_all, moved_file};
-use ppdb_values::{Annotation, DocumentValue, FileValue};
+use ppdb_values::{Annotation, CustomValue, DocumentValue, FileValue};
 use std::alloc::Global;
 use std::marker::Model;
 use std::mem;
@@ -66,5 +66,12 @@ impl KeptFile {
         ensures { result.now ≡ self.now.documents }
     {
         self.rest.documents.as_slice()
+    }
+
+    /// The custom records on rows of the type system.
+    pub fn customs(&self) -> &[CustomValue]
+        ensures { result.now ≡ self.now.customs }
+    {
+        self.rest.customs.as_slice()
     }
 }

@@ -95,7 +95,7 @@ module _ (annotated : SoundnessIsAnnotated) where
       (methods_of (moved_input a)) (input_names a fits)
 
   pub can_be_joined : (inputs : List Input) → Each FitsAlone inputs → Pairs MethodsApart inputs
-      → Pairs (λ (a b : Input). AgreeOnDocuments (annotated_file a.1.value) (annotated_file b.1.value)) inputs
+      → Pairs (λ (a b : Input). AgreeOnDocuments (moved_input a) (moved_input b)) inputs
       → AreJoinable (map moved_input inputs)
   can_be_joined inputs each apart agree = record {
     each = Each-map moved_input SoundMoved inputs (Each-weaker FitsAlone (λ i. SoundMoved (moved_input i)) moved_is_sound inputs each);

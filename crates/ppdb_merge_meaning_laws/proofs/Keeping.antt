@@ -88,7 +88,7 @@ joined_back files able = file_back (joined files)
 
 module _ (annotated : SoundnessIsAnnotated) (before after : List Input) (i : Input) (each : Each FitsAlone (before ++ i ∷ after))
     (apart : Pairs MethodsApart (before ++ i ∷ after))
-    (agree : Pairs (λ (a b : Input). AgreeOnDocuments (annotated_file a.1.value) (annotated_file b.1.value)) (before ++ i ∷ after)) (method : ℕ)
+    (agree : Pairs (λ (a b : Input). AgreeOnDocuments (moved_input a) (moved_input b)) (before ++ i ∷ after)) (method : ℕ)
     (named : NamesMethod i method) where
   abbrev files : List AnnotatedFile
   files = map moved_input (before ++ i ∷ after)
@@ -332,20 +332,20 @@ module _ (annotated : SoundnessIsAnnotated) where
         apart : Pairs MethodsApart ((true, f) ∷ before ++ j ∷ after)
         apart = subst (λ l. Pairs MethodsApart ((true, f) ∷ l)) is fit.methods_apart
 
-        agree : Pairs (λ (a b : Input). AgreeOnDocuments (annotated_file a.1.value) (annotated_file b.1.value)) ((true, f) ∷ before ++ j ∷ after)
-        agree = subst (λ l. Pairs (λ (a b : Input). AgreeOnDocuments (annotated_file a.1.value) (annotated_file b.1.value)) ((true, f) ∷ l)) is fit.documents_agree
+        agree : Pairs (λ (a b : Input). AgreeOnDocuments (moved_input a) (moved_input b)) ((true, f) ∷ before ++ j ∷ after)
+        agree = subst (λ l. Pairs (λ (a b : Input). AgreeOnDocuments (moved_input a) (moved_input b)) ((true, f) ∷ l)) is fit.documents_agree
 
     -- of any
     all_kept : (P : FileValue → Input → ℕ → Type 0)
         → ((before after : List Input) (j : Input) → Each FitsAlone (before ++ j ∷ after) → Pairs MethodsApart (before ++ j ∷ after)
-        → Pairs (λ (a b : Input). AgreeOnDocuments (annotated_file a.1.value) (annotated_file b.1.value)) (before ++ j ∷ after) → (method : ℕ) → NamesMethod j method
+        → Pairs (λ (a b : Input). AgreeOnDocuments (moved_input a) (moved_input b)) (before ++ j ∷ after) → (method : ℕ) → NamesMethod j method
         → P (value_of_annotated (joined (map moved_input (before ++ j ∷ after)))) j method)
         → (j : Input) (method : ℕ) → Contains turns j → NamesMethod j method → P (joined_inputs (f ∷ fs)) j method
     all_kept P holds j method there named =
         let cut = split_at turns j there in
         subst (λ (l : List Input). P (value_of_annotated (joined (map moved_input l))) j method) (sym cut.2)
         (holds cut.0 cut.1 j (subst (Each FitsAlone) cut.2 fit.each) (subst (Pairs MethodsApart) cut.2 fit.methods_apart)
-        (subst (Pairs (λ (a b : Input). AgreeOnDocuments (annotated_file a.1.value) (annotated_file b.1.value))) cut.2 fit.documents_agree) method named)
+        (subst (Pairs (λ (a b : Input). AgreeOnDocuments (moved_input a) (moved_input b))) cut.2 fit.documents_agree) method named)
 
     links_of : (j : Input) (method : ℕ) → Contains turns j → NamesMethod j method
         → links (joined_inputs (f ∷ fs)) (moved_row j.1.map 0x06 method) ≡ links_image j.0 j.1.map method (links j.1.value method)

@@ -3,6 +3,7 @@ use Rattle.std.proofs.Common.{◌≡◌, ℕ, zero, suc, ◌&&◌, ◌||◌, not
 use Rattle.std.proofs.Common.{refl, sym, ◌∙◌, ap, subst, arith}
 use Rattle.std.specs.Prelude.{nat_eq, nat_lt, is_some, unwrap_or}
 use Rattle.std.specs.List.{filter_map}
+use Rattle.std.specs.Option.{option_map}
 use Rattle.std.proofs.lemmas.Bool.{both_ways, ne_eqb}
 use Rattle.ppdb_base.specs.Offsets.{gone, old_size}
 use Rattle.sequence_points.specs.declared.point.Point.{Point}
@@ -34,7 +35,7 @@ use Rattle.ppdb_merge_joined.proofs.Each.{Each-flat}
 use Rattle.ppdb_merge_items.specs.Annotated.{with_item}
 use Rattle.ppdb_merge_moved.specs.Moved.{moved_range, is_empty, moved_token, moved_modifier, moved_constant, moved_constant_body, moved_import}
 use Rattle.ppdb_merge_moved.specs.Moved.{moved_import_scope, with_points, moved_method, scope_image, moved_scope, moved_machine, moved_step, moved_body, moved_custom}
-use Rattle.ppdb_merge_moved.specs.Moved.{moved_file}
+use Rattle.ppdb_merge_moved.specs.Moved.{is_link, linked, moved_record, moved_file}
 use Rattle.ppdb_merge_moved.proofs.Elements.{each_parts}
 use Rattle.ppdb_merge_moved.proofs.Lists.{Each-both, Each-filter_map}
 use Rattle.ppdb_merge_moved.proofs.NamedParts.{NamedParts}
@@ -207,7 +208,16 @@ module _ (m : Map) (P Q : Named → Type 0) (moves : (table row : ℕ) → P (na
           let both = holds (ap not stays) in
           subst (λ (t : MachineRow). Each Q (of_machine t)) (some_of _ s eq) (moves 0x06 r.move_next both.0, (moves 0x06 r.kickoff both.1, tt))
 
-  custom_moves : (c d : CustomValue) → moved_custom m c ≡ Some d
+  -- a record before it moves names no other method
+  linked_steps : (c : CustomValue) → Each P (in_steps c.value) → Each P (in_steps (linked m c).value)
+  linked_steps c each = by_link (is_link c) m.link
+    where
+      by_link : (b : Bool) (value : Option (List ℕ)) → Each P (in_steps (unwrap_or (option_map Unread (cond b value None)) c.value))
+      by_link false value = each
+      by_link true None = each
+      by_link true (Some value) = tt
+
+  custom_moves : (c d : CustomValue) → moved_record m c ≡ Some d
       → (live_custom m c ≡ true → P (names c.parent.table c.parent.row) × Each P (in_steps c.value)) → Each Q (of_custom d)
   custom_moves c d eq holds = by_drop (nat_eq c.parent.table 0x06 && is_dropped m c.parent.row) refl eq
     where
@@ -257,7 +267,9 @@ module _ (m : Map) (P Q : Named → Type 0) (moves : (table row : ℕ) → P (na
       (Each-append Q _ _ (Each-flat of_machine Q (filter_map (moved_machine m) w.machines)
       (Each-filter_map (moved_machine m) _ (λ s. Each Q (of_machine s)) machine_moves w.machines parts.machines))
       (Each-flat of_custom Q (filter_map (moved_custom m) w.customs)
-      (Each-filter_map (moved_custom m) _ (λ d. Each Q (of_custom d)) custom_moves w.customs parts.customs))))))
+      (Each-filter_map (moved_custom m)
+      (λ (c : CustomValue). live_custom m c ≡ true → P (names c.parent.table c.parent.row) × Each P (in_steps c.value)) (λ d. Each Q (of_custom d))
+      (λ c d eq holds. custom_moves (linked m c) d eq (λ live. ((holds live).0, linked_steps c (holds live).1))) w.customs parts.customs))))))
     where
       scopes : Each ScopeNames w.scopes
       scopes = scope_names w.scopes parts.scopes parts.constants

@@ -21,7 +21,7 @@ use Rattle.ppdb_merge_items.specs.declared.file.AnnotatedScope.{AnnotatedScope}
 use Rattle.ppdb_merge_items.specs.declared.file.AnnotatedFile.{AnnotatedFile}
 use Rattle.ppdb_merge_items.specs.Each.{Each, Pairs}
 use Rattle.ppdb_merge_items.specs.Laws.{SoundnessIsAnnotated}
-use Rattle.ppdb_merge_items.specs.Annotated.{items_of, annotated_file}
+use Rattle.ppdb_merge_items.specs.Annotated.{items_of, annotated_file, with_item}
 use Rattle.ppdb_merge_items.specs.Unannotated.{value_of_annotated}
 use Rattle.ppdb_merge_items.proofs.Lists.{Each-append, Each-map, Each-weaker, each_of}
 use Rattle.ppdb_merge_items.proofs.Mapped.{filter_map_both, map_map_both, row_map, row_numbered}
@@ -35,6 +35,7 @@ use Rattle.ppdb_merge_joined.specs.Joined.{customs_named, firsts}
 use Rattle.ppdb_merge_joined.specs.Same.{fresh, same_custom, same_record}
 use Rattle.ppdb_merge_joined.proofs.Kept.{fresh_each}
 use Rattle.ppdb_merge_joined.proofs.One.{map_same}
+use Rattle.ppdb_merge_moved.specs.Moved.{moved_document}
 use Rattle.ppdb_merge_moved.proofs.Elements.{each_in, in_each}
 use Rattle.ppdb_merge_meaning_laws.specs.Kept.{MovedBy, Input, FitsAlone, MethodsApart, in_turn, joined_inputs, moved_input}
 use Rattle.ppdb_merge_meaning_laws.specs.Origins.{OfOne, IsImageFrom, entry_of, records_from, InputsKeepOrigins}
@@ -212,7 +213,7 @@ of_one P R apart (x ∷ xs) pairs (inr rest) = inr (
 -- ---- inputs that fit
 
 module _ (annotated : SoundnessIsAnnotated) (turns : List Input) (each : Each FitsAlone turns) (apart : Pairs MethodsApart turns)
-    (agree : Pairs (λ (a b : Input). AgreeOnDocuments (annotated_file a.1.value) (annotated_file b.1.value)) turns) where
+    (agree : Pairs (λ (a b : Input). AgreeOnDocuments (moved_input a) (moved_input b)) turns) where
   abbrev files : List AnnotatedFile
   files = map moved_input turns
 
@@ -317,22 +318,31 @@ module _ (annotated : SoundnessIsAnnotated) (turns : List Input) (each : Each Fi
 
 -- ---- all inputs
 
+-- the documents of an input with the names that its map gives
+abbrev named_documents : MovedBy → List DocumentValue
+named_documents input = map (moved_document input.map) input.value.documents
+
+items_moved : {X : Type 0} (f : X → X) (annotated : List (Annotation X)) → items_of (map (with_item f) annotated) ≡ map f (items_of annotated)
+items_moved f [] = refl
+items_moved f (n ∷ ns) = ap (λ l. f n.item ∷ l) (items_moved f ns)
+
 turn_documents : (turns : List Input) → flat_map (λ (f : AnnotatedFile). items_of f.documents) (map moved_input turns)
-    ≡ flat_map (λ (i : Input). i.1.value.documents) turns
+    ≡ flat_map (λ (i : Input). named_documents i.1) turns
 turn_documents [] = refl
 turn_documents (i ∷ is) =
-    ap (λ l. l ++ flat_map (λ (f : AnnotatedFile). items_of f.documents) (map moved_input is)) (items_back i.1.value 0x30 1 i.1.value.documents)
-    ∙ ap (λ l. i.1.value.documents ++ l) (turn_documents is)
+    ap (λ l. l ++ flat_map (λ (f : AnnotatedFile). items_of f.documents) (map moved_input is))
+    (items_moved (moved_document i.1.map) (annotated_file i.1.value).documents
+    ∙ ap (map (moved_document i.1.map)) (items_back i.1.value 0x30 1 i.1.value.documents))
+    ∙ ap (λ l. named_documents i.1 ++ l) (turn_documents is)
 
-later_documents : (inputs : List MovedBy) → flat_map (λ (i : Input). i.1.value.documents) (map (λ (input : MovedBy). (false, input)) inputs)
-    ≡ flat_map (λ (input : MovedBy). input.value.documents) inputs
+later_documents : (inputs : List MovedBy) → flat_map (λ (i : Input). named_documents i.1) (map (λ (input : MovedBy). (false, input)) inputs)
+    ≡ flat_map named_documents inputs
 later_documents [] = refl
-later_documents (f ∷ fs) = ap (λ l. f.value.documents ++ l) (later_documents fs)
+later_documents (f ∷ fs) = ap (λ l. named_documents f ++ l) (later_documents fs)
 
-all_documents : (inputs : List MovedBy) → flat_map (λ (i : Input). i.1.value.documents) (in_turn inputs)
-    ≡ flat_map (λ (input : MovedBy). input.value.documents) inputs
+all_documents : (inputs : List MovedBy) → flat_map (λ (i : Input). named_documents i.1) (in_turn inputs) ≡ flat_map named_documents inputs
 all_documents [] = refl
-all_documents (f ∷ fs) = ap (λ l. f.value.documents ++ l) (later_documents fs)
+all_documents (f ∷ fs) = ap (λ l. named_documents f ++ l) (later_documents fs)
 
 entry_origin : (inputs : List MovedBy) → (joined_inputs inputs).entry ≡ entry_of inputs
 entry_origin [] = refl

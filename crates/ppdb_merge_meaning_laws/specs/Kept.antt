@@ -29,6 +29,10 @@ named_by input = named_rows input.0 input.1.map (annotated_file input.1.value)
 abbrev pub NamesMethod : Input → ℕ → Type 0
 NamesMethod input method = Contains (named_by input) (names 0x06 method)
 
+-- an input that is moved by its map
+abbrev pub moved_input : Input → AnnotatedFile
+moved_input input = moved_file input.1.map (annotated_file input.1.value)
+
 -- ---- inputs that fit
 
 -- A sound file, and a readable map that fits it.
@@ -42,15 +46,13 @@ abbrev pub MethodsApart : Input → Input → Type 0
 MethodsApart a b = (method other image : ℕ) → NamesMethod a method → NamesMethod b other → row_image a.1.map 0x06 method ≡ Some image
     → row_image b.1.map 0x06 other ≡ Some image → ⊥
 
+-- Each file is sound and fits its map; no two have one method afterwards; documents of one name by the maps are one document.
 pub record InputsFit (inputs : List MovedBy) : Type 0 where
   pub each : Each FitsAlone (in_turn inputs)
   pub methods_apart : Pairs MethodsApart (in_turn inputs)
-  pub documents_agree : Pairs (λ a b. AgreeOnDocuments (annotated_file a.1.value) (annotated_file b.1.value)) (in_turn inputs)
+  pub documents_agree : Pairs (λ a b. AgreeOnDocuments (moved_input a) (moved_input b)) (in_turn inputs)
 
 -- ---- the file that they make
-
-abbrev pub moved_input : Input → AnnotatedFile
-moved_input input = moved_file input.1.map (annotated_file input.1.value)
 
 abbrev pub joined_inputs : List MovedBy → FileValue
 joined_inputs inputs = value_of_annotated (joined (map moved_input (in_turn inputs)))

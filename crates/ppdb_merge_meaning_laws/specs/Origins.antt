@@ -6,7 +6,7 @@ use Rattle.ppdb_values.specs.{declared.file.{DocumentValue.DocumentValue, FileVa
 use Rattle.ppdb_values.specs.{Meaning.{annotated_on, without_parent}, Parts.is_at}
 use Rattle.ppdb_merge_items.specs.{Each.Each, Annotated.annotated_file}
 use Rattle.ppdb_merge_joined.specs.{Joinable.methods_of, Joined.{firsts, customs_named, joined_rows, row_in, renumbered_custom}, Same.{fresh, same_custom}}
-use Rattle.ppdb_merge_moved.specs.Laws.{IsImageOfNamed}
+use Rattle.ppdb_merge_moved.specs.{Laws.IsImageOfNamed, Moved.moved_document}
 use Rattle.ppdb_merge_meaning_laws.specs.Kept.{MovedBy, Input, InputsFit, in_turn, moved_input, joined_inputs}
 
 -- P of one item, and of no other
@@ -31,12 +31,13 @@ records_from documents table row input =
 
 -- The entry point is the first input's, moved (Portable PDB v1.0, "#Pdb stream": EntryPoint).
 -- Each method that has points, scopes, state machines or custom records is the image of a method that one input alone names. The documents are
--- those of the inputs, the first of each name. The records on a row of the tables 00 to 2c, and on a document, are the moved records of
--- the inputs in order, without those that equal one of an earlier input (Portable PDB v1.0, "CustomDebugInformation Table").
+-- those of the inputs with the names that their maps give, the first of each name. The records on a row of the tables 00 to 2c, and on a
+-- document, are the moved records of the inputs in order, without those that equal one of an earlier input (Portable PDB v1.0,
+-- "CustomDebugInformation Table").
 pub record KeepsOrigins (inputs : List MovedBy) (value : FileValue) : Type 0 where
   pub entry : value.entry ≡ entry_of inputs
   pub methods : (row : ℕ) → Contains (methods_of (annotated_file value)) row → OfOne (IsImageFrom row) (in_turn inputs)
-  pub documents : value.documents ≡ firsts [] (flat_map (λ (input : MovedBy). input.value.documents) inputs)
+  pub documents : value.documents ≡ firsts [] (flat_map (λ (input : MovedBy). map (moved_document input.map) input.value.documents) inputs)
   pub customs : (table row : ℕ) → table < 0x2d
       → annotated_on value table row ≡ fresh same_custom [] (map (records_from value.documents table row) (in_turn inputs))
   pub on_documents : (row : ℕ) (d : DocumentValue) → row_at value.documents row ≡ Some d

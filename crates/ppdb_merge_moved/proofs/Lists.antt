@@ -1,6 +1,6 @@
 -- Lists that are filtered and mapped.
-use Rattle.std.proofs.Common.{◌≡◌, Bool, true, false, cond, List, [], ◌∷◌, Option, Some, None, refl, ap, map}
-use Rattle.std.specs.List.{filter, filter_map, cons_option}
+use Rattle.std.proofs.Common.{◌≡◌, Bool, true, false, cond, List, [], ◌∷◌, Option, Some, None, refl, ap, map, length, arith}
+use Rattle.std.specs.List.{filter, filter_map, cons_option, refill}
 use Rattle.ppdb_merge_items.specs.Each.{Each, Pairs}
 
 -- an item passes as its image does, and goes only where it does not pass
@@ -19,6 +19,18 @@ filter-filter_map f p q (x ∷ xs) each = step (f x) refl (p x) each.0 (filter-f
     step None is false alike rest = rest
     step (Some y) is true alike rest = rw (alike, is) (ap (λ l. y ∷ l) rest)
     step (Some y) is false alike rest = rw alike rest
+
+-- as many items fill up all places
+pub refill_all : {A : Type 0} (xs ws : List A) → length ws ≡ length xs → refill (length xs) xs ws ≡ ws
+refill_all [] [] same = refl
+refill_all [] (w ∷ ws) same = absurd (omega (arith, same))
+refill_all (x ∷ xs) [] same = absurd (omega (arith, same))
+refill_all (x ∷ xs) (w ∷ ws) same = ap (λ l. w ∷ l) (refill_all xs ws (omega (arith, same)))
+
+-- what a change leaves of changed items
+pub filter_map-after : {A B C : Type 0} (f : B → Option C) (g : A → B) (xs : List A) → filter_map f (map g xs) ≡ filter_map (λ x. f (g x)) xs
+filter_map-after f g [] = refl
+filter_map-after f g (x ∷ xs) = ap (cons_option (f (g x))) (filter_map-after f g xs)
 
 pub filter_map-map : {A B : Type 0} (f : A → Option B) (g : A → B) (xs : List A) → Each (λ x. f x ≡ Some (g x)) xs → filter_map f xs ≡ map g xs
 filter_map-map f g [] each = refl

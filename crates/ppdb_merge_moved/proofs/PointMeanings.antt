@@ -4,13 +4,18 @@ use Rattle.std.specs.Prelude.{nat_eq}
 use Rattle.std.specs.List.{filter_map, find, cons_option}
 use Rattle.std.specs.Option.{option_map, option_and_then}
 use Rattle.std.proofs.lemmas.Bool.{eq-eqb, ne_eqb, eqb-true, eqb-false}
-use Rattle.ppdb_base.specs.Offsets.{gone, Rise, Kept, old_size}
-use Rattle.ppdb_maps.specs.Map.{Map, moved_row, offsets_in}
+use Rattle.ppdb_base.specs.Offsets.{gone, Rise, Kept, old_size, moved}
+use Rattle.ppdb_maps.specs.Map.{Map, moved_row, moved_signature, offsets_in}
 use Rattle.sequence_points.specs.declared.point.Point.{Point}
+use Rattle.ppdb_tables.specs.RawTables.{row_at}
+use Rattle.ppdb_values.specs.declared.annotation.Annotation.{Annotation}
+use Rattle.ppdb_values.specs.declared.file.DocumentValue.{DocumentValue}
 use Rattle.ppdb_values.specs.declared.file.MethodValue.{MethodValue}
+use Rattle.ppdb_merge_items.specs.Annotated.{with_item}
+use Rattle.ppdb_merge_items.proofs.Mapped.{row_map}
 use Rattle.ppdb_merge_items.specs.declared.file.AnnotatedFile.{AnnotatedFile}
 use Rattle.sequence_points.specs.MovedPoints.{moved_points}
-use Rattle.ppdb_merge_moved.specs.Moved.{moved_method, moved_file, with_points}
+use Rattle.ppdb_merge_moved.specs.Moved.{moved_document, moved_method, moved_file, with_points}
 use Rattle.ppdb_merge_moved.specs.FitsMethod.{PointsRise, FitsMethod}
 use Rattle.ppdb_merge_items.specs.AnnotatedMeaning.{document_at, point_at, point_meaning}
 use Rattle.ppdb_values.specs.Meaning.{PointMeaning}
@@ -20,6 +25,27 @@ use Rattle.ppdb_merge_moved.proofs.Points.{points_kept, moved_point}
 
 abbrev told : AnnotatedFile → MethodValue → Point → PointMeaning
 told w e p = record { offset = p.offset; span = p.span; document = document_at w p.document; signature = e.signature }
+
+-- the document of a row of a moved file is that of the file, moved
+pub document_moved : (m : Map) (w : AnnotatedFile) (row : ℕ) → document_at (moved_file m w) row ≡ option_map (moved_document m) (document_at w row)
+document_moved m w row =
+    ap (option_map (λ (n : Annotation DocumentValue). n.item)) (row_map (with_item (moved_document m)) w.documents row) ∙ of_item (row_at w.documents row)
+  where
+    of_item : (o : Option (Annotation DocumentValue))
+        → option_map (λ (n : Annotation DocumentValue). n.item) (option_map (with_item (moved_document m)) o)
+        ≡ option_map (moved_document m) (option_map (λ (n : Annotation DocumentValue). n.item) o)
+    of_item None = refl
+    of_item (Some n) = refl
+
+-- what is said of a moved point
+told_moved : (m : Map) (w : AnnotatedFile) (e : MethodValue) (p : Point)
+    → ◌≡◌ {A = PointMeaning} (record {
+      offset = moved (offsets_in m e.method) p.offset;
+      span = p.span;
+      document = document_at (moved_file m w) p.document;
+      signature = moved_signature m e.method e.signature;
+    }) (point_image m e.method (told w e p))
+told_moved m w e p = ap (λ d. record (point_image m e.method (told w e p)) { document = d }) (document_moved m w p.document)
 
 own_points : (m : Map) (w : AnnotatedFile) (e : MethodValue) → Rise (offsets_in m e.method) → (offsets_in m e.method ≢ gone) → (x y : ℕ)
     → Kept (offsets_in m e.method) x y → x ≤ old_size (offsets_in m e.method) → PointsRise (old_size (offsets_in m e.method)) e.points
@@ -33,7 +59,7 @@ own_points m w e rise live x y kept at fits =
     step [] None is = refl
     step [] (Some p) is = absurd (cc)
     step (z ∷ zs) None is = ap (option_map _) is
-    step (z ∷ zs) (Some p) is = ap (option_map _) is
+    step (z ∷ zs) (Some p) is = ap (option_map _) is ∙ ap Some (told_moved m w e p)
 
 -- a method that is not there has no image there
 none_there : (m : Map) (method : ℕ) (es : List MethodValue) → Each (FitsMethod m method) es → Each (λ (e : MethodValue). e.method ≢ method) es

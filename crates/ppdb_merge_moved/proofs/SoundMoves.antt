@@ -1,9 +1,11 @@
 -- A sound file that a map fits is sound, part by part, after it has moved.
 use Rattle.std.proofs.Common.{◌≡◌, ◌≢◌, ℕ, zero, suc, ◌+◌, ◌*◌, ◌<◌, ◌≤◌, ◌&&◌, ◌||◌, not, Bool, true, false, cond, List, [], ◌∷◌, Option, Some, None}
 use Rattle.std.proofs.Common.{map, length, refl, sym, ◌∙◌, ap, subst, arith}
-use Rattle.std.specs.Prelude.{nat_eq, nat_lt, ◌==◌, IsSome, Contains, unwrap_or, position}
+use Rattle.std.specs.Prelude.{bytes_eq, nat_eq, nat_lt, ◌==◌, IsSome, Contains, unwrap_or, position}
 use Rattle.std.specs.Option.{option_map}
-use Rattle.std.proofs.lemmas.Bool.{ltb-true, not-false, both_ways, ne_eqb}
+use Rattle.std.proofs.lemmas.Bool.{ltb-true, not-false, both_ways, ne_eqb, and_parts}
+use Rattle.std.proofs.lemmas.Slice.Eq.{bytes_eq-Decides}
+use Rattle.std.proofs.lemmas.List.{length-map}
 use Rattle.ppdb_base.specs.Offsets.{gone, Rise, moved, old_size, is_kept_between}
 use Rattle.sequence_points.specs.declared.point.Point.{Point}
 use Rattle.sequence_points.specs.MovedPoints.{moved_points, first_offset}
@@ -23,9 +25,12 @@ use Rattle.ppdb_values.specs.Chains.{NeverEnds, parent_at, ancestor_of}
 use Rattle.ppdb_values.specs.declared.annotation.Custom.{Custom}
 use Rattle.ppdb_values.specs.declared.annotation.Annotation.{Annotation}
 use Rattle.ppdb_values.specs.declared.scope.VariableValue.{VariableValue}
-use Rattle.custom_info.specs.Kinds.{kind_of}
+use Rattle.custom_info.specs.Kinds.{kind_of, source_link}
+use Rattle.custom_info.specs.declared.kinds.Kind.TheVariants.{Free}
+use Rattle.ppdb_values.specs.Parts.{is_at}
+use Rattle.ppdb_values.specs.declared.custom.CustomBody.TheVariants.{Unread}
 use Rattle.ppdb_values.specs.Ranges.{ComesAfter, IsInOrAfter}
-use Rattle.ppdb_values_sound_laws.specs.Customs.{SoundCustom}
+use Rattle.ppdb_values_sound_laws.specs.Customs.{SoundCustom, IsBodyOfKind}
 use Rattle.ppdb_values_sound_laws.specs.Methods.{SoundMethod, SoundPoint}
 use Rattle.ppdb_values_sound_laws.specs.Named.{count, HasRow}
 use Rattle.ppdb_values_sound_laws.specs.Sound.{SoundMachine}
@@ -39,11 +44,12 @@ use Rattle.ppdb_merge_items.specs.Annotated.{items_of, with_item}
 use Rattle.ppdb_values_sound_laws.specs.Scopes.{SoundVariable, SoundConstant}
 use Rattle.ppdb_values_sound_laws.specs.Imports.{SoundImport, SoundImportScope}
 use Rattle.ppdb_merge_items.proofs.Mapped.{row_map}
-use Rattle.ppdb_merge_items.proofs.Lists.{Each-weaker, Pairs-weaker, each_row, row_each, pairs_row, row_pairs}
+use Rattle.ppdb_merge_items.proofs.Lists.{Each-weaker, Pairs-map, Pairs-weaker, each_row, row_each, pairs_row, row_pairs}
 use Rattle.ppdb_merge_moved.specs.Fits.{Fits, IsImaged, HasSlot, KeepsAsync, AreWithin}
 use Rattle.ppdb_merge_moved.specs.Laws.{IsImageOfNamed, MovedNames}
 use Rattle.ppdb_merge_moved.specs.Moved.{moved_range, is_empty, moved_variable, moved_constant, moved_import, moved_import_scope, with_points}
-use Rattle.ppdb_merge_moved.specs.Moved.{moved_method, scope_image, moved_scope, moved_machine, moved_body, moved_custom, moved_file}
+use Rattle.ppdb_merge_moved.specs.Moved.{moved_method, scope_image, moved_scope, moved_machine, moved_body, moved_record, moved_custom, moved_file}
+use Rattle.ppdb_merge_moved.specs.Moved.{is_link, linked, moved_document}
 use Rattle.ppdb_merge_moved.proofs.Fitting.{offsets_rise}
 use Rattle.ppdb_merge_moved.proofs.Elements.{each_in}
 use Rattle.ppdb_merge_moved.proofs.Lists.{Each-filter_map, Pairs-filter_map, Each-both, each_of_three, each_of_four}
@@ -102,6 +108,11 @@ module _ (first : Bool) (m : Map) (w : AnnotatedFile) (ready : IsReadable m) (so
   rise : (method : ℕ) → Rise (offsets_in m method)
   rise = offsets_rise m ready
 
+  same_documents : count (most old) 0x30 ≡ count (most new) 0x30
+  same_documents = length-map w.documents (λ (n : Annotation DocumentValue). n.item)
+      ∙ sym (length-map (map (with_item (moved_document m)) w.documents) (λ (n : Annotation DocumentValue). n.item)
+      ∙ length-map w.documents (with_item (moved_document m)))
+
   images : NamedParts (IsImaged m) first m w
   images = named_parts (IsImaged m) first m w fits.images
 
@@ -134,7 +145,7 @@ module _ (first : Bool) (m : Map) (w : AnnotatedFile) (ready : IsReadable m) (so
       image : SoundPoint (most new) (record p { offset = moved (offsets_in m method) p.offset })
       image = record {
         offset = small_after m ready method (rise method) p.offset each.0.offset (let below = under.0 in omega (arith, below));
-        document = each.0.document;
+        document = (each.0.document.0, subst (λ n. p.document ≤ n) same_documents each.0.document.1);
         span = each.0.span;
       }
 
@@ -271,7 +282,7 @@ module _ (first : Bool) (m : Map) (w : AnnotatedFile) (ready : IsReadable m) (so
   notes_of : {A : Type 0} (f : A → A) (table : ℕ) (xs : List (Annotation A)) → Each (λ (n : Annotation A). Each (SoundNote (most old) table) n.customs) xs
       → Each (λ (n : Annotation A). Each (SoundNote (most new) table) n.customs) (map (with_item f) xs)
   notes_of f table [] each = tt
-  notes_of f table (x ∷ xs) each = (notes_kept old new refl table x.customs each.0, notes_of f table xs each.1)
+  notes_of f table (x ∷ xs) each = (notes_kept old new same_documents table x.customs each.0, notes_of f table xs each.1)
 
   -- slots of one scope that differ have images that differ
   slot_apart : (s : AnnotatedScope) → ScopeFacts s → is_dropped m s.method ≡ false → (v u : Annotation VariableValue)
@@ -312,7 +323,7 @@ module _ (first : Bool) (m : Map) (w : AnnotatedFile) (ready : IsReadable m) (so
           (each_in (Contains s.constants) s.constants (λ v is. is))
           (pairs_row (λ a b. a.name ≢ b.name) (items_of s.constants) facts.sound_s.itself.constant_names_differ));
     };
-    customs = notes_kept old new refl 0x32 s.customs facts.sound_s.customs;
+    customs = notes_kept old new same_documents 0x32 s.customs facts.sound_s.customs;
     variables = notes_of (moved_variable m s.method) 0x33 s.variables facts.sound_s.variables;
     constants = notes_of (moved_constant m) 0x34 s.constants facts.sound_s.constants;
   }
@@ -373,7 +384,7 @@ module _ (first : Bool) (m : Map) (w : AnnotatedFile) (ready : IsReadable m) (so
         imports = row_each (SoundImport (most new)) (map (moved_import m) x.item.imports)
             (all_moved x.item.imports (each_row (SoundImport (most old)) x.item.imports each.0.0.imports) named.0);
       },
-      notes_kept old new refl 0x35 x.customs each.0.1,
+      notes_kept old new same_documents 0x35 x.customs each.0.1,
     ),
     imports_moved xs each.1 named.1,
   )
@@ -467,7 +478,32 @@ module _ (first : Bool) (m : Map) (w : AnnotatedFile) (ready : IsReadable m) (so
       by_place None is = is
       by_place (Some tag) is = refl
 
-  custom_moved : (c d : CustomValue) → moved_custom m c ≡ Some d → CustomFacts c → (d.parent.table < 0x2d) × SoundCustom (most new) d
+  -- a record before it moves
+  linked_facts : (c : CustomValue) → CustomFacts c → CustomFacts (linked m c)
+  linked_facts c facts = by_link (is_link c) refl m.link
+    where
+      free : is_link c ≡ true → kind_of [] c.kind ≡ Free
+      free is = ap (kind_of []) ((bytes_eq-Decides c.kind source_link).0
+          (and_parts (is_at 0x00 1 c.parent) (bytes_eq c.kind source_link) is).1)
+
+      by_link : (b : Bool) → is_link c ≡ b → (value : Option (List ℕ))
+          → CustomFacts (record c { value = unwrap_or (option_map Unread (cond b value None)) c.value })
+      by_link false is value = facts
+      by_link true is None = facts
+      by_link true is (Some value) = record {
+        low = facts.low;
+        sound_c = record {
+          tag = facts.sound_c.tag;
+          parent = facts.sound_c.parent;
+          stands_on = facts.sound_c.stands_on;
+          body = subst (λ kind. IsBodyOfKind (most old) kind (Unread value)) (sym (free is)) tt;
+        };
+        within = tt;
+        async = λ live. tt;
+        image = λ live. ((facts.image live).0, tt);
+      }
+
+  custom_moved : (c d : CustomValue) → moved_record m c ≡ Some d → CustomFacts c → (d.parent.table < 0x2d) × SoundCustom (most new) d
   custom_moved c d eq facts = by_drop (nat_eq c.parent.table 0x06 && is_dropped m c.parent.row) refl eq
     where
       image : CustomValue
@@ -489,7 +525,7 @@ module _ (first : Bool) (m : Map) (w : AnnotatedFile) (ready : IsReadable m) (so
             tag = tag_kept c.parent.table c.parent.row (moved_row m c.parent.table c.parent.row) facts.sound_c.tag;
             parent = (row.0, subst (λ n. moved_row m c.parent.table c.parent.row ≤ n) (sym (count_most new c.parent.table facts.low)) row.1);
             stands_on = facts.sound_c.stands_on;
-            body = body_kept m ready rise old new refl c.parent.row (kind_of [] c.kind) c.value facts.sound_c.body (facts.async live) facts.within
+            body = body_kept m ready rise old new same_documents c.parent.row (kind_of [] c.kind) c.value facts.sound_c.body (facts.async live) facts.within
                 (facts.image live).1;
           }
 
@@ -501,15 +537,10 @@ module _ (first : Bool) (m : Map) (w : AnnotatedFile) (ready : IsReadable m) (so
 
   -- ---- the file
 
-  documents_kept : (xs : List (Annotation DocumentValue)) → Each (λ (n : Annotation DocumentValue). Each (SoundNote (most old) 0x30) n.customs) xs
-      → Each (λ (n : Annotation DocumentValue). Each (SoundNote (most new) 0x30) n.customs) xs
-  documents_kept [] each = tt
-  documents_kept (x ∷ xs) each = (notes_kept old new refl 0x30 x.customs each.0, documents_kept xs each.1)
-
   pub moved_sound : SoundMoved (moved_file m w)
   moved_sound = record {
-    documents = documents_kept w.documents sound.documents;
-    names_differ = sound.names_differ;
+    documents = notes_of (moved_document m) 0x30 w.documents sound.documents;
+    names_differ = Pairs-map (with_item (moved_document m)) (λ (a b : Annotation DocumentValue). a.item.name ≢ b.item.name) w.documents fits.documents;
     methods = methods_moved;
     methods_differ = methods_apart;
     scopes = scopes_moved;
@@ -524,7 +555,8 @@ module _ (first : Bool) (m : Map) (w : AnnotatedFile) (ready : IsReadable m) (so
     machines = machines_moved;
     moved_differ = moves_apart;
     kickoffs_differ = kickoffs_apart;
-    customs = Each-filter_map (moved_custom m) CustomFacts (λ c. (c.parent.table < 0x2d) × SoundCustom (most new) c) custom_moved w.customs custom_facts;
+    customs = Each-filter_map (moved_custom m) CustomFacts (λ c. (c.parent.table < 0x2d) × SoundCustom (most new) c)
+        (λ c d eq facts. custom_moved (linked m c) d eq (linked_facts c facts)) w.customs custom_facts;
   }
 
   -- ---- the methods of which the moved file says something are images of methods that the file names
@@ -543,7 +575,7 @@ module _ (first : Bool) (m : Map) (w : AnnotatedFile) (ready : IsReadable m) (so
       (Each-weaker _ (λ (c : CustomValue). live_custom m c ≡ true → Contains (named_rows first m w) (names c.parent.table c.parent.row))
       (λ c holds live. (holds live).0) w.customs inside.customs)
 
-  custom_of_named : (c d : CustomValue) → moved_custom m c ≡ Some d
+  custom_of_named : (c d : CustomValue) → moved_record m c ≡ Some d
       → CustomFacts c × (live_custom m c ≡ true → Contains (named_rows first m w) (names c.parent.table c.parent.row))
       → d.parent.table ≡ 0x06 → IsOfNamed d.parent.row
   custom_of_named c d eq facts six = by_drop (nat_eq c.parent.table 0x06 && is_dropped m c.parent.row) refl eq
@@ -582,5 +614,8 @@ module _ (first : Bool) (m : Map) (w : AnnotatedFile) (ready : IsReadable m) (so
           subst IsOfNamed (sym stays.moves) (of_named r.move_next facts.sound_r.move_next.0 (facts.there stays.live).0 (facts.image stays.live).0),
           subst IsOfNamed (sym stays.starts) (of_named r.kickoff facts.sound_r.kickoff.0 (facts.there stays.live).1 (facts.image stays.live).1),
         )) w.machines machine_facts;
-    customs = Each-filter_map (moved_custom m) _ (λ (d : CustomValue). d.parent.table ≡ 0x06 → IsOfNamed d.parent.row) custom_of_named w.customs customs_inside;
+    customs = Each-filter_map (moved_custom m)
+        (λ (c : CustomValue). CustomFacts c × (live_custom m c ≡ true → Contains (named_rows first m w) (names c.parent.table c.parent.row)))
+        (λ (d : CustomValue). d.parent.table ≡ 0x06 → IsOfNamed d.parent.row)
+        (λ c d eq facts. custom_of_named (linked m c) d eq (linked_facts c facts.0, facts.1)) w.customs customs_inside;
   }

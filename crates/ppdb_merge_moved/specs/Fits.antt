@@ -1,9 +1,10 @@
 -- When a map fits a file (docs/FORMAT.md, "Fitting").
 use Rattle.ppdb_values.specs.Names.{Kept, old_size, Slot, Empty, Held, AsyncStep}
-use Rattle.std.specs.Prelude.{◌≡◌, ℕ, ◌<◌, ◌≤◌, Bool, true, IfSome, List, Some, Contains}
-use Rattle.ppdb_maps.specs.Map.{Map, row_image, offsets_in, slot_image}
-use Rattle.ppdb_values.specs.{declared.custom.CustomBody.{CustomBody, TheVariants.{Async, Hoisted}}, declared.annotation.Annotation.Annotation, declared.scope.VariableValue.VariableValue}
-use Rattle.ppdb_merge_items.specs.{declared.file.{AnnotatedScope.AnnotatedScope, AnnotatedFile.AnnotatedFile}, Each.Each, NamedRows.{Named, named_rows, live_scope, live_custom}}
+use Rattle.std.specs.Prelude.{◌≡◌, ◌≢◌, ℕ, ◌<◌, ◌≤◌, Bool, true, IfSome, List, Some, Contains}
+use Rattle.ppdb_maps.specs.Map.{Map, row_image, offsets_in, slot_image, moved_name}
+use Rattle.ppdb_values.specs.{declared.custom.CustomBody.{CustomBody, TheVariants.{Async, Hoisted}}, declared.annotation.Annotation.Annotation}
+use Rattle.ppdb_values.specs.{declared.file.DocumentValue.DocumentValue, declared.scope.VariableValue.VariableValue}
+use Rattle.ppdb_merge_items.specs.{declared.file.{AnnotatedScope.AnnotatedScope, AnnotatedFile.AnnotatedFile}, Each.{Each, Pairs}, NamedRows.{Named, named_rows, live_scope, live_custom}}
 
 -- ---- rows
 
@@ -50,11 +51,17 @@ SlotsAreApart m scopes = (s t : AnnotatedScope) (v w : Annotation VariableValue)
     → Contains s.variables v → Contains t.variables w → slot_image m s.method v.item.slot ≡ Some image → slot_image m t.method w.item.slot ≡ Some image
     → v.item.slot ≡ w.item.slot
 
+-- ---- documents
+
+-- the map gives two documents different names
+abbrev pub NamesDiffer : Map → Annotation DocumentValue → Annotation DocumentValue → Type 0
+NamesDiffer m a b = moved_name m a.item.name ≢ moved_name m b.item.name
+
 -- ---- the file
 
 -- Each row that the file names has an image, and no two of a table have one; points lie below the old size of their method, and ranges end
--- within it; async offsets are kept; slots of variables have images, and no two of a method have one. Nothing is asked of what stands at
--- a dropped method.
+-- within it; async offsets are kept; slots of variables have images, and no two of a method have one; no two documents get one name.
+-- Nothing is asked of what stands at a dropped method.
 pub record Fits (first : Bool) (m : Map) (file : AnnotatedFile) : Type 0 where
   pub images : Each (IsImaged m) (named_rows first m file)
   pub apart : (a b : Named) → Contains (named_rows first m file) a → Contains (named_rows first m file) b → AreApart m a b
@@ -64,3 +71,4 @@ pub record Fits (first : Bool) (m : Map) (file : AnnotatedFile) : Type 0 where
   pub async : Each (λ c. live_custom m c ≡ true → KeepsAsync m c.parent.row c.value) file.customs
   pub slots : Each (λ s. live_scope m s ≡ true → Each (HasSlot m s.method) s.variables) file.scopes
   pub slots_apart : SlotsAreApart m file.scopes
+  pub documents : Pairs (NamesDiffer m) file.documents

@@ -4,11 +4,15 @@ use Rattle.ppdb_base.specs.Offsets.{moved}
 use Rattle.ppdb_maps.specs.Map.{Map, moved_row, moved_signature, offsets_in, is_dropped}
 use Rattle.ppdb_values.specs.{declared.annotation.Custom.Custom, Meaning.{PointMeaning, ScopeMeaning, SlotMeaning, Meaning}, Links.Links}
 use Rattle.ppdb_merge_items.specs.Annotated.{with_item}
-use Rattle.ppdb_merge_moved.specs.Moved.{moved_range, moved_variable, moved_constant, moved_import, moved_body}
+use Rattle.ppdb_merge_moved.specs.Moved.{moved_range, moved_variable, moved_constant, moved_import, moved_body, moved_document}
 
--- the local signature is that of the method's `signature` line; else it keeps its own, moved
+-- the document gets the name that the map gives it; the local signature is that of the method's `signature` line, else its own, moved
 abbrev pub point_image : Map → ℕ → PointMeaning → PointMeaning
-point_image m method p = record p { offset = moved (offsets_in m method) p.offset; signature = moved_signature m method p.signature }
+point_image m method p = record p {
+  offset = moved (offsets_in m method) p.offset;
+  document = option_map (moved_document m) p.document;
+  signature = moved_signature m method p.signature;
+}
 
 abbrev pub scope_image : Map → ℕ → ScopeMeaning → ScopeMeaning
 scope_image m method s = record s {

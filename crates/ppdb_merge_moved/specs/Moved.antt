@@ -1,11 +1,12 @@
 -- A file moved by a map: rows, offsets and slots become their images, and what has none goes.
-use Rattle.ppdb_values.specs.Names.{Offsets, moved, Point, TypeToken, Modifier, Range, Slot, Empty, Held, AsyncStep, MachineRow, moved_points}
-use Rattle.std.specs.Prelude.{ℕ, ◌+◌, ◌&&◌, ◌||◌, not, Bool, cond, nat_eq, nat_lt, List, [], ◌∷◌, Option, Some, None, unwrap_or, map, filter_map, option_map}
-use Rattle.ppdb_maps.specs.Map.{Map, moved_row, moved_signature, offsets_in, slot_image, is_dropped, output_count}
-use Rattle.ppdb_values.specs.{declared.file.MethodValue.MethodValue, declared.scope.{VariableValue.VariableValue, ConstantValue.ConstantValue, ConstantBody.ConstantBody}}
+use Rattle.ppdb_values.specs.Names.{Offsets, moved, Point, TypeToken, Modifier, Range, Slot, Empty, Held, AsyncStep, MachineRow, moved_points, source_link}
+use Rattle.std.specs.Prelude.{ℕ, ◌+◌, ◌&&◌, ◌||◌, not, Bool, cond, nat_eq, nat_lt, bytes_eq, List, [], ◌∷◌, Option, Some, None, unwrap_or, map, filter_map, option_map}
+use Rattle.ppdb_maps.specs.Map.{Map, moved_row, moved_signature, moved_name, offsets_in, slot_image, is_dropped, output_count}
+use Rattle.ppdb_values.specs.declared.file.{DocumentValue.DocumentValue, MethodValue.MethodValue}
+use Rattle.ppdb_values.specs.declared.scope.{VariableValue.VariableValue, ConstantValue.ConstantValue, ConstantBody.ConstantBody}
 use Rattle.ppdb_values.specs.{declared.scope.ConstantBody.TheVariants.{Enumerated, General}, declared.import.ImportValue.ImportValue}
 use Rattle.ppdb_values.specs.declared.import.{ImportValue.TheVariants.{AssemblyNamespace, Target, AssemblyAlias, AssemblyNamespaceAlias, TargetAlias}, ImportScopeValue.ImportScopeValue}
-use Rattle.ppdb_values.specs.declared.custom.{CustomBody.{CustomBody, TheVariants.{Async, Hoisted}}, CustomValue.CustomValue}
+use Rattle.ppdb_values.specs.{declared.custom.{CustomBody.{CustomBody, TheVariants.{Async, Hoisted, Unread}}, CustomValue.CustomValue}, Parts.is_at}
 use Rattle.ppdb_merge_items.specs.{declared.file.{AnnotatedScope.AnnotatedScope, AnnotatedFile.AnnotatedFile}, Annotated.with_item}
 
 -- ---- offsets
@@ -57,7 +58,21 @@ moved_import m (AssemblyNamespaceAlias alias assembly namespace) = AssemblyNames
 moved_import m (TargetAlias alias target) = TargetAlias alias (moved_token m target)
 moved_import m import = import
 
+-- ---- Source Link
+
+-- a Source Link record on row 1 of Module
+abbrev pub is_link : CustomValue → Bool
+is_link c = is_at 0x00 1 c.parent && bytes_eq c.kind source_link
+
+-- A record before it moves: a Source Link record on row 1 of Module says the VALUE of the map's `link` line, where there is one.
+abbrev pub linked : Map → CustomValue → CustomValue
+linked m c = record c { value = unwrap_or (option_map Unread (cond (is_link c) m.link None)) c.value }
+
 -- ---- items; each keeps the records on it
+
+-- a document gets the name that the map gives it
+abbrev pub moved_document : Map → DocumentValue → DocumentValue
+moved_document m d = record d { name = moved_name m d.name }
 
 abbrev pub moved_variable : Map → ℕ → VariableValue → VariableValue
 moved_variable m method v = record v { slot = unwrap_or (slot_image m method v.slot) 0 }
@@ -103,13 +118,17 @@ moved_machine m r =
     (Some (record { move_next = moved_row m 0x06 r.move_next; kickoff = moved_row m 0x06 r.kickoff }))
 
 -- a record on a dropped method goes
-abbrev pub moved_custom : Map → CustomValue → Option CustomValue
-moved_custom m c =
+abbrev pub moved_record : Map → CustomValue → Option CustomValue
+moved_record m c =
     cond (nat_eq c.parent.table 0x06 && is_dropped m c.parent.row) None (Some (record {
       parent = record { table = c.parent.table; row = moved_row m c.parent.table c.parent.row };
       kind = c.kind;
       value = moved_body m c.parent.row c.value;
     }))
+
+-- a record moves with what the map's `link` line makes it say
+abbrev pub moved_custom : Map → CustomValue → Option CustomValue
+moved_custom m c = moved_record m (linked m c)
 
 -- ---- the file
 
@@ -122,7 +141,7 @@ moved_file m file = record {
   id = file.id;
   entry = moved_row m 0x06 file.entry;
   rows = moved_counts m 0 file.rows;
-  documents = file.documents;
+  documents = map (with_item (moved_document m)) file.documents;
   methods = filter_map (moved_method m) file.methods;
   scopes = filter_map (moved_scope m) file.scopes;
   imports = map (with_item (moved_import_scope m)) file.imports;

@@ -3,6 +3,7 @@ ghost use Rattle.std.specs.Prelude.{◌≡◌, IfOk};
 ghost use Rattle.ppdb_merge_moved.specs.Moved.{moved_counts, moved_file};
 
 use crate::moves::{move_all, moved_all};
+use crate::named::{moved_customs, name_documents};
 use ppdb_base::Memory;
 use ppdb_maps::MapText;
 use ppdb_merge_items::AnnotatedFile;
@@ -27,6 +28,7 @@ pub fn moved_file(
 ) -> Result<AnnotatedFile, Memory>
     ensures { IfOk result (λ moved. moved ≡ moved_file map.now file) }
 {
+    name_documents(alloc, file.documents.as_mut_slice(), map)?;
     move_all(file.imports.as_mut_slice(), map);
     Ok(AnnotatedFile {
         id: file.id,
@@ -37,6 +39,6 @@ pub fn moved_file(
         scopes: moved_all(alloc, file.scopes, map)?,
         imports: file.imports,
         machines: moved_all(alloc, file.machines, map)?,
-        customs: moved_all(alloc, file.customs, map)?,
+        customs: moved_customs(alloc, file.customs, map)?,
     })
 }

@@ -9,6 +9,7 @@ mod laws;
 mod locals;
 mod methods;
 mod moves;
+mod named;
 mod offsets;
 mod records;
 mod types;

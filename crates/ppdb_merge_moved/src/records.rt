@@ -54,9 +54,9 @@ impl Moves<InMethod<'_>> for CustomBody {
 
 /// A custom record on a row of the type system stays where it is on no dropped method.
 impl Stays<MapText> for CustomValue {
-    ghost use Rattle.ppdb_merge_moved.specs.Moved.{moved_custom};
+    ghost use Rattle.ppdb_merge_moved.specs.Moved.{moved_record};
 
-    ghost stays = { moved_custom };
+    ghost stays = { moved_record };
 
     fn stay_by(mut self, map: &MapText) -> Option<CustomValue> {
         let Parent { table, row } = self.parent;

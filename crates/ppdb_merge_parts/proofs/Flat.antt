@@ -24,9 +24,9 @@ use Rattle.ppdb_merge_items.proofs.Mapped.{map_map_both}
 use Rattle.ppdb_merge_joined.specs.Joined.{joined, joined_documents, joined_document, joined_parts, joined_rows, row_in, row_named, renumbered, renumbered_all, firsts}
 use Rattle.ppdb_merge_joined.specs.Joined.{renumbered_method, renumbered_scope, renumbered_import}
 use Rattle.ppdb_merge_moved.specs.Moved.{moved_file, moved_method, moved_scope, moved_import_scope, moved_range, is_empty}
-use Rattle.ppdb_merge_moved.specs.Moved.{moved_variable, moved_constant, with_points, scope_image as annotated_image}
+use Rattle.ppdb_merge_moved.specs.Moved.{moved_variable, moved_constant, moved_document, with_points, scope_image as annotated_image}
 use Rattle.ppdb_merge_meaning_laws.specs.Kept.{MovedBy, in_turn, moved_input, joined_inputs}
-use Rattle.ppdb_merge_parts.specs.Flat.{Counted, counted, rows_of, documents_of, document_rows, method_image, moved_scope_value, scope_image}
+use Rattle.ppdb_merge_parts.specs.Flat.{Counted, counted, rows_of, moved_documents, documents_of, document_rows, method_image, moved_scope_value, scope_image}
 use Rattle.ppdb_merge_parts.specs.Flat.{import_image, machine_image, IsFlat, HasHeadOf, JoinedPartsAreFlat}
 use Rattle.ppdb_merge_parts.proofs.Lists.{map_numbered, filter_map_numbered, map_filter_map, filter_map_map, map_flat, filter_map_flat, flat_same}
 use Rattle.ppdb_merge_parts.proofs.Ordered.{in_order_made, in_order_map}
@@ -59,18 +59,26 @@ parts_flat documents part piece each before (input ∷ inputs) =
 
 -- ---- documents
 
-items_are : {X : Type 0} (value : FileValue) (table first : ℕ) (xs : List X) → items_of (annotated_from value table first xs) ≡ xs
-items_are value table first xs = map_numbered _ (λ n. n.item) (λ x. x) (λ n x. refl) first xs ∙ map-id xs
+items_moved : {X : Type 0} (value : FileValue) (table first : ℕ) (f : X → X) (xs : List X)
+    → items_of (map (with_item f) (annotated_from value table first xs)) ≡ map f xs
+items_moved value table first f xs =
+    map_map_both (λ n. n.item) (with_item f) (annotated_from value table first xs)
+    ∙ map_numbered _ _ f (λ n x. refl) first xs
 
 documents_flat : (inputs : List MovedBy) → flat_map (λ (file : AnnotatedFile). items_of file.documents) (map moved_of inputs)
-    ≡ flat_map (λ (input : MovedBy). input.value.documents) inputs
+    ≡ flat_map moved_documents inputs
 documents_flat [] = refl
 documents_flat (input ∷ inputs) =
-    ap (λ l. l ++ flat_map (λ (file : AnnotatedFile). items_of file.documents) (map moved_of inputs)) (items_are input.value 0x30 1 input.value.documents)
-    ∙ ap (λ l. input.value.documents ++ l) (documents_flat inputs)
+    ap (λ l. l ++ flat_map (λ (file : AnnotatedFile). items_of file.documents) (map moved_of inputs))
+    (items_moved input.value 0x30 1 (moved_document input.map) input.value.documents)
+    ∙ ap (λ l. moved_documents input ++ l) (documents_flat inputs)
 
+-- a document of the moved file has the row of its new name
 pub rows_are : (documents : List DocumentValue) (input : MovedBy) → joined_rows documents (moved_of input) ≡ document_rows documents input
-rows_are documents input = map_numbered _ _ (λ (d : DocumentValue). row_named documents d.name) (λ n d. refl) 1 input.value.documents
+rows_are documents input =
+    map_map_both _ (with_item (moved_document input.map)) (annotated_from input.value 0x30 1 input.value.documents)
+    ∙ map_numbered _ _ (λ (d : DocumentValue). row_named documents (moved_document input.map d).name) (λ n d. refl) 1 input.value.documents
+    ∙ sym (map_map_both (λ (d : DocumentValue). row_named documents d.name) (moved_document input.map) input.value.documents)
 
 -- ---- one input
 
@@ -80,12 +88,6 @@ methods_one : (documents : List DocumentValue) (before : ℕ) (input : MovedBy)
 methods_one documents before input =
     ap (λ rows. map (renumbered_method (row_in rows)) (filter_map (moved_method input.map) input.value.methods)) (rows_are documents input)
     ∙ map_filter_map (moved_method input.map) (renumbered_method (row_in (document_rows documents input))) input.value.methods
-
-items_moved : {X : Type 0} (value : FileValue) (table first : ℕ) (f : X → X) (xs : List X)
-    → items_of (map (with_item f) (annotated_from value table first xs)) ≡ map f xs
-items_moved value table first f xs =
-    map_map_both (λ n. n.item) (with_item f) (annotated_from value table first xs)
-    ∙ map_numbered _ _ f (λ n x. refl) first xs
 
 -- a scope as it stands in the value
 module _ (before : ℕ) (input : MovedBy) (n : ℕ) (s : ScopeValue) where

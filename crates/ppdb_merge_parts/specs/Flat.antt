@@ -7,7 +7,7 @@ use Rattle.ppdb_values.specs.{declared.file.{DocumentValue.DocumentValue, FileVa
 use Rattle.ppdb_values.specs.declared.scope.ScopeValue.{ScopeValue}
 use Rattle.ppdb_merge_items.specs.Sorted.{in_order}
 use Rattle.ppdb_merge_joined.specs.Joined.{firsts, row_named, row_in, shifted, renumbered_method, renumbered_import}
-use Rattle.ppdb_merge_moved.specs.Moved.{moved_range, is_empty, moved_variable, moved_constant, moved_import_scope, moved_method, moved_machine, moved_counts}
+use Rattle.ppdb_merge_moved.specs.Moved.{moved_range, is_empty, moved_variable, moved_constant, moved_import_scope, moved_method, moved_machine, moved_document, moved_counts}
 use Rattle.ppdb_merge_meaning_laws.specs.Kept.{MovedBy, joined_inputs}
 
 -- ---- rows of inputs
@@ -26,13 +26,17 @@ rows_of part inputs = flat_map (λ (input : Counted). map (λ row. (input, row))
 
 -- ---- what becomes of a row
 
+-- the documents of an input, by the names that its map gives them
+abbrev pub moved_documents : MovedBy → List DocumentValue
+moved_documents input = map (moved_document input.map) input.value.documents
+
 -- the documents of all inputs by name, the first of each name
 abbrev pub documents_of : List MovedBy → List DocumentValue
-documents_of inputs = firsts [] (flat_map (λ (input : MovedBy). input.value.documents) inputs)
+documents_of inputs = firsts [] (flat_map moved_documents inputs)
 
 -- the rows that an input's documents have among these
 abbrev pub document_rows : List DocumentValue → MovedBy → List ℕ
-document_rows documents input = map (λ (d : DocumentValue). row_named documents d.name) input.value.documents
+document_rows documents input = map (λ (d : DocumentValue). row_named documents d.name) (moved_documents input)
 
 -- a method whose points all go leaves the file
 abbrev pub method_image : List DocumentValue → Counted × MethodValue → Option MethodValue

@@ -6,6 +6,7 @@ use Rattle.std.specs.Option.{option_map}
 use Rattle.std.proofs.lemmas.Bool.{cases_lt, eq-eqb, eqb-true, ne_eqb, and_parts}
 use Rattle.std.proofs.lemmas.List.{map-append}
 use Rattle.std.proofs.lemmas.List.Elements.{filter-append}
+use Rattle.ppdb_maps.specs.Map.{Map}
 use Rattle.ppdb_tables.specs.Parents.{CodesAreParents}
 use Rattle.ppdb_tables.specs.RawTables.{row_at}
 use Rattle.ppdb_values.specs.declared.annotation.Annotation.{Annotation}
@@ -15,6 +16,7 @@ use Rattle.ppdb_values.specs.declared.file.FileValue.{FileValue}
 use Rattle.ppdb_values.specs.Meaning.{annotated_on, annotated_from, without_parent}
 use Rattle.ppdb_values_sound_laws.specs.Customs.{SoundCustom, SoundCustoms, coded_of}
 use Rattle.ppdb_values_sound_laws.specs.Named.{HasRow}
+use Rattle.ppdb_merge_items.specs.Annotated.{with_item}
 use Rattle.ppdb_merge_items.specs.Each.{Each, Pairs}
 use Rattle.ppdb_merge_items.proofs.Lists.{Each-filter, Each-weaker, Pairs-weaker, each_of, each_row}
 use Rattle.ppdb_merge_items.proofs.Mapped.{row_map}
@@ -27,7 +29,8 @@ use Rattle.ppdb_merge_joined.specs.Joined.{row_named}
 use Rattle.ppdb_merge_joined.proofs.Each.{Each-unflat}
 use Rattle.ppdb_merge_joined.proofs.Names.{bytes_same, same_bytes, bytes_apart, found_within, is_named, firsts_differ, firsts_has, each_row_at}
 use Rattle.ppdb_merge_meaning_laws.specs.Kept.{MovedBy}
-use Rattle.ppdb_merge_parts.specs.Flat.{documents_of, document_rows}
+use Rattle.ppdb_merge_moved.specs.Moved.{moved_document}
+use Rattle.ppdb_merge_parts.specs.Flat.{documents_of, document_rows, moved_documents}
 use Rattle.ppdb_merge_records_laws.proofs.Numbers.{comes_at, passes, found_at}
 use Rattle.ppdb_merge_records_laws.proofs.Placed.{filter_none}
 
@@ -197,7 +200,7 @@ module _ (inputs : List MovedBy) where
   named_once name =
       Pairs-weaker (λ (a b : DocumentValue). a.name ≢ b.name) _
       (λ a b apart is. bytes_apart b.name name (λ e. apart (same_bytes a.name name is ∙ sym e))) documents
-      (firsts_differ [] (flat_map (λ (input : MovedBy). input.value.documents) inputs))
+      (firsts_differ [] (flat_map moved_documents inputs))
 
   place_is : (o : Option ℕ) (i : ℕ) → nat_eq (unwrap_or (option_map suc o) 0) (suc i) ≡ comes_at (option_map suc o) (suc i)
   place_is None i = ne_eqb 0 (suc i) (λ e. omega (arith, e))
@@ -229,21 +232,54 @@ module _ (inputs : List MovedBy) where
       or_true true = refl
       or_true false = refl
 
-  pub have_rows : Each (λ (input : MovedBy). Each (λ (d : DocumentValue). 1 ≤ row_named documents d.name) input.value.documents) inputs
+  pub have_rows : Each (λ (input : MovedBy). Each (λ (d : DocumentValue). 1 ≤ row_named documents d.name) (moved_documents input)) inputs
   have_rows =
-      let all = flat_map (λ (input : MovedBy). input.value.documents) inputs in
-      Each-unflat (λ (input : MovedBy). input.value.documents) (λ (d : DocumentValue). 1 ≤ row_named documents d.name) inputs
+      let all = flat_map moved_documents inputs in
+      Each-unflat moved_documents (λ (d : DocumentValue). 1 ≤ row_named documents d.name) inputs
       (Each-weaker (λ (d : DocumentValue). is_named all d.name ≡ true) _
       (λ d is. (found_within (λ (e : DocumentValue). bytes_eq e.name d.name) documents (firsts_has [] all d.name is refl)).0) all (all_named all))
 
-  pub comes_to : (input : MovedBy) → Each (λ (d : DocumentValue). 1 ≤ row_named documents d.name) input.value.documents → (row number : ℕ)
-      → comes_at (row_at (document_rows documents input) number) row ≡ passes (named_as (row_at documents row)) (row_at input.value.documents number)
+  pub comes_to : (input : MovedBy) → Each (λ (d : DocumentValue). 1 ≤ row_named documents d.name) (moved_documents input) → (row number : ℕ)
+      → comes_at (row_at (document_rows documents input) number) row ≡ passes (named_as (row_at documents row)) (row_at (moved_documents input) number)
   comes_to input there row number =
-      ap (λ o. comes_at o row) (row_map (λ (d : DocumentValue). row_named documents d.name) input.value.documents number)
-      ∙ step number (row_at input.value.documents number) refl
+      ap (λ o. comes_at o row) (row_map (λ (d : DocumentValue). row_named documents d.name) (moved_documents input) number)
+      ∙ step number (row_at (moved_documents input) number) refl
     where
-      step : (number : ℕ) (o : Option DocumentValue) → row_at input.value.documents number ≡ o
+      step : (number : ℕ) (o : Option DocumentValue) → row_at (moved_documents input) number ≡ o
           → comes_at (option_map (λ (d : DocumentValue). row_named documents d.name) o) row ≡ passes (named_as (row_at documents row)) o
       step number None is = refl
       step zero (Some e) is = cc
-      step (suc i) (Some e) is = document_at row e (each_row_at (λ (d : DocumentValue). 1 ≤ row_named documents d.name) input.value.documents i e there is)
+      step (suc i) (Some e) is = document_at row e (each_row_at (λ (d : DocumentValue). 1 ≤ row_named documents d.name) (moved_documents input) i e there is)
+
+-- ---- an input's documents by the names that its map gives them
+
+-- a row passes by the new name of its document
+pub passes_moved : (input : MovedBy) (p : DocumentValue → Bool) (number : ℕ)
+    → passes p (row_at (moved_documents input) number) ≡ passes (λ (d : DocumentValue). p (moved_document input.map d)) (row_at input.value.documents number)
+passes_moved input p number =
+    ap (passes p) (row_map (moved_document input.map) input.value.documents number) ∙ step (row_at input.value.documents number)
+  where
+    step : (o : Option DocumentValue)
+        → passes p (option_map (moved_document input.map) o) ≡ passes (λ (d : DocumentValue). p (moved_document input.map d)) o
+    step None = refl
+    step (Some d) = refl
+
+-- a document keeps the records on it
+pub customs_moved : (m : Map) (p : DocumentValue → Bool) (ns : List (Annotation DocumentValue))
+    → flat_map (λ (n : Annotation DocumentValue). n.customs)
+    (filter (λ (n : Annotation DocumentValue). p n.item) (map (with_item (moved_document m)) ns))
+    ≡ flat_map (λ (n : Annotation DocumentValue). n.customs) (filter (λ (n : Annotation DocumentValue). p (moved_document m n.item)) ns)
+customs_moved m p [] = refl
+customs_moved m p (n ∷ ns) = step (p (moved_document m n.item)) (customs_moved m p ns)
+  where
+    after : List (Annotation DocumentValue)
+    after = filter (λ (n : Annotation DocumentValue). p n.item) (map (with_item (moved_document m)) ns)
+
+    before : List (Annotation DocumentValue)
+    before = filter (λ (n : Annotation DocumentValue). p (moved_document m n.item)) ns
+
+    step : (b : Bool) → flat_map (λ (n : Annotation DocumentValue). n.customs) after ≡ flat_map (λ (n : Annotation DocumentValue). n.customs) before
+        → flat_map (λ (n : Annotation DocumentValue). n.customs) (cond b (with_item (moved_document m) n ∷ after) after)
+        ≡ flat_map (λ (n : Annotation DocumentValue). n.customs) (cond b (n ∷ before) before)
+    step true rest = ap (λ l. n.customs ++ l) rest
+    step false rest = rest

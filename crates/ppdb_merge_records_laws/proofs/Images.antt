@@ -1,10 +1,11 @@
 -- What becomes of the records of one input.
 use Rattle.std.proofs.Common.{◌≡◌, ℕ, ◌≤◌, ◌&&◌, Bool, true, false, cond, List, [], ◌∷◌, Option, Some, None, map, refl, sym, ap}
-use Rattle.std.proofs.Common.{◌∙◌, arith}
+use Rattle.std.proofs.Common.{◌∙◌, arith, ◌==◌}
 use Rattle.std.specs.Prelude.{nat_eq, nat_lt, filter, IsSome}
 use Rattle.std.specs.List.{filter_map, cons_option}
 use Rattle.std.specs.Option.{option_map}
 use Rattle.std.proofs.lemmas.Bool.{eqb-true, and_parts}
+use Rattle.std.proofs.lemmas.Bool.Decides.{nat_tests}
 use Rattle.custom_info.specs.declared.kinds.Kind.{Kind}
 use Rattle.custom_info.specs.declared.kinds.Kind.TheVariants.{Async as AsyncKind, Hoisted as HoistedKind, TypeDocuments as DocumentsKind, Free, Unknown}
 use Rattle.custom_info.specs.Kinds.{kind_of}
@@ -23,7 +24,7 @@ use Rattle.ppdb_merge_items.proofs.Mapped.{map_map_both}
 use Rattle.ppdb_merge_items.proofs.Parents.{HasTag}
 use Rattle.ppdb_merge_items.proofs.Rows.{at}
 use Rattle.ppdb_merge_joined.specs.Joined.{row_in, with_documents, renumbered_custom}
-use Rattle.ppdb_merge_moved.specs.Moved.{moved_body, moved_custom}
+use Rattle.ppdb_merge_moved.specs.Moved.{linked, moved_body, moved_custom}
 use Rattle.ppdb_merge_meaning_laws.specs.Kept.{MovedBy}
 use Rattle.ppdb_merge_parts.specs.Flat.{documents_of, document_rows}
 use Rattle.ppdb_merge_records_laws.specs.Records.{Numbered, parent_row, record_on, record_image}
@@ -52,6 +53,12 @@ module _ (value : FileValue) (m : Map) (method : ℕ) (row : ℕ → ℕ) (table
   body_stays DocumentsKind (TypeDocuments rows) on is = absurd (omega (arith, on, high))
   body_stays Free (TypeDocuments rows) on is = absurd is
   body_stays Unknown (TypeDocuments rows) on is = absurd is
+
+-- a `link` line says nothing of it
+high_linked : (m : Map) (c : CustomValue) → 0x2d ≤ c.parent.table → (linked m c).value ≡ c.value
+high_linked m c high =
+    let no : (c.parent.table == 0x00) ≡ false = grind (arith, nat_tests, high) in
+    rw no refl
 
 -- ---- the records of one input
 
@@ -97,7 +104,9 @@ module _ (inputs : List MovedBy) (input : Numbered) where
       → record_on inputs input c row ≡ on_row table row (without_parent c)
   remade table row high c is sound =
       ap (λ value. record (record_on inputs input c row) { value = value })
-      (body_stays input.1.value input.1.map c.parent.row (row_in (document_rows (documents_of inputs) input.1)) c.parent.table (omega (arith, is, high))
+      (ap (λ body. with_documents (row_in (document_rows (documents_of inputs) input.1)) (moved_body input.1.map c.parent.row body))
+      (high_linked input.1.map c (omega (arith, is, high)))
+      ∙ body_stays input.1.value input.1.map c.parent.row (row_in (document_rows (documents_of inputs) input.1)) c.parent.table (omega (arith, is, high))
       (kind_of [] c.kind) c.value sound.stands_on sound.body)
       ∙ ap (λ t. record { parent = record { table = t; row = row }; kind = c.kind; value = c.value }) is
 
@@ -132,7 +141,7 @@ module _ (inputs : List MovedBy) (input : Numbered) where
           ≡ map renumber (cons_option (cond b None (Some (record {
             parent = record { table = c.parent.table; row = moved_row input.1.map c.parent.table c.parent.row };
             kind = c.kind;
-            value = moved_body input.1.map c.parent.row c.value;
+            value = moved_body input.1.map c.parent.row (linked input.1.map c).value;
           }))) (filter_map (moved_custom input.1.map) (filter low cs)))
       by_bit true is rest = rest
       by_bit false is rest = rw is (ap (λ l. record_on inputs input c (moved_row input.1.map c.parent.table c.parent.row) ∷ l) rest)

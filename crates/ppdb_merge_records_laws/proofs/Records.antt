@@ -30,12 +30,12 @@ use Rattle.ppdb_merge_joined.specs.Joined.{joined_parts, renumbered_all, renumbe
 use Rattle.ppdb_merge_joined.specs.Same.{fresh, same_custom, same_record}
 use Rattle.ppdb_merge_joined.proofs.Each.{Each-with}
 use Rattle.ppdb_merge_joined.proofs.Kept.{fresh_each}
-use Rattle.ppdb_merge_moved.specs.Moved.{moved_custom}
+use Rattle.ppdb_merge_moved.specs.Moved.{moved_custom, moved_document}
 use Rattle.ppdb_merge_meaning_laws.specs.Kept.{MovedBy, joined_inputs}
-use Rattle.ppdb_merge_parts.specs.Flat.{documents_of, document_rows}
+use Rattle.ppdb_merge_parts.specs.Flat.{documents_of, document_rows, moved_documents}
 use Rattle.ppdb_merge_records_laws.specs.Records.{Numbered, Origin, scope_origins, owned_origins, import_origins, origins_in, row_of, parent_row, record_image, records_of}
 use Rattle.ppdb_merge_records_laws.specs.Records.{JoinedRecordsAreFlat}
-use Rattle.ppdb_merge_records_laws.proofs.Documents.{comes_to, documents_spread, have_rows, named_as, spread_passes}
+use Rattle.ppdb_merge_records_laws.proofs.Documents.{comes_to, customs_moved, documents_spread, have_rows, named_as, passes_moved, spread_passes}
 use Rattle.ppdb_merge_parts.proofs.Flat.{file_same, moved_of, rows_are}
 use Rattle.ppdb_merge_records_laws.proofs.Fresh.{fresh_filter, fresh_map, fresh_none, fresh_one, of_one}
 use Rattle.ppdb_merge_records_laws.proofs.Groups.{map_each, named_records, noted, on_constants, on_documents, on_imports, on_scopes, on_variables}
@@ -260,9 +260,9 @@ module _ (inputs : List MovedBy) where
       documents = documents_of inputs
 
       abbrev input_passes : Numbered → ℕ → Bool
-      input_passes input number = passes (named_as (row_at documents row)) (row_at input.1.value.documents number)
+      input_passes input number = passes (named_as (row_at documents row)) (row_at (moved_documents input.1) number)
 
-      comes_named : (input : Numbered) → Each (λ (d : DocumentValue). 1 ≤ row_named documents d.name) input.1.value.documents → (c : CustomValue)
+      comes_named : (input : Numbered) → Each (λ (d : DocumentValue). 1 ≤ row_named documents d.name) (moved_documents input.1) → (c : CustomValue)
           → comes_on inputs input 0x30 row c ≡ (nat_eq c.parent.table 0x30 && input_passes input c.parent.row)
       comes_named input there c = step (nat_eq c.parent.table 0x30) refl
         where
@@ -276,16 +276,16 @@ module _ (inputs : List MovedBy) where
               ap (λ o. comes_at o row) (parent_is (eqb-true c.parent.table 0x30 is)) ∙ comes_to inputs input.1 there row c.parent.row
 
       abbrev IsReady : Numbered → Type 0
-      IsReady input = SoundCustoms input.1.value × Each (λ (d : DocumentValue). 1 ≤ row_named documents d.name) input.1.value.documents
+      IsReady input = SoundCustoms input.1.value × Each (λ (d : DocumentValue). 1 ≤ row_named documents d.name) (moved_documents input.1)
 
       ready : Each IsReady numbers
       ready =
-          Each-enumerate (λ (input : MovedBy). SoundCustoms input.value × Each (λ (d : DocumentValue). 1 ≤ row_named documents d.name) input.value.documents) 0
+          Each-enumerate (λ (input : MovedBy). SoundCustoms input.value × Each (λ (d : DocumentValue). 1 ≤ row_named documents d.name) (moved_documents input)) 0
           inputs (Each-with (λ (input : MovedBy). SoundCustoms input.value) _ _ (λ input s there. (s, there)) inputs sound (have_rows inputs))
 
       come_named : (input : Numbered) → IsReady input → coming 0x30 row input
           ≡ map (on_row 0x30 row) (flat_map (λ (n : Annotation DocumentValue). n.customs)
-          (filter (λ (n : Annotation DocumentValue). named_as (row_at documents row) n.item) (annotated_file input.1.value).documents))
+          (filter (λ (n : Annotation DocumentValue). named_as (row_at documents row) n.item) (moved_of input.1).documents))
       come_named input is =
           let value = input.1.value in
           images_on inputs input 0x30 row (omega arith) value.customs (each_row (SoundCustom value) value.customs is.0.each)
@@ -294,8 +294,9 @@ module _ (inputs : List MovedBy) where
           ∙ filter_both (λ c. nat_eq c.parent.table 0x30) (λ c. input_passes input c.parent.row) value.customs
           ∙ ap (filter (λ c. input_passes input c.parent.row)) (documents_spread value codes is.0))
           ∙ ap (map (on_row 0x30 row))
-          (spread_passes value (input_passes input) (named_as (row_at documents row)) 1 value.documents
-          (λ k. let e : 1 + k ≡ suc k = omega arith in ap (input_passes input) e))
+          (spread_passes value (input_passes input) (λ (d : DocumentValue). named_as (row_at documents row) (moved_document input.1.map d)) 1 value.documents
+          (λ k. let e : 1 + k ≡ suc k = omega arith in ap (input_passes input) e ∙ passes_moved input.1 (named_as (row_at documents row)) (suc k))
+          ∙ sym (customs_moved input.1.map (named_as (row_at documents row)) (annotated_file value).documents))
 
       by_document : (o : Option DocumentValue) → row_at documents row ≡ o
           → filter (at 0x30 row) records
@@ -305,8 +306,8 @@ module _ (inputs : List MovedBy) where
           (Each-weaker IsReady _
           (λ input r. come_named input r
           ∙ ap (λ l. map (on_row 0x30 row) (flat_map (λ (n : Annotation DocumentValue). n.customs) l))
-          (filter_none _ (annotated_file input.1.value).documents
-          (each_of _ (λ (n : Annotation DocumentValue). ap (λ o. named_as o n.item) is) (annotated_file input.1.value).documents))) numbers ready)
+          (filter_none _ (moved_of input.1).documents
+          (each_of _ (λ (n : Annotation DocumentValue). ap (λ o. named_as o n.item) is) (moved_of input.1).documents))) numbers ready)
       by_document (Some d) is =
           records_at 0x30 row
           ∙ ap (fresh same_record [])
@@ -314,7 +315,7 @@ module _ (inputs : List MovedBy) where
           (Each-weaker IsReady _
           (λ input r. come_named input r
           ∙ ap (λ o. map (on_row 0x30 row) (flat_map (λ (n : Annotation DocumentValue). n.customs)
-          (filter (λ (n : Annotation DocumentValue). named_as o n.item) (annotated_file input.1.value).documents))) is) numbers ready)
+          (filter (λ (n : Annotation DocumentValue). named_as o n.item) (moved_of input.1).documents))) is) numbers ready)
           ∙ unnumbered (λ (input : MovedBy). map (on_row 0x30 row) (customs_named d.name (moved_of input))) 0 inputs
           ∙ sym (map_map_both (map (on_row 0x30 row)) (λ (input : MovedBy). customs_named d.name (moved_of input)) inputs)
           ∙ ap (map (map (on_row 0x30 row))) (sym (map_map_both (customs_named d.name) moved_of inputs)))

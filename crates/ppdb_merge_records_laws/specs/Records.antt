@@ -8,7 +8,7 @@ use Rattle.ppdb_values.specs.{declared.custom.CustomValue.CustomValue, declared.
 use Rattle.ppdb_values_sound_laws.specs.Customs.{SoundCustoms, coded_of}
 use Rattle.ppdb_merge_items.specs.{Each.Each, Sorted.in_order}
 use Rattle.ppdb_merge_joined.specs.{Joined.{row_in, with_documents}, Same.{fresh, same_record}}
-use Rattle.ppdb_merge_moved.specs.Moved.{moved_range, is_empty, moved_body}
+use Rattle.ppdb_merge_moved.specs.Moved.{moved_range, is_empty, linked, moved_body}
 use Rattle.ppdb_merge_meaning_laws.specs.Kept.{MovedBy, joined_inputs}
 use Rattle.ppdb_merge_parts.specs.Flat.{documents_of, document_rows}
 
@@ -77,12 +77,13 @@ parent_row inputs input parent =
     (cond (nat_eq parent.table 0x30) (row_at (document_rows (documents_of inputs) input.1) parent.row)
     (row_of (origins_in inputs parent.table) (input.0, parent.row)))
 
--- the record on another row of that table, its body moved and the documents in it by their rows in the joined file
+-- the record on another row of that table, with what the map's `link` line makes it say, its body moved and the documents in it by
+-- their rows in the joined file
 abbrev pub record_on : List MovedBy → Numbered → CustomValue → ℕ → CustomValue
 record_on inputs input custom row = record {
   parent = record { table = custom.parent.table; row = row };
   kind = custom.kind;
-  value = with_documents (row_in (document_rows (documents_of inputs) input.1)) (moved_body input.1.map custom.parent.row custom.value);
+  value = with_documents (row_in (document_rows (documents_of inputs) input.1)) (moved_body input.1.map custom.parent.row (linked input.1.map custom).value);
 }
 
 -- a record leaves the file where its parent does

@@ -19,7 +19,7 @@ use Rattle.ppdb_values_reading.specs.Lent.{variables_of, constants_of}
 use Rattle.ppdb_values_reading.specs.Scopes.{items_in, scope_with}
 use Rattle.ppdb_merge_items.specs.Each.{Each}
 use Rattle.ppdb_merge_joined.specs.Joined.{row_in, renumbered_custom, renumbered_method}
-use Rattle.ppdb_merge_moved.specs.Moved.{is_empty, moved_body, moved_constant, moved_custom, moved_method, moved_variable, with_points}
+use Rattle.ppdb_merge_moved.specs.Moved.{is_empty, linked, moved_body, moved_constant, moved_custom, moved_method, moved_variable, with_points}
 use Rattle.ppdb_merge_moved.proofs.RisingPoints.{all_each}
 use Rattle.ppdb_merge_parts.specs.Flat.{moved_scope_value, scope_image}
 use Rattle.ppdb_merge_rows.specs.Laws.{RowsAreImages, MethodsHaveTheirRows, FittingPointsFit, input_of, custom_after}
@@ -74,7 +74,7 @@ customs_are m documents custom = by_dropped (nat_eq custom.parent.table 0x06 && 
     })) ≡ option_map (renumbered_custom (row_in documents)) (cond b None (Some (record {
       parent = record { table = custom.parent.table; row = moved_row m custom.parent.table custom.parent.row };
       kind = custom.kind;
-      value = moved_body m custom.parent.row custom.value;
+      value = moved_body m custom.parent.row (linked m custom).value;
     })))
     by_dropped true = refl
     by_dropped false = refl

@@ -7,7 +7,7 @@ use Rattle.ppdb_values.specs.{declared.custom.{CustomBody.{CustomBody, TheVarian
 use Rattle.ppdb_values.specs.{declared.scope.{ConstantValue.ConstantValue, ScopeValue.ScopeValue, VariableValue.VariableValue}, RawFile.RawFile, Value.value_of}
 use Rattle.ppdb_values_reading.specs.{declared.scopes.Scope.Scope, Lent.{variables_of, constants_of}, Scopes.items_in}
 use Rattle.ppdb_merge_joined.specs.Joined.{row_in, shifted, with_documents, renumbered_import}
-use Rattle.ppdb_merge_moved.specs.Moved.{moved_range, is_empty, moved_variable, moved_constant, moved_import_scope, moved_body}
+use Rattle.ppdb_merge_moved.specs.Moved.{moved_range, is_empty, moved_variable, moved_constant, moved_import_scope, linked, moved_body}
 use Rattle.ppdb_merge_rows.specs.{declared.records.{MovedBody.{MovedBody, TheVariants.{Owned, Lent}}, MovedRecord.MovedRecord}, declared.scopes.MovedScope.MovedScope}
 
 -- ---- scopes, and what they own
@@ -50,9 +50,9 @@ imports_after raw m before = map (λ (scope : ImportScopeValue). renumbered_impo
 
 -- ---- records of custom debug information
 
--- what a record says: moved, and in the new rows of documents
+-- what a record says: with what the map's `link` line makes it say, moved, and in the new rows of documents
 abbrev pub body_after : Map → List ℕ → CustomValue → CustomBody
-body_after m documents custom = with_documents (row_in documents) (moved_body m custom.parent.row custom.value)
+body_after m documents custom = with_documents (row_in documents) (moved_body m custom.parent.row (linked m custom).value)
 
 -- all records, by their rows; each names its parent as before
 abbrev pub records_after : RawFile → Map → List ℕ → List CustomValue

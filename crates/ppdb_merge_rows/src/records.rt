@@ -1,7 +1,10 @@
 // What becomes of records of custom debug information.
-ghost use Rattle.std.specs.Prelude.{◌≡◌, ◌+◌, map, None, Some, IfOk};
+ghost use Rattle.std.specs.Prelude.{◌≡◌, ◌+◌, ◌&&◌, bytes_eq, cond, map, None, Some, IfOk, option_copied, option_map, unwrap_or};
 ghost use Rattle.ppdb_tables.specs.RawTables.{row_at};
+ghost use Rattle.custom_info.specs.Kinds.{source_link};
+ghost use Rattle.ppdb_values.specs.Parts.{is_at};
 ghost use Rattle.ppdb_values.specs.Rules.{HasRow};
+ghost use Rattle.ppdb_values.specs.declared.custom.CustomBody.TheVariants.{Unread};
 ghost use Rattle.ppdb_verify.specs.Views.{raw_file};
 ghost use Rattle.ppdb_values_reading.specs.Lent.{HasNoFault, body_shown as body_lent};
 ghost use Rattle.ppdb_merge_joined.specs.Joined.{row_in, with_documents};
@@ -10,6 +13,7 @@ ghost use Rattle.ppdb_merge_rows.specs.Rows.{body_shown, record_shown, records_a
 
 use crate::renumbering::DocumentRows;
 use blob_grammar::BlobCursor;
+use custom_info::SOURCE_LINK;
 use ppdb_base::{List, Memory, Steps};
 use ppdb_maps::MapText;
 use ppdb_merge_moved::{InMethod, Moves};
@@ -25,7 +29,7 @@ use std::sync::ledger::Ledger;
 pub enum MovedBody<'a> {
     /// Async steps, hoisted slots or documents of a type, which name rows and offsets.
     Owned(CustomBody),
-    /// The bytes of a record of any other kind, which stay.
+    /// The bytes of a record of any other kind, which stay, or those of the map's `link` line.
     Lent(&'a [u8]),
 }
 
@@ -78,6 +82,32 @@ fn body_of<'a>(alloc: Global, body: LentBody<'a>) -> Result<MovedBody<'a>, Memor
     }
 }
 
+/// The VALUE of the map's `link` line, for a Source Link record on row 1 of Module.
+fn link_of(map: &MapText, parent: Parent, kind: [u8; 16]) -> Option<&[u8]>
+    ensures { option_copied result ≡ cond (is_at 0x00 1 parent && bytes_eq kind source_link) map.now.link None }
+{
+    if parent.table == 0x00 && parent.row == 1 && kind == SOURCE_LINK {
+        map.link()
+    } else {
+        None
+    }
+}
+
+/// What a record says: the bytes of a `link` line, where there are such, and else its body.
+fn linked_body<'a>(
+    alloc: Global,
+    link: Option<&'a [u8]>,
+    body: LentBody<'a>,
+) -> Result<MovedBody<'a>, Memory>
+    requires { HasNoFault body }
+    ensures { IfOk result (λ value. body_shown value ≡ unwrap_or (option_map Unread (option_copied link.entry)) (body_lent body.entry)) }
+{
+    match link {
+        Some(value) => Ok(MovedBody::Lent(value)),
+        None => body_of(alloc, body),
+    }
+}
+
 /// Moves what a record on a row says, and puts the new rows of documents.
 fn move_body(body: &mut MovedBody<'_>, map: &MapText, row: u32, documents: &[u32])
     ensures { body_shown body.new ≡ with_documents (row_in documents.now) (moved_body map.now row (body_shown body.old)) }
@@ -92,7 +122,7 @@ fn move_body(body: &mut MovedBody<'_>, map: &MapText, row: u32, documents: &[u32
 pub fn moved_record<'a, L: Ledger>(
     alloc: Global,
     file: &Verified<'a>,
-    map: &MapText,
+    map: &'a MapText,
     row: u32,
     documents: &[u32],
     steps: &mut Steps<L>,
@@ -102,7 +132,8 @@ pub fn moved_record<'a, L: Ledger>(
     ensures step { steps.new ≡ steps.old + 1 }
 {
     let lent = read_custom(alloc, file, row, steps);
-    let mut body = body_of(alloc, lent.body)?;
+    let link = link_of(map, lent.parent, lent.kind);
+    let mut body = linked_body(alloc, link, lent.body)?;
     move_body(&mut body, map, lent.parent.row, documents);
     Ok(MovedRecord {
         parent: lent.parent,

@@ -32,7 +32,7 @@ use Rattle.ppdb_merge_unmoved_laws.proofs.Staying.{image_is, IsSmallBody, small_
 readable : IsReadable no_lines
 unfolding IsStrictlySortedBy
 readable = record {
-  ascends = record { counts = tt; rows = tt; methods = tt; drops = tt; slotted = tt; slots = tt; signatures = tt };
+  ascends = record { counts = tt; rows = tt; methods = tt; drops = tt; slotted = tt; slots = tt; signatures = tt; documents = tt };
   counts = tt;
   rows = tt;
   methods = tt;
@@ -40,6 +40,8 @@ readable = record {
   slotted = tt;
   slots = tt;
   signatures = tt;
+  documents = tt;
+  link = tt;
 }
 
 -- ---- offsets
@@ -91,6 +93,7 @@ fits v w sound = record {
   slots = each_of (λ s. live_scope no_lines s ≡ true → Each (HasSlot no_lines s.method) s.variables)
       (λ s stays. each_of (HasSlot no_lines s.method) (λ v. (v.item.slot, refl)) s.variables) w.scopes;
   slots_apart = λ s t v u image in_s in_t stays same of_v of_u a b. some_of v.item.slot u.item.slot (a ∙ sym b);
+  documents = sound.names_differ;
 }
 
 pub sound_files_stay : SoundnessIsAnnotated → ValuesComeBack → OneFileStays → SoundFilesStay

@@ -46,7 +46,7 @@ use Rattle.ppdb_merge_joined.proofs.One.{map_same}
 use Rattle.ppdb_merge_items.specs.Annotated.{with_item}
 use Rattle.ppdb_merge_moved.specs.Moved.{moved_body, moved_constant, moved_constant_body, moved_counts, moved_custom, moved_file, moved_import}
 use Rattle.ppdb_merge_moved.specs.Moved.{moved_import_scope, moved_machine, moved_method, moved_modifier, moved_range, moved_scope, moved_slot, moved_step}
-use Rattle.ppdb_merge_moved.specs.Moved.{moved_token, moved_variable, scope_image, with_points}
+use Rattle.ppdb_merge_moved.specs.Moved.{moved_token, moved_variable, scope_image, with_points, is_link, linked, moved_document, moved_record}
 use Rattle.ppdb_merge_moved.proofs.RisingPoints.{itself_moved}
 use Rattle.ppdb_merge_unmoved_laws.specs.NoLines.{no_lines}
 
@@ -195,9 +195,17 @@ record_same method (Hoisted slots) small = ap (λ l. Hoisted l)
 record_same method (TypeDocuments rows) small = refl
 record_same method (Unread bytes) small = refl
 
+linked_same : (c : CustomValue) → linked no_lines c ≡ c
+linked_same c = by_link (is_link c)
+  where
+    by_link : (b : Bool) → record c { value = unwrap_or (option_map Unread (cond b None None)) c.value } ≡ c
+    by_link true = refl
+    by_link false = refl
+
 custom_same : (c : CustomValue) → IsSmallBody c.value → moved_custom no_lines c ≡ Some c
 custom_same c small =
-    ap (λ b. cond b None (Some (record {
+    ap (moved_record no_lines) (linked_same c)
+    ∙ ap (λ b. cond b None (Some (record {
       parent = record { table = c.parent.table; row = moved_row no_lines c.parent.table c.parent.row };
       kind = c.kind;
       value = moved_body no_lines c.parent.row c.value;
@@ -249,9 +257,10 @@ rows_same table (n ∷ ns) = ap (λ l. n ∷ l) (rows_same (table + 1) ns)
 
 pub file_same : (v : FileValue) (w : AnnotatedFile) → SoundIn v w → moved_file no_lines w ≡ w
 file_same v w sound =
-    ap (λ e. record (moved_file no_lines w) { entry = e }) (row_same 0x06 w.entry)
-    ∙ ap (λ l. record (moved_file no_lines w) { entry = w.entry; rows = l }) (rows_same 0 w.rows)
-    ∙ ap (λ l. record (moved_file no_lines w) { entry = w.entry; rows = w.rows; methods = l })
+    ap (λ l. record (moved_file no_lines w) { documents = l }) (every_same (with_item (moved_document no_lines)) (λ n. refl) w.documents)
+    ∙ ap (λ e. record (moved_file no_lines w) { documents = w.documents; entry = e }) (row_same 0x06 w.entry)
+    ∙ ap (λ l. record (moved_file no_lines w) { documents = w.documents; entry = w.entry; rows = l }) (rows_same 0 w.rows)
+    ∙ ap (λ l. record (moved_file no_lines w) { documents = w.documents; entry = w.entry; rows = w.rows; methods = l })
     (all_stay (moved_method no_lines) w.methods (Each-weaker (SoundMethod v) (λ e. moved_method no_lines e ≡ Some e) (method_same v) w.methods sound.methods))
     ∙ ap (λ l. record w {
       scopes = l;

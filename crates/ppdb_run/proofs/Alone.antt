@@ -1,8 +1,9 @@
 -- The sample as the one input of a merger.
-use Rattle.std.proofs.Common.{◌≡◌, ◌≢◌, ℕ, ◌≤◌, ◌++◌, Bool, true, false, cond, List, [], ◌∷◌, Option, Some, None, Ok, refl, sym, ◌∙◌, ap}
+use Rattle.std.proofs.Common.{◌≡◌, ◌≢◌, ℕ, ◌≤◌, ◌++◌, ◌&&◌, Bool, true, false, cond, List, [], ◌∷◌, Option, Some, None, Ok, refl, sym, ◌∙◌, ap}
 use Rattle.std.proofs.Common.{subst, inl, inr, slice_get, slice_index, ◌⊎◌}
 use Rattle.std.specs.Prelude.{nat_lt}
 use Rattle.std.specs.List.{filter_map, cons_option, enumerate_from, range_with_len}
+use Rattle.std.specs.Option.{option_to_list}
 use Rattle.std.proofs.lemmas.Bool.{le-ltb}
 use Rattle.std.proofs.lemmas.Option.{none-some}
 use Rattle.custom_info.specs.Kinds.{kind_of}
@@ -20,7 +21,6 @@ use Rattle.ppdb_values.specs.RawFile.{RawFile}
 use Rattle.ppdb_values.specs.Rules.{KeepsRules}
 use Rattle.ppdb_values.specs.Value.{value_of}
 use Rattle.ppdb_values.specs.declared.custom.CustomValue.{CustomValue}
-use Rattle.ppdb_values.specs.declared.file.DocumentValue.{DocumentValue}
 use Rattle.ppdb_values.specs.declared.file.FileValue.{FileValue}
 use Rattle.ppdb_merge_items.specs.Each.{Each}
 use Rattle.ppdb_merge_items.specs.NamedRows.{Named, named_rows}
@@ -30,7 +30,7 @@ use Rattle.ppdb_merge_items.specs.Unannotated.{value_of_annotated}
 use Rattle.ppdb_merge_items.proofs.Lists.{Each-weaker, Each-unmap, each_of}
 use Rattle.ppdb_merge_joined.specs.Joined.{joined}
 use Rattle.ppdb_merge_moved.specs.Fits.{Fits}
-use Rattle.ppdb_merge_moved.specs.Moved.{moved_file}
+use Rattle.ppdb_merge_moved.specs.Moved.{is_link, moved_file}
 use Rattle.ppdb_merge_moved.proofs.Lists.{Each-filter_map}
 use Rattle.ppdb_merge_fits.specs.Clashes.{first_clash, is_at_dropped}
 use Rattle.ppdb_merge_fits.specs.Laws.{NoClash}
@@ -38,7 +38,8 @@ use Rattle.ppdb_merge_fits.specs.Rows.{imaged, imaged_rows}
 use Rattle.ppdb_merge_fits.specs.Signatures.{given_signature, given_signatures, with_given, all_images}
 use Rattle.ppdb_merge.specs.declared.trace.Trace.{Trace}
 use Rattle.ppdb_merge.specs.Merged.{Merged, trace_of, moved_files}
-use Rattle.ppdb_merge.specs.Refusals.{added, refusal_of, taken, conflict, clashes_before, or_first, with_trace, claims, methods_in, documents_differ}
+use Rattle.ppdb_merge.specs.Refusals.{added, refusal_of, taken, moved_conflict, clashes_before, or_first, with_trace, claims, methods_in, documents_differ}
+use Rattle.ppdb_merge.specs.Refusals.{link_differs, links_differ}
 use Rattle.ppdb_merge.specs.Together.{above, count_in, differs, images_above, joined_of, misfit_of, rows_differ, value_unless}
 use Rattle.ppdb_merge_meaning_laws.specs.Kept.{moved_input}
 use Rattle.ppdb_build_sample.specs.Laws.{SampleFits, sample_input}
@@ -58,10 +59,24 @@ not_above told b is = ap (λ c. cond c told None) is
 
 -- ---- the first input
 
-nothing_before : (rows : List Imaged) (documents : List DocumentValue) → clashes_before [] rows documents ≡ []
-nothing_before rows documents =
-    ap (λ l. l ++ documents_differ [] documents) (filter_nil (taken (claims [])) methods (each_of (λ i. taken (claims []) i ≡ None) (λ i. refl) methods))
-    ∙ filter_nil (conflict []) (numbered documents) (each_of (λ d. conflict [] d ≡ None) (λ d. refl) (numbered documents))
+no_link : (told : Option MergeError) (b : Bool) → cond (b && false) told None ≡ None
+no_link told true = refl
+no_link told false = refl
+
+no_links : (m : Map) (customs : List CustomValue) → links_differ [] m customs ≡ []
+no_links m customs =
+    flat_nil (λ value. filter_map (link_differs [] m value) (numbered customs)) (option_to_list m.link)
+    (each_of (λ value. filter_map (link_differs [] m value) (numbered customs) ≡ [])
+    (λ value. filter_nil (link_differs [] m value) (numbered customs)
+    (each_of (λ c. link_differs [] m value c ≡ None) (λ c. no_link _ (is_link c.1)) (numbered customs))) (option_to_list m.link))
+
+nothing_before : (m : Map) (rows : List Imaged) (value : FileValue) → clashes_before [] m rows value ≡ []
+nothing_before m rows value =
+    ap (λ l. l ++ (documents_differ [] m value.documents ++ links_differ [] m value.customs))
+    (filter_nil (taken (claims [])) methods (each_of (λ i. taken (claims []) i ≡ None) (λ i. refl) methods))
+    ∙ ap (λ l. l ++ links_differ [] m value.customs)
+    (filter_nil (moved_conflict m []) (numbered value.documents) (each_of (λ d. moved_conflict m [] d ≡ None) (λ d. refl) (numbered value.documents)))
+    ∙ no_links m value.customs
   where
     methods : List Imaged
     methods = in_order (λ i. i.image) (methods_in rows)
@@ -69,8 +84,8 @@ nothing_before rows documents =
 -- an input that nothing is reported of alone is not refused as the first
 not_refused : (marks : List (List ℕ)) (m : Map) (raw : RawFile) → first_clash marks true m raw ≡ None → refusal_of marks [] m raw ≡ None
 not_refused marks m raw none =
-    ap (λ o. or_first o (clashes_before [] (all_images true m raw) (value_of raw).documents)) none
-    ∙ ap (λ l. slice_get l 0) (nothing_before (all_images true m raw) (value_of raw).documents)
+    ap (λ o. or_first o (clashes_before [] m (all_images true m raw) (value_of raw))) none
+    ∙ ap (λ l. slice_get l 0) (nothing_before m (all_images true m raw) (value_of raw))
 
 module _ (n : ℕ) (raw : RawFile) (fits : SampleFits n) (says : value_of raw ≡ sample n) (keeps : KeepsRules raw) where
   abbrev m : Map

@@ -22,6 +22,7 @@ pub mod Identity
 pub mod NoClash
 pub mod Reporting
 pub mod Silent
+pub mod SilentDocuments
 pub mod SilentRows
 pub mod Keeping
 pub mod KnownKinds

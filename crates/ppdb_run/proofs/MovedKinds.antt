@@ -10,6 +10,7 @@ use Rattle.ppdb_maps.specs.Map.{Map, is_dropped, line_offsets, method_line, offs
 use Rattle.ppdb_tables.specs.declared.parent.Parent.{Parent}
 use Rattle.ppdb_tables.specs.RawTables.{row_at}
 use Rattle.ppdb_values.specs.declared.custom.CustomValue.{CustomValue}
+use Rattle.ppdb_values.specs.declared.file.DocumentValue.{DocumentValue}
 use Rattle.ppdb_values.specs.declared.file.FileValue.{FileValue}
 use Rattle.ppdb_values.specs.declared.import.ImportScopeValue.{ImportScopeValue}
 use Rattle.ppdb_values.specs.declared.annotation.Custom.{Custom}
@@ -24,7 +25,7 @@ use Rattle.ppdb_merge_items.specs.Each.{Each}
 use Rattle.ppdb_merge_items.specs.Annotated.{annotated_file, with_item}
 use Rattle.ppdb_merge_items.proofs.Lists.{Each-filter, Each-map}
 use Rattle.ppdb_merge_moved.specs.Moved.{is_empty, moved_constant, moved_custom, moved_file, moved_import_scope, moved_range, moved_scope, moved_variable}
-use Rattle.ppdb_merge_moved.specs.Moved.{scope_image}
+use Rattle.ppdb_merge_moved.specs.Moved.{linked, moved_document, scope_image}
 use Rattle.ppdb_merge_moved.specs.OnRows.{annotated_by, annotated_scopes_by}
 use Rattle.ppdb_merge_moved.proofs.Customs.{image_of}
 use Rattle.ppdb_merge_moved.proofs.Lists.{Each-filter_map}
@@ -191,7 +192,7 @@ module _ (marks : List (List ℕ)) (m : Map) (value : FileValue)
       kind_in None = []
       kind_in (Some x) = x.kind
 
-      by_going : (b : Bool) → (nat_eq c.parent.table 0x06 && is_dropped m c.parent.row) ≡ b → cond b None (Some (image_of m c)) ≡ Some d
+      by_going : (b : Bool) → (nat_eq c.parent.table 0x06 && is_dropped m c.parent.row) ≡ b → cond b None (Some (image_of m (linked m c))) ≡ Some d
           → Known marks d.kind
       by_going true going e = absurd cc
       by_going false going e = subst (Known marks) (ap kind_in e) (holds.1 (live_custom c holds.0 going))
@@ -205,7 +206,8 @@ module _ (marks : List (List ℕ)) (m : Map) (value : FileValue)
 
   pub moved_known : KnownFile marks (moved_file m (annotated_file value))
   moved_known = record {
-    documents = items_known 0x30 1 value.documents (λ row. refl);
+    documents = Each-map (with_item (moved_document m)) (λ (d : Annotation DocumentValue). Notes marks d.customs) (annotated_file value).documents
+        (items_known 0x30 1 value.documents (λ row. refl));
     scopes = Each-filter_map (moved_scope m) (λ s. is_dropped m s.method ≡ false → KnownScope marks s) (KnownScope marks)
         (λ s t e holds. let is = stays s t e in subst (KnownScope marks) is.1 (image_known s (holds is.0))) (annotated_file value).scopes annotated_known;
     imports = Each-map (with_item (moved_import_scope m)) (λ (i : Annotation ImportScopeValue). Notes marks i.customs) (annotated_file value).imports

@@ -24,6 +24,7 @@ use Rattle.ppdb_merge_fits.specs.Offsets.{beyond}
 use Rattle.ppdb_merge_fits.proofs.Told.{both_fine}
 use Rattle.ppdb_run.specs.SampleLaws.{FittingMapsDoNotClash}
 use Rattle.ppdb_run.proofs.Silent.{kinds_silent, points_silent, ranges_silent, customs_silent, lost_silent}
+use Rattle.ppdb_run.proofs.SilentDocuments.{documents_silent}
 use Rattle.ppdb_run.proofs.SilentRows.{rows_silent, rows_apart_silent, slots_silent, slots_apart_silent}
 
 module _ (codes : CodesAreParents) (owned : ListsAreOwned) (marks : List (List ℕ)) (first : Bool) (m : Map) (raw : RawFile) (keeps : KeepsRules raw)
@@ -52,7 +53,8 @@ module _ (codes : CodesAreParents) (owned : ListsAreOwned) (marks : List (List �
       (both_fine _ _ (lost_silent m ready (value_of raw) sound none.fits.async)
       (both_fine _ _ (rows_silent first m raw (subst (Each (IsImaged m)) (sym named) none.fits.images))
       (both_fine _ _ (rows_apart_silent first m raw (subst (λ l. Each (λ a. Each (AreApart m a) l) l) (sym named) apart))
-      (both_fine _ _ (slots_silent m (value_of raw) none.fits.slots) (slots_apart_silent m (value_of raw) none.fits.slots_apart))))))
+      (both_fine _ _ (slots_silent m (value_of raw) none.fits.slots)
+      (both_fine _ _ (slots_apart_silent m (value_of raw) none.fits.slots_apart) (documents_silent m (value_of raw) none.fits.documents)))))))
 
   no_first : first_clash marks first m raw ≡ None
   unfolding first_clash

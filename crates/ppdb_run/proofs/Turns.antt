@@ -93,7 +93,7 @@ not_refused : (marks : List (List ℕ)) (traces : List Trace) (input : ReadInput
 not_refused marks traces input is = by (first_clash marks (is_first traces) input.map input.raw) is
   where
     by : (o : Option MergeError)
-        → or_first o (clashes_before traces (trace_of (is_first traces) input.map input.raw).rows (value_of input.raw).documents) ≡ None → o ≡ None
+        → or_first o (clashes_before traces input.map (trace_of (is_first traces) input.map input.raw).rows (value_of input.raw)) ≡ None → o ≡ None
     by None e = refl
     by (Some told) e = absurd cc
 
@@ -193,7 +193,7 @@ module _ (sounds : (raw : RawFile) → KeepsRules raw → IsSound (value_of raw)
       from_one here (y ∷ ys) each differ = (apart x y here each.0 differ.0, from_one here ys each.1 differ.1)
 
   abbrev Agree : Input → Input → Type 0
-  Agree a b = AgreeOnDocuments (annotated_file a.1.value) (annotated_file b.1.value)
+  Agree a b = AgreeOnDocuments (moved_input a) (moved_input b)
 
   fit_inputs : (inputs : List ReadInput) → Fit marks inputs → InputsFit (map moved_by inputs)
   fit_inputs inputs fit = record {

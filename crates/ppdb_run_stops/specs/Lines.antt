@@ -1,6 +1,6 @@
 -- The lines that say why a run stopped.
 use Rattle.ppdb_values.specs.Names.{Fault, Limit, LinkError, MergeError, TableRows, ListPastEnd, PointOffset, LineStep, FileSize, SpanTotal, Unmapped, ImageTwice, MethodTaken, OffsetBeyond, AsyncLost}
-use Rattle.ppdb_values.specs.Names.{KindUnknown, DocumentConflict, RowsDiffer, ImageRange, SlotUnmapped, SlotTwice}
+use Rattle.ppdb_values.specs.Names.{KindUnknown, DocumentConflict, RowsDiffer, ImageRange, SlotUnmapped, SlotTwice, DocumentTwice, LinkDiffers}
 use Rattle.std.specs.Prelude.{ℕ, List, [], ◌∷◌, ◌++◌, Some, codes}
 use Rattle.ppdb_base.specs.declared.merge_error.MergeError.TheVariants.{Memory}
 use Rattle.ppdb_show_lines.specs.{Lines.{Field, Line, mark, number, table, guid, text_of, name as named_bytes}, Pieces.{line, numbered, signed, tabled}}
@@ -35,7 +35,7 @@ list_line name n = about (codes "list") name (said (codes " line ") (number n) �
 abbrev pub map_line : List ℕ → ℕ → ℕ → Line
 map_line name n kind = about (codes "map") name (said (codes " line ") (number n) ∷ said (codes " kind ") (number kind) ∷ [])
 
--- why an input is not joined, M1 to M11
+-- why an input is not joined, M1 to M13
 abbrev pub merge_fields : MergeError → List Field
 merge_fields (Unmapped t row place) = said (codes " M1 table ") (table t) ∷ said (codes " row ") (number row) ∷ mark (codes " at") ∷ place_fields place
 merge_fields (ImageTwice t first second image) =
@@ -56,6 +56,8 @@ merge_fields (SlotUnmapped row slot) = said (codes " M10 variable ") (number row
 merge_fields (SlotTwice method first second image) =
     said (codes " M11 method ") (number method) ∷ said (codes " slots ") (number first) ∷ said (codes " ") (number second)
     ∷ said (codes " image ") (number image) ∷ []
+merge_fields (DocumentTwice first second) = said (codes " M12 documents ") (number first) ∷ said (codes " ") (number second) ∷ []
+merge_fields (LinkDiffers row) = said (codes " M13 row ") (number row) ∷ []
 merge_fields Memory = []
 
 abbrev pub unfit_line : List ℕ → MergeError → Line

@@ -58,6 +58,8 @@ pub fn put_unfit<O: Sink>(out: &mut O, file: &str, error: MergeError) -> Result<
             second,
             image,
         } => put_slot_twice(out, file, method, first, second, image),
+        E::DocumentTwice { first, second } => put_document_twice(out, file, first, second),
+        E::LinkDiffers { row } => put_link_differs(out, file, row),
         E::Memory => put_text_line(
             out,
             "unfit",
@@ -285,4 +287,30 @@ fn put_slot_twice<O: Sink>(
     let second = Field(" ", Key::None, Number(u32::from(second)));
     let image = Field(" image ", Key::None, Number(u32::from(image)));
     put_text_line(out, "unfit", &[file, method, first, second, image])
+}
+
+/// Puts M12: two documents have one name by the map.
+fn put_document_twice<O: Sink>(
+    out: &mut O,
+    file: &str,
+    first: u32,
+    second: u32,
+) -> Result<(), WriteError>
+    ensures { Puts result (O.written out.old) (O.written out.new) (O.faults out.old) (O.faults out.new)
+        (text_of (unfit_line file.now (merge_errors.DocumentTwice first second))) }
+{
+    let file = Field(" ", Key::None, Name(file.as_bytes()));
+    let first = Field(" M12 documents ", Key::None, Number(first));
+    let second = Field(" ", Key::None, Number(second));
+    put_text_line(out, "unfit", &[file, first, second])
+}
+
+/// Puts M13: a Source Link record differs from that of an earlier input.
+fn put_link_differs<O: Sink>(out: &mut O, file: &str, row: u32) -> Result<(), WriteError>
+    ensures { Puts result (O.written out.old) (O.written out.new) (O.faults out.old) (O.faults out.new)
+        (text_of (unfit_line file.now (merge_errors.LinkDiffers row))) }
+{
+    let file = Field(" ", Key::None, Name(file.as_bytes()));
+    let row = Field(" M13 row ", Key::None, Number(row));
+    put_text_line(out, "unfit", &[file, row])
 }

@@ -1,6 +1,6 @@
 -- The names of the crates below that definitions of this crate and of those above cite, passed on from one place. Declares nothing.
 pub use Rattle.ppdb_base.specs.declared.merge_error.MergeError.TheVariants.{AsyncLost, DocumentConflict, ImageRange, ImageTwice, KindUnknown, MethodTaken, OffsetBeyond, RowsDiffer, SlotTwice}
-pub use Rattle.ppdb_base.specs.declared.merge_error.MergeError.TheVariants.{SlotUnmapped, Unmapped}
+pub use Rattle.ppdb_base.specs.declared.merge_error.MergeError.TheVariants.{DocumentTwice, LinkDiffers, SlotUnmapped, Unmapped}
 pub use Rattle.std.specs.{Cmp.Lexicographic.slice_cmp, List.{enumerate_from, join_by, last_or, list_any, position_or_len, range_with_len, repeat, slice_split}, Option.option_or, Ordering.nat_cmp}
 pub use Rattle.std.specs.Str.Lines.{lines}
 pub use Rattle.ppdb_base.specs.{Causes.{Rose, counted}, Files.{Contents, Files, Longer, Missing, reading}, First.{IsAccepted, IsFirst, Then}}

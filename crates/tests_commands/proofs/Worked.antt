@@ -23,6 +23,8 @@ worked_lines = record {
   image_range = record { status = refl; text = refl };
   slot_unmapped = record { status = refl; text = refl };
   slot_twice = record { status = refl; text = refl };
+  document_twice = record { status = refl; text = refl };
+  link_differs = record { status = refl; text = refl };
   table_rows = record { status = refl; text = refl };
   list_past_end = record { status = refl; text = refl };
   point_offset = record { status = refl; text = refl };

@@ -1,6 +1,6 @@
 -- The lines that say why a run stopped, written out, and the statuses with which it ends.
 use Rattle.ppdb_values.specs.Names.{ScopeCrossing, Place, Limit, TableRows, ListPastEnd, PointOffset, LineStep, FileSize, SpanTotal, NotJson, Shape, MergeError, Unmapped, ImageTwice, MethodTaken}
-use Rattle.ppdb_values.specs.Names.{OffsetBeyond, AsyncLost, KindUnknown, DocumentConflict, RowsDiffer, ImageRange, SlotUnmapped, SlotTwice}
+use Rattle.ppdb_values.specs.Names.{OffsetBeyond, AsyncLost, KindUnknown, DocumentConflict, RowsDiffer, ImageRange, SlotUnmapped, SlotTwice, DocumentTwice, LinkDiffers}
 use Rattle.std.specs.Prelude.{◌≡◌, ℕ, List, [], ◌∷◌, negsuc, codes}
 use Rattle.ppdb_run_stops.specs.Lines.{read_fault_line, write_fault_line}
 use Rattle.ppdb_run_stops.specs.Refusals.{Outcome, usage, absent, too_long, refused, no_map, unfit, limited, map_limited, unlinked, no_method, no_document, sizes_differ, unlisted}
@@ -31,7 +31,7 @@ abbrev pub kind : List ℕ
 kind = 0x33 ∷ 0x22 ∷ 0x11 ∷ 0x00 ∷ 0x55 ∷ 0x44 ∷ 0x77 ∷ 0x66 ∷ 0x88 ∷ 0x99 ∷ 0xaa ∷ 0xbb ∷ 0xcc ∷ 0xdd ∷ 0xee ∷ 0xff ∷ []
 
 pub record WorkedLines : Type 0 where
-  -- M1 to M11
+  -- M1 to M13
   pub unmapped_entry : SaysUnfit (Unmapped 6 1 entry) (codes "unfit B M1 table 06 row 1 at pdb byte 20\n")
   pub unmapped_cell : SaysUnfit (Unmapped 0x23 7 cell) (codes "unfit B M1 table 23 row 7 at table 32 row 2 column 4 byte 0\n")
   pub image_twice : SaysUnfit (ImageTwice 6 1 2 1) (codes "unfit B M2 table 06 rows 1 2 image 1\n")
@@ -44,6 +44,8 @@ pub record WorkedLines : Type 0 where
   pub image_range : SaysUnfit (ImageRange 1 6 1 2 1) (codes "unfit B M9 table 06 row 1 image 2 rows 1\n")
   pub slot_unmapped : SaysUnfit (SlotUnmapped 2 1) (codes "unfit B M10 variable 2 slot 1\n")
   pub slot_twice : SaysUnfit (SlotTwice 1 0 1 5) (codes "unfit B M11 method 1 slots 0 1 image 5\n")
+  pub document_twice : SaysUnfit (DocumentTwice 1 2) (codes "unfit B M12 documents 1 2\n")
+  pub link_differs : SaysUnfit (LinkDiffers 1) (codes "unfit B M13 row 1\n")
   -- L1 to L6
   pub table_rows : SaysLimit (TableRows 0x33 16777216) (codes "limit L1 table 33 rows 16777216\n")
   pub list_past_end : SaysLimit (ListPastEnd 0x34 65535) (codes "limit L2 table 34 rows 65535\n")

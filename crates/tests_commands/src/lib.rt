@@ -25,6 +25,8 @@ mod moving;
 #[cfg(test)]
 mod moving_files;
 #[cfg(test)]
+mod naming;
+#[cfg(test)]
 mod puts;
 #[cfg(test)]
 mod query;

@@ -14,7 +14,7 @@ fn compare(rt: &HostRuntime, first: &str, second: &str, want: &str) -> Result<()
     }
 }
 
-const WORKED: [(&str, &str, &str); 14] = [
+const WORKED: [(&str, &str, &str); 18] = [
     (
         "ppdbmap 1/method 1 9 12/run 0 0 1/run 5 6 4",
         "ppdbmap 1/method 1 12 12/run 0 0 8",
@@ -56,9 +56,9 @@ const WORKED: [(&str, &str, &str); 14] = [
         "ppdbmap 3/rows 06 4/row 06 1 4/drop 2/",
     ),
     (
-        "ppdbmap 4/method 1 4 4/run 0 0 4/signature 2 1/slots 1/slot 1 0 0/drop 3/rows 1B 3/row 1B 3 3",
+        "ppdbmap 4/method 1 4 4/run 0 0 4/document \\xff b/document ~ a/document \\- c/signature 2 1/slots 1/slot 1 0 0/drop 3/rows 1B 3/row 1B 3 3",
         "ppdbmap 1",
-        "ppdbmap 4/rows 1b 3/row 1b 3 3/drop 3/slots 1/slot 1 0 0/signature 2 1/method 1 4 4/run 0 0 4/",
+        "ppdbmap 4/rows 1b 3/row 1b 3 3/drop 3/slots 1/slot 1 0 0/signature 2 1/document \\- c/document ~ a/document \\xff b/method 1 4 4/run 0 0 4/",
     ),
     (
         "ppdbmap 4/rows 01 2/row 01 1 2",
@@ -84,6 +84,22 @@ const WORKED: [(&str, &str, &str); 14] = [
         "ppdbmap 4/rows 11 4/row 11 1 1/signature 2 3",
         "ppdbmap 1/rows 11 4/row 11 1 4/row 11 3 2",
         "ppdbmap 4/rows 11 4/row 11 1 4/signature 2 2/",
+    ),
+    (
+        "ppdbmap 4/document a b/link a/rows 01 0",
+        "ppdbmap 4/link b",
+        "ppdbmap 4/link b/rows 01 0/document a b/",
+    ),
+    ("ppdbmap 4/link \\-", "ppdbmap 3", "ppdbmap 4/link \\-/"),
+    (
+        "ppdbmap 4/document a b/document c d/document e f",
+        "ppdbmap 4/document b x/document d c/document e y",
+        "ppdbmap 4/document a x/document b x/document c c/document d c/document e f/",
+    ),
+    (
+        "ppdbmap 4/document a b/document b c",
+        "ppdbmap 4/document b a",
+        "ppdbmap 4/document a a/document b c/",
     ),
 ];
 

@@ -18,7 +18,7 @@ fn refusal(alloc: Global, text: &str) -> Result<(u32, u8), Fail> {
 }
 
 /// Texts with a map, and texts that are refused at a line by a rule.
-const TEXTS: [(&str, u32, u8); 86] = [
+const TEXTS: [(&str, u32, u8); 98] = [
     ("", 1, 1),
     ("ppdbmap 1", 0, 0),
     ("ppdbmap 2\n", 0, 0),
@@ -125,6 +125,22 @@ const TEXTS: [(&str, u32, u8); 86] = [
     ("ppdbmap 4\ndrop 1\nsignature 1 0\n", 3, 9),
     ("ppdbmap 3\ndrop 1\nrows 06 2\nrow 06 1 2\n", 4, 9),
     ("ppdbmap 3\nrows 02 1\nrow 02 1 1\ndrop 1\nslots 1\n", 5, 9),
+    ("ppdbmap 3\ndocument a b\n", 2, 2),
+    ("ppdbmap 3\nlink a\n", 2, 2),
+    ("ppdbmap 4\nlink a b\n", 2, 2),
+    ("ppdbmap 4\nlink \\x41\n", 2, 3),
+    ("ppdbmap 4\ndocument \\x2fa/b c\n", 2, 3),
+    ("ppdbmap 4\ndocument a \\xC3\\xA9\n", 2, 3),
+    ("ppdbmap 4\ndocument a \\-b\n", 2, 3),
+    ("ppdbmap 4\ndocument  a\n", 2, 3),
+    (
+        "ppdbmap 4\ndocument /a/b c\nrows 01 0\ndocument /a/b d\n",
+        4,
+        4,
+    ),
+    ("ppdbmap 4\nlink a\nrows 01 0\nlink a\n", 4, 4),
+    ("ppdbmap 4\nmethod 1 9 9\ndocument a b\nrun 0 0 9\n", 4, 6),
+    ("ppdbmap 4\nlink \\-\ndocument \\- \\xc3\\xa9\n", 0, 0),
 ];
 
 /// Which of these texts is not reported so, by its number.
@@ -280,6 +296,39 @@ fn answers_what_signatures_say(rt: HostRuntime) -> Result<(), Fail> {
     assert!(rt; map.moved_signature(1, 1) == 2 && map.moved_signature(1, 2) == 0);
     assert!(rt; map.signature_line(0) == Some((3, 9)) && map.signature_line(1) == Some((7, 0)));
     assert!(rt; map.signature_line(2).is_none());
+    Ok(())
+}
+
+/// Whether these bytes are there.
+fn has_bytes(found: Option<&[u8]>, want: &[u8]) -> bool {
+    match found {
+        Some(bytes) => bytes == want,
+        None => false,
+    }
+}
+
+/// Whether the line with this index gives a name another one.
+fn renames(map: &MapText, index: u32, old: &[u8], new: &[u8]) -> bool {
+    match map.document_line(index) {
+        Some((from, to)) => from == old && to == new,
+        None => false,
+    }
+}
+
+#[test]
+fn answers_what_documents_say(rt: HostRuntime) -> Result<(), Fail> {
+    let map = read(
+        rt.alloc(),
+        b"ppdbmap 4\ndocument /b \\x5cx\\x20y\nlink a\\x20b\ndocument /a /b\n",
+    )?;
+    assert!(rt; has_bytes(map.document(b"/a"), b"/b") && has_bytes(map.document(b"/b"), b"\\x y"));
+    assert!(rt; map.document(b"/c").is_none() && map.document(b"").is_none());
+    assert!(rt;
+        map.moved_name(b"/a") == b"/b".as_slice() && map.moved_name(b"/c") == b"/c".as_slice()
+    );
+    assert!(rt; renames(&map, 0, b"/a", b"/b") && renames(&map, 1, b"/b", b"\\x y"));
+    assert!(rt; map.document_line(2).is_none() && has_bytes(map.link(), b"a b"));
+    assert!(rt; MapText::empty(rt.alloc()).link().is_none());
     Ok(())
 }
 

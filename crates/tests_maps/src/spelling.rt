@@ -7,6 +7,7 @@ use std::test::Fail;
 /// Puts lines of each kind, with numbers at their bounds.
 fn put_all(text: &mut Counted) -> Result<(), Memory> {
     text.put_head(4)?;
+    text.put_link(b"a b")?;
     text.put_rows(0x00, 0)?;
     text.put_rows(0x06, 16777215)?;
     text.put_row(0x06, 1, 16777215)?;
@@ -19,6 +20,8 @@ fn put_all(text: &mut Counted) -> Result<(), Memory> {
     text.put_slots(3)?;
     text.put_signature(1, 16777215)?;
     text.put_signature(16777215, 0)?;
+    text.put_document(b"", b"/~")?;
+    text.put_document(b"\xff", b"\\x y")?;
     text.put_method(1, 2147483647, 12)?;
     text.put_run(&Run {
         old: 0,
@@ -34,6 +37,7 @@ fn put_all(text: &mut Counted) -> Result<(), Memory> {
 }
 
 const LINES: &str = "ppdbmap 4
+link a\\x20b
 rows 00 0
 rows 06 16777215
 row 06 1 16777215
@@ -46,6 +50,8 @@ slot 1 0 65535
 slots 3
 signature 1 16777215
 signature 16777215 0
+document \\- /~
+document \\xff \\x5cx\\x20y
 method 1 2147483647 12
 run 0 0 9
 run 2147483646 11 1
@@ -65,6 +71,7 @@ fn lines_are_spelled(rt: HostRuntime) -> Result<(), Fail> {
     assert!(rt; map.row(0x06, 16777215) == Some(1));
     assert!(rt; map.slot(1, 0) == Some(65535));
     assert!(rt; map.signature(1) == Some(16777215));
+    assert!(rt; map.moved_name(b"\xff") == b"\\x y".as_slice());
     assert!(rt; map.method(1).image(2147483646) == Some(11));
     Ok(())
 }

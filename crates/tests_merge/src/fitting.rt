@@ -127,6 +127,35 @@ fn rows_slots_and_kinds_that_do_not_fit_are_told(rt: HostRuntime) -> Result<(), 
 }
 
 #[test]
+fn documents_that_get_one_name_are_told(rt: HostRuntime) -> Result<(), Fail> {
+    let twice = MergeError::DocumentTwice {
+        first: 1,
+        second: 2,
+    };
+    let image_twice = MergeError::ImageTwice {
+        table: 6,
+        first: 2,
+        second: 3,
+        image: 1,
+    };
+    let rows_first = "ppdbmap 4/document b a/rows 06 2/row 06 2 1/row 06 3 1";
+    is_told(&rt, &HALVES, "ppdbmap 4/document b a", twice)?;
+    is_told(&rt, &HALVES, "ppdbmap 4/document a b", twice)?;
+    is_told(&rt, &HALVES, "ppdbmap 4/document a c/document b c", twice)?;
+    is_told(&rt, &HALVES, rows_first, image_twice)?;
+    let fitting = [
+        "ppdbmap 4/document a b/document b a",
+        "ppdbmap 4/document c a",
+    ];
+    for lines in fitting {
+        if judged(&rt, &HALVES, lines)?.is_err() {
+            return Err(Fail::from(lines));
+        }
+    }
+    Ok(())
+}
+
+#[test]
 fn offsets_that_do_not_fit_are_told(rt: HostRuntime) -> Result<(), Fail> {
     let no_entry = "ppdbmap 1/rows 06 1/method 1 5 5/run 0 0 5";
     let seven_goes = "ppdbmap 1/method 1 30 30/run 0 0 7/run 8 8 22";

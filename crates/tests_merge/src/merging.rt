@@ -6,7 +6,7 @@ use custom_info::{Marks, SOURCE_LINK, TYPE_DOCUMENTS};
 use ppdb_base::{CounterPermit, MergeError, Steps};
 use ppdb_maps::MapText;
 use ppdb_merge::Merger;
-use ppdb_values::{CustomBody, FileValue};
+use ppdb_values::{CustomBody, CustomValue, FileValue};
 use ppdb_verify::verify;
 use std::marker::Brand;
 use std::process::Abort;
@@ -116,6 +116,77 @@ fn methods_and_documents_that_do_not_fit_are_told(rt: HostRuntime) -> Result<(),
     is_told(&rt, half, on_six, conflict)
 }
 
+/// The documents of a file have these names.
+fn has_names(rt: &impl Abort, value: &FileValue, names: &[&[u8]]) {
+    let documents = value.documents.as_slice();
+    assert_eq!(rt; documents.len(), names.len());
+    for (document, name) in documents.iter().zip(names) {
+        assert!(rt; document.name.as_slice() == *name);
+    }
+}
+
+#[test]
+fn documents_are_joined_by_the_names_that_they_get(rt: HostRuntime) -> Result<(), Fail> {
+    let half = Input(&HALVES, "ppdbmap 1/rows 06 9/row 06 2 5/row 06 3 4");
+    let to_a = Input(&OTHER_HALF, "ppdbmap 4/rows 06 9/row 06 1 6/document b a");
+    let to_z = Input(&OTHER_HALF, "ppdbmap 4/rows 06 9/row 06 1 6/document b z");
+    let conflict = MergeError::DocumentConflict { row: 2, joined: 1 };
+    is_told(&rt, half, to_a, conflict)?;
+    match merged(&rt, half, to_z) {
+        Ok(Ok(value)) => has_names(&rt, &value, &[b"a", b"b", b"c", b"z"]),
+        Ok(Err(_)) => return Err(Fail::from("refused")),
+        Err(fail) => return Err(fail),
+    }
+    Ok(())
+}
+
+/// A record stands on row 1 of the table, and says so.
+fn is_record(record: &CustomValue, table: u8, said: &[u8]) -> bool {
+    if record.parent.table != table || record.parent.row != 1 {
+        return false;
+    }
+    match &record.value {
+        CustomBody::TypeDocuments(rows) => {
+            record.kind == TYPE_DOCUMENTS
+                && rows.as_slice() == [1].as_slice()
+                && said == b"\x01".as_slice()
+        }
+        CustomBody::Unread(bytes) => record.kind == SOURCE_LINK && bytes.as_slice() == said,
+        _ => false,
+    }
+}
+
+/// The records on Module say this, and no others are left out.
+fn has_links(rt: &impl Abort, value: &FileValue, link: &[u8]) {
+    let rows: [(u8, &[u8]); 4] = [(0x02, b"\x01"), (0x00, link), (0x00, link), (0x30, b"y")];
+    let records = value.customs.as_slice();
+    assert_eq!(rt; records.len(), rows.len());
+    for (record, (table, said)) in records.iter().zip(rows) {
+        assert!(rt; is_record(record, table, said));
+    }
+}
+
+#[test]
+fn source_links_that_differ_are_told(rt: HostRuntime) -> Result<(), Fail> {
+    let plain = Input(&RECORDS, "ppdbmap 1");
+    let linked = Input(&RECORDS, "ppdbmap 4/link q");
+    let with_line = Input(&MORE_RECORDS, "ppdbmap 4/link q");
+    let differs = MergeError::LinkDiffers { row: 2 };
+    is_told(&rt, plain, with_line, differs)?;
+    match merged(&rt, linked, with_line) {
+        Ok(Ok(value)) => has_links(&rt, &value, b"q"),
+        Ok(Err(_)) => return Err(Fail::from("refused")),
+        Err(fail) => return Err(fail),
+    }
+    let same = Input(&MORE_RECORDS, "ppdbmap 4/link x");
+    match merged(&rt, plain, same) {
+        Ok(Ok(value)) => has_links(&rt, &value, b"x"),
+        Ok(Err(_)) => return Err(Fail::from("refused")),
+        Err(fail) => return Err(fail),
+    }
+    Ok(())
+}
+
 #[test]
 fn row_counts_that_do_not_fit_are_told(rt: HostRuntime) -> Result<(), Fail> {
     let differ = MergeError::RowsDiffer {
@@ -181,15 +252,7 @@ fn has_records(rt: &impl Abort, value: &FileValue) {
     let records = value.customs.as_slice();
     assert_eq!(rt; records.len(), rows.len());
     for (record, (table, said)) in records.iter().zip(rows) {
-        assert!(rt; record.parent.table == table && record.parent.row == 1);
-        let same = match &record.value {
-            CustomBody::TypeDocuments(rows) => record.kind == TYPE_DOCUMENTS
-                && rows.as_slice() == [1].as_slice()
-                && said == b"\x01".as_slice(),
-            CustomBody::Unread(bytes) => record.kind == SOURCE_LINK && bytes.as_slice() == said,
-            _ => false,
-        };
-        assert!(rt; same);
+        assert!(rt; is_record(record, table, said));
     }
 }
 

@@ -12,12 +12,12 @@ returns-in_default c = λ before.
     breaks_form c.args.line.now c.words_of-words.result c.args.version before
     (λ s. false≢true (sym c.if-is_silent.false ∙ c.is_silent.ensures.1 s)) c.words_of-words.ensures c.in_default.ensures
 
-pub returns-in-Some-line_of : goal.returns-in-Some-line_of
-returns-in-Some-line_of c =
-    tells_form c.args.line.now c.words_of-words.result c.args.version c.in-Some.form c.in-Some-line_of.line
-    (λ s. false≢true (sym c.if-is_silent.false ∙ c.is_silent.ensures.1 s)) c.words_of-words.ensures c.in-Some.ensures c.in-Some-line_of.ensures
+pub returns-in-Some-2 : goal.returns-in-Some-2
+returns-in-Some-2 c =
+    tells_form c.args.line.now c.words_of-words.result c.args.version c.in-Some.form c.in-Some-2.line
+    (λ s. false≢true (sym c.if-is_silent.false ∙ c.is_silent.ensures.1 s)) c.words_of-words.ensures c.in-Some.ensures (rw c.in-Some-2.is at c.in_ok-line.ensures)
 
 pub returns-in-None : goal.returns-in-None
 returns-in-None c = λ before.
     breaks_value c.args.line.now c.words_of-words.result c.args.version c.in-Some.form before
-    (λ s. false≢true (sym c.if-is_silent.false ∙ c.is_silent.ensures.1 s)) c.words_of-words.ensures c.in-Some.ensures c.in-None.ensures
+    (λ s. false≢true (sym c.if-is_silent.false ∙ c.is_silent.ensures.1 s)) c.words_of-words.ensures c.in-Some.ensures (rw c.in-None.is at c.in_ok-line.ensures)

@@ -2,4 +2,20 @@ use Rattle.std.proofs.Common.{refl}
 use Rattle.ppdb_merge.proofs.laws.worked_merges.Goals as goal
 
 pub returns : goal.returns
-returns c = record { taken = refl; least = refl; conflict = refl; counts = refl; above = refl; joins = refl }
+returns c = record {
+  taken = refl;
+  least = refl;
+  conflict = refl;
+  renamed = refl;
+  new_name = refl;
+  link_differs = refl;
+  conflict_first = refl;
+  one_link = refl;
+  no_line = refl;
+  no_record = refl;
+  another_module = refl;
+  its_module = refl;
+  counts = refl;
+  above = refl;
+  joins = refl;
+}

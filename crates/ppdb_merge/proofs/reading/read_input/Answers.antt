@@ -5,20 +5,24 @@ use Rattle.ppdb_merge_items.specs.Annotated.{annotated_file}
 use Rattle.ppdb_merge_items.specs.SoundParts.{SoundMoved}
 use Rattle.ppdb_merge_moved.specs.Moved.{moved_file}
 use Rattle.ppdb_merge.specs.Merged.{is_first}
-use Rattle.ppdb_merge.proofs.Adding.{few_documents, few_moved, moved_is_sound, refused_as, added_sound, is_sound}
+use Rattle.ppdb_merge.proofs.Adding.{few_customs, few_documents, few_moved, moved_is_sound, refused_as, added_sound, is_sound}
 use Rattle.ppdb_merge.proofs.reading.read_input.Goals as goal
 
-pub clash-requires : goal.clash-requires
-clash-requires g c =
-    few_documents (raw_file c.args.file.now) c.as_slice-2.result.now c.keeps.ensures.rules.shape
-    (c.as_slice-2.ensures ∙ ap (λ (v : FileValue). v.documents) c.in_ok-value.ensures.value)
+pub clash_before-requires-clause-documents : goal.clash_before-requires-clause-documents
+clash_before-requires-clause-documents g c =
+    few_documents (raw_file c.args.file.now) c.in_ok-value.value.documents c.keeps.ensures.rules.shape
+    (ap (λ (v : FileValue). v.documents) c.in_ok-value.ensures.value)
+
+pub clash_before-requires-clause-customs : goal.clash_before-requires-clause-customs
+clash_before-requires-clause-customs g c =
+    few_customs (raw_file c.args.file.now) c.in_ok-value.value.customs c.keeps.ensures.rules.shape
+    (ap (λ (v : FileValue). v.customs) c.in_ok-value.ensures.value)
 
 pub returns-in-Some-clause-refused : goal.returns-in-Some-clause-refused
 returns-in-Some-clause-refused g c =
     inr (refused_as c.args.marks.now c.args.traces.now c.args.map.now (raw_file c.args.file.now) (Some c.in-Some.told) c.as_slice.result.now
-    c.as_slice-2.result.now c.in_ok-rows.ensures.fits (c.as_slice.ensures ∙ c.in_ok-rows.ensures.rows)
-    (c.as_slice-2.ensures ∙ ap (λ (v : FileValue). v.documents) c.in_ok-value.ensures.value)
-    (sym c.in-Some.is ∙ c.clash.ensures c.args.traces.now c.requires.indexes))
+    c.in_ok-value.value c.in_ok-rows.ensures.fits (c.as_slice.ensures ∙ c.in_ok-rows.ensures.rows) c.in_ok-value.ensures.value
+    (sym c.in-Some.is ∙ c.clash_before.ensures))
 
 pub moved-requires-clause-sound : goal.moved-requires-clause-sound
 moved-requires-clause-sound g c =
@@ -36,9 +40,8 @@ moved-requires-clause-few g c =
 pub returns-clause-fits : goal.returns-clause-fits
 returns-clause-fits g c =
     refused_as c.args.marks.now c.args.traces.now c.args.map.now (raw_file c.args.file.now) None c.as_slice.result.now
-    c.as_slice-2.result.now c.in_ok-rows.ensures.fits (c.as_slice.ensures ∙ c.in_ok-rows.ensures.rows)
-    (c.as_slice-2.ensures ∙ ap (λ (v : FileValue). v.documents) c.in_ok-value.ensures.value)
-    (sym c.in-None.is ∙ c.clash.ensures c.args.traces.now c.requires.indexes)
+    c.in_ok-value.value c.in_ok-rows.ensures.fits (c.as_slice.ensures ∙ c.in_ok-rows.ensures.rows) c.in_ok-value.ensures.value
+    (sym c.in-None.is ∙ c.clash_before.ensures)
 
 pub returns-clause-sound : goal.returns-clause-sound
 returns-clause-sound g c =
@@ -49,6 +52,5 @@ returns-clause-sound g c =
     (c.nothing_clashes.ensures c.args.marks.now (is_first c.args.traces.now) c.args.map.now (raw_file c.args.file.now) c.keeps.ensures.rules c.keeps-2.ensures
     c.in_ok-rows.ensures.fits).fits
     (refused_as c.args.marks.now c.args.traces.now c.args.map.now (raw_file c.args.file.now) None c.as_slice.result.now
-    c.as_slice-2.result.now c.in_ok-rows.ensures.fits (c.as_slice.ensures ∙ c.in_ok-rows.ensures.rows)
-    (c.as_slice-2.ensures ∙ ap (λ (v : FileValue). v.documents) c.in_ok-value.ensures.value)
-    (sym c.in-None.is ∙ c.clash.ensures c.args.traces.now c.requires.indexes)))
+    c.in_ok-value.value c.in_ok-rows.ensures.fits (c.as_slice.ensures ∙ c.in_ok-rows.ensures.rows) c.in_ok-value.ensures.value
+    (sym c.in-None.is ∙ c.clash_before.ensures)))

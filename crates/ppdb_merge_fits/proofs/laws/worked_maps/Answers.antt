@@ -30,4 +30,10 @@ returns c = record {
   strange_goes = refl;
   strange_stays = refl;
   strange_is_marked = refl;
+  renamed = refl;
+  one_name = refl;
+  least_second = refl;
+  three_one_name = refl;
+  names_exchanged = refl;
+  no_such_name = refl;
 }

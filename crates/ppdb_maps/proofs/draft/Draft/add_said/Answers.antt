@@ -1,4 +1,4 @@
-use Rattle.ppdb_maps.proofs.Looping.{tells_length, text_added}
+use Rattle.ppdb_maps.proofs.Looping.{tells_length, text_added, alone_refused}
 use Rattle.ppdb_maps.proofs.draft.Draft.add_said.Goals as goal
 
 pub add-requires : goal.add-requires
@@ -9,4 +9,4 @@ returns-in-Ok c = λ version text told before holds.
     text_added version before text c.in-Ok.line c.add.result c.add.new.self (rw c.in-Ok.is at told) (c.add.ensures before holds)
 
 pub returns-in-Err : goal.returns-in-Err
-returns-in-Err c = λ version text told before holds. (rw c.in-Err.is at told) before
+returns-in-Err c = λ version text told before holds. alone_refused version before text c.in-Err.refusal (rw c.in-Err.is at told)

@@ -1,3 +1,4 @@
+use Rattle.std.proofs.Common.{refl}
 use Rattle.ppdb_maps.proofs.Finishing.{made_holds}
 use Rattle.ppdb_maps.proofs.Readable.{read_readable}
 use Rattle.ppdb_maps.proofs.draft.Draft.finish.Goals as goal
@@ -11,6 +12,8 @@ new-requires c = read_readable c.requires.0 c.requires.1 c.requires.2 _ c.requir
   slotted = c.in_ok-slotted.ensures.items;
   slots = c.in_ok-slots.ensures.items;
   signatures = c.in_ok-signatures.ensures.moved;
+  documents = c.in_ok-documents.ensures.items;
+  link = refl;
   counts_ordered = c.in_ok-counts.ensures.ordered;
   rows_ordered = c.in_ok-rows.ensures.sorted;
   methods_ordered = c.in_ok-methods.ensures.sorted;
@@ -18,6 +21,7 @@ new-requires c = read_readable c.requires.0 c.requires.1 c.requires.2 _ c.requir
   slotted_ordered = c.in_ok-slotted.ensures.ordered;
   slots_ordered = c.in_ok-slots.ensures.ordered;
   signatures_ordered = c.in_ok-signatures.ensures.sorted;
+  documents_ordered = c.in_ok-documents.ensures.ordered;
 }))
 
 pub returns : goal.returns
@@ -29,6 +33,8 @@ returns c = λ before closed. rw c.new.ensures (made_holds before c.args.self _ 
   slotted = c.in_ok-slotted.ensures.items;
   slots = c.in_ok-slots.ensures.items;
   signatures = c.in_ok-signatures.ensures.moved;
+  documents = c.in_ok-documents.ensures.items;
+  link = refl;
   counts_ordered = c.in_ok-counts.ensures.ordered;
   rows_ordered = c.in_ok-rows.ensures.sorted;
   methods_ordered = c.in_ok-methods.ensures.sorted;
@@ -36,4 +42,5 @@ returns c = λ before closed. rw c.new.ensures (made_holds before c.args.self _ 
   slotted_ordered = c.in_ok-slotted.ensures.ordered;
   slots_ordered = c.in_ok-slots.ensures.ordered;
   signatures_ordered = c.in_ok-signatures.ensures.sorted;
+  documents_ordered = c.in_ok-documents.ensures.ordered;
 }))

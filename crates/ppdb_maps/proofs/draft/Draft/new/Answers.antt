@@ -4,4 +4,4 @@ use Rattle.ppdb_maps.proofs.draft.Draft.new.Goals as goal
 
 pub returns : goal.returns
 returns c = none_held _ c.new.ensures.empty c.new-2.ensures.items c.new-3.ensures c.new-4.ensures.items c.new-5.ensures refl c.new-6.ensures.empty
-    c.new-7.ensures.empty c.new-8.ensures.empty c.new-9.ensures.items c.new-10.ensures
+    c.new-7.ensures.empty c.new-8.ensures.empty c.new-9.ensures.items c.new-10.ensures c.new-11.ensures.empty refl

@@ -1,0 +1,207 @@
+-- The names of documents and the value of Source Link records in the map of two maps.
+use Rattle.std.proofs.Common.{ℕ, ◌≡◌, ◌≤◌, ◌+◌, ◌||◌, ◌++◌, Bool, true, false, cond, List, [], ◌∷◌, Option, Some, None, length, map, refl, sym, ap, ◌∙◌}
+use Rattle.std.proofs.Common.{arith}
+use Rattle.std.specs.Prelude.{is_some, unwrap_or, IfSome}
+use Rattle.std.specs.Str.{bytes_eq}
+use Rattle.std.specs.List.{AllByRecursion, find, slice_get}
+use Rattle.std.specs.Option.{option_map, option_or}
+use Rattle.std.specs.Ordering.{match_ordering}
+use Rattle.std.specs.declared.cmp.Ordering.{Ordering}
+use Rattle.std.specs.declared.cmp.Ordering.TheVariants.{Less, Equal, Greater}
+use Rattle.std.proofs.lemmas.List.{length-map, length-append}
+use Rattle.ppdb_maps.specs.declared.entries.NameLine.{NameLine}
+use Rattle.ppdb_maps.specs.declared.entries.SignatureImage.{SignatureImage}
+use Rattle.ppdb_maps.specs.Map.{Map, document_line, moved_name}
+use Rattle.ppdb_maps_text.specs.MapTexts.{version_with}
+use Rattle.map_compose.specs.Composed.{composed, named, document_entry, document_entries, composed_link}
+use Rattle.map_compose.specs.Fits.{IsShort, NamesFit}
+use Rattle.map_compose.specs.Names.{name_cmp, put_name, names_ascending}
+use Rattle.map_compose.specs.Says.{has_names}
+use Rattle.map_compose.proofs.Found.{given}
+use Rattle.map_compose.proofs.Names.{has, has_append, has_ascending, has_key, made_found, ascending_hold}
+
+-- ---- what the map answers
+
+line_some : (o : Option NameLine) → is_some (option_map (λ (d : NameLine). d.new) o) ≡ is_some o
+line_some None = refl
+line_some (Some d) = refl
+
+has_line : (m : Map) (name : List ℕ) → has name (named m) ≡ is_some (document_line m name)
+has_line m name = has_key (λ (d : NameLine). d.old) name m.documents ∙ sym (line_some (find (λ (d : NameLine). bytes_eq d.old name) m.documents))
+
+names_found : (f s : Map) (name : List ℕ) → find (λ (d : NameLine). bytes_eq d.old name) (document_entries f s)
+    ≡ given (has name (named f) || has name (named s)) (Some (document_entry f s name))
+names_found f s name =
+    made_found (λ (d : NameLine). d.old) (document_entry f s) (λ k. refl) name (names_ascending (named f ++ named s))
+    ∙ ap (λ b. given b (Some (document_entry f s name))) (has_ascending name (named f ++ named s) ∙ has_append name (named f) (named s))
+
+-- a name without a line stays
+stays : (m : Map) (name : List ℕ) → has name (named m) ≡ false → moved_name m name ≡ name
+stays m name none = of (document_line m name) (sym (has_line m name) ∙ none)
+  where
+    of : (o : Option (List ℕ)) → is_some o ≡ false → unwrap_or o name ≡ name
+    of None is = refl
+    of (Some new) is = absurd (cc)
+
+pub named_are : (f s : Map) (name : List ℕ)
+    → is_some (document_line (composed f s) name) ≡ (is_some (document_line f name) || is_some (document_line s name))
+named_are f s name =
+    ap (λ o. is_some (option_map (λ (d : NameLine). d.new) o)) (names_found f s name) ∙ of (has name (named f) || has name (named s))
+    ∙ ap (λ b. b || has name (named s)) (has_line f name) ∙ ap (λ b. is_some (document_line f name) || b) (has_line s name)
+  where
+    of : (b : Bool) → is_some (option_map (λ (d : NameLine). d.new) (given b (Some (document_entry f s name)))) ≡ b
+    of true = refl
+    of false = refl
+
+pub names_are : (f s : Map) (name : List ℕ) → moved_name (composed f s) name ≡ moved_name s (moved_name f name)
+names_are f s name =
+    ap (λ o. unwrap_or (option_map (λ (d : NameLine). d.new) o) name) (names_found f s name)
+    ∙ of (has name (named f)) (has name (named s)) refl refl
+  where
+    of : (a b : Bool) → has name (named f) ≡ a → has name (named s) ≡ b
+        → unwrap_or (option_map (λ (d : NameLine). d.new) (given (a || b) (Some (document_entry f s name)))) name ≡ moved_name s (moved_name f name)
+    of true b is also = refl
+    of false true is also = refl
+    of false false is also = sym (ap (moved_name s) (stays f name is) ∙ stays s name also)
+
+-- ---- what holds of the names
+
+module _ (P : List ℕ → Type 0) where
+  abbrev BothHold : NameLine → Type 0
+  BothHold d = P d.old × P d.new
+
+  found_holds : (name : List ℕ) (ds : List NameLine) → AllByRecursion BothHold ds → P name
+      → P (unwrap_or (option_map (λ (d : NameLine). d.new) (find (λ (d : NameLine). bytes_eq d.old name) ds)) name)
+  found_holds name [] all one = one
+  found_holds name (d ∷ ds) all one = of (bytes_eq d.old name) (found_holds name ds all.1 one)
+    where
+      of : (b : Bool) → P (unwrap_or (option_map (λ (d : NameLine). d.new) (find (λ (d : NameLine). bytes_eq d.old name) ds)) name)
+          → P (unwrap_or (option_map (λ (d : NameLine). d.new) (cond b (Some d) (find (λ (d : NameLine). bytes_eq d.old name) ds))) name)
+      of true rest = all.0.1
+      of false rest = rest
+
+  olds_hold : (ds : List NameLine) → AllByRecursion BothHold ds → AllByRecursion P (map (λ (d : NameLine). d.old) ds)
+  olds_hold [] all = tt
+  olds_hold (d ∷ ds) all = (all.0.0, olds_hold ds all.1)
+
+  both_hold : (xs ys : List (List ℕ)) → AllByRecursion P xs → AllByRecursion P ys → AllByRecursion P (xs ++ ys)
+  both_hold [] ys a b = b
+  both_hold (x ∷ xs) ys a b = (a.0, both_hold xs ys a.1 b)
+
+  pub entries_hold : (f s : Map) → AllByRecursion BothHold f.documents → AllByRecursion BothHold s.documents
+      → AllByRecursion BothHold (document_entries f s)
+  entries_hold f s a b = each (names_ascending (named f ++ named s))
+      (ascending_hold P (named f ++ named s) (both_hold (named f) (named s) (olds_hold f.documents a) (olds_hold s.documents b)))
+    where
+      each : (ns : List (List ℕ)) → AllByRecursion P ns → AllByRecursion BothHold (map (document_entry f s) ns)
+      each [] all = tt
+      each (n ∷ ns) all =
+          ((all.0, found_holds (moved_name f n) s.documents b (found_holds n f.documents a all.0)), each ns all.1)
+
+  pub link_holds : (f s : Map) → IfSome f.link P → IfSome s.link P → IfSome (composed_link f s) P
+  link_holds f s a b = of f.link s.link a b
+    where
+      of : (x y : Option (List ℕ)) → IfSome x P → IfSome y P → IfSome (option_or y x) P
+      of x None a b = a
+      of x (Some value) a b = b
+
+-- their OLDs
+pub olds_are : (f s : Map) (ns : List (List ℕ)) → map (λ (d : NameLine). d.old) (map (document_entry f s) ns) ≡ ns
+olds_are f s [] = refl
+olds_are f s (n ∷ ns) = ap (λ l. n ∷ l) (olds_are f s ns)
+
+-- ---- how many
+
+put_few : (n : List ℕ) (ns : List (List ℕ)) → length (put_name n ns) ≤ 1 + length ns
+put_few n [] = omega arith
+put_few n (m ∷ ms) = of (name_cmp n m) (put_few n ms)
+  where
+    of : (o : Ordering) → length (put_name n ms) ≤ 1 + length ms
+        → length (match_ordering o (n ∷ m ∷ ms) (m ∷ ms) (m ∷ put_name n ms)) ≤ 1 + length (m ∷ ms)
+    of Less few = omega arith
+    of Equal few = omega arith
+    of Greater few = omega (arith, few)
+
+ascending_few : (ns : List (List ℕ)) → length (names_ascending ns) ≤ length ns
+ascending_few [] = omega arith
+ascending_few (n ∷ ns) = omega (arith, put_few n (names_ascending ns), ascending_few ns)
+
+pub few_named : (most : ℕ) (m : Map) → NamesFit most m → length (named m) ≤ most
+few_named most m fit = let few = fit.few in let same = length-map m.documents (λ (d : NameLine). d.old) in omega (arith, few, same)
+
+-- the names of both maps are as short, and no more than twice as many
+pub composed_fits : (f s : Map) → NamesFit 134217728 f → NamesFit 134217728 s → NamesFit 268435456 (composed f s)
+composed_fits f s a b = record {
+  few =
+      let own = few_named 134217728 f a in
+      let other = few_named 134217728 s b in
+      let all = ascending_few (named f ++ named s) in
+      let both = length-append (named f) (named s) in
+      let same = length-map (names_ascending (named f ++ named s)) (document_entry f s) in
+      omega (arith, own, other, all, both, same);
+  short = entries_hold IsShort f s a.short b.short;
+  link = link_holds IsShort f s a.link b.link;
+}
+
+-- ---- the version of the text
+
+-- names and a value decide it, or the signatures do
+pub with_names : (b : Bool) (xs : List SignatureImage) (documents : List NameLine) (link : Option (List ℕ))
+    → version_with [] documents link ≡ cond b 4 3 → version_with xs documents link ≡ cond b 4 (version_with xs [] None)
+with_names true [] documents link is = is
+with_names true (x ∷ xs) documents link is = refl
+with_names false [] documents link is = is
+with_names false (x ∷ xs) documents link is = refl
+
+by_names : (a b : Bool) (documents : List NameLine) (link : Option (List ℕ)) → is_some (slice_get documents 0) ≡ a → is_some link ≡ b
+    → version_with [] documents link ≡ cond (a || b) 4 3
+by_names a b [] None is also = ap (λ t. cond t 4 3) also ∙ ap (λ t. cond (t || b) 4 3) is
+by_names a b [] (Some value) is also = ap (λ t. cond t 4 3) also ∙ ap (λ t. cond (t || b) 4 3) is
+by_names a b (d ∷ documents) link is also = ap (λ t. cond (t || b) 4 3) is
+
+put_some : (n : List ℕ) (ns : List (List ℕ)) → is_some (slice_get (put_name n ns) 0) ≡ true
+put_some n [] = refl
+put_some n (m ∷ ms) = of (name_cmp n m)
+  where
+    of : (o : Ordering) → is_some (slice_get (match_ordering o (n ∷ m ∷ ms) (m ∷ ms) (m ∷ put_name n ms)) 0) ≡ true
+    of Less = refl
+    of Equal = refl
+    of Greater = refl
+
+mapped_some : {X Y : Type 0} (g : X → Y) (xs : List X) → is_some (slice_get (map g xs) 0) ≡ is_some (slice_get xs 0)
+mapped_some g [] = refl
+mapped_some g (x ∷ xs) = refl
+
+first_some : (xs ys : List (List ℕ)) → is_some (slice_get (names_ascending (xs ++ ys)) 0) ≡ (is_some (slice_get xs 0) || is_some (slice_get ys 0))
+first_some [] [] = refl
+first_some [] (y ∷ ys) = put_some y (names_ascending ys)
+first_some (x ∷ xs) ys = put_some x (names_ascending (xs ++ ys))
+
+-- by the names and the values of both maps
+both_named : (f s : Map) → version_with [] (composed f s).documents (composed f s).link ≡ cond (has_names f || has_names s) 4 3
+both_named f s =
+    by_names (is_some (slice_get f.documents 0) || is_some (slice_get s.documents 0)) (is_some f.link || is_some s.link) (document_entries f s)
+    (composed_link f s)
+    (mapped_some (document_entry f s) (names_ascending (named f ++ named s)) ∙ first_some (named f) (named s)
+    ∙ ap (λ t. t || is_some (slice_get (named s) 0)) (mapped_some (λ (x : NameLine). x.old) f.documents)
+    ∙ ap (λ t. is_some (slice_get f.documents 0) || t) (mapped_some (λ (x : NameLine). x.old) s.documents))
+    (of f.link s.link)
+    ∙ ap (λ t. cond t 4 3) (turned (is_some (slice_get f.documents 0)) (is_some (slice_get s.documents 0)) (is_some f.link) (is_some s.link))
+  where
+    of : (x y : Option (List ℕ)) → is_some (option_or y x) ≡ (is_some x || is_some y)
+    of None None = refl
+    of None (Some v) = refl
+    of (Some u) None = refl
+    of (Some u) (Some v) = refl
+
+    turned : (a b c d : Bool) → ((a || b) || (c || d)) ≡ ((a || c) || (b || d))
+    turned true b c d = refl
+    turned false true true d = refl
+    turned false true false d = refl
+    turned false false true d = refl
+    turned false false false d = refl
+
+pub version_named : (f s : Map) (b : Bool) → (has_names f || has_names s) ≡ b
+    → version_with (composed f s).signatures (composed f s).documents (composed f s).link ≡ cond b 4 (version_with (composed f s).signatures [] None)
+version_named f s b is = with_names b (composed f s).signatures (composed f s).documents (composed f s).link
+    (both_named f s ∙ ap (λ t. cond t 4 3) is)

@@ -1,0 +1,94 @@
+// The `link` line and the `document` lines of the map of two maps.
+ghost use Rattle.std.specs.Prelude.{◌≡◌, ◌≤◌, [], ◌∷◌, length, MatchOption, OnOk, option_copied, slice_get};
+ghost use Rattle.ppdb_maps_text.specs.MapTexts.{link_says};
+ghost use Rattle.map_compose.specs.Composed.{named, composed_link};
+ghost use Rattle.map_compose.specs.Fits.{NamesFit};
+ghost use Rattle.map_compose.specs.Parts.{names_left};
+ghost use Rattle.map_compose.specs.Says.{PutsLines, documents_say};
+
+use crate::part::Passed;
+use ppdb_base::Memory;
+use ppdb_maps::MapText;
+use ppdb_maps_text::Counted;
+use std::cmp::Ordering;
+
+/// The names with a `document` line, in ascending order of their bytes; none past the last.
+fn name_at(map: &MapText, index: u32) -> Option<&[u8]>
+    ensures { option_copied result ≡ slice_get (named map.now) index }
+{
+    let (old, _) = map.document_line(index)?;
+    Some(old)
+}
+
+/// The next name of both maps' lines, each once.
+fn next_name<'a>(first: &'a MapText, second: &'a MapText, passed: &mut Passed) -> Option<&'a [u8]>
+    requires own { length (named first.now) ≤ 134217728 }
+    requires other { length (named second.now) ≤ 134217728 }
+    ensures { MatchOption result (names_left first.now second.now passed.old ≡ [])
+        (λ name. names_left first.now second.now passed.old ≡ name.now ∷ names_left first.now second.now passed.new) }
+{
+    first.keeps();
+    second.keeps();
+    let own = name_at(first, passed.own);
+    let other = name_at(second, passed.other);
+    match (own, other) {
+        (None, None) => None,
+        (Some(own), None) => {
+            passed.own += 1;
+            Some(own)
+        }
+        (None, Some(other)) => {
+            passed.other += 1;
+            Some(other)
+        }
+        (Some(own), Some(other)) => match own.cmp(other) {
+            Ordering::Less => {
+                passed.own += 1;
+                Some(own)
+            }
+            Ordering::Equal => {
+                passed.own += 1;
+                passed.other += 1;
+                Some(own)
+            }
+            Ordering::Greater => {
+                passed.other += 1;
+                Some(other)
+            }
+        },
+    }
+}
+
+/// Puts the `document` lines.
+pub fn put_documents(first: &MapText, second: &MapText, text: &mut Counted) -> Result<(), Memory>
+    requires own { NamesFit 134217728 first.now }
+    requires other { NamesFit 134217728 second.now }
+    ensures { OnOk result (PutsLines text.old text.new (documents_say first.now second.now)) }
+{
+    let mut passed = Passed { own: 0, other: 0 };
+    'names: while let Some(name) = next_name(first, second, &mut passed) {
+        let new = second.moved_name(first.moved_name(name));
+        text.put_document(name, new)?;
+    }
+    Ok(())
+}
+
+/// The VALUE of the second map's `link` line, or else that of the first's.
+fn link_by_both<'a>(first: &'a MapText, second: &'a MapText) -> Option<&'a [u8]>
+    ensures { option_copied result ≡ composed_link first.now second.now }
+{
+    match second.link() {
+        Some(value) => Some(value),
+        None => first.link(),
+    }
+}
+
+/// Puts the `link` line, where one of the maps has one.
+pub fn put_link(first: &MapText, second: &MapText, text: &mut Counted) -> Result<(), Memory>
+    ensures { OnOk result (PutsLines text.old text.new (link_says (composed_link first.now second.now))) }
+{
+    match link_by_both(first, second) {
+        None => Ok(()),
+        Some(value) => text.put_link(value),
+    }
+}

@@ -1,0 +1,86 @@
+-- The first Source Link record that differs from one of an earlier input.
+use Rattle.std.proofs.Common.{◌≡◌, ℕ, ◌&&◌, ◌||◌, Bool, true, false, cond, List, [], ◌∷◌, Option, Some, None, refl, sym, ◌∙◌, ap}
+use Rattle.std.specs.Prelude.{slice_get, flat_map}
+use Rattle.std.specs.List.{filter_map, list_any, cons_option}
+use Rattle.std.specs.Option.{option_map, option_to_list}
+use Rattle.std.proofs.lemmas.List.{append-nil}
+use Rattle.ppdb_base.specs.declared.merge_error.MergeError.{MergeError}
+use Rattle.ppdb_base.specs.declared.merge_error.MergeError.TheVariants.{LinkDiffers}
+use Rattle.ppdb_maps.specs.Map.{Map, moved_row}
+use Rattle.ppdb_tables.specs.RawTables.{numbered}
+use Rattle.ppdb_values.specs.declared.custom.CustomValue.{CustomValue}
+use Rattle.ppdb_merge_moved.specs.Moved.{is_link}
+use Rattle.ppdb_merge.specs.declared.trace.Trace.{Trace}
+use Rattle.ppdb_merge.specs.Indexes.{link_row}
+use Rattle.ppdb_merge.specs.Refusals.{has_other_link, is_other_link, link_differs, links_differ}
+
+-- ---- among the inputs
+
+abbrev pub input_has : ℕ → List ℕ → Trace → Bool
+input_has row value t = list_any (is_other_link row value) t.moved.customs
+
+pub by_inputs : (row : ℕ) (value : List ℕ) (traces : List Trace) → list_any (input_has row value) traces ≡ has_other_link traces row value
+by_inputs row value [] = refl
+by_inputs row value (t ∷ ts) = ap (λ b. input_has row value t || b) (by_inputs row value ts)
+
+-- ---- the first record
+
+module _ (traces : List Trace) (m : Map) (value : List ℕ) where
+  -- where an input has another one, the first record is reported
+  pub first_differs : (b : Bool) → has_other_link traces (moved_row m 0x00 1) value ≡ b → (cs : List (ℕ × CustomValue))
+      → slice_get (filter_map (link_differs traces m value) cs) 0
+      ≡ cond b (option_map (λ (row : ℕ). LinkDiffers row) (slice_get (filter_map link_row cs) 0)) None
+  first_differs b is cs = ap (λ h. slice_get (filter_map (λ (c : ℕ × CustomValue). cond (is_link c.1 && h) (Some (LinkDiffers c.0)) None) cs) 0) is ∙ by b cs
+    where
+      by : (b : Bool) (cs : List (ℕ × CustomValue))
+          → slice_get (filter_map (λ (c : ℕ × CustomValue). cond (is_link c.1 && b) (Some (LinkDiffers c.0)) None) cs) 0
+          ≡ cond b (option_map (λ (row : ℕ). LinkDiffers row) (slice_get (filter_map link_row cs) 0)) None
+      by true [] = refl
+      by false [] = refl
+      by true (c ∷ cs) = step (is_link c.1) (by true cs)
+        where
+          step : (l : Bool)
+              → slice_get (filter_map (λ (c : ℕ × CustomValue). cond (is_link c.1 && true) (Some (LinkDiffers c.0)) None) cs) 0
+              ≡ option_map (λ (row : ℕ). LinkDiffers row) (slice_get (filter_map link_row cs) 0)
+              → slice_get (cons_option (cond (l && true) (Some (LinkDiffers c.0)) None)
+              (filter_map (λ (c : ℕ × CustomValue). cond (is_link c.1 && true) (Some (LinkDiffers c.0)) None) cs)) 0
+              ≡ option_map (λ (row : ℕ). LinkDiffers row) (slice_get (cons_option (cond l (Some c.0) None) (filter_map link_row cs)) 0)
+          step true rest = refl
+          step false rest = rest
+      by false (c ∷ cs) = step (is_link c.1) (by false cs)
+        where
+          step : (l : Bool)
+              → slice_get (filter_map (λ (c : ℕ × CustomValue). cond (is_link c.1 && false) (Some (LinkDiffers c.0)) None) cs) 0 ≡ None
+              → slice_get (cons_option (cond (l && false) (Some (LinkDiffers c.0)) None)
+              (filter_map (λ (c : ℕ × CustomValue). cond (is_link c.1 && false) (Some (LinkDiffers c.0)) None) cs)) 0 ≡ None
+          step true rest = rest
+          step false rest = rest
+
+  -- where the map has no `link` line, nothing is reported; else what its value differs from
+  pub with_line : (cs : List CustomValue) → m.link ≡ Some value
+      → slice_get (links_differ traces m cs) 0 ≡ slice_get (filter_map (link_differs traces m value) (numbered cs)) 0
+  with_line cs line =
+      ap (λ l. slice_get (flat_map (λ v. filter_map (link_differs traces m v) (numbered cs)) (option_to_list l)) 0) line
+      ∙ ap (λ l. slice_get l 0) (append-nil (filter_map (link_differs traces m value) (numbered cs)))
+
+pub without_line : (traces : List Trace) (m : Map) (cs : List CustomValue) → m.link ≡ None → slice_get (links_differ traces m cs) 0 ≡ None
+without_line traces m cs none = ap (λ l. slice_get (flat_map (λ v. filter_map (link_differs traces m v) (numbered cs)) (option_to_list l)) 0) none
+
+-- what is reported of the first record
+pub told_of : (traces : List Trace) (m : Map) (value : List ℕ) (cs : List CustomValue) (b : Bool) (o : Option ℕ) → m.link ≡ Some value
+    → has_other_link traces (moved_row m 0x00 1) value ≡ b → o ≡ slice_get (filter_map link_row (numbered cs)) 0
+    → slice_get (links_differ traces m cs) 0 ≡ cond b (option_map (λ (row : ℕ). LinkDiffers row) o) None
+told_of traces m value cs b o line has is =
+    with_line traces m value cs line ∙ first_differs traces m value b has (numbered cs)
+    ∙ ap (λ r. cond b (option_map (λ (row : ℕ). LinkDiffers row) r) None) (sym is)
+
+-- where there is no record, nothing is
+pub no_record : (traces : List Trace) (m : Map) (value : List ℕ) (cs : List CustomValue) → m.link ≡ Some value
+    → slice_get (filter_map link_row (numbered cs)) 0 ≡ None → slice_get (links_differ traces m cs) 0 ≡ None
+no_record traces m value cs line none =
+    told_of traces m value cs (has_other_link traces (moved_row m 0x00 1) value) None line refl (sym none)
+    ∙ either (has_other_link traces (moved_row m 0x00 1) value)
+  where
+    either : (b : Bool) → ◌≡◌ {A = Option MergeError} (cond b None None) None
+    either true = refl
+    either false = refl

@@ -1,0 +1,85 @@
+// Documents of a file that get one name.
+ghost use Rattle.std.specs.Prelude.{◌≡◌, ◌≢◌, ◌≤◌, ℕ, List, None, Some, IfOk, OnOk, cond, length, bytes_eq, slice_get};
+ghost use Rattle.ppdb_values.specs.Ordered.{EachPair};
+ghost use Rattle.ppdb_merge_fits.specs.Documents.{documents_twice, names_twice};
+ghost use Rattle.ppdb_merge_fits.specs.Names.{row_of};
+
+use ppdb_base::{Memory, MergeError};
+use ppdb_maps::MapText;
+use ppdb_values::{DocumentValue, FileValue};
+use std::alloc::Global;
+use std::collections::BTreeMap;
+
+/// Rows of documents by their names.
+#[derive(Drop)]
+pub(crate) struct Names {
+    pub(crate) alloc: Global,
+    pub(crate) rows: BTreeMap<Vec<u8>, u32>,
+}
+
+impl Names {
+    /// No document. It takes no memory.
+    fn new(alloc: Global) -> Names
+        ensures { (name : List ℕ) → row_of result name ≡ None }
+    {
+        Names {
+            alloc,
+            rows: BTreeMap::new(alloc),
+        }
+    }
+
+    /// The row of a document, by its name.
+    fn row_of(&self, name: &[u8]) -> Option<u32>
+        ensures { result ≡ row_of self.now name.now }
+    {
+        self.rows.get(name).copied()
+    }
+
+    /// Adds a document.
+    fn add(&mut self, name: &[u8], row: u32) -> Result<(), Memory>
+        ensures { OnOk result ((other : List ℕ) → row_of self.new other ≡ cond (bytes_eq name.now other) (Some row) (row_of self.old other)) }
+    {
+        let name = Vec::from_slice(self.alloc, name)?;
+        self.rows.insert(name, row)?;
+        Ok(())
+    }
+}
+
+/// What is reported of the first two documents that get one name.
+fn first_name_twice(
+    alloc: Global,
+    map: &MapText,
+    documents: &[DocumentValue],
+) -> Result<Option<MergeError>, Memory>
+    requires { length documents.now ≤ 16777215 }
+    ensures { IfOk result (λ told. told ≡ slice_get (names_twice map.now documents.now) 0) }
+{
+    let mut names = Names::new(alloc);
+    let mut row: u32 = 0;
+    for document in documents {
+        row += 1;
+        let name = map.moved_name(document.name.as_slice());
+        if let Some(first) = names.row_of(name) {
+            return Ok(Some(MergeError::DocumentTwice { first, second: row }));
+        }
+        names.add(name, row)?;
+    }
+    Ok(None)
+}
+
+/// What is reported of the first two documents of a file that get one name. Their own names differ, so there are none where the map has
+/// no `document` line.
+pub(crate) fn first_document_twice(
+    alloc: Global,
+    map: &MapText,
+    value: &FileValue,
+) -> Result<Option<MergeError>, Memory>
+    requires few { length value.now.documents ≤ 16777215 }
+    requires names { EachPair (λ a b. a.name ≢ b.name) value.now.documents }
+    ensures { IfOk result (λ told. told ≡ slice_get (documents_twice map.now value.now) 0) }
+{
+    if map.document_line(0).is_none() {
+        return Ok(None);
+    }
+    first_name_twice(alloc, map, value.documents.as_slice())
+}
