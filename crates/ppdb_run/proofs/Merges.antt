@@ -21,7 +21,9 @@ use Rattle.ppdb_run_stops.specs.declared.stop.Stop.TheVariants as stops
 use Rattle.ppdb_run.specs.Ends.{ComesToInput, IsInputUnread, IsUnreadOf}
 use Rattle.ppdb_run_stops.specs.Refusals.{Outcome, unfit}
 use Rattle.ppdb_run.specs.Outcome.{Step, ◌>>=◌, file_at, fitting, gives, judged, map_in, with_input, with_inputs, with_texts}
-use Rattle.ppdb_run_stops.specs.Causes.{cause_of, refusal_of as told_by}
+use Rattle.ppdb_run_stops.specs.Causes.{cause_of, refusal_of as told_by, ComesFrom, IsNoInput, no_file}
+use Rattle.ppdb_run_stops.specs.Causes.Cause.{Refusal}
+use Rattle.ppdb_run_stops.specs.declared.status.Status.TheVariants as statuses
 use Rattle.ppdb_run.specs.Stops.{Gives}
 use Rattle.ppdb_run_words.specs.Task.{pairs_of}
 use Rattle.ppdb_run_words.specs.Words.{Input, Merge, input_words, texts}
@@ -87,6 +89,54 @@ tells_unfit (stops.SizesDiffer method first second) = tt
 tells_unfit (stops.Unlisted name line) = tt
 tells_unfit stops.Sink = tt
 tells_unfit stops.Memory = tt
+
+-- such a status is not that of a file that is not there or too long
+not_input : IsNoInput statuses.Unfit → ⊥
+not_input (inl e) = absurd cc
+not_input (inr e) = absurd cc
+
+-- it comes from no file and no fault
+pub unfit_comes : (name : List ℕ) (error : MergeError) → ComesFrom (Refusal (unfit name error)) ⊥ no_file no_file None ⊥ ⊥ ⊥
+unfit_comes name error = (λ e. absurd cc, λ none. not_input)
+
+abbrev ComesUnfit : Stop → Type 0
+ComesUnfit (stops.Unfit name error) = ComesFrom (cause_of (stops.Unfit name error)) ⊥ no_file no_file None ⊥ ⊥ ⊥
+ComesUnfit stop = Unit {0}
+
+pub comes_unfit : (stop : Stop) → ComesUnfit stop
+comes_unfit stops.Usage = tt
+comes_unfit (stops.ReadFault name) = tt
+comes_unfit (stops.WriteFault name) = tt
+comes_unfit (stops.Absent name) = tt
+comes_unfit (stops.TooLong name) = tt
+comes_unfit (stops.Refused name fault) = tt
+comes_unfit (stops.Map name line kind) = tt
+comes_unfit (stops.Unfit name error) = of_merge error
+  where
+    of_merge : (error : MergeError) → ComesUnfit (stops.Unfit name error)
+    of_merge merge_errors.Memory = tt
+    of_merge (merge_errors.Unmapped table row place) = unfit_comes name.now (merge_errors.Unmapped table row place)
+    of_merge (merge_errors.ImageTwice table first second image) = unfit_comes name.now (merge_errors.ImageTwice table first second image)
+    of_merge (merge_errors.MethodTaken input first second image) = unfit_comes name.now (merge_errors.MethodTaken input first second image)
+    of_merge (merge_errors.OffsetBeyond method offset size) = unfit_comes name.now (merge_errors.OffsetBeyond method offset size)
+    of_merge (merge_errors.AsyncLost method offset) = unfit_comes name.now (merge_errors.AsyncLost method offset)
+    of_merge (merge_errors.KindUnknown row kind) = unfit_comes name.now (merge_errors.KindUnknown row kind)
+    of_merge (merge_errors.DocumentConflict row joined) = unfit_comes name.now (merge_errors.DocumentConflict row joined)
+    of_merge (merge_errors.RowsDiffer input table first second) = unfit_comes name.now (merge_errors.RowsDiffer input table first second)
+    of_merge (merge_errors.ImageRange input table row image rows) = unfit_comes name.now (merge_errors.ImageRange input table row image rows)
+    of_merge (merge_errors.SlotUnmapped row slot) = unfit_comes name.now (merge_errors.SlotUnmapped row slot)
+    of_merge (merge_errors.SlotTwice method first second image) = unfit_comes name.now (merge_errors.SlotTwice method first second image)
+    of_merge (merge_errors.DocumentTwice first second) = unfit_comes name.now (merge_errors.DocumentTwice first second)
+    of_merge (merge_errors.LinkDiffers row) = unfit_comes name.now (merge_errors.LinkDiffers row)
+comes_unfit (stops.Limit limit) = tt
+comes_unfit (stops.MapLimit bytes) = tt
+comes_unfit (stops.NoMethod method) = tt
+comes_unfit (stops.Unlinked name error) = tt
+comes_unfit (stops.NoDocument name) = tt
+comes_unfit (stops.SizesDiffer method first second) = tt
+comes_unfit (stops.Unlisted name line) = tt
+comes_unfit stops.Sink = tt
+comes_unfit stops.Memory = tt
 
 -- an error that is reported, or want of memory
 pub unfit_given : {U A : Type 0} (view : U → A) (stop : Stop) (name : List ℕ) (error : MergeError) (told : Result A MergeError)

@@ -1,7 +1,7 @@
 use Rattle.ppdb_verify.specs.Views.{raw_file}
 use Rattle.ppdb_run_stops.specs.declared.stop.Stop.TheVariants.{Unfit}
 use Rattle.ppdb_run_words.specs.Task.{input_of}
-use Rattle.ppdb_run.proofs.Merges.{input_told, misfit_told, one_added, no_map_told, tells_unfit}
+use Rattle.ppdb_run.proofs.Merges.{input_told, misfit_told, one_added, no_map_told, tells_unfit, comes_unfit}
 use Rattle.ppdb_run.proofs.merged.add_texts.Goals as goal
 
 pub returns-in-Err-clause-told : goal.returns-in-Err-clause-told
@@ -27,3 +27,6 @@ returns-in-Ok-add-clause-one g c =
     one_added c.args.merger.now.marks c.args.merger.now.traces c.add.new.self.traces (input_of c.args.input) c.args.bytes.now c.args.text
     (raw_file c.in-Ok.file) c.in-Ok.ensures.accepted c.in-Ok.ensures.file c.in-Ok-map_of.map c.in-Ok-map_of.ensures.told
     c.in-Ok-add.ensures.added c.in-Ok-add.ensures.fits
+
+pub returns-clause-causes : goal.returns-clause-causes
+returns-clause-causes g c = comes_unfit (Unfit c.args.input.file c.in-Err-add.error)
