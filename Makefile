@@ -1,5 +1,5 @@
 # make              proves and builds the program if it is not built for these sources
-# make quick        runs the program and all tests unproved, in 15 to 30 minutes
+# make quick        runs the program and all tests unproved, in 30 to 50 minutes
 # make lib          makes libppdb in build/library: an archive, a shared object and the header
 # make check        runs the checks of the built program and of the repository (scripts/checks/check-*), as .ci/run does after the proofs
 # make install      copies the program, the library if make lib has built it, the manual page, completions, documents and scripts below prefix, by default /usr/local
