@@ -1,0 +1,10 @@
+mod Added
+mod Rows
+mod Counted
+mod Found
+mod Named
+mod Taken
+mod Tables
+mod Written
+mod Past
+mod Ranges

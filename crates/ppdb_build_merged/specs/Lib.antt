@@ -1,0 +1,4 @@
+pub mod Inputs
+pub mod Names
+pub mod Keyed
+pub mod Writable

@@ -1,0 +1,20 @@
+//! The draft of files that are moved by their maps and joined, made from their rows: as many are read as there are, and no value of a file
+//! is made.
+#![tactic(auto)]
+
+mod constants;
+mod customs;
+mod documents;
+mod draft;
+mod imports;
+mod inputs;
+mod keys;
+mod machines;
+mod methods;
+mod names;
+mod scopes;
+mod stopped;
+mod there;
+
+pub use draft::draft_of_inputs;
+pub use inputs::RowInput;
