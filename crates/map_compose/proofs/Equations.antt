@@ -7,10 +7,10 @@ use Rattle.std.specs.Option.{option_map, option_and_then, option_or}
 use Rattle.std.proofs.lemmas.Bool.{cases_lt, eq-eqb, ne_eqb, eqb-true, and_parts}
 use Rattle.ppdb_base.specs.Offsets.{every, gone, Moves, Kept, kept_runs, all_offsets}
 use Rattle.ppdb_maps.specs.declared.entries.Count.{Count}
-use Rattle.ppdb_maps.specs.declared.entries.RowImage.{RowImage}
+use Rattle.ppdb_maps.specs.declared.entries.RowLine.{RowLine}
 use Rattle.ppdb_maps.specs.declared.entries.SlotImage.{SlotImage}
 use Rattle.ppdb_maps.specs.declared.entries.SignatureImage.{SignatureImage}
-use Rattle.ppdb_maps.specs.Map.{Map, MethodLine, count_of, row_line, row_image, method_line, is_dropped, has_slots, slot_line, slot_image, offsets_in}
+use Rattle.ppdb_maps.specs.Map.{Map, MethodLine, count_of, row_line, row_within, method_line, is_dropped, has_slots, slot_line, slot_image, offsets_in}
 use Rattle.ppdb_maps.specs.Map.{line_offsets, rows_of, slots_of, signature_line}
 use Rattle.std.specs.List.{AllByRecursion}
 use Rattle.map_compose.specs.Runs.{met, longest}
@@ -47,15 +47,15 @@ or_right false b e = e
 -- ---- the methods that may be spoken of
 
 abbrev pub olds : Map → List ℕ
-olds f = map (λ (r : RowImage). r.old) (rows_of f 0x06)
+olds f = map (λ (r : RowLine). r.old) (rows_of f 0x06)
 
 pub spoken_has : (f : Map) (own others : List ℕ) (m : ℕ) → has m (spoken_of f own others) ≡ (has m own || (has m (olds f) || has m others))
 spoken_has f own others m = has_ascending m (own ++ (olds f ++ others)) ∙ has_append m own (olds f ++ others)
     ∙ ap (λ b. has m own || b) (has_append m (olds f) others)
 
-olds_have : (f : Map) (m : ℕ) → has m (olds f) ≡ is_some (find (λ (r : RowImage). nat_eq r.table 0x06 && nat_eq r.old m) f.rows)
-olds_have f m = has_key (λ (r : RowImage). r.old) m (rows_of f 0x06)
-    ∙ ap is_some (find_filter (λ (r : RowImage). nat_eq r.table 0x06) (λ (r : RowImage). nat_eq r.old m) f.rows)
+olds_have : (f : Map) (m : ℕ) → has m (olds f) ≡ is_some (find (λ (r : RowLine). nat_eq r.table 0x06 && nat_eq r.old m) f.rows)
+olds_have f m = has_key (λ (r : RowLine). r.old) m (rows_of f 0x06)
+    ∙ ap is_some (find_filter (λ (r : RowLine). nat_eq r.table 0x06) (λ (r : RowLine). nat_eq r.old m) f.rows)
 
 -- ---- how a method's image came about
 
@@ -72,7 +72,7 @@ pub record CameBy (f : Map) (m image : ℕ) : Type 0 where
   pub live : is_dropped f m ≡ false
   pub came : Came f m image
 
-pub came_by : (f : Map) (m image : ℕ) → row_image f 0x06 m ≡ Some image → CameBy f m image
+pub came_by : (f : Map) (m image : ℕ) → row_within f 0x06 m ≡ Some image → CameBy f m image
 came_by f m image is = by_drop (is_dropped f m) refl is
   where
     by_count : (c : Option ℕ) → count_of f 0x06 ≡ c → elim c as (λ _. Option ℕ) [ None ↦ Some m | Some count ↦ row_line f 0x06 m ] ≡ Some image → Came f m image
@@ -85,7 +85,7 @@ came_by f m image is = by_drop (is_dropped f m) refl is
     by_drop false live is = record { live = live; came = by_count (count_of f 0x06) refl is }
 
 -- a method that the second map's numbers have, or the first map moved, is spoken of
-spoken_by : (f : Map) (own others : List ℕ) (m image : ℕ) → row_image f 0x06 m ≡ Some image → has image others ≡ true → has m (spoken_of f own others) ≡ true
+spoken_by : (f : Map) (own others : List ℕ) (m image : ℕ) → row_within f 0x06 m ≡ Some image → has image others ≡ true → has m (spoken_of f own others) ≡ true
 spoken_by f own others m image is in_others = spoken_has f own others m ∙ or_right (has m own) _ (of (came_by f m image is).came)
   where
     of : Came f m image → (has m (olds f) || has m others) ≡ true
@@ -111,7 +111,7 @@ drops_are f s m =
     has_filter (drops_one f s) m (spoken_of f f.drops s.drops)
     ∙ and_both (has m (spoken_of f f.drops s.drops)) (drops_one f s m) (λ drops. elim (or_parts (is_dropped f m) _ drops) [
       | inl own ↦ spoken_own f f.drops s.drops m own
-      | inr later ↦ let i = of_some (is_dropped s) (row_image f 0x06 m) later in spoken_by f f.drops s.drops m i.0 i.1.0 i.1.1
+      | inr later ↦ let i = of_some (is_dropped s) (row_within f 0x06 m) later in spoken_by f f.drops s.drops m i.0 i.1.0 i.1.1
     ])
 
 -- ---- lines of methods
@@ -137,7 +137,7 @@ lines_are f s m =
     made_found (λ (l : MethodLine). l.method) (composed_line f s) (line_named f s) m (spoken_of f (numbers f) (numbers s))
     ∙ given_true (has m (spoken_of f (numbers f) (numbers s))) (composed_line f s m) (λ some. of (has_image f s m) some)
   where
-    second_some : (o : Option ℕ) → row_image f 0x06 m ≡ o → is_some (of_image None (method_line s) o) ≡ true
+    second_some : (o : Option ℕ) → row_within f 0x06 m ≡ o → is_some (of_image None (method_line s) o) ≡ true
         → has m (spoken_of f (numbers f) (numbers s)) ≡ true
     second_some None is some = absurd (cc)
     second_some (Some image) is some = spoken_by f (numbers f) (numbers s) m image is (has_key (λ (l : MethodLine). l.method) image s.methods ∙ some)
@@ -145,7 +145,7 @@ lines_are f s m =
     by : (a b : Option MethodLine) → method_line f m ≡ a → second_line f s m ≡ b → is_some (sized m (composed_runs f s m) a b) ≡ true
         → has m (spoken_of f (numbers f) (numbers s)) ≡ true
     by (Some a) b is also some = spoken_own f (numbers f) (numbers s) m (has_key (λ (l : MethodLine). l.method) m f.methods ∙ ap is_some is)
-    by None (Some b) is also some = second_some (row_image f 0x06 m) refl (ap is_some also)
+    by None (Some b) is also some = second_some (row_within f 0x06 m) refl (ap is_some also)
     by None None is also some = absurd (cc)
 
     of : (b : Bool) → is_some (cond b (sized m (composed_runs f s m) (method_line f m) (second_line f s m)) None) ≡ true
@@ -172,7 +172,7 @@ all_second x z (inl a) = record {
   second = inl a;
 }
 
-pub live_image : (s : Map) (image : ℕ) → is_some (row_image s 0x06 image) ≡ true → is_dropped s image ≡ false
+pub live_image : (s : Map) (image : ℕ) → is_some (row_within s 0x06 image) ≡ true → is_dropped s image ≡ false
 live_image s image some = of (is_dropped s image) some
   where
     of : (b : Bool) → is_some (cond b None (elim (count_of s 0x06) as (λ _. Option ℕ) [ None ↦ Some image | Some count ↦ row_line s 0x06 image ])) ≡ true
@@ -182,10 +182,10 @@ live_image s image some = of (is_dropped s image) some
 
 module _ (f s : Map) (m image : ℕ) (follows : Follows f s m image) where
   pub there : has_image f s m ≡ true
-  there = ap (λ o. is_some (option_and_then (row_image s 0x06) o)) follows.first ∙ follows.second
+  there = ap (λ o. is_some (option_and_then (row_within s 0x06) o)) follows.first ∙ follows.second
 
   stays : is_dropped (composed f s) m ≡ false
-  stays = drops_are f s m ∙ ap (λ b. b || of_image false (is_dropped s) (row_image f 0x06 m)) (came_by f m image follows.first).live
+  stays = drops_are f s m ∙ ap (λ b. b || of_image false (is_dropped s) (row_within f 0x06 m)) (came_by f m image follows.first).live
       ∙ ap (of_image false (is_dropped s)) follows.first ∙ live_image s image follows.second
 
   -- by the lines of both
@@ -294,16 +294,16 @@ counts_are f s f_known s_known table = counts_there f s table ∙ given_true (ha
 ])
 
 -- the lines of a table have its number
-pub entries_named : (f s : Map) (k : ℕ) → map (λ (r : RowImage). r.table) (row_entries f s k) ≡ map (λ (r : RowImage). k) (row_entries f s k)
+pub entries_named : (f s : Map) (k : ℕ) → map (λ (r : RowLine). r.table) (row_entries f s k) ≡ map (λ (r : RowLine). k) (row_entries f s k)
 entries_named f s k = of (sources (count_of f k) (count_of s k) f s k)
   where
-    one : (o : Option ℕ) (old : ℕ) (rest : List RowImage) → map (λ (r : RowImage). r.table) rest ≡ map (λ (r : RowImage). k) rest
-        → map (λ (r : RowImage). r.table) (cons_option (option_map (λ new. record { table = k; old = old; new = new }) o) rest)
-        ≡ map (λ (r : RowImage). k) (cons_option (option_map (λ new. record { table = k; old = old; new = new }) o) rest)
+    one : (o : Option ℕ) (old : ℕ) (rest : List RowLine) → map (λ (r : RowLine). r.table) rest ≡ map (λ (r : RowLine). k) rest
+        → map (λ (r : RowLine). r.table) (cons_option (option_map (λ new. record { table = k; old = old; new = new }) o) rest)
+        ≡ map (λ (r : RowLine). k) (cons_option (option_map (λ new. record { table = k; old = old; new = new }) o) rest)
     one None old rest is = is
     one (Some n) old rest is = ap (λ l. k ∷ l) is
 
-    of : (rs : List RowImage) → map (λ (r : RowImage). r.table) (filter_map (row_entry f s k) rs) ≡ map (λ (r : RowImage). k) (filter_map (row_entry f s k) rs)
+    of : (rs : List RowLine) → map (λ (r : RowLine). r.table) (filter_map (row_entry f s k) rs) ≡ map (λ (r : RowLine). k) (filter_map (row_entry f s k) rs)
     of [] = refl
     of (r ∷ rs) = one (composed_row f s k r.old) r.old (filter_map (row_entry f s k) rs) (of rs)
 
@@ -316,35 +316,35 @@ table_known f s f_known s_known table some = elim (cases_lt table 0x2d) [
       let e : false ≡ true = sym (ap is_some none) ∙ some in absurd (cc)
 ]
 
-abbrev pub row_of : Map → Map → ℕ → ℕ → Option RowImage
+abbrev pub row_of : Map → Map → ℕ → ℕ → Option RowLine
 row_of f s table old = option_map (λ new. record { table = table; old = old; new = new }) (composed_row f s table old)
 
-pub row_named : (f s : Map) (table k : ℕ) (r : RowImage) → row_of f s table k ≡ Some r → r.old ≡ k
+pub row_named : (f s : Map) (table k : ℕ) (r : RowLine) → row_of f s table k ≡ Some r → r.old ≡ k
 row_named f s table k r is = of (composed_row f s table k) is
   where
     of : (o : Option ℕ) → option_map (λ new. record { table = table; old = k; new = new }) o ≡ Some r → r.old ≡ k
     of None is = absurd (cc)
     of (Some n) is = cc
 
-abbrev pub line_olds : List RowImage → List ℕ
-line_olds rs = map (λ (r : RowImage). r.old) rs
+abbrev pub line_olds : List RowLine → List ℕ
+line_olds rs = map (λ (r : RowLine). r.old) rs
 
 -- the lines from which the rows of a table come
-abbrev row_sources : Map → Map → ℕ → List RowImage
+abbrev row_sources : Map → Map → ℕ → List RowLine
 row_sources f s table = sources (count_of f table) (count_of s table) f s table
 
 rows_there : (f s : Map) (table old : ℕ)
     → row_line (composed f s) table old ≡ given (has table tables)
     (given (has old (line_olds (sources (count_of f table) (count_of s table) f s table))) (composed_row f s table old))
 rows_there f s table old =
-    ap (option_map (λ (r : RowImage). r.new))
-    (flat_found (λ (r : RowImage). r.table) (λ (r : RowImage). nat_eq r.old old) (row_entries f s) (entries_named f s) table tables
-    ∙ ap (given (has table tables)) (ap (find (λ (r : RowImage). nat_eq r.old old))
-    (filter_map_map (λ (r : RowImage). r.old) (row_of f s table) (row_sources f s table))
-    ∙ made_found (λ (r : RowImage). r.old) (row_of f s table) (row_named f s table) old (line_olds (row_sources f s table))))
+    ap (option_map (λ (r : RowLine). r.new))
+    (flat_found (λ (r : RowLine). r.table) (λ (r : RowLine). nat_eq r.old old) (row_entries f s) (entries_named f s) table tables
+    ∙ ap (given (has table tables)) (ap (find (λ (r : RowLine). nat_eq r.old old))
+    (filter_map_map (λ (r : RowLine). r.old) (row_of f s table) (row_sources f s table))
+    ∙ made_found (λ (r : RowLine). r.old) (row_of f s table) (row_named f s table) old (line_olds (row_sources f s table))))
     ∙ of (has table tables) (has old (line_olds (row_sources f s table))) (composed_row f s table old)
   where
-    of : (a b : Bool) (o : Option ℕ) → option_map (λ (r : RowImage). r.new)
+    of : (a b : Bool) (o : Option ℕ) → option_map (λ (r : RowLine). r.new)
         (given a (given b (option_map (λ new. record { table = table; old = old; new = new }) o))) ≡ given a (given b o)
     of false b o = refl
     of true false o = refl
@@ -356,21 +356,21 @@ rows_there f s table old =
 abbrev by : Option ℕ → ℕ → Bool → Option ℕ → Option ℕ
 by line old drops count = cond drops None (elim count as (λ _. Option ℕ) [ None ↦ Some old | Some n ↦ line ])
 
-pub image_plain : (m : Map) (table old : ℕ) → (nat_eq table 0x06 && is_dropped m old) ≡ false → count_of m table ≡ None → row_image m table old ≡ Some old
+pub image_plain : (m : Map) (table old : ℕ) → (nat_eq table 0x06 && is_dropped m old) ≡ false → count_of m table ≡ None → row_within m table old ≡ Some old
 image_plain m table old live none = ap (λ b. by (row_line m table old) old b (count_of m table)) live ∙ ap (by (row_line m table old) old false) none
 
 lines_have : (m : Map) (table old : ℕ) → has old (line_olds (rows_of m table))
-    ≡ is_some (find (λ (r : RowImage). nat_eq r.table table && nat_eq r.old old) m.rows)
-lines_have m table old = has_key (λ (r : RowImage). r.old) old (rows_of m table)
-    ∙ ap is_some (find_filter (λ (r : RowImage). nat_eq r.table table) (λ (r : RowImage). nat_eq r.old old) m.rows)
+    ≡ is_some (find (λ (r : RowLine). nat_eq r.table table && nat_eq r.old old) m.rows)
+lines_have m table old = has_key (λ (r : RowLine). r.old) old (rows_of m table)
+    ∙ ap is_some (find_filter (λ (r : RowLine). nat_eq r.table table) (λ (r : RowLine). nat_eq r.old old) m.rows)
 
 pub is_some_map : {A B : Type 0} (g : A → B) (o : Option A) → is_some (option_map g o) ≡ is_some o
 is_some_map g None = refl
 is_some_map g (Some a) = refl
 
-image_lined : (m : Map) (table old n : ℕ) → count_of m table ≡ Some n → is_some (row_image m table old) ≡ true → has old (line_olds (rows_of m table)) ≡ true
+image_lined : (m : Map) (table old n : ℕ) → count_of m table ≡ Some n → is_some (row_within m table old) ≡ true → has old (line_olds (rows_of m table)) ≡ true
 image_lined m table old n count some = lines_have m table old
-    ∙ sym (is_some_map (λ (r : RowImage). r.new) (find (λ (r : RowImage). nat_eq r.table table && nat_eq r.old old) m.rows))
+    ∙ sym (is_some_map (λ (r : RowLine). r.new) (find (λ (r : RowLine). nat_eq r.table table && nat_eq r.old old) m.rows))
     ∙ of (nat_eq table 0x06 && is_dropped m old) (count_of m table) count some
   where
     of : (b : Bool) (c : Option ℕ) → c ≡ Some n → is_some (by (row_line m table old) old b c) ≡ true → is_some (row_line m table old) ≡ true
@@ -379,10 +379,10 @@ image_lined m table old n count some = lines_have m table old
     of false (Some k) is some = some
 
 -- a row has an image by both only where it has one by the first
-pub first_some : (f s : Map) (table old : ℕ) → is_some (composed_row f s table old) ≡ true → is_some (row_image f table old) ≡ true
-first_some f s table old some = of (row_image f table old) some
+pub first_some : (f s : Map) (table old : ℕ) → is_some (composed_row f s table old) ≡ true → is_some (row_within f table old) ≡ true
+first_some f s table old some = of (row_within f table old) some
   where
-    of : (o : Option ℕ) → is_some (option_and_then (row_image s table) o) ≡ true → is_some o ≡ true
+    of : (o : Option ℕ) → is_some (option_and_then (row_within s table) o) ≡ true → is_some o ≡ true
     of None some = some
     of (Some n) some = refl
 
@@ -401,32 +401,32 @@ pub dropped_none : (f s : Map) (table old : ℕ) → (nat_eq table 0x06 && drops
 dropped_none f s table old is =
     let parts = and_parts (nat_eq table 0x06) (drops_one f s old) is in
     subst (λ t. composed_row f s t old ≡ None) (sym (eqb-true table 0x06 parts.0))
-    (elim (or_parts (is_dropped f old) (of_image false (is_dropped s) (row_image f 0x06 old)) parts.1) [
-      | inl own ↦ ap (option_and_then (row_image s 0x06)) (none_of f old own)
-      | inr later ↦ let i = of_some (is_dropped s) (row_image f 0x06 old) later in ap (option_and_then (row_image s 0x06)) i.1.0 ∙ none_of s i.0 i.1.1
+    (elim (or_parts (is_dropped f old) (of_image false (is_dropped s) (row_within f 0x06 old)) parts.1) [
+      | inl own ↦ ap (option_and_then (row_within s 0x06)) (none_of f old own)
+      | inr later ↦ let i = of_some (is_dropped s) (row_within f 0x06 old) later in ap (option_and_then (row_within s 0x06)) i.1.0 ∙ none_of s i.0 i.1.1
     ])
   where
-    none_of : (m : Map) (row : ℕ) → is_dropped m row ≡ true → row_image m 0x06 row ≡ None
+    none_of : (m : Map) (row : ℕ) → is_dropped m row ≡ true → row_within m 0x06 row ≡ None
     none_of m row drops = ap (λ b. by (row_line m 0x06 row) row b (count_of m 0x06)) drops
 
 abbrev lined_row : Map → Map → ℕ → ℕ → Option ℕ → Option ℕ → Option ℕ
 lined_row f s table old cf cs = given (has table tables) (given (has old (line_olds (sources cf cs f s table))) (composed_row f s table old))
 
-pub rows_are : (f s : Map) → TablesKnown f → TablesKnown s → (table old : ℕ) → row_image (composed f s) table old ≡ composed_row f s table old
+pub rows_are : (f s : Map) → TablesKnown f → TablesKnown s → (table old : ℕ) → row_within (composed f s) table old ≡ composed_row f s table old
 rows_are f s f_known s_known table old =
     ap (λ b. by (row_line (composed f s) table old) old (nat_eq table 0x06 && b) (count_of (composed f s) table)) (drops_are f s old)
     ∙ ap (by (row_line (composed f s) table old) old (nat_eq table 0x06 && drops_one f s old)) (counts_are f s f_known s_known table)
     ∙ ap (λ l. by l old (nat_eq table 0x06 && drops_one f s old) (composed_count f s table)) (rows_there f s table old)
     ∙ by_drop (nat_eq table 0x06 && drops_one f s old) refl
   where
-    lined : (src : List RowImage) → is_some (composed_count f s table) ≡ true → (is_some (composed_row f s table old) ≡ true → has old (line_olds src) ≡ true)
+    lined : (src : List RowLine) → is_some (composed_count f s table) ≡ true → (is_some (composed_row f s table old) ≡ true → has old (line_olds src) ≡ true)
         → given (has table tables) (given (has old (line_olds src)) (composed_row f s table old)) ≡ composed_row f s table old
     lined src there has_it =
         ap (λ b. given b (given (has old (line_olds src)) (composed_row f s table old))) (table_known f s f_known s_known table there)
         ∙ given_true (has old (line_olds src)) (composed_row f s table old) has_it
 
     -- the first map leaves the row where it is
-    first_stays : (nat_eq table 0x06 && drops_one f s old) ≡ false → count_of f table ≡ None → row_image f table old ≡ Some old
+    first_stays : (nat_eq table 0x06 && drops_one f s old) ≡ false → count_of f table ≡ None → row_within f table old ≡ Some old
     first_stays live none = image_plain f table old (and_first (nat_eq table 0x06) (is_dropped f old) _ live) none
 
     second_live : (nat_eq table 0x06 && drops_one f s old) ≡ false → count_of f table ≡ None → (nat_eq table 0x06 && is_dropped s old) ≡ false
@@ -435,15 +435,15 @@ rows_are f s f_known s_known table old =
         of : (b : Bool) → nat_eq table 0x06 ≡ b → (b && is_dropped s old) ≡ false
         of false is = refl
         of true is =
-            let at : row_image f 0x06 old ≡ Some old = subst (λ t. row_image f t old ≡ Some old) (eqb-true table 0x06 is) (first_stays live none) in
+            let at : row_within f 0x06 old ≡ Some old = subst (λ t. row_within f t old ≡ Some old) (eqb-true table 0x06 is) (first_stays live none) in
             sym (ap (of_image false (is_dropped s)) at) ∙ and_second (nat_eq table 0x06) (is_dropped f old)
-            (of_image false (is_dropped s) (row_image f 0x06 old)) live is
+            (of_image false (is_dropped s) (row_within f 0x06 old)) live is
 
     of : (cf cs : Option ℕ) → count_of f table ≡ cf → count_of s table ≡ cs → (nat_eq table 0x06 && drops_one f s old) ≡ false
         → by (lined_row f s table old cf cs) old false (option_or cs cf) ≡ composed_row f s table old
-    of None None is also live = sym (ap (option_and_then (row_image s table)) (first_stays live is) ∙ image_plain s table old (second_live live is) also)
+    of None None is also live = sym (ap (option_and_then (row_within s table)) (first_stays live is) ∙ image_plain s table old (second_live live is) also)
     of None (Some n) is also live = lined (rows_of s table) (ap (λ o. is_some (option_or o (count_of f table))) also) (λ some.
-        image_lined s table old n also (sym (ap (λ o. is_some (option_and_then (row_image s table) o)) (first_stays live is)) ∙ some))
+        image_lined s table old n also (sym (ap (λ o. is_some (option_and_then (row_within s table) o)) (first_stays live is)) ∙ some))
     of (Some n) None is also live = lined (rows_of f table) (ap (λ o. is_some (option_or o (count_of f table))) also
         ∙ ap is_some is) (λ some. image_lined f table old n is (first_some f s table old some))
     of (Some n) (Some k) is also live = lined (rows_of f table) (ap (λ o. is_some (option_or o (count_of f table))) also)
@@ -510,7 +510,7 @@ slot_lined m method old lines some =
 
 module _ (f s : Map) (m image : ℕ) (follows : Follows f s m image) where
   lines_of : has_slot_lines f s m ≡ (has_slots f m || has_slots s image)
-  lines_of = ap (λ b. b && (has_slots f m || of_image false (has_slots s) (row_image f 0x06 m))) (there f s m image follows)
+  lines_of = ap (λ b. b && (has_slots f m || of_image false (has_slots s) (row_within f 0x06 m))) (there f s m image follows)
       ∙ ap (λ o. has_slots f m || of_image false (has_slots s) o) follows.first
 
   slotted_is : has m (slotted_methods f s) ≡ (has_slots f m || has_slots s image)
@@ -541,7 +541,7 @@ module _ (f s : Map) (m image : ℕ) (follows : Follows f s m image) where
       some_first : is_some (composed_slot f s m old) ≡ true → is_some (slot_image f m old) ≡ true
       some_first some = by (slot_image f m old) some
         where
-          by : (o : Option ℕ) → is_some (option_and_then (λ slot. of_image None (λ i. slot_image s i slot) (row_image f 0x06 m)) o) ≡ true → is_some o ≡ true
+          by : (o : Option ℕ) → is_some (option_and_then (λ slot. of_image None (λ i. slot_image s i slot) (row_within f 0x06 m)) o) ≡ true → is_some o ≡ true
           by None some = some
           by (Some n) some = refl
 
@@ -579,7 +579,7 @@ signatures_are f s m =
     new_of true None = refl
     new_of true (Some n) = refl
 
-    by : (image : ℕ) → row_image f 0x06 m ≡ Some image → (o : Option ℕ) → signature_line f m ≡ o → is_some (signature_then s image o) ≡ true
+    by : (image : ℕ) → row_within f 0x06 m ≡ Some image → (o : Option ℕ) → signature_line f m ≡ o → is_some (signature_then s image o) ≡ true
         → has m (spoken_of f (signed f) (signed s)) ≡ true
     by image at (Some new) is some = spoken_own f (signed f) (signed s) m
         (has_key (λ (x : SignatureImage). x.method) m f.signatures ∙ some_mapped _ _ new is)
@@ -587,20 +587,20 @@ signatures_are f s m =
         (has_key (λ (x : SignatureImage). x.method) image s.signatures
         ∙ sym (is_some_map (λ (x : SignatureImage). x.new) (find (λ (x : SignatureImage). nat_eq x.method image) s.signatures)) ∙ some)
 
-    at : (o : Option ℕ) → row_image f 0x06 m ≡ o → is_some (of_image None (λ image. signature_then s image (signature_line f m)) o) ≡ true
+    at : (o : Option ℕ) → row_within f 0x06 m ≡ o → is_some (of_image None (λ image. signature_then s image (signature_line f m)) o) ≡ true
         → has m (spoken_of f (signed f) (signed s)) ≡ true
     at None is some = absurd (cc)
     at (Some image) is some = by image is (signature_line f m) refl some
 
-    of : (b : Bool) → is_some (cond b (of_image None (λ image. signature_then s image (signature_line f m)) (row_image f 0x06 m)) None) ≡ true
+    of : (b : Bool) → is_some (cond b (of_image None (λ image. signature_then s image (signature_line f m)) (row_within f 0x06 m)) None) ≡ true
         → has m (spoken_of f (signed f) (signed s)) ≡ true
     of false some = absurd (cc)
-    of true some = at (row_image f 0x06 m) refl some
+    of true some = at (row_within f 0x06 m) refl some
 
 -- what the second map makes of the first map's line
 pub signature_on : (f s : Map) (m image : ℕ) → Follows f s m image → composed_signature f s m ≡ signature_then s image (signature_line f m)
 signature_on f s m image follows =
-    ap (λ b. cond b (of_image None (λ i. signature_then s i (signature_line f m)) (row_image f 0x06 m)) None) (there f s m image follows)
+    ap (λ b. cond b (of_image None (λ i. signature_then s i (signature_line f m)) (row_within f 0x06 m)) None) (there f s m image follows)
     ∙ ap (of_image None (λ i. signature_then s i (signature_line f m))) follows.first
 
 -- ---- lines
@@ -609,11 +609,11 @@ signature_on f s m image follows =
 without_image : (f s : Map) (m : ℕ) → has_image f s m ≡ false
     → (method_line (composed f s) m ≡ None) × (has_slots (composed f s) m ≡ false) × (signature_line (composed f s) m ≡ None)
 without_image f s m away =
-    let none : has_slot_lines f s m ≡ false = ap (λ b. b && (has_slots f m || of_image false (has_slots s) (row_image f 0x06 m))) away in (
+    let none : has_slot_lines f s m ≡ false = ap (λ b. b && (has_slots f m || of_image false (has_slots s) (row_within f 0x06 m))) away in (
       lines_are f s m ∙ ap (λ b. cond b (sized m (composed_runs f s m) (method_line f m) (second_line f s m)) None) away,
       has_filter (has_slot_lines f s) m (spoken_of f f.slotted s.slotted)
           ∙ and_both (has m (spoken_of f f.slotted s.slotted)) (has_slot_lines f s m) (λ some. let e : false ≡ true = sym none ∙ some in absurd (cc)) ∙ none,
-      signatures_are f s m ∙ ap (λ b. cond b (of_image None (λ i. signature_then s i (signature_line f m)) (row_image f 0x06 m)) None) away,
+      signatures_are f s m ∙ ap (λ b. cond b (of_image None (λ i. signature_then s i (signature_line f m)) (row_within f 0x06 m)) None) away,
     )
 
 -- the runs of each are the longest

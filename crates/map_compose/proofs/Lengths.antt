@@ -6,7 +6,7 @@ use Rattle.std.specs.Fmt.{decimal}
 use Rattle.std.specs.List.{AllByRecursion, filter, flat_map}
 use Rattle.std.proofs.lemmas.List.{length-map}
 use Rattle.ppdb_maps.specs.declared.entries.Count.{Count}
-use Rattle.ppdb_maps.specs.declared.entries.RowImage.{RowImage}
+use Rattle.ppdb_maps.specs.declared.entries.RowLine.{RowLine}
 use Rattle.ppdb_maps.specs.declared.entries.SlotImage.{SlotImage}
 use Rattle.ppdb_maps.specs.declared.entries.SignatureImage.{SignatureImage}
 use Rattle.ppdb_maps.specs.declared.entries.NameLine.{NameLine}
@@ -171,7 +171,7 @@ chosen {A} P p (x ∷ xs) all = of (p x) (chosen P p xs all.1)
     of false rest = rest
 
 module _ (m : Map) (readable : IsReadable m) where
-  row_small : (r : RowImage) → IsRowOf m r → IsSmall (row_says r)
+  row_small : (r : RowLine) → IsRowOf m r → IsSmall (row_says r)
   row_small r is = (omega (arith, is.0.1), omega (arith, is.1.1))
 
   row_most : (ns : List ℕ) → AllByRecursion IsRow ns → AllByRecursion (λ k. k ≤ ROWS) ns
@@ -183,10 +183,10 @@ module _ (m : Map) (readable : IsReadable m) where
   count_few : (count : Count) → IsCount count → Few (count_says m) 16777217 count
   count_few count is = record {
     few =
-        let rows = few_rows (map (λ (r : RowImage). r.old) (rows_of m count.table)) (rows_up m readable count.table)
-        (mapped (IsRowOf m) IsRow (λ (r : RowImage). r.old) (λ r row. row.0) (rows_of m count.table)
+        let rows = few_rows (map (λ (r : RowLine). r.old) (rows_of m count.table)) (rows_up m readable count.table)
+        (mapped (IsRowOf m) IsRow (λ (r : RowLine). r.old) (λ r row. row.0) (rows_of m count.table)
         (chosen (IsRowOf m) (λ r. nat_eq r.table count.table) m.rows readable.rows)) in
-        let same = length-map (rows_of m count.table) (λ (r : RowImage). r.old) in
+        let same = length-map (rows_of m count.table) (λ (r : RowLine). r.old) in
         let also = length-map (rows_of m count.table) row_says in
         omega (arith, rows, same, also);
     small = (

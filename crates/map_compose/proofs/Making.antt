@@ -3,7 +3,7 @@ use Rattle.std.proofs.Common.{ℕ, ◌≡◌, ◌+◌, ◌<◌, ◌++◌, List, 
 use Rattle.std.specs.List.{filter_map, cons_option, slice_get}
 use Rattle.std.specs.Option.{option_map}
 use Rattle.ppdb_maps.specs.declared.line.Line.{Line}
-use Rattle.ppdb_maps.specs.declared.entries.RowImage.{RowImage}
+use Rattle.ppdb_maps.specs.declared.entries.RowLine.{RowLine}
 use Rattle.ppdb_maps.specs.declared.entries.SlotImage.{SlotImage}
 use Rattle.ppdb_maps.specs.Map.{Map}
 use Rattle.ppdb_maps_text.specs.declared.counted.Counted.{Counted}
@@ -54,7 +54,7 @@ module _ {X Y : Type 0} (key : X → ℕ) (make : X → Option Y) (says : Y → 
 
 -- ---- rows, and slots
 
-row_told : (f s : Map) (table : ℕ) (x : RowImage) → map row_says (cons_option (row_entry f s table x) [])
+row_told : (f s : Map) (table : ℕ) (x : RowLine) → map row_says (cons_option (row_entry f s table x) [])
     ≡ image_says table x.old (composed_row f s table x.old)
 row_told f s table x = of (composed_row f s table x.old)
   where
@@ -62,19 +62,19 @@ row_told f s table x = of (composed_row f s table x.old)
     of None = refl
     of (Some n) = refl
 
-abbrev old_row : RowImage → ℕ
+abbrev old_row : RowLine → ℕ
 old_row r = r.old
 
-pub row_within : (xs : List RowImage) (i k : ℕ) → option_map (λ (r : RowImage). r.old) (slice_get xs i) ≡ Some k → i < length xs
+pub row_within : (xs : List RowLine) (i k : ℕ) → option_map (λ (r : RowLine). r.old) (slice_get xs i) ≡ Some k → i < length xs
 row_within xs i k is = key_within old_row (λ r. None) row_says (λ k. []) (λ x. refl) xs i k is
 
-pub rows_next : (f s : Map) (table : ℕ) (xs : List RowImage) (i k : ℕ) (old mid new : Counted) → option_map (λ (r : RowImage). r.old) (slice_get xs i) ≡ Some k
+pub rows_next : (f s : Map) (table : ℕ) (xs : List RowLine) (i k : ℕ) (old mid new : Counted) → option_map (λ (r : RowLine). r.old) (slice_get xs i) ≡ Some k
     → PutsLines old mid (map row_says (filter_map (row_entry f s table) (take i xs))) → PutsLines mid new (image_says table k (composed_row f s table k))
     → PutsLines old new (map row_says (filter_map (row_entry f s table) (take (i + 1) xs)))
 rows_next f s table xs i k old mid new is h put =
     made_next old_row (row_entry f s table) row_says (λ n. image_says table n (composed_row f s table n)) (row_told f s table) xs i k old mid new is h put
 
-pub rows_done : (f s : Map) (table : ℕ) (xs : List RowImage) (i : ℕ) (old new : Counted) → option_map (λ (r : RowImage). r.old) (slice_get xs i) ≡ None
+pub rows_done : (f s : Map) (table : ℕ) (xs : List RowLine) (i : ℕ) (old new : Counted) → option_map (λ (r : RowLine). r.old) (slice_get xs i) ≡ None
     → PutsLines old new (map row_says (filter_map (row_entry f s table) (take i xs))) → PutsLines old new (map row_says (filter_map (row_entry f s table) xs))
 rows_done f s table xs i old new is h =
     made_done old_row (row_entry f s table) row_says (λ n. image_says table n (composed_row f s table n)) (row_told f s table) xs i old new is h

@@ -8,11 +8,11 @@ use Rattle.std.proofs.lemmas.Bool.{cases_lt, lt-ltb, eq-eqb, eqb-true, and_parts
 use Rattle.ppdb_base.specs.declared.offsets.Run.{Run}
 use Rattle.ppdb_base.specs.Offsets.{every, gone, lined, Rise, RiseFrom, kept_runs, all_offsets, end_of, new_end_of}
 use Rattle.ppdb_maps.specs.declared.entries.Count.{Count}
-use Rattle.ppdb_maps.specs.declared.entries.RowImage.{RowImage}
+use Rattle.ppdb_maps.specs.declared.entries.RowLine.{RowLine}
 use Rattle.ppdb_maps.specs.declared.entries.SlotImage.{SlotImage}
 use Rattle.ppdb_maps.specs.declared.entries.SignatureImage.{SignatureImage}
 use Rattle.ppdb_maps.specs.Forms.{AreBytes, ROWS, OFFSETS, SLOTS}
-use Rattle.ppdb_maps.specs.Map.{Map, MethodLine, Ascends, count_of, row_line, row_image, method_line, is_dropped, has_slots, slot_line, slot_image}
+use Rattle.ppdb_maps.specs.Map.{Map, MethodLine, Ascends, count_of, row_line, row_within, method_line, is_dropped, has_slots, slot_line, slot_image}
 use Rattle.ppdb_maps.specs.Map.{offsets_in, line_offsets, rows_of, slots_of, moved_row, signature_line, moved_signature}
 use Rattle.ppdb_maps.specs.Readable.{IsReadable, IsRow, IsCount, IsRowOf, IsLineOf, IsSlottedOf, IsSlotOf, IsSignatureOf}
 use Rattle.map_compose.specs.Runs.{meet, met, longest}
@@ -104,7 +104,7 @@ ascending_hold P (n ∷ ns) all = put_hold P n (ascending ns) all.0 (ascending_h
 
 module _ (m : Map) (readable : IsReadable m) where
   pub row_olds : AllByRecursion IsRow (olds m)
-  row_olds = map_hold (IsRowOf m) IsRow (λ (r : RowImage). r.old) (λ r is. is.0) (rows_of m 0x06)
+  row_olds = map_hold (IsRowOf m) IsRow (λ (r : RowLine). r.old) (λ r is. is.0) (rows_of m 0x06)
       (filter_hold (IsRowOf m) (IsRowOf m) (λ r. nat_eq r.table 0x06) (λ r is at. is) m.rows readable.rows)
 
   pub line_numbers : AllByRecursion IsRow (numbers m)
@@ -129,16 +129,16 @@ module _ (m : Map) (readable : IsReadable m) where
           (found_holds IsCount (λ (c : Count). nat_eq c.table table) m.counts c readable.counts at).1
 
   lined_row : (table old new : ℕ) → row_line m table old ≡ Some new → IsRow new
-  lined_row table old new is = of (find (λ (r : RowImage). nat_eq r.table table && nat_eq r.old old) m.rows) refl is
+  lined_row table old new is = of (find (λ (r : RowLine). nat_eq r.table table && nat_eq r.old old) m.rows) refl is
     where
-      of : (o : Option RowImage) → find (λ (r : RowImage). nat_eq r.table table && nat_eq r.old old) m.rows ≡ o
-          → option_map (λ (r : RowImage). r.new) o ≡ Some new → IsRow new
+      of : (o : Option RowLine) → find (λ (r : RowLine). nat_eq r.table table && nat_eq r.old old) m.rows ≡ o
+          → option_map (λ (r : RowLine). r.new) o ≡ Some new → IsRow new
       of None at is = absurd (cc)
       of (Some r) at is = let e : r.new ≡ new = cc in subst IsRow e
-          (found_holds (IsRowOf m) (λ (r : RowImage). nat_eq r.table table && nat_eq r.old old) m.rows r readable.rows at).1
+          (found_holds (IsRowOf m) (λ (r : RowLine). nat_eq r.table table && nat_eq r.old old) m.rows r readable.rows at).1
 
   -- the image of a row is one
-  image_row : (table old new : ℕ) → IsRow old → row_image m table old ≡ Some new → IsRow new
+  image_row : (table old new : ℕ) → IsRow old → row_within m table old ≡ Some new → IsRow new
   image_row table old new row is = of (nat_eq table 0x06 && is_dropped m old) (count_of m table) is
     where
       of : (b : Bool) (c : Option ℕ) → cond b None (elim c as (λ _. Option ℕ) [ None ↦ Some old | Some count ↦ row_line m table old ]) ≡ Some new → IsRow new
@@ -150,7 +150,7 @@ module _ (m : Map) (readable : IsReadable m) where
   image_or_none : (table old : ℕ) → old ≤ ROWS → moved_row m table old ≤ ROWS
   image_or_none table old le = of (nat_eq old 0) refl
     where
-      by : (o : Option ℕ) → row_image m table old ≡ o → 1 ≤ old → unwrap_or o 0 ≤ ROWS
+      by : (o : Option ℕ) → row_within m table old ≡ o → 1 ≤ old → unwrap_or o 0 ≤ ROWS
       by None at some = omega arith
       by (Some new) at some = (image_row table old new (some, le) at).1
 
@@ -160,9 +160,9 @@ module _ (m : Map) (readable : IsReadable m) where
         | inr none ↦ absurd (false≢true (sym apart ∙ eq-eqb old 0 (omega (arith, none))))
       ]
 
-      of : (b : Bool) → nat_eq old 0 ≡ b → cond b 0 (unwrap_or (row_image m table old) 0) ≤ ROWS
+      of : (b : Bool) → nat_eq old 0 ≡ b → cond b 0 (unwrap_or (row_within m table old) 0) ≤ ROWS
       of true is = omega arith
-      of false is = by (row_image m table old) refl (some is)
+      of false is = by (row_within m table old) refl (some is)
 
   lined_signature : (method new : ℕ) → signature_line m method ≡ Some new → new ≤ ROWS
   lined_signature method new is = of (find (λ (x : SignatureImage). nat_eq x.method method) m.signatures) refl is
@@ -209,14 +209,14 @@ module _ (m : Map) (readable : IsReadable m) where
       of false None is = (omega arith, omega arith, omega arith, tt)
       of false (Some line) is = (line_fits method line is).3
 
-  pub rows_up : (table : ℕ) → Up (map (λ (r : RowImage). r.old) (rows_of m table))
-  rows_up table = key_up (λ (r : RowImage). r.table) (λ (r : RowImage). r.old) table m.rows readable.ascends.rows
+  pub rows_up : (table : ℕ) → Up (map (λ (r : RowLine). r.old) (rows_of m table))
+  rows_up table = key_up (λ (r : RowLine). r.table) (λ (r : RowLine). r.old) table m.rows readable.ascends.rows
 
   pub slots_up : (method : ℕ) → Up (map (λ (x : SlotImage). x.old) (slots_of m method))
   slots_up method = key_up (λ (x : SlotImage). x.method) (λ (x : SlotImage). x.old) method m.slots readable.ascends.slots
 
-  pub rows_hold : (table : ℕ) → AllByRecursion (λ (r : RowImage). IsRow r.old × (is_some (count_of m table) ≡ true)) (rows_of m table)
-  rows_hold table = filter_hold (IsRowOf m) (λ (r : RowImage). IsRow r.old × (is_some (count_of m table) ≡ true)) (λ r. nat_eq r.table table)
+  pub rows_hold : (table : ℕ) → AllByRecursion (λ (r : RowLine). IsRow r.old × (is_some (count_of m table) ≡ true)) (rows_of m table)
+  rows_hold table = filter_hold (IsRowOf m) (λ (r : RowLine). IsRow r.old × (is_some (count_of m table) ≡ true)) (λ r. nat_eq r.table table)
       (λ r is at. (is.0, subst (λ t. is_some (count_of m t) ≡ true) (eqb-true r.table table at) is.2)) m.rows readable.rows
 
   pub slots_hold : (method : ℕ) → AllByRecursion (λ (x : SlotImage). x.old ≤ SLOTS) (slots_of m method)
@@ -271,17 +271,17 @@ module _ (f s : Map) (f_readable : IsReadable f) (s_readable : IsReadable s) whe
 
   -- ---- rows
 
-  pub source_rows : (table : ℕ) → AllByRecursion (λ (r : RowImage). IsRow r.old × (is_some (composed_count f s table) ≡ true))
+  pub source_rows : (table : ℕ) → AllByRecursion (λ (r : RowLine). IsRow r.old × (is_some (composed_count f s table) ≡ true))
       (sources (count_of f table) (count_of s table) f s table)
   source_rows table = of (count_of f table) (count_of s table) refl refl
     where
       of : (a b : Option ℕ) → count_of f table ≡ a → count_of s table ≡ b
-          → AllByRecursion (λ (r : RowImage). IsRow r.old × (is_some (composed_count f s table) ≡ true)) (sources a b f s table)
+          → AllByRecursion (λ (r : RowLine). IsRow r.old × (is_some (composed_count f s table) ≡ true)) (sources a b f s table)
       of None None is also = tt
       of None (Some n) is also = all (rows_of s table) (rows_hold s s_readable table)
         where
-          all : (rs : List RowImage) → AllByRecursion (λ (r : RowImage). IsRow r.old × (is_some (count_of s table) ≡ true)) rs
-              → AllByRecursion (λ (r : RowImage). IsRow r.old × (is_some (composed_count f s table) ≡ true)) rs
+          all : (rs : List RowLine) → AllByRecursion (λ (r : RowLine). IsRow r.old × (is_some (count_of s table) ≡ true)) rs
+              → AllByRecursion (λ (r : RowLine). IsRow r.old × (is_some (composed_count f s table) ≡ true)) rs
           all [] h = tt
           all (r ∷ rs) h = ((h.0.0, ap (λ o. is_some (option_or o (count_of f table))) also), all rs h.1)
       of (Some n) b is also = all (rows_of f table) (rows_hold f f_readable table)
@@ -290,31 +290,31 @@ module _ (f s : Map) (f_readable : IsReadable f) (s_readable : IsReadable s) whe
           by None = refl
           by (Some k) = refl
 
-          all : (rs : List RowImage) → AllByRecursion (λ (r : RowImage). IsRow r.old × (is_some (count_of f table) ≡ true)) rs
-              → AllByRecursion (λ (r : RowImage). IsRow r.old × (is_some (composed_count f s table) ≡ true)) rs
+          all : (rs : List RowLine) → AllByRecursion (λ (r : RowLine). IsRow r.old × (is_some (count_of f table) ≡ true)) rs
+              → AllByRecursion (λ (r : RowLine). IsRow r.old × (is_some (composed_count f s table) ≡ true)) rs
           all [] h = tt
           all (r ∷ rs) h = ((h.0.0, ap (λ o. is_some (option_or (count_of s table) o)) is ∙ by (count_of s table)), all rs h.1)
 
-  pub sources_up : (table : ℕ) → Up (map (λ (r : RowImage). r.old) (sources (count_of f table) (count_of s table) f s table))
+  pub sources_up : (table : ℕ) → Up (map (λ (r : RowLine). r.old) (sources (count_of f table) (count_of s table) f s table))
   sources_up table = of (count_of f table) (count_of s table)
     where
       none : Up []
       none = filter_up (λ n. false) (0 ∷ []) (ascending_up (0 ∷ []))
 
-      of : (a b : Option ℕ) → Up (map (λ (r : RowImage). r.old) (sources a b f s table))
+      of : (a b : Option ℕ) → Up (map (λ (r : RowLine). r.old) (sources a b f s table))
       of None None = none
       of None (Some n) = rows_up s s_readable table
       of (Some n) b = rows_up f f_readable table
 
   -- by both maps the image of a row is one
   both_row : (table old new : ℕ) → IsRow old → composed_row f s table old ≡ Some new → IsRow new
-  both_row table old new row is = of (row_image f table old) refl is
+  both_row table old new row is = of (row_within f table old) refl is
     where
-      of : (o : Option ℕ) → row_image f table old ≡ o → option_and_then (row_image s table) o ≡ Some new → IsRow new
+      of : (o : Option ℕ) → row_within f table old ≡ o → option_and_then (row_within s table) o ≡ Some new → IsRow new
       of None at is = absurd (cc)
       of (Some mid) at is = image_row s s_readable table mid new (image_row f f_readable table old mid row at) is
 
-  entry_fits : (table : ℕ) (line row : RowImage) → IsRow line.old × (is_some (composed_count f s table) ≡ true) → row_entry f s table line ≡ Some row
+  entry_fits : (table : ℕ) (line row : RowLine) → IsRow line.old × (is_some (composed_count f s table) ≡ true) → row_entry f s table line ≡ Some row
       → IsRowOf (composed f s) row
   entry_fits table line row held is = of (composed_row f s table line.old) refl is
     where
@@ -357,7 +357,7 @@ module _ (f s : Map) (f_readable : IsReadable f) (s_readable : IsReadable s) whe
   line_holds agree k line row is = of (has_image f s k) refl is
     where
       second_fits : (b : MethodLine) → second_line f s k ≡ Some b → IsLineOf s b
-      second_fits b at = by (row_image f 0x06 k) at
+      second_fits b at = by (row_within f 0x06 k) at
         where
           by : (o : Option ℕ) → of_image None (method_line s) o ≡ Some b → IsLineOf s b
           by None at = absurd (cc)
@@ -365,17 +365,17 @@ module _ (f s : Map) (f_readable : IsReadable f) (s_readable : IsReadable s) whe
 
       -- the offsets of a method with an image are those of its line
       first_runs : has_image f s k ≡ true → (o : Option MethodLine) → method_line f k ≡ o → offsets_in f k ≡ line_offsets o
-      first_runs there o at = by (row_image f 0x06 k) refl there
+      first_runs there o at = by (row_within f 0x06 k) refl there
         where
-          by : (i : Option ℕ) → row_image f 0x06 k ≡ i → is_some (option_and_then (row_image s 0x06) i) ≡ true → offsets_in f k ≡ line_offsets o
+          by : (i : Option ℕ) → row_within f 0x06 k ≡ i → is_some (option_and_then (row_within s 0x06) i) ≡ true → offsets_in f k ≡ line_offsets o
           by None is there = absurd (false≢true there)
           by (Some image) is there = ap (λ b. cond b gone (line_offsets (method_line f k))) (came_by f k image is).live ∙ ap line_offsets at
 
       second_runs : has_image f s k ≡ true → (o : Option MethodLine) → second_line f s k ≡ o
-          → of_image every (offsets_in s) (row_image f 0x06 k) ≡ line_offsets o
-      second_runs there o at = by (row_image f 0x06 k) there at
+          → of_image every (offsets_in s) (row_within f 0x06 k) ≡ line_offsets o
+      second_runs there o at = by (row_within f 0x06 k) there at
         where
-          by : (i : Option ℕ) → is_some (option_and_then (row_image s 0x06) i) ≡ true → of_image None (method_line s) i ≡ o
+          by : (i : Option ℕ) → is_some (option_and_then (row_within s 0x06) i) ≡ true → of_image None (method_line s) i ≡ o
               → of_image every (offsets_in s) i ≡ line_offsets o
           by None there at = absurd (false≢true there)
           by (Some image) there at = ap (λ b. cond b gone (line_offsets (method_line s image))) (live_image s image there) ∙ ap line_offsets at
@@ -383,7 +383,7 @@ module _ (f s : Map) (f_readable : IsReadable f) (s_readable : IsReadable s) whe
       runs_are : has_image f s k ≡ true → (a b : Option MethodLine) → method_line f k ≡ a → second_line f s k ≡ b
           → composed_runs f s k ≡ longest (met (kept_runs (line_offsets a)) (kept_runs (line_offsets b)))
       runs_are there a b at also =
-          ap (λ o. longest (met (kept_runs o) (kept_runs (of_image every (offsets_in s) (row_image f 0x06 k))))) (first_runs there a at)
+          ap (λ o. longest (met (kept_runs o) (kept_runs (of_image every (offsets_in s) (row_within f 0x06 k))))) (first_runs there a at)
           ∙ ap (λ o. longest (met (kept_runs (line_offsets a)) (kept_runs o))) (second_runs there b also)
 
       rises : has_image f s k ≡ true → (old new : ℕ) (runs : List Run) → old ≤ OFFSETS → new ≤ OFFSETS → composed_runs f s k ≡ runs → Rise (lined runs old new)
@@ -439,7 +439,7 @@ module _ (f s : Map) (f_readable : IsReadable f) (s_readable : IsReadable s) whe
   slotted_fit k row is = (row, stays k (and_parts (has_image f s k) _ is).0)
 
   pub slot_source_fits : (k : ℕ) → AllByRecursion (λ (x : SlotImage). x.old ≤ SLOTS) (slot_sources f s k)
-  slot_source_fits k = of (has_slots f k) (row_image f 0x06 k)
+  slot_source_fits k = of (has_slots f k) (row_within f 0x06 k)
     where
       of : (b : Bool) (o : Option ℕ) → AllByRecursion (λ (x : SlotImage). x.old ≤ SLOTS) (cond b (slots_of f k) (of_image [] (slots_of s) o))
       of true o = slots_hold f f_readable k
@@ -447,7 +447,7 @@ module _ (f s : Map) (f_readable : IsReadable f) (s_readable : IsReadable s) whe
       of false (Some image) = slots_hold s s_readable image
 
   pub slot_sources_up : (k : ℕ) → Up (map (λ (x : SlotImage). x.old) (slot_sources f s k))
-  slot_sources_up k = of (has_slots f k) (row_image f 0x06 k)
+  slot_sources_up k = of (has_slots f k) (row_within f 0x06 k)
     where
       none : Up []
       none = filter_up (λ n. false) (0 ∷ []) (ascending_up (0 ∷ []))
@@ -466,9 +466,9 @@ module _ (f s : Map) (f_readable : IsReadable f) (s_readable : IsReadable s) whe
       second (Some image) mid new le is = image_slot s s_readable image mid new le is
 
       first : (o : Option ℕ) (new : ℕ) → slot_image f k line.old ≡ o
-          → option_and_then (λ slot. of_image None (λ image. slot_image s image slot) (row_image f 0x06 k)) o ≡ Some new → new ≤ SLOTS
+          → option_and_then (λ slot. of_image None (λ image. slot_image s image slot) (row_within f 0x06 k)) o ≡ Some new → new ≤ SLOTS
       first None new at is = absurd (cc)
-      first (Some mid) new at is = second (row_image f 0x06 k) mid new (image_slot f f_readable k line.old mid small at) is
+      first (Some mid) new at is = second (row_within f 0x06 k) mid new (image_slot f f_readable k line.old mid small at) is
 
       of : (o : Option ℕ) → composed_slot f s k line.old ≡ o → option_map (λ new. record { method = k; old = line.old; new = new }) o ≡ Some x
           → IsSlotOf (composed f s) x
@@ -491,27 +491,27 @@ module _ (f s : Map) (f_readable : IsReadable f) (s_readable : IsReadable s) whe
       by new None is = absurd (cc)
       by new (Some image) is = small image new (signature_line f k) refl is
 
-      made : has_image f s k ≡ true → (o : Option ℕ) → of_image None (λ image. signature_then s image (signature_line f k)) (row_image f 0x06 k) ≡ o
+      made : has_image f s k ≡ true → (o : Option ℕ) → of_image None (λ image. signature_then s image (signature_line f k)) (row_within f 0x06 k) ≡ o
           → option_map (λ new. record { method = k; new = new }) o ≡ Some x → IsSignatureOf (composed f s) x
       made there None at is = absurd (cc)
       made there (Some new) at is =
           let e : record { method = k; new = new } ≡ x = cc in
-          subst (IsSignatureOf (composed f s)) e (row, by new (row_image f 0x06 k) at, stays k there)
+          subst (IsSignatureOf (composed f s)) e (row, by new (row_within f 0x06 k) at, stays k there)
 
       of : (b : Bool) → has_image f s k ≡ b
           → option_map (λ new. record { method = k; new = new })
-          (cond b (of_image None (λ image. signature_then s image (signature_line f k)) (row_image f 0x06 k)) None) ≡ Some x
+          (cond b (of_image None (λ image. signature_then s image (signature_line f k)) (row_within f 0x06 k)) None) ≡ Some x
           → IsSignatureOf (composed f s) x
       of false there is = absurd (cc)
-      of true there is = made there (of_image None (λ image. signature_then s image (signature_line f k)) (row_image f 0x06 k)) refl is
+      of true there is = made there (of_image None (λ image. signature_then s image (signature_line f k)) (row_within f 0x06 k)) refl is
 
   -- ---- the lists ascend
 
   ascends : Ascends (composed f s)
   ascends = record {
     counts = made_up (λ k. k) (λ (c : Count). c.table) (count_entry f s) (count_named f s) tables (subst Up (sym (map_same tables)) (range_up 0 0x2d));
-    rows = flat_pairs (λ (r : RowImage). r.table) (λ (r : RowImage). r.old) (row_entries f s) (entries_named f s)
-        (λ table. made_up (λ (r : RowImage). r.old) (λ (r : RowImage). r.old) (row_entry f s table) (λ line row is. row_named f s table line.old row is)
+    rows = flat_pairs (λ (r : RowLine). r.table) (λ (r : RowLine). r.old) (row_entries f s) (entries_named f s)
+        (λ table. made_up (λ (r : RowLine). r.old) (λ (r : RowLine). r.old) (row_entry f s table) (λ line row is. row_named f s table line.old row is)
         (sources (count_of f table) (count_of s table) f s table) (sources_up table)) tables (range_up 0 0x2d);
     methods = made_up (λ k. k) (λ (l : MethodLine). l.method) (composed_line f s) (line_named f s) (spoken_of f (numbers f) (numbers s))
         (subst Up (sym (map_same (spoken_of f (numbers f) (numbers s)))) (ascending_up (numbers f ++ (olds f ++ numbers s))));
@@ -537,7 +537,7 @@ module _ (f s : Map) (f_readable : IsReadable f) (s_readable : IsReadable s) whe
     ascends = ascends;
     counts = made_hold (λ k. has k tables ≡ true) IsCount (count_entry f s) count_fits tables (all_there tables);
     rows = flat_hold (λ k. has k tables ≡ true) (IsRowOf (composed f s)) (row_entries f s)
-        (λ table there. made_hold (λ (r : RowImage). IsRow r.old × (is_some (composed_count f s table) ≡ true)) (IsRowOf (composed f s))
+        (λ table there. made_hold (λ (r : RowLine). IsRow r.old × (is_some (composed_count f s table) ≡ true)) (IsRowOf (composed f s))
         (row_entry f s table) (entry_fits table)
         (sources (count_of f table) (count_of s table) f s table) (source_rows table)) tables (all_there tables);
     methods = made_hold IsRow (IsLineOf (composed f s)) (composed_line f s) (line_holds agree) (spoken_of f (numbers f) (numbers s))

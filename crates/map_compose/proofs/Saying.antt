@@ -8,12 +8,12 @@ use Rattle.std.specs.Option.{option_map, option_and_then}
 use Rattle.std.proofs.lemmas.Bool.{eq-eqb, ne_eqb, false≢true, and_parts}
 use Rattle.std.proofs.lemmas.List.{append-nil}
 use Rattle.ppdb_maps.specs.declared.entries.Count.{Count}
-use Rattle.ppdb_maps.specs.declared.entries.RowImage.{RowImage}
+use Rattle.ppdb_maps.specs.declared.entries.RowLine.{RowLine}
 use Rattle.ppdb_maps.specs.declared.entries.SlotImage.{SlotImage}
 use Rattle.ppdb_maps.specs.declared.entries.SignatureImage.{SignatureImage}
 use Rattle.ppdb_maps.specs.declared.line.Line.{Line}
 use Rattle.ppdb_maps.specs.declared.line.Line.TheVariants.{Rows, Dropped, Slots}
-use Rattle.ppdb_maps.specs.Map.{Map, MethodLine, method_line, count_of, is_dropped, row_image, rows_of, signature_line}
+use Rattle.ppdb_maps.specs.Map.{Map, MethodLine, method_line, count_of, is_dropped, row_within, rows_of, signature_line}
 use Rattle.ppdb_maps.specs.Readable.{IsReadable, IsRow}
 use Rattle.ppdb_maps_text.specs.MapTexts.{count_says, slots_say, method_says, row_says, slot_says, signature_says, link_says, map_text, ended, version_with, head_text}
 use Rattle.map_compose.specs.declared.part.Part.{Part}
@@ -143,7 +143,7 @@ filter_same p xs ys up also same = one_up (filter p xs) (filter p ys) (filter_up
 no_olds : (f : Map) → IsReadable f → count_of f 0x06 ≡ None → olds f ≡ []
 no_olds f readable none = of (rows_of f 0x06) (rows_hold f readable 0x06)
   where
-    of : (rs : List RowImage) → AllByRecursion (λ (r : RowImage). IsRow r.old × (is_some (count_of f 0x06) ≡ true)) rs → map (λ (r : RowImage). r.old) rs ≡ []
+    of : (rs : List RowLine) → AllByRecursion (λ (r : RowLine). IsRow r.old × (is_some (count_of f 0x06) ≡ true)) rs → map (λ (r : RowLine). r.old) rs ≡ []
     of [] all = refl
     of (r ∷ rs) all = absurd (false≢true (ap is_some (sym none) ∙ all.0.1))
 
@@ -179,7 +179,7 @@ or_left : (a b : Bool) → a ≡ true → (a || b) ≡ true
 or_left a b h = ap (λ t. t || b) h
 
 -- where there are lines for methods, a method with an image has one
-moved_old : (f : Map) (k image n : ℕ) → count_of f 0x06 ≡ Some n → row_image f 0x06 k ≡ Some image → has k (olds f) ≡ true
+moved_old : (f : Map) (k image n : ℕ) → count_of f 0x06 ≡ Some n → row_within f 0x06 k ≡ Some image → has k (olds f) ≡ true
 moved_old f k image n some is = of (came_by f k image is).came
   where
     of : Came f k image → has k (olds f) ≡ true
@@ -187,16 +187,16 @@ moved_old f k image n some is = of (came_by f k image is).came
     of (stayed same none) = let e : Some n ≡ None = sym some ∙ none in absurd (cc)
 
 image_old : (f s : Map) (k n : ℕ) → count_of f 0x06 ≡ Some n → has_image f s k ≡ true → has k (olds f) ≡ true
-image_old f s k n some there = of (row_image f 0x06 k) refl there
+image_old f s k n some there = of (row_within f 0x06 k) refl there
   where
-    of : (o : Option ℕ) → row_image f 0x06 k ≡ o → is_some (option_and_then (row_image s 0x06) o) ≡ true → has k (olds f) ≡ true
+    of : (o : Option ℕ) → row_within f 0x06 k ≡ o → is_some (option_and_then (row_within s 0x06) o) ≡ true → has k (olds f) ≡ true
     of None is there = absurd (false≢true there)
     of (Some image) is there = moved_old f k image n some is
 
 drop_known : (f s : Map) (k n : ℕ) → count_of f 0x06 ≡ Some n → drops_one f s k ≡ true → (has k f.drops || has k (olds f)) ≡ true
-drop_known f s k n some drops = of (is_dropped f k) refl (row_image f 0x06 k) refl drops
+drop_known f s k n some drops = of (is_dropped f k) refl (row_within f 0x06 k) refl drops
   where
-    of : (b : Bool) → is_dropped f k ≡ b → (o : Option ℕ) → row_image f 0x06 k ≡ o → (b || of_image false (is_dropped s) o) ≡ true
+    of : (b : Bool) → is_dropped f k ≡ b → (o : Option ℕ) → row_within f 0x06 k ≡ o → (b || of_image false (is_dropped s) o) ≡ true
         → (has k f.drops || has k (olds f)) ≡ true
     of true is o at drops = or_left (has k f.drops) (has k (olds f)) is
     of false is None at drops = absurd (false≢true drops)
@@ -214,7 +214,7 @@ module _ (f s : Map) (f_readable : IsReadable f) (s_readable : IsReadable s) whe
       (λ k there. of k there (composed_count f s k) refl) tables (within_itself tables)
     where
       rows_are : (k : ℕ) → has k tables ≡ true → rows_of (composed f s) k ≡ row_entries f s k
-      rows_are k there = chosen_flat (λ (r : RowImage). r.table) (row_entries f s) (entries_named f s) k tables (range_up 0 0x2d) there
+      rows_are k there = chosen_flat (λ (r : RowLine). r.table) (row_entries f s) (entries_named f s) k tables (range_up 0 0x2d) there
 
       of : (k : ℕ) → has k tables ≡ true → (o : Option ℕ) → composed_count f s k ≡ o
           → ((count_entry f s k ≡ None) × (table_says f s k ≡ [])) ⊎ ((x : Count)
@@ -278,7 +278,7 @@ module _ (f s : Map) (f_readable : IsReadable f) (s_readable : IsReadable s) whe
       one_each (x ∷ xs) = ap (λ l. signature_says x ∷ l) (one_each xs)
 
       none_says : (k : ℕ) → has_image f s k ≡ false → signature_of_both f s k ≡ []
-      none_says k is = ap (λ b. signed_says k (cond b (of_image None (λ i. signature_then s i (signature_line f k)) (row_image f 0x06 k)) None)) is
+      none_says k is = ap (λ b. signed_says k (cond b (of_image None (λ i. signature_then s i (signature_line f k)) (row_within f 0x06 k)) None)) is
 
       of : (k : ℕ) (o : Option ℕ) → composed_signature f s k ≡ o
           → ((signature_entry f s k ≡ None) × (signature_of_both f s k ≡ []))

@@ -7,7 +7,7 @@ use Rattle.ppdb_maps.specs.declared.entries.SignatureImage.{SignatureImage}
 use Rattle.ppdb_maps.specs.declared.entries.NameLine.{NameLine}
 use Rattle.ppdb_maps.specs.declared.line.Line.{Line}
 use Rattle.ppdb_maps.specs.declared.line.Line.TheVariants.{Signature}
-use Rattle.ppdb_maps.specs.Map.{Map, row_image, signature_line}
+use Rattle.ppdb_maps.specs.Map.{Map, row_within, signature_line}
 use Rattle.ppdb_maps.specs.Readable.{IsReadable}
 use Rattle.ppdb_maps_text.specs.MapTexts.{signature_says, version_with}
 use Rattle.map_compose.specs.declared.part.Part.TheVariants.{Signatures}
@@ -63,12 +63,12 @@ none_made f s a b (n ∷ ns) = ap (λ o. signed_says n o ++ signed_lines f s ns)
     by None = refl
     by (Some image) = no_line s image b
 
-    at : (c : Bool) → cond c (of_image None (λ image. signature_then s image None) (row_image f 0x06 n)) None ≡ None
+    at : (c : Bool) → cond c (of_image None (λ image. signature_then s image None) (row_within f 0x06 n)) None ≡ None
     at false = refl
-    at true = by (row_image f 0x06 n)
+    at true = by (row_within f 0x06 n)
 
     none : composed_signature f s n ≡ None
-    none = ap (λ o. cond (has_image f s n) (of_image None (λ image. signature_then s image o) (row_image f 0x06 n)) None) (no_line f n a)
+    none = ap (λ o. cond (has_image f s n) (of_image None (λ image. signature_then s image o) (row_within f 0x06 n)) None) (no_line f n a)
         ∙ at (has_image f s n)
 
 -- a list without a first item is empty

@@ -14,7 +14,7 @@ use Rattle.std.proofs.lemmas.Fmt.{length-decimal-le}
 use Rattle.ppdb_maps.specs.declared.entries.SlotImage.{SlotImage}
 use Rattle.ppdb_maps.specs.declared.line.Line.TheVariants.{Slot}
 use Rattle.ppdb_maps.specs.Forms.{SLOTS}
-use Rattle.ppdb_maps.specs.Map.{Map, row_image, has_slots, slot_line, slot_image, slots_of}
+use Rattle.ppdb_maps.specs.Map.{Map, row_within, has_slots, slot_line, slot_image, slots_of}
 use Rattle.ppdb_maps.specs.Readable.{IsReadable, IsSlotOf}
 use Rattle.ppdb_maps.proofs.Halving.{found_lent, by_number, if_passes}
 use Rattle.ppdb_maps.proofs.OneList.{each_found}
@@ -213,7 +213,7 @@ images_taken f s method image readable follows none lines =
     sym (ap (λ xs. map slot_says (filter_map (slot_entry f s method) xs)) sources ∙ of (slots_of s image) (own_slots s image readable lines))
   where
     sources : slot_sources f s method ≡ slots_of s image
-    sources = ap (λ b. cond b (slots_of f method) (of_image [] (slots_of s) (row_image f 0x06 method))) none
+    sources = ap (λ b. cond b (slots_of f method) (of_image [] (slots_of s) (row_within f 0x06 method))) none
         ∙ ap (of_image [] (slots_of s)) (follows_image f s method image follows).first
 
     after : (old : ℕ) → composed_slot f s method old ≡ slot_image s image old

@@ -2,8 +2,8 @@
 use Rattle.std.specs.{Prelude.{ℕ, ◌&&◌, ◌||◌, Bool, false, cond, List, [], ◌++◌, Option, Some, None, is_some, map, filter, filter_map, flat_map, option_map, option_and_then}, List.range_with_len}
 use Rattle.std.specs.Option.{option_or}
 use Rattle.ppdb_base.specs.{declared.offsets.Run.Run, Offsets.{Offsets, every, kept_runs}}
-use Rattle.ppdb_maps.specs.declared.entries.{Count.Count, RowImage.RowImage, SlotImage.SlotImage, SignatureImage.SignatureImage, NameLine.NameLine}
-use Rattle.ppdb_maps.specs.Map.{Map, MethodLine, count_of, row_image, method_line, is_dropped, has_slots, slot_image, offsets_in, rows_of, slots_of, signature_line, moved_signature, moved_name}
+use Rattle.ppdb_maps.specs.declared.entries.{Count.Count, RowLine.RowLine, SlotImage.SlotImage, SignatureImage.SignatureImage, NameLine.NameLine}
+use Rattle.ppdb_maps.specs.Map.{Map, MethodLine, count_of, row_within, method_line, is_dropped, has_slots, slot_image, offsets_in, rows_of, slots_of, signature_line, moved_signature, moved_name}
 use Rattle.map_compose.specs.{Runs.{met, longest}, Ascending.ascending, Names.names_ascending}
 
 -- ---- rows
@@ -20,25 +20,25 @@ count_entry f s table = option_map (λ rows. record { table = table; rows = rows
 
 -- the image of the image
 abbrev pub composed_row : Map → Map → ℕ → ℕ → Option ℕ
-composed_row f s table old = option_and_then (row_image s table) (row_image f table old)
+composed_row f s table old = option_and_then (row_within s table) (row_within f table old)
 
 -- the `row` lines from which the rows with an image come: a map without a `rows` line keeps each row
-abbrev pub sources : Option ℕ → Option ℕ → Map → Map → ℕ → List RowImage
+abbrev pub sources : Option ℕ → Option ℕ → Map → Map → ℕ → List RowLine
 sources (Some first) second f s table = rows_of f table
 sources None (Some second) f s table = rows_of s table
 sources None None f s table = []
 
-abbrev pub row_entry : Map → Map → ℕ → RowImage → Option RowImage
+abbrev pub row_entry : Map → Map → ℕ → RowLine → Option RowLine
 row_entry f s table line = option_map (λ new. record { table = table; old = line.old; new = new }) (composed_row f s table line.old)
 
-abbrev pub row_entries : Map → Map → ℕ → List RowImage
+abbrev pub row_entries : Map → Map → ℕ → List RowLine
 row_entries f s table = filter_map (row_entry f s table) (sources (count_of f table) (count_of s table) f s table)
 
 -- ---- methods
 
 -- the methods of which lines of one of the maps may speak: those of these lines, and those that the first map moves
 abbrev pub spoken_of : Map → List ℕ → List ℕ → List ℕ
-spoken_of f own others = ascending (own ++ (map (λ (r : RowImage). r.old) (rows_of f 0x06) ++ others))
+spoken_of f own others = ascending (own ++ (map (λ (r : RowLine). r.old) (rows_of f 0x06) ++ others))
 
 -- what the second map says of the method that a method became
 abbrev pub of_image : {A : Type 0} → A → (ℕ → A) → Option ℕ → A
@@ -47,7 +47,7 @@ of_image none says (Some image) = says image
 
 -- the first map drops the method, or the second its image
 abbrev pub drops_one : Map → Map → ℕ → Bool
-drops_one f s method = is_dropped f method || of_image false (is_dropped s) (row_image f 0x06 method)
+drops_one f s method = is_dropped f method || of_image false (is_dropped s) (row_within f 0x06 method)
 
 -- the method is there after both
 abbrev pub has_image : Map → Map → ℕ → Bool
@@ -56,10 +56,10 @@ has_image f s method = is_some (composed_row f s 0x06 method)
 -- ---- offsets
 
 abbrev pub second_line : Map → Map → ℕ → Option MethodLine
-second_line f s method = of_image None (method_line s) (row_image f 0x06 method)
+second_line f s method = of_image None (method_line s) (row_within f 0x06 method)
 
 abbrev pub second_offsets : Map → Map → ℕ → Offsets
-second_offsets f s method = of_image every (offsets_in s) (row_image f 0x06 method)
+second_offsets f s method = of_image every (offsets_in s) (row_within f 0x06 method)
 
 -- the offsets that both keep
 abbrev pub composed_runs : Map → Map → ℕ → List Run
@@ -79,13 +79,13 @@ composed_line f s method =
 -- ---- slots
 
 abbrev pub has_slot_lines : Map → Map → ℕ → Bool
-has_slot_lines f s method = has_image f s method && (has_slots f method || of_image false (has_slots s) (row_image f 0x06 method))
+has_slot_lines f s method = has_image f s method && (has_slots f method || of_image false (has_slots s) (row_within f 0x06 method))
 
 abbrev pub composed_slot : Map → Map → ℕ → ℕ → Option ℕ
-composed_slot f s method old = option_and_then (λ slot. of_image None (λ image. slot_image s image slot) (row_image f 0x06 method)) (slot_image f method old)
+composed_slot f s method old = option_and_then (λ slot. of_image None (λ image. slot_image s image slot) (row_within f 0x06 method)) (slot_image f method old)
 
 abbrev pub slot_sources : Map → Map → ℕ → List SlotImage
-slot_sources f s method = cond (has_slots f method) (slots_of f method) (of_image [] (slots_of s) (row_image f 0x06 method))
+slot_sources f s method = cond (has_slots f method) (slots_of f method) (of_image [] (slots_of s) (row_within f 0x06 method))
 
 abbrev pub slot_entry : Map → Map → ℕ → SlotImage → Option SlotImage
 slot_entry f s method line = option_map (λ new. record { method = method; old = line.old; new = new }) (composed_slot f s method line.old)
@@ -106,7 +106,7 @@ signature_then s image None = signature_line s image
 
 abbrev pub composed_signature : Map → Map → ℕ → Option ℕ
 composed_signature f s method =
-    cond (has_image f s method) (of_image None (λ image. signature_then s image (signature_line f method)) (row_image f 0x06 method)) None
+    cond (has_image f s method) (of_image None (λ image. signature_then s image (signature_line f method)) (row_within f 0x06 method)) None
 
 abbrev pub signature_entry : Map → Map → ℕ → Option SignatureImage
 signature_entry f s method = option_map (λ new. record { method = method; new = new }) (composed_signature f s method)

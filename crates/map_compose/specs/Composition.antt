@@ -1,14 +1,14 @@
 -- The equations by which a map is the composition of two, and when the map of two maps is readable.
 use Rattle.std.specs.Prelude.{◌≡◌, ℕ, ◌≤◌, ◌↔◌, ◌⊎◌, ◌||◌, true, false, List, Option, Some, None, is_some, option_and_then}
 use Rattle.ppdb_base.specs.{declared.offsets.Run.Run, Offsets.{lined, Rise, Kept, kept_runs, old_size, moved}}
-use Rattle.ppdb_maps.specs.Map.{Map, MethodLine, count_of, row_image, is_dropped, has_slots, method_line, slot_image, offsets_in, signature_line, document_line, moved_name}
+use Rattle.ppdb_maps.specs.Map.{Map, MethodLine, count_of, row_within, is_dropped, has_slots, method_line, slot_image, offsets_in, signature_line, document_line, moved_name}
 use Rattle.ppdb_maps.specs.{Readable.IsReadable, Says.sizes_of}
 use Rattle.map_compose.specs.{Composed.{composed, composed_count, composed_row, drops_one, has_image, signature_then, composed_link}, Laws.{Apart, MovesOn}, Runs.{met, longest}, Sizes.SizesAgree}
 
 -- the method becomes `image` by the first map, and is there after both
 pub record Follows (f s : Map) (method image : ℕ) : Type 0 where
-  pub first : row_image f 0x06 method ≡ Some image
-  pub second : is_some (row_image s 0x06 image) ≡ true
+  pub first : row_within f 0x06 method ≡ Some image
+  pub second : is_some (row_within s 0x06 image) ≡ true
 
 -- the old size of the first line and the new size of the second, where both are there; else those of the line that is
 abbrev pub sizes_then : Option (ℕ × ℕ) → Option (ℕ × ℕ) → Option (ℕ × ℕ)
@@ -18,7 +18,7 @@ sizes_then (Some first) (Some second) = Some (first.0, second.1)
 
 pub record IsComposition (f s c : Map) : Type 0 where
   pub counts : (table : ℕ) → count_of c table ≡ composed_count f s table
-  pub rows : (table old : ℕ) → row_image c table old ≡ composed_row f s table old
+  pub rows : (table old : ℕ) → row_within c table old ≡ composed_row f s table old
   pub drops : (method : ℕ) → is_dropped c method ≡ drops_one f s method
   pub slots : (method image old : ℕ) → Follows f s method image → slot_image c method old ≡ option_and_then (slot_image s image) (slot_image f method old)
   pub sizes : (method image : ℕ) → Follows f s method image

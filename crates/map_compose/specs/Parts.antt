@@ -1,6 +1,6 @@
 -- The parts of a map's text that are about methods, and the methods of which each may speak.
 use Rattle.std.specs.Prelude.{ℕ, cond, is_some, List, ◌++◌, map, drop}
-use Rattle.ppdb_maps.specs.{declared.entries.RowImage.RowImage, declared.line.Line.Line, Map.{Map, MethodLine, count_of, rows_of}}
+use Rattle.ppdb_maps.specs.{declared.entries.RowLine.RowLine, declared.line.Line.Line, Map.{Map, MethodLine, count_of, rows_of}}
 use Rattle.map_compose.specs.{declared.part.{Part.{Part, TheVariants.{Drops, Slots, Signatures, Methods}}, Passed.Passed}, Ascending.ascending, Names.names_ascending, Composed.{signed, named}}
 use Rattle.map_compose.specs.Says.{drop_of_both, slots_of_both, signature_of_both, line_of_both}
 
@@ -13,7 +13,7 @@ part_numbers Methods m = map (λ (l : MethodLine). l.method) m.methods
 
 -- the methods that the first map moves by lines; where it has no `rows` line for them, those of the second map's lines
 abbrev pub other_numbers : Part → Map → Map → List ℕ
-other_numbers part f s = cond (is_some (count_of f 0x06)) (map (λ (r : RowImage). r.old) (rows_of f 0x06)) (part_numbers part s)
+other_numbers part f s = cond (is_some (count_of f 0x06)) (map (λ (r : RowLine). r.old) (rows_of f 0x06)) (part_numbers part s)
 
 -- the methods of both lists, and those that are left
 abbrev pub all_numbers : Part → Map → Map → List ℕ

@@ -1,7 +1,7 @@
 -- What the lines of the map of two maps say of a table and of a method.
 use Rattle.std.specs.Prelude.{ℕ, ◌≤◌, ◌||◌, Bool, cond, List, [], ◌∷◌, Option, Some, None, is_some, slice_get, map, flat_map, option_and_then}
-use Rattle.ppdb_maps.specs.{declared.entries.RowImage.RowImage, declared.line.Line.{Line, TheVariants.{Rows, Row, Dropped, Slots, Slot, Signature, Document}}}
-use Rattle.ppdb_maps.specs.Map.{Map, MethodLine, count_of, row_image, slot_image}
+use Rattle.ppdb_maps.specs.{declared.entries.RowLine.RowLine, declared.line.Line.{Line, TheVariants.{Rows, Row, Dropped, Slots, Slot, Signature, Document}}}
+use Rattle.ppdb_maps.specs.Map.{Map, MethodLine, count_of, row_within, slot_image}
 use Rattle.ppdb_maps_text.specs.{MapTexts.{ended, line_text, row_says, slot_says, method_says}, declared.counted.Counted.Counted, Putting.Puts}
 use Rattle.map_compose.specs.Composed.{composed_count, sources, row_entries, has_image, composed_line, drops_one, has_slot_lines, slot_entries, composed_signature, document_entry, document_entries}
 
@@ -15,7 +15,7 @@ pub record PutsLines (old new : Counted) (says : List Line) : Type 0 where
 
 -- ---- a table
 
-abbrev pub sources_of : Map → Map → ℕ → List RowImage
+abbrev pub sources_of : Map → Map → ℕ → List RowLine
 sources_of f s table = sources (count_of f table) (count_of s table) f s table
 
 -- of a row with an image
@@ -37,7 +37,7 @@ table_says f s table = counted_says f s table (composed_count f s table)
 
 -- what the first map makes of a method that is there after both
 abbrev pub followed : Map → Map → ℕ → Option ℕ
-followed f s method = cond (has_image f s method) (row_image f 0x06 method) None
+followed f s method = cond (has_image f s method) (row_within f 0x06 method) None
 
 -- a slot of the method, which the first map makes `image`
 abbrev pub slot_after : Map → Map → ℕ → ℕ → ℕ → Option ℕ

@@ -1,14 +1,14 @@
 -- Worked maps, composed, and the canonical texts of what they come to.
 use Rattle.std.specs.Prelude.{◌≡◌, ℕ, List, [], ◌∷◌, None, Some, codes}
 use Rattle.ppdb_base.specs.declared.offsets.Run.{Run}
-use Rattle.ppdb_maps.specs.{declared.entries.{Count.Count, RowImage.RowImage, SlotImage.SlotImage, SignatureImage.SignatureImage, NameLine.NameLine}, Map.{Map, MethodLine, map_of}}
+use Rattle.ppdb_maps.specs.{declared.entries.{Count.Count, RowLine.RowLine, SlotImage.SlotImage, SignatureImage.SignatureImage, NameLine.NameLine}, Map.{Map, MethodLine, map_of}}
 use Rattle.ppdb_maps_text.specs.MapTexts.{map_text}
 use Rattle.map_compose.specs.{Composed.composed, Sizes.SizesDiffer}
 
 abbrev pub count : ℕ → ℕ → Count
 count table rows = record { table = table; rows = rows }
 
-abbrev pub row : ℕ → ℕ → ℕ → RowImage
+abbrev pub row : ℕ → ℕ → ℕ → RowLine
 row table old new = record { table = table; old = old; new = new }
 
 abbrev pub run : ℕ → ℕ → ℕ → Run

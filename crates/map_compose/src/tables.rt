@@ -1,7 +1,7 @@
 // The lines of tables and their rows.
 ghost use Rattle.std.specs.Prelude.{◌≡◌, OnOk, true, is_some, slice_get, option_map};
 ghost use Rattle.std.specs.List.{flat_map};
-ghost use Rattle.ppdb_maps.specs.declared.entries.RowImage.{RowImage};
+ghost use Rattle.ppdb_maps.specs.declared.entries.RowLine.{RowLine};
 ghost use Rattle.map_compose.specs.Composed.{tables, composed_count, composed_row};
 ghost use Rattle.map_compose.specs.Says.{PutsLines, image_says, table_says, rows_say, sources_of};
 
@@ -13,7 +13,7 @@ use ppdb_maps_text::Counted;
 /// The row of a line from which rows with an image come, by its index among those of the table.
 fn source_row(first: &MapText, second: &MapText, table: u8, index: u32) -> Option<u32>
     requires { is_some (composed_count first.now second.now table) ≡ true }
-    ensures { result ≡ option_map (λ (r : RowImage). r.old) (slice_get (sources_of first.now second.now table) index) }
+    ensures { result ≡ option_map (λ (r : RowLine). r.old) (slice_get (sources_of first.now second.now table) index) }
 {
     let (old, _) = match first.rows(table) {
         Some(_) => first.row_line(table, index)?,

@@ -5,7 +5,7 @@ use Rattle.std.specs.Option.{option_and_then}
 use Rattle.ppdb_base.specs.Offsets.{Kept, RiseFrom, lined, stop_runs}
 use Rattle.ppdb_base.proofs.Moved.{rise_prefix}
 use Rattle.ppdb_maps.specs.Forms.{SLOTS}
-use Rattle.ppdb_maps.specs.Map.{Map, MethodLine, count_of, row_line, row_image, method_line, is_dropped, has_slots, slot_line, slot_image, offsets_in}
+use Rattle.ppdb_maps.specs.Map.{Map, MethodLine, count_of, row_line, row_within, method_line, is_dropped, has_slots, slot_line, slot_image, offsets_in}
 use Rattle.ppdb_maps.specs.Map.{signature_line, document_line}
 use Rattle.ppdb_maps.specs.Readable.{IsReadable}
 use Rattle.ppdb_maps.specs.Says.{sizes_of}
@@ -27,8 +27,8 @@ module _ (f s c d : Map) (readable : IsReadable c) (also : IsReadable d) (one : 
   rows_alike : (table old : ℕ) → row_line c table old ≡ row_line d table old
   rows_alike table old =
       row_line_is c readable table old
-      ∙ ap (λ b. row_by c readable (nat_eq table 0x06 && b) (count_of c table) (row_image c table old)) (drops_alike old)
-      ∙ ap (λ o. row_by c readable (nat_eq table 0x06 && is_dropped d old) o (row_image c table old)) (counts_alike table)
+      ∙ ap (λ b. row_by c readable (nat_eq table 0x06 && b) (count_of c table) (row_within c table old)) (drops_alike old)
+      ∙ ap (λ o. row_by c readable (nat_eq table 0x06 && is_dropped d old) o (row_within c table old)) (counts_alike table)
       ∙ ap (λ o. row_by c readable (nat_eq table 0x06 && is_dropped d old) (count_of d table) o) (one.rows table old ∙ sym (other.rows table old))
       ∙ sym (row_line_is d also table old)
 
@@ -39,15 +39,15 @@ module _ (f s c d : Map) (readable : IsReadable c) (also : IsReadable d) (one : 
     gone : has_image f s method ≡ false → IsThere method
 
   is_there : (method : ℕ) → IsThere method
-  is_there method = step (row_image f 0x06 method) refl
+  is_there method = step (row_within f 0x06 method) refl
     where
-      after : (image : ℕ) → row_image f 0x06 method ≡ Some image → (b : Bool) → is_some (row_image s 0x06 image) ≡ b → IsThere method
+      after : (image : ℕ) → row_within f 0x06 method ≡ Some image → (b : Bool) → is_some (row_within s 0x06 image) ≡ b → IsThere method
       after image first true is = there image (record { first = first; second = is })
-      after image first false is = gone (ap (λ (o : Option ℕ). is_some (option_and_then (row_image s 0x06) o)) first ∙ is)
+      after image first false is = gone (ap (λ (o : Option ℕ). is_some (option_and_then (row_within s 0x06) o)) first ∙ is)
 
-      step : (o : Option ℕ) → row_image f 0x06 method ≡ o → IsThere method
-      step None is = gone (ap (λ (o : Option ℕ). is_some (option_and_then (row_image s 0x06) o)) is)
-      step (Some image) is = after image is (is_some (row_image s 0x06 image)) refl
+      step : (o : Option ℕ) → row_within f 0x06 method ≡ o → IsThere method
+      step None is = gone (ap (λ (o : Option ℕ). is_some (option_and_then (row_within s 0x06) o)) is)
+      step (Some image) is = after image is (is_some (row_within s 0x06 image)) refl
 
   -- ---- slots
 

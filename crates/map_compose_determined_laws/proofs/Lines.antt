@@ -5,10 +5,10 @@ use Rattle.std.specs.List.{find}
 use Rattle.std.specs.Option.{option_map}
 use Rattle.std.proofs.lemmas.Bool.{eqb-true, and_parts}
 use Rattle.ppdb_base.specs.Offsets.{gone, lined}
-use Rattle.ppdb_maps.specs.declared.entries.RowImage.{RowImage}
+use Rattle.ppdb_maps.specs.declared.entries.RowLine.{RowLine}
 use Rattle.ppdb_maps.specs.declared.entries.SlotImage.{SlotImage}
 use Rattle.ppdb_maps.specs.Forms.{SLOTS}
-use Rattle.ppdb_maps.specs.Map.{Map, MethodLine, count_of, row_line, row_image, method_line, is_dropped, has_slots, slot_line, slot_image}
+use Rattle.ppdb_maps.specs.Map.{Map, MethodLine, count_of, row_line, row_within, method_line, is_dropped, has_slots, slot_line, slot_image}
 use Rattle.ppdb_maps.specs.Map.{line_offsets, offsets_in}
 use Rattle.ppdb_maps.specs.Readable.{IsReadable, IsRowOf, IsLineOf, IsSlotOf}
 use Rattle.ppdb_maps.specs.Says.{sizes_of}
@@ -33,10 +33,10 @@ module _ (m : Map) (readable : IsReadable m) where
   row_by false (Some rows) image = image
 
   pub row_line_is : (table old : ℕ)
-      → row_line m table old ≡ row_by (nat_eq table 0x06 && is_dropped m old) (count_of m table) (row_image m table old)
+      → row_line m table old ≡ row_by (nat_eq table 0x06 && is_dropped m old) (count_of m table) (row_within m table old)
   row_line_is table old = step (find p m.rows) refl
     where
-      p : RowImage → Bool
+      p : RowLine → Bool
       p r = nat_eq r.table table && nat_eq r.old old
 
       none : (dropped : Bool) (count : Option ℕ) (line : Option ℕ) → line ≡ None
@@ -55,10 +55,10 @@ module _ (m : Map) (readable : IsReadable m) where
       not_dropped true dropped live = live refl
       not_dropped false dropped live = refl
 
-      step : (o : Option RowImage) → find p m.rows ≡ o
-          → row_line m table old ≡ row_by (nat_eq table 0x06 && is_dropped m old) (count_of m table) (row_image m table old)
+      step : (o : Option RowLine) → find p m.rows ≡ o
+          → row_line m table old ≡ row_by (nat_eq table 0x06 && is_dropped m old) (count_of m table) (row_within m table old)
       step None is =
-          let line : row_line m table old ≡ None = ap (option_map (λ (r : RowImage). r.new)) is in
+          let line : row_line m table old ≡ None = ap (option_map (λ (r : RowLine). r.new)) is in
           line ∙ none (nat_eq table 0x06 && is_dropped m old) (count_of m table) (row_line m table old) line
       step (Some r) is =
           let of = found_holds (IsRowOf m) p m.rows r readable.rows is in

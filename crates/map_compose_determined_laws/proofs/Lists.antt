@@ -10,7 +10,7 @@ use Rattle.std.specs.Ordering.{nat_cmp}
 use Rattle.std.proofs.lemmas.Bool.{eq-eqb, ne_eqb, eqb-true, and_parts}
 use Rattle.std.proofs.lemmas.Cmp.{nat_cmp_total, nat_list_cmp_total}
 use Rattle.ppdb_maps.specs.declared.entries.Count.{Count}
-use Rattle.ppdb_maps.specs.declared.entries.RowImage.{RowImage}
+use Rattle.ppdb_maps.specs.declared.entries.RowLine.{RowLine}
 use Rattle.ppdb_maps.specs.declared.entries.SlotImage.{SlotImage}
 use Rattle.ppdb_maps.specs.declared.entries.SignatureImage.{SignatureImage}
 use Rattle.ppdb_maps.specs.declared.entries.NameLine.{NameLine}
@@ -128,7 +128,7 @@ one_map a b x y same =
     ap (λ l. record a { counts = l })
     (with_value (λ (c : Count). c.table) (λ c. c.rows) (λ t r. record { table = t; rows = r }) (λ c. refl) a.counts b.counts x.counts y.counts same.counts)
     ∙ ap (λ l. record counted { rows = l })
-    (with_pair (λ (r : RowImage). r.table) (λ r. r.old) (λ r. r.new) (λ t o n. record { table = t; old = o; new = n }) (λ r. refl)
+    (with_pair (λ (r : RowLine). r.table) (λ r. r.old) (λ r. r.new) (λ t o n. record { table = t; old = o; new = n }) (λ r. refl)
     a.rows b.rows x.rows y.rows same.rows)
     ∙ ap (λ l. record rowed { methods = l }) (by_number (λ (l : MethodLine). l.method) a.methods b.methods x.methods y.methods same.methods)
     ∙ ap (λ l. record lined { drops = l }) (numbers a.drops b.drops x.drops y.drops same.drops)

@@ -5,7 +5,7 @@ use Rattle.std.specs.List.{AllByRecursion, find}
 use Rattle.std.specs.Option.{option_and_then}
 use Rattle.std.proofs.lemmas.Bool.{cases_lt}
 use Rattle.ppdb_base.specs.Offsets.{Kept, Rise, kept_runs, lined, moved, old_size}
-use Rattle.ppdb_maps.specs.Map.{Map, MethodLine, line_offsets, method_line, offsets_in, row_image}
+use Rattle.ppdb_maps.specs.Map.{Map, MethodLine, line_offsets, method_line, offsets_in, row_within}
 use Rattle.ppdb_maps.specs.Readable.{IsReadable, IsLineOf}
 use Rattle.map_compose.specs.Composed.{composed, composed_runs, of_image, sized}
 use Rattle.map_compose.specs.Composition.{Follows}
@@ -43,7 +43,7 @@ module _ (f s : Map) (method image : ℕ) (first : IsReadable f) (second : IsRea
     | inr apart ↦ absurd (agree method a.new_size b.old_size (record {
       a = a;
       b = b;
-      there = ap (λ o. is_some (option_and_then (row_image s 0x06) o)) follows.first ∙ follows.second;
+      there = ap (λ o. is_some (option_and_then (row_within s 0x06) o)) follows.first ∙ follows.second;
       before = is;
       after = ap (of_image None (method_line s)) follows.first ∙ also;
       sizes = (refl, refl, apart);

@@ -4,8 +4,8 @@ use Rattle.std.specs.Prelude.{nat_eq, is_some, unwrap_or}
 use Rattle.std.specs.List.{AllByRecursion, filter, find}
 use Rattle.std.specs.Option.{option_map, option_and_then}
 use Rattle.std.proofs.lemmas.Bool.{and_parts, eqb-true}
-use Rattle.ppdb_maps.specs.declared.entries.RowImage.{RowImage}
-use Rattle.ppdb_maps.specs.Map.{Map, row_image, row_line, count_of, moved_row, is_dropped, slot_image}
+use Rattle.ppdb_maps.specs.declared.entries.RowLine.{RowLine}
+use Rattle.ppdb_maps.specs.Map.{Map, row_within, row_line, count_of, moved_row, is_dropped, slot_image}
 use Rattle.ppdb_maps.specs.Readable.{IsReadable, IsRowOf}
 use Rattle.map_compose.specs.Composed.{composed}
 use Rattle.map_compose.specs.Composition.{Follows}
@@ -30,21 +30,21 @@ use Rattle.map_compose_laws.proofs.Images.{row_there}
 -- ---- a method that is there after both
 
 -- a readable map has no row 0, so it is its own image
-no_row : (m : Map) (rows : List RowImage) → AllByRecursion (IsRowOf m) rows → (image : ℕ)
-    → option_map (λ (r : RowImage). r.new) (find (λ r. nat_eq r.table 0x06 && nat_eq r.old 0) rows) ≡ Some image → ⊥
+no_row : (m : Map) (rows : List RowLine) → AllByRecursion (IsRowOf m) rows → (image : ℕ)
+    → option_map (λ (r : RowLine). r.new) (find (λ r. nat_eq r.table 0x06 && nat_eq r.old 0) rows) ≡ Some image → ⊥
 no_row m [] all image is = absurd cc
 no_row m (r ∷ rs) all image is = of (nat_eq r.table 0x06 && nat_eq r.old 0) refl is (no_row m rs all.1 image)
   where
     of : (b : Bool) → (nat_eq r.table 0x06 && nat_eq r.old 0) ≡ b
-        → option_map (λ (r : RowImage). r.new) (cond b (Some r) (find (λ r. nat_eq r.table 0x06 && nat_eq r.old 0) rs)) ≡ Some image
-        → (option_map (λ (r : RowImage). r.new) (find (λ r. nat_eq r.table 0x06 && nat_eq r.old 0) rs) ≡ Some image → ⊥) → ⊥
+        → option_map (λ (r : RowLine). r.new) (cond b (Some r) (find (λ r. nat_eq r.table 0x06 && nat_eq r.old 0) rs)) ≡ Some image
+        → (option_map (λ (r : RowLine). r.new) (find (λ r. nat_eq r.table 0x06 && nat_eq r.old 0) rs) ≡ Some image → ⊥) → ⊥
     of true at is rest =
         let none : r.old ≡ 0 = eqb-true r.old 0 (and_parts (nat_eq r.table 0x06) (nat_eq r.old 0) at).1 in
         let from = all.0.0.0 in
         omega (arith, none, from)
     of false at is rest = rest is
 
-zero_stays : (m : Map) → IsReadable m → (image : ℕ) → row_image m 0x06 0 ≡ Some image → image ≡ 0
+zero_stays : (m : Map) → IsReadable m → (image : ℕ) → row_within m 0x06 0 ≡ Some image → image ≡ 0
 zero_stays m readable image is = by_drop (nat_eq 0x06 0x06 && is_dropped m 0) is
   where
     by_count : (o : Option ℕ) → (elim o as (λ _. Option ℕ) [ None ↦ Some 0 | Some count ↦ row_line m 0x06 0 ]) ≡ Some image → image ≡ 0
@@ -56,9 +56,9 @@ zero_stays m readable image is = by_drop (nat_eq 0x06 0x06 && is_dropped m 0) is
     by_drop true is = absurd cc
     by_drop false is = by_count (count_of m 0x06) is
 
-pub image_is : (m : Map) → IsReadable m → (method image : ℕ) → row_image m 0x06 method ≡ Some image → row_image m 0x06 method ≡ Some (moved_row m 0x06 method)
+pub image_is : (m : Map) → IsReadable m → (method image : ℕ) → row_within m 0x06 method ≡ Some image → row_within m 0x06 method ≡ Some (moved_row m 0x06 method)
 image_is m readable zero image is = is ∙ ap Some (zero_stays m readable image is)
-image_is m readable (suc n) image is = by_image (row_image m 0x06 (suc n)) is ∙ ap Some (sym (row_there m 0x06 n))
+image_is m readable (suc n) image is = by_image (row_within m 0x06 (suc n)) is ∙ ap Some (sym (row_there m 0x06 n))
   where
     by_image : (o : Option ℕ) → o ≡ Some image → o ≡ Some (unwrap_or o 0)
     by_image None is = absurd cc
@@ -69,29 +69,29 @@ pub there_after : (f s : Map) (value : FileValue) → IsReadable f → IsReadabl
 there_after f s value first second fits method named =
     let imaged : IsImaged (composed f s) (names 0x06 method) =
     in_each (IsImaged (composed f s)) (named_by (true, moved_by value (composed f s))) (names 0x06 method) fits.fits.images named in
-    of (row_image f 0x06 method) refl (imaged.0, by_rows imaged.0 imaged.1)
+    of (row_within f 0x06 method) refl (imaged.0, by_rows imaged.0 imaged.1)
   where
-    by_rows : (image : ℕ) → row_image (composed f s) 0x06 method ≡ Some image → option_and_then (row_image s 0x06) (row_image f 0x06 method) ≡ Some image
+    by_rows : (image : ℕ) → row_within (composed f s) 0x06 method ≡ Some image → option_and_then (row_within s 0x06) (row_within f 0x06 method) ≡ Some image
     by_rows image is = sym ((composed_composes f s first second).rows 0x06 method) ∙ is
 
-    of : (o : Option ℕ) → row_image f 0x06 method ≡ o → (image : ℕ) × (option_and_then (row_image s 0x06) o ≡ Some image)
+    of : (o : Option ℕ) → row_within f 0x06 method ≡ o → (image : ℕ) × (option_and_then (row_within s 0x06) o ≡ Some image)
         → Follows f s method (moved_row f 0x06 method)
     of None at is = absurd (let e : None ≡ Some is.0 = is.1 in cc)
     of (Some k) at is =
         let own = image_is f first method k at in
         let same : k ≡ moved_row f 0x06 method = let both : Some k ≡ Some (moved_row f 0x06 method) = sym at ∙ own in cc in
-        record { first = own; second = ap is_some (subst (λ j. row_image s 0x06 j ≡ Some is.0) same is.1) }
+        record { first = own; second = ap is_some (subst (λ j. row_within s 0x06 j ≡ Some is.0) same is.1) }
 
 -- ---- the slots of variables
 
 -- a method with an image is not dropped
-pub is_live : (m : Map) (method image : ℕ) → row_image m 0x06 method ≡ Some image → is_dropped m method ≡ false
+pub is_live : (m : Map) (method image : ℕ) → row_within m 0x06 method ≡ Some image → is_dropped m method ≡ false
 is_live m method image is = of (is_dropped m method) refl
   where
     of : (b : Bool) → is_dropped m method ≡ b → b ≡ false
     of false at = refl
     of true at =
-        let none : row_image m 0x06 method ≡ None = rw at refl in
+        let none : row_within m 0x06 method ≡ None = rw at refl in
         absurd (let e : None ≡ Some image = sym none ∙ is in cc)
 
 pub each_shown : {A B : Type 0} (P : A → Type 0) (Q : B → Type 0) (test : A → Bool) (view : A → B) → ((x : A) → test x ≡ true → P x → Q (view x))

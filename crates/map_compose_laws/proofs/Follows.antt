@@ -8,7 +8,7 @@ use Rattle.custom_info.specs.declared.stepping.AsyncStep.{AsyncStep}
 use Rattle.sequence_points.specs.declared.point.Point.{Point}
 use Rattle.sequence_points.specs.MovedPoints.{moved_points}
 use Rattle.type_blobs.specs.declared.types.Modifier.{Modifier}
-use Rattle.ppdb_maps.specs.Map.{Map, is_dropped, moved_row, offsets_in, row_image}
+use Rattle.ppdb_maps.specs.Map.{Map, is_dropped, moved_row, offsets_in, row_within}
 use Rattle.ppdb_maps.specs.Readable.{IsReadable}
 use Rattle.map_compose.specs.Composed.{composed, of_image}
 use Rattle.map_compose.specs.Composition.{IsComposition}
@@ -57,9 +57,9 @@ module _ (f s : Map) (composes : IsComposition f s (composed f s)) (first : IsRe
   -- a method that stays, and whose image the second map does not drop, the map of both does not drop
   stays_live : (method : ℕ) → is_dropped f method ≡ false → is_dropped s (moved_row f 0x06 method) ≡ false → is_dropped c method ≡ false
   stays_live method live also = composes.drops method
-      ∙ or_from (is_dropped f method) (of_image false (is_dropped s) (row_image f 0x06 method)) live (by_image (row_image f 0x06 method) refl)
+      ∙ or_from (is_dropped f method) (of_image false (is_dropped s) (row_within f 0x06 method)) live (by_image (row_within f 0x06 method) refl)
     where
-      by_image : (o : Option ℕ) → row_image f 0x06 method ≡ o → of_image false (is_dropped s) o ≡ false
+      by_image : (o : Option ℕ) → row_within f 0x06 method ≡ o → of_image false (is_dropped s) o ≡ false
       by_image None is = refl
       by_image (Some image) is =
           ap (is_dropped s) (some_of image (moved_row f 0x06 method) (sym is ∙ image_is f first method image is)) ∙ also

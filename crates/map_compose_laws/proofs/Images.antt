@@ -5,7 +5,7 @@ use Rattle.std.specs.Option.{option_map, option_and_then}
 use Rattle.std.proofs.lemmas.Bool.{ne_eqb}
 use Rattle.custom_info.specs.declared.slots.Range.{Range}
 use Rattle.ppdb_base.specs.Offsets.{moved}
-use Rattle.ppdb_maps.specs.Map.{Map, row_image, moved_row, moved_signature, signature_line, slot_image, offsets_in}
+use Rattle.ppdb_maps.specs.Map.{Map, row_within, moved_row, moved_signature, signature_line, slot_image, offsets_in}
 use Rattle.type_blobs.specs.declared.types.TypeToken.{TypeToken}
 use Rattle.type_blobs.specs.declared.types.Modifier.{Modifier}
 use Rattle.ppdb_values.specs.declared.scope.VariableValue.{VariableValue}
@@ -44,7 +44,7 @@ item_is g f h is n = ap (λ i. record { item = i; customs = n.customs }) (is n.i
 
 -- ---- rows
 
-pub row_there : (m : Map) (table n : ℕ) → moved_row m table (suc n) ≡ unwrap_or (row_image m table (suc n)) 0
+pub row_there : (m : Map) (table n : ℕ) → moved_row m table (suc n) ≡ unwrap_or (row_within m table (suc n)) 0
 row_there m table n = rw (ne_eqb (suc n) 0 (λ e. omega (arith, e))) refl
 
 module _ (f s : Map) (composes : IsComposition f s (composed f s)) (keeps : KeepsRows f) where
@@ -53,12 +53,12 @@ module _ (f s : Map) (composes : IsComposition f s (composed f s)) (keeps : Keep
 
   pub row_on : (table old : ℕ) → moved_row s table (moved_row f table old) ≡ moved_row c table old
   row_on table zero = refl
-  row_on table (suc n) = ap (moved_row s table) (row_there f table n) ∙ step (row_image f table (suc n)) refl ∙ sym (row_there c table n)
+  row_on table (suc n) = ap (moved_row s table) (row_there f table n) ∙ step (row_within f table (suc n)) refl ∙ sym (row_there c table n)
     where
-      step : (o : Option ℕ) → row_image f table (suc n) ≡ o → moved_row s table (unwrap_or o 0) ≡ unwrap_or (row_image c table (suc n)) 0
-      step None is = sym (ap (λ r. unwrap_or r 0) (composes.rows table (suc n) ∙ ap (option_and_then (row_image s table)) is))
+      step : (o : Option ℕ) → row_within f table (suc n) ≡ o → moved_row s table (unwrap_or o 0) ≡ unwrap_or (row_within c table (suc n)) 0
+      step None is = sym (ap (λ r. unwrap_or r 0) (composes.rows table (suc n) ∙ ap (option_and_then (row_within s table)) is))
       step (Some zero) is = absurd (keeps table (suc n) (omega arith) is)
-      step (Some (suc k)) is = row_there s table k ∙ sym (ap (λ r. unwrap_or r 0) (composes.rows table (suc n) ∙ ap (option_and_then (row_image s table)) is))
+      step (Some (suc k)) is = row_there s table k ∙ sym (ap (λ r. unwrap_or r 0) (composes.rows table (suc n) ∙ ap (option_and_then (row_within s table)) is))
 
   token_on : (t : TypeToken) → moved_token s (moved_token f t) ≡ moved_token c t
   token_on t = ap (λ n. record { table = t.table; row = n }) (row_on t.table t.row)

@@ -4,7 +4,7 @@ use Rattle.std.specs.Prelude.{unwrap_or}
 use Rattle.std.specs.Option.{option_map, option_and_then}
 use Rattle.custom_info.specs.declared.stepping.AsyncStep.{AsyncStep}
 use Rattle.ppdb_base.specs.Offsets.{moved}
-use Rattle.ppdb_maps.specs.Map.{Map, row_image, moved_row, offsets_in, is_dropped}
+use Rattle.ppdb_maps.specs.Map.{Map, row_within, moved_row, offsets_in, is_dropped}
 use Rattle.map_compose.specs.Composed.{composed, drops_one, of_image}
 use Rattle.map_compose.specs.Composition.{IsComposition}
 use Rattle.map_compose.proofs.Equations.{composed_composes}
@@ -29,7 +29,7 @@ module _ (f s : Map) (composes : IsComposition f s (composed f s)) (keeps : Keep
       ∙ ap (λ b. cond b None (Some (moved_row c 0x06 (suc n)))) (sym (composes.drops (suc n)))
     where
       -- the second map drops the image, or there is none
-      image_drops : (o : Option ℕ) → row_image f 0x06 (suc n) ≡ o → is_dropped s (unwrap_or o 0) ≡ of_image false (is_dropped s) o
+      image_drops : (o : Option ℕ) → row_within f 0x06 (suc n) ≡ o → is_dropped s (unwrap_or o 0) ≡ of_image false (is_dropped s) o
       image_drops None is = from_one
       image_drops (Some i) is = refl
 
@@ -37,13 +37,13 @@ module _ (f s : Map) (composes : IsComposition f s (composed f s)) (keeps : Keep
           → option_and_then (partner_image s) (partner_image f (suc n)) ≡ cond (drops_one f s (suc n)) None (Some (moved_row c 0x06 (suc n)))
       of true is =
           ap (λ b. option_and_then (partner_image s) (cond b None (Some (moved_row f 0x06 (suc n))))) is
-          ∙ sym (ap (λ b. cond (b || of_image false (is_dropped s) (row_image f 0x06 (suc n))) None (Some (moved_row c 0x06 (suc n)))) is)
+          ∙ sym (ap (λ b. cond (b || of_image false (is_dropped s) (row_within f 0x06 (suc n))) None (Some (moved_row c 0x06 (suc n)))) is)
       of false is =
           ap (λ b. option_and_then (partner_image s) (cond b None (Some (moved_row f 0x06 (suc n))))) is
           ∙ ap (λ b. cond b None (Some (moved_row s 0x06 (moved_row f 0x06 (suc n)))))
-          (ap (is_dropped s) (row_there f 0x06 n) ∙ image_drops (row_image f 0x06 (suc n)) refl)
-          ∙ ap (λ r. cond (of_image false (is_dropped s) (row_image f 0x06 (suc n))) None (Some r)) (row_on f s composes keeps 0x06 (suc n))
-          ∙ sym (ap (λ b. cond (b || of_image false (is_dropped s) (row_image f 0x06 (suc n))) None (Some (moved_row c 0x06 (suc n)))) is)
+          (ap (is_dropped s) (row_there f 0x06 n) ∙ image_drops (row_within f 0x06 (suc n)) refl)
+          ∙ ap (λ r. cond (of_image false (is_dropped s) (row_within f 0x06 (suc n))) None (Some r)) (row_on f s composes keeps 0x06 (suc n))
+          ∙ sym (ap (λ b. cond (b || of_image false (is_dropped s) (row_within f 0x06 (suc n))) None (Some (moved_row c 0x06 (suc n)))) is)
 
   partners_on : (o : Option ℕ) → IsPartner o → option_and_then (partner_image s) (option_and_then (partner_image f) o) ≡ option_and_then (partner_image c) o
   partners_on None is = refl

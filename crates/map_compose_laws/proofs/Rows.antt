@@ -4,21 +4,21 @@ use Rattle.std.specs.Prelude.{nat_eq}
 use Rattle.std.specs.List.{AllByRecursion, find, list_any}
 use Rattle.std.specs.Option.{option_map}
 use Rattle.std.proofs.lemmas.Bool.{ne_eqb}
-use Rattle.ppdb_maps.specs.declared.entries.RowImage.{RowImage}
-use Rattle.ppdb_maps.specs.Map.{Map, row_image, row_line, is_dropped, count_of}
+use Rattle.ppdb_maps.specs.declared.entries.RowLine.{RowLine}
+use Rattle.ppdb_maps.specs.Map.{Map, row_within, row_line, is_dropped, count_of}
 use Rattle.ppdb_maps.specs.Readable.{IsReadable, IsRow, IsRowOf}
 
 -- no row becomes row 0
 abbrev pub KeepsRows : Map → Type 0
-KeepsRows m = (table old : ℕ) → 1 ≤ old → row_image m table old ≡ Some 0 → ⊥
+KeepsRows m = (table old : ℕ) → 1 ≤ old → row_within m table old ≡ Some 0 → ⊥
 
-found_new : (m : Map) (test : RowImage → Bool) (rows : List RowImage) → AllByRecursion (IsRowOf m) rows
-    → option_map (λ (r : RowImage). r.new) (find test rows) ≡ Some 0 → ⊥
+found_new : (m : Map) (test : RowLine → Bool) (rows : List RowLine) → AllByRecursion (IsRowOf m) rows
+    → option_map (λ (r : RowLine). r.new) (find test rows) ≡ Some 0 → ⊥
 found_new m test [] all is = absurd cc
 found_new m test (r ∷ rs) all is = of (test r) is (found_new m test rs all.1)
   where
-    of : (b : Bool) → option_map (λ (r : RowImage). r.new) (cond b (Some r) (find test rs)) ≡ Some 0
-        → (option_map (λ (r : RowImage). r.new) (find test rs) ≡ Some 0 → ⊥) → ⊥
+    of : (b : Bool) → option_map (λ (r : RowLine). r.new) (cond b (Some r) (find test rs)) ≡ Some 0
+        → (option_map (λ (r : RowLine). r.new) (find test rs) ≡ Some 0 → ⊥) → ⊥
     of true is rest = let none : r.new ≡ 0 = cc in let from = all.0.1.0 in omega (arith, none, from)
     of false is rest = rest is
 

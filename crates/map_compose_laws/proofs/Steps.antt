@@ -4,7 +4,7 @@ use Rattle.std.specs.Prelude.{Contains}
 use Rattle.std.specs.Option.{option_and_then}
 use Rattle.std.proofs.lemmas.Bool.{or_parts}
 use Rattle.ppdb_base.specs.Offsets.{Kept}
-use Rattle.ppdb_maps.specs.Map.{Map, is_dropped, moved_row, offsets_in, row_image}
+use Rattle.ppdb_maps.specs.Map.{Map, is_dropped, moved_row, offsets_in, row_within}
 use Rattle.map_compose.specs.Composed.{composed, of_image}
 use Rattle.map_compose.specs.Composition.{Follows, IsComposition}
 use Rattle.map_compose.proofs.Equations.{composed_composes}
@@ -78,11 +78,11 @@ module _ (sound : SoundnessIsAnnotated) (law : InputsKeepMeaning) (origins : Inp
   imaged : IsImaged c (names 0x06 method)
   imaged = in_each (IsImaged c) (named_rows true c v) (names 0x06 method) fit.at_once.fits.images named
 
-  last_is : row_image c 0x06 method ≡ Some last
+  last_is : row_within c 0x06 method ≡ Some last
   last_is = image_is c fit.at_once.ready method imaged.0 imaged.1
 
-  on : row_image s 0x06 image ≡ Some last
-  on = sym (ap (option_and_then (row_image s 0x06)) (follows method named).first) ∙ sym (composes.rows 0x06 method) ∙ last_is
+  on : row_within s 0x06 image ≡ Some last
+  on = sym (ap (option_and_then (row_within s 0x06)) (follows method named).first) ∙ sym (composes.rows 0x06 method) ∙ last_is
 
   image_there : 1 ≤ image
   image_there = (row_moved f fit.first.ready 0x06 method is_row.0 is_row.1 (image, (follows method named).first)).0
@@ -105,7 +105,7 @@ module _ (sound : SoundnessIsAnnotated) (law : InputsKeepMeaning) (origins : Inp
       Of_first n = n.table ≡ 0x06 → Contains (named_rows true f v) n
 
       stays : (row : ℕ) → is_dropped c row ≡ false → is_dropped f row ≡ false
-      stays row is = (or_parts (is_dropped f row) (of_image false (is_dropped s) (row_image f 0x06 row)) (sym (composes.drops row) ∙ is)).0
+      stays row is = (or_parts (is_dropped f row) (of_image false (is_dropped s) (row_within f 0x06 row)) (sym (composes.drops row) ∙ is)).0
 
   all_come : Each (Comes f s composes fit.first.ready v In) (named_by (true, moved_by (rewritten f value) s))
   all_come = subst (λ w. Each (Comes f s composes fit.first.ready v In) (named_rows true s w)) (sym (rewritten_back sound f value fit.first))
@@ -115,14 +115,14 @@ module _ (sound : SoundnessIsAnnotated) (law : InputsKeepMeaning) (origins : Inp
       (named_parts In true c v (each_in In (named_rows true c v) (λ n is. is))))))
 
   -- what the second step names comes from what the file names by the map of both, so no other method has the image
-  own : (other : ℕ) → NamesMethod (true, moved_by (rewritten f value) s) other → row_image s 0x06 other ≡ Some last → other ≡ image
+  own : (other : ℕ) → NamesMethod (true, moved_by (rewritten f value) s) other → row_within s 0x06 other ≡ Some last → other ≡ image
   own other is image_of =
       let from = in_each (Comes f s composes fit.first.ready v In) (named_by (true, moved_by (rewritten f value) s)) (names 0x06 other) all_come is refl in
       let table : from.0.table ≡ 0x06 = ap (λ (n : Named). n.table) from.2 in
       let there : IsNamed f s value from.0.row = subst (λ t. In (names t from.0.row)) table from.1 in
       let moved : moved_row f 0x06 from.0.row ≡ other = ap (λ t. moved_row f t from.0.row) (sym table) ∙ ap (λ (n : Named). n.row) from.2 in
-      let image_c : row_image c 0x06 from.0.row ≡ Some last = composes.rows 0x06 from.0.row
-      ∙ ap (option_and_then (row_image s 0x06)) (follows from.0.row there).first ∙ ap (row_image s 0x06) moved ∙ image_of in
+      let image_c : row_within c 0x06 from.0.row ≡ Some last = composes.rows 0x06 from.0.row
+      ∙ ap (option_and_then (row_within s 0x06)) (follows from.0.row there).first ∙ ap (row_within s 0x06) moved ∙ image_of in
       let same : from.0.row ≡ method = fit.at_once.fits.apart (names 0x06 from.0.row) (names 0x06 method) there named last refl image_c last_is in
       sym moved ∙ ap (moved_row f 0x06) same
 

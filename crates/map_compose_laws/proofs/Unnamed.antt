@@ -5,7 +5,7 @@ use Rattle.std.proofs.Common.{◌∙◌, ap, subst, arith}
 use Rattle.std.specs.Prelude.{nat_eq, Contains}
 use Rattle.std.proofs.lemmas.Bool.{ne_eqb}
 use Rattle.ppdb_base.specs.Offsets.{Kept}
-use Rattle.ppdb_maps.specs.Map.{Map, is_dropped, moved_row, offsets_in, row_image}
+use Rattle.ppdb_maps.specs.Map.{Map, is_dropped, moved_row, offsets_in, row_within}
 use Rattle.ppdb_values.specs.declared.file.FileValue.{FileValue}
 use Rattle.ppdb_values.specs.Links.{links, move_next_of}
 use Rattle.ppdb_values.specs.Meaning.{meaning}
@@ -49,8 +49,8 @@ rewritten_back sound m value fits = joined_back (moved_file m (annotated_file va
     (can_be_joined sound ((true, moved_by value m) ∷ []) (fits, tt) (tt, tt) (tt, tt))
 
 module _ (sound : SoundnessIsAnnotated) (law : InputsKeepMeaning) (origins : InputsKeepOrigins) (m : Map) (value : FileValue)
-    (fits : FitsAlone (true, moved_by value m)) (method image : ℕ) (above : 1 ≤ method) (there : 1 ≤ image) (is : row_image m 0x06 method ≡ Some image)
-    (own : (other : ℕ) → NamesMethod (true, moved_by value m) other → row_image m 0x06 other ≡ Some image → other ≡ method) where
+    (fits : FitsAlone (true, moved_by value m)) (method image : ℕ) (above : 1 ≤ method) (there : 1 ≤ image) (is : row_within m 0x06 method ≡ Some image)
+    (own : (other : ℕ) → NamesMethod (true, moved_by value m) other → row_within m 0x06 other ≡ Some image → other ≡ method) where
   abbrev w : AnnotatedFile
   w = annotated_file value
 
@@ -98,7 +98,7 @@ module _ (sound : SoundnessIsAnnotated) (law : InputsKeepMeaning) (origins : Inp
             let named = entry_named row is_entry stays in
             let its = in_each (IsImaged m) (named_by (true, moved_by value m)) (names 0x06 w.entry) fits.fits.images named in
             let above_too : 1 ≤ w.entry = omega (arith, is_entry) in
-            let one : row_image m 0x06 w.entry ≡ Some image = its.1 ∙ ap Some (sym (moved_is_image m 0x06 w.entry its.0 above_too its.1) ∙ same) in
+            let one : row_within m 0x06 w.entry ≡ Some image = its.1 ∙ ap Some (sym (moved_is_image m 0x06 w.entry its.0 above_too its.1) ∙ same) in
             unnamed (subst (NamesMethod (true, moved_by value m)) (own w.entry named one) named)
 
         by_entry : (entry : ℕ) → w.entry ≡ entry → moved_row m 0x06 w.entry ≡ image → ⊥

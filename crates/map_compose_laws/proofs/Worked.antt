@@ -6,7 +6,7 @@ use Rattle.sequence_points.specs.declared.point.Point.{Point}
 use Rattle.sequence_points.specs.declared.point.Span.TheVariants.{Lines}
 use Rattle.ppdb_base.specs.declared.offsets.Run.{Run}
 use Rattle.ppdb_base.specs.Offsets.{Rise, lined}
-use Rattle.ppdb_maps.specs.Map.{Map, MethodLine, method_line, row_image}
+use Rattle.ppdb_maps.specs.Map.{Map, MethodLine, method_line, row_within}
 use Rattle.ppdb_maps.specs.Readable.{IsReadable}
 use Rattle.map_compose.specs.Composed.{of_image}
 use Rattle.map_compose.specs.Sizes.{SizesAgree}
@@ -121,7 +121,7 @@ module _ (old new : ℕ) (runs : List Run) where
     link = tt;
   }
 
-  image_is : (table row : ℕ) → row_image m table row ≡ Some row
+  image_is : (table row : ℕ) → row_within m table row ≡ Some row
   image_is table row = by_table (nat_eq table 0x06)
     where
       by_table : (b : Bool) → cond (b && false) None (Some row) ≡ Some row

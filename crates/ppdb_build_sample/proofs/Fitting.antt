@@ -9,8 +9,8 @@ use Rattle.ppdb_base.specs.Offsets.{lined, old_size}
 use Rattle.sequence_points.specs.declared.point.Point.{Point}
 use Rattle.custom_info.specs.Kinds.{kind_of}
 use Rattle.custom_info.specs.declared.kinds.Kind.TheVariants.{Hoisted, Unknown}
-use Rattle.ppdb_maps.specs.declared.entries.RowImage.{RowImage}
-use Rattle.ppdb_maps.specs.Map.{Map, MethodLine, row_image, offsets_in, line_offsets}
+use Rattle.ppdb_maps.specs.declared.entries.RowLine.{RowLine}
+use Rattle.ppdb_maps.specs.Map.{Map, MethodLine, row_within, offsets_in, line_offsets}
 use Rattle.ppdb_maps.specs.Sample.{sample_row, sample_runs, sample_map_of, sample_method as sample_line}
 use Rattle.ppdb_maps.proofs.SampleMap.{sample_readable}
 use Rattle.ppdb_values.specs.declared.custom.CustomValue.{CustomValue}
@@ -37,7 +37,7 @@ use Rattle.ppdb_build_sample.proofs.Sound.{sample_is_sound}
 -- ---- what the map says
 
 find_row : (n i a k : ℕ) → a ≤ i → i < a + k
-    → find (λ (r : RowImage). nat_eq r.table 0x06 && nat_eq r.old i) (map (sample_row n) (range_with_len a k)) ≡ Some (sample_row n i)
+    → find (λ (r : RowLine). nat_eq r.table 0x06 && nat_eq r.old i) (map (sample_row n) (range_with_len a k)) ≡ Some (sample_row n i)
 find_row n i a zero le less = absurd (omega (arith, le, less))
 find_row n i a (suc k) le less = elim (cases_lt a i) [
   | inl before ↦ rw (ne_eqb a i (λ e. absurd (omega (arith, before, e)))) (find_row n i (a + 1) k (omega (arith, before)) (omega (arith, less)))
@@ -59,8 +59,8 @@ module _ (n : ℕ) where
   abbrev m : Map
   m = sample_map_of n
 
-  image_is : (i : ℕ) → IsIn n i → row_image m 0x06 i ≡ Some (n + 1 - i)
-  image_is i within = ap (option_map (λ (r : RowImage). r.new)) (find_row n i 1 n within.0 (omega (arith, within.1)))
+  image_is : (i : ℕ) → IsIn n i → row_within m 0x06 i ≡ Some (n + 1 - i)
+  image_is i within = ap (option_map (λ (r : RowLine). r.new)) (find_row n i 1 n within.0 (omega (arith, within.1)))
 
   offsets_are : (i : ℕ) → IsIn n i → offsets_in m i ≡ lined sample_runs 16 20
   offsets_are i within = ap line_offsets (find_line i 1 n within.0 (omega (arith, within.1)))
@@ -73,15 +73,15 @@ module _ (n : ℕ) where
 
   -- the image of such a row, and how many rows the table has
   image_of : (a : Named) → IsNamed n a → IsImaged m a
-  image_of a (inl (table, within)) = (n + 1 - a.row, ap (λ t. row_image m t a.row) table ∙ image_is a.row within)
-  image_of a (inr (table, one)) = (1, ap (λ t. row_image m t a.row) table ∙ ap (λ r. row_image m 0x11 r) one)
+  image_of a (inl (table, within)) = (n + 1 - a.row, ap (λ t. row_within m t a.row) table ∙ image_is a.row within)
+  image_of a (inr (table, one)) = (1, ap (λ t. row_within m t a.row) table ∙ ap (λ r. row_within m 0x11 r) one)
 
-  method_image : (a : Named) (image : ℕ) → a.table ≡ 0x06 → IsIn n a.row → row_image m a.table a.row ≡ Some image → n + 1 - a.row ≡ image
+  method_image : (a : Named) (image : ℕ) → a.table ≡ 0x06 → IsIn n a.row → row_within m a.table a.row ≡ Some image → n + 1 - a.row ≡ image
   method_image a image table within is =
-      some_of (n + 1 - a.row) image (sym (image_is a.row within) ∙ sym (ap (λ t. row_image m t a.row) table) ∙ is)
+      some_of (n + 1 - a.row) image (sym (image_is a.row within) ∙ sym (ap (λ t. row_within m t a.row) table) ∙ is)
 
-  signature_image : (a : Named) (image : ℕ) → a.table ≡ 0x11 → a.row ≡ 1 → row_image m a.table a.row ≡ Some image → 1 ≡ image
-  signature_image a image table one is = some_of 1 image (sym (ap (λ t. row_image m t a.row) table ∙ ap (λ r. row_image m 0x11 r) one) ∙ is)
+  signature_image : (a : Named) (image : ℕ) → a.table ≡ 0x11 → a.row ≡ 1 → row_within m a.table a.row ≡ Some image → 1 ≡ image
+  signature_image a image table one is = some_of 1 image (sym (ap (λ t. row_within m t a.row) table ∙ ap (λ r. row_within m 0x11 r) one) ∙ is)
 
   -- ---- what the sample names
 
@@ -174,7 +174,7 @@ module _ (n : ℕ) where
 
   -- no image is above the count
   abbrev IsCounted : Named → Type 0
-  IsCounted a = (image : ℕ) → row_image m a.table a.row ≡ Some image → image ≤ slice_index (sample_rows n) a.table
+  IsCounted a = (image : ℕ) → row_within m a.table a.row ≡ Some image → image ≤ slice_index (sample_rows n) a.table
 
   counted : 1 ≤ n → Each IsCounted (named_rows true m (sample_annotated n))
   counted some = Each-weaker (IsNamed n) IsCounted within (named_rows true m (sample_annotated n)) (named some)

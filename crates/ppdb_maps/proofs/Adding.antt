@@ -33,23 +33,23 @@ use Rattle.ppdb_maps.specs.declared.rule.Rule.{Rule}
 use Rattle.ppdb_maps.specs.declared.rule.Rule.TheVariants.{NoMethod}
 use Rattle.ppdb_maps.specs.declared.bit_set.BitSet.{BitSet}
 use Rattle.ppdb_maps.specs.declared.bit_set.RowSet.{RowSet}
-use Rattle.ppdb_maps.specs.declared.entries.RowImage.{RowImage}
+use Rattle.ppdb_maps.specs.declared.entries.RowLine.{RowLine}
 use Rattle.ppdb_maps.specs.declared.entries.SignatureImage.{SignatureImage}
 use Rattle.ppdb_maps.proofs.OneMap.{pair_equal, pair_is, same_number}
 use Rattle.ppdb_maps.proofs.Refusing.{at_pair}
 
-abbrev is_row : ℕ → ℕ → RowImage → Bool
+abbrev is_row : ℕ → ℕ → RowLine → Bool
 is_row table old row = nat_eq row.table table && nat_eq row.old old
 
 -- what is found with one more row at the end, that was not there before
-pushed : (o : Option RowImage) (row : RowImage) (b : Bool) → (b ≡ true → is_some (option_map (λ (r : RowImage). r.new) o) ≡ false)
-    → option_map (λ (r : RowImage). r.new) (option_or o (cond b (Some row) None)) ≡ cond b (Some row.new) (option_map (λ (r : RowImage). r.new) o)
+pushed : (o : Option RowLine) (row : RowLine) (b : Bool) → (b ≡ true → is_some (option_map (λ (r : RowLine). r.new) o) ≡ false)
+    → option_map (λ (r : RowLine). r.new) (option_or o (cond b (Some row) None)) ≡ cond b (Some row.new) (option_map (λ (r : RowLine). r.new) o)
 pushed None row true fresh = refl
 pushed None row false fresh = refl
 pushed (Some other) row true fresh = absurd (false≢true (sym (fresh refl)))
 pushed (Some other) row false fresh = refl
 
-row_absent : (rows : List RowImage) (t o : ℕ) → is_some (option_map (λ (r : RowImage). r.new) (find (is_row t o) rows)) ≡ false
+row_absent : (rows : List RowLine) (t o : ℕ) → is_some (option_map (λ (r : RowLine). r.new) (find (is_row t o) rows)) ≡ false
     → list_any (same_pair (t, o)) (map row_key rows) ≡ false
 row_absent [] t o fresh = refl
 row_absent (row ∷ rows) t o fresh = of (is_row t o row) refl fresh (row_absent rows t o)
@@ -57,8 +57,8 @@ row_absent (row ∷ rows) t o fresh = of (is_row t o row) refl fresh (row_absent
     turned : (nat_eq t row.table && nat_eq o row.old) ≡ is_row t o row
     turned = pair_equal.symm (t, o) (row_key row)
 
-    of : (b : Bool) → is_row t o row ≡ b → is_some (option_map (λ (r : RowImage). r.new) (cond b (Some row) (find (is_row t o) rows))) ≡ false
-        → (is_some (option_map (λ (r : RowImage). r.new) (find (is_row t o) rows)) ≡ false → list_any (same_pair (t, o)) (map row_key rows) ≡ false)
+    of : (b : Bool) → is_row t o row ≡ b → is_some (option_map (λ (r : RowLine). r.new) (cond b (Some row) (find (is_row t o) rows))) ≡ false
+        → (is_some (option_map (λ (r : RowLine). r.new) (find (is_row t o) rows)) ≡ false → list_any (same_pair (t, o)) (map row_key rows) ≡ false)
         → list_any (same_pair (t, o)) (map row_key (row ∷ rows)) ≡ false
     of true is fresh rest = absurd (false≢true (sym fresh))
     of false is fresh rest = ap (λ b. b || list_any (same_pair (t, o)) (map row_key rows)) (turned ∙ is) ∙ rest fresh
@@ -141,7 +141,7 @@ none_held draft counts rows moved methods listed current drops slotted slots sig
       (record { found = λ method. rw methods refl; distinct = rw methods tt; numbers = listed }, refl);
 }
 
-pub row_added : (before : List Line) (draft : Draft) (rows : Vec RowImage Global) (moved : RowSet) (t o n : ℕ) → IsClosed before draft
+pub row_added : (before : List Line) (draft : Draft) (rows : Vec RowLine Global) (moved : RowSet) (t o n : ℕ) → IsClosed before draft
     → is_some (row_in before t o) ≡ false
     → rows.items ≡ draft.rows.items ++ record { table = t; old = o; new = n } ∷ []
     → ((a b : ℕ) → has_row moved a b ≡ (nat_eq t a && nat_eq o b || has_row draft.moved a b))
@@ -150,8 +150,8 @@ row_added before draft rows moved t o n closed fresh pushes marks = record {
   others = record {
     counts = closed.others.counts;
     rows = λ a b.
-        ap (λ rs. option_map (λ (r : RowImage). r.new) (find (is_row a b) rs)) pushes
-        ∙ (ap (option_map (λ (r : RowImage). r.new)) (find-append (is_row a b) draft.rows.items (record { table = t; old = o; new = n } ∷ []))
+        ap (λ rs. option_map (λ (r : RowLine). r.new) (find (is_row a b) rs)) pushes
+        ∙ (ap (option_map (λ (r : RowLine). r.new)) (find-append (is_row a b) draft.rows.items (record { table = t; old = o; new = n } ∷ []))
         ∙ (pushed (find (is_row a b) draft.rows.items) (record { table = t; old = o; new = n }) (nat_eq t a && nat_eq o b) (λ is. absent a b is)
         ∙ ap (cond (nat_eq t a && nat_eq o b) (Some n)) (closed.others.rows a b)));
     distinct = subst (λ rs. IsDistinct same_pair (map row_key rs)) (sym pushes)
@@ -172,7 +172,7 @@ row_added before draft rows moved t o n closed fresh pushes marks = record {
       (closed.methods, refl);
 }
   where
-    absent : (a b : ℕ) → (nat_eq t a && nat_eq o b) ≡ true → is_some (option_map (λ (r : RowImage). r.new) (find (is_row a b) draft.rows.items)) ≡ false
+    absent : (a b : ℕ) → (nat_eq t a && nat_eq o b) ≡ true → is_some (option_map (λ (r : RowLine). r.new) (find (is_row a b) draft.rows.items)) ≡ false
     absent a b is =
         let same : (t, o) ≡ (a, b) = pair_is (t, o) (a, b) is in
         ap is_some (closed.others.rows a b) ∙ subst (λ (p : ℕ × ℕ). is_some (row_in before p.0 p.1) ≡ false) same fresh

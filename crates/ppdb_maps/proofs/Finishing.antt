@@ -19,7 +19,7 @@ use Rattle.ppdb_maps.specs.Gathered.{count_entry, row_key, method_key, signature
 use Rattle.ppdb_maps.specs.Drafts.{IsClosed}
 use Rattle.ppdb_maps.specs.Text.{HoldsWhat}
 use Rattle.ppdb_maps.specs.declared.entries.Count.{Count}
-use Rattle.ppdb_maps.specs.declared.entries.RowImage.{RowImage}
+use Rattle.ppdb_maps.specs.declared.entries.RowLine.{RowLine}
 use Rattle.ppdb_maps.specs.declared.entries.SlotImage.{SlotImage}
 use Rattle.ppdb_maps.specs.declared.entries.SignatureImage.{SignatureImage}
 use Rattle.ppdb_maps.specs.declared.entries.NameLine.{NameLine}
@@ -150,7 +150,7 @@ pub made_holds : (before : List Line) (draft : Draft) (made : Map) → IsClosed 
 made_holds before draft made closed h = record {
   counts = λ table. rw h.counts (counts_found draft.counts table ∙ closed.others.counts table);
   rows = λ table old.
-      ap (option_map (λ (r : RowImage). r.new))
+      ap (option_map (λ (r : RowLine). r.new))
       (found_alike row_key same_pair pair_cmp pair_equal pair_is pair_total pair_exact draft.rows.items made.rows h.rows
       (rows_ascend before draft made closed h) (table, old))
       ∙ closed.others.rows table old;

@@ -12,7 +12,7 @@ use Rattle.std.proofs.lemmas.Bool.{cases_lt, eq-eqb, ne_eqb, eqb-true, and_parts
 use Rattle.std.proofs.lemmas.Cmp.{then_total, on_total, nat_cmp_total, nat_eq_equiv}
 use Rattle.std.proofs.lemmas.List.{append_cancel_left}
 use Rattle.ppdb_maps.specs.declared.entries.Count.{Count}
-use Rattle.ppdb_maps.specs.declared.entries.RowImage.{RowImage}
+use Rattle.ppdb_maps.specs.declared.entries.RowLine.{RowLine}
 use Rattle.ppdb_maps.specs.declared.entries.SlotImage.{SlotImage}
 use Rattle.ppdb_maps.specs.declared.entries.SignatureImage.{SignatureImage}
 use Rattle.ppdb_maps.specs.declared.entries.NameLine.{NameLine}
@@ -94,7 +94,7 @@ numbers_one xs ys a b same = one_list (λ (x : ℕ). x) nat_eq nat_cmp same_numb
 pub maps_made : (a b : Map) → a.counts ≡ b.counts → a.rows ≡ b.rows → a.methods ≡ b.methods → a.drops ≡ b.drops → a.slotted ≡ b.slotted → a.slots ≡ b.slots
     → a.signatures ≡ b.signatures → a.documents ≡ b.documents → a.link ≡ b.link → a ≡ b
 maps_made a b counts rows methods drops slotted slots signatures documents link =
-    ap (λ (v : List Count × List RowImage × List MethodLine × List ℕ × List ℕ × List SlotImage × List SignatureImage × List NameLine × Option (List ℕ)).
+    ap (λ (v : List Count × List RowLine × List MethodLine × List ℕ × List ℕ × List SlotImage × List SignatureImage × List NameLine × Option (List ℕ)).
     map_of v.0 v.1 v.2 v.3 v.4 v.5 v.6 v.7 v.8)
     (let e : (a.counts, a.rows, a.methods, a.drops, a.slotted, a.slots, a.signatures, a.documents, a.link) ≡ (
       b.counts,
@@ -114,9 +114,9 @@ maps_same said a b x y =
     x.ascends.counts y.ascends.counts
     (λ n. alike (λ (c : Count). nat_eq c.table n) (λ (c : Count). c.rows) (λ r. record { table = n; rows = r })
     (λ c hit. ap (λ t. record { table = t; rows = c.rows }) (sym (eqb-true c.table n hit))) a.counts b.counts (x.counts n ∙ sym (y.counts n))) in
-    let rows : a.rows ≡ b.rows = one_list (λ (r : RowImage). (r.table, r.old)) same_pair pair_cmp pair_is is_pair pair_total a.rows b.rows x.ascends.rows
+    let rows : a.rows ≡ b.rows = one_list (λ (r : RowLine). (r.table, r.old)) same_pair pair_cmp pair_is is_pair pair_total a.rows b.rows x.ascends.rows
     y.ascends.rows
-    (λ k. alike (λ (r : RowImage). nat_eq r.table k.0 && nat_eq r.old k.1) (λ (r : RowImage). r.new) (λ n. record { table = k.0; old = k.1; new = n })
+    (λ k. alike (λ (r : RowLine). nat_eq r.table k.0 && nat_eq r.old k.1) (λ (r : RowLine). r.new) (λ n. record { table = k.0; old = k.1; new = n })
     (λ r hit. let parts = and_parts (nat_eq r.table k.0) (nat_eq r.old k.1) hit in
     ap (λ t. record { table = t; old = k.1; new = r.new }) (sym (eqb-true r.table k.0 parts.0))
     ∙ ap (λ o. record { table = r.table; old = o; new = r.new }) (sym (eqb-true r.old k.1 parts.1)))

@@ -14,7 +14,7 @@ use Rattle.ppdb_maps.specs.Readable.{IsReadable, IsCount, IsRow, IsRowOf, IsLine
 use Rattle.ppdb_maps.specs.Forms.{AreBytes}
 use Rattle.ppdb_maps.specs.Text.{HoldsWhat, Read}
 use Rattle.ppdb_maps.specs.declared.entries.Count.{Count}
-use Rattle.ppdb_maps.specs.declared.entries.RowImage.{RowImage}
+use Rattle.ppdb_maps.specs.declared.entries.RowLine.{RowLine}
 use Rattle.ppdb_maps.specs.declared.entries.SlotImage.{SlotImage}
 use Rattle.ppdb_maps.specs.declared.entries.SignatureImage.{SignatureImage}
 use Rattle.ppdb_maps.specs.declared.entries.NameLine.{NameLine}
@@ -42,9 +42,9 @@ held_fits said m holds fits = record {
   ascends = holds.ascends;
   counts = each_found (λ (c : Count). c.table) nat_eq nat_cmp same_number number_same nat_cmp_total IsCount m.counts holds.ascends.counts
       (λ c found. fits.counts c.table c.rows (sym (holds.counts c.table) ∙ ap (option_map (λ (c : Count). c.rows)) found));
-  rows = each_found (λ (r : RowImage). (r.table, r.old)) same_pair pair_cmp pair_is is_pair pair_total (IsRowOf m) m.rows holds.ascends.rows
+  rows = each_found (λ (r : RowLine). (r.table, r.old)) same_pair pair_cmp pair_is is_pair pair_total (IsRowOf m) m.rows holds.ascends.rows
       (λ r found.
-      let h = fits.rows r.table r.old r.new (sym (holds.rows r.table r.old) ∙ ap (option_map (λ (r : RowImage). r.new)) found) in
+      let h = fits.rows r.table r.old r.new (sym (holds.rows r.table r.old) ∙ ap (option_map (λ (r : RowLine). r.new)) found) in
       (h.0, h.1, ap is_some (holds.counts r.table) ∙ h.2, λ six. holds.drops r.old ∙ h.3 six));
   methods = each_found (λ (l : MethodLine). l.method) nat_eq nat_cmp same_number number_same nat_cmp_total (IsLineOf m) m.methods holds.ascends.methods
       (λ l found.

@@ -8,7 +8,7 @@ use Rattle.std.specs.Cmp.{nat_cmp_is}
 use Rattle.std.specs.declared.cmp.Ordering.TheVariants.{Less}
 use Rattle.ppdb_base.specs.Offsets.{Rise, lined}
 use Rattle.ppdb_maps.specs.declared.entries.Count.{Count}
-use Rattle.ppdb_maps.specs.declared.entries.RowImage.{RowImage}
+use Rattle.ppdb_maps.specs.declared.entries.RowLine.{RowLine}
 use Rattle.ppdb_maps.specs.declared.entries.SlotImage.{SlotImage}
 use Rattle.ppdb_maps.specs.declared.entries.SignatureImage.{SignatureImage}
 use Rattle.ppdb_maps.specs.declared.entries.NameLine.{NameLine}
@@ -25,11 +25,11 @@ less x a h = sym (nat_cmp_is x a Less h)
 
 -- numbers after a number are greater
 rows_after : (n x a k : ℕ) → x < a → AllByRecursion (λ y. pair_cmp (6, x) y ≡ Less)
-    (map (λ (r : RowImage). (r.table, r.old)) (map (sample_row n) (range_with_len a k)))
+    (map (λ (r : RowLine). (r.table, r.old)) (map (sample_row n) (range_with_len a k)))
 rows_after n x a zero h = tt
 rows_after n x a (suc k) h = (less x a h, rows_after n x (a + 1) k (omega arith))
 
-rows_rise : (n a k : ℕ) → IsStrictlySortedBy pair_cmp (map (λ (r : RowImage). (r.table, r.old)) (map (sample_row n) (range_with_len a k)))
+rows_rise : (n a k : ℕ) → IsStrictlySortedBy pair_cmp (map (λ (r : RowLine). (r.table, r.old)) (map (sample_row n) (range_with_len a k)))
 unfolding IsStrictlySortedBy
 rows_rise n a zero = tt
 rows_rise n a (suc k) = (rows_after n a (a + 1) k (omega arith), rows_rise n (a + 1) k)
@@ -92,7 +92,7 @@ sample_readable n few = record {
   link = tt;
 }
 
-pub sample_of : (n : ℕ) (counts : List Count) (rows : List RowImage) (methods : List MethodLine) (drops slotted : List ℕ) (slots : List SlotImage)
+pub sample_of : (n : ℕ) (counts : List Count) (rows : List RowLine) (methods : List MethodLine) (drops slotted : List ℕ) (slots : List SlotImage)
     (signatures : List SignatureImage) (documents : List NameLine) (link : Option (List ℕ))
     → counts ≡ record { table = 0x06; rows = n } ∷ []
     → rows ≡ map (sample_row n) (range_with_len 1 n) → methods ≡ map sample_method (range_with_len 1 n) → drops ≡ [] → slotted ≡ [] → slots ≡ []

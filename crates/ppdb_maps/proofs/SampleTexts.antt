@@ -5,7 +5,7 @@ use Rattle.std.specs.Option.{option_map}
 use Rattle.std.proofs.lemmas.Bool.Decides.{nat_tests}
 use Rattle.ppdb_maps.specs.Map.{MethodLine, count_of}
 use Rattle.ppdb_maps.specs.declared.entries.Count.{Count}
-use Rattle.ppdb_maps.specs.declared.entries.RowImage.{RowImage}
+use Rattle.ppdb_maps.specs.declared.entries.RowLine.{RowLine}
 use Rattle.ppdb_maps.specs.Sample.{sample_map_of}
 use Rattle.ppdb_maps.specs.Forms.{IsHead, Tells, ROWS}
 use Rattle.ppdb_maps.specs.Text.{Read, start, further, HoldsWhat}
@@ -83,8 +83,8 @@ read_1 : Read 1 (codes "rows 06 1" ∷ codes "row 06 1 1" ∷ codes "method 1 16
 read_1 = with_runs (codes "rows 06 1" ∷ codes "row 06 1 1" ∷ codes "method 1 16 20" ∷ []) (Row 6 1 1 ∷ Rows 6 1 ∷ []) 1
     (further read_rows_1 method_1 (keeps_method (Row 6 1 1 ∷ Rows 6 1 ∷ []) (codes "method 1 16 20") 1 16 20 method_1 refl refl))
 
-one_row : (b : Bool) (old new : ℕ) → let r : RowImage =
-    record { table = 6; old = old; new = new } in option_map (λ (x : RowImage). x.new) (cond b (Some r) None) ≡ cond b (Some new) None
+one_row : (b : Bool) (old new : ℕ) → let r : RowLine =
+    record { table = 6; old = old; new = new } in option_map (λ (x : RowLine). x.new) (cond b (Some r) None) ≡ cond b (Some new) None
 one_row true old new = refl
 one_row false old new = refl
 
@@ -130,8 +130,8 @@ apart : (n : ℕ) → nat_eq 1 n ≡ true → nat_eq 2 n ≡ true → ⊥
 apart n a b = grind (arith, nat_tests)
 
 two_rows : (b first second : Bool) → (first ≡ true → second ≡ true → ⊥)
-    → let r : RowImage = record { table = 6; old = 1; new = 2 } in let s : RowImage = record { table = 6; old = 2; new = 1 } in
-    option_map (λ (x : RowImage). x.new) (cond (b && first) (Some r) (cond (b && second) (Some s) None)) ≡ cond (b && second) (Some 1)
+    → let r : RowLine = record { table = 6; old = 1; new = 2 } in let s : RowLine = record { table = 6; old = 2; new = 1 } in
+    option_map (λ (x : RowLine). x.new) (cond (b && first) (Some r) (cond (b && second) (Some s) None)) ≡ cond (b && second) (Some 1)
     (cond (b && first) (Some 2) None)
 two_rows true true true apart = absurd (apart refl refl)
 two_rows true true false apart = refl

@@ -1,7 +1,7 @@
 -- What a draft holds of the lines read so far, of which the last one stands first.
 use Rattle.std.specs.Prelude.{◌≡◌, ℕ, ◌<◌, ◌≤◌, true, false, List, ◌∷◌, Option, Some, None, Result, MatchResult, find, nat_eq, is_some, option_map, map, ◌&&◌}
 use Rattle.std.specs.{List.IsDistinct, Ordering.nat_cmp, Cmp.Lexicographic.slice_cmp}
-use Rattle.ppdb_maps.specs.{declared.entries.{RowImage.RowImage, SignatureImage.SignatureImage}, BitSets.{has_number, has_row}, Gathered.{row_key, method_key, signature_key, same_pair}}
+use Rattle.ppdb_maps.specs.{declared.entries.{RowLine.RowLine, SignatureImage.SignatureImage}, BitSets.{has_number, has_row}, Gathered.{row_key, method_key, signature_key, same_pair}}
 use Rattle.ppdb_maps.specs.{Map.{MethodLine, pair_cmp}, Before.{count_in, row_in, methods_of, drop_in, slots_in, slot_in, signature_in, document_in, link_in, follows_method}, Rules.{Breaks, kind_of}}
 use Rattle.ppdb_maps.specs.{declared.bit_set.BitSet.BitSet, declared.draft.Draft.Draft, declared.refusal.Refusal.{Refusal, TheVariants.{Breaks as refused, Memory}}, declared.line.Line.Line}
 use Rattle.ppdb_maps.specs.{declared.line.Line.TheVariants.Kept, declared.rule.Rule.Rule}
@@ -12,7 +12,7 @@ use Rattle.std.specs.BTreeSet as sorted
 pub record HoldsOthers (before : List Line) (draft : Draft) : Type 0 where
   pub counts : (table : ℕ) → tree.get nat_cmp draft.counts table ≡ count_in before table
   pub rows : (table old : ℕ)
-      → option_map (λ (r : RowImage). r.new) (find (λ r. nat_eq r.table table && nat_eq r.old old) draft.rows.items) ≡ row_in before table old
+      → option_map (λ (r : RowLine). r.new) (find (λ r. nat_eq r.table table && nat_eq r.old old) draft.rows.items) ≡ row_in before table old
   pub distinct : IsDistinct same_pair (map row_key draft.rows.items)
   pub moved : (table old : ℕ) → has_row draft.moved table old ≡ is_some (row_in before table old)
   pub drops : (method : ℕ) → sorted.contains nat_cmp draft.drops method ≡ drop_in before method

@@ -1,13 +1,13 @@
 -- The entries of a map's lists, from those of the maps in which they were gathered.
 use Rattle.std.specs.{Prelude.{ℕ, ◌&&◌, Bool, List, nat_eq}, Cmp.Lexicographic.slice_cmp, Ordering.nat_cmp, declared.{cmp.Ordering.Ordering, alloc.Global.Global, vec.Vec.Vec}}
-use Rattle.ppdb_maps.specs.{declared.entries.{Count.Count, RowImage.RowImage, SlotImage.SlotImage, SignatureImage.SignatureImage, NameLine.NameLine}, Map.MethodLine}
+use Rattle.ppdb_maps.specs.{declared.entries.{Count.Count, RowLine.RowLine, SlotImage.SlotImage, SignatureImage.SignatureImage, NameLine.NameLine}, Map.MethodLine}
 
 -- the count of a pair of a table and its rows
 abbrev pub count_entry : ℕ × ℕ → Count
 count_entry e = record { table = e.0; rows = e.1 }
 
 -- what `row` lines are ordered by
-abbrev pub row_key : RowImage → ℕ × ℕ
+abbrev pub row_key : RowLine → ℕ × ℕ
 row_key row = (row.table, row.old)
 
 -- the slot line of a pair of a method and a slot, and the new slot

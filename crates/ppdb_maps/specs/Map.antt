@@ -2,7 +2,7 @@
 use Rattle.std.specs.{Prelude.{ℕ, ◌&&◌, Bool, cond, nat_eq, bytes_eq, List, Option, Some, None, unwrap_or, filter, map, find, option_map}, List.list_any, List.Sorted.IsStrictlySortedBy}
 use Rattle.std.specs.{Ordering.{nat_cmp, ordering_then}, Cmp.Lexicographic.slice_cmp, declared.cmp.Ordering.Ordering}
 use Rattle.ppdb_base.specs.{declared.offsets.Run.Run, Offsets.{Offsets, every, gone, lined}}
-use Rattle.ppdb_maps.specs.declared.entries.{Count.Count, RowImage.RowImage, SlotImage.SlotImage, SignatureImage.SignatureImage, NameLine.NameLine}
+use Rattle.ppdb_maps.specs.declared.entries.{Count.Count, RowLine.RowLine, SlotImage.SlotImage, SignatureImage.SignatureImage, NameLine.NameLine}
 
 -- a method's IL sizes and the runs of its kept offsets
 pub record MethodLine : Type 0 where
@@ -14,7 +14,7 @@ pub record MethodLine : Type 0 where
 -- a map
 pub record Map : Type 0 where
   pub counts : List Count
-  pub rows : List RowImage
+  pub rows : List RowLine
   pub methods : List MethodLine
   pub drops : List ℕ
   pub slotted : List ℕ
@@ -24,7 +24,7 @@ pub record Map : Type 0 where
   pub link : Option (List ℕ)
 
 -- the map of these lists
-abbrev pub map_of : List Count → List RowImage → List MethodLine → List ℕ → List ℕ → List SlotImage → List SignatureImage → List NameLine
+abbrev pub map_of : List Count → List RowLine → List MethodLine → List ℕ → List ℕ → List SlotImage → List SignatureImage → List NameLine
     → Option (List ℕ) → Map
 map_of counts rows methods drops slotted slots signatures documents link = record {
   counts = counts;
@@ -45,7 +45,7 @@ pair_cmp x y = ordering_then (nat_cmp x.0 y.0) (nat_cmp x.1 y.1)
 -- each list strictly ascends by what it is asked for
 pub record Ascends (said : Map) : Type 0 where
   pub counts : IsStrictlySortedBy nat_cmp (map (λ (c : Count). c.table) said.counts)
-  pub rows : IsStrictlySortedBy pair_cmp (map (λ (r : RowImage). (r.table, r.old)) said.rows)
+  pub rows : IsStrictlySortedBy pair_cmp (map (λ (r : RowLine). (r.table, r.old)) said.rows)
   pub methods : IsStrictlySortedBy nat_cmp (map (λ (m : MethodLine). m.method) said.methods)
   pub drops : IsStrictlySortedBy nat_cmp said.drops
   pub slotted : IsStrictlySortedBy nat_cmp said.slotted
@@ -59,7 +59,7 @@ count_of said table = option_map (λ (c : Count). c.rows) (find (λ c. nat_eq c.
 
 -- the NEW of the row's line
 abbrev pub row_line : Map → ℕ → ℕ → Option ℕ
-row_line said table old = option_map (λ (r : RowImage). r.new) (find (λ r. nat_eq r.table table && nat_eq r.old old) said.rows)
+row_line said table old = option_map (λ (r : RowLine). r.new) (find (λ r. nat_eq r.table table && nat_eq r.old old) said.rows)
 
 -- the method's line with its runs
 abbrev pub method_line : Map → ℕ → Option MethodLine
@@ -89,14 +89,14 @@ abbrev pub moved_name : Map → List ℕ → List ℕ
 moved_name said name = unwrap_or (document_line said name) name
 
 -- the image of a row: none for a dropped method; the row itself where the table has no `rows` line; else that of its line
-abbrev pub row_image : Map → ℕ → ℕ → Option ℕ
-row_image said table old =
+abbrev pub row_within : Map → ℕ → ℕ → Option ℕ
+row_within said table old =
     cond (nat_eq table 0x06 && is_dropped said old) None
     (elim (count_of said table) as (λ _. Option ℕ) [ None ↦ Some old | Some count ↦ row_line said table old ])
 
 -- the image of a row, where 0 is no row: 0 of 0, and 0 where the row has no image
 abbrev pub moved_row : Map → ℕ → ℕ → ℕ
-moved_row said table old = cond (nat_eq old 0) 0 (unwrap_or (row_image said table old) 0)
+moved_row said table old = cond (nat_eq old 0) 0 (unwrap_or (row_within said table old) 0)
 
 -- the local signature of a method (a row of StandAloneSig, ECMA-335 II.22.36, 0 for none), where the input has the row `stored`: the NEW
 -- of its `signature` line, else the image of that row, and 0 where there is none
@@ -121,7 +121,7 @@ abbrev pub output_count : Map → ℕ → ℕ → ℕ
 output_count said table rows = unwrap_or (count_of said table) rows
 
 -- the `row` lines of a table, and the `slot` lines of a method
-abbrev pub rows_of : Map → ℕ → List RowImage
+abbrev pub rows_of : Map → ℕ → List RowLine
 rows_of said table = filter (λ r. nat_eq r.table table) said.rows
 
 abbrev pub slots_of : Map → ℕ → List SlotImage

@@ -1,7 +1,7 @@
 -- What reading promises of every map, and that a text has one map or one refused line (docs/FORMAT.md, "Map texts").
 use Rattle.std.specs.{Prelude.{◌≡◌, ℕ, ◌≤◌, false, IfSome, IsSome, IsTrue, List}, List.AllByRecursion}
 use Rattle.ppdb_base.specs.Offsets.{Rise, lined}
-use Rattle.ppdb_maps.specs.{declared.entries.{Count.Count, RowImage.RowImage, SlotImage.SlotImage, SignatureImage.SignatureImage, NameLine.NameLine}, Forms.{AreBytes, ROWS, OFFSETS, SLOTS}}
+use Rattle.ppdb_maps.specs.{declared.entries.{Count.Count, RowLine.RowLine, SlotImage.SlotImage, SignatureImage.SignatureImage, NameLine.NameLine}, Forms.{AreBytes, ROWS, OFFSETS, SLOTS}}
 use Rattle.ppdb_maps.specs.{Map.{Map, MethodLine, Ascends, count_of, is_dropped, has_slots}, Text.{IsMapOf, Refused}}
 
 -- the number of a row that is there
@@ -13,7 +13,7 @@ abbrev pub IsCount : Count → Type 0
 IsCount count = (count.table ≤ 0x2c) × (count.rows ≤ ROWS)
 
 -- a row and its image; its table has a count, and the row is no dropped method
-abbrev pub IsRowOf : Map → RowImage → Type 0
+abbrev pub IsRowOf : Map → RowLine → Type 0
 IsRowOf m row = IsRow row.old × IsRow row.new × IsSome (count_of m row.table) × (row.table ≡ 0x06 → is_dropped m row.old ≡ false)
 
 -- a method that is not dropped, its sizes, and runs that rise within them

@@ -2,10 +2,10 @@
 -- the offsets 4 to 7 go, six bytes stand in their place, and two more at the end.
 use Rattle.std.specs.{Prelude.{ℕ, ◌+◌, ◌-◌, List, [], ◌∷◌, None, map}, List.range_with_len}
 use Rattle.ppdb_base.specs.declared.offsets.Run.{Run}
-use Rattle.ppdb_maps.specs.{Map.{Map, MethodLine}, declared.entries.RowImage.RowImage}
+use Rattle.ppdb_maps.specs.{Map.{Map, MethodLine}, declared.entries.RowLine.RowLine}
 
 -- the method i of n becomes the method n + 1 - i
-abbrev pub sample_row : ℕ → ℕ → RowImage
+abbrev pub sample_row : ℕ → ℕ → RowLine
 sample_row n i = record { table = 0x06; old = i; new = n + 1 - i }
 
 -- the offsets 0 to 3 and 8 to 15 are kept

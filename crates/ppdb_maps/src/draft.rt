@@ -9,7 +9,7 @@ ghost use Rattle.ppdb_maps.specs.Drafts.{Holds, IsClosed, IsAdded, IsAddedTo, Ha
 ghost use Rattle.ppdb_maps.specs.Rules.{IsNamed};
 
 use crate::bit_set::{BitSet, RowSet};
-use crate::entries::{NameLine, RowImage, SignatureImage};
+use crate::entries::{NameLine, RowLine, SignatureImage};
 use crate::finish::{
     counts_of, documents_of, methods_in_order, numbers_of, rows_in_order, signatures_in_order,
     slots_of,
@@ -28,7 +28,7 @@ use std::collections::{BTreeMap, BTreeSet};
 pub struct Draft {
     counts: BTreeMap<u8, u32>,
     /// In the order of their lines.
-    rows: Vec<RowImage>,
+    rows: Vec<RowLine>,
     moved: RowSet,
     /// In the order of their lines.
     methods: Vec<Method>,
@@ -104,7 +104,7 @@ impl Draft {
             return Err(Refusal::Breaks(Rule::NamesDropped));
         }
         self.moved.insert(alloc, table, old)?;
-        self.rows.push(RowImage { table, old, new })?;
+        self.rows.push(RowLine { table, old, new })?;
         Ok(())
     }
 

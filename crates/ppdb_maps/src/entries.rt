@@ -10,7 +10,7 @@ pub struct Count {
 
 /// The image of a row of a table.
 #[derive(Clone, Copy)]
-pub struct RowImage {
+pub struct RowLine {
     pub table: u8,
     pub old: u32,
     pub new: u32,

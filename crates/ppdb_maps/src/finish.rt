@@ -7,7 +7,7 @@ ghost use Rattle.ppdb_maps.specs.Map.{pair_cmp};
 ghost use Rattle.ppdb_maps.specs.Gathered.{count_entry, row_key, method_key, signature_key, slot_entry, name_entry, name_cmp};
 ghost use Rattle.std.specs.List.Sorted.{IsPermutation, IsSortedByKey};
 
-use crate::entries::{Count, NameLine, RowImage, SignatureImage, SlotImage};
+use crate::entries::{Count, NameLine, RowLine, SignatureImage, SlotImage};
 use crate::method::Method;
 use ppdb_base::Bytes;
 use std::alloc::{AllocError, Global};
@@ -24,7 +24,7 @@ pub fn counts_of(alloc: Global, counts: BTreeMap<u8, u32>) -> Result<Vec<Count>,
 }
 
 /// Rows in ascending order of their tables and numbers.
-pub fn rows_in_order(mut rows: Vec<RowImage>) -> Result<Vec<RowImage>, AllocError>
+pub fn rows_in_order(mut rows: Vec<RowLine>) -> Result<Vec<RowLine>, AllocError>
     ensures moved { IfOk result (λ v. IsPermutation rows.items v.items) }
     ensures sorted { IfOk result (λ v. IsSortedByKey row_key pair_cmp v.items) }
 {

@@ -1,16 +1,16 @@
 // The map that a text has.
 ghost use Rattle.std.specs.Prelude.{◌≡◌, ℕ, List, [], None, option_copied, slice_get, option_map};
-ghost use Rattle.ppdb_maps.specs.Map.{MethodLine, map_of, count_of, output_count, row_line, row_image, moved_row};
+ghost use Rattle.ppdb_maps.specs.Map.{MethodLine, map_of, count_of, output_count, row_line, row_within, moved_row};
 ghost use Rattle.ppdb_maps.specs.Map.{is_dropped, has_slots, slot_line, slot_image, offsets_in, rows_of, slots_of};
 ghost use Rattle.ppdb_maps.specs.Map.{signature_line, moved_signature, document_line, moved_name};
 ghost use Rattle.ppdb_maps.specs.Readable.{IsReadable};
 ghost use Rattle.ppdb_maps.specs.declared.entries.NameLine.{NameLine};
-ghost use Rattle.ppdb_maps.specs.declared.entries.RowImage.{RowImage};
+ghost use Rattle.ppdb_maps.specs.declared.entries.RowLine.{RowLine};
 ghost use Rattle.ppdb_maps.specs.declared.entries.SignatureImage.{SignatureImage};
 ghost use Rattle.ppdb_maps.specs.declared.entries.SlotImage.{SlotImage};
 ghost use Rattle.ppdb_maps.specs.Says.{offsets_of};
 
-use crate::entries::{Count, NameLine, RowImage, SignatureImage, SlotImage};
+use crate::entries::{Count, NameLine, RowLine, SignatureImage, SlotImage};
 use crate::method::Method;
 use crate::method_map::MethodMap;
 use crate::search::{
@@ -26,7 +26,7 @@ use std::marker::Model;
 #[derive(Drop)]
 pub struct MapText {
     counts: Vec<Count>,
-    rows: Vec<RowImage>,
+    rows: Vec<RowLine>,
     /// Where the rows of each table begin among them.
     starts: Starts,
     methods: Vec<Method>,
@@ -73,7 +73,7 @@ impl MapText {
     /// The map of lists that are in order, in range, and fit together.
     pub fn new(
         counts: Vec<Count>,
-        rows: Vec<RowImage>,
+        rows: Vec<RowLine>,
         methods: Vec<Method>,
         drops: Vec<u32>,
         slotted: Vec<u32>,
@@ -134,7 +134,7 @@ impl MapText {
     /// The image of a row: none for a dropped method; the row itself where its table has no `rows`
     /// line, else the image that its `row` line names.
     pub fn row(&self, table: u8, old: u32) -> Option<u32>
-        ensures { result ≡ row_image self.now table old }
+        ensures { result ≡ row_within self.now table old }
     {
         if table == 0x06 && self.dropped(old) {
             return None;
@@ -271,7 +271,7 @@ impl MapText {
     /// The rows of a table with a `row` line and their images, in ascending order; none past the
     /// last.
     pub fn row_line(&self, table: u8, index: u32) -> Option<(u32, u32)>
-        ensures { result ≡ option_map (λ (r : RowImage). (r.old, r.new)) (slice_get (rows_of self.now table) index) }
+        ensures { result ≡ option_map (λ (r : RowLine). (r.old, r.new)) (slice_get (rows_of self.now table) index) }
     {
         nth_row(self.rows.as_slice(), table, index).map(|row| (row.old, row.new))
     }

@@ -2,7 +2,7 @@
 ghost use Rattle.std.specs.Prelude.{◌≡◌, ◌≤◌, IfOk};
 ghost use Rattle.ppdb_maps.specs.Sample.{sample_method, sample_runs, sample_map_of};
 
-use crate::entries::{Count, RowImage};
+use crate::entries::{Count, RowLine};
 use crate::map_text::MapText;
 use crate::method::Method;
 use ppdb_base::{List, Memory, Run};
@@ -48,7 +48,7 @@ pub fn sample_map(alloc: Global, n: u32) -> Result<MapText, Memory>
     let mut rows = Vec::new(alloc);
     let mut methods = Vec::new(alloc);
     for before in 0..n {
-        rows.push(RowImage {
+        rows.push(RowLine {
             table: 0x06,
             old: before + 1,
             new: n - before,

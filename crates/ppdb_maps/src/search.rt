@@ -7,13 +7,13 @@ ghost use Rattle.std.specs.Ordering.{nat_cmp};
 ghost use Rattle.std.specs.Cmp.Lexicographic.{slice_cmp};
 ghost use Rattle.ppdb_maps.specs.declared.entries.Count.{Count};
 ghost use Rattle.ppdb_maps.specs.declared.entries.NameLine.{NameLine};
-ghost use Rattle.ppdb_maps.specs.declared.entries.RowImage.{RowImage};
+ghost use Rattle.ppdb_maps.specs.declared.entries.RowLine.{RowLine};
 ghost use Rattle.ppdb_maps.specs.declared.entries.SignatureImage.{SignatureImage};
 ghost use Rattle.ppdb_maps.specs.declared.entries.SlotImage.{SlotImage};
 ghost use Rattle.ppdb_maps.specs.Map.{MethodLine, pair_cmp};
 ghost use Rattle.ppdb_maps.specs.Search.{FindsBy, CountsBy};
 
-use crate::entries::{Count, NameLine, RowImage, SignatureImage, SlotImage};
+use crate::entries::{Count, NameLine, RowLine, SignatureImage, SlotImage};
 use crate::method::Method;
 
 /// The item that is `at` a key, where all items before it are `before` the key.
@@ -65,8 +65,8 @@ pub fn count_at(counts: &[Count], table: u8) -> Option<&Count>
 }
 
 /// The image of a row.
-pub fn row_at(rows: &[RowImage], table: u8, old: u32) -> Option<&RowImage>
-    requires { IsStrictlySortedBy pair_cmp (map (λ (r : RowImage). (r.table, r.old)) rows.now) }
+pub fn row_at(rows: &[RowLine], table: u8, old: u32) -> Option<&RowLine>
+    requires { IsStrictlySortedBy pair_cmp (map (λ (r : RowLine). (r.table, r.old)) rows.now) }
     ensures { option_copied result ≡ find (λ r. nat_eq r.table table && nat_eq r.old old) rows.now }
 {
     find_by(
@@ -77,8 +77,8 @@ pub fn row_at(rows: &[RowImage], table: u8, old: u32) -> Option<&RowImage>
 }
 
 /// The image of a row, which often has this index.
-pub fn row_near(rows: &[RowImage], table: u8, old: u32, index: usize) -> Option<&RowImage>
-    requires { IsStrictlySortedBy pair_cmp (map (λ (r : RowImage). (r.table, r.old)) rows.now) }
+pub fn row_near(rows: &[RowLine], table: u8, old: u32, index: usize) -> Option<&RowLine>
+    requires { IsStrictlySortedBy pair_cmp (map (λ (r : RowLine). (r.table, r.old)) rows.now) }
     ensures { option_copied result ≡ find (λ r. nat_eq r.table table && nat_eq r.old old) rows.now }
 {
     match rows.get(index) {
@@ -144,8 +144,8 @@ pub fn has_number(numbers: &[u32], number: u32) -> bool
 }
 
 /// The image of a row of the table, by its index among those of the table.
-pub fn nth_row(rows: &[RowImage], table: u8, index: u32) -> Option<&RowImage>
-    requires { IsStrictlySortedBy pair_cmp (map (λ (r : RowImage). (r.table, r.old)) rows.now) }
+pub fn nth_row(rows: &[RowLine], table: u8, index: u32) -> Option<&RowLine>
+    requires { IsStrictlySortedBy pair_cmp (map (λ (r : RowLine). (r.table, r.old)) rows.now) }
     ensures { option_copied result ≡ slice_get (filter (λ r. nat_eq r.table table) rows.now) index }
 {
     nth_by(

@@ -1,5 +1,5 @@
 // Where the rows of a table are likely to be.
-use crate::entries::RowImage;
+use crate::entries::RowLine;
 
 /// Where the rows of each table begin in a list that is in order. No clause speaks of it: whoever looks there sees whether the row is
 /// there.
@@ -15,7 +15,7 @@ impl Starts {
     }
 
     /// Those of the rows.
-    pub fn of(rows: &[RowImage]) -> Starts {
+    pub fn of(rows: &[RowLine]) -> Starts {
         let mut starts = [0; 45];
         for table in 0..45 {
             let start = rows.partition_point(|row| (row.table as usize) < table);

@@ -9,7 +9,7 @@ use Rattle.std.proofs.lemmas.Bool.{false≢true}
 use Rattle.std.proofs.lemmas.Cmp.{nat_cmp_total}
 use Rattle.std.proofs.lemmas.List.{append_assoc}
 use Rattle.ppdb_maps.specs.declared.entries.Count.{Count}
-use Rattle.ppdb_maps.specs.declared.entries.RowImage.{RowImage}
+use Rattle.ppdb_maps.specs.declared.entries.RowLine.{RowLine}
 use Rattle.ppdb_maps.specs.declared.entries.SlotImage.{SlotImage}
 use Rattle.ppdb_maps.specs.declared.entries.SignatureImage.{SignatureImage}
 use Rattle.ppdb_maps.specs.declared.entries.NameLine.{NameLine}
@@ -36,7 +36,7 @@ use Rattle.ppdb_maps_text.proofs.Words.{IsPlain}
 abbrev pub version_of : Map → ℕ
 version_of m = version_with m.signatures m.documents m.link
 
-pub record Got (m : Map) (texts : List (List ℕ)) (after : List Line) (cs : List Count) (rs : List RowImage) (ds ss : List ℕ) (sl : List SlotImage)
+pub record Got (m : Map) (texts : List (List ℕ)) (after : List Line) (cs : List Count) (rs : List RowLine) (ds ss : List ℕ) (sl : List SlotImage)
     (sg : List SignatureImage) (ns : List NameLine) (Rest : List Line → Type 0) : Type 0 where
   pub said : List Line
   pub prefix : List (List ℕ)
@@ -44,7 +44,7 @@ pub record Got (m : Map) (texts : List (List ℕ)) (after : List Line) (cs : Lis
   pub plain : AllByRecursion IsPlain prefix
   pub whole : prefix ++ map line_text after ≡ texts
   pub counts : Ahead (λ (c : Count). c.table) (λ (c : Count). c.rows) nat_eq nat_cmp (λ t. count_in said t) cs (λ t. count_of m t)
-  pub rows : Ahead (λ (r : RowImage). (r.table, r.old)) (λ (r : RowImage). r.new) same_pair pair_cmp (λ k. row_in said k.0 k.1) rs
+  pub rows : Ahead (λ (r : RowLine). (r.table, r.old)) (λ (r : RowLine). r.new) same_pair pair_cmp (λ k. row_in said k.0 k.1) rs
       (λ k. row_line m k.0 k.1)
   pub drops : AheadOf (λ n. drop_in said n) ds (λ n. is_dropped m n)
   pub slotted : AheadOf (λ n. slots_in said n) ss (λ n. has_slots m n)
@@ -126,7 +126,7 @@ module _ (m : Map) (texts : List (List ℕ)) where
   abbrev version : ℕ
   version = version_of m
 
-  pub add_count : (after : List Line) (c : Count) (cs : List Count) (rs : List RowImage) (ds ss : List ℕ) (sl : List SlotImage)
+  pub add_count : (after : List Line) (c : Count) (cs : List Count) (rs : List RowLine) (ds ss : List ℕ) (sl : List SlotImage)
       (sg : List SignatureImage) (ns : List NameLine) → IsCount c
       → Got m texts (Rows c.table c.rows ∷ after) (c ∷ cs) rs ds ss sl sg ns NoMethods → Got m texts after cs rs ds ss sl sg ns NoMethods
   add_count after c cs rs ds ss sl sg ns is g =
@@ -152,13 +152,13 @@ module _ (m : Map) (texts : List (List ℕ)) where
         rest = g.rest;
       }
 
-  pub add_row : (after : List Line) (r : RowImage) (cs : List Count) (rs : List RowImage) (ds ss : List ℕ) (sl : List SlotImage)
+  pub add_row : (after : List Line) (r : RowLine) (cs : List Count) (rs : List RowLine) (ds ss : List ℕ) (sl : List SlotImage)
       (sg : List SignatureImage) (ns : List NameLine) → r.table ≤ 0x2c
       → IsRowOf m r → AllByRecursion (λ y. nat_cmp r.table y ≡ Less) (map (λ (c : Count). c.table) cs)
       → Got m texts (row_says r ∷ after) cs (r ∷ rs) ds ss sl sg ns NoMethods → Got m texts after cs rs ds ss sl sg ns NoMethods
   add_row after r cs rs ds ss sl sg ns known is below g =
-      let key : RowImage → ℕ × ℕ = λ r. (r.table, r.old) in
-      let new = not_yet key (λ (r : RowImage). r.new) same_pair pair_cmp pair_is pair_total (λ k. row_in g.said k.0 k.1) r rs
+      let key : RowLine → ℕ × ℕ = λ r. (r.table, r.old) in
+      let new = not_yet key (λ (r : RowLine). r.new) same_pair pair_cmp pair_is pair_total (λ k. row_in g.said k.0 k.1) r rs
       (λ k. row_line m k.0 k.1) g.rows in
       let none = none_ahead (λ (c : Count). c.table) (λ (c : Count). c.rows) nat_eq nat_cmp same_number nat_cmp_total r.table cs below in
       let there = before (λ (c : Count). c.table) (λ (c : Count). c.rows) nat_eq nat_cmp same_number nat_cmp_total (λ t. count_in g.said t) cs
@@ -174,7 +174,7 @@ module _ (m : Map) (texts : List (List ℕ)) where
         plain = next.1;
         whole = next.2;
         counts = g.counts;
-        rows = steps key (λ (r : RowImage). r.new) same_pair pair_cmp pair_is pair_total (λ k. row_in g.said k.0 k.1) r rs (λ k. row_line m k.0 k.1) g.rows;
+        rows = steps key (λ (r : RowLine). r.new) same_pair pair_cmp pair_is pair_total (λ k. row_in g.said k.0 k.1) r rs (λ k. row_line m k.0 k.1) g.rows;
         drops = g.drops;
         slotted = g.slotted;
         slots = g.slots;
@@ -184,14 +184,14 @@ module _ (m : Map) (texts : List (List ℕ)) where
         rest = g.rest;
       }
 
-  pub add_drop : (after : List Line) (d : ℕ) (cs : List Count) (rs : List RowImage) (ds ss : List ℕ) (sl : List SlotImage)
+  pub add_drop : (after : List Line) (d : ℕ) (cs : List Count) (rs : List RowLine) (ds ss : List ℕ) (sl : List SlotImage)
       (sg : List SignatureImage) (ns : List NameLine) → IsRow d
       → is_some (row_line m 0x06 d) ≡ false → has_slots m d ≡ false → is_some (signature_line m d) ≡ false
       → Got m texts (Dropped d ∷ after) cs rs (d ∷ ds) ss sl sg ns NoMethods
       → Got m texts after cs rs ds ss sl sg ns NoMethods
   add_drop after d cs rs ds ss sl sg ns is unmoved unslotted unsigned g =
       let new = not_yet_of (λ n. drop_in g.said n) d ds (λ n. is_dropped m n) g.drops in
-      let row = not_before (λ (r : RowImage). (r.table, r.old)) (λ (r : RowImage). r.new) same_pair pair_cmp pair_is pair_total
+      let row = not_before (λ (r : RowLine). (r.table, r.old)) (λ (r : RowLine). r.new) same_pair pair_cmp pair_is pair_total
       (λ k. row_in g.said k.0 k.1) rs (λ k. row_line m k.0 k.1) g.rows (0x06, d) unmoved in
       let slots = not_before_of (λ n. slots_in g.said n) ss (λ n. has_slots m n) g.slotted d unslotted in
       let signature = not_before (λ (s : SignatureImage). s.method) (λ (s : SignatureImage). s.new) nat_eq nat_cmp same_number nat_cmp_total
@@ -217,7 +217,7 @@ module _ (m : Map) (texts : List (List ℕ)) where
         rest = g.rest;
       }
 
-  pub add_slots : (after : List Line) (s : ℕ) (cs : List Count) (rs : List RowImage) (ds ss : List ℕ) (sl : List SlotImage)
+  pub add_slots : (after : List Line) (s : ℕ) (cs : List Count) (rs : List RowLine) (ds ss : List ℕ) (sl : List SlotImage)
       (sg : List SignatureImage) (ns : List NameLine) → IsSlottedOf m s
       → Got m texts (Slots s ∷ after) cs rs ds (s ∷ ss) sl sg ns NoMethods → Got m texts after cs rs ds ss sl sg ns NoMethods
   add_slots after s cs rs ds ss sl sg ns is g =
@@ -242,7 +242,7 @@ module _ (m : Map) (texts : List (List ℕ)) where
         rest = g.rest;
       }
 
-  pub add_slot : (after : List Line) (s : SlotImage) (cs : List Count) (rs : List RowImage) (ds ss : List ℕ) (sl : List SlotImage)
+  pub add_slot : (after : List Line) (s : SlotImage) (cs : List Count) (rs : List RowLine) (ds ss : List ℕ) (sl : List SlotImage)
       (sg : List SignatureImage) (ns : List NameLine) → IsRow s.method
       → IsSlotOf m s → AllByRecursion (λ y. nat_cmp s.method y ≡ Less) ss → Got m texts (slot_says s ∷ after) cs rs ds ss (s ∷ sl) sg ns NoMethods
       → Got m texts after cs rs ds ss sl sg ns NoMethods
@@ -272,7 +272,7 @@ module _ (m : Map) (texts : List (List ℕ)) where
         rest = g.rest;
       }
 
-  pub add_signature : (after : List Line) (s : SignatureImage) (cs : List Count) (rs : List RowImage) (ds ss : List ℕ) (sl : List SlotImage)
+  pub add_signature : (after : List Line) (s : SignatureImage) (cs : List Count) (rs : List RowLine) (ds ss : List ℕ) (sl : List SlotImage)
       (sg : List SignatureImage) (ns : List NameLine) → IsSignatureOf m s → 4 ≤ version_of m → Got m texts (signature_says s ∷ after) cs rs ds ss sl (s ∷ sg) ns NoMethods
       → Got m texts after cs rs ds ss sl sg ns NoMethods
   add_signature after s cs rs ds ss sl sg ns is newer g =
@@ -299,7 +299,7 @@ module _ (m : Map) (texts : List (List ℕ)) where
         rest = g.rest;
       }
 
-  pub add_document : (after : List Line) (d : NameLine) (cs : List Count) (rs : List RowImage) (ds ss : List ℕ) (sl : List SlotImage)
+  pub add_document : (after : List Line) (d : NameLine) (cs : List Count) (rs : List RowLine) (ds ss : List ℕ) (sl : List SlotImage)
       (sg : List SignatureImage) (ns : List NameLine) → AreNames d → 4 ≤ version_of m → Got m texts (Document d ∷ after) cs rs ds ss sl sg (d ∷ ns) NoMethods
       → Got m texts after cs rs ds ss sl sg ns NoMethods
   add_document after d cs rs ds ss sl sg ns is newer g =

@@ -9,7 +9,7 @@ use Rattle.std.proofs.lemmas.Cmp.{nat_cmp_total}
 use Rattle.std.proofs.lemmas.Map.Lookups.{exact_unsigned, exact_bytes}
 use Rattle.ppdb_base.specs.declared.offsets.Run.{Run}
 use Rattle.ppdb_maps.specs.declared.entries.Count.{Count}
-use Rattle.ppdb_maps.specs.declared.entries.RowImage.{RowImage}
+use Rattle.ppdb_maps.specs.declared.entries.RowLine.{RowLine}
 use Rattle.ppdb_maps.specs.declared.entries.SlotImage.{SlotImage}
 use Rattle.ppdb_maps.specs.declared.entries.SignatureImage.{SignatureImage}
 use Rattle.ppdb_maps.specs.declared.entries.NameLine.{NameLine}
@@ -28,7 +28,7 @@ use Rattle.ppdb_maps_text.proofs.Entries.{put, put_found, put_rises, any_found}
 abbrev table_of : Count → ℕ
 table_of count = count.table
 
-abbrev row_of : RowImage → ℕ × ℕ
+abbrev row_of : RowLine → ℕ × ℕ
 row_of row = (row.table, row.old)
 
 abbrev method_of : MethodLine → ℕ
@@ -49,7 +49,7 @@ itself n = n
 abbrev with_count : Count → List Count → List Count
 with_count x xs = put table_of nat_eq nat_cmp same_number nat_cmp_total exact_unsigned x xs
 
-abbrev with_row : RowImage → List RowImage → List RowImage
+abbrev with_row : RowLine → List RowLine → List RowLine
 with_row x xs = put row_of same_pair pair_cmp pair_is pair_total pair_exact x xs
 
 abbrev with_line : MethodLine → List MethodLine → List MethodLine
@@ -156,9 +156,9 @@ row_held : (said : List Line) (m : Map) (t o n : ℕ) → HoldsWhat said m
 row_held said m t o n h = record {
   counts = h.counts;
   rows = λ table old.
-      ap (option_map (λ (r : RowImage). r.new))
+      ap (option_map (λ (r : RowLine). r.new))
       (put_found row_of same_pair pair_cmp pair_is pair_total pair_exact (table, old) (record { table = t; old = o; new = n }) m.rows)
-      ∙ said_found (λ (r : RowImage). r.new) (same_pair (t, o) (table, old)) (record { table = t; old = o; new = n })
+      ∙ said_found (λ (r : RowLine). r.new) (same_pair (t, o) (table, old)) (record { table = t; old = o; new = n })
       (find (λ r. same_pair (row_of r) (table, old)) m.rows) _ (h.rows table old);
   methods = h.methods;
   drops = h.drops;

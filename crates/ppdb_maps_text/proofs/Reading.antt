@@ -11,7 +11,7 @@ use Rattle.std.proofs.lemmas.Bool.{false≢true, eqb-true, and_parts}
 use Rattle.std.proofs.lemmas.Cmp.{nat_cmp_total}
 use Rattle.std.proofs.lemmas.List.{append_assoc, append-nil}
 use Rattle.ppdb_maps.specs.declared.entries.Count.{Count}
-use Rattle.ppdb_maps.specs.declared.entries.RowImage.{RowImage}
+use Rattle.ppdb_maps.specs.declared.entries.RowLine.{RowLine}
 use Rattle.ppdb_maps.specs.declared.entries.SlotImage.{SlotImage}
 use Rattle.ppdb_maps.specs.declared.entries.SignatureImage.{SignatureImage}
 use Rattle.ppdb_maps.specs.declared.entries.NameLine.{NameLine}
@@ -53,13 +53,13 @@ map_itself (x ∷ xs) = ap (λ l. x ∷ l) (map_itself xs)
 
 -- no row of a dropped method has an image
 dropped_unmoved : (m : Map) → IsReadable m → (d : ℕ) → is_dropped m d ≡ true → is_some (row_line m 0x06 d) ≡ false
-dropped_unmoved m is d dropped = of (find (λ (r : RowImage). nat_eq r.table 0x06 && nat_eq r.old d) m.rows) refl
+dropped_unmoved m is d dropped = of (find (λ (r : RowLine). nat_eq r.table 0x06 && nat_eq r.old d) m.rows) refl
   where
-    of : (o : Option RowImage) → find (λ (r : RowImage). nat_eq r.table 0x06 && nat_eq r.old d) m.rows ≡ o
-        → is_some (option_map (λ (r : RowImage). r.new) o) ≡ false
+    of : (o : Option RowLine) → find (λ (r : RowLine). nat_eq r.table 0x06 && nat_eq r.old d) m.rows ≡ o
+        → is_some (option_map (λ (r : RowLine). r.new) o) ≡ false
     of None e = refl
     of (Some r) e =
-        let h = of_found (IsRowOf m) (λ (r : RowImage). nat_eq r.table 0x06 && nat_eq r.old d) m.rows r is.rows e in
+        let h = of_found (IsRowOf m) (λ (r : RowLine). nat_eq r.table 0x06 && nat_eq r.old d) m.rows r is.rows e in
         let parts = and_parts (nat_eq r.table 0x06) (nat_eq r.old d) h.1 in
         let no : is_dropped m r.old ≡ false = h.0.3 (eqb-true r.table 0x06 parts.0) in
         absurd (false≢true (sym (subst (λ n. is_dropped m n ≡ false) (eqb-true r.old d parts.1) no) ∙ dropped))
@@ -84,8 +84,8 @@ dropped_unsigned m is d dropped = of (find (λ (s : SignatureImage). nat_eq s.me
         absurd (false≢true (sym (subst (λ n. is_dropped m n ≡ false) (eqb-true s.method d h.1) h.0.2) ∙ dropped))
 
 module _ (m : Map) (texts : List (List ℕ)) (is : IsReadable m) where
-  add_rows : (after : List Line) (t : ℕ) (rows rs : List RowImage) (cs : List Count) (ds ss : List ℕ) (sl : List SlotImage) → t ≤ 0x2c
-      → AllByRecursion (λ (r : RowImage). IsRowOf m r × (nat_eq r.table t ≡ true)) rows
+  add_rows : (after : List Line) (t : ℕ) (rows rs : List RowLine) (cs : List Count) (ds ss : List ℕ) (sl : List SlotImage) → t ≤ 0x2c
+      → AllByRecursion (λ (r : RowLine). IsRowOf m r × (nat_eq r.table t ≡ true)) rows
       → AllByRecursion (λ y. nat_cmp t y ≡ Less) (map (λ (c : Count). c.table) cs)
       → Got m texts (map row_says rows ++ after) cs (rows ++ rs) ds ss sl m.signatures m.documents NoMethods
       → Got m texts after cs rs ds ss sl m.signatures m.documents NoMethods
@@ -101,7 +101,7 @@ module _ (m : Map) (texts : List (List ℕ)) (is : IsReadable m) where
       → Got m texts after [] [] ds ss sl m.signatures m.documents NoMethods
   add_counts after [] ds ss sl all g = g
   add_counts after (c ∷ cs) ds ss sl all g =
-      let rest : List RowImage = flat_map (λ (c : Count). rows_of m c.table) cs in
+      let rest : List RowLine = flat_map (λ (c : Count). rows_of m c.table) cs in
       let below = first_below c cs g.counts.sorted in
       let regot : Got m texts (Rows c.table c.rows ∷ (map row_says (rows_of m c.table) ++ (flat_map (count_says m) cs ++ after))) (c ∷ cs)
       (rows_of m c.table ++ rest) ds ss sl m.signatures m.documents NoMethods =
@@ -109,7 +109,7 @@ module _ (m : Map) (texts : List (List ℕ)) (is : IsReadable m) where
       (append_assoc (count_says m c) (flat_map (count_says m) cs) after) g in
       add_counts after cs ds ss sl all.1
       (add_rows (flat_map (count_says m) cs ++ after) c.table (rows_of m c.table) rest cs ds ss sl all.0.0
-      (of_passed (IsRowOf m) (λ (r : RowImage). nat_eq r.table c.table) m.rows is.rows) below
+      (of_passed (IsRowOf m) (λ (r : RowLine). nat_eq r.table c.table) m.rows is.rows) below
       (add_count m texts (map row_says (rows_of m c.table) ++ (flat_map (count_says m) cs ++ after)) c cs (rows_of m c.table ++ rest) ds ss sl
       m.signatures m.documents all.0 regot))
 
@@ -202,7 +202,7 @@ nothing_read m is = of m.link refl is.link
       plain = tt;
       whole = ap (λ l. map line_text (link_says l ++ tables_say m)) (sym e);
       counts = starts (λ (c : Count). c.table) (λ (c : Count). c.rows) nat_eq nat_cmp same_number nat_cmp_total m.counts is.ascends.counts;
-      rows = starts (λ (r : RowImage). (r.table, r.old)) (λ (r : RowImage). r.new) same_pair pair_cmp pair_is pair_total m.rows is.ascends.rows;
+      rows = starts (λ (r : RowLine). (r.table, r.old)) (λ (r : RowLine). r.new) same_pair pair_cmp pair_is pair_total m.rows is.ascends.rows;
       drops = starts_of m.drops is.ascends.drops;
       slotted = starts_of m.slotted is.ascends.slotted;
       slots = starts (λ (s : SlotImage). (s.method, s.old)) (λ (s : SlotImage). s.new) same_pair pair_cmp pair_is pair_total m.slots is.ascends.slots;
@@ -223,7 +223,7 @@ nothing_read m is = of m.link refl is.link
           plain = next.1;
           whole = next.2;
           counts = starts (λ (c : Count). c.table) (λ (c : Count). c.rows) nat_eq nat_cmp same_number nat_cmp_total m.counts is.ascends.counts;
-          rows = starts (λ (r : RowImage). (r.table, r.old)) (λ (r : RowImage). r.new) same_pair pair_cmp pair_is pair_total m.rows is.ascends.rows;
+          rows = starts (λ (r : RowLine). (r.table, r.old)) (λ (r : RowLine). r.new) same_pair pair_cmp pair_is pair_total m.rows is.ascends.rows;
           drops = starts_of m.drops is.ascends.drops;
           slotted = starts_of m.slotted is.ascends.slotted;
           slots = starts (λ (s : SlotImage). (s.method, s.old)) (λ (s : SlotImage). s.new) same_pair pair_cmp pair_is pair_total m.slots is.ascends.slots;
@@ -237,8 +237,8 @@ nothing_read m is = of m.link refl is.link
 
 rows_in_order : (m : Map) → IsReadable m → flat_map (λ (c : Count). rows_of m c.table) m.counts ≡ m.rows
 rows_in_order m is =
-    regrouped (λ (c : Count). c.table) (λ (r : RowImage). r.table) (λ (r : RowImage). r.old) m.counts m.rows is.ascends.counts is.ascends.rows
-    (of_each (IsRowOf m) (λ (r : RowImage). list_any (λ (c : Count). nat_eq r.table c.table) m.counts ≡ true)
+    regrouped (λ (c : Count). c.table) (λ (r : RowLine). r.table) (λ (r : RowLine). r.old) m.counts m.rows is.ascends.counts is.ascends.rows
+    (of_each (IsRowOf m) (λ (r : RowLine). list_any (λ (c : Count). nat_eq r.table c.table) m.counts ≡ true)
     (λ r h. found_among (λ (c : Count). c.table) (λ (c : Count). c.rows) r.table m.counts h.2) m.rows is.rows)
 
 slots_in_order : (m : Map) → IsReadable m → flat_map (slots_of m) m.slotted ≡ m.slots
@@ -285,7 +285,7 @@ itself (Some l) = refl
 read_holds : (m : Map) → IsReadable m → (g : Got m (map line_text (map_says m)) [] [] [] [] [] [] [] [] (MethodsAhead m [])) → HoldsWhat g.said m
 read_holds m is g = record {
   counts = λ t. sym (ends (λ (c : Count). c.table) (λ (c : Count). c.rows) nat_eq nat_cmp same_number nat_cmp_total _ _ g.counts t);
-  rows = λ t o. sym (ends (λ (r : RowImage). (r.table, r.old)) (λ (r : RowImage). r.new) same_pair pair_cmp pair_is pair_total _ _ g.rows (t, o));
+  rows = λ t o. sym (ends (λ (r : RowLine). (r.table, r.old)) (λ (r : RowLine). r.new) same_pair pair_cmp pair_is pair_total _ _ g.rows (t, o));
   methods = λ n. sym (ends (λ (l : MethodLine). l.method) (λ (l : MethodLine). l) nat_eq nat_cmp same_number nat_cmp_total _ _ g.rest n
       ∙ itself (line_among m.methods n));
   drops = λ n. sym (ends_of _ _ g.drops n);

@@ -1,7 +1,7 @@
 -- The canonical text of a map (docs/FORMAT.md, "Map texts"): what its lines say, in their order, and how each is spelled.
 use Rattle.std.specs.{Prelude.{ℕ, ◌+◌, ◌/◌, ◌%◌, List, [], ◌∷◌, ◌++◌, Option, Some, None, codes, map, decimal, flat_map}, Char.digit_char}
 use Rattle.ppdb_base.specs.Escaped.{escaped}
-use Rattle.ppdb_maps.specs.{declared.entries.{Count.Count, RowImage.RowImage, SlotImage.SlotImage, SignatureImage.SignatureImage, NameLine.NameLine}, declared.line.Line.Line}
+use Rattle.ppdb_maps.specs.{declared.entries.{Count.Count, RowLine.RowLine, SlotImage.SlotImage, SignatureImage.SignatureImage, NameLine.NameLine}, declared.line.Line.Line}
 use Rattle.ppdb_maps.specs.{declared.line.Line.TheVariants.{Silent, Rows, Row, Method, Kept, Dropped, Slots, Slot, Signature, Document, Link}, Map.{Map, MethodLine, rows_of, slots_of}}
 
 -- a word, and words after it, apart by one space
@@ -27,7 +27,7 @@ line_text (Document d) = spaced (codes "document") (escaped d.old ∷ escaped d.
 line_text (Link value) = spaced (codes "link") (escaped value ∷ [])
 
 -- what the lines of an entry say
-abbrev pub row_says : RowImage → Line
+abbrev pub row_says : RowLine → Line
 row_says row = Row row.table row.old row.new
 
 abbrev pub slot_says : SlotImage → Line

@@ -4,7 +4,7 @@ use Rattle.std.specs.Prelude.{nat_eq, nat_le, Contains}
 use Rattle.std.specs.List.{filter_map, cons_option, dedup, dedup_from}
 use Rattle.std.specs.Option.{option_map}
 use Rattle.std.proofs.lemmas.Bool.{eqb-true, and_parts}
-use Rattle.ppdb_maps.specs.Map.{Map, row_image}
+use Rattle.ppdb_maps.specs.Map.{Map, row_within}
 use Rattle.ppdb_values.specs.RawFile.{RawFile}
 use Rattle.ppdb_values.specs.Rules.{KeepsRules}
 use Rattle.ppdb_values.specs.Value.{value_of}
@@ -94,12 +94,12 @@ module _ (first : Bool) (m : Map) (raw : RawFile) where
   sorted = in_order (λ (i : Imaged). i.table) (in_order (λ (i : Imaged). i.row) unsorted)
 
   abbrev HasImage : Imaged → Type 0
-  HasImage i = row_image m i.table i.row ≡ Some i.image
+  HasImage i = row_within m i.table i.row ≡ Some i.image
 
   made : (r : Reference) (i : Imaged) → imaged m r ≡ Some i → HasImage i
-  made r i is = step (row_image m r.table r.row) refl is
+  made r i is = step (row_within m r.table r.row) refl is
     where
-      step : (o : Option ℕ) → row_image m r.table r.row ≡ o
+      step : (o : Option ℕ) → row_within m r.table r.row ≡ o
           → option_map (λ image. record { table = r.table; row = r.row; image = image }) o ≡ Some i → HasImage i
       step None from e = absurd cc
       step (Some image) from e = subst HasImage (some_of _ i e) from
@@ -131,15 +131,15 @@ module _ (first : Bool) (m : Map) (raw : RawFile) where
           let both = and_parts (nat_eq i.table stands.0.table) (nat_eq i.row stands.0.row) same in
           let table : i.table ≡ stands.0.table = eqb-true i.table stands.0.table both.0 in
           let row : i.row ≡ stands.0.row = eqb-true i.row stands.0.row both.1 in
-          let there : row_image m stands.0.table stands.0.row ≡ Some i.image = subst (λ t. row_image m t stands.0.row ≡ Some i.image) table
-          (subst (λ r. row_image m i.table r ≡ Some i.image) row has) in
+          let there : row_within m stands.0.table stands.0.row ≡ Some i.image = subst (λ t. row_within m t stands.0.row ≡ Some i.image) table
+          (subst (λ r. row_within m i.table r ≡ Some i.image) row has) in
           let image : stands.0.image ≡ i.image = some_of stands.0.image i.image (sym stands.1.1 ∙ there) in
           subst (λ t. Contains rows (record { table = t; row = i.row; image = i.image })) (sym table)
           (subst (λ r. Contains rows (record { table = stands.0.table; row = r; image = i.image })) (sym row)
           (subst (λ n. Contains rows (record { table = stands.0.table; row = stands.0.row; image = n })) image stands.1.0))
 
   abbrev IsInRows : Named → Type 0
-  IsInRows n = (image : ℕ) → row_image m n.table n.row ≡ Some image → Contains rows (record { table = n.table; row = n.row; image = image })
+  IsInRows n = (image : ℕ) → row_within m n.table n.row ≡ Some image → Contains rows (record { table = n.table; row = n.row; image = image })
 
   of_reference : (r : Reference) → ((i : Imaged) → imaged m r ≡ Some i → StandsFor same_row Stands i) → IsInRows (named_by r)
   of_reference r holds image is =

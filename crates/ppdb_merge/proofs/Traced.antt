@@ -2,7 +2,7 @@
 use Rattle.std.proofs.Common.{◌≡◌, ℕ, zero, suc, ◌≤◌, Bool, true, false, cond, List, Option, Some, None}
 use Rattle.std.proofs.Common.{refl, sym, ◌∙◌, ap, subst, arith}
 use Rattle.std.specs.Prelude.{nat_eq, Contains, unwrap_or}
-use Rattle.ppdb_maps.specs.Map.{Map, row_image, moved_row, is_dropped, count_of, row_line}
+use Rattle.ppdb_maps.specs.Map.{Map, row_within, moved_row, is_dropped, count_of, row_line}
 use Rattle.ppdb_maps.specs.Readable.{IsReadable}
 use Rattle.ppdb_values.specs.RawFile.{RawFile}
 use Rattle.ppdb_values.specs.Rules.{KeepsRules}
@@ -45,7 +45,7 @@ module _ (annotated : SoundnessIsAnnotated) (named : ReferencesAreNamed) (first 
   file_sound = sound_moved file (annotated.parts (value_of raw) sound)
 
   abbrev HasImage : Named → Type 0
-  HasImage n = (image : ℕ) × (row_image m n.table n.row ≡ Some image) × (1 ≤ n.row)
+  HasImage n = (image : ℕ) × (row_within m n.table n.row ≡ Some image) × (1 ≤ n.row)
       × Contains rows (record { table = n.table; row = n.row; image = image })
 
   entry_small : file.entry ≤ 16777215
@@ -54,13 +54,13 @@ module _ (annotated : SoundnessIsAnnotated) (named : ReferencesAreNamed) (first 
   all_named_images : Each HasImage (named_rows first m file)
   all_named_images =
       each_of_three (IsImaged m) (λ n. (1 ≤ n.row) × (n.row ≤ 16777215))
-      (λ n. (image : ℕ) → row_image m n.table n.row ≡ Some image → Contains rows (record { table = n.table; row = n.row; image = image }))
+      (λ n. (image : ℕ) → row_within m n.table n.row ≡ Some image → Contains rows (record { table = n.table; row = n.row; image = image }))
       HasImage (named_rows first m file)
       (λ n image row there. (image.0, image.1, row.0, there image.0 image.1))
       fits.images (named_rows_are_rows first m file file_sound entry_small)
-      (Each-weaker (λ n. (image : ℕ) → row_image m n.table n.row ≡ Some image
+      (Each-weaker (λ n. (image : ℕ) → row_within m n.table n.row ≡ Some image
       → Contains (imaged_rows first m raw) (record { table = n.table; row = n.row; image = image }))
-      (λ n. (image : ℕ) → row_image m n.table n.row ≡ Some image → Contains rows (record { table = n.table; row = n.row; image = image }))
+      (λ n. (image : ℕ) → row_within m n.table n.row ≡ Some image → Contains rows (record { table = n.table; row = n.row; image = image }))
       (λ n there image is. row_in_all first m raw _ (there image is)) (named_rows first m file) (named_in_rows first m raw named keeps))
 
   moves : (table row : ℕ) → HasImage (names table row) → IsImageIn rows (names table (moved_row m table row))

@@ -3,7 +3,7 @@ use Rattle.std.proofs.Common.{◌≡◌, ℕ, ◌+◌, ◌||◌, Bool, true, fal
 use Rattle.std.specs.Prelude.{is_some, IfSome, not, unwrap_or}
 use Rattle.std.specs.List.{filter_map, cons_option, enumerate_from}
 use Rattle.std.specs.Option.{option_map}
-use Rattle.ppdb_maps.specs.Map.{Map, row_image, slot_image, is_dropped}
+use Rattle.ppdb_maps.specs.Map.{Map, row_within, slot_image, is_dropped}
 use Rattle.ppdb_merge_names.specs.declared.imaged.Imaged.{Imaged}
 use Rattle.ppdb_merge_names.specs.References.{Reference, references}
 use Rattle.ppdb_merge_names_laws.specs.Laws.{named_by}
@@ -51,7 +51,7 @@ each_making {B} f P makes (x ∷ xs) = step (f x) (makes x) (each_making f P mak
 -- ---- rows
 
 image_there : (m : Map) (r : Reference) → if_unmapped m r ≡ [] → IsImaged m (named_by r)
-image_there m r none = some_of (row_image m r.table r.row) (holds (is_some (row_image m r.table r.row)) _ none)
+image_there m r none = some_of (row_within m r.table r.row) (holds (is_some (row_within m r.table r.row)) _ none)
 
 pub rows_fit : (first : Bool) (m : Map) (raw : RawFile) → unmapped first m raw ≡ [] → Each (IsImaged m) (map named_by (references first m raw))
 rows_fit first m raw none =
@@ -60,7 +60,7 @@ rows_fit first m raw none =
     (flat_none (if_unmapped m) (references first m raw) none))
 
 -- what holds of a row with its image
-of_image : (m : Map) (P : Imaged → Type 0) (r : Reference) (image : ℕ) → IfSome (imaged m r) P → row_image m r.table r.row ≡ Some image
+of_image : (m : Map) (P : Imaged → Type 0) (r : Reference) (image : ℕ) → IfSome (imaged m r) P → row_within m r.table r.row ≡ Some image
     → P (record { table = r.table; row = r.row; image = image })
 of_image m P r image holds_of is =
     subst (λ (o : Option ℕ). IfSome (option_map (λ image. record { table = r.table; row = r.row; image = image }) o) P) is holds_of
@@ -69,7 +69,7 @@ abbrev OneRow : Imaged → Imaged → Type 0
 OneRow = OneNumber (λ (i : Imaged). i.table) (λ i. i.row) (λ i. i.image)
 
 abbrev OwnRow : Map → Imaged → Type 0
-OwnRow m i = i.image ≡ unwrap_or (row_image m i.table i.row) 0
+OwnRow m i = i.image ≡ unwrap_or (row_within m i.table i.row) 0
 
 one_imaged : (x y : Imaged) → x.table ≡ y.table → x.row ≡ y.row → x.image ≡ y.image → x ≡ y
 one_imaged x y t n i =
@@ -77,16 +77,16 @@ one_imaged x y t n i =
     ∙ ap (λ z. record { table = y.table; row = y.row; image = z }) i
 
 own_row : (m : Map) (r : Reference) → IfSome (imaged m r) (OwnRow m)
-own_row m r = step (row_image m r.table r.row) refl
+own_row m r = step (row_within m r.table r.row) refl
   where
-    step : (o : Option ℕ) → row_image m r.table r.row ≡ o
+    step : (o : Option ℕ) → row_within m r.table r.row ≡ o
         → IfSome (option_map (λ image. record { table = r.table; row = r.row; image = image }) o) (OwnRow m)
     step None is = tt
     step (Some image) is = ap (λ o. unwrap_or o 0) (sym is)
 
 -- a row is apart from others
 one_apart : (m : Map) (r : Reference) (ss : List Reference)
-    → ((image : ℕ) → row_image m r.table r.row ≡ Some image
+    → ((image : ℕ) → row_within m r.table r.row ≡ Some image
     → Each (λ s. IfSome (imaged m s) (OneRow (record { table = r.table; row = r.row; image = image }))) ss)
     → Each (λ s. AreApart m (named_by r) (named_by s)) ss
 one_apart m r [] each = tt
@@ -109,7 +109,7 @@ pub rows_apart : (first : Bool) (m : Map) (raw : RawFile) → images_twice first
     → Each (λ a. Each (AreApart m a) (map named_by (references first m raw))) (map named_by (references first m raw))
 rows_apart first m raw none =
     all_apart m (references first m raw)
-    (apart (λ (i : Imaged). i.table) (λ i. i.row) (λ i. i.image) image_twice (λ table row. unwrap_or (row_image m table row) 0) one_imaged
+    (apart (λ (i : Imaged). i.table) (λ i. i.row) (λ i. i.image) image_twice (λ table row. unwrap_or (row_within m table row) 0) one_imaged
     (filter_map (imaged m) (references first m raw)) (each_making (imaged m) (OwnRow m) (own_row m) (references first m raw)) none)
 
 -- ---- slots

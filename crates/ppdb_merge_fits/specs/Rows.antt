@@ -1,14 +1,14 @@
 -- The rows of the type system that a file names, with their images (docs/FORMAT.md, "Fitting").
 use Rattle.std.specs.Prelude.{Bool, cond, is_some, List, [], ◌∷◌, Option, filter_map, flat_map, option_map}
 use Rattle.ppdb_base.specs.declared.merge_error.MergeError.{MergeError, TheVariants.{Unmapped, ImageTwice}}
-use Rattle.ppdb_maps.specs.Map.{Map, row_image}
+use Rattle.ppdb_maps.specs.Map.{Map, row_within}
 use Rattle.ppdb_values.specs.RawFile.{RawFile}
 use Rattle.ppdb_merge_names.specs.{declared.imaged.Imaged.Imaged, References.{Reference, references}}
 use Rattle.ppdb_merge_fits.specs.Twice.{each_once, twice}
 
 -- a row that is named, with its image
 abbrev pub imaged : Map → Reference → Option Imaged
-imaged m r = option_map (λ image. record { table = r.table; row = r.row; image = image }) (row_image m r.table r.row)
+imaged m r = option_map (λ image. record { table = r.table; row = r.row; image = image }) (row_within m r.table r.row)
 
 -- the rows that a file names with their images, each once, by table and row
 abbrev pub imaged_rows : Bool → Map → RawFile → List Imaged
@@ -16,7 +16,7 @@ imaged_rows first m raw = each_once (λ (i : Imaged). i.table) (λ i. i.row) (fi
 
 -- a row is named that has no image
 abbrev pub if_unmapped : Map → Reference → List MergeError
-if_unmapped m r = cond (is_some (row_image m r.table r.row)) [] (Unmapped r.table r.row r.place ∷ [])
+if_unmapped m r = cond (is_some (row_within m r.table r.row)) [] (Unmapped r.table r.row r.place ∷ [])
 
 abbrev pub unmapped : Bool → Map → RawFile → List MergeError
 unmapped first m raw = flat_map (if_unmapped m) (references first m raw)

@@ -3,7 +3,7 @@ use Rattle.std.proofs.Common.{◌≡◌, ℕ, Bool, true, false, cond, Option, S
 use Rattle.std.specs.Prelude.{unwrap_or}
 use Rattle.std.specs.List.{filter_map}
 use Rattle.std.specs.Option.{option_map}
-use Rattle.ppdb_maps.specs.Map.{Map, is_dropped, row_image, slot_image}
+use Rattle.ppdb_maps.specs.Map.{Map, is_dropped, row_within, slot_image}
 use Rattle.ppdb_merge_names.specs.declared.imaged.Imaged.{Imaged}
 use Rattle.ppdb_merge_names.specs.References.{Reference, references}
 use Rattle.ppdb_merge_items.proofs.Lists.{each_of}
@@ -16,15 +16,15 @@ use Rattle.ppdb_merge_fits_laws.proofs.Least.{tells_least}
 -- ---- rows
 
 abbrev OwnRow : Map → Imaged → Type 0
-OwnRow m i = i.image ≡ unwrap_or (row_image m i.table i.row) 0
+OwnRow m i = i.image ≡ unwrap_or (row_within m i.table i.row) 0
 
 own_row : (m : Map) (r : Reference) (i : Imaged) → imaged m r ≡ Some i → OwnRow m i
-own_row m r i = step (row_image m r.table r.row) refl
+own_row m r i = step (row_within m r.table r.row) refl
   where
     with_image : ℕ → Imaged
     with_image image = record { table = r.table; row = r.row; image = image }
 
-    step : (o : Option ℕ) → row_image m r.table r.row ≡ o → option_map with_image o ≡ Some i → OwnRow m i
+    step : (o : Option ℕ) → row_within m r.table r.row ≡ o → option_map with_image o ≡ Some i → OwnRow m i
     step None none is = absurd cc
     step (Some image) some is = let same : with_image image ≡ i = cc in subst (OwnRow m) same (ap (λ o. unwrap_or o 0) (sym some))
 
@@ -35,7 +35,7 @@ one_row x y t r i =
 
 pub least_rows : LeastRowsAreTold
 least_rows first m raw =
-    tells_least (λ (i : Imaged). i.table) (λ i. i.row) (λ i. i.image) image_twice (λ table row. unwrap_or (row_image m table row) 0) one_row
+    tells_least (λ (i : Imaged). i.table) (λ i. i.row) (λ i. i.image) image_twice (λ table row. unwrap_or (row_within m table row) 0) one_row
     (filter_map (imaged m) (references first m raw))
     (Each-filter_map (imaged m) (λ r. Unit {0}) (OwnRow m) (λ r i is here. own_row m r i is) (references first m raw)
     (each_of (λ r. Unit {0}) (λ r. tt) (references first m raw)))

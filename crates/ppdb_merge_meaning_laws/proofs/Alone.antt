@@ -2,7 +2,7 @@
 use Rattle.std.proofs.Common.{◌≡◌, ℕ, zero, suc, ◌≤◌, Bool, true, false, cond, [], ◌∷◌, Option, Some, None, refl, sym, ◌∙◌, ap, subst, arith}
 use Rattle.std.specs.Prelude.{nat_eq, unwrap_or, slice_index, Contains}
 use Rattle.std.proofs.lemmas.Bool.{eqb-true}
-use Rattle.ppdb_maps.specs.Map.{Map, row_image, row_line, signature_line, count_of, moved_row, is_dropped}
+use Rattle.ppdb_maps.specs.Map.{Map, row_within, row_line, signature_line, count_of, moved_row, is_dropped}
 use Rattle.ppdb_values.specs.declared.file.MethodValue.{MethodValue}
 use Rattle.ppdb_values_sound_laws.specs.Sound.{IsSound}
 use Rattle.ppdb_merge_items.specs.declared.file.AnnotatedFile.{AnnotatedFile}
@@ -62,7 +62,7 @@ module _ (annotated : SoundnessIsAnnotated) (law : JoinedIsSound) (input : Moved
       let imaged = in_each (IsImaged m) (named_rows true m file) (names table row) fits.fits.images is in
       let low = in_each (λ n. (1 ≤ n.row) × (n.row ≤ 16777215)) (named_rows true m file) (names table row)
       (named_rows_are_rows true m file (input_sound annotated (true, input) fits) entry_small) is in
-      let small = in_each (λ n. (image : ℕ) → row_image m n.table n.row ≡ Some image → image ≤ slice_index moved.rows n.table)
+      let small = in_each (λ n. (image : ℕ) → row_within m n.table n.row ≡ Some image → image ≤ slice_index moved.rows n.table)
       (named_rows true m file) (names table row) counted.rows is in
       subst (λ r. r ≤ slice_index moved.rows table) (sym (moved_is_image m table row imaged.0 low.0 imaged.1)) (small imaged.0 imaged.1)
 

@@ -10,7 +10,7 @@ use Rattle.ppdb_base.proofs.Moved.{moved_kept}
 use Rattle.sequence_points.specs.declared.point.Point.{Point}
 use Rattle.ppdb_values.specs.declared.file.MethodValue.{MethodValue}
 use Rattle.ppdb_values.specs.Parts.{points_of, points_by, last_point}
-use Rattle.ppdb_maps.specs.Map.{Map, moved_row, row_image, offsets_in, is_dropped}
+use Rattle.ppdb_maps.specs.Map.{Map, moved_row, row_within, offsets_in, is_dropped}
 use Rattle.ppdb_values.specs.declared.custom.CustomValue.{CustomValue}
 use Rattle.ppdb_values.specs.declared.file.FileValue.{FileValue}
 use Rattle.ppdb_values.specs.declared.file.DocumentValue.{DocumentValue}
@@ -125,7 +125,7 @@ module _ (annotated : SoundnessIsAnnotated) (before after : List Input) (i : Inp
   image : IsImaged m (names 0x06 method)
   image = in_each (IsImaged m) (named_by i) (names 0x06 method) fits.fits.images named
 
-  image_is : row_image m 0x06 method ≡ Some image_row
+  image_is : row_within m 0x06 method ≡ Some image_row
   image_is = image.1 ∙ ap Some (sym (moved_is_image m 0x06 method image.0 is_row.0 image.1))
 
   image_there : 1 ≤ image_row

@@ -1,7 +1,7 @@
 -- What joined files keep of their inputs: what each said of a method at an IL offset that its map keeps.
 use Rattle.ppdb_values.specs.Names.{Kept, Point}
 use Rattle.std.specs.Prelude.{◌≡◌, ℕ, Bool, true, false, List, [], ◌∷◌, Some, Contains, map}
-use Rattle.ppdb_maps.specs.{Map.{Map, moved_row, row_image, offsets_in}, Readable.IsReadable}
+use Rattle.ppdb_maps.specs.{Map.{Map, moved_row, row_within, offsets_in}, Readable.IsReadable}
 use Rattle.ppdb_values.specs.{declared.file.FileValue.FileValue, Links.links, Meaning.meaning, Parts.points_of}
 use Rattle.ppdb_values_sound_laws.specs.Sound.{IsSound}
 use Rattle.ppdb_merge_items.specs.{declared.file.AnnotatedFile.AnnotatedFile, Each.{Each, Pairs}, NamedRows.{Named, names, named_rows}, Annotated.annotated_file, Unannotated.value_of_annotated}
@@ -43,8 +43,8 @@ pub record FitsAlone (input : Input) : Type 0 where
 
 -- no method of the one has the image of a method of the other
 abbrev pub MethodsApart : Input → Input → Type 0
-MethodsApart a b = (method other image : ℕ) → NamesMethod a method → NamesMethod b other → row_image a.1.map 0x06 method ≡ Some image
-    → row_image b.1.map 0x06 other ≡ Some image → ⊥
+MethodsApart a b = (method other image : ℕ) → NamesMethod a method → NamesMethod b other → row_within a.1.map 0x06 method ≡ Some image
+    → row_within b.1.map 0x06 other ≡ Some image → ⊥
 
 -- Each file is sound and fits its map; no two have one method afterwards; documents of one name by the maps are one document.
 pub record InputsFit (inputs : List MovedBy) : Type 0 where

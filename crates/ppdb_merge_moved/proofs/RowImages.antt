@@ -5,9 +5,9 @@ use Rattle.std.specs.Prelude.{nat_eq, IfSome, unwrap_or, get_or}
 use Rattle.std.specs.List.{find, repeat, AllByRecursion}
 use Rattle.std.specs.Option.{option_map}
 use Rattle.std.proofs.lemmas.Bool.{ne_eqb}
-use Rattle.ppdb_maps.specs.declared.entries.RowImage.{RowImage}
+use Rattle.ppdb_maps.specs.declared.entries.RowLine.{RowLine}
 use Rattle.ppdb_maps.specs.declared.entries.SignatureImage.{SignatureImage}
-use Rattle.ppdb_maps.specs.Map.{Map, moved_row, moved_signature, row_image, row_line, signature_line, count_of, is_dropped}
+use Rattle.ppdb_maps.specs.Map.{Map, moved_row, moved_signature, row_within, row_line, signature_line, count_of, is_dropped}
 use Rattle.ppdb_maps.specs.Readable.{IsReadable, IsRowOf, IsSignatureOf}
 use Rattle.ppdb_values.specs.declared.file.FileValue.{FileValue}
 use Rattle.ppdb_values_sound_laws.specs.Named.{count}
@@ -24,14 +24,14 @@ found_holds P p (x ∷ xs) all = step (p x) (found_holds P p xs all.1)
     step true rest = all.0
     step false rest = rest
 
-pub image_in : (m : Map) → IsReadable m → (table row image : ℕ) → 1 ≤ row → row ≤ 16777215 → row_image m table row ≡ Some image
+pub image_in : (m : Map) → IsReadable m → (table row image : ℕ) → 1 ≤ row → row ≤ 16777215 → row_within m table row ≡ Some image
     → (1 ≤ image) × (image ≤ 16777215)
 image_in m ready table row image above below is = by_drop (nat_eq table 0x06 && is_dropped m row) is
   where
     some_of : (a b : ℕ) → Some a ≡ Some b → a ≡ b
     some_of a b e = cc
 
-    by_row : (o : Option RowImage) → IfSome o (IsRowOf m) → option_map (λ (r : RowImage). r.new) o ≡ Some image → (1 ≤ image) × (image ≤ 16777215)
+    by_row : (o : Option RowLine) → IfSome o (IsRowOf m) → option_map (λ (r : RowLine). r.new) o ≡ Some image → (1 ≤ image) × (image ≤ 16777215)
     by_row None holds e = absurd cc
     by_row (Some r) holds e = subst (λ n. (1 ≤ n) × (n ≤ 16777215)) (some_of r.new image e) holds.1
 
@@ -46,7 +46,7 @@ image_in m ready table row image above below is = by_drop (nat_eq table 0x06 && 
     by_drop true e = absurd cc
     by_drop false e = by_count (count_of m table) e
 
-pub moved_is_image : (m : Map) (table row image : ℕ) → 1 ≤ row → row_image m table row ≡ Some image → moved_row m table row ≡ image
+pub moved_is_image : (m : Map) (table row image : ℕ) → 1 ≤ row → row_within m table row ≡ Some image → moved_row m table row ≡ image
 moved_is_image m table row image above is =
     ap (λ o. cond (nat_eq row 0) 0 (unwrap_or o 0)) is ∙ ap (λ b. cond b 0 image) (ne_eqb row 0 (λ e. absurd (omega (arith, above, e))))
 
@@ -82,7 +82,7 @@ signature_moved m ready method row below image = by (signature_line m method) re
 -- two rows with one image
 pub one_image : (m : Map) (table a b : ℕ) → 1 ≤ a → 1 ≤ b → (i : IsImaged m (names table a)) → IsImaged m (names table b)
     → moved_row m table a ≡ moved_row m table b
-    → row_image m table b ≡ Some i.0
+    → row_within m table b ≡ Some i.0
 one_image m table a b above also i j same =
     j.1 ∙ ap Some (sym (moved_is_image m table b j.0 also j.1) ∙ sym same ∙ moved_is_image m table a i.0 above i.1)
 

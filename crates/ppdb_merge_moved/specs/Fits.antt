@@ -1,7 +1,7 @@
 -- When a map fits a file (docs/FORMAT.md, "Fitting").
 use Rattle.ppdb_values.specs.Names.{Kept, old_size, Slot, Empty, Held, AsyncStep}
 use Rattle.std.specs.Prelude.{◌≡◌, ◌≢◌, ℕ, ◌<◌, ◌≤◌, Bool, true, IfSome, List, Some, Contains}
-use Rattle.ppdb_maps.specs.Map.{Map, row_image, offsets_in, slot_image, moved_name}
+use Rattle.ppdb_maps.specs.Map.{Map, row_within, offsets_in, slot_image, moved_name}
 use Rattle.ppdb_values.specs.{declared.custom.CustomBody.{CustomBody, TheVariants.{Async, Hoisted}}, declared.annotation.Annotation.Annotation}
 use Rattle.ppdb_values.specs.{declared.file.DocumentValue.DocumentValue, declared.scope.VariableValue.VariableValue}
 use Rattle.ppdb_merge_items.specs.{declared.file.{AnnotatedScope.AnnotatedScope, AnnotatedFile.AnnotatedFile}, Each.{Each, Pairs}, NamedRows.{Named, named_rows, live_scope, live_custom}}
@@ -10,11 +10,11 @@ use Rattle.ppdb_merge_items.specs.{declared.file.{AnnotatedScope.AnnotatedScope,
 
 -- the row has an image
 abbrev pub IsImaged : Map → Named → Type 0
-IsImaged m n = (image : ℕ) × (row_image m n.table n.row ≡ Some image)
+IsImaged m n = (image : ℕ) × (row_within m n.table n.row ≡ Some image)
 
 -- two rows of one table with one image are one row
 abbrev pub AreApart : Map → Named → Named → Type 0
-AreApart m a b = (image : ℕ) → a.table ≡ b.table → row_image m a.table a.row ≡ Some image → row_image m b.table b.row ≡ Some image → a.row ≡ b.row
+AreApart m a b = (image : ℕ) → a.table ≡ b.table → row_within m a.table a.row ≡ Some image → row_within m b.table b.row ≡ Some image → a.row ≡ b.row
 
 -- ---- offsets
 

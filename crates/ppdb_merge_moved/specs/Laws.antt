@@ -1,7 +1,7 @@
 -- What a moved file says at the images of kept offsets: the images of what the file says there.
 use Rattle.ppdb_values.specs.Names.{gone, Rise, Kept, old_size, MachineRow}
 use Rattle.std.specs.Prelude.{◌≡◌, ◌≢◌, ℕ, ◌≤◌, Bool, List, Some, Contains, map, filter_map, find, nat_eq, option_map, option_and_then}
-use Rattle.ppdb_maps.specs.{Map.{Map, row_image, moved_row, offsets_in}, Readable.IsReadable}
+use Rattle.ppdb_maps.specs.{Map.{Map, row_within, moved_row, offsets_in}, Readable.IsReadable}
 use Rattle.ppdb_values.specs.{declared.file.MethodValue.MethodValue, declared.annotation.Custom.Custom, Links.{kickoff_of, move_next_of}}
 use Rattle.ppdb_merge_items.specs.{declared.file.AnnotatedFile.AnnotatedFile, AnnotatedMeaning.{annotated_links, annotated_meaning, slots_at, scope_meaning, scopes_at, point_meaning}}
 use Rattle.ppdb_merge_items.specs.{NamedRows.{names, named_rows}, SoundParts.SoundMoved, Each.{Each, Pairs}}
@@ -63,7 +63,7 @@ MovedIsSound = (first : Bool) (m : Map) (w : AnnotatedFile) → IsReadable m →
 
 -- the row is the image of a method that the file names
 abbrev pub IsImageOfNamed : Bool → Map → AnnotatedFile → ℕ → Type 0
-IsImageOfNamed first m w row = (method : ℕ) × Contains (named_rows first m w) (names 0x06 method) × (row_image m 0x06 method ≡ Some row)
+IsImageOfNamed first m w row = (method : ℕ) × Contains (named_rows first m w) (names 0x06 method) × (row_within m 0x06 method ≡ Some row)
 
 -- A moved file says something only of images of methods that the file names.
 pub record MovedNames (first : Bool) (m : Map) (w : AnnotatedFile) : Type 0 where

@@ -1,11 +1,11 @@
 -- The images of the rows that are named, and the first row that has none.
 use Rattle.std.specs.Prelude.{◌≡◌, ℕ, ◌<◌, List, [], ◌∷◌, ◌++◌, Option, Some, None, Result, Ok, Err, slice_get}
-use Rattle.ppdb_maps.specs.Map.{Map, row_image}
+use Rattle.ppdb_maps.specs.Map.{Map, row_within}
 use Rattle.ppdb_merge_names.specs.{declared.imaged.{Imaged.Imaged, ReferenceError.{ReferenceError, TheVariants.{Unmapped, Memory}}}, References.{Reference, names}}
 
 -- the image of a row that is named
 abbrev pub image_of : Map → Reference → Option ℕ
-image_of m r = row_image m r.table r.row
+image_of m r = row_within m r.table r.row
 
 -- It has this image.
 pub record IsImageOf (m : Map) (r : Reference) (i : Imaged) : Type 0 where

@@ -1,6 +1,6 @@
 // The images that were found so far.
 ghost use Rattle.std.specs.Prelude.{◌≡◌, ◌∷◌, [], is_some};
-ghost use Rattle.ppdb_maps.specs.Map.{is_dropped, row_image, signature_line};
+ghost use Rattle.ppdb_maps.specs.Map.{is_dropped, row_within, signature_line};
 ghost use Rattle.ppdb_merge_names.specs.Imaging.{Goes};
 ghost use Rattle.ppdb_merge_names.specs.References.{names, names_some};
 
@@ -22,14 +22,14 @@ pub(crate) struct Imager<'m> {
 impl<'m> Model for Imager<'m> {
     ghost use Rattle.std.specs.Prelude.{◌≡◌, Some};
     ghost use Rattle.std.specs.Option.{ForSome};
-    ghost use Rattle.ppdb_maps.specs.Map.{row_image};
+    ghost use Rattle.ppdb_maps.specs.Map.{row_within};
     ghost use Rattle.ppdb_merge_names.specs.Imaging.{Imaging};
 
     ghost Value = { Imaging };
 
     ghost view = { λ s. record { map = s.map.now; images = s.images } };
 
-    ghost invariant = { λ s. ForSome s.last (λ i. row_image s.map.now i.table i.row ≡ Some i.image) };
+    ghost invariant = { λ s. ForSome s.last (λ i. row_within s.map.now i.table i.row ≡ Some i.image) };
 }
 
 impl<'m> Imager<'m> {
@@ -67,7 +67,7 @@ impl<'m> Imager<'m> {
 
     /// The image of a row.
     fn image_of(&self, table: u8, row: u32) -> Option<u32>
-        ensures { result ≡ row_image self.now.map table row }
+        ensures { result ≡ row_within self.now.map table row }
     {
         if let Some(last) = self.last {
             if last.table == table && last.row == row {

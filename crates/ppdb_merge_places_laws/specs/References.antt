@@ -1,7 +1,7 @@
 -- The references of a file stand in the order of their places (docs/FORMAT.md, "References").
 use Rattle.std.specs.Prelude.{◌≡◌, ℕ, Bool, List, [], ◌∷◌, ◌++◌, Contains, None}
 use Rattle.ppdb_base.specs.{Place.ComesBefore, declared.merge_error.MergeError.{MergeError, TheVariants.Unmapped}}
-use Rattle.ppdb_maps.specs.Map.{Map, row_image}
+use Rattle.ppdb_maps.specs.Map.{Map, row_within}
 use Rattle.ppdb_values.specs.RawFile.{RawFile}
 use Rattle.ppdb_merge_items.specs.Each.{Pairs}
 use Rattle.ppdb_merge_names.specs.References.{Reference, references}
@@ -19,7 +19,7 @@ ReferencesRise = (first : Bool) (m : Map) (raw : RawFile)
 
 -- M1: a reference has no image
 pub data IsUnmapped (first : Bool) (m : Map) (raw : RawFile) : List ℕ → MergeError → Type 0 where
-  reference : (r : Reference) → Contains (references first m raw) r → row_image m r.table r.row ≡ None
+  reference : (r : Reference) → Contains (references first m raw) r → row_within m r.table r.row ≡ None
       → IsUnmapped first m raw (reference_numbers r) (Unmapped r.table r.row r.place)
 
 abbrev pub FirstReferencesAreReported : Type 0

@@ -5,8 +5,8 @@ use Rattle.std.specs.Option.{option_map}
 use Rattle.ppdb_base.specs.Offsets.{Offsets, every, gone, lined, Rise, old_size, moved, stop_runs, IsNextImage}
 use Rattle.ppdb_base.proofs.Moved.{has_next, moved_never_falls, moved_is}
 use Rattle.ppdb_base.proofs.Stops.{is_next}
-use Rattle.ppdb_maps.specs.declared.entries.RowImage.{RowImage}
-use Rattle.ppdb_maps.specs.Map.{Map, moved_signature, signature_line, moved_row, row_image, row_line, count_of}
+use Rattle.ppdb_maps.specs.declared.entries.RowLine.{RowLine}
+use Rattle.ppdb_maps.specs.Map.{Map, moved_signature, signature_line, moved_row, row_within, row_line, count_of}
 use Rattle.ppdb_maps.specs.Readable.{IsReadable, IsRowOf}
 use Rattle.std.proofs.lemmas.Bool.{ltb-true}
 use Rattle.ppdb_merge_moved.proofs.RisingPoints.{itself_moved, size_moved}
@@ -36,7 +36,7 @@ has_image o rise live short x within small =
 row_fits : (m : Map) → IsReadable m → (row : ℕ) → row < 0x20000000 → moved_row m 0x11 row < 0x20000000
 row_fits m ready row small = by_zero (nat_eq row 0)
   where
-    by_row : (o : Option RowImage) → IfSome o (IsRowOf m) → unwrap_or (option_map (λ (r : RowImage). r.new) o) 0 < 0x20000000
+    by_row : (o : Option RowLine) → IfSome o (IsRowOf m) → unwrap_or (option_map (λ (r : RowLine). r.new) o) 0 < 0x20000000
     by_row None holds = omega arith
     by_row (Some r) holds = omega (arith, holds.1.1)
 
@@ -45,7 +45,7 @@ row_fits m ready row small = by_zero (nat_eq row 0)
     by_count (Some count) = by_row (find (λ r. nat_eq r.table 0x11 && nat_eq r.old row) m.rows)
         (found_holds (IsRowOf m) (λ r. nat_eq r.table 0x11 && nat_eq r.old row) m.rows ready.rows)
 
-    by_zero : (b : Bool) → cond b 0 (unwrap_or (row_image m 0x11 row) 0) < 0x20000000
+    by_zero : (b : Bool) → cond b 0 (unwrap_or (row_within m 0x11 row) 0) < 0x20000000
     by_zero true = omega arith
     by_zero false = by_count (count_of m 0x11)
 

@@ -19,7 +19,7 @@ use Rattle.sequence_points.specs.declared.point.Point.{Point}
 use Rattle.sequence_points.specs.MovedPoints.{moved_points, first_offset}
 use Rattle.type_blobs.specs.declared.types.TypeToken.{TypeToken}
 use Rattle.type_blobs.specs.declared.types.Modifier.{Modifier}
-use Rattle.ppdb_maps.specs.Map.{row_image, moved_row}
+use Rattle.ppdb_maps.specs.Map.{row_within, moved_row}
 use Rattle.ppdb_tables.specs.declared.rows.MachineRow.{MachineRow}
 use Rattle.ppdb_values.specs.declared.custom.CustomBody.{CustomBody}
 use Rattle.ppdb_values.specs.declared.custom.CustomBody.TheVariants.{Async, Hoisted, TypeDocuments, Unread}
@@ -56,7 +56,7 @@ none_holds : (b : Bool) → b && false ≡ false
 none_holds true = refl
 none_holds false = refl
 
-pub image_is : (table row : ℕ) → row_image no_lines table row ≡ Some row
+pub image_is : (table row : ℕ) → row_within no_lines table row ≡ Some row
 image_is table row = ap (λ b. cond b None (Some row)) (none_holds (nat_eq table 0x06))
 
 row_same : (table row : ℕ) → moved_row no_lines table row ≡ row

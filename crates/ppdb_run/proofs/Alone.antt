@@ -11,7 +11,7 @@ use Rattle.custom_info.specs.declared.kinds.Kind.TheVariants.{Unknown}
 use Rattle.ppdb_merge_names_laws.specs.Laws.{ReferencesAreNamed, named_by}
 use Rattle.ppdb_base.specs.declared.merge_error.MergeError.{MergeError}
 use Rattle.ppdb_base.specs.declared.merge_error.MergeError.TheVariants.{Memory}
-use Rattle.ppdb_maps.specs.Map.{Map, row_image}
+use Rattle.ppdb_maps.specs.Map.{Map, row_within}
 use Rattle.ppdb_maps.specs.Readable.{IsReadable}
 use Rattle.ppdb_maps.specs.Sample.{sample_map_of}
 use Rattle.ppdb_merge_names.specs.declared.imaged.Imaged.{Imaged}
@@ -113,7 +113,7 @@ module _ (n : ℕ) (raw : RawFile) (fits : SampleFits n) (says : value_of raw �
   moved_is = ap (λ v. moved_file m (annotated_file v)) says
 
   abbrev IsCounted : Named → Type 0
-  IsCounted a = (image : ℕ) → row_image m a.table a.row ≡ Some image → image ≤ slice_index (sample n).rows a.table
+  IsCounted a = (image : ℕ) → row_within m a.table a.row ≡ Some image → image ≤ slice_index (sample n).rows a.table
 
   abbrev IsBelow : Imaged → Type 0
   IsBelow i = i.image ≤ count_in trace i.table

@@ -5,7 +5,7 @@ use Rattle.std.specs.Prelude.{nat_eq, is_some, not}
 use Rattle.std.specs.List.{dedup, dedup_from, filter_map, enumerate_from}
 use Rattle.std.specs.Option.{option_map}
 use Rattle.std.proofs.lemmas.Bool.{both_ways, eq-eqb, eqb-true}
-use Rattle.ppdb_maps.specs.Map.{Map, row_image, slot_image, is_dropped}
+use Rattle.ppdb_maps.specs.Map.{Map, row_within, slot_image, is_dropped}
 use Rattle.ppdb_merge_names.specs.declared.imaged.Imaged.{Imaged}
 use Rattle.ppdb_merge_names.specs.References.{Reference, references}
 use Rattle.ppdb_merge_names_laws.specs.Laws.{named_by}
@@ -103,18 +103,18 @@ pub rows_silent : (first : Bool) (m : Map) (raw : RawFile) → Each (IsImaged m)
 rows_silent first m raw each =
     flat_nil (if_unmapped m) (references first m raw)
     (Each-weaker (λ r. IsImaged m (named_by r)) (λ r. if_unmapped m r ≡ [])
-    (λ r there. if_holds _ (is_some (row_image m r.table r.row)) (ap is_some there.1)) (references first m raw)
+    (λ r there. if_holds _ (is_some (row_within m r.table r.row)) (ap is_some there.1)) (references first m raw)
     (Each-unmap named_by (IsImaged m) (references first m raw) each))
 
 abbrev with_image : Reference → ℕ → Imaged
 with_image r image = record { table = r.table; row = r.row; image = image }
 
 -- a row with its image is the image of a row that is named
-pub made : (m : Map) (r : Reference) (i : Imaged) → imaged m r ≡ Some i → (row_image m r.table r.row ≡ Some i.image) × (with_image r i.image ≡ i)
-made m r i is = of (row_image m r.table r.row) refl is
+pub made : (m : Map) (r : Reference) (i : Imaged) → imaged m r ≡ Some i → (row_within m r.table r.row ≡ Some i.image) × (with_image r i.image ≡ i)
+made m r i is = of (row_within m r.table r.row) refl is
   where
-    of : (o : Option ℕ) → row_image m r.table r.row ≡ o → option_map (with_image r) o ≡ Some i
-        → (row_image m r.table r.row ≡ Some i.image) × (with_image r i.image ≡ i)
+    of : (o : Option ℕ) → row_within m r.table r.row ≡ o → option_map (with_image r) o ≡ Some i
+        → (row_within m r.table r.row ≡ Some i.image) × (with_image r i.image ≡ i)
     of None from e = absurd cc
     of (Some image) from e =
         let same : with_image r image ≡ i = cc in

@@ -5,7 +5,7 @@ use Rattle.std.specs.Prelude.{Ok, Contains, nat_eq}
 use Rattle.std.proofs.lemmas.Bool.{ne_eqb}
 use Rattle.std.proofs.lemmas.List.{length-append}
 use Rattle.ppdb_base.specs.declared.merge_error.MergeError.{MergeError}
-use Rattle.ppdb_maps.specs.Map.{row_image}
+use Rattle.ppdb_maps.specs.Map.{row_within}
 use Rattle.ppdb_values.specs.RawFile.{RawFile}
 use Rattle.ppdb_values.specs.Rules.{KeepsRules}
 use Rattle.ppdb_values.specs.Value.{value_of}
@@ -167,10 +167,10 @@ module _ (sounds : (raw : RawFile) → KeepsRules raw → IsSound (value_of raw)
   Of method image = record { table = 0x06; row = method; image = image }
 
   stands : (x : Turn) → (Fitting marks) x → (method image : ℕ) → Contains (named_rows x.0 x.1.map (annotated_file (value_of x.1.raw))) (names 0x06 method)
-      → row_image x.1.map 0x06 method ≡ Some image → Contains (trace_by x).rows (Of method image)
+      → row_within x.1.map 0x06 method ≡ Some image → Contains (trace_by x).rows (Of method image)
   stands x fits method image there is =
       row_in_all x.0 x.1.map x.1.raw (Of method image)
-      (in_each (λ n. (image : ℕ) → row_image x.1.map n.table n.row ≡ Some image
+      (in_each (λ n. (image : ℕ) → row_within x.1.map n.table n.row ≡ Some image
       → Contains (imaged_rows x.0 x.1.map x.1.raw) (record { table = n.table; row = n.row; image = image }))
       (named_rows x.0 x.1.map (annotated_file (value_of x.1.raw))) (names 0x06 method)
       (named_in_rows x.0 x.1.map x.1.raw named fits.valid.rules) there image is)

@@ -2,7 +2,7 @@ use Rattle.std.proofs.Common.{◌≡◌, ◌+◌, ◌-◌, ◌∷◌, ◌++◌, 
 use Rattle.std.specs.List.{range_with_len}
 use Rattle.std.proofs.lemmas.List.FromFn.{map-range_with_len_more}
 use Rattle.ppdb_maps.specs.declared.entries.Count.{Count}
-use Rattle.ppdb_maps.specs.declared.entries.RowImage.{RowImage}
+use Rattle.ppdb_maps.specs.declared.entries.RowLine.{RowLine}
 use Rattle.ppdb_maps.specs.Readable.{IsReadable}
 use Rattle.ppdb_maps.specs.Sample.{sample_row, sample_method}
 use Rattle.ppdb_maps.proofs.SampleMap.{sample_readable, sample_of}
@@ -15,7 +15,7 @@ loop-before-preserved c =
     let new : n - i ≡ n + 1 - (i + 1) = omega arith in
     record {
       rows = c.in_ok-push-2.ensures.items
-          ∙ ap (λ (k : ℕ). let r : RowImage = record { table = 6; old = i + 1; new = k } in c.loop-before.rows.items ++ r ∷ []) new
+          ∙ ap (λ (k : ℕ). let r : RowLine = record { table = 6; old = i + 1; new = k } in c.loop-before.rows.items ++ r ∷ []) new
           ∙ ap (λ xs. xs ++ sample_row n (i + 1) ∷ []) c.loop-before.invariant.rows ∙ sym (map-range_with_len_more (sample_row n) 1 i (i + 1) (omega arith));
       methods = c.in_ok-push-3.ensures.items ∙ ap (λ m. c.loop-before.methods.items ++ m ∷ []) c.in_ok-sample_method.ensures
           ∙ ap (λ xs. xs ++ sample_method (i + 1) ∷ []) c.loop-before.invariant.methods ∙ sym (map-range_with_len_more sample_method 1 i (i + 1) (omega arith));

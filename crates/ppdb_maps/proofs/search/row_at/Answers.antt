@@ -2,11 +2,11 @@ use Rattle.std.proofs.Common.{rules, ◌&&◌, ◌||◌}
 use Rattle.std.specs.Prelude.{nat_eq, nat_lt}
 use Rattle.std.proofs.lemmas.Fn.{always_returns_same}
 use Rattle.ppdb_maps.proofs.Halving.{by_pair}
-use Rattle.ppdb_maps.specs.declared.entries.RowImage.{RowImage}
+use Rattle.ppdb_maps.specs.declared.entries.RowLine.{RowLine}
 use Rattle.ppdb_maps.proofs.search.row_at.Goals as goal
 
 pub returns : goal.returns
-returns c = c.find_by.ensures (λ (x : RowImage). nat_lt x.table c.args.table || (nat_eq x.table c.args.table && nat_lt x.old c.args.old))
-    (λ (x : RowImage). nat_eq x.table c.args.table && nat_eq x.old c.args.old)
+returns c = c.find_by.ensures (λ (x : RowLine). nat_lt x.table c.args.table || (nat_eq x.table c.args.table && nat_lt x.old c.args.old))
+    (λ (x : RowLine). nat_eq x.table c.args.table && nat_eq x.old c.args.old)
     (always_returns_same _ _ _ (λ a r f k. search rules)) (always_returns_same _ _ _ (λ a r f k. search rules))
-    (by_pair (λ (x : RowImage). x.table) (λ (x : RowImage). x.old) c.args.table c.args.old c.args.rows.now c.requires)
+    (by_pair (λ (x : RowLine). x.table) (λ (x : RowLine). x.old) c.args.table c.args.old c.args.rows.now c.requires)

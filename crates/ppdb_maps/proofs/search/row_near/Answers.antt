@@ -4,7 +4,7 @@ use Rattle.std.specs.Option.{option_copied}
 use Rattle.std.specs.Prelude.{nat_eq, nat_lt, slice_get}
 use Rattle.ppdb_maps.proofs.Halving.{at_there, by_pair}
 use Rattle.ppdb_maps.proofs.Searching.{item_copied}
-use Rattle.ppdb_maps.specs.declared.entries.RowImage.{RowImage}
+use Rattle.ppdb_maps.specs.declared.entries.RowLine.{RowLine}
 use Rattle.ppdb_maps.proofs.search.row_near.Goals as goal
 
 pub returns-in-Some : goal.returns-in-Some
@@ -16,6 +16,6 @@ returns-in-Some c =
       eq-eqb row.table c.args.table c.if-row-table.true,
       eq-eqb row.old c.args.old c.if-row-old.true,
     ) refl in
-    sym (at_there (λ (x : RowImage). nat_lt x.table c.args.table || (nat_eq x.table c.args.table && nat_lt x.old c.args.old))
-    (λ (x : RowImage). nat_eq x.table c.args.table && nat_eq x.old c.args.old) c.args.rows.now c.args.index row
-    (by_pair (λ (x : RowImage). x.table) (λ (x : RowImage). x.old) c.args.table c.args.old c.args.rows.now c.requires) is here)
+    sym (at_there (λ (x : RowLine). nat_lt x.table c.args.table || (nat_eq x.table c.args.table && nat_lt x.old c.args.old))
+    (λ (x : RowLine). nat_eq x.table c.args.table && nat_eq x.old c.args.old) c.args.rows.now c.args.index row
+    (by_pair (λ (x : RowLine). x.table) (λ (x : RowLine). x.old) c.args.table c.args.old c.args.rows.now c.requires) is here)
