@@ -1,20 +1,17 @@
 -- How many lines of a kind a readable map may have.
-use Rattle.std.proofs.Common.{ℕ, ◌≡◌, ◌+◌, ◌≤◌, ◌++◌, List, [], ◌∷◌, length, map, arith, true}
-use Rattle.std.specs.Prelude.{is_some}
+use Rattle.std.proofs.Common.{ℕ, ◌+◌, ◌≤◌, ◌++◌, List, [], ◌∷◌, length, map, arith}
 use Rattle.std.specs.List.{AllByRecursion}
 use Rattle.std.specs.List.Sorted.{IsStrictlySortedBy}
 use Rattle.std.proofs.lemmas.List.{length-map}
 use Rattle.ppdb_base.specs.declared.offsets.Run.{Run}
 use Rattle.ppdb_base.specs.Offsets.{RiseFrom, end_of, new_end_of}
-use Rattle.ppdb_maps.specs.declared.entries.RowLine.{RowLine}
 use Rattle.ppdb_maps.specs.declared.entries.SlotImage.{SlotImage}
-use Rattle.ppdb_maps.specs.Forms.{ROWS, SLOTS}
+use Rattle.ppdb_maps.specs.Forms.{SLOTS}
 use Rattle.ppdb_maps.specs.Map.{Map, slots_of}
-use Rattle.ppdb_maps.specs.Readable.{IsReadable, IsRow}
-use Rattle.map_compose.specs.Composed.{composed_count, slot_sources}
-use Rattle.map_compose.specs.Says.{sources_of}
-use Rattle.map_compose.proofs.Orders.{Up, Above, less}
-use Rattle.map_compose.proofs.Readable.{source_rows, sources_up, slot_source_fits, slot_sources_up, slots_up, slots_hold}
+use Rattle.ppdb_maps.specs.Readable.{IsReadable}
+use Rattle.map_compose.specs.Composed.{slot_sources}
+use Rattle.ppdb_maps_text.proofs.Orders.{Up, Above, less}
+use Rattle.map_compose.proofs.Readable.{slot_source_fits, slot_sources_up, slots_up, slots_hold}
 
 above_few : (n most : ℕ) (ns : List ℕ) → n ≤ most → Above n ns → Up ns → AllByRecursion (λ k. k ≤ most) ns → n + length ns ≤ most
 unfolding IsStrictlySortedBy
@@ -26,17 +23,6 @@ pub few : (most : ℕ) (ns : List ℕ) → Up ns → AllByRecursion (λ k. k ≤
 unfolding IsStrictlySortedBy
 few most [] up all = omega arith
 few most (k ∷ ks) up all = omega (arith, above_few k most ks all.0 up.0 up.1 all.1)
-
-rows_least : (f s : Map) (table : ℕ) (rs : List RowLine) → AllByRecursion (λ (r : RowLine). IsRow r.old × (is_some (composed_count f s table) ≡ true)) rs
-    → AllByRecursion (λ k. k ≤ ROWS) (map (λ (r : RowLine). r.old) rs)
-rows_least f s table [] all = tt
-rows_least f s table (r ∷ rs) all = (all.0.0.1, rows_least f s table rs all.1)
-
-pub few_sources : (f s : Map) (table : ℕ) → IsReadable f → IsReadable s → length (sources_of f s table) ≤ 16777216
-few_sources f s table f_readable s_readable =
-    let most = few ROWS _ (sources_up f s f_readable s_readable table) (rows_least f s table _ (source_rows f s f_readable s_readable table)) in
-    let same = length-map (sources_of f s table) (λ (r : RowLine). r.old) in
-    omega (arith, most, same)
 
 slots_least : (xs : List SlotImage) → AllByRecursion (λ (x : SlotImage). x.old ≤ SLOTS) xs → AllByRecursion (λ k. k ≤ SLOTS) (map (λ (x : SlotImage). x.old) xs)
 slots_least [] all = tt

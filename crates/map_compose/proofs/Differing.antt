@@ -11,8 +11,8 @@ use Rattle.ppdb_maps.specs.Map.{Map, MethodLine, method_line}
 use Rattle.ppdb_maps.specs.Readable.{IsReadable}
 use Rattle.map_compose.specs.Composed.{has_image, second_line}
 use Rattle.map_compose.specs.Sizes.{SizesDiffer, SizesAgree, IsFirstDiffering, FirstDiffering, SizesAreJudged}
-use Rattle.map_compose.proofs.Found.{either}
-use Rattle.map_compose.proofs.Orders.{Up, Above, less}
+use Rattle.ppdb_maps_text.proofs.Found.{either}
+use Rattle.ppdb_maps_text.proofs.Orders.{Up, Above, less}
 
 abbrev number : MethodLine → ℕ
 number l = l.method

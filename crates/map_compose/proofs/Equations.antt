@@ -8,20 +8,30 @@ use Rattle.std.proofs.lemmas.Bool.{cases_lt, eq-eqb, ne_eqb, eqb-true, and_parts
 use Rattle.ppdb_base.specs.Offsets.{every, gone, Moves, Kept, kept_runs, all_offsets}
 use Rattle.ppdb_maps.specs.declared.entries.Count.{Count}
 use Rattle.ppdb_maps.specs.declared.entries.RowLine.{RowLine}
+use Rattle.ppdb_maps.specs.declared.entries.CrossLine.{CrossLine}
+use Rattle.ppdb_maps.specs.declared.entries.GoneLine.{GoneLine}
+use Rattle.ppdb_maps.specs.declared.image.RowImage.{RowImage}
+use Rattle.ppdb_maps.specs.declared.image.RowImage.TheVariants.{Row as RowOf, Gone, Missing}
 use Rattle.ppdb_maps.specs.declared.entries.SlotImage.{SlotImage}
 use Rattle.ppdb_maps.specs.declared.entries.SignatureImage.{SignatureImage}
-use Rattle.ppdb_maps.specs.Map.{Map, MethodLine, count_of, row_line, row_within, method_line, is_dropped, has_slots, slot_line, slot_image, offsets_in}
+use Rattle.ppdb_maps.specs.Map.{Map, MethodLine, count_of, row_line, cross_line, has_gone_line, told_image, line_image, row_within, row_image, method_line, is_dropped}
+use Rattle.ppdb_maps.specs.Map.{has_slots, slot_line, slot_image, offsets_in}
 use Rattle.ppdb_maps.specs.Map.{line_offsets, rows_of, slots_of, signature_line}
 use Rattle.std.specs.List.{AllByRecursion}
 use Rattle.map_compose.specs.Runs.{met, longest}
-use Rattle.map_compose.specs.Composed.{tables, composed_count, count_entry, composed_row, sources, row_entry, row_entries, spoken_of, of_image, drops_one}
+use Rattle.map_compose.specs.Composed.{tables, composed_count, count_entry, image_then, own_assembly, composed_image, composed_row, sources, sources_of, row_lined, cross_lined}
+use Rattle.map_compose.specs.Composed.{gone_lined, row_entries, cross_entries, gone_entries, spoken_of, of_image, drops_one}
 use Rattle.map_compose.specs.Composed.{has_image, second_line, composed_runs, sized, composed_line, has_slot_lines, composed_slot, slot_sources, slot_entry}
 use Rattle.map_compose.specs.Composed.{slot_entries, slotted_methods, second_offsets, composed, signature_then, composed_signature, signature_entry, signed}
 use Rattle.ppdb_maps.specs.Readable.{IsReadable, IsCount}
 use Rattle.ppdb_maps.specs.Says.{sizes_of}
 use Rattle.map_compose.specs.Composition.{Follows, ComposedComposes, sizes_then}
 use Rattle.map_compose.specs.Laws.{Apart, MovesOn}
-use Rattle.map_compose.proofs.Found.{either, has, given, made_found, filter_map_map, flat_found, has_append, has_filter, has_ascending, has_key, find_filter}
+use Rattle.ppdb_maps_text.proofs.Found.{either, has, given, made_found, filter_map_map, flat_found, has_append, has_filter, has_ascending, has_key, find_filter}
+use Rattle.ppdb_maps_text.specs.MapTexts.{olds_of}
+use Rattle.ppdb_maps_text.proofs.OneLine.{any_some}
+use Rattle.ppdb_maps_text.proofs.Starting.{olds_have as lines_have}
+use Rattle.map_compose.proofs.Imaging.{within, by_image, within_lined, told_lined, image_within, lineless, own_itself, may_cross, image_kept}
 use Rattle.map_compose.proofs.Meeting.{runs_compose}
 use Rattle.map_compose.proofs.Named.{names_are, named_are}
 
@@ -294,18 +304,59 @@ counts_are f s f_known s_known table = counts_there f s table ∙ given_true (ha
 ])
 
 -- the lines of a table have its number
-pub entries_named : (f s : Map) (k : ℕ) → map (λ (r : RowLine). r.table) (row_entries f s k) ≡ map (λ (r : RowLine). k) (row_entries f s k)
-entries_named f s k = of (sources (count_of f k) (count_of s k) f s k)
+made_named : {X : Type 0} (key : X → ℕ) (make : ℕ → Option X) (k : ℕ) → ((n : ℕ) (x : X) → make n ≡ Some x → key x ≡ k) → (ns : List ℕ)
+    → map key (filter_map make ns) ≡ map (λ x. k) (filter_map make ns)
+made_named key make k named [] = refl
+made_named {X} key make k named (n ∷ ns) = of (make n) refl (made_named key make k named ns)
   where
-    one : (o : Option ℕ) (old : ℕ) (rest : List RowLine) → map (λ (r : RowLine). r.table) rest ≡ map (λ (r : RowLine). k) rest
-        → map (λ (r : RowLine). r.table) (cons_option (option_map (λ new. record { table = k; old = old; new = new }) o) rest)
-        ≡ map (λ (r : RowLine). k) (cons_option (option_map (λ new. record { table = k; old = old; new = new }) o) rest)
-    one None old rest is = is
-    one (Some n) old rest is = ap (λ l. k ∷ l) is
+    of : (o : Option X) → make n ≡ o → map key (filter_map make ns) ≡ map (λ x. k) (filter_map make ns)
+        → map key (cons_option o (filter_map make ns)) ≡ map (λ x. k) (cons_option o (filter_map make ns))
+    of None is rest = rest
+    of (Some x) is rest = ap (λ j. j ∷ map key (filter_map make ns)) (named n x is) ∙ ap (λ l. k ∷ l) rest
 
-    of : (rs : List RowLine) → map (λ (r : RowLine). r.table) (filter_map (row_entry f s k) rs) ≡ map (λ (r : RowLine). k) (filter_map (row_entry f s k) rs)
-    of [] = refl
-    of (r ∷ rs) = one (composed_row f s k r.old) r.old (filter_map (row_entry f s k) rs) (of rs)
+-- a row's lines have its table and its number
+pub row_of_table : (table old : ℕ) (image : RowImage) (r : RowLine) → row_lined table old image ≡ Some r → (r.table ≡ table) × (r.old ≡ old)
+row_of_table table old Gone r is = absurd (cc)
+row_of_table table old Missing r is = absurd (cc)
+row_of_table table old (RowOf to new) r is = of (nat_eq to table) is
+  where
+    of : (b : Bool) → cond b (Some (record { table = table; old = old; new = new })) None ≡ Some r → (r.table ≡ table) × (r.old ≡ old)
+    of false is = absurd (cc)
+    of true is = (cc, cc)
+
+pub cross_of_table : (table old : ℕ) (image : RowImage) (r : CrossLine) → cross_lined table old image ≡ Some r → (r.table ≡ table) × (r.old ≡ old)
+cross_of_table table old Gone r is = absurd (cc)
+cross_of_table table old Missing r is = absurd (cc)
+cross_of_table table old (RowOf to new) r is = of (nat_eq to table) is
+  where
+    of : (b : Bool) → cond b None (Some (record { table = table; old = old; to = to; new = new })) ≡ Some r → (r.table ≡ table) × (r.old ≡ old)
+    of true is = absurd (cc)
+    of false is = (cc, cc)
+
+pub gone_of_table : (table old : ℕ) (image : RowImage) (r : GoneLine) → gone_lined table old image ≡ Some r → (r.table ≡ table) × (r.old ≡ old)
+gone_of_table table old Gone r is = (cc, cc)
+gone_of_table table old Missing r is = absurd (cc)
+gone_of_table table old (RowOf to new) r is = absurd (cc)
+
+abbrev pub row_entry : Map → Map → ℕ → ℕ → Option RowLine
+row_entry f s table old = row_lined table old (composed_image f s table old)
+
+abbrev pub cross_entry : Map → Map → ℕ → ℕ → Option CrossLine
+cross_entry f s table old = cross_lined table old (composed_image f s table old)
+
+abbrev pub gone_entry : Map → Map → ℕ → ℕ → Option GoneLine
+gone_entry f s table old = gone_lined table old (composed_image f s table old)
+
+pub entries_named : (f s : Map) (k : ℕ) → map (λ (r : RowLine). r.table) (row_entries f s k) ≡ map (λ (r : RowLine). k) (row_entries f s k)
+entries_named f s k = made_named (λ (r : RowLine). r.table) (row_entry f s k) k (λ n r is. (row_of_table k n (composed_image f s k n) r is).0) (sources_of f s k)
+
+pub cross_named : (f s : Map) (k : ℕ) → map (λ (r : CrossLine). r.table) (cross_entries f s k) ≡ map (λ (r : CrossLine). k) (cross_entries f s k)
+cross_named f s k = made_named (λ (r : CrossLine). r.table) (cross_entry f s k) k (λ n r is. (cross_of_table k n (composed_image f s k n) r is).0)
+    (sources_of f s k)
+
+pub gone_named : (f s : Map) (k : ℕ) → map (λ (r : GoneLine). r.table) (gone_entries f s k) ≡ map (λ (r : GoneLine). k) (gone_entries f s k)
+gone_named f s k = made_named (λ (r : GoneLine). r.table) (gone_entry f s k) k (λ n r is. (gone_of_table k n (composed_image f s k n) r is).0)
+    (sources_of f s k)
 
 table_known : (f s : Map) → TablesKnown f → TablesKnown s → (table : ℕ) → is_some (composed_count f s table) ≡ true → has table tables ≡ true
 table_known f s f_known s_known table some = elim (cases_lt table 0x2d) [
@@ -316,40 +367,63 @@ table_known f s f_known s_known table some = elim (cases_lt table 0x2d) [
       let e : false ≡ true = sym (ap is_some none) ∙ some in absurd (cc)
 ]
 
-abbrev pub row_of : Map → Map → ℕ → ℕ → Option RowLine
-row_of f s table old = option_map (λ new. record { table = table; old = old; new = new }) (composed_row f s table old)
-
-pub row_named : (f s : Map) (table k : ℕ) (r : RowLine) → row_of f s table k ≡ Some r → r.old ≡ k
-row_named f s table k r is = of (composed_row f s table k) is
-  where
-    of : (o : Option ℕ) → option_map (λ new. record { table = table; old = k; new = new }) o ≡ Some r → r.old ≡ k
-    of None is = absurd (cc)
-    of (Some n) is = cc
-
-abbrev pub line_olds : List RowLine → List ℕ
-line_olds rs = map (λ (r : RowLine). r.old) rs
-
--- the lines from which the rows of a table come
-abbrev row_sources : Map → Map → ℕ → List RowLine
-row_sources f s table = sources (count_of f table) (count_of s table) f s table
-
-rows_there : (f s : Map) (table old : ℕ)
-    → row_line (composed f s) table old ≡ given (has table tables)
-    (given (has old (line_olds (sources (count_of f table) (count_of s table) f s table))) (composed_row f s table old))
+-- the row's line of each form, where the table and the row are among those of which lines may speak
+pub rows_there : (f s : Map) (table old : ℕ)
+    → row_line (composed f s) table old
+    ≡ given (has table tables) (given (has old (sources_of f s table)) (within table (composed_image f s table old)))
 rows_there f s table old =
     ap (option_map (λ (r : RowLine). r.new))
     (flat_found (λ (r : RowLine). r.table) (λ (r : RowLine). nat_eq r.old old) (row_entries f s) (entries_named f s) table tables
-    ∙ ap (given (has table tables)) (ap (find (λ (r : RowLine). nat_eq r.old old))
-    (filter_map_map (λ (r : RowLine). r.old) (row_of f s table) (row_sources f s table))
-    ∙ made_found (λ (r : RowLine). r.old) (row_of f s table) (row_named f s table) old (line_olds (row_sources f s table))))
-    ∙ of (has table tables) (has old (line_olds (row_sources f s table))) (composed_row f s table old)
+    ∙ ap (given (has table tables)) (made_found (λ (r : RowLine). r.old) (row_entry f s table)
+    (λ n r is. (row_of_table table n (composed_image f s table n) r is).1) old (sources_of f s table)))
+    ∙ of (has table tables) (has old (sources_of f s table)) (row_entry f s table old)
+    ∙ ap (λ o. given (has table tables) (given (has old (sources_of f s table)) o)) (within_lined table old (composed_image f s table old))
   where
-    of : (a b : Bool) (o : Option ℕ) → option_map (λ (r : RowLine). r.new)
-        (given a (given b (option_map (λ new. record { table = table; old = old; new = new }) o))) ≡ given a (given b o)
+    of : (a b : Bool) (o : Option RowLine) → option_map (λ (r : RowLine). r.new) (given a (given b o))
+        ≡ given a (given b (option_map (λ (r : RowLine). r.new) o))
     of false b o = refl
     of true false o = refl
-    of true true None = refl
-    of true true (Some n) = refl
+    of true true o = refl
+
+pub crossed_there : (f s : Map) (table old : ℕ)
+    → cross_line (composed f s) table old ≡ given (has table tables) (given (has old (sources_of f s table)) (cross_entry f s table old))
+crossed_there f s table old =
+    flat_found (λ (r : CrossLine). r.table) (λ (r : CrossLine). nat_eq r.old old) (cross_entries f s) (cross_named f s) table tables
+    ∙ ap (given (has table tables)) (made_found (λ (r : CrossLine). r.old) (cross_entry f s table)
+    (λ n r is. (cross_of_table table n (composed_image f s table n) r is).1) old (sources_of f s table))
+
+pub gone_there : (f s : Map) (table old : ℕ)
+    → has_gone_line (composed f s) table old
+    ≡ is_some (given (has table tables) (given (has old (sources_of f s table)) (gone_entry f s table old)))
+gone_there f s table old =
+    any_some (λ (r : GoneLine). nat_eq r.table table && nat_eq r.old old) (composed f s).gone
+    ∙ ap is_some (flat_found (λ (r : GoneLine). r.table) (λ (r : GoneLine). nat_eq r.old old) (gone_entries f s) (gone_named f s) table tables
+    ∙ ap (given (has table tables)) (made_found (λ (r : GoneLine). r.old) (gone_entry f s table)
+    (λ n r is. (gone_of_table table n (composed_image f s table n) r is).1) old (sources_of f s table)))
+
+-- by the lines of the map of both a row has the image by both
+pub lined_image : (f s : Map) (table old : ℕ)
+    → line_image (composed f s) table old ≡ cond (has table tables && has old (sources_of f s table)) (composed_image f s table old) Missing
+lined_image f s table old =
+    ap (λ a. told_image table a (cross_line (composed f s) table old) (has_gone_line (composed f s) table old)) (rows_there f s table old)
+    ∙ ap (λ b. told_image table (given t (given k (within table image))) b (has_gone_line (composed f s) table old)) (crossed_there f s table old)
+    ∙ ap (told_image table (given t (given k (within table image))) (given t (given k (cross_entry f s table old)))) (gone_there f s table old)
+    ∙ of t k
+  where
+    image : RowImage
+    image = composed_image f s table old
+
+    t : Bool
+    t = has table tables
+
+    k : Bool
+    k = has old (sources_of f s table)
+
+    of : (a b : Bool) → told_image table (given a (given b (within table image))) (given a (given b (cross_lined table old image)))
+        (is_some (given a (given b (gone_lined table old image)))) ≡ cond (a && b) image Missing
+    of false b = refl
+    of true false = refl
+    of true true = told_lined table old image
 
 -- ---- the image of a row, by its line, whether its method is dropped, and the table's count
 
@@ -359,24 +433,9 @@ by line old drops count = cond drops None (elim count as (λ _. Option ℕ) [ No
 pub image_plain : (m : Map) (table old : ℕ) → (nat_eq table 0x06 && is_dropped m old) ≡ false → count_of m table ≡ None → row_within m table old ≡ Some old
 image_plain m table old live none = ap (λ b. by (row_line m table old) old b (count_of m table)) live ∙ ap (by (row_line m table old) old false) none
 
-lines_have : (m : Map) (table old : ℕ) → has old (line_olds (rows_of m table))
-    ≡ is_some (find (λ (r : RowLine). nat_eq r.table table && nat_eq r.old old) m.rows)
-lines_have m table old = has_key (λ (r : RowLine). r.old) old (rows_of m table)
-    ∙ ap is_some (find_filter (λ (r : RowLine). nat_eq r.table table) (λ (r : RowLine). nat_eq r.old old) m.rows)
-
 pub is_some_map : {A B : Type 0} (g : A → B) (o : Option A) → is_some (option_map g o) ≡ is_some o
 is_some_map g None = refl
 is_some_map g (Some a) = refl
-
-image_lined : (m : Map) (table old n : ℕ) → count_of m table ≡ Some n → is_some (row_within m table old) ≡ true → has old (line_olds (rows_of m table)) ≡ true
-image_lined m table old n count some = lines_have m table old
-    ∙ sym (is_some_map (λ (r : RowLine). r.new) (find (λ (r : RowLine). nat_eq r.table table && nat_eq r.old old) m.rows))
-    ∙ of (nat_eq table 0x06 && is_dropped m old) (count_of m table) count some
-  where
-    of : (b : Bool) (c : Option ℕ) → c ≡ Some n → is_some (by (row_line m table old) old b c) ≡ true → is_some (row_line m table old) ≡ true
-    of true c is some = absurd (cc)
-    of false None is some = absurd (cc)
-    of false (Some k) is some = some
 
 -- a row has an image by both only where it has one by the first
 pub first_some : (f s : Map) (table old : ℕ) → is_some (composed_row f s table old) ≡ true → is_some (row_within f table old) ≡ true
@@ -397,33 +456,41 @@ and_second true false c e is = e
 and_second false b c e is = absurd (cc)
 
 -- a dropped row has no image by both
-pub dropped_none : (f s : Map) (table old : ℕ) → (nat_eq table 0x06 && drops_one f s old) ≡ true → composed_row f s table old ≡ None
+pub dropped_none : (f s : Map) (table old : ℕ) → (nat_eq table 0x06 && drops_one f s old) ≡ true → composed_image f s table old ≡ Missing
 dropped_none f s table old is =
     let parts = and_parts (nat_eq table 0x06) (drops_one f s old) is in
-    subst (λ t. composed_row f s t old ≡ None) (sym (eqb-true table 0x06 parts.0))
+    subst (λ t. composed_image f s t old ≡ Missing) (sym (eqb-true table 0x06 parts.0))
     (elim (or_parts (is_dropped f old) (of_image false (is_dropped s) (row_within f 0x06 old)) parts.1) [
-      | inl own ↦ ap (option_and_then (row_within s 0x06)) (none_of f old own)
-      | inr later ↦ let i = of_some (is_dropped s) (row_within f 0x06 old) later in ap (option_and_then (row_within s 0x06)) i.1.0 ∙ none_of s i.0 i.1.1
+      | inl own ↦ ap (λ i. own_assembly 0x06 (image_then s i)) (none_of f old own)
+      | inr later ↦
+          let i = of_some (is_dropped s) (row_within f 0x06 old) later in
+          ap (λ i. own_assembly 0x06 (image_then s i)) (image_within f 0x06 old i.0 i.1.0) ∙ ap (own_assembly 0x06) (none_of s i.0 i.1.1)
     ])
   where
-    none_of : (m : Map) (row : ℕ) → is_dropped m row ≡ true → row_within m 0x06 row ≡ None
-    none_of m row drops = ap (λ b. by (row_line m 0x06 row) row b (count_of m 0x06)) drops
+    none_of : (m : Map) (row : ℕ) → is_dropped m row ≡ true → row_image m 0x06 row ≡ Missing
+    none_of m row drops = ap (λ b. by_image 0x06 row (line_image m 0x06 row) b (count_of m 0x06)) drops
 
-abbrev lined_row : Map → Map → ℕ → ℕ → Option ℕ → Option ℕ → Option ℕ
-lined_row f s table old cf cs = given (has table tables) (given (has old (line_olds (sources cf cs f s table))) (composed_row f s table old))
-
-pub rows_are : (f s : Map) → TablesKnown f → TablesKnown s → (table old : ℕ) → row_within (composed f s) table old ≡ composed_row f s table old
-rows_are f s f_known s_known table old =
-    ap (λ b. by (row_line (composed f s) table old) old (nat_eq table 0x06 && b) (count_of (composed f s) table)) (drops_are f s old)
-    ∙ ap (by (row_line (composed f s) table old) old (nat_eq table 0x06 && drops_one f s old)) (counts_are f s f_known s_known table)
-    ∙ ap (λ l. by l old (nat_eq table 0x06 && drops_one f s old) (composed_count f s table)) (rows_there f s table old)
+pub images_are : (f s : Map) → TablesKnown f → TablesKnown s → (table old : ℕ) → row_image (composed f s) table old ≡ composed_image f s table old
+images_are f s f_known s_known table old =
+    ap (λ b. by_image table old (line_image (composed f s) table old) (nat_eq table 0x06 && b) (count_of (composed f s) table)) (drops_are f s old)
+    ∙ ap (by_image table old (line_image (composed f s) table old) (nat_eq table 0x06 && drops_one f s old)) (counts_are f s f_known s_known table)
+    ∙ ap (λ l. by_image table old l (nat_eq table 0x06 && drops_one f s old) (composed_count f s table)) (lined_image f s table old)
     ∙ by_drop (nat_eq table 0x06 && drops_one f s old) refl
   where
-    lined : (src : List RowLine) → is_some (composed_count f s table) ≡ true → (is_some (composed_row f s table old) ≡ true → has old (line_olds src) ≡ true)
-        → given (has table tables) (given (has old (line_olds src)) (composed_row f s table old)) ≡ composed_row f s table old
-    lined src there has_it =
-        ap (λ b. given b (given (has old (line_olds src)) (composed_row f s table old))) (table_known f s f_known s_known table there)
-        ∙ given_true (has old (line_olds src)) (composed_row f s table old) has_it
+    image : RowImage
+    image = composed_image f s table old
+
+    lined : Option ℕ → Option ℕ → RowImage
+    lined cf cs = cond (has table tables && has old (sources cf cs f s table)) image Missing
+
+    there : (src : List ℕ) → is_some (composed_count f s table) ≡ true → (has old src ≡ false → image ≡ Missing)
+        → cond (has table tables && has old src) image Missing ≡ image
+    there src some none =
+        ap (λ b. cond (b && has old src) image Missing) (table_known f s f_known s_known table some) ∙ of (has old src) refl
+      where
+        of : (b : Bool) → has old src ≡ b → cond b image Missing ≡ image
+        of true is = refl
+        of false is = sym (none is)
 
     -- the first map leaves the row where it is
     first_stays : (nat_eq table 0x06 && drops_one f s old) ≡ false → count_of f table ≡ None → row_within f table old ≡ Some old
@@ -439,20 +506,58 @@ rows_are f s f_known s_known table old =
             sym (ap (of_image false (is_dropped s)) at) ∙ and_second (nat_eq table 0x06) (is_dropped f old)
             (of_image false (is_dropped s) (row_within f 0x06 old)) live is
 
+    -- then the second map alone decides
+    second_image : (nat_eq table 0x06 && drops_one f s old) ≡ false → count_of f table ≡ None → image ≡ own_assembly table (row_image s table old)
+    second_image live none = ap (λ i. own_assembly table (image_then s i)) (image_within f table old old (first_stays live none))
+
+    no_line : (m : Map) (n : ℕ) → count_of m table ≡ Some n → has old (olds_of m table) ≡ false → row_image m table old ≡ Missing
+    no_line m n count none = lineless m table old n count (sym (lines_have m table old) ∙ none)
+
     of : (cf cs : Option ℕ) → count_of f table ≡ cf → count_of s table ≡ cs → (nat_eq table 0x06 && drops_one f s old) ≡ false
-        → by (lined_row f s table old cf cs) old false (option_or cs cf) ≡ composed_row f s table old
-    of None None is also live = sym (ap (option_and_then (row_within s table)) (first_stays live is) ∙ image_plain s table old (second_live live is) also)
-    of None (Some n) is also live = lined (rows_of s table) (ap (λ o. is_some (option_or o (count_of f table))) also) (λ some.
-        image_lined s table old n also (sym (ap (λ o. is_some (option_and_then (row_within s table) o)) (first_stays live is)) ∙ some))
-    of (Some n) None is also live = lined (rows_of f table) (ap (λ o. is_some (option_or o (count_of f table))) also
-        ∙ ap is_some is) (λ some. image_lined f table old n is (first_some f s table old some))
-    of (Some n) (Some k) is also live = lined (rows_of f table) (ap (λ o. is_some (option_or o (count_of f table))) also)
-        (λ some. image_lined f table old n is (first_some f s table old some))
+        → by_image table old (lined cf cs) false (option_or cs cf) ≡ image
+    of None None is also live =
+        sym (second_image live is ∙ ap (own_assembly table) (image_within s table old old (image_plain s table old (second_live live is) also))
+        ∙ own_itself table old)
+    of None (Some n) is also live = there (olds_of s table) (ap (λ o. is_some (option_or o (count_of f table))) also)
+        (λ none. second_image live is ∙ ap (own_assembly table) (no_line s n also none))
+    of (Some n) None is also live = there (olds_of f table) (ap (λ o. is_some (option_or o (count_of f table))) also ∙ ap is_some is)
+        (λ none. ap (λ i. own_assembly table (image_then s i)) (no_line f n is none))
+    of (Some n) (Some k) is also live = there (olds_of f table) (ap (λ o. is_some (option_or o (count_of f table))) also)
+        (λ none. ap (λ i. own_assembly table (image_then s i)) (no_line f n is none))
 
     by_drop : (b : Bool) → (nat_eq table 0x06 && drops_one f s old) ≡ b
-        → by (lined_row f s table old (count_of f table) (count_of s table)) old b (composed_count f s table) ≡ composed_row f s table old
+        → by_image table old (lined (count_of f table) (count_of s table)) b (composed_count f s table) ≡ image
     by_drop true is = sym (dropped_none f s table old is)
     by_drop false is = of (count_of f table) (count_of s table) refl refl is
+
+-- the row of the same table
+pub composed_within : (f s : Map) (table old : ℕ) → row_within (composed f s) table old ≡ within table (row_image (composed f s) table old)
+composed_within f s table old =
+    ap (λ a. by a old (nat_eq table 0x06 && is_dropped (composed f s) old) (count_of (composed f s) table)) (rows_there f s table old)
+    ∙ of (nat_eq table 0x06 && is_dropped (composed f s) old) (count_of (composed f s) table)
+    ∙ sym (ap (λ l. within table (by_image table old l (nat_eq table 0x06 && is_dropped (composed f s) old) (count_of (composed f s) table)))
+    (lined_image f s table old))
+  where
+    image : RowImage
+    image = composed_image f s table old
+
+    given_cond : (a b : Bool) → given a (given b (within table image)) ≡ within table (cond (a && b) image Missing)
+    given_cond false b = refl
+    given_cond true false = refl
+    given_cond true true = refl
+
+    of : (b : Bool) (c : Option ℕ)
+        → by (given (has table tables) (given (has old (sources_of f s table)) (within table image))) old b c
+        ≡ within table (by_image table old (cond (has table tables && has old (sources_of f s table)) image Missing) b c)
+    of true c = refl
+    of false None = sym (ap (λ b. cond b (Some old) None) (eq-eqb table table refl))
+    of false (Some n) = given_cond (has table tables) (has old (sources_of f s table))
+
+pub kept_row : (f s : Map) → IsReadable f → IsReadable s → (table old : ℕ) → may_cross table ≡ false
+    → row_within (composed f s) table old ≡ composed_row f s table old
+kept_row f s f_readable s_readable table old stays =
+    composed_within f s table old ∙ ap (within table) (images_are f s (tables_known f f_readable) (tables_known s s_readable) table old)
+    ∙ image_kept f s f_readable s_readable table old stays
 
 -- ---- slots
 
@@ -636,7 +741,8 @@ apart f s m line is = of (has_image f s m) (sym (lines_are f s m) ∙ is)
 pub composed_composes : ComposedComposes
 composed_composes = λ f s f_readable s_readable. record {
   counts = counts_are f s (tables_known f f_readable) (tables_known s s_readable);
-  rows = rows_are f s (tables_known f f_readable) (tables_known s s_readable);
+  rows = images_are f s (tables_known f f_readable) (tables_known s s_readable);
+  methods = λ method. kept_row f s f_readable s_readable 0x06 method refl;
   drops = drops_are f s;
   slots = λ m image old follows. slots_are f s m image follows old;
   sizes = λ m image follows. sizes_are f s m image follows;
@@ -645,6 +751,7 @@ composed_composes = λ f s f_readable s_readable. record {
   names = names_are f s;
   named = named_are f s;
   link = refl;
+  shares = refl;
   without_image = without_image f s;
   apart = apart f s;
 }

@@ -1,25 +1,24 @@
 -- The text of a readable map has fewer than 2 ^ 64 bytes.
-use Rattle.std.proofs.Common.{ℕ, zero, suc, ◌+◌, ◌*◌, ◌<◌, ◌≤◌, ◌++◌, Bool, true, false, cond, ◌≡◌, ◌∙◌, ap, List, [], ◌∷◌, length, map}
+use Rattle.std.proofs.Common.{ℕ, zero, suc, ◌+◌, ◌*◌, ◌<◌, ◌≤◌, ◌++◌, Bool, true, false, cond, ◌≡◌, ◌∙◌, refl, sym, ap, subst, List, [], ◌∷◌, length, map}
 use Rattle.std.proofs.Common.{arith, length-append, Option, Some, None}
-use Rattle.std.specs.Prelude.{nat_eq, codes, IfSome, if◌then◌else◌}
+use Rattle.std.specs.Prelude.{nat_eq, codes, is_some, IfSome, if◌then◌else◌}
 use Rattle.std.specs.Fmt.{decimal}
 use Rattle.std.specs.List.{AllByRecursion, filter, flat_map}
 use Rattle.std.proofs.lemmas.List.{length-map}
 use Rattle.ppdb_maps.specs.declared.entries.Count.{Count}
-use Rattle.ppdb_maps.specs.declared.entries.RowLine.{RowLine}
 use Rattle.ppdb_maps.specs.declared.entries.SlotImage.{SlotImage}
 use Rattle.ppdb_maps.specs.declared.entries.SignatureImage.{SignatureImage}
 use Rattle.ppdb_maps.specs.declared.entries.NameLine.{NameLine}
 use Rattle.ppdb_base.specs.Escaped.{is_plain, code_of, escaped_byte, escaped}
 use Rattle.ppdb_maps.specs.declared.line.Line.{Line}
-use Rattle.ppdb_maps.specs.declared.line.Line.TheVariants.{Silent, Rows, Row, Method, Kept, Dropped, Slots, Slot, Signature, Document, Link}
+use Rattle.ppdb_maps.specs.declared.line.Line.TheVariants.{Silent, Rows, Row, Cross, Gone, Method, Kept, Dropped, Slots, Slot, Signature, Document, Link, Shares}
 use Rattle.ppdb_maps.specs.Forms.{ROWS, OFFSETS, SLOTS}
-use Rattle.ppdb_maps.specs.Map.{Map, MethodLine, rows_of, slots_of}
-use Rattle.ppdb_maps.specs.Readable.{IsReadable, IsRow, IsCount, IsRowOf, IsLineOf, IsSlottedOf, IsSlotOf, IsSignatureOf}
+use Rattle.ppdb_maps.specs.Map.{Map, MethodLine, count_of, line_image, slots_of}
+use Rattle.ppdb_maps.specs.Readable.{IsReadable, IsRow, IsCount, IsLineOf, IsSlottedOf, IsSlotOf, IsSignatureOf}
 use Rattle.ppdb_maps.proofs.Numbers.{may_spell_decimal, length_may_spell}
 use Rattle.ppdb_maps.proofs.Spelled.{code_is}
-use Rattle.ppdb_maps_text.specs.MapTexts.{spaced, table_word, line_text, ended, row_says, slot_says, signature_says, count_says, slots_say, method_says, map_says, map_text}
-use Rattle.ppdb_maps_text.specs.MapTexts.{version_with, head_text, link_says}
+use Rattle.ppdb_maps_text.specs.MapTexts.{spaced, table_word, line_text, ended, slot_says, signature_says, count_says, slots_say, method_says, map_says, map_text}
+use Rattle.ppdb_maps_text.specs.MapTexts.{version_of, head_text, shares_says, link_says, image_says, olds_of}
 use Rattle.map_compose.proofs.Putting.{lines_join}
 use Rattle.map_compose.specs.Says.{lines_text}
 use Rattle.std.proofs.lemmas.Bool.{eqb-true}
@@ -27,9 +26,11 @@ use Rattle.map_compose.specs.Joining.{IsShort as IsShortRun}
 use Rattle.map_compose.specs.Fits.{IsShort, IsShortLine, NamesFit}
 use Rattle.map_compose.proofs.Bounds.{few}
 use Rattle.map_compose.proofs.Gathering.{few_runs}
-use Rattle.map_compose.proofs.Orders.{Up}
+use Rattle.ppdb_maps_text.proofs.OneLine.{has_line, OneLine, by_row, by_cross, by_gone, one_line, says_row, says_cross, says_gone}
+use Rattle.ppdb_maps_text.proofs.Orders.{Up}
+use Rattle.ppdb_maps_text.proofs.Starting.{olds_lined, olds_up}
 use Rattle.map_compose.proofs.Places.{line_runs}
-use Rattle.map_compose.proofs.Readable.{line_numbers, rows_up, slots_up, slots_hold, slotted_rows, signed_rows, filter_hold}
+use Rattle.map_compose.proofs.Readable.{line_numbers, olds_rows, slots_up, slots_hold, slotted_rows, signed_rows, filter_hold}
 
 digits_few : (n : ℕ) → n ≤ OFFSETS → length (decimal n) ≤ 10
 digits_few n le = length_may_spell (decimal n) (may_spell_decimal n (omega (arith, le)))
@@ -47,6 +48,9 @@ IsSmall (Slot m o n) = (m ≤ OFFSETS) × (o ≤ OFFSETS) × (n ≤ OFFSETS)
 IsSmall (Signature m n) = (m ≤ OFFSETS) × (n ≤ OFFSETS)
 IsSmall (Document d) = ⊥
 IsSmall (Link value) = ⊥
+IsSmall (Cross line) = (line.old ≤ OFFSETS) × (line.new ≤ OFFSETS)
+IsSmall (Gone t o) = o ≤ OFFSETS
+IsSmall Shares = Unit {0}
 
 words_long : (ws : List (List ℕ)) (most : ℕ) → AllByRecursion (λ w. length w ≤ 10) ws → length ws ≤ most → length (flat_map (λ w. 32 ∷ w) ws) ≤ most * 11
 words_long [] most all le = omega (arith, le)
@@ -55,10 +59,10 @@ words_long (w ∷ ws) (suc most) all le =
     let rest = words_long ws most all.1 (omega (arith, le)) in
     omega (arith, all.0, rest, length-append (32 ∷ w) (flat_map (λ w. 32 ∷ w) ws))
 
-spaced_long : (word : List ℕ) (ws : List (List ℕ)) → length word ≤ 10 → AllByRecursion (λ w. length w ≤ 10) ws → length ws ≤ 3
+spaced_long : (word : List ℕ) (ws : List (List ℕ)) → length word ≤ 10 → AllByRecursion (λ w. length w ≤ 10) ws → length ws ≤ 4
     → length (spaced word ws ++ 10 ∷ []) ≤ 64
 spaced_long word ws short all few =
-    let rest = words_long ws 3 all few in
+    let rest = words_long ws 4 all few in
     omega (arith, short, rest, length-append (spaced word ws) (10 ∷ []), length-append word (flat_map (λ w. 32 ∷ w) ws))
 
 line_long : (x : Line) → IsSmall x → length (ended (line_text x)) ≤ 64
@@ -78,6 +82,10 @@ line_long (Signature m n) small = spaced_long (codes "signature") (decimal m ∷
     (digits_few m small.0, (digits_few n small.1, tt)) (omega arith)
 line_long (Document d) small = absurd small
 line_long (Link value) small = absurd small
+line_long (Cross line) small = spaced_long (codes "row") (table_word line.table ∷ decimal line.old ∷ table_word line.to ∷ decimal line.new ∷ []) (omega arith)
+    (omega arith, (digits_few line.old small.0, (omega arith, (digits_few line.new small.1, tt)))) (omega arith)
+line_long (Gone t o) small = spaced_long (codes "gone") (table_word t ∷ decimal o ∷ []) (omega arith) (omega arith, (digits_few o small, tt)) (omega arith)
+line_long Shares small = spaced_long (codes "shares") [] (omega arith) tt (omega arith)
 
 lines_long : (xs : List Line) → AllByRecursion IsSmall xs → length (lines_text xs) ≤ length xs * 64
 lines_long [] all = omega arith
@@ -134,6 +142,10 @@ link_long (Some value) short =
     let long : length (ended (line_text (Link value))) ≡ 4 + length (escaped value) + 2 = one_word (codes "link") (escaped value) in
     omega (arith, long, escaped_long value short, length-append (ended (line_text (Link value))) [])
 
+shares_long : (b : Bool) → length (lines_text (shares_says b)) ≤ 64
+shares_long false = omega arith
+shares_long true = omega (arith, line_long Shares tt, length-append (ended (line_text Shares)) [])
+
 -- ---- how many lines
 
 -- each says so many lines at most, and each of them is small
@@ -170,29 +182,51 @@ chosen {A} P p (x ∷ xs) all = of (p x) (chosen P p xs all.1)
     of true rest = (all.0, rest)
     of false rest = rest
 
-module _ (m : Map) (readable : IsReadable m) where
-  row_small : (r : RowLine) → IsRowOf m r → IsSmall (row_says r)
-  row_small r is = (omega (arith, is.0.1), omega (arith, is.1.1))
+-- the parts of a text
+short_sum : (all head says first rest value others names lines few : ℕ) → all ≡ head + says → head ≡ 10 → says ≡ first + rest
+    → rest ≡ value + others + names → first ≤ 64 → value ≤ 1073741840 → others ≤ lines * 64
+    → lines ≤ 45 * 16777217 + 16777216 + 16777216 * 65537 + 16777216 + 16777216 * 2147483648
+    → names ≤ few * 1073741840 → few ≤ 268435456 → all < 0xffffffffffffffff
+short_sum all head says first rest value others names lines few a b c d e f g h i j = omega (arith, a, b, c, d, e, f, g, h, i, j)
 
+module _ (m : Map) (readable : IsReadable m) where
   row_most : (ns : List ℕ) → AllByRecursion IsRow ns → AllByRecursion (λ k. k ≤ ROWS) ns
   row_most ns all = each IsRow (λ k. k ≤ ROWS) (λ k is. is.1) ns all
 
   few_rows : (ns : List ℕ) → Up ns → AllByRecursion IsRow ns → length ns ≤ 16777216
   few_rows ns up all = few ROWS ns up (row_most ns all)
 
+  -- a row says one line at most
+  one_says : (ls : List Line) (x : Line) → ls ≡ x ∷ [] → IsSmall x → (length ls ≤ 1) × AllByRecursion IsSmall ls
+  one_says ls x is small = subst (λ ls. (length ls ≤ 1) × AllByRecursion IsSmall ls) (sym is) (omega arith, (small, tt))
+
+  image_says_few : (t o : ℕ) → OneLine m t o
+      → (length (image_says t o (line_image m t o)) ≤ 1) × AllByRecursion IsSmall (image_says t o (line_image m t o))
+  image_says_few _ _ (by_row line holds row cross gone) =
+      one_says _ (Row line.table line.old line.new) (says_row m line.table line.old line.new row)
+      (let old = holds.0.1 in let new = holds.1.1 in (omega (arith, old), omega (arith, new)))
+  image_says_few _ _ (by_cross line holds some row cross gone) =
+      one_says _ (Cross line) (says_cross m line holds.2 row cross)
+      (let old = holds.0.1 in let new = holds.1.1 in (omega (arith, old), omega (arith, new)))
+  image_says_few _ _ (by_gone line holds some row cross gone) =
+      one_says _ (Gone line.table line.old) (says_gone m line.table line.old row cross gone) (let old = holds.0.1 in omega (arith, old))
+
+  old_few : (t o : ℕ) → has_line m t o ≡ true → Few (λ o. image_says t o (line_image m t o)) 1 o
+  old_few t o there = let h = image_says_few t o (one_line m readable t o there) in record { few = h.0; small = h.1 }
+
+  olds_few : (t : ℕ) → AllByRecursion (Few (λ o. image_says t o (line_image m t o)) 1) (olds_of m t)
+  olds_few t = each (λ o. has_line m t o ≡ true) (Few (λ o. image_says t o (line_image m t o)) 1) (old_few t) (olds_of m t) (olds_lined m t)
+
   count_few : (count : Count) → IsCount count → Few (count_says m) 16777217 count
   count_few count is = record {
     few =
-        let rows = few_rows (map (λ (r : RowLine). r.old) (rows_of m count.table)) (rows_up m readable count.table)
-        (mapped (IsRowOf m) IsRow (λ (r : RowLine). r.old) (λ r row. row.0) (rows_of m count.table)
-        (chosen (IsRowOf m) (λ r. nat_eq r.table count.table) m.rows readable.rows)) in
-        let same = length-map (rows_of m count.table) (λ (r : RowLine). r.old) in
-        let also = length-map (rows_of m count.table) row_says in
-        omega (arith, rows, same, also);
+        let olds = few_rows (olds_of m count.table) (olds_up m count.table)
+        (each (λ o. IsRow o × (is_some (count_of m count.table) ≡ true)) IsRow (λ o row. row.0) (olds_of m count.table) (olds_rows m readable count.table)) in
+        let lines = flat_few (λ o. image_says count.table o (line_image m count.table o)) 1 (olds_of m count.table) (olds_few count.table) in
+        omega (arith, olds, lines);
     small = (
       omega (arith, is.1),
-      mapped (IsRowOf m) IsSmall row_says row_small (rows_of m count.table)
-          (chosen (IsRowOf m) (λ r. nat_eq r.table count.table) m.rows readable.rows),
+      flat_small (λ o. image_says count.table o (line_image m count.table o)) 1 (olds_of m count.table) (olds_few count.table),
     );
   }
 
@@ -311,7 +345,11 @@ module _ (m : Map) (readable : IsReadable m) where
       let names = all_named_long m.documents fit.short in
       let most = fit.few in
       let value = link_long m.link fit.link in
+      let shares = shares_long m.shares in
       let parts = text_parts (link_says m.link) (flat_map (count_says m) m.counts) (map (λ k. Dropped k) m.drops) (flat_map (slots_say m) m.slotted)
       (map signature_says m.signatures) (map (λ d. Document d) m.documents) (flat_map method_says m.methods) in
-      let all = length-append (ended (head_text (version_with m.signatures m.documents m.link))) (lines_text (map_says m)) in
-      omega (arith, lines, few, names, most, value, parts, all)
+      let rest : List Line = link_says m.link ++ (flat_map (count_says m) m.counts ++ (map (λ k. Dropped k) m.drops ++ (flat_map (slots_say m) m.slotted
+      ++ (map signature_says m.signatures ++ (map (λ d. Document d) m.documents ++ flat_map method_says m.methods))))) in
+      let whole = ap length (lines_join (shares_says m.shares) rest) ∙ length-append (lines_text (shares_says m.shares)) (lines_text rest) in
+      let all = length-append (ended (head_text (version_of m))) (lines_text (map_says m)) in
+      short_sum (length (map_text m)) _ _ _ _ _ _ _ _ _ all refl whole parts shares value lines few names most

@@ -1,8 +1,7 @@
 pub mod Rising
 pub mod Meeting
-pub mod Found
-pub mod Orders
 pub mod Named
+pub mod Imaging
 pub mod Equations
 pub mod Readable
 pub mod Next
@@ -11,6 +10,8 @@ pub mod JoinedRuns
 pub mod Making
 pub mod Following
 pub mod Merging
+pub mod Thrice
+pub mod Crossing
 pub mod Differing
 pub mod Prefixes
 pub mod Gathering

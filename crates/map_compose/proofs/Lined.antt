@@ -22,7 +22,7 @@ use Rattle.map_compose.specs.Laws.{Apart}
 use Rattle.map_compose.specs.Says.{lined_says, line_of_both}
 use Rattle.map_compose.specs.Sizes.{SizesAgree}
 use Rattle.map_compose.proofs.Equations.{there, first_offsets, second_are, runs_are}
-use Rattle.map_compose.proofs.Found.{either}
+use Rattle.ppdb_maps_text.proofs.Found.{either}
 use Rattle.map_compose.proofs.Gathering.{few_runs}
 use Rattle.map_compose.proofs.Meeting.{runs_compose}
 use Rattle.map_compose.proofs.Merging.{few_own}

@@ -3,13 +3,12 @@ use Rattle.std.proofs.Common.{ℕ, ◌≡◌, ◌+◌, ◌<◌, ◌++◌, List, 
 use Rattle.std.specs.List.{filter_map, cons_option, slice_get}
 use Rattle.std.specs.Option.{option_map}
 use Rattle.ppdb_maps.specs.declared.line.Line.{Line}
-use Rattle.ppdb_maps.specs.declared.entries.RowLine.{RowLine}
 use Rattle.ppdb_maps.specs.declared.entries.SlotImage.{SlotImage}
 use Rattle.ppdb_maps.specs.Map.{Map}
 use Rattle.ppdb_maps_text.specs.declared.counted.Counted.{Counted}
-use Rattle.ppdb_maps_text.specs.MapTexts.{row_says, slot_says}
-use Rattle.map_compose.specs.Composed.{row_entry, slot_entry, composed_row, composed_slot}
-use Rattle.map_compose.specs.Says.{PutsLines, image_says, slot_image_says}
+use Rattle.ppdb_maps_text.specs.MapTexts.{slot_says}
+use Rattle.map_compose.specs.Composed.{slot_entry, composed_slot}
+use Rattle.map_compose.specs.Says.{PutsLines, slot_image_says}
 use Rattle.map_compose.proofs.Putting.{says_then, says_same, map_join, take_more, take_past, within}
 
 pub made_join : {X Y : Type 0} (make : X → Option Y) (xs ys : List X) → filter_map make (xs ++ ys) ≡ filter_map make xs ++ filter_map make ys
@@ -52,32 +51,7 @@ module _ {X Y : Type 0} (key : X → ℕ) (make : X → Option Y) (says : Y → 
       of None is = refl
       of (Some x) is = absurd (cc)
 
--- ---- rows, and slots
-
-row_told : (f s : Map) (table : ℕ) (x : RowLine) → map row_says (cons_option (row_entry f s table x) [])
-    ≡ image_says table x.old (composed_row f s table x.old)
-row_told f s table x = of (composed_row f s table x.old)
-  where
-    of : (o : Option ℕ) → map row_says (cons_option (option_map (λ new. record { table = table; old = x.old; new = new }) o) []) ≡ image_says table x.old o
-    of None = refl
-    of (Some n) = refl
-
-abbrev old_row : RowLine → ℕ
-old_row r = r.old
-
-pub row_within : (xs : List RowLine) (i k : ℕ) → option_map (λ (r : RowLine). r.old) (slice_get xs i) ≡ Some k → i < length xs
-row_within xs i k is = key_within old_row (λ r. None) row_says (λ k. []) (λ x. refl) xs i k is
-
-pub rows_next : (f s : Map) (table : ℕ) (xs : List RowLine) (i k : ℕ) (old mid new : Counted) → option_map (λ (r : RowLine). r.old) (slice_get xs i) ≡ Some k
-    → PutsLines old mid (map row_says (filter_map (row_entry f s table) (take i xs))) → PutsLines mid new (image_says table k (composed_row f s table k))
-    → PutsLines old new (map row_says (filter_map (row_entry f s table) (take (i + 1) xs)))
-rows_next f s table xs i k old mid new is h put =
-    made_next old_row (row_entry f s table) row_says (λ n. image_says table n (composed_row f s table n)) (row_told f s table) xs i k old mid new is h put
-
-pub rows_done : (f s : Map) (table : ℕ) (xs : List RowLine) (i : ℕ) (old new : Counted) → option_map (λ (r : RowLine). r.old) (slice_get xs i) ≡ None
-    → PutsLines old new (map row_says (filter_map (row_entry f s table) (take i xs))) → PutsLines old new (map row_says (filter_map (row_entry f s table) xs))
-rows_done f s table xs i old new is h =
-    made_done old_row (row_entry f s table) row_says (λ n. image_says table n (composed_row f s table n)) (row_told f s table) xs i old new is h
+-- ---- slots
 
 slot_told : (f s : Map) (method : ℕ) (x : SlotImage) → map slot_says (cons_option (slot_entry f s method x) [])
     ≡ slot_image_says method x.old (composed_slot f s method x.old)

@@ -12,10 +12,10 @@ use Rattle.ppdb_maps.specs.Map.{Map, count_of}
 use Rattle.ppdb_maps.specs.Readable.{IsReadable, IsRow}
 use Rattle.map_compose.specs.declared.part.Part.{Part}
 use Rattle.map_compose.specs.declared.part.Part.TheVariants.{Drops, Slots, Signatures, Methods}
-use Rattle.map_compose.specs.Ascending.{ascending}
+use Rattle.ppdb_maps_text.specs.Ascending.{ascending}
 use Rattle.map_compose.specs.Parts.{part_numbers, other_numbers}
-use Rattle.map_compose.proofs.Found.{either, has, has_append, has_ascending}
-use Rattle.map_compose.proofs.Orders.{Up, Above, less, is_less, ascending_up}
+use Rattle.ppdb_maps_text.proofs.Found.{either, has, has_append, has_ascending}
+use Rattle.ppdb_maps_text.proofs.Orders.{Up, Above, less, is_less, ascending_up}
 use Rattle.map_compose.proofs.Bounds.{few}
 use Rattle.map_compose.proofs.Putting.{drop_at, drop_past}
 use Rattle.map_compose.proofs.Equations.{olds}
@@ -66,17 +66,17 @@ one_up (m ∷ ms) (n ∷ ns) a b alike =
 -- ---- the first number and what is left
 
 -- a number below all is the first
-first_of : (z : ℕ) (all rest : List ℕ) → Above z rest → ((n : ℕ) → has n all ≡ (nat_eq n z || has n rest)) → ascending all ≡ z ∷ ascending rest
+pub first_of : (z : ℕ) (all rest : List ℕ) → Above z rest → ((n : ℕ) → has n all ≡ (nat_eq n z || has n rest)) → ascending all ≡ z ∷ ascending rest
 unfolding IsStrictlySortedBy
 first_of z all rest above alike = one_up (ascending all) (z ∷ ascending rest) (ascending_up all)
     (ascending_hold (λ k. nat_cmp z k ≡ Less) rest above, ascending_up rest)
     (λ n. has_ascending n all ∙ alike n ∙ sym (ap (λ t. nat_eq n z || t) (has_ascending n rest)))
 
-above_both : (z : ℕ) (xs ys : List ℕ) → Above z xs → Above z ys → Above z (xs ++ ys)
+pub above_both : (z : ℕ) (xs ys : List ℕ) → Above z xs → Above z ys → Above z (xs ++ ys)
 above_both z [] ys a b = b
 above_both z (x ∷ xs) ys a b = (a.0, above_both z xs ys a.1 b)
 
-above_less : (z y : ℕ) (ys : List ℕ) → z < y → Above y ys → Above z ys
+pub above_less : (z y : ℕ) (ys : List ℕ) → z < y → Above y ys → Above z ys
 above_less z y [] h above = tt
 above_less z y (k ∷ ks) h above = (is_less z k (let j = less y k above.0 in omega (arith, h, j)), above_less z y ks h above.1)
 
@@ -117,7 +117,7 @@ only_other y ys up = first_of y (y ∷ ys) ys up.0 (λ n. refl)
 
 -- ---- by their indexes
 
-up_drop : (xs : List ℕ) (i : ℕ) → Up xs → Up (drop i xs)
+pub up_drop : (xs : List ℕ) (i : ℕ) → Up xs → Up (drop i xs)
 unfolding IsStrictlySortedBy
 up_drop [] zero up = tt
 up_drop [] (suc i) up = tt

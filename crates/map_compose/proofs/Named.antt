@@ -10,14 +10,13 @@ use Rattle.std.specs.declared.cmp.Ordering.{Ordering}
 use Rattle.std.specs.declared.cmp.Ordering.TheVariants.{Less, Equal, Greater}
 use Rattle.std.proofs.lemmas.List.{length-map, length-append}
 use Rattle.ppdb_maps.specs.declared.entries.NameLine.{NameLine}
-use Rattle.ppdb_maps.specs.declared.entries.SignatureImage.{SignatureImage}
 use Rattle.ppdb_maps.specs.Map.{Map, document_line, moved_name}
-use Rattle.ppdb_maps_text.specs.MapTexts.{version_with}
+use Rattle.ppdb_maps_text.specs.MapTexts.{has_items}
 use Rattle.map_compose.specs.Composed.{composed, named, document_entry, document_entries, composed_link}
 use Rattle.map_compose.specs.Fits.{IsShort, NamesFit}
 use Rattle.map_compose.specs.Names.{name_cmp, put_name, names_ascending}
 use Rattle.map_compose.specs.Says.{has_names}
-use Rattle.map_compose.proofs.Found.{given}
+use Rattle.ppdb_maps_text.proofs.Found.{given}
 use Rattle.map_compose.proofs.Names.{has, has_append, has_ascending, has_key, made_found, ascending_hold}
 
 -- ---- what the map answers
@@ -145,19 +144,10 @@ composed_fits f s a b = record {
 
 -- ---- the version of the text
 
--- names and a value decide it, or the signatures do
-pub with_names : (b : Bool) (xs : List SignatureImage) (documents : List NameLine) (link : Option (List ℕ))
-    → version_with [] documents link ≡ cond b 4 3 → version_with xs documents link ≡ cond b 4 (version_with xs [] None)
-with_names true [] documents link is = is
-with_names true (x ∷ xs) documents link is = refl
-with_names false [] documents link is = is
-with_names false (x ∷ xs) documents link is = refl
-
-by_names : (a b : Bool) (documents : List NameLine) (link : Option (List ℕ)) → is_some (slice_get documents 0) ≡ a → is_some link ≡ b
-    → version_with [] documents link ≡ cond (a || b) 4 3
-by_names a b [] None is also = ap (λ t. cond t 4 3) also ∙ ap (λ t. cond (t || b) 4 3) is
-by_names a b [] (Some value) is also = ap (λ t. cond t 4 3) also ∙ ap (λ t. cond (t || b) 4 3) is
-by_names a b (d ∷ documents) link is also = ap (λ t. cond (t || b) 4 3) is
+-- a list has an item where it has a first one
+pub items_first : {X : Type 0} (xs : List X) → has_items xs ≡ is_some (slice_get xs 0)
+items_first [] = refl
+items_first (x ∷ xs) = refl
 
 put_some : (n : List ℕ) (ns : List (List ℕ)) → is_some (slice_get (put_name n ns) 0) ≡ true
 put_some n [] = refl
@@ -177,31 +167,35 @@ first_some [] [] = refl
 first_some [] (y ∷ ys) = put_some y (names_ascending ys)
 first_some (x ∷ xs) ys = put_some x (names_ascending (xs ++ ys))
 
--- by the names and the values of both maps
-both_named : (f s : Map) → version_with [] (composed f s).documents (composed f s).link ≡ cond (has_names f || has_names s) 4 3
+-- the map of both has such a line where one of them has it
+pub both_named : (f s : Map)
+    → (has_names f || has_names s) ≡ (has_items (composed f s).documents || (is_some (composed f s).link || (composed f s).shares))
 both_named f s =
-    by_names (is_some (slice_get f.documents 0) || is_some (slice_get s.documents 0)) (is_some f.link || is_some s.link) (document_entries f s)
-    (composed_link f s)
-    (mapped_some (document_entry f s) (names_ascending (named f ++ named s)) ∙ first_some (named f) (named s)
-    ∙ ap (λ t. t || is_some (slice_get (named s) 0)) (mapped_some (λ (x : NameLine). x.old) f.documents)
-    ∙ ap (λ t. is_some (slice_get f.documents 0) || t) (mapped_some (λ (x : NameLine). x.old) s.documents))
-    (of f.link s.link)
-    ∙ ap (λ t. cond t 4 3) (turned (is_some (slice_get f.documents 0)) (is_some (slice_get s.documents 0)) (is_some f.link) (is_some s.link))
+    turned (is_some (slice_get f.documents 0)) (is_some f.link) f.shares (is_some (slice_get s.documents 0)) (is_some s.link) s.shares
+    ∙ ap (λ b. b || ((is_some f.link || is_some s.link) || (f.shares || s.shares))) (sym documents)
+    ∙ ap (λ b. has_items (composed f s).documents || (b || (f.shares || s.shares))) (of f.link s.link)
   where
-    of : (x y : Option (List ℕ)) → is_some (option_or y x) ≡ (is_some x || is_some y)
+    of : (x y : Option (List ℕ)) → (is_some x || is_some y) ≡ is_some (option_or y x)
     of None None = refl
     of None (Some v) = refl
     of (Some u) None = refl
     of (Some u) (Some v) = refl
 
-    turned : (a b c d : Bool) → ((a || b) || (c || d)) ≡ ((a || c) || (b || d))
-    turned true b c d = refl
-    turned false true true d = refl
-    turned false true false d = refl
-    turned false false true d = refl
-    turned false false false d = refl
+    documents : has_items (composed f s).documents ≡ (is_some (slice_get f.documents 0) || is_some (slice_get s.documents 0))
+    documents =
+        items_first (document_entries f s)
+        ∙ mapped_some (document_entry f s) (names_ascending (named f ++ named s)) ∙ first_some (named f) (named s)
+        ∙ ap (λ t. t || is_some (slice_get (named s) 0)) (mapped_some (λ (x : NameLine). x.old) f.documents)
+        ∙ ap (λ t. is_some (slice_get f.documents 0) || t) (mapped_some (λ (x : NameLine). x.old) s.documents)
 
-pub version_named : (f s : Map) (b : Bool) → (has_names f || has_names s) ≡ b
-    → version_with (composed f s).signatures (composed f s).documents (composed f s).link ≡ cond b 4 (version_with (composed f s).signatures [] None)
-version_named f s b is = with_names b (composed f s).signatures (composed f s).documents (composed f s).link
-    (both_named f s ∙ ap (λ t. cond t 4 3) is)
+    or_true : (a : Bool) → (a || true) ≡ true
+    or_true true = refl
+    or_true false = refl
+
+    turned : (a b c x y z : Bool) → ((a || (b || c)) || (x || (y || z))) ≡ ((a || x) || ((b || y) || (c || z)))
+    turned true b c x y z = refl
+    turned false true c true y z = refl
+    turned false true c false y z = refl
+    turned false false true true y z = refl
+    turned false false true false y z = sym (or_true y)
+    turned false false false x y z = refl

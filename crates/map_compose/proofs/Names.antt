@@ -11,7 +11,7 @@ use Rattle.std.proofs.lemmas.Cmp.{tied_itself, nat_list_cmp_total}
 use Rattle.std.proofs.lemmas.Map.Text.{is_eq-slice_cmp}
 use Rattle.std.proofs.lemmas.Slice.Eq.{bytes_eq-Decides}
 use Rattle.map_compose.specs.Names.{name_cmp, put_name, names_ascending}
-use Rattle.map_compose.proofs.Found.{given}
+use Rattle.ppdb_maps_text.proofs.Found.{given}
 use Rattle.map_compose.proofs.Putting.{drop_at, drop_past}
 
 abbrev pub Up : List (List ℕ) → Type 0

@@ -125,7 +125,7 @@ pub flat_join : {X Y : Type 0} (make : X → List Y) (xs ys : List X) → flat_m
 flat_join make [] ys = refl
 flat_join make (x ∷ xs) ys = ap (λ l. make x ++ l) (flat_join make xs ys) ∙ sym (append_assoc (make x) (flat_map make xs) (flat_map make ys))
 
-range_more : (a n : ℕ) → range_with_len a (n + 1) ≡ range_with_len a n ++ (a + n) ∷ []
+pub range_more : (a n : ℕ) → range_with_len a (n + 1) ≡ range_with_len a n ++ (a + n) ∷ []
 range_more a zero = ap (λ k. k ∷ []) (let e : a ≡ a + 0 = omega arith in e)
 range_more a (suc n) = rw (add-one (suc n)) (ap (λ l. a ∷ l) (ap (range_with_len (a + 1)) (sym (add-one n)) ∙ range_more (a + 1) n
     ∙ ap (λ k. range_with_len (a + 1) n ++ k ∷ []) (let e : (a + 1) + n ≡ a + suc n = omega arith in e)))

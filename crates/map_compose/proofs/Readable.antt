@@ -9,25 +9,35 @@ use Rattle.ppdb_base.specs.declared.offsets.Run.{Run}
 use Rattle.ppdb_base.specs.Offsets.{every, gone, lined, Rise, RiseFrom, kept_runs, all_offsets, end_of, new_end_of}
 use Rattle.ppdb_maps.specs.declared.entries.Count.{Count}
 use Rattle.ppdb_maps.specs.declared.entries.RowLine.{RowLine}
+use Rattle.ppdb_maps.specs.declared.entries.CrossLine.{CrossLine}
+use Rattle.ppdb_maps.specs.declared.entries.GoneLine.{GoneLine}
+use Rattle.ppdb_maps.specs.declared.image.RowImage.{RowImage}
+use Rattle.ppdb_maps.specs.declared.image.RowImage.TheVariants.{Row as RowOf, Gone, Missing}
 use Rattle.ppdb_maps.specs.declared.entries.SlotImage.{SlotImage}
 use Rattle.ppdb_maps.specs.declared.entries.SignatureImage.{SignatureImage}
-use Rattle.ppdb_maps.specs.Forms.{AreBytes, ROWS, OFFSETS, SLOTS}
-use Rattle.ppdb_maps.specs.Map.{Map, MethodLine, Ascends, count_of, row_line, row_within, method_line, is_dropped, has_slots, slot_line, slot_image}
+use Rattle.ppdb_maps.specs.Forms.{AreBytes, Crosses, IsTypeTable, ROWS, OFFSETS, SLOTS}
+use Rattle.ppdb_maps.specs.Map.{Map, MethodLine, Ascends, count_of, row_line, cross_line, row_within, row_image, method_line, is_dropped, has_slots, slot_line, slot_image}
 use Rattle.ppdb_maps.specs.Map.{offsets_in, line_offsets, rows_of, slots_of, moved_row, signature_line, moved_signature}
-use Rattle.ppdb_maps.specs.Readable.{IsReadable, IsRow, IsCount, IsRowOf, IsLineOf, IsSlottedOf, IsSlotOf, IsSignatureOf}
+use Rattle.ppdb_maps.specs.Readable.{IsReadable, IsRow, IsCount, IsRowOf, IsCrossOf, IsGoneOf, IsLineOf, IsSlottedOf, IsSlotOf, IsSignatureOf}
 use Rattle.map_compose.specs.Runs.{meet, met, longest}
-use Rattle.map_compose.specs.Ascending.{put_once, ascending}
-use Rattle.map_compose.specs.Composed.{tables, composed_count, count_entry, composed_row, sources, row_entry, row_entries, spoken_of, of_image, drops_one}
+use Rattle.ppdb_maps_text.specs.Ascending.{put_once, ascending}
+use Rattle.map_compose.specs.Composed.{tables, composed_count, count_entry, image_then, own_assembly, composed_image, sources, sources_of, row_lined, cross_lined, gone_lined}
+use Rattle.map_compose.specs.Composed.{row_entries, cross_entries, gone_entries, spoken_of, of_image, drops_one}
 use Rattle.map_compose.specs.Composed.{has_image, second_line, composed_runs, sized, composed_line, has_slot_lines, composed_slot, slot_sources, slot_entry}
 use Rattle.map_compose.specs.Composed.{slot_entries, slotted_methods, composed, signature_then, signature_entry, signed, named}
 use Rattle.map_compose.specs.Names.{name_cmp, names_ascending}
 use Rattle.std.specs.List.Sorted.{IsStrictlySortedBy}
 use Rattle.map_compose.specs.Composition.{ComposedIsReadable}
 use Rattle.map_compose.specs.Sizes.{SizesAgree}
-use Rattle.map_compose.proofs.Found.{either, has}
-use Rattle.map_compose.proofs.Orders.{Up, ascending_up, range_up, made_up, filter_up, flat_pairs, key_up}
+use Rattle.ppdb_maps_text.specs.MapTexts.{olds_of}
+use Rattle.ppdb_maps_text.proofs.Found.{either, given, has}
+use Rattle.ppdb_maps_text.proofs.OneLine.{OneLine, by_row, by_cross, by_gone, one_line, methods_stay}
+use Rattle.ppdb_maps_text.proofs.Starting.{olds_have, olds_up, all_has, line_counted}
+use Rattle.map_compose.proofs.Imaging.{within, Reaches, stayed, crossed, ended, missed, reaches, image_kept}
+use Rattle.ppdb_maps_text.proofs.Orders.{Up, ascending_up, range_up, made_up, filter_up, flat_pairs, key_up}
 use Rattle.map_compose.proofs.Rising.{run_same, met_rises, longest_rises}
-use Rattle.map_compose.proofs.Equations.{composed_composes, counts_are, tables_known, line_named, count_named, entries_named, row_named, slots_named}
+use Rattle.map_compose.proofs.Equations.{composed_composes, counts_are, tables_known, line_named, count_named, entries_named, cross_named, gone_named, slots_named}
+use Rattle.map_compose.proofs.Equations.{row_of_table, cross_of_table, gone_of_table, row_entry, cross_entry, gone_entry, rows_there, crossed_there}
 use Rattle.map_compose.proofs.Named.{entries_hold, link_holds, olds_are}
 use Rattle.map_compose.proofs.Names.{ascending_up as names_up}
 use Rattle.map_compose.proofs.Equations.{slot_named, signature_named, olds, numbers, came_by, live_image}
@@ -60,7 +70,7 @@ flat_hold : {X : Type 0} (Q : ℕ → Type 0) (P : X → Type 0) (make : ℕ →
 flat_hold Q P make holds [] all = tt
 flat_hold Q P make holds (n ∷ ns) all = both_hold P (make n) (flat_map make ns) (holds n all.0) (flat_hold Q P make holds ns all.1)
 
-map_hold : {A X : Type 0} (Q : A → Type 0) (P : X → Type 0) (g : A → X) → ((a : A) → Q a → P (g a)) → (xs : List A) → AllByRecursion Q xs
+pub map_hold : {A X : Type 0} (Q : A → Type 0) (P : X → Type 0) (g : A → X) → ((a : A) → Q a → P (g a)) → (xs : List A) → AllByRecursion Q xs
     → AllByRecursion P (map g xs)
 map_hold Q P g holds [] all = tt
 map_hold Q P g holds (a ∷ xs) all = (holds a all.0, map_hold Q P g holds xs all.1)
@@ -145,6 +155,26 @@ module _ (m : Map) (readable : IsReadable m) where
       of true c is = absurd (cc)
       of false None is = let e : old ≡ new = cc in subst IsRow e row
       of false (Some n) is = lined_row table old new is
+
+  -- in whichever table it is
+  image_rows : (table old to new : ℕ) → IsRow old → row_image m table old ≡ RowOf to new → IsRow new
+  image_rows table old to new row is = of (row_image m table old) (reaches m readable table old) is
+    where
+      of : (image : RowImage) → Reaches m table old image → image ≡ RowOf to new → IsRow new
+      of _ (stayed {row = n} within) at = let e : n ≡ new = cc in subst IsRow e (image_row table old n row within)
+      of _ (crossed line within from crosses there) at = let e : line.new ≡ new = cc in subst IsRow e there
+      of _ (ended within six) at = absurd (cc)
+      of _ (missed within) at = absurd (cc)
+
+  -- the rows of which lines speak
+  pub olds_rows : (table : ℕ) → AllByRecursion (λ o. IsRow o × (is_some (count_of m table) ≡ true)) (olds_of m table)
+  olds_rows table = all_has (λ o. IsRow o × (is_some (count_of m table) ≡ true)) (olds_of m table)
+      (λ o there. let lined = sym (olds_have m table o) ∙ there in (of table o (one_line m readable table o lined), line_counted m readable table o lined))
+    where
+      of : (t o : ℕ) → OneLine m t o → IsRow o
+      of _ _ (by_row line holds row cross none) = holds.0
+      of _ _ (by_cross line holds some row cross none) = holds.0
+      of _ _ (by_gone line holds some row cross ends) = holds.0
 
   -- and so is that of a number that may be 0 for no row, or it is 0
   image_or_none : (table old : ℕ) → old ≤ ROWS → moved_row m table old ≤ ROWS
@@ -258,6 +288,46 @@ all_met a b c d qs small rise = nil (filter_map (meet all_offsets) qs) ∙ stay 
         (ap Some (run_same _ x (omega arith) (omega arith) (omega (arith, within)))) in
         ap (λ o. cons_option o (filter_map (meet all_offsets) xs)) one ∙ ap (λ l. x ∷ l) (stay (end_of x) (new_end_of x) xs rise.3)
 
+-- ---- images
+
+own_is : (table : ℕ) (image : RowImage) (to new : ℕ) → own_assembly table image ≡ RowOf to new → image ≡ RowOf to new
+own_is table Gone to new is = absurd (cc)
+own_is table Missing to new is = absurd (cc)
+own_is table (RowOf t row) to new is = of (nat_eq table 0x23 && (nat_eq t 0x20 && cond (nat_eq row 1) false true)) is
+  where
+    of : (b : Bool) → cond b Missing (RowOf t row) ≡ RowOf to new → RowOf t row ≡ RowOf to new
+    of true is = absurd (cc)
+    of false is = is
+
+own_gone : (table : ℕ) (image : RowImage) → own_assembly table image ≡ Gone → image ≡ Gone
+own_gone table Gone is = refl
+own_gone table Missing is = absurd (cc)
+own_gone table (RowOf t row) is = of (nat_eq table 0x23 && (nat_eq t 0x20 && cond (nat_eq row 1) false true)) is
+  where
+    of : (b : Bool) → cond b Missing (RowOf t row) ≡ Gone → RowOf t row ≡ Gone
+    of true is = absurd (cc)
+    of false is = is
+
+assembly_one : (table to new : ℕ) → table ≡ 0x23 → to ≡ 0x20 → own_assembly table (RowOf to new) ≡ RowOf to new → new ≡ 1
+assembly_one table to new own there is = of (nat_eq new 1) refl
+    (sym (ap (λ b. cond (b && (nat_eq to 0x20 && cond (nat_eq new 1) false true)) Missing (RowOf to new)) (eq-eqb table 0x23 own)
+    ∙ ap (λ b. cond (b && cond (nat_eq new 1) false true) Missing (RowOf to new)) (eq-eqb to 0x20 there)) ∙ is)
+  where
+    of : (b : Bool) → nat_eq new 1 ≡ b → cond (cond b false true) Missing (RowOf to new) ≡ RowOf to new → new ≡ 1
+    of true hit is = eqb-true new 1 hit
+    of false miss is = absurd (cc)
+
+no_type : (table : ℕ) → IsTypeTable table → (table ≡ 0x01 → ⊥) → (table ≡ 0x02 → ⊥) → (table ≡ 0x1b → ⊥) → ⊥
+no_type table is one two spec = elim is [ inl e ↦ one e | inr more ↦ elim more [ inl e ↦ two e | inr e ↦ spec e ] ]
+
+-- a line with the same tables and the same image
+crosses_as : (line : CrossLine) (table old to new : ℕ) → line.table ≡ table → line.to ≡ to → line.new ≡ new → Crosses line
+    → Crosses (record { table = table; old = old; to = to; new = new })
+crosses_as line table old to new a b c crosses = elim crosses [
+  | inl types ↦ inl (subst IsTypeTable a types.0, subst IsTypeTable b types.1, λ e. types.2 (a ∙ (e ∙ sym b)))
+  | inr own ↦ inr (sym a ∙ own.0, sym b ∙ own.1, sym c ∙ own.2)
+]
+
 -- ---- the map of both
 
 module _ (f s : Map) (f_readable : IsReadable f) (s_readable : IsReadable s) where
@@ -267,67 +337,204 @@ module _ (f s : Map) (f_readable : IsReadable f) (s_readable : IsReadable s) whe
 
   -- a method with an image is not dropped
   stays : (k : ℕ) → has_image f s k ≡ true → is_dropped (composed f s) k ≡ false
-  stays k there = live_image (composed f s) k (ap is_some ((composed_composes f s f_readable s_readable).rows 0x06 k) ∙ there)
+  stays k there = live_image (composed f s) k (ap is_some ((composed_composes f s f_readable s_readable).methods k) ∙ there)
 
   -- ---- rows
 
-  pub source_rows : (table : ℕ) → AllByRecursion (λ (r : RowLine). IsRow r.old × (is_some (composed_count f s table) ≡ true))
-      (sources (count_of f table) (count_of s table) f s table)
+  pub source_rows : (table : ℕ) → AllByRecursion (λ o. IsRow o × (is_some (composed_count f s table) ≡ true)) (sources_of f s table)
   source_rows table = of (count_of f table) (count_of s table) refl refl
     where
+      all : (m : Map) → (is_some (count_of m table) ≡ true → is_some (composed_count f s table) ≡ true) → (os : List ℕ)
+          → AllByRecursion (λ o. IsRow o × (is_some (count_of m table) ≡ true)) os
+          → AllByRecursion (λ o. IsRow o × (is_some (composed_count f s table) ≡ true)) os
+      all m some [] h = tt
+      all m some (o ∷ os) h = ((h.0.0, some h.0.1), all m some os h.1)
+
+      by : (o : Option ℕ) (n : ℕ) → is_some (option_or o (Some n)) ≡ true
+      by None n = refl
+      by (Some k) n = refl
+
       of : (a b : Option ℕ) → count_of f table ≡ a → count_of s table ≡ b
-          → AllByRecursion (λ (r : RowLine). IsRow r.old × (is_some (composed_count f s table) ≡ true)) (sources a b f s table)
+          → AllByRecursion (λ o. IsRow o × (is_some (composed_count f s table) ≡ true)) (sources a b f s table)
       of None None is also = tt
-      of None (Some n) is also = all (rows_of s table) (rows_hold s s_readable table)
-        where
-          all : (rs : List RowLine) → AllByRecursion (λ (r : RowLine). IsRow r.old × (is_some (count_of s table) ≡ true)) rs
-              → AllByRecursion (λ (r : RowLine). IsRow r.old × (is_some (composed_count f s table) ≡ true)) rs
-          all [] h = tt
-          all (r ∷ rs) h = ((h.0.0, ap (λ o. is_some (option_or o (count_of f table))) also), all rs h.1)
-      of (Some n) b is also = all (rows_of f table) (rows_hold f f_readable table)
-        where
-          by : (o : Option ℕ) → is_some (option_or o (Some n)) ≡ true
-          by None = refl
-          by (Some k) = refl
+      of None (Some n) is also =
+          all s (λ some. ap (λ o. is_some (option_or o (count_of f table))) also) (olds_of s table) (olds_rows s s_readable table)
+      of (Some n) b is also =
+          all f (λ some. ap (λ o. is_some (option_or (count_of s table) o)) is ∙ by (count_of s table) n) (olds_of f table) (olds_rows f f_readable table)
 
-          all : (rs : List RowLine) → AllByRecursion (λ (r : RowLine). IsRow r.old × (is_some (count_of f table) ≡ true)) rs
-              → AllByRecursion (λ (r : RowLine). IsRow r.old × (is_some (composed_count f s table) ≡ true)) rs
-          all [] h = tt
-          all (r ∷ rs) h = ((h.0.0, ap (λ o. is_some (option_or (count_of s table) o)) is ∙ by (count_of s table)), all rs h.1)
-
-  pub sources_up : (table : ℕ) → Up (map (λ (r : RowLine). r.old) (sources (count_of f table) (count_of s table) f s table))
+  pub sources_up : (table : ℕ) → Up (sources_of f s table)
   sources_up table = of (count_of f table) (count_of s table)
     where
-      none : Up []
-      none = filter_up (λ n. false) (0 ∷ []) (ascending_up (0 ∷ []))
+      of : (a b : Option ℕ) → Up (sources a b f s table)
+      of None None = ascending_up []
+      of None (Some n) = olds_up s table
+      of (Some n) b = olds_up f table
 
-      of : (a b : Option ℕ) → Up (map (λ (r : RowLine). r.old) (sources a b f s table))
-      of None None = none
-      of None (Some n) = rows_up s s_readable table
-      of (Some n) b = rows_up f f_readable table
-
-  -- by both maps the image of a row is one
-  both_row : (table old new : ℕ) → IsRow old → composed_row f s table old ≡ Some new → IsRow new
-  both_row table old new row is = of (row_within f table old) refl is
+  -- the image of a row by both maps is a row, and where it is in another table, a line of five words may say so
+  both_row : (table old to new : ℕ) → IsRow old → composed_image f s table old ≡ RowOf to new → IsRow new
+  both_row table old to new row is = of (row_image f table old) refl (before (image_then s (row_image f table old)) is)
     where
-      of : (o : Option ℕ) → row_within f table old ≡ o → option_and_then (row_within s table) o ≡ Some new → IsRow new
-      of None at is = absurd (cc)
-      of (Some mid) at is = image_row s s_readable table mid new (image_row f f_readable table old mid row at) is
+      before : (image : RowImage) → own_assembly table image ≡ RowOf to new → image ≡ RowOf to new
+      before image is = own_is table image to new is
 
-  entry_fits : (table : ℕ) (line row : RowLine) → IsRow line.old × (is_some (composed_count f s table) ≡ true) → row_entry f s table line ≡ Some row
+      of : (image : RowImage) → row_image f table old ≡ image → image_then s image ≡ RowOf to new → IsRow new
+      of Gone at is = absurd (cc)
+      of Missing at is = absurd (cc)
+      of (RowOf t mid) at is = image_rows s s_readable t mid to new (image_rows f f_readable table old t mid row at) is
+
+  crossing_fits : (table old to new : ℕ) → composed_image f s table old ≡ RowOf to new → (to ≡ table → ⊥)
+      → Crosses (record { table = table; old = old; to = to; new = new })
+  crossing_fits table old to new is apart =
+      first (row_image f table old) (reaches f f_readable table old) (own_is table (image_then s (row_image f table old)) to new is)
+    where
+      Fits : Type 0
+      Fits = Crosses (record { table = table; old = old; to = to; new = new })
+
+      -- an assembly becomes row 1 of Assembly
+      own_one : table ≡ 0x23 → to ≡ 0x20 → new ≡ 1
+      own_one own there =
+          assembly_one table to new own there (subst (λ i. own_assembly table i ≡ RowOf to new)
+          (own_is table (image_then s (row_image f table old)) to new is) is)
+
+      stayed_then : (row : ℕ) (image : RowImage) → Reaches s table row image → image ≡ RowOf to new → Fits
+      stayed_then row _ (stayed {row = n} within) at = absurd (apart (let e : table ≡ to = cc in sym e))
+      stayed_then row _ (crossed line within from crosses there) at =
+          let a : line.to ≡ to = cc in let b : line.new ≡ new = cc in crosses_as line table old to new from a b crosses
+      stayed_then row _ (ended within six) at = absurd (cc)
+      stayed_then row _ (missed within) at = absurd (cc)
+
+      crossed_then : (line : CrossLine) → line.table ≡ table → Crosses line → (image : RowImage) → Reaches s line.to line.new image → image ≡ RowOf to new
+          → Fits
+      crossed_then line from crosses _ (stayed {row = n} within) at =
+          let a : line.to ≡ to = cc in elim crosses [
+            | inl types ↦ inl (subst IsTypeTable from types.0, subst IsTypeTable a types.1, λ e. apart (sym e))
+            | inr own ↦ (let t = sym from ∙ own.0 in let u = sym a ∙ own.1 in inr (t, u, own_one t u))
+          ]
+      crossed_then line from crosses _ (crossed next within also onward there) at =
+          let a : next.to ≡ to = cc in twice line next from also crosses onward a apart
+        where
+          twice : (line next : CrossLine) → line.table ≡ table → next.table ≡ line.to → Crosses line → Crosses next → next.to ≡ to → (to ≡ table → ⊥)
+              → Fits
+          twice line next from also crosses onward a apart = elim crosses [
+            | inl types ↦ elim onward [
+              | inl more ↦ inl (subst IsTypeTable from types.0, subst IsTypeTable a more.1, λ e. apart (sym e))
+              | inr own ↦ absurd (no_type 0x23 (subst IsTypeTable (sym also ∙ own.0) types.1) (λ e. omega (arith, e)) (λ e. omega (arith, e)) (λ e. omega (arith, e)))
+            ]
+            | inr own ↦ elim onward [
+              | inl more ↦ absurd (no_type 0x20 (subst IsTypeTable (also ∙ own.1) more.0) (λ e. omega (arith, e)) (λ e. omega (arith, e)) (λ e. omega (arith, e)))
+              | inr more ↦ (let e = sym more.0 ∙ (also ∙ own.1) in absurd (omega (arith, e)))
+            ]
+          ]
+      crossed_then line from crosses _ (ended within six) at = absurd (cc)
+      crossed_then line from crosses _ (missed within) at = absurd (cc)
+
+      first : (image : RowImage) → Reaches f table old image → image_then s image ≡ RowOf to new → Fits
+      first _ (stayed {row = row} within) at = stayed_then row (row_image s table row) (reaches s s_readable table row) at
+      first _ (crossed line within from crosses there) at =
+          crossed_then line from crosses (row_image s line.to line.new) (reaches s s_readable line.to line.new) at
+      first _ (ended within six) at = absurd (cc)
+      first _ (missed within) at = absurd (cc)
+
+  -- a method is never gone
+  method_stays : (old : ℕ) → composed_image f s 0x06 old ≡ Gone → ⊥
+  method_stays old is =
+      first (row_image f 0x06 old) (reaches f f_readable 0x06 old) (own_gone 0x06 (image_then s (row_image f 0x06 old)) is)
+    where
+      then_gone : (row : ℕ) (image : RowImage) → Reaches s 0x06 row image → image ≡ Gone → ⊥
+      then_gone row _ (stayed within) at = absurd (cc)
+      then_gone row _ (crossed line within from crosses there) at = absurd (cc)
+      then_gone row _ (ended within six) at = six refl
+      then_gone row _ (missed within) at = absurd (cc)
+
+      first : (image : RowImage) → Reaches f 0x06 old image → image_then s image ≡ Gone → ⊥
+      first _ (stayed {row = row} within) at = then_gone row (row_image s 0x06 row) (reaches s s_readable 0x06 row) at
+      first _ (crossed line within from crosses there) at = methods_stay line crosses from
+      first _ (ended within six) at = six refl
+      first _ (missed within) at = absurd (cc)
+
+  counts_there : (table : ℕ) → is_some (composed_count f s table) ≡ true → is_some (count_of (composed f s) table) ≡ true
+  counts_there table some = ap is_some (counts_are f s (tables_known f f_readable) (tables_known s s_readable) table) ∙ some
+
+  -- there is no line of four words where the image is in another table, or the row is gone
+  no_row : (table old : ℕ) → within table (composed_image f s table old) ≡ None → row_line (composed f s) table old ≡ None
+  no_row table old none =
+      rows_there f s table old ∙ ap (λ o. given (has table tables) (given (has old (sources_of f s table)) o)) none
+      ∙ of (has table tables) (has old (sources_of f s table))
+    where
+      of : (a b : Bool) → given {A = ℕ} a (given b None) ≡ None
+      of false b = refl
+      of true false = refl
+      of true true = refl
+
+  no_cross : (table old : ℕ) → cross_entry f s table old ≡ None → cross_line (composed f s) table old ≡ None
+  no_cross table old none =
+      crossed_there f s table old ∙ ap (λ o. given (has table tables) (given (has old (sources_of f s table)) o)) none
+      ∙ of (has table tables) (has old (sources_of f s table))
+    where
+      of : (a b : Bool) → given {A = CrossLine} a (given b None) ≡ None
+      of false b = refl
+      of true false = refl
+      of true true = refl
+
+  row_fits : (table old : ℕ) (row : RowLine) → IsRow old × (is_some (composed_count f s table) ≡ true) → row_entry f s table old ≡ Some row
       → IsRowOf (composed f s) row
-  entry_fits table line row held is = of (composed_row f s table line.old) refl is
+  row_fits table old row held is = of (composed_image f s table old) refl is
     where
-      of : (o : Option ℕ) → composed_row f s table line.old ≡ o → option_map (λ new. record { table = table; old = line.old; new = new }) o ≡ Some row
-          → IsRowOf (composed f s) row
-      of None at is = absurd (cc)
-      of (Some new) at is =
-          let e : record { table = table; old = line.old; new = new } ≡ row = cc in
-          subst (IsRowOf (composed f s)) e (
+      of : (image : RowImage) → composed_image f s table old ≡ image → row_lined table old image ≡ Some row → IsRowOf (composed f s) row
+      of Gone at is = absurd (cc)
+      of Missing at is = absurd (cc)
+      of (RowOf to new) at is = by (nat_eq to table) refl is
+        where
+          by : (b : Bool) → nat_eq to table ≡ b → cond b (Some (record { table = table; old = old; new = new })) None ≡ Some row → IsRowOf (composed f s) row
+          by false miss is = absurd (cc)
+          by true hit is =
+              let e : record { table = table; old = old; new = new } ≡ row = cc in
+              subst (IsRowOf (composed f s)) e (
+                held.0,
+                both_row table old to new held.0 at,
+                counts_there table held.1,
+                λ six. stays old (ap is_some (sym (image_kept f s f_readable s_readable 0x06 old refl)
+                    ∙ ap (within 0x06) (subst (λ t. composed_image f s t old ≡ RowOf to new) six at)
+                    ∙ ap (λ b. cond b (Some new) None) (subst (λ t. nat_eq to t ≡ true) six hit))),
+              )
+
+  cross_fits : (table old : ℕ) (line : CrossLine) → IsRow old × (is_some (composed_count f s table) ≡ true) → cross_entry f s table old ≡ Some line
+      → IsCrossOf (composed f s) line
+  cross_fits table old line held is = of (composed_image f s table old) refl is
+    where
+      of : (image : RowImage) → composed_image f s table old ≡ image → cross_lined table old image ≡ Some line → IsCrossOf (composed f s) line
+      of Gone at is = absurd (cc)
+      of Missing at is = absurd (cc)
+      of (RowOf to new) at is = by (nat_eq to table) refl is
+        where
+          by : (b : Bool) → nat_eq to table ≡ b → cond b None (Some (record { table = table; old = old; to = to; new = new })) ≡ Some line
+              → IsCrossOf (composed f s) line
+          by true hit is = absurd (cc)
+          by false miss is =
+              let e : record { table = table; old = old; to = to; new = new } ≡ line = cc in
+              subst (IsCrossOf (composed f s)) e (
+                held.0,
+                both_row table old to new held.0 at,
+                crossing_fits table old to new at (λ same. false≢true (sym miss ∙ eq-eqb to table same)),
+                counts_there table held.1,
+                no_row table old (ap (within table) at ∙ ap (λ b. cond b (Some new) None) miss),
+              )
+
+  gone_fits : (table old : ℕ) (line : GoneLine) → IsRow old × (is_some (composed_count f s table) ≡ true) → gone_entry f s table old ≡ Some line
+      → IsGoneOf (composed f s) line
+  gone_fits table old line held is = of (composed_image f s table old) refl is
+    where
+      of : (image : RowImage) → composed_image f s table old ≡ image → gone_lined table old image ≡ Some line → IsGoneOf (composed f s) line
+      of (RowOf to new) at is = absurd (cc)
+      of Missing at is = absurd (cc)
+      of Gone at is =
+          let e : record { table = table; old = old } ≡ line = cc in
+          subst (IsGoneOf (composed f s)) e (
             held.0,
-            both_row table line.old new held.0 at,
-            ap is_some (counts_are f s (tables_known f f_readable) (tables_known s s_readable) table) ∙ held.1,
-            λ six. stays line.old (subst (λ t. is_some (composed_row f s t line.old) ≡ true) six (ap is_some at)),
+            λ six. method_stays old (subst (λ t. composed_image f s t old ≡ Gone) six at),
+            counts_there table held.1,
+            no_row table old (ap (within table) at),
+            no_cross table old (ap (cross_lined table old) at),
           )
 
   count_fits : (table : ℕ) (count : Count) → has table tables ≡ true → count_entry f s table ≡ Some count → IsCount count
@@ -511,8 +718,17 @@ module _ (f s : Map) (f_readable : IsReadable f) (s_readable : IsReadable s) whe
   ascends = record {
     counts = made_up (λ k. k) (λ (c : Count). c.table) (count_entry f s) (count_named f s) tables (subst Up (sym (map_same tables)) (range_up 0 0x2d));
     rows = flat_pairs (λ (r : RowLine). r.table) (λ (r : RowLine). r.old) (row_entries f s) (entries_named f s)
-        (λ table. made_up (λ (r : RowLine). r.old) (λ (r : RowLine). r.old) (row_entry f s table) (λ line row is. row_named f s table line.old row is)
-        (sources (count_of f table) (count_of s table) f s table) (sources_up table)) tables (range_up 0 0x2d);
+        (λ table. made_up (λ k. k) (λ (r : RowLine). r.old) (row_entry f s table)
+        (λ old row is. (row_of_table table old (composed_image f s table old) row is).1) (sources_of f s table)
+        (subst Up (sym (map_same (sources_of f s table))) (sources_up table))) tables (range_up 0 0x2d);
+    crossed = flat_pairs (λ (r : CrossLine). r.table) (λ (r : CrossLine). r.old) (cross_entries f s) (cross_named f s)
+        (λ table. made_up (λ k. k) (λ (r : CrossLine). r.old) (cross_entry f s table)
+        (λ old row is. (cross_of_table table old (composed_image f s table old) row is).1) (sources_of f s table)
+        (subst Up (sym (map_same (sources_of f s table))) (sources_up table))) tables (range_up 0 0x2d);
+    gone = flat_pairs (λ (r : GoneLine). r.table) (λ (r : GoneLine). r.old) (gone_entries f s) (gone_named f s)
+        (λ table. made_up (λ k. k) (λ (r : GoneLine). r.old) (gone_entry f s table)
+        (λ old row is. (gone_of_table table old (composed_image f s table old) row is).1) (sources_of f s table)
+        (subst Up (sym (map_same (sources_of f s table))) (sources_up table))) tables (range_up 0 0x2d);
     methods = made_up (λ k. k) (λ (l : MethodLine). l.method) (composed_line f s) (line_named f s) (spoken_of f (numbers f) (numbers s))
         (subst Up (sym (map_same (spoken_of f (numbers f) (numbers s)))) (ascending_up (numbers f ++ (olds f ++ numbers s))));
     drops = filter_up (drops_one f s) (spoken_of f f.drops s.drops) (ascending_up (f.drops ++ (olds f ++ s.drops)));
@@ -537,9 +753,14 @@ module _ (f s : Map) (f_readable : IsReadable f) (s_readable : IsReadable s) whe
     ascends = ascends;
     counts = made_hold (λ k. has k tables ≡ true) IsCount (count_entry f s) count_fits tables (all_there tables);
     rows = flat_hold (λ k. has k tables ≡ true) (IsRowOf (composed f s)) (row_entries f s)
-        (λ table there. made_hold (λ (r : RowLine). IsRow r.old × (is_some (composed_count f s table) ≡ true)) (IsRowOf (composed f s))
-        (row_entry f s table) (entry_fits table)
-        (sources (count_of f table) (count_of s table) f s table) (source_rows table)) tables (all_there tables);
+        (λ table there. made_hold (λ o. IsRow o × (is_some (composed_count f s table) ≡ true)) (IsRowOf (composed f s))
+        (row_entry f s table) (row_fits table) (sources_of f s table) (source_rows table)) tables (all_there tables);
+    crossed = flat_hold (λ k. has k tables ≡ true) (IsCrossOf (composed f s)) (cross_entries f s)
+        (λ table there. made_hold (λ o. IsRow o × (is_some (composed_count f s table) ≡ true)) (IsCrossOf (composed f s))
+        (cross_entry f s table) (cross_fits table) (sources_of f s table) (source_rows table)) tables (all_there tables);
+    gone = flat_hold (λ k. has k tables ≡ true) (IsGoneOf (composed f s)) (gone_entries f s)
+        (λ table there. made_hold (λ o. IsRow o × (is_some (composed_count f s table) ≡ true)) (IsGoneOf (composed f s))
+        (gone_entry f s table) (gone_fits table) (sources_of f s table) (source_rows table)) tables (all_there tables);
     methods = made_hold IsRow (IsLineOf (composed f s)) (composed_line f s) (line_holds agree) (spoken_of f (numbers f) (numbers s))
         (spoken_rows (numbers f) (numbers s) (line_numbers f f_readable) (line_numbers s s_readable));
     drops = filter_hold IsRow IsRow (drops_one f s) (λ k row is. row) (spoken_of f f.drops s.drops)

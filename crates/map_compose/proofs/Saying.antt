@@ -9,27 +9,36 @@ use Rattle.std.proofs.lemmas.Bool.{eq-eqb, ne_eqb, false≢true, and_parts}
 use Rattle.std.proofs.lemmas.List.{append-nil}
 use Rattle.ppdb_maps.specs.declared.entries.Count.{Count}
 use Rattle.ppdb_maps.specs.declared.entries.RowLine.{RowLine}
+use Rattle.ppdb_maps.specs.declared.entries.CrossLine.{CrossLine}
+use Rattle.ppdb_maps.specs.declared.entries.GoneLine.{GoneLine}
+use Rattle.ppdb_maps.specs.declared.image.RowImage.TheVariants.{Missing}
 use Rattle.ppdb_maps.specs.declared.entries.SlotImage.{SlotImage}
 use Rattle.ppdb_maps.specs.declared.entries.SignatureImage.{SignatureImage}
 use Rattle.ppdb_maps.specs.declared.line.Line.{Line}
 use Rattle.ppdb_maps.specs.declared.line.Line.TheVariants.{Rows, Dropped, Slots}
-use Rattle.ppdb_maps.specs.Map.{Map, MethodLine, method_line, count_of, is_dropped, row_within, rows_of, signature_line}
+use Rattle.ppdb_maps.specs.Map.{Map, MethodLine, row_line, cross_line, has_gone_line, told_image, line_image, method_line, count_of, is_dropped, row_within, rows_of}
+use Rattle.ppdb_maps.specs.Map.{signature_line}
 use Rattle.ppdb_maps.specs.Readable.{IsReadable, IsRow}
-use Rattle.ppdb_maps_text.specs.MapTexts.{count_says, slots_say, method_says, row_says, slot_says, signature_says, link_says, map_text, ended, version_with, head_text}
+use Rattle.ppdb_maps_text.specs.MapTexts.{count_says, slots_say, method_says, slot_says, signature_says, shares_says, link_says, map_text, ended, version_of, head_text}
+use Rattle.ppdb_maps_text.specs.MapTexts.{image_says, olds_of}
 use Rattle.map_compose.specs.declared.part.Part.{Part}
 use Rattle.map_compose.specs.declared.part.Part.TheVariants.{Drops, Slots as SlotLines, Signatures, Methods}
-use Rattle.map_compose.specs.Composed.{tables, composed_count, count_entry, row_entries, composed_line, composed_runs, sized, second_line, has_image}
+use Rattle.map_compose.specs.Composed.{tables, composed_count, count_entry, composed_image, sources_of, composed_line, composed_runs, sized, second_line, has_image}
 use Rattle.map_compose.specs.Composed.{drops_one, of_image, has_slot_lines, slot_entries, slotted_methods, spoken_of, composed, signature_then}
 use Rattle.map_compose.specs.Composed.{composed_signature, signature_entry, signed, composed_link}
 use Rattle.map_compose.specs.Parts.{part_numbers, other_numbers, all_numbers, part_says}
-use Rattle.map_compose.specs.Says.{lines_text, counted_says, table_says, drop_of_both, slots_of_both, signed_says, signature_of_both, lined_says, line_of_both}
+use Rattle.map_compose.specs.Says.{lines_text, rows_say, counted_says, table_says, drop_of_both, slots_of_both, signed_says, signature_of_both, lined_says, line_of_both}
 use Rattle.map_compose.specs.Says.{documents_say}
-use Rattle.map_compose.proofs.Equations.{olds, came_by, Came, moved, stayed, entries_named, slots_named, spoken_has}
-use Rattle.map_compose.proofs.Found.{either, has, has_append, has_ascending, has_filter}
+use Rattle.map_compose.proofs.Equations.{olds, came_by, Came, moved, stayed, slots_named, spoken_has, rows_there, crossed_there, gone_there, lined_image, cross_entry}
+use Rattle.map_compose.proofs.Equations.{gone_entry}
+use Rattle.ppdb_maps_text.proofs.Found.{either, given, has, has_append, has_ascending, has_filter}
 use Rattle.map_compose.proofs.Merging.{one_up}
-use Rattle.map_compose.proofs.Orders.{Up, Above, less, ascending_up, filter_up, range_up}
+use Rattle.ppdb_maps_text.proofs.Orders.{Up, Above, less, ascending_up, filter_up}
 use Rattle.map_compose.proofs.Putting.{lines_join}
-use Rattle.map_compose.proofs.Readable.{rows_hold}
+use Rattle.map_compose.proofs.Imaging.{within}
+use Rattle.map_compose.proofs.Readable.{rows_hold, sources_up}
+use Rattle.ppdb_maps_text.proofs.OneLine.{has_line}
+use Rattle.ppdb_maps_text.proofs.Starting.{olds_have, olds_up}
 
 -- ---- those of one key
 
@@ -209,13 +218,57 @@ all_unit [] = tt
 all_unit (n ∷ ns) = (tt, all_unit ns)
 
 module _ (f s : Map) (f_readable : IsReadable f) (s_readable : IsReadable s) where
+  -- the rows of which a line of the map of both speaks are among those that may have one
+  lined_olds : (k : ℕ) → olds_of (composed f s) k ≡ filter (has_line (composed f s) k) (sources_of f s k)
+  lined_olds k =
+      one_up (olds_of (composed f s) k) (filter (has_line (composed f s) k) (sources_of f s k)) (olds_up (composed f s) k)
+      (filter_up (has_line (composed f s) k) (sources_of f s k) (sources_up f s f_readable s_readable k))
+      (λ o. olds_have (composed f s) k o ∙ sym (has_filter (has_line (composed f s) k) o (sources_of f s k) ∙ of o (has o (sources_of f s k)) refl))
+    where
+      none : (a : Bool) (x : Option ℕ) (y : Option CrossLine) (z : Option GoneLine) (b : Bool) → b ≡ false
+          → (is_some (given a (given b x)) || (is_some (given a (given b y)) || is_some (given a (given b z)))) ≡ false
+      none true x y z false is = refl
+      none false x y z false is = refl
+      none a x y z true is = absurd (false≢true (sym is))
+
+      unlined : (o : ℕ) → has o (sources_of f s k) ≡ false → has_line (composed f s) k o ≡ false
+      unlined o is =
+          ap (λ r. is_some r || (is_some (cross_line (composed f s) k o) || has_gone_line (composed f s) k o)) (rows_there f s k o)
+          ∙ ap (λ r. is_some (given (has k tables) (given (has o (sources_of f s k)) (within k (composed_image f s k o))))
+          || (is_some r || has_gone_line (composed f s) k o)) (crossed_there f s k o)
+          ∙ ap (λ r. is_some (given (has k tables) (given (has o (sources_of f s k)) (within k (composed_image f s k o))))
+          || (is_some (given (has k tables) (given (has o (sources_of f s k)) (cross_entry f s k o))) || r)) (gone_there f s k o)
+          ∙ none (has k tables) (within k (composed_image f s k o)) (cross_entry f s k o) (gone_entry f s k o) (has o (sources_of f s k)) is
+
+      of : (o : ℕ) (b : Bool) → has o (sources_of f s k) ≡ b → (has o (sources_of f s k) && has_line (composed f s) k o) ≡ has_line (composed f s) k o
+      of o true is = ap (λ b. b && has_line (composed f s) k o) is
+      of o false is = ap (λ b. b && has_line (composed f s) k o) is ∙ sym (unlined o is)
+
+  -- a row without a line says nothing
+  unlined_says : (k o : ℕ) → has_line (composed f s) k o ≡ false → image_says k o (line_image (composed f s) k o) ≡ []
+  unlined_says k o is =
+      of (row_line (composed f s) k o) (cross_line (composed f s) k o) (has_gone_line (composed f s) k o) is
+    where
+      of : (a : Option ℕ) (b : Option CrossLine) (c : Bool) → (is_some a || (is_some b || c)) ≡ false → image_says k o (told_image k a b c) ≡ []
+      of (Some x) b c is = absurd (false≢true (sym is))
+      of None (Some l) c is = absurd (false≢true (sym is))
+      of None None true is = absurd (false≢true (sym is))
+      of None None false is = refl
+
+  rows_told : (k : ℕ) → has k tables ≡ true
+      → flat_map (λ o. image_says k o (line_image (composed f s) k o)) (olds_of (composed f s) k) ≡ rows_say f s k
+  rows_told k there =
+      ap (flat_map (λ o. image_says k o (line_image (composed f s) k o))) (lined_olds k)
+      ∙ flat_filter (λ o. image_says k o (line_image (composed f s) k o)) (has_line (composed f s) k) (unlined_says k) (sources_of f s k)
+      ∙ flat_same (λ o. image_says k o (line_image (composed f s) k o)) (λ o. image_says k o (composed_image f s k o))
+      (λ o. has o (sources_of f s k) ≡ true)
+      (λ o among. ap (image_says k o) (lined_image f s k o ∙ ap (λ b. cond (b && has o (sources_of f s k)) (composed_image f s k o) Missing) there
+      ∙ ap (λ b. cond b (composed_image f s k o) Missing) among)) (sources_of f s k) (within_itself (sources_of f s k))
+
   tables_say : flat_map (count_says (composed f s)) (composed f s).counts ≡ flat_map (table_says f s) tables
   tables_say = flat_made (count_says (composed f s)) (count_entry f s) (table_says f s) (λ k. has k tables ≡ true)
       (λ k there. of k there (composed_count f s k) refl) tables (within_itself tables)
     where
-      rows_are : (k : ℕ) → has k tables ≡ true → rows_of (composed f s) k ≡ row_entries f s k
-      rows_are k there = chosen_flat (λ (r : RowLine). r.table) (row_entries f s) (entries_named f s) k tables (range_up 0 0x2d) there
-
       of : (k : ℕ) → has k tables ≡ true → (o : Option ℕ) → composed_count f s k ≡ o
           → ((count_entry f s k ≡ None) × (table_says f s k ≡ [])) ⊎ ((x : Count)
           × ((count_entry f s k ≡ Some x) × (count_says (composed f s) x ≡ table_says f s k)))
@@ -224,7 +277,7 @@ module _ (f s : Map) (f_readable : IsReadable f) (s_readable : IsReadable s) whe
         record { table = k; rows = n },
         (
           ap (option_map (λ rows. record { table = k; rows = rows })) is,
-          ap (λ rs. Rows k n ∷ map row_says rs) (rows_are k there) ∙ sym (ap (counted_says f s k) is),
+          ap (λ ls. Rows k n ∷ ls) (rows_told k there) ∙ sym (ap (counted_says f s k) is),
         ),
       )
 
@@ -308,15 +361,16 @@ module _ (f s : Map) (f_readable : IsReadable f) (s_readable : IsReadable s) whe
       of k None is = inl (is, ap lined_says is)
       of k (Some x) is = inr (x, (is, sym (ap lined_says is)))
 
-  pub text_is : map_text (composed f s) ≡ ended (head_text (version_with (composed f s).signatures (composed f s).documents (composed f s).link))
-      ++ (lines_text (link_says (composed_link f s))
+  pub text_is : map_text (composed f s) ≡ ended (head_text (version_of (composed f s)))
+      ++ (lines_text (shares_says (f.shares || s.shares)) ++ (lines_text (link_says (composed_link f s))
       ++ (lines_text (flat_map (table_says f s) tables) ++ (lines_text (flat_map (part_says Drops f s) (all_numbers Drops f s))
       ++ (lines_text (flat_map (part_says SlotLines f s) (all_numbers SlotLines f s))
       ++ (lines_text (flat_map (part_says Signatures f s) (all_numbers Signatures f s))
-      ++ (lines_text (documents_say f s) ++ lines_text (flat_map (part_says Methods f s) (all_numbers Methods f s))))))))
+      ++ (lines_text (documents_say f s) ++ lines_text (flat_map (part_says Methods f s) (all_numbers Methods f s)))))))))
   text_is =
       let c = composed f s in
-      let head = ended (head_text (version_with c.signatures c.documents c.link)) in
+      let head = ended (head_text (version_of c)) in
+      let shares = shares_says (f.shares || s.shares) in
       let value = link_says (composed_link f s) in
       let rows = flat_map (table_says f s) tables in
       let drops = flat_map (part_says Drops f s) (all_numbers Drops f s) in
@@ -327,14 +381,16 @@ module _ (f s : Map) (f_readable : IsReadable f) (s_readable : IsReadable s) whe
       let own_slots = flat_map (slots_say c) c.slotted in
       let own_lines = flat_map method_says c.methods in
       ap (λ l. head ++ lines_text l)
-      (ap (λ l. value ++ (l ++ (map (λ k. Dropped k) c.drops ++ (own_slots ++ (map signature_says c.signatures ++ (names ++ own_lines)))))) tables_say
-      ∙ ap (λ l. value ++ (rows ++ (l ++ (own_slots ++ (map signature_says c.signatures ++ (names ++ own_lines)))))) drops_say
-      ∙ ap (λ l. value ++ (rows ++ (drops ++ (l ++ (map signature_says c.signatures ++ (names ++ own_lines)))))) slots_told
-      ∙ ap (λ l. value ++ (rows ++ (drops ++ (slots ++ (l ++ (names ++ own_lines)))))) signatures_told
-      ∙ ap (λ l. value ++ (rows ++ (drops ++ (slots ++ (signatures ++ (names ++ l)))))) lines_told)
-      ∙ ap (λ l. head ++ l) (lines_join value (rows ++ (drops ++ (slots ++ (signatures ++ (names ++ lines)))))
+      (ap (λ l. shares ++ (value ++ (l ++ (map (λ k. Dropped k) c.drops ++ (own_slots ++ (map signature_says c.signatures ++ (names ++ own_lines)))))))
+      tables_say
+      ∙ ap (λ l. shares ++ (value ++ (rows ++ (l ++ (own_slots ++ (map signature_says c.signatures ++ (names ++ own_lines))))))) drops_say
+      ∙ ap (λ l. shares ++ (value ++ (rows ++ (drops ++ (l ++ (map signature_says c.signatures ++ (names ++ own_lines))))))) slots_told
+      ∙ ap (λ l. shares ++ (value ++ (rows ++ (drops ++ (slots ++ (l ++ (names ++ own_lines))))))) signatures_told
+      ∙ ap (λ l. shares ++ (value ++ (rows ++ (drops ++ (slots ++ (signatures ++ (names ++ l))))))) lines_told)
+      ∙ ap (λ l. head ++ l) (lines_join shares (value ++ (rows ++ (drops ++ (slots ++ (signatures ++ (names ++ lines))))))
+      ∙ ap (λ l. lines_text shares ++ l) (lines_join value (rows ++ (drops ++ (slots ++ (signatures ++ (names ++ lines)))))
       ∙ ap (λ l. lines_text value ++ l) (lines_join rows (drops ++ (slots ++ (signatures ++ (names ++ lines))))
       ∙ ap (λ l. lines_text rows ++ l) (lines_join drops (slots ++ (signatures ++ (names ++ lines)))
       ∙ ap (λ l. lines_text drops ++ l) (lines_join slots (signatures ++ (names ++ lines))
       ∙ ap (λ l. lines_text slots ++ l) (lines_join signatures (names ++ lines)
-      ∙ ap (λ l. lines_text signatures ++ l) (lines_join names lines))))))
+      ∙ ap (λ l. lines_text signatures ++ l) (lines_join names lines)))))))

@@ -26,7 +26,7 @@ use Rattle.map_compose.specs.Says.{lines_text, followed, slot_images}
 use Rattle.map_compose.specs.Slots.{slot_digits, slots_length, block_of, AreBlocksOf}
 use Rattle.map_compose.proofs.Bounds.{few_slots_of}
 use Rattle.map_compose.proofs.Following.{follows_image, slot_follows}
-use Rattle.map_compose.proofs.Found.{find_filter}
+use Rattle.ppdb_maps_text.proofs.Found.{find_filter}
 use Rattle.map_compose.proofs.Putting.{map_join, take_more, take_past, within}
 use Rattle.map_compose.proofs.Readable.{filter_hold, slots_up}
 

@@ -37,6 +37,18 @@ worked_maps = record {
   named_by_bytes = refl;
   link_of_second = refl;
   link_of_first = refl;
+  rows_by_old = refl;
+  own_module = refl;
+  shares_alone = refl;
+  other_assembly = refl;
+  assembly_gone = refl;
+  there_and_back = refl;
+  to_the_third = refl;
+  gone_by_either = refl;
+  moved_then_gone = refl;
+  signature_gone = refl;
+  gone_then_signature = refl;
+  no_signature = refl;
   differs = record { a = _; b = _; there = refl; before = refl; after = refl; sizes = (refl, refl, λ e. omega (arith, e)) };
   differs_by_image = record { a = _; b = _; there = refl; before = refl; after = refl; sizes = (refl, refl, λ e. omega (arith, e)) };
 }

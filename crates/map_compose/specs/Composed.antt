@@ -1,10 +1,14 @@
 -- The map of two maps (docs/FORMAT.md, "Two maps made into one"): what the first makes of a row, an offset or a slot, the second takes on.
-use Rattle.std.specs.{Prelude.{ℕ, ◌&&◌, ◌||◌, Bool, false, cond, List, [], ◌++◌, Option, Some, None, is_some, map, filter, filter_map, flat_map, option_map, option_and_then}, List.range_with_len}
+use Rattle.std.specs.Prelude.{ℕ, ◌&&◌, ◌||◌, Bool, true, false, cond, nat_eq, List, [], ◌++◌, Option, Some, None, is_some, map, filter, filter_map, flat_map, option_map, option_and_then}
+use Rattle.std.specs.{List.range_with_len}
 use Rattle.std.specs.Option.{option_or}
 use Rattle.ppdb_base.specs.{declared.offsets.Run.Run, Offsets.{Offsets, every, kept_runs}}
-use Rattle.ppdb_maps.specs.declared.entries.{Count.Count, RowLine.RowLine, SlotImage.SlotImage, SignatureImage.SignatureImage, NameLine.NameLine}
-use Rattle.ppdb_maps.specs.Map.{Map, MethodLine, count_of, row_within, method_line, is_dropped, has_slots, slot_image, offsets_in, rows_of, slots_of, signature_line, moved_signature, moved_name}
-use Rattle.map_compose.specs.{Runs.{met, longest}, Ascending.ascending, Names.names_ascending}
+use Rattle.ppdb_maps.specs.declared.entries.{Count.Count, RowLine.RowLine, CrossLine.CrossLine, GoneLine.GoneLine, SlotImage.SlotImage, SignatureImage.SignatureImage, NameLine.NameLine}
+use Rattle.ppdb_maps.specs.declared.image.RowImage.{RowImage, TheVariants.{Row, Gone, Missing}}
+use Rattle.ppdb_maps.specs.Map.{Map, MethodLine, count_of, row_within, row_image, method_line, is_dropped, has_slots, slot_image, offsets_in, rows_of, slots_of}
+use Rattle.ppdb_maps.specs.Map.{signature_line, moved_signature, moved_name}
+use Rattle.ppdb_maps_text.specs.{Ascending.ascending, MapTexts.olds_of}
+use Rattle.map_compose.specs.{Runs.{met, longest}, Names.names_ascending}
 
 -- ---- rows
 
@@ -18,21 +22,59 @@ composed_count f s table = option_or (count_of s table) (count_of f table)
 abbrev pub count_entry : Map → Map → ℕ → Option Count
 count_entry f s table = option_map (λ rows. record { table = table; rows = rows }) (composed_count f s table)
 
+-- what the second map makes of the first's image; what is gone or missing by the first stays so
+abbrev pub image_then : Map → RowImage → RowImage
+image_then s (Row table row) = row_image s table row
+image_then s Gone = Gone
+image_then s Missing = Missing
+
+-- an assembly (AssemblyRef, table 23) becomes no row of Assembly (table 20) but row 1
+abbrev pub own_assembly : ℕ → RowImage → RowImage
+own_assembly table (Row to row) = cond (nat_eq table 0x23 && (nat_eq to 0x20 && cond (nat_eq row 1) false true)) Missing (Row to row)
+own_assembly table Gone = Gone
+own_assembly table Missing = Missing
+
 -- the image of the image
+abbrev pub composed_image : Map → Map → ℕ → ℕ → RowImage
+composed_image f s table old = own_assembly table (image_then s (row_image f table old))
+
+-- the same within one table
 abbrev pub composed_row : Map → Map → ℕ → ℕ → Option ℕ
 composed_row f s table old = option_and_then (row_within s table) (row_within f table old)
 
--- the `row` lines from which the rows with an image come: a map without a `rows` line keeps each row
-abbrev pub sources : Option ℕ → Option ℕ → Map → Map → ℕ → List RowLine
-sources (Some first) second f s table = rows_of f table
-sources None (Some second) f s table = rows_of s table
+-- the rows of which a line may speak: those with a line of the first map, or, where it keeps each row, of the second
+abbrev pub sources : Option ℕ → Option ℕ → Map → Map → ℕ → List ℕ
+sources (Some first) second f s table = olds_of f table
+sources None (Some second) f s table = olds_of s table
 sources None None f s table = []
 
-abbrev pub row_entry : Map → Map → ℕ → RowLine → Option RowLine
-row_entry f s table line = option_map (λ new. record { table = table; old = line.old; new = new }) (composed_row f s table line.old)
+abbrev pub sources_of : Map → Map → ℕ → List ℕ
+sources_of f s table = sources (count_of f table) (count_of s table) f s table
+
+-- the line of a row with this image, of each form
+abbrev pub row_lined : ℕ → ℕ → RowImage → Option RowLine
+row_lined table old (Row to new) = cond (nat_eq to table) (Some (record { table = table; old = old; new = new })) None
+row_lined table old Gone = None
+row_lined table old Missing = None
+
+abbrev pub cross_lined : ℕ → ℕ → RowImage → Option CrossLine
+cross_lined table old (Row to new) = cond (nat_eq to table) None (Some (record { table = table; old = old; to = to; new = new }))
+cross_lined table old Gone = None
+cross_lined table old Missing = None
+
+abbrev pub gone_lined : ℕ → ℕ → RowImage → Option GoneLine
+gone_lined table old (Row to new) = None
+gone_lined table old Gone = Some (record { table = table; old = old })
+gone_lined table old Missing = None
 
 abbrev pub row_entries : Map → Map → ℕ → List RowLine
-row_entries f s table = filter_map (row_entry f s table) (sources (count_of f table) (count_of s table) f s table)
+row_entries f s table = filter_map (λ old. row_lined table old (composed_image f s table old)) (sources_of f s table)
+
+abbrev pub cross_entries : Map → Map → ℕ → List CrossLine
+cross_entries f s table = filter_map (λ old. cross_lined table old (composed_image f s table old)) (sources_of f s table)
+
+abbrev pub gone_entries : Map → Map → ℕ → List GoneLine
+gone_entries f s table = filter_map (λ old. gone_lined table old (composed_image f s table old)) (sources_of f s table)
 
 -- ---- methods
 
@@ -138,6 +180,8 @@ abbrev pub composed : Map → Map → Map
 composed f s = record {
   counts = filter_map (count_entry f s) tables;
   rows = flat_map (row_entries f s) tables;
+  crossed = flat_map (cross_entries f s) tables;
+  gone = flat_map (gone_entries f s) tables;
   methods = filter_map (composed_line f s) (spoken_of f (map (λ (l : MethodLine). l.method) f.methods) (map (λ (l : MethodLine). l.method) s.methods));
   drops = filter (drops_one f s) (spoken_of f f.drops s.drops);
   slotted = slotted_methods f s;
@@ -145,4 +189,5 @@ composed f s = record {
   signatures = filter_map (signature_entry f s) (spoken_of f (signed f) (signed s));
   documents = document_entries f s;
   link = composed_link f s;
+  shares = f.shares || s.shares;
 }

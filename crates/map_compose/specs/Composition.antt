@@ -1,9 +1,11 @@
 -- The equations by which a map is the composition of two, and when the map of two maps is readable.
 use Rattle.std.specs.Prelude.{◌≡◌, ℕ, ◌≤◌, ◌↔◌, ◌⊎◌, ◌||◌, true, false, List, Option, Some, None, is_some, option_and_then}
 use Rattle.ppdb_base.specs.{declared.offsets.Run.Run, Offsets.{lined, Rise, Kept, kept_runs, old_size, moved}}
-use Rattle.ppdb_maps.specs.Map.{Map, MethodLine, count_of, row_within, is_dropped, has_slots, method_line, slot_image, offsets_in, signature_line, document_line, moved_name}
+use Rattle.ppdb_maps.specs.Map.{Map, MethodLine, count_of, row_within, row_image, is_dropped, has_slots, method_line, slot_image, offsets_in, signature_line}
+use Rattle.ppdb_maps.specs.Map.{document_line, moved_name}
 use Rattle.ppdb_maps.specs.{Readable.IsReadable, Says.sizes_of}
-use Rattle.map_compose.specs.{Composed.{composed, composed_count, composed_row, drops_one, has_image, signature_then, composed_link}, Laws.{Apart, MovesOn}, Runs.{met, longest}, Sizes.SizesAgree}
+use Rattle.map_compose.specs.Composed.{composed, composed_count, composed_image, composed_row, drops_one, has_image, signature_then, composed_link}
+use Rattle.map_compose.specs.{Laws.{Apart, MovesOn}, Runs.{met, longest}, Sizes.SizesAgree}
 
 -- the method becomes `image` by the first map, and is there after both
 pub record Follows (f s : Map) (method image : ℕ) : Type 0 where
@@ -18,7 +20,9 @@ sizes_then (Some first) (Some second) = Some (first.0, second.1)
 
 pub record IsComposition (f s c : Map) : Type 0 where
   pub counts : (table : ℕ) → count_of c table ≡ composed_count f s table
-  pub rows : (table old : ℕ) → row_within c table old ≡ composed_row f s table old
+  -- the image of a row, of whichever table, is what the second map makes of what the first makes of it
+  pub rows : (table old : ℕ) → row_image c table old ≡ composed_image f s table old
+  pub methods : (method : ℕ) → row_within c 0x06 method ≡ composed_row f s 0x06 method
   pub drops : (method : ℕ) → is_dropped c method ≡ drops_one f s method
   pub slots : (method image old : ℕ) → Follows f s method image → slot_image c method old ≡ option_and_then (slot_image s image) (slot_image f method old)
   pub sizes : (method image : ℕ) → Follows f s method image
@@ -31,6 +35,7 @@ pub record IsComposition (f s c : Map) : Type 0 where
   -- a name has a `document` line exactly where one of the maps has one
   pub named : (name : List ℕ) → is_some (document_line c name) ≡ (is_some (document_line f name) || is_some (document_line s name))
   pub link : c.link ≡ composed_link f s
+  pub shares : c.shares ≡ (f.shares || s.shares)
   -- a method that is not there after both has no `method` line, no `slots` line and no `signature` line
   pub without_image : (method : ℕ) → has_image f s method ≡ false
       → (method_line c method ≡ None) × (has_slots c method ≡ false) × (signature_line c method ≡ None)

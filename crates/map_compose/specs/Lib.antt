@@ -1,5 +1,4 @@
 pub mod Runs
-pub mod Ascending
 pub mod Names
 pub mod Composed
 pub mod Sizes
@@ -14,3 +13,4 @@ pub mod Lengths
 pub mod Slots
 pub mod Gathered
 pub mod Fits
+pub mod Leaving

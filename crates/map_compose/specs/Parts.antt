@@ -1,7 +1,9 @@
 -- The parts of a map's text that are about methods, and the methods of which each may speak.
-use Rattle.std.specs.Prelude.{ℕ, cond, is_some, List, ◌++◌, map, drop}
-use Rattle.ppdb_maps.specs.{declared.entries.RowLine.RowLine, declared.line.Line.Line, Map.{Map, MethodLine, count_of, rows_of}}
-use Rattle.map_compose.specs.{declared.part.{Part.{Part, TheVariants.{Drops, Slots, Signatures, Methods}}, Passed.Passed}, Ascending.ascending, Names.names_ascending, Composed.{signed, named}}
+use Rattle.std.specs.Prelude.{ℕ, ◌+◌, cond, is_some, nat_eq, List, ◌++◌, Option, Some, None, map, drop, min}
+use Rattle.ppdb_maps.specs.{declared.entries.{RowLine.RowLine, CrossLine.CrossLine, GoneLine.GoneLine}, declared.line.Line.Line, Map.{Map, MethodLine, count_of, rows_of, crossed_of, gone_of}}
+use Rattle.ppdb_maps_text.specs.Ascending.{ascending}
+use Rattle.map_compose.specs.declared.olds.PassedLines.{PassedLines}
+use Rattle.map_compose.specs.{declared.part.{Part.{Part, TheVariants.{Drops, Slots, Signatures, Methods}}, Passed.Passed}, Names.names_ascending, Composed.{signed, named}}
 use Rattle.map_compose.specs.Says.{drop_of_both, slots_of_both, signature_of_both, line_of_both}
 
 -- the methods with a line of the part
@@ -34,3 +36,26 @@ part_says Methods f s method = line_of_both f s method
 -- the names of both maps' lines that are left
 abbrev pub names_left : Map → Map → Passed → List (List ℕ)
 names_left f s passed = names_ascending (drop passed.own (named f) ++ drop passed.other (named s))
+
+-- ---- rows of a table
+
+-- the rows of the map's lines of each form that are left
+abbrev pub olds_left : Map → ℕ → PassedLines → List ℕ
+olds_left m table passed =
+    ascending (drop passed.rows (map (λ (r : RowLine). r.old) (rows_of m table))
+    ++ (drop passed.crossed (map (λ (r : CrossLine). r.old) (crossed_of m table)) ++ drop passed.gone (map (λ (r : GoneLine). r.old) (gone_of m table))))
+
+-- one more, where the number is the least
+abbrev pub passed_on : ℕ → Option ℕ → ℕ → ℕ
+passed_on index None least = index
+passed_on index (Some old) least = cond (nat_eq old least) (index + 1) index
+
+-- the least of two numbers that may be there
+abbrev pub least_of : Option ℕ → Option ℕ → Option ℕ
+least_of None other = other
+least_of (Some a) None = Some a
+least_of (Some a) (Some b) = Some (min a b)
+
+-- the map of whose rows the lines speak: the second, where the first keeps each row
+abbrev pub source : Map → Map → ℕ → Map
+source f s table = cond (is_some (count_of f table)) f s

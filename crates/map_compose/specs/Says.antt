@@ -1,9 +1,10 @@
 -- What the lines of the map of two maps say of a table and of a method.
 use Rattle.std.specs.Prelude.{ℕ, ◌≤◌, ◌||◌, Bool, cond, List, [], ◌∷◌, Option, Some, None, is_some, slice_get, map, flat_map, option_and_then}
-use Rattle.ppdb_maps.specs.{declared.entries.RowLine.RowLine, declared.line.Line.{Line, TheVariants.{Rows, Row, Dropped, Slots, Slot, Signature, Document}}}
-use Rattle.ppdb_maps.specs.Map.{Map, MethodLine, count_of, row_within, slot_image}
-use Rattle.ppdb_maps_text.specs.{MapTexts.{ended, line_text, row_says, slot_says, method_says}, declared.counted.Counted.Counted, Putting.Puts}
-use Rattle.map_compose.specs.Composed.{composed_count, sources, row_entries, has_image, composed_line, drops_one, has_slot_lines, slot_entries, composed_signature, document_entry, document_entries}
+use Rattle.ppdb_maps.specs.declared.line.Line.{Line, TheVariants.{Rows, Dropped, Slots, Slot, Signature, Document}}
+use Rattle.ppdb_maps.specs.Map.{Map, MethodLine, row_within, slot_image}
+use Rattle.ppdb_maps_text.specs.{MapTexts.{ended, line_text, image_says, slot_says, method_says}, declared.counted.Counted.Counted, Putting.Puts}
+use Rattle.map_compose.specs.Composed.{composed_count, composed_image, sources_of, has_image, composed_line, drops_one, has_slot_lines, slot_entries}
+use Rattle.map_compose.specs.Composed.{composed_signature, document_entry, document_entries}
 
 -- the text of lines, each ended by LF
 abbrev pub lines_text : List Line → List ℕ
@@ -15,16 +16,12 @@ pub record PutsLines (old new : Counted) (says : List Line) : Type 0 where
 
 -- ---- a table
 
-abbrev pub sources_of : Map → Map → ℕ → List RowLine
-sources_of f s table = sources (count_of f table) (count_of s table) f s table
-
--- of a row with an image
-abbrev pub image_says : ℕ → ℕ → Option ℕ → List Line
-image_says table old None = []
-image_says table old (Some new) = Row table old new ∷ []
+-- the lines of rows of the table
+abbrev pub images_say : Map → Map → ℕ → List ℕ → List Line
+images_say f s table olds = flat_map (λ old. image_says table old (composed_image f s table old)) olds
 
 abbrev pub rows_say : Map → Map → ℕ → List Line
-rows_say f s table = map row_says (row_entries f s table)
+rows_say f s table = images_say f s table (sources_of f s table)
 
 abbrev pub counted_says : Map → Map → ℕ → Option ℕ → List Line
 counted_says f s table None = []
@@ -80,6 +77,6 @@ names_say f s names = map (λ d. Document d) (map (document_entry f s) names)
 abbrev pub documents_say : Map → Map → List Line
 documents_say f s = map (λ d. Document d) (document_entries f s)
 
--- the map has a `document` or a `link` line
+-- the map has a `document`, a `link` or a `shares` line
 abbrev pub has_names : Map → Bool
-has_names m = is_some (slice_get m.documents 0) || is_some m.link
+has_names m = is_some (slice_get m.documents 0) || (is_some m.link || m.shares)

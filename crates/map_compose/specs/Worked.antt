@@ -1,7 +1,8 @@
 -- Worked maps, composed, and the canonical texts of what they come to.
-use Rattle.std.specs.Prelude.{◌≡◌, ℕ, List, [], ◌∷◌, None, Some, codes}
+use Rattle.std.specs.Prelude.{◌≡◌, ℕ, true, false, List, [], ◌∷◌, None, Some, codes}
 use Rattle.ppdb_base.specs.declared.offsets.Run.{Run}
-use Rattle.ppdb_maps.specs.{declared.entries.{Count.Count, RowLine.RowLine, SlotImage.SlotImage, SignatureImage.SignatureImage, NameLine.NameLine}, Map.{Map, MethodLine, map_of}}
+use Rattle.ppdb_maps.specs.declared.entries.{Count.Count, RowLine.RowLine, CrossLine.CrossLine, GoneLine.GoneLine, SlotImage.SlotImage, SignatureImage.SignatureImage, NameLine.NameLine}
+use Rattle.ppdb_maps.specs.Map.{Map, MethodLine, map_of}
 use Rattle.ppdb_maps_text.specs.MapTexts.{map_text}
 use Rattle.map_compose.specs.{Composed.composed, Sizes.SizesDiffer}
 
@@ -26,8 +27,14 @@ signature method new = record { method = method; new = new }
 abbrev pub document : List ℕ → List ℕ → NameLine
 document old new = record { old = old; new = new }
 
+abbrev pub cross : ℕ → ℕ → ℕ → ℕ → CrossLine
+cross table old to new = record { table = table; old = old; to = to; new = new }
+
+abbrev pub gone : ℕ → ℕ → GoneLine
+gone table old = record { table = table; old = old }
+
 abbrev pub no_lines : Map
-no_lines = map_of [] [] [] [] [] [] [] [] None
+no_lines = map_of [] [] [] [] [] [] [] [] [] [] None false
 
 -- the two maps come to the map of this text
 abbrev pub ComesTo : Map → Map → List ℕ → Type 0
@@ -128,6 +135,46 @@ pub record WorkedComposed : Type 0 where
   pub link_of_first : ComesTo (record no_lines { link = Some [] })
       no_lines
       (codes "ppdbmap 4\nlink \\-\n")
+  pub rows_by_old : ComesTo
+      (record no_lines { counts = count 27 3 ∷ []; rows = row 27 3 3 ∷ []; crossed = cross 27 2 1 1 ∷ []; gone = gone 27 4 ∷ []; drops = 3 ∷ [] })
+      no_lines
+      (codes "ppdbmap 4\nrows 1b 3\nrow 1b 2 01 1\nrow 1b 3 3\ngone 1b 4\ndrop 3\n")
+  pub own_module : ComesTo
+      (record no_lines { counts = count 1 0 ∷ count 35 1 ∷ []; crossed = cross 35 1 32 1 ∷ []; link = Some (codes "a") })
+      (record no_lines { link = Some (codes "b"); shares = true })
+      (codes "ppdbmap 4\nshares\nlink b\nrows 01 0\nrows 23 1\nrow 23 1 20 1\n")
+  pub shares_alone : ComesTo (record no_lines { shares = true })
+      no_lines
+      (codes "ppdbmap 4\nshares\n")
+  pub other_assembly : ComesTo (record no_lines { counts = count 35 1 ∷ []; rows = row 35 2 1 ∷ []; crossed = cross 35 1 32 1 ∷ [] })
+      (record no_lines { counts = count 32 2 ∷ []; rows = row 32 1 2 ∷ [] })
+      (codes "ppdbmap 3\nrows 20 2\nrow 20 1 2\nrows 23 1\nrow 23 2 1\n")
+  pub assembly_gone : ComesTo (record no_lines { counts = count 35 1 ∷ []; crossed = cross 35 1 32 1 ∷ [] })
+      (record no_lines { counts = count 32 0 ∷ []; gone = gone 32 1 ∷ [] })
+      (codes "ppdbmap 4\nrows 20 0\ngone 20 1\nrows 23 1\ngone 23 1\n")
+  pub there_and_back : ComesTo (record no_lines { counts = count 1 3 ∷ count 2 9 ∷ []; rows = row 2 1 1 ∷ []; crossed = cross 1 1 2 5 ∷ [] })
+      (record no_lines { counts = count 2 9 ∷ []; rows = row 2 1 1 ∷ []; crossed = cross 2 5 1 2 ∷ [] })
+      (codes "ppdbmap 3\nrows 01 3\nrow 01 1 2\nrows 02 9\nrow 02 1 1\n")
+  pub to_the_third : ComesTo (record no_lines { counts = count 1 3 ∷ []; rows = row 1 2 3 ∷ []; crossed = cross 1 1 2 5 ∷ [] })
+      (record no_lines { counts = count 2 9 ∷ []; crossed = cross 2 5 27 2 ∷ []; gone = gone 2 6 ∷ [] })
+      (codes "ppdbmap 4\nrows 01 3\nrow 01 1 1b 2\nrow 01 2 3\nrows 02 9\nrow 02 5 1b 2\ngone 02 6\n")
+  pub gone_by_either : ComesTo
+      (record no_lines { counts = count 1 3 ∷ []; rows = row 1 2 2 ∷ row 1 4 4 ∷ []; crossed = cross 1 3 2 3 ∷ []; gone = gone 1 1 ∷ [] })
+      (record no_lines { counts = count 1 1 ∷ count 2 1 ∷ []; rows = row 1 1 1 ∷ []; gone = gone 1 2 ∷ [] })
+      (codes "ppdbmap 4\nrows 01 1\ngone 01 1\ngone 01 2\nrows 02 1\n")
+  pub moved_then_gone : ComesTo (record no_lines { counts = count 1 3 ∷ []; crossed = cross 1 3 2 3 ∷ [] })
+      (record no_lines { counts = count 2 1 ∷ []; gone = gone 2 3 ∷ [] })
+      (codes "ppdbmap 4\nrows 01 3\ngone 01 3\nrows 02 1\ngone 02 3\n")
+  pub signature_gone : ComesTo (record no_lines { signatures = signature 1 2 ∷ [] })
+      (record no_lines { counts = count 17 1 ∷ []; gone = gone 17 2 ∷ [] })
+      (codes "ppdbmap 4\nrows 11 1\ngone 11 2\nsignature 1 0\n")
+  pub gone_then_signature : ComesTo
+      (record no_lines { counts = count 6 2 ∷ count 17 1 ∷ []; rows = row 6 1 2 ∷ row 6 2 1 ∷ []; gone = gone 17 1 ∷ [] })
+      (record no_lines { signatures = signature 2 1 ∷ [] })
+      (codes "ppdbmap 4\nrows 06 2\nrow 06 1 2\nrow 06 2 1\nrows 11 1\ngone 11 1\nsignature 1 1\n")
+  pub no_signature : ComesTo (record no_lines { counts = count 17 3 ∷ []; rows = row 17 1 3 ∷ [] })
+      (record no_lines { counts = count 17 0 ∷ []; gone = gone 17 3 ∷ [] })
+      (codes "ppdbmap 4\nrows 11 0\ngone 11 1\n")
   pub differs : SizesDiffer (record no_lines { methods = line 1 9 12 (run 0 0 1 ∷ run 5 6 4 ∷ []) ∷ [] })
       (record no_lines { methods = line 1 10 10 [] ∷ [] }) 1 12 10
   pub differs_by_image : SizesDiffer (record no_lines {

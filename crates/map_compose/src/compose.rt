@@ -7,7 +7,7 @@ ghost use Rattle.map_compose.specs.Fits.{NamesFit};
 ghost use Rattle.map_compose.specs.Refused.{Counts, RefusesFor};
 ghost use Rattle.map_compose.specs.Sizes.{SizesAgree};
 
-use crate::documents::{put_documents, put_link};
+use crate::documents::{put_documents, put_link, put_shares};
 use crate::error::ComposeError;
 use crate::fits::names_fit;
 use crate::gathered::Gathered;
@@ -34,6 +34,7 @@ fn counted_map(alloc: Global, first: &MapText, second: &MapText) -> Result<Count
     let mut text = Counted::new(alloc);
     let version = version_by_both(first, second);
     text.put_head(version)?;
+    put_shares(first, second, &mut text)?;
     put_link(first, second, &mut text)?;
     put_tables(first, second, &mut text)?;
     put_part(Part::Drops, first, second, &mut gathered, &mut text)?;

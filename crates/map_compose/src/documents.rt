@@ -1,6 +1,6 @@
-// The `link` line and the `document` lines of the map of two maps.
-ghost use Rattle.std.specs.Prelude.{◌≡◌, ◌≤◌, [], ◌∷◌, length, MatchOption, OnOk, option_copied, slice_get};
-ghost use Rattle.ppdb_maps_text.specs.MapTexts.{link_says};
+// The `shares` and the `link` line and the `document` lines of the map of two maps.
+ghost use Rattle.std.specs.Prelude.{◌≡◌, ◌≤◌, ◌||◌, [], ◌∷◌, length, MatchOption, OnOk, option_copied, slice_get};
+ghost use Rattle.ppdb_maps_text.specs.MapTexts.{link_says, shares_says};
 ghost use Rattle.map_compose.specs.Composed.{named, composed_link};
 ghost use Rattle.map_compose.specs.Fits.{NamesFit};
 ghost use Rattle.map_compose.specs.Parts.{names_left};
@@ -90,5 +90,16 @@ pub fn put_link(first: &MapText, second: &MapText, text: &mut Counted) -> Result
     match link_by_both(first, second) {
         None => Ok(()),
         Some(value) => text.put_link(value),
+    }
+}
+
+/// Puts the `shares` line, where one of the maps has it.
+pub fn put_shares(first: &MapText, second: &MapText, text: &mut Counted) -> Result<(), Memory>
+    ensures { OnOk result (PutsLines text.old text.new (shares_says (first.now.shares || second.now.shares))) }
+{
+    if first.shares() || second.shares() {
+        text.put_shares()
+    } else {
+        Ok(())
     }
 }

@@ -1,16 +1,28 @@
 // What becomes of a row, a method and a slot by one map after another.
 ghost use Rattle.std.specs.Prelude.{◌≡◌};
-ghost use Rattle.map_compose.specs.Composed.{composed_row, composed_signature, drops_one};
+ghost use Rattle.map_compose.specs.Composed.{composed_image, own_assembly, composed_signature, drops_one};
 ghost use Rattle.map_compose.specs.Says.{followed, slot_after};
 
-use ppdb_maps::MapText;
+use ppdb_maps::{MapText, RowImage};
+
+/// The image of a row of a table: of an assembly it is no row of Assembly but row 1.
+fn own_image(table: u8, image: RowImage) -> RowImage
+    ensures { result ≡ own_assembly table image }
+{
+    match image {
+        RowImage::Row { table: 0x20, row } if table == 0x23 && row != 1 => RowImage::Missing,
+        image => image,
+    }
+}
 
 /// The image of a row by both maps.
-pub fn row_by_both(first: &MapText, second: &MapText, table: u8, old: u32) -> Option<u32>
-    ensures { result ≡ composed_row first.now second.now table old }
+pub fn image_by_both(first: &MapText, second: &MapText, table: u8, old: u32) -> RowImage
+    ensures { result ≡ composed_image first.now second.now table old }
 {
-    let middle = first.row(table, old)?;
-    second.row(table, middle)
+    match first.row_image(table, old) {
+        RowImage::Row { table: to, row } => own_image(table, second.row_image(to, row)),
+        image => image,
+    }
 }
 
 /// What the first map makes of a method that is there after both.

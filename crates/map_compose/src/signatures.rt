@@ -1,7 +1,7 @@
 // The `signature` lines of the map of two maps, and the version of its text.
-ghost use Rattle.std.specs.Prelude.{◌≡◌, ◌||◌, [], None, OnOk};
+ghost use Rattle.std.specs.Prelude.{◌≡◌, ◌||◌, OnOk};
 ghost use Rattle.std.specs.List.{flat_map};
-ghost use Rattle.ppdb_maps_text.specs.MapTexts.{version_with};
+ghost use Rattle.ppdb_maps_text.specs.MapTexts.{has_items, version_of};
 ghost use Rattle.map_compose.specs.declared.part.Part.TheVariants.{Signatures};
 ghost use Rattle.map_compose.specs.Composed.{composed};
 ghost use Rattle.map_compose.specs.Gathered.{IsGatheredOf};
@@ -11,57 +11,60 @@ ghost use Rattle.map_compose.specs.Sizes.{SizesAgree};
 
 use crate::gathered::Gathered;
 use crate::image::signature_by_both;
+use crate::leaving::leaves_by_both;
 use crate::methods::put_part;
 use crate::part::{Part, Passed};
 use ppdb_base::Memory;
 use ppdb_maps::MapText;
 use ppdb_maps_text::Counted;
 
-/// Whether a map has a `document` or a `link` line.
+/// Whether a map has a `document`, a `link` or a `shares` line.
 fn has_names(map: &MapText) -> bool
     ensures { result ≡ has_lines map.now }
 {
-    map.document_line(0).is_some() || map.link().is_some()
+    map.document_line(0).is_some() || map.link().is_some() || map.shares()
 }
 
-/// Whether one of two maps has a `document` or a `link` line, and with it the map of both.
+/// Whether one of two maps has a `document`, a `link` or a `shares` line, and with it the map of both.
 fn names_by_both(first: &MapText, second: &MapText) -> bool
     ensures { result ≡ (has_lines first.now || has_lines second.now) }
 {
     has_names(first) || has_names(second)
 }
 
-/// The version of the text of the map of two maps, where that has no `document` and no `link` line:
-/// 4 where it has a `signature` line, else 3.
-fn version_signed(first: &MapText, second: &MapText) -> u8
-    ensures { result ≡ version_with (composed first.now second.now).signatures [] None }
+/// Whether the map of two maps has a `signature` line.
+fn signed_by_both(first: &MapText, second: &MapText) -> bool
+    ensures { result ≡ has_items (composed first.now second.now).signatures }
 {
     first.keeps();
     second.keeps();
     if first.signature_line(0).is_none() && second.signature_line(0).is_none() {
-        return 3;
+        return false;
     }
     let mut passed = Passed { own: 0, other: 0 };
     'methods: while let Some(method) = Part::Signatures.next(first, second, &mut passed) {
         if signature_by_both(first, second, method).is_some() {
-            return 4;
+            return true;
         }
     }
-    3
+    false
 }
 
-/// The version of the text of the map of two maps: 4 where that has a `signature`, a `document` or
-/// a `link` line, else 3.
+/// The version of the text of the map of two maps: 4 where that has a line that texts have from
+/// version 4 on, else 3.
 pub fn version_by_both(first: &MapText, second: &MapText) -> u8
-    ensures { result ≡ version_with (composed first.now second.now).signatures (composed first.now second.now).documents
-        (composed first.now second.now).link }
+    ensures { result ≡ version_of (composed first.now second.now) }
 {
     let named = names_by_both(first, second);
     if named {
-        4
-    } else {
-        version_signed(first, second)
+        return 4;
     }
+    let leaves = leaves_by_both(first, second);
+    if leaves {
+        return 4;
+    }
+    let signed = signed_by_both(first, second);
+    if signed { 4 } else { 3 }
 }
 
 /// Puts the `signature` lines, which a text of version 3 does not have.
@@ -72,8 +75,7 @@ pub fn put_signatures(
     gathered: &mut Gathered,
     text: &mut Counted,
 ) -> Result<(), Memory>
-    requires version { version ≡ version_with (composed first.now second.now).signatures (composed first.now second.now).documents
-        (composed first.now second.now).link }
+    requires version { version ≡ version_of (composed first.now second.now) }
     requires gathered { IsGatheredOf gathered.now second.now }
     requires agree { SizesAgree first.now second.now }
     ensures gathered { OnOk result (IsGatheredOf gathered.new second.now) }

@@ -1,44 +1,40 @@
 // The lines of tables and their rows.
-ghost use Rattle.std.specs.Prelude.{◌≡◌, OnOk, true, is_some, slice_get, option_map};
+ghost use Rattle.std.specs.Prelude.{◌≡◌, OnOk, true, is_some};
 ghost use Rattle.std.specs.List.{flat_map};
-ghost use Rattle.ppdb_maps.specs.declared.entries.RowLine.{RowLine};
-ghost use Rattle.map_compose.specs.Composed.{tables, composed_count, composed_row};
-ghost use Rattle.map_compose.specs.Says.{PutsLines, image_says, table_says, rows_say, sources_of};
+ghost use Rattle.ppdb_maps_text.specs.MapTexts.{image_says};
+ghost use Rattle.map_compose.specs.Composed.{tables, composed_count};
+ghost use Rattle.map_compose.specs.Parts.{source as source_map};
+ghost use Rattle.map_compose.specs.Says.{PutsLines, table_says, rows_say};
 
-use crate::image::row_by_both;
+use crate::image::image_by_both;
+use crate::olds::{PassedLines, next_old};
 use ppdb_base::Memory;
-use ppdb_maps::MapText;
+use ppdb_maps::{MapText, RowImage};
 use ppdb_maps_text::Counted;
 
-/// The row of a line from which rows with an image come, by its index among those of the table.
-fn source_row(first: &MapText, second: &MapText, table: u8, index: u32) -> Option<u32>
-    requires { is_some (composed_count first.now second.now table) ≡ true }
-    ensures { result ≡ option_map (λ (r : RowLine). r.old) (slice_get (sources_of first.now second.now table) index) }
+/// The map of whose rows the lines of a table speak: the second, where the first keeps each row.
+pub fn source<'a>(first: &'a MapText, second: &'a MapText, table: u8) -> &'a MapText
+    ensures { result.now ≡ source_map first.now second.now table }
 {
-    let (old, _) = match first.rows(table) {
-        Some(_) => first.row_line(table, index)?,
-        None => second.row_line(table, index)?,
-    };
-    Some(old)
-}
-
-/// Puts the line of a row's image, where there is one.
-fn put_image(
-    first: &MapText,
-    second: &MapText,
-    table: u8,
-    old: u32,
-    text: &mut Counted,
-) -> Result<(), Memory>
-    ensures { OnOk result (PutsLines text.old text.new (image_says table old (composed_row first.now second.now table old))) }
-{
-    match row_by_both(first, second, table, old) {
-        None => Ok(()),
-        Some(new) => text.put_row(table, old, new),
+    match first.rows(table) {
+        Some(_) => first,
+        None => second,
     }
 }
 
-/// Puts the lines of a table's rows.
+/// Puts the line of a row with this image, where it has any.
+fn put_image(table: u8, old: u32, image: RowImage, text: &mut Counted) -> Result<(), Memory>
+    ensures { OnOk result (PutsLines text.old text.new (image_says table old image)) }
+{
+    match image {
+        RowImage::Row { table: to, row } if to == table => text.put_row(table, old, row),
+        RowImage::Row { table: to, row } => text.put_cross(table, old, to, row),
+        RowImage::Gone => text.put_gone(table, old),
+        RowImage::Missing => Ok(()),
+    }
+}
+
+/// Puts the lines of a table's rows, by OLD.
 fn put_rows_of(
     first: &MapText,
     second: &MapText,
@@ -48,12 +44,15 @@ fn put_rows_of(
     requires { is_some (composed_count first.now second.now table) ≡ true }
     ensures { OnOk result (PutsLines text.old text.new (rows_say first.now second.now table)) }
 {
-    first.keeps();
-    second.keeps();
-    let mut index = 0;
-    'rows: while let Some(old) = source_row(first, second, table, index) {
-        put_image(first, second, table, old, text)?;
-        index += 1;
+    let lines = source(first, second, table);
+    let mut passed = PassedLines {
+        rows: 0,
+        crossed: 0,
+        gone: 0,
+    };
+    'rows: while let Some(old) = next_old(lines, table, &mut passed) {
+        let image = image_by_both(first, second, table, old);
+        put_image(table, old, image, text)?;
     }
     Ok(())
 }

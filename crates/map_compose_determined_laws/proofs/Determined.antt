@@ -5,16 +5,18 @@ use Rattle.std.specs.Option.{option_and_then}
 use Rattle.ppdb_base.specs.Offsets.{Kept, RiseFrom, lined, stop_runs}
 use Rattle.ppdb_base.proofs.Moved.{rise_prefix}
 use Rattle.ppdb_maps.specs.Forms.{SLOTS}
-use Rattle.ppdb_maps.specs.Map.{Map, MethodLine, count_of, row_line, row_within, method_line, is_dropped, has_slots, slot_line, slot_image, offsets_in}
+use Rattle.ppdb_maps.specs.Map.{Map, MethodLine, count_of, row_line, cross_line, has_gone_line, row_within, row_image, method_line, is_dropped, has_slots, slot_line}
+use Rattle.ppdb_maps.specs.Map.{slot_image, offsets_in}
 use Rattle.ppdb_maps.specs.Map.{signature_line, document_line}
 use Rattle.ppdb_maps.specs.Readable.{IsReadable}
 use Rattle.ppdb_maps.specs.Says.{sizes_of}
-use Rattle.map_compose.specs.Composed.{composed, has_image}
+use Rattle.map_compose.specs.Composed.{composed, has_image, cross_lined, gone_lined}
 use Rattle.map_compose.specs.Composition.{Follows, IsComposition, ComposedComposes, ComposedIsReadable}
 use Rattle.map_compose.specs.Laws.{MoveAlike}
+use Rattle.map_compose.proofs.Imaging.{within, within_is}
 use Rattle.map_compose.proofs.Rising.{one_longest}
 use Rattle.map_compose_determined_laws.specs.Determined.{CompositionsAreOne, ComposedIsTheOnlyOne}
-use Rattle.map_compose_determined_laws.proofs.Lines.{no_sizes, own_line, row_by, row_line_is, slot_line_is, slots_are_told}
+use Rattle.map_compose_determined_laws.proofs.Lines.{no_sizes, own_line, row_by, row_line_is, cross_line_is, gone_line_is, slot_line_is, slots_are_told}
 use Rattle.map_compose_determined_laws.proofs.Lists.{one_map}
 
 module _ (f s c d : Map) (readable : IsReadable c) (also : IsReadable d) (one : IsComposition f s c) (other : IsComposition f s d) where
@@ -24,12 +26,30 @@ module _ (f s c d : Map) (readable : IsReadable c) (also : IsReadable d) (one : 
   drops_alike : (method : ℕ) → is_dropped c method ≡ is_dropped d method
   drops_alike method = one.drops method ∙ sym (other.drops method)
 
+  within_alike : (table old : ℕ) → row_within c table old ≡ row_within d table old
+  within_alike table old =
+      within_is c readable table old ∙ ap (within table) (one.rows table old ∙ sym (other.rows table old)) ∙ sym (within_is d also table old)
+
+  crossed_alike : (table old : ℕ) → cross_line c table old ≡ cross_line d table old
+  crossed_alike table old =
+      cross_line_is c readable table old
+      ∙ ap (λ o. cond (is_some o) (cross_lined table old (row_image c table old)) None) (counts_alike table)
+      ∙ ap (λ i. cond (is_some (count_of d table)) (cross_lined table old i) None) (one.rows table old ∙ sym (other.rows table old))
+      ∙ sym (cross_line_is d also table old)
+
+  gone_alike : (table old : ℕ) → has_gone_line c table old ≡ has_gone_line d table old
+  gone_alike table old =
+      gone_line_is c readable table old
+      ∙ ap (λ o. cond (is_some o) (is_some (gone_lined table old (row_image c table old))) false) (counts_alike table)
+      ∙ ap (λ i. cond (is_some (count_of d table)) (is_some (gone_lined table old i)) false) (one.rows table old ∙ sym (other.rows table old))
+      ∙ sym (gone_line_is d also table old)
+
   rows_alike : (table old : ℕ) → row_line c table old ≡ row_line d table old
   rows_alike table old =
       row_line_is c readable table old
       ∙ ap (λ b. row_by c readable (nat_eq table 0x06 && b) (count_of c table) (row_within c table old)) (drops_alike old)
       ∙ ap (λ o. row_by c readable (nat_eq table 0x06 && is_dropped d old) o (row_within c table old)) (counts_alike table)
-      ∙ ap (λ o. row_by c readable (nat_eq table 0x06 && is_dropped d old) (count_of d table) o) (one.rows table old ∙ sym (other.rows table old))
+      ∙ ap (λ o. row_by c readable (nat_eq table 0x06 && is_dropped d old) (count_of d table) o) (within_alike table old)
       ∙ sym (row_line_is d also table old)
 
   -- ---- a method is there after both, or not
@@ -157,6 +177,8 @@ compositions_are_one f s c d readable also one other =
     one_map c d readable.ascends also.ascends (record {
       counts = counts_alike f s c d readable also one other;
       rows = rows_alike f s c d readable also one other;
+      crossed = crossed_alike f s c d readable also one other;
+      gone = gone_alike f s c d readable also one other;
       methods = methods_alike f s c d readable also one other;
       drops = drops_alike f s c d readable also one other;
       slotted = slotted_alike f s c d readable also one other;
@@ -164,6 +186,7 @@ compositions_are_one f s c d readable also one other =
       signatures = signatures_alike f s c d readable also one other;
       documents = documents_alike f s c d readable also one other;
       link = one.link ∙ sym other.link;
+      shares = one.shares ∙ sym other.shares;
     })
 
 pub composed_is_the_only_one : ComposedComposes → ComposedIsReadable → ComposedIsTheOnlyOne

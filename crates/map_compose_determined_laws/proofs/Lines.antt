@@ -1,17 +1,22 @@
 -- The lines of a readable map, by what the map answers.
-use Rattle.std.proofs.Common.{◌≡◌, ℕ, suc, ◌&&◌, Bool, true, false, cond, List, [], ◌∷◌, Option, Some, None, refl, sym, ◌∙◌, ap, arith, subst}
+use Rattle.std.proofs.Common.{◌≡◌, ◌⊎◌, ℕ, suc, ◌&&◌, Bool, true, false, cond, List, [], ◌∷◌, Option, Some, None, refl, sym, ◌∙◌, ap, arith, subst, inl, inr}
 use Rattle.std.specs.Prelude.{nat_eq, is_some, IsSome, IsTrue}
 use Rattle.std.specs.List.{find}
 use Rattle.std.specs.Option.{option_map}
-use Rattle.std.proofs.lemmas.Bool.{eqb-true, and_parts}
+use Rattle.std.proofs.lemmas.Bool.{eqb-true, eq-eqb, and_parts, false≢true}
 use Rattle.ppdb_base.specs.Offsets.{gone, lined}
 use Rattle.ppdb_maps.specs.declared.entries.RowLine.{RowLine}
+use Rattle.ppdb_maps.specs.declared.entries.CrossLine.{CrossLine}
 use Rattle.ppdb_maps.specs.declared.entries.SlotImage.{SlotImage}
 use Rattle.ppdb_maps.specs.Forms.{SLOTS}
-use Rattle.ppdb_maps.specs.Map.{Map, MethodLine, count_of, row_line, row_within, method_line, is_dropped, has_slots, slot_line, slot_image}
+use Rattle.ppdb_maps.specs.Map.{Map, MethodLine, count_of, row_line, cross_line, has_gone_line, told_image, line_image, row_within, row_image, method_line, is_dropped}
+use Rattle.ppdb_maps.specs.Map.{has_slots, slot_line, slot_image}
 use Rattle.ppdb_maps.specs.Map.{line_offsets, offsets_in}
 use Rattle.ppdb_maps.specs.Readable.{IsReadable, IsRowOf, IsLineOf, IsSlotOf}
 use Rattle.ppdb_maps.specs.Says.{sizes_of}
+use Rattle.ppdb_maps_text.proofs.OneLine.{cross_found, gone_found, cross_none, gone_none, gone_crossed, leaves_table, methods_stay}
+use Rattle.map_compose.specs.Composed.{cross_lined, gone_lined}
+use Rattle.map_compose.proofs.Imaging.{by_image}
 use Rattle.map_compose.proofs.Readable.{found_holds}
 
 -- what is found passes
@@ -69,6 +74,73 @@ module _ (m : Map) (readable : IsReadable m) where
           (not_dropped (nat_eq table 0x06) (is_dropped m old)
           (λ six. subst (λ n. is_dropped m n ≡ false) olds (of.3 (tables ∙ eqb-true table 0x06 six))))
           (subst (λ t. IsSome (count_of m t)) tables of.2)
+
+  -- the image by the lines of five words and `gone` lines, in a table with a count
+  cross_of_image : (table old : ℕ) (a : Option ℕ) (b : Option CrossLine) (c : Bool) → row_line m table old ≡ a → cross_line m table old ≡ b
+      → cross_line m table old ≡ cross_lined table old (told_image table a b c)
+  cross_of_image table old (Some new) b c row cross =
+      cross_none m readable table old new row
+      ∙ sym (ap (λ b. cond b None (Some (record { table = table; old = old; to = table; new = new }))) (eq-eqb table table refl))
+  cross_of_image table old None (Some line) c row cross =
+      let h = cross_found m readable table old line cross in
+      let own : record { table = table; old = old; to = line.to; new = line.new } ≡ line =
+      ap (λ t. record { table = t; old = old; to = line.to; new = line.new }) (sym h.table_is)
+      ∙ ap (λ k. record { table = line.table; old = k; to = line.to; new = line.new }) (sym h.old_is) in
+      cross ∙ sym (ap (λ b. cond b None (Some (record { table = table; old = old; to = line.to; new = line.new })))
+      (subst (λ t. nat_eq line.to t ≡ false) h.table_is (leaves_table line h.of.2)) ∙ ap Some own)
+  cross_of_image table old None None true row cross = cross
+  cross_of_image table old None None false row cross = cross
+
+  gone_of_image : (table old : ℕ) (a : Option ℕ) (b : Option CrossLine) (c : Bool) → row_line m table old ≡ a → cross_line m table old ≡ b
+      → has_gone_line m table old ≡ c → has_gone_line m table old ≡ is_some (gone_lined table old (told_image table a b c))
+  gone_of_image table old (Some new) b c row cross none = gone_none m readable table old new row
+  gone_of_image table old None (Some line) c row cross none = gone_crossed m readable table old line cross
+  gone_of_image table old None None true row cross there = there
+  gone_of_image table old None None false row cross none = none
+
+  -- a row with a line is of a table with a count, and no dropped method
+  pub cross_line_is : (table old : ℕ) → cross_line m table old ≡ cond (is_some (count_of m table)) (cross_lined table old (row_image m table old)) None
+  cross_line_is table old = of (count_of m table) refl (nat_eq table 0x06 && is_dropped m old) refl
+    where
+      none : (o : Option CrossLine) → cross_line m table old ≡ o → (is_some (count_of m table) ≡ false) ⊎ (table ≡ 0x06) → o ≡ None
+      none None at why = refl
+      none (Some line) at why =
+          let h = cross_found m readable table old line at in
+          elim why [
+            | inl uncounted ↦
+                let there : is_some (count_of m table) ≡ true = subst (λ t. is_some (count_of m t) ≡ true) h.table_is h.of.3 in
+                absurd (false≢true (sym uncounted ∙ there))
+            | inr six ↦ absurd (methods_stay line h.of.2 (h.table_is ∙ six))
+          ]
+
+      of : (c : Option ℕ) → count_of m table ≡ c → (b : Bool) → (nat_eq table 0x06 && is_dropped m old) ≡ b
+          → cross_line m table old ≡ cond (is_some c) (cross_lined table old (by_image table old (line_image m table old) b c)) None
+      of None count b drops = none (cross_line m table old) refl (inl (ap is_some count))
+      of (Some n) count true drops = none (cross_line m table old) refl (inr (eqb-true table 0x06 (and_parts (nat_eq table 0x06) (is_dropped m old) drops).0))
+      of (Some n) count false drops = cross_of_image table old (row_line m table old) (cross_line m table old) (has_gone_line m table old) refl refl
+
+  pub gone_line_is : (table old : ℕ)
+      → has_gone_line m table old ≡ cond (is_some (count_of m table)) (is_some (gone_lined table old (row_image m table old))) false
+  gone_line_is table old = of (count_of m table) refl (nat_eq table 0x06 && is_dropped m old) refl
+    where
+      none : (b : Bool) → has_gone_line m table old ≡ b → (is_some (count_of m table) ≡ false) ⊎ (table ≡ 0x06) → b ≡ false
+      none false at why = refl
+      none true at why =
+          let h = gone_found m readable table old at in
+          elim why [
+            | inl uncounted ↦
+                let there : is_some (count_of m table) ≡ true = subst (λ t. is_some (count_of m t) ≡ true) h.table_is h.of.2 in
+                absurd (false≢true (sym uncounted ∙ there))
+            | inr six ↦ absurd (h.of.1 (h.table_is ∙ six))
+          ]
+
+      of : (c : Option ℕ) → count_of m table ≡ c → (b : Bool) → (nat_eq table 0x06 && is_dropped m old) ≡ b
+          → has_gone_line m table old ≡ cond (is_some c) (is_some (gone_lined table old (by_image table old (line_image m table old) b c))) false
+      of None count b drops = none (has_gone_line m table old) refl (inl (ap is_some count))
+      of (Some n) count true drops =
+          none (has_gone_line m table old) refl (inr (eqb-true table 0x06 (and_parts (nat_eq table 0x06) (is_dropped m old) drops).0))
+      of (Some n) count false drops =
+          gone_of_image table old (row_line m table old) (cross_line m table old) (has_gone_line m table old) refl refl refl
 
   -- ---- slots
 

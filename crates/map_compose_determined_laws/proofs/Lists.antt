@@ -1,5 +1,5 @@
 -- Two maps are one whose lists ascend and answer alike.
-use Rattle.std.proofs.Common.{◌≡◌, ℕ, ◌&&◌, Bool, true, false, cond, List, [], ◌∷◌, Some, None, refl, sym, ◌∙◌, ap, inl, inr, map, subst}
+use Rattle.std.proofs.Common.{◌≡◌, ℕ, ◌&&◌, ◌||◌, Bool, true, false, cond, List, [], ◌∷◌, Some, None, refl, sym, ◌∙◌, ap, inl, inr, map, subst}
 use Rattle.std.specs.Prelude.{nat_eq}
 use Rattle.std.specs.List.{find, list_any}
 use Rattle.std.specs.Str.{bytes_eq}
@@ -11,15 +11,18 @@ use Rattle.std.proofs.lemmas.Bool.{eq-eqb, ne_eqb, eqb-true, and_parts}
 use Rattle.std.proofs.lemmas.Cmp.{nat_cmp_total, nat_list_cmp_total}
 use Rattle.ppdb_maps.specs.declared.entries.Count.{Count}
 use Rattle.ppdb_maps.specs.declared.entries.RowLine.{RowLine}
+use Rattle.ppdb_maps.specs.declared.entries.CrossLine.{CrossLine}
+use Rattle.ppdb_maps.specs.declared.entries.GoneLine.{GoneLine}
 use Rattle.ppdb_maps.specs.declared.entries.SlotImage.{SlotImage}
 use Rattle.ppdb_maps.specs.declared.entries.SignatureImage.{SignatureImage}
 use Rattle.ppdb_maps.specs.declared.entries.NameLine.{NameLine}
 use Rattle.ppdb_maps.specs.Gathered.{same_pair}
-use Rattle.ppdb_maps.specs.Map.{Map, MethodLine, Ascends, pair_cmp, count_of, row_line, method_line, is_dropped, has_slots, slot_line, signature_line}
+use Rattle.ppdb_maps.specs.Map.{Map, MethodLine, Ascends, pair_cmp, count_of, row_line, cross_line, has_gone_line, method_line, is_dropped, has_slots, slot_line}
+use Rattle.ppdb_maps.specs.Map.{signature_line}
 use Rattle.ppdb_maps.specs.Map.{document_line}
 use Rattle.ppdb_maps.proofs.OneList.{one_list}
 use Rattle.ppdb_maps.proofs.OneMap.{same_number, number_same, pair_is, is_pair, pair_total}
-use Rattle.map_compose.proofs.Found.{either}
+use Rattle.ppdb_maps_text.proofs.Found.{either}
 use Rattle.map_compose.proofs.Names.{same as same_bytes, eq_itself as bytes_itself}
 
 -- ---- lists that answer alike by their keys
@@ -100,12 +103,46 @@ numbers xs ys a b same = by_number (λ (x : ℕ). x) xs ys
     (subst (IsStrictlySortedBy nat_cmp) (sym (map_itself xs)) a) (subst (IsStrictlySortedBy nat_cmp) (sym (map_itself ys)) b)
     (λ n. number_found n xs ∙ ap (λ r. cond r (Some n) None) (same n) ∙ sym (number_found n ys))
 
+-- items that are found by two numbers
+pub by_pair : {X : Type 0} (first second : X → ℕ) (xs ys : List X) → IsStrictlySortedBy pair_cmp (map (λ x. (first x, second x)) xs)
+    → IsStrictlySortedBy pair_cmp (map (λ x. (first x, second x)) ys)
+    → ((j k : ℕ) → find (λ x. nat_eq (first x) j && nat_eq (second x) k) xs ≡ find (λ x. nat_eq (first x) j && nat_eq (second x) k) ys) → xs ≡ ys
+by_pair first second xs ys a b same =
+    one_list (λ x. (first x, second x)) same_pair pair_cmp pair_is is_pair pair_total xs ys a b (λ p. same p.0 p.1)
+
+-- items that are two numbers alone
+pair_found : {X : Type 0} (test : X → Bool) (item : X) → ((x : X) → test x ≡ true → x ≡ item) → (xs : List X)
+    → find test xs ≡ cond (list_any test xs) (Some item) None
+pair_found test item is [] = refl
+pair_found {X} test item is (x ∷ xs) = step (test x) refl (pair_found test item is xs)
+  where
+    step : (b : Bool) → test x ≡ b → find test xs ≡ cond (list_any test xs) (Some item) None
+        → cond b (Some x) (find test xs) ≡ cond (b || list_any test xs) (Some item) None
+    step true hit rest = ap Some (is x hit)
+    step false miss rest = rest
+
+gone_lines : (xs ys : List GoneLine) → IsStrictlySortedBy pair_cmp (map (λ (r : GoneLine). (r.table, r.old)) xs)
+    → IsStrictlySortedBy pair_cmp (map (λ (r : GoneLine). (r.table, r.old)) ys)
+    → ((t o : ℕ) → list_any (λ (r : GoneLine). nat_eq r.table t && nat_eq r.old o) xs ≡ list_any (λ (r : GoneLine). nat_eq r.table t && nat_eq r.old o) ys)
+    → xs ≡ ys
+gone_lines xs ys a b same = by_pair (λ (r : GoneLine). r.table) (λ r. r.old) xs ys a b
+    (λ t o. pair_found (λ (r : GoneLine). nat_eq r.table t && nat_eq r.old o) (record { table = t; old = o }) (own t o) xs
+    ∙ ap (λ b. cond b (Some (record { table = t; old = o })) None) (same t o)
+    ∙ sym (pair_found (λ (r : GoneLine). nat_eq r.table t && nat_eq r.old o) (record { table = t; old = o }) (own t o) ys))
+  where
+    own : (t o : ℕ) (r : GoneLine) → (nat_eq r.table t && nat_eq r.old o) ≡ true → r ≡ record { table = t; old = o }
+    own t o r hit =
+        let parts = and_parts (nat_eq r.table t) (nat_eq r.old o) hit in
+        ap (λ n. record { table = n; old = r.old }) (eqb-true r.table t parts.0) ∙ ap (λ n. record { table = t; old = n }) (eqb-true r.old o parts.1)
+
 -- ---- maps
 
 -- two maps answer alike, list by list
 pub record AnswerAlike (a b : Map) : Type 0 where
   pub counts : (table : ℕ) → count_of a table ≡ count_of b table
   pub rows : (table old : ℕ) → row_line a table old ≡ row_line b table old
+  pub crossed : (table old : ℕ) → cross_line a table old ≡ cross_line b table old
+  pub gone : (table old : ℕ) → has_gone_line a table old ≡ has_gone_line b table old
   pub methods : (method : ℕ) → method_line a method ≡ method_line b method
   pub drops : (method : ℕ) → is_dropped a method ≡ is_dropped b method
   pub slotted : (method : ℕ) → has_slots a method ≡ has_slots b method
@@ -113,13 +150,16 @@ pub record AnswerAlike (a b : Map) : Type 0 where
   pub signatures : (method : ℕ) → signature_line a method ≡ signature_line b method
   pub documents : (name : List ℕ) → document_line a name ≡ document_line b name
   pub link : a.link ≡ b.link
+  pub shares : a.shares ≡ b.shares
 
 -- One list after the other: a further list of a map is one more `let` and one more line.
 pub one_map : (a b : Map) → Ascends a → Ascends b → AnswerAlike a b → a ≡ b
 one_map a b x y same =
     let counted : Map = record a { counts = b.counts } in
     let rowed : Map = record counted { rows = b.rows } in
-    let lined : Map = record rowed { methods = b.methods } in
+    let crossed : Map = record rowed { crossed = b.crossed } in
+    let ended : Map = record crossed { gone = b.gone } in
+    let lined : Map = record ended { methods = b.methods } in
     let dropped : Map = record lined { drops = b.drops } in
     let slotted : Map = record dropped { slotted = b.slotted } in
     let put : Map = record slotted { slots = b.slots } in
@@ -130,7 +170,10 @@ one_map a b x y same =
     ∙ ap (λ l. record counted { rows = l })
     (with_pair (λ (r : RowLine). r.table) (λ r. r.old) (λ r. r.new) (λ t o n. record { table = t; old = o; new = n }) (λ r. refl)
     a.rows b.rows x.rows y.rows same.rows)
-    ∙ ap (λ l. record rowed { methods = l }) (by_number (λ (l : MethodLine). l.method) a.methods b.methods x.methods y.methods same.methods)
+    ∙ ap (λ l. record rowed { crossed = l })
+    (by_pair (λ (r : CrossLine). r.table) (λ r. r.old) a.crossed b.crossed x.crossed y.crossed same.crossed)
+    ∙ ap (λ l. record crossed { gone = l }) (gone_lines a.gone b.gone x.gone y.gone same.gone)
+    ∙ ap (λ l. record ended { methods = l }) (by_number (λ (l : MethodLine). l.method) a.methods b.methods x.methods y.methods same.methods)
     ∙ ap (λ l. record lined { drops = l }) (numbers a.drops b.drops x.drops y.drops same.drops)
     ∙ ap (λ l. record dropped { slotted = l }) (numbers a.slotted b.slotted x.slotted y.slotted same.slotted)
     ∙ ap (λ l. record slotted { slots = l })
@@ -140,4 +183,4 @@ one_map a b x y same =
     (with_value (λ (s : SignatureImage). s.method) (λ s. s.new) (λ m r. record { method = m; new = r }) (λ s. refl)
     a.signatures b.signatures x.signatures y.signatures same.signatures)
     ∙ ap (λ l. record signed { documents = l }) (by_name a.documents b.documents x.documents y.documents same.documents)
-    ∙ ap (λ o. record named { link = o }) same.link
+    ∙ ap (λ o. record named { link = o }) same.link ∙ ap (λ z. record named { link = b.link; shares = z }) same.shares

@@ -22,6 +22,7 @@ use Rattle.ppdb_merge_items.specs.Annotated.{annotated_file}
 use Rattle.ppdb_merge_items.specs.AnnotatedMeaning.{held, scope_meaning}
 use Rattle.ppdb_merge_moved.specs.Fits.{HasSlot, IsImaged}
 use Rattle.ppdb_merge_moved.proofs.Elements.{in_each}
+use Rattle.ppdb_merge_moved.proofs.ImageRows.{within}
 use Rattle.ppdb_merge_meaning_laws.specs.Kept.{FitsAlone, NamesMethod, named_by}
 use Rattle.map_compose_laws.specs.Images.{SlotsStay}
 use Rattle.map_compose_laws.specs.Steps.{moved_by}
@@ -69,10 +70,11 @@ pub there_after : (f s : Map) (value : FileValue) → IsReadable f → IsReadabl
 there_after f s value first second fits method named =
     let imaged : IsImaged (composed f s) (names 0x06 method) =
     in_each (IsImaged (composed f s)) (named_by (true, moved_by value (composed f s))) (names 0x06 method) fits.fits.images named in
-    of (row_within f 0x06 method) refl (imaged.0, by_rows imaged.0 imaged.1)
+    let there = within (composed f s) fits.ready 0x06 method refl imaged in
+    of (row_within f 0x06 method) refl (there.0, by_rows there.0 there.1)
   where
     by_rows : (image : ℕ) → row_within (composed f s) 0x06 method ≡ Some image → option_and_then (row_within s 0x06) (row_within f 0x06 method) ≡ Some image
-    by_rows image is = sym ((composed_composes f s first second).rows 0x06 method) ∙ is
+    by_rows image is = sym ((composed_composes f s first second).methods method) ∙ is
 
     of : (o : Option ℕ) → row_within f 0x06 method ≡ o → (image : ℕ) × (option_and_then (row_within s 0x06) o ≡ Some image)
         → Follows f s method (moved_row f 0x06 method)

@@ -5,89 +5,67 @@ use Rattle.std.specs.Option.{option_map, option_and_then}
 use Rattle.std.proofs.lemmas.Bool.{ne_eqb}
 use Rattle.custom_info.specs.declared.slots.Range.{Range}
 use Rattle.ppdb_base.specs.Offsets.{moved}
+use Rattle.ppdb_maps.specs.Readable.{IsReadable}
 use Rattle.ppdb_maps.specs.Map.{Map, row_within, moved_row, moved_signature, signature_line, slot_image, offsets_in}
-use Rattle.type_blobs.specs.declared.types.TypeToken.{TypeToken}
-use Rattle.type_blobs.specs.declared.types.Modifier.{Modifier}
 use Rattle.ppdb_values.specs.declared.scope.VariableValue.{VariableValue}
-use Rattle.ppdb_values.specs.declared.scope.ConstantValue.{ConstantValue}
-use Rattle.ppdb_values.specs.declared.scope.ConstantBody.{ConstantBody}
-use Rattle.ppdb_values.specs.declared.scope.ConstantBody.TheVariants.{Primitive, Enumerated, General, Object}
 use Rattle.ppdb_values.specs.declared.import.ImportValue.{ImportValue}
-use Rattle.ppdb_values.specs.declared.import.ImportValue.TheVariants.{Namespace, AssemblyNamespace, Target, Xml, Alias, AssemblyAlias, NamespaceAlias}
-use Rattle.ppdb_values.specs.declared.import.ImportValue.TheVariants.{AssemblyNamespaceAlias, TargetAlias}
 use Rattle.ppdb_values.specs.declared.annotation.Annotation.{Annotation}
 use Rattle.ppdb_values.specs.Meaning.{ScopeMeaning, SlotMeaning, PointMeaning, Meaning}
 use Rattle.ppdb_merge_items.specs.Each.{Each}
 use Rattle.ppdb_merge_items.specs.Annotated.{with_item}
 use Rattle.ppdb_merge_moved.specs.Images.{point_image, scope_image, slot_meaning_image, meaning_image}
-use Rattle.ppdb_merge_moved.specs.Moved.{moved_token, moved_modifier, moved_constant_body, moved_constant, moved_import, moved_variable, moved_range, moved_document}
-use Rattle.map_compose.specs.Composed.{composed, signature_then}
+use Rattle.ppdb_merge_items.specs.NamedRows.{live_constants, live_imports}
+use Rattle.ppdb_merge_moved.specs.Moved.{moved_constant, moved_import, moved_variable, moved_range, moved_document}
+use Rattle.map_compose.specs.Composed.{composed, composed_row, signature_then}
 use Rattle.map_compose.specs.Composition.{Follows, IsComposition}
-use Rattle.map_compose.proofs.Equations.{composed_composes}
-use Rattle.map_compose_laws.specs.Images.{no_range, without_edges, SlotsStay, RangeComposes, PointComposes, EdgesCompose, ImagesCompose}
+use Rattle.map_compose.proofs.Equations.{composed_composes, kept_row}
+use Rattle.map_compose_laws.specs.Images.{no_range, without_edges, SlotsStay, RangeComposes, PointComposes, EdgesCompose, KeepsOwnAssembly}
+use Rattle.map_compose_laws.specs.Images.{ImagesCompose}
 use Rattle.map_compose_laws.proofs.Renamed.{documents_on}
 use Rattle.map_compose_laws.proofs.Rows.{KeepsRows, keeps_rows}
+use Rattle.map_compose_laws.proofs.RowsOn.{constants_on, imports_on}
 
 -- ---- lists
-
-map_map_is : {A B C : Type 0} (g : B → C) (f : A → B) (h : A → C) → ((x : A) → g (f x) ≡ h x) → (xs : List A) → map g (map f xs) ≡ map h xs
-map_map_is g f h is [] = refl
-map_map_is g f h is (x ∷ xs) = ap (λ y. y ∷ map g (map f xs)) (is x) ∙ ap (λ l. h x ∷ l) (map_map_is g f h is xs)
 
 pub map_map_each : {A B C : Type 0} (g : B → C) (f : A → B) (h : A → C) (P : A → Type 0) → ((x : A) → P x → g (f x) ≡ h x) → (xs : List A) → Each P xs
     → map g (map f xs) ≡ map h xs
 map_map_each g f h P is [] each = refl
 map_map_each g f h P is (x ∷ xs) each = ap (λ y. y ∷ map g (map f xs)) (is x each.0) ∙ ap (λ l. h x ∷ l) (map_map_each g f h P is xs each.1)
 
-item_is : {A : Type 0} (g f h : A → A) → ((x : A) → g (f x) ≡ h x) → (n : Annotation A) → with_item g (with_item f n) ≡ with_item h n
-item_is g f h is n = ap (λ i. record { item = i; customs = n.customs }) (is n.item)
+item_is : {A : Type 0} (g f h : A → A) → ((x : A) → g (f x) ≡ h x) → (ns : List (Annotation A))
+    → map (with_item g) (map (with_item f) ns) ≡ map (with_item h) ns
+item_is g f h is [] = refl
+item_is g f h is (n ∷ ns) =
+    ap (λ i. record { item = i; customs = n.customs } ∷ map (with_item g) (map (with_item f) ns)) (is n.item)
+    ∙ ap (λ l. with_item h n ∷ l) (item_is g f h is ns)
 
 -- ---- rows
 
 pub row_there : (m : Map) (table n : ℕ) → moved_row m table (suc n) ≡ unwrap_or (row_within m table (suc n)) 0
 row_there m table n = rw (ne_eqb (suc n) 0 (λ e. omega (arith, e))) refl
 
-module _ (f s : Map) (composes : IsComposition f s (composed f s)) (keeps : KeepsRows f) where
+-- a row of a table that both maps take on within it
+pub row_on : (f s : Map) (table : ℕ) → ((old : ℕ) → row_within (composed f s) table old ≡ composed_row f s table old) → KeepsRows f → (old : ℕ)
+    → moved_row s table (moved_row f table old) ≡ moved_row (composed f s) table old
+row_on f s table within keeps zero = refl
+row_on f s table within keeps (suc n) =
+    ap (moved_row s table) (row_there f table n) ∙ step (row_within f table (suc n)) refl ∙ sym (row_there (composed f s) table n)
+  where
+    step : (o : Option ℕ) → row_within f table (suc n) ≡ o → moved_row s table (unwrap_or o 0) ≡ unwrap_or (row_within (composed f s) table (suc n)) 0
+    step None is = sym (ap (λ r. unwrap_or r 0) (within (suc n) ∙ ap (option_and_then (row_within s table)) is))
+    step (Some zero) is = absurd (keeps table (suc n) (omega arith) is)
+    step (Some (suc k)) is = row_there s table k ∙ sym (ap (λ r. unwrap_or r 0) (within (suc n) ∙ ap (option_and_then (row_within s table)) is))
+
+module _ (f s : Map) (first : IsReadable f) (second : IsReadable s) (own : KeepsOwnAssembly f s) where
   abbrev c : Map
   c = composed f s
 
-  pub row_on : (table old : ℕ) → moved_row s table (moved_row f table old) ≡ moved_row c table old
-  row_on table zero = refl
-  row_on table (suc n) = ap (moved_row s table) (row_there f table n) ∙ step (row_within f table (suc n)) refl ∙ sym (row_there c table n)
-    where
-      step : (o : Option ℕ) → row_within f table (suc n) ≡ o → moved_row s table (unwrap_or o 0) ≡ unwrap_or (row_within c table (suc n)) 0
-      step None is = sym (ap (λ r. unwrap_or r 0) (composes.rows table (suc n) ∙ ap (option_and_then (row_within s table)) is))
-      step (Some zero) is = absurd (keeps table (suc n) (omega arith) is)
-      step (Some (suc k)) is = row_there s table k ∙ sym (ap (λ r. unwrap_or r 0) (composes.rows table (suc n) ∙ ap (option_and_then (row_within s table)) is))
+  composes : IsComposition f s c
+  composes = composed_composes f s first second
 
-  token_on : (t : TypeToken) → moved_token s (moved_token f t) ≡ moved_token c t
-  token_on t = ap (λ n. record { table = t.table; row = n }) (row_on t.table t.row)
-
-  modifier_on : (m : Modifier) → moved_modifier s (moved_modifier f m) ≡ moved_modifier c m
-  modifier_on m = ap (λ t. record { required = m.required; target = t }) (token_on m.target)
-
-  body_on : (b : ConstantBody) → moved_constant_body s (moved_constant_body f b) ≡ moved_constant_body c b
-  body_on (Primitive code value) = refl
-  body_on (Enumerated code value target) = ap (Enumerated code value) (token_on target)
-  body_on (General code target rest) = ap (λ t. General code t rest) (token_on target)
-  body_on Object = refl
-
-  constant_on : (k : ConstantValue) → moved_constant s (moved_constant f k) ≡ moved_constant c k
-  constant_on k =
-      ap (λ l. record { name = k.name; modifiers = l; body = moved_constant_body s (moved_constant_body f k.body) })
-      (map_map_is (moved_modifier s) (moved_modifier f) (moved_modifier c) modifier_on k.modifiers)
-      ∙ ap (λ b. record { name = k.name; modifiers = map (moved_modifier c) k.modifiers; body = b }) (body_on k.body)
-
-  import_on : (i : ImportValue) → moved_import s (moved_import f i) ≡ moved_import c i
-  import_on (Namespace n) = refl
-  import_on (AssemblyNamespace a n) = ap (λ r. AssemblyNamespace r n) (row_on 0x23 a)
-  import_on (Target t) = ap Target (token_on t)
-  import_on (Xml a n) = refl
-  import_on (Alias a) = refl
-  import_on (AssemblyAlias a r) = ap (AssemblyAlias a) (row_on 0x23 r)
-  import_on (NamespaceAlias a n) = refl
-  import_on (AssemblyNamespaceAlias a r n) = ap (λ k. AssemblyNamespaceAlias a k n) (row_on 0x23 r)
-  import_on (TargetAlias a t) = ap (TargetAlias a) (token_on t)
+  -- the imports of a scope
+  abbrev imports_image : Map → List ImportValue → List ImportValue
+  imports_image m imports = map (moved_import m) (live_imports m imports)
 
   -- ---- of one method
 
@@ -118,9 +96,9 @@ module _ (f s : Map) (composes : IsComposition f s (composed f s)) (keeps : Keep
           customs = x.customs;
           variables = l;
           constants = map (with_item (moved_constant s))
-              (map (with_item (moved_constant f)) x.constants);
-          imports = map (with_item (map (moved_import s)))
-              (map (with_item (map (moved_import f))) x.imports);
+              (live_constants s (map (with_item (moved_constant f)) (live_constants f x.constants)));
+          imports = map (with_item (imports_image s))
+              (map (with_item (imports_image f)) x.imports);
         })
         (map_map_each (with_item (moved_variable s image)) (with_item (moved_variable f method)) (with_item (moved_variable c method)) _ variable_on
         x.variables stays)
@@ -129,21 +107,17 @@ module _ (f s : Map) (composes : IsComposition f s (composed f s)) (keeps : Keep
           customs = x.customs;
           variables = map (with_item (moved_variable c method)) x.variables;
           constants = l;
-          imports = map (with_item (map (moved_import s))) (map (with_item (map (moved_import f))) x.imports);
-        })
-        (map_map_is (with_item (moved_constant s)) (with_item (moved_constant f)) (with_item (moved_constant c))
-        (item_is (moved_constant s) (moved_constant f) (moved_constant c) constant_on) x.constants)
+          imports = map (with_item (imports_image s)) (map (with_item (imports_image f)) x.imports);
+        }) (constants_on f s composes first second own x.constants)
         ∙ ap (λ l. record {
           range = range;
           customs = x.customs;
           variables = map (with_item (moved_variable c method)) x.variables;
           constants = map
-              (with_item (moved_constant c)) x.constants;
+              (with_item (moved_constant c)) (live_constants c x.constants);
           imports = l;
         })
-        (map_map_is (with_item (map (moved_import s))) (with_item (map (moved_import f))) (with_item (map (moved_import c)))
-        (item_is (map (moved_import s)) (map (moved_import f)) (map (moved_import c))
-        (map_map_is (moved_import s) (moved_import f) (moved_import c) import_on)) x.imports)
+        (item_is (imports_image s) (imports_image f) (imports_image c) (imports_on f s composes first second own) x.imports)
 
     -- the second map's line stands before the first's, and else the row is moved on
     signature_on : (stored : ℕ) → moved_signature s image (moved_signature f method stored) ≡ moved_signature c method stored
@@ -152,7 +126,8 @@ module _ (f s : Map) (composes : IsComposition f s (composed f s)) (keeps : Keep
       where
         step : (o : Option ℕ)
             → moved_signature s image (unwrap_or o (moved_row f 0x11 stored)) ≡ unwrap_or (signature_then s image o) (moved_row c 0x11 stored)
-        step None = ap (unwrap_or (signature_line s image)) (row_on 0x11 stored)
+        step None = ap (unwrap_or (signature_line s image))
+            (row_on f s 0x11 (λ old. kept_row f s first second 0x11 old refl) (keeps_rows f first) stored)
         step (Some new) = refl
 
     range_on : (range : Range) → RangeComposes f s method image range
@@ -222,7 +197,7 @@ module _ (f s : Map) (composes : IsComposition f s (composed f s)) (keeps : Keep
 
     point_exactly : (p : Option PointMeaning) → PointComposes f s method image p
         → option_map (point_image s image) (option_map (point_image f method) p) ≡ option_map (point_image c method) p
-    point_exactly None composes = refl
+    point_exactly None edge = refl
     point_exactly (Some p) edge =
         ap (λ n. Some (record {
           offset = n;
@@ -272,8 +247,6 @@ module _ (f s : Map) (composes : IsComposition f s (composed f s)) (keeps : Keep
 
 pub images_compose : ImagesCompose
 images_compose = record {
-  but_for_edges = λ f s method image a first second follows stays.
-      but_for_edges f s (composed_composes f s first second) (keeps_rows f first) method image follows a stays;
-  exactly = λ f s method image a first second follows stays edges.
-      exactly f s (composed_composes f s first second) (keeps_rows f first) method image follows a stays edges;
+  but_for_edges = λ f s method image a first second own follows stays. but_for_edges f s first second own method image follows a stays;
+  exactly = λ f s method image a first second own follows stays edges. exactly f s first second own method image follows a stays edges;
 }

@@ -1,9 +1,9 @@
 -- The offsets of async records that the map of both keeps compose; so links do.
-use Rattle.std.proofs.Common.{◌≡◌, ℕ, ◌≤◌, ◌&&◌, Bool, true, false, cond, List, [], ◌∷◌, Option, Some, None, sym, ◌∙◌, ap, subst, map}
+use Rattle.std.proofs.Common.{◌≡◌, ℕ, ◌≤◌, ◌&&◌, Bool, true, false, cond, List, [], ◌∷◌, Option, Some, None, refl, sym, ◌∙◌, ap, subst, map}
 use Rattle.std.specs.Prelude.{nat_eq, is_none, Contains, IfSome}
 use Rattle.std.specs.List.{find}
 use Rattle.std.specs.Option.{option_map}
-use Rattle.std.proofs.lemmas.Bool.{and_parts, and_right, eqb-true, not_from_false}
+use Rattle.std.proofs.lemmas.Bool.{and_parts, eqb-true}
 use Rattle.custom_info.specs.declared.stepping.AsyncStep.{AsyncStep}
 use Rattle.ppdb_base.specs.Offsets.{Kept, moved}
 use Rattle.ppdb_base.proofs.Moved.{moved_kept}
@@ -33,6 +33,7 @@ use Rattle.ppdb_merge_joined.proofs.Each.{Each-with}
 use Rattle.ppdb_merge_moved.specs.Fits.{IsImaged, IsKept, KeepsAsync, KeepsStep}
 use Rattle.ppdb_merge_moved.proofs.Elements.{each_in, in_each}
 use Rattle.ppdb_merge_moved.proofs.Fitting.{offsets_rise}
+use Rattle.ppdb_merge_moved.proofs.ImageRows.{within, lives_on_method}
 use Rattle.ppdb_merge_moved.proofs.NamedParts.{NamedParts, named_parts}
 use Rattle.ppdb_merge_meaning_laws.proofs.Inputs.{input_sound}
 use Rattle.map_compose_laws.specs.Images.{EdgeComposes}
@@ -95,7 +96,8 @@ module _ (sound : SoundnessIsAnnotated) (f s : Map) (value : FileValue) (fit : S
     live : is_dropped c method ≡ false
     live =
         let imaged : IsImaged c (names 0x06 method) = in_each (IsImaged c) (named_rows true c v) (names 0x06 method) fit.at_once.fits.images named in
-        is_live c method imaged.0 imaged.1
+        let there = within c fit.at_once.ready 0x06 method refl imaged in
+        is_live c method there.0 there.1
 
     record Facts (x : CustomValue) : Type 0 where
       kept : KeepsAsync c method x.value
@@ -112,9 +114,10 @@ module _ (sound : SoundnessIsAnnotated) (f s : Map) (value : FileValue) (fit : S
             × (live_custom c x ≡ true → Each (λ n. Contains (named_rows true c v) n) (in_steps x.value))
             → Facts x
         of_custom x is both =
-            let same = eqb-true x.parent.row method (and_parts (nat_eq x.parent.table 0x06) (nat_eq x.parent.row method) is).1 in
-            let alive : live_custom c x ≡ true = not_from_false (nat_eq x.parent.table 0x06 && is_dropped c x.parent.row)
-            (and_right (nat_eq x.parent.table 0x06) (is_dropped c x.parent.row) (ap (is_dropped c) same ∙ live)) in
+            let parts = and_parts (nat_eq x.parent.table 0x06) (nat_eq x.parent.row method) is in
+            let same = eqb-true x.parent.row method parts.1 in
+            let alive : live_custom c x ≡ true = lives_on_method c fit.at_once.ready x (eqb-true x.parent.table 0x06 parts.0)
+            (ap (is_dropped c) same ∙ live) in
             record { kept = subst (λ k. KeepsAsync c k x.value) same (both.0 alive); steps = both.1 alive }
 
     customs_may : Each (λ (x : Custom). BodyComposes f s method image x.value) (links value method).customs

@@ -5,9 +5,11 @@ pub mod Images
 pub mod Kept
 pub mod Links
 pub mod Named
+pub mod Others
 pub mod Renamed
 pub mod Rewritten
 pub mod Rows
+pub mod RowsOn
 pub mod Silent
 pub mod Steps
 pub mod Unnamed

@@ -42,7 +42,7 @@ module _ (f s : Map) (composes : IsComposition f s (composed f s)) (keeps : Keep
           ap (λ b. option_and_then (partner_image s) (cond b None (Some (moved_row f 0x06 (suc n))))) is
           ∙ ap (λ b. cond b None (Some (moved_row s 0x06 (moved_row f 0x06 (suc n)))))
           (ap (is_dropped s) (row_there f 0x06 n) ∙ image_drops (row_within f 0x06 (suc n)) refl)
-          ∙ ap (λ r. cond (of_image false (is_dropped s) (row_within f 0x06 (suc n))) None (Some r)) (row_on f s composes keeps 0x06 (suc n))
+          ∙ ap (λ r. cond (of_image false (is_dropped s) (row_within f 0x06 (suc n))) None (Some r)) (row_on f s 0x06 composes.methods keeps (suc n))
           ∙ sym (ap (λ b. cond (b || of_image false (is_dropped s) (row_within f 0x06 (suc n))) None (Some (moved_row c 0x06 (suc n)))) is)
 
   partners_on : (o : Option ℕ) → IsPartner o → option_and_then (partner_image s) (option_and_then (partner_image f) o) ≡ option_and_then (partner_image c) o
@@ -60,7 +60,7 @@ module _ (f s : Map) (composes : IsComposition f s (composed f s)) (keeps : Keep
       ∙ ap (λ r. record { pause = moved (offsets_in c method) step.pause; resume = r; method = moved_row s 0x06 (moved_row f 0x06 step.method) })
       composed.resume
       ∙ ap (λ m. record { pause = moved (offsets_in c method) step.pause; resume = moved (offsets_in c step.method) step.resume; method = m })
-      (row_on f s composes keeps 0x06 step.method)
+      (row_on f s 0x06 composes.methods keeps step.method)
 
   handler_on : (method image : ℕ) (o : Option ℕ) → HandlerComposes f s method image o
       → option_map (moved (offsets_in s image)) (option_map (moved (offsets_in f method)) o) ≡ option_map (moved (offsets_in c method)) o

@@ -1,10 +1,11 @@
 -- Which rows a file names, part by part; and whether it names a row.
-use Rattle.std.proofs.Common.{◌≡◌, ◌≢◌, ℕ, suc, ◌&&◌, ◌||◌, ◌⊎◌, inl, inr, not, Bool, true, false, cond, List, [], ◌∷◌, refl, ◌∙◌, ap, map}
+use Rattle.std.proofs.Common.{◌≡◌, ◌≢◌, ℕ, suc, ◌&&◌, ◌||◌, ◌⊎◌, inl, inr, Bool, true, false, cond, List, [], ◌∷◌, refl, ◌∙◌, ap, map}
 use Rattle.std.proofs.Common.{subst, arith, flat_map}
 use Rattle.std.specs.Prelude.{nat_eq, Contains}
 use Rattle.std.specs.List.{filter}
-use Rattle.std.proofs.lemmas.Bool.{and_from, and_parts, both_ways, eq-eqb, eqb-true, not-true, not_from_false, or_from, or_parts}
+use Rattle.std.proofs.lemmas.Bool.{and_from, and_parts, both_ways, eq-eqb, eqb-false, eqb-true, not-true, not_from_false, or_from, or_parts}
 use Rattle.ppdb_maps.specs.Map.{Map, is_dropped}
+use Rattle.ppdb_maps.specs.Readable.{IsReadable}
 use Rattle.ppdb_tables.specs.declared.rows.MachineRow.{MachineRow}
 use Rattle.ppdb_values.specs.declared.custom.CustomValue.{CustomValue}
 use Rattle.ppdb_values.specs.declared.file.MethodValue.{MethodValue}
@@ -15,9 +16,17 @@ use Rattle.ppdb_merge_items.specs.declared.file.AnnotatedFile.{AnnotatedFile}
 use Rattle.ppdb_merge_items.specs.Each.{Each}
 use Rattle.ppdb_merge_items.specs.NamedRows.{Named, names, names_some, named_rows, in_entry, in_constant, in_import, in_steps, all_named, live_file, live_method}
 use Rattle.ppdb_merge_items.specs.NamedRows.{live_scope, live_machine, live_custom, live_signature, with_live_signature}
+use Rattle.ppdb_merge_items.specs.NamedRows.{live_constants, live_imports, with_live_constants, with_live_imports}
+use Rattle.ppdb_merge_items.specs.Annotated.{with_item}
+use Rattle.ppdb_merge_items.specs.SoundParts.{SoundMoved}
+use Rattle.ppdb_merge_items.specs.Unannotated.{value_of_annotated}
+use Rattle.ppdb_values_sound_laws.specs.Customs.{SoundCustom}
 use Rattle.ppdb_merge_items.proofs.Lists.{Each-append, Each-filter, Each-map, Each-weaker}
-use Rattle.ppdb_merge_joined.proofs.Each.{Each-flat}
+use Rattle.ppdb_merge_joined.proofs.Each.{Each-flat, Each-with}
+use Rattle.ppdb_merge_moved.proofs.ImageRows.{lives_on_method}
 use Rattle.ppdb_merge_moved.proofs.NamedParts.{NamedParts}
+use Rattle.ppdb_merge_moved.proofs.SoundItems.{most}
+use Rattle.map_compose_laws.proofs.Others.{IsNoMethod, constants_other, imports_other, no_drop, no_steps}
 
 -- ---- from the parts to the rows
 
@@ -33,15 +42,20 @@ parts_named P first m w parts =
     (Each-map (with_live_signature m) (λ (e : MethodValue). Each P (of_method e)) (filter (live_method m) w.methods)
     (Each-filter _ (λ (e : MethodValue). Each P (of_method (with_live_signature m e))) (live_method m)
     (λ e is holds. let both = holds (not-true (is_dropped m e.method) is) in (both.0, both.1)) w.methods parts.methods)))
-    (Each-append P _ _ (Each-map (λ (s : AnnotatedScope). names 0x06 s.method) P (filter (live_scope m) w.scopes)
+    (Each-append P _ _ (Each-map (λ (s : AnnotatedScope). names 0x06 s.method) P live_scopes
+    (Each-map (with_live_constants m) (λ (s : AnnotatedScope). P (names 0x06 s.method)) (filter (live_scope m) w.scopes)
     (Each-filter _ (λ (s : AnnotatedScope). P (names 0x06 s.method)) (live_scope m) (λ s is holds. holds (not-true (is_dropped m s.method) is))
-    w.scopes parts.scopes))
-    (Each-append P _ _ (live_flat (live_scope m) (λ (s : AnnotatedScope). flat_map in_constant s.constants) P w.scopes
-    (Each-weaker _ (λ (s : AnnotatedScope). live_scope m s ≡ true → Each P (flat_map in_constant s.constants))
-    (λ s holds is. Each-flat in_constant P s.constants (holds (not-true (is_dropped m s.method) is))) w.scopes parts.constants))
-    (Each-append P _ _ (Each-flat (λ (i : Annotation ImportScopeValue). flat_map in_import i.item.imports) P w.imports
-    (Each-weaker _ (λ (i : Annotation ImportScopeValue). Each P (flat_map in_import i.item.imports))
-    (λ i holds. Each-flat in_import P i.item.imports holds) w.imports parts.imports))
+    w.scopes parts.scopes)))
+    (Each-append P _ _ (Each-flat (λ (s : AnnotatedScope). flat_map in_constant s.constants) P live_scopes
+    (Each-map (with_live_constants m) (λ (s : AnnotatedScope). Each P (flat_map in_constant s.constants)) (filter (live_scope m) w.scopes)
+    (Each-filter _ (λ (s : AnnotatedScope). Each P (flat_map in_constant (live_constants m s.constants))) (live_scope m) (λ s is holds. holds is) w.scopes
+    (Each-weaker _ (λ (s : AnnotatedScope). live_scope m s ≡ true → Each P (flat_map in_constant (live_constants m s.constants)))
+    (λ s holds is. Each-flat in_constant P (live_constants m s.constants) (holds (not-true (is_dropped m s.method) is))) w.scopes
+    parts.constants))))
+    (Each-append P _ _ (Each-flat (λ (i : Annotation ImportScopeValue). flat_map in_import i.item.imports) P (map (with_item (with_live_imports m)) w.imports)
+    (Each-map (with_item (with_live_imports m)) (λ (i : Annotation ImportScopeValue). Each P (flat_map in_import i.item.imports)) w.imports
+    (Each-weaker _ (λ (i : Annotation ImportScopeValue). Each P (flat_map in_import (live_imports m i.item.imports)))
+    (λ i holds. Each-flat in_import P (live_imports m i.item.imports) holds) w.imports parts.imports)))
     (Each-append P _ _ (live_flat (live_machine m) (λ (r : MachineRow). names 0x06 r.move_next ∷ names 0x06 r.kickoff ∷ []) P w.machines
     (Each-weaker _ (λ (r : MachineRow). live_machine m r ≡ true → Each P (names 0x06 r.move_next ∷ names 0x06 r.kickoff ∷ []))
     (λ r holds is. let both = holds is in (both.0, (both.1, tt))) w.machines parts.machines))
@@ -51,6 +65,9 @@ parts_named P first m w parts =
   where
     of_method : MethodValue → List Named
     of_method e = names 0x06 e.method ∷ names_some 0x11 e.signature
+
+    live_scopes : List AnnotatedScope
+    live_scopes = map (with_live_constants m) (filter (live_scope m) w.scopes)
 
 -- what holds of all rows of local signatures
 pub of_signatures : (P : Named → Type 0) → ((row : ℕ) → P (names 0x11 row)) → (row : ℕ) → Each P (names_some 0x11 row)
@@ -62,36 +79,46 @@ of_signatures P signs row = by (nat_eq row 0)
 
 -- ---- of two maps
 
-module _ (m n : Map) (more : (method : ℕ) → is_dropped n method ≡ false → is_dropped m method ≡ false) where
+module _ (m n : Map) (ready : IsReadable m) (more : (method : ℕ) → is_dropped n method ≡ false → is_dropped m method ≡ false) where
   pub machine_more : (r : MachineRow) → live_machine n r ≡ true → live_machine m r ≡ true
   machine_more r is =
       let both = or_parts (is_dropped n r.move_next) (is_dropped n r.kickoff) (not-true (is_dropped n r.move_next || is_dropped n r.kickoff) is) in
       not_from_false (is_dropped m r.move_next || is_dropped m r.kickoff)
       (or_from (is_dropped m r.move_next) (is_dropped m r.kickoff) (more r.move_next both.0) (more r.kickoff both.1))
 
-  pub custom_more : (c : CustomValue) → live_custom n c ≡ true → live_custom m c ≡ true
-  custom_more c = by_table (nat_eq c.parent.table 0x06)
-    where
-      by_table : (b : Bool) → not (b && is_dropped n c.parent.row) ≡ true → not (b && is_dropped m c.parent.row) ≡ true
-      by_table true is = not_from_false (is_dropped m c.parent.row) (more c.parent.row (not-true (is_dropped n c.parent.row) is))
-      by_table false is = refl
+  -- a record on a method that the other map does not drop stays
+  custom_more : (c : CustomValue) → c.parent.table ≡ 0x06 → live_custom n c ≡ true → live_custom m c ≡ true
+  custom_more c six is = lives_on_method m ready c six (more c.parent.row (no_drop n c six is))
 
-  -- what a file names by the map that drops more it names by the other, but for local signatures
-  pub parts_more : (P : Named → Type 0) → ((row : ℕ) → P (names 0x11 row)) → (w : AnnotatedFile) → NamedParts P true m w → NamedParts P true n w
-  parts_more P signs w parts = record {
+  -- the methods that a file names by the map that drops more it names by the other
+  pub parts_more : (P : Named → Type 0) → ((other : Named) → IsNoMethod other → P other) → (w : AnnotatedFile) → SoundMoved w → NamedParts P true m w
+      → NamedParts P true n w
+  parts_more P others w sound parts = record {
     entry = by_drop (is_dropped n w.entry) refl;
     methods = Each-weaker _ (λ e. is_dropped n e.method ≡ false → P (names 0x06 e.method) × Each P (names_some 0x11 (live_signature n e)))
-        (λ e holds is. ((holds (more e.method is)).0, of_signatures P signs (live_signature n e))) w.methods parts.methods;
+        (λ e holds is. (
+          (holds (more e.method is)).0,
+          of_signatures P (λ row. others (names 0x11 row) (λ six. omega (arith, six)))
+              (live_signature n e),
+        )) w.methods parts.methods;
     scopes = Each-weaker _ (λ s. is_dropped n s.method ≡ false → P (names 0x06 s.method)) (λ s holds is. holds (more s.method is)) w.scopes parts.scopes;
-    constants = Each-weaker _ (λ s. is_dropped n s.method ≡ false → Each (λ n. Each P (in_constant n)) s.constants)
-        (λ s holds is. holds (more s.method is)) w.scopes parts.constants;
-    imports = parts.imports;
+    constants = constants_other n P others w sound;
+    imports = imports_other n P others w sound;
     machines = Each-weaker _ (λ r. live_machine n r ≡ true → P (names 0x06 r.move_next) × P (names 0x06 r.kickoff))
         (λ r holds is. holds (machine_more r is)) w.machines parts.machines;
-    customs = Each-weaker _ (λ c. live_custom n c ≡ true → P (names c.parent.table c.parent.row) × Each P (in_steps c.value))
-        (λ c holds is. holds (custom_more c is)) w.customs parts.customs;
+    customs = Each-with _ _ (λ c. live_custom n c ≡ true → P (names c.parent.table c.parent.row) × Each P (in_steps c.value))
+        (λ c s holds is. of_custom c s.1 holds is (nat_eq c.parent.table 0x06) refl) w.customs sound.customs parts.customs;
   }
     where
+      of_custom : (c : CustomValue) → SoundCustom (most (value_of_annotated w)) c
+          → (live_custom m c ≡ true → P (names c.parent.table c.parent.row) × Each P (in_steps c.value))
+          → live_custom n c ≡ true → (b : Bool) → nat_eq c.parent.table 0x06 ≡ b → P (names c.parent.table c.parent.row) × Each P (in_steps c.value)
+      of_custom c s holds is true six = holds (custom_more c (eqb-true c.parent.table 0x06 six) is)
+      of_custom c s holds is false apart = (
+        others (names c.parent.table c.parent.row) (eqb-false c.parent.table 0x06 apart),
+        no_steps P (value_of_annotated w) c s (eqb-false c.parent.table 0x06 apart),
+      )
+
       by_drop : (b : Bool) → is_dropped n w.entry ≡ b → Each P (names_some 0x06 (cond b 0 w.entry))
       by_drop true is = tt
       by_drop false is = subst (λ b. Each P (names_some 0x06 (cond b 0 w.entry))) (more w.entry is) parts.entry

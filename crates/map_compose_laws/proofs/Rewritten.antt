@@ -1,6 +1,7 @@
 -- Which rows a file names that is joined from one: those that the one names.
-use Rattle.std.proofs.Common.{◌≡◌, ℕ, ◌++◌, true, false, [], ◌∷◌, map, refl, sym, subst}
-use Rattle.ppdb_maps.specs.Map.{Map, is_dropped}
+use Rattle.std.proofs.Common.{◌≡◌, ℕ, ◌++◌, ◌&&◌, ◌||◌, not, true, false, [], ◌∷◌, map, refl, sym, ◌∙◌, ap, subst}
+use Rattle.std.specs.Prelude.{nat_eq}
+use Rattle.ppdb_maps.specs.Map.{Map, is_dropped, row_image}
 use Rattle.ppdb_values.specs.declared.custom.CustomBody.{CustomBody}
 use Rattle.ppdb_values.specs.declared.custom.CustomBody.TheVariants.{Async, Hoisted, TypeDocuments, Unread}
 use Rattle.ppdb_values.specs.declared.custom.CustomValue.{CustomValue}
@@ -13,6 +14,7 @@ use Rattle.ppdb_merge_items.specs.declared.file.AnnotatedScope.{AnnotatedScope}
 use Rattle.ppdb_merge_items.specs.declared.file.AnnotatedFile.{AnnotatedFile}
 use Rattle.ppdb_merge_items.specs.Each.{Each}
 use Rattle.ppdb_merge_items.specs.NamedRows.{Named, names, names_some, in_constant, in_import, in_steps, live_machine, live_custom, live_signature}
+use Rattle.ppdb_merge_items.specs.NamedRows.{is_gone_row, is_type_documents, leaves_table, live_constants, live_imports}
 use Rattle.ppdb_merge_items.specs.Annotated.{with_item}
 use Rattle.ppdb_merge_items.proofs.Lists.{Each-append, Each-map, Each-weaker}
 use Rattle.ppdb_merge_items.proofs.Orders.{in_order_each}
@@ -28,6 +30,18 @@ same_steps row (Async handler steps) = refl
 same_steps row (Hoisted slots) = refl
 same_steps row (TypeDocuments rows) = refl
 same_steps row (Unread bytes) = refl
+
+-- nor does a record stay or go by them
+same_lives : (m : Map) (row : ℕ → ℕ) (c : CustomValue) → live_custom m (renumbered_custom row c) ≡ live_custom m c
+same_lives m row c = ap (λ b.
+    not (nat_eq c.parent.table 0x06 && is_dropped m c.parent.row
+    || (is_gone_row m c.parent.table c.parent.row || b && leaves_table c.parent.table (row_image m c.parent.table c.parent.row)))) (by c.value)
+  where
+    by : (b : CustomBody) → is_type_documents (with_documents row b) ≡ is_type_documents b
+    by (Async handler steps) = refl
+    by (Hoisted slots) = refl
+    by (TypeDocuments rows) = refl
+    by (Unread bytes) = refl
 
 pub joined_parts : (P : Named → Type 0) (m : Map) (w : AnnotatedFile) → NamedParts P true m w → NamedParts P true m (joined (w ∷ []))
 joined_parts P m w parts = record {
@@ -45,7 +59,8 @@ joined_parts P m w parts = record {
       (fresh_each same_record OfCustom [] (map (renumbered_custom row) w.customs ∷ []) (
         Each-map (renumbered_custom row) OfCustom w.customs
             (Each-weaker OfCustom (λ c. OfCustom (renumbered_custom row c))
-            (λ c holds is. let both = holds is in (both.0, subst (Each P) (sym (same_steps row c.value)) both.1)) w.customs parts.customs),
+            (λ c holds is.
+            let both = holds (sym (same_lives m row c) ∙ is) in (both.0, subst (Each P) (sym (same_steps row c.value)) both.1)) w.customs parts.customs),
         tt,
       ));
 }
@@ -60,10 +75,10 @@ joined_parts P m w parts = record {
     OfScope s = is_dropped m s.method ≡ false → P (names 0x06 s.method)
 
     OfConstants : AnnotatedScope → Type 0
-    OfConstants s = is_dropped m s.method ≡ false → Each (λ n. Each P (in_constant n)) s.constants
+    OfConstants s = is_dropped m s.method ≡ false → Each (λ n. Each P (in_constant n)) (live_constants m s.constants)
 
     OfImport : Annotation ImportScopeValue → Type 0
-    OfImport i = Each (λ n. Each P (in_import n)) i.item.imports
+    OfImport i = Each (λ n. Each P (in_import n)) (live_imports m i.item.imports)
 
     OfMachine : MachineRow → Type 0
     OfMachine r = live_machine m r ≡ true → P (names 0x06 r.move_next) × P (names 0x06 r.kickoff)

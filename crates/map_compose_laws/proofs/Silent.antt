@@ -4,8 +4,9 @@ use Rattle.std.proofs.Common.{arith, flat_map, map}
 use Rattle.std.specs.Prelude.{nat_eq, is_none}
 use Rattle.std.specs.List.{filter, find}
 use Rattle.std.specs.Option.{option_map, option_and_then}
-use Rattle.std.proofs.lemmas.Bool.{and_left, and_right, eqb-true, ne_eqb, not_from_false, or_from}
+use Rattle.std.proofs.lemmas.Bool.{and_left, eqb-true, ne_eqb, not_from_false, or_from}
 use Rattle.ppdb_maps.specs.Map.{Map, is_dropped, moved_row}
+use Rattle.ppdb_maps.specs.Readable.{IsReadable}
 use Rattle.ppdb_tables.specs.declared.rows.MachineRow.{MachineRow}
 use Rattle.ppdb_values.specs.declared.custom.CustomValue.{CustomValue}
 use Rattle.ppdb_values.specs.declared.file.MethodValue.{MethodValue}
@@ -23,6 +24,7 @@ use Rattle.ppdb_merge_joined.proofs.Each.{Each-split, Each-unflat}
 use Rattle.ppdb_merge_moved.specs.Images.{links_image, partner_image}
 use Rattle.ppdb_merge_moved.specs.Moved.{moved_body}
 use Rattle.ppdb_merge_moved.proofs.Elements.{each_left}
+use Rattle.ppdb_merge_moved.proofs.ImageRows.{lives_on_method}
 use Rattle.ppdb_merge_moved.proofs.NamedParts.{NamedParts}
 use Rattle.ppdb_merge_meaning_laws.specs.Laws.{SaysNothingOf}
 use Rattle.ppdb_merge_meaning_laws.proofs.Only.{find_left, none_left}
@@ -123,7 +125,7 @@ module _ (method : ℕ) (w : AnnotatedFile) (none : SaysNothingOf method w) wher
 
 -- ---- a method that is not dropped and that a file does not name
 
-module _ (m : Map) (w : AnnotatedFile) (method : ℕ) (above : 1 ≤ method) (live : is_dropped m method ≡ false)
+module _ (m : Map) (ready : IsReadable m) (w : AnnotatedFile) (method : ℕ) (above : 1 ≤ method) (live : is_dropped m method ≡ false)
     (parts : NamedParts (λ n. n ≢ names 0x06 method) true m w) where
   abbrev Unnamed : Named → Type 0
   Unnamed n = n ≢ names 0x06 method
@@ -147,8 +149,7 @@ module _ (m : Map) (w : AnnotatedFile) (method : ℕ) (above : 1 ≤ method) (li
       on_other c other false is = refl
       on_other c other true is = ne_eqb c.parent.row method (λ same.
           other
-          (not_from_false (nat_eq c.parent.table 0x06 && is_dropped m c.parent.row)
-          (and_right (nat_eq c.parent.table 0x06) (is_dropped m c.parent.row) (live_too c.parent.row same)))
+          (lives_on_method m ready c (eqb-true c.parent.table 0x06 is) (live_too c.parent.row same))
           (ap (λ t. names t c.parent.row) (eqb-true c.parent.table 0x06 is) ∙ ap (names 0x06) same))
 
   -- the other method of a machine is dropped

@@ -22,6 +22,7 @@ use Rattle.ppdb_merge_moved.specs.Fits.{IsImaged}
 use Rattle.ppdb_merge_moved.specs.Images.{meaning_image, links_image}
 use Rattle.ppdb_merge_moved.specs.Moved.{moved_file}
 use Rattle.ppdb_merge_moved.proofs.Elements.{each_in, in_each}
+use Rattle.ppdb_merge_moved.proofs.ImageRows.{within, within_is, no_shared_method}
 use Rattle.ppdb_merge_moved.proofs.NamedParts.{named_parts}
 use Rattle.ppdb_merge_moved.proofs.NamedRows.{named_rows_are_rows}
 use Rattle.ppdb_merge_moved.proofs.RowImages.{row_moved}
@@ -78,17 +79,20 @@ module _ (sound : SoundnessIsAnnotated) (law : InputsKeepMeaning) (origins : Inp
   imaged : IsImaged c (names 0x06 method)
   imaged = in_each (IsImaged c) (named_rows true c v) (names 0x06 method) fit.at_once.fits.images named
 
+  there : (k : ℕ) × (row_within c 0x06 method ≡ Some k)
+  there = within c fit.at_once.ready 0x06 method refl imaged
+
   last_is : row_within c 0x06 method ≡ Some last
-  last_is = image_is c fit.at_once.ready method imaged.0 imaged.1
+  last_is = image_is c fit.at_once.ready method there.0 there.1
 
   on : row_within s 0x06 image ≡ Some last
-  on = sym (ap (option_and_then (row_within s 0x06)) (follows method named).first) ∙ sym (composes.rows 0x06 method) ∙ last_is
+  on = sym (ap (option_and_then (row_within s 0x06)) (follows method named).first) ∙ sym (composes.methods method) ∙ last_is
 
   image_there : 1 ≤ image
   image_there = (row_moved f fit.first.ready 0x06 method is_row.0 is_row.1 (image, (follows method named).first)).0
 
   last_there : 1 ≤ last
-  last_there = (row_moved c fit.at_once.ready 0x06 method is_row.0 is_row.1 imaged).0
+  last_there = (row_moved c fit.at_once.ready 0x06 method is_row.0 is_row.1 there).0
 
   -- ---- what the file names by one map it names by the other
 
@@ -99,7 +103,8 @@ module _ (sound : SoundnessIsAnnotated) (law : InputsKeepMeaning) (origins : Inp
   first_named =
       let inside = named_parts Of_first true f v (each_in Of_first (named_rows true f v) (λ n is six. is)) in
       in_each Of_first (named_rows true c v) (names 0x06 method)
-      (parts_named Of_first true c v (parts_more f c stays Of_first (λ row six. absurd (omega (arith, six))) v inside)) named refl
+      (parts_named Of_first true c v
+      (parts_more f c fit.first.ready stays Of_first (λ n none six. absurd (none six)) v v_sound inside)) named refl
     where
       Of_first : Named → Type 0
       Of_first n = n.table ≡ 0x06 → Contains (named_rows true f v) n
@@ -107,24 +112,23 @@ module _ (sound : SoundnessIsAnnotated) (law : InputsKeepMeaning) (origins : Inp
       stays : (row : ℕ) → is_dropped c row ≡ false → is_dropped f row ≡ false
       stays row is = (or_parts (is_dropped f row) (of_image false (is_dropped s) (row_within f 0x06 row)) (sym (composes.drops row) ∙ is)).0
 
-  all_come : Each (Comes f s composes fit.first.ready v In) (named_by (true, moved_by (rewritten f value) s))
-  all_come = subst (λ w. Each (Comes f s composes fit.first.ready v In) (named_rows true s w)) (sym (rewritten_back sound f value fit.first))
-      (parts_named (Comes f s composes fit.first.ready v In) true s (joined (moved_file f v ∷ []))
-      (joined_parts (Comes f s composes fit.first.ready v In) s (moved_file f v)
-      (moved_parts f s composes fit.first.ready v In (moved_sound true f v fit.first.ready v_sound fit.first.fits)
+  all_come : Each (Comes f s composes fit.first.ready fit.at_once.ready v In) (named_by (true, moved_by (rewritten f value) s))
+  all_come = subst (λ w. Each (Comes f s composes fit.first.ready fit.at_once.ready v In) (named_rows true s w)) (sym (rewritten_back sound f value fit.first))
+      (parts_named (Comes f s composes fit.first.ready fit.at_once.ready v In) true s (joined (moved_file f v ∷ []))
+      (joined_parts (Comes f s composes fit.first.ready fit.at_once.ready v In) s (moved_file f v)
+      (moved_parts f s composes fit.first.ready fit.at_once.ready v In (moved_sound true f v fit.first.ready v_sound fit.first.fits)
       (named_parts In true c v (each_in In (named_rows true c v) (λ n is. is))))))
 
   -- what the second step names comes from what the file names by the map of both, so no other method has the image
   own : (other : ℕ) → NamesMethod (true, moved_by (rewritten f value) s) other → row_within s 0x06 other ≡ Some last → other ≡ image
   own other is image_of =
-      let from = in_each (Comes f s composes fit.first.ready v In) (named_by (true, moved_by (rewritten f value) s)) (names 0x06 other) all_come is refl in
-      let table : from.0.table ≡ 0x06 = ap (λ (n : Named). n.table) from.2 in
-      let there : IsNamed f s value from.0.row = subst (λ t. In (names t from.0.row)) table from.1 in
-      let moved : moved_row f 0x06 from.0.row ≡ other = ap (λ t. moved_row f t from.0.row) (sym table) ∙ ap (λ (n : Named). n.row) from.2 in
-      let image_c : row_within c 0x06 from.0.row ≡ Some last = composes.rows 0x06 from.0.row
-      ∙ ap (option_and_then (row_within s 0x06)) (follows from.0.row there).first ∙ ap (row_within s 0x06) moved ∙ image_of in
-      let same : from.0.row ≡ method = fit.at_once.fits.apart (names 0x06 from.0.row) (names 0x06 method) there named last refl image_c last_is in
-      sym moved ∙ ap (moved_row f 0x06) same
+      let from = in_each (Comes f s composes fit.first.ready fit.at_once.ready v In) (named_by (true, moved_by (rewritten f value) s)) (names 0x06 other)
+      all_come is refl in
+      let image_c : row_within c 0x06 from.0 ≡ Some last = composes.methods from.0
+      ∙ ap (option_and_then (row_within s 0x06)) (follows from.0 from.1).first ∙ ap (row_within s 0x06) from.2 ∙ image_of in
+      let same : from.0 ≡ method = fit.at_once.fits.apart (names 0x06 from.0) (names 0x06 method) from.1 named 0x06 last refl (no_shared_method c)
+      (within_is c 0x06 from.0 last image_c) (within_is c 0x06 method last last_is) in
+      sym from.2 ∙ ap (moved_row f 0x06) same
 
   -- ---- what is said after two steps, and after one
 
@@ -151,16 +155,16 @@ module _ (sound : SoundnessIsAnnotated) (law : InputsKeepMeaning) (origins : Inp
 
 pub two_steps_mean : SoundnessIsAnnotated → MeaningsAreAnnotated → InputsKeepMeaning → InputsKeepOrigins → TwoStepsMean
 two_steps_mean sound annotated law origins = record {
-  but_for_edges = λ f s value fit method x z named kept.
+  but_for_edges = λ f s value fit own method x z named kept.
       ap without_edges (after_two sound law origins f s value fit method named x z kept)
-      ∙ images_compose.but_for_edges f s method (moved_row f 0x06 method) (meaning value method x) fit.first.ready fit.second.ready
+      ∙ images_compose.but_for_edges f s method (moved_row f 0x06 method) (meaning value method x) fit.first.ready fit.second.ready own
       (there_after f s value fit.first.ready fit.second.ready fit.at_once method named)
       (slots_stay annotated f value fit.first method x (live sound law origins f s value fit method named))
       ∙ sym (ap without_edges (after_one sound law origins f s value fit method named x z kept));
-  exactly = λ f s value fit agree method x z named kept tight.
+  exactly = λ f s value fit own agree method x z named kept tight.
       let follows = there_after f s value fit.first.ready fit.second.ready fit.at_once method named in
       after_two sound law origins f s value fit method named x z kept
-      ∙ images_compose.exactly f s method (moved_row f 0x06 method) (meaning value method x) fit.first.ready fit.second.ready follows
+      ∙ images_compose.exactly f s method (moved_row f 0x06 method) (meaning value method x) fit.first.ready fit.second.ready own follows
       (slots_stay annotated f value fit.first method x (live sound law origins f s value fit method named))
       (edges_on f s value annotated fit.at_once method (moved_row f 0x06 method) x z kept
       (edge f s method (moved_row f 0x06 method) fit.first.ready fit.second.ready agree follows tight))

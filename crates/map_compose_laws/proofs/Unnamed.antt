@@ -23,6 +23,7 @@ use Rattle.ppdb_merge_moved.specs.Images.{meaning_image, links_image}
 use Rattle.ppdb_merge_moved.specs.Moved.{moved_file}
 use Rattle.ppdb_merge_moved.proofs.Elements.{each_in, in_each}
 use Rattle.ppdb_merge_moved.proofs.Fitting.{moved_dropped}
+use Rattle.ppdb_merge_moved.proofs.ImageRows.{within_moved}
 use Rattle.ppdb_merge_moved.proofs.NamedParts.{NamedParts, named_parts}
 use Rattle.ppdb_merge_moved.proofs.RowImages.{moved_is_image}
 use Rattle.ppdb_merge_meaning_laws.specs.Kept.{FitsAlone, InputsFit, InputsKeepMeaning, KeepsMeaning, NamesMethod, named_by}
@@ -98,7 +99,8 @@ module _ (sound : SoundnessIsAnnotated) (law : InputsKeepMeaning) (origins : Inp
             let named = entry_named row is_entry stays in
             let its = in_each (IsImaged m) (named_by (true, moved_by value m)) (names 0x06 w.entry) fits.fits.images named in
             let above_too : 1 ≤ w.entry = omega (arith, is_entry) in
-            let one : row_within m 0x06 w.entry ≡ Some image = its.1 ∙ ap Some (sym (moved_is_image m 0x06 w.entry its.0 above_too its.1) ∙ same) in
+            let one : row_within m 0x06 w.entry ≡ Some image =
+            within_moved m fits.ready 0x06 w.entry its.0 its.1 refl above_too its.2 ∙ ap Some same in
             unnamed (subst (NamesMethod (true, moved_by value m)) (own w.entry named one) named)
 
         by_entry : (entry : ℕ) → w.entry ≡ entry → moved_row m 0x06 w.entry ≡ image → ⊥
@@ -109,7 +111,7 @@ module _ (sound : SoundnessIsAnnotated) (law : InputsKeepMeaning) (origins : Inp
     unnamed_means x y =
         meaning_is (rewritten m value) image y ∙ says_nothing image after (unsaid_silent image after unsaid) y
         ∙ sym (ap (meaning_image m method)
-        (meaning_is value method x ∙ says_nothing method w (unnamed_silent m w method above live parts) x))
+        (meaning_is value method x ∙ says_nothing method w (unnamed_silent m fits.ready w method above live parts) x))
 
     unnamed_links : links (rewritten m value) image ≡ links_image true m method (links value method)
     unnamed_links =
@@ -124,7 +126,7 @@ module _ (sound : SoundnessIsAnnotated) (law : InputsKeepMeaning) (origins : Inp
         (no_move_next image after unsaid)
         ∙ ap (λ b. record { kickoff = None; move_next = None; is_entry = b; customs = (annotated_links after image).customs }) no_entry
         ∙ ap (λ l. record { kickoff = None; move_next = None; is_entry = false; customs = l }) (no_records image after (unsaid_silent image after unsaid))
-        ∙ sym (ap (links_image true m method) (links_are value method) ∙ links_nothing m w method above live parts)
+        ∙ sym (ap (links_image true m method) (links_are value method) ∙ links_nothing m fits.ready w method above live parts)
 
   -- ---- any method
 

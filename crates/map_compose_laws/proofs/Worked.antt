@@ -6,7 +6,8 @@ use Rattle.sequence_points.specs.declared.point.Point.{Point}
 use Rattle.sequence_points.specs.declared.point.Span.TheVariants.{Lines}
 use Rattle.ppdb_base.specs.declared.offsets.Run.{Run}
 use Rattle.ppdb_base.specs.Offsets.{Rise, lined}
-use Rattle.ppdb_maps.specs.Map.{Map, MethodLine, method_line, row_within}
+use Rattle.ppdb_maps.specs.declared.image.RowImage.TheVariants.{Row, Missing}
+use Rattle.ppdb_maps.specs.Map.{Map, MethodLine, method_line, row_image, row_within}
 use Rattle.ppdb_maps.specs.Readable.{IsReadable}
 use Rattle.map_compose.specs.Composed.{of_image}
 use Rattle.map_compose.specs.Sizes.{SizesAgree}
@@ -109,9 +110,22 @@ module _ (old new : ℕ) (runs : List Run) where
   readable : old ≤ 100 → new ≤ 100 → Rise (lined runs old new) → IsReadable m
   unfolding IsStrictlySortedBy
   readable few few_too rise = record {
-    ascends = record { counts = tt; rows = tt; methods = (tt, tt); drops = tt; slotted = tt; slots = tt; signatures = tt; documents = tt };
+    ascends = record {
+      counts = tt;
+      rows = tt;
+      crossed = tt;
+      gone = tt;
+      methods = (tt, tt);
+      drops = tt;
+      slotted = tt;
+      slots = tt;
+      signatures = tt;
+      documents = tt;
+    };
     counts = tt;
     rows = tt;
+    crossed = tt;
+    gone = tt;
     methods = (((omega arith, omega arith), omega (arith, few), omega (arith, few_too), rise, refl), tt);
     drops = tt;
     slotted = tt;
@@ -120,6 +134,16 @@ module _ (old new : ℕ) (runs : List Run) where
     documents = tt;
     link = tt;
   }
+
+  named_is : (table row : ℕ) → row_image m table row ≡ Row table row
+  named_is table row = by_table (nat_eq table 0x06)
+    where
+      by_table : (b : Bool) → cond (b && false) Missing (Row table row) ≡ Row table row
+      by_table true = refl
+      by_table false = refl
+
+  row_of : (table other row image : ℕ) → Row table row ≡ Row other image → row ≡ image
+  row_of table other row image e = cc
 
   image_is : (table row : ℕ) → row_within m table row ≡ Some row
   image_is table row = by_table (nat_eq table 0x06)
@@ -130,9 +154,9 @@ module _ (old new : ℕ) (runs : List Run) where
 
   fits : (start size : ℕ) → start < size → size ≤ old → Fits true m (annotated_file (edged start size))
   fits start size below within = record {
-    images = each_of (IsImaged m) (λ n. (n.row, image_is n.table n.row)) (named_rows true m (annotated_file (edged start size)));
-    apart = λ a b there also image tables of_a of_b.
-        some_of a.row b.row (sym (image_is a.table a.row) ∙ of_a ∙ sym of_b ∙ image_is b.table b.row);
+    images = each_of (IsImaged m) (λ n. (n.table, n.row, named_is n.table n.row)) (named_rows true m (annotated_file (edged start size)));
+    apart = λ a b there also table image tables unshared of_a of_b.
+        row_of a.table b.table a.row b.row (sym (named_is a.table a.row) ∙ of_a ∙ sym of_b ∙ named_is b.table b.row);
     points = ((first, (second, tt)), tt);
     ranges = (within, (within, tt));
     hoisted = tt;
@@ -196,6 +220,7 @@ unfolding chain_for
 worked_edges small = record {
   both = refl;
   agree = sizes_agree;
+  own = λ row is. refl;
   fit = record {
     first = record {
       sound = edged_sound small 3 9 (omega arith) (omega arith) (omega arith);

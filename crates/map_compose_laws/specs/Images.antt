@@ -1,7 +1,7 @@
 -- What a method means after two maps, one after the other, and after the map of both.
 use Rattle.ppdb_values.specs.Names.{Range, Kept, moved, old_size}
 use Rattle.std.specs.Prelude.{◌≡◌, ℕ, ◌≤◌, Option, Some, None, map, option_map}
-use Rattle.ppdb_maps.specs.{Map.{Map, MethodLine, method_line, offsets_in, slot_image}, Readable.IsReadable}
+use Rattle.ppdb_maps.specs.{Map.{Map, MethodLine, row_image, method_line, offsets_in, slot_image}, declared.image.RowImage.TheVariants.Row, Readable.IsReadable}
 use Rattle.map_compose.specs.{Composed.composed, Composition.Follows, Sizes.SizesAgree}
 use Rattle.ppdb_values.specs.{declared.annotation.Annotation.Annotation, declared.scope.VariableValue.VariableValue, Meaning.{PointMeaning, ScopeMeaning, SlotMeaning, Meaning}}
 use Rattle.ppdb_merge_items.specs.Each.{Each}
@@ -43,12 +43,19 @@ pub record EdgesCompose (f s : Map) (method image : ℕ) (a : Meaning) : Type 0 
   pub scopes : Each (λ (x : ScopeMeaning). RangeComposes f s method image x.range) a.scopes
   pub slots : Each (λ (x : SlotMeaning). RangeComposes f s method image x.range) a.slots
 
--- Of a method that is there after both, where the first map has an image for each slot in a meaning: the image of the meaning's image
--- is its image by the map of both, but for the point's offset and the edges of ranges; and wholly where these compose.
+-- where the first map makes an assembly the module's own (row 1 of Assembly, which has one row), that row is its own image by the second
+abbrev pub KeepsOwnAssembly : Map → Map → Type 0
+KeepsOwnAssembly f s = (row : ℕ) → row_image f 0x23 row ≡ Row 0x20 1 → row_image s 0x20 1 ≡ Row 0x20 1
+
+-- Of a method that is there after both, where the first map has an image for each slot in a meaning, and the second keeps the module's own
+-- assembly: the image of the meaning's image is its image by the map of both, but for the point's offset and the edges of ranges; and wholly
+-- where these compose.
 pub record ImagesCompose : Type 0 where
-  pub but_for_edges : (f s : Map) (method image : ℕ) (a : Meaning) → IsReadable f → IsReadable s → Follows f s method image → SlotsStay f method a
+  pub but_for_edges : (f s : Map) (method image : ℕ) (a : Meaning) → IsReadable f → IsReadable s → KeepsOwnAssembly f s
+      → Follows f s method image → SlotsStay f method a
       → without_edges (meaning_image s image (meaning_image f method a)) ≡ without_edges (meaning_image (composed f s) method a)
-  pub exactly : (f s : Map) (method image : ℕ) (a : Meaning) → IsReadable f → IsReadable s → Follows f s method image → SlotsStay f method a
+  pub exactly : (f s : Map) (method image : ℕ) (a : Meaning) → IsReadable f → IsReadable s → KeepsOwnAssembly f s
+      → Follows f s method image → SlotsStay f method a
       → EdgesCompose f s method image a
       → meaning_image s image (meaning_image f method a) ≡ meaning_image (composed f s) method a
 

@@ -1,11 +1,11 @@
 -- A file that says after two steps the same as after one but for edges, and not wholly the same.
 use Rattle.ppdb_values.specs.Names.{Point, Lines, Run}
-use Rattle.std.specs.Prelude.{◌≡◌, ℕ, List, [], ◌∷◌, Some, None}
+use Rattle.std.specs.Prelude.{◌≡◌, ℕ, false, List, [], ◌∷◌, Some, None}
 use Rattle.ppdb_maps.specs.Map.{Map, map_of}
 use Rattle.map_compose.specs.{Composed.composed, Sizes.SizesAgree}
 use Rattle.ppdb_values.specs.{declared.file.FileValue.FileValue, declared.scope.VariableValue.VariableValue, Meaning.{Meaning, ScopeMeaning, meaning}}
 use Rattle.ppdb_values.specs.WorkedSmall.{small_value, small_document, outer_scope, inner_scope, variable_x, variable_y}
-use Rattle.map_compose_laws.specs.Steps.{StepsFit, rewritten}
+use Rattle.map_compose_laws.specs.{Images.KeepsOwnAssembly, Steps.{StepsFit, rewritten}}
 
 -- ---- the file
 
@@ -44,7 +44,8 @@ one_kept old new = record { old = old; new = new; length = 1 }
 
 -- a map of the method's sizes and runs
 abbrev pub map_with : ℕ → ℕ → List Run → Map
-map_with old_size new_size runs = map_of [] [] (record { method = 1; old_size = old_size; new_size = new_size; runs = runs } ∷ []) [] [] [] [] [] None
+map_with old_size new_size runs =
+    map_of [] [] [] [] (record { method = 1; old_size = old_size; new_size = new_size; runs = runs } ∷ []) [] [] [] [] [] None false
 
 abbrev pub first_step : Map
 first_step = map_with 9 12 (one_kept 0 0 ∷ one_kept 5 6 ∷ one_kept 8 9 ∷ [])
@@ -62,6 +63,7 @@ one_step = map_with 9 12 (one_kept 0 0 ∷ one_kept 8 9 ∷ [])
 pub record WorkedEdges : Type 0 where
   pub both : composed first_step second_step ≡ one_step
   pub agree : SizesAgree first_step second_step
+  pub own : KeepsOwnAssembly first_step second_step
   pub fit : StepsFit first_step second_step (edged 3 9)
   pub after_first : rewritten first_step (edged 3 9) ≡ edged 6 12
   pub after_two : rewritten second_step (rewritten first_step (edged 3 9)) ≡ edged 7 12

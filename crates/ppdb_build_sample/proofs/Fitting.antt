@@ -10,7 +10,8 @@ use Rattle.sequence_points.specs.declared.point.Point.{Point}
 use Rattle.custom_info.specs.Kinds.{kind_of}
 use Rattle.custom_info.specs.declared.kinds.Kind.TheVariants.{Hoisted, Unknown}
 use Rattle.ppdb_maps.specs.declared.entries.RowLine.{RowLine}
-use Rattle.ppdb_maps.specs.Map.{Map, MethodLine, row_within, offsets_in, line_offsets}
+use Rattle.ppdb_maps.specs.Map.{Map, MethodLine, row_image, offsets_in, line_offsets}
+use Rattle.ppdb_maps.specs.declared.image.RowImage.TheVariants.{Row}
 use Rattle.ppdb_maps.specs.Sample.{sample_row, sample_runs, sample_map_of, sample_method as sample_line}
 use Rattle.ppdb_maps.proofs.SampleMap.{sample_readable}
 use Rattle.ppdb_values.specs.declared.custom.CustomValue.{CustomValue}
@@ -21,7 +22,8 @@ use Rattle.ppdb_merge_items.specs.declared.file.AnnotatedFile.{AnnotatedFile}
 use Rattle.ppdb_merge_items.specs.Each.{Each, Pairs}
 use Rattle.ppdb_merge_items.specs.Laws.{SoundnessIsAnnotated}
 use Rattle.ppdb_merge_items.specs.NamedRows.{Named, names, names_some, named_rows, in_constant, in_steps, live_method, live_scope, live_custom}
-use Rattle.ppdb_merge_items.specs.NamedRows.{with_live_signature}
+use Rattle.ppdb_merge_items.specs.NamedRows.{with_live_constants, with_live_signature}
+use Rattle.ppdb_merge_moved.proofs.ImageRows.{within_is}
 use Rattle.ppdb_merge_items.specs.Annotated.{annotated_file}
 use Rattle.ppdb_merge_items.proofs.Lists.{Each-append, Each-filter, Each-map, Each-weaker}
 use Rattle.ppdb_merge_joined.proofs.Each.{Each-flat}
@@ -59,8 +61,8 @@ module _ (n : ℕ) where
   abbrev m : Map
   m = sample_map_of n
 
-  image_is : (i : ℕ) → IsIn n i → row_within m 0x06 i ≡ Some (n + 1 - i)
-  image_is i within = ap (option_map (λ (r : RowLine). r.new)) (find_row n i 1 n within.0 (omega (arith, within.1)))
+  image_is : (i : ℕ) → IsIn n i → row_image m 0x06 i ≡ Row 0x06 (n + 1 - i)
+  image_is i within = within_is m 0x06 i (n + 1 - i) (ap (option_map (λ (r : RowLine). r.new)) (find_row n i 1 n within.0 (omega (arith, within.1))))
 
   offsets_are : (i : ℕ) → IsIn n i → offsets_in m i ≡ lined sample_runs 16 20
   offsets_are i within = ap line_offsets (find_line i 1 n within.0 (omega (arith, within.1)))
@@ -73,15 +75,19 @@ module _ (n : ℕ) where
 
   -- the image of such a row, and how many rows the table has
   image_of : (a : Named) → IsNamed n a → IsImaged m a
-  image_of a (inl (table, within)) = (n + 1 - a.row, ap (λ t. row_within m t a.row) table ∙ image_is a.row within)
-  image_of a (inr (table, one)) = (1, ap (λ t. row_within m t a.row) table ∙ ap (λ r. row_within m 0x11 r) one)
+  image_of a (inl (table, within)) = (0x06, n + 1 - a.row, ap (λ t. row_image m t a.row) table ∙ image_is a.row within)
+  image_of a (inr (table, one)) = (0x11, 1, ap (λ t. row_image m t a.row) table ∙ ap (λ r. row_image m 0x11 r) one)
 
-  method_image : (a : Named) (image : ℕ) → a.table ≡ 0x06 → IsIn n a.row → row_within m a.table a.row ≡ Some image → n + 1 - a.row ≡ image
-  method_image a image table within is =
-      some_of (n + 1 - a.row) image (sym (image_is a.row within) ∙ sym (ap (λ t. row_within m t a.row) table) ∙ is)
+  row_of : (t a u b : ℕ) → Row t a ≡ Row u b → (t ≡ u) × (a ≡ b)
+  row_of t a u b e = (cc, cc)
 
-  signature_image : (a : Named) (image : ℕ) → a.table ≡ 0x11 → a.row ≡ 1 → row_within m a.table a.row ≡ Some image → 1 ≡ image
-  signature_image a image table one is = some_of 1 image (sym (ap (λ t. row_within m t a.row) table ∙ ap (λ r. row_within m 0x11 r) one) ∙ is)
+  method_image : (a : Named) (to image : ℕ) → a.table ≡ 0x06 → IsIn n a.row → row_image m a.table a.row ≡ Row to image
+      → (0x06 ≡ to) × (n + 1 - a.row ≡ image)
+  method_image a to image table within is =
+      row_of 0x06 (n + 1 - a.row) to image (sym (image_is a.row within) ∙ sym (ap (λ t. row_image m t a.row) table) ∙ is)
+
+  signature_image : (a : Named) (to image : ℕ) → a.table ≡ 0x11 → a.row ≡ 1 → row_image m a.table a.row ≡ Row to image → (0x11 ≡ to) × (1 ≡ image)
+  signature_image a to image table one is = row_of 0x11 1 to image (sym (ap (λ t. row_image m t a.row) table ∙ ap (λ r. row_image m 0x11 r) one) ∙ is)
 
   -- ---- what the sample names
 
@@ -111,10 +117,10 @@ module _ (n : ℕ) where
       methods = flat_map in_method (map (with_live_signature m) (filter (live_method m) (sample_annotated n).methods))
 
       scopes : List Named
-      scopes = map (λ (s : AnnotatedScope). names 0x06 s.method) (filter (live_scope m) (sample_annotated n).scopes)
+      scopes = map (λ (s : AnnotatedScope). names 0x06 s.method) (map (with_live_constants m) (filter (live_scope m) (sample_annotated n).scopes))
 
       constants : List Named
-      constants = flat_map in_constants (filter (live_scope m) (sample_annotated n).scopes)
+      constants = flat_map in_constants (map (with_live_constants m) (filter (live_scope m) (sample_annotated n).scopes))
 
       rest_of_constants : List Named
       rest_of_constants = flat_map in_custom (filter (live_custom m) (sample_annotated n).customs)
@@ -132,12 +138,15 @@ module _ (n : ℕ) where
 
       of_scopes : Each P scopes
       of_scopes = Each-map (λ (s : AnnotatedScope). names 0x06 s.method) P _
-          (live (λ (s : AnnotatedScope). P (names 0x06 s.method)) (live_scope m) (sample_annotated n).scopes
-          (each_scope n (λ (s : AnnotatedScope). P (names 0x06 s.method)) (λ i within. (inl (refl, within), inl (refl, within)))))
+          (Each-map (with_live_constants m) (λ (s : AnnotatedScope). P (names 0x06 s.method)) (filter (live_scope m) (sample_annotated n).scopes) (live (λ
+          (s : AnnotatedScope). P (names 0x06 s.method)) (live_scope m) (sample_annotated n).scopes
+          (each_scope n (λ (s : AnnotatedScope). P (names 0x06 s.method)) (λ i within. (inl (refl, within), inl (refl, within))))))
 
       of_constants : Each P constants
-      of_constants = Each-flat in_constants P _ (live (λ s. Each P (in_constants s)) (live_scope m) (sample_annotated n).scopes
-          (each_scope n (λ s. Each P (in_constants s)) (λ i within. (tt, tt))))
+      of_constants = Each-flat in_constants P _ (Each-map (with_live_constants m) (λ s. Each P (in_constants s))
+          (filter (live_scope m) (sample_annotated n).scopes)
+          (live (λ s. Each P (in_constants (with_live_constants m s))) (live_scope m) (sample_annotated n).scopes
+          (each_scope n (λ s. Each P (in_constants (with_live_constants m s))) (λ i within. (tt, tt)))))
 
       of_customs : Each P rest_of_constants
       of_customs = Each-flat in_custom P _ (live (λ c. Each P (in_custom c)) (live_custom m) (sample_annotated n).customs
@@ -146,13 +155,13 @@ module _ (n : ℕ) where
   -- ---- the map fits
 
   apart : (a b : Named) → IsNamed n a → IsNamed n b → AreApart m a b
-  apart a b (inl (table, within)) (inl (other, also)) image tables of_a of_b =
-      let first = method_image a image table within of_a in
-      let second = method_image b image other also of_b in
+  apart a b (inl (table, within)) (inl (other, also)) to image tables shared of_a of_b =
+      let first = (method_image a to image table within of_a).1 in
+      let second = (method_image b to image other also of_b).1 in
       omega (arith, within.0, within.1, also.0, also.1, first, second)
-  apart a b (inl (table, within)) (inr (other, also)) image tables of_a of_b = absurd (omega (arith, table, other, tables))
-  apart a b (inr (table, one)) (inl (other, also)) image tables of_a of_b = absurd (omega (arith, table, other, tables))
-  apart a b (inr (table, one)) (inr (other, also)) image tables of_a of_b = one ∙ sym also
+  apart a b (inl (table, within)) (inr (other, also)) to image tables shared of_a of_b = absurd (omega (arith, table, other, tables))
+  apart a b (inr (table, one)) (inl (other, also)) to image tables shared of_a of_b = absurd (omega (arith, table, other, tables))
+  apart a b (inr (table, one)) (inr (other, also)) to image tables shared of_a of_b = one ∙ sym also
 
   fits : 1 ≤ n → Pairs (NamesDiffer m) (sample_annotated n).documents → Fits true m (sample_annotated n)
   fits some names_differ = record {
@@ -174,17 +183,17 @@ module _ (n : ℕ) where
 
   -- no image is above the count
   abbrev IsCounted : Named → Type 0
-  IsCounted a = (image : ℕ) → row_within m a.table a.row ≡ Some image → image ≤ slice_index (sample_rows n) a.table
+  IsCounted a = (to image : ℕ) → row_image m a.table a.row ≡ Row to image → image ≤ slice_index (sample_rows n) to
 
   counted : 1 ≤ n → Each IsCounted (named_rows true m (sample_annotated n))
   counted some = Each-weaker (IsNamed n) IsCounted within (named_rows true m (sample_annotated n)) (named some)
     where
       within : (a : Named) → IsNamed n a → IsCounted a
-      within a (inl (table, there)) image is =
-          let same = method_image a image table there is in
-          subst (λ t. image ≤ slice_index (sample_rows n) t) (sym table) (omega (arith, there.0, there.1, same))
-      within a (inr (table, one)) image is =
-          let same = signature_image a image table one is in subst (λ t. image ≤ slice_index (sample_rows n) t) (sym table) (omega (arith, same))
+      within a (inl (table, there)) to image is =
+          let same = method_image a to image table there is in
+          subst (λ t. image ≤ slice_index (sample_rows n) t) same.0 (omega (arith, there.0, there.1, same.1))
+      within a (inr (table, one)) to image is =
+          let same = signature_image a to image table one is in subst (λ t. image ≤ slice_index (sample_rows n) t) same.0 (omega (arith, same.1))
 
 -- ---- all samples
 

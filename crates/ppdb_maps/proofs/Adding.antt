@@ -7,17 +7,17 @@ use Rattle.std.specs.Option.{option_or}
 use Rattle.std.specs.Prelude.{Vec}
 use Rattle.std.specs.declared.alloc.Global.{Global}
 use Rattle.std.proofs.lemmas.List.{map-append}
-use Rattle.std.proofs.lemmas.List.Folds.{find-append}
+use Rattle.std.proofs.lemmas.List.Folds.{find-append, list_any-append}
 use Rattle.std.proofs.lemmas.Cmp.{nat_eq_equiv}
 use Rattle.std.proofs.lemmas.Map.Keys.{IsDistinct-push}
 use Rattle.std.specs.BTreeMap as tree
 use Rattle.std.specs.BTreeMap.{BTreeMap, is_at}
-use Rattle.std.proofs.lemmas.Bool.{false≢true}
+use Rattle.std.proofs.lemmas.Bool.{false≢true, or_parts}
 use Rattle.ppdb_base.specs.declared.offsets.Run.{Run}
 use Rattle.ppdb_maps.specs.Map.{MethodLine, pair_cmp}
 use Rattle.ppdb_maps.specs.BitSets.{has_number, has_row}
-use Rattle.ppdb_maps.specs.Gathered.{row_key, method_key, signature_key, same_pair}
-use Rattle.ppdb_maps.specs.Before.{methods_of, follows_method, row_in, method_in, signature_in}
+use Rattle.ppdb_maps.specs.Gathered.{row_key, cross_key, gone_key, method_key, signature_key, same_pair}
+use Rattle.ppdb_maps.specs.Before.{methods_of, follows_method, row_in, cross_in, gone_in, has_image_in, method_in, signature_in}
 use Rattle.ppdb_maps.specs.Rules.{kind_of, Breaks, BeginsEarly, EndsBeyond, run_alone, run_early, run_long}
 use Rattle.ppdb_maps.specs.Runs.{RefusesRun}
 use Rattle.ppdb_maps.specs.Drafts.{Holds, HoldsMethods, HasLines, IsClosed, RefusedBy, AddsLine}
@@ -25,7 +25,7 @@ use Rattle.ppdb_maps.specs.declared.draft.Draft.{Draft}
 use Rattle.ppdb_maps.specs.declared.refusal.Refusal.{Refusal}
 use Rattle.ppdb_maps.specs.declared.refusal.Refusal.TheVariants.{Breaks as refused, Memory}
 use Rattle.ppdb_maps.specs.declared.line.Line.{Line}
-use Rattle.ppdb_maps.specs.declared.line.Line.TheVariants.{Silent, Row, Method, Kept, Slot, Signature, Document, Link}
+use Rattle.ppdb_maps.specs.declared.line.Line.TheVariants.{Silent, Row, Cross, Gone, Method, Kept, Slot, Signature, Document, Link, Shares}
 use Rattle.ppdb_maps.specs.declared.entries.NameLine.{NameLine}
 use Rattle.std.specs.Cmp.Lexicographic.{slice_cmp}
 use Rattle.std.specs.Ordering.{nat_cmp}
@@ -34,34 +34,12 @@ use Rattle.ppdb_maps.specs.declared.rule.Rule.TheVariants.{NoMethod}
 use Rattle.ppdb_maps.specs.declared.bit_set.BitSet.{BitSet}
 use Rattle.ppdb_maps.specs.declared.bit_set.RowSet.{RowSet}
 use Rattle.ppdb_maps.specs.declared.entries.RowLine.{RowLine}
+use Rattle.ppdb_maps.specs.declared.entries.CrossLine.{CrossLine}
+use Rattle.ppdb_maps.specs.declared.entries.GoneLine.{GoneLine}
 use Rattle.ppdb_maps.specs.declared.entries.SignatureImage.{SignatureImage}
 use Rattle.ppdb_maps.proofs.OneMap.{pair_equal, pair_is, same_number}
+use Rattle.ppdb_maps.proofs.OneList.{any_is}
 use Rattle.ppdb_maps.proofs.Refusing.{at_pair}
-
-abbrev is_row : ℕ → ℕ → RowLine → Bool
-is_row table old row = nat_eq row.table table && nat_eq row.old old
-
--- what is found with one more row at the end, that was not there before
-pushed : (o : Option RowLine) (row : RowLine) (b : Bool) → (b ≡ true → is_some (option_map (λ (r : RowLine). r.new) o) ≡ false)
-    → option_map (λ (r : RowLine). r.new) (option_or o (cond b (Some row) None)) ≡ cond b (Some row.new) (option_map (λ (r : RowLine). r.new) o)
-pushed None row true fresh = refl
-pushed None row false fresh = refl
-pushed (Some other) row true fresh = absurd (false≢true (sym (fresh refl)))
-pushed (Some other) row false fresh = refl
-
-row_absent : (rows : List RowLine) (t o : ℕ) → is_some (option_map (λ (r : RowLine). r.new) (find (is_row t o) rows)) ≡ false
-    → list_any (same_pair (t, o)) (map row_key rows) ≡ false
-row_absent [] t o fresh = refl
-row_absent (row ∷ rows) t o fresh = of (is_row t o row) refl fresh (row_absent rows t o)
-  where
-    turned : (nat_eq t row.table && nat_eq o row.old) ≡ is_row t o row
-    turned = pair_equal.symm (t, o) (row_key row)
-
-    of : (b : Bool) → is_row t o row ≡ b → is_some (option_map (λ (r : RowLine). r.new) (cond b (Some row) (find (is_row t o) rows))) ≡ false
-        → (is_some (option_map (λ (r : RowLine). r.new) (find (is_row t o) rows)) ≡ false → list_any (same_pair (t, o)) (map row_key rows) ≡ false)
-        → list_any (same_pair (t, o)) (map row_key (row ∷ rows)) ≡ false
-    of true is fresh rest = absurd (false≢true (sym fresh))
-    of false is fresh rest = ap (λ b. b || list_any (same_pair (t, o)) (map row_key rows)) (turned ∙ is) ∙ rest fresh
 
 some_or : {A : Type 0} (b : Bool) (x : A) (o : Option A) → (b || is_some o) ≡ is_some (cond b (Some x) o)
 some_or true x o = refl
@@ -116,17 +94,81 @@ push_distinct : {X : Type 0} (key : X → ℕ) (xs : List X) (x : X) → IsDisti
 push_distinct key xs x distinct fresh = subst (IsDistinct nat_eq) (sym (map-append key xs (x ∷ [])))
     (IsDistinct-push nat_eq_equiv (map key xs) (key x) distinct (key_absent key xs (key x) fresh))
 
-pub none_held : (draft : Draft) → draft.counts.entries ≡ [] → draft.rows.items ≡ [] → ((table row : ℕ) → has_row draft.moved table row ≡ false)
-    → draft.methods.items ≡ [] → ((number : ℕ) → has_number draft.listed number ≡ false)
+-- what is found by a pair
+abbrev find_pair : {X : Type 0} → (X → ℕ × ℕ) → ℕ → ℕ → List X → Option X
+find_pair key a b xs = find (λ x. nat_eq (key x).0 a && nat_eq (key x).1 b) xs
+
+-- what is said by a pair, with one more item at the end at a pair that was not there before
+push_pair : {X V : Type 0} (key : X → ℕ × ℕ) (value : X → V) (xs : List X) (x : X) (said : ℕ → ℕ → Option V)
+    → ((a b : ℕ) → option_map value (find_pair key a b xs) ≡ said a b) → is_some (said (key x).0 (key x).1) ≡ false → (a b : ℕ)
+    → option_map value (find_pair key a b (xs ++ x ∷ [])) ≡ cond (nat_eq (key x).0 a && nat_eq (key x).1 b) (Some (value x)) (said a b)
+push_pair key value xs x said same fresh a b =
+    ap (option_map value) (find-append (λ y. nat_eq (key y).0 a && nat_eq (key y).1 b) xs (x ∷ []))
+    ∙ (pushed_at value (find_pair key a b xs) x (nat_eq (key x).0 a && nat_eq (key x).1 b)
+    (λ is. ap is_some (same a b) ∙ subst (λ (p : ℕ × ℕ). is_some (said p.0 p.1) ≡ false) (pair_is (key x) (a, b) is) fresh)
+    ∙ ap (cond (nat_eq (key x).0 a && nat_eq (key x).1 b) (Some (value x))) (same a b))
+
+pair_absent : {X : Type 0} (key : X → ℕ × ℕ) (xs : List X) (a b : ℕ) → is_some (find_pair key a b xs) ≡ false
+    → list_any (same_pair (a, b)) (map key xs) ≡ false
+pair_absent key [] a b fresh = refl
+pair_absent key (x ∷ xs) a b fresh = of (nat_eq (key x).0 a && nat_eq (key x).1 b) refl fresh (pair_absent key xs a b)
+  where
+    turned : same_pair (a, b) (key x) ≡ (nat_eq (key x).0 a && nat_eq (key x).1 b)
+    turned = pair_equal.symm (a, b) (key x)
+
+    of : (t : Bool) → (nat_eq (key x).0 a && nat_eq (key x).1 b) ≡ t → is_some (cond t (Some x) (find_pair key a b xs)) ≡ false
+        → (is_some (find_pair key a b xs) ≡ false → list_any (same_pair (a, b)) (map key xs) ≡ false)
+        → list_any (same_pair (a, b)) (map key (x ∷ xs)) ≡ false
+    of true is fresh rest = absurd (false≢true (sym fresh))
+    of false is fresh rest = ap (λ t. t || list_any (same_pair (a, b)) (map key xs)) (turned ∙ is) ∙ rest fresh
+
+pair_distinct : {X : Type 0} (key : X → ℕ × ℕ) (xs : List X) (x : X) → IsDistinct same_pair (map key xs)
+    → is_some (find_pair key (key x).0 (key x).1 xs) ≡ false → IsDistinct same_pair (map key (xs ++ x ∷ []))
+pair_distinct key xs x distinct fresh = subst (IsDistinct same_pair) (sym (map-append key xs (x ∷ [])))
+    (IsDistinct-push pair_equal (map key xs) (key x) distinct (pair_absent key xs (key x).0 (key x).1 fresh))
+
+-- a row has an image by the lines before the last, or by the last one
+moved_by_row : {A : Type 0} (b : Bool) (x : A) (o : Option A) (rest : Bool) → (b || (is_some o || rest)) ≡ (is_some (cond b (Some x) o) || rest)
+moved_by_row true x o rest = refl
+moved_by_row false x o rest = refl
+
+moved_by_cross : {A : Type 0} (b : Bool) (x : A) (row : Bool) (o : Option A) (gone : Bool)
+    → (b || (row || (is_some o || gone))) ≡ (row || (is_some (cond b (Some x) o) || gone))
+moved_by_cross true x true o gone = refl
+moved_by_cross true x false o gone = refl
+moved_by_cross false x row o gone = refl
+
+moved_by_gone : (b row crossed gone : Bool) → (b || (row || (crossed || gone))) ≡ (row || (crossed || cond b true gone))
+moved_by_gone true true crossed gone = refl
+moved_by_gone true false true gone = refl
+moved_by_gone true false false gone = refl
+moved_by_gone false row crossed gone = refl
+
+-- whether one is there, with one more item at the end
+any_pushed : (b c : Bool) → (c || (b || false)) ≡ cond b true c
+any_pushed true true = refl
+any_pushed true false = refl
+any_pushed false true = refl
+any_pushed false false = refl
+
+push_any : {X : Type 0} (p : X → Bool) (xs : List X) (x : X) (said : Bool) → list_any p xs ≡ said → list_any p (xs ++ x ∷ []) ≡ cond (p x) true said
+push_any p xs x said same = list_any-append p xs (x ∷ []) ∙ any_pushed (p x) (list_any p xs) ∙ ap (cond (p x) true) same
+
+pub none_held : (draft : Draft) → draft.counts.entries ≡ [] → draft.rows.items ≡ [] → draft.crossed.items ≡ [] → draft.gone.items ≡ []
+    → ((table row : ℕ) → has_row draft.moved table row ≡ false) → draft.methods.items ≡ [] → ((number : ℕ) → has_number draft.listed number ≡ false)
     → draft.current ≡ None → draft.drops.keys ≡ [] → draft.slotted.keys ≡ [] → draft.slots.entries ≡ [] → draft.signatures.items ≡ []
     → ((number : ℕ) → has_number draft.signed number ≡ false) → draft.documents.entries ≡ [] → draft.link ≡ None
-    → Holds [] draft
+    → draft.shares ≡ false → Holds [] draft
 unfolding IsDistinct
-none_held draft counts rows moved methods listed current drops slotted slots signatures signed documents link = record {
+none_held draft counts rows crossed gone moved methods listed current drops slotted slots signatures signed documents link shares = record {
   others = record {
     counts = λ table. rw counts refl;
     rows = λ table old. rw rows refl;
     distinct = rw rows tt;
+    crossed = λ table old. rw crossed refl;
+    crossed_once = rw crossed tt;
+    gone = λ table old. rw gone refl;
+    gone_once = rw gone tt;
     moved = moved;
     drops = λ method. rw drops refl;
     slotted = λ method. rw slotted refl;
@@ -136,13 +178,24 @@ none_held draft counts rows moved methods listed current drops slotted slots sig
     signed = signed;
     documents = λ name. rw documents refl;
     link = link;
+    shares = shares;
   };
   methods = subst (λ (m : Option MethodLine). HoldsMethods [] m draft) (sym current)
       (record { found = λ method. rw methods refl; distinct = rw methods tt; numbers = listed }, refl);
 }
 
+-- no line of the row is there
+abbrev no_row : List Line → ℕ → ℕ → Type 0
+no_row before t o = (is_some (row_in before t o) ≡ false) × (is_some (cross_in before t o) ≡ false) × (gone_in before t o ≡ false)
+
+none_there : (before : List Line) (t o : ℕ) → has_image_in before t o ≡ false → no_row before t o
+none_there before t o fresh =
+    let first = or_parts (is_some (row_in before t o)) (is_some (cross_in before t o) || gone_in before t o) fresh in
+    let others = or_parts (is_some (cross_in before t o)) (gone_in before t o) first.1 in
+    (first.0, others.0, others.1)
+
 pub row_added : (before : List Line) (draft : Draft) (rows : Vec RowLine Global) (moved : RowSet) (t o n : ℕ) → IsClosed before draft
-    → is_some (row_in before t o) ≡ false
+    → has_image_in before t o ≡ false
     → rows.items ≡ draft.rows.items ++ record { table = t; old = o; new = n } ∷ []
     → ((a b : ℕ) → has_row moved a b ≡ (nat_eq t a && nat_eq o b || has_row draft.moved a b))
     → Holds (Row t o n ∷ before) (record draft { rows = rows; moved = moved })
@@ -150,15 +203,20 @@ row_added before draft rows moved t o n closed fresh pushes marks = record {
   others = record {
     counts = closed.others.counts;
     rows = λ a b.
-        ap (λ rs. option_map (λ (r : RowLine). r.new) (find (is_row a b) rs)) pushes
-        ∙ (ap (option_map (λ (r : RowLine). r.new)) (find-append (is_row a b) draft.rows.items (record { table = t; old = o; new = n } ∷ []))
-        ∙ (pushed (find (is_row a b) draft.rows.items) (record { table = t; old = o; new = n }) (nat_eq t a && nat_eq o b) (λ is. absent a b is)
-        ∙ ap (cond (nat_eq t a && nat_eq o b) (Some n)) (closed.others.rows a b)));
+        ap (λ rs. option_map (λ (r : RowLine). r.new) (find_pair row_key a b rs)) pushes
+        ∙ push_pair row_key (λ (r : RowLine). r.new) draft.rows.items (record { table = t; old = o; new = n }) (row_in before)
+        closed.others.rows (none_there before t o fresh).0 a b;
     distinct = subst (λ rs. IsDistinct same_pair (map row_key rs)) (sym pushes)
-        (subst (IsDistinct same_pair) (sym (map-append row_key draft.rows.items (record { table = t; old = o; new = n } ∷ [])))
-        (IsDistinct-push pair_equal (map row_key draft.rows.items) (t, o) closed.others.distinct
-        (row_absent draft.rows.items t o (ap is_some (closed.others.rows t o) ∙ fresh))));
-    moved = λ a b. marks a b ∙ (ap (λ m. nat_eq t a && nat_eq o b || m) (closed.others.moved a b) ∙ some_or (nat_eq t a && nat_eq o b) n (row_in before a b));
+        (pair_distinct row_key draft.rows.items (record { table = t; old = o; new = n }) closed.others.distinct
+        (some_said (λ (r : RowLine). r.new) (find_pair row_key t o draft.rows.items)
+        (ap is_some (closed.others.rows t o) ∙ (none_there before t o fresh).0)));
+    crossed = closed.others.crossed;
+    crossed_once = closed.others.crossed_once;
+    gone = closed.others.gone;
+    gone_once = closed.others.gone_once;
+    moved = λ a b.
+        marks a b ∙ (ap (λ m. nat_eq t a && nat_eq o b || m) (closed.others.moved a b)
+        ∙ moved_by_row (nat_eq t a && nat_eq o b) n (row_in before a b) (is_some (cross_in before a b) || gone_in before a b));
     drops = closed.others.drops;
     slotted = closed.others.slotted;
     slots = closed.others.slots;
@@ -167,15 +225,86 @@ row_added before draft rows moved t o n closed fresh pushes marks = record {
     signed = closed.others.signed;
     documents = closed.others.documents;
     link = closed.others.link;
+    shares = closed.others.shares;
   };
   methods = subst (λ (m : Option MethodLine). HoldsMethods (Row t o n ∷ before) m (record draft { rows = rows; moved = moved })) (sym closed.closed)
       (closed.methods, refl);
 }
-  where
-    absent : (a b : ℕ) → (nat_eq t a && nat_eq o b) ≡ true → is_some (option_map (λ (r : RowLine). r.new) (find (is_row a b) draft.rows.items)) ≡ false
-    absent a b is =
-        let same : (t, o) ≡ (a, b) = pair_is (t, o) (a, b) is in
-        ap is_some (closed.others.rows a b) ∙ subst (λ (p : ℕ × ℕ). is_some (row_in before p.0 p.1) ≡ false) same fresh
+
+pub cross_added : (before : List Line) (draft : Draft) (crossed : Vec CrossLine Global) (moved : RowSet) (line : CrossLine) → IsClosed before draft
+    → has_image_in before line.table line.old ≡ false
+    → crossed.items ≡ draft.crossed.items ++ line ∷ []
+    → ((a b : ℕ) → has_row moved a b ≡ (nat_eq line.table a && nat_eq line.old b || has_row draft.moved a b))
+    → Holds (Cross line ∷ before) (record draft { crossed = crossed; moved = moved })
+cross_added before draft crossed moved line closed fresh pushes marks = record {
+  others = record {
+    counts = closed.others.counts;
+    rows = closed.others.rows;
+    distinct = closed.others.distinct;
+    crossed = λ a b.
+        ap (λ rs. find_pair cross_key a b rs) pushes
+        ∙ sym (itself (find_pair cross_key a b (draft.crossed.items ++ line ∷ [])))
+        ∙ push_pair cross_key (λ r. r) draft.crossed.items line (cross_in before)
+        (λ x y. itself (find_pair cross_key x y draft.crossed.items) ∙ closed.others.crossed x y)
+        (none_there before line.table line.old fresh).1 a b;
+    crossed_once = subst (λ rs. IsDistinct same_pair (map cross_key rs)) (sym pushes)
+        (pair_distinct cross_key draft.crossed.items line closed.others.crossed_once
+        (ap is_some (closed.others.crossed line.table line.old) ∙ (none_there before line.table line.old fresh).1));
+    gone = closed.others.gone;
+    gone_once = closed.others.gone_once;
+    moved = λ a b.
+        marks a b ∙ (ap (λ m. nat_eq line.table a && nat_eq line.old b || m) (closed.others.moved a b)
+        ∙ moved_by_cross (nat_eq line.table a && nat_eq line.old b) line (is_some (row_in before a b)) (cross_in before a b) (gone_in before a b));
+    drops = closed.others.drops;
+    slotted = closed.others.slotted;
+    slots = closed.others.slots;
+    signatures = closed.others.signatures;
+    signed_once = closed.others.signed_once;
+    signed = closed.others.signed;
+    documents = closed.others.documents;
+    link = closed.others.link;
+    shares = closed.others.shares;
+  };
+  methods = subst (λ (m : Option MethodLine). HoldsMethods (Cross line ∷ before) m (record draft { crossed = crossed; moved = moved }))
+      (sym closed.closed) (closed.methods, refl);
+}
+
+pub gone_added : (before : List Line) (draft : Draft) (gone : Vec GoneLine Global) (moved : RowSet) (t o : ℕ) → IsClosed before draft
+    → has_image_in before t o ≡ false
+    → gone.items ≡ draft.gone.items ++ record { table = t; old = o } ∷ []
+    → ((a b : ℕ) → has_row moved a b ≡ (nat_eq t a && nat_eq o b || has_row draft.moved a b))
+    → Holds (Gone t o ∷ before) (record draft { gone = gone; moved = moved })
+gone_added before draft gone moved t o closed fresh pushes marks = record {
+  others = record {
+    counts = closed.others.counts;
+    rows = closed.others.rows;
+    distinct = closed.others.distinct;
+    crossed = closed.others.crossed;
+    crossed_once = closed.others.crossed_once;
+    gone = λ a b.
+        ap (λ rs. list_any (λ (r : GoneLine). nat_eq r.table a && nat_eq r.old b) rs) pushes
+        ∙ push_any (λ (r : GoneLine). nat_eq r.table a && nat_eq r.old b) draft.gone.items (record { table = t; old = o }) (gone_in before a b)
+        (closed.others.gone a b);
+    gone_once = subst (λ rs. IsDistinct same_pair (map gone_key rs)) (sym pushes)
+        (pair_distinct gone_key draft.gone.items (record { table = t; old = o }) closed.others.gone_once
+        (sym (any_is (λ (r : GoneLine). nat_eq r.table t && nat_eq r.old o) draft.gone.items)
+        ∙ (closed.others.gone t o ∙ (none_there before t o fresh).2)));
+    moved = λ a b.
+        marks a b ∙ (ap (λ m. nat_eq t a && nat_eq o b || m) (closed.others.moved a b)
+        ∙ moved_by_gone (nat_eq t a && nat_eq o b) (is_some (row_in before a b)) (is_some (cross_in before a b)) (gone_in before a b));
+    drops = closed.others.drops;
+    slotted = closed.others.slotted;
+    slots = closed.others.slots;
+    signatures = closed.others.signatures;
+    signed_once = closed.others.signed_once;
+    signed = closed.others.signed;
+    documents = closed.others.documents;
+    link = closed.others.link;
+    shares = closed.others.shares;
+  };
+  methods = subst (λ (m : Option MethodLine). HoldsMethods (Gone t o ∷ before) m (record draft { gone = gone; moved = moved }))
+      (sym closed.closed) (closed.methods, refl);
+}
 
 pub slot_added : (before : List Line) (draft : Draft) (slots : BTreeMap (ℕ × ℕ) ℕ) (m o n : ℕ) → IsClosed before draft
     → ((q : ℕ × ℕ) → tree.get pair_cmp slots q ≡ cond (is_at (pair_cmp (m, o)) q) (Some n) (tree.get pair_cmp draft.slots q))
@@ -185,6 +314,10 @@ slot_added before draft slots m o n closed updates = record {
     counts = closed.others.counts;
     rows = closed.others.rows;
     distinct = closed.others.distinct;
+    crossed = closed.others.crossed;
+    crossed_once = closed.others.crossed_once;
+    gone = closed.others.gone;
+    gone_once = closed.others.gone_once;
     moved = closed.others.moved;
     drops = closed.others.drops;
     slotted = closed.others.slotted;
@@ -194,6 +327,7 @@ slot_added before draft slots m o n closed updates = record {
     signed = closed.others.signed;
     documents = closed.others.documents;
     link = closed.others.link;
+    shares = closed.others.shares;
   };
   methods = subst (λ (l : Option MethodLine). HoldsMethods (Slot m o n ∷ before) l (record draft { slots = slots })) (sym closed.closed) (closed.methods, refl);
 }
@@ -208,6 +342,10 @@ signature_added before draft signatures signed m n closed fresh pushes marks = r
     counts = closed.others.counts;
     rows = closed.others.rows;
     distinct = closed.others.distinct;
+    crossed = closed.others.crossed;
+    crossed_once = closed.others.crossed_once;
+    gone = closed.others.gone;
+    gone_once = closed.others.gone_once;
     moved = closed.others.moved;
     drops = closed.others.drops;
     slotted = closed.others.slotted;
@@ -222,6 +360,7 @@ signature_added before draft signatures signed m n closed fresh pushes marks = r
     signed = λ k. marks k ∙ (ap (λ b. nat_eq m k || b) (closed.others.signed k) ∙ some_or (nat_eq m k) n (signature_in before k));
     documents = closed.others.documents;
     link = closed.others.link;
+    shares = closed.others.shares;
   };
   methods = subst (λ (l : Option MethodLine). HoldsMethods (Signature m n ∷ before) l (record draft { signatures = signatures; signed = signed }))
       (sym closed.closed) (closed.methods, refl);
@@ -236,6 +375,10 @@ document_added before draft documents d closed updates = record {
     counts = closed.others.counts;
     rows = closed.others.rows;
     distinct = closed.others.distinct;
+    crossed = closed.others.crossed;
+    crossed_once = closed.others.crossed_once;
+    gone = closed.others.gone;
+    gone_once = closed.others.gone_once;
     moved = closed.others.moved;
     drops = closed.others.drops;
     slotted = closed.others.slotted;
@@ -245,6 +388,7 @@ document_added before draft documents d closed updates = record {
     signed = closed.others.signed;
     documents = λ name. updates name ∙ ap (cond (bytes_eq d.old name) (Some d.new)) (closed.others.documents name);
     link = closed.others.link;
+    shares = closed.others.shares;
   };
   methods = subst (λ (l : Option MethodLine). HoldsMethods (Document d ∷ before) l (record draft { documents = documents }))
       (sym closed.closed) (closed.methods, refl);
@@ -256,6 +400,10 @@ link_added before draft value closed = record {
     counts = closed.others.counts;
     rows = closed.others.rows;
     distinct = closed.others.distinct;
+    crossed = closed.others.crossed;
+    crossed_once = closed.others.crossed_once;
+    gone = closed.others.gone;
+    gone_once = closed.others.gone_once;
     moved = closed.others.moved;
     drops = closed.others.drops;
     slotted = closed.others.slotted;
@@ -265,8 +413,33 @@ link_added before draft value closed = record {
     signed = closed.others.signed;
     documents = closed.others.documents;
     link = refl;
+    shares = closed.others.shares;
   };
   methods = subst (λ (l : Option MethodLine). HoldsMethods (Link value ∷ before) l (record draft { link = Some value })) (sym closed.closed) (closed.methods, refl);
+}
+
+pub shares_added : (before : List Line) (draft : Draft) → IsClosed before draft → Holds (Shares ∷ before) (record draft { shares = true })
+shares_added before draft closed = record {
+  others = record {
+    counts = closed.others.counts;
+    rows = closed.others.rows;
+    distinct = closed.others.distinct;
+    crossed = closed.others.crossed;
+    crossed_once = closed.others.crossed_once;
+    gone = closed.others.gone;
+    gone_once = closed.others.gone_once;
+    moved = closed.others.moved;
+    drops = closed.others.drops;
+    slotted = closed.others.slotted;
+    slots = closed.others.slots;
+    signatures = closed.others.signatures;
+    signed_once = closed.others.signed_once;
+    signed = closed.others.signed;
+    documents = closed.others.documents;
+    link = closed.others.link;
+    shares = refl;
+  };
+  methods = subst (λ (l : Option MethodLine). HoldsMethods (Shares ∷ before) l (record draft { shares = true })) (sym closed.closed) (closed.methods, refl);
 }
 
 -- the open method is put at the end of the others
@@ -279,6 +452,10 @@ method_closed before draft methods listed line holds is pushes marks = record {
     counts = holds.others.counts;
     rows = holds.others.rows;
     distinct = holds.others.distinct;
+    crossed = holds.others.crossed;
+    crossed_once = holds.others.crossed_once;
+    gone = holds.others.gone;
+    gone_once = holds.others.gone_once;
     moved = holds.others.moved;
     drops = holds.others.drops;
     slotted = holds.others.slotted;
@@ -288,6 +465,7 @@ method_closed before draft methods listed line holds is pushes marks = record {
     signed = holds.others.signed;
     documents = holds.others.documents;
     link = holds.others.link;
+    shares = holds.others.shares;
   };
   methods = lines_now (subst (λ (m : Option MethodLine). HoldsMethods before m draft) is holds.methods);
   closed = refl;
@@ -319,6 +497,10 @@ method_added before draft m o n closed fresh = record {
     counts = closed.others.counts;
     rows = closed.others.rows;
     distinct = closed.others.distinct;
+    crossed = closed.others.crossed;
+    crossed_once = closed.others.crossed_once;
+    gone = closed.others.gone;
+    gone_once = closed.others.gone_once;
     moved = closed.others.moved;
     drops = closed.others.drops;
     slotted = closed.others.slotted;
@@ -328,6 +510,7 @@ method_added before draft m o n closed fresh = record {
     signed = closed.others.signed;
     documents = closed.others.documents;
     link = closed.others.link;
+    shares = closed.others.shares;
   };
   methods = (methods_of before, refl, closed.methods, refl, fresh);
 }
@@ -338,6 +521,10 @@ silent_added before draft holds = record {
     counts = holds.others.counts;
     rows = holds.others.rows;
     distinct = holds.others.distinct;
+    crossed = holds.others.crossed;
+    crossed_once = holds.others.crossed_once;
+    gone = holds.others.gone;
+    gone_once = holds.others.gone_once;
     moved = holds.others.moved;
     drops = holds.others.drops;
     slotted = holds.others.slotted;
@@ -347,6 +534,7 @@ silent_added before draft holds = record {
     signed = holds.others.signed;
     documents = holds.others.documents;
     link = holds.others.link;
+    shares = holds.others.shares;
   };
   methods = of draft.current holds.methods;
 }
@@ -393,6 +581,10 @@ run_added before draft line taken run result holds is added kept why =
           counts = holds.others.counts;
           rows = holds.others.rows;
           distinct = holds.others.distinct;
+          crossed = holds.others.crossed;
+          crossed_once = holds.others.crossed_once;
+          gone = holds.others.gone;
+          gone_once = holds.others.gone_once;
           moved = holds.others.moved;
           drops = holds.others.drops;
           slotted = holds.others.slotted;
@@ -402,6 +594,7 @@ run_added before draft line taken run result holds is added kept why =
           signed = holds.others.signed;
           documents = holds.others.documents;
           link = holds.others.link;
+          shares = holds.others.shares;
         };
         methods = (h.0, rw (h.1, added) refl, h.2, h.3, rw added h.4);
       },

@@ -105,14 +105,16 @@ more_than_one (Some rest) last word cut some =
     let f : length (parts_at 32 rest.now) ≡ suc (length part.1.0) = ap length part.1.1 in
     omega (arith, e, f)
 
--- more words than four
-pub many_words : (r : Option (Bor (List ℕ))) (line a b c d r1 r2 r3 : List ℕ)
+-- more words than five
+pub many_words : (r : Option (Bor (List ℕ))) (line a b c d e r1 r2 r3 r4 : List ℕ)
     → parts_at 32 line ≡ a ∷ parts_at 32 r1 → parts_at 32 r1 ≡ b ∷ parts_at 32 r2 → parts_at 32 r2 ≡ c ∷ parts_at 32 r3
-    → MatchOption r ((d ≡ r3) × (parts_at 32 r3 ≡ d ∷ [])) (λ rest. (parts_at 32 r3 ≡ d ∷ parts_at 32 rest.now) × (length rest.now < length r3))
-    → is_some r ≡ true → 4 < length (parts_at 32 line)
-many_words r line a b c d r1 r2 r3 one two three four some =
-    let h = more_than_one r r3 d four some in
-    let e : length (parts_at 32 line) ≡ suc (length (parts_at 32 r1)) = ap length one in
-    let f : length (parts_at 32 r1) ≡ suc (length (parts_at 32 r2)) = ap length two in
-    let g : length (parts_at 32 r2) ≡ suc (length (parts_at 32 r3)) = ap length three in
-    omega (arith, h, e, f, g)
+    → parts_at 32 r3 ≡ d ∷ parts_at 32 r4
+    → MatchOption r ((e ≡ r4) × (parts_at 32 r4 ≡ e ∷ [])) (λ rest. (parts_at 32 r4 ≡ e ∷ parts_at 32 rest.now) × (length rest.now < length r4))
+    → is_some r ≡ true → 5 < length (parts_at 32 line)
+many_words r line a b c d e r1 r2 r3 r4 one two three four five some =
+    let h = more_than_one r r4 e five some in
+    let i : length (parts_at 32 line) ≡ suc (length (parts_at 32 r1)) = ap length one in
+    let j : length (parts_at 32 r1) ≡ suc (length (parts_at 32 r2)) = ap length two in
+    let k : length (parts_at 32 r2) ≡ suc (length (parts_at 32 r3)) = ap length three in
+    let l : length (parts_at 32 r3) ≡ suc (length (parts_at 32 r4)) = ap length four in
+    omega (arith, h, i, j, k, l)

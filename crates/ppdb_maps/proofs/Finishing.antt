@@ -12,14 +12,16 @@ use Rattle.std.specs.BTreeMap.{BTreeMap, is_at, IsOrdered, get, get_by}
 use Rattle.std.specs.BTreeSet as sorted
 use Rattle.std.proofs.lemmas.Bool.Decides.{nat_tests}
 use Rattle.std.proofs.lemmas.Cmp.{nat_cmp_total, nat_eq_equiv}
+use Rattle.std.proofs.lemmas.List.Sorted.{list_any-IsPermutation}
 use Rattle.std.proofs.lemmas.Map.Lookups.{exact_unsigned}
 use Rattle.std.proofs.lemmas.Map.Views.{exact_unsigned_eq}
 use Rattle.ppdb_maps.specs.Map.{Map, MethodLine, Ascends, pair_cmp}
-use Rattle.ppdb_maps.specs.Gathered.{count_entry, row_key, method_key, signature_key, same_pair, slot_entry, name_entry, name_cmp}
+use Rattle.ppdb_maps.specs.Gathered.{count_entry, row_key, cross_key, gone_key, method_key, signature_key, same_pair, slot_entry, name_entry, name_cmp}
 use Rattle.ppdb_maps.specs.Drafts.{IsClosed}
 use Rattle.ppdb_maps.specs.Text.{HoldsWhat}
 use Rattle.ppdb_maps.specs.declared.entries.Count.{Count}
 use Rattle.ppdb_maps.specs.declared.entries.RowLine.{RowLine}
+use Rattle.ppdb_maps.specs.declared.entries.GoneLine.{GoneLine}
 use Rattle.ppdb_maps.specs.declared.entries.SlotImage.{SlotImage}
 use Rattle.ppdb_maps.specs.declared.entries.SignatureImage.{SignatureImage}
 use Rattle.ppdb_maps.specs.declared.entries.NameLine.{NameLine}
@@ -89,6 +91,8 @@ found_at_number (l ∷ ls) m line is = of (nat_eq l.method m) refl (found_at_num
 pub record MadeOf (draft : Draft) (made : Map) : Type 0 where
   pub counts : made.counts ≡ map count_entry draft.counts.entries
   pub rows : IsPermutation draft.rows.items made.rows
+  pub crossed : IsPermutation draft.crossed.items made.crossed
+  pub gone : IsPermutation draft.gone.items made.gone
   pub methods : IsPermutation draft.methods.items made.methods
   pub drops : made.drops ≡ draft.drops.keys
   pub slotted : made.slotted ≡ draft.slotted.keys
@@ -96,8 +100,11 @@ pub record MadeOf (draft : Draft) (made : Map) : Type 0 where
   pub signatures : IsPermutation draft.signatures.items made.signatures
   pub documents : made.documents ≡ map name_entry draft.documents.entries
   pub link : made.link ≡ draft.link
+  pub shares : made.shares ≡ draft.shares
   pub counts_ordered : IsOrdered nat_cmp draft.counts
   pub rows_ordered : IsSortedByKey row_key pair_cmp made.rows
+  pub crossed_ordered : IsSortedByKey cross_key pair_cmp made.crossed
+  pub gone_ordered : IsSortedByKey gone_key pair_cmp made.gone
   pub methods_ordered : IsSortedByKey method_key nat_cmp made.methods
   pub drops_ordered : sorted.IsOrdered nat_cmp draft.drops
   pub slotted_ordered : sorted.IsOrdered nat_cmp draft.slotted
@@ -109,6 +116,17 @@ rows_ascend : (before : List Line) (draft : Draft) (made : Map) → IsClosed bef
     → IsStrictlySortedBy pair_cmp (map row_key made.rows)
 rows_ascend before draft made closed h =
     sorts_strictly row_key same_pair pair_cmp pair_equal pair_is pair_total pair_exact draft.rows.items made.rows closed.others.distinct h.rows h.rows_ordered
+
+crossed_ascend : (before : List Line) (draft : Draft) (made : Map) → IsClosed before draft → MadeOf draft made
+    → IsStrictlySortedBy pair_cmp (map cross_key made.crossed)
+crossed_ascend before draft made closed h =
+    sorts_strictly cross_key same_pair pair_cmp pair_equal pair_is pair_total pair_exact draft.crossed.items made.crossed closed.others.crossed_once h.crossed
+    h.crossed_ordered
+
+gone_ascend : (before : List Line) (draft : Draft) (made : Map) → IsClosed before draft → MadeOf draft made
+    → IsStrictlySortedBy pair_cmp (map gone_key made.gone)
+gone_ascend before draft made closed h =
+    sorts_strictly gone_key same_pair pair_cmp pair_equal pair_is pair_total pair_exact draft.gone.items made.gone closed.others.gone_once h.gone h.gone_ordered
 
 methods_ascend : (before : List Line) (draft : Draft) (made : Map) → IsClosed before draft → MadeOf draft made
     → IsStrictlySortedBy nat_cmp (map method_key made.methods)
@@ -138,6 +156,8 @@ pub made_ascends : (before : List Line) (draft : Draft) (made : Map) → IsClose
 made_ascends before draft made closed h = record {
   counts = rw (h.counts, same_keys count_entry (λ (c : Count). c.table) (λ e. refl) draft.counts.entries) h.counts_ordered;
   rows = rows_ascend before draft made closed h;
+  crossed = crossed_ascend before draft made closed h;
+  gone = gone_ascend before draft made closed h;
   methods = methods_ascend before draft made closed h;
   drops = rw h.drops h.drops_ordered;
   slotted = rw h.slotted h.slotted_ordered;
@@ -154,6 +174,13 @@ made_holds before draft made closed h = record {
       (found_alike row_key same_pair pair_cmp pair_equal pair_is pair_total pair_exact draft.rows.items made.rows h.rows
       (rows_ascend before draft made closed h) (table, old))
       ∙ closed.others.rows table old;
+  crossed = λ table old.
+      found_alike cross_key same_pair pair_cmp pair_equal pair_is pair_total pair_exact draft.crossed.items made.crossed h.crossed
+      (crossed_ascend before draft made closed h) (table, old)
+      ∙ closed.others.crossed table old;
+  gone = λ table old.
+      sym (list_any-IsPermutation (λ (r : GoneLine). nat_eq r.table table && nat_eq r.old old) draft.gone.items made.gone h.gone)
+      ∙ closed.others.gone table old;
   methods = λ method.
       found_alike method_key nat_eq nat_cmp nat_eq_equiv same_number nat_cmp_total exact_unsigned draft.methods.items made.methods h.methods
       (methods_ascend before draft made closed h) method
@@ -168,5 +195,6 @@ made_holds before draft made closed h = record {
       ∙ closed.others.signatures method;
   documents = λ name. rw h.documents (documents_found draft.documents name ∙ closed.others.documents name);
   link = h.link ∙ closed.others.link;
+  shares = h.shares ∙ closed.others.shares;
   ascends = made_ascends before draft made closed h;
 }

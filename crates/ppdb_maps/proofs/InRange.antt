@@ -1,25 +1,27 @@
 -- What lines that break no rule say is in range and fits together.
-use Rattle.std.proofs.Common.{inl, inr, ◌⊎◌, ℕ, ◌≡◌, ◌<◌, ◌≤◌, ◌++◌, ◌&&◌, Bool, true, false, cond, List, [], ◌∷◌, Option, Some, None, refl, sym, ap, ◌∙◌}
-use Rattle.std.proofs.Common.{subst, arith}
+use Rattle.std.proofs.Common.{inl, inr, ◌⊎◌, ℕ, ◌≡◌, ◌<◌, ◌≤◌, ◌++◌, ◌&&◌, ◌||◌, Bool, true, false, cond, List, [], ◌∷◌, Option, Some, None, refl, sym, ap, ◌∙◌}
+use Rattle.std.proofs.Common.{subst, arith, ◌≢◌}
 use Rattle.std.specs.Prelude.{nat_eq, bytes_eq, is_some}
 use Rattle.std.specs.List.{find}
-use Rattle.std.proofs.lemmas.Bool.{false≢true, eqb-true, and_parts}
+use Rattle.std.proofs.lemmas.Bool.{false≢true, eqb-true, and_parts, or_left, or_right}
 use Rattle.ppdb_base.specs.declared.offsets.Run.{Run}
 use Rattle.ppdb_base.specs.Offsets.{Rise, lined}
-use Rattle.ppdb_maps.specs.Before.{count_in, row_in, method_in, methods_of, with_run, drop_in, slots_in, slot_in, signature_in, document_in, link_in}
+use Rattle.ppdb_maps.specs.Before.{count_in, row_in, cross_in, gone_in, has_image_in, method_in, methods_of, with_run, drop_in, slots_in, slot_in, signature_in, document_in}
+use Rattle.ppdb_maps.specs.Before.{link_in}
 use Rattle.ppdb_maps.specs.Forms.{AreBytes, ROWS, OFFSETS, SLOTS, Values, Tells, silent, told, rows_line, row_line, method_line, run_line, drop_line, slots_line}
-use Rattle.ppdb_maps.specs.Forms.{slot_line, signature_line, document_line, link_line}
+use Rattle.ppdb_maps.specs.Forms.{slot_line, signature_line, document_line, link_line, cross_line, gone_line, shares_line, Crosses}
 use Rattle.ppdb_maps.specs.Map.{MethodLine}
 use Rattle.ppdb_maps.specs.Readable.{IsRow}
 use Rattle.ppdb_maps.specs.Rules.{Breaks, row_alone, slot_alone, run_early, run_long, drop_named, dropped_method, dropped_row, dropped_slots, dropped_signature}
-use Rattle.ppdb_maps.specs.Rules.{by_lines}
+use Rattle.ppdb_maps.specs.Rules.{by_lines, second_row, second_cross, second_gone, cross_alone, gone_alone}
 use Rattle.ppdb_maps.specs.Text.{Read, start, further}
 use Rattle.ppdb_maps.specs.declared.line.Form.{Form}
 use Rattle.ppdb_maps.specs.declared.line.Line.{Line}
-use Rattle.ppdb_maps.specs.declared.line.Line.TheVariants.{Silent, Rows, Row, Method, Kept, Dropped, Slots, Slot, Signature, Document, Link}
+use Rattle.ppdb_maps.specs.declared.line.Line.TheVariants.{Silent, Rows, Row, Cross, Gone, Method, Kept, Dropped, Slots, Slot, Signature, Document, Link, Shares}
+use Rattle.ppdb_maps.specs.declared.entries.CrossLine.{CrossLine}
 use Rattle.ppdb_maps.specs.declared.entries.NameLine.{NameLine}
 use Rattle.ppdb_maps.specs.declared.rule.Rule.{Rule}
-use Rattle.ppdb_maps.specs.declared.rule.Rule.TheVariants.{Undeclared, Overlap, Beyond, NamesDropped}
+use Rattle.ppdb_maps.specs.declared.rule.Rule.TheVariants.{Repeated, Undeclared, Overlap, Beyond, NamesDropped}
 use Rattle.ppdb_maps.proofs.Finishing.{found_at_number}
 use Rattle.ppdb_maps.proofs.Named.{same_bytes}
 use Rattle.ppdb_maps.proofs.Rising.{rise_with, not_less}
@@ -29,6 +31,8 @@ abbrev InRange : Line → Type 0
 InRange Silent = Unit {0}
 InRange (Rows t n) = (t ≤ 0x2c) × (n ≤ ROWS)
 InRange (Row t o n) = IsRow o × IsRow n
+InRange (Cross line) = IsRow line.old × IsRow line.new × Crosses line
+InRange (Gone t o) = IsRow o × (t ≢ 0x06)
 InRange (Method m o n) = IsRow m × (o ≤ OFFSETS) × (n ≤ OFFSETS)
 InRange (Kept run) = 0 < run.length
 InRange (Dropped m) = IsRow m
@@ -37,10 +41,13 @@ InRange (Slot m o n) = (o ≤ SLOTS) × (n ≤ SLOTS)
 InRange (Signature m n) = IsRow m × (n ≤ ROWS)
 InRange (Document d) = AreBytes d.old × AreBytes d.new
 InRange (Link value) = AreBytes value
+InRange Shares = Unit {0}
 
 values_range : (form : Form) (values : List (List ℕ)) (line : Line) → Values form values line → InRange line
 values_range form values line (rows_line a b) = (a.known, b.to)
 values_range form values line (row_line a b d) = ((b.from, b.to), (d.from, d.to))
+values_range form values line (cross_line a b d e f) = ((b.from, b.to), (e.from, e.to), f)
+values_range form values line (gone_line a b d) = ((d.from, d.to), b)
 values_range form values line (method_line a b d) = ((a.from, a.to), b.to, d.to)
 values_range form values line (run_line a b d) = d.from
 values_range form values line (drop_line a) = (a.from, a.to)
@@ -49,6 +56,7 @@ values_range form values line (slot_line a b d) = (b.to, d.to)
 values_range form values line (signature_line a b) = ((a.from, a.to), b.to)
 values_range form values line (document_line a b) = (a.within, b.within)
 values_range form values line (link_line a) = a.within
+values_range form values line shares_line = tt
 
 tells_range : (version : ℕ) (text : List ℕ) (line : Line) → Tells version text line → InRange line
 tells_range version text line (silent h) = tt
@@ -64,6 +72,10 @@ FitsLine said line =
 pub record Fits (said : List Line) : Type 0 where
   pub counts : (t n : ℕ) → count_in said t ≡ Some n → (t ≤ 0x2c) × (n ≤ ROWS)
   pub rows : (t o n : ℕ) → row_in said t o ≡ Some n → IsRow o × IsRow n × (is_some (count_in said t) ≡ true) × (t ≡ 0x06 → drop_in said o ≡ false)
+  pub crossed : (t o : ℕ) (line : CrossLine) → cross_in said t o ≡ Some line
+      → IsRow o × IsRow line.new × Crosses line × (is_some (count_in said t) ≡ true) × (row_in said t o ≡ None)
+  pub gone : (t o : ℕ) → gone_in said t o ≡ true
+      → IsRow o × (t ≢ 0x06) × (is_some (count_in said t) ≡ true) × (row_in said t o ≡ None) × (cross_in said t o ≡ None)
   pub methods : (m : ℕ) (line : MethodLine) → method_in said m ≡ Some line → FitsLine said line
   pub drops : (m : ℕ) → drop_in said m ≡ true → IsRow m
   pub slotted : (m : ℕ) → slots_in said m ≡ true → IsRow m × (drop_in said m ≡ false)
@@ -108,6 +120,32 @@ not_none (Some x) never = refl
 there : {A : Type 0} (o : Option A) (x : A) → o ≡ Some x → is_some o ≡ true
 there o x is = ap is_some is
 
+still_none : {A : Type 0} (b : Bool) (x : A) (o : Option A) → (b ≡ true → ⊥) → o ≡ None → cond b (Some x) o ≡ None
+still_none true x o never is = absurd (never refl)
+still_none false x o never is = is
+
+none_there : {A : Type 0} (o : Option A) → (is_some o ≡ true → ⊥) → o ≡ None
+none_there None never = refl
+none_there (Some x) never = absurd (never refl)
+
+-- a row with a line has an image
+image_row : (before : List Line) (t o : ℕ) → is_some (row_in before t o) ≡ true → has_image_in before t o ≡ true
+image_row before t o is = or_left (is_some (row_in before t o)) (is_some (cross_in before t o) || gone_in before t o) is
+
+image_cross : (before : List Line) (t o : ℕ) → is_some (cross_in before t o) ≡ true → has_image_in before t o ≡ true
+image_cross before t o is = or_right (is_some (row_in before t o)) (is_some (cross_in before t o) || gone_in before t o)
+    (or_left (is_some (cross_in before t o)) (gone_in before t o) is)
+
+image_gone : (before : List Line) (t o : ℕ) → gone_in before t o ≡ true → has_image_in before t o ≡ true
+image_gone before t o is = or_right (is_some (row_in before t o)) (is_some (cross_in before t o) || gone_in before t o)
+    (or_right (is_some (cross_in before t o)) (gone_in before t o) is)
+
+-- what a row has, the same row has
+at_pair_there : (before : List Line) (t o k j : ℕ) → (nat_eq t k && nat_eq o j) ≡ true → has_image_in before k j ≡ true → has_image_in before t o ≡ true
+at_pair_there before t o k j hit image =
+    let parts = and_parts (nat_eq t k) (nat_eq o j) hit in
+    subst (λ x. has_image_in before x o ≡ true) (sym (eqb-true t k parts.0)) (subst (λ x. has_image_in before k x ≡ true) (sym (eqb-true o j parts.1)) image)
+
 -- no line before breaks a rule by this one
 abbrev KeepsAll : List Line → Line → Type 0
 KeepsAll before line = (rule : Rule) → Breaks before rule line → ⊥
@@ -116,6 +154,8 @@ fits_silent : (before : List Line) → Fits before → Fits (Silent ∷ before)
 fits_silent before fits = record {
   counts = fits.counts;
   rows = fits.rows;
+  crossed = fits.crossed;
+  gone = fits.gone;
   methods = fits.methods;
   drops = fits.drops;
   slotted = fits.slotted;
@@ -132,6 +172,8 @@ fits_rows before t n fits range = record {
     | inr (miss, rest) ↦ fits.counts k m rest
   ];
   rows = λ k o m is. let h = fits.rows k o m is in (h.0, h.1, still_some (nat_eq t k) n (count_in before k) h.2, h.3);
+  crossed = λ k o line is. let h = fits.crossed k o line is in (h.0, h.1, h.2, still_some (nat_eq t k) n (count_in before k) h.3, h.4);
+  gone = λ k o is. let h = fits.gone k o is in (h.0, h.1, still_some (nat_eq t k) n (count_in before k) h.2, h.3, h.4);
   methods = fits.methods;
   drops = fits.drops;
   slotted = fits.slotted;
@@ -156,6 +198,12 @@ fits_row before t o n fits range keeps = record {
         )
     | inr (miss, rest) ↦ fits.rows k j m rest
   ];
+  crossed = λ k j line is.
+      let h = fits.crossed k j line is in
+      (h.0, h.1, h.2, h.3, still_none (nat_eq t k && nat_eq o j) n (row_in before k j) (λ hit. alone k j hit (image_cross before k j (there _ line is))) h.4);
+  gone = λ k j is.
+      let h = fits.gone k j is in
+      (h.0, h.1, h.2, still_none (nat_eq t k && nat_eq o j) n (row_in before k j) (λ hit. alone k j hit (image_gone before k j is)) h.3, h.4);
   methods = fits.methods;
   drops = fits.drops;
   slotted = fits.slotted;
@@ -164,11 +212,81 @@ fits_row before t o n fits range keeps = record {
   documents = fits.documents;
   link = fits.link;
 }
+  where
+    alone : (k j : ℕ) → (nat_eq t k && nat_eq o j) ≡ true → has_image_in before k j ≡ true → ⊥
+    alone k j hit image = keeps Repeated (second_row (at_pair_there before t o k j hit image))
+
+fits_cross : (before : List Line) (line : CrossLine) → Fits before → InRange (Cross line) → KeepsAll before (Cross line) → Fits (Cross line ∷ before)
+fits_cross before line fits range keeps = record {
+  counts = fits.counts;
+  rows = fits.rows;
+  crossed = λ k j other is. elim (answer_from (nat_eq line.table k && nat_eq line.old j) line other (cross_in before k j) is) [
+    | inl (hit, same) ↦
+        let parts = and_parts (nat_eq line.table k) (nat_eq line.old j) hit in (
+          subst IsRow (eqb-true line.old j parts.1) range.0,
+          subst (λ (l : CrossLine). IsRow l.new) same range.1,
+          subst Crosses same range.2,
+          subst (λ x. is_some (count_in before x) ≡ true) (eqb-true line.table k parts.0)
+              (not_none (count_in before line.table) (λ none. keeps Undeclared (cross_alone none))),
+          none_there (row_in before k j) (λ some. alone k j hit (image_row before k j some)),
+        )
+    | inr (miss, rest) ↦ fits.crossed k j other rest
+  ];
+  gone = λ k j is.
+      let h = fits.gone k j is in (
+        h.0,
+        h.1,
+        h.2,
+        h.3,
+        still_none (nat_eq line.table k && nat_eq line.old j) line (cross_in before k j) (λ hit. alone k j hit (image_gone before k j is)) h.4,
+      );
+  methods = fits.methods;
+  drops = fits.drops;
+  slotted = fits.slotted;
+  slots = fits.slots;
+  signatures = fits.signatures;
+  documents = fits.documents;
+  link = fits.link;
+}
+  where
+    alone : (k j : ℕ) → (nat_eq line.table k && nat_eq line.old j) ≡ true → has_image_in before k j ≡ true → ⊥
+    alone k j hit image = keeps Repeated (second_cross (at_pair_there before line.table line.old k j hit image))
+
+fits_gone : (before : List Line) (t o : ℕ) → Fits before → InRange (Gone t o) → KeepsAll before (Gone t o) → Fits (Gone t o ∷ before)
+fits_gone before t o fits range keeps = record {
+  counts = fits.counts;
+  rows = fits.rows;
+  crossed = fits.crossed;
+  gone = λ k j is. elim (true_from (nat_eq t k && nat_eq o j) (gone_in before k j) is) [
+    | inl hit ↦
+        let parts = and_parts (nat_eq t k) (nat_eq o j) hit in
+        let tables : t ≡ k = eqb-true t k parts.0 in (
+          subst IsRow (eqb-true o j parts.1) range.0,
+          subst (λ x. x ≢ 0x06) tables range.1,
+          subst (λ x. is_some (count_in before x) ≡ true) tables (not_none (count_in before t) (λ none. keeps Undeclared (gone_alone none))),
+          none_there (row_in before k j) (λ some. alone k j hit (image_row before k j some)),
+          none_there (cross_in before k j) (λ some. alone k j hit (image_cross before k j some)),
+        )
+    | inr rest ↦ fits.gone k j rest
+  ];
+  methods = fits.methods;
+  drops = fits.drops;
+  slotted = fits.slotted;
+  slots = fits.slots;
+  signatures = fits.signatures;
+  documents = fits.documents;
+  link = fits.link;
+}
+  where
+    alone : (k j : ℕ) → (nat_eq t k && nat_eq o j) ≡ true → has_image_in before k j ≡ true → ⊥
+    alone k j hit image = keeps Repeated (second_gone (at_pair_there before t o k j hit image))
 
 fits_method : (before : List Line) (m o n : ℕ) → Fits before → InRange (Method m o n) → KeepsAll before (Method m o n) → Fits (Method m o n ∷ before)
 fits_method before m o n fits range keeps = record {
   counts = fits.counts;
   rows = fits.rows;
+  crossed = fits.crossed;
+  gone = fits.gone;
   methods = λ k line is. elim (answer_from (nat_eq m k) (record { method = m; old_size = o; new_size = n; runs = [] }) line (method_in before k) is) [
     | inl (hit, same) ↦
         subst (λ l. FitsLine before l) same
@@ -187,6 +305,8 @@ fits_kept : (before : List Line) (run : Run) → Fits before → InRange (Kept r
 fits_kept before run fits range keeps = record {
   counts = fits.counts;
   rows = fits.rows;
+  crossed = fits.crossed;
+  gone = fits.gone;
   methods = λ k line is. of k line (methods_of before) refl is;
   drops = fits.drops;
   slotted = fits.slotted;
@@ -224,6 +344,8 @@ fits_drop before m fits range keeps = record {
   rows = λ t o n is.
       let h = fits.rows t o n is in
       (h.0, h.1, h.2, λ six. still_false (nat_eq m o) (drop_in before o) (λ hit. no_row t o n six (eqb-true m o hit) is) (h.3 six));
+  crossed = fits.crossed;
+  gone = fits.gone;
   methods = λ k line is.
       let h = fits.methods k line is in
       (h.0, h.1, h.2, h.3, still_false (nat_eq m line.method) (drop_in before line.method) (λ hit. no_method k line (eqb-true m line.method hit) is) h.4);
@@ -240,7 +362,8 @@ fits_drop before m fits range keeps = record {
     no_row : (t o n : ℕ) → t ≡ 0x06 → m ≡ o → row_in before t o ≡ Some n → ⊥
     no_row t o n six same is =
         keeps NamesDropped (drop_named
-        (inr (inl (subst (λ x. is_some (row_in before 0x06 x) ≡ true) (sym same) (subst (λ x. is_some (row_in before x o) ≡ true) six (there _ n is))))))
+        (inr (inl (subst (λ x. has_image_in before 0x06 x ≡ true) (sym same)
+        (subst (λ x. has_image_in before x o ≡ true) six (image_row before t o (there _ n is)))))))
 
     no_method : (k : ℕ) (line : MethodLine) → m ≡ line.method → method_in before k ≡ Some line → ⊥
     no_method k line same is =
@@ -258,6 +381,8 @@ fits_slots : (before : List Line) (m : ℕ) → Fits before → InRange (Slots m
 fits_slots before m fits range keeps = record {
   counts = fits.counts;
   rows = fits.rows;
+  crossed = fits.crossed;
+  gone = fits.gone;
   methods = fits.methods;
   drops = fits.drops;
   slotted = λ k is. elim (true_from (nat_eq m k) (slots_in before k) is) [
@@ -276,6 +401,8 @@ fits_slot : (before : List Line) (m o n : ℕ) → Fits before → InRange (Slot
 fits_slot before m o n fits range keeps = record {
   counts = fits.counts;
   rows = fits.rows;
+  crossed = fits.crossed;
+  gone = fits.gone;
   methods = fits.methods;
   drops = fits.drops;
   slotted = fits.slotted;
@@ -297,6 +424,8 @@ fits_signature : (before : List Line) (m n : ℕ) → Fits before → InRange (S
 fits_signature before m n fits range keeps = record {
   counts = fits.counts;
   rows = fits.rows;
+  crossed = fits.crossed;
+  gone = fits.gone;
   methods = fits.methods;
   drops = fits.drops;
   slotted = fits.slotted;
@@ -318,6 +447,8 @@ fits_document : (before : List Line) (d : NameLine) → Fits before → InRange 
 fits_document before d fits range = record {
   counts = fits.counts;
   rows = fits.rows;
+  crossed = fits.crossed;
+  gone = fits.gone;
   methods = fits.methods;
   drops = fits.drops;
   slotted = fits.slotted;
@@ -334,6 +465,8 @@ fits_link : (before : List Line) (value : List ℕ) → Fits before → InRange 
 fits_link before value fits range = record {
   counts = fits.counts;
   rows = fits.rows;
+  crossed = fits.crossed;
+  gone = fits.gone;
   methods = fits.methods;
   drops = fits.drops;
   slotted = fits.slotted;
@@ -343,10 +476,27 @@ fits_link before value fits range = record {
   link = λ other is. let e : value ≡ other = cc in subst AreBytes e range;
 }
 
+fits_shares : (before : List Line) → Fits before → Fits (Shares ∷ before)
+fits_shares before fits = record {
+  counts = fits.counts;
+  rows = fits.rows;
+  crossed = fits.crossed;
+  gone = fits.gone;
+  methods = fits.methods;
+  drops = fits.drops;
+  slotted = fits.slotted;
+  slots = fits.slots;
+  signatures = fits.signatures;
+  documents = fits.documents;
+  link = fits.link;
+}
+
 fits_line : (before : List Line) (line : Line) → Fits before → InRange line → KeepsAll before line → Fits (line ∷ before)
 fits_line before Silent fits range keeps = fits_silent before fits
 fits_line before (Rows t n) fits range keeps = fits_rows before t n fits range
 fits_line before (Row t o n) fits range keeps = fits_row before t o n fits range keeps
+fits_line before (Cross line) fits range keeps = fits_cross before line fits range keeps
+fits_line before (Gone t o) fits range keeps = fits_gone before t o fits range keeps
 fits_line before (Method m o n) fits range keeps = fits_method before m o n fits range keeps
 fits_line before (Kept run) fits range keeps = fits_kept before run fits range keeps
 fits_line before (Dropped m) fits range keeps = fits_drop before m fits range keeps
@@ -355,12 +505,15 @@ fits_line before (Slot m o n) fits range keeps = fits_slot before m o n fits ran
 fits_line before (Signature m n) fits range keeps = fits_signature before m n fits range keeps
 fits_line before (Document d) fits range keeps = fits_document before d fits range
 fits_line before (Link value) fits range keeps = fits_link before value fits range
+fits_line before Shares fits range keeps = fits_shares before fits
 
 -- lines that were read fit together
 pub read_fits : (version : ℕ) (texts : List (List ℕ)) (said : List Line) → Read version texts said → Fits said
 read_fits version texts said start = record {
   counts = λ t n is. absurd (cc);
   rows = λ t o n is. absurd (cc);
+  crossed = λ t o line is. absurd (cc);
+  gone = λ t o is. absurd (false≢true is);
   methods = λ m line is. absurd (cc);
   drops = λ m is. absurd (false≢true is);
   slotted = λ m is. absurd (false≢true is);

@@ -4,7 +4,7 @@ use Rattle.std.proofs.Common.{subst, arith}
 use Rattle.std.specs.Prelude.{MatchResult}
 use Rattle.std.specs.Str.Lines.{lines}
 use Rattle.ppdb_maps.specs.Forms.{Tells, Values, silent, told, run_line, rows_line, row_line, method_line, drop_line, slots_line, slot_line, signature_line, IsHead}
-use Rattle.ppdb_maps.specs.Forms.{document_line, link_line}
+use Rattle.ppdb_maps.specs.Forms.{document_line, link_line, cross_line, gone_line, shares_line}
 use Rattle.ppdb_maps.specs.Cuts.{IsLineOf}
 use Rattle.ppdb_maps.specs.Rules.{by_lines}
 use Rattle.ppdb_maps.specs.Text.{Read, start, further, Refused, at_line, at_head}
@@ -32,6 +32,9 @@ values_length form values line (slot_line a b d) = tt
 values_length form values line (signature_line a b) = tt
 values_length form values line (document_line a b) = tt
 values_length form values line (link_line a) = tt
+values_length form values line (cross_line a b d e f) = tt
+values_length form values line (gone_line a b d) = tt
+values_length form values line shares_line = tt
 
 pub tells_length : (version : ℕ) (text : List ℕ) (line : Line) → Tells version text line → HasLength line
 tells_length version text line (silent h) = tt

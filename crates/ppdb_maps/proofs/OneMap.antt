@@ -1,5 +1,5 @@
 -- A text has one map: its lines say one thing, and a map that holds it is one.
-use Rattle.std.proofs.Common.{◌≡◌, ℕ, ◌+◌, ◌⊎◌, ◌&&◌, ◌++◌, Bool, true, false, cond, List, [], ◌∷◌, Option, Some, None, refl, sym, ◌∙◌, ap, arith, inl, inr, map, subst}
+use Rattle.std.proofs.Common.{◌≡◌, ℕ, ◌+◌, ◌⊎◌, ◌&&◌, ◌||◌, ◌++◌, Bool, true, false, cond, List, [], ◌∷◌, Option, Some, None, refl, sym, ◌∙◌, ap, arith, inl, inr, map, subst}
 use Rattle.std.specs.Prelude.{nat_eq, bytes_eq, codes}
 use Rattle.std.specs.List.{find, list_any}
 use Rattle.std.specs.List.Sorted.{IsStrictlySortedBy}
@@ -13,6 +13,8 @@ use Rattle.std.proofs.lemmas.Cmp.{then_total, on_total, nat_cmp_total, nat_eq_eq
 use Rattle.std.proofs.lemmas.List.{append_cancel_left}
 use Rattle.ppdb_maps.specs.declared.entries.Count.{Count}
 use Rattle.ppdb_maps.specs.declared.entries.RowLine.{RowLine}
+use Rattle.ppdb_maps.specs.declared.entries.CrossLine.{CrossLine}
+use Rattle.ppdb_maps.specs.declared.entries.GoneLine.{GoneLine}
 use Rattle.ppdb_maps.specs.declared.entries.SlotImage.{SlotImage}
 use Rattle.ppdb_maps.specs.declared.entries.SignatureImage.{SignatureImage}
 use Rattle.ppdb_maps.specs.declared.entries.NameLine.{NameLine}
@@ -90,15 +92,45 @@ numbers_one xs ys a b same = one_list (λ (x : ℕ). x) nat_eq nat_cmp same_numb
     (subst (IsStrictlySortedBy nat_cmp) (sym (map_itself xs)) a) (subst (IsStrictlySortedBy nat_cmp) (sym (map_itself ys)) b)
     (λ n. number_found n xs ∙ ap (λ r. cond r (Some n) None) (same n) ∙ sym (number_found n ys))
 
+-- the one item that may pass is found where one passes
+only_found : {X : Type 0} (p : X → Bool) (z : X) → ((x : X) → p x ≡ true → x ≡ z) → (xs : List X) → find p xs ≡ cond (list_any p xs) (Some z) None
+only_found p z only [] = refl
+only_found {X} p z only (x ∷ xs) = step (p x) refl (only_found p z only xs)
+  where
+    step : (b : Bool) → p x ≡ b → find p xs ≡ cond (list_any p xs) (Some z) None
+        → cond b (Some x) (find p xs) ≡ cond (b || list_any p xs) (Some z) None
+    step false miss rest = rest
+    step true hit rest = ap Some (only x hit)
+
+gone_is : (t o : ℕ) (r : GoneLine) → (nat_eq r.table t && nat_eq r.old o) ≡ true → r ≡ record { table = t; old = o }
+gone_is t o r hit =
+    let parts = and_parts (nat_eq r.table t) (nat_eq r.old o) hit in
+    let make : ℕ → ℕ → GoneLine = λ a b. record { table = a; old = b } in
+    ap (λ a. make a r.old) (eqb-true r.table t parts.0) ∙ ap (λ b. make t b) (eqb-true r.old o parts.1)
+
+gone_one : (xs ys : List GoneLine) → IsStrictlySortedBy pair_cmp (map (λ (r : GoneLine). (r.table, r.old)) xs)
+    → IsStrictlySortedBy pair_cmp (map (λ (r : GoneLine). (r.table, r.old)) ys)
+    → ((t o : ℕ) → list_any (λ (r : GoneLine). nat_eq r.table t && nat_eq r.old o) xs ≡ list_any (λ (r : GoneLine). nat_eq r.table t && nat_eq r.old o) ys)
+    → xs ≡ ys
+gone_one xs ys a b same = one_list (λ (r : GoneLine). (r.table, r.old)) same_pair pair_cmp pair_is is_pair pair_total xs ys a b
+    (λ k.
+    let p : GoneLine → Bool = λ r. nat_eq r.table k.0 && nat_eq r.old k.1 in
+    let z : GoneLine = record { table = k.0; old = k.1 } in
+    only_found p z (gone_is k.0 k.1) xs ∙ ap (λ r. cond r (Some z) None) (same k.0 k.1) ∙ sym (only_found p z (gone_is k.0 k.1) ys))
+
 -- maps of the same lists are the same
-pub maps_made : (a b : Map) → a.counts ≡ b.counts → a.rows ≡ b.rows → a.methods ≡ b.methods → a.drops ≡ b.drops → a.slotted ≡ b.slotted → a.slots ≡ b.slots
-    → a.signatures ≡ b.signatures → a.documents ≡ b.documents → a.link ≡ b.link → a ≡ b
-maps_made a b counts rows methods drops slotted slots signatures documents link =
-    ap (λ (v : List Count × List RowLine × List MethodLine × List ℕ × List ℕ × List SlotImage × List SignatureImage × List NameLine × Option (List ℕ)).
-    map_of v.0 v.1 v.2 v.3 v.4 v.5 v.6 v.7 v.8)
-    (let e : (a.counts, a.rows, a.methods, a.drops, a.slotted, a.slots, a.signatures, a.documents, a.link) ≡ (
+pub maps_made : (a b : Map) → a.counts ≡ b.counts → a.rows ≡ b.rows → a.crossed ≡ b.crossed → a.gone ≡ b.gone
+    → a.methods ≡ b.methods → a.drops ≡ b.drops → a.slotted ≡ b.slotted → a.slots ≡ b.slots
+    → a.signatures ≡ b.signatures → a.documents ≡ b.documents → a.link ≡ b.link → a.shares ≡ b.shares → a ≡ b
+maps_made a b counts rows crossed gone methods drops slotted slots signatures documents link shares =
+    ap (λ (v : List Count × List RowLine × List CrossLine × List GoneLine × List MethodLine × List ℕ × List ℕ × List SlotImage × List SignatureImage × List NameLine
+    × Option (List ℕ) × Bool).
+    map_of v.0 v.1 v.2 v.3 v.4 v.5 v.6 v.7 v.8 v.9 v.10 v.11)
+    (let e : (a.counts, a.rows, a.crossed, a.gone, a.methods, a.drops, a.slotted, a.slots, a.signatures, a.documents, a.link, a.shares) ≡ (
       b.counts,
       b.rows,
+      b.crossed,
+      b.gone,
       b.methods,
       b.drops,
       b.slotted,
@@ -106,6 +138,7 @@ maps_made a b counts rows methods drops slotted slots signatures documents link 
       b.signatures,
       b.documents,
       b.link,
+      b.shares,
     ) = cc in e)
 
 maps_same : (said : List Line) (a b : Map) → HoldsWhat said a → HoldsWhat said b → a ≡ b
@@ -121,6 +154,10 @@ maps_same said a b x y =
     ap (λ t. record { table = t; old = k.1; new = r.new }) (sym (eqb-true r.table k.0 parts.0))
     ∙ ap (λ o. record { table = r.table; old = o; new = r.new }) (sym (eqb-true r.old k.1 parts.1)))
     a.rows b.rows (x.rows k.0 k.1 ∙ sym (y.rows k.0 k.1))) in
+    let crossed : a.crossed ≡ b.crossed = one_list (λ (r : CrossLine). (r.table, r.old)) same_pair pair_cmp pair_is is_pair pair_total a.crossed b.crossed
+    x.ascends.crossed y.ascends.crossed
+    (λ k. x.crossed k.0 k.1 ∙ sym (y.crossed k.0 k.1)) in
+    let gone : a.gone ≡ b.gone = gone_one a.gone b.gone x.ascends.gone y.ascends.gone (λ t o. x.gone t o ∙ sym (y.gone t o)) in
     let methods : a.methods ≡ b.methods = one_list (λ (l : MethodLine). l.method) nat_eq nat_cmp same_number number_same nat_cmp_total a.methods b.methods
     x.ascends.methods y.ascends.methods
     (λ n. x.methods n ∙ sym (y.methods n)) in
@@ -141,7 +178,7 @@ maps_same said a b x y =
     a.documents b.documents x.ascends.documents y.ascends.documents
     (λ n. alike (λ (d : NameLine). bytes_eq d.old n) (λ (d : NameLine). d.new) (λ r. record { old = n; new = r })
     (λ d hit. ap (λ t. record { old = t; new = d.new }) (sym (same_bytes d.old n hit))) a.documents b.documents (x.documents n ∙ sym (y.documents n))) in
-    maps_made a b counts rows methods drops slotted slots signatures documents (x.link ∙ sym y.link)
+    maps_made a b counts rows crossed gone methods drops slotted slots signatures documents (x.link ∙ sym y.link) (x.shares ∙ sym y.shares)
 
 pub version_same : (head : List ℕ) (v w : ℕ) → head ≡ codes "ppdbmap " ++ (48 + v) ∷ [] → head ≡ codes "ppdbmap " ++ (48 + w) ∷ [] → v ≡ w
 version_same head v w a b =

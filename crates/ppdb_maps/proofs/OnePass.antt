@@ -1,6 +1,6 @@
--- A line of four words, apart by one space and ended by LF.
+-- A line of words that stand apart by one space, ended by LF.
 use Rattle.std.proofs.Common.{inl, inr, ℕ, zero, suc, ◌≡◌, ◌<◌, ◌≤◌, ◌+◌, ◌-◌, ◌++◌, List, [], ◌∷◌, length, take, drop, get_or, false}
-use Rattle.std.proofs.Common.{append_assoc, length-append, add-one, ◌^◌, refl, sym, ap, ◌∙◌, subst, arith}
+use Rattle.std.proofs.Common.{◌≢◌, append_assoc, length-append, add-one, ◌^◌, refl, sym, ap, ◌∙◌, subst, arith}
 use Rattle.std.specs.Prelude.{◌==◌, codes}
 use Rattle.std.specs.List.{All, AllByRecursion, slice_index}
 use Rattle.std.specs.Fmt.{decimal}
@@ -15,12 +15,14 @@ use Rattle.ppdb_base.specs.declared.offsets.Run.{Run}
 use Rattle.ppdb_maps.specs.Cuts.{IsLineOf}
 use Rattle.ppdb_maps.specs.Spelling.{MaySpell}
 use Rattle.ppdb_maps.specs.Words.{parts_at, line_words, IsSilent}
-use Rattle.ppdb_maps.specs.Forms.{told, Values, run_line, method_line, row_line, name_of, words_in, since, IsTable, IsHexDigit, OFFSETS, ROWS}
+use Rattle.ppdb_maps.specs.Forms.{told, Values, run_line, method_line, row_line, cross_line, gone_line, signature_line, Crosses, name_of, words_in, since, IsTable, IsHexDigit}
+use Rattle.ppdb_maps.specs.Forms.{OFFSETS, ROWS}
 use Rattle.ppdb_maps.specs.OnePass.{IsNumberBefore, IsRunBefore, IsLineBefore}
+use Rattle.ppdb_maps.specs.declared.entries.CrossLine.{CrossLine}
 use Rattle.ppdb_maps.specs.declared.line.Form.{Form}
-use Rattle.ppdb_maps.specs.declared.line.Form.TheVariants.{OffsetRun, MethodSizes, RowMove}
+use Rattle.ppdb_maps.specs.declared.line.Form.TheVariants.{OffsetRun, MethodSizes, RowMove, CrossMove, RowGone, MethodSignature}
 use Rattle.ppdb_maps.specs.declared.line.Line.{Line}
-use Rattle.ppdb_maps.specs.declared.line.Line.TheVariants.{Method, Row}
+use Rattle.ppdb_maps.specs.declared.line.Line.TheVariants.{Method, Row, Cross, Gone, Signature, Kept}
 use Rattle.ppdb_maps.proofs.Cutting.{line_ended, end_of_slice}
 use Rattle.ppdb_maps.proofs.Numbers.{numerals, decimal_of_digits}
 
@@ -68,16 +70,19 @@ unmarked mark low [] less from = All-nil (λ b. (b == mark) ≡ false)
 unmarked mark low (b ∷ bs) less from =
     All-cons (λ x. (x == mark) ≡ false) b bs (ne_eqb b mark (λ e. omega (arith, e, less, from.0))) (unmarked mark low bs less from.1)
 
--- a line of four words
-abbrev pub line_of : List ℕ → List ℕ → List ℕ → List ℕ → List ℕ
-line_of w a b c = w ++ 32 ∷ (a ++ 32 ∷ (b ++ 32 ∷ c))
+-- a line of these words
+abbrev pub line_of : List ℕ → List (List ℕ) → List ℕ
+line_of w [] = w
+line_of w (a ∷ words) = w ++ 32 ∷ line_of a words
 
-words_are : (w a b c : List ℕ) → From 33 w → From 33 a → From 33 b → From 33 c → line_words (line_of w a b c) ≡ w ∷ a ∷ b ∷ c ∷ []
-words_are w a b c fw fa fb fc =
-    slice_split_at (λ x. x == 32) w 32 (a ++ 32 ∷ (b ++ 32 ∷ c)) (unmarked 32 33 w (omega arith) fw) refl
-    ∙ ap (λ ps. w ∷ ps) (slice_split_at (λ x. x == 32) a 32 (b ++ 32 ∷ c) (unmarked 32 33 a (omega arith) fa) refl
-    ∙ ap (λ ps. a ∷ ps) (slice_split_at (λ x. x == 32) b 32 c (unmarked 32 33 b (omega arith) fb) refl
-    ∙ ap (λ ps. b ∷ ps) (slice_split_none (λ x. x == 32) c (unmarked 32 33 c (omega arith) fc))))
+-- each byte of each word
+abbrev EachFrom : List (List ℕ) → Type 0
+EachFrom words = AllByRecursion (From 33) words
+
+words_are : (w : List ℕ) (words : List (List ℕ)) → From 33 w → EachFrom words → line_words (line_of w words) ≡ w ∷ words
+words_are w [] fw fs = slice_split_none (λ x. x == 32) w (unmarked 32 33 w (omega arith) fw)
+words_are w (a ∷ words) fw fs =
+    slice_split_at (λ x. x == 32) w 32 (line_of a words) (unmarked 32 33 w (omega arith) fw) refl ∙ ap (λ ps. w ∷ ps) (words_are a words fs.0 fs.1)
 
 at_from : (low : ℕ) (xs : List ℕ) (i : ℕ) → From low xs → i < length xs → low ≤ slice_index xs i
 at_from low [] i from inside = absurd (omega (arith, inside))
@@ -103,23 +108,14 @@ from_33 : (xs : List ℕ) → From 33 xs → From 32 xs
 from_33 [] from = tt
 from_33 (x ∷ xs) from = (omega (arith, from.0), from_33 xs from.1)
 
-line_from : (w a b c : List ℕ) → From 33 w → From 33 a → From 33 b → From 33 c → From 32 (line_of w a b c)
-line_from w a b c fw fa fb fc =
-    from_append 32 w (32 ∷ (a ++ 32 ∷ (b ++ 32 ∷ c))) (from_33 w fw) (
-      omega arith,
-      from_append 32 a (32 ∷ (b ++ 32 ∷ c)) (from_33 a fa) (
-        omega arith,
-        from_append 32 b (32 ∷ c) (from_33 b fb) (omega arith, from_33 c fc),
-      ),
-    )
+line_from : (w : List ℕ) (words : List (List ℕ)) → From 33 w → EachFrom words → From 32 (line_of w words)
+line_from w [] fw fs = from_33 w fw
+line_from w (a ∷ words) fw fs = from_append 32 w (32 ∷ line_of a words) (from_33 w fw) (omega arith, line_from a words fs.0 fs.1)
 
--- the three numbers, each at its end
-joined : (w a b c t v1 v2 v3 rest : List ℕ) → t ≡ w ++ 32 ∷ v1 → v1 ≡ a ++ 32 ∷ v2 → v2 ≡ b ++ 32 ∷ v3 → v3 ≡ c ++ 10 ∷ rest
-    → t ≡ line_of w a b c ++ 10 ∷ rest
-joined w a b c t v1 v2 v3 rest one two three four = rw (one, two, three, four)
-    (sym (append_assoc w (32 ∷ (a ++ 32 ∷ (b ++ 32 ∷ c))) (10 ∷ rest)
-    ∙ ap (λ xs. w ++ 32 ∷ xs) (append_assoc a (32 ∷ (b ++ 32 ∷ c)) (10 ∷ rest)
-    ∙ ap (λ xs. a ++ 32 ∷ xs) (append_assoc b (32 ∷ c) (10 ∷ rest)))))
+-- a word, a space and the words after it
+joined : (w a : List ℕ) (words : List (List ℕ)) (t v rest : List ℕ) → t ≡ w ++ 32 ∷ v → v ≡ line_of a words ++ 10 ∷ rest
+    → t ≡ line_of w (a ∷ words) ++ 10 ∷ rest
+joined w a words t v rest one more = one ∙ (ap (λ x. w ++ 32 ∷ x) more ∙ sym (append_assoc w (32 ∷ line_of a words) (10 ∷ rest)))
 
 -- the word and the space before the numbers
 abbrev pub after : ℕ → List ℕ → List ℕ
@@ -135,50 +131,39 @@ run_word (x ∷ y ∷ z ∷ w ∷ rest) long a b c d =
     ap (λ n. n ∷ y ∷ z ∷ w ∷ rest) a ∙ ap (λ n. 114 ∷ n ∷ z ∷ w ∷ rest) b ∙ ap (λ n. 114 ∷ 117 ∷ n ∷ w ∷ rest) c ∙ ap (λ n. 114 ∷ 117 ∷ 110 ∷ n ∷ rest) d
     ∙ ap (λ r. codes "run " ++ r) (sym (end_of_slice 4 (x ∷ y ∷ z ∷ w ∷ rest)))
 
--- a `run` line that was read
-pub run_there : (text v1 v2 v3 rest : List ℕ) (run : Run) → text ≡ codes "run " ++ v1 → IsNumberBefore 32 v1 run.old v2 → IsNumberBefore 32 v2 run.new v3
-    → IsNumberBefore 10 v3 run.length rest → run.old ≤ OFFSETS → run.new ≤ OFFSETS → 1 ≤ run.length → run.length ≤ OFFSETS → IsRunBefore text run rest
-run_there text v1 v2 v3 rest run is old new long o n some l =
-    let fo = decimal_from 33 run.old (omega arith) old.fits in
-    let fn = decimal_from 33 run.new (omega arith) new.fits in
-    let fl = decimal_from 33 run.length (omega arith) long.fits in
-    let fw : From 33 (codes "run") = (omega arith, (omega arith, (omega arith, tt))) in
-    record {
-      line = line_of (codes "run") (decimal run.old) (decimal run.new) (decimal run.length);
-      first = line_first text (line_of (codes "run") (decimal run.old) (decimal run.new) (decimal run.length)) rest
-          (joined (codes "run") (decimal run.old) (decimal run.new) (decimal run.length) text v1 v2 v3 rest is old.spelled new.spelled long.spelled)
-          (line_from (codes "run") (decimal run.old) (decimal run.new) (decimal run.length) fw fo fn fl);
-      tells = λ version at_least. told (λ silent. omega (arith, silent)) (record {
-        form = OffsetRun;
-        has = record {
-          values = decimal run.old ∷ decimal run.new ∷ decimal run.length ∷ [];
-          named = words_are (codes "run") (decimal run.old) (decimal run.new) (decimal run.length) fw fo fn fl;
-          counted = ap length (words_are (codes "run") (decimal run.old) (decimal run.new) (decimal run.length) fw fo fn fl);
-          there = at_least;
-        };
-        values = run_line (record { spelled = refl; from = omega arith; to = o }) (record { spelled = refl; from = omega arith; to = n })
-            (record { spelled = refl; from = some; to = l });
-      });
-    }
-
--- a line of four words that says this
-line_there : (text w a b c rest : List ℕ) (form : Form) (said : Line) → text ≡ line_of w a b c ++ 10 ∷ rest → From 33 w → From 33 a → From 33 b → From 33 c
-    → w ≡ name_of form → 4 ≡ words_in form → since form ≡ 1 → (IsSilent (line_of w a b c) → ⊥) → Values form (a ∷ b ∷ c ∷ []) said
-    → IsLineBefore text said rest
-line_there text w a b c rest form said is fw fa fb fc named counted first loud values = record {
-  line = line_of w a b c;
-  first = line_first text (line_of w a b c) rest is (line_from w a b c fw fa fb fc);
+-- a line of words that says this
+line_there : (since_form : ℕ) (text w : List ℕ) (words : List (List ℕ)) (rest : List ℕ) (form : Form) (said : Line) → text ≡ line_of w words ++ 10 ∷ rest
+    → From 33 w → EachFrom words
+    → w ≡ name_of form → length (w ∷ words) ≡ words_in form → since form ≤ since_form → (IsSilent (line_of w words) → ⊥) → Values form words said
+    → IsLineBefore since_form text said rest
+line_there since_form text w words rest form said is fw fs named counted there loud values = record {
+  line = line_of w words;
+  first = line_first text (line_of w words) rest is (line_from w words fw fs);
   tells = λ version at_least. told loud (record {
     form = form;
     has = record {
-      values = a ∷ b ∷ c ∷ [];
-      named = words_are w a b c fw fa fb fc ∙ ap (λ x. x ∷ a ∷ b ∷ c ∷ []) named;
-      counted = ap length (words_are w a b c fw fa fb fc) ∙ counted;
-      there = omega (arith, first, at_least);
+      values = words;
+      named = words_are w words fw fs ∙ ap (λ x. x ∷ words) named;
+      counted = ap length (words_are w words fw fs) ∙ counted;
+      there = omega (arith, there, at_least);
     };
     values = values;
   });
 }
+
+-- a `run` line that was read
+pub run_there : (text v1 v2 v3 rest : List ℕ) (run : Run) → text ≡ codes "run " ++ v1 → IsNumberBefore 32 v1 run.old v2 → IsNumberBefore 32 v2 run.new v3
+    → IsNumberBefore 10 v3 run.length rest → run.old ≤ OFFSETS → run.new ≤ OFFSETS → 1 ≤ run.length → run.length ≤ OFFSETS → IsRunBefore text run rest
+run_there text v1 v2 v3 rest run is old new long o n some l =
+    line_there 1 text (codes "run") (decimal run.old ∷ decimal run.new ∷ decimal run.length ∷ []) rest OffsetRun (Kept run)
+    (joined (codes "run") (decimal run.old) (decimal run.new ∷ decimal run.length ∷ []) text v1 rest is
+    (joined (decimal run.old) (decimal run.new) (decimal run.length ∷ []) v1 v2 rest old.spelled
+    (joined (decimal run.new) (decimal run.length) [] v2 v3 rest new.spelled long.spelled)))
+    (omega arith, (omega arith, (omega arith, tt)))
+    (decimal_from 33 run.old (omega arith) old.fits, (decimal_from 33 run.new (omega arith) new.fits, (decimal_from 33 run.length (omega arith) long.fits, tt)))
+    refl refl (omega arith) (λ silent. omega (arith, silent))
+    (run_line (record { spelled = refl; from = omega arith; to = o }) (record { spelled = refl; from = omega arith; to = n })
+    (record { spelled = refl; from = some; to = l }))
 
 pub method_word : (text : List ℕ) → 7 ≤ length text → get_or text 0 0 ≡ 109 → get_or text 1 0 ≡ 101 → get_or text 2 0 ≡ 116 → get_or text 3 0 ≡ 104
     → get_or text 4 0 ≡ 111 → get_or text 5 0 ≡ 100 → get_or text 6 0 ≡ 32 → text ≡ codes "method " ++ after 7 text
@@ -197,13 +182,15 @@ method_word (x ∷ y ∷ z ∷ w ∷ p ∷ q ∷ r ∷ rest) long a b c d e f g 
 
 -- a `method` line that was read
 pub method_there : (text v1 v2 v3 rest : List ℕ) (m o n : ℕ) → text ≡ codes "method " ++ v1 → IsNumberBefore 32 v1 m v2 → IsNumberBefore 32 v2 o v3
-    → IsNumberBefore 10 v3 n rest → 1 ≤ m → m ≤ ROWS → o ≤ OFFSETS → n ≤ OFFSETS → IsLineBefore text (Method m o n) rest
+    → IsNumberBefore 10 v3 n rest → 1 ≤ m → m ≤ ROWS → o ≤ OFFSETS → n ≤ OFFSETS → IsLineBefore 1 text (Method m o n) rest
 method_there text v1 v2 v3 rest m o n is first second third some rows old new =
-    line_there text (codes "method") (decimal m) (decimal o) (decimal n) rest MethodSizes (Method m o n)
-    (joined (codes "method") (decimal m) (decimal o) (decimal n) text v1 v2 v3 rest is first.spelled second.spelled third.spelled)
+    line_there 1 text (codes "method") (decimal m ∷ decimal o ∷ decimal n ∷ []) rest MethodSizes (Method m o n)
+    (joined (codes "method") (decimal m) (decimal o ∷ decimal n ∷ []) text v1 rest is
+    (joined (decimal m) (decimal o) (decimal n ∷ []) v1 v2 rest first.spelled
+    (joined (decimal o) (decimal n) [] v2 v3 rest second.spelled third.spelled)))
     (omega arith, (omega arith, (omega arith, (omega arith, (omega arith, (omega arith, tt))))))
-    (decimal_from 33 m (omega arith) first.fits) (decimal_from 33 o (omega arith) second.fits) (decimal_from 33 n (omega arith) third.fits)
-    refl refl refl (λ silent. omega (arith, silent))
+    (decimal_from 33 m (omega arith) first.fits, (decimal_from 33 o (omega arith) second.fits, (decimal_from 33 n (omega arith) third.fits, tt)))
+    refl refl (omega arith) (λ silent. omega (arith, silent))
     (method_line (record { spelled = refl; from = some; to = rows }) (record { spelled = refl; from = omega arith; to = old })
     (record { spelled = refl; from = omega arith; to = new }))
 
@@ -230,11 +217,113 @@ table_from word t is = subst (From 33) (sym is.spelled) (digit_above is.c is.hig
 
 -- a `row` line that was read
 pub row_there : (text word v1 v2 rest : List ℕ) (t o n : ℕ) → text ≡ codes "row " ++ (word ++ 32 ∷ v1) → IsTable word t → IsNumberBefore 32 v1 o v2
-    → IsNumberBefore 10 v2 n rest → 1 ≤ o → o ≤ ROWS → 1 ≤ n → n ≤ ROWS → IsLineBefore text (Row t o n) rest
+    → IsNumberBefore 10 v2 n rest → 1 ≤ o → o ≤ ROWS → 1 ≤ n → n ≤ ROWS → IsLineBefore 1 text (Row t o n) rest
 row_there text word v1 v2 rest t o n is table second third old rows new most =
-    line_there text (codes "row") word (decimal o) (decimal n) rest RowMove (Row t o n)
-    (joined (codes "row") word (decimal o) (decimal n) text (word ++ 32 ∷ v1) v1 v2 rest is refl second.spelled third.spelled)
+    line_there 1 text (codes "row") (word ∷ decimal o ∷ decimal n ∷ []) rest RowMove (Row t o n)
+    (joined (codes "row") word (decimal o ∷ decimal n ∷ []) text (word ++ 32 ∷ v1) rest is
+    (joined word (decimal o) (decimal n ∷ []) (word ++ 32 ∷ v1) v1 rest refl
+    (joined (decimal o) (decimal n) [] v1 v2 rest second.spelled third.spelled)))
     (omega arith, (omega arith, (omega arith, tt)))
-    (table_from word t table) (decimal_from 33 o (omega arith) second.fits) (decimal_from 33 n (omega arith) third.fits)
-    refl refl refl (λ silent. omega (arith, silent))
+    (table_from word t table, (decimal_from 33 o (omega arith) second.fits, (decimal_from 33 n (omega arith) third.fits, tt)))
+    refl refl (omega arith) (λ silent. omega (arith, silent))
     (row_line table (record { spelled = refl; from = old; to = rows }) (record { spelled = refl; from = new; to = most }))
+
+pub table_word : (text : List ℕ) → 3 ≤ length text → get_or text 2 0 ≡ 32 → text ≡ take 2 text ++ 32 ∷ after 3 text
+table_word [] long c = absurd (omega (arith, long))
+table_word (x ∷ []) long c = absurd (omega (arith, long))
+table_word (x ∷ y ∷ []) long c = absurd (omega (arith, long))
+table_word (x ∷ y ∷ z ∷ rest) long c = ap (λ n. x ∷ y ∷ n ∷ rest) c ∙ ap (λ t. x ∷ y ∷ 32 ∷ t) (sym (end_of_slice 3 (x ∷ y ∷ z ∷ rest)))
+
+-- a `row` line of five words that was read
+pub cross_there : (text word v1 v2 other v3 rest : List ℕ) (line : CrossLine) → text ≡ codes "row " ++ (word ++ 32 ∷ v1) → IsTable word line.table
+    → IsNumberBefore 32 v1 line.old v2 → v2 ≡ other ++ 32 ∷ v3 → IsTable other line.to → IsNumberBefore 10 v3 line.new rest
+    → 1 ≤ line.old → line.old ≤ ROWS → 1 ≤ line.new → line.new ≤ ROWS → Crosses line → IsLineBefore 4 text (Cross line) rest
+cross_there text word v1 v2 other v3 rest line is table second parts to third old rows new most crosses =
+    line_there 4 text (codes "row") (word ∷ decimal line.old ∷ other ∷ decimal line.new ∷ []) rest CrossMove (Cross line)
+    (joined (codes "row") word (decimal line.old ∷ other ∷ decimal line.new ∷ []) text (word ++ 32 ∷ v1) rest is
+    (joined word (decimal line.old) (other ∷ decimal line.new ∷ []) (word ++ 32 ∷ v1) v1 rest refl
+    (joined (decimal line.old) other (decimal line.new ∷ []) v1 v2 rest second.spelled (joined other (decimal line.new) [] v2 v3 rest parts third.spelled))))
+    (omega arith, (omega arith, (omega arith, tt))) (
+      table_from word line.table table,
+      (
+        decimal_from 33 line.old (omega arith) second.fits,
+        (
+          table_from other line.to to,
+          (
+            decimal_from 33 line.new
+                (omega arith) third.fits,
+            tt,
+          ),
+        ),
+      ),
+    )
+    refl refl (omega arith) (λ silent. omega (arith, silent))
+    (cross_line table (record { spelled = refl; from = old; to = rows }) to (record { spelled = refl; from = new; to = most }) crosses)
+
+pub gone_word : (text : List ℕ) → 8 ≤ length text → get_or text 0 0 ≡ 103 → get_or text 1 0 ≡ 111 → get_or text 2 0 ≡ 110 → get_or text 3 0 ≡ 101 → get_or text 4 0 ≡ 32
+    → get_or text 7 0 ≡ 32
+    → text ≡ codes "gone " ++ (take 2 (drop 5 text) ++ 32 ∷ after 8 text)
+gone_word [] long h0 h1 h2 h3 h4 last = absurd (omega (arith, long))
+gone_word (x0 ∷ []) long h0 h1 h2 h3 h4 last = absurd (omega (arith, long))
+gone_word (x0 ∷ x1 ∷ []) long h0 h1 h2 h3 h4 last = absurd (omega (arith, long))
+gone_word (x0 ∷ x1 ∷ x2 ∷ []) long h0 h1 h2 h3 h4 last = absurd (omega (arith, long))
+gone_word (x0 ∷ x1 ∷ x2 ∷ x3 ∷ []) long h0 h1 h2 h3 h4 last = absurd (omega (arith, long))
+gone_word (x0 ∷ x1 ∷ x2 ∷ x3 ∷ x4 ∷ []) long h0 h1 h2 h3 h4 last = absurd (omega (arith, long))
+gone_word (x0 ∷ x1 ∷ x2 ∷ x3 ∷ x4 ∷ x5 ∷ []) long h0 h1 h2 h3 h4 last = absurd (omega (arith, long))
+gone_word (x0 ∷ x1 ∷ x2 ∷ x3 ∷ x4 ∷ x5 ∷ x6 ∷ []) long h0 h1 h2 h3 h4 last = absurd (omega (arith, long))
+gone_word (x0 ∷ x1 ∷ x2 ∷ x3 ∷ x4 ∷ x5 ∷ x6 ∷ x7 ∷ rest) long h0 h1 h2 h3 h4 last =
+    ap (λ n. n ∷ x1 ∷ x2 ∷ x3 ∷ x4 ∷ x5 ∷ x6 ∷ x7 ∷ rest) h0
+    ∙ ap (λ n. 103 ∷ n ∷ x2 ∷ x3 ∷ x4 ∷ x5 ∷ x6 ∷ x7 ∷ rest) h1
+    ∙ ap (λ n. 103 ∷ 111 ∷ n ∷ x3 ∷ x4 ∷ x5 ∷ x6 ∷ x7 ∷ rest) h2
+    ∙ ap (λ n. 103 ∷ 111 ∷ 110 ∷ n ∷ x4 ∷ x5 ∷ x6 ∷ x7 ∷ rest) h3
+    ∙ ap (λ n. 103 ∷ 111 ∷ 110 ∷ 101 ∷ n ∷ x5 ∷ x6 ∷ x7 ∷ rest) h4
+    ∙ ap (λ n. codes "gone " ++ (x5 ∷ x6 ∷ n ∷ rest)) last
+    ∙ ap (λ t. codes "gone " ++ (x5 ∷ x6 ∷ 32 ∷ t)) (sym (end_of_slice 8 (x0 ∷ x1 ∷ x2 ∷ x3 ∷ x4 ∷ x5 ∷ x6 ∷ x7 ∷ rest)))
+
+-- a `gone` line that was read
+pub gone_there : (text word v1 rest : List ℕ) (t o : ℕ) → text ≡ codes "gone " ++ (word ++ 32 ∷ v1) → IsTable word t → t ≢ 0x06
+    → IsNumberBefore 10 v1 o rest → 1 ≤ o → o ≤ ROWS → IsLineBefore 4 text (Gone t o) rest
+gone_there text word v1 rest t o is table other number old rows =
+    line_there 4 text (codes "gone") (word ∷ decimal o ∷ []) rest RowGone (Gone t o)
+    (joined (codes "gone") word (decimal o ∷ []) text (word ++ 32 ∷ v1) rest is (joined word (decimal o) [] (word ++ 32 ∷ v1) v1 rest refl number.spelled))
+    (omega arith, (omega arith, (omega arith, (omega arith, tt))))
+    (table_from word t table, (decimal_from 33 o (omega arith) number.fits, tt))
+    refl refl (omega arith) (λ silent. omega (arith, silent))
+    (gone_line table other (record { spelled = refl; from = old; to = rows }))
+
+pub signature_word : (text : List ℕ) → 10 ≤ length text → get_or text 0 0 ≡ 115 → get_or text 1 0 ≡ 105 → get_or text 2 0 ≡ 103 → get_or text 3 0 ≡ 110
+    → get_or text 4 0 ≡ 97 → get_or text 5 0 ≡ 116 → get_or text 6 0 ≡ 117 → get_or text 7 0 ≡ 114 → get_or text 8 0 ≡ 101 → get_or text 9 0 ≡ 32
+    → text ≡ codes "signature " ++ after 10 text
+signature_word [] long h0 h1 h2 h3 h4 h5 h6 h7 h8 h9 = absurd (omega (arith, long))
+signature_word (x0 ∷ []) long h0 h1 h2 h3 h4 h5 h6 h7 h8 h9 = absurd (omega (arith, long))
+signature_word (x0 ∷ x1 ∷ []) long h0 h1 h2 h3 h4 h5 h6 h7 h8 h9 = absurd (omega (arith, long))
+signature_word (x0 ∷ x1 ∷ x2 ∷ []) long h0 h1 h2 h3 h4 h5 h6 h7 h8 h9 = absurd (omega (arith, long))
+signature_word (x0 ∷ x1 ∷ x2 ∷ x3 ∷ []) long h0 h1 h2 h3 h4 h5 h6 h7 h8 h9 = absurd (omega (arith, long))
+signature_word (x0 ∷ x1 ∷ x2 ∷ x3 ∷ x4 ∷ []) long h0 h1 h2 h3 h4 h5 h6 h7 h8 h9 = absurd (omega (arith, long))
+signature_word (x0 ∷ x1 ∷ x2 ∷ x3 ∷ x4 ∷ x5 ∷ []) long h0 h1 h2 h3 h4 h5 h6 h7 h8 h9 = absurd (omega (arith, long))
+signature_word (x0 ∷ x1 ∷ x2 ∷ x3 ∷ x4 ∷ x5 ∷ x6 ∷ []) long h0 h1 h2 h3 h4 h5 h6 h7 h8 h9 = absurd (omega (arith, long))
+signature_word (x0 ∷ x1 ∷ x2 ∷ x3 ∷ x4 ∷ x5 ∷ x6 ∷ x7 ∷ []) long h0 h1 h2 h3 h4 h5 h6 h7 h8 h9 = absurd (omega (arith, long))
+signature_word (x0 ∷ x1 ∷ x2 ∷ x3 ∷ x4 ∷ x5 ∷ x6 ∷ x7 ∷ x8 ∷ []) long h0 h1 h2 h3 h4 h5 h6 h7 h8 h9 = absurd (omega (arith, long))
+signature_word (x0 ∷ x1 ∷ x2 ∷ x3 ∷ x4 ∷ x5 ∷ x6 ∷ x7 ∷ x8 ∷ x9 ∷ rest) long h0 h1 h2 h3 h4 h5 h6 h7 h8 h9 =
+    ap (λ n. n ∷ x1 ∷ x2 ∷ x3 ∷ x4 ∷ x5 ∷ x6 ∷ x7 ∷ x8 ∷ x9 ∷ rest) h0
+    ∙ ap (λ n. 115 ∷ n ∷ x2 ∷ x3 ∷ x4 ∷ x5 ∷ x6 ∷ x7 ∷ x8 ∷ x9 ∷ rest) h1
+    ∙ ap (λ n. 115 ∷ 105 ∷ n ∷ x3 ∷ x4 ∷ x5 ∷ x6 ∷ x7 ∷ x8 ∷ x9 ∷ rest) h2
+    ∙ ap (λ n. 115 ∷ 105 ∷ 103 ∷ n ∷ x4 ∷ x5 ∷ x6 ∷ x7 ∷ x8 ∷ x9 ∷ rest) h3
+    ∙ ap (λ n. 115 ∷ 105 ∷ 103 ∷ 110 ∷ n ∷ x5 ∷ x6 ∷ x7 ∷ x8 ∷ x9 ∷ rest) h4
+    ∙ ap (λ n. 115 ∷ 105 ∷ 103 ∷ 110 ∷ 97 ∷ n ∷ x6 ∷ x7 ∷ x8 ∷ x9 ∷ rest) h5
+    ∙ ap (λ n. 115 ∷ 105 ∷ 103 ∷ 110 ∷ 97 ∷ 116 ∷ n ∷ x7 ∷ x8 ∷ x9 ∷ rest) h6
+    ∙ ap (λ n. 115 ∷ 105 ∷ 103 ∷ 110 ∷ 97 ∷ 116 ∷ 117 ∷ n ∷ x8 ∷ x9 ∷ rest) h7
+    ∙ ap (λ n. 115 ∷ 105 ∷ 103 ∷ 110 ∷ 97 ∷ 116 ∷ 117 ∷ 114 ∷ n ∷ x9 ∷ rest) h8
+    ∙ ap (λ n. 115 ∷ 105 ∷ 103 ∷ 110 ∷ 97 ∷ 116 ∷ 117 ∷ 114 ∷ 101 ∷ n ∷ rest) h9
+    ∙ ap (λ t. codes "signature " ++ t) (sym (end_of_slice 10 (x0 ∷ x1 ∷ x2 ∷ x3 ∷ x4 ∷ x5 ∷ x6 ∷ x7 ∷ x8 ∷ x9 ∷ rest)))
+
+-- a `signature` line that was read
+pub signature_there : (text v1 v2 rest : List ℕ) (m n : ℕ) → text ≡ codes "signature " ++ v1 → IsNumberBefore 32 v1 m v2 → IsNumberBefore 10 v2 n rest
+    → 1 ≤ m → m ≤ ROWS → n ≤ ROWS → IsLineBefore 4 text (Signature m n) rest
+signature_there text v1 v2 rest m n is first second some rows most =
+    line_there 4 text (codes "signature") (decimal m ∷ decimal n ∷ []) rest MethodSignature (Signature m n)
+    (joined (codes "signature") (decimal m) (decimal n ∷ []) text v1 rest is (joined (decimal m) (decimal n) [] v1 v2 rest first.spelled second.spelled))
+    (omega arith, (omega arith, (omega arith, (omega arith, (omega arith, (omega arith, (omega arith, (omega arith, (omega arith, tt)))))))))
+    (decimal_from 33 m (omega arith) first.fits, (decimal_from 33 n (omega arith) second.fits, tt))
+    refl refl (omega arith) (λ silent. omega (arith, silent))
+    (signature_line (record { spelled = refl; from = some; to = rows }) (record { spelled = refl; from = omega arith; to = most }))

@@ -1,5 +1,5 @@
 -- A map that a text has is readable.
-use Rattle.std.proofs.Common.{ℕ, ◌≡◌, ◌||◌, Bool, true, false, List, [], ◌∷◌, Option, Some, None, IfSome, refl, sym, ap, ◌∙◌}
+use Rattle.std.proofs.Common.{ℕ, ◌≡◌, ◌&&◌, ◌||◌, Bool, true, false, List, [], ◌∷◌, Option, Some, None, IfSome, refl, sym, ap, ◌∙◌}
 use Rattle.std.specs.Prelude.{nat_eq, bytes_eq, is_some}
 use Rattle.std.specs.List.{AllByRecursion, list_any}
 use Rattle.std.specs.List.Sorted.{IsStrictlySortedBy}
@@ -10,18 +10,20 @@ use Rattle.std.proofs.lemmas.Bool.{eq-eqb}
 use Rattle.std.proofs.lemmas.Cmp.{nat_cmp_total}
 use Rattle.ppdb_maps.specs.Gathered.{same_pair}
 use Rattle.ppdb_maps.specs.Map.{Map, MethodLine, pair_cmp}
-use Rattle.ppdb_maps.specs.Readable.{IsReadable, IsCount, IsRow, IsRowOf, IsLineOf, IsSlottedOf, IsSlotOf, IsSignatureOf, AreNames, MapsAreReadable}
+use Rattle.ppdb_maps.specs.Readable.{IsReadable, IsCount, IsRow, IsRowOf, IsCrossOf, IsGoneOf, IsLineOf, IsSlottedOf, IsSlotOf, IsSignatureOf, AreNames, MapsAreReadable}
 use Rattle.ppdb_maps.specs.Forms.{AreBytes}
 use Rattle.ppdb_maps.specs.Text.{HoldsWhat, Read}
 use Rattle.ppdb_maps.specs.declared.entries.Count.{Count}
 use Rattle.ppdb_maps.specs.declared.entries.RowLine.{RowLine}
+use Rattle.ppdb_maps.specs.declared.entries.CrossLine.{CrossLine}
+use Rattle.ppdb_maps.specs.declared.entries.GoneLine.{GoneLine}
 use Rattle.ppdb_maps.specs.declared.entries.SlotImage.{SlotImage}
 use Rattle.ppdb_maps.specs.declared.entries.SignatureImage.{SignatureImage}
 use Rattle.ppdb_maps.specs.declared.entries.NameLine.{NameLine}
 use Rattle.ppdb_maps.specs.declared.line.Line.{Line}
 use Rattle.ppdb_maps.proofs.InRange.{Fits, read_fits}
 use Rattle.ppdb_maps.proofs.Named.{same_bytes, bytes_same}
-use Rattle.ppdb_maps.proofs.OneList.{each_found}
+use Rattle.ppdb_maps.proofs.OneList.{any_is, each_found}
 use Rattle.ppdb_maps.proofs.OneMap.{same_number, number_same, pair_is, is_pair, pair_total}
 
 still_any : (b c : Bool) → c ≡ true → (b || c) ≡ true
@@ -46,6 +48,15 @@ held_fits said m holds fits = record {
       (λ r found.
       let h = fits.rows r.table r.old r.new (sym (holds.rows r.table r.old) ∙ ap (option_map (λ (r : RowLine). r.new)) found) in
       (h.0, h.1, ap is_some (holds.counts r.table) ∙ h.2, λ six. holds.drops r.old ∙ h.3 six));
+  crossed = each_found (λ (r : CrossLine). (r.table, r.old)) same_pair pair_cmp pair_is is_pair pair_total (IsCrossOf m) m.crossed holds.ascends.crossed
+      (λ r found.
+      let h = fits.crossed r.table r.old r (sym (holds.crossed r.table r.old) ∙ found) in
+      (h.0, h.1, h.2, ap is_some (holds.counts r.table) ∙ h.3, holds.rows r.table r.old ∙ h.4));
+  gone = each_found (λ (r : GoneLine). (r.table, r.old)) same_pair pair_cmp pair_is is_pair pair_total (IsGoneOf m) m.gone holds.ascends.gone
+      (λ r found.
+      let h = fits.gone r.table r.old (sym (holds.gone r.table r.old)
+      ∙ (any_is (λ (g : GoneLine). nat_eq g.table r.table && nat_eq g.old r.old) m.gone ∙ ap is_some found)) in
+      (h.0, h.1, ap is_some (holds.counts r.table) ∙ h.2, holds.rows r.table r.old ∙ h.3, holds.crossed r.table r.old ∙ h.4));
   methods = each_found (λ (l : MethodLine). l.method) nat_eq nat_cmp same_number number_same nat_cmp_total (IsLineOf m) m.methods holds.ascends.methods
       (λ l found.
       let h = fits.methods l.method l (sym (holds.methods l.method) ∙ found) in
@@ -78,13 +89,15 @@ read_readable version texts said m read holds = held_fits said m holds (read_fit
 pub maps_are_readable : MapsAreReadable
 maps_are_readable = λ text m is. read_readable is.version is.rest is.said m is.read is.holds_what
 
-pub empty_readable : (m : Map) → m.counts ≡ [] → m.rows ≡ [] → m.methods ≡ [] → m.drops ≡ [] → m.slotted ≡ [] → m.slots ≡ [] → m.signatures ≡ []
+pub empty_readable : (m : Map) → m.counts ≡ [] → m.rows ≡ [] → m.crossed ≡ [] → m.gone ≡ [] → m.methods ≡ [] → m.drops ≡ [] → m.slotted ≡ [] → m.slots ≡ [] → m.signatures ≡ []
     → m.documents ≡ [] → m.link ≡ None → IsReadable m
 unfolding IsStrictlySortedBy
-empty_readable m a b d e f g h i j = record {
+empty_readable m a b x z d e f g h i j = record {
   ascends = record {
     counts = rw a tt;
     rows = rw b tt;
+    crossed = rw x tt;
+    gone = rw z tt;
     methods = rw d tt;
     drops = rw e tt;
     slotted = rw f tt;
@@ -94,6 +107,8 @@ empty_readable m a b d e f g h i j = record {
   };
   counts = rw a tt;
   rows = rw b tt;
+  crossed = rw x tt;
+  gone = rw z tt;
   methods = rw d tt;
   drops = rw e tt;
   slotted = rw f tt;

@@ -6,13 +6,15 @@ use Rattle.std.proofs.lemmas.Bool.{false≢true}
 use Rattle.std.proofs.lemmas.Bool.Decides.{nat_tests}
 use Rattle.std.specs.BTreeMap.{is_at}
 use Rattle.ppdb_maps.specs.Map.{pair_cmp}
-use Rattle.ppdb_maps.specs.Before.{count_in, row_in, method_in, drop_in, slots_in, slot_in, signature_in, document_in, link_in}
+use Rattle.ppdb_maps.specs.Before.{count_in, has_image_in, method_in, drop_in, slots_in, slot_in, signature_in, document_in, link_in, shares_in}
 use Rattle.ppdb_maps.specs.Rules.{kind_of, Breaks, second_row, second_method, second_drop, second_slots, second_slot, row_alone, slot_alone, drop_named}
 use Rattle.ppdb_maps.specs.Rules.{IsNamed, dropped_method, dropped_row, dropped_slots, second_signature, dropped_signature, second_document, second_link}
+use Rattle.ppdb_maps.specs.Rules.{second_cross, second_gone, second_shares, cross_alone, gone_alone}
 use Rattle.ppdb_maps.specs.Drafts.{RefusedBy}
 use Rattle.ppdb_maps.specs.declared.refusal.Refusal.TheVariants.{Breaks as refused}
 use Rattle.ppdb_maps.specs.declared.line.Line.{Line}
-use Rattle.ppdb_maps.specs.declared.line.Line.TheVariants.{Row, Method, Dropped, Slots, Slot, Signature, Document, Link}
+use Rattle.ppdb_maps.specs.declared.line.Line.TheVariants.{Row, Cross, Gone, Method, Dropped, Slots, Slot, Signature, Document, Link, Shares}
+use Rattle.ppdb_maps.specs.declared.entries.CrossLine.{CrossLine}
 use Rattle.ppdb_maps.specs.declared.entries.NameLine.{NameLine}
 use Rattle.ppdb_maps.specs.declared.rule.Rule.{Rule}
 use Rattle.ppdb_maps.specs.declared.rule.Rule.TheVariants.{Repeated, Undeclared, NamesDropped}
@@ -36,31 +38,57 @@ untrue b absent there = false≢true (sym absent ∙ there)
 pub repeated : (before : List Line) (line : Line) → Breaks before Repeated line → RefusedBy before line (refused Repeated)
 repeated before line breaks = (breaks, λ other h. from_four before other line h)
 
-pub row_undeclared : (before : List Line) (t o n : ℕ) → is_some (row_in before t o) ≡ false → is_some (count_in before t) ≡ false
+pub row_undeclared : (before : List Line) (t o n : ℕ) → has_image_in before t o ≡ false → is_some (count_in before t) ≡ false
     → RefusedBy before (Row t o n) (refused Undeclared)
 row_undeclared before t o n row count = (row_alone (none_of (count_in before t) count), λ other h. least other h)
   where
     least : (other : Rule) → Breaks before other (Row t o n) → 5 ≤ kind_of other
-    least other (second_row h) = absurd (both (row_in before t o) row h)
+    least other (second_row h) = absurd (untrue (has_image_in before t o) row h)
     least other (row_alone h) = lit≤ tt
     least other (dropped_row h k) = lit≤ tt
 
-pub row_dropped : (before : List Line) (t o n : ℕ) → is_some (row_in before t o) ≡ false → is_some (count_in before t) ≡ true → t ≡ 0x06
+pub row_dropped : (before : List Line) (t o n : ℕ) → has_image_in before t o ≡ false → is_some (count_in before t) ≡ true → t ≡ 0x06
     → drop_in before o ≡ true
     → RefusedBy before (Row t o n) (refused NamesDropped)
 row_dropped before t o n row count six drop = (dropped_row six drop, λ other h. least other h)
   where
     least : (other : Rule) → Breaks before other (Row t o n) → 9 ≤ kind_of other
-    least other (second_row h) = absurd (both (row_in before t o) row h)
+    least other (second_row h) = absurd (untrue (has_image_in before t o) row h)
     least other (row_alone h) = absurd (none_and_some (count_in before t) h count)
     least other (dropped_row h k) = lit≤ tt
 
-pub row_keeps : (before : List Line) (t o n : ℕ) → is_some (row_in before t o) ≡ false → is_some (count_in before t) ≡ true
+pub row_keeps : (before : List Line) (t o n : ℕ) → has_image_in before t o ≡ false → is_some (count_in before t) ≡ true
     → (t ≡ 0x06 → drop_in before o ≡ true → ⊥)
     → (rule : Rule) → Breaks before rule (Row t o n) → ⊥
-row_keeps before t o n row count kept rule (second_row h) = both (row_in before t o) row h
+row_keeps before t o n row count kept rule (second_row h) = untrue (has_image_in before t o) row h
 row_keeps before t o n row count kept rule (row_alone h) = none_and_some (count_in before t) h count
 row_keeps before t o n row count kept rule (dropped_row h k) = kept h k
+
+pub cross_undeclared : (before : List Line) (line : CrossLine) → has_image_in before line.table line.old ≡ false → is_some (count_in before line.table) ≡ false
+    → RefusedBy before (Cross line) (refused Undeclared)
+cross_undeclared before line row count = (cross_alone (none_of (count_in before line.table) count), λ other h. least other h)
+  where
+    least : (other : Rule) → Breaks before other (Cross line) → 5 ≤ kind_of other
+    least other (second_cross h) = absurd (untrue (has_image_in before line.table line.old) row h)
+    least other (cross_alone h) = lit≤ tt
+
+pub cross_keeps : (before : List Line) (line : CrossLine) → has_image_in before line.table line.old ≡ false → is_some (count_in before line.table) ≡ true
+    → (rule : Rule) → Breaks before rule (Cross line) → ⊥
+cross_keeps before line row count rule (second_cross h) = untrue (has_image_in before line.table line.old) row h
+cross_keeps before line row count rule (cross_alone h) = none_and_some (count_in before line.table) h count
+
+pub gone_undeclared : (before : List Line) (t o : ℕ) → has_image_in before t o ≡ false → is_some (count_in before t) ≡ false
+    → RefusedBy before (Gone t o) (refused Undeclared)
+gone_undeclared before t o row count = (gone_alone (none_of (count_in before t) count), λ other h. least other h)
+  where
+    least : (other : Rule) → Breaks before other (Gone t o) → 5 ≤ kind_of other
+    least other (second_gone h) = absurd (untrue (has_image_in before t o) row h)
+    least other (gone_alone h) = lit≤ tt
+
+pub gone_keeps : (before : List Line) (t o : ℕ) → has_image_in before t o ≡ false → is_some (count_in before t) ≡ true → (rule : Rule)
+    → Breaks before rule (Gone t o) → ⊥
+gone_keeps before t o row count rule (second_gone h) = untrue (has_image_in before t o) row h
+gone_keeps before t o row count rule (gone_alone h) = none_and_some (count_in before t) h count
 
 pub method_dropped : (before : List Line) (m o n : ℕ) → is_some (method_in before m) ≡ false → drop_in before m ≡ true
     → RefusedBy before (Method m o n) (refused NamesDropped)
@@ -81,6 +109,10 @@ drop_of_named before m drop named = (drop_named named, λ other h. least other h
     least : (other : Rule) → Breaks before other (Dropped m) → 9 ≤ kind_of other
     least other (second_drop h) = absurd (untrue (drop_in before m) drop h)
     least other (drop_named h) = lit≤ tt
+
+pub drop_keeps : (before : List Line) (m : ℕ) → drop_in before m ≡ false → (IsNamed before m → ⊥) → (rule : Rule) → Breaks before rule (Dropped m) → ⊥
+drop_keeps before m drop unnamed rule (second_drop h) = untrue (drop_in before m) drop h
+drop_keeps before m drop unnamed rule (drop_named h) = unnamed h
 
 pub slots_dropped : (before : List Line) (m : ℕ) → slots_in before m ≡ false → drop_in before m ≡ true → RefusedBy before (Slots m) (refused NamesDropped)
 slots_dropped before m slots drop = (dropped_slots drop, λ other h. least other h)
@@ -120,6 +152,9 @@ document_keeps before d document rule (second_document h) = both (document_in be
 
 pub link_keeps : (before : List Line) (value : List ℕ) → is_some (link_in before) ≡ false → (rule : Rule) → Breaks before rule (Link value) → ⊥
 link_keeps before value link rule (second_link h) = both (link_in before) link h
+
+pub shares_keeps : (before : List Line) → shares_in before ≡ false → (rule : Rule) → Breaks before rule Shares → ⊥
+shares_keeps before shares rule (second_shares h) = untrue (shares_in before) shares h
 
 -- what the tests of keys say
 pub at_number : (k q : ℕ) → is_at (nat_cmp k) q ≡ nat_eq k q

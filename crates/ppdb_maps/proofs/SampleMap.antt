@@ -1,5 +1,5 @@
 -- The sample's map keeps what maps keep.
-use Rattle.std.proofs.Common.{◌≡◌, ℕ, zero, suc, ◌+◌, ◌<◌, ◌≤◌, List, [], ◌∷◌, Option, None, map, refl, sym, arith}
+use Rattle.std.proofs.Common.{◌≡◌, ℕ, Bool, false, zero, suc, ◌+◌, ◌<◌, ◌≤◌, List, [], ◌∷◌, Option, None, map, refl, sym, arith}
 use Rattle.std.specs.List.{range_with_len, AllByRecursion}
 use Rattle.std.specs.List.Sorted.{IsStrictlySortedBy}
 use Rattle.std.specs.Ordering.{nat_cmp}
@@ -9,6 +9,8 @@ use Rattle.std.specs.declared.cmp.Ordering.TheVariants.{Less}
 use Rattle.ppdb_base.specs.Offsets.{Rise, lined}
 use Rattle.ppdb_maps.specs.declared.entries.Count.{Count}
 use Rattle.ppdb_maps.specs.declared.entries.RowLine.{RowLine}
+use Rattle.ppdb_maps.specs.declared.entries.CrossLine.{CrossLine}
+use Rattle.ppdb_maps.specs.declared.entries.GoneLine.{GoneLine}
 use Rattle.ppdb_maps.specs.declared.entries.SlotImage.{SlotImage}
 use Rattle.ppdb_maps.specs.declared.entries.SignatureImage.{SignatureImage}
 use Rattle.ppdb_maps.specs.declared.entries.NameLine.{NameLine}
@@ -74,6 +76,8 @@ sample_readable n few = record {
   ascends = record {
     counts = one_rises;
     rows = rows_rise n 1 n;
+    crossed = no_pairs_rise;
+    gone = no_pairs_rise;
     methods = methods_rise 1 n;
     drops = nothing_rises;
     slotted = nothing_rises;
@@ -83,6 +87,8 @@ sample_readable n few = record {
   };
   counts = ((omega arith, omega arith), tt);
   rows = rows_in n 1 n (omega arith) (omega arith) few;
+  crossed = tt;
+  gone = tt;
   methods = methods_in n 1 n (omega arith) (omega arith) few;
   drops = tt;
   slotted = tt;
@@ -92,11 +98,11 @@ sample_readable n few = record {
   link = tt;
 }
 
-pub sample_of : (n : ℕ) (counts : List Count) (rows : List RowLine) (methods : List MethodLine) (drops slotted : List ℕ) (slots : List SlotImage)
-    (signatures : List SignatureImage) (documents : List NameLine) (link : Option (List ℕ))
+pub sample_of : (n : ℕ) (counts : List Count) (rows : List RowLine) (crossed : List CrossLine) (gone : List GoneLine) (methods : List MethodLine)
+    (drops slotted : List ℕ) (slots : List SlotImage) (signatures : List SignatureImage) (documents : List NameLine) (link : Option (List ℕ)) (shares : Bool)
     → counts ≡ record { table = 0x06; rows = n } ∷ []
-    → rows ≡ map (sample_row n) (range_with_len 1 n) → methods ≡ map sample_method (range_with_len 1 n) → drops ≡ [] → slotted ≡ [] → slots ≡ []
-    → signatures ≡ [] → documents ≡ [] → link ≡ None
-    → map_of counts rows methods drops slotted slots signatures documents link ≡ sample_map_of n
-sample_of n counts rows methods drops slotted slots signatures documents link c r m d t s g o l =
-    maps_made (map_of counts rows methods drops slotted slots signatures documents link) (sample_map_of n) c r m d t s g o l
+    → rows ≡ map (sample_row n) (range_with_len 1 n) → crossed ≡ [] → gone ≡ [] → methods ≡ map sample_method (range_with_len 1 n) → drops ≡ [] → slotted ≡ [] → slots ≡ []
+    → signatures ≡ [] → documents ≡ [] → link ≡ None → shares ≡ false
+    → map_of counts rows crossed gone methods drops slotted slots signatures documents link shares ≡ sample_map_of n
+sample_of n counts rows crossed gone methods drops slotted slots signatures documents link shares c r x z m d t s g o l h =
+    maps_made (map_of counts rows crossed gone methods drops slotted slots signatures documents link shares) (sample_map_of n) c r x z m d t s g o l h

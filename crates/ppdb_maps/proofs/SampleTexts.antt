@@ -61,6 +61,8 @@ holds_0 : HoldsWhat (Rows 6 0 ∷ []) (sample_map_of 0)
 holds_0 = record {
   counts = one_count 0;
   rows = λ t o. refl;
+  crossed = λ t o. refl;
+  gone = λ t o. refl;
   methods = λ m. refl;
   drops = λ m. refl;
   slotted = λ m. refl;
@@ -68,6 +70,7 @@ holds_0 = record {
   signatures = λ m. refl;
   documents = λ name. refl;
   link = refl;
+  shares = refl;
   ascends = (sample_readable 0 (omega arith)).ascends;
 }
 
@@ -92,6 +95,8 @@ holds_1 : HoldsWhat (Kept back_run ∷ Kept prefix_run ∷ Method 1 16 20 ∷ Ro
 holds_1 = record {
   counts = one_count 1;
   rows = λ t o. one_row (nat_eq 6 t && nat_eq 1 o) 1 1;
+  crossed = λ t o. refl;
+  gone = λ t o. refl;
   methods = λ m. refl;
   drops = λ m. refl;
   slotted = λ m. refl;
@@ -99,6 +104,7 @@ holds_1 = record {
   signatures = λ m. refl;
   documents = λ name. refl;
   link = refl;
+  shares = refl;
   ascends = (sample_readable 1 (omega arith)).ascends;
 }
 
@@ -151,6 +157,8 @@ holds_2 : HoldsWhat (Kept back_run ∷ Kept prefix_run ∷ Method 2 16 20 ∷ Ke
 holds_2 = record {
   counts = one_count 2;
   rows = λ t o. two_rows (nat_eq 6 t) (nat_eq 1 o) (nat_eq 2 o) (apart o);
+  crossed = λ t o. refl;
+  gone = λ t o. refl;
   methods = λ m. two_methods (nat_eq 1 m) (nat_eq 2 m) (record { method = 1; old_size = 16; new_size = 20; runs = prefix_run ∷ back_run ∷ [] })
       (record { method = 2; old_size = 16; new_size = 20; runs = prefix_run ∷ back_run ∷ [] }) (apart m);
   drops = λ m. refl;
@@ -159,6 +167,7 @@ holds_2 = record {
   signatures = λ m. refl;
   documents = λ name. refl;
   link = refl;
+  shares = refl;
   ascends = (sample_readable 2 (omega arith)).ascends;
 }
 

@@ -2,22 +2,23 @@
 use Rattle.std.proofs.Common.{zero, suc, inl, inr, lit<, lit≤, ℕ, ◌≡◌, ◌<◌, ◌≤◌, List, [], ◌∷◌, Option, Some, length, take, refl, sym, ap, ◌∙◌, subst, arith}
 use Rattle.ppdb_base.specs.declared.offsets.Run.{Run}
 use Rattle.ppdb_maps.specs.Words.{IsSilent, line_words}
-use Rattle.ppdb_maps.specs.Forms.{name_of, words_in, HasForm, IsNumber, IsTable, ROWS, Values, Tells, rows_line, row_line, method_line, run_line, drop_line}
-use Rattle.ppdb_maps.specs.Forms.{slots_line, slot_line, signature_line, document_line, link_line, silent, told}
+use Rattle.ppdb_maps.specs.Forms.{Crosses, name_of, words_in, HasForm, IsNumber, IsTable, ROWS, Values, Tells, rows_line, row_line, method_line, run_line, drop_line}
+use Rattle.ppdb_maps.specs.Forms.{slots_line, slot_line, signature_line, document_line, link_line, cross_line, gone_line, shares_line, silent, told}
+use Rattle.ppdb_maps.specs.declared.entries.CrossLine.{CrossLine}
 use Rattle.ppdb_maps.specs.declared.entries.NameLine.{NameLine}
 use Rattle.ppdb_maps.specs.declared.line.Form.{Form}
 use Rattle.ppdb_maps.specs.declared.line.Form.TheVariants.{TableRows, RowMove, MethodSizes, OffsetRun, MethodDrop, MethodSlots, SlotMove, MethodSignature}
-use Rattle.ppdb_maps.specs.declared.line.Form.TheVariants.{DocumentRename, LinkValue}
+use Rattle.ppdb_maps.specs.declared.line.Form.TheVariants.{DocumentRename, LinkValue, CrossMove, RowGone, Sharing}
 use Rattle.ppdb_maps.specs.declared.line.Line.{Line}
-use Rattle.ppdb_maps.specs.declared.line.Line.TheVariants.{Kept, Document, Link}
-use Rattle.std.specs.Prelude.{find, bytes_eq}
+use Rattle.ppdb_maps.specs.declared.line.Line.TheVariants.{Cross, Kept, Document, Link}
+use Rattle.std.specs.Prelude.{find, bytes_eq, nat_eq, ◌&&◌}
 use Rattle.std.proofs.lemmas.Bool.{cases_lt}
 use Rattle.std.proofs.lemmas.List.{length-take-le}
 use Rattle.ppdb_maps.specs.Cuts.{AreWordsOf}
 use Rattle.ppdb_maps.specs.Reading.{FitsForm, values_of}
 use Rattle.ppdb_maps.specs.Rules.{kind_of, Breaks, BreaksLine, BreaksFirst, no_form, no_value, by_lines, second_rows, second_row, second_method, second_drop}
 use Rattle.ppdb_maps.specs.Rules.{second_slots, second_slot, second_signature, row_alone, slot_alone, run_alone, run_early, run_long, drop_named, dropped_method, dropped_row}
-use Rattle.ppdb_maps.specs.Rules.{dropped_slots, dropped_signature, second_document, second_link}
+use Rattle.ppdb_maps.specs.Rules.{dropped_slots, dropped_signature, second_document, second_link, second_cross, second_gone, second_shares, cross_alone, gone_alone}
 use Rattle.ppdb_maps.specs.declared.rule.Rule.{Rule}
 use Rattle.ppdb_maps.specs.declared.rule.Rule.TheVariants.{UnknownForm, NumberFaults}
 use Rattle.ppdb_maps.specs.declared.words.Words.{Words}
@@ -41,6 +42,31 @@ same_names d e old new =
     let make : List ℕ → List ℕ → NameLine = λ a b. record { old = a; new = b } in
     ap (λ a. make a d.new) old ∙ ap (λ b. make e.old b) new
 
+same_cross : (d e : CrossLine) → d.table ≡ e.table → d.old ≡ e.old → d.to ≡ e.to → d.new ≡ e.new → d ≡ e
+same_cross d e table old to new =
+    let make : ℕ → ℕ → ℕ → ℕ → CrossLine = λ a b k l. record { table = a; old = b; to = k; new = l } in
+    ap (λ a. make a d.old d.to d.new) table ∙ (ap (λ b. make e.table b d.to d.new) old
+    ∙ (ap (λ k. make e.table e.old k d.new) to ∙ ap (λ l. make e.table e.old e.to l) new))
+
+-- words say one line of five words
+cross_one : (a b d e : List ℕ) (k l : CrossLine) → IsTable a k.table → IsNumber b 1 ROWS k.old → IsTable d k.to → IsNumber e 1 ROWS k.new
+    → IsTable a l.table → IsNumber b 1 ROWS l.old → IsTable d l.to → IsNumber e 1 ROWS l.new → k ≡ l
+cross_one a b d e k l t o u n t2 o2 u2 n2 = same_cross k l (one_table a k.table l.table t t2) (one_number b 1 ROWS k.old l.old (lit< tt) o o2)
+    (one_table d k.to l.to u u2) (one_number e 1 ROWS k.new l.new (lit< tt) n n2)
+
+pub cross_values : (a b d e : List ℕ) (line : Line) → Values CrossMove (a ∷ b ∷ d ∷ e ∷ []) line
+    → ((t : ℕ) × IsTable a t) × ((n : ℕ) × IsNumber b 1 ROWS n) × ((t : ℕ) × IsTable d t) × ((n : ℕ) × IsNumber e 1 ROWS n)
+cross_values a b d e line (cross_line t o u n f) = ((_, t), (_, o), (_, u), (_, n))
+
+pub gone_values : (a b : List ℕ) (line : Line) → Values RowGone (a ∷ b ∷ []) line → ((t : ℕ) × IsTable a t) × ((n : ℕ) × IsNumber b 1 ROWS n)
+gone_values a b line (gone_line t k o) = ((_, t), (_, o))
+
+-- words that say a line that does not cross have no value
+pub cross_none : (a b d e : List ℕ) (ours : CrossLine) → IsTable a ours.table → IsNumber b 1 ROWS ours.old → IsTable d ours.to
+    → IsNumber e 1 ROWS ours.new → (Crosses ours → ⊥) → (line : Line) → Values CrossMove (a ∷ b ∷ d ∷ e ∷ []) line → ⊥
+cross_none a b d e ours t o u n never line (cross_line {line = k} t2 o2 u2 n2 f) =
+    never (subst Crosses (cross_one a b d e k ours t2 o2 u2 n2 t o u n) f)
+
 -- a line of a form says one thing
 one_of_form : (form : Form) (values : List (List ℕ)) (x y : Line) → Values form values x → Values form values y → x ≡ y
 one_of_form form values x y (rows_line {table = t} {rows = n} a b) (rows_line {table = t2} {rows = n2} a2 b2) =
@@ -51,6 +77,12 @@ one_of_form form values x y (row_line {table = t} {old = o} {new = n} a b d) (ro
     let table = one_table _ t t2 a a2 in
     let old = one_number _ _ _ o o2 (lit< tt) b b2 in
     let new = one_number _ _ _ n n2 (lit< tt) d d2 in
+    cc
+one_of_form form values x y (cross_line {line = l} a b d e f) (cross_line {line = m} a2 b2 d2 e2 f2) =
+    ap Cross (cross_one _ _ _ _ l m a b d e a2 b2 d2 e2)
+one_of_form form values x y (gone_line {table = t} {old = o} a k b) (gone_line {table = t2} {old = o2} a2 k2 b2) =
+    let table = one_table _ t t2 a a2 in
+    let old = one_number _ _ _ o o2 (lit< tt) b b2 in
     cc
 one_of_form form values x y (method_line {method = m} {old_size = o} {new_size = n} a b d)
     (method_line {method = m2} {old_size = o2} {new_size = n2} a2 b2 d2) =
@@ -77,13 +109,15 @@ one_of_form form values x y (signature_line {method = m} {new = n} a b) (signatu
 one_of_form form values x y (document_line {d = d} a b) (document_line {d = e} a2 b2) =
     ap Document (same_names d e (one_spelling _ d.old e.old a a2) (one_spelling _ d.new e.new b b2))
 one_of_form form values x y (link_line {value = v} a) (link_line {value = w} b) = ap Link (one_spelling _ v w a b)
+one_of_form form values x y shares_line shares_line = refl
 
--- the form that has the name
-abbrev form_named : List ℕ → Option Form
-form_named name = find (λ form. bytes_eq (name_of form) name)
-    (TableRows ∷ RowMove ∷ MethodSizes ∷ OffsetRun ∷ MethodDrop ∷ MethodSlots ∷ SlotMove ∷ MethodSignature ∷ DocumentRename ∷ LinkValue ∷ [])
+-- the form that has the name and the number of words
+abbrev form_named : List ℕ → ℕ → Option Form
+form_named name count = find (λ form. bytes_eq (name_of form) name && nat_eq (words_in form) count)
+    (TableRows ∷ RowMove ∷ MethodSizes ∷ OffsetRun ∷ MethodDrop ∷ MethodSlots ∷ SlotMove ∷ MethodSignature
+    ∷ DocumentRename ∷ LinkValue ∷ CrossMove ∷ RowGone ∷ Sharing ∷ [])
 
-named_itself : (form : Form) → form_named (name_of form) ≡ Some form
+named_itself : (form : Form) → form_named (name_of form) (words_in form) ≡ Some form
 named_itself TableRows = refl
 named_itself RowMove = refl
 named_itself MethodSizes = refl
@@ -94,13 +128,19 @@ named_itself SlotMove = refl
 named_itself MethodSignature = refl
 named_itself DocumentRename = refl
 named_itself LinkValue = refl
+named_itself CrossMove = refl
+named_itself RowGone = refl
+named_itself Sharing = refl
 
--- forms have different first words
-one_form : (x y : Form) → name_of x ≡ name_of y → x ≡ y
-one_form x y same = let e : Some x ≡ Some y = sym (named_itself x) ∙ (ap form_named same ∙ named_itself y) in cc
+-- forms have different first words or numbers of words
+one_form : (x y : Form) → name_of x ≡ name_of y → words_in x ≡ words_in y → x ≡ y
+one_form x y same counts =
+    let e : Some x ≡ Some y =
+    sym (named_itself x) ∙ (ap (λ n. form_named n (words_in x)) same ∙ (ap (form_named (name_of y)) counts ∙ named_itself y)) in
+    cc
 
--- all forms have two to four words
-few_words : (form : Form) → (2 ≤ words_in form) × (words_in form ≤ 4)
+-- all forms have one to five words
+few_words : (form : Form) → (1 ≤ words_in form) × (words_in form ≤ 5)
 few_words TableRows = (lit≤ tt, lit≤ tt)
 few_words RowMove = (lit≤ tt, lit≤ tt)
 few_words MethodSizes = (lit≤ tt, lit≤ tt)
@@ -111,46 +151,52 @@ few_words SlotMove = (lit≤ tt, lit≤ tt)
 few_words MethodSignature = (lit≤ tt, lit≤ tt)
 few_words DocumentRename = (lit≤ tt, lit≤ tt)
 few_words LinkValue = (lit≤ tt, lit≤ tt)
+few_words CrossMove = (lit≤ tt, lit≤ tt)
+few_words RowGone = (lit≤ tt, lit≤ tt)
+few_words Sharing = (lit≤ tt, lit≤ tt)
 
-count_fits : (n : ℕ) (name a b d : List ℕ) (words : List (List ℕ)) (version : ℕ) (form : Form)
-    → (n ≤ 4 → words ≡ take n (name ∷ a ∷ b ∷ d ∷ [])) → (4 < n → 4 < length words) → HasForm version words form
+count_fits : (n : ℕ) (name a b d e : List ℕ) (words : List (List ℕ)) (version : ℕ) (form : Form)
+    → (n ≤ 5 → words ≡ take n (name ∷ a ∷ b ∷ d ∷ e ∷ [])) → (5 < n → 5 < length words) → HasForm version words form
     → (name ≡ name_of form) × (n ≡ words_in form)
-count_fits n name a b d words version form few many has = elim (cases_lt 4 n) [
-  | inl more ↦ absurd (let h = many more in let k = (few_words form).1 in let e = has.counted in omega (arith, h, k, e))
+count_fits n name a b d e words version form few many has = elim (cases_lt 5 n) [
+  | inl more ↦ absurd (let h = many more in let k = (few_words form).1 in let i = has.counted in omega (arith, h, k, i))
   | inr le ↦ at_most n le (few le)
 ]
   where
-    at_most : (n : ℕ) → n ≤ 4 → words ≡ take n (name ∷ a ∷ b ∷ d ∷ []) → (name ≡ name_of form) × (n ≡ words_in form)
+    at_most : (n : ℕ) → n ≤ 5 → words ≡ take n (name ∷ a ∷ b ∷ d ∷ e ∷ []) → (name ≡ name_of form) × (n ≡ words_in form)
     at_most n le is =
-        let count : length words ≡ n = ap length is ∙ length-take-le n (name ∷ a ∷ b ∷ d ∷ []) le in
-        let e = has.counted in
+        let count : length words ≡ n = ap length is ∙ length-take-le n (name ∷ a ∷ b ∷ d ∷ e ∷ []) le in
+        let i = has.counted in
         let k = (few_words form).0 in
-        let same : n ≡ words_in form = omega (arith, count, e) in
+        let same : n ≡ words_in form = omega (arith, count, i) in
         (head_of n is (omega (arith, k, same)), same)
       where
-        head_of : (n : ℕ) → words ≡ take n (name ∷ a ∷ b ∷ d ∷ []) → 2 ≤ n → name ≡ name_of form
+        head_of : (n : ℕ) → words ≡ take n (name ∷ a ∷ b ∷ d ∷ e ∷ []) → 1 ≤ n → name ≡ name_of form
         head_of zero is some = absurd (omega (arith, some))
         head_of (suc n) is some = let h = has.named in cc
+
+-- the words that were read
+abbrev words_read : Words → List (List ℕ)
+words_read words = words.name.now ∷ words.first.now ∷ words.second.now ∷ words.third.now ∷ words.fourth.now ∷ []
 
 -- the words that were read have each form that the line has
 pub fits_form : (line : List ℕ) (words : Words) (version : ℕ) (form : Form) → AreWordsOf line words → HasForm version (line_words line) form
     → FitsForm version words form
 fits_form line words version form are has =
-    let h = count_fits words.count words.name.now words.first.now words.second.now words.third.now (line_words line) version form are.few are.many has in
+    let h = count_fits words.count words.name.now words.first.now words.second.now words.third.now words.fourth.now (line_words line) version form
+    are.few are.many has in
     record { named = h.0; counted = h.1; there = has.there }
 
 -- the other way round, with the values that were read
 pub has_form : (line : List ℕ) (words : Words) (version : ℕ) (form : Form) → AreWordsOf line words → FitsForm version words form
     → (line_words line ≡ name_of form ∷ values_of form words) × (length (line_words line) ≡ words_in form)
 has_form line words version form are fits =
-    let le : words.count ≤ 4 = let k = (few_words form).1 in let e = fits.counted in omega (arith, k, e) in
-    let is : line_words line ≡ take (words_in form) (words.name.now ∷ words.first.now ∷ words.second.now ∷ words.third.now ∷ []) =
-    are.few le ∙ ap (λ n. take n (words.name.now ∷ words.first.now ∷ words.second.now ∷ words.third.now ∷ [])) fits.counted in
+    let le : words.count ≤ 5 = let k = (few_words form).1 in let e = fits.counted in omega (arith, k, e) in
+    let is : line_words line ≡ take (words_in form) (words_read words) = are.few le ∙ ap (λ n. take n (words_read words)) fits.counted in
     let names : line_words line ≡ name_of form ∷ values_of form words = is ∙ (taken form ∙ ap (λ n. n ∷ values_of form words) fits.named) in
     (names, ap length is ∙ long form)
   where
-    taken : (form : Form)
-        → take (words_in form) (words.name.now ∷ words.first.now ∷ words.second.now ∷ words.third.now ∷ []) ≡ words.name.now ∷ values_of form words
+    taken : (form : Form) → take (words_in form) (words_read words) ≡ words.name.now ∷ values_of form words
     taken TableRows = refl
     taken RowMove = refl
     taken MethodSizes = refl
@@ -161,9 +207,12 @@ has_form line words version form are fits =
     taken MethodSignature = refl
     taken DocumentRename = refl
     taken LinkValue = refl
+    taken CrossMove = refl
+    taken RowGone = refl
+    taken Sharing = refl
 
-    long : (form : Form) → length (take (words_in form) (words.name.now ∷ words.first.now ∷ words.second.now ∷ words.third.now ∷ [])) ≡ words_in form
-    long form = length-take-le (words_in form) (words.name.now ∷ words.first.now ∷ words.second.now ∷ words.third.now ∷ []) (few_words form).1
+    long : (form : Form) → length (take (words_in form) (words_read words)) ≡ words_in form
+    long form = length-take-le (words_in form) (words_read words) (few_words form).1
 
 -- the form as the definition of lines has it
 abbrev form_there : (line : List ℕ) (words : Words) (version : ℕ) (form : Form) → AreWordsOf line words → FitsForm version words form
@@ -190,6 +239,11 @@ from_four before rule line (second_slot h) = lit≤ tt
 from_four before rule line (second_signature h) = lit≤ tt
 from_four before rule line (second_document h) = lit≤ tt
 from_four before rule line (second_link h) = lit≤ tt
+from_four before rule line (second_cross h) = lit≤ tt
+from_four before rule line (second_gone h) = lit≤ tt
+from_four before rule line (second_shares h) = lit≤ tt
+from_four before rule line (cross_alone h) = lit≤ tt
+from_four before rule line (gone_alone h) = lit≤ tt
 from_four before rule line (row_alone h) = lit≤ tt
 from_four before rule line (slot_alone h) = lit≤ tt
 from_four before rule line (run_alone h) = lit≤ tt
@@ -234,7 +288,7 @@ one_said version text x y (told loud a) (told loud2 b) =
     let words : name_of a.form ∷ a.has.values ≡ name_of b.form ∷ b.has.values = sym a.has.named ∙ b.has.named in
     let names : name_of a.form ≡ name_of b.form = cc in
     let values : b.has.values ≡ a.has.values = cc in
-    let form : b.form ≡ a.form = one_form b.form a.form (sym names) in
+    let form : b.form ≡ a.form = one_form b.form a.form (sym names) (sym b.has.counted ∙ a.has.counted) in
     one_of_form a.form a.has.values x y a.values (subst (λ (f : Form). Values f a.has.values y) form (subst (λ v. Values b.form v y) values b.values))
 
 -- a line that says something breaks rules by what it says
@@ -247,7 +301,7 @@ breaks_said version before text says rule (told loud a) (no_value {form = form} 
     let words : name_of a.form ∷ a.has.values ≡ name_of form ∷ has.values = sym a.has.named ∙ has.named in
     let names : name_of a.form ≡ name_of form = cc in
     let values : a.has.values ≡ has.values = cc in
-    let same : a.form ≡ form = one_form a.form form names in
+    let same : a.form ≡ form = one_form a.form form names (sym a.has.counted ∙ has.counted) in
     absurd (none says (subst (λ (f : Form). Values f has.values says) same (subst (λ v. Values a.form v says) values a.values)))
 breaks_said version before text says rule tells (by_lines {line = other} tells2 breaks) =
     subst (λ l. Breaks before rule l) (one_said version text other says tells2 tells) breaks

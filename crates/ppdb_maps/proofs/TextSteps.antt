@@ -8,7 +8,7 @@ use Rattle.ppdb_base.specs.declared.offsets.Run.{Run}
 use Rattle.ppdb_maps.specs.Map.{MethodLine}
 use Rattle.ppdb_maps.specs.Words.{IsSilent, line_words}
 use Rattle.ppdb_maps.specs.Forms.{IsNumber, IsTable, ROWS, OFFSETS, Tells, told, rows_line, row_line, method_line, run_line}
-use Rattle.ppdb_maps.specs.Before.{count_in, row_in, method_in, drop_in, methods_of, follows_method}
+use Rattle.ppdb_maps.specs.Before.{count_in, has_image_in, method_in, drop_in, methods_of, follows_method}
 use Rattle.ppdb_maps.specs.Rules.{Breaks, Keeps, BeginsEarly, EndsBeyond, second_rows, second_row, row_alone, dropped_row, second_method}
 use Rattle.ppdb_maps.specs.Rules.{dropped_method, run_alone, run_early, run_long}
 use Rattle.ppdb_maps.specs.declared.line.Form.TheVariants.{TableRows, RowMove, MethodSizes, OffsetRun}
@@ -108,12 +108,12 @@ keeps_rows before text t n tells none rule b = of rule (breaks_said 1 before tex
     of : (r : Rule) → Breaks before r (Rows t n) → ⊥
     of r (second_rows some) = not_some (count_in before t) none some
 
-pub keeps_row : (before : List Line) (text : List ℕ) (t o n count : ℕ) → Tells 1 text (Row t o n) → count_in before t ≡ Some count → row_in before t o ≡ None
+pub keeps_row : (before : List Line) (text : List ℕ) (t o n count : ℕ) → Tells 1 text (Row t o n) → count_in before t ≡ Some count → has_image_in before t o ≡ false
     → drop_in before o ≡ false → Keeps 1 before text
 keeps_row before text t o n count tells counted none live rule b = of rule (breaks_said 1 before text (Row t o n) rule tells b)
   where
     of : (r : Rule) → Breaks before r (Row t o n) → ⊥
-    of r (second_row some) = not_some (row_in before t o) none some
+    of r (second_row some) = not_true (has_image_in before t o) none some
     of r (row_alone alone) = let e : Some count ≡ None = sym counted ∙ alone in cc
     of r (dropped_row is dropped) = not_true (drop_in before o) live dropped
 

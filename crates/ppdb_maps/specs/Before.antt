@@ -1,7 +1,9 @@
 -- What lines of a map text say together; a list of lines has the last one first.
-use Rattle.std.specs.Prelude.{ℕ, ◌&&◌, ◌++◌, Bool, true, false, cond, nat_eq, bytes_eq, List, [], ◌∷◌, Option, Some, None, find}
+use Rattle.std.specs.Prelude.{ℕ, ◌&&◌, ◌||◌, ◌++◌, Bool, true, false, cond, nat_eq, bytes_eq, is_some, List, [], ◌∷◌, Option, Some, None, find}
 use Rattle.ppdb_base.specs.declared.offsets.Run.{Run}
-use Rattle.ppdb_maps.specs.{Map.MethodLine, declared.line.Line.{Line, TheVariants.{Silent, Rows, Row, Method, Kept, Dropped, Slots, Slot, Signature, Document, Link}}}
+use Rattle.ppdb_maps.specs.{Map.MethodLine, declared.entries.CrossLine.CrossLine}
+use Rattle.ppdb_maps.specs.declared.line.Line.{Line}
+use Rattle.ppdb_maps.specs.declared.line.Line.TheVariants.{Silent, Rows, Row, Cross, Gone, Method, Kept, Dropped, Slots, Slot, Signature, Document, Link, Shares}
 
 -- the N of the table's `rows` line
 abbrev pub count_in : List Line → ℕ → Option ℕ
@@ -9,11 +11,27 @@ count_in [] table = None
 count_in (Rows t n ∷ before) table = cond (nat_eq t table) (Some n) (count_in before table)
 count_in (_ ∷ before) table = count_in before table
 
--- the NEW of the row's `row` line
+-- the NEW of the row's `row` line of four words
 abbrev pub row_in : List Line → ℕ → ℕ → Option ℕ
 row_in [] table old = None
 row_in (Row t o n ∷ before) table old = cond (nat_eq t table && nat_eq o old) (Some n) (row_in before table old)
 row_in (_ ∷ before) table old = row_in before table old
+
+-- the row's `row` line of five words
+abbrev pub cross_in : List Line → ℕ → ℕ → Option CrossLine
+cross_in [] table old = None
+cross_in (Cross line ∷ before) table old = cond (nat_eq line.table table && nat_eq line.old old) (Some line) (cross_in before table old)
+cross_in (_ ∷ before) table old = cross_in before table old
+
+-- whether the row has a `gone` line
+abbrev pub gone_in : List Line → ℕ → ℕ → Bool
+gone_in [] table old = false
+gone_in (Gone t o ∷ before) table old = cond (nat_eq t table && nat_eq o old) true (gone_in before table old)
+gone_in (_ ∷ before) table old = gone_in before table old
+
+-- whether the row has a `row` line, of four words or of five, or a `gone` line
+abbrev pub has_image_in : List Line → ℕ → ℕ → Bool
+has_image_in before table old = is_some (row_in before table old) || (is_some (cross_in before table old) || gone_in before table old)
 
 -- whether the method has a `drop` line
 abbrev pub drop_in : List Line → ℕ → Bool
@@ -50,6 +68,12 @@ abbrev pub link_in : List Line → Option (List ℕ)
 link_in [] = None
 link_in (Link value ∷ before) = Some value
 link_in (_ ∷ before) = link_in before
+
+-- whether there is a `shares` line
+abbrev pub shares_in : List Line → Bool
+shares_in [] = false
+shares_in (Shares ∷ before) = true
+shares_in (_ ∷ before) = shares_in before
 
 -- a run goes to the last `method` line
 abbrev pub with_run : Run → List MethodLine → List MethodLine

@@ -15,7 +15,8 @@ pub record IsLineOf (text line rest : List ℕ) : Type 0 where
   pub first : text_lines text ≡ line ∷ lines rest
   pub shorter : 0 < length text → length rest < length text
 
--- all words where there are at most four
+-- all words where there are at most five
 pub record AreWordsOf (line : List ℕ) (words : Words) : Type 0 where
-  pub few : words.count ≤ 4 → line_words line ≡ take words.count (words.name.now ∷ words.first.now ∷ words.second.now ∷ words.third.now ∷ [])
-  pub many : 4 < words.count → 4 < length (line_words line)
+  pub few : words.count ≤ 5
+      → line_words line ≡ take words.count (words.name.now ∷ words.first.now ∷ words.second.now ∷ words.third.now ∷ words.fourth.now ∷ [])
+  pub many : 5 < words.count → 5 < length (line_words line)

@@ -1,9 +1,13 @@
 -- What a draft holds of the lines read so far, of which the last one stands first.
 use Rattle.std.specs.Prelude.{◌≡◌, ℕ, ◌<◌, ◌≤◌, true, false, List, ◌∷◌, Option, Some, None, Result, MatchResult, find, nat_eq, is_some, option_map, map, ◌&&◌}
-use Rattle.std.specs.{List.IsDistinct, Ordering.nat_cmp, Cmp.Lexicographic.slice_cmp}
-use Rattle.ppdb_maps.specs.{declared.entries.{RowLine.RowLine, SignatureImage.SignatureImage}, BitSets.{has_number, has_row}, Gathered.{row_key, method_key, signature_key, same_pair}}
-use Rattle.ppdb_maps.specs.{Map.{MethodLine, pair_cmp}, Before.{count_in, row_in, methods_of, drop_in, slots_in, slot_in, signature_in, document_in, link_in, follows_method}, Rules.{Breaks, kind_of}}
-use Rattle.ppdb_maps.specs.{declared.bit_set.BitSet.BitSet, declared.draft.Draft.Draft, declared.refusal.Refusal.{Refusal, TheVariants.{Breaks as refused, Memory}}, declared.line.Line.Line}
+use Rattle.std.specs.{List.{IsDistinct, list_any}, Ordering.nat_cmp, Cmp.Lexicographic.slice_cmp}
+use Rattle.ppdb_maps.specs.{declared.entries.{RowLine.RowLine, CrossLine.CrossLine, GoneLine.GoneLine, SignatureImage.SignatureImage}, BitSets.{has_number, has_row}}
+use Rattle.ppdb_maps.specs.Gathered.{row_key, cross_key, gone_key, method_key, signature_key, same_pair}
+use Rattle.ppdb_maps.specs.Map.{MethodLine, pair_cmp}
+use Rattle.ppdb_maps.specs.Before.{count_in, row_in, cross_in, gone_in, has_image_in, shares_in, methods_of, drop_in, slots_in, slot_in, signature_in, document_in, link_in, follows_method}
+use Rattle.ppdb_maps.specs.Rules.{Breaks, kind_of}
+use Rattle.ppdb_maps.specs.{declared.bit_set.BitSet.BitSet, declared.draft.Draft.Draft, declared.refusal.Refusal.{Refusal, TheVariants.{Breaks as refused, Memory}}}
+use Rattle.ppdb_maps.specs.{declared.line.Line.Line}
 use Rattle.ppdb_maps.specs.{declared.line.Line.TheVariants.Kept, declared.rule.Rule.Rule}
 use Rattle.std.specs.BTreeMap as tree
 use Rattle.std.specs.BTreeSet as sorted
@@ -14,7 +18,11 @@ pub record HoldsOthers (before : List Line) (draft : Draft) : Type 0 where
   pub rows : (table old : ℕ)
       → option_map (λ (r : RowLine). r.new) (find (λ r. nat_eq r.table table && nat_eq r.old old) draft.rows.items) ≡ row_in before table old
   pub distinct : IsDistinct same_pair (map row_key draft.rows.items)
-  pub moved : (table old : ℕ) → has_row draft.moved table old ≡ is_some (row_in before table old)
+  pub crossed : (table old : ℕ) → find (λ (r : CrossLine). nat_eq r.table table && nat_eq r.old old) draft.crossed.items ≡ cross_in before table old
+  pub crossed_once : IsDistinct same_pair (map cross_key draft.crossed.items)
+  pub gone : (table old : ℕ) → list_any (λ (r : GoneLine). nat_eq r.table table && nat_eq r.old old) draft.gone.items ≡ gone_in before table old
+  pub gone_once : IsDistinct same_pair (map gone_key draft.gone.items)
+  pub moved : (table old : ℕ) → has_row draft.moved table old ≡ has_image_in before table old
   pub drops : (method : ℕ) → sorted.contains nat_cmp draft.drops method ≡ drop_in before method
   pub slotted : (method : ℕ) → sorted.contains nat_cmp draft.slotted method ≡ slots_in before method
   pub slots : (method old : ℕ) → tree.get pair_cmp draft.slots (method, old) ≡ slot_in before method old
@@ -24,6 +32,7 @@ pub record HoldsOthers (before : List Line) (draft : Draft) : Type 0 where
   pub signed : (method : ℕ) → has_number draft.signed method ≡ is_some (signature_in before method)
   pub documents : (name : List ℕ) → tree.get_by (λ key. slice_cmp nat_cmp name key.items) draft.documents ≡ document_in before name
   pub link : draft.link ≡ link_in before
+  pub shares : draft.shares ≡ shares_in before
 
 -- the list of distinct methods answers as these lines, and the set has their numbers
 pub record AreLines (lines methods : List MethodLine) (listed : BitSet) : Type 0 where

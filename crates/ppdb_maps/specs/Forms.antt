@@ -1,10 +1,13 @@
 -- The forms of a map text's lines, and what a line of each form says (docs/FORMAT.md, "Map texts").
-use Rattle.std.specs.{Prelude.{◌≡◌, ℕ, ◌+◌, ◌*◌, ◌<◌, ◌≤◌, ◌⊎◌, ◌++◌, List, [], ◌∷◌, codes, length, decimal}, List.AllByRecursion}
+use Rattle.std.specs.{Prelude.{◌≡◌, ℕ, ◌+◌, ◌*◌, ◌<◌, ◌≤◌, ◌≢◌, ◌⊎◌, ◌++◌, List, [], ◌∷◌, codes, length, decimal}, List.AllByRecursion}
 use Rattle.ppdb_base.specs.{declared.offsets.Run.Run, Escaped.escaped}
 use Rattle.ppdb_maps.specs.Words.{IsSilent, line_words}
-use Rattle.ppdb_maps.specs.declared.line.Form.{Form, TheVariants.{TableRows, RowMove, MethodSizes, OffsetRun, MethodDrop, MethodSlots, SlotMove, MethodSignature, DocumentRename, LinkValue}}
-use Rattle.ppdb_maps.specs.declared.entries.NameLine.{NameLine}
-use Rattle.ppdb_maps.specs.declared.line.Line.{Line, TheVariants.{Silent, Rows, Row, Method, Kept, Dropped, Slots, Slot, Signature, Document, Link}}
+use Rattle.ppdb_maps.specs.declared.line.Form.{Form}
+use Rattle.ppdb_maps.specs.declared.line.Form.TheVariants.{TableRows, RowMove, MethodSizes, OffsetRun, MethodDrop, MethodSlots, SlotMove, MethodSignature}
+use Rattle.ppdb_maps.specs.declared.line.Form.TheVariants.{DocumentRename, LinkValue, CrossMove, RowGone, Sharing}
+use Rattle.ppdb_maps.specs.declared.entries.{CrossLine.CrossLine, NameLine.NameLine}
+use Rattle.ppdb_maps.specs.declared.line.Line.{Line}
+use Rattle.ppdb_maps.specs.declared.line.Line.TheVariants.{Silent, Rows, Row, Cross, Gone, Method, Kept, Dropped, Slots, Slot, Signature, Document, Link, Shares}
 
 -- line 1 of a text of the version: 48 is the digit 0
 pub record IsHead (line : List ℕ) (version : ℕ) : Type 0 where
@@ -24,6 +27,9 @@ name_of SlotMove = codes "slot"
 name_of MethodSignature = codes "signature"
 name_of DocumentRename = codes "document"
 name_of LinkValue = codes "link"
+name_of CrossMove = codes "row"
+name_of RowGone = codes "gone"
+name_of Sharing = codes "shares"
 
 -- the number of words of a line of this form, the first one among them
 abbrev pub words_in : Form → ℕ
@@ -37,6 +43,9 @@ words_in SlotMove = 4
 words_in MethodSignature = 3
 words_in DocumentRename = 3
 words_in LinkValue = 2
+words_in CrossMove = 5
+words_in RowGone = 3
+words_in Sharing = 1
 
 -- the version from which on texts have it
 abbrev pub since : Form → ℕ
@@ -50,6 +59,9 @@ since SlotMove = 3
 since MethodSignature = 4
 since DocumentRename = 4
 since LinkValue = 4
+since CrossMove = 4
+since RowGone = 4
+since Sharing = 4
 
 -- the words are those of a form of the version, whatever its values
 pub record HasForm (version : ℕ) (words : List (List ℕ)) (form : Form) : Type 0 where
@@ -78,6 +90,17 @@ pub record IsTable (word : List ℕ) (table : ℕ) : Type 0 where
   pub digits : IsHexDigit c high × IsHexDigit d low
   pub is : table ≡ high * 16 + low
   pub known : table ≤ 0x2c
+
+-- the tables of types: TypeRef, TypeDef and TypeSpec (ECMA-335 II.22.38, II.22.37, II.22.39)
+abbrev pub IsTypeTable : ℕ → Type 0
+IsTypeTable table = (table ≡ 0x01) ⊎ (table ≡ 0x02) ⊎ (table ≡ 0x1b)
+
+-- A row moves to another of the tables of types, or the row of an assembly that is referred to (AssemblyRef) becomes that of the module's
+-- own (Assembly, ECMA-335 II.22.2, which has one row).
+abbrev pub Crosses : CrossLine → Type 0
+Crosses line =
+    (IsTypeTable line.table × IsTypeTable line.to × (line.table ≢ line.to))
+    ⊎ ((line.table ≡ 0x23) × (line.to ≡ 0x20) × (line.new ≡ 1))
 
 -- numbers that are bytes
 abbrev pub AreBytes : List ℕ → Type 0
@@ -114,6 +137,10 @@ pub data Values : Form → List (List ℕ) → Line → Type 0 where
   signature_line : {m n : List ℕ} {method new : ℕ} → IsNumber m 1 ROWS method → IsNumber n 0 ROWS new
       → Values MethodSignature (m ∷ n ∷ []) (Signature method new)
   document_line : {o n : List ℕ} {d : NameLine} → IsEscaped o d.old → IsEscaped n d.new → Values DocumentRename (o ∷ n ∷ []) (Document d)
+  cross_line : {t o u n : List ℕ} {line : CrossLine} → IsTable t line.table → IsNumber o 1 ROWS line.old → IsTable u line.to
+      → IsNumber n 1 ROWS line.new → Crosses line → Values CrossMove (t ∷ o ∷ u ∷ n ∷ []) (Cross line)
+  gone_line : {t o : List ℕ} {table old : ℕ} → IsTable t table → table ≢ 0x06 → IsNumber o 1 ROWS old → Values RowGone (t ∷ o ∷ []) (Gone table old)
+  shares_line : Values Sharing [] Shares
   link_line : {v : List ℕ} {value : List ℕ} → IsEscaped v value → Values LinkValue (v ∷ []) (Link value)
 
 -- the words say this: they are those of a form of the version, and their values are in range

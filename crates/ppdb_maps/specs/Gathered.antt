@@ -1,6 +1,8 @@
 -- The entries of a map's lists, from those of the maps in which they were gathered.
-use Rattle.std.specs.{Prelude.{ℕ, ◌&&◌, Bool, List, nat_eq}, Cmp.Lexicographic.slice_cmp, Ordering.nat_cmp, declared.{cmp.Ordering.Ordering, alloc.Global.Global, vec.Vec.Vec}}
-use Rattle.ppdb_maps.specs.{declared.entries.{Count.Count, RowLine.RowLine, SlotImage.SlotImage, SignatureImage.SignatureImage, NameLine.NameLine}, Map.MethodLine}
+use Rattle.std.specs.{Prelude.{ℕ, ◌&&◌, Bool, List, nat_eq}, Cmp.Lexicographic.slice_cmp, Ordering.nat_cmp}
+use Rattle.std.specs.declared.{cmp.Ordering.Ordering, alloc.Global.Global, vec.Vec.Vec}
+use Rattle.ppdb_maps.specs.declared.entries.{Count.Count, RowLine.RowLine, CrossLine.CrossLine, GoneLine.GoneLine, SlotImage.SlotImage, SignatureImage.SignatureImage, NameLine.NameLine}
+use Rattle.ppdb_maps.specs.{Map.MethodLine}
 
 -- the count of a pair of a table and its rows
 abbrev pub count_entry : ℕ × ℕ → Count
@@ -9,6 +11,13 @@ count_entry e = record { table = e.0; rows = e.1 }
 -- what `row` lines are ordered by
 abbrev pub row_key : RowLine → ℕ × ℕ
 row_key row = (row.table, row.old)
+
+-- what `row` lines of five words and `gone` lines are ordered by
+abbrev pub cross_key : CrossLine → ℕ × ℕ
+cross_key line = (line.table, line.old)
+
+abbrev pub gone_key : GoneLine → ℕ × ℕ
+gone_key line = (line.table, line.old)
 
 -- the slot line of a pair of a method and a slot, and the new slot
 abbrev pub slot_entry : (ℕ × ℕ) × ℕ → SlotImage

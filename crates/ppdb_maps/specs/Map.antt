@@ -1,8 +1,9 @@
 -- What a map says: one entry for each of its lines that says something, and the questions that are asked of it.
-use Rattle.std.specs.{Prelude.{ℕ, ◌&&◌, Bool, cond, nat_eq, bytes_eq, List, Option, Some, None, unwrap_or, filter, map, find, option_map}, List.list_any, List.Sorted.IsStrictlySortedBy}
+use Rattle.std.specs.{Prelude.{ℕ, ◌&&◌, Bool, true, false, cond, nat_eq, bytes_eq, List, Option, Some, None, unwrap_or, filter, map, find, option_map}, List.list_any, List.Sorted.IsStrictlySortedBy}
 use Rattle.std.specs.{Ordering.{nat_cmp, ordering_then}, Cmp.Lexicographic.slice_cmp, declared.cmp.Ordering.Ordering}
 use Rattle.ppdb_base.specs.{declared.offsets.Run.Run, Offsets.{Offsets, every, gone, lined}}
-use Rattle.ppdb_maps.specs.declared.entries.{Count.Count, RowLine.RowLine, SlotImage.SlotImage, SignatureImage.SignatureImage, NameLine.NameLine}
+use Rattle.ppdb_maps.specs.declared.entries.{Count.Count, RowLine.RowLine, CrossLine.CrossLine, GoneLine.GoneLine, SlotImage.SlotImage, SignatureImage.SignatureImage, NameLine.NameLine}
+use Rattle.ppdb_maps.specs.declared.image.RowImage.{RowImage, TheVariants.{Row, Gone, Missing}}
 
 -- a method's IL sizes and the runs of its kept offsets
 pub record MethodLine : Type 0 where
@@ -15,6 +16,8 @@ pub record MethodLine : Type 0 where
 pub record Map : Type 0 where
   pub counts : List Count
   pub rows : List RowLine
+  pub crossed : List CrossLine
+  pub gone : List GoneLine
   pub methods : List MethodLine
   pub drops : List ℕ
   pub slotted : List ℕ
@@ -22,13 +25,16 @@ pub record Map : Type 0 where
   pub signatures : List SignatureImage
   pub documents : List NameLine
   pub link : Option (List ℕ)
+  pub shares : Bool
 
 -- the map of these lists
-abbrev pub map_of : List Count → List RowLine → List MethodLine → List ℕ → List ℕ → List SlotImage → List SignatureImage → List NameLine
-    → Option (List ℕ) → Map
-map_of counts rows methods drops slotted slots signatures documents link = record {
+abbrev pub map_of : List Count → List RowLine → List CrossLine → List GoneLine → List MethodLine → List ℕ → List ℕ → List SlotImage → List SignatureImage
+    → List NameLine → Option (List ℕ) → Bool → Map
+map_of counts rows crossed gone_lines methods drops slotted slots signatures documents link shares = record {
   counts = counts;
   rows = rows;
+  crossed = crossed;
+  gone = gone_lines;
   methods = methods;
   drops = drops;
   slotted = slotted;
@@ -36,6 +42,7 @@ map_of counts rows methods drops slotted slots signatures documents link = recor
   signatures = signatures;
   documents = documents;
   link = link;
+  shares = shares;
 }
 
 -- by the first number, and by the second where the first are equal
@@ -46,6 +53,8 @@ pair_cmp x y = ordering_then (nat_cmp x.0 y.0) (nat_cmp x.1 y.1)
 pub record Ascends (said : Map) : Type 0 where
   pub counts : IsStrictlySortedBy nat_cmp (map (λ (c : Count). c.table) said.counts)
   pub rows : IsStrictlySortedBy pair_cmp (map (λ (r : RowLine). (r.table, r.old)) said.rows)
+  pub crossed : IsStrictlySortedBy pair_cmp (map (λ (r : CrossLine). (r.table, r.old)) said.crossed)
+  pub gone : IsStrictlySortedBy pair_cmp (map (λ (r : GoneLine). (r.table, r.old)) said.gone)
   pub methods : IsStrictlySortedBy nat_cmp (map (λ (m : MethodLine). m.method) said.methods)
   pub drops : IsStrictlySortedBy nat_cmp said.drops
   pub slotted : IsStrictlySortedBy nat_cmp said.slotted
@@ -57,9 +66,17 @@ pub record Ascends (said : Map) : Type 0 where
 abbrev pub count_of : Map → ℕ → Option ℕ
 count_of said table = option_map (λ (c : Count). c.rows) (find (λ c. nat_eq c.table table) said.counts)
 
--- the NEW of the row's line
+-- the NEW of the row's `row` line of four words
 abbrev pub row_line : Map → ℕ → ℕ → Option ℕ
 row_line said table old = option_map (λ (r : RowLine). r.new) (find (λ r. nat_eq r.table table && nat_eq r.old old) said.rows)
+
+-- the row's `row` line of five words: a table, and a row of it
+abbrev pub cross_line : Map → ℕ → ℕ → Option CrossLine
+cross_line said table old = find (λ r. nat_eq r.table table && nat_eq r.old old) said.crossed
+
+-- the row has a `gone` line
+abbrev pub has_gone_line : Map → ℕ → ℕ → Bool
+has_gone_line said table old = list_any (λ (r : GoneLine). nat_eq r.table table && nat_eq r.old old) said.gone
 
 -- the method's line with its runs
 abbrev pub method_line : Map → ℕ → Option MethodLine
@@ -88,18 +105,41 @@ document_line said name = option_map (λ (d : NameLine). d.new) (find (λ d. byt
 abbrev pub moved_name : Map → List ℕ → List ℕ
 moved_name said name = unwrap_or (document_line said name) name
 
--- the image of a row: none for a dropped method; the row itself where the table has no `rows` line; else that of its line
+-- the row of the same table that a row becomes: none for a dropped method; the row itself where the table has no `rows` line; else that of
+-- its `row` line of four words
 abbrev pub row_within : Map → ℕ → ℕ → Option ℕ
 row_within said table old =
     cond (nat_eq table 0x06 && is_dropped said old) None
     (elim (count_of said table) as (λ _. Option ℕ) [ None ↦ Some old | Some count ↦ row_line said table old ])
 
--- the image of a row, where 0 is no row: 0 of 0, and 0 where the row has no image
+-- what a row's lines make of it, where its table has a `rows` line: at most one of them is there
+abbrev pub told_image : ℕ → Option ℕ → Option CrossLine → Bool → RowImage
+told_image table (Some new) crossed has_gone = Row table new
+told_image table None (Some line) has_gone = Row line.to line.new
+told_image table None None true = Gone
+told_image table None None false = Missing
+
+abbrev pub line_image : Map → ℕ → ℕ → RowImage
+line_image said table old = told_image table (row_line said table old) (cross_line said table old) (has_gone_line said table old)
+
+-- the image of a row: missing for a dropped method; the row itself where the table has no `rows` line; else that of its line: a row of its
+-- table or of another one, or gone; missing where there is none
+abbrev pub row_image : Map → ℕ → ℕ → RowImage
+row_image said table old =
+    cond (nat_eq table 0x06 && is_dropped said old) Missing
+    (elim (count_of said table) as (λ _. RowImage) [ None ↦ Row table old | Some count ↦ line_image said table old ])
+
+-- the row has no successor
+abbrev pub is_gone : RowImage → Bool
+is_gone Gone = true
+is_gone image = false
+
+-- the row of the same table that a row becomes, where 0 is no row: 0 of 0, and 0 where there is none
 abbrev pub moved_row : Map → ℕ → ℕ → ℕ
 moved_row said table old = cond (nat_eq old 0) 0 (unwrap_or (row_within said table old) 0)
 
 -- the local signature of a method (a row of StandAloneSig, ECMA-335 II.22.36, 0 for none), where the input has the row `stored`: the NEW
--- of its `signature` line, else the image of that row, and 0 where there is none
+-- of its `signature` line, else the image of that row, and 0 where there is none or the row is gone
 abbrev pub moved_signature : Map → ℕ → ℕ → ℕ
 moved_signature said method stored = unwrap_or (signature_line said method) (moved_row said 0x11 stored)
 
@@ -120,9 +160,15 @@ slot_image said method old = cond (has_slots said method) (slot_line said method
 abbrev pub output_count : Map → ℕ → ℕ → ℕ
 output_count said table rows = unwrap_or (count_of said table) rows
 
--- the `row` lines of a table, and the `slot` lines of a method
+-- the `row` lines of four words and of five, and the `gone` lines, of a table; the `slot` lines of a method
 abbrev pub rows_of : Map → ℕ → List RowLine
 rows_of said table = filter (λ r. nat_eq r.table table) said.rows
+
+abbrev pub crossed_of : Map → ℕ → List CrossLine
+crossed_of said table = filter (λ r. nat_eq r.table table) said.crossed
+
+abbrev pub gone_of : Map → ℕ → List GoneLine
+gone_of said table = filter (λ r. nat_eq r.table table) said.gone
 
 abbrev pub slots_of : Map → ℕ → List SlotImage
 slots_of said method = filter (λ s. nat_eq s.method method) said.slots

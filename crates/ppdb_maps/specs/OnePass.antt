@@ -8,15 +8,15 @@ pub record IsNumberBefore (end : ℕ) (bytes : List ℕ) (number : ℕ) (rest : 
   pub fits : number < 2 ^ 32
   pub spelled : bytes ≡ decimal number ++ end ∷ rest
 
--- the text's first line says this in each version
-pub record IsLineBefore (text : List ℕ) (said : Line) (rest : List ℕ) : Type 0 where
+-- the text's first line says this in each version from this one on
+pub record IsLineBefore (from : ℕ) (text : List ℕ) (said : Line) (rest : List ℕ) : Type 0 where
   pub line : List ℕ
   pub first : IsLineOf text line rest
-  pub tells : (version : ℕ) → 1 ≤ version → Tells version line said
+  pub tells : (version : ℕ) → from ≤ version → Tells version line said
 
 -- the text's first line says this run in each version
 abbrev pub IsRunBefore : List ℕ → Run → List ℕ → Type 0
-IsRunBefore text run rest = IsLineBefore text (Kept run) rest
+IsRunBefore text run rest = IsLineBefore 1 text (Kept run) rest
 
 -- the text's first line says this, or breaks this rule first
 pub record IsFirstTold (version : ℕ) (text : List ℕ) (said : Result Line Refusal) (rest : List ℕ) : Type 0 where

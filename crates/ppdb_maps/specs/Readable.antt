@@ -1,8 +1,9 @@
 -- What reading promises of every map, and that a text has one map or one refused line (docs/FORMAT.md, "Map texts").
-use Rattle.std.specs.{Prelude.{◌≡◌, ℕ, ◌≤◌, false, IfSome, IsSome, IsTrue, List}, List.AllByRecursion}
+use Rattle.std.specs.{Prelude.{◌≡◌, ◌≢◌, ℕ, ◌≤◌, false, None, IfSome, IsSome, IsTrue, List}, List.AllByRecursion}
 use Rattle.ppdb_base.specs.Offsets.{Rise, lined}
-use Rattle.ppdb_maps.specs.{declared.entries.{Count.Count, RowLine.RowLine, SlotImage.SlotImage, SignatureImage.SignatureImage, NameLine.NameLine}, Forms.{AreBytes, ROWS, OFFSETS, SLOTS}}
-use Rattle.ppdb_maps.specs.{Map.{Map, MethodLine, Ascends, count_of, is_dropped, has_slots}, Text.{IsMapOf, Refused}}
+use Rattle.ppdb_maps.specs.declared.entries.{Count.Count, RowLine.RowLine, CrossLine.CrossLine, GoneLine.GoneLine, SlotImage.SlotImage, SignatureImage.SignatureImage, NameLine.NameLine}
+use Rattle.ppdb_maps.specs.Forms.{AreBytes, Crosses, ROWS, OFFSETS, SLOTS}
+use Rattle.ppdb_maps.specs.{Map.{Map, MethodLine, Ascends, count_of, row_line, cross_line, is_dropped, has_slots}, Text.{IsMapOf, Refused}}
 
 -- the number of a row that is there
 abbrev pub IsRow : ℕ → Type 0
@@ -15,6 +16,17 @@ IsCount count = (count.table ≤ 0x2c) × (count.rows ≤ ROWS)
 -- a row and its image; its table has a count, and the row is no dropped method
 abbrev pub IsRowOf : Map → RowLine → Type 0
 IsRowOf m row = IsRow row.old × IsRow row.new × IsSome (count_of m row.table) × (row.table ≡ 0x06 → is_dropped m row.old ≡ false)
+
+-- a row and its image in another table; its table has a count, and the row has no `row` line of four words
+abbrev pub IsCrossOf : Map → CrossLine → Type 0
+IsCrossOf m line =
+    IsRow line.old × IsRow line.new × Crosses line × IsSome (count_of m line.table) × (row_line m line.table line.old ≡ None)
+
+-- a row that is gone, of a table other than MethodDef; its table has a count, and the row has no `row` line
+abbrev pub IsGoneOf : Map → GoneLine → Type 0
+IsGoneOf m line =
+    IsRow line.old × (line.table ≢ 0x06) × IsSome (count_of m line.table)
+    × (row_line m line.table line.old ≡ None) × (cross_line m line.table line.old ≡ None)
 
 -- a method that is not dropped, its sizes, and runs that rise within them
 abbrev pub IsLineOf : Map → MethodLine → Type 0
@@ -43,6 +55,8 @@ pub record IsReadable (m : Map) : Type 0 where
   pub ascends : Ascends m
   pub counts : AllByRecursion IsCount m.counts
   pub rows : AllByRecursion (IsRowOf m) m.rows
+  pub crossed : AllByRecursion (IsCrossOf m) m.crossed
+  pub gone : AllByRecursion (IsGoneOf m) m.gone
   pub methods : AllByRecursion (IsLineOf m) m.methods
   pub drops : AllByRecursion IsRow m.drops
   pub slotted : AllByRecursion (IsSlottedOf m) m.slotted

@@ -1,12 +1,18 @@
 -- What the readers of a line answer.
-use Rattle.std.specs.Prelude.{◌≡◌, ℕ, ◌≤◌, List, [], ◌∷◌, Option, Result, MatchOption, MatchResult}
+use Rattle.std.specs.Prelude.{◌≡◌, ℕ, ◌≤◌, codes, List, [], ◌∷◌, Option, Result, MatchOption, MatchResult}
 use Rattle.ppdb_maps.specs.{Forms.{name_of, words_in, since, Values, Tells}, Rules.BreaksFirst, declared.words.Words.Words, declared.line.Form.Form}
-use Rattle.ppdb_maps.specs.declared.line.Form.TheVariants.{TableRows, RowMove, MethodSizes, OffsetRun, MethodDrop, MethodSlots, SlotMove, MethodSignature, DocumentRename, LinkValue}
+use Rattle.ppdb_maps.specs.declared.line.Form.TheVariants.{TableRows, RowMove, MethodSizes, OffsetRun, MethodDrop, MethodSlots, SlotMove, MethodSignature}
+use Rattle.ppdb_maps.specs.declared.line.Form.TheVariants.{DocumentRename, LinkValue, CrossMove, RowGone, Sharing}
 use Rattle.ppdb_maps.specs.{declared.line.Line.Line, declared.refusal.Refusal.{Refusal, TheVariants.{Breaks as refused, Memory as no_memory}}}
 
--- the form whose first word this is
-abbrev pub IsNamed : List ℕ → Option Form → Type 0
-IsNamed word result = MatchOption result ((form : Form) → word ≡ name_of form → ⊥) (λ form. word ≡ name_of form)
+-- the form whose first word and number of words these are
+abbrev pub IsNamed : List ℕ → ℕ → Option Form → Type 0
+IsNamed word count result =
+    MatchOption result ((form : Form) → word ≡ name_of form → count ≡ words_in form → ⊥) (λ form. (word ≡ name_of form) × (count ≡ words_in form))
+
+-- the form other than that of a row with this first word
+abbrev pub IsNamedAlone : List ℕ → Option Form → Type 0
+IsNamedAlone word result = MatchOption result ((form : Form) → word ≡ name_of form → word ≡ codes "row") (λ form. word ≡ name_of form)
 
 -- the words that were read are those of a form of the version
 pub record FitsForm (version : ℕ) (words : Words) (form : Form) : Type 0 where
@@ -29,6 +35,9 @@ values_of SlotMove words = words.first.now ∷ words.second.now ∷ words.third.
 values_of MethodSignature words = words.first.now ∷ words.second.now ∷ []
 values_of DocumentRename words = words.first.now ∷ words.second.now ∷ []
 values_of LinkValue words = words.first.now ∷ []
+values_of CrossMove words = words.first.now ∷ words.second.now ∷ words.third.now ∷ words.fourth.now ∷ []
+values_of RowGone words = words.first.now ∷ words.second.now ∷ []
+values_of Sharing words = []
 
 -- what the values of a form say, or that one is misspelled or out of its range
 abbrev pub IsLineOfForm : Form → Words → Option Line → Type 0

@@ -1,6 +1,6 @@
 -- The map of the sample file of n methods (docs/FORMAT.md, "Sample"): the methods change places, and of the 16 bytes of each those at
 -- the offsets 4 to 7 go, six bytes stand in their place, and two more at the end.
-use Rattle.std.specs.{Prelude.{ℕ, ◌+◌, ◌-◌, List, [], ◌∷◌, None, map}, List.range_with_len}
+use Rattle.std.specs.{Prelude.{ℕ, ◌+◌, ◌-◌, false, List, [], ◌∷◌, None, map}, List.range_with_len}
 use Rattle.ppdb_base.specs.declared.offsets.Run.{Run}
 use Rattle.ppdb_maps.specs.{Map.{Map, MethodLine}, declared.entries.RowLine.RowLine}
 
@@ -19,6 +19,8 @@ abbrev pub sample_map_of : ℕ → Map
 sample_map_of n = record {
   counts = record { table = 0x06; rows = n } ∷ [];
   rows = map (sample_row n) (range_with_len 1 n);
+  crossed = [];
+  gone = [];
   methods = map sample_method (range_with_len 1 n);
   drops = [];
   slotted = [];
@@ -26,4 +28,5 @@ sample_map_of n = record {
   signatures = [];
   documents = [];
   link = None;
+  shares = false;
 }

@@ -1,7 +1,8 @@
 -- Map texts (docs/FORMAT.md, "Map texts"): the map that a text has, and its refused line.
 use Rattle.std.specs.Prelude.{◌≡◌, ℕ, ◌+◌, ◌++◌, List, [], ◌∷◌, length}
-use Rattle.ppdb_maps.specs.{Map.{Map, Ascends, count_of, row_line, method_line, is_dropped, has_slots, slot_line, signature_line, document_line}, Words.text_lines, Forms.{IsHead, Tells}}
-use Rattle.ppdb_maps.specs.Before.{count_in, row_in, method_in, drop_in, slots_in, slot_in, signature_in, document_in, link_in}
+use Rattle.ppdb_maps.specs.Map.{Map, Ascends, count_of, row_line, cross_line, has_gone_line, method_line, is_dropped, has_slots, slot_line, signature_line, document_line}
+use Rattle.ppdb_maps.specs.{Words.text_lines, Forms.{IsHead, Tells}}
+use Rattle.ppdb_maps.specs.Before.{count_in, row_in, cross_in, gone_in, shares_in, method_in, drop_in, slots_in, slot_in, signature_in, document_in, link_in}
 use Rattle.ppdb_maps.specs.{Rules.{Keeps, BreaksFirst, kind_of}, declared.line.Line.Line, declared.rule.Rule.Rule}
 
 -- the lines after line 1 say these things, the last one first, and none breaks a rule
@@ -23,6 +24,8 @@ pub data Refused (text : List ℕ) : ℕ → ℕ → Type 0 where
 pub record HoldsWhat (said : List Line) (holds : Map) : Type 0 where
   pub counts : (table : ℕ) → count_of holds table ≡ count_in said table
   pub rows : (table old : ℕ) → row_line holds table old ≡ row_in said table old
+  pub crossed : (table old : ℕ) → cross_line holds table old ≡ cross_in said table old
+  pub gone : (table old : ℕ) → has_gone_line holds table old ≡ gone_in said table old
   pub methods : (method : ℕ) → method_line holds method ≡ method_in said method
   pub drops : (method : ℕ) → is_dropped holds method ≡ drop_in said method
   pub slotted : (method : ℕ) → has_slots holds method ≡ slots_in said method
@@ -30,6 +33,7 @@ pub record HoldsWhat (said : List Line) (holds : Map) : Type 0 where
   pub signatures : (method : ℕ) → signature_line holds method ≡ signature_in said method
   pub documents : (name : List ℕ) → document_line holds name ≡ document_in said name
   pub link : holds.link ≡ link_in said
+  pub shares : holds.shares ≡ shares_in said
   pub ascends : Ascends holds
 
 -- the text has this map

@@ -4,15 +4,16 @@ ghost use Rattle.ppdb_maps.specs.Loops.{IsTextAdded};
 ghost use Rattle.ppdb_maps.specs.Reading.{IsTold};
 ghost use Rattle.ppdb_maps.specs.Text.{HoldsWhat, Read};
 ghost use Rattle.ppdb_maps.specs.declared.line.Line.{Line};
-ghost use Rattle.ppdb_maps.specs.declared.line.Line.TheVariants.{Rows, Row, Method as SizesOf, Kept, Dropped, Slots, Slot, Signature, Document, Link};
+ghost use Rattle.ppdb_maps.specs.declared.line.Line.TheVariants.{Rows, Row, Cross, Gone, Method as SizesOf, Kept, Dropped, Slots, Slot, Signature, Document, Link};
+ghost use Rattle.ppdb_maps.specs.declared.line.Line.TheVariants.{Shares};
 ghost use Rattle.ppdb_maps.specs.Drafts.{Holds, IsClosed, IsAdded, IsAddedTo, HasLength};
 ghost use Rattle.ppdb_maps.specs.Rules.{IsNamed};
 
 use crate::bit_set::{BitSet, RowSet};
-use crate::entries::{NameLine, RowLine, SignatureImage};
+use crate::entries::{CrossLine, GoneLine, NameLine, RowLine, SignatureImage};
 use crate::finish::{
-    counts_of, documents_of, methods_in_order, numbers_of, rows_in_order, signatures_in_order,
-    slots_of,
+    counts_of, crossed_in_order, documents_of, gone_in_order, methods_in_order, numbers_of,
+    rows_in_order, signatures_in_order, slots_of,
 };
 use crate::line::Line;
 use crate::map_text::MapText;
@@ -29,6 +30,11 @@ pub struct Draft {
     counts: BTreeMap<u8, u32>,
     /// In the order of their lines.
     rows: Vec<RowLine>,
+    /// In the order of their lines.
+    crossed: Vec<CrossLine>,
+    /// In the order of their lines.
+    gone: Vec<GoneLine>,
+    /// The rows of these three.
     moved: RowSet,
     /// In the order of their lines.
     methods: Vec<Method>,
@@ -46,6 +52,7 @@ pub struct Draft {
     /// The new names of documents, by their names.
     documents: BTreeMap<Vec<u8>, Bytes>,
     link: Option<Bytes>,
+    shares: bool,
 }
 
 impl Draft {
@@ -56,6 +63,8 @@ impl Draft {
         Draft {
             counts: BTreeMap::new(alloc),
             rows: Vec::new(alloc),
+            crossed: Vec::new(alloc),
+            gone: Vec::new(alloc),
             moved: RowSet::new(alloc),
             methods: Vec::new(alloc),
             listed: BitSet::new(alloc),
@@ -67,6 +76,7 @@ impl Draft {
             signed: BitSet::new(alloc),
             documents: BTreeMap::new(alloc),
             link: None,
+            shares: false,
         }
     }
 
@@ -105,6 +115,34 @@ impl Draft {
         }
         self.moved.insert(alloc, table, old)?;
         self.rows.push(RowLine { table, old, new })?;
+        Ok(())
+    }
+
+    fn add_cross(&mut self, alloc: Global, line: CrossLine) -> Result<(), Refusal>
+        ensures { IsAdded (Cross line) self.old result self.new }
+    {
+        if self.moved.contains(line.table, line.old) {
+            return Err(Refusal::Breaks(Rule::Repeated));
+        }
+        if !self.counts.contains_key(&line.table) {
+            return Err(Refusal::Breaks(Rule::Undeclared));
+        }
+        self.moved.insert(alloc, line.table, line.old)?;
+        self.crossed.push(line)?;
+        Ok(())
+    }
+
+    fn add_gone(&mut self, alloc: Global, table: u8, old: u32) -> Result<(), Refusal>
+        ensures { IsAdded (Gone table old) self.old result self.new }
+    {
+        if self.moved.contains(table, old) {
+            return Err(Refusal::Breaks(Rule::Repeated));
+        }
+        if !self.counts.contains_key(&table) {
+            return Err(Refusal::Breaks(Rule::Undeclared));
+        }
+        self.moved.insert(alloc, table, old)?;
+        self.gone.push(GoneLine { table, old })?;
         Ok(())
     }
 
@@ -212,6 +250,16 @@ impl Draft {
         Ok(())
     }
 
+    fn add_shares(&mut self) -> Result<(), Refusal>
+        ensures { IsAdded Shares self.old result self.new }
+    {
+        if self.shares {
+            return Err(Refusal::Breaks(Rule::Repeated));
+        }
+        self.shares = true;
+        Ok(())
+    }
+
     fn close_and_add_document(&mut self, document: NameLine) -> Result<(), Refusal>
         ensures { IsAddedTo (Document document) self.old result self.new }
     {
@@ -252,6 +300,14 @@ impl Draft {
                 self.close()?;
                 self.add_row(alloc, table, old, new)
             }
+            Line::Cross(line) => {
+                self.close()?;
+                self.add_cross(alloc, line)
+            }
+            Line::Gone { table, old } => {
+                self.close()?;
+                self.add_gone(alloc, table, old)
+            }
             Line::Method {
                 method,
                 old_size,
@@ -278,6 +334,10 @@ impl Draft {
             }
             Line::Document(document) => self.close_and_add_document(document.into_inner()),
             Line::Link(value) => self.close_and_add_link(value.into_inner()),
+            Line::Shares => {
+                self.close()?;
+                self.add_shares()
+            }
         }
     }
 
@@ -300,6 +360,8 @@ impl Draft {
         let Draft {
             counts,
             rows,
+            crossed,
+            gone,
             moved: _,
             methods,
             listed: _,
@@ -311,9 +373,12 @@ impl Draft {
             signed: _,
             documents,
             link,
+            shares,
         } = self;
         let counts = counts_of(alloc, counts)?;
         let rows = rows_in_order(rows)?;
+        let crossed = crossed_in_order(crossed)?;
+        let gone = gone_in_order(gone)?;
         let methods = methods_in_order(methods)?;
         let drops = numbers_of(alloc, drops)?;
         let slotted = numbers_of(alloc, slotted)?;
@@ -321,7 +386,8 @@ impl Draft {
         let signatures = signatures_in_order(signatures)?;
         let documents = documents_of(alloc, documents)?;
         Ok(MapText::new(
-            counts, rows, methods, drops, slotted, slots, signatures, documents, link,
+            counts, rows, crossed, gone, methods, drops, slotted, slots, signatures, documents,
+            link, shares,
         ))
     }
 }

@@ -8,12 +8,29 @@ pub struct Count {
     pub rows: u32,
 }
 
-/// The image of a row of a table.
+/// The row of the same table that a row becomes.
 #[derive(Clone, Copy)]
 pub struct RowLine {
     pub table: u8,
     pub old: u32,
     pub new: u32,
+}
+
+/// The row of another table that a row becomes.
+#[derive(Clone, Copy)]
+pub struct CrossLine {
+    pub table: u8,
+    pub old: u32,
+    /// The other table.
+    pub to: u8,
+    pub new: u32,
+}
+
+/// A row that has no successor.
+#[derive(Clone, Copy)]
+pub struct GoneLine {
+    pub table: u8,
+    pub old: u32,
 }
 
 /// The image of a local's slot in a method.

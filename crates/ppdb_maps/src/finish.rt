@@ -4,10 +4,10 @@ ghost use Rattle.std.specs.Ordering.{nat_cmp};
 ghost use Rattle.std.specs.BTreeMap.{IsOrdered};
 ghost use Rattle.std.specs.BTreeSet as sorted;
 ghost use Rattle.ppdb_maps.specs.Map.{pair_cmp};
-ghost use Rattle.ppdb_maps.specs.Gathered.{count_entry, row_key, method_key, signature_key, slot_entry, name_entry, name_cmp};
+ghost use Rattle.ppdb_maps.specs.Gathered.{count_entry, row_key, cross_key, gone_key, method_key, signature_key, slot_entry, name_entry, name_cmp};
 ghost use Rattle.std.specs.List.Sorted.{IsPermutation, IsSortedByKey};
 
-use crate::entries::{Count, NameLine, RowLine, SignatureImage, SlotImage};
+use crate::entries::{Count, CrossLine, GoneLine, NameLine, RowLine, SignatureImage, SlotImage};
 use crate::method::Method;
 use ppdb_base::Bytes;
 use std::alloc::{AllocError, Global};
@@ -30,6 +30,24 @@ pub fn rows_in_order(mut rows: Vec<RowLine>) -> Result<Vec<RowLine>, AllocError>
 {
     rows.sort_by_key(|row| (row.table, row.old))?;
     Ok(rows)
+}
+
+/// Rows that become rows of other tables, in ascending order of their tables and numbers.
+pub fn crossed_in_order(mut lines: Vec<CrossLine>) -> Result<Vec<CrossLine>, AllocError>
+    ensures moved { IfOk result (λ v. IsPermutation lines.items v.items) }
+    ensures sorted { IfOk result (λ v. IsSortedByKey cross_key pair_cmp v.items) }
+{
+    lines.sort_by_key(|line| (line.table, line.old))?;
+    Ok(lines)
+}
+
+/// Rows without a successor, in ascending order of their tables and numbers.
+pub fn gone_in_order(mut lines: Vec<GoneLine>) -> Result<Vec<GoneLine>, AllocError>
+    ensures moved { IfOk result (λ v. IsPermutation lines.items v.items) }
+    ensures sorted { IfOk result (λ v. IsSortedByKey gone_key pair_cmp v.items) }
+{
+    lines.sort_by_key(|line| (line.table, line.old))?;
+    Ok(lines)
 }
 
 pub fn slots_of(

@@ -7,6 +7,7 @@ mod draft;
 mod entries;
 mod escaped;
 mod finish;
+mod image;
 mod laws;
 mod line;
 mod map_text;
@@ -25,6 +26,7 @@ mod search;
 mod starts;
 mod words;
 
+pub use image::RowImage;
 pub use laws::{
     kept_offsets_rise, maps_are_readable, next_image_never_falls, refusals_are_one,
     sample_texts_have_their_maps, texts_have_one_map,

@@ -1,6 +1,6 @@
 // The forms of a map text's lines, and what a line says.
 use crate::boxed::Boxed;
-use crate::entries::NameLine;
+use crate::entries::{CrossLine, NameLine};
 use ppdb_base::{Bytes, Run};
 
 /// The forms of the lines that say something.
@@ -26,6 +26,12 @@ pub enum Form {
     DocumentRename,
     /// `link VALUE`
     LinkValue,
+    /// `row TT OLD TT2 NEW`
+    CrossMove,
+    /// `gone TT OLD`
+    RowGone,
+    /// `shares`
+    Sharing,
 }
 
 /// What a line after the first says.
@@ -38,11 +44,18 @@ pub enum Line {
         table: u8,
         rows: u32,
     },
-    /// The image of a row.
+    /// The row of the same table that a row becomes.
     Row {
         table: u8,
         old: u32,
         new: u32,
+    },
+    /// The row of another table that a row becomes.
+    Cross(CrossLine),
+    /// The row has no successor.
+    Gone {
+        table: u8,
+        old: u32,
     },
     /// The IL sizes of a method.
     Method {
@@ -71,4 +84,6 @@ pub enum Line {
     Document(Boxed<NameLine>),
     /// The value of each Source Link record on row 1 of Module.
     Link(Boxed<Bytes>),
+    /// Rows of the tables of types and of AssemblyRef may have one image.
+    Shares,
 }

@@ -1,21 +1,24 @@
 // The map that a text has.
-ghost use Rattle.std.specs.Prelude.{◌≡◌, ℕ, List, [], None, option_copied, slice_get, option_map};
-ghost use Rattle.ppdb_maps.specs.Map.{MethodLine, map_of, count_of, output_count, row_line, row_within, moved_row};
-ghost use Rattle.ppdb_maps.specs.Map.{is_dropped, has_slots, slot_line, slot_image, offsets_in, rows_of, slots_of};
+ghost use Rattle.std.specs.Prelude.{◌≡◌, ◌||◌, ℕ, List, [], false, None, is_some, option_copied, slice_get, option_map};
+ghost use Rattle.ppdb_maps.specs.Map.{MethodLine, map_of, count_of, output_count, row_line, row_within, moved_row, told_image, cross_line, has_gone_line, row_image};
+ghost use Rattle.ppdb_maps.specs.Map.{is_dropped, has_slots, slot_line, slot_image, offsets_in, rows_of, crossed_of, gone_of, slots_of};
 ghost use Rattle.ppdb_maps.specs.Map.{signature_line, moved_signature, document_line, moved_name};
 ghost use Rattle.ppdb_maps.specs.Readable.{IsReadable};
 ghost use Rattle.ppdb_maps.specs.declared.entries.NameLine.{NameLine};
+ghost use Rattle.ppdb_maps.specs.declared.entries.CrossLine.{CrossLine};
+ghost use Rattle.ppdb_maps.specs.declared.entries.GoneLine.{GoneLine};
 ghost use Rattle.ppdb_maps.specs.declared.entries.RowLine.{RowLine};
 ghost use Rattle.ppdb_maps.specs.declared.entries.SignatureImage.{SignatureImage};
 ghost use Rattle.ppdb_maps.specs.declared.entries.SlotImage.{SlotImage};
 ghost use Rattle.ppdb_maps.specs.Says.{offsets_of};
 
-use crate::entries::{Count, NameLine, RowLine, SignatureImage, SlotImage};
+use crate::entries::{Count, CrossLine, GoneLine, NameLine, RowLine, SignatureImage, SlotImage};
+use crate::image::RowImage;
 use crate::method::Method;
 use crate::method_map::MethodMap;
 use crate::search::{
-    count_at, document_at, has_number, method_at, nth_row, nth_slot, row_near, signature_at,
-    slot_at,
+    count_at, cross_at, document_at, has_number, is_gone_at, method_at, nth_cross, nth_gone,
+    nth_row, nth_slot, row_near, signature_at, slot_at,
 };
 use crate::starts::Starts;
 use ppdb_base::Bytes;
@@ -29,6 +32,8 @@ pub struct MapText {
     rows: Vec<RowLine>,
     /// Where the rows of each table begin among them.
     starts: Starts,
+    crossed: Vec<CrossLine>,
+    gone: Vec<GoneLine>,
     methods: Vec<Method>,
     drops: Vec<u32>,
     slotted: Vec<u32>,
@@ -36,6 +41,7 @@ pub struct MapText {
     signatures: Vec<SignatureImage>,
     documents: Vec<NameLine>,
     link: Option<Bytes>,
+    shares: bool,
 }
 
 impl Model for MapText {
@@ -45,21 +51,24 @@ impl Model for MapText {
 
     ghost use Rattle.ppdb_maps.specs.Readable.{IsReadable};
 
-    ghost view = { λ m. map_of m.counts.items m.rows.items m.methods.items m.drops.items m.slotted.items m.slots.items m.signatures.items m.documents.items m.link };
+    ghost view = { λ m. map_of m.counts.items m.rows.items m.crossed.items m.gone.items m.methods.items m.drops.items m.slotted.items m.slots.items
+        m.signatures.items m.documents.items m.link m.shares };
 
-    ghost invariant = { λ m. IsReadable (map_of m.counts.items m.rows.items m.methods.items m.drops.items m.slotted.items m.slots.items
-        m.signatures.items m.documents.items m.link) };
+    ghost invariant = { λ m. IsReadable (map_of m.counts.items m.rows.items m.crossed.items m.gone.items m.methods.items m.drops.items m.slotted.items
+        m.slots.items m.signatures.items m.documents.items m.link m.shares) };
 }
 
 impl MapText {
     /// The map without lines: nothing changes. It takes no memory.
     pub fn empty(alloc: Global) -> MapText
-        ensures { result ≡ map_of [] [] [] [] [] [] [] [] None }
+        ensures { result ≡ map_of [] [] [] [] [] [] [] [] [] [] None false }
     {
         MapText {
             counts: Vec::new(alloc),
             rows: Vec::new(alloc),
             starts: Starts::none(),
+            crossed: Vec::new(alloc),
+            gone: Vec::new(alloc),
             methods: Vec::new(alloc),
             drops: Vec::new(alloc),
             slotted: Vec::new(alloc),
@@ -67,6 +76,7 @@ impl MapText {
             signatures: Vec::new(alloc),
             documents: Vec::new(alloc),
             link: None,
+            shares: false,
         }
     }
 
@@ -74,6 +84,8 @@ impl MapText {
     pub fn new(
         counts: Vec<Count>,
         rows: Vec<RowLine>,
+        crossed: Vec<CrossLine>,
+        gone: Vec<GoneLine>,
         methods: Vec<Method>,
         drops: Vec<u32>,
         slotted: Vec<u32>,
@@ -81,15 +93,20 @@ impl MapText {
         signatures: Vec<SignatureImage>,
         documents: Vec<NameLine>,
         link: Option<Bytes>,
+        shares: bool,
     ) -> MapText
-        requires { IsReadable (map_of counts.items rows.items methods.items drops.items slotted.items slots.items signatures.items documents.items link) }
-        ensures { result ≡ map_of counts.items rows.items methods.items drops.items slotted.items slots.items signatures.items documents.items link }
+        requires { IsReadable (map_of counts.items rows.items crossed.items gone.items methods.items drops.items slotted.items slots.items signatures.items
+            documents.items link shares) }
+        ensures { result ≡ map_of counts.items rows.items crossed.items gone.items methods.items drops.items slotted.items slots.items signatures.items
+            documents.items link shares }
     {
         let starts = Starts::of(rows.as_slice());
         MapText {
             counts,
             rows,
             starts,
+            crossed,
+            gone,
             methods,
             drops,
             slotted,
@@ -97,6 +114,7 @@ impl MapText {
             signatures,
             documents,
             link,
+            shares,
         }
     }
 
@@ -123,7 +141,7 @@ impl MapText {
         self.rows(table).unwrap_or(rows)
     }
 
-    /// The NEW of the row's `row` line.
+    /// The NEW of the row's `row` line of four words.
     fn new_row(&self, table: u8, old: u32) -> Option<u32>
         ensures { result ≡ row_line self.now table old }
     {
@@ -131,8 +149,8 @@ impl MapText {
         row_near(self.rows.as_slice(), table, old, index).map(|row| row.new)
     }
 
-    /// The image of a row: none for a dropped method; the row itself where its table has no `rows`
-    /// line, else the image that its `row` line names.
+    /// The row of the same table that a row becomes: none for a dropped method; the row itself where
+    /// its table has no `rows` line, else the one that its `row` line of four words names.
     pub fn row(&self, table: u8, old: u32) -> Option<u32>
         ensures { result ≡ row_within self.now table old }
     {
@@ -145,7 +163,54 @@ impl MapText {
         }
     }
 
-    /// The image of a row that may be 0 for no row; 0 where there is no image.
+    /// What a row of a table becomes by its `row` line of five words or its `gone` line.
+    fn other_image(&self, table: u8, old: u32) -> RowImage
+        ensures { result ≡ told_image table None (cross_line self.now table old) (has_gone_line self.now table old) }
+    {
+        match cross_at(self.crossed.as_slice(), table, old) {
+            Some(line) => RowImage::Row {
+                table: line.to,
+                row: line.new,
+            },
+            None if is_gone_at(self.gone.as_slice(), table, old) => RowImage::Gone,
+            None => RowImage::Missing,
+        }
+    }
+
+    /// The image of a row of the tables 00 to 2c: missing for a dropped method; the row itself where
+    /// its table has no `rows` line, else what its line says of it, and missing where there is none.
+    /// In a table above 2c it is the row itself.
+    pub fn row_image(&self, table: u8, old: u32) -> RowImage
+        ensures { result ≡ row_image self.now table old }
+    {
+        if table == 0x06 && self.dropped(old) {
+            return RowImage::Missing;
+        }
+        if self.rows(table).is_none() {
+            return RowImage::Row { table, row: old };
+        }
+        match self.new_row(table, old) {
+            Some(row) => RowImage::Row { table, row },
+            None => self.other_image(table, old),
+        }
+    }
+
+    /// Whether rows leave their table: there is a `row` line of five words or a `gone` line.
+    pub fn has_leaving(&self) -> bool
+        ensures { result ≡ (is_some (slice_get self.now.crossed 0) || is_some (slice_get self.now.gone 0)) }
+    {
+        !self.crossed.is_empty() || !self.gone.is_empty()
+    }
+
+    /// Whether rows of the tables of types and of AssemblyRef may have one image: there is a
+    /// `shares` line.
+    pub fn shares(&self) -> bool
+        ensures { result ≡ self.now.shares }
+    {
+        self.shares
+    }
+
+    /// The row of the same table that a row becomes, where 0 is no row; 0 where there is none.
     pub fn moved_row(&self, table: u8, old: u32) -> u32
         ensures { result ≡ moved_row self.now table old }
     {
@@ -268,12 +333,27 @@ impl MapText {
         self.slotted.get(index as usize).copied()
     }
 
-    /// The rows of a table with a `row` line and their images, in ascending order; none past the
-    /// last.
+    /// The rows of a table with a `row` line of four words and their images, in ascending order; none
+    /// past the last.
     pub fn row_line(&self, table: u8, index: u32) -> Option<(u32, u32)>
         ensures { result ≡ option_map (λ (r : RowLine). (r.old, r.new)) (slice_get (rows_of self.now table) index) }
     {
         nth_row(self.rows.as_slice(), table, index).map(|row| (row.old, row.new))
+    }
+
+    /// The rows of a table with a `row` line of five words, each with the table and the row that it
+    /// becomes, in ascending order; none past the last.
+    pub fn cross_line(&self, table: u8, index: u32) -> Option<(u32, u8, u32)>
+        ensures { result ≡ option_map (λ (r : CrossLine). (r.old, r.to, r.new)) (slice_get (crossed_of self.now table) index) }
+    {
+        nth_cross(self.crossed.as_slice(), table, index).map(|line| (line.old, line.to, line.new))
+    }
+
+    /// The rows of a table with a `gone` line, in ascending order; none past the last.
+    pub fn gone_line(&self, table: u8, index: u32) -> Option<u32>
+        ensures { result ≡ option_map (λ (r : GoneLine). r.old) (slice_get (gone_of self.now table) index) }
+    {
+        nth_gone(self.gone.as_slice(), table, index).map(|line| line.old)
     }
 
     /// The slots of a method with a `slot` line and their images, in ascending order; none past

@@ -1,9 +1,11 @@
-// Lines that are read in one pass: runs, methods and rows, as most lines of a map are.
+// Lines that are read in one pass: runs, methods, rows and local signatures, as most lines of a map are.
 ghost use Rattle.std.specs.Prelude.{◌<◌, IfSome};
 ghost use Rattle.ppdb_maps.specs.OnePass.{IsNumberBefore, IsRunBefore, IsLineBefore};
 
+use crate::entries::CrossLine;
 use crate::line::Line;
 use crate::number::{may_spell, table};
+use crate::reading::crosses;
 use ppdb_base::Run;
 
 /// The decimal number, of at most nine digits, that stands before the first `end`, and what stands
@@ -46,7 +48,7 @@ fn run_before(text: &[u8]) -> Option<(Run, &[u8])>
 
 /// The sizes of a method that the first line of a text says, and what stands after that line.
 fn method_before(text: &[u8]) -> Option<(Line, &[u8])>
-    ensures { IfSome result (λ found. IsLineBefore text.now found.0 found.1.now) }
+    ensures { IfSome result (λ found. IsLineBefore 1 text.now found.0 found.1.now) }
 {
     let [b'm', b'e', b't', b'h', b'o', b'd', b' ', values @ ..] = text else {
         return None;
@@ -69,7 +71,7 @@ fn method_before(text: &[u8]) -> Option<(Line, &[u8])>
 
 /// The image of a row that the first line of a text says, and what stands after that line.
 fn row_before(text: &[u8]) -> Option<(Line, &[u8])>
-    ensures { IfSome result (λ found. IsLineBefore text.now found.0 found.1.now) }
+    ensures { IfSome result (λ found. IsLineBefore 1 text.now found.0 found.1.now) }
 {
     let [b'r', b'o', b'w', b' ', _, _, b' ', values @ ..] = text else {
         return None;
@@ -88,7 +90,7 @@ fn row_before(text: &[u8]) -> Option<(Line, &[u8])>
 /// What the first line of a text says, and what stands after that line. There may be none although
 /// the line breaks no rule: one that ends by CR LF, or has a form that is rare.
 pub fn line_before(text: &[u8]) -> Option<(Line, &[u8])>
-    ensures { IfSome result (λ found. IsLineBefore text.now found.0 found.1.now) }
+    ensures { IfSome result (λ found. IsLineBefore 1 text.now found.0 found.1.now) }
 {
     match text {
         [b'r', b'u', ..] => {
@@ -97,6 +99,94 @@ pub fn line_before(text: &[u8]) -> Option<(Line, &[u8])>
         }
         [b'r', ..] => row_before(text),
         [b'm', ..] => method_before(text),
+        _ => None,
+    }
+}
+
+/// The row of another table that a row becomes, which the first line of a text says, and what stands
+/// after that line.
+fn cross_before(text: &[u8]) -> Option<(Line, &[u8])>
+    ensures { IfSome result (λ found. IsLineBefore 4 text.now found.0 found.1.now) }
+{
+    let [b'r', b'o', b'w', b' ', _, _, b' ', values @ ..] = text else {
+        return None;
+    };
+    let (old, values) = number_before(values, b' ')?;
+    let [_, _, b' ', image @ ..] = values else {
+        return None;
+    };
+    let (new, rest) = number_before(image, b'\n')?;
+    let table_old = table(&text[4..6])?;
+    let to = table(&values[..2])?;
+    let line = CrossLine {
+        table: table_old,
+        old,
+        to,
+        new,
+    };
+    let most = 16_777_215;
+    if 1 <= old && old <= most && 1 <= new && new <= most && crosses(line) {
+        Some((Line::Cross(line), rest))
+    } else {
+        None
+    }
+}
+
+/// The row without a successor that the first line of a text says, and what stands after that line.
+fn gone_before(text: &[u8]) -> Option<(Line, &[u8])>
+    ensures { IfSome result (λ found. IsLineBefore 4 text.now found.0 found.1.now) }
+{
+    let [b'g', b'o', b'n', b'e', b' ', _, _, b' ', values @ ..] = text else {
+        return None;
+    };
+    let table = table(&text[5..7])?;
+    let (old, rest) = number_before(values, b'\n')?;
+    if table != 0x06 && 1 <= old && old <= 16_777_215 {
+        Some((Line::Gone { table, old }, rest))
+    } else {
+        None
+    }
+}
+
+/// The local signature that the first line of a text says, and what stands after that line.
+fn signature_before(text: &[u8]) -> Option<(Line, &[u8])>
+    ensures { IfSome result (λ found. IsLineBefore 4 text.now found.0 found.1.now) }
+{
+    let [
+        b's',
+        b'i',
+        b'g',
+        b'n',
+        b'a',
+        b't',
+        b'u',
+        b'r',
+        b'e',
+        b' ',
+        values @ ..,
+    ] = text
+    else {
+        return None;
+    };
+    let (method, values) = number_before(values, b' ')?;
+    let (new, rest) = number_before(values, b'\n')?;
+    let most = 16_777_215;
+    if 1 <= method && method <= most && new <= most {
+        Some((Line::Signature { method, new }, rest))
+    } else {
+        None
+    }
+}
+
+/// What the first line of a text says by a form that only texts of version 4 have, and what stands
+/// after that line. There may be none although the line breaks no rule.
+pub fn newer_line_before(text: &[u8]) -> Option<(Line, &[u8])>
+    ensures { IfSome result (λ found. IsLineBefore 4 text.now found.0 found.1.now) }
+{
+    match text {
+        [b'r', ..] => cross_before(text),
+        [b'g', ..] => gone_before(text),
+        [b's', ..] => signature_before(text),
         _ => None,
     }
 }

@@ -8,7 +8,7 @@ ghost use Rattle.ppdb_maps.specs.OnePass.{IsFirstTold};
 use crate::draft::Draft;
 use crate::line::Line;
 use crate::map_text::MapText;
-use crate::one_pass::line_before;
+use crate::one_pass::{line_before, newer_line_before};
 use crate::reading::{said, version_of};
 use crate::refusal::{MapError, Refusal};
 use crate::rule::Rule;
@@ -35,6 +35,11 @@ fn first_said(alloc: Global, version: u8, text: &[u8]) -> (Result<Line, Refusal>
 {
     if let Some((line, rest)) = line_before(text) {
         return (Ok(line), rest);
+    }
+    if version >= 4 {
+        if let Some((line, rest)) = newer_line_before(text) {
+            return (Ok(line), rest);
+        }
     }
     let (line, rest) = first_line(text);
     (said(alloc, version, line), rest)

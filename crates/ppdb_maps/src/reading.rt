@@ -1,13 +1,13 @@
 // What one line of a map text says.
-ghost use Rattle.std.specs.Prelude.{◌≡◌, ℕ, IfOk, IfSome, IfNone, IsTrue, ◌↔◌};
+ghost use Rattle.std.specs.Prelude.{◌≡◌, ℕ, codes, IfOk, IfSome, IfNone, IsTrue, ◌↔◌};
 ghost use Rattle.ppdb_maps.specs.Words.{IsSilent};
-ghost use Rattle.ppdb_maps.specs.Forms.{IsHead, words_in, since};
-ghost use Rattle.ppdb_maps.specs.Reading.{IsNamed, IsFormOf, IsLineOfForm, IsTold};
+ghost use Rattle.ppdb_maps.specs.Forms.{Crosses, IsHead, IsTypeTable, words_in, since};
+ghost use Rattle.ppdb_maps.specs.Reading.{IsNamed, IsNamedAlone, IsFormOf, IsLineOfForm, IsTold};
 ghost use Rattle.ppdb_maps.specs.declared.line.Form.TheVariants.{TableRows, RowMove, MethodSizes, OffsetRun, MethodDrop, MethodSlots, SlotMove, MethodSignature};
-ghost use Rattle.ppdb_maps.specs.declared.line.Form.TheVariants.{DocumentRename, LinkValue};
+ghost use Rattle.ppdb_maps.specs.declared.line.Form.TheVariants.{DocumentRename, LinkValue, CrossMove, RowGone};
 
 use crate::boxed::Boxed;
-use crate::entries::NameLine;
+use crate::entries::{CrossLine, NameLine};
 use crate::escaped::unescaped;
 use crate::line::{Form, Line};
 use crate::number::{number, offset, row, row_or_zero, slot, table};
@@ -42,15 +42,23 @@ fn is_silent(line: &[u8]) -> bool
     }
 }
 
+/// The form of a `row` line of so many words.
+fn row_form(count: usize) -> Option<Form>
+    ensures { IsNamed (codes "row") count result }
+{
+    match count {
+        4 => Some(Form::RowMove),
+        5 => Some(Form::CrossMove),
+        _ => None,
+    }
+}
+
 /// The form whose first word this is; most lines of a map are `run` and `row` lines.
 fn named(word: &[u8]) -> Option<Form>
-    ensures { IsNamed word.now result }
+    ensures { IsNamedAlone word.now result }
 {
     if word == b"run".as_slice() {
         return Some(Form::OffsetRun);
-    }
-    if word == b"row".as_slice() {
-        return Some(Form::RowMove);
     }
     if word == b"method".as_slice() {
         return Some(Form::MethodSizes);
@@ -73,8 +81,14 @@ fn named(word: &[u8]) -> Option<Form>
     if word == b"link".as_slice() {
         return Some(Form::LinkValue);
     }
+    if word == b"gone".as_slice() {
+        return Some(Form::RowGone);
+    }
     if word == b"rows".as_slice() {
         return Some(Form::TableRows);
+    }
+    if word == b"shares".as_slice() {
+        return Some(Form::Sharing);
     }
     None
 }
@@ -85,9 +99,11 @@ impl Form {
         ensures { result ≡ words_in self }
     {
         match self {
+            Form::Sharing => 1,
             Form::MethodDrop | Form::MethodSlots | Form::LinkValue => 2,
-            Form::TableRows | Form::MethodSignature | Form::DocumentRename => 3,
+            Form::TableRows | Form::MethodSignature | Form::DocumentRename | Form::RowGone => 3,
             Form::RowMove | Form::MethodSizes | Form::OffsetRun | Form::SlotMove => 4,
+            Form::CrossMove => 5,
         }
     }
 
@@ -99,7 +115,12 @@ impl Form {
             Form::TableRows | Form::RowMove | Form::MethodSizes | Form::OffsetRun => 1,
             Form::MethodDrop => 2,
             Form::MethodSlots | Form::SlotMove => 3,
-            Form::MethodSignature | Form::DocumentRename | Form::LinkValue => 4,
+            Form::MethodSignature
+            | Form::DocumentRename
+            | Form::LinkValue
+            | Form::CrossMove
+            | Form::RowGone
+            | Form::Sharing => 4,
         }
     }
 }
@@ -108,7 +129,11 @@ impl Form {
 fn form_of(version: u8, words: &Words<'_>) -> Option<Form>
     ensures { IsFormOf version words.now result }
 {
-    let form = named(words.name)?;
+    let form = if words.name == b"row".as_slice() {
+        row_form(words.count)?
+    } else {
+        named(words.name)?
+    };
     if form.words() == words.count && form.since() <= version {
         Some(form)
     } else {
@@ -131,6 +156,50 @@ fn row_line(words: &Words<'_>) -> Option<Line>
     let old = row(words.second)?;
     let new = row(words.third)?;
     Some(Line::Row { table, old, new })
+}
+
+/// Whether it is one of the tables of types: TypeRef, TypeDef and TypeSpec.
+fn is_type_table(table: u8) -> bool
+    ensures { IsTrue result ↔ IsTypeTable table }
+{
+    table == 0x01 || table == 0x02 || table == 0x1b
+}
+
+/// Whether a row may become one of another table: a type, or an assembly that is the module's own.
+pub fn crosses(line: CrossLine) -> bool
+    ensures { IsTrue result ↔ Crosses line }
+{
+    if line.table == 0x23 {
+        return line.to == 0x20 && line.new == 1;
+    }
+    is_type_table(line.table) && is_type_table(line.to) && line.table != line.to
+}
+
+fn cross_line(words: &Words<'_>) -> Option<Line>
+    ensures { IsLineOfForm CrossMove words.now result }
+{
+    let line = CrossLine {
+        table: table(words.first)?,
+        old: row(words.second)?,
+        to: table(words.third)?,
+        new: row(words.fourth)?,
+    };
+    if crosses(line) {
+        Some(Line::Cross(line))
+    } else {
+        None
+    }
+}
+
+fn gone_line(words: &Words<'_>) -> Option<Line>
+    ensures { IsLineOfForm RowGone words.now result }
+{
+    let table = table(words.first)?;
+    let old = row(words.second)?;
+    if table == 0x06 {
+        return None;
+    }
+    Some(Line::Gone { table, old })
 }
 
 fn method_line(words: &Words<'_>) -> Option<Line>
@@ -224,6 +293,9 @@ fn line_of(alloc: Global, form: Form, words: &Words<'_>) -> Result<Option<Line>,
         Form::MethodSignature => Ok(signature_line(words)),
         Form::DocumentRename => document_line(alloc, words),
         Form::LinkValue => link_line(alloc, words),
+        Form::CrossMove => Ok(cross_line(words)),
+        Form::RowGone => Ok(gone_line(words)),
+        Form::Sharing => Ok(Some(Line::Shares)),
     }
 }
 

@@ -55,12 +55,15 @@ pub fn sample_map(alloc: Global, n: u32) -> Result<MapText, Memory>
         })?;
         methods.push(sample_method(alloc, before + 1)?)?;
     }
+    let crossed = Vec::new(alloc);
+    let gone = Vec::new(alloc);
     let drops = Vec::new(alloc);
     let slotted = Vec::new(alloc);
     let slots = Vec::new(alloc);
     let signatures = Vec::new(alloc);
     let documents = Vec::new(alloc);
     Ok(MapText::new(
-        counts, rows, methods, drops, slotted, slots, signatures, documents, None,
+        counts, rows, crossed, gone, methods, drops, slotted, slots, signatures, documents, None,
+        false,
     ))
 }

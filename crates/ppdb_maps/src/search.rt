@@ -8,12 +8,14 @@ ghost use Rattle.std.specs.Cmp.Lexicographic.{slice_cmp};
 ghost use Rattle.ppdb_maps.specs.declared.entries.Count.{Count};
 ghost use Rattle.ppdb_maps.specs.declared.entries.NameLine.{NameLine};
 ghost use Rattle.ppdb_maps.specs.declared.entries.RowLine.{RowLine};
+ghost use Rattle.ppdb_maps.specs.declared.entries.CrossLine.{CrossLine};
+ghost use Rattle.ppdb_maps.specs.declared.entries.GoneLine.{GoneLine};
 ghost use Rattle.ppdb_maps.specs.declared.entries.SignatureImage.{SignatureImage};
 ghost use Rattle.ppdb_maps.specs.declared.entries.SlotImage.{SlotImage};
 ghost use Rattle.ppdb_maps.specs.Map.{MethodLine, pair_cmp};
 ghost use Rattle.ppdb_maps.specs.Search.{FindsBy, CountsBy};
 
-use crate::entries::{Count, NameLine, RowLine, SignatureImage, SlotImage};
+use crate::entries::{Count, CrossLine, GoneLine, NameLine, RowLine, SignatureImage, SlotImage};
 use crate::method::Method;
 
 /// The item that is `at` a key, where all items before it are `before` the key.
@@ -87,6 +89,31 @@ pub fn row_near(rows: &[RowLine], table: u8, old: u32, index: usize) -> Option<&
     }
 }
 
+/// The line of a row that becomes one of another table.
+pub fn cross_at(lines: &[CrossLine], table: u8, old: u32) -> Option<&CrossLine>
+    requires { IsStrictlySortedBy pair_cmp (map (λ (r : CrossLine). (r.table, r.old)) lines.now) }
+    ensures { option_copied result ≡ find (λ r. nat_eq r.table table && nat_eq r.old old) lines.now }
+{
+    find_by(
+        lines,
+        |line| line.table < table || line.table == table && line.old < old,
+        |line| line.table == table && line.old == old,
+    )
+}
+
+/// Whether a row has no successor.
+pub fn is_gone_at(lines: &[GoneLine], table: u8, old: u32) -> bool
+    requires { IsStrictlySortedBy pair_cmp (map (λ (r : GoneLine). (r.table, r.old)) lines.now) }
+    ensures { result ≡ list_any (λ r. nat_eq r.table table && nat_eq r.old old) lines.now }
+{
+    find_by(
+        lines,
+        |line| line.table < table || line.table == table && line.old < old,
+        |line| line.table == table && line.old == old,
+    )
+    .is_some()
+}
+
 /// The image of a slot.
 pub fn slot_at(slots: &[SlotImage], method: u32, old: u16) -> Option<&SlotImage>
     requires { IsStrictlySortedBy pair_cmp (map (λ (s : SlotImage). (s.method, s.old)) slots.now) }
@@ -152,6 +179,32 @@ pub fn nth_row(rows: &[RowLine], table: u8, index: u32) -> Option<&RowLine>
         rows,
         |row| row.table < table,
         |row| row.table == table,
+        index,
+    )
+}
+
+/// The line of a row of the table that becomes one of another table, by its index among those of the table.
+pub fn nth_cross(lines: &[CrossLine], table: u8, index: u32) -> Option<&CrossLine>
+    requires { IsStrictlySortedBy pair_cmp (map (λ (r : CrossLine). (r.table, r.old)) lines.now) }
+    ensures { option_copied result ≡ slice_get (filter (λ r. nat_eq r.table table) lines.now) index }
+{
+    nth_by(
+        lines,
+        |line| line.table < table,
+        |line| line.table == table,
+        index,
+    )
+}
+
+/// A row of the table that has no successor, by its index among those of the table.
+pub fn nth_gone(lines: &[GoneLine], table: u8, index: u32) -> Option<&GoneLine>
+    requires { IsStrictlySortedBy pair_cmp (map (λ (r : GoneLine). (r.table, r.old)) lines.now) }
+    ensures { option_copied result ≡ slice_get (filter (λ r. nat_eq r.table table) lines.now) index }
+{
+    nth_by(
+        lines,
+        |line| line.table < table,
+        |line| line.table == table,
         index,
     )
 }

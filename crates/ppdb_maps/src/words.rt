@@ -41,7 +41,7 @@ pub fn first_line(text: &[u8]) -> (&[u8], &[u8])
     }
 }
 
-/// The words of a line, up to the fourth.
+/// The words of a line, up to the fifth.
 #[derive(Clone, Copy)]
 pub struct Words<'a> {
     pub name: &'a [u8],
@@ -49,7 +49,8 @@ pub struct Words<'a> {
     pub first: &'a [u8],
     pub second: &'a [u8],
     pub third: &'a [u8],
-    /// How many words there are, and 5 where there are more than four.
+    pub fourth: &'a [u8],
+    /// How many words there are, and 6 where there are more than five.
     pub count: usize,
 }
 
@@ -63,6 +64,7 @@ pub fn words_of(line: &[u8]) -> Words<'_>
         first: &[],
         second: &[],
         third: &[],
+        fourth: &[],
         count: 1,
     };
     let Some(rest) = rest else {
@@ -82,6 +84,12 @@ pub fn words_of(line: &[u8]) -> Words<'_>
     };
     let (third, rest) = cut_at(rest, b' ');
     words.third = third;
-    words.count = if rest.is_none() { 4 } else { 5 };
+    words.count = 4;
+    let Some(rest) = rest else {
+        return words;
+    };
+    let (fourth, rest) = cut_at(rest, b' ');
+    words.fourth = fourth;
+    words.count = if rest.is_none() { 5 } else { 6 };
     words
 }

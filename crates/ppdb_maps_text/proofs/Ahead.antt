@@ -18,6 +18,15 @@ pub record Ahead {X K V : Type 0} (key : X → K) (val : X → V) (same : K → 
   pub below : (k : K) → is_some (answers k) ≡ true → AllByRecursion (λ y. cmp k y ≡ Less) (map key xs)
   pub whole : (k : K) → option_or (answers k) (option_map val (find (λ x. same (key x) k) xs)) ≡ all k
 
+-- answers that are the same
+pub ahead_same : {X K V : Type 0} (key : X → K) (val : X → V) (same : K → K → Bool) (cmp : K → K → Ordering) (answers others : K → Option V) (xs : List X)
+    (all : K → Option V) → ((k : K) → answers k ≡ others k) → Ahead key val same cmp answers xs all → Ahead key val same cmp others xs all
+ahead_same key val same cmp answers others xs all is ahead = record {
+  sorted = ahead.sorted;
+  below = λ k some. ahead.below k (ap is_some (is k) ∙ some);
+  whole = λ k. sym (ap (λ o. option_or o (option_map val (find (λ x. same (key x) k) xs))) (is k)) ∙ ahead.whole k;
+}
+
 never_both : (o : Ordering) → o ≡ Less → ordering_reverse o ≡ Less → ⊥
 never_both Less a b = absurd (cc)
 never_both Equal a b = absurd (cc)
@@ -105,6 +114,14 @@ pub record AheadOf (answers : ℕ → Bool) (xs : List ℕ) (all : ℕ → Bool)
   pub sorted : IsStrictlySortedBy nat_cmp xs
   pub below : (k : ℕ) → answers k ≡ true → AllByRecursion (λ y. nat_cmp k y ≡ Less) xs
   pub whole : (k : ℕ) → (answers k || list_any (nat_eq k) xs) ≡ all k
+
+pub ahead_of_same : (answers others : ℕ → Bool) (xs : List ℕ) (all : ℕ → Bool) → ((k : ℕ) → answers k ≡ others k) → AheadOf answers xs all
+    → AheadOf others xs all
+ahead_of_same answers others xs all is ahead = record {
+  sorted = ahead.sorted;
+  below = λ k some. ahead.below k (is k ∙ some);
+  whole = λ k. sym (ap (λ b. b || list_any (nat_eq k) xs) (is k)) ∙ ahead.whole k;
+}
 
 pub number_not_itself : (k : ℕ) → nat_cmp k k ≡ Less → ⊥
 number_not_itself k less = never_both (nat_cmp k k) less (sym (nat_cmp_total.antisymm k k) ∙ less)

@@ -10,17 +10,20 @@ use Rattle.std.proofs.lemmas.Map.Lookups.{exact_unsigned, exact_bytes}
 use Rattle.ppdb_base.specs.declared.offsets.Run.{Run}
 use Rattle.ppdb_maps.specs.declared.entries.Count.{Count}
 use Rattle.ppdb_maps.specs.declared.entries.RowLine.{RowLine}
+use Rattle.ppdb_maps.specs.declared.entries.CrossLine.{CrossLine}
+use Rattle.ppdb_maps.specs.declared.entries.GoneLine.{GoneLine}
 use Rattle.ppdb_maps.specs.declared.entries.SlotImage.{SlotImage}
 use Rattle.ppdb_maps.specs.declared.entries.SignatureImage.{SignatureImage}
 use Rattle.ppdb_maps.specs.declared.entries.NameLine.{NameLine}
 use Rattle.ppdb_maps.specs.declared.line.Line.{Line}
-use Rattle.ppdb_maps.specs.declared.line.Line.TheVariants.{Silent, Rows, Row, Method, Kept, Dropped, Slots, Slot, Signature, Document, Link}
-use Rattle.ppdb_maps.specs.Before.{methods_of}
+use Rattle.ppdb_maps.specs.declared.line.Line.TheVariants.{Silent, Rows, Row, Cross, Gone, Method, Kept, Dropped, Slots, Slot, Signature, Document, Link, Shares}
+use Rattle.ppdb_maps.specs.Before.{gone_in, methods_of}
 use Rattle.ppdb_maps.specs.Gathered.{same_pair}
 use Rattle.ppdb_maps.specs.Map.{Map, MethodLine, map_of, pair_cmp, method_line}
 use Rattle.ppdb_maps.specs.Text.{HoldsWhat}
 use Rattle.ppdb_maps.proofs.Named.{same_bytes}
 use Rattle.ppdb_maps.proofs.OneMap.{same_number, pair_is, pair_total, pair_exact}
+use Rattle.ppdb_maps_text.proofs.OneLine.{any_some}
 use Rattle.ppdb_maps_text.proofs.Entries.{put, put_found, put_rises, any_found}
 
 -- ---- an item more in each list
@@ -30,6 +33,12 @@ table_of count = count.table
 
 abbrev row_of : RowLine → ℕ × ℕ
 row_of row = (row.table, row.old)
+
+abbrev cross_of : CrossLine → ℕ × ℕ
+cross_of line = (line.table, line.old)
+
+abbrev gone_of : GoneLine → ℕ × ℕ
+gone_of line = (line.table, line.old)
 
 abbrev method_of : MethodLine → ℕ
 method_of line = line.method
@@ -51,6 +60,12 @@ with_count x xs = put table_of nat_eq nat_cmp same_number nat_cmp_total exact_un
 
 abbrev with_row : RowLine → List RowLine → List RowLine
 with_row x xs = put row_of same_pair pair_cmp pair_is pair_total pair_exact x xs
+
+abbrev with_cross : CrossLine → List CrossLine → List CrossLine
+with_cross x xs = put cross_of same_pair pair_cmp pair_is pair_total pair_exact x xs
+
+abbrev with_gone : GoneLine → List GoneLine → List GoneLine
+with_gone x xs = put gone_of same_pair pair_cmp pair_is pair_total pair_exact x xs
 
 abbrev with_line : MethodLine → List MethodLine → List MethodLine
 with_line x xs = put method_of nat_eq nat_cmp same_number nat_cmp_total exact_unsigned x xs
@@ -95,11 +110,13 @@ number_rises x xs rise =
 
 -- ---- a line more
 
-none_held : HoldsWhat [] (map_of [] [] [] [] [] [] [] [] None)
+none_held : HoldsWhat [] (map_of [] [] [] [] [] [] [] [] [] [] None false)
 unfolding IsStrictlySortedBy
 none_held = record {
   counts = λ table. refl;
   rows = λ table old. refl;
+  crossed = λ table old. refl;
+  gone = λ table old. refl;
   methods = λ method. refl;
   drops = λ method. refl;
   slotted = λ method. refl;
@@ -107,13 +124,16 @@ none_held = record {
   signatures = λ method. refl;
   documents = λ name. refl;
   link = refl;
-  ascends = record { counts = tt; rows = tt; methods = tt; drops = tt; slotted = tt; slots = tt; signatures = tt; documents = tt };
+  shares = refl;
+  ascends = record { counts = tt; rows = tt; crossed = tt; gone = tt; methods = tt; drops = tt; slotted = tt; slots = tt; signatures = tt; documents = tt };
 }
 
 silent_held : (said : List Line) (m : Map) → HoldsWhat said m → HoldsWhat (Silent ∷ said) m
 silent_held said m h = record {
   counts = h.counts;
   rows = h.rows;
+  crossed = h.crossed;
+  gone = h.gone;
   methods = h.methods;
   drops = h.drops;
   slotted = h.slotted;
@@ -121,6 +141,7 @@ silent_held said m h = record {
   signatures = h.signatures;
   documents = h.documents;
   link = h.link;
+  shares = h.shares;
   ascends = h.ascends;
 }
 
@@ -132,6 +153,8 @@ rows_held said m t n h = record {
       (put_found table_of nat_eq nat_cmp same_number nat_cmp_total exact_unsigned table (record { table = t; rows = n }) m.counts)
       ∙ said_found (λ (c : Count). c.rows) (nat_eq t table) (record { table = t; rows = n }) (find (λ c. nat_eq c.table table) m.counts) _ (h.counts table);
   rows = h.rows;
+  crossed = h.crossed;
+  gone = h.gone;
   methods = h.methods;
   drops = h.drops;
   slotted = h.slotted;
@@ -139,9 +162,12 @@ rows_held said m t n h = record {
   signatures = h.signatures;
   documents = h.documents;
   link = h.link;
+  shares = h.shares;
   ascends = record {
     counts = put_rises table_of nat_eq nat_cmp same_number nat_cmp_total exact_unsigned (record { table = t; rows = n }) m.counts h.ascends.counts;
     rows = h.ascends.rows;
+    crossed = h.ascends.crossed;
+    gone = h.ascends.gone;
     methods = h.ascends.methods;
     drops = h.ascends.drops;
     slotted = h.ascends.slotted;
@@ -160,6 +186,8 @@ row_held said m t o n h = record {
       (put_found row_of same_pair pair_cmp pair_is pair_total pair_exact (table, old) (record { table = t; old = o; new = n }) m.rows)
       ∙ said_found (λ (r : RowLine). r.new) (same_pair (t, o) (table, old)) (record { table = t; old = o; new = n })
       (find (λ r. same_pair (row_of r) (table, old)) m.rows) _ (h.rows table old);
+  crossed = h.crossed;
+  gone = h.gone;
   methods = h.methods;
   drops = h.drops;
   slotted = h.slotted;
@@ -167,9 +195,12 @@ row_held said m t o n h = record {
   signatures = h.signatures;
   documents = h.documents;
   link = h.link;
+  shares = h.shares;
   ascends = record {
     counts = h.ascends.counts;
     rows = put_rises row_of same_pair pair_cmp pair_is pair_total pair_exact (record { table = t; old = o; new = n }) m.rows h.ascends.rows;
+    crossed = h.ascends.crossed;
+    gone = h.ascends.gone;
     methods = h.ascends.methods;
     drops = h.ascends.drops;
     slotted = h.ascends.slotted;
@@ -178,6 +209,75 @@ row_held said m t o n h = record {
     documents = h.ascends.documents;
   };
 }
+
+cross_held : (said : List Line) (m : Map) (line : CrossLine) → HoldsWhat said m
+    → HoldsWhat (Cross line ∷ said) (record m { crossed = with_cross line m.crossed })
+cross_held said m line h = record {
+  counts = h.counts;
+  rows = h.rows;
+  crossed = λ table old.
+      put_found cross_of same_pair pair_cmp pair_is pair_total pair_exact (table, old) line m.crossed
+      ∙ ap (cond (same_pair (cross_of line) (table, old)) (Some line)) (h.crossed table old);
+  gone = h.gone;
+  methods = h.methods;
+  drops = h.drops;
+  slotted = h.slotted;
+  slots = h.slots;
+  signatures = h.signatures;
+  documents = h.documents;
+  link = h.link;
+  shares = h.shares;
+  ascends = record {
+    counts = h.ascends.counts;
+    rows = h.ascends.rows;
+    crossed = put_rises cross_of same_pair pair_cmp pair_is pair_total pair_exact line m.crossed h.ascends.crossed;
+    gone = h.ascends.gone;
+    methods = h.ascends.methods;
+    drops = h.ascends.drops;
+    slotted = h.ascends.slotted;
+    slots = h.ascends.slots;
+    signatures = h.ascends.signatures;
+    documents = h.ascends.documents;
+  };
+}
+
+gone_held : (said : List Line) (m : Map) (t o : ℕ) → HoldsWhat said m
+    → HoldsWhat (Gone t o ∷ said) (record m { gone = with_gone (record { table = t; old = o }) m.gone })
+gone_held said m t o h = record {
+  counts = h.counts;
+  rows = h.rows;
+  crossed = h.crossed;
+  gone = λ table old.
+      any_some (λ (r : GoneLine). same_pair (gone_of r) (table, old)) (with_gone (record { table = t; old = o }) m.gone)
+      ∙ ap is_some (put_found gone_of same_pair pair_cmp pair_is pair_total pair_exact (table, old) (record { table = t; old = o }) m.gone)
+      ∙ of table old (same_pair (t, o) (table, old));
+  methods = h.methods;
+  drops = h.drops;
+  slotted = h.slotted;
+  slots = h.slots;
+  signatures = h.signatures;
+  documents = h.documents;
+  link = h.link;
+  shares = h.shares;
+  ascends = record {
+    counts = h.ascends.counts;
+    rows = h.ascends.rows;
+    crossed = h.ascends.crossed;
+    gone = put_rises gone_of same_pair pair_cmp pair_is pair_total pair_exact (record { table = t; old = o }) m.gone h.ascends.gone;
+    methods = h.ascends.methods;
+    drops = h.ascends.drops;
+    slotted = h.ascends.slotted;
+    slots = h.ascends.slots;
+    signatures = h.ascends.signatures;
+    documents = h.ascends.documents;
+  };
+}
+  where
+    of : (table old : ℕ) (b : Bool)
+        → is_some (cond b (Some (record { table = t; old = o })) (find (λ (r : GoneLine). same_pair (gone_of r) (table, old)) m.gone))
+        ≡ cond b true (gone_in said table old)
+    of table old true = refl
+    of table old false = sym (any_some (λ (r : GoneLine). same_pair (gone_of r) (table, old)) m.gone) ∙ h.gone table old
 
 -- a line of a method, in place of that which there was
 line_held : (said more : List Line) (m : Map) (line : MethodLine) → HoldsWhat said m
@@ -196,6 +296,8 @@ method_held : (said : List Line) (m : Map) (k o n : ℕ) → HoldsWhat said m
 method_held said m k o n h = record {
   counts = h.counts;
   rows = h.rows;
+  crossed = h.crossed;
+  gone = h.gone;
   methods = line_held said (Method k o n ∷ said) m (record { method = k; old_size = o; new_size = n; runs = [] }) h (λ j. refl);
   drops = h.drops;
   slotted = h.slotted;
@@ -203,9 +305,12 @@ method_held said m k o n h = record {
   signatures = h.signatures;
   documents = h.documents;
   link = h.link;
+  shares = h.shares;
   ascends = record {
     counts = h.ascends.counts;
     rows = h.ascends.rows;
+    crossed = h.ascends.crossed;
+    gone = h.ascends.gone;
     methods = with_line_ascends said m (record { method = k; old_size = o; new_size = n; runs = [] }) h;
     drops = h.ascends.drops;
     slotted = h.ascends.slotted;
@@ -219,6 +324,8 @@ drop_held : (said : List Line) (m : Map) (k : ℕ) → HoldsWhat said m → Hold
 drop_held said m k h = record {
   counts = h.counts;
   rows = h.rows;
+  crossed = h.crossed;
+  gone = h.gone;
   methods = h.methods;
   drops = λ method. number_found method k m.drops _ (h.drops method);
   slotted = h.slotted;
@@ -226,9 +333,12 @@ drop_held said m k h = record {
   signatures = h.signatures;
   documents = h.documents;
   link = h.link;
+  shares = h.shares;
   ascends = record {
     counts = h.ascends.counts;
     rows = h.ascends.rows;
+    crossed = h.ascends.crossed;
+    gone = h.ascends.gone;
     methods = h.ascends.methods;
     drops = number_rises k m.drops h.ascends.drops;
     slotted = h.ascends.slotted;
@@ -242,6 +352,8 @@ slots_held : (said : List Line) (m : Map) (k : ℕ) → HoldsWhat said m → Hol
 slots_held said m k h = record {
   counts = h.counts;
   rows = h.rows;
+  crossed = h.crossed;
+  gone = h.gone;
   methods = h.methods;
   drops = h.drops;
   slotted = λ method. number_found method k m.slotted _ (h.slotted method);
@@ -249,9 +361,12 @@ slots_held said m k h = record {
   signatures = h.signatures;
   documents = h.documents;
   link = h.link;
+  shares = h.shares;
   ascends = record {
     counts = h.ascends.counts;
     rows = h.ascends.rows;
+    crossed = h.ascends.crossed;
+    gone = h.ascends.gone;
     methods = h.ascends.methods;
     drops = h.ascends.drops;
     slotted = number_rises k m.slotted h.ascends.slotted;
@@ -266,6 +381,8 @@ slot_held : (said : List Line) (m : Map) (k o n : ℕ) → HoldsWhat said m
 slot_held said m k o n h = record {
   counts = h.counts;
   rows = h.rows;
+  crossed = h.crossed;
+  gone = h.gone;
   methods = h.methods;
   drops = h.drops;
   slotted = h.slotted;
@@ -277,9 +394,12 @@ slot_held said m k o n h = record {
   signatures = h.signatures;
   documents = h.documents;
   link = h.link;
+  shares = h.shares;
   ascends = record {
     counts = h.ascends.counts;
     rows = h.ascends.rows;
+    crossed = h.ascends.crossed;
+    gone = h.ascends.gone;
     methods = h.ascends.methods;
     drops = h.ascends.drops;
     slotted = h.ascends.slotted;
@@ -294,6 +414,8 @@ signature_held : (said : List Line) (m : Map) (k n : ℕ) → HoldsWhat said m
 signature_held said m k n h = record {
   counts = h.counts;
   rows = h.rows;
+  crossed = h.crossed;
+  gone = h.gone;
   methods = h.methods;
   drops = h.drops;
   slotted = h.slotted;
@@ -305,9 +427,12 @@ signature_held said m k n h = record {
       (find (λ s. nat_eq s.method method) m.signatures) _ (h.signatures method);
   documents = h.documents;
   link = h.link;
+  shares = h.shares;
   ascends = record {
     counts = h.ascends.counts;
     rows = h.ascends.rows;
+    crossed = h.ascends.crossed;
+    gone = h.ascends.gone;
     methods = h.ascends.methods;
     drops = h.ascends.drops;
     slotted = h.ascends.slotted;
@@ -323,6 +448,8 @@ document_held : (said : List Line) (m : Map) (d : NameLine) → HoldsWhat said m
 document_held said m d h = record {
   counts = h.counts;
   rows = h.rows;
+  crossed = h.crossed;
+  gone = h.gone;
   methods = h.methods;
   drops = h.drops;
   slotted = h.slotted;
@@ -333,9 +460,12 @@ document_held said m d h = record {
       (put_found name_of bytes_eq (slice_cmp nat_cmp) same_bytes nat_list_cmp_total exact_bytes name d m.documents)
       ∙ said_found (λ (d : NameLine). d.new) (bytes_eq d.old name) d (find (λ d. bytes_eq d.old name) m.documents) _ (h.documents name);
   link = h.link;
+  shares = h.shares;
   ascends = record {
     counts = h.ascends.counts;
     rows = h.ascends.rows;
+    crossed = h.ascends.crossed;
+    gone = h.ascends.gone;
     methods = h.ascends.methods;
     drops = h.ascends.drops;
     slotted = h.ascends.slotted;
@@ -349,6 +479,8 @@ link_held : (said : List Line) (m : Map) (value : List ℕ) → HoldsWhat said m
 link_held said m value h = record {
   counts = h.counts;
   rows = h.rows;
+  crossed = h.crossed;
+  gone = h.gone;
   methods = h.methods;
   drops = h.drops;
   slotted = h.slotted;
@@ -356,9 +488,40 @@ link_held said m value h = record {
   signatures = h.signatures;
   documents = h.documents;
   link = refl;
+  shares = h.shares;
   ascends = record {
     counts = h.ascends.counts;
     rows = h.ascends.rows;
+    crossed = h.ascends.crossed;
+    gone = h.ascends.gone;
+    methods = h.ascends.methods;
+    drops = h.ascends.drops;
+    slotted = h.ascends.slotted;
+    slots = h.ascends.slots;
+    signatures = h.ascends.signatures;
+    documents = h.ascends.documents;
+  };
+}
+
+shares_held : (said : List Line) (m : Map) → HoldsWhat said m → HoldsWhat (Shares ∷ said) (record m { shares = true })
+shares_held said m h = record {
+  counts = h.counts;
+  rows = h.rows;
+  crossed = h.crossed;
+  gone = h.gone;
+  methods = h.methods;
+  drops = h.drops;
+  slotted = h.slotted;
+  slots = h.slots;
+  signatures = h.signatures;
+  documents = h.documents;
+  link = h.link;
+  shares = refl;
+  ascends = record {
+    counts = h.ascends.counts;
+    rows = h.ascends.rows;
+    crossed = h.ascends.crossed;
+    gone = h.ascends.gone;
     methods = h.ascends.methods;
     drops = h.ascends.drops;
     slotted = h.ascends.slotted;
@@ -382,6 +545,8 @@ run_held said m run h = of (methods_of said) refl
       record {
         counts = h.counts;
         rows = h.rows;
+        crossed = h.crossed;
+        gone = h.gone;
         methods = λ method. h.methods method ∙ rw is refl;
         drops = h.drops;
         slotted = h.slotted;
@@ -389,6 +554,7 @@ run_held said m run h = of (methods_of said) refl
         signatures = h.signatures;
         documents = h.documents;
         link = h.link;
+        shares = h.shares;
         ascends = h.ascends;
       },
     )
@@ -401,6 +567,8 @@ run_held said m run h = of (methods_of said) refl
           record {
             counts = h.counts;
             rows = h.rows;
+            crossed = h.crossed;
+            gone = h.gone;
             methods = line_held said (Kept run ∷ said) m longer h says;
             drops = h.drops;
             slotted = h.slotted;
@@ -408,9 +576,12 @@ run_held said m run h = of (methods_of said) refl
             signatures = h.signatures;
             documents = h.documents;
             link = h.link;
+            shares = h.shares;
             ascends = record {
               counts = h.ascends.counts;
               rows = h.ascends.rows;
+              crossed = h.ascends.crossed;
+              gone = h.ascends.gone;
               methods = with_line_ascends said m longer h;
               drops = h.ascends.drops;
               slotted = h.ascends.slotted;
@@ -422,7 +593,7 @@ run_held said m run h = of (methods_of said) refl
         )
 
 pub held : (said : List Line) → (m : Map) × HoldsWhat said m
-held [] = (map_of [] [] [] [] [] [] [] [] None, none_held)
+held [] = (map_of [] [] [] [] [] [] [] [] [] [] None false, none_held)
 held (Silent ∷ said) = let m = held said in (m.0, silent_held said m.0 m.1)
 held (Rows t n ∷ said) = let m = held said in (_, rows_held said m.0 t n m.1)
 held (Row t o n ∷ said) = let m = held said in (_, row_held said m.0 t o n m.1)
@@ -434,3 +605,6 @@ held (Slot k o n ∷ said) = let m = held said in (_, slot_held said m.0 k o n m
 held (Signature k n ∷ said) = let m = held said in (_, signature_held said m.0 k n m.1)
 held (Document d ∷ said) = let m = held said in (_, document_held said m.0 d m.1)
 held (Link value ∷ said) = let m = held said in (_, link_held said m.0 value m.1)
+held (Cross line ∷ said) = let m = held said in (_, cross_held said m.0 line m.1)
+held (Gone t o ∷ said) = let m = held said in (_, gone_held said m.0 t o m.1)
+held (Shares ∷ said) = let m = held said in (_, shares_held said m.0 m.1)

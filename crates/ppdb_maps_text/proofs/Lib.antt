@@ -1,9 +1,13 @@
+pub mod Found
+pub mod Orders
 mod Putting
 mod Words
 mod Ahead
-mod Groups
+pub mod Groups
+pub mod OneLine
 mod Told
-mod Got
+pub mod Got
+pub mod Starting
 mod Methods
 mod Reading
 pub mod Entries

@@ -19,9 +19,9 @@ use Rattle.ppdb_maps.specs.Readable.{IsLineOf}
 use Rattle.ppdb_maps.specs.Rules.{Breaks, BeginsEarly, EndsBeyond, run_alone, run_early, run_long}
 use Rattle.ppdb_maps.proofs.OneMap.{same_number}
 use Rattle.ppdb_maps.proofs.Refusing.{method_keeps}
-use Rattle.ppdb_maps_text.specs.MapTexts.{line_text, method_says}
+use Rattle.ppdb_maps_text.specs.MapTexts.{version_of, line_text, method_says}
 use Rattle.ppdb_maps_text.proofs.Ahead.{Ahead, not_yet, steps, not_before_of}
-use Rattle.ppdb_maps_text.proofs.Got.{Got, version_of, from_three, read_on}
+use Rattle.ppdb_maps_text.proofs.Got.{Got, from_three, read_on}
 use Rattle.ppdb_maps_text.proofs.Told.{method_told, run_told}
 
 -- the method's line among these
@@ -106,13 +106,15 @@ module _ (m : Map) (texts : List (List ℕ)) where
         plain = next.1;
         whole = next.2;
         counts = g.counts;
-        rows = g.rows;
+        images = g.images;
+        same = g.same;
         drops = g.drops;
         slotted = g.slotted;
         slots = g.slots;
         signatures = g.signatures;
         documents = g.documents;
         link = g.link;
+        shares = g.shares;
         rest = record { lines = methods_of g.said; is = refl; follows = refl; ahead = g.rest };
       }
 
@@ -141,13 +143,15 @@ module _ (m : Map) (texts : List (List ℕ)) where
         plain = next.1;
         whole = next.2;
         counts = g.counts;
-        rows = g.rows;
+        images = g.images;
+        same = g.same;
         drops = g.drops;
         slotted = g.slotted;
         slots = g.slots;
         signatures = g.signatures;
         documents = g.documents;
         link = g.link;
+        shares = g.shares;
         rest = record { lines = o.lines; is = ap (with_run run) o.is; follows = o.follows; ahead = o.ahead };
       }
 
@@ -175,13 +179,15 @@ module _ (m : Map) (texts : List (List ℕ)) where
         plain = g.plain;
         whole = g.whole;
         counts = g.counts;
-        rows = g.rows;
+        images = g.images;
+        same = g.same;
         drops = g.drops;
         slotted = g.slotted;
         slots = g.slots;
         signatures = g.signatures;
         documents = g.documents;
         link = g.link;
+        shares = g.shares;
         rest = subst (λ lines. LinesAhead m lines ms) (sym o.is) closed;
       }
 

@@ -1,5 +1,5 @@
 -- The canonical text of a readable map is read as this map.
-use Rattle.std.proofs.Common.{ℕ, ◌≡◌, ◌≤◌, ◌++◌, ◌&&◌, Bool, true, false, List, [], ◌∷◌, Option, Some, None, refl, sym, ap, ◌∙◌, subst, arith, map, inl, inr}
+use Rattle.std.proofs.Common.{ℕ, ◌≡◌, ◌≤◌, ◌++◌, Bool, true, false, List, [], ◌∷◌, Option, Some, None, refl, sym, ap, ◌∙◌, subst, arith, map, inl, inr}
 use Rattle.std.specs.Prelude.{nat_eq, bytes_eq, is_some, IfSome}
 use Rattle.std.specs.Cmp.Lexicographic.{slice_cmp, nat_list_cmp_total}
 use Rattle.std.specs.List.{AllByRecursion, find, flat_map, list_any}
@@ -7,33 +7,37 @@ use Rattle.std.specs.List.Sorted.{IsStrictlySortedBy}
 use Rattle.std.specs.Option.{option_map}
 use Rattle.std.specs.Ordering.{nat_cmp}
 use Rattle.std.specs.declared.cmp.Ordering.TheVariants.{Less}
-use Rattle.std.proofs.lemmas.Bool.{false≢true, eqb-true, and_parts}
+use Rattle.std.proofs.lemmas.Bool.{false≢true, eqb-true}
 use Rattle.std.proofs.lemmas.Cmp.{nat_cmp_total}
 use Rattle.std.proofs.lemmas.List.{append_assoc, append-nil}
 use Rattle.ppdb_maps.specs.declared.entries.Count.{Count}
-use Rattle.ppdb_maps.specs.declared.entries.RowLine.{RowLine}
 use Rattle.ppdb_maps.specs.declared.entries.SlotImage.{SlotImage}
 use Rattle.ppdb_maps.specs.declared.entries.SignatureImage.{SignatureImage}
 use Rattle.ppdb_maps.specs.declared.entries.NameLine.{NameLine}
 use Rattle.ppdb_maps.specs.declared.line.Line.{Line}
-use Rattle.ppdb_maps.specs.declared.line.Line.TheVariants.{Rows, Dropped, Slots, Document, Link}
-use Rattle.ppdb_maps.specs.Before.{drop_in}
+use Rattle.ppdb_maps.specs.declared.line.Line.TheVariants.{Rows, Dropped, Slots, Document, Link, Shares}
+use Rattle.ppdb_maps.specs.Before.{drop_in, shares_in, link_in}
 use Rattle.ppdb_maps.specs.Gathered.{same_pair}
-use Rattle.ppdb_maps.specs.Map.{Map, MethodLine, pair_cmp, row_line, is_dropped, has_slots, signature_line, rows_of, slots_of}
-use Rattle.ppdb_maps.specs.Readable.{IsReadable, IsCount, IsRow, IsRowOf, IsSlottedOf, IsSlotOf, IsSignatureOf, AreNames}
+use Rattle.ppdb_maps.specs.Map.{Map, MethodLine, pair_cmp, count_of, line_image, is_dropped, has_slots, slot_line, signature_line, document_line, slots_of}
+use Rattle.ppdb_maps.specs.Readable.{IsReadable, IsCount, IsRow, IsSlottedOf, IsSlotOf, IsSignatureOf, AreNames}
 use Rattle.ppdb_maps.specs.Forms.{AreBytes, IsHead}
+use Rattle.ppdb_maps.specs.Rules.{Breaks, second_shares}
+use Rattle.ppdb_maps.specs.declared.rule.Rule.{Rule}
 use Rattle.ppdb_maps.specs.Text.{Read, HoldsWhat, start}
 use Rattle.ppdb_maps.proofs.Named.{same_bytes}
 use Rattle.ppdb_maps.proofs.Refusing.{link_keeps}
 use Rattle.ppdb_maps.proofs.OneMap.{same_number, pair_is, pair_total}
 use Rattle.ppdb_maps_text.specs.Laws.{TextsAreRead}
-use Rattle.ppdb_maps_text.specs.MapTexts.{head_text, line_text, link_says, row_says, slot_says, signature_says, count_says, slots_say, method_says, map_says}
-use Rattle.ppdb_maps_text.specs.MapTexts.{map_lines}
-use Rattle.ppdb_maps_text.proofs.Ahead.{starts, ends, starts_of, ends_of, one_of}
-use Rattle.ppdb_maps_text.proofs.Got.{Got, NoMethods, add_count, add_row, add_drop, add_slots, add_slot, add_signature, add_document}
-use Rattle.ppdb_maps_text.proofs.Got.{version_of, read_on, from_three, version_known, signatures_newer, documents_newer, link_newer}
-use Rattle.ppdb_maps_text.proofs.Told.{link_told}
-use Rattle.ppdb_maps_text.proofs.Groups.{regrouped, found_among, of_found, of_any, of_passed, of_each}
+use Rattle.ppdb_maps_text.specs.MapTexts.{version_of, head_text, line_text, shares_says, link_says, image_says, olds_of, slot_says, signature_says, count_says}
+use Rattle.ppdb_maps_text.specs.MapTexts.{slots_say, method_says, map_says, map_lines}
+use Rattle.ppdb_maps_text.proofs.Ahead.{ahead_same, ahead_of_same, starts, ends, starts_of, ends_of, one_of}
+use Rattle.ppdb_maps_text.proofs.Got.{Got, NoMethods, RowKey, key_of, no_value, there_if, SameImage, add_count, add_row, add_cross, add_gone, add_drop, add_slots, add_slot}
+use Rattle.ppdb_maps_text.proofs.Got.{add_signature, add_document}
+use Rattle.ppdb_maps_text.proofs.Got.{read_on, from_three, version_known, shares_newer, crossed_newer, gone_newer, signatures_newer, documents_newer, link_newer}
+use Rattle.ppdb_maps_text.proofs.Told.{link_told, shares_told}
+use Rattle.ppdb_maps_text.proofs.OneLine.{has_line, OneLine, by_row, by_cross, by_gone, one_line, methods_stay, says_row, says_cross, says_gone}
+use Rattle.ppdb_maps_text.proofs.Starting.{keys_of, olds_lined, images_start, same_read, Silent, none_silent, shares_silent, link_silent}
+use Rattle.ppdb_maps_text.proofs.Groups.{regrouped, of_found, of_any, of_passed, of_each}
 use Rattle.ppdb_maps_text.proofs.Methods.{MethodsAhead, LinesAhead, line_among, add_methods}
 use Rattle.ppdb_maps_text.proofs.Words.{IsPlain, lines_ended}
 
@@ -51,18 +55,18 @@ map_itself : (xs : List ℕ) → map (λ (x : ℕ). x) xs ≡ xs
 map_itself [] = refl
 map_itself (x ∷ xs) = ap (λ l. x ∷ l) (map_itself xs)
 
--- no row of a dropped method has an image
-dropped_unmoved : (m : Map) → IsReadable m → (d : ℕ) → is_dropped m d ≡ true → is_some (row_line m 0x06 d) ≡ false
-dropped_unmoved m is d dropped = of (find (λ (r : RowLine). nat_eq r.table 0x06 && nat_eq r.old d) m.rows) refl
+-- no row of a dropped method has a line
+dropped_unmoved : (m : Map) → IsReadable m → (d : ℕ) → is_dropped m d ≡ true → has_line m 0x06 d ≡ false
+dropped_unmoved m is d dropped = of (has_line m 0x06 d) refl
   where
-    of : (o : Option RowLine) → find (λ (r : RowLine). nat_eq r.table 0x06 && nat_eq r.old d) m.rows ≡ o
-        → is_some (option_map (λ (r : RowLine). r.new) o) ≡ false
-    of None e = refl
-    of (Some r) e =
-        let h = of_found (IsRowOf m) (λ (r : RowLine). nat_eq r.table 0x06 && nat_eq r.old d) m.rows r is.rows e in
-        let parts = and_parts (nat_eq r.table 0x06) (nat_eq r.old d) h.1 in
-        let no : is_dropped m r.old ≡ false = h.0.3 (eqb-true r.table 0x06 parts.0) in
-        absurd (false≢true (sym (subst (λ n. is_dropped m n ≡ false) (eqb-true r.old d parts.1) no) ∙ dropped))
+    none : (t o : ℕ) → OneLine m t o → t ≡ 0x06 → is_dropped m o ≡ true → ⊥
+    none _ _ (by_row line of row crossed gone) six dropped = false≢true (sym (of.3 six) ∙ dropped)
+    none _ _ (by_cross line of some row crossed gone) six dropped = methods_stay line of.2 six
+    none _ _ (by_gone line of some row crossed gone) six dropped = of.1 six
+
+    of : (b : Bool) → has_line m 0x06 d ≡ b → b ≡ false
+    of false e = refl
+    of true e = absurd (none 0x06 d (one_line m is 0x06 d e) refl dropped)
 
 -- nor slots
 dropped_unslotted : (m : Map) → IsReadable m → (d : ℕ) → is_dropped m d ≡ true → has_slots m d ≡ false
@@ -84,33 +88,54 @@ dropped_unsigned m is d dropped = of (find (λ (s : SignatureImage). nat_eq s.me
         absurd (false≢true (sym (subst (λ n. is_dropped m n ≡ false) (eqb-true s.method d h.1) h.0.2) ∙ dropped))
 
 module _ (m : Map) (texts : List (List ℕ)) (is : IsReadable m) where
-  add_rows : (after : List Line) (t : ℕ) (rows rs : List RowLine) (cs : List Count) (ds ss : List ℕ) (sl : List SlotImage) → t ≤ 0x2c
-      → AllByRecursion (λ (r : RowLine). IsRowOf m r × (nat_eq r.table t ≡ true)) rows
+  -- the line of a row
+  add_image : (after : List Line) (t o : ℕ) (cs : List Count) (ks : List RowKey) (ds ss : List ℕ) (sl : List SlotImage) → OneLine m t o → t ≤ 0x2c
       → AllByRecursion (λ y. nat_cmp t y ≡ Less) (map (λ (c : Count). c.table) cs)
-      → Got m texts (map row_says rows ++ after) cs (rows ++ rs) ds ss sl m.signatures m.documents NoMethods
-      → Got m texts after cs rs ds ss sl m.signatures m.documents NoMethods
-  add_rows after t [] rs cs ds ss sl known all below g = g
-  add_rows after t (r ∷ rows) rs cs ds ss sl known all below g =
-      let e : t ≡ r.table = sym (eqb-true r.table t all.0.1) in
-      add_rows after t rows rs cs ds ss sl known all.1 below
-      (add_row m texts (map row_says rows ++ after) r cs (rows ++ rs) ds ss sl m.signatures m.documents (subst (λ n. n ≤ 0x2c) e known) all.0.0
-      (subst (λ n. AllByRecursion (λ y. nat_cmp n y ≡ Less) (map (λ (c : Count). c.table) cs)) e below) g)
+      → Got m texts (image_says t o (line_image m t o) ++ after) cs ((t, o) ∷ ks) ds ss sl m.signatures m.documents NoMethods
+      → Got m texts after cs ks ds ss sl m.signatures m.documents NoMethods
+  add_image after _ _ cs ks ds ss sl (by_row line of row crossed gone) known below g =
+      add_row m texts after line cs ks ds ss sl m.signatures m.documents known of row crossed gone below
+      (subst (λ ls. Got m texts (ls ++ after) cs ((line.table, line.old) ∷ ks) ds ss sl m.signatures m.documents NoMethods)
+      (says_row m line.table line.old line.new row) g)
+  add_image after _ _ cs ks ds ss sl (by_cross line of some row crossed gone) known below g =
+      add_cross m texts after line cs ks ds ss sl m.signatures m.documents of (crossed_newer m some) row crossed gone below
+      (subst (λ ls. Got m texts (ls ++ after) cs ((line.table, line.old) ∷ ks) ds ss sl m.signatures m.documents NoMethods)
+      (says_cross m line of.2 row crossed) g)
+  add_image after _ _ cs ks ds ss sl (by_gone line of some row crossed gone) known below g =
+      add_gone m texts after line cs ks ds ss sl m.signatures m.documents known of (gone_newer m some) row crossed gone below
+      (subst (λ ls. Got m texts (ls ++ after) cs ((line.table, line.old) ∷ ks) ds ss sl m.signatures m.documents NoMethods)
+      (says_gone m line.table line.old row crossed gone) g)
+
+  -- the lines of the rows of a table
+  add_olds : (after : List Line) (t : ℕ) (olds : List ℕ) (ks : List RowKey) (cs : List Count) (ds ss : List ℕ) (sl : List SlotImage) → t ≤ 0x2c
+      → AllByRecursion (λ o. has_line m t o ≡ true) olds
+      → AllByRecursion (λ y. nat_cmp t y ≡ Less) (map (λ (c : Count). c.table) cs)
+      → Got m texts (flat_map (λ o. image_says t o (line_image m t o)) olds ++ after) cs (map (λ o. (t, o)) olds ++ ks) ds ss sl m.signatures m.documents
+      NoMethods
+      → Got m texts after cs ks ds ss sl m.signatures m.documents NoMethods
+  add_olds after t [] ks cs ds ss sl known all below g = g
+  add_olds after t (o ∷ olds) ks cs ds ss sl known all below g =
+      add_olds after t olds ks cs ds ss sl known all.1 below
+      (add_image (flat_map (λ o. image_says t o (line_image m t o)) olds ++ after) t o cs (map (λ o. (t, o)) olds ++ ks) ds ss sl
+      (one_line m is t o all.0) known below
+      (subst (λ a. Got m texts a cs ((t, o) ∷ (map (λ o. (t, o)) olds ++ ks)) ds ss sl m.signatures m.documents NoMethods)
+      (append_assoc (image_says t o (line_image m t o)) (flat_map (λ o. image_says t o (line_image m t o)) olds) after) g))
 
   add_counts : (after : List Line) (cs : List Count) (ds ss : List ℕ) (sl : List SlotImage) → AllByRecursion IsCount cs
-      → Got m texts (flat_map (count_says m) cs ++ after) cs (flat_map (λ (c : Count). rows_of m c.table) cs) ds ss sl m.signatures m.documents NoMethods
+      → Got m texts (flat_map (count_says m) cs ++ after) cs (flat_map (keys_of m) cs) ds ss sl m.signatures m.documents NoMethods
       → Got m texts after [] [] ds ss sl m.signatures m.documents NoMethods
   add_counts after [] ds ss sl all g = g
   add_counts after (c ∷ cs) ds ss sl all g =
-      let rest : List RowLine = flat_map (λ (c : Count). rows_of m c.table) cs in
+      let rest : List RowKey = flat_map (keys_of m) cs in
       let below = first_below c cs g.counts.sorted in
-      let regot : Got m texts (Rows c.table c.rows ∷ (map row_says (rows_of m c.table) ++ (flat_map (count_says m) cs ++ after))) (c ∷ cs)
-      (rows_of m c.table ++ rest) ds ss sl m.signatures m.documents NoMethods =
-      subst (λ a. Got m texts a (c ∷ cs) (rows_of m c.table ++ rest) ds ss sl m.signatures m.documents NoMethods)
+      let lines : List Line = flat_map (λ o. image_says c.table o (line_image m c.table o)) (olds_of m c.table) in
+      let regot : Got m texts (Rows c.table c.rows ∷ (lines ++ (flat_map (count_says m) cs ++ after))) (c ∷ cs)
+      (keys_of m c ++ rest) ds ss sl m.signatures m.documents NoMethods =
+      subst (λ a. Got m texts a (c ∷ cs) (keys_of m c ++ rest) ds ss sl m.signatures m.documents NoMethods)
       (append_assoc (count_says m c) (flat_map (count_says m) cs) after) g in
       add_counts after cs ds ss sl all.1
-      (add_rows (flat_map (count_says m) cs ++ after) c.table (rows_of m c.table) rest cs ds ss sl all.0.0
-      (of_passed (IsRowOf m) (λ (r : RowLine). nat_eq r.table c.table) m.rows is.rows) below
-      (add_count m texts (map row_says (rows_of m c.table) ++ (flat_map (count_says m) cs ++ after)) c cs (rows_of m c.table ++ rest) ds ss sl
+      (add_olds (flat_map (count_says m) cs ++ after) c.table (olds_of m c.table) rest cs ds ss sl all.0.0 (olds_lined m c.table) below
+      (add_count m texts (lines ++ (flat_map (count_says m) cs ++ after)) c cs (keys_of m c ++ rest) ds ss sl
       m.signatures m.documents all.0 regot))
 
   add_drops : (after : List Line) (ds ss : List ℕ) (sl : List SlotImage) → AllByRecursion IsRow ds
@@ -170,76 +195,135 @@ module _ (m : Map) (texts : List (List ℕ)) (is : IsReadable m) where
     plain = g.plain;
     whole = g.whole;
     counts = g.counts;
-    rows = g.rows;
+    images = g.images;
+    same = g.same;
     drops = g.drops;
     slotted = g.slotted;
     slots = g.slots;
     signatures = g.signatures;
     documents = g.documents;
     link = g.link;
+    shares = g.shares;
     rest = subst (λ lines. LinesAhead m lines m.methods) (sym g.rest)
         (starts (λ (l : MethodLine). l.method) (λ (l : MethodLine). l) nat_eq nat_cmp same_number nat_cmp_total m.methods is.ascends.methods);
   }
 
--- what a text says after the value of Source Link records
+-- what a text says after its first lines, of which each stands alone
 abbrev tables_say : Map → List Line
 tables_say m =
     flat_map (count_says m) m.counts
     ++ (map Dropped m.drops
     ++ (flat_map (slots_say m) m.slotted ++ (map signature_says m.signatures ++ (map Document m.documents ++ flat_map method_says m.methods))))
 
--- only the `link` line is read yet, if there is one
-nothing_read : (m : Map) → IsReadable m
-    → Got m (map line_text (map_says m)) (tables_say m) m.counts m.rows m.drops m.slotted m.slots m.signatures m.documents NoMethods
-nothing_read m is = of m.link refl is.link
+-- these lines were read, and they say nothing of what is ahead
+record FirstRead (m : Map) (after : List Line) (shares : Bool) (link : Option (List ℕ)) : Type 0 where
+  pub said : List Line
+  pub prefix : List (List ℕ)
+  pub read : Read (version_of m) prefix said
+  pub plain : AllByRecursion IsPlain prefix
+  pub whole : prefix ++ map line_text after ≡ map line_text (map_says m)
+  pub shares_are : shares_in said ≡ shares
+  pub link_is : link_in said ≡ link
+  pub silent : Silent said
+
+shares_read : (m : Map) → FirstRead m (link_says m.link ++ tables_say m) m.shares None
+shares_read m = of m.shares refl
   where
-    of : (o : Option (List ℕ)) → m.link ≡ o → IfSome o AreBytes
-        → Got m (map line_text (map_says m)) (tables_say m) m.counts m.rows m.drops m.slotted m.slots m.signatures m.documents NoMethods
-    of None e all = record {
+    shares_keep : (rule : Rule) → Breaks [] rule Shares → ⊥
+    shares_keep rule (second_shares h) = false≢true h
+
+    of : (b : Bool) → m.shares ≡ b → FirstRead m (link_says m.link ++ tables_say m) b None
+    of false e = record {
       said = [];
       prefix = [];
       read = start;
       plain = tt;
-      whole = ap (λ l. map line_text (link_says l ++ tables_say m)) (sym e);
-      counts = starts (λ (c : Count). c.table) (λ (c : Count). c.rows) nat_eq nat_cmp same_number nat_cmp_total m.counts is.ascends.counts;
-      rows = starts (λ (r : RowLine). (r.table, r.old)) (λ (r : RowLine). r.new) same_pair pair_cmp pair_is pair_total m.rows is.ascends.rows;
-      drops = starts_of m.drops is.ascends.drops;
-      slotted = starts_of m.slotted is.ascends.slotted;
-      slots = starts (λ (s : SlotImage). (s.method, s.old)) (λ (s : SlotImage). s.new) same_pair pair_cmp pair_is pair_total m.slots is.ascends.slots;
-      signatures = starts (λ (s : SignatureImage). s.method) (λ (s : SignatureImage). s.new) nat_eq nat_cmp same_number nat_cmp_total m.signatures
-          is.ascends.signatures;
-      documents = starts (λ (d : NameLine). d.old) (λ (d : NameLine). d.new) bytes_eq (slice_cmp nat_cmp) same_bytes nat_list_cmp_total m.documents
-          is.ascends.documents;
-      link = sym e;
-      rest = refl;
+      whole = ap (λ b. map line_text (shares_says b ++ (link_says m.link ++ tables_say m))) (sym e);
+      shares_are = refl;
+      link_is = refl;
+      silent = none_silent;
     }
-    of (Some value) e all =
-        let next = read_on (version_of m) [] (map line_text (map_says m)) [] (tables_say m) (Link value) start tt
-        (ap (λ l. map line_text (link_says l ++ tables_say m)) (sym e)) (link_told (version_of m) (link_newer m value e) value all) (link_keeps [] value refl) in
+    of true e =
+        let next = read_on (version_of m) [] (map line_text (map_says m)) [] (link_says m.link ++ tables_say m) Shares start tt
+        (ap (λ b. map line_text (shares_says b ++ (link_says m.link ++ tables_say m))) (sym e)) (shares_told (version_of m) (shares_newer m e))
+        shares_keep in
         record {
-          said = Link value ∷ [];
-          prefix = line_text (Link value) ∷ [];
+          said = Shares ∷ [];
+          prefix = line_text Shares ∷ [];
           read = next.0;
           plain = next.1;
           whole = next.2;
-          counts = starts (λ (c : Count). c.table) (λ (c : Count). c.rows) nat_eq nat_cmp same_number nat_cmp_total m.counts is.ascends.counts;
-          rows = starts (λ (r : RowLine). (r.table, r.old)) (λ (r : RowLine). r.new) same_pair pair_cmp pair_is pair_total m.rows is.ascends.rows;
-          drops = starts_of m.drops is.ascends.drops;
-          slotted = starts_of m.slotted is.ascends.slotted;
-          slots = starts (λ (s : SlotImage). (s.method, s.old)) (λ (s : SlotImage). s.new) same_pair pair_cmp pair_is pair_total m.slots is.ascends.slots;
-          signatures = starts (λ (s : SignatureImage). s.method) (λ (s : SignatureImage). s.new) nat_eq nat_cmp same_number nat_cmp_total m.signatures
-              is.ascends.signatures;
-          documents = starts (λ (d : NameLine). d.old) (λ (d : NameLine). d.new) bytes_eq (slice_cmp nat_cmp) same_bytes nat_list_cmp_total m.documents
-              is.ascends.documents;
-          link = sym e;
-          rest = refl;
+          shares_are = refl;
+          link_is = refl;
+          silent = shares_silent [] none_silent;
         }
 
-rows_in_order : (m : Map) → IsReadable m → flat_map (λ (c : Count). rows_of m c.table) m.counts ≡ m.rows
-rows_in_order m is =
-    regrouped (λ (c : Count). c.table) (λ (r : RowLine). r.table) (λ (r : RowLine). r.old) m.counts m.rows is.ascends.counts is.ascends.rows
-    (of_each (IsRowOf m) (λ (r : RowLine). list_any (λ (c : Count). nat_eq r.table c.table) m.counts ≡ true)
-    (λ r h. found_among (λ (c : Count). c.table) (λ (c : Count). c.rows) r.table m.counts h.2) m.rows is.rows)
+first_read : (m : Map) → IsReadable m → FirstRead m (tables_say m) m.shares m.link
+first_read m is = of m.link refl is.link
+  where
+    before : FirstRead m (link_says m.link ++ tables_say m) m.shares None
+    before = shares_read m
+
+    of : (o : Option (List ℕ)) → m.link ≡ o → IfSome o AreBytes → FirstRead m (tables_say m) m.shares o
+    of None e all = record {
+      said = before.said;
+      prefix = before.prefix;
+      read = before.read;
+      plain = before.plain;
+      whole = ap (λ l. before.prefix ++ map line_text (link_says l ++ tables_say m)) (sym e) ∙ before.whole;
+      shares_are = before.shares_are;
+      link_is = before.link_is;
+      silent = before.silent;
+    }
+    of (Some value) e all =
+        let next = read_on (version_of m) before.prefix (map line_text (map_says m)) before.said (tables_say m) (Link value) before.read before.plain
+        (ap (λ l. before.prefix ++ map line_text (link_says l ++ tables_say m)) (sym e) ∙ before.whole)
+        (link_told (version_of m) (link_newer m value e) value all) (link_keeps before.said value (ap is_some before.link_is)) in
+        record {
+          said = Link value ∷ before.said;
+          prefix = before.prefix ++ line_text (Link value) ∷ [];
+          read = next.0;
+          plain = next.1;
+          whole = next.2;
+          shares_are = before.shares_are;
+          link_is = refl;
+          silent = link_silent before.said value before.silent;
+        }
+
+-- only the `shares` and the `link` line are read yet, if they are there
+nothing_read : (m : Map) → IsReadable m
+    → Got m (map line_text (map_says m)) (tables_say m) m.counts (flat_map (keys_of m) m.counts) m.drops m.slotted m.slots m.signatures m.documents NoMethods
+nothing_read m is =
+    let first = first_read m is in
+    let silent = first.silent in
+    record {
+      said = first.said;
+      prefix = first.prefix;
+      read = first.read;
+      plain = first.plain;
+      whole = first.whole;
+      counts = ahead_same (λ (c : Count). c.table) (λ (c : Count). c.rows) nat_eq nat_cmp _ _ m.counts (λ t. count_of m t) (λ t. sym (silent.counts t))
+          (starts (λ (c : Count). c.table) (λ (c : Count). c.rows) nat_eq nat_cmp same_number nat_cmp_total m.counts is.ascends.counts);
+      images = ahead_same key_of no_value same_pair pair_cmp _ _ (flat_map (keys_of m) m.counts) (λ k. there_if (has_line m k.0 k.1))
+          (λ k. sym (ap there_if (silent.images k.0 k.1))) (images_start m is);
+      same = λ t o there. absurd (false≢true (sym (silent.images t o) ∙ there));
+      drops = ahead_of_same _ _ m.drops (λ n. is_dropped m n) (λ n. sym (silent.drops n)) (starts_of m.drops is.ascends.drops);
+      slotted = ahead_of_same _ _ m.slotted (λ n. has_slots m n) (λ n. sym (silent.slotted n)) (starts_of m.slotted is.ascends.slotted);
+      slots = ahead_same (λ (s : SlotImage). (s.method, s.old)) (λ (s : SlotImage). s.new) same_pair pair_cmp _ _ m.slots (λ k. slot_line m k.0 k.1)
+          (λ k. sym (silent.slots k.0 k.1))
+          (starts (λ (s : SlotImage). (s.method, s.old)) (λ (s : SlotImage). s.new) same_pair pair_cmp pair_is pair_total m.slots is.ascends.slots);
+      signatures = ahead_same (λ (s : SignatureImage). s.method) (λ (s : SignatureImage). s.new) nat_eq nat_cmp _ _ m.signatures (λ n. signature_line m n)
+          (λ n. sym (silent.signatures n))
+          (starts (λ (s : SignatureImage). s.method) (λ (s : SignatureImage). s.new) nat_eq nat_cmp same_number nat_cmp_total m.signatures
+          is.ascends.signatures);
+      documents = ahead_same (λ (d : NameLine). d.old) (λ (d : NameLine). d.new) bytes_eq (slice_cmp nat_cmp) _ _ m.documents (λ n. document_line m n)
+          (λ n. sym (silent.documents n))
+          (starts (λ (d : NameLine). d.old) (λ (d : NameLine). d.new) bytes_eq (slice_cmp nat_cmp) same_bytes nat_list_cmp_total m.documents
+          is.ascends.documents);
+      link = first.link_is;
+      shares = first.shares_are;
+      rest = silent.methods;
+    }
 
 slots_in_order : (m : Map) → IsReadable m → flat_map (slots_of m) m.slotted ≡ m.slots
 slots_in_order m is =
@@ -266,9 +350,7 @@ all_read m is =
     let signatures : List Line = map signature_says m.signatures ++ documents in
     let slots : List Line = flat_map (slots_say m) m.slotted ++ signatures in
     let drops : List Line = map Dropped m.drops ++ slots in
-    let begun = subst (λ rs. Got m texts (tables_say m) m.counts rs m.drops m.slotted m.slots m.signatures m.documents NoMethods) (sym (rows_in_order m is))
-    (nothing_read m is) in
-    let counted = add_counts m texts is drops m.counts m.drops m.slotted m.slots is.counts begun in
+    let counted = add_counts m texts is drops m.counts m.drops m.slotted m.slots is.counts (nothing_read m is) in
     let dropped = add_drops m texts is slots m.drops m.slotted m.slots is.drops counted in
     let given = subst (λ sl. Got m texts slots [] [] [] m.slotted sl m.signatures m.documents NoMethods) (sym (slots_in_order m is)) dropped in
     let slotted = add_slotted m texts is signatures m.slotted is.slotted given in
@@ -285,7 +367,9 @@ itself (Some l) = refl
 read_holds : (m : Map) → IsReadable m → (g : Got m (map line_text (map_says m)) [] [] [] [] [] [] [] [] (MethodsAhead m [])) → HoldsWhat g.said m
 read_holds m is g = record {
   counts = λ t. sym (ends (λ (c : Count). c.table) (λ (c : Count). c.rows) nat_eq nat_cmp same_number nat_cmp_total _ _ g.counts t);
-  rows = λ t o. sym (ends (λ (r : RowLine). (r.table, r.old)) (λ (r : RowLine). r.new) same_pair pair_cmp pair_is pair_total _ _ g.rows (t, o));
+  rows = λ t o. sym (images t o).0;
+  crossed = λ t o. sym (images t o).1;
+  gone = λ t o. sym (images t o).2;
   methods = λ n. sym (ends (λ (l : MethodLine). l.method) (λ (l : MethodLine). l) nat_eq nat_cmp same_number nat_cmp_total _ _ g.rest n
       ∙ itself (line_among m.methods n));
   drops = λ n. sym (ends_of _ _ g.drops n);
@@ -294,8 +378,12 @@ read_holds m is g = record {
   signatures = λ n. sym (ends (λ (s : SignatureImage). s.method) (λ (s : SignatureImage). s.new) nat_eq nat_cmp same_number nat_cmp_total _ _ g.signatures n);
   documents = λ n. sym (ends (λ (d : NameLine). d.old) (λ (d : NameLine). d.new) bytes_eq (slice_cmp nat_cmp) same_bytes nat_list_cmp_total _ _ g.documents n);
   link = sym g.link;
+  shares = sym g.shares;
   ascends = is.ascends;
 }
+  where
+    images : (t o : ℕ) → SameImage m g.said t o
+    images t o = same_read m g.said t o (ends key_of no_value same_pair pair_cmp pair_is pair_total _ _ g.images (t, o)) (g.same t o)
 
 head_is_plain : (version : ℕ) → IsPlain (head_text version)
 head_is_plain version =
@@ -304,7 +392,7 @@ head_is_plain version =
 head_is : (m : Map) → IsHead (head_text (version_of m)) (version_of m)
 head_is m = record {
   from = let h = from_three m in omega (arith, h);
-  to = elim (version_known m.signatures m.documents m.link) [ inl e ↦ omega (arith, e) | inr e ↦ omega (arith, e) ];
+  to = elim (version_known m) [ inl e ↦ omega (arith, e) | inr e ↦ omega (arith, e) ];
   spelled = refl;
 }
 

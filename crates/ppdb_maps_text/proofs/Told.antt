@@ -1,5 +1,5 @@
 -- Each line of a map's text says what it was spelled from.
-use Rattle.std.proofs.Common.{ℕ, ◌≡◌, ◌<◌, ◌≤◌, ◌/◌, ◌%◌, List, [], ◌∷◌, length, refl, ap, ◌∙◌, subst, arith, inl, inr}
+use Rattle.std.proofs.Common.{ℕ, ◌≡◌, ◌≢◌, ◌<◌, ◌≤◌, ◌/◌, ◌%◌, List, [], ◌∷◌, length, refl, ap, ◌∙◌, subst, arith, inl, inr}
 use Rattle.std.specs.Char.{digit_char}
 use Rattle.std.specs.Fmt.{decimal}
 use Rattle.std.specs.List.{AllByRecursion}
@@ -8,11 +8,13 @@ use Rattle.ppdb_base.specs.declared.offsets.Run.{Run}
 use Rattle.ppdb_maps.specs.Words.{IsSilent}
 use Rattle.ppdb_maps.specs.Forms.{name_of, words_in, since, IsNumber, IsTable, IsHexDigit, ROWS, OFFSETS, SLOTS, Values, Tells, told}
 use Rattle.ppdb_maps.specs.Forms.{rows_line, row_line, method_line, run_line, drop_line, slots_line, slot_line, signature_line, document_line, link_line, AreBytes, IsEscaped}
+use Rattle.ppdb_maps.specs.Forms.{cross_line, gone_line, shares_line, IsTypeTable, Crosses}
 use Rattle.ppdb_maps.specs.declared.line.Form.{Form}
 use Rattle.ppdb_maps.specs.declared.line.Form.TheVariants.{TableRows, RowMove, MethodSizes, OffsetRun, MethodDrop, MethodSlots, SlotMove, MethodSignature}
-use Rattle.ppdb_maps.specs.declared.line.Form.TheVariants.{DocumentRename, LinkValue}
+use Rattle.ppdb_maps.specs.declared.line.Form.TheVariants.{DocumentRename, LinkValue, CrossMove, RowGone, Sharing}
 use Rattle.ppdb_maps.specs.declared.line.Line.{Line}
-use Rattle.ppdb_maps.specs.declared.line.Line.TheVariants.{Rows, Row, Method, Kept, Dropped, Slots, Slot, Signature, Document, Link}
+use Rattle.ppdb_maps.specs.declared.line.Line.TheVariants.{Rows, Row, Cross, Gone, Method, Kept, Dropped, Slots, Slot, Signature, Document, Link, Shares}
+use Rattle.ppdb_maps.specs.declared.entries.CrossLine.{CrossLine}
 use Rattle.ppdb_maps.specs.declared.entries.NameLine.{NameLine}
 use Rattle.ppdb_base.specs.Escaped.{escaped}
 use Rattle.ppdb_maps_text.specs.MapTexts.{spaced, table_word, line_text}
@@ -36,6 +38,9 @@ name_is_word MethodSignature =
 name_is_word DocumentRename =
     (omega arith, (omega arith, (omega arith, (omega arith, (omega arith, (omega arith, (omega arith, (omega arith, tt))))))))
 name_is_word LinkValue = (omega arith, (omega arith, (omega arith, (omega arith, tt))))
+name_is_word CrossMove = (omega arith, (omega arith, (omega arith, tt)))
+name_is_word RowGone = (omega arith, (omega arith, (omega arith, (omega arith, tt))))
+name_is_word Sharing = (omega arith, (omega arith, (omega arith, (omega arith, (omega arith, (omega arith, tt))))))
 
 loud : (form : Form) (values : List (List ℕ)) → IsSilent (spaced (name_of form) values) → ⊥
 loud TableRows values silent = omega (arith, silent)
@@ -48,6 +53,9 @@ loud SlotMove values silent = omega (arith, silent)
 loud MethodSignature values silent = omega (arith, silent)
 loud DocumentRename values silent = omega (arith, silent)
 loud LinkValue values silent = omega (arith, silent)
+loud CrossMove values silent = omega (arith, silent)
+loud RowGone values silent = omega (arith, silent)
+loud Sharing values silent = omega (arith, silent)
 
 told_form : (version : ℕ) (form : Form) (values : List (List ℕ)) (line : Line) → spaced (name_of form) values ≡ line_text line → AllByRecursion IsWord values
     → length (name_of form ∷ values) ≡ words_in form → since form ≤ version → Values form values line → IsTold version line
@@ -155,3 +163,35 @@ document_told version there d old new =
 pub link_told : (version : ℕ) → 4 ≤ version → (value : List ℕ) → AreBytes value → IsTold version (Link value)
 link_told version there value all =
     told_form version LinkValue (escaped value ∷ []) (Link value) refl (escaped_is_word value all, tt) refl there (link_line (spelling value all))
+
+-- the table of a line of five words, and that of its image
+types_known : (table : ℕ) → IsTypeTable table → table ≤ 0x2c
+types_known table is = elim is [ inl e ↦ omega (arith, e) | inr more ↦ elim more [ inl e ↦ omega (arith, e) | inr e ↦ omega (arith, e) ] ]
+
+from_known : (line : CrossLine) → Crosses line → line.table ≤ 0x2c
+from_known line is = elim is [ inl types ↦ types_known line.table types.0 | inr own ↦ (let e = own.0 in omega (arith, e)) ]
+
+to_known : (line : CrossLine) → Crosses line → line.to ≤ 0x2c
+to_known line is = elim is [ inl types ↦ types_known line.to types.1 | inr own ↦ (let e = own.1 in omega (arith, e)) ]
+
+pub cross_told : (version : ℕ) → 4 ≤ version → (line : CrossLine) → Crosses line → 1 ≤ line.old → line.old ≤ ROWS → 1 ≤ line.new → line.new ≤ ROWS
+    → IsTold version (Cross line)
+cross_told version there line crosses old_from old_to new_from new_to =
+    told_form version CrossMove (table_word line.table ∷ decimal line.old ∷ table_word line.to ∷ decimal line.new ∷ []) (Cross line) refl (
+      table_is_word line.table (from_known line crosses),
+      (
+        number_word line.old (omega (arith, old_to)),
+        (table_is_word line.to (to_known line crosses), (number_word line.new (omega (arith, new_to)), tt)),
+      ),
+    ) refl there
+    (cross_line (table_is line.table (from_known line crosses)) (number line.old 1 ROWS old_from old_to) (table_is line.to (to_known line crosses))
+    (number line.new 1 ROWS new_from new_to) crosses)
+
+pub gone_told : (version : ℕ) → 4 ≤ version → (table old : ℕ) → table ≤ 0x2c → table ≢ 0x06 → 1 ≤ old → old ≤ ROWS → IsTold version (Gone table old)
+gone_told version there table old known other from to =
+    told_form version RowGone (table_word table ∷ decimal old ∷ []) (Gone table old) refl
+    (table_is_word table known, (number_word old (omega (arith, to)), tt)) refl there
+    (gone_line (table_is table known) other (number old 1 ROWS from to))
+
+pub shares_told : (version : ℕ) → 4 ≤ version → IsTold version Shares
+shares_told version there = told_form version Sharing [] Shares refl tt refl there shares_line

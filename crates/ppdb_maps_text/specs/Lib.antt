@@ -1,3 +1,4 @@
+pub mod Ascending
 pub mod MapTexts
 pub mod Putting
 pub mod Laws

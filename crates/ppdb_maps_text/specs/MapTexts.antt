@@ -1,8 +1,11 @@
 -- The canonical text of a map (docs/FORMAT.md, "Map texts"): what its lines say, in their order, and how each is spelled.
-use Rattle.std.specs.{Prelude.{ℕ, ◌+◌, ◌/◌, ◌%◌, List, [], ◌∷◌, ◌++◌, Option, Some, None, codes, map, decimal, flat_map}, Char.digit_char}
+use Rattle.std.specs.{Prelude.{ℕ, ◌+◌, ◌/◌, ◌%◌, ◌||◌, Bool, true, false, cond, nat_eq, List, [], ◌∷◌, ◌++◌, Option, Some, None, is_some, codes, map, decimal, flat_map}, Char.digit_char}
 use Rattle.ppdb_base.specs.Escaped.{escaped}
-use Rattle.ppdb_maps.specs.{declared.entries.{Count.Count, RowLine.RowLine, SlotImage.SlotImage, SignatureImage.SignatureImage, NameLine.NameLine}, declared.line.Line.Line}
-use Rattle.ppdb_maps.specs.{declared.line.Line.TheVariants.{Silent, Rows, Row, Method, Kept, Dropped, Slots, Slot, Signature, Document, Link}, Map.{Map, MethodLine, rows_of, slots_of}}
+use Rattle.ppdb_maps.specs.declared.entries.{Count.Count, RowLine.RowLine, CrossLine.CrossLine, GoneLine.GoneLine, SlotImage.SlotImage, SignatureImage.SignatureImage}
+use Rattle.ppdb_maps.specs.declared.line.Line.{Line, TheVariants.{Silent, Rows, Row, Cross, Gone, Method, Kept, Dropped, Slots, Slot, Signature, Document, Link, Shares}}
+use Rattle.ppdb_maps.specs.declared.image.RowImage.{RowImage, TheVariants.{Row as Becomes, Gone as Vanishes, Missing}}
+use Rattle.ppdb_maps.specs.Map.{Map, MethodLine, line_image, rows_of, crossed_of, gone_of, slots_of}
+use Rattle.ppdb_maps_text.specs.Ascending.{ascending}
 
 -- a word, and words after it, apart by one space
 abbrev pub spaced : List ℕ → List (List ℕ) → List ℕ
@@ -25,20 +28,33 @@ line_text (Slot method old new) = spaced (codes "slot") (decimal method ∷ deci
 line_text (Signature method new) = spaced (codes "signature") (decimal method ∷ decimal new ∷ [])
 line_text (Document d) = spaced (codes "document") (escaped d.old ∷ escaped d.new ∷ [])
 line_text (Link value) = spaced (codes "link") (escaped value ∷ [])
+line_text (Cross line) = spaced (codes "row") (table_word line.table ∷ decimal line.old ∷ table_word line.to ∷ decimal line.new ∷ [])
+line_text (Gone table old) = spaced (codes "gone") (table_word table ∷ decimal old ∷ [])
+line_text Shares = spaced (codes "shares") []
+
+-- the line by which a row has this image: it becomes a row of its own table, or of another one, or it is gone
+abbrev pub image_says : ℕ → ℕ → RowImage → List Line
+image_says table old (Becomes to new) = cond (nat_eq to table) (Row table old new) (Cross (record { table = table; old = old; to = to; new = new })) ∷ []
+image_says table old Vanishes = Gone table old ∷ []
+image_says table old Missing = []
+
+-- the rows of a table that have a line, in ascending order
+abbrev pub olds_of : Map → ℕ → List ℕ
+olds_of m table =
+    ascending (map (λ (r : RowLine). r.old) (rows_of m table)
+    ++ (map (λ (r : CrossLine). r.old) (crossed_of m table) ++ map (λ (r : GoneLine). r.old) (gone_of m table)))
 
 -- what the lines of an entry say
-abbrev pub row_says : RowLine → Line
-row_says row = Row row.table row.old row.new
-
 abbrev pub slot_says : SlotImage → Line
 slot_says slot = Slot slot.method slot.old slot.new
 
 abbrev pub signature_says : SignatureImage → Line
 signature_says signature = Signature signature.method signature.new
 
--- a table's count, and its rows
+-- a table's count, and the lines of its rows, by OLD
 abbrev pub count_says : Map → Count → List Line
-count_says m count = Rows count.table count.rows ∷ map row_says (rows_of m count.table)
+count_says m count =
+    Rows count.table count.rows ∷ flat_map (λ old. image_says count.table old (line_image m count.table old)) (olds_of m count.table)
 
 -- a method's images of slots
 abbrev pub slots_say : Map → ℕ → List Line
@@ -53,27 +69,40 @@ abbrev pub link_says : Option (List ℕ) → List Line
 link_says None = []
 link_says (Some value) = Link value ∷ []
 
--- the value of Source Link records, tables with their rows, dropped methods, slots, local signatures, names of documents, methods with their runs
+-- whether rows may have one image
+abbrev pub shares_says : Bool → List Line
+shares_says false = []
+shares_says true = Shares ∷ []
+
+-- whether rows may have one image, the value of Source Link records, tables with their rows, dropped methods, slots, local signatures, names of
+-- documents, methods with their runs
 abbrev pub map_says : Map → List Line
 map_says m =
-    link_says m.link
+    shares_says m.shares
+    ++ (link_says m.link
     ++ (flat_map (count_says m) m.counts
     ++ (map Dropped m.drops
-    ++ (flat_map (slots_say m) m.slotted ++ (map signature_says m.signatures ++ (map Document m.documents ++ flat_map method_says m.methods)))))
+    ++ (flat_map (slots_say m) m.slotted ++ (map signature_says m.signatures ++ (map Document m.documents ++ flat_map method_says m.methods))))))
 
--- the version of the text: 4 where a `signature`, a `document` or a `link` line is there, else 3
-abbrev pub version_with : List SignatureImage → List NameLine → Option (List ℕ) → ℕ
-version_with [] [] None = 3
-version_with [] [] (Some _) = 4
-version_with [] (_ ∷ _) link = 4
-version_with (_ ∷ _) documents link = 4
+-- the list has an item
+abbrev pub has_items : {X : Type 0} → List X → Bool
+has_items [] = false
+has_items (_ ∷ _) = true
+
+-- the map has a line of a form that texts have from version 4 on
+abbrev pub has_newer : Map → Bool
+has_newer m = m.shares || (is_some m.link || (has_items m.crossed || (has_items m.gone || (has_items m.signatures || has_items m.documents))))
+
+-- the version of the map's text
+abbrev pub version_of : Map → ℕ
+version_of m = cond (has_newer m) 4 3
 
 -- line 1 of a text of the version: 48 is the digit 0
 abbrev pub head_text : ℕ → List ℕ
 head_text version = codes "ppdbmap " ++ (48 + version) ∷ []
 
 abbrev pub map_lines : Map → List (List ℕ)
-map_lines m = head_text (version_with m.signatures m.documents m.link) ∷ map line_text (map_says m)
+map_lines m = head_text (version_of m) ∷ map line_text (map_says m)
 
 -- each line is ended by LF
 abbrev pub ended : List ℕ → List ℕ

@@ -2,7 +2,7 @@
 ghost use Rattle.std.specs.Prelude.{◌≡◌, ◌<◌, ◌≤◌, map, OnOk};
 ghost use Rattle.std.specs.Char.{digit_char};
 ghost use Rattle.std.specs.Fmt.{decimal};
-ghost use Rattle.ppdb_maps.specs.declared.line.Line.TheVariants.{Rows, Row, Method, Kept, Dropped, Slots, Slot, Signature, Document, Link};
+ghost use Rattle.ppdb_maps.specs.declared.line.Line.TheVariants.{Rows, Row, Cross, Gone, Method, Kept, Dropped, Slots, Slot, Signature, Document, Link, Shares};
 ghost use Rattle.ppdb_maps_text.specs.MapTexts.{spaced, ended, head_text, line_text};
 ghost use Rattle.ppdb_maps_text.specs.Putting.{Puts};
 
@@ -34,6 +34,32 @@ impl Counted {
     {
         let (high, low) = (digit(table / 16), digit(table % 16));
         self.put_line(&[b'r', b'o', b'w', b' ', high, low], &[old, new])
+    }
+
+    /// Puts the line `row TT OLD TT2 NEW`.
+    pub fn put_cross(&mut self, table: u8, old: u32, to: u8, new: u32) -> Result<(), Memory>
+        ensures { OnOk result (Puts self.old self.new (ended (line_text (Cross (record { table = table; old = old; to = to; new = new }))))) }
+    {
+        self.put(&[b'r', b'o', b'w', b' ', digit(table / 16), digit(table % 16)])?;
+        self.put_number(old)?;
+        self.put(&[b' ', digit(to / 16), digit(to % 16)])?;
+        self.put_number(new)?;
+        self.put(&[b'\n'])
+    }
+
+    /// Puts the line `gone TT OLD`.
+    pub fn put_gone(&mut self, table: u8, old: u32) -> Result<(), Memory>
+        ensures { OnOk result (Puts self.old self.new (ended (line_text (Gone table old)))) }
+    {
+        let (high, low) = (digit(table / 16), digit(table % 16));
+        self.put_line(&[b'g', b'o', b'n', b'e', b' ', high, low], &[old])
+    }
+
+    /// Puts the line `shares`.
+    pub fn put_shares(&mut self) -> Result<(), Memory>
+        ensures { OnOk result (Puts self.old self.new (ended (line_text Shares))) }
+    {
+        self.put_line(b"shares", &[])
     }
 
     /// Puts the line `drop M`.

@@ -118,13 +118,13 @@ traces_apart a b sound also apart =
     (methods_named (IsImageIn b.rows) b.moved also.images))
     (methods_of a.moved) (methods_named (IsImageIn a.rows) a.moved sound.images)
   where
-    differ : (i j : Imaged) → Contains a.rows i → Contains b.rows j → i.table ≡ 0x06 → j.table ≡ 0x06 → i.image ≢ j.image
+    differ : (i j : Imaged) → Contains a.rows i → Contains b.rows j → i.to ≡ 0x06 → j.to ≡ 0x06 → i.image ≢ j.image
     differ i j in_a in_b table other =
-        in_each (λ (y : Imaged). nat_eq y.table 0x06 ≡ true → i.image ≢ y.image) b.rows j
-        (each_left (λ (y : Imaged). i.image ≢ y.image) (λ (y : Imaged). nat_eq y.table 0x06) b.rows
-        (in_each (λ (x : Imaged). nat_eq x.table 0x06 ≡ true → Each (λ (y : Imaged). x.image ≢ y.image) (methods_in b.rows)) a.rows i
-        (each_left (λ (x : Imaged). Each (λ (y : Imaged). x.image ≢ y.image) (methods_in b.rows)) (λ (x : Imaged). nat_eq x.table 0x06) a.rows apart)
-        in_a (eq-eqb i.table 0x06 table))) in_b (eq-eqb j.table 0x06 other)
+        in_each (λ (y : Imaged). nat_eq y.to 0x06 ≡ true → i.image ≢ y.image) b.rows j
+        (each_left (λ (y : Imaged). i.image ≢ y.image) (λ (y : Imaged). nat_eq y.to 0x06) b.rows
+        (in_each (λ (x : Imaged). nat_eq x.to 0x06 ≡ true → Each (λ (y : Imaged). x.image ≢ y.image) (methods_in b.rows)) a.rows i
+        (each_left (λ (x : Imaged). Each (λ (y : Imaged). x.image ≢ y.image) (methods_in b.rows)) (λ (x : Imaged). nat_eq x.to 0x06) a.rows apart)
+        in_a (eq-eqb i.to 0x06 table))) in_b (eq-eqb j.to 0x06 other)
 
 pairs_given : {A : Type 0} (P : A → Type 0) (R S : A → A → Type 0) → ((x y : A) → P x → P y → R x y → S x y) → (xs : List A) → Each P xs → Pairs R xs
     → Pairs S xs
@@ -213,30 +213,30 @@ same_count first others sound also none =
     )
 
 -- each image is a row of its table
-image_there : (t : Trace) (i : Imaged) (n : ℕ) → above (n, t) i ≡ None → i.image ≤ count_in t i.table
-image_there t i n is = elim (cases_lt (count_in t i.table) i.image) [
-  | inl more ↦ absurd (some (sym (ap (λ b. cond b (Some (ImageRange n i.table i.row i.image (count_in t i.table))) None)
-      (lt-ltb (count_in t i.table) i.image more)) ∙ is))
+image_there : (t : Trace) (i : Imaged) (n : ℕ) → above (n, t) i ≡ None → i.image ≤ count_in t i.to
+image_there t i n is = elim (cases_lt (count_in t i.to) i.image) [
+  | inl more ↦ absurd (some (sym (ap (λ b. cond b (Some (ImageRange n i.table i.row i.image (count_in t i.to))) None)
+      (lt-ltb (count_in t i.to) i.image more)) ∙ is))
   | inr le ↦ le
 ]
   where
     some : {e : MergeError} → ◌≡◌ {A = Option MergeError} (Some e) None → ⊥
     some is = cc
 
-images_there : (traces : List Trace) → images_above traces ≡ [] → Each (λ t. Each (λ (i : Imaged). i.image ≤ count_in t i.table) t.rows) traces
+images_there : (traces : List Trace) → images_above traces ≡ [] → Each (λ t. Each (λ (i : Imaged). i.image ≤ count_in t i.to) t.rows) traces
 images_there traces none =
-    Each-unnumbered (λ t. Each (λ (i : Imaged). i.image ≤ count_in t i.table) t.rows) 1 traces
-    (Each-weaker (λ (x : ℕ × Trace). filter_map (above x) x.1.rows ≡ []) (λ (x : ℕ × Trace). Each (λ (i : Imaged). i.image ≤ count_in x.1 i.table) x.1.rows)
-    (λ x is. Each-weaker (λ i. above x i ≡ None) (λ (i : Imaged). i.image ≤ count_in x.1 i.table) (λ i no_more. image_there x.1 i x.0 no_more) x.1.rows
+    Each-unnumbered (λ t. Each (λ (i : Imaged). i.image ≤ count_in t i.to) t.rows) 1 traces
+    (Each-weaker (λ (x : ℕ × Trace). filter_map (above x) x.1.rows ≡ []) (λ (x : ℕ × Trace). Each (λ (i : Imaged). i.image ≤ count_in x.1 i.to) x.1.rows)
+    (λ x is. Each-weaker (λ i. above x i ≡ None) (λ (i : Imaged). i.image ≤ count_in x.1 i.to) (λ i no_more. image_there x.1 i x.0 no_more) x.1.rows
     (none_made (above x) x.1.rows is)) (numbered traces)
     (no_several (λ (x : ℕ × Trace). filter_map (above x) x.1.rows) (numbered traces) none))
 
-named_there : (t : Trace) (n : Named) → Each (λ (i : Imaged). i.image ≤ count_in t i.table) t.rows → IsImageIn t.rows n → n.row ≤ count_in t n.table
+named_there : (t : Trace) (n : Named) → Each (λ (i : Imaged). i.image ≤ count_in t i.to) t.rows → IsImageIn t.rows n → n.row ≤ count_in t n.table
 named_there t n each is =
     subst (λ row. row ≤ count_in t n.table) is.3
-    (subst (λ table. is.0.image ≤ count_in t table) is.2 (in_each (λ (i : Imaged). i.image ≤ count_in t i.table) t.rows is.0 each is.1))
+    (subst (λ table. is.0.image ≤ count_in t table) is.2 (in_each (λ (i : Imaged). i.image ≤ count_in t i.to) t.rows is.0 each is.1))
 
-entry_there : (t : Trace) → Each (λ (i : Imaged). i.image ≤ count_in t i.table) t.rows → Each (IsImageIn t.rows) (names_some 0x06 t.moved.entry)
+entry_there : (t : Trace) → Each (λ (i : Imaged). i.image ≤ count_in t i.to) t.rows → Each (IsImageIn t.rows) (names_some 0x06 t.moved.entry)
     → t.moved.entry ≤ count_in t 0x06
 entry_there t each is = by (nat_eq t.moved.entry 0) refl is
   where
@@ -254,21 +254,21 @@ counts_rows first others sound none =
       rows = sound.each.0.counts;
       entry = entry_there first images.0 sound.entry;
       named = Each-map (λ (t : Trace). t.moved) (λ file. Each (λ named. named.row ≤ slice_index first.moved.rows named.table) (all_named file)) (first ∷ others)
-          (Each-weaker (λ t. SoundTrace t × Each (λ (i : Imaged). i.image ≤ count_in t i.table) t.rows
+          (Each-weaker (λ t. SoundTrace t × Each (λ (i : Imaged). i.image ≤ count_in t i.to) t.rows
           × ((table : ℕ) → count_in t table ≡ count_in first table))
           (λ (t : Trace). Each (λ named. named.row ≤ slice_index first.moved.rows named.table) (all_named t.moved)) all_there (first ∷ others)
           (three (first ∷ others) sound.each images ((λ table. refl), counts)));
     }
   where
-    all_there : (t : Trace) → SoundTrace t × Each (λ (i : Imaged). i.image ≤ count_in t i.table) t.rows
+    all_there : (t : Trace) → SoundTrace t × Each (λ (i : Imaged). i.image ≤ count_in t i.to) t.rows
         × ((table : ℕ) → count_in t table ≡ count_in first table)
         → Each (λ named. named.row ≤ slice_index first.moved.rows named.table) (all_named t.moved)
     all_there t holds =
         Each-weaker (IsImageIn t.rows) (λ named. named.row ≤ slice_index first.moved.rows named.table)
         (λ n is. subst (λ count. n.row ≤ count) (holds.2 n.table) (named_there t n holds.1 is)) (all_named t.moved) holds.0.images
 
-    three : (ts : List Trace) → Each SoundTrace ts → Each (λ t. Each (λ (i : Imaged). i.image ≤ count_in t i.table) t.rows) ts
+    three : (ts : List Trace) → Each SoundTrace ts → Each (λ t. Each (λ (i : Imaged). i.image ≤ count_in t i.to) t.rows) ts
         → Each (λ t. (table : ℕ) → count_in t table ≡ count_in first table) ts
-        → Each (λ t. SoundTrace t × Each (λ (i : Imaged). i.image ≤ count_in t i.table) t.rows × ((table : ℕ) → count_in t table ≡ count_in first table)) ts
+        → Each (λ t. SoundTrace t × Each (λ (i : Imaged). i.image ≤ count_in t i.to) t.rows × ((table : ℕ) → count_in t table ≡ count_in first table)) ts
     three [] a b c = tt
     three (t ∷ ts) a b c = ((a.0, b.0, c.0), three ts a.1 b.1 c.1)

@@ -1,6 +1,6 @@
 -- A moved file has no more rows than the file, and the rows of a file have numbers of three bytes.
 use Rattle.std.proofs.Common.{◌≡◌, ℕ, suc, ◌+◌, ◌<◌, ◌≤◌, Bool, true, false, cond, List, [], ◌∷◌, Option, Some, None, length, map, filter}
-use Rattle.std.proofs.Common.{refl, sym, ◌∙◌, ap, arith}
+use Rattle.std.proofs.Common.{refl, ◌∙◌, ap, subst, arith}
 use Rattle.std.specs.Prelude.{◌==◌, sum_by}
 use Rattle.std.specs.List.{filter_map, cons_option, enumerate_from}
 use Rattle.std.proofs.lemmas.Bool.{eqb-true}
@@ -20,6 +20,7 @@ use Rattle.ppdb_values.specs.Imports.{import_scope_of}
 use Rattle.ppdb_values.specs.Parts.{first_item}
 use Rattle.ppdb_merge_items.specs.declared.file.AnnotatedScope.{AnnotatedScope}
 use Rattle.ppdb_merge_items.specs.Annotated.{annotated_file, annotated_scope, with_item}
+use Rattle.ppdb_merge_items.specs.NamedRows.{live_constant, live_constants, with_live_body}
 use Rattle.ppdb_merge_moved.specs.Moved.{moved_document, moved_variable, moved_constant, moved_scope, moved_import_scope, moved_file, scope_image, is_empty}
 use Rattle.ppdb_merge_joined.specs.Small.{HasFewRows}
 
@@ -125,17 +126,25 @@ fewer {A} {B} f (x ∷ xs) = step (f x) (fewer f xs)
     step None rest = omega (arith, rest)
     step (Some y) rest = omega (arith, rest)
 
-total_fewer : {A B : Type 0} (f : A → Option B) (count : A → ℕ) (after : B → ℕ) → ((x : A) (y : B) → f x ≡ Some y → after y ≡ count x) → (xs : List A)
+total_fewer : {A B : Type 0} (f : A → Option B) (count : A → ℕ) (after : B → ℕ) → ((x : A) (y : B) → f x ≡ Some y → after y ≤ count x) → (xs : List A)
     → total after (filter_map f xs) ≤ total count xs
 unfolding total
-total_fewer f count after same [] = omega arith
-total_fewer {A} {B} f count after same (x ∷ xs) = step (f x) refl (total_fewer f count after same xs)
+total_fewer f count after less [] = omega arith
+total_fewer {A} {B} f count after less (x ∷ xs) = step (f x) refl (total_fewer f count after less xs)
   where
     step : (o : Option B) → f x ≡ o → total after (filter_map f xs) ≤ total count xs → total after (cons_option o (filter_map f xs)) ≤ count x + total count xs
     step None is rest = omega (arith, rest)
-    step (Some y) is rest = let one = same x y is in omega (arith, rest, one)
+    step (Some y) is rest = let one = less x y is in omega (arith, rest, one)
 
--- a scope that stays has its variables and constants
+passing : {A : Type 0} (p : A → Bool) (xs : List A) → length (filter p xs) ≤ length xs
+passing p [] = omega arith
+passing p (x ∷ xs) = step (p x) (passing p xs)
+  where
+    step : (b : Bool) → length (filter p xs) ≤ length xs → length (cond b (x ∷ filter p xs) (filter p xs)) ≤ suc (length xs)
+    step true rest = omega (arith, rest)
+    step false rest = omega (arith, rest)
+
+-- a scope that stays has its variables, and no more than its constants
 scope_is : (m : Map) (s t : AnnotatedScope) → moved_scope m s ≡ Some t → scope_image m s ≡ t
 scope_is m s t eq = by (is_empty (scope_image m s).range) eq
   where
@@ -153,13 +162,14 @@ unnumbered f from (x ∷ xs) = ap (λ n. f x + n) (unnumbered f (from + 1) xs)
 
 -- what the moved scopes own is no more than the file's items
 owned_moved : {I : Type 0} (m : Map) (raw : RawFile) (of_annotated : AnnotatedScope → ℕ) (of_value : ScopeValue → ℕ) (owner : ℕ × I → Option ℕ) (items : List I)
-    → ((s : AnnotatedScope) → of_annotated (scope_image m s) ≡ of_annotated s)
+    → ((s : AnnotatedScope) → of_annotated (scope_image m s) ≤ of_annotated s)
     → ((x : ℕ × ScopeValue) → of_annotated (annotated_scope (value_of raw) x) ≡ of_value x.1)
     → ((x : ℕ × _) → of_value (scope_of raw.tables x) ≡ length (filter (λ item. is_number x.0 (owner item)) (numbered items)))
     → sum_by of_annotated (moved_file m (annotated_file (value_of raw))).scopes ≤ length items
 owned_moved m raw of_annotated of_value owner items kept annotated owned =
     let is = sum_is of_annotated (moved_file m (annotated_file (value_of raw))).scopes in
-    let moved = total_fewer (moved_scope m) of_annotated of_annotated (λ s t eq. ap of_annotated (sym (scope_is m s t eq)) ∙ kept s) (annotated_file (value_of raw)).scopes in
+    let moved = total_fewer (moved_scope m) of_annotated of_annotated (λ s t eq. subst (λ r. of_annotated r ≤ of_annotated s) (scope_is m s t eq) (kept s)) (annotated_file
+    (value_of raw)).scopes in
     let of_file = total_map of_annotated (annotated_scope (value_of raw)) (numbered (value_of raw).scopes) in
     let of_values = total_same (λ x. of_annotated (annotated_scope (value_of raw) x)) (λ (x : ℕ × ScopeValue). of_value x.1) annotated (numbered (value_of raw).scopes) in
     let plain = unnumbered of_value 1 (value_of raw).scopes in
@@ -187,7 +197,7 @@ few_rows m raw shape = record {
   variables =
       let owned = owned_moved m raw (λ s. length s.variables) (λ s. length s.variables)
       (λ item. owner_of (λ scope. scope.variables) raw.tables.scopes item.0) raw.tables.variables
-      (λ s. length_map (with_item (moved_variable m s.method)) s.variables)
+      (λ s. let same = length_map (with_item (moved_variable m s.method)) s.variables in omega (arith, same))
       (λ x. length_annotated (value_of raw) 0x33 (first_item (λ before. length before.variables) (value_of raw) x.0) x.1.variables)
       (λ x. length_map (λ (item : ℕ × VariableRow). variable_of raw.tables item.1)
       (owned_by (λ scope. scope.variables) raw.tables.scopes x.0 raw.tables.variables)) in
@@ -195,7 +205,9 @@ few_rows m raw shape = record {
   constants =
       let owned = owned_moved m raw (λ s. length s.constants) (λ s. length s.constants)
       (λ item. owner_of (λ scope. scope.constants) raw.tables.scopes item.0) raw.tables.constants
-      (λ s. length_map (with_item (moved_constant m)) s.constants)
+      (λ s. let same = length_map (with_item (moved_constant m)) (live_constants m s.constants)
+      ∙ length_map (with_item (with_live_body m)) (filter (live_constant m) s.constants) in
+      let less = passing (live_constant m) s.constants in omega (arith, same, less))
       (λ x. length_annotated (value_of raw) 0x34 (first_item (λ before. length before.constants) (value_of raw) x.0) x.1.constants)
       (λ x. length_map (λ (item : ℕ × ConstantRow). constant_of raw.tables item.1)
       (owned_by (λ scope. scope.constants) raw.tables.scopes x.0 raw.tables.constants)) in

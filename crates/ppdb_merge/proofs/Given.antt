@@ -12,7 +12,7 @@ use Rattle.ppdb_merge_items.specs.Sorted.{in_order}
 use Rattle.ppdb_merge_items.proofs.Lists.{Each-weaker}
 use Rattle.ppdb_merge_moved.proofs.Elements.{each_in, in_each, each_parts}
 use Rattle.ppdb_merge_names.specs.declared.imaged.Imaged.{Imaged}
-use Rattle.ppdb_merge_fits.specs.Rows.{imaged_rows}
+use Rattle.ppdb_merge_fits.specs.Rows.{image_key, imaged_rows}
 use Rattle.ppdb_merge_fits.specs.Signatures.{given, given_signature, given_signatures, with_given, all_images}
 use Rattle.ppdb_merge.specs.Sound.{IsImageIn}
 use Rattle.ppdb_merge.proofs.Imaged.{Each-unmapped, Each-unsorted}
@@ -21,9 +21,9 @@ use Rattle.ppdb_merge.proofs.Imaged.{Each-unmapped, Each-unsorted}
 both_parts : (P : Imaged → Type 0) (rows further : List Imaged) → Each P (with_given rows further) → Each P rows × Each P further
 both_parts P rows [] each = (each, tt)
 both_parts P rows (i ∷ is) each =
-    let by_image : List Imaged = in_order (λ (x : Imaged). x.image) (rows ++ i ∷ is) in
+    let by_image : List Imaged = in_order image_key (rows ++ i ∷ is) in
     each_parts P rows (i ∷ is)
-    (Each-unsorted (λ (x : Imaged). x.image) P (rows ++ i ∷ is)
+    (Each-unsorted image_key P (rows ++ i ∷ is)
     (Each-unsorted (λ (x : Imaged). x.row) P by_image
     (Each-unsorted (λ (x : Imaged). x.table) P (in_order (λ (x : Imaged). x.row) by_image) each)))
 
@@ -42,7 +42,7 @@ module _ (first : Bool) (m : Map) (raw : RawFile) where
   of_method e there new line = by (nat_eq new 0) refl
     where
       image : Imaged
-      image = record { table = 0x11; row = e.signature; image = new }
+      image = record { table = 0x11; row = e.signature; to = 0x11; image = new }
 
       by : (b : Bool) → nat_eq new 0 ≡ b → Each (IsImageIn all) (cond b [] (names 0x11 new ∷ []))
       by true none = tt

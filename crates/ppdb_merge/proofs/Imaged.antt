@@ -2,9 +2,10 @@
 use Rattle.std.proofs.Common.{◌≡◌, ℕ, ◌⊎◌, ◌&&◌, Bool, true, false, cond, List, [], ◌∷◌, Option, Some, None, refl, sym, ◌∙◌, ap, subst, inl, inr}
 use Rattle.std.specs.Prelude.{nat_eq, nat_le, Contains}
 use Rattle.std.specs.List.{filter_map, cons_option, dedup, dedup_from}
-use Rattle.std.specs.Option.{option_map}
 use Rattle.std.proofs.lemmas.Bool.{eqb-true, and_parts}
-use Rattle.ppdb_maps.specs.Map.{Map, row_within}
+use Rattle.ppdb_maps.specs.Map.{Map, row_image}
+use Rattle.ppdb_maps.specs.declared.image.RowImage.{RowImage}
+use Rattle.ppdb_maps.specs.declared.image.RowImage.TheVariants.{Row, Gone, Missing}
 use Rattle.ppdb_values.specs.RawFile.{RawFile}
 use Rattle.ppdb_values.specs.Rules.{KeepsRules}
 use Rattle.ppdb_values.specs.Value.{value_of}
@@ -14,12 +15,13 @@ use Rattle.ppdb_merge_items.specs.Annotated.{annotated_file}
 use Rattle.ppdb_merge_items.specs.Sorted.{put, in_order}
 use Rattle.ppdb_merge_items.proofs.Lists.{Each-weaker, Each-map, each_of}
 use Rattle.ppdb_merge_items.proofs.Orders.{in_order_each}
+use Rattle.ppdb_merge_moved.specs.Moved.{table_in, row_in}
 use Rattle.ppdb_merge_moved.proofs.Elements.{each_in}
 use Rattle.ppdb_merge_moved.proofs.Lists.{Each-both, Each-filter_map}
 use Rattle.ppdb_merge_names.specs.declared.imaged.Imaged.{Imaged}
 use Rattle.ppdb_merge_names.specs.References.{Reference, references}
 use Rattle.ppdb_merge_names_laws.specs.Laws.{ReferencesAreNamed, named_by}
-use Rattle.ppdb_merge_fits.specs.Rows.{imaged, imaged_rows}
+use Rattle.ppdb_merge_fits.specs.Rows.{imaged, imaged_rows, imaged_to}
 
 some_of : {A : Type 0} (a b : A) → Some a ≡ Some b → a ≡ b
 some_of a b e = cc
@@ -94,15 +96,15 @@ module _ (first : Bool) (m : Map) (raw : RawFile) where
   sorted = in_order (λ (i : Imaged). i.table) (in_order (λ (i : Imaged). i.row) unsorted)
 
   abbrev HasImage : Imaged → Type 0
-  HasImage i = row_within m i.table i.row ≡ Some i.image
+  HasImage i = row_image m i.table i.row ≡ Row i.to i.image
 
   made : (r : Reference) (i : Imaged) → imaged m r ≡ Some i → HasImage i
-  made r i is = step (row_within m r.table r.row) refl is
+  made r i is = step (row_image m r.table r.row) refl is
     where
-      step : (o : Option ℕ) → row_within m r.table r.row ≡ o
-          → option_map (λ image. record { table = r.table; row = r.row; image = image }) o ≡ Some i → HasImage i
-      step None from e = absurd cc
-      step (Some image) from e = subst HasImage (some_of _ i e) from
+      step : (o : RowImage) → row_image m r.table r.row ≡ o → imaged_to r o ≡ Some i → HasImage i
+      step (Row to image) from e = subst HasImage (some_of _ i e) from
+      step Gone from e = absurd cc
+      step Missing from e = absurd cc
 
   images : Each HasImage unsorted
   images = Each-filter_map (imaged m) (λ r. Unit {0}) HasImage (λ r i is u. made r i is) (references first m raw)
@@ -131,21 +133,21 @@ module _ (first : Bool) (m : Map) (raw : RawFile) where
           let both = and_parts (nat_eq i.table stands.0.table) (nat_eq i.row stands.0.row) same in
           let table : i.table ≡ stands.0.table = eqb-true i.table stands.0.table both.0 in
           let row : i.row ≡ stands.0.row = eqb-true i.row stands.0.row both.1 in
-          let there : row_within m stands.0.table stands.0.row ≡ Some i.image = subst (λ t. row_within m t stands.0.row ≡ Some i.image) table
-          (subst (λ r. row_within m i.table r ≡ Some i.image) row has) in
-          let image : stands.0.image ≡ i.image = some_of stands.0.image i.image (sym stands.1.1 ∙ there) in
-          subst (λ t. Contains rows (record { table = t; row = i.row; image = i.image })) (sym table)
-          (subst (λ r. Contains rows (record { table = stands.0.table; row = r; image = i.image })) (sym row)
-          (subst (λ n. Contains rows (record { table = stands.0.table; row = stands.0.row; image = n })) image stands.1.0))
+          let same_image : Row stands.0.to stands.0.image ≡ Row i.to i.image =
+          sym stands.1.1 ∙ ap (λ t. row_image m t stands.0.row) (sym table) ∙ ap (row_image m i.table) (sym row) ∙ has in
+          subst (Contains rows)
+          (ap (λ t. record { table = t; row = stands.0.row; to = stands.0.to; image = stands.0.image }) (sym table)
+          ∙ ap (λ r. record { table = i.table; row = r; to = stands.0.to; image = stands.0.image }) (sym row)
+          ∙ ap (λ k. record { table = i.table; row = i.row; to = table_in k; image = row_in k }) same_image) stands.1.0
 
   abbrev IsInRows : Named → Type 0
-  IsInRows n = (image : ℕ) → row_within m n.table n.row ≡ Some image → Contains rows (record { table = n.table; row = n.row; image = image })
+  IsInRows n = (to image : ℕ) → row_image m n.table n.row ≡ Row to image
+      → Contains rows (record { table = n.table; row = n.row; to = to; image = image })
 
   of_reference : (r : Reference) → ((i : Imaged) → imaged m r ≡ Some i → StandsFor same_row Stands i) → IsInRows (named_by r)
-  of_reference r holds image is =
-      stands_itself (record { table = r.table; row = r.row; image = image }) is
-      (holds (record { table = r.table; row = r.row; image = image })
-      (ap (option_map (λ (n : ℕ). record { table = r.table; row = r.row; image = n })) is))
+  of_reference r holds to image is =
+      stands_itself (record { table = r.table; row = r.row; to = to; image = image }) is
+      (holds (record { table = r.table; row = r.row; to = to; image = image }) (ap (imaged_to r) is))
 
   -- each row that the file names stands among its rows, with its image
   pub named_in_rows : ReferencesAreNamed → KeepsRules raw → Each IsInRows (named_rows first m (annotated_file (value_of raw)))

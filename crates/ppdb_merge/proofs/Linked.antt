@@ -6,13 +6,13 @@ use Rattle.std.specs.Option.{option_map, option_to_list}
 use Rattle.std.proofs.lemmas.List.{append-nil}
 use Rattle.ppdb_base.specs.declared.merge_error.MergeError.{MergeError}
 use Rattle.ppdb_base.specs.declared.merge_error.MergeError.TheVariants.{LinkDiffers}
-use Rattle.ppdb_maps.specs.Map.{Map, moved_row}
+use Rattle.ppdb_maps.specs.Map.{Map}
 use Rattle.ppdb_tables.specs.RawTables.{numbered}
 use Rattle.ppdb_values.specs.declared.custom.CustomValue.{CustomValue}
 use Rattle.ppdb_merge_moved.specs.Moved.{is_link}
 use Rattle.ppdb_merge.specs.declared.trace.Trace.{Trace}
 use Rattle.ppdb_merge.specs.Indexes.{link_row}
-use Rattle.ppdb_merge.specs.Refusals.{has_other_link, is_other_link, link_differs, links_differ}
+use Rattle.ppdb_merge.specs.Refusals.{has_other_link, is_other_link, link_differs, links_differ, says_other_before}
 
 -- ---- among the inputs
 
@@ -27,7 +27,7 @@ by_inputs row value (t ∷ ts) = ap (λ b. input_has row value t || b) (by_input
 
 module _ (traces : List Trace) (m : Map) (value : List ℕ) where
   -- where an input has another one, the first record is reported
-  pub first_differs : (b : Bool) → has_other_link traces (moved_row m 0x00 1) value ≡ b → (cs : List (ℕ × CustomValue))
+  pub first_differs : (b : Bool) → says_other_before traces m value ≡ b → (cs : List (ℕ × CustomValue))
       → slice_get (filter_map (link_differs traces m value) cs) 0
       ≡ cond b (option_map (λ (row : ℕ). LinkDiffers row) (slice_get (filter_map link_row cs) 0)) None
   first_differs b is cs = ap (λ h. slice_get (filter_map (λ (c : ℕ × CustomValue). cond (is_link c.1 && h) (Some (LinkDiffers c.0)) None) cs) 0) is ∙ by b cs
@@ -68,7 +68,7 @@ without_line traces m cs none = ap (λ l. slice_get (flat_map (λ v. filter_map 
 
 -- what is reported of the first record
 pub told_of : (traces : List Trace) (m : Map) (value : List ℕ) (cs : List CustomValue) (b : Bool) (o : Option ℕ) → m.link ≡ Some value
-    → has_other_link traces (moved_row m 0x00 1) value ≡ b → o ≡ slice_get (filter_map link_row (numbered cs)) 0
+    → says_other_before traces m value ≡ b → o ≡ slice_get (filter_map link_row (numbered cs)) 0
     → slice_get (links_differ traces m cs) 0 ≡ cond b (option_map (λ (row : ℕ). LinkDiffers row) o) None
 told_of traces m value cs b o line has is =
     with_line traces m value cs line ∙ first_differs traces m value b has (numbered cs)
@@ -78,8 +78,8 @@ told_of traces m value cs b o line has is =
 pub no_record : (traces : List Trace) (m : Map) (value : List ℕ) (cs : List CustomValue) → m.link ≡ Some value
     → slice_get (filter_map link_row (numbered cs)) 0 ≡ None → slice_get (links_differ traces m cs) 0 ≡ None
 no_record traces m value cs line none =
-    told_of traces m value cs (has_other_link traces (moved_row m 0x00 1) value) None line refl (sym none)
-    ∙ either (has_other_link traces (moved_row m 0x00 1) value)
+    told_of traces m value cs (says_other_before traces m value) None line refl (sym none)
+    ∙ either (says_other_before traces m value)
   where
     either : (b : Bool) → ◌≡◌ {A = Option MergeError} (cond b None None) None
     either true = refl

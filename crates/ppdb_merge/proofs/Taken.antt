@@ -19,22 +19,22 @@ use Rattle.ppdb_merge.specs.Refusals.{methods_in, taken}
 
 -- ---- one further row
 
-row_claims : (input : ℕ) (i : Imaged) (b : Bool) → nat_eq i.table 0x06 ≡ b → claims_of input (i ∷ []) ≡ cond b ((input, i) ∷ []) []
+row_claims : (input : ℕ) (i : Imaged) (b : Bool) → nat_eq i.to 0x06 ≡ b → claims_of input (i ∷ []) ≡ cond b ((input, i) ∷ []) []
 row_claims input i true is = ap (λ b. map (λ (j : Imaged). (input, j)) (cond b (i ∷ []) [])) is
 row_claims input i false is = ap (λ b. map (λ (j : Imaged). (input, j)) (cond b (i ∷ []) [])) is
 
-pub other_row : (claimed : List (ℕ × Imaged)) (methods : Methods) (input : ℕ) (i : Imaged) → nat_eq i.table 0x06 ≡ false → HoldsMethods claimed methods
+pub other_row : (claimed : List (ℕ × Imaged)) (methods : Methods) (input : ℕ) (i : Imaged) → nat_eq i.to 0x06 ≡ false → HoldsMethods claimed methods
     → HoldsMethods (claimed ++ claims_of input (i ∷ [])) methods
 other_row claimed methods input i not_one holds =
     subst (λ l. HoldsMethods l methods) (sym (ap (λ l. claimed ++ l) (row_claims input i false not_one) ∙ append-nil claimed)) holds
 
-pub kept_method : (claimed : List (ℕ × Imaged)) (methods : Methods) (input : ℕ) (i : Imaged) → nat_eq i.table 0x06 ≡ true
+pub kept_method : (claimed : List (ℕ × Imaged)) (methods : Methods) (input : ℕ) (i : Imaged) → nat_eq i.to 0x06 ≡ true
     → is_some (tree.get nat_cmp methods.by_image i.image) ≡ true → HoldsMethods claimed methods → HoldsMethods (claimed ++ claims_of input (i ∷ [])) methods
 kept_method claimed methods input i is there holds =
     subst (λ l. HoldsMethods (claimed ++ l) methods) (sym (row_claims input i true is))
     (present nat_eq (λ a b e. eqb-true a b e) (λ (c : ℕ × Imaged). c.1.image) claim_of (tree.get nat_cmp methods.by_image) claimed (input, i) holds there)
 
-pub added_method : (claimed : List (ℕ × Imaged)) (methods after : Methods) (input : ℕ) (i : Imaged) → nat_eq i.table 0x06 ≡ true
+pub added_method : (claimed : List (ℕ × Imaged)) (methods after : Methods) (input : ℕ) (i : Imaged) → nat_eq i.to 0x06 ≡ true
     → is_some (tree.get nat_cmp methods.by_image i.image) ≡ false
     → ((q : ℕ) → tree.get nat_cmp after.by_image q
     ≡ cond (tree.is_at (nat_cmp i.image) q) (Some (record { input = input; row = i.row })) (tree.get nat_cmp methods.by_image q))
@@ -49,7 +49,7 @@ added_method claimed methods after input i is none updates holds =
 
 claims_append : (input : ℕ) (xs ys : List Imaged) → claims_of input (xs ++ ys) ≡ claims_of input xs ++ claims_of input ys
 claims_append input [] ys = refl
-claims_append input (x ∷ xs) ys = step (nat_eq x.table 0x06) (claims_append input xs ys)
+claims_append input (x ∷ xs) ys = step (nat_eq x.to 0x06) (claims_append input xs ys)
   where
     pairs : List Imaged → List (ℕ × Imaged)
     pairs = map (λ (j : Imaged). (input, j))
@@ -103,7 +103,7 @@ first_in_order (x ∷ xs) = step (in_order (λ (i : Imaged). i.image) xs) (first
 filters : (claimed : List (ℕ × Imaged)) (rows : List Imaged) → least (filter (λ i. is_some (taken claimed i)) (methods_in rows)) ≡ least_taken claimed rows
 unfolding least
 filters claimed [] = refl
-filters claimed (x ∷ xs) = step (nat_eq x.table 0x06) (filters claimed xs)
+filters claimed (x ∷ xs) = step (nat_eq x.to 0x06) (filters claimed xs)
   where
     passes : is_some (taken claimed x) ≡ is_some (find (λ (c : ℕ × Imaged). nat_eq c.1.image x.image) claimed)
     passes = some_mapped _ (find (λ (c : ℕ × Imaged). nat_eq c.1.image x.image) claimed)

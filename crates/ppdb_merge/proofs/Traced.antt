@@ -2,7 +2,8 @@
 use Rattle.std.proofs.Common.{◌≡◌, ℕ, zero, suc, ◌≤◌, Bool, true, false, cond, List, Option, Some, None}
 use Rattle.std.proofs.Common.{refl, sym, ◌∙◌, ap, subst, arith}
 use Rattle.std.specs.Prelude.{nat_eq, Contains, unwrap_or}
-use Rattle.ppdb_maps.specs.Map.{Map, row_within, moved_row, is_dropped, count_of, row_line}
+use Rattle.ppdb_maps.specs.Map.{Map, row_image, moved_row, is_dropped, count_of, row_line}
+use Rattle.ppdb_maps.specs.declared.image.RowImage.TheVariants.{Row}
 use Rattle.ppdb_maps.specs.Readable.{IsReadable}
 use Rattle.ppdb_values.specs.RawFile.{RawFile}
 use Rattle.ppdb_values.specs.Rules.{KeepsRules}
@@ -18,7 +19,8 @@ use Rattle.ppdb_merge_items.proofs.Lists.{Each-weaker}
 use Rattle.ppdb_merge_names.specs.declared.imaged.Imaged.{Imaged}
 use Rattle.ppdb_merge_names_laws.specs.Laws.{ReferencesAreNamed}
 use Rattle.ppdb_merge_moved.specs.Fits.{Fits, IsImaged}
-use Rattle.ppdb_merge_moved.specs.Moved.{moved_file}
+use Rattle.ppdb_merge_moved.specs.Moved.{moved_file, table_in, row_in}
+use Rattle.ppdb_merge_moved.proofs.ImageRows.{image_stays, assembly_stays}
 use Rattle.ppdb_merge_moved.proofs.Lists.{each_of_three}
 use Rattle.ppdb_merge_moved.proofs.NamedParts.{NamedParts, named_parts}
 use Rattle.ppdb_merge_moved.proofs.NamedRows.{named_rows_are_rows}
@@ -29,7 +31,7 @@ use Rattle.ppdb_merge_fits.specs.Signatures.{all_images}
 use Rattle.ppdb_merge.specs.Sound.{IsImageIn}
 use Rattle.ppdb_merge.proofs.Given.{row_in_all, given_in_all}
 use Rattle.ppdb_merge.proofs.Imaged.{named_in_rows}
-use Rattle.ppdb_merge_meaning_laws.proofs.MovedRows.{some_moves, all_move}
+use Rattle.ppdb_merge_meaning_laws.proofs.MovedRows.{Moves, some_moves, all_move}
 
 -- ---- the images of the rows that it names
 
@@ -45,33 +47,44 @@ module _ (annotated : SoundnessIsAnnotated) (named : ReferencesAreNamed) (first 
   file_sound = sound_moved file (annotated.parts (value_of raw) sound)
 
   abbrev HasImage : Named → Type 0
-  HasImage n = (image : ℕ) × (row_within m n.table n.row ≡ Some image) × (1 ≤ n.row)
-      × Contains rows (record { table = n.table; row = n.row; image = image })
+  HasImage n = (to image : ℕ) × (row_image m n.table n.row ≡ Row to image) × (1 ≤ n.row)
+      × Contains rows (record { table = n.table; row = n.row; to = to; image = image })
 
   entry_small : file.entry ≤ 16777215
   entry_small = let most = sound.rows.most 0x06 in let entry = sound.entry in omega (arith, most, entry)
 
+  abbrev IsAmong : List Imaged → Named → Type 0
+  IsAmong among n = (to image : ℕ) → row_image m n.table n.row ≡ Row to image
+      → Contains among (record { table = n.table; row = n.row; to = to; image = image })
+
   all_named_images : Each HasImage (named_rows first m file)
   all_named_images =
-      each_of_three (IsImaged m) (λ n. (1 ≤ n.row) × (n.row ≤ 16777215))
-      (λ n. (image : ℕ) → row_within m n.table n.row ≡ Some image → Contains rows (record { table = n.table; row = n.row; image = image }))
-      HasImage (named_rows first m file)
-      (λ n image row there. (image.0, image.1, row.0, there image.0 image.1))
+      each_of_three (IsImaged m) (λ n. (1 ≤ n.row) × (n.row ≤ 16777215)) (IsAmong rows) HasImage (named_rows first m file)
+      (λ n image row there. (image.0, image.1, image.2, row.0, there image.0 image.1 image.2))
       fits.images (named_rows_are_rows first m file file_sound entry_small)
-      (Each-weaker (λ n. (image : ℕ) → row_within m n.table n.row ≡ Some image
-      → Contains (imaged_rows first m raw) (record { table = n.table; row = n.row; image = image }))
-      (λ n. (image : ℕ) → row_within m n.table n.row ≡ Some image → Contains rows (record { table = n.table; row = n.row; image = image }))
-      (λ n there image is. row_in_all first m raw _ (there image is)) (named_rows first m file) (named_in_rows first m raw named keeps))
+      (Each-weaker (IsAmong (imaged_rows first m raw)) (IsAmong rows)
+      (λ n there to image is. row_in_all first m raw _ (there to image is)) (named_rows first m file) (named_in_rows first m raw named keeps))
 
-  moves : (table row : ℕ) → HasImage (names table row) → IsImageIn rows (names table (moved_row m table row))
-  moves table row has =
-      (record { table = table; row = row; image = has.0 }, has.3, refl, sym (moved_is_image m table row has.0 has.2 has.1))
+  -- the image of a row, where it is that row of that table
+  its_image : (table row : ℕ) (has : HasImage (names table row)) (to image : ℕ) → has.0 ≡ to → has.1 ≡ image → IsImageIn rows (names to image)
+  its_image table row has to image in_table is = (record { table = table; row = row; to = has.0; image = has.1 }, has.4, in_table, is)
+
+  moves : Moves m HasImage (IsImageIn rows)
+  moves = record {
+    image = λ table row has.
+        its_image table row has (table_in (row_image m table row)) (row_in (row_image m table row)) (sym (ap table_in has.2)) (sym (ap row_in has.2));
+    row = λ table row apart has.
+        let stays = image_stays m ready table row has.0 has.1 apart has.2 in
+        its_image table row has table (moved_row m table row) stays.0 (sym (moved_is_image m table row has.1 has.3 stays.1));
+    assembly = λ row has other.
+        its_image 0x23 row has 0x23 (row_in (row_image m 0x23 row)) (assembly_stays m ready row has.0 has.1 has.2 other) (sym (ap row_in has.2));
+  }
 
   parts : NamedParts HasImage first m file
   parts = named_parts HasImage first m file all_named_images
 
   pub moved_images : Each (IsImageIn rows) (all_named (moved_file m file))
-  moved_images = all_move m HasImage (IsImageIn rows) moves first file parts (given_in_all first m raw)
+  moved_images = all_move m ready HasImage (IsImageIn rows) moves first file parts (given_in_all first m raw)
 
   pub moved_entry : first ≡ true → Each (IsImageIn rows) (names_some 0x06 (moved_file m file).entry)
   moved_entry is = by_drop (is_dropped m file.entry) refl (subst (λ b. Each HasImage (in_entry b (live_file m file))) is parts.entry)
@@ -90,4 +103,4 @@ module _ (annotated : SoundnessIsAnnotated) (named : ReferencesAreNamed) (first 
       by_drop : (b : Bool) → is_dropped m file.entry ≡ b → Each HasImage (names_some 0x06 (cond b 0 file.entry))
           → Each (IsImageIn rows) (names_some 0x06 (moved_row m 0x06 file.entry))
       by_drop true drop each = subst (λ row. Each (IsImageIn rows) (names_some 0x06 row)) (sym (none file.entry drop)) tt
-      by_drop false drop each = some_moves m HasImage (IsImageIn rows) moves 0x06 file.entry each
+      by_drop false drop each = some_moves m ready HasImage (IsImageIn rows) moves 0x06 file.entry refl each

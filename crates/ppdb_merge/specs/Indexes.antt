@@ -39,7 +39,7 @@ pub record Indexes (traces : List Trace) (index : Index) : Type 0 where
 -- ---- what is reported first of the methods of a further input
 
 abbrev pub is_taken : List (ℕ × Imaged) → Imaged → Bool
-is_taken claimed i = nat_eq i.table 0x06 && is_some (find (λ (c : ℕ × Imaged). nat_eq c.1.image i.image) claimed)
+is_taken claimed i = nat_eq i.to 0x06 && is_some (find (λ (c : ℕ × Imaged). nat_eq c.1.image i.image) claimed)
 
 -- the one with the lesser image, or the first of two with one
 abbrev pub before : Imaged → Option Imaged → Option Imaged

@@ -5,7 +5,7 @@ use Rattle.std.specs.Prelude.{filter_map, option_and_then, option_to_list}
 use Rattle.ppdb_maps.specs.Map.{Map, moved_row}
 use Rattle.ppdb_values.specs.{declared.file.{DocumentValue.DocumentValue, FileValue.FileValue}, declared.custom.{CustomBody.{CustomBody, TheVariants.Unread}, CustomValue.CustomValue}, Parts.is_at}
 use Rattle.ppdb_values.specs.{RawFile.RawFile, Value.value_of}
-use Rattle.ppdb_merge_items.specs.{Sorted.in_order, declared.file.AnnotatedFile.AnnotatedFile}
+use Rattle.ppdb_merge_items.specs.{NamedRows.is_gone_row, Sorted.in_order, declared.file.AnnotatedFile.AnnotatedFile}
 use Rattle.ppdb_merge_moved.specs.Moved.{is_link, moved_document}
 use Rattle.ppdb_merge_names.specs.declared.imaged.Imaged.{Imaged}
 use Rattle.ppdb_merge_joined.specs.Joined.{joined_documents}
@@ -14,9 +14,9 @@ use Rattle.ppdb_merge.specs.{declared.trace.Trace.Trace, Merged.{trace_of, moved
 
 -- ---- M3: a method's image is that of a method of an earlier input
 
--- the methods among rows of the type system (ECMA-335 II.22.26)
+-- the rows of the type system that become methods (ECMA-335 II.22.26), which methods alone do
 abbrev pub methods_in : List Imaged → List Imaged
-methods_in rows = filter (λ i. nat_eq i.table 0x06) rows
+methods_in rows = filter (λ i. nat_eq i.to 0x06) rows
 
 -- the methods that inputs name, each with its input's number from 1
 abbrev pub claims : List Trace → List (ℕ × Imaged)
@@ -69,9 +69,13 @@ is_other_link row value c = is_at 0x00 row c.parent && (bytes_eq c.kind source_l
 abbrev pub has_other_link : List Trace → ℕ → List ℕ → Bool
 has_other_link traces row value = list_any (λ (file : AnnotatedFile). list_any (is_other_link row value) file.customs) (moved_files traces)
 
--- a Source Link record on row 1 of Module, where there is one on the image of that row
+-- row 1 of Module is not gone, and there is such a record on its image
+abbrev pub says_other_before : List Trace → Map → List ℕ → Bool
+says_other_before traces m value = not (is_gone_row m 0x00 1) && has_other_link traces (moved_row m 0x00 1) value
+
+-- a Source Link record on row 1 of Module that differs
 abbrev pub link_differs : List Trace → Map → List ℕ → ℕ × CustomValue → Option MergeError
-link_differs traces m value c = cond (is_link c.1 && has_other_link traces (moved_row m 0x00 1) value) (Some (LinkDiffers c.0)) None
+link_differs traces m value c = cond (is_link c.1 && says_other_before traces m value) (Some (LinkDiffers c.0)) None
 
 -- of the records of a further input, by their rows
 abbrev pub links_differ : List Trace → Map → List CustomValue → List MergeError

@@ -9,7 +9,7 @@ use Rattle.ppdb_merge.specs.{declared.trace.Trace.Trace, Merged.moved_files, Ref
 
 -- the row is the image of one of the rows
 abbrev pub IsImageIn : List Imaged → Named → Type 0
-IsImageIn rows n = (i : Imaged) × Contains rows i × (i.table ≡ n.table) × (i.image ≡ n.row)
+IsImageIn rows n = (i : Imaged) × Contains rows i × (i.to ≡ n.table) × (i.image ≡ n.row)
 
 -- What is kept of one input: what it became is sound, and names images that are kept.
 pub record SoundTrace (t : Trace) : Type 0 where

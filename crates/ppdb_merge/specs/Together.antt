@@ -23,11 +23,11 @@ abbrev pub rows_differ : List Trace → List MergeError
 rows_differ [] = []
 rows_differ (first ∷ others) = flat_map (λ table. filter_map (differs first table) (enumerate_from 2 others)) (range_with_len 0 0x2d)
 
--- ---- M9: a row's image is above the rows of its table
+-- ---- M9: a row's image is above the rows of the image's table
 
 abbrev pub above : ℕ × Trace → Imaged → Option MergeError
 above t i =
-    cond (nat_lt (count_in t.1 i.table) i.image) (Some (ImageRange t.0 i.table i.row i.image (count_in t.1 i.table))) None
+    cond (nat_lt (count_in t.1 i.to) i.image) (Some (ImageRange t.0 i.table i.row i.image (count_in t.1 i.to))) None
 
 -- by input, table and row
 abbrev pub images_above : List Trace → List MergeError

@@ -18,7 +18,7 @@ abbrev pub document : List ℕ → List ℕ → DocumentValue
 document name hash = record { name = name; algorithm = None; hash = hash; language = None }
 
 abbrev pub method : ℕ → ℕ → Imaged
-method row image = record { table = 0x06; row = row; image = image }
+method row image = record { table = 0x06; row = row; to = 0x06; image = image }
 
 -- documents a and b; methods 2 and 3 become 5 and 4 of 9
 abbrev pub first_input : Trace
@@ -69,6 +69,17 @@ far_input = record { moved = record empty_annotated { rows = zeros 6 ++ 9 ∷ ze
 abbrev pub counting_input : Trace
 counting_input = record { moved = record empty_annotated { rows = 0 ∷ 0 ∷ 1 ∷ zeros 3 ++ 9 ∷ zeros 57 }; rows = method 1 6 ∷ [] }
 
+-- TypeRef 1 becomes TypeDef 3 of 2; there are 9 rows of TypeRef
+abbrev pub cross_input : Trace
+cross_input = record {
+  moved = record empty_annotated { rows = 0 ∷ 9 ∷ 2 ∷ zeros 61 };
+  rows = record { table = 0x01; row = 1; to = 0x02; image = 3 } ∷ [];
+}
+
+-- `rows 00 1 / gone 00 1`
+abbrev pub without_module : Map → Map
+without_module m = record m { counts = record { table = 0x00; rows = 1 } ∷ []; gone = record { table = 0x00; old = 1 } ∷ [] }
+
 pub record WorkedMerges : Type 0 where
   -- method 1 of the second has the image of method 3 of the first; so has document 2 a name, which is reported after it
   pub taken : clashes_before (first_input ∷ []) no_lines (method 1 4 ∷ []) other_documents ≡ MethodTaken 1 3 1 4 ∷ DocumentConflict 2 2 ∷ []
@@ -90,7 +101,11 @@ pub record WorkedMerges : Type 0 where
   -- the row of Module is that which row 1 became
   pub another_module : clashes_before (linked_input ∷ []) (with_modules (gives_link (codes "a")) 2 1) [] with_links ≡ []
   pub its_module : clashes_before (linked_input ∷ []) (with_modules (gives_link (codes "a")) 1 2) [] with_links ≡ LinkDiffers 2 ∷ LinkDiffers 3 ∷ []
+  -- a row that is gone has no record
+  pub module_gone : clashes_before (linked_input ∷ []) (without_module (gives_link (codes "a"))) [] with_links ≡ []
   -- of input 1 an image is above the count, of input 2 a count differs, which is reported first
   pub counts : joined_of (far_input ∷ counting_input ∷ []) ≡ Err (RowsDiffer 2 0x02 0 1)
   pub above : joined_of (far_input ∷ []) ≡ Err (ImageRange 1 0x06 2 12 9)
+  -- the count is that of the image's table
+  pub other_table : joined_of (cross_input ∷ []) ≡ Err (ImageRange 1 0x01 1 3 2)
   pub joins : joined_of (first_input ∷ []) ≡ Ok (value_of_annotated (joined (first_input.moved ∷ [])))

@@ -3,12 +3,13 @@ ghost use Rattle.std.specs.Prelude.{◌≡◌, ◌-◌, ◌<◌, ◌^◌, length
 ghost use Rattle.std.specs.List.{filter_map, list_any};
 ghost use Rattle.ppdb_tables.specs.RawTables.{numbered};
 ghost use Rattle.ppdb_merge.specs.Indexes.{link_row};
-ghost use Rattle.ppdb_merge.specs.Refusals.{has_other_link, is_other_link, links_differ, says_other};
+ghost use Rattle.ppdb_merge.specs.Refusals.{has_other_link, is_other_link, links_differ, says_other, says_other_before};
 
 use crate::trace::Trace;
 use custom_info::SOURCE_LINK;
 use ppdb_base::MergeError;
 use ppdb_maps::MapText;
+use ppdb_merge_moved::{is_gone_row, is_link};
 use ppdb_values::{CustomBody, CustomValue};
 
 /// Whether a value that is not read has other bytes.
@@ -55,11 +56,18 @@ fn has_other_link(traces: &[Trace], row: u32, value: &[u8]) -> bool
     false
 }
 
+/// Whether row 1 of Module is not gone, and there is one on its image.
+fn says_other_before(traces: &[Trace], map: &MapText, value: &[u8]) -> bool
+    ensures { result ≡ says_other_before traces.now map.now value.now }
+{
+    !is_gone_row(map, 0x00, 1) && has_other_link(traces, map.moved_row(0x00, 1), value)
+}
+
 /// The row of a record, if it is a Source Link record on row 1 of Module.
 fn link_row(row: u32, custom: &CustomValue) -> Option<u32>
     ensures { result ≡ link_row (row, custom.now) }
 {
-    if custom.parent.table == 0x00 && custom.parent.row == 1 && custom.kind == SOURCE_LINK {
+    if is_link(custom) {
         return Some(row);
     }
     None
@@ -92,7 +100,7 @@ pub(crate) fn first_link_differing(
 {
     let value = map.link()?;
     let row = first_link(customs)?;
-    if has_other_link(traces, map.moved_row(0x00, 1), value) {
+    if says_other_before(traces, map, value) {
         return Some(MergeError::LinkDiffers { row });
     }
     None

@@ -40,7 +40,7 @@ impl Methods {
         ensures { OnOk result ((claimed : List (ℕ × image_entry)) → HoldsMethods claimed self.old
             → HoldsMethods (claimed ++ claims_of input (imaged.now ∷ [])) self.new) }
     {
-        if imaged.table != 0x06 {
+        if imaged.to != 0x06 {
             return Ok(());
         }
         if self.by_image.contains_key(&imaged.image) {
@@ -80,7 +80,7 @@ impl Methods {
     fn lesser(&self, imaged: Imaged, found: Option<Imaged>) -> Option<Imaged>
         ensures { (claimed : List (ℕ × image_entry)) → HoldsMethods claimed self.now → result ≡ lesser claimed imaged found }
     {
-        if imaged.table != 0x06 || !self.by_image.contains_key(&imaged.image) {
+        if imaged.to != 0x06 || !self.by_image.contains_key(&imaged.image) {
             return found;
         }
         match found {

@@ -63,12 +63,17 @@ fn rows_differ(first: &Trace, others: &[Trace]) -> Option<MergeError>
     None
 }
 
-/// What is reported of a row whose image is above the rows of its table.
+/// What is reported of a row whose image is above the rows of the image's table.
 fn above(input: u32, trace: &Trace, imaged: &Imaged) -> Option<MergeError>
     ensures { result ≡ above (input, trace.now) imaged.now }
 {
-    let Imaged { table, row, image } = *imaged;
-    let rows = *trace.moved.rows().get(table as usize).unwrap_or(&0);
+    let Imaged {
+        table,
+        row,
+        to,
+        image,
+    } = *imaged;
+    let rows = *trace.moved.rows().get(to as usize).unwrap_or(&0);
     if image <= rows {
         return None;
     }

@@ -1,5 +1,5 @@
 -- Items of a group of which nothing is reported have one image only where they have one number.
-use Rattle.std.proofs.Common.{◌≡◌, ℕ, ◌<◌, ◌≤◌, ◌⊎◌, Bool, true, false, cond, List, [], ◌∷◌, refl, sym, ◌∙◌, ap, subst, inl, inr, arith}
+use Rattle.std.proofs.Common.{◌≡◌, ℕ, ◌<◌, ◌≤◌, ◌⊎◌, Bool, true, false, cond, List, [], ◌∷◌, refl, sym, ◌∙◌, subst, inl, inr, arith}
 use Rattle.std.specs.Prelude.{nat_eq, nat_le}
 use Rattle.std.specs.List.{dedup, dedup_from}
 use Rattle.std.proofs.lemmas.Bool.{cases_lt, eq-eqb, eqb-true, and_parts, le-leb, lt-leb}
@@ -122,31 +122,28 @@ module _ {A : Type 0} (group number image : A → ℕ) where
     numbers [] pairs none = tt
     numbers (x ∷ xs) pairs none = one_numbers x xs pairs none
 
-    abbrev Own : (ℕ → ℕ → ℕ) → A → Type 0
-    Own of x = image x ≡ of (group x) (number x)
-
-    abbrev at_once : List A → List A
-    at_once xs = in_order group (in_order image (each_once group number xs))
-
-    module _ (of : ℕ → ℕ → ℕ) (equal : (x y : A) → group x ≡ group y → number x ≡ number y → image x ≡ image y → x ≡ y) where
-      one : (x y : A) → Own of x → Own of y → is_same group number x y ≡ true → x ≡ y
+    -- The images of items that have one group and one number are one; of the items, each once, some are those that are judged.
+    module _ (Own : A → Type 0) (equal : (x y : A) → Own x → Own y → group x ≡ group y → number x ≡ number y → x ≡ y)
+        (IsJudged : A → Type 0) (xs judged : List A)
+        (some : (P : A → Type 0) → Each P judged → Each (λ x. IsJudged x → P x) (each_once group number xs)) (owns : Each Own xs) where
+      one : (x y : A) → Own x → Own y → is_same group number x y ≡ true → x ≡ y
       one x y own also is =
           let p = and_parts (nat_eq (group x) (group y)) (nat_eq (number x) (number y)) is in
-          let g = eqb-true (group x) (group y) p.0 in
-          let n = eqb-true (number x) (number y) p.1 in
-          equal x y g n (own ∙ ap (λ z. of z (number x)) g ∙ ap (of (group y)) n ∙ sym also)
+          equal x y own also (eqb-true (group x) (group y) p.0) (eqb-true (number x) (number y) p.1)
 
-      back : (P : A → Type 0) (xs : List A) → Each (Own of) xs → Each P (at_once xs) → Each P xs
-      back P xs owns each =
-          unsorted number P xs (unsorted group P (in_order number xs)
-          (undedup (is_same group number) (Own of) one P (in_order group (in_order number xs))
-          (in_order_each group (Own of) (in_order number xs) (in_order_each number (Own of) xs owns))
-          (unsorted image P (each_once group number xs) (unsorted group P (in_order image (each_once group number xs)) each))))
+      back : (P : A → Type 0) → Each P (in_order group (in_order image judged)) → Each (λ x. IsJudged x → P x) xs
+      back P each =
+          let Q = λ (x : A). IsJudged x → P x in
+          unsorted number Q xs (unsorted group Q (in_order number xs)
+          (undedup (is_same group number) Own one Q (in_order group (in_order number xs))
+          (in_order_each group Own (in_order number xs) (in_order_each number Own xs owns))
+          (some P (unsorted image P judged (unsorted group P (in_order image judged) each)))))
 
-      -- each two of the items, whose images go by their groups and numbers, have one number where they have one group and one image
-      pub apart : (xs : List A) → Each (Own of) xs → twice group number image told (each_once group number xs) ≡ [] → Each (λ a. Each (OneNumber a) xs) xs
-      apart xs owns none =
-          back (λ a. Each (OneNumber a) xs) xs owns
-          (Each-weaker (λ a. Each (OneNumber a) (at_once xs)) (λ a. Each (OneNumber a) xs) (λ a each. back (OneNumber a) xs owns each) (at_once xs)
-          (all_pairs OneNumber (λ x is also. refl) (λ x y one is also. sym (one (sym is) (sym also))) (at_once xs)
-          (numbers (at_once xs) (sorted (each_once group number xs)) none)))
+      -- each two of the items that are judged have one number where they have one group and one image
+      pub apart : twice group number image told judged ≡ [] → Each (λ a. IsJudged a → Each (λ b. IsJudged b → OneNumber a b) xs) xs
+      apart none =
+          back (λ a. Each (λ b. IsJudged b → OneNumber a b) xs)
+          (Each-weaker (λ a. Each (OneNumber a) (in_order group (in_order image judged))) (λ a. Each (λ b. IsJudged b → OneNumber a b) xs)
+          (λ a each. back (OneNumber a) each) (in_order group (in_order image judged))
+          (all_pairs OneNumber (λ x is also. refl) (λ x y one is also. sym (one (sym is) (sym also))) (in_order group (in_order image judged))
+          (numbers (in_order group (in_order image judged)) (sorted judged) none)))

@@ -1,5 +1,5 @@
 -- A map that does not clash with a file fits it.
-use Rattle.std.proofs.Common.{◌≡◌, ℕ, ◌+◌, ◌<◌, ◌≤◌, ◌&&◌, ◌++◌, Bool, true, false, cond, List, [], ◌∷◌, Option, Some, None, flat_map}
+use Rattle.std.proofs.Common.{◌≡◌, ℕ, ◌+◌, ◌<◌, ◌≤◌, ◌&&◌, ◌||◌, ◌++◌, Bool, true, false, cond, List, [], ◌∷◌, Option, Some, None, flat_map}
 use Rattle.std.proofs.Common.{refl, sym, ◌∙◌, ap, subst, arith}
 use Rattle.std.specs.Prelude.{IfSome, nat_le, nat_lt, nat_eq, not}
 use Rattle.std.specs.List.{enumerate_from}
@@ -17,6 +17,7 @@ use Rattle.ppdb_maps.specs.Map.{Map, offsets_in, line_offsets, method_line, is_d
 use Rattle.ppdb_maps.specs.Readable.{IsReadable}
 use Rattle.ppdb_maps.specs.Says.{sizes_of}
 use Rattle.sequence_points.specs.declared.point.Point.{Point}
+use Rattle.ppdb_values.specs.Rules.{StandsOn}
 use Rattle.ppdb_values_sound_laws.specs.Customs.{SoundCustom, IsBodyOfKind}
 use Rattle.ppdb_values_sound_laws.specs.Methods.{SoundMethod, SoundPoint}
 use Rattle.ppdb_values.specs.declared.custom.CustomBody.{CustomBody}
@@ -26,13 +27,14 @@ use Rattle.ppdb_values.specs.declared.file.FileValue.{FileValue}
 use Rattle.ppdb_values.specs.declared.file.MethodValue.{MethodValue}
 use Rattle.ppdb_values.specs.declared.scope.ScopeValue.{ScopeValue}
 use Rattle.ppdb_merge_items.specs.Each.{Each}
-use Rattle.ppdb_merge_items.specs.NamedRows.{live_custom}
+use Rattle.ppdb_merge_items.specs.NamedRows.{is_gone_row, is_type_documents, live_custom}
 use Rattle.ppdb_merge_items.specs.Annotated.{annotated_file, annotated_scope}
 use Rattle.ppdb_merge_items.specs.SoundParts.{SoundAnnotatedScope}
 use Rattle.ppdb_merge_items.specs.declared.file.AnnotatedScope.{AnnotatedScope}
 use Rattle.ppdb_merge_items.proofs.Lists.{Each-weaker, Each-map, Each-filter, Each-enumerate}
 use Rattle.ppdb_merge_moved.specs.Fits.{IsKept, KeepsStep, KeepsAsync, EndsWithin, AreWithin}
 use Rattle.ppdb_merge_moved.proofs.Fitting.{offsets_rise}
+use Rattle.ppdb_merge_moved.proofs.ImageRows.{no_gone_method}
 use Rattle.ppdb_merge_moved.proofs.SoundItems.{each_all}
 use Rattle.ppdb_merge_fits.specs.Offsets.{offset_in, step_offsets, handler_offsets, async_offsets, if_past, offset_beyond, end_beyond, points_beyond}
 use Rattle.ppdb_merge_fits.specs.Offsets.{scope_beyond, slot_beyond, body_beyond, custom_beyond, is_kept, if_lost, custom_lost, lost}
@@ -97,36 +99,55 @@ far_fits : (size : ℕ) → size ≡ 4294967295 → (s : Slot) → IsSlot s → 
 far_fits size is Empty sound = tt
 far_fits size is (Held range) sound = let small = sound.1 in omega (arith, is, small)
 
--- what stands at a dropped method has any size
-dropped_size : (m : Map) (c : CustomValue) → live_custom m c ≡ false → old_size (offsets_in m c.parent.row) ≡ 4294967295
-dropped_size m c is = of (nat_eq c.parent.table 0x06) (is_dropped m c.parent.row) is
-  where
-    of : (a b : Bool) → not (a && b) ≡ false → old_size (cond b gone (line_offsets (method_line m c.parent.row))) ≡ 4294967295
-    of true true is = refl
-    of true false is = absurd cc
-    of false b is = absurd cc
+-- ranges of hoisted locals stand on a method
+on_method : (v : FileValue) (kind : Kind) (slots : List Slot) (table : ℕ) → IsBodyOfKind v kind (Hoisted slots) → StandsOn kind table → table ≡ 0x06
+on_method v kinds.Hoisted slots table sound on = on
+on_method v kinds.Async slots table sound on = absurd sound
+on_method v kinds.TypeDocuments slots table sound on = absurd sound
+on_method v kinds.Free slots table sound on = absurd sound
+on_method v kinds.Unknown slots table sound on = absurd sound
 
-hoisted_fit : (m : Map) (v : FileValue) (c : CustomValue) → custom_beyond m c ≡ [] → SoundCustom v c → AreWithin (old_size (offsets_in m c.parent.row)) c.value
-hoisted_fit m v c none sound = by_body c.value sound.body (live_custom m c) refl none
+-- what stands at a dropped method has any size; a record of another kind than type definition documents goes from no other method
+dropped_size : (m : Map) → IsReadable m → (c : CustomValue) → c.parent.table ≡ 0x06 → is_type_documents c.value ≡ false → live_custom m c ≡ false
+    → old_size (offsets_in m c.parent.row) ≡ 4294967295
+dropped_size m ready c on plain is =
+    ap (λ b. old_size (cond b gone (line_offsets (method_line m c.parent.row)))) (dropped c.parent.table (is_type_documents c.value) _ on plain is)
   where
-    by_body : (b : CustomBody) → IsBodyOfKind v (kind_of [] c.kind) b → (live : Bool) → live_custom m c ≡ live
+    by : (d g : Bool) → g ≡ false → not (d || (g || false)) ≡ false → d ≡ true
+    by true g none is = refl
+    by false true none is = absurd cc
+    by false false none is = absurd cc
+
+    dropped : (t : ℕ) (w l : Bool) → t ≡ 0x06 → w ≡ false
+        → not (nat_eq t 0x06 && is_dropped m c.parent.row || (is_gone_row m t c.parent.row || (w && l))) ≡ false → is_dropped m c.parent.row ≡ true
+    dropped t w l on plain is =
+        by (is_dropped m c.parent.row) (is_gone_row m 0x06 c.parent.row) (no_gone_method m ready c.parent.row)
+        (sym (ap (λ k. not (nat_eq k 0x06 && is_dropped m c.parent.row || (is_gone_row m k c.parent.row || (w && l)))) on
+        ∙ ap (λ k. not (is_dropped m c.parent.row || (is_gone_row m 0x06 c.parent.row || (k && l)))) plain) ∙ is)
+
+hoisted_fit : (m : Map) → IsReadable m → (v : FileValue) (c : CustomValue) → custom_beyond m c ≡ [] → SoundCustom v c
+    → AreWithin (old_size (offsets_in m c.parent.row)) c.value
+hoisted_fit m ready v c none sound = by_body c.value refl sound.body (live_custom m c) refl none
+  where
+    by_body : (b : CustomBody) → c.value ≡ b → IsBodyOfKind v (kind_of [] c.kind) b → (live : Bool) → live_custom m c ≡ live
         → cond live (body_beyond m c.parent.row b) [] ≡ [] → AreWithin (old_size (offsets_in m c.parent.row)) b
-    by_body (Hoisted slots) body true is none =
+    by_body (Hoisted slots) same body true is none =
         each_both IsSlot (λ s. slot_beyond m c.parent.row s ≡ []) (EndsWithin (old_size (offsets_in m c.parent.row))) (slot_fits m c.parent.row) slots
         (slots_of v (kind_of [] c.kind) slots body) (flat_none (slot_beyond m c.parent.row) slots none)
-    by_body (Hoisted slots) body false is none =
-        Each-weaker IsSlot (EndsWithin (old_size (offsets_in m c.parent.row))) (far_fits (old_size (offsets_in m c.parent.row)) (dropped_size m c is)) slots
+    by_body (Hoisted slots) same body false is none =
+        let size = dropped_size m ready c (on_method v (kind_of [] c.kind) slots c.parent.table body sound.stands_on) (ap is_type_documents same) is in
+        Each-weaker IsSlot (EndsWithin (old_size (offsets_in m c.parent.row))) (far_fits (old_size (offsets_in m c.parent.row)) size) slots
         (slots_of v (kind_of [] c.kind) slots body)
-    by_body (Async handler steps) body live is none = tt
-    by_body (TypeDocuments rows) body live is none = tt
-    by_body (Unread bytes) body live is none = tt
+    by_body (Async handler steps) same body live is none = tt
+    by_body (TypeDocuments rows) same body live is none = tt
+    by_body (Unread bytes) same body live is none = tt
 
-pub hoisted_fits : (m : Map) (v value : FileValue) → flat_map (custom_beyond m) value.customs ≡ []
+pub hoisted_fits : (m : Map) → IsReadable m → (v value : FileValue) → flat_map (custom_beyond m) value.customs ≡ []
     → Each (λ c. (c.parent.table < 0x2d) × SoundCustom v c) (annotated_file value).customs
     → Each (λ c. AreWithin (old_size (offsets_in m c.parent.row)) c.value) (annotated_file value).customs
-hoisted_fits m v value none sound =
+hoisted_fits m ready v value none sound =
     each_both (λ (c : CustomValue). custom_beyond m c ≡ []) (λ c. (c.parent.table < 0x2d) × SoundCustom v c)
-    (λ c. AreWithin (old_size (offsets_in m c.parent.row)) c.value) (λ c quiet s. hoisted_fit m v c quiet s.1) (annotated_file value).customs
+    (λ c. AreWithin (old_size (offsets_in m c.parent.row)) c.value) (λ c quiet s. hoisted_fit m ready v c quiet s.1) (annotated_file value).customs
     (Each-filter (λ (c : CustomValue). custom_beyond m c ≡ []) (λ c. custom_beyond m c ≡ []) (λ (c : CustomValue). nat_lt c.parent.table 0x2d)
     (λ c is quiet. quiet) value.customs (flat_none (custom_beyond m) value.customs none)) sound
 

@@ -3,7 +3,9 @@ use Rattle.std.proofs.Common.{◌≡◌, ℕ, ◌+◌, ◌||◌, Bool, true, fal
 use Rattle.std.specs.Prelude.{is_some, IfSome, not, unwrap_or}
 use Rattle.std.specs.List.{filter_map, cons_option, enumerate_from}
 use Rattle.std.specs.Option.{option_map}
-use Rattle.ppdb_maps.specs.Map.{Map, row_within, slot_image, is_dropped}
+use Rattle.ppdb_maps.specs.Map.{Map, row_image, slot_image, is_dropped}
+use Rattle.ppdb_maps.specs.declared.image.RowImage.{RowImage}
+use Rattle.ppdb_maps.specs.declared.image.RowImage.TheVariants.{Row, Gone, Missing}
 use Rattle.ppdb_merge_names.specs.declared.imaged.Imaged.{Imaged}
 use Rattle.ppdb_merge_names.specs.References.{Reference, references}
 use Rattle.ppdb_merge_names_laws.specs.Laws.{named_by}
@@ -18,12 +20,14 @@ use Rattle.ppdb_merge_items.specs.NamedRows.{live_scope}
 use Rattle.ppdb_merge_items.specs.Annotated.{annotated_file, annotated_scope}
 use Rattle.ppdb_merge_items.specs.declared.file.AnnotatedScope.{AnnotatedScope}
 use Rattle.ppdb_merge_items.proofs.Lists.{Each-weaker, Each-map, Each-unmap, Each-enumerate}
-use Rattle.ppdb_merge_moved.specs.Fits.{IsImaged, AreApart, HasSlot, SlotsAreApart}
+use Rattle.ppdb_merge_moved.specs.Fits.{IsImaged, AreApart, may_share, HasSlot, SlotsAreApart}
+use Rattle.ppdb_merge_moved.specs.Moved.{table_in, row_in}
 use Rattle.ppdb_merge_moved.proofs.Elements.{in_each, each_made}
 use Rattle.ppdb_merge_fits.specs.declared.used.MethodSlot.{MethodSlot}
 use Rattle.ppdb_merge_fits.specs.declared.used.UsedSlot.{UsedSlot}
-use Rattle.ppdb_merge_fits.specs.Rows.{imaged, if_unmapped, image_twice, images_twice, unmapped}
+use Rattle.ppdb_merge_fits.specs.Rows.{imaged, imaged_to, if_unmapped, image_key, image_twice, images_twice, is_row, unmapped, unshared}
 use Rattle.ppdb_merge_fits.specs.Slots.{scope_slots, variable_slots, if_slot_unmapped, slots_unmapped, used, slot_twice, slots_twice}
+use Rattle.ppdb_merge_fits.specs.Twice.{each_once}
 use Rattle.ppdb_merge_fits.proofs.Apart.{apart, OneNumber}
 use Rattle.ppdb_merge_fits.proofs.Fitting.{flat_none, holds}
 
@@ -50,8 +54,13 @@ each_making {B} f P makes (x ∷ xs) = step (f x) (makes x) (each_making f P mak
 
 -- ---- rows
 
+row_of : (o : RowImage) → is_row o ≡ true → (table image : ℕ) × (o ≡ Row table image)
+row_of (Row table image) is = (table, image, refl)
+row_of Gone is = absurd cc
+row_of Missing is = absurd cc
+
 image_there : (m : Map) (r : Reference) → if_unmapped m r ≡ [] → IsImaged m (named_by r)
-image_there m r none = some_of (row_within m r.table r.row) (holds (is_some (row_within m r.table r.row)) _ none)
+image_there m r none = row_of (row_image m r.table r.row) (holds (is_row (row_image m r.table r.row)) _ none)
 
 pub rows_fit : (first : Bool) (m : Map) (raw : RawFile) → unmapped first m raw ≡ [] → Each (IsImaged m) (map named_by (references first m raw))
 rows_fit first m raw none =
@@ -59,58 +68,81 @@ rows_fit first m raw none =
     (Each-weaker (λ r. if_unmapped m r ≡ []) (λ r. IsImaged m (named_by r)) (image_there m) (references first m raw)
     (flat_none (if_unmapped m) (references first m raw) none))
 
+-- a row with its image
+abbrev with_image : Reference → ℕ → ℕ → Imaged
+with_image r to image = record { table = r.table; row = r.row; to = to; image = image }
+
 -- what holds of a row with its image
-of_image : (m : Map) (P : Imaged → Type 0) (r : Reference) (image : ℕ) → IfSome (imaged m r) P → row_within m r.table r.row ≡ Some image
-    → P (record { table = r.table; row = r.row; image = image })
-of_image m P r image holds_of is =
-    subst (λ (o : Option ℕ). IfSome (option_map (λ image. record { table = r.table; row = r.row; image = image }) o) P) is holds_of
+of_image : (m : Map) (P : Imaged → Type 0) (r : Reference) (to image : ℕ) → IfSome (imaged m r) P → row_image m r.table r.row ≡ Row to image
+    → P (with_image r to image)
+of_image m P r to image holds_of is = subst (λ (o : RowImage). IfSome (imaged_to r o) P) is holds_of
 
 abbrev OneRow : Imaged → Imaged → Type 0
-OneRow = OneNumber (λ (i : Imaged). i.table) (λ i. i.row) (λ i. i.image)
+OneRow = OneNumber (λ (i : Imaged). i.table) (λ i. i.row) image_key
 
 abbrev OwnRow : Map → Imaged → Type 0
-OwnRow m i = i.image ≡ unwrap_or (row_within m i.table i.row) 0
+OwnRow m i = row_image m i.table i.row ≡ Row i.to i.image
 
-one_imaged : (x y : Imaged) → x.table ≡ y.table → x.row ≡ y.row → x.image ≡ y.image → x ≡ y
-one_imaged x y t n i =
-    ap (λ z. record { table = z; row = x.row; image = x.image }) t ∙ ap (λ z. record { table = y.table; row = z; image = x.image }) n
-    ∙ ap (λ z. record { table = y.table; row = y.row; image = z }) i
+abbrev IsAlone : Map → Imaged → Type 0
+IsAlone m i = may_share m i.table ≡ false
+
+one_imaged : (m : Map) (x y : Imaged) → OwnRow m x → OwnRow m y → x.table ≡ y.table → x.row ≡ y.row → x ≡ y
+one_imaged m x y own also t n =
+    let same : Row x.to x.image ≡ Row y.to y.image =
+    sym own ∙ ap (λ k. row_image m k x.row) t ∙ ap (row_image m y.table) n ∙ also in
+    ap (λ z. record { table = z; row = x.row; to = x.to; image = x.image }) t ∙ ap (λ z. record { table = y.table; row = z; to = x.to; image = x.image }) n
+    ∙ ap (λ z. record { table = y.table; row = y.row; to = table_in z; image = row_in z }) same
 
 own_row : (m : Map) (r : Reference) → IfSome (imaged m r) (OwnRow m)
-own_row m r = step (row_within m r.table r.row) refl
+own_row m r = step (row_image m r.table r.row) refl
   where
-    step : (o : Option ℕ) → row_within m r.table r.row ≡ o
-        → IfSome (option_map (λ image. record { table = r.table; row = r.row; image = image }) o) (OwnRow m)
-    step None is = tt
-    step (Some image) is = ap (λ o. unwrap_or o 0) (sym is)
+    step : (o : RowImage) → row_image m r.table r.row ≡ o → IfSome (imaged_to r o) (OwnRow m)
+    step (Row to image) is = is
+    step Gone is = tt
+    step Missing is = tt
+
+-- those of the rows are judged whose tables may not share images
+alone : (m : Map) (P : Imaged → Type 0) (is : List Imaged) → Each P (unshared m is) → Each (λ i. IsAlone m i → P i) is
+alone m P [] each = tt
+alone m P (i ∷ is) each = step (may_share m i.table) refl each (λ l. alone m P is l)
+  where
+    step : (b : Bool) → may_share m i.table ≡ b → Each P (cond (not b) (i ∷ unshared m is) (unshared m is))
+        → (Each P (unshared m is) → Each (λ i. IsAlone m i → P i) is) → (IsAlone m i → P i) × Each (λ i. IsAlone m i → P i) is
+    step true shared each on = ((λ free. let e : true ≡ false = sym shared ∙ free in absurd cc), on each)
+    step false shared each on = ((λ free. each.0), on each.1)
 
 -- a row is apart from others
 one_apart : (m : Map) (r : Reference) (ss : List Reference)
-    → ((image : ℕ) → row_within m r.table r.row ≡ Some image
-    → Each (λ s. IfSome (imaged m s) (OneRow (record { table = r.table; row = r.row; image = image }))) ss)
+    → ((to image : ℕ) → row_image m r.table r.row ≡ Row to image → may_share m r.table ≡ false
+    → Each (λ s. IfSome (imaged m s) (λ b. IsAlone m b → OneRow (with_image r to image) b)) ss)
     → Each (λ s. AreApart m (named_by r) (named_by s)) ss
 one_apart m r [] each = tt
 one_apart m r (s ∷ ss) each = (
-  (λ image t ri si. of_image m (OneRow (record { table = r.table; row = r.row; image = image })) s image (each image ri).0 si t refl),
-  one_apart m r ss (λ image ri. (each image ri).1),
+  (λ to image t free ri si. of_image m (λ b. IsAlone m b → OneRow (with_image r to image) b) s to image (each to image ri free).0 si
+      (subst (λ k. may_share m k ≡ false) t free) t refl),
+  one_apart m r ss (λ to image ri free. (each to image ri free).1),
 )
 
-all_apart : (m : Map) (rs : List Reference) → Each (λ a. Each (OneRow a) (filter_map (imaged m) rs)) (filter_map (imaged m) rs)
+all_apart : (m : Map) (rs : List Reference)
+    → Each (λ a. IsAlone m a → Each (λ b. IsAlone m b → OneRow a b) (filter_map (imaged m) rs)) (filter_map (imaged m) rs)
     → Each (λ a. Each (AreApart m a) (map named_by rs)) (map named_by rs)
 all_apart m rs each =
+    let Far = λ (a : Imaged). IsAlone m a → Each (λ b. IsAlone m b → OneRow a b) (filter_map (imaged m) rs) in
     Each-map named_by (λ a. Each (AreApart m a) (map named_by rs)) rs
-    (Each-weaker (λ r. IfSome (imaged m r) (λ a. Each (OneRow a) (filter_map (imaged m) rs))) (λ r. Each (AreApart m (named_by r)) (map named_by rs))
+    (Each-weaker (λ r. IfSome (imaged m r) Far) (λ r. Each (AreApart m (named_by r)) (map named_by rs))
     (λ r all. Each-map named_by (AreApart m (named_by r)) rs
-    (one_apart m r rs (λ image ri. each_made_option (imaged m) (OneRow (record { table = r.table; row = r.row; image = image })) rs
-    (of_image m (λ a. Each (OneRow a) (filter_map (imaged m) rs)) r image all ri))))
-    rs (each_made_option (imaged m) (λ a. Each (OneRow a) (filter_map (imaged m) rs)) rs each))
+    (one_apart m r rs (λ to image ri free. each_made_option (imaged m) (λ b. IsAlone m b → OneRow (with_image r to image) b) rs
+    (of_image m Far r to image all ri free))))
+    rs (each_made_option (imaged m) Far rs each))
 
 pub rows_apart : (first : Bool) (m : Map) (raw : RawFile) → images_twice first m raw ≡ []
     → Each (λ a. Each (AreApart m a) (map named_by (references first m raw))) (map named_by (references first m raw))
 rows_apart first m raw none =
+    let rows = filter_map (imaged m) (references first m raw) in
+    let once = each_once (λ (i : Imaged). i.table) (λ i. i.row) rows in
     all_apart m (references first m raw)
-    (apart (λ (i : Imaged). i.table) (λ i. i.row) (λ i. i.image) image_twice (λ table row. unwrap_or (row_within m table row) 0) one_imaged
-    (filter_map (imaged m) (references first m raw)) (each_making (imaged m) (OwnRow m) (own_row m) (references first m raw)) none)
+    (apart (λ (i : Imaged). i.table) (λ i. i.row) image_key image_twice (OwnRow m) (one_imaged m) (IsAlone m) rows (unshared m once)
+    (λ P each. alone m P once each) (each_making (imaged m) (OwnRow m) (own_row m) (references first m raw)) none)
 
 -- ---- slots
 
@@ -120,8 +152,10 @@ OneSlot = OneNumber (λ (u : UsedSlot). u.method) (λ u. u.slot) (λ u. u.image)
 abbrev OwnSlot : Map → UsedSlot → Type 0
 OwnSlot m u = u.image ≡ unwrap_or (slot_image m u.method u.slot) 0
 
-one_used : (x y : UsedSlot) → x.method ≡ y.method → x.slot ≡ y.slot → x.image ≡ y.image → x ≡ y
-one_used x y t n i =
+one_used : (m : Map) (x y : UsedSlot) → OwnSlot m x → OwnSlot m y → x.method ≡ y.method → x.slot ≡ y.slot → x ≡ y
+one_used m x y own also t n =
+    let i : x.image ≡ y.image =
+    own ∙ ap (λ z. unwrap_or (slot_image m z x.slot) 0) t ∙ ap (λ z. unwrap_or (slot_image m y.method z) 0) n ∙ sym also in
     ap (λ z. record { method = z; slot = x.slot; image = x.image }) t ∙ ap (λ z. record { method = y.method; slot = z; image = x.image }) n
     ∙ ap (λ z. record { method = y.method; slot = y.slot; image = z }) i
 
@@ -183,8 +217,13 @@ module _ (m : Map) (value : FileValue) where
 
   pairs : slots_twice m value ≡ [] → Each (λ a. Each (OneSlot a) all) all
   pairs none =
-      apart (λ (u : UsedSlot). u.method) (λ u. u.slot) (λ u. u.image) slot_twice (λ method slot. unwrap_or (slot_image m method slot) 0) one_used all
-      (each_making (used m) (OwnSlot m) (own_slot m) (variable_slots value)) none
+      let Any = λ (u : UsedSlot). Unit {0} in
+      let once = each_once (λ (u : UsedSlot). u.method) (λ u. u.slot) all in
+      Each-weaker (λ a. Any a → Each (λ b. Any b → OneSlot a b) all) (λ a. Each (OneSlot a) all)
+      (λ a each. Each-weaker (λ b. Any b → OneSlot a b) (OneSlot a) (λ b one. one tt) all (each tt)) all
+      (apart (λ (u : UsedSlot). u.method) (λ u. u.slot) (λ u. u.image) slot_twice (OwnSlot m) (one_used m) Any all once
+      (λ P each. Each-weaker P (λ u. Any u → P u) (λ u p any. p) once each)
+      (each_making (used m) (OwnSlot m) (own_slot m) (variable_slots value)) none)
 
   pub slots_apart : slots_twice m value ≡ [] → SlotsAreApart m (annotated_file value).scopes
   slots_apart none s t v w image in_s in_t live same in_v in_w vi wi =

@@ -1,9 +1,14 @@
 -- Items whose images are their numbers: nothing is reported of two of them.
-use Rattle.std.proofs.Common.{◌≡◌, ℕ, ◌&&◌, Bool, true, false, cond, List, [], ◌∷◌, ◌++◌, refl, ap, ◌∙◌}
+use Rattle.std.proofs.Common.{◌≡◌, ℕ, ◌&&◌, Bool, true, false, cond, List, [], ◌∷◌, ◌++◌, refl, ap, ◌∙◌, arith}
 use Rattle.std.specs.Prelude.{All, nat_eq, nat_le, not}
-use Rattle.std.proofs.lemmas.List.Elements.{All-cons, All-head, All-tail}
+use Rattle.std.proofs.lemmas.Bool.{eqb-true, eq-eqb}
+use Rattle.std.proofs.lemmas.List.Elements.{All-cons, All-filter, All-head, All-tail}
 use Rattle.std.proofs.lemmas.List.Filters.{All-dedup}
+use Rattle.ppdb_maps.specs.Map.{Map}
 use Rattle.ppdb_merge_items.specs.Sorted.{put, in_order}
+use Rattle.ppdb_merge_moved.specs.Fits.{may_share}
+use Rattle.ppdb_merge_names.specs.declared.imaged.Imaged.{Imaged}
+use Rattle.ppdb_merge_fits.specs.Rows.{Stays, image_key, image_twice, rows_twice, unshared}
 use Rattle.ppdb_merge_fits.specs.Twice.{beside, beside_from, each_once, if_one_image, is_same, twice}
 
 module _ {A : Type 0} (P : A → Type 0) where
@@ -42,14 +47,32 @@ module _ {A B : Type 0} (group number image : A → ℕ) (told : A → A → B) 
       ∙ ap (λ n. cond (nat_eq (group a) (group b) && (nat_eq (number a) n && not (nat_eq (number a) (number b)))) (told a b ∷ []) []) q
       ∙ ap (λ t. cond t (told a b ∷ []) []) (never_both (nat_eq (group a) (group b)) (nat_eq (number a) (number b)))
 
-  pub none_twice : (items : List A) → All (λ a. image a ≡ number a) items → twice group number image told items ≡ []
-  none_twice items keep =
-      let P = λ (a : A). image a ≡ number a in
-      nothing_beside P (if_one_image group number image told) none_told (in_order group (in_order image items))
-      (all_in_order P group (in_order image items) (all_in_order P image items keep))
+  none_among : (P : A → Type 0) → ((a b : A) → P a → P b → if_one_image group number image told a b ≡ []) → (items : List A) → All P items
+      → twice group number image told items ≡ []
+  none_among P none items all =
+      nothing_beside P (if_one_image group number image told) none (in_order group (in_order image items))
+      (all_in_order P group (in_order image items) (all_in_order P image items all))
 
   pub none_twice_once : (items : List A) → All (λ a. image a ≡ number a) items → twice group number image told (each_once group number items) ≡ []
   none_twice_once items keep =
       let P = λ (a : A). image a ≡ number a in
-      none_twice (each_once group number items)
+      none_among P none_told (each_once group number items)
       (All-dedup (is_same group number) P (in_order group (in_order number items)) (all_in_order P group (in_order number items) (all_in_order P number items keep)))
+
+-- two rows whose images are they themselves
+stay_apart : (a b : Imaged) → Stays a → Stays b → if_one_image (λ (i : Imaged). i.table) (λ i. i.row) image_key image_twice a b ≡ []
+stay_apart a b p q = ap (λ t. cond t (image_twice a b ∷ []) []) (by (nat_eq a.table b.table) (nat_eq (image_key a) (image_key b)) refl refl)
+  where
+    by : (t k : Bool) → nat_eq a.table b.table ≡ t → nat_eq (image_key a) (image_key b) ≡ k → (t && (k && not (nat_eq a.row b.row))) ≡ false
+    by false k is also = refl
+    by true false is also = refl
+    by true true is also =
+        let t = eqb-true a.table b.table is in
+        let k = eqb-true (image_key a) (image_key b) also in
+        let pt = p.0 in let pn = p.1 in let qt = q.0 in let qn = q.1 in
+        ap not (eq-eqb a.row b.row (omega (arith, t, k, pt, pn, qt, qn)))
+
+pub none_where_all_stay : (m : Map) (rows : List Imaged) → All Stays rows → rows_twice m rows ≡ []
+none_where_all_stay m rows stay =
+    none_among (λ (i : Imaged). i.table) (λ i. i.row) image_key image_twice Stays stay_apart (unshared m rows)
+    (All-filter (λ (i : Imaged). not (may_share m i.table)) Stays rows stay)

@@ -1,6 +1,7 @@
 pub mod Apart
 pub mod Beside
 pub mod ByName
+pub mod Constants
 pub mod Counted
 pub mod Far
 pub mod First

@@ -24,7 +24,7 @@ use Rattle.ppdb_merge_items.proofs.Soundness.{parts_sound}
 use Rattle.ppdb_merge_items.proofs.Values.{items_back}
 use Rattle.ppdb_merge_moved.specs.Fits.{IsImaged, AreApart}
 use Rattle.ppdb_merge_moved.proofs.Elements.{in_each}
-use Rattle.ppdb_merge_fits.specs.Clashes.{first_clash, clashes, unknown_kinds, if_unknown, is_unknown, is_at_dropped}
+use Rattle.ppdb_merge_fits.specs.Clashes.{first_clash, clashes, unknown_kinds, if_unknown, is_unknown, is_at_gone}
 use Rattle.ppdb_merge_fits.specs.Documents.{documents_twice}
 use Rattle.ppdb_merge_fits.specs.Laws.{NothingClashes}
 use Rattle.ppdb_merge_fits.specs.Offsets.{beyond, lost, points_beyond, scope_beyond, custom_beyond}
@@ -42,13 +42,13 @@ known_kind false b e f = refl
 
 kinds_known : (marks : List (List ℕ)) (m : Map) (value : FileValue) (n : ℕ) (cs : List CustomValue)
     → Each (λ x. if_unknown marks m value x ≡ []) (enumerate_from n cs)
-    → Each (λ c. is_at_dropped m value c.parent ≡ false → kind_of marks c.kind ≢ Unknown) cs
+    → Each (λ c. is_at_gone m value c.parent ≡ false → kind_of marks c.kind ≢ Unknown) cs
 kinds_known marks m value n [] each = tt
 kinds_known marks m value n (c ∷ cs) each = (
   (λ stays is.
       let e : is_unknown (kind_of marks c.kind) ≡ false =
-      known_kind (is_unknown (kind_of marks c.kind)) (is_at_dropped m value c.parent)
-      (fails (is_unknown (kind_of marks c.kind) && not (is_at_dropped m value c.parent)) _ each.0) stays in
+      known_kind (is_unknown (kind_of marks c.kind)) (is_at_gone m value c.parent)
+      (fails (is_unknown (kind_of marks c.kind) && not (is_at_gone m value c.parent)) _ each.0) stays in
       let f : is_unknown (kind_of marks c.kind) ≡ true = ap is_unknown is in
       let g : true ≡ false = sym f ∙ e in absurd cc),
   kinds_known marks m value (n + 1) cs each.1,
@@ -81,7 +81,7 @@ nothing_clashes codes owned marks first m raw keeps ready none =
             (in_each (λ x. Each (AreApart m x) (named_rows first m file)) (named_rows first m file) x apart in_x) in_y;
         points = points_fit m _ value.methods points.0 sound.parts.methods;
         ranges = ranges_fit m _ value ranges.0 sound.parts.scopes;
-        hoisted = hoisted_fits m _ value ranges.1 sound.parts.customs;
+        hoisted = hoisted_fits m ready _ value ranges.1 sound.parts.customs;
         async = async_fit m ready value c.0;
         slots = slots_fit m value f.0;
         slots_apart = slots_apart m value g.0;

@@ -1,11 +1,13 @@
--- Where a map does not fit a file, and what is reported first (docs/FORMAT.md, "Fitting"). What stands at a dropped method is not judged.
+-- Where a map does not fit a file, and what is reported first (docs/FORMAT.md, "Fitting"). What goes is not judged.
 use Rattle.ppdb_values.specs.Names.{list_any, kind_of, Kind, Unknown, MergeError, KindUnknown, numbered, row_at, Parent}
-use Rattle.std.specs.Prelude.{ℕ, ◌&&◌, ◌==◌, not, Bool, true, false, cond, List, [], ◌∷◌, ◌++◌, Option, Some, None, map, option_to_list, slice_get, flat_map}
+use Rattle.std.specs.Prelude.{ℕ, ◌&&◌, ◌||◌, ◌==◌, not, Bool, true, false, cond, List, [], ◌∷◌, ◌++◌, Option, Some, None, map, option_to_list, slice_get, flat_map}
 use Rattle.ppdb_maps.specs.Map.{Map, is_dropped}
-use Rattle.ppdb_values.specs.{RawFile.RawFile, Value.value_of, declared.file.FileValue.FileValue, declared.scope.ScopeValue.ScopeValue, declared.custom.CustomValue.CustomValue}
+use Rattle.ppdb_values.specs.{RawFile.RawFile, Value.value_of, declared.file.FileValue.FileValue, declared.scope.{ScopeValue.ScopeValue, ConstantValue.ConstantValue}}
+use Rattle.ppdb_values.specs.{declared.custom.CustomValue.CustomValue}
+use Rattle.ppdb_merge_items.specs.NamedRows.{is_gone_row, goes_constant}
 use Rattle.ppdb_merge_fits.specs.{Documents.documents_twice, Offsets.{beyond, lost}, Rows.{unmapped, images_twice}, Slots.{slots_unmapped, slots_twice}}
 
--- ---- records at dropped methods
+-- ---- rows at dropped methods
 
 -- the methods of the scopes, of the variables of all scopes and of their constants, by their rows from 1
 abbrev pub scope_methods : FileValue → List ℕ
@@ -28,14 +30,28 @@ method_at value parent =
 abbrev pub is_at_dropped : Map → FileValue → Parent → Bool
 is_at_dropped m value parent = list_any (is_dropped m) (option_to_list (method_at value parent))
 
+-- ---- records on rows that are gone
+
+-- the constants of all scopes, by their rows from 1
+abbrev pub all_constants : FileValue → List ConstantValue
+all_constants value = flat_map (λ (s : ScopeValue). s.constants) value.scopes
+
+-- the row is that of a constant that goes
+abbrev pub is_at_gone_constant : Map → FileValue → Parent → Bool
+is_at_gone_constant m value parent = parent.table == 0x34 && list_any (goes_constant m) (option_to_list (row_at (all_constants value) parent.row))
+
 -- ---- records of unknown kinds
 
 abbrev pub is_unknown : Kind → Bool
 is_unknown Unknown = true
 is_unknown kind = false
 
+-- a row whose custom records go: one at a dropped method, one that is gone, and that of a constant that goes
+abbrev pub is_at_gone : Map → FileValue → Parent → Bool
+is_at_gone m value parent = is_at_dropped m value parent || (is_gone_row m parent.table parent.row || is_at_gone_constant m value parent)
+
 abbrev pub has_unknown_kind : List (List ℕ) → Map → FileValue → CustomValue → Bool
-has_unknown_kind marks m value c = is_unknown (kind_of marks c.kind) && not (is_at_dropped m value c.parent)
+has_unknown_kind marks m value c = is_unknown (kind_of marks c.kind) && not (is_at_gone m value c.parent)
 
 abbrev pub if_unknown : List (List ℕ) → Map → FileValue → ℕ × CustomValue → List MergeError
 if_unknown marks m value x = cond (has_unknown_kind marks m value x.1) (KindUnknown x.0 x.1.kind ∷ []) []

@@ -1,17 +1,32 @@
 -- Worked maps of small files, and what is reported of each.
-use Rattle.std.specs.Prelude.{◌≡◌, ℕ, ◌+◌, ◌-◌, true, List, [], ◌∷◌, ◌++◌, Option, Some, None, map, codes}
+use Rattle.std.specs.Prelude.{◌≡◌, ℕ, ◌+◌, ◌-◌, false, true, List, [], ◌∷◌, ◌++◌, Option, Some, None, map, codes}
 use Rattle.ppdb_base.specs.{Place.at_byte, declared.merge_error.MergeError.TheVariants.{KindUnknown, OffsetBeyond, AsyncLost, Unmapped, ImageTwice, SlotUnmapped, SlotTwice, DocumentTwice}}
 use Rattle.custom_info.specs.{Kinds.{in_file_order, async_stepping, hoisted_scopes}, declared.slots.Slot.TheVariants.{Empty, Held}}
 use Rattle.ppdb_maps.specs.{Map.{Map, MethodLine}, declared.entries.NameLine.NameLine}
 use Rattle.ppdb_values.specs.{RawFile.RawFile, WorkedSmall.{empty_file, empty_value, small_file, zeros}, declared.file.FileValue.FileValue, declared.custom.CustomBody.CustomBody}
+use Rattle.ppdb_values.specs.declared.scope.{ConstantValue.ConstantValue, ConstantBody.TheVariants.General}
 use Rattle.ppdb_values.specs.declared.custom.{CustomBody.TheVariants.{Async, Hoisted, Unread}, CustomValue.CustomValue}
 use Rattle.ppdb_merge_items.specs.Worked.{pair_value}
-use Rattle.ppdb_merge_fits.specs.{Clashes.{unknown_kinds, first_clash}, Documents.documents_twice, Offsets.{beyond, lost}, Rows.imaged_rows}
+use Rattle.ppdb_merge_names.specs.declared.imaged.Imaged.{Imaged}
+use Rattle.ppdb_merge_fits.specs.{Clashes.{unknown_kinds, first_clash}, Documents.documents_twice, Offsets.{beyond, lost}, Rows.{imaged_rows, rows_twice}}
 
 -- ---- maps
 
 abbrev pub no_lines : Map
-no_lines = record { counts = []; rows = []; methods = []; drops = []; slotted = []; slots = []; signatures = []; documents = []; link = None }
+no_lines = record {
+  counts = [];
+  rows = [];
+  crossed = [];
+  gone = [];
+  methods = [];
+  drops = [];
+  slotted = [];
+  slots = [];
+  signatures = [];
+  documents = [];
+  link = None;
+  shares = false;
+}
 
 -- `method 1 SIZE SIZE / run 0 0 LENGTH`
 abbrev pub prefix_kept : ℕ → ℕ → MethodLine
@@ -56,6 +71,18 @@ named old new = record { old = old; new = new }
 abbrev pub names : List NameLine → Map
 names documents = record no_lines { documents = documents }
 
+-- `rows TABLE 1`, and row 1 of the table, which is gone
+abbrev pub first_gone : ℕ → Map
+first_gone table = record no_lines { counts = record { table = table; rows = 1 } ∷ []; gone = record { table = table; old = 1 } ∷ [] }
+
+-- `shares`
+abbrev pub sharing : Map
+sharing = record no_lines { shares = true }
+
+-- a row with its image
+abbrev pub as_row : ℕ → ℕ → ℕ → ℕ → Imaged
+as_row table row to image = record { table = table; row = row; to = to; image = image }
+
 -- ---- files
 
 -- two methods with a scope each and a state machine
@@ -90,10 +117,23 @@ abbrev pub strange : List ℕ
 strange = in_file_order
     (0x00 ∷ 0x11 ∷ 0x22 ∷ 0x33 ∷ 0x44 ∷ 0x55 ∷ 0x66 ∷ 0x77 ∷ 0x88 ∷ 0x99 ∷ 0xaa ∷ 0xbb ∷ 0xcc ∷ 0xdd ∷ 0xee ∷ 0xff ∷ [])
 
+-- a record of an unknown kind
+abbrev pub strange_on : ℕ → ℕ → CustomValue
+strange_on table row = record { parent = record { table = table; row = row }; kind = strange; value = Unread [] }
+
 -- records of an unknown kind on method 2 and on the variable of its scope
 abbrev pub with_strange : FileValue
-with_strange = record pair_value {
-  customs = on_method 2 strange (Unread []) ∷ record { parent = record { table = 0x33; row = 2 }; kind = strange; value = Unread [] } ∷ [];
+with_strange = record pair_value { customs = strange_on 0x06 2 ∷ strange_on 0x33 2 ∷ [] }
+
+-- constants of the value types of TypeRef 1 and of TypeDef 1
+abbrev pub of_type : ℕ → ConstantValue
+of_type table = record { name = codes "c"; modifiers = []; body = General 0x11 (record { table = table; row = 1 }) [] }
+
+-- records of an unknown kind on TypeRef 1 and on the two constants
+abbrev pub strange_constants : FileValue
+strange_constants = record empty_value {
+  scopes = record { method = 1; import = 0; range = record { start = 0; end = 6 }; variables = []; constants = of_type 0x01 ∷ of_type 0x02 ∷ [] } ∷ [];
+  customs = strange_on 0x01 1 ∷ strange_on 0x34 1 ∷ strange_on 0x34 2 ∷ [];
 }
 
 -- documents of these names
@@ -114,7 +154,7 @@ pub record WorkedMaps : Type 0 where
   pub offset_first : first_clash [] true (record (keeps_prefix 5 5) { counts = record { table = 6; rows = 1 } ∷ [] }) small_file ≡ Some (OffsetBeyond 1 7 5)
   pub two_rows : first_clash [] true (methods_to 1 1) machine_file ≡ Some (ImageTwice 6 1 2 1)
   pub exchanged : first_clash [] true (methods_to 2 1) machine_file ≡ None
-  pub rows_are : imaged_rows true (methods_to 2 1) machine_file ≡ record { table = 6; row = 1; image = 2 } ∷ record { table = 6; row = 2; image = 1 } ∷ []
+  pub rows_are : imaged_rows true (methods_to 2 1) machine_file ≡ as_row 6 1 6 2 ∷ as_row 6 2 6 1 ∷ []
   pub slot : first_clash [] true (slot_to 5) small_file ≡ Some (SlotUnmapped 2 1)
   pub two_slots : first_clash [] true (slots_to 5 5) small_file ≡ Some (SlotTwice 1 0 1 5)
   pub slots_exchanged : first_clash [] true (slots_to 1 0) small_file ≡ None
@@ -131,6 +171,18 @@ pub record WorkedMaps : Type 0 where
   pub strange_goes : unknown_kinds [] (drops 2) with_strange ≡ []
   pub strange_stays : unknown_kinds [] (drops 1) with_strange ≡ KindUnknown 1 strange ∷ KindUnknown 2 strange ∷ []
   pub strange_is_marked : unknown_kinds (strange ∷ []) (drops 1) with_strange ≡ []
+  pub strange_type_gone : unknown_kinds [] (first_gone 0x01) strange_constants ≡ KindUnknown 3 strange ∷ []
+  pub strange_definition_gone : unknown_kinds [] (first_gone 0x02) strange_constants ≡ KindUnknown 1 strange ∷ KindUnknown 2 strange ∷ []
+  pub strange_module_gone : unknown_kinds [] (first_gone 0x00) (with_records (strange_on 0x00 1 ∷ [])) ≡ []
+  -- images in other tables: TypeDef 1 and 2 are TypeSpec 1
+  pub one_row : rows_twice no_lines (as_row 0x02 1 0x1b 1 ∷ as_row 0x02 2 0x1b 1 ∷ []) ≡ ImageTwice 0x02 1 2 1 ∷ []
+  pub one_number : rows_twice no_lines (as_row 0x01 1 0x02 1 ∷ as_row 0x01 2 0x1b 1 ∷ []) ≡ []
+  -- the least row is reported first, and of one row that of the least table
+  pub least_image : rows_twice no_lines
+      (as_row 0x01 1 0x1b 1 ∷ as_row 0x01 2 0x02 2 ∷ as_row 0x01 3 0x02 2 ∷ as_row 0x01 4 0x1b 1 ∷ as_row 0x01 5 0x02 1 ∷ as_row 0x01 6 0x02 1 ∷ [])
+      ≡ ImageTwice 0x01 5 6 1 ∷ ImageTwice 0x01 1 4 1 ∷ ImageTwice 0x01 2 3 2 ∷ []
+  pub shared : rows_twice sharing (as_row 0x02 1 0x1b 1 ∷ as_row 0x02 2 0x1b 1 ∷ as_row 0x23 1 0x20 1 ∷ as_row 0x23 2 0x20 1 ∷ []) ≡ []
+  pub not_shared : rows_twice sharing (as_row 0x11 1 0x11 1 ∷ as_row 0x11 2 0x11 1 ∷ []) ≡ ImageTwice 0x11 1 2 1 ∷ []
   -- names of documents
   pub renamed : first_clash [] true (names (named (codes "/a/b") (codes "x") ∷ [])) small_file ≡ None
   pub one_name : documents_twice (names (named (codes "b") (codes "a") ∷ [])) four_documents ≡ DocumentTwice 1 2 ∷ []

@@ -1,5 +1,5 @@
 // Whether a map fits a file.
-ghost use Rattle.std.specs.Prelude.{◌≡◌, ◌≢◌, ◌⊎◌, ◌++◌, ◌≤◌, List, None, Some, IfOk, IfErr, length, slice_get};
+ghost use Rattle.std.specs.Prelude.{◌≡◌, ◌≢◌, ◌⊎◌, ◌↔◌, ◌++◌, ◌≤◌, ◌∷◌, [], All, IsTrue, List, None, Some, IfOk, IfErr, OnOk, length, slice_get};
 ghost use Rattle.std.specs.List.{filter_map};
 ghost use Rattle.ppdb_base.specs.declared.merge_error.MergeError.{MergeError};
 ghost use Rattle.ppdb_base.specs.declared.merge_error.MergeError.TheVariants.{Memory as NoMemory};
@@ -7,21 +7,21 @@ ghost use Rattle.ppdb_verify.specs.Views.{raw_file};
 ghost use Rattle.ppdb_values.specs.Ordered.{EachPair};
 ghost use Rattle.ppdb_values.specs.Value.{value_of};
 ghost use Rattle.ppdb_merge_names.specs.References.{references};
+ghost use Rattle.ppdb_merge_moved.specs.Fits.{may_share};
 ghost use Rattle.ppdb_merge_fits.specs.Clashes.{unknown_kinds, first_clash};
 ghost use Rattle.ppdb_merge_fits.specs.Documents.{documents_twice};
 ghost use Rattle.ppdb_merge_fits.specs.FirstOf.{IsFirstOf};
 ghost use Rattle.ppdb_merge_fits.specs.Offsets.{beyond, lost};
-ghost use Rattle.ppdb_merge_fits.specs.Rows.{imaged, imaged_rows, unmapped, image_twice, images_twice};
+ghost use Rattle.ppdb_merge_fits.specs.Rows.{imaged, imaged_rows, unmapped, images_twice, rows_twice, unshared, Stays};
 ghost use Rattle.ppdb_merge_fits.specs.Signatures.{all_images};
 ghost use Rattle.ppdb_merge_fits.specs.Slots.{variable_slots, slots_unmapped, slots_twice};
-ghost use Rattle.ppdb_merge_fits.specs.Twice.{twice};
 
 use crate::documents::first_document_twice;
 use crate::kinds::first_unknown;
 use crate::offsets::{first_beyond, first_lost};
 use crate::signatures::with_given;
 use crate::slots::first_of_slots;
-use crate::twice::{all_keep_numbers, first_twice, leave_once};
+use crate::twice::{first_twice, leave_once};
 use custom_info::Marks;
 use ppdb_base::{List, Memory, MergeError, Steps};
 use ppdb_maps::MapText;
@@ -78,15 +78,55 @@ fn placed_images<L: Ledger>(
     }
 }
 
-/// What is reported of the first two rows of a table that have one image.
-fn first_image_twice(alloc: Global, rows: &[Imaged]) -> Result<Option<MergeError>, Memory>
-    ensures { IfOk result (λ told. told ≡ slice_get (twice (λ i. i.table) (λ i. i.row) (λ i. i.image) image_twice rows.now) 0) }
+/// Whether each row's image is the row itself; then no two rows have one image.
+fn all_stay(rows: &[Imaged]) -> bool
+    ensures { IsTrue result ↔ All Stays rows.now }
 {
-    if all_keep_numbers(rows) {
+    rows.iter()
+        .all(|row| row.to == row.table && row.image == row.row)
+}
+
+/// Whether rows of the table may have one image.
+fn may_share(map: &MapText, table: u8) -> bool
+    ensures { result ≡ may_share map.now table }
+{
+    map.shares() && matches!(table, 0x01 | 0x02 | 0x1b | 0x23)
+}
+
+/// Adds a row, unless it may share its image.
+fn add_unshared(all: &mut Vec<Imaged>, map: &MapText, row: &Imaged) -> Result<(), Memory>
+    ensures { OnOk result (all.new.items ≡ all.old.items ++ unshared map.now (row.now ∷ [])) }
+{
+    if !may_share(map, row.table) {
+        all.push(*row)?;
+    }
+    Ok(())
+}
+
+/// The rows of the tables whose rows may have no image in common.
+fn unshared(alloc: Global, map: &MapText, rows: &[Imaged]) -> Result<Vec<Imaged>, Memory>
+    ensures { IfOk result (λ all. all.items ≡ unshared map.now rows.now) }
+{
+    let mut all = Vec::with_capacity(alloc, rows.len())?;
+    for row in rows {
+        add_unshared(&mut all, map, row)?;
+    }
+    Ok(all)
+}
+
+/// What is reported of the first two rows of a table that have one image.
+fn first_image_twice(
+    alloc: Global,
+    map: &MapText,
+    rows: &[Imaged],
+) -> Result<Option<MergeError>, Memory>
+    ensures { IfOk result (λ told. told ≡ slice_get (rows_twice map.now rows.now) 0) }
+{
+    if all_stay(rows) {
         return Ok(None);
     }
-    let mut again = List::copied(alloc, rows)?.into_vec();
-    first_twice(&mut again)
+    let mut all = unshared(alloc, map, rows)?;
+    first_twice(&mut all)
 }
 
 /// Judges the rows that a file names, and gives them with their images, each once, by table and row.
@@ -102,7 +142,7 @@ fn judge_rows<L: Ledger>(
 {
     let mut rows = placed_images(alloc, file, map, first, steps)?;
     leave_once(&mut rows)?;
-    refuse(first_image_twice(alloc, rows.as_slice())?)?;
+    refuse(first_image_twice(alloc, map, rows.as_slice())?)?;
     Ok(List::from_vec(rows))
 }
 
@@ -125,7 +165,7 @@ fn judge_documents(alloc: Global, value: &FileValue, map: &MapText) -> Result<()
 
 /// Judges whether a map fits a file, whose value is handed in: the rows of the type system that the file names with their images, each
 /// once, and the local signatures that `signature` lines give, by table, row and image; else what does not fit first, in the order M6,
-/// M4, M5, M1, M2, M10, M11, M12. What stands at a dropped method is not judged. The entry point counts in the first of several files.
+/// M4, M5, M1, M2, M10, M11, M12. What goes is not judged. The entry point counts in the first of several files.
 pub fn judge<L: Ledger>(
     alloc: Global,
     file: &Verified<'_>,

@@ -3,14 +3,16 @@ ghost use Rattle.std.specs.Prelude.{◌≡◌, ◌≤◌, ◌++◌, IfOk, OnOk, 
 ghost use Rattle.std.specs.List.{flat_map, list_any};
 ghost use Rattle.custom_info.specs.Kinds.{kind_of as the_kind};
 ghost use Rattle.ppdb_tables.specs.RawTables.{numbered, row_at};
-ghost use Rattle.ppdb_merge_fits.specs.Clashes.{scope_methods, variable_methods, constant_methods, method_at, is_at_dropped, is_unknown};
+ghost use Rattle.ppdb_merge_fits.specs.Clashes.{method_at, is_at_dropped, is_at_gone, is_at_gone_constant, is_unknown};
+ghost use Rattle.ppdb_merge_items.specs.NamedRows.{goes_constant};
 ghost use Rattle.ppdb_merge_fits.specs.Clashes.{if_unknown, unknown_kinds};
 
 use custom_info::{Kind, Marks, kind_of};
 use ppdb_base::{List, Memory, MergeError};
 use ppdb_maps::MapText;
+use ppdb_merge_moved::{constant_goes, is_gone_row};
 use ppdb_tables::Parent;
-use ppdb_values::{CustomValue, FileValue, ScopeValue};
+use ppdb_values::{ConstantValue, CustomValue, FileValue, ScopeValue};
 use std::alloc::Global;
 use std::marker::Model;
 
@@ -57,72 +59,115 @@ fn constant_methods(alloc: Global, scopes: &[ScopeValue]) -> Result<List<u32>, M
     Ok(methods)
 }
 
-/// The methods of the scopes of a value, and of what they own, by rows.
+/// Adds of each of the constants whether it goes.
+fn add_gone(gone: &mut List<bool>, by: &MapText, constants: &[ConstantValue]) -> Result<(), Memory>
+    ensures { OnOk result (gone.new ≡ gone.old ++ map (goes_constant by.now) constants.now) }
+{
+    for constant in constants {
+        gone.push(constant_goes(by, constant))?;
+    }
+    Ok(())
+}
+
+/// Of each of the constants of all scopes whether it goes.
+fn gone_constants(alloc: Global, by: &MapText, scopes: &[ScopeValue]) -> Result<List<bool>, Memory>
+    ensures { IfOk result (λ gone. gone ≡ map (goes_constant by.now) (flat_map (λ s. s.constants) scopes.now)) }
+{
+    let mut gone = List::new(alloc);
+    for scope in scopes {
+        add_gone(&mut gone, by, scope.constants.as_slice())?;
+    }
+    Ok(gone)
+}
+
+/// A value and a map: the methods of the scopes and of what they own, by rows, and the constants that go. It is seen as the two.
 #[derive(Drop)]
-struct Methods<'v> {
+struct Rows<'v> {
+    by: &'v MapText,
     value: &'v FileValue,
     scopes: List<u32>,
     variables: List<u32>,
     constants: List<u32>,
+    gone: List<bool>,
 }
 
-impl<'v> Model for Methods<'v> {
-    ghost use Rattle.std.specs.Prelude.{◌≡◌};
+impl<'v> Model for Rows<'v> {
+    ghost use Rattle.std.specs.Prelude.{◌≡◌, map};
+    ghost use Rattle.ppdb_maps.specs.Map.{Map};
     ghost use Rattle.ppdb_values.specs.declared.file.FileValue.{FileValue};
-    ghost use Rattle.ppdb_merge_fits.specs.Clashes.{scope_methods, variable_methods, constant_methods};
+    ghost use Rattle.ppdb_merge_items.specs.NamedRows.{goes_constant};
+    ghost use Rattle.ppdb_merge_fits.specs.Clashes.{all_constants, scope_methods, variable_methods, constant_methods};
 
-    ghost Value = { FileValue };
+    ghost Value = { Map × FileValue };
 
-    ghost view = { λ m. m.value.now };
+    ghost view = { λ r. (r.by.now, r.value.now) };
 
-    ghost invariant = { λ m. (m.scopes ≡ scope_methods m.value.now) × (m.variables ≡ variable_methods m.value.now)
-        × (m.constants ≡ constant_methods m.value.now) };
+    ghost invariant = { λ r. (r.scopes ≡ scope_methods r.value.now) × (r.variables ≡ variable_methods r.value.now)
+        × (r.constants ≡ constant_methods r.value.now) × (r.gone ≡ map (goes_constant r.by.now) (all_constants r.value.now)) };
 }
 
-/// The method of a row; none past the last.
-fn method_of(methods: &[u32], row: u32) -> Option<u32>
-    ensures { result ≡ row_at methods.now row }
+/// The entry of a row; none past the last.
+fn entry<T: Copy>(entries: &[T], row: u32) -> Option<T>
+    ensures { result ≡ row_at entries.now row }
 {
     if row == 0 {
         return None;
     }
-    methods.get(row as usize - 1).copied()
+    entries.get(row as usize - 1).copied()
 }
 
-impl<'v> Methods<'v> {
-    fn new(alloc: Global, value: &'v FileValue) -> Result<Methods<'v>, Memory>
-        ensures { IfOk result (λ methods. methods ≡ value.now) }
+impl<'v> Rows<'v> {
+    fn new(alloc: Global, map: &'v MapText, value: &'v FileValue) -> Result<Rows<'v>, Memory>
+        ensures { IfOk result (λ rows. rows ≡ (map.now, value.now)) }
     {
         let scopes = value.scopes.as_slice();
-        Ok(Methods {
+        Ok(Rows {
+            by: map,
             value,
             scopes: scope_methods(alloc, scopes)?,
             variables: variable_methods(alloc, scopes)?,
             constants: constant_methods(alloc, scopes)?,
+            gone: gone_constants(alloc, map, scopes)?,
         })
     }
 
     /// The method at which a row stands.
-    fn at(&self, parent: Parent) -> Option<u32>
-        ensures { result ≡ method_at self.now parent }
+    fn method_at(&self, parent: Parent) -> Option<u32>
+        ensures { result ≡ method_at self.now.1 parent }
     {
         match parent.table {
             0x06 => Some(parent.row),
-            0x32 => method_of(self.scopes.as_slice(), parent.row),
-            0x33 => method_of(self.variables.as_slice(), parent.row),
-            0x34 => method_of(self.constants.as_slice(), parent.row),
+            0x32 => entry(self.scopes.as_slice(), parent.row),
+            0x33 => entry(self.variables.as_slice(), parent.row),
+            0x34 => entry(self.constants.as_slice(), parent.row),
             _ => None,
         }
     }
 
     /// Whether a row stands at a dropped method.
-    fn is_dropped(&self, map: &MapText, parent: Parent) -> bool
-        ensures { result ≡ is_at_dropped map.now self.now parent }
+    fn is_at_dropped(&self, parent: Parent) -> bool
+        ensures { result ≡ is_at_dropped self.now.0 self.now.1 parent }
     {
-        match self.at(parent) {
-            Some(method) => map.dropped(method),
+        match self.method_at(parent) {
+            Some(method) => self.by.dropped(method),
             None => false,
         }
+    }
+
+    /// Whether a row is that of a constant that goes.
+    fn is_at_gone_constant(&self, parent: Parent) -> bool
+        ensures { result ≡ is_at_gone_constant self.now.0 self.now.1 parent }
+    {
+        parent.table == 0x34 && entry(self.gone.as_slice(), parent.row).unwrap_or(false)
+    }
+
+    /// Whether the custom records on a row go.
+    fn is_at_gone(&self, parent: Parent) -> bool
+        ensures { result ≡ is_at_gone self.now.0 self.now.1 parent }
+    {
+        self.is_at_dropped(parent)
+            || is_gone_row(self.by, parent.table, parent.row)
+            || self.is_at_gone_constant(parent)
     }
 }
 
@@ -148,17 +193,16 @@ fn any_unknown(marks: &Marks, customs: &[CustomValue]) -> bool
     false
 }
 
-/// What is reported of a record of an unknown kind that stands at no dropped method.
+/// What is reported of a record of an unknown kind that stays.
 fn kind_unknown(
     marks: &Marks,
-    map: &MapText,
-    methods: &Methods<'_>,
+    rows: &Rows<'_>,
     row: u32,
     custom: &CustomValue,
 ) -> Option<MergeError>
-    ensures { result ≡ slice_get (if_unknown marks.now map.now methods.now (row, custom.now)) 0 }
+    ensures { result ≡ slice_get (if_unknown marks.now rows.now.0 rows.now.1 (row, custom.now)) 0 }
 {
-    if is_unknown(kind_of(&custom.kind, marks)) && !methods.is_dropped(map, custom.parent) {
+    if is_unknown(kind_of(&custom.kind, marks)) && !rows.is_at_gone(custom.parent) {
         return Some(MergeError::KindUnknown {
             row,
             kind: custom.kind,
@@ -167,27 +211,22 @@ fn kind_unknown(
     None
 }
 
-/// What is reported of the first record of an unknown kind that stands at no dropped method.
-fn first_in(
-    marks: &Marks,
-    map: &MapText,
-    methods: &Methods<'_>,
-    customs: &[CustomValue],
-) -> Option<MergeError>
+/// What is reported of the first record of an unknown kind that stays.
+fn first_in(marks: &Marks, rows: &Rows<'_>, customs: &[CustomValue]) -> Option<MergeError>
     requires { length customs.now ≤ 16777215 }
-    ensures { result ≡ slice_get (flat_map (if_unknown marks.now map.now methods.now) (numbered customs.now)) 0 }
+    ensures { result ≡ slice_get (flat_map (if_unknown marks.now rows.now.0 rows.now.1) (numbered customs.now)) 0 }
 {
     let mut row: u32 = 0;
     for custom in customs {
         row += 1;
-        if let Some(error) = kind_unknown(marks, map, methods, row, custom) {
+        if let Some(error) = kind_unknown(marks, rows, row, custom) {
             return Some(error);
         }
     }
     None
 }
 
-/// What is reported of the first record of an unknown kind that stands at no dropped method.
+/// What is reported of the first record of an unknown kind that stays.
 pub(crate) fn first_unknown(
     alloc: Global,
     marks: &Marks,
@@ -201,6 +240,6 @@ pub(crate) fn first_unknown(
     if !any_unknown(marks, customs) {
         return Ok(None);
     }
-    let methods = Methods::new(alloc, value)?;
-    Ok(first_in(marks, map, &methods, customs))
+    let rows = Rows::new(alloc, map, value)?;
+    Ok(first_in(marks, &rows, customs))
 }

@@ -5,14 +5,13 @@ ghost use Rattle.custom_info.specs.declared.slots.Range.{Range};
 ghost use Rattle.ppdb_maps.specs.Map.{is_dropped, offsets_in};
 ghost use Rattle.ppdb_maps.specs.Says.{sizes_of};
 ghost use Rattle.ppdb_values.specs.declared.custom.CustomBody.TheVariants.{Async};
-ghost use Rattle.ppdb_merge_items.specs.NamedRows.{live_custom};
 ghost use Rattle.ppdb_merge_fits.specs.Offsets.{offset_in, step_offsets, handler_offsets, async_offsets, offset_beyond, end_beyond, beyond, is_kept, lost};
 
 use crate::judged::{Judged, first_of};
 use custom_info::{AsyncStep, Range, Slot};
 use ppdb_base::{MergeError, OffsetImage};
 use ppdb_maps::MapText;
-use ppdb_merge_moved::InMethod;
+use ppdb_merge_moved::{InMethod, custom_stays};
 use ppdb_values::{CustomBody, CustomValue, FileValue, MethodValue, ScopeValue};
 use sequence_points::Point;
 
@@ -212,20 +211,13 @@ fn first_of_async<Q: AsksOffset>(
     first_of_steps(question, method, steps)
 }
 
-/// Whether a record is on no dropped method.
-fn is_live(map: &MapText, custom: &CustomValue) -> bool
-    ensures { result ≡ live_custom map.now custom.now }
-{
-    !(custom.parent.table == 0x06 && map.dropped(custom.parent.row))
-}
-
 impl Judged<MapText> for CustomValue {
     ghost use Rattle.ppdb_merge_fits.specs.Offsets.{custom_beyond};
 
     ghost told = { custom_beyond };
 
     fn first_by(&self, map: &MapText) -> Option<MergeError> {
-        if !is_live(map, self) {
+        if !custom_stays(map, self) {
             return None;
         }
         let method = self.parent.row;
@@ -245,7 +237,7 @@ impl Judged<Kept<'_>> for CustomValue {
     ghost told = { λ by. custom_lost by.map.now };
 
     fn first_by(&self, by: &Kept<'_>) -> Option<MergeError> {
-        if !is_live(by.map, self) {
+        if !custom_stays(by.map, self) {
             return None;
         }
         match &self.value {

@@ -19,6 +19,7 @@ fn given_signature(map: &MapText, method: &MethodValue) -> Option<Imaged>
         Some(image) => Some(Imaged {
             table: 0x11,
             row: method.signature,
+            to: 0x11,
             image,
         }),
     }

@@ -16,6 +16,7 @@ pub(crate) trait HasImage: Copy + Drop {
 
     ghost number_of: { Self → ℕ };
 
+    /// The image as a number.
     ghost image_of: { Self → ℕ };
     /// What is reported of two items of a group that have one image.
     ghost told: { Self → Self → MergeError };
@@ -26,7 +27,7 @@ pub(crate) trait HasImage: Copy + Drop {
     fn number(&self) -> u32
         ensures { result ≡ number_of self.now };
 
-    fn image(&self) -> u32
+    fn image(&self) -> u64
         ensures { result ≡ image_of self.now };
 
     /// What is reported of this item and another one.
@@ -35,13 +36,13 @@ pub(crate) trait HasImage: Copy + Drop {
 }
 
 impl HasImage for Imaged {
-    ghost use Rattle.ppdb_merge_fits.specs.Rows.{image_twice};
+    ghost use Rattle.ppdb_merge_fits.specs.Rows.{image_key, image_twice};
 
     ghost group_of = { λ i. i.table };
 
     ghost number_of = { λ i. i.row };
 
-    ghost image_of = { λ i. i.image };
+    ghost image_of = { image_key };
 
     ghost told = { image_twice };
 
@@ -53,8 +54,8 @@ impl HasImage for Imaged {
         self.row
     }
 
-    fn image(&self) -> u32 {
-        self.image
+    fn image(&self) -> u64 {
+        u64::from(self.image) * 0x100 + u64::from(self.to)
     }
 
     fn tell(&self, other: &Imaged) -> MergeError {
@@ -86,8 +87,8 @@ impl HasImage for UsedSlot {
         u32::from(self.slot)
     }
 
-    fn image(&self) -> u32 {
-        u32::from(self.image)
+    fn image(&self) -> u64 {
+        u64::from(self.image)
     }
 
     fn tell(&self, other: &UsedSlot) -> MergeError {
@@ -138,7 +139,9 @@ pub(crate) fn by_all<T: HasImage>(all: &mut Vec<T>) -> Result<(), Memory>
 pub(crate) fn all_keep_numbers<T: HasImage>(items: &[T]) -> bool
     ensures { IsTrue result ↔ All (λ i. T.image_of i ≡ T.number_of i) items.now }
 {
-    items.iter().all(|item| item.image() == item.number())
+    items
+        .iter()
+        .all(|item| item.image() == u64::from(item.number()))
 }
 
 /// Whether two items have one group and one number.

@@ -1,41 +1,47 @@
 -- What is reported first of two rows, and of two slots, with one image is reported of the least two.
-use Rattle.std.proofs.Common.{◌≡◌, ℕ, Bool, true, false, cond, Option, Some, None, refl, sym, ap, ◌∙◌, subst}
-use Rattle.std.specs.Prelude.{unwrap_or}
-use Rattle.std.specs.List.{filter_map}
+use Rattle.std.proofs.Common.{◌≡◌, ℕ, Bool, true, false, cond, List, [], ◌∷◌, Option, Some, None, refl, sym, ap, ◌∙◌, subst}
+use Rattle.std.specs.Prelude.{not, unwrap_or}
+use Rattle.std.specs.List.{filter, filter_map}
 use Rattle.std.specs.Option.{option_map}
-use Rattle.ppdb_maps.specs.Map.{Map, is_dropped, row_within, slot_image}
+use Rattle.ppdb_maps.specs.Map.{Map, is_dropped, row_image, slot_image}
+use Rattle.ppdb_maps.specs.declared.image.RowImage.{RowImage}
+use Rattle.ppdb_maps.specs.declared.image.RowImage.TheVariants.{Row, Gone, Missing}
 use Rattle.ppdb_merge_names.specs.declared.imaged.Imaged.{Imaged}
 use Rattle.ppdb_merge_names.specs.References.{Reference, references}
 use Rattle.ppdb_merge_items.proofs.Lists.{each_of}
+use Rattle.ppdb_merge_moved.specs.Fits.{may_share}
+use Rattle.ppdb_merge_moved.specs.Moved.{table_in, row_in}
 use Rattle.ppdb_merge_moved.proofs.Lists.{Each-filter_map}
-use Rattle.ppdb_merge_fits.specs.Rows.{image_twice, imaged}
+use Rattle.ppdb_merge_fits.specs.Rows.{image_key, image_twice, imaged, imaged_to}
 use Rattle.ppdb_merge_fits.specs.Slots.{slot_twice, used, variable_slots}
-use Rattle.ppdb_merge_fits_laws.specs.Least.{LeastRowsAreTold, LeastSlotsAreTold, Made}
+use Rattle.ppdb_merge_fits.specs.Twice.{each_once, twice}
+use Rattle.ppdb_merge_fits_laws.specs.Least.{LeastRowsAreTold, LeastSlotsAreTold, Made, TellsLeast}
 use Rattle.ppdb_merge_fits_laws.proofs.Least.{tells_least}
 
 -- ---- rows
 
 abbrev OwnRow : Map → Imaged → Type 0
-OwnRow m i = i.image ≡ unwrap_or (row_within m i.table i.row) 0
+OwnRow m i = row_image m i.table i.row ≡ Row i.to i.image
 
 own_row : (m : Map) (r : Reference) (i : Imaged) → imaged m r ≡ Some i → OwnRow m i
-own_row m r i = step (row_within m r.table r.row) refl
+own_row m r i = step (row_image m r.table r.row) refl
   where
-    with_image : ℕ → Imaged
-    with_image image = record { table = r.table; row = r.row; image = image }
+    step : (o : RowImage) → row_image m r.table r.row ≡ o → imaged_to r o ≡ Some i → OwnRow m i
+    step (Row to image) some is =
+        let same : record { table = r.table; row = r.row; to = to; image = image } ≡ i = cc in subst (OwnRow m) same some
+    step Gone none is = absurd cc
+    step Missing none is = absurd cc
 
-    step : (o : Option ℕ) → row_within m r.table r.row ≡ o → option_map with_image o ≡ Some i → OwnRow m i
-    step None none is = absurd cc
-    step (Some image) some is = let same : with_image image ≡ i = cc in subst (OwnRow m) same (ap (λ o. unwrap_or o 0) (sym some))
-
-one_row : (x y : Imaged) → x.table ≡ y.table → x.row ≡ y.row → x.image ≡ y.image → x ≡ y
-one_row x y t r i =
-    ap (λ z. record { table = z; row = x.row; image = x.image }) t ∙ ap (λ z. record { table = y.table; row = z; image = x.image }) r
-    ∙ ap (λ z. record { table = y.table; row = y.row; image = z }) i
+one_row : (m : Map) (x y : Imaged) → OwnRow m x → OwnRow m y → x.table ≡ y.table → x.row ≡ y.row → x ≡ y
+one_row m x y own also t r =
+    let same : Row x.to x.image ≡ Row y.to y.image =
+    sym own ∙ ap (λ k. row_image m k x.row) t ∙ ap (row_image m y.table) r ∙ also in
+    ap (λ z. record { table = z; row = x.row; to = x.to; image = x.image }) t ∙ ap (λ z. record { table = y.table; row = z; to = x.to; image = x.image }) r
+    ∙ ap (λ z. record { table = y.table; row = y.row; to = table_in z; image = row_in z }) same
 
 pub least_rows : LeastRowsAreTold
 least_rows first m raw =
-    tells_least (λ (i : Imaged). i.table) (λ i. i.row) (λ i. i.image) image_twice (λ table row. unwrap_or (row_within m table row) 0) one_row
+    tells_least (λ (i : Imaged). i.table) (λ i. i.row) image_key image_twice (OwnRow m) (one_row m) (λ i. not (may_share m i.table))
     (filter_map (imaged m) (references first m raw))
     (Each-filter_map (imaged m) (λ r. Unit {0}) (OwnRow m) (λ r i is here. own_row m r i is) (references first m raw)
     (each_of (λ r. Unit {0}) (λ r. tt) (references first m raw)))
@@ -69,13 +75,25 @@ module _ (m : Map) where
   abbrev slot_of : ℕ → ℕ → ℕ → UsedSlot
   slot_of method slot image = record { method = method; slot = slot; image = image }
 
-  one_slot : (x y : UsedSlot) → x.method ≡ y.method → x.slot ≡ y.slot → x.image ≡ y.image → x ≡ y
-  one_slot x y n s i =
+  one_slot : (x y : UsedSlot) → OwnSlot x → OwnSlot y → x.method ≡ y.method → x.slot ≡ y.slot → x ≡ y
+  one_slot x y own also n s =
+      let i : x.image ≡ y.image =
+      own ∙ ap (λ z. unwrap_or (slot_image m z x.slot) 0) n ∙ ap (λ z. unwrap_or (slot_image m y.method z) 0) s ∙ sym also in
       ap (λ z. slot_of z x.slot x.image) n ∙ ap (λ z. slot_of y.method z x.image) s ∙ ap (λ z. slot_of y.method y.slot z) i
+
+-- all are judged
+pass_all : {A : Type 0} (xs : List A) → filter (λ x. true) xs ≡ xs
+pass_all [] = refl
+pass_all (x ∷ xs) = ap (λ l. x ∷ l) (pass_all xs)
 
 pub least_slots : LeastSlotsAreTold
 least_slots m value =
-    tells_least (λ (u : Made (used m)). u.method) (λ u. u.slot) (λ u. u.image) slot_twice (λ method slot. unwrap_or (slot_image m method slot) 0)
-    (one_slot m) (filter_map (used m) (variable_slots value))
+    let all = filter_map (used m) (variable_slots value) in
+    let once = each_once (λ (u : Made (used m)). u.method) (λ u. u.slot) all in
+    let told = twice (λ (u : Made (used m)). u.method) (λ u. u.slot) (λ u. u.image) slot_twice in
+    let Tells = TellsLeast (λ (u : Made (used m)). u.method) (λ u. u.slot) (λ u. u.image) slot_twice in
+    subst (λ l. Tells all (told l)) (pass_all once)
+    (subst (λ l. Tells l (told (filter (λ u. true) once))) (pass_all all)
+    (tells_least (λ (u : Made (used m)). u.method) (λ u. u.slot) (λ u. u.image) slot_twice (OwnSlot m) (one_slot m) (λ u. true) all
     (Each-filter_map (used m) (λ x. Unit {0}) (OwnSlot m) (λ x u is here. own_slot m x u is) (variable_slots value)
-    (each_of (λ x. Unit {0}) (λ x. tt) (variable_slots value)))
+    (each_of (λ x. Unit {0}) (λ x. tt) (variable_slots value)))))

@@ -1,10 +1,11 @@
 -- Of items whose images go by their groups and numbers, what is reported first is reported of the least two.
-use Rattle.std.proofs.Common.{◌≡◌, ℕ, ◌≤◌, true, List, [], ◌∷◌, Some, slice_get, refl, sym, ◌∙◌, ap, inl, inr, arith}
+use Rattle.std.proofs.Common.{◌≡◌, ℕ, ◌≤◌, Bool, true, false, cond, List, [], ◌∷◌, Some, slice_get, refl, sym, ◌∙◌, ap, inl, inr, arith}
 use Rattle.std.specs.Prelude.{nat_eq, Contains}
+use Rattle.std.specs.List.{filter}
 use Rattle.std.proofs.lemmas.Bool.{eqb-true, and_parts}
 use Rattle.ppdb_merge_items.specs.Each.{Each, Pairs}
 use Rattle.ppdb_merge_items.specs.Sorted.{in_order}
-use Rattle.ppdb_merge_items.proofs.Lists.{Each-weaker, Pairs-weaker}
+use Rattle.ppdb_merge_items.proofs.Lists.{Each-filter, Each-weaker, Pairs-weaker}
 use Rattle.ppdb_merge_items.proofs.Orders.{in_order_each}
 use Rattle.ppdb_merge_moved.proofs.Elements.{each_in, in_each}
 use Rattle.ppdb_merge_fits.specs.Twice.{beside, each_once, if_one_image, is_same, twice}
@@ -24,11 +25,35 @@ one_place (n ∷ ns) (m ∷ ms) (inl less) (inr same) = let e = same.0 in absurd
 one_place (n ∷ ns) (m ∷ ms) (inr same) (inl more) = let e = same.0 in absurd (omega (arith, more, e))
 one_place (n ∷ ns) (m ∷ ms) (inr same) (inr also) = ap (λ k. k ∷ ns) same.0 ∙ ap (λ l. m ∷ l) (one_place ns ms same.1 also.1)
 
-module _ {A B : Type 0} (group number image : A → ℕ) (told : A → A → B) (of : ℕ → ℕ → ℕ)
-    (equal : (x y : A) → group x ≡ group y → number x ≡ number y → image x ≡ image y → x ≡ y) (items : List A)
-    (owns : Each (λ x. image x ≡ of (group x) (number x)) items) where
-  abbrev Own : A → Type 0
-  Own x = image x ≡ of (group x) (number x)
+-- what holds of those that pass
+each_passed : {A : Type 0} (q : A → Bool) (P : A → Type 0) (xs : List A) → Each P (filter q xs) → Each (λ x. q x ≡ true → P x) xs
+each_passed q P [] each = tt
+each_passed q P (x ∷ xs) each = step (q x) refl each (λ l. each_passed q P xs l)
+  where
+    step : (b : Bool) → q x ≡ b → Each P (cond b (x ∷ filter q xs) (filter q xs)) → (Each P (filter q xs) → Each (λ x. q x ≡ true → P x) xs)
+        → (q x ≡ true → P x) × Each (λ x. q x ≡ true → P x) xs
+    step true is each on = ((λ passes. each.0), on each.1)
+    step false is each on = ((λ passes. let e : false ≡ true = sym is ∙ passes in absurd cc), on each)
+
+passed : {A : Type 0} (q : A → Bool) (P : A → Type 0) (xs : List A) → Each (λ x. q x ≡ true → P x) xs → Each P (filter q xs)
+passed q P xs each = Each-filter (λ x. q x ≡ true → P x) P q (λ x is holds. holds is) xs each
+
+pairs_passed : {A : Type 0} (q : A → Bool) (R : A → A → Type 0) (xs : List A) → Pairs R xs → Pairs R (filter q xs)
+pairs_passed q R [] pairs = tt
+pairs_passed q R (x ∷ xs) pairs = step (q x) (pairs_passed q R xs pairs.1)
+  where
+    step : (b : Bool) → Pairs R (filter q xs) → Pairs R (cond b (x ∷ filter q xs) (filter q xs))
+    step true rest = (Each-filter (R x) (R x) q (λ y is holds. holds) xs pairs.0, rest)
+    step false rest = rest
+
+-- The images of items that have one group and one number are one; those are judged that pass a test.
+module _ {A B : Type 0} (group number image : A → ℕ) (told : A → A → B) (Own : A → Type 0)
+    (equal : (x y : A) → Own x → Own y → group x ≡ group y → number x ≡ number y → x ≡ y) (q : A → Bool) (all : List A) (owns : Each Own all) where
+  abbrev items : List A
+  items = filter q all
+
+  own_items : Each Own items
+  own_items = Each-filter Own Own q (λ x is own. own) all owns
 
   abbrev Two : A → A → Type 0
   Two = HaveOneImage group number image
@@ -39,10 +64,13 @@ module _ {A B : Type 0} (group number image : A → ℕ) (told : A → A → B) 
   -- ---- the items in the order in which they are looked at
 
   abbrev once : List A
-  once = each_once group number items
+  once = each_once group number all
+
+  abbrev judged : List A
+  judged = filter q once
 
   abbrev sorted : List A
-  sorted = in_order group (in_order image once)
+  sorted = in_order group (in_order image judged)
 
   abbrev Any : A → A → Type 0
   Any a b = Unit {0}
@@ -72,37 +100,40 @@ module _ {A B : Type 0} (group number image : A → ℕ) (told : A → A → B) 
   in_turn : Pairs Order sorted
   in_turn =
       Pairs-weaker (By group (By image ByNumber)) Order order sorted
-      (in_order_by group (By image ByNumber) (in_order image once)
-      (in_order_by image ByNumber once
-      (pairs_once (is_same group number) ByNumber (in_order group (in_order number items))
-      (in_order_by group (By number Any) (in_order number items) (in_order_by number Any items (all_any items))))))
+      (in_order_by group (By image ByNumber) (in_order image judged)
+      (in_order_by image ByNumber judged
+      (pairs_passed q ByNumber once
+      (pairs_once (is_same group number) ByNumber (in_order group (in_order number all))
+      (in_order_by group (By number Any) (in_order number all) (in_order_by number Any all (all_any all)))))))
 
   forth : (P : A → Type 0) → Each P items → Each P sorted
   forth P each =
-      in_order_each group P (in_order image once)
-      (in_order_each image P once
-      (each_kept (is_same group number) P (in_order group (in_order number items))
-      (in_order_each group P (in_order number items) (in_order_each number P items each))))
+      let Q = λ (x : A). q x ≡ true → P x in
+      in_order_each group P (in_order image judged)
+      (in_order_each image P judged
+      (passed q P once
+      (each_kept (is_same group number) Q (in_order group (in_order number all))
+      (in_order_each group Q (in_order number all) (in_order_each number Q all (each_passed q P all each))))))
 
   one : (x y : A) → Own x → Own y → is_same group number x y ≡ true → x ≡ y
   one x y own also is =
       let p = and_parts (nat_eq (group x) (group y)) (nat_eq (number x) (number y)) is in
-      let g = eqb-true (group x) (group y) p.0 in
-      let n = eqb-true (number x) (number y) p.1 in
-      equal x y g n (own ∙ ap (λ z. of z (number x)) g ∙ ap (of (group y)) n ∙ sym also)
+      equal x y own also (eqb-true (group x) (group y) p.0) (eqb-true (number x) (number y) p.1)
 
   back : (P : A → Type 0) → Each P sorted → Each P items
   back P each =
-      order_of number P items
-      (order_of group P (in_order number items)
-      (once_of (is_same group number) Own one P (in_order group (in_order number items))
-      (in_order_each group Own (in_order number items) (in_order_each number Own items owns))
-      (order_of image P once (order_of group P (in_order image once) each))))
+      let Q = λ (x : A). q x ≡ true → P x in
+      passed q P all
+      (order_of number Q all
+      (order_of group Q (in_order number all)
+      (once_of (is_same group number) Own one Q (in_order group (in_order number all))
+      (in_order_each group Own (in_order number all) (in_order_each number Own all owns))
+      (each_passed q P once (order_of image P judged (order_of group P (in_order image judged) each))))))
 
   -- ---- what is reported first
 
   abbrev list : List B
-  list = twice group number image told once
+  list = twice group number image told judged
 
   abbrev Least : A → A → Type 0
   Least = AreLeast group number image items
@@ -133,9 +164,14 @@ module _ {A B : Type 0} (group number image : A → ℕ) (told : A → A → B) 
 
   none_two : list ≡ [] → (a b : A) → Contains items a → Contains items b → Two a b → ⊥
   none_two none a b in_a in_b two =
-      let all = apart group number image told of equal items owns none in
+      let Passes = λ (x : A). q x ≡ true in
+      let apart_all = apart group number image told Own equal Passes all judged (λ P each. each_passed q P once each) owns none in
+      let apart_items = passed q (λ a. Each (OneNumber group number image a) items) all
+      (Each-weaker (λ a. Passes a → Each (λ b. Passes b → OneNumber group number image a b) all)
+      (λ a. Passes a → Each (OneNumber group number image a) items)
+      (λ a each is. passed q (OneNumber group number image a) all (each is)) all apart_all) in
       let n = in_each (OneNumber group number image a) items b
-      (in_each (λ x. Each (OneNumber group number image x) items) items a all in_a) in_b two.groups two.images in
+      (in_each (λ x. Each (OneNumber group number image x) items) items a apart_items in_a) in_b two.groups two.images in
       let less = two.numbers in
       omega (arith, n, less)
 
@@ -145,11 +181,11 @@ module _ {A B : Type 0} (group number image : A → ℕ) (told : A → A → B) 
       let e = one_place (place_of group number image a b) (place_of group number image c d) (ab.least c d cd.first cd.second cd.one_image)
       (cd.least a b ab.first ab.second ab.one_image) in
       let g : group a ≡ group c = cc in
-      let i : image a ≡ image c = cc in
       let n : number a ≡ number c = cc in
       let m : number b ≡ number d = cc in
-      let first = equal a c g n i in
-      let second = equal b d (sym ab.one_image.groups ∙ g ∙ cd.one_image.groups) m (sym ab.one_image.images ∙ i ∙ cd.one_image.images) in
+      let own : (x : A) → Contains items x → Own x = λ x in_x. in_each Own items x own_items in_x in
+      let first = equal a c (own a ab.first) (own c cd.first) g n in
+      let second = equal b d (own b ab.second) (own d cd.second) (sym ab.one_image.groups ∙ g ∙ cd.one_image.groups) m in
       ap (λ z. told z b) first ∙ ap (told c) second
 
   of_least : (t : B) → (a : A) × (b : A) × Least a b × (told a b ≡ t) → slice_get list 0 ≡ Some t

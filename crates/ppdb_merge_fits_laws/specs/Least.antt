@@ -3,7 +3,7 @@ use Rattle.std.specs.Prelude.{◌≡◌, ◌↔◌, ℕ, ◌<◌, ◌⊎◌, Boo
 use Rattle.ppdb_maps.specs.Map.{Map}
 use Rattle.ppdb_values.specs.{RawFile.RawFile, declared.file.FileValue.FileValue}
 use Rattle.ppdb_merge_names.specs.{declared.imaged.Imaged.Imaged, References.references}
-use Rattle.ppdb_merge_fits.specs.{Rows.{imaged, image_twice, images_twice}, Slots.{used, variable_slots, slot_twice, slots_twice}}
+use Rattle.ppdb_merge_fits.specs.{Rows.{imaged, image_key, image_twice, images_twice, unshared}, Slots.{used, variable_slots, slot_twice, slots_twice}}
 
 -- Two items of one group have one image, and the number of the first is less.
 pub record HaveOneImage {A : Type 0} (group number image : A → ℕ) (a b : A) : Type 0 where
@@ -34,10 +34,11 @@ pub record TellsLeast {A B : Type 0} (group number image : A → ℕ) (told : A 
   pub first : (t : B) → (slice_get list 0 ≡ Some t) ↔ ((a : A) × (b : A) × AreLeast group number image items a b × (told a b ≡ t))
   pub nothing : (list ≡ []) ↔ ((a b : A) → Contains items a → Contains items b → HaveOneImage group number image a b → ⊥)
 
--- M2: the rows of the type system that a file names and that have an image.
+-- M2: the rows of the type system that a file names and that have an image, but for those that may share it.
 abbrev pub LeastRowsAreTold : Type 0
 LeastRowsAreTold = (first : Bool) (m : Map) (raw : RawFile)
-    → TellsLeast (λ (i : Imaged). i.table) (λ i. i.row) (λ i. i.image) image_twice (filter_map (imaged m) (references first m raw)) (images_twice first m raw)
+    → TellsLeast (λ (i : Imaged). i.table) (λ i. i.row) image_key image_twice (unshared m (filter_map (imaged m) (references first m raw)))
+    (images_twice first m raw)
 
 -- what a function may make
 abbrev pub Made : {X Y : Type 0} → (X → Option Y) → Type 0

@@ -1,13 +1,13 @@
--- The rows of the type system that a file names (Portable PDB v1.0, "Metadata Tables" and the formats of its blobs), but for those
--- of dropped methods.
-use Rattle.ppdb_values.specs.Names.{TypeToken, Modifier, AsyncStep, MachineRow}
+-- The rows of the type system that a file names (Portable PDB v1.0, "Metadata Tables" and the formats of its blobs), but for those that
+-- stand in what goes: at dropped methods, and where a row is named that has no successor.
+use Rattle.ppdb_values.specs.Names.{list_any, TypeToken, Modifier, AsyncStep, MachineRow}
 use Rattle.std.specs.Prelude.{ℕ, ◌&&◌, ◌||◌, not, Bool, true, false, cond, nat_eq, is_some, List, [], ◌∷◌, ◌++◌, map, filter, flat_map}
-use Rattle.ppdb_maps.specs.Map.{Map, is_dropped, signature_line}
-use Rattle.ppdb_values.specs.{declared.file.MethodValue.MethodValue, declared.scope.{ConstantValue.ConstantValue, ConstantBody.{ConstantBody, TheVariants.{Enumerated, General}}}}
+use Rattle.ppdb_maps.specs.{Map.{Map, is_dropped, signature_line, row_image, is_gone}, declared.image.RowImage.{RowImage, TheVariants.Row}}
+use Rattle.ppdb_values.specs.{declared.file.MethodValue.MethodValue, declared.scope.{ConstantValue.ConstantValue, ConstantBody.{ConstantBody, TheVariants.{Primitive, Enumerated, General}}}}
 use Rattle.ppdb_values.specs.declared.import.{ImportScopeValue.ImportScopeValue, ImportValue.ImportValue}
 use Rattle.ppdb_values.specs.{declared.import.ImportValue.TheVariants.{AssemblyNamespace, Target, AssemblyAlias, AssemblyNamespaceAlias, TargetAlias}, declared.custom.CustomBody.CustomBody}
-use Rattle.ppdb_values.specs.{declared.custom.{CustomBody.TheVariants.Async, CustomValue.CustomValue}, declared.annotation.Annotation.Annotation}
-use Rattle.ppdb_merge_items.specs.declared.file.{AnnotatedScope.AnnotatedScope, AnnotatedFile.AnnotatedFile}
+use Rattle.ppdb_values.specs.{declared.custom.{CustomBody.TheVariants.{Async, TypeDocuments}, CustomValue.CustomValue}, declared.annotation.Annotation.Annotation}
+use Rattle.ppdb_merge_items.specs.{declared.file.{AnnotatedScope.AnnotatedScope, AnnotatedFile.AnnotatedFile}, Annotated.with_item}
 
 pub record Named : Type 0 where
   pub table : ℕ
@@ -43,7 +43,28 @@ abbrev pub in_steps : CustomBody → List Named
 in_steps (Async handler steps) = map (λ (step : AsyncStep). names 0x06 step.method) steps
 in_steps body = []
 
--- ---- what is left of a file without its dropped methods
+-- the record tells the documents of a type
+abbrev pub is_type_documents : CustomBody → Bool
+is_type_documents (TypeDocuments names) = true
+is_type_documents body = false
+
+-- ---- what goes
+
+abbrev pub is_gone_row : Map → ℕ → ℕ → Bool
+is_gone_row m table row = is_gone (row_image m table row)
+
+abbrev pub is_gone_type : Map → TypeToken → Bool
+is_gone_type m token = is_gone_row m token.table token.row
+
+-- the image is a row of this table
+abbrev pub is_in_table : ℕ → RowImage → Bool
+is_in_table table (Row other row) = nat_eq other table
+is_in_table table image = false
+
+-- the image is a row of another table than this
+abbrev pub leaves_table : ℕ → RowImage → Bool
+leaves_table table (Row other row) = not (nat_eq other table)
+leaves_table table image = false
 
 abbrev pub live_method : Map → MethodValue → Bool
 live_method m method = not (is_dropped m method.method)
@@ -54,23 +75,74 @@ live_scope m scope = not (is_dropped m scope.method)
 abbrev pub live_machine : Map → MachineRow → Bool
 live_machine m machine = not (is_dropped m machine.move_next || is_dropped m machine.kickoff)
 
-abbrev pub live_custom : Map → CustomValue → Bool
-live_custom m custom = not (nat_eq custom.parent.table 0x06 && is_dropped m custom.parent.row)
+-- A constant goes where one of its modifiers, or the class or value type that it is of, is gone.
+abbrev pub names_gone_class : Map → ConstantBody → Bool
+names_gone_class m (General code target rest) = is_gone_type m target
+names_gone_class m body = false
 
--- the stored local signature of a method is cut where the method has a `signature` line
+abbrev pub goes_constant : Map → ConstantValue → Bool
+goes_constant m constant = list_any (λ (modifier : Modifier). is_gone_type m modifier.target) constant.modifiers || names_gone_class m constant.body
+
+abbrev pub live_constant : Map → Annotation ConstantValue → Bool
+live_constant m n = not (goes_constant m n.item)
+
+-- An import goes whose assembly or type is gone; so does an alias of an assembly that becomes the module's own (a row of table 20).
+abbrev pub live_import : Map → ImportValue → Bool
+live_import m (AssemblyNamespace assembly namespace) = not (is_gone_row m 0x23 assembly)
+live_import m (Target target) = not (is_gone_type m target)
+live_import m (AssemblyAlias alias assembly) = not (is_gone_row m 0x23 assembly || is_in_table 0x20 (row_image m 0x23 assembly))
+live_import m (AssemblyNamespaceAlias alias assembly namespace) = not (is_gone_row m 0x23 assembly)
+live_import m (TargetAlias alias target) = not (is_gone_type m target)
+live_import m import = true
+
+-- a record of type definition documents whose parent becomes a row of another table ("Type Definition Document")
+abbrev pub leaves_types : Map → CustomValue → Bool
+leaves_types m custom = is_type_documents custom.value && leaves_table custom.parent.table (row_image m custom.parent.table custom.parent.row)
+
+-- A record on a dropped method goes, one on a row that is gone, and one of type definition documents that would leave its table.
+abbrev pub live_custom : Map → CustomValue → Bool
+live_custom m custom =
+    not (nat_eq custom.parent.table 0x06 && is_dropped m custom.parent.row || (is_gone_row m custom.parent.table custom.parent.row || leaves_types m custom))
+
+-- ---- what is left of the parts that stay
+
+-- the stored local signature of a method is cut where the method has a `signature` line, or where the row is gone
 abbrev pub live_signature : Map → MethodValue → ℕ
-live_signature m method = cond (is_some (signature_line m method.method)) 0 method.signature
+live_signature m method = cond (is_some (signature_line m method.method) || is_gone_row m 0x11 method.signature) 0 method.signature
 
 abbrev pub with_live_signature : Map → MethodValue → MethodValue
 with_live_signature m method = record method { signature = live_signature m method }
 
--- What stands at a dropped method goes: points, scopes with what they own, state machines, custom records, and an entry point. So does
--- the stored local signature of a method that has a `signature` line.
+-- a constant of an enumeration that is gone is one of the enumeration's underlying type
+abbrev pub live_body : Map → ConstantBody → ConstantBody
+live_body m (Enumerated code value target) = cond (is_gone_type m target) (Primitive code value) (Enumerated code value target)
+live_body m body = body
+
+abbrev pub with_live_body : Map → ConstantValue → ConstantValue
+with_live_body m constant = record constant { body = live_body m constant.body }
+
+-- the constants that stay, and the imports
+abbrev pub live_constants : Map → List (Annotation ConstantValue) → List (Annotation ConstantValue)
+live_constants m constants = map (with_item (with_live_body m)) (filter (live_constant m) constants)
+
+abbrev pub live_imports : Map → List ImportValue → List ImportValue
+live_imports m imports = filter (live_import m) imports
+
+abbrev pub with_live_constants : Map → AnnotatedScope → AnnotatedScope
+with_live_constants m scope = record scope { constants = live_constants m scope.constants }
+
+abbrev pub with_live_imports : Map → ImportScopeValue → ImportScopeValue
+with_live_imports m scope = record scope { imports = live_imports m scope.imports }
+
+-- What stands at a dropped method goes: points, scopes with what they own, state machines, custom records, and an entry point. So do the
+-- constants, imports and records that name a row that is gone, each constant with the records on it; an import scope stays when its last
+-- import goes. The stored local signature of a method goes that has a `signature` line or whose row is gone.
 abbrev pub live_file : Map → AnnotatedFile → AnnotatedFile
 live_file m file = record file {
   entry = cond (is_dropped m file.entry) 0 file.entry;
   methods = map (with_live_signature m) (filter (live_method m) file.methods);
-  scopes = filter (live_scope m) file.scopes;
+  scopes = map (with_live_constants m) (filter (live_scope m) file.scopes);
+  imports = map (with_item (with_live_imports m)) file.imports;
   machines = filter (live_machine m) file.machines;
   customs = filter (live_custom m) file.customs;
 }

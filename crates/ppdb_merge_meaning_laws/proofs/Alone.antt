@@ -2,7 +2,8 @@
 use Rattle.std.proofs.Common.{◌≡◌, ℕ, zero, suc, ◌≤◌, Bool, true, false, cond, [], ◌∷◌, Option, Some, None, refl, sym, ◌∙◌, ap, subst, arith}
 use Rattle.std.specs.Prelude.{nat_eq, unwrap_or, slice_index, Contains}
 use Rattle.std.proofs.lemmas.Bool.{eqb-true}
-use Rattle.ppdb_maps.specs.Map.{Map, row_within, row_line, signature_line, count_of, moved_row, is_dropped}
+use Rattle.ppdb_maps.specs.declared.image.RowImage.TheVariants.{Row}
+use Rattle.ppdb_maps.specs.Map.{Map, row_image, row_line, signature_line, count_of, moved_row, is_dropped}
 use Rattle.ppdb_values.specs.declared.file.MethodValue.{MethodValue}
 use Rattle.ppdb_values_sound_laws.specs.Sound.{IsSound}
 use Rattle.ppdb_merge_items.specs.declared.file.AnnotatedFile.{AnnotatedFile}
@@ -15,16 +16,16 @@ use Rattle.ppdb_merge_joined.specs.Joinable.{CountsRows}
 use Rattle.ppdb_merge_joined.specs.Joined.{joined}
 use Rattle.ppdb_merge_joined.specs.Laws.{JoinedIsSound}
 use Rattle.ppdb_merge_moved.specs.Fits.{IsImaged}
-use Rattle.ppdb_merge_moved.specs.Moved.{moved_file}
+use Rattle.ppdb_merge_moved.specs.Moved.{moved_file, row_in}
 use Rattle.ppdb_merge_moved.proofs.Elements.{each_in, in_each}
 use Rattle.ppdb_merge_moved.proofs.NamedParts.{NamedParts, named_parts}
 use Rattle.ppdb_merge_moved.proofs.NamedRows.{named_rows_are_rows}
-use Rattle.ppdb_merge_moved.proofs.RowImages.{moved_is_image}
 use Rattle.ppdb_merge_meaning_laws.specs.Alone.{ImagesAreCounted, MovedAloneIsSound}
 use Rattle.ppdb_merge_meaning_laws.specs.Kept.{MovedBy, FitsAlone, joined_inputs}
 use Rattle.ppdb_merge_meaning_laws.proofs.Counts.{moved_counts_sound}
 use Rattle.ppdb_merge_meaning_laws.proofs.Inputs.{can_be_joined, input_sound}
-use Rattle.ppdb_merge_meaning_laws.proofs.MovedRows.{some_moves, all_move}
+use Rattle.ppdb_merge_moved.proofs.ImageRows.{moved_stays, assembly_stays}
+use Rattle.ppdb_merge_meaning_laws.proofs.MovedRows.{Moves, image_names, some_moves, all_move}
 
 -- a dropped method moves to none
 none : (m : Map) (row : ℕ) → is_dropped m row ≡ true → moved_row m 0x06 row ≡ 0
@@ -57,14 +58,28 @@ module _ (annotated : SoundnessIsAnnotated) (law : JoinedIsSound) (input : Moved
   entry_small : file.entry ≤ 16777215
   entry_small = let most = fits.sound.rows.most 0x06 in let entry = fits.sound.entry in omega (arith, most, entry)
 
-  moves : (table row : ℕ) → In (names table row) → Within (names table (moved_row m table row))
-  moves table row is =
-      let imaged = in_each (IsImaged m) (named_rows true m file) (names table row) fits.fits.images is in
-      let low = in_each (λ n. (1 ≤ n.row) × (n.row ≤ 16777215)) (named_rows true m file) (names table row)
-      (named_rows_are_rows true m file (input_sound annotated (true, input) fits) entry_small) is in
-      let small = in_each (λ n. (image : ℕ) → row_within m n.table n.row ≡ Some image → image ≤ slice_index moved.rows n.table)
-      (named_rows true m file) (names table row) counted.rows is in
-      subst (λ r. r ≤ slice_index moved.rows table) (sym (moved_is_image m table row imaged.0 low.0 imaged.1)) (small imaged.0 imaged.1)
+  imaged : (table row : ℕ) → In (names table row) → IsImaged m (names table row)
+  imaged table row is = in_each (IsImaged m) (named_rows true m file) (names table row) fits.fits.images is
+
+  above : (table row : ℕ) → In (names table row) → 1 ≤ row
+  above table row is = (in_each (λ n. (1 ≤ n.row) × (n.row ≤ 16777215)) (named_rows true m file) (names table row)
+      (named_rows_are_rows true m file (input_sound annotated (true, input) fits) entry_small) is).0
+
+  small : (table row : ℕ) → In (names table row) → (to image : ℕ) → row_image m table row ≡ Row to image → image ≤ slice_index moved.rows to
+  small table row is = in_each
+      (λ n. (to image : ℕ) → row_image m n.table n.row ≡ Row to image → image ≤ slice_index moved.rows to) (named_rows true m file) (names table row)
+      counted.rows is
+
+  moves : Moves m In Within
+  moves = record {
+    image = λ table row is. let of = imaged table row is in
+        subst (λ i. Within (image_names i)) (sym of.2) (small table row is of.0 of.1 of.2);
+    row = λ table row apart is. let of = imaged table row is in
+        small table row is table (moved_row m table row) (moved_stays m fits.ready table row of.0 of.1 apart (above table row is) of.2);
+    assembly = λ row is other. let of = imaged 0x23 row is in
+        subst (λ i. row_in i ≤ slice_index moved.rows 0x23) (sym of.2)
+        (subst (λ t. of.1 ≤ slice_index moved.rows t) (assembly_stays m fits.ready row of.0 of.1 of.2 other) (small 0x23 row is of.0 of.1 of.2));
+  }
 
   parts : NamedParts In true m file
   parts = named_parts In true m file (each_in In (named_rows true m file) (λ n is. is))
@@ -87,7 +102,7 @@ module _ (annotated : SoundnessIsAnnotated) (law : JoinedIsSound) (input : Moved
       by_drop : (b : Bool) → is_dropped m file.entry ≡ b → Each In (names_some 0x06 (cond b 0 file.entry))
           → Each Within (names_some 0x06 (moved_row m 0x06 file.entry))
       by_drop true drop each = subst (λ row. Each Within (names_some 0x06 row)) (sym (none m file.entry drop)) tt
-      by_drop false drop each = some_moves m In Within moves 0x06 file.entry each
+      by_drop false drop each = some_moves m fits.ready In Within moves 0x06 file.entry refl each
 
   entry_there : moved.entry ≤ slice_index moved.rows 0x06
   entry_there = by (nat_eq moved.entry 0) refl entry_moves
@@ -100,7 +115,7 @@ module _ (annotated : SoundnessIsAnnotated) (law : JoinedIsSound) (input : Moved
   counts = record {
     rows = moved_counts_sound m fits.ready input.value.rows fits.sound.rows;
     entry = entry_there;
-    named = (all_move m In Within moves true file parts signed, tt);
+    named = (all_move m fits.ready In Within moves true file parts signed, tt);
   }
 
   pub sound_alone : IsSound (joined_inputs (input ∷ []))

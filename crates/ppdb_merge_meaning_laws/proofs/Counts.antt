@@ -1,7 +1,7 @@
 -- The output's row counts.
-use Rattle.std.proofs.Common.{◌≡◌, ℕ, zero, suc, ◌+◌, ◌≤◌, Bool, true, false, cond, List, [], ◌∷◌, Option, Some, None, refl, arith}
+use Rattle.std.proofs.Common.{◌≡◌, ℕ, zero, suc, ◌+◌, ◌≤◌, true, List, [], ◌∷◌, Option, Some, None, refl, arith}
 use Rattle.std.specs.Prelude.{nat_eq, IfSome, get_or, unwrap_or}
-use Rattle.std.specs.List.{find, AllByRecursion}
+use Rattle.std.specs.List.{find}
 use Rattle.std.specs.Option.{option_map}
 use Rattle.std.proofs.lemmas.Bool.{eqb-true}
 use Rattle.ppdb_maps.specs.Map.{Map, output_count}
@@ -9,14 +9,7 @@ use Rattle.ppdb_maps.specs.Readable.{IsReadable, IsCount}
 use Rattle.ppdb_maps.specs.declared.entries.Count.{Count}
 use Rattle.ppdb_values_sound_laws.specs.Sound.{SoundRows}
 use Rattle.ppdb_merge_moved.specs.Moved.{moved_counts}
-
-found_passes : {A : Type 0} (P : A → Type 0) (p : A → Bool) (xs : List A) → AllByRecursion P xs → IfSome (find p xs) (λ x. P x × (p x ≡ true))
-found_passes P p [] all = tt
-found_passes {A} P p (x ∷ xs) all = step (p x) refl (found_passes P p xs all.1)
-  where
-    step : (b : Bool) → p x ≡ b → IfSome (find p xs) (λ x. P x × (p x ≡ true)) → IfSome (cond b (Some x) (find p xs)) (λ x. P x × (p x ≡ true))
-    step true is rest = (all.0, is)
-    step false is rest = rest
+use Rattle.ppdb_merge_moved.proofs.ImageRows.{found_passes}
 
 count_small : (m : Map) → IsReadable m → (table n : ℕ) → n ≤ 16777215 → (0x2d ≤ table → n ≡ 0)
     → (output_count m table n ≤ 16777215) × (0x2d ≤ table → output_count m table n ≡ 0)

@@ -41,10 +41,11 @@ use Rattle.ppdb_merge_moved.proofs.Elements.{in_each}
 use Rattle.ppdb_merge_moved.proofs.Fitting.{fits_file, moved_dropped}
 use Rattle.ppdb_merge_moved.proofs.Means.{files_mean}
 use Rattle.ppdb_merge_moved.proofs.NamedRows.{named_rows_are_rows}
-use Rattle.ppdb_merge_moved.proofs.RowImages.{moved_is_image, row_moved}
+use Rattle.ppdb_merge_moved.proofs.RowImages.{row_moved}
 use Rattle.ppdb_merge_meaning_laws.specs.Kept.{MovedBy, Input, named_by, NamesMethod, FitsAlone, MethodsApart, InputsFit, moved_input, joined_inputs}
 use Rattle.ppdb_merge_meaning_laws.specs.Kept.{InputsKeepMeaning}
 use Rattle.ppdb_merge_meaning_laws.specs.Laws.{SaysNothingOf, SaysTheSame}
+use Rattle.ppdb_merge_moved.proofs.ImageRows.{within_moved}
 use Rattle.ppdb_merge_meaning_laws.proofs.Inputs.{map_split, input_sound, input_names, can_be_joined}
 use Rattle.ppdb_merge_meaning_laws.proofs.LastPoints.{found_each, last_at, last_in}
 use Rattle.ppdb_merge_meaning_laws.proofs.Joins.{joined_means, each_mid, pairs_before, pairs_after, joined_customs}
@@ -126,16 +127,16 @@ module _ (annotated : SoundnessIsAnnotated) (before after : List Input) (i : Inp
   image = in_each (IsImaged m) (named_by i) (names 0x06 method) fits.fits.images named
 
   image_is : row_within m 0x06 method ≡ Some image_row
-  image_is = image.1 ∙ ap Some (sym (moved_is_image m 0x06 method image.0 is_row.0 image.1))
+  image_is = within_moved m fits.ready 0x06 method image.0 image.1 refl is_row.0 image.2
 
   image_there : 1 ≤ image_row
-  image_there = (row_moved m fits.ready 0x06 method is_row.0 is_row.1 image).0
+  image_there = (row_moved m fits.ready 0x06 method is_row.0 is_row.1 (image_row, image_is)).0
 
   file_fits : FitsFile i.0 m w method
   file_fits = fits_file i.0 m w method is_row.0 is_row.1 fits.ready sound fits.fits named
 
   means : MovedMeans m w method
-  means = files_mean i.0 m w method sound file_fits
+  means = files_mean i.0 m w method fits.ready sound file_fits
 
   silent_before : (j : Input) → FitsAlone j → MethodsApart j i → SaysNothingOf image_row (moved_input j)
   silent_before j fits_j apart_j = Each-weaker (IsImageOfNamed j.0 j.1.map (annotated_file j.1.value)) (λ other. other ≢ image_row)
@@ -238,7 +239,7 @@ module _ (annotated : SoundnessIsAnnotated) (before after : List Input) (i : Inp
               let its : IsImaged j.1.map (names 0x06 (annotated_file j.1.value).entry) = in_each (IsImaged j.1.map) (named_by j)
               (names 0x06 (annotated_file j.1.value).entry) fits_j.fits.images there in
               apart_j (annotated_file j.1.value).entry method image_row there named
-              (its.1 ∙ ap Some (sym (moved_is_image j.1.map 0x06 (annotated_file j.1.value).entry its.0 above its.1) ∙ same_row)) image_is
+              (within_moved j.1.map fits_j.ready 0x06 (annotated_file j.1.value).entry its.0 its.1 refl above its.2 ∙ ap Some same_row) image_is
             where
               is_entry : in_entry true (live_file j.1.map (annotated_file j.1.value)) ≡ names 0x06 (annotated_file j.1.value).entry ∷ []
               is_entry = ap (λ b. names_some 0x06 (cond b 0 (annotated_file j.1.value).entry)) stays

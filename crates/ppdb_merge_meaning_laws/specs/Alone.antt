@@ -1,15 +1,15 @@
 -- When a file that is moved alone is sound afterwards.
 use Rattle.std.specs.Prelude.{◌≡◌, ℕ, ◌≤◌, true, [], ◌∷◌, Some, slice_index}
-use Rattle.ppdb_maps.specs.Map.{row_within, signature_line}
+use Rattle.ppdb_maps.specs.{Map.{row_image, signature_line}, declared.image.RowImage.TheVariants.Row}
 use Rattle.ppdb_values.specs.declared.file.MethodValue.{MethodValue}
 use Rattle.ppdb_merge_items.specs.Each.{Each}
 use Rattle.ppdb_values_sound_laws.specs.Sound.{IsSound}
 use Rattle.ppdb_merge_meaning_laws.specs.Kept.{Input, MovedBy, FitsAlone, joined_inputs, moved_input, named_by}
 
--- No image of a row that the input names is above the rows of its table in the output, nor is a local signature that its map gives a method.
+-- No image of a row that the input names is above the rows of the image's table in the output, nor is a local signature that its map gives a method.
 pub record ImagesAreCounted (input : Input) : Type 0 where
   pub rows : Each
-      (λ named. (image : ℕ) → row_within input.1.map named.table named.row ≡ Some image → image ≤ slice_index (moved_input input).rows named.table)
+      (λ named. (table image : ℕ) → row_image input.1.map named.table named.row ≡ Row table image → image ≤ slice_index (moved_input input).rows table)
       (named_by input)
   pub signatures : Each
       (λ (e : MethodValue). (new : ℕ) → signature_line input.1.map e.method ≡ Some new → new ≤ slice_index (moved_input input).rows 0x11)

@@ -3,19 +3,24 @@ use Rattle.std.proofs.Common.{◌≡◌, ℕ, ◌≢◌, ◌&&◌, Bool, true, f
 use Rattle.std.specs.Prelude.{nat_eq, bytes_eq, unwrap_or}
 use Rattle.std.specs.Option.{option_map}
 use Rattle.std.specs.List.{filter, filter_map}
-use Rattle.std.proofs.lemmas.Bool.{eq-eqb, ne_eqb, eqb-true, eqb-false, and_parts, both_ways}
+use Rattle.std.proofs.lemmas.Bool.{eq-eqb, eqb-true, and_parts, both_ways}
 use Rattle.std.proofs.Common.{map}
 use Rattle.ppdb_base.specs.Offsets.{gone}
-use Rattle.ppdb_maps.specs.Map.{Map, moved_row, offsets_in, is_dropped, line_offsets, method_line}
+use Rattle.ppdb_maps.specs.declared.image.RowImage.{RowImage}
+use Rattle.ppdb_maps.specs.declared.image.RowImage.TheVariants.{Row, Gone, Missing}
+use Rattle.ppdb_maps.specs.Readable.{IsReadable}
+use Rattle.ppdb_maps.specs.Map.{Map, row_image, moved_row, offsets_in, is_dropped, line_offsets, method_line}
 use Rattle.custom_info.specs.Kinds.{source_link}
 use Rattle.ppdb_values.specs.Parts.{is_at}
 use Rattle.ppdb_values.specs.declared.custom.CustomBody.TheVariants.{Unread}
 use Rattle.ppdb_values.specs.declared.custom.CustomValue.{CustomValue}
 use Rattle.ppdb_merge_items.specs.Each.{Each}
 use Rattle.ppdb_merge_items.specs.declared.file.AnnotatedFile.{AnnotatedFile}
+use Rattle.ppdb_merge_items.specs.NamedRows.{live_custom}
 use Rattle.ppdb_merge_items.proofs.Lists.{Each-filter, Each-weaker}
-use Rattle.ppdb_merge_moved.specs.Moved.{is_link, linked, moved_body, moved_custom, moved_file}
-use Rattle.ppdb_merge_moved.specs.FitsMethod.{FitsCustom}
+use Rattle.ppdb_merge_moved.specs.Moved.{is_link, linked, moved_body, moved_custom, moved_file, moved_parent, row_in, table_in}
+use Rattle.ppdb_merge_moved.specs.FitsMethod.{FitsCustom, MovesAsMethod}
+use Rattle.ppdb_merge_moved.proofs.ImageRows.{lives_on_method, method_moves, never_method}
 use Rattle.ppdb_merge_moved.proofs.Lists.{Alike, filter-filter_map, filter_map-map}
 
 abbrev pub on : ℕ → CustomValue → Bool
@@ -23,7 +28,7 @@ on method c = nat_eq c.parent.table 0x06 && nat_eq c.parent.row method
 
 abbrev pub image_of : Map → CustomValue → CustomValue
 image_of m c = record {
-  parent = record { table = c.parent.table; row = moved_row m c.parent.table c.parent.row };
+  parent = moved_parent m c.parent;
   kind = c.kind;
   value = moved_body m c.parent.row c.value;
 }
@@ -36,12 +41,11 @@ not_dropped m method live = of (is_dropped m method) refl
     of false is = refl
     of true is = absurd (live (ap (λ c. cond c gone (line_offsets (method_line m method))) is))
 
-pub goes_not : (m : Map) (method : ℕ) → (offsets_in m method ≢ gone) → (c : CustomValue) → on method c ≡ true
-    → nat_eq c.parent.table 0x06 && is_dropped m c.parent.row ≡ false
-goes_not m method live c is =
+pub lives : (m : Map) → IsReadable m → (method : ℕ) → (offsets_in m method ≢ gone) → (c : CustomValue) → on method c ≡ true → live_custom m c ≡ true
+lives m ready method live c is =
     let parts = and_parts (nat_eq c.parent.table 0x06) (nat_eq c.parent.row method) is in
     let same : c.parent.row ≡ method = eqb-true c.parent.row method parts.1 in
-    rw parts.0 (subst (λ n. is_dropped m n ≡ false) (sym same) (not_dropped m method live))
+    lives_on_method m ready c (eqb-true c.parent.table 0x06 parts.0) (subst (λ n. is_dropped m n ≡ false) (sym same) (not_dropped m method live))
 
 -- a record on a method is none on a row of Module
 pub linked_on : (m : Map) (method : ℕ) (c : CustomValue) → on method c ≡ true → linked m c ≡ c
@@ -53,42 +57,70 @@ linked_on m method c is = ap (λ b. record c { value = unwrap_or (option_map Unr
     not_link : is_link c ≡ false
     not_link = ap (λ t. is_at 0x00 1 (record { table = t; row = c.parent.row }) && bytes_eq c.kind source_link) six
 
-pub custom_alike : (m : Map) (method : ℕ) → (offsets_in m method ≢ gone) → (c : CustomValue) → FitsCustom m method c
-    → Alike (on (moved_row m 0x06 method)) (moved_custom m c) (on method c)
-custom_alike m method live c fits = by_going (nat_eq c.parent.table 0x06 && is_dropped m c.parent.row) refl (on method c) refl
+-- a record whose parent's image is the method's is on the method
+own_parent : (m : Map) → IsReadable m → (method : ℕ) → MovesAsMethod m method → (c : CustomValue) → FitsCustom m method c
+    → on (moved_row m 0x06 method) (image_of m c) ≡ on method c
+own_parent m ready method image c fits = by (row_image m c.parent.table c.parent.row) refl (on method c) refl
   where
-    table_of : (a : Bool) → nat_eq c.parent.table 0x06 ≡ a → (b : Bool) → nat_eq c.parent.row method ≡ b
-        → a && nat_eq (moved_row m c.parent.table c.parent.row) (moved_row m 0x06 method) ≡ a && b
-    table_of false apart b row = refl
-    table_of true six true row =
-        let t : c.parent.table ≡ 6 = eqb-true c.parent.table 6 six in
-        let r : c.parent.row ≡ method = eqb-true c.parent.row method row in
-        eq-eqb (moved_row m c.parent.table c.parent.row) (moved_row m 0x06 method) (ap (λ n. moved_row m n c.parent.row) t ∙ ap (moved_row m 0x06) r)
-    table_of true six false row =
-        let t : c.parent.table ≡ 6 = eqb-true c.parent.table 6 six in
-        ne_eqb (moved_row m c.parent.table c.parent.row) (moved_row m 0x06 method)
-        (λ e. eqb-false c.parent.row method row (fits.own t (sym (ap (λ n. moved_row m n c.parent.row) t) ∙ e)))
+    on_image : (i : RowImage) → Bool
+    on_image i = nat_eq (table_in i) 0x06 && nat_eq (row_in i) (moved_row m 0x06 method)
 
-    by_going : (b : Bool) → nat_eq c.parent.table 0x06 && is_dropped m c.parent.row ≡ b → (d : Bool) → on method c ≡ d
-        → Alike (on (moved_row m 0x06 method)) (cond b None (Some (image_of m (linked m c)))) (on method c)
-    by_going true goes false is = is
-    by_going true goes true is = absurd (both_ways (nat_eq c.parent.table 0x06 && is_dropped m c.parent.row) (goes_not m method live c is) goes)
-    by_going false stays d is = table_of (nat_eq c.parent.table 0x06) refl (nat_eq c.parent.row method) refl
+    of_method : on method c ≡ true → row_image m c.parent.table c.parent.row ≡ Row 0x06 (moved_row m 0x06 method)
+    of_method is =
+        let parts = and_parts (nat_eq c.parent.table 0x06) (nat_eq c.parent.row method) is in
+        ap (λ t. row_image m t c.parent.row) (eqb-true c.parent.table 0x06 parts.0) ∙ ap (row_image m 0x06) (eqb-true c.parent.row method parts.1) ∙ image
 
-pub custom_stays : (m : Map) (method : ℕ) → (offsets_in m method ≢ gone) → (c : CustomValue) → on method c ≡ true → moved_custom m c ≡ Some (image_of m c)
-custom_stays m method live c is =
-    ap (λ b. cond b None (Some (image_of m (linked m c)))) (goes_not m method live c is) ∙ ap (λ d. Some (image_of m d)) (linked_on m method c is)
+    -- another record's image is not there
+    other : (t r : ℕ) → row_image m c.parent.table c.parent.row ≡ Row t r → on method c ≡ false → (a : Bool) → nat_eq t 0x06 ≡ a
+        → (b : Bool) → nat_eq r (moved_row m 0x06 method) ≡ b → a && b ≡ false
+    other t r is apart false six b row = refl
+    other t r is apart true six false row = refl
+    other t r is apart true six true row = absurd (both_ways (on method c) apart (rw (eq-eqb c.parent.table 0x06 from, eq-eqb c.parent.row method same) refl))
+      where
+        there : row_image m c.parent.table c.parent.row ≡ Row 0x06 r
+        there = is ∙ ap (λ n. Row n r) (eqb-true t 0x06 six)
+
+        from : c.parent.table ≡ 0x06
+        from = never_method m ready c.parent.table c.parent.row r there
+
+        moves : moved_row m 0x06 c.parent.row ≡ r
+        moves = method_moves m ready c.parent.row r (ap (λ n. row_image m n c.parent.row) (sym from) ∙ there)
+
+        same : c.parent.row ≡ method
+        same = fits.own from (moves ∙ eqb-true r (moved_row m 0x06 method) row)
+
+    by : (i : RowImage) → row_image m c.parent.table c.parent.row ≡ i → (d : Bool) → on method c ≡ d → on_image (row_image m c.parent.table c.parent.row) ≡ on method c
+    by i is true here = ap on_image (of_method here) ∙ eq-eqb (moved_row m 0x06 method) (moved_row m 0x06 method) refl ∙ sym here
+    by (Row t r) is false apart = ap on_image is ∙ other t r is apart (nat_eq t 0x06) refl (nat_eq r (moved_row m 0x06 method)) refl ∙ sym apart
+    by Gone is false apart = ap on_image is ∙ sym apart
+    by Missing is false apart = ap on_image is ∙ sym apart
+
+pub custom_alike : (m : Map) → IsReadable m → (method : ℕ) → MovesAsMethod m method → (offsets_in m method ≢ gone) → (c : CustomValue) → FitsCustom m method c
+    → Alike (on (moved_row m 0x06 method)) (moved_custom m c) (on method c)
+custom_alike m ready method image live c fits = by_living (live_custom m (linked m c)) refl (on method c) refl
+  where
+    by_living : (b : Bool) → live_custom m (linked m c) ≡ b → (d : Bool) → on method c ≡ d
+        → Alike (on (moved_row m 0x06 method)) (cond b (Some (image_of m (linked m c))) None) (on method c)
+    by_living true stays d is = own_parent m ready method image c fits
+    by_living false goes false is = is
+    by_living false goes true is = absurd (both_ways (live_custom m (linked m c)) goes (lives m ready method live (linked m c) is))
+
+pub custom_stays : (m : Map) → IsReadable m → (method : ℕ) → (offsets_in m method ≢ gone) → (c : CustomValue) → on method c ≡ true
+    → moved_custom m c ≡ Some (image_of m c)
+custom_stays m ready method live c is =
+    ap (λ b. cond b (Some (image_of m (linked m c))) None) (lives m ready method live (linked m c) is) ∙ ap (λ d. Some (image_of m d)) (linked_on m method c is)
 
 -- the records on the image of a method are the images of those on the method
-pub records_moved : (m : Map) (w : AnnotatedFile) (method : ℕ) → (offsets_in m method ≢ gone) → Each (FitsCustom m method) w.customs
+pub records_moved : (m : Map) (w : AnnotatedFile) (method : ℕ) → IsReadable m → MovesAsMethod m method → (offsets_in m method ≢ gone)
+    → Each (FitsCustom m method) w.customs
     → filter (on (moved_row m 0x06 method)) (moved_file m w).customs ≡ map (image_of m) (filter (on method) w.customs)
-records_moved m w method live fits = moved_on ∙ stays
+records_moved m w method ready image live fits = moved_on ∙ stays
   where
     moved_on : filter (on (moved_row m 0x06 method)) (filter_map (moved_custom m) w.customs) ≡ filter_map (moved_custom m) (filter (on method) w.customs)
     moved_on = filter-filter_map (moved_custom m) (on method) (on (moved_row m 0x06 method)) w.customs
         (Each-weaker (FitsCustom m method) (λ c. Alike (on (moved_row m 0x06 method)) (moved_custom m c) (on method c))
-        (λ c f. custom_alike m method live c f) w.customs fits)
+        (λ c f. custom_alike m ready method image live c f) w.customs fits)
 
     stays : filter_map (moved_custom m) (filter (on method) w.customs) ≡ map (image_of m) (filter (on method) w.customs)
     stays = filter_map-map (moved_custom m) (image_of m) (filter (on method) w.customs)
-        (Each-filter (FitsCustom m method) (λ c. moved_custom m c ≡ Some (image_of m c)) (on method) (λ c is f. custom_stays m method live c is) w.customs fits)
+        (Each-filter (FitsCustom m method) (λ c. moved_custom m c ≡ Some (image_of m c)) (on method) (λ c is f. custom_stays m ready method live c is) w.customs fits)

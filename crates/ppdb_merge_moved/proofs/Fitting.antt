@@ -1,5 +1,5 @@
 -- What a map that fits a file says of a method that the file names.
-use Rattle.std.proofs.Common.{◌≡◌, ◌≢◌, ℕ, zero, suc, ◌<◌, ◌≤◌, ◌&&◌, not, Bool, true, false, cond, List, [], ◌∷◌, Option, Some, None, refl}
+use Rattle.std.proofs.Common.{◌≡◌, ◌≢◌, ℕ, zero, suc, ◌<◌, ◌≤◌, Bool, true, false, cond, List, [], ◌∷◌, Option, Some, None, refl}
 use Rattle.std.proofs.Common.{sym, ◌∙◌, ap, subst, arith}
 use Rattle.std.specs.Prelude.{nat_eq, All, AllPairs, IfSome, unwrap_or, Contains}
 use Rattle.std.specs.List.{repeat}
@@ -13,6 +13,7 @@ use Rattle.custom_info.specs.declared.slots.Slot.TheVariants.{Empty, Held}
 use Rattle.custom_info.specs.HoistedScopes.{IsSlot}
 use Rattle.custom_info.specs.Kinds.{kind_of}
 use Rattle.ppdb_maps.specs.Map.{Map, MethodLine, moved_row, row_line, count_of, offsets_in, is_dropped, line_offsets, method_line}
+use Rattle.ppdb_maps.specs.declared.image.RowImage.TheVariants.{Row}
 use Rattle.ppdb_maps.specs.Readable.{IsReadable, IsLineOf}
 use Rattle.ppdb_tables.specs.declared.rows.MachineRow.{MachineRow}
 use Rattle.sequence_points.specs.declared.point.Point.{Point}
@@ -33,11 +34,12 @@ use Rattle.ppdb_merge_items.specs.Unannotated.{value_of_annotated}
 use Rattle.ppdb_merge_moved.specs.Laws.{FitsAreOfMethods}
 use Rattle.ppdb_merge_items.proofs.Lists.{Each-weaker}
 use Rattle.ppdb_merge_moved.specs.Fits.{Fits, IsImaged, AreWithin, EndsWithin}
-use Rattle.ppdb_merge_moved.specs.FitsMethod.{FitsScope, FitsMethod, FitsSlot, FitsSlots, FitsCustom, FitsEntry, FitsMachine}
+use Rattle.ppdb_merge_moved.specs.FitsMethod.{MovesAsMethod, FitsScope, FitsMethod, FitsSlot, FitsSlots, FitsCustom, FitsEntry, FitsMachine}
 use Rattle.ppdb_merge_moved.proofs.Elements.{each_in, in_each}
 use Rattle.ppdb_merge_moved.proofs.NamedParts.{NamedParts, named_parts}
 use Rattle.ppdb_merge_moved.proofs.RisingPoints.{points_are_rising}
-use Rattle.ppdb_merge_moved.proofs.RowImages.{found_holds, moved_is_image, row_moved}
+use Rattle.ppdb_merge_moved.proofs.ImageRows.{lives_on_method, no_shared_method, moved_stays, within}
+use Rattle.ppdb_merge_moved.proofs.RowImages.{IsWithin, found_holds, moved_is_image, row_moved}
 use Rattle.ppdb_merge_moved.proofs.Lists.{each_of_three}
 
 -- ---- readable maps
@@ -77,11 +79,17 @@ module _ (first : Bool) (m : Map) (w : AnnotatedFile) (method : ℕ) (above : 1 
   image : IsImaged m (names 0x06 method)
   image = in_each (IsImaged m) (named_rows first m w) (names 0x06 method) fits.images named
 
-  image_is : moved_row m 0x06 method ≡ image.0
-  image_is = moved_is_image m 0x06 method image.0 above image.1
+  moves_to : IsWithin m 0x06 method
+  moves_to = within m ready 0x06 method refl image
+
+  image_is : moved_row m 0x06 method ≡ moves_to.0
+  image_is = moved_is_image m 0x06 method moves_to.0 above moves_to.1
 
   image_there : 1 ≤ moved_row m 0x06 method
-  image_there = (row_moved m ready 0x06 method above below image).0
+  image_there = (row_moved m ready 0x06 method above below moves_to).0
+
+  moves : MovesAsMethod m method
+  moves = moved_stays m ready 0x06 method image.0 image.1 refl above image.2
 
   stays : is_dropped m method ≡ false
   stays = by_drop (is_dropped m method) refl
@@ -91,8 +99,8 @@ module _ (first : Bool) (m : Map) (w : AnnotatedFile) (method : ℕ) (above : 1 
 
       by_drop : (b : Bool) → is_dropped m method ≡ b → b ≡ false
       by_drop false is = refl
-      by_drop true is = absurd (none_some image.0
-          (sym (ap (λ b. cond b None (elim (count_of m 0x06) as (λ _. Option ℕ) [ None ↦ Some method | Some count ↦ row_line m 0x06 method ])) is) ∙ image.1))
+      by_drop true is = absurd (none_some moves_to.0
+          (sym (ap (λ b. cond b None (elim (count_of m 0x06) as (λ _. Option ℕ) [ None ↦ Some method | Some count ↦ row_line m 0x06 method ])) is) ∙ moves_to.1))
 
   live : offsets_in m method ≢ gone
   live e = by_line (method_line m method) (sym (ap (λ b. cond b gone (line_offsets (method_line m method))) stays) ∙ e)
@@ -106,9 +114,8 @@ module _ (first : Bool) (m : Map) (w : AnnotatedFile) (method : ℕ) (above : 1 
   own_named zero is same = absurd (omega (arith, image_there, same))
   own_named (suc row) is same =
       let i : IsImaged m (names 0x06 (suc row)) = in_each (IsImaged m) (named_rows first m w) (names 0x06 (suc row)) fits.images is in
-      let moved : moved_row m 0x06 (suc row) ≡ i.0 = moved_is_image m 0x06 (suc row) i.0 (omega arith) i.1 in
-      let equal : i.0 ≡ image.0 = sym moved ∙ same ∙ image_is in
-      fits.apart (names 0x06 (suc row)) (names 0x06 method) is named image.0 refl (i.1 ∙ ap Some equal) image.1
+      fits.apart (names 0x06 (suc row)) (names 0x06 method) is named 0x06 (moved_row m 0x06 method) refl (no_shared_method m)
+      (moved_stays m ready 0x06 (suc row) i.0 i.1 refl (omega arith) i.2 ∙ ap (Row 0x06) same) moves
 
   own : (row : ℕ) → (is_dropped m row ≡ false → In (names 0x06 row)) → moved_row m 0x06 row ≡ moved_row m 0x06 method → row ≡ method
   own row there same = by_drop (is_dropped m row) refl
@@ -172,20 +179,17 @@ module _ (first : Bool) (m : Map) (w : AnnotatedFile) (method : ℕ) (above : 1 
   body_fits value offsets kind (TypeDocuments rows) sound within = tt
   body_fits value offsets kind (Unread bytes) sound within = tt
 
-  and_no : (b : Bool) → not (b && false) ≡ true
-  and_no true = refl
-  and_no false = refl
-
   custom_fits : (value : FileValue) (c : CustomValue) → SoundCustom value c → AreWithin (old_size (offsets_in m c.parent.row)) c.value
       → (live_custom m c ≡ true → In (names c.parent.table c.parent.row)) → FitsCustom m method c
   custom_fits value c sound within there = record {
     own = λ six. own c.parent.row (λ alive. subst (λ t. In (names t c.parent.row)) six
-        (there (ap (λ d. not (nat_eq c.parent.table 0x06 && d)) alive ∙ and_no (nat_eq c.parent.table 0x06))));
+        (there (lives_on_method m ready c six alive)));
     slots = body_fits value (offsets_in m c.parent.row) (kind_of [] c.kind) c.value sound.body within;
   }
 
 pub fits_file : FitsAreOfMethods
 fits_file first m w method above below ready sound fits named = record {
+  image = moves first m w method above below ready fits named;
   rise = offsets_rise m ready method;
   live = live first m w method above below ready fits named;
   entry = entry_fits first m w method above below ready fits named;

@@ -1,6 +1,7 @@
 pub mod Customs
 pub mod Elements
 pub mod Fitting
+pub mod ImageRows
 pub mod Links
 pub mod Lists
 pub mod Meanings

@@ -209,11 +209,11 @@ notes_moved m method (d ∷ ds) each = step d.value refl (notes_moved m method d
         rw same (by_kind (is_none (slots_in d.value)) refl rest)
 
 pub links_mean : LinksMoved
-links_mean m w method live machines moves_differ kickoffs_differ customs = record {
+links_mean m w method ready image live machines moves_differ kickoffs_differ customs = record {
   kickoff = kickoffs_moved m w.machines method live machines moves_differ;
   move_next = moves_moved m w.machines method live machines kickoffs_differ;
   entry = λ own. same_row m w.entry method own;
-  customs = ap (λ l. map without_parent (filter is_plain l)) (records_moved m w method live customs) ∙ notes_moved m method (filter (on method) w.customs) own;
+  customs = ap (λ l. map without_parent (filter is_plain l)) (records_moved m w method ready image live customs) ∙ notes_moved m method (filter (on method) w.customs) own;
 }
   where
     own : Each (λ c. c.parent.row ≡ method) (filter (on method) w.customs)

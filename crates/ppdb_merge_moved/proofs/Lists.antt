@@ -2,6 +2,7 @@
 use Rattle.std.proofs.Common.{◌≡◌, Bool, true, false, cond, List, [], ◌∷◌, Option, Some, None, refl, ap, map, length, arith}
 use Rattle.std.specs.List.{filter, filter_map, cons_option, refill}
 use Rattle.ppdb_merge_items.specs.Each.{Each, Pairs}
+use Rattle.ppdb_merge_items.proofs.Lists.{Each-filter}
 
 -- an item passes as its image does, and goes only where it does not pass
 abbrev pub Alike : {B : Type 0} → (B → Bool) → Option B → Bool → Type 0
@@ -62,6 +63,15 @@ Pairs-filter_map f P R S kept (x ∷ xs) each pairs = step (f x) refl (Pairs-fil
       Each-filter_map f (λ u. P u × R x u) (S y) (λ u v is_v both. kept x u y v is is_v each.0 both.0 both.1) xs (Each-both P (R x) xs each.1 pairs.0),
       rest,
     )
+
+-- what holds of each item, and of pairs of items, holds where items go
+pub Pairs-filter : {A : Type 0} (R : A → A → Type 0) (p : A → Bool) (xs : List A) → Pairs R xs → Pairs R (filter p xs)
+Pairs-filter R p [] pairs = tt
+Pairs-filter R p (x ∷ xs) pairs = step (p x) (Pairs-filter R p xs pairs.1)
+  where
+    step : (b : Bool) → Pairs R (filter p xs) → Pairs R (cond b (x ∷ filter p xs) (filter p xs))
+    step true rest = (Each-filter (R x) (R x) p (λ y is holds. holds) xs pairs.0, rest)
+    step false rest = rest
 
 -- each of several facts of an item give one more
 pub each_of_three : {A : Type 0} (P Q R S : A → Type 0) (xs : List A) → ((x : A) → P x → Q x → R x → S x) → Each P xs → Each Q xs → Each R xs → Each S xs

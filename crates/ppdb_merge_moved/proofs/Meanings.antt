@@ -8,6 +8,7 @@ use Rattle.ppdb_values.specs.declared.annotation.Annotation.{Annotation}
 use Rattle.ppdb_merge_items.specs.declared.file.AnnotatedScope.{AnnotatedScope}
 use Rattle.ppdb_merge_items.specs.declared.file.AnnotatedFile.{AnnotatedFile}
 use Rattle.ppdb_merge_items.specs.Annotated.{with_item}
+use Rattle.ppdb_merge_items.specs.NamedRows.{live_imports}
 use Rattle.ppdb_merge_moved.specs.Moved.{moved_import, moved_import_scope, scope_image, moved_file}
 use Rattle.ppdb_merge_moved.specs.Images.{scope_image as scope_image_meaning}
 use Rattle.ppdb_merge_items.specs.AnnotatedMeaning.{chain, imported, scope_meaning, scopes_at, held as holds}
@@ -35,9 +36,9 @@ length_map f [] = refl
 length_map f (x ∷ xs) = ap suc (length_map f xs)
 
 imported_moved : (m : Map) (links : List (Annotation ImportScopeValue))
-    → map imported (map (with_item (moved_import_scope m)) links) ≡ map (with_item (map (moved_import m))) (map imported links)
+    → map imported (map (with_item (moved_import_scope m)) links) ≡ map (with_item (λ imports. map (moved_import m) (live_imports m imports))) (map imported links)
 imported_moved m [] = refl
-imported_moved m (l ∷ ls) = ap (λ r. record { item = map (moved_import m) l.item.imports; customs = l.customs } ∷ r) (imported_moved m ls)
+imported_moved m (l ∷ ls) = ap (λ r. record { item = map (moved_import m) (live_imports m l.item.imports); customs = l.customs } ∷ r) (imported_moved m ls)
 
 scope_moved : (m : Map) (w : AnnotatedFile) (s : AnnotatedScope) → scope_meaning (moved_file m w) (scope_image m s) ≡ scope_image_meaning m s.method (scope_meaning w s)
 scope_moved m w s =

@@ -23,9 +23,9 @@ kept_within gone rise x y none = absurd none
 kept_within (lined runs old new) rise x y kept = omega (arith, kept_below runs old new rise x y kept)
 
 pub files_mean : FilesMean
-files_mean first m w method sound fits = record {
+files_mean first m w method ready sound fits = record {
   meaning = means;
-  links = links_mean m w method fits.live fits.machines sound.moved_differ sound.kickoffs_differ fits.customs;
+  links = links_mean m w method ready fits.image fits.live fits.machines sound.moved_differ sound.kickoffs_differ fits.customs;
 }
   where
     differ : Pairs (λ (a b : MethodValue). b.method ≢ a.method) w.methods
@@ -56,4 +56,4 @@ files_mean first m w method sound fits = record {
               (meaning_image m method (annotated_meaning w method x)).scopes;
           slots = s;
         })
-        (slots_mean m w method fits.rise fits.live x y kept at fits.customs)
+        (slots_mean m w method ready fits.image fits.rise fits.live x y kept at fits.customs)

@@ -1,8 +1,7 @@
 -- What holds of each row that a file names, part by part of the file.
-use Rattle.std.proofs.Common.{◌≡◌, ℕ, ◌++◌, not, Bool, true, false, cond, List, [], ◌∷◌, Option, None, ap, flat_map, map}
-use Rattle.std.specs.Prelude.{is_some}
+use Rattle.std.proofs.Common.{◌≡◌, ◌++◌, not, Bool, true, false, List, [], ◌∷◌, ap, flat_map, map}
 use Rattle.std.specs.List.{filter}
-use Rattle.ppdb_maps.specs.Map.{Map, is_dropped, signature_line}
+use Rattle.ppdb_maps.specs.Map.{Map, is_dropped}
 use Rattle.ppdb_tables.specs.declared.rows.MachineRow.{MachineRow}
 use Rattle.ppdb_values.specs.declared.custom.CustomValue.{CustomValue}
 use Rattle.ppdb_values.specs.declared.file.MethodValue.{MethodValue}
@@ -12,20 +11,18 @@ use Rattle.ppdb_merge_items.specs.declared.file.AnnotatedScope.{AnnotatedScope}
 use Rattle.ppdb_merge_items.specs.declared.file.AnnotatedFile.{AnnotatedFile}
 use Rattle.ppdb_merge_items.specs.Each.{Each}
 use Rattle.ppdb_merge_items.specs.NamedRows.{Named, names, names_some, named_rows, in_entry, in_constant, in_import, in_steps, all_named, live_file, live_method}
+use Rattle.ppdb_merge_items.specs.Annotated.{with_item}
 use Rattle.ppdb_merge_items.specs.NamedRows.{live_scope, live_machine, live_custom, live_signature, with_live_signature}
+use Rattle.ppdb_merge_items.specs.NamedRows.{live_constants, live_imports, with_live_constants, with_live_imports}
 use Rattle.ppdb_merge_items.proofs.Lists.{Each-weaker, Each-unmap}
 use Rattle.ppdb_merge_moved.proofs.Elements.{each_parts, each_made, each_left}
-
--- a local signature is looked at where the method has no `signature` line
-pub unsigned : (m : Map) (e : MethodValue) → signature_line m e.method ≡ None → live_signature m e ≡ e.signature
-unsigned m e is = ap (λ (o : Option ℕ). cond (is_some o) 0 e.signature) is
 
 pub record NamedParts (P : Named → Type 0) (first : Bool) (m : Map) (w : AnnotatedFile) : Type 0 where
   pub entry : Each P (in_entry first (live_file m w))
   pub methods : Each (λ e. is_dropped m e.method ≡ false → P (names 0x06 e.method) × Each P (names_some 0x11 (live_signature m e))) w.methods
   pub scopes : Each (λ s. is_dropped m s.method ≡ false → P (names 0x06 s.method)) w.scopes
-  pub constants : Each (λ s. is_dropped m s.method ≡ false → Each (λ n. Each P (in_constant n)) s.constants) w.scopes
-  pub imports : Each (λ (i : Annotation ImportScopeValue). Each (λ n. Each P (in_import n)) i.item.imports) w.imports
+  pub constants : Each (λ s. is_dropped m s.method ≡ false → Each (λ n. Each P (in_constant n)) (live_constants m s.constants)) w.scopes
+  pub imports : Each (λ (i : Annotation ImportScopeValue). Each (λ n. Each P (in_import n)) (live_imports m i.item.imports)) w.imports
   pub machines : Each (λ r. live_machine m r ≡ true → P (names 0x06 r.move_next) × P (names 0x06 r.kickoff)) w.machines
   pub customs : Each (λ c. live_custom m c ≡ true → P (names c.parent.table c.parent.row) × Each P (in_steps c.value)) w.customs
 
@@ -38,9 +35,9 @@ pub named_parts : (P : Named → Type 0) (first : Bool) (m : Map) (w : Annotated
 named_parts P first m w each =
     let entry = each_parts P (in_entry first (live_file m w)) (all_named (live_file m w)) each in
     let methods = each_parts P (flat_map of_method (map (with_live_signature m) (filter (live_method m) w.methods))) (from_scopes) entry.1 in
-    let scopes = each_parts P (map (λ (s : AnnotatedScope). names 0x06 s.method) (filter (live_scope m) w.scopes)) (from_constants) methods.1 in
-    let constants = each_parts P (flat_map of_constants (filter (live_scope m) w.scopes)) (from_imports) scopes.1 in
-    let imports = each_parts P (flat_map of_imports w.imports) (from_machines) constants.1 in
+    let scopes = each_parts P (map (λ (s : AnnotatedScope). names 0x06 s.method) live_scopes) (from_constants) methods.1 in
+    let constants = each_parts P (flat_map of_constants live_scopes) (from_imports) scopes.1 in
+    let imports = each_parts P (flat_map of_imports (map (with_item (with_live_imports m)) w.imports)) (from_machines) constants.1 in
     let machines = each_parts P (flat_map of_machine (filter (live_machine m) w.machines)) (flat_map of_custom (filter (live_custom m) w.customs)) imports.1 in
     record {
       entry = entry.0;
@@ -53,12 +50,19 @@ named_parts P first m w each =
       scopes = Each-weaker (λ s. live_scope m s ≡ true → P (names 0x06 s.method)) (λ s. is_dropped m s.method ≡ false → P (names 0x06 s.method))
           (λ s holds is. holds (ap not is)) w.scopes
           (each_left (λ s. P (names 0x06 s.method)) (live_scope m) w.scopes
-          (Each-unmap (λ (s : AnnotatedScope). names 0x06 s.method) P (filter (live_scope m) w.scopes) scopes.0));
-      constants = Each-weaker (λ s. live_scope m s ≡ true → Each P (of_constants s))
-          (λ s. is_dropped m s.method ≡ false → Each (λ n. Each P (in_constant n)) s.constants)
-          (λ s holds is. each_made in_constant P s.constants (holds (ap not is))) w.scopes (live_made (live_scope m) of_constants P w.scopes constants.0);
-      imports = Each-weaker (λ i. Each P (of_imports i)) (λ (i : Annotation ImportScopeValue). Each (λ n. Each P (in_import n)) i.item.imports)
-          (λ i holds. each_made in_import P i.item.imports holds) w.imports (each_made of_imports P w.imports imports.0);
+          (Each-unmap (with_live_constants m) (λ s. P (names 0x06 s.method)) (filter (live_scope m) w.scopes)
+          (Each-unmap (λ (s : AnnotatedScope). names 0x06 s.method) P live_scopes scopes.0)));
+      constants = Each-weaker (λ s. live_scope m s ≡ true → Each P (of_constants (with_live_constants m s)))
+          (λ s. is_dropped m s.method ≡ false → Each (λ n. Each P (in_constant n)) (live_constants m s.constants))
+          (λ s holds is. each_made in_constant P (live_constants m s.constants) (holds (ap not is))) w.scopes
+          (each_left (λ s. Each P (of_constants (with_live_constants m s))) (live_scope m) w.scopes
+          (Each-unmap (with_live_constants m) (λ s. Each P (of_constants s)) (filter (live_scope m) w.scopes)
+          (each_made of_constants P live_scopes constants.0)));
+      imports = Each-weaker (λ i. Each P (of_imports (with_item (with_live_imports m) i)))
+          (λ (i : Annotation ImportScopeValue). Each (λ n. Each P (in_import n)) (live_imports m i.item.imports))
+          (λ i holds. each_made in_import P (live_imports m i.item.imports) holds) w.imports
+          (Each-unmap (with_item (with_live_imports m)) (λ i. Each P (of_imports i)) w.imports
+          (each_made of_imports P (map (with_item (with_live_imports m)) w.imports) imports.0));
       machines = Each-weaker (λ r. live_machine m r ≡ true → Each P (of_machine r))
           (λ r. live_machine m r ≡ true → P (names 0x06 r.move_next) × P (names 0x06 r.kickoff))
           (λ r holds is. let both = holds is in (both.0, both.1.0)) w.machines (live_made (live_machine m) of_machine P w.machines machines.0);
@@ -82,14 +86,17 @@ named_parts P first m w each =
     of_custom : CustomValue → List Named
     of_custom c = names c.parent.table c.parent.row ∷ in_steps c.value
 
+    live_scopes : List AnnotatedScope
+    live_scopes = map (with_live_constants m) (filter (live_scope m) w.scopes)
+
     from_machines : List Named
     from_machines = flat_map of_machine (filter (live_machine m) w.machines) ++ flat_map of_custom (filter (live_custom m) w.customs)
 
     from_imports : List Named
-    from_imports = flat_map of_imports w.imports ++ from_machines
+    from_imports = flat_map of_imports (map (with_item (with_live_imports m)) w.imports) ++ from_machines
 
     from_constants : List Named
-    from_constants = flat_map of_constants (filter (live_scope m) w.scopes) ++ from_imports
+    from_constants = flat_map of_constants live_scopes ++ from_imports
 
     from_scopes : List Named
-    from_scopes = map (λ (s : AnnotatedScope). names 0x06 s.method) (filter (live_scope m) w.scopes) ++ from_constants
+    from_scopes = map (λ (s : AnnotatedScope). names 0x06 s.method) live_scopes ++ from_constants

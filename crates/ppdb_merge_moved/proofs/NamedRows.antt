@@ -1,5 +1,5 @@
 -- The rows that a sound file names are rows.
-use Rattle.std.proofs.Common.{◌≡◌, ℕ, zero, suc, ◌≤◌, Bool, true, false, cond, List, [], ◌∷◌, map, flat_map, refl, subst, arith}
+use Rattle.std.proofs.Common.{◌≡◌, ℕ, zero, suc, ◌≤◌, ◌||◌, Bool, true, false, cond, List, [], ◌∷◌, map, flat_map, refl, subst, arith}
 use Rattle.std.specs.Prelude.{nat_eq, is_some}
 use Rattle.std.specs.List.{filter}
 use Rattle.std.proofs.lemmas.Bool.{eqb-false}
@@ -35,12 +35,13 @@ use Rattle.ppdb_merge_items.specs.declared.file.AnnotatedFile.{AnnotatedFile}
 use Rattle.ppdb_merge_items.specs.Each.{Each}
 use Rattle.ppdb_merge_items.specs.NamedRows.{Named, names, names_some, in_token, in_body, in_constant, in_import, in_steps, in_entry, all_named}
 use Rattle.ppdb_merge_items.specs.NamedRows.{live_file, live_method, live_scope, live_machine, live_custom, live_signature, with_live_signature}
-use Rattle.ppdb_merge_items.specs.Annotated.{items_of}
+use Rattle.ppdb_merge_items.specs.NamedRows.{is_gone_row, live_constants, live_import, live_imports, with_live_constants, with_live_imports}
+use Rattle.ppdb_merge_items.specs.Annotated.{items_of, with_item}
 use Rattle.ppdb_merge_items.specs.Unannotated.{value_of_annotated}
 use Rattle.ppdb_merge_items.proofs.Lists.{Each-append, Each-filter, Each-map, Each-weaker, each_row}
 use Rattle.ppdb_merge_moved.specs.Laws.{NamedRowsAreRows}
 use Rattle.ppdb_merge_moved.proofs.RowImages.{count_most}
-use Rattle.ppdb_merge_moved.proofs.SoundItems.{most, each_all}
+use Rattle.ppdb_merge_moved.proofs.SoundItems.{most, each_all, live_sound}
 
 abbrev IsThere : Named → Type 0
 IsThere n = (1 ≤ n.row) × (n.row ≤ 16777215)
@@ -119,7 +120,7 @@ entry_there true m w below = some_there 0x06 (cond (is_dropped m w.entry) 0 w.en
     by_drop false = below
 
 live_small : (m : Map) (e : MethodValue) → e.signature ≤ 16777215 → live_signature m e ≤ 16777215
-live_small m e below = by (is_some (signature_line m e.method))
+live_small m e below = by (is_some (signature_line m e.method) || is_gone_row m 0x11 e.signature)
   where
     by : (b : Bool) → cond b 0 e.signature ≤ 16777215
     by true = omega arith
@@ -134,17 +135,23 @@ named_rows_are_rows first m w sound below =
     (filter (live_method m) w.methods)
     (Each-filter _ (λ (e : MethodValue). Each IsThere (names 0x06 e.method ∷ names_some 0x11 (live_signature m e))) (live_method m)
     (λ e is s. ((s.row.0, s.row.1), some_there 0x11 (live_signature m e) (live_small m e s.signature))) w.methods sound.methods)))
-    (Each-append IsThere _ _ (Each-map (λ (s : AnnotatedScope). names 0x06 s.method) IsThere (filter (live_scope m) w.scopes)
+    (Each-append IsThere _ _ (Each-map (λ (s : AnnotatedScope). names 0x06 s.method) IsThere (map (with_live_constants m) (filter (live_scope m) w.scopes))
+    (Each-map (with_live_constants m) (λ (s : AnnotatedScope). IsThere (names 0x06 s.method)) (filter (live_scope m) w.scopes)
     (Each-filter _ (λ (s : AnnotatedScope). IsThere (names 0x06 s.method)) (live_scope m)
-    (λ s is sound_s. (sound_s.itself.method.0, sound_s.itself.method.1)) w.scopes sound.scopes))
-    (Each-append IsThere _ _ (live_flat (live_scope m) (λ (s : AnnotatedScope). flat_map in_constant s.constants) IsThere _
-    (λ s sound_s. each_flat in_constant IsThere s.constants
-    (constants_there (value_of_annotated w) s.constants (each_row _ (items_of s.constants) sound_s.itself.constants))) w.scopes sound.scopes)
-    (Each-append IsThere _ _ (each_flat (λ (i : Annotation ImportScopeValue). flat_map in_import i.item.imports) IsThere w.imports
-    (Each-weaker _ (λ (i : Annotation ImportScopeValue). Each IsThere (flat_map in_import i.item.imports))
-    (λ i s. each_flat in_import IsThere i.item.imports
-    (Each-weaker _ (λ n. Each IsThere (in_import n)) (import_there (value_of_annotated w)) i.item.imports
-    (each_row _ i.item.imports s.0.imports))) w.imports sound.imports))
+    (λ s is sound_s. (sound_s.itself.method.0, sound_s.itself.method.1)) w.scopes sound.scopes)))
+    (Each-append IsThere _ _ (each_flat (λ (s : AnnotatedScope). flat_map in_constant s.constants) IsThere (map (with_live_constants m) (filter (live_scope m) w.scopes))
+    (Each-map (with_live_constants m) (λ (s : AnnotatedScope). Each IsThere (flat_map in_constant s.constants)) (filter (live_scope m) w.scopes)
+    (Each-filter _ (λ (s : AnnotatedScope). Each IsThere (flat_map in_constant (live_constants m s.constants))) (live_scope m)
+    (λ s is sound_s. each_flat in_constant IsThere (live_constants m s.constants)
+    (constants_there (value_of_annotated w) (live_constants m s.constants)
+    (live_sound m (value_of_annotated w) s.constants (each_row _ (items_of s.constants) sound_s.itself.constants)))) w.scopes sound.scopes)))
+    (Each-append IsThere _ _ (each_flat (λ (i : Annotation ImportScopeValue). flat_map in_import i.item.imports) IsThere
+    (map (with_item (with_live_imports m)) w.imports)
+    (Each-map (with_item (with_live_imports m)) (λ (i : Annotation ImportScopeValue). Each IsThere (flat_map in_import i.item.imports)) w.imports
+    (Each-weaker _ (λ (i : Annotation ImportScopeValue). Each IsThere (flat_map in_import (live_imports m i.item.imports)))
+    (λ i s. each_flat in_import IsThere (live_imports m i.item.imports)
+    (Each-filter _ (λ n. Each IsThere (in_import n)) (live_import m) (λ n is sound_n. import_there (value_of_annotated w) n sound_n) i.item.imports
+    (each_row _ i.item.imports s.0.imports))) w.imports sound.imports)))
     (Each-append IsThere _ _ (live_flat (live_machine m) (λ (r : MachineRow). names 0x06 r.move_next ∷ names 0x06 r.kickoff ∷ []) IsThere _
     (λ r s. ((s.move_next.0, s.move_next.1), ((s.kickoff.0, s.kickoff.1), tt))) w.machines sound.machines)
     (live_flat (live_custom m) (λ (c : CustomValue). names c.parent.table c.parent.row ∷ in_steps c.value) IsThere _

@@ -1,5 +1,5 @@
 -- The images of rows are rows.
-use Rattle.std.proofs.Common.{◌≡◌, ◌≢◌, ℕ, zero, suc, ◌<◌, ◌≤◌, ◌&&◌, Bool, true, false, cond, List, [], ◌∷◌, Option, Some, None, refl, sym, ◌∙◌}
+use Rattle.std.proofs.Common.{◌≡◌, ℕ, zero, suc, ◌<◌, ◌≤◌, ◌&&◌, Bool, true, false, cond, List, [], ◌∷◌, Option, Some, None, refl, sym, ◌∙◌}
 use Rattle.std.proofs.Common.{ap, subst, arith}
 use Rattle.std.specs.Prelude.{nat_eq, IfSome, unwrap_or, get_or}
 use Rattle.std.specs.List.{find, repeat, AllByRecursion}
@@ -11,8 +11,6 @@ use Rattle.ppdb_maps.specs.Map.{Map, moved_row, moved_signature, row_within, row
 use Rattle.ppdb_maps.specs.Readable.{IsReadable, IsRowOf, IsSignatureOf}
 use Rattle.ppdb_values.specs.declared.file.FileValue.{FileValue}
 use Rattle.ppdb_values_sound_laws.specs.Named.{count}
-use Rattle.ppdb_merge_items.specs.NamedRows.{names}
-use Rattle.ppdb_merge_moved.specs.Fits.{IsImaged}
 
 -- ---- images
 
@@ -24,9 +22,13 @@ found_holds P p (x ∷ xs) all = step (p x) (found_holds P p xs all.1)
     step true rest = all.0
     step false rest = rest
 
-pub image_in : (m : Map) → IsReadable m → (table row image : ℕ) → 1 ≤ row → row ≤ 16777215 → row_within m table row ≡ Some image
+-- the row of the same table that a row becomes
+abbrev pub IsWithin : Map → ℕ → ℕ → Type 0
+IsWithin m table row = (image : ℕ) × (row_within m table row ≡ Some image)
+
+pub within_in : (m : Map) → IsReadable m → (table row image : ℕ) → 1 ≤ row → row ≤ 16777215 → row_within m table row ≡ Some image
     → (1 ≤ image) × (image ≤ 16777215)
-image_in m ready table row image above below is = by_drop (nat_eq table 0x06 && is_dropped m row) is
+within_in m ready table row image above below is = by_drop (nat_eq table 0x06 && is_dropped m row) is
   where
     some_of : (a b : ℕ) → Some a ≡ Some b → a ≡ b
     some_of a b e = cc
@@ -50,16 +52,24 @@ pub moved_is_image : (m : Map) (table row image : ℕ) → 1 ≤ row → row_wit
 moved_is_image m table row image above is =
     ap (λ o. cond (nat_eq row 0) 0 (unwrap_or o 0)) is ∙ ap (λ b. cond b 0 image) (ne_eqb row 0 (λ e. absurd (omega (arith, above, e))))
 
--- a row that has an image moves to a row
-pub row_moved : (m : Map) → IsReadable m → (table row : ℕ) → 1 ≤ row → row ≤ 16777215 → IsImaged m (names table row)
+-- a row that has an image in its table moves to a row
+pub row_moved : (m : Map) → IsReadable m → (table row : ℕ) → 1 ≤ row → row ≤ 16777215 → IsWithin m table row
     → (1 ≤ moved_row m table row) × (moved_row m table row ≤ 16777215)
 row_moved m ready table row above below image =
-    subst (λ n. (1 ≤ n) × (n ≤ 16777215)) (sym (moved_is_image m table row image.0 above image.1)) (image_in m ready table row image.0 above below image.1)
+    subst (λ n. (1 ≤ n) × (n ≤ 16777215)) (sym (moved_is_image m table row image.0 above image.1)) (within_in m ready table row image.0 above below image.1)
 
--- and so does a number that may be 0 for none
-pub some_moved : (m : Map) → IsReadable m → (table row : ℕ) → row ≤ 16777215 → (row ≢ 0 → IsImaged m (names table row)) → moved_row m table row ≤ 16777215
-some_moved m ready table zero below image = omega arith
-some_moved m ready table (suc row) below image = (row_moved m ready table (suc row) (omega arith) below (image (λ e. absurd (omega (arith, e))))).1
+-- and a number that may be 0 for none, to a row or to none
+pub some_moved : (m : Map) → IsReadable m → (table row : ℕ) → row ≤ 16777215 → moved_row m table row ≤ 16777215
+some_moved m ready table zero below = omega arith
+some_moved m ready table (suc row) below = by (row_within m table (suc row)) refl
+  where
+    by : (o : Option ℕ) → row_within m table (suc row) ≡ o → moved_row m table (suc row) ≤ 16777215
+    by None is = subst (λ (o : Option ℕ). cond (nat_eq (suc row) 0) 0 (unwrap_or o 0) ≤ 16777215) (sym is) (none (nat_eq (suc row) 0))
+      where
+        none : (b : Bool) → cond b 0 0 ≤ 16777215
+        none true = omega arith
+        none false = omega arith
+    by (Some image) is = (row_moved m ready table (suc row) (omega arith) below (image, is)).1
 
 -- the row of a `signature` line
 signature_small : (m : Map) → IsReadable m → (method new : ℕ) → signature_line m method ≡ Some new → new ≤ 16777215
@@ -71,20 +81,12 @@ signature_small m ready method new is =
     by (Some s) holds e = let same : s.new ≡ new = cc in subst (λ n. n ≤ 16777215) same holds.1
 
 -- a local signature moves to a row, or to 0 for none
-pub signature_moved : (m : Map) → IsReadable m → (method row : ℕ) → row ≤ 16777215
-    → (signature_line m method ≡ None → row ≢ 0 → IsImaged m (names 0x11 row)) → moved_signature m method row ≤ 16777215
-signature_moved m ready method row below image = by (signature_line m method) refl
+pub signature_moved : (m : Map) → IsReadable m → (method row : ℕ) → row ≤ 16777215 → moved_signature m method row ≤ 16777215
+signature_moved m ready method row below = by (signature_line m method) refl
   where
     by : (o : Option ℕ) → signature_line m method ≡ o → unwrap_or o (moved_row m 0x11 row) ≤ 16777215
-    by None is = some_moved m ready 0x11 row below (image is)
+    by None is = some_moved m ready 0x11 row below
     by (Some new) is = signature_small m ready method new is
-
--- two rows with one image
-pub one_image : (m : Map) (table a b : ℕ) → 1 ≤ a → 1 ≤ b → (i : IsImaged m (names table a)) → IsImaged m (names table b)
-    → moved_row m table a ≡ moved_row m table b
-    → row_within m table b ≡ Some i.0
-one_image m table a b above also i j same =
-    j.1 ∙ ap Some (sym (moved_is_image m table b j.0 also j.1) ∙ sym same ∙ moved_is_image m table a i.0 above i.1)
 
 -- ---- how many rows the type system has
 

@@ -4,6 +4,7 @@ use Rattle.std.specs.Prelude.{nat_eq}
 use Rattle.std.specs.List.{filter, filter_map, flat_map, enumerate_from, cons_option}
 use Rattle.std.proofs.lemmas.Bool.{eqb-true, and_parts, both_ways}
 use Rattle.ppdb_base.specs.Offsets.{gone, Rise, Kept, old_size}
+use Rattle.ppdb_maps.specs.Readable.{IsReadable}
 use Rattle.ppdb_maps.specs.Map.{Map, moved_row, offsets_in}
 use Rattle.custom_info.specs.declared.slots.Slot.{Slot}
 use Rattle.custom_info.specs.declared.slots.Slot.TheVariants.{Empty, Held}
@@ -17,7 +18,7 @@ use Rattle.ppdb_merge_items.specs.declared.file.AnnotatedFile.{AnnotatedFile}
 use Rattle.ppdb_merge_moved.specs.Moved.{moved_range, is_empty, moved_slot, moved_body, moved_file}
 use Rattle.ppdb_merge_moved.specs.Images.{slot_meaning_image}
 use Rattle.ppdb_merge_items.specs.AnnotatedMeaning.{slots_among, slots_at}
-use Rattle.ppdb_merge_moved.specs.FitsMethod.{FitsSlot, FitsSlots, FitsCustom}
+use Rattle.ppdb_merge_moved.specs.FitsMethod.{MovesAsMethod, FitsSlot, FitsSlots, FitsCustom}
 use Rattle.ppdb_merge_items.proofs.Lists.{Each-filter}
 use Rattle.ppdb_merge_moved.proofs.Customs.{on, image_of, records_moved}
 use Rattle.ppdb_merge_moved.proofs.Scopes.{holds_kept, empty_holds}
@@ -115,12 +116,12 @@ lists_fit m method (d ∷ ds) each = step d.value each.0.1 (lists_fit m method d
     step (Unread bytes) fits rest = rest
 
 -- the hoisted part of the meaning
-pub slots_mean : (m : Map) (w : AnnotatedFile) (method : ℕ) → Rise (offsets_in m method) → (offsets_in m method ≢ gone) → (x y : ℕ)
+pub slots_mean : (m : Map) (w : AnnotatedFile) (method : ℕ) → IsReadable m → MovesAsMethod m method → Rise (offsets_in m method) → (offsets_in m method ≢ gone) → (x y : ℕ)
     → Kept (offsets_in m method) x y → x ≤ old_size (offsets_in m method)
     → Each (FitsCustom m method) w.customs
     → slots_at (moved_file m w) (moved_row m 0x06 method) y ≡ map (slot_meaning_image m method) (slots_at w method x)
-slots_mean m w method rise live x y kept at fits =
-    ap (λ customs. slots_among customs y) (records_moved m w method live fits)
+slots_mean m w method ready image rise live x y kept at fits =
+    ap (λ customs. slots_among customs y) (records_moved m w method ready image live fits)
     ∙ ap (λ lists. flat_map (λ hoisted. filter_map (slot_at y hoisted.0) (enumerate_from 0 hoisted.1)) (enumerate_from 0 lists))
     (lists_moved m method (filter (on method) w.customs) own)
     ∙ records_kept m method rise live x y kept at 0 (filter_map (λ (c : CustomValue). slots_in c.value) (filter (on method) w.customs))

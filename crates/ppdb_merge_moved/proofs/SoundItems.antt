@@ -1,17 +1,18 @@
 -- The items of a sound file are sound after they have moved.
-use Rattle.std.proofs.Common.{◌≡◌, ◌≢◌, ℕ, ◌<◌, ◌≤◌, ◌⊎◌, Bool, true, false, cond, List, [], ◌∷◌, Option, Some, None, map, refl, sym}
+use Rattle.std.proofs.Common.{◌≡◌, ◌≢◌, ℕ, ◌<◌, ◌≤◌, ◌⊎◌, Bool, true, false, cond, List, [], ◌∷◌, Option, Some, None, length, map, refl, sym, ◌∙◌}
 use Rattle.std.proofs.Common.{ap, subst, arith, inl, inr}
-use Rattle.std.specs.Prelude.{nat_eq, nat_lt, All, IfSome, get_or}
-use Rattle.std.specs.List.{repeat}
+use Rattle.std.specs.Prelude.{nat_eq, nat_le, nat_lt, All, IfSome, get_or}
+use Rattle.std.specs.List.{filter, repeat}
 use Rattle.std.specs.Option.{option_map}
-use Rattle.std.proofs.lemmas.Bool.{cases_lt, ltb-true, not-false}
+use Rattle.std.proofs.lemmas.Bool.{and_parts, cases_lt, eqb-true, le-leb, leb-true, ltb-true, not-false}
 use Rattle.std.proofs.lemmas.List.Elements.{All-head, All-tail}
 use Rattle.ppdb_base.specs.Offsets.{Offsets, every, gone, lined, Rise, Kept, moved, old_size}
 use Rattle.ppdb_base.proofs.Moved.{moved_never_falls}
 use Rattle.type_blobs.specs.declared.types.TypeToken.{TypeToken}
 use Rattle.type_blobs.specs.declared.types.Modifier.{Modifier}
 use Rattle.type_blobs.specs.Types.{rows_of, tag_of}
-use Rattle.type_blobs.specs.Spelling.{IsBody, IsBodyThere}
+use Rattle.type_blobs.specs.Constants.{is_enumerable, is_string, size_of}
+use Rattle.type_blobs.specs.Spelling.{IsBody, IsBodyThere, IsPrimitive}
 use Rattle.custom_info.specs.AsyncStepping.{IsHandler, IsStep}
 use Rattle.custom_info.specs.HoistedScopes.{IsSlot}
 use Rattle.custom_info.specs.declared.kinds.Kind.{Kind}
@@ -20,7 +21,10 @@ use Rattle.custom_info.specs.declared.slots.Range.{Range}
 use Rattle.custom_info.specs.declared.slots.Slot.{Slot}
 use Rattle.custom_info.specs.declared.slots.Slot.TheVariants.{Empty, Held}
 use Rattle.custom_info.specs.declared.stepping.AsyncStep.{AsyncStep}
-use Rattle.ppdb_maps.specs.Map.{Map, MethodLine, moved_row, offsets_in, is_dropped, line_offsets, method_line}
+use Rattle.ppdb_maps.specs.Map.{Map, MethodLine, row_image, row_within, moved_row, offsets_in, is_dropped, line_offsets, method_line}
+use Rattle.ppdb_maps.specs.declared.entries.CrossLine.{CrossLine}
+use Rattle.ppdb_maps.specs.declared.image.RowImage.TheVariants.{Row}
+use Rattle.ppdb_maps.specs.Forms.{Crosses, IsTypeTable}
 use Rattle.ppdb_maps.specs.Readable.{IsReadable, IsLineOf}
 use Rattle.ppdb_values.specs.declared.file.FileValue.{FileValue}
 use Rattle.ppdb_values.specs.declared.scope.ConstantValue.{ConstantValue}
@@ -37,14 +41,19 @@ use Rattle.ppdb_values_sound_laws.specs.Customs.{IsBodyOfKind}
 use Rattle.ppdb_values_sound_laws.specs.Imports.{SoundImport}
 use Rattle.ppdb_values_sound_laws.specs.Named.{count, HasRow, HasType, type_limits}
 use Rattle.ppdb_values_sound_laws.specs.Scopes.{SoundConstant, stored_body}
-use Rattle.ppdb_merge_items.specs.Each.{Each}
-use Rattle.ppdb_merge_items.specs.NamedRows.{names, in_token, in_body, in_constant, in_import, in_steps}
+use Rattle.ppdb_merge_items.specs.Each.{Each, Pairs}
+use Rattle.ppdb_merge_items.specs.NamedRows.{names, in_token, in_body, in_constant, in_import, in_steps, is_gone_type, is_in_table}
+use Rattle.ppdb_merge_items.specs.NamedRows.{live_body, live_constant, live_constants, with_live_body}
+use Rattle.ppdb_merge_items.specs.Annotated.{items_of, with_item}
+use Rattle.ppdb_merge_items.proofs.Lists.{Each-filter, Each-map, Each-unmap, Pairs-map, Pairs-unmap}
+use Rattle.ppdb_merge_moved.proofs.Lists.{Pairs-filter}
 use Rattle.ppdb_merge_moved.specs.Fits.{IsImaged, KeepsStep, KeepsAsync, EndsWithin, AreWithin}
 use Rattle.ppdb_merge_moved.specs.Moved.{moved_range, is_empty, moved_slot, moved_step, moved_body, moved_token, moved_modifier, moved_constant_body}
-use Rattle.ppdb_merge_moved.specs.Moved.{moved_constant, moved_import}
+use Rattle.ppdb_merge_moved.specs.Moved.{moved_constant, moved_import, row_in, table_in}
 use Rattle.ppdb_merge_moved.proofs.Elements.{each_parts}
 use Rattle.ppdb_merge_moved.proofs.Means.{kept_within}
 use Rattle.ppdb_merge_moved.proofs.RisingPoints.{all_each, size_moved, itself_moved}
+use Rattle.ppdb_merge_moved.proofs.ImageRows.{StaysOrCrosses, image_cases, image_in, within}
 use Rattle.ppdb_merge_moved.proofs.RowImages.{row_moved, found_holds}
 
 -- a value whose type system has as many rows as may be
@@ -89,25 +98,60 @@ within_types u table row (inl is) below = subst (λ t. row ≤ rows_of (type_lim
 within_types u table row (inr (inl is)) below = subst (λ t. row ≤ rows_of (type_limits (most u)) (tag_of t)) (sym is) below
 within_types u table row (inr (inr is)) below = subst (λ t. row ≤ rows_of (type_limits (most u)) (tag_of t)) (sym is) below
 
+-- the image of a type is a type
+types_stay : (m : Map) → IsReadable m → (t : TypeToken) (to image : ℕ) → (t.table ≡ 0x02) ⊎ ((t.table ≡ 0x01) ⊎ (t.table ≡ 0x1b))
+    → row_image m t.table t.row ≡ Row to image → (to ≡ 0x02) ⊎ ((to ≡ 0x01) ⊎ (to ≡ 0x1b))
+types_stay m ready t to image is_type is = by (image_cases m ready t.table t.row to image is)
+  where
+    in_order : (n : ℕ) → n ≡ to → IsTypeTable n → (to ≡ 0x02) ⊎ ((to ≡ 0x01) ⊎ (to ≡ 0x1b))
+    in_order n same (inl one) = inr (inl (sym same ∙ one))
+    in_order n same (inr (inl two)) = inl (sym same ∙ two)
+    in_order n same (inr (inr spec)) = inr (inr (sym same ∙ spec))
+
+    no_assembly : (t.table ≡ 0x02) ⊎ ((t.table ≡ 0x01) ⊎ (t.table ≡ 0x1b)) → t.table ≡ 0x23 → ⊥
+    no_assembly (inl two) is = omega (arith, two, is)
+    no_assembly (inr (inl one)) is = omega (arith, one, is)
+    no_assembly (inr (inr spec)) is = omega (arith, spec, is)
+
+    by_line : (line : CrossLine) → line.table ≡ t.table → line.to ≡ to → Crosses line → (to ≡ 0x02) ⊎ ((to ≡ 0x01) ⊎ (to ≡ 0x1b))
+    by_line line from into (inl types) = in_order line.to into types.1
+    by_line line from into (inr assembly) = absurd (no_assembly is_type (sym from ∙ assembly.0))
+
+    by : StaysOrCrosses m t.table to image (row_within m t.table t.row) → (to ≡ 0x02) ⊎ ((to ≡ 0x01) ⊎ (to ≡ 0x1b))
+    by (inl stays) = subst (λ n. (n ≡ 0x02) ⊎ ((n ≡ 0x01) ⊎ (n ≡ 0x1b))) (sym stays.0) is_type
+    by (inr crossed) = by_line crossed.line crossed.from crossed.into crossed.there.2
+
 token_moved : (m : Map) → IsReadable m → (v u : FileValue) (t : TypeToken) → HasType (most v) t → IsImaged m (in_token t) → HasType (most u) (moved_token m t)
 token_moved m ready v u t has image =
-    let row = row_moved m ready t.table t.row has.1.0 has.0.1 image in
-    ((has.0.0, row.1), (row.0, within_types u t.table (moved_row m t.table t.row) has.0.0 row.1))
+    let row = image_in m ready t.table t.row image.0 image.1 has.1.0 has.0.1 image.2 in
+    let types = types_stay m ready t image.0 image.1 has.0.0 image.2 in
+    subst (λ i. HasType (most u) (record { table = table_in i; row = row_in i })) (sym image.2)
+    ((types, row.1), (row.0, within_types u image.0 image.1 types row.1))
 
 assembly_moved : (m : Map) → IsReadable m → (v u : FileValue) (row : ℕ) → HasRow (most v) 0x23 row → IsImaged m (names 0x23 row)
-    → HasRow (most u) 0x23 (moved_row m 0x23 row)
-assembly_moved m ready v u row has image = row_moved m ready 0x23 row has.0 has.1 image
+    → HasRow (most u) 0x23 (row_in (row_image m 0x23 row))
+assembly_moved m ready v u row has image =
+    subst (λ i. HasRow (most u) 0x23 (row_in i)) (sym image.2) (image_in m ready 0x23 row image.0 image.1 has.0 has.1 image.2)
 
 pub import_moved : (m : Map) → IsReadable m → (v u : FileValue) (i : ImportValue) → SoundImport (most v) i → Each (IsImaged m) (in_import i)
     → SoundImport (most u) (moved_import m i)
 import_moved m ready v u (Namespace namespace) sound images = tt
-import_moved m ready v u (AssemblyNamespace assembly namespace) sound images = assembly_moved m ready v u assembly sound images.0
+import_moved m ready v u (AssemblyNamespace assembly namespace) sound images = by_own (is_in_table 0x20 (row_image m 0x23 assembly))
+  where
+    by_own : (b : Bool) → SoundImport (most u) (cond b (Namespace namespace) (AssemblyNamespace (row_in (row_image m 0x23 assembly)) namespace))
+    by_own true = tt
+    by_own false = assembly_moved m ready v u assembly sound images.0
 import_moved m ready v u (Target target) sound images = token_moved m ready v u target sound images.0
 import_moved m ready v u (Xml alias namespace) sound images = tt
 import_moved m ready v u (Alias alias) sound images = tt
 import_moved m ready v u (AssemblyAlias alias assembly) sound images = assembly_moved m ready v u assembly sound images.0
 import_moved m ready v u (NamespaceAlias alias namespace) sound images = tt
-import_moved m ready v u (AssemblyNamespaceAlias alias assembly namespace) sound images = assembly_moved m ready v u assembly sound images.0
+import_moved m ready v u (AssemblyNamespaceAlias alias assembly namespace) sound images = by_own (is_in_table 0x20 (row_image m 0x23 assembly))
+  where
+    by_own : (b : Bool)
+        → SoundImport (most u) (cond b (NamespaceAlias alias namespace) (AssemblyNamespaceAlias alias (row_in (row_image m 0x23 assembly)) namespace))
+    by_own true = tt
+    by_own false = assembly_moved m ready v u assembly sound images.0
 import_moved m ready v u (TargetAlias alias target) sound images = token_moved m ready v u target sound images.0
 
 -- ---- constants
@@ -144,6 +188,60 @@ constant_moved m ready v u n sound images =
       body_there = body.1;
     }
 
+-- a value of an enumeration's underlying type is one of a primitive type
+value_kept : (code : ℕ) (value : List ℕ) → is_enumerable code ≡ true → length value ≡ size_of code → IsPrimitive (is_string code) code value
+value_kept code value enumerable size = by_string (is_string code) refl
+  where
+    from : 0x02 ≤ code
+    from = leb-true 0x02 code (and_parts (nat_le 0x02 code) (nat_le code 0x0b) enumerable).0
+
+    to : code ≤ 0x0b
+    to = leb-true code 0x0b (and_parts (nat_le 0x02 code) (nat_le code 0x0b) enumerable).1
+
+    by_string : (b : Bool) → is_string code ≡ b → IsPrimitive b code value
+    by_string true is = absurd (omega (arith, to, eqb-true code 0x0e is))
+    by_string false is = record { primitive = rw (le-leb 0x02 code from, le-leb code 0x0d (omega (arith, to))) refl; size = size }
+
+-- a constant of an enumeration that is gone is sound as one of a primitive type
+pub live_kept : (m : Map) (v : FileValue) (c : ConstantValue) → SoundConstant (most v) c → SoundConstant (most v) (with_live_body m c)
+live_kept m v c sound = record {
+  name = sound.name;
+  modifiers = sound.modifiers;
+  body = (body c.body sound.body sound.body_there).0;
+  body_there =
+      (body c.body sound.body sound.body_there).1;
+}
+  where
+    body : (b : ConstantBody) → IsBody (stored_body b) → IsBodyThere (type_limits (most v)) (stored_body b)
+        → IsBody (stored_body (live_body m b)) × IsBodyThere (type_limits (most v)) (stored_body (live_body m b))
+    body (Primitive code value) is there = (is, there)
+    body (General code target rest) is there = (is, there)
+    body Object is there = (is, there)
+    body (Enumerated code value target) is there = by_gone (is_gone_type m target)
+      where
+        by_gone : (g : Bool) → IsBody (stored_body (cond g (Primitive code value) (Enumerated code value target)))
+            × IsBodyThere (type_limits (most v)) (stored_body (cond g (Primitive code value) (Enumerated code value target)))
+        by_gone true = (value_kept code value is.0 is.1, tt)
+        by_gone false = (is, there)
+
+-- the constants that stay are sound
+pub live_sound : (m : Map) (v : FileValue) (ns : List (Annotation ConstantValue)) → Each (SoundConstant (most v)) (items_of ns)
+    → Each (SoundConstant (most v)) (items_of (live_constants m ns))
+live_sound m v ns each =
+    Each-map (λ n. n.item) (SoundConstant (most v)) (live_constants m ns)
+    (Each-map (with_item (with_live_body m)) (λ n. SoundConstant (most v) n.item) (filter (live_constant m) ns)
+    (Each-filter (λ n. SoundConstant (most v) n.item) (λ n. SoundConstant (most v) (with_live_body m n.item)) (live_constant m)
+    (λ n is sound. live_kept m v n.item sound) ns (Each-unmap (λ n. n.item) (SoundConstant (most v)) ns each)))
+
+-- and their names differ
+pub live_differ : (m : Map) (ns : List (Annotation ConstantValue)) → Pairs (λ a b. a.name ≢ b.name) (items_of ns)
+    → Pairs (λ a b. a.name ≢ b.name) (items_of (live_constants m ns))
+live_differ m ns pairs =
+    Pairs-map (λ n. n.item) (λ a b. a.name ≢ b.name) (live_constants m ns)
+    (Pairs-map (with_item (with_live_body m)) (λ a b. a.item.name ≢ b.item.name) (filter (live_constant m) ns)
+    (Pairs-filter (λ a b. a.item.name ≢ b.item.name) (live_constant m) ns
+    (Pairs-unmap (λ n. n.item) (λ (a b : ConstantValue). a.name ≢ b.name) ns pairs)))
+
 -- ---- records on methods and types
 
 slots_moved : (o : Offsets) → Rise o → SizeFits o → (slots : List Slot) → Each IsSlot slots → Each (EndsWithin (old_size o)) slots
@@ -167,7 +265,7 @@ step_moved : (m : Map) → IsReadable m → ((n : ℕ) → Rise (offsets_in m n)
     → IsStep step × (step.method ≤ count (most v) 0x06) → KeepsStep m method step
     → IsImaged m (names 0x06 step.method) → IsStep (moved_step m method step) × ((moved_step m method step).method ≤ count (most u) 0x06)
 step_moved m ready rise v u method step sound keeps image =
-    let row = row_moved m ready 0x06 step.method sound.0.2 sound.1 image in
+    let row = row_moved m ready 0x06 step.method sound.0.2 sound.1 (within m ready 0x06 step.method refl image) in
     let below : moved_row m 0x06 step.method ≤ 16777215 = row.1 in (
       (
         small_in (offsets_in m method) (rise method) (size_fits m ready method) step.pause sound.0.0

@@ -1,15 +1,20 @@
 -- A sound file that a map fits is sound, part by part, after it has moved.
 use Rattle.std.proofs.Common.{◌≡◌, ◌≢◌, ℕ, zero, suc, ◌+◌, ◌*◌, ◌<◌, ◌≤◌, ◌&&◌, ◌||◌, not, Bool, true, false, cond, List, [], ◌∷◌, Option, Some, None}
-use Rattle.std.proofs.Common.{map, length, refl, sym, ◌∙◌, ap, subst, arith}
+use Rattle.std.proofs.Common.{map, length, refl, sym, ◌∙◌, ap, subst, arith, inl, inr}
 use Rattle.std.specs.Prelude.{bytes_eq, nat_eq, nat_lt, ◌==◌, IsSome, Contains, unwrap_or, position}
+use Rattle.std.specs.List.{filter}
 use Rattle.std.specs.Option.{option_map}
-use Rattle.std.proofs.lemmas.Bool.{ltb-true, not-false, both_ways, ne_eqb, and_parts}
+use Rattle.std.proofs.lemmas.Bool.{eqb-true, ltb-true, not-false, both_ways, and_parts}
 use Rattle.std.proofs.lemmas.Slice.Eq.{bytes_eq-Decides}
 use Rattle.std.proofs.lemmas.List.{length-map}
 use Rattle.ppdb_base.specs.Offsets.{gone, Rise, moved, old_size, is_kept_between}
 use Rattle.sequence_points.specs.declared.point.Point.{Point}
 use Rattle.sequence_points.specs.MovedPoints.{moved_points, first_offset}
-use Rattle.ppdb_maps.specs.Map.{Map, moved_row, offsets_in, is_dropped, line_offsets, method_line}
+use Rattle.ppdb_maps.specs.declared.entries.CrossLine.{CrossLine}
+use Rattle.ppdb_maps.specs.declared.image.RowImage.{RowImage}
+use Rattle.ppdb_maps.specs.declared.image.RowImage.TheVariants.{Row}
+use Rattle.ppdb_maps.specs.Forms.{Crosses, IsTypeTable}
+use Rattle.ppdb_maps.specs.Map.{Map, row_image, row_within, moved_row, offsets_in, is_dropped, line_offsets, method_line}
 use Rattle.ppdb_maps.specs.Readable.{IsReadable}
 use Rattle.ppdb_tables.specs.declared.rows.MachineRow.{MachineRow}
 use Rattle.row_layout.specs.Columns.{parent_tables}
@@ -26,9 +31,12 @@ use Rattle.ppdb_values.specs.declared.annotation.Custom.{Custom}
 use Rattle.ppdb_values.specs.declared.annotation.Annotation.{Annotation}
 use Rattle.ppdb_values.specs.declared.scope.VariableValue.{VariableValue}
 use Rattle.custom_info.specs.Kinds.{kind_of, source_link}
-use Rattle.custom_info.specs.declared.kinds.Kind.TheVariants.{Free}
+use Rattle.custom_info.specs.declared.kinds.Kind.{Kind}
+use Rattle.custom_info.specs.declared.kinds.Kind.TheVariants as kinds
 use Rattle.ppdb_values.specs.Parts.{is_at}
-use Rattle.ppdb_values.specs.declared.custom.CustomBody.TheVariants.{Unread}
+use Rattle.ppdb_values.specs.declared.custom.CustomBody.{CustomBody}
+use Rattle.ppdb_values.specs.declared.custom.CustomBody.TheVariants.{Async, Hoisted, TypeDocuments, Unread}
+use Rattle.ppdb_values.specs.Rules.{StandsOn}
 use Rattle.ppdb_values.specs.Ranges.{ComesAfter, IsInOrAfter}
 use Rattle.ppdb_values_sound_laws.specs.Customs.{SoundCustom, IsBodyOfKind}
 use Rattle.ppdb_values_sound_laws.specs.Methods.{SoundMethod, SoundPoint}
@@ -38,25 +46,29 @@ use Rattle.ppdb_merge_items.specs.declared.file.AnnotatedScope.{AnnotatedScope}
 use Rattle.ppdb_merge_items.specs.declared.file.AnnotatedFile.{AnnotatedFile}
 use Rattle.ppdb_merge_items.specs.Each.{Each, Pairs}
 use Rattle.ppdb_merge_items.specs.NamedRows.{names, names_some, named_rows, live_machine, live_custom, live_scope, live_signature, in_constant, in_import, in_steps}
+use Rattle.ppdb_merge_items.specs.NamedRows.{is_gone_row, is_type_documents, leaves_table, live_constant, live_constants, live_import, live_imports, with_live_body}
 use Rattle.ppdb_merge_items.specs.SoundParts.{SoundMoved, SoundNote, SoundAnnotatedScope}
 use Rattle.ppdb_merge_items.specs.Unannotated.{value_of_annotated}
 use Rattle.ppdb_merge_items.specs.Annotated.{items_of, with_item}
 use Rattle.ppdb_values_sound_laws.specs.Scopes.{SoundVariable, SoundConstant}
 use Rattle.ppdb_values_sound_laws.specs.Imports.{SoundImport, SoundImportScope}
 use Rattle.ppdb_merge_items.proofs.Mapped.{row_map}
-use Rattle.ppdb_merge_items.proofs.Lists.{Each-weaker, Pairs-map, Pairs-weaker, each_row, row_each, pairs_row, row_pairs}
+use Rattle.ppdb_merge_items.proofs.Lists.{Each-filter, Each-map, Each-weaker, Pairs-map, Pairs-weaker, each_row, row_each, pairs_row, row_pairs}
 use Rattle.ppdb_merge_moved.specs.Fits.{Fits, IsImaged, HasSlot, KeepsAsync, AreWithin}
 use Rattle.ppdb_merge_moved.specs.Laws.{IsImageOfNamed, MovedNames}
 use Rattle.ppdb_merge_moved.specs.Moved.{moved_range, is_empty, moved_variable, moved_constant, moved_import, moved_import_scope, with_points}
 use Rattle.ppdb_merge_moved.specs.Moved.{moved_method, scope_image, moved_scope, moved_machine, moved_body, moved_record, moved_custom, moved_file}
-use Rattle.ppdb_merge_moved.specs.Moved.{is_link, linked, moved_document}
+use Rattle.ppdb_merge_moved.specs.Moved.{is_link, linked, moved_document, row_in, table_in}
 use Rattle.ppdb_merge_moved.proofs.Fitting.{offsets_rise}
 use Rattle.ppdb_merge_moved.proofs.Elements.{each_in}
 use Rattle.ppdb_merge_moved.proofs.Lists.{Each-filter_map, Pairs-filter_map, Each-both, each_of_three, each_of_four}
-use Rattle.ppdb_merge_moved.proofs.NamedParts.{NamedParts, named_parts, unsigned}
+use Rattle.ppdb_merge_moved.proofs.NamedParts.{NamedParts, named_parts}
+use Rattle.ppdb_merge_moved.proofs.Customs.{image_of}
+use Rattle.ppdb_merge_moved.proofs.ImageRows.{StaysOrCrosses, image_cases, image_in, image_stays, linked_lives, no_shared_method, moved_stays, never_method}
+use Rattle.ppdb_merge_moved.proofs.ImageRows.{within, within_moved}
 use Rattle.ppdb_merge_moved.proofs.RisingPoints.{all_each, all_pairs, points_rise, points_are_rising}
-use Rattle.ppdb_merge_moved.proofs.RowImages.{moved_is_image, row_moved, signature_moved, one_image, count_most}
-use Rattle.ppdb_merge_moved.proofs.SoundItems.{most, each_all, small_after, body_same, constant_moved, import_moved, body_kept, ranges_moved}
+use Rattle.ppdb_merge_moved.proofs.RowImages.{row_moved, signature_moved, count_most}
+use Rattle.ppdb_merge_moved.proofs.SoundItems.{most, each_all, small_after, body_same, constant_moved, import_moved, body_kept, ranges_moved, live_sound, live_differ}
 
 some_of : {A : Type 0} (a b : A) → Some a ≡ Some b → a ≡ b
 some_of a b e = cc
@@ -122,7 +134,13 @@ module _ (first : Bool) (m : Map) (w : AnnotatedFile) (ready : IsReadable m) (so
   -- two methods that are named and have one image are one
   one_method : (a b : ℕ) → Contains (named_rows first m w) (names 0x06 a) → Contains (named_rows first m w) (names 0x06 b) → 1 ≤ a → 1 ≤ b
       → IsImaged m (names 0x06 a) → IsImaged m (names 0x06 b) → moved_row m 0x06 a ≡ moved_row m 0x06 b → a ≡ b
-  one_method a b in_a in_b above also i j same = fits.apart (names 0x06 a) (names 0x06 b) in_a in_b i.0 refl i.1 (one_image m 0x06 a b above also i j same)
+  one_method a b in_a in_b above also i j same =
+      fits.apart (names 0x06 a) (names 0x06 b) in_a in_b 0x06 (moved_row m 0x06 a) refl (no_shared_method m)
+      (moved_stays m ready 0x06 a i.0 i.1 refl above i.2) (moved_stays m ready 0x06 b j.0 j.1 refl also j.2 ∙ ap (Row 0x06) (sym same))
+
+  -- a method that has an image moves to a method
+  method_there : (row : ℕ) → 1 ≤ row → row ≤ 16777215 → IsImaged m (names 0x06 row) → (1 ≤ moved_row m 0x06 row) × (moved_row m 0x06 row ≤ 16777215)
+  method_there row above below image = row_moved m ready 0x06 row above below (within m ready 0x06 row refl image)
 
   -- ---- methods
 
@@ -132,9 +150,6 @@ module _ (first : Bool) (m : Map) (w : AnnotatedFile) (ready : IsReadable m) (so
     image : is_dropped m e.method ≡ false → IsImaged m (names 0x06 e.method) × Each (IsImaged m) (names_some 0x11 (live_signature m e))
     there : is_dropped m e.method ≡ false
         → Contains (named_rows first m w) (names 0x06 e.method) × Each (λ n. Contains (named_rows first m w) n) (names_some 0x11 (live_signature m e))
-
-  signature_image : (row : ℕ) → Each (IsImaged m) (names_some 0x11 row) → row ≢ 0 → IsImaged m (names 0x11 row)
-  signature_image row each some = (subst (Each (IsImaged m)) (ap (λ b. cond b [] (names 0x11 row ∷ [])) (ne_eqb row 0 some)) each).0
 
   points_moved : (method : ℕ) (ps : List Point) → Each (SoundPoint (most old)) ps → Each (λ (p : Point). p.offset < old_size (offsets_in m method)) ps
       → Each (SoundPoint (most new)) (moved_points (offsets_in m method) ps)
@@ -183,9 +198,8 @@ module _ (first : Bool) (m : Map) (w : AnnotatedFile) (ready : IsReadable m) (so
       by_points : (ps : List Point) → moved_points (offsets_in m e.method) e.points ≡ ps → with_points m e ps ≡ Some q → SoundMethod (most new) q
       by_points [] same eq = absurd (cc)
       by_points (p ∷ ps) same eq = subst (SoundMethod (most new)) (some_of _ q eq) (record {
-        row = row_moved m ready 0x06 e.method facts.sound_e.row.0 facts.sound_e.row.1 (facts.image live).0;
-        signature = signature_moved m ready e.method e.signature facts.sound_e.signature
-            (λ none. signature_image e.signature (subst (λ row. Each (IsImaged m) (names_some 0x11 row)) (unsigned m e none) (facts.image live).1));
+        row = method_there e.method facts.sound_e.row.0 facts.sound_e.row.1 (facts.image live).0;
+        signature = signature_moved m ready e.method e.signature facts.sound_e.signature;
         some = λ none. cc;
         rise = all_pairs (λ (p q : Point). p.offset < q.offset) (p ∷ ps) (subst (Pairs (λ (p q : Point). p.offset < q.offset)) same rises);
         points = all_each (SoundPoint (most new)) (p ∷ ps) (subst (Each (SoundPoint (most new))) same points);
@@ -219,7 +233,7 @@ module _ (first : Bool) (m : Map) (w : AnnotatedFile) (ready : IsReadable m) (so
     within : s.range.end ≤ old_size (offsets_in m s.method)
     image : is_dropped m s.method ≡ false → IsImaged m (names 0x06 s.method)
     there : is_dropped m s.method ≡ false → Contains (named_rows first m w) (names 0x06 s.method)
-    constants : is_dropped m s.method ≡ false → Each (λ n. Each (IsImaged m) (in_constant n)) s.constants
+    constants : is_dropped m s.method ≡ false → Each (λ n. Each (IsImaged m) (in_constant n)) (live_constants m s.constants)
     slots : live_scope m s ≡ true → Each (HasSlot m s.method) s.variables
     is_in : Contains w.scopes s
 
@@ -227,7 +241,7 @@ module _ (first : Bool) (m : Map) (w : AnnotatedFile) (ready : IsReadable m) (so
   scope_facts = each_of_four (λ s. SoundAnnotatedScope (most old) s × (s.range.end ≤ old_size (offsets_in m s.method)))
       (λ s. (is_dropped m s.method ≡ false → IsImaged m (names 0x06 s.method))
       × (is_dropped m s.method ≡ false → Contains (named_rows first m w) (names 0x06 s.method)))
-      (λ s. is_dropped m s.method ≡ false → Each (λ n. Each (IsImaged m) (in_constant n)) s.constants)
+      (λ s. is_dropped m s.method ≡ false → Each (λ n. Each (IsImaged m) (in_constant n)) (live_constants m s.constants))
       (λ s. (live_scope m s ≡ true → Each (HasSlot m s.method) s.variables) × Contains w.scopes s) ScopeFacts w.scopes
       (λ s a b c d. record { sound_s = a.0; within = a.1; image = b.0; there = b.1; constants = c; slots = d.0; is_in = d.1 })
       (Each-both (SoundAnnotatedScope (most old)) (λ s. s.range.end ≤ old_size (offsets_in m s.method)) w.scopes sound.scopes fits.ranges)
@@ -296,7 +310,7 @@ module _ (first : Bool) (m : Map) (w : AnnotatedFile) (ready : IsReadable m) (so
       → SoundAnnotatedScope (most new) (scope_image m s)
   scope_image_sound s facts live filled = record {
     itself = record {
-      method = row_moved m ready 0x06 s.method facts.sound_s.itself.method.0 facts.sound_s.itself.method.1 (facts.image live);
+      method = method_there s.method facts.sound_s.itself.method.0 facts.sound_s.itself.method.1 (facts.image live);
       import = subst (λ n. s.import ≤ n) imports_as_many facts.sound_s.itself.import;
       not_empty = ltb-true (scope_image m s).range.start (scope_image m s).range.end
           (not-false (nat_lt (scope_image m s).range.start (scope_image m s).range.end) filled);
@@ -317,15 +331,20 @@ module _ (first : Bool) (m : Map) (w : AnnotatedFile) (ready : IsReadable m) (so
       constants = row_each (SoundConstant (most new)) (items_of (scope_image m s).constants)
           (items_each (moved_constant m) (λ n. Each (IsImaged m) (in_constant n)) (SoundConstant (most old)) (SoundConstant (most new))
           (λ n images sound_n. constant_moved m ready old new n sound_n images)
-          s.constants (facts.constants live) (each_row (SoundConstant (most old)) (items_of s.constants) facts.sound_s.itself.constants));
+          (live_constants m s.constants) (facts.constants live)
+          (live_sound m old s.constants (each_row (SoundConstant (most old)) (items_of s.constants) facts.sound_s.itself.constants)));
       constant_names_differ = row_pairs (λ a b. a.name ≢ b.name) (items_of (scope_image m s).constants)
-          (items_pairs (moved_constant m) (Contains s.constants) (λ a b. a.name ≢ b.name) (λ a b. a.name ≢ b.name) (λ x y also too apart. apart) s.constants
-          (each_in (Contains s.constants) s.constants (λ v is. is))
-          (pairs_row (λ a b. a.name ≢ b.name) (items_of s.constants) facts.sound_s.itself.constant_names_differ));
+          (items_pairs (moved_constant m) (Contains (live_constants m s.constants)) (λ a b. a.name ≢ b.name) (λ a b. a.name ≢ b.name)
+          (λ x y also too apart. apart) (live_constants m s.constants)
+          (each_in (Contains (live_constants m s.constants)) (live_constants m s.constants) (λ v is. is))
+          (live_differ m s.constants (pairs_row (λ a b. a.name ≢ b.name) (items_of s.constants) facts.sound_s.itself.constant_names_differ)));
     };
     customs = notes_kept old new same_documents 0x32 s.customs facts.sound_s.customs;
     variables = notes_of (moved_variable m s.method) 0x33 s.variables facts.sound_s.variables;
-    constants = notes_of (moved_constant m) 0x34 s.constants facts.sound_s.constants;
+    constants = notes_of (moved_constant m) 0x34 (live_constants m s.constants)
+        (Each-map (with_item (with_live_body m)) (λ n. Each (SoundNote (most old) 0x34) n.customs) (filter (live_constant m) s.constants)
+        (Each-filter (λ n. Each (SoundNote (most old) 0x34) n.customs) (λ n. Each (SoundNote (most old) 0x34) n.customs) (live_constant m)
+        (λ n is holds. holds) s.constants facts.sound_s.constants));
   }
 
   scopes_moved : Each (SoundAnnotatedScope (most new)) (moved_file m w).scopes
@@ -373,7 +392,7 @@ module _ (first : Bool) (m : Map) (w : AnnotatedFile) (ready : IsReadable m) (so
 
   imports_moved : (xs : List (Annotation ImportScopeValue))
       → Each (λ (n : Annotation ImportScopeValue). SoundImportScope (most old) n.item × Each (SoundNote (most old) 0x35) n.customs) xs
-      → Each (λ (n : Annotation ImportScopeValue). Each (λ i. Each (IsImaged m) (in_import i)) n.item.imports) xs
+      → Each (λ (n : Annotation ImportScopeValue). Each (λ i. Each (IsImaged m) (in_import i)) (live_imports m n.item.imports)) xs
       → Each (λ (n : Annotation ImportScopeValue). SoundImportScope (most new) n.item × Each (SoundNote (most new) 0x35) n.customs)
       (map (with_item (moved_import_scope m)) xs)
   imports_moved [] each named = tt
@@ -381,8 +400,10 @@ module _ (first : Bool) (m : Map) (w : AnnotatedFile) (ready : IsReadable m) (so
     (
       record {
         parent = subst (λ n. x.item.parent ≤ n) imports_as_many each.0.0.parent;
-        imports = row_each (SoundImport (most new)) (map (moved_import m) x.item.imports)
-            (all_moved x.item.imports (each_row (SoundImport (most old)) x.item.imports each.0.0.imports) named.0);
+        imports = row_each (SoundImport (most new)) (map (moved_import m) (live_imports m x.item.imports))
+            (all_moved (live_imports m x.item.imports)
+            (Each-filter (SoundImport (most old)) (SoundImport (most old)) (live_import m) (λ i is sound_i. sound_i) x.item.imports
+            (each_row (SoundImport (most old)) x.item.imports each.0.0.imports)) named.0);
       },
       notes_kept old new same_documents 0x35 x.customs each.0.1,
     ),
@@ -437,9 +458,9 @@ module _ (first : Bool) (m : Map) (w : AnnotatedFile) (ready : IsReadable m) (so
       let stays = machine_stays r s eq in
       record {
         move_next = subst (HasRow (most new) 0x06) (sym stays.moves)
-            (row_moved m ready 0x06 r.move_next facts.sound_r.move_next.0 facts.sound_r.move_next.1 (facts.image stays.live).0);
+            (method_there r.move_next facts.sound_r.move_next.0 facts.sound_r.move_next.1 (facts.image stays.live).0);
         kickoff = subst (HasRow (most new) 0x06) (sym stays.starts)
-            (row_moved m ready 0x06 r.kickoff facts.sound_r.kickoff.0 facts.sound_r.kickoff.1 (facts.image stays.live).1);
+            (method_there r.kickoff facts.sound_r.kickoff.0 facts.sound_r.kickoff.1 (facts.image stays.live).1);
       }) w.machines machine_facts
 
   moves_apart : Pairs (λ (a b : MachineRow). a.move_next ≢ b.move_next) (moved_file m w).machines
@@ -471,26 +492,99 @@ module _ (first : Bool) (m : Map) (w : AnnotatedFile) (ready : IsReadable m) (so
   custom_facts = each_of_four (λ c. (c.parent.table < 0x2d) × SoundCustom (most old) c) _ _ _ CustomFacts w.customs
       (λ c a b d e. record { low = a.0; sound_c = a.1; within = b; async = d; image = e }) sound.customs fits.hoisted fits.async images.customs
 
-  tag_kept : (table row other : ℕ) → IsSome (coded_in (record { table = table; row = row })) → IsSome (coded_in (record { table = table; row = other }))
-  tag_kept table row other is = by_place (position (λ t. t == table) parent_tables) is
+  tag_kept : (table row to image : ℕ) → IsSome (coded_in (record { table = table; row = row })) → row_image m table row ≡ Row to image
+      → IsSome (coded_in (record { table = to; row = image }))
+  tag_kept table row to image tag is = by (image_cases m ready table row to image is)
     where
-      by_place : (o : Option ℕ) → IsSome (option_map (λ tag. row * 32 + tag) o) → IsSome (option_map (λ tag. other * 32 + tag) o)
+      by_place : (o : Option ℕ) → IsSome (option_map (λ tag. row * 32 + tag) o) → IsSome (option_map (λ tag. image * 32 + tag) o)
       by_place None is = is
       by_place (Some tag) is = refl
 
+      by_line : (line : CrossLine) → line.to ≡ to → Crosses line → IsSome (coded_in (record { table = to; row = image }))
+      by_line line into (inl types) = by_type types.1
+        where
+          by_type : IsTypeTable line.to → IsSome (coded_in (record { table = to; row = image }))
+          by_type (inl one) = subst (λ t. IsSome (coded_in (record { table = t; row = image }))) (sym one ∙ into) refl
+          by_type (inr (inl two)) = subst (λ t. IsSome (coded_in (record { table = t; row = image }))) (sym two ∙ into) refl
+          by_type (inr (inr spec)) = subst (λ t. IsSome (coded_in (record { table = t; row = image }))) (sym spec ∙ into) refl
+      by_line line into (inr assembly) = subst (λ t. IsSome (coded_in (record { table = t; row = image }))) (sym assembly.1 ∙ into) refl
+
+      by : StaysOrCrosses m table to image (row_within m table row) → IsSome (coded_in (record { table = to; row = image }))
+      by (inl stays) = subst (λ t. IsSome (coded_in (record { table = t; row = image }))) (sym stays.0)
+          (by_place (position (λ t. t == table) parent_tables) tag)
+      by (inr crossed) = by_line crossed.line crossed.into crossed.there.2
+
+  low_kept : (table row to image : ℕ) → table < 0x2d → row_image m table row ≡ Row to image → to < 0x2d
+  low_kept table row to image low is = by (image_cases m ready table row to image is)
+    where
+      by_line : (line : CrossLine) → line.to ≡ to → Crosses line → to < 0x2d
+      by_line line into (inl types) = by_type types.1
+        where
+          by_type : IsTypeTable line.to → to < 0x2d
+          by_type (inl one) = omega (arith, one, into)
+          by_type (inr (inl two)) = omega (arith, two, into)
+          by_type (inr (inr spec)) = omega (arith, spec, into)
+      by_line line into (inr assembly) = omega (arith, assembly.1, into)
+
+      by : StaysOrCrosses m table to image (row_within m table row) → to < 0x2d
+      by (inl stays) = omega (arith, low, stays.0)
+      by (inr crossed) = by_line crossed.line crossed.into crossed.there.2
+
+  -- a record of type definition documents that stays is on a type definition
+  types_kept : (c : CustomValue) (to image : ℕ) → live_custom m c ≡ true → is_type_documents c.value ≡ true → row_image m c.parent.table c.parent.row ≡ Row to image
+      → to ≡ c.parent.table
+  types_kept c to image live is_types is = eqb-true to c.parent.table (not_not (nat_eq to c.parent.table) stays)
+    where
+      not_not : (b : Bool) → not b ≡ false → b ≡ true
+      not_not true e = refl
+      not_not false e = absurd (both_ways true e refl)
+
+      stays : leaves_table c.parent.table (Row to image) ≡ false
+      stays = by (nat_eq c.parent.table 0x06 && is_dropped m c.parent.row) (is_gone_row m c.parent.table c.parent.row)
+          (leaves_table c.parent.table (Row to image))
+          (sym (ap (λ b. not (nat_eq c.parent.table 0x06 && is_dropped m c.parent.row
+          || (is_gone_row m c.parent.table c.parent.row || b && leaves_table c.parent.table (row_image m c.parent.table c.parent.row)))) is_types
+          ∙ ap (λ i. not (nat_eq c.parent.table 0x06 && is_dropped m c.parent.row
+          || (is_gone_row m c.parent.table c.parent.row || true && leaves_table c.parent.table i))) is) ∙ live)
+        where
+          by : (a b d : Bool) → not (a || (b || true && d)) ≡ true → d ≡ false
+          by true b d e = absurd (both_ways false refl e)
+          by false true d e = absurd (both_ways false refl e)
+          by false false true e = absurd (both_ways false refl e)
+          by false false false e = refl
+
+  method_kept : (c : CustomValue) (to image : ℕ) → c.parent.table ≡ 0x06 → row_image m c.parent.table c.parent.row ≡ Row to image → to ≡ 0x06
+  method_kept c to image on is = (image_stays m ready 0x06 c.parent.row to image refl (ap (λ t. row_image m t c.parent.row) (sym on) ∙ is)).0
+
+  -- a record of a kind that is read stands on that kind's table
+  stands_kept : (c : CustomValue) (kind : Kind) (to image : ℕ) → live_custom m c ≡ true → StandsOn kind c.parent.table → IsBodyOfKind (most old) kind c.value
+      → row_image m c.parent.table c.parent.row ≡ Row to image → StandsOn kind to
+  stands_kept c kinds.Async to image live on body is = method_kept c to image on is
+  stands_kept c kinds.Hoisted to image live on body is = method_kept c to image on is
+  stands_kept c kinds.TypeDocuments to image live on body is = types_kept c to image live (is_types c.value body) is ∙ on
+    where
+      is_types : (b : CustomBody) → IsBodyOfKind (most old) kinds.TypeDocuments b → is_type_documents b ≡ true
+      is_types (TypeDocuments names) body = refl
+      is_types (Async handler steps) body = absurd body
+      is_types (Hoisted slots) body = absurd body
+      is_types (Unread bytes) body = absurd body
+  stands_kept c kinds.Free to image live on body is = tt
+  stands_kept c kinds.Unknown to image live on body is = tt
+
   -- a record before it moves
   linked_facts : (c : CustomValue) → CustomFacts c → CustomFacts (linked m c)
-  linked_facts c facts = by_link (is_link c) refl m.link
+  linked_facts c facts = by_link (is_link c) refl m.link (λ live. sym (linked_lives m ready c) ∙ live)
     where
-      free : is_link c ≡ true → kind_of [] c.kind ≡ Free
+      free : is_link c ≡ true → kind_of [] c.kind ≡ kinds.Free
       free is = ap (kind_of []) ((bytes_eq-Decides c.kind source_link).0
           (and_parts (is_at 0x00 1 c.parent) (bytes_eq c.kind source_link) is).1)
 
       by_link : (b : Bool) → is_link c ≡ b → (value : Option (List ℕ))
+          → (live_custom m (record c { value = unwrap_or (option_map Unread (cond b value None)) c.value }) ≡ true → live_custom m c ≡ true)
           → CustomFacts (record c { value = unwrap_or (option_map Unread (cond b value None)) c.value })
-      by_link false is value = facts
-      by_link true is None = facts
-      by_link true is (Some value) = record {
+      by_link false is value lives = facts
+      by_link true is None lives = facts
+      by_link true is (Some value) lives = record {
         low = facts.low;
         sound_c = record {
           tag = facts.sound_c.tag;
@@ -500,40 +594,51 @@ module _ (first : Bool) (m : Map) (w : AnnotatedFile) (ready : IsReadable m) (so
         };
         within = tt;
         async = λ live. tt;
-        image = λ live. ((facts.image live).0, tt);
+        image = λ live. ((facts.image (lives live)).0, tt);
       }
 
-  custom_moved : (c d : CustomValue) → moved_record m c ≡ Some d → CustomFacts c → (d.parent.table < 0x2d) × SoundCustom (most new) d
-  custom_moved c d eq facts = by_drop (nat_eq c.parent.table 0x06 && is_dropped m c.parent.row) refl eq
+  -- what stays, and where its parent's image is
+  record CustomStays (c d : CustomValue) : Type 0 where
+    live : live_custom m c ≡ true
+    is : image_of m c ≡ d
+
+  custom_stays : (c d : CustomValue) → moved_record m c ≡ Some d → CustomStays c d
+  custom_stays c d eq = by_living (live_custom m c) refl eq
     where
-      image : CustomValue
-      image = record {
-        parent = record { table = c.parent.table; row = moved_row m c.parent.table c.parent.row };
-        kind = c.kind;
-        value = moved_body m
-            c.parent.row c.value;
-      }
+      by_living : (b : Bool) → live_custom m c ≡ b → cond b (Some (image_of m c)) None ≡ Some d → CustomStays c d
+      by_living true stays eq = record { live = stays; is = some_of (image_of m c) d eq }
+      by_living false goes eq = absurd cc
+
+  custom_moved : (c d : CustomValue) → moved_record m c ≡ Some d → CustomFacts c → (d.parent.table < 0x2d) × SoundCustom (most new) d
+  custom_moved c d eq facts =
+      let stays = custom_stays c d eq in
+      subst (λ (e : CustomValue). (e.parent.table < 0x2d) × SoundCustom (most new) e) stays.is
+      (subst (λ i. (table_in i < 0x2d) × SoundCustom (most new) (at_image i)) (sym (image_in_row stays.live).2) (sound_image stays.live))
+    where
+      at_image : RowImage → CustomValue
+      at_image i = record { parent = record { table = table_in i; row = row_in i }; kind = c.kind; value = moved_body m c.parent.row c.value }
+
+      image_in_row : live_custom m c ≡ true → IsImaged m (names c.parent.table c.parent.row)
+      image_in_row live = (facts.image live).0
 
       most_rows : count (most old) c.parent.table ≡ 16777215
       most_rows = count_most old c.parent.table facts.low
 
-      sound_image : live_custom m c ≡ true → SoundCustom (most new) image
+      sound_image : (live : live_custom m c ≡ true)
+          → ((image_in_row live).0 < 0x2d) × SoundCustom (most new) (at_image (Row (image_in_row live).0 (image_in_row live).1))
       sound_image live =
-          let row = row_moved m ready c.parent.table c.parent.row facts.sound_c.parent.0 (subst (λ n. c.parent.row ≤ n) most_rows facts.sound_c.parent.1)
-          (facts.image live).0 in
-          record {
-            tag = tag_kept c.parent.table c.parent.row (moved_row m c.parent.table c.parent.row) facts.sound_c.tag;
-            parent = (row.0, subst (λ n. moved_row m c.parent.table c.parent.row ≤ n) (sym (count_most new c.parent.table facts.low)) row.1);
-            stands_on = facts.sound_c.stands_on;
-            body = body_kept m ready rise old new same_documents c.parent.row (kind_of [] c.kind) c.value facts.sound_c.body (facts.async live) facts.within
-                (facts.image live).1;
-          }
-
-      by_drop : (b : Bool) → nat_eq c.parent.table 0x06 && is_dropped m c.parent.row ≡ b → cond b None (Some image) ≡ Some d
-          → (d.parent.table < 0x2d) × SoundCustom (most new) d
-      by_drop true goes eq = absurd (cc)
-      by_drop false stays eq = subst (λ (e : CustomValue). (e.parent.table < 0x2d) × SoundCustom (most new) e) (some_of image d eq)
-          (facts.low, sound_image (ap not stays))
+          let i = image_in_row live in
+          let low = low_kept c.parent.table c.parent.row i.0 i.1 facts.low i.2 in
+          let row = image_in m ready c.parent.table c.parent.row i.0 i.1 facts.sound_c.parent.0 (subst (λ n. c.parent.row ≤ n) most_rows facts.sound_c.parent.1) i.2 in (
+            low,
+            record {
+              tag = tag_kept c.parent.table c.parent.row i.0 i.1 facts.sound_c.tag i.2;
+              parent = (row.0, subst (λ n. i.1 ≤ n) (sym (count_most new i.0 low)) row.1);
+              stands_on = stands_kept c (kind_of [] c.kind) i.0 i.1 live facts.sound_c.stands_on facts.sound_c.body i.2;
+              body = body_kept m ready rise old new same_documents c.parent.row (kind_of [] c.kind) c.value facts.sound_c.body (facts.async live) facts.within
+                  (facts.image live).1;
+            },
+          )
 
   -- ---- the file
 
@@ -566,7 +671,7 @@ module _ (first : Bool) (m : Map) (w : AnnotatedFile) (ready : IsReadable m) (so
 
   of_named : (method : ℕ) → 1 ≤ method → Contains (named_rows first m w) (names 0x06 method) → IsImaged m (names 0x06 method)
       → IsOfNamed (moved_row m 0x06 method)
-  of_named method above there image = (method, there, image.1 ∙ ap Some (sym (moved_is_image m 0x06 method image.0 above image.1)))
+  of_named method above there image = (method, there, within_moved m ready 0x06 method image.0 image.1 refl above image.2)
 
   customs_inside : Each
       (λ (c : CustomValue). CustomFacts c × (live_custom m c ≡ true → Contains (named_rows first m w) (names c.parent.table c.parent.row))) w.customs
@@ -578,27 +683,22 @@ module _ (first : Bool) (m : Map) (w : AnnotatedFile) (ready : IsReadable m) (so
   custom_of_named : (c d : CustomValue) → moved_record m c ≡ Some d
       → CustomFacts c × (live_custom m c ≡ true → Contains (named_rows first m w) (names c.parent.table c.parent.row))
       → d.parent.table ≡ 0x06 → IsOfNamed d.parent.row
-  custom_of_named c d eq facts six = by_drop (nat_eq c.parent.table 0x06 && is_dropped m c.parent.row) refl eq
+  custom_of_named c d eq facts six =
+      let stays = custom_stays c d eq in
+      let i = (facts.0.image stays.live).0 in
+      subst (λ (e : CustomValue). IsOfNamed e.parent.row) stays.is
+      (subst (λ j. IsOfNamed (row_in j)) (sym i.2)
+      (by_image i.0 i.1 i.2 (sym (ap table_in i.2) ∙ ap (λ (e : CustomValue). e.parent.table) stays.is ∙ six) (facts.1 stays.live)))
     where
-      image : CustomValue
-      image = record {
-        parent = record { table = c.parent.table; row = moved_row m c.parent.table c.parent.row };
-        kind = c.kind;
-        value = moved_body m
-            c.parent.row c.value;
-      }
-
-      by_table : live_custom m c ≡ true → c.parent.table ≡ 0x06 → IsOfNamed (moved_row m c.parent.table c.parent.row)
-      by_table live is =
-          subst (λ t. IsOfNamed (moved_row m t c.parent.row)) (sym is)
-          (of_named c.parent.row facts.0.sound_c.parent.0 (subst (λ t. Contains (named_rows first m w) (names t c.parent.row)) is (facts.1 live))
-          (subst (λ t. IsImaged m (names t c.parent.row)) is (facts.0.image live).0))
-
-      by_drop : (b : Bool) → nat_eq c.parent.table 0x06 && is_dropped m c.parent.row ≡ b → cond b None (Some image) ≡ Some d → IsOfNamed d.parent.row
-      by_drop true goes eq = absurd (cc)
-      by_drop false stays eq =
-          let is : image ≡ d = some_of image d eq in
-          subst (λ (e : CustomValue). IsOfNamed e.parent.row) is (by_table (ap not stays) (ap (λ (e : CustomValue). e.parent.table) is ∙ six))
+      by_image : (to image : ℕ) → row_image m c.parent.table c.parent.row ≡ Row to image → to ≡ 0x06
+          → Contains (named_rows first m w) (names c.parent.table c.parent.row) → IsOfNamed image
+      by_image to image is to_six there =
+          let at_six : row_image m c.parent.table c.parent.row ≡ Row 0x06 image = is ∙ ap (λ t. Row t image) to_six in
+          let from : c.parent.table ≡ 0x06 = never_method m ready c.parent.table c.parent.row image at_six in (
+            c.parent.row,
+            subst (λ t. Contains (named_rows first m w) (names t c.parent.row)) from there,
+            (image_stays m ready 0x06 c.parent.row 0x06 image refl (ap (λ t. row_image m t c.parent.row) (sym from) ∙ at_six)).1,
+          )
 
   pub moved_names : MovedNames first m w
   moved_names = record {
@@ -617,5 +717,6 @@ module _ (first : Bool) (m : Map) (w : AnnotatedFile) (ready : IsReadable m) (so
     customs = Each-filter_map (moved_custom m)
         (λ (c : CustomValue). CustomFacts c × (live_custom m c ≡ true → Contains (named_rows first m w) (names c.parent.table c.parent.row)))
         (λ (d : CustomValue). d.parent.table ≡ 0x06 → IsOfNamed d.parent.row)
-        (λ c d eq facts. custom_of_named (linked m c) d eq (linked_facts c facts.0, facts.1)) w.customs customs_inside;
+        (λ c d eq facts. custom_of_named (linked m c) d eq
+        (linked_facts c facts.0, λ live. facts.1 (sym (linked_lives m ready c) ∙ live))) w.customs customs_inside;
   }

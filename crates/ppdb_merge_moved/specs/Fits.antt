@@ -1,20 +1,26 @@
 -- When a map fits a file (docs/FORMAT.md, "Fitting").
 use Rattle.ppdb_values.specs.Names.{Kept, old_size, Slot, Empty, Held, AsyncStep}
-use Rattle.std.specs.Prelude.{◌≡◌, ◌≢◌, ℕ, ◌<◌, ◌≤◌, Bool, true, IfSome, List, Some, Contains}
-use Rattle.ppdb_maps.specs.Map.{Map, row_within, offsets_in, slot_image, moved_name}
+use Rattle.std.specs.Prelude.{◌≡◌, ◌≢◌, ℕ, ◌<◌, ◌≤◌, ◌&&◌, ◌||◌, Bool, true, false, nat_eq, IfSome, List, Some, Contains}
+use Rattle.ppdb_maps.specs.{Map.{Map, row_image, offsets_in, slot_image, moved_name}, declared.image.RowImage.TheVariants.Row}
 use Rattle.ppdb_values.specs.{declared.custom.CustomBody.{CustomBody, TheVariants.{Async, Hoisted}}, declared.annotation.Annotation.Annotation}
 use Rattle.ppdb_values.specs.{declared.file.DocumentValue.DocumentValue, declared.scope.VariableValue.VariableValue}
 use Rattle.ppdb_merge_items.specs.{declared.file.{AnnotatedScope.AnnotatedScope, AnnotatedFile.AnnotatedFile}, Each.{Each, Pairs}, NamedRows.{Named, named_rows, live_scope, live_custom}}
 
 -- ---- rows
 
--- the row has an image
+-- the row has an image: a row of its table or of another one
 abbrev pub IsImaged : Map → Named → Type 0
-IsImaged m n = (image : ℕ) × (row_within m n.table n.row ≡ Some image)
+IsImaged m n = (table image : ℕ) × (row_image m n.table n.row ≡ Row table image)
 
--- two rows of one table with one image are one row
+-- the map has a `shares` line, and it is a table of types or AssemblyRef
+abbrev pub may_share : Map → ℕ → Bool
+may_share m table = m.shares && (nat_eq table 0x01 || (nat_eq table 0x02 || (nat_eq table 0x1b || nat_eq table 0x23)))
+
+-- two rows of one table with one image are one row, unless rows of the table may share an image
 abbrev pub AreApart : Map → Named → Named → Type 0
-AreApart m a b = (image : ℕ) → a.table ≡ b.table → row_within m a.table a.row ≡ Some image → row_within m b.table b.row ≡ Some image → a.row ≡ b.row
+AreApart m a b =
+    (table image : ℕ) → a.table ≡ b.table → may_share m a.table ≡ false → row_image m a.table a.row ≡ Row table image
+    → row_image m b.table b.row ≡ Row table image → a.row ≡ b.row
 
 -- ---- offsets
 
@@ -59,9 +65,9 @@ NamesDiffer m a b = moved_name m a.item.name ≢ moved_name m b.item.name
 
 -- ---- the file
 
--- Each row that the file names has an image, and no two of a table have one; points lie below the old size of their method, and ranges end
+-- Each row that the file names has an image, and no two of a table have one unless they may share it; points lie below the old size of their method, and ranges end
 -- within it; async offsets are kept; slots of variables have images, and no two of a method have one; no two documents get one name.
--- Nothing is asked of what stands at a dropped method.
+-- Nothing is asked of what goes.
 pub record Fits (first : Bool) (m : Map) (file : AnnotatedFile) : Type 0 where
   pub images : Each (IsImaged m) (named_rows first m file)
   pub apart : (a b : Named) → Contains (named_rows first m file) a → Contains (named_rows first m file) b → AreApart m a b

@@ -3,7 +3,11 @@ use Rattle.ppdb_values.specs.Names.{MachineRow, Offsets, Rise, gone, old_size, S
 use Rattle.std.specs.Prelude.{◌≡◌, ◌≢◌, ℕ, ◌<◌, ◌≤◌, Bool, true, List, [], ◌∷◌}
 use Rattle.ppdb_merge_items.specs.{NamedRows.live_machine, declared.file.{AnnotatedFile.AnnotatedFile, AnnotatedScope.AnnotatedScope}, Each.Each}
 use Rattle.ppdb_values.specs.{declared.custom.{CustomBody.{CustomBody, TheVariants.Hoisted}, CustomValue.CustomValue}, declared.file.MethodValue.MethodValue}
-use Rattle.ppdb_maps.specs.Map.{Map, moved_row, offsets_in}
+use Rattle.ppdb_maps.specs.{Map.{Map, row_image, moved_row, offsets_in}, declared.image.RowImage.TheVariants.Row}
+
+-- the image of the method is a row of MethodDef
+abbrev pub MovesAsMethod : Map → ℕ → Type 0
+MovesAsMethod m method = row_image m 0x06 method ≡ Row 0x06 (moved_row m 0x06 method)
 
 -- offsets rise, and the last is below the end
 abbrev pub PointsRise : ℕ → List Point → Type 0
@@ -46,6 +50,7 @@ pub record FitsMachine (m : Map) (method : ℕ) (r : MachineRow) : Type 0 where
 
 -- of a file that names the method
 pub record FitsFile (first : Bool) (m : Map) (w : AnnotatedFile) (method : ℕ) : Type 0 where
+  pub image : MovesAsMethod m method
   pub rise : Rise (offsets_in m method)
   pub live : offsets_in m method ≢ gone
   pub entry : first ≡ true → FitsEntry m method w.entry

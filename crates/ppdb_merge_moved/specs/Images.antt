@@ -3,7 +3,7 @@ use Rattle.std.specs.Prelude.{ℕ, ◌&&◌, Bool, cond, Option, Some, None, map
 use Rattle.ppdb_base.specs.Offsets.{moved}
 use Rattle.ppdb_maps.specs.Map.{Map, moved_row, moved_signature, offsets_in, is_dropped}
 use Rattle.ppdb_values.specs.{declared.annotation.Custom.Custom, Meaning.{PointMeaning, ScopeMeaning, SlotMeaning, Meaning}, Links.Links}
-use Rattle.ppdb_merge_items.specs.Annotated.{with_item}
+use Rattle.ppdb_merge_items.specs.{Annotated.with_item, NamedRows.{live_constants, live_imports}}
 use Rattle.ppdb_merge_moved.specs.Moved.{moved_range, moved_variable, moved_constant, moved_import, moved_body, moved_document}
 
 -- the document gets the name that the map gives it; the local signature is that of the method's `signature` line, else its own, moved
@@ -14,12 +14,13 @@ point_image m method p = record p {
   signature = moved_signature m method p.signature;
 }
 
+-- constants and imports that name a row that is gone are left out
 abbrev pub scope_image : Map → ℕ → ScopeMeaning → ScopeMeaning
 scope_image m method s = record s {
   range = moved_range (offsets_in m method) s.range;
   variables = map (with_item (moved_variable m method)) s.variables;
-  constants = map (with_item (moved_constant m)) s.constants;
-  imports = map (with_item (map (moved_import m))) s.imports;
+  constants = map (with_item (moved_constant m)) (live_constants m s.constants);
+  imports = map (with_item (λ imports. map (moved_import m) (live_imports m imports))) s.imports;
 }
 
 abbrev pub slot_meaning_image : Map → ℕ → SlotMeaning → SlotMeaning

@@ -6,7 +6,7 @@ use Rattle.ppdb_values.specs.{declared.file.MethodValue.MethodValue, declared.an
 use Rattle.ppdb_merge_items.specs.{declared.file.AnnotatedFile.AnnotatedFile, AnnotatedMeaning.{annotated_links, annotated_meaning, slots_at, scope_meaning, scopes_at, point_meaning}}
 use Rattle.ppdb_merge_items.specs.{NamedRows.{names, named_rows}, SoundParts.SoundMoved, Each.{Each, Pairs}}
 use Rattle.ppdb_merge_moved.specs.{Moved.{moved_file, moved_method, moved_body}, Images.{scope_image, point_image, slot_meaning_image, meaning_image, partner_image}, Fits.Fits}
-use Rattle.ppdb_merge_moved.specs.FitsMethod.{FitsScope, FitsMethod, FitsCustom, FitsEntry, FitsMachine, FitsFile}
+use Rattle.ppdb_merge_moved.specs.FitsMethod.{MovesAsMethod, FitsScope, FitsMethod, FitsCustom, FitsEntry, FitsMachine, FitsFile}
 
 abbrev pub ScopesMean : Type 0
 ScopesMean = (m : Map) (w : AnnotatedFile) (method : ℕ) → Rise (offsets_in m method) → (offsets_in m method ≢ gone) → (x y : ℕ) → Kept (offsets_in m method) x y
@@ -24,8 +24,8 @@ PointsMean = (m : Map) (w : AnnotatedFile) (method : ℕ) → Rise (offsets_in m
     ≡ option_map (point_image m method) (option_and_then (λ (q : MethodValue). point_meaning w q x) (find (λ (q : MethodValue). nat_eq q.method method) es))
 
 abbrev pub SlotsMean : Type 0
-SlotsMean = (m : Map) (w : AnnotatedFile) (method : ℕ) → Rise (offsets_in m method) → (offsets_in m method ≢ gone) → (x y : ℕ) → Kept (offsets_in m method) x y
-    → x ≤ old_size (offsets_in m method)
+SlotsMean = (m : Map) (w : AnnotatedFile) (method : ℕ) → IsReadable m → MovesAsMethod m method → Rise (offsets_in m method) → (offsets_in m method ≢ gone)
+    → (x y : ℕ) → Kept (offsets_in m method) x y → x ≤ old_size (offsets_in m method)
     → Each (FitsCustom m method) w.customs
     → slots_at (moved_file m w) (moved_row m 0x06 method) y ≡ map (slot_meaning_image m method) (slots_at w method x)
 
@@ -38,7 +38,8 @@ pub record LinksMean (m : Map) (w : AnnotatedFile) (method : ℕ) : Type 0 where
       ≡ map (λ (c : Custom). record c { value = moved_body m method c.value }) (annotated_links w method).customs
 
 abbrev pub LinksMoved : Type 0
-LinksMoved = (m : Map) (w : AnnotatedFile) (method : ℕ) → (offsets_in m method ≢ gone) → Each (FitsMachine m method) w.machines
+LinksMoved = (m : Map) (w : AnnotatedFile) (method : ℕ) → IsReadable m → MovesAsMethod m method → (offsets_in m method ≢ gone)
+    → Each (FitsMachine m method) w.machines
     → Pairs (λ (a b : MachineRow). a.move_next ≢ b.move_next) w.machines → Pairs (λ (a b : MachineRow). a.kickoff ≢ b.kickoff) w.machines
     → Each (FitsCustom m method) w.customs → LinksMean m w method
 
@@ -55,7 +56,7 @@ pub record MovedMeans (m : Map) (w : AnnotatedFile) (method : ℕ) : Type 0 wher
   pub links : LinksMean m w method
 
 abbrev pub FilesMean : Type 0
-FilesMean = (first : Bool) (m : Map) (w : AnnotatedFile) (method : ℕ) → SoundMoved w → FitsFile first m w method → MovedMeans m w method
+FilesMean = (first : Bool) (m : Map) (w : AnnotatedFile) (method : ℕ) → IsReadable m → SoundMoved w → FitsFile first m w method → MovedMeans m w method
 
 -- A sound file that a map fits is sound, part by part, after it has moved.
 abbrev pub MovedIsSound : Type 0

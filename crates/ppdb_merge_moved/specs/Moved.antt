@@ -1,13 +1,16 @@
 -- A file moved by a map: rows, offsets and slots become their images, and what has none goes.
-use Rattle.ppdb_values.specs.Names.{Offsets, moved, Point, TypeToken, Modifier, Range, Slot, Empty, Held, AsyncStep, MachineRow, moved_points, source_link}
-use Rattle.std.specs.Prelude.{ℕ, ◌+◌, ◌&&◌, ◌||◌, not, Bool, cond, nat_eq, nat_lt, bytes_eq, List, [], ◌∷◌, Option, Some, None, unwrap_or, map, filter_map, option_map}
-use Rattle.ppdb_maps.specs.Map.{Map, moved_row, moved_signature, moved_name, offsets_in, slot_image, is_dropped, output_count}
+use Rattle.ppdb_values.specs.Names.{Offsets, moved, Point, TypeToken, Modifier, Range, Slot, Empty, Held, AsyncStep, MachineRow, moved_points, source_link, Parent}
+use Rattle.std.specs.Prelude.{ℕ, ◌+◌, ◌&&◌, ◌||◌, not, Bool, cond, nat_lt, bytes_eq, List, [], ◌∷◌, Option, Some, None, unwrap_or, map, filter_map, option_map}
+use Rattle.ppdb_maps.specs.Map.{Map, row_image, moved_row, moved_signature, moved_name, offsets_in, slot_image, is_dropped, output_count}
+use Rattle.ppdb_maps.specs.declared.image.RowImage.{RowImage, TheVariants.Row}
 use Rattle.ppdb_values.specs.declared.file.{DocumentValue.DocumentValue, MethodValue.MethodValue}
 use Rattle.ppdb_values.specs.declared.scope.{VariableValue.VariableValue, ConstantValue.ConstantValue, ConstantBody.ConstantBody}
 use Rattle.ppdb_values.specs.{declared.scope.ConstantBody.TheVariants.{Enumerated, General}, declared.import.ImportValue.ImportValue}
-use Rattle.ppdb_values.specs.declared.import.{ImportValue.TheVariants.{AssemblyNamespace, Target, AssemblyAlias, AssemblyNamespaceAlias, TargetAlias}, ImportScopeValue.ImportScopeValue}
+use Rattle.ppdb_values.specs.declared.import.ImportValue.TheVariants.{Namespace, AssemblyNamespace, Target, AssemblyAlias, NamespaceAlias, AssemblyNamespaceAlias, TargetAlias}
+use Rattle.ppdb_values.specs.declared.import.{ImportScopeValue.ImportScopeValue}
 use Rattle.ppdb_values.specs.{declared.custom.{CustomBody.{CustomBody, TheVariants.{Async, Hoisted, Unread}}, CustomValue.CustomValue}, Parts.is_at}
 use Rattle.ppdb_merge_items.specs.{declared.file.{AnnotatedScope.AnnotatedScope, AnnotatedFile.AnnotatedFile}, Annotated.with_item}
+use Rattle.ppdb_merge_items.specs.NamedRows.{is_in_table, live_constants, live_custom, live_imports}
 
 -- ---- offsets
 
@@ -39,8 +42,18 @@ moved_body m method body = body
 
 -- ---- types and imports
 
+-- the table and the row of an image; both are 0 where there is none, which no part of a file names that a map fits
+abbrev pub table_in : RowImage → ℕ
+table_in (Row table row) = table
+table_in image = 0
+
+abbrev pub row_in : RowImage → ℕ
+row_in (Row table row) = row
+row_in image = 0
+
+-- a type becomes its image, in whichever table it is
 abbrev pub moved_token : Map → TypeToken → TypeToken
-moved_token m token = record token { row = moved_row m token.table token.row }
+moved_token m token = record { table = table_in (row_image m token.table token.row); row = row_in (row_image m token.table token.row) }
 
 abbrev pub moved_modifier : Map → Modifier → Modifier
 moved_modifier m modifier = record modifier { target = moved_token m modifier.target }
@@ -50,11 +63,17 @@ moved_constant_body m (Enumerated code value target) = Enumerated code value (mo
 moved_constant_body m (General code target rest) = General code (moved_token m target) rest
 moved_constant_body m body = body
 
+-- an import of an assembly with this image: it loses the assembly where that becomes the module's own (a row of table 20)
+abbrev pub of_assembly : RowImage → (ℕ → ImportValue) → ImportValue → ImportValue
+of_assembly image there own = cond (is_in_table 0x20 image) own (there (row_in image))
+
 abbrev pub moved_import : Map → ImportValue → ImportValue
-moved_import m (AssemblyNamespace assembly namespace) = AssemblyNamespace (moved_row m 0x23 assembly) namespace
+moved_import m (AssemblyNamespace assembly namespace) =
+    of_assembly (row_image m 0x23 assembly) (λ row. AssemblyNamespace row namespace) (Namespace namespace)
 moved_import m (Target target) = Target (moved_token m target)
-moved_import m (AssemblyAlias alias assembly) = AssemblyAlias alias (moved_row m 0x23 assembly)
-moved_import m (AssemblyNamespaceAlias alias assembly namespace) = AssemblyNamespaceAlias alias (moved_row m 0x23 assembly) namespace
+moved_import m (AssemblyAlias alias assembly) = AssemblyAlias alias (row_in (row_image m 0x23 assembly))
+moved_import m (AssemblyNamespaceAlias alias assembly namespace) =
+    of_assembly (row_image m 0x23 assembly) (λ row. AssemblyNamespaceAlias alias row namespace) (NamespaceAlias alias namespace)
 moved_import m (TargetAlias alias target) = TargetAlias alias (moved_token m target)
 moved_import m import = import
 
@@ -68,7 +87,7 @@ is_link c = is_at 0x00 1 c.parent && bytes_eq c.kind source_link
 abbrev pub linked : Map → CustomValue → CustomValue
 linked m c = record c { value = unwrap_or (option_map Unread (cond (is_link c) m.link None)) c.value }
 
--- ---- items; each keeps the records on it
+-- ---- items; each that stays keeps the records on it
 
 -- a document gets the name that the map gives it
 abbrev pub moved_document : Map → DocumentValue → DocumentValue
@@ -81,7 +100,7 @@ abbrev pub moved_constant : Map → ConstantValue → ConstantValue
 moved_constant m c = record c { modifiers = map (moved_modifier m) c.modifiers; body = moved_constant_body m c.body }
 
 abbrev pub moved_import_scope : Map → ImportScopeValue → ImportScopeValue
-moved_import_scope m i = record i { imports = map (moved_import m) i.imports }
+moved_import_scope m i = record i { imports = map (moved_import m) (live_imports m i.imports) }
 
 abbrev pub scope_image : Map → AnnotatedScope → AnnotatedScope
 scope_image m s = record {
@@ -90,7 +109,7 @@ scope_image m s = record {
   range = moved_range (offsets_in m s.method) s.range;
   customs = s.customs;
   variables = map (with_item (moved_variable m s.method)) s.variables;
-  constants = map (with_item (moved_constant m)) s.constants;
+  constants = map (with_item (moved_constant m)) (live_constants m s.constants);
 }
 
 -- ---- what may go
@@ -117,14 +136,13 @@ moved_machine m r =
     cond (is_dropped m r.move_next || is_dropped m r.kickoff) None
     (Some (record { move_next = moved_row m 0x06 r.move_next; kickoff = moved_row m 0x06 r.kickoff }))
 
--- a record on a dropped method goes
+-- a record that stays gets its parent's image, in whichever table it is, as its parent
+abbrev pub moved_parent : Map → Parent → Parent
+moved_parent m parent = record { table = table_in (row_image m parent.table parent.row); row = row_in (row_image m parent.table parent.row) }
+
 abbrev pub moved_record : Map → CustomValue → Option CustomValue
 moved_record m c =
-    cond (nat_eq c.parent.table 0x06 && is_dropped m c.parent.row) None (Some (record {
-      parent = record { table = c.parent.table; row = moved_row m c.parent.table c.parent.row };
-      kind = c.kind;
-      value = moved_body m c.parent.row c.value;
-    }))
+    cond (live_custom m c) (Some (record { parent = moved_parent m c.parent; kind = c.kind; value = moved_body m c.parent.row c.value })) None
 
 -- a record moves with what the map's `link` line makes it say
 abbrev pub moved_custom : Map → CustomValue → Option CustomValue

@@ -1,7 +1,94 @@
 // Imports, moved in their places.
-use crate::moves::{Moves, move_all};
+ghost use Rattle.std.specs.Prelude.{◌≡◌};
+ghost use Rattle.ppdb_merge_moved.specs.Moved.{moved_import};
+
+use crate::images::{is_gone, is_gone_row, is_in_table, moved_type, row_in};
+use crate::moves::{Lives, Moves, keep_live, move_all};
 use ppdb_maps::MapText;
 use ppdb_values::{ImportScopeValue, ImportValue};
+use std::mem;
+use type_blobs::TypeToken;
+
+/// An import goes whose assembly or type is gone; so does an alias of an assembly that becomes the module's own.
+impl Lives<MapText> for ImportValue {
+    ghost use Rattle.ppdb_merge_items.specs.NamedRows.{live_import};
+
+    ghost lives = { live_import };
+
+    fn lives_by(&self, map: &MapText) -> bool {
+        match self {
+            ImportValue::AssemblyNamespace { assembly, .. } => !is_gone_row(map, 0x23, *assembly),
+            ImportValue::AssemblyNamespaceAlias { assembly, .. } => {
+                !is_gone_row(map, 0x23, *assembly)
+            }
+            ImportValue::AssemblyAlias { assembly, .. } => {
+                let image = map.row_image(0x23, *assembly);
+                !(is_gone(image) || is_in_table(0x20, image))
+            }
+            ImportValue::Target { target } => !is_gone_row(map, target.table, target.row),
+            ImportValue::TargetAlias { target, .. } => !is_gone_row(map, target.table, target.row),
+            ImportValue::Namespace { .. }
+            | ImportValue::Xml { .. }
+            | ImportValue::Alias { .. }
+            | ImportValue::NamespaceAlias { .. } => true,
+        }
+    }
+}
+
+/// An import, moved; it loses the assembly where that becomes the module's own.
+fn moved_import(map: &MapText, import: ImportValue) -> ImportValue
+    ensures { result ≡ moved_import map.now import }
+{
+    match import {
+        ImportValue::AssemblyNamespace {
+            assembly,
+            namespace,
+        } => {
+            let image = map.row_image(0x23, assembly);
+            if is_in_table(0x20, image) {
+                ImportValue::Namespace { namespace }
+            } else {
+                ImportValue::AssemblyNamespace {
+                    assembly: row_in(image),
+                    namespace,
+                }
+            }
+        }
+        ImportValue::AssemblyAlias { alias, assembly } => ImportValue::AssemblyAlias {
+            alias,
+            assembly: row_in(map.row_image(0x23, assembly)),
+        },
+        ImportValue::AssemblyNamespaceAlias {
+            alias,
+            assembly,
+            namespace,
+        } => {
+            let image = map.row_image(0x23, assembly);
+            if is_in_table(0x20, image) {
+                ImportValue::NamespaceAlias { alias, namespace }
+            } else {
+                ImportValue::AssemblyNamespaceAlias {
+                    alias,
+                    assembly: row_in(image),
+                    namespace,
+                }
+            }
+        }
+        ImportValue::Target { target } => ImportValue::Target {
+            target: moved_type(map, target),
+        },
+        ImportValue::TargetAlias { alias, target } => ImportValue::TargetAlias {
+            alias,
+            target: moved_type(map, target),
+        },
+        import => import,
+    }
+}
+
+/// What is in an import's place while the import moves.
+const NO_IMPORT: ImportValue = ImportValue::Target {
+    target: TypeToken { table: 0, row: 0 },
+};
 
 impl Moves<MapText> for ImportValue {
     ghost use Rattle.ppdb_merge_moved.specs.Moved.{moved_import};
@@ -9,23 +96,8 @@ impl Moves<MapText> for ImportValue {
     ghost moved = { moved_import };
 
     fn move_by(&mut self, map: &MapText) {
-        match self {
-            ImportValue::AssemblyNamespace { assembly, .. } => {
-                *assembly = map.moved_row(0x23, *assembly);
-            }
-            ImportValue::AssemblyAlias { assembly, .. } => {
-                *assembly = map.moved_row(0x23, *assembly);
-            }
-            ImportValue::AssemblyNamespaceAlias { assembly, .. } => {
-                *assembly = map.moved_row(0x23, *assembly);
-            }
-            ImportValue::Target { target } => target.move_by(map),
-            ImportValue::TargetAlias { target, .. } => target.move_by(map),
-            ImportValue::Namespace { .. }
-            | ImportValue::Xml { .. }
-            | ImportValue::Alias { .. }
-            | ImportValue::NamespaceAlias { .. } => {}
-        }
+        let import = mem::replace(self, NO_IMPORT);
+        *self = moved_import(map, import);
     }
 }
 
@@ -35,6 +107,7 @@ impl Moves<MapText> for ImportScopeValue {
     ghost moved = { moved_import_scope };
 
     fn move_by(&mut self, map: &MapText) {
+        keep_live(&mut self.imports, map);
         move_all(self.imports.as_mut_slice(), map);
     }
 }

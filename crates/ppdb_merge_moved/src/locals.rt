@@ -1,5 +1,6 @@
 // Local scopes and their variables, moved in their places, and state machines.
 use crate::moves::{InMethod, Moves, Stays, move_all};
+use crate::types::move_constants;
 use ppdb_maps::MapText;
 use ppdb_merge_items::AnnotatedScope;
 use ppdb_tables::MachineRow;
@@ -24,7 +25,7 @@ impl Moves<MapText> for AnnotatedScope {
         let method = self.method;
         self.range.move_by(&map.method(method));
         move_all(self.variables.as_mut_slice(), &InMethod { map, method });
-        move_all(self.constants.as_mut_slice(), map);
+        move_constants(&mut self.constants, map);
         self.method = map.moved_row(0x06, method);
     }
 }

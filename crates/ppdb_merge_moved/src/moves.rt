@@ -1,5 +1,5 @@
 // What can be moved in its place.
-ghost use Rattle.std.specs.Prelude.{◌≡◌, map, Option, IfOk};
+ghost use Rattle.std.specs.Prelude.{◌≡◌, ◌≤◌, Bool, map, filter, take, length, Option, IfOk};
 ghost use Rattle.std.specs.List.{filter_map};
 
 use ppdb_base::{List, Memory};
@@ -24,6 +24,39 @@ pub fn move_all<C, T: Moves<C>>(items: &mut [T], by: &C)
     for item in items.iter_mut() {
         item.move_by(by);
     }
+}
+
+/// What may go by a map.
+pub trait Lives<C>: Drop {
+    /// Whether a value stays.
+    ghost lives: { C → Self → Bool };
+
+    /// Whether the value stays.
+    fn lives_by(&self, by: &C) -> bool
+        ensures { result ≡ lives by.now self.now };
+}
+
+/// Moves the items that stay to the start, in order, and answers how many stay.
+fn live_prefix<C, T: Lives<C>>(items: &mut [T], by: &C) -> usize
+    ensures within { result ≤ length items.new }
+    ensures live { take result items.new ≡ filter (T.lives by.now) items.old }
+{
+    let mut stay = 0;
+    for place in 0..items.len() {
+        if items[place].lives_by(by) {
+            items.swap(stay, place);
+            stay += 1;
+        }
+    }
+    stay
+}
+
+/// Leaves the items that stay, in order. It takes no memory.
+pub fn keep_live<C, T: Lives<C>>(items: &mut List<T>, by: &C)
+    ensures { items.new ≡ filter (T.lives by.now) items.old }
+{
+    let stay = live_prefix(items.as_mut_slice(), by);
+    items.truncate(stay);
 }
 
 /// A method of a map.

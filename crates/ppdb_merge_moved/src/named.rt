@@ -40,7 +40,7 @@ pub(crate) fn name_documents(
 }
 
 /// Whether the record is a Source Link record on row 1 of Module.
-fn is_link(custom: &CustomValue) -> bool
+pub fn is_link(custom: &CustomValue) -> bool
     ensures { result ≡ is_link custom.now }
 {
     custom.parent.table == 0x00 && custom.parent.row == 1 && custom.kind == SOURCE_LINK

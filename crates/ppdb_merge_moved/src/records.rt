@@ -1,12 +1,14 @@
 // Custom records, moved in their places.
-ghost use Rattle.std.specs.Prelude.{◌≡◌, option_map};
+ghost use Rattle.std.specs.Prelude.{◌≡◌, ◌&&◌, cond, option_map, Some, None};
 ghost use Rattle.ppdb_base.specs.Offsets.{moved};
-ghost use Rattle.ppdb_maps.specs.Map.{offsets_in};
+ghost use Rattle.ppdb_maps.specs.Map.{offsets_in, row_image};
+ghost use Rattle.ppdb_merge_items.specs.NamedRows.{is_type_documents, leaves_table, live_custom};
 
+use crate::images::{is_gone, leaves_table, row_in, table_in};
 use crate::moves::{InMethod, Moves, Stays, move_all};
 use crate::offsets::moved_offset;
 use custom_info::AsyncStep;
-use ppdb_maps::MapText;
+use ppdb_maps::{MapText, RowImage};
 use ppdb_tables::Parent;
 use ppdb_values::{CustomBody, CustomValue};
 
@@ -52,19 +54,53 @@ impl Moves<InMethod<'_>> for CustomBody {
     }
 }
 
-/// A custom record on a row of the type system stays where it is on no dropped method.
+/// Whether a record of type definition documents would leave the table of its parent, which has this image.
+fn leaves_types(custom: &CustomValue, image: RowImage) -> bool
+    ensures { result ≡ (is_type_documents custom.now.value && leaves_table custom.now.parent.table image) }
+{
+    match custom.value {
+        CustomBody::TypeDocuments(_) => leaves_table(custom.parent.table, image),
+        CustomBody::Async { .. } | CustomBody::Hoisted(_) | CustomBody::Unread(_) => false,
+    }
+}
+
+/// The image of the parent of a record that stays; none where the record goes.
+fn parent_image(map: &MapText, custom: &CustomValue) -> Option<RowImage>
+    ensures { result ≡ cond (live_custom map.now custom.now) (Some (row_image map.now custom.now.parent.table custom.now.parent.row)) None }
+{
+    let Parent { table, row } = custom.parent;
+    if table == 0x06 && map.dropped(row) {
+        return None;
+    }
+    let image = map.row_image(table, row);
+    if is_gone(image) || leaves_types(custom, image) {
+        return None;
+    }
+    Some(image)
+}
+
+/// Whether a custom record stays: its parent is no dropped method and is not gone, and it tells the documents of no type that becomes a
+/// row of another table.
+pub fn custom_stays(map: &MapText, custom: &CustomValue) -> bool
+    ensures { result ≡ live_custom map.now custom.now }
+{
+    parent_image(map, custom).is_some()
+}
+
+/// A custom record on a row of the type system that stays gets its parent's image as its parent.
 impl Stays<MapText> for CustomValue {
     ghost use Rattle.ppdb_merge_moved.specs.Moved.{moved_record};
 
     ghost stays = { moved_record };
 
     fn stay_by(mut self, map: &MapText) -> Option<CustomValue> {
-        let Parent { table, row } = self.parent;
-        if table == 0x06 && map.dropped(row) {
-            return None;
-        }
-        self.value.move_by(&InMethod { map, method: row });
-        self.parent.row = map.moved_row(table, row);
+        let image = parent_image(map, &self)?;
+        let method = self.parent.row;
+        self.value.move_by(&InMethod { map, method });
+        self.parent = Parent {
+            table: table_in(image),
+            row: row_in(image),
+        };
         Some(self)
     }
 }

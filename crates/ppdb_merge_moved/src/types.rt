@@ -1,7 +1,17 @@
 // Types and constants, moved in their places.
-use crate::moves::{Moves, move_all};
+ghost use Rattle.std.specs.Prelude.{◌≡◌, map};
+ghost use Rattle.std.specs.List.{list_any};
+ghost use Rattle.type_blobs.specs.declared.types.Modifier.{Modifier};
+ghost use Rattle.ppdb_merge_items.specs.NamedRows.{goes_constant, is_gone_type, live_body, live_constants, names_gone_class};
+ghost use Rattle.ppdb_merge_items.specs.Annotated.{with_item};
+ghost use Rattle.ppdb_merge_moved.specs.Moved.{moved_constant, moved_constant_body};
+
+use crate::images::{is_gone_row, moved_type};
+use crate::moves::{Lives, Moves, keep_live, move_all};
+use ppdb_base::List;
 use ppdb_maps::MapText;
-use ppdb_values::{ConstantBody, ConstantValue};
+use ppdb_values::{Annotation, ConstantBody, ConstantValue};
+use std::mem;
 use type_blobs::{Modifier, TypeToken};
 
 impl Moves<MapText> for TypeToken {
@@ -10,7 +20,7 @@ impl Moves<MapText> for TypeToken {
     ghost moved = { moved_token };
 
     fn move_by(&mut self, map: &MapText) {
-        self.row = map.moved_row(self.table, self.row);
+        *self = moved_type(map, *self);
     }
 }
 
@@ -24,27 +34,97 @@ impl Moves<MapText> for Modifier {
     }
 }
 
-impl Moves<MapText> for ConstantBody {
-    ghost use Rattle.ppdb_merge_moved.specs.Moved.{moved_constant_body};
+/// Whether the type has no successor.
+fn is_gone_type(map: &MapText, token: TypeToken) -> bool
+    ensures { result ≡ is_gone_type map.now token }
+{
+    is_gone_row(map, token.table, token.row)
+}
 
-    ghost moved = { moved_constant_body };
-
-    fn move_by(&mut self, map: &MapText) {
-        match self {
-            ConstantBody::Enumerated { target, .. } => target.move_by(map),
-            ConstantBody::General { target, .. } => target.move_by(map),
-            ConstantBody::Primitive { .. } | ConstantBody::Object => {}
+/// Whether the class or value type that a constant is of has no successor.
+fn names_gone_class(map: &MapText, body: &ConstantBody) -> bool
+    ensures { result ≡ names_gone_class map.now body.now }
+{
+    match body {
+        ConstantBody::General { target, .. } => is_gone_type(map, *target),
+        ConstantBody::Primitive { .. } | ConstantBody::Enumerated { .. } | ConstantBody::Object => {
+            false
         }
     }
 }
 
+/// Whether a modifier has no successor.
+fn names_gone_modifier(map: &MapText, modifiers: &[Modifier]) -> bool
+    ensures { result ≡ list_any (λ (modifier : Modifier). is_gone_type map.now modifier.target) modifiers.now }
+{
+    modifiers
+        .iter()
+        .any(|modifier| is_gone_type(map, modifier.target))
+}
+
+/// Whether a constant goes: one of its modifiers, or the class or value type that it is of, is gone.
+pub fn constant_goes(map: &MapText, constant: &ConstantValue) -> bool
+    ensures { result ≡ goes_constant map.now constant.now }
+{
+    names_gone_modifier(map, constant.modifiers.as_slice()) || names_gone_class(map, &constant.body)
+}
+
+/// A constant goes with the records on it.
+impl Lives<MapText> for Annotation<ConstantValue> {
+    ghost use Rattle.ppdb_merge_items.specs.NamedRows.{live_constant};
+
+    ghost lives = { live_constant };
+
+    fn lives_by(&self, map: &MapText) -> bool {
+        !constant_goes(map, &self.item)
+    }
+}
+
+/// A body, moved; one of an enumeration that is gone is one of the enumeration's underlying type.
+fn moved_body(map: &MapText, body: ConstantBody) -> ConstantBody
+    ensures { result ≡ moved_constant_body map.now (live_body map.now body) }
+{
+    match body {
+        ConstantBody::Enumerated {
+            code,
+            value,
+            target,
+        } if is_gone_type(map, target) => ConstantBody::Primitive { code, value },
+        ConstantBody::Enumerated {
+            code,
+            value,
+            target,
+        } => ConstantBody::Enumerated {
+            code,
+            value,
+            target: moved_type(map, target),
+        },
+        ConstantBody::General { code, target, rest } => ConstantBody::General {
+            code,
+            target: moved_type(map, target),
+            rest,
+        },
+        body => body,
+    }
+}
+
 impl Moves<MapText> for ConstantValue {
+    ghost use Rattle.ppdb_merge_items.specs.NamedRows.{with_live_body};
     ghost use Rattle.ppdb_merge_moved.specs.Moved.{moved_constant};
 
-    ghost moved = { moved_constant };
+    ghost moved = { λ m constant. moved_constant m (with_live_body m constant) };
 
     fn move_by(&mut self, map: &MapText) {
         move_all(self.modifiers.as_mut_slice(), map);
-        self.body.move_by(map);
+        let body = mem::replace(&mut self.body, ConstantBody::Object);
+        self.body = moved_body(map, body);
     }
+}
+
+/// Moves the constants that stay; the others leave the list, with the records on them.
+pub(crate) fn move_constants(constants: &mut List<Annotation<ConstantValue>>, by: &MapText)
+    ensures { constants.new ≡ map (with_item (moved_constant by.now)) (live_constants by.now constants.old) }
+{
+    keep_live(constants, by);
+    move_all(constants.as_mut_slice(), by);
 }

@@ -82,22 +82,22 @@ flat_map-none (x ∷ xs) = flat_map-none xs
 
 -- ---- a list of a scope, row by row
 
-pub list_first : (raw : RawTables) (row end : ℕ) (cells : ConstantRow) → row_at raw.constants row ≡ Some cells → row < end
-    → of_list raw (record { first = row; end = end }) ≡ types_of raw (row, cells) ++ of_list raw (record { first = row + 1; end = end })
-list_first raw zero end cells there less = absurd cc
-list_first raw (suc i) zero cells there less = absurd (omega (arith, less))
-list_first raw (suc i) (suc e) cells there less =
+pub list_first : (m : Map) (raw : RawTables) (row end : ℕ) (cells : ConstantRow) → row_at raw.constants row ≡ Some cells → row < end
+    → of_list m raw (record { first = row; end = end }) ≡ types_of m raw (row, cells) ++ of_list m raw (record { first = row + 1; end = end })
+list_first m raw zero end cells there less = absurd cc
+list_first m raw (suc i) zero cells there less = absurd (omega (arith, less))
+list_first m raw (suc i) (suc e) cells there less =
     let a : suc i - 1 ≡ i = omega arith in
     let b : suc e - 1 ≡ e = omega arith in
     let c : suc i + 1 - 1 ≡ suc i = omega arith in
     let n : 1 + i ≡ suc i = omega arith in
     rw (a, b, c)
-    (ap (λ (rows : List (ℕ × ConstantRow)). flat_map (types_of raw) rows)
+    (ap (λ (rows : List (ℕ × ConstantRow)). flat_map (types_of m raw) rows)
     (take_first (numbered raw.constants) i e (suc i, cells) (numbered_get 1 raw.constants i cells there ∙ ap (λ (m : ℕ). Some (m, cells)) n)
     (omega (arith, less))))
 
-pub list_over : (raw : RawTables) (row end : ℕ) → end ≤ row → of_list raw (record { first = row; end = end }) ≡ []
-list_over raw row end past = let e : end - 1 - (row - 1) ≡ 0 = omega (arith, past) in rw e refl
+pub list_over : (m : Map) (raw : RawTables) (row end : ℕ) → end ≤ row → of_list m raw (record { first = row; end = end }) ≡ []
+list_over m raw row end past = let e : end - 1 - (row - 1) ≡ 0 = omega (arith, past) in rw e refl
 
 -- ---- the constants of a scope
 
@@ -112,7 +112,7 @@ module _ (m : Map) (raw : RawTables) (owned : ListsAreOwned) (keeps : KeepsLists
   slice_of row scope = slice_range (numbered raw.constants) ((range_of row scope).first - 1) ((range_of row scope).end - 1)
 
   abbrev if_kept : Bool → ℕ × ConstantRow → List Reference
-  if_kept dropped x = cond dropped [] (types_of raw x)
+  if_kept dropped x = cond dropped [] (types_of m raw x)
 
   owner_is : (row : ℕ) (scope : ScopeRow) (i : ℕ) (x : ℕ × ConstantRow) → row_at raw.scopes row ≡ Some scope → slice_get (slice_of row scope) i ≡ Some x
       → owner_of (λ s. s.constants) raw.scopes x.0 ≡ Some row
@@ -141,7 +141,7 @@ module _ (m : Map) (raw : RawTables) (owned : ListsAreOwned) (keeps : KeepsLists
       (λ i x e. ap (λ (b : Bool). if_kept b x) (dropped_is row scope i x there e))
       ∙ by (is_dropped m scope.method)
     where
-      by : (b : Bool) → flat_map (if_kept b) (slice_of row scope) ≡ cond b [] (of_list raw (range_of row scope))
+      by : (b : Bool) → flat_map (if_kept b) (slice_of row scope) ≡ cond b [] (of_list m raw (range_of row scope))
       by true = flat_map-none (slice_of row scope)
       by false = refl
 
@@ -209,4 +209,4 @@ next_none [] e = refl
 next_none (x ∷ xs) e = absurd cc
 
 pub scope_dropped : (m : Map) (raw : RawTables) (scope : Scope) → is_dropped m scope.method ≡ true → of_scope_constants m raw scope ≡ []
-scope_dropped m raw scope d = ap (λ (b : Bool). cond b [] (of_list raw scope.constants)) d
+scope_dropped m raw scope d = ap (λ (b : Bool). cond b [] (of_list m raw scope.constants)) d

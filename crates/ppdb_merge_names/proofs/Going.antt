@@ -1,8 +1,11 @@
 -- References that are gone through one after the other.
-use Rattle.std.proofs.Common.{◌≡◌, ℕ, zero, suc, ◌+◌, ◌<◌, List, [], ◌∷◌, ◌++◌, Option, Some, None, Result, Ok, Err, slice_get, refl, sym, ap, subst, ◌∙◌}
+use Rattle.std.proofs.Common.{◌≡◌, ℕ, zero, suc, ◌<◌, true, false, List, [], ◌∷◌, ◌++◌, Some, Result, Ok, Err, slice_get, refl, sym, ap, subst, ◌∙◌}
 use Rattle.std.proofs.Common.{arith, append_assoc, append-nil}
+use Rattle.std.specs.List.{AllByRecursion}
 use Rattle.ppdb_base.specs.declared.fault.Place.{Place}
-use Rattle.ppdb_maps.specs.Map.{Map}
+use Rattle.ppdb_maps.specs.Map.{Map, is_gone}
+use Rattle.ppdb_maps.specs.declared.image.RowImage.{RowImage}
+use Rattle.ppdb_maps.specs.declared.image.RowImage.TheVariants.{Row, Gone, Missing}
 use Rattle.ppdb_merge_names.specs.declared.imaged.Imaged.{Imaged}
 use Rattle.ppdb_merge_names.specs.declared.imaged.ReferenceError.{ReferenceError}
 use Rattle.ppdb_merge_names.specs.declared.imaged.ReferenceError.TheVariants.{Unmapped, Memory}
@@ -14,22 +17,25 @@ unfolding imaged_on
 imaged_on-append s [] ys = refl
 imaged_on-append s (x ∷ xs) ys = split (λ t. imaged_on-append t xs ys) (image_of s.map x)
   where
-    split : ((t : Imaging) → imaged_on t (xs ++ ys) ≡ and_then (imaged_on t xs) (λ u. imaged_on u ys)) → (o : Option ℕ)
+    split : ((t : Imaging) → imaged_on t (xs ++ ys) ≡ and_then (imaged_on t xs) (λ u. imaged_on u ys)) → (o : RowImage)
         → and_then (with_image s x o) (λ t. imaged_on t (xs ++ ys)) ≡ and_then (and_then (with_image s x o) (λ t. imaged_on t xs)) (λ t. imaged_on t ys)
-    split again None = refl
-    split again (Some image) = again (record { map = s.map; images = s.images ++ record { table = x.table; row = x.row; image = image } ∷ [] })
+    split again Gone = refl
+    split again Missing = refl
+    split again (Row to image) = again (record { map = s.map; images = s.images ++ record { table = x.table; row = x.row; to = to; image = image } ∷ [] })
 
 -- ---- one reference
 
-pub one-is : (s t : Imaging) (r : Reference) (image : ℕ) → image_of s.map r ≡ Some image
-    → t ≡ record { map = s.map; images = s.images ++ record { table = r.table; row = r.row; image = image } ∷ [] }
+pub one-is : (s t : Imaging) (r : Reference) (to image : ℕ) → image_of s.map r ≡ Row to image
+    → t ≡ record { map = s.map; images = s.images ++ record { table = r.table; row = r.row; to = to; image = image } ∷ [] }
     → imaged_on s (r ∷ []) ≡ Ok t
 unfolding imaged_on
-one-is s t r image e is = rw (e, is) refl
+one-is s t r to image e is = rw (e, is) refl
 
-pub one-none : (s : Imaging) (r : Reference) → image_of s.map r ≡ None → imaged_on s (r ∷ []) ≡ Err r
+pub one-none : (s : Imaging) (r : Reference) (o : RowImage) → image_of s.map r ≡ o → ((to image : ℕ) → o ≡ Row to image → ⊥) → imaged_on s (r ∷ []) ≡ Err r
 unfolding imaged_on
-one-none s r e = rw e refl
+one-none s r Gone e none = rw e refl
+one-none s r Missing e none = rw e refl
+one-none s r (Row to image) e none = absurd (none to image refl)
 
 pub none-is : (s : Imaging) → imaged_on s [] ≡ Ok s
 unfolding imaged_on
@@ -78,42 +84,51 @@ unfolding imaged_on
 images-after s t [] e = let same : s ≡ t = cc in ([], ap (λ (u : Imaging). u.images) (sym same) ∙ sym (append-nil s.images), tt)
 images-after s t (r ∷ rs) e = split (λ u h. images-after u t rs h) (image_of s.map r) refl e
   where
-    split : ((u : Imaging) → imaged_on u rs ≡ Ok t → (more : List Imaged) × (t.images ≡ u.images ++ more) × AreImagesOf u.map rs more) → (o : Option ℕ)
+    split : ((u : Imaging) → imaged_on u rs ≡ Ok t → (more : List Imaged) × (t.images ≡ u.images ++ more) × AreImagesOf u.map rs more) → (o : RowImage)
         → image_of s.map r ≡ o
         → and_then (with_image s r o) (λ u. imaged_on u rs) ≡ Ok t → (more : List Imaged) × (t.images ≡ s.images ++ more) × AreImagesOf s.map (r ∷ rs) more
-    split again None is e = absurd cc
-    split again (Some image) is e =
-        let i : Imaged = record { table = r.table; row = r.row; image = image } in
+    split again Gone is e = absurd cc
+    split again Missing is e = absurd cc
+    split again (Row to image) is e =
+        let i : Imaged = record { table = r.table; row = r.row; to = to; image = image } in
         let h = again (record { map = s.map; images = s.images ++ i ∷ [] }) e in
         (i ∷ h.0, h.1 ∙ append_assoc s.images (i ∷ []) h.0, (record { table = refl; row = refl; image = is }, h.2))
 
 pub images-are : (m : Map) (t : Imaging) (rs : List Reference) → imaged_on (record { map = m; images = [] }) rs ≡ Ok t → AreImagesOf m rs t.images
 images-are m t rs e = let h = images-after (record { map = m; images = [] }) t rs e in subst (λ (l : List Imaged). AreImagesOf m rs l) (sym h.1) h.2
 
-pub first-unmapped : (s : Imaging) (rs : List Reference) (r : Reference) → imaged_on s rs ≡ Err r → IsFirstUnmapped s.map rs r
+-- none of the references is gone
+abbrev pub IsStill : Map → Reference → Type 0
+IsStill m r = is_gone (image_of m r) ≡ false
+
+first-unmapped : (s : Imaging) (rs : List Reference) (r : Reference) → AllByRecursion (IsStill s.map) rs → imaged_on s rs ≡ Err r
+    → IsFirstUnmapped s.map rs r
 unfolding imaged_on
-first-unmapped s [] r e = absurd cc
-first-unmapped s (x ∷ rs) r e = split (λ u h. first-unmapped u rs r h) (image_of s.map x) refl e
+first-unmapped s [] r still e = absurd cc
+first-unmapped s (x ∷ rs) r still e = split (λ u h. first-unmapped u rs r h) (image_of s.map x) refl e
   where
-    shifted : (image : ℕ) → image_of s.map x ≡ Some image → IsFirstUnmapped s.map rs r → IsFirstUnmapped s.map (x ∷ rs) r
-    shifted image is h = record { at = suc h.at; there = h.there; none = h.none; before = earlier }
+    shifted : (to image : ℕ) → image_of s.map x ≡ Row to image → IsFirstUnmapped s.map rs r → IsFirstUnmapped s.map (x ∷ rs) r
+    shifted to image is h = record { at = suc h.at; there = h.there; none = h.none; before = earlier }
       where
-        earlier : (k : ℕ) (other : Reference) → k < suc h.at → slice_get (x ∷ rs) k ≡ Some other → (i : ℕ) × (image_of s.map other ≡ Some i)
-        earlier zero other less there = let same : x ≡ other = cc in (image, ap (image_of s.map) (sym same) ∙ is)
+        earlier : (k : ℕ) (other : Reference) → k < suc h.at → slice_get (x ∷ rs) k ≡ Some other
+            → (t : ℕ) × (i : ℕ) × (image_of s.map other ≡ Row t i)
+        earlier zero other less there = let same : x ≡ other = cc in (to, image, ap (image_of s.map) (sym same) ∙ is)
         earlier (suc k) other less there = h.before k other (omega (arith, less)) there
 
-    split : ((u : Imaging) → imaged_on u rs ≡ Err r → IsFirstUnmapped u.map rs r) → (o : Option ℕ) → image_of s.map x ≡ o
+    split : ((u : Imaging) → AllByRecursion (IsStill u.map) rs → imaged_on u rs ≡ Err r → IsFirstUnmapped u.map rs r) → (o : RowImage)
+        → image_of s.map x ≡ o
         → and_then (with_image s x o) (λ u. imaged_on u rs) ≡ Err r → IsFirstUnmapped s.map (x ∷ rs) r
-    split again None is e = let same : x
-        ≡ r = cc in record {
+    split again Gone is e = let no : true ≡ false = ap is_gone (sym is) ∙ still.0 in absurd cc
+    split again Missing is e =
+        let same : x ≡ r = cc in
+        record {
           at = 0;
           there = ap (λ (y : Reference). Some y) same;
-          none = ap (image_of s.map) (sym same)
-              ∙ is;
+          none = ap (image_of s.map) (sym same) ∙ is;
           before = λ k other less there. absurd (omega (arith, less));
         }
-    split again (Some image) is e = shifted image is
-        (again (record { map = s.map; images = s.images ++ record { table = x.table; row = x.row; image = image } ∷ [] }) e)
+    split again (Row to image) is e = shifted to image is
+        (again (record { map = s.map; images = s.images ++ record { table = x.table; row = x.row; to = to; image = image } ∷ [] }) still.1 e)
 
 -- the map stays
 pub map-stays : (s t : Imaging) (rs : List Reference) → imaged_on s rs ≡ Ok t → t.map ≡ s.map
@@ -121,9 +136,10 @@ unfolding imaged_on
 map-stays s t [] e = let same : s ≡ t = cc in ap (λ (u : Imaging). u.map) (sym same)
 map-stays s t (r ∷ rs) e = split (λ u h. map-stays u t rs h) (image_of s.map r) e
   where
-    split : ((u : Imaging) → imaged_on u rs ≡ Ok t → t.map ≡ u.map) → (o : Option ℕ) → and_then (with_image s r o) (λ u. imaged_on u rs) ≡ Ok t → t.map ≡ s.map
-    split again None e = absurd cc
-    split again (Some image) e = again (record { map = s.map; images = s.images ++ record { table = r.table; row = r.row; image = image } ∷ [] }) e
+    split : ((u : Imaging) → imaged_on u rs ≡ Ok t → t.map ≡ u.map) → (o : RowImage) → and_then (with_image s r o) (λ u. imaged_on u rs) ≡ Ok t → t.map ≡ s.map
+    split again Gone e = absurd cc
+    split again Missing e = absurd cc
+    split again (Row to image) e = again (record { map = s.map; images = s.images ++ record { table = r.table; row = r.row; to = to; image = image } ∷ [] }) e
 
 -- the same of a list that is this one
 pub goes-as : (s t : Imaging) (xs ys : List Reference) (result : Result (Unit {0}) ReferenceError) → xs ≡ ys → Goes s xs t result → Goes s ys t result
@@ -144,7 +160,7 @@ pub goes-more : (s t u : Imaging) (xs : List Reference) (more : Map → List Ref
 goes-more s t u xs more result first second =
     goes-then s t u xs (more s.map) result first (goes-as t u (more t.map) (more s.map) result (ap more (map-stays s t xs first)) second)
 
-pub refused : (m : Map) (t : Imaging) (rs : List Reference) (error : ReferenceError) → Goes (record { map = m; images = [] }) rs t (Err error)
-    → IsRefusedBy m rs error
-refused m t rs (Unmapped table row place) e = first-unmapped (record { map = m; images = [] }) rs (names place table row) e
-refused m t rs Memory e = tt
+pub refused : (m : Map) (t : Imaging) (rs : List Reference) (error : ReferenceError) → AllByRecursion (IsStill m) rs
+    → Goes (record { map = m; images = [] }) rs t (Err error) → IsRefusedBy m rs error
+refused m t rs (Unmapped table row place) still e = first-unmapped (record { map = m; images = [] }) rs (names place table row) still e
+refused m t rs Memory still e = tt

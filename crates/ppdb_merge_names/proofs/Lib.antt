@@ -3,3 +3,4 @@ pub mod Walked
 pub mod TableLists
 pub mod RowNames
 pub mod ConstantLists
+pub mod Still

@@ -1,10 +1,12 @@
 -- What a row names, by what is read of it.
-use Rattle.std.proofs.Common.{◌≡◌, ℕ, true, false, ◌||◌, List, [], ◌∷◌, Option, Some, refl, sym, ap, ◌∙◌, cond, Bool}
-use Rattle.std.specs.Prelude.{unwrap_or, is_some, ◌≢◌}
+use Rattle.std.proofs.Common.{◌≡◌, ℕ, true, false, ◌||◌, ◌&&◌, not, arith, List, [], ◌∷◌, Option, Some, refl, sym, ap, ◌∙◌, cond, Bool}
+use Rattle.std.specs.Prelude.{unwrap_or, is_some, nat_eq, ◌≢◌}
+use Rattle.std.proofs.lemmas.Bool.Decides.{nat_tests}
 use Rattle.ppdb_base.specs.Place.{at_byte, cell}
+use Rattle.custom_info.specs.Kinds.{kind_of}
 use Rattle.custom_info.specs.declared.kinds.Kind.{Kind}
 use Rattle.custom_info.specs.declared.kinds.Kind.TheVariants.{Async}
-use Rattle.ppdb_maps.specs.Map.{Map, is_dropped, signature_line}
+use Rattle.ppdb_maps.specs.Map.{Map, is_dropped, signature_line, row_image}
 use Rattle.ppdb_tables.specs.declared.parent.Parent.{Parent}
 use Rattle.ppdb_tables.specs.declared.rows.MethodDebugRow.{MethodDebugRow}
 use Rattle.ppdb_tables.specs.declared.rows.ScopeRow.{ScopeRow}
@@ -13,14 +15,14 @@ use Rattle.ppdb_tables.specs.declared.rows.CustomRow.{CustomRow}
 use Rattle.ppdb_tables.specs.Parents.{parent_in}
 use Rattle.ppdb_tables.specs.RawTables.{RawTables, row_at}
 use Rattle.ppdb_values.specs.declared.file.MethodValue.{MethodValue}
-use Rattle.ppdb_values.specs.Customs.{parent_of, no_parent}
+use Rattle.ppdb_values.specs.Customs.{parent_of, no_parent, kind_in}
 use Rattle.ppdb_values.specs.Documents.{method_of}
 use Rattle.ppdb_values.specs.Parts.{method_at}
 use Rattle.ppdb_values.specs.RawFile.{RawFile}
 use Rattle.ppdb_values.specs.Rows.{ValuesAreRows, method_in}
 use Rattle.ppdb_values.specs.Value.{value_of}
 use Rattle.ppdb_merge_names.specs.References.{Reference, names, names_some, of_entry, of_signature, of_points, of_method, of_scope, of_machine, methods_in}
-use Rattle.ppdb_merge_names.specs.References.{is_live_parent, of_parent, of_custom}
+use Rattle.ppdb_merge_names.specs.References.{is_gone_row, leaves_table, is_type_documents, is_live_parent, leaves_types, is_live_record, of_parent, of_custom}
 
 abbrev if_kept : Bool → List Reference → List Reference
 if_kept dropped rs = cond dropped [] rs
@@ -48,13 +50,29 @@ pub method_names : (m : Map) (raw : RawTables) (row : ℕ) (cells : MethodDebugR
     → of_points m row o ≡ of_method m raw (row, cells)
 method_names m raw row cells o d is = sym (ap (λ (b : Bool). if_kept b (of_points m row (method_of raw (row, cells)))) d ∙ ap (of_points m row) is)
 
--- the stored local signature of a method, by whether the map gives it another
-pub signature_cut : (m : Map) (row signature : ℕ) → is_some (signature_line m row) ≡ true → of_signature m row signature ≡ []
-signature_cut m row signature is = ap (λ (b : Bool). if_kept b (names_some (cell 0x31 row 1) 0x11 signature)) is
+-- the stored local signature of a method, by whether there is one, the map gives it another, and its row is gone
+pub signature_none : (m : Map) (row signature : ℕ) → signature ≡ 0 → of_signature m row signature ≡ []
+signature_none m row signature is = ap (of_signature m row) is ∙ by (is_some (signature_line m row) || is_gone_row m 0x11 0)
+  where
+    by : (b : Bool) → if_kept b [] ≡ []
+    by true = refl
+    by false = refl
 
-pub signature_names : (m : Map) (row signature : ℕ) → is_some (signature_line m row) ≡ false
-    → names_some (cell 0x31 row 1) 0x11 signature ≡ of_signature m row signature
-signature_names m row signature is = sym (ap (λ (b : Bool). if_kept b (names_some (cell 0x31 row 1) 0x11 signature)) is)
+pub signature_cut : (m : Map) (row signature : ℕ) → is_some (signature_line m row) ≡ true → of_signature m row signature ≡ []
+signature_cut m row signature is = rw is refl
+
+pub signature_gone : (m : Map) (row signature : ℕ) → is_gone_row m 0x11 signature ≡ true → of_signature m row signature ≡ []
+signature_gone m row signature is = by (is_some (signature_line m row))
+  where
+    by : (b : Bool) → if_kept (b || is_gone_row m 0x11 signature) (names_some (cell 0x31 row 1) 0x11 signature) ≡ []
+    by true = refl
+    by false = rw is refl
+
+pub signature_names : (m : Map) (row signature : ℕ) → signature ≢ 0 → is_some (signature_line m row) ≡ false → is_gone_row m 0x11 signature ≡ false
+    → names (cell 0x31 row 1) 0x11 signature ∷ [] ≡ of_signature m row signature
+signature_names m row signature some unsigned still =
+    let there : nat_eq signature 0 ≡ false = grind (arith, nat_tests) in
+    rw (unsigned, still, there) refl
 
 pub scope_dropped : (m : Map) (row : ℕ) (cells : ScopeRow) → is_dropped m cells.method ≡ true → of_scope m (row, cells) ≡ []
 scope_dropped m row cells d = rw d refl
@@ -81,22 +99,42 @@ abbrev if_live : Bool → List Reference → List Reference
 if_live live rs = cond live rs []
 
 custom_is : (m : Map) (raw : RawTables) (row : ℕ) (cells : CustomRow) (parent : Parent) → parent_of cells.parent ≡ parent
-    → of_custom m raw (row, cells) ≡ if_live (is_live_parent m parent) (of_parent raw (row, cells) parent)
-custom_is m raw row cells parent e = ap (λ (p : Parent). if_live (is_live_parent m p) (of_parent raw (row, cells) p)) e
+    → of_custom m raw (row, cells) ≡ if_live (is_live_record m raw cells parent) (of_parent raw (row, cells) parent)
+custom_is m raw row cells parent e = ap (λ (p : Parent). if_live (is_live_record m raw cells p) (of_parent raw (row, cells) p)) e
 
 pub custom_dropped : (m : Map) (raw : RawTables) (row : ℕ) (cells : CustomRow) (parent : Parent) → Some parent ≡ parent_in cells.parent
     → is_live_parent m parent ≡ false
     → of_custom m raw (row, cells) ≡ []
 custom_dropped m raw row cells parent e d =
-    custom_is m raw row cells parent (parent_is cells.parent parent e) ∙ ap (λ (b : Bool). if_live b (of_parent raw (row, cells) parent)) d
+    custom_is m raw row cells parent (parent_is cells.parent parent e)
+    ∙ ap (λ (b : Bool). if_live (b && not (leaves_types m raw cells parent)) (of_parent raw (row, cells) parent)) d
+
+pub custom_leaves : (m : Map) (raw : RawTables) (row : ℕ) (cells : CustomRow) (parent : Parent) → Some parent ≡ parent_in cells.parent
+    → is_live_parent m parent ≡ true → leaves_types m raw cells parent ≡ true
+    → of_custom m raw (row, cells) ≡ []
+custom_leaves m raw row cells parent e live leaves =
+    custom_is m raw row cells parent (parent_is cells.parent parent e)
+    ∙ ap (λ (b : Bool). if_live (b && not (leaves_types m raw cells parent)) (of_parent raw (row, cells) parent)) live
+    ∙ ap (λ (b : Bool). if_live (not b) (of_parent raw (row, cells) parent)) leaves
 
 pub custom_names : (m : Map) (raw : RawTables) (row : ℕ) (cells : CustomRow) (parent : Parent) → Some parent ≡ parent_in cells.parent
-    → is_live_parent m parent ≡ true
+    → is_live_parent m parent ≡ true → leaves_types m raw cells parent ≡ false
     → of_parent raw (row, cells) parent ≡ of_custom m raw (row, cells)
-custom_names m raw row cells parent e d =
-    sym (custom_is m raw row cells parent (parent_is cells.parent parent e) ∙ ap (λ (b : Bool). if_live b (of_parent raw (row, cells) parent)) d)
+custom_names m raw row cells parent e live stays =
+    sym (custom_is m raw row cells parent (parent_is cells.parent parent e)
+    ∙ ap (λ (b : Bool). if_live (b && not (leaves_types m raw cells parent)) (of_parent raw (row, cells) parent)) live
+    ∙ ap (λ (b : Bool). if_live (not b) (of_parent raw (row, cells) parent)) stays)
 
 -- a record of another kind names no method
 pub no_methods : (raw : RawTables) (kind : Kind) (content : List ℕ) → kind ≢ Async → methods_in raw kind content ≡ []
 no_methods raw Async content other = absurd (other refl)
 no_methods raw kind content other = refl
+
+-- a record whose parent stays in its table
+pub stays_there : (m : Map) (raw : RawTables) (cells : CustomRow) (parent : Parent) → leaves_table parent.table (row_image m parent.table parent.row) ≡ false
+    → false ≡ leaves_types m raw cells parent
+stays_there m raw cells parent e = rw e (by (is_type_documents (kind_of [] (kind_in raw cells))))
+  where
+    by : (b : Bool) → false ≡ (b && false)
+    by true = refl
+    by false = refl

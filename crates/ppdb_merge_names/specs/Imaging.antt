@@ -1,17 +1,17 @@
 -- The images of the rows that are named, and the first row that has none.
-use Rattle.std.specs.Prelude.{◌≡◌, ℕ, ◌<◌, List, [], ◌∷◌, ◌++◌, Option, Some, None, Result, Ok, Err, slice_get}
-use Rattle.ppdb_maps.specs.Map.{Map, row_within}
+use Rattle.std.specs.Prelude.{◌≡◌, ℕ, ◌<◌, List, [], ◌∷◌, ◌++◌, Some, Result, Ok, Err, slice_get}
+use Rattle.ppdb_maps.specs.{Map.{Map, row_image}, declared.image.RowImage.{RowImage, TheVariants.{Row, Gone, Missing}}}
 use Rattle.ppdb_merge_names.specs.{declared.imaged.{Imaged.Imaged, ReferenceError.{ReferenceError, TheVariants.{Unmapped, Memory}}}, References.{Reference, names}}
 
 -- the image of a row that is named
-abbrev pub image_of : Map → Reference → Option ℕ
-image_of m r = row_within m r.table r.row
+abbrev pub image_of : Map → Reference → RowImage
+image_of m r = row_image m r.table r.row
 
 -- It has this image.
 pub record IsImageOf (m : Map) (r : Reference) (i : Imaged) : Type 0 where
   pub table : i.table ≡ r.table
   pub row : i.row ≡ r.row
-  pub image : image_of m r ≡ Some i.image
+  pub image : image_of m r ≡ Row i.to i.image
 
 -- One for each, in order.
 abbrev pub AreImagesOf : Map → List Reference → List Imaged → Type 0
@@ -19,14 +19,15 @@ AreImagesOf m [] [] = Unit {0}
 AreImagesOf m (r ∷ rs) (i ∷ is) = IsImageOf m r i × AreImagesOf m rs is
 AreImagesOf m _ _ = ⊥
 
--- The first that has no image: those before it have theirs.
+-- The first whose image is missing: those before it have theirs.
 pub record IsFirstUnmapped (m : Map) (references : List Reference) (r : Reference) : Type 0 where
   pub at : ℕ
   pub there : slice_get references at ≡ Some r
-  pub none : image_of m r ≡ None
-  pub before : (k : ℕ) (other : Reference) → k < at → slice_get references k ≡ Some other → (image : ℕ) × (image_of m other ≡ Some image)
+  pub none : image_of m r ≡ Missing
+  pub before : (k : ℕ) (other : Reference) → k < at → slice_get references k ≡ Some other
+      → (to : ℕ) × (image : ℕ) × (image_of m other ≡ Row to image)
 
--- What is reported where not all have images: the first that has none, or that memory is refused.
+-- What is reported where not all have images: the first whose image is missing, or that memory is refused.
 abbrev pub IsRefusedBy : Map → List Reference → ReferenceError → Type 0
 IsRefusedBy m references (Unmapped table row place) = IsFirstUnmapped m references (names place table row)
 IsRefusedBy m references Memory = Unit {0}
@@ -38,9 +39,10 @@ pub record Imaging : Type 0 where
   pub map : Map
   pub images : List Imaged
 
-abbrev pub with_image : Imaging → Reference → Option ℕ → Result Imaging Reference
-with_image s r (Some image) = Ok (record { map = s.map; images = s.images ++ record { table = r.table; row = r.row; image = image } ∷ [] })
-with_image s r None = Err r
+abbrev pub with_image : Imaging → Reference → RowImage → Result Imaging Reference
+with_image s r (Row to image) = Ok (record { map = s.map; images = s.images ++ record { table = r.table; row = r.row; to = to; image = image } ∷ [] })
+with_image s r Gone = Err r
+with_image s r Missing = Err r
 
 abbrev pub and_then : Result Imaging Reference → (Imaging → Result Imaging Reference) → Result Imaging Reference
 and_then (Ok s) goes_on = goes_on s

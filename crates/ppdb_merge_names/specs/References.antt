@@ -1,11 +1,16 @@
 -- The rows of the type system that an input names, each with its place, in the order of the places (Portable PDB v1.0, "#Pdb
--- stream", "Metadata Tables" and the formats of its blobs). What stands at a dropped method names none, nor does the stored local signature
--- of a method that has a `signature` line.
-use Rattle.ppdb_values.specs.Names.{Place, at_byte, cell, kind_of, Kind, Async, Parent, MethodDebugRow, ScopeRow, ConstantRow, ImportRow, MachineRow, CustomRow, RawTables, count, numbered, row_at}
-use Rattle.std.specs.Prelude.{map, ℕ, ◌&&◌, ◌||◌, not, Bool, false, cond, nat_eq, nat_lt, is_some, List, [], ◌∷◌, ◌++◌, Option, Some, None, flat_map, option_and_then}
-use Rattle.ppdb_maps.specs.Map.{Map, is_dropped, signature_line}
-use Rattle.ppdb_values.specs.{declared.file.MethodValue.MethodValue, RawFile.{RawFile, blob, type_limits}, Documents.method_of, Imports.heap_of, Customs.{parent_of, kind_in}, Value.owner_of}
-use Rattle.type_blobs_rows.specs.{declared.row.PlacedRow.PlacedRow, Rows.{constant_types, import_rows, resume_methods}}
+-- stream", "Metadata Tables" and the formats of its blobs). What stands at a dropped method names none, nor does what goes because a row has
+-- no successor, nor the stored local signature of a method that has a `signature` line.
+use Rattle.ppdb_values.specs.Names.{Place, at_byte, cell, kind_of, Kind, Async, Parent, list_any, MethodDebugRow, ScopeRow, ConstantRow, ImportRow, MachineRow}
+use Rattle.ppdb_values.specs.Names.{CustomRow, RawTables, count, numbered, row_at}
+use Rattle.std.specs.Prelude.{map, filter, ℕ, ◌&&◌, ◌||◌, not, Bool, true, false, cond, nat_eq, nat_lt, is_some, List, [], ◌∷◌, ◌++◌, Option, Some, None, flat_map}
+use Rattle.std.specs.Prelude.{option_and_then}
+use Rattle.custom_info.specs.declared.kinds.Kind.TheVariants.{TypeDocuments}
+use Rattle.ppdb_maps.specs.{Map.{Map, is_dropped, signature_line, row_image, is_gone}, declared.image.RowImage.{RowImage, TheVariants.Row}}
+use Rattle.ppdb_values.specs.{declared.file.MethodValue.MethodValue, RawFile.{RawFile, blob, type_limits}, Documents.method_of, Imports.heap_of}
+use Rattle.ppdb_values.specs.{Customs.{parent_of, kind_in}, Value.owner_of}
+use Rattle.type_blobs_rows.specs.declared.row.{PlacedRow.PlacedRow, Role.{Role, TheVariants.{Enumeration, AliasedAssembly}}}
+use Rattle.type_blobs_rows.specs.Rows.{constant_types, import_rows, resume_methods}
 
 -- a row that is named, and where
 pub record Reference : Type 0 where
@@ -24,6 +29,42 @@ names_some place table row = cond (nat_eq row 0) [] (names place table row ∷ [
 abbrev pub inside : ℕ → ℕ → ℕ → List PlacedRow → List Reference
 inside table row column rows = map (λ (x : PlacedRow). names (record (cell table row column) { byte = x.byte }) x.table x.row) rows
 
+-- ---- what goes
+
+abbrev pub is_gone_row : Map → ℕ → ℕ → Bool
+is_gone_row m table row = is_gone (row_image m table row)
+
+-- the image is a row of this table
+abbrev pub is_in_table : ℕ → RowImage → Bool
+is_in_table table (Row other row) = nat_eq other table
+is_in_table table image = false
+
+-- the image is a row of another table than this
+abbrev pub leaves_table : ℕ → RowImage → Bool
+leaves_table table (Row other row) = not (nat_eq other table)
+leaves_table table image = false
+
+abbrev pub is_enumeration : Role → Bool
+is_enumeration Enumeration = true
+is_enumeration role = false
+
+abbrev pub is_aliased : Role → Bool
+is_aliased AliasedAssembly = true
+is_aliased role = false
+
+-- A row that is gone is no reference: an import of it goes, and an enumeration goes from its constant. Nor is an assembly that becomes the
+-- module's own (a row of table 20), where an import gives it an alias.
+abbrev pub is_live : Map → PlacedRow → Bool
+is_live m x = not (is_gone_row m x.table x.row || is_aliased x.role && is_in_table 0x20 (row_image m x.table x.row))
+
+-- A constant goes where the type of a modifier, or the class or value type that it is of, is gone.
+abbrev pub takes_constant : Map → PlacedRow → Bool
+takes_constant m x = is_gone_row m x.table x.row && not (is_enumeration x.role)
+
+-- the types that name rows: none in a constant that goes
+abbrev pub live_types : Map → List PlacedRow → List PlacedRow
+live_types m types = cond (list_any (takes_constant m) types) [] (filter (is_live m) types)
+
 -- ---- the entry point ("#Pdb stream": EntryPoint), which counts in the first input
 
 abbrev pub of_entry : Bool → Map → ℕ → List Reference
@@ -31,9 +72,9 @@ of_entry first m entry = cond first (cond (is_dropped m entry) [] (names_some (a
 
 -- ---- the rows of each table
 
--- the stored local signature of a method, unless a `signature` line names another
+-- the stored local signature of a method, unless a `signature` line names another or the row is gone
 abbrev pub of_signature : Map → ℕ → ℕ → List Reference
-of_signature m row signature = cond (is_some (signature_line m row)) [] (names_some (cell 0x31 row 1) 0x11 signature)
+of_signature m row signature = cond (is_some (signature_line m row) || is_gone_row m 0x11 signature) [] (names_some (cell 0x31 row 1) 0x11 signature)
 
 -- a method that has points, and its local signature
 abbrev pub of_points : Map → ℕ → Option MethodValue → List Reference
@@ -54,14 +95,14 @@ is_dropped_scope m (Some scope) = is_dropped m scope.method
 abbrev pub is_dropped_constant : Map → RawTables → ℕ → Bool
 is_dropped_constant m raw row = is_dropped_scope m (option_and_then (row_at raw.scopes) (owner_of (λ scope. scope.constants) raw.scopes row))
 
-abbrev pub types_of : RawTables → ℕ × ConstantRow → List Reference
-types_of raw x = inside 0x34 x.0 1 (constant_types (type_limits raw) (blob raw x.1.signature))
+abbrev pub types_of : Map → RawTables → ℕ × ConstantRow → List Reference
+types_of m raw x = inside 0x34 x.0 1 (live_types m (constant_types (type_limits raw) (blob raw x.1.signature)))
 
 abbrev pub of_constant : Map → RawTables → ℕ × ConstantRow → List Reference
-of_constant m raw x = cond (is_dropped_constant m raw x.0) [] (types_of raw x)
+of_constant m raw x = cond (is_dropped_constant m raw x.0) [] (types_of m raw x)
 
-abbrev pub of_import : RawTables → ℕ × ImportRow → List Reference
-of_import raw x = inside 0x35 x.0 1 (import_rows (type_limits raw) (heap_of raw) (blob raw x.1.imports))
+abbrev pub of_import : Map → RawTables → ℕ × ImportRow → List Reference
+of_import m raw x = inside 0x35 x.0 1 (filter (is_live m) (import_rows (type_limits raw) (heap_of raw) (blob raw x.1.imports)))
 
 abbrev pub of_machine : Map → ℕ × MachineRow → List Reference
 of_machine m x =
@@ -82,11 +123,24 @@ of_parent raw x parent =
     names (cell 0x37 x.0 0) parent.table parent.row
     ∷ inside 0x37 x.0 2 (methods_of raw x.1)
 
+-- a record on this row of the type system stays: the row is neither dropped nor gone
 abbrev pub is_live_parent : Map → Parent → Bool
-is_live_parent m parent = nat_lt parent.table 0x2d && not (nat_eq parent.table 0x06 && is_dropped m parent.row)
+is_live_parent m parent =
+    nat_lt parent.table 0x2d && not (nat_eq parent.table 0x06 && is_dropped m parent.row || is_gone_row m parent.table parent.row)
+
+abbrev pub is_type_documents : Kind → Bool
+is_type_documents TypeDocuments = true
+is_type_documents kind = false
+
+-- a record of type definition documents whose parent becomes a row of another table ("Type Definition Document")
+abbrev pub leaves_types : Map → RawTables → CustomRow → Parent → Bool
+leaves_types m raw row parent = is_type_documents (kind_of [] (kind_in raw row)) && leaves_table parent.table (row_image m parent.table parent.row)
+
+abbrev pub is_live_record : Map → RawTables → CustomRow → Parent → Bool
+is_live_record m raw row parent = is_live_parent m parent && not (leaves_types m raw row parent)
 
 abbrev pub of_custom : Map → RawTables → ℕ × CustomRow → List Reference
-of_custom m raw x = cond (is_live_parent m (parent_of x.1.parent)) (of_parent raw x (parent_of x.1.parent)) []
+of_custom m raw x = cond (is_live_record m raw x.1 (parent_of x.1.parent)) (of_parent raw x (parent_of x.1.parent)) []
 
 -- ---- the whole input
 
@@ -99,7 +153,7 @@ of_methods m raw =
 
 abbrev pub of_others : Map → RawTables → List Reference
 of_others m raw =
-    flat_map (of_import raw) (numbered raw.imports)
+    flat_map (of_import m raw) (numbered raw.imports)
     ++ (flat_map (of_machine m) (numbered raw.machines)
     ++ flat_map (of_custom m raw) (numbered raw.customs))
 

@@ -16,13 +16,13 @@ table_number Custom = 0x37
 abbrev pub row_references : Map → RawTables → table.Table → List (List Reference)
 row_references m raw MethodDebug = map (of_method m raw) (numbered raw.methods)
 row_references m raw LocalScope = map (of_scope m) (numbered raw.scopes)
-row_references m raw ImportScope = map (of_import raw) (numbered raw.imports)
+row_references m raw ImportScope = map (of_import m raw) (numbered raw.imports)
 row_references m raw StateMachine = map (of_machine m) (numbered raw.machines)
 row_references m raw Custom = map (of_custom m raw) (numbered raw.customs)
 
 abbrev pub of_table : Map → RawTables → table.Table → List Reference
 of_table m raw MethodDebug = flat_map (of_method m raw) (numbered raw.methods)
 of_table m raw LocalScope = flat_map (of_scope m) (numbered raw.scopes)
-of_table m raw ImportScope = flat_map (of_import raw) (numbered raw.imports)
+of_table m raw ImportScope = flat_map (of_import m raw) (numbered raw.imports)
 of_table m raw StateMachine = flat_map (of_machine m) (numbered raw.machines)
 of_table m raw Custom = flat_map (of_custom m raw) (numbered raw.customs)

@@ -1,23 +1,60 @@
 // The types that the constants of scopes name.
-ghost use Rattle.std.specs.Prelude.{length};
-ghost use Rattle.std.specs.List.{flat_map};
+ghost use Rattle.std.specs.Prelude.{◌≡◌, ◌<◌, ◌^◌, length};
+ghost use Rattle.std.specs.List.{flat_map, list_any};
 ghost use Rattle.ppdb_tables.specs.RawTables.{numbered};
 ghost use Rattle.ppdb_verify.specs.Views.{raw_file};
 ghost use Rattle.ppdb_values_reading.specs.Scopes.{HasLists, IsWithin};
 ghost use Rattle.ppdb_merge_names.specs.Imaging.{Goes};
 ghost use Rattle.ppdb_merge_names.specs.Lists.{of_list, of_scope_constants};
-ghost use Rattle.ppdb_merge_names.specs.References.{of_constant};
+ghost use Rattle.ppdb_merge_names.specs.References.{inside, live_types, of_constant, takes_constant};
+ghost use Rattle.type_blobs_rows.specs.Rows.{constant_types};
 
 use crate::imaged::ReferenceError;
 use crate::imager::Imager;
-use crate::rows::add_rows;
+use crate::rows::add_live_rows;
 use ppdb_base::Steps;
 use ppdb_values::lists_are_owned;
 use ppdb_values_reading::{ListRange, Scope, ScopeCursor, scopes_own_their_lists};
 use ppdb_verify::Verified;
 use ppdb_verify_rows::{blob, constant, type_limits};
 use std::sync::ledger::Ledger;
-use type_blobs_rows::ConstantTypes;
+use type_blobs::TypeLimits;
+use type_blobs_rows::{ConstantTypes, RowWalk};
+
+/// Whether a constant goes because of one of its types.
+fn goes<W: RowWalk>(types: &mut W, imager: &mut Imager<'_>) -> bool
+    ensures goes { result ≡ list_any (takes_constant imager.old.map) (W.left types.old) }
+    ensures same { imager.new ≡ imager.old }
+{
+    'types: while let Some(named) = types.next_row() {
+        if imager.takes_constant(named) {
+            return true;
+        }
+    }
+    false
+}
+
+/// Adds the types that the signature of a constant names, unless the constant goes.
+fn add_types(
+    signature: &[u8],
+    limits: TypeLimits,
+    row: u32,
+    imager: &mut Imager<'_>,
+) -> Result<(), ReferenceError>
+    requires { length signature.now < 2 ^ 32 }
+    ensures { Goes imager.old (inside 0x34 row 1 (live_types imager.old.map (constant_types limits signature.now))) imager.new result }
+{
+    if goes(&mut ConstantTypes::new(signature, limits), imager) {
+        return Ok(());
+    }
+    add_live_rows(
+        &mut ConstantTypes::new(signature, limits),
+        0x34,
+        row,
+        1,
+        imager,
+    )
+}
 
 /// Adds the types that the constants of a list name.
 fn add_list<L: Ledger>(
@@ -27,15 +64,14 @@ fn add_list<L: Ledger>(
     steps: &mut Steps<L>,
 ) -> Result<(), ReferenceError>
     requires { IsWithin (length (raw_file file.now).tables.constants) list }
-    ensures { Goes imager.old (of_list (raw_file file.now).tables list) imager.new result }
+    ensures { Goes imager.old (of_list imager.old.map (raw_file file.now).tables list) imager.new result }
 {
     file.keeps();
     let limits = type_limits(file);
     let mut row = list.first;
     'rows: while row < list.end {
         let cells = constant(file, row, steps);
-        let mut types = ConstantTypes::new(blob(file, cells.signature), limits);
-        add_rows(&mut types, 0x34, row, 1, imager)?;
+        add_types(blob(file, cells.signature), limits, row, imager)?;
         row += 1;
     }
     Ok(())

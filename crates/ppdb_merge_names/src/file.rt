@@ -80,7 +80,7 @@ fn add_file<L: Ledger>(
 }
 
 /// The images of the rows of the type system that a file names, in the order of the places at which they are named, without
-/// those that stand at dropped methods; or the first that has no image. The entry point counts in the first of several files.
+/// those that stand in what goes; or the first whose image is missing. The entry point counts in the first of several files.
 pub fn images<L: Ledger>(
     alloc: Global,
     file: &Verified<'_>,
@@ -91,6 +91,7 @@ pub fn images<L: Ledger>(
     ensures images { IfOk result (AreImagesOf map.now (references first map.now (raw_file file.now))) }
     ensures unmapped { IfErr result (IsRefusedBy map.now (references first map.now (raw_file file.now))) }
 {
+    map.keeps();
     let mut imager = Imager::new(alloc, map);
     add_file(alloc, file, first, &mut imager, steps)?;
     Ok(imager.into_images())

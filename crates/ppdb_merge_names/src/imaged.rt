@@ -10,13 +10,15 @@ pub struct Imaged {
     /// The number of the row's table.
     pub table: u8,
     pub row: u32,
+    /// The number of the image's table.
+    pub to: u8,
     pub image: u32,
 }
 
 /// Why the rows that a file names have no images.
 #[derive(Clone, Copy, Debug, PartialEq, Eq)]
 pub enum ReferenceError {
-    /// The row is named at the place, and has no image.
+    /// The row is named at the place, and its image is missing.
     Unmapped { table: u8, row: u32, place: Place },
     Memory,
 }

@@ -1,35 +1,44 @@
 // The images that were found so far.
 ghost use Rattle.std.specs.Prelude.{◌≡◌, ◌∷◌, [], is_some};
-ghost use Rattle.ppdb_maps.specs.Map.{is_dropped, row_within, signature_line};
+ghost use Rattle.ppdb_maps.specs.Map.{is_dropped, row_image, signature_line};
 ghost use Rattle.ppdb_merge_names.specs.Imaging.{Goes};
-ghost use Rattle.ppdb_merge_names.specs.References.{names, names_some};
+ghost use Rattle.ppdb_merge_names.specs.References.{is_gone_row, is_live, leaves_table, names, names_some, takes_constant};
 
 use crate::imaged::{Imaged, ReferenceError};
 use ppdb_base::{List, Place};
-use ppdb_maps::MapText;
+use ppdb_maps::{MapText, RowImage};
 use std::alloc::Global;
 use std::marker::Model;
+use type_blobs_rows::{PlacedRow, Role};
+
+/// A row, and what it becomes.
+#[derive(Clone, Copy)]
+struct Known {
+    table: u8,
+    row: u32,
+    image: RowImage,
+}
 
 /// A map, and the images of the rows that were named so far, in order.
 #[derive(Drop)]
 pub(crate) struct Imager<'m> {
     map: &'m MapText,
     images: List<Imaged>,
-    /// The row before, which is often named again.
-    last: Option<Imaged>,
+    /// The row before, which is often asked for again.
+    last: Option<Known>,
 }
 
 impl<'m> Model for Imager<'m> {
-    ghost use Rattle.std.specs.Prelude.{◌≡◌, Some};
+    ghost use Rattle.std.specs.Prelude.{◌≡◌};
     ghost use Rattle.std.specs.Option.{ForSome};
-    ghost use Rattle.ppdb_maps.specs.Map.{row_within};
+    ghost use Rattle.ppdb_maps.specs.Map.{row_image};
     ghost use Rattle.ppdb_merge_names.specs.Imaging.{Imaging};
 
     ghost Value = { Imaging };
 
     ghost view = { λ s. record { map = s.map.now; images = s.images } };
 
-    ghost invariant = { λ s. ForSome s.last (λ i. row_within s.map.now i.table i.row ≡ Some i.image) };
+    ghost invariant = { λ s. ForSome s.last (λ i. row_image s.map.now i.table i.row ≡ i.image) };
 }
 
 impl<'m> Imager<'m> {
@@ -66,27 +75,78 @@ impl<'m> Imager<'m> {
     }
 
     /// The image of a row.
-    fn image_of(&self, table: u8, row: u32) -> Option<u32>
-        ensures { result ≡ row_within self.now.map table row }
+    fn image_of(&mut self, table: u8, row: u32) -> RowImage
+        ensures image { result ≡ row_image self.old.map table row }
+        ensures same { self.new ≡ self.old }
     {
         if let Some(last) = self.last {
             if last.table == table && last.row == row {
-                return Some(last.image);
+                return last.image;
             }
         }
-        self.map.row(table, row)
+        let image = self.map.row_image(table, row);
+        self.last = Some(Known { table, row, image });
+        image
+    }
+
+    /// Whether a row has no successor.
+    pub(crate) fn is_gone(&mut self, table: u8, row: u32) -> bool
+        ensures gone { result ≡ is_gone_row self.old.map table row }
+        ensures same { self.new ≡ self.old }
+    {
+        matches!(self.image_of(table, row), RowImage::Gone)
+    }
+
+    /// Whether a row becomes a row of another table.
+    pub(crate) fn leaves_table(&mut self, table: u8, row: u32) -> bool
+        ensures leaves { result ≡ leaves_table table (row_image self.old.map table row) }
+        ensures same { self.new ≡ self.old }
+    {
+        match self.image_of(table, row) {
+            RowImage::Row { table: to, row: _ } => to != table,
+            RowImage::Gone | RowImage::Missing => false,
+        }
+    }
+
+    /// Whether a constant goes because of a type that it names.
+    pub(crate) fn takes_constant(&mut self, named: PlacedRow) -> bool
+        ensures takes { result ≡ takes_constant self.old.map named }
+        ensures same { self.new ≡ self.old }
+    {
+        named.role != Role::Enumeration && self.is_gone(named.table, named.row)
+    }
+
+    /// Whether what names a row stays.
+    pub(crate) fn is_live(&mut self, named: PlacedRow) -> bool
+        ensures live { result ≡ is_live self.old.map named }
+        ensures same { self.new ≡ self.old }
+    {
+        match self.image_of(named.table, named.row) {
+            RowImage::Row { table, row: _ } => {
+                named.role != Role::AliasedAssembly || table != 0x20
+            }
+            RowImage::Gone => false,
+            RowImage::Missing => true,
+        }
     }
 
     /// Adds the image of a row that is named at a place.
     pub(crate) fn add(&mut self, table: u8, row: u32, place: Place) -> Result<(), ReferenceError>
         ensures { Goes self.old (names place table row ∷ []) self.new result }
     {
-        let Some(image) = self.image_of(table, row) else {
+        let RowImage::Row {
+            table: to,
+            row: image,
+        } = self.image_of(table, row)
+        else {
             return Err(ReferenceError::Unmapped { table, row, place });
         };
-        let imaged = Imaged { table, row, image };
-        self.images.push(imaged)?;
-        self.last = Some(imaged);
+        self.images.push(Imaged {
+            table,
+            row,
+            to,
+            image,
+        })?;
         Ok(())
     }
 

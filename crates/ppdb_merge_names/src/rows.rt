@@ -1,5 +1,5 @@
 // The rows that a row names.
-ghost use Rattle.std.specs.Prelude.{◌≡◌, ◌||◌, List, Some};
+ghost use Rattle.std.specs.Prelude.{◌≡◌, ◌||◌, ◌∷◌, [], List, Some, filter};
 ghost use Rattle.ppdb_maps.specs.Map.{is_dropped};
 ghost use Rattle.ppdb_base.specs.Place.{cell};
 ghost use Rattle.ppdb_tables.specs.RawTables.{row_at};
@@ -7,7 +7,7 @@ ghost use Rattle.ppdb_values.specs.Rules.{HasRow};
 ghost use Rattle.ppdb_verify.specs.Views.{raw_file};
 ghost use Rattle.ppdb_merge_names.specs.Imaging.{Goes};
 ghost use Rattle.ppdb_merge_names.specs.References.{Reference, inside, of_entry, of_method, of_scope, of_signature};
-ghost use Rattle.ppdb_merge_names.specs.References.{of_import, of_machine, methods_of, of_parent, is_live_parent, of_custom};
+ghost use Rattle.ppdb_merge_names.specs.References.{of_import, of_machine, methods_of, of_parent, is_live, is_live_parent, leaves_types, of_custom};
 ghost use Rattle.ppdb_merge_names.specs.TableRows.{table_number, row_references};
 
 use crate::imaged::ReferenceError;
@@ -22,7 +22,7 @@ use ppdb_verify_rows::{
 };
 use std::alloc::Global;
 use std::sync::ledger::Ledger;
-use type_blobs_rows::{ImportRows, ResumeMethods, RowWalk};
+use type_blobs_rows::{ImportRows, PlacedRow, ResumeMethods, RowWalk};
 
 /// A table whose rows name rows by themselves.
 #[derive(Clone, Copy)]
@@ -84,6 +84,42 @@ pub(crate) fn add_rows<W: RowWalk>(
     Ok(())
 }
 
+/// Adds a row that the blob of a cell names, unless what names it goes.
+fn add_live_row(
+    named: PlacedRow,
+    table: u8,
+    row: u32,
+    column: u8,
+    imager: &mut Imager<'_>,
+) -> Result<(), ReferenceError>
+    ensures { Goes imager.old (inside table row column (filter (is_live imager.old.map) (named ∷ []))) imager.new result }
+{
+    if !imager.is_live(named) {
+        return Ok(());
+    }
+    imager.add(
+        named.table,
+        named.row,
+        byte_of(table, row, column, named.byte),
+    )
+}
+
+/// Adds the rows that the blob of a cell names, without those whose names go.
+pub(crate) fn add_live_rows<W: RowWalk>(
+    walk: &mut W,
+    table: u8,
+    row: u32,
+    column: u8,
+    imager: &mut Imager<'_>,
+) -> Result<(), ReferenceError>
+    ensures { Goes imager.old (inside table row column (filter (is_live imager.old.map) (W.left walk.old))) imager.new result }
+{
+    'rows: while let Some(found) = walk.next_row() {
+        add_live_row(found, table, row, column, imager)?;
+    }
+    Ok(())
+}
+
 /// Adds the entry point, which counts in the first input.
 pub(crate) fn add_entry(
     file: &Verified<'_>,
@@ -109,14 +145,20 @@ pub(crate) fn add_entry(
     imager.add_some(0x06, entry, place)
 }
 
-/// Adds the local signature of a method, unless the map gives it another.
+/// Adds the local signature of a method, unless the map gives it another or its row is gone.
 fn add_signature(row: u32, signature: u32, imager: &mut Imager<'_>) -> Result<(), ReferenceError>
     ensures { Goes imager.old (of_signature imager.old.map row signature) imager.new result }
 {
+    if signature == 0 {
+        return Ok(());
+    }
     if imager.signs(row) {
         return Ok(());
     }
-    imager.add_some(0x11, signature, cell(0x31, row, 1))
+    if imager.is_gone(0x11, signature) {
+        return Ok(());
+    }
+    imager.add(0x11, signature, cell(0x31, row, 1))
 }
 
 /// Adds a method that has points, and its local signature.
@@ -176,14 +218,38 @@ fn add_parent(
     add_steps(alloc, file, row, cells, imager)
 }
 
-/// Whether a row is one of the type system that is not dropped.
-fn is_live(imager: &Imager<'_>, parent: Parent) -> bool
-    ensures { result ≡ is_live_parent imager.now.map parent }
+/// Whether a row is one of the type system that is neither dropped nor gone.
+fn is_live_parent(imager: &mut Imager<'_>, parent: Parent) -> bool
+    ensures live { result ≡ is_live_parent imager.old.map parent }
+    ensures same { imager.new ≡ imager.old }
 {
-    parent.table < 0x2d && !(parent.table == 0x06 && imager.drops(parent.row))
+    if parent.table >= 0x2d || parent.table == 0x06 && imager.drops(parent.row) {
+        return false;
+    }
+    !imager.is_gone(parent.table, parent.row)
 }
 
-/// Adds what a custom record names, where it is on a row of the type system that is not dropped.
+/// Whether a custom record is one of type definition documents whose parent becomes a row of
+/// another table.
+fn leaves_types(
+    alloc: Global,
+    file: &Verified<'_>,
+    row: u32,
+    cells: &CustomRow,
+    parent: Parent,
+    imager: &mut Imager<'_>,
+) -> bool
+    requires { row_at (raw_file file.now).tables.customs row ≡ Some cells.now }
+    ensures leaves { result ≡ leaves_types imager.old.map (raw_file file.now).tables cells.now parent }
+    ensures same { imager.new ≡ imager.old }
+{
+    if !imager.leaves_table(parent.table, parent.row) {
+        return false;
+    }
+    matches!(kind(alloc, file, row, cells), Kind::TypeDocuments)
+}
+
+/// Adds what a custom record names that stays on a row of the type system.
 fn add_custom(
     alloc: Global,
     file: &Verified<'_>,
@@ -198,7 +264,10 @@ fn add_custom(
     let Some(parent) = parent_of(cells.parent) else {
         unreachable!()
     };
-    if !is_live(imager, parent) {
+    if !is_live_parent(imager, parent) {
+        return Ok(());
+    }
+    if leaves_types(alloc, file, row, cells, parent, imager) {
         return Ok(());
     }
     add_parent(alloc, file, row, cells, parent, imager)
@@ -214,18 +283,18 @@ fn add_scope(row: u32, cells: &ScopeRow, imager: &mut Imager<'_>) -> Result<(), 
     imager.add(0x06, cells.method, cell(0x32, row, 0))
 }
 
-/// Adds the types and the assemblies that the imports of a scope name.
+/// Adds the types and the assemblies that those imports of a scope name that stay.
 fn add_import(
     file: &Verified<'_>,
     row: u32,
     cells: &ImportRow,
     imager: &mut Imager<'_>,
 ) -> Result<(), ReferenceError>
-    ensures { Goes imager.old (of_import (raw_file file.now).tables (row, cells.now)) imager.new result }
+    ensures { Goes imager.old (of_import imager.old.map (raw_file file.now).tables (row, cells.now)) imager.new result }
 {
     let content = blob(file, cells.imports);
     let mut rows = ImportRows::new(content, blobs(file), type_limits(file));
-    add_rows(&mut rows, 0x35, row, 1, imager)
+    add_live_rows(&mut rows, 0x35, row, 1, imager)
 }
 
 /// Whether a method of a state machine is dropped.

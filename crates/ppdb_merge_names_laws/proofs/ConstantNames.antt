@@ -1,9 +1,7 @@
--- The types that the signature of a constant names are those of its modifiers and of its body.
-use Rattle.std.proofs.Common.{◌≡◌, ℕ, Bool, true, false, List, [], ◌∷◌, ◌++◌, Option, Some, None, refl, sym, ap, ◌∙◌, append_assoc, append-nil, map, cond}
+-- The types that the signature of a constant names are those of its modifiers and of its body, each with its role.
+use Rattle.std.proofs.Common.{◌≡◌, ℕ, Bool, true, false, List, [], ◌∷◌, ◌++◌, Option, Some, None, refl, sym, ap, subst, ◌∙◌, append_assoc, append-nil, map, cond}
 use Rattle.std.specs.Prelude.{◌==◌, is_some}
-use Rattle.std.specs.List.{flat_map}
 use Rattle.std.proofs.lemmas.List.{map-append}
-use Rattle.std.proofs.lemmas.Grind.{flat_map-append}
 use Rattle.blob_grammar.specs.Grammar.{Value, number, integer, octets, Cut, with_value, cut}
 use Rattle.blob_grammar.specs.Reader.{prefix_of}
 use Rattle.type_blobs.specs.declared.types.TypeLimits.{TypeLimits}
@@ -13,47 +11,57 @@ use Rattle.type_blobs.specs.Constants.{constants, modifier_of, body_of, is_modif
 use Rattle.type_blobs.specs.Constants.{general, object}
 use Rattle.ppdb_values.specs.Constants.{body_value, body_by}
 use Rattle.ppdb_values.specs.RawFile.{records_of, begun_of}
-use Rattle.type_blobs_rows.specs.Rows.{constant_type, constant_types}
-use Rattle.ppdb_merge_items.specs.NamedRows.{Named, in_token, in_body}
-use Rattle.ppdb_merge_names_laws.proofs.FieldWalks.{row_named, Tells, prefix-names, records-prefix, begun-prefix}
+use Rattle.type_blobs_rows.specs.declared.row.Role.TheVariants.{Modifier as ModifierRole, Class}
+use Rattle.type_blobs_rows.specs.Rows.{type_role, constant_type, constant_types}
+use Rattle.ppdb_merge_items.specs.NamedRows.{Named, in_token}
+use Rattle.ppdb_merge_names_laws.proofs.FieldWalks.{Tells, prefix-names, prefix-good, records-prefix, begun-prefix}
+use Rattle.ppdb_merge_names_laws.proofs.Live.{Said, said, targets_said, body_said}
 
--- a number is a type
-abbrev type_in : Value → List Named
-type_in (number n) = in_token (token_of n) ∷ []
-type_in value = []
+-- a number is a type, after these values
+abbrev type_in : List Value → Value → List Said
+type_in before (number n) = (in_token (token_of n), type_role before) ∷ []
+type_in before value = []
+
+abbrev types_after : List Value → List Value → List Said
+types_after before [] = []
+types_after before (value ∷ values) = type_in before value ++ types_after (before ++ value ∷ []) values
 
 -- of the values that have begun, all but the first
-abbrev begun_types : List Value → List Named
+abbrev begun_types : List Value → List Said
 begun_types [] = []
-begun_types (code ∷ values) = flat_map type_in values
+begun_types (code ∷ values) = types_after (code ∷ []) values
 
-abbrev targets : List Modifier → List Named
-targets modifiers = map (λ (modifier : Modifier). in_token modifier.target) modifiers
+abbrev named : Cut Modifier → List Said
+named place = targets_said place.whole ++ begun_types place.begun
 
-abbrev named : Cut Modifier → List Named
-named place = targets place.whole ++ begun_types place.begun
+-- a code with a type that has begun is that of a body
+abbrev IsBody : Value → Value → Type 0
+IsBody (number code) (number n) = is_modifier code ≡ false
+IsBody code value = Unit {0}
 
-abbrev Any : Cut Modifier → Type 0
-Any place = Unit {0}
+abbrev HasBody : List Value → Type 0
+HasBody [] = Unit {0}
+HasBody (code ∷ []) = Unit {0}
+HasBody (code ∷ second ∷ values) = IsBody code second
 
--- no record is closed
-open_step : (whole : List Modifier) (code : Value) (values : List Value) (value : Value)
-    → targets whole ++ flat_map type_in (values ++ value ∷ []) ≡ (targets whole ++ flat_map type_in values) ++ (type_in value ++ [])
-open_step whole code values value =
-    ap (λ (l : List Named). targets whole ++ l) (flat_map-append type_in values (value ∷ []))
-    ∙ sym (append_assoc (targets whole) (flat_map type_in values) (type_in value ++ []))
+abbrev Good : Cut Modifier → Type 0
+Good place = HasBody place.begun
 
-told_number : (value : Value) → type_in value ++ [] ≡ type_in value
-told_number value = append-nil (type_in value)
+after-more : (before values : List Value) (value : Value) → types_after before (values ++ value ∷ []) ≡ types_after before values ++ type_in (before ++ values) value
+after-more before [] value = append-nil (type_in before value) ∙ ap (λ (l : List Value). type_in l value) (sym (append-nil before))
+after-more before (v ∷ values) value =
+    ap (λ (l : List Said). type_in before v ++ l) (after-more (before ++ v ∷ []) values value)
+    ∙ ap (λ (l : List Value). type_in before v ++ (types_after (before ++ v ∷ []) values ++ type_in l value)) (append_assoc before (v ∷ []) values)
+    ∙ sym (append_assoc (type_in before v) (types_after (before ++ v ∷ []) values) (type_in (before ++ v ∷ values) value))
 
 module _ (limits : TypeLimits) where
   abbrev after : List Modifier → List Value → Value → Cut Modifier
   after whole begun value = with_value (constants limits) (record { whole = whole; begun = begun }) value
 
-  abbrev told : List Value → ℕ → Value → List Named
-  told begun at value = map row_named (constant_type (record { byte = at; before = begun; value = value }))
+  abbrev told : List Value → ℕ → Value → List Said
+  told begun at value = map said (constant_type (record { byte = at; before = begun; value = value }))
 
-  told_is : (code : Value) (values : List Value) (at : ℕ) (value : Value) → told (code ∷ values) at value ≡ type_in value
+  told_is : (code : Value) (values : List Value) (at : ℕ) (value : Value) → told (code ∷ values) at value ≡ type_in (code ∷ values) value
   told_is code values at (number n) = refl
   told_is code values at (integer z) = refl
   told_is code values at (octets xs) = refl
@@ -75,76 +83,90 @@ module _ (limits : TypeLimits) where
   many_open (integer z) b c values = refl
   many_open (octets xs) b c values = refl
 
+  abbrev Steps : List Modifier → List Value → ℕ → Value → Type 0
+  Steps whole begun at value = Good (after whole begun value)
+      × (named (after whole begun value) ≡ named (record { whole = whole; begun = begun }) ++ told begun at value)
+
   -- a record that stays open
   stays : (whole : List Modifier) (code : Value) (values : List Value) (at : ℕ) (value : Value) → modifier_of (code ∷ (values ++ value ∷ [])) ≡ None
-      → named (after whole (code ∷ values) value) ≡ named (record { whole = whole; begun = code ∷ values }) ++ told (code ∷ values) at value
-  stays whole code values at value none =
-      rw none (open_step whole code values value
-      ∙ ap (λ (l : List Named). (targets whole ++ flat_map type_in values) ++ l) (told_number value ∙ sym (told_is code values at value)))
+      → HasBody (code ∷ (values ++ value ∷ [])) → Steps whole (code ∷ values) at value
+  stays whole code values at value none good =
+      rw none (
+        good,
+        ap (λ (l : List Said). targets_said whole ++ l) (after-more (code ∷ []) values value)
+            ∙ sym (append_assoc (targets_said whole) (types_after (code ∷ []) values) (type_in (code ∷ values) value))
+            ∙ ap (λ (l : List Said). (targets_said whole ++ types_after (code ∷ []) values) ++ l) (sym (told_is code values at value)),
+      )
 
   -- the second value may close a modifier
-  second : (whole : List Modifier) (code : Value) (at : ℕ) (value : Value)
-      → named (after whole (code ∷ []) value) ≡ named (record { whole = whole; begun = code ∷ [] }) ++ told (code ∷ []) at value
+  second : (whole : List Modifier) (code : Value) (at : ℕ) (value : Value) → Steps whole (code ∷ []) at value
   second whole (number code) at (number n) = by (is_modifier code) refl
     where
-      by : (b : Bool) → is_modifier code ≡ b
-          → named (after whole (number code ∷ []) (number n)) ≡ named (record { whole = whole; begun = number code ∷ [] })
-          ++ told (number code ∷ []) at (number n)
-      by false e = stays whole (number code) [] at (number n) (rw e refl)
+      by : (b : Bool) → is_modifier code ≡ b → Steps whole (number code ∷ []) at (number n)
+      by false e = stays whole (number code) [] at (number n) (rw e refl) e
       by true e =
-          rw e
-          (append-nil (targets (whole ++ record { required = code == 0x1f; target = token_of n } ∷ []))
-          ∙ map-append (λ (modifier : Modifier). in_token modifier.target) whole (record { required = code == 0x1f; target = token_of n } ∷ [])
-          ∙ ap (λ (l : List Named). l ++ in_token (token_of n) ∷ []) (sym (append-nil (targets whole))))
-  second whole (number code) at (integer z) = stays whole (number code) [] at (integer z) refl
-  second whole (number code) at (octets xs) = stays whole (number code) [] at (octets xs) refl
-  second whole (integer z) at value = stays whole (integer z) [] at value refl
-  second whole (octets xs) at value = stays whole (octets xs) [] at value refl
+          rw e (
+            tt,
+            append-nil (targets_said (whole ++ record { required = code == 0x1f; target = token_of n } ∷ []))
+                ∙ map-append (λ (modifier : Modifier). (in_token modifier.target, ModifierRole)) whole
+                (record { required = code == 0x1f; target = token_of n } ∷ [])
+                ∙ ap (λ (l : List Said). l ++ (in_token (token_of n), ModifierRole) ∷ []) (sym (append-nil (targets_said whole))),
+          )
+  second whole (number code) at (integer z) = stays whole (number code) [] at (integer z) refl tt
+  second whole (number code) at (octets xs) = stays whole (number code) [] at (octets xs) refl tt
+  second whole (integer z) at value = stays whole (integer z) [] at value refl tt
+  second whole (octets xs) at value = stays whole (octets xs) [] at value refl tt
 
-  steps : (whole : List Modifier) (begun : List Value) (at : ℕ) (value : Value)
-      → named (after whole begun value) ≡ named (record { whole = whole; begun = begun }) ++ told begun at value
-  steps whole [] at value = rw (first_open value)
-      (sym (append-nil (targets whole ++ [])) ∙ ap (λ (l : List Named). (targets whole ++ []) ++ l) (sym (no_told at value)))
-  steps whole (code ∷ []) at value = second whole code at value
-  steps whole (code ∷ b ∷ []) at value = stays whole code (b ∷ []) at value (many_open code b value [])
-  steps whole (code ∷ b ∷ c ∷ values) at value = stays whole code (b ∷ c ∷ values) at value (many_open code b c (values ++ value ∷ []))
+  steps : (whole : List Modifier) (begun : List Value) (at : ℕ) (value : Value) → HasBody begun → Steps whole begun at value
+  steps whole [] at value good = rw (first_open value)
+      (tt, sym (append-nil (targets_said whole ++ [])) ∙ ap (λ (l : List Said). (targets_said whole ++ []) ++ l) (sym (no_told at value)))
+  steps whole (code ∷ []) at value good = second whole code at value
+  steps whole (code ∷ b ∷ []) at value good = stays whole code (b ∷ []) at value (many_open code b value []) good
+  steps whole (code ∷ b ∷ c ∷ values) at value good = stays whole code (b ∷ c ∷ values) at value (many_open code b c (values ++ value ∷ [])) good
 
-  tells : Tells (constants limits) constant_type named Any
-  tells place at value good allowed = (tt, steps place.whole place.begun at value)
+  tells : Tells (constants limits) said constant_type named Good
+  tells place at value good allowed = steps place.whole place.begun at value good
 
   -- ---- the body
 
-  same_body : (a b : StoredBody) → a ≡ b → in_body (body_value b) ≡ in_body (body_value a)
-  same_body a b e = ap (λ (x : StoredBody). in_body (body_value x)) (sym e)
+  same_body : (a b : StoredBody) → a ≡ b → body_said (body_value b) ≡ body_said (body_value a)
+  same_body a b e = ap (λ (x : StoredBody). body_said (body_value x)) (sym e)
 
   alone : (code : ℕ) (body : StoredBody) (a b : Bool) → cond a (Some object) (cond b (Some (primitive code [])) None) ≡ Some body
-      → in_body (body_value body) ≡ []
+      → body_said (body_value body) ≡ []
   alone code body true b e = same_body object body (cc)
   alone code body false true e = same_body (primitive code []) body (cc)
   alone code body false false e = absurd cc
 
-  body_names : (begun : List Value) (body : StoredBody) → body_of begun ≡ Some body → in_body (body_value body) ≡ begun_types begun
-  body_names (number code ∷ []) body e = alone code body (is_object code) (is_string code) e
-  body_names (number code ∷ octets value ∷ []) body e = same_body (primitive code value) body (cc)
-  body_names (number code ∷ octets value ∷ number target ∷ []) body e = same_body (enumerated code value (token_of target)) body (cc)
-  body_names (number code ∷ number target ∷ []) body e = same_body (general code (token_of target) []) body (cc)
-  body_names (number code ∷ number target ∷ octets more ∷ []) body e = same_body (general code (token_of target) more) body (cc)
-  body_names _ body e = absurd cc
+  class_role : (code : ℕ) (x : Named) → is_modifier code ≡ false
+      → ◌≡◌ {A = List Said} ((x, Class) ∷ []) ((x, type_role (number code ∷ [])) ∷ [])
+  class_role code x e = rw e refl
+
+  body_names : (begun : List Value) (body : StoredBody) → HasBody begun → body_of begun ≡ Some body → body_said (body_value body) ≡ begun_types begun
+  body_names (number code ∷ []) body good e = alone code body (is_object code) (is_string code) e
+  body_names (number code ∷ octets value ∷ []) body good e = same_body (primitive code value) body (cc)
+  body_names (number code ∷ octets value ∷ number target ∷ []) body good e = same_body (enumerated code value (token_of target)) body (cc)
+  body_names (number code ∷ number target ∷ []) body good e =
+      same_body (general code (token_of target) []) body (cc) ∙ class_role code (in_token (token_of target)) good
+  body_names (number code ∷ number target ∷ octets more ∷ []) body good e =
+      same_body (general code (token_of target) more) body (cc) ∙ class_role code (in_token (token_of target)) good
+  body_names _ body good e = absurd cc
 
   there : (o : Option StoredBody) → is_some o ≡ true → (body : StoredBody) × (o ≡ Some body)
   there (Some body) e = (body, refl)
   there None e = absurd cc
 
   pub constant-names : (blob : List ℕ) → is_some (body_of (begun_of (constants limits) blob)) ≡ true
-      → map row_named (constant_types limits blob) ≡ targets (records_of (constants limits) blob)
-      ++ in_body (body_by (body_of (begun_of (constants limits) blob)))
+      → map said (constant_types limits blob) ≡ targets_said (records_of (constants limits) blob)
+      ++ body_said (body_by (body_of (begun_of (constants limits) blob)))
   constant-names blob some =
       let g = constants limits in
       let prefix = cut g (prefix_of g blob) in
       let begun = begun_of g blob in
       let body = there (body_of begun) some in
-      sym (prefix-names g constant_type named Any tells blob tt refl)
-      ∙ ap (λ (modifiers : List Modifier). targets modifiers ++ begun_types prefix.begun) (sym (records-prefix g blob))
-      ∙ ap (λ (values : List Value). targets (records_of g blob) ++ begun_types values) (sym (begun-prefix g blob))
-      ∙ ap (λ (l : List Named). targets (records_of g blob) ++ l) (sym (body_names begun body.0 body.1))
-      ∙ ap (λ (o : Option StoredBody). targets (records_of g blob) ++ in_body (body_by o)) (sym body.1)
+      let good : HasBody begun = subst HasBody (sym (begun-prefix g blob)) (prefix-good g said constant_type named Good tells blob tt) in
+      sym (prefix-names g said constant_type named Good tells blob tt refl)
+      ∙ ap (λ (modifiers : List Modifier). targets_said modifiers ++ begun_types prefix.begun) (sym (records-prefix g blob))
+      ∙ ap (λ (values : List Value). targets_said (records_of g blob) ++ begun_types values) (sym (begun-prefix g blob))
+      ∙ ap (λ (l : List Said). targets_said (records_of g blob) ++ l) (sym (body_names begun body.0 good body.1))
+      ∙ ap (λ (o : Option StoredBody). targets_said (records_of g blob) ++ body_said (body_by o)) (sym body.1)

@@ -17,15 +17,15 @@ use Rattle.ppdb_merge_items.specs.NamedRows.{Named, names}
 abbrev pub row_named : PlacedRow → Named
 row_named x = names x.table x.row
 
-module _ {R : Type 0} (g : Grammar R) (tell : PlacedField → List PlacedRow) (named : Cut R → List Named) (Good : Cut R → Type 0) where
+module _ {R X : Type 0} (g : Grammar R) (say : PlacedRow → X) (tell : PlacedField → List PlacedRow) (named : Cut R → List X) (Good : Cut R → Type 0) where
   -- What a place names is what the places before it name, and what the field reports.
   abbrev pub Tells : Type 0
   Tells = (place : Cut R) (at : ℕ) (value : Value) → Good place → g.allows place.whole place.begun value ≡ true
       → Good (with_value g place value)
-      × (named (with_value g place value) ≡ named place ++ map row_named (tell (record { byte = at; before = place.begun; value = value })))
+      × (named (with_value g place value) ≡ named place ++ map say (tell (record { byte = at; before = place.begun; value = value })))
 
   walk : Tells → (before fields : List Field) (after : List ℕ) (at : ℕ) → Good (cut g before) → EachFollows g before fields after
-      → named (cut g (before ++ fields)) ≡ named (cut g before) ++ map row_named (flat_map tell (placed_from g (cut g before) at fields))
+      → named (cut g (before ++ fields)) ≡ named (cut g before) ++ map say (flat_map tell (placed_from g (cut g before) at fields))
   walk tells before [] after at good each = ap (λ (fs : List Field). named (cut g fs)) (append-nil before) ∙ sym (append-nil (named (cut g before)))
   walk tells before (f ∷ fs) after at good each =
       let place = cut g before in
@@ -36,18 +36,18 @@ module _ {R : Type 0} (g : Grammar R) (tell : PlacedField → List PlacedRow) (n
       let more = walk tells (before ++ f ∷ []) fs after (at + length f.bytes) (subst Good (sym next) step.0) each.1 in
       ap (λ (l : List Field). named (cut g l)) (sym (append_assoc before (f ∷ []) fs))
       ∙ more
-      ∙ ap (λ (c : Cut R). named c ++ map row_named (flat_map tell (placed_from g c (at + length f.bytes) fs))) next
-      ∙ ap (λ (l : List Named). l ++ map row_named rest) step.1
-      ∙ append_assoc (named place) (map row_named told) (map row_named rest)
-      ∙ ap (λ (l : List Named). named place ++ l) (sym (map-append row_named told rest))
+      ∙ ap (λ (c : Cut R). named c ++ map say (flat_map tell (placed_from g c (at + length f.bytes) fs))) next
+      ∙ ap (λ (l : List X). l ++ map say rest) step.1
+      ∙ append_assoc (named place) (map say told) (map say rest)
+      ∙ ap (λ (l : List X). named place ++ l) (sym (map-append say told rest))
 
   -- What the longest valid prefix names is what its fields report.
   pub prefix-names : Tells → (blob : List ℕ) → Good (record { whole = []; begun = [] }) → named (record { whole = []; begun = [] }) ≡ []
-      → named (cut g (prefix_of g blob)) ≡ map row_named (flat_map tell (placed_of g (prefix_of g blob)))
+      → named (cut g (prefix_of g blob)) ≡ map say (flat_map tell (placed_of g (prefix_of g blob)))
   prefix-names tells blob good none =
       let f = prefix_of-longest g blob in
       walk tells [] (prefix_of g blob) f.0 0 good f.1.at_start.each
-      ∙ ap (λ (l : List Named). l ++ map row_named (flat_map tell (placed_of g (prefix_of g blob)))) none
+      ∙ ap (λ (l : List X). l ++ map say (flat_map tell (placed_of g (prefix_of g blob)))) none
 
   good-walk : Tells → (before fields : List Field) (after : List ℕ) → Good (cut g before) → EachFollows g before fields after → Good (cut g (before ++ fields))
   good-walk tells before [] after good each = subst (λ (fs : List Field). Good (cut g fs)) (sym (append-nil before)) good

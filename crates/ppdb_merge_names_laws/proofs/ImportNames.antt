@@ -1,4 +1,4 @@
--- The rows that imports name are those of their values.
+-- The rows that imports name are those of their values, each with its role.
 use Rattle.std.proofs.Common.{◌≡◌, ℕ, zero, suc, Bool, true, false, List, [], ◌∷◌, ◌++◌, length, Option, Some, None, refl, sym, ap, ◌∙◌, append_assoc}
 use Rattle.std.proofs.Common.{append-nil, map, arith, slice_get, cond}
 use Rattle.std.specs.Prelude.{◌==◌}
@@ -6,40 +6,40 @@ use Rattle.std.specs.List.{flat_map}
 use Rattle.type_blobs.proofs.Codes.{eq-is}
 use Rattle.std.proofs.lemmas.Grind.{flat_map-append}
 use Rattle.blob_grammar.specs.Grammar.{Value, number, integer, octets, Cut, closed, with_value, cut}
-use Rattle.blob_grammar.specs.Places.{PlacedField, placed_of}
 use Rattle.blob_grammar.specs.Reader.{prefix_of}
 use Rattle.type_blobs.specs.declared.types.TypeLimits.{TypeLimits}
 use Rattle.type_blobs.specs.declared.import_part.ImportPart.{ImportPart}
 use Rattle.type_blobs.specs.declared.import_part.ImportPart.TheVariants.{Kind, Alias, Assembly, Namespace, Target}
 use Rattle.type_blobs.specs.Types.{token_of}
-use Rattle.type_blobs.specs.Imports.{ImportItem, imports, import_of, item_of, parts_of, numbers_of, next_allows, allows, import_field, field_of}
+use Rattle.type_blobs.specs.Imports.{ImportItem, imports, import_of, item_of, parts_of, numbers_of, next_allows, allows}
 use Rattle.ppdb_values.specs.Imports.{import_value}
 use Rattle.ppdb_values.specs.RawFile.{records_of}
-use Rattle.type_blobs_rows.specs.declared.row.PlacedRow.{PlacedRow}
-use Rattle.type_blobs_rows.specs.Rows.{row_of, import_row, import_rows}
-use Rattle.ppdb_merge_items.specs.NamedRows.{Named, names, in_token, in_import}
-use Rattle.ppdb_merge_names_laws.proofs.FieldWalks.{row_named, Tells, prefix-names, records-prefix}
+use Rattle.type_blobs_rows.specs.declared.row.Role.TheVariants.{ImportedType}
+use Rattle.type_blobs_rows.specs.Rows.{assembly_role, row_of, row_behind, import_row, import_rows}
+use Rattle.ppdb_merge_items.specs.NamedRows.{names, in_token}
+use Rattle.ppdb_merge_names_laws.proofs.FieldWalks.{Tells, prefix-names, records-prefix}
+use Rattle.ppdb_merge_names_laws.proofs.Live.{Said, said, import_said}
 
 -- what a part names by its number
-abbrev part_row : ImportPart → ℕ → List Named
-part_row Assembly n = names 0x23 n ∷ []
-part_row Target n = in_token (token_of n) ∷ []
-part_row part n = []
+abbrev part_row : ℕ → ImportPart → ℕ → List Said
+part_row kind Assembly n = (names 0x23 n, assembly_role kind) ∷ []
+part_row kind Target n = (in_token (token_of n), ImportedType) ∷ []
+part_row kind part n = []
 
 -- what the parts name by their numbers, as far as there are any
-abbrev parts_rows : List ImportPart → List ℕ → List Named
-parts_rows [] numbers = []
-parts_rows (part ∷ parts) [] = []
-parts_rows (part ∷ parts) (n ∷ numbers) = part_row part n ++ parts_rows parts numbers
+abbrev parts_rows : ℕ → List ImportPart → List ℕ → List Said
+parts_rows kind [] numbers = []
+parts_rows kind (part ∷ parts) [] = []
+parts_rows kind (part ∷ parts) (n ∷ numbers) = part_row kind part n ++ parts_rows kind parts numbers
 
-abbrev begun_rows : List Value → List Named
-begun_rows (number kind ∷ values) = parts_rows (parts_of kind) (numbers_of values)
+abbrev begun_rows : List Value → List Said
+begun_rows (number kind ∷ values) = parts_rows kind (parts_of kind) (numbers_of values)
 begun_rows _ = []
 
-abbrev item_rows : ImportItem → List Named
-item_rows item = in_import (import_value item)
+abbrev item_rows : ImportItem → List Said
+item_rows item = import_said (import_value item)
 
-abbrev named : Cut ImportItem → List Named
+abbrev named : Cut ImportItem → List Said
 named place = flat_map item_rows place.whole ++ begun_rows place.begun
 
 -- the values that have begun are numbers
@@ -51,12 +51,12 @@ Numbers (value ∷ values) = ⊥
 abbrev Good : Cut ImportItem → Type 0
 Good place = Numbers place.begun
 
-part_is : (part : ImportPart) (at n : ℕ) → map row_named (row_of part at n) ≡ part_row part n
-part_is Kind at n = refl
-part_is Alias at n = refl
-part_is Assembly at n = refl
-part_is Namespace at n = refl
-part_is Target at n = refl
+part_is : (kind : ℕ) (part : ImportPart) (at n : ℕ) → map said (row_of kind part at n) ≡ part_row kind part n
+part_is kind Kind at n = refl
+part_is kind Alias at n = refl
+part_is kind Assembly at n = refl
+part_is kind Namespace at n = refl
+part_is kind Target at n = refl
 
 numbers-more : (values : List Value) (n : ℕ) → numbers_of (values ++ number n ∷ []) ≡ numbers_of values ++ n ∷ []
 numbers-more [] n = refl
@@ -77,16 +77,18 @@ good-more (integer z ∷ values) n h = h
 good-more (octets xs ∷ values) n h = h
 
 -- one number more
-rows-more : (parts : List ImportPart) (ns : List ℕ) (n : ℕ) (part : ImportPart) → slice_get parts (length ns) ≡ Some part
-    → parts_rows parts (ns ++ n ∷ []) ≡ parts_rows parts ns ++ part_row part n
-rows-more [] ns n part e = cc
-rows-more (p ∷ parts) [] n part e = let same : p ≡ part = cc in ap (λ (q : ImportPart). part_row q n ++ parts_rows parts []) same ∙ none parts (part_row part n)
+rows-more : (kind : ℕ) (parts : List ImportPart) (ns : List ℕ) (n : ℕ) (part : ImportPart) → slice_get parts (length ns) ≡ Some part
+    → parts_rows kind parts (ns ++ n ∷ []) ≡ parts_rows kind parts ns ++ part_row kind part n
+rows-more kind [] ns n part e = cc
+rows-more kind (p ∷ parts) [] n part e =
+    let same : p ≡ part = cc in ap (λ (q : ImportPart). part_row kind q n ++ parts_rows kind parts []) same ∙ none parts (part_row kind part n)
   where
-    none : (parts : List ImportPart) (l : List Named) → l ++ parts_rows parts [] ≡ l
+    none : (parts : List ImportPart) (l : List Said) → l ++ parts_rows kind parts [] ≡ l
     none [] l = append-nil l
     none (p ∷ parts) l = append-nil l
-rows-more (p ∷ parts) (m ∷ ns) n part e =
-    ap (λ (l : List Named). part_row p m ++ l) (rows-more parts ns n part e) ∙ sym (append_assoc (part_row p m) (parts_rows parts ns) (part_row part n))
+rows-more kind (p ∷ parts) (m ∷ ns) n part e =
+    ap (λ (l : List Said). part_row kind p m ++ l) (rows-more kind parts ns n part e)
+    ∙ sym (append_assoc (part_row kind p m) (parts_rows kind parts ns) (part_row kind part n))
 
 -- ---- a whole import
 
@@ -125,7 +127,7 @@ three (a ∷ b ∷ c ∷ d ∷ ns) e = absurd (omega (arith, e))
 
 module _ (heap : ℕ → Option (List ℕ)) where
   abbrev IsRows : ℕ → List ℕ → Type 0
-  IsRows kind ns = (item : ImportItem) → item_of heap kind ns ≡ Some item → item_rows item ≡ parts_rows (parts_of kind) ns
+  IsRows kind ns = (item : ImportItem) → item_of heap kind ns ≡ Some item → item_rows item ≡ parts_rows kind (parts_of kind) ns
 
   made : (a b : ImportItem) → Some a ≡ Some b → item_rows b ≡ item_rows a
   made a b e = let same : a ≡ b = cc in ap item_rows (sym same)
@@ -174,11 +176,8 @@ module _ (heap : ℕ → Option (List ℕ)) where
     abbrev after : List ImportItem → List Value → Value → Cut ImportItem
     after whole begun value = with_value (imports limits heap) (record { whole = whole; begun = begun }) value
 
-    abbrev tell : PlacedField → List PlacedRow
-    tell field = flat_map import_row (import_field field)
-
-    abbrev told : List Value → ℕ → Value → List Named
-    told begun at value = map row_named (tell (record { byte = at; before = begun; value = value }))
+    abbrev told : List Value → ℕ → Value → List Said
+    told begun at value = map said (import_row (record { byte = at; before = begun; value = value }))
 
     abbrev Steps : List ImportItem → List Value → ℕ → Value → Type 0
     Steps whole begun at value = Good (after whole begun value)
@@ -187,61 +186,60 @@ module _ (heap : ℕ → Option (List ℕ)) where
     -- the import that has begun closes where it has all its numbers
     closes : (whole : List ImportItem) (kind : ℕ) (values : List Value) (at n : ℕ) (part : ImportPart) (o : Option ImportItem) → Numbers values
         → slice_get (parts_of kind) (length values) ≡ Some part
-        → ((item : ImportItem) → o ≡ Some item → item_rows item ≡ parts_rows (parts_of kind) (numbers_of (values ++ number n ∷ [])))
+        → ((item : ImportItem) → o ≡ Some item → item_rows item ≡ parts_rows kind (parts_of kind) (numbers_of (values ++ number n ∷ [])))
         → Good (closed o whole (number kind ∷ (values ++ number n ∷ [])))
-        × (named (closed o whole (number kind ∷ (values ++ number n ∷ []))) ≡ (flat_map item_rows whole ++ parts_rows (parts_of kind) (numbers_of values))
-        ++ part_row part n)
+        × (named (closed o whole (number kind ∷ (values ++ number n ∷ []))) ≡ (flat_map item_rows whole ++ parts_rows kind (parts_of kind) (numbers_of values))
+        ++ part_row kind part n)
     closes whole kind values at n part None good e is = (
       good-more values n good,
-      ap (λ (l : List Named). flat_map item_rows whole ++ l) (more kind values n part e)
-          ∙ sym (append_assoc (flat_map item_rows whole) (parts_rows (parts_of kind) (numbers_of values)) (part_row part n)),
+      ap (λ (l : List Said). flat_map item_rows whole ++ l) (more kind values n part e)
+          ∙ sym (append_assoc (flat_map item_rows whole) (parts_rows kind (parts_of kind) (numbers_of values)) (part_row kind part n)),
     )
       where
         more : (kind : ℕ) (values : List Value) (n : ℕ) (part : ImportPart) → slice_get (parts_of kind) (length values) ≡ Some part
-            → parts_rows (parts_of kind) (numbers_of (values ++ number n ∷ [])) ≡ parts_rows (parts_of kind) (numbers_of values) ++ part_row part n
+            → parts_rows kind (parts_of kind) (numbers_of (values ++ number n ∷ [])) ≡ parts_rows kind (parts_of kind) (numbers_of values) ++ part_row kind part n
         more kind values n part e =
-            ap (parts_rows (parts_of kind)) (numbers-more values n)
-            ∙ rows-more (parts_of kind) (numbers_of values) n part (ap (slice_get (parts_of kind)) (numbers_len values) ∙ e)
+            ap (parts_rows kind (parts_of kind)) (numbers-more values n)
+            ∙ rows-more kind (parts_of kind) (numbers_of values) n part (ap (slice_get (parts_of kind)) (numbers_len values) ∙ e)
     closes whole kind values at n part (Some item) good e is = (
       tt,
       append-nil (flat_map item_rows (whole ++ item ∷ []))
           ∙ flat_map-append item_rows whole (item ∷ [])
-          ∙ ap (λ (l : List Named). flat_map item_rows whole ++ l)
-          (append-nil (item_rows item) ∙ is item refl ∙ ap (parts_rows (parts_of kind)) (numbers-more values n)
-          ∙ rows-more (parts_of kind) (numbers_of values) n part (ap (slice_get (parts_of kind)) (numbers_len values) ∙ e))
-          ∙ sym (append_assoc (flat_map item_rows whole) (parts_rows (parts_of kind) (numbers_of values)) (part_row part n)),
+          ∙ ap (λ (l : List Said). flat_map item_rows whole ++ l)
+          (append-nil (item_rows item) ∙ is item refl ∙ ap (parts_rows kind (parts_of kind)) (numbers-more values n)
+          ∙ rows-more kind (parts_of kind) (numbers_of values) n part (ap (slice_get (parts_of kind)) (numbers_len values) ∙ e))
+          ∙ sym (append_assoc (flat_map item_rows whole) (parts_rows kind (parts_of kind) (numbers_of values)) (part_row kind part n)),
     )
 
     record_rows : (kind : ℕ) (fields : List Value) (item : ImportItem) → import_of heap (number kind ∷ fields) ≡ Some item
-        → item_rows item ≡ parts_rows (parts_of kind) (numbers_of fields)
+        → item_rows item ≡ parts_rows kind (parts_of kind) (numbers_of fields)
     record_rows kind fields item e = by (length fields == length (parts_of kind)) refl e
       where
         by : (b : Bool) → (length fields == length (parts_of kind)) ≡ b → cond b (item_of heap kind (numbers_of fields)) None ≡ Some item
-            → item_rows item ≡ parts_rows (parts_of kind) (numbers_of fields)
+            → item_rows item ≡ parts_rows kind (parts_of kind) (numbers_of fields)
         by true q h = item_names kind (numbers_of fields) (numbers_len fields ∙ eq-is (length fields) (length (parts_of kind)) q) item h
         by false q h = absurd cc
 
-    none_yet : (parts : List ImportPart) → parts_rows parts [] ≡ []
-    none_yet [] = refl
-    none_yet (part ∷ parts) = refl
+    none_yet : (kind : ℕ) (parts : List ImportPart) → parts_rows kind parts [] ≡ []
+    none_yet kind [] = refl
+    none_yet kind (part ∷ parts) = refl
 
-    first : (whole : List ImportItem) (n : ℕ) (o : Option ImportItem) → ((item : ImportItem) → o ≡ Some item → item_rows item ≡ parts_rows (parts_of n) [])
+    first : (whole : List ImportItem) (n : ℕ) (o : Option ImportItem) → ((item : ImportItem) → o ≡ Some item → item_rows item ≡ parts_rows n (parts_of n) [])
         → Good (closed o whole (number n ∷ [])) × (named (closed o whole (number n ∷ [])) ≡ (flat_map item_rows whole ++ []) ++ [])
     first whole n None is =
-        (tt, ap (λ (l : List Named). flat_map item_rows whole ++ l) (none_yet (parts_of n)) ∙ sym (append-nil (flat_map item_rows whole ++ [])))
+        (tt, ap (λ (l : List Said). flat_map item_rows whole ++ l) (none_yet n (parts_of n)) ∙ sym (append-nil (flat_map item_rows whole ++ [])))
     first whole n (Some item) is = (
       tt,
       append-nil (flat_map item_rows (whole ++ item ∷ []))
           ∙ flat_map-append item_rows whole (item ∷ [])
-          ∙ ap (λ (l : List Named). flat_map item_rows whole ++ l) (append-nil (item_rows item) ∙ is item refl ∙ none_yet (parts_of n))
+          ∙ ap (λ (l : List Said). flat_map item_rows whole ++ l) (append-nil (item_rows item) ∙ is item refl ∙ none_yet n (parts_of n))
           ∙ sym (append-nil (flat_map item_rows whole ++ [])),
     )
 
     told_number : (kind : ℕ) (values : List Value) (at n : ℕ) (part : ImportPart) → slice_get (parts_of kind) (length values) ≡ Some part
-        → told (number kind ∷ values) at (number n) ≡ part_row part n
+        → told (number kind ∷ values) at (number n) ≡ part_row kind part n
     told_number kind values at n part e =
-        ap (λ (o : Option ImportPart). map row_named (flat_map import_row (field_of o at (number n)))) e
-        ∙ ap (map row_named) (append-nil (row_of part at n)) ∙ part_is part at n
+        ap (λ (o : Option ImportPart). map said (row_behind (number kind ∷ values) o at (number n))) e ∙ part_is kind part at n
 
     steps : (whole : List ImportItem) (begun : List Value) (at : ℕ) (value : Value) → Numbers begun → allows limits heap begun value ≡ true
         → Steps whole begun at value
@@ -257,7 +255,7 @@ module _ (heap : ℕ → Option (List ℕ)) where
             let c = closes whole kind values at n part (import_of heap (number kind ∷ (values ++ number n ∷ []))) good e
             (λ item is. record_rows kind (values ++ number n ∷ []) item is) in (
               c.0,
-              c.1 ∙ ap (λ (l : List Named). (flat_map item_rows whole ++ parts_rows (parts_of kind) (numbers_of values)) ++ l)
+              c.1 ∙ ap (λ (l : List Said). (flat_map item_rows whole ++ parts_rows kind (parts_of kind) (numbers_of values)) ++ l)
                   (sym (told_number kind values at n part e)),
             )
     steps whole (number kind ∷ values) at (integer z) good allowed = absurd (no_integer (slice_get (parts_of kind) (length values)) allowed)
@@ -273,23 +271,17 @@ module _ (heap : ℕ → Option (List ℕ)) where
     steps whole (integer z ∷ values) at value good allowed = absurd good
     steps whole (octets xs ∷ values) at value good allowed = absurd good
 
-    tells : Tells (imports limits heap) tell named Good
+    tells : Tells (imports limits heap) said import_row named Good
     tells place at value good allowed = steps place.whole place.begun at value good allowed
-
-    twice : (fields : List PlacedField) → flat_map tell fields ≡ flat_map import_row (flat_map import_field fields)
-    twice [] = refl
-    twice (f ∷ fields) = ap (λ (l : List PlacedRow). tell f ++ l) (twice fields)
-        ∙ sym (flat_map-append import_row (import_field f) (flat_map import_field fields))
 
     rows_end : (whole : List ImportItem) (begun : List Value) → begun ≡ [] → named (record { whole = whole; begun = begun }) ≡ flat_map item_rows whole
     rows_end whole begun e = rw e (append-nil (flat_map item_rows whole))
 
     pub import-names : (blob : List ℕ) → (cut (imports limits heap) (prefix_of (imports limits heap) blob)).begun ≡ []
-        → map row_named (import_rows limits heap blob) ≡ flat_map item_rows (records_of (imports limits heap) blob)
+        → map said (import_rows limits heap blob) ≡ flat_map item_rows (records_of (imports limits heap) blob)
     import-names blob ends =
         let g = imports limits heap in
         let prefix = cut g (prefix_of g blob) in
-        ap (map row_named) (sym (twice (placed_of g (prefix_of g blob))))
-        ∙ sym (prefix-names g tell named Good tells blob tt refl)
+        sym (prefix-names g said import_row named Good tells blob tt refl)
         ∙ rows_end prefix.whole prefix.begun ends
         ∙ ap (λ (items : List ImportItem). flat_map item_rows items) (sym (records-prefix g blob))

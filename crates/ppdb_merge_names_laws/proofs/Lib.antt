@@ -1,4 +1,5 @@
 pub mod FieldWalks
+pub mod Live
 pub mod ConstantNames
 pub mod ImportNames
 pub mod StepNames

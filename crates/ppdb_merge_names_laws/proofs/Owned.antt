@@ -1,7 +1,7 @@
 -- What constants, imports, state machines and custom records name is what those of the value do.
-use Rattle.std.proofs.Common.{◌≡◌, ℕ, suc, ◌+◌, ◌-◌, Bool, true, false, ◌&&◌, ◌||◌, not, cond, List, [], ◌∷◌, length, Some, refl, sym, ap, ◌∙◌, map}
+use Rattle.std.proofs.Common.{◌≡◌, ℕ, suc, ◌+◌, ◌-◌, Bool, true, false, ◌&&◌, ◌||◌, not, cond, List, [], ◌∷◌, ◌++◌, length, Some, refl, sym, ap, ◌∙◌, map}
 use Rattle.std.proofs.Common.{slice_get, drop, arith}
-use Rattle.std.specs.Prelude.{nat_lt, slice_range}
+use Rattle.std.specs.Prelude.{nat_eq, nat_lt, slice_range}
 use Rattle.std.specs.List.{flat_map, filter}
 use Rattle.ppdb_base.specs.Place.{cell}
 use Rattle.blob_grammar.specs.Grammar.{Value, cut}
@@ -12,36 +12,43 @@ use Rattle.custom_info.specs.declared.kinds.Kind.{Kind}
 use Rattle.custom_info.specs.declared.kinds.Kind.TheVariants.{Async, Hoisted, TypeDocuments, Free, Unknown}
 use Rattle.custom_info.specs.Kinds.{kind_of}
 use Rattle.type_blobs.specs.Imports.{imports as import_grammar}
-use Rattle.ppdb_maps.specs.Map.{Map, is_dropped}
+use Rattle.type_blobs.specs.Constants.{constants, body_of}
+use Rattle.type_blobs_rows.specs.Rows.{constant_types, import_rows}
+use Rattle.custom_info.specs.AsyncStepping.{async_stepping, Entry, catch_handler, await_step}
+use Rattle.ppdb_maps.specs.Map.{Map, is_dropped, row_image}
 use Rattle.ppdb_tables.specs.declared.rows.ScopeRow.{ScopeRow}
 use Rattle.ppdb_tables.specs.declared.rows.ConstantRow.{ConstantRow}
 use Rattle.ppdb_tables.specs.declared.rows.ImportRow.{ImportRow}
 use Rattle.ppdb_tables.specs.declared.rows.MachineRow.{MachineRow}
 use Rattle.ppdb_tables.specs.declared.rows.CustomRow.{CustomRow}
+use Rattle.ppdb_tables.specs.declared.parent.Parent.{Parent}
 use Rattle.ppdb_tables.specs.RawTables.{RawTables, count, numbered, row_at}
 use Rattle.ppdb_values.specs.declared.custom.CustomValue.{CustomValue}
 use Rattle.ppdb_values.specs.declared.import.ImportScopeValue.{ImportScopeValue}
 use Rattle.ppdb_values.specs.declared.annotation.Annotation.{Annotation}
 use Rattle.ppdb_values.specs.declared.scope.ConstantValue.{ConstantValue}
-use Rattle.ppdb_values.specs.Constants.{constant_of}
-use Rattle.ppdb_values.specs.Customs.{custom_of, custom_body, parent_of, kind_in}
+use Rattle.ppdb_values.specs.Constants.{constant_of, body_by}
+use Rattle.ppdb_values.specs.Customs.{custom_of, custom_body, async_body, parent_of, kind_in}
 use Rattle.ppdb_values.specs.Imports.{import_scope_of, import_value, heap_of}
 use Rattle.ppdb_values.specs.Owners.{ListsAreOwned, list_of}
 use Rattle.ppdb_values.specs.Parts.{first_item}
-use Rattle.ppdb_values.specs.RawFile.{RawFile, blob, records_of, type_limits}
+use Rattle.ppdb_values.specs.RawFile.{RawFile, blob, records_of, begun_of, type_limits}
 use Rattle.ppdb_values.specs.Rules.{KeepsRules}
 use Rattle.ppdb_values.specs.Value.{value_of, scope_of}
 use Rattle.ppdb_values_reading.specs.Scopes.{scope_in}
 use Rattle.ppdb_merge_names.specs.References.{names as names_at, types_of, of_constant, of_import, of_machine, methods_in, methods_of, of_parent}
-use Rattle.ppdb_merge_names.specs.References.{is_live_parent, of_custom}
+use Rattle.ppdb_merge_names.specs.References.{is_type_documents, is_live_parent, is_live_record, of_custom}
 use Rattle.ppdb_merge_names.specs.Lists.{of_list, of_scope_constants}
 use Rattle.ppdb_merge_names.proofs.ConstantLists.{all-scopes, get_numbered, get_take, get_drop}
 use Rattle.ppdb_merge_items.specs.declared.file.AnnotatedScope.{AnnotatedScope}
-use Rattle.ppdb_merge_items.specs.Annotated.{annotated_file}
-use Rattle.ppdb_merge_items.specs.NamedRows.{Named, names, in_constant, in_import, in_steps, live_scope, live_machine, live_custom}
+use Rattle.ppdb_merge_items.specs.Annotated.{annotated_file, with_item}
+use Rattle.ppdb_merge_items.specs.NamedRows.{Named, names, in_constant, in_import, in_steps, is_gone_row, leaves_table, live_scope, live_machine, live_custom}
+use Rattle.ppdb_merge_items.specs.NamedRows.{is_type_documents as is_documents_body, live_constant, with_live_body, live_constants, with_live_constants, live_imports}
+use Rattle.ppdb_merge_items.specs.NamedRows.{with_live_imports}
 use Rattle.ppdb_merge_names_laws.proofs.FieldWalks.{row_named}
 use Rattle.ppdb_merge_names_laws.proofs.ConstantNames.{constant-names}
 use Rattle.ppdb_merge_names_laws.proofs.ImportNames.{import-names}
+use Rattle.ppdb_merge_names_laws.proofs.Live.{import_said, constant_live, imports_live}
 use Rattle.ppdb_merge_names_laws.proofs.StepNames.{step-names}
 use Rattle.ppdb_merge_names_laws.proofs.Listed.{unplaced, flat_map-made, flat_map-same, unplaced-flat, named-mapped, unnumbered, numbered-out, numbered-value}
 use Rattle.ppdb_merge_names_laws.proofs.Listed.{annotated-items, filter-both}
@@ -49,14 +56,39 @@ use Rattle.ppdb_merge_names_laws.proofs.Parts.{inside-named, annotated_row, anno
 
 -- ---- constants
 
-abbrev value_rows : ConstantValue → List Named
-value_rows c = in_constant (record { item = c; customs = [] })
+abbrev bare : ConstantValue → Annotation ConstantValue
+bare c = record { item = c; customs = [] }
+
+abbrev live_rows_of : Map → Annotation ConstantValue → List Named
+live_rows_of m n = cond (live_constant m n) (in_constant (with_item (with_live_body m) n)) []
+
+abbrev value_rows : Map → ConstantValue → List Named
+value_rows m c = live_rows_of m (bare c)
+
+-- what the items say that stay, item by item
+live-each : {X Y : Type 0} (p : X → Bool) (say : X → List Y) (xs : List X) → flat_map say (filter p xs) ≡ flat_map (λ x. cond (p x) (say x) []) xs
+live-each p say [] = refl
+live-each {X} {Y} p say (x ∷ xs) = by (p x) (live-each p say xs)
+  where
+    by : (b : Bool) → flat_map say (filter p xs) ≡ flat_map (λ y. cond (p y) (say y) []) xs
+        → flat_map say (cond b (x ∷ filter p xs) (filter p xs)) ≡ cond b (say x) [] ++ flat_map (λ y. cond (p y) (say y) []) xs
+    by true again = ap (λ (ys : List Y). say x ++ ys) again
+    by false again = again
+
+live-constants : (m : Map) (constants : List (Annotation ConstantValue)) → flat_map in_constant (live_constants m constants) ≡ flat_map (live_rows_of m) constants
+live-constants m constants =
+    flat_map-made (with_item (with_live_body m)) in_constant (filter (live_constant m) constants)
+    ∙ live-each (live_constant m) (λ n. in_constant (with_item (with_live_body m) n)) constants
 
 module _ (m : Map) (raw : RawFile) (owned : ListsAreOwned) (keeps : KeepsRules raw) where
   constant-named : (row : ℕ) (cells : ConstantRow) → row_at raw.tables.constants row ≡ Some cells
-      → unplaced (types_of raw.tables (row, cells)) ≡ value_rows (constant_of raw.tables cells)
+      → unplaced (types_of m raw.tables (row, cells)) ≡ value_rows m (constant_of raw.tables cells)
   constant-named row cells there =
-      inside-named 0x34 row 1 _ ∙ constant-names (type_limits raw.tables) (blob raw.tables cells.signature) ((keeps.constants.each row cells there).body)
+      let g = constants (type_limits raw.tables) in
+      let content = blob raw.tables cells.signature in
+      inside-named 0x34 row 1 _
+      ∙ constant_live m (constant_types (type_limits raw.tables) content) (records_of g content) (body_by (body_of (begun_of g content)))
+      (constant-names (type_limits raw.tables) content ((keeps.constants.each row cells there).body))
 
   -- a constant of a slice of the table is that of its row
   in-slice : (a b i : ℕ) (x : ℕ × ConstantRow) → slice_get (slice_range (numbered raw.tables.constants) a b) i ≡ Some x
@@ -68,41 +100,47 @@ module _ (m : Map) (raw : RawFile) (owned : ListsAreOwned) (keeps : KeepsRules r
       ap (row_at raw.tables.constants) (n.0 ∙ up) ∙ n.1
 
   list-named : (row : ℕ) (scope : ScopeRow) → row_at raw.tables.scopes row ≡ Some scope
-      → unplaced (of_list raw.tables (scope_in raw.tables (row, scope)).constants) ≡ flat_map in_constant (annotated_row m raw (row, scope)).constants
+      → unplaced (of_list m raw.tables (scope_in raw.tables (row, scope)).constants)
+      ≡ flat_map in_constant (live_constants m (annotated_row m raw (row, scope)).constants)
   list-named row scope there =
       let list = list_of (λ s. s.constants) raw.tables.scopes row scope raw.tables.constants in
-      unplaced-flat (types_of raw.tables) list
-      ∙ flat_map-same (λ x. unplaced (types_of raw.tables x)) (λ x. value_rows (constant_of raw.tables x.1)) list
+      unplaced-flat (types_of m raw.tables) list
+      ∙ flat_map-same (λ x. unplaced (types_of m raw.tables x)) (λ x. value_rows m (constant_of raw.tables x.1)) list
       (λ i x e. constant-named x.0 x.1 (in-slice (scope.constants - 1) ((scope_in raw.tables (row, scope)).constants.end - 1) i x e))
-      ∙ sym (flat_map-made (λ (x : ℕ × ConstantRow). constant_of raw.tables x.1) value_rows list)
-      ∙ ap (λ (items : List (ℕ × ConstantRow)). flat_map value_rows (map (λ (x : ℕ × ConstantRow). constant_of raw.tables x.1) items))
+      ∙ sym (flat_map-made (λ (x : ℕ × ConstantRow). constant_of raw.tables x.1) (value_rows m) list)
+      ∙ ap (λ (items : List (ℕ × ConstantRow)). flat_map (value_rows m) (map (λ (x : ℕ × ConstantRow). constant_of raw.tables x.1) items))
       (sym (owned.constants (λ s. s.constants) raw.tables.scopes row scope raw.tables.constants keeps.constants.lists there))
       ∙ sym (annotated-items (value_of raw) 0x34 (first_item (λ before. length before.constants) (value_of raw) row)
-      (scope_of raw.tables (row, scope)).constants in_constant value_rows (λ x. refl))
+      (scope_of raw.tables (row, scope)).constants (live_rows_of m) (value_rows m) (λ x. refl))
+      ∙ sym (live-constants m (annotated_row m raw (row, scope)).constants)
 
   scope-constants : (i : ℕ) (x : ℕ × ScopeRow) → slice_get (numbered raw.tables.scopes) i ≡ Some x
       → unplaced (of_scope_constants m raw.tables (scope_in raw.tables x))
-      ≡ cond (live_scope m (annotated_row m raw x)) (flat_map in_constant (annotated_row m raw x).constants) []
+      ≡ cond (live_scope m (annotated_row m raw x)) (flat_map in_constant (live_constants m (annotated_row m raw x).constants)) []
   scope-constants i x e =
       let n = get_numbered 1 raw.tables.scopes i x e in
       let up : 1 + i ≡ suc i = omega arith in
       by (is_dropped m x.1.method) (ap (row_at raw.tables.scopes) (n.0 ∙ up) ∙ n.1)
     where
       by : (d : Bool) → row_at raw.tables.scopes x.0 ≡ Some x.1
-          → unplaced (cond d [] (of_list raw.tables (scope_in raw.tables x).constants)) ≡ cond (not d) (flat_map in_constant (annotated_row m raw x).constants) []
+          → unplaced (cond d [] (of_list m raw.tables (scope_in raw.tables x).constants))
+          ≡ cond (not d) (flat_map in_constant (live_constants m (annotated_row m raw x).constants)) []
       by true there = refl
       by false there = list-named x.0 x.1 there
 
   pub constants-named : unplaced (flat_map (of_constant m raw.tables) (numbered raw.tables.constants))
-      ≡ flat_map (λ (s : AnnotatedScope). flat_map in_constant s.constants) (filter (live_scope m) (annotated_file (value_of raw)).scopes)
+      ≡ flat_map (λ (s : AnnotatedScope). flat_map in_constant s.constants)
+      (map (with_live_constants m) (filter (live_scope m) (annotated_file (value_of raw)).scopes))
   constants-named =
       let rows = numbered raw.tables.scopes in
       ap unplaced (all-scopes m raw.tables owned keeps.constants.lists ∙ flat_map-made (scope_in raw.tables) (of_scope_constants m raw.tables) rows)
       ∙ unplaced-flat (λ x. of_scope_constants m raw.tables (scope_in raw.tables x)) rows
       ∙ named-mapped (annotated_row m raw) (λ x. unplaced (of_scope_constants m raw.tables (scope_in raw.tables x))) (live_scope m)
-      (λ (s : AnnotatedScope). flat_map in_constant s.constants) rows scope-constants
-      ∙ ap (λ (scopes : List AnnotatedScope). flat_map (λ (s : AnnotatedScope). flat_map in_constant s.constants) (filter (live_scope m) scopes))
-      (sym (annotated-scopes m raw))
+      (λ (s : AnnotatedScope). flat_map in_constant (live_constants m s.constants)) rows scope-constants
+      ∙ ap (λ (scopes : List AnnotatedScope). flat_map (λ (s : AnnotatedScope). flat_map in_constant (live_constants m s.constants))
+      (filter (live_scope m) scopes)) (sym (annotated-scopes m raw))
+      ∙ sym (flat_map-made (with_live_constants m) (λ (s : AnnotatedScope). flat_map in_constant s.constants)
+      (filter (live_scope m) (annotated_file (value_of raw)).scopes))
 
   -- ---- imports
 
@@ -111,7 +149,7 @@ module _ (m : Map) (raw : RawFile) (owned : ListsAreOwned) (keeps : KeepsRules r
   no_begun (v ∷ values) e = cc
 
   import-named : (row : ℕ) (cells : ImportRow) → row_at raw.tables.imports row ≡ Some cells
-      → unplaced (of_import raw.tables (row, cells)) ≡ flat_map in_import (import_scope_of raw.tables cells).imports
+      → unplaced (of_import m raw.tables (row, cells)) ≡ flat_map in_import (live_imports m (import_scope_of raw.tables cells).imports)
   import-named row cells there =
       let g = import_grammar (type_limits raw.tables) (heap_of raw.tables) in
       let content = blob raw.tables cells.imports in
@@ -120,23 +158,26 @@ module _ (m : Map) (raw : RawFile) (owned : ListsAreOwned) (keeps : KeepsRules r
       let ends : (cut g (prefix_of g content)).begun
       ≡ [] = no_begun (cut g (prefix_of g content)).begun (ap (λ fs. is_between (cut g fs).begun) (sym prefix) ∙ whole.ends.1) in
       inside-named 0x35 row 1 _
-      ∙ import-names (heap_of raw.tables) (type_limits raw.tables) content ends
-      ∙ sym (flat_map-made import_value in_import (records_of g content))
+      ∙ imports_live m (import_rows (type_limits raw.tables) (heap_of raw.tables) content) (map import_value (records_of g content))
+      (import-names (heap_of raw.tables) (type_limits raw.tables) content ends ∙ sym (flat_map-made import_value import_said (records_of g content)))
 
-  pub imports-named : unplaced (flat_map (of_import raw.tables) (numbered raw.tables.imports))
-      ≡ flat_map (λ (i : Annotation ImportScopeValue). flat_map in_import i.item.imports) (annotated_file (value_of raw)).imports
+  pub imports-named : unplaced (flat_map (of_import m raw.tables) (numbered raw.tables.imports))
+      ≡ flat_map (λ (i : Annotation ImportScopeValue). flat_map in_import i.item.imports)
+      (map (with_item (with_live_imports m)) (annotated_file (value_of raw)).imports)
   imports-named =
       let rows = numbered raw.tables.imports in
-      unplaced-flat (of_import raw.tables) rows
-      ∙ flat_map-same (λ x. unplaced (of_import raw.tables x)) (λ x. flat_map in_import (import_scope_of raw.tables x.1).imports) rows
+      unplaced-flat (of_import m raw.tables) rows
+      ∙ flat_map-same (λ x. unplaced (of_import m raw.tables x)) (λ x. flat_map in_import (live_imports m (import_scope_of raw.tables x.1).imports)) rows
       (λ i x e.
       let n = get_numbered 1 raw.tables.imports i x e in
       let up : 1 + i ≡ suc i = omega arith in
       import-named x.0 x.1 (ap (row_at raw.tables.imports) (n.0 ∙ up) ∙ n.1))
-      ∙ unnumbered (λ cells. flat_map in_import (import_scope_of raw.tables cells).imports) 1 raw.tables.imports
-      ∙ sym (flat_map-made (import_scope_of raw.tables) (λ (s : ImportScopeValue). flat_map in_import s.imports) raw.tables.imports)
-      ∙ sym (annotated-items (value_of raw) 0x35 1 (value_of raw).imports (λ (i : Annotation ImportScopeValue). flat_map in_import i.item.imports)
-      (λ (s : ImportScopeValue). flat_map in_import s.imports) (λ x. refl))
+      ∙ unnumbered (λ cells. flat_map in_import (live_imports m (import_scope_of raw.tables cells).imports)) 1 raw.tables.imports
+      ∙ sym (flat_map-made (import_scope_of raw.tables) (λ (s : ImportScopeValue). flat_map in_import (live_imports m s.imports)) raw.tables.imports)
+      ∙ sym (annotated-items (value_of raw) 0x35 1 (value_of raw).imports (λ (i : Annotation ImportScopeValue). flat_map in_import (live_imports m i.item.imports))
+      (λ (s : ImportScopeValue). flat_map in_import (live_imports m s.imports)) (λ x. refl))
+      ∙ sym (flat_map-made (with_item (with_live_imports m)) (λ (i : Annotation ImportScopeValue). flat_map in_import i.item.imports)
+      (annotated_file (value_of raw)).imports)
 
 -- ---- state machines
 
@@ -179,6 +220,37 @@ custom-row raw x false = refl
 abbrev pub is_type_system : CustomValue → Bool
 is_type_system c = nat_lt c.parent.table 0x2d
 
+async-no_documents : (entries : List Entry) → is_documents_body (async_body entries) ≡ false
+async-no_documents [] = refl
+async-no_documents (catch_handler handler ∷ entries) = refl
+async-no_documents (await_step step ∷ entries) = refl
+
+documents-same : (raw : RawTables) (kind : Kind) (content : List ℕ) → is_type_documents kind ≡ is_documents_body (custom_body raw kind content)
+documents-same raw Async content = sym (async-no_documents (records_of (async_stepping (count raw 0x06)) content))
+documents-same raw Hoisted content = refl
+documents-same raw TypeDocuments content = refl
+documents-same raw Free content = refl
+documents-same raw Unknown content = refl
+
+record-lives : (m : Map) (raw : RawTables) (row : CustomRow)
+    → is_live_record m raw row (parent_of row.parent) ≡ (is_type_system (custom_of raw row) && live_custom m (custom_of raw row))
+record-lives m raw row =
+    ap (λ (d : Bool). is_live_parent m parent && not (d && leaves)) (documents-same raw (kind_of [] (kind_in raw row)) (blob raw row.value))
+    ∙ by (nat_lt parent.table 0x2d) (nat_eq parent.table 0x06 && is_dropped m parent.row) (is_gone_row m parent.table parent.row)
+    (is_documents_body (custom_of raw row).value && leaves)
+  where
+    parent : Parent
+    parent = parent_of row.parent
+
+    leaves : Bool
+    leaves = leaves_table parent.table (row_image m parent.table parent.row)
+
+    by : (low dropped gone goes : Bool) → ((low && not (dropped || gone)) && not goes) ≡ (low && not (dropped || (gone || goes)))
+    by false dropped gone goes = refl
+    by true true gone goes = refl
+    by true false true goes = refl
+    by true false false goes = refl
+
 pub customs-named : (m : Map) (raw : RawTables)
     → unplaced (flat_map (of_custom m raw) (numbered raw.customs))
     ≡ flat_map custom_rows (filter (live_custom m) (filter is_type_system (map (custom_of raw) raw.customs)))
@@ -186,7 +258,8 @@ customs-named m raw =
     unplaced-flat (of_custom m raw) (numbered raw.customs)
     ∙ named-mapped (λ (x : ℕ × CustomRow). custom_of raw x.1) (λ x. unplaced (of_custom m raw x)) (λ c. is_type_system c && live_custom m c) custom_rows
     (numbered raw.customs)
-    (λ i x e. custom-row raw x (is_live_parent m (parent_of x.1.parent)))
+    (λ i x e. custom-row raw x (is_live_record m raw x.1 (parent_of x.1.parent))
+    ∙ ap (λ (b : Bool). cond b (custom_rows (custom_of raw x.1)) []) (record-lives m raw x.1))
     ∙ ap (λ (customs : List CustomValue). flat_map custom_rows (filter (λ c. is_type_system c && live_custom m c) customs))
     (numbered-value (custom_of raw) 1 raw.customs)
     ∙ ap (λ (customs : List CustomValue). flat_map custom_rows customs) (sym (filter-both (live_custom m) is_type_system (map (custom_of raw) raw.customs)))

@@ -1,5 +1,5 @@
 -- Part by part, what a file names is what its value names.
-use Rattle.std.proofs.Common.{◌≡◌, ℕ, Bool, true, false, not, cond, nat_eq, is_some, List, [], ◌∷◌, Option, Some, None, refl, sym, ap, ◌∙◌, map}
+use Rattle.std.proofs.Common.{◌≡◌, ℕ, Bool, true, false, ◌||◌, not, cond, nat_eq, is_some, List, [], ◌∷◌, Option, Some, None, refl, sym, ap, ◌∙◌, map}
 use Rattle.std.specs.List.{flat_map, filter, filter_map}
 use Rattle.std.specs.Option.{option_map}
 use Rattle.std.proofs.lemmas.List.Concat.{flat_map_single}
@@ -17,7 +17,8 @@ use Rattle.type_blobs_rows.specs.declared.row.PlacedRow.{PlacedRow}
 use Rattle.ppdb_merge_names.specs.References.{names as names_at, names_some as some_at, inside, of_entry, of_signature, of_points, of_method, of_scope}
 use Rattle.ppdb_merge_items.specs.declared.file.AnnotatedScope.{AnnotatedScope}
 use Rattle.ppdb_merge_items.specs.Annotated.{annotated_file, annotated_scope}
-use Rattle.ppdb_merge_items.specs.NamedRows.{Named, names, names_some, in_entry, live_file, live_method, live_scope, live_signature, with_live_signature}
+use Rattle.ppdb_merge_items.specs.NamedRows.{Named, names, names_some, in_entry, live_file, is_gone_row, live_method, live_scope, live_signature, with_live_signature}
+use Rattle.ppdb_merge_items.specs.NamedRows.{with_live_constants}
 use Rattle.ppdb_merge_names_laws.proofs.FieldWalks.{row_named}
 use Rattle.ppdb_merge_names_laws.proofs.Listed.{unplaced, unplaced-flat, flat_map-made, named-mapped, named-filtered, numbered-made, map-twice}
 
@@ -65,12 +66,12 @@ method-is raw x v e = by (blob raw x.1.points) e
 
 module _ (m : Map) where
   signature-named : (row : ℕ) (v : MethodValue) → v.method ≡ row → unplaced (of_signature m row v.signature) ≡ names_some 0x11 (live_signature m v)
-  signature-named row v is = by (is_some (signature_line m row)) refl
+  signature-named row v is = by (is_some (signature_line m row) || is_gone_row m 0x11 v.signature) refl
     where
-      live : (b : Bool) → is_some (signature_line m row) ≡ b → live_signature m v ≡ cond b 0 v.signature
-      live b e = ap (λ (c : Bool). cond c 0 v.signature) (ap (λ (n : ℕ). is_some (signature_line m n)) is ∙ e)
+      live : (b : Bool) → (is_some (signature_line m row) || is_gone_row m 0x11 v.signature) ≡ b → live_signature m v ≡ cond b 0 v.signature
+      live b e = ap (λ (c : Bool). cond c 0 v.signature) (ap (λ (n : ℕ). is_some (signature_line m n) || is_gone_row m 0x11 v.signature) is ∙ e)
 
-      by : (b : Bool) → is_some (signature_line m row) ≡ b
+      by : (b : Bool) → (is_some (signature_line m row) || is_gone_row m 0x11 v.signature) ≡ b
           → unplaced (cond b [] (some_at (cell 0x31 row 1) 0x11 v.signature)) ≡ names_some 0x11 (live_signature m v)
       by true e = sym (ap (names_some 0x11) (live true e))
       by false e = some-named (cell 0x31 row 1) 0x11 v.signature ∙ sym (ap (names_some 0x11) (live false e))
@@ -113,10 +114,11 @@ module _ (m : Map) where
 
   pub scopes-named : (raw : RawFile)
       → unplaced (flat_map (of_scope m) (numbered raw.tables.scopes))
-      ≡ map (λ (s : AnnotatedScope). names 0x06 s.method) (filter (live_scope m) (annotated_file (value_of raw)).scopes)
+      ≡ map (λ (s : AnnotatedScope). names 0x06 s.method) (map (with_live_constants m) (filter (live_scope m) (annotated_file (value_of raw)).scopes))
   scopes-named raw =
       unplaced-flat (of_scope m) (numbered raw.tables.scopes)
       ∙ named-mapped (annotated_row raw) (λ x. unplaced (of_scope m x)) (live_scope m) (λ s. names 0x06 s.method ∷ []) (numbered raw.tables.scopes)
       (λ i x e. scope-row (is_dropped m x.1.method) (cell 0x32 x.0 0) x.1.method)
       ∙ flat_map_single (λ (s : AnnotatedScope). names 0x06 s.method) (filter (live_scope m) (map (annotated_row raw) (numbered raw.tables.scopes)))
       ∙ ap (λ (scopes : List AnnotatedScope). map (λ (s : AnnotatedScope). names 0x06 s.method) (filter (live_scope m) scopes)) (sym (annotated-scopes raw))
+      ∙ sym (map-twice (with_live_constants m) (λ (s : AnnotatedScope). names 0x06 s.method) (filter (live_scope m) (annotated_file (value_of raw)).scopes))

@@ -72,7 +72,7 @@ module _ (methods : ℕ) where
   steps (catch_handler h ∷ others) (number p ∷ number r ∷ []) at (octets xs) good allowed = absurd cc
   steps (catch_handler h ∷ others) _ at value good allowed = absurd good
 
-  tells : Tells (async_stepping methods) resume_method named Good
+  tells : Tells (async_stepping methods) row_named resume_method named Good
   tells place at value good allowed = steps place.whole place.begun at value good allowed
 
   abbrev step_rows : List Entry → List Named
@@ -92,6 +92,6 @@ module _ (methods : ℕ) where
   step-names blob =
       let g = async_stepping methods in
       let prefix = cut g (prefix_of g blob) in
-      sym (prefix-names g resume_method named Good tells blob tt refl)
-      ∙ body_rows prefix.whole prefix.begun (prefix-good g resume_method named Good tells blob tt)
+      sym (prefix-names g row_named resume_method named Good tells blob tt refl)
+      ∙ body_rows prefix.whole prefix.begun (prefix-good g row_named resume_method named Good tells blob tt)
       ∙ ap (λ (entries : List Entry). in_steps (async_body entries)) (sym (records-prefix g blob))

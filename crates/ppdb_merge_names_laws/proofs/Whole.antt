@@ -44,7 +44,7 @@ all-named owned first m raw keeps =
     (both (flat_map (of_scope m) (numbered t.scopes)) (flat_map (of_constant m t) (numbered t.constants)) scopes constants (scopes-named m raw)
     (constants-named m raw owned keeps)) in
     let last_tables =
-    both (flat_map (of_import t) (numbered t.imports))
+    both (flat_map (of_import m t) (numbered t.imports))
     (flat_map (of_machine m) (numbered t.machines) ++ flat_map (of_custom m t) (numbered t.customs)) imports (machines ++ customs)
     (imports-named m raw owned keeps)
     (both (flat_map (of_machine m) (numbered t.machines)) (flat_map (of_custom m t) (numbered t.customs)) machines customs (machines-named m t)

@@ -1,23 +1,26 @@
 -- The parts of the file that inputs are joined into.
-use Rattle.std.proofs.Common.{◌≡◌, ℕ, ◌+◌, ◌||◌, ◌++◌, Bool, true, false, cond, List, [], ◌∷◌, Option, Some, None, length, map, refl, sym, subst, ap, ◌∙◌}
+use Rattle.std.proofs.Common.{◌≡◌, ℕ, ◌+◌, ◌||◌, ◌++◌, not, Bool, true, false, cond, List, [], ◌∷◌, Option, Some, None, length, map, refl, sym, subst, ap, ◌∙◌}
 use Rattle.std.proofs.Common.{map-id}
 use Rattle.std.specs.Prelude.{flat_map}
-use Rattle.std.specs.List.{filter_map, enumerate_from}
+use Rattle.std.specs.List.{filter, filter_map, cons_option, enumerate_from}
 use Rattle.std.specs.Option.{option_map}
 use Rattle.std.proofs.lemmas.List.{length-map}
 use Rattle.std.proofs.lemmas.List.FromFn.{length-enumerate_from}
-use Rattle.ppdb_maps.specs.Map.{moved_row, offsets_in, is_dropped}
+use Rattle.ppdb_maps.specs.Map.{Map, moved_row, offsets_in, is_dropped}
 use Rattle.sequence_points.specs.declared.point.Point.{Point}
 use Rattle.sequence_points.specs.MovedPoints.{moved_points}
 use Rattle.ppdb_tables.specs.declared.rows.MachineRow.{MachineRow}
 use Rattle.ppdb_values.specs.declared.file.DocumentValue.{DocumentValue}
 use Rattle.ppdb_values.specs.declared.file.FileValue.{FileValue}
 use Rattle.ppdb_values.specs.declared.file.MethodValue.{MethodValue}
+use Rattle.ppdb_values.specs.declared.annotation.Annotation.{Annotation}
+use Rattle.ppdb_values.specs.declared.scope.ConstantValue.{ConstantValue}
 use Rattle.ppdb_values.specs.declared.scope.ScopeValue.{ScopeValue}
-use Rattle.ppdb_values.specs.Meaning.{annotated_from}
+use Rattle.ppdb_values.specs.Meaning.{annotated_from, annotated_on}
 use Rattle.ppdb_merge_items.specs.declared.file.AnnotatedScope.{AnnotatedScope}
 use Rattle.ppdb_merge_items.specs.declared.file.AnnotatedFile.{AnnotatedFile}
 use Rattle.ppdb_merge_items.specs.Annotated.{annotated_file, annotated_scope, items_of, scope_of, with_item}
+use Rattle.ppdb_merge_items.specs.NamedRows.{goes_constant, live_constant, live_constants, with_live_body}
 use Rattle.ppdb_merge_items.specs.Sorted.{in_order}
 use Rattle.ppdb_merge_items.specs.Unannotated.{value_of_annotated}
 use Rattle.ppdb_merge_items.proofs.Mapped.{map_map_both}
@@ -26,8 +29,8 @@ use Rattle.ppdb_merge_joined.specs.Joined.{renumbered_method, renumbered_scope, 
 use Rattle.ppdb_merge_moved.specs.Moved.{moved_file, moved_method, moved_scope, moved_import_scope, moved_range, is_empty}
 use Rattle.ppdb_merge_moved.specs.Moved.{moved_variable, moved_constant, moved_document, with_points, scope_image as annotated_image}
 use Rattle.ppdb_merge_meaning_laws.specs.Kept.{MovedBy, in_turn, moved_input, joined_inputs}
-use Rattle.ppdb_merge_parts.specs.Flat.{Counted, counted, rows_of, moved_documents, documents_of, document_rows, method_image, moved_scope_value, scope_image}
-use Rattle.ppdb_merge_parts.specs.Flat.{import_image, machine_image, IsFlat, HasHeadOf, JoinedPartsAreFlat}
+use Rattle.ppdb_merge_parts.specs.Flat.{Counted, counted, rows_of, moved_documents, documents_of, document_rows, method_image, constant_image, moved_scope_value}
+use Rattle.ppdb_merge_parts.specs.Flat.{scope_image, import_image, machine_image, IsFlat, HasHeadOf, JoinedPartsAreFlat}
 use Rattle.ppdb_merge_parts.proofs.Lists.{map_numbered, filter_map_numbered, map_filter_map, filter_map_map, map_flat, filter_map_flat, flat_same}
 use Rattle.ppdb_merge_parts.proofs.Ordered.{in_order_made, in_order_map}
 
@@ -65,6 +68,25 @@ items_moved value table first f xs =
     map_map_both (λ n. n.item) (with_item f) (annotated_from value table first xs)
     ∙ map_numbered _ _ f (λ n x. refl) first xs
 
+-- what becomes of constants, without the records on them
+constants_moved : (value : FileValue) (m : Map) (table first : ℕ) (xs : List ConstantValue)
+    → items_of (map (with_item (moved_constant m)) (live_constants m (annotated_from value table first xs))) ≡ filter_map (constant_image m) xs
+constants_moved value m table first [] = refl
+constants_moved value m table first (x ∷ xs) = step (goes_constant m x) (constants_moved value m table (first + 1) xs)
+  where
+    here : Annotation ConstantValue
+    here = record { item = x; customs = annotated_on value table first }
+
+    rest_live : List (Annotation ConstantValue)
+    rest_live = filter (live_constant m) (annotated_from value table (first + 1) xs)
+
+    step : (b : Bool)
+        → items_of (map (with_item (moved_constant m)) (live_constants m (annotated_from value table (first + 1) xs))) ≡ filter_map (constant_image m) xs
+        → items_of (map (with_item (moved_constant m)) (map (with_item (with_live_body m)) (cond (not b) (here ∷ rest_live) rest_live)))
+        ≡ cons_option (cond b None (Some (moved_constant m (with_live_body m x)))) (filter_map (constant_image m) xs)
+    step true rest = rest
+    step false rest = ap (λ l. moved_constant m (with_live_body m x) ∷ l) rest
+
 documents_flat : (inputs : List MovedBy) → flat_map (λ (file : AnnotatedFile). items_of file.documents) (map moved_of inputs)
     ≡ flat_map moved_documents inputs
 documents_flat [] = refl
@@ -99,7 +121,7 @@ module _ (before : ℕ) (input : MovedBy) (n : ℕ) (s : ScopeValue) where
       ap (λ variables. record (scope_of (renumbered_scope before (annotated_image input.map here))) { variables = variables })
       (items_moved input.value 0x33 _ (moved_variable input.map s.method) s.variables)
       ∙ ap (λ constants. record (moved_scope_value ((before, input), s)) { constants = constants })
-      (items_moved input.value 0x34 _ (moved_constant input.map) s.constants)
+      (constants_moved input.value input.map 0x34 _ s.constants)
 
   scope_bit : (b : Bool)
       → option_map (λ (a : AnnotatedScope). scope_of (renumbered_scope before a)) (cond b None (Some (annotated_image input.map here)))

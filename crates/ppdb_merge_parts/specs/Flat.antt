@@ -2,10 +2,10 @@
 -- "LocalScope Table", "ImportScope Table", "StateMachineMethod Table"; docs/FORMAT.md, "Joining").
 use Rattle.std.specs.Prelude.{◌≡◌, ℕ, ◌+◌, cond, List, [], ◌∷◌, Option, Some, None, length, map, flat_map, filter_map, option_map}
 use Rattle.ppdb_tables.specs.declared.rows.MachineRow.{MachineRow}
-use Rattle.ppdb_maps.specs.Map.{moved_row, offsets_in}
+use Rattle.ppdb_maps.specs.Map.{Map, moved_row, offsets_in}
 use Rattle.ppdb_values.specs.{declared.file.{DocumentValue.DocumentValue, FileValue.FileValue, MethodValue.MethodValue}, declared.import.ImportScopeValue.ImportScopeValue}
-use Rattle.ppdb_values.specs.declared.scope.ScopeValue.{ScopeValue}
-use Rattle.ppdb_merge_items.specs.Sorted.{in_order}
+use Rattle.ppdb_values.specs.declared.scope.{ConstantValue.ConstantValue, ScopeValue.ScopeValue}
+use Rattle.ppdb_merge_items.specs.{NamedRows.{goes_constant, with_live_body}, Sorted.in_order}
 use Rattle.ppdb_merge_joined.specs.Joined.{firsts, row_named, row_in, shifted, renumbered_method, renumbered_import}
 use Rattle.ppdb_merge_moved.specs.Moved.{moved_range, is_empty, moved_variable, moved_constant, moved_import_scope, moved_method, moved_machine, moved_document, moved_counts}
 use Rattle.ppdb_merge_meaning_laws.specs.Kept.{MovedBy, joined_inputs}
@@ -42,20 +42,24 @@ document_rows documents input = map (λ (d : DocumentValue). row_named documents
 abbrev pub method_image : List DocumentValue → Counted × MethodValue → Option MethodValue
 method_image documents row = option_map (renumbered_method (row_in (document_rows documents row.0.1))) (moved_method row.0.1.map row.1)
 
+-- a constant leaves the file where a modifier, or the class or value type that it is of, is gone
+abbrev pub constant_image : Map → ConstantValue → Option ConstantValue
+constant_image m constant = cond (goes_constant m constant) None (Some (moved_constant m (with_live_body m constant)))
+
 abbrev pub moved_scope_value : Counted × ScopeValue → ScopeValue
 moved_scope_value row = record {
   method = moved_row row.0.1.map 0x06 row.1.method;
   import = shifted row.0.0 row.1.import;
   range = moved_range (offsets_in row.0.1.map row.1.method) row.1.range;
   variables = map (moved_variable row.0.1.map row.1.method) row.1.variables;
-  constants = map (moved_constant row.0.1.map) row.1.constants;
+  constants = filter_map (constant_image row.0.1.map) row.1.constants;
 }
 
 -- a scope whose range becomes empty leaves the file, with its variables and constants
 abbrev pub scope_image : Counted × ScopeValue → Option ScopeValue
 scope_image row = cond (is_empty (moved_scope_value row).range) None (Some (moved_scope_value row))
 
--- no import scope leaves the file
+-- no import scope leaves the file; an import does whose assembly or type is gone
 abbrev pub import_image : Counted × ImportScopeValue → ImportScopeValue
 import_image row = renumbered_import row.0.0 (moved_import_scope row.0.1.map row.1)
 

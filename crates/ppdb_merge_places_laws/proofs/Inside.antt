@@ -1,22 +1,21 @@
 -- The references inside a blob rise by their bytes.
-use Rattle.std.proofs.Common.{◌≡◌, ℕ, List, [], ◌∷◌, inl, inr, Option, Some, None, refl, sym, subst, flat_map}
+use Rattle.std.proofs.Common.{◌≡◌, ℕ, Bool, true, false, cond, List, [], ◌∷◌, inl, inr, Option, Some, refl}
+use Rattle.std.specs.List.{filter, list_any}
 use Rattle.ppdb_base.specs.Place.{ComesBefore, cell}
+use Rattle.ppdb_maps.specs.Map.{Map}
 use Rattle.blob_grammar.specs.Grammar.{Value, number, integer, octets}
-use Rattle.blob_grammar.specs.Places.{PlacedField, placed_of}
-use Rattle.blob_grammar.specs.Reader.{prefix_of}
 use Rattle.custom_info.specs.AsyncStepping.{async_stepping}
 use Rattle.type_blobs.specs.declared.import_part.ImportPart.{ImportPart}
 use Rattle.type_blobs.specs.declared.import_part.ImportPart.TheVariants.{Kind as KindPart, Alias, Assembly, Namespace, Target}
 use Rattle.type_blobs.specs.declared.types.TypeLimits.{TypeLimits}
 use Rattle.type_blobs.specs.Constants.{constants}
-use Rattle.type_blobs.specs.Imports.{imports, next_part, field_of, import_field}
+use Rattle.type_blobs.specs.Imports.{imports, next_part}
 use Rattle.type_blobs_rows.specs.declared.row.PlacedRow.{PlacedRow}
-use Rattle.type_blobs_rows.specs.Rows.{type_behind, constant_type, constant_types, import_row, import_rows}
+use Rattle.type_blobs_rows.specs.Rows.{type_behind, constant_type, constant_types, row_of, row_behind, import_row, import_rows}
 use Rattle.type_blobs_rows.specs.Rows.{method_behind, resume_method, resume_methods}
 use Rattle.ppdb_merge_items.specs.Each.{Each, Pairs}
-use Rattle.ppdb_merge_items.proofs.Lists.{Each-map, each_of, Pairs-map, Pairs-weaker}
-use Rattle.ppdb_merge_names.specs.References.{Reference, names, inside}
-use Rattle.ppdb_merge_fits.proofs.First.{flat_nested}
+use Rattle.ppdb_merge_items.proofs.Lists.{Each-filter, Each-map, each_of, Pairs-map, Pairs-weaker}
+use Rattle.ppdb_merge_names.specs.References.{Reference, names, inside, is_live, takes_constant, live_types}
 use Rattle.ppdb_merge_places_laws.specs.References.{reference_numbers}
 use Rattle.ppdb_merge_places_laws.proofs.Bytes.{Above, NamesOne, bytes_rise}
 use Rattle.ppdb_merge_places_laws.proofs.Ordered.{At, Rise}
@@ -51,28 +50,30 @@ constant_names = record { one = λ f. one f.before f.value f.byte; byte = λ f. 
     byte (code ∷ before) (integer z) at = tt
     byte (code ∷ before) (octets xs) at = tt
 
-import_names : NamesOne (λ (f : PlacedField). flat_map import_row (import_field f))
-import_names = record { one = λ f. one (next_part f.before) f.value f.byte; byte = λ f. byte (next_part f.before) f.value f.byte }
+import_names : NamesOne import_row
+import_names = record { one = λ f. one f.before (next_part f.before) f.value f.byte; byte = λ f. byte f.before (next_part f.before) f.value f.byte }
   where
-    one : (o : Option ImportPart) (v : Value) (at : ℕ) → Pairs (λ (a b : PlacedRow). ⊥) (flat_map import_row (field_of o at v))
-    one None v at = tt
-    one (Some part) (integer z) at = tt
-    one (Some part) (octets xs) at = tt
-    one (Some KindPart) (number n) at = tt
-    one (Some Alias) (number n) at = tt
-    one (Some Assembly) (number n) at = (tt, tt)
-    one (Some Namespace) (number n) at = tt
-    one (Some Target) (number n) at = (tt, tt)
+    part_one : (kind : ℕ) (part : ImportPart) (n at : ℕ) → Pairs (λ (a b : PlacedRow). ⊥) (row_of kind part at n)
+    part_one kind KindPart n at = tt
+    part_one kind Alias n at = tt
+    part_one kind Assembly n at = (tt, tt)
+    part_one kind Namespace n at = tt
+    part_one kind Target n at = (tt, tt)
 
-    byte : (o : Option ImportPart) (v : Value) (at : ℕ) → Each (λ (x : PlacedRow). x.byte ≡ at) (flat_map import_row (field_of o at v))
-    byte None v at = tt
-    byte (Some part) (integer z) at = tt
-    byte (Some part) (octets xs) at = tt
-    byte (Some KindPart) (number n) at = tt
-    byte (Some Alias) (number n) at = tt
-    byte (Some Assembly) (number n) at = (refl, tt)
-    byte (Some Namespace) (number n) at = tt
-    byte (Some Target) (number n) at = (refl, tt)
+    part_byte : (kind : ℕ) (part : ImportPart) (n at : ℕ) → Each (λ (x : PlacedRow). x.byte ≡ at) (row_of kind part at n)
+    part_byte kind KindPart n at = tt
+    part_byte kind Alias n at = tt
+    part_byte kind Assembly n at = (refl, tt)
+    part_byte kind Namespace n at = tt
+    part_byte kind Target n at = (refl, tt)
+
+    one : (before : List Value) (o : Option ImportPart) (v : Value) (at : ℕ) → Pairs (λ (a b : PlacedRow). ⊥) (row_behind before o at v)
+    one (number kind ∷ fields) (Some part) (number n) at = part_one kind part n at
+    one _ _ _ at = tt
+
+    byte : (before : List Value) (o : Option ImportPart) (v : Value) (at : ℕ) → Each (λ (x : PlacedRow). x.byte ≡ at) (row_behind before o at v)
+    byte (number kind ∷ fields) (Some part) (number n) at = part_byte kind part n at
+    byte _ _ _ at = tt
 
 resume_names : NamesOne resume_method
 resume_names = record { one = λ f. one f.before f.value f.byte; byte = λ f. byte f.before f.value f.byte }
@@ -89,9 +90,23 @@ pub constants_rise : (limits : TypeLimits) (content : List ℕ) → Pairs Above 
 constants_rise limits content = bytes_rise (constants limits) constant_type constant_names content
 
 pub imports_rise : (limits : TypeLimits) (heap : ℕ → Option (List ℕ)) (content : List ℕ) → Pairs Above (import_rows limits heap content)
-imports_rise limits heap content =
-    subst (Pairs Above) (sym (flat_nested import_row import_field (placed_of (imports limits heap) (prefix_of (imports limits heap) content))))
-    (bytes_rise (imports limits heap) (λ (f : PlacedField). flat_map import_row (import_field f)) import_names content)
+imports_rise limits heap content = bytes_rise (imports limits heap) import_row import_names content
+
+-- what is left of rows that rise
+pub rows_left : (p : PlacedRow → Bool) (rows : List PlacedRow) → Pairs Above rows → Pairs Above (filter p rows)
+rows_left p [] rise = tt
+rows_left p (x ∷ rows) rise = step (p x) (Each-filter (Above x) (Above x) p (λ y is above. above) rows rise.0) (rows_left p rows rise.1)
+  where
+    step : (b : Bool) → Each (Above x) (filter p rows) → Pairs Above (filter p rows) → Pairs Above (cond b (x ∷ filter p rows) (filter p rows))
+    step true above later = (above, later)
+    step false above later = later
+
+pub types_left : (m : Map) (types : List PlacedRow) → Pairs Above types → Pairs Above (live_types m types)
+types_left m types rise = step (list_any (takes_constant m) types)
+  where
+    step : (b : Bool) → Pairs Above (cond b [] (filter (is_live m) types))
+    step true = tt
+    step false = rows_left (is_live m) types rise
 
 pub methods_rise : (methods : ℕ) (content : List ℕ) → Pairs Above (resume_methods methods content)
 methods_rise methods content = bytes_rise (async_stepping methods) resume_method resume_names content

@@ -1,7 +1,7 @@
 -- The references of a file rise, table by table and row by row.
 use Rattle.std.proofs.Common.{ℕ, ◌<◌, ◌++◌, Bool, true, false, cond, List, [], ◌∷◌, inl, inr, Option, Some, None, refl, ap, subst, ◌∙◌, arith, flat_map}
 use Rattle.std.specs.Prelude.{nat_eq, is_some, ◌||◌}
-use Rattle.std.specs.List.{enumerate_from}
+use Rattle.std.specs.List.{enumerate_from, filter}
 use Rattle.ppdb_base.specs.Place.{ComesBefore, at_byte, cell}
 use Rattle.custom_info.specs.Kinds.{kind_of}
 use Rattle.custom_info.specs.declared.kinds.Kind.{Kind}
@@ -23,14 +23,15 @@ use Rattle.ppdb_values.specs.Customs.{parent_of, kind_in}
 use Rattle.ppdb_merge_items.specs.Each.{Each, Pairs}
 use Rattle.ppdb_merge_items.proofs.Lists.{Each-weaker}
 use Rattle.ppdb_merge_names.specs.References.{Reference, names, of_entry, of_points, of_method, of_scope, types_of, of_constant}
-use Rattle.ppdb_merge_names.specs.References.{is_dropped_constant, of_import, of_machine, methods_in, methods_of, of_parent, is_live_parent, of_custom}
+use Rattle.ppdb_merge_names.specs.References.{is_dropped_constant, of_import, of_machine, methods_in, methods_of, of_parent, is_live_record, of_custom}
+use Rattle.ppdb_merge_names.specs.References.{is_gone_row, is_live, live_types}
 use Rattle.ppdb_merge_names.specs.References.{of_methods, of_others, references}
 use Rattle.ppdb_merge_fits.proofs.First.{append_is}
 use Rattle.ppdb_merge_places_laws.specs.References.{reference_numbers, ReferencesRise}
 use Rattle.ppdb_merge_places_laws.proofs.Bytes.{Above}
 use Rattle.ppdb_merge_places_laws.proofs.Ordered.{At, From, RiseFrom, and_then, at_one, numbered_each, numbered_rise}
 use Rattle.ppdb_merge_places_laws.proofs.Inside.{Rising, InRow, InTable, in_table, constants_rise}
-use Rattle.ppdb_merge_places_laws.proofs.Inside.{imports_rise, methods_rise, inside_rises, inside_each, inside_row}
+use Rattle.ppdb_merge_places_laws.proofs.Inside.{imports_rise, rows_left, types_left, methods_rise, inside_rises, inside_each, inside_row}
 
 -- ---- the rows of each table
 
@@ -61,7 +62,7 @@ method_row m raw row x = unless (is_dropped m row) (of_points m row (method_of r
 
     points : (o : Option MethodValue) → OfRow 0x31 row (of_points m row o)
     points None = record { rise = tt; each = tt }
-    points (Some method) = signed (is_some (signature_line m row)) (nat_eq method.signature 0) method.signature
+    points (Some method) = signed (is_some (signature_line m row) || is_gone_row m 0x11 method.signature) (nat_eq method.signature 0) method.signature
 
 scope_row : (m : Map) (row : ℕ) (x : ScopeRow) → OfRow 0x32 row (of_scope m (row, x))
 scope_row m row x = unless (is_dropped m x.method) (names (cell 0x32 row 0) 0x06 x.method ∷ [])
@@ -69,19 +70,21 @@ scope_row m row x = unless (is_dropped m x.method) (names (cell 0x32 row 0) 0x06
 
 constant_row : (m : Map) (raw : RawTables) (row : ℕ) (x : ConstantRow) → OfRow 0x34 row (of_constant m raw (row, x))
 constant_row m raw row x =
-    let rows = constant_types (type_limits raw) (blob raw x.signature) in
-    unless (is_dropped_constant m raw row) (types_of raw (row, x))
+    let types = constant_types (type_limits raw) (blob raw x.signature) in
+    unless (is_dropped_constant m raw row) (types_of m raw (row, x))
     (record {
-      rise = inside_rises 0x34 row 1 rows (constants_rise (type_limits raw) (blob raw x.signature));
-      each = inside_row 0x34 row 1 rows;
+      rise = inside_rises 0x34 row 1 (live_types m types) (types_left m types (constants_rise (type_limits raw) (blob raw x.signature)));
+      each = inside_row 0x34 row 1 (live_types m types);
     })
 
-import_row_of : (raw : RawTables) (row : ℕ) (x : ImportRow) → OfRow 0x35 row (of_import raw (row, x))
-import_row_of raw row x = record {
-  rise = inside_rises 0x35 row 1 (import_rows (type_limits raw) (heap_of raw) (blob raw x.imports))
-      (imports_rise (type_limits raw) (heap_of raw) (blob raw x.imports));
-  each = inside_row 0x35 row 1 (import_rows (type_limits raw) (heap_of raw) (blob raw x.imports));
-}
+import_row_of : (m : Map) (raw : RawTables) (row : ℕ) (x : ImportRow) → OfRow 0x35 row (of_import m raw (row, x))
+import_row_of m raw row x =
+    let rows = import_rows (type_limits raw) (heap_of raw) (blob raw x.imports) in
+    record {
+      rise = inside_rises 0x35 row 1 (filter (is_live m) rows)
+          (rows_left (is_live m) rows (imports_rise (type_limits raw) (heap_of raw) (blob raw x.imports)));
+      each = inside_row 0x35 row 1 (filter (is_live m) rows);
+    }
 
 machine_row : (m : Map) (row : ℕ) (x : MachineRow) → OfRow 0x36 row (of_machine m (row, x))
 machine_row m row x = unless (is_dropped m x.move_next || is_dropped m x.kickoff)
@@ -94,7 +97,7 @@ machine_row m row x = unless (is_dropped m x.move_next || is_dropped m x.kickoff
 custom_row : (m : Map) (raw : RawTables) (row : ℕ) (x : CustomRow) → OfRow 0x37 row (of_custom m raw (row, x))
 custom_row m raw row x =
     let parent = parent_of x.parent in
-    only (is_live_parent m parent) (of_parent raw (row, x) parent)
+    only (is_live_record m raw x parent) (of_parent raw (row, x) parent)
     (record {
       rise = (
         inside_each 0x37 row 2 (λ r. ComesBefore (5 ∷ 0x37 ∷ row ∷ 0 ∷ 0 ∷ parent.table ∷ []) (reference_numbers r))
@@ -157,7 +160,7 @@ module _ (m : Map) (raw : RawTables) where
 
   others_rise : Later 0x35 (of_others m raw)
   others_rise =
-      then_tables 0x35 0x36 (omega arith) (of_import raw) (import_row_of raw) raw.imports _
+      then_tables 0x35 0x36 (omega arith) (of_import m raw) (import_row_of m raw) raw.imports _
       (then_tables 0x36 0x37 (omega arith) (of_machine m) (machine_row m) raw.machines _ customs_rise)
 
   tables_rise : Later 0x31 (in_methods ++ (in_scopes ++ (in_constants ++ of_others m raw)))

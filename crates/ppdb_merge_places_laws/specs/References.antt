@@ -1,11 +1,11 @@
 -- The references of a file stand in the order of their places (docs/FORMAT.md, "References").
-use Rattle.std.specs.Prelude.{◌≡◌, ℕ, Bool, List, [], ◌∷◌, ◌++◌, Contains, None}
+use Rattle.std.specs.Prelude.{◌≡◌, ℕ, Bool, false, List, [], ◌∷◌, ◌++◌, Contains}
 use Rattle.ppdb_base.specs.{Place.ComesBefore, declared.merge_error.MergeError.{MergeError, TheVariants.Unmapped}}
-use Rattle.ppdb_maps.specs.Map.{Map, row_within}
+use Rattle.ppdb_maps.specs.Map.{Map, row_image}
 use Rattle.ppdb_values.specs.RawFile.{RawFile}
 use Rattle.ppdb_merge_items.specs.Each.{Pairs}
 use Rattle.ppdb_merge_names.specs.References.{Reference, references}
-use Rattle.ppdb_merge_fits.specs.Rows.{unmapped}
+use Rattle.ppdb_merge_fits.specs.Rows.{is_row, unmapped}
 use Rattle.ppdb_merge_places_laws.specs.Places.{place_numbers, ReportsFirst}
 
 -- By its place, and at one place by the table of the row that is named: only a method (06) and its local signature (11) share a place.
@@ -17,9 +17,9 @@ abbrev pub ReferencesRise : Type 0
 ReferencesRise = (first : Bool) (m : Map) (raw : RawFile)
     → Pairs (λ a b. ComesBefore (reference_numbers a) (reference_numbers b)) (references first m raw)
 
--- M1: a reference has no image
+-- M1: a reference has no row as its image. What names a row that is gone goes, and is no reference.
 pub data IsUnmapped (first : Bool) (m : Map) (raw : RawFile) : List ℕ → MergeError → Type 0 where
-  reference : (r : Reference) → Contains (references first m raw) r → row_within m r.table r.row ≡ None
+  reference : (r : Reference) → Contains (references first m raw) r → is_row (row_image m r.table r.row) ≡ false
       → IsUnmapped first m raw (reference_numbers r) (Unmapped r.table r.row r.place)
 
 abbrev pub FirstReferencesAreReported : Type 0

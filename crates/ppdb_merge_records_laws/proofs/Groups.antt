@@ -1,17 +1,18 @@
 -- The records on the documents, scopes, variables, constants and import scopes of the joined file, row by row.
-use Rattle.std.proofs.Common.{◌≡◌, ℕ, zero, suc, ◌+◌, ◌≤◌, ◌++◌, not, Bool, true, false, cond, List, [], ◌∷◌, Option, Some, None, length, map, refl, sym, ap}
+use Rattle.std.proofs.Common.{◌≡◌, ℕ, ◌+◌, ◌≤◌, ◌++◌, not, Bool, true, false, cond, List, [], ◌∷◌, Option, Some, None, length, map, refl, sym, ap}
 use Rattle.std.proofs.Common.{◌∙◌, arith, append-nil}
 use Rattle.std.specs.Prelude.{filter, flat_map}
 use Rattle.std.specs.List.{filter_map, cons_option, enumerate_from}
 use Rattle.std.specs.Option.{option_map}
 use Rattle.std.proofs.lemmas.Bool.{eq-eqb, ne_eqb}
-use Rattle.ppdb_maps.specs.Map.{moved_row, offsets_in}
+use Rattle.ppdb_maps.specs.Map.{Map, moved_row, offsets_in}
 use Rattle.ppdb_tables.specs.RawTables.{numbered}
 use Rattle.ppdb_values.specs.declared.annotation.Annotation.{Annotation}
 use Rattle.ppdb_values.specs.declared.annotation.Custom.{Custom}
 use Rattle.ppdb_values.specs.declared.file.DocumentValue.{DocumentValue}
 use Rattle.ppdb_values.specs.declared.file.FileValue.{FileValue}
 use Rattle.ppdb_values.specs.declared.import.ImportScopeValue.{ImportScopeValue}
+use Rattle.ppdb_values.specs.declared.scope.ConstantValue.{ConstantValue}
 use Rattle.ppdb_values.specs.declared.scope.ScopeValue.{ScopeValue}
 use Rattle.ppdb_values.specs.Meaning.{annotated_on, annotated_from}
 use Rattle.ppdb_values.specs.Parts.{first_item}
@@ -19,17 +20,18 @@ use Rattle.ppdb_merge_items.specs.declared.file.AnnotatedFile.{AnnotatedFile}
 use Rattle.ppdb_merge_items.specs.declared.file.AnnotatedScope.{AnnotatedScope}
 use Rattle.ppdb_merge_items.specs.Annotated.{annotated_scope, customs_of, with_item}
 use Rattle.ppdb_merge_items.specs.Each.{Each}
+use Rattle.ppdb_merge_items.specs.NamedRows.{goes_constant, live_constant, live_constants, with_live_body}
 use Rattle.ppdb_merge_items.specs.Sorted.{in_order}
 use Rattle.ppdb_merge_items.proofs.Lists.{Each-filter, Each-map, Each-weaker, each_of}
 use Rattle.ppdb_merge_items.proofs.Mapped.{map_map_both}
 use Rattle.ppdb_merge_items.proofs.Orders.{in_order_each}
-use Rattle.ppdb_merge_items.proofs.Spread.{notes, customs_annotated}
 use Rattle.ppdb_merge_joined.specs.Joined.{joined_document, customs_named, renumbered, renumbered_all, renumbered_scope, renumbered_import}
 use Rattle.ppdb_merge_joined.specs.Same.{fresh, same_custom}
 use Rattle.ppdb_merge_joined.proofs.Each.{Each-flat}
 use Rattle.ppdb_merge_moved.specs.Moved.{moved_scope, moved_import_scope, moved_range, moved_variable, moved_constant, is_empty, scope_image as annotated_image}
 use Rattle.ppdb_merge_meaning_laws.specs.Kept.{MovedBy}
-use Rattle.ppdb_merge_records_laws.specs.Records.{Numbered, Origin, numbered_rows, origin_of, scopes_left, scope_origins, rows_from, owned_origins, import_origins}
+use Rattle.ppdb_merge_records_laws.specs.Records.{Numbered, Origin, numbered_rows, origin_of, scopes_left, scope_origins, rows_left, owned_origins, import_origins}
+use Rattle.ppdb_merge_records_laws.specs.Records.{variable_origins, constant_origins}
 use Rattle.ppdb_merge_parts.proofs.Flat.{moved_of}
 use Rattle.ppdb_merge_records_laws.proofs.Fresh.{of_one, later_none, flat_none}
 use Rattle.ppdb_merge_parts.proofs.Lists.{map_filter_map, filter_map_map, filter_map_flat, map_flat, flat_same}
@@ -127,6 +129,37 @@ record Notes : Type 0 where
   variables : List (List Custom)
   constants : List (List Custom)
 
+-- the records on the items that stay, where the first item has this row
+abbrev notes_left : {A : Type 0} → FileValue → ℕ → (A → Bool) → ℕ → List A → List (List Custom)
+notes_left {A} value table stays first items =
+    map (λ (item : ℕ × A). annotated_on value table item.0) (filter (λ (item : ℕ × A). stays item.1) (enumerate_from first items))
+
+all_noted : {A : Type 0} (value : FileValue) (table first : ℕ) (items : List A)
+    → customs_of (annotated_from value table first items) ≡ notes_left value table (λ item. true) first items
+all_noted value table first [] = refl
+all_noted value table first (x ∷ xs) = ap (λ l. annotated_on value table first ∷ l) (all_noted value table (first + 1) xs)
+
+constants_noted : (value : FileValue) (m : Map) (table first : ℕ) (items : List ConstantValue)
+    → customs_of (live_constants m (annotated_from value table first items)) ≡ notes_left value table (λ c. not (goes_constant m c)) first items
+constants_noted value m table first [] = refl
+constants_noted value m table first (x ∷ xs) = step (not (goes_constant m x)) (constants_noted value m table (first + 1) xs)
+  where
+    here : Annotation ConstantValue
+    here = record { item = x; customs = annotated_on value table first }
+
+    rest_live : List (Annotation ConstantValue)
+    rest_live = filter (live_constant m) (annotated_from value table (first + 1) xs)
+
+    rest_rows : List (ℕ × ConstantValue)
+    rest_rows = filter (λ (item : ℕ × ConstantValue). not (goes_constant m item.1)) (enumerate_from (first + 1) xs)
+
+    step : (b : Bool)
+        → customs_of (live_constants m (annotated_from value table (first + 1) xs)) ≡ notes_left value table (λ c. not (goes_constant m c)) (first + 1) xs
+        → customs_of (map (with_item (with_live_body m)) (cond b (here ∷ rest_live) rest_live))
+        ≡ map (λ (item : ℕ × ConstantValue). annotated_on value table item.0) (cond b ((first, x) ∷ rest_rows) rest_rows)
+    step true rest = ap (λ l. annotated_on value table first ∷ l) rest
+    step false rest = rest
+
 abbrev notes_in : AnnotatedScope → Notes
 notes_in s = record { method = s.method; scope = s.customs; variables = customs_of s.variables; constants = customs_of s.constants }
 
@@ -134,8 +167,8 @@ abbrev notes_on : MovedBy → ℕ → ScopeValue → Notes
 notes_on input row s = record {
   method = moved_row input.map 0x06 s.method;
   scope = annotated_on input.value 0x32 row;
-  variables = notes input.value 0x33 (first_item (λ (b : ScopeValue). length b.variables) input.value row) (length s.variables);
-  constants = notes input.value 0x34 (first_item (λ (b : ScopeValue). length b.constants) input.value row) (length s.constants);
+  variables = notes_left input.value 0x33 (λ v. true) (first_item (λ (b : ScopeValue). length b.variables) input.value row) s.variables;
+  constants = notes_left input.value 0x34 (λ c. not (goes_constant input.map c)) (first_item (λ (b : ScopeValue). length b.constants) input.value row) s.constants;
 }
 
 abbrev goes : MovedBy → ScopeValue → Bool
@@ -161,9 +194,10 @@ module _ (input : MovedBy) (row : ℕ) (s : ScopeValue) where
   notes_are : notes_in (annotated_image input.map here) ≡ notes_on input row s
   notes_are =
       ap (λ variables. record (notes_in (annotated_image input.map here)) { variables = variables })
-      (customs_stay (moved_variable input.map s.method) here.variables ∙ customs_annotated input.value 0x33 variable s.variables)
+      (customs_stay (moved_variable input.map s.method) here.variables ∙ all_noted input.value 0x33 variable s.variables)
       ∙ ap (λ constants. record (notes_on input row s) { constants = constants })
-      (customs_stay (moved_constant input.map) here.constants ∙ customs_annotated input.value 0x34 constant s.constants)
+      (customs_stay (moved_constant input.map) (live_constants input.map here.constants)
+      ∙ constants_noted input.value input.map 0x34 constant s.constants)
 
   notes_stay : option_map (λ a. notes_in (renumbered_scope 0 a)) (moved_scope input.map here) ≡ kept_notes input (row, s)
   notes_stay = by_bit (goes input s)
@@ -202,13 +236,16 @@ flat_maps : {A B C : Type 0} (f : B → List C) (g : A → B) (xs : List A) → 
 flat_maps f g [] = refl
 flat_maps f g (x ∷ xs) = ap (λ l. f (g x) ++ l) (flat_maps f g xs)
 
-rows_notes : (inputs : List MovedBy) (table input first n : ℕ) (value : FileValue)
+rows_notes : {A : Type 0} (inputs : List MovedBy) (table input : ℕ) (stays : A → Bool) (first : ℕ) (items : List A) (value : FileValue)
     → ((number : ℕ) → annotated_on value table number ≡ noted inputs table (input, number))
-    → notes value table first n ≡ map (noted inputs table) (rows_from input first n)
-rows_notes inputs table input first zero value own = refl
-rows_notes inputs table input first (suc n) value own =
-    ap (λ l. l ∷ notes value table (first + 1) n) (own first)
-    ∙ ap (λ l. noted inputs table (input, first) ∷ l) (rows_notes inputs table input (first + 1) n value own)
+    → notes_left value table stays first items ≡ map (noted inputs table) (rows_left stays input first items)
+rows_notes {A} inputs table input stays first items value own =
+    map_each (λ (item : ℕ × A). annotated_on value table item.0) (λ (item : ℕ × A). noted inputs table (input, item.0)) left
+    (each_of _ (λ (item : ℕ × A). own item.0) left)
+    ∙ sym (map_map_both (noted inputs table) (λ (item : ℕ × A). (input, item.0)) left)
+  where
+    left : List (ℕ × A)
+    left = filter (λ (item : ℕ × A). stays item.1) (enumerate_from first items)
 
 module _ (documents : List DocumentValue) (inputs : List MovedBy) where
   abbrev all : List AnnotatedFile
@@ -217,8 +254,8 @@ module _ (documents : List DocumentValue) (inputs : List MovedBy) where
   abbrev scopes : List AnnotatedScope
   scopes = in_order (λ (s : AnnotatedScope). s.method) (flat_map (λ (file : AnnotatedFile). file.scopes) all)
 
-  notes_left : map notes_in scopes ≡ map row_notes (scopes_left inputs)
-  notes_left =
+  notes_left_are : map notes_in scopes ≡ map row_notes (scopes_left inputs)
+  notes_left_are =
       in_order_map notes_in (λ (s : AnnotatedScope). s.method) (λ (n : Notes). n.method) (λ s. refl) (flat_map (λ (file : AnnotatedFile). file.scopes) all)
       ∙ ap (in_order (λ (n : Notes). n.method))
       (map_flat notes_in (λ (file : AnnotatedFile). file.scopes) all
@@ -237,34 +274,37 @@ module _ (documents : List DocumentValue) (inputs : List MovedBy) where
 
   pub on_scopes : map (λ (s : AnnotatedScope). s.customs) scopes ≡ map (noted inputs 0x32) (scope_origins inputs)
   on_scopes =
-      sym (map_map_both (λ (n : Notes). n.scope) notes_in scopes) ∙ ap (map (λ (n : Notes). n.scope)) notes_left
+      sym (map_map_both (λ (n : Notes). n.scope) notes_in scopes) ∙ ap (map (λ (n : Notes). n.scope)) notes_left_are
       ∙ map_map_both (λ (n : Notes). n.scope) row_notes (scopes_left inputs)
       ∙ map_each (λ (row : Row). annotated_on row.0.1.value 0x32 row.1) (λ (row : Row). noted inputs 0x32 (origin_of row)) (scopes_left inputs)
       (Each-weaker (IsNoted inputs) _ (λ row own. own 0x32 row.1) (scopes_left inputs) (scopes_noted inputs))
       ∙ sym (map_map_both (noted inputs 0x32) origin_of (scopes_left inputs))
 
   -- what scopes own
-  on_owned : (table : ℕ) (items : ScopeValue → ℕ)
-      → flat_map (λ (row : Row). notes row.0.1.value table (first_item items row.0.1.value row.1) (items row.2)) (scopes_left inputs)
-      ≡ map (noted inputs table) (owned_origins items inputs)
-  on_owned table items =
+  on_owned : {A : Type 0} (table : ℕ) (items : ScopeValue → List A) (stays : Map → A → Bool)
+      → flat_map (λ (row : Row).
+      notes_left row.0.1.value table (stays row.0.1.map) (first_item (λ (s : ScopeValue). length (items s)) row.0.1.value row.1) (items row.2)) (scopes_left inputs)
+      ≡ map (noted inputs table) (owned_origins items stays inputs)
+  on_owned table items stays =
       flat_each _ _ (scopes_left inputs)
       (Each-weaker (IsNoted inputs) _
-      (λ row own. rows_notes inputs table row.0.0 (first_item items row.0.1.value row.1) (items row.2) row.0.1.value (own table)) (scopes_left inputs)
+      (λ row own. rows_notes inputs table row.0.0 (stays row.0.1.map) (first_of row) (items row.2) row.0.1.value (own table)) (scopes_left inputs)
       (scopes_noted inputs))
-      ∙ sym (map_flat (noted inputs table) (λ (row : Row). rows_from row.0.0 (first_item items row.0.1.value row.1) (items row.2)) (scopes_left inputs))
+      ∙ sym (map_flat (noted inputs table) (λ (row : Row). rows_left (stays row.0.1.map) row.0.0 (first_of row) (items row.2)) (scopes_left inputs))
+    where
+      first_of : Row → ℕ
+      first_of row = first_item (λ (s : ScopeValue). length (items s)) row.0.1.value row.1
 
-  pub on_variables : flat_map (λ (s : AnnotatedScope). customs_of s.variables) scopes
-      ≡ map (noted inputs 0x33) (owned_origins (λ (s : ScopeValue). length s.variables) inputs)
+  pub on_variables : flat_map (λ (s : AnnotatedScope). customs_of s.variables) scopes ≡ map (noted inputs 0x33) (variable_origins inputs)
   on_variables =
-      sym (flat_maps (λ (n : Notes). n.variables) notes_in scopes) ∙ ap (flat_map (λ (n : Notes). n.variables)) notes_left
-      ∙ flat_maps (λ (n : Notes). n.variables) row_notes (scopes_left inputs) ∙ on_owned 0x33 (λ (s : ScopeValue). length s.variables)
+      sym (flat_maps (λ (n : Notes). n.variables) notes_in scopes) ∙ ap (flat_map (λ (n : Notes). n.variables)) notes_left_are
+      ∙ flat_maps (λ (n : Notes). n.variables) row_notes (scopes_left inputs) ∙ on_owned 0x33 (λ (s : ScopeValue). s.variables) (λ m variable. true)
 
-  pub on_constants : flat_map (λ (s : AnnotatedScope). customs_of s.constants) scopes
-      ≡ map (noted inputs 0x34) (owned_origins (λ (s : ScopeValue). length s.constants) inputs)
+  pub on_constants : flat_map (λ (s : AnnotatedScope). customs_of s.constants) scopes ≡ map (noted inputs 0x34) (constant_origins inputs)
   on_constants =
-      sym (flat_maps (λ (n : Notes). n.constants) notes_in scopes) ∙ ap (flat_map (λ (n : Notes). n.constants)) notes_left
-      ∙ flat_maps (λ (n : Notes). n.constants) row_notes (scopes_left inputs) ∙ on_owned 0x34 (λ (s : ScopeValue). length s.constants)
+      sym (flat_maps (λ (n : Notes). n.constants) notes_in scopes) ∙ ap (flat_map (λ (n : Notes). n.constants)) notes_left_are
+      ∙ flat_maps (λ (n : Notes). n.constants) row_notes (scopes_left inputs)
+      ∙ on_owned 0x34 (λ (s : ScopeValue). s.constants) (λ m constant. not (goes_constant m constant))
 
   -- ---- import scopes
 

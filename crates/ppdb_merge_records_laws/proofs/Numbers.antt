@@ -1,5 +1,5 @@
 -- Rows that are found by where they come from, each once.
-use Rattle.std.proofs.Common.{◌≡◌, ◌≢◌, ℕ, zero, suc, ◌+◌, ◌≤◌, ◌<◌, Bool, true, false, cond, List, [], ◌∷◌, Option, Some, None, map, refl, sym, ap, ◌∙◌, arith}
+use Rattle.std.proofs.Common.{◌≡◌, ◌≢◌, ℕ, zero, suc, ◌+◌, ◌≤◌, ◌<◌, Bool, true, false, cond, List, [], ◌∷◌, Option, Some, None, length, map, refl, sym, ap, ◌∙◌, arith}
 use Rattle.std.proofs.Common.{slice_get}
 use Rattle.std.specs.Prelude.{nat_eq, filter, flat_map, position}
 use Rattle.std.specs.List.{enumerate_from}
@@ -10,7 +10,7 @@ use Rattle.ppdb_merge_items.specs.Each.{Each, Pairs}
 use Rattle.ppdb_merge_items.proofs.Lists.{Each-weaker, Each-filter, each_of}
 use Rattle.ppdb_merge_joined.proofs.Each.{Pairs-flat}
 use Rattle.ppdb_merge_joined.proofs.Names.{position_cons}
-use Rattle.ppdb_merge_records_laws.specs.Records.{rows_from}
+use Rattle.ppdb_merge_records_laws.specs.Records.{rows_left}
 
 -- ---- the place of the one item that passes
 
@@ -148,18 +148,33 @@ module _ {X A : Type 0} where
 
 -- ---- rows of items that are owned one after the other
 
-pub owned_within : (input first n : ℕ) → Each (λ o. (o.0 ≡ input) × (first ≤ o.1) × (o.1 < first + n)) (rows_from input first n)
-owned_within input first zero = tt
-owned_within input first (suc n) = (
-  (refl, omega arith, omega arith),
-  Each-weaker (λ o. (o.0 ≡ input) × (first + 1 ≤ o.1) × (o.1 < first + 1 + n)) (λ o. (o.0 ≡ input) × (first ≤ o.1) × (o.1 < first + suc n))
-      (λ o in_. (in_.0, (let l = in_.1 in omega (arith, l)), (let l = in_.2 in omega (arith, l)))) (rows_from input (first + 1) n) (owned_within input (first + 1) n),
-)
+module _ {A : Type 0} (stays : A → Bool) (input : ℕ) where
+  abbrev IsWithin : ℕ → ℕ → ℕ × ℕ → Type 0
+  IsWithin first n o = (o.0 ≡ input) × (first ≤ o.1) × (o.1 < first + n)
 
-pub owned_differ : (input first n : ℕ) → Pairs Differ (rows_from input first n)
-owned_differ input first zero = tt
-owned_differ input first (suc n) = (
-  Each-weaker (λ o. (o.0 ≡ input) × (first + 1 ≤ o.1) × (o.1 < first + 1 + n)) (Differ (input, first))
-      (λ o in_ same number. let l = in_.1 in omega (arith, l, number)) (rows_from input (first + 1) n) (owned_within input (first + 1) n),
-  owned_differ input (first + 1) n,
-)
+  pub owned_within : (first : ℕ) (items : List A) → Each (IsWithin first (length items)) (rows_left stays input first items)
+  owned_within first [] = tt
+  owned_within first (x ∷ xs) = step (stays x)
+      (Each-weaker (IsWithin (first + 1) (length xs)) (IsWithin first (suc (length xs)))
+      (λ o in_. (in_.0, (let l = in_.1 in omega (arith, l)), (let l = in_.2 in omega (arith, l)))) (rows_left stays input (first + 1) xs)
+      (owned_within (first + 1) xs))
+    where
+      step : (b : Bool) → Each (IsWithin first (suc (length xs))) (rows_left stays input (first + 1) xs)
+          → Each (IsWithin first (suc (length xs))) (map (λ (item : ℕ × A). (input, item.0))
+          (cond b ((first, x) ∷ filter (λ (item : ℕ × A). stays item.1) (enumerate_from (first + 1) xs))
+          (filter (λ (item : ℕ × A). stays item.1) (enumerate_from (first + 1) xs))))
+      step true rest = ((refl, omega arith, omega arith), rest)
+      step false rest = rest
+
+  pub owned_differ : (first : ℕ) (items : List A) → Pairs Differ (rows_left stays input first items)
+  owned_differ first [] = tt
+  owned_differ first (x ∷ xs) = step (stays x)
+      (Each-weaker (IsWithin (first + 1) (length xs)) (Differ (input, first)) (λ o in_ same number. let l = in_.1 in omega (arith, l, number))
+      (rows_left stays input (first + 1) xs) (owned_within (first + 1) xs)) (owned_differ (first + 1) xs)
+    where
+      step : (b : Bool) → Each (Differ (input, first)) (rows_left stays input (first + 1) xs) → Pairs Differ (rows_left stays input (first + 1) xs)
+          → Pairs Differ (map (λ (item : ℕ × A). (input, item.0))
+          (cond b ((first, x) ∷ filter (λ (item : ℕ × A). stays item.1) (enumerate_from (first + 1) xs))
+          (filter (λ (item : ℕ × A). stays item.1) (enumerate_from (first + 1) xs))))
+      step true apart rest = (apart, rest)
+      step false apart rest = rest

@@ -5,18 +5,19 @@ use Rattle.std.specs.Prelude.{nat_eq, sum_by, not}
 use Rattle.std.specs.List.{enumerate_from}
 use Rattle.std.proofs.lemmas.List.{length-append}
 use Rattle.std.proofs.lemmas.List.Sums.{sum_by_push}
-use Rattle.ppdb_maps.specs.Map.{moved_row, offsets_in}
+use Rattle.ppdb_maps.specs.Map.{Map, moved_row, offsets_in}
 use Rattle.ppdb_values.specs.declared.file.FileValue.{FileValue}
 use Rattle.ppdb_values.specs.declared.scope.ScopeValue.{ScopeValue}
 use Rattle.ppdb_values.specs.Parts.{first_item}
 use Rattle.ppdb_merge_items.specs.Each.{Each, Pairs}
+use Rattle.ppdb_merge_items.specs.NamedRows.{goes_constant}
 use Rattle.ppdb_merge_items.proofs.Files.{take_prefix}
 use Rattle.ppdb_merge_items.proofs.Lists.{Each-weaker, each_of, Pairs-map, Pairs-weaker}
 use Rattle.ppdb_merge_joined.proofs.Each.{Pairs-flat}
 use Rattle.ppdb_merge_joined.proofs.Kept.{in_order_pairs}
 use Rattle.ppdb_merge_moved.specs.Moved.{moved_range, is_empty}
 use Rattle.ppdb_merge_meaning_laws.specs.Kept.{MovedBy}
-use Rattle.ppdb_merge_records_laws.specs.Records.{Numbered, Origin, numbered_rows, origin_of, scopes_left, scope_origins, rows_from, owned_origins, import_origins}
+use Rattle.ppdb_merge_records_laws.specs.Records.{Numbered, Origin, numbered_rows, origin_of, scopes_left, scope_origins, rows_left, owned_origins, import_origins}
 use Rattle.ppdb_merge_records_laws.specs.Records.{origins_in}
 use Rattle.ppdb_merge_records_laws.proofs.Numbers.{Differ, differ_turns, Pairs-filter, rows_apart, rows_differ, owned_within, owned_differ}
 
@@ -46,7 +47,11 @@ imports_differ inputs = Pairs-map origin_of Differ _ (rows_differ (λ (input : M
 
 -- ---- what scopes own
 
-module _ (items : ScopeValue → ℕ) where
+module _ {A : Type 0} (owns : ScopeValue → List A) (left : Map → A → Bool) where
+  -- how many it owns
+  abbrev items : ScopeValue → ℕ
+  items s = length (owns s)
+
   abbrev first_of : Row → ℕ
   first_of row = first_item items row.0.1.value row.1
 
@@ -99,14 +104,14 @@ module _ (items : ScopeValue → ℕ) where
       (λ input. of_one_apart input [] input.1.value.scopes 1 refl refl) 0 inputs)
 
   abbrev owned : Row → List Origin
-  owned row = rows_from row.0.0 (first_of row) (items row.2)
+  owned row = rows_left (left row.0.1.map) row.0.0 (first_of row) (owns row.2)
 
   across : (a b : Row) → Apart a b → Each (λ x. Each (Differ x) (owned b)) (owned a)
   across a b apart =
       Each-weaker (λ (x : Origin). (x.0 ≡ a.0.0) × (first_of a ≤ x.1) × (x.1 < first_of a + items a.2)) (λ x. Each (Differ x) (owned b))
       (λ x here. Each-weaker (λ (y : Origin). (y.0 ≡ b.0.0) × (first_of b ≤ y.1) × (y.1 < first_of b + items b.2)) (Differ x)
-      (λ y there same number. apart_rows x y here there same number) (owned b) (owned_within b.0.0 (first_of b) (items b.2)))
-      (owned a) (owned_within a.0.0 (first_of a) (items a.2))
+      (λ y there same number. apart_rows x y here there same number) (owned b) (owned_within (left b.0.1.map) b.0.0 (first_of b) (owns b.2)))
+      (owned a) (owned_within (left a.0.1.map) a.0.0 (first_of a) (owns a.2))
     where
       apart_rows : (x y : Origin) → (x.0 ≡ a.0.0) × (first_of a ≤ x.1) × (x.1 < first_of a + items a.2)
           → (y.0 ≡ b.0.0) × (first_of b ≤ y.1) × (y.1 < first_of b + items b.2) → x.0 ≡ y.0 → x.1 ≡ y.1 → ⊥
@@ -117,10 +122,10 @@ module _ (items : ScopeValue → ℕ) where
             | inr le ↦ omega (arith, le, low, high, least, most, number)
           ]
 
-  owned_apart : (inputs : List MovedBy) → Pairs Differ (owned_origins items inputs)
+  owned_apart : (inputs : List MovedBy) → Pairs Differ (owned_origins owns left inputs)
   owned_apart inputs =
       Pairs-flat owned Differ (scopes_left inputs)
-      (each_of (λ (a : Row). Pairs Differ (owned a)) (λ a. owned_differ a.0.0 (first_of a) (items a.2)) (scopes_left inputs))
+      (each_of (λ (a : Row). Pairs Differ (owned a)) (λ a. owned_differ (left a.0.1.map) a.0.0 (first_of a) (owns a.2)) (scopes_left inputs))
       (Pairs-weaker Apart (λ (a b : Row). Each (λ x. Each (Differ x) (owned b)) (owned a)) across (scopes_left inputs) (scopes_apart inputs))
 
 -- ---- all tables
@@ -132,6 +137,6 @@ either false xs ys one other = other
 pub origins_differ : (inputs : List MovedBy) (table : ℕ) → Pairs Differ (origins_in inputs table)
 origins_differ inputs table =
     either (nat_eq table 0x32) _ _ (scopes_differ inputs)
-    (either (nat_eq table 0x33) _ _ (owned_apart (λ (s : ScopeValue). length s.variables) inputs)
-    (either (nat_eq table 0x34) _ _ (owned_apart (λ (s : ScopeValue). length s.constants) inputs)
+    (either (nat_eq table 0x33) _ _ (owned_apart (λ (s : ScopeValue). s.variables) (λ m variable. true) inputs)
+    (either (nat_eq table 0x34) _ _ (owned_apart (λ (s : ScopeValue). s.constants) (λ m constant. not (goes_constant m constant)) inputs)
     (either (nat_eq table 0x35) _ _ (imports_differ inputs) tt)))

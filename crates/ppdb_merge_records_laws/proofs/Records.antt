@@ -4,14 +4,14 @@ use Rattle.std.proofs.Common.{refl, sym, ap, ◌∙◌, arith, subst, ◌⊎◌,
 use Rattle.std.specs.Prelude.{nat_eq, nat_lt, filter, flat_map, unwrap_or, IsSome}
 use Rattle.std.specs.List.{filter_map, enumerate_from}
 use Rattle.std.specs.Option.{option_map}
-use Rattle.std.proofs.lemmas.Bool.{cases_lt, eq-eqb, eqb-true, ne_eqb, and_parts, lt-ltb, ltb-true, le-ltb}
+use Rattle.std.proofs.lemmas.Bool.{cases_lt, eq-eqb, eqb-true, ne_eqb, and_parts, lt-ltb, ltb-true}
+use Rattle.ppdb_maps.specs.Readable.{IsReadable}
 use Rattle.ppdb_tables.specs.Parents.{CodesAreParents, coded_in}
 use Rattle.ppdb_tables.specs.RawTables.{row_at}
 use Rattle.ppdb_values.specs.declared.annotation.Annotation.{Annotation}
 use Rattle.ppdb_values.specs.declared.annotation.Custom.{Custom}
 use Rattle.ppdb_values.specs.declared.custom.CustomValue.{CustomValue}
 use Rattle.ppdb_values.specs.declared.file.DocumentValue.{DocumentValue}
-use Rattle.ppdb_values.specs.declared.scope.ScopeValue.{ScopeValue}
 use Rattle.ppdb_values.specs.Meaning.{annotated_on, without_parent}
 use Rattle.ppdb_values_sound_laws.specs.Customs.{SoundCustom, SoundCustoms, coded_of}
 use Rattle.ppdb_merge_items.specs.declared.file.AnnotatedFile.{AnnotatedFile}
@@ -33,7 +33,8 @@ use Rattle.ppdb_merge_joined.proofs.Kept.{fresh_each}
 use Rattle.ppdb_merge_moved.specs.Moved.{moved_custom, moved_document}
 use Rattle.ppdb_merge_meaning_laws.specs.Kept.{MovedBy, joined_inputs}
 use Rattle.ppdb_merge_parts.specs.Flat.{documents_of, document_rows, moved_documents}
-use Rattle.ppdb_merge_records_laws.specs.Records.{Numbered, Origin, scope_origins, owned_origins, import_origins, origins_in, row_of, parent_row, record_image, records_of}
+use Rattle.ppdb_merge_records_laws.specs.Records.{Numbered, Origin, scope_origins, variable_origins, constant_origins, import_origins, origins_in, row_of, parent_row}
+use Rattle.ppdb_merge_records_laws.specs.Records.{record_image, records_of}
 use Rattle.ppdb_merge_records_laws.specs.Records.{JoinedRecordsAreFlat}
 use Rattle.ppdb_merge_records_laws.proofs.Documents.{comes_to, customs_moved, documents_spread, have_rows, named_as, passes_moved, spread_passes}
 use Rattle.ppdb_merge_parts.proofs.Flat.{file_same, moved_of, rows_are}
@@ -111,40 +112,46 @@ module _ (inputs : List MovedBy) where
 
   -- ---- on rows of the type system
 
-  low_all : (shift first : ℕ) (some : List MovedBy)
+  low_all : (shift first : ℕ) (some : List MovedBy) → Each (λ (input : MovedBy). IsReadable input.map) some
       → map (λ (file : AnnotatedFile). file.customs) (renumbered_all (documents_of inputs) shift (map moved_of some))
       ≡ map (λ (input : Numbered). filter is_low (filter_map (record_image inputs input) input.1.value.customs)) (enumerate_from first some)
-  low_all shift first [] = refl
-  low_all shift first (x ∷ xs) =
+  low_all shift first [] ready = refl
+  low_all shift first (x ∷ xs) ready =
       let documents = documents_of inputs in
       let customs = filter_map (moved_custom x.map) (filter is_low x.value.customs) in
       let more = map (λ (file : AnnotatedFile). file.customs) (renumbered_all documents (shift + length (moved_of x).imports) (map moved_of xs)) in
       ap (λ rows. map (renumbered_custom (row_in rows)) customs ∷ more) (rows_are documents x)
-      ∙ ap (λ l. l ∷ more) (sym (low_images inputs (first, x) x.value.customs))
-      ∙ ap (λ l. filter is_low (filter_map (record_image inputs (first, x)) x.value.customs) ∷ l) (low_all (shift + length (moved_of x).imports) (first + 1) xs)
+      ∙ ap (λ l. l ∷ more) (sym (low_images inputs (first, x) ready.0 x.value.customs))
+      ∙ ap (λ l. filter is_low (filter_map (record_image inputs (first, x)) x.value.customs) ∷ l)
+      (low_all (shift + length (moved_of x).imports) (first + 1) xs ready.1)
 
-  low_records : fresh same_record [] (map (λ (file : AnnotatedFile). file.customs) (renumbered_all (documents_of inputs) 0 (map moved_of inputs)))
+  low_records : Each (λ (input : MovedBy). IsReadable input.map) inputs
+      → fresh same_record [] (map (λ (file : AnnotatedFile). file.customs) (renumbered_all (documents_of inputs) 0 (map moved_of inputs)))
       ≡ filter is_low records
-  low_records =
+  low_records ready =
       ap (fresh same_record [])
-      (low_all 0 0 inputs ∙ sym (map_map_both (filter is_low) (λ (input : Numbered). filter_map (record_image inputs input) input.1.value.customs) numbers))
+      (low_all 0 0 inputs ready ∙ sym (map_map_both (filter is_low) (λ (input : Numbered). filter_map (record_image inputs input) input.1.value.customs) numbers))
       ∙ sym (fresh_filter same_record is_low same_part [] (records_of inputs))
 
   -- ---- where each input is sound
 
-  module _ (sound : Each (λ (input : MovedBy). SoundCustoms input.value) inputs) where
-    each_sound : Each (λ (input : Numbered). Each (SoundCustom input.1.value) input.1.value.customs) numbers
+  module _ (sound : Each (λ (input : MovedBy). SoundCustoms input.value × IsReadable input.map) inputs) where
+    abbrev SoundAndReady : Numbered → Type 0
+    SoundAndReady input = Each (SoundCustom input.1.value) input.1.value.customs × IsReadable input.1.map
+
+    each_sound : Each SoundAndReady numbers
     each_sound =
-        Each-enumerate (λ (input : MovedBy). Each (SoundCustom input.value) input.value.customs) 0 inputs
-        (Each-weaker (λ (input : MovedBy). SoundCustoms input.value) _ (λ input s. each_row (SoundCustom input.value) input.value.customs s.each) inputs sound)
+        Each-enumerate (λ (input : MovedBy). Each (SoundCustom input.value) input.value.customs × IsReadable input.map) 0 inputs
+        (Each-weaker (λ (input : MovedBy). SoundCustoms input.value × IsReadable input.map) _
+        (λ input s. (each_row (SoundCustom input.value) input.value.customs s.0.each, s.1)) inputs sound)
 
     tagged : Each HasTag records
     tagged =
         fresh_each same_record HasTag [] (records_of inputs)
         (Each-map (λ (input : Numbered). filter_map (record_image inputs input) input.1.value.customs) (Each HasTag) numbers
-        (Each-weaker (λ (input : Numbered). Each (SoundCustom input.1.value) input.1.value.customs) _
-        (λ input s. image_tagged inputs input input.1.value.customs
-        (Each-weaker (SoundCustom input.1.value) HasTag (λ c one. one.tag) input.1.value.customs s)) numbers each_sound))
+        (Each-weaker SoundAndReady _
+        (λ input s. image_tagged inputs input s.1 input.1.value.customs
+        (Each-weaker (SoundCustom input.1.value) HasTag (λ c one. one.tag) input.1.value.customs s.0)) numbers each_sound))
 
     -- ---- on rows of scopes, variables, constants and import scopes, and of tables that have none
 
@@ -166,7 +173,7 @@ module _ (inputs : List MovedBy) where
               absurd (differ (sym (eqb-true input.0 x.0 p.0) ∙ eqb-true input.0 y.0 q.0) (sym (eqb-true c.parent.row x.1 p.1) ∙ eqb-true c.parent.row y.1 q.1))
 
       parent_is : (input : Numbered) (c : CustomValue) → c.parent.table ≡ table → parent_row inputs input c.parent ≡ row_of origins (input.0, c.parent.row)
-      parent_is input c is = rw (is, le-ltb table 0x2d high, ne_eqb table 0x30 other) refl
+      parent_is input c is = rw (is, ne_eqb table 0x30 other) refl
 
       comes_from : (input : Numbered) (c : CustomValue)
           → comes_on inputs input table row c ≡ (nat_eq c.parent.table table && passes (asks input c) (row_at origins row))
@@ -178,11 +185,11 @@ module _ (inputs : List MovedBy) where
           step true is =
               ap (λ o. comes_at o row) (parent_is input c (eqb-true c.parent.table table is)) ∙ found_at (asks input c) origins (asks_once input c) row
 
-      come_from : (input : Numbered) → Each (SoundCustom input.1.value) input.1.value.customs → coming table row input
+      come_from : (input : Numbered) → SoundAndReady input → coming table row input
           ≡ map (on_row table row) (map without_parent
           (filter (λ c. nat_eq c.parent.table table && passes (asks input c) (row_at origins row)) input.1.value.customs))
       come_from input s =
-          images_on inputs input table row high input.1.value.customs s
+          images_on inputs input s.1 table row high input.1.value.customs s.0
           ∙ ap (λ l. map (on_row table row) (map without_parent l))
           (filter_each (comes_on inputs input table row) _ input.1.value.customs (each_of _ (comes_from input) input.1.value.customs))
 
@@ -230,7 +237,7 @@ module _ (inputs : List MovedBy) where
           → filter (at table row) records ≡ map (on_row table row) (unwrap_or (option_map (noted inputs table) o) [])
       by_origin None is =
           none_come table row
-          (Each-weaker (λ (input : Numbered). Each (SoundCustom input.1.value) input.1.value.customs) _
+          (Each-weaker SoundAndReady _
           (λ input s. come_from input s ∙ ap (λ l. map (on_row table row) (map without_parent l))
           (filter_none _ input.1.value.customs
           (each_of _ (λ c. ap (λ o. nat_eq c.parent.table table && passes (asks input c) o) is ∙ and_none (nat_eq c.parent.table table)) input.1.value.customs)))
@@ -239,7 +246,7 @@ module _ (inputs : List MovedBy) where
           records_at table row
           ∙ ap (fresh same_record [])
           (map_each (coming table row) (of_one (λ (input : Numbered). map (on_row table row) (annotated_on input.1.value table origin.1)) origin.0) numbers
-          (Each-weaker (λ (input : Numbered). Each (SoundCustom input.1.value) input.1.value.customs) _
+          (Each-weaker SoundAndReady _
           (λ input s. come_from input s
           ∙ ap (λ o. map (on_row table row) (map without_parent
           (filter (λ c. nat_eq c.parent.table table && passes (asks input c) o) input.1.value.customs))) is
@@ -276,23 +283,25 @@ module _ (inputs : List MovedBy) where
               ap (λ o. comes_at o row) (parent_is (eqb-true c.parent.table 0x30 is)) ∙ comes_to inputs input.1 there row c.parent.row
 
       abbrev IsReady : Numbered → Type 0
-      IsReady input = SoundCustoms input.1.value × Each (λ (d : DocumentValue). 1 ≤ row_named documents d.name) (moved_documents input.1)
+      IsReady input = (SoundCustoms input.1.value × IsReadable input.1.map)
+          × Each (λ (d : DocumentValue). 1 ≤ row_named documents d.name) (moved_documents input.1)
 
       ready : Each IsReady numbers
       ready =
-          Each-enumerate (λ (input : MovedBy). SoundCustoms input.value × Each (λ (d : DocumentValue). 1 ≤ row_named documents d.name) (moved_documents input)) 0
-          inputs (Each-with (λ (input : MovedBy). SoundCustoms input.value) _ _ (λ input s there. (s, there)) inputs sound (have_rows inputs))
+          Each-enumerate (λ (input : MovedBy). (SoundCustoms input.value × IsReadable input.map)
+          × Each (λ (d : DocumentValue). 1 ≤ row_named documents d.name) (moved_documents input)) 0 inputs
+          (Each-with (λ (input : MovedBy). SoundCustoms input.value × IsReadable input.map) _ _ (λ input s there. (s, there)) inputs sound (have_rows inputs))
 
       come_named : (input : Numbered) → IsReady input → coming 0x30 row input
           ≡ map (on_row 0x30 row) (flat_map (λ (n : Annotation DocumentValue). n.customs)
           (filter (λ (n : Annotation DocumentValue). named_as (row_at documents row) n.item) (moved_of input.1).documents))
       come_named input is =
           let value = input.1.value in
-          images_on inputs input 0x30 row (omega arith) value.customs (each_row (SoundCustom value) value.customs is.0.each)
+          images_on inputs input is.0.1 0x30 row (omega arith) value.customs (each_row (SoundCustom value) value.customs is.0.0.each)
           ∙ ap (λ l. map (on_row 0x30 row) (map without_parent l))
           (filter_each (comes_on inputs input 0x30 row) _ value.customs (each_of _ (comes_named input is.1) value.customs)
           ∙ filter_both (λ c. nat_eq c.parent.table 0x30) (λ c. input_passes input c.parent.row) value.customs
-          ∙ ap (filter (λ c. input_passes input c.parent.row)) (documents_spread value codes is.0))
+          ∙ ap (filter (λ c. input_passes input c.parent.row)) (documents_spread value codes is.0.0))
           ∙ ap (map (on_row 0x30 row))
           (spread_passes value (input_passes input) (λ (d : DocumentValue). named_as (row_at documents row) (moved_document input.1.map d)) 1 value.documents
           (λ k. let e : 1 + k ≡ suc k = omega arith in ap (input_passes input) e ∙ passes_moved input.1 (named_as (row_at documents row)) (suc k))
@@ -337,10 +346,10 @@ module _ (inputs : List MovedBy) where
     of_scopes = map (noted inputs 0x32) (scope_origins inputs)
 
     abbrev of_variables : List (List Custom)
-    of_variables = map (noted inputs 0x33) (owned_origins (λ (s : ScopeValue). length s.variables) inputs)
+    of_variables = map (noted inputs 0x33) (variable_origins inputs)
 
     abbrev of_constants : List (List Custom)
-    of_constants = map (noted inputs 0x34) (owned_origins (λ (s : ScopeValue). length s.constants) inputs)
+    of_constants = map (noted inputs 0x34) (constant_origins inputs)
 
     abbrev of_imports : List (List Custom)
     of_imports = map (noted inputs 0x35) (import_origins inputs)
@@ -494,10 +503,14 @@ module _ (codes : CodesAreParents) (first : MovedBy) (others : List MovedBy) whe
   abbrev parts : AnnotatedFile
   parts = joined_parts (moved_of first) its_documents (renumbered_all its_documents 0 (map moved_of all_inputs))
 
-  module _ (sound : Each (λ (input : MovedBy). SoundCustoms input.value) all_inputs) where
+  module _ (sound : Each (λ (input : MovedBy). SoundCustoms input.value × IsReadable input.map) all_inputs) where
+    all_ready : Each (λ (input : MovedBy). IsReadable input.map) all_inputs
+    all_ready = Each-weaker (λ (input : MovedBy). SoundCustoms input.value × IsReadable input.map) (λ (input : MovedBy). IsReadable input.map) (λ input s. s.1)
+        all_inputs sound
+
     tables_are : all_customs parts ≡ by_table all_inputs sound
     tables_are =
-        six _ _ _ _ _ _ _ _ _ _ _ _ (ap (in_order code) (low_records all_inputs)) (ap (placed 0x30 1) (on_documents its_documents all_inputs))
+        six _ _ _ _ _ _ _ _ _ _ _ _ (ap (in_order code) (low_records all_inputs all_ready)) (ap (placed 0x30 1) (on_documents its_documents all_inputs))
         (ap (placed 0x32 1) (on_scopes its_documents all_inputs)) (ap (placed 0x33 1) (on_variables its_documents all_inputs))
         (ap (placed 0x34 1) (on_constants its_documents all_inputs)) (ap (placed 0x35 1) (on_imports its_documents all_inputs))
 

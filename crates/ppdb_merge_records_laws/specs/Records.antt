@@ -1,14 +1,14 @@
 -- The custom records of the file that inputs are joined into, as what becomes of the records of the inputs (Portable PDB v1.0,
 -- "CustomDebugInformation Table": in order of Parent; docs/FORMAT.md, "Joining").
 use Rattle.ppdb_values.specs.Names.{enumerate_from, numbered, row_at, Parent}
-use Rattle.std.specs.Prelude.{◌≡◌, ℕ, zero, suc, ◌+◌, ◌≤◌, ◌++◌, ◌&&◌, not, nat_eq, nat_lt, cond, List, [], ◌∷◌, Option, Some, None, length, map, flat_map, position, sum_by, filter, filter_map}
+use Rattle.std.specs.Prelude.{◌≡◌, ℕ, suc, ◌+◌, ◌≤◌, ◌++◌, ◌&&◌, not, nat_eq, nat_lt, Bool, true, cond, List, [], ◌∷◌, Option, Some, None, length, map, flat_map, position, sum_by, filter, filter_map}
 use Rattle.std.specs.Prelude.{option_map}
-use Rattle.ppdb_maps.specs.Map.{moved_row, offsets_in, is_dropped}
+use Rattle.ppdb_maps.specs.{Map.{Map, moved_row, offsets_in}, Readable.IsReadable}
 use Rattle.ppdb_values.specs.{declared.custom.CustomValue.CustomValue, declared.file.FileValue.FileValue, declared.scope.ScopeValue.ScopeValue, Parts.first_item}
 use Rattle.ppdb_values_sound_laws.specs.Customs.{SoundCustoms, coded_of}
-use Rattle.ppdb_merge_items.specs.{Each.Each, Sorted.in_order}
+use Rattle.ppdb_merge_items.specs.{Each.Each, NamedRows.{goes_constant, live_custom}, Sorted.in_order}
 use Rattle.ppdb_merge_joined.specs.{Joined.{row_in, with_documents}, Same.{fresh, same_record}}
-use Rattle.ppdb_merge_moved.specs.Moved.{moved_range, is_empty, linked, moved_body}
+use Rattle.ppdb_merge_moved.specs.Moved.{moved_range, is_empty, linked, moved_body, moved_parent}
 use Rattle.ppdb_merge_meaning_laws.specs.Kept.{MovedBy, joined_inputs}
 use Rattle.ppdb_merge_parts.specs.Flat.{documents_of, document_rows}
 
@@ -41,15 +41,22 @@ scopes_left inputs =
 abbrev pub scope_origins : List MovedBy → List Origin
 scope_origins inputs = map origin_of (scopes_left inputs)
 
--- as many rows of an input as are counted, from the first one on
-abbrev pub rows_from : ℕ → ℕ → ℕ → List Origin
-rows_from input first zero = []
-rows_from input first (suc n) = (input, first) ∷ rows_from input (first + 1) n
+-- the rows of an input's items that stay, where the first item has this row
+abbrev pub rows_left : {A : Type 0} → (A → Bool) → ℕ → ℕ → List A → List Origin
+rows_left {A} stays input first items = map (λ (item : ℕ × A). (input, item.0)) (filter (λ (item : ℕ × A). stays item.1) (enumerate_from first items))
 
--- what these scopes own, scope by scope
-abbrev pub owned_origins : (ScopeValue → ℕ) → List MovedBy → List Origin
-owned_origins items inputs =
-    flat_map (λ (row : Numbered × ℕ × ScopeValue). rows_from row.0.0 (first_item items row.0.1.value row.1) (items row.2)) (scopes_left inputs)
+-- what stays of what these scopes own, scope by scope
+abbrev pub owned_origins : {A : Type 0} → (ScopeValue → List A) → (Map → A → Bool) → List MovedBy → List Origin
+owned_origins items stays inputs =
+    flat_map (λ (row : Numbered × ℕ × ScopeValue).
+    rows_left (stays row.0.1.map) row.0.0 (first_item (λ (s : ScopeValue). length (items s)) row.0.1.value row.1) (items row.2)) (scopes_left inputs)
+
+abbrev pub variable_origins : List MovedBy → List Origin
+variable_origins inputs = owned_origins (λ (s : ScopeValue). s.variables) (λ m variable. true) inputs
+
+-- but for the constants that name a type that is gone
+abbrev pub constant_origins : List MovedBy → List Origin
+constant_origins inputs = owned_origins (λ (s : ScopeValue). s.constants) (λ m constant. not (goes_constant m constant)) inputs
 
 abbrev pub import_origins : List MovedBy → List Origin
 import_origins inputs = map origin_of (numbered_rows (λ (v : FileValue). v.imports) inputs)
@@ -58,8 +65,8 @@ import_origins inputs = map origin_of (numbered_rows (λ (v : FileValue). v.impo
 abbrev pub origins_in : List MovedBy → ℕ → List Origin
 origins_in inputs table =
     cond (nat_eq table 0x32) (scope_origins inputs)
-    (cond (nat_eq table 0x33) (owned_origins (λ (s : ScopeValue). length s.variables) inputs)
-    (cond (nat_eq table 0x34) (owned_origins (λ (s : ScopeValue). length s.constants) inputs)
+    (cond (nat_eq table 0x33) (variable_origins inputs)
+    (cond (nat_eq table 0x34) (constant_origins inputs)
     (cond (nat_eq table 0x35) (import_origins inputs) [])))
 
 -- the row that comes from a row, and none where that goes
@@ -68,27 +75,36 @@ row_of origins origin = option_map suc (position (λ (other : Origin). nat_eq or
 
 -- ---- what becomes of a record
 
--- The row that its parent becomes: of a table of the type system the image, where that is no dropped method; a document is found by
--- its name, and a row of another table by where it comes from.
+-- The row of its parent, where that is a document or stands in another table of the Portable PDB format: a document is found by its name, and
+-- any other row by where it comes from.
 abbrev pub parent_row : List MovedBy → Numbered → Parent → Option ℕ
 parent_row inputs input parent =
-    cond (nat_lt parent.table 0x2d)
-    (cond (nat_eq parent.table 0x06 && is_dropped input.1.map parent.row) None (Some (moved_row input.1.map parent.table parent.row)))
-    (cond (nat_eq parent.table 0x30) (row_at (document_rows (documents_of inputs) input.1) parent.row)
-    (row_of (origins_in inputs parent.table) (input.0, parent.row)))
+    cond (nat_eq parent.table 0x30) (row_at (document_rows (documents_of inputs) input.1) parent.row)
+    (row_of (origins_in inputs parent.table) (input.0, parent.row))
 
--- the record on another row of that table, with what the map's `link` line makes it say, its body moved and the documents in it by
--- their rows in the joined file
-abbrev pub record_on : List MovedBy → Numbered → CustomValue → ℕ → CustomValue
-record_on inputs input custom row = record {
-  parent = record { table = custom.parent.table; row = row };
+-- The parent of what becomes of a record: a row of the type system becomes its image, in whichever table that is, where the record stays; any
+-- other parent stays in its table.
+abbrev pub parent_image : List MovedBy → Numbered → CustomValue → Option Parent
+parent_image inputs input custom =
+    cond (nat_lt custom.parent.table 0x2d)
+    (cond (live_custom input.1.map custom) (Some (moved_parent input.1.map custom.parent)) None)
+    (option_map (λ row. record { table = custom.parent.table; row = row }) (parent_row inputs input custom.parent))
+
+-- the record on this parent, its body moved and the documents in it by their rows in the joined file
+abbrev pub record_on : List MovedBy → Numbered → CustomValue → Parent → CustomValue
+record_on inputs input custom parent = record {
+  parent = parent;
   kind = custom.kind;
-  value = with_documents (row_in (document_rows (documents_of inputs) input.1)) (moved_body input.1.map custom.parent.row (linked input.1.map custom).value);
+  value = with_documents (row_in (document_rows (documents_of inputs) input.1)) (moved_body input.1.map custom.parent.row custom.value);
 }
 
 -- a record leaves the file where its parent does
+abbrev pub record_after : List MovedBy → Numbered → CustomValue → Option CustomValue
+record_after inputs input custom = option_map (record_on inputs input custom) (parent_image inputs input custom)
+
+-- a record, with what the map's `link` line makes it say
 abbrev pub record_image : List MovedBy → Numbered → CustomValue → Option CustomValue
-record_image inputs input custom = option_map (record_on inputs input custom) (parent_row inputs input custom.parent)
+record_image inputs input custom = record_after inputs input (linked input.1.map custom)
 
 -- the records of each input
 abbrev pub records_of : List MovedBy → List (List CustomValue)
@@ -96,10 +112,10 @@ records_of inputs = map (λ (input : Numbered). filter_map (record_image inputs 
 
 -- ---- the file
 
--- Where the records of each input are sound, those of the file are what becomes of them, in order of their parents, without those that
+-- Where the records of each input are sound, and its map is readable, those of the file are what becomes of them, in order of their parents, without those that
 -- equal one of an earlier input.
 abbrev pub JoinedRecordsAreFlat : Type 0
-JoinedRecordsAreFlat = (inputs : List MovedBy) → Each (λ (input : MovedBy). SoundCustoms input.value) inputs
+JoinedRecordsAreFlat = (inputs : List MovedBy) → Each (λ (input : MovedBy). SoundCustoms input.value × IsReadable input.map) inputs
     → (joined_inputs inputs).customs ≡ in_order (λ (c : CustomValue). coded_of c.parent) (fresh same_record [] (records_of inputs))
 
 -- An import scope stands as far after the import scopes of the inputs before as it stands in its own input.

@@ -56,6 +56,6 @@ signature_fits m ready method row small = by_line (signature_line m method) refl
     by_line None is = row_fits m ready row small
     by_line (Some new) is =
         let low : unwrap_or (signature_line m method) (moved_row m 0x11 0) ≤ 16777215 =
-        signature_moved m ready method 0 (omega arith) (λ none some. absurd (some refl)) in
+        signature_moved m ready method 0 (omega arith) in
         let same : unwrap_or (signature_line m method) (moved_row m 0x11 0) ≡ new = ap (λ o. unwrap_or o (moved_row m 0x11 0)) is in
         omega (arith, low, same)

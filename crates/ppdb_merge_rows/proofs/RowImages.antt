@@ -1,11 +1,12 @@
 -- What becomes of rows, against the images of what the value has.
 use Rattle.std.proofs.Common.{◌≡◌, ℕ, ◌-◌, ◌<◌, Bool, true, false, cond, List, [], ◌∷◌, Option, Some, None, map, take, drop, refl, sym, ap, subst, ◌∙◌}
-use Rattle.std.specs.Prelude.{All, ◌==◌, ◌&&◌, nat_eq, find}
+use Rattle.std.specs.Prelude.{All, ◌==◌, find}
+use Rattle.std.specs.List.{filter_map}
 use Rattle.std.specs.Option.{option_map, option_and_then}
 use Rattle.std.proofs.lemmas.Bool.{eqb-true}
 use Rattle.std.proofs.lemmas.List.{take-map, drop-map}
 use Rattle.ppdb_base.specs.Offsets.{old_size}
-use Rattle.ppdb_maps.specs.Map.{Map, moved_row, moved_signature, offsets_in, is_dropped}
+use Rattle.ppdb_maps.specs.Map.{Map, moved_row, moved_signature, offsets_in}
 use Rattle.sequence_points.specs.declared.point.Point.{Point}
 use Rattle.sequence_points.specs.MovedPoints.{moved_points}
 use Rattle.ppdb_values.specs.declared.custom.CustomValue.{CustomValue}
@@ -18,10 +19,12 @@ use Rattle.ppdb_values_reading.specs.declared.scopes.Scope.{Scope}
 use Rattle.ppdb_values_reading.specs.Lent.{variables_of, constants_of}
 use Rattle.ppdb_values_reading.specs.Scopes.{items_in, scope_with}
 use Rattle.ppdb_merge_items.specs.Each.{Each}
+use Rattle.ppdb_merge_items.specs.NamedRows.{live_custom}
 use Rattle.ppdb_merge_joined.specs.Joined.{row_in, renumbered_custom, renumbered_method}
-use Rattle.ppdb_merge_moved.specs.Moved.{is_empty, linked, moved_body, moved_constant, moved_custom, moved_method, moved_variable, with_points}
+use Rattle.ppdb_merge_moved.specs.Moved.{is_empty, linked, moved_body, moved_custom, moved_method, moved_parent, moved_variable, with_points}
 use Rattle.ppdb_merge_moved.proofs.RisingPoints.{all_each}
-use Rattle.ppdb_merge_parts.specs.Flat.{moved_scope_value, scope_image}
+use Rattle.ppdb_merge_parts.specs.Flat.{constant_image, moved_scope_value, scope_image}
+use Rattle.ppdb_merge_parts.proofs.Lists.{filter_map_map}
 use Rattle.ppdb_merge_rows.specs.Laws.{RowsAreImages, MethodsHaveTheirRows, FittingPointsFit, input_of, custom_after}
 use Rattle.ppdb_merge_rows.specs.Rows.{moved_cells, scope_after, scope_value, body_after}
 
@@ -42,7 +45,7 @@ scope_made raw m before scope =
       import = cells.import;
       range = cells.range;
       variables = vs;
-      constants = items_in scope.constants (map (moved_constant m) (constants_of raw.tables));
+      constants = filter_map (λ c. c) (items_in scope.constants (map (constant_image m) (constants_of raw.tables)));
     }) (items_made (moved_variable m scope.method) scope.variables (variables_of raw.tables))
     ∙ ap (λ cs. record {
       method = cells.method;
@@ -50,7 +53,9 @@ scope_made raw m before scope =
       range = cells.range;
       variables = map (moved_variable m scope.method) (items_in scope.variables (variables_of raw.tables));
       constants = cs;
-    }) (items_made (moved_constant m) scope.constants (constants_of raw.tables))
+    })
+    (ap (filter_map (λ c. c)) (items_made (constant_image m) scope.constants (constants_of raw.tables))
+    ∙ filter_map_map (constant_image m) (λ c. c) (items_in scope.constants (constants_of raw.tables)))
 
 scopes_are : (raw : RawFile) (m : Map) (before : ℕ) (scope : Scope)
     → option_map (scope_value raw.tables m scope) (scope_after m before scope) ≡ scope_image ((before, input_of raw m), scope_with raw.tables scope)
@@ -65,19 +70,19 @@ scopes_are raw m before scope = by_empty (is_empty (moved_cells m before scope).
 
 customs_are : (m : Map) (documents : List ℕ) (custom : CustomValue)
     → custom_after m documents custom ≡ option_map (renumbered_custom (row_in documents)) (moved_custom m custom)
-customs_are m documents custom = by_dropped (nat_eq custom.parent.table 0x06 && is_dropped m custom.parent.row)
+customs_are m documents custom = by_live (live_custom m (linked m custom))
   where
-    by_dropped : (b : Bool) → cond b None (Some (record {
-      parent = record { table = custom.parent.table; row = moved_row m custom.parent.table custom.parent.row };
+    by_live : (b : Bool) → cond b (Some (record {
+      parent = moved_parent m custom.parent;
       kind = custom.kind;
       value = body_after m documents custom;
-    })) ≡ option_map (renumbered_custom (row_in documents)) (cond b None (Some (record {
-      parent = record { table = custom.parent.table; row = moved_row m custom.parent.table custom.parent.row };
+    })) None ≡ option_map (renumbered_custom (row_in documents)) (cond b (Some (record {
+      parent = moved_parent m custom.parent;
       kind = custom.kind;
       value = moved_body m custom.parent.row (linked m custom).value;
-    })))
-    by_dropped true = refl
-    by_dropped false = refl
+    })) None)
+    by_live true = refl
+    by_live false = refl
 
 pub rows_are_images : RowsAreImages
 rows_are_images = record {

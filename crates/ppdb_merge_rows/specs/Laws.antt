@@ -1,12 +1,12 @@
 -- That what becomes of the rows of an input is what the joined file is made of.
-use Rattle.std.specs.Prelude.{◌≡◌, ℕ, ◌&&◌, nat_eq, cond, Bool, List, Option, Some, None, map, option_map, option_and_then}
-use Rattle.ppdb_maps.specs.Map.{Map, moved_row, is_dropped}
+use Rattle.std.specs.Prelude.{◌≡◌, ℕ, cond, Bool, List, Option, Some, None, map, option_map, option_and_then}
+use Rattle.ppdb_maps.specs.Map.{Map, moved_row}
 use Rattle.ppdb_values.specs.{declared.custom.CustomValue.CustomValue, declared.file.{DocumentValue.DocumentValue, MethodValue.MethodValue}, declared.import.ImportScopeValue.ImportScopeValue}
 use Rattle.ppdb_values.specs.{Parts.method_at, RawFile.RawFile, Value.value_of}
 use Rattle.ppdb_values_reading.specs.{declared.scopes.Scope.Scope, Scopes.scope_with}
-use Rattle.ppdb_merge_items.specs.Annotated.{annotated_file}
+use Rattle.ppdb_merge_items.specs.{Annotated.annotated_file, NamedRows.live_custom}
 use Rattle.ppdb_merge_joined.specs.Joined.{row_in, renumbered_custom}
-use Rattle.ppdb_merge_moved.specs.{Fits.Fits, Moved.moved_custom}
+use Rattle.ppdb_merge_moved.specs.{Fits.Fits, Moved.{linked, moved_custom, moved_parent}}
 use Rattle.ppdb_merge_meaning_laws.specs.Kept.{MovedBy}
 use Rattle.ppdb_merge_parts.specs.Flat.{document_rows, import_image, method_image, scope_image}
 use Rattle.ppdb_merge_rows.specs.{Methods.{method_after, PointsFit}, Rows.{body_after, imports_after, scope_after, scope_value}}
@@ -15,14 +15,11 @@ use Rattle.ppdb_merge_rows.specs.{Methods.{method_after, PointsFit}, Rows.{body_
 abbrev pub input_of : RawFile → Map → MovedBy
 input_of raw m = record { value = value_of raw; map = m }
 
--- a record on a row of the type system; one on a dropped method leaves the file
+-- a record on a row of the type system, with what the map's `link` line makes it say; it gets its parent's image as its parent, or leaves the file
 abbrev pub custom_after : Map → List ℕ → CustomValue → Option CustomValue
 custom_after m documents custom =
-    cond (nat_eq custom.parent.table 0x06 && is_dropped m custom.parent.row) None (Some (record {
-      parent = record { table = custom.parent.table; row = moved_row m custom.parent.table custom.parent.row };
-      kind = custom.kind;
-      value = body_after m documents custom;
-    }))
+    cond (live_custom m (linked m custom))
+    (Some (record { parent = moved_parent m custom.parent; kind = custom.kind; value = body_after m documents custom })) None
 
 -- Row by row, where so many import scopes come before those of the input.
 pub record RowsAreImages : Type 0 where

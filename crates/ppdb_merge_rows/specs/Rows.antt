@@ -1,13 +1,14 @@
 -- What becomes of the rows of an input, by their numbers (Portable PDB v1.0, "LocalScope Table", "LocalVariable Table", "LocalConstant
 -- Table", "ImportScope Table", "CustomDebugInformation Table"; docs/FORMAT.md, "Joining").
-use Rattle.std.specs.Prelude.{ℕ, cond, List, Option, Some, None, map}
+use Rattle.std.specs.Prelude.{ℕ, cond, List, Option, Some, None, map, filter_map}
 use Rattle.ppdb_tables.specs.RawTables.{RawTables}
 use Rattle.ppdb_maps.specs.Map.{Map, moved_row, offsets_in}
 use Rattle.ppdb_values.specs.{declared.custom.{CustomBody.{CustomBody, TheVariants.Unread}, CustomValue.CustomValue}, declared.import.ImportScopeValue.ImportScopeValue}
 use Rattle.ppdb_values.specs.{declared.scope.{ConstantValue.ConstantValue, ScopeValue.ScopeValue, VariableValue.VariableValue}, RawFile.RawFile, Value.value_of}
 use Rattle.ppdb_values_reading.specs.{declared.scopes.Scope.Scope, Lent.{variables_of, constants_of}, Scopes.items_in}
 use Rattle.ppdb_merge_joined.specs.Joined.{row_in, shifted, with_documents, renumbered_import}
-use Rattle.ppdb_merge_moved.specs.Moved.{moved_range, is_empty, moved_variable, moved_constant, moved_import_scope, linked, moved_body}
+use Rattle.ppdb_merge_moved.specs.Moved.{moved_range, is_empty, moved_variable, moved_import_scope, linked, moved_body}
+use Rattle.ppdb_merge_parts.specs.Flat.{constant_image}
 use Rattle.ppdb_merge_rows.specs.{declared.records.{MovedBody.{MovedBody, TheVariants.{Owned, Lent}}, MovedRecord.MovedRecord}, declared.scopes.MovedScope.MovedScope}
 
 -- ---- scopes, and what they own
@@ -28,18 +29,18 @@ scope_after m before scope = cond (is_empty (moved_cells m before scope).range) 
 abbrev pub variables_after : RawTables → Map → ℕ → List VariableValue
 variables_after raw m method = map (moved_variable m method) (variables_of raw)
 
--- all constants, by their rows
-abbrev pub constants_after : RawTables → Map → List ConstantValue
-constants_after raw m = map (moved_constant m) (constants_of raw)
+-- what becomes of all constants, by their rows: none of one that goes
+abbrev pub constants_after : RawTables → Map → List (Option ConstantValue)
+constants_after raw m = map (constant_image m) (constants_of raw)
 
--- A scope of these cells, with what it owns: the items of its lists.
+-- A scope of these cells, with what it owns: the items of its lists that stay.
 abbrev pub scope_value : RawTables → Map → Scope → MovedScope → ScopeValue
 scope_value raw m scope cells = record {
   method = cells.method;
   import = cells.import;
   range = cells.range;
   variables = items_in scope.variables (variables_after raw m scope.method);
-  constants = items_in scope.constants (constants_after raw m);
+  constants = filter_map (λ constant. constant) (items_in scope.constants (constants_after raw m));
 }
 
 -- ---- import scopes

@@ -9,6 +9,7 @@ use Rattle.custom_info.specs.Kinds.{kind_of}
 use Rattle.custom_info.specs.declared.slots.Slot.{Slot}
 use Rattle.custom_info.specs.declared.slots.Slot.TheVariants.{Empty, Held}
 use Rattle.sequence_points.specs.declared.point.Point.{Point}
+use Rattle.ppdb_maps.specs.declared.image.RowImage.TheVariants.{Row}
 use Rattle.ppdb_maps.specs.Readable.{IsReadable}
 use Rattle.ppdb_values.specs.declared.custom.CustomBody.{CustomBody}
 use Rattle.ppdb_values.specs.declared.custom.CustomBody.TheVariants.{Async, Hoisted, TypeDocuments, Unread}
@@ -27,14 +28,16 @@ use Rattle.ppdb_merge_joined.specs.Joined.{joined}
 use Rattle.ppdb_merge_joined.specs.Laws.{OneFileStays}
 use Rattle.ppdb_merge_moved.specs.Fits.{AreWithin, EndsWithin, Fits, HasSlot, IsImaged, IsKept, KeepsAsync, KeepsStep}
 use Rattle.ppdb_merge_unmoved_laws.specs.NoLines.{no_lines, SoundFilesStay}
-use Rattle.ppdb_merge_unmoved_laws.proofs.Staying.{image_is, IsSmallBody, small_body, small_points, file_same}
+use Rattle.ppdb_merge_unmoved_laws.proofs.Staying.{image_row, IsSmallBody, small_body, small_points, file_same}
 
 readable : IsReadable no_lines
 unfolding IsStrictlySortedBy
 readable = record {
-  ascends = record { counts = tt; rows = tt; methods = tt; drops = tt; slotted = tt; slots = tt; signatures = tt; documents = tt };
+  ascends = record { counts = tt; rows = tt; crossed = tt; gone = tt; methods = tt; drops = tt; slotted = tt; slots = tt; signatures = tt; documents = tt };
   counts = tt;
   rows = tt;
+  crossed = tt;
+  gone = tt;
   methods = tt;
   drops = tt;
   slotted = tt;
@@ -77,11 +80,14 @@ slots_within (Unread bytes) small = tt
 some_of : (a b : ℕ) → Some a ≡ Some b → a ≡ b
 some_of a b e = cc
 
+row_of : (t a u b : ℕ) → Row t a ≡ Row u b → a ≡ b
+row_of t a u b e = cc
+
 fits : (v : FileValue) (w : AnnotatedFile) → SoundIn v w → Fits true no_lines w
 fits v w sound = record {
-  images = each_of (IsImaged no_lines) (λ n. (n.row, image_is n.table n.row)) (named_rows true no_lines w);
-  apart = λ a b there also image tables of_a of_b.
-      some_of a.row b.row (sym (image_is a.table a.row) ∙ of_a ∙ sym of_b ∙ image_is b.table b.row);
+  images = each_of (IsImaged no_lines) (λ n. (n.table, n.row, image_row n.table n.row)) (named_rows true no_lines w);
+  apart = λ a b there also table image tables shared of_a of_b.
+      row_of a.table a.row b.table b.row (sym (image_row a.table a.row) ∙ of_a ∙ sym of_b ∙ image_row b.table b.row);
   points = Each-weaker (SoundMethod v) (λ e. Each (λ (p : Point). p.offset < old_size every) e.points)
       (λ e s. Each-weaker (λ (p : Point). p.offset < 0x80000000) (λ (p : Point). p.offset < old_size every)
       (λ p small. omega (arith, small)) e.points (small_points v e s)) w.methods sound.methods;

@@ -1,10 +1,10 @@
 -- A sound file that is moved by no lines is the same file.
-use Rattle.std.proofs.Common.{◌≡◌, ℕ, zero, suc, ◌+◌, ◌≤◌, ◌<◌, ◌&&◌, Bool, true, false, cond, List, [], ◌∷◌, Option, Some, None, map}
+use Rattle.std.proofs.Common.{◌≡◌, ℕ, zero, suc, ◌+◌, ◌≤◌, ◌<◌, ◌&&◌, ◌||◌, Bool, true, false, cond, List, [], ◌∷◌, Option, Some, None, map}
 use Rattle.std.proofs.Common.{refl, sym, ◌∙◌, ap, arith}
 use Rattle.std.specs.Prelude.{not, nat_eq, nat_lt, unwrap_or}
-use Rattle.std.specs.List.{filter_map, cons_option}
+use Rattle.std.specs.List.{filter, filter_map, cons_option, list_any}
 use Rattle.std.specs.Option.{option_map}
-use Rattle.std.proofs.lemmas.Bool.{ne_eqb, lt-ltb}
+use Rattle.std.proofs.lemmas.Bool.{eq-eqb, ne_eqb, lt-ltb}
 use Rattle.ppdb_base.specs.Offsets.{every, Rise, moved, old_size, is_kept_between}
 use Rattle.custom_info.specs.AsyncStepping.{IsHandler, IsStep}
 use Rattle.custom_info.specs.HoistedScopes.{IsSlot}
@@ -19,7 +19,8 @@ use Rattle.sequence_points.specs.declared.point.Point.{Point}
 use Rattle.sequence_points.specs.MovedPoints.{moved_points, first_offset}
 use Rattle.type_blobs.specs.declared.types.TypeToken.{TypeToken}
 use Rattle.type_blobs.specs.declared.types.Modifier.{Modifier}
-use Rattle.ppdb_maps.specs.Map.{row_within, moved_row}
+use Rattle.ppdb_maps.specs.declared.image.RowImage.TheVariants.{Row, Missing}
+use Rattle.ppdb_maps.specs.Map.{is_gone, row_image, row_within, moved_row}
 use Rattle.ppdb_tables.specs.declared.rows.MachineRow.{MachineRow}
 use Rattle.ppdb_values.specs.declared.custom.CustomBody.{CustomBody}
 use Rattle.ppdb_values.specs.declared.custom.CustomBody.TheVariants.{Async, Hoisted, TypeDocuments, Unread}
@@ -39,6 +40,8 @@ use Rattle.ppdb_values_sound_laws.specs.Named.{count}
 use Rattle.ppdb_merge_items.specs.declared.file.AnnotatedScope.{AnnotatedScope}
 use Rattle.ppdb_merge_items.specs.declared.file.AnnotatedFile.{AnnotatedFile}
 use Rattle.ppdb_merge_items.specs.Each.{Each, Pairs}
+use Rattle.ppdb_merge_items.specs.NamedRows.{is_gone_row, is_gone_type, is_type_documents, leaves_table, leaves_types, live_body, live_constant, live_constants}
+use Rattle.ppdb_merge_items.specs.NamedRows.{live_custom, live_import, names_gone_class, with_live_body}
 use Rattle.ppdb_merge_items.specs.SoundParts.{SoundIn, SoundAnnotatedScope}
 use Rattle.ppdb_merge_items.proofs.Lists.{Each-weaker, each_of}
 use Rattle.ppdb_merge_joined.proofs.Each.{each_all, pairs_all}
@@ -46,7 +49,8 @@ use Rattle.ppdb_merge_joined.proofs.One.{map_same}
 use Rattle.ppdb_merge_items.specs.Annotated.{with_item}
 use Rattle.ppdb_merge_moved.specs.Moved.{moved_body, moved_constant, moved_constant_body, moved_counts, moved_custom, moved_file, moved_import}
 use Rattle.ppdb_merge_moved.specs.Moved.{moved_import_scope, moved_machine, moved_method, moved_modifier, moved_range, moved_scope, moved_slot, moved_step}
-use Rattle.ppdb_merge_moved.specs.Moved.{moved_token, moved_variable, scope_image, with_points, is_link, linked, moved_document, moved_record}
+use Rattle.ppdb_merge_moved.specs.Moved.{moved_token, moved_variable, scope_image, with_points, is_link, linked, moved_document, moved_parent, moved_record}
+use Rattle.ppdb_merge_moved.specs.Moved.{row_in, table_in}
 use Rattle.ppdb_merge_moved.proofs.RisingPoints.{itself_moved}
 use Rattle.ppdb_merge_unmoved_laws.specs.NoLines.{no_lines}
 
@@ -58,6 +62,13 @@ none_holds false = refl
 
 pub image_is : (table row : ℕ) → row_within no_lines table row ≡ Some row
 image_is table row = ap (λ b. cond b None (Some row)) (none_holds (nat_eq table 0x06))
+
+-- the image of a row is the row
+pub image_row : (table row : ℕ) → row_image no_lines table row ≡ Row table row
+image_row table row = ap (λ b. cond b Missing (Row table row)) (none_holds (nat_eq table 0x06))
+
+never_gone : (table row : ℕ) → is_gone_row no_lines table row ≡ false
+never_gone table row = ap is_gone (image_row table row)
 
 row_same : (table row : ℕ) → moved_row no_lines table row ≡ row
 row_same table zero = refl
@@ -82,6 +93,10 @@ all_stay f (x ∷ xs) each = ap (λ o. cons_option o (filter_map f xs)) each.0 �
 
 every_same : {A : Type 0} (f : A → A) → ((x : A) → f x ≡ x) → (xs : List A) → map f xs ≡ xs
 every_same f same xs = map_same f xs (each_of (λ x. f x ≡ x) same xs)
+
+all_live : {A : Type 0} (p : A → Bool) → ((x : A) → p x ≡ true) → (xs : List A) → filter p xs ≡ xs
+all_live p live [] = refl
+all_live p live (x ∷ xs) = rw (live x) (ap (λ l. x ∷ l) (all_live p live xs))
 
 item_same : {A : Type 0} (f : A → A) (n : Annotation A) → f n.item ≡ n.item → with_item f n ≡ n
 item_same f n same = ap (λ i. record { item = i; customs = n.customs }) same
@@ -110,7 +125,7 @@ points_same (p ∷ ps) rise small =
 -- ---- types and imports
 
 token_same : (t : TypeToken) → moved_token no_lines t ≡ t
-token_same t = ap (λ r. record t { row = r }) (row_same t.table t.row)
+token_same t = ap (λ i. record { table = table_in i; row = row_in i }) (image_row t.table t.row)
 
 modifier_same : (m : Modifier) → moved_modifier no_lines m ≡ m
 modifier_same m = ap (λ t. record m { target = t }) (token_same m.target)
@@ -126,19 +141,58 @@ constant_same c =
     ap (λ m. record c { modifiers = m; body = moved_constant_body no_lines c.body }) (every_same (moved_modifier no_lines) modifier_same c.modifiers)
     ∙ ap (λ b. record c { body = b }) (body_same c.body)
 
+no_modifier_goes : (ms : List Modifier) → list_any (λ (m : Modifier). is_gone_type no_lines m.target) ms ≡ false
+no_modifier_goes [] = refl
+no_modifier_goes (m ∷ ms) = rw (never_gone m.target.table m.target.row) (no_modifier_goes ms)
+
+no_class_goes : (b : ConstantBody) → names_gone_class no_lines b ≡ false
+no_class_goes (constants.Primitive code value) = refl
+no_class_goes (constants.Enumerated code value target) = refl
+no_class_goes (constants.General code target rest) = never_gone target.table target.row
+no_class_goes constants.Object = refl
+
+constant_lives : (n : Annotation ConstantValue) → live_constant no_lines n ≡ true
+constant_lives n = rw (no_modifier_goes n.item.modifiers, no_class_goes n.item.body) refl
+
+live_same : (b : ConstantBody) → live_body no_lines b ≡ b
+live_same (constants.Primitive code value) = refl
+live_same (constants.Enumerated code value target) =
+    ap (λ g. cond g (constants.Primitive code value) (constants.Enumerated code value target)) (never_gone target.table target.row)
+live_same (constants.General code target rest) = refl
+live_same constants.Object = refl
+
+constants_same : (ns : List (Annotation ConstantValue)) → live_constants no_lines ns ≡ ns
+constants_same ns =
+    ap (map (with_item (with_live_body no_lines))) (all_live (live_constant no_lines) constant_lives ns)
+    ∙ every_same (with_item (with_live_body no_lines))
+    (λ n. item_same (with_live_body no_lines) n (ap (λ b. record n.item { body = b }) (live_same n.item.body))) ns
+
 import_same : (i : ImportValue) → moved_import no_lines i ≡ i
 import_same (imports.Namespace namespace) = refl
-import_same (imports.AssemblyNamespace assembly namespace) = ap (λ a. imports.AssemblyNamespace a namespace) (row_same 0x23 assembly)
+import_same (imports.AssemblyNamespace assembly namespace) = refl
 import_same (imports.Target target) = ap (λ t. imports.Target t) (token_same target)
 import_same (imports.Xml alias namespace) = refl
 import_same (imports.Alias alias) = refl
-import_same (imports.AssemblyAlias alias assembly) = ap (λ a. imports.AssemblyAlias alias a) (row_same 0x23 assembly)
+import_same (imports.AssemblyAlias alias assembly) = refl
 import_same (imports.NamespaceAlias alias namespace) = refl
-import_same (imports.AssemblyNamespaceAlias alias assembly namespace) = ap (λ a. imports.AssemblyNamespaceAlias alias a namespace) (row_same 0x23 assembly)
+import_same (imports.AssemblyNamespaceAlias alias assembly namespace) = refl
 import_same (imports.TargetAlias alias target) = ap (λ t. imports.TargetAlias alias t) (token_same target)
 
+import_lives : (i : ImportValue) → live_import no_lines i ≡ true
+import_lives (imports.Namespace namespace) = refl
+import_lives (imports.AssemblyNamespace assembly namespace) = refl
+import_lives (imports.Target target) = ap not (never_gone target.table target.row)
+import_lives (imports.Xml alias namespace) = refl
+import_lives (imports.Alias alias) = refl
+import_lives (imports.AssemblyAlias alias assembly) = refl
+import_lives (imports.NamespaceAlias alias namespace) = refl
+import_lives (imports.AssemblyNamespaceAlias alias assembly namespace) = refl
+import_lives (imports.TargetAlias alias target) = ap not (never_gone target.table target.row)
+
 scope_import_same : (i : ImportScopeValue) → moved_import_scope no_lines i ≡ i
-scope_import_same i = ap (λ l. record i { imports = l }) (every_same (moved_import no_lines) import_same i.imports)
+scope_import_same i =
+    ap (λ l. record i { imports = map (moved_import no_lines) l }) (all_live (live_import no_lines) import_lives i.imports)
+    ∙ ap (λ l. record i { imports = l }) (every_same (moved_import no_lines) import_same i.imports)
 
 -- ---- custom records
 
@@ -202,16 +256,27 @@ linked_same c = by_link (is_link c)
     by_link true = refl
     by_link false = refl
 
+custom_lives : (c : CustomValue) → live_custom no_lines c ≡ true
+custom_lives c =
+    ap (λ b. not (nat_eq c.parent.table 0x06 && false || (b || leaves_types no_lines c))) (never_gone c.parent.table c.parent.row)
+    ∙ ap (λ i. not (nat_eq c.parent.table 0x06 && false || (false || is_type_documents c.value && leaves_table c.parent.table i)))
+    (image_row c.parent.table c.parent.row)
+    ∙ ap (λ b. not (nat_eq c.parent.table 0x06 && false || (false || is_type_documents c.value && not b))) (eq-eqb c.parent.table c.parent.table refl)
+    ∙ stays (nat_eq c.parent.table 0x06) (is_type_documents c.value)
+  where
+    stays : (a b : Bool) → not (a && false || (false || b && false)) ≡ true
+    stays true true = refl
+    stays true false = refl
+    stays false true = refl
+    stays false false = refl
+
 custom_same : (c : CustomValue) → IsSmallBody c.value → moved_custom no_lines c ≡ Some c
 custom_same c small =
     ap (moved_record no_lines) (linked_same c)
-    ∙ ap (λ b. cond b None (Some (record {
-      parent = record { table = c.parent.table; row = moved_row no_lines c.parent.table c.parent.row };
-      kind = c.kind;
-      value = moved_body no_lines c.parent.row c.value;
-    }))) (none_holds (nat_eq c.parent.table 0x06))
-    ∙ ap (λ r. Some (record { parent = record { table = c.parent.table; row = r }; kind = c.kind; value = moved_body no_lines c.parent.row c.value }))
-    (row_same c.parent.table c.parent.row)
+    ∙ ap (λ b. cond b (Some (record { parent = moved_parent no_lines c.parent; kind = c.kind; value = moved_body no_lines c.parent.row c.value })) None)
+    (custom_lives c)
+    ∙ ap (λ i. Some (record { parent = record { table = table_in i; row = row_in i }; kind = c.kind; value = moved_body no_lines c.parent.row c.value }))
+    (image_row c.parent.table c.parent.row)
     ∙ ap (λ v. Some (record { parent = c.parent; kind = c.kind; value = v })) (record_same c.parent.row c.value small)
 
 -- ---- methods, scopes and state machines
@@ -246,6 +311,7 @@ scope_same v s sound =
     ∙ ap (λ r. Some (record (scope_image no_lines s) { method = r; range = s.range })) (row_same 0x06 s.method)
     ∙ ap (λ l. Some (record s { variables = l; constants = (scope_image no_lines s).constants }))
     (every_same (with_item (moved_variable no_lines s.method)) (λ n. refl) s.variables)
+    ∙ ap (λ l. Some (record s { constants = map (with_item (moved_constant no_lines)) l })) (constants_same s.constants)
     ∙ ap (λ l. Some (record s { constants = l }))
     (every_same (with_item (moved_constant no_lines)) (λ n. item_same (moved_constant no_lines) n (constant_same n.item)) s.constants)
 

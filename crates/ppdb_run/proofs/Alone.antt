@@ -1,7 +1,7 @@
 -- The sample as the one input of a merger.
 use Rattle.std.proofs.Common.{◌≡◌, ◌≢◌, ℕ, ◌≤◌, ◌++◌, ◌&&◌, Bool, true, false, cond, List, [], ◌∷◌, Option, Some, None, Ok, refl, sym, ◌∙◌, ap}
 use Rattle.std.proofs.Common.{subst, inl, inr, slice_get, slice_index, ◌⊎◌}
-use Rattle.std.specs.Prelude.{nat_lt}
+use Rattle.std.specs.Prelude.{nat_lt, not}
 use Rattle.std.specs.List.{filter_map, cons_option, enumerate_from, range_with_len}
 use Rattle.std.specs.Option.{option_to_list}
 use Rattle.std.proofs.lemmas.Bool.{le-ltb}
@@ -11,7 +11,8 @@ use Rattle.custom_info.specs.declared.kinds.Kind.TheVariants.{Unknown}
 use Rattle.ppdb_merge_names_laws.specs.Laws.{ReferencesAreNamed, named_by}
 use Rattle.ppdb_base.specs.declared.merge_error.MergeError.{MergeError}
 use Rattle.ppdb_base.specs.declared.merge_error.MergeError.TheVariants.{Memory}
-use Rattle.ppdb_maps.specs.Map.{Map, row_within}
+use Rattle.ppdb_maps.specs.Map.{Map, row_image}
+use Rattle.ppdb_maps.specs.declared.image.RowImage.TheVariants.{Row}
 use Rattle.ppdb_maps.specs.Readable.{IsReadable}
 use Rattle.ppdb_maps.specs.Sample.{sample_map_of}
 use Rattle.ppdb_merge_names.specs.declared.imaged.Imaged.{Imaged}
@@ -23,7 +24,7 @@ use Rattle.ppdb_values.specs.Value.{value_of}
 use Rattle.ppdb_values.specs.declared.custom.CustomValue.{CustomValue}
 use Rattle.ppdb_values.specs.declared.file.FileValue.{FileValue}
 use Rattle.ppdb_merge_items.specs.Each.{Each}
-use Rattle.ppdb_merge_items.specs.NamedRows.{Named, named_rows}
+use Rattle.ppdb_merge_items.specs.NamedRows.{Named, is_gone_row, named_rows}
 use Rattle.ppdb_merge_items.specs.Annotated.{annotated_file}
 use Rattle.ppdb_merge_items.specs.Sorted.{in_order}
 use Rattle.ppdb_merge_items.specs.Unannotated.{value_of_annotated}
@@ -32,7 +33,7 @@ use Rattle.ppdb_merge_joined.specs.Joined.{joined}
 use Rattle.ppdb_merge_moved.specs.Fits.{Fits}
 use Rattle.ppdb_merge_moved.specs.Moved.{is_link, moved_file}
 use Rattle.ppdb_merge_moved.proofs.Lists.{Each-filter_map}
-use Rattle.ppdb_merge_fits.specs.Clashes.{first_clash, is_at_dropped}
+use Rattle.ppdb_merge_fits.specs.Clashes.{first_clash, is_at_gone}
 use Rattle.ppdb_merge_fits.specs.Laws.{NoClash}
 use Rattle.ppdb_merge_fits.specs.Rows.{imaged, imaged_rows}
 use Rattle.ppdb_merge_fits.specs.Signatures.{given_signature, given_signatures, with_given, all_images}
@@ -59,16 +60,17 @@ not_above told b is = ap (λ c. cond c told None) is
 
 -- ---- the first input
 
-no_link : (told : Option MergeError) (b : Bool) → cond (b && false) told None ≡ None
-no_link told true = refl
-no_link told false = refl
+no_link : (told : Option MergeError) (b stays : Bool) → cond (b && (stays && false)) told None ≡ None
+no_link told true true = refl
+no_link told true false = refl
+no_link told false stays = refl
 
 no_links : (m : Map) (customs : List CustomValue) → links_differ [] m customs ≡ []
 no_links m customs =
     flat_nil (λ value. filter_map (link_differs [] m value) (numbered customs)) (option_to_list m.link)
     (each_of (λ value. filter_map (link_differs [] m value) (numbered customs) ≡ [])
     (λ value. filter_nil (link_differs [] m value) (numbered customs)
-    (each_of (λ c. link_differs [] m value c ≡ None) (λ c. no_link _ (is_link c.1)) (numbered customs))) (option_to_list m.link))
+    (each_of (λ c. link_differs [] m value c ≡ None) (λ c. no_link _ (is_link c.1) (not (is_gone_row m 0x00 1))) (numbered customs))) (option_to_list m.link))
 
 nothing_before : (m : Map) (rows : List Imaged) (value : FileValue) → clashes_before [] m rows value ≡ []
 nothing_before m rows value =
@@ -95,11 +97,11 @@ module _ (n : ℕ) (raw : RawFile) (fits : SampleFits n) (says : value_of raw �
   no_clash marks = record {
     fits = subst (λ v. Fits true m (annotated_file v)) (sym says) fits.fits.each.0.fits;
     known = subst IsKnown (sym says) (Each-weaker (λ (c : CustomValue). kind_of marks c.kind ≢ Unknown)
-        (λ c. is_at_dropped m (sample n) c.parent ≡ false → kind_of marks c.kind ≢ Unknown) (λ c known stays. known) (sample n).customs (fits.known marks));
+        (λ c. is_at_gone m (sample n) c.parent ≡ false → kind_of marks c.kind ≢ Unknown) (λ c known stays. known) (sample n).customs (fits.known marks));
   }
     where
       IsKnown : FileValue → Type 0
-      IsKnown v = Each (λ (c : CustomValue). is_at_dropped m v c.parent ≡ false → kind_of marks c.kind ≢ Unknown) v.customs
+      IsKnown v = Each (λ (c : CustomValue). is_at_gone m v c.parent ≡ false → kind_of marks c.kind ≢ Unknown) v.customs
 
   pub sample_not_refused : (marks : List (List ℕ)) → FittingMapsDoNotClash → IsReadable m → refusal_of marks [] m raw ≡ None
   sample_not_refused marks silent ready = not_refused marks m raw (silent marks true m raw keeps ready (no_clash marks))
@@ -113,10 +115,10 @@ module _ (n : ℕ) (raw : RawFile) (fits : SampleFits n) (says : value_of raw �
   moved_is = ap (λ v. moved_file m (annotated_file v)) says
 
   abbrev IsCounted : Named → Type 0
-  IsCounted a = (image : ℕ) → row_within m a.table a.row ≡ Some image → image ≤ slice_index (sample n).rows a.table
+  IsCounted a = (table image : ℕ) → row_image m a.table a.row ≡ Row table image → image ≤ slice_index (sample n).rows table
 
   abbrev IsBelow : Imaged → Type 0
-  IsBelow i = i.image ≤ count_in trace i.table
+  IsBelow i = i.image ≤ count_in trace i.to
 
   counts : (table : ℕ) → slice_index (sample n).rows table ≡ count_in trace table
   counts table = ap (λ rows. slice_index rows table) (sym fits.counts) ∙ ap (λ file. slice_index file.rows table) (sym moved_is)
@@ -132,7 +134,7 @@ module _ (n : ℕ) (raw : RawFile) (fits : SampleFits n) (says : value_of raw �
       of_image : (r : Reference) (i : Imaged) → imaged m r ≡ Some i → IsCounted (named_by r) → IsBelow i
       of_image r i is counted =
           let a = made m r i is in
-          subst IsBelow a.1 (subst (λ k. i.image ≤ k) (counts r.table) (counted i.image a.0))
+          subst IsBelow a.1 (subst (λ k. i.image ≤ k) (counts i.to) (counted i.to i.image a.0))
 
       named_below : ReferencesAreNamed → Each IsBelow (imaged_rows true m raw)
       named_below named =
@@ -152,7 +154,7 @@ module _ (n : ℕ) (raw : RawFile) (fits : SampleFits n) (says : value_of raw �
   none_above named =
       ap (λ l. l ++ []) (filter_nil (above (1, trace)) trace.rows
       (Each-weaker IsBelow (λ i. above (1, trace) i ≡ None)
-      (λ i le. not_above _ (nat_lt (count_in trace i.table) i.image) (le-ltb (count_in trace i.table) i.image le)) trace.rows (below named)))
+      (λ i le. not_above _ (nat_lt (count_in trace i.to) i.image) (le-ltb (count_in trace i.to) i.image le)) trace.rows (below named)))
 
   no_misfit : ReferencesAreNamed → misfit_of (trace ∷ []) ≡ None
   no_misfit named = ap (λ l. slice_get l 0) (ap (λ l. l ++ images_above (trace ∷ [])) none_differ ∙ none_above named)

@@ -89,7 +89,7 @@ kinds_known sounds annotated named clashes marks inputs value are =
     Each-map (λ (t : Trace). t.moved) (KnownFile marks) (traces_of inputs)
     (Each-map trace_by (λ (t : Trace). KnownFile marks t.moved) (turns inputs)
     (Each-weaker (Fitting marks) (λ x. KnownFile marks (trace_by x).moved)
-    (λ x fits. moved_known marks x.1.map (value_of x.1.raw) fits.clash.known) (turns inputs) fit.1.each)) in
+    (λ x fits. moved_known marks x.1.map fits.valid.ready (value_of x.1.raw) fits.clash.known) (turns inputs) fit.1.each)) in
     subst (HasKnownKinds marks) (ap (λ l. value_of_annotated (joined (moved_files l))) (sym fit.0) ∙ value_is are.traces value are.joined)
     (value_known marks (joined (moved_files (traces_of inputs))) (joined_known marks (moved_files (traces_of inputs)) files))
 

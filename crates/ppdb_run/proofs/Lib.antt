@@ -28,3 +28,4 @@ pub mod Keeping
 pub mod KnownKinds
 pub mod MovedKinds
 pub mod Turns
+pub mod Images

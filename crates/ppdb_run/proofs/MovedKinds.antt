@@ -1,12 +1,13 @@
--- What stays of an input has no record of an unknown kind, where none of those was reported that stand at no dropped method.
+-- What stays of an input has no record of an unknown kind, where none of those was reported that stay.
 use Rattle.std.proofs.Common.{◌≡◌, ℕ, suc, ◌+◌, ◌<◌, ◌&&◌, ◌||◌, Bool, true, false, cond, List, [], ◌∷◌, ◌++◌, Option, Some, None, map, length}
 use Rattle.std.proofs.Common.{refl, sym, ◌∙◌, ap, subst, arith}
-use Rattle.std.specs.Prelude.{nat_eq, nat_lt, slice_get}
+use Rattle.std.specs.Prelude.{◌==◌, nat_eq, nat_lt, slice_get}
 use Rattle.std.specs.List.{filter, flat_map, list_any}
 use Rattle.std.specs.Option.{option_to_list}
-use Rattle.std.proofs.lemmas.Bool.{and_parts, both_ways, eqb-true, ltb-true, ne_eqb}
+use Rattle.std.proofs.lemmas.Bool.{and_parts, both_ways, eqb-true, ltb-true, ne_eqb, not-true, or_from, or_parts}
 use Rattle.ppdb_base.specs.Offsets.{gone}
 use Rattle.ppdb_maps.specs.Map.{Map, is_dropped, line_offsets, method_line, offsets_in}
+use Rattle.ppdb_maps.specs.Readable.{IsReadable}
 use Rattle.ppdb_tables.specs.declared.parent.Parent.{Parent}
 use Rattle.ppdb_tables.specs.RawTables.{row_at}
 use Rattle.ppdb_values.specs.declared.custom.CustomValue.{CustomValue}
@@ -23,34 +24,35 @@ use Rattle.ppdb_values.specs.Parts.{is_at}
 use Rattle.ppdb_merge_items.specs.declared.file.AnnotatedScope.{AnnotatedScope}
 use Rattle.ppdb_merge_items.specs.Each.{Each}
 use Rattle.ppdb_merge_items.specs.Annotated.{annotated_file, with_item}
+use Rattle.ppdb_merge_items.specs.NamedRows.{goes_constant, is_gone_row, leaves_types, live_constant, live_constants, live_custom, with_live_body}
 use Rattle.ppdb_merge_items.proofs.Lists.{Each-filter, Each-map}
 use Rattle.ppdb_merge_moved.specs.Moved.{is_empty, moved_constant, moved_custom, moved_file, moved_import_scope, moved_range, moved_scope, moved_variable}
-use Rattle.ppdb_merge_moved.specs.Moved.{linked, moved_document, scope_image}
+use Rattle.ppdb_merge_moved.specs.Moved.{linked, moved_body, moved_document, moved_parent, scope_image}
 use Rattle.ppdb_merge_moved.specs.OnRows.{annotated_by, annotated_scopes_by}
-use Rattle.ppdb_merge_moved.proofs.Customs.{image_of}
 use Rattle.ppdb_merge_moved.proofs.Lists.{Each-filter_map}
 use Rattle.ppdb_merge_moved.proofs.ScopesAtRows.{scopes_are}
-use Rattle.ppdb_merge_fits.specs.Clashes.{constant_methods, is_at_dropped, method_at, scope_methods, variable_methods}
+use Rattle.ppdb_merge_fits.specs.Clashes.{all_constants, constant_methods, is_at_dropped, is_at_gone, method_at, scope_methods, variable_methods}
+use Rattle.ppdb_run.proofs.Images.{high_row}
 use Rattle.ppdb_run.proofs.KnownKinds.{Known, KnownFile, KnownScope, Notes}
 
--- ---- the methods of rows that follow each other
+-- ---- rows that follow each other
 
--- the rows from a row on are of these methods
-abbrev Stand : (ℕ → Option ℕ) → ℕ → List ℕ → Type 0
+-- the rows from a row on are of these methods, or are these items
+abbrev Stand : {A : Type 0} → (ℕ → Option A) → ℕ → List A → Type 0
 Stand method first [] = Unit {0}
 Stand method first (m ∷ ms) = (method first ≡ Some m) × Stand method (first + 1) ms
 
-stand_from : (method : ℕ → Option ℕ) (first : ℕ) (ms : List ℕ) → ((k : ℕ) → method (first + k) ≡ slice_get ms k) → Stand method first ms
+stand_from : {A : Type 0} (method : ℕ → Option A) (first : ℕ) (ms : List A) → ((k : ℕ) → method (first + k) ≡ slice_get ms k) → Stand method first ms
 stand_from method first [] at = tt
 stand_from method first (m ∷ ms) at = (
   ap method (let same : first ≡ first + 0 = omega arith in same) ∙ at 0,
   stand_from method (first + 1) ms (λ k. ap method (let same : first + 1 + k ≡ first + suc k = omega arith in same) ∙ at (suc k)),
 )
 
-stand_all : (ms : List ℕ) → Stand (row_at ms) 1 ms
+stand_all : {A : Type 0} (ms : List A) → Stand (row_at ms) 1 ms
 stand_all ms = stand_from (row_at ms) 1 ms (λ k. ap (row_at ms) (let same : 1 + k ≡ suc k = omega arith in same))
 
-stand_parts : (method : ℕ → Option ℕ) (first : ℕ) (ms ns : List ℕ) → Stand method first (ms ++ ns)
+stand_parts : {A : Type 0} (method : ℕ → Option A) (first : ℕ) (ms ns : List A) → Stand method first (ms ++ ns)
     → Stand method first ms × Stand method (first + length ms) ns
 stand_parts method first [] ns stand = (tt, subst (λ n. Stand method n ns) (let same : first ≡ first + 0 = omega arith in same) stand)
 stand_parts method first (m ∷ ms) ns stand =
@@ -66,15 +68,21 @@ length_map f (x ∷ xs) = ap suc (length_map f xs)
 or_none : (b : Bool) → b ≡ false → (b || false) ≡ false
 or_none b is = ap (λ c. c || false) is
 
-module _ (marks : List (List ℕ)) (m : Map) (value : FileValue)
-    (known : Each (λ c. is_at_dropped m value c.parent ≡ false → Known marks c.kind) value.customs) where
-  -- records on a row that is at no dropped method
-  on_live : (table row : ℕ) → is_at_dropped m value (record { table = table; row = row }) ≡ false → Notes marks (annotated_on value table row)
+-- a scope whose records are of known kinds, and those on its constants that stay
+record KnownLive (marks : List (List ℕ)) (m : Map) (s : AnnotatedScope) : Type 0 where
+  customs : Notes marks s.customs
+  variables : Each (λ (v : Annotation VariableValue). Notes marks v.customs) s.variables
+  constants : Each (λ (c : Annotation ConstantValue). live_constant m c ≡ true → Notes marks c.customs) s.constants
+
+module _ (marks : List (List ℕ)) (m : Map) (ready : IsReadable m) (value : FileValue)
+    (known : Each (λ c. is_at_gone m value c.parent ≡ false → Known marks c.kind) value.customs) where
+  -- records on a row that stays
+  on_live : (table row : ℕ) → is_at_gone m value (record { table = table; row = row }) ≡ false → Notes marks (annotated_on value table row)
   on_live table row live =
       Each-map without_parent (λ (c : Custom). Known marks c.kind) (filter (λ (c : CustomValue). is_at table row c.parent) value.customs)
-      (Each-filter (λ (c : CustomValue). is_at_dropped m value c.parent ≡ false → Known marks c.kind) (λ (c : CustomValue). Known marks c.kind)
+      (Each-filter (λ (c : CustomValue). is_at_gone m value c.parent ≡ false → Known marks c.kind) (λ (c : CustomValue). Known marks c.kind)
       (λ (c : CustomValue). is_at table row c.parent)
-      (λ c is holds. holds (ap (is_at_dropped m value) (parent_is c is) ∙ live)) value.customs known)
+      (λ c is holds. holds (ap (is_at_gone m value) (parent_is c is) ∙ live)) value.customs known)
     where
       parent_is : (c : CustomValue) → is_at table row c.parent ≡ true → c.parent ≡ record { table = table; row = row }
       parent_is c is =
@@ -85,53 +93,85 @@ module _ (marks : List (List ℕ)) (m : Map) (value : FileValue)
   at_live : (parent : Parent) (method : ℕ) → method_at value parent ≡ Some method → is_dropped m method ≡ false → is_at_dropped m value parent ≡ false
   at_live parent method at live = ap (λ o. list_any (is_dropped m) (option_to_list o)) at ∙ or_none (is_dropped m method) live
 
+  abbrev C : ℕ → Option ℕ
+  C row = method_at value (record { table = 0x34; row = row })
+
+  -- a row of a method that is not dropped stays, other than a constant
+  at_row : (table row method : ℕ) → 0x2c < table → (table ≡ 0x34 → ⊥) → method_at value (record { table = table; row = row }) ≡ Some method
+      → is_dropped m method ≡ false → is_at_gone m value (record { table = table; row = row }) ≡ false
+  at_row table row method high other at live =
+      or_from _ _ (at_live (record { table = table; row = row }) method at live)
+      (or_from _ _ (high_row m ready table row high) (ap (λ b. b && list_any (goes_constant m) (option_to_list (row_at (all_constants value) row)))
+      (ne_eqb table 0x34 other)))
+
+  -- a constant that stays
+  at_constant : (row method : ℕ) (c : ConstantValue) → C row ≡ Some method → is_dropped m method ≡ false → row_at (all_constants value) row ≡ Some c
+      → goes_constant m c ≡ false → is_at_gone m value (record { table = 0x34; row = row }) ≡ false
+  at_constant row method c at live there stays =
+      or_from _ _ (at_live (record { table = 0x34; row = row }) method at live)
+      (or_from _ _ (high_row m ready 0x34 row (omega arith))
+      (ap (λ o. list_any (goes_constant m) (option_to_list o)) there ∙ or_none (goes_constant m c) stays))
+
   -- ---- scopes
 
   abbrev V : ℕ → Option ℕ
   V row = method_at value (record { table = 0x33; row = row })
 
-  abbrev C : ℕ → Option ℕ
-  C row = method_at value (record { table = 0x34; row = row })
-
   abbrev S : ℕ → Option ℕ
   S row = method_at value (record { table = 0x32; row = row })
 
-  owned_known : {A : Type 0} (table : ℕ) (method first : ℕ) (items : List A)
+  owned_known : {A : Type 0} (table : ℕ) → 0x2c < table → (table ≡ 0x34 → ⊥) → (method first : ℕ) (items : List A)
       → Stand (λ row. method_at value (record { table = table; row = row })) first (map (λ item. method) items) → is_dropped m method ≡ false
       → Each (λ (n : Annotation A). Notes marks n.customs) (annotated_by (annotated_on value table) first items)
-  owned_known table method first [] stand live = tt
-  owned_known table method first (item ∷ items) stand live = (
-    on_live table first (at_live (record { table = table; row = first }) method stand.0 live),
-    owned_known table method (first + 1) items stand.1 live,
+  owned_known table high other method first [] stand live = tt
+  owned_known table high other method first (item ∷ items) stand live = (
+    on_live table first (at_row table first method high other stand.0 live),
+    owned_known table high other method (first + 1) items stand.1 live,
+  )
+
+  abbrev stays_known : Annotation ConstantValue → Type 0
+  stays_known n = live_constant m n ≡ true → Notes marks n.customs
+
+  constants_known : (method first : ℕ) (items : List ConstantValue) → Stand C first (map (λ (c : ConstantValue). method) items)
+      → Stand (row_at (all_constants value)) first items → is_dropped m method ≡ false
+      → Each stays_known (annotated_by (annotated_on value 0x34) first items)
+  constants_known method first [] of_c are live = tt
+  constants_known method first (c ∷ items) of_c are live = (
+    (λ stays. on_live 0x34 first (at_constant first method c of_c.0 live are.0 (not-true (goes_constant m c) stays))),
+    constants_known method (first + 1) items of_c.1 are.1 live,
   )
 
   scopes_known : (row variable constant : ℕ) (ss : List ScopeValue) → Stand S row (map (λ (s : ScopeValue). s.method) ss)
       → Stand V variable (flat_map (λ (s : ScopeValue). map (λ v. s.method) s.variables) ss)
       → Stand C constant (flat_map (λ (s : ScopeValue). map (λ c. s.method) s.constants) ss)
-      → Each (λ s. is_dropped m s.method ≡ false → KnownScope marks s)
+      → Stand (row_at (all_constants value)) constant (flat_map (λ (s : ScopeValue). s.constants) ss)
+      → Each (λ s. is_dropped m s.method ≡ false → KnownLive marks m s)
       (annotated_scopes_by (annotated_on value 0x32) (annotated_on value 0x33) (annotated_on value 0x34) row variable constant ss)
-  scopes_known row variable constant [] of_s of_v of_c = tt
-  scopes_known row variable constant (s ∷ ss) of_s of_v of_c =
+  scopes_known row variable constant [] of_s of_v of_c are = tt
+  scopes_known row variable constant (s ∷ ss) of_s of_v of_c are =
       let its_v = stand_parts V variable (map (λ v. s.method) s.variables) (flat_map (λ (x : ScopeValue). map (λ v. x.method) x.variables) ss) of_v in
-      let its_c = stand_parts C constant (map (λ c. s.method) s.constants) (flat_map (λ (x : ScopeValue). map (λ c. x.method) x.constants) ss) of_c in (
+      let its_c = stand_parts C constant (map (λ c. s.method) s.constants) (flat_map (λ (x : ScopeValue). map (λ c. x.method) x.constants) ss) of_c in
+      let its_own = stand_parts (row_at (all_constants value)) constant s.constants (flat_map (λ (x : ScopeValue). x.constants) ss) are in (
         (λ live. record {
-          customs = on_live 0x32 row (at_live (record { table = 0x32; row = row }) s.method of_s.0 live);
-          variables = owned_known 0x33 s.method variable s.variables its_v.0 live;
-          constants = owned_known 0x34 s.method constant s.constants its_c.0 live;
+          customs = on_live 0x32 row (at_row 0x32 row s.method (omega arith) (λ e. omega (arith, e)) of_s.0 live);
+          variables = owned_known 0x33 (omega arith) (λ e. omega (arith, e)) s.method variable s.variables its_v.0 live;
+          constants = constants_known s.method constant s.constants its_c.0 its_own.0 live;
         }),
         scopes_known (row + 1) (variable + length s.variables) (constant + length s.constants) ss of_s.1
             (subst (λ n. Stand V (variable + n) (flat_map (λ (x : ScopeValue). map (λ v. x.method) x.variables) ss))
             (length_map (λ (v : VariableValue). s.method) s.variables) its_v.1)
             (subst (λ n. Stand C (constant + n) (flat_map (λ (x : ScopeValue). map (λ c. x.method) x.constants) ss))
-            (length_map (λ (c : ConstantValue). s.method) s.constants) its_c.1),
+            (length_map (λ (c : ConstantValue). s.method) s.constants) its_c.1)
+            its_own.1,
       )
 
-  annotated_known : Each (λ s. is_dropped m s.method ≡ false → KnownScope marks s) (annotated_file value).scopes
+  annotated_known : Each (λ s. is_dropped m s.method ≡ false → KnownLive marks m s) (annotated_file value).scopes
   annotated_known =
-      subst (Each (λ s. is_dropped m s.method ≡ false → KnownScope marks s))
+      subst (Each (λ s. is_dropped m s.method ≡ false → KnownLive marks m s))
       (scopes_are (annotated_on value 0x32) (annotated_on value 0x33) (annotated_on value 0x34) value [] value.scopes refl (λ r low high. refl) (λ r low high. refl)
       (λ r low high. refl))
-      (scopes_known 1 1 1 value.scopes (stand_all (scope_methods value)) (stand_all (variable_methods value)) (stand_all (constant_methods value)))
+      (scopes_known 1 1 1 value.scopes (stand_all (scope_methods value)) (stand_all (variable_methods value)) (stand_all (constant_methods value))
+      (stand_all (all_constants value)))
 
   some_of : (a b : AnnotatedScope) → Some a ≡ Some b → a ≡ b
   some_of a b e = cc
@@ -153,11 +193,14 @@ module _ (marks : List (List ℕ)) (m : Map) (value : FileValue)
       by_range true empty e = absurd cc
       by_range false filled e = (live_by filled (is_dropped m s.method) refl, some_of (scope_image m s) t e)
 
-  image_known : (s : AnnotatedScope) → KnownScope marks s → KnownScope marks (scope_image m s)
+  image_known : (s : AnnotatedScope) → KnownLive marks m s → KnownScope marks (scope_image m s)
   image_known s here = record {
     customs = here.customs;
     variables = Each-map (with_item (moved_variable m s.method)) (λ (v : Annotation VariableValue). Notes marks v.customs) s.variables here.variables;
-    constants = Each-map (with_item (moved_constant m)) (λ (c : Annotation ConstantValue). Notes marks c.customs) s.constants here.constants;
+    constants = Each-map (with_item (moved_constant m)) (λ (c : Annotation ConstantValue). Notes marks c.customs) (live_constants m s.constants)
+        (Each-map (with_item (with_live_body m)) (λ (c : Annotation ConstantValue). Notes marks c.customs) (filter (live_constant m) s.constants)
+        (Each-filter stays_known (λ (c : Annotation ConstantValue). Notes marks c.customs) (live_constant m) (λ c stays holds. holds stays) s.constants
+        here.constants));
   }
 
   -- ---- records on rows of the type system
@@ -166,10 +209,10 @@ module _ (marks : List (List ℕ)) (m : Map) (value : FileValue)
       → list_any (is_dropped m) (option_to_list (cond a (Some row) (cond b x (cond c y (cond d z None))))) ≡ false
   none_at a b c d row x y z h i j k = rw (h, i, j, k) refl
 
-  -- a record that stays is at no dropped method, and keeps its kind
-  live_custom : (c : CustomValue) → c.parent.table < 0x2d → (nat_eq c.parent.table 0x06 && is_dropped m c.parent.row) ≡ false
+  -- a record that stays is at no dropped method
+  at_none_dropped : (c : CustomValue) → c.parent.table < 0x2d → (nat_eq c.parent.table 0x06 && is_dropped m c.parent.row) ≡ false
       → is_at_dropped m value c.parent ≡ false
-  live_custom c low going = by_table (nat_eq c.parent.table 0x06) refl
+  at_none_dropped c low going = by_table (nat_eq c.parent.table 0x06) refl
     where
       by_table : (b : Bool) → nat_eq c.parent.table 0x06 ≡ b → is_at_dropped m value c.parent ≡ false
       by_table true six =
@@ -184,22 +227,41 @@ module _ (marks : List (List ℕ)) (m : Map) (value : FileValue)
           (ne_eqb c.parent.table 0x32 (λ e. omega (arith, e, low))) (ne_eqb c.parent.table 0x33 (λ e. omega (arith, e, low)))
           (ne_eqb c.parent.table 0x34 (λ e. omega (arith, e, low)))
 
-  custom_known : (c d : CustomValue) → moved_custom m c ≡ Some d
-      → (c.parent.table < 0x2d) × (is_at_dropped m value c.parent ≡ false → Known marks c.kind) → Known marks d.kind
-  custom_known c d e holds = by_going (nat_eq c.parent.table 0x06 && is_dropped m c.parent.row) refl e
+  -- it is on no row that goes
+  at_none : (c : CustomValue) → c.parent.table < 0x2d → live_custom m (linked m c) ≡ true → is_at_gone m value c.parent ≡ false
+  at_none c low live =
+      let goes = nat_eq c.parent.table 0x06 && is_dropped m c.parent.row in
+      let parts = or_parts goes (is_gone_row m c.parent.table c.parent.row || leaves_types m (linked m c)) (not-true _ live) in
+      let rows = or_parts (is_gone_row m c.parent.table c.parent.row) (leaves_types m (linked m c)) parts.1 in
+      or_from _ _ (at_none_dropped c low parts.0)
+      (or_from _ _ rows.0 (ap (λ b. b && list_any (goes_constant m) (option_to_list (row_at (all_constants value) c.parent.row)))
+      (ne_eqb c.parent.table 0x34 (λ e. omega (arith, e, low)))))
+
+  -- and keeps its kind
+  custom_known : (c d : CustomValue) → moved_custom m c ≡ Some d → (c.parent.table < 0x2d) × (is_at_gone m value c.parent ≡ false → Known marks c.kind)
+      → Known marks d.kind
+  custom_known c d e holds = by_going (live_custom m (linked m c)) refl e
     where
       kind_in : Option CustomValue → List ℕ
       kind_in None = []
       kind_in (Some x) = x.kind
 
-      by_going : (b : Bool) → (nat_eq c.parent.table 0x06 && is_dropped m c.parent.row) ≡ b → cond b None (Some (image_of m (linked m c))) ≡ Some d
+      by_going : (b : Bool) → live_custom m (linked m c) ≡ b
+          → cond b (Some (record { parent = moved_parent m c.parent; kind = c.kind; value = moved_body m c.parent.row (linked m c).value })) None ≡ Some d
           → Known marks d.kind
-      by_going true going e = absurd cc
-      by_going false going e = subst (Known marks) (ap kind_in e) (holds.1 (live_custom c holds.0 going))
+      by_going false going e = absurd cc
+      by_going true live e = subst (Known marks) (ap kind_in e) (holds.1 (at_none c holds.0 live))
 
   -- ---- the file
 
-  items_known : {A : Type 0} (table first : ℕ) (items : List A) → ((row : ℕ) → is_at_dropped m value (record { table = table; row = row }) ≡ false)
+  -- a row of a document or an import scope stays
+  at_part : (table row : ℕ) → 0x2c < table → is_at_dropped m value (record { table = table; row = row }) ≡ false → (table == 0x34) ≡ false
+      → is_at_gone m value (record { table = table; row = row }) ≡ false
+  at_part table row high live other =
+      or_from _ _ live (or_from _ _ (high_row m ready table row high)
+      (ap (λ b. b && list_any (goes_constant m) (option_to_list (row_at (all_constants value) row))) other))
+
+  items_known : {A : Type 0} (table first : ℕ) (items : List A) → ((row : ℕ) → is_at_gone m value (record { table = table; row = row }) ≡ false)
       → Each (λ (n : Annotation A). Notes marks n.customs) (annotated_from value table first items)
   items_known table first [] live = tt
   items_known table first (item ∷ items) live = (on_live table first (live first), items_known table (first + 1) items live)
@@ -207,14 +269,14 @@ module _ (marks : List (List ℕ)) (m : Map) (value : FileValue)
   pub moved_known : KnownFile marks (moved_file m (annotated_file value))
   moved_known = record {
     documents = Each-map (with_item (moved_document m)) (λ (d : Annotation DocumentValue). Notes marks d.customs) (annotated_file value).documents
-        (items_known 0x30 1 value.documents (λ row. refl));
-    scopes = Each-filter_map (moved_scope m) (λ s. is_dropped m s.method ≡ false → KnownScope marks s) (KnownScope marks)
+        (items_known 0x30 1 value.documents (λ row. at_part 0x30 row (omega arith) refl refl));
+    scopes = Each-filter_map (moved_scope m) (λ s. is_dropped m s.method ≡ false → KnownLive marks m s) (KnownScope marks)
         (λ s t e holds. let is = stays s t e in subst (KnownScope marks) is.1 (image_known s (holds is.0))) (annotated_file value).scopes annotated_known;
     imports = Each-map (with_item (moved_import_scope m)) (λ (i : Annotation ImportScopeValue). Notes marks i.customs) (annotated_file value).imports
-        (items_known 0x35 1 value.imports (λ row. refl));
-    customs = Each-filter_map (moved_custom m) (λ c. (c.parent.table < 0x2d) × (is_at_dropped m value c.parent ≡ false → Known marks c.kind))
+        (items_known 0x35 1 value.imports (λ row. at_part 0x35 row (omega arith) refl refl));
+    customs = Each-filter_map (moved_custom m) (λ c. (c.parent.table < 0x2d) × (is_at_gone m value c.parent ≡ false → Known marks c.kind))
         (λ (c : CustomValue). Known marks c.kind) custom_known (annotated_file value).customs
-        (Each-filter (λ c. is_at_dropped m value c.parent ≡ false → Known marks c.kind)
-        (λ c. (c.parent.table < 0x2d) × (is_at_dropped m value c.parent ≡ false → Known marks c.kind)) (λ c. nat_lt c.parent.table 0x2d)
+        (Each-filter (λ c. is_at_gone m value c.parent ≡ false → Known marks c.kind)
+        (λ c. (c.parent.table < 0x2d) × (is_at_gone m value c.parent ≡ false → Known marks c.kind)) (λ c. nat_lt c.parent.table 0x2d)
         (λ c is holds. (ltb-true c.parent.table 0x2d is, holds)) value.customs known);
   }

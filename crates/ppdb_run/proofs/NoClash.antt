@@ -52,7 +52,7 @@ module _ (codes : CodesAreParents) (owned : ListsAreOwned) (marks : List (List �
       (both_fine _ _ nothing_beyond
       (both_fine _ _ (lost_silent m ready (value_of raw) sound none.fits.async)
       (both_fine _ _ (rows_silent first m raw (subst (Each (IsImaged m)) (sym named) none.fits.images))
-      (both_fine _ _ (rows_apart_silent first m raw (subst (λ l. Each (λ a. Each (AreApart m a) l) l) (sym named) apart))
+      (both_fine _ _ (rows_apart_silent first m ready raw (subst (λ l. Each (λ a. Each (AreApart m a) l) l) (sym named) apart))
       (both_fine _ _ (slots_silent m (value_of raw) none.fits.slots)
       (both_fine _ _ (slots_apart_silent m (value_of raw) none.fits.slots_apart) (documents_silent m (value_of raw) none.fits.documents)))))))
 

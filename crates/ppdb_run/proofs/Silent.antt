@@ -33,7 +33,7 @@ use Rattle.ppdb_merge_items.proofs.Lists.{Each-weaker, Each-unmap}
 use Rattle.ppdb_merge_moved.specs.Fits.{IsKept, KeepsStep, KeepsAsync, EndsWithin, AreWithin}
 use Rattle.ppdb_merge_moved.proofs.Elements.{each_left}
 use Rattle.ppdb_merge_moved.proofs.Fitting.{offsets_rise}
-use Rattle.ppdb_merge_fits.specs.Clashes.{if_unknown, is_unknown, is_at_dropped}
+use Rattle.ppdb_merge_fits.specs.Clashes.{if_unknown, is_unknown, is_at_gone}
 use Rattle.ppdb_merge_fits.specs.Offsets.{MethodOffset, offset_in, step_offsets, handler_offsets, async_offsets, if_past, offset_beyond}
 use Rattle.ppdb_merge_fits.specs.Offsets.{points_beyond, scope_beyond, slot_beyond, body_beyond, custom_beyond, is_kept, if_lost, custom_lost}
 use Rattle.ppdb_merge_fits.proofs.Apart.{each_both}
@@ -69,13 +69,13 @@ not_unknown kinds.Unknown true known = refl
 not_unknown kinds.Unknown false known = absurd (known refl refl)
 
 pub kinds_silent : (marks : List (List ℕ)) (m : Map) (value : FileValue) (n : ℕ) (cs : List CustomValue)
-    → Each (λ c. is_at_dropped m value c.parent ≡ false → kind_of marks c.kind ≢ kinds.Unknown) cs
+    → Each (λ c. is_at_gone m value c.parent ≡ false → kind_of marks c.kind ≢ kinds.Unknown) cs
     → flat_map (if_unknown marks m value) (enumerate_from n cs) ≡ []
 kinds_silent marks m value n [] each = refl
 kinds_silent marks m value n (c ∷ cs) each =
     both_nil (if_unknown marks m value (n, c)) _
-    (if_fails _ (is_unknown (kind_of marks c.kind) && not (is_at_dropped m value c.parent))
-    (not_unknown (kind_of marks c.kind) (is_at_dropped m value c.parent) each.0))
+    (if_fails _ (is_unknown (kind_of marks c.kind) && not (is_at_gone m value c.parent))
+    (not_unknown (kind_of marks c.kind) (is_at_gone m value c.parent) each.0))
     (kinds_silent marks m value (n + 1) cs each.1)
 
 -- ---- offsets below the old size

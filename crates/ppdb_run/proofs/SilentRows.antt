@@ -4,8 +4,11 @@ use Rattle.std.proofs.Common.{◌∙◌, ap, subst}
 use Rattle.std.specs.Prelude.{nat_eq, is_some, not}
 use Rattle.std.specs.List.{dedup, dedup_from, filter_map, enumerate_from}
 use Rattle.std.specs.Option.{option_map}
-use Rattle.std.proofs.lemmas.Bool.{both_ways, eq-eqb, eqb-true}
-use Rattle.ppdb_maps.specs.Map.{Map, row_within, slot_image, is_dropped}
+use Rattle.std.proofs.lemmas.Bool.{both_ways, eq-eqb, eqb-true, not-true}
+use Rattle.ppdb_maps.specs.Map.{Map, row_image, slot_image, is_dropped}
+use Rattle.ppdb_maps.specs.Readable.{IsReadable}
+use Rattle.ppdb_maps.specs.declared.image.RowImage.{RowImage}
+use Rattle.ppdb_maps.specs.declared.image.RowImage.TheVariants.{Row, Gone, Missing}
 use Rattle.ppdb_merge_names.specs.declared.imaged.Imaged.{Imaged}
 use Rattle.ppdb_merge_names.specs.References.{Reference, references}
 use Rattle.ppdb_merge_names_laws.specs.Laws.{named_by}
@@ -19,16 +22,17 @@ use Rattle.ppdb_merge_items.specs.NamedRows.{live_scope}
 use Rattle.ppdb_merge_items.specs.Annotated.{annotated_file, annotated_scope}
 use Rattle.ppdb_merge_items.specs.Sorted.{in_order}
 use Rattle.ppdb_merge_items.specs.declared.file.AnnotatedScope.{AnnotatedScope}
-use Rattle.ppdb_merge_items.proofs.Lists.{Each-weaker, Each-map, Each-unmap, each_of}
+use Rattle.ppdb_merge_items.proofs.Lists.{Each-filter, Each-weaker, Each-map, Each-unmap, each_of}
 use Rattle.ppdb_merge_items.proofs.Orders.{in_order_each}
 use Rattle.ppdb_merge_joined.proofs.Each.{Each-flat}
-use Rattle.ppdb_merge_moved.specs.Fits.{IsImaged, AreApart, HasSlot, SlotsAreApart}
+use Rattle.ppdb_merge_moved.specs.Fits.{may_share, IsImaged, AreApart, HasSlot, SlotsAreApart}
 use Rattle.ppdb_merge_moved.proofs.Elements.{each_in}
 use Rattle.ppdb_merge_moved.proofs.Lists.{Each-filter_map}
-use Rattle.ppdb_merge_fits.specs.Rows.{imaged, if_unmapped, image_twice, images_twice, unmapped}
+use Rattle.ppdb_merge_fits.specs.Rows.{image_key, imaged, imaged_to, if_unmapped, image_twice, images_twice, is_row, unmapped, unshared}
 use Rattle.ppdb_merge_fits.specs.Slots.{scope_slots, variable_slots, if_slot_unmapped, slots_unmapped, used, slot_twice, slots_twice}
 use Rattle.ppdb_merge_fits.specs.Twice.{beside, beside_from, each_once, is_same, if_one_image, twice}
 use Rattle.ppdb_merge_fits.proofs.Apart.{OneNumber}
+use Rattle.ppdb_run.proofs.Images.{same_image}
 use Rattle.ppdb_run.proofs.Silent.{flat_nil, unnumbered, if_holds}
 
 -- ---- lists in order, each item once
@@ -50,6 +54,13 @@ pub each_once_each : {A : Type 0} (group number : A → ℕ) (P : A → Type 0) 
 each_once_each group number P xs each =
     once (is_same group number) P (in_order group (in_order number xs))
     (in_order_each group P (in_order number xs) (in_order_each number P xs each))
+
+-- what holds of each two items holds of each two that are kept
+two_once : {A : Type 0} (group number : A → ℕ) (R : A → A → Type 0) (xs : List A) → Each (λ a. Each (R a) xs) xs
+    → Each (λ a. Each (R a) (each_once group number xs)) (each_once group number xs)
+two_once group number R xs each =
+    each_once_each group number (λ a. Each (R a) (each_once group number xs)) xs
+    (Each-weaker (λ a. Each (R a) xs) (λ a. Each (R a) (each_once group number xs)) (λ a others. each_once_each group number (R a) xs others) xs each)
 
 pairs_among : {A : Type 0} (R : A → A → Type 0) (xs : List A) → Each (λ a. Each (R a) xs) xs → Pairs R xs
 pairs_among R [] each = tt
@@ -81,21 +92,23 @@ module _ {A B : Type 0} (group number image : A → ℕ) (told : A → A → B) 
   all_silent [] pairs = refl
   all_silent (x ∷ xs) pairs = from_silent x xs pairs
 
-  abbrev at_once : List A → List A
-  at_once xs = in_order group (in_order image (each_once group number xs))
+  abbrev sorted : List A → List A
+  sorted xs = in_order group (in_order image xs)
 
-  kept_once : (P : A → Type 0) (xs : List A) → Each P xs → Each P (at_once xs)
-  kept_once P xs each =
-      in_order_each group P (in_order image (each_once group number xs))
-      (in_order_each image P (each_once group number xs) (each_once_each group number P xs each))
+  kept : (P : A → Type 0) (xs : List A) → Each P xs → Each P (sorted xs)
+  kept P xs each = in_order_each group P (in_order image xs) (in_order_each image P xs each)
+
+  pub two_by_two_silent : (xs : List A) → Each (λ a. Each (OneNumber group number image a) xs) xs → twice group number image told xs ≡ []
+  two_by_two_silent xs each =
+      all_silent (sorted xs)
+      (pairs_among (OneNumber group number image) (sorted xs)
+      (kept (λ a. Each (OneNumber group number image a) (sorted xs)) xs
+      (Each-weaker (λ a. Each (OneNumber group number image a) xs) (λ a. Each (OneNumber group number image a) (sorted xs))
+      (λ a others. kept (OneNumber group number image a) xs others) xs each)))
 
   twice_silent : (xs : List A) → Each (λ a. Each (OneNumber group number image a) xs) xs → twice group number image told (each_once group number xs) ≡ []
   twice_silent xs each =
-      all_silent (at_once xs)
-      (pairs_among (OneNumber group number image) (at_once xs)
-      (kept_once (λ a. Each (OneNumber group number image a) (at_once xs)) xs
-      (Each-weaker (λ a. Each (OneNumber group number image a) xs) (λ a. Each (OneNumber group number image a) (at_once xs))
-      (λ a others. kept_once (OneNumber group number image a) xs others) xs each)))
+      two_by_two_silent (each_once group number xs) (two_once group number (OneNumber group number image) xs each)
 
 -- ---- rows
 
@@ -103,49 +116,65 @@ pub rows_silent : (first : Bool) (m : Map) (raw : RawFile) → Each (IsImaged m)
 rows_silent first m raw each =
     flat_nil (if_unmapped m) (references first m raw)
     (Each-weaker (λ r. IsImaged m (named_by r)) (λ r. if_unmapped m r ≡ [])
-    (λ r there. if_holds _ (is_some (row_within m r.table r.row)) (ap is_some there.1)) (references first m raw)
+    (λ r there. if_holds _ (is_row (row_image m r.table r.row)) (ap is_row there.2)) (references first m raw)
     (Each-unmap named_by (IsImaged m) (references first m raw) each))
 
-abbrev with_image : Reference → ℕ → Imaged
-with_image r image = record { table = r.table; row = r.row; image = image }
+abbrev with_image : Reference → ℕ → ℕ → Imaged
+with_image r to image = record { table = r.table; row = r.row; to = to; image = image }
 
 -- a row with its image is the image of a row that is named
-pub made : (m : Map) (r : Reference) (i : Imaged) → imaged m r ≡ Some i → (row_within m r.table r.row ≡ Some i.image) × (with_image r i.image ≡ i)
-made m r i is = of (row_within m r.table r.row) refl is
+pub made : (m : Map) (r : Reference) (i : Imaged) → imaged m r ≡ Some i → (row_image m r.table r.row ≡ Row i.to i.image) × (with_image r i.to i.image ≡ i)
+made m r i is = of (row_image m r.table r.row) refl is
   where
-    of : (o : Option ℕ) → row_within m r.table r.row ≡ o → option_map (with_image r) o ≡ Some i
-        → (row_within m r.table r.row ≡ Some i.image) × (with_image r i.image ≡ i)
-    of None from e = absurd cc
-    of (Some image) from e =
-        let same : with_image r image ≡ i = cc in
-        (from ∙ ap (λ (j : Imaged). Some j.image) same, ap (λ (j : Imaged). with_image r j.image) (sym same) ∙ same)
+    of : (o : RowImage) → row_image m r.table r.row ≡ o → imaged_to r o ≡ Some i
+        → (row_image m r.table r.row ≡ Row i.to i.image) × (with_image r i.to i.image ≡ i)
+    of Gone from e = absurd cc
+    of Missing from e = absurd cc
+    of (Row to image) from e =
+        let same : with_image r to image ≡ i = cc in
+        (from ∙ ap (λ (j : Imaged). Row j.to j.image) same, ap (λ (j : Imaged). with_image r j.to j.image) (sym same) ∙ same)
 
 abbrev OneRow : Imaged → Imaged → Type 0
-OneRow = OneNumber (λ (i : Imaged). i.table) (λ i. i.row) (λ i. i.image)
+OneRow = OneNumber (λ (i : Imaged). i.table) (λ i. i.row) image_key
 
-one_row : (m : Map) (r s : Reference) (i j : Imaged) → AreApart m (named_by r) (named_by s) → imaged m r ≡ Some i → imaged m s ≡ Some j → OneRow i j
-one_row m r s i j apart is js =
+-- two rows of a table whose rows may have no image in common
+abbrev IsOneRow : Map → Imaged → Imaged → Type 0
+IsOneRow m i j = may_share m i.table ≡ false → OneRow i j
+
+one_row : (m : Map) → IsReadable m → (r s : Reference) (i j : Imaged) → AreApart m (named_by r) (named_by s) → imaged m r ≡ Some i → imaged m s ≡ Some j
+    → IsOneRow m i j
+one_row m ready r s i j apart is js =
     let a = made m r i is in
     let b = made m s j js in
-    subst (λ z. OneRow z j) a.1 (subst (λ z. OneRow (with_image r i.image) z) b.1
-    (λ tables images. apart i.image tables a.0 (b.0 ∙ ap Some (sym images))))
+    subst (λ z. IsOneRow m z j) a.1 (subst (λ z. IsOneRow m (with_image r i.to i.image) z) b.1
+    (λ unshared tables keys.
+    let there : row_image m r.table s.row ≡ Row j.to j.image = subst (λ t. row_image m t s.row ≡ Row j.to j.image) (sym tables) b.0 in
+    let same = same_image m ready r.table r.row s.row i.to i.image j.to j.image a.0 there keys in
+    apart i.to i.image tables unshared a.0 (b.0 ∙ ap (λ t. Row t j.image) (sym same.0) ∙ ap (Row i.to) (sym same.1))))
 
-pub rows_apart_silent : (first : Bool) (m : Map) (raw : RawFile)
+pub rows_apart_silent : (first : Bool) (m : Map) → IsReadable m → (raw : RawFile)
     → Each (λ a. Each (AreApart m a) (map named_by (references first m raw))) (map named_by (references first m raw)) → images_twice first m raw ≡ []
-rows_apart_silent first m raw each =
-    twice_silent (λ (i : Imaged). i.table) (λ i. i.row) (λ i. i.image) image_twice all
-    (Each-filter_map (imaged m) (λ r. Each (λ s. AreApart m (named_by r) (named_by s)) refs) (λ i. Each (OneRow i) all)
-    (λ r i is others. Each-filter_map (imaged m) (λ s. AreApart m (named_by r) (named_by s)) (OneRow i)
-    (λ s j js apart. one_row m r s i j apart is js) refs others) refs
+rows_apart_silent first m ready raw each =
+    two_by_two_silent (λ (i : Imaged). i.table) (λ i. i.row) image_key image_twice (unshared m once_all)
+    (Each-filter (λ i. Each (IsOneRow m i) once_all) (λ i. Each (OneRow i) (unshared m once_all)) (λ i. not (may_share m i.table))
+    (λ i mine others. Each-filter (IsOneRow m i) (OneRow i) (λ j. not (may_share m j.table))
+    (λ j its one. one (not-true (may_share m i.table) mine)) once_all others) once_all
+    (two_once (λ (i : Imaged). i.table) (λ i. i.row) (IsOneRow m) all
+    (Each-filter_map (imaged m) (λ r. Each (λ s. AreApart m (named_by r) (named_by s)) refs) (λ i. Each (IsOneRow m i) all)
+    (λ r i is others. Each-filter_map (imaged m) (λ s. AreApart m (named_by r) (named_by s)) (IsOneRow m i)
+    (λ s j js apart. one_row m ready r s i j apart is js) refs others) refs
     (Each-weaker (λ r. Each (AreApart m (named_by r)) (map named_by refs)) (λ r. Each (λ s. AreApart m (named_by r) (named_by s)) refs)
     (λ r others. Each-unmap named_by (AreApart m (named_by r)) refs others) refs
-    (Each-unmap named_by (λ a. Each (AreApart m a) (map named_by refs)) refs each)))
+    (Each-unmap named_by (λ a. Each (AreApart m a) (map named_by refs)) refs each)))))
   where
     refs : List Reference
     refs = references first m raw
 
     all : List Imaged
     all = filter_map (imaged m) refs
+
+    once_all : List Imaged
+    once_all = each_once (λ (i : Imaged). i.table) (λ i. i.row) all
 
 -- ---- slots
 

@@ -5,7 +5,8 @@ use Rattle.std.specs.Prelude.{Ok, Contains, nat_eq}
 use Rattle.std.proofs.lemmas.Bool.{ne_eqb}
 use Rattle.std.proofs.lemmas.List.{length-append}
 use Rattle.ppdb_base.specs.declared.merge_error.MergeError.{MergeError}
-use Rattle.ppdb_maps.specs.Map.{row_within}
+use Rattle.ppdb_maps.specs.Map.{row_image, row_within}
+use Rattle.ppdb_maps.specs.declared.image.RowImage.TheVariants.{Row}
 use Rattle.ppdb_values.specs.RawFile.{RawFile}
 use Rattle.ppdb_values.specs.Rules.{KeepsRules}
 use Rattle.ppdb_values.specs.Value.{value_of}
@@ -33,6 +34,7 @@ use Rattle.ppdb_merge.proofs.Adding.{added_sound}
 use Rattle.ppdb_merge.proofs.Counted.{can_be_joined}
 use Rattle.ppdb_merge.proofs.Given.{row_in_all}
 use Rattle.ppdb_merge.proofs.Imaged.{named_in_rows}
+use Rattle.ppdb_run.proofs.Images.{within_is}
 use Rattle.ppdb_run.specs.Inputs.{ReadInput, IsValidInput, AreAdded, moved_by}
 
 -- ---- inputs in turn
@@ -164,24 +166,24 @@ module _ (sounds : (raw : RawFile) → KeepsRules raw → IsSound (value_of raw)
   alone x fits = record { sound = sounds x.1.raw fits.valid.rules; ready = fits.valid.ready; fits = fits.clash.fits }
 
   abbrev Of : ℕ → ℕ → Imaged
-  Of method image = record { table = 0x06; row = method; image = image }
+  Of method image = record { table = 0x06; row = method; to = 0x06; image = image }
 
   stands : (x : Turn) → (Fitting marks) x → (method image : ℕ) → Contains (named_rows x.0 x.1.map (annotated_file (value_of x.1.raw))) (names 0x06 method)
       → row_within x.1.map 0x06 method ≡ Some image → Contains (trace_by x).rows (Of method image)
   stands x fits method image there is =
       row_in_all x.0 x.1.map x.1.raw (Of method image)
-      (in_each (λ n. (image : ℕ) → row_within x.1.map n.table n.row ≡ Some image
-      → Contains (imaged_rows x.0 x.1.map x.1.raw) (record { table = n.table; row = n.row; image = image }))
+      (in_each (λ n. (to image : ℕ) → row_image x.1.map n.table n.row ≡ Row to image
+      → Contains (imaged_rows x.0 x.1.map x.1.raw) (record { table = n.table; row = n.row; to = to; image = image }))
       (named_rows x.0 x.1.map (annotated_file (value_of x.1.raw))) (names 0x06 method)
-      (named_in_rows x.0 x.1.map x.1.raw named fits.valid.rules) there image is)
+      (named_in_rows x.0 x.1.map x.1.raw named fits.valid.rules) there 0x06 image (within_is x.1.map 0x06 method image is))
 
   apart : (a b : Turn) → (Fitting marks) a → (Fitting marks) b → AreMethodsApart (trace_by a) (trace_by b) → MethodsApart (input_by a) (input_by b)
   apart a b fits_a fits_b differ method other image names_a names_b is_a is_b =
-      let of_a = in_each (λ (i : Imaged). nat_eq i.table 0x06 ≡ true → Each (λ (j : Imaged). i.image ≢ j.image) (methods_in (trace_by b).rows))
+      let of_a = in_each (λ (i : Imaged). nat_eq i.to 0x06 ≡ true → Each (λ (j : Imaged). i.image ≢ j.image) (methods_in (trace_by b).rows))
       (trace_by a).rows (Of method image) (each_left (λ (i : Imaged). Each (λ (j : Imaged). i.image ≢ j.image) (methods_in (trace_by b).rows))
-      (λ i. nat_eq i.table 0x06) (trace_by a).rows differ) (stands a fits_a method image names_a is_a) refl in
-      in_each (λ (j : Imaged). nat_eq j.table 0x06 ≡ true → image ≢ j.image) (trace_by b).rows (Of other image)
-      (each_left (λ (j : Imaged). image ≢ j.image) (λ j. nat_eq j.table 0x06) (trace_by b).rows of_a) (stands b fits_b other image names_b is_b) refl refl
+      (λ i. nat_eq i.to 0x06) (trace_by a).rows differ) (stands a fits_a method image names_a is_a) refl in
+      in_each (λ (j : Imaged). nat_eq j.to 0x06 ≡ true → image ≢ j.image) (trace_by b).rows (Of other image)
+      (each_left (λ (j : Imaged). image ≢ j.image) (λ j. nat_eq j.to 0x06) (trace_by b).rows of_a) (stands b fits_b other image names_b is_b) refl refl
 
   all_apart : (xs : List Turn) → Each (Fitting marks) xs → Pairs AreMethodsApart (map trace_by xs) → Pairs (λ a b. MethodsApart (input_by a) (input_by b)) xs
   all_apart [] each pairs = tt

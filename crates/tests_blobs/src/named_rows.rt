@@ -1,7 +1,7 @@
 // The rows that written-out blobs name.
 use ppdb_heaps::Blobs;
 use type_blobs::TypeLimits;
-use type_blobs_rows::{ConstantTypes, ImportRows, PlacedRow, ResumeMethods, RowWalk};
+use type_blobs_rows::{ConstantTypes, ImportRows, ResumeMethods, RowWalk};
 
 /// The row counts of a file.
 const LIMITS: TypeLimits = TypeLimits {
@@ -13,13 +13,9 @@ const LIMITS: TypeLimits = TypeLimits {
 
 /// Whether a walk gives these bytes, tables and rows, and no more.
 fn gives<W: RowWalk>(walk: &mut W, rows: &[(u32, u8, u32)]) -> bool {
-    for (byte, table, row) in rows {
-        let wanted = PlacedRow {
-            byte: *byte,
-            table: *table,
-            row: *row,
-        };
-        if walk.next_row() != Some(wanted) {
+    for wanted in rows {
+        let found = walk.next_row();
+        if found.map(|row| (row.byte, row.table, row.row)) != Some(*wanted) {
             return false;
         }
     }

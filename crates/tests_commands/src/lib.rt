@@ -8,9 +8,13 @@ mod compose;
 #[cfg(test)]
 mod copies;
 #[cfg(test)]
+mod crossing;
+#[cfg(test)]
 mod every_kind;
 #[cfg(test)]
 mod files;
+#[cfg(test)]
+mod gone;
 #[cfg(test)]
 mod identity;
 #[cfg(test)]
@@ -34,6 +38,8 @@ mod query;
 mod rebuild_changed;
 #[cfg(test)]
 mod rebuilding;
+#[cfg(test)]
+mod row_cases;
 #[cfg(test)]
 mod rules;
 #[cfg(test)]

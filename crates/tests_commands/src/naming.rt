@@ -7,7 +7,7 @@ use std::alloc::Global;
 use std::test::Fail;
 
 /// Files by their names.
-const FILES: [(&str, Parts<'static>); 4] = [
+pub const FILES: [(&str, Parts<'static>); 4] = [
     // Documents a and b; points of method 1 at 0 and 4 in a and at 2 in b.
     (
         "V",

@@ -18,7 +18,7 @@ const LONG_NUMBER: Parts<'static> = Parts {
 };
 
 /// One record of an unknown kind, on the module.
-const UNKNOWN: Parts<'static> = Parts {
+pub const UNKNOWN: Parts<'static> = Parts {
     referenced: 0x01,
     referenced_rows: b"\x01\0\0\0",
     valid: 1 << 0x37,

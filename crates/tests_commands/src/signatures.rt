@@ -7,7 +7,7 @@ use std::alloc::Global;
 use std::test::Fail;
 
 /// Document s; methods 1, 2 and 3 with the signatures 1, 1 and 0 and a point each.
-const SHARED: Parts<'static> = Parts {
+pub const SHARED: Parts<'static> = Parts {
     referenced: 0x40 | 1 << 0x11,
     referenced_rows: b"\x03\0\0\0\x02\0\0\0",
     valid: 1 << 0x30 | 1 << 0x31,

@@ -14,7 +14,7 @@ fn compare(rt: &HostRuntime, first: &str, second: &str, want: &str) -> Result<()
     }
 }
 
-const WORKED: [(&str, &str, &str); 18] = [
+const WORKED: [(&str, &str, &str); 30] = [
     (
         "ppdbmap 1/method 1 9 12/run 0 0 1/run 5 6 4",
         "ppdbmap 1/method 1 12 12/run 0 0 8",
@@ -100,6 +100,62 @@ const WORKED: [(&str, &str, &str); 18] = [
         "ppdbmap 4/document a b/document b c",
         "ppdbmap 4/document b a",
         "ppdbmap 4/document a a/document b c/",
+    ),
+    (
+        "ppdbmap 4/method 1 4 4/run 0 0 4/document \\xff b/document ~ a/document \\- c/signature 2 1/slots 1/slot 1 0 0/drop 3/rows 1B 3/gone 1B 4/row 1B 3 3/row 1B 2 01 1",
+        "ppdbmap 1",
+        "ppdbmap 4/rows 1b 3/row 1b 2 01 1/row 1b 3 3/gone 1b 4/drop 3/slots 1/slot 1 0 0/signature 2 1/document \\- c/document ~ a/document \\xff b/method 1 4 4/run 0 0 4/",
+    ),
+    (
+        "ppdbmap 4/document a b/rows 23 1/row 23 1 20 1/link a/rows 01 0",
+        "ppdbmap 4/link b/shares",
+        "ppdbmap 4/shares/link b/rows 01 0/rows 23 1/row 23 1 20 1/document a b/",
+    ),
+    ("ppdbmap 4/shares", "ppdbmap 1", "ppdbmap 4/shares/"),
+    (
+        "ppdbmap 4/rows 23 1/row 23 1 20 1/row 23 2 1",
+        "ppdbmap 1/rows 20 2/row 20 1 2",
+        "ppdbmap 3/rows 20 2/row 20 1 2/rows 23 1/row 23 2 1/",
+    ),
+    (
+        "ppdbmap 4/rows 23 1/row 23 1 20 1",
+        "ppdbmap 4/rows 20 0/gone 20 1",
+        "ppdbmap 4/rows 20 0/gone 20 1/rows 23 1/gone 23 1/",
+    ),
+    (
+        "ppdbmap 4/rows 01 3/row 01 1 02 5/rows 02 9/row 02 1 1",
+        "ppdbmap 4/rows 02 9/row 02 5 01 2/row 02 1 1",
+        "ppdbmap 3/rows 01 3/row 01 1 2/rows 02 9/row 02 1 1/",
+    ),
+    (
+        "ppdbmap 4/rows 01 3/row 01 1 02 5/row 01 2 3",
+        "ppdbmap 4/rows 02 9/row 02 5 1b 2/gone 02 6",
+        "ppdbmap 4/rows 01 3/row 01 1 1b 2/row 01 2 3/rows 02 9/row 02 5 1b 2/gone 02 6/",
+    ),
+    (
+        "ppdbmap 4/rows 01 3/gone 01 1/row 01 2 2/row 01 3 02 3/row 01 4 4",
+        "ppdbmap 4/rows 01 1/row 01 1 1/gone 01 2/rows 02 1",
+        "ppdbmap 4/rows 01 1/gone 01 1/gone 01 2/rows 02 1/",
+    ),
+    (
+        "ppdbmap 4/rows 01 3/row 01 3 02 3",
+        "ppdbmap 4/rows 02 1/gone 02 3",
+        "ppdbmap 4/rows 01 3/gone 01 3/rows 02 1/gone 02 3/",
+    ),
+    (
+        "ppdbmap 4/signature 1 2",
+        "ppdbmap 4/rows 11 1/gone 11 2",
+        "ppdbmap 4/rows 11 1/gone 11 2/signature 1 0/",
+    ),
+    (
+        "ppdbmap 4/rows 06 2/row 06 1 2/row 06 2 1/rows 11 1/gone 11 1",
+        "ppdbmap 4/signature 2 1",
+        "ppdbmap 4/rows 06 2/row 06 1 2/row 06 2 1/rows 11 1/gone 11 1/signature 1 1/",
+    ),
+    (
+        "ppdbmap 1/rows 11 3/row 11 1 3",
+        "ppdbmap 4/rows 11 0/gone 11 3",
+        "ppdbmap 4/rows 11 0/gone 11 1/",
     ),
 ];
 

@@ -1,7 +1,7 @@
 // What maps say that are read of their texts, and at which line a text is refused.
 use crate::maps::read;
 use ppdb_base::OffsetImage;
-use ppdb_maps::{MapError, MapText, read_map};
+use ppdb_maps::{MapError, MapText, RowImage, read_map};
 use std::alloc::{AllocError, Global};
 use std::test::Fail;
 
@@ -18,7 +18,7 @@ fn refusal(alloc: Global, text: &str) -> Result<(u32, u8), Fail> {
 }
 
 /// Texts with a map, and texts that are refused at a line by a rule.
-const TEXTS: [(&str, u32, u8); 98] = [
+const TEXTS: [(&str, u32, u8); 126] = [
     ("", 1, 1),
     ("ppdbmap 1", 0, 0),
     ("ppdbmap 2\n", 0, 0),
@@ -141,6 +141,42 @@ const TEXTS: [(&str, u32, u8); 98] = [
     ("ppdbmap 4\nlink a\nrows 01 0\nlink a\n", 4, 4),
     ("ppdbmap 4\nmethod 1 9 9\ndocument a b\nrun 0 0 9\n", 4, 6),
     ("ppdbmap 4\nlink \\-\ndocument \\- \\xc3\\xa9\n", 0, 0),
+    ("ppdbmap 3\nrows 01 2\nrow 01 1 02 1\n", 3, 2),
+    ("ppdbmap 3\ngone 06 0\n", 2, 2),
+    ("ppdbmap 3\nshares\n", 2, 2),
+    ("ppdbmap 4\nshares 01\n", 2, 2),
+    ("ppdbmap 4\nrows 01 2\nrow 01 1\n", 3, 2),
+    ("ppdbmap 4\nrows 01 2\nrow 01 1 02 1 1\n", 3, 2),
+    ("ppdbmap 4\ngone 01 1 1\n", 2, 2),
+    ("ppdbmap 4\nrows 01 2\nrow 01 1 01 2\n", 3, 3),
+    ("ppdbmap 4\nrows 01 2\nrow 01 1 11 1\n", 3, 3),
+    ("ppdbmap 4\nrows 01 2\nrow 01 1 02 0\n", 3, 3),
+    ("ppdbmap 4\nrows 11 2\nrow 11 1 02 1\n", 3, 3),
+    ("ppdbmap 4\nrows 23 2\nrow 23 1 20 2\n", 3, 3),
+    ("ppdbmap 4\nrows 20 1\nrow 20 1 23 1\n", 3, 3),
+    ("ppdbmap 4\nrows 01 2\nrow 01 1 20 1\n", 3, 3),
+    ("ppdbmap 4\nrows 06 1\ngone 06 1\n", 3, 3),
+    ("ppdbmap 4\nrows 01 1\ngone 01 0\n", 3, 3),
+    ("ppdbmap 4\nrows 01 2\ngone 01 1\nrow 01 1 02 1\n", 4, 4),
+    ("ppdbmap 4\nrows 01 2\nrow 01 1 1\ngone 01 1\n", 4, 4),
+    ("ppdbmap 4\nrows 01 2\nrow 01 1 02 1\nrow 01 1 1\n", 4, 4),
+    ("ppdbmap 4\nlink a\nshares\nlink a\n", 4, 4),
+    ("ppdbmap 4\nshares\nlink a\nshares\n", 4, 4),
+    ("ppdbmap 4\nrows 23 2\ngone 23 1\nrow 23 1 20 1\n", 4, 4),
+    ("ppdbmap 4\nrows 20 1\nrow 23 1 20 1\n", 3, 5),
+    ("ppdbmap 4\nrows 02 2\nrow 01 1 02 1\n", 3, 5),
+    ("ppdbmap 4\ngone 11 1\n", 2, 5),
+    ("ppdbmap 4\nmethod 1 9 9\nshares\nrun 0 0 9\n", 4, 6),
+    (
+        "ppdbmap 4\nmethod 1 9 9\nrows 01 0\ngone 01 1\nrun 0 0 9\n",
+        5,
+        6,
+    ),
+    (
+        "ppdbmap 4\nrows 1B 1\nrow 1b 16777215 01 16777215\ngone 1b 1\nrows 23 0\nrow 23 2 20 1\nshares\n",
+        0,
+        0,
+    ),
 ];
 
 /// Which of these texts is not reported so, by its number.
@@ -329,6 +365,81 @@ fn answers_what_documents_say(rt: HostRuntime) -> Result<(), Fail> {
     assert!(rt; renames(&map, 0, b"/a", b"/b") && renames(&map, 1, b"/b", b"\\x y"));
     assert!(rt; map.document_line(2).is_none() && has_bytes(map.link(), b"a b"));
     assert!(rt; MapText::empty(rt.alloc()).link().is_none());
+    Ok(())
+}
+
+/// A map with rows that become rows of other tables, and rows that are gone.
+const CROSSED: &[u8] =
+    b"ppdbmap 4\nrows 01 4\nrow 01 3 1b 2\nrow 01 1 4\ngone 01 9\nrow 01 2 02 7\n\
+      gone 01 5\nrows 23 0\nrow 23 2 20 1\nshares\nrows 02 1\ngone 02 1\ndrop 3\n";
+
+/// Whether a map says of rows what those lines say.
+fn moves_those_rows(map: &MapText) -> bool {
+    use RowImage::{Gone, Missing, Row};
+
+    let within = map.row_image(0x01, 1)
+        == Row {
+            table: 0x01,
+            row: 4,
+        };
+    let crossed = map.row_image(0x01, 2)
+        == Row {
+            table: 0x02,
+            row: 7,
+        }
+        && map.row_image(0x01, 3)
+            == Row {
+                table: 0x1b,
+                row: 2,
+            }
+        && map.row_image(0x23, 2)
+            == Row {
+                table: 0x20,
+                row: 1,
+            };
+    let gone = map.row_image(0x01, 5) == Gone && map.row_image(0x02, 1) == Gone;
+    let missing = map.row_image(0x01, 4) == Missing && map.row_image(0x06, 3) == Missing;
+    let itself = map.row_image(0x20, 9)
+        == Row {
+            table: 0x20,
+            row: 9,
+        }
+        && map.row_image(0x30, 3)
+            == Row {
+                table: 0x30,
+                row: 3,
+            };
+    within && crossed && gone && missing && itself && map.shares()
+}
+
+/// Whether it has an answer of one table alone where the image is in that table.
+fn keeps_to_its_table(map: &MapText) -> bool {
+    let within = map.row(0x01, 1) == Some(4) && map.row(0x20, 9) == Some(9);
+    let elsewhere = map.row(0x01, 2).is_none() && map.row(0x23, 2).is_none();
+    within && elsewhere && map.row(0x01, 5).is_none() && map.moved_row(0x01, 2) == 0
+}
+
+/// Whether it lists those lines in order.
+fn lists_those_rows(map: &MapText) -> bool {
+    let rows = map.row_line(0x01, 0) == Some((1, 4)) && map.row_line(0x01, 1).is_none();
+    let crossed = map.cross_line(0x01, 0) == Some((2, 0x02, 7))
+        && map.cross_line(0x01, 1) == Some((3, 0x1b, 2))
+        && map.cross_line(0x01, 2).is_none()
+        && map.cross_line(0x23, 0) == Some((2, 0x20, 1));
+    let gone = map.gone_line(0x01, 0) == Some(5)
+        && map.gone_line(0x01, 1) == Some(9)
+        && map.gone_line(0x01, 2).is_none()
+        && map.gone_line(0x23, 0).is_none();
+    rows && crossed && gone
+}
+
+#[test]
+fn answers_what_rows_of_other_tables_say(rt: HostRuntime) -> Result<(), Fail> {
+    let map = read(rt.alloc(), CROSSED)?;
+    assert!(rt; moves_those_rows(&map));
+    assert!(rt; keeps_to_its_table(&map));
+    assert!(rt; lists_those_rows(&map));
+    assert!(rt; !MapText::empty(rt.alloc()).shares());
     Ok(())
 }
 

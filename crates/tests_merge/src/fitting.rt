@@ -1,7 +1,7 @@
 // Whether maps fit files that come first.
 ghost use Rattle.std.specs.Prelude.{◌≡◌, ◌<◌};
 
-use crate::files::{HALVES, HANDLED, RESUMED, UNKNOWN};
+use crate::files::{HALVES, HANDLED, IMPORTING, RESUMED, SIGNED, TYPED, UNKNOWN};
 use custom_info::Marks;
 use ppdb_base::{CounterPermit, List, MergeError, Place, Steps};
 use ppdb_maps::MapText;
@@ -122,6 +122,73 @@ fn rows_slots_and_kinds_that_do_not_fit_are_told(rt: HostRuntime) -> Result<(), 
     ];
     for (bytes, lines, error) in rows {
         is_told(&rt, bytes, lines, error)?;
+    }
+    Ok(())
+}
+
+/// A row of a constant's signature, or of a method's points, is named and has no image.
+fn unmapped(table: u8, row: u32, at: (u8, u32), byte: u32) -> MergeError {
+    let place = Place {
+        part: 5,
+        table: at.0,
+        row: at.1,
+        column: 1,
+        byte,
+    };
+    MergeError::Unmapped { table, row, place }
+}
+
+/// Rows 1 and 2 of the table become row 1 of one table.
+fn twice(table: u8) -> MergeError {
+    MergeError::ImageTwice {
+        table,
+        first: 1,
+        second: 2,
+        image: 1,
+    }
+}
+
+#[test]
+fn rows_of_other_tables_that_do_not_fit_are_told(rt: HostRuntime) -> Result<(), Fail> {
+    let modifier_goes = "ppdbmap 4/rows 01 2/row 01 2 2/rows 1b 0/gone 1b 1";
+    let one_spec = "ppdbmap 4/rows 02 2/row 02 1 1b 1/row 02 2 1b 1";
+    let one_type = "ppdbmap 4/rows 01 1/row 01 1 1/row 01 2 1";
+    let one_module = "ppdbmap 4/rows 23 0/row 23 1 20 1/row 23 2 20 1";
+    let signed = "ppdbmap 4/rows 11 1/signature 2 1";
+    let one_left = "ppdbmap 4/rows 02 1/row 02 1 1";
+    let rows: [(&[u8], &'static str, MergeError); 6] = [
+        (&SIGNED, signed, unmapped(0x11, 1, (0x31, 1), 0)),
+        (&TYPED, one_left, unmapped(0x02, 2, (0x34, 2), 5)),
+        (&TYPED, modifier_goes, unmapped(0x01, 1, (0x34, 1), 1)),
+        (&TYPED, one_spec, twice(0x02)),
+        (&TYPED, one_type, twice(0x01)),
+        (&IMPORTING, one_module, twice(0x23)),
+    ];
+    for (bytes, lines, error) in rows {
+        is_told(&rt, bytes, lines, error)?;
+    }
+    Ok(())
+}
+
+#[test]
+fn rows_that_go_share_or_change_their_table_fit(rt: HostRuntime) -> Result<(), Fail> {
+    let rows: [(&[u8], &'static str); 5] = [
+        (&TYPED, "ppdbmap 4/rows 01 1/gone 01 1/row 01 2 1"),
+        (&TYPED, "ppdbmap 4/rows 01 0/row 01 1 02 1/row 01 2 1b 1"),
+        (
+            &TYPED,
+            "ppdbmap 4/rows 02 0/row 02 1 1b 1/row 02 2 1b 1/shares",
+        ),
+        (
+            &IMPORTING,
+            "ppdbmap 4/shares/rows 23 0/row 23 1 20 1/row 23 2 20 1",
+        ),
+        (&SIGNED, "ppdbmap 4/rows 11 1/gone 11 1/signature 2 1"),
+    ];
+    for (bytes, lines) in rows {
+        if judged(&rt, bytes, lines)?.is_err() {
+            return Err(Fail::from(lines));
+        }
     }
     Ok(())
 }

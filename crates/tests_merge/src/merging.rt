@@ -1,7 +1,7 @@
 // Files that are merged.
 ghost use Rattle.std.specs.Prelude.{◌≡◌, ◌<◌, ◌+◌, length, IfOk, OnOk};
 
-use crate::files::{HALVES, MORE_RECORDS, OTHER_HALF, RECORDS};
+use crate::files::{HALVES, IMPORTING, MORE_RECORDS, OTHER_HALF, RECORDS, SIGNED, TYPED};
 use custom_info::{Marks, SOURCE_LINK, TYPE_DOCUMENTS};
 use ppdb_base::{CounterPermit, MergeError, Steps};
 use ppdb_maps::MapText;
@@ -208,6 +208,46 @@ fn row_counts_that_do_not_fit_are_told(rt: HostRuntime) -> Result<(), Fail> {
     let one = Input(&SMALL, "ppdbmap 1/rows 06 1/row 06 1 1");
     is_told(&rt, halves, more_types, differ)?;
     is_told(&rt, past_one, one, above)
+}
+
+/// One file is not written, for this reason.
+fn is_told_alone(rt: &HostRuntime, input: Input<'static>, error: MergeError) -> Result<(), Fail> {
+    let mut merger = Merger::new(rt.alloc(), Marks::new(rt.alloc()));
+    let told = match add(rt, &mut merger, input) {
+        Ok(Ok(())) => merger.finish().err(),
+        Ok(Err(told)) => Some(told),
+        Err(fail) => return Err(fail),
+    };
+    match told {
+        Some(told) if told == error => Ok(()),
+        _ => Err(Fail::from(input.1)),
+    }
+}
+
+/// The image of a row of the table is above the rows of the image's table.
+fn above(table: u8, row: u32, image: u32, rows: u32) -> MergeError {
+    MergeError::ImageRange {
+        input: 1,
+        table,
+        row,
+        image,
+        rows,
+    }
+}
+
+#[test]
+fn images_above_the_rows_of_their_tables_are_told(rt: HostRuntime) -> Result<(), Fail> {
+    let crossed = Input(&TYPED, "ppdbmap 4/rows 01 9/row 01 1 02 3/row 01 2 2");
+    let own = Input(
+        &IMPORTING,
+        "ppdbmap 4/rows 20 0/rows 23 1/row 23 1 20 1/row 23 2 1",
+    );
+    let signed = Input(&SIGNED, "ppdbmap 4/signature 2 3/signature 3 5");
+    let split = Input(&SIGNED, "ppdbmap 4/rows 11 1/signature 1 4/signature 2 3");
+    is_told_alone(&rt, crossed, above(0x01, 1, 3, 2))?;
+    is_told_alone(&rt, own, above(0x23, 1, 1, 0))?;
+    is_told_alone(&rt, signed, above(0x11, 0, 5, 2))?;
+    is_told_alone(&rt, split, above(0x11, 1, 3, 1))
 }
 
 /// The document is one, and the methods stand by their images.

@@ -1,6 +1,6 @@
 -- The types in the signature of a constant, a modifier or a body at a time.
 use Rattle.std.proofs.Common.{◌≡◌, ℕ, ◌+◌, ◌<◌, ◌≤◌, Bool, true, false, List, [], ◌∷◌, length, take, drop, zero, suc, Option, Some, None, Ok, Err, refl, sym}
-use Rattle.std.proofs.Common.{ap, ◌∙◌, arith, ◌⊎◌, inl, inr}
+use Rattle.std.proofs.Common.{ap, subst, ◌∙◌, arith, ◌⊎◌, inl, inr}
 use Rattle.std.specs.Prelude.{nat_lt, IfSome, ◌==◌}
 use Rattle.std.proofs.lemmas.Bool.{cases_lt}
 use Rattle.std.proofs.lemmas.Bool.Decides.{nat_tests}
@@ -18,9 +18,11 @@ use Rattle.type_blobs.specs.Types.{is_type, token_of}
 use Rattle.type_blobs.specs.Constants.{constants, form, allows, is_modifier, is_code, is_enumerable, is_general, is_primitive, is_string, size_of, after_code}
 use Rattle.type_blobs.proofs.Codes.{of_general, of_primitive, OfGeneral, OfPrimitive, enumerable_range, primitive_range}
 use Rattle.type_blobs_rows.specs.declared.row.PlacedRow.{PlacedRow}
-use Rattle.type_blobs_rows.specs.Rows.{type_at, constant_type, constant_types}
+use Rattle.type_blobs_rows.specs.declared.row.Role.{Role}
+use Rattle.type_blobs_rows.specs.declared.row.Role.TheVariants.{Modifier as ModifierRole}
+use Rattle.type_blobs_rows.specs.Rows.{type_at, type_role, constant_type, constant_types}
 use Rattle.type_blobs_rows.specs.Left.{types_left}
-use Rattle.type_blobs_rows.specs.Skips.{skip_of}
+use Rattle.type_blobs_rows.specs.Skips.{skip_of, body_role}
 use Rattle.type_blobs_rows.specs.Found.{Has, TypeIs, NextRowIs}
 use Rattle.type_blobs_rows.proofs.Items.{items_at, items-over, items-none, items-out, items-field, items-no_number, items-number}
 
@@ -67,8 +69,8 @@ module _ (limits : TypeLimits) (blob : List ℕ) where
   abbrev pub Byte_at : ℕ → ℕ → Type 0
   Byte_at at code = field_at byte (drop at blob) ≡ Ok (number code, 1)
 
-  abbrev pub IsType : ℕ → PlacedRow × ℕ → Type 0
-  IsType at found = Has (unsigned_at (drop at blob)) (is_type limits) (type_at at) at found
+  abbrev pub IsType : Role → ℕ → PlacedRow × ℕ → Type 0
+  IsType role at found = Has (unsigned_at (drop at blob)) (is_type limits) (type_at role at) at found
 
   -- ---- places
 
@@ -95,19 +97,20 @@ module _ (limits : TypeLimits) (blob : List ℕ) where
   code_other at code there h = items-out (constants limits) constant_type blob (cut_of []) at byte (number code) 1 refl there h
 
   -- a number that names a type, after a code
-  type_there : (code : Value) (others : List Value) (at : ℕ) (found : PlacedRow × ℕ) (h : IsType at found) → form (code ∷ others) ≡ Some unsigned
+  type_there : (code : Value) (others : List Value) (at : ℕ) (found : PlacedRow × ℕ) (h : IsType (type_role (code ∷ others)) at found)
+      → form (code ∷ others) ≡ Some unsigned
       → ((n : ℕ) → allows limits (code ∷ others) (number n) ≡ is_type limits n)
       → left (code ∷ others) at ≡ found.0
       ∷ items_at (constants limits) constant_type blob (with_value (constants limits) (cut_of (code ∷ others)) (number h.n)) found.1
   type_there code others at found h e same =
       items-number (constants limits) constant_type blob (cut_of (code ∷ others)) at unsigned (unsigned_at (drop at blob)) (is_type limits)
-      (type_at at) found h e refl same
+      (type_at (type_role (code ∷ others)) at) found h e refl same
       ∙ ap (λ (row : PlacedRow). row
       ∷ items_at (constants limits) constant_type blob (with_value (constants limits) (cut_of (code ∷ others)) (number h.n)) found.1) (sym h.meaning)
 
-  no_type_there : (code : Value) (others : List Value) (at : ℕ) → TypeIs limits blob at None → form (code ∷ others) ≡ Some unsigned
+  no_type_there : (code : Value) (others : List Value) (role : Role) (at : ℕ) → TypeIs limits blob role at None → form (code ∷ others) ≡ Some unsigned
       → ((n : ℕ) → allows limits (code ∷ others) (number n) ≡ is_type limits n) → left (code ∷ others) at ≡ []
-  no_type_there code others at none e same = items-no_number (constants limits) constant_type blob (cut_of (code ∷ others)) at unsigned
+  no_type_there code others role at none e same = items-no_number (constants limits) constant_type blob (cut_of (code ∷ others)) at unsigned
       (unsigned_at (drop at blob)) (is_type limits) e refl same none
 
   -- bytes after a code, which name nothing
@@ -120,6 +123,9 @@ module _ (limits : TypeLimits) (blob : List ℕ) where
   modifier_form : (code : ℕ) → is_modifier code ≡ true → after_code code ≡ Some unsigned
   modifier_form code h = rw h refl
 
+  modifier_role : (code : ℕ) → is_modifier code ≡ true → type_role (number code ∷ []) ≡ ModifierRole
+  modifier_role code h = rw h refl
+
   modifier_code : (code : ℕ) → is_modifier code ≡ true → is_code code ≡ true
   modifier_code code h = rw h refl
 
@@ -127,18 +133,19 @@ module _ (limits : TypeLimits) (blob : List ℕ) where
       → items_at (constants limits) constant_type blob (with_value (constants limits) (cut_of (number code ∷ [])) (number n)) at ≡ left [] at
   closes code n at h = rw h (any_before (record { required = code == 0x1f; target = token_of n } ∷ []) at)
 
-  pub modifier_next : (at code : ℕ) (r : Option (PlacedRow × ℕ)) → Byte_at at code → is_modifier code ≡ true → TypeIs limits blob (at + 1) r
+  pub modifier_next : (at code : ℕ) (r : Option (PlacedRow × ℕ)) → Byte_at at code → is_modifier code ≡ true → TypeIs limits blob ModifierRole (at + 1) r
       → IfSome r (λ x. x.1 ≤ length blob)
       → NextRowIs (types_left limits blob) (length blob) at r
   unfolding types_left
-  modifier_next at code (Some found) there h is within = (
-    code_taken at code there (modifier_code code h)
-        ∙ type_there (number code) [] (at + 1) found is (modifier_form code h) (λ n. refl)
-        ∙ ap (λ (rows : List PlacedRow). found.0 ∷ rows) (closes code is.n found.1 h),
-    within,
-  )
+  modifier_next at code (Some found) there h is within =
+      let named = subst (λ (role : Role). IsType role (at + 1) found) (sym (modifier_role code h)) is in (
+        code_taken at code there (modifier_code code h)
+            ∙ type_there (number code) [] (at + 1) found named (modifier_form code h) (λ n. refl)
+            ∙ ap (λ (rows : List PlacedRow). found.0 ∷ rows) (closes code named.n found.1 h),
+        within,
+      )
   modifier_next at code None there h is within =
-      code_taken at code there (modifier_code code h) ∙ no_type_there (number code) [] (at + 1) is (modifier_form code h) (λ n. refl)
+      code_taken at code there (modifier_code code h) ∙ no_type_there (number code) [] ModifierRole (at + 1) is (modifier_form code h) (λ n. refl)
 
   -- ---- bodies
 
@@ -154,6 +161,7 @@ module _ (limits : TypeLimits) (blob : List ℕ) where
   record Reached (code at place : ℕ) : Type 0 where
     others : List Value
     same : left [] at ≡ left (number code ∷ others) place
+    role_is : body_role code ≡ type_role (number code ∷ others)
     form_is : form (number code ∷ others) ≡ Some unsigned
     allowed : (n : ℕ) → allows limits (number code ∷ others) (number n) ≡ is_type limits n
     over : (n next : ℕ) → items_at (constants limits) constant_type blob (with_value (constants limits) (cut_of (number code ∷ others)) (number n)) next ≡ []
@@ -166,6 +174,7 @@ module _ (limits : TypeLimits) (blob : List ℕ) where
       record {
         others = [];
         same = code_taken at code there known.code_known;
+        role_is = rw (h, known.no_modifier) refl;
         form_is = known.after;
         allowed = λ n. refl;
         over = λ n next. rw known.no_modifier (general_over code n next known);
@@ -184,6 +193,7 @@ module _ (limits : TypeLimits) (blob : List ℕ) where
         same = code_taken at code there known.code_known
             ∙ octets_there code (at + 1) (fixed (size_of code)) (take (size_of code) bytes) (size_of code) known.after
             (fixed_there (size_of code) bytes some long) (rw known.no_string refl);
+        role_is = rw known.no_general refl;
         form_is = rw h refl;
         allowed = λ n. refl;
         over = λ n next. items-over (constants limits) constant_type blob (cut_of (number code ∷ octets (take (size_of code) bytes) ∷ number n ∷ [])) next refl;
@@ -191,13 +201,14 @@ module _ (limits : TypeLimits) (blob : List ℕ) where
 
   -- ---- the next type of a body
 
-  taken_at : (at code place : ℕ) (found : PlacedRow × ℕ) → Reached code at place → IsType place found → left [] at ≡ found.0 ∷ left [] (length blob)
+  taken_at : (at code place : ℕ) (found : PlacedRow × ℕ) → Reached code at place → IsType (body_role code) place found → left [] at ≡ found.0 ∷ left [] (length blob)
   taken_at at code place found r h =
-      r.same ∙ type_there (number code) r.others place found h r.form_is r.allowed
-      ∙ ap (λ (rows : List PlacedRow). found.0 ∷ rows) (r.over h.n found.1 ∙ sym (at_end (length blob) (omega arith)))
+      let named = subst (λ (role : Role). IsType role place found) r.role_is h in
+      r.same ∙ type_there (number code) r.others place found named r.form_is r.allowed
+      ∙ ap (λ (rows : List PlacedRow). found.0 ∷ rows) (r.over named.n found.1 ∙ sym (at_end (length blob) (omega arith)))
 
-  none_at : (at code place : ℕ) → Reached code at place → TypeIs limits blob place None → left [] at ≡ []
-  none_at at code place r none = r.same ∙ no_type_there (number code) r.others place none r.form_is r.allowed
+  none_at : (at code place : ℕ) → Reached code at place → TypeIs limits blob (body_role code) place None → left [] at ≡ []
+  none_at at code place r none = r.same ∙ no_type_there (number code) r.others (body_role code) place none r.form_is r.allowed
 
   reached : (at code skip : ℕ) → Byte_at at code → skip_of code ≡ Some skip → at + 1 + skip ≤ length blob → Reached code at (at + 1 + skip)
   reached at code skip there h within = by_kind (is_enumerable code) (is_general code) refl refl
@@ -213,12 +224,12 @@ module _ (limits : TypeLimits) (blob : List ℕ) where
       by_kind false false e g = let s : ◌≡◌ {A = Option ℕ} None (Some skip) = rw (e, g) at h in absurd cc
 
   pub body_taken : (at code skip : ℕ) (found : PlacedRow × ℕ) → Byte_at at code → skip_of code ≡ Some skip → at + 1 + skip ≤ length blob
-      → IsType (at + 1 + skip) found
+      → IsType (body_role code) (at + 1 + skip) found
       → types_left limits blob at ≡ found.0 ∷ types_left limits blob (length blob)
   unfolding types_left
   body_taken at code skip found there h within is = taken_at at code (at + 1 + skip) found (reached at code skip there h within) is
 
-  pub body_untyped : (at code skip : ℕ) → Byte_at at code → skip_of code ≡ Some skip → at + 1 + skip ≤ length blob → TypeIs limits blob (at + 1 + skip) None
+  pub body_untyped : (at code skip : ℕ) → Byte_at at code → skip_of code ≡ Some skip → at + 1 + skip ≤ length blob → TypeIs limits blob (body_role code) (at + 1 + skip) None
       → types_left limits blob at ≡ []
   unfolding types_left
   body_untyped at code skip there h within none = none_at at code (at + 1 + skip) (reached at code skip there h within) none

@@ -4,7 +4,7 @@ use Rattle.cli_ints.specs.declared.IntFault.{IntFault}
 use Rattle.blob_grammar.specs.{Allowed.is_row, Reader.{unsigned_at, word_at}}
 use Rattle.type_blobs.specs.{declared.types.TypeLimits.TypeLimits, Types.is_type}
 use Rattle.custom_info.specs.Fields.{is_offset}
-use Rattle.type_blobs_rows.specs.{declared.row.PlacedRow.PlacedRow, Rows.{type_at, method_at}}
+use Rattle.type_blobs_rows.specs.{declared.row.{PlacedRow.PlacedRow, Role.Role}, Rows.{type_at, method_at}}
 
 -- A number was read that passes the test: what it means, and the place after it.
 pub record Has {X : Type 0} (read : Result (ℕ × ℕ) IntFault) (test : ℕ → Bool) (means : ℕ → X) (at : ℕ) (found : X × ℕ) : Type 0 where
@@ -21,8 +21,8 @@ FieldIs read test means at (Some found) = Has read test means at found
 FieldIs read test means at None = (n len : ℕ) → read ≡ Ok (n, len) → test n ≡ false
 
 -- a type that is there, an IL offset, and a method that is there
-abbrev pub TypeIs : TypeLimits → List ℕ → ℕ → Option (PlacedRow × ℕ) → Type 0
-TypeIs limits blob at found = FieldIs (unsigned_at (drop at blob)) (is_type limits) (type_at at) at found
+abbrev pub TypeIs : TypeLimits → List ℕ → Role → ℕ → Option (PlacedRow × ℕ) → Type 0
+TypeIs limits blob role at found = FieldIs (unsigned_at (drop at blob)) (is_type limits) (type_at role at) at found
 
 abbrev pub OffsetIs : List ℕ → ℕ → Option (ℕ × ℕ) → Type 0
 OffsetIs blob at found = FieldIs (word_at (drop at blob)) is_offset (λ n. n) at found

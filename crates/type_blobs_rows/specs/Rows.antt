@@ -1,21 +1,26 @@
 -- The rows of the type system that blobs name, each at its byte (Portable PDB v1.0, "LocalConstantSig Blob", "Imports Blob" and
 -- "Async Method Stepping Information"). What a blob names are the fields of its longest valid prefix.
-use Rattle.std.specs.Prelude.{ℕ, ◌/◌, ◌%◌, List, [], ◌∷◌, Option, flat_map}
+use Rattle.std.specs.Prelude.{ℕ, ◌/◌, ◌%◌, nat_eq, cond, List, [], ◌∷◌, Option, Some, flat_map}
 use Rattle.blob_grammar.specs.{Grammar.{Value, number}, Places.{PlacedField, placed_of}, Reader.prefix_of}
-use Rattle.type_blobs.specs.{declared.types.TypeLimits.TypeLimits, declared.import_part.{ImportField.ImportField, ImportPart.{ImportPart, TheVariants.{Assembly, Target}}}, Types.table_of}
-use Rattle.type_blobs.specs.{Constants.constants, Imports.import_fields}
+use Rattle.type_blobs.specs.{declared.types.TypeLimits.TypeLimits, declared.import_part.ImportPart.{ImportPart, TheVariants.{Assembly, Target}}, Types.table_of}
+use Rattle.type_blobs.specs.{Constants.{constants, is_modifier}, Imports.{imports, next_part}}
 use Rattle.custom_info.specs.AsyncStepping.{async_stepping}
-use Rattle.type_blobs_rows.specs.declared.row.PlacedRow.{PlacedRow}
+use Rattle.type_blobs_rows.specs.declared.row.{PlacedRow.PlacedRow, Role.{Role, TheVariants.{Modifier, Enumeration, Class, ImportedAssembly, AliasedAssembly, ImportedType, ResumeMethod}}}
 
 -- the type that a number names (ECMA-335 II.23.2.8)
-abbrev pub type_at : ℕ → ℕ → PlacedRow
-type_at byte n = record { byte = byte; table = table_of (n % 4); row = n / 4 }
+abbrev pub type_at : Role → ℕ → ℕ → PlacedRow
+type_at role byte n = record { byte = byte; table = table_of (n % 4); row = n / 4; role = role }
 
 -- ---- constants
 
--- A number after a code is a type: that of a modifier, of an enumeration, or of a class or value type.
+-- The type right after a code is that of a modifier, or a class or value type; the type after a code and a value is an enumeration.
+abbrev pub type_role : List Value → Role
+type_role (number code ∷ []) = cond (is_modifier code) Modifier Class
+type_role before = Enumeration
+
+-- A number after a code is a type.
 abbrev pub type_behind : List Value → ℕ → Value → List PlacedRow
-type_behind (code ∷ others) byte (number n) = type_at byte n ∷ []
+type_behind (code ∷ others) byte (number n) = type_at (type_role (code ∷ others)) byte n ∷ []
 type_behind before byte value = []
 
 abbrev pub constant_type : PlacedField → List PlacedRow
@@ -26,22 +31,31 @@ constant_types limits blob = flat_map constant_type (placed_of (constants limits
 
 -- ---- imports
 
--- A row of AssemblyRef, or a type.
-abbrev pub row_of : ImportPart → ℕ → ℕ → List PlacedRow
-row_of Assembly byte n = record { byte = byte; table = 0x23; row = n } ∷ []
-row_of Target byte n = type_at byte n ∷ []
-row_of part byte n = []
+-- An import of kind 6 gives its assembly an alias; those of the kinds 2 and 8 are of a namespace of it.
+abbrev pub assembly_role : ℕ → Role
+assembly_role kind = cond (nat_eq kind 6) AliasedAssembly ImportedAssembly
 
-abbrev pub import_row : ImportField → List PlacedRow
-import_row field = row_of field.part field.byte field.number
+-- In an import of a kind: a row of AssemblyRef, or a type.
+abbrev pub row_of : ℕ → ImportPart → ℕ → ℕ → List PlacedRow
+row_of kind Assembly byte n = record { byte = byte; table = 0x23; row = n; role = assembly_role kind } ∷ []
+row_of kind Target byte n = type_at ImportedType byte n ∷ []
+row_of kind part byte n = []
+
+-- A number after the kind of an import, by the part that comes there.
+abbrev pub row_behind : List Value → Option ImportPart → ℕ → Value → List PlacedRow
+row_behind (number kind ∷ fields) (Some part) byte (number n) = row_of kind part byte n
+row_behind before part byte value = []
+
+abbrev pub import_row : PlacedField → List PlacedRow
+import_row field = row_behind field.before (next_part field.before) field.byte field.value
 
 abbrev pub import_rows : TypeLimits → (ℕ → Option (List ℕ)) → List ℕ → List PlacedRow
-import_rows limits heap blob = flat_map import_row (import_fields limits heap blob)
+import_rows limits heap blob = flat_map import_row (placed_of (imports limits heap) (prefix_of (imports limits heap) blob))
 
 -- ---- async stepping information
 
 abbrev pub method_at : ℕ → ℕ → PlacedRow
-method_at byte n = record { byte = byte; table = 0x06; row = n }
+method_at byte n = record { byte = byte; table = 0x06; row = n; role = ResumeMethod }
 
 -- A number after two offsets is the method that resumes.
 abbrev pub method_behind : List Value → ℕ → Value → List PlacedRow

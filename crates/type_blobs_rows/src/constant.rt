@@ -6,9 +6,9 @@ ghost use Rattle.type_blobs.specs.Constants.{is_modifier};
 ghost use Rattle.type_blobs_rows.specs.Found.{NextRowIs};
 ghost use Rattle.type_blobs_rows.specs.Left.{types_left};
 ghost use Rattle.type_blobs_rows.specs.Rows.{constant_types};
-ghost use Rattle.type_blobs_rows.specs.Skips.{skip_of};
+ghost use Rattle.type_blobs_rows.specs.Skips.{body_role, skip_of};
 
-use crate::row::PlacedRow;
+use crate::row::{PlacedRow, Role};
 use crate::types::type_field;
 use crate::walk::RowWalk;
 use blob_grammar::byte_field;
@@ -37,6 +37,16 @@ fn skip_of(code: u8) -> Option<usize>
     }
 }
 
+/// As what a body names its type, by its code.
+fn body_role(code: u8) -> Role
+    ensures { result ≡ body_role code }
+{
+    match code {
+        0x11 | 0x12 => Role::Class,
+        _ => Role::Enumeration,
+    }
+}
+
 /// The type of the body whose code stands at a place, and the blob's end; None where the body has no type.
 fn body_type(blob: &[u8], limits: TypeLimits, code: u8, at: usize) -> Option<(PlacedRow, usize)>
     requires code { IsThere byte blob.now at (number code) 1 }
@@ -51,7 +61,7 @@ fn body_type(blob: &[u8], limits: TypeLimits, code: u8, at: usize) -> Option<(Pl
     if place > blob.len() {
         return None;
     }
-    let Some((row, _)) = type_field(blob, limits, place) else {
+    let Some((row, _)) = type_field(blob, limits, body_role(code), place) else {
         return None;
     };
     Some((row, blob.len()))
@@ -67,7 +77,7 @@ fn next_type(blob: &[u8], limits: TypeLimits, at: usize) -> Option<(PlacedRow, u
         return None;
     };
     if is_modifier(code) {
-        return type_field(blob, limits, at + 1);
+        return type_field(blob, limits, Role::Modifier, at + 1);
     }
     body_type(blob, limits, code, at)
 }

@@ -2,26 +2,48 @@
 ghost use Rattle.std.specs.Prelude.{◌≡◌, ◌<◌, ◌^◌, length, option_to_list};
 ghost use Rattle.ppdb_heaps.specs.Heaps.{blob_at};
 ghost use Rattle.ppdb_heaps.specs.Views.{blobs_of};
-ghost use Rattle.type_blobs_rows.specs.Rows.{import_row, import_rows};
+ghost use Rattle.type_blobs_rows.specs.Left.{kind_after};
+ghost use Rattle.type_blobs_rows.specs.Rows.{assembly_role, import_rows, row_of};
 
-use crate::row::PlacedRow;
+use crate::row::{PlacedRow, Role};
 use crate::types::placed_type;
 use crate::walk::RowWalk;
 use ppdb_heaps::Blobs;
 use std::marker::Model;
 use type_blobs::{ImportField, ImportFields, ImportPart, TypeLimits};
 
-/// The row that a field of an import names, if it names one.
-fn row_of(field: ImportField) -> Option<PlacedRow>
-    ensures { option_to_list result ≡ import_row field }
+/// The kind of the import that has begun, after a field.
+fn kind_after(kind: u32, field: ImportField) -> u32
+    ensures { result ≡ kind_after kind field }
+{
+    match field.part {
+        ImportPart::Kind => field.number,
+        _ => kind,
+    }
+}
+
+/// As what an import of a kind names its assembly.
+fn assembly_role(kind: u32) -> Role
+    ensures { result ≡ assembly_role kind }
+{
+    match kind {
+        6 => Role::AliasedAssembly,
+        _ => Role::ImportedAssembly,
+    }
+}
+
+/// The row that a field of an import of a kind names, if it names one.
+fn row_of(kind: u32, field: ImportField) -> Option<PlacedRow>
+    ensures { option_to_list result ≡ row_of kind field.part field.byte field.number }
 {
     match field.part {
         ImportPart::Assembly => Some(PlacedRow {
             byte: field.byte,
             table: 0x23,
             row: field.number,
+            role: assembly_role(kind),
         }),
-        ImportPart::Target => Some(placed_type(field.byte, field.number)),
+        ImportPart::Target => { Some(placed_type(Role::ImportedType, field.byte, field.number)) },
         ImportPart::Kind | ImportPart::Alias | ImportPart::Namespace => None,
     }
 }
@@ -30,17 +52,18 @@ fn row_of(field: ImportField) -> Option<PlacedRow>
 #[derive(Drop)]
 pub struct ImportRows<'a> {
     fields: ImportFields<'a>,
+    /// The kind of the import that has begun.
+    kind: u32,
 }
 
 impl<'a> Model for ImportRows<'a> {
     ghost use Rattle.std.specs.Prelude.{List};
-    ghost use Rattle.std.specs.List.{flat_map};
-    ghost use Rattle.type_blobs_rows.specs.Rows.{import_row};
+    ghost use Rattle.type_blobs_rows.specs.Left.{imported_left};
     ghost use Rattle.type_blobs_rows.specs.declared.row.PlacedRow.{PlacedRow};
 
     ghost Value = { List PlacedRow };
 
-    ghost view = { λ s. flat_map import_row s.fields.items };
+    ghost view = { λ s. imported_left s.kind s.fields.items };
 }
 
 impl<'a> ImportRows<'a> {
@@ -51,6 +74,7 @@ impl<'a> ImportRows<'a> {
     {
         ImportRows {
             fields: ImportFields::new(blob, blobs, limits),
+            kind: 0,
         }
     }
 }
@@ -60,7 +84,8 @@ impl<'a> RowWalk for ImportRows<'a> {
 
     fn next_row(&mut self) -> Option<PlacedRow> {
         'fields: while let Ok(Some(field)) = self.fields.next() {
-            if let Some(row) = row_of(field) {
+            self.kind = kind_after(self.kind, field);
+            if let Some(row) = row_of(self.kind, field) {
                 return Some(row);
             }
         }

@@ -13,6 +13,6 @@ mod walk;
 pub use constant::ConstantTypes;
 pub use import::ImportRows;
 pub use laws::named_rows_are;
-pub use row::PlacedRow;
+pub use row::{PlacedRow, Role};
 pub use stepping::ResumeMethods;
 pub use walk::RowWalk;

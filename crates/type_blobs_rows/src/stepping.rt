@@ -5,7 +5,7 @@ ghost use Rattle.type_blobs_rows.specs.Left.{methods_left};
 ghost use Rattle.type_blobs_rows.specs.Rows.{resume_methods};
 ghost use Rattle.type_blobs_rows.specs.Handlers.{HandlerIs};
 
-use crate::row::PlacedRow;
+use crate::row::{PlacedRow, Role};
 use crate::walk::RowWalk;
 use blob_grammar::{unsigned_field, word_field};
 use std::marker::Model;
@@ -61,6 +61,7 @@ fn method_field(blob: &[u8], methods: u32, at: usize) -> Option<(PlacedRow, usiz
         byte: at as u32,
         table: 0x06,
         row,
+        role: Role::ResumeMethod,
     };
     Some((method, at + len))
 }

@@ -5,7 +5,7 @@ ghost use Rattle.type_blobs.specs.Types.{is_type};
 ghost use Rattle.type_blobs_rows.specs.Rows.{type_at};
 ghost use Rattle.type_blobs_rows.specs.Found.{TypeIs};
 
-use crate::row::PlacedRow;
+use crate::row::{PlacedRow, Role};
 use blob_grammar::unsigned_field;
 use type_blobs::TypeLimits;
 
@@ -30,8 +30,8 @@ fn is_type(limits: TypeLimits, number: u32) -> bool
 }
 
 /// The type that a number names at a byte.
-pub(crate) fn placed_type(byte: u32, number: u32) -> PlacedRow
-    ensures { result ≡ type_at byte number }
+pub(crate) fn placed_type(role: Role, byte: u32, number: u32) -> PlacedRow
+    ensures { result ≡ type_at role byte number }
 {
     let table = match number % 4 {
         0 => 0x02,
@@ -42,14 +42,20 @@ pub(crate) fn placed_type(byte: u32, number: u32) -> PlacedRow
         byte,
         table,
         row: number / 4,
+        role,
     }
 }
 
 /// The type at a place of a blob, and the place after it; None where no type that is there is named.
-pub(crate) fn type_field(blob: &[u8], limits: TypeLimits, at: usize) -> Option<(PlacedRow, usize)>
+pub(crate) fn type_field(
+    blob: &[u8],
+    limits: TypeLimits,
+    role: Role,
+    at: usize,
+) -> Option<(PlacedRow, usize)>
     requires within { at ≤ length blob.now }
     requires short { length blob.now < 2 ^ 32 }
-    ensures found { TypeIs limits blob.now at result }
+    ensures found { TypeIs limits blob.now role at result }
     ensures within { IfSome result (λ x. x.1 ≤ length blob.now) }
 {
     let Ok((number, len)) = unsigned_field(blob, at) else {
@@ -58,5 +64,5 @@ pub(crate) fn type_field(blob: &[u8], limits: TypeLimits, at: usize) -> Option<(
     if !is_type(limits, number) {
         return None;
     }
-    Some((placed_type(at as u32, number), at + len))
+    Some((placed_type(role, at as u32, number), at + len))
 }

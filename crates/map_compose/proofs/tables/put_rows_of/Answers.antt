@@ -1,34 +1,27 @@
-use Rattle.std.proofs.Common.{arith, sym, length, ◌<◌, ◌≤◌}
-use Rattle.map_compose.specs.Says.{sources_of}
-use Rattle.map_compose.proofs.Bounds.{few_sources}
-use Rattle.map_compose.proofs.Making.{row_within, rows_next, rows_done}
-use Rattle.map_compose.proofs.Putting.{says_none}
+use Rattle.std.proofs.Common.{arith, ap, length, sym, subst, ◌∙◌}
+use Rattle.ppdb_maps_text.specs.MapTexts.{olds_of, image_says}
+use Rattle.map_compose.specs.Composed.{composed_image}
+use Rattle.map_compose.specs.Says.{images_say, rows_say, PutsLines}
+use Rattle.map_compose.proofs.Crossing.{sources_are}
+use Rattle.map_compose.proofs.Putting.{PutSome, some_none, some_next, some_all}
 use Rattle.map_compose.proofs.tables.put_rows_of.Goals as goal
 
 pub rows-init : goal.rows-init
-rows-init c = record { within = omega arith; puts = says_none c.args.text.now }
-
-pub overflow_add-index : goal.overflow_add-index
-overflow_add-index c =
-    let inside : c.rows.index < length (sources_of c.args.first.now c.args.second.now c.args.table) = row_within _ _ _ (sym c.in-Some.ensures) in
-    let most : length (sources_of c.args.first.now c.args.second.now c.args.table) ≤ 16777216 = few_sources _ _ _ c.keeps.ensures c.keeps-2.ensures in
-    omega arith
-
-pub rows-smaller : goal.rows-smaller
-rows-smaller c =
-    let inside : c.rows.index < length (sources_of c.args.first.now c.args.second.now c.args.table) = row_within _ _ _ (sym c.in-Some.ensures) in
-    omega arith
+rows-init c =
+    subst (λ os. PutSome c.args.text.now c.args.text.now (rows_say c.args.first.now c.args.second.now c.args.table)
+    (images_say c.args.first.now c.args.second.now c.args.table os))
+    (sources_are c.args.first.now c.args.second.now c.args.table c.requires
+    ∙ sym (ap (λ m. olds_of m c.args.table) c.source-lines.ensures))
+    (some_none c.args.text.now (rows_say c.args.first.now c.args.second.now c.args.table))
 
 pub rows-preserved : goal.rows-preserved
 rows-preserved c =
-    let inside : c.rows.index < length (sources_of c.args.first.now c.args.second.now c.args.table) = row_within _ _ _ (sym c.in-Some.ensures) in
-    record {
-      within = omega arith;
-      puts = rows_next c.args.first.now c.args.second.now c.args.table
-          (sources_of c.args.first.now c.args.second.now c.args.table) c.rows.index c.in-Some.old _ _ _
-          (sym c.in-Some.ensures) c.rows.invariant.puts c.in_ok-put_image.ensures;
-    }
+    some_next _ _ _ _ _ _ (image_says c.args.table c.in-Some.old (composed_image c.args.first.now c.args.second.now c.args.table c.in-Some.old))
+    (ap (images_say c.args.first.now c.args.second.now c.args.table) c.in-Some.ensures) c.rows.invariant
+    (subst (λ i. PutsLines c.rows.text c.put_image.new.text (image_says c.args.table c.in-Some.old i)) c.image_by_both-image.ensures c.in_ok-put_image.ensures)
+
+pub rows-smaller : goal.rows-smaller
+rows-smaller c = let e = ap length c.in-Some.ensures in omega (arith, e)
 
 pub returns : goal.returns
-returns c = rows_done c.args.first.now c.args.second.now c.args.table (sources_of c.args.first.now c.args.second.now c.args.table) c.rows.index _ _
-    (sym c.in_default.ensures) c.rows.invariant.puts
+returns c = some_all _ _ _ _ (ap (images_say c.args.first.now c.args.second.now c.args.table) c.in_default.ensures) c.rows.invariant

@@ -1,15 +1,12 @@
-use Rattle.std.proofs.Common.{map, take, length, ◌≤◌, ◌-◌}
-use Rattle.std.specs.List.{filter_map}
-use Rattle.ppdb_maps_text.specs.MapTexts.{row_says}
-use Rattle.map_compose.specs.Composed.{row_entry}
-use Rattle.map_compose.specs.Says.{PutsLines, sources_of}
+use Rattle.std.proofs.Common.{length}
+use Rattle.map_compose.specs.Parts.{olds_left}
+use Rattle.map_compose.specs.Says.{images_say, rows_say}
+use Rattle.map_compose.proofs.Putting.{PutSome}
 use Rattle.map_compose.proofs.tables.put_rows_of.Given as goal
 
 abbrev pub invariant-rows : goal.invariant-rows
-invariant-rows l = record {
-  within : l.index ≤ length (sources_of l.first l.second l.table);
-  puts : PutsLines l.fn.text l.text (map row_says (filter_map (row_entry l.first l.second l.table) (take l.index (sources_of l.first l.second l.table))));
-}
+invariant-rows l =
+    PutSome l.fn.text l.text (rows_say l.first l.second l.table) (images_say l.first l.second l.table (olds_left l.lines l.table l.passed))
 
 abbrev pub decreases-rows : goal.decreases-rows
-decreases-rows l = length (sources_of l.first l.second l.table) - l.index
+decreases-rows l = length (olds_left l.lines l.table l.passed)

@@ -1,4 +1,4 @@
-use Rattle.std.proofs.Common.{◌≡◌, ◌+◌, ◌-◌, ◌∷◌, ◌++◌, [], None, ℕ, map, refl, sym, ap, subst, ◌∙◌, arith}
+use Rattle.std.proofs.Common.{◌≡◌, ◌+◌, ◌-◌, ◌∷◌, ◌++◌, [], None, false, ℕ, map, refl, sym, ap, subst, ◌∙◌, arith}
 use Rattle.std.specs.List.{range_with_len}
 use Rattle.std.proofs.lemmas.List.FromFn.{map-range_with_len_more}
 use Rattle.ppdb_maps.specs.declared.entries.Count.{Count}
@@ -27,10 +27,11 @@ new-requires c =
     let end : c.loop-before.before ≡ n = omega arith in
     let one : Count = record { table = 0x06; rows = n } in
     subst IsReadable
-    (sym (sample_of n c.push.new.self.items c.loop-before.rows.items c.loop-before.methods.items c.new-drops.result.items c.new-slotted.result.items
-    c.new-slots.result.items c.new-signatures.result.items c.new-documents.result.items None
+    (sym (sample_of n c.push.new.self.items c.loop-before.rows.items c.new-crossed.result.items c.new-gone.result.items
+    c.loop-before.methods.items c.new-drops.result.items c.new-slotted.result.items
+    c.new-slots.result.items c.new-signatures.result.items c.new-documents.result.items None false
     (c.in_ok-push.ensures.items ∙ ap (λ xs. xs ++ one ∷ []) c.new-counts.ensures.items) (c.loop-before.invariant.rows
-    ∙ ap (λ k. map (sample_row n) (range_with_len 1 k)) end)
+    ∙ ap (λ k. map (sample_row n) (range_with_len 1 k)) end) c.new-crossed.ensures.items c.new-gone.ensures.items
     (c.loop-before.invariant.methods ∙ ap (λ k. map sample_method (range_with_len 1 k)) end) c.new-drops.ensures.items c.new-slotted.ensures.items
-    c.new-slots.ensures.items c.new-signatures.ensures.items c.new-documents.ensures.items refl))
+    c.new-slots.ensures.items c.new-signatures.ensures.items c.new-documents.ensures.items refl refl))
     (sample_readable n c.requires)

@@ -15,7 +15,9 @@ returns c = record {
   no_record = refl;
   another_module = refl;
   its_module = refl;
+  module_gone = refl;
   counts = refl;
   above = refl;
+  other_table = refl;
   joins = refl;
 }

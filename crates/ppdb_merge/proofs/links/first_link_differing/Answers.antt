@@ -1,6 +1,5 @@
 use Rattle.std.proofs.Common.{Some, true, false, sym, ap, ◌∙◌}
 use Rattle.std.specs.Option.{option_copied}
-use Rattle.ppdb_merge.specs.Refusals.{has_other_link}
 use Rattle.ppdb_merge.proofs.Linked.{told_of, no_record, without_line}
 use Rattle.ppdb_merge.proofs.links.first_link_differing.Goals as goal
 
@@ -15,18 +14,14 @@ returns-in_err-row c =
     ∙ sym (no_record c.args.traces.now c.args.map.now c.in_ok-value.value.now c.args.customs.now (sym c.link.ensures ∙ ap option_copied c.in_ok-value.was)
     (sym c.first_link.ensures ∙ c.in_err-row.was))
 
-pub returns-then-has_other_link : goal.returns-then-has_other_link
-returns-then-has_other_link c =
+pub returns-then-says_other_before : goal.returns-then-says_other_before
+returns-then-says_other_before c =
     sym (told_of c.args.traces.now c.args.map.now c.in_ok-value.value.now c.args.customs.now true (Some c.in_ok-row.row)
-    (sym c.link.ensures ∙ ap option_copied c.in_ok-value.was)
-    (ap (λ r. has_other_link c.args.traces.now r c.in_ok-value.value.now) (sym c.moved_row.ensures) ∙ sym c.has_other_link.ensures
-    ∙ c.if-has_other_link.true)
+    (sym c.link.ensures ∙ ap option_copied c.in_ok-value.was) (sym c.says_other_before.ensures ∙ c.if-says_other_before.true)
     (sym c.in_ok-row.was ∙ c.first_link.ensures))
 
 pub returns : goal.returns
 returns c =
     sym (told_of c.args.traces.now c.args.map.now c.in_ok-value.value.now c.args.customs.now false (Some c.in_ok-row.row)
-    (sym c.link.ensures ∙ ap option_copied c.in_ok-value.was)
-    (ap (λ r. has_other_link c.args.traces.now r c.in_ok-value.value.now) (sym c.moved_row.ensures) ∙ sym c.has_other_link.ensures
-    ∙ c.if-has_other_link.false)
+    (sym c.link.ensures ∙ ap option_copied c.in_ok-value.was) (sym c.says_other_before.ensures ∙ c.if-says_other_before.false)
     (sym c.in_ok-row.was ∙ c.first_link.ensures))

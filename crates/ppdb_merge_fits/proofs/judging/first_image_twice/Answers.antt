@@ -1,10 +1,7 @@
 use Rattle.std.proofs.Common.{sym, ap, slice_get}
-use Rattle.ppdb_merge_names.specs.declared.imaged.Imaged.{Imaged}
-use Rattle.ppdb_merge_fits.specs.Rows.{image_twice}
-use Rattle.ppdb_merge_fits.proofs.Kept.{none_twice}
+use Rattle.ppdb_merge_fits.proofs.Kept.{none_where_all_stay}
 use Rattle.ppdb_merge_fits.proofs.judging.first_image_twice.Goals as goal
 
-pub returns-then-all_keep_numbers : goal.returns-then-all_keep_numbers
-returns-then-all_keep_numbers c =
-    sym (ap (λ l. slice_get l 0) (none_twice (λ (i : Imaged). i.table) (λ i. i.row) (λ i. i.image) image_twice c.args.rows.now
-    (c.all_keep_numbers.ensures.0 c.if-all_keep_numbers.true)))
+pub returns-then-all_stay : goal.returns-then-all_stay
+returns-then-all_stay c =
+    sym (ap (λ l. slice_get l 0) (none_where_all_stay c.args.map.now c.args.rows.now (c.all_stay.ensures.0 c.if-all_stay.true)))

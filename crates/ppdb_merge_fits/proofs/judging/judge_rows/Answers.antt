@@ -2,8 +2,8 @@ use Rattle.std.proofs.Common.{◌∙◌, ap, slice_get}
 use Rattle.std.proofs.lemmas.Result.{err_from_is_err_and}
 use Rattle.ppdb_verify.specs.Views.{raw_file}
 use Rattle.ppdb_merge_names.specs.declared.imaged.Imaged.{Imaged}
-use Rattle.ppdb_merge_fits.specs.Rows.{image_twice, unmapped, images_twice}
-use Rattle.ppdb_merge_fits.specs.Twice.{each_once, twice}
+use Rattle.ppdb_merge_fits.specs.Rows.{rows_twice, unmapped, images_twice}
+use Rattle.ppdb_merge_fits.specs.Twice.{each_once}
 use Rattle.ppdb_merge_fits.proofs.Told.{then_fine, refused, both_fine}
 use Rattle.ppdb_merge_fits.proofs.judging.judge_rows.Goals as goal
 
@@ -21,7 +21,7 @@ returns-in_err-refuse-clause-told g c =
     (images_twice c.args.first c.args.map.now (raw_file c.args.file.now))
     c.in_err-refuse.field-0.0 c.in_ok-rows.ensures.told
     (c.in_err-refuse.ensures (images_twice c.args.first c.args.map.now (raw_file c.args.file.now)) (c.in_ok-first_image_twice.ensures
-    ∙ ap (λ l. slice_get (twice (λ (i : Imaged). i.table) (λ i. i.row) (λ i. i.image) image_twice l) 0) (c.as_slice.ensures.value
+    ∙ ap (λ l. slice_get (rows_twice c.args.map.now l) 0) (c.as_slice.ensures.value
     ∙ c.in_ok-leave_once.ensures ∙ ap (each_once (λ (i : Imaged). i.table) (λ i. i.row)) c.in_ok-rows.ensures.rows))))
 
 pub returns-clause-rows : goal.returns-clause-rows
@@ -33,5 +33,5 @@ returns-clause-told g c =
     both_fine (unmapped c.args.first c.args.map.now (raw_file c.args.file.now)) (images_twice c.args.first c.args.map.now (raw_file c.args.file.now))
     c.in_ok-rows.ensures.told
     (c.in_ok-refuse.ensures (images_twice c.args.first c.args.map.now (raw_file c.args.file.now)) (c.in_ok-first_image_twice.ensures
-    ∙ ap (λ l. slice_get (twice (λ (i : Imaged). i.table) (λ i. i.row) (λ i. i.image) image_twice l) 0) (c.as_slice.ensures.value
+    ∙ ap (λ l. slice_get (rows_twice c.args.map.now l) 0) (c.as_slice.ensures.value
     ∙ c.in_ok-leave_once.ensures ∙ ap (each_once (λ (i : Imaged). i.table) (λ i. i.row)) c.in_ok-rows.ensures.rows)))

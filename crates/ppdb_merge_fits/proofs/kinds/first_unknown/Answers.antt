@@ -4,7 +4,7 @@ use Rattle.std.specs.List.{list_any}
 use Rattle.custom_info.specs.Kinds.{kind_of}
 use Rattle.ppdb_base.specs.declared.merge_error.MergeError.TheVariants.{KindUnknown}
 use Rattle.ppdb_values.specs.declared.custom.CustomValue.{CustomValue}
-use Rattle.ppdb_merge_fits.specs.Clashes.{is_unknown, is_at_dropped, if_unknown}
+use Rattle.ppdb_merge_fits.specs.Clashes.{is_unknown, is_at_gone, if_unknown}
 use Rattle.ppdb_merge_fits.proofs.First.{none_told}
 use Rattle.ppdb_merge_fits.proofs.kinds.first_unknown.Goals as goal
 
@@ -12,7 +12,7 @@ pub returns-then-not-any_unknown : goal.returns-then-not-any_unknown
 returns-then-not-any_unknown c =
     sym (ap (λ l. slice_get l 0) (none_told (λ (x : CustomValue). is_unknown (kind_of c.args.marks.now x.kind))
     (if_unknown c.args.marks.now c.args.map.now c.args.value.now)
-    (λ x known. ap (λ b. cond (b && not (is_at_dropped c.args.map.now c.args.value.now x.1.parent)) (KindUnknown x.0 x.1.kind ∷ []) []) known)
+    (λ x known. ap (λ b. cond (b && not (is_at_gone c.args.map.now c.args.value.now x.1.parent)) (KindUnknown x.0 x.1.kind ∷ []) []) known)
     1 c.args.value.now.customs
     (ap (list_any (λ (x : CustomValue). is_unknown (kind_of c.args.marks.now x.kind))) (sym c.as_slice-customs.ensures) ∙ sym c.any_unknown.ensures
     ∙ c.if-not-any_unknown.true)))

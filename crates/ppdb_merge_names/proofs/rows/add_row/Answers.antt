@@ -28,9 +28,9 @@ pub returns-in-ImportScope : goal.returns-in-ImportScope
 returns-in-ImportScope g c names there =
     let s = c.args.imager.now in
     let raw = (raw_file c.args.file.now).tables in
-    let is = names_are (of_import raw) raw.imports c.args.row names c.import.result
+    let is = names_are (of_import s.map raw) raw.imports c.args.row names c.import.result
     (ap (λ (t : table.Table). row_at (row_references s.map raw t) c.args.row) (sym c.in-ImportScope.is) ∙ there) c.import.ensures.row in
-    goes-as s c.add_import.new.imager (of_import raw (c.args.row, c.import.result)) names c.add_import.result is c.add_import.ensures
+    goes-as s c.add_import.new.imager (of_import s.map raw (c.args.row, c.import.result)) names c.add_import.result is c.add_import.ensures
 
 pub returns-in-StateMachine : goal.returns-in-StateMachine
 returns-in-StateMachine g c names there =

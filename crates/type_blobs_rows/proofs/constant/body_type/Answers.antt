@@ -17,6 +17,6 @@ returns-in_default-type_field c =
 pub returns : goal.returns
 returns c = (
   body_taken c.args.limits c.args.blob.now c.args.at c.args.code c.in-Some.skip (c.in-Some-type_field.row, c.in-Some-type_field.field-0-1) c.requires.code.0
-      (sym c.in-Some.ensures.skip) (omega arith) c.in-Some-type_field.ensures.found,
+      (sym c.in-Some.ensures.skip) (omega arith) (rw c.body_role.ensures at c.in-Some-type_field.ensures.found),
   omega arith,
 )

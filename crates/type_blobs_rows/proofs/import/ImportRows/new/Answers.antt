@@ -1,13 +1,13 @@
-use Rattle.std.proofs.Common.{ap, List}
-use Rattle.std.specs.List.{flat_map}
+use Rattle.std.proofs.Common.{ap, sym, ◌∙◌}
 use Rattle.ppdb_heaps.specs.Heaps.{blob_at}
 use Rattle.ppdb_heaps.specs.Views.{blobs_of}
-use Rattle.type_blobs.specs.declared.import_part.ImportField.{ImportField}
 use Rattle.type_blobs.proofs.ImportFieldsAre.{import_fields-are}
-use Rattle.type_blobs_rows.specs.Rows.{import_row}
+use Rattle.type_blobs_rows.specs.Left.{imported_left}
+use Rattle.type_blobs_rows.proofs.ImportsWalked.{rows_left}
 use Rattle.type_blobs_rows.proofs.import.ImportRows.new.Goals as goal
 
 pub returns : goal.returns
 returns c =
-    ap (λ (fields : List ImportField). flat_map import_row fields)
-    ((import_fields-are c.args.limits (blob_at (blobs_of c.args.blobs)) c.args.blob.now c.new.result.items).1 c.new.ensures.fields)
+    let heap = blob_at (blobs_of c.args.blobs) in
+    ap (imported_left 0) ((import_fields-are c.args.limits heap c.args.blob.now c.new.result.items).1 c.new.ensures.fields)
+    ∙ sym (rows_left c.args.limits heap c.args.blob.now)

@@ -2,7 +2,7 @@ use Rattle.std.proofs.Common.{◌≡◌, length}
 use Rattle.map_compose.specs.declared.part.Part.TheVariants.{Signatures}
 use Rattle.map_compose.specs.Parts.{all_numbers, numbers_left}
 use Rattle.map_compose.proofs.Signed.{signed_lines}
-use Rattle.map_compose.proofs.signatures.version_signed.Given as goal
+use Rattle.map_compose.proofs.signatures.signed_by_both.Given as goal
 
 abbrev pub invariant-methods : goal.invariant-methods
 invariant-methods l =

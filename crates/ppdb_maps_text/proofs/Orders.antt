@@ -9,8 +9,8 @@ use Rattle.std.specs.declared.cmp.Ordering.TheVariants.{Less, Equal, Greater}
 use Rattle.std.proofs.lemmas.Bool.{eqb-true, eq-eqb, ne_eqb, cases_lt, lt-ltb, le-ltb}
 use Rattle.std.proofs.Common.{zero, suc}
 use Rattle.ppdb_maps.specs.Map.{pair_cmp}
-use Rattle.map_compose.specs.Ascending.{put_once, ascending}
-use Rattle.map_compose.proofs.Found.{either}
+use Rattle.ppdb_maps_text.specs.Ascending.{put_once, ascending}
+use Rattle.ppdb_maps_text.proofs.Found.{either}
 
 -- below by the order is below
 pub less : (x y : ℕ) → nat_cmp x y ≡ Less → x < y

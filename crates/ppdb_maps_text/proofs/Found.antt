@@ -6,7 +6,7 @@ use Rattle.std.specs.List.{filter, filter_map, flat_map, find, list_any, cons_op
 use Rattle.std.specs.Option.{option_or}
 use Rattle.std.proofs.lemmas.Bool.{cases_lt, eq-eqb, ne_eqb, lt-ltb, le-ltb}
 use Rattle.std.proofs.lemmas.List.Folds.{find-append}
-use Rattle.map_compose.specs.Ascending.{put_once, ascending}
+use Rattle.ppdb_maps_text.specs.Ascending.{put_once, ascending}
 
 pub either : (j k : ℕ) → (j ≡ k) ⊎ (j ≡ k → ⊥)
 either j k = elim (cases_lt j k) [

@@ -3,7 +3,7 @@ use Rattle.std.specs.Prelude.{is_some}
 use Rattle.map_compose.specs.declared.part.Part.TheVariants.{Signatures}
 use Rattle.map_compose.specs.Parts.{all_numbers}
 use Rattle.map_compose.proofs.Signed.{signed_lines, none_signed, some_signed, none_made, empty_list}
-use Rattle.map_compose.proofs.signatures.version_signed.Goals as goal
+use Rattle.map_compose.proofs.signatures.signed_by_both.Goals as goal
 
 pub returns-then-is_none-2 : goal.returns-then-is_none-2
 returns-then-is_none-2 c =

@@ -1,0 +1,13 @@
+use Rattle.std.proofs.Common.{◌≡◌, length}
+use Rattle.std.specs.List.{list_any}
+use Rattle.map_compose.specs.Composed.{composed_image}
+use Rattle.map_compose.specs.Leaving.{leaves, rows_leave}
+use Rattle.map_compose.specs.Parts.{olds_left}
+use Rattle.map_compose.proofs.leaving.rows_leave.Given as goal
+
+abbrev pub invariant-rows : goal.invariant-rows
+invariant-rows l =
+    rows_leave l.first l.second l.table ≡ list_any (λ o. leaves l.table (composed_image l.first l.second l.table o)) (olds_left l.lines l.table l.passed)
+
+abbrev pub decreases-rows : goal.decreases-rows
+decreases-rows l = length (olds_left l.lines l.table l.passed)

@@ -1,0 +1,11 @@
+use Rattle.std.proofs.Common.{rules}
+use Rattle.std.specs.Prelude.{nat_eq, nat_lt}
+use Rattle.std.proofs.lemmas.Fn.{always_returns_same}
+use Rattle.ppdb_maps.proofs.Halving.{by_first}
+use Rattle.ppdb_maps.specs.declared.entries.CrossLine.{CrossLine}
+use Rattle.ppdb_maps.proofs.search.nth_cross.Goals as goal
+
+pub returns : goal.returns
+returns c = c.nth_by.ensures (λ (x : CrossLine). nat_lt x.table c.args.table) (λ (x : CrossLine). nat_eq x.table c.args.table)
+    (always_returns_same _ _ _ (λ a r f k. search rules)) (always_returns_same _ _ _ (λ a r f k. search rules))
+    (by_first (λ (x : CrossLine). x.table) (λ (x : CrossLine). x.old) c.args.table c.args.lines.now c.requires)

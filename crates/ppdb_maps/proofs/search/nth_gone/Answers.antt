@@ -1,0 +1,11 @@
+use Rattle.std.proofs.Common.{rules}
+use Rattle.std.specs.Prelude.{nat_eq, nat_lt}
+use Rattle.std.proofs.lemmas.Fn.{always_returns_same}
+use Rattle.ppdb_maps.proofs.Halving.{by_first}
+use Rattle.ppdb_maps.specs.declared.entries.GoneLine.{GoneLine}
+use Rattle.ppdb_maps.proofs.search.nth_gone.Goals as goal
+
+pub returns : goal.returns
+returns c = c.nth_by.ensures (λ (x : GoneLine). nat_lt x.table c.args.table) (λ (x : GoneLine). nat_eq x.table c.args.table)
+    (always_returns_same _ _ _ (λ a r f k. search rules)) (always_returns_same _ _ _ (λ a r f k. search rules))
+    (by_first (λ (x : GoneLine). x.table) (λ (x : GoneLine). x.old) c.args.table c.args.lines.now c.requires)

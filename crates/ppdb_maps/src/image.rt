@@ -1,0 +1,12 @@
+// What a row becomes.
+
+/// What a row of a table becomes.
+#[derive(Clone, Copy, Debug, PartialEq, Eq)]
+pub enum RowImage {
+    /// A row of a table: of its own, or of another one.
+    Row { table: u8, row: u32 },
+    /// Nothing: the row has no successor, and what names it goes.
+    Gone,
+    /// The map has no image for the row.
+    Missing,
+}

@@ -1,0 +1,14 @@
+use Rattle.std.proofs.Common.{sym, ◌∙◌}
+use Rattle.type_blobs_rows.specs.Rows.{constant_types}
+use Rattle.ppdb_merge_names.specs.References.{inside, live_types}
+use Rattle.ppdb_merge_names.proofs.Going.{goes-none}
+use Rattle.ppdb_merge_names.proofs.Walked.{types_gone}
+use Rattle.ppdb_merge_names.proofs.constants.add_types.Goals as goal
+
+pub returns-then-goes : goal.returns-then-goes
+returns-then-goes c =
+    let s = c.args.imager.now in
+    let types = constant_types c.args.limits c.args.signature.now in
+    rw c.goes.ensures.same
+    (goes-none s (inside 0x34 c.args.row 1 (live_types s.map types))
+    (types_gone s.map c.args.row types (rw c.new.ensures at (sym c.goes.ensures.goes ∙ c.if-goes.true))))
