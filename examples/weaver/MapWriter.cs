@@ -41,15 +41,16 @@ public sealed class MapWriter
     const int Module = 0x00, TypeRef = 0x01, TypeDef = 0x02, Field = 0x04, Method = 0x06, StandAloneSig = 0x11,
         Event = 0x14, Property = 0x17, TypeSpec = 0x1b, Assembly = 0x20, AssemblyRef = 0x23, LastTable = 0x2c;
 
-    readonly ModuleDefinition module;
+    ModuleDefinition module;
     readonly int[] rowsBefore;
-    readonly List<TypeReference> typeRefs, typeSpecs;
     readonly Dictionary<MethodDefinition, Body> methods = new Dictionary<MethodDefinition, Body>();
-    readonly Dictionary<int, SortedDictionary<uint, IMetadataTokenProvider>> members =
+    // What the old rows are, besides methods and signatures.
+    readonly Dictionary<int, SortedDictionary<uint, IMetadataTokenProvider>> items =
         new Dictionary<int, SortedDictionary<uint, IMetadataTokenProvider>>();
     readonly Dictionary<Instruction, Instruction> replaced = new Dictionary<Instruction, Instruction>();
     readonly List<string> warnings = new List<string>();
     List<TypeReference> kept = new List<TypeReference>();
+    MethodDefinition keeper;
     readonly SortedDictionary<string, string> renamed = new SortedDictionary<string, string>(StringComparer.Ordinal);
 
     /// Call it before the first change, with a module that was read from a file.
@@ -69,9 +70,10 @@ public sealed class MapWriter
     {
         this.module = module;
         rowsBefore = RowCounts.Of(Read(module.FileName));
-        typeRefs = Types(module, TypeRef);
-        typeSpecs = Types(module, TypeSpec);
+        Remember(Module, new[] { module });
+        if (module.Assembly != null) Remember(Assembly, new[] { module.Assembly.Name });
         Remember(AssemblyRef, module.AssemblyReferences);
+        foreach (int table in new[] { TypeRef, TypeSpec }) Number(table, Types(module, table));
         foreach (var type in module.GetTypes()) Remember(type);
         if (DebugDirectory.Has(module, DebugDirectory.Embedded))
             warnings.Add("The debug file is in the module: extract it. The new debug file will be beside the new module.");
@@ -98,10 +100,23 @@ public sealed class MapWriter
         foreach (var method in type.Methods) methods[method] = Before(method);
     }
 
-    void Remember(int table, IEnumerable<IMetadataTokenProvider> items)
+    void Remember(int table, IEnumerable<IMetadataTokenProvider> found)
     {
-        if (!members.ContainsKey(table)) members[table] = new SortedDictionary<uint, IMetadataTokenProvider>();
-        foreach (var item in items) members[table][item.MetadataToken.RID] = item;
+        var rows = Rows(table);
+        foreach (var item in found) rows[item.MetadataToken.RID] = item;
+    }
+
+    // The token of a type from TypeSpec is not that of its row.
+    void Number(int table, List<TypeReference> types)
+    {
+        var rows = Rows(table);
+        for (int i = 0; i < types.Count; i++) rows[(uint)i + 1] = types[i];
+    }
+
+    SortedDictionary<uint, IMetadataTokenProvider> Rows(int table)
+    {
+        if (!items.ContainsKey(table)) items[table] = new SortedDictionary<uint, IMetadataTokenProvider>();
+        return items[table];
     }
 
     static Body Before(MethodDefinition method)
@@ -122,7 +137,7 @@ public sealed class MapWriter
     // Whether the types, the methods or their code are not those of the file.
     bool IsLate()
     {
-        return members[TypeDef].Count != rowsBefore[TypeDef] || methods.Count != rowsBefore[Method] || methods.Values.Any(HasChanged);
+        return Rows(TypeDef).Count != rowsBefore[TypeDef] || methods.Count != rowsBefore[Method] || methods.Values.Any(HasChanged);
     }
 
     static bool HasChanged(Body body)
@@ -144,6 +159,20 @@ public sealed class MapWriter
         }
     }
 
+    /// The code is now in another module, for example in that of a merged program. The types, methods and instructions are the same objects;
+    /// the importer gives for a type or an assembly of the old module what the other one has in its place: for a type that is now defined
+    /// there the definition, for an assembly that is now part of it the name of its own. Call it before Keep.
+    public void Into(ModuleDefinition other, IMetadataImporter importer)
+    {
+        module = other;
+        Remember(Module, new[] { other });
+        if (Rows(Assembly).Count > 0) Remember(Assembly, new[] { other.Assembly.Name });
+        foreach (int table in new[] { TypeRef, TypeDef, TypeSpec, AssemblyRef })
+            foreach (var row in Rows(table).ToList())
+                if (row.Value is TypeReference) Rows(table)[row.Key] = importer.ImportReference((TypeReference)row.Value, null);
+                else Rows(table)[row.Key] = importer.ImportReference((AssemblyNameReference)row.Value);
+    }
+
     /// Gives an instruction that you put in the place of another one the line of that.
     public void Replaced(Instruction old, Instruction now) { replaced[old] = now; }
 
@@ -160,18 +189,20 @@ public sealed class MapWriter
     {
         const string name = "<types of the debug file>";
         var all = module.Types[0].Methods;
-        foreach (var earlier in all.Where(other => other.Name == name).ToList()) all.Remove(earlier); // that of a module woven before
+        // That of a module woven before, and that of an earlier call.
+        foreach (var earlier in all.Where(other => other == keeper || other.Name == name && methods.ContainsKey(other)).ToList()) all.Remove(earlier);
         var attributes = MethodAttributes.CompilerControlled | MethodAttributes.Static | MethodAttributes.HideBySig;
-        var method = new MethodDefinition(name, attributes, module.TypeSystem.Void);
-        var code = method.Body.GetILProcessor();
-        kept = typeRefs.Concat(typeSpecs).Where(new Nameable(module).Has).ToList();
+        keeper = new MethodDefinition(name, attributes, module.TypeSystem.Void);
+        var code = keeper.Body.GetILProcessor();
+        var types = Rows(TypeRef).Values.Concat(Rows(TypeSpec).Values).Cast<TypeReference>();
+        kept = types.Where(type => !type.IsDefinition && new Nameable(module).Has(type)).ToList();
         foreach (var type in kept)
         {
             code.Emit(OpCodes.Ldtoken, type);
             code.Emit(OpCodes.Pop);
         }
         code.Emit(OpCodes.Ret);
-        all.Add(method);
+        all.Add(keeper);
     }
 
     /// With these the written module names its debug file as before. The checksum, if it is to be kept, is that of the old debug file:
@@ -199,23 +230,17 @@ public sealed class MapWriter
                 warnings.Add("The new module names no debug file, so a runtime will not look for one.");
             foreach (var type in kept.Except(kept.Where(new Nameable(module).Has)))
                 warnings.Add("The new module names " + type + ", which was removed after Keep: call Keep after the last change.");
-            var alive = Alive();
             var homes = Homes();
             var changes = Changes(homes, after);
-            var signatures = SignatureImages(changes);
+            var images = Images(after);
+            images[StandAloneSig] = SignatureImages(changes);
+            images[Method] = homes.ToDictionary(pair => methods[pair.Key].Row, pair => pair.Value.MetadataToken);
             map.WriteLine("ppdbmap 4");
-            var rowsNow = RowCounts.Of(bytes);
-            for (int table = 0; table <= LastTable; table++)
-            {
-                if (rowsBefore[table] + rowsNow[table] == 0) continue;
-                map.WriteLine("rows {0:x2} {1}", table, rowsNow[table]);
-                var images = table == StandAloneSig ? signatures : table == Method ? MethodImages(homes) : Images(table, alive, after);
-                foreach (var image in images) map.WriteLine("row {0:x2} {1} {2}", table, image.Key, image.Value);
-            }
+            SaveRows(map, images, RowCounts.Of(bytes));
             foreach (var body in methods.Where(pair => !homes.ContainsKey(pair.Key)).Select(pair => pair.Value).OrderBy(body => body.Row))
                 map.WriteLine("drop {0}", body.Row);
             foreach (var change in changes) SaveSlots(map, change);
-            foreach (var change in changes.Where(change => !HasImage(change, signatures)))
+            foreach (var change in changes.Where(change => !HasImage(change, images[StandAloneSig])))
                 map.WriteLine("signature {0} {1}", change.Old.Row, change.Signature);
             foreach (var pair in renamed) map.WriteLine("document {0} {1}", Escaped(pair.Key), Escaped(pair.Value));
             if (SourceLink != null) map.WriteLine("link {0}", Escaped(SourceLink));
@@ -230,10 +255,34 @@ public sealed class MapWriter
         return string.Concat(Encoding.UTF8.GetBytes(text).Select(b => b > 0x20 && b < 0x7f && b != '\\' ? ((char)b).ToString() : "\\x" + b.ToString("x2")));
     }
 
-    // What the module still has, besides methods.
+    // A row that became another one, or one of another table, or that is gone.
+    void SaveRows(TextWriter map, Dictionary<int, IDictionary<uint, MetadataToken>> images, int[] rowsNow)
+    {
+        if (new[] { TypeRef, TypeDef, TypeSpec, AssemblyRef }.Any(table => IsShared(images[table].Values))) map.WriteLine("shares");
+        for (int table = 0; table <= LastTable; table++)
+        {
+            if (rowsBefore[table] + rowsNow[table] == 0) continue;
+            map.WriteLine("rows {0:x2} {1}", table, rowsNow[table]);
+            if (!images.ContainsKey(table)) continue; // `remap` reports M1 if the debug file names a row of it
+            foreach (var row in images[table].OrderBy(row => row.Key))
+                if (row.Value.RID == 0) map.WriteLine("gone {0:x2} {1}", table, row.Key);
+                else if (Table(row.Value) == table) map.WriteLine("row {0:x2} {1} {2}", table, row.Key, row.Value.RID);
+                else map.WriteLine("row {0:x2} {1} {2:x2} {3}", table, row.Key, Table(row.Value), row.Value.RID);
+        }
+    }
+
+    static int Table(MetadataToken token) { return (int)((uint)token.TokenType >> 24); }
+
+    static bool IsShared(IEnumerable<MetadataToken> images)
+    {
+        return images.Where(image => image.RID != 0).GroupBy(image => image).Any(rows => rows.Count() > 1);
+    }
+
+    // What the module has now, besides methods.
     HashSet<object> Alive()
     {
-        var found = new HashSet<object>(module.AssemblyReferences);
+        var found = new HashSet<object>(module.AssemblyReferences) { module };
+        if (module.Assembly != null) found.Add(module.Assembly.Name);
         foreach (var type in module.GetTypes())
         {
             found.Add(type);
@@ -289,62 +338,58 @@ public sealed class MapWriter
         return found;
     }
 
-    SortedDictionary<uint, uint> MethodImages(Dictionary<MethodDefinition, MethodDefinition> homes)
+    // The new row of each old row, or 0 where what it is is not in the new module.
+    Dictionary<int, IDictionary<uint, MetadataToken>> Images(ModuleDefinition after)
     {
-        var images = new SortedDictionary<uint, uint>();
-        foreach (var pair in homes) images[methods[pair.Key].Row] = pair.Value.MetadataToken.RID;
-        return images;
-    }
-
-    // The new row of each old row that still exists. A row of a table that is not here gets none, so `remap` reports M1 if the
-    // debug file names it.
-    SortedDictionary<uint, uint> Images(int table, HashSet<object> alive, ModuleDefinition after)
-    {
-        var images = new SortedDictionary<uint, uint>();
-        if (table == Module || table == Assembly) images[1] = 1;
-        else if (table == TypeRef) TypeImages(images, typeRefs, Types(after, TypeRef));
-        else if (table == TypeSpec) TypeImages(images, typeSpecs, Types(after, TypeSpec));
-        else if (members.ContainsKey(table))
-            foreach (var row in members[table].Where(row => alive.Contains(row.Value))) images[row.Key] = row.Value.MetadataToken.RID;
-        return images;
-    }
-
-    void TypeImages(SortedDictionary<uint, uint> images, List<TypeReference> before, List<TypeReference> now)
-    {
+        var alive = Alive();
+        var names = Names(after);
         var nameable = new Nameable(module);
-        var rows = new Dictionary<string, uint>();
-        for (int i = now.Count - 1; i >= 0; i--) rows[TypeNames.Of(now[i])] = (uint)i + 1;
-        for (int i = 0; i < before.Count; i++)
+        Func<IMetadataTokenProvider, MetadataToken> now = item =>
         {
-            uint row;
-            if (rows.TryGetValue(TypeNames.Of(before[i]), out row)) images[(uint)i + 1] = row;
-            else if (nameable.Has(before[i]))
-                warnings.Add("The new module does not name " + before[i] + ". If its debug file does, call Keep before you write.");
+            MetadataToken row;
+            if (alive.Contains(item)) return item.MetadataToken;
+            var type = item as TypeReference;
+            if (type == null || type.IsDefinition) return MetadataToken.Zero;
+            if (!names.TryGetValue(TypeNames.Of(type), out row) && nameable.Has(type))
+                warnings.Add("The new module does not name " + type + ", so the new debug file does not either. Call Keep before you write.");
+            return row;
+        };
+        return items.ToDictionary(table => table.Key,
+            table => (IDictionary<uint, MetadataToken>)table.Value.ToDictionary(row => row.Key, row => now(row.Value)));
+    }
+
+    // The first row of each type that a module refers to, by its name.
+    static Dictionary<string, MetadataToken> Names(ModuleDefinition module)
+    {
+        var names = new Dictionary<string, MetadataToken>();
+        foreach (int table in new[] { TypeSpec, TypeRef })
+        {
+            var types = Types(module, table);
+            for (int i = types.Count - 1; i >= 0; i--) names[TypeNames.Of(types[i])] = new MetadataToken((TokenType)(table << 24), i + 1);
         }
+        return names;
     }
 
     // Compilers give many methods one row of StandAloneSig. Its image is the row that most of them have now, unless that is already the
-    // image of another row. The other methods get `signature` lines.
-    static SortedDictionary<uint, uint> SignatureImages(List<Change> changes)
+    // image of another row: then it is gone. The other methods get `signature` lines.
+    IDictionary<uint, MetadataToken> SignatureImages(List<Change> changes)
     {
-        var images = new SortedDictionary<uint, uint>();
+        var images = methods.Values.Select(body => body.Signature).Where(row => row != 0).Distinct().ToDictionary(row => row, row => MetadataToken.Zero);
         var taken = new HashSet<uint> { 0 };
         foreach (var old in changes.Where(change => change.Old.Signature != 0).GroupBy(change => change.Old.Signature)
             .OrderByDescending(group => group.Count()).ThenBy(group => group.Key))
         {
             var rows = old.GroupBy(change => change.Signature).OrderByDescending(group => group.Count()).ThenBy(group => group.Key);
             uint row = rows.Select(group => group.Key).FirstOrDefault(taken.Add);
-            if (row != 0) images[old.Key] = row;
+            if (row != 0) images[old.Key] = new MetadataToken(TokenType.Signature, row);
         }
         return images;
     }
 
     // Whether the new signature of a method is the image of its old one.
-    static bool HasImage(Change change, SortedDictionary<uint, uint> signatures)
+    static bool HasImage(Change change, IDictionary<uint, MetadataToken> signatures)
     {
-        uint row;
-        if (change.Old.Signature == 0) return change.Signature == 0;
-        return signatures.TryGetValue(change.Old.Signature, out row) && row == change.Signature;
+        return change.Signature == (change.Old.Signature == 0 ? 0 : signatures[change.Old.Signature].RID);
     }
 
     static void SaveSlots(TextWriter map, Change change)
