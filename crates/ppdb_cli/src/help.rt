@@ -142,6 +142,9 @@ A map is a text. Its first line is `ppdbmap 4`; the other lines have these forms
 in two hexadecimal digits and decimal numbers:
     rows TT N                  the new module has N rows in table TT
     row TT OLD NEW             row OLD of table TT became row NEW
+    row TT OLD TT2 NEW         row OLD, a type, became row NEW of table TT2; both of 01, 02 and 1b
+    row 23 OLD 20 1            the assembly of row OLD became the module's own
+    gone TT OLD                row OLD was removed, and what names it goes; a method has `drop`
     method M OLDSIZE NEWSIZE   method M (the old row) had OLDSIZE bytes of IL and has NEWSIZE now
     run OLD NEW LENGTH         in this method, LENGTH bytes of IL at OLD are kept, now at NEW
     drop M                     method M was removed
@@ -150,6 +153,7 @@ in two hexadecimal digits and decimal numbers:
     signature M NEW            the local signature of method M is row NEW of table 11; 0: none
     document OLD NEW           the document named OLD is named NEW; names as `show` prints them
     link VALUE                 the Source Link record of the module has these bytes, escaped as names
+    shares                     rows of one of the tables 01, 02, 1b and 23 may become one row
 What has no line stays as it is. A table with a rows line, a method with a method line and a method
 with a slots line keep only the rows, offsets and slots that are listed. Example: a method of 9
 bytes keeps the offsets 0 and 5 to 8, and has 12 bytes now:
