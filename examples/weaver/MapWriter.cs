@@ -47,7 +47,7 @@ public sealed class MapWriter
     // What the old rows are, besides methods and signatures.
     readonly Dictionary<int, SortedDictionary<uint, IMetadataTokenProvider>> items =
         new Dictionary<int, SortedDictionary<uint, IMetadataTokenProvider>>();
-    readonly Dictionary<Instruction, Instruction> replaced = new Dictionary<Instruction, Instruction>();
+    readonly Dictionary<object, object> replaced = new Dictionary<object, object>();
     readonly List<string> warnings = new List<string>();
     List<TypeReference> kept = new List<TypeReference>();
     MethodDefinition keeper;
@@ -76,7 +76,7 @@ public sealed class MapWriter
         foreach (int table in new[] { TypeRef, TypeSpec }) Number(table, Types(module, table));
         foreach (var type in module.GetTypes()) Remember(type);
         if (DebugDirectory.Has(module, DebugDirectory.Embedded))
-            warnings.Add("The debug file is in the module: extract it. The new debug file will be beside the new module.");
+            warnings.Add("The debug file is in the module: extract it (scripts/extract-embedded). The new debug file will be beside the new module.");
     }
 
     // A module may be open for writing.
@@ -173,13 +173,24 @@ public sealed class MapWriter
                 else Rows(table)[row.Key] = importer.ImportReference((AssemblyNameReference)row.Value);
     }
 
-    /// Gives an instruction that you put in the place of another one the line of that.
-    public void Replaced(Instruction old, Instruction now) { replaced[old] = now; }
+    /// Gives an instruction that you put in the place of another one the line of that. For code that you insert at the start of a method,
+    /// `Replaced(first, inserted)` gives its first instruction the line of the method's, which then begins there.
+    public void Replaced(Instruction old, Instruction now) { Replace(old, now); }
 
-    Instruction Now(Instruction old)
+    /// Gives a local that you put in the place of another one the name of that.
+    public void Replaced(VariableDefinition old, VariableDefinition now) { Replace(old, now); }
+
+    // What is put back has its own line again.
+    void Replace(object old, object now)
     {
-        Instruction now;
-        while (replaced.TryGetValue(old, out now)) old = now;
+        replaced.Remove(now);
+        if (old != now) replaced[old] = now;
+    }
+
+    T Now<T>(T old)
+    {
+        object now;
+        while (replaced.TryGetValue(old, out now)) old = (T)now;
         return old;
     }
 
@@ -226,8 +237,10 @@ public sealed class MapWriter
         using (var after = ModuleDefinition.ReadModule(new MemoryStream(bytes)))
         using (var map = new StreamWriter(path) { NewLine = "\n" })
         {
+            CheckWritten(after, written);
             if (!DebugDirectory.Has(after, DebugDirectory.CodeView))
-                warnings.Add("The new module names no debug file, so a runtime will not look for one.");
+                warnings.Add("The new module names no debug file, so a runtime will not look for one"
+                    + (DebugDirectory.Has(module, DebugDirectory.CodeView) ? ": write it with map.WriterParameters()." : "."));
             foreach (var type in kept.Except(kept.Where(new Nameable(module).Has)))
                 warnings.Add("The new module names " + type + ", which was removed after Keep: call Keep after the last change.");
             var homes = Homes();
@@ -327,15 +340,31 @@ public sealed class MapWriter
 
     List<Change> Changes(Dictionary<MethodDefinition, MethodDefinition> homes, ModuleDefinition after)
     {
-        var found = new List<Change>();
-        foreach (var pair in homes.Where(pair => pair.Value.HasBody).OrderBy(pair => methods[pair.Key].Row))
+        return homes.Where(pair => pair.Value.HasBody).OrderBy(pair => methods[pair.Key].Row).Select(pair => new Change
         {
-            var written = after.LookupToken(pair.Value.MetadataToken) as MethodDefinition;
-            if (written == null || !written.HasBody || written.Body.Instructions.Count != pair.Value.Body.Instructions.Count)
-                throw new InvalidOperationException(pair.Value.FullName + " has changed since the module was written: call Save right after Write.");
-            found.Add(new Change { Old = methods[pair.Key], Now = pair.Value.Body, Written = written.Body });
-        }
-        return found;
+            Old = methods[pair.Key],
+            Now = pair.Value.Body,
+            Written = ((MethodDefinition)after.LookupToken(pair.Value.MetadataToken)).Body,
+        }).ToList();
+    }
+
+    // Whether the file has the types, fields and methods of the module in their rows, and the instructions at their offsets.
+    void CheckWritten(ModuleDefinition after, string written)
+    {
+        foreach (var type in module.GetTypes())
+            foreach (var item in new IMemberDefinition[] { type }.Concat(type.Fields).Concat(type.Methods))
+            {
+                var there = item.MetadataToken.RID == 0 ? null : after.LookupToken(item.MetadataToken) as IMemberDefinition;
+                if (there == null || Place(there) != Place(item) || !Offsets(there as MethodDefinition).SequenceEqual(Offsets(item as MethodDefinition)))
+                    throw new InvalidOperationException(item + " is not in " + written + " as it is in the module: call Save right after Write.");
+            }
+    }
+
+    static string Place(IMemberDefinition item) { return (item.DeclaringType == null ? "" : item.DeclaringType.Name + "/") + item.Name; }
+
+    static IEnumerable<int> Offsets(MethodDefinition method)
+    {
+        return method == null || !method.HasBody ? new int[0] : method.Body.Instructions.Select(instruction => instruction.Offset);
     }
 
     // The new row of each old row, or 0 where what it is is not in the new module.
@@ -392,43 +421,89 @@ public sealed class MapWriter
         return change.Signature == (change.Old.Signature == 0 ? 0 : signatures[change.Old.Signature].RID);
     }
 
-    static void SaveSlots(TextWriter map, Change change)
+    void SaveSlots(TextWriter map, Change change)
     {
-        var locals = change.Now.Variables;
-        if (locals.Take(change.Old.Locals.Length).SequenceEqual(change.Old.Locals)) return;
+        var slots = change.Old.Locals.Select(local => change.Now.Variables.IndexOf(Now(local))).ToList();
+        if (slots.SequenceEqual(Enumerable.Range(0, slots.Count))) return;
         map.WriteLine("slots {0}", change.Old.Row);
-        for (int slot = 0; slot < change.Old.Locals.Length; slot++)
-        {
-            int now = locals.IndexOf(change.Old.Locals[slot]);
-            if (now >= 0) map.WriteLine("slot {0} {1} {2}", change.Old.Row, slot, now);
-        }
+        for (int slot = 0; slot < slots.Count; slot++)
+            if (slots[slot] >= 0) map.WriteLine("slot {0} {1} {2}", change.Old.Row, slot, slots[slot]);
+            else warnings.Add("The local in slot " + slot + " of " + change.Now.Method + " is gone. If the debug file names it, `remap` reports M10: "
+                + "leave the local where it is, or call Replaced.");
     }
 
     // Instructions that follow each other before and now are in one run. Of one that became longer or shorter the common length is kept.
     void SaveRuns(TextWriter map, Change change)
     {
         var old = change.Old;
-        var kept = new HashSet<Instruction>(change.Now.Instructions);
-        int from = 0, to = 0, length = 0, lost = 0;
+        var now = old.Code.Select(Now).ToList();
+        var places = new Dictionary<Instruction, int>();
+        for (int i = 0; i < change.Now.Instructions.Count; i++) places[change.Now.Instructions[i]] = i;
+        var kept = Enumerable.Range(0, now.Count).Where(i => places.ContainsKey(now[i])).ToList();
+        var inOrder = Ascending(kept.Select(i => places[now[i]]).ToList()).Select(i => kept[i]).ToList();
+        int from = 0, to = 0, length = 0;
         map.WriteLine("method {0} {1} {2}", old.Row, old.Size, change.Written.CodeSize);
-        for (int i = 0; i < old.Code.Length; i++)
+        foreach (int i in inOrder)
         {
-            var instruction = Now(old.Code[i]);
-            if (!kept.Contains(instruction)) continue;
             int end = i + 1 < old.Code.Length ? old.Offsets[i + 1] : old.Size;
-            int size = Math.Min(end - old.Offsets[i], instruction.GetSize());
-            if (instruction.Offset < to + length) lost++;
-            else if (old.Offsets[i] == from + length && instruction.Offset == to + length) length += size;
+            int size = Math.Min(end - old.Offsets[i], now[i].GetSize());
+            if (old.Offsets[i] == from + length && now[i].Offset == to + length) length += size;
             else
             {
                 if (length > 0) map.WriteLine("run {0} {1} {2}", from, to, length);
                 from = old.Offsets[i];
-                to = instruction.Offset;
+                to = now[i].Offset;
                 length = size;
             }
         }
         if (length > 0) map.WriteLine("run {0} {1} {2}", from, to, length);
+        int lost = kept.Count - inOrder.Count;
         if (lost > 0) warnings.Add("The code of " + change.Now.Method + " has another order, so the map leaves out " + lost + " instructions.");
+        lost = CountReplaced(change.Now.Instructions, places, now, inOrder);
+        if (lost > 0) warnings.Add("In " + change.Now.Method + " new instructions are in the place of old ones (" + lost + "): call Replaced, or lines may be lost.");
+    }
+
+    // The longest ascending part of the numbers, as their indices.
+    static IEnumerable<int> Ascending(List<int> numbers)
+    {
+        // The least number that ends an ascending part of each length, its index, and for each number the index of the one before it.
+        var least = new List<int>();
+        var ends = new List<int>();
+        var before = new int[numbers.Count];
+        for (int i = 0; i < numbers.Count; i++)
+        {
+            int length = ~least.BinarySearch(numbers[i]);
+            if (length < 0) continue; // of two equal ones the first
+            before[i] = length == 0 ? -1 : ends[length - 1];
+            if (length == least.Count)
+            {
+                least.Add(0);
+                ends.Add(0);
+            }
+            least[length] = numbers[i];
+            ends[length] = i;
+        }
+        var found = new Stack<int>();
+        for (int i = ends.Count == 0 ? -1 : ends[ends.Count - 1]; i >= 0; i = before[i]) found.Push(i);
+        return found;
+    }
+
+    // How many old instructions are gone where there are new ones, between two that are kept.
+    static int CountReplaced(IList<Instruction> code, Dictionary<Instruction, int> places, List<Instruction> now, List<int> kept)
+    {
+        var known = new HashSet<Instruction>(now);
+        int found = 0, at = 0, place = 0;
+        foreach (int i in kept.Concat(new[] { now.Count }))
+        {
+            int gone = 0, next = i < now.Count ? places[now[i]] : code.Count;
+            bool hasNew = false;
+            for (; at < i; at++) if (!places.ContainsKey(now[at])) gone++;
+            for (; place < next; place++) hasNew |= !known.Contains(code[place]);
+            if (hasNew) found += gone;
+            at = i + 1;
+            place = next + 1;
+        }
+        return kept.Count == 0 ? 0 : found;
     }
 }
 

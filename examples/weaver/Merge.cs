@@ -1,48 +1,38 @@
-// A small merger: a program and a library that it uses become one module. It needs Mono.Cecil 0.11.
+// A small merger: a program and a library that it uses become one module. It needs Mono.Cecil 0.11 and C# 7.
 //     mono Merge.exe PROGRAM LIBRARY OUT [--rename OLD NEW].. [--link JSON]
 // writes the module OUT and the maps of the two debug files, OUT.1.map and OUT.2.map, from which ppdb makes the debug file of OUT:
 //     ppdb merge OUT.pdb PROGRAM.pdb OUT.1.map LIBRARY.pdb OUT.2.map --keep-id
 // --rename gives a document of the library another name, --link all documents one Source Link record.
-//     mono Merge.exe --names PROGRAM LIBRARY
-// prints the names of rows for `scripts/stack-maps --names`.
-//
+// `mono Merge.exe --names PROGRAM LIBRARY` prints the names of rows for `scripts/stack-maps --names`.
 // It moves types and all that is in them. It leaves out what is of a library and not of a type of it: resources, forwarded types,
 // attributes of the assembly, the initializer of the module. Names of types in texts and in arguments of attributes stay as they are.
 using System;
 using System.Collections.Generic;
 using System.Linq;
 using Mono.Cecil;
-using Mono.Cecil.Cil;
 
 static class Merge
 {
-    static int Main(string[] words)
+    static void Main(string[] words)
     {
-        try
-        {
-            if (words[0] == "--names") PrintNames(words.Skip(1).ToArray());
-            else Write(words[0], words[1], words[2], words.Skip(3).ToArray());
-            return 0;
-        }
-        catch (Exception fault)
-        {
-            Console.Error.WriteLine("Merge: " + fault.Message);
-            return 1;
-        }
+        if (words[0] != "--names") Write(words[0], words[1], words[2], words.Skip(3).ToArray());
+        else for (int input = 1; input < words.Length; input++) PrintNames(input, ModuleDefinition.ReadModule(words[input]));
     }
 
     static void Write(string program, string library, string path, string[] options)
     {
-        using (var first = Read(program))
-        using (var second = Read(library))
+        var immediate = new ReaderParameters(ReadingMode.Immediate); // what Cecil reads late it would read in the wrong module
+        using (var first = ModuleDefinition.ReadModule(program, immediate))
+        using (var second = ModuleDefinition.ReadModule(library, immediate))
         {
             var maps = new[] { MapWriter.Start(first), MapWriter.Start(second) };
-            Take(maps, options);
+            for (int at = 0; at < options.Length; at++)
+                if (options[at] == "--rename") maps[1].Rename(options[++at], options[++at]);
+                else if (options[at] == "--link") maps[0].SourceLink = maps[1].SourceLink = options[++at];
+                else throw new ArgumentException("no option is " + options[at]);
             var importer = new Importer(first, second);
-            foreach (var module in new[] { first, second }) new References(importer, first).Replace(module);
-            foreach (var type in second.Types.Skip(1).ToList()) Move(type, second, first);
-            foreach (var method in second.Types[0].Methods.Where(method => method.Name != ".cctor").ToList())
-                if (second.Types[0].Methods.Remove(method)) first.Types[0].Methods.Add(method);
+            foreach (var module in new[] { first, second }) importer.Replace(module);
+            Move(second, first);
             foreach (var reference in first.AssemblyReferences.Where(importer.IsMerged).ToList()) first.AssemblyReferences.Remove(reference);
             foreach (var map in maps) map.Into(first, importer);
             foreach (var map in maps) map.Keep(first);
@@ -52,53 +42,39 @@ static class Merge
         }
     }
 
-    // What Cecil reads late it would read in the wrong module.
-    static ModuleDefinition Read(string path) { return ModuleDefinition.ReadModule(path, new ReaderParameters(ReadingMode.Immediate)); }
-
-    static void Take(MapWriter[] maps, string[] options)
-    {
-        for (int at = 0; at < options.Length; at++)
-            if (options[at] == "--rename") maps[1].Rename(options[++at], options[++at]);
-            else if (options[at] != "--link") throw new ArgumentException("no option is " + options[at]);
-            else maps[0].SourceLink = maps[1].SourceLink = options[++at];
-    }
-
     // The objects stay the same: by them MapWriter knows what moved. A type whose name is taken gets another one.
-    static void Move(TypeDefinition type, ModuleDefinition from, ModuleDefinition to)
+    static void Move(ModuleDefinition from, ModuleDefinition to)
     {
-        from.Types.Remove(type);
-        while (to.GetType(type.Namespace, type.Name) != null) type.Name = "<" + from.Name + ">" + type.Name;
-        to.Types.Add(type);
-        Release(type, from);
-    }
-
-    // Cecil frees a type from its module when the module itself had it, which had no nested one.
-    static void Release(TypeDefinition outer, ModuleDefinition from)
-    {
-        foreach (var type in outer.NestedTypes.ToList())
+        // Cecil frees a type from its module when the module itself had it, which had no nested one.
+        foreach (var type in from.GetTypes().Where(type => type.IsNested).ToList())
         {
+            var outer = type.DeclaringType;
             outer.NestedTypes.Remove(type);
             from.Types.Add(type);
             from.Types.Remove(type);
             outer.NestedTypes.Add(type);
-            Release(type, from);
         }
+        foreach (var type in from.Types.Skip(1).ToList())
+        {
+            from.Types.Remove(type);
+            while (to.GetType(type.Namespace, type.Name) != null) type.Name = "<" + from.Name + ">" + type.Name;
+            to.Types.Add(type);
+        }
+        foreach (var method in from.Types[0].Methods.Where(method => method.Name != ".cctor").ToList())
+            if (from.Types[0].Methods.Remove(method)) to.Types[0].Methods.Add(method);
     }
 
     // INPUT TABLE ROW NAME for the rows of Assembly, AssemblyRef, TypeDef and TypeRef: a reference has the name of what it refers to.
-    static void PrintNames(string[] paths)
+    static void PrintNames(int input, ModuleDefinition module)
     {
-        for (int input = 1; input <= paths.Length; input++)
-            using (var module = ModuleDefinition.ReadModule(paths[input - 1]))
-            {
-                Action<IMetadataTokenProvider, string> print = (row, name) =>
-                    Console.WriteLine("{0} {1:x2} {2} {3}", input, (uint)row.MetadataToken.TokenType >> 24, row.MetadataToken.RID, name);
-                print(module.Assembly.Name, module.Assembly.Name.Name);
-                foreach (var reference in module.AssemblyReferences) print(reference, reference.Name);
-                foreach (var type in module.GetTypes()) print(type, "[" + module.Assembly.Name.Name + "]" + type.FullName);
-                foreach (var type in module.GetTypeReferences().Where(type => type.Scope is AssemblyNameReference))
-                    print(type, "[" + type.Scope.Name + "]" + type.FullName);
-            }
+        var rows = new IMetadataTokenProvider[] { module.Assembly.Name }.Concat(module.AssemblyReferences).Concat(module.GetTypes())
+            .Concat(module.GetTypeReferences());
+        foreach (var row in rows)
+        {
+            var name = row is TypeReference type ? "[" + (type.IsDefinition ? module.Assembly.Name : type.Scope).Name + "]" + type.FullName
+                : ((AssemblyNameReference)row).Name;
+            Console.WriteLine("{0} {1:x2} {2} {3}", input, (uint)row.MetadataToken.TokenType >> 24, row.MetadataToken.RID, name);
+        }
     }
 }
 
@@ -113,13 +89,10 @@ sealed class Importer : DefaultMetadataImporter
     {
         this.library = library;
         types = library.GetTypes().ToDictionary(type => type.FullName);
-        types["<Module>"] = program.Types[0];
     }
 
-    public bool IsMerged(IMetadataScope scope)
-    {
-        return scope == library || scope is AssemblyNameReference && scope.Name == library.Assembly.Name.Name;
-    }
+    public bool IsMerged(IMetadataScope scope) { return scope == library || scope is AssemblyNameReference && scope.Name == library.Assembly.Name.Name; }
+    TypeReference Import(TypeReference type) { return ImportReference(type, null); }
 
     public override AssemblyNameReference ImportReference(AssemblyNameReference reference)
     {
@@ -130,15 +103,13 @@ sealed class Importer : DefaultMetadataImporter
 
     public override TypeReference ImportReference(TypeReference type, IGenericParameterProvider context)
     {
-        if (type is GenericParameter) return Parameter((GenericParameter)type);
-        if (type is TypeSpecification) return Specification((TypeSpecification)type);
+        if (type is GenericParameter parameter) return Parameter(parameter);
+        if (type is TypeSpecification specification) return Specification(specification);
         if (type == library.Types[0]) return module.Types[0];
-        if (type.IsDefinition) return type;
+        if (type == null || type.IsDefinition) return type;
         if (IsMerged(type.Scope)) return types[type.FullName];
         return type.Module == module ? type : base.ImportReference(type, context);
     }
-
-    TypeReference Import(TypeReference type) { return ImportReference(type, null); }
 
     // A type of TypeSpec may name a parameter by its place alone.
     TypeReference Parameter(GenericParameter parameter)
@@ -152,32 +123,27 @@ sealed class Importer : DefaultMetadataImporter
 
     TypeReference Specification(TypeSpecification type)
     {
-        var function = type as FunctionPointerType;
-        if (function != null) return Function(function, new FunctionPointerType());
+        if (type is FunctionPointerType function) return Signature(function, new FunctionPointerType());
         var element = Import(type.ElementType);
-        var instance = type as GenericInstanceType;
-        if (instance != null)
-        {
-            var made = new GenericInstanceType(element);
-            foreach (var argument in instance.GenericArguments) made.GenericArguments.Add(Import(argument));
-            return made;
-        }
-        var array = type as ArrayType;
-        if (array != null)
-        {
-            var made = new ArrayType(element, array.Rank);
-            for (int i = 0; i < array.Rank; i++) made.Dimensions[i] = array.Dimensions[i];
-            return made;
-        }
-        if (type is RequiredModifierType) return new RequiredModifierType(Import(((IModifierType)type).ModifierType), element);
-        if (type is OptionalModifierType) return new OptionalModifierType(Import(((IModifierType)type).ModifierType), element);
+        if (type is GenericInstanceType instance) return Instance(instance, new GenericInstanceType(element));
+        if (type is RequiredModifierType required) return new RequiredModifierType(Import(required.ModifierType), element);
+        if (type is OptionalModifierType optional) return new OptionalModifierType(Import(optional.ModifierType), element);
         if (type is ByReferenceType) return new ByReferenceType(element);
         if (type is PointerType) return new PointerType(element);
-        return type is PinnedType ? (TypeReference)new PinnedType(element) : new SentinelType(element);
+        if (type is PinnedType) return new PinnedType(element);
+        var array = (ArrayType)type;
+        var made = new ArrayType(element, array.Rank);
+        for (int i = 0; i < array.Rank; i++) made.Dimensions[i] = array.Dimensions[i];
+        return made;
     }
 
-    /// Gives a new method pointer or call the convention and the types of an old one.
-    public T Function<T>(IMethodSignature old, T made) where T : IMethodSignature
+    T Instance<T>(IGenericInstance old, T made) where T : IGenericInstance
+    {
+        foreach (var argument in old.GenericArguments) made.GenericArguments.Add(Import(argument));
+        return made;
+    }
+
+    T Signature<T>(IMethodSignature old, T made) where T : IMethodSignature
     {
         made.HasThis = old.HasThis;
         made.ExplicitThis = old.ExplicitThis;
@@ -191,111 +157,63 @@ sealed class Importer : DefaultMetadataImporter
     {
         if (field.IsDefinition) return field;
         var declaring = Import(field.DeclaringType);
-        var definition = declaring as TypeDefinition;
-        if (definition != null) return definition.Fields.First(found => found.Name == field.Name);
-        return new FieldReference(field.Name, Import(field.FieldType), declaring);
+        return declaring is TypeDefinition definition ? definition.Fields.First(found => found.Name == field.Name)
+            : new FieldReference(field.Name, Import(field.FieldType), declaring);
     }
 
     public override MethodReference ImportReference(MethodReference method, IGenericParameterProvider context)
     {
         if (method.IsDefinition) return method;
-        var instance = method as GenericInstanceMethod;
-        if (instance != null)
-        {
-            var made = new GenericInstanceMethod(ImportReference(instance.ElementMethod, context));
-            foreach (var argument in instance.GenericArguments) made.GenericArguments.Add(Import(argument));
-            return made;
-        }
+        if (method is GenericInstanceMethod instance) return Instance(instance, new GenericInstanceMethod(ImportReference(instance.ElementMethod, context)));
         var declaring = Import(method.DeclaringType);
-        var definition = declaring as TypeDefinition;
-        if (definition != null) return MetadataResolver.GetMethod(definition.Methods, method);
+        if (declaring is TypeDefinition definition) return MetadataResolver.GetMethod(definition.Methods, method);
         var reference = new MethodReference(method.Name, module.TypeSystem.Void, declaring);
         foreach (var parameter in method.GenericParameters) reference.GenericParameters.Add(new GenericParameter(parameter.Name, reference));
-        return Function(method, reference);
-    }
-}
-
-// Replaces what the types of a module refer to by what the importer has in its place.
-sealed class References
-{
-    readonly Importer importer;
-    readonly ModuleDefinition program;
-
-    public References(Importer importer, ModuleDefinition program)
-    {
-        this.importer = importer;
-        this.program = program;
+        return Signature(method, reference);
     }
 
-    TypeReference Import(TypeReference type) { return type == null ? null : importer.ImportReference(type, null); }
-
-    public void Replace(ModuleDefinition module)
+    /// Replaces what the types of a module refer to by what the program has in its place.
+    public void Replace(ModuleDefinition old)
     {
-        foreach (var item in new ICustomAttributeProvider[] { module, module.Assembly }.Concat(module.GetTypes().SelectMany(Items))) Attributes(item);
-        foreach (var type in module.GetTypes()) Replace(type);
-    }
-
-    // What may have attributes.
-    static IEnumerable<ICustomAttributeProvider> Items(TypeDefinition type)
-    {
-        var methods = type.Methods.SelectMany(method => new ICustomAttributeProvider[] { method, method.MethodReturnType }
-            .Concat(method.Parameters).Concat(method.GenericParameters));
-        return new ICustomAttributeProvider[] { type }.Concat(type.GenericParameters).Concat(type.Interfaces).Concat(type.Fields)
-            .Concat(type.Properties).Concat(type.Events).Concat(methods);
-    }
-
-    void Attributes(ICustomAttributeProvider item)
-    {
-        for (int i = 0; i < item.CustomAttributes.Count; i++)
+        Attributes(old, new[] { old.Assembly });
+        foreach (var type in old.GetTypes())
         {
-            var old = item.CustomAttributes[i];
-            item.CustomAttributes[i] = new CustomAttribute(importer.ImportReference(old.Constructor, null), old.GetBlob());
+            Attributes(type, type.Fields, type.Properties, type.Events, type.Interfaces, type.GenericParameters);
+            type.BaseType = Import(type.BaseType);
+            foreach (var item in type.Interfaces) item.InterfaceType = Import(item.InterfaceType);
+            foreach (var field in type.Fields) field.FieldType = Import(field.FieldType);
+            foreach (var property in type.Properties) property.PropertyType = Import(property.PropertyType);
+            foreach (var item in type.Events) item.EventType = Import(item.EventType);
+            foreach (var method in type.Methods) Replace(method);
         }
-    }
-
-    void Constraints(IGenericParameterProvider item)
-    {
-        foreach (var constraint in item.GenericParameters.SelectMany(parameter => parameter.Constraints))
-            constraint.ConstraintType = Import(constraint.ConstraintType);
-    }
-
-    void Replace(TypeDefinition type)
-    {
-        Constraints(type);
-        type.BaseType = Import(type.BaseType);
-        foreach (var item in type.Interfaces) item.InterfaceType = Import(item.InterfaceType);
-        foreach (var field in type.Fields) field.FieldType = Import(field.FieldType);
-        foreach (var property in type.Properties) property.PropertyType = Import(property.PropertyType);
-        foreach (var item in type.Events) item.EventType = Import(item.EventType);
-        foreach (var method in type.Methods) Replace(method);
     }
 
     void Replace(MethodDefinition method)
     {
-        Constraints(method);
+        Attributes(method, new[] { method.MethodReturnType }, method.Parameters, method.GenericParameters);
         method.ReturnType = Import(method.ReturnType);
         foreach (var parameter in method.Parameters) parameter.ParameterType = Import(parameter.ParameterType);
-        for (int i = 0; i < method.Overrides.Count; i++) method.Overrides[i] = importer.ImportReference(method.Overrides[i], null);
-        if (method.HasPInvokeInfo) method.PInvokeInfo.Module = Native(method.PInvokeInfo.Module);
+        for (int i = 0; i < method.Overrides.Count; i++) method.Overrides[i] = ImportReference(method.Overrides[i], null);
+        if (method.HasPInvokeInfo && !module.ModuleReferences.Contains(method.PInvokeInfo.Module)) module.ModuleReferences.Add(method.PInvokeInfo.Module);
         if (!method.HasBody) return;
         foreach (var local in method.Body.Variables) local.VariableType = Import(local.VariableType);
         foreach (var handler in method.Body.ExceptionHandlers) handler.CatchType = Import(handler.CatchType);
-        foreach (var instruction in method.Body.Instructions) instruction.Operand = Operand(instruction.Operand);
+        foreach (var instruction in method.Body.Instructions)
+            if (instruction.Operand is TypeReference type) instruction.Operand = Import(type);
+            else if (instruction.Operand is FieldReference field) instruction.Operand = ImportReference(field, null);
+            else if (instruction.Operand is MethodReference called) instruction.Operand = ImportReference(called, null);
+            else if (instruction.Operand is CallSite call) instruction.Operand = Signature(call, new CallSite(call.ReturnType));
     }
 
-    ModuleReference Native(ModuleReference old)
+    // The attributes of an item and its parts, and the constraints of type parameters.
+    void Attributes(ICustomAttributeProvider item, params IEnumerable<ICustomAttributeProvider>[] parts)
     {
-        var known = program.ModuleReferences.FirstOrDefault(reference => reference.Name == old.Name);
-        if (known == null) program.ModuleReferences.Add(known = old);
-        return known;
-    }
-
-    object Operand(object operand)
-    {
-        if (operand is TypeReference) return Import((TypeReference)operand);
-        if (operand is FieldReference) return importer.ImportReference((FieldReference)operand, null);
-        if (operand is MethodReference) return importer.ImportReference((MethodReference)operand, null);
-        var call = operand as CallSite;
-        return call == null ? operand : importer.Function(call, new CallSite(call.ReturnType));
+        foreach (var part in parts.SelectMany(some => some).Concat(new[] { item }))
+        {
+            for (int i = 0; i < part.CustomAttributes.Count; i++)
+                part.CustomAttributes[i] = new CustomAttribute(ImportReference(part.CustomAttributes[i].Constructor, null), part.CustomAttributes[i].GetBlob());
+            if (part is GenericParameter parameter)
+                foreach (var constraint in parameter.Constraints) constraint.ConstraintType = Import(constraint.ConstraintType);
+        }
     }
 }

@@ -18,6 +18,11 @@ public static class PatchIdentity
 
     static int Main(string[] words)
     {
+        if (words.Length != 2)
+        {
+            Console.Error.WriteLine("usage: mono PatchIdentity.exe MODULE DEBUGFILE");
+            return 2;
+        }
         try
         {
             Patch(words[0], words[1]);
@@ -41,6 +46,8 @@ public static class PatchIdentity
     /// Writes the identity of the debug file, and its checksum where the module has one, into the bytes of the module.
     public static void Patch(byte[] module, byte[] debugFile)
     {
+        if (Ascii(module, 0, 2) != "MZ") throw new BadImageFormatException("the first file is no module");
+        if (Ascii(debugFile, 0, 4) != "BSJB") throw new BadImageFormatException("the second file is no Portable PDB file");
         int place = IdentityPlace(debugFile);
         var identity = new byte[IdentityLength];
         Array.Copy(debugFile, place, identity, 0, IdentityLength);
@@ -100,5 +107,5 @@ public static class PatchIdentity
 
     static int Int(byte[] bytes, int at) { return BitConverter.ToInt32(bytes, at); }
     static int Short(byte[] bytes, int at) { return BitConverter.ToUInt16(bytes, at); }
-    static string Ascii(byte[] bytes, int at, int length) { return Encoding.ASCII.GetString(bytes, at, length); }
+    static string Ascii(byte[] bytes, int at, int length) { return Encoding.ASCII.GetString(bytes, at, Math.Min(length, bytes.Length - at)); }
 }

@@ -13,7 +13,7 @@ static class Cases
     {
         using (var module = Read(words[1], words[0] == "stream"))
         {
-            var chooser = module.GetType("Work").Methods.First(method => method.Name == "Choose");
+            var chooser = Find(module, "Choose");
             var choose = chooser.Body.Instructions;
             if (words[0] == "late") choose.Insert(0, Instruction.Create(OpCodes.Nop));
             var map = MapWriter.Start(module);
@@ -22,7 +22,12 @@ static class Cases
             if (words[0] == "moved")
                 foreach (var method in module.GetType("Work").Methods.Where(method => char.IsLetter(method.Name[0])).ToList()) MoveOut(method);
             if (words[0] == "split") Split(chooser);
-            if (words[0] != "lost") map.Keep(module);
+            if (words[0] == "guarded" || words[0] == "unwritten") Guard(chooser.Body, words[0] == "guarded" ? map : null);
+            if (words[0] == "exchanged" || words[0] == "told") Exchange(Find(module, "Try").Body, words[0] == "told" ? map : null);
+            if (words[0] == "told") ExchangeLocals(Find(module, "Rethrow").Body, map);
+            if (words[0] == "shortened") Find(module, "Rethrow").Body.Variables.RemoveAt(0); // the program is not run
+            if (words[0] != "lost" && words[0] != "unwritten") map.Keep(module);
+            if (words[0] == "unwritten" && File.Exists(words[2])) map.Save(words[2], words[2] + ".map");
             if (words[0] == "early") Unmark(chooser);
             if (words[0] == "replaced") Replace(choose);
             if (words[0] == "back") MoveBack(choose);
@@ -41,6 +46,11 @@ static class Cases
     static ModuleDefinition Read(string path, bool isStream)
     {
         return isStream ? ModuleDefinition.ReadModule(new MemoryStream(File.ReadAllBytes(path))) : ModuleDefinition.ReadModule(path);
+    }
+
+    static MethodDefinition Find(ModuleDefinition module, string name)
+    {
+        return module.GetType("Work").Methods.First(method => method.Name == name);
     }
 
     static void Replace(IList<Instruction> code)
@@ -127,6 +137,38 @@ static class Cases
         var code = body.Instructions.Select(copy).ToList();
         body.Instructions.Clear();
         foreach (var instruction in code) body.Instructions.Add(instruction);
+    }
+
+    // New code at the start, with the line of the code that was there.
+    static void Guard(MethodBody body, MapWriter map)
+    {
+        var first = body.Instructions[0];
+        body.Instructions.Insert(0, Instruction.Create(OpCodes.Nop));
+        body.Instructions.Insert(0, Instruction.Create(OpCodes.Nop));
+        if (map != null) map.Replaced(first, body.Instructions[0]);
+    }
+
+    // The last instruction becomes another one.
+    static void Exchange(MethodBody body, MapWriter map)
+    {
+        var last = body.Instructions[body.Instructions.Count - 1];
+        var now = Instruction.Create(OpCodes.Ret);
+        body.Instructions[body.Instructions.Count - 1] = now;
+        foreach (var instruction in body.Instructions.Where(instruction => instruction.Operand == last)) instruction.Operand = now;
+        foreach (var handler in body.ExceptionHandlers.Where(handler => handler.HandlerEnd == last)) handler.HandlerEnd = now;
+        if (map != null) map.Replaced(last, now);
+    }
+
+    // The locals become others.
+    static void ExchangeLocals(MethodBody body, MapWriter map)
+    {
+        foreach (var old in body.Variables.ToList())
+        {
+            var now = new VariableDefinition(old.VariableType);
+            body.Variables[old.Index] = now;
+            foreach (var instruction in body.Instructions.Where(instruction => instruction.Operand == old)) instruction.Operand = now;
+            map.Replaced(old, now);
+        }
     }
 
     // The first instruction becomes the last.

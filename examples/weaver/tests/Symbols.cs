@@ -13,8 +13,13 @@ static class Symbols
 {
     static readonly Dictionary<string, Document> documents = new Dictionary<string, Document>();
 
-    static void Main(string[] words)
+    static int Main(string[] words)
     {
+        if (words.Length < 2)
+        {
+            Console.Error.WriteLine("usage: mono Symbols.exe IN OUT");
+            return 2;
+        }
         var symbols = MonoSymbolFile.ReadSymbolFile(words[0] + ".mdb");
         using (var module = ModuleDefinition.ReadModule(words[0]))
         {
@@ -35,6 +40,7 @@ static class Symbols
             module.Write(words[1], new WriterParameters { WriteSymbols = true, SymbolWriterProvider = new PortablePdbWriterProvider() });
             foreach (var constant in new[] { day, green }.Distinct()) SetValue(words[1], constant);
         }
+        return 0;
     }
 
     static ConstantDebugInformation Enumeration(ScopeDebugInformation scope, string name, TypeReference type, int value)
