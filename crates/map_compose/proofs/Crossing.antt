@@ -1,7 +1,7 @@
 -- The map of two maps has lines of rows that leave their table exactly where some row leaves it by both.
 use Rattle.std.proofs.Common.{ℕ, zero, suc, ◌≡◌, ◌+◌, ◌<◌, ◌≤◌, ◌&&◌, ◌||◌, ◌++◌, Bool, true, false, cond, List, [], ◌∷◌, Option, Some, None, refl, sym, ap, ◌∙◌, subst, arith}
 use Rattle.std.proofs.Common.{inl, inr}
-use Rattle.std.specs.Prelude.{nat_eq, is_some}
+use Rattle.std.specs.Prelude.{not, nat_eq, is_some}
 use Rattle.std.specs.List.{cons_option, filter_map, find, flat_map, list_any, range_with_len, slice_get}
 use Rattle.std.specs.Option.{option_or}
 use Rattle.std.proofs.lemmas.Bool.{false≢true, eq-eqb, eqb-true}
@@ -117,7 +117,7 @@ none_leave f s a b c d = all tables
     own : (table : ℕ) (image : RowImage) → leaves table image ≡ false → leaves table (own_assembly table image) ≡ false
     own table Gone is = is
     own table Missing is = is
-    own table (Row to row) is = of (nat_eq table 0x23 && (nat_eq to 0x20 && cond (nat_eq row 1) false true))
+    own table (Row to row) is = of (nat_eq table 0x23 && (nat_eq to 0x20 && not (nat_eq row 1)))
       where
         of : (b : Bool) → leaves table (cond b Missing (Row to row)) ≡ false
         of true = refl

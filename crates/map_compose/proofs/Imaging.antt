@@ -1,6 +1,6 @@
 -- The image of a row, and what a second map makes of it.
 use Rattle.std.proofs.Common.{ℕ, ◌≡◌, ◌&&◌, ◌||◌, Bool, true, false, cond, Option, Some, None, refl, sym, ap, ◌∙◌, subst, arith, inl, inr}
-use Rattle.std.specs.Prelude.{nat_eq, is_some}
+use Rattle.std.specs.Prelude.{not, nat_eq, is_some}
 use Rattle.std.specs.Option.{option_map, option_and_then}
 use Rattle.std.proofs.lemmas.Bool.{false≢true, eq-eqb, ne_eqb, eqb-true}
 use Rattle.ppdb_maps.specs.declared.entries.RowLine.{RowLine}
@@ -122,11 +122,11 @@ within_is m readable table old = of (row_image m table old) (reaches m readable 
 pub own_itself : (table row : ℕ) → own_assembly table (Row table row) ≡ Row table row
 own_itself table row = of (nat_eq table 0x23) refl
   where
-    of : (b : Bool) → nat_eq table 0x23 ≡ b → cond (b && (nat_eq table 0x20 && cond (nat_eq row 1) false true)) Missing (Row table row) ≡ Row table row
+    of : (b : Bool) → nat_eq table 0x23 ≡ b → cond (b && (nat_eq table 0x20 && not (nat_eq row 1))) Missing (Row table row) ≡ Row table row
     of false is = refl
     of true is =
         let other : nat_eq table 0x20 ≡ false = ne_eqb table 0x20 (λ e. let six = eqb-true table 0x23 is in omega (arith, e, six)) in
-        ap (λ c. cond (c && cond (nat_eq row 1) false true) Missing (Row table row)) other
+        ap (λ c. cond (c && not (nat_eq row 1)) Missing (Row table row)) other
 
 -- tables other than those of types and AssemblyRef keep their rows
 abbrev pub may_cross : ℕ → Bool
@@ -152,7 +152,7 @@ own_other : (table : ℕ) (image : RowImage) → may_cross table ≡ false → o
 own_other table Gone is = refl
 own_other table Missing is = refl
 own_other table (Row to row) is =
-    ap (λ b. cond (b && (nat_eq to 0x20 && cond (nat_eq row 1) false true)) Missing (Row to row)) (last (nat_eq table 0x01) (nat_eq table 0x02) (nat_eq table 0x1b) _ is)
+    ap (λ b. cond (b && (nat_eq to 0x20 && not (nat_eq row 1))) Missing (Row to row)) (last (nat_eq table 0x01) (nat_eq table 0x02) (nat_eq table 0x1b) _ is)
   where
     last : (a b c d : Bool) → (a || (b || (c || d))) ≡ false → d ≡ false
     last true b c d is = absurd (false≢true (sym is))

@@ -104,14 +104,14 @@ bytes_long : (bytes : List ℕ) → length (flat_map escaped_byte bytes) ≤ len
 bytes_long [] = omega arith
 bytes_long (b ∷ bytes) = omega (arith, byte_long b, bytes_long bytes, length-append (escaped_byte b) (flat_map escaped_byte bytes))
 
-escaped_long : (bytes : List ℕ) → IsShort bytes → length (escaped bytes) ≤ 536870914
+pub escaped_long : (bytes : List ℕ) → IsShort bytes → length (escaped bytes) ≤ 536870912
 escaped_long [] short = omega arith
 escaped_long (b ∷ bytes) short = omega (arith, short, bytes_long (b ∷ bytes))
 
 one_word : (word a : List ℕ) → length (spaced word (a ∷ []) ++ 10 ∷ []) ≡ length word + length a + 2
 one_word word a = omega (arith, length-append (spaced word (a ∷ [])) (10 ∷ []), length-append word ((32 ∷ a) ++ []), length-append (32 ∷ a) [])
 
-two_words : (word a b : List ℕ) → length (spaced word (a ∷ b ∷ []) ++ 10 ∷ []) ≡ length word + length a + length b + 3
+pub two_words : (word a b : List ℕ) → length (spaced word (a ∷ b ∷ []) ++ 10 ∷ []) ≡ length word + length a + length b + 3
 two_words word a b =
     omega (
       arith,

@@ -28,3 +28,4 @@ pub mod Sums
 pub mod Insides
 pub mod SlotLines
 pub mod Names
+pub mod NameLengths

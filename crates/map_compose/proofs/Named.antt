@@ -25,7 +25,7 @@ line_some : (o : Option NameLine) → is_some (option_map (λ (d : NameLine). d.
 line_some None = refl
 line_some (Some d) = refl
 
-has_line : (m : Map) (name : List ℕ) → has name (named m) ≡ is_some (document_line m name)
+pub has_line : (m : Map) (name : List ℕ) → has name (named m) ≡ is_some (document_line m name)
 has_line m name = has_key (λ (d : NameLine). d.old) name m.documents ∙ sym (line_some (find (λ (d : NameLine). bytes_eq d.old name) m.documents))
 
 names_found : (f s : Map) (name : List ℕ) → find (λ (d : NameLine). bytes_eq d.old name) (document_entries f s)
@@ -69,7 +69,7 @@ module _ (P : List ℕ → Type 0) where
   abbrev BothHold : NameLine → Type 0
   BothHold d = P d.old × P d.new
 
-  found_holds : (name : List ℕ) (ds : List NameLine) → AllByRecursion BothHold ds → P name
+  pub found_holds : (name : List ℕ) (ds : List NameLine) → AllByRecursion BothHold ds → P name
       → P (unwrap_or (option_map (λ (d : NameLine). d.new) (find (λ (d : NameLine). bytes_eq d.old name) ds)) name)
   found_holds name [] all one = one
   found_holds name (d ∷ ds) all one = of (bytes_eq d.old name) (found_holds name ds all.1 one)
@@ -79,11 +79,11 @@ module _ (P : List ℕ → Type 0) where
       of true rest = all.0.1
       of false rest = rest
 
-  olds_hold : (ds : List NameLine) → AllByRecursion BothHold ds → AllByRecursion P (map (λ (d : NameLine). d.old) ds)
+  pub olds_hold : (ds : List NameLine) → AllByRecursion BothHold ds → AllByRecursion P (map (λ (d : NameLine). d.old) ds)
   olds_hold [] all = tt
   olds_hold (d ∷ ds) all = (all.0.0, olds_hold ds all.1)
 
-  both_hold : (xs ys : List (List ℕ)) → AllByRecursion P xs → AllByRecursion P ys → AllByRecursion P (xs ++ ys)
+  pub both_hold : (xs ys : List (List ℕ)) → AllByRecursion P xs → AllByRecursion P ys → AllByRecursion P (xs ++ ys)
   both_hold [] ys a b = b
   both_hold (x ∷ xs) ys a b = (a.0, both_hold xs ys a.1 b)
 

@@ -22,10 +22,10 @@ Above n ns = AllByRecursion (λ k. name_cmp n k ≡ Less) ns
 
 -- ---- two names
 
-below : (x y : List ℕ) → name_cmp x y ≡ Greater → name_cmp y x ≡ Less
+pub below : (x y : List ℕ) → name_cmp x y ≡ Greater → name_cmp y x ≡ Less
 below x y is = nat_list_cmp_total.antisymm y x ∙ ap ordering_reverse is
 
-above : (x y : List ℕ) → name_cmp x y ≡ Less → name_cmp y x ≡ Greater
+pub above : (x y : List ℕ) → name_cmp x y ≡ Less → name_cmp y x ≡ Greater
 above x y is = nat_list_cmp_total.antisymm y x ∙ ap ordering_reverse is
 
 itself : (x : List ℕ) → name_cmp x x ≡ Equal

@@ -50,7 +50,7 @@ one_more r xs i d inside =
     of None = refl
     of (Some p) = refl
 
-pub all_drop : (P : Run → Type 0) (xs : List Run) (n : ℕ) → AllByRecursion P xs → AllByRecursion P (drop n xs)
+pub all_drop : {X : Type 0} (P : X → Type 0) (xs : List X) (n : ℕ) → AllByRecursion P xs → AllByRecursion P (drop n xs)
 all_drop P [] zero all = tt
 all_drop P [] (suc n) all = tt
 all_drop P (x ∷ xs) zero all = all

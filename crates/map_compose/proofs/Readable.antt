@@ -1,7 +1,7 @@
 -- The map of two readable maps whose sizes agree is readable.
 use Rattle.std.proofs.Common.{◌≡◌, ℕ, ◌+◌, ◌<◌, ◌≤◌, ◌&&◌, ◌||◌, ◌++◌, Bool, true, false, cond, List, [], ◌∷◌, Option, Some, None, refl, sym, ◌∙◌, ap, arith}
 use Rattle.std.proofs.Common.{inl, inr, map, subst, zero, suc}
-use Rattle.std.specs.Prelude.{nat_eq, nat_lt, is_some, min, max, unwrap_or}
+use Rattle.std.specs.Prelude.{not, nat_eq, nat_lt, is_some, min, max, unwrap_or}
 use Rattle.std.specs.List.{filter, filter_map, flat_map, find, range_with_len, cons_option, AllByRecursion}
 use Rattle.std.specs.Option.{option_map, option_and_then, option_or}
 use Rattle.std.proofs.lemmas.Bool.{cases_lt, lt-ltb, eq-eqb, eqb-true, and_parts, false≢true}
@@ -293,7 +293,7 @@ all_met a b c d qs small rise = nil (filter_map (meet all_offsets) qs) ∙ stay 
 own_is : (table : ℕ) (image : RowImage) (to new : ℕ) → own_assembly table image ≡ RowOf to new → image ≡ RowOf to new
 own_is table Gone to new is = absurd (cc)
 own_is table Missing to new is = absurd (cc)
-own_is table (RowOf t row) to new is = of (nat_eq table 0x23 && (nat_eq t 0x20 && cond (nat_eq row 1) false true)) is
+own_is table (RowOf t row) to new is = of (nat_eq table 0x23 && (nat_eq t 0x20 && not (nat_eq row 1))) is
   where
     of : (b : Bool) → cond b Missing (RowOf t row) ≡ RowOf to new → RowOf t row ≡ RowOf to new
     of true is = absurd (cc)
@@ -302,7 +302,7 @@ own_is table (RowOf t row) to new is = of (nat_eq table 0x23 && (nat_eq t 0x20 &
 own_gone : (table : ℕ) (image : RowImage) → own_assembly table image ≡ Gone → image ≡ Gone
 own_gone table Gone is = refl
 own_gone table Missing is = absurd (cc)
-own_gone table (RowOf t row) is = of (nat_eq table 0x23 && (nat_eq t 0x20 && cond (nat_eq row 1) false true)) is
+own_gone table (RowOf t row) is = of (nat_eq table 0x23 && (nat_eq t 0x20 && not (nat_eq row 1))) is
   where
     of : (b : Bool) → cond b Missing (RowOf t row) ≡ Gone → RowOf t row ≡ Gone
     of true is = absurd (cc)
@@ -310,10 +310,10 @@ own_gone table (RowOf t row) is = of (nat_eq table 0x23 && (nat_eq t 0x20 && con
 
 assembly_one : (table to new : ℕ) → table ≡ 0x23 → to ≡ 0x20 → own_assembly table (RowOf to new) ≡ RowOf to new → new ≡ 1
 assembly_one table to new own there is = of (nat_eq new 1) refl
-    (sym (ap (λ b. cond (b && (nat_eq to 0x20 && cond (nat_eq new 1) false true)) Missing (RowOf to new)) (eq-eqb table 0x23 own)
-    ∙ ap (λ b. cond (b && cond (nat_eq new 1) false true) Missing (RowOf to new)) (eq-eqb to 0x20 there)) ∙ is)
+    (sym (ap (λ b. cond (b && (nat_eq to 0x20 && not (nat_eq new 1))) Missing (RowOf to new)) (eq-eqb table 0x23 own)
+    ∙ ap (λ b. cond (b && not (nat_eq new 1)) Missing (RowOf to new)) (eq-eqb to 0x20 there)) ∙ is)
   where
-    of : (b : Bool) → nat_eq new 1 ≡ b → cond (cond b false true) Missing (RowOf to new) ≡ RowOf to new → new ≡ 1
+    of : (b : Bool) → nat_eq new 1 ≡ b → cond (not b) Missing (RowOf to new) ≡ RowOf to new → new ≡ 1
     of true hit is = eqb-true new 1 hit
     of false miss is = absurd (cc)
 

@@ -1,5 +1,5 @@
 -- The map of two maps (docs/FORMAT.md, "Two maps made into one"): what the first makes of a row, an offset or a slot, the second takes on.
-use Rattle.std.specs.Prelude.{ℕ, ◌&&◌, ◌||◌, Bool, true, false, cond, nat_eq, List, [], ◌++◌, Option, Some, None, is_some, map, filter, filter_map, flat_map, option_map, option_and_then}
+use Rattle.std.specs.Prelude.{ℕ, ◌&&◌, ◌||◌, not, Bool, false, cond, nat_eq, List, [], ◌++◌, Option, Some, None, is_some, map, filter, filter_map, flat_map, option_map, option_and_then}
 use Rattle.std.specs.{List.range_with_len}
 use Rattle.std.specs.Option.{option_or}
 use Rattle.ppdb_base.specs.{declared.offsets.Run.Run, Offsets.{Offsets, every, kept_runs}}
@@ -30,7 +30,7 @@ image_then s Missing = Missing
 
 -- an assembly (AssemblyRef, table 23) becomes no row of Assembly (table 20) but row 1
 abbrev pub own_assembly : ℕ → RowImage → RowImage
-own_assembly table (Row to row) = cond (nat_eq table 0x23 && (nat_eq to 0x20 && cond (nat_eq row 1) false true)) Missing (Row to row)
+own_assembly table (Row to row) = cond (nat_eq table 0x23 && (nat_eq to 0x20 && not (nat_eq row 1))) Missing (Row to row)
 own_assembly table Gone = Gone
 own_assembly table Missing = Missing
 

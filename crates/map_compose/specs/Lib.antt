@@ -14,3 +14,4 @@ pub mod Slots
 pub mod Gathered
 pub mod Fits
 pub mod Leaving
+pub mod Spelled

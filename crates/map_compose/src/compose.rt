@@ -40,7 +40,7 @@ fn counted_map(alloc: Global, first: &MapText, second: &MapText) -> Result<Count
     put_part(Part::Drops, first, second, &mut gathered, &mut text)?;
     put_part(Part::Slots, first, second, &mut gathered, &mut text)?;
     put_signatures(version, first, second, &mut gathered, &mut text)?;
-    put_documents(first, second, &mut text)?;
+    put_documents(alloc, first, second, &mut text)?;
     put_part(Part::Methods, first, second, &mut gathered, &mut text)?;
     Ok(text)
 }

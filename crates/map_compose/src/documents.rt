@@ -1,15 +1,21 @@
 // The `shares` and the `link` line and the `document` lines of the map of two maps.
-ghost use Rattle.std.specs.Prelude.{◌≡◌, ◌≤◌, ◌||◌, [], ◌∷◌, length, MatchOption, OnOk, option_copied, slice_get};
-ghost use Rattle.ppdb_maps_text.specs.MapTexts.{link_says, shares_says};
-ghost use Rattle.map_compose.specs.Composed.{named, composed_link};
-ghost use Rattle.map_compose.specs.Fits.{NamesFit};
+ghost use Rattle.std.specs.Prelude.{◌≡◌, ◌≤◌, ◌<◌, ◌||◌, [], ◌∷◌, length, MatchOption, OnOk, option_copied, slice_get};
+ghost use Rattle.ppdb_maps.specs.declared.line.Line.TheVariants.{Document};
+ghost use Rattle.ppdb_maps_text.specs.MapTexts.{ended, line_text, link_says, shares_says};
+ghost use Rattle.ppdb_maps_text.specs.Putting.{LONGEST, Puts};
+ghost use Rattle.map_compose.specs.Composed.{named, document_entry, composed_link};
+ghost use Rattle.map_compose.specs.Fits.{IsShort, NamesFit};
 ghost use Rattle.map_compose.specs.Parts.{names_left};
 ghost use Rattle.map_compose.specs.Says.{PutsLines, documents_say};
+ghost use Rattle.map_compose.specs.Spelled.{new_lengths};
 
+use crate::name_lengths::NameLengths;
 use crate::part::Passed;
+use crate::spelled::spelled_length;
 use ppdb_base::Memory;
 use ppdb_maps::MapText;
 use ppdb_maps_text::Counted;
+use std::alloc::Global;
 use std::cmp::Ordering;
 
 /// The names with a `document` line, in ascending order of their bytes; none past the last.
@@ -59,16 +65,46 @@ fn next_name<'a>(first: &'a MapText, second: &'a MapText, passed: &mut Passed) -
     }
 }
 
+/// Puts the `document` line of a name. Past the longest text it is counted, and the name that it gets
+/// is not spelled again.
+fn put_name(
+    first: &MapText,
+    second: &MapText,
+    lengths: &NameLengths,
+    name: &[u8],
+    text: &mut Counted,
+) -> Result<(), Memory>
+    requires own { NamesFit 134217728 first.now }
+    requires other { NamesFit 134217728 second.now }
+    requires short { IsShort name.now }
+    requires lengths { LONGEST < text.now.length → lengths.now.lengths.items ≡ new_lengths second.now }
+    ensures { OnOk result (Puts text.old text.new (ended (line_text (Document (document_entry first.now second.now name.now))))) }
+{
+    let middle = first.moved_name(name);
+    if !text.is_past() {
+        return text.put_document(name, second.moved_name(middle));
+    }
+    let new = lengths.of_moved(second, middle);
+    text.count_on(11 + spelled_length(name) + new);
+    Ok(())
+}
+
 /// Puts the `document` lines.
-pub fn put_documents(first: &MapText, second: &MapText, text: &mut Counted) -> Result<(), Memory>
+pub fn put_documents(
+    alloc: Global,
+    first: &MapText,
+    second: &MapText,
+    text: &mut Counted,
+) -> Result<(), Memory>
     requires own { NamesFit 134217728 first.now }
     requires other { NamesFit 134217728 second.now }
     ensures { OnOk result (PutsLines text.old text.new (documents_say first.now second.now)) }
 {
+    let mut lengths = NameLengths::new(alloc);
     let mut passed = Passed { own: 0, other: 0 };
     'names: while let Some(name) = next_name(first, second, &mut passed) {
-        let new = second.moved_name(first.moved_name(name));
-        text.put_document(name, new)?;
+        lengths.count(second, text)?;
+        put_name(first, second, &lengths, name, text)?;
     }
     Ok(())
 }

@@ -13,6 +13,7 @@ mod joining;
 mod laws;
 mod leaving;
 mod methods;
+mod name_lengths;
 mod olds;
 mod part;
 mod runs;
@@ -20,6 +21,7 @@ mod signatures;
 mod sizes;
 mod slot_blocks;
 mod slots;
+mod spelled;
 mod tables;
 
 pub use compose::compose_maps;

@@ -143,7 +143,7 @@ module _ (f s : Map) (composes : IsComposition f s (composed f s)) (first : IsRe
   gone_then Missing = at_zero s second is_gone false 0 refl refl
 
   gone_own : (table : ℕ) (image : RowImage) → is_gone (own_assembly table image) ≡ is_gone image
-  gone_own table (Row to row) = by (nat_eq table 0x23 && (nat_eq to 0x20 && cond (nat_eq row 1) false true))
+  gone_own table (Row to row) = by (nat_eq table 0x23 && (nat_eq to 0x20 && not (nat_eq row 1)))
     where
       by : (b : Bool) → is_gone (cond b Missing (Row to row)) ≡ false
       by true = refl
@@ -197,8 +197,8 @@ module _ (f s : Map) (composes : IsComposition f s (composed f s)) (first : IsRe
     own_is : (table old : ℕ) → own_assembly table (image_then s (row_image f table old)) ≡ image_then s (row_image f table old)
     own_is table old = by (row_image f table old) refl
       where
-        not_one : (row : ℕ) → cond (nat_eq row 1) false true ≡ true → row ≡ 1 → ⊥
-        not_one row other is = both_ways (cond (nat_eq row 1) false true) (ap (λ b. cond b false true) (eq-eqb row 1 is)) other
+        not_one : (row : ℕ) → not (nat_eq row 1) ≡ true → row ≡ 1 → ⊥
+        not_one row other is = both_ways (not (nat_eq row 1)) (ap not (eq-eqb row 1 is)) other
 
         -- an assembly that is no longer another's is row 1 of Assembly
         one_row : (to row then_to then_row : ℕ) → row_image f 0x23 old ≡ Row to row → row_image s to row ≡ Row then_to then_row → then_to ≡ 0x20 → then_row ≡ 1
@@ -217,14 +217,14 @@ module _ (f s : Map) (composes : IsComposition f s (composed f s)) (first : IsRe
                 ap row_in (sym also ∙ there)
 
         by_image : (to row : ℕ) → row_image f table old ≡ Row to row → (x : RowImage) → row_image s to row ≡ x → own_assembly table x ≡ x
-        by_image to row is (Row then_to then_row) also = by_test (nat_eq table 0x23 && (nat_eq then_to 0x20 && cond (nat_eq then_row 1) false true)) refl
+        by_image to row is (Row then_to then_row) also = by_test (nat_eq table 0x23 && (nat_eq then_to 0x20 && not (nat_eq then_row 1))) refl
           where
-            by_test : (b : Bool) → (nat_eq table 0x23 && (nat_eq then_to 0x20 && cond (nat_eq then_row 1) false true)) ≡ b
+            by_test : (b : Bool) → (nat_eq table 0x23 && (nat_eq then_to 0x20 && not (nat_eq then_row 1))) ≡ b
                 → cond b Missing (Row then_to then_row) ≡ Row then_to then_row
             by_test false test = refl
             by_test true test =
-                let outer = and_parts (nat_eq table 0x23) (nat_eq then_to 0x20 && cond (nat_eq then_row 1) false true) test in
-                let inner = and_parts (nat_eq then_to 0x20) (cond (nat_eq then_row 1) false true) outer.1 in
+                let outer = and_parts (nat_eq table 0x23) (nat_eq then_to 0x20 && not (nat_eq then_row 1)) test in
+                let inner = and_parts (nat_eq then_to 0x20) (not (nat_eq then_row 1)) outer.1 in
                 absurd (not_one then_row inner.1
                 (one_row to row then_to then_row (subst (λ t. row_image f t old ≡ Row to row) (eqb-true table 0x23 outer.0) is) also
                 (eqb-true then_to 0x20 inner.0)))

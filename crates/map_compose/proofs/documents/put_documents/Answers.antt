@@ -1,19 +1,22 @@
-use Rattle.std.proofs.Common.{ap, subst, ◌≡◌, ◌∙◌, [], ◌∷◌}
+use Rattle.std.proofs.Common.{ap, [], ◌∷◌}
 use Rattle.ppdb_maps.specs.declared.line.Line.TheVariants.{Document}
-use Rattle.ppdb_maps.specs.Map.{moved_name}
-use Rattle.ppdb_maps_text.specs.MapTexts.{ended, line_text}
-use Rattle.ppdb_maps_text.specs.Putting.{Puts}
 use Rattle.map_compose.specs.Composed.{document_entry}
+use Rattle.map_compose.specs.Parts.{names_left}
 use Rattle.map_compose.specs.Says.{names_say}
+use Rattle.map_compose.proofs.NameLengths.{left_short}
 use Rattle.map_compose.proofs.Putting.{some_next, says_one}
 use Rattle.map_compose.proofs.documents.put_documents.Goals as goal
 
+pub put_name-requires-clause-short : goal.put_name-requires-clause-short
+put_name-requires-clause-short c =
+    left_short 134217728 c.args.first.now c.args.second.now c.names.passed c.in-Some.name.now
+    (names_left c.args.first.now c.args.second.now c.next_name.new.passed) c.requires.own c.requires.other c.in-Some.ensures
+
 pub names-preserved : goal.names-preserved
 names-preserved c =
-    let moved : c.moved_name-new.result.now ≡ moved_name c.args.second.now (moved_name c.args.first.now c.in-Some.name.now) =
-    c.moved_name-new.ensures ∙ ap (moved_name c.args.second.now) c.moved_name.ensures in
-    some_next _ _ _ _ _ _ (Document (document_entry c.args.first.now c.args.second.now c.in-Some.name.now) ∷ [])
-    (ap (names_say c.args.first.now c.args.second.now) c.in-Some.ensures) c.names.invariant
-    (says_one c.names.text c.put_document.new.self (Document (document_entry c.args.first.now c.args.second.now c.in-Some.name.now))
-    (subst (λ new. Puts c.names.text c.put_document.new.self (ended (line_text (Document (record { old = c.in-Some.name.now; new = new })))))
-    moved c.in_ok-put_document.ensures))
+    let line = Document (document_entry c.args.first.now c.args.second.now c.in-Some.name.now) in
+    record {
+      lengths = c.in_ok-count.ensures.are;
+      puts = some_next _ _ _ _ _ _ (line ∷ []) (ap (names_say c.args.first.now c.args.second.now) c.in-Some.ensures) c.names.invariant.puts
+          (says_one c.names.text c.put_name.new.text line c.in_ok-put_name.ensures);
+    }
