@@ -3,6 +3,7 @@ pub mod Beside
 pub mod ByName
 pub mod Constants
 pub mod Counted
+pub mod CustomRows
 pub mod Far
 pub mod First
 pub mod Fitting
@@ -10,6 +11,10 @@ pub mod FittingRows
 pub mod Images
 pub mod Kept
 pub mod Looking
+pub mod Methods
+pub mod NoSlots
 pub mod Nothing
 pub mod OneName
+pub mod Rows
+pub mod SlotLists
 pub mod Told

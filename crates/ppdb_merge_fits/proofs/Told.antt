@@ -5,7 +5,6 @@ use Rattle.ppdb_base.specs.declared.merge_error.MergeError.TheVariants.{Memory}
 use Rattle.ppdb_maps.specs.Map.{Map}
 use Rattle.ppdb_values.specs.RawFile.{RawFile}
 use Rattle.ppdb_values.specs.Value.{value_of}
-use Rattle.ppdb_values.specs.declared.file.FileValue.{FileValue}
 use Rattle.ppdb_merge_fits.specs.Clashes.{unknown_kinds, clashes, first_clash}
 use Rattle.ppdb_merge_fits.specs.Documents.{documents_twice}
 use Rattle.ppdb_merge_fits.specs.FirstOf.{IsTold}
@@ -25,17 +24,17 @@ pub both_fine : {A : Type 0} (xs ys : List A) → xs ≡ [] → ys ≡ [] → xs
 both_fine xs ys none also = ap (λ l. l ++ ys) none ∙ also
 
 module _ (marks : List (List ℕ)) (first : Bool) (m : Map) (raw : RawFile) where
-  abbrev of_value : FileValue → List MergeError
-  of_value value = unknown_kinds marks m value ++ (beyond m value ++ lost m value)
+  abbrev of_offsets : List MergeError
+  of_offsets = unknown_kinds marks m (value_of raw) ++ (beyond m (value_of raw) ++ lost m (value_of raw))
 
   abbrev of_rows : List MergeError
   of_rows = unmapped first m raw ++ images_twice first m raw
 
-  abbrev of_slots : FileValue → List MergeError
-  of_slots value = slots_unmapped m value ++ slots_twice m value
+  abbrev of_slots : List MergeError
+  of_slots = slots_unmapped m (value_of raw) ++ slots_twice m (value_of raw)
 
   abbrev all : List MergeError
-  all = of_value (value_of raw) ++ (of_rows ++ (of_slots (value_of raw) ++ documents_twice m (value_of raw)))
+  all = of_offsets ++ (of_rows ++ (of_slots ++ documents_twice m (value_of raw)))
 
   split : all ≡ clashes marks first m raw
   split =
@@ -48,33 +47,21 @@ module _ (marks : List (List ℕ)) (first : Bool) (m : Map) (raw : RawFile) wher
   unfolding first_clash
   told e is = subst (λ l. IsTold l e) split is
 
-  pub clash_of_value : (value : FileValue) (e : MergeError) → value ≡ value_of raw → IsTold (of_value value) e
+  pub clash_of_offsets : (e : MergeError) → IsTold of_offsets e → (e ≡ Memory) ⊎ (first_clash marks first m raw ≡ Some e)
+  clash_of_offsets e is = told e (refused of_offsets _ e is)
+
+  pub clash_of_rows : (e : MergeError) → of_offsets ≡ [] → IsTold of_rows e → (e ≡ Memory) ⊎ (first_clash marks first m raw ≡ Some e)
+  clash_of_rows e none is = told e (then_fine of_offsets _ e none (refused of_rows _ e is))
+
+  pub clash_of_slots : (e : MergeError) → of_offsets ≡ [] → of_rows ≡ [] → IsTold of_slots e → (e ≡ Memory) ⊎ (first_clash marks first m raw ≡ Some e)
+  clash_of_slots e none also is = told e (then_fine of_offsets _ e none (then_fine of_rows _ e also (refused of_slots _ e is)))
+
+  pub clash_of_documents : (e : MergeError) → of_offsets ≡ [] → of_rows ≡ [] → of_slots ≡ [] → IsTold (documents_twice m (value_of raw)) e
       → (e ≡ Memory) ⊎ (first_clash marks first m raw ≡ Some e)
-  clash_of_value value e same is =
-      told e (refused (of_value (value_of raw)) _ e (subst (λ v. IsTold (of_value v) e) same is))
+  clash_of_documents e none also further is =
+      told e (then_fine of_offsets _ e none (then_fine of_rows _ e also (then_fine of_slots _ e further is)))
 
-  pub clash_of_rows : (value : FileValue) (e : MergeError) → value ≡ value_of raw → of_value value ≡ [] → IsTold of_rows e
-      → (e ≡ Memory) ⊎ (first_clash marks first m raw ≡ Some e)
-  clash_of_rows value e same none is =
-      told e (then_fine (of_value (value_of raw)) _ e (subst (λ v. of_value v ≡ []) same none) (refused of_rows _ e is))
-
-  pub clash_of_slots : (value : FileValue) (e : MergeError) → value ≡ value_of raw → of_value value ≡ [] → of_rows ≡ []
-      → IsTold (of_slots value) e → (e ≡ Memory) ⊎ (first_clash marks first m raw ≡ Some e)
-  clash_of_slots value e same none also is =
-      told e (then_fine (of_value (value_of raw)) _ e (subst (λ v. of_value v ≡ []) same none)
-      (then_fine of_rows _ e also (refused (of_slots (value_of raw)) _ e (subst (λ v. IsTold (of_slots v) e) same is))))
-
-  pub clash_of_documents : (value : FileValue) (e : MergeError) → value ≡ value_of raw → of_value value ≡ [] → of_rows ≡ [] → of_slots value ≡ []
-      → IsTold (documents_twice m value) e → (e ≡ Memory) ⊎ (first_clash marks first m raw ≡ Some e)
-  clash_of_documents value e same none also further is =
-      told e (then_fine (of_value (value_of raw)) _ e (subst (λ v. of_value v ≡ []) same none)
-      (then_fine of_rows _ e also (then_fine (of_slots (value_of raw)) _ e (subst (λ v. of_slots v ≡ []) same further)
-      (subst (λ v. IsTold (documents_twice m v) e) same is))))
-
-  pub no_clash : (value : FileValue) → value ≡ value_of raw → of_value value ≡ [] → of_rows ≡ [] → of_slots value ≡ [] → documents_twice m value ≡ []
-      → first_clash marks first m raw ≡ None
+  pub no_clash : of_offsets ≡ [] → of_rows ≡ [] → of_slots ≡ [] → documents_twice m (value_of raw) ≡ [] → first_clash marks first m raw ≡ None
   unfolding first_clash
-  no_clash value same none also further last =
-      ap (λ l. slice_get l 0) (sym split ∙ both_fine (of_value (value_of raw)) _ (subst (λ v. of_value v ≡ []) same none)
-      (both_fine of_rows _ also (both_fine (of_slots (value_of raw)) _ (subst (λ v. of_slots v ≡ []) same further)
-      (subst (λ v. documents_twice m v ≡ []) same last))))
+  no_clash none also further last =
+      ap (λ l. slice_get l 0) (sym split ∙ both_fine of_offsets _ none (both_fine of_rows _ also (both_fine of_slots _ further last)))

@@ -8,4 +8,5 @@ pub mod Rows
 pub mod Signatures
 pub mod Slots
 pub mod Twice
+pub mod Walks
 pub mod Worked

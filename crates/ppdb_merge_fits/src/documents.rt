@@ -1,14 +1,18 @@
 // Documents of a file that get one name.
-ghost use Rattle.std.specs.Prelude.{◌≡◌, ◌≢◌, ◌≤◌, ℕ, List, None, Some, IfOk, OnOk, cond, length, bytes_eq, slice_get};
-ghost use Rattle.ppdb_values.specs.Ordered.{EachPair};
+ghost use Rattle.std.specs.Prelude.{◌≡◌, ℕ, List, None, Some, IfOk, OnOk, cond, bytes_eq, slice_get};
+ghost use Rattle.ppdb_values.specs.Value.{value_of};
+ghost use Rattle.ppdb_verify.specs.Views.{raw_file};
 ghost use Rattle.ppdb_merge_fits.specs.Documents.{documents_twice, names_twice};
 ghost use Rattle.ppdb_merge_fits.specs.Names.{row_of};
 
-use ppdb_base::{Memory, MergeError};
+use ppdb_base::{Bytes, Memory, MergeError, Steps};
 use ppdb_maps::MapText;
-use ppdb_values::{DocumentValue, FileValue};
+use ppdb_values_reading::read_document;
+use ppdb_verify::Verified;
+use ppdb_verify_rows::count;
 use std::alloc::Global;
 use std::collections::BTreeMap;
+use std::sync::ledger::Ledger;
 
 /// Rows of documents by their names.
 #[derive(Drop)]
@@ -46,19 +50,23 @@ impl Names {
 }
 
 /// What is reported of the first two documents that get one name.
-fn first_name_twice(
+fn first_name_twice<L: Ledger>(
     alloc: Global,
+    file: &Verified<'_>,
     map: &MapText,
-    documents: &[DocumentValue],
+    steps: &mut Steps<L>,
 ) -> Result<Option<MergeError>, Memory>
-    requires { length documents.now ≤ 16777215 }
-    ensures { IfOk result (λ told. told ≡ slice_get (names_twice map.now documents.now) 0) }
+    ensures { IfOk result (λ told. told ≡ slice_get (names_twice map.now (value_of (raw_file file.now)).documents) 0) }
 {
+    file.keeps();
+    let count = count(file, 0x30);
     let mut names = Names::new(alloc);
+    let mut text = Bytes::new(alloc);
     let mut row: u32 = 0;
-    for document in documents {
+    'rows: while row < count {
         row += 1;
-        let name = map.moved_name(document.name.as_slice());
+        read_document(file, row, &mut text, steps)?;
+        let name = map.moved_name(text.as_slice());
         if let Some(first) = names.row_of(name) {
             return Ok(Some(MergeError::DocumentTwice { first, second: row }));
         }
@@ -69,17 +77,17 @@ fn first_name_twice(
 
 /// What is reported of the first two documents of a file that get one name. Their own names differ, so there are none where the map has
 /// no `document` line.
-pub(crate) fn first_document_twice(
+pub(crate) fn first_document_twice<L: Ledger>(
     alloc: Global,
+    file: &Verified<'_>,
     map: &MapText,
-    value: &FileValue,
+    steps: &mut Steps<L>,
 ) -> Result<Option<MergeError>, Memory>
-    requires few { length value.now.documents ≤ 16777215 }
-    requires names { EachPair (λ a b. a.name ≢ b.name) value.now.documents }
-    ensures { IfOk result (λ told. told ≡ slice_get (documents_twice map.now value.now) 0) }
+    ensures { IfOk result (λ told. told ≡ slice_get (documents_twice map.now (value_of (raw_file file.now))) 0) }
 {
+    file.keeps();
     if map.document_line(0).is_none() {
         return Ok(None);
     }
-    first_name_twice(alloc, map, value.documents.as_slice())
+    first_name_twice(alloc, file, map, steps)
 }

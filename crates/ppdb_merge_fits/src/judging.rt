@@ -1,10 +1,9 @@
 // Whether a map fits a file.
-ghost use Rattle.std.specs.Prelude.{◌≡◌, ◌≢◌, ◌⊎◌, ◌↔◌, ◌++◌, ◌≤◌, ◌∷◌, [], All, IsTrue, List, None, Some, IfOk, IfErr, OnOk, length, slice_get};
+ghost use Rattle.std.specs.Prelude.{◌≡◌, ◌⊎◌, ◌↔◌, ◌++◌, ◌∷◌, [], All, IsTrue, List, None, Some, IfOk, IfErr, OnOk, slice_get};
 ghost use Rattle.std.specs.List.{filter_map};
 ghost use Rattle.ppdb_base.specs.declared.merge_error.MergeError.{MergeError};
 ghost use Rattle.ppdb_base.specs.declared.merge_error.MergeError.TheVariants.{Memory as NoMemory};
 ghost use Rattle.ppdb_verify.specs.Views.{raw_file};
-ghost use Rattle.ppdb_values.specs.Ordered.{EachPair};
 ghost use Rattle.ppdb_values.specs.Value.{value_of};
 ghost use Rattle.ppdb_merge_names.specs.References.{references};
 ghost use Rattle.ppdb_merge_moved.specs.Fits.{may_share};
@@ -14,11 +13,11 @@ ghost use Rattle.ppdb_merge_fits.specs.FirstOf.{IsFirstOf};
 ghost use Rattle.ppdb_merge_fits.specs.Offsets.{beyond, lost};
 ghost use Rattle.ppdb_merge_fits.specs.Rows.{imaged, imaged_rows, unmapped, images_twice, rows_twice, unshared, Stays};
 ghost use Rattle.ppdb_merge_fits.specs.Signatures.{all_images};
-ghost use Rattle.ppdb_merge_fits.specs.Slots.{variable_slots, slots_unmapped, slots_twice};
+ghost use Rattle.ppdb_merge_fits.specs.Slots.{slots_unmapped, slots_twice};
 
+use crate::beyond::{first_beyond, first_lost};
 use crate::documents::first_document_twice;
 use crate::kinds::first_unknown;
-use crate::offsets::{first_beyond, first_lost};
 use crate::signatures::with_given;
 use crate::slots::first_of_slots;
 use crate::twice::{first_twice, leave_once};
@@ -26,7 +25,6 @@ use custom_info::Marks;
 use ppdb_base::{List, Memory, MergeError, Steps};
 use ppdb_maps::MapText;
 use ppdb_merge_names::{Imaged, ReferenceError, images};
-use ppdb_values::FileValue;
 use ppdb_verify::Verified;
 use std::alloc::Global;
 use std::sync::ledger::Ledger;
@@ -41,19 +39,20 @@ fn refuse(told: Option<MergeError>) -> Result<(), MergeError>
     }
 }
 
-/// Judges the kinds and the offsets of a value.
-fn judge_value(
+/// Judges the kinds of records, and the offsets.
+fn judge_offsets<L: Ledger>(
     alloc: Global,
-    value: &FileValue,
+    file: &Verified<'_>,
     map: &MapText,
     marks: &Marks,
+    steps: &mut Steps<L>,
 ) -> Result<(), MergeError>
-    requires { length value.now.customs ≤ 16777215 }
-    ensures { IsFirstOf (unknown_kinds marks.now map.now value.now ++ (beyond map.now value.now ++ lost map.now value.now)) result }
+    ensures { IsFirstOf (unknown_kinds marks.now map.now (value_of (raw_file file.now)) ++ (beyond map.now (value_of (raw_file file.now))
+        ++ lost map.now (value_of (raw_file file.now)))) result }
 {
-    refuse(first_unknown(alloc, marks, map, value)?)?;
-    refuse(first_beyond(map, value))?;
-    refuse(first_lost(map, value))
+    refuse(first_unknown(alloc, marks, map, file, steps)?)?;
+    refuse(first_beyond(alloc, file, map, steps))?;
+    refuse(first_lost(alloc, file, map, steps))
 }
 
 /// The rows that a file names with their images, in the order of their places.
@@ -147,43 +146,47 @@ fn judge_rows<L: Ledger>(
 }
 
 /// Judges the slots of variables.
-fn judge_slots(alloc: Global, value: &FileValue, map: &MapText) -> Result<(), MergeError>
-    requires { length (variable_slots value.now) ≤ 16777215 }
-    ensures { IsFirstOf (slots_unmapped map.now value.now ++ slots_twice map.now value.now) result }
+fn judge_slots<L: Ledger>(
+    alloc: Global,
+    file: &Verified<'_>,
+    map: &MapText,
+    steps: &mut Steps<L>,
+) -> Result<(), MergeError>
+    ensures { IsFirstOf (slots_unmapped map.now (value_of (raw_file file.now)) ++ slots_twice map.now (value_of (raw_file file.now))) result }
 {
-    refuse(first_of_slots(alloc, map, value)?)
+    refuse(first_of_slots(alloc, file, map, steps)?)
 }
 
 /// Judges the names that documents get.
-fn judge_documents(alloc: Global, value: &FileValue, map: &MapText) -> Result<(), MergeError>
-    requires few { length value.now.documents ≤ 16777215 }
-    requires names { EachPair (λ a b. a.name ≢ b.name) value.now.documents }
-    ensures { IsFirstOf (documents_twice map.now value.now) result }
+fn judge_documents<L: Ledger>(
+    alloc: Global,
+    file: &Verified<'_>,
+    map: &MapText,
+    steps: &mut Steps<L>,
+) -> Result<(), MergeError>
+    ensures { IsFirstOf (documents_twice map.now (value_of (raw_file file.now))) result }
 {
-    refuse(first_document_twice(alloc, map, value)?)
+    refuse(first_document_twice(alloc, file, map, steps)?)
 }
 
-/// Judges whether a map fits a file, whose value is handed in: the rows of the type system that the file names with their images, each
-/// once, and the local signatures that `signature` lines give, by table, row and image; else what does not fit first, in the order M6,
-/// M4, M5, M1, M2, M10, M11, M12. What goes is not judged. The entry point counts in the first of several files.
+/// Judges whether a map fits a file: the rows of the type system that the file names with their images, each once, and the local
+/// signatures that `signature` lines give, by table, row and image; else what does not fit first, in the order M6, M4, M5, M1, M2, M10,
+/// M11, M12. What goes is not judged. The entry point counts in the first of several files.
 pub fn judge<L: Ledger>(
     alloc: Global,
     file: &Verified<'_>,
-    value: &FileValue,
     map: &MapText,
     marks: &Marks,
     first: bool,
     steps: &mut Steps<L>,
 ) -> Result<List<Imaged>, MergeError>
-    requires { value.now ≡ value_of (raw_file file.now) }
     ensures fits { IfOk result (λ rows. first_clash marks.now first map.now (raw_file file.now) ≡ None) }
     ensures rows { IfOk result (λ rows. rows ≡ all_images first map.now (raw_file file.now)) }
     ensures refused { IfErr result (λ error. (error ≡ NoMemory) ⊎ (first_clash marks.now first map.now (raw_file file.now) ≡ Some error)) }
 {
-    file.keeps();
-    judge_value(alloc, value, map, marks)?;
+    judge_offsets(alloc, file, map, marks, steps)?;
     let rows = judge_rows(alloc, file, map, first, steps)?;
-    judge_slots(alloc, value, map)?;
-    judge_documents(alloc, value, map)?;
-    Ok(with_given(alloc, map, value, rows)?)
+    judge_slots(alloc, file, map, steps)?;
+    judge_documents(alloc, file, map, steps)?;
+    Ok(with_given(alloc, file, map, rows, steps)?)
 }

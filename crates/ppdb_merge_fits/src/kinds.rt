@@ -1,20 +1,26 @@
 // Custom records of unknown kinds.
 ghost use Rattle.std.specs.Prelude.{◌≡◌, ◌≤◌, ◌++◌, IfOk, OnOk, length, map, slice_get};
-ghost use Rattle.std.specs.List.{flat_map, list_any};
-ghost use Rattle.custom_info.specs.Kinds.{kind_of as the_kind};
+ghost use Rattle.std.specs.List.{flat_map};
 ghost use Rattle.ppdb_tables.specs.RawTables.{numbered, row_at};
+ghost use Rattle.ppdb_values.specs.Value.{value_of as value_in};
+ghost use Rattle.ppdb_verify.specs.Views.{raw_file};
 ghost use Rattle.ppdb_merge_fits.specs.Clashes.{method_at, is_at_dropped, is_at_gone, is_at_gone_constant, is_unknown};
 ghost use Rattle.ppdb_merge_items.specs.NamedRows.{goes_constant};
 ghost use Rattle.ppdb_merge_fits.specs.Clashes.{if_unknown, unknown_kinds};
+ghost use Rattle.ppdb_merge_fits.specs.Walks.{has_unknown};
 
 use custom_info::{Kind, Marks, kind_of};
-use ppdb_base::{List, Memory, MergeError};
+use ppdb_base::{List, Memory, MergeError, Steps};
 use ppdb_maps::MapText;
 use ppdb_merge_moved::{constant_goes, is_gone_row};
 use ppdb_tables::Parent;
 use ppdb_values::{ConstantValue, CustomValue, FileValue, ScopeValue};
+use ppdb_values_reading::value_of;
+use ppdb_verify::Verified;
+use ppdb_verify_rows::{count, custom, guid_of_kind};
 use std::alloc::Global;
 use std::marker::Model;
+use std::sync::ledger::Ledger;
 
 /// Puts a method after others, once for each item.
 fn put_for_each<T>(methods: &mut List<u32>, method: u32, items: &[T]) -> Result<(), Memory>
@@ -182,11 +188,16 @@ fn is_unknown(kind: Kind) -> bool
 }
 
 /// Whether some record has an unknown kind.
-fn any_unknown(marks: &Marks, customs: &[CustomValue]) -> bool
-    ensures { result ≡ list_any (λ c. is_unknown (the_kind marks.now c.kind)) customs.now }
+fn any_unknown<L: Ledger>(file: &Verified<'_>, marks: &Marks, steps: &mut Steps<L>) -> bool
+    ensures { result ≡ has_unknown marks.now (value_in (raw_file file.now)).customs }
 {
-    for custom in customs {
-        if is_unknown(kind_of(&custom.kind, marks)) {
+    file.keeps();
+    let count = count(file, 0x37);
+    let mut row: u32 = 0;
+    'rows: while row < count {
+        row += 1;
+        let cells = custom(file, row, steps);
+        if is_unknown(kind_of(&guid_of_kind(file, row, &cells), marks)) {
             return true;
         }
     }
@@ -226,20 +237,22 @@ fn first_in(marks: &Marks, rows: &Rows<'_>, customs: &[CustomValue]) -> Option<M
     None
 }
 
-/// What is reported of the first record of an unknown kind that stays.
-pub(crate) fn first_unknown(
+/// What is reported of the first record of an unknown kind that stays. Only a file that has one is read as a value, whose scopes tell the
+/// methods of rows.
+pub(crate) fn first_unknown<L: Ledger>(
     alloc: Global,
     marks: &Marks,
     map: &MapText,
-    value: &FileValue,
+    file: &Verified<'_>,
+    steps: &mut Steps<L>,
 ) -> Result<Option<MergeError>, Memory>
-    requires { length value.now.customs ≤ 16777215 }
-    ensures { IfOk result (λ told. told ≡ slice_get (unknown_kinds marks.now map.now value.now) 0) }
+    ensures { IfOk result (λ told. told ≡ slice_get (unknown_kinds marks.now map.now (value_in (raw_file file.now))) 0) }
 {
-    let customs = value.customs.as_slice();
-    if !any_unknown(marks, customs) {
+    file.keeps();
+    if !any_unknown(file, marks, steps) {
         return Ok(None);
     }
-    let rows = Rows::new(alloc, map, value)?;
-    Ok(first_in(marks, &rows, customs))
+    let value = value_of(alloc, file, steps)?;
+    let rows = Rows::new(alloc, map, &value)?;
+    Ok(first_in(marks, &rows, value.customs.as_slice()))
 }

@@ -1,65 +1,91 @@
 // The local signatures that the `signature` lines of a map give.
-ghost use Rattle.std.specs.Prelude.{◌≡◌, ◌++◌, IfOk, OnOk, option_to_list};
-ghost use Rattle.std.specs.List.{filter_map};
+ghost use Rattle.std.specs.Prelude.{◌≡◌, ◌++◌, IfOk, OnOk, option_and_then, option_to_list};
+ghost use Rattle.ppdb_values.specs.Parts.{method_at};
+ghost use Rattle.ppdb_values.specs.Rules.{HasRow};
+ghost use Rattle.ppdb_values.specs.Value.{value_of};
+ghost use Rattle.ppdb_verify.specs.Views.{raw_file};
 ghost use Rattle.ppdb_merge_fits.specs.Signatures.{given_signature, given_signatures, with_given};
 
 use crate::twice::by_all;
-use ppdb_base::{List, Memory};
+use ppdb_base::{List, Memory, Steps};
 use ppdb_maps::MapText;
 use ppdb_merge_names::Imaged;
-use ppdb_values::{FileValue, MethodValue};
+use ppdb_values::values_are_rows;
+use ppdb_verify::Verified;
+use ppdb_verify_rows::{count, method_debug, points_of};
 use std::alloc::Global;
+use std::sync::ledger::Ledger;
 
-/// The local signature that a map gives a method that has points, as the image of the stored one; none where it gives none.
-fn given_signature(map: &MapText, method: &MethodValue) -> Option<Imaged>
-    ensures { result ≡ given_signature map.now method.now }
+/// The local signature that a map gives the method of a row, if it has points, as the image of the stored one; none where it gives none.
+fn given_signature<L: Ledger>(
+    file: &Verified<'_>,
+    map: &MapText,
+    row: u32,
+    steps: &mut Steps<L>,
+) -> Option<Imaged>
+    requires there { HasRow (raw_file file.now).tables 0x31 row }
+    ensures { result ≡ option_and_then (given_signature map.now) (method_at (value_of (raw_file file.now)) row) }
 {
-    match map.signature(method.method) {
-        None | Some(0) => None,
-        Some(image) => Some(Imaged {
-            table: 0x11,
-            row: method.signature,
-            to: 0x11,
-            image,
-        }),
+    let image = map.signature(row)?;
+    if image == 0 {
+        return None;
     }
+    let cells = method_debug(file, row, steps);
+    let cursor = points_of(file, row, &cells)?;
+    Some(Imaged {
+        table: 0x11,
+        row: cursor.signature(),
+        to: 0x11,
+        image,
+    })
 }
 
-/// Adds the local signature that a map gives a method.
-fn add_given(all: &mut Vec<Imaged>, map: &MapText, method: &MethodValue) -> Result<(), Memory>
-    ensures { OnOk result (all.new.items ≡ all.old.items ++ option_to_list (given_signature map.now method.now)) }
+/// Adds the local signature that a map gives the method of a row.
+fn add_given<L: Ledger>(
+    all: &mut Vec<Imaged>,
+    file: &Verified<'_>,
+    map: &MapText,
+    row: u32,
+    steps: &mut Steps<L>,
+) -> Result<(), Memory>
+    requires there { HasRow (raw_file file.now).tables 0x31 row }
+    ensures { OnOk result (all.new.items ≡ all.old.items
+        ++ option_to_list (option_and_then (given_signature map.now) (method_at (value_of (raw_file file.now)) row))) }
 {
-    if let Some(given) = given_signature(map, method) {
+    if let Some(given) = given_signature(file, map, row, steps) {
         all.push(given)?;
     }
     Ok(())
 }
 
 /// The local signatures that a map gives methods.
-fn given_signatures(
+fn given_signatures<L: Ledger>(
     alloc: Global,
+    file: &Verified<'_>,
     map: &MapText,
-    methods: &[MethodValue],
+    steps: &mut Steps<L>,
 ) -> Result<Vec<Imaged>, Memory>
-    ensures { IfOk result (λ all. all.items ≡ filter_map (given_signature map.now) methods.now) }
+    ensures { IfOk result (λ all. all.items ≡ given_signatures map.now (value_of (raw_file file.now))) }
 {
+    file.keeps();
+    values_are_rows();
     let mut all = Vec::new(alloc);
-    for method in methods {
-        add_given(&mut all, map, method)?;
+    if map.signature_line(0).is_none() {
+        return Ok(all);
+    }
+    let count = count(file, 0x31);
+    let mut row: u32 = 0;
+    'rows: while row < count {
+        row += 1;
+        add_given(&mut all, file, map, row, steps)?;
     }
     Ok(all)
 }
 
-/// The rows that a file names with their images, which are in order, and the local signatures that a map gives its methods.
-pub(crate) fn with_given(
-    alloc: Global,
-    map: &MapText,
-    value: &FileValue,
-    rows: List<Imaged>,
-) -> Result<List<Imaged>, Memory>
-    ensures { IfOk result (λ all. all ≡ with_given rows (given_signatures map.now value.now)) }
+/// Rows with their images, which are in order, and further ones.
+fn with_further(rows: List<Imaged>, given: Vec<Imaged>) -> Result<List<Imaged>, Memory>
+    ensures { IfOk result (λ all. all ≡ with_given rows given.items) }
 {
-    let given = given_signatures(alloc, map, value.methods.as_slice())?;
     if given.is_empty() {
         return Ok(rows);
     }
@@ -67,4 +93,18 @@ pub(crate) fn with_given(
     all.extend_from_slice(given.as_slice())?;
     by_all(&mut all)?;
     Ok(List::from_vec(all))
+}
+
+/// The rows that a file names with their images, which are in order, and the local signatures that a map gives its methods.
+pub(crate) fn with_given<L: Ledger>(
+    alloc: Global,
+    file: &Verified<'_>,
+    map: &MapText,
+    rows: List<Imaged>,
+    steps: &mut Steps<L>,
+) -> Result<List<Imaged>, Memory>
+    ensures { IfOk result (λ all. all ≡ with_given rows (given_signatures map.now (value_of (raw_file file.now)))) }
+{
+    let given = given_signatures(alloc, file, map, steps)?;
+    with_further(rows, given)
 }

@@ -2,35 +2,58 @@
 ghost use Rattle.std.specs.Prelude.{◌≡◌, ◌≤◌, ◌++◌, IfOk, OnOk, length, option_to_list, slice_get};
 ghost use Rattle.std.specs.List.{filter_map, flat_map};
 ghost use Rattle.ppdb_tables.specs.RawTables.{numbered};
+ghost use Rattle.ppdb_values.specs.Value.{value_of};
+ghost use Rattle.ppdb_values_reading.specs.Scopes.{HasLists, scope_with};
+ghost use Rattle.ppdb_verify.specs.Views.{raw_file};
 ghost use Rattle.ppdb_merge_fits.specs.Slots.{scope_slots, variable_slots, if_slot_unmapped, slots_unmapped, used, twice_of, slots_twice};
 
 use crate::twice::{all_keep_numbers, first_twice, leave_once};
 use crate::used::{MethodSlot, UsedSlot};
-use ppdb_base::{List, Memory, MergeError};
+use ppdb_base::{List, Memory, MergeError, Steps};
 use ppdb_maps::MapText;
-use ppdb_values::{FileValue, ScopeValue};
+use ppdb_values_reading::{Scope, ScopeCursor, scopes_own_their_lists};
+use ppdb_verify::Verified;
+use ppdb_verify_rows::variable;
 use std::alloc::Global;
+use std::sync::ledger::Ledger;
 
 /// Adds the slots of a scope's variables.
-fn add_slots(slots: &mut List<MethodSlot>, scope: &ScopeValue) -> Result<(), Memory>
-    ensures { OnOk result (slots.new ≡ slots.old ++ scope_slots scope.now) }
+fn add_slots<L: Ledger>(
+    slots: &mut List<MethodSlot>,
+    file: &Verified<'_>,
+    scope: &Scope,
+    steps: &mut Steps<L>,
+) -> Result<(), Memory>
+    requires { HasLists (raw_file file.now).tables scope.now }
+    ensures { OnOk result (slots.new ≡ slots.old ++ scope_slots (scope_with (raw_file file.now).tables scope.now)) }
 {
-    for variable in scope.variables.as_slice() {
+    file.keeps();
+    let mut row = scope.variables.first;
+    'rows: while row < scope.variables.end {
+        let cells = variable(file, row, steps);
         slots.push(MethodSlot {
             method: scope.method,
-            slot: variable.slot,
+            slot: cells.slot,
         })?;
+        row += 1;
     }
     Ok(())
 }
 
 /// The slots of the variables of all scopes.
-fn variable_slots(alloc: Global, scopes: &[ScopeValue]) -> Result<List<MethodSlot>, Memory>
-    ensures { IfOk result (λ slots. slots ≡ flat_map scope_slots scopes.now) }
+fn variable_slots<L: Ledger>(
+    alloc: Global,
+    file: &Verified<'_>,
+    steps: &mut Steps<L>,
+) -> Result<List<MethodSlot>, Memory>
+    ensures { IfOk result (λ slots. slots ≡ variable_slots (value_of (raw_file file.now))) }
 {
+    file.keeps();
+    scopes_own_their_lists();
     let mut slots = List::new(alloc);
-    for scope in scopes {
-        add_slots(&mut slots, scope)?;
+    let mut scopes = ScopeCursor::new(file, steps);
+    'scopes: while let Some(scope) = scopes.next(steps) {
+        add_slots(&mut slots, file, &scope, steps)?;
     }
     Ok(slots)
 }
@@ -114,16 +137,20 @@ fn first_slot_twice(
     first_twice(&mut all)
 }
 
-/// What is reported first of the slots of variables.
-pub(crate) fn first_of_slots(
+/// What is reported first of the slots of variables. Without a `slots` line each slot is its own image, and nothing is reported.
+pub(crate) fn first_of_slots<L: Ledger>(
     alloc: Global,
+    file: &Verified<'_>,
     map: &MapText,
-    value: &FileValue,
+    steps: &mut Steps<L>,
 ) -> Result<Option<MergeError>, Memory>
-    requires { length (variable_slots value.now) ≤ 16777215 }
-    ensures { IfOk result (λ told. told ≡ slice_get (slots_unmapped map.now value.now ++ slots_twice map.now value.now) 0) }
+    ensures { IfOk result (λ told. told ≡ slice_get (slots_unmapped map.now (value_of (raw_file file.now)) ++ slots_twice map.now (value_of (raw_file file.now))) 0) }
 {
-    let slots = variable_slots(alloc, value.scopes.as_slice())?;
+    file.keeps();
+    if map.slots_line(0).is_none() {
+        return Ok(None);
+    }
+    let slots = variable_slots(alloc, file, steps)?;
     if let Some(error) = first_unmapped(map, slots.as_slice()) {
         return Ok(Some(error));
     }

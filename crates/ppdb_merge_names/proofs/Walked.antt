@@ -1,10 +1,15 @@
 -- A walk over the rows in a blob, a row at a time.
-use Rattle.std.proofs.Common.{◌≡◌, ℕ, Bool, true, false, cond, List, [], ◌∷◌, ◌++◌, Some, None, refl, ap, filter}
+use Rattle.std.proofs.Common.{◌≡◌, ℕ, ◌&&◌, ◌||◌, Bool, true, false, cond, List, [], ◌∷◌, ◌++◌, Option, Some, None, slice_get, refl, ap, ◌∙◌, filter}
+use Rattle.std.specs.Prelude.{is_some, not, nat_eq}
 use Rattle.std.specs.List.{list_any}
-use Rattle.ppdb_maps.specs.Map.{Map}
+use Rattle.ppdb_maps.specs.Map.{Map, count_of, cross_line, has_gone_line, is_dropped, is_gone, row_line, told_image}
+use Rattle.ppdb_maps.specs.declared.entries.CrossLine.{CrossLine}
+use Rattle.ppdb_maps.specs.declared.entries.GoneLine.{GoneLine}
+use Rattle.ppdb_maps.specs.declared.image.RowImage.{RowImage}
+use Rattle.ppdb_maps.specs.declared.image.RowImage.TheVariants.{Missing, Row}
 use Rattle.type_blobs_rows.specs.declared.row.PlacedRow.{PlacedRow}
 use Rattle.type_blobs_rows.specs.Walk.{first_of, rest_of}
-use Rattle.ppdb_merge_names.specs.References.{Reference, inside, is_live, takes_constant, live_types}
+use Rattle.ppdb_merge_names.specs.References.{Reference, inside, is_enumeration, is_gone_row, is_live, takes_constant, live_types}
 
 pub first_is : (rows : List PlacedRow) (row : PlacedRow) → first_of rows ≡ Some row → rows ≡ row ∷ rest_of rows
 first_is [] row e = absurd cc
@@ -36,3 +41,43 @@ live_there m table row column x e = ap (λ (b : Bool). inside table row column (
 
 pub types_gone : (m : Map) (row : ℕ) (types : List PlacedRow) → list_any (takes_constant m) types ≡ true → inside 0x34 row 1 (live_types m types) ≡ []
 types_gone m row types e = ap (λ (b : Bool). inside 0x34 row 1 (cond b [] (filter (is_live m) types))) e
+
+-- ---- no constant goes where no row leaves its table
+
+no_gone_line : (lines : List GoneLine) (crossed : Bool) → (crossed || is_some (slice_get lines 0)) ≡ false → lines ≡ []
+no_gone_line [] crossed none = refl
+no_gone_line (l ∷ ls) true none = absurd cc
+no_gone_line (l ∷ ls) false none = absurd cc
+
+told_stays : (table : ℕ) (new : Option ℕ) (crossed : Option CrossLine) → is_gone (told_image table new crossed false) ≡ false
+told_stays table (Some n) crossed = refl
+told_stays table None (Some line) = refl
+told_stays table None None = refl
+
+row_stays : (m : Map) (table row : ℕ) → m.gone ≡ [] → is_gone_row m table row ≡ false
+row_stays m table row none = by (nat_eq table 0x06 && is_dropped m row) (count_of m table)
+  where
+    line : is_gone (told_image table (row_line m table row) (cross_line m table row) (has_gone_line m table row)) ≡ false
+    line =
+        ap (λ (lines : List GoneLine). is_gone (told_image table (row_line m table row) (cross_line m table row)
+        (list_any (λ (r : GoneLine). nat_eq r.table table && nat_eq r.old row) lines))) none
+        ∙ told_stays table (row_line m table row) (cross_line m table row)
+
+    by : (dropped : Bool) (count : Option ℕ) → is_gone (cond dropped Missing (elim count as (λ _. RowImage) [
+      | None ↦ Row table row
+      | Some n ↦ told_image table (row_line m table row) (cross_line m table row) (has_gone_line m table row)
+    ])) ≡ false
+    by true count = refl
+    by false None = refl
+    by false (Some n) = line
+
+pub none_goes : (m : Map) (types : List PlacedRow) → (is_some (slice_get m.crossed 0) || is_some (slice_get m.gone 0)) ≡ false
+    → list_any (takes_constant m) types ≡ false
+none_goes m types none = all types
+  where
+    gone : m.gone ≡ []
+    gone = no_gone_line m.gone (is_some (slice_get m.crossed 0)) none
+
+    all : (xs : List PlacedRow) → list_any (takes_constant m) xs ≡ false
+    all [] = refl
+    all (x ∷ xs) = ap (λ (b : Bool). b && not (is_enumeration x.role) || list_any (takes_constant m) xs) (row_stays m x.table x.row gone) ∙ all xs

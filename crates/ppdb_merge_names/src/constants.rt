@@ -34,6 +34,18 @@ fn goes<W: RowWalk>(types: &mut W, imager: &mut Imager<'_>) -> bool
     false
 }
 
+/// Whether the constant of a signature goes. None goes if no row leaves its table.
+fn constant_goes(signature: &[u8], limits: TypeLimits, imager: &mut Imager<'_>) -> bool
+    requires { length signature.now < 2 ^ 32 }
+    ensures goes { result ≡ list_any (takes_constant imager.old.map) (constant_types limits signature.now) }
+    ensures same { imager.new ≡ imager.old }
+{
+    if !imager.has_leaving() {
+        return false;
+    }
+    goes(&mut ConstantTypes::new(signature, limits), imager)
+}
+
 /// Adds the types that the signature of a constant names, unless the constant goes.
 fn add_types(
     signature: &[u8],
@@ -44,7 +56,7 @@ fn add_types(
     requires { length signature.now < 2 ^ 32 }
     ensures { Goes imager.old (inside 0x34 row 1 (live_types imager.old.map (constant_types limits signature.now))) imager.new result }
 {
-    if goes(&mut ConstantTypes::new(signature, limits), imager) {
+    if constant_goes(signature, limits, imager) {
         return Ok(());
     }
     add_live_rows(

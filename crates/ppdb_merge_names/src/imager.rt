@@ -1,5 +1,5 @@
 // The images that were found so far.
-ghost use Rattle.std.specs.Prelude.{◌≡◌, ◌∷◌, [], is_some};
+ghost use Rattle.std.specs.Prelude.{◌≡◌, ◌||◌, ◌∷◌, [], is_some, slice_get};
 ghost use Rattle.ppdb_maps.specs.Map.{is_dropped, row_image, signature_line};
 ghost use Rattle.ppdb_merge_names.specs.Imaging.{Goes};
 ghost use Rattle.ppdb_merge_names.specs.References.{is_gone_row, is_live, leaves_table, names, names_some, takes_constant};
@@ -72,6 +72,13 @@ impl<'m> Imager<'m> {
         ensures { result ≡ is_some (signature_line self.now.map method) }
     {
         self.map.signature(method).is_some()
+    }
+
+    /// Whether rows leave their tables, so that a row may have no successor.
+    pub(crate) fn has_leaving(&self) -> bool
+        ensures { result ≡ (is_some (slice_get self.now.map.crossed 0) || is_some (slice_get self.now.map.gone 0)) }
+    {
+        self.map.has_leaving()
     }
 
     /// The image of a row.

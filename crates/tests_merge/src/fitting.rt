@@ -7,7 +7,6 @@ use ppdb_base::{CounterPermit, List, MergeError, Place, Steps};
 use ppdb_maps::MapText;
 use ppdb_merge_fits::judge;
 use ppdb_merge_names::Imaged;
-use ppdb_values_reading::value_of;
 use ppdb_verify::verify;
 use std::marker::Brand;
 use std::sync::ledger::{Blank, Ledger};
@@ -31,10 +30,7 @@ fn judged_in<L: Ledger>(
     let Ok(file) = verify(rt.alloc(), bytes, &mut steps) else {
         return Err(Fail::from("not valid"));
     };
-    let Ok(value) = value_of(rt.alloc(), &file, &mut steps) else {
-        return Err(Fail::from("no memory"));
-    };
-    Ok(judge(rt.alloc(), &file, &value, map, &marks, true, &mut steps))
+    Ok(judge(rt.alloc(), &file, map, &marks, true, &mut steps))
 }
 
 /// How a map is judged for a file that comes first: the rows that the file names with their images, or what does not fit.

@@ -1,38 +1,47 @@
-use Rattle.std.proofs.Common.{◌≡◌, ◌+◌, sym, ◌∙◌, ap, arith}
+use Rattle.std.proofs.Common.{◌≡◌, ◌+◌, refl, sym, ◌∙◌, ap, arith}
 use Rattle.std.specs.Option.{option_map}
+use Rattle.std.proofs.lemmas.List.{length-map}
 use Rattle.ppdb_base.specs.declared.merge_error.MergeError.TheVariants.{DocumentTwice}
 use Rattle.ppdb_maps.specs.Map.{moved_name}
+use Rattle.ppdb_values.specs.Documents.{document_of}
+use Rattle.ppdb_values.specs.Value.{value_of}
+use Rattle.ppdb_values_reading.specs.Lent.{document_shown}
+use Rattle.ppdb_verify.specs.Views.{raw_file}
 use Rattle.ppdb_merge_fits.specs.Documents.{name_twice}
 use Rattle.ppdb_merge_fits.proofs.OneName.{told_by, leads_next}
 use Rattle.ppdb_merge_fits.proofs.First.{hit_row, miss_row, none_of_rows}
+use Rattle.ppdb_merge_fits.proofs.Rows.{item_at}
 use Rattle.ppdb_merge_fits.proofs.documents.first_name_twice.Goals as goal
 
 pub returns-in-Some : goal.returns-in-Some
-returns-in-Some c =
-    let tells = told_by c.args.map.now c.args.documents.now c.loop-document.names c.loop-document.document-index c.loop-document.row c.document-item.result
-    c.moved_name-name.result.now c.row_of.result c.loop-document.invariant.row c.loop-document.invariant.leads
+returns-in-Some g c =
+    let documents = (value_of (raw_file c.args.file.now)).documents in
+    let x = document_shown c.in_ok-read_document.field-0 c.read_document.new.name in
+    let at = item_at documents c.rows.row x c.in_ok-read_document.ensures.document in
+    let tells = told_by c.args.map.now documents c.rows.names c.rows.row c.rows.row x c.moved_name-name.result.now c.row_of.result refl c.rows.invariant.leads
     (c.moved_name-name.ensures ∙ ap (moved_name c.args.map.now) c.as_slice.ensures) c.row_of.ensures in
-    sym (hit_row (name_twice c.args.map.now c.args.documents.now) c.args.documents.now c.loop-document.document-index c.loop-document.row c.document-item.result
-    _ c.loop-document.invariant.row c.loop-document.invariant.none c.loop-document-test.true c.document-item.is
-    (tells ∙ ap (option_map (λ first. DocumentTwice first (c.loop-document.row + 1))) c.in-Some.is))
+    sym (hit_row (name_twice c.args.map.now documents) documents c.rows.row c.rows.row x _ refl c.rows.invariant.none at.0 at.1
+    (tells ∙ ap (option_map (λ first. DocumentTwice first (c.rows.row + 1))) c.in-Some.is))
 
-pub loop-document-preserved : goal.loop-document-preserved
-loop-document-preserved c =
-    let name : c.moved_name-name.result.now ≡ moved_name c.args.map.now c.document-item.result.name =
+pub rows-preserved : goal.rows-preserved
+rows-preserved g c =
+    let documents = (value_of (raw_file c.args.file.now)).documents in
+    let x = document_shown c.in_ok-read_document.field-0 c.read_document.new.name in
+    let at = item_at documents c.rows.row x c.in_ok-read_document.ensures.document in
+    let name : c.moved_name-name.result.now ≡ moved_name c.args.map.now x.name =
     c.moved_name-name.ensures ∙ ap (moved_name c.args.map.now) c.as_slice.ensures in
-    let tells = told_by c.args.map.now c.args.documents.now c.loop-document.names c.loop-document.document-index c.loop-document.row c.document-item.result
-    c.moved_name-name.result.now c.row_of.result c.loop-document.invariant.row c.loop-document.invariant.leads name c.row_of.ensures in
+    let tells = told_by c.args.map.now documents c.rows.names c.rows.row c.rows.row x c.moved_name-name.result.now c.row_of.result refl c.rows.invariant.leads
+    name c.row_of.ensures in
     record {
-      row = let row = c.loop-document.invariant.row in omega (arith, row);
-      none = miss_row (name_twice c.args.map.now c.args.documents.now) c.args.documents.now c.loop-document.document-index c.loop-document.row
-          c.document-item.result c.loop-document.invariant.row c.loop-document.invariant.none c.loop-document-test.true c.document-item.is
-          (tells ∙ ap (option_map (λ first. DocumentTwice first (c.loop-document.row + 1))) c.in_default.is);
-      leads = leads_next c.args.map.now c.args.documents.now c.loop-document.names c.add.new.self c.loop-document.document-index c.loop-document.row
-          c.document-item.result c.moved_name-name.result.now c.loop-document.invariant.row c.loop-document-test.true c.document-item.is
-          c.loop-document.invariant.leads name (sym c.row_of.ensures ∙ c.in_default.is) c.in_ok-add.ensures;
+      none = miss_row (name_twice c.args.map.now documents) documents c.rows.row c.rows.row x refl c.rows.invariant.none at.0 at.1
+          (tells ∙ ap (option_map (λ first. DocumentTwice first (c.rows.row + 1))) c.in_default.is);
+      leads = leads_next c.args.map.now documents c.rows.names c.add.new.self c.rows.row c.rows.row x c.moved_name-name.result.now refl at.0 at.1
+          c.rows.invariant.leads name (sym c.row_of.ensures ∙ c.in_default.is) c.in_ok-add.ensures;
     }
 
 pub returns : goal.returns
-returns c =
-    sym (none_of_rows (name_twice c.args.map.now c.args.documents.now) c.args.documents.now c.loop-document.document-index c.loop-document.invariant.none
-    c.loop-document-test.false)
+returns g c =
+    let raw = raw_file c.args.file.now in
+    let many = length-map raw.tables.documents (document_of raw.tables) in
+    sym (none_of_rows (name_twice c.args.map.now (value_of raw).documents) (value_of raw).documents c.rows.row c.rows.invariant.none
+    (omega (arith, many, c.keeps.ensures.rules.shape.documents)))

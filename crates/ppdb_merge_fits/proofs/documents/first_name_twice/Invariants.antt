@@ -1,12 +1,18 @@
-use Rattle.std.proofs.Common.{◌≡◌, [], take, flat_map}
+use Rattle.std.proofs.Common.{◌≡◌, ◌-◌, [], take, flat_map}
 use Rattle.ppdb_tables.specs.RawTables.{numbered}
+use Rattle.ppdb_values.specs.Value.{value_of}
+use Rattle.ppdb_verify.specs.Views.{raw_file}
 use Rattle.ppdb_merge_fits.specs.Documents.{name_twice}
 use Rattle.ppdb_merge_fits.proofs.OneName.{Leads}
 use Rattle.ppdb_merge_fits.proofs.documents.first_name_twice.Given as goal
 
-abbrev pub invariant-loop-document : goal.invariant-loop-document
-invariant-loop-document l = record {
-  row : l.row ≡ l.document-index;
-  none : flat_map (name_twice l.map l.documents) (take l.document-index (numbered l.documents)) ≡ [];
-  leads : Leads l.map (take l.document-index (numbered l.documents)) l.names;
-}
+abbrev pub invariant-rows : goal.invariant-rows
+invariant-rows g l =
+    let documents = (value_of (raw_file l.file)).documents in
+    record {
+      none : flat_map (name_twice l.map documents) (take l.row (numbered documents)) ≡ [];
+      leads : Leads l.map (take l.row (numbered documents)) l.names;
+    }
+
+abbrev pub decreases-rows : goal.decreases-rows
+decreases-rows g l = l.count - l.row

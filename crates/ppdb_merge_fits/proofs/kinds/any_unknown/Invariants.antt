@@ -1,9 +1,11 @@
-use Rattle.std.proofs.Common.{◌≡◌, false, take}
-use Rattle.std.specs.List.{list_any}
-use Rattle.custom_info.specs.Kinds.{kind_of}
-use Rattle.ppdb_values.specs.declared.custom.CustomValue.{CustomValue}
-use Rattle.ppdb_merge_fits.specs.Clashes.{is_unknown}
+use Rattle.std.proofs.Common.{◌≡◌, ◌-◌, false, take}
+use Rattle.ppdb_values.specs.Value.{value_of}
+use Rattle.ppdb_verify.specs.Views.{raw_file}
+use Rattle.ppdb_merge_fits.specs.Walks.{has_unknown}
 use Rattle.ppdb_merge_fits.proofs.kinds.any_unknown.Given as goal
 
-abbrev pub invariant-loop-custom : goal.invariant-loop-custom
-invariant-loop-custom l = list_any (λ (c : CustomValue). is_unknown (kind_of l.marks c.kind)) (take l.custom-index l.customs) ≡ false
+abbrev pub invariant-rows : goal.invariant-rows
+invariant-rows g l = has_unknown l.marks (take l.row (value_of (raw_file l.file)).customs) ≡ false
+
+abbrev pub decreases-rows : goal.decreases-rows
+decreases-rows g l = l.count - l.row

@@ -1,6 +1,17 @@
-use Rattle.std.proofs.Common.{◌≡◌, take, flat_map}
-use Rattle.ppdb_merge_fits.specs.Slots.{scope_slots}
+use Rattle.std.proofs.Common.{◌≡◌, ◌++◌, All, length, flat_map, map}
+use Rattle.ppdb_values.specs.Value.{value_of}
+use Rattle.ppdb_verify.specs.Views.{raw_file}
+use Rattle.ppdb_values_reading.specs.Scopes.{HasLists, scope_with}
+use Rattle.ppdb_merge_fits.specs.Slots.{scope_slots, variable_slots}
 use Rattle.ppdb_merge_fits.proofs.slots.variable_slots.Given as goal
 
-abbrev pub invariant-loop-scope : goal.invariant-loop-scope
-invariant-loop-scope l = l.slots ≡ flat_map scope_slots (take l.scope-index l.scopes)
+abbrev pub invariant-scopes : goal.invariant-scopes
+invariant-scopes g l =
+    let raw = raw_file l.file in
+    record {
+      within : All (HasLists raw.tables) l.scopes;
+      made : l.slots ++ flat_map scope_slots (map (scope_with raw.tables) l.scopes) ≡ variable_slots (value_of raw);
+    }
+
+abbrev pub decreases-scopes : goal.decreases-scopes
+decreases-scopes g l = length l.scopes

@@ -5,10 +5,10 @@ use Rattle.ppdb_merge_names.proofs.Going.{goes-none}
 use Rattle.ppdb_merge_names.proofs.Walked.{types_gone}
 use Rattle.ppdb_merge_names.proofs.constants.add_types.Goals as goal
 
-pub returns-then-goes : goal.returns-then-goes
-returns-then-goes c =
+pub returns-then-constant_goes : goal.returns-then-constant_goes
+returns-then-constant_goes c =
     let s = c.args.imager.now in
     let types = constant_types c.args.limits c.args.signature.now in
-    rw c.goes.ensures.same
+    rw c.constant_goes.ensures.same
     (goes-none s (inside 0x34 c.args.row 1 (live_types s.map types))
-    (types_gone s.map c.args.row types (rw c.new.ensures at (sym c.goes.ensures.goes ∙ c.if-goes.true))))
+    (types_gone s.map c.args.row types (sym c.constant_goes.ensures.goes ∙ c.if-constant_goes.true)))

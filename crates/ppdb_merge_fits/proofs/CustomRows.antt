@@ -1,0 +1,47 @@
+-- Scopes and records of custom debug information, row after row.
+use Rattle.std.proofs.Common.{◌≡◌, ℕ, Bool, true, false, cond, List, [], Some, None, length, slice_get, sym, ◌∙◌, ap}
+use Rattle.std.proofs.lemmas.List.{length-map}
+use Rattle.std.proofs.lemmas.List.FromFn.{length-enumerate_from}
+use Rattle.ppdb_base.specs.declared.merge_error.MergeError.{MergeError}
+use Rattle.ppdb_maps.specs.Map.{Map}
+use Rattle.ppdb_tables.specs.declared.rows.CustomRow.{CustomRow}
+use Rattle.ppdb_tables.specs.declared.rows.ScopeRow.{ScopeRow}
+use Rattle.ppdb_tables.specs.RawTables.{numbered, row_at}
+use Rattle.ppdb_values.specs.declared.custom.CustomBody.{CustomBody}
+use Rattle.ppdb_values.specs.declared.custom.CustomValue.{CustomValue}
+use Rattle.ppdb_values.specs.Customs.{custom_of}
+use Rattle.ppdb_values.specs.RawFile.{RawFile}
+use Rattle.ppdb_values.specs.Value.{scope_of, value_of}
+use Rattle.ppdb_values_reading.proofs.Rows.{numbered_row, row_made}
+use Rattle.ppdb_merge_items.specs.NamedRows.{live_custom}
+use Rattle.ppdb_merge_fits.specs.Walks.{record_told}
+
+pub scopes_many : (raw : RawFile) → length (value_of raw).scopes ≡ length raw.tables.scopes
+scopes_many raw = length-map (numbered raw.tables.scopes) (scope_of raw.tables) ∙ length-enumerate_from 1 raw.tables.scopes
+
+pub customs_many : (raw : RawFile) → length (value_of raw).customs ≡ length raw.tables.customs
+customs_many raw = length-map raw.tables.customs (custom_of raw.tables)
+
+pub scope_there : (raw : RawFile) (row : ℕ) (cells : ScopeRow) → row_at raw.tables.scopes row ≡ Some cells
+    → row_at (value_of raw).scopes row ≡ Some (scope_of raw.tables (row, cells))
+scope_there raw row cells there =
+    row_made (scope_of raw.tables) (numbered raw.tables.scopes) row (row, cells) (numbered_row raw.tables.scopes row cells there)
+
+pub custom_there : (raw : RawFile) (row : ℕ) (cells : CustomRow) → row_at raw.tables.customs row ≡ Some cells
+    → row_at (value_of raw).customs row ≡ Some (custom_of raw.tables cells)
+custom_there raw row cells there = row_made (custom_of raw.tables) raw.tables.customs row cells there
+
+module _ (m : Map) (told : ℕ → CustomBody → List MergeError) (c : CustomValue) where
+  by_stay : (b : Bool) → live_custom m c ≡ b → slice_get (record_told m told c) 0 ≡ slice_get (cond b (told c.parent.row c.value) []) 0
+  by_stay b is = ap (λ (h : Bool). slice_get (cond h (told c.parent.row c.value) []) 0) is
+
+  -- nothing is reported of a record that goes
+  pub record_goes : (custom : CustomValue) → c ≡ custom → live_custom m c ≡ false → slice_get (record_told m told custom) 0 ≡ None
+  record_goes custom same goes = ap (λ (x : CustomValue). slice_get (record_told m told x) 0) (sym same) ∙ by_stay false goes
+
+  pub record_there : (custom : CustomValue) → c ≡ custom → live_custom m c ≡ true
+      → slice_get (told c.parent.row c.value) 0 ≡ slice_get (record_told m told custom) 0
+  record_there custom same stays = sym (by_stay true stays) ∙ ap (λ (x : CustomValue). slice_get (record_told m told x) 0) same
+
+pub one_row : {X : Type 0} (rows : List X) (row : ℕ) (x y : X) → row_at rows row ≡ Some x → row_at rows row ≡ Some y → x ≡ y
+one_row rows row x y a b = cc
