@@ -4,3 +4,6 @@ pub mod Writable
 pub mod Written
 pub mod Finished
 pub mod Told
+pub mod Early
+pub mod Guids
+pub mod Heads

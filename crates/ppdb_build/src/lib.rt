@@ -3,12 +3,15 @@
 
 mod error;
 mod finish;
+mod joined;
+mod joined_head;
 mod parts;
 mod rebuilding;
 mod value_key;
 mod write;
 
 pub use error::BuildError;
+pub use joined::write_joined;
 pub use ppdb_base::Limit;
 pub use ppdb_build_canon::IdChoice;
 pub use ppdb_build_heaps::{ItemKey, KeyMaker};

@@ -26,7 +26,7 @@ use std::alloc::Global;
 use std::sync::ledger::Ledger;
 
 /// A head has 64 row counts.
-fn rows_are_long(head: &PdbHead)
+pub(crate) fn rows_are_long(head: &PdbHead)
     ensures { length head.now.rows ≡ 64 }
 {
     let _rows: &[u32] = &head.rows;

@@ -55,7 +55,7 @@ use Rattle.ppdb_merge_meaning_laws.proofs.Counts.{moved_counts_sound}
 use Rattle.ppdb_merge.proofs.Traced.{file_sound, moved_images, moved_entry}
 
 -- the documents of a moved file, with their records, are its documents with the names that the map gives
-items_are : (m : Map) (value : FileValue) (n : ℕ) (ds : List DocumentValue)
+pub items_are : (m : Map) (value : FileValue) (n : ℕ) (ds : List DocumentValue)
     → items_of (map (with_item (moved_document m)) (annotated_from value 0x30 n ds)) ≡ map (moved_document m) ds
 items_are m value n [] = refl
 items_are m value n (d ∷ ds) = ap (λ l. moved_document m d ∷ l) (items_are m value (n + 1) ds)

@@ -4,7 +4,7 @@ use Rattle.std.proofs.Common.{sym, ap, ◌∙◌, subst, arith}
 use Rattle.std.specs.Prelude.{is_some, slice_get, get_or, flat_map}
 use Rattle.std.specs.List.{filter_map, cons_option, enumerate_from, range_with_len}
 
-none_left : {A : Type 0} (o : Option A) (xs : List A) → cons_option o xs ≡ [] → (o ≡ None) × (xs ≡ [])
+pub none_left : {A : Type 0} (o : Option A) (xs : List A) → cons_option o xs ≡ [] → (o ≡ None) × (xs ≡ [])
 none_left None xs is = (refl, is)
 none_left (Some x) xs is = absurd cc
 
@@ -153,11 +153,11 @@ none_range f start k before is = subst (λ m. flat_map f (range_with_len start m
 
 -- ---- what an answer says, as a whole
 
-some_of : {A : Type 0} (o : Option A) → is_some o ≡ true → (x : A) × (o ≡ Some x)
+pub some_of : {A : Type 0} (o : Option A) → is_some o ≡ true → (x : A) × (o ≡ Some x)
 some_of None is = absurd cc
 some_of (Some x) is = (x, refl)
 
-none_of : {A : Type 0} (o : Option A) → is_some o ≡ false → o ≡ None
+pub none_of : {A : Type 0} (o : Option A) → is_some o ≡ false → o ≡ None
 none_of None is = refl
 none_of (Some x) is = absurd cc
 

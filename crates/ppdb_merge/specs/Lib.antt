@@ -1,7 +1,10 @@
 pub mod Indexes
+pub mod Inputs
 pub mod Kept
+pub mod Laws
 pub mod Merged
 pub mod Refusals
+pub mod Rows
 pub mod Sound
 pub mod Together
 pub mod Worked

@@ -63,7 +63,7 @@ impl Documents {
     }
 
     /// Adds a document, if none has its name.
-    fn add_document(&mut self, document: &DocumentValue) -> Result<(), Memory>
+    pub(crate) fn add_document(&mut self, document: &DocumentValue) -> Result<(), Memory>
         ensures { OnOk result ((all : List document_value) → HoldsDocuments (firsts [] all) self.old
             → HoldsDocuments (firsts [] (all ++ document.now ∷ [])) self.new) }
     {
@@ -92,7 +92,12 @@ impl Documents {
     }
 
     /// What is reported of a document of a further input, with the name that its map gives it, by its row there.
-    fn conflict(&self, map: &MapText, row: u32, document: &DocumentValue) -> Option<MergeError>
+    pub(crate) fn conflict(
+        &self,
+        map: &MapText,
+        row: u32,
+        document: &DocumentValue,
+    ) -> Option<MergeError>
         ensures { (all : List document_value) → HoldsDocuments all self.now → result ≡ moved_conflict map.now all (row, document.now) }
     {
         let standing = self.by_name.get(map.moved_name(document.name.as_slice()))?;

@@ -33,7 +33,7 @@ fn is_other_link(custom: &CustomValue, row: u32, value: &[u8]) -> bool
 }
 
 /// Whether there is one among the records of an input.
-fn input_has_other(customs: &[CustomValue], row: u32, value: &[u8]) -> bool
+pub(crate) fn input_has_other(customs: &[CustomValue], row: u32, value: &[u8]) -> bool
     ensures { result ≡ list_any (is_other_link row value.now) customs.now }
 {
     for custom in customs {

@@ -46,7 +46,7 @@ pub(crate) fn read_input<L: Ledger>(
     nothing_clashes();
     let first = traces.len() == 0;
     let value = value_of(alloc, file, steps)?;
-    let rows = judge(alloc, file, &value, map, marks, first, steps)?;
+    let rows = judge(alloc, file, map, marks, first, steps)?;
     match clash_before(index, traces, map, rows.as_slice(), &value) {
         Some(told) => return Err(told),
         None => {}

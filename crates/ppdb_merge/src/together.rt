@@ -1,5 +1,5 @@
 // Why the inputs do not fit each other as a whole.
-ghost use Rattle.std.specs.Prelude.{◌≡◌, ◌∷◌, ◌-◌, ◌<◌, ◌^◌, length, slice_get};
+ghost use Rattle.std.specs.Prelude.{◌≡◌, ◌∷◌, ◌-◌, ◌<◌, ◌^◌, length, map, slice_get};
 ghost use Rattle.std.specs.List.{enumerate_from, filter_map};
 ghost use Rattle.ppdb_merge.specs.Together.{above, count_in, differs, images_above, misfit_of, rows_differ};
 
@@ -7,18 +7,47 @@ use crate::trace::Trace;
 use ppdb_base::MergeError;
 use ppdb_merge_names::Imaged;
 
+/// What counts the output's rows and names images, as an input does.
+pub(crate) trait Counted {
+    ghost use Rattle.std.specs.Prelude.{◌≡◌};
+    ghost use Rattle.ppdb_merge.specs.declared.trace.Trace.{Trace};
+
+    /// An input with these counts and images.
+    ghost trace: { Self → Trace };
+
+    /// The rows of each table in the output.
+    fn counts(&self) -> &[u32; 64]
+        ensures { result.now ≡ (trace self.now).moved.rows };
+
+    /// The rows that are named, with their images.
+    fn images(&self) -> &[Imaged]
+        ensures { result.now ≡ (trace self.now).rows };
+}
+
+impl Counted for Trace {
+    ghost trace = { λ trace. trace };
+
+    fn counts(&self) -> &[u32; 64] {
+        self.moved.rows()
+    }
+
+    fn images(&self) -> &[Imaged] {
+        self.rows.as_slice()
+    }
+}
+
 /// The rows of a table in the output, as an input has it.
-fn count(trace: &Trace, table: u8) -> u32
+fn count<T: Counted>(trace: &T, table: u8) -> u32
     requires { table < 64 }
-    ensures { result ≡ count_in trace.now table }
+    ensures { result ≡ count_in (T.trace trace.now) table }
 {
-    trace.moved.rows()[table as usize]
+    trace.counts()[table as usize]
 }
 
 /// What is reported of a table that an input counts otherwise than the first.
-fn differs(first: &Trace, table: u8, input: u32, other: &Trace) -> Option<MergeError>
+fn differs<T: Counted>(first: &T, table: u8, input: u32, other: &T) -> Option<MergeError>
     requires { table < 64 }
-    ensures { result ≡ differs first.now table (input, other.now) }
+    ensures { result ≡ differs (T.trace first.now) table (input, T.trace other.now) }
 {
     let (first, second) = (count(first, table), count(other, table));
     if first == second {
@@ -33,10 +62,10 @@ fn differs(first: &Trace, table: u8, input: u32, other: &Trace) -> Option<MergeE
 }
 
 /// What is reported first of a table of the inputs after the first.
-fn first_differing(first: &Trace, others: &[Trace], table: u8) -> Option<MergeError>
+fn first_differing<T: Counted>(first: &T, others: &[T], table: u8) -> Option<MergeError>
     requires low { table < 64 }
     requires few { length others.now < 2 ^ 32 - 2 }
-    ensures { result ≡ slice_get (filter_map (differs first.now table) (enumerate_from 2 others.now)) 0 }
+    ensures { result ≡ slice_get (filter_map (differs (T.trace first.now) table) (enumerate_from 2 (map T.trace others.now))) 0 }
 {
     let mut input = 2;
     for other in others {
@@ -50,9 +79,9 @@ fn first_differing(first: &Trace, others: &[Trace], table: u8) -> Option<MergeEr
 }
 
 /// What is reported first of the inputs' row counts.
-fn rows_differ(first: &Trace, others: &[Trace]) -> Option<MergeError>
+fn rows_differ<T: Counted>(first: &T, others: &[T]) -> Option<MergeError>
     requires { length others.now < 2 ^ 32 - 2 }
-    ensures { result ≡ slice_get (rows_differ (first.now ∷ others.now)) 0 }
+    ensures { result ≡ slice_get (rows_differ (T.trace first.now ∷ map T.trace others.now)) 0 }
 {
     for table in 0..0x2d {
         let told = first_differing(first, others, table);
@@ -64,8 +93,8 @@ fn rows_differ(first: &Trace, others: &[Trace]) -> Option<MergeError>
 }
 
 /// What is reported of a row whose image is above the rows of the image's table.
-fn above(input: u32, trace: &Trace, imaged: &Imaged) -> Option<MergeError>
-    ensures { result ≡ above (input, trace.now) imaged.now }
+fn above<T: Counted>(input: u32, trace: &T, imaged: &Imaged) -> Option<MergeError>
+    ensures { result ≡ above (input, T.trace trace.now) imaged.now }
 {
     let Imaged {
         table,
@@ -73,7 +102,7 @@ fn above(input: u32, trace: &Trace, imaged: &Imaged) -> Option<MergeError>
         to,
         image,
     } = *imaged;
-    let rows = *trace.moved.rows().get(to as usize).unwrap_or(&0);
+    let rows = *trace.counts().get(to as usize).unwrap_or(&0);
     if image <= rows {
         return None;
     }
@@ -87,10 +116,10 @@ fn above(input: u32, trace: &Trace, imaged: &Imaged) -> Option<MergeError>
 }
 
 /// What is reported first of an input's images.
-fn first_above(input: u32, trace: &Trace) -> Option<MergeError>
-    ensures { result ≡ slice_get (filter_map (above (input, trace.now)) trace.now.rows) 0 }
+fn first_above<T: Counted>(input: u32, trace: &T) -> Option<MergeError>
+    ensures { result ≡ slice_get (filter_map (above (input, T.trace trace.now)) (T.trace trace.now).rows) 0 }
 {
-    for imaged in trace.rows.as_slice() {
+    for imaged in trace.images() {
         let told = above(input, trace, imaged);
         if told.is_some() {
             return told;
@@ -100,9 +129,9 @@ fn first_above(input: u32, trace: &Trace) -> Option<MergeError>
 }
 
 /// What is reported first of the images of all inputs.
-fn images_above(traces: &[Trace]) -> Option<MergeError>
+fn images_above<T: Counted>(traces: &[T]) -> Option<MergeError>
     requires { length traces.now < 2 ^ 32 - 1 }
-    ensures { result ≡ slice_get (images_above traces.now) 0 }
+    ensures { result ≡ slice_get (images_above (map T.trace traces.now)) 0 }
 {
     let mut input = 1;
     for trace in traces {
@@ -116,9 +145,9 @@ fn images_above(traces: &[Trace]) -> Option<MergeError>
 }
 
 /// What is reported of inputs together: M8, or else M9.
-pub(crate) fn misfit(traces: &[Trace]) -> Option<MergeError>
+pub(crate) fn misfit<T: Counted>(traces: &[T]) -> Option<MergeError>
     requires { length traces.now < 2 ^ 32 - 1 }
-    ensures { result ≡ misfit_of traces.now }
+    ensures { result ≡ misfit_of (map T.trace traces.now) }
 {
     let Some((first, others)) = traces.split_first() else {
         return None;

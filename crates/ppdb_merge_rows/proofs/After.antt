@@ -4,12 +4,13 @@ use Rattle.std.proofs.Common.{refl, sym, ap, ◌∙◌, arith, length-append, ap
 use Rattle.std.specs.Prelude.{ℤ, All, unwrap_or, get_or, slice_get, nat_lt, if◌then◌else◌}
 use Rattle.std.specs.Option.{option_map, option_and_then}
 use Rattle.std.proofs.lemmas.List.Elements.{All-nil, All-cons, All-head, All-tail}
-use Rattle.ppdb_base.specs.Offsets.{Offsets, gone, moved, is_kept_between, old_size}
+use Rattle.ppdb_base.specs.Offsets.{Offsets, gone, moved, is_kept_between, old_size, Rise}
 use Rattle.ppdb_maps.specs.Map.{Map, moved_row, moved_signature, offsets_in, is_dropped, line_offsets, method_line}
 use Rattle.cli_ints.specs.Shortest.{short_unsigned, in_two_bytes, in_four_bytes}
 use Rattle.sequence_points.specs.declared.point.Point.{Point}
 use Rattle.sequence_points.specs.MovedPoints.{moved_points, first_offset}
 use Rattle.sequence_points.specs.Points.{common_document}
+use Rattle.sequence_points.specs.Ranges.{IsOffset}
 use Rattle.sequence_points.specs.Written.{points_blob, header_bytes, initial_document, points_bytes, large_steps, first_of, numbered}
 use Rattle.ppdb_values.specs.Parts.{method_at}
 use Rattle.ppdb_values.specs.RawFile.{RawFile}
@@ -17,7 +18,9 @@ use Rattle.ppdb_values.specs.Value.{value_of}
 use Rattle.ppdb_values.specs.declared.file.MethodValue.{MethodValue}
 use Rattle.ppdb_merge_joined.specs.Joined.{row_in, renumbered_method}
 use Rattle.ppdb_merge_moved.specs.Moved.{moved_method, with_points}
+use Rattle.sequence_points_moved.specs.Conditions.{HasImage}
 use Rattle.sequence_points_moved.specs.MovedBlob.{in_new_document, moved_in, moved_blob}
+use Rattle.sequence_points_moved.proofs.Stays.{image_small}
 use Rattle.ppdb_merge_rows.specs.Methods.{method_after, HasBlob, HasLargeStep}
 
 abbrev HasDocument : Point → Type 0
@@ -52,6 +55,22 @@ moved_documents o (p ∷ ps) all =
         → All HasDocument (cond b (record p { offset = moved o p.offset } ∷ moved_points o ps) (moved_points o ps))
     by_test false rest = rest
     by_test true rest = All-cons HasDocument (record p { offset = moved o p.offset }) (moved_points o ps) (All-head HasDocument p ps all) rest
+
+-- ---- offsets
+
+-- a point that moves to an image that can be written has an offset that can
+pub moved_small : (o : Offsets) → Rise o → (documents : List ℕ) (ps : List Point) → All (λ (p : Point). HasImage o p.offset) ps
+    → All (λ (p : Point). IsOffset p.offset) (moved_in o documents ps)
+moved_small o rise documents [] all = All-nil (λ (p : Point). IsOffset p.offset)
+moved_small o rise documents (p ∷ ps) all =
+    by_test (is_kept_between o p.offset (first_offset (old_size o) ps)) (moved_small o rise documents ps (All-tail (λ (p : Point). HasImage o p.offset) p ps all))
+  where
+    by_test : (b : Bool) → All (λ (p : Point). IsOffset p.offset) (moved_in o documents ps)
+        → All (λ (p : Point). IsOffset p.offset)
+        (map (in_new_document documents) (cond b (record p { offset = moved o p.offset } ∷ moved_points o ps) (moved_points o ps)))
+    by_test false rest = rest
+    by_test true rest = All-cons (λ (p : Point). IsOffset p.offset) (in_new_document documents (record p { offset = moved o p.offset }))
+        (moved_in o documents ps) (image_small o rise p.offset (All-head (λ (p : Point). HasImage o p.offset) p ps all)) rest
 
 -- ---- the method
 
@@ -139,9 +158,10 @@ module _ (m : Map) (method : MethodValue) (after : Option MethodValue) where
 
   pub answers_blob : (column : ℕ) (old new : List ℕ) (ps : List Point) → after ≡ with_moved m method ps
       → new ≡ old ++ moved_blob (moved_signature m method.method method.signature) ps → column ≡ common_document ps → large_steps [] ps ≡ []
-      → (length new ≡ length old → ⊥) → (v : MethodValue) × (after ≡ Some v) × HasBlob old new column v
-  answers_blob column old new [] is blob document steps apart = absurd (apart (ap length (blob ∙ append-nil old)))
-  answers_blob column old new (p ∷ ps) is blob document steps apart = (_, is, record { blob = blob; column_is = document; steps = steps })
+      → All (λ (p : Point). IsOffset p.offset) ps → (length new ≡ length old → ⊥) → (v : MethodValue) × (after ≡ Some v) × HasBlob old new column v
+  answers_blob column old new [] is blob document steps small apart = absurd (apart (ap length (blob ∙ append-nil old)))
+  answers_blob column old new (p ∷ ps) is blob document steps small apart =
+      (_, is, record { blob = blob; column_is = document; forms = record { offsets = small; steps = steps } })
 
   pub answers_step : (index : ℕ) (step : ℤ) (ps : List Point) → after ≡ with_moved m method ps → first_of (large_steps [] ps) ≡ Some (numbered index step)
       → HasLargeStep after

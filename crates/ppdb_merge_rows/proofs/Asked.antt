@@ -6,6 +6,7 @@ use Rattle.ppdb_maps.specs.Map.{Map, MethodLine, is_dropped, line_offsets, metho
 use Rattle.sequence_points.specs.declared.point.Point.{Point}
 use Rattle.sequence_points.specs.declared.point.PointLimits.{PointLimits}
 use Rattle.sequence_points.specs.Points.{common_document}
+use Rattle.sequence_points.specs.Ranges.{IsOffset}
 use Rattle.sequence_points.specs.Written.{large_steps, first_of, numbered}
 use Rattle.ppdb_tables.specs.declared.rows.MethodDebugRow.{MethodDebugRow}
 use Rattle.ppdb_tables.specs.RawTables.{row_at}
@@ -17,7 +18,7 @@ use Rattle.ppdb_values.specs.Value.{value_of}
 use Rattle.sequence_points_moved.specs.Conditions.{EachPoint, HasImage, IsWhole, ReadsAs}
 use Rattle.sequence_points_moved.specs.MovedBlob.{moved_in, moved_blob}
 use Rattle.ppdb_merge_rows.specs.Methods.{HasBlob, HasLargeStep, PointsFit, is_long, method_after}
-use Rattle.ppdb_merge_rows.proofs.After.{after_some, answers_gone, answers_blob, answers_step, with_moved}
+use Rattle.ppdb_merge_rows.proofs.After.{after_some, answers_gone, answers_blob, answers_step, moved_small, with_moved}
 use Rattle.ppdb_merge_rows.proofs.Images.{has_image}
 use Rattle.ppdb_merge_rows.proofs.Read.{IsRead, is_read, one_reading}
 
@@ -91,6 +92,11 @@ module _ {raw : RawFile} {m : Map} {row : ℕ} {cells : MethodDebugRow} {signatu
   asked_images fits rise kept short = λ other others also.
       subst (All (λ (p : Point). HasImage o p.offset)) (same_points other others also) (images fits rise kept short)
 
+  -- the offsets of the points that stay can be written
+  pub small_offsets : PointsFit raw m row → Rise o → is_dropped m row ≡ false → is_long o ≡ false → (documents : List ℕ)
+      → All (λ (p : Point). IsOffset p.offset) (moved_in o documents points)
+  small_offsets fits rise kept short documents = moved_small o rise documents points (images fits rise kept short)
+
   -- ---- what is answered
 
   moved_is : (documents : List ℕ) → method_after raw m documents row ≡ with_moved m (held row signature points) (moved_in o documents points)
@@ -105,11 +111,12 @@ module _ {raw : RawFile} {m : Map} {row : ℕ} {cells : MethodDebugRow} {signatu
 
   pub blob_answer : (documents old new : List ℕ) (moved column : ℕ) → moved ≡ moved_signature m row signature
       → new ≡ old ++ moved_blob moved (moved_in o documents points) → column ≡ common_document (moved_in o documents points)
-      → large_steps [] (moved_in o documents points) ≡ [] → (length new ≡ length old → ⊥)
+      → large_steps [] (moved_in o documents points) ≡ [] → All (λ (p : Point). IsOffset p.offset) (moved_in o documents points)
+      → (length new ≡ length old → ⊥)
       → (v : MethodValue) × (method_after raw m documents row ≡ Some v) × HasBlob old new column v
-  blob_answer documents old new moved column signed blob document steps apart =
+  blob_answer documents old new moved column signed blob document steps small apart =
       answers_blob m (held row signature points) (method_after raw m documents row) column old new (moved_in o documents points) (moved_is documents)
-      (blob ∙ ap (λ (s : ℕ). old ++ moved_blob s (moved_in o documents points)) signed) document steps apart
+      (blob ∙ ap (λ (s : ℕ). old ++ moved_blob s (moved_in o documents points)) signed) document steps small apart
 
   pub step_answer : (documents : List ℕ) (index : ℕ) (step : ℤ) → first_of (large_steps [] (moved_in o documents points)) ≡ Some (numbered index step)
       → HasLargeStep (method_after raw m documents row)

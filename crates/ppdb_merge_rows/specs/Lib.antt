@@ -1,3 +1,4 @@
 pub mod Methods
 pub mod Rows
 pub mod Laws
+pub mod Inputs

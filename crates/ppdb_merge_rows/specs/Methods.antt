@@ -1,5 +1,5 @@
 -- What becomes of the points of a method of an input (Portable PDB v1.0, "MethodDebugInformation Table", "Sequence Points Blob").
-use Rattle.ppdb_values.specs.Names.{Offsets, every, gone, lined, old_size, common_document, number_limit, points_blob, large_steps}
+use Rattle.ppdb_values.specs.Names.{Offsets, every, gone, lined, old_size, Point, IsOffset, common_document, number_limit, points_blob, large_steps}
 use Rattle.std.specs.Prelude.{◌≡◌, ◌≢◌, ℕ, ◌<◌, ◌++◌, ◌⊎◌, Bool, true, false, not, nat_lt, List, [], Option, Some, None, All, option_map, option_and_then}
 use Rattle.ppdb_maps.specs.Map.{Map, offsets_in}
 use Rattle.ppdb_values.specs.{declared.file.MethodValue.MethodValue, Parts.method_at, RawFile.RawFile, Value.value_of}
@@ -23,11 +23,16 @@ is_long every = false
 is_long gone = false
 is_long (lined runs old new) = not (nat_lt new number_limit)
 
+-- Each offset of the method's points, and each step of theirs from line to line, has a form in a blob.
+pub record HasForms (method : MethodValue) : Type 0 where
+  pub offsets : All (λ (p : Point). IsOffset p.offset) method.points
+  pub steps : large_steps [] method.points ≡ []
+
 -- The method's blob was appended, and this is its Document column.
 pub record HasBlob (old new : List ℕ) (column : ℕ) (method : MethodValue) : Type 0 where
   pub blob : new ≡ old ++ points_blob method.signature method.points
   pub column_is : column ≡ common_document method.points
-  pub steps : large_steps [] method.points ≡ []
+  pub forms : HasForms method
 
 -- some step from line to line has no form
 abbrev pub HasLargeStep : Option MethodValue → Type 0

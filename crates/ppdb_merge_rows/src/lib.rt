@@ -4,6 +4,7 @@
 
 mod constants;
 mod imports;
+mod inputs;
 mod laws;
 mod methods;
 mod records;
@@ -12,6 +13,7 @@ mod scopes;
 
 pub use constants::moved_constant;
 pub use imports::moved_import_scope;
+pub use inputs::RowInput;
 pub use laws::{fitting_points_fit, methods_have_their_rows, rows_are_images};
 pub use methods::{MovedMethod, moved_method, moved_method_into};
 pub use records::{MovedBody, MovedRecord, moved_record};

@@ -29,6 +29,7 @@ use Rattle.ppdb_values.specs.Value.{value_of}
 use Rattle.ppdb_verify.specs.Files.{FileFaults, IsRawOf}
 use Rattle.ppdb_verify_valid_laws.proofs.ValidFiles.{valid_keeps}
 use Rattle.ppdb_merge_unmoved_laws.specs.NoLines.{left_alone}
+use Rattle.ppdb_run.specs.Joined.{IsJoinedFile}
 use Rattle.ppdb_run.specs.Inputs.{AreAdded, AreJoinedTo, IsValidInput, ReadInput, moved_by}
 use Rattle.ppdb_run.specs.MeaningLaws.{HasKnownKinds, JoinedFilesKeepInputs, JoinedKindsAreKnown, KeepsInputs, ReadInputsAreValid}
 use Rattle.ppdb_run.specs.MeaningLaws.{RebuiltFilesKeepThemselves, SaysButForId}
@@ -36,7 +37,7 @@ use Rattle.ppdb_run_stops.specs.declared.stop.Stop.{Stop}
 use Rattle.ppdb_run.specs.Ends.{OnAsked, OnTask, RebuildsToItself, RebuildsWhereKnown, WritesAgain}
 use Rattle.ppdb_run.specs.Means.{AreInputsOf, AreReadAs, ExactlyMeans, WritesExactly, WritesMeaning}
 use Rattle.ppdb_run_stops.specs.Refusals.{Outcome}
-use Rattle.ppdb_run.specs.Outcome.{all_joined, file_at, fitting, input_of, map_at, steps_of, unknown_kind, verified, with_input}
+use Rattle.ppdb_run.specs.Outcome.{file_at, fitting, input_of, map_at, steps_of, unknown_kind, verified, with_input}
 use Rattle.ppdb_run.specs.Outcome.{with_inputs}
 use Rattle.ppdb_run.specs.Outcome.{written}
 use Rattle.ppdb_run_words.specs.Words.{Input, Options, Task, Rebuild, Merge, Words}
@@ -264,17 +265,12 @@ rebuilt_all None input output options raw h law (Ok bytes) says accepted again =
 rebuilt_all (Some all) input output options raw h law (Ok bytes) says accepted again =
     rebuilt_means all input output options raw h bytes law says accepted again
 
-joined_is : (inputs : List Input) (value : FileValue) (result : Result FileValue MergeError) → Ok value ≡ all_joined inputs result → result ≡ Ok value
-joined_is inputs value (Ok other) e = sym cc
-joined_is inputs value (Err error) e = absurd cc
-
-pub merged_all : (files : Option Files) (inputs : List Input) (output : List ℕ) (options : Options) (traces : List Trace) (value : FileValue)
-    → length inputs ≤ 256 → IfSome files (λ all. with_inputs all options.marks [] inputs (Ok traces)) → Ok value ≡ all_joined inputs (joined_of traces)
+pub joined_all : (files : Option Files) (inputs : List Input) (output : List ℕ) (options : Options) (traces : List Trace)
+    → length inputs ≤ 256 → IfSome files (λ all. with_inputs all options.marks [] inputs (Ok traces))
     → ReadInputsAreValid → JoinedFilesKeepInputs → JoinedKindsAreKnown → (result : Result (List ℕ) Stop)
-    → IfOk result (λ bytes. SaysButForId bytes value) → IfOk result (λ bytes. IsAccepted (FileFaults bytes))
-    → IfOk result (λ bytes. RebuildsWhereKnown options (output, bytes))
+    → IfOk result (IsJoinedFile options.keep_id traces) → IfOk result (λ bytes. IsAccepted (FileFaults bytes))
     → IfOk result (λ bytes. IfSome files (λ all. ExactlyMeans (Merge inputs output options) options all bytes))
-merged_all files inputs output options traces value few h joins valid law kinds (Err stop) says accepted again = tt
-merged_all None inputs output options traces value few h joins valid law kinds (Ok bytes) says accepted again = tt
-merged_all (Some all) inputs output options traces value few h joins valid law kinds (Ok bytes) says accepted again =
-    merged_means all inputs output options traces value bytes few h (joined_is inputs value (joined_of traces) joins) valid law kinds says accepted again
+joined_all files inputs output options traces few h valid law kinds (Err stop) is accepted = tt
+joined_all None inputs output options traces few h valid law kinds (Ok bytes) is accepted = tt
+joined_all (Some all) inputs output options traces few h valid law kinds (Ok bytes) is accepted =
+    merged_means all inputs output options traces is.value bytes few h is.joined valid law kinds is.says accepted (is.again output options.marks)

@@ -315,6 +315,13 @@ pub goes_pair : (files : Option Files) (marks : List (List ℕ)) (traces : List 
 goes_pair files marks traces whole words behind file map_file f m two e h b k l g =
     subst (λ rest. Goes files marks traces rest whole) (first_pair words behind file map_file f m two e h b k l) g
 
+-- a cell is left for the pair that is next
+pub cell_left : (files : Option Files) (marks : List (List ℕ)) (traces : List Trace) (whole : List Input) (words : List (String Global)) (cells free : ℕ)
+    → 2 ≤ length words → Goes files marks traces (pairs_of (texts words)) whole → length whole ≤ cells → free + length traces ≡ cells → 1 ≤ free
+cell_left files marks traces whole [] cells free two g room left = absurd (omega (arith, two))
+cell_left files marks traces whole (x ∷ []) cells free two g room left = absurd (omega (arith, two))
+cell_left files marks traces whole (x ∷ y ∷ words) cells free two g room left = let all = g.count in omega (arith, all, room, left)
+
 -- an input that stops ends all
 pub goes_stop : {U V : Type 0} (view : U → List Trace) (other : V → List Trace) (files : Option Files) (marks : List (List ℕ)) (traces : List Trace)
     (input : Input) (rest whole : List Input) (stop : Stop) → IfSome files (λ all. Gives view (Err stop) (with_input all marks traces input))

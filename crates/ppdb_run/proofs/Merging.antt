@@ -1,21 +1,25 @@
 -- What is known of inputs that are joined and written.
-use Rattle.std.proofs.Common.{ℕ, ◌≡◌, ◌⊎◌, inl, inr, List, [], sym, ◌∙◌, ap}
-use Rattle.std.specs.Prelude.{Option, Some, None, Result, Ok, Err, IfSome}
+use Rattle.std.proofs.Common.{ℕ, Bool, ◌≡◌, ◌⊎◌, inl, inr, List, [], sym, ◌∙◌, ap, subst}
+use Rattle.std.specs.Prelude.{Option, Some, None, option_map, Result, Ok, Err, IfOk, IfSome}
 use Rattle.ppdb_base.specs.Files.{Files}
 use Rattle.ppdb_base.specs.First.{IsAccepted}
 use Rattle.ppdb_base.specs.declared.merge_error.MergeError.{MergeError}
 use Rattle.ppdb_base.specs.declared.merge_error.MergeError.TheVariants as merge_errors
 use Rattle.ppdb_build_canon.specs.Canon.{canon, chosen_id, with_id}
+use Rattle.ppdb_build_canon.specs.Limits.{first_limit}
+use Rattle.ppdb_build_canon.specs.declared.choice.IdChoice.{IdChoice}
 use Rattle.ppdb_merge.specs.declared.trace.Trace.{Trace}
-use Rattle.ppdb_merge.specs.Together.{joined_of}
+use Rattle.ppdb_merge.specs.Together.{joined_of, misfit_of, value_unless}
 use Rattle.ppdb_values.specs.declared.file.FileValue.{FileValue}
 use Rattle.ppdb_values.specs.RawFile.{RawFile}
 use Rattle.ppdb_verify.specs.Files.{FileFaults, IsRawOf}
 use Rattle.ppdb_build_written_laws.specs.Written.{Says, IsSameAgain}
 use Rattle.ppdb_run_stops.specs.declared.stop.Stop.{Stop}
 use Rattle.ppdb_run.specs.Ends.{RebuildsWhereKnown}
-use Rattle.ppdb_run_stops.specs.Refusals.{Outcome, unfit}
-use Rattle.ppdb_run.specs.Outcome.{Step, ◌>>=◌, all_joined, choice_of, gives, in_limits, input_in, steps_of, unknown_kind}
+use Rattle.ppdb_run.specs.Joined.{GivesIfSome, IsJoinedFile, joined_steps}
+use Rattle.ppdb_run.specs.MeaningLaws.{SaysButForId}
+use Rattle.ppdb_run_stops.specs.Refusals.{Outcome, limited, unfit}
+use Rattle.ppdb_run.specs.Outcome.{Step, ◌>>=◌, all_joined, choice_of, gives, in_limits, input_in, steps_of, unknown_kind, unless}
 use Rattle.ppdb_run_words.specs.Task.{file_of}
 use Rattle.ppdb_run.specs.Outcome.{with_inputs, written}
 use Rattle.ppdb_run_stops.specs.Causes.{cause_of, refusal_of as told_by}
@@ -52,20 +56,45 @@ module _ (inputs : List Input) (output : List ℕ) (options : Options) (files : 
   not_merged view stop h = stop_over view (written output) stop files (λ all. with_inputs all options.marks [] inputs) (λ all. joined_in) h
 
   module _ (traces : List Trace) (merged : IfSome files (λ all. with_inputs all options.marks [] inputs (Ok traces))) where
-    -- they do not fit together
-    pub not_joined : (stop : Stop) → Gives (λ (v : FileValue). v) (Err stop) (gives (all_joined inputs (joined_of traces)))
-        → IfSome files (λ all. Gives (written output) (Err stop) (steps_of (Merge inputs output options) all))
-    not_joined stop h =
-        next_over (written output) (Err stop) files (λ all. with_inputs all options.marks [] inputs) (λ all. joined_in) traces merged
-        (on_told files (λ all. gives_stop (λ (v : FileValue). v) (written output) stop (gives (all_joined inputs (joined_of traces))) limited_in h))
-
-    -- they do, and what they are joined to is written, or meets a limit
-    pub all_written : (value : FileValue) (result : Result (List ℕ) Stop) → Ok value ≡ all_joined inputs (joined_of traces)
-        → Gives (written output) result (gives (in_limits output options value))
+    -- what they are joined to is written, or there is a refusal
+    pub joined_told : (result : Result (List ℕ) Stop) → Gives (written output) result (joined_steps inputs output options traces)
         → IfSome files (λ all. Gives (written output) result (steps_of (Merge inputs output options) all))
-    all_written value result e h =
-        next_over (written output) result files (λ all. with_inputs all options.marks [] inputs) (λ all. joined_in) traces merged
-        (on_told files (λ all. gives_next (written output) result (gives (all_joined inputs (joined_of traces))) limited_in value e h))
+    joined_told result h =
+        next_over (written output) result files (λ all. with_inputs all options.marks [] inputs) (λ all. joined_in) traces merged (on_told files (λ all. h))
+
+-- ---- inputs that were read
+
+module _ (inputs : List Input) (output : List ℕ) (options : Options) (traces : List Trace) where
+  abbrev limited_from : FileValue → Step Outcome
+  limited_from value = gives (in_limits output options value)
+
+  -- they do not fit together
+  pub not_joined : (stop : Stop) → Gives (λ (v : FileValue). v) (Err stop) (gives (all_joined inputs (joined_of traces)))
+      → Gives (written output) (Err stop) (joined_steps inputs output options traces)
+  not_joined stop h = gives_stop (λ (v : FileValue). v) (written output) stop (gives (all_joined inputs (joined_of traces))) limited_from h
+
+  -- they do, and what they are joined to is written, or meets a limit
+  pub value_written : (value : FileValue) (result : Result (List ℕ) Stop) → joined_of traces ≡ Ok value
+      → Gives (written output) result (gives (in_limits output options value)) → Gives (written output) result (joined_steps inputs output options traces)
+  value_written value result is h =
+      gives_next (written output) result (gives (all_joined inputs (joined_of traces))) limited_from value (sym (ap (all_joined inputs) is)) h
+
+-- they do not fit together, and this is reported of the first that does not
+pub together_told : (inputs : List Input) (output : List ℕ) (options : Options) (traces : List Trace) (stop : Stop) (name : List ℕ) (error : MergeError)
+    → IfSome (told_by (cause_of stop)) (λ o. (o ≡ unfit name error) × (error ≡ merge_errors.Memory → ⊥)) → name ≡ file_of inputs (input_in error)
+    → Some error ≡ misfit_of traces → Gives (written output) (Err stop) (joined_steps inputs output options traces)
+together_told inputs output options traces stop name error h named is =
+    not_joined inputs output options traces stop
+    (joined_given inputs stop error (joined_of traces)
+    (subst (λ n. IfSome (told_by (cause_of stop)) (λ o. (o ≡ unfit n error) × (error ≡ merge_errors.Memory → ⊥))) named h) (inr (ap (value_unless traces) (sym is))))
+
+-- bytes that say the value, where there are some
+pub value_joined : (keep : Bool) (traces : List Trace) (value : FileValue) (result : Result (List ℕ) Stop) → joined_of traces ≡ Ok value
+    → IfOk result (λ bytes. SaysButForId bytes value)
+    → ((output : List ℕ) (marks : List (List ℕ)) → IfOk result (λ bytes. RebuildsWhereKnown (record { keep_id = keep; marks = marks }) (output, bytes)))
+    → IfOk result (IsJoinedFile keep traces)
+value_joined keep traces value (Err stop) is says again = tt
+value_joined keep traces value (Ok bytes) is says again = record { value = value; joined = is; says = says; again = again }
 
 -- where its kinds are known, the canonical file of a value is rebuilt to itself
 pub rebuilds_where_known : (options : Options) (output : List ℕ) (value : FileValue) (bytes : List ℕ) → bytes ≡ canon value (choice_of options.keep_id)
@@ -73,3 +102,26 @@ pub rebuilds_where_known : (options : Options) (output : List ℕ) (value : File
     → ((again : RawFile) → IsRawOf bytes again → IsSameAgain value (choice_of options.keep_id) again) → RebuildsWhereKnown options (output, bytes)
 rebuilds_where_known options output value bytes is accepted says same known =
     rebuilds options value bytes (sym (ap (unknown_kind options.marks) says.value_is) ∙ known says.raw says.is_raw) is accepted says same
+
+-- ---- a file that is written where the rows tell it
+
+pub some_told : (output : List ℕ) (options : Options) (value : FileValue) (file : Option (List ℕ))
+    → IfSome file (λ bytes. bytes ≡ canon value (choice_of options.keep_id)) → IfSome file (λ _. first_limit value ≡ None)
+    → GivesIfSome (written output) (Ok file) (gives (in_limits output options value))
+some_told output options value None is within = tt
+some_told output options value (Some bytes) is within =
+    ap (λ b. Ok (written output b)) is
+    ∙ sym (ap (λ o. unless (option_map limited o) (Ok (written output (canon value (choice_of options.keep_id))))) within)
+
+pub some_says : (value : FileValue) (choice : IdChoice) (file : Option (List ℕ))
+    → IfSome file (λ bytes. (again : RawFile) → IsRawOf bytes again → IsSameAgain value choice again) → IfSome file (λ bytes. SaysButForId bytes value)
+some_says value choice None same = tt
+some_says value choice (Some bytes) same = λ raw is. (_, (same raw is).value_is)
+
+pub some_again : (options : Options) (output : List ℕ) (value : FileValue) (file : Option (List ℕ))
+    → IfSome file (λ bytes. bytes ≡ canon value (choice_of options.keep_id)) → IfSome file (λ bytes. IsAccepted (FileFaults bytes))
+    → IfSome file (λ bytes. Says bytes (with_id value (chosen_id value (choice_of options.keep_id))))
+    → IfSome file (λ bytes. (again : RawFile) → IsRawOf bytes again → IsSameAgain value (choice_of options.keep_id) again)
+    → IfSome file (λ bytes. RebuildsWhereKnown options (output, bytes))
+some_again options output value None is accepted says same = tt
+some_again options output value (Some bytes) is accepted says same = rebuilds_where_known options output value bytes is accepted says same

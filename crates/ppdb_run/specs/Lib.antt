@@ -4,6 +4,7 @@ pub mod Inputs
 pub mod MeaningLaws
 pub mod Means
 pub mod Outcome
+pub mod Joined
 pub mod Sample
 pub mod SampleLaws
 pub mod Sampled

@@ -6,6 +6,8 @@ mod commands;
 mod compose;
 mod form;
 mod input;
+mod joined;
+mod joined_value;
 mod keys;
 pub mod laws;
 mod lookup;

@@ -1,29 +1,24 @@
 // The commands `remap` and `merge`: the canonical file of inputs that are moved and joined.
-ghost use Rattle.std.specs.Prelude.{◌≡◌, ◌≤◌, ℕ, List, [], length, Some, None, IfOk, OnOk, IfErr, IfSome};
+ghost use Rattle.std.specs.Prelude.{◌≡◌, ◌≤◌, ℕ, List, [], length, Some, IfOk, OnOk, IfErr, IfSome};
 ghost use Rattle.ppdb_base.specs.Causes.{Rose};
 ghost use Rattle.ppdb_base.specs.First.{IsAccepted};
-ghost use Rattle.ppdb_merge.specs.Together.{joined_of};
-ghost use Rattle.ppdb_run.specs.Ends.{IsUnreadOf, OnTask, RebuildsWhereKnown, WritesAgain, WritesValid};
+ghost use Rattle.ppdb_run.specs.Ends.{IsUnreadOf, OnTask, WritesAgain, WritesValid};
 ghost use Rattle.ppdb_run.specs.Means.{ExactlyMeans, WritesMeaning};
-ghost use Rattle.ppdb_run.specs.Outcome.{IsOutcome, all_joined, gives, in_limits, input_in, steps_of, written};
+ghost use Rattle.ppdb_run.specs.Outcome.{IsOutcome, steps_of, written};
 ghost use Rattle.ppdb_run_stops.specs.Causes.{cause_of, ComesFrom, OnKept, no_file};
 ghost use Rattle.ppdb_run.specs.Stops.{Settles, Finds, Gives, Leaves};
 ghost use Rattle.ppdb_run_words.specs.Task.{inputs_of, options_of};
 ghost use Rattle.ppdb_run_words.specs.Words.{Merge};
 ghost use Rattle.ppdb_verify.specs.Files.{FileFaults};
-ghost use Rattle.ppdb_values_sound_laws.specs.Sound.{IsSound};
-ghost use Rattle.ppdb_run.specs.MeaningLaws.{SaysButForId};
 
+use crate::joined::joined_bytes;
 use crate::meaning_laws::{
     joined_files_keep_inputs, joined_kinds_are_known, read_inputs_are_valid,
 };
-use crate::merged::merged;
+use crate::merged::{free_cells, merged};
 use crate::output::write_output;
-use crate::rebuild::choice;
-use ppdb_base::{Bytes, Folder, MergeError, Steps};
-use ppdb_build::{BuildError, FileValue, write_file_under};
-use ppdb_build_heaps::{ItemKey, KeyMaker};
-use ppdb_merge::Merger;
+use ppdb_base::{Bytes, Folder, Steps};
+use ppdb_build_heaps::KeyMaker;
 use ppdb_run_stops::Stop;
 use ppdb_run_words::{Inputs, Options};
 use std::alloc::Global;
@@ -106,60 +101,20 @@ fn merged_bytes<'a, F: Folder, K: Ledger, L: Ledger>(
     joined_kinds_are_known();
     joined_files_keep_inputs();
     let marks = options.marks(alloc)?;
+    let mut cells = free_cells(alloc)?;
     let mut maker = KeyMaker::new();
-    let merger = match merged(alloc, inputs, marks, &mut maker, folder, checks, steps) {
+    let merger = match merged(
+        alloc,
+        inputs,
+        marks,
+        cells.as_mut_slice(),
+        &mut maker,
+        folder,
+        checks,
+        steps,
+    ) {
         Ok(merger) => merger,
         Err(stop) => return Err(stop),
     };
-    let value = match joined(inputs, merger) {
-        Ok(value) => value,
-        Err(stop) => return Err(stop),
-    };
-    value_bytes(alloc, &value, options.keep_id, maker.key())
-}
-
-/// The value that inputs are joined to, where they fit together.
-fn joined<'a>(inputs: Inputs<'a>, merger: Merger) -> Result<FileValue, Stop<'a>>
-    requires { 1 ≤ length merger.traces }
-    ensures told { Gives (λ value. value) result (gives (all_joined (inputs_of inputs.entry) (joined_of merger.traces))) }
-    ensures sound { IfOk result IsSound }
-    ensures causes { IfErr result (λ stop. ComesFrom (cause_of stop) ⊥ no_file no_file None ⊥ ⊥ ⊥) }
-{
-    match merger.finish() {
-        Ok(value) => Ok(value),
-        Err(error) => Err(Stop::Unfit(inputs.file(input_of(error)), error)),
-    }
-}
-
-/// The number of the input that is reported, from 1, and else 0.
-fn input_of(error: MergeError) -> u32
-    ensures { result ≡ input_in error }
-{
-    match error {
-        MergeError::RowsDiffer { input, .. } | MergeError::ImageRange { input, .. } => input,
-        _ => 0,
-    }
-}
-
-/// The canonical file of a value, whose items are hashed under the key.
-fn value_bytes<'a>(
-    alloc: Global,
-    value: &FileValue,
-    keep_id: bool,
-    key: ItemKey,
-) -> Result<Bytes, Stop<'a>>
-    requires { IsSound value.now }
-    ensures told { (output : List ℕ) (marks : List (List ℕ)) →
-        Gives (written output) result (gives (in_limits output (record { keep_id = keep_id; marks = marks }) value.now)) }
-    ensures accepted { IfOk result (λ bytes. IsAccepted (FileFaults bytes)) }
-    ensures says { IfOk result (λ bytes. SaysButForId bytes value.now) }
-    ensures again { (output : List ℕ) (marks : List (List ℕ)) →
-        IfOk result (λ bytes. RebuildsWhereKnown (record { keep_id = keep_id; marks = marks }) (output, bytes)) }
-    ensures causes { IfErr result (λ stop. ComesFrom (cause_of stop) ⊥ no_file no_file None ⊥ ⊥ ⊥) }
-{
-    match write_file_under(alloc, value, choice(keep_id), key) {
-        Ok(bytes) => Ok(bytes),
-        Err(BuildError::Limit(limit)) => Err(Stop::Limit(limit)),
-        Err(BuildError::Memory) => Err(Stop::Memory),
-    }
+    joined_bytes(alloc, inputs, merger, options.keep_id, maker.key(), steps)
 }

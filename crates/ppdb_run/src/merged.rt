@@ -12,26 +12,43 @@ use crate::input::read_input;
 use crate::keys::take_in;
 use crate::map::map_of;
 use custom_info::Marks;
-use ppdb_base::{Bytes, Folder, MAX_FILE_BYTES, Steps};
+use ppdb_base::{Bytes, Folder, List, MAX_FILE_BYTES, Memory, Steps};
 use ppdb_build_heaps::KeyMaker;
-use ppdb_merge::Merger;
+use ppdb_merge::RowMerger;
+use ppdb_merge_rows::RowInput;
 use ppdb_run_stops::Stop;
 use ppdb_run_words::{Inputs, Pair};
 use ppdb_verify::{VerifyError, verify};
 use std::alloc::Global;
 use std::sync::ledger::Ledger;
 
-/// Reads and moves all inputs. The maker takes in all that is read.
-pub fn merged<'a, F: Folder, K: Ledger, L: Ledger>(
+/// How many inputs are joined at most.
+const MAX_INPUTS: usize = 256;
+
+/// An empty cell for each input that there may be. The bytes of its file are kept there until the joined file is written.
+pub fn free_cells(alloc: Global) -> Result<List<Bytes>, Memory>
+    ensures { IfOk result (λ cells. length cells ≡ 256) }
+{
+    let mut cells = List::with_capacity(alloc, MAX_INPUTS)?;
+    'cells: while cells.len() < MAX_INPUTS {
+        cells.push(Bytes::new(alloc))?;
+    }
+    Ok(cells)
+}
+
+/// Reads and moves all inputs, of which each has a cell for its file. The maker takes in all that is read.
+pub fn merged<'a, 'b, F: Folder, K: Ledger, L: Ledger>(
     alloc: Global,
     inputs: Inputs<'a>,
     marks: Marks,
+    cells: &'b mut [Bytes],
     maker: &mut KeyMaker,
     folder: &mut F,
     checks: &mut Steps<K>,
     steps: &mut Steps<L>,
-) -> Result<Merger, Stop<'a>>
-    requires { length (inputs_of inputs) ≤ 256 }
+) -> Result<RowMerger<'b>, Stop<'a>>
+    requires most { length (inputs_of inputs) ≤ 256 }
+    requires room { length cells.old ≡ 256 }
     ensures told { IfSome (F.files folder.old) (λ all. Gives (λ merger. merger.traces) result (with_inputs all marks [] (inputs_of inputs.entry))) }
     ensures all { IfOk result (λ merger. length merger.traces ≡ length (inputs_of inputs.entry)) }
     ensures files { F.files folder.new ≡ F.files folder.old }
@@ -47,32 +64,36 @@ pub fn merged<'a, F: Folder, K: Ledger, L: Ledger>(
         ⊥
         ⊥) }
 {
-    let merger = Merger::new(alloc, marks);
+    let merger = RowMerger::new(alloc, marks);
     match inputs {
-        Inputs::One(input) => add_one(alloc, input, merger, maker, folder, checks, steps),
-        Inputs::Pairs(words) => add_pairs(alloc, words, merger, maker, folder, checks, steps),
+        Inputs::One(input) => add_one(alloc, input, merger, cells, maker, folder, checks, steps),
+        Inputs::Pairs(words) => {
+            add_pairs(alloc, words, merger, cells, maker, folder, checks, steps)
+        }
     }
 }
 
 /// Reads and moves the one input.
-fn add_one<'a, F: Folder, K: Ledger, L: Ledger>(
+fn add_one<'a, 'b, F: Folder, K: Ledger, L: Ledger>(
     alloc: Global,
     input: Pair<'a>,
-    merger: Merger,
+    merger: RowMerger<'b>,
+    cells: &'b mut [Bytes],
     maker: &mut KeyMaker,
     folder: &mut F,
     checks: &mut Steps<K>,
     steps: &mut Steps<L>,
-) -> Result<Merger, Stop<'a>>
-    requires { merger.traces ≡ [] }
-    ensures told { IfSome (F.files folder.old) (λ all. Gives (λ m. m.traces) result (with_inputs all merger.marks [] (input_of input.entry ∷ []))) }
+) -> Result<RowMerger<'b>, Stop<'a>>
+    requires none { merger.traces ≡ [] }
+    requires room { 1 ≤ length cells.old }
+    ensures told { IfSome (F.files folder.old) (λ all. Gives (λ m. m.traces) result (with_inputs all merger.entry.marks [] (input_of input.entry ∷ []))) }
     ensures all { IfOk result (λ m. length m.traces ≡ 1) }
     ensures files { F.files folder.new ≡ F.files folder.old }
     ensures write_faults { F.write_faults folder.new ≡ F.write_faults folder.old }
     ensures later { F.read_faults folder.old ≤ F.read_faults folder.new }
     ensures causes { (output : List ℕ) (keep_id : Bool) → IfErr result (λ stop. ComesFrom (cause_of stop)
         ⊥
-        (IsUnreadOf (Merge (input_of input.entry ∷ []) output (record { keep_id = keep_id; marks = merger.marks })) (F.files folder.old) (F.reads folder.old)
+        (IsUnreadOf (Merge (input_of input.entry ∷ []) output (record { keep_id = keep_id; marks = merger.entry.marks })) (F.files folder.old) (F.reads folder.old)
         (F.reads folder.new))
         no_file
         (F.files folder.old)
@@ -81,32 +102,44 @@ fn add_one<'a, F: Folder, K: Ledger, L: Ledger>(
         ⊥) }
 {
     let mut merger = merger;
-    match add_input(alloc, input, &mut merger, maker, folder, checks, steps) {
+    let cell = &mut cells[0];
+    match add_input(
+        alloc,
+        input,
+        cell,
+        &mut merger,
+        maker,
+        folder,
+        checks,
+        steps,
+    ) {
         Ok(()) => Ok(merger),
         Err(stop) => Err(stop),
     }
 }
 
 /// Reads and moves inputs that words name, two by two.
-fn add_pairs<'a, F: Folder, K: Ledger, L: Ledger>(
+fn add_pairs<'a, 'b, F: Folder, K: Ledger, L: Ledger>(
     alloc: Global,
     words: &'a [String],
-    merger: Merger,
+    merger: RowMerger<'b>,
+    cells: &'b mut [Bytes],
     maker: &mut KeyMaker,
     folder: &mut F,
     checks: &mut Steps<K>,
     steps: &mut Steps<L>,
-) -> Result<Merger, Stop<'a>>
+) -> Result<RowMerger<'b>, Stop<'a>>
     requires none { merger.traces ≡ [] }
     requires most { length (pairs_of (texts words.now)) ≤ 256 }
-    ensures told { IfSome (F.files folder.old) (λ all. Gives (λ m. m.traces) result (with_inputs all merger.marks [] (pairs_of (texts words.now)))) }
+    requires room { length (pairs_of (texts words.now)) ≤ length cells.old }
+    ensures told { IfSome (F.files folder.old) (λ all. Gives (λ m. m.traces) result (with_inputs all merger.entry.marks [] (pairs_of (texts words.now)))) }
     ensures all { IfOk result (λ m. length m.traces ≡ length (pairs_of (texts words.now))) }
     ensures files { F.files folder.new ≡ F.files folder.old }
     ensures write_faults { F.write_faults folder.new ≡ F.write_faults folder.old }
     ensures later { F.read_faults folder.old ≤ F.read_faults folder.new }
     ensures causes { (output : List ℕ) (keep_id : Bool) → IfErr result (λ stop. ComesFrom (cause_of stop)
         ⊥
-        (IsUnreadOf (Merge (pairs_of (texts words.now)) output (record { keep_id = keep_id; marks = merger.marks })) (F.files folder.old) (F.reads folder.old)
+        (IsUnreadOf (Merge (pairs_of (texts words.now)) output (record { keep_id = keep_id; marks = merger.entry.marks })) (F.files folder.old) (F.reads folder.old)
         (F.reads folder.new))
         no_file
         (F.files folder.old)
@@ -116,25 +149,40 @@ fn add_pairs<'a, F: Folder, K: Ledger, L: Ledger>(
 {
     let mut merger = merger;
     let mut rest = words;
+    let mut free = cells;
     while let [file, map, ..] = rest {
         let input = Pair {
             file: file.as_str(),
             map_file: map.as_str(),
         };
-        match add_input(alloc, input, &mut merger, maker, folder, checks, steps) {
+        let Some((cell, others)) = free.split_first_mut() else {
+            unreachable!()
+        };
+        match add_input(
+            alloc,
+            input,
+            cell,
+            &mut merger,
+            maker,
+            folder,
+            checks,
+            steps,
+        ) {
             Ok(()) => {}
             Err(stop) => return Err(stop),
         }
+        free = others;
         rest = rest.split_at(2).1;
     }
     Ok(merger)
 }
 
-/// Reads one more input, and moves it by its map. What was read is given up at the end.
-fn add_input<'a, F: Folder, K: Ledger, L: Ledger>(
+/// Reads one more input into its cell, and moves it by its map.
+fn add_input<'a, 'b, F: Folder, K: Ledger, L: Ledger>(
     alloc: Global,
     input: Pair<'a>,
-    merger: &mut Merger,
+    cell: &'b mut Bytes,
+    merger: &mut RowMerger<'b>,
     maker: &mut KeyMaker,
     folder: &mut F,
     checks: &mut Steps<K>,
@@ -167,16 +215,17 @@ fn add_input<'a, F: Folder, K: Ledger, L: Ledger>(
     };
     take_in(maker, &bytes);
     take_in(maker, &text);
-    add_texts(alloc, input, bytes.as_slice(), text, merger, checks, steps)
+    *cell = bytes;
+    add_texts(alloc, input, cell.as_slice(), text, merger, checks, steps)
 }
 
 /// Verifies an input, reads its map, whose text is given up then, and moves it.
-fn add_texts<'a, K: Ledger, L: Ledger>(
+fn add_texts<'a, 'b, K: Ledger, L: Ledger>(
     alloc: Global,
     input: Pair<'a>,
-    bytes: &[u8],
+    bytes: &'b [u8],
     text: Bytes,
-    merger: &mut Merger,
+    merger: &mut RowMerger<'b>,
     checks: &mut Steps<K>,
     steps: &mut Steps<L>,
 ) -> Result<(), Stop<'a>>
@@ -197,7 +246,7 @@ fn add_texts<'a, K: Ledger, L: Ledger>(
         Ok(map) => map,
         Err(stop) => return Err(stop),
     };
-    match merger.add(&file, &map, steps) {
+    match merger.add(RowInput { file, map }, steps) {
         Ok(()) => Ok(()),
         Err(error) => Err(Stop::Unfit(input.file, error)),
     }

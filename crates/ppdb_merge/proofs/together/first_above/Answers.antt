@@ -6,17 +6,17 @@ use Rattle.ppdb_merge.proofs.Told.{plain_told, plain_past, nothing_told}
 use Rattle.ppdb_merge.proofs.together.first_above.Goals as goal
 
 pub returns-then-is_some : goal.returns-then-is_some
-returns-then-is_some c =
-    plain_told (above (c.args.input, c.args.trace.now)) c.as_slice-imaged-items.result.now c.loop-imaged.imaged-index _ c.above-told.result
+returns-then-is_some g c =
+    plain_told (above (c.args.input, g.T.Counted.trace c.args.trace.now)) c.images-imaged-items.result.now c.loop-imaged.imaged-index _ c.above-told.result
     c.loop-imaged-test.true c.loop-imaged.invariant (sym c.above-told.ensures) (sym c.is_some.ensures ∙ c.if-is_some.true)
-    ∙ ap (λ l. slice_get (filter_map (above (c.args.input, c.args.trace.now)) l) 0) c.as_slice-imaged-items.ensures
+    ∙ ap (λ l. slice_get (filter_map (above (c.args.input, g.T.Counted.trace c.args.trace.now)) l) 0) c.images-imaged-items.ensures
 
 pub loop-imaged-preserved : goal.loop-imaged-preserved
-loop-imaged-preserved c =
-    plain_past (above (c.args.input, c.args.trace.now)) c.as_slice-imaged-items.result.now c.loop-imaged.imaged-index _ c.above-told.result
+loop-imaged-preserved g c =
+    plain_past (above (c.args.input, g.T.Counted.trace c.args.trace.now)) c.images-imaged-items.result.now c.loop-imaged.imaged-index _ c.above-told.result
     c.loop-imaged-test.true c.loop-imaged.invariant (sym c.above-told.ensures) (sym c.is_some.ensures ∙ c.if-is_some.false)
 
 pub returns : goal.returns
-returns c =
-    nothing_told (above (c.args.input, c.args.trace.now)) c.as_slice-imaged-items.result.now c.args.trace.now.rows c.loop-imaged.imaged-index
-    c.as_slice-imaged-items.ensures c.loop-imaged-test.false c.loop-imaged.invariant
+returns g c =
+    nothing_told (above (c.args.input, g.T.Counted.trace c.args.trace.now)) c.images-imaged-items.result.now (g.T.Counted.trace c.args.trace.now).rows
+    c.loop-imaged.imaged-index c.images-imaged-items.ensures c.loop-imaged-test.false c.loop-imaged.invariant

@@ -1,10 +1,10 @@
-use Rattle.std.proofs.Common.{◌≡◌, ◌+◌, [], take}
+use Rattle.std.proofs.Common.{◌≡◌, ◌+◌, [], map, take}
 use Rattle.std.specs.List.{enumerate_from, filter_map}
 use Rattle.ppdb_merge.specs.Together.{differs}
 use Rattle.ppdb_merge.proofs.together.first_differing.Given as goal
 
 abbrev pub invariant-loop-other : goal.invariant-loop-other
-invariant-loop-other l = record {
+invariant-loop-other g l = record {
   input : l.input ≡ 2 + l.other-index;
-  none : filter_map (differs l.first l.table) (enumerate_from 2 (take l.other-index l.others)) ≡ [];
+  none : filter_map (differs (g.T.Counted.trace l.first) l.table) (enumerate_from 2 (map g.T.Counted.trace (take l.other-index l.others))) ≡ [];
 }

@@ -1,22 +1,25 @@
-use Rattle.std.proofs.Common.{sym, ap, ◌∙◌, ◌+◌, ◌≡◌, arith}
+use Rattle.std.proofs.Common.{sym, ap, ◌∙◌, ◌+◌, ◌≡◌, arith, ℕ, List, map}
 use Rattle.std.specs.Prelude.{slice_get}
 use Rattle.std.specs.List.{enumerate_from, filter_map}
+use Rattle.ppdb_base.specs.declared.merge_error.MergeError.{MergeError}
 use Rattle.ppdb_merge.specs.Together.{differs}
 use Rattle.ppdb_merge.proofs.Told.{range_told, range_past}
 use Rattle.ppdb_merge.proofs.together.rows_differ.Goals as goal
 
 pub returns-then-is_some : goal.returns-then-is_some
-returns-then-is_some c =
+returns-then-is_some g c =
+    let told : ℕ → List MergeError = λ table. filter_map (differs (g.T.Counted.trace c.args.first.now) table)
+    (enumerate_from 2 (map g.T.Counted.trace c.args.others.now)) in
     let from : 0 + c.loop-table.table ≡ c.loop-table.table = omega arith in
-    range_told (λ table. filter_map (differs c.args.first.now table) (enumerate_from 2 c.args.others.now)) 0 0x2d c.loop-table.table
-    c.first_differing-told.result c.loop-table-test.true c.loop-table.invariant
-    (ap (λ table. slice_get (filter_map (differs c.args.first.now table) (enumerate_from 2 c.args.others.now)) 0) from ∙ sym c.first_differing-told.ensures)
+    range_told told 0 0x2d c.loop-table.table c.first_differing-told.result c.loop-table-test.true c.loop-table.invariant
+    (ap (λ table. slice_get (told table) 0) from ∙ sym c.first_differing-told.ensures)
     (sym c.is_some.ensures ∙ c.if-is_some.true)
 
 pub loop-table-preserved : goal.loop-table-preserved
-loop-table-preserved c =
+loop-table-preserved g c =
+    let told : ℕ → List MergeError = λ table. filter_map (differs (g.T.Counted.trace c.args.first.now) table)
+    (enumerate_from 2 (map g.T.Counted.trace c.args.others.now)) in
     let from : 0 + c.loop-table.table ≡ c.loop-table.table = omega arith in
-    range_past (λ table. filter_map (differs c.args.first.now table) (enumerate_from 2 c.args.others.now)) 0 c.loop-table.table
-    c.first_differing-told.result c.loop-table.invariant
-    (ap (λ table. slice_get (filter_map (differs c.args.first.now table) (enumerate_from 2 c.args.others.now)) 0) from ∙ sym c.first_differing-told.ensures)
+    range_past told 0 c.loop-table.table c.first_differing-told.result c.loop-table.invariant
+    (ap (λ table. slice_get (told table) 0) from ∙ sym c.first_differing-told.ensures)
     (sym c.is_some.ensures ∙ c.if-is_some.false)

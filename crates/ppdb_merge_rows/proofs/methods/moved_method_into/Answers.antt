@@ -2,7 +2,7 @@ use Rattle.std.proofs.Common.{ℕ, ◌<◌, refl, sym, ap, subst, ◌∙◌, ari
 use Rattle.ppdb_maps.specs.Map.{moved_signature}
 use Rattle.ppdb_verify.specs.Views.{raw_file}
 use Rattle.ppdb_merge_rows.proofs.After.{after_dropped}
-use Rattle.ppdb_merge_rows.proofs.Asked.{held, reads_of, asked_some, asked_reads, asked_whole, asked_below, asked_images}
+use Rattle.ppdb_merge_rows.proofs.Asked.{held, reads_of, asked_some, asked_reads, asked_whole, asked_below, asked_images, small_offsets}
 use Rattle.ppdb_merge_rows.proofs.Asked.{gone_answer, blob_answer, step_answer}
 use Rattle.ppdb_merge_rows.proofs.Images.{signature_fits}
 use Rattle.ppdb_merge_rows.proofs.Read.{is_read}
@@ -62,6 +62,8 @@ returns-else-len-clause-moved g c =
     blob_answer reads c.args.documents.now c.args.into.now c.moved_points_into.new.into c.moved_signature-signature.result c.in-Ok.column
     (c.moved_signature-signature.ensures ∙ ap (moved_signature c.args.map.now c.args.row) c.signature.ensures) (c.in-Ok.ensures.moved _ _ (asked_reads reads))
     (c.in-Ok.ensures.column _ _ (asked_reads reads)) (c.in-Ok.ensures.steps _ _ (asked_reads reads))
+    (small_offsets reads c.requires.fits c.method-image.result.rises (sym c.dropped.ensures ∙ c.if-dropped.false)
+    (sym c.is_long.ensures ∙ c.if-is_long.false) c.args.documents.now)
     (λ same. c.if-len.false (c.len.ensures ∙ same ∙ sym c.len-len.ensures))
 
 pub returns-in-Err-Step-clause-moved : goal.returns-in-Err-Step-clause-moved

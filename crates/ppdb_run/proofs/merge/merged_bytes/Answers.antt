@@ -1,8 +1,8 @@
 use Rattle.std.proofs.Common.{List}
 use Rattle.ppdb_merge.specs.declared.trace.Trace.{Trace}
 use Rattle.ppdb_run_words.specs.Task.{inputs_of, options_of}
-use Rattle.ppdb_run.proofs.Means.{merged_all}
-use Rattle.ppdb_run.proofs.Merging.{not_merged, not_joined, all_written}
+use Rattle.ppdb_run.proofs.Means.{joined_all}
+use Rattle.ppdb_run.proofs.Merging.{not_merged, joined_told}
 use Rattle.ppdb_run.proofs.merge.merged_bytes.Goals as goal
 
 pub returns-in-Err-clause-told : goal.returns-in-Err-clause-told
@@ -10,20 +10,13 @@ returns-in-Err-clause-told g c = λ output.
     not_merged (inputs_of c.args.inputs) output (options_of c.args.options) (g.F.Folder.files c.args.folder.now) (λ (traces : List Trace). traces)
     c.in-Err.stop (rw c.in_ok-marks.ensures at c.in-Err.ensures.told)
 
-pub returns-in-Err-joined-clause-told : goal.returns-in-Err-joined-clause-told
-returns-in-Err-joined-clause-told g c = λ output.
-    not_joined (inputs_of c.args.inputs) output (options_of c.args.options) (g.F.Folder.files c.args.folder.now) c.in-Ok.merger.traces
-    (rw c.in_ok-marks.ensures at c.in-Ok.ensures.told) c.in-Err-joined.stop c.in-Err-joined.ensures.told
-
 pub returns-clause-told : goal.returns-clause-told
 returns-clause-told g c = λ output.
-    all_written (inputs_of c.args.inputs) output (options_of c.args.options) (g.F.Folder.files c.args.folder.now) c.in-Ok.merger.traces
-    (rw c.in_ok-marks.ensures at c.in-Ok.ensures.told) c.in-Ok-joined.value c.value_bytes.result c.in-Ok-joined.ensures.told
-    (c.value_bytes.ensures.told output (options_of c.args.options).marks)
+    joined_told (inputs_of c.args.inputs) output (options_of c.args.options) (g.F.Folder.files c.args.folder.now) c.in-Ok.merger.traces
+    (rw c.in_ok-marks.ensures at c.in-Ok.ensures.told) c.joined_bytes.result (c.joined_bytes.ensures.told output (options_of c.args.options).marks)
 
 pub returns-clause-means : goal.returns-clause-means
 returns-clause-means g c = λ output.
-    merged_all (g.F.Folder.files c.args.folder.now) (inputs_of c.args.inputs) output (options_of c.args.options) c.in-Ok.merger.traces c.in-Ok-joined.value
-    c.requires.most (rw c.in_ok-marks.ensures at c.in-Ok.ensures.told) c.in-Ok-joined.ensures.told c.read_inputs_are_valid.ensures
-    c.joined_files_keep_inputs.ensures c.joined_kinds_are_known.ensures c.value_bytes.result c.value_bytes.ensures.says c.value_bytes.ensures.accepted
-    (c.value_bytes.ensures.again output (options_of c.args.options).marks)
+    joined_all (g.F.Folder.files c.args.folder.now) (inputs_of c.args.inputs) output (options_of c.args.options) c.in-Ok.merger.traces
+    c.requires.most (rw c.in_ok-marks.ensures at c.in-Ok.ensures.told) c.read_inputs_are_valid.ensures
+    c.joined_files_keep_inputs.ensures c.joined_kinds_are_known.ensures c.joined_bytes.result c.joined_bytes.ensures.joined c.joined_bytes.ensures.accepted

@@ -1,4 +1,4 @@
-use Rattle.std.proofs.Common.{◌∙◌, List, drop, refl, subst, arith}
+use Rattle.std.proofs.Common.{◌∙◌, List, drop, length, refl, subst, arith}
 use Rattle.ppdb_merge.specs.declared.trace.Trace.{Trace}
 use Rattle.ppdb_run.specs.Ends.{IsInputUnread}
 use Rattle.ppdb_run_stops.specs.Causes.{cause_of}
@@ -6,8 +6,16 @@ use Rattle.ppdb_run_words.specs.Task.{pairs_of}
 use Rattle.ppdb_run_words.specs.Words.{texts}
 use Rattle.ppdb_run_stops.proofs.Causes.{widened}
 use Rattle.ppdb_run.proofs.Endings.{rose_before}
-use Rattle.ppdb_run.proofs.Merges.{goes_count, goes_end, goes_on, goes_pair, goes_stop, next_unread, no_pair, two_more}
+use Rattle.ppdb_run.proofs.Merges.{cell_left, goes_count, goes_end, goes_on, goes_pair, goes_stop, next_unread, no_pair, two_more}
 use Rattle.ppdb_run.proofs.merged.add_pairs.Goals as goal
+
+pub unreachable-requires : goal.unreachable-requires
+unreachable-requires g c =
+    let known = c.loop-rest.invariant in
+    let left = cell_left (g.F.Folder.files c.args.folder.now) c.args.merger.marks c.loop-rest.merger.traces (pairs_of (texts c.args.words.now))
+    c.loop-rest.rest.now (length c.args.cells.now) (length c.loop-rest.free.now) c.in-len2-up.len_at_least known.goes c.requires.room known.room in
+    let none = c.in_default-split_first_mut.ensures.cases in
+    omega (arith, left, none)
 
 pub returns-in-Err-clause-told : goal.returns-in-Err-clause-told
 returns-in-Err-clause-told g c =
@@ -51,6 +59,7 @@ loop-rest-preserved g c =
       marks = done.marks ∙ known.marks;
       reads = two_more _ _ _ c.loop-rest.merger.traces c.add_input.new.merger.traces done.reads done.one known.reads;
       later = let before = known.later in let after = done.later in omega (arith, before, after);
+      room = let cut = c.in-Some.ensures.cases.1 in let one = done.one in let before = known.room in omega (arith, cut, one, before);
       files = done.files ∙ known.files;
       write_faults = done.write_faults ∙ known.write_faults;
     }

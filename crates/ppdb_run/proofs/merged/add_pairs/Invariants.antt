@@ -13,6 +13,7 @@ invariant-loop-rest g l =
       marks : l.merger.marks ≡ l.fn.merger.marks;
       reads : folder.reads l.folder < 18446744073709551615 → folder.reads l.folder ≡ folder.reads l.fn.folder + reads_of l.merger.traces;
       later : folder.read_faults l.fn.folder ≤ folder.read_faults l.folder;
+      room : length l.free + length l.merger.traces ≡ length l.fn.cells;
       files : folder.files l.folder ≡ folder.files l.fn.folder;
       write_faults : folder.write_faults l.folder ≡ folder.write_faults l.fn.folder;
     }

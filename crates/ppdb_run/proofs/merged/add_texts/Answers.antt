@@ -15,8 +15,8 @@ returns-in-Ok-add-clause-told g c =
     (raw_file c.in-Ok.file) c.in-Ok.ensures.accepted c.in-Ok.ensures.file c.in-Ok-map_of.map c.in-Ok-map_of.ensures.told
     c.in-Ok-add.field-0 c.in-Ok-add.ensures.added
 
-pub returns-clause-told : goal.returns-clause-told
-returns-clause-told g c =
+pub returns-in-Err-add-clause-told : goal.returns-in-Err-add-clause-told
+returns-in-Err-add-clause-told g c =
     misfit_told c.args.merger.now.marks c.args.merger.now.traces c.args.merger.now.traces (input_of c.args.input) c.args.bytes.now c.args.text
     (raw_file c.in-Ok.file) c.in-Ok.ensures.accepted c.in-Ok.ensures.file c.in-Ok-map_of.map c.in-Ok-map_of.ensures.told
     (Unfit c.args.input.file c.in-Err-add.error) c.in-Err-add.error (tells_unfit (Unfit c.args.input.file c.in-Err-add.error))
@@ -28,5 +28,5 @@ returns-in-Ok-add-clause-one g c =
     (raw_file c.in-Ok.file) c.in-Ok.ensures.accepted c.in-Ok.ensures.file c.in-Ok-map_of.map c.in-Ok-map_of.ensures.told
     c.in-Ok-add.ensures.added c.in-Ok-add.ensures.fits
 
-pub returns-clause-causes : goal.returns-clause-causes
-returns-clause-causes g c = comes_unfit (Unfit c.args.input.file c.in-Err-add.error)
+pub returns-in-Err-add-clause-causes : goal.returns-in-Err-add-clause-causes
+returns-in-Err-add-clause-causes g c = comes_unfit (Unfit c.args.input.file c.in-Err-add.error)

@@ -1,0 +1,16 @@
+mod Added
+mod Rows
+mod Staying
+mod NoneGone
+mod Counted
+mod Found
+mod Named
+mod Taken
+mod Tables
+mod Written
+mod Past
+mod Ranges
+mod Said
+mod Fresh
+mod Records
+mod Origins

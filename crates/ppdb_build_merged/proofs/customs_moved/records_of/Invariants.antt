@@ -1,0 +1,14 @@
+use Rattle.std.proofs.Common.{◌≡◌, map, take}
+use Rattle.std.specs.List.{enumerate_from, filter_map}
+use Rattle.ppdb_merge_records_laws.specs.Records.{Numbered, record_image}
+use Rattle.ppdb_build_merged.specs.Origins.{AreMade}
+use Rattle.ppdb_build_merged.specs.Records.{inputs_of}
+use Rattle.ppdb_build_merged.proofs.customs_moved.records_of.Given as goal
+
+abbrev pub invariant-loop-number : goal.invariant-loop-number
+invariant-loop-number g l = record {
+  made : AreMade l.placed l.rows;
+  all : l.all
+      ≡ map (λ (input : Numbered). filter_map (record_image (inputs_of l.placed) input) input.1.value.customs)
+      (enumerate_from 0 (inputs_of (take l.number l.placed)));
+}

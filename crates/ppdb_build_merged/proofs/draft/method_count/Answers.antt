@@ -1,0 +1,20 @@
+use Rattle.std.proofs.Common.{sym, ap, ◌∙◌, arith}
+use Rattle.std.specs.Prelude.{slice_index}
+use Rattle.ppdb_maps.specs.Map.{output_count}
+use Rattle.ppdb_values_sound_laws.proofs.Counts.{type_system}
+use Rattle.ppdb_verify.specs.Views.{raw_file}
+use Rattle.ppdb_merge_rows.specs.declared.inputs.RowInput.{RowInput}
+use Rattle.ppdb_merge_rows.specs.Inputs.{moved_by}
+use Rattle.ppdb_build_merged.proofs.Tables.{method_count}
+use Rattle.ppdb_build_merged.proofs.Written.{rows_long}
+use Rattle.ppdb_build_merged.proofs.draft.method_count.Goals as goal
+
+pub returns : goal.returns
+returns c =
+    let first : RowInput = c.index-inputs-0.result in
+    let raw = raw_file first.file in
+    let inputs = c.args.inputs.now in
+    c.output_rows.ensures
+    ∙ ap (output_count first.map 0x06) (c.count.ensures.rows ∙ sym (type_system raw.tables.counts c.keeps.ensures.rules.shape.entries 0x06 (omega arith)))
+    ∙ ap (λ (i : RowInput). output_count i.map 0x06 (slice_index (moved_by i).value.rows 0x06)) c.index-inputs-0.is
+    ∙ sym (method_count c.joined_parts_are_flat.ensures inputs first (omega arith) (rows_long _))

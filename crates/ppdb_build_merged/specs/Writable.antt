@@ -1,0 +1,17 @@
+-- What the steps of a draft ask of constants and of import scopes.
+use Rattle.ppdb_values.specs.Names.{IsBody, IsToken}
+use Rattle.std.specs.Prelude.{All}
+use Rattle.ppdb_values.specs.declared.{import.ImportScopeValue.ImportScopeValue, scope.{ConstantValue.ConstantValue, ScopeValue.ScopeValue}}
+use Rattle.ppdb_values_sound_laws.specs.{Scopes.stored_body, Writing.HasSpelling}
+use Rattle.ppdb_merge_items.specs.Each.{Each}
+
+-- A constant that its writer takes.
+pub record IsTaken (constant : ConstantValue) : Type 0 where
+  pub modifiers : All (λ m. IsToken m.target) constant.modifiers
+  pub body : IsBody (stored_body constant.body)
+
+abbrev pub HasConstants : ScopeValue → Type 0
+HasConstants scope = Each IsTaken scope.constants
+
+abbrev pub HasImports : ImportScopeValue → Type 0
+HasImports scope = All HasSpelling scope.imports

@@ -1,0 +1,160 @@
+-- The inputs of a merger of rows with a further one, and what they come to.
+use Rattle.std.proofs.Common.{◌≡◌, ◌≢◌, ℕ, zero, suc, ◌+◌, ◌<◌, ◌≤◌, List, [], ◌∷◌, ◌++◌, Some, None, length, map, take, refl, sym, ◌∙◌, ap, subst, arith}
+use Rattle.std.proofs.Common.{◌⊎◌, inl, inr}
+use Rattle.std.specs.Prelude.{Result, Ok, Err, IfErr, nat_eq}
+use Rattle.std.proofs.lemmas.List.{length-map, take_all}
+use Rattle.ppdb_base.specs.declared.merge_error.MergeError.{MergeError}
+use Rattle.ppdb_base.specs.declared.merge_error.MergeError.TheVariants.{Memory as NoMemory}
+use Rattle.ppdb_maps.specs.Map.{Map}
+use Rattle.ppdb_maps.specs.Readable.{IsReadable}
+use Rattle.ppdb_values.specs.RawFile.{RawFile}
+use Rattle.ppdb_values.specs.Rules.{KeepsRules}
+use Rattle.ppdb_values.specs.Value.{value_of}
+use Rattle.ppdb_values_sound_laws.specs.Sound.{IsSound}
+use Rattle.ppdb_verify.specs.Views.{raw_file}
+use Rattle.ppdb_merge_items.specs.Laws.{SoundnessIsAnnotated}
+use Rattle.ppdb_merge_items.proofs.Mapped.{map_map_both}
+use Rattle.ppdb_merge_items.specs.Unannotated.{value_of_annotated}
+use Rattle.ppdb_merge_joined.specs.Joined.{joined}
+use Rattle.ppdb_merge_joined.specs.Laws.{JoinedIsSound}
+use Rattle.ppdb_merge_names_laws.specs.Laws.{ReferencesAreNamed}
+use Rattle.ppdb_merge_names.specs.declared.imaged.Imaged.{Imaged}
+use Rattle.ppdb_merge_moved.specs.Moved.{moved_counts}
+use Rattle.ppdb_merge_fits.specs.Clashes.{first_clash}
+use Rattle.ppdb_merge_fits.specs.Signatures.{all_images}
+use Rattle.ppdb_merge_fits.specs.Laws.{NothingClashes}
+use Rattle.ppdb_merge_meaning_laws.specs.Kept.{joined_inputs}
+use Rattle.ppdb_merge_rows.specs.Inputs.{moved_by, moved_inputs}
+use Rattle.ppdb_merge_rows.specs.declared.inputs.RowInput.{RowInput}
+use Rattle.ppdb_merge.specs.declared.row_index.RowIndex.{RowIndex}
+use Rattle.ppdb_merge.specs.declared.row_trace.RowTrace.{RowTrace}
+use Rattle.ppdb_merge.specs.declared.trace.Trace.{Trace}
+use Rattle.ppdb_merge.specs.Inputs.{AreFitting, ReadInput, traces_of}
+use Rattle.ppdb_merge.specs.Inputs as read
+use Rattle.ppdb_merge.specs.Kept.{AreInputs}
+use Rattle.ppdb_merge.specs.Merged.{trace_of, is_first, moved_files}
+use Rattle.ppdb_merge.specs.Refusals.{added, refusal_of}
+use Rattle.ppdb_merge.specs.Rows.{AreKept, IndexesRows, IsIndexOf, read_input, read_inputs, row_trace, row_traces, traces_in}
+use Rattle.ppdb_merge.specs.Together.{joined_of, misfit_of, value_unless}
+use Rattle.ppdb_merge.proofs.Adding.{added_as, joined_sound, refused_first}
+use Rattle.ppdb_merge.proofs.RowIndexing.{many_traces}
+use Rattle.ppdb_merge.proofs.Turns.{are_inputs_of, one_fits, traces_more}
+
+map_push : {A B : Type 0} (f : A → B) (xs : List A) (x : A) → map f (xs ++ x ∷ []) ≡ map f xs ++ f x ∷ []
+map_push f [] x = refl
+map_push f (y ∷ xs) x = ap (λ l. f y ∷ l) (map_push f xs x)
+
+length_push : {A : Type 0} (xs : List A) (x : A) → length (xs ++ x ∷ []) ≡ length xs + 1
+length_push [] x = omega arith
+length_push (y ∷ ys) x = let rest = length_push ys x in omega (arith, rest)
+
+take_push : {A : Type 0} (xs : List A) (x : A) (n : ℕ) → n ≤ length xs → take n (xs ++ x ∷ []) ≡ take n xs
+take_push [] x zero within = refl
+take_push [] x (suc n) within = absurd (omega (arith, within))
+take_push (y ∷ xs) x zero within = refl
+take_push (y ∷ xs) x (suc n) within = ap (λ l. y ∷ l) (take_push xs x n (omega (arith, within)))
+
+-- ---- one more input
+
+pub more_traces : (inputs new : List RowInput) (i : RowInput) → new ≡ inputs ++ i ∷ []
+    → traces_in new ≡ traces_in inputs ++ trace_of (is_first (traces_in inputs)) i.map (raw_file i.file) ∷ []
+more_traces inputs new i is = ap traces_in is ∙ ap traces_of (map_push read_input inputs i) ∙ traces_more (read_inputs inputs) (read_input i)
+
+pub more_inputs : (inputs new : List RowInput) (i : RowInput) → new ≡ inputs ++ i ∷ [] → moved_inputs new ≡ moved_inputs inputs ++ moved_by i ∷ []
+more_inputs inputs new i is = ap moved_inputs is ∙ map_push moved_by inputs i
+
+pub added_rows : (marks : List (List ℕ)) (inputs new : List RowInput) (i : RowInput) → new ≡ inputs ++ i ∷ []
+    → refusal_of marks (traces_in inputs) i.map (raw_file i.file) ≡ None → added marks (traces_in inputs) i.map (raw_file i.file) ≡ Ok (traces_in new)
+added_rows marks inputs new i is none =
+    added_as marks (traces_in inputs) i.map (raw_file i.file) (trace_of (is_first (traces_in inputs)) i.map (raw_file i.file)) refl none
+    ∙ ap Ok (sym (more_traces inputs new i is))
+
+-- the inputs with one more
+pub grown_rows : (marks : List (List ℕ)) (inputs new : List RowInput) (i : RowInput) (kept more : List RowTrace) (t : RowTrace) (before index : RowIndex)
+    → new ≡ inputs ++ i ∷ [] → more ≡ kept ++ t ∷ [] → t ≡ row_trace (trace_of (is_first (traces_in inputs)) i.map (raw_file i.file))
+    → AreKept marks inputs kept before → AreFitting marks (read_inputs inputs ++ read_input i ∷ []) → IsIndexOf (traces_in inputs) index
+    → AreKept marks new more index
+grown_rows marks inputs new i kept more t before index is pushed made there fit holds =
+    let last : Trace = trace_of (is_first (traces_in inputs)) i.map (raw_file i.file) in
+    let grown = more_traces inputs new i is in
+    record {
+      fitting = subst (AreFitting marks) (sym (ap read_inputs is ∙ map_push read_input inputs i)) fit;
+      traces = pushed ∙ ap (λ l. l ++ t ∷ []) there.traces ∙ ap (λ x. row_traces inputs ++ x ∷ []) made
+          ∙ sym (map_push row_trace (traces_in inputs) last) ∙ ap (map row_trace) (sym grown);
+      index = subst (λ l. IsIndexOf l index) (sym grown) (longer last);
+    }
+  where
+    longer : (last : Trace) → IsIndexOf (traces_in inputs ++ last ∷ []) index
+    longer last =
+        let within = holds.0 in
+        let one = length_push (traces_in inputs) last in (
+          omega (arith, within, one),
+          subst (λ l. IndexesRows l index) (sym (take_push (traces_in inputs) last index.index.inputs within)) holds.1,
+        )
+
+-- an item that was put after the others and taken away again
+pub taken_back : {A : Type 0} (xs more left : List A) (x : A) (n : ℕ) → n ≡ length xs → more ≡ xs ++ x ∷ [] → left ≡ take n more → left ≡ xs
+taken_back xs more left x n many pushed is =
+    is ∙ ap (take n) pushed ∙ take_push xs x n (omega (arith, many)) ∙ take_all n xs (omega (arith, many))
+
+-- ---- an input that is read
+
+pub first_of : (inputs : List RowInput) → nat_eq (length inputs) 0 ≡ is_first (traces_in inputs)
+first_of inputs = ap (λ k. nat_eq k 0) (sym (many_traces inputs))
+
+pub unfit_if : (marks : List (List ℕ)) (inputs : List RowInput) (m : Map) (raw : RawFile) (r : Result (List Imaged) MergeError)
+    → IfErr r (λ e. (e ≡ NoMemory) ⊎ (first_clash marks (nat_eq (length inputs) 0) m raw ≡ Some e))
+    → IfErr r (λ e. (e ≡ NoMemory) ⊎ (refusal_of marks (traces_in inputs) m raw ≡ Some e))
+unfit_if marks inputs m raw (Ok rows) told = tt
+unfit_if marks inputs m raw (Err e) (inl none) = inl none
+unfit_if marks inputs m raw (Err e) (inr is) =
+    inr (refused_first marks (traces_in inputs) m raw e (subst (λ b. first_clash marks b m raw ≡ Some e) (first_of inputs) is))
+
+pub read_trace : (inputs : List RowInput) (m : Map) (raw : RawFile) (counts : List ℕ) (rows : List Imaged)
+    → counts ≡ moved_counts m 0 (value_of raw).rows → rows ≡ all_images (is_first (traces_in inputs)) m raw
+    → ◌≡◌ {A = RowTrace} (record { counts = counts; rows = rows }) (row_trace (trace_of (is_first (traces_in inputs)) m raw))
+read_trace inputs m raw counts rows counted same =
+    ap (λ (l : List ℕ). record { counts = l; rows = rows }) counted
+    ∙ ap (λ (l : List Imaged). record { counts = moved_counts m 0 (value_of raw).rows; rows = l }) same
+
+-- ---- what is kept, after a refusal and after none
+
+pub kept_rows : (marks : List (List ℕ)) (inputs left : List RowInput) (kept more : List RowTrace) (before index : RowIndex) → left ≡ inputs → more ≡ kept
+    → AreKept marks inputs kept before → IsIndexOf (traces_in inputs) index → AreKept marks left more index
+kept_rows marks inputs left kept more before index is also kept_before holds = record {
+  fitting = subst (λ l. AreFitting marks (read_inputs l)) (sym is) kept_before.fitting;
+  traces = also ∙ kept_before.traces ∙ ap row_traces (sym is);
+  index = subst (λ l. IsIndexOf (traces_in l) index) (sym is) holds;
+}
+
+-- ---- all inputs together
+
+module _ (sounds : (raw : RawFile) → KeepsRules raw → IsSound (value_of raw)) (annotated : SoundnessIsAnnotated) (named : ReferencesAreNamed)
+    (clashes : NothingClashes) (marks : List (List ℕ)) where
+  pub rows_are_inputs : (inputs : List RowInput) → AreFitting marks (read_inputs inputs) → AreInputs (traces_in inputs) (moved_inputs inputs)
+  rows_are_inputs inputs fit =
+      subst (λ l. AreInputs (traces_in inputs) l) (map_map_both read.moved_by read_input inputs)
+      (are_inputs_of sounds annotated named clashes marks (read_inputs inputs) fit)
+
+  pub read_fitting : (inputs : List RowInput) (input : ReadInput) → AreFitting marks (read_inputs inputs) → KeepsRules input.raw → IsReadable input.map
+      → length inputs < 256 → refusal_of marks (traces_in inputs) input.map input.raw ≡ None → AreFitting marks (read_inputs inputs ++ input ∷ [])
+  read_fitting inputs input fit rules ready few none =
+      one_fits sounds annotated named clashes marks (read_inputs inputs) input fit (record { rules = rules; ready = ready })
+      (let same = length-map inputs read_input in omega (arith, few, same)) none
+
+  some_traces : (traces : List Trace) → 1 ≤ length traces → traces ≢ []
+  some_traces [] some is = absurd (omega (arith, some))
+  some_traces (t ∷ ts) some is = absurd cc
+
+  joined_is : (inputs : List RowInput) → AreFitting marks (read_inputs inputs)
+      → value_of_annotated (joined (moved_files (traces_in inputs))) ≡ joined_inputs (moved_inputs inputs)
+  joined_is inputs fit = ap (λ l. value_of_annotated (joined l)) (rows_are_inputs inputs fit).moved
+
+  pub rows_sound : JoinedIsSound → (inputs : List RowInput) → AreFitting marks (read_inputs inputs) → 1 ≤ length (traces_in inputs)
+      → misfit_of (traces_in inputs) ≡ None → IsSound (joined_inputs (moved_inputs inputs))
+  rows_sound law inputs fit some none =
+      subst IsSound (joined_is inputs fit) (joined_sound annotated law (traces_in inputs) (some_traces (traces_in inputs) some) fit.sound none)
+
+  pub rows_joined : (inputs : List RowInput) → AreFitting marks (read_inputs inputs) → misfit_of (traces_in inputs) ≡ None
+      → joined_of (traces_in inputs) ≡ Ok (joined_inputs (moved_inputs inputs))
+  rows_joined inputs fit none = ap (value_unless (traces_in inputs)) none ∙ ap Ok (joined_is inputs fit)

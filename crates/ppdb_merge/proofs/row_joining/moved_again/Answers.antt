@@ -1,0 +1,43 @@
+use Rattle.std.proofs.Common.{◌+◌, ◌<◌, ◌∙◌, ◌∷◌, ◌++◌, [], ap, arith, length, List, subst, sym, take}
+use Rattle.std.proofs.lemmas.List.{take_all}
+use Rattle.ppdb_values.specs.declared.file.FileValue.{FileValue}
+use Rattle.ppdb_verify.specs.Views.{raw_file}
+use Rattle.ppdb_merge_items.specs.Annotated.{annotated_file}
+use Rattle.ppdb_merge_items.specs.SoundParts.{SoundMoved}
+use Rattle.ppdb_merge_moved.specs.Moved.{moved_file}
+use Rattle.ppdb_merge.specs.declared.trace.Trace.{Trace}
+use Rattle.ppdb_merge.specs.Rows.{traces_in}
+use Rattle.ppdb_merge.proofs.RowIndexing.{made_again, many_kept, many_traces, sound_by, traced_by}
+use Rattle.ppdb_merge.proofs.row_joining.moved_again.Goals as goal
+
+pub bounds-traces-place : goal.bounds-traces-place
+bounds-traces-place g c = let many = many_kept c.args.inputs.now c.args.traces.now c.requires.traces in omega (arith, many)
+
+pub moved-requires-clause-sound : goal.moved-requires-clause-sound
+moved-requires-clause-sound g c =
+    let at = sound_by c.args.inputs.now c.inputs.place c.index-inputs-place.result c.inputs-test.true c.index-inputs-place.is c.requires.sound in
+    subst (λ (v : FileValue). SoundMoved (moved_file c.index-inputs-place.result.map (annotated_file v))) (sym c.in_ok-value.ensures.value) at.1.sound
+
+pub moved-requires-clause-few : goal.moved-requires-clause-few
+moved-requires-clause-few g c =
+    let at = sound_by c.args.inputs.now c.inputs.place c.index-inputs-place.result c.inputs-test.true c.index-inputs-place.is c.requires.sound in
+    let few = at.1.few.documents in
+    subst (λ (v : FileValue). length (moved_file c.index-inputs-place.result.map (annotated_file v)).documents < 0x20000000) (sym c.in_ok-value.ensures.value)
+    (omega (arith, few))
+
+pub inputs-preserved : goal.inputs-preserved
+inputs-preserved g c =
+    let at = traced_by c.args.inputs.now c.args.traces.now c.inputs.place c.index-inputs-place.result c.index-traces-place.result c.requires.traces
+    c.inputs-test.true c.index-inputs-place.is c.index-traces-place.is in
+    let same = made_again at.0 c.index-inputs-place.result.map (raw_file c.index-inputs-place.result.file) c.in_ok-value.value c.in_ok-moved.moved
+    c.in_ok-rows.rows c.in_ok-moved.ensures c.in_ok-value.ensures.value (c.in_ok-rows.ensures ∙ c.as_slice.ensures ∙ at.1) in
+    record {
+      within = omega arith;
+      made = c.in_ok-push.ensures.ok ∙ ap (λ (l : List Trace). l ++ record { moved = c.in_ok-moved.moved; rows = c.in_ok-rows.rows } ∷ []) c.inputs.invariant.made
+          ∙ ap (λ (t : Trace). take c.inputs.place (traces_in c.args.inputs.now) ++ t ∷ []) same ∙ sym at.2;
+    }
+
+pub returns : goal.returns
+returns g c =
+    c.inputs.invariant.made
+    ∙ (let many = many_traces c.args.inputs.now in take_all c.inputs.place (traces_in c.args.inputs.now) (omega (arith, many)))

@@ -1,0 +1,55 @@
+-- Inputs that were read, and added one after the other under the same marks.
+use Rattle.std.specs.Prelude.{◌≡◌, ℕ, Bool, true, false, List, [], ◌∷◌, Ok, map}
+use Rattle.ppdb_maps.specs.{Map.Map, Readable.IsReadable}
+use Rattle.ppdb_values.specs.{RawFile.RawFile, Rules.KeepsRules, Value.value_of}
+use Rattle.ppdb_merge_items.specs.Each.{Each}
+use Rattle.ppdb_merge_fits.specs.Laws.{NoClash}
+use Rattle.ppdb_merge_meaning_laws.specs.Kept.{MovedBy}
+use Rattle.ppdb_merge.specs.{declared.trace.Trace.Trace, Merged.trace_of, Refusals.added, Sound.SoundTraces}
+
+-- what a file is read as, and the map by which it is moved
+pub record ReadInput : Type 0 where
+  pub raw : RawFile
+  pub map : Map
+
+-- the file keeps the rules of its format, and a text can have the map
+pub record IsValidInput (input : ReadInput) : Type 0 where
+  pub rules : KeepsRules input.raw
+  pub ready : IsReadable input.map
+
+-- what the file says, and its map
+abbrev pub moved_by : ReadInput → MovedBy
+moved_by input = record { value = value_of input.raw; map = input.map }
+
+-- each input fits those before it, the first of them those that are there, and all leave these traces
+abbrev pub AreAdded : List (List ℕ) → List Trace → List ReadInput → List Trace → Type 0
+AreAdded marks there [] traces = traces ≡ there
+AreAdded marks there (input ∷ inputs) traces =
+    (more : List Trace) × (added marks there input.map input.raw ≡ Ok more) × AreAdded marks more inputs traces
+
+-- ---- in turn
+
+-- an input, and whether it is the first
+abbrev pub Turn : Type 0
+Turn = Bool × ReadInput
+
+abbrev pub turns : List ReadInput → List Turn
+turns [] = []
+turns (first ∷ others) = (true, first) ∷ map (λ input. (false, input)) others
+
+abbrev pub trace_by : Turn → Trace
+trace_by x = trace_of x.0 x.1.map x.1.raw
+
+-- what is kept of inputs, in order
+abbrev pub traces_of : List ReadInput → List Trace
+traces_of inputs = map trace_by (turns inputs)
+
+-- A valid input whose map fits it.
+pub record IsFitting (marks : List (List ℕ)) (x : Turn) : Type 0 where
+  pub valid : IsValidInput x.1
+  pub clash : NoClash marks x.0 x.1.map x.1.raw
+
+-- Valid inputs that fit each other, and each its map.
+pub record AreFitting (marks : List (List ℕ)) (inputs : List ReadInput) : Type 0 where
+  pub sound : SoundTraces (traces_of inputs)
+  pub each : Each (IsFitting marks) (turns inputs)

@@ -1,0 +1,11 @@
+use Rattle.ppdb_run.proofs.Merging.{rebuilds_where_known}
+use Rattle.ppdb_run.proofs.joined_value.value_bytes.Goals as goal
+
+pub returns-in-Ok-clause-again : goal.returns-in-Ok-clause-again
+returns-in-Ok-clause-again c = λ output marks.
+    rebuilds_where_known (record { keep_id = c.args.keep_id; marks = marks }) output c.args.value.now c.in-Ok.bytes
+    (rw c.choice.ensures at c.in-Ok.ensures.written) c.in-Ok.ensures.accepted (rw c.choice.ensures at c.in-Ok.ensures.reread)
+    (rw c.choice.ensures at c.in-Ok.ensures.again)
+
+pub returns-in-Ok-clause-says : goal.returns-in-Ok-clause-says
+returns-in-Ok-clause-says c = λ raw is. (_, (c.in-Ok.ensures.again raw is).value_is)

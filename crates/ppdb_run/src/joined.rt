@@ -1,0 +1,80 @@
+// The canonical file of what inputs are joined to.
+ghost use Rattle.std.specs.Prelude.{◌≤◌, ℕ, List, length, None, IfOk, IfErr, IfSome};
+ghost use Rattle.ppdb_base.specs.First.{IsAccepted};
+ghost use Rattle.ppdb_values_sound_laws.specs.Sound.{IsSound};
+ghost use Rattle.ppdb_verify.specs.Files.{FileFaults};
+ghost use Rattle.ppdb_merge_meaning_laws.specs.Kept.{InputsFit, joined_inputs};
+ghost use Rattle.ppdb_merge_rows.specs.Inputs.{moved_inputs};
+ghost use Rattle.ppdb_run.specs.Ends.{RebuildsWhereKnown};
+ghost use Rattle.ppdb_run.specs.Joined.{GivesIfSome, IsJoinedFile, joined_steps};
+ghost use Rattle.ppdb_run.specs.MeaningLaws.{SaysButForId};
+ghost use Rattle.ppdb_run.specs.Outcome.{gives, in_limits, written};
+ghost use Rattle.ppdb_run.specs.Stops.{Gives};
+ghost use Rattle.ppdb_run_stops.specs.Causes.{cause_of, ComesFrom, no_file};
+ghost use Rattle.ppdb_run_words.specs.Task.{inputs_of};
+
+use crate::joined_value::{input_of, joined_value_bytes};
+use crate::rebuild::choice;
+use ppdb_base::{Bytes, Steps};
+use ppdb_build::{BuildError, write_joined};
+use ppdb_build_heaps::ItemKey;
+use ppdb_merge::RowMerger;
+use ppdb_merge_rows::RowInput;
+use ppdb_run_stops::Stop;
+use ppdb_run_words::Inputs;
+use std::alloc::Global;
+use std::sync::ledger::Ledger;
+
+/// The canonical file of what inputs are joined to, where they fit together.
+pub(crate) fn joined_bytes<'a, L: Ledger>(
+    alloc: Global,
+    inputs: Inputs<'a>,
+    merger: RowMerger<'_>,
+    keep_id: bool,
+    key: ItemKey,
+    steps: &mut Steps<L>,
+) -> Result<Bytes, Stop<'a>>
+    requires { 1 ≤ length merger.traces }
+    ensures told { (output : List ℕ) (marks : List (List ℕ)) →
+        Gives (written output) result (joined_steps (inputs_of inputs.entry) output (record { keep_id = keep_id; marks = marks }) merger.entry.traces) }
+    ensures joined { IfOk result (IsJoinedFile keep_id merger.entry.traces) }
+    ensures accepted { IfOk result (λ bytes. IsAccepted (FileFaults bytes)) }
+    ensures causes { IfErr result (λ stop. ComesFrom (cause_of stop) ⊥ no_file no_file None ⊥ ⊥ ⊥) }
+{
+    match merger.misfit() {
+        Some(error) => return Err(Stop::Unfit(inputs.file(input_of(error)), error)),
+        None => {}
+    }
+    match rows_bytes(alloc, merger.inputs(), keep_id, key, steps) {
+        Ok(Some(bytes)) => Ok(bytes),
+        Ok(None) => joined_value_bytes(alloc, inputs, merger, keep_id, key, steps),
+        Err(stop) => Err(stop),
+    }
+}
+
+/// The canonical file of what inputs are joined to, from their rows. None where these do not tell whether it passes a limit.
+fn rows_bytes<'a, L: Ledger>(
+    alloc: Global,
+    inputs: &[RowInput<'_>],
+    keep_id: bool,
+    key: ItemKey,
+    steps: &mut Steps<L>,
+) -> Result<Option<Bytes>, Stop<'a>>
+    requires some { 1 ≤ length inputs.now }
+    requires most { length inputs.now ≤ 256 }
+    requires fit { InputsFit (moved_inputs inputs.now) }
+    requires sound { IsSound (joined_inputs (moved_inputs inputs.now)) }
+    ensures told { (output : List ℕ) (marks : List (List ℕ)) →
+        GivesIfSome (written output) result (gives (in_limits output (record { keep_id = keep_id; marks = marks }) (joined_inputs (moved_inputs inputs.now)))) }
+    ensures accepted { IfOk result (λ file. IfSome file (λ bytes. IsAccepted (FileFaults bytes))) }
+    ensures says { IfOk result (λ file. IfSome file (λ bytes. SaysButForId bytes (joined_inputs (moved_inputs inputs.now)))) }
+    ensures again { (output : List ℕ) (marks : List (List ℕ)) →
+        IfOk result (λ file. IfSome file (λ bytes. RebuildsWhereKnown (record { keep_id = keep_id; marks = marks }) (output, bytes))) }
+    ensures causes { IfErr result (λ stop. ComesFrom (cause_of stop) ⊥ no_file no_file None ⊥ ⊥ ⊥) }
+{
+    match write_joined(alloc, inputs, choice(keep_id), key, steps) {
+        Ok(file) => Ok(file),
+        Err(BuildError::Limit(limit)) => Err(Stop::Limit(limit)),
+        Err(BuildError::Memory) => Err(Stop::Memory),
+    }
+}
