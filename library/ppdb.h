@@ -52,7 +52,7 @@ typedef struct ppdb_fault {
     uint32_t byte;  /* from 0: in the parts 1 and 2 the byte of the file, in 3 and 4 the byte of the stream, in 5 the byte of the
                        blob that the cell names, or 0 */
     uint8_t code;   /* the rule: 1 to 40 for F1 to F40 */
-    uint8_t part;   /* 1 the metadata root, 2 its streams, 3 the stream #Pdb, 4 the head of the stream #~, 5 the rows of its tables */
+    uint8_t part;   /* 1 the metadata root, 2 its streams, 3 the stream #Pdb, 4 the stream #~, 5 the rows of its tables */
     uint8_t table;  /* the number of the table, 0x30 to 0x37; 0 in the parts 1 to 4 */
     uint8_t column; /* the column of the table, from 0; 0 in the parts 1 to 4 */
 } ppdb_fault;
