@@ -1,6 +1,9 @@
-use crate::running::{answers, verifies};
+use crate::verifying::verifies;
+use ppdb_base::MemorySink;
+use ppdb_run::Status;
 use std::test::Fail;
 use tests_files::SMALL;
+use tests_runs::{folder_of, ran};
 
 // B cut to fewer bytes than `end`, down to the `end` of the row before.
 const CUT: [(usize, &str); 27] = [
@@ -96,6 +99,19 @@ fn changed_bytes(rt: HostRuntime) -> Result<(), Fail> {
         assert!(rt; tells(&rt, at, value, text)?, "{text}");
     }
     Ok(())
+}
+
+/// Verifies these bytes as the file B, and says whether that ended as accepted or refused, with the line of it.
+fn answers(rt: &HostRuntime, bytes: &[u8]) -> Result<bool, Fail> {
+    let mut folder = folder_of(rt.alloc(), &[("B", bytes)])?;
+    let mut out = MemorySink::new(rt.alloc());
+    let status = ran(rt, &["verify", "B"], &mut folder, &mut out)?;
+    let text = out.as_slice();
+    Ok(match status {
+        Status::Done => text == b"accepted\n".as_slice(),
+        Status::Refused => text.starts_with(b"refused B F") && text.ends_with(b"\n"),
+        _ => false,
+    })
 }
 
 /// Whether B with this byte in place of its own is accepted or refused by one line.

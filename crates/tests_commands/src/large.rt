@@ -1,8 +1,8 @@
 // Files that would cost much if they were read the simple way.
-use crate::files::{NOTHING, Parts, count_of, file_of};
-use crate::running::verifies;
+use crate::verifying::verifies;
 use std::alloc::{AllocError, Global};
 use std::test::Fail;
+use tests_runs::{NOTHING, Parts, count_of, file_of};
 
 /// A file of one document, whose name has so many parts, each the same text of 1000000 bytes.
 fn long_name(alloc: Global, parts: u16) -> Result<Vec<u8>, AllocError> {

@@ -4,17 +4,9 @@
 #[cfg(test)]
 mod changed;
 #[cfg(test)]
-mod compose;
-#[cfg(test)]
 mod copies;
 #[cfg(test)]
-mod crossing;
-#[cfg(test)]
 mod every_kind;
-#[cfg(test)]
-mod files;
-#[cfg(test)]
-mod gone;
 #[cfg(test)]
 mod identity;
 #[cfg(test)]
@@ -25,12 +17,6 @@ mod links;
 #[cfg(test)]
 mod lookup;
 #[cfg(test)]
-mod moving;
-#[cfg(test)]
-mod moving_files;
-#[cfg(test)]
-mod naming;
-#[cfg(test)]
 mod puts;
 #[cfg(test)]
 mod query;
@@ -39,19 +25,13 @@ mod rebuild_changed;
 #[cfg(test)]
 mod rebuilding;
 #[cfg(test)]
-mod row_cases;
-#[cfg(test)]
 mod rules;
-#[cfg(test)]
-mod running;
 #[cfg(test)]
 mod sample;
 #[cfg(test)]
 mod show;
 #[cfg(test)]
-mod signatures;
-#[cfg(test)]
-mod two_steps;
+mod verifying;
 #[cfg(test)]
 mod words;
 #[cfg(test)]

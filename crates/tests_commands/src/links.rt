@@ -1,10 +1,9 @@
 // The addresses of documents, and the places where a debugger may stop for a line.
-use crate::files::{NOTHING, Parts, count_of, file_of};
 use crate::puts::puts_prefixes;
-use crate::running::first_other_over;
 use std::alloc::{AllocError, Global};
 use std::test::Fail;
 use tests_files::{PROGRAM, SMALL};
+use tests_runs::{NOTHING, Parts, count_of, file_of, first_other_over};
 
 /// The GUIDs of Source Link and of compilation options, as their bytes stand in a file.
 const KINDS: [u8; 32] = [

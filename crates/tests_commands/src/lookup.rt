@@ -1,7 +1,7 @@
 // The questions of a list, and answers as objects of JSON.
-use crate::running::first_other_over;
 use std::test::Fail;
 use tests_files::{PROGRAM, SMALL};
+use tests_runs::first_other_over;
 
 /// What `lookup` prints of the offset 3 of method 1 of B.
 const AT_3: &str = "\

@@ -1,9 +1,9 @@
 // Puts that fail.
-use crate::running::{folder_of, ran};
 use ppdb_base::MemorySink;
 use ppdb_run::Status;
 use std::test::Fail;
 use tests_files::SMALL;
+use tests_runs::{folder_of, ran};
 
 /// How a command of the file B ends whose put of this number fails, where what it puts is a prefix of this text.
 fn ended(rt: &HostRuntime, words: &[&str], text: &str, call: u32) -> Result<Status, Fail> {

@@ -1,7 +1,7 @@
 // What belongs to an offset of a method.
-use crate::running::first_other_over;
 use std::test::Fail;
 use tests_files::SMALL;
+use tests_runs::first_other_over;
 
 /// What `query B 1 3` prints.
 const B_AT_3: &str = "\

@@ -1,9 +1,9 @@
 // The small worked file with one byte changed, rebuilt.
-use crate::running::{first_other, ran};
 use ppdb_base::{MemorySink, SteadyFolder};
 use ppdb_run::Status;
 use std::test::Fail;
 use tests_files::SMALL;
+use tests_runs::{first_other, ran};
 
 /// Commands over a valid file B, and what they come to.
 const OF_A_VALID_FILE: [(&str, u8, &str); 4] = [

@@ -1,30 +1,17 @@
 // The canonical files that `rebuild` writes, and what it does not write.
-use crate::files::{FREE_KIND, NOTHING, Parts, file_of};
 use crate::identity::{BY_HASH, with_id};
-use crate::running::{ends, first_other, prints};
 use ppdb_base::{MemoryFolder, SteadyFolder};
 use std::alloc::Global;
 use std::test::Fail;
 use tests_files::{EMPTY, PROGRAM, SMALL};
+use tests_runs::{ONE_METHOD, Parts, UNKNOWN, ends, file_of, first_other, prints};
 
 /// One document, and a method whose last line is determined by a longer number than it needs.
 const LONG_NUMBER: Parts<'static> = Parts {
-    referenced: 0x40,
-    referenced_rows: b"\x01\0\0\0",
     valid: 1 << 0x30 | 1 << 0x31,
     rows: b"\x01\0\0\0\x01\0\0\0\x03\0\0\0\0\0\0\0\x01\0\x06\0",
     blobs: b"\0\x01a\x02\0\x01\x0c\0\0\0\x04\x0a\x46\x03\0\x01\x02\xbf\x81",
-    ..NOTHING
-};
-
-/// One record of an unknown kind, on the module.
-pub const UNKNOWN: Parts<'static> = Parts {
-    referenced: 0x01,
-    referenced_rows: b"\x01\0\0\0",
-    valid: 1 << 0x37,
-    rows: b"\x01\0\0\0\x27\0\x01\0\0\0",
-    guids: &FREE_KIND,
-    ..NOTHING
+    ..ONE_METHOD
 };
 
 /// A folder of the worked files, which are canonical (E has no rows, B is small, P is a program), of N, which is B but that the blob

@@ -1,15 +1,8 @@
 // Rules of the rows, over files of a few rows.
-use crate::files::{FREE_KIND, NOTHING, Parts, count_of, file_of};
-use crate::running::verifies;
+use crate::verifying::verifies;
 use std::alloc::{AllocError, Global};
 use std::test::Fail;
-
-/// No rows but one method.
-const ONE_METHOD: Parts<'static> = Parts {
-    referenced: 0x40,
-    referenced_rows: b"\x01\0\0\0",
-    ..NOTHING
-};
+use tests_runs::{FREE_KIND, NOTHING, ONE_METHOD, Parts, UNKNOWN, count_of, file_of};
 
 // Two documents of one name: in parts at each slash, and as one part.
 #[test]
@@ -55,15 +48,7 @@ fn records_in_order_of_their_parents(rt: HostRuntime) -> Result<(), Fail> {
 // A record of an unknown kind, on the module.
 #[test]
 fn a_record_of_an_unknown_kind(rt: HostRuntime) -> Result<(), Fail> {
-    let parts = Parts {
-        referenced: 0x01,
-        referenced_rows: b"\x01\0\0\0",
-        valid: 0x0080_0000_0000_0000,
-        rows: b"\x01\0\0\0\x27\0\x01\0\0\0",
-        guids: &FREE_KIND,
-        ..NOTHING
-    };
-    let file = file_of(rt.alloc(), parts)?;
+    let file = file_of(rt.alloc(), UNKNOWN)?;
     assert!(rt; verifies(&rt, &file, "accepted\n")?);
     Ok(())
 }

@@ -1,6 +1,6 @@
 // What the samples of few methods come to, worked out apart from this program.
-use crate::running::first_other_over;
 use std::test::Fail;
+use tests_runs::first_other_over;
 
 const ROWS: [(&[&str], u8, &str); 4] = [
     (

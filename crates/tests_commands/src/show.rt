@@ -1,8 +1,8 @@
 // All rows of a file, as text and as JSON.
 use crate::puts::puts_prefixes;
-use crate::running::first_other_over;
 use std::test::Fail;
 use tests_files::{EMPTY, SMALL};
+use tests_runs::first_other_over;
 
 /// What `show B` prints.
 const B_AS_TEXT: &str = "\

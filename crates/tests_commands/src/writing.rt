@@ -1,7 +1,6 @@
 // Values that are written as files, and read again.
 use crate::every_kind::{SHOWN, with_every_kind};
 use crate::identity::{BY_HASH, with_id};
-use crate::running::first_other;
 use custom_info::SOURCE_LINK;
 use ppdb_base::{Bytes, List, SteadyFolder};
 use ppdb_build::{CustomBody, CustomValue, DocumentValue, FileValue, IdChoice, sound, write_file};
@@ -10,6 +9,7 @@ use ppdb_tables::Parent;
 use std::alloc::Global;
 use std::test::Fail;
 use tests_files::{EMPTY, PROGRAM};
+use tests_runs::first_other;
 use tests_values::value as read;
 
 /// The file of a sound value.

@@ -1,10 +1,9 @@
 // Local signatures that `signature` lines give.
-use crate::files::{NOTHING, Parts};
 use crate::moving_files::{put_parts, put_texts, worked};
-use crate::running::first_other;
 use ppdb_base::MemoryFolder;
 use std::alloc::Global;
 use std::test::Fail;
+use tests_runs::{NOTHING, Parts, first_other};
 
 /// Document s; methods 1, 2 and 3 with the signatures 1, 1 and 0 and a point each.
 pub const SHARED: Parts<'static> = Parts {

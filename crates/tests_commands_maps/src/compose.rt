@@ -1,8 +1,8 @@
 // Two maps made into one, as files.
-use crate::running::{first_other_words, folder_of, prints};
 use ppdb_base::MemoryFolder;
 use std::alloc::{AllocError, Global};
 use std::test::Fail;
+use tests_runs::{first_other_words, folder_of, prints};
 
 /// The bytes of a text whose lines stand apart by `/`.
 fn text_of(alloc: Global, lines: &str) -> Result<String, AllocError> {

@@ -1,9 +1,9 @@
 // Debug files and maps by which they are moved and joined.
-use crate::files::{NOTHING, Parts, file_of};
 use ppdb_base::{Memory, MemoryFolder};
 use std::alloc::{AllocError, Global};
 use std::test::Fail;
 use tests_files::{EMPTY, PROGRAM, SMALL};
+use tests_runs::{NOTHING, ONE_METHOD, Parts, file_of};
 
 /// The GUID of the records of async steps, as its bytes stand in a file.
 const ASYNC: [u8; 16] = [
@@ -24,13 +24,6 @@ const DYNAMIC: [u8; 16] = [
 const SOURCE_LINK: [u8; 16] = [
     0x56, 0x05, 0x11, 0xcc, 0x91, 0xa0, 0x38, 0x4d, 0x9f, 0xec, 0x25, 0xab, 0x9a, 0x35, 0x1a, 0x6a,
 ];
-
-/// No rows but one method.
-pub const ONE_METHOD: Parts<'static> = Parts {
-    referenced: 0x40,
-    referenced_rows: b"\x01\0\0\0",
-    ..NOTHING
-};
 
 /// No rows but two methods.
 pub const TWO_METHODS: Parts<'static> = Parts {

@@ -1,9 +1,9 @@
 // Types that become rows of other tables, and assemblies that become the module's own.
 use crate::moving_files::put_texts;
 use crate::row_cases::{Case, files, first_other_case, shows};
-use crate::running::first_other;
 use ppdb_base::MemoryFolder;
 use std::test::Fail;
+use tests_runs::first_other;
 
 const GIVEN: [Case; 14] = [
     // TypeRef 1 is TypeDef 2: constant, modifier and parent; TypeDef 2 has it too.

@@ -125,23 +125,3 @@ pub fn first_other_words<F: Folder>(
     }
     Ok(None)
 }
-
-/// Verifies these bytes as the file B, and says whether that printed this and ended as it says.
-pub fn verifies(rt: &HostRuntime, bytes: &[u8], text: &str) -> Result<bool, Fail> {
-    let status = if text == "accepted\n" { 0 } else { 1 };
-    let rows: [(&[&str], u8, &str); 1] = [(&["verify", "B"], status, text)];
-    Ok(first_other_over(rt, &[("B", bytes)], &rows)?.is_none())
-}
-
-/// Verifies these bytes as the file B, and says whether that ended as accepted or refused, with the line of it.
-pub fn answers(rt: &HostRuntime, bytes: &[u8]) -> Result<bool, Fail> {
-    let mut folder = folder_of(rt.alloc(), &[("B", bytes)])?;
-    let mut out = MemorySink::new(rt.alloc());
-    let status = ran(rt, &["verify", "B"], &mut folder, &mut out)?;
-    let text = out.as_slice();
-    Ok(match status {
-        Status::Done => text == b"accepted\n".as_slice(),
-        Status::Refused => text.starts_with(b"refused B F") && text.ends_with(b"\n"),
-        _ => false,
-    })
-}

@@ -1,13 +1,11 @@
 // Worked rows of commands with maps, and what `show` prints then.
-use crate::files::{NOTHING, Parts};
 use crate::moving_files::{put_parts, put_texts, worked};
 use crate::naming::FILES as NAMED;
-use crate::rebuilding::UNKNOWN;
-use crate::running::{ends, ran};
 use crate::signatures::SHARED;
 use ppdb_base::{MemoryFolder, MemorySink};
 use std::alloc::Global;
 use std::test::Fail;
+use tests_runs::{NOTHING, Parts, UNKNOWN, ends, ran};
 
 /// Document k; a scope of method 1 with import scope 1, which imports TypeRef 2, N of assembly 1, TypeDef 1 as t, and M; constants: a of the
 /// value type TypeRef 1, b of the enumeration TypeDef 2, c of the class TypeSpec 1 with the modifier TypeRef 1, and d, an object. Records on

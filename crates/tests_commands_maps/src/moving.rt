@@ -1,11 +1,10 @@
 // Files that are moved by maps and joined.
-use crate::files::{NOTHING, Parts, count_of, file_of};
 use crate::moving_files::worked;
-use crate::running::{ends, first_other, first_other_over};
 use ppdb_base::MemoryFolder;
 use std::alloc::{AllocError, Global};
 use std::test::Fail;
 use tests_files::SMALL;
+use tests_runs::{NOTHING, Parts, count_of, ends, file_of, first_other, first_other_over};
 
 /// Commands in turn, and what each comes to.
 const MOVED: [(&str, u8, &str); 20] = [

@@ -37,6 +37,23 @@ pub const FREE_KIND: [u8; 16] = [
     0x33, 0x22, 0x11, 0x00, 0x55, 0x44, 0x77, 0x66, 0x88, 0x99, 0xaa, 0xbb, 0xcc, 0xdd, 0xee, 0xff,
 ];
 
+/// No rows but one method.
+pub const ONE_METHOD: Parts<'static> = Parts {
+    referenced: 0x40,
+    referenced_rows: b"\x01\0\0\0",
+    ..NOTHING
+};
+
+/// One record of an unknown kind, on the module.
+pub const UNKNOWN: Parts<'static> = Parts {
+    referenced: 0x01,
+    referenced_rows: b"\x01\0\0\0",
+    valid: 1 << 0x37,
+    rows: b"\x01\0\0\0\x27\0\x01\0\0\0",
+    guids: &FREE_KIND,
+    ..NOTHING
+};
+
 /// The file of these parts.
 pub fn file_of(alloc: Global, parts: Parts<'_>) -> Result<Vec<u8>, AllocError> {
     let pdb = pdb_stream(alloc, parts)?;

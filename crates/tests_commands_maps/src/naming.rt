@@ -1,10 +1,9 @@
 // Documents that `document` lines rename, and Source Link records to which a `link` line gives a value.
-use crate::files::{NOTHING, Parts};
 use crate::moving_files::{put_parts, worked};
-use crate::running::{ends, first_other};
 use ppdb_base::MemoryFolder;
 use std::alloc::Global;
 use std::test::Fail;
+use tests_runs::{NOTHING, Parts, ends, first_other};
 
 /// Files by their names.
 pub const FILES: [(&str, Parts<'static>); 4] = [
