@@ -1,8 +1,8 @@
 // Files that are moved by two maps one after the other, and by the map of both.
-use crate::moving_files::{ONE_METHOD, TWO_METHODS, put_parts, put_texts, worked};
+use crate::moving_files::{TWO_METHODS, put_parts, put_texts, worked};
 use ppdb_base::MemoryFolder;
 use std::test::Fail;
-use tests_runs::{NOTHING, Parts, first_other};
+use tests_runs::{NOTHING, ONE_METHOD, Parts, first_other};
 
 /// Files by their names.
 const FILES: [(&str, Parts<'static>); 3] = [
