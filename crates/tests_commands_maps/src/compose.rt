@@ -1,22 +1,16 @@
 // Two maps made into one, as files.
+use crate::moving_files::put_texts;
 use ppdb_base::MemoryFolder;
-use std::alloc::{AllocError, Global};
 use std::test::Fail;
 use tests_runs::{first_other_words, folder_of, prints};
 
-/// The bytes of a text whose lines stand apart by `/`.
-fn text_of(alloc: Global, lines: &str) -> Result<String, AllocError> {
-    lines.replace(alloc, "/", "\n")
-}
-
 /// Whether `compose F S O` of these maps is done, prints nothing, and writes this map.
 fn composes(rt: &HostRuntime, first: &str, second: &str, want: &str) -> Result<bool, Fail> {
-    let (first, second) = (text_of(rt.alloc(), first)?, text_of(rt.alloc(), second)?);
-    let want = text_of(rt.alloc(), want)?;
-    let files = [("F", first.as_bytes()), ("S", second.as_bytes())];
-    let mut folder = folder_of(rt.alloc(), &files)?;
+    let mut folder = MemoryFolder::new(rt.alloc());
+    let texts = [("F", first), ("S", second), ("W", want)];
+    put_texts(rt.alloc(), &mut folder, &texts)?;
     let done = prints(rt, &["compose", "F", "S", "O"], &mut folder, 0, "")?;
-    Ok(done && folder.get("O") == Some(want.as_bytes()))
+    Ok(done && folder.get("O") == folder.get("W"))
 }
 
 const COMPOSED: [(&str, &str, &str); 16] = [
@@ -172,8 +166,8 @@ fn one_file_is_read_and_written(rt: HostRuntime) -> Result<(), Fail> {
 /// Whether a command ends so whose call of this number fails, and the same command is done then.
 fn fails_once(rt: &HostRuntime, call: u32, status: u8, text: &str) -> Result<bool, Fail> {
     let mut folder = MemoryFolder::new(rt.alloc());
-    folder.set("f", b"ppdbmap 1")?;
-    folder.set("s", b"ppdbmap 2")?;
+    let texts = [("f", "ppdbmap 1"), ("s", "ppdbmap 2")];
+    put_texts(rt.alloc(), &mut folder, &texts)?;
     folder.fail(call)?;
     let words: &[&str] = &["compose", "f", "s", "o"];
     let other = first_other_words(rt, &mut folder, &[(words, status, text), (words, 0, "")])?;

@@ -225,9 +225,10 @@ fn rows_that_change_their_table(rt: HostRuntime) -> Result<(), Fail> {
     Ok(())
 }
 
-/// A file, two maps by which it is moved one after the other, the map of both, and what `show` prints then.
+/// The first step over a file and the one step, the two maps, the map of both, and what `show` prints then.
 struct Steps {
-    file: &'static str,
+    step: &'static str,
+    one_step: &'static str,
     first: &'static str,
     second: &'static str,
     both: &'static [u8],
@@ -237,7 +238,8 @@ struct Steps {
 
 const STEPS: [Steps; 2] = [
     Steps {
-        file: "K",
+        step: "remap K f T --keep-id",
+        one_step: "remap K c P --keep-id",
         first: "ppdbmap 4/rows 01 2/row 01 1 02 1/row 01 2 2",
         second: "ppdbmap 4/rows 02 2/gone 02 1/row 02 2 2",
         both: b"ppdbmap 4\n\
@@ -259,7 +261,8 @@ const STEPS: [Steps; 2] = [
             custom 4 parent 34 2 kind 83c563c4-b4f3-47d5-b824-ba5441477ea8 value 04\n",
     },
     Steps {
-        file: "N",
+        step: "remap N f T --keep-id",
+        one_step: "remap N c P --keep-id",
         first: "ppdbmap 4/rows 23 1/row 23 1 20 1/row 23 2 1/link a",
         second: "ppdbmap 4/rows 23 2/row 23 1 2/link b",
         both: b"ppdbmap 4\n\
@@ -280,13 +283,11 @@ const STEPS: [Steps; 2] = [
 fn is_one_step(rt: &HostRuntime, folder: &mut MemoryFolder, steps: &Steps) -> Result<bool, Fail> {
     let maps = [("f", steps.first), ("s", steps.second)];
     put_texts(rt.alloc(), folder, &maps)?;
-    let first = format!(in rt.alloc(); "remap {} f T --keep-id", steps.file)?;
-    let both = format!(in rt.alloc(); "remap {} c P --keep-id", steps.file)?;
     let commands = [
-        (first.as_str(), 0, ""),
+        (steps.step, 0, ""),
         ("remap T s O --keep-id", 0, ""),
         ("compose f s c", 0, ""),
-        (both.as_str(), 0, ""),
+        (steps.one_step, 0, ""),
     ];
     let done = first_other(rt, folder, &commands)?.is_none();
     let map = folder.get("c").unwrap_or(b"") == steps.both;
@@ -299,7 +300,7 @@ fn is_one_step(rt: &HostRuntime, folder: &mut MemoryFolder, steps: &Steps) -> Re
 fn two_steps_and_one(rt: HostRuntime) -> Result<(), Fail> {
     let mut folder = files(rt.alloc())?;
     for steps in &STEPS {
-        assert!(rt; is_one_step(&rt, &mut folder, steps)?, "{}", steps.file);
+        assert!(rt; is_one_step(&rt, &mut folder, steps)?, "{}", steps.step);
     }
     Ok(())
 }

@@ -47,10 +47,10 @@ const FILES: [(&str, Parts<'static>); 3] = [
     ),
 ];
 
-/// A file, two maps and the map of both, whose lines stand apart by `/`. The two steps write `two`; then these commands are run, of
+/// The first step over a file, two maps and the map of both, whose lines stand apart by `/`. The two steps write `two`; then these commands are run, of
 /// which the first writes `one` by the map of both; and these files are the same, or are not.
 struct Case {
-    file: &'static str,
+    step: &'static str,
     first: &'static str,
     second: &'static str,
     both: &'static str,
@@ -60,7 +60,7 @@ struct Case {
 
 const CASES: [Case; 8] = [
     Case {
-        file: "B",
+        step: "remap B first half --keep-id",
         first: "ppdbmap 1/method 1 9 12/run 0 0 1/run 5 6 4",
         second: "ppdbmap 1/method 1 12 12/run 0 0 8",
         both: "ppdbmap 3/method 1 9 12/run 0 0 1/run 5 6 2/",
@@ -76,7 +76,7 @@ const CASES: [Case; 8] = [
     },
     // The first step moves the edge at 3 to an offset that the second does not keep.
     Case {
-        file: "K",
+        step: "remap K first half --keep-id",
         first: "ppdbmap 1/method 1 9 12/run 0 0 1/run 5 6 1/run 8 9 1",
         second: "ppdbmap 1/method 1 12 12/run 0 0 1/run 7 7 1/run 9 9 1",
         both: "ppdbmap 3/method 1 9 12/run 0 0 1/run 8 9 1/",
@@ -109,7 +109,7 @@ const CASES: [Case; 8] = [
     },
     // The type is named by what the first step cuts.
     Case {
-        file: "T",
+        step: "remap T first half --keep-id",
         first: "ppdbmap 1/method 1 9 12/run 0 0 1/run 5 6 4",
         second: "ppdbmap 1/rows 02 0",
         both: "ppdbmap 3/rows 02 0/method 1 9 12/run 0 0 1/run 5 6 4/",
@@ -122,7 +122,7 @@ const CASES: [Case; 8] = [
     },
     // No point of method 1 is left by the first step.
     Case {
-        file: "X2",
+        step: "remap X2 first half --keep-id",
         first: "ppdbmap 1/method 1 4 4/run 0 0 3",
         second: "ppdbmap 1/rows 06 2/row 06 1 2/row 06 2 1",
         both: "ppdbmap 3/rows 06 2/row 06 1 2/row 06 2 1/method 1 4 4/run 0 0 3/",
@@ -133,7 +133,7 @@ const CASES: [Case; 8] = [
         same: true,
     },
     Case {
-        file: "X2",
+        step: "remap X2 first half --keep-id",
         first: "ppdbmap 1/method 1 4 4/run 0 0 3",
         second: "ppdbmap 1/rows 06 2/row 06 1 1/row 06 2 1",
         both: "ppdbmap 3/rows 06 2/row 06 1 1/row 06 2 1/method 1 4 4/run 0 0 3/",
@@ -145,7 +145,7 @@ const CASES: [Case; 8] = [
         same: false,
     },
     Case {
-        file: "X2",
+        step: "remap X2 first half --keep-id",
         first: "ppdbmap 1/rows 06 2/row 06 1 2/row 06 2 1",
         second: "ppdbmap 2/drop 2",
         both: "ppdbmap 3/rows 06 2/row 06 2 1/drop 1/",
@@ -153,7 +153,7 @@ const CASES: [Case; 8] = [
         same: true,
     },
     Case {
-        file: "B",
+        step: "remap B first half --keep-id",
         first: "ppdbmap 3/slots 1/slot 1 0 5/slot 1 1 6",
         second: "ppdbmap 3/slots 1/slot 1 5 1/slot 1 6 0",
         both: "ppdbmap 3/slots 1/slot 1 0 1/slot 1 1 0/",
@@ -161,7 +161,7 @@ const CASES: [Case; 8] = [
         same: true,
     },
     Case {
-        file: "P",
+        step: "remap P first half --keep-id",
         first: "ppdbmap 1/rows 06 10/row 06 1 6/row 06 2 2/row 06 4 9",
         second: "ppdbmap 1/rows 06 9/row 06 6 1/row 06 2 3/row 06 9 7",
         both: "ppdbmap 3/rows 06 9/row 06 1 1/row 06 2 3/row 06 4 7/",
@@ -188,9 +188,8 @@ fn put_steps(rt: &HostRuntime, case: &Case, folder: &mut MemoryFolder) -> Result
         ("want", case.both),
     ];
     put_texts(rt.alloc(), folder, &texts)?;
-    let first = format!(in rt.alloc(); "remap {} first half --keep-id", case.file)?;
     let steps = [
-        (first.as_str(), 0, ""),
+        (case.step, 0, ""),
         ("remap half second two --keep-id", 0, ""),
         ("compose first second both", 0, ""),
     ];
