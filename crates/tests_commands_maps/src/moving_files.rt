@@ -218,12 +218,17 @@ pub fn put_parts(
     Ok(())
 }
 
-/// A folder with these files and maps, and with the worked ones.
+/// Puts these files, these maps and the worked files.
+fn put_all(alloc: Global, folder: &mut MemoryFolder) -> Result<(), Fail> {
+    put_worked(folder)?;
+    put_parts(alloc, folder, &FILES)?;
+    put_texts(alloc, folder, &MAPS)
+}
+
+/// A folder with them.
 pub fn worked(alloc: Global) -> Result<MemoryFolder, Fail> {
     let mut folder = MemoryFolder::new(alloc);
-    put_worked(&mut folder)?;
-    put_parts(alloc, &mut folder, &FILES)?;
-    put_texts(alloc, &mut folder, &MAPS)?;
+    put_all(alloc, &mut folder)?;
     Ok(folder)
 }
 

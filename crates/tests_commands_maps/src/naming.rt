@@ -6,7 +6,7 @@ use std::test::Fail;
 use tests_runs::{NOTHING, Parts, ends, first_other};
 
 /// Files by their names.
-pub const FILES: [(&str, Parts<'static>); 4] = [
+const FILES: [(&str, Parts<'static>); 4] = [
     // Documents a and b; points of method 1 at 0 and 4 in a and at 2 in b.
     (
         "V",
@@ -325,13 +325,24 @@ const COMPOSED: [(&str, &[u8]); 5] = [
     ),
 ];
 
-/// The worked files, these files and the maps.
-fn files(alloc: Global) -> Result<MemoryFolder, Fail> {
-    let mut folder = worked(alloc)?;
-    put_parts(alloc, &mut folder, &FILES)?;
+/// Puts these files.
+pub fn put_named(alloc: Global, folder: &mut MemoryFolder) -> Result<(), Fail> {
+    put_parts(alloc, folder, &FILES)
+}
+
+/// Puts these files and the maps.
+fn put_all(alloc: Global, folder: &mut MemoryFolder) -> Result<(), Fail> {
+    put_named(alloc, folder)?;
     for (name, text) in MAPS {
         folder.set(name, text.as_bytes())?;
     }
+    Ok(())
+}
+
+/// The worked files, these files and the maps.
+fn files(alloc: Global) -> Result<MemoryFolder, Fail> {
+    let mut folder = worked(alloc)?;
+    put_all(alloc, &mut folder)?;
     Ok(folder)
 }
 

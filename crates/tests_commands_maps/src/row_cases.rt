@@ -1,6 +1,6 @@
 // Worked rows of commands with maps, and what `show` prints then.
 use crate::moving_files::{put_parts, put_texts, worked};
-use crate::naming::FILES as NAMED;
+use crate::naming::put_named;
 use crate::signatures::SHARED;
 use ppdb_base::{MemoryFolder, MemorySink};
 use std::alloc::Global;
@@ -37,12 +37,20 @@ pub struct Case {
     pub answer: &'static str,
 }
 
-/// The worked files, those of local signatures, of names and of types, and one with a record of an unknown kind.
+/// Puts the files of names, of local signatures and of types, and one with a record of an unknown kind.
+fn put_all(alloc: Global, folder: &mut MemoryFolder) -> Result<(), Fail> {
+    put_named(alloc, folder)?;
+    put_parts(
+        alloc,
+        folder,
+        &[("S", SHARED), ("K", TYPES), ("U", UNKNOWN)],
+    )
+}
+
+/// The worked files, and these.
 pub fn files(alloc: Global) -> Result<MemoryFolder, Fail> {
     let mut folder = worked(alloc)?;
-    put_parts(alloc, &mut folder, &NAMED)?;
-    let others = [("S", SHARED), ("K", TYPES), ("U", UNKNOWN)];
-    put_parts(alloc, &mut folder, &others)?;
+    put_all(alloc, &mut folder)?;
     Ok(folder)
 }
 

@@ -136,11 +136,16 @@ const STEPS: [(&str, u8, &str); 5] = [
     ("remap S C P --keep-id", 0, ""),
 ];
 
+/// Puts the file S and the maps.
+fn put_all(alloc: Global, folder: &mut MemoryFolder) -> Result<(), Fail> {
+    put_parts(alloc, folder, &[("S", SHARED)])?;
+    put_texts(alloc, folder, &MAPS)
+}
+
 /// The worked files, the file S and the maps.
 fn files(alloc: Global) -> Result<MemoryFolder, Fail> {
     let mut folder = worked(alloc)?;
-    put_parts(alloc, &mut folder, &[("S", SHARED)])?;
-    put_texts(alloc, &mut folder, &MAPS)?;
+    put_all(alloc, &mut folder)?;
     Ok(folder)
 }
 
