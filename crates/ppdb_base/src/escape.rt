@@ -1,5 +1,6 @@
 // Names and other bytes as printed text.
-ghost use Rattle.std.specs.Prelude.{◌≡◌, [], ◌∷◌};
+ghost use Rattle.std.specs.Prelude.{◌≡◌, [], ◌∷◌, All, IsTrue};
+ghost use Rattle.std.specs.Bool.{OnTrue};
 ghost use Rattle.ppdb_base.specs.Written.{Puts};
 ghost use Rattle.ppdb_base.specs.Escaped.{escaped, escaped_byte, code_of, is_plain};
 ghost use Rattle.hex.specs.Hex.{encode_lower};
@@ -14,10 +15,20 @@ pub fn put_escaped<O: Sink>(out: &mut O, bytes: &[u8]) -> Result<(), WriteError>
     if bytes.is_empty() {
         return out.put(b"\\-");
     }
+    if are_plain(bytes) {
+        return out.put(bytes);
+    }
     for &byte in bytes {
         put_escaped_byte(out, byte)?;
     }
     Ok(())
+}
+
+/// Whether each byte stands for itself, as in most names.
+fn are_plain(bytes: &[u8]) -> bool
+    ensures { OnTrue result (All (λ byte. IsTrue (is_plain byte)) bytes.now) }
+{
+    bytes.iter().all(|byte| stands_for_itself(*byte))
 }
 
 fn put_escaped_byte<O: Sink>(out: &mut O, byte: u8) -> Result<(), WriteError>
