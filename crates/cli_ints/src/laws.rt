@@ -10,7 +10,8 @@ pub fn unsigned_law()
     ensures shortest { (v : ℕ) → v < 2 ^ 29 → IsShortest SpellsUnsigned (short_unsigned v) v }
 {}
 
-/// The same of a signed number.
+/// No spelling of a signed number begins another, so a spelling is read back whatever follows it; and a number from -2^28 to 2^28 - 1 has
+/// one shortest spelling.
 pub fn signed_law()
     ensures reads_back { (a b x y : List ℕ) (v w : ℤ) → SpellsSigned a v → SpellsSigned b w → a ++ x ≡ b ++ y → (a ≡ b) × (v ≡ w) }
     ensures one_shortest { (a b : List ℕ) (v : ℤ) → IsShortest SpellsSigned a v → IsShortest SpellsSigned b v → a ≡ b }

@@ -38,7 +38,7 @@ own_assembly table Missing = Missing
 abbrev pub composed_image : Map → Map → ℕ → ℕ → RowImage
 composed_image f s table old = own_assembly table (image_then s (row_image f table old))
 
--- the same within one table
+-- the row of the same table that a row becomes by both maps, one after the other
 abbrev pub composed_row : Map → Map → ℕ → ℕ → Option ℕ
 composed_row f s table old = option_and_then (row_within s table) (row_within f table old)
 

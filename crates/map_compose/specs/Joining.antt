@@ -15,16 +15,16 @@ pub record AreRuns (runs : List Run) : Type 0 where
   pub rise : RiseFrom 0 0 runs
   pub short : AllByRecursion IsShort runs
 
--- those given up and the one held are the longest form of the runs that came, and none is held only where none came
+-- the runs that were given up and the one that is held are the longest form of the runs that came; none is held only where none came
 pub record Holding (came given : List Run) (held : Option Run) : Type 0 where
   pub are : longest came ≡ given ++ option_to_list held
   pub none : held ≡ None → came ≡ []
 
--- whatever runs came before, it is so with these runs after them
+-- whatever runs came before: what was given up and what is held are the longest form also with these runs after them
 abbrev pub JoinsRuns : Option Run → Option Run → List Run → List Run → Type 0
 JoinsRuns old new given runs = (came prefix : List Run) → Holding came prefix old → Holding (came ++ runs) (prefix ++ given) new
 
--- with one run more
+-- the run that was held is given up or joined, and one run more is taken in
 abbrev pub JoinsOne : Option Run → Run → Option Run → Run → Type 0
 JoinsOne old held given run = JoinsRuns old (Some held) (option_to_list given) (run ∷ [])
 
@@ -55,7 +55,7 @@ places from (line ∷ lines) =
 pub record AreJoinedOf (joined : JoinedRuns) (m : Map) : Type 0 where
   pub runs : joined.runs.items ≡ flat_map (λ (line : MethodLine). longest line.runs) m.methods
   pub lines : joined.lines.items ≡ places 0 m.methods
-  -- they are summed up, or not
+  -- the sums of the runs, where they are there
   pub sums : (joined.sums.items ≡ []) ⊎ (joined.sums.items ≡ sums_from 0 joined.runs.items)
 
 -- the place of one method, where it has a line
@@ -63,7 +63,7 @@ abbrev pub PlacedAt : JoinedRuns → ℕ → Option JoinedLine → Type 0
 PlacedAt joined method result = (m : Map) → IsReadable m → AreJoinedOf joined m
     → result ≡ find (λ (line : JoinedLine). nat_eq line.method method) (places 0 m.methods)
 
--- those of one method, where it has a line
+-- the longest runs of one method, where it has a line
 abbrev pub LendsJoined : JoinedRuns → ℕ → Option (List Run) → Type 0
 LendsJoined joined method result = (m : Map) → IsReadable m → AreJoinedOf joined m
     → result ≡ option_map (λ (line : MethodLine). longest line.runs) (method_line m method)
@@ -72,7 +72,7 @@ abbrev pub runs_of : Option (List Run) → List Run
 runs_of None = []
 runs_of (Some runs) = runs
 
--- the sums of these, where they are summed up
+-- the sums of the longest runs of one method, where they are there
 abbrev pub LendsSums : JoinedRuns → ℕ → Option (List ℕ) → Type 0
 LendsSums joined method result = (m : Map) → IsReadable m → AreJoinedOf joined m
     → SumsOf result (runs_of (option_map (λ (line : MethodLine). longest line.runs) (method_line m method)))

@@ -21,12 +21,12 @@ pub record EndBy (runs : List Run) (offset many : ℕ) : Type 0 where
   pub ended : (k : ℕ) (d : Run) → k < many → k < length runs → end_of (slice_index_or runs k d) ≤ offset
   pub after : (k : ℕ) (d : Run) → many ≤ k → k < length runs → offset < end_of (slice_index_or runs k d)
 
--- the first of them ends after an offset
+-- the first of the runs, if there is one, ends after an offset
 abbrev pub EndsAfter : ℕ → List Run → Type 0
 EndsAfter offset [] = Unit {0}
 EndsAfter offset (run ∷ runs) = offset < end_of run
 
--- what the first gives and the other takes on, which lies inside its images
+-- the offsets that a run gives and another takes on, which lies inside the images of the first
 abbrev pub taken_on : Run → Run → Run
 taken_on run other = record { old = run.old + (other.old - run.new); new = other.new; length = other.length }
 
@@ -44,7 +44,7 @@ abbrev pub new_digits : List Run → ℕ
 new_digits [] = 0
 new_digits (run ∷ runs) = length (decimal run.new) + length (decimal run.length) + new_digits runs
 
--- of how many lines OLD is not less
+-- of the lines for what a run gives and others take on: in how many OLD is not below a number
 abbrev pub not_less : Run → ℕ → List Run → ℕ
 not_less run least [] = 0
 not_less run least (other ∷ others) = cond (nat_lt (taken_on run other).old least) 0 1 + not_less run least others
@@ -54,7 +54,7 @@ abbrev pub sums_from : ℕ → List Run → List ℕ
 sums_from sum [] = []
 sums_from sum (run ∷ runs) = sum ∷ sums_from (sum + (length (decimal run.new) + length (decimal run.length))) runs
 
--- these are the sums of the runs, counted from some number on
+-- the sums are those of the runs, counted from some number on
 pub record AreSums (sums : List ℕ) (runs : List Run) : Type 0 where
   pub first : ℕ
   pub are : sums ≡ sums_from first runs

@@ -45,7 +45,7 @@ olds_left m table passed =
     ascending (drop passed.rows (map (λ (r : RowLine). r.old) (rows_of m table))
     ++ (drop passed.crossed (map (λ (r : CrossLine). r.old) (crossed_of m table)) ++ drop passed.gone (map (λ (r : GoneLine). r.old) (gone_of m table))))
 
--- one more, where the number is the least
+-- an index into a list of numbers, one further where the number that it has there is the least
 abbrev pub passed_on : ℕ → Option ℕ → ℕ → ℕ
 passed_on index None least = index
 passed_on index (Some old) least = cond (nat_eq old least) (index + 1) index

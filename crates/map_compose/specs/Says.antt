@@ -10,7 +10,7 @@ use Rattle.map_compose.specs.Composed.{composed_signature, document_entry, docum
 abbrev pub lines_text : List Line → List ℕ
 lines_text says = flat_map ended (map line_text says)
 
--- they are put into a text whose length fits its type
+-- the lines are put into a text whose length fits its type
 pub record PutsLines (old new : Counted) (says : List Line) : Type 0 where
   pub puts : old.length ≤ 0xffffffffffffffff → Puts old new (lines_text says)
 
@@ -40,7 +40,7 @@ followed f s method = cond (has_image f s method) (row_within f 0x06 method) Non
 abbrev pub slot_after : Map → Map → ℕ → ℕ → ℕ → Option ℕ
 slot_after f s method image old = option_and_then (slot_image s image) (slot_image f method old)
 
--- of a slot with an image
+-- the line of a slot with an image
 abbrev pub slot_image_says : ℕ → ℕ → Option ℕ → List Line
 slot_image_says method old None = []
 slot_image_says method old (Some new) = Slot method old new ∷ []
@@ -54,7 +54,7 @@ slot_images f s method = map slot_says (slot_entries f s method)
 abbrev pub slots_of_both : Map → Map → ℕ → List Line
 slots_of_both f s method = cond (has_slot_lines f s method) (Slots method ∷ slot_images f s method) []
 
--- of a method with a local signature
+-- the line of a method with a local signature
 abbrev pub signed_says : ℕ → Option ℕ → List Line
 signed_says method None = []
 signed_says method (Some new) = Signature method new ∷ []

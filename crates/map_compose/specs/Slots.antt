@@ -16,11 +16,11 @@ slots_length method slots = length (lines_text (map (λ (slot : SlotImage). Slot
 abbrev pub block_of : Map → ℕ → SlotBlock
 block_of m method = record { method = method; slots = length (slots_of m method); digits = slot_digits (slots_of m method) }
 
--- none is counted yet, or those of each method with a `slots` line are
+-- no slot is counted yet, or those of each method with a `slots` line are
 pub record AreBlocksOf (blocks : SlotBlocks) (m : Map) : Type 0 where
   pub are : (blocks.blocks.items ≡ []) ⊎ (blocks.blocks.items ≡ map (block_of m) m.slotted)
 
--- that of a method, where it is counted
+-- the slots of one method, where they are counted
 abbrev pub FindsBlock : SlotBlocks → ℕ → Option SlotBlock → Type 0
 FindsBlock blocks method result = (m : Map) → IsReadable m → AreBlocksOf blocks m
     → result ≡ find (λ (block : SlotBlock). nat_eq block.method method) blocks.blocks.items

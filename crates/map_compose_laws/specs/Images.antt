@@ -67,7 +67,7 @@ KeepsImages f s method image =
     (a b : MethodLine) → method_line f method ≡ Some a → method_line s image ≡ Some b
     → (y z : ℕ) → Kept (offsets_in s image) y z → (x : ℕ) × Kept (offsets_in f method) x y
 
--- there, where sizes agree and the method is there after both, each offset up to the old size is taken on as the map of both takes it
+-- where `KeepsImages` holds, sizes agree and the method is there after both, each offset up to the old size is taken on as the map of both takes it
 abbrev pub EdgesAreComposed : Type 0
 EdgesAreComposed = (f s : Map) (method image x : ℕ) → IsReadable f → IsReadable s → SizesAgree f s → Follows f s method image → KeepsImages f s method image
     → x ≤ old_size (offsets_in (composed f s) method) → EdgeComposes f s method image x

@@ -27,7 +27,7 @@ IsNamed f s value method = NamesMethod (true, moved_by value (composed f s)) met
 -- Of each method that the file names, where it is moved by the map of both, the file after two steps and the one after one say the same, where
 -- the second map keeps the module's own assembly: at each offset that the map of both keeps, but for the point's offset and the edges of ranges;
 -- wholly where sizes agree and one of the maps has no line for the method, or each offset that the second keeps in the method's image is one that
--- the first gives. So they do, in any case, of what is linked to the method.
+-- the first gives. In any case both say the same of what is linked to the method.
 pub record TwoStepsMean : Type 0 where
   pub but_for_edges : (f s : Map) (value : FileValue) → StepsFit f s value → KeepsOwnAssembly f s → (method x z : ℕ) → IsNamed f s value method
       → Kept (offsets_in (composed f s) method) x z

@@ -19,7 +19,7 @@ edged start size = record small_value {
   scopes = record outer_scope { range = record { start = 0; end = size } } ∷ record inner_scope { range = record { start = start; end = size } } ∷ [];
 }
 
--- what it says of method 1 from the offset on
+-- what a scope from this offset to the method's size means, which owns one variable
 abbrev pub scope_from : ℕ → ℕ → VariableValue → ScopeMeaning
 scope_from start size variable = record {
   range = record { start = start; end = size };

@@ -5,7 +5,7 @@ use Rattle.std.specs.Prelude.{ℕ, ◌≡◌, ◌+◌, ◌<◌, ◌⊎◌, ◌==
 abbrev pub Rose : ℕ → ℕ → Type 0
 Rose before after = (before < after) ⊎ (after ≡ 18446744073709551615)
 
--- one more, unless it stands at its last value
+-- a count after one more event: one more, unless the count is at its last value
 abbrev pub counted : ℕ → ℕ
 counted n = if n == 18446744073709551615 then n else n + 1
 

@@ -66,7 +66,7 @@ pub record IsDraftedFrom (value : FileValue) (head : PdbHead) (draft : Draft) : 
   pub rows : take 0x2d head.rows ≡ take 0x2d value.rows
   pub is_draft : IsDraftOf value draft
 
--- they are those of some value
+-- the head and the draft are those of some value
 pub record HasValue (head : PdbHead) (draft : Draft) : Type 0 where
   pub value : FileValue
   pub is : IsDraftedFrom value head draft

@@ -94,11 +94,12 @@ pub fn write_file(alloc: Global, value: &FileValue, id: IdChoice) -> Result<Byte
     Ok(bytes)
 }
 
-/// The same file; its items are hashed under the key, which should be that of all bytes that the value comes from.
+/// The canonical file of a value, with the identity that is chosen. Its items are hashed under the key, which should be that of all bytes that the
+/// value comes from.
 ///
 /// # Errors
 ///
-/// The same.
+/// The first limit of the format that the value passes, or that there was no memory left.
 pub fn write_file_under(
     alloc: Global,
     value: &FileValue,

@@ -4,7 +4,7 @@ use Rattle.ppdb_build_heaps.specs.Items.{as_text, as_blob}
 use Rattle.ppdb_build_layout.specs.{declared.rows.HeapLens.HeapLens, Bytes.padded}
 use Rattle.ppdb_build_draft.specs.Draft.{Draft}
 
--- with their padding; a GUID has 16 bytes
+-- the lengths of the heaps with their padding; a GUID has 16 bytes
 abbrev pub heap_lens_of : Draft → HeapLens
 heap_lens_of draft = record {
   texts = length (padded (flat_map as_text draft.texts.items));

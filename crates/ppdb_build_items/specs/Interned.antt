@@ -16,11 +16,11 @@ pub record Annotation : Type 0 where
 abbrev pub none_interned : Annotation
 none_interned = record { items = [] ∷ []; total = 0 }
 
--- one more text
+-- the texts with one more use of a text
 abbrev pub with_text : Annotation → List ℕ → Annotation
 with_text interned text = record { items = with_use interned.items text; total = told (interned.total + length text) }
 
--- one more blob, after the blobs whose indexes it holds; each of them is a use
+-- the blobs with one more use of a blob, after the blobs whose indexes it holds; each of these is a use too
 unfoldable pub with_blob : Annotation → List Piece → Annotation
 with_blob interned pieces =
     let items = blobs_after interned.items (with_held pieces) in

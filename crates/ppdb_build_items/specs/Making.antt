@@ -17,7 +17,7 @@ interned_of making = record { items = making.items; total = making.total }
 abbrev pub begun : Making → Making
 begun making = record making { blob = [] }
 
--- one more piece
+-- a blob that is being made, with one more piece
 abbrev pub with_piece : Making → Piece → Making
 with_piece making (octets bytes) = record making { blob = making.blob ++ bytes }
 with_piece making (index content) = record {

@@ -1,4 +1,4 @@
--- The constants of an input that stay (Portable PDB v1.0, "LocalConstant Table"; docs/FORMAT.md, "Joining").
+-- The constants of an input that are kept (Portable PDB v1.0, "LocalConstant Table"; docs/FORMAT.md, "Joining").
 use Rattle.std.specs.Prelude.{ℕ, List, Option, filter_map, option_and_then}
 use Rattle.ppdb_tables.specs.RawTables.{row_at}
 use Rattle.ppdb_values.specs.declared.scope.ConstantValue.{ConstantValue}
@@ -14,6 +14,6 @@ constants_in input = constants_after (raw_file input.file).tables input.map
 abbrev pub constant_of : RowInput → ℕ → Option ConstantValue
 constant_of input row = option_and_then (λ constant. constant) (row_at (constants_in input) row)
 
--- those of a list that stay
+-- the constants of a list that are kept
 abbrev pub constants_left : RowInput → ListRange → List ConstantValue
 constants_left input list = filter_map (λ constant. constant) (items_in list (constants_in input))

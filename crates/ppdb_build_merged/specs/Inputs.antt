@@ -10,11 +10,11 @@ use Rattle.ppdb_build_merged.specs.declared.inputs.Placed.{Placed}
 abbrev pub raw_of : Placed → RawFile
 raw_of placed = raw_file placed.input.now.file
 
--- with how many import scopes come before
+-- an input, with the number of import scopes of the inputs before it
 abbrev pub counted_of : Placed → Counted
 counted_of placed = (placed.before, moved_by placed.input.now)
 
--- its documents, by the names that its map gives them
+-- the documents of an input, by the names that its map gives them
 abbrev pub documents_in : RowInput → List DocumentValue
 documents_in input = moved_documents (moved_by input)
 

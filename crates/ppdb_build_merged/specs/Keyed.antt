@@ -32,7 +32,7 @@ key_of number placed table row = record {
 abbrev pub keys_in : ℕ → Placed → Table → List Key
 keys_in number placed table = map (key_of number placed table) (range_with_len 1 (rows_in (raw_of placed).tables table))
 
--- and of all inputs, which are numbered on
+-- the keys of all rows of a table of all inputs, which are numbered from this number on
 abbrev pub keys_from : ℕ → List Placed → Table → List Key
 keys_from number [] table = []
 keys_from number (placed ∷ others) table = keys_in number placed table ++ keys_from (number + 1) others table

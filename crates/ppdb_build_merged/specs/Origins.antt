@@ -1,4 +1,4 @@
--- Where the rows of scopes, variables and constants of the joined file come from, as keys; and the new rows of those that stay
+-- Where the rows of scopes, variables and constants of the joined file come from, as keys; and the new rows of those that are kept
 -- (docs/FORMAT.md, "Joining").
 use Rattle.ppdb_values.specs.Names.{RawTables, range_with_len, row_at}
 use Rattle.std.specs.Prelude.{◌≡◌, ℕ, ◌+◌, ◌<◌, Bool, true, not, is_some, List, [], Option, length, map, filter, flat_map, get_or, unwrap_or, option_and_then, option_to_list, IfSome}
@@ -36,7 +36,7 @@ abbrev pub list_of : Owned → Scope → ListRange
 list_of Variables scope = scope.variables
 list_of Constants scope = scope.constants
 
--- the item of a row stays
+-- the item of a row is kept
 abbrev pub item_stays : RawTables → Map → Owned → ℕ → Bool
 item_stays raw m Variables row = true
 item_stays raw m Constants row = is_some (option_and_then (λ constant. constant) (row_at (constants_after raw m) row))
@@ -44,12 +44,12 @@ item_stays raw m Constants row = is_some (option_and_then (λ constant. constant
 abbrev pub owned_key : ℕ → ℕ → Key
 owned_key number row = record { image = 0; input = number; row = row }
 
--- the keys of the rows of a list that stay
+-- the keys of the rows of a list that are kept
 abbrev pub list_keys : Owned → ℕ → Placed → ListRange → List Key
 list_keys owned number one list =
     filter (λ (key : Key). item_stays (raw_of one).tables one.input.now.map owned key.row) (map (owned_key number) (range_with_len list.first (rows_in list)))
 
--- what stays of what the scope of a row owns
+-- what is kept of what the scope of a row owns
 abbrev pub left_in : Owned → ℕ → Placed → ℕ → ScopeValue → List Origin
 left_in Variables number one row scope =
     rows_left (λ variable. true) number (first_item (λ (s : ScopeValue). length s.variables) (value_of (raw_of one)) row) scope.variables
@@ -65,7 +65,7 @@ left_at placed owned key = flat_map (λ (one : Placed). left_of owned key.input 
 
 -- ---- new rows
 
--- The lists have the new row of each row of a table that they have a place for, and 0 for a row that goes.
+-- The lists have the new row of each row of a table that they have a place for, and 0 for a row that is removed.
 abbrev pub HaveNewRows : List Placed → ℕ → List (List ℕ) → Type 0
 HaveNewRows placed table lists = (number row : ℕ) → number < length lists → row < length (get_or lists number [])
     → get_or (get_or lists number []) row 0 ≡ unwrap_or (row_of (origins_in (inputs_of placed) table) (number, row + 1)) 0

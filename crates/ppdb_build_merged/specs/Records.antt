@@ -11,7 +11,7 @@ use Rattle.ppdb_build_merged.specs.{declared.inputs.Placed.Placed, Inputs.raw_of
 abbrev pub inputs_of : List Placed → List MovedBy
 inputs_of placed = map (λ (p : Placed). moved_by p.input.now) placed
 
--- one of them, with its number
+-- an input, with its number among the inputs
 abbrev pub numbered_by : ℕ → Placed → Numbered
 numbered_by number one = (number, moved_by one.input.now)
 
@@ -22,7 +22,7 @@ pub record IsInput (placed : List Placed) (number : ℕ) (one : Placed) : Type 0
   pub documents : one.documents ≡ document_rows (documents_of (inputs_of placed)) (moved_by one.input.now)
   pub before : one.before ≡ sum_by (λ (input : MovedBy). length input.value.imports) (take number (inputs_of placed))
 
--- They all are, each with its number.
+-- Each input of the list is one of the joined file, with its number.
 abbrev pub AreInputs : List Placed → Type 0
 AreInputs placed = (number : ℕ) (one : Placed) → slice_get placed number ≡ Some one → IsInput placed number one
 

@@ -21,7 +21,7 @@ use std::alloc::Global;
 use std::sync::ledger::Ledger;
 use type_blobs::Modifier;
 
-/// 1 if the constant of a row stays, and 0 if it goes.
+/// 1 if the constant of a row is kept, and 0 if it is removed.
 fn count_at<L: Ledger>(
     input: &RowInput<'_>,
     row: u32,
@@ -39,7 +39,7 @@ fn count_at<L: Ledger>(
     }
 }
 
-/// How many constants of a list stay: all, where no row is gone.
+/// How many constants of a list are kept: all, where no row is gone.
 pub(crate) fn count_left<L: Ledger>(
     input: &RowInput<'_>,
     list: ListRange,
@@ -62,7 +62,7 @@ pub(crate) fn count_left<L: Ledger>(
     Ok(count)
 }
 
-/// Adds the constant of a row, if it stays.
+/// Adds the constant of a row, if it is kept.
 fn add_constant<L: Ledger>(
     input: &RowInput<'_>,
     row: u32,
@@ -84,7 +84,7 @@ fn add_constant<L: Ledger>(
     }
 }
 
-/// Adds the constants of a list that stay.
+/// Adds the constants of a list that are kept.
 fn add_list<L: Ledger>(
     input: &RowInput<'_>,
     list: ListRange,

@@ -57,7 +57,7 @@ fn read_record<L: Ledger>(
     })
 }
 
-/// Puts what becomes of the record of a row after others, if it stays.
+/// Puts what becomes of the record of a row after others, if it is kept.
 fn add_record<L: Ledger>(
     alloc: Global,
     placed: &[Placed<'_, '_>],

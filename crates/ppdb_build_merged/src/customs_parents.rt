@@ -33,7 +33,7 @@ fn parent_of(image: RowImage) -> Parent
     }
 }
 
-/// The parent of a record on a row of the type system; none where the record goes.
+/// The parent of a record on a row of the type system; none where the record is removed.
 fn moved_parent(map: &MapText, custom: &CustomValue) -> Option<Parent>
     ensures { result ≡ cond (live_custom map.now custom.now) (Some (moved_parent map.now custom.now.parent)) None }
 {
@@ -72,7 +72,7 @@ fn is_owned(table: u8) -> bool
     0x32 <= table && table <= 0x34
 }
 
-/// The new row of a row that is no row of the type system; none where that goes.
+/// The new row of a row that is no row of the type system; none where that is removed.
 fn parent_row<L: Ledger>(
     alloc: Global,
     placed: &[Placed<'_, '_>],
@@ -105,7 +105,7 @@ fn parent_row<L: Ledger>(
     Ok(new)
 }
 
-/// The parent of a record in the joined file; none where the record goes.
+/// The parent of a record in the joined file; none where the record is removed.
 pub(crate) fn parent_image<L: Ledger>(
     alloc: Global,
     placed: &[Placed<'_, '_>],

@@ -29,7 +29,7 @@ fn counts_of(alloc: Global, placed: &[Placed<'_, '_>], table: u8) -> Result<Vec<
     Ok(counts)
 }
 
-/// The keys of the rows of LocalScope, LocalVariable or LocalConstant that stay, in their new order.
+/// The keys of the rows of LocalScope, LocalVariable or LocalConstant that are kept, in their new order.
 fn keys_in<L: Ledger>(
     alloc: Global,
     placed: &[Placed<'_, '_>],
@@ -76,7 +76,7 @@ fn lists_of<L: Ledger>(
     Ok(lists)
 }
 
-/// The new row of a row of an input; none where that goes.
+/// The new row of a row of an input; none where that is removed.
 fn look_up(lists: &[List<u32>], number: u32, row: u32) -> Result<Option<u32>, Stopped>
     ensures { IfOk result (λ new. (placed : List placed_input) (table : ℕ) → HaveNewRows placed table lists.now
         → new ≡ row_of (origins_in (inputs_of placed) table) (number, row)) }
@@ -114,7 +114,7 @@ fn fill<L: Ledger>(
     Ok(())
 }
 
-/// The new row of a row of an input; none where that goes. The lists of all new rows are made where they are asked for first.
+/// The new row of a row of an input; none where that is removed. The lists of all new rows are made where they are asked for first.
 fn find_in<L: Ledger>(
     alloc: Global,
     placed: &[Placed<'_, '_>],
@@ -159,7 +159,7 @@ impl NewRows {
         }
     }
 
-    /// The new row of a row of LocalScope, LocalVariable or LocalConstant of an input; none where that goes.
+    /// The new row of a row of LocalScope, LocalVariable or LocalConstant of an input; none where that is removed.
     pub(crate) fn find<L: Ledger>(
         &mut self,
         alloc: Global,

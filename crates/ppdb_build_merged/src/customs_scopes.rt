@@ -1,4 +1,4 @@
-// The scopes of all inputs that stay, and what they own that stays, in their new order.
+// The scopes of all inputs that are kept, and what they own that is kept, in their new order.
 ghost use Rattle.std.specs.Prelude.{◌≡◌, ◌++◌, ◌≤◌, cond, flat_map, is_some, length, map, ◌∷◌, [], OnOk, IfOk};
 ghost use Rattle.ppdb_values.specs.Rules.{HasRow};
 ghost use Rattle.ppdb_values_reading.specs.Scopes.{IsWithin};
@@ -90,7 +90,7 @@ pub(crate) fn scope_keys<L: Ledger>(
     Ok(kept)
 }
 
-/// Whether the variable or the constant of a row stays.
+/// Whether the variable or the constant of a row is kept.
 fn item_stays<L: Ledger>(
     one: &Placed<'_, '_>,
     owned: Owned,
@@ -111,7 +111,7 @@ fn item_stays<L: Ledger>(
     }
 }
 
-/// Puts the key of a row after others, if its item stays.
+/// Puts the key of a row after others, if its item is kept.
 fn put_item<L: Ledger>(
     number: u32,
     one: &Placed<'_, '_>,
@@ -135,7 +135,7 @@ fn put_item<L: Ledger>(
     Ok(())
 }
 
-/// Puts the keys of the rows of a list after others, of those that stay.
+/// Puts the keys of the rows of a list after others, of those that are kept.
 fn put_list<L: Ledger>(
     number: u32,
     one: &Placed<'_, '_>,
@@ -167,7 +167,7 @@ fn list_of(owned: Owned, scope: &Scope) -> ListRange
     }
 }
 
-/// Puts the keys of what the scope of a row owns after others, of what stays.
+/// Puts the keys of what the scope of a row owns after others, of what is kept.
 fn put_scope<L: Ledger>(
     number: u32,
     one: &Placed<'_, '_>,
@@ -197,7 +197,7 @@ fn put_scope<L: Ledger>(
     Ok(())
 }
 
-/// Puts the keys of what the scope of a key owns after others, of what stays.
+/// Puts the keys of what the scope of a key owns after others, of what is kept.
 fn put_key<L: Ledger>(
     placed: &[Placed<'_, '_>],
     owned: Owned,
@@ -224,7 +224,7 @@ fn put_key<L: Ledger>(
     Ok(())
 }
 
-/// The keys of what scopes own, of what stays, scope by scope.
+/// The keys of what scopes own, of what is kept, scope by scope.
 pub(crate) fn owned_keys<L: Ledger>(
     alloc: Global,
     placed: &[Placed<'_, '_>],

@@ -17,7 +17,7 @@ use ppdb_merge_rows::{MovedMethod, methods_have_their_rows, moved_method_into};
 use std::alloc::Global;
 use std::sync::ledger::Ledger;
 
-/// Adds the method of a row, if points of it stay.
+/// Adds the method of a row, if points of it are kept.
 fn add_row<L: Ledger>(
     placed: &Placed<'_, '_>,
     row: u32,
@@ -50,7 +50,7 @@ fn add_row<L: Ledger>(
     }
 }
 
-/// Adds the method of a key, if points of it stay.
+/// Adds the method of a key, if points of it are kept.
 fn add_method<L: Ledger>(
     placed: &[Placed<'_, '_>],
     key: Key,
@@ -71,7 +71,7 @@ fn add_method<L: Ledger>(
     Ok(())
 }
 
-/// Adds the methods of keys, in their order, of which points stay.
+/// Adds the methods of keys, in their order, of which points are kept.
 pub(crate) fn add_methods<L: Ledger>(
     alloc: Global,
     placed: &[Placed<'_, '_>],

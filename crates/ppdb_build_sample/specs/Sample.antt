@@ -77,7 +77,7 @@ sample_custom i = record { parent = record { table = 0x06; row = i }; kind = hoi
 abbrev pub sample_rows : ℕ → List ℕ
 sample_rows n = 0 ∷ 1 ∷ 0 ∷ 0 ∷ 0 ∷ 0 ∷ n ∷ zeros 10 ++ (1 ∷ zeros 17 ++ (1 ∷ zeros 28))
 
--- of some methods
+-- the sample of some methods, at least one
 abbrev pub sample_of : ℕ → FileValue
 sample_of n = record {
   id = zeros 20;

@@ -12,6 +12,6 @@ abbrev pub HeapUsesAreSummed : Type 0
 HeapUsesAreSummed = (value : FileValue) → IsSound value → HasTypes value → length (canonical_tables value).blobs ≤ 134217728
     → sum_by (λ (x : HeapUse). x.len) (heap_uses (canonical_tables value)) ≡ span value
 
--- So a value that meets no limit has a canonical file whose references break no rule (F40).
+-- A value that meets no limit has a canonical file whose references break no rule (F40).
 abbrev pub HeapUsesAreFew : Type 0
 HeapUsesAreFew = (value : FileValue) → IsSound value → HasTypes value → IsWithinLimits value → IsAccepted (SpanFaults (canonical_tables value))

@@ -34,7 +34,7 @@ WrittenFilesAreCanonical =
     (value : FileValue) (choice : IdChoice) → IsSound value → HasTypes value → first_limit value ≡ None
     → (again : RawFile) → IsRawOf (canon value choice) again → IsSameAgain value choice again
 
--- So the file that a valid file is rebuilt to is rebuilt to itself.
+-- The file that a valid file is rebuilt to is rebuilt to itself.
 abbrev pub RebuiltFilesRebuildToThemselves : Type 0
 RebuiltFilesRebuildToThemselves =
     (file : List ℕ) (raw : RawFile) (choice : IdChoice) → IsValid file → IsRawOf file raw → first_limit (value_of raw) ≡ None

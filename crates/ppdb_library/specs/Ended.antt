@@ -26,7 +26,7 @@ pub record Comes (told : List (List ℕ)) (all : Files) (ended : Ended) : Type 0
   pub again : ended.status ≡ Done → OnAsked told (Some all) WritesAgain
   pub means : ended.status ≡ Done → OnAsked told (Some all) (WritesMeaning (Some all))
 
--- So they did, and there was memory.
+-- The words came to their outcome over the files, and there was memory.
 pub record Ends (told : List (List ℕ)) (all : Files) (ended : Ended) : Type 0 where
   pub comes : Comes told all ended
   pub memory : ended.status ≢ Memory

@@ -12,7 +12,7 @@ use Rattle.ppdb_maps.specs.{declared.line.Line.TheVariants.Kept, declared.rule.R
 use Rattle.std.specs.BTreeMap as tree
 use Rattle.std.specs.BTreeSet as sorted
 
--- all but the methods
+-- the draft holds what the lines say, but for the methods
 pub record HoldsOthers (before : List Line) (draft : Draft) : Type 0 where
   pub counts : (table : ℕ) → tree.get nat_cmp draft.counts table ≡ count_in before table
   pub rows : (table old : ℕ)

@@ -25,7 +25,7 @@ abbrev pub IsAt : ℕ → Refusal → MapError → Type 0
 IsAt line (refused rule) e = e ≡ refused_line line (kind_of rule)
 IsAt line no_memory e = e ≡ out_of_memory
 
--- these lines were read, and the draft holds what they say
+-- all these texts were read as lines, and the draft holds what the lines say
 pub record ReadWhole (version : ℕ) (texts : List (List ℕ)) (draft : Draft) : Type 0 where
   pub said : List Line
   pub read : Read version texts said

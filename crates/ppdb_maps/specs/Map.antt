@@ -122,8 +122,8 @@ told_image table None None false = Missing
 abbrev pub line_image : Map → ℕ → ℕ → RowImage
 line_image said table old = told_image table (row_line said table old) (cross_line said table old) (has_gone_line said table old)
 
--- the image of a row: missing for a dropped method; the row itself where the table has no `rows` line; else that of its line: a row of its
--- table or of another one, or gone; missing where there is none
+-- the image of a row from 1 on: missing for a dropped method; the row itself where the table has no `rows` line; else that of its line: a row
+-- of its table or of another one, or gone; missing where there is no line. Of 0, which names no row, `moved_row` says the image
 abbrev pub row_image : Map → ℕ → ℕ → RowImage
 row_image said table old =
     cond (nat_eq table 0x06 && is_dropped said old) Missing

@@ -5,7 +5,7 @@
 pub enum RowImage {
     /// A row of a table: of its own, or of another one.
     Row { table: u8, row: u32 },
-    /// Nothing: the row has no successor, and what names it goes.
+    /// Nothing: the row was removed, and has no successor.
     Gone,
     /// The map has no image for the row.
     Missing,

@@ -39,7 +39,7 @@ pub enum Form {
 pub enum Line {
     /// Nothing: it is empty or a comment.
     Silent,
-    /// The table has so many rows in the output, and its images are its `row` lines.
+    /// The number of rows that the table has in the output. A row of the table has only the image that a line gives it.
     Rows {
         table: u8,
         rows: u32,

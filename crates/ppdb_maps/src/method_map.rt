@@ -56,21 +56,21 @@ impl OffsetImage for MethodMap<'_> {
 }
 
 impl<'a> MethodMap<'a> {
-    /// Each offset stays.
+    /// Each offset is kept, and is its own image.
     pub(crate) fn unchanged() -> MethodMap<'a>
         ensures { offsets_of result.says ≡ every }
     {
         MethodMap { says: Says::Every }
     }
 
-    /// No offset stays.
+    /// No offset is kept.
     pub(crate) fn dropped() -> MethodMap<'a>
         ensures { offsets_of result.says ≡ gone }
     {
         MethodMap { says: Says::Gone }
     }
 
-    /// The offsets of these runs stay.
+    /// The offsets of these runs are kept.
     pub(crate) fn lined(runs: &'a [Run], old_size: u32, new_size: u32) -> MethodMap<'a>
         requires { Rise (lined runs.now old_size new_size) }
         ensures { offsets_of result.says ≡ lined runs.now old_size new_size }

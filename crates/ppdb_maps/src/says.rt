@@ -3,9 +3,9 @@ use ppdb_base::Run;
 
 #[derive(Clone, Copy)]
 pub enum Says<'a> {
-    /// There is no line: each offset stays.
+    /// There is no line: each offset is kept, and is its own image.
     Every,
-    /// The method is dropped.
+    /// The method is dropped: no offset is kept.
     Gone,
     /// Its runs and its sizes.
     Lined {

@@ -9,12 +9,12 @@ pub struct Starts {
 }
 
 impl Starts {
-    /// Those of no rows.
+    /// Where the rows of each table begin in the empty list.
     pub fn none() -> Starts {
         Starts { starts: [0; 45] }
     }
 
-    /// Those of the rows.
+    /// Where the rows of each table begin in this list.
     pub fn of(rows: &[RowLine]) -> Starts {
         let mut starts = [0; 45];
         for table in 0..45 {

@@ -30,7 +30,7 @@ pub record HoldsDocuments (joined : List DocumentValue) (documents : Documents) 
   pub found : (name : List ℕ) → tree.get_by (λ key. slice_cmp nat_cmp name key.items) documents.by_name
       ≡ option_map standing (find (λ (d : ℕ × DocumentValue). bytes_eq d.1.name name) (numbered joined))
 
--- all of some inputs
+-- the index is that of all of some inputs
 pub record Indexes (traces : List Trace) (index : Index) : Type 0 where
   pub inputs : index.inputs ≡ length traces
   pub methods : HoldsMethods (claims traces) index.methods

@@ -25,7 +25,7 @@ claims traces = flat_map (λ (t : ℕ × Trace). map (λ i. (t.0, i)) (methods_i
 abbrev pub taken : List (ℕ × Imaged) → Imaged → Option MergeError
 taken claimed i = option_map (λ (c : ℕ × Imaged). MethodTaken c.0 c.1.row i.row i.image) (find (λ (c : ℕ × Imaged). nat_eq c.1.image i.image) claimed)
 
--- of the methods of a further input, by their images
+-- M3 of the methods of a further input, by their images
 abbrev pub methods_taken : List Trace → List Imaged → List MergeError
 methods_taken traces rows = filter_map (taken (claims traces)) (in_order (λ i. i.image) (methods_in rows))
 
@@ -46,11 +46,11 @@ conflict documents d =
     option_and_then (λ (e : ℕ × DocumentValue). cond (same_contents e.1 d.1) None (Some (DocumentConflict d.0 e.0)))
     (find (λ (e : ℕ × DocumentValue). bytes_eq e.1.name d.1.name) (numbered documents))
 
--- of a document of a further input, with the name that its map gives it
+-- M7 of a document of a further input, with the name that its map gives it
 abbrev pub moved_conflict : Map → List DocumentValue → ℕ × DocumentValue → Option MergeError
 moved_conflict m documents d = conflict documents (d.0, moved_document m d.1)
 
--- of all, by their rows
+-- M7 of all documents of a further input, by their rows
 abbrev pub documents_differ : List Trace → Map → List DocumentValue → List MergeError
 documents_differ traces m documents = filter_map (moved_conflict m (joined_documents (moved_files traces))) (numbered documents)
 
@@ -65,7 +65,7 @@ says_other value body = false
 abbrev pub is_other_link : ℕ → List ℕ → CustomValue → Bool
 is_other_link row value c = is_at 0x00 row c.parent && (bytes_eq c.kind source_link && says_other value c.value)
 
--- among the moved records of inputs
+-- a Source Link record on this row of Module with another value is among the moved records of inputs
 abbrev pub has_other_link : List Trace → ℕ → List ℕ → Bool
 has_other_link traces row value = list_any (λ (file : AnnotatedFile). list_any (is_other_link row value) file.customs) (moved_files traces)
 
@@ -77,13 +77,13 @@ says_other_before traces m value = not (is_gone_row m 0x00 1) && has_other_link 
 abbrev pub link_differs : List Trace → Map → List ℕ → ℕ × CustomValue → Option MergeError
 link_differs traces m value c = cond (is_link c.1 && says_other_before traces m value) (Some (LinkDiffers c.0)) None
 
--- of the records of a further input, by their rows
+-- M13 of the records of a further input, by their rows
 abbrev pub links_differ : List Trace → Map → List CustomValue → List MergeError
 links_differ traces m customs = flat_map (λ value. filter_map (link_differs traces m value) (numbered customs)) (option_to_list m.link)
 
 -- ---- a further input
 
--- why it does not fit those before it
+-- why a further input does not fit the inputs before it
 abbrev pub clashes_before : List Trace → Map → List Imaged → FileValue → List MergeError
 clashes_before traces m rows value =
     methods_taken traces rows ++ (documents_differ traces m value.documents ++ links_differ traces m value.customs)

@@ -46,16 +46,16 @@ counting t = record { moved = record empty_annotated { rows = t.counts }; rows =
 abbrev pub link_after : Map → CustomValue → Option CustomValue
 link_after m c = cond (nat_lt c.parent.table 0x2d && bytes_eq c.kind source_link) (moved_custom m c) None
 
--- among these records stands another value on a row of Module where it does among all of the inputs
+-- among these records is one with another value on a row of Module if and only if there is one among those of all inputs
 abbrev pub HoldsLinks : List Trace → List CustomValue → Type 0
 HoldsLinks traces links = (row : ℕ) (value : List ℕ) → list_any (is_other_link row value) links ≡ has_other_link traces row value
 
--- all of some inputs
+-- the index is that of all of some inputs
 pub record IndexesRows (traces : List Trace) (rows : RowIndex) : Type 0 where
   pub index : Indexes traces rows.index
   pub links : HoldsLinks traces rows.links
 
--- all of the first few of some inputs
+-- the index is that of the first few of some inputs
 abbrev pub IsIndexOf : List Trace → RowIndex → Type 0
 IsIndexOf traces rows = (rows.index.inputs ≤ length traces) × IndexesRows (take rows.index.inputs traces) rows
 

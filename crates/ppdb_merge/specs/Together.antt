@@ -18,7 +18,7 @@ differs first table other =
     cond (nat_eq (count_in first table) (count_in other.1 table)) None
     (Some (RowsDiffer other.0 table (count_in first table) (count_in other.1 table)))
 
--- by table, and then by input; inputs are counted from 1
+-- M8 of all inputs, by table, and then by input; inputs are counted from 1
 abbrev pub rows_differ : List Trace → List MergeError
 rows_differ [] = []
 rows_differ (first ∷ others) = flat_map (λ table. filter_map (differs first table) (enumerate_from 2 others)) (range_with_len 0 0x2d)
@@ -29,7 +29,7 @@ abbrev pub above : ℕ × Trace → Imaged → Option MergeError
 above t i =
     cond (nat_lt (count_in t.1 i.to) i.image) (Some (ImageRange t.0 i.table i.row i.image (count_in t.1 i.to))) None
 
--- by input, table and row
+-- M9 of all inputs, by input, table and row
 abbrev pub images_above : List Trace → List MergeError
 images_above traces = flat_map (λ (t : ℕ × Trace). filter_map (above t) t.1.rows) (numbered traces)
 

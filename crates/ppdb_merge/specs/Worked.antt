@@ -42,11 +42,11 @@ other_documents = saying (document (codes "c") [] ∷ document (codes "b") (1 �
 abbrev pub link_on : ℕ → List ℕ → CustomValue
 link_on row value = record { parent = record { table = 0x00; row = row }; kind = source_link; value = Unread value }
 
--- one on row 1 with the value n
+-- an input with a Source Link record on row 1 of Module with the value n
 abbrev pub linked_input : Trace
 linked_input = record { moved = record empty_annotated { customs = link_on 1 (codes "n") ∷ [] }; rows = [] }
 
--- one on TypeDef 1, two on row 1 of Module and one on row 2
+-- a file with Source Link records: one on TypeDef 1, two on row 1 of Module and one on row 2
 abbrev pub with_links : FileValue
 with_links = saying [] (record (link_on 1 (codes "l")) { parent = record { table = 0x02; row = 1 } } ∷ link_on 1 (codes "l") ∷ link_on 1 (codes "n")
     ∷ link_on 2 (codes "l") ∷ [])

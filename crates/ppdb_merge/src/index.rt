@@ -24,7 +24,7 @@ pub(crate) struct Index {
 }
 
 impl Index {
-    /// That of no input. It takes no memory.
+    /// The index of no input. It takes no memory.
     pub(crate) fn new(alloc: Global) -> Index
         ensures { Indexes [] result }
     {
@@ -48,7 +48,7 @@ impl Index {
         Ok(())
     }
 
-    /// With the inputs that are not in it yet.
+    /// The index of all inputs: those that are not in it yet are added.
     pub(crate) fn extended(self, traces: &[Trace]) -> Result<Index, Memory>
         requires within { self.inputs ≤ length traces.now }
         requires few { length traces.now < 2 ^ 32 - 1 }

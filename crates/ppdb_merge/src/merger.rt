@@ -31,7 +31,7 @@ pub struct Merger {
     alloc: Global,
     marks: Marks,
     traces: List<Trace>,
-    /// Of all inputs, or of the first few.
+    /// The index of all inputs, or of the first few.
     index: Index,
 }
 

@@ -30,7 +30,7 @@ pub(crate) struct RowIndex {
 }
 
 impl RowIndex {
-    /// That of no input. It takes no memory.
+    /// The index of no input. It takes no memory.
     pub(crate) fn new(alloc: Global) -> RowIndex
         ensures { IndexesRows [] result }
     {
@@ -61,7 +61,7 @@ impl RowIndex {
         Ok(())
     }
 
-    /// With the inputs that are not in it yet.
+    /// The index of all inputs: those that are not in it yet are added.
     pub(crate) fn extended<L: Ledger>(
         self,
         alloc: Global,

@@ -40,7 +40,7 @@ fn linked(alloc: Global, custom: CustomValue, map: &MapText) -> Result<CustomVal
     Ok(custom)
 }
 
-/// The record of a row of an input, moved, if it is a Source Link record on a row of the type system that stays.
+/// The record of a row of an input, moved, if it is a Source Link record on a row of the type system that is kept.
 fn moved_link<L: Ledger>(
     alloc: Global,
     input: &RowInput<'_>,
@@ -59,7 +59,7 @@ fn moved_link<L: Ledger>(
     Ok(linked(alloc, custom, &input.map)?.stay_by(&input.map))
 }
 
-/// Adds the record of a row of an input, moved, if it is a Source Link record on a row of the type system that stays.
+/// Adds the record of a row of an input, moved, if it is a Source Link record on a row of the type system that is kept.
 fn add_link<L: Ledger>(
     alloc: Global,
     links: &mut List<CustomValue>,
@@ -78,7 +78,7 @@ fn add_link<L: Ledger>(
     Ok(())
 }
 
-/// Adds the Source Link records on rows of the type system of an input that stay, moved.
+/// Adds the Source Link records on rows of the type system of an input that are kept, moved.
 pub(crate) fn add_links<L: Ledger>(
     alloc: Global,
     links: &mut List<CustomValue>,
@@ -107,7 +107,7 @@ fn is_link_in<L: Ledger>(alloc: Global, file: &Verified<'_>, row: u32, steps: &m
     lent.parent.table == 0x00 && lent.parent.row == 1 && lent.kind == SOURCE_LINK
 }
 
-/// The row of the first such record.
+/// The row of the first Source Link record on row 1 of Module.
 fn first_link_in<L: Ledger>(alloc: Global, file: &Verified<'_>, steps: &mut Steps<L>) -> Option<u32>
     ensures { result ≡ slice_get (filter_map link_row (numbered (value_of (raw_file file.now)).customs)) 0 }
 {

@@ -38,7 +38,7 @@ pub struct RowMerger<'a> {
     inputs: List<RowInput<'a>>,
     /// What else is kept of each input.
     traces: List<RowTrace>,
-    /// Of all inputs, or of the first few.
+    /// The index of all inputs, or of the first few.
     index: RowIndex,
 }
 

@@ -1,4 +1,5 @@
--- Where a map does not fit a file, and what is reported first (docs/FORMAT.md, "Fitting"). What goes is not judged.
+-- Where a map does not fit a file, and what is reported first (docs/FORMAT.md, "Fitting"). What is at dropped
+-- methods, and what else is removed, is not judged.
 use Rattle.ppdb_values.specs.Names.{list_any, kind_of, Kind, Unknown, MergeError, KindUnknown, numbered, row_at, Parent}
 use Rattle.std.specs.Prelude.{ℕ, ◌&&◌, ◌||◌, ◌==◌, not, Bool, true, false, cond, List, [], ◌∷◌, ◌++◌, Option, Some, None, map, option_to_list, slice_get, flat_map}
 use Rattle.ppdb_maps.specs.Map.{Map, is_dropped}
@@ -36,7 +37,7 @@ is_at_dropped m value parent = list_any (is_dropped m) (option_to_list (method_a
 abbrev pub all_constants : FileValue → List ConstantValue
 all_constants value = flat_map (λ (s : ScopeValue). s.constants) value.scopes
 
--- the row is that of a constant that goes
+-- the row is that of a constant that is removed
 abbrev pub is_at_gone_constant : Map → FileValue → Parent → Bool
 is_at_gone_constant m value parent = parent.table == 0x34 && list_any (goes_constant m) (option_to_list (row_at (all_constants value) parent.row))
 
@@ -46,7 +47,7 @@ abbrev pub is_unknown : Kind → Bool
 is_unknown Unknown = true
 is_unknown kind = false
 
--- a row whose custom records go: one at a dropped method, one that is gone, and that of a constant that goes
+-- a row whose custom records are removed: one at a dropped method, one that is gone, and that of a constant that is removed
 abbrev pub is_at_gone : Map → FileValue → Parent → Bool
 is_at_gone m value parent = is_at_dropped m value parent || (is_gone_row m parent.table parent.row || is_at_gone_constant m value parent)
 

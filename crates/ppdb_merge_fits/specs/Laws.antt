@@ -7,7 +7,7 @@ use Rattle.ppdb_merge_items.specs.{Each.Each, Annotated.annotated_file}
 use Rattle.ppdb_merge_moved.specs.Fits.{Fits}
 use Rattle.ppdb_merge_fits.specs.Clashes.{first_clash, is_at_gone}
 
--- The map fits what the file says, and each custom record that stays is of a kind that is read or passed on.
+-- The map fits what the file says, and each custom record is of a kind that is read or passed on, but for those on what is removed (`is_at_gone`).
 pub record NoClash (marks : List (List ℕ)) (first : Bool) (m : Map) (raw : RawFile) : Type 0 where
   pub fits : Fits first m (annotated_file (value_of raw))
   pub known : Each (λ c. is_at_gone m (value_of raw) c.parent ≡ false → kind_of marks c.kind ≢ Unknown) (value_of raw).customs

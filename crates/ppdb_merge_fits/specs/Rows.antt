@@ -24,7 +24,7 @@ abbrev pub is_row : RowImage → Bool
 is_row (Row table row) = true
 is_row image = false
 
--- A row is named that has no image. What names a row that is gone goes, and is no reference.
+-- M1: a reference whose image is missing. What names a row that is gone is no reference.
 abbrev pub if_unmapped : Map → Reference → List MergeError
 if_unmapped m r = cond (is_row (row_image m r.table r.row)) [] (Unmapped r.table r.row r.place ∷ [])
 
@@ -43,7 +43,7 @@ image_key i = i.image * 0x100 + i.to
 abbrev pub unshared : Map → List Imaged → List Imaged
 unshared m rows = filter (λ i. not (may_share m i.table)) rows
 
--- two of them have one image, that is one row of one table
+-- M2 of two rows with one image, that is one row of one table
 abbrev pub image_twice : Imaged → Imaged → MergeError
 image_twice a b = ImageTwice a.table a.row b.row a.image
 

@@ -10,7 +10,7 @@ use Rattle.ppdb_merge_fits.specs.{Rows.{image_key, imaged_rows}, Twice.by_all}
 abbrev pub given : ℕ → ℕ → Option Imaged
 given stored new = cond (nat_eq new 0) None (Some (record { table = 0x11; row = stored; to = 0x11; image = new }))
 
--- that of the `signature` line of a method that has points; no such line is of a dropped method
+-- the local signature that a `signature` line gives a method that has points; no such line is of a dropped method
 abbrev pub given_signature : Map → MethodValue → Option Imaged
 given_signature m e = option_and_then (given e.signature) (signature_line m e.method)
 

@@ -9,7 +9,7 @@ use Rattle.ppdb_merge_fits.specs.{declared.used.{MethodSlot.MethodSlot, UsedSlot
 abbrev pub scope_slots : ScopeValue → List MethodSlot
 scope_slots s = map (λ (v : VariableValue). record { method = s.method; slot = v.slot }) s.variables
 
--- those of all scopes, by the rows of the variables from 1
+-- the slots of the variables of all scopes, by the rows of the variables from 1
 abbrev pub variable_slots : FileValue → List MethodSlot
 variable_slots value = flat_map scope_slots value.scopes
 
@@ -30,7 +30,7 @@ used m x =
 abbrev pub used_slots : Map → List MethodSlot → List UsedSlot
 used_slots m slots = each_once (λ (u : UsedSlot). u.method) (λ u. u.slot) (filter_map (used m) slots)
 
--- two of them have one image
+-- M11 of two slots with one image
 abbrev pub slot_twice : UsedSlot → UsedSlot → MergeError
 slot_twice a b = SlotTwice a.method a.slot b.slot a.image
 

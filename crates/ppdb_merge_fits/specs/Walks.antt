@@ -15,7 +15,7 @@ told_of told (Some x) = told x
 abbrev pub points_past : ℕ → ℕ → List Point → List MergeError
 points_past method size points = flat_map (λ (p : Point). if_past (λ old. nat_le old p.offset) method p.offset (Some (size, 0))) points
 
--- what is reported of the body of a record, if the record stays
+-- what is reported of the body of a record, if the record is kept
 abbrev pub record_told : Map → (ℕ → CustomBody → List MergeError) → CustomValue → List MergeError
 record_told m told c = cond (live_custom m c) (told c.parent.row c.value) []
 

@@ -171,7 +171,7 @@ fn judge_documents<L: Ledger>(
 
 /// Judges whether a map fits a file: the rows of the type system that the file names with their images, each once, and the local
 /// signatures that `signature` lines give, by table, row and image; else what does not fit first, in the order M6, M4, M5, M1, M2, M10,
-/// M11, M12. What goes is not judged. The entry point counts in the first of several files.
+/// M11, M12. What is removed (docs/FORMAT.md, "What else is removed") is not judged. The entry point counts in the first of several files.
 pub fn judge<L: Ledger>(
     alloc: Global,
     file: &Verified<'_>,

@@ -65,7 +65,7 @@ fn constant_methods(alloc: Global, scopes: &[ScopeValue]) -> Result<List<u32>, M
     Ok(methods)
 }
 
-/// Adds of each of the constants whether it goes.
+/// Adds of each of the constants whether it is removed.
 fn add_gone(gone: &mut List<bool>, by: &MapText, constants: &[ConstantValue]) -> Result<(), Memory>
     ensures { OnOk result (gone.new ≡ gone.old ++ map (goes_constant by.now) constants.now) }
 {
@@ -75,7 +75,7 @@ fn add_gone(gone: &mut List<bool>, by: &MapText, constants: &[ConstantValue]) ->
     Ok(())
 }
 
-/// Of each of the constants of all scopes whether it goes.
+/// Of each of the constants of all scopes whether it is removed.
 fn gone_constants(alloc: Global, by: &MapText, scopes: &[ScopeValue]) -> Result<List<bool>, Memory>
     ensures { IfOk result (λ gone. gone ≡ map (goes_constant by.now) (flat_map (λ s. s.constants) scopes.now)) }
 {
@@ -86,7 +86,7 @@ fn gone_constants(alloc: Global, by: &MapText, scopes: &[ScopeValue]) -> Result<
     Ok(gone)
 }
 
-/// A value and a map: the methods of the scopes and of what they own, by rows, and the constants that go. It is seen as the two.
+/// A value and a map: the methods of the scopes and of what they own, by rows, and the constants that are removed. It is seen as the two.
 #[derive(Drop)]
 struct Rows<'v> {
     by: &'v MapText,
@@ -160,14 +160,14 @@ impl<'v> Rows<'v> {
         }
     }
 
-    /// Whether a row is that of a constant that goes.
+    /// Whether a row is that of a constant that is removed.
     fn is_at_gone_constant(&self, parent: Parent) -> bool
         ensures { result ≡ is_at_gone_constant self.now.0 self.now.1 parent }
     {
         parent.table == 0x34 && entry(self.gone.as_slice(), parent.row).unwrap_or(false)
     }
 
-    /// Whether the custom records on a row go.
+    /// Whether the custom records on a row are removed.
     fn is_at_gone(&self, parent: Parent) -> bool
         ensures { result ≡ is_at_gone self.now.0 self.now.1 parent }
     {
@@ -204,7 +204,7 @@ fn any_unknown<L: Ledger>(file: &Verified<'_>, marks: &Marks, steps: &mut Steps<
     false
 }
 
-/// What is reported of a record of an unknown kind that stays.
+/// What is reported of a record of an unknown kind, unless it is on what is removed.
 fn kind_unknown(
     marks: &Marks,
     rows: &Rows<'_>,
@@ -222,7 +222,7 @@ fn kind_unknown(
     None
 }
 
-/// What is reported of the first record of an unknown kind that stays.
+/// What is reported of the first record of an unknown kind that is not on what is removed.
 fn first_in(marks: &Marks, rows: &Rows<'_>, customs: &[CustomValue]) -> Option<MergeError>
     requires { length customs.now ≤ 16777215 }
     ensures { result ≡ slice_get (flat_map (if_unknown marks.now rows.now.0 rows.now.1) (numbered customs.now)) 0 }
@@ -237,7 +237,7 @@ fn first_in(marks: &Marks, rows: &Rows<'_>, customs: &[CustomValue]) -> Option<M
     None
 }
 
-/// What is reported of the first record of an unknown kind that stays. Only a file that has one is read as a value, whose scopes tell the
+/// What is reported of the first record of an unknown kind that is not on what is removed. Only a file that has one is read as a value, whose scopes tell the
 /// methods of rows.
 pub(crate) fn first_unknown<L: Ledger>(
     alloc: Global,

@@ -10,7 +10,7 @@ pub fn worked_maps()
     ensures { WorkedMaps }
 {}
 
-/// A map that does not clash with a file fits it, and no record that stays is of an unknown kind.
+/// A map that does not clash with a file fits it, and no record that is kept is of an unknown kind.
 pub fn nothing_clashes()
     ensures { NothingClashes }
 {

@@ -168,7 +168,7 @@ fn leaves_types(map: &MapText, record: &LentCustom<'_>) -> bool
     }
 }
 
-/// Whether a record stays: its parent is no dropped method and is not gone, and it tells the documents of no type that becomes a row of
+/// Whether a record is kept: its parent is no dropped method and is not gone, and it tells the documents of no type that becomes a row of
 /// another table.
 fn record_stays(map: &MapText, record: &LentCustom<'_>) -> bool
     ensures { result ≡ live_custom map.now (custom_shown record.now) }
@@ -200,7 +200,7 @@ fn first_of_record<Q: AsksBody, L: Ledger>(
     question.ask_body(lent.parent.row, lent.body)
 }
 
-/// What is reported first of the records that stay.
+/// What is reported first of the records that are kept.
 pub(crate) fn first_of_records<Q: AsksBody, L: Ledger>(
     alloc: Global,
     file: &Verified<'_>,

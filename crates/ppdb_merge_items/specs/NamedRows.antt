@@ -1,5 +1,5 @@
--- The rows of the type system that a file names (Portable PDB v1.0, "Metadata Tables" and the formats of its blobs), but for those that
--- stand in what goes: at dropped methods, and where a row is named that has no successor.
+-- The rows of the type system that a file names (Portable PDB v1.0, "Metadata Tables" and the formats of its blobs), but for those
+-- that stand in what is removed (docs/FORMAT.md, "Dropped methods" and "What else is removed").
 use Rattle.ppdb_values.specs.Names.{list_any, TypeToken, Modifier, AsyncStep, MachineRow}
 use Rattle.std.specs.Prelude.{ℕ, ◌&&◌, ◌||◌, not, Bool, true, false, cond, nat_eq, is_some, List, [], ◌∷◌, ◌++◌, map, filter, flat_map}
 use Rattle.ppdb_maps.specs.{Map.{Map, is_dropped, signature_line, row_image, is_gone}, declared.image.RowImage.{RowImage, TheVariants.Row}}
@@ -48,7 +48,7 @@ abbrev pub is_type_documents : CustomBody → Bool
 is_type_documents (TypeDocuments names) = true
 is_type_documents body = false
 
--- ---- what goes
+-- ---- what is removed
 
 abbrev pub is_gone_row : Map → ℕ → ℕ → Bool
 is_gone_row m table row = is_gone (row_image m table row)
@@ -75,7 +75,7 @@ live_scope m scope = not (is_dropped m scope.method)
 abbrev pub live_machine : Map → MachineRow → Bool
 live_machine m machine = not (is_dropped m machine.move_next || is_dropped m machine.kickoff)
 
--- A constant goes where one of its modifiers, or the class or value type that it is of, is gone.
+-- A constant is removed where one of its modifiers, or the class or value type that it is of, is gone.
 abbrev pub names_gone_class : Map → ConstantBody → Bool
 names_gone_class m (General code target rest) = is_gone_type m target
 names_gone_class m body = false
@@ -86,7 +86,7 @@ goes_constant m constant = list_any (λ (modifier : Modifier). is_gone_type m mo
 abbrev pub live_constant : Map → Annotation ConstantValue → Bool
 live_constant m n = not (goes_constant m n.item)
 
--- An import goes whose assembly or type is gone; so does an alias of an assembly that becomes the module's own (a row of table 20).
+-- An import is removed whose assembly or type is gone; so is an alias of an assembly that becomes the module's own (a row of table 20).
 abbrev pub live_import : Map → ImportValue → Bool
 live_import m (AssemblyNamespace assembly namespace) = not (is_gone_row m 0x23 assembly)
 live_import m (Target target) = not (is_gone_type m target)
@@ -99,12 +99,12 @@ live_import m import = true
 abbrev pub leaves_types : Map → CustomValue → Bool
 leaves_types m custom = is_type_documents custom.value && leaves_table custom.parent.table (row_image m custom.parent.table custom.parent.row)
 
--- A record on a dropped method goes, one on a row that is gone, and one of type definition documents that would leave its table.
+-- A record is removed on a dropped method, on a row that is gone, and, of type definition documents, on a row that leaves its table.
 abbrev pub live_custom : Map → CustomValue → Bool
 live_custom m custom =
     not (nat_eq custom.parent.table 0x06 && is_dropped m custom.parent.row || (is_gone_row m custom.parent.table custom.parent.row || leaves_types m custom))
 
--- ---- what is left of the parts that stay
+-- ---- what is left of the parts that are kept
 
 -- the stored local signature of a method is cut where the method has a `signature` line, or where the row is gone
 abbrev pub live_signature : Map → MethodValue → ℕ
@@ -121,7 +121,7 @@ live_body m body = body
 abbrev pub with_live_body : Map → ConstantValue → ConstantValue
 with_live_body m constant = record constant { body = live_body m constant.body }
 
--- the constants that stay, and the imports
+-- the constants that are kept, and the imports
 abbrev pub live_constants : Map → List (Annotation ConstantValue) → List (Annotation ConstantValue)
 live_constants m constants = map (with_item (with_live_body m)) (filter (live_constant m) constants)
 
@@ -134,9 +134,10 @@ with_live_constants m scope = record scope { constants = live_constants m scope.
 abbrev pub with_live_imports : Map → ImportScopeValue → ImportScopeValue
 with_live_imports m scope = record scope { imports = live_imports m scope.imports }
 
--- What stands at a dropped method goes: points, scopes with what they own, state machines, custom records, and an entry point. So do the
--- constants, imports and records that name a row that is gone, each constant with the records on it; an import scope stays when its last
--- import goes. The stored local signature of a method goes that has a `signature` line or whose row is gone.
+-- The file without what is removed. At a dropped method these are removed: points, scopes with what they own, state machines, custom records,
+-- and the entry point. Elsewhere `live_constant`, `live_import` and `live_custom` say which constants (each with the records on it), imports
+-- and records are kept; an import scope is kept without imports, and a constant of an enumeration that is gone has its underlying type. No
+-- stored local signature is left where the method has a `signature` line or the row of the signature is gone.
 abbrev pub live_file : Map → AnnotatedFile → AnnotatedFile
 live_file m file = record file {
   entry = cond (is_dropped m file.entry) 0 file.entry;

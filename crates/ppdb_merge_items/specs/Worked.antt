@@ -99,7 +99,7 @@ pub record WorkedAnnotated : Type 0 where
   pub small : annotated_file small_value ≡ small_annotated
   pub program : annotated_file program_value ≡ program_annotated
   pub pair : annotated_file pair_value ≡ pair_annotated
-  -- and back
+  -- the values to which these forms lead back
   pub empty_back : value_of_annotated empty_annotated ≡ empty_value
   pub small_back : value_of_annotated small_annotated ≡ small_value
   pub program_back : value_of_annotated program_annotated ≡ program_value

@@ -1,5 +1,5 @@
 //! What a debug file says, with each custom record at the item that it is on: the form in which files are moved and joined, since an
-//! item that goes or is sorted takes its records with it, and rows are numbered only when the file is a value again.
+//! item that is removed or sorted takes its records with it, and rows are numbered only when the file is a value again.
 #![tactic(auto)]
 
 mod file;

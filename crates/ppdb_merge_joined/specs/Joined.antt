@@ -26,7 +26,7 @@ row_named documents name = unwrap_or (option_map suc (position (λ (d : Document
 abbrev pub joined_rows : List DocumentValue → AnnotatedFile → List ℕ
 joined_rows documents file = map (λ (d : Annotation DocumentValue). row_named documents d.item.name) file.documents
 
--- that of a row, and 0 where there is none
+-- the number that a list has for a row, and 0 where it has none
 abbrev pub row_in : List ℕ → ℕ → ℕ
 row_in rows row = unwrap_or (row_at rows row) 0
 

@@ -31,7 +31,7 @@ same_custom a b = bytes_eq a.kind b.kind && same_body a.value b.value
 abbrev pub same_record : CustomValue → CustomValue → Bool
 same_record a b = nat_eq a.parent.table b.parent.table && (nat_eq a.parent.row b.parent.row && same_custom (without_parent a) (without_parent b))
 
--- The items of each input, without those that equal one of an earlier input. What repeats within an input stays.
+-- The items of each input, without those that equal one of an earlier input. What repeats within an input is kept.
 abbrev pub fresh : {A : Type 0} → (A → A → Bool) → List A → List (List A) → List A
 fresh same earlier [] = []
 fresh same earlier (items ∷ more) = filter (λ item. not (list_any (same item) earlier)) items ++ fresh same (earlier ++ items) more

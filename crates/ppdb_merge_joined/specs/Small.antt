@@ -30,6 +30,6 @@ pub record AreFew (files : List AnnotatedFile) : Type 0 where
   pub count : length files ≤ 256
   pub each : Each HasFewRows files
 
--- They have room together.
+-- Files that are few have room together.
 abbrev pub FewHaveRoom : Type 0
 FewHaveRoom = (files : List AnnotatedFile) → AreFew files → HaveRoom files

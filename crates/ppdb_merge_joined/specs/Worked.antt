@@ -36,7 +36,7 @@ second_file = record empty_annotated {
   customs = documents_of 2 ∷ on_module (codes "x") ∷ on_module (codes "z") ∷ [];
 }
 
--- the document d of both is one, and what the second repeats goes; what the first repeats stays
+-- the document d of both is one, and what the second repeats is removed; what the first repeats is kept
 abbrev pub both_files : AnnotatedFile
 both_files = record empty_annotated {
   rows = 1 ∷ 0 ∷ 1 ∷ zeros 61;

@@ -10,7 +10,7 @@ use sequence_points::Point;
 
 /// What names rows that are numbered anew in their places, where `N` says how.
 pub(crate) trait Renumbers<N> {
-    /// The same, with the new rows.
+    /// The value itself, with the new rows in the place of the old ones.
     ghost renumbered: { N → Self → Self };
 
     /// Numbers the rows anew.

@@ -65,9 +65,9 @@ NamesDiffer m a b = moved_name m a.item.name ≢ moved_name m b.item.name
 
 -- ---- the file
 
--- Each row that the file names has an image, and no two of a table have one unless they may share it; points lie below the old size of their method, and ranges end
--- within it; async offsets are kept; slots of variables have images, and no two of a method have one; no two documents get one name.
--- Nothing is asked of what goes.
+-- Each row that the file names has a row as its image, and no two of a table have the same one unless they may share it; points lie below the
+-- old size of their method, and ranges end within it; async offsets are kept; slots of variables have images, and no two of a method have the
+-- same one; no two documents get one name. Nothing is asked of what is removed.
 pub record Fits (first : Bool) (m : Map) (file : AnnotatedFile) : Type 0 where
   pub images : Each (IsImaged m) (named_rows first m file)
   pub apart : (a b : Named) → Contains (named_rows first m file) a → Contains (named_rows first m file) b → AreApart m a b

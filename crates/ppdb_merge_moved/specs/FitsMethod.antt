@@ -14,18 +14,18 @@ abbrev pub PointsRise : ℕ → List Point → Type 0
 PointsRise end [] = Unit {0}
 PointsRise end (p ∷ ps) = (p.offset < first_offset end ps) × PointsRise end ps
 
--- of a scope: no other method has the method's image
+-- what a map that fits knows of a scope: no other method has the method's image
 pub record FitsScope (m : Map) (method : ℕ) (s : AnnotatedScope) : Type 0 where
   pub order : s.range.start < s.range.end
   pub within : s.range.end ≤ old_size (offsets_in m s.method)
   pub own : moved_row m 0x06 s.method ≡ moved_row m 0x06 method → s.method ≡ method
 
--- of a method with points
+-- what a map that fits knows of a method with points
 pub record FitsMethod (m : Map) (method : ℕ) (e : MethodValue) : Type 0 where
   pub rise : PointsRise (old_size (offsets_in m e.method)) e.points
   pub own : moved_row m 0x06 e.method ≡ moved_row m 0x06 method → e.method ≡ method
 
--- of a slot of hoisted locals
+-- what a map that fits knows of a slot of hoisted locals
 abbrev pub FitsSlot : Offsets → Slot → Type 0
 FitsSlot offsets Empty = Unit {0}
 FitsSlot offsets (Held range) = (range.start < range.end) × (range.end ≤ old_size offsets)
@@ -34,21 +34,21 @@ abbrev pub FitsSlots : Offsets → CustomBody → Type 0
 FitsSlots offsets (Hoisted slots) = Each (FitsSlot offsets) slots
 FitsSlots offsets body = Unit {0}
 
--- of a custom record that is on a method
+-- what a map that fits knows of a custom record that is on a method
 pub record FitsCustom (m : Map) (method : ℕ) (c : CustomValue) : Type 0 where
   pub own : c.parent.table ≡ 0x06 → moved_row m 0x06 c.parent.row ≡ moved_row m 0x06 method → c.parent.row ≡ method
   pub slots : FitsSlots (offsets_in m c.parent.row) c.value
 
--- of the row of the entry point, or 0
+-- what a map that fits knows of the row of the entry point, or 0
 abbrev pub FitsEntry : Map → ℕ → ℕ → Type 0
 FitsEntry m method entry = moved_row m 0x06 entry ≡ moved_row m 0x06 method → entry ≡ method
 
--- of a state machine; one of a dropped method goes
+-- what a map that fits knows of a state machine; nothing of one of a dropped method
 pub record FitsMachine (m : Map) (method : ℕ) (r : MachineRow) : Type 0 where
   pub move_next : live_machine m r ≡ true → moved_row m 0x06 r.move_next ≡ moved_row m 0x06 method → r.move_next ≡ method
   pub kickoff : live_machine m r ≡ true → moved_row m 0x06 r.kickoff ≡ moved_row m 0x06 method → r.kickoff ≡ method
 
--- of a file that names the method
+-- what a map that fits knows of a file that names the method
 pub record FitsFile (first : Bool) (m : Map) (w : AnnotatedFile) (method : ℕ) : Type 0 where
   pub image : MovesAsMethod m method
   pub rise : Rise (offsets_in m method)

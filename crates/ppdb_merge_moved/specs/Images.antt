@@ -14,7 +14,8 @@ point_image m method p = record p {
   signature = moved_signature m method p.signature;
 }
 
--- constants and imports that name a row that is gone are left out
+-- constants and imports that are removed are left out (docs/FORMAT.md, "What else is removed"), and a constant of an enumeration that is gone
+-- has the underlying type
 abbrev pub scope_image : Map → ℕ → ScopeMeaning → ScopeMeaning
 scope_image m method s = record s {
   range = moved_range (offsets_in m method) s.range;
@@ -37,7 +38,7 @@ meaning_image m method a = record {
 abbrev pub partner_image : Map → ℕ → Option ℕ
 partner_image m method = cond (is_dropped m method) None (Some (moved_row m 0x06 method))
 
--- only the entry point of the first input stays
+-- only the entry point of the first input is kept
 abbrev pub links_image : Bool → Map → ℕ → Links → Links
 links_image first m method l = record {
   kickoff = option_and_then (partner_image m) l.kickoff;

@@ -1,4 +1,4 @@
--- A file moved by a map: rows, offsets and slots become their images, and what has none goes.
+-- A file moved by a map (docs/FORMAT.md, "Moving"): what each of its parts becomes, and which parts are removed.
 use Rattle.ppdb_values.specs.Names.{Offsets, moved, Point, TypeToken, Modifier, Range, Slot, Empty, Held, AsyncStep, MachineRow, moved_points, source_link, Parent}
 use Rattle.std.specs.Prelude.{ℕ, ◌+◌, ◌&&◌, ◌||◌, not, Bool, cond, nat_lt, bytes_eq, List, [], ◌∷◌, Option, Some, None, unwrap_or, map, filter_map, option_map}
 use Rattle.ppdb_maps.specs.Map.{Map, row_image, moved_row, moved_signature, moved_name, offsets_in, slot_image, is_dropped, output_count}
@@ -87,7 +87,7 @@ is_link c = is_at 0x00 1 c.parent && bytes_eq c.kind source_link
 abbrev pub linked : Map → CustomValue → CustomValue
 linked m c = record c { value = unwrap_or (option_map Unread (cond (is_link c) m.link None)) c.value }
 
--- ---- items; each that stays keeps the records on it
+-- ---- items; each that is kept keeps the records on it
 
 -- a document gets the name that the map gives it
 abbrev pub moved_document : Map → DocumentValue → DocumentValue
@@ -112,9 +112,9 @@ scope_image m s = record {
   constants = map (with_item (moved_constant m)) (live_constants m s.constants);
 }
 
--- ---- what may go
+-- ---- parts that may be removed
 
--- a method whose points all go leaves the list
+-- a method all of whose points are removed leaves the list
 abbrev pub with_points : Map → MethodValue → List Point → Option MethodValue
 with_points m method [] = None
 with_points m method (p ∷ ps) = Some (record {
@@ -126,17 +126,17 @@ with_points m method (p ∷ ps) = Some (record {
 abbrev pub moved_method : Map → MethodValue → Option MethodValue
 moved_method m method = with_points m method (moved_points (offsets_in m method.method) method.points)
 
--- a scope whose range becomes empty goes, with what stands at it; so does each scope of a dropped method, which keeps no offset
+-- a scope whose range becomes empty is removed, with what stands at it; so is each scope of a dropped method, which keeps no offset
 abbrev pub moved_scope : Map → AnnotatedScope → Option AnnotatedScope
 moved_scope m s = cond (is_empty (scope_image m s).range) None (Some (scope_image m s))
 
--- a machine of a dropped method goes
+-- a state machine of a dropped method is removed
 abbrev pub moved_machine : Map → MachineRow → Option MachineRow
 moved_machine m r =
     cond (is_dropped m r.move_next || is_dropped m r.kickoff) None
     (Some (record { move_next = moved_row m 0x06 r.move_next; kickoff = moved_row m 0x06 r.kickoff }))
 
--- a record that stays gets its parent's image, in whichever table it is, as its parent
+-- a record that is kept gets its parent's image, in whichever table it is, as its parent
 abbrev pub moved_parent : Map → Parent → Parent
 moved_parent m parent = record { table = table_in (row_image m parent.table parent.row); row = row_in (row_image m parent.table parent.row) }
 

@@ -9,7 +9,7 @@ use Rattle.ppdb_merge_moved.specs.declared.annotating.OnRows.{OnRows}
 abbrev pub on_row : List CustomValue → ℕ → ℕ → List Custom
 on_row customs table row = map without_parent (filter (λ custom. is_at table row custom.parent) customs)
 
--- one more record
+-- a record in a list, if it is on this row, and else none
 abbrev pub if_at : ℕ → ℕ → CustomValue → List Custom
 if_at table row custom = cond (is_at table row custom.parent) (without_parent custom ∷ []) []
 

@@ -20,7 +20,7 @@ fn moved_rows(rows: &[u32; 64], map: &MapText) -> [u32; 64]
     moved
 }
 
-/// A file moved by a map: its items and their records in their order, without those that go.
+/// A file moved by a map: its items and their records in their order, without those that are removed.
 pub fn moved_file(
     alloc: Global,
     mut file: AnnotatedFile,

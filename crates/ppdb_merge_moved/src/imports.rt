@@ -9,7 +9,7 @@ use ppdb_values::{ImportScopeValue, ImportValue};
 use std::mem;
 use type_blobs::TypeToken;
 
-/// An import goes whose assembly or type is gone; so does an alias of an assembly that becomes the module's own.
+/// An import is removed whose assembly or type is gone; so is an alias of an assembly that becomes the module's own.
 impl Lives<MapText> for ImportValue {
     ghost use Rattle.ppdb_merge_items.specs.NamedRows.{live_import};
 

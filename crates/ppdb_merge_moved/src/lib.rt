@@ -1,4 +1,4 @@
-//! A debug file moved by a map: rows, IL offsets and slots become their images, and what has none goes. What it says at a kept offset of
+//! A debug file moved by a map: what each of its parts becomes, and which parts are removed. What it says at a kept offset of
 //! a method is what the file said there, moved.
 #![tactic(auto)]
 

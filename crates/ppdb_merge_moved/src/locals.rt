@@ -30,7 +30,7 @@ impl Moves<MapText> for AnnotatedScope {
     }
 }
 
-/// A scope stays where its range does not become empty.
+/// A scope is kept where its range does not become empty.
 impl Stays<MapText> for AnnotatedScope {
     ghost use Rattle.ppdb_merge_moved.specs.Moved.{moved_scope};
 
@@ -46,7 +46,7 @@ impl Stays<MapText> for AnnotatedScope {
     }
 }
 
-/// A state machine stays where none of its methods is dropped.
+/// A state machine is kept where none of its methods is dropped.
 impl Stays<MapText> for MachineRow {
     ghost use Rattle.ppdb_merge_moved.specs.Moved.{moved_machine};
 

@@ -20,7 +20,7 @@ fn offset_at(points: &[Point], place: usize) -> u32
     }
 }
 
-/// Moves the points that stay to the start, in order, and answers how many stay.
+/// Moves the points that are kept to the start, in order, and answers how many these are.
 fn move_prefix<G: OffsetImage>(points: &mut [Point], image: &G) -> usize
     requires { old_size (G.offsets image.now) ≤ 4294967295 }
     ensures within { result ≤ length points.new }
@@ -40,7 +40,7 @@ fn move_prefix<G: OffsetImage>(points: &mut [Point], image: &G) -> usize
     stay
 }
 
-/// Moves the points that stay; the others go.
+/// Moves the points that are kept; the others are removed.
 pub fn move_points<G: OffsetImage>(points: &mut List<Point>, image: &G)
     requires { old_size (G.offsets image.now) ≤ 4294967295 }
     ensures { points.new ≡ moved_points (G.offsets image.now) points.old }
@@ -49,7 +49,7 @@ pub fn move_points<G: OffsetImage>(points: &mut List<Point>, image: &G)
     points.truncate(stay);
 }
 
-/// A method stays where a point of it stays.
+/// A method is kept where a point of it is.
 impl Stays<MapText> for MethodValue {
     ghost use Rattle.ppdb_merge_moved.specs.Moved.{moved_method};
 

@@ -26,17 +26,17 @@ pub fn move_all<C, T: Moves<C>>(items: &mut [T], by: &C)
     }
 }
 
-/// What may go by a map.
+/// What a map may remove.
 pub trait Lives<C>: Drop {
-    /// Whether a value stays.
+    /// Whether a value is kept.
     ghost lives: { C → Self → Bool };
 
-    /// Whether the value stays.
+    /// Whether the value is kept.
     fn lives_by(&self, by: &C) -> bool
         ensures { result ≡ lives by.now self.now };
 }
 
-/// Moves the items that stay to the start, in order, and answers how many stay.
+/// Moves the items that are kept to the start, in order, and answers how many these are.
 fn live_prefix<C, T: Lives<C>>(items: &mut [T], by: &C) -> usize
     ensures within { result ≤ length items.new }
     ensures live { take result items.new ≡ filter (T.lives by.now) items.old }
@@ -51,7 +51,7 @@ fn live_prefix<C, T: Lives<C>>(items: &mut [T], by: &C) -> usize
     stay
 }
 
-/// Leaves the items that stay, in order. It takes no memory.
+/// Leaves the items that are kept, in order. It takes no memory.
 pub fn keep_live<C, T: Lives<C>>(items: &mut List<T>, by: &C)
     ensures { items.new ≡ filter (T.lives by.now) items.old }
 {
@@ -78,17 +78,17 @@ impl<C, T: Moves<C>> Moves<C> for Annotation<T> {
     }
 }
 
-/// What moves by a map, or goes.
+/// What moves by a map, or is removed.
 pub trait Stays<C>: Drop {
-    /// Where a value moves; none where it goes.
+    /// Where a value moves; none where it is removed.
     ghost stays: { C → Self → Option Self };
 
-    /// Moves the value; none where it goes.
+    /// Moves the value; none where it is removed.
     fn stay_by(self, by: &C) -> Option<Self>
         ensures { result ≡ stays by.now self };
 }
 
-/// Moves all items that stay, in order.
+/// Moves all items that are kept, in order.
 pub fn moved_all<C, T: Stays<C>>(alloc: Global, items: List<T>, by: &C) -> Result<List<T>, Memory>
     ensures { IfOk result (λ moved. moved ≡ filter_map (T.stays by.now) items) }
 {

@@ -69,7 +69,7 @@ fn link_customs(alloc: Global, customs: &mut [CustomValue], by: &MapText) -> Res
     Ok(())
 }
 
-/// The custom records that stay, with the value of the map's `link` line, moved.
+/// The custom records that are kept, with the value of the map's `link` line, moved.
 pub(crate) fn moved_customs(
     alloc: Global,
     mut customs: List<CustomValue>,

@@ -64,7 +64,7 @@ fn leaves_types(custom: &CustomValue, image: RowImage) -> bool
     }
 }
 
-/// The image of the parent of a record that stays; none where the record goes.
+/// The image of the parent of a record that is kept; none where the record is removed.
 fn parent_image(map: &MapText, custom: &CustomValue) -> Option<RowImage>
     ensures { result ≡ cond (live_custom map.now custom.now) (Some (row_image map.now custom.now.parent.table custom.now.parent.row)) None }
 {
@@ -79,7 +79,7 @@ fn parent_image(map: &MapText, custom: &CustomValue) -> Option<RowImage>
     Some(image)
 }
 
-/// Whether a custom record stays: its parent is no dropped method and is not gone, and it tells the documents of no type that becomes a
+/// Whether a custom record is kept: its parent is no dropped method and is not gone, and it tells the documents of no type that becomes a
 /// row of another table.
 pub fn custom_stays(map: &MapText, custom: &CustomValue) -> bool
     ensures { result ≡ live_custom map.now custom.now }
@@ -87,7 +87,7 @@ pub fn custom_stays(map: &MapText, custom: &CustomValue) -> bool
     parent_image(map, custom).is_some()
 }
 
-/// A custom record on a row of the type system that stays gets its parent's image as its parent.
+/// A custom record on a row of the type system that is kept gets its parent's image as its parent.
 impl Stays<MapText> for CustomValue {
     ghost use Rattle.ppdb_merge_moved.specs.Moved.{moved_record};
 

@@ -62,14 +62,14 @@ fn names_gone_modifier(map: &MapText, modifiers: &[Modifier]) -> bool
         .any(|modifier| is_gone_type(map, modifier.target))
 }
 
-/// Whether a constant goes: one of its modifiers, or the class or value type that it is of, is gone.
+/// Whether a constant is removed: one of its modifiers, or the class or value type that it is of, is gone.
 pub fn constant_goes(map: &MapText, constant: &ConstantValue) -> bool
     ensures { result ≡ goes_constant map.now constant.now }
 {
     names_gone_modifier(map, constant.modifiers.as_slice()) || names_gone_class(map, &constant.body)
 }
 
-/// A constant goes with the records on it.
+/// A constant is removed with the records on it.
 impl Lives<MapText> for Annotation<ConstantValue> {
     ghost use Rattle.ppdb_merge_items.specs.NamedRows.{live_constant};
 
@@ -121,7 +121,7 @@ impl Moves<MapText> for ConstantValue {
     }
 }
 
-/// Moves the constants that stay; the others leave the list, with the records on them.
+/// Moves the constants that are kept; the others leave the list, with the records on them.
 pub(crate) fn move_constants(constants: &mut List<Annotation<ConstantValue>>, by: &MapText)
     ensures { constants.new ≡ map (with_item (moved_constant by.now)) (live_constants by.now constants.old) }
 {

@@ -7,7 +7,7 @@ use Rattle.ppdb_merge_names.specs.{declared.imaged.{Imaged.Imaged, ReferenceErro
 abbrev pub image_of : Map → Reference → RowImage
 image_of m r = row_image m r.table r.row
 
--- It has this image.
+-- A row that is named has this image.
 pub record IsImageOf (m : Map) (r : Reference) (i : Imaged) : Type 0 where
   pub table : i.table ≡ r.table
   pub row : i.row ≡ r.row

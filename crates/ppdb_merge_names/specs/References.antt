@@ -1,6 +1,6 @@
 -- The rows of the type system that an input names, each with its place, in the order of the places (Portable PDB v1.0, "#Pdb
--- stream", "Metadata Tables" and the formats of its blobs). What stands at a dropped method names none, nor does what goes because a row has
--- no successor, nor the stored local signature of a method that has a `signature` line.
+-- stream", "Metadata Tables" and the formats of its blobs). What is removed at dropped methods, and what else is removed,
+-- names none (docs/FORMAT.md, "Fitting"), nor does the stored local signature of a method that has a `signature` line.
 use Rattle.ppdb_values.specs.Names.{Place, at_byte, cell, kind_of, Kind, Async, Parent, list_any, MethodDebugRow, ScopeRow, ConstantRow, ImportRow, MachineRow}
 use Rattle.ppdb_values.specs.Names.{CustomRow, RawTables, count, numbered, row_at}
 use Rattle.std.specs.Prelude.{map, filter, ℕ, ◌&&◌, ◌||◌, not, Bool, true, false, cond, nat_eq, nat_lt, is_some, List, [], ◌∷◌, ◌++◌, Option, Some, None, flat_map}
@@ -29,7 +29,7 @@ names_some place table row = cond (nat_eq row 0) [] (names place table row ∷ [
 abbrev pub inside : ℕ → ℕ → ℕ → List PlacedRow → List Reference
 inside table row column rows = map (λ (x : PlacedRow). names (record (cell table row column) { byte = x.byte }) x.table x.row) rows
 
--- ---- what goes
+-- ---- what is removed
 
 abbrev pub is_gone_row : Map → ℕ → ℕ → Bool
 is_gone_row m table row = is_gone (row_image m table row)
@@ -52,16 +52,16 @@ abbrev pub is_aliased : Role → Bool
 is_aliased AliasedAssembly = true
 is_aliased role = false
 
--- A row that is gone is no reference: an import of it goes, and an enumeration goes from its constant. Nor is an assembly that becomes the
--- module's own (a row of table 20), where an import gives it an alias.
+-- A row that is gone is no reference: an import of it is removed, and a constant of such an enumeration gets its underlying type. Nor is an assembly
+-- that becomes the module's own (a row of table 20) a reference, where an import gives it an alias.
 abbrev pub is_live : Map → PlacedRow → Bool
 is_live m x = not (is_gone_row m x.table x.row || is_aliased x.role && is_in_table 0x20 (row_image m x.table x.row))
 
--- A constant goes where the type of a modifier, or the class or value type that it is of, is gone.
+-- A constant is removed where the type of a modifier, or the class or value type that it is of, is gone.
 abbrev pub takes_constant : Map → PlacedRow → Bool
 takes_constant m x = is_gone_row m x.table x.row && not (is_enumeration x.role)
 
--- the types that name rows: none in a constant that goes
+-- the types that name rows: none in a constant that is removed
 abbrev pub live_types : Map → List PlacedRow → List PlacedRow
 live_types m types = cond (list_any (takes_constant m) types) [] (filter (is_live m) types)
 
@@ -87,7 +87,7 @@ of_method m raw x = cond (is_dropped m x.0) [] (of_points m x.0 (method_of raw x
 abbrev pub of_scope : Map → ℕ × ScopeRow → List Reference
 of_scope m x = cond (is_dropped m x.1.method) [] (names (cell 0x32 x.0 0) 0x06 x.1.method ∷ [])
 
--- a constant goes with the scope that owns it
+-- a constant is removed with the scope that owns it
 abbrev pub is_dropped_scope : Map → Option ScopeRow → Bool
 is_dropped_scope m None = false
 is_dropped_scope m (Some scope) = is_dropped m scope.method
@@ -123,7 +123,7 @@ of_parent raw x parent =
     names (cell 0x37 x.0 0) parent.table parent.row
     ∷ inside 0x37 x.0 2 (methods_of raw x.1)
 
--- a record on this row of the type system stays: the row is neither dropped nor gone
+-- a row of the type system that is neither dropped nor gone
 abbrev pub is_live_parent : Map → Parent → Bool
 is_live_parent m parent =
     nat_lt parent.table 0x2d && not (nat_eq parent.table 0x06 && is_dropped m parent.row || is_gone_row m parent.table parent.row)

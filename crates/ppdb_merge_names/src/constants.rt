@@ -21,7 +21,7 @@ use std::sync::ledger::Ledger;
 use type_blobs::TypeLimits;
 use type_blobs_rows::{ConstantTypes, RowWalk};
 
-/// Whether a constant goes because of one of its types.
+/// Whether a constant is removed because of one of its types.
 fn goes<W: RowWalk>(types: &mut W, imager: &mut Imager<'_>) -> bool
     ensures goes { result ≡ list_any (takes_constant imager.old.map) (W.left types.old) }
     ensures same { imager.new ≡ imager.old }
@@ -34,7 +34,7 @@ fn goes<W: RowWalk>(types: &mut W, imager: &mut Imager<'_>) -> bool
     false
 }
 
-/// Whether the constant of a signature goes. None goes if no row leaves its table.
+/// Whether the constant of a signature is removed. None is removed if no row leaves its table.
 fn constant_goes(signature: &[u8], limits: TypeLimits, imager: &mut Imager<'_>) -> bool
     requires { length signature.now < 2 ^ 32 }
     ensures goes { result ≡ list_any (takes_constant imager.old.map) (constant_types limits signature.now) }
@@ -46,7 +46,7 @@ fn constant_goes(signature: &[u8], limits: TypeLimits, imager: &mut Imager<'_>) 
     goes(&mut ConstantTypes::new(signature, limits), imager)
 }
 
-/// Adds the types that the signature of a constant names, unless the constant goes.
+/// Adds the types that the signature of a constant names, unless the constant is removed.
 fn add_types(
     signature: &[u8],
     limits: TypeLimits,

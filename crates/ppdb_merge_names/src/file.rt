@@ -80,7 +80,7 @@ fn add_file<L: Ledger>(
 }
 
 /// The images of the rows of the type system that a file names, in the order of the places at which they are named, without
-/// those that stand in what goes; or the first whose image is missing. The entry point counts in the first of several files.
+/// those that stand in what is removed; or the first whose image is missing. The entry point counts in the first of several files.
 pub fn images<L: Ledger>(
     alloc: Global,
     file: &Verified<'_>,

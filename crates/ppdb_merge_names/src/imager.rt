@@ -115,7 +115,7 @@ impl<'m> Imager<'m> {
         }
     }
 
-    /// Whether a constant goes because of a type that it names.
+    /// Whether a constant is removed because of a type that it names.
     pub(crate) fn takes_constant(&mut self, named: PlacedRow) -> bool
         ensures takes { result ≡ takes_constant self.old.map named }
         ensures same { self.new ≡ self.old }
@@ -123,7 +123,7 @@ impl<'m> Imager<'m> {
         named.role != Role::Enumeration && self.is_gone(named.table, named.row)
     }
 
-    /// Whether what names a row stays.
+    /// Whether what names a row is kept.
     pub(crate) fn is_live(&mut self, named: PlacedRow) -> bool
         ensures live { result ≡ is_live self.old.map named }
         ensures same { self.new ≡ self.old }
@@ -157,7 +157,7 @@ impl<'m> Imager<'m> {
         Ok(())
     }
 
-    /// The same of a row that may be 0 for none.
+    /// Adds a row that is named and its image, unless the row is 0 for none.
     pub(crate) fn add_some(
         &mut self,
         table: u8,

@@ -84,7 +84,7 @@ pub(crate) fn add_rows<W: RowWalk>(
     Ok(())
 }
 
-/// Adds a row that the blob of a cell names, unless what names it goes.
+/// Adds a row that the blob of a cell names, unless what names it is removed.
 fn add_live_row(
     named: PlacedRow,
     table: u8,
@@ -104,7 +104,7 @@ fn add_live_row(
     )
 }
 
-/// Adds the rows that the blob of a cell names, without those whose names go.
+/// Adds the rows that the blob of a cell names, without those that only what is removed names.
 pub(crate) fn add_live_rows<W: RowWalk>(
     walk: &mut W,
     table: u8,
@@ -249,7 +249,7 @@ fn leaves_types(
     matches!(kind(alloc, file, row, cells), Kind::TypeDocuments)
 }
 
-/// Adds what a custom record names that stays on a row of the type system.
+/// Adds what a custom record names that is kept on a row of the type system.
 fn add_custom(
     alloc: Global,
     file: &Verified<'_>,
@@ -283,7 +283,7 @@ fn add_scope(row: u32, cells: &ScopeRow, imager: &mut Imager<'_>) -> Result<(), 
     imager.add(0x06, cells.method, cell(0x32, row, 0))
 }
 
-/// Adds the types and the assemblies that those imports of a scope name that stay.
+/// Adds the types and the assemblies that those imports of a scope name that are kept.
 fn add_import(
     file: &Verified<'_>,
     row: u32,

@@ -2,11 +2,11 @@
 use Rattle.std.specs.Prelude.{◌≡◌, ℕ, zero, suc, ◌+◌, ◌<◌, ◌&&◌, cond, nat_eq, List, [], length, get_or, position, replicate, unwrap_or, option_map}
 use Rattle.ppdb_merge_order.specs.declared.keys.Key.{Key}
 
--- the place of a row of an input among those that stay, from 1, and 0 where it goes
+-- the place of a row of an input among those that are kept, from 1, and 0 where it is removed
 abbrev pub new_row : List Key → ℕ → ℕ → ℕ
 new_row keys input row = unwrap_or (option_map suc (position (λ (key : Key). nat_eq input key.input && nat_eq row key.row) keys)) 0
 
--- The lists have the new row of each row of each input, where each has so many rows and these stay.
+-- The lists have the new row of each row of each input, where each has so many rows and these are kept.
 pub record AreNewRows (counts : List ℕ) (keys : List Key) (lists : List (List ℕ)) : Type 0 where
   pub inputs : length lists ≡ length counts
   pub rows : (input : ℕ) → input < length counts → length (get_or lists input []) ≡ get_or counts input 0
@@ -15,7 +15,7 @@ pub record AreNewRows (counts : List ℕ) (keys : List Key) (lists : List (List 
 
 -- ---- one row more
 
--- no row stays
+-- no row is kept
 abbrev pub none_noted : ℕ → List ℕ
 none_noted count = replicate count 0
 

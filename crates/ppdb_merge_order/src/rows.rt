@@ -38,7 +38,7 @@ fn note_key(lists: &mut [List<u32>], key: Key, new: u32)
     }
 }
 
-/// The new row of each row of each input, where the rows that stay are those of the keys, in their order; 0 for a row that goes. `counts`
+/// The new row of each row of each input, where the rows that are kept are those of the keys, in their order; 0 for a row that is removed. `counts`
 /// says how many rows each input has.
 pub fn new_rows(alloc: Global, counts: &[u32], keys: &[Key]) -> Result<Vec<List<u32>>, Memory>
     requires { length keys.now < 2 ^ 32 }

@@ -38,7 +38,7 @@ documents_of inputs = firsts [] (flat_map moved_documents inputs)
 abbrev pub document_rows : List DocumentValue → MovedBy → List ℕ
 document_rows documents input = map (λ (d : DocumentValue). row_named documents d.name) (moved_documents input)
 
--- a method whose points all go leaves the file
+-- a method all of whose points are removed leaves the file
 abbrev pub method_image : List DocumentValue → Counted × MethodValue → Option MethodValue
 method_image documents row = option_map (renumbered_method (row_in (document_rows documents row.0.1))) (moved_method row.0.1.map row.1)
 
@@ -59,7 +59,7 @@ moved_scope_value row = record {
 abbrev pub scope_image : Counted × ScopeValue → Option ScopeValue
 scope_image row = cond (is_empty (moved_scope_value row).range) None (Some (moved_scope_value row))
 
--- no import scope leaves the file; an import does whose assembly or type is gone
+-- no import scope leaves the file; the imports that are removed are left out (docs/FORMAT.md, "What else is removed")
 abbrev pub import_image : Counted × ImportScopeValue → ImportScopeValue
 import_image row = renumbered_import row.0.0 (moved_import_scope row.0.1.map row.1)
 

@@ -13,7 +13,7 @@ use Rattle.ppdb_merge_places_laws.specs.Places.{ReportsFirst}
 abbrev pub old_size_in : Map → ℕ → Option ℕ
 old_size_in m method = option_map (λ (sizes : ℕ × ℕ). sizes.0) (sizes_of (offsets_in m method))
 
--- the custom record of a row, which stays
+-- the custom record of a row, which is kept
 pub record IsLiveRecord (m : Map) (value : FileValue) (row : ℕ) (c : CustomValue) : Type 0 where
   pub there : row_at value.customs row ≡ Some c
   pub live : live_custom m c ≡ true

@@ -17,7 +17,7 @@ abbrev pub ReferencesRise : Type 0
 ReferencesRise = (first : Bool) (m : Map) (raw : RawFile)
     → Pairs (λ a b. ComesBefore (reference_numbers a) (reference_numbers b)) (references first m raw)
 
--- M1: a reference has no row as its image. What names a row that is gone goes, and is no reference.
+-- M1: a reference has no row as its image. What names a row that is gone is no reference.
 pub data IsUnmapped (first : Bool) (m : Map) (raw : RawFile) : List ℕ → MergeError → Type 0 where
   reference : (r : Reference) → Contains (references first m raw) r → is_row (row_image m r.table r.row) ≡ false
       → IsUnmapped first m raw (reference_numbers r) (Unmapped r.table r.row r.place)

@@ -6,7 +6,7 @@ use Rattle.ppdb_values.specs.{declared.custom.CustomValue.CustomValue, declared.
 use Rattle.ppdb_merge_fits.specs.{Clashes.{has_unknown_kind, unknown_kinds}, Slots.{used, variable_slots, slots_unmapped}}
 use Rattle.ppdb_merge_places_laws.specs.Places.{ReportsFirst}
 
--- M6: the kind of a custom record that stays is on no list and not marked as free.
+-- M6: the kind of a custom record is on no list and not marked as free, and the record is not on what is removed (`is_at_gone`).
 pub data IsUnknown (marks : List (List ℕ)) (m : Map) (value : FileValue) : List ℕ → MergeError → Type 0 where
   custom : (row : ℕ) (c : CustomValue) → row_at value.customs row ≡ Some c → has_unknown_kind marks m value c ≡ true
       → IsUnknown marks m value (row ∷ []) (KindUnknown row c.kind)

@@ -41,11 +41,11 @@ scopes_left inputs =
 abbrev pub scope_origins : List MovedBy → List Origin
 scope_origins inputs = map origin_of (scopes_left inputs)
 
--- the rows of an input's items that stay, where the first item has this row
+-- the rows of an input's items that are kept, where the first item has this row
 abbrev pub rows_left : {A : Type 0} → (A → Bool) → ℕ → ℕ → List A → List Origin
 rows_left {A} stays input first items = map (λ (item : ℕ × A). (input, item.0)) (filter (λ (item : ℕ × A). stays item.1) (enumerate_from first items))
 
--- what stays of what these scopes own, scope by scope
+-- what is kept of what these scopes own, scope by scope
 abbrev pub owned_origins : {A : Type 0} → (ScopeValue → List A) → (Map → A → Bool) → List MovedBy → List Origin
 owned_origins items stays inputs =
     flat_map (λ (row : Numbered × ℕ × ScopeValue).
@@ -54,7 +54,7 @@ owned_origins items stays inputs =
 abbrev pub variable_origins : List MovedBy → List Origin
 variable_origins inputs = owned_origins (λ (s : ScopeValue). s.variables) (λ m variable. true) inputs
 
--- but for the constants that name a type that is gone
+-- the constants that are kept: one is removed where a modifier, or the class or value type that it is of, is gone
 abbrev pub constant_origins : List MovedBy → List Origin
 constant_origins inputs = owned_origins (λ (s : ScopeValue). s.constants) (λ m constant. not (goes_constant m constant)) inputs
 
@@ -69,7 +69,7 @@ origins_in inputs table =
     (cond (nat_eq table 0x34) (constant_origins inputs)
     (cond (nat_eq table 0x35) (import_origins inputs) [])))
 
--- the row that comes from a row, and none where that goes
+-- the row of the joined file that comes from a row of an input; none where that row is removed
 abbrev pub row_of : List Origin → Origin → Option ℕ
 row_of origins origin = option_map suc (position (λ (other : Origin). nat_eq origin.0 other.0 && nat_eq origin.1 other.1) origins)
 
@@ -82,8 +82,8 @@ parent_row inputs input parent =
     cond (nat_eq parent.table 0x30) (row_at (document_rows (documents_of inputs) input.1) parent.row)
     (row_of (origins_in inputs parent.table) (input.0, parent.row))
 
--- The parent of what becomes of a record: a row of the type system becomes its image, in whichever table that is, where the record stays; any
--- other parent stays in its table.
+-- The parent of what becomes of a record: a row of the type system becomes its image, in whichever table that is, where the record is kept; any
+-- other parent keeps its table.
 abbrev pub parent_image : List MovedBy → Numbered → CustomValue → Option Parent
 parent_image inputs input custom =
     cond (nat_lt custom.parent.table 0x2d)
@@ -98,7 +98,7 @@ record_on inputs input custom parent = record {
   value = with_documents (row_in (document_rows (documents_of inputs) input.1)) (moved_body input.1.map custom.parent.row custom.value);
 }
 
--- a record leaves the file where its parent does
+-- what becomes of a record: it is on the image of its parent, or is removed where `parent_image` gives none
 abbrev pub record_after : List MovedBy → Numbered → CustomValue → Option CustomValue
 record_after inputs input custom = option_map (record_on inputs input custom) (parent_image inputs input custom)
 

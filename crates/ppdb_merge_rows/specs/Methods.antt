@@ -7,7 +7,7 @@ use Rattle.ppdb_merge_joined.specs.Joined.{row_in, renumbered_method}
 use Rattle.ppdb_merge_moved.specs.Moved.{moved_method}
 use Rattle.ppdb_merge_rows.specs.declared.methods.MovedMethod.{MovedMethod, TheVariants.{Gone, Blob, Listed}}
 
--- The method of a row, moved by the map and in the new rows of its documents; none where it has no points, or none that stays.
+-- The method of a row, moved by the map and in the new rows of its documents; none where it has no points, or none that is kept.
 abbrev pub method_after : RawFile → Map → List ℕ → ℕ → Option MethodValue
 method_after raw m documents row =
     option_and_then (λ (method : MethodValue). option_map (renumbered_method (row_in documents)) (moved_method m method)) (method_at (value_of raw) row)

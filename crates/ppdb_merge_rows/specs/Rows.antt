@@ -29,11 +29,11 @@ scope_after m before scope = cond (is_empty (moved_cells m before scope).range) 
 abbrev pub variables_after : RawTables → Map → ℕ → List VariableValue
 variables_after raw m method = map (moved_variable m method) (variables_of raw)
 
--- what becomes of all constants, by their rows: none of one that goes
+-- what becomes of all constants, by their rows: none of one that is removed
 abbrev pub constants_after : RawTables → Map → List (Option ConstantValue)
 constants_after raw m = map (constant_image m) (constants_of raw)
 
--- A scope of these cells, with what it owns: the items of its lists that stay.
+-- A scope of these cells, with what it owns: the items of its lists that are kept.
 abbrev pub scope_value : RawTables → Map → Scope → MovedScope → ScopeValue
 scope_value raw m scope cells = record {
   method = cells.method;
@@ -55,7 +55,7 @@ imports_after raw m before = map (λ (scope : ImportScopeValue). renumbered_impo
 abbrev pub body_after : Map → List ℕ → CustomValue → CustomBody
 body_after m documents custom = with_documents (row_in documents) (moved_body m custom.parent.row (linked m custom).value)
 
--- all records, by their rows; each names its parent as before
+-- what all records say, by their rows; each keeps its old parent
 abbrev pub records_after : RawFile → Map → List ℕ → List CustomValue
 records_after raw m documents = map (λ (custom : CustomValue). record custom { value = body_after m documents custom }) (value_of raw).customs
 

@@ -55,7 +55,7 @@ fn names_gone_modifier(map: &MapText, modifiers: &[Modifier]) -> bool
         .any(|modifier| is_gone_type(map, modifier.target))
 }
 
-/// Whether a constant goes: one of its modifiers, or the class or value type that it is of, is gone.
+/// Whether a constant is removed: one of its modifiers, or the class or value type that it is of, is gone.
 fn goes(map: &MapText, modifiers: &[Modifier], body: &Constant<'_>) -> bool
     ensures { result ≡ (list_any (λ (modifier : Modifier). is_gone_type map.now modifier.target) modifiers.now || names_gone_class map.now (body_value
         (shown body.now))) }
@@ -92,7 +92,7 @@ fn moved_body<'a>(map: &MapText, body: Constant<'a>) -> Constant<'a>
     }
 }
 
-/// Reads a row of LocalConstant, with the types that it names in the joined file; None where it goes. The modifiers of its type are put into
+/// Reads a row of LocalConstant, with the types that it names in the joined file; None where it is removed. The modifiers of its type are put into
 /// `modifiers` in place of what that held; after a refusal it is empty.
 pub fn moved_constant<'a, L: Ledger>(
     file: &Verified<'a>,

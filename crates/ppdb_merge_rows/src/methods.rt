@@ -24,7 +24,7 @@ use std::sync::ledger::Ledger;
 /// What becomes of a method.
 #[derive(Clone, Copy, Debug, PartialEq, Eq)]
 pub enum MovedMethod {
-    /// It has no points, or none that stays.
+    /// It has no points, or none that is kept.
     Gone,
     /// Its blob was appended.
     Blob {
@@ -45,7 +45,7 @@ fn is_long(image: &MethodMap<'_>) -> bool
     }
 }
 
-/// Appends the blob that the points of a method have in the joined file: those that stay, each where it moves to and in the new row
+/// Appends the blob that the points of a method have in the joined file: those that are kept, each where it moves to and in the new row
 /// of its document, of which `documents` has one for each document of the file. After a refusal `into` is unchanged.
 pub fn moved_method_into<L: Ledger>(
     file: &Verified<'_>,

@@ -19,7 +19,7 @@ use ppdb_verify::Verified;
 use ppdb_verify_rows::{count, scope};
 use std::sync::ledger::Ledger;
 
-/// The cells of a scope that stays. What it owns are the rows of its lists in its own file.
+/// The cells of a scope that is kept. What it owns are the rows of its lists in its own file.
 #[derive(Clone, Copy, Debug, PartialEq, Eq)]
 pub struct MovedScope {
     /// The row of MethodDef.

@@ -1,4 +1,4 @@
-//! A law: the map without lines fits every sound file, which stays what it is when it is moved by that map and joined alone.
+//! A law: the map without lines fits every sound file, which is unchanged when it is moved by that map and joined alone.
 #![tactic(auto)]
 
 mod laws;

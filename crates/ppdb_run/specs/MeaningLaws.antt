@@ -62,7 +62,7 @@ abbrev pub RebuiltFilesKeepThemselves : Type 0
 RebuiltFilesKeepThemselves = (raw : RawFile) (file : List ℕ) → KeepsRules raw → SaysButForId file (value_of raw)
     → KeepsInputs (left_alone (value_of raw) ∷ []) file
 
--- So do those that are written, where the value meets no limit.
+-- Where the value that one or more valid inputs are joined to has its types and meets no limit, its canonical file is written of them.
 abbrev pub InputsAreWritten : Type 0
 InputsAreWritten = (marks : List (List ℕ)) (inputs : List ReadInput) (value : FileValue) (choice : IdChoice) → AreJoinedTo marks inputs value
     → 1 ≤ length inputs → HasTypes value → first_limit value ≡ None → IsWrittenOf marks inputs value choice

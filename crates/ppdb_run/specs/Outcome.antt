@@ -28,7 +28,7 @@ use Rattle.ppdb_run_stops.specs.declared.status.Status.TheVariants as statuses
 abbrev pub Step : Type 0 → Type 1
 Step A = Result A Outcome → Type 0
 
--- one step, and another with its value
+-- two steps: one, and after it another, which is given the value of the first
 infixl 10 ◌>>=◌
 abbrev pub ◌>>=◌ : {A B : Type 0} → Step A → (A → Step B) → Step B
 ◌>>=◌ {A = A} first next result =

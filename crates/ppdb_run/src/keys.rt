@@ -7,7 +7,7 @@ pub fn take_in(maker: &mut KeyMaker, bytes: &Bytes) {
     maker.add(bytes.as_slice());
 }
 
-/// The same, where there is a maker.
+/// The maker, where there is one, takes in the bytes.
 pub fn take_in_if(maker: Option<&mut KeyMaker>, bytes: &Bytes) {
     match maker {
         Some(maker) => take_in(maker, bytes),

@@ -71,7 +71,7 @@ fn moved<L: Ledger>(
     }
 }
 
-/// The same of the bytes of the sample's file, which are given up.
+/// Verifies the bytes of the sample's file, and moves by the sample's map what they say. The bytes are given up.
 fn merged<K: Ledger, L: Ledger>(
     alloc: Global,
     methods: u32,

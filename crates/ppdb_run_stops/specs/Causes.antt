@@ -11,7 +11,7 @@ use Rattle.ppdb_run_stops.specs.declared.stop.Stop.TheVariants as stops
 
 -- why a run stopped
 pub data Cause : Type 0 where
-  -- it is the outcome
+  -- a refusal, which is the outcome
   Refusal : Outcome → Cause
   -- the file was not read
   Unread : (name : List ℕ) → Cause

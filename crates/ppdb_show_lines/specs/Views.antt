@@ -12,7 +12,7 @@ content_of (Octets bytes) = octets bytes.now
 content_of (Name bytes) = name bytes.now
 content_of (Absent words) = absent words.now
 
--- It is neither a number nor absent.
+-- The content is neither a number nor absent.
 abbrev pub IsText : Content → Type 0
 IsText (number n) = ⊥
 IsText (absent words) = ⊥

@@ -77,7 +77,7 @@ impl Kept {
         put
     }
 
-    /// Keeps bytes after those that are kept, or puts these first.
+    /// Keeps bytes after those that are kept. Where there is no room, those that are kept are put first.
     #[inline(always)]
     pub(crate) fn put<O: Sink>(&mut self, out: &mut O, bytes: &[u8]) -> Result<(), WriteError>
         ensures { Keeps result (O.written out.old) (O.written out.new) self.old self.new (O.faults out.old) (O.faults out.new) bytes.now }
@@ -89,7 +89,7 @@ impl Kept {
         self.put_more(out, bytes)
     }
 
-    /// The same, where there is no room.
+    /// Puts the bytes that are kept, and after them these bytes.
     #[inline(never)]
     fn put_more<O: Sink>(&mut self, out: &mut O, bytes: &[u8]) -> Result<(), WriteError>
         ensures { Keeps result (O.written out.old) (O.written out.new) self.old self.new (O.faults out.old) (O.faults out.new) bytes.now }
@@ -98,7 +98,7 @@ impl Kept {
         out.put(bytes)
     }
 
-    /// Keeps the digits of a number after the bytes that are kept, or puts these first.
+    /// Keeps the digits of a number after the bytes that are kept. Where there is no room, those that are kept are put first.
     #[inline(always)]
     pub(crate) fn put_number<O: Sink>(&mut self, out: &mut O, number: u32) -> Result<(), WriteError>
         ensures { Keeps result (O.written out.old) (O.written out.new) self.old self.new (O.faults out.old) (O.faults out.new) (decimal number) }
@@ -110,7 +110,7 @@ impl Kept {
         self.put_number_behind(out, number)
     }
 
-    /// The same, where there is no room.
+    /// Puts the bytes that are kept, and keeps the digits of a number.
     #[inline(never)]
     fn put_number_behind<O: Sink>(&mut self, out: &mut O, number: u32) -> Result<(), WriteError>
         ensures { Keeps result (O.written out.old) (O.written out.new) self.old self.new (O.faults out.old) (O.faults out.new) (decimal number) }

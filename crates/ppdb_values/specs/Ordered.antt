@@ -2,11 +2,11 @@
 use Rattle.std.specs.Prelude.{◌≡◌, ℕ, ◌<◌, ◌≤◌, List, length, slice_index, Some}
 use Rattle.ppdb_tables.specs.RawTables.{row_at}
 
--- each row is so
+-- P holds of each row
 abbrev pub EachRow : {X : Type 0} → (X → Type 0) → List X → Type 0
 EachRow {X} P rows = (row : ℕ) (x : X) → row_at rows row ≡ Some x → P x
 
--- each row stands so to each later one
+-- P holds of each row and each later one
 abbrev pub EachPair : {X : Type 0} → (X → X → Type 0) → List X → Type 0
 EachPair {X} P rows = (a b : ℕ) (x y : X) → row_at rows a ≡ Some x → row_at rows b ≡ Some y → a < b → P x y
 

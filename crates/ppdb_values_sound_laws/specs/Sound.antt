@@ -18,7 +18,7 @@ pub record SoundMachine (value : FileValue) (machine : MachineRow) : Type 0 wher
   pub move_next : HasRow value 0x06 machine.move_next
   pub kickoff : HasRow value 0x06 machine.kickoff
 
--- They stand in the order of MoveNext; no method is the MoveNext, and none the kickoff, of two state machines ("StateMachineMethod Table").
+-- State machines stand in the order of MoveNext; no method is the MoveNext, and none the kickoff, of two state machines ("StateMachineMethod Table").
 pub record SoundMachines (value : FileValue) : Type 0 where
   pub each : EachRow (SoundMachine value) value.machines
   pub by_move_next : Rises (map (λ machine. machine.move_next) value.machines)

@@ -15,7 +15,7 @@ abbrev pub ContentFaults : Streams → Code → Place → Type 0
 ContentFaults streams =
     Then (PdbFaults (bytes_of streams Pdb)) (Then (TablesFaults (head_in (bytes_of streams Pdb)) (bytes_of streams Tables)) (RowsFaults (raw_in streams).tables))
 
--- all rules
+-- the rules F1 to F40 that a file breaks, each at its place
 abbrev pub FileFaults : List ℕ → Code → Place → Type 0
 FileFaults file = Then (ContainerFaults file) (λ code at. (streams : Streams) × AreStreamsOf file streams × ContentFaults streams code at)
 

@@ -20,7 +20,7 @@ after rest (suc answers) left = after rest answers (rest left)
 abbrev pub NeverFaults : {X : Type 0} → Left X → Type 0
 NeverFaults left = (answers : ℕ) → IsOk (answer (after rest_of answers left))
 
--- The same of a constant, which is asked for its modifiers and for its body.
+-- No answer of a cursor over a constant is a fault, however often it is asked for a modifier, and then for the body.
 abbrev pub ConstantNeverFaults : ConstantLeft → Type 0
 ConstantNeverFaults left = (answers : ℕ) → IsOk (modifier_answer (after constant_rest answers left)) × IsOk (body_answer (after constant_rest answers left).end)
 
@@ -40,7 +40,7 @@ pub record MayBeStepping (methods : ℕ) (content : List ℕ) (made : Result Ste
 
 -- ---- the cursors of a file
 
--- This holds of each row of a table and the content of the blob that its cell names.
+-- P holds of each row of a table and the content of the blob that its cell names.
 abbrev pub EachBlob : {X : Type 0} → RawTables → List X → (X → ℕ) → (X → List ℕ → Type 0) → Type 0
 EachBlob {X} raw rows cell P = (row : ℕ) (x : X) (content : List ℕ) → row_at rows row ≡ Some x → blob_at raw.blobs (cell x) ≡ Some content → P x content
 

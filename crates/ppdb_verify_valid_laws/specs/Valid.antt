@@ -11,7 +11,7 @@ pub record IsValid (file : List ℕ) : Type 0 where
   pub short : length file ≤ 134217728
   pub accepted : IsAccepted (FileFaults file)
 
--- It keeps the rules, and its value is sound and has its types.
+-- The file keeps the rules, and its value is sound and has its types.
 pub record IsSoundFile (raw : RawFile) : Type 0 where
   pub rules : KeepsRules raw
   pub sound : IsSound (value_of raw)

@@ -39,9 +39,9 @@ abbrev holed : Offsets
 holed = lined (record { old = 0; new = 0; length = 1 } ∷ record { old = 2; new = 2; length = 1 } ∷ []) 3 3
 
 pub record MovedPointsWorked : Type 0 where
-  -- a point whose offset went moves to the next kept one
+  -- a point whose offset is not kept moves to the next kept one
   pub next : moved_points woven (hidden_at 0 ∷ hidden_at 3 ∷ hidden_at 7 ∷ []) ≡ hidden_at 0 ∷ hidden_at 6 ∷ hidden_at 8 ∷ []
-  -- a point goes where no offset is kept before the next point
+  -- a point is removed where no offset is kept before the next point
   pub hole : moved_points holed (hidden_at 0 ∷ hidden_at 1 ∷ hidden_at 2 ∷ []) ≡ hidden_at 0 ∷ hidden_at 2 ∷ []
   -- a dropped method has no points left
   pub dropped : moved_points gone (hidden_at 0 ∷ hidden_at 3 ∷ []) ≡ []

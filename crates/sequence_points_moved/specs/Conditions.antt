@@ -11,7 +11,7 @@ ReadsAs column limits blob signature points = PointsReading column limits blob s
 abbrev pub IsWhole : ℕ → PointLimits → List ℕ → Type 0
 IsWhole column limits blob = (signature : ℕ) × (points : List Point) × ReadsAs column limits blob signature points
 
--- This holds of each point of the blob.
+-- P holds of each point of the blob.
 abbrev pub EachPoint : (Point → Type 0) → ℕ → PointLimits → List ℕ → Type 0
 EachPoint P column limits blob = (signature : ℕ) (points : List Point) → ReadsAs column limits blob signature points → All P points
 
@@ -26,7 +26,7 @@ pub record IsMovable (offsets : Offsets) (p : Point) : Type 0 where
   pub below : p.offset < old_size offsets
   pub image : HasImage offsets p.offset
 
--- Some of the points were seen to hold this, and these are left.
+-- P was seen to hold of the first of all points, and the others are left.
 pub record Seen (P : Point → Type 0) (all left : List Point) : Type 0 where
   pub prefix : List Point
   pub cut : all ≡ prefix ++ left

@@ -8,7 +8,7 @@ use Rattle.sequence_points.specs.Written.{points_blob, large_steps, numbered, fi
 abbrev pub in_new_document : List ℕ → Point → Point
 in_new_document documents p = record p { document = get_or documents (p.document - 1) 0 }
 
--- the points that stay, each at its image and in its new document
+-- the points that are kept, each at its image and in its new document
 abbrev pub moved_in : Offsets → List ℕ → List Point → List Point
 moved_in offsets documents points = map (in_new_document documents) (moved_points offsets points)
 

@@ -32,7 +32,7 @@ fn moved_point<G: OffsetImage>(point: Point, documents: &[u32], image: &G) -> Po
     }
 }
 
-/// The next point that stays, at its image and in its new document.
+/// The next point that is kept, at its image and in its new document.
 fn next_moved<G: OffsetImage>(points: &mut Ahead<'_>, documents: &[u32], image: &G) -> Option<Point>
     requires points { All (CanMove (G.offsets image.now) documents.now) points.old }
     ensures next { moved_in (G.offsets image.now) documents.now points.old ≡ coming result (moved_in (G.offsets image.now) documents.now points.new) }
@@ -46,7 +46,7 @@ fn next_moved<G: OffsetImage>(points: &mut Ahead<'_>, documents: &[u32], image: 
     None
 }
 
-/// Appends the points that stay, of which `first` is the first. Where they are to have one document (`in_one`), it stops before a
+/// Appends the points that are kept, of which `first` is the first. Where they are to have one document (`in_one`), it stops before a
 /// point of another document, and answers false.
 fn points_into<G: OffsetImage>(
     mut points: Ahead<'_>,
@@ -96,7 +96,7 @@ fn column_of(first: Point, in_one: bool) -> u32
     if in_one { first.document } else { 0 }
 }
 
-/// Appends the header and the points that stay, and answers their Document column. Where they are to have one document (`in_one`) and
+/// Appends the header and the points that are kept, and answers their Document column. Where they are to have one document (`in_one`) and
 /// have several, it stops and answers None.
 fn begin_blob<G: OffsetImage>(
     mut points: Ahead<'_>,
@@ -128,7 +128,7 @@ fn begin_blob<G: OffsetImage>(
     }
 }
 
-/// Appends the blob of the points that stay, and answers their Document column. Where they are to have one document (`in_one`) and
+/// Appends the blob of the points that are kept, and answers their Document column. Where they are to have one document (`in_one`) and
 /// have several, it answers None; then, and after a refusal, `into` is unchanged.
 fn blob_into<G: OffsetImage>(
     points: Ahead<'_>,
@@ -175,8 +175,8 @@ fn points_of<'a>(blob: &'a [u8], column: u32, limits: PointLimits) -> Ahead<'a>
     }
 }
 
-/// Appends the canonical blob of the points of a blob that stay, each where it moves to and in the new row of its document, and answers
-/// the new Document column. Where all points go it appends nothing. `documents` has the new row of each Document row. After a refusal
+/// Appends the canonical blob of the points of a blob that are kept, each where it moves to and in the new row of its document, and answers
+/// the new Document column. Where no point is kept it appends nothing. `documents` has the new row of each Document row. After a refusal
 /// `into` is unchanged.
 ///
 /// # Errors

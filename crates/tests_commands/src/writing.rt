@@ -42,7 +42,7 @@ fn kept(rt: &HostRuntime, value: &FileValue) -> Result<SteadyFolder, Fail> {
     Ok(folder)
 }
 
-/// The same of a value that was made.
+/// The folder with the file of a value that was made.
 fn folder_of<E>(rt: &HostRuntime, made: Result<FileValue, E>) -> Result<SteadyFolder, Fail>
 where
     Fail: From<E>,

@@ -69,7 +69,7 @@ abbrev pub begun_of : ℕ → ℕ → List Value
 begun_of kind zero = []
 begun_of kind (suc fields) = number kind ∷ zeros fields
 
--- The same kind, and as many fields.
+-- Two imports that have begun: of the same kind, and with as many fields.
 abbrev pub SameShape : List Value → List Value → Type 0
 SameShape [] [] = Unit {0}
 SameShape (number k ∷ vs) (number l ∷ ws) = (k ≡ l) × (length vs ≡ length ws)
