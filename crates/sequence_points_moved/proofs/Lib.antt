@@ -1,4 +1,6 @@
 pub mod Kept
+pub mod Until
+pub mod Left
 pub mod Stays
 pub mod Joins
 pub mod Documents

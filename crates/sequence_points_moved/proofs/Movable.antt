@@ -14,7 +14,7 @@ use Rattle.sequence_points.proofs.MovedPoints.{moved-rise}
 use Rattle.sequence_points.proofs.ReadPoints.{points_in_range}
 use Rattle.sequence_points_moved.specs.MovedBlob.{in_new_document, moved_in}
 use Rattle.sequence_points_moved.specs.Conditions.{ReadsAs, IsWhole, EachPoint, HasImage}
-use Rattle.sequence_points_moved.specs.Writing.{CanMove, IsWritable}
+use Rattle.sequence_points_moved.specs.Writing.{CanMove, CanAllMove, IsWritable}
 use Rattle.sequence_points_moved.proofs.Stays.{at_image, image_small}
 
 -- points that can be written where there is one
@@ -63,7 +63,7 @@ writable o rise documents rows points read below each some = record {
 
 -- what is asked of the blob and of the map, of the points themselves
 pub record Ready (o : Offsets) (documents : List ℕ) (points : List Point) : Type 0 where
-  pub each : All (CanMove o documents) points
+  pub all : CanAllMove o documents points
   pub writable : IsWritable (moved_in o documents points)
 
 pub ready : (o : Offsets) → Rise o → (column : ℕ) (limits : PointLimits) (blob documents : List ℕ) (points : List Point) → column ≤ limits.documents
@@ -76,9 +76,10 @@ ready o rise column limits blob documents points there whole len rows below imag
     let read = points_in_range column limits blob whole.0 whole.1 there whole.2 in
     let image = images whole.0 whole.1 whole.2 in
     let each : All (CanMove o documents) whole.1 = λ i d less. let row = read.2 i d less in record {
+      below = below whole.0 whole.1 whole.2 i d less;
       image = image i d less;
       first = row.0;
       there = omega (arith, row.1, len);
     } in
     subst (Ready o documents) (sym at)
-    (record { each = each; writable = writable o rise documents rows whole.1 read.0 (below whole.0 whole.1 whole.2) each })
+    (record { all = record { rise = read.0.rise; each = each }; writable = writable o rise documents rows whole.1 read.0 (below whole.0 whole.1 whole.2) each })

@@ -1,9 +1,9 @@
 -- What the writer has come to: the points that it wrote, and what is asked of the next one.
-use Rattle.std.specs.Prelude.{◌≡◌, ◌≢◌, ℕ, ◌+◌, ◌<◌, ◌≤◌, ◌++◌, List, [], ◌∷◌, length, Option, Some, None, Bool, true, false}
+use Rattle.std.specs.Prelude.{◌≡◌, ◌≢◌, ℕ, ◌+◌, ◌<◌, ◌≤◌, ◌++◌, List, [], ◌∷◌, length, All, Option, Some, None, Bool, true, false, cond}
 use Rattle.sequence_points.specs.{declared.point.Point.Point, declared.writer.PointError.{PointError, TheVariants.{Step, Memory}}, Points.common_document, Ranges.{IsOffset, IsDocument}}
-use Rattle.sequence_points.specs.{Following.{IsStart, IsBehind}, Written.{CanBeWritten, IsSpan, last_of, last_start, large_step, large_steps, points_bytes}}
+use Rattle.sequence_points.specs.{MovedPoints.PointsRise, Following.{IsStart, IsBehind}, Written.{CanBeWritten, IsSpan, last_of, last_start, large_step, large_steps, points_bytes}}
 use Rattle.cli_ints.specs.Shortest.{short_unsigned}
-use Rattle.ppdb_base.specs.Offsets.{Offsets}
+use Rattle.ppdb_base.specs.Offsets.{Offsets, old_size, moved, is_kept_between}
 use Rattle.sequence_points_moved.specs.{MovedBlob.moved_blob, declared.writer.Written.Written, Conditions.HasImage}
 
 -- The writer has written these points.
@@ -26,11 +26,21 @@ abbrev pub IsStepOf : Written → Point → PointError → Type 0
 IsStepOf w p (Step index step) = (index ≡ w.count + 1) × (large_step w.start p.span ≡ Some step)
 IsStepOf w p Memory = Unit {0}
 
--- The points that are left can be moved.
+-- The point lies below the old size, its offset has an image that can be written, and its document has a new row.
 pub record CanMove (offsets : Offsets) (documents : List ℕ) (p : Point) : Type 0 where
+  pub below : p.offset < old_size offsets
   pub image : HasImage offsets p.offset
   pub first : 1 ≤ p.document
   pub there : p.document ≤ length documents
+
+-- The points rise, and each can be moved.
+pub record CanAllMove (offsets : Offsets) (documents : List ℕ) (points : List Point) : Type 0 where
+  pub rise : PointsRise points
+  pub each : All (CanMove offsets documents) points
+
+-- the new offset of a point that holds up to this end; None if no offset is kept that it holds at, so that it goes
+abbrev pub image_until : Offsets → ℕ → ℕ → Option ℕ
+image_until offsets offset end = cond (is_kept_between offsets offset end) (Some (moved offsets offset)) None
 
 -- the next point, and then the others
 abbrev pub coming : Option Point → List Point → List Point

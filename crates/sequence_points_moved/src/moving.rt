@@ -1,7 +1,7 @@
 //! Moves the points of a blob, from blob to blob.
 
 ghost use Rattle.std.specs.Prelude.{◌≡◌, ◌<◌, ◌≤◌, ◌^◌, ◌++◌, ℕ, false, cond, List, [], ◌∷◌, length, All, IfNone, IfOk, IfErr, OnOk, OnErr};
-ghost use Rattle.ppdb_base.specs.Offsets.{old_size, moved};
+ghost use Rattle.ppdb_base.specs.Offsets.{old_size};
 ghost use Rattle.sequence_points.specs.declared.point.Point.{Point};
 ghost use Rattle.sequence_points.specs.Points.{common_document};
 ghost use Rattle.sequence_points.specs.Ranges.{IsDocument};
@@ -9,22 +9,35 @@ ghost use Rattle.sequence_points.specs.Written.{CanBeWritten, large_steps};
 ghost use Rattle.ppdb_base.specs.Written.{BeginsWith};
 ghost use Rattle.sequence_points_moved.specs.MovedBlob.{in_new_document, moved_in, moved_blob, IsFirstStep};
 ghost use Rattle.sequence_points_moved.specs.Conditions.{ReadsAs, IsWhole, EachPoint, HasImage};
-ghost use Rattle.sequence_points_moved.specs.Writing.{CanMove, IsWalked, IsBlobIn, IsWritable, coming, header_in};
+ghost use Rattle.sequence_points_moved.specs.Writing.{CanAllMove, image_until, IsWalked, IsBlobIn, IsWritable, coming, header_in};
 
 use crate::ahead::Ahead;
 use crate::writer::Written;
 use ppdb_base::{Bytes, Memory, OffsetImage};
 use sequence_points::{Point, PointCursor, PointError, PointLimits, unsigned_into};
 
-/// The point at its image and in its new document.
-fn moved_point<G: OffsetImage>(point: Point, documents: &[u32], image: &G) -> Point
-    requires { CanMove (G.offsets image.now) documents.now point }
-    ensures { result ≡ in_new_document documents.now (record point { offset = moved (G.offsets image.now) point.offset }) }
+/// The new offset of a point that holds up to `end`, or None if it goes. Most points are at kept offsets: one search finds these.
+fn image_until<G: OffsetImage>(offset: u32, end: u32, image: &G) -> Option<u32>
+    requires below { offset < old_size (G.offsets image.now) }
+    requires holds { offset < end }
+    ensures { result ≡ image_until (G.offsets image.now) offset end }
 {
-    let offset = match image.next_image(point.offset) {
-        Some(offset) => offset,
-        None => unreachable!(),
-    };
+    if let Some(found) = image.image(offset) {
+        return Some(found);
+    }
+    if image.kept_between(offset, end) {
+        image.next_image(offset)
+    } else {
+        None
+    }
+}
+
+/// The point at its image and in its new document.
+fn moved_point(point: Point, offset: u32, documents: &[u32]) -> Point
+    requires first { 1 ≤ point.document }
+    requires there { point.document ≤ length documents.now }
+    ensures { result ≡ in_new_document documents.now (record point { offset = offset }) }
+{
     Point {
         offset,
         document: documents[(point.document - 1) as usize],
@@ -34,13 +47,13 @@ fn moved_point<G: OffsetImage>(point: Point, documents: &[u32], image: &G) -> Po
 
 /// The next point that is kept, at its image and in its new document.
 fn next_moved<G: OffsetImage>(points: &mut Ahead<'_>, documents: &[u32], image: &G) -> Option<Point>
-    requires points { All (CanMove (G.offsets image.now) documents.now) points.old }
+    requires points { CanAllMove (G.offsets image.now) documents.now points.old }
     ensures next { moved_in (G.offsets image.now) documents.now points.old ≡ coming result (moved_in (G.offsets image.now) documents.now points.new) }
-    ensures points { All (CanMove (G.offsets image.now) documents.now) points.new }
+    ensures points { CanAllMove (G.offsets image.now) documents.now points.new }
 {
     'points: while let Some((point, end)) = points.pop() {
-        if image.kept_between(point.offset, end) {
-            return Some(moved_point(point, documents, image));
+        if let Some(offset) = image_until(point.offset, end, image) {
+            return Some(moved_point(point, offset, documents));
         }
     }
     None
@@ -56,7 +69,7 @@ fn points_into<G: OffsetImage>(
     image: &G,
     into: &mut Bytes,
 ) -> Result<bool, PointError>
-    requires points { All (CanMove (G.offsets image.now) documents.now) points }
+    requires points { CanAllMove (G.offsets image.now) documents.now points }
     requires written { CanBeWritten 0 (first ∷ moved_in (G.offsets image.now) documents.now points) }
     ensures walked { IfOk result (IsWalked in_one (first ∷ moved_in (G.offsets image.now) documents.now points.entry) into.old into.new) }
     ensures step { IfErr result (IsFirstStep (first ∷ moved_in (G.offsets image.now) documents.now points.entry)) }
@@ -106,7 +119,7 @@ fn begin_blob<G: OffsetImage>(
     image: &G,
     into: &mut Bytes,
 ) -> Result<Option<u32>, PointError>
-    requires points { All (CanMove (G.offsets image.now) documents.now) points }
+    requires points { CanAllMove (G.offsets image.now) documents.now points }
     requires written { IsWritable (moved_in (G.offsets image.now) documents.now points) }
     requires signature { signature < 536870912 }
     requires several { in_one ≡ false → common_document (moved_in (G.offsets image.now) documents.now points) ≡ 0 }
@@ -138,7 +151,7 @@ fn blob_into<G: OffsetImage>(
     image: &G,
     into: &mut Bytes,
 ) -> Result<Option<u32>, PointError>
-    requires points { All (CanMove (G.offsets image.now) documents.now) points }
+    requires points { CanAllMove (G.offsets image.now) documents.now points }
     requires written { IsWritable (moved_in (G.offsets image.now) documents.now points) }
     requires signature { signature < 536870912 }
     requires several { in_one ≡ false → common_document (moved_in (G.offsets image.now) documents.now points) ≡ 0 }

@@ -13,7 +13,7 @@ blob_into-requires-clause-points g c =
     let q = c.requires in
     (ready (g.G.OffsetImage.offsets c.args.image.now)
     (g.met.G.OffsetImage.rise c.args.image.now) c.args.column c.args.limits c.args.blob.now c.args.documents.now c.points_of-points.result
-    q.column q.whole q.documents q.rows q.below q.images c.points_of-points.ensures).each
+    q.column q.whole q.documents q.rows q.below q.images c.points_of-points.ensures).all
 
 pub blob_into-requires-clause-written : goal.blob_into-requires-clause-written
 blob_into-requires-clause-written g c =
@@ -59,7 +59,7 @@ blob_into-requires-2-clause-points g c =
     let q = c.requires in
     (ready (g.G.OffsetImage.offsets c.args.image.now)
     (g.met.G.OffsetImage.rise c.args.image.now) c.args.column c.args.limits c.args.blob.now c.args.documents.now c.points_of-points-2.result
-    q.column q.whole q.documents q.rows q.below q.images c.points_of-points-2.ensures).each
+    q.column q.whole q.documents q.rows q.below q.images c.points_of-points-2.ensures).all
 
 pub blob_into-requires-2-clause-written : goal.blob_into-requires-2-clause-written
 blob_into-requires-2-clause-written g c =

@@ -1,7 +1,6 @@
 use Rattle.std.proofs.Common.{◌∷◌, length}
-use Rattle.std.specs.Prelude.{All}
 use Rattle.sequence_points_moved.specs.MovedBlob.{moved_in}
-use Rattle.sequence_points_moved.specs.Writing.{CanMove, coming}
+use Rattle.sequence_points_moved.specs.Writing.{CanAllMove, coming}
 use Rattle.sequence_points_moved.proofs.Walk.{Progress}
 use Rattle.sequence_points_moved.proofs.moving.points_into.Given as goal
 
@@ -9,7 +8,7 @@ abbrev pub invariant-points : goal.invariant-points
 invariant-points g l = record {
   progress : Progress l.in_one l.first (l.first ∷ moved_in (g.G.OffsetImage.offsets l.fn.image) l.fn.documents l.fn.points)
       (coming l.next (moved_in (g.G.OffsetImage.offsets l.fn.image) l.fn.documents l.points)) l.written l.fn.into l.into;
-  can : All (CanMove (g.G.OffsetImage.offsets l.fn.image) l.fn.documents) l.points;
+  can : CanAllMove (g.G.OffsetImage.offsets l.fn.image) l.fn.documents l.points;
 }
 
 abbrev pub decreases-points : goal.decreases-points
