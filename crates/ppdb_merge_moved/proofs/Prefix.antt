@@ -2,13 +2,20 @@
 use Rattle.std.proofs.Common.{◌≡◌, ℕ, ◌+◌, ◌<◌, ◌≤◌, ◌++◌, Bool, true, false, List, [], ◌∷◌, length, take, drop, set, get_or, sym, ap, ◌∙◌, arith, append_assoc}
 use Rattle.std.specs.Prelude.{cond, IsTrue, ◌↔◌}
 use Rattle.std.proofs.lemmas.List.{take_more_set, drop_more, drop-drop, drop-set-lt}
-use Rattle.ppdb_base.specs.Offsets.{Offsets, Rise, moved, old_size, KeepsBetween}
+use Rattle.ppdb_base.specs.Offsets.{Offsets, Rise, moved, old_size, is_kept_between, KeepsBetween}
+use Rattle.ppdb_base.proofs.Moved.{kept_test}
 use Rattle.sequence_points.specs.declared.point.Point.{Point}
 use Rattle.sequence_points.specs.MovedPoints.{first_offset, moved_points}
-use Rattle.sequence_points_moved.proofs.Stays.{test_is}
+use Rattle.sequence_points_moved.proofs.Kept.{to_the_next}
 
 abbrev at_image : Offsets → Point → Point
 at_image o p = record p { offset = moved o p.offset }
+
+-- the answer of the test is whether the point stays
+test_is : (o : Offsets) → Rise o → old_size o ≤ 4294967295 → (p : Point) (ps : List Point) (end : ℕ) (r : Bool)
+    → end ≡ first_offset 4294967295 ps → (IsTrue r ↔ KeepsBetween o p.offset end) → is_kept_between o p.offset (first_offset (old_size o) ps) ≡ r
+test_is o rise le p ps end r ends says =
+    sym (to_the_next o p.offset ps rise le) ∙ sym (ap (is_kept_between o p.offset) ends) ∙ kept_test o rise p.offset end r says
 
 -- the points from the next one on
 rest_same : (all points : List Point) (place : ℕ) → drop place points ≡ drop place all → drop (place + 1) points ≡ drop (place + 1) all
