@@ -1,6 +1,6 @@
+use crate::program::Program;
 use crate::verifying::verifies;
 use ppdb_base::MemorySink;
-use ppdb_run::Status;
 use std::test::Fail;
 use tests_files::SMALL;
 use tests_runs::{folder_of, ran};
@@ -105,11 +105,11 @@ fn changed_bytes(rt: HostRuntime) -> Result<(), Fail> {
 fn answers(rt: &HostRuntime, bytes: &[u8]) -> Result<bool, Fail> {
     let mut folder = folder_of(rt.alloc(), &[("B", bytes)])?;
     let mut out = MemorySink::new(rt.alloc());
-    let status = ran(rt, &["verify", "B"], &mut folder, &mut out)?;
+    let status = ran(&Program, rt, &["verify", "B"], &mut folder, &mut out)?;
     let text = out.as_slice();
     Ok(match status {
-        Status::Done => text == b"accepted\n".as_slice(),
-        Status::Refused => text.starts_with(b"refused B F") && text.ends_with(b"\n"),
+        0 => text == b"accepted\n".as_slice(),
+        1 => text.starts_with(b"refused B F") && text.ends_with(b"\n"),
         _ => false,
     })
 }

@@ -17,6 +17,8 @@ mod links;
 #[cfg(test)]
 mod lookup;
 #[cfg(test)]
+mod program;
+#[cfg(test)]
 mod puts;
 #[cfg(test)]
 mod query;

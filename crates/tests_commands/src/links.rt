@@ -1,4 +1,5 @@
 // The addresses of documents, and the places where a debugger may stop for a line.
+use crate::program::Program;
 use crate::puts::puts_prefixes;
 use std::alloc::{AllocError, Global};
 use std::test::Fail;
@@ -95,7 +96,7 @@ fn made(alloc: Global, said: Said<'_>) -> Result<Vec<u8>, AllocError> {
 fn links_are(rt: &HostRuntime, said: Said<'_>, status: u8, text: &str) -> Result<bool, Fail> {
     let file = made(rt.alloc(), said)?;
     let rows: [(&[&str], u8, &str); 1] = [(&["links", "D"], status, text)];
-    Ok(first_other_over(rt, &[("D", &file)], &rows)?.is_none())
+    Ok(first_other_over(&Program, rt, &[("D", &file)], &rows)?.is_none())
 }
 
 /// Whether `links` of the file D, of documents with these names and this Source Link record, ends so and prints this.
@@ -308,7 +309,7 @@ fn program_says(rt: &HostRuntime, ends: [u8; 2], status: u8, text: &str) -> Resu
     file[552] = ends[0];
     file[553] = ends[1];
     let rows: [(&[&str], u8, &str); 1] = [(&["links", "P"], status, text)];
-    Ok(first_other_over(rt, &[("P", &file)], &rows)?.is_none())
+    Ok(first_other_over(&Program, rt, &[("P", &file)], &rows)?.is_none())
 }
 
 // The program with its record, and with two others of as many bytes.
@@ -371,7 +372,7 @@ fn breaks_of_lines(rt: HostRuntime) -> Result<(), Fail> {
     let two = made(rt.alloc(), TWO_METHODS)?;
     let other = made(rt.alloc(), OTHER_DOCUMENT)?;
     let files: [(&str, &[u8]); 3] = [("B", &SMALL), ("V", &two), ("W", &other)];
-    assert_eq!(rt; first_other_over(&rt, &files, &BREAKS)?, None);
+    assert_eq!(rt; first_other_over(&Program, &rt, &files, &BREAKS)?, None);
     Ok(())
 }
 
@@ -404,7 +405,7 @@ const NO_ANSWERS: [(&[&str], u8, &str); 6] = [
 fn files_that_give_no_answer(rt: HostRuntime) -> Result<(), Fail> {
     let twice = made(rt.alloc(), TWICE)?;
     let files: [(&str, &[u8]); 2] = [("T", &twice), ("W", b"Microsoft C/C++ MSF 7.00")];
-    assert_eq!(rt; first_other_over(&rt, &files, &NO_ANSWERS)?, None);
+    assert_eq!(rt; first_other_over(&Program, &rt, &files, &NO_ANSWERS)?, None);
     Ok(())
 }
 
@@ -424,7 +425,10 @@ const NEITHER: [(&[&str], u8, &str); 11] = [
 
 #[test]
 fn words_that_are_neither(rt: HostRuntime) -> Result<(), Fail> {
-    assert_eq!(rt; first_other_over(&rt, &[("B", &SMALL)], &NEITHER)?, None);
+    assert_eq!(rt;
+        first_other_over(&Program, &rt, &[("B", &SMALL)], &NEITHER)?,
+        None
+    );
     Ok(())
 }
 

@@ -1,4 +1,5 @@
 // The questions of a list, and answers as objects of JSON.
+use crate::program::Program;
 use std::test::Fail;
 use tests_files::{PROGRAM, SMALL};
 use tests_runs::first_other_over;
@@ -127,7 +128,7 @@ fn lists(rt: HostRuntime) -> Result<(), Fail> {
         ("crlf", b"\r\n1 3\r\n"),
         ("spaces", b"1 3\n1  3\n"),
     ];
-    assert_eq!(rt; first_other_over(&rt, &files, &ROWS)?, None);
+    assert_eq!(rt; first_other_over(&Program, &rt, &files, &ROWS)?, None);
     Ok(())
 }
 
@@ -156,7 +157,7 @@ fn other_lines(rt: HostRuntime) -> Result<(), Fail> {
     for line in &OTHERS {
         let files: [(&str, &[u8]); 2] = [("B", &SMALL), ("q", line.as_bytes())];
         let rows: [(&[&str], u8, &str); 1] = [(&["lookup", "B", "q"], 14, "list q line 1\n")];
-        assert_eq!(rt; first_other_over(&rt, &files, &rows)?, None);
+        assert_eq!(rt; first_other_over(&Program, &rt, &files, &rows)?, None);
     }
     Ok(())
 }

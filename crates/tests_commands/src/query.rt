@@ -1,4 +1,5 @@
 // What belongs to an offset of a method.
+use crate::program::Program;
 use std::test::Fail;
 use tests_files::SMALL;
 use tests_runs::first_other_over;
@@ -40,6 +41,6 @@ const ROWS: [(&[&str], u8, &str); 16] = [
 #[test]
 fn offsets_of_methods(rt: HostRuntime) -> Result<(), Fail> {
     let files: [(&str, &[u8]); 2] = [("B", &SMALL), ("W", b"Microsoft C/C++ MSF 7.00")];
-    assert_eq!(rt; first_other_over(&rt, &files, &ROWS)?, None);
+    assert_eq!(rt; first_other_over(&Program, &rt, &files, &ROWS)?, None);
     Ok(())
 }

@@ -1,6 +1,6 @@
 // The small worked file with one byte changed, rebuilt.
+use crate::program::Program;
 use ppdb_base::{MemorySink, SteadyFolder};
-use ppdb_run::Status;
 use std::test::Fail;
 use tests_files::SMALL;
 use tests_runs::{first_other, ran};
@@ -19,12 +19,12 @@ fn is_rebuilt_or_refused(rt: &HostRuntime, bytes: &[u8]) -> Result<bool, Fail> {
     let mut folder = SteadyFolder::new(rt.alloc());
     folder.set("B", bytes)?;
     let (mut told, mut said) = (MemorySink::new(rt.alloc()), MemorySink::new(rt.alloc()));
-    let judged = ran(rt, &["verify", "B"], &mut folder, &mut told)?;
-    if judged == Status::Done {
-        let other = first_other(rt, &mut folder, &OF_A_VALID_FILE)?;
+    let judged = ran(&Program, rt, &["verify", "B"], &mut folder, &mut told)?;
+    if judged == 0 {
+        let other = first_other(&Program, rt, &mut folder, &OF_A_VALID_FILE)?;
         return Ok(other.is_none() && folder.get("O") == folder.get("A"));
     }
-    let ended = ran(rt, &["rebuild", "B", "O"], &mut folder, &mut said)?;
+    let ended = ran(&Program, rt, &["rebuild", "B", "O"], &mut folder, &mut said)?;
     Ok(ended == judged && said.as_slice() == told.as_slice() && folder.get("O").is_none())
 }
 

@@ -1,5 +1,6 @@
 // The canonical files that `rebuild` writes, and what it does not write.
 use crate::identity::{BY_HASH, with_id};
+use crate::program::Program;
 use ppdb_base::{MemoryFolder, SteadyFolder};
 use std::alloc::Global;
 use std::test::Fail;
@@ -56,7 +57,7 @@ const KEPT: [(&str, &str, &[u8]); 7] = [
 fn canonical_files_are_kept(rt: HostRuntime) -> Result<(), Fail> {
     let mut folder = worked(rt.alloc())?;
     for (line, name, bytes) in KEPT {
-        assert!(rt; ends(&rt, line, &mut folder, 0, "")?, "{line}");
+        assert!(rt; ends(&Program, &rt, line, &mut folder, 0, "")?, "{line}");
         assert!(rt; has(&folder, name, bytes), "{line}");
     }
     assert!(rt; has(&folder, "B", &SMALL));
@@ -76,7 +77,7 @@ fn has_id(rt: &HostRuntime, file: &[u8], id: &[u8; 20]) -> Result<bool, Fail> {
         ("rebuild O A", "A"),
         ("rebuild I I", "I"),
     ] {
-        if !ends(rt, line, &mut folder, 0, "")? || !has(&folder, name, &told) {
+        if !ends(&Program, rt, line, &mut folder, 0, "")? || !has(&folder, name, &told) {
             return Ok(false);
         }
     }
@@ -94,7 +95,7 @@ fn an_identity_by_hash(rt: HostRuntime) -> Result<(), Fail> {
 #[test]
 fn numbers_are_shortened(rt: HostRuntime) -> Result<(), Fail> {
     let mut folder = worked(rt.alloc())?;
-    assert!(rt; ends(&rt, "rebuild F O", &mut folder, 0, "")?);
+    assert!(rt; ends(&Program, &rt, "rebuild F O", &mut folder, 0, "")?);
     let heap = b"\0\x01a\x02\0\x01\x0b\0\0\0\x04\x0a\x46\x03\0\x01\x02\x01\0\0";
     let file = folder.get("O").unwrap_or(b"");
     assert!(rt; file.len() == 216 && file.ends_with(heap));
@@ -119,7 +120,7 @@ fn a_method_without_points_is_left_out(rt: HostRuntime) -> Result<(), Fail> {
         ("rebuild N O --keep-id", 0, ""),
         ("show O", 0, WITHOUT_POINTS),
     ];
-    assert_eq!(rt; first_other(&rt, &mut folder, &rows)?, None);
+    assert_eq!(rt; first_other(&Program, &rt, &mut folder, &rows)?, None);
     Ok(())
 }
 
@@ -162,12 +163,12 @@ const UNWRITTEN: [(&str, u8, &str); 16] = [
 #[test]
 fn what_is_not_written(rt: HostRuntime) -> Result<(), Fail> {
     let mut folder = worked(rt.alloc())?;
-    assert_eq!(rt; first_other(&rt, &mut folder, &UNWRITTEN)?, None);
+    assert_eq!(rt; first_other(&Program, &rt, &mut folder, &UNWRITTEN)?, None);
     let words = ["rebuild", "B", "", "--keep-id"];
-    assert!(rt; prints(&rt, &words, &mut folder, 2, "usage\n")?);
+    assert!(rt; prints(&Program, &rt, &words, &mut folder, 2, "usage\n")?);
     let zeros = vec![in rt.alloc(); 0u8; 134_217_729]?;
     folder.set("Z", &zeros)?;
-    assert!(rt; ends(&rt, "rebuild Z O", &mut folder, 7, "too long Z\n")?);
+    assert!(rt; ends(&Program, &rt, "rebuild Z O", &mut folder, 7, "too long Z\n")?);
     assert!(rt; folder.get("O").is_none());
     Ok(())
 }
@@ -208,7 +209,7 @@ const PASSED_ON: [(&str, u8, &str); 8] = [
 #[test]
 fn a_kind_that_is_passed_on(rt: HostRuntime) -> Result<(), Fail> {
     let mut folder = worked(rt.alloc())?;
-    assert_eq!(rt; first_other(&rt, &mut folder, &PASSED_ON)?, None);
+    assert_eq!(rt; first_other(&Program, &rt, &mut folder, &PASSED_ON)?, None);
     Ok(())
 }
 
@@ -224,7 +225,10 @@ fn a_read_and_a_write_that_fail(rt: HostRuntime) -> Result<(), Fail> {
         folder.set("B", &SMALL)?;
         folder.fail(call)?;
         let line = "rebuild B O --keep-id";
-        assert!(rt; ends(&rt, line, &mut folder, status, text)?, "{text}");
+        assert!(rt;
+            ends(&Program, &rt, line, &mut folder, status, text)?,
+            "{text}"
+        );
         assert!(rt; folder.get("B") == Some(SMALL.as_slice()), "{text}");
         let left = folder.get("O").unwrap_or(b"");
         assert!(rt; SMALL.starts_with(left), "{text}");

@@ -1,4 +1,5 @@
 // What the samples of few methods come to, worked out apart from this program.
+use crate::program::Program;
 use std::test::Fail;
 use tests_runs::first_other_over;
 
@@ -27,6 +28,6 @@ const ROWS: [(&[&str], u8, &str); 4] = [
 
 #[test]
 fn samples_of_few_methods(rt: HostRuntime) -> Result<(), Fail> {
-    assert_eq!(rt; first_other_over(&rt, &[], &ROWS)?, None);
+    assert_eq!(rt; first_other_over(&Program, &rt, &[], &ROWS)?, None);
     Ok(())
 }

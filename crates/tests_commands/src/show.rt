@@ -1,4 +1,5 @@
 // All rows of a file, as text and as JSON.
+use crate::program::Program;
 use crate::puts::puts_prefixes;
 use std::test::Fail;
 use tests_files::{EMPTY, SMALL};
@@ -46,7 +47,7 @@ fn rows_as_text_and_as_json(rt: HostRuntime) -> Result<(), Fail> {
         (&["show", "E"], 0, E_AS_TEXT),
         (&["show", "B", "--json"], 0, B_AS_JSON),
     ];
-    assert_eq!(rt; first_other_over(&rt, &files, &rows)?, None);
+    assert_eq!(rt; first_other_over(&Program, &rt, &files, &rows)?, None);
     Ok(())
 }
 

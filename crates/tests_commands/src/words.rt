@@ -1,5 +1,5 @@
+use crate::program::Program;
 use ppdb_base::{MemoryFolder, MemorySink};
-use ppdb_run::Status;
 use std::test::Fail;
 use tests_files::{EMPTY, SMALL};
 use tests_runs::{first_other_over, first_other_words, folder_of, ran};
@@ -57,7 +57,10 @@ fn files_and_words(rt: HostRuntime) -> Result<(), Fail> {
         ("C", &foreign),
         ("D", &crossing),
     ];
-    assert_eq!(rt; first_other_over(&rt, &files, &FILES_AND_WORDS)?, None);
+    assert_eq!(rt;
+        first_other_over(&Program, &rt, &files, &FILES_AND_WORDS)?,
+        None
+    );
     Ok(())
 }
 
@@ -65,7 +68,10 @@ fn files_and_words(rt: HostRuntime) -> Result<(), Fail> {
 fn a_long_file(rt: HostRuntime) -> Result<(), Fail> {
     let zeros = vec![in rt.alloc(); 0u8; 134_217_729]?;
     let rows: [(&[&str], u8, &str); 1] = [(&["verify", "Z"], 7, "too long Z\n")];
-    assert_eq!(rt; first_other_over(&rt, &[("Z", &zeros)], &rows)?, None);
+    assert_eq!(rt;
+        first_other_over(&Program, &rt, &[("Z", &zeros)], &rows)?,
+        None
+    );
     Ok(())
 }
 
@@ -78,7 +84,7 @@ fn a_read_that_fails(rt: HostRuntime) -> Result<(), Fail> {
         (&["verify", "B"], 3, "read fault B\n"),
         (&["id", "B"], 0, ID_B),
     ];
-    assert_eq!(rt; first_other_words(&rt, &mut folder, &rows)?, None);
+    assert_eq!(rt; first_other_words(&Program, &rt, &mut folder, &rows)?, None);
     Ok(())
 }
 
@@ -87,7 +93,7 @@ fn a_put_that_fails(rt: HostRuntime) -> Result<(), Fail> {
     let mut folder = folder_of(rt.alloc(), &[("B", &SMALL)])?;
     let mut out = MemorySink::new(rt.alloc());
     out.fail(1)?;
-    let status = ran(&rt, &["verify", "B"], &mut folder, &mut out)?;
-    assert!(rt; status == Status::WriteFault && out.as_slice().is_empty());
+    let status = ran(&Program, &rt, &["verify", "B"], &mut folder, &mut out)?;
+    assert!(rt; status == 4 && out.as_slice().is_empty());
     Ok(())
 }

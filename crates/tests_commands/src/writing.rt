@@ -1,6 +1,7 @@
 // Values that are written as files, and read again.
 use crate::every_kind::{SHOWN, with_every_kind};
 use crate::identity::{BY_HASH, with_id};
+use crate::program::Program;
 use custom_info::SOURCE_LINK;
 use ppdb_base::{Bytes, List, SteadyFolder};
 use ppdb_build::{CustomBody, CustomValue, DocumentValue, FileValue, IdChoice, sound, write_file};
@@ -9,8 +10,7 @@ use ppdb_tables::Parent;
 use std::alloc::Global;
 use std::test::Fail;
 use tests_files::{EMPTY, PROGRAM};
-use tests_runs::first_other;
-use tests_values::value as read;
+use tests_runs::{first_other, value as read};
 
 /// The file of a sound value.
 fn written(alloc: Global, value: &FileValue, id: IdChoice) -> Result<Bytes, Fail> {
@@ -173,7 +173,10 @@ const OF_THE_PROGRAM: [(&str, u8, &str); 2] = [
 #[test]
 fn the_program_answers(rt: HostRuntime) -> Result<(), Fail> {
     let mut folder = folder_of(&rt, read(&rt, &PROGRAM))?;
-    assert_eq!(rt; first_other(&rt, &mut folder, &OF_THE_PROGRAM)?, None);
+    assert_eq!(rt;
+        first_other(&Program, &rt, &mut folder, &OF_THE_PROGRAM)?,
+        None
+    );
     Ok(())
 }
 
@@ -183,7 +186,10 @@ const OF_EVERY_KIND: [(&str, u8, &str); 2] = [("verify O", 0, "accepted\n"), ("s
 #[test]
 fn every_kind_is_read_again(rt: HostRuntime) -> Result<(), Fail> {
     let mut folder = folder_of(&rt, with_every_kind(rt.alloc()))?;
-    assert_eq!(rt; first_other(&rt, &mut folder, &OF_EVERY_KIND)?, None);
+    assert_eq!(rt;
+        first_other(&Program, &rt, &mut folder, &OF_EVERY_KIND)?,
+        None
+    );
     Ok(())
 }
 
@@ -211,7 +217,10 @@ const OF_THE_SAMPLE: [(&str, u8, &str); 3] = [
 #[test]
 fn a_large_sample_answers(rt: HostRuntime) -> Result<(), Fail> {
     let mut folder = folder_of(&rt, sample_value(rt.alloc(), 20000))?;
-    assert_eq!(rt; first_other(&rt, &mut folder, &OF_THE_SAMPLE)?, None);
+    assert_eq!(rt;
+        first_other(&Program, &rt, &mut folder, &OF_THE_SAMPLE)?,
+        None
+    );
     assert!(rt; folder.get("O") == folder.get("A"));
     Ok(())
 }

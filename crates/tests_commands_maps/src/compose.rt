@@ -1,4 +1,5 @@
 // Two maps made into one, as files.
+use crate::program::Program;
 use ppdb_base::MemoryFolder;
 use std::alloc::{AllocError, Global};
 use std::test::Fail;
@@ -15,7 +16,8 @@ fn composes(rt: &HostRuntime, first: &str, second: &str, want: &str) -> Result<b
     let want = text_of(rt.alloc(), want)?;
     let files = [("F", first.as_bytes()), ("S", second.as_bytes())];
     let mut folder = folder_of(rt.alloc(), &files)?;
-    let done = prints(rt, &["compose", "F", "S", "O"], &mut folder, 0, "")?;
+    let words = ["compose", "F", "S", "O"];
+    let done = prints(&Program, rt, &words, &mut folder, 0, "")?;
     Ok(done && folder.get("O") == Some(want.as_bytes()))
 }
 
@@ -156,7 +158,10 @@ const REFUSED: [(&[&str], u8, &str); 11] = [
 #[test]
 fn refused_maps(rt: HostRuntime) -> Result<(), Fail> {
     let mut folder = folder_of(rt.alloc(), &MAPS)?;
-    assert_eq!(rt; first_other_words(&rt, &mut folder, &REFUSED)?, None);
+    assert_eq!(rt;
+        first_other_words(&Program, &rt, &mut folder, &REFUSED)?,
+        None
+    );
     assert!(rt; folder.get("OUT") == Some(b"as before".as_slice()));
     Ok(())
 }
@@ -164,7 +169,8 @@ fn refused_maps(rt: HostRuntime) -> Result<(), Fail> {
 #[test]
 fn one_file_is_read_and_written(rt: HostRuntime) -> Result<(), Fail> {
     let mut folder = folder_of(rt.alloc(), &MAPS)?;
-    assert!(rt; prints(&rt, &["compose", "f", "f", "f"], &mut folder, 0, "")?);
+    let words = ["compose", "f", "f", "f"];
+    assert!(rt; prints(&Program, &rt, &words, &mut folder, 0, "")?);
     assert!(rt; folder.get("f") == Some(b"ppdbmap 3\n".as_slice()));
     Ok(())
 }
@@ -176,7 +182,8 @@ fn fails_once(rt: &HostRuntime, call: u32, status: u8, text: &str) -> Result<boo
     folder.set("s", b"ppdbmap 2")?;
     folder.fail(call)?;
     let words: &[&str] = &["compose", "f", "s", "o"];
-    let other = first_other_words(rt, &mut folder, &[(words, status, text), (words, 0, "")])?;
+    let rows = [(words, status, text), (words, 0, "")];
+    let other = first_other_words(&Program, rt, &mut folder, &rows)?;
     Ok(other.is_none() && folder.get("o") == Some(b"ppdbmap 3\n".as_slice()))
 }
 

@@ -1,5 +1,6 @@
 // Types that become rows of other tables, and assemblies that become the module's own.
 use crate::moving_files::put_texts;
+use crate::program::Program;
 use crate::row_cases::{Case, files, first_other_case, shows};
 use ppdb_base::MemoryFolder;
 use std::test::Fail;
@@ -288,7 +289,7 @@ fn is_one_step(rt: &HostRuntime, folder: &mut MemoryFolder, steps: &Steps) -> Re
         ("compose f s c", 0, ""),
         (both.as_str(), 0, ""),
     ];
-    let done = first_other(rt, folder, &commands)?.is_none();
+    let done = first_other(&Program, rt, folder, &commands)?.is_none();
     let map = folder.get("c").unwrap_or(b"") == steps.both;
     let same = folder.get("O") == folder.get("P");
     let so = shows(rt, folder, steps.shown, steps.answer)?;

@@ -14,6 +14,8 @@ mod moving_files;
 #[cfg(test)]
 mod naming;
 #[cfg(test)]
+mod program;
+#[cfg(test)]
 mod row_cases;
 #[cfg(test)]
 mod signatures;

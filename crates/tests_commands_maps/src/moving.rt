@@ -1,5 +1,6 @@
 // Files that are moved by maps and joined.
 use crate::moving_files::worked;
+use crate::program::Program;
 use ppdb_base::MemoryFolder;
 use std::alloc::{AllocError, Global};
 use std::test::Fail;
@@ -214,21 +215,21 @@ const REFUSED: [(&str, u8, &str); 19] = [
 #[test]
 fn what_is_moved(rt: HostRuntime) -> Result<(), Fail> {
     let mut folder = worked(rt.alloc())?;
-    assert_eq!(rt; first_other(&rt, &mut folder, &MOVED)?, None);
+    assert_eq!(rt; first_other(&Program, &rt, &mut folder, &MOVED)?, None);
     Ok(())
 }
 
 #[test]
 fn what_is_joined(rt: HostRuntime) -> Result<(), Fail> {
     let mut folder = worked(rt.alloc())?;
-    assert_eq!(rt; first_other(&rt, &mut folder, &JOINED)?, None);
+    assert_eq!(rt; first_other(&Program, &rt, &mut folder, &JOINED)?, None);
     Ok(())
 }
 
 #[test]
 fn what_is_refused(rt: HostRuntime) -> Result<(), Fail> {
     let mut folder = worked(rt.alloc())?;
-    assert_eq!(rt; first_other(&rt, &mut folder, &REFUSED)?, None);
+    assert_eq!(rt; first_other(&Program, &rt, &mut folder, &REFUSED)?, None);
     Ok(())
 }
 
@@ -251,7 +252,7 @@ const WRITTEN: [(&str, usize, usize, &[u8]); 5] = [
 fn first_other_file(rt: &HostRuntime) -> Result<Option<usize>, Fail> {
     let mut folder = worked(rt.alloc())?;
     for (number, &(line, size, place, bytes)) in WRITTEN.iter().enumerate() {
-        let done = ends(rt, line, &mut folder, 0, "")?;
+        let done = ends(&Program, rt, line, &mut folder, 0, "")?;
         let file = folder.get("O").unwrap_or(b"");
         let there = file.get(place..).unwrap_or(b"");
         if !done || file.len() != size || !there.starts_with(bytes) {
@@ -290,7 +291,7 @@ fn has(folder: &MemoryFolder, name: &str, bytes: &[u8]) -> bool {
 /// What a command writes to a file.
 fn written(rt: &HostRuntime, line: &str, name: &str) -> Result<Vec<u8>, Fail> {
     let mut folder = worked(rt.alloc())?;
-    ends(rt, line, &mut folder, 0, "")?;
+    ends(&Program, rt, line, &mut folder, 0, "")?;
     Ok(Vec::from_slice(rt.alloc(), folder.get(name).unwrap_or(b""))?)
 }
 
@@ -305,7 +306,7 @@ fn fails_so(rt: &HostRuntime, line: &str, call: u32, status: u8, text: &str) -> 
     let whole = written(rt, line, name)?;
     let mut folder = worked(rt.alloc())?;
     folder.fail(call)?;
-    let ended = ends(rt, line, &mut folder, status, text)?;
+    let ended = ends(&Program, rt, line, &mut folder, status, text)?;
     let left = folder.get(name).unwrap_or(b"");
     let prefix = whole.starts_with(left) && (left.len() == whole.len()) == (status == 0);
     let before = has(&folder, "B", &SMALL) && (name == "B" || left.is_empty());
@@ -371,7 +372,7 @@ fn is_exchanged(rt: &HostRuntime, variables: usize, status: u8, text: &str) -> R
     let file = of_variables(rt.alloc(), variables)?;
     let map = b"ppdbmap 1\nrows 06 2\nrow 06 1 2\nrow 06 2 1";
     let rows: [(&[&str], u8, &str); 1] = [(&["remap", "F", "change", "O"], status, text)];
-    Ok(first_other_over(rt, &[("F", &file), ("change", map)], &rows)?.is_none())
+    Ok(first_other_over(&Program, rt, &[("F", &file), ("change", map)], &rows)?.is_none())
 }
 
 // The methods are exchanged, so that the scope without variables is the last.

@@ -1,5 +1,6 @@
 // Documents that `document` lines rename, and Source Link records to which a `link` line gives a value.
 use crate::moving_files::{put_parts, worked};
+use crate::program::Program;
 use ppdb_base::MemoryFolder;
 use std::alloc::Global;
 use std::test::Fail;
@@ -338,7 +339,7 @@ fn files(alloc: Global) -> Result<MemoryFolder, Fail> {
 #[test]
 fn names_and_values_that_are_given(rt: HostRuntime) -> Result<(), Fail> {
     let mut folder = files(rt.alloc())?;
-    assert_eq!(rt; first_other(&rt, &mut folder, &GIVEN)?, None);
+    assert_eq!(rt; first_other(&Program, &rt, &mut folder, &GIVEN)?, None);
     assert!(rt; folder.get("O") == folder.get("Q"));
     Ok(())
 }
@@ -347,7 +348,7 @@ fn names_and_values_that_are_given(rt: HostRuntime) -> Result<(), Fail> {
 fn names_and_values_of_two_maps(rt: HostRuntime) -> Result<(), Fail> {
     let mut folder = files(rt.alloc())?;
     for (line, text) in COMPOSED {
-        assert!(rt; ends(&rt, line, &mut folder, 0, "")?);
+        assert!(rt; ends(&Program, &rt, line, &mut folder, 0, "")?);
         assert!(rt; folder.get("O").unwrap_or(b"") == text);
     }
     Ok(())

@@ -1,6 +1,7 @@
 // Worked rows of commands with maps, and what `show` prints then.
 use crate::moving_files::{put_parts, put_texts, worked};
 use crate::naming::FILES as NAMED;
+use crate::program::Program;
 use crate::signatures::SHARED;
 use ppdb_base::{MemoryFolder, MemorySink};
 use std::alloc::Global;
@@ -64,7 +65,7 @@ pub fn shows(
     want: &str,
 ) -> Result<bool, Fail> {
     let mut out = MemorySink::new(rt.alloc());
-    ran(rt, &["show", "O"], folder, &mut out)?;
+    ran(&Program, rt, &["show", "O"], folder, &mut out)?;
     let mut lines = Vec::new(rt.alloc());
     for line in out.as_slice().split(|byte| *byte == b'\n') {
         if begins(line, words) {
@@ -79,9 +80,9 @@ pub fn shows(
 fn comes_so(rt: &HostRuntime, folder: &mut MemoryFolder, case: &Case) -> Result<bool, Fail> {
     put_texts(rt.alloc(), folder, case.maps)?;
     if case.shown.is_empty() {
-        return ends(rt, case.command, folder, 8, case.answer);
+        return ends(&Program, rt, case.command, folder, 8, case.answer);
     }
-    let done = ends(rt, case.command, folder, 0, "")?;
+    let done = ends(&Program, rt, case.command, folder, 0, "")?;
     let so = shows(rt, folder, case.shown, case.answer)?;
     Ok(done && so)
 }

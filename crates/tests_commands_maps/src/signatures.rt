@@ -1,5 +1,6 @@
 // Local signatures that `signature` lines give.
 use crate::moving_files::{put_parts, put_texts, worked};
+use crate::program::Program;
 use ppdb_base::MemoryFolder;
 use std::alloc::Global;
 use std::test::Fail;
@@ -147,14 +148,14 @@ fn files(alloc: Global) -> Result<MemoryFolder, Fail> {
 #[test]
 fn signatures_that_are_given(rt: HostRuntime) -> Result<(), Fail> {
     let mut folder = files(rt.alloc())?;
-    assert_eq!(rt; first_other(&rt, &mut folder, &GIVEN)?, None);
+    assert_eq!(rt; first_other(&Program, &rt, &mut folder, &GIVEN)?, None);
     Ok(())
 }
 
 #[test]
 fn signatures_after_two_steps(rt: HostRuntime) -> Result<(), Fail> {
     let mut folder = files(rt.alloc())?;
-    assert_eq!(rt; first_other(&rt, &mut folder, &STEPS)?, None);
+    assert_eq!(rt; first_other(&Program, &rt, &mut folder, &STEPS)?, None);
     let map = folder.get("C").unwrap_or(b"");
     assert!(rt; map == b"ppdbmap 4\nrows 11 4\nrow 11 1 4\nsignature 2 2\n".as_slice());
     assert!(rt; folder.get("O") == folder.get("P"));

@@ -1,5 +1,6 @@
 // Files that are moved by two maps one after the other, and by the map of both.
 use crate::moving_files::{TWO_METHODS, put_parts, put_texts, worked};
+use crate::program::Program;
 use ppdb_base::MemoryFolder;
 use std::test::Fail;
 use tests_runs::{NOTHING, ONE_METHOD, Parts, first_other};
@@ -194,7 +195,7 @@ fn put_steps(rt: &HostRuntime, case: &Case, folder: &mut MemoryFolder) -> Result
         ("remap half second two --keep-id", 0, ""),
         ("compose first second both", 0, ""),
     ];
-    match first_other(rt, folder, &steps)? {
+    match first_other(&Program, rt, folder, &steps)? {
         None => Ok(()),
         Some(_) => Err(Fail::from(case.both)),
     }
@@ -204,7 +205,7 @@ fn put_steps(rt: &HostRuntime, case: &Case, folder: &mut MemoryFolder) -> Result
 fn comes_true(rt: &HostRuntime, case: &Case) -> Result<bool, Fail> {
     let mut folder = worked(rt.alloc())?;
     put_steps(rt, case, &mut folder)?;
-    let told = first_other(rt, &mut folder, case.told)?.is_none();
+    let told = first_other(&Program, rt, &mut folder, case.told)?.is_none();
     let composed = folder.get("both") == folder.get("want");
     let same = folder.get("one") == folder.get("two");
     Ok(told && composed && same == case.same)

@@ -1,7 +1,6 @@
 //! Rows over several crates: values that are sound or not, what is read of files as a value, and what values are written as.
 #![tactic(auto)]
 
-mod files;
 #[cfg(test)]
 mod limits;
 #[cfg(test)]
@@ -16,5 +15,3 @@ mod samples;
 mod soundness;
 #[cfg(test)]
 mod worked;
-
-pub use files::value;

@@ -1,5 +1,4 @@
 // What is read of worked files, and of two whose scopes own nothing.
-use crate::files::value;
 use crate::worked::{PROGRAM_SLOTS, PROGRAM_STEPS, program_points, small_points};
 use custom_info::Range;
 use ppdb_tables::{MachineRow, Parent};
@@ -11,6 +10,7 @@ use sequence_points::Point;
 use std::process::Abort;
 use std::test::Fail;
 use tests_files::{EMPTY, PROGRAM, SMALL};
+use tests_runs::value;
 
 /// The file of one method with an outer scope that owns `x`, a scope that owns nothing, and one that owns `y`.
 const THREE_SCOPES: [u8; 296] = [
