@@ -38,7 +38,7 @@ pub record CanAllMove (offsets : Offsets) (documents : List ℕ) (points : List 
   pub rise : PointsRise points
   pub each : All (CanMove offsets documents) points
 
--- the new offset of a point that holds up to this end; None if no offset is kept that it holds at, so that it goes
+-- the new offset of a point that holds up to this end; None if no offset is kept that it holds at, so that it is removed
 abbrev pub image_until : Offsets → ℕ → ℕ → Option ℕ
 image_until offsets offset end = cond (is_kept_between offsets offset end) (Some (moved offsets offset)) None
 

@@ -4,6 +4,7 @@ ghost use Rattle.std.specs.Prelude.{◌≡◌, ◌<◌, ◌≤◌, ◌^◌, ◌+
 ghost use Rattle.ppdb_base.specs.Offsets.{old_size};
 ghost use Rattle.sequence_points.specs.declared.point.Point.{Point};
 ghost use Rattle.sequence_points.specs.Points.{common_document};
+ghost use Rattle.sequence_points.specs.MovedPoints.{first_offset};
 ghost use Rattle.sequence_points.specs.Ranges.{IsDocument};
 ghost use Rattle.sequence_points.specs.Written.{CanBeWritten, large_steps};
 ghost use Rattle.ppdb_base.specs.Written.{BeginsWith};
@@ -16,16 +17,17 @@ use crate::writer::Written;
 use ppdb_base::{Bytes, Memory, OffsetImage};
 use sequence_points::{Point, PointCursor, PointError, PointLimits, unsigned_into};
 
-/// The new offset of a point that holds up to `end`, or None if it goes. Most points are at kept offsets: one search finds these.
-fn image_until<G: OffsetImage>(offset: u32, end: u32, image: &G) -> Option<u32>
+/// The new offset of a point before the points that are left, or None if it is removed. Most are at kept offsets: one search finds these.
+fn image_before<G: OffsetImage>(offset: u32, points: &mut Ahead<'_>, image: &G) -> Option<u32>
     requires below { offset < old_size (G.offsets image.now) }
-    requires holds { offset < end }
-    ensures { result ≡ image_until (G.offsets image.now) offset end }
+    requires holds { offset < first_offset 4294967295 points.old }
+    ensures image { result ≡ image_until (G.offsets image.now) offset (first_offset 4294967295 points.old) }
+    ensures points { points.new ≡ points.old }
 {
     if let Some(found) = image.image(offset) {
         return Some(found);
     }
-    if image.kept_between(offset, end) {
+    if image.kept_between(offset, points.end()) {
         image.next_image(offset)
     } else {
         None
@@ -46,13 +48,14 @@ fn moved_point(point: Point, offset: u32, documents: &[u32]) -> Point
 }
 
 /// The next point that is kept, at its image and in its new document.
+#[inline(always)]
 fn next_moved<G: OffsetImage>(points: &mut Ahead<'_>, documents: &[u32], image: &G) -> Option<Point>
     requires points { CanAllMove (G.offsets image.now) documents.now points.old }
     ensures next { moved_in (G.offsets image.now) documents.now points.old ≡ coming result (moved_in (G.offsets image.now) documents.now points.new) }
     ensures points { CanAllMove (G.offsets image.now) documents.now points.new }
 {
-    'points: while let Some((point, end)) = points.pop() {
-        if let Some(offset) = image_until(point.offset, end, image) {
+    'points: while let Some(point) = points.pop() {
+        if let Some(offset) = image_before(point.offset, points, image) {
             return Some(moved_point(point, offset, documents));
         }
     }
