@@ -159,7 +159,7 @@ def free_words(text: str, is_case: Callable[[str], bool]) -> tuple[set[str], set
 
     for part in re.split(r"\n(?=[^\s)}\]])", text):
         kind = re.match(r"(?:pub )?(record|data) ", part)
-        head, *fields = re.split(r"\n  (?=\S)", part) if kind else [part]
+        head, *fields = re.split(r"\n  (?=[^\s)}\]])", part) if kind else [part]
         bound = read(head, set())
         for field in fields:
             name = re.match(r"(?:pub )?(\S+) (?=:)", field)
