@@ -1,8 +1,8 @@
 -- What a lookup of a list of offsets prints, line by line, and how many rows it reads at most (this project's format).
-use Rattle.std.specs.Prelude.{ℕ, List, [], ◌∷◌, Bool, nat_le, ◌&&◌, codes, if◌then◌else◌, flat_map, sum_by}
+use Rattle.std.specs.Prelude.{ℕ, List, [], ◌∷◌, Bool, nat_le, ◌&&◌, if◌then◌else◌, flat_map, sum_by}
 use Rattle.ppdb_tables.specs.RawTables.{RawTables, count}
 use Rattle.ppdb_queries_list.specs.declared.line.MethodOffset.{MethodOffset}
-use Rattle.ppdb_show_lines.specs.{declared.form.Form.Form, Forms.lines_as, Lines.{Line, field, number}}
+use Rattle.ppdb_show_lines.specs.{declared.form.Form.Form, Forms.lines_as, Lines.{Line, line_with, bare, number}}
 use Rattle.ppdb_values.specs.RawFile.{RawFile}
 use Rattle.ppdb_show.specs.{Bound.query_rows, Query.query_lines}
 
@@ -12,13 +12,10 @@ has_method raw method = nat_le 1 method && nat_le method (count raw 0x06)
 
 -- what is asked
 abbrev pub at_line : MethodOffset → Line
-at_line at = record {
-  word = codes "at";
-  fields = field (codes " ") (codes "method") (number at.method) ∷ field (codes " ") (codes "offset") (number at.offset) ∷ [];
-}
+at_line at = line_with "at" (bare "method" (number at.method) ∷ bare "offset" (number at.offset) ∷ [])
 
 abbrev pub no_method_line : ℕ → Line
-no_method_line method = record { word = codes "no method"; fields = field (codes " ") (codes "method") (number method) ∷ [] }
+no_method_line method = line_with "no method" (bare "method" (number method) ∷ [])
 
 -- the lines of the query, or that there is no such method
 abbrev pub found_lines : RawFile → MethodOffset → List Line

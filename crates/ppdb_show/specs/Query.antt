@@ -1,21 +1,18 @@
 -- What a query of an offset of a method prints, line by line, as text or as objects of JSON (this project's format; Portable PDB v1.0, "Metadata Tables").
 use Rattle.ppdb_values.specs.Names.{Point, Range, AsyncStep, ConstantRow, CustomRow, ImportRow, VariableRow, RawTables, row_at}
 use Rattle.std.specs.Prelude.{map, ℕ, List, [], ◌∷◌, ◌++◌, Option, Some, None, Bool, true, false, ◌==◌, codes, unwrap_or, option_map, flat_map}
-use Rattle.ppdb_values.specs.{declared.custom.CustomBody.{CustomBody, TheVariants.{Async, Hoisted, TypeDocuments, Unread}}, declared.scope.VariableValue.VariableValue, Chains.chain_of}
+use Rattle.ppdb_values.specs.{declared.custom.CustomBody.{CustomBody, TheVariants.{Async, Hoisted}}, declared.scope.VariableValue.VariableValue, Chains.chain_of}
 use Rattle.ppdb_values.specs.{Customs.custom_of, Documents.document_of, Imports.import_scope_of, Links.{kickoff_of, move_next_of}, Parts.{points_of, signature_of, last_point}}
 use Rattle.ppdb_values.specs.{RawFile.{RawFile, text, blob, guid as guid_in}, Value.{owned_by, variable_of, value_of}}
 use Rattle.ppdb_queries.specs.{declared.hoisted.Hoisted.Hoisted as HoistedLocal, declared.scopes.ScopeView.ScopeView, Hoisted.hoisted_at, Runs.customs_at, Scopes.scopes_at}
-use Rattle.ppdb_show_lines.specs.{declared.form.Form.Form, Forms.lines_as, Lines.{Line, Content, field, number, guid, octets, name, absent}, Uses.use_line}
+use Rattle.ppdb_show_lines.specs.{declared.form.Form.Form, Forms.lines_as, Lines.{Line, line_with, Content, field, bare, named, number, guid, octets, name, absent}, Uses.use_line}
 use Rattle.ppdb_show.specs.Show.{span_fields}
 
 -- ---- custom records ("CustomDebugInformation Table")
 
 -- the kind, and the value as it is stored
 abbrev pub custom_found : RawTables → CustomRow → Line
-custom_found raw custom = record {
-  word = codes "custom";
-  fields = field (codes " ") (codes "kind") (guid (guid_in raw custom.kind)) ∷ field (codes " ") (codes "value") (octets (blob raw custom.value)) ∷ [];
-}
+custom_found raw custom = line_with "custom" (bare "kind" (guid (guid_in raw custom.kind)) ∷ bare "value" (octets (blob raw custom.value)) ∷ [])
 
 -- the custom records on a row
 abbrev pub customs_on : RawTables → ℕ → ℕ → List (ℕ × CustomRow)
@@ -27,15 +24,11 @@ customs_found raw table row = map (λ custom. custom_found raw custom.1) (custom
 -- ---- the sequence point ("Sequence Points Blob", "Document Table")
 
 abbrev pub no_point_line : Line
-no_point_line = record { word = codes "point"; fields = field (codes " ") (codes "offset") (absent (codes "none")) ∷ [] }
+no_point_line = line_with "point" (bare "offset" (absent (codes "none")) ∷ [])
 
 abbrev pub point_found : Point → ℕ → List ℕ → Line
-point_found point signature document = record {
-  word = codes "point";
-  fields = field (codes " ") (codes "offset") (number point.offset) ∷ field (codes " ") (codes "document") (number point.document)
-      ∷ (span_fields point.span ++ field (codes " signature ") (codes "signature") (number signature) ∷ field (codes " name ") (codes "name")
-      (name document) ∷ []);
-}
+point_found point signature document = line_with "point" (bare "offset" (number point.offset) ∷ bare "document" (number point.document)
+    ∷ (span_fields point.span ++ named "signature" (number signature) ∷ named "name" (name document) ∷ []))
 
 -- the name of a document; in a valid file it is there
 abbrev pub document_name : RawTables → ℕ → List ℕ
@@ -46,33 +39,22 @@ abbrev pub line_of_point : RawFile → ℕ → Option Point → Line
 line_of_point raw m (Some point) = point_found point (signature_of (value_of raw) m) (document_name raw.tables point.document)
 line_of_point raw m None = no_point_line
 
-abbrev pub points_found : RawFile → ℕ → ℕ → List Line
-points_found raw m x = line_of_point raw m (last_point (points_of (value_of raw) m) x) ∷ []
-
 -- ---- scopes that hold the offset ("LocalScope Table", "LocalVariable Table", "LocalConstant Table", "ImportScope Table")
 
 abbrev pub scope_found : Range → Line
-scope_found range = record {
-  word = codes "scope";
-  fields = field (codes " ") (codes "start") (number range.start) ∷ field (codes " ") (codes "end") (number range.end) ∷ [];
-}
+scope_found range = line_with "scope" (bare "start" (number range.start) ∷ bare "end" (number range.end) ∷ [])
 
 abbrev pub variable_found : VariableValue → Line
-variable_found variable = record {
-  word = codes "variable";
-  fields = field (codes " ") (codes "slot") (number variable.slot) ∷ field (codes " ") (codes "attributes") (number variable.attributes)
-      ∷ field (codes " ") (codes "name") (name variable.name) ∷ [];
-}
+variable_found variable = line_with "variable" (bare "slot" (number variable.slot) ∷ bare "attributes" (number variable.attributes)
+    ∷ bare "name" (name variable.name) ∷ [])
 
 -- the signature as it is stored
 abbrev pub constant_found : RawTables → ConstantRow → Line
-constant_found raw constant = record {
-  word = codes "constant";
-  fields = field (codes " ") (codes "signature") (octets (blob raw constant.signature)) ∷ field (codes " ") (codes "name") (name (text raw constant.name)) ∷ [];
-}
+constant_found raw constant = line_with "constant" (bare "signature" (octets (blob raw constant.signature))
+    ∷ bare "name" (name (text raw constant.name)) ∷ [])
 
 abbrev pub import_found : ℕ → Line
-import_found row = record { word = codes "import"; fields = field (codes " ") (codes "row") (number row) ∷ [] }
+import_found row = line_with "import" (bare "row" (number row) ∷ [])
 
 abbrev pub variable_answer : RawTables → ℕ × VariableRow → List Line
 variable_answer raw variable = variable_found (variable_of raw variable.1) ∷ customs_found raw 0x33 variable.0
@@ -105,11 +87,8 @@ scopes_found raw m x = flat_map (scope_answer raw) (scopes_at raw m x)
 -- ---- hoisted locals that hold the offset ("State Machine Hoisted Local Scopes")
 
 abbrev pub hoisted_line : HoistedLocal → Line
-hoisted_line local = record {
-  word = codes "hoisted";
-  fields = field (codes " ") (codes "slot") (number local.slot)
-      ∷ field (codes " ") (codes "start") (number local.range.start) ∷ field (codes " ") (codes "end") (number local.range.end) ∷ [];
-}
+hoisted_line local = line_with "hoisted" (bare "slot" (number local.slot) ∷ bare "start" (number local.range.start)
+    ∷ bare "end" (number local.range.end) ∷ [])
 
 abbrev pub hoisted_lines : RawTables → ℕ → ℕ → List Line
 hoisted_lines raw m x = map hoisted_line (hoisted_at raw m x)
@@ -117,7 +96,7 @@ hoisted_lines raw m x = map hoisted_line (hoisted_at raw m x)
 -- ---- the method ("#Pdb stream": EntryPoint, "StateMachineMethod Table")
 
 abbrev pub entry_lines : Bool → List Line
-entry_lines true = record { word = codes "entry"; fields = [] } ∷ []
+entry_lines true = line_with "entry" [] ∷ []
 entry_lines false = []
 
 -- its key is its word, as in the line of a state machine
@@ -140,21 +119,16 @@ handler_or_none (Some offset) = number offset
 handler_or_none None = absent (codes "-")
 
 abbrev pub async_line : Option ℕ → Line
-async_line handler = record { word = codes "async"; fields = field (codes " ") (codes "handler") (handler_or_none handler) ∷ [] }
+async_line handler = line_with "async" (bare "handler" (handler_or_none handler) ∷ [])
 
 abbrev pub step_line : AsyncStep → Line
-step_line step = record {
-  word = codes "step";
-  fields = field (codes " ") (codes "pause") (number step.pause)
-      ∷ field (codes " ") (codes "resume") (number step.resume) ∷ field (codes " ") (codes "method") (number step.method) ∷ [];
-}
+step_line step = line_with "step" (bare "pause" (number step.pause) ∷ bare "resume" (number step.resume) ∷ bare "method" (number step.method) ∷ [])
 
 -- Stepping information is read, hoisted locals are left out.
 abbrev pub lines_of_body : Line → CustomBody → List Line
 lines_of_body stored (Async handler steps) = async_line handler ∷ map step_line steps
 lines_of_body stored (Hoisted slots) = []
-lines_of_body stored (TypeDocuments documents) = stored ∷ []
-lines_of_body stored (Unread bytes) = stored ∷ []
+lines_of_body stored body = stored ∷ []
 
 abbrev pub lines_of_record : RawTables → ℕ × CustomRow → List Line
 lines_of_record raw custom = lines_of_body (custom_found raw custom.1) (custom_of raw custom.1).value
@@ -165,8 +139,8 @@ record_lines raw m = flat_map (lines_of_record raw) (customs_on raw 0x06 m)
 -- ---- the whole answer
 
 abbrev pub query_lines : RawFile → ℕ → ℕ → List Line
-query_lines raw m x = points_found raw m x
-    ++ (scopes_found raw.tables m x ++ (hoisted_lines raw.tables m x ++ (link_lines raw m ++ record_lines raw.tables m)))
+query_lines raw m x = line_of_point raw m (last_point (points_of (value_of raw) m) x) ∷ (scopes_found raw.tables m x
+    ++ (hoisted_lines raw.tables m x ++ (link_lines raw m ++ record_lines raw.tables m)))
 
 -- What `query` prints.
 unfoldable pub query_text_of : Form → RawFile → ℕ → ℕ → List ℕ

@@ -1,15 +1,14 @@
 -- All rows of a file, line by line (this project's format; Portable PDB v1.0, "#Pdb stream" and "Metadata Tables").
 use Rattle.ppdb_values.specs.Names.{range_with_len, Point, Span, Hidden, Lines, ScopeRow, MachineRow, ConstantRow, CustomRow, RawTables, numbered, count}
 use Rattle.std.specs.Prelude.{map, ℕ, List, [], ◌∷◌, ◌++◌, Option, Some, None, codes, if◌then◌else◌, ◌==◌, unwrap_or, flat_map}
-use Rattle.ppdb_show_lines.specs.{Heads.{id_line, entry_line}, declared.form.Form.Form, Forms.lines_as, Uses.use_line, Lines.{Line, Field, field, mark, number, table, guid, octets, name}}
+use Rattle.ppdb_show_lines.specs.{Heads.{id_line, entry_line}, declared.form.Form.Form, Forms.lines_as, Uses.use_line, Lines.{Line, line_with, Field, field, bare, named, mark, range_fields, number, table, guid, octets, name}}
 use Rattle.ppdb_values.specs.{declared.file.{DocumentValue.DocumentValue, MethodValue.MethodValue}, declared.scope.VariableValue.VariableValue, declared.import.ImportScopeValue.ImportScopeValue}
 use Rattle.ppdb_values.specs.{RawFile.{RawFile, text, blob, guid as guid_in}, Documents.{document_of, method_of}, Imports.import_scope_of, Customs.parent_of, Value.{owner_of, variable_of, range_of}}
 
 -- ---- the head
 
 abbrev pub count_line : ℕ → ℕ → Line
-count_line tt rows =
-    record { word = codes "rows"; fields = field (codes " ") (codes "table") (table tt) ∷ field (codes " ") (codes "count") (number rows) ∷ [] }
+count_line tt rows = line_with "rows" (bare "table" (table tt) ∷ bare "count" (number rows) ∷ [])
 
 -- a table of the type system, where it has rows
 abbrev pub count_lines_of : RawTables → ℕ → List Line
@@ -22,34 +21,18 @@ count_lines raw = flat_map (count_lines_of raw) (range_with_len 0 0x2d)
 -- ---- documents, and methods with their points
 
 abbrev pub document_line : ℕ → DocumentValue → Line
-document_line row document = record {
-  word = codes "document";
-  fields = field (codes " ") (codes "row") (number row)
-      ∷ field (codes " algorithm ") (codes "algorithm") (guid document.algorithm)
-      ∷ field (codes " hash ") (codes "hash") (octets document.hash)
-      ∷ field (codes " language ") (codes "language") (guid document.language)
-      ∷ field (codes " name ") (codes "name") (name document.name) ∷ [];
-}
+document_line row document = line_with "document" (bare "row" (number row) ∷ named "algorithm" (guid document.algorithm)
+    ∷ named "hash" (octets document.hash) ∷ named "language" (guid document.language) ∷ named "name" (name document.name) ∷ [])
 
 abbrev pub span_fields : Span → List Field
 span_fields Hidden = mark (codes " hidden") ∷ []
-span_fields (Lines start_line start_column end_line end_column) =
-    field (codes " ") (codes "start_line") (number start_line)
-    ∷ field (codes ":") (codes "start_column") (number start_column)
-    ∷ field (codes " ") (codes "end_line") (number end_line)
-    ∷ field (codes ":") (codes "end_column") (number end_column) ∷ []
+span_fields (Lines start_line start_column end_line end_column) = range_fields start_line start_column end_line end_column
 
 abbrev pub point_line : Point → Line
-point_line point = record {
-  word = codes "point";
-  fields = field (codes " ") (codes "offset") (number point.offset) ∷ field (codes " ") (codes "document") (number point.document) ∷ span_fields point.span;
-}
+point_line point = line_with "point" (bare "offset" (number point.offset) ∷ bare "document" (number point.document) ∷ span_fields point.span)
 
 abbrev pub method_line : ℕ → ℕ → Line
-method_line method signature = record {
-  word = codes "method";
-  fields = field (codes " ") (codes "method") (number method) ∷ field (codes " signature ") (codes "signature") (number signature) ∷ [];
-}
+method_line method signature = line_with "method" (bare "method" (number method) ∷ named "signature" (number signature) ∷ [])
 
 -- a method that has points, and its points
 abbrev pub lines_of_method : Option MethodValue → List Line
@@ -59,34 +42,17 @@ lines_of_method None = []
 -- ---- scopes, and the variables and constants that they own
 
 abbrev pub scope_line : ℕ → ScopeRow → Line
-scope_line row scope = record {
-  word = codes "scope";
-  fields = field (codes " ") (codes "row") (number row)
-      ∷ field (codes " method ") (codes "method") (number scope.method)
-      ∷ field (codes " import ") (codes "import") (number scope.import)
-      ∷ field (codes " range ") (codes "start") (number (range_of scope).start)
-      ∷ field (codes " ") (codes "end") (number (range_of scope).end) ∷ [];
-}
+scope_line row scope = line_with "scope" (bare "row" (number row) ∷ named "method" (number scope.method) ∷ named "import" (number scope.import)
+    ∷ field (codes " range ") (codes "start") (number (range_of scope).start) ∷ bare "end" (number (range_of scope).end) ∷ [])
 
 abbrev pub variable_line : ℕ → ℕ → VariableValue → Line
-variable_line row scope variable = record {
-  word = codes "variable";
-  fields = field (codes " ") (codes "row") (number row)
-      ∷ field (codes " scope ") (codes "scope") (number scope)
-      ∷ field (codes " slot ") (codes "slot") (number variable.slot)
-      ∷ field (codes " attributes ") (codes "attributes") (number variable.attributes)
-      ∷ field (codes " name ") (codes "name") (name variable.name) ∷ [];
-}
+variable_line row scope variable = line_with "variable" (bare "row" (number row) ∷ named "scope" (number scope)
+    ∷ named "slot" (number variable.slot) ∷ named "attributes" (number variable.attributes) ∷ named "name" (name variable.name) ∷ [])
 
 -- the signature is shown as it is stored
 abbrev pub constant_line : RawTables → ℕ → ℕ → ConstantRow → Line
-constant_line raw row scope constant = record {
-  word = codes "constant";
-  fields = field (codes " ") (codes "row") (number row)
-      ∷ field (codes " scope ") (codes "scope") (number scope)
-      ∷ field (codes " signature ") (codes "signature") (octets (blob raw constant.signature))
-      ∷ field (codes " name ") (codes "name") (name (text raw constant.name)) ∷ [];
-}
+constant_line raw row scope constant = line_with "constant" (bare "row" (number row) ∷ named "scope" (number scope)
+    ∷ named "signature" (octets (blob raw constant.signature)) ∷ named "name" (name (text raw constant.name)) ∷ [])
 
 -- the scope that owns an item; in a valid file there is one
 abbrev pub scope_of_item : (ScopeRow → ℕ) → RawTables → ℕ → ℕ
@@ -95,10 +61,7 @@ scope_of_item list raw item = unwrap_or (owner_of list raw.scopes item) 0
 -- ---- import scopes, and what they import
 
 abbrev pub import_line : ℕ → ℕ → Line
-import_line row parent = record {
-  word = codes "import";
-  fields = field (codes " ") (codes "row") (number row) ∷ field (codes " parent ") (codes "parent") (number parent) ∷ [];
-}
+import_line row parent = line_with "import" (bare "row" (number row) ∷ named "parent" (number parent) ∷ [])
 
 abbrev pub lines_of_import : ℕ → ImportScopeValue → List Line
 lines_of_import row import = import_line row import.parent ∷ map use_line import.imports
@@ -106,23 +69,15 @@ lines_of_import row import = import_line row import.parent ∷ map use_line impo
 -- ---- state machines, and custom debug information
 
 abbrev pub machine_line : ℕ → MachineRow → Line
-machine_line row machine = record {
-  word = codes "machine";
-  fields = field (codes " ") (codes "row") (number row)
-      ∷ field (codes " move ") (codes "move") (number machine.move_next)
-      ∷ field (codes " kickoff ") (codes "kickoff") (number machine.kickoff) ∷ [];
-}
+machine_line row machine = line_with "machine" (bare "row" (number row) ∷ named "move" (number machine.move_next)
+    ∷ named "kickoff" (number machine.kickoff) ∷ [])
 
 -- the value is shown as it is stored
 abbrev pub custom_line : RawTables → ℕ → CustomRow → Line
-custom_line raw row custom = record {
-  word = codes "custom";
-  fields = field (codes " ") (codes "row") (number row)
-      ∷ field (codes " parent ") (codes "parent_table") (table (parent_of custom.parent).table)
-      ∷ field (codes " ") (codes "parent_row") (number (parent_of custom.parent).row)
-      ∷ field (codes " kind ") (codes "kind") (guid (guid_in raw custom.kind))
-      ∷ field (codes " value ") (codes "value") (octets (blob raw custom.value)) ∷ [];
-}
+custom_line raw row custom = line_with "custom" (bare "row" (number row)
+    ∷ field (codes " parent ") (codes "parent_table") (table (parent_of custom.parent).table)
+    ∷ bare "parent_row" (number (parent_of custom.parent).row) ∷ named "kind" (guid (guid_in raw custom.kind))
+    ∷ named "value" (octets (blob raw custom.value)) ∷ [])
 
 -- ---- the rows of each table, by their numbers
 

@@ -3,7 +3,6 @@ pub mod Counted
 pub mod Hexed
 pub mod Keeping
 pub mod Names
-pub mod Ordered
 pub mod Parts
 pub mod Places
 pub mod Printed

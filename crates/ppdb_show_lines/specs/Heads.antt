@@ -1,13 +1,13 @@
 -- The lines of a file's identity and of its entry point (this project's format).
-use Rattle.std.specs.Prelude.{ℕ, ◌+◌, List, [], ◌∷◌, ◌==◌, if◌then◌else◌, codes}
-use Rattle.ppdb_show_lines.specs.Lines.{Line, field, octets, token}
+use Rattle.std.specs.Prelude.{ℕ, ◌+◌, List, [], ◌∷◌, ◌==◌, if◌then◌else◌}
+use Rattle.ppdb_show_lines.specs.Lines.{Line, line_with, bare, octets, token}
 
 -- the token of a MethodDef row, or of no method (ECMA-335 II.22)
 abbrev pub token_of : ℕ → ℕ
 token_of row = if row == 0 then 0 else 0x06000000 + row
 
 abbrev pub id_line : List ℕ → Line
-id_line id = record { word = codes "id"; fields = field (codes " ") (codes "id") (octets id) ∷ [] }
+id_line id = line_with "id" (bare "id" (octets id) ∷ [])
 
 abbrev pub entry_line : ℕ → Line
-entry_line row = record { word = codes "entry"; fields = field (codes " ") (codes "entry") (token (token_of row)) ∷ [] }
+entry_line row = line_with "entry" (bare "entry" (token (token_of row)) ∷ [])

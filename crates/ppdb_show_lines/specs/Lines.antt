@@ -1,5 +1,6 @@
 -- A line that is shown, as text and as an object of JSON (this project's format).
-use Rattle.std.specs.Prelude.{ℕ, List, [], ◌++◌, Option, None, decimal, codes, flat_map, fold}
+use Prim.Native.String.{String}
+use Rattle.std.specs.Prelude.{ℕ, List, [], ◌∷◌, ◌++◌, Option, None, decimal, codes, flat_map, fold}
 use Rattle.ppdb_base.specs.Escaped.{escaped}
 use Rattle.serde_json.specs.{Data.{Data, Members, no_members, null, string, object, unsigned, put, number as json_number}, Written.compact_text}
 use Rattle.ppdb_show_lines.specs.{Pieces.line, Values.{table_text, token_text, guid_text, hex_text}}
@@ -30,6 +31,23 @@ pub data Field : Type 0 where
 pub record Line : Type 0 where
   pub word : List ℕ
   pub fields : List Field
+
+abbrev pub line_with : String → List Field → Line
+line_with word fields = record { word = codes word; fields = fields }
+
+-- content that has no words before it in the text, but a space
+abbrev pub bare : String → Content → Field
+bare key content = field (codes " ") (codes key) content
+
+-- content with its key before it in the text
+abbrev pub named : String → Content → Field
+named key content = field (codes " " ++ (codes key ++ codes " ")) (codes key) content
+
+-- from a line and column to another
+abbrev pub range_fields : (start_line start_column end_line end_column : ℕ) → List Field
+range_fields start_line start_column end_line end_column =
+    bare "start_line" (number start_line) ∷ field (codes ":") (codes "start_column") (number start_column)
+    ∷ bare "end_line" (number end_line) ∷ field (codes ":") (codes "end_column") (number end_column) ∷ []
 
 -- ---- as text
 

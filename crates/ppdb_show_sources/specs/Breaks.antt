@@ -1,16 +1,12 @@
 -- Where a debugger may stop, line by line (this project's format; Portable PDB v1.0, "Sequence Points Blob").
-use Rattle.std.specs.Prelude.{ℕ, List, [], ◌∷◌, codes, map}
-use Rattle.ppdb_show_lines.specs.{declared.form.Form.Form, Forms.lines_as, Lines.{Line, field, number}}
+use Rattle.std.specs.Prelude.{ℕ, List, [], ◌∷◌, ◌++◌, map}
+use Rattle.ppdb_show_lines.specs.{declared.form.Form.Form, Forms.lines_as, Lines.{Line, line_with, bare, range_fields, number}}
 use Rattle.ppdb_values.specs.declared.file.FileValue.{FileValue}
 use Rattle.break_lines.specs.{declared.item.Break.Break, Breaks.breaks_in}
 
 abbrev pub break_line : Break → Line
-break_line found = record {
-  word = codes "break";
-  fields = field (codes " ") (codes "method") (number found.method) ∷ field (codes " ") (codes "offset") (number found.offset)
-      ∷ field (codes " ") (codes "start_line") (number found.start_line) ∷ field (codes ":") (codes "start_column") (number found.start_column)
-      ∷ field (codes " ") (codes "end_line") (number found.end_line) ∷ field (codes ":") (codes "end_column") (number found.end_column) ∷ [];
-}
+break_line found = line_with "break" (bare "method" (number found.method) ∷ bare "offset" (number found.offset)
+    ∷ range_fields found.start_line found.start_column found.end_line found.end_column)
 
 abbrev pub text_of_breaks : Form → List Break → List ℕ
 text_of_breaks form breaks = lines_as form (map break_line breaks)

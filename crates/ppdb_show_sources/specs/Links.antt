@@ -1,7 +1,7 @@
 -- What is reported of the sources of a file, line by line (this project's format).
 use Rattle.ppdb_values.specs.Names.{LinkError, numbered}
 use Rattle.std.specs.Prelude.{ℕ, List, [], ◌∷◌, Option, Some, None, Result, Ok, codes, map}
-use Rattle.ppdb_show_lines.specs.{declared.form.Form.Form, Forms.lines_as, Lines.{Line, Content, field, number, name, absent}}
+use Rattle.ppdb_show_lines.specs.{declared.form.Form.Form, Forms.lines_as, Lines.{Line, line_with, Content, bare, number, name, absent}}
 use Rattle.ppdb_values.specs.declared.file.{DocumentValue.DocumentValue, FileValue.FileValue}
 use Rattle.source_link.specs.{declared.pair.Pair.Pair, Address.address_of, FileLinks.link_record, Record.links_of}
 
@@ -19,10 +19,7 @@ address_or_none None = absent (codes "none")
 address_or_none (Some address) = name address
 
 abbrev pub link_line : ℕ → Option (List ℕ) → Line
-link_line row address = record {
-  word = codes "link";
-  fields = field (codes " ") (codes "row") (number row) ∷ field (codes " ") (codes "address") (address_or_none address) ∷ [];
-}
+link_line row address = line_with "link" (bare "row" (number row) ∷ bare "address" (address_or_none address) ∷ [])
 
 abbrev pub link_of : List Pair → ℕ × DocumentValue → Line
 link_of pairs document = link_line document.0 (address_of document.1.name pairs)

@@ -21,6 +21,7 @@ use ppdb_base::{Bytes, LinkError, List, Sink, Steps, WriteError};
 use ppdb_show_lines::Item::{Absent, Name, Number};
 use ppdb_show_lines::Part::Field;
 use ppdb_show_lines::{Item, Key, Printer};
+use ppdb_tables::DOCUMENT;
 use ppdb_verify::Verified;
 use ppdb_verify_rows::{count, document, joined_name};
 use source_link::{Links, find_link, read_links};
@@ -118,7 +119,7 @@ pub fn put_links<O: Sink, L: Ledger>(
 {
     file.keeps();
     let mut address: Bytes = List::new(printer.alloc);
-    'rows: for row in 1..count(file, 0x30) + 1 {
+    'rows: for row in 1..count(file, DOCUMENT) + 1 {
         put_link(printer, file, links, row, &mut address, out, steps)?;
     }
     Ok(())

@@ -19,7 +19,7 @@ use ppdb_queries::{ImportLink, imports_of};
 use ppdb_show_lines::Item::Number;
 use ppdb_show_lines::Part::Field;
 use ppdb_show_lines::{Key, Printer};
-use ppdb_tables::Parent;
+use ppdb_tables::{IMPORT_SCOPE, Parent};
 use ppdb_verify::Verified;
 use std::sync::ledger::Ledger;
 use type_blobs::ImportCursor;
@@ -65,7 +65,10 @@ fn put_import<L: Ledger>(
         &[Field(" ", Key::Row, Number(row))],
     )?;
     put_uses(printer, text, &mut link.imports)?;
-    let parent = Parent { table: 0x35, row };
+    let parent = Parent {
+        table: IMPORT_SCOPE,
+        row,
+    };
     put_customs(printer, text, file, parent, steps)
 }
 

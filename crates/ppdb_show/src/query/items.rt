@@ -16,7 +16,7 @@ use ppdb_queries::Run;
 use ppdb_show_lines::Item::{Name, Number, Octets};
 use ppdb_show_lines::Part::Field;
 use ppdb_show_lines::{Key, Printer};
-use ppdb_tables::{ConstantRow, Parent, VariableRow};
+use ppdb_tables::{ConstantRow, LOCAL_CONSTANT, LOCAL_VARIABLE, Parent, VariableRow};
 use ppdb_verify::Verified;
 use ppdb_verify_rows::{blob, constant, text as text_of, variable};
 use std::sync::ledger::Ledger;
@@ -54,7 +54,10 @@ fn put_variable<L: Ledger>(
 {
     put_variable_line(printer, text, file, variable)?;
     file.keeps();
-    let parent = Parent { table: 0x33, row };
+    let parent = Parent {
+        table: LOCAL_VARIABLE,
+        row,
+    };
     put_customs(printer, text, file, parent, steps)
 }
 
@@ -116,7 +119,10 @@ fn put_constant<L: Ledger>(
 {
     put_constant_line(printer, text, file, constant)?;
     file.keeps();
-    let parent = Parent { table: 0x34, row };
+    let parent = Parent {
+        table: LOCAL_CONSTANT,
+        row,
+    };
     put_customs(printer, text, file, parent, steps)
 }
 

@@ -17,7 +17,7 @@ use ppdb_queries::customs_of;
 use ppdb_show_lines::Item::{Absent, Number};
 use ppdb_show_lines::Part::Field;
 use ppdb_show_lines::{Item, Key, Printer};
-use ppdb_tables::{CustomRow, Parent};
+use ppdb_tables::{CustomRow, METHOD_DEF, Parent};
 use ppdb_verify::Verified;
 use ppdb_verify_rows::{custom, kind, stepping_of};
 use std::sync::ledger::Ledger;
@@ -129,7 +129,7 @@ pub(crate) fn put_records<L: Ledger>(
     ensures cost { steps.new ≤ steps.old + customs_reads (raw_of (tables_of file.now)) 0x06 method }
 {
     let parent = Parent {
-        table: 0x06,
+        table: METHOD_DEF,
         row: method,
     };
     let run = customs_of(file, parent, steps);

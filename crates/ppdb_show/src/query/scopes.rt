@@ -17,7 +17,7 @@ use ppdb_queries::{ScopeView, scopes_at};
 use ppdb_show_lines::Item::Number;
 use ppdb_show_lines::Part::Field;
 use ppdb_show_lines::{Key, Printer};
-use ppdb_tables::Parent;
+use ppdb_tables::{LOCAL_SCOPE, Parent};
 use ppdb_verify::Verified;
 use std::sync::ledger::Ledger;
 
@@ -44,7 +44,7 @@ fn put_scope<L: Ledger>(
     put_line(printer, text, "scope", &[2, 0, 1], &parts)?;
     file.keeps();
     let parent = Parent {
-        table: 0x32,
+        table: LOCAL_SCOPE,
         row: scope.row,
     };
     put_customs(printer, text, file, parent, steps)?;

@@ -13,13 +13,10 @@ use ppdb_queries::Run;
 use ppdb_show_lines::Item::{Name, Number, Octets};
 use ppdb_show_lines::Part::Field;
 use ppdb_show_lines::{Key, Printer};
-use ppdb_tables::{ScopeRow, Tables};
+use ppdb_tables::{LOCAL_CONSTANT, LOCAL_SCOPE, LOCAL_VARIABLE, ScopeRow, Tables};
 use ppdb_verify::Verified;
 use ppdb_verify_rows::{blob, constant, text, variable};
 use std::sync::ledger::Ledger;
-
-/// The number of the table LocalScope.
-const SCOPES: u8 = 0x32;
 
 /// The tables whose rows belong to scopes.
 #[derive(Clone, Copy)]
@@ -35,8 +32,8 @@ fn table_of(owned: Owned) -> u8
     ensures { result ≡ item_table owned }
 {
     match owned {
-        Owned::Variables => 0x33,
-        Owned::Constants => 0x34,
+        Owned::Variables => LOCAL_VARIABLE,
+        Owned::Constants => LOCAL_CONSTANT,
     }
 }
 
@@ -61,7 +58,7 @@ fn end_of_list<L: Ledger>(
     ensures { result ≡ list_end (list_by owned) (raw_of tables.now).scopes scope (items_of (raw_of tables.now) owned) }
 {
     tables.shape();
-    if scope < tables.rows(SCOPES) {
+    if scope < tables.rows(LOCAL_SCOPE) {
         return list_of(owned, tables.scope(scope + 1, steps));
     }
     tables.rows(table_of(owned)) + 1
@@ -80,7 +77,7 @@ pub(crate) fn put_owned<O: Sink, L: Ledger>(
 {
     file.keeps();
     let tables = file.tables();
-    let scopes = tables.rows(SCOPES);
+    let scopes = tables.rows(LOCAL_SCOPE);
     let mut item = 1;
     let mut scope = 1;
     'lists: while scope <= scopes {

@@ -13,7 +13,9 @@ use ppdb_base::{Sink, Steps, WriteError};
 use ppdb_show_lines::Item::{Guid, Number, Octets, Table};
 use ppdb_show_lines::Part::Field;
 use ppdb_show_lines::{Key, Printer};
-use ppdb_tables::parent_of;
+use ppdb_tables::{
+    CUSTOM, DOCUMENT, IMPORT_SCOPE, LOCAL_SCOPE, METHOD_DEBUG, STATE_MACHINE, parent_of,
+};
 use ppdb_verify::Verified;
 use ppdb_verify_rows::{blob, count, custom, guid, machine, scope};
 use std::sync::ledger::Ledger;
@@ -40,12 +42,12 @@ fn table_of(rows: Rows) -> u8
     ensures { result ≡ number_of rows }
 {
     match rows {
-        Rows::Documents => 0x30,
-        Rows::Methods => 0x31,
-        Rows::Scopes => 0x32,
-        Rows::Imports => 0x35,
-        Rows::Machines => 0x36,
-        Rows::Customs => 0x37,
+        Rows::Documents => DOCUMENT,
+        Rows::Methods => METHOD_DEBUG,
+        Rows::Scopes => LOCAL_SCOPE,
+        Rows::Imports => IMPORT_SCOPE,
+        Rows::Machines => STATE_MACHINE,
+        Rows::Customs => CUSTOM,
     }
 }
 
