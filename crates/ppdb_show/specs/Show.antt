@@ -1,7 +1,8 @@
 -- All rows of a file, line by line (this project's format; Portable PDB v1.0, "#Pdb stream" and "Metadata Tables").
 use Rattle.ppdb_values.specs.Names.{range_with_len, Point, Span, Hidden, Lines, ScopeRow, MachineRow, ConstantRow, CustomRow, RawTables, numbered, count}
 use Rattle.std.specs.Prelude.{map, ℕ, List, [], ◌∷◌, ◌++◌, Option, Some, None, codes, if◌then◌else◌, ◌==◌, unwrap_or, flat_map}
-use Rattle.ppdb_show_lines.specs.{Heads.{id_line, entry_line}, declared.form.Form.Form, Forms.lines_as, Uses.use_line, Lines.{Line, line_with, Field, field, bare, named, mark, range_fields, number, table, guid, octets, name}}
+use Rattle.ppdb_show_lines.specs.{Heads.{id_line, entry_line}, declared.form.Form.Form, Forms.lines_as, Uses.use_line}
+use Rattle.ppdb_show_lines.specs.Lines.{Line, line_with, Field, field, bare, named, mark, range_fields, number, table, guid, octets, name}
 use Rattle.ppdb_values.specs.{declared.file.{DocumentValue.DocumentValue, MethodValue.MethodValue}, declared.scope.VariableValue.VariableValue, declared.import.ImportScopeValue.ImportScopeValue}
 use Rattle.ppdb_values.specs.{RawFile.{RawFile, text, blob, guid as guid_in}, Documents.{document_of, method_of}, Imports.import_scope_of, Customs.parent_of, Value.{owner_of, variable_of, range_of}}
 

@@ -1,5 +1,5 @@
 -- Where a debugger may stop, line by line (this project's format; Portable PDB v1.0, "Sequence Points Blob").
-use Rattle.std.specs.Prelude.{ℕ, List, [], ◌∷◌, ◌++◌, map}
+use Rattle.std.specs.Prelude.{ℕ, List, ◌∷◌, map}
 use Rattle.ppdb_show_lines.specs.{declared.form.Form.Form, Forms.lines_as, Lines.{Line, line_with, bare, range_fields, number}}
 use Rattle.ppdb_values.specs.declared.file.FileValue.{FileValue}
 use Rattle.break_lines.specs.{declared.item.Break.Break, Breaks.breaks_in}
