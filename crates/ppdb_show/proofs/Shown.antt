@@ -7,7 +7,7 @@ use Rattle.ppdb_tables.specs.RawTables.{RawTables}
 use Rattle.ppdb_queries.specs.declared.run.Run.{Run}
 use Rattle.ppdb_queries.specs.Runs.{rows_in, customs_at}
 use Rattle.ppdb_show_lines.specs.declared.form.Form.{Form}
-use Rattle.ppdb_show.specs.Query.{custom_found, customs_found, customs_on, lines_of_record, record_lines}
+use Rattle.ppdb_show.specs.Query.{custom_found, customs_found, customs_on, lines_of_record}
 use Rattle.ppdb_show.specs.QueryWalk.{Adds}
 use Rattle.ppdb_show.proofs.Added.{lines_each, one_each, adds_same}
 
@@ -23,5 +23,5 @@ pub customs_many : (raw : RawTables) (parent : Parent) (run : Run) → rows_in r
 customs_many raw parent run all = one_each (rows_in run raw.customs) ∙ ap length all
 
 pub records_all : (form : Form) (raw : RawTables) (m : ℕ) (run : Run) (old new : List ℕ) → rows_in run raw.customs ≡ customs_on raw 0x06 m
-    → Adds form old new (flat_map (lines_of_record raw) (rows_in run raw.customs)) → Adds form old new (record_lines raw m)
+    → Adds form old new (flat_map (lines_of_record raw) (rows_in run raw.customs)) → Adds form old new (flat_map (lines_of_record raw) (customs_on raw 0x06 m))
 records_all form raw m run old new all h = adds_same form old new _ _ (ap (flat_map (lines_of_record raw)) all) h

@@ -81,17 +81,11 @@ scope_answer raw scope = scope_found scope.range ∷ (customs_found raw 0x32 sco
     ++ (flat_map (constant_answer raw) (constants_of raw scope)
     ++ flat_map (import_answer raw) (imports_of raw scope))))
 
-abbrev pub scopes_found : RawTables → ℕ → ℕ → List Line
-scopes_found raw m x = flat_map (scope_answer raw) (scopes_at raw m x)
-
 -- ---- hoisted locals that hold the offset ("State Machine Hoisted Local Scopes")
 
 abbrev pub hoisted_line : HoistedLocal → Line
 hoisted_line local = line_with "hoisted" (bare "slot" (number local.slot) ∷ bare "start" (number local.range.start)
     ∷ bare "end" (number local.range.end) ∷ [])
-
-abbrev pub hoisted_lines : RawTables → ℕ → ℕ → List Line
-hoisted_lines raw m x = map hoisted_line (hoisted_at raw m x)
 
 -- ---- the method ("#Pdb stream": EntryPoint, "StateMachineMethod Table")
 
@@ -133,14 +127,12 @@ lines_of_body stored body = stored ∷ []
 abbrev pub lines_of_record : RawTables → ℕ × CustomRow → List Line
 lines_of_record raw custom = lines_of_body (custom_found raw custom.1) (custom_of raw custom.1).value
 
-abbrev pub record_lines : RawTables → ℕ → List Line
-record_lines raw m = flat_map (lines_of_record raw) (customs_on raw 0x06 m)
-
 -- ---- the whole answer
 
 abbrev pub query_lines : RawFile → ℕ → ℕ → List Line
-query_lines raw m x = line_of_point raw m (last_point (points_of (value_of raw) m) x) ∷ (scopes_found raw.tables m x
-    ++ (hoisted_lines raw.tables m x ++ (link_lines raw m ++ record_lines raw.tables m)))
+query_lines raw m x = line_of_point raw m (last_point (points_of (value_of raw) m) x)
+    ∷ (flat_map (scope_answer raw.tables) (scopes_at raw.tables m x)
+    ++ (map hoisted_line (hoisted_at raw.tables m x) ++ (link_lines raw m ++ flat_map (lines_of_record raw.tables) (customs_on raw.tables 0x06 m))))
 
 -- What `query` prints.
 unfoldable pub query_text_of : Form → RawFile → ℕ → ℕ → List ℕ

@@ -8,12 +8,10 @@ use Rattle.ppdb_values.specs.{RawFile.{RawFile, text, blob, guid as guid_in}, Do
 
 -- ---- the head
 
-abbrev pub count_line : ℕ → ℕ → Line
-count_line tt rows = line_with "rows" (bare "table" (table tt) ∷ bare "count" (number rows) ∷ [])
-
 -- a table of the type system, where it has rows
 abbrev pub count_lines_of : RawTables → ℕ → List Line
-count_lines_of raw tt = if count raw tt == 0 then [] else count_line tt (count raw tt) ∷ []
+count_lines_of raw tt =
+    if count raw tt == 0 then [] else line_with "rows" (bare "table" (table tt) ∷ bare "count" (number (count raw tt)) ∷ []) ∷ []
 
 -- the tables 00 to 2c
 unfoldable pub count_lines : RawTables → List Line
@@ -115,9 +113,6 @@ abbrev pub row_lines : RawTables → List Line
 row_lines raw = document_lines raw ++ (method_lines raw ++ (scope_lines raw ++ (variable_lines raw ++ (constant_lines raw
     ++ (import_lines raw ++ (machine_lines raw ++ custom_lines raw))))))
 
-abbrev pub show_lines : RawFile → List Line
-show_lines raw = head_lines raw ++ row_lines raw.tables
-
 -- What `show` prints.
 abbrev pub show_text_of : Form → RawFile → List ℕ
-show_text_of form raw = lines_as form (show_lines raw)
+show_text_of form raw = lines_as form (head_lines raw ++ row_lines raw.tables)

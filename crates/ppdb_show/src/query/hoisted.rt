@@ -1,9 +1,10 @@
 // The lines of the hoisted locals that hold an offset.
-ghost use Rattle.std.specs.Prelude.{◌+◌, ◌≤◌, OnOk};
+ghost use Rattle.std.specs.Prelude.{◌+◌, ◌≤◌, map, OnOk};
 ghost use Rattle.ppdb_tables.specs.RawOf.{raw_of};
 ghost use Rattle.ppdb_values.specs.Rules.{HasRow};
 ghost use Rattle.ppdb_verify.specs.Views.{tables_of};
-ghost use Rattle.ppdb_show.specs.Query.{hoisted_lines};
+ghost use Rattle.ppdb_queries.specs.Hoisted.{hoisted_at as all_hoisted};
+ghost use Rattle.ppdb_show.specs.Query.{hoisted_line};
 ghost use Rattle.ppdb_show.specs.QueryWalk.{Adds, customs_reads};
 
 use crate::query::text::put_line;
@@ -25,7 +26,7 @@ pub(crate) fn put_hoisted<L: Ledger>(
     steps: &mut Steps<L>,
 ) -> Result<(), Memory>
     requires { HasRow (raw_of (tables_of file.now)) 0x06 method }
-    ensures ok { OnOk result (Adds printer.entry.form text.old text.new (hoisted_lines (raw_of (tables_of file.now)) method offset)) }
+    ensures ok { OnOk result (Adds printer.entry.form text.old text.new (map hoisted_line (all_hoisted (raw_of (tables_of file.now)) method offset))) }
     ensures cost { steps.new ≤ steps.old + customs_reads (raw_of (tables_of file.now)) 0x06 method }
 {
     let Ok(mut locals) = hoisted_at(file, method, offset, steps) else {

@@ -1,12 +1,12 @@
 // The lines of the custom records on a method.
-ghost use Rattle.std.specs.Prelude.{◌≡◌, ◌+◌, ◌≤◌, ◌<◌, [], ◌∷◌, map, OnOk, None, Some};
+ghost use Rattle.std.specs.Prelude.{◌≡◌, ◌+◌, ◌≤◌, ◌<◌, [], ◌∷◌, map, flat_map, OnOk, None, Some};
 ghost use Rattle.ppdb_tables.specs.RawOf.{raw_of};
 ghost use Rattle.ppdb_tables.specs.RawTables.{row_at};
 ghost use Rattle.ppdb_values.specs.Rules.{HasRow};
 ghost use Rattle.ppdb_verify.specs.Views.{tables_of};
 ghost use Rattle.ppdb_verify_rows.specs.Customs.{IsOfKind};
 ghost use Rattle.ppdb_show_lines.specs.Views.{content_of};
-ghost use Rattle.ppdb_show.specs.Query.{async_line, handler_or_none, step_line, lines_of_record, record_lines};
+ghost use Rattle.ppdb_show.specs.Query.{async_line, handler_or_none, step_line, lines_of_record, customs_on};
 ghost use Rattle.ppdb_show.specs.QueryWalk.{Adds, customs_reads};
 
 use crate::query::customs::put_custom;
@@ -124,7 +124,8 @@ pub(crate) fn put_records<L: Ledger>(
     steps: &mut Steps<L>,
 ) -> Result<(), Memory>
     requires { HasRow (raw_of (tables_of file.now)) 0x06 method }
-    ensures ok { OnOk result (Adds printer.entry.form text.old text.new (record_lines (raw_of (tables_of file.now)) method)) }
+    ensures ok { OnOk result (Adds printer.entry.form text.old text.new
+        (flat_map (lines_of_record (raw_of (tables_of file.now))) (customs_on (raw_of (tables_of file.now)) 0x06 method))) }
     ensures later { steps.old ≤ steps.new }
     ensures cost { steps.new ≤ steps.old + customs_reads (raw_of (tables_of file.now)) 0x06 method }
 {

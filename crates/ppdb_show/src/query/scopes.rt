@@ -1,10 +1,11 @@
 // The lines of the scopes that hold an offset.
-ghost use Rattle.std.specs.Prelude.{◌+◌, ◌≤◌, OnOk};
+ghost use Rattle.std.specs.Prelude.{◌+◌, ◌≤◌, flat_map, OnOk};
 ghost use Rattle.ppdb_tables.specs.RawOf.{raw_of};
 ghost use Rattle.ppdb_values.specs.Rules.{HasRow};
 ghost use Rattle.ppdb_verify.specs.Views.{tables_of};
+ghost use Rattle.ppdb_queries.specs.Scopes.{scopes_at as all_scopes};
 ghost use Rattle.ppdb_show.specs.Noted.{IsNotedText};
-ghost use Rattle.ppdb_show.specs.Query.{scope_answer, scopes_found};
+ghost use Rattle.ppdb_show.specs.Query.{scope_answer};
 ghost use Rattle.ppdb_show.specs.QueryWalk.{Adds, IsViewOf, scope_reads, scopes_reads};
 
 use crate::query::customs::put_customs;
@@ -66,7 +67,8 @@ pub(crate) fn put_scopes<L: Ledger>(
     requires there { HasRow (raw_of (tables_of file.now)) 0x06 method }
     requires known { IsNotedText printer.form (raw_of (tables_of file.now)) noted.old }
     ensures known { IsNotedText printer.entry.form (raw_of (tables_of file.now)) noted.new }
-    ensures ok { OnOk result (Adds printer.entry.form text.old text.new (scopes_found (raw_of (tables_of file.now)) method offset)) }
+    ensures ok { OnOk result (Adds printer.entry.form text.old text.new
+        (flat_map (scope_answer (raw_of (tables_of file.now))) (all_scopes (raw_of (tables_of file.now)) method offset))) }
     ensures later { steps.old ≤ steps.new }
     ensures cost { steps.new ≤ steps.old + scopes_reads (raw_of (tables_of file.now)) method offset }
 {
