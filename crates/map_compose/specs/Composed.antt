@@ -25,14 +25,12 @@ count_entry f s table = option_map (λ rows. record { table = table; rows = rows
 -- what the second map makes of the first's image; what is gone or missing by the first stays so
 abbrev pub image_then : Map → RowImage → RowImage
 image_then s (Row table row) = row_image s table row
-image_then s Gone = Gone
-image_then s Missing = Missing
+image_then s image = image
 
 -- an assembly (AssemblyRef, table 23) becomes no row of Assembly (table 20) but row 1
 abbrev pub own_assembly : ℕ → RowImage → RowImage
 own_assembly table (Row to row) = cond (nat_eq table 0x23 && (nat_eq to 0x20 && not (nat_eq row 1))) Missing (Row to row)
-own_assembly table Gone = Gone
-own_assembly table Missing = Missing
+own_assembly table image = image
 
 -- the image of the image
 abbrev pub composed_image : Map → Map → ℕ → ℕ → RowImage
@@ -54,18 +52,15 @@ sources_of f s table = sources (count_of f table) (count_of s table) f s table
 -- the line of a row with this image, of each form
 abbrev pub row_lined : ℕ → ℕ → RowImage → Option RowLine
 row_lined table old (Row to new) = cond (nat_eq to table) (Some (record { table = table; old = old; new = new })) None
-row_lined table old Gone = None
-row_lined table old Missing = None
+row_lined table old image = None
 
 abbrev pub cross_lined : ℕ → ℕ → RowImage → Option CrossLine
 cross_lined table old (Row to new) = cond (nat_eq to table) None (Some (record { table = table; old = old; to = to; new = new }))
-cross_lined table old Gone = None
-cross_lined table old Missing = None
+cross_lined table old image = None
 
 abbrev pub gone_lined : ℕ → ℕ → RowImage → Option GoneLine
-gone_lined table old (Row to new) = None
 gone_lined table old Gone = Some (record { table = table; old = old })
-gone_lined table old Missing = None
+gone_lined table old image = None
 
 abbrev pub row_entries : Map → Map → ℕ → List RowLine
 row_entries f s table = filter_map (λ old. row_lined table old (composed_image f s table old)) (sources_of f s table)
