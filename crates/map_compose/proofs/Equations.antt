@@ -22,7 +22,7 @@ use Rattle.map_compose.specs.Runs.{met, longest}
 use Rattle.map_compose.specs.Composed.{tables, composed_count, count_entry, image_then, own_assembly, composed_image, composed_row, sources, sources_of, row_lined, cross_lined}
 use Rattle.map_compose.specs.Composed.{gone_lined, row_entries, cross_entries, gone_entries, spoken_of, of_image, drops_one}
 use Rattle.map_compose.specs.Composed.{has_image, second_line, composed_runs, sized, composed_line, has_slot_lines, composed_slot, slot_sources, slot_entry}
-use Rattle.map_compose.specs.Composed.{slot_entries, slotted_methods, second_offsets, composed, signature_then, composed_signature, signature_entry, signed}
+use Rattle.map_compose.specs.Composed.{slot_entries, slotted_methods, composed, signature_then, composed_signature, signature_entry, signed}
 use Rattle.ppdb_maps.specs.Readable.{IsReadable, IsCount}
 use Rattle.ppdb_maps.specs.Says.{sizes_of}
 use Rattle.map_compose.specs.Composition.{Follows, ComposedComposes, sizes_then}
@@ -726,7 +726,7 @@ apart : (f s : Map) (m : ℕ) (line : MethodLine) → method_line (composed f s)
 apart f s m line is = of (has_image f s m) (sym (lines_are f s m) ∙ is)
   where
     runs : Apart (composed_runs f s m)
-    runs = runs_compose.longest_apart (met (kept_runs (offsets_in f m)) (kept_runs (second_offsets f s m)))
+    runs = runs_compose.longest_apart (met (kept_runs (offsets_in f m)) (kept_runs (of_image every (offsets_in s) (row_within f 0x06 m))))
 
     by : (a b : Option MethodLine) → sized m (composed_runs f s m) a b ≡ Some line → Apart line.runs
     by None None at = absurd (cc)

@@ -2,7 +2,7 @@
 use Rattle.std.specs.Prelude.{ℕ, ◌&&◌, ◌||◌, not, Bool, false, cond, nat_eq, List, [], ◌++◌, Option, Some, None, is_some, map, filter, filter_map, flat_map, option_map, option_and_then}
 use Rattle.std.specs.{List.range_with_len}
 use Rattle.std.specs.Option.{option_or}
-use Rattle.ppdb_base.specs.{declared.offsets.Run.Run, Offsets.{Offsets, every, kept_runs}}
+use Rattle.ppdb_base.specs.{declared.offsets.Run.Run, Offsets.{every, kept_runs}}
 use Rattle.ppdb_maps.specs.declared.entries.{Count.Count, RowLine.RowLine, CrossLine.CrossLine, GoneLine.GoneLine, SlotImage.SlotImage, SignatureImage.SignatureImage, NameLine.NameLine}
 use Rattle.ppdb_maps.specs.declared.image.RowImage.{RowImage, TheVariants.{Row, Gone, Missing}}
 use Rattle.ppdb_maps.specs.Map.{Map, MethodLine, count_of, row_within, row_image, method_line, is_dropped, has_slots, slot_image, offsets_in, rows_of, slots_of}
@@ -95,12 +95,9 @@ has_image f s method = is_some (composed_row f s 0x06 method)
 abbrev pub second_line : Map → Map → ℕ → Option MethodLine
 second_line f s method = of_image None (method_line s) (row_within f 0x06 method)
 
-abbrev pub second_offsets : Map → Map → ℕ → Offsets
-second_offsets f s method = of_image every (offsets_in s) (row_within f 0x06 method)
-
 -- the offsets that both keep
 abbrev pub composed_runs : Map → Map → ℕ → List Run
-composed_runs f s method = longest (met (kept_runs (offsets_in f method)) (kept_runs (second_offsets f s method)))
+composed_runs f s method = longest (met (kept_runs (offsets_in f method)) (kept_runs (of_image every (offsets_in s) (row_within f 0x06 method))))
 
 -- the old size is that of the first line, the new size that of the second, where they are there
 abbrev pub sized : ℕ → List Run → Option MethodLine → Option MethodLine → Option MethodLine

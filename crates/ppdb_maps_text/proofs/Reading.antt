@@ -29,7 +29,7 @@ use Rattle.ppdb_maps.proofs.Refusing.{link_keeps}
 use Rattle.ppdb_maps.proofs.OneMap.{same_number, pair_is, pair_total}
 use Rattle.ppdb_maps_text.specs.Laws.{TextsAreRead}
 use Rattle.ppdb_maps_text.specs.MapTexts.{version_of, head_text, line_text, shares_says, link_says, image_says, olds_of, slot_says, signature_says, count_says}
-use Rattle.ppdb_maps_text.specs.MapTexts.{slots_say, method_says, map_says, map_lines}
+use Rattle.ppdb_maps_text.specs.MapTexts.{slots_say, method_says, map_says}
 use Rattle.ppdb_maps_text.proofs.Ahead.{ahead_same, ahead_of_same, starts, ends, starts_of, ends_of, one_of}
 use Rattle.ppdb_maps_text.proofs.Got.{Got, NoMethods, RowKey, key_of, no_value, there_if, SameImage, add_count, add_row, add_cross, add_gone, add_drop, add_slots, add_slot}
 use Rattle.ppdb_maps_text.proofs.Got.{add_signature, add_document}
@@ -405,7 +405,7 @@ texts_are_read = λ m is.
       rest = map line_text (map_says m);
       version = version_of m;
       said = g.said;
-      lines = lines_ended (map_lines m) (head_is_plain (version_of m), subst (AllByRecursion IsPlain) texts g.plain);
+      lines = lines_ended (head_text (version_of m) ∷ map line_text (map_says m)) (head_is_plain (version_of m), subst (AllByRecursion IsPlain) texts g.plain);
       begins = head_is m;
       read = subst (λ t. Read (version_of m) t g.said) texts g.read;
       holds_what = read_holds m is g;

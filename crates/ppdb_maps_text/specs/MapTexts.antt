@@ -101,12 +101,9 @@ version_of m = cond (has_newer m) 4 3
 abbrev pub head_text : ℕ → List ℕ
 head_text version = codes "ppdbmap " ++ (48 + version) ∷ []
 
-abbrev pub map_lines : Map → List (List ℕ)
-map_lines m = head_text (version_of m) ∷ map line_text (map_says m)
-
 -- each line is ended by LF
 abbrev pub ended : List ℕ → List ℕ
 ended line = line ++ 10 ∷ []
 
 abbrev pub map_text : Map → List ℕ
-map_text m = flat_map ended (map_lines m)
+map_text m = flat_map ended (head_text (version_of m) ∷ map line_text (map_says m))
