@@ -130,8 +130,8 @@ lines_of_record raw custom = lines_of_body (custom_found raw custom.1) (custom_o
 -- ---- the whole answer
 
 abbrev pub query_lines : RawFile → ℕ → ℕ → List Line
-query_lines raw m x = line_of_point raw m (last_point (points_of (value_of raw) m) x)
-    ∷ (flat_map (scope_answer raw.tables) (scopes_at raw.tables m x)
+query_lines raw m x = line_of_point raw m (last_point (points_of (value_of raw) m) x) ∷ []
+    ++ (flat_map (scope_answer raw.tables) (scopes_at raw.tables m x)
     ++ (map hoisted_line (hoisted_at raw.tables m x) ++ (link_lines raw m ++ flat_map (lines_of_record raw.tables) (customs_on raw.tables 0x06 m))))
 
 -- What `query` prints.
