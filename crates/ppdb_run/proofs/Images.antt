@@ -9,7 +9,7 @@ use Rattle.ppdb_maps.specs.declared.entries.CrossLine.{CrossLine}
 use Rattle.ppdb_maps.specs.declared.image.RowImage.{RowImage}
 use Rattle.ppdb_maps.specs.declared.image.RowImage.TheVariants.{Row, Missing}
 use Rattle.ppdb_maps.specs.Forms.{Crosses, IsTypeTable}
-use Rattle.ppdb_maps.specs.Map.{Map, count_of, cross_line, has_gone_line, is_dropped, is_gone, line_image, row_image, row_line, row_within, told_image}
+use Rattle.ppdb_maps.specs.Map.{Map, count_of, cross_line, has_gone_line, is_dropped, is_gone, line_image, row_image, row_line, told_image}
 use Rattle.ppdb_maps.specs.Readable.{IsReadable, IsCount, IsCrossOf}
 use Rattle.ppdb_merge_items.specs.NamedRows.{is_gone_row}
 
@@ -99,26 +99,3 @@ same_image m ready table a b to image other number is also keys =
     by (inl one) (inr two) = let p = two.0 in let q = two.1 in (omega (arith, one, p, q, keys), omega (arith, one, p, q, keys))
     by (inr one) (inl two) = let p = one.0 in let q = one.1 in (omega (arith, two, p, q, keys), omega (arith, two, p, q, keys))
     by (inr one) (inr two) = let p = one.1 in let q = two.1 in (omega (arith, p, q, keys), omega (arith, p, q, keys))
-
--- ---- the row of the same table
-
--- where a row becomes a row of the same table, that is its image
-pub within_is : (m : Map) (table row image : ℕ) → row_within m table row ≡ Some image → row_image m table row ≡ Row table image
-within_is m table row image is = by_drop (nat_eq table 0x06 && is_dropped m row) is
-  where
-    some_of : (a b : ℕ) → Some a ≡ Some b → a ≡ b
-    some_of a b e = cc
-
-    by_row : (r : Option ℕ) → r ≡ Some image → told_image table r (cross_line m table row) (has_gone_line m table row) ≡ Row table image
-    by_row None e = absurd cc
-    by_row (Some new) e = ap (Row table) (some_of new image e)
-
-    by_count : (c : Option ℕ) → elim c as (λ _. Option ℕ) [ None ↦ Some row | Some count ↦ row_line m table row ] ≡ Some image
-        → elim c as (λ _. RowImage) [ None ↦ Row table row | Some count ↦ line_image m table row ] ≡ Row table image
-    by_count None e = ap (Row table) (some_of row image e)
-    by_count (Some count) e = by_row (row_line m table row) e
-
-    by_drop : (b : Bool) → cond b None (elim (count_of m table) as (λ _. Option ℕ) [ None ↦ Some row | Some count ↦ row_line m table row ]) ≡ Some image
-        → cond b Missing (elim (count_of m table) as (λ _. RowImage) [ None ↦ Row table row | Some count ↦ line_image m table row ]) ≡ Row table image
-    by_drop true e = absurd cc
-    by_drop false e = by_count (count_of m table) e

@@ -23,15 +23,16 @@ use Rattle.ppdb_merge_meaning_laws.specs.Origins.{KeepsOrigins, InputsKeepOrigin
 use Rattle.ppdb_merge_unmoved_laws.specs.NoLines.{SoundFilesStay, left_alone}
 use Rattle.ppdb_merge_fits.specs.Laws.{NothingClashes}
 use Rattle.ppdb_merge.specs.declared.trace.Trace.{Trace}
+use Rattle.ppdb_merge.specs.Inputs.{IsFitting, ReadInput, moved_by, trace_by, traces_of, turns}
+use Rattle.ppdb_merge.specs.Laws.{AddedInputsFit}
 use Rattle.ppdb_merge.specs.Merged.{moved_files}
 use Rattle.ppdb_merge.specs.Together.{joined_of, misfit_of, value_unless}
 use Rattle.ppdb_merge.proofs.Adding.{joined_sound}
-use Rattle.ppdb_run.specs.Inputs.{AreJoinedTo, ReadInput, moved_by}
-use Rattle.ppdb_run.specs.MeaningLaws.{AddedInputsFit, HasKnownKinds, InputsAreWritten, JoinedFilesKeepInputs, JoinedKindsAreKnown, KeepsInputs}
+use Rattle.ppdb_merge.proofs.Turns.{all_fit}
+use Rattle.ppdb_run.specs.MeaningLaws.{AreJoinedTo, HasKnownKinds, InputsAreWritten, JoinedFilesKeepInputs, JoinedKindsAreKnown, KeepsInputs}
 use Rattle.ppdb_run.specs.MeaningLaws.{ReadInputsAreValid, RebuiltFilesKeepThemselves, SaysButForId}
 use Rattle.ppdb_run.proofs.KnownKinds.{KnownFile, joined_known, value_known}
 use Rattle.ppdb_run.proofs.MovedKinds.{moved_known}
-use Rattle.ppdb_run.proofs.Turns.{Fitting, all_fit, trace_by, traces_of, turns}
 
 -- what is joined is the value of the joined files
 pub value_is : (traces : List Trace) (value : FileValue) → joined_of traces ≡ Ok value → value_of_annotated (joined (moved_files traces)) ≡ value
@@ -88,7 +89,7 @@ kinds_known sounds annotated named clashes marks inputs value are =
     let files : Each (KnownFile marks) (moved_files (traces_of inputs)) =
     Each-map (λ (t : Trace). t.moved) (KnownFile marks) (traces_of inputs)
     (Each-map trace_by (λ (t : Trace). KnownFile marks t.moved) (turns inputs)
-    (Each-weaker (Fitting marks) (λ x. KnownFile marks (trace_by x).moved)
+    (Each-weaker (IsFitting marks) (λ x. KnownFile marks (trace_by x).moved)
     (λ x fits. moved_known marks x.1.map fits.valid.ready (value_of x.1.raw) fits.clash.known) (turns inputs) fit.1.each)) in
     subst (HasKnownKinds marks) (ap (λ l. value_of_annotated (joined (moved_files l))) (sym fit.0) ∙ value_is are.traces value are.joined)
     (value_known marks (joined (moved_files (traces_of inputs))) (joined_known marks (moved_files (traces_of inputs)) files))

@@ -27,5 +27,4 @@ pub mod SilentRows
 pub mod Keeping
 pub mod KnownKinds
 pub mod MovedKinds
-pub mod Turns
 pub mod Images

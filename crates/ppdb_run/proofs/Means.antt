@@ -18,6 +18,7 @@ use Rattle.ppdb_maps.specs.Map.{Map}
 use Rattle.ppdb_maps.specs.Text.{IsMapOf}
 use Rattle.ppdb_merge.specs.declared.trace.Trace.{Trace}
 use Rattle.ppdb_merge_fits.specs.Clashes.{is_unknown}
+use Rattle.ppdb_merge.specs.Inputs.{AreAdded, IsValidInput, ReadInput, moved_by}
 use Rattle.ppdb_merge.specs.Refusals.{added}
 use Rattle.ppdb_merge.specs.Together.{joined_of}
 use Rattle.ppdb_merge_items.specs.Each.{Each}
@@ -30,8 +31,7 @@ use Rattle.ppdb_verify.specs.Files.{FileFaults, IsRawOf}
 use Rattle.ppdb_verify_valid_laws.proofs.ValidFiles.{valid_keeps}
 use Rattle.ppdb_merge_unmoved_laws.specs.NoLines.{left_alone}
 use Rattle.ppdb_run.specs.Joined.{IsJoinedFile}
-use Rattle.ppdb_run.specs.Inputs.{AreAdded, AreJoinedTo, IsValidInput, ReadInput, moved_by}
-use Rattle.ppdb_run.specs.MeaningLaws.{HasKnownKinds, JoinedFilesKeepInputs, JoinedKindsAreKnown, KeepsInputs, ReadInputsAreValid}
+use Rattle.ppdb_run.specs.MeaningLaws.{AreJoinedTo, HasKnownKinds, JoinedFilesKeepInputs, JoinedKindsAreKnown, KeepsInputs, ReadInputsAreValid}
 use Rattle.ppdb_run.specs.MeaningLaws.{RebuiltFilesKeepThemselves, SaysButForId}
 use Rattle.ppdb_run_stops.specs.declared.stop.Stop.{Stop}
 use Rattle.ppdb_run.specs.Ends.{OnAsked, OnTask, RebuildsToItself, RebuildsWhereKnown, WritesAgain}

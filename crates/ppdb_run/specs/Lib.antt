@@ -1,6 +1,5 @@
 pub mod Ends
 pub mod Holding
-pub mod Inputs
 pub mod MeaningLaws
 pub mod Means
 pub mod Outcome

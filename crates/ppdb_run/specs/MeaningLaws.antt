@@ -1,6 +1,6 @@
 -- What a file that is written says, by what its inputs said.
 use Rattle.ppdb_values.specs.Names.{kind_of, Unknown, IsAccepted}
-use Rattle.std.specs.Prelude.{◌≡◌, ◌≢◌, ◌≤◌, ℕ, List, [], ◌∷◌, None, length, map}
+use Rattle.std.specs.Prelude.{◌≡◌, ◌≢◌, ◌≤◌, ℕ, List, [], ◌∷◌, None, Ok, length, map}
 use Rattle.ppdb_maps.specs.Text.{IsMapOf}
 use Rattle.ppdb_values.specs.{declared.file.FileValue.FileValue, RawFile.RawFile, Rules.KeepsRules, Types.HasTypes, Value.value_of}
 use Rattle.ppdb_build_canon.specs.{declared.choice.IdChoice.IdChoice, Canon.{canon, with_id}, Limits.first_limit}
@@ -9,8 +9,17 @@ use Rattle.ppdb_build_written_laws.specs.Written.{IsSameAgain, IsValidFile}
 use Rattle.ppdb_merge_items.specs.Each.{Each}
 use Rattle.ppdb_merge_meaning_laws.specs.{Kept.{MovedBy, KeepsMeaning}, Origins.KeepsOrigins}
 use Rattle.ppdb_merge_unmoved_laws.specs.NoLines.{left_alone}
-use Rattle.ppdb_merge.specs.{declared.trace.Trace.Trace, Kept.AreInputs}
-use Rattle.ppdb_run.specs.Inputs.{ReadInput, IsValidInput, AreAdded, AreJoinedTo, moved_by}
+use Rattle.ppdb_merge.specs.{declared.trace.Trace.Trace, Inputs.{ReadInput, IsValidInput, AreAdded, moved_by}, Together.joined_of}
+
+-- ---- inputs
+
+-- Valid inputs, at most 256, that fit each other and are joined to the value.
+pub record AreJoinedTo (marks : List (List ℕ)) (inputs : List ReadInput) (value : FileValue) : Type 0 where
+  pub traces : List Trace
+  pub few : length inputs ≤ 256
+  pub valid : Each IsValidInput inputs
+  pub added : AreAdded marks [] inputs traces
+  pub joined : joined_of traces ≡ Ok value
 
 -- ---- bytes
 
@@ -43,16 +52,11 @@ abbrev pub ReadInputsAreValid : Type 0
 ReadInputsAreValid = (file text : List ℕ) (input : ReadInput) → length file ≤ 134217728 → IsAccepted (FileFaults file) → IsRawOf file input.raw
     → IsMapOf text input.map → IsValidInput input
 
--- Valid inputs that are added one after the other are inputs that fit, with these traces.
-abbrev pub AddedInputsFit : Type 0
-AddedInputsFit = (marks : List (List ℕ)) (inputs : List ReadInput) (traces : List Trace) → length inputs ≤ 256 → Each IsValidInput inputs
-    → AreAdded marks [] inputs traces → AreInputs traces (map moved_by inputs)
-
--- What they are joined to has no record of an unknown kind.
+-- What valid inputs are joined to has no record of an unknown kind.
 abbrev pub JoinedKindsAreKnown : Type 0
 JoinedKindsAreKnown = (marks : List (List ℕ)) (inputs : List ReadInput) (value : FileValue) → AreJoinedTo marks inputs value → HasKnownKinds marks value
 
--- Bytes that say what they are joined to keep what they say.
+-- Bytes that say what inputs are joined to keep what these say.
 abbrev pub JoinedFilesKeepInputs : Type 0
 JoinedFilesKeepInputs = (marks : List (List ℕ)) (inputs : List ReadInput) (value : FileValue) (file : List ℕ) → AreJoinedTo marks inputs value
     → SaysButForId file value → KeepsInputs (map moved_by inputs) file

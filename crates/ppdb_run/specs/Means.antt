@@ -5,9 +5,10 @@ use Rattle.ppdb_merge_meaning_laws.specs.{Kept.{MovedBy, KeepsMeaning}, Origins.
 use Rattle.ppdb_values.specs.{RawFile.RawFile, Value.value_of}
 use Rattle.ppdb_verify.specs.Files.{FileFaults, IsRawOf}
 use Rattle.ppdb_merge_unmoved_laws.specs.NoLines.{left_alone}
+use Rattle.ppdb_merge.specs.Inputs.{ReadInput, moved_by}
 use Rattle.ppdb_run_stops.specs.Refusals.{Outcome}
 use Rattle.ppdb_run_words.specs.Words.{Input, Options, Task, Rebuild, Merge}
-use Rattle.ppdb_run.specs.{Inputs.{ReadInput, moved_by}, Ends.RebuildsToItself, Outcome.{map_at, verified}}
+use Rattle.ppdb_run.specs.{Ends.RebuildsToItself, Outcome.{map_at, verified}}
 
 -- each input is read so: its file breaks no rule, and its map's text has the map
 abbrev pub AreReadAs : Files → List Input → List ReadInput → Type 0

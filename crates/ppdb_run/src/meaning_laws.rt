@@ -1,9 +1,10 @@
 // What a file that is written says, by what its inputs said.
-ghost use Rattle.ppdb_run.specs.MeaningLaws.{AddedInputsFit, InputsAreWritten, JoinedFilesKeepInputs, JoinedKindsAreKnown, ReadInputsAreValid};
+ghost use Rattle.ppdb_run.specs.MeaningLaws.{InputsAreWritten, JoinedFilesKeepInputs, JoinedKindsAreKnown, ReadInputsAreValid};
 ghost use Rattle.ppdb_run.specs.MeaningLaws.{RebuiltFilesKeepThemselves};
 
 use ppdb_build_written_laws::{written_files_are_canonical, written_files_are_valid};
 use ppdb_maps::maps_are_readable;
+pub use ppdb_merge::added_inputs_fit;
 use ppdb_merge_fits::nothing_clashes;
 use ppdb_merge_items::soundness_is_annotated;
 use ppdb_merge_joined::joined_is_sound;
@@ -17,16 +18,6 @@ pub fn read_inputs_are_valid()
     ensures { ReadInputsAreValid }
 {
     maps_are_readable();
-}
-
-/// Valid inputs that are added one after the other fit: each its map, and all each other.
-pub fn added_inputs_fit()
-    ensures { AddedInputsFit }
-{
-    values_are_sound();
-    soundness_is_annotated();
-    references_are_named();
-    nothing_clashes();
 }
 
 /// What valid inputs are joined to has no custom record of a kind that is unknown under the marks.
