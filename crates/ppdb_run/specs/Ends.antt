@@ -21,12 +21,8 @@ Asks words None = NoTask words
 -- what is asked for has to do with no file, so that its outcome is the same over all files
 abbrev pub IsApart : Option Task → Type 0
 IsApart None = Unit {0}
-IsApart (Some (Ask question file)) = ⊥
-IsApart (Some (Lookup file list json)) = ⊥
-IsApart (Some (Rebuild input output options)) = ⊥
-IsApart (Some (Compose first second output)) = ⊥
-IsApart (Some (Merge inputs output options)) = ⊥
 IsApart (Some (Sample n)) = Unit {0}
+IsApart asked = ⊥
 
 -- the files that an outcome is over: those that the folder reports; where it reports none, any, if the task has to do with no file
 abbrev pub AreSeen : Option Task → Option Files → Files → Type 0
@@ -41,18 +37,21 @@ OnDue asked all P = (due : Outcome) → IsOutcome asked all due → P due
 pub record OnTask (task : Task) (files : Option Files) (P : Outcome → Type 0) : Type 0 where
   pub holds : IfSome files (λ all. OnDue (Some task) all P)
 
+-- P holds of what the words ask for and of the files that they see
+abbrev pub OnSeen : List (List ℕ) → Option Files → (Option Task → Files → Type 0) → Type 0
+OnSeen words files P = (asked : Option Task) → Asks words asked → (all : Files) → AreSeen asked files all → P asked all
+
 -- P holds of the outcome of the words over the files that they see
 abbrev pub OnOutcome : List (List ℕ) → Option Files → (Outcome → Type 0) → Type 0
-OnOutcome words files P = (asked : Option Task) → Asks words asked → (all : Files) → AreSeen asked files all → OnDue asked all P
+OnOutcome words files P = OnSeen words files (λ asked all. OnDue asked all P)
 
 -- P holds of what the words ask for and of its outcome, over the files that they see
 abbrev pub OnAsked : List (List ℕ) → Option Files → (Option Task → Outcome → Type 0) → Type 0
-OnAsked words files P = (asked : Option Task) → Asks words asked → (all : Files) → AreSeen asked files all → OnDue asked all (P asked)
+OnAsked words files P = OnSeen words files (λ asked all. OnDue asked all (P asked))
 
 -- the words have an outcome over the files that they see, unless something outside failed or memory lacked first
 abbrev pub HasOutcome : List (List ℕ) → Option Files → Status → Type 0
-HasOutcome words files status = (asked : Option Task) → Asks words asked → (all : Files) → AreSeen asked files all
-    → UnlessFault status ((due : Outcome) × IsOutcome asked all due)
+HasOutcome words files status = OnSeen words files (λ asked all. UnlessFault status ((due : Outcome) × IsOutcome asked all due))
 
 -- inputs come to a read, by its number from 0 and two for each: those before it fit, and a map is read where its file was there and not too long
 abbrev pub ComesToInput : Files → List (List ℕ) → List Trace → List Input → ℕ → Type 0
@@ -62,14 +61,13 @@ ComesToInput files marks traces (input ∷ inputs) read =
     ⊎ ((read ≡ 1) × ((bytes : List ℕ) × file_at files input.file (Ok bytes)))
     ⊎ ((2 ≤ read) × ((more : List Trace) × with_input files marks traces input (Ok more) × ComesToInput files marks more inputs (read - 2)))
 
--- the task comes to its read of this number, from 0: nothing that comes before is refused
+-- the task comes to its read of this number, from 0: nothing that comes before is refused. Questions about a file and `rebuild` read one file
 abbrev pub ComesToRead : Task → Files → ℕ → Type 0
-ComesToRead (Ask question file) files read = read ≡ 0
 ComesToRead (Lookup file list json) files read = (read ≡ 0) ⊎ ((read ≡ 1) × ((bytes : List ℕ) × file_at files file (Ok bytes)))
-ComesToRead (Rebuild input output options) files read = read ≡ 0
 ComesToRead (Compose first second output) files read = (read ≡ 0) ⊎ ((read ≡ 1) × ((m : Map) × map_at files first (Ok m)))
 ComesToRead (Merge inputs output options) files read = ComesToInput files options.marks [] inputs read
 ComesToRead (Sample n) files read = ⊥
+ComesToRead task files read = read ≡ 0
 
 -- the task was to read this file when it stopped: the counter of reads that gave a file rose by those before it
 pub record IsUnreadOf (task : Task) (files : Option Files) (before after : ℕ) (name : List ℕ) : Type 0 where
@@ -190,11 +188,8 @@ ReadsNoRows question = ⊥
 -- the verifier reads all that the task needs
 abbrev pub NeedsNoRows : Task → Type 0
 NeedsNoRows (Ask question file) = ReadsNoRows question
-NeedsNoRows (Lookup file list json) = ⊥
-NeedsNoRows (Rebuild input output options) = ⊥
 NeedsNoRows (Compose first second output) = Unit {0}
-NeedsNoRows (Merge inputs output options) = ⊥
-NeedsNoRows (Sample n) = ⊥
+NeedsNoRows task = ⊥
 
 -- between two counts, before an answer and after it, a query, links and breaks read no more rows than their bound
 abbrev pub IsWithinBound : Question → RawFile → ℕ → ℕ → Type 0
@@ -207,11 +202,7 @@ IsWithinBound question raw before after = Unit {0}
 -- P holds of the question and of what its file is read as, where the folder reports it and it is valid
 abbrev pub OnRead : Task → Option Files → (Question → RawFile → Type 0) → Type 0
 OnRead (Ask question file) files P = IfSome files (λ all. (raw : RawFile) → verified all file (Ok raw) → P question raw)
-OnRead (Lookup file list json) files P = Unit {0}
-OnRead (Rebuild input output options) files P = Unit {0}
-OnRead (Compose first second output) files P = Unit {0}
-OnRead (Merge inputs output options) files P = Unit {0}
-OnRead (Sample n) files P = Unit {0}
+OnRead task files P = Unit {0}
 
 -- P holds of what the file of a lookup is read as and of what its list asks, where the folder reports both, and both are valid
 abbrev pub OnLookup : Task → Option Files → (RawFile → List MethodOffset → Type 0) → Type 0

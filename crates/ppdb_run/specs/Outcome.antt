@@ -1,7 +1,7 @@
 -- What a command comes to over the files: a status, a text, and at most one file that is written.
 use Rattle.ppdb_values.specs.Names.{kind_of, Code, Place, Fault, Files, Missing, Longer, Contents, reading, LinkError, MergeError, KindUnknown, MAX_FILE_BYTES, IsAccepted, IsFirst, lines, RowsDiffer}
 use Rattle.ppdb_values.specs.Names.{ImageRange, numbered}
-use Rattle.std.specs.Prelude.{ℕ, ◌≡◌, ◌<◌, ◌≤◌, ◌⊎◌, List, [], ◌∷◌, Bool, true, false, if◌then◌else◌, find, Option, Some, None, option_map, Result, Ok, Err, codes, length}
+use Rattle.std.specs.Prelude.{ℕ, ◌≡◌, ◌<◌, ◌≤◌, ◌⊎◌, List, [], ◌∷◌, Bool, if◌then◌else◌, find, Option, Some, None, option_map, Result, Ok, Err, codes, length}
 use Rattle.ppdb_base.specs.Files.{Reading}
 use Rattle.ppdb_queries_list.specs.{Lists.{IsFirstOther, Lists}, declared.line.MethodOffset.MethodOffset}
 use Rattle.ppdb_show_lines.specs.{declared.form.Form.{Form, TheVariants.{Text, Json}}, Forms.lines_as, Heads.{id_line, entry_line}, Pieces.line}
@@ -74,8 +74,7 @@ map_at files name = do
 
 -- what an answer is put as
 abbrev pub form_of : Bool → Form
-form_of true = Json
-form_of false = Text
+form_of json = if json then Json else Text
 
 abbrev pub id_text : Form → RawFile → List ℕ
 id_text form raw = lines_as form (id_line raw.id ∷ entry_line raw.entry ∷ [])
@@ -136,8 +135,7 @@ unknown_kind marks value = option_map (λ custom. KindUnknown custom.0 custom.1.
 
 -- the identity of what is written
 abbrev pub choice_of : Bool → IdChoice
-choice_of true = Keep
-choice_of false = Hash
+choice_of keep_id = if keep_id then Keep else Hash
 
 -- the canonical file of a value, where it meets no limit
 abbrev pub in_limits : List ℕ → Options → FileValue → Result Outcome Outcome

@@ -2,8 +2,7 @@
 use Rattle.std.specs.Prelude.{ℕ, List, Option, Result, Ok, Err, IfErr, IfSome, OnOk, ◌≡◌, ◌≤◌}
 use Rattle.ppdb_base.specs.{Causes.Rose, Files.Files, Written.{appended, AppendsPrefix}}
 use Rattle.ppdb_run_stops.specs.{declared.status.Status.Status, declared.stop.Stop.Stop, Refusals.Outcome, Causes.{Cause, Unwritten, OutOfMemory, cause_of, refusal_of, status_of, line_of, OnCut}}
-use Rattle.ppdb_run_words.specs.Words.{Task}
-use Rattle.ppdb_run.specs.{Ends.{Asks, AreSeen}, Outcome.{Step, IsEnd, IsOutcome}, Writes.{WritesAll, WritesPrefix}}
+use Rattle.ppdb_run.specs.{Ends.OnSeen, Outcome.{Step, IsEnd, IsOutcome}, Writes.{WritesAll, WritesPrefix}}
 use Rattle.ppdb_run_stops.specs.declared.status.Status.TheVariants as statuses
 
 -- the files where a command stopped that writes these bytes
@@ -31,7 +30,7 @@ Finds (Err stop) Due = IfSome (refusal_of (cause_of stop)) Due
 
 -- a command that was done, or stopped at a refusal, has the outcome of the words over the files that they see
 abbrev pub FindsOutcome : {T : Type 0} → List (List ℕ) → Option Files → Result T Stop → Type 0
-FindsOutcome words files result = (asked : Option Task) → Asks words asked → (all : Files) → AreSeen asked files all → Finds result (IsOutcome asked all)
+FindsOutcome words files result = OnSeen words files (λ asked all. Finds result (IsOutcome asked all))
 
 -- the files that a command leaves
 abbrev pub Leaves : {T : Type 0} → Result T Stop → Option (List ℕ × List ℕ) → Option Files → Option Files → Type 0

@@ -72,12 +72,10 @@ read_files (Sample n) = []
 
 -- the file that a task writes, if any
 abbrev pub written_file : Task → Option (List ℕ)
-written_file (Ask question file) = None
-written_file (Lookup file list json) = None
 written_file (Rebuild input output options) = Some output
 written_file (Compose first second output) = Some output
 written_file (Merge inputs output options) = Some output
-written_file (Sample n) = None
+written_file task = None
 
 -- the words are one that names a file
 abbrev pub IsFileAlone : List ℕ → List (List ℕ) → Type 0
